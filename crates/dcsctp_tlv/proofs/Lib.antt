@@ -1,0 +1,3 @@
+pub mod Items
+pub mod Lists
+pub mod Images

@@ -1,0 +1,80 @@
+-- Levels: what the items of a list mean. Chunks are one level, parameters another, causes a third.
+--
+-- A level is a table with a row for each kind of item, and a rule for the padding. From these
+-- follow, for every level alike: which trees a list of bytes means, and which fault it has.
+use Rattle.std.specs.Prelude.{◌≡◌, ◌≢◌, ℕ, Bool, true, false, List, [], ◌∷◌, ◌++◌, Result, Ok, Err, ◌⊎◌, slice_index, length, drop}
+use Rattle.std.specs.List.{flat_map, AllByRecursion}
+use Rattle.dcsctp_tlv.specs.Fault.{Fault, Length, Padding}
+use Rattle.dcsctp_tlv.specs.Frame.{Item, item_bytes, PaddingRule, IsWhole, AreItems, BeginsWithFrame, frame_value, frame_padding, padding_size}
+
+-- ---- rows
+
+-- A row of a table: which tree a value means, and which fault it has.
+pub record Row (T : Type 0) : Type 1 where
+  pub means : List ℕ → T → Type 0
+  pub faults : List ℕ → Fault → Type 0
+
+-- a kind whose value is read at fixed places
+abbrev pub plain : {T : Type 0} → (List ℕ → Result T Fault) → Row T
+plain read = record { means = λ value tree. read value ≡ Ok tree; faults = λ value e. read value ≡ Err e }
+
+-- the tree of a kind, as a tree of its level
+abbrev pub map_ok : {A B E : Type 0} → (A → B) → Result A E → Result B E
+map_ok f (Ok x) = Ok (f x)
+map_ok f (Err e) = Err e
+
+-- the first row where the test holds, else the others
+abbrev pub pick : {T : Type 0} → Bool → Row T → Row T → Row T
+pick true row others = row
+pick false row others = others
+
+-- ---- levels
+
+pub record Level (T : Type 0) : Type 1 where
+  -- the row for an item's first two bytes
+  pub row : ℕ → ℕ → Row T
+  pub padding : PaddingRule
+
+-- the items mean the trees, one for one
+abbrev pub ItemsMean : {T : Type 0} → Level T → List Item → List T → Type 0
+ItemsMean level [] [] = Unit {0}
+ItemsMean level (i ∷ is) (t ∷ ts) = (level.row i.first i.second).means i.value t × ItemsMean level is ts
+ItemsMean level [] (t ∷ ts) = ⊥
+ItemsMean level (i ∷ is) [] = ⊥
+
+-- all the bytes are items, and these mean the trees
+pub record MeansTrees {T : Type 0} (level : Level T) (bytes : List ℕ) (trees : List T) : Type 0 where
+  pub items : List Item
+  pub are : AreItems level.padding bytes items
+  pub mean : ItemsMean level items trees
+
+-- the row for what stands at the front
+abbrev pub front_row : {T : Type 0} → Level T → List ℕ → Row T
+front_row level bytes = level.row (slice_index bytes 0) (slice_index bytes 1)
+
+-- What is wrong at the front: there is no frame; or its value is at fault; or its value means a
+-- tree and its padding isn't accepted.
+pub data BeginsWithFault {T : Type 0} (level : Level T) (rest : List ℕ) (e : Fault) : Type 0 where
+  no_frame : rest ≢ [] → ¬ BeginsWithFrame rest → e ≡ Length → BeginsWithFault level rest e
+  value : BeginsWithFrame rest → (front_row level rest).faults (frame_value rest) e → BeginsWithFault level rest e
+  padding : (tree : T) → BeginsWithFrame rest → (front_row level rest).means (frame_value rest) tree
+      → level.padding (padding_size (length (frame_value rest))) (frame_padding rest) ≡ false → e ≡ Padding → BeginsWithFault level rest e
+
+-- whole items that each mean a tree, and behind them the first fault
+pub record HasFault {T : Type 0} (level : Level T) (bytes : List ℕ) (e : Fault) : Type 0 where
+  pub items : List Item
+  pub trees : List T
+  pub rest : List ℕ
+  pub split : bytes ≡ flat_map item_bytes items ++ rest
+  pub whole : AllByRecursion (IsWhole level.padding) items
+  pub mean : ItemsMean level items trees
+  pub fault : BeginsWithFault level rest e
+
+-- ---- a kind with a list of another level in its value
+
+-- A value whose bytes up to a place follow a rule, and behind it are a list. The rule comes first.
+abbrev pub listed : {T U : Type 0} → (List ℕ → Bool) → ℕ → Level U → (List ℕ → List U → T) → Row T
+listed rule place level tree_of = record {
+  means = λ value tree. (rule value ≡ true) × ((trees : List _) × MeansTrees level (drop place value) trees × (tree ≡ tree_of value trees));
+  faults = λ value e. ((rule value ≡ false) × (e ≡ Length)) ⊎ ((rule value ≡ true) × HasFault level (drop place value) e);
+}

@@ -1,0 +1,6 @@
+pub mod Number
+pub mod Fault
+pub mod Frame
+pub mod Level
+pub mod Reading
+pub mod Image

@@ -1,0 +1,46 @@
+//! Why the bytes of a chunk, a parameter or an error cause were refused.
+
+ghost use Rattle.std.specs.Prelude.{◌≡◌};
+ghost use Rattle.dcsctp_tlv.specs.declared.error.ChunkParseError.TheVariants.{OutOfMemory};
+
+use std::alloc::{AllocError, AllocFailed};
+use thiserror::Error;
+
+/// Why the bytes of a chunk, a parameter or an error cause were refused.
+///
+/// A refused reader changed nothing: it borrowed its input, and hands out no value.
+#[derive(Debug, Drop, PartialEq, Eq, Error)]
+pub enum ChunkParseError {
+    /// A length field breaks its rule (RFC 9260 section 3.2), or a value has a size that its kind
+    /// doesn't allow.
+    #[error("The TLV data has an invalid length field, or payload size")]
+    InvalidLength,
+    /// The reader of one kind was handed another type.
+    #[error("Unexpected TLV type")]
+    InvalidType,
+    /// Padding that isn't accepted; never answered where padding is ignored.
+    #[error("Incorrect number of padding bytes")]
+    InvalidPadding,
+    /// A number that has no meaning in its field.
+    #[error("Invalid value")]
+    InvalidValue,
+    /// A growth was refused for want of memory.
+    #[error("Out of memory")]
+    OutOfMemory,
+}
+
+impl From<AllocError> for ChunkParseError {
+    ghost from_gives = { λ _ e. e ≡ OutOfMemory };
+
+    fn from(_e: AllocError) -> ChunkParseError {
+        ChunkParseError::OutOfMemory
+    }
+}
+
+impl<T: Drop> From<AllocFailed<T>> for ChunkParseError {
+    ghost from_gives = { λ _ e. e ≡ OutOfMemory };
+
+    fn from(_e: AllocFailed<T>) -> ChunkParseError {
+        ChunkParseError::OutOfMemory
+    }
+}

@@ -1,0 +1,58 @@
+//! The frame of an item: a header of four bytes, and a value (RFC 9260 section 3.2).
+
+ghost use Rattle.std.specs.Prelude.{◌≡◌, ◌≤◌, ◌<◌, ◌+◌, ◌^◌, ◌++◌, ◌↔◌, length, drop, IsOk, IfOk, IfErr};
+ghost use Rattle.dcsctp_tlv.specs.Frame.{header, BeginsWithFrame, frame_value, frame_rest};
+ghost use Rattle.dcsctp_tlv.specs.Image.{solid_tlv, image_of, written};
+ghost use Rattle.dcsctp_tlv.specs.declared.error.ChunkParseError.TheVariants.{InvalidLength};
+
+use crate::error::ChunkParseError;
+use crate::number::{read_u16_be, write_u16_be};
+
+/// Bytes of a header: two that say what the item is, and two of length.
+pub const TLV_HEADER_SIZE: usize = 4;
+
+/// The value of the frame at the front, and the bytes behind it and its padding.
+///
+/// Both are parts of the input. The last item of a list may lack padding: then nothing is left.
+/// `InvalidLength` exactly where the bytes don't begin with a frame.
+pub fn split_frame(bytes: &[u8]) -> Result<(&[u8], &[u8]), ChunkParseError>
+    ensures frame { IsOk result ↔ BeginsWithFrame bytes.now }
+    ensures value { IfOk result (λ x. x.0.now ≡ frame_value bytes.now) }
+    ensures rest { IfOk result (λ x. x.1.now ≡ frame_rest bytes.now) }
+    ensures fault { IfErr result (λ e. e ≡ InvalidLength) }
+{
+    if bytes.len() < TLV_HEADER_SIZE {
+        return Err(ChunkParseError::InvalidLength);
+    }
+    let length = read_u16_be(&bytes[2..]) as usize;
+    if length < TLV_HEADER_SIZE || length > bytes.len() {
+        return Err(ChunkParseError::InvalidLength);
+    }
+    let value = &bytes[TLV_HEADER_SIZE..length];
+    let padded = length.div_ceil(4) * 4;
+    let rest = &bytes[padded.min(bytes.len())..];
+    Ok((value, rest))
+}
+
+/// Writes a header into the first four bytes; the bytes behind them stay.
+pub fn put_header(first: u8, second: u8, value_size: usize, output: &mut [u8])
+    requires encodable { 4 + value_size < 2 ^ 16 }
+    requires room { 4 ≤ length output.old }
+    ensures { output.new ≡ header first second value_size ++ drop 4 output.old }
+{
+    output[0] = first;
+    output[1] = second;
+    write_u16_be(&mut output[2..], 4 + value_size as u16);
+}
+
+/// Writes an item whose value is these bytes.
+pub fn put_solid(first: u8, second: u8, value: &[u8], output: &mut [u8])
+    requires encodable { 4 + length value.now < 2 ^ 16 }
+    requires room { 4 + length value.now ≤ length output.old }
+    ensures { output.new ≡ written (image_of (solid_tlv first second value.now)) output.old }
+{
+    put_header(first, second, value.len(), output);
+    let (_, rest) = output.split_at_mut(TLV_HEADER_SIZE);
+    let (front, _) = rest.split_at_mut(value.len());
+    front.copy_from_slice(value);
+}

@@ -1,0 +1,13 @@
+//! Settings.
+
+/// How packets are protected where they carry no checksum (RFC 9653 section 4).
+#[derive(Clone, Copy, Debug, PartialEq, Eq)]
+pub struct ZeroChecksumAlternateErrorDetectionMethod(pub u32);
+
+/// No other method: a checksum of zero isn't special.
+pub const ZERO_CHECKSUM_ALTERNATE_ERROR_DETECTION_METHOD_NONE:
+    ZeroChecksumAlternateErrorDetectionMethod = ZeroChecksumAlternateErrorDetectionMethod(0);
+
+/// SCTP over DTLS, which protects the packets (RFC 9653 section 4).
+pub const ZERO_CHECKSUM_ALTERNATE_ERROR_DETECTION_METHOD_LOWER_LAYER_DTLS:
+    ZeroChecksumAlternateErrorDetectionMethod = ZeroChecksumAlternateErrorDetectionMethod(1);
