@@ -4,3 +4,4 @@ pub mod Frame
 pub mod Level
 pub mod Reading
 pub mod Image
+pub mod Lending

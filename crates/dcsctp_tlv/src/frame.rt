@@ -11,6 +11,9 @@ use crate::number::{read_u16_be, write_u16_be};
 /// Bytes of a header: two that say what the item is, and two of length.
 pub const TLV_HEADER_SIZE: usize = 4;
 
+/// The most bytes that a value can have: two bytes hold its size with the header's.
+pub const MAX_VALUE_SIZE: usize = 65531;
+
 /// The value of the frame at the front, and the bytes behind it and its padding.
 ///
 /// Both are parts of the input. The last item of a list may lack padding: then nothing is left.

@@ -1,0 +1,4 @@
+pub mod CookieAck
+pub mod CookieEcho
+pub mod Shutdown
+pub mod Unknown

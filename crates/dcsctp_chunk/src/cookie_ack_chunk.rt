@@ -1,0 +1,76 @@
+//! COOKIE ACK: the answer to a COOKIE ECHO.
+//!
+//! ```txt
+//!  0                   1                   2                   3
+//!  0 1 2 3 4 5 6 7 8 9 0 1 2 3 4 5 6 7 8 9 0 1 2 3 4 5 6 7 8 9 0 1
+//! +-+-+-+-+-+-+-+-+-+-+-+-+-+-+-+-+-+-+-+-+-+-+-+-+-+-+-+-+-+-+-+-+
+//! |   type = 11   |     flags     |          length = 4           |
+//! +-+-+-+-+-+-+-+-+-+-+-+-+-+-+-+-+-+-+-+-+-+-+-+-+-+-+-+-+-+-+-+-+
+//! ```
+
+ghost use Rattle.std.specs.Prelude.{◌≡◌, ◌≢◌, ◌↔◌, [], Some, IsErrOf};
+ghost use Rattle.dcsctp_tlv.specs.Image.{IsEncodable};
+ghost use Rattle.dcsctp_tlv.specs.Reading.{Gives, Never};
+ghost use Rattle.dcsctp_tlv.proofs.Images.{length-solid_tlv};
+ghost use Rattle.dcsctp_chunk.specs.CookieAck.{cookie_ack_at, cookie_ack_tlv, cookie_ack_text, cookie_ack_view};
+
+use crate::raw_chunk::RawChunk;
+use dcsctp_tlv::error::ChunkParseError;
+use dcsctp_tlv::frame::put_solid;
+use dcsctp_tlv::tlv::SerializableTlv;
+use std::fmt;
+
+pub const CHUNK_TYPE: u8 = 11;
+
+/// COOKIE ACK (RFC 9260 section 3.3.12). It holds nothing.
+#[derive(Debug, Drop)]
+pub struct CookieAckChunk;
+
+#[tactic(auto, unfolding(crate::specs::CookieAck::cookie_ack_at))]
+impl CookieAckChunk {
+    /// Reads the chunk; flags are ignored, and no memory is taken.
+    ///
+    /// `InvalidType` exactly for another type; `InvalidLength` exactly where the value isn't empty.
+    pub fn try_from(raw: RawChunk) -> Result<Self, ChunkParseError>
+        ensures other { IsErrOf result ChunkParseError.InvalidType ↔ (raw.entry.typ ≢ CHUNK_TYPE) }
+        ensures own { raw.entry.typ ≡ CHUNK_TYPE → Gives Never cookie_ack_view result (cookie_ack_at raw.entry.value.now) }
+    {
+        if raw.typ != CHUNK_TYPE {
+            return Err(ChunkParseError::InvalidType);
+        }
+        if !raw.value.is_empty() {
+            return Err(ChunkParseError::InvalidLength);
+        }
+        Ok(CookieAckChunk)
+    }
+}
+
+impl SerializableTlv for CookieAckChunk {
+    ghost tlv = { λ c. cookie_ack_tlv };
+
+    ghost is_encodable = { λ c. IsEncodable cookie_ack_tlv };
+
+    ghost image_length = { λ c fits. length-solid_tlv 11 0 [] };
+
+    ghost size_bound = { λ c fits. fits };
+
+    fn serialize_to(&self, output: &mut [u8]) {
+        put_solid(CHUNK_TYPE, 0, &[], output);
+    }
+
+    fn value_size(&self) -> usize {
+        0
+    }
+
+    fn encodable(&self) -> bool {
+        true
+    }
+}
+
+impl fmt::Display for CookieAckChunk {
+    ghost output = { λ c. Some cookie_ack_text };
+
+    fn fmt<W: fmt::Write>(&self, f: &mut fmt::Formatter<W>) -> fmt::Result {
+        write!(f, "COOKIE-ACK")
+    }
+}

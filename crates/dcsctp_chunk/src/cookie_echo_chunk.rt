@@ -1,0 +1,105 @@
+//! COOKIE ECHO: hands the cookie of an INIT ACK back.
+//!
+//! ```txt
+//!  0                   1                   2                   3
+//!  0 1 2 3 4 5 6 7 8 9 0 1 2 3 4 5 6 7 8 9 0 1 2 3 4 5 6 7 8 9 0 1
+//! +-+-+-+-+-+-+-+-+-+-+-+-+-+-+-+-+-+-+-+-+-+-+-+-+-+-+-+-+-+-+-+-+
+//! |   type = 10   |     flags     |            length             |
+//! +-+-+-+-+-+-+-+-+-+-+-+-+-+-+-+-+-+-+-+-+-+-+-+-+-+-+-+-+-+-+-+-+
+//! |                  cookie, one byte at least                    |
+//! +-+-+-+-+-+-+-+-+-+-+-+-+-+-+-+-+-+-+-+-+-+-+-+-+-+-+-+-+-+-+-+-+
+//! ```
+
+ghost use Rattle.std.specs.Prelude.{◌≡◌, ◌≢◌, ◌↔◌, [], Some, IfOk, IsErrOf};
+ghost use Rattle.dcsctp_tlv.specs.Image.{IsEncodable};
+ghost use Rattle.dcsctp_tlv.specs.Reading.{Gives, IfMeant};
+ghost use Rattle.dcsctp_tlv.proofs.Images.{length-solid_tlv};
+ghost use Rattle.dcsctp_chunk.specs.CookieEcho.{cookie_echo_at, cookie_echo_tlv, cookie_echo_text, cookie_echo_view};
+
+use crate::raw_chunk::RawChunk;
+use dcsctp_tlv::error::ChunkParseError;
+use dcsctp_tlv::frame::{MAX_VALUE_SIZE, put_solid};
+use dcsctp_tlv::tlv::SerializableTlv;
+use std::alloc::{AllocError, Global};
+use std::fmt;
+
+pub const CHUNK_TYPE: u8 = 10;
+
+/// COOKIE ECHO (RFC 9260 section 3.3.11).
+///
+/// An empty cookie can be written, but isn't read.
+#[derive(Debug, Drop)]
+pub struct CookieEchoChunk {
+    pub cookie: Vec<u8>,
+}
+
+#[tactic(auto, unfolding(crate::specs::CookieEcho::cookie_echo_at))]
+impl CookieEchoChunk {
+    /// The chunk with an empty cookie. It takes no memory.
+    pub fn new(alloc: Global) -> CookieEchoChunk
+        ensures { result.cookie.items ≡ [] }
+    {
+        CookieEchoChunk {
+            cookie: Vec::new(alloc),
+        }
+    }
+
+    /// A chunk with the same cookie; refused for want of memory alone.
+    pub fn clone(&self) -> Result<CookieEchoChunk, AllocError>
+        ensures { IfOk result (λ c. c.cookie.items ≡ self.now.cookie.items) }
+    {
+        Ok(CookieEchoChunk {
+            cookie: self.cookie.clone()?,
+        })
+    }
+
+    /// Reads the chunk, and copies its cookie; flags are ignored.
+    ///
+    /// `InvalidType` exactly for another type; `InvalidLength` exactly where the value is empty;
+    /// `OutOfMemory` only where the cookie can't be copied.
+    pub fn try_from(alloc: Global, raw: RawChunk) -> Result<Self, ChunkParseError>
+        ensures other { IsErrOf result ChunkParseError.InvalidType ↔ (raw.entry.typ ≢ CHUNK_TYPE) }
+        ensures own { raw.entry.typ ≡ CHUNK_TYPE → Gives IfMeant cookie_echo_view result (cookie_echo_at raw.entry.value.now) }
+    {
+        if raw.typ != CHUNK_TYPE {
+            return Err(ChunkParseError::InvalidType);
+        }
+        if raw.value.is_empty() {
+            return Err(ChunkParseError::InvalidLength);
+        }
+        Ok(CookieEchoChunk {
+            cookie: Vec::from_slice(alloc, raw.value)?,
+        })
+    }
+}
+
+impl SerializableTlv for CookieEchoChunk {
+    ghost tlv = { λ c. cookie_echo_tlv (cookie_echo_view c) };
+
+    ghost is_encodable = { λ c. IsEncodable (cookie_echo_tlv (cookie_echo_view c)) };
+
+    ghost image_length = { λ c fits. length-solid_tlv 10 0 (cookie_echo_view c) };
+
+    ghost size_bound = { λ c fits. fits };
+
+    fn serialize_to(&self, output: &mut [u8]) {
+        put_solid(CHUNK_TYPE, 0, &self.cookie, output);
+    }
+
+    fn value_size(&self) -> usize {
+        self.cookie.len()
+    }
+
+    fn encodable(&self) -> bool {
+        self.cookie.len() <= MAX_VALUE_SIZE
+    }
+}
+
+impl fmt::Display for CookieEchoChunk {
+    ghost output = { λ c. Some (cookie_echo_text (cookie_echo_view c)) };
+
+    fn fmt<W: fmt::Write>(&self, f: &mut fmt::Formatter<W>) -> fmt::Result {
+        let size = self.cookie.len();
+        write!(f, "COOKIE-ECHO, cookie={size} bytes")
+    }
+}

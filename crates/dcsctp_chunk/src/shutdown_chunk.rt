@@ -1,0 +1,93 @@
+//! SHUTDOWN: the sender has no more data, and tells what it has received.
+//!
+//! ```txt
+//!  0                   1                   2                   3
+//!  0 1 2 3 4 5 6 7 8 9 0 1 2 3 4 5 6 7 8 9 0 1 2 3 4 5 6 7 8 9 0 1
+//! +-+-+-+-+-+-+-+-+-+-+-+-+-+-+-+-+-+-+-+-+-+-+-+-+-+-+-+-+-+-+-+-+
+//! |   type = 7    |     flags     |          length = 8           |
+//! +-+-+-+-+-+-+-+-+-+-+-+-+-+-+-+-+-+-+-+-+-+-+-+-+-+-+-+-+-+-+-+-+
+//! |                      cumulative TSN ack                       |
+//! +-+-+-+-+-+-+-+-+-+-+-+-+-+-+-+-+-+-+-+-+-+-+-+-+-+-+-+-+-+-+-+-+
+//! ```
+
+ghost use Rattle.std.specs.Prelude.{◌≡◌, ◌≢◌, ◌↔◌, Some, IsErrOf};
+ghost use Rattle.std.specs.Int.{w32, to_be_bytes};
+ghost use Rattle.dcsctp_tlv.specs.Image.{IsEncodable};
+ghost use Rattle.dcsctp_tlv.specs.Reading.{Gives, Never};
+ghost use Rattle.dcsctp_tlv.proofs.Images.{length-solid_tlv};
+ghost use Rattle.dcsctp_chunk.specs.Shutdown.{shutdown_at, shutdown_tlv, shutdown_text, shutdown_view};
+
+use crate::raw_chunk::RawChunk;
+use dcsctp_tlv::error::ChunkParseError;
+use dcsctp_tlv::frame::put_solid;
+use dcsctp_tlv::number::read_u32_be;
+use dcsctp_tlv::tlv::SerializableTlv;
+use dcsctp_types::types::Tsn;
+use std::fmt;
+
+pub const CHUNK_TYPE: u8 = 7;
+
+/// SHUTDOWN (RFC 9260 section 3.3.8).
+#[derive(Debug, Drop)]
+pub struct ShutdownChunk {
+    /// The last TSN that was received in sequence.
+    pub cumulative_tsn_ack: Tsn,
+}
+
+#[tactic(auto, unfolding(crate::specs::Shutdown::shutdown_at))]
+impl ShutdownChunk {
+    /// Reads the chunk; flags are ignored, and no memory is taken.
+    ///
+    /// `InvalidType` exactly for another type; `InvalidLength` exactly where the value hasn't 4
+    /// bytes.
+    pub fn try_from(raw: RawChunk) -> Result<Self, ChunkParseError>
+        ensures other { IsErrOf result ChunkParseError.InvalidType ↔ (raw.entry.typ ≢ CHUNK_TYPE) }
+        ensures own { raw.entry.typ ≡ CHUNK_TYPE → Gives Never shutdown_view result (shutdown_at raw.entry.value.now) }
+    {
+        if raw.typ != CHUNK_TYPE {
+            return Err(ChunkParseError::InvalidType);
+        }
+        if raw.value.len() != 4 {
+            return Err(ChunkParseError::InvalidLength);
+        }
+        Ok(ShutdownChunk {
+            cumulative_tsn_ack: Tsn(read_u32_be(raw.value)),
+        })
+    }
+}
+
+impl SerializableTlv for ShutdownChunk {
+    ghost tlv = { λ c. shutdown_tlv (shutdown_view c) };
+
+    ghost is_encodable = { λ c. IsEncodable (shutdown_tlv (shutdown_view c)) };
+
+    ghost image_length = { λ c fits. length-solid_tlv 7 0 (to_be_bytes w32 (shutdown_view c)) };
+
+    ghost size_bound = { λ c fits. fits };
+
+    fn serialize_to(&self, output: &mut [u8]) {
+        put_solid(
+            CHUNK_TYPE,
+            0,
+            &self.cumulative_tsn_ack.0.to_be_bytes(),
+            output,
+        );
+    }
+
+    fn value_size(&self) -> usize {
+        4
+    }
+
+    fn encodable(&self) -> bool {
+        true
+    }
+}
+
+impl fmt::Display for ShutdownChunk {
+    ghost output = { λ c. Some (shutdown_text (shutdown_view c)) };
+
+    fn fmt<W: fmt::Write>(&self, f: &mut fmt::Formatter<W>) -> fmt::Result {
+        let tsn = self.cumulative_tsn_ack;
+        write!(f, "SHUTDOWN cumulative_tsn_ack={tsn}")
+    }
+}

@@ -1,0 +1,77 @@
+//! A chunk of a type that has no kind of its own.
+//!
+//! ```txt
+//!  0                   1                   2                   3
+//!  0 1 2 3 4 5 6 7 8 9 0 1 2 3 4 5 6 7 8 9 0 1 2 3 4 5 6 7 8 9 0 1
+//! +-+-+-+-+-+-+-+-+-+-+-+-+-+-+-+-+-+-+-+-+-+-+-+-+-+-+-+-+-+-+-+-+
+//! |     type      |     flags     |            length             |
+//! +-+-+-+-+-+-+-+-+-+-+-+-+-+-+-+-+-+-+-+-+-+-+-+-+-+-+-+-+-+-+-+-+
+//! |                       value, any bytes                        |
+//! +-+-+-+-+-+-+-+-+-+-+-+-+-+-+-+-+-+-+-+-+-+-+-+-+-+-+-+-+-+-+-+-+
+//! ```
+
+ghost use Rattle.std.specs.Prelude.{◌≡◌, Some};
+ghost use Rattle.dcsctp_tlv.specs.Image.{IsEncodable};
+ghost use Rattle.dcsctp_tlv.specs.Reading.{Gives, IfMeant};
+ghost use Rattle.dcsctp_tlv.proofs.Images.{length-solid_tlv};
+ghost use Rattle.dcsctp_chunk.specs.Unknown.{unknown_at, unknown_tlv, unknown_text, unknown_view};
+
+use crate::raw_chunk::RawChunk;
+use dcsctp_tlv::error::ChunkParseError;
+use dcsctp_tlv::frame::{MAX_VALUE_SIZE, put_solid};
+use dcsctp_tlv::tlv::SerializableTlv;
+use std::alloc::Global;
+use std::fmt;
+
+/// A chunk that is kept as it is: its type, all its flags and its value (RFC 9260 section 3.2).
+#[derive(Debug, Drop)]
+pub struct UnknownChunk {
+    pub typ: u8,
+    pub flags: u8,
+    pub value: Vec<u8>,
+}
+
+#[tactic(auto, unfolding(crate::specs::Unknown::unknown_at))]
+impl UnknownChunk {
+    /// Keeps a chunk of any type, and copies its value; `OutOfMemory` is its only error.
+    pub fn try_from(alloc: Global, raw: RawChunk) -> Result<Self, ChunkParseError>
+        ensures { Gives IfMeant unknown_view result (unknown_at raw.entry.typ raw.entry.flags raw.entry.value.now) }
+    {
+        Ok(UnknownChunk {
+            typ: raw.typ,
+            flags: raw.flags,
+            value: Vec::from_slice(alloc, raw.value)?,
+        })
+    }
+}
+
+impl SerializableTlv for UnknownChunk {
+    ghost tlv = { λ c. unknown_tlv (unknown_view c) };
+
+    ghost is_encodable = { λ c. IsEncodable (unknown_tlv (unknown_view c)) };
+
+    ghost image_length = { λ c fits. length-solid_tlv c.typ c.flags c.value.items };
+
+    ghost size_bound = { λ c fits. fits };
+
+    fn serialize_to(&self, output: &mut [u8]) {
+        put_solid(self.typ, self.flags, &self.value, output);
+    }
+
+    fn value_size(&self) -> usize {
+        self.value.len()
+    }
+
+    fn encodable(&self) -> bool {
+        self.value.len() <= MAX_VALUE_SIZE
+    }
+}
+
+impl fmt::Display for UnknownChunk {
+    ghost output = { λ c. Some (unknown_text (unknown_view c)) };
+
+    fn fmt<W: fmt::Write>(&self, f: &mut fmt::Formatter<W>) -> fmt::Result {
+        let typ = self.typ;
+        write!(f, "Unknown chunk, type={typ}")
+    }
+}
