@@ -2,3 +2,4 @@ pub mod Items
 pub mod Lists
 pub mod Images
 pub mod Lending
+pub mod Readings

@@ -28,6 +28,10 @@ abbrev pub pick : {T : Type 0} → Bool → Row T → Row T → Row T
 pick true row others = row
 pick false row others = others
 
+-- the value means some tree
+abbrev pub HasMeaning : {T : Type 0} → Row T → List ℕ → Type 0
+HasMeaning row value = (tree : _) × row.means value tree
+
 -- ---- levels
 
 pub record Level (T : Type 0) : Type 1 where

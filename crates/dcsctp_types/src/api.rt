@@ -5,9 +5,9 @@
 pub struct ZeroChecksumAlternateErrorDetectionMethod(pub u32);
 
 /// No other method: a checksum of zero isn't special.
-pub const ZERO_CHECKSUM_ALTERNATE_ERROR_DETECTION_METHOD_NONE:
-    ZeroChecksumAlternateErrorDetectionMethod = ZeroChecksumAlternateErrorDetectionMethod(0);
+pub const ZERO_CHECKSUM_ALTERNATE_ERROR_DETECTION_METHOD_NONE: ZeroChecksumAlternateErrorDetectionMethod =
+    ZeroChecksumAlternateErrorDetectionMethod(0);
 
 /// SCTP over DTLS, which protects the packets (RFC 9653 section 4).
-pub const ZERO_CHECKSUM_ALTERNATE_ERROR_DETECTION_METHOD_LOWER_LAYER_DTLS:
-    ZeroChecksumAlternateErrorDetectionMethod = ZeroChecksumAlternateErrorDetectionMethod(1);
+pub const ZERO_CHECKSUM_ALTERNATE_ERROR_DETECTION_METHOD_LOWER_LAYER_DTLS: ZeroChecksumAlternateErrorDetectionMethod =
+    ZeroChecksumAlternateErrorDetectionMethod(1);

@@ -1,0 +1,87 @@
+-- The canonical packet is what the list of chunks writes over zeros.
+use Rattle.std.proofs.Common.{◌≡◌, ℕ, ◌+◌, ◌-◌, ◌≤◌, List, [], ◌∷◌, ◌++◌, length, replicate, refl, sym, ap, ◌∙◌, append_assoc, arith, Option}
+use Rattle.std.specs.List.{AllByRecursion, flat_map}
+use Rattle.std.proofs.lemmas.List.{append-nil}
+use Rattle.std.proofs.lemmas.List.Elements.{recursion_from_All, All-from_recursion}
+use Rattle.dcsctp_tlv.specs.Frame.{round_up_to_4}
+use Rattle.dcsctp_tlv.specs.Image.{zeroed, gap, holes, written, size_of, image_of, IsEncodable, list_image, list_size, IsListEncodable}
+use Rattle.dcsctp_tlv.proofs.Images.{list_size-map, list_image-map, length-list_image, AreSized, written-zeros, zeroed-append, zeroed-holes}
+use Rattle.dcsctp_wire.specs.declared.packet.chunk.Chunk.{Chunk}
+use Rattle.dcsctp_wire.specs.Chunk.{ChunkTree, chunk_tlv, view, views, length-chunk}
+use Rattle.dcsctp_wire.specs.Packet.{Meaning}
+use Rattle.dcsctp_wire.specs.Canonical.{padded_chunk, padded_size, Fits}
+
+-- a list's size and the bytes of its padded chunks
+pub padded_size-is : (ts : List ChunkTree) → padded_size ts ≡ round_up_to_4 (list_size chunk_tlv ts)
+padded_size-is [] = refl
+padded_size-is (t ∷ []) = omega arith
+padded_size-is (t ∷ u ∷ ts) = ap (λ (n : ℕ). round_up_to_4 (size_of (chunk_tlv t)) + n) (padded_size-is (u ∷ ts)) ∙ both (size_of (chunk_tlv t)) (list_size chunk_tlv (u ∷ ts)) where
+  both : (a b : ℕ) → round_up_to_4 a + round_up_to_4 b ≡ round_up_to_4 (round_up_to_4 a + b)
+  both a b = omega arith
+
+-- ---- fits
+
+-- the size of the code's chunks
+pub size_views : (cs : List Chunk) → round_up_to_4 (list_size (λ c. chunk_tlv (view c)) cs) ≡ padded_size (views cs)
+size_views cs = ap round_up_to_4 (list_size-map chunk_tlv view cs) ∙ sym (padded_size-is (views cs))
+
+each_view : (cs : List Chunk) → AllByRecursion (λ c. IsEncodable (chunk_tlv (view c))) cs → AllByRecursion (λ t. IsEncodable (chunk_tlv t)) (views cs)
+each_view [] h = tt
+each_view (c ∷ cs) h = (h.0, each_view cs h.1)
+
+each_chunk : (cs : List Chunk) → AllByRecursion (λ t. IsEncodable (chunk_tlv t)) (views cs) → AllByRecursion (λ c. IsEncodable (chunk_tlv (view c))) cs
+each_chunk [] h = tt
+each_chunk (c ∷ cs) h = (h.0, each_chunk cs h.1)
+
+pub fits_from : (m : Meaning) (cs : List Chunk) → m.chunks ≡ views cs → IsListEncodable (λ c. chunk_tlv (view c)) (λ c. IsEncodable (chunk_tlv (view c))) cs
+    → round_up_to_4 (list_size (λ c. chunk_tlv (view c)) cs) ≤ 65520 → Fits m
+fits_from m cs e h le =
+    let s = size_views cs in
+    record {
+      each = rw e (each_view cs (recursion_from_All (λ c. IsEncodable (chunk_tlv (view c))) cs h.each));
+      whole = (let w = ap padded_size e in omega (arith, s, w, le));
+    }
+
+pub fits_to : (m : Meaning) (cs : List Chunk) → m.chunks ≡ views cs → Fits m
+    → IsListEncodable (λ c. chunk_tlv (view c)) (λ c. IsEncodable (chunk_tlv (view c))) cs × (round_up_to_4 (list_size (λ c. chunk_tlv (view c)) cs) ≤ 65520)
+fits_to m cs e f =
+    let s = size_views cs in
+    let w = ap padded_size e in (
+      record {
+        each = All-from_recursion (λ c. IsEncodable (chunk_tlv (view c))) cs (each_chunk cs (rw e at f.each));
+        total = omega (arith, s, w, f.whole);
+      },
+      omega (arith, s, w, f.whole),
+    )
+
+-- ---- the bytes
+
+-- a list's image over zeros is the chunks with their padding
+joined : (ts : List ChunkTree) → zeroed (list_image chunk_tlv ts) ++ replicate (gap (list_size chunk_tlv ts)) 0 ≡ flat_map padded_chunk ts
+joined [] = refl
+joined (t ∷ []) = sym (append-nil (padded_chunk t))
+joined (t ∷ u ∷ ts) =
+    let i = image_of (chunk_tlv t) in
+    let h = holes (gap (size_of (chunk_tlv t))) in
+    let l = list_image chunk_tlv (u ∷ ts) in
+    let n = list_size chunk_tlv (u ∷ ts) in
+    let k : gap (list_size chunk_tlv (t ∷ u ∷ ts)) ≡ gap n = omega arith in
+    ap (λ (m : ℕ). zeroed (i ++ (h ++ l)) ++ replicate m 0) k
+    ∙ ap (λ (xs : List ℕ). xs ++ replicate (gap n) 0) (zeroed-append i (h ++ l) ∙ ap (λ (xs : List ℕ). zeroed i ++ xs) (zeroed-append h l ∙ ap (λ (xs : List ℕ). xs ++ zeroed l) (zeroed-holes (gap (size_of (chunk_tlv t))))) ∙ sym (append_assoc (zeroed i) (replicate (gap (size_of (chunk_tlv t))) 0) (zeroed l)))
+    ∙ append_assoc (padded_chunk t) (zeroed l) (replicate (gap n) 0)
+    ∙ ap (λ (xs : List ℕ). padded_chunk t ++ xs) (joined (u ∷ ts))
+
+each_sized : (ts : List ChunkTree) → AreSized chunk_tlv ts
+each_sized [] = tt
+each_sized (t ∷ ts) = (length-chunk t, each_sized ts)
+
+pub body_is : (cs : List Chunk) (n : ℕ) → n ≡ padded_size (views cs) → written (list_image (λ c. chunk_tlv (view c)) cs) (replicate n 0) ≡ flat_map padded_chunk (views cs)
+body_is cs n e =
+    let image = list_image chunk_tlv (views cs) in
+    let len = length-list_image chunk_tlv (views cs) (each_sized (views cs)) in
+    let w = padded_size-is (views cs) in
+    let k : n - length image ≡ gap (list_size chunk_tlv (views cs)) = omega (arith, len, w, e) in
+    ap (λ (i : List (Option ℕ)). written i (replicate n 0)) (list_image-map chunk_tlv view cs)
+    ∙ written-zeros image n (omega (arith, len, w, e))
+    ∙ ap (λ (m : ℕ). zeroed image ++ replicate m 0) k
+    ∙ joined (views cs)

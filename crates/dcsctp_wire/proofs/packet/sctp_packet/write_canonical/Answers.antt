@@ -1,0 +1,40 @@
+use Rattle.std.proofs.Common.{refl, arith, ap, ◌∙◌, ◌≡◌, ◌≤◌, ◌+◌, ◌-◌, ◌++◌, ℕ, List, length, drop, take, replicate}
+use Rattle.std.specs.Int.{w16, w32, to_be_bytes}
+use Rattle.std.proofs.lemmas.List.{take-replicate, drop-replicate, length-replicate}
+use Rattle.dcsctp_tlv.specs.Image.{put, written, list_image, list_size}
+use Rattle.dcsctp_wire.specs.Chunk.{chunk_tlv, view, views}
+use Rattle.dcsctp_wire.specs.Packet.{meaning_view}
+use Rattle.dcsctp_wire.specs.Canonical.{canonical, padded_size}
+use Rattle.dcsctp_wire.proofs.Canonicals.{fits_to, body_is, size_views}
+use Rattle.dcsctp_wire.proofs.packet.sctp_packet.write_canonical.Goals as goal
+
+pub parameters_serialize_to-requires-clause-encodable : goal.parameters_serialize_to-requires-clause-encodable
+parameters_serialize_to-requires-clause-encodable c = rw c.deref.ensures.value (fits_to (meaning_view c.args.packet.now) c.args.packet.now.chunks.items refl c.requires.fits).0
+
+pub parameters_serialize_to-requires-clause-room : goal.parameters_serialize_to-requires-clause-room
+parameters_serialize_to-requires-clause-room c =
+    let cs = c.args.packet.now.chunks.items in
+    let s = size_views cs in
+    let l : length c.args.output.now ≡ 12 + padded_size (views cs) = ap length c.requires.zeros ∙ length-replicate {A = ℕ} (12 + padded_size (views cs)) 0 in
+    let d : list_size (λ x. chunk_tlv (view x)) c.deref.result.now ≡ list_size (λ x. chunk_tlv (view x)) cs = ap (list_size (λ x. chunk_tlv (view x))) c.deref.ensures.value in
+    let b = c.split_at_mut-header.ensures.back_len in
+    omega (arith, s, l, d, b)
+
+pub returns : goal.returns
+unfolding canonical
+returns c =
+    let p = c.args.packet.now in
+    let cs = p.chunks.items in
+    let w = padded_size (views cs) in
+    let less : 12 ≤ 12 + w = omega arith in
+    let rest : (12 + w) - 12 ≡ w = omega arith in
+    let front : c.split_at_mut-header.result.0.now ≡ replicate 12 0 = c.split_at_mut-header.ensures.front ∙ ap (take 12) c.requires.zeros ∙ take-replicate {X = ℕ} 12 (12 + w) 0 less in
+    let back : c.split_at_mut-header.result.1.now ≡ replicate w 0 = c.split_at_mut-header.ensures.back ∙ ap (drop 12) c.requires.zeros ∙ drop-replicate {X = ℕ} 12 (12 + w) 0 ∙ ap (λ (k : ℕ). replicate k 0) rest in
+    let a = to_be_bytes w16 p.common_header.source_port in
+    let b = to_be_bytes w16 p.common_header.destination_port in
+    let t = to_be_bytes w32 p.common_header.verification_tag in
+    let header : c.put_u32.new.output ≡ put (put (put (replicate 12 0) 0 a) 2 b) 4 t =
+    c.put_u32.ensures ∙ ap (λ (x : List ℕ). put x 4 t) (c.put_u16-2.ensures ∙ ap (λ (x : List ℕ). put x 2 b) (c.put_u16.ensures ∙ ap (λ (x : List ℕ). put x 0 a) front)) in
+    let body : c.parameters_serialize_to.new.output ≡ written (list_image (λ x. chunk_tlv (view x)) cs) (replicate w 0) =
+    c.parameters_serialize_to.ensures ∙ ap (λ (x : List ℕ). written (list_image (λ y. chunk_tlv (view y)) c.deref.result.now) x) back ∙ ap (λ (x : _). written (list_image (λ y. chunk_tlv (view y)) x) (replicate w 0)) c.deref.ensures.value in
+    ap (λ (x : List ℕ). x ++ c.parameters_serialize_to.new.output) header ∙ ap (λ (x : List ℕ). put (put (put (replicate 12 0) 0 a) 2 b) 4 t ++ x) (body ∙ body_is cs w refl)

@@ -1,0 +1,26 @@
+-- The canonical packet of a meaning: the one form in which it is written.
+use Rattle.std.specs.Prelude.{ℕ, ◌+◌, ◌≤◌, List, [], ◌∷◌, ◌++◌, replicate}
+use Rattle.std.specs.List.{flat_map, AllByRecursion}
+use Rattle.std.specs.Int.{w16, w32, to_be_bytes}
+use Rattle.dcsctp_tlv.specs.Frame.{round_up_to_4}
+use Rattle.dcsctp_tlv.specs.Image.{zeroed, gap, size_of, image_of, IsEncodable}
+use Rattle.dcsctp_wire.specs.Chunk.{ChunkTree, chunk_tlv}
+use Rattle.dcsctp_wire.specs.Packet.{Meaning}
+
+-- a chunk as written over zeros, and zeros up to a multiple of 4
+abbrev pub padded_chunk : ChunkTree → List ℕ
+padded_chunk t = zeroed (image_of (chunk_tlv t)) ++ replicate (gap (size_of (chunk_tlv t))) 0
+
+-- the header with a checksum of zero, and the chunks
+unfoldable pub canonical : Meaning → List ℕ
+canonical m = to_be_bytes w16 m.source ++ (to_be_bytes w16 m.destination ++ (to_be_bytes w32 m.tag ++ (to_be_bytes w32 0 ++ flat_map padded_chunk m.chunks)))
+
+-- the bytes of the chunks with their padding
+abbrev pub padded_size : List ChunkTree → ℕ
+padded_size [] = 0
+padded_size (t ∷ ts) = round_up_to_4 (size_of (chunk_tlv t)) + padded_size ts
+
+-- each chunk can be written, and the whole is the largest multiple of 4 that a packet can be, or less
+pub record Fits (m : Meaning) : Type 0 where
+  pub each : AllByRecursion (λ t. IsEncodable (chunk_tlv t)) m.chunks
+  pub whole : 12 + padded_size m.chunks ≤ 65532

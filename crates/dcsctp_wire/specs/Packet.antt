@@ -1,0 +1,105 @@
+-- What the bytes of a packet mean, under a checksum word and a policy (RFC 9260 section 3, RFC 9653 section 5.2).
+--
+--   | source port u16 | destination port u16 | verification tag u32 | checksum u32 | chunks .. |
+use Rattle.std.specs.Prelude.{◌≡◌, ◌≢◌, ℕ, ◌≤◌, List, Result, Ok, Err, true, length, drop}
+use Rattle.dcsctp_tlv.specs.declared.error.ChunkParseError.{ChunkParseError}
+use Rattle.dcsctp_tlv.specs.declared.error.ChunkParseError.TheVariants as chunk_errors
+use Rattle.dcsctp_tlv.specs.Fault.{Fault, Length, Padding, Value}
+use Rattle.dcsctp_tlv.specs.Number.{number16, number32}
+use Rattle.dcsctp_tlv.specs.Level.{MeansTrees, HasFault}
+use Rattle.dcsctp_wire.specs.declared.packet.sctp_packet.PacketParseError.{PacketParseError}
+use Rattle.dcsctp_wire.specs.declared.packet.sctp_packet.PacketParseError.TheVariants.{InvalidPacketSize, InvalidChecksum, InvalidChunkSize, FailedParseChunk}
+use Rattle.dcsctp_wire.specs.declared.packet.sctp_packet.ChecksumPolicy.{ChecksumPolicy}
+use Rattle.dcsctp_wire.specs.declared.packet.sctp_packet.SctpPacket.{SctpPacket}
+use Rattle.dcsctp_wire.specs.Chunk.{ChunkTree, chunks, views}
+
+-- ---- packets as plain data
+
+-- What a packet means. Its checksum field isn't part of it.
+pub record Meaning : Type 0 where
+  pub source : ℕ
+  pub destination : ℕ
+  pub tag : ℕ
+  pub chunks : List ChunkTree
+
+pub record PacketTree : Type 0 where
+  pub meaning : Meaning
+  pub checksum : ℕ
+
+-- ---- what is wrong with a packet
+
+pub data PacketFault : Type 0 where
+  Size : PacketFault
+  Checksum : PacketFault
+  Chunk : Fault → PacketFault
+
+-- ---- size and checksum
+
+-- a header and one chunk at least
+pub record HasPacketSize (bytes : List ℕ) : Type 0 where
+  pub low : 16 ≤ length bytes
+  pub high : length bytes ≤ 65535
+
+abbrev pub checksum_field : List ℕ → ℕ
+checksum_field bytes = number32 (drop 8 bytes)
+
+-- Verification is off; or another method stands in, and the field is zero; or the field is the word.
+pub data IsAccepted (policy : ChecksumPolicy) (field word : ℕ) : Type 0 where
+  disabled : policy.disable_checksum_verification ≡ true → IsAccepted policy field word
+  alternate : policy.zero_checksum_alternate_error_detection_method.0 ≢ 0 → field ≡ 0 → IsAccepted policy field word
+  equal : field ≡ word → IsAccepted policy field word
+
+-- size and checksum are right
+pub record IsOpened (bytes : List ℕ) (word : ℕ) (policy : ChecksumPolicy) : Type 0 where
+  pub size : HasPacketSize bytes
+  pub accepted : IsAccepted policy (checksum_field bytes) word
+
+-- ---- the answer
+
+abbrev pub body : List ℕ → List ℕ
+body bytes = drop 12 bytes
+
+-- the four numbers of the header, and the chunks that all of the body means
+pub record MeansPacket (bytes : List ℕ) (p : PacketTree) : Type 0 where
+  pub source : p.meaning.source ≡ number16 bytes
+  pub destination : p.meaning.destination ≡ number16 (drop 2 bytes)
+  pub tag : p.meaning.tag ≡ number32 (drop 4 bytes)
+  pub checksum : p.checksum ≡ checksum_field bytes
+  pub chunks : MeansTrees chunks (body bytes) p.meaning.chunks
+
+-- The packet, or the first fault: of the size, then of the checksum, then of the chunks from the left.
+abbrev pub Answer : List ℕ → ℕ → ChecksumPolicy → Result PacketTree PacketFault → Type 0
+Answer bytes word policy (Ok p) = IsOpened bytes word policy × MeansPacket bytes p
+Answer bytes word policy (Err Size) = ¬ HasPacketSize bytes
+Answer bytes word policy (Err Checksum) = HasPacketSize bytes × ¬ IsAccepted policy (checksum_field bytes) word
+Answer bytes word policy (Err (Chunk e)) = IsOpened bytes word policy × HasFault chunks (body bytes) e
+
+-- ---- what the code answers
+
+-- want of memory comes only once size and checksum are accepted
+abbrev pub ReadsFault : List ℕ → ℕ → ChecksumPolicy → ChunkParseError → Type 0
+ReadsFault bytes word policy chunk_errors.InvalidLength = Answer bytes word policy (Err (Chunk Length))
+ReadsFault bytes word policy chunk_errors.InvalidPadding = Answer bytes word policy (Err (Chunk Padding))
+ReadsFault bytes word policy chunk_errors.InvalidValue = Answer bytes word policy (Err (Chunk Value))
+ReadsFault bytes word policy chunk_errors.InvalidType = ⊥
+ReadsFault bytes word policy chunk_errors.OutOfMemory = IsOpened bytes word policy
+
+-- want of memory aside, what was read is the answer
+abbrev pub Reads : {X : Type 0} → (X → PacketTree) → List ℕ → ℕ → ChecksumPolicy → Result X PacketParseError → Type 0
+Reads view bytes word policy (Ok x) = Answer bytes word policy (Ok (view x))
+Reads view bytes word policy (Err InvalidPacketSize) = Answer bytes word policy (Err Size)
+Reads view bytes word policy (Err InvalidChecksum) = Answer bytes word policy (Err Checksum)
+Reads view bytes word policy (Err InvalidChunkSize) = ⊥
+Reads view bytes word policy (Err (FailedParseChunk e)) = ReadsFault bytes word policy e
+
+-- a packet of the code, without where it lies in memory
+abbrev pub meaning_view : SctpPacket → Meaning
+meaning_view p = record {
+  source = p.common_header.source_port;
+  destination = p.common_header.destination_port;
+  tag = p.common_header.verification_tag;
+  chunks = views p.chunks.items;
+}
+
+abbrev pub packet_view : SctpPacket → PacketTree
+packet_view p = record { meaning = meaning_view p; checksum = p.common_header.checksum }

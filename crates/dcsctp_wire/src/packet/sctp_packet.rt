@@ -1,0 +1,190 @@
+//! The packet: a common header, and chunks.
+//!
+//! ```txt
+//!  0                   1                   2                   3
+//!  0 1 2 3 4 5 6 7 8 9 0 1 2 3 4 5 6 7 8 9 0 1 2 3 4 5 6 7 8 9 0 1
+//! +-+-+-+-+-+-+-+-+-+-+-+-+-+-+-+-+-+-+-+-+-+-+-+-+-+-+-+-+-+-+-+-+
+//! |          source port          |       destination port        |
+//! +-+-+-+-+-+-+-+-+-+-+-+-+-+-+-+-+-+-+-+-+-+-+-+-+-+-+-+-+-+-+-+-+
+//! |                       verification tag                        |
+//! +-+-+-+-+-+-+-+-+-+-+-+-+-+-+-+-+-+-+-+-+-+-+-+-+-+-+-+-+-+-+-+-+
+//! |                           checksum                            |
+//! +-+-+-+-+-+-+-+-+-+-+-+-+-+-+-+-+-+-+-+-+-+-+-+-+-+-+-+-+-+-+-+-+
+//! |                           chunks ..                           |
+//! +-+-+-+-+-+-+-+-+-+-+-+-+-+-+-+-+-+-+-+-+-+-+-+-+-+-+-+-+-+-+-+-+
+//! ```
+
+ghost use Rattle.std.specs.Prelude.{◌≡◌, ◌↔◌, ◌+◌, ℕ, false, replicate, IsTrue, IfOk};
+ghost use Rattle.dcsctp_wire.specs.Chunk.{views};
+ghost use Rattle.dcsctp_wire.specs.Packet.{Reads, IsAccepted, meaning_view};
+ghost use Rattle.dcsctp_wire.specs.Canonical.{canonical, padded_size, Fits};
+ghost use Rattle.dcsctp_wire.specs.declared.packet.sctp_packet.PacketParseError.TheVariants.{FailedParseChunk};
+
+use crate::packet::chunk::Chunk;
+use dcsctp_tlv::error::ChunkParseError;
+use dcsctp_tlv::list::{parameters_encodable, parameters_serialize_to, parameters_serialized_size};
+use dcsctp_tlv::number::{put_u16, put_u32, read_u16_be, read_u32_be, round_up_to_4};
+use dcsctp_tlv::reader::list_from_bytes;
+use dcsctp_types::api::{
+    ZERO_CHECKSUM_ALTERNATE_ERROR_DETECTION_METHOD_NONE, ZeroChecksumAlternateErrorDetectionMethod,
+};
+use std::alloc::{AllocError, Global};
+use thiserror::Error;
+
+/// The bytes of the common header.
+pub const COMMON_HEADER_SIZE: usize = 12;
+
+/// The fewest bytes of a packet: the common header and one chunk without value.
+const MIN_PACKET_SIZE: usize = 16;
+
+/// The most bytes of a packet.
+const MAX_PACKET_SIZE: usize = 65535;
+
+/// The most bytes of a canonical packet, whose size is a multiple of 4.
+const MAX_CANONICAL_SIZE: usize = 65532;
+
+/// Why a packet was refused.
+#[derive(Debug, Drop, PartialEq, Eq, Error)]
+pub enum PacketParseError {
+    /// It has fewer than 16 bytes, or more than 65,535.
+    #[error("Invalid packet size")]
+    InvalidPacketSize,
+    /// The policy doesn't accept its checksum field.
+    #[error("Invalid packet checksum")]
+    InvalidChecksum,
+    /// Never answered.
+    #[error("Invalid chunk size")]
+    InvalidChunkSize,
+    /// The first chunk at fault, and its fault; or a growth was refused.
+    #[error("Failed to parse chunk")]
+    FailedParseChunk(ChunkParseError),
+}
+
+impl From<ChunkParseError> for PacketParseError {
+    ghost from_gives = { λ e f. f ≡ FailedParseChunk e };
+
+    fn from(e: ChunkParseError) -> PacketParseError {
+        PacketParseError::FailedParseChunk(e)
+    }
+}
+
+/// What stands before the chunks of a packet (RFC 9260 section 3.1).
+#[derive(Drop)]
+pub struct CommonHeader {
+    pub source_port: u16,
+    pub destination_port: u16,
+    pub verification_tag: u32,
+    /// The number at bytes 8 to 11, most significant byte first.
+    pub checksum: u32,
+}
+
+/// A packet (RFC 9260 section 3).
+#[derive(Drop)]
+pub struct SctpPacket {
+    pub common_header: CommonHeader,
+    pub chunks: Vec<Chunk>,
+}
+
+/// Which checksum fields are accepted.
+#[derive(Clone, Copy)]
+pub struct ChecksumPolicy {
+    /// Every field is.
+    pub disable_checksum_verification: bool,
+    /// Where this isn't NONE, a field of zero is (RFC 9653).
+    pub zero_checksum_alternate_error_detection_method: ZeroChecksumAlternateErrorDetectionMethod,
+}
+
+impl Default for ChecksumPolicy {
+    ghost is_default = { λ p. (p.disable_checksum_verification ≡ false)
+        × (p.zero_checksum_alternate_error_detection_method.0 ≡ 0) };
+
+    /// Only the expected checksum is accepted.
+    fn default() -> ChecksumPolicy {
+        ChecksumPolicy {
+            disable_checksum_verification: false,
+            zero_checksum_alternate_error_detection_method: ZERO_CHECKSUM_ALTERNATE_ERROR_DETECTION_METHOD_NONE,
+        }
+    }
+}
+
+/// The policy accepts the checksum field, where `word` is expected.
+fn accepts(policy: &ChecksumPolicy, field: u32, word: u32) -> bool
+    ensures { IsTrue result ↔ IsAccepted policy.now field word }
+{
+    policy.disable_checksum_verification
+        || (policy.zero_checksum_alternate_error_detection_method.0 != 0 && field == 0)
+        || field == word
+}
+
+impl SctpPacket {
+    ghost use Rattle.dcsctp_wire.specs.Packet.{packet_view};
+
+    /// Reads a packet. `checksum` is the number whose big-endian bytes are expected at bytes 8
+    /// to 11.
+    ///
+    /// `InvalidPacketSize` unless there are 16 to 65,535 bytes; then `InvalidChecksum` unless the
+    /// policy accepts the field; then `FailedParseChunk` with the first fault of the chunks from
+    /// the left, or with `OutOfMemory`. The first two take no memory. Padding isn't looked at.
+    pub fn from_bytes(
+        alloc: Global,
+        bytes: &[u8],
+        checksum: u32,
+        policy: &ChecksumPolicy,
+    ) -> Result<SctpPacket, PacketParseError>
+        ensures { Reads packet_view bytes.now checksum policy.now result }
+    {
+        if bytes.len() < MIN_PACKET_SIZE || bytes.len() > MAX_PACKET_SIZE {
+            return Err(PacketParseError::InvalidPacketSize);
+        }
+        let field = read_u32_be(&bytes[8..]);
+        if !accepts(policy, field, checksum) {
+            return Err(PacketParseError::InvalidChecksum);
+        }
+        let chunks = list_from_bytes(alloc, &bytes[COMMON_HEADER_SIZE..])?;
+        Ok(SctpPacket {
+            common_header: CommonHeader {
+                source_port: read_u16_be(bytes),
+                destination_port: read_u16_be(&bytes[2..]),
+                verification_tag: read_u32_be(&bytes[4..]),
+                checksum: field,
+            },
+            chunks,
+        })
+    }
+
+    /// The canonical packet can be written: each chunk can be, and it has at most 65,532 bytes.
+    pub fn fits(&self) -> bool
+        ensures { IsTrue result ↔ Fits (meaning_view self.now) }
+    {
+        if !parameters_encodable(&self.chunks) {
+            return false;
+        }
+        round_up_to_4(parameters_serialized_size(&self.chunks))
+            <= MAX_CANONICAL_SIZE - COMMON_HEADER_SIZE
+    }
+
+    /// The canonical packet: the ports and the tag, a checksum of 0, and each chunk with zeros up
+    /// to a multiple of 4. `self.common_header.checksum` has no part in it.
+    pub fn canonical_bytes(&self, alloc: Global) -> Result<Vec<u8>, AllocError>
+        requires { Fits (meaning_view self.now) }
+        ensures bytes { IfOk result (λ bytes. bytes.items ≡ canonical (meaning_view self.now)) }
+    {
+        let body_size = round_up_to_4(parameters_serialized_size(&self.chunks));
+        let mut bytes = vec![in alloc; 0; COMMON_HEADER_SIZE + body_size]?;
+        write_canonical(self, &mut bytes);
+        Ok(bytes)
+    }
+}
+
+/// Writes the canonical packet over zeros.
+fn write_canonical(packet: &SctpPacket, output: &mut [u8])
+    requires fits { Fits (meaning_view packet.now) }
+    requires zeros { output.old ≡ replicate (12 + padded_size (views packet.now.chunks.items)) 0 }
+    ensures { output.new ≡ canonical (meaning_view packet.now) }
+{
+    let (header, body) = output.split_at_mut(COMMON_HEADER_SIZE);
+    put_u16(header, 0, packet.common_header.source_port);
+    put_u16(header, 2, packet.common_header.destination_port);
+    put_u32(header, 4, packet.common_header.verification_tag);
+    parameters_serialize_to(&packet.chunks, body);
+}
