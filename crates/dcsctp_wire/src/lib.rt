@@ -7,3 +7,6 @@
 pub mod packet;
 
 pub use dcsctp_types::{api, types};
+
+#[cfg(test)]
+mod tests;

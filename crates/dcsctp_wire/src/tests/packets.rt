@@ -1,0 +1,344 @@
+//! Whole packets. Each begins with the same header: both ports 5000, tag 16909060, checksum 0.
+
+use crate::api::{
+    ZERO_CHECKSUM_ALTERNATE_ERROR_DETECTION_METHOD_LOWER_LAYER_DTLS,
+    ZERO_CHECKSUM_ALTERNATE_ERROR_DETECTION_METHOD_NONE, ZeroChecksumAlternateErrorDetectionMethod,
+};
+use crate::packet::chunk::Chunk;
+use crate::packet::sctp_packet::{ChecksumPolicy, PacketParseError, SctpPacket};
+use crate::packet::{ChunkParseError, SerializableTlv};
+use std::alloc::{AllocError, Global};
+use std::process::Abort;
+use std::test::Fail;
+
+const HEADER: [u8; 12] = [0x13, 0x88, 0x13, 0x88, 1, 2, 3, 4, 0, 0, 0, 0];
+
+const UNVERIFIED: ChecksumPolicy = ChecksumPolicy {
+    disable_checksum_verification: true,
+    zero_checksum_alternate_error_detection_method: ZERO_CHECKSUM_ALTERNATE_ERROR_DETECTION_METHOD_NONE,
+};
+
+const LENGTH: PacketParseError = PacketParseError::FailedParseChunk(ChunkParseError::InvalidLength);
+
+/// The header, and these chunks.
+fn packet_of(alloc: Global, chunks: &[u8]) -> Result<Vec<u8>, AllocError> {
+    let mut bytes = Vec::from_slice(alloc, &HEADER)?;
+    bytes.extend_from_slice(chunks)?;
+    Ok(bytes)
+}
+
+/// What the chunks print, a line each.
+fn text_of(alloc: Global, packet: &SctpPacket) -> Result<String, AllocError> {
+    let mut text = String::new(alloc);
+    for chunk in &packet.chunks {
+        text.push_str(chunk.to_string(alloc)?.as_str())?;
+        text.push_str("\n")?;
+    }
+    Ok(text)
+}
+
+/// The canonical packet, or nothing where it doesn't fit.
+fn canonical_of(alloc: Global, packet: &SctpPacket) -> Result<Option<Vec<u8>>, AllocError> {
+    if packet.fits() {
+        Ok(Some(packet.canonical_bytes(alloc)?))
+    } else {
+        Ok(None)
+    }
+}
+
+#[test]
+fn accepted(rt: HostRuntime) -> Result<(), Fail> {
+    // The chunks of the input, what they print, the chunks of the canonical packet.
+    let rows: [(&[u8], &str, &[u8]); 10] = [
+        // one chunk without value
+        (&[0x0b, 0, 0, 4], "COOKIE-ACK\n", &[0x0b, 0, 0, 4]),
+        // the last chunk lacks its padding; the canonical packet has it
+        (
+            &[0x0a, 0, 0, 5, 0x7f],
+            "COOKIE-ECHO, cookie=1 bytes\n",
+            &[0x0a, 0, 0, 5, 0x7f, 0, 0, 0],
+        ),
+        // some of the padding is there
+        (
+            &[0x0a, 0, 0, 5, 0x7f, 0],
+            "COOKIE-ECHO, cookie=1 bytes\n",
+            &[0x0a, 0, 0, 5, 0x7f, 0, 0, 0],
+        ),
+        // padding isn't looked at
+        (
+            &[0x0a, 0, 0, 5, 0x7f, 9, 9, 9],
+            "COOKIE-ECHO, cookie=1 bytes\n",
+            &[0x0a, 0, 0, 5, 0x7f, 0, 0, 0],
+        ),
+        // padding between chunks isn't looked at either
+        (
+            &[0x0a, 0, 0, 6, 0x7f, 0x80, 9, 9, 0x0b, 0, 0, 4],
+            "COOKIE-ECHO, cookie=2 bytes\nCOOKIE-ACK\n",
+            &[0x0a, 0, 0, 6, 0x7f, 0x80, 0, 0, 0x0b, 0, 0, 4],
+        ),
+        // a number of four bytes
+        (
+            &[7, 0, 0, 8, 6, 0x11, 0xd1, 0xbd],
+            "SHUTDOWN cumulative_tsn_ack=101831101\n",
+            &[7, 0, 0, 8, 6, 0x11, 0xd1, 0xbd],
+        ),
+        // two chunks, in their order
+        (
+            &[0x0b, 0, 0, 4, 7, 0, 0, 8, 6, 0x11, 0xd1, 0xbd],
+            "COOKIE-ACK\nSHUTDOWN cumulative_tsn_ack=101831101\n",
+            &[0x0b, 0, 0, 4, 7, 0, 0, 8, 6, 0x11, 0xd1, 0xbd],
+        ),
+        // a named kind's flags are ignored, and written as 0
+        (&[0x0b, 0xff, 0, 4], "COOKIE-ACK\n", &[0x0b, 0, 0, 4]),
+        // a type without a kind of its own, without value
+        (&[6, 0, 0, 4], "Unknown chunk, type=6\n", &[6, 0, 0, 4]),
+        // an unknown type keeps its flags and its value
+        (
+            &[0x49, 0xf2, 0, 6, 1, 2],
+            "Unknown chunk, type=73\n",
+            &[0x49, 0xf2, 0, 6, 1, 2, 0, 0],
+        ),
+    ];
+    for (chunks, text, canonical) in rows {
+        let bytes = packet_of(rt.alloc(), chunks)?;
+        let packet = SctpPacket::from_bytes(rt.alloc(), &bytes, 0, &UNVERIFIED)?;
+        assert_eq!(rt; packet.common_header.source_port, 5000);
+        assert_eq!(rt; packet.common_header.destination_port, 5000);
+        assert_eq!(rt; packet.common_header.verification_tag, 16909060);
+        assert_eq!(rt; packet.common_header.checksum, 0);
+        assert_eq!(rt; text_of(rt.alloc(), &packet)?.as_str(), text);
+        let wanted = packet_of(rt.alloc(), canonical)?;
+        let written = canonical_of(rt.alloc(), &packet)?.ok_or("it fits")?;
+        assert_eq!(rt; written.as_slice(), wanted.as_slice());
+    }
+    Ok(())
+}
+
+#[test]
+fn refused(rt: HostRuntime) -> Result<(), Fail> {
+    let rows: [(&[u8], PacketParseError); 13] = [
+        // no chunk at all
+        (&[], PacketParseError::InvalidPacketSize),
+        // fewer bytes than a chunk's header
+        (&[0x0b, 0, 0], PacketParseError::InvalidPacketSize),
+        // one byte after a whole chunk
+        (&[0x0b, 0, 0, 4, 0], LENGTH),
+        // two
+        (&[0x0b, 0, 0, 4, 0x0b, 0], LENGTH),
+        // three
+        (&[0x0b, 0, 0, 4, 0x0b, 0, 0], LENGTH),
+        // a length that doesn't count the header
+        (&[0x0b, 0, 0, 3], LENGTH),
+        // a length beyond the packet
+        (&[0x0b, 0, 0, 5], LENGTH),
+        // COOKIE ACK with a value
+        (&[0x0b, 0, 0, 5, 0, 0, 0, 0], LENGTH),
+        // COOKIE ECHO without one
+        (&[0x0a, 0, 0, 4], LENGTH),
+        // SHUTDOWN with three of its four bytes
+        (&[7, 0, 0, 8, 6, 0x11, 0xd1], LENGTH),
+        // SHUTDOWN with five
+        (&[7, 0, 0, 9, 6, 0x11, 0xd1, 0xbd, 0, 0, 0, 0], LENGTH),
+        // the second chunk's length is beyond the packet
+        (&[0x0b, 0, 0, 4, 7, 0, 0, 8], LENGTH),
+        // the first of three is at fault
+        (&[0x0a, 0, 0, 4, 0x0b, 0, 0, 4, 0x0b, 0, 0, 4], LENGTH),
+    ];
+    for (chunks, wanted) in rows {
+        let bytes = packet_of(rt.alloc(), chunks)?;
+        refuses(&rt, rt.alloc(), &bytes, 0, &UNVERIFIED, wanted);
+    }
+    Ok(())
+}
+
+fn refuses(
+    rt: &impl Abort,
+    alloc: Global,
+    bytes: &[u8],
+    word: u32,
+    policy: &ChecksumPolicy,
+    wanted: PacketParseError,
+) {
+    let size = bytes.len();
+    match SctpPacket::from_bytes(alloc, bytes, word, policy) {
+        Ok(_) => assert!(rt; false, "{size} bytes were accepted"),
+        Err(error) => assert_eq!(rt; error, wanted, "{size} bytes"),
+    }
+}
+
+// With verification on: the expected word is 5, but where a row says otherwise.
+#[test]
+fn checksums(rt: HostRuntime) -> Result<(), Fail> {
+    let none = ChecksumPolicy::default();
+    let dtls = verified_by(ZERO_CHECKSUM_ALTERNATE_ERROR_DETECTION_METHOD_LOWER_LAYER_DTLS);
+    let ack = packet_of(rt.alloc(), &[0x0b, 0, 0, 4])?;
+
+    // a zero field is wrong without another method
+    refuses(
+        &rt,
+        rt.alloc(),
+        &ack,
+        5,
+        &none,
+        PacketParseError::InvalidChecksum,
+    );
+    // a zero field is accepted under another method
+    assert!(rt; SctpPacket::from_bytes(rt.alloc(), &ack, 5, &dtls).is_ok());
+    // a zero field is accepted where zero is expected
+    assert!(rt; SctpPacket::from_bytes(rt.alloc(), &ack, 0, &none).is_ok());
+
+    // a field that is the expected word, most significant byte first
+    let marked = [
+        0x13, 0x88, 0x13, 0x88, 1, 2, 3, 4, 0, 0, 0, 5, 0x0b, 0, 0, 4,
+    ];
+    let packet = SctpPacket::from_bytes(rt.alloc(), &marked, 5, &none)?;
+    assert_eq!(rt; packet.common_header.checksum, 5);
+    // another method accepts the word too, and no other number but zero
+    assert!(rt; SctpPacket::from_bytes(rt.alloc(), &marked, 5, &dtls).is_ok());
+    refuses(
+        &rt,
+        rt.alloc(),
+        &marked,
+        6,
+        &dtls,
+        PacketParseError::InvalidChecksum,
+    );
+    // the canonical packet has a checksum of 0
+    let written = canonical_of(rt.alloc(), &packet)?.ok_or("it fits")?;
+    assert_eq!(rt; written.as_slice(), ack.as_slice());
+
+    // the size is told before the checksum
+    refuses(
+        &rt,
+        rt.alloc(),
+        &[0; 15],
+        5,
+        &none,
+        PacketParseError::InvalidPacketSize,
+    );
+    // the checksum is told before the chunks: a length below 4, and one beyond the packet
+    let low = packet_of(rt.alloc(), &[0x0b, 0, 0, 3])?;
+    refuses(
+        &rt,
+        rt.alloc(),
+        &low,
+        5,
+        &none,
+        PacketParseError::InvalidChecksum,
+    );
+    let high = packet_of(rt.alloc(), &[0x0b, 0, 0, 5])?;
+    refuses(
+        &rt,
+        rt.alloc(),
+        &high,
+        5,
+        &none,
+        PacketParseError::InvalidChecksum,
+    );
+    Ok(())
+}
+
+fn verified_by(method: ZeroChecksumAlternateErrorDetectionMethod) -> ChecksumPolicy {
+    ChecksumPolicy {
+        disable_checksum_verification: false,
+        zero_checksum_alternate_error_detection_method: method,
+    }
+}
+
+/// A packet with one COOKIE ECHO, of `size` bytes in all.
+fn cookie_of(alloc: Global, length: [u8; 2], size: usize) -> Result<Vec<u8>, AllocError> {
+    let mut bytes = packet_of(alloc, &[0x0a, 0, length[0], length[1]])?;
+    bytes.resize(size, 0x7f)?;
+    Ok(bytes)
+}
+
+#[test]
+fn largest(rt: HostRuntime) -> Result<(), Fail> {
+    // the largest packet whose canonical form has the same size
+    let bytes = cookie_of(rt.alloc(), [0xff, 0xf0], 65532)?;
+    let packet = SctpPacket::from_bytes(rt.alloc(), &bytes, 0, &UNVERIFIED)?;
+    let written = canonical_of(rt.alloc(), &packet)?.ok_or("it fits")?;
+    assert_eq!(rt; written.as_slice(), bytes.as_slice());
+
+    // a byte more: the canonical packet would have 65,536
+    let bytes = cookie_of(rt.alloc(), [0xff, 0xf1], 65533)?;
+    let packet = SctpPacket::from_bytes(rt.alloc(), &bytes, 0, &UNVERIFIED)?;
+    assert_eq!(rt;
+        text_of(rt.alloc(), &packet)?.as_str(),
+        "COOKIE-ECHO, cookie=65517 bytes\n"
+    );
+    assert!(rt; packet.chunks.iter().all(|chunk| chunk.encodable()));
+    assert!(rt; !packet.fits());
+
+    // the largest packet of all, and one byte more
+    let bytes = cookie_of(rt.alloc(), [0xff, 0xf3], 65535)?;
+    assert!(rt; SctpPacket::from_bytes(rt.alloc(), &bytes, 0, &UNVERIFIED).is_ok());
+    let bytes = cookie_of(rt.alloc(), [0xff, 0xf4], 65536)?;
+    refuses(
+        &rt,
+        rt.alloc(),
+        &bytes,
+        0,
+        &UNVERIFIED,
+        PacketParseError::InvalidPacketSize,
+    );
+
+    // as many chunks as a packet can have
+    let mut bytes = packet_of(rt.alloc(), &[])?;
+    for _ in 0..16380 {
+        bytes.extend_from_slice(&[0x0b, 0, 0, 4])?;
+    }
+    let packet = SctpPacket::from_bytes(rt.alloc(), &bytes, 0, &UNVERIFIED)?;
+    assert_eq!(rt; packet.chunks.len(), 16380);
+    let written = canonical_of(rt.alloc(), &packet)?.ok_or("it fits")?;
+    assert_eq!(rt; written.as_slice(), bytes.as_slice());
+    Ok(())
+}
+
+// A packet without chunks isn't read, but it fits, and is its header.
+#[test]
+fn empty(rt: HostRuntime) -> Result<(), Fail> {
+    let bytes = packet_of(rt.alloc(), &[0x0b, 0, 0, 4])?;
+    let mut packet = SctpPacket::from_bytes(rt.alloc(), &bytes, 0, &UNVERIFIED)?;
+    packet.chunks.clear();
+    let written = canonical_of(rt.alloc(), &packet)?.ok_or("it fits")?;
+    assert_eq!(rt; written.as_slice(), HEADER.as_slice());
+    Ok(())
+}
+
+#[test]
+fn error_texts(rt: HostRuntime) -> Result<(), Fail> {
+    let rows = [
+        (PacketParseError::InvalidPacketSize, "Invalid packet size"),
+        (PacketParseError::InvalidChecksum, "Invalid packet checksum"),
+        (PacketParseError::InvalidChunkSize, "Invalid chunk size"),
+        (
+            PacketParseError::from(ChunkParseError::InvalidValue),
+            "Failed to parse chunk",
+        ),
+    ];
+    for (error, text) in rows {
+        assert_eq!(rt; error.to_string(rt.alloc())?.as_str(), text);
+    }
+    let rows = [
+        (
+            ChunkParseError::InvalidLength,
+            "The TLV data has an invalid length field, or payload size",
+        ),
+        (ChunkParseError::InvalidType, "Unexpected TLV type"),
+        (
+            ChunkParseError::InvalidPadding,
+            "Incorrect number of padding bytes",
+        ),
+        (ChunkParseError::InvalidValue, "Invalid value"),
+        (ChunkParseError::OutOfMemory, "Out of memory"),
+    ];
+    for (error, text) in rows {
+        assert_eq!(rt; error.to_string(rt.alloc())?.as_str(), text);
+    }
+    assert_eq!(rt;
+        PacketParseError::from(ChunkParseError::InvalidLength),
+        LENGTH
+    );
+    Ok(())
+}
