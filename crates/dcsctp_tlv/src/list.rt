@@ -30,11 +30,11 @@ pub fn parameters_serialized_size<T: SerializableTlv>(list: &[T]) -> usize
     requires { IsListEncodable T.tlv T.is_encodable list.now }
     ensures { result ≡ list_size T.tlv list.now }
 {
-    let mut total: usize = 0;
+    let mut size: usize = 0;
     for item in list {
-        total = round_up_to_4(total) + item.serialized_size();
+        size = round_up_to_4(size) + item.serialized_size();
     }
-    total
+    size
 }
 
 /// Writes the list at the front of `output`. The bytes between items, and those past the list,

@@ -20,7 +20,6 @@ impl fmt::Display for Tsn {
 
 impl fmt::Debug for Tsn {
     fn fmt<W: fmt::Write>(&self, f: &mut fmt::Formatter<W>) -> fmt::Result {
-        let number = self.0;
-        write!(f, "{number}")
+        fmt::Display::fmt(self, f)
     }
 }

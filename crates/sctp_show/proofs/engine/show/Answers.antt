@@ -1,0 +1,10 @@
+use Rattle.sctp_show.proofs.ShowLemmas.{only_read_failed, writes_shown}
+use Rattle.sctp_show.proofs.engine.show.Goals as goal
+
+pub returns-clause-shown : goal.returns-clause-shown
+returns-clause-shown g c = λ read works. writes_shown _ _ _ _ _ _ read _ c.reply_to-reply.ensures.reply (c.tell.ensures.whole works)
+
+pub returns-clause-read_failed : goal.returns-clause-read_failed
+returns-clause-read_failed g c = λ works.
+    let told = c.tell.ensures.whole works in
+    only_read_failed _ _ _ _ _ _ _ c.reply_to-reply.ensures.reply told.0 told.1

@@ -1,0 +1,110 @@
+-- What the program answers an input with: a text and a status.
+use Rattle.std.specs.Prelude.{◌≡◌, ◌≤◌, ◌<◌, ◌⊎◌, ℕ, ◌||◌, ◌==◌, Bool, true, false, not, List, ◌++◌, length, take, codes, Option, Result, Ok, Err, IsErr, IfSome}
+use Rattle.std.specs.List.{filter, flat_map}
+use Rattle.std.specs.Fmt.{decimal}
+use Rattle.std.specs.Io.{StartsWith}
+use Rattle.std.specs.Io.KnownBytes.{Consumes, Appends}
+use Rattle.hex.specs.Hex.{decode_of, encode_lower}
+use Rattle.dcsctp_wire.specs.declared.packet.sctp_packet.ChecksumPolicy.{ChecksumPolicy}
+use Rattle.dcsctp_wire.specs.Fault.{Length, Padding, Value}
+use Rattle.dcsctp_wire.specs.Chunk.{ChunkTree, chunk_text}
+use Rattle.dcsctp_wire.specs.Packet.{Meaning, PacketTree, PacketFault, Size, Checksum, Chunk, Answer}
+use Rattle.dcsctp_wire.specs.Canonical.{canonical, Fits}
+
+---- the text of a packet
+
+-- the four numbers in front, in decimal
+abbrev pub header_line : PacketTree → List ℕ
+header_line p =
+    codes "source=" ++ decimal p.meaning.source
+    ++ codes " destination=" ++ decimal p.meaning.destination
+    ++ codes " tag=" ++ decimal p.meaning.tag
+    ++ codes " checksum=" ++ decimal p.checksum ++ codes "\n"
+
+-- a chunk's printed text, on a line of its own
+abbrev pub chunk_line : ChunkTree → List ℕ
+chunk_line chunk = chunk_text chunk ++ codes "\n"
+
+-- the canonical packet in hexadecimal, or that it doesn't fit
+pub data CanonicalLine (m : Meaning) (line : List ℕ) : Type 0 where
+  fits : Fits m → line ≡ codes "canonical=" ++ encode_lower (canonical m) ++ codes "\n" → CanonicalLine m line
+  too_long : ¬ Fits m → line ≡ codes "canonical too long\n" → CanonicalLine m line
+
+-- a packet's header line, a line for each chunk, and its canonical line
+abbrev pub PacketText : PacketTree → List ℕ → Type 0
+PacketText p text =
+    (last : List ℕ) × CanonicalLine p.meaning last
+    × (text ≡ header_line p ++ flat_map chunk_line p.meaning.chunks ++ last)
+
+---- the answer to an input
+
+-- a fault is answered by its line alone, and status 1
+abbrev pub fault : List ℕ → List ℕ × ℕ
+fault line = (line, 1)
+
+abbrev pub fault_line : PacketFault → List ℕ
+fault_line Size = codes "error: invalid packet size\n"
+fault_line Checksum = codes "error: invalid checksum\n"
+fault_line (Chunk Length) = codes "error: invalid chunk: length\n"
+fault_line (Chunk Padding) = codes "error: invalid chunk: padding\n"
+fault_line (Chunk Value) = codes "error: invalid chunk: value\n"
+
+-- what the library's answer is told as: a packet by its text and status 0
+abbrev pub Tells : Result PacketTree PacketFault → List ℕ × ℕ → Type 0
+Tells (Ok p) answer = (text : List ℕ) × PacketText p text × (answer ≡ (text, 0))
+Tells (Err e) answer = answer ≡ fault (fault_line e)
+
+-- a space, a tab, a carriage return or a line feed
+abbrev pub is_blank : ℕ → Bool
+is_blank byte = byte == 32 || byte == 9 || byte == 13 || byte == 10
+
+-- the text with its blanks left out
+abbrev pub without_blanks : List ℕ → List ℕ
+without_blanks text = filter (λ byte. not (is_blank byte)) text
+
+-- the policy under which any checksum is accepted
+abbrev pub unverified : ChecksumPolicy
+unverified = record { disable_checksum_verification = true; zero_checksum_alternate_error_detection_method = record { 0 = 0 } }
+
+-- the input is answered with this text and status, where no device fails and memory lasts: the
+-- first of the rules that applies decides
+pub data Shows (input : List ℕ) (answer : List ℕ × ℕ) : Type 0 where
+  too_long : 200000 < length input → answer ≡ fault (codes "error: input too long\n") → Shows input answer
+  not_hexadecimal : length input ≤ 200000 → IsErr (decode_of (without_blanks input))
+      → answer ≡ fault (codes "error: not hexadecimal\n") → Shows input answer
+  packet : length input ≤ 200000 → (bytes : List ℕ) → decode_of (without_blanks input) ≡ Ok bytes
+      → (read : Result PacketTree PacketFault) → Answer bytes 0 unverified read → Tells read answer → Shows input answer
+
+abbrev pub out_of_memory : List ℕ × ℕ
+out_of_memory = fault (codes "error: out of memory\n")
+
+-- the input's answer, or that memory ran out
+abbrev pub MayShow : List ℕ → List ℕ × ℕ → Type 0
+MayShow input answer = Shows input answer ⊎ (answer ≡ out_of_memory)
+
+---- the answer of a run
+
+abbrev pub read_failed : List ℕ × ℕ
+read_failed = fault (codes "error: read failed\n")
+
+-- the answer that a run may have: that of a failed read where one failed, and else that of no
+-- memory, or that to the input, which is all that the reader had, where that is known, and of
+-- which it gave the first 200,001 bytes
+abbrev pub MayAnswer : Bool → Option (List ℕ) → Option (List ℕ) → List ℕ × ℕ → Type 0
+MayAnswer true known left answer = answer ≡ read_failed
+MayAnswer false known left answer =
+    (answer ≡ out_of_memory)
+    ⊎ ((input : List ℕ) × IfSome known (λ all. input ≡ all) × Consumes known left (take 200001 input) × Shows input answer)
+
+-- at most `most` bytes were taken from the reader
+abbrev pub TakesAtMost : ℕ → Option (List ℕ) → Option (List ℕ) → Type 0
+TakesAtMost most old new = (taken : List ℕ) × (length taken ≤ most) × Consumes old new taken
+
+-- the run wrote the whole answer behind what the writer held, and has its status
+abbrev pub Writes : List ℕ × ℕ → ℕ → Option (List ℕ) → Option (List ℕ) → Type 0
+Writes answer status old new = (status ≡ answer.1) × Appends old new answer.0
+
+-- the run wrote a beginning of the answer behind what the writer held, and has status 2
+abbrev pub WritesBeginning : List ℕ × ℕ → ℕ → Option (List ℕ) → Option (List ℕ) → Type 0
+WritesBeginning answer status old new =
+    (status ≡ 2) × (written : List ℕ) × StartsWith answer.0 written × Appends old new written

@@ -1,0 +1,150 @@
+//! The program over a reader and a writer.
+ghost use Rattle.std.specs.Prelude.{◌≡◌, ◌||◌, ◌⊎◌, ◌↔◌, ℕ, ◌<◌, ◌≤◌, List, ◌++◌, true, false, Some, codes, is_err, take, length, IfOk, IfErr, IfSome, OnErr};
+ghost use Rattle.std.specs.Io.KnownBytes.{Consumes, IsAtEnd};
+ghost use Rattle.sctp_show.specs.Watched.{device_of, has_failed};
+ghost use Rattle.sctp_show.specs.Show.{TakesAtMost, MayAnswer, MayShow, Writes, WritesBeginning};
+ghost use Rattle.sctp_show.specs.Reply.{reply_of};
+
+use crate::answer::answer_to;
+use crate::failure::Failure;
+use crate::watched::Watched;
+use std::alloc::Global;
+use std::io;
+use std::io::{Read, Write};
+
+// One byte more than an input may have, so that a longer one is seen to be too long.
+const MOST_READ: usize = 200_001;
+
+/// Reads the input, writes its answer, and answers the status: 0 for a packet, 1 for a fault, and
+/// 2 where the output failed.
+pub fn show<R: Read, W: Write>(alloc: Global, input: &mut Watched<R>, output: &mut Watched<W>) -> u8
+    requires input_works { has_failed input.old ≡ false }
+    requires output_works { has_failed output.old ≡ false }
+
+    // The input is read once, from its front on, and no further than tells that it is too long.
+    ensures at_most { TakesAtMost 200001 (R.remaining (device_of input.old))
+        (R.remaining (device_of input.new)) }
+
+    // Where no device fails, the output and the status are those of the input, or memory ran out.
+    ensures shown { has_failed input.new ≡ false → has_failed output.new ≡ false
+        → IfSome (R.remaining (device_of input.old)) (λ all. (answer : List ℕ × ℕ) × MayShow all answer
+        × Writes answer result (W.contents (device_of output.old)) (W.contents (device_of output.new))) }
+
+    // A failed read is told by its line alone, and no other run has that line alone and status 1.
+    ensures read_failed { has_failed output.new ≡ false → IfSome (W.contents (device_of output.old))
+        (λ held. ((result ≡ 1)
+        × (W.contents (device_of output.new) ≡ Some (held ++ codes "error: read failed\n")))
+        ↔ (has_failed input.new ≡ true)) }
+
+    // Status 2 tells that the output failed: what was written is then a beginning of an answer that
+    // the run could have had, and else the whole of one.
+    ensures status { (result ≡ 2) ↔ (has_failed output.new ≡ true) }
+    ensures whole { has_failed output.new ≡ false → (answer : List ℕ × ℕ)
+        × MayAnswer (has_failed input.new) (R.remaining (device_of input.old))
+        (R.remaining (device_of input.new)) answer
+        × Writes answer result (W.contents (device_of output.old)) (W.contents (device_of output.new)) }
+    ensures cut { has_failed output.new ≡ true → (answer : List ℕ × ℕ)
+        × MayAnswer (has_failed input.new) (R.remaining (device_of input.old))
+        (R.remaining (device_of input.new)) answer
+        × WritesBeginning answer result (W.contents (device_of output.old))
+        (W.contents (device_of output.new)) }
+{
+    let reply = reply_to(alloc, input);
+    tell(output, &reply)
+}
+
+/// What the input is answered with, or why it is not.
+fn reply_to<R: Read>(alloc: Global, input: &mut Watched<R>) -> Result<String, Failure>
+    requires { has_failed input.old ≡ false }
+    ensures at_most { TakesAtMost 200001 (R.remaining (device_of input.old))
+        (R.remaining (device_of input.new)) }
+    ensures reply { MayAnswer (has_failed input.new) (R.remaining (device_of input.old))
+        (R.remaining (device_of input.new)) (reply_of result) }
+{
+    let bytes = read_input(alloc, input)?;
+    answer_to(alloc, bytes)
+}
+
+/// The input up to its end, or its first bytes.
+fn read_input<R: Read>(alloc: Global, input: &mut Watched<R>) -> Result<Vec<u8>, Failure>
+    requires { has_failed input.old ≡ false }
+    ensures read { IfOk result (λ bytes. Consumes (R.remaining (device_of input.old))
+        (R.remaining (device_of input.new)) bytes.items) }
+    ensures at_most { IfOk result (λ bytes. length bytes.items ≤ 200001) }
+    ensures first { IfOk result (λ bytes. IfSome (R.remaining (device_of input.old))
+        (λ all. bytes.items ≡ take 200001 all)) }
+    ensures none_lost { OnErr result (TakesAtMost 200001 (R.remaining (device_of input.old))
+        (R.remaining (device_of input.new))) }
+    ensures failed { (result ≡ Err Failure.Read) ↔ (has_failed input.new ≡ true) }
+    ensures memory { IfErr result (λ e. (e ≡ Failure.Read) ⊎ (e ≡ Failure.OutOfMemory)) }
+{
+    let mut bytes = vec![in alloc; 0; MOST_READ]?;
+    match fill(input, bytes.as_mut_slice()) {
+        Ok(filled) => {
+            bytes.truncate(filled);
+            Ok(bytes)
+        }
+        Err(_) => Err(Failure::Read),
+    }
+}
+
+/// Reads into `room` from its front on, until it is full or the input at its end.
+fn fill<R: Read>(input: &mut Watched<R>, room: &mut [u8]) -> io::Result<usize>
+    ensures within { IfOk result (λ n. n ≤ length room.new) }
+    ensures read { IfOk result (λ n. Consumes (R.remaining (device_of input.old))
+        (R.remaining (device_of input.new)) (take n room.new)) }
+    ensures end { IfOk result (λ n. n < length room.new
+        → IsAtEnd (R.remaining (device_of input.new))) }
+    ensures none_lost { OnErr result (TakesAtMost (length room.old)
+        (R.remaining (device_of input.old)) (R.remaining (device_of input.new))) }
+    ensures failed { has_failed input.new ≡ (has_failed input.old || is_err result) }
+{
+    let mut filled = 0;
+    while filled < room.len() {
+        match input.read(&mut room[filled..]) {
+            Ok(0) => break,
+            Ok(count) => filled += count,
+            Err(error) => return Err(error),
+        }
+    }
+    Ok(filled)
+}
+
+/// Writes the reply and answers its status, or 2 where the output failed.
+fn tell<W: Write>(output: &mut Watched<W>, reply: &Result<String, Failure>) -> u8
+    requires { has_failed output.old ≡ false }
+    ensures status { (result ≡ 2) ↔ (has_failed output.new ≡ true) }
+    ensures whole { has_failed output.new ≡ false → Writes (reply_of reply.now) result
+        (W.contents (device_of output.old)) (W.contents (device_of output.new)) }
+    ensures cut { has_failed output.new ≡ true → WritesBeginning (reply_of reply.now) result
+        (W.contents (device_of output.old)) (W.contents (device_of output.new)) }
+{
+    match reply {
+        Ok(text) => print(output, text.as_bytes(), 0),
+        Err(failure) => print(output, failure.line().as_bytes(), 1),
+    }
+}
+
+/// Writes the text, flushes, and answers `status`, or 2 where the output failed.
+fn print<W: Write>(output: &mut Watched<W>, text: &[u8], status: u8) -> u8
+    requires works { has_failed output.old ≡ false }
+    requires answers { status < 2 }
+    ensures status { (result ≡ 2) ↔ (has_failed output.new ≡ true) }
+    ensures whole { has_failed output.new ≡ false → Writes (text.now, status) result
+        (W.contents (device_of output.old)) (W.contents (device_of output.new)) }
+    ensures cut { has_failed output.new ≡ true → WritesBeginning (text.now, status) result
+        (W.contents (device_of output.old)) (W.contents (device_of output.new)) }
+{
+    let mut written = 0;
+    while written < text.len() {
+        match output.write(&text[written..]) {
+            Ok(0) => return 2,
+            Ok(count) => written += count,
+            Err(_) => return 2,
+        }
+    }
+    match output.flush() {
+        Ok(()) => status,
+        Err(_) => 2,
+    }
+}

@@ -1,0 +1,363 @@
+//! The engine over readers and writers in memory, each of whose calls can be made to fail.
+use crate::engine::show;
+use crate::watched::Watched;
+use std::alloc::{AllocError, Global};
+use std::io;
+use std::io::{Read, Write};
+use std::test::*;
+
+// The number of a call that never comes, since calls are counted from 1.
+const NEVER: usize = 0;
+
+// A reader that gives at most `step` bytes a call, and fails at one call.
+#[derive(Drop)]
+struct Source<'a> {
+    text: &'a [u8],
+    step: usize,
+    fails_at: usize,
+    calls: usize,
+    given: usize,
+}
+
+fn make_source(text: &[u8], step: usize, fails_at: usize) -> Source<'_> {
+    Source {
+        text,
+        step,
+        fails_at,
+        calls: 0,
+        given: 0,
+    }
+}
+
+impl<'a> Read for Source<'a> {
+    fn read(&mut self, buf: &mut [u8]) -> io::Result<usize> {
+        self.calls = self.calls.saturating_add(1);
+        if self.calls == self.fails_at {
+            // An error after which std's own loops would call again.
+            return Err(io::Error::from(io::ErrorKind::Interrupted));
+        }
+        let len = self.step.min(buf.len());
+        let count = self.text.read(&mut buf[..len])?;
+        self.given = self.given.saturating_add(count);
+        Ok(count)
+    }
+}
+
+// What a writer does at the call at which it fails.
+#[derive(Clone, Copy)]
+enum Fault {
+    Error,
+    TakesNothing,
+}
+
+// A writer that takes at most `step` bytes a call, and fails at one write or at the flush.
+#[derive(Drop)]
+struct Sink {
+    bytes: Vec<u8>,
+    step: usize,
+    fails_at: usize,
+    fault: Fault,
+    flush_fails: bool,
+    writes: usize,
+    flushes: usize,
+}
+
+fn make_sink(
+    alloc: Global,
+    step: usize,
+    fails_at: usize,
+    fault: Fault,
+) -> Result<Sink, AllocError> {
+    Ok(Sink {
+        // Room for each test's output, so that no write runs out of memory.
+        bytes: Vec::with_capacity(alloc, 4096)?,
+        step,
+        fails_at,
+        fault,
+        flush_fails: false,
+        writes: 0,
+        flushes: 0,
+    })
+}
+
+impl Write for Sink {
+    fn write(&mut self, buf: &[u8]) -> io::Result<usize> {
+        self.writes = self.writes.saturating_add(1);
+        if self.writes == self.fails_at {
+            return match self.fault {
+                Fault::Error => Err(io::Error::from(io::ErrorKind::Interrupted)),
+                Fault::TakesNothing => Ok(0),
+            };
+        }
+        let len = self.step.min(buf.len());
+        self.bytes.extend_from_slice(&buf[..len])?;
+        Ok(len)
+    }
+
+    fn flush(&mut self) -> io::Result<()> {
+        self.flushes = self.flushes.saturating_add(1);
+        if self.flush_fails {
+            return Err(io::Error::from(io::ErrorKind::BrokenPipe));
+        }
+        Ok(())
+    }
+}
+
+// What a run did to its devices.
+#[derive(Drop)]
+struct Outcome {
+    status: u8,
+    input_failed: bool,
+    output_failed: bool,
+    reads: usize,
+    given: usize,
+    bytes: Vec<u8>,
+    writes: usize,
+    flushes: usize,
+}
+
+fn run(alloc: Global, source: Source<'_>, sink: Sink) -> Outcome {
+    let mut input = Watched::new(source);
+    let mut output = Watched::new(sink);
+    let status = show(alloc, &mut input, &mut output);
+    let input_failed = input.failed();
+    let output_failed = output.failed();
+    let source = input.into_device();
+    let sink = output.into_device();
+    Outcome {
+        status,
+        input_failed,
+        output_failed,
+        reads: source.calls,
+        given: source.given,
+        bytes: sink.bytes,
+        writes: sink.writes,
+        flushes: sink.flushes,
+    }
+}
+
+#[test]
+fn answers(rt: HostRuntime) -> Result<(), Fail> {
+    let rows: [(&str, &str, u8); 13] = [
+        // A packet, with blanks between its fields and digits of both cases.
+        (
+            "1388 1388 01020304 00000000 0B000004",
+            "source=5000 destination=5000 tag=16909060 checksum=0\nCOOKIE-ACK\ncanonical=1388138801020304000000000b000004\n",
+            0,
+        ),
+        // Blanks of each kind, also within a byte and at the ends.
+        (
+            "\n1 38\t81388\r\n01020304 00000000 0b000004 \n",
+            "source=5000 destination=5000 tag=16909060 checksum=0\nCOOKIE-ACK\ncanonical=1388138801020304000000000b000004\n",
+            0,
+        ),
+        // The last chunk lacks its padding: the canonical packet has it.
+        (
+            "1388138801020304000000000a0000057f",
+            "source=5000 destination=5000 tag=16909060 checksum=0\nCOOKIE-ECHO, cookie=1 bytes\ncanonical=1388138801020304000000000a0000057f000000\n",
+            0,
+        ),
+        // The checksum is printed, and isn't part of the canonical packet.
+        (
+            "1388138801020304000000050b000004",
+            "source=5000 destination=5000 tag=16909060 checksum=5\nCOOKIE-ACK\ncanonical=1388138801020304000000000b000004\n",
+            0,
+        ),
+        // Two chunks, a line each.
+        (
+            "1388138801020304000000000b000004070000080611d1bd",
+            "source=5000 destination=5000 tag=16909060 checksum=0\nCOOKIE-ACK\nSHUTDOWN cumulative_tsn_ack=101831101\ncanonical=1388138801020304000000000b000004070000080611d1bd\n",
+            0,
+        ),
+        // The second of two chunks is longer than the packet.
+        (
+            "1388138801020304000000000b00000407000008",
+            "error: invalid chunk: length\n",
+            1,
+        ),
+        // A header without a chunk.
+        (
+            "138813880102030400000000",
+            "error: invalid packet size\n",
+            1,
+        ),
+        // No bytes.
+        ("", "error: invalid packet size\n", 1),
+        // Blanks alone.
+        (" \t\r\n", "error: invalid packet size\n", 1),
+        // An odd count of digits.
+        ("138", "error: not hexadecimal\n", 1),
+        // No digits.
+        ("zz", "error: not hexadecimal\n", 1),
+        // A line tabulation is no blank.
+        ("13\u{b}88", "error: not hexadecimal\n", 1),
+        // The digits are told before the packet's size.
+        ("13888", "error: not hexadecimal\n", 1),
+    ];
+    for (text, wanted, status) in rows {
+        for step in [1, 3, 1000] {
+            let sink = make_sink(rt.alloc(), step, NEVER, Fault::Error)?;
+            let outcome = run(rt.alloc(), make_source(text.as_bytes(), step, NEVER), sink);
+            assert_eq!(rt; outcome.bytes.as_slice(), wanted.as_bytes(), "{text}");
+            assert_eq!(rt; outcome.status, status, "{text}");
+            assert_eq!(rt; outcome.given, text.len(), "{text}");
+            assert_eq!(rt; outcome.flushes, 1, "{text}");
+            assert!(rt; !outcome.input_failed && !outcome.output_failed, "{text}");
+        }
+    }
+    Ok(())
+}
+
+#[test]
+fn long_inputs(rt: HostRuntime) -> Result<(), Fail> {
+    let rows: [(u8, usize, usize, &str); 6] = [
+        // One byte too many, and many: the length decides before the digits.
+        (b'z', 200_001, 200_001, "error: input too long\n"),
+        (b'0', 300_000, 200_001, "error: input too long\n"),
+        (b' ', 200_001, 200_001, "error: input too long\n"),
+        // As long as an input may be.
+        (b'z', 200_000, 200_000, "error: not hexadecimal\n"),
+        (b' ', 200_000, 200_000, "error: invalid packet size\n"),
+        // A byte more than a packet has.
+        (b'0', 131_072, 131_072, "error: invalid packet size\n"),
+    ];
+    for (byte, length, given, wanted) in rows {
+        let text = vec![in rt.alloc(); byte; length]?;
+        for step in [7000, 200_001, 1_000_000] {
+            let sink = make_sink(rt.alloc(), 1000, NEVER, Fault::Error)?;
+            let outcome = run(rt.alloc(), make_source(&text, step, NEVER), sink);
+            assert_eq!(rt; outcome.bytes.as_slice(), wanted.as_bytes(), "{length}");
+            assert_eq!(rt; outcome.status, 1, "{length}");
+            assert_eq!(rt; outcome.given, given, "{length}");
+        }
+    }
+    Ok(())
+}
+
+// A packet whose canonical packet has too many bytes: one chunk of 65,521 bytes.
+#[test]
+fn canonical_too_long(rt: HostRuntime) -> Result<(), Fail> {
+    let mut text = Vec::from_slice(rt.alloc(), b"1388138801020304000000000a00fff1")?;
+    for _ in 0..65517 {
+        text.extend_from_slice(b"7f")?;
+    }
+    let sink = make_sink(rt.alloc(), 1000, NEVER, Fault::Error)?;
+    let outcome = run(rt.alloc(), make_source(&text, 1_000_000, NEVER), sink);
+    assert_eq!(rt;
+        outcome.bytes.as_slice(),
+        b"source=5000 destination=5000 tag=16909060 checksum=0\nCOOKIE-ECHO, cookie=65517 bytes\ncanonical too long\n".as_slice()
+    );
+    assert_eq!(rt; outcome.status, 0);
+    Ok(())
+}
+
+// Each read is made to fail: no other follows, and its line is told.
+#[test]
+fn failing_reads(rt: HostRuntime) -> Result<(), Fail> {
+    let text = b"0a0b0c";
+    // The last read is the one that finds the end.
+    for call in 1..=text.len() + 1 {
+        let sink = make_sink(rt.alloc(), 5, NEVER, Fault::Error)?;
+        let outcome = run(rt.alloc(), make_source(text, 1, call), sink);
+        assert_eq!(rt;
+            outcome.bytes.as_slice(),
+            b"error: read failed\n".as_slice()
+        );
+        assert_eq!(rt; outcome.status, 1);
+        assert_eq!(rt; outcome.reads, call);
+        assert_eq!(rt; outcome.given, call - 1);
+        assert!(rt; outcome.input_failed && !outcome.output_failed);
+    }
+    Ok(())
+}
+
+// Each write is made to fail, by an error and by taking nothing: no other call follows, and what
+// was written is a beginning of the answer.
+#[test]
+fn failing_writes(rt: HostRuntime) -> Result<(), Fail> {
+    let text = b"1388138901020304 00000005 0B000004";
+    let wanted =
+        b"source=5000 destination=5001 tag=16909060 checksum=5\nCOOKIE-ACK\ncanonical=1388138901020304000000000b000004\n";
+    for call in 1..=wanted.len() {
+        for fault in [Fault::Error, Fault::TakesNothing] {
+            let sink = make_sink(rt.alloc(), 1, call, fault)?;
+            let outcome = run(rt.alloc(), make_source(text, 9, NEVER), sink);
+            assert_eq!(rt; outcome.bytes.as_slice(), &wanted[..call - 1]);
+            assert_eq!(rt; outcome.status, 2);
+            assert_eq!(rt; outcome.writes, call);
+            assert_eq!(rt; outcome.flushes, 0);
+            assert!(rt; !outcome.input_failed && outcome.output_failed);
+        }
+    }
+    Ok(())
+}
+
+#[test]
+fn failing_flush(rt: HostRuntime) -> Result<(), Fail> {
+    let mut sink = make_sink(rt.alloc(), 1000, NEVER, Fault::Error)?;
+    sink.flush_fails = true;
+    let outcome = run(rt.alloc(), make_source(b"138", 9, NEVER), sink);
+    assert_eq!(rt;
+        outcome.bytes.as_slice(),
+        b"error: not hexadecimal\n".as_slice()
+    );
+    assert_eq!(rt; outcome.status, 2);
+    assert_eq!(rt; outcome.flushes, 1);
+    assert!(rt; outcome.output_failed);
+    Ok(())
+}
+
+// A reader that fails before a writer that fails.
+#[test]
+fn both_fail(rt: HostRuntime) -> Result<(), Fail> {
+    let sink = make_sink(rt.alloc(), 5, 3, Fault::TakesNothing)?;
+    let outcome = run(rt.alloc(), make_source(b"0a0b", 9, 1), sink);
+    assert_eq!(rt; outcome.bytes.as_slice(), b"error: rea".as_slice());
+    assert_eq!(rt; outcome.status, 2);
+    assert!(rt; outcome.input_failed && outcome.output_failed);
+    Ok(())
+}
+
+// A device that failed is remembered through calls that succeed, and a write of no bytes that
+// takes none is no failure.
+#[test]
+fn watched(rt: HostRuntime) -> Result<(), Fail> {
+    let mut input = Watched::new(make_source(b"abc", 1, 2));
+    let mut room = [0; 4];
+    assert_eq!(rt; input.read(&mut room).ok(), Some(1));
+    assert!(rt; !input.failed());
+    assert_eq!(rt; input.read(&mut room).ok(), None);
+    assert!(rt; input.failed());
+    assert_eq!(rt; input.read(&mut room).ok(), Some(1));
+    assert!(rt; input.failed());
+
+    let mut output = Watched::new(make_sink(rt.alloc(), 9, 3, Fault::TakesNothing)?);
+    assert_eq!(rt; output.write(b"").ok(), Some(0));
+    assert_eq!(rt; output.write(b"ab").ok(), Some(2));
+    assert!(rt; !output.failed());
+    assert_eq!(rt; output.write(b"cd").ok(), Some(0));
+    assert!(rt; output.failed());
+    assert_eq!(rt; output.write(b"ef").ok(), Some(2));
+    assert!(rt; output.flush().is_ok());
+    assert!(rt; output.failed());
+    assert_eq!(rt; output.into_device().bytes.as_slice(), b"abef".as_slice());
+    Ok(())
+}
+
+// Either the whole answer or the line of no memory, whichever allocation fails.
+#[test]
+fn memory(rt: HostRuntime) -> Result<(), Fail> {
+    let sink = make_sink(rt.alloc(), 1000, NEVER, Fault::Error)?;
+    let outcome = run(
+        rt.alloc(),
+        make_source(b"0000000000000000 00000000 0B000004", 9, NEVER),
+        sink,
+    );
+    let whole =
+        b"source=0 destination=0 tag=0 checksum=0\nCOOKIE-ACK\ncanonical=0000000000000000000000000b000004\n";
+    let is_whole = outcome.bytes.as_slice() == whole.as_slice() && outcome.status == 0;
+    let is_no_memory = outcome.bytes.as_slice() == b"error: out of memory\n".as_slice()
+        && outcome.status == 1;
+    assert!(rt; is_whole || is_no_memory);
+    Ok(())
+}
