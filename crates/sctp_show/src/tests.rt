@@ -208,6 +208,75 @@ fn answers(rt: HostRuntime) -> Result<(), Fail> {
     Ok(())
 }
 
+// A sample of what the Rust crate answers: packets drawn from a generated corpus, read, printed and
+// written by `dcsctp` 0.1.16 behind the same program.
+#[test]
+fn answers_of_the_original(rt: HostRuntime) -> Result<(), Fail> {
+    let rows: [(&str, &str, u8); 9] = [
+        // Too short.
+        (
+            "7fff1645649444f1b4659ceb0408",
+            "error: invalid packet size\n",
+            1,
+        ),
+        // The first chunk is longer than the packet.
+        (
+            "00004392ffffb6849c6e400f0023251e3ea7b0038000e66a9f2174b1a5ebff080007aa0d56093f08000b289e49a4085fa3",
+            "error: invalid chunk: length\n",
+            1,
+        ),
+        // The largest checksum but one bit; the canonical packet has 0.
+        (
+            "4bf10000598c9c057fffffff0b000004",
+            "source=19441 destination=0 tag=1502387205 checksum=2147483647\nCOOKIE-ACK\ncanonical=4bf10000598c9c05000000000b000004\n",
+            0,
+        ),
+        // An unknown chunk keeps its flags, and its padding becomes zero.
+        (
+            "df340002d1af0e63a1c301e30d03000667eb0000",
+            "source=57140 destination=2 tag=3517910627 checksum=2713911779\nUnknown chunk, type=13\ncanonical=df340002d1af0e63000000000d03000667eb0000\n",
+            0,
+        ),
+        // SHUTDOWN drops its flags.
+        (
+            "3eed6b3dd9906daefc6d81110702000835de5ee1",
+            "source=16109 destination=27453 tag=3650121134 checksum=4235034897\nSHUTDOWN cumulative_tsn_ack=903765729\ncanonical=3eed6b3dd9906dae000000000700000835de5ee1\n",
+            0,
+        ),
+        // COOKIE ECHO drops its flags and gets its padding.
+        (
+            "1388138801020304000000000a07000500",
+            "source=5000 destination=5000 tag=16909060 checksum=0\nCOOKIE-ECHO, cookie=1 bytes\ncanonical=1388138801020304000000000a00000500000000\n",
+            0,
+        ),
+        // Two chunks of one kind.
+        (
+            "13881388010203040000000007030008ff1b77d70707000893ac3b29",
+            "source=5000 destination=5000 tag=16909060 checksum=0\nSHUTDOWN cumulative_tsn_ack=4279990231\nSHUTDOWN cumulative_tsn_ack=2477538089\ncanonical=13881388010203040000000007000008ff1b77d70700000893ac3b29\n",
+            0,
+        ),
+        // Padding between chunks that isn't zero.
+        (
+            "1388138801020304000000000ae200058200000049000006667401ff0bff0004",
+            "source=5000 destination=5000 tag=16909060 checksum=0\nCOOKIE-ECHO, cookie=1 bytes\nUnknown chunk, type=73\nCOOKIE-ACK\ncanonical=1388138801020304000000000a0000058200000049000006667400000b000004\n",
+            0,
+        ),
+        // Four chunks, the last without its padding.
+        (
+            "eb42ffffaa02e000f67fe4cf0f080008168607330703000812e4f5a141000006132300003f79000adef619d030bf0000",
+            "source=60226 destination=65535 tag=2852315136 checksum=4135576783\nUnknown chunk, type=15\nSHUTDOWN cumulative_tsn_ack=316994977\nUnknown chunk, type=65\nUnknown chunk, type=63\ncanonical=eb42ffffaa02e000000000000f080008168607330700000812e4f5a141000006132300003f79000adef619d030bf0000\n",
+            0,
+        ),
+    ];
+    for (text, wanted, status) in rows {
+        let sink = make_sink(rt.alloc(), 1000, NEVER, Fault::Error)?;
+        let outcome = run(rt.alloc(), make_source(text.as_bytes(), 1000, NEVER), sink);
+        assert_eq!(rt; outcome.bytes.as_slice(), wanted.as_bytes(), "{text}");
+        assert_eq!(rt; outcome.status, status, "{text}");
+    }
+    Ok(())
+}
+
 #[test]
 fn long_inputs(rt: HostRuntime) -> Result<(), Fail> {
     let rows: [(u8, usize, usize, &str); 6] = [
