@@ -3,3 +3,4 @@ pub mod Lists
 pub mod Images
 pub mod Lending
 pub mod Readings
+pub mod Laws

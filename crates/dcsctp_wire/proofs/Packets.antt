@@ -1,12 +1,19 @@
--- What the code answers where a chunk is at fault.
-use Rattle.std.proofs.Common.{ℕ, List}
+-- Each input has one answer; and what the code answers where a chunk is at fault.
+use Rattle.std.proofs.Common.{◌≡◌, ◌≢◌, ℕ, ◌+◌, ◌≤◌, ◌<◌, List, length, drop, Result, Ok, Err, refl, sym, ap, ◌∙◌, arith, ◌⊎◌, inl, inr, Bool, true, false}
+use Rattle.std.specs.Prelude.{◌==◌}
+use Rattle.std.proofs.lemmas.Bool.{cases_lt}
+use Rattle.std.proofs.lemmas.Bool.Decides.{eqb_tells}
+use Rattle.std.proofs.lemmas.List.{get_or-drop}
 use Rattle.dcsctp_tlv.specs.declared.error.ChunkParseError.{ChunkParseError}
 use Rattle.dcsctp_tlv.specs.declared.error.ChunkParseError.TheVariants.{InvalidLength, InvalidType, InvalidPadding, InvalidValue, OutOfMemory}
-use Rattle.dcsctp_tlv.specs.Level.{HasFault}
+use Rattle.dcsctp_tlv.specs.Fault.{Fault}
+use Rattle.dcsctp_tlv.specs.Number.{AreBytes, number16, number32}
+use Rattle.dcsctp_tlv.specs.Level.{HasFault, MeansTrees}
 use Rattle.dcsctp_tlv.specs.Reading.{TellsFault}
+use Rattle.dcsctp_tlv.proofs.Laws.{Lawful, plain_lawful, pick_lawful, list_one, list_apart, list_same, list_some}
 use Rattle.dcsctp_wire.specs.declared.packet.sctp_packet.ChecksumPolicy.{ChecksumPolicy}
-use Rattle.dcsctp_wire.specs.Chunk.{chunks}
-use Rattle.dcsctp_wire.specs.Packet.{IsOpened, ReadsFault, body}
+use Rattle.dcsctp_wire.specs.Chunk.{ChunkTree, chunks}
+use Rattle.dcsctp_wire.specs.Packet.{Meaning, PacketTree, HasPacketSize, IsAccepted, disabled, alternate, equal, checksum_field, body, IsOpened, MeansPacket, PacketFault, Size, Checksum, Chunk, Answer, ReadsFault}
 
 pub reads_fault : (bytes : List ℕ) (word : ℕ) (policy : ChecksumPolicy) (e : ChunkParseError) → IsOpened bytes word policy → TellsFault (HasFault chunks (body bytes)) e → ReadsFault bytes word policy e
 reads_fault bytes word policy InvalidLength opened fault = (opened, fault)
@@ -14,3 +21,88 @@ reads_fault bytes word policy InvalidPadding opened fault = (opened, fault)
 reads_fault bytes word policy InvalidValue opened fault = (opened, fault)
 reads_fault bytes word policy InvalidType opened fault = absurd fault
 reads_fault bytes word policy OutOfMemory opened fault = opened
+
+-- each row of the table of chunks is a function of the value, or has one answer otherwise
+chunks_lawful : Lawful chunks
+chunks_lawful typ flags =
+    pick_lawful (typ == 7) _ _ (plain_lawful _) (
+    pick_lawful (typ == 10) _ _ (plain_lawful _) (
+    pick_lawful (typ == 11) _ _ (plain_lawful _) (
+    plain_lawful _)))
+
+-- ---- one answer
+
+body_fits : (bytes : List ℕ) → AreBytes bytes → AreBytes (body bytes)
+body_fits bytes fits i = rw get_or-drop (fits (12 + i))
+
+made : (p q : PacketTree) → p.meaning.source ≡ q.meaning.source → p.meaning.destination ≡ q.meaning.destination → p.meaning.tag ≡ q.meaning.tag → p.meaning.chunks ≡ q.meaning.chunks → p.checksum ≡ q.checksum → p ≡ q
+made p q a b c d e = λ k. record { meaning = record { source = a k; destination = b k; tag = c k; chunks = d k }; checksum = e k }
+
+pub packet_one : (bytes : List ℕ) (p q : PacketTree) → MeansPacket bytes p → MeansPacket bytes q → p ≡ q
+packet_one bytes p q m n = made p q (m.source ∙ sym n.source) (m.destination ∙ sym n.destination) (m.tag ∙ sym n.tag)
+    (list_one chunks chunks_lawful (body bytes) p.meaning.chunks q.meaning.chunks m.chunks n.chunks) (m.checksum ∙ sym n.checksum)
+
+pub answer_one : (bytes : List ℕ) (word : ℕ) (policy : ChecksumPolicy) (a b : Result PacketTree PacketFault) → AreBytes bytes → Answer bytes word policy a → Answer bytes word policy b → a ≡ b
+answer_one bytes word policy (Ok p) (Ok q) fits m n = ap Ok (packet_one bytes p q m.1 n.1)
+answer_one bytes word policy (Ok p) (Err Size) fits m n = absurd (n m.0.size)
+answer_one bytes word policy (Ok p) (Err Checksum) fits m n = absurd (n.1 m.0.accepted)
+answer_one bytes word policy (Ok p) (Err (Chunk e)) fits m n = absurd (list_apart chunks chunks_lawful (body bytes) p.meaning.chunks e (body_fits bytes fits) m.1.chunks n.1)
+answer_one bytes word policy (Err Size) (Ok q) fits m n = absurd (m n.0.size)
+answer_one bytes word policy (Err Size) (Err Size) fits m n = refl
+answer_one bytes word policy (Err Size) (Err Checksum) fits m n = absurd (m n.0)
+answer_one bytes word policy (Err Size) (Err (Chunk e)) fits m n = absurd (m n.0.size)
+answer_one bytes word policy (Err Checksum) (Ok q) fits m n = absurd (m.1 n.0.accepted)
+answer_one bytes word policy (Err Checksum) (Err Size) fits m n = absurd (n m.0)
+answer_one bytes word policy (Err Checksum) (Err Checksum) fits m n = refl
+answer_one bytes word policy (Err Checksum) (Err (Chunk e)) fits m n = absurd (m.1 n.0.accepted)
+answer_one bytes word policy (Err (Chunk d)) (Ok q) fits m n = absurd (list_apart chunks chunks_lawful (body bytes) q.meaning.chunks d (body_fits bytes fits) n.1.chunks m.1)
+answer_one bytes word policy (Err (Chunk d)) (Err Size) fits m n = absurd (n m.0.size)
+answer_one bytes word policy (Err (Chunk d)) (Err Checksum) fits m n = absurd (n.1 m.0.accepted)
+answer_one bytes word policy (Err (Chunk d)) (Err (Chunk e)) fits m n = ap (λ (x : Fault). Err (Chunk x)) (list_same chunks chunks_lawful (body bytes) d e (body_fits bytes fits) m.1 n.1)
+
+size_tells : (bytes : List ℕ) → HasPacketSize bytes ⊎ (¬ HasPacketSize bytes)
+size_tells bytes = elim (cases_lt (length bytes) 16) [
+  | inl short ↦ inr (λ h. (let k = h.low in omega arith))
+  | inr low ↦ elim (cases_lt 65535 (length bytes)) [
+    | inl long ↦ inr (λ h. (let k = h.high in omega arith))
+    | inr high ↦ inl (record { low = low; high = high })
+  ]
+]
+
+nat_tells : (m n : ℕ) → (m ≡ n) ⊎ (m ≢ n)
+nat_tells m n = elim (eqb_tells m n) [ inl p ↦ inl p.1 | inr p ↦ inr p.1 ]
+
+accepted_tells : (policy : ChecksumPolicy) (field word : ℕ) → IsAccepted policy field word ⊎ (¬ IsAccepted policy field word)
+accepted_tells policy field word = off (policy.disable_checksum_verification) refl where
+  refused : policy.disable_checksum_verification ≡ false → (policy.zero_checksum_alternate_error_detection_method.0 ≡ 0) ⊎ (field ≢ 0) → field ≢ word → IsAccepted policy field word → ⊥
+  refused e f g (disabled h) = let p : false ≡ true = sym e ∙ h in cc
+  refused e (inl f) g (alternate h k) = h f
+  refused e (inr f) g (alternate h k) = f k
+  refused e f g (equal h) = g h
+
+  off : (b : Bool) → policy.disable_checksum_verification ≡ b → IsAccepted policy field word ⊎ (¬ IsAccepted policy field word)
+  off true e = inl (disabled e)
+  off false e = elim (nat_tells field word) [
+    | inl h ↦ inl (equal h)
+    | inr g ↦ elim (nat_tells policy.zero_checksum_alternate_error_detection_method.0 0) [
+      | inl m ↦ inr (refused e (inl m) g)
+      | inr m ↦ elim (nat_tells field 0) [
+        | inl z ↦ inl (alternate m z)
+        | inr z ↦ inr (refused e (inr z) g)
+      ]
+    ]
+  ]
+
+pub answer_some : (bytes : List ℕ) (word : ℕ) (policy : ChecksumPolicy) → AreBytes bytes → (a : Result PacketTree PacketFault) × Answer bytes word policy a
+answer_some bytes word policy fits = elim (size_tells bytes) [
+  | inr no_size ↦ (Err Size, no_size)
+  | inl size ↦ elim (accepted_tells policy (checksum_field bytes) word) [
+    | inr refused ↦ (Err Checksum, (size, refused))
+    | inl accepted ↦ elim (list_some chunks chunks_lawful (body bytes) (body_fits bytes fits)) [
+      | inl m ↦ (Ok (packet bytes m.0), (record { size = size; accepted = accepted }, record { source = refl; destination = refl; tag = refl; checksum = refl; chunks = m.1 }))
+      | inr f ↦ (Err (Chunk f.0), (record { size = size; accepted = accepted }, f.1))
+    ]
+  ]
+] where
+  packet : List ℕ → List ChunkTree → PacketTree
+  packet bytes cs = record { meaning = record { source = number16 bytes; destination = number16 (drop 2 bytes); tag = number32 (drop 4 bytes); chunks = cs }; checksum = checksum_field bytes }

@@ -4,6 +4,7 @@
 //! they are made of.
 #![tactic(auto)]
 
+pub mod laws;
 pub mod packet;
 
 pub use dcsctp_types::{api, types};

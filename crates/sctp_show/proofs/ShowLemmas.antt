@@ -10,8 +10,8 @@ use Rattle.dcsctp_wire.specs.ChunkParseError.TheVariants as chunk_errors
 use Rattle.dcsctp_wire.specs.declared.packet.sctp_packet.PacketParseError.{PacketParseError}
 use Rattle.dcsctp_wire.specs.declared.packet.sctp_packet.PacketParseError.TheVariants as packet_errors
 use Rattle.dcsctp_wire.specs.declared.packet.sctp_packet.SctpPacket.{SctpPacket}
-use Rattle.dcsctp_wire.specs.Fault.{Length, Padding, Value}
 use Rattle.dcsctp_wire.specs.Packet.{PacketTree, PacketFault, Size, Checksum, Chunk, Reads, packet_view}
+use Rattle.dcsctp_wire.specs.Fault.{Length, Padding, Value}
 use Rattle.sctp_show.specs.Reply.{line_of, reply_of, packet_error_line}
 use Rattle.sctp_show.specs.Show.{Writes, Shows, too_long, not_hexadecimal, packet, PacketText, Tells, fault, fault_line, unverified, without_blanks, MayShow, MayAnswer, read_failed, out_of_memory}
 

@@ -6,9 +6,9 @@ use Rattle.std.specs.Io.{StartsWith}
 use Rattle.std.specs.Io.KnownBytes.{Consumes, Appends}
 use Rattle.hex.specs.Hex.{decode_of, encode_lower}
 use Rattle.dcsctp_wire.specs.declared.packet.sctp_packet.ChecksumPolicy.{ChecksumPolicy}
-use Rattle.dcsctp_wire.specs.Fault.{Length, Padding, Value}
 use Rattle.dcsctp_wire.specs.Chunk.{ChunkTree, chunk_text}
 use Rattle.dcsctp_wire.specs.Packet.{Meaning, PacketTree, PacketFault, Size, Checksum, Chunk, Answer}
+use Rattle.dcsctp_wire.specs.Fault.{Length, Padding, Value}
 use Rattle.dcsctp_wire.specs.Canonical.{canonical, Fits}
 
 ---- the text of a packet
@@ -28,7 +28,7 @@ chunk_line chunk = chunk_text chunk ++ codes "\n"
 -- the canonical packet in hexadecimal, or that it doesn't fit
 pub data CanonicalLine (m : Meaning) (line : List ℕ) : Type 0 where
   fits : Fits m → line ≡ codes "canonical=" ++ encode_lower (canonical m) ++ codes "\n" → CanonicalLine m line
-  too_long : ¬ Fits m → line ≡ codes "canonical too long\n" → CanonicalLine m line
+  unfit : ¬ Fits m → line ≡ codes "canonical too long\n" → CanonicalLine m line
 
 -- a packet's header line, a line for each chunk, and its canonical line
 abbrev pub PacketText : PacketTree → List ℕ → Type 0

@@ -1,19 +1,19 @@
-//! The program over a reader and a writer.
+//! The program over a reader and a writer, either of which may fail.
 ghost use Rattle.std.specs.Prelude.{◌≡◌, ◌||◌, ◌⊎◌, ◌↔◌, ℕ, ◌<◌, ◌≤◌, List, ◌++◌, true, false, Some, codes, is_err, take, length, IfOk, IfErr, IfSome, OnErr};
 ghost use Rattle.std.specs.Io.KnownBytes.{Consumes, IsAtEnd};
 ghost use Rattle.sctp_show.specs.Watched.{device_of, has_failed};
-ghost use Rattle.sctp_show.specs.Show.{TakesAtMost, MayAnswer, MayShow, Writes, WritesBeginning};
+ghost use Rattle.sctp_show.specs.Show.{TakesAtMost, MayAnswer, MayShow, Shows, Writes, WritesBeginning};
 ghost use Rattle.sctp_show.specs.Reply.{reply_of};
 
-use crate::answer::answer_to;
+use crate::answer::{MOST_BYTES, answer_to};
 use crate::failure::Failure;
 use crate::watched::Watched;
 use std::alloc::Global;
 use std::io;
 use std::io::{Read, Write};
 
-// One byte more than an input may have, so that a longer one is seen to be too long.
-const MOST_READ: usize = 200_001;
+// A longer input is known by one byte too many.
+const MOST_READ: usize = MOST_BYTES + 1;
 
 /// Reads the input, writes its answer, and answers the status: 0 for a packet, 1 for a fault, and
 /// 2 where the output failed.
@@ -29,6 +29,9 @@ pub fn show<R: Read, W: Write>(alloc: Global, input: &mut Watched<R>, output: &m
     ensures shown { has_failed input.new ≡ false → has_failed output.new ≡ false
         → IfSome (R.remaining (device_of input.old)) (λ all. (answer : List ℕ × ℕ) × MayShow all answer
         × Writes answer result (W.contents (device_of output.old)) (W.contents (device_of output.new))) }
+
+    // An input has no two answers.
+    ensures one_answer { (all : List ℕ) (a b : List ℕ × ℕ) → Shows all a → Shows all b → a ≡ b }
 
     // A failed read is told by its line alone, and no other run has that line alone and status 1.
     ensures read_failed { has_failed output.new ≡ false → IfSome (W.contents (device_of output.old))

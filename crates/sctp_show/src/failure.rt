@@ -7,7 +7,7 @@ use dcsctp_wire::packet::sctp_packet::PacketParseError;
 use std::alloc::AllocError;
 
 /// Why an input has no text: each failure is told by a line.
-#[derive(Debug, Drop, PartialEq, Eq)]
+#[derive(Debug, Drop)]
 pub enum Failure {
     /// Memory ran out.
     OutOfMemory,
@@ -58,6 +58,7 @@ impl From<PacketParseError> for Failure {
     }
 }
 
+/// The line of a packet that is not read.
 fn packet_line(error: &PacketParseError) -> &'static str
     ensures { result.now ≡ packet_error_line error.now }
 {
@@ -69,6 +70,7 @@ fn packet_line(error: &PacketParseError) -> &'static str
     }
 }
 
+/// The line of a chunk that is not read.
 fn chunk_line(error: &ChunkParseError) -> &'static str
     ensures { result.now ≡ chunk_error_line error.now }
 {

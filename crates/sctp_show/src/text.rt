@@ -20,8 +20,10 @@ pub fn text_of(alloc: Global, packet: &SctpPacket) -> Result<String, AllocError>
     Ok(text)
 }
 
+/// The four numbers in front, in decimal.
 fn write_header(text: &mut String, packet: &SctpPacket) -> Result<(), AllocError>
-    ensures { OnOk result (string_bytes text.new ≡ string_bytes text.old ++ header_line (packet_view packet.now)) }
+    ensures { OnOk result (string_bytes text.new
+        ≡ string_bytes text.old ++ header_line (packet_view packet.now)) }
 {
     let header = &packet.common_header;
     let source = header.source_port;
@@ -34,6 +36,7 @@ fn write_header(text: &mut String, packet: &SctpPacket) -> Result<(), AllocError
     )
 }
 
+/// A line for each chunk: its printed text.
 fn write_chunks(text: &mut String, chunks: &[Chunk]) -> Result<(), AllocError>
     ensures { OnOk result (string_bytes text.new
         ≡ string_bytes text.old ++ flat_map chunk_line (views chunks.now)) }
@@ -44,6 +47,7 @@ fn write_chunks(text: &mut String, chunks: &[Chunk]) -> Result<(), AllocError>
     Ok(())
 }
 
+/// The canonical packet in hexadecimal, or that it does not fit.
 fn write_canonical(alloc: Global, text: &mut String, packet: &SctpPacket) -> Result<(), AllocError>
     ensures { OnOk result ((line : List ℕ) × CanonicalLine (meaning_view packet.now) line
         × (string_bytes text.new ≡ string_bytes text.old ++ line)) }

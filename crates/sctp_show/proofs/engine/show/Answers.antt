@@ -1,4 +1,5 @@
 use Rattle.sctp_show.proofs.ShowLemmas.{only_read_failed, writes_shown}
+use Rattle.sctp_show.proofs.OneAnswer.{Shows-one}
 use Rattle.sctp_show.proofs.engine.show.Goals as goal
 
 pub returns-clause-shown : goal.returns-clause-shown
@@ -8,3 +9,6 @@ pub returns-clause-read_failed : goal.returns-clause-read_failed
 returns-clause-read_failed g c = λ works.
     let told = c.tell.ensures.whole works in
     only_read_failed _ _ _ _ _ _ _ c.reply_to-reply.ensures.reply told.0 told.1
+
+pub returns-clause-one_answer : goal.returns-clause-one_answer
+returns-clause-one_answer g c = Shows-one
