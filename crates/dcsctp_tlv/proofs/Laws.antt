@@ -1,11 +1,11 @@
 -- Each list of bytes has one answer, at every level whose rows have one.
-use Rattle.std.proofs.Common.{◌≡◌, ◌≢◌, ℕ, suc, zero, ◌+◌, ◌-◌, ◌<◌, ◌≤◌, Bool, true, false, List, [], ◌∷◌, ◌++◌, length, get_or, take, drop, refl, sym, ap, subst, ◌∙◌, append_assoc, arith, ◌⊎◌, inl, inr, Result, Ok, Err}
-use Rattle.std.specs.List.{flat_map, AllByRecursion}
+use Rattle.std.proofs.Common.{◌≡◌, ◌≢◌, ℕ, suc, zero, ◌+◌, ◌-◌, ◌<◌, ◌≤◌, Bool, true, false, List, [], ◌∷◌, ◌++◌, length, get_or, drop, refl, sym, ap, subst, ◌∙◌, append_assoc, arith, ◌⊎◌, inl, inr, Result, Ok, Err}
+use Rattle.std.specs.List.{flat_map}
 use Rattle.std.proofs.lemmas.Bool.{cases_lt}
-use Rattle.std.proofs.lemmas.List.{append-nil, get_or-drop, get_or-take, get_or_past, length-take, length-drop, length-append, nil_from_length}
-use Rattle.dcsctp_tlv.specs.Fault.{Fault, Length, Padding, Value}
+use Rattle.std.proofs.lemmas.List.{append-nil, get_or-drop, get_or-take, get_or_past, length-take, length-drop}
+use Rattle.dcsctp_tlv.specs.Fault.{Fault, Length, Padding}
 use Rattle.dcsctp_tlv.specs.Number.{AreBytes}
-use Rattle.dcsctp_tlv.specs.Frame.{round_up_to_4, padding_size, lenient, Item, item_bytes, PaddingRule, IsWhole, AreFormed, frame_length, BeginsWithFrame, frame_value, frame_padding, frame_rest}
+use Rattle.dcsctp_tlv.specs.Frame.{round_up_to_4, padding_size, lenient, Item, item_bytes, PaddingRule, frame_length, BeginsWithFrame, frame_value, frame_padding, frame_rest}
 use Rattle.dcsctp_tlv.specs.Level.{Row, Level, ItemsMean, MeansTrees, HasFault, BeginsWithFault, no_frame, value, padding, front_row, plain, pick, listed}
 use Rattle.dcsctp_tlv.proofs.Items.{IsNext, AreBefore, front_item, front_split, front_next, next_one, item_frame, items_before, whole_before}
 use Rattle.dcsctp_tlv.proofs.Lists.{Progress, begin, step, finish, fault}

@@ -1,5 +1,5 @@
 -- Each input has one answer; and what the code answers where a chunk is at fault.
-use Rattle.std.proofs.Common.{◌≡◌, ◌≢◌, ℕ, ◌+◌, ◌≤◌, ◌<◌, List, length, drop, Result, Ok, Err, refl, sym, ap, ◌∙◌, arith, ◌⊎◌, inl, inr, Bool, true, false}
+use Rattle.std.proofs.Common.{◌≡◌, ◌≢◌, ℕ, ◌+◌, List, length, drop, Result, Ok, Err, refl, sym, ap, ◌∙◌, arith, ◌⊎◌, inl, inr, Bool, true, false}
 use Rattle.std.specs.Prelude.{◌==◌}
 use Rattle.std.proofs.lemmas.Bool.{cases_lt}
 use Rattle.std.proofs.lemmas.Bool.Decides.{eqb_tells}
@@ -8,12 +8,12 @@ use Rattle.dcsctp_tlv.specs.declared.error.ChunkParseError.{ChunkParseError}
 use Rattle.dcsctp_tlv.specs.declared.error.ChunkParseError.TheVariants.{InvalidLength, InvalidType, InvalidPadding, InvalidValue, OutOfMemory}
 use Rattle.dcsctp_tlv.specs.Fault.{Fault}
 use Rattle.dcsctp_tlv.specs.Number.{AreBytes, number16, number32}
-use Rattle.dcsctp_tlv.specs.Level.{HasFault, MeansTrees}
+use Rattle.dcsctp_tlv.specs.Level.{HasFault}
 use Rattle.dcsctp_tlv.specs.Reading.{TellsFault}
 use Rattle.dcsctp_tlv.proofs.Laws.{Lawful, plain_lawful, pick_lawful, list_one, list_apart, list_same, list_some}
 use Rattle.dcsctp_wire.specs.declared.packet.sctp_packet.ChecksumPolicy.{ChecksumPolicy}
 use Rattle.dcsctp_wire.specs.Chunk.{ChunkTree, chunks}
-use Rattle.dcsctp_wire.specs.Packet.{Meaning, PacketTree, HasPacketSize, IsAccepted, disabled, alternate, equal, checksum_field, body, IsOpened, MeansPacket, PacketFault, Size, Checksum, Chunk, Answer, ReadsFault}
+use Rattle.dcsctp_wire.specs.Packet.{PacketTree, HasPacketSize, IsAccepted, disabled, alternate, equal, checksum_field, body, IsOpened, MeansPacket, PacketFault, Size, Checksum, Chunk, Answer, ReadsFault}
 
 pub reads_fault : (bytes : List ℕ) (word : ℕ) (policy : ChecksumPolicy) (e : ChunkParseError) → IsOpened bytes word policy → TellsFault (HasFault chunks (body bytes)) e → ReadsFault bytes word policy e
 reads_fault bytes word policy InvalidLength opened fault = (opened, fault)
