@@ -4,3 +4,4 @@ pub mod Images
 pub mod Lending
 pub mod Readings
 pub mod Laws
+pub mod ReadsBack

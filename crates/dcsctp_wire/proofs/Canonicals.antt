@@ -1,15 +1,21 @@
--- The canonical packet is what the list of chunks writes over zeros.
-use Rattle.std.proofs.Common.{◌≡◌, ℕ, ◌+◌, ◌-◌, ◌≤◌, List, [], ◌∷◌, ◌++◌, length, replicate, refl, sym, ap, ◌∙◌, append_assoc, arith, Option}
+-- The canonical packet is what the list of chunks writes over zeros; it reads back, and no other meaning has it.
+use Rattle.std.proofs.Common.{◌≡◌, ◌≢◌, ℕ, ◌+◌, ◌-◌, ◌≤◌, true, List, [], ◌∷◌, ◌++◌, length, replicate, unwrap_or, refl, sym, ap, subst, ◌∙◌, append_assoc, arith, Option, Ok}
 use Rattle.std.specs.List.{AllByRecursion, flat_map}
-use Rattle.std.proofs.lemmas.List.{append-nil}
+use Rattle.std.proofs.lemmas.List.{append-nil, length-append, length-map, length-replicate}
+use Rattle.std.proofs.lemmas.Nat.{from_be_bytes-to_be_bytes_2, from_be_bytes-to_be_bytes_4}
 use Rattle.std.proofs.lemmas.List.Elements.{recursion_from_All, All-from_recursion}
 use Rattle.dcsctp_tlv.specs.Frame.{round_up_to_4}
 use Rattle.dcsctp_tlv.specs.Image.{zeroed, gap, holes, written, size_of, image_of, IsEncodable, list_image, list_size, IsListEncodable}
 use Rattle.dcsctp_tlv.proofs.Images.{list_size-map, list_image-map, length-list_image, AreSized, written-zeros, zeroed-append, zeroed-holes}
+use Rattle.dcsctp_tlv.proofs.ReadsBack.{body_reads_back}
 use Rattle.dcsctp_wire.specs.declared.packet.chunk.Chunk.{Chunk}
-use Rattle.dcsctp_wire.specs.Chunk.{ChunkTree, chunk_tlv, view, views, length-chunk}
-use Rattle.dcsctp_wire.specs.Packet.{Meaning}
-use Rattle.dcsctp_wire.specs.Canonical.{padded_chunk, padded_size, Fits}
+use Rattle.dcsctp_wire.specs.declared.packet.sctp_packet.ChecksumPolicy.{ChecksumPolicy}
+use Rattle.dcsctp_wire.specs.Chunk.{ChunkTree, chunks, chunk_tlv, view, views, length-chunk}
+use Rattle.dcsctp_wire.specs.Packet.{Meaning, PacketTree, IsAccepted, disabled, Answer}
+use Rattle.dcsctp_wire.specs.Canonical.{padded_chunk, canonical, padded_size, Fits}
+use Rattle.dcsctp_wire.specs.WellFormed.{IsChunkInWidth, IsChunkWellFormed, IsInWidth, IsWellFormed}
+use Rattle.dcsctp_wire.proofs.Packets.{packet_one}
+use Rattle.dcsctp_wire.proofs.ChunkLaws.{IsGood, chunks_read_back}
 
 -- a list's size and the bytes of its padded chunks
 pub padded_size-is : (ts : List ChunkTree) → padded_size ts ≡ round_up_to_4 (list_size chunk_tlv ts)
@@ -85,3 +91,51 @@ body_is cs n e =
     ∙ written-zeros image n (omega (arith, len, w, e))
     ∙ ap (λ (m : ℕ). zeroed image ++ replicate m 0) k
     ∙ joined (views cs)
+
+-- ---- the canonical packet reads back
+
+each_good : (ts : List ChunkTree) → AllByRecursion IsChunkInWidth ts → AllByRecursion IsChunkWellFormed ts → AllByRecursion (λ t. IsEncodable (chunk_tlv t)) ts → AllByRecursion IsGood ts
+each_good [] w f e = tt
+each_good (t ∷ ts) w f e = (record { width = w.0; formed = f.0; encodable = e.0 }, each_good ts w.1 f.1 e.1)
+
+length-padded_chunk : (t : ChunkTree) → length (padded_chunk t) ≡ round_up_to_4 (size_of (chunk_tlv t))
+length-padded_chunk t =
+    let image = image_of (chunk_tlv t) in
+    let a = length-append (zeroed image) (replicate (gap (size_of (chunk_tlv t))) 0) in
+    let b = length-map image (λ cell. unwrap_or cell 0) in
+    let d = length-replicate {A = ℕ} (gap (size_of (chunk_tlv t))) 0 in
+    omega (arith, a, b, d, length-chunk t)
+
+length-body : (ts : List ChunkTree) → length (flat_map padded_chunk ts) ≡ padded_size ts
+length-body [] = refl
+length-body (t ∷ ts) = length-append (padded_chunk t) (flat_map padded_chunk ts) ∙ ap (λ (n : ℕ). n + length (flat_map padded_chunk ts)) (length-padded_chunk t) ∙ ap (λ (n : ℕ). round_up_to_4 (size_of (chunk_tlv t)) + n) (length-body ts)
+
+four : (ts : List ChunkTree) → ts ≢ [] → 4 ≤ padded_size ts
+four [] some = absurd (some refl)
+four (t ∷ ts) some = omega arith
+
+pub reads_back : (m : Meaning) (word : ℕ) (policy : ChecksumPolicy) → IsInWidth m → IsWellFormed m → Fits m → IsAccepted policy 0 word → Answer (canonical m) word policy (Ok (record { meaning = m; checksum = 0 }))
+unfolding canonical
+reads_back m word policy width formed fits accepted =
+    let b = length-body m.chunks in
+    let k = four m.chunks formed.some in (
+      record { size = record { low = omega (arith, b, k, fits.whole); high = omega (arith, b, fits.whole) }; accepted = accepted },
+      record {
+        source = sym (from_be_bytes-to_be_bytes_2 m.source width.source);
+        destination = sym (from_be_bytes-to_be_bytes_2 m.destination width.destination);
+        tag = sym (from_be_bytes-to_be_bytes_4 m.tag width.tag);
+        checksum = refl;
+        chunks = body_reads_back chunks chunk_tlv IsGood chunks_read_back m.chunks (each_good m.chunks width.each formed.each fits.each) (λ n. refl);
+      },
+    )
+
+-- a policy that accepts every field
+abbrev off : ChecksumPolicy
+off = record { disable_checksum_verification = true; zero_checksum_alternate_error_detection_method = record { 0 = 0 } }
+
+-- equal canonical packets have one meaning
+pub canonical_one : (m n : Meaning) → IsInWidth m → IsWellFormed m → Fits m → IsInWidth n → IsWellFormed n → Fits n → canonical m ≡ canonical n → m ≡ n
+canonical_one m n mw mf mfits nw nf nfits e =
+    let a = reads_back m 0 off mw mf mfits (disabled refl) in
+    let b = subst (λ (bytes : List ℕ). Answer bytes 0 off (Ok (record { meaning = n; checksum = 0 }))) (sym e) (reads_back n 0 off nw nf nfits (disabled refl)) in
+    ap (λ (x : PacketTree). x.meaning) (packet_one (canonical m) _ _ a.1 b.1)

@@ -16,8 +16,10 @@
 
 ghost use Rattle.std.specs.Prelude.{◌≡◌, ◌↔◌, ◌+◌, ℕ, false, replicate, IsTrue, IfOk};
 ghost use Rattle.dcsctp_wire.specs.Chunk.{views};
-ghost use Rattle.dcsctp_wire.specs.Packet.{Reads, IsAccepted, meaning_view};
+ghost use Rattle.dcsctp_wire.specs.Packet.{Meaning, Answer, Reads, IsAccepted, meaning_view};
 ghost use Rattle.dcsctp_wire.specs.Canonical.{canonical, padded_size, Fits};
+ghost use Rattle.dcsctp_wire.specs.WellFormed.{IsInWidth, IsWellFormed};
+ghost use Rattle.dcsctp_wire.specs.declared.packet.sctp_packet.ChecksumPolicy.{ChecksumPolicy};
 ghost use Rattle.dcsctp_wire.specs.declared.packet.sctp_packet.PacketParseError.TheVariants.{FailedParseChunk};
 
 use crate::packet::chunk::Chunk;
@@ -165,15 +167,33 @@ impl SctpPacket {
 
     /// The canonical packet: the ports and the tag, a checksum of 0, and each chunk with zeros up
     /// to a multiple of 4. `self.common_header.checksum` has no part in it.
+    ///
+    /// Where the packet is well-formed and has a chunk, these bytes read back under each word and
+    /// policy that accept a field of 0, and two such packets have equal bytes exactly where they
+    /// mean the same. Refused for want of memory alone.
     pub fn canonical_bytes(&self, alloc: Global) -> Result<Vec<u8>, AllocError>
         requires { Fits (meaning_view self.now) }
         ensures bytes { IfOk result (λ bytes. bytes.items ≡ canonical (meaning_view self.now)) }
+        ensures reads_back { IsInWidth (meaning_view self.now) → IsWellFormed (meaning_view self.now)
+            → (word : ℕ) (policy : ChecksumPolicy) → IsAccepted policy 0 word
+            → IfOk result (λ bytes. Answer bytes.items word policy (Ok (record { meaning = meaning_view self.now; checksum = 0 }))) }
+        ensures one { IsInWidth (meaning_view self.now) → IsWellFormed (meaning_view self.now)
+            → (m : Meaning) → IsInWidth m → IsWellFormed m → Fits m
+            → IfOk result (λ bytes. (bytes.items ≡ canonical m) ↔ (meaning_view self.now ≡ m)) }
     {
-        let body_size = round_up_to_4(parameters_serialized_size(&self.chunks));
-        let mut bytes = vec![in alloc; 0; COMMON_HEADER_SIZE + body_size]?;
-        write_canonical(self, &mut bytes);
-        Ok(bytes)
+        canonical_of(self, alloc)
     }
+}
+
+/// The canonical packet: what it is, and no law of it.
+fn canonical_of(packet: &SctpPacket, alloc: Global) -> Result<Vec<u8>, AllocError>
+    requires { Fits (meaning_view packet.now) }
+    ensures { IfOk result (λ bytes. bytes.items ≡ canonical (meaning_view packet.now)) }
+{
+    let body_size = round_up_to_4(parameters_serialized_size(&packet.chunks));
+    let mut bytes = vec![in alloc; 0; COMMON_HEADER_SIZE + body_size]?;
+    write_canonical(packet, &mut bytes);
+    Ok(bytes)
 }
 
 /// Writes the canonical packet over zeros.

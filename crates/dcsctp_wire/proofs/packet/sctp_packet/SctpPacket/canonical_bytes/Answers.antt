@@ -1,30 +1,14 @@
-use Rattle.std.proofs.Common.{refl, arith, ap, ◌∙◌, ◌≡◌, ◌+◌, ℕ, replicate}
-use Rattle.dcsctp_tlv.specs.Frame.{round_up_to_4}
-use Rattle.dcsctp_tlv.specs.Image.{list_size}
-use Rattle.dcsctp_wire.specs.Chunk.{chunk_tlv, view, views}
+use Rattle.std.proofs.Common.{sym, ap, ◌∙◌}
+use Rattle.std.proofs.lemmas.Result.{IfOk-weaker}
 use Rattle.dcsctp_wire.specs.Packet.{meaning_view}
-use Rattle.dcsctp_wire.specs.Canonical.{padded_size}
-use Rattle.dcsctp_wire.proofs.Canonicals.{fits_to, size_views}
+use Rattle.dcsctp_wire.specs.Canonical.{canonical}
+use Rattle.dcsctp_wire.proofs.Canonicals.{reads_back, canonical_one}
 use Rattle.dcsctp_wire.proofs.packet.sctp_packet.SctpPacket.canonical_bytes.Goals as goal
 
-pub parameters_serialized_size-requires : goal.parameters_serialized_size-requires
-parameters_serialized_size-requires c = rw c.deref.ensures.value (fits_to (meaning_view c.args.self.now) c.args.self.now.chunks.items refl c.requires).0
+pub returns-clause-reads_back : goal.returns-clause-reads_back
+returns-clause-reads_back c = λ width formed word policy accepted. IfOk-weaker c.canonical_of.result _ _
+    (λ bytes e. rw e (reads_back (meaning_view c.args.self.now) word policy width formed c.requires accepted)) c.canonical_of.ensures
 
-pub round_up_to_4-body_size-requires : goal.round_up_to_4-body_size-requires
-round_up_to_4-body_size-requires c =
-    let s = size_views c.args.self.now.chunks.items in
-    let d = ap round_up_to_4 (c.parameters_serialized_size.ensures ∙ ap (list_size (λ x. chunk_tlv (view x))) c.deref.ensures.value) in
-    omega (arith, s, d, c.requires.whole)
-
-pub overflow_add-body_size : goal.overflow_add-body_size
-overflow_add-body_size c =
-    let s = size_views c.args.self.now.chunks.items in
-    let d = ap round_up_to_4 (c.parameters_serialized_size.ensures ∙ ap (list_size (λ x. chunk_tlv (view x))) c.deref.ensures.value) in
-    omega (arith, s, d, c.requires.whole, c.round_up_to_4-body_size.ensures)
-
-pub write_canonical-requires-clause-zeros : goal.write_canonical-requires-clause-zeros
-write_canonical-requires-clause-zeros c =
-    let s = size_views c.args.self.now.chunks.items in
-    let d = ap round_up_to_4 (c.parameters_serialized_size.ensures ∙ ap (list_size (λ x. chunk_tlv (view x))) c.deref.ensures.value) in
-    let n : 12 + c.round_up_to_4-body_size.result ≡ 12 + padded_size (views c.args.self.now.chunks.items) = omega (arith, s, d, c.round_up_to_4-body_size.ensures) in
-    c.deref_mut.ensures.value ∙ c.in_ok-bytes.ensures.items_if_clones_equal (λ y h. h) ∙ ap (λ (k : ℕ). replicate k 0) n
+pub returns-clause-one : goal.returns-clause-one
+returns-clause-one c = λ width formed m m_width m_formed m_fits. IfOk-weaker c.canonical_of.result _ _
+    (λ bytes e. (λ h. canonical_one (meaning_view c.args.self.now) m width formed c.requires m_width m_formed m_fits (sym e ∙ h), λ h. e ∙ ap canonical h)) c.canonical_of.ensures
