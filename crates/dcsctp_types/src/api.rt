@@ -1,4 +1,16 @@
-//! Settings.
+//! Ids, times, messages and settings, which an application hands over or is handed.
+
+mod lifecycle_id;
+mod message;
+mod pp_id;
+mod socket_time;
+mod stream_id;
+
+pub use lifecycle_id::LifecycleId;
+pub use message::Message;
+pub use pp_id::PpId;
+pub use socket_time::SocketTime;
+pub use stream_id::StreamId;
 
 /// How packets are protected where they carry no checksum (RFC 9653 section 4).
 #[derive(Clone, Copy, Debug, PartialEq, Eq)]

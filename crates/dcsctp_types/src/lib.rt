@@ -1,5 +1,10 @@
-//! Serial numbers and settings that every layer of SCTP speaks of.
+//! Serial numbers, ids, times, messages and settings, which every layer of SCTP speaks of.
+//!
+//! Nothing here takes memory.
 #![tactic(auto)]
 
 pub mod api;
+pub mod laws;
+#[cfg(test)]
+mod tests;
 pub mod types;

@@ -1,25 +1,71 @@
-//! Serial numbers.
+//! Serial numbers and stream keys.
 
-ghost use Rattle.std.specs.Prelude.{Some};
-ghost use Rattle.std.specs.Fmt.{decimal};
+ghost use Rattle.std.specs.Prelude.{◌≡◌, ◌↔◌, ℕ, IsTrue};
+ghost use Rattle.dcsctp_types.specs.Serial.{IsGreater, IsGreaterOrEqual, distance};
 
-use std::fmt;
+mod fsn;
+mod mid;
+mod outgoing_message_id;
+mod ssn;
+mod stream_key;
+mod tsn;
 
-/// A transmission sequence number (RFC 9260 section 1.6). It prints as its decimal number.
-#[derive(Clone, Copy, PartialEq, Eq, Hash)]
-pub struct Tsn(pub u32);
+pub use fsn::Fsn;
+pub use mid::Mid;
+pub use outgoing_message_id::OutgoingMessageId;
+pub use ssn::Ssn;
+pub use stream_key::StreamKey;
+pub use tsn::Tsn;
 
-impl fmt::Display for Tsn {
-    ghost output = { λ tsn. Some (decimal tsn.0) };
+/// A number of a space that wraps round (RFC 1982): behind the last number comes the first.
+///
+/// One number is greater than another if it stands behind it by less than half of the space. At
+/// exactly half neither is greater. So this is no order of all numbers: it is one of those that stand
+/// behind one base by less than half of the space (`laws::window`).
+pub trait SerialNumber: Sized + Copy + Eq {
+    /// A count of places.
+    type DistanceType;
 
-    fn fmt<W: fmt::Write>(&self, f: &mut fmt::Formatter<W>) -> fmt::Result {
-        let number = self.0;
-        write!(f, "{number}")
+    // how many numbers there are
+    ghost space: { ℕ };
+
+    // where a number stands among them
+    ghost position: { Self → ℕ };
+
+    // the count that a distance is
+    ghost places: { Self.DistanceType → ℕ };
+
+    /// How many places both are apart, the shorter way round.
+    fn distance_to(self, other: Self) -> Self::DistanceType
+        ensures value { places result ≡ distance space (position self) (position other) }
+        ensures symmetric { places result ≡ distance space (position other) (position self) }
+        ensures zero { (places result ≡ 0) ↔ (position self ≡ position other) };
+
+    /// Whether this number is greater than `base`.
+    fn greater_than(&self, base: Self) -> bool
+        ensures { IsTrue result ↔ IsGreater space (position self.now) (position base) };
+
+    /// Whether `other` is greater than this number.
+    fn less_than(&self, other: Self) -> bool
+        ensures { IsTrue result ↔ IsGreater space (position other) (position self.now) }
+    {
+        other.greater_than(*self)
     }
-}
 
-impl fmt::Debug for Tsn {
-    fn fmt<W: fmt::Write>(&self, f: &mut fmt::Formatter<W>) -> fmt::Result {
-        fmt::Display::fmt(self, f)
+    /// Whether both are equal, or `other` is greater.
+    fn less_than_or_equal(&self, other: Self) -> bool
+        ensures { IsTrue result ↔ IsGreaterOrEqual space (position other) (position self.now) }
+    {
+        *self == other || other.greater_than(*self)
     }
+
+    /// Whether both are equal, or this number is greater.
+    fn greater_than_or_equal(&self, other: Self) -> bool
+        ensures { IsTrue result ↔ IsGreaterOrEqual space (position self.now) (position other) }
+    {
+        *self == other || self.greater_than(other)
+    }
+
+    // equal numbers are those that stand at one place
+    ghost equal_at_position: { (a b : Self) → IsTrue (Self.eq a b) ↔ (position a ≡ position b) };
 }

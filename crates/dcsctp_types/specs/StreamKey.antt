@@ -1,0 +1,13 @@
+-- What a stream key tells.
+use Rattle.std.specs.Prelude.{Bool, true, false}
+use Rattle.dcsctp_types.specs.declared.api.stream_id.StreamId.{StreamId}
+use Rattle.dcsctp_types.specs.declared.types.stream_key.StreamKey.{StreamKey}
+use Rattle.dcsctp_types.specs.declared.types.stream_key.StreamKey.TheVariants.{Ordered, Unordered}
+
+abbrev pub stream_of : StreamKey → StreamId
+stream_of (Ordered id) = id
+stream_of (Unordered id) = id
+
+abbrev pub is_ordered_key : StreamKey → Bool
+is_ordered_key (Ordered _) = true
+is_ordered_key (Unordered _) = false

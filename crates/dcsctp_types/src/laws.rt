@@ -1,0 +1,47 @@
+//! Laws of serial numbers, as contracts of functions that do nothing.
+
+ghost use Rattle.std.specs.Prelude.{◌≡◌, ℕ, ◌/◌, ◌<◌, ◌↔◌};
+ghost use Rattle.std.specs.Ordering.{nat_cmp};
+ghost use Rattle.dcsctp_types.specs.Serial.{wrapped_sum, wrapped_difference, IsGreater};
+
+use crate::api::{LifecycleId, SocketTime, StreamId};
+use crate::types::{SerialNumber, StreamKey};
+use std::cmp::Ordering;
+use std::time::Duration;
+
+/// The order of serial numbers, seen from a base: of two numbers that stand behind the base by less
+/// than half of the space, the greater one stands further behind it (RFC 1982 section 3.2).
+///
+/// Without such a base the order isn't transitive. But no number is greater than itself, no two are
+/// greater than each other, and at a difference of half of the space neither is greater.
+#[tactic(auto, using(crate::proofs::SerialOrder::ordered_in_window, crate::proofs::SerialOrder::greater_one_way))]
+pub fn window<S: SerialNumber>()
+    // x and y stand i and j places behind the base
+    ensures window { (base x y : S) (i j : ℕ) → i < S.space / 2 → j < S.space / 2
+        → S.position x ≡ wrapped_sum S.space (S.position base) i
+        → S.position y ≡ wrapped_sum S.space (S.position base) j
+        → (IsGreater S.space (S.position x) (S.position y) ↔ (j < i)) }
+    ensures irreflexive { (x : S) → ¬ IsGreater S.space (S.position x) (S.position x) }
+    ensures asymmetric { (x y : S) → IsGreater S.space (S.position x) (S.position y)
+        → ¬ IsGreater S.space (S.position y) (S.position x) }
+    ensures half { (x y : S)
+        → wrapped_difference S.space (S.position x) (S.position y) ≡ S.space / 2
+        → (¬ IsGreater S.space (S.position x) (S.position y))
+        × (¬ IsGreater S.space (S.position y) (S.position x)) }
+{}
+
+/// The orders of ids, keys and times: stream ids and lifecycle ids stand by their numbers, times by
+/// their durations; every ordered key is less than every unordered one, and keys of one kind stand by
+/// their stream ids.
+pub fn orders()
+    ensures stream_ids { (a b : StreamId) → ⟦<StreamId as Ord>⟧.cmp a b ≡ nat_cmp a.0 b.0 }
+    ensures ordered_keys { (a b : StreamId)
+        → ⟦<StreamKey as Ord>⟧.cmp (StreamKey.Ordered a) (StreamKey.Ordered b) ≡ nat_cmp a.0 b.0 }
+    ensures unordered_keys { (a b : StreamId)
+        → ⟦<StreamKey as Ord>⟧.cmp (StreamKey.Unordered a) (StreamKey.Unordered b) ≡ nat_cmp a.0 b.0 }
+    ensures kinds_of_keys { (a b : StreamId)
+        → ⟦<StreamKey as Ord>⟧.cmp (StreamKey.Ordered a) (StreamKey.Unordered b) ≡ Ordering.Less }
+    ensures lifecycle_ids { (a b : LifecycleId) → ⟦<LifecycleId as Ord>⟧.cmp a b ≡ nat_cmp a b }
+    ensures times { (a b : SocketTime)
+        → ⟦<SocketTime as Ord>⟧.cmp a b ≡ ⟦<Duration as Ord>⟧.cmp a b }
+{}
