@@ -3,6 +3,7 @@ use Rattle.std.proofs.Common.{◌≡◌, ◌≢◌, ℕ, ◌+◌, ◌-◌, ◌�
 use Rattle.std.specs.List.{AllByRecursion, flat_map}
 use Rattle.std.proofs.lemmas.List.{append-nil, length-append, length-map, length-replicate}
 use Rattle.std.proofs.lemmas.Nat.{from_be_bytes-to_be_bytes_2, from_be_bytes-to_be_bytes_4}
+use Rattle.std.proofs.lemmas.Grind.{flat_map-append}
 use Rattle.std.proofs.lemmas.List.Elements.{recursion_from_All, All-from_recursion}
 use Rattle.dcsctp_tlv.specs.Frame.{round_up_to_4}
 use Rattle.dcsctp_tlv.specs.Image.{zeroed, gap, holes, written, size_of, image_of, IsEncodable, list_image, list_size, IsListEncodable}
@@ -92,23 +93,44 @@ body_is cs n e =
     ∙ ap (λ (m : ℕ). zeroed image ++ replicate m 0) k
     ∙ joined (views cs)
 
+-- ---- chunk by chunk
+
+pub length-padded_chunk : (t : ChunkTree) → length (padded_chunk t) ≡ round_up_to_4 (size_of (chunk_tlv t))
+length-padded_chunk t =
+    let size = size_of (chunk_tlv t) in
+    let image = zeroed (image_of (chunk_tlv t)) in
+    let whole = length-append image (replicate (gap size) 0) in
+    let front = length-map (image_of (chunk_tlv t)) (λ cell. unwrap_or cell 0) ∙ length-chunk t in
+    let back = length-replicate {A = ℕ} (gap size) 0 in
+    omega (arith, whole, front, back)
+
+length-chunks : (ts : List ChunkTree) → length (flat_map padded_chunk ts) ≡ padded_size ts
+length-chunks [] = refl
+length-chunks (t ∷ ts) =
+    let whole = length-append (padded_chunk t) (flat_map padded_chunk ts) in
+    let front = length-padded_chunk t in
+    let back = length-chunks ts in
+    omega (arith, whole, front, back)
+
+pub length-canonical : (m : Meaning) → length (canonical m) ≡ 12 + padded_size m.chunks
+unfolding canonical
+length-canonical m = let chunks = length-chunks m.chunks in omega (arith, chunks)
+
+pub canonical-push : (m : Meaning) (t : ChunkTree) → canonical m ++ padded_chunk t ≡ canonical (record m { chunks = m.chunks ++ t ∷ [] })
+unfolding canonical
+canonical-push m t =
+    let header : List ℕ = canonical (record m { chunks = [] }) in
+    ap (λ (chunks : List ℕ). header ++ chunks) (sym (flat_map-append padded_chunk m.chunks (t ∷ []) ∙ ap (λ (last : List ℕ). flat_map padded_chunk m.chunks ++ last) (append-nil (padded_chunk t))))
+
+pub padded_size-push : (ts : List ChunkTree) (t : ChunkTree) → padded_size (ts ++ t ∷ []) ≡ padded_size ts + round_up_to_4 (size_of (chunk_tlv t))
+padded_size-push [] t = omega arith
+padded_size-push (u ∷ ts) t = let rest = padded_size-push ts t in omega (arith, rest)
+
 -- ---- the canonical packet reads back
 
 each_good : (ts : List ChunkTree) → AllByRecursion IsChunkInWidth ts → AllByRecursion IsChunkWellFormed ts → AllByRecursion (λ t. IsEncodable (chunk_tlv t)) ts → AllByRecursion IsGood ts
 each_good [] w f e = tt
 each_good (t ∷ ts) w f e = (record { width = w.0; formed = f.0; encodable = e.0 }, each_good ts w.1 f.1 e.1)
-
-length-padded_chunk : (t : ChunkTree) → length (padded_chunk t) ≡ round_up_to_4 (size_of (chunk_tlv t))
-length-padded_chunk t =
-    let image = image_of (chunk_tlv t) in
-    let a = length-append (zeroed image) (replicate (gap (size_of (chunk_tlv t))) 0) in
-    let b = length-map image (λ cell. unwrap_or cell 0) in
-    let d = length-replicate {A = ℕ} (gap (size_of (chunk_tlv t))) 0 in
-    omega (arith, a, b, d, length-chunk t)
-
-length-body : (ts : List ChunkTree) → length (flat_map padded_chunk ts) ≡ padded_size ts
-length-body [] = refl
-length-body (t ∷ ts) = length-append (padded_chunk t) (flat_map padded_chunk ts) ∙ ap (λ (n : ℕ). n + length (flat_map padded_chunk ts)) (length-padded_chunk t) ∙ ap (λ (n : ℕ). round_up_to_4 (size_of (chunk_tlv t)) + n) (length-body ts)
 
 four : (ts : List ChunkTree) → ts ≢ [] → 4 ≤ padded_size ts
 four [] some = absurd (some refl)
@@ -117,7 +139,7 @@ four (t ∷ ts) some = omega arith
 pub reads_back : (m : Meaning) (word : ℕ) (policy : ChecksumPolicy) → IsInWidth m → IsWellFormed m → Fits m → IsAccepted policy 0 word → Answer (canonical m) word policy (Ok (record { meaning = m; checksum = 0 }))
 unfolding canonical
 reads_back m word policy width formed fits accepted =
-    let b = length-body m.chunks in
+    let b = length-chunks m.chunks in
     let k = four m.chunks formed.some in (
       record { size = record { low = omega (arith, b, k, fits.whole); high = omega (arith, b, fits.whole) }; accepted = accepted },
       record {

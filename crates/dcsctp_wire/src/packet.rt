@@ -1,5 +1,6 @@
 //! The packet, the chunks, and what they are made of: a module a kind, named as its type.
 
+mod builder;
 pub mod chunk;
 pub mod sctp_packet;
 

@@ -1,4 +1,5 @@
 //! Packets and chunks as outside sources give them: worked by hand from the standard, or captured.
 
+mod builder;
 mod chunks;
 mod packets;

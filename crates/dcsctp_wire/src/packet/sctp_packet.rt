@@ -14,7 +14,7 @@
 //! +-+-+-+-+-+-+-+-+-+-+-+-+-+-+-+-+-+-+-+-+-+-+-+-+-+-+-+-+-+-+-+-+
 //! ```
 
-ghost use Rattle.std.specs.Prelude.{◌≡◌, ◌↔◌, ◌+◌, ℕ, false, replicate, IsTrue, IfOk};
+ghost use Rattle.std.specs.Prelude.{◌≡◌, ◌↔◌, ◌+◌, ℕ, [], false, replicate, IsTrue, IfOk};
 ghost use Rattle.dcsctp_wire.specs.Chunk.{views};
 ghost use Rattle.dcsctp_wire.specs.Packet.{Meaning, Answer, Reads, IsAccepted, meaning_view};
 ghost use Rattle.dcsctp_wire.specs.Canonical.{canonical, padded_size, Fits};
@@ -22,6 +22,7 @@ ghost use Rattle.dcsctp_wire.specs.WellFormed.{IsInWidth, IsWellFormed};
 ghost use Rattle.dcsctp_wire.specs.declared.packet.sctp_packet.ChecksumPolicy.{ChecksumPolicy};
 ghost use Rattle.dcsctp_wire.specs.declared.packet.sctp_packet.PacketParseError.TheVariants.{FailedParseChunk};
 
+pub use crate::packet::builder::SctpPacketBuilder;
 use crate::packet::chunk::Chunk;
 use dcsctp_tlv::error::ChunkParseError;
 use dcsctp_tlv::list::{parameters_encodable, parameters_serialize_to, parameters_serialized_size};
@@ -196,6 +197,22 @@ fn canonical_of(packet: &SctpPacket, alloc: Global) -> Result<Vec<u8>, AllocErro
     Ok(bytes)
 }
 
+/// The common header with a checksum of 0: the canonical packet of no chunks.
+#[tactic(auto, unfolding(crate::specs::Canonical::canonical))]
+pub(crate) fn header_bytes(
+    source_port: u16,
+    destination_port: u16,
+    verification_tag: u32,
+) -> [u8; COMMON_HEADER_SIZE]
+    ensures { result ≡ canonical (record { source = source_port; destination = destination_port; tag = verification_tag; chunks = [] }) }
+{
+    let mut header = [0; COMMON_HEADER_SIZE];
+    put_u16(&mut header, 0, source_port);
+    put_u16(&mut header, 2, destination_port);
+    put_u32(&mut header, 4, verification_tag);
+    header
+}
+
 /// Writes the canonical packet over zeros.
 fn write_canonical(packet: &SctpPacket, output: &mut [u8])
     requires fits { Fits (meaning_view packet.now) }
@@ -203,8 +220,10 @@ fn write_canonical(packet: &SctpPacket, output: &mut [u8])
     ensures { output.new ≡ canonical (meaning_view packet.now) }
 {
     let (header, body) = output.split_at_mut(COMMON_HEADER_SIZE);
-    put_u16(header, 0, packet.common_header.source_port);
-    put_u16(header, 2, packet.common_header.destination_port);
-    put_u32(header, 4, packet.common_header.verification_tag);
+    header.copy_from_slice(&header_bytes(
+        packet.common_header.source_port,
+        packet.common_header.destination_port,
+        packet.common_header.verification_tag,
+    ));
     parameters_serialize_to(&packet.chunks, body);
 }

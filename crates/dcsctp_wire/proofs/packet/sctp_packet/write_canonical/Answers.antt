@@ -1,7 +1,6 @@
-use Rattle.std.proofs.Common.{refl, arith, ap, ◌∙◌, ◌≡◌, ◌≤◌, ◌+◌, ◌-◌, ◌++◌, ℕ, List, length, drop, take, replicate}
-use Rattle.std.specs.Int.{w16, w32, to_be_bytes}
-use Rattle.std.proofs.lemmas.List.{take-replicate, drop-replicate, length-replicate}
-use Rattle.dcsctp_tlv.specs.Image.{put, written, list_image, list_size}
+use Rattle.std.proofs.Common.{[], refl, arith, ap, ◌∙◌, ◌≡◌, ◌+◌, ◌-◌, ◌++◌, ℕ, List, length, drop, replicate}
+use Rattle.std.proofs.lemmas.List.{drop-replicate, length-replicate}
+use Rattle.dcsctp_tlv.specs.Image.{written, list_image, list_size}
 use Rattle.dcsctp_wire.specs.Chunk.{chunk_tlv, view, views}
 use Rattle.dcsctp_wire.specs.Packet.{meaning_view}
 use Rattle.dcsctp_wire.specs.Canonical.{canonical, padded_size}
@@ -26,15 +25,9 @@ returns c =
     let p = c.args.packet.now in
     let cs = p.chunks.items in
     let w = padded_size (views cs) in
-    let less : 12 ≤ 12 + w = omega arith in
+    let header : List ℕ = canonical (record (meaning_view p) { chunks = [] }) in
     let rest : (12 + w) - 12 ≡ w = omega arith in
-    let front : c.split_at_mut-header.result.0.now ≡ replicate 12 0 = c.split_at_mut-header.ensures.front ∙ ap (take 12) c.requires.zeros ∙ take-replicate {X = ℕ} 12 (12 + w) 0 less in
     let back : c.split_at_mut-header.result.1.now ≡ replicate w 0 = c.split_at_mut-header.ensures.back ∙ ap (drop 12) c.requires.zeros ∙ drop-replicate {X = ℕ} 12 (12 + w) 0 ∙ ap (λ (k : ℕ). replicate k 0) rest in
-    let a = to_be_bytes w16 p.common_header.source_port in
-    let b = to_be_bytes w16 p.common_header.destination_port in
-    let t = to_be_bytes w32 p.common_header.verification_tag in
-    let header : c.put_u32.new.output ≡ put (put (put (replicate 12 0) 0 a) 2 b) 4 t =
-    c.put_u32.ensures ∙ ap (λ (x : List ℕ). put x 4 t) (c.put_u16-2.ensures ∙ ap (λ (x : List ℕ). put x 2 b) (c.put_u16.ensures ∙ ap (λ (x : List ℕ). put x 0 a) front)) in
     let body : c.parameters_serialize_to.new.output ≡ written (list_image (λ x. chunk_tlv (view x)) cs) (replicate w 0) =
     c.parameters_serialize_to.ensures ∙ ap (λ (x : List ℕ). written (list_image (λ y. chunk_tlv (view y)) c.deref.result.now) x) back ∙ ap (λ (x : _). written (list_image (λ y. chunk_tlv (view y)) x) (replicate w 0)) c.deref.ensures.value in
-    ap (λ (x : List ℕ). x ++ c.parameters_serialize_to.new.output) header ∙ ap (λ (x : List ℕ). put (put (put (replicate 12 0) 0 a) 2 b) 4 t ++ x) (body ∙ body_is cs w refl)
+    ap (λ (x : List ℕ). x ++ c.parameters_serialize_to.new.output) (c.copy_from_slice.ensures.after ∙ c.header_bytes.ensures) ∙ ap (λ (x : List ℕ). header ++ x) (body ∙ body_is cs w refl)

@@ -1,0 +1,15 @@
+use Rattle.std.proofs.Common.{◌∙◌, ◌++◌, ap}
+use Rattle.dcsctp_wire.specs.Chunk.{view}
+use Rattle.dcsctp_wire.specs.Canonical.{padded_chunk}
+use Rattle.dcsctp_wire.specs.Builder.{BuilderState}
+use Rattle.dcsctp_wire.proofs.Builders.{adds}
+use Rattle.dcsctp_wire.proofs.packet.builder.SctpPacketBuilder.add.Goals as goal
+
+pub returns-clause-added : goal.returns-clause-added
+returns-clause-added c =
+    let b = c.args.self.now in
+    let t = view c.args.chunk.now in
+    let begun = c.self.view_is ∙ c.in_ok-begin.ensures.begun in
+    let items = c.append_chunk.ensures.items ∙ ap (λ (s : BuilderState). s.bytes ++ padded_chunk t) begun in
+    adds b _ t c.requires.encodable c.requires.room
+    (ap (λ (s : BuilderState). record s { bytes = c.append_chunk.new.bytes.items }) begun ∙ ap (λ xs. record b { bytes = xs }) items)

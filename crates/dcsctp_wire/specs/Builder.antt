@@ -1,0 +1,66 @@
+-- The packet builder, as its callers see it.
+use Rattle.std.specs.Prelude.{◌≡◌, ◌≢◌, ℕ, ◌-◌, ◌≤◌, max, Bool, true, false, List, [], ◌∷◌, length}
+use Rattle.std.specs.List.{AllByRecursion}
+use Rattle.std.specs.Int.{w32, to_be_bytes}
+use Rattle.dcsctp_tlv.specs.Image.{put, IsEncodable}
+use Rattle.dcsctp_wire.specs.Chunk.{ChunkTree, chunk_tlv}
+use Rattle.dcsctp_wire.specs.Packet.{Meaning}
+use Rattle.dcsctp_wire.specs.Canonical.{canonical}
+
+pub record BuilderState : Type 0 where
+  pub source : ℕ
+  pub destination : ℕ
+  pub tag : ℕ
+  -- the most bytes of a packet
+  pub limit : ℕ
+  pub writes_checksum : Bool
+  -- the packet so far
+  pub bytes : List ℕ
+
+-- ---- what it holds
+
+-- the packet of these chunks, with the builder's ports and tag
+abbrev pub meaning_with : BuilderState → List ChunkTree → Meaning
+meaning_with b chunks = record { source = b.source; destination = b.destination; tag = b.tag; chunks = chunks }
+
+-- the bytes are these chunks' canonical packet, within the limit
+pub record HoldsPacket (b : BuilderState) (chunks : List ChunkTree) : Type 0 where
+  pub each : AllByRecursion (λ t. IsEncodable (chunk_tlv t)) chunks
+  pub bytes : b.bytes ≡ canonical (meaning_with b chunks)
+  pub within : length b.bytes ≤ b.limit
+
+-- No chunks are held exactly where there are no bytes: a bare header holds no list. A relation,
+-- since two chunks can have the same bytes: COOKIE ACK, and an Unknown chunk of its type.
+abbrev pub Holds : BuilderState → List ChunkTree → Type 0
+Holds b [] = b.bytes ≡ []
+Holds b (c ∷ cs) = HoldsPacket b (c ∷ cs)
+
+-- The bytes that chunks and their padding can still take. The header counts before it is there.
+abbrev pub room : BuilderState → ℕ
+room b = b.limit - max 12 (length b.bytes)
+
+-- ---- what is built
+
+-- the checksum field, if there is a header
+abbrev pub with_checksum : ℕ → List ℕ → List ℕ
+with_checksum word [] = []
+with_checksum word (byte ∷ bytes) = put (byte ∷ bytes) 8 (to_be_bytes w32 word)
+
+abbrev pub checksummed : Bool → ℕ → List ℕ → List ℕ
+checksummed true word bytes = with_checksum word bytes
+checksummed false word bytes = bytes
+
+abbrev pub built : BuilderState → ℕ → List ℕ
+built b word = checksummed b.writes_checksum word b.bytes
+
+-- ---- inside
+
+-- the bytes, which begin with a header: the packet of no chunks
+abbrev pub begun : BuilderState → List ℕ → List ℕ
+begun b [] = canonical (meaning_with b [])
+begun b (byte ∷ bytes) = byte ∷ bytes
+
+-- Where there are bytes, the header is whole, and the limit was reserved.
+pub record IsReserved (limit capacity : ℕ) (bytes : List ℕ) : Type 0 where
+  pub header : bytes ≢ [] → 12 ≤ length bytes
+  pub room : bytes ≢ [] → limit ≤ capacity

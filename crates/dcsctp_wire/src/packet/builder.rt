@@ -1,0 +1,200 @@
+//! Packets that are built chunk by chunk: the common header, and behind it each chunk with its
+//! padding. A packet's bytes are reserved once, and written in place.
+
+ghost use Rattle.std.specs.Prelude.{◌≡◌, ◌≢◌, ◌≤◌, ◌+◌, ◌-◌, ◌*◌, ◌/◌, ◌++◌, ◌∷◌, [], ◌↔◌, List, true, max, length, take, drop, vec_len, vec_capacity, IsTrue, IsOk, OnOk, OnErr};
+ghost use Rattle.dcsctp_tlv.specs.Frame.{round_up_to_4};
+ghost use Rattle.dcsctp_tlv.specs.Image.{size_of, image_of, written, IsEncodable};
+ghost use Rattle.dcsctp_wire.specs.Chunk.{ChunkTree, chunk_tlv, view};
+ghost use Rattle.dcsctp_wire.specs.Canonical.{padded_chunk, padded_size};
+ghost use Rattle.dcsctp_wire.specs.Builder.{Holds, room, begun, built};
+
+use crate::packet::chunk::Chunk;
+use crate::packet::sctp_packet::{COMMON_HEADER_SIZE, header_bytes};
+use dcsctp_tlv::number::{put_u32, round_up_to_4};
+use dcsctp_tlv::tlv::SerializableTlv;
+use std::alloc::{AllocError, Global};
+use std::marker::Model;
+
+/// Builds packets (RFC 9260 section 3) one after the other, chunk by chunk, with the same ports
+/// and verification tag.
+#[derive(Drop)]
+pub struct SctpPacketBuilder {
+    verification_tag: u32,
+    source_port: u16,
+    dest_port: u16,
+    max_packet_size: usize,
+    write_checksum: bool,
+    bytes: Vec<u8>,
+}
+
+impl Model for SctpPacketBuilder {
+    ghost use Rattle.std.specs.Prelude.{vec_capacity};
+    ghost use Rattle.dcsctp_wire.specs.Builder.{BuilderState, IsReserved};
+
+    ghost Value = { BuilderState };
+
+    ghost view = { λ b. record {
+      source = b.source_port;
+      destination = b.dest_port;
+      tag = b.verification_tag;
+      limit = b.max_packet_size;
+      writes_checksum = b.write_checksum;
+      bytes = b.bytes.items;
+    } };
+
+    ghost invariant = { λ b. IsReserved b.max_packet_size (vec_capacity b.bytes) b.bytes.items };
+}
+
+impl SctpPacketBuilder {
+    /// A builder that holds no chunk and writes checksums. It has reserved nothing.
+    ///
+    /// `max_packet_size` is the most bytes that a packet may have with its header, and is rounded
+    /// down to a multiple of 4.
+    pub fn new(
+        alloc: Global,
+        verification_tag: u32,
+        source_port: u16,
+        dest_port: u16,
+        max_packet_size: usize,
+    ) -> Self
+        ensures { result ≡ record {
+          source = source_port;
+          destination = dest_port;
+          tag = verification_tag;
+          limit = max_packet_size / 4 * 4;
+          writes_checksum = true;
+          bytes = [];
+        } }
+    {
+        SctpPacketBuilder {
+            verification_tag,
+            source_port,
+            dest_port,
+            max_packet_size: max_packet_size / 4 * 4,
+            write_checksum: true,
+            bytes: Vec::new(alloc),
+        }
+    }
+
+    /// Sets whether `build` writes the checksum; if not, the field is zero. Nothing else changes.
+    /// The builder is lent on, for further calls.
+    pub fn write_checksum(&mut self, enable: bool) -> &mut Self
+        ensures lent { result.ghost_name ≡ self.entry.ghost_name }
+        ensures set { result.now ≡ record self.old { writes_checksum = enable } }
+    {
+        self.write_checksum = enable;
+        self
+    }
+
+    /// Adds a chunk behind those that are held, with zeros up to a multiple of 4.
+    ///
+    /// The chunk must be `encodable`, and its `serialized_size`, rounded up to a multiple of 4,
+    /// at most `bytes_remaining`. The first chunk of a packet reserves the whole packet: it alone
+    /// can be refused, for want of memory, and nothing is changed then. No other takes memory.
+    pub fn add(&mut self, chunk: &Chunk) -> Result<(), AllocError>
+        requires encodable { IsEncodable (chunk_tlv (view chunk.now)) }
+        requires room { round_up_to_4 (size_of (chunk_tlv (view chunk.now))) ≤ room self.old }
+
+        // Whatever was held is held still, with the chunk behind it.
+        ensures added { OnOk result ((chunks : List ChunkTree) → Holds self.old chunks →
+            Holds self.new (chunks ++ view chunk.now ∷ [])) }
+        ensures room_left { OnOk result
+            (room self.new + round_up_to_4 (size_of (chunk_tlv (view chunk.now))) ≡ room self.old) }
+        ensures not_empty { OnOk result (self.new.bytes ≢ []) }
+        ensures settings { OnOk result (self.new ≡ record self.old { bytes = self.new.bytes }) }
+
+        // A refusal changes nothing, and never comes where something was added before.
+        ensures refused { OnErr result (self.new ≡ self.old) }
+        ensures succeeds { self.old.bytes ≢ [] → IsOk result }
+    {
+        self.begin()?;
+        append_chunk(&mut self.bytes, chunk);
+        Ok(())
+    }
+
+    /// Reserves the packet and writes its header, unless they are there.
+    fn begin(&mut self) -> Result<(), AllocError>
+        requires { self.old.bytes ≡ [] → 12 ≤ self.old.limit }
+        ensures size { OnOk result (length self.new.bytes ≡ max 12 (length self.old.bytes)) }
+        ensures begun { OnOk result
+            (self.new ≡ record self.old { bytes = begun self.old self.old.bytes }) }
+        ensures refused { OnErr result (self.new ≡ self.old) }
+        ensures succeeds { self.old.bytes ≢ [] → IsOk result }
+    {
+        if self.bytes.is_empty() {
+            self.bytes.reserve_exact(self.max_packet_size)?;
+            let header = header_bytes(self.source_port, self.dest_port, self.verification_tag);
+            self.bytes.extend_from_slice(&header)?;
+        }
+        Ok(())
+    }
+
+    /// How many bytes of chunks can still be added, with the padding of each.
+    pub fn bytes_remaining(&self) -> usize
+        ensures room { result ≡ room self.now }
+        ensures held { (chunks : List ChunkTree) → Holds self.now chunks →
+            result ≡ self.now.limit - 12 - padded_size chunks }
+    {
+        self.max_packet_size
+            .saturating_sub(self.bytes.len().max(COMMON_HEADER_SIZE))
+    }
+
+    /// No chunk was added since `new` or the last `build`.
+    pub fn is_empty(&self) -> bool
+        ensures { IsTrue result ↔ Holds self.now [] }
+    {
+        self.bytes.is_empty()
+    }
+
+    /// The packet so far, with a checksum field of zero: what a checksum is computed over.
+    pub fn as_bytes(&self) -> &[u8]
+        ensures { result.now ≡ self.now.bytes }
+    {
+        &self.bytes
+    }
+
+    /// Hands out the packet, and begins the next: the builder then holds no chunk, with the same
+    /// ports, tag, limit and switch.
+    ///
+    /// If the switch is on, the number `checksum` stands big-endian at bytes 8 to 11; else they
+    /// are zero. Without chunks there are no bytes. No memory is taken.
+    pub fn build(&mut self, checksum: u32) -> Vec<u8>
+        ensures bytes { result.items ≡ built self.old checksum }
+        ensures empty { self.new ≡ record self.old { bytes = [] } }
+    {
+        let next = Vec::new(*self.bytes.allocator());
+        let mut packet = std::mem::replace(&mut self.bytes, next);
+        if self.write_checksum && !packet.is_empty() {
+            put_u32(&mut packet, 8, checksum);
+        }
+        packet
+    }
+}
+
+/// Writes the chunk behind the bytes, in room that is there, with zeros up to a multiple of 4.
+fn append_chunk(bytes: &mut Vec<u8>, chunk: &Chunk)
+    requires encodable { IsEncodable (chunk_tlv (view chunk.now)) }
+    requires room { vec_len bytes.old + round_up_to_4 (size_of (chunk_tlv (view chunk.now)))
+        ≤ vec_capacity bytes.old }
+    ensures items { bytes.new.items ≡ bytes.old.items ++ padded_chunk (view chunk.now) }
+    ensures size { vec_len bytes.new
+        ≡ vec_len bytes.old + round_up_to_4 (size_of (chunk_tlv (view chunk.now))) }
+    ensures capacity { vec_capacity bytes.old ≤ vec_capacity bytes.new }
+{
+    let end = bytes.len();
+    bytes
+        .resize(end + round_up_to_4(chunk.serialized_size()), 0)
+        .unwrap();
+    put_chunk(bytes, end, chunk);
+}
+
+/// Writes the chunk at a place; the bytes before it stay.
+fn put_chunk(output: &mut [u8], place: usize, chunk: &Chunk)
+    requires encodable { IsEncodable (chunk_tlv (view chunk.now)) }
+    requires room { place + size_of (chunk_tlv (view chunk.now)) ≤ length output.old }
+    ensures { output.new ≡ take place output.old
+        ++ written (image_of (chunk_tlv (view chunk.now))) (drop place output.old) }
+{
+    let (_, rest) = output.split_at_mut(place);
+    chunk.serialize_to(rest);
+}
