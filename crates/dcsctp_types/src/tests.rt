@@ -7,6 +7,7 @@ use crate::api::{
 };
 use crate::laws;
 use crate::types::{Fsn, Mid, OutgoingMessageId, SerialNumber, Ssn, StreamKey, Tsn};
+use std::hash::{DefaultHasher, Hash, Hasher};
 use std::test::Fail;
 use std::time::Duration;
 
@@ -129,6 +130,58 @@ fn ids_and_keys(rt: HostRuntime) -> Result<(), Fail> {
         1
     );
     Ok(())
+}
+
+fn hash_of<T: Hash>(value: &T) -> u64 {
+    let mut state = DefaultHasher::new();
+    value.hash(&mut state);
+    state.finish()
+}
+
+/// Whether two values are equal and hash equally, and another differs.
+fn agree<T: Eq + Hash + Copy>(a: T, same: T, other: T) -> bool {
+    a == same && hash_of(&a) == hash_of(&same) && a != other
+}
+
+/// Whether `a` comes before `b`, and not the other way round.
+fn precedes<T: Ord + Copy>(a: T, b: T) -> bool {
+    a < b && !(b < a) && a <= a
+}
+
+// The derived traits, through bounds.
+#[test]
+fn traits(rt: HostRuntime) {
+    assert!(rt; agree(Ssn(1), Ssn(1), Ssn(2)));
+    assert!(rt; agree(Mid(1), Mid(1), Mid(2)));
+    assert!(rt; agree(Fsn(1), Fsn(1), Fsn(2)));
+    assert!(rt; agree(Tsn(1), Tsn(1), Tsn(2)));
+    assert!(rt;
+        agree(
+            OutgoingMessageId(1),
+            OutgoingMessageId(1),
+            OutgoingMessageId(2)
+        )
+    );
+    assert!(rt; agree(StreamId(1), StreamId(1), StreamId(2)));
+    assert!(rt; agree(PpId(1), PpId(1), PpId(2)));
+    assert!(rt;
+        agree(
+            LifecycleId::from(1),
+            LifecycleId::from(1),
+            LifecycleId::from(2)
+        )
+    );
+    let (ordered, unordered) = (
+        StreamKey::Ordered(StreamId(1)),
+        StreamKey::Unordered(StreamId(1)),
+    );
+    assert!(rt; agree(ordered, StreamKey::new(false, StreamId(1)), unordered));
+
+    assert!(rt; precedes(StreamId(1), StreamId(2)));
+    assert!(rt; precedes(ordered, unordered));
+    assert!(rt; precedes(unordered, StreamKey::Unordered(StreamId(2))));
+    assert!(rt; precedes(LifecycleId::from(1), LifecycleId::from(2)));
+    assert!(rt; precedes(SocketTime::zero(), SocketTime::infinite_future()));
 }
 
 #[test]
