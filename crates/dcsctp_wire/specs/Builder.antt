@@ -1,4 +1,4 @@
--- The packet builder, as its callers see it.
+-- The packet builder, as its callers see it: the packets are those of RFC 9260 section 3.
 use Rattle.std.specs.Prelude.{◌≡◌, ◌≢◌, ℕ, ◌-◌, ◌≤◌, max, Bool, true, false, List, [], ◌∷◌, length}
 use Rattle.std.specs.List.{AllByRecursion}
 use Rattle.std.specs.Int.{w32, to_be_bytes}
@@ -41,11 +41,12 @@ room b = b.limit - max 12 (length b.bytes)
 
 -- ---- what is built
 
--- the checksum field, if there is a header
+-- the word in the checksum field, at bytes 8 to 11 (RFC 9260 section 3.1), where there are bytes
 abbrev pub with_checksum : ℕ → List ℕ → List ℕ
 with_checksum word [] = []
 with_checksum word (byte ∷ bytes) = put (byte ∷ bytes) 8 (to_be_bytes w32 word)
 
+-- the field stays zero where the switch is off
 abbrev pub checksummed : Bool → ℕ → List ℕ → List ℕ
 checksummed true word bytes = with_checksum word bytes
 checksummed false word bytes = bytes

@@ -24,6 +24,10 @@ struct Row {
 
 const COOKIE_ACK: &[u8] = &[0x0b, 0, 0, 4];
 
+const COOKIE_ECHO: &[u8] = &[0x0a, 0, 0, 5, 0x7f];
+
+const SHUTDOWN: &[u8] = &[7, 0, 0, 8, 6, 0x11, 0xd1, 0xbd];
+
 /// Adds the chunk if there is room for it, and tells whether there was.
 fn add_if_room(builder: &mut SctpPacketBuilder, chunk: &Chunk) -> Result<bool, AllocError> {
     if !chunk.encodable() {
@@ -61,7 +65,7 @@ fn built(rt: HostRuntime) -> Result<(), Fail> {
             ports: (1, 2),
             limit: 40,
             switch: true,
-            chunks: &[&[0x0a, 0, 0, 5, 0x7f], &[7, 0, 0, 8, 6, 0x11, 0xd1, 0xbd]],
+            chunks: &[COOKIE_ECHO, SHUTDOWN],
             rooms: &[28, 20, 12],
             word: 9,
             packet: &[
@@ -160,9 +164,11 @@ fn rooms(rt: HostRuntime) -> Result<(), Fail> {
 fn read_back(rt: HostRuntime) -> Result<(), Fail> {
     let alloc = rt.alloc();
     let policy = ChecksumPolicy::default();
-    let ack = Chunk::try_from(alloc, RawChunk::from_bytes(COOKIE_ACK)?.0)?;
+    let echo = Chunk::try_from(alloc, RawChunk::from_bytes(COOKIE_ECHO)?.0)?;
+    let shutdown = Chunk::try_from(alloc, RawChunk::from_bytes(SHUTDOWN)?.0)?;
     let mut builder = SctpPacketBuilder::new(alloc, 7, 1, 2, 40);
-    assert!(rt; add_if_room(&mut builder, &ack)?);
+    assert!(rt; add_if_room(&mut builder, &echo)?);
+    assert!(rt; add_if_room(&mut builder, &shutdown)?);
 
     // the word is in its field
     let bytes = builder.build(9);
@@ -171,7 +177,7 @@ fn read_back(rt: HostRuntime) -> Result<(), Fail> {
     assert_eq!(rt; packet.common_header.destination_port, 2);
     assert_eq!(rt; packet.common_header.verification_tag, 7);
     assert_eq!(rt; packet.common_header.checksum, 9);
-    assert_eq!(rt; packet.chunks.len(), 1);
+    assert_eq!(rt; packet.chunks.len(), 2);
     // another word isn't
     match SctpPacket::from_bytes(alloc, &bytes, 8, &policy) {
         Ok(_) => assert!(rt; false, "accepted"),
@@ -187,7 +193,7 @@ fn read_back(rt: HostRuntime) -> Result<(), Fail> {
         28
     );
     builder.write_checksum(false);
-    assert!(rt; add_if_room(&mut builder, &ack)?);
+    assert!(rt; add_if_room(&mut builder, &echo)?);
     let bytes = builder.build(9);
     assert_eq!(rt;
         SctpPacket::from_bytes(alloc, &bytes, 0, &policy)?
