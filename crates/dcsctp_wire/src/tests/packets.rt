@@ -306,6 +306,48 @@ fn empty(rt: HostRuntime) -> Result<(), Fail> {
     Ok(())
 }
 
+// Whichever allocation fails, the answer is the packet or want of memory, and a wrong size or
+// checksum is told all the same.
+#[test]
+fn memory(rt: HostRuntime) -> Result<(), Fail> {
+    let bytes = [
+        0x13, 0x88, 0x13, 0x88, 1, 2, 3, 4, 0, 0, 0, 0, 0x0a, 0, 0, 5, 0x7f, 0, 0, 0, 0x49, 1, 0,
+        5, 9, 0, 0, 0,
+    ];
+    match SctpPacket::from_bytes(rt.alloc(), &bytes, 0, &UNVERIFIED) {
+        Ok(packet) => {
+            assert_eq!(rt; packet.chunks.len(), 2);
+            assert!(rt; packet.fits());
+            match packet.canonical_bytes(rt.alloc()) {
+                Ok(written) => assert_eq!(rt; written.as_slice(), bytes.as_slice()),
+                Err(AllocError) => {}
+            }
+        }
+        Err(error) => {
+            let wanted = PacketParseError::FailedParseChunk(ChunkParseError::OutOfMemory);
+            assert_eq!(rt; error, wanted);
+        }
+    }
+    let none = ChecksumPolicy::default();
+    refuses(
+        &rt,
+        rt.alloc(),
+        &bytes[..15],
+        0,
+        &none,
+        PacketParseError::InvalidPacketSize,
+    );
+    refuses(
+        &rt,
+        rt.alloc(),
+        &bytes,
+        5,
+        &none,
+        PacketParseError::InvalidChecksum,
+    );
+    Ok(())
+}
+
 #[test]
 fn error_texts(rt: HostRuntime) -> Result<(), Fail> {
     let rows = [
