@@ -13,6 +13,7 @@ wrapped_difference m a b = (a + (m - b % m)) % m
 abbrev pub IsGreater : (m a b : ℕ) → Type 0
 IsGreater m a b = (0 < wrapped_difference m a b) × (wrapped_difference m a b < m / 2)
 
+-- a stands where b does, or is greater
 abbrev pub IsGreaterOrEqual : (m a b : ℕ) → Type 0
 IsGreaterOrEqual m a b = (a ≡ b) ⊎ IsGreater m a b
 

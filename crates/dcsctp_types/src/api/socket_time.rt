@@ -42,7 +42,8 @@ impl SocketTime {
 impl Add<Duration> for SocketTime {
     type Output = SocketTime;
 
-    ghost add_gives = { λ time passed sum. as_nanos sum ≡ min (as_nanos time + as_nanos passed) max_nanos };
+    ghost add_gives = { λ time passed sum.
+        as_nanos sum ≡ min (as_nanos time + as_nanos passed) max_nanos };
 
     fn add(self, passed: Duration) -> SocketTime {
         SocketTime(self.0.saturating_add(passed))
@@ -53,7 +54,8 @@ impl Add<Duration> for SocketTime {
 impl Sub<Duration> for SocketTime {
     type Output = SocketTime;
 
-    ghost sub_gives = { λ time passed difference. as_nanos difference ≡ as_nanos time - as_nanos passed };
+    ghost sub_gives = { λ time passed left.
+        as_nanos left ≡ as_nanos time - as_nanos passed };
 
     fn sub(self, passed: Duration) -> SocketTime {
         SocketTime(self.0.saturating_sub(passed))
@@ -64,7 +66,8 @@ impl Sub<Duration> for SocketTime {
 impl Sub<SocketTime> for SocketTime {
     type Output = Duration;
 
-    ghost sub_gives = { λ time earlier passed. as_nanos passed ≡ as_nanos time - as_nanos earlier };
+    ghost sub_gives = { λ time earlier passed.
+        as_nanos passed ≡ as_nanos time - as_nanos earlier };
 
     fn sub(self, earlier: SocketTime) -> Duration {
         self.0.saturating_sub(earlier.0)

@@ -57,7 +57,7 @@ impl Add<u32> for Fsn {
 impl Sub<u32> for Fsn {
     type Output = Fsn;
 
-    ghost sub_gives = { λ fsn n difference. difference.0 ≡ wrapped_difference (2 ^ 32) fsn.0 n };
+    ghost sub_gives = { λ fsn n left. left.0 ≡ wrapped_difference (2 ^ 32) fsn.0 n };
 
     fn sub(self, n: u32) -> Fsn {
         Fsn(self.0.wrapping_sub(n))
@@ -73,7 +73,7 @@ impl AddAssign<u32> for Fsn {
 }
 
 impl SubAssign<u32> for Fsn {
-    ghost sub_assign_gives = { λ fsn n difference. difference.0 ≡ wrapped_difference (2 ^ 32) fsn.0 n };
+    ghost sub_assign_gives = { λ fsn n left. left.0 ≡ wrapped_difference (2 ^ 32) fsn.0 n };
 
     fn sub_assign(&mut self, n: u32) {
         *self = *self - n;

@@ -57,7 +57,7 @@ impl Add<u32> for Mid {
 impl Sub<u32> for Mid {
     type Output = Mid;
 
-    ghost sub_gives = { λ mid n difference. difference.0 ≡ wrapped_difference (2 ^ 32) mid.0 n };
+    ghost sub_gives = { λ mid n left. left.0 ≡ wrapped_difference (2 ^ 32) mid.0 n };
 
     fn sub(self, n: u32) -> Mid {
         Mid(self.0.wrapping_sub(n))
@@ -73,7 +73,7 @@ impl AddAssign<u32> for Mid {
 }
 
 impl SubAssign<u32> for Mid {
-    ghost sub_assign_gives = { λ mid n difference. difference.0 ≡ wrapped_difference (2 ^ 32) mid.0 n };
+    ghost sub_assign_gives = { λ mid n left. left.0 ≡ wrapped_difference (2 ^ 32) mid.0 n };
 
     fn sub_assign(&mut self, n: u32) {
         *self = *self - n;

@@ -57,7 +57,7 @@ impl Add<u16> for Ssn {
 impl Sub<u16> for Ssn {
     type Output = Ssn;
 
-    ghost sub_gives = { λ ssn n difference. difference.0 ≡ wrapped_difference (2 ^ 16) ssn.0 n };
+    ghost sub_gives = { λ ssn n left. left.0 ≡ wrapped_difference (2 ^ 16) ssn.0 n };
 
     fn sub(self, n: u16) -> Ssn {
         Ssn(self.0.wrapping_sub(n))
@@ -73,7 +73,7 @@ impl AddAssign<u16> for Ssn {
 }
 
 impl SubAssign<u16> for Ssn {
-    ghost sub_assign_gives = { λ ssn n difference. difference.0 ≡ wrapped_difference (2 ^ 16) ssn.0 n };
+    ghost sub_assign_gives = { λ ssn n left. left.0 ≡ wrapped_difference (2 ^ 16) ssn.0 n };
 
     fn sub_assign(&mut self, n: u16) {
         *self = *self - n;

@@ -57,7 +57,7 @@ impl Add<u32> for Tsn {
 impl Sub<u32> for Tsn {
     type Output = Tsn;
 
-    ghost sub_gives = { λ tsn n difference. difference.0 ≡ wrapped_difference (2 ^ 32) tsn.0 n };
+    ghost sub_gives = { λ tsn n left. left.0 ≡ wrapped_difference (2 ^ 32) tsn.0 n };
 
     fn sub(self, n: u32) -> Tsn {
         Tsn(self.0.wrapping_sub(n))
@@ -73,7 +73,7 @@ impl AddAssign<u32> for Tsn {
 }
 
 impl SubAssign<u32> for Tsn {
-    ghost sub_assign_gives = { λ tsn n difference. difference.0 ≡ wrapped_difference (2 ^ 32) tsn.0 n };
+    ghost sub_assign_gives = { λ tsn n left. left.0 ≡ wrapped_difference (2 ^ 32) tsn.0 n };
 
     fn sub_assign(&mut self, n: u32) {
         *self = *self - n;
