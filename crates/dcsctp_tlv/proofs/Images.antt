@@ -6,7 +6,8 @@ use Rattle.std.proofs.lemmas.List.{take-append-drop, length-append, length-repli
 use Rattle.std.proofs.lemmas.Bool.{cases_lt}
 use Rattle.std.proofs.lemmas.List.Elements.{recursion_from_All}
 use Rattle.dcsctp_tlv.specs.Frame.{round_up_to_4, header}
-use Rattle.dcsctp_tlv.specs.Image.{solid, holes, written, zeroed, gap, Tlv, solid_tlv, size_of, image_of, list_image, list_size, IsListEncodable}
+use Rattle.dcsctp_tlv.specs.Image.{solid, holes, written, zeroed, gap, Tlv, size_of, image_of, list_image, list_size, IsListEncodable}
+pub use Rattle.dcsctp_tlv.specs.Length.{length-image_of, length-solid_tlv}
 
 -- ---- writing
 
@@ -50,13 +51,6 @@ pub written_item : (t : Tlv) (old out : List ℕ) → out ≡ header t.first t.s
     → take 4 out ++ written t.value (drop 4 out) ≡ written (image_of t) old
 unfolding image_of
 written_item t old out e room = written_behind (header t.first t.second t.value_size) t.value old out e room
-
-pub length-image_of : (t : Tlv) → length t.value ≡ t.value_size → length (image_of t) ≡ size_of t
-unfolding image_of
-length-image_of t e = ap (λ (n : ℕ). suc (suc (suc (suc n)))) e ∙ omega arith
-
-pub length-solid_tlv : (first second : ℕ) (bytes : List ℕ) → length (image_of (solid_tlv first second bytes)) ≡ size_of (solid_tlv first second bytes)
-length-solid_tlv first second bytes = length-image_of (solid_tlv first second bytes) (length-map bytes Some)
 
 -- ---- lists of items
 
@@ -139,12 +133,12 @@ room_for tlv is_encodable ts i t h lt e =
     let n = next_size tlv ts i t lt e in
     (subst is_encodable (sym e) (h.each i t lt), n.0, n.1)
 
-pub each_sized : {T : Type 0} (tlv : T → Tlv) (is_encodable : T → Type 0) (ts : List T) → ((x : T) → is_encodable x → length (image_of (tlv x)) ≡ size_of (tlv x))
-    → AllByRecursion is_encodable ts → AreSized tlv ts
-each_sized tlv is_encodable [] law h = tt
-each_sized tlv is_encodable (t ∷ ts) law h = (law t h.0, each_sized tlv is_encodable ts law h.1)
+-- what follows for each item
+pub all_from : {T : Type 0} (P Q : T → Type 0) (ts : List T) → ((t : T) → P t → Q t) → AllByRecursion P ts → AllByRecursion Q ts
+all_from P Q [] law h = tt
+all_from P Q (t ∷ ts) law h = (law t h.0, all_from P Q ts law h.1)
 
-all_take : {T : Type 0} (P : T → Type 0) (i : ℕ) (ts : List T) → AllByRecursion P ts → AllByRecursion P (take i ts)
+pub all_take : {T : Type 0} (P : T → Type 0) (i : ℕ) (ts : List T) → AllByRecursion P ts → AllByRecursion P (take i ts)
 all_take P zero ts h = tt
 all_take P (suc i) [] h = tt
 all_take P (suc i) (t ∷ ts) h = (h.0, all_take P i ts h.1)
@@ -158,7 +152,7 @@ written_more tlv is_encodable ts i t old out start law each lt e so_far here =
     let before = list_image tlv (take i ts) in
     let size = list_size tlv (take i ts) in
     let len : length before ≡ size =
-    length-list_image tlv (take i ts) (each_sized tlv is_encodable (take i ts) law (all_take is_encodable i ts (recursion_from_All is_encodable ts each))) in
+    length-list_image tlv (take i ts) (all_from is_encodable _ (take i ts) law (all_take is_encodable i ts (recursion_from_All is_encodable ts each))) in
     let more : take (i + 1) ts ≡ take i ts ++ t ∷ [] = take_more ts i t lt ∙ ap (λ (x : _). take i ts ++ x ∷ []) (sym e) in
     let place : start ≡ length before + gap size = here ∙ omega (arith, len) in
     written_next before (image_of (tlv t)) (gap size) start old out so_far place

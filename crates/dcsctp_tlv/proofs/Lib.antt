@@ -5,3 +5,5 @@ pub mod Lending
 pub mod Readings
 pub mod Laws
 pub mod ReadsBack
+pub mod Texts
+pub mod Puts

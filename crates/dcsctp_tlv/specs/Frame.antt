@@ -4,7 +4,7 @@
 --
 -- For a chunk the first two bytes are its type and its flags; for a parameter or a cause they
 -- are its type. The length counts these four bytes and the value, and leaves out the padding.
-use Rattle.std.specs.Prelude.{◌≡◌, ℕ, ◌+◌, ◌-◌, ◌*◌, ◌/◌, ◌≤◌, ◌<◌, ◌^◌, Bool, true, List, [], ◌∷◌, ◌++◌, length, take, drop}
+use Rattle.std.specs.Prelude.{◌≡◌, ℕ, ◌+◌, ◌-◌, ◌*◌, ◌/◌, ◌%◌, ◌≤◌, ◌<◌, ◌^◌, Bool, true, List, [], ◌∷◌, ◌++◌, length, take, drop}
 use Rattle.std.specs.List.{flat_map}
 use Rattle.std.specs.Int.{w16, to_be_bytes}
 use Rattle.dcsctp_tlv.specs.Number.{number16}
@@ -13,6 +13,10 @@ use Rattle.dcsctp_tlv.specs.Number.{number16}
 abbrev pub round_up_to_4 : ℕ → ℕ
 round_up_to_4 n = (n + 3) / 4 * 4
 
+-- the greatest multiple of 4 not above n
+abbrev pub round_down_to_4 : ℕ → ℕ
+round_down_to_4 n = n / 4 * 4
+
 -- how many bytes of padding follow a value of n bytes
 abbrev pub padding_size : ℕ → ℕ
 padding_size n = round_up_to_4 (4 + n) - (4 + n)
@@ -20,6 +24,10 @@ padding_size n = round_up_to_4 (4 + n) - (4 + n)
 -- the four bytes before a value of n bytes
 abbrev pub header : ℕ → ℕ → ℕ → List ℕ
 header first second n = first ∷ second ∷ to_be_bytes w16 (4 + n)
+
+-- the same for a parameter or a cause, whose type stands in the first two bytes
+abbrev pub typed_header : ℕ → ℕ → List ℕ
+typed_header typ n = header (typ / 256) (typ % 256) n
 
 pub record Item : Type 0 where
   pub first : ℕ

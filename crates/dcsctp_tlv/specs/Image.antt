@@ -1,5 +1,5 @@
 -- What is written for a tree: bytes, and places between the items of a list that stay as they stood.
-use Rattle.std.specs.Prelude.{ℕ, ◌+◌, ◌-◌, ◌<◌, ◌^◌, All, List, [], ◌∷◌, ◌++◌, Option, Some, None, length, map, unwrap_or, replicate, take, drop}
+use Rattle.std.specs.Prelude.{ℕ, ◌+◌, ◌-◌, ◌/◌, ◌%◌, ◌<◌, ◌^◌, All, List, [], ◌∷◌, ◌++◌, Option, Some, None, length, map, unwrap_or, replicate, take, drop}
 use Rattle.dcsctp_tlv.specs.Frame.{round_up_to_4, header}
 
 -- ---- images
@@ -34,6 +34,10 @@ pub record Tlv : Type 0 where
 -- a value without holes
 abbrev pub solid_tlv : ℕ → ℕ → List ℕ → Tlv
 solid_tlv first second bytes = record { first = first; second = second; value = solid bytes; value_size = length bytes }
+
+-- the same of a parameter or a cause, whose type stands in the first two bytes
+abbrev pub typed_tlv : ℕ → List ℕ → Tlv
+typed_tlv typ bytes = solid_tlv (typ / 256) (typ % 256) bytes
 
 abbrev pub size_of : Tlv → ℕ
 size_of t = 4 + t.value_size

@@ -4,4 +4,17 @@ pub mod Frame
 pub mod Level
 pub mod Reading
 pub mod Image
+pub mod Length
 pub mod Lending
+pub mod Text
+pub mod UnknownParameter
+pub mod HeartbeatInfo
+pub mod StateCookie
+pub mod SupportedExtensions
+pub mod ForwardTsnSupported
+pub mod ZeroChecksumAcceptable
+pub mod OutgoingSsnResetRequest
+pub mod IncomingSsnResetRequest
+pub mod ReconfigurationResponse
+pub mod Parameter
+pub mod Fields

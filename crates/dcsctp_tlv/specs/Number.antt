@@ -1,15 +1,25 @@
 -- Numbers on the wire: bytes, most significant first (RFC 9260 section 3).
 use Rattle.std.specs.Prelude.{ℕ, ◌<◌, List, take, slice_index}
-use Rattle.std.specs.Int.{w16, w32, from_be_bytes}
+use Rattle.std.specs.List.{flat_map}
+use Rattle.std.specs.Int.{Width, w16, w32, w64, byte_len, from_be_bytes, to_be_bytes}
 
 -- each element is a byte
 abbrev pub AreBytes : List ℕ → Type 0
 AreBytes bytes = (i : ℕ) → slice_index bytes i < 256
 
--- the number that the first two bytes stand for
-abbrev pub number16 : List ℕ → ℕ
-number16 bytes = from_be_bytes w16 (take 2 bytes)
+-- the number that the first bytes stand for, as many as its width has
+abbrev pub number : Width → List ℕ → ℕ
+number width bytes = from_be_bytes width (take (byte_len width) bytes)
 
--- the number that the first four bytes stand for
+abbrev pub number16 : List ℕ → ℕ
+number16 = number w16
+
 abbrev pub number32 : List ℕ → ℕ
-number32 bytes = from_be_bytes w32 (take 4 bytes)
+number32 = number w32
+
+abbrev pub number64 : List ℕ → ℕ
+number64 = number w64
+
+-- numbers of one width, one behind the other
+abbrev pub numbers : Width → List ℕ → List ℕ
+numbers width ns = flat_map (to_be_bytes width) ns

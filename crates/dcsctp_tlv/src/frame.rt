@@ -2,7 +2,7 @@
 
 ghost use Rattle.std.specs.Prelude.{◌≡◌, ◌≤◌, ◌<◌, ◌+◌, ◌^◌, ◌++◌, ◌↔◌, length, drop, IsOk, IfOk, IfErr};
 ghost use Rattle.dcsctp_tlv.specs.Frame.{header, BeginsWithFrame, frame_value, frame_rest};
-ghost use Rattle.dcsctp_tlv.specs.Image.{solid_tlv, image_of, written};
+ghost use Rattle.dcsctp_tlv.specs.Image.{solid_tlv, typed_tlv, image_of, written};
 ghost use Rattle.dcsctp_tlv.specs.declared.error.ChunkParseError.TheVariants.{InvalidLength};
 
 use crate::error::ChunkParseError;
@@ -58,4 +58,13 @@ pub fn put_solid(first: u8, second: u8, value: &[u8], output: &mut [u8])
     let (_, rest) = output.split_at_mut(TLV_HEADER_SIZE);
     let (front, _) = rest.split_at_mut(value.len());
     front.copy_from_slice(value);
+}
+
+/// Writes a parameter or an error cause whose value is these bytes.
+pub fn put_typed(typ: u16, value: &[u8], output: &mut [u8])
+    requires encodable { 4 + length value.now < 2 ^ 16 }
+    requires room { 4 + length value.now ≤ length output.old }
+    ensures { output.new ≡ written (image_of (typed_tlv typ value.now)) output.old }
+{
+    put_solid((typ / 256) as u8, (typ % 256) as u8, value, output);
 }

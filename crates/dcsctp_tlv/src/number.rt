@@ -1,10 +1,10 @@
 //! Big-endian numbers (RFC 9260 section 3), and multiples of 4.
 
-ghost use Rattle.std.specs.Prelude.{◌≡◌, ◌≤◌, ◌<◌, ◌+◌, ◌^◌, ◌++◌, length, drop};
-ghost use Rattle.std.specs.Int.{w16, w32, to_be_bytes};
-ghost use Rattle.dcsctp_tlv.specs.Frame.{round_up_to_4};
+ghost use Rattle.std.specs.Prelude.{◌≡◌, ◌≤◌, ◌<◌, ◌+◌, ◌%◌, ◌^◌, ◌++◌, ◌↔◌, length, drop, IsTrue};
+ghost use Rattle.std.specs.Int.{w16, w32, w64, to_be_bytes};
+ghost use Rattle.dcsctp_tlv.specs.Frame.{round_up_to_4, round_down_to_4};
 ghost use Rattle.dcsctp_tlv.specs.Image.{put};
-ghost use Rattle.dcsctp_tlv.specs.Number.{number16, number32};
+ghost use Rattle.dcsctp_tlv.specs.Number.{number16, number32, number64};
 
 /// The number that the first two bytes stand for.
 pub fn read_u16_be(bytes: &[u8]) -> u16
@@ -22,6 +22,16 @@ pub fn read_u32_be(bytes: &[u8]) -> u32
     u32::from_be_bytes([bytes[0], bytes[1], bytes[2], bytes[3]])
 }
 
+/// The number that the first eight bytes stand for.
+pub fn read_u64_be(bytes: &[u8]) -> u64
+    requires { 8 ≤ length bytes.now }
+    ensures { result ≡ number64 bytes.now }
+{
+    u64::from_be_bytes([
+        bytes[0], bytes[1], bytes[2], bytes[3], bytes[4], bytes[5], bytes[6], bytes[7],
+    ])
+}
+
 /// Writes the number into the first two bytes; the bytes behind them stay.
 pub fn write_u16_be(output: &mut [u8], value: u16)
     requires { 2 ≤ length output.old }
@@ -36,6 +46,14 @@ pub fn write_u32_be(output: &mut [u8], value: u32)
     ensures { output.new ≡ to_be_bytes w32 value ++ drop 4 output.old }
 {
     output[..4].copy_from_slice(&value.to_be_bytes());
+}
+
+/// Writes the number into the first eight bytes; the bytes behind them stay.
+pub fn write_u64_be(output: &mut [u8], value: u64)
+    requires { 8 ≤ length output.old }
+    ensures { output.new ≡ to_be_bytes w64 value ++ drop 8 output.old }
+{
+    output[..8].copy_from_slice(&value.to_be_bytes());
 }
 
 /// Writes the number into two bytes at a place; all others stay.
@@ -62,4 +80,18 @@ pub fn round_up_to_4(n: usize) -> usize
     ensures { result ≡ round_up_to_4 n }
 {
     n.div_ceil(4) * 4
+}
+
+/// The greatest multiple of 4 that isn't above `n`.
+pub fn round_down_to_4(n: usize) -> usize
+    ensures { result ≡ round_down_to_4 n }
+{
+    n / 4 * 4
+}
+
+/// Whether `n` is a multiple of 4.
+pub fn is_divisible_by_4(n: usize) -> bool
+    ensures { IsTrue result ↔ (n % 4 ≡ 0) }
+{
+    n.is_multiple_of(4)
 }

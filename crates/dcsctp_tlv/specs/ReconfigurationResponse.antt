@@ -1,0 +1,76 @@
+-- Re-configuration Response (RFC 6525 section 4.4): type 16; the value is the response number and the
+-- result, four bytes each, and then both next TSNs, four bytes each, or neither.
+use Rattle.std.specs.Prelude.{ℕ, List, [], ◌∷◌, ◌++◌, ◌==◌, Option, Some, None, option_map, Result, Ok, Err, if◌then◌else◌, length, drop, codes}
+use Rattle.std.specs.Fmt.{decimal}
+use Rattle.std.specs.Int.{w32}
+use Rattle.dcsctp_types.specs.declared.types.tsn.Tsn.{Tsn}
+use Rattle.dcsctp_tlv.specs.Fault.{Fault, Length, Value}
+use Rattle.dcsctp_tlv.specs.Number.{number32, numbers}
+use Rattle.dcsctp_tlv.specs.Level.{map_ok}
+use Rattle.dcsctp_tlv.specs.Image.{Tlv, typed_tlv}
+use Rattle.dcsctp_tlv.specs.declared.reconfiguration_response_parameter.ReconfigurationResponseResult.{ReconfigurationResponseResult}
+use Rattle.dcsctp_tlv.specs.declared.reconfiguration_response_parameter.ReconfigurationResponseResult.TheVariants.{SuccessNothingToDo, SuccessPerformed, Denied, ErrorWrongSSN, ErrorRequestAlreadyInProgress, ErrorBadSequenceNumber, InProgress}
+use Rattle.dcsctp_tlv.specs.declared.reconfiguration_response_parameter.ReconfigurationResponseParameter.{ReconfigurationResponseParameter}
+
+pub record ReconfigurationResponseTree : Type 0 where
+  pub response : ℕ
+  pub result : ReconfigurationResponseResult
+  pub sender_next_tsn : Option ℕ
+  pub receiver_next_tsn : Option ℕ
+
+-- the results by their numbers; a number above 6 has no meaning
+abbrev pub result_of : ℕ → Result ReconfigurationResponseResult Fault
+result_of n =
+    if n == 0 then Ok SuccessNothingToDo else
+    if n == 1 then Ok SuccessPerformed else
+    if n == 2 then Ok Denied else
+    if n == 3 then Ok ErrorWrongSSN else
+    if n == 4 then Ok ErrorRequestAlreadyInProgress else
+    if n == 5 then Ok ErrorBadSequenceNumber else
+    if n == 6 then Ok InProgress else
+    Err Value
+
+abbrev pub result_number : ReconfigurationResponseResult → ℕ
+result_number SuccessNothingToDo = 0
+result_number SuccessPerformed = 1
+result_number Denied = 2
+result_number ErrorWrongSSN = 3
+result_number ErrorRequestAlreadyInProgress = 4
+result_number ErrorBadSequenceNumber = 5
+result_number InProgress = 6
+
+-- a value with these next TSNs
+abbrev pub response_with : List ℕ → Option ℕ → Option ℕ → Result ReconfigurationResponseTree Fault
+response_with value sender receiver =
+    map_ok (λ result. record { response = number32 value; result = result; sender_next_tsn = sender; receiver_next_tsn = receiver })
+    (result_of (number32 (drop 4 value)))
+
+-- the length comes before the result
+unfoldable pub reconfiguration_response_at : List ℕ → Result ReconfigurationResponseTree Fault
+reconfiguration_response_at value =
+    if length value == 8 then response_with value None None else
+    if length value == 16 then response_with value (Some (number32 (drop 8 value))) (Some (number32 (drop 12 value))) else
+    Err Length
+
+-- both next TSNs where both are there, and neither otherwise
+abbrev pub next_tsns : Option ℕ → Option ℕ → List ℕ
+next_tsns (Some sender) (Some receiver) = sender ∷ receiver ∷ []
+next_tsns (Some sender) None = []
+next_tsns None receiver = []
+
+abbrev pub reconfiguration_response_tlv : ReconfigurationResponseTree → Tlv
+reconfiguration_response_tlv r = typed_tlv 16 (numbers w32 (r.response ∷ result_number r.result ∷ []) ++ numbers w32 (next_tsns r.sender_next_tsn r.receiver_next_tsn))
+
+abbrev pub reconfiguration_response_text : ReconfigurationResponseTree → List ℕ
+reconfiguration_response_text r = codes "Reconfig Response, seq=" ++ decimal r.response
+
+abbrev pub tsn_number : Option Tsn → Option ℕ
+tsn_number tsn = option_map (λ t. t.0) tsn
+
+abbrev pub reconfiguration_response_view : ReconfigurationResponseParameter → ReconfigurationResponseTree
+reconfiguration_response_view p = record {
+  response = p.response_seq_nbr;
+  result = p.result;
+  sender_next_tsn = tsn_number p.sender_next_tsn;
+  receiver_next_tsn = tsn_number p.receiver_next_tsn;
+}

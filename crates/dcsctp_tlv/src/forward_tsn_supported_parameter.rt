@@ -1,0 +1,76 @@
+//! Forward-TSN-Supported: the sender knows FORWARD-TSN.
+//!
+//! ```txt
+//!  0                   1                   2                   3
+//!  0 1 2 3 4 5 6 7 8 9 0 1 2 3 4 5 6 7 8 9 0 1 2 3 4 5 6 7 8 9 0 1
+//! +-+-+-+-+-+-+-+-+-+-+-+-+-+-+-+-+-+-+-+-+-+-+-+-+-+-+-+-+-+-+-+-+
+//! |         type = 0xC000         |           length = 4          |
+//! +-+-+-+-+-+-+-+-+-+-+-+-+-+-+-+-+-+-+-+-+-+-+-+-+-+-+-+-+-+-+-+-+
+//! ```
+
+ghost use Rattle.std.specs.Prelude.{◌≡◌, ◌≢◌, ◌↔◌, [], Some, IsErrOf};
+ghost use Rattle.dcsctp_tlv.specs.Image.{IsEncodable};
+ghost use Rattle.dcsctp_tlv.specs.Reading.{Gives, Never};
+ghost use Rattle.dcsctp_tlv.specs.Length.{length-typed_tlv};
+ghost use Rattle.dcsctp_tlv.specs.ForwardTsnSupported.{forward_tsn_supported_at, forward_tsn_supported_tlv, forward_tsn_supported_text, forward_tsn_supported_view};
+
+use crate::error::ChunkParseError;
+use crate::frame::put_typed;
+use crate::raw_parameter::RawParameter;
+use crate::tlv::SerializableTlv;
+use std::fmt;
+
+pub const PARAMETER_TYPE: u16 = 0xC000;
+
+/// Forward-TSN-Supported (RFC 3758 section 3.1). It holds nothing.
+#[derive(Debug, Drop)]
+pub struct ForwardTsnSupportedParameter;
+
+#[tactic(auto, unfolding(crate::specs::ForwardTsnSupported::forward_tsn_supported_at))]
+impl ForwardTsnSupportedParameter {
+    /// Reads the parameter; no memory is taken.
+    ///
+    /// `InvalidType` exactly for another type; `InvalidLength` exactly where the value isn't empty.
+    pub fn try_from(raw: RawParameter) -> Result<Self, ChunkParseError>
+        ensures other { IsErrOf result ChunkParseError.InvalidType ↔ (raw.entry.typ ≢ PARAMETER_TYPE) }
+        ensures own { raw.entry.typ ≡ PARAMETER_TYPE → Gives Never forward_tsn_supported_view result (forward_tsn_supported_at raw.entry.value.now) }
+    {
+        if raw.typ != PARAMETER_TYPE {
+            return Err(ChunkParseError::InvalidType);
+        }
+        if !raw.value.is_empty() {
+            return Err(ChunkParseError::InvalidLength);
+        }
+        Ok(ForwardTsnSupportedParameter)
+    }
+}
+
+impl SerializableTlv for ForwardTsnSupportedParameter {
+    ghost tlv = { λ p. forward_tsn_supported_tlv };
+
+    ghost is_encodable = { λ p. IsEncodable forward_tsn_supported_tlv };
+
+    ghost image_length = { λ p fits. length-typed_tlv 0xC000 [] };
+
+    ghost size_bound = { λ p fits. fits };
+
+    fn serialize_to(&self, output: &mut [u8]) {
+        put_typed(PARAMETER_TYPE, &[], output);
+    }
+
+    fn value_size(&self) -> usize {
+        0
+    }
+
+    fn encodable(&self) -> bool {
+        true
+    }
+}
+
+impl fmt::Display for ForwardTsnSupportedParameter {
+    ghost output = { λ p. Some forward_tsn_supported_text };
+
+    fn fmt<W: fmt::Write>(&self, f: &mut fmt::Formatter<W>) -> fmt::Result {
+        write!(f, "Forward-TSN supported")
+    }
+}

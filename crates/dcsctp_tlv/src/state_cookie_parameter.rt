@@ -1,0 +1,81 @@
+//! State Cookie: what an INIT ACK hands out, and a COOKIE ECHO brings back.
+//!
+//! ```txt
+//!  0                   1                   2                   3
+//!  0 1 2 3 4 5 6 7 8 9 0 1 2 3 4 5 6 7 8 9 0 1 2 3 4 5 6 7 8 9 0 1
+//! +-+-+-+-+-+-+-+-+-+-+-+-+-+-+-+-+-+-+-+-+-+-+-+-+-+-+-+-+-+-+-+-+
+//! |            type = 7           |             length            |
+//! +-+-+-+-+-+-+-+-+-+-+-+-+-+-+-+-+-+-+-+-+-+-+-+-+-+-+-+-+-+-+-+-+
+//! |                       cookie, any bytes                       |
+//! +-+-+-+-+-+-+-+-+-+-+-+-+-+-+-+-+-+-+-+-+-+-+-+-+-+-+-+-+-+-+-+-+
+//! ```
+
+ghost use Rattle.std.specs.Prelude.{◌≡◌, ◌≢◌, ◌↔◌, Some, IsErrOf};
+ghost use Rattle.dcsctp_tlv.specs.Image.{IsEncodable};
+ghost use Rattle.dcsctp_tlv.specs.Reading.{Gives, IfMeant};
+ghost use Rattle.dcsctp_tlv.specs.Length.{length-typed_tlv};
+ghost use Rattle.dcsctp_tlv.specs.StateCookie.{state_cookie_at, state_cookie_tlv, state_cookie_text, state_cookie_view};
+
+use crate::error::ChunkParseError;
+use crate::frame::{MAX_VALUE_SIZE, put_typed};
+use crate::raw_parameter::RawParameter;
+use crate::tlv::SerializableTlv;
+use std::alloc::Global;
+use std::fmt;
+
+pub const PARAMETER_TYPE: u16 = 7;
+
+/// State Cookie (RFC 9260 section 3.3.3.1.1). Only the sender of the INIT ACK knows what it means.
+#[derive(Debug, Drop)]
+pub struct StateCookieParameter {
+    pub cookie: Vec<u8>,
+}
+
+#[tactic(auto, unfolding(crate::specs::StateCookie::state_cookie_at))]
+impl StateCookieParameter {
+    /// Reads the parameter, and copies the cookie.
+    ///
+    /// `InvalidType` exactly for another type; `OutOfMemory` only where the cookie can't be copied.
+    pub fn try_from(alloc: Global, raw: RawParameter) -> Result<Self, ChunkParseError>
+        ensures other { IsErrOf result ChunkParseError.InvalidType ↔ (raw.entry.typ ≢ PARAMETER_TYPE) }
+        ensures own { raw.entry.typ ≡ PARAMETER_TYPE → Gives IfMeant state_cookie_view result (state_cookie_at raw.entry.value.now) }
+    {
+        if raw.typ != PARAMETER_TYPE {
+            return Err(ChunkParseError::InvalidType);
+        }
+        Ok(StateCookieParameter {
+            cookie: Vec::from_slice(alloc, raw.value)?,
+        })
+    }
+}
+
+impl SerializableTlv for StateCookieParameter {
+    ghost tlv = { λ p. state_cookie_tlv (state_cookie_view p) };
+
+    ghost is_encodable = { λ p. IsEncodable (state_cookie_tlv (state_cookie_view p)) };
+
+    ghost image_length = { λ p fits. length-typed_tlv 7 (state_cookie_view p) };
+
+    ghost size_bound = { λ p fits. fits };
+
+    fn serialize_to(&self, output: &mut [u8]) {
+        put_typed(PARAMETER_TYPE, &self.cookie, output);
+    }
+
+    fn value_size(&self) -> usize {
+        self.cookie.len()
+    }
+
+    fn encodable(&self) -> bool {
+        self.cookie.len() <= MAX_VALUE_SIZE
+    }
+}
+
+impl fmt::Display for StateCookieParameter {
+    ghost output = { λ p. Some (state_cookie_text (state_cookie_view p)) };
+
+    fn fmt<W: fmt::Write>(&self, f: &mut fmt::Formatter<W>) -> fmt::Result {
+        let size = self.cookie.len();
+        write!(f, "State cookie, cookie_length={size}")
+    }
+}

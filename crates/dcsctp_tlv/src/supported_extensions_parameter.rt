@@ -1,0 +1,83 @@
+//! Supported Extensions: the types of chunk that the sender knows beside the standard ones.
+//!
+//! ```txt
+//!  0                   1                   2                   3
+//!  0 1 2 3 4 5 6 7 8 9 0 1 2 3 4 5 6 7 8 9 0 1 2 3 4 5 6 7 8 9 0 1
+//! +-+-+-+-+-+-+-+-+-+-+-+-+-+-+-+-+-+-+-+-+-+-+-+-+-+-+-+-+-+-+-+-+
+//! |         type = 0x8008         |             length            |
+//! +-+-+-+-+-+-+-+-+-+-+-+-+-+-+-+-+-+-+-+-+-+-+-+-+-+-+-+-+-+-+-+-+
+//! |                   chunk types, one byte each                  |
+//! +-+-+-+-+-+-+-+-+-+-+-+-+-+-+-+-+-+-+-+-+-+-+-+-+-+-+-+-+-+-+-+-+
+//! ```
+
+ghost use Rattle.std.specs.Prelude.{◌≡◌, ◌≢◌, ◌↔◌, Some, IsErrOf};
+ghost use Rattle.dcsctp_tlv.specs.Image.{IsEncodable};
+ghost use Rattle.dcsctp_tlv.specs.Reading.{Gives, IfMeant};
+ghost use Rattle.dcsctp_tlv.specs.Length.{length-typed_tlv};
+ghost use Rattle.dcsctp_tlv.specs.SupportedExtensions.{supported_extensions_at, supported_extensions_tlv, supported_extensions_text, supported_extensions_view};
+
+use crate::error::ChunkParseError;
+use crate::frame::{MAX_VALUE_SIZE, put_typed};
+use crate::raw_parameter::RawParameter;
+use crate::text::write_joined;
+use crate::tlv::SerializableTlv;
+use std::alloc::Global;
+use std::fmt;
+
+pub const PARAMETER_TYPE: u16 = 0x8008;
+
+/// Supported Extensions (RFC 5061 section 4.2.7).
+#[derive(Debug, Drop)]
+pub struct SupportedExtensionsParameter {
+    /// In the order of the list, with repeats.
+    pub chunk_types: Vec<u8>,
+}
+
+#[tactic(auto, unfolding(crate::specs::SupportedExtensions::supported_extensions_at))]
+impl SupportedExtensionsParameter {
+    /// Reads the parameter, and copies the list.
+    ///
+    /// `InvalidType` exactly for another type; `OutOfMemory` only where the list can't be copied.
+    pub fn try_from(alloc: Global, raw: RawParameter) -> Result<Self, ChunkParseError>
+        ensures other { IsErrOf result ChunkParseError.InvalidType ↔ (raw.entry.typ ≢ PARAMETER_TYPE) }
+        ensures own { raw.entry.typ ≡ PARAMETER_TYPE → Gives IfMeant supported_extensions_view result (supported_extensions_at raw.entry.value.now) }
+    {
+        if raw.typ != PARAMETER_TYPE {
+            return Err(ChunkParseError::InvalidType);
+        }
+        Ok(SupportedExtensionsParameter {
+            chunk_types: Vec::from_slice(alloc, raw.value)?,
+        })
+    }
+}
+
+impl SerializableTlv for SupportedExtensionsParameter {
+    ghost tlv = { λ p. supported_extensions_tlv (supported_extensions_view p) };
+
+    ghost is_encodable = { λ p. IsEncodable (supported_extensions_tlv (supported_extensions_view p)) };
+
+    ghost image_length = { λ p fits. length-typed_tlv 0x8008 (supported_extensions_view p) };
+
+    ghost size_bound = { λ p fits. fits };
+
+    fn serialize_to(&self, output: &mut [u8]) {
+        put_typed(PARAMETER_TYPE, &self.chunk_types, output);
+    }
+
+    fn value_size(&self) -> usize {
+        self.chunk_types.len()
+    }
+
+    fn encodable(&self) -> bool {
+        self.chunk_types.len() <= MAX_VALUE_SIZE
+    }
+}
+
+impl fmt::Display for SupportedExtensionsParameter {
+    ghost output = { λ p. Some (supported_extensions_text (supported_extensions_view p)) };
+
+    fn fmt<W: fmt::Write>(&self, f: &mut fmt::Formatter<W>) -> fmt::Result {
+        write!(f, "Supported extensions, chunks=")?;
+        write_joined(&self.chunk_types, ",", f)
+    }
+}

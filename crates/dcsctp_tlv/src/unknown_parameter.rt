@@ -1,0 +1,83 @@
+//! A parameter or an error cause of a type that has no kind of its own.
+//!
+//! ```txt
+//!  0                   1                   2                   3
+//!  0 1 2 3 4 5 6 7 8 9 0 1 2 3 4 5 6 7 8 9 0 1 2 3 4 5 6 7 8 9 0 1
+//! +-+-+-+-+-+-+-+-+-+-+-+-+-+-+-+-+-+-+-+-+-+-+-+-+-+-+-+-+-+-+-+-+
+//! |              type             |             length            |
+//! +-+-+-+-+-+-+-+-+-+-+-+-+-+-+-+-+-+-+-+-+-+-+-+-+-+-+-+-+-+-+-+-+
+//! |                        value, any bytes                       |
+//! +-+-+-+-+-+-+-+-+-+-+-+-+-+-+-+-+-+-+-+-+-+-+-+-+-+-+-+-+-+-+-+-+
+//! ```
+
+ghost use Rattle.std.specs.Prelude.{◌≡◌, Some};
+ghost use Rattle.dcsctp_tlv.specs.Image.{IsEncodable};
+ghost use Rattle.dcsctp_tlv.specs.Reading.{Gives, IfMeant};
+ghost use Rattle.dcsctp_tlv.specs.Length.{length-typed_tlv};
+ghost use Rattle.dcsctp_tlv.specs.UnknownParameter.{unknown_parameter_at, unknown_parameter_tlv, unknown_parameter_text, unknown_parameter_view};
+
+use crate::error::ChunkParseError;
+use crate::frame::{MAX_VALUE_SIZE, put_typed};
+use crate::raw_parameter::RawParameter;
+use crate::tlv::SerializableTlv;
+use std::alloc::Global;
+use std::fmt;
+
+/// A parameter or an error cause that is kept as it is: its type and its value (RFC 9260 sections
+/// 3.2.1 and 3.3.10).
+#[derive(Debug, Drop)]
+pub struct UnknownParameter {
+    pub typ: u16,
+    pub value: Vec<u8>,
+}
+
+#[tactic(auto, unfolding(crate::specs::UnknownParameter::unknown_parameter_at))]
+impl UnknownParameter {
+    pub fn new(typ: u16, value: Vec<u8>) -> UnknownParameter
+        ensures typ { result.typ ≡ typ }
+        ensures value { result.value ≡ value }
+    {
+        UnknownParameter { typ, value }
+    }
+
+    /// Keeps a parameter of any type, and copies its value; `OutOfMemory` is its only error.
+    pub fn try_from(alloc: Global, raw: RawParameter) -> Result<Self, ChunkParseError>
+        ensures { Gives IfMeant unknown_parameter_view result (unknown_parameter_at raw.entry.typ raw.entry.value.now) }
+    {
+        Ok(UnknownParameter {
+            typ: raw.typ,
+            value: Vec::from_slice(alloc, raw.value)?,
+        })
+    }
+}
+
+impl SerializableTlv for UnknownParameter {
+    ghost tlv = { λ p. unknown_parameter_tlv (unknown_parameter_view p) };
+
+    ghost is_encodable = { λ p. IsEncodable (unknown_parameter_tlv (unknown_parameter_view p)) };
+
+    ghost image_length = { λ p fits. length-typed_tlv p.typ p.value.items };
+
+    ghost size_bound = { λ p fits. fits };
+
+    fn serialize_to(&self, output: &mut [u8]) {
+        put_typed(self.typ, &self.value, output);
+    }
+
+    fn value_size(&self) -> usize {
+        self.value.len()
+    }
+
+    fn encodable(&self) -> bool {
+        self.value.len() <= MAX_VALUE_SIZE
+    }
+}
+
+impl fmt::Display for UnknownParameter {
+    ghost output = { λ p. Some (unknown_parameter_text (unknown_parameter_view p)) };
+
+    fn fmt<W: fmt::Write>(&self, f: &mut fmt::Formatter<W>) -> fmt::Result {
+        let typ = self.typ;
+        write!(f, "Unknown parameter, type={typ}")
+    }
+}

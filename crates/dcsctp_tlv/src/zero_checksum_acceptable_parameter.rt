@@ -1,0 +1,88 @@
+//! Zero Checksum Acceptable: the sender takes packets whose checksum is zero.
+//!
+//! ```txt
+//!  0                   1                   2                   3
+//!  0 1 2 3 4 5 6 7 8 9 0 1 2 3 4 5 6 7 8 9 0 1 2 3 4 5 6 7 8 9 0 1
+//! +-+-+-+-+-+-+-+-+-+-+-+-+-+-+-+-+-+-+-+-+-+-+-+-+-+-+-+-+-+-+-+-+
+//! |         type = 0x8001         |           length = 8          |
+//! +-+-+-+-+-+-+-+-+-+-+-+-+-+-+-+-+-+-+-+-+-+-+-+-+-+-+-+-+-+-+-+-+
+//! |                     error detection method                    |
+//! +-+-+-+-+-+-+-+-+-+-+-+-+-+-+-+-+-+-+-+-+-+-+-+-+-+-+-+-+-+-+-+-+
+//! ```
+
+ghost use Rattle.std.specs.Prelude.{◌≡◌, ◌≢◌, ◌↔◌, Some, IsErrOf};
+ghost use Rattle.std.specs.Int.{w32, to_be_bytes};
+ghost use Rattle.dcsctp_tlv.specs.Image.{IsEncodable};
+ghost use Rattle.dcsctp_tlv.specs.Reading.{Gives, Never};
+ghost use Rattle.dcsctp_tlv.specs.Length.{length-typed_tlv};
+ghost use Rattle.dcsctp_tlv.specs.ZeroChecksumAcceptable.{zero_checksum_acceptable_at, zero_checksum_acceptable_tlv, zero_checksum_acceptable_text, zero_checksum_acceptable_view};
+
+use crate::error::ChunkParseError;
+use crate::frame::put_typed;
+use crate::number::read_u32_be;
+use crate::raw_parameter::RawParameter;
+use crate::tlv::SerializableTlv;
+use dcsctp_types::api::ZeroChecksumAlternateErrorDetectionMethod;
+use std::fmt;
+
+pub const PARAMETER_TYPE: u16 = 0x8001;
+
+/// Zero Checksum Acceptable (RFC 9653 section 4).
+#[derive(Debug, Drop)]
+pub struct ZeroChecksumAcceptableParameter {
+    /// How the packets are protected in place of the checksum.
+    pub method: ZeroChecksumAlternateErrorDetectionMethod,
+}
+
+#[tactic(auto, unfolding(crate::specs::ZeroChecksumAcceptable::zero_checksum_acceptable_at))]
+impl ZeroChecksumAcceptableParameter {
+    /// Reads the parameter; no memory is taken, and every method is accepted.
+    ///
+    /// `InvalidType` exactly for another type; `InvalidLength` exactly where the value hasn't 4
+    /// bytes.
+    pub fn try_from(raw: RawParameter) -> Result<Self, ChunkParseError>
+        ensures other { IsErrOf result ChunkParseError.InvalidType ↔ (raw.entry.typ ≢ PARAMETER_TYPE) }
+        ensures own { raw.entry.typ ≡ PARAMETER_TYPE → Gives Never zero_checksum_acceptable_view result (zero_checksum_acceptable_at raw.entry.value.now) }
+    {
+        if raw.typ != PARAMETER_TYPE {
+            return Err(ChunkParseError::InvalidType);
+        }
+        if raw.value.len() != 4 {
+            return Err(ChunkParseError::InvalidLength);
+        }
+        Ok(ZeroChecksumAcceptableParameter {
+            method: ZeroChecksumAlternateErrorDetectionMethod(read_u32_be(raw.value)),
+        })
+    }
+}
+
+impl SerializableTlv for ZeroChecksumAcceptableParameter {
+    ghost tlv = { λ p. zero_checksum_acceptable_tlv (zero_checksum_acceptable_view p) };
+
+    ghost is_encodable = { λ p. IsEncodable (zero_checksum_acceptable_tlv (zero_checksum_acceptable_view p)) };
+
+    ghost image_length = { λ p fits. length-typed_tlv 0x8001 (to_be_bytes w32 (zero_checksum_acceptable_view p)) };
+
+    ghost size_bound = { λ p fits. fits };
+
+    fn serialize_to(&self, output: &mut [u8]) {
+        put_typed(PARAMETER_TYPE, &self.method.0.to_be_bytes(), output);
+    }
+
+    fn value_size(&self) -> usize {
+        4
+    }
+
+    fn encodable(&self) -> bool {
+        true
+    }
+}
+
+impl fmt::Display for ZeroChecksumAcceptableParameter {
+    ghost output = { λ p. Some (zero_checksum_acceptable_text (zero_checksum_acceptable_view p)) };
+
+    fn fmt<W: fmt::Write>(&self, f: &mut fmt::Formatter<W>) -> fmt::Result {
+        let method = self.method.0;
+        write!(f, "Zero Checksum Acceptable, method={method}")
+    }
+}
