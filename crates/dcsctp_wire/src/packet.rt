@@ -7,5 +7,15 @@ pub mod sctp_packet;
 pub use dcsctp_chunk::{cookie_ack_chunk, cookie_echo_chunk, shutdown_chunk, unknown_chunk};
 pub use dcsctp_tlv::error::ChunkParseError;
 pub use dcsctp_tlv::frame::TLV_HEADER_SIZE;
-pub use dcsctp_tlv::number::{read_u16_be, read_u32_be, round_up_to_4, write_u16_be, write_u32_be};
+pub use dcsctp_tlv::number::{
+    is_divisible_by_4, read_u16_be, read_u32_be, read_u64_be, round_down_to_4, round_up_to_4,
+    write_u16_be, write_u32_be, write_u64_be,
+};
+pub use dcsctp_tlv::skipped_stream::SkippedStream;
 pub use dcsctp_tlv::tlv::SerializableTlv;
+pub use dcsctp_tlv::{
+    forward_tsn_supported_parameter, heartbeat_info_parameter,
+    incoming_ssn_reset_request_parameter, outgoing_ssn_reset_request_parameter, parameter,
+    reconfiguration_response_parameter, state_cookie_parameter, supported_extensions_parameter,
+    unknown_parameter, zero_checksum_acceptable_parameter,
+};
