@@ -4,6 +4,11 @@ mod builder;
 pub mod chunk;
 pub mod sctp_packet;
 
+pub use dcsctp_cause::{
+    cookie_received_while_shutting_down, error_causes, missing_mandatory_parameter_error_cause,
+    no_user_data_error_cause, protocol_violation_error_cause, unrecognized_chunk_error_cause,
+    user_initiated_abort_error_cause,
+};
 pub use dcsctp_chunk::{cookie_ack_chunk, cookie_echo_chunk, shutdown_chunk, unknown_chunk};
 pub use dcsctp_tlv::error::ChunkParseError;
 pub use dcsctp_tlv::frame::TLV_HEADER_SIZE;

@@ -1,0 +1,77 @@
+//! Cookie Received While Shutting Down: a COOKIE ECHO came while its receiver was shutting down.
+//!
+//! ```txt
+//!  0                   1                   2                   3
+//!  0 1 2 3 4 5 6 7 8 9 0 1 2 3 4 5 6 7 8 9 0 1 2 3 4 5 6 7 8 9 0 1
+//! +-+-+-+-+-+-+-+-+-+-+-+-+-+-+-+-+-+-+-+-+-+-+-+-+-+-+-+-+-+-+-+-+
+//! |           code = 10           |           length = 4          |
+//! +-+-+-+-+-+-+-+-+-+-+-+-+-+-+-+-+-+-+-+-+-+-+-+-+-+-+-+-+-+-+-+-+
+//! ```
+
+ghost use Rattle.std.specs.Prelude.{◌≡◌, ◌≢◌, ◌↔◌, [], Some, IsErrOf};
+ghost use Rattle.dcsctp_tlv.specs.Image.{IsEncodable};
+ghost use Rattle.dcsctp_tlv.specs.Reading.{Gives, Never};
+ghost use Rattle.dcsctp_tlv.specs.Length.{length-typed_tlv};
+ghost use Rattle.dcsctp_cause.specs.CookieReceivedWhileShuttingDown.{cookie_received_while_shutting_down_at, cookie_received_while_shutting_down_tlv, cookie_received_while_shutting_down_text, cookie_received_while_shutting_down_view};
+
+use dcsctp_tlv::error::ChunkParseError;
+use dcsctp_tlv::frame::put_typed;
+use dcsctp_tlv::raw_parameter::RawParameter;
+use dcsctp_tlv::tlv::SerializableTlv;
+use std::fmt;
+
+/// The code of this cause.
+pub const CAUSE_CODE: u16 = 10;
+
+/// Cookie Received While Shutting Down (RFC 9260 section 3.3.10.10). It holds nothing.
+#[derive(Debug, Drop)]
+pub struct CookieReceivedWhileShuttingDownErrorCause {}
+
+#[tactic(auto, unfolding(crate::specs::CookieReceivedWhileShuttingDown::cookie_received_while_shutting_down_at))]
+impl CookieReceivedWhileShuttingDownErrorCause {
+    /// Reads the cause; no memory is taken.
+    ///
+    /// `InvalidType` exactly for another code; `InvalidLength` exactly where the value isn't empty.
+    pub fn try_from(raw: RawParameter) -> Result<Self, ChunkParseError>
+        ensures other { IsErrOf result ChunkParseError.InvalidType ↔ (raw.entry.typ ≢ CAUSE_CODE) }
+        ensures own { raw.entry.typ ≡ CAUSE_CODE → Gives Never cookie_received_while_shutting_down_view result (cookie_received_while_shutting_down_at raw.entry.value.now) }
+    {
+        if raw.typ != CAUSE_CODE {
+            return Err(ChunkParseError::InvalidType);
+        }
+        if !raw.value.is_empty() {
+            return Err(ChunkParseError::InvalidLength);
+        }
+        Ok(CookieReceivedWhileShuttingDownErrorCause {})
+    }
+}
+
+impl SerializableTlv for CookieReceivedWhileShuttingDownErrorCause {
+    ghost tlv = { λ c. cookie_received_while_shutting_down_tlv };
+
+    ghost is_encodable = { λ c. IsEncodable cookie_received_while_shutting_down_tlv };
+
+    ghost image_length = { λ c fits. length-typed_tlv 10 [] };
+
+    ghost size_bound = { λ c fits. fits };
+
+    fn serialize_to(&self, output: &mut [u8]) {
+        put_typed(CAUSE_CODE, &[], output);
+    }
+
+    fn value_size(&self) -> usize {
+        0
+    }
+
+    fn encodable(&self) -> bool {
+        true
+    }
+}
+
+impl fmt::Display for CookieReceivedWhileShuttingDownErrorCause {
+    ghost output = { λ c. Some cookie_received_while_shutting_down_text };
+
+    fn fmt<W: fmt::Write>(&self, f: &mut fmt::Formatter<W>) -> fmt::Result {
+        write!(f, "Cookie Received While Shutting Down")
+    }
+}

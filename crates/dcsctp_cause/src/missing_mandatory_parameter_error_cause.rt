@@ -1,0 +1,154 @@
+//! Missing Mandatory Parameter: an INIT or INIT ACK lacked parameters that it must have.
+//!
+//! ```txt
+//!  0                   1                   2                   3
+//!  0 1 2 3 4 5 6 7 8 9 0 1 2 3 4 5 6 7 8 9 0 1 2 3 4 5 6 7 8 9 0 1
+//! +-+-+-+-+-+-+-+-+-+-+-+-+-+-+-+-+-+-+-+-+-+-+-+-+-+-+-+-+-+-+-+-+
+//! |            code = 2           |             length            |
+//! +-+-+-+-+-+-+-+-+-+-+-+-+-+-+-+-+-+-+-+-+-+-+-+-+-+-+-+-+-+-+-+-+
+//! |                      number of types, N                       |
+//! +-+-+-+-+-+-+-+-+-+-+-+-+-+-+-+-+-+-+-+-+-+-+-+-+-+-+-+-+-+-+-+-+
+//! |       parameter type 1        |       ..  N, two bytes each   |
+//! +-+-+-+-+-+-+-+-+-+-+-+-+-+-+-+-+-+-+-+-+-+-+-+-+-+-+-+-+-+-+-+-+
+//! ```
+
+ghost use Rattle.std.specs.Prelude.{◌≡◌, ◌≢◌, ◌↔◌, ◌++◌, [], ◌∷◌, ℕ, Some, IsErrOf, IfOk, length, refl};
+ghost use Rattle.std.specs.Int.{w16, w32, to_be_bytes};
+ghost use Rattle.dcsctp_tlv.specs.Image.{IsEncodable};
+ghost use Rattle.dcsctp_tlv.specs.Length.{length-typed_tlv};
+ghost use Rattle.dcsctp_tlv.specs.Number.{number16, numbers};
+ghost use Rattle.dcsctp_tlv.specs.Reading.{Gives, IfMeant};
+ghost use Rattle.dcsctp_cause.specs.MissingMandatoryParameter.{missing_mandatory_parameter_at, missing_mandatory_parameter_tlv, missing_mandatory_parameter_text, missing_mandatory_parameter_view};
+
+use dcsctp_tlv::error::ChunkParseError;
+use dcsctp_tlv::fields::{Field, fields_from_bytes, put_typed_numbers_and_fields};
+use dcsctp_tlv::frame::MAX_VALUE_SIZE;
+use dcsctp_tlv::number::{read_u16_be, read_u32_be, write_u16_be};
+use dcsctp_tlv::raw_parameter::RawParameter;
+use dcsctp_tlv::text::write_joined;
+use dcsctp_tlv::tlv::SerializableTlv;
+use std::alloc::{AllocError, Global};
+use std::fmt;
+
+/// The code of this cause.
+pub const CAUSE_CODE: u16 = 2;
+
+/// Bytes of the value before the types.
+const FIXED_SIZE: usize = 4;
+
+/// How a parameter's type is laid out: two bytes.
+struct ParameterTypeField;
+
+impl Field for ParameterTypeField {
+    type Value = u16;
+
+    ghost Tree = { ℕ };
+
+    ghost view = { λ n. n };
+
+    ghost field_at = { number16 };
+
+    ghost field_bytes = { to_be_bytes w16 };
+
+    ghost is_writable = { λ n. Unit {0} };
+
+    ghost SIZE = { 2 };
+
+    const SIZE: usize = 2;
+
+    fn read(bytes: &[u8]) -> u16 {
+        read_u16_be(bytes)
+    }
+
+    fn write(value: &u16, output: &mut [u8]) {
+        write_u16_be(output, *value);
+    }
+
+    ghost field_length = { λ n fits. refl };
+}
+
+/// Missing Mandatory Parameter (RFC 9260 section 3.3.10.2).
+#[derive(Debug, Drop, PartialEq, Eq)]
+pub struct MissingMandatoryParameterErrorCause {
+    /// The types of the missing parameters, in the order of the list, with repeats.
+    pub missing_parameters: Vec<u16>,
+}
+
+#[tactic(auto, unfolding(crate::specs::MissingMandatoryParameter::missing_mandatory_parameter_at))]
+impl MissingMandatoryParameterErrorCause {
+    /// The cause with these types.
+    pub fn new(missing_parameters: Vec<u16>) -> MissingMandatoryParameterErrorCause
+        ensures { result.missing_parameters ≡ missing_parameters }
+    {
+        MissingMandatoryParameterErrorCause { missing_parameters }
+    }
+
+    /// A cause with the same types; refused for want of memory alone.
+    pub fn clone(&self) -> Result<MissingMandatoryParameterErrorCause, AllocError>
+        ensures { IfOk result (λ c. c.missing_parameters.items ≡ self.now.missing_parameters.items) }
+    {
+        Ok(MissingMandatoryParameterErrorCause {
+            missing_parameters: self.missing_parameters.clone()?,
+        })
+    }
+
+    /// Reads the cause, and copies its types.
+    ///
+    /// `InvalidType` exactly for another code; `InvalidLength` exactly where the value has fewer
+    /// than 4 bytes, or other than 4 and 2 more for each type that it counts; `OutOfMemory` only
+    /// where the types can't be copied.
+    pub fn try_from(alloc: Global, raw: RawParameter) -> Result<Self, ChunkParseError>
+        ensures other { IsErrOf result ChunkParseError.InvalidType ↔ (raw.entry.typ ≢ CAUSE_CODE) }
+        ensures own { raw.entry.typ ≡ CAUSE_CODE → Gives IfMeant missing_mandatory_parameter_view result (missing_mandatory_parameter_at raw.entry.value.now) }
+    {
+        if raw.typ != CAUSE_CODE {
+            return Err(ChunkParseError::InvalidType);
+        }
+        let value = raw.value;
+        if value.len() < FIXED_SIZE {
+            return Err(ChunkParseError::InvalidLength);
+        }
+        let count = read_u32_be(value) as usize;
+        if value.len() != FIXED_SIZE + 2 * count {
+            return Err(ChunkParseError::InvalidLength);
+        }
+        let types = &value[FIXED_SIZE..];
+        let missing_parameters = fields_from_bytes::<ParameterTypeField>(alloc, types, count)?;
+        Ok(MissingMandatoryParameterErrorCause::new(missing_parameters))
+    }
+}
+
+#[tactic(auto, using(crate::proofs::Types::size_of_types))]
+impl SerializableTlv for MissingMandatoryParameterErrorCause {
+    ghost tlv = { λ c. missing_mandatory_parameter_tlv (missing_mandatory_parameter_view c) };
+
+    ghost is_encodable = { λ c. IsEncodable (missing_mandatory_parameter_tlv (missing_mandatory_parameter_view c)) };
+
+    ghost image_length = { λ c fits. length-typed_tlv 2 (numbers w32 (length c.missing_parameters.items ∷ []) ++ numbers w16 c.missing_parameters.items) };
+
+    ghost size_bound = { λ c fits. fits };
+
+    fn serialize_to(&self, output: &mut [u8]) {
+        let types = &self.missing_parameters;
+        let leading = [types.len() as u32];
+        put_typed_numbers_and_fields::<ParameterTypeField>(CAUSE_CODE, &leading, types, output);
+    }
+
+    fn value_size(&self) -> usize {
+        FIXED_SIZE + 2 * self.missing_parameters.len()
+    }
+
+    fn encodable(&self) -> bool {
+        self.missing_parameters.len() <= (MAX_VALUE_SIZE - FIXED_SIZE) / 2
+    }
+}
+
+impl fmt::Display for MissingMandatoryParameterErrorCause {
+    ghost output = { λ c. Some (missing_mandatory_parameter_text (missing_mandatory_parameter_view c)) };
+
+    fn fmt<W: fmt::Write>(&self, f: &mut fmt::Formatter<W>) -> fmt::Result {
+        write!(f, "Missing Mandatory Parameter, missing_parameters=[")?;
+        write_joined(&self.missing_parameters, ", ", f)?;
+        write!(f, "]")
+    }
+}

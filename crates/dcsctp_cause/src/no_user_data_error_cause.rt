@@ -1,0 +1,89 @@
+//! No User Data: a DATA chunk held no data.
+//!
+//! ```txt
+//!  0                   1                   2                   3
+//!  0 1 2 3 4 5 6 7 8 9 0 1 2 3 4 5 6 7 8 9 0 1 2 3 4 5 6 7 8 9 0 1
+//! +-+-+-+-+-+-+-+-+-+-+-+-+-+-+-+-+-+-+-+-+-+-+-+-+-+-+-+-+-+-+-+-+
+//! |            code = 9           |           length = 8          |
+//! +-+-+-+-+-+-+-+-+-+-+-+-+-+-+-+-+-+-+-+-+-+-+-+-+-+-+-+-+-+-+-+-+
+//! |                              TSN                              |
+//! +-+-+-+-+-+-+-+-+-+-+-+-+-+-+-+-+-+-+-+-+-+-+-+-+-+-+-+-+-+-+-+-+
+//! ```
+
+ghost use Rattle.std.specs.Prelude.{◌≡◌, ◌≢◌, ◌↔◌, Some, IsErrOf};
+ghost use Rattle.std.specs.Int.{w32, to_be_bytes};
+ghost use Rattle.dcsctp_tlv.specs.Image.{IsEncodable};
+ghost use Rattle.dcsctp_tlv.specs.Reading.{Gives, Never};
+ghost use Rattle.dcsctp_tlv.specs.Length.{length-typed_tlv};
+ghost use Rattle.dcsctp_cause.specs.NoUserData.{no_user_data_at, no_user_data_tlv, no_user_data_text, no_user_data_view};
+
+use dcsctp_tlv::error::ChunkParseError;
+use dcsctp_tlv::frame::put_typed;
+use dcsctp_tlv::number::read_u32_be;
+use dcsctp_tlv::raw_parameter::RawParameter;
+use dcsctp_tlv::tlv::SerializableTlv;
+use dcsctp_types::types::Tsn;
+use std::fmt;
+
+/// The code of this cause.
+pub const CAUSE_CODE: u16 = 9;
+
+/// No User Data (RFC 9260 section 3.3.10.9).
+#[derive(Debug, Drop)]
+pub struct NoUserDataErrorCause {
+    /// The TSN of the DATA chunk that held no data.
+    pub tsn: Tsn,
+}
+
+#[tactic(auto, unfolding(crate::specs::NoUserData::no_user_data_at))]
+impl NoUserDataErrorCause {
+    /// Reads the cause; no memory is taken.
+    ///
+    /// `InvalidType` exactly for another code; `InvalidLength` exactly where the value hasn't 4
+    /// bytes.
+    pub fn try_from(raw: RawParameter) -> Result<Self, ChunkParseError>
+        ensures other { IsErrOf result ChunkParseError.InvalidType ↔ (raw.entry.typ ≢ CAUSE_CODE) }
+        ensures own { raw.entry.typ ≡ CAUSE_CODE → Gives Never no_user_data_view result (no_user_data_at raw.entry.value.now) }
+    {
+        if raw.typ != CAUSE_CODE {
+            return Err(ChunkParseError::InvalidType);
+        }
+        if raw.value.len() != 4 {
+            return Err(ChunkParseError::InvalidLength);
+        }
+        Ok(NoUserDataErrorCause {
+            tsn: Tsn(read_u32_be(raw.value)),
+        })
+    }
+}
+
+impl SerializableTlv for NoUserDataErrorCause {
+    ghost tlv = { λ c. no_user_data_tlv (no_user_data_view c) };
+
+    ghost is_encodable = { λ c. IsEncodable (no_user_data_tlv (no_user_data_view c)) };
+
+    ghost image_length = { λ c fits. length-typed_tlv 9 (to_be_bytes w32 (no_user_data_view c)) };
+
+    ghost size_bound = { λ c fits. fits };
+
+    fn serialize_to(&self, output: &mut [u8]) {
+        put_typed(CAUSE_CODE, &self.tsn.0.to_be_bytes(), output);
+    }
+
+    fn value_size(&self) -> usize {
+        4
+    }
+
+    fn encodable(&self) -> bool {
+        true
+    }
+}
+
+impl fmt::Display for NoUserDataErrorCause {
+    ghost output = { λ c. Some (no_user_data_text (no_user_data_view c)) };
+
+    fn fmt<W: fmt::Write>(&self, f: &mut fmt::Formatter<W>) -> fmt::Result {
+        let tsn = self.tsn.0;
+        write!(f, "No User Data, tsn={tsn}")
+    }
+}

@@ -1,0 +1,90 @@
+//! Protocol Violation: the peer broke the protocol, in a way that no other cause tells.
+//!
+//! ```txt
+//!  0                   1                   2                   3
+//!  0 1 2 3 4 5 6 7 8 9 0 1 2 3 4 5 6 7 8 9 0 1 2 3 4 5 6 7 8 9 0 1
+//! +-+-+-+-+-+-+-+-+-+-+-+-+-+-+-+-+-+-+-+-+-+-+-+-+-+-+-+-+-+-+-+-+
+//! |           code = 13           |             length            |
+//! +-+-+-+-+-+-+-+-+-+-+-+-+-+-+-+-+-+-+-+-+-+-+-+-+-+-+-+-+-+-+-+-+
+//! |                additional information, a text                 |
+//! +-+-+-+-+-+-+-+-+-+-+-+-+-+-+-+-+-+-+-+-+-+-+-+-+-+-+-+-+-+-+-+-+
+//! ```
+
+ghost use Rattle.std.specs.Prelude.{◌≡◌, ◌≢◌, ◌↔◌, Some, IsErrOf};
+ghost use Rattle.dcsctp_tlv.specs.Image.{IsEncodable};
+ghost use Rattle.dcsctp_tlv.specs.Reading.{Gives, IfMeant};
+ghost use Rattle.dcsctp_tlv.specs.Length.{length-typed_tlv};
+ghost use Rattle.dcsctp_cause.specs.ProtocolViolation.{protocol_violation_at, protocol_violation_tlv, protocol_violation_text, protocol_violation_view};
+
+use crate::text::text_or;
+use dcsctp_tlv::error::ChunkParseError;
+use dcsctp_tlv::frame::{MAX_VALUE_SIZE, put_typed};
+use dcsctp_tlv::raw_parameter::RawParameter;
+use dcsctp_tlv::tlv::SerializableTlv;
+use std::alloc::Global;
+use std::fmt;
+
+/// The code of this cause.
+pub const CAUSE_CODE: u16 = 13;
+
+/// What is read in place of information that isn't UTF-8.
+const UNREADABLE: &str = "Failed to parse additional information";
+
+/// Protocol Violation (RFC 9260 section 3.3.10.13).
+#[derive(Debug, Drop)]
+pub struct ProtocolViolationErrorCause {
+    /// What was broken, in words.
+    pub information: String,
+}
+
+#[tactic(auto, unfolding(crate::specs::ProtocolViolation::protocol_violation_at))]
+impl ProtocolViolationErrorCause {
+    /// Reads the cause, and copies the text; where the value isn't UTF-8, the text says so.
+    ///
+    /// `InvalidType` exactly for another code; `OutOfMemory` only where the text can't be copied.
+    pub fn try_from(alloc: Global, raw: RawParameter) -> Result<Self, ChunkParseError>
+        ensures other { IsErrOf result ChunkParseError.InvalidType ↔ (raw.entry.typ ≢ CAUSE_CODE) }
+        ensures own { raw.entry.typ ≡ CAUSE_CODE → Gives IfMeant protocol_violation_view result (protocol_violation_at raw.entry.value.now) }
+    {
+        if raw.typ != CAUSE_CODE {
+            return Err(ChunkParseError::InvalidType);
+        }
+        Ok(ProtocolViolationErrorCause {
+            information: text_or(alloc, UNREADABLE, raw.value)?,
+        })
+    }
+}
+
+impl SerializableTlv for ProtocolViolationErrorCause {
+    ghost tlv = { λ c. protocol_violation_tlv (protocol_violation_view c) };
+
+    ghost is_encodable = { λ c. IsEncodable (protocol_violation_tlv (protocol_violation_view c)) };
+
+    ghost image_length = { λ c fits. length-typed_tlv 13 (protocol_violation_view c) };
+
+    ghost size_bound = { λ c fits. fits };
+
+    fn serialize_to(&self, output: &mut [u8]) {
+        put_typed(CAUSE_CODE, self.information.as_bytes(), output);
+    }
+
+    fn value_size(&self) -> usize {
+        self.information.len()
+    }
+
+    fn encodable(&self) -> bool {
+        self.information.len() <= MAX_VALUE_SIZE
+    }
+}
+
+impl fmt::Display for ProtocolViolationErrorCause {
+    ghost output = { λ c. Some (protocol_violation_text (protocol_violation_view c)) };
+
+    fn fmt<W: fmt::Write>(&self, f: &mut fmt::Formatter<W>) -> fmt::Result {
+        let information = &self.information;
+        write!(
+            f,
+            "Protocol Violation, additional_information={information}"
+        )
+    }
+}

@@ -1,0 +1,82 @@
+//! Unrecognized Chunk Type: the receiver doesn't know a chunk's type, and its sender asked to be told.
+//!
+//! ```txt
+//!  0                   1                   2                   3
+//!  0 1 2 3 4 5 6 7 8 9 0 1 2 3 4 5 6 7 8 9 0 1 2 3 4 5 6 7 8 9 0 1
+//! +-+-+-+-+-+-+-+-+-+-+-+-+-+-+-+-+-+-+-+-+-+-+-+-+-+-+-+-+-+-+-+-+
+//! |            code = 6           |             length            |
+//! +-+-+-+-+-+-+-+-+-+-+-+-+-+-+-+-+-+-+-+-+-+-+-+-+-+-+-+-+-+-+-+-+
+//! |                    the unrecognized chunk                     |
+//! +-+-+-+-+-+-+-+-+-+-+-+-+-+-+-+-+-+-+-+-+-+-+-+-+-+-+-+-+-+-+-+-+
+//! ```
+
+ghost use Rattle.std.specs.Prelude.{◌≡◌, ◌≢◌, ◌↔◌, Some, IsErrOf};
+ghost use Rattle.dcsctp_tlv.specs.Image.{IsEncodable};
+ghost use Rattle.dcsctp_tlv.specs.Reading.{Gives, IfMeant};
+ghost use Rattle.dcsctp_tlv.specs.Length.{length-typed_tlv};
+ghost use Rattle.dcsctp_cause.specs.UnrecognizedChunk.{unrecognized_chunk_at, unrecognized_chunk_tlv, unrecognized_chunk_text, unrecognized_chunk_view};
+
+use dcsctp_tlv::error::ChunkParseError;
+use dcsctp_tlv::frame::{MAX_VALUE_SIZE, put_typed};
+use dcsctp_tlv::raw_parameter::RawParameter;
+use dcsctp_tlv::tlv::SerializableTlv;
+use std::alloc::Global;
+use std::fmt;
+
+/// The code of this cause.
+pub const CAUSE_CODE: u16 = 6;
+
+/// Unrecognized Chunk Type (RFC 9260 section 3.3.10.6).
+#[derive(Debug, Drop)]
+pub struct UnrecognizedChunkErrorCause {
+    /// The chunk's bytes, with its header; they aren't looked at.
+    pub chunk: Vec<u8>,
+}
+
+#[tactic(auto, unfolding(crate::specs::UnrecognizedChunk::unrecognized_chunk_at))]
+impl UnrecognizedChunkErrorCause {
+    /// Reads the cause, and copies the chunk.
+    ///
+    /// `InvalidType` exactly for another code; `OutOfMemory` only where the chunk can't be copied.
+    pub fn try_from(alloc: Global, raw: RawParameter) -> Result<Self, ChunkParseError>
+        ensures other { IsErrOf result ChunkParseError.InvalidType ↔ (raw.entry.typ ≢ CAUSE_CODE) }
+        ensures own { raw.entry.typ ≡ CAUSE_CODE → Gives IfMeant unrecognized_chunk_view result (unrecognized_chunk_at raw.entry.value.now) }
+    {
+        if raw.typ != CAUSE_CODE {
+            return Err(ChunkParseError::InvalidType);
+        }
+        Ok(UnrecognizedChunkErrorCause {
+            chunk: Vec::from_slice(alloc, raw.value)?,
+        })
+    }
+}
+
+impl SerializableTlv for UnrecognizedChunkErrorCause {
+    ghost tlv = { λ c. unrecognized_chunk_tlv (unrecognized_chunk_view c) };
+
+    ghost is_encodable = { λ c. IsEncodable (unrecognized_chunk_tlv (unrecognized_chunk_view c)) };
+
+    ghost image_length = { λ c fits. length-typed_tlv 6 (unrecognized_chunk_view c) };
+
+    ghost size_bound = { λ c fits. fits };
+
+    fn serialize_to(&self, output: &mut [u8]) {
+        put_typed(CAUSE_CODE, &self.chunk, output);
+    }
+
+    fn value_size(&self) -> usize {
+        self.chunk.len()
+    }
+
+    fn encodable(&self) -> bool {
+        self.chunk.len() <= MAX_VALUE_SIZE
+    }
+}
+
+impl fmt::Display for UnrecognizedChunkErrorCause {
+    ghost output = { λ c. Some unrecognized_chunk_text };
+
+    fn fmt<W: fmt::Write>(&self, f: &mut fmt::Formatter<W>) -> fmt::Result {
+        write!(f, "Unrecognized Chunk Type")
+    }
+}

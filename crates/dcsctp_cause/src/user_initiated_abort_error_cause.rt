@@ -1,0 +1,87 @@
+//! User-Initiated Abort: the upper layer asked for the abort.
+//!
+//! ```txt
+//!  0                   1                   2                   3
+//!  0 1 2 3 4 5 6 7 8 9 0 1 2 3 4 5 6 7 8 9 0 1 2 3 4 5 6 7 8 9 0 1
+//! +-+-+-+-+-+-+-+-+-+-+-+-+-+-+-+-+-+-+-+-+-+-+-+-+-+-+-+-+-+-+-+-+
+//! |           code = 12           |             length            |
+//! +-+-+-+-+-+-+-+-+-+-+-+-+-+-+-+-+-+-+-+-+-+-+-+-+-+-+-+-+-+-+-+-+
+//! |                        reason, a text                         |
+//! +-+-+-+-+-+-+-+-+-+-+-+-+-+-+-+-+-+-+-+-+-+-+-+-+-+-+-+-+-+-+-+-+
+//! ```
+
+ghost use Rattle.std.specs.Prelude.{◌≡◌, ◌≢◌, ◌↔◌, Some, IsErrOf};
+ghost use Rattle.dcsctp_tlv.specs.Image.{IsEncodable};
+ghost use Rattle.dcsctp_tlv.specs.Reading.{Gives, IfMeant};
+ghost use Rattle.dcsctp_tlv.specs.Length.{length-typed_tlv};
+ghost use Rattle.dcsctp_cause.specs.UserInitiatedAbort.{user_initiated_abort_at, user_initiated_abort_tlv, user_initiated_abort_text, user_initiated_abort_view};
+
+use crate::text::text_or;
+use dcsctp_tlv::error::ChunkParseError;
+use dcsctp_tlv::frame::{MAX_VALUE_SIZE, put_typed};
+use dcsctp_tlv::raw_parameter::RawParameter;
+use dcsctp_tlv::tlv::SerializableTlv;
+use std::alloc::Global;
+use std::fmt;
+
+/// The code of this cause.
+pub const CAUSE_CODE: u16 = 12;
+
+/// What is read in place of a reason that isn't UTF-8.
+const UNREADABLE: &str = "Failed to parse abort reason";
+
+/// User-Initiated Abort (RFC 9260 section 3.3.10.12).
+#[derive(Debug, Drop)]
+pub struct UserInitiatedAbortErrorCause {
+    /// Why, in the upper layer's words.
+    pub reason: String,
+}
+
+#[tactic(auto, unfolding(crate::specs::UserInitiatedAbort::user_initiated_abort_at))]
+impl UserInitiatedAbortErrorCause {
+    /// Reads the cause, and copies the text; where the value isn't UTF-8, the text says so.
+    ///
+    /// `InvalidType` exactly for another code; `OutOfMemory` only where the text can't be copied.
+    pub fn try_from(alloc: Global, raw: RawParameter) -> Result<Self, ChunkParseError>
+        ensures other { IsErrOf result ChunkParseError.InvalidType ↔ (raw.entry.typ ≢ CAUSE_CODE) }
+        ensures own { raw.entry.typ ≡ CAUSE_CODE → Gives IfMeant user_initiated_abort_view result (user_initiated_abort_at raw.entry.value.now) }
+    {
+        if raw.typ != CAUSE_CODE {
+            return Err(ChunkParseError::InvalidType);
+        }
+        Ok(UserInitiatedAbortErrorCause {
+            reason: text_or(alloc, UNREADABLE, raw.value)?,
+        })
+    }
+}
+
+impl SerializableTlv for UserInitiatedAbortErrorCause {
+    ghost tlv = { λ c. user_initiated_abort_tlv (user_initiated_abort_view c) };
+
+    ghost is_encodable = { λ c. IsEncodable (user_initiated_abort_tlv (user_initiated_abort_view c)) };
+
+    ghost image_length = { λ c fits. length-typed_tlv 12 (user_initiated_abort_view c) };
+
+    ghost size_bound = { λ c fits. fits };
+
+    fn serialize_to(&self, output: &mut [u8]) {
+        put_typed(CAUSE_CODE, self.reason.as_bytes(), output);
+    }
+
+    fn value_size(&self) -> usize {
+        self.reason.len()
+    }
+
+    fn encodable(&self) -> bool {
+        self.reason.len() <= MAX_VALUE_SIZE
+    }
+}
+
+impl fmt::Display for UserInitiatedAbortErrorCause {
+    ghost output = { λ c. Some (user_initiated_abort_text (user_initiated_abort_view c)) };
+
+    fn fmt<W: fmt::Write>(&self, f: &mut fmt::Formatter<W>) -> fmt::Result {
+        let reason = &self.reason;
+        write!(f, "User-Initiated Abort, reason={reason}")
+    }
+}
