@@ -7,3 +7,4 @@ pub mod Laws
 pub mod ReadsBack
 pub mod Texts
 pub mod Puts
+pub mod KindLaws
