@@ -25,7 +25,7 @@ use crate::user_initiated_abort_error_cause::{self, UserInitiatedAbortErrorCause
 use dcsctp_tlv::error::ChunkParseError;
 use dcsctp_tlv::raw_parameter::RawParameter;
 use dcsctp_tlv::reader::{ReadableTlv, list_from_bytes};
-use dcsctp_tlv::tlv::SerializableTlv;
+use dcsctp_tlv::tlv::{ListedTlv, SerializableTlv};
 use dcsctp_tlv::unknown_parameter::UnknownParameter;
 use std::alloc::Global;
 use std::fmt;
@@ -163,6 +163,18 @@ impl fmt::Display for ErrorCause {
             ErrorCause::Unknown(c) => c.fmt(f),
         }
     }
+}
+
+impl ListedTlv for ErrorCause {
+    ghost Tree = { CauseTree };
+
+    ghost view = { view };
+
+    ghost tree_tlv = { cause_tlv };
+
+    ghost same_tlv = { λ c. refl };
+
+    ghost size_decides = { λ c fits. fits };
 }
 
 /// Reads all the bytes as a list of error causes; no bytes are the empty list.

@@ -2,11 +2,12 @@
 //! of 4 bytes. The functions keep the name of their first use, lists of parameters, and serve
 //! lists of error causes and of chunks too.
 
-ghost use Rattle.std.specs.Prelude.{◌≡◌, ◌≤◌, ◌↔◌, length, IsTrue};
-ghost use Rattle.dcsctp_tlv.specs.Image.{written, list_image, list_size, IsListEncodable};
+ghost use Rattle.std.specs.Prelude.{◌≡◌, ◌≤◌, ◌<◌, ◌+◌, ◌^◌, ◌↔◌, length, map, IsTrue};
+ghost use Rattle.dcsctp_tlv.specs.Image.{written, image_of, size_of, IsEncodable, list_image, list_size, listed_tlv, IsListEncodable};
 
+use crate::frame::{MAX_VALUE_SIZE, TLV_HEADER_SIZE, put_header};
 use crate::number::round_up_to_4;
-use crate::tlv::SerializableTlv;
+use crate::tlv::{ListedTlv, SerializableTlv};
 
 /// Each item can be written, and the list has at most 65,535 bytes.
 pub fn parameters_encodable<T: SerializableTlv>(list: &[T]) -> bool
@@ -51,4 +52,42 @@ pub fn parameters_serialize_to<T: SerializableTlv>(list: &[T], output: &mut [u8]
         item.serialize_to(rest);
         end = start + item.serialized_size();
     }
+}
+
+/// The list can be written in one value behind so many bytes.
+pub fn listed_encodable<T: ListedTlv>(leading: usize, list: &[T]) -> bool
+    requires { leading ≤ MAX_VALUE_SIZE }
+    ensures { IsTrue result ↔ 4 + (leading + list_size T.tree_tlv (map T.view list.now)) < 2 ^ 16 }
+{
+    if !parameters_encodable(list) {
+        return false;
+    }
+    parameters_serialized_size(list) <= MAX_VALUE_SIZE - leading
+}
+
+/// The bytes of a value with the list behind so many bytes.
+pub fn listed_size<T: ListedTlv>(leading: usize, list: &[T]) -> usize
+    requires { 4 + (leading + list_size T.tree_tlv (map T.view list.now)) < 2 ^ 16 }
+    ensures { result ≡ leading + list_size T.tree_tlv (map T.view list.now) }
+{
+    leading + parameters_serialized_size(list)
+}
+
+/// Writes an item whose value begins with these bytes, and behind them is the list.
+pub fn put_listed<T: ListedTlv>(
+    first: u8,
+    second: u8,
+    leading: &[u8],
+    list: &[T],
+    output: &mut [u8],
+)
+    requires encodable { IsEncodable (listed_tlv first second leading.now T.tree_tlv (map T.view list.now)) }
+    requires room { size_of (listed_tlv first second leading.now T.tree_tlv (map T.view list.now)) ≤ length output.old }
+    ensures { output.new ≡ written (image_of (listed_tlv first second leading.now T.tree_tlv (map T.view list.now))) output.old }
+{
+    put_header(first, second, listed_size(leading.len(), list), output);
+    let (_, value) = output.split_at_mut(TLV_HEADER_SIZE);
+    let (front, rest) = value.split_at_mut(leading.len());
+    front.copy_from_slice(leading);
+    parameters_serialize_to(list, rest);
 }

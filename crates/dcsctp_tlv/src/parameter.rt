@@ -27,7 +27,7 @@ use crate::reader::{ReadableTlv, list_from_bytes};
 use crate::reconfiguration_response_parameter::{self, ReconfigurationResponseParameter};
 use crate::state_cookie_parameter::{self, StateCookieParameter};
 use crate::supported_extensions_parameter::{self, SupportedExtensionsParameter};
-use crate::tlv::SerializableTlv;
+use crate::tlv::{ListedTlv, SerializableTlv};
 use crate::unknown_parameter::UnknownParameter;
 use crate::zero_checksum_acceptable_parameter::{self, ZeroChecksumAcceptableParameter};
 use std::alloc::Global;
@@ -194,6 +194,18 @@ impl SerializableTlv for Parameter {
             Parameter::ZeroChecksumAcceptable(p) => p.encodable(),
         }
     }
+}
+
+impl ListedTlv for Parameter {
+    ghost Tree = { ParameterTree };
+
+    ghost view = { view };
+
+    ghost tree_tlv = { parameter_tlv };
+
+    ghost same_tlv = { λ p. refl };
+
+    ghost size_decides = { λ p fits. fits };
 }
 
 /// Reads all the bytes as a list of parameters; no bytes are the empty list.

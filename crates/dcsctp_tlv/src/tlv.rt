@@ -1,7 +1,7 @@
 //! What can be written: chunks, parameters and error causes.
 
 ghost use Rattle.std.specs.Prelude.{◌≡◌, ◌≤◌, ◌<◌, ◌+◌, ◌^◌, ◌↔◌, length, IsTrue};
-ghost use Rattle.dcsctp_tlv.specs.Image.{Tlv, size_of, image_of, written};
+ghost use Rattle.dcsctp_tlv.specs.Image.{Tlv, size_of, image_of, IsEncodable, written};
 
 /// A chunk, a parameter or an error cause that can be sized and written.
 ///
@@ -41,4 +41,20 @@ pub trait SerializableTlv {
     ghost image_length: { (x : Self) → is_encodable x → length (image_of (tlv x)) ≡ size_of (tlv x) };
 
     ghost size_bound: { (x : Self) → is_encodable x → size_of (tlv x) < 2 ^ 16 };
+}
+
+/// What a list in a chunk's value holds: parameters or error causes.
+pub trait ListedTlv: SerializableTlv {
+    /// What it means.
+    ghost Tree: { Type 0 };
+
+    ghost view: { Self → Tree };
+
+    /// What it means, as it is written.
+    ghost tree_tlv: { Tree → Tlv };
+
+    ghost same_tlv: { (x : Self) → Self.tlv x ≡ tree_tlv (view x) };
+
+    /// Nothing but its size is asked of it.
+    ghost size_decides: { (x : Self) → IsEncodable (Self.tlv x) → Self.is_encodable x };
 }

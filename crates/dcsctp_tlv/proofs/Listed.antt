@@ -1,0 +1,55 @@
+-- A list in a value: of the code's items, seen by what they mean.
+use Rattle.std.proofs.Common.{◌≡◌, ℕ, ◌+◌, ◌^◌, ◌<◌, ◌≤◌, List, [], ◌∷◌, ◌++◌, length, drop, refl, ap, ◌∙◌, arith, Option, Some}
+use Rattle.std.specs.Prelude.{map}
+use Rattle.std.specs.List.{AllByRecursion}
+use Rattle.std.proofs.lemmas.List.{length-append, length-map}
+use Rattle.std.proofs.lemmas.List.Elements.{All-from_recursion}
+use Rattle.dcsctp_tlv.specs.Image.{solid, written, Tlv, size_of, image_of, IsEncodable, list_image, list_size, listed_tlv, IsListEncodable}
+use Rattle.dcsctp_tlv.specs.Length.{length-image_of}
+use Rattle.dcsctp_tlv.proofs.Images.{list_size-map, list_image-map, AreSized, length-list_image, all_from}
+
+module _ {A B : Type 0} (tlv : A → Tlv) (view : A → B) (tree_tlv : B → Tlv) (same : (x : A) → tlv x ≡ tree_tlv (view x)) where
+  all_same : tlv ≡ (λ x. tree_tlv (view x))
+  all_same = λ k x. same x k
+
+  pub list_size-view : (xs : List A) → list_size tlv xs ≡ list_size tree_tlv (map view xs)
+  list_size-view xs = ap (λ (f : A → Tlv). list_size f xs) all_same ∙ list_size-map tree_tlv view xs
+
+  pub list_image-view : (xs : List A) → list_image tlv xs ≡ list_image tree_tlv (map view xs)
+  list_image-view xs = ap (λ (f : A → Tlv). list_image f xs) all_same ∙ list_image-map tree_tlv view xs
+
+-- each item of a list that can be written can be
+pub each_encodable : {A : Type 0} (tlv : A → Tlv) (xs : List A) → list_size tlv xs < 2 ^ 16 → AllByRecursion (λ x. IsEncodable (tlv x)) xs
+each_encodable tlv [] h = tt
+each_encodable tlv (x ∷ []) h = (h, tt)
+each_encodable tlv (x ∷ y ∷ xs) h = (omega (arith, h), each_encodable tlv (y ∷ xs) (omega (arith, h)))
+
+pub list_encodable : {A : Type 0} (tlv : A → Tlv) (is_encodable : A → Type 0) → ((x : A) → IsEncodable (tlv x) → is_encodable x) → (xs : List A) → list_size tlv xs < 2 ^ 16 → IsListEncodable tlv is_encodable xs
+list_encodable tlv is_encodable decides xs h = record {
+  each = All-from_recursion is_encodable xs (all_from (λ x. IsEncodable (tlv x)) is_encodable xs decides (each_encodable tlv xs h));
+  total = h;
+}
+
+-- bytes at the front of a value, and behind them an image
+pub written_front : (front : List ℕ) (image : List (Option ℕ)) (old : List ℕ) → length front ≤ length old → front ++ written image (drop (length front) old) ≡ written (solid front ++ image) old
+written_front [] image old le = refl
+written_front (b ∷ front) image [] le = absurd (omega arith)
+written_front (b ∷ front) image (x ∷ old) le = ap (λ (xs : List ℕ). b ∷ xs) (written_front front image old (omega arith))
+
+-- ---- its length
+
+module _ {T : Type 0} (tlv : T → Tlv) (law : (t : T) → length (image_of (tlv t)) ≡ size_of (tlv t)) where
+  each_sized : (ts : List T) → AreSized tlv ts
+  each_sized [] = tt
+  each_sized (t ∷ ts) = (law t, each_sized ts)
+
+  -- a value with a list has the size that is counted
+  pub listed_sized : (first second : ℕ) (leading : List ℕ) (ts : List T) → length (listed_tlv first second leading tlv ts).value ≡ (listed_tlv first second leading tlv ts).value_size
+  listed_sized first second leading ts =
+      let whole = length-append (solid leading) (list_image tlv ts) in
+      let front = length-map leading Some in
+      let back = length-list_image tlv ts (each_sized ts) in
+      omega (arith, whole, front, back)
+
+  pub length-listed_tlv : (first second : ℕ) (leading : List ℕ) (ts : List T) → length (image_of (listed_tlv first second leading tlv ts)) ≡ size_of (listed_tlv first second leading tlv ts)
+  length-listed_tlv first second leading ts = length-image_of (listed_tlv first second leading tlv ts) (listed_sized first second leading ts)
