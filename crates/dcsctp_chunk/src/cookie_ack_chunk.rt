@@ -20,6 +20,7 @@ use dcsctp_tlv::frame::put_solid;
 use dcsctp_tlv::tlv::SerializableTlv;
 use std::fmt;
 
+/// The type of COOKIE ACK.
 pub const CHUNK_TYPE: u8 = 11;
 
 /// COOKIE ACK (RFC 9260 section 3.3.12). It holds nothing.

@@ -23,6 +23,7 @@ use dcsctp_tlv::tlv::SerializableTlv;
 use std::alloc::{AllocError, Global};
 use std::fmt;
 
+/// The type of COOKIE ECHO.
 pub const CHUNK_TYPE: u8 = 10;
 
 /// COOKIE ECHO (RFC 9260 section 3.3.11).

@@ -3,6 +3,9 @@
 
 pub mod cookie_ack_chunk;
 pub mod cookie_echo_chunk;
+pub mod flags;
 pub mod raw_chunk;
+pub mod shutdown_ack_chunk;
 pub mod shutdown_chunk;
+pub mod shutdown_complete_chunk;
 pub mod unknown_chunk;

@@ -25,6 +25,7 @@ use dcsctp_tlv::tlv::SerializableTlv;
 use dcsctp_types::types::Tsn;
 use std::fmt;
 
+/// The type of SHUTDOWN.
 pub const CHUNK_TYPE: u8 = 7;
 
 /// SHUTDOWN (RFC 9260 section 3.3.8).

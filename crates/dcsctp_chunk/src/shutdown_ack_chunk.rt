@@ -1,0 +1,77 @@
+//! SHUTDOWN ACK: the answer to a SHUTDOWN.
+//!
+//! ```txt
+//!  0                   1                   2                   3
+//!  0 1 2 3 4 5 6 7 8 9 0 1 2 3 4 5 6 7 8 9 0 1 2 3 4 5 6 7 8 9 0 1
+//! +-+-+-+-+-+-+-+-+-+-+-+-+-+-+-+-+-+-+-+-+-+-+-+-+-+-+-+-+-+-+-+-+
+//! |   type = 8    |     flags     |          length = 4           |
+//! +-+-+-+-+-+-+-+-+-+-+-+-+-+-+-+-+-+-+-+-+-+-+-+-+-+-+-+-+-+-+-+-+
+//! ```
+
+ghost use Rattle.std.specs.Prelude.{◌≡◌, ◌≢◌, ◌↔◌, [], Some, IsErrOf};
+ghost use Rattle.dcsctp_tlv.specs.Image.{IsEncodable};
+ghost use Rattle.dcsctp_tlv.specs.Reading.{Gives, Never};
+ghost use Rattle.dcsctp_tlv.proofs.Images.{length-solid_tlv};
+ghost use Rattle.dcsctp_chunk.specs.ShutdownAck.{shutdown_ack_at, shutdown_ack_tlv, shutdown_ack_text, shutdown_ack_view};
+
+use crate::raw_chunk::RawChunk;
+use dcsctp_tlv::error::ChunkParseError;
+use dcsctp_tlv::frame::put_solid;
+use dcsctp_tlv::tlv::SerializableTlv;
+use std::fmt;
+
+/// The type of SHUTDOWN ACK.
+pub const CHUNK_TYPE: u8 = 8;
+
+/// SHUTDOWN ACK (RFC 9260 section 3.3.9). It holds nothing.
+#[derive(Debug, Drop)]
+pub struct ShutdownAckChunk;
+
+#[tactic(auto, unfolding(crate::specs::ShutdownAck::shutdown_ack_at))]
+impl ShutdownAckChunk {
+    /// Reads the chunk; flags are ignored, and no memory is taken.
+    ///
+    /// `InvalidType` exactly for another type; `InvalidLength` exactly where the value isn't empty.
+    pub fn try_from(raw: RawChunk) -> Result<Self, ChunkParseError>
+        ensures other { IsErrOf result ChunkParseError.InvalidType ↔ (raw.entry.typ ≢ CHUNK_TYPE) }
+        ensures own { raw.entry.typ ≡ CHUNK_TYPE → Gives Never shutdown_ack_view result (shutdown_ack_at raw.entry.value.now) }
+    {
+        if raw.typ != CHUNK_TYPE {
+            return Err(ChunkParseError::InvalidType);
+        }
+        if !raw.value.is_empty() {
+            return Err(ChunkParseError::InvalidLength);
+        }
+        Ok(ShutdownAckChunk)
+    }
+}
+
+impl SerializableTlv for ShutdownAckChunk {
+    ghost tlv = { λ c. shutdown_ack_tlv };
+
+    ghost is_encodable = { λ c. IsEncodable shutdown_ack_tlv };
+
+    ghost image_length = { λ c fits. length-solid_tlv 8 0 [] };
+
+    ghost size_bound = { λ c fits. fits };
+
+    fn serialize_to(&self, output: &mut [u8]) {
+        put_solid(CHUNK_TYPE, 0, &[], output);
+    }
+
+    fn value_size(&self) -> usize {
+        0
+    }
+
+    fn encodable(&self) -> bool {
+        true
+    }
+}
+
+impl fmt::Display for ShutdownAckChunk {
+    ghost output = { λ c. Some shutdown_ack_text };
+
+    fn fmt<W: fmt::Write>(&self, f: &mut fmt::Formatter<W>) -> fmt::Result {
+        write!(f, "SHUTDOWN-ACK")
+    }
+}

@@ -1,0 +1,86 @@
+//! SHUTDOWN COMPLETE: the answer to a SHUTDOWN ACK, after which the association is over.
+//!
+//! ```txt
+//!  0                   1                   2                   3
+//!  0 1 2 3 4 5 6 7 8 9 0 1 2 3 4 5 6 7 8 9 0 1 2 3 4 5 6 7 8 9 0 1
+//! +-+-+-+-+-+-+-+-+-+-+-+-+-+-+-+-+-+-+-+-+-+-+-+-+-+-+-+-+-+-+-+-+
+//! |   type = 14   |  reserved   |T|          length = 4           |
+//! +-+-+-+-+-+-+-+-+-+-+-+-+-+-+-+-+-+-+-+-+-+-+-+-+-+-+-+-+-+-+-+-+
+//! ```
+
+ghost use Rattle.std.specs.Prelude.{◌≡◌, ◌≢◌, ◌↔◌, [], ◌∷◌, Some, IsErrOf};
+ghost use Rattle.dcsctp_tlv.specs.Image.{IsEncodable};
+ghost use Rattle.dcsctp_tlv.specs.Reading.{Gives, Never};
+ghost use Rattle.dcsctp_tlv.proofs.Images.{length-solid_tlv};
+ghost use Rattle.dcsctp_chunk.specs.Flags.{flag_byte};
+ghost use Rattle.dcsctp_chunk.specs.ShutdownComplete.{shutdown_complete_at, shutdown_complete_tlv, shutdown_complete_text, shutdown_complete_view};
+
+use crate::flags::{is_set, one_flag};
+use crate::raw_chunk::RawChunk;
+use dcsctp_tlv::error::ChunkParseError;
+use dcsctp_tlv::frame::put_solid;
+use dcsctp_tlv::tlv::SerializableTlv;
+use std::fmt;
+
+/// The type of SHUTDOWN COMPLETE.
+pub const CHUNK_TYPE: u8 = 14;
+
+/// SHUTDOWN COMPLETE (RFC 9260 section 3.3.13).
+#[derive(Debug, Drop)]
+pub struct ShutdownCompleteChunk {
+    /// Whether the packet's verification tag is the receiver's own, sent back to it: the T bit. It
+    /// is set where the sender has no association.
+    pub tag_reflected: bool,
+}
+
+#[tactic(auto, unfolding(crate::specs::ShutdownComplete::shutdown_complete_at))]
+impl ShutdownCompleteChunk {
+    /// Reads the chunk; flags but the T bit are ignored, and no memory is taken.
+    ///
+    /// `InvalidType` exactly for another type; `InvalidLength` exactly where the value isn't empty.
+    pub fn try_from(raw: RawChunk) -> Result<Self, ChunkParseError>
+        ensures other { IsErrOf result ChunkParseError.InvalidType ↔ (raw.entry.typ ≢ CHUNK_TYPE) }
+        ensures own { raw.entry.typ ≡ CHUNK_TYPE → Gives Never shutdown_complete_view result (shutdown_complete_at raw.entry.flags raw.entry.value.now) }
+    {
+        if raw.typ != CHUNK_TYPE {
+            return Err(ChunkParseError::InvalidType);
+        }
+        if !raw.value.is_empty() {
+            return Err(ChunkParseError::InvalidLength);
+        }
+        Ok(ShutdownCompleteChunk {
+            tag_reflected: is_set(raw.flags, 0),
+        })
+    }
+}
+
+impl SerializableTlv for ShutdownCompleteChunk {
+    ghost tlv = { λ c. shutdown_complete_tlv (shutdown_complete_view c) };
+
+    ghost is_encodable = { λ c. IsEncodable (shutdown_complete_tlv (shutdown_complete_view c)) };
+
+    ghost image_length = { λ c fits. length-solid_tlv 14 (flag_byte (c.tag_reflected ∷ [])) [] };
+
+    ghost size_bound = { λ c fits. fits };
+
+    fn serialize_to(&self, output: &mut [u8]) {
+        put_solid(CHUNK_TYPE, one_flag(self.tag_reflected), &[], output);
+    }
+
+    fn value_size(&self) -> usize {
+        0
+    }
+
+    fn encodable(&self) -> bool {
+        true
+    }
+}
+
+impl fmt::Display for ShutdownCompleteChunk {
+    ghost output = { λ c. Some (shutdown_complete_text (shutdown_complete_view c)) };
+
+    fn fmt<W: fmt::Write>(&self, f: &mut fmt::Formatter<W>) -> fmt::Result {
+        let tag_reflected = self.tag_reflected;
+        write!(f, "SHUTDOWN-COMPLETE, tag_reflected={tag_reflected}")
+    }
+}
