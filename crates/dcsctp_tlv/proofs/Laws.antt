@@ -6,7 +6,7 @@ use Rattle.std.proofs.lemmas.List.{append-nil, get_or-drop, get_or-take, get_or_
 use Rattle.dcsctp_tlv.specs.Fault.{Fault, Length, Padding}
 use Rattle.dcsctp_tlv.specs.Number.{AreBytes}
 use Rattle.dcsctp_tlv.specs.Frame.{round_up_to_4, padding_size, lenient, Item, item_bytes, PaddingRule, frame_length, BeginsWithFrame, frame_value, frame_padding, frame_rest}
-use Rattle.dcsctp_tlv.specs.Level.{Row, Level, ItemsMean, MeansTrees, HasFault, BeginsWithFault, no_frame, value, padding, front_row, plain, pick, listed}
+use Rattle.dcsctp_tlv.specs.Level.{Row, Level, ItemsMean, MeansTrees, HasFault, BeginsWithFault, no_frame, value, padding, front_row, plain, as_row, pick, listed}
 use Rattle.dcsctp_tlv.proofs.Items.{IsNext, AreBefore, front_item, front_split, front_next, next_one, item_frame, items_before, whole_before}
 use Rattle.dcsctp_tlv.proofs.Lists.{Progress, begin, step, finish, fault}
 
@@ -43,6 +43,17 @@ plain_lawful {T} read = record {
 pub pick_lawful : {T : Type 0} (b : Bool) (row others : Row T) → LawfulRow row → LawfulRow others → LawfulRow (pick b row others)
 pick_lawful true row others p q = p
 pick_lawful false row others p q = q
+
+pub as_lawful : {A B : Type 0} (f : A → B) (row : Row A) → LawfulRow row → LawfulRow (as_row f row)
+as_lawful {A} {B} f row law = record {
+  one = λ v s t p q. p.2 ∙ ap f (law.one v p.0 q.0 p.1 q.1) ∙ sym q.2;
+  apart = λ v t e fits p q. law.apart v p.0 e fits p.1 q;
+  same = law.same;
+  some = λ v fits. elim (law.some v fits) [
+    | inl m ↦ inl (f m.0, (m.0, m.1, refl))
+    | inr x ↦ inr x
+  ];
+}
 
 -- ---- lists
 

@@ -1,9 +1,13 @@
 -- A list in a value: of the code's items, seen by what they mean.
-use Rattle.std.proofs.Common.{◌≡◌, ℕ, ◌+◌, ◌^◌, ◌<◌, ◌≤◌, List, [], ◌∷◌, ◌++◌, length, drop, refl, ap, ◌∙◌, arith, Option, Some}
+use Rattle.std.proofs.Common.{◌≡◌, ℕ, Bool, true, inr, ◌+◌, ◌^◌, ◌<◌, ◌≤◌, List, [], ◌∷◌, ◌++◌, length, drop, refl, ap, ◌∙◌, arith, Option, Some}
 use Rattle.std.specs.Prelude.{map}
 use Rattle.std.specs.List.{AllByRecursion}
 use Rattle.std.proofs.lemmas.List.{length-append, length-map}
 use Rattle.std.proofs.lemmas.List.Elements.{All-from_recursion}
+use Rattle.dcsctp_tlv.specs.declared.error.ChunkParseError.{ChunkParseError}
+use Rattle.dcsctp_tlv.specs.declared.error.ChunkParseError.TheVariants.{InvalidLength, InvalidType, InvalidPadding, InvalidValue, OutOfMemory}
+use Rattle.dcsctp_tlv.specs.Level.{Level, HasFault, listed}
+use Rattle.dcsctp_tlv.specs.Reading.{TellsFault}
 use Rattle.dcsctp_tlv.specs.Image.{solid, written, Tlv, size_of, image_of, IsEncodable, list_image, list_size, listed_tlv, IsListEncodable}
 use Rattle.dcsctp_tlv.specs.Length.{length-image_of}
 use Rattle.dcsctp_tlv.proofs.Images.{list_size-map, list_image-map, AreSized, length-list_image, all_from}
@@ -35,6 +39,17 @@ pub written_front : (front : List ℕ) (image : List (Option ℕ)) (old : List �
 written_front [] image old le = refl
 written_front (b ∷ front) image [] le = absurd (omega arith)
 written_front (b ∷ front) image (x ∷ old) le = ap (λ (xs : List ℕ). b ∷ xs) (written_front front image old (omega arith))
+
+-- ---- what a reader answers
+
+-- the rule holds, and the list is at fault
+pub listed_fault : {T U : Type 0} (rule : List ℕ → Bool) (place : ℕ) (level : Level U) (tree_of : List ℕ → List U → T) (value : List ℕ) (e : ChunkParseError) → rule value ≡ true
+    → TellsFault (HasFault level (drop place value)) e → TellsFault ((listed rule place level tree_of).faults value) e
+listed_fault rule place level tree_of value OutOfMemory h f = tt
+listed_fault rule place level tree_of value InvalidLength h f = inr (h, f)
+listed_fault rule place level tree_of value InvalidType h f = absurd f
+listed_fault rule place level tree_of value InvalidPadding h f = inr (h, f)
+listed_fault rule place level tree_of value InvalidValue h f = inr (h, f)
 
 -- ---- its length
 

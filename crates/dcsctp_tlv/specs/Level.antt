@@ -28,6 +28,10 @@ abbrev pub pick : {T : Type 0} → Bool → Row T → Row T → Row T
 pick true row others = row
 pick false row others = others
 
+-- a kind's row, where its trees are trees of the level
+abbrev pub as_row : {A B : Type 0} → (A → B) → Row A → Row B
+as_row f row = record { means = λ value tree. (x : _) × row.means value x × (tree ≡ f x); faults = row.faults }
+
 -- the value means some tree
 abbrev pub HasMeaning : {T : Type 0} → Row T → List ℕ → Type 0
 HasMeaning row value = (tree : _) × row.means value tree
@@ -76,7 +80,7 @@ pub record HasFault {T : Type 0} (level : Level T) (bytes : List ℕ) (e : Fault
 
 -- ---- a kind with a list of another level in its value
 
--- A value whose bytes up to a place follow a rule, and behind it are a list. The rule comes first.
+-- A value that follows a rule, and behind its first bytes is a list. The rule comes first.
 abbrev pub listed : {T U : Type 0} → (List ℕ → Bool) → ℕ → Level U → (List ℕ → List U → T) → Row T
 listed rule place level tree_of = record {
   means = λ value tree. (rule value ≡ true) × ((trees : List _) × MeansTrees level (drop place value) trees × (tree ≡ tree_of value trees));

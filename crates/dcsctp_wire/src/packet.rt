@@ -1,7 +1,15 @@
 //! The packet, the chunks, and what they are made of: a module a kind, named as its type.
 
+pub mod abort_chunk;
 mod builder;
 pub mod chunk;
+pub mod error_chunk;
+pub mod heartbeat_ack_chunk;
+pub mod heartbeat_request_chunk;
+mod init;
+pub mod init_ack_chunk;
+pub mod init_chunk;
+pub mod re_config_chunk;
 pub mod sctp_packet;
 
 pub use dcsctp_cause::{

@@ -1,0 +1,10 @@
+use Rattle.std.proofs.Common.{ap, ◌∙◌, ℕ, List}
+use Rattle.dcsctp_tlv.specs.Image.{image_of, listed_tlv, written}
+use Rattle.dcsctp_tlv.specs.Parameter.{ParameterTree, parameter_tlv, views}
+use Rattle.dcsctp_wire.specs.Init.{init_numbers, init_ack_view}
+use Rattle.dcsctp_wire.proofs.packet.init_ack_chunk.InitAckChunkSerializableTlv.serialize_to.Goals as goal
+
+pub returns : goal.returns
+returns c =
+    let with : List ℕ → List ParameterTree → List ℕ = λ numbers ps. written (image_of (listed_tlv 2 0 numbers parameter_tlv ps)) c.args.output.now in
+    c.put_listed.ensures ∙ ap (λ (numbers : List ℕ). with numbers (views c.deref.result.now)) c.init_bytes-numbers.ensures ∙ ap (λ (ps : List _). with (init_numbers (init_ack_view c.args.self.now)) (views ps)) c.deref.ensures.value

@@ -1,0 +1,102 @@
+//! ABORT: ends an association at once, and may say why.
+//!
+//! ```txt
+//!  0                   1                   2                   3
+//!  0 1 2 3 4 5 6 7 8 9 0 1 2 3 4 5 6 7 8 9 0 1 2 3 4 5 6 7 8 9 0 1
+//! +-+-+-+-+-+-+-+-+-+-+-+-+-+-+-+-+-+-+-+-+-+-+-+-+-+-+-+-+-+-+-+-+
+//! |    type = 6   |  reserved   |T|             length            |
+//! +-+-+-+-+-+-+-+-+-+-+-+-+-+-+-+-+-+-+-+-+-+-+-+-+-+-+-+-+-+-+-+-+
+//! |                       error causes ..                         |
+//! +-+-+-+-+-+-+-+-+-+-+-+-+-+-+-+-+-+-+-+-+-+-+-+-+-+-+-+-+-+-+-+-+
+//! ```
+
+ghost use Rattle.std.specs.Prelude.{◌≡◌, ◌≢◌, ◌↔◌, [], ◌∷◌, false, Some, IsErrOf};
+ghost use Rattle.dcsctp_tlv.specs.Image.{IsEncodable};
+ghost use Rattle.dcsctp_tlv.specs.Reading.{Answers};
+ghost use Rattle.dcsctp_tlv.proofs.Listed.{length-listed_tlv};
+ghost use Rattle.dcsctp_cause.specs.Cause.{cause_tlv, length-cause};
+ghost use Rattle.dcsctp_chunk.specs.Flags.{flag_byte};
+ghost use Rattle.dcsctp_wire.specs.CauseList.{abort_row, abort_tlv, abort_text, abort_view};
+
+use dcsctp_cause::error_causes::{ErrorCause, error_cause_from_bytes};
+use dcsctp_chunk::flags::{is_set, one_flag};
+use dcsctp_chunk::raw_chunk::RawChunk;
+use dcsctp_tlv::error::ChunkParseError;
+use dcsctp_tlv::list::{listed_encodable, listed_size, put_listed};
+use dcsctp_tlv::tlv::SerializableTlv;
+use std::alloc::Global;
+use std::fmt;
+
+/// The type of ABORT.
+pub const CHUNK_TYPE: u8 = 6;
+
+/// ABORT (RFC 9260 section 3.3.7).
+#[derive(Debug, Drop)]
+pub struct AbortChunk {
+    /// Whether the packet's verification tag is the receiver's own, sent back to it: the T bit. It
+    /// is set where the sender has no association.
+    pub tag_reflected: bool,
+    pub error_causes: Vec<ErrorCause>,
+}
+
+impl AbortChunk {
+    /// The chunk without causes, tag not reflected. It takes no memory.
+    pub fn new(alloc: Global) -> AbortChunk
+        ensures tag_reflected { result.tag_reflected ≡ false }
+        ensures error_causes { result.error_causes.items ≡ [] }
+    {
+        AbortChunk {
+            tag_reflected: false,
+            error_causes: Vec::new(alloc),
+        }
+    }
+
+    /// Reads the chunk and its causes, if it has any; flags but the T bit are ignored.
+    ///
+    /// `InvalidType` exactly for another type; else the first fault of the causes from the left;
+    /// or `OutOfMemory`.
+    pub fn try_from(alloc: Global, raw: RawChunk) -> Result<Self, ChunkParseError>
+        ensures other { IsErrOf result ChunkParseError.InvalidType ↔ (raw.entry.typ ≢ CHUNK_TYPE) }
+        ensures own { raw.entry.typ ≡ CHUNK_TYPE → Answers result (λ c. (abort_row raw.entry.flags).means raw.entry.value.now (abort_view c)) ((abort_row raw.entry.flags).faults raw.entry.value.now) }
+    {
+        if raw.typ != CHUNK_TYPE {
+            return Err(ChunkParseError::InvalidType);
+        }
+        Ok(AbortChunk {
+            tag_reflected: is_set(raw.flags, 0),
+            error_causes: error_cause_from_bytes(alloc, raw.value)?,
+        })
+    }
+}
+
+impl SerializableTlv for AbortChunk {
+    ghost tlv = { λ c. abort_tlv (abort_view c) };
+
+    ghost is_encodable = { λ c. IsEncodable (abort_tlv (abort_view c)) };
+
+    ghost image_length = { λ c fits. length-listed_tlv cause_tlv length-cause 6 (flag_byte (c.tag_reflected ∷ [])) [] (abort_view c).causes };
+
+    ghost size_bound = { λ c fits. fits };
+
+    fn serialize_to(&self, output: &mut [u8]) {
+        let flags = one_flag(self.tag_reflected);
+        put_listed(CHUNK_TYPE, flags, &[], &self.error_causes, output);
+    }
+
+    fn value_size(&self) -> usize {
+        listed_size(0, &self.error_causes)
+    }
+
+    fn encodable(&self) -> bool {
+        listed_encodable(0, &self.error_causes)
+    }
+}
+
+impl fmt::Display for AbortChunk {
+    ghost output = { λ c. Some (abort_text (abort_view c)) };
+
+    fn fmt<W: fmt::Write>(&self, f: &mut fmt::Formatter<W>) -> fmt::Result {
+        let tag_reflected = self.tag_reflected;
+        write!(f, "ABORT, tag_reflected={tag_reflected}")
+    }
+}

@@ -1,0 +1,100 @@
+//! ERROR: tells what was wrong, and ends nothing by itself.
+//!
+//! ```txt
+//!  0                   1                   2                   3
+//!  0 1 2 3 4 5 6 7 8 9 0 1 2 3 4 5 6 7 8 9 0 1 2 3 4 5 6 7 8 9 0 1
+//! +-+-+-+-+-+-+-+-+-+-+-+-+-+-+-+-+-+-+-+-+-+-+-+-+-+-+-+-+-+-+-+-+
+//! |    type = 9   |     flags     |             length            |
+//! +-+-+-+-+-+-+-+-+-+-+-+-+-+-+-+-+-+-+-+-+-+-+-+-+-+-+-+-+-+-+-+-+
+//! |                 error causes, one at least ..                 |
+//! +-+-+-+-+-+-+-+-+-+-+-+-+-+-+-+-+-+-+-+-+-+-+-+-+-+-+-+-+-+-+-+-+
+//! ```
+
+ghost use Rattle.std.specs.Prelude.{◌≡◌, ◌≢◌, ◌↔◌, [], Some, IsErrOf};
+ghost use Rattle.dcsctp_tlv.specs.Image.{IsEncodable};
+ghost use Rattle.dcsctp_tlv.specs.Reading.{Answers};
+ghost use Rattle.dcsctp_tlv.proofs.Listed.{length-listed_tlv};
+ghost use Rattle.dcsctp_cause.specs.Cause.{cause_tlv, length-cause};
+ghost use Rattle.dcsctp_wire.specs.CauseList.{error_row, error_tlv, error_text, error_view};
+
+use dcsctp_cause::error_causes::{ErrorCause, error_cause_from_bytes};
+use dcsctp_chunk::raw_chunk::RawChunk;
+use dcsctp_tlv::error::ChunkParseError;
+use dcsctp_tlv::list::{listed_encodable, listed_size, put_listed};
+use dcsctp_tlv::tlv::SerializableTlv;
+use std::alloc::Global;
+use std::fmt;
+
+/// The type of ERROR.
+pub const CHUNK_TYPE: u8 = 9;
+
+/// The bytes of the header.
+pub const HEADER_SIZE: usize = 4;
+
+/// ERROR (RFC 9260 section 3.3.10).
+///
+/// An empty list can be written, but isn't read.
+#[derive(Debug, Drop)]
+pub struct ErrorChunk {
+    pub error_causes: Vec<ErrorCause>,
+}
+
+impl ErrorChunk {
+    /// The chunk without causes. It takes no memory.
+    pub fn new(alloc: Global) -> ErrorChunk
+        ensures { result.error_causes.items ≡ [] }
+    {
+        ErrorChunk {
+            error_causes: Vec::new(alloc),
+        }
+    }
+
+    /// Reads the chunk and its causes; flags are ignored.
+    ///
+    /// `InvalidType` exactly for another type; `InvalidLength` where there are no causes; else the
+    /// first fault of the causes from the left; or `OutOfMemory`.
+    pub fn try_from(alloc: Global, raw: RawChunk) -> Result<Self, ChunkParseError>
+        ensures other { IsErrOf result ChunkParseError.InvalidType ↔ (raw.entry.typ ≢ CHUNK_TYPE) }
+        ensures own { raw.entry.typ ≡ CHUNK_TYPE → Answers result (λ c. error_row.means raw.entry.value.now (error_view c)) (error_row.faults raw.entry.value.now) }
+    {
+        if raw.typ != CHUNK_TYPE {
+            return Err(ChunkParseError::InvalidType);
+        }
+        if raw.value.is_empty() {
+            return Err(ChunkParseError::InvalidLength);
+        }
+        Ok(ErrorChunk {
+            error_causes: error_cause_from_bytes(alloc, raw.value)?,
+        })
+    }
+}
+
+impl SerializableTlv for ErrorChunk {
+    ghost tlv = { λ c. error_tlv (error_view c) };
+
+    ghost is_encodable = { λ c. IsEncodable (error_tlv (error_view c)) };
+
+    ghost image_length = { λ c fits. length-listed_tlv cause_tlv length-cause 9 0 [] (error_view c) };
+
+    ghost size_bound = { λ c fits. fits };
+
+    fn serialize_to(&self, output: &mut [u8]) {
+        put_listed(CHUNK_TYPE, 0, &[], &self.error_causes, output);
+    }
+
+    fn value_size(&self) -> usize {
+        listed_size(0, &self.error_causes)
+    }
+
+    fn encodable(&self) -> bool {
+        listed_encodable(0, &self.error_causes)
+    }
+}
+
+impl fmt::Display for ErrorChunk {
+    ghost output = { λ c. Some error_text };
+
+    fn fmt<W: fmt::Write>(&self, f: &mut fmt::Formatter<W>) -> fmt::Result {
+        write!(f, "ERROR")
+    }
+}

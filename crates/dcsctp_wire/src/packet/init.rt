@@ -1,0 +1,66 @@
+//! What INIT and INIT ACK have in common.
+
+ghost use Rattle.std.specs.Prelude.{◌≡◌, []};
+ghost use Rattle.dcsctp_tlv.specs.Reading.{Answers};
+ghost use Rattle.dcsctp_wire.specs.Init.{init_row, init_numbers, init_fields_view};
+
+use dcsctp_tlv::error::ChunkParseError;
+use dcsctp_tlv::number::{put_u16, put_u32, read_u16_be, read_u32_be};
+use dcsctp_tlv::parameter::{Parameter, parameters_from_bytes};
+use dcsctp_types::types::Tsn;
+use std::alloc::Global;
+
+/// The bytes of the value before the parameters.
+pub(crate) const FIXED_SIZE: usize = 16;
+
+/// What both hold.
+#[derive(Drop)]
+pub(crate) struct InitFields {
+    pub initiate_tag: u32,
+    pub a_rwnd: u32,
+    pub nbr_outbound_streams: u16,
+    pub nbr_inbound_streams: u16,
+    pub initial_tsn: Tsn,
+    pub parameters: Vec<Parameter>,
+}
+
+/// Reads the value: `InvalidLength` where it has fewer than 16 bytes; else the first fault of the
+/// parameters from the left; or `OutOfMemory`.
+pub(crate) fn init_fields_from_bytes(
+    alloc: Global,
+    value: &[u8],
+) -> Result<InitFields, ChunkParseError>
+    ensures { Answers result (λ fields. init_row.means value.now (init_fields_view fields)) (init_row.faults value.now) }
+{
+    if value.len() < FIXED_SIZE {
+        return Err(ChunkParseError::InvalidLength);
+    }
+    let parameters = parameters_from_bytes(alloc, &value[FIXED_SIZE..])?;
+    Ok(InitFields {
+        initiate_tag: read_u32_be(value),
+        a_rwnd: read_u32_be(&value[4..]),
+        nbr_outbound_streams: read_u16_be(&value[8..]),
+        nbr_inbound_streams: read_u16_be(&value[10..]),
+        initial_tsn: Tsn(read_u32_be(&value[12..])),
+        parameters,
+    })
+}
+
+/// The numbers of the value before the parameters, as they are written.
+pub(crate) fn init_bytes(
+    initiate_tag: u32,
+    a_rwnd: u32,
+    nbr_outbound_streams: u16,
+    nbr_inbound_streams: u16,
+    initial_tsn: Tsn,
+) -> [u8; FIXED_SIZE]
+    ensures { result ≡ init_numbers (record { tag = initiate_tag; window = a_rwnd; outbound = nbr_outbound_streams; inbound = nbr_inbound_streams; tsn = initial_tsn.0; parameters = [] }) }
+{
+    let mut bytes = [0; FIXED_SIZE];
+    put_u32(&mut bytes, 0, initiate_tag);
+    put_u32(&mut bytes, 4, a_rwnd);
+    put_u16(&mut bytes, 8, nbr_outbound_streams);
+    put_u16(&mut bytes, 10, nbr_inbound_streams);
+    put_u32(&mut bytes, 12, initial_tsn.0);
+    bytes
+}

@@ -1,0 +1,118 @@
+//! INIT ACK: answers an INIT, and hands out a cookie.
+//!
+//! ```txt
+//!  0                   1                   2                   3
+//!  0 1 2 3 4 5 6 7 8 9 0 1 2 3 4 5 6 7 8 9 0 1 2 3 4 5 6 7 8 9 0 1
+//! +-+-+-+-+-+-+-+-+-+-+-+-+-+-+-+-+-+-+-+-+-+-+-+-+-+-+-+-+-+-+-+-+
+//! |    type = 2   |     flags     |             length            |
+//! +-+-+-+-+-+-+-+-+-+-+-+-+-+-+-+-+-+-+-+-+-+-+-+-+-+-+-+-+-+-+-+-+
+//! |                          initiate tag                         |
+//! +-+-+-+-+-+-+-+-+-+-+-+-+-+-+-+-+-+-+-+-+-+-+-+-+-+-+-+-+-+-+-+-+
+//! |                   advertised receiver window                  |
+//! +-+-+-+-+-+-+-+-+-+-+-+-+-+-+-+-+-+-+-+-+-+-+-+-+-+-+-+-+-+-+-+-+
+//! |        outbound streams       |        inbound streams        |
+//! +-+-+-+-+-+-+-+-+-+-+-+-+-+-+-+-+-+-+-+-+-+-+-+-+-+-+-+-+-+-+-+-+
+//! |                          initial TSN                          |
+//! +-+-+-+-+-+-+-+-+-+-+-+-+-+-+-+-+-+-+-+-+-+-+-+-+-+-+-+-+-+-+-+-+
+//! |                         parameters ..                         |
+//! +-+-+-+-+-+-+-+-+-+-+-+-+-+-+-+-+-+-+-+-+-+-+-+-+-+-+-+-+-+-+-+-+
+//! ```
+
+ghost use Rattle.std.specs.Prelude.{◌≡◌, ◌≢◌, ◌↔◌, Some, IsErrOf, codes};
+ghost use Rattle.dcsctp_tlv.specs.Image.{IsEncodable};
+ghost use Rattle.dcsctp_tlv.specs.Parameter.{parameter_tlv, length-parameter};
+ghost use Rattle.dcsctp_tlv.specs.Reading.{Answers};
+ghost use Rattle.dcsctp_tlv.proofs.Listed.{length-listed_tlv};
+ghost use Rattle.dcsctp_wire.specs.Init.{init_row, init_numbers, init_tlv, init_text, init_ack_view};
+
+use crate::packet::init::{FIXED_SIZE, init_bytes, init_fields_from_bytes};
+use dcsctp_chunk::raw_chunk::RawChunk;
+use dcsctp_tlv::error::ChunkParseError;
+use dcsctp_tlv::list::{listed_encodable, listed_size, put_listed};
+use dcsctp_tlv::parameter::Parameter;
+use dcsctp_tlv::tlv::SerializableTlv;
+use dcsctp_types::types::Tsn;
+use std::alloc::Global;
+use std::fmt;
+
+/// The type of INIT ACK.
+pub const CHUNK_TYPE: u8 = 2;
+
+/// INIT ACK (RFC 9260 section 3.3.3).
+#[derive(Debug, Drop)]
+pub struct InitAckChunk {
+    /// The verification tag that the other side is to use.
+    pub initiate_tag: u32,
+    /// The bytes that the sender has room for.
+    pub a_rwnd: u32,
+    /// The streams that the sender would send on.
+    pub nbr_outbound_streams: u16,
+    /// The streams that the sender can receive on.
+    pub nbr_inbound_streams: u16,
+    /// The TSN that the sender begins with.
+    pub initial_tsn: Tsn,
+    pub parameters: Vec<Parameter>,
+}
+
+impl InitAckChunk {
+    /// Reads the chunk and its parameters; flags are ignored.
+    ///
+    /// `InvalidType` exactly for another type; `InvalidLength` where the value has fewer than 16
+    /// bytes; else the first fault of the parameters from the left; or `OutOfMemory`.
+    pub fn try_from(alloc: Global, raw: RawChunk) -> Result<Self, ChunkParseError>
+        ensures other { IsErrOf result ChunkParseError.InvalidType ↔ (raw.entry.typ ≢ CHUNK_TYPE) }
+        ensures own { raw.entry.typ ≡ CHUNK_TYPE → Answers result (λ c. init_row.means raw.entry.value.now (init_ack_view c)) (init_row.faults raw.entry.value.now) }
+    {
+        if raw.typ != CHUNK_TYPE {
+            return Err(ChunkParseError::InvalidType);
+        }
+        let fields = init_fields_from_bytes(alloc, raw.value)?;
+        Ok(InitAckChunk {
+            initiate_tag: fields.initiate_tag,
+            a_rwnd: fields.a_rwnd,
+            nbr_outbound_streams: fields.nbr_outbound_streams,
+            nbr_inbound_streams: fields.nbr_inbound_streams,
+            initial_tsn: fields.initial_tsn,
+            parameters: fields.parameters,
+        })
+    }
+}
+
+impl SerializableTlv for InitAckChunk {
+    ghost tlv = { λ c. init_tlv 2 (init_ack_view c) };
+
+    ghost is_encodable = { λ c. IsEncodable (init_tlv 2 (init_ack_view c)) };
+
+    ghost image_length = { λ c fits. length-listed_tlv parameter_tlv length-parameter 2 0 (init_numbers (init_ack_view c)) (init_ack_view c).parameters };
+
+    ghost size_bound = { λ c fits. fits };
+
+    fn serialize_to(&self, output: &mut [u8]) {
+        let numbers = init_bytes(
+            self.initiate_tag,
+            self.a_rwnd,
+            self.nbr_outbound_streams,
+            self.nbr_inbound_streams,
+            self.initial_tsn,
+        );
+        put_listed(CHUNK_TYPE, 0, &numbers, &self.parameters, output);
+    }
+
+    fn value_size(&self) -> usize {
+        listed_size(FIXED_SIZE, &self.parameters)
+    }
+
+    fn encodable(&self) -> bool {
+        listed_encodable(FIXED_SIZE, &self.parameters)
+    }
+}
+
+impl fmt::Display for InitAckChunk {
+    ghost output = { λ c. Some (init_text (codes "INIT-ACK") (init_ack_view c)) };
+
+    fn fmt<W: fmt::Write>(&self, f: &mut fmt::Formatter<W>) -> fmt::Result {
+        let tag = self.initiate_tag;
+        let tsn = self.initial_tsn;
+        write!(f, "INIT-ACK, initiate_tag={tag}, initial_tsn={tsn}")
+    }
+}
