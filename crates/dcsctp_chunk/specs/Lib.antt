@@ -1,4 +1,6 @@
 pub mod Flags
+pub mod Data
+pub mod DataChunk
 pub mod CookieAck
 pub mod CookieEcho
 pub mod Shutdown
