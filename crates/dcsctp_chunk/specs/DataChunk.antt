@@ -30,7 +30,9 @@ data_at flags value = if nat_lt (length value) 12 then Err Length else Ok (recor
 
 -- the value as it is written
 abbrev pub data_bytes : DataChunkTree → List ℕ
-data_bytes c = to_be_bytes w32 c.tsn ++ (to_be_bytes w16 c.user_data.stream ++ (to_be_bytes w16 c.user_data.ssn ++ (to_be_bytes w32 c.user_data.ppid ++ c.user_data.payload)))
+data_bytes c =
+    let d = c.user_data in
+    to_be_bytes w32 c.tsn ++ (to_be_bytes w16 d.stream ++ (to_be_bytes w16 d.ssn ++ (to_be_bytes w32 d.ppid ++ d.payload)))
 
 abbrev pub data_tlv : DataChunkTree → Tlv
 data_tlv c = solid_tlv 0 (user_data_flags c.user_data c.immediate_ack) (data_bytes c)
@@ -57,4 +59,18 @@ pub record IsDataWellFormed (c : DataChunkTree) : Type 0 where
 
 -- a tree with what isn't carried set to zero
 abbrev pub kept_data : DataChunkTree → DataChunkTree
-kept_data c = record { tsn = c.tsn; user_data = (let d = c.user_data in record { unordered = d.unordered; stream = d.stream; ssn = d.ssn; mid = 0; fsn = 0; ppid = d.ppid; payload = d.payload; beginning = d.beginning; ending = d.ending }); immediate_ack = c.immediate_ack }
+kept_data c = record {
+  tsn = c.tsn;
+  user_data = record {
+    unordered = c.user_data.unordered;
+    stream = c.user_data.stream;
+    ssn = c.user_data.ssn;
+    mid = 0;
+    fsn = 0;
+    ppid = c.user_data.ppid;
+    payload = c.user_data.payload;
+    beginning = c.user_data.beginning;
+    ending = c.user_data.ending;
+  };
+  immediate_ack = c.immediate_ack;
+}

@@ -51,6 +51,7 @@ const FIXED_SIZE: usize = HEADER_SIZE - TLV_HEADER_SIZE;
 pub struct DataChunk {
     /// The chunk's place in its association.
     pub tsn: Tsn,
+    /// The message, or the fragment of one.
     pub user_data: Data,
     /// Whether the sender asks for a SACK without delay (RFC 7053): the I bit.
     pub immediate_ack: bool,
