@@ -1,4 +1,7 @@
 pub mod Flags
+pub mod Data
+pub mod DataChunk
+pub mod IDataChunk
 pub mod CookieAck
 pub mod CookieEcho
 pub mod Shutdown

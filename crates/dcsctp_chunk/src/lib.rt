@@ -3,7 +3,10 @@
 
 pub mod cookie_ack_chunk;
 pub mod cookie_echo_chunk;
+pub mod data;
+pub mod data_chunk;
 pub mod flags;
+pub mod idata_chunk;
 pub mod raw_chunk;
 pub mod shutdown_ack_chunk;
 pub mod shutdown_chunk;

@@ -1,0 +1,112 @@
+//! User data, as DATA and I-DATA chunks hold it.
+
+ghost use Rattle.std.specs.Prelude.{◌≡◌, ◌≤◌, ◌+◌, IfOk, length};
+ghost use Rattle.dcsctp_tlv.specs.Image.{put};
+ghost use Rattle.dcsctp_chunk.specs.Data.{user_data_view, no_data, user_data_flags, order_text, part_text};
+
+use crate::flags::four_flags;
+use dcsctp_types::api::{PpId, StreamId};
+use dcsctp_types::types::{Fsn, Mid, Ssn, StreamKey};
+use std::alloc::{AllocError, Global};
+
+/// A message, or a fragment of one (RFC 9260 section 3.3.1, RFC 8260 section 2.1).
+#[derive(Debug, Drop)]
+pub struct Data {
+    /// The stream, and whether the message is delivered in sequence.
+    pub stream_key: StreamKey,
+    /// The message's place in its stream, where a DATA chunk carries it.
+    pub ssn: Ssn,
+    /// The message's place in its stream, where an I-DATA chunk carries it.
+    pub mid: Mid,
+    /// The fragment's place in its message; an I-DATA chunk carries it but for the first.
+    pub fsn: Fsn,
+    /// What the payload is, in the application's own numbers; an I-DATA chunk carries it for the
+    /// first fragment alone.
+    pub ppid: PpId,
+    /// The fragment's bytes.
+    pub payload: Vec<u8>,
+    /// Whether the message begins with it.
+    pub is_beginning: bool,
+    /// Whether the message ends with it.
+    pub is_end: bool,
+}
+
+impl Data {
+    /// No payload, ordered on stream 0, with all numbers 0, neither a beginning nor an end. It
+    /// takes no memory.
+    pub fn new(alloc: Global) -> Data
+        ensures { user_data_view result ≡ no_data }
+    {
+        Data {
+            stream_key: StreamKey::Ordered(StreamId(0)),
+            ssn: Ssn(0),
+            mid: Mid(0),
+            fsn: Fsn(0),
+            ppid: PpId(0),
+            payload: Vec::new(alloc),
+            is_beginning: false,
+            is_end: false,
+        }
+    }
+
+    /// The same, with a payload of its own; refused for want of memory alone.
+    pub fn clone(&self) -> Result<Data, AllocError>
+        ensures { IfOk result (λ d. user_data_view d ≡ user_data_view self.now) }
+    {
+        Ok(Data {
+            stream_key: self.stream_key,
+            ssn: self.ssn,
+            mid: self.mid,
+            fsn: self.fsn,
+            ppid: self.ppid,
+            payload: self.payload.clone()?,
+            is_beginning: self.is_beginning,
+            is_end: self.is_end,
+        })
+    }
+
+    /// The flags of a chunk that holds it.
+    pub(crate) fn flags(&self, immediate_ack: bool) -> u8
+        ensures { result ≡ user_data_flags (user_data_view self.now) immediate_ack }
+    {
+        four_flags(
+            self.is_end,
+            self.is_beginning,
+            self.stream_key.is_unordered(),
+            immediate_ack,
+        )
+    }
+
+    /// How it is delivered, in a word.
+    pub(crate) fn order(&self) -> &'static str
+        ensures { result.now ≡ order_text (user_data_view self.now) }
+    {
+        if self.stream_key.is_unordered() {
+            "unordered"
+        } else {
+            "ordered"
+        }
+    }
+
+    /// Which part of its message it is, in a word.
+    pub(crate) fn part(&self) -> &'static str
+        ensures { result.now ≡ part_text (user_data_view self.now) }
+    {
+        match (self.is_beginning, self.is_end) {
+            (true, true) => "complete",
+            (true, false) => "first",
+            (false, true) => "last",
+            (false, false) => "middle",
+        }
+    }
+}
+
+/// Writes the payload at a place; all other bytes stay.
+pub(crate) fn put_payload(output: &mut [u8], place: usize, payload: &[u8])
+    requires { place + length payload.now ≤ length output.old }
+    ensures { output.new ≡ put output.old place payload.now }
+{
+    let (_, rest) = output.split_at_mut(place);
+    let (front, _) = rest.split_at_mut(payload.len());
+    front.copy_from_slice(payload);
+}

@@ -1,0 +1,139 @@
+//! DATA: user data, a message or a fragment of one.
+//!
+//! ```txt
+//!  0                   1                   2                   3
+//!  0 1 2 3 4 5 6 7 8 9 0 1 2 3 4 5 6 7 8 9 0 1 2 3 4 5 6 7 8 9 0 1
+//! +-+-+-+-+-+-+-+-+-+-+-+-+-+-+-+-+-+-+-+-+-+-+-+-+-+-+-+-+-+-+-+-+
+//! |   type = 0    |  res  |I|U|B|E|    length = 16 + payload      |
+//! +-+-+-+-+-+-+-+-+-+-+-+-+-+-+-+-+-+-+-+-+-+-+-+-+-+-+-+-+-+-+-+-+
+//! |                              TSN                              |
+//! +-+-+-+-+-+-+-+-+-+-+-+-+-+-+-+-+-+-+-+-+-+-+-+-+-+-+-+-+-+-+-+-+
+//! |           stream id           |    stream sequence number     |
+//! +-+-+-+-+-+-+-+-+-+-+-+-+-+-+-+-+-+-+-+-+-+-+-+-+-+-+-+-+-+-+-+-+
+//! |                  payload protocol identifier                  |
+//! +-+-+-+-+-+-+-+-+-+-+-+-+-+-+-+-+-+-+-+-+-+-+-+-+-+-+-+-+-+-+-+-+
+//! |                      payload, any bytes                       |
+//! +-+-+-+-+-+-+-+-+-+-+-+-+-+-+-+-+-+-+-+-+-+-+-+-+-+-+-+-+-+-+-+-+
+//! ```
+
+ghost use Rattle.std.specs.Prelude.{◌≡◌, ◌≢◌, ◌↔◌, Some, IsErrOf};
+ghost use Rattle.dcsctp_tlv.specs.Image.{IsEncodable};
+ghost use Rattle.dcsctp_tlv.specs.Reading.{Gives, IfMeant};
+ghost use Rattle.dcsctp_tlv.proofs.Images.{length-solid_tlv};
+ghost use Rattle.dcsctp_chunk.specs.Data.{user_data_view, user_data_flags};
+ghost use Rattle.dcsctp_chunk.specs.DataChunk.{data_at, data_bytes, data_tlv, data_text, data_view};
+
+use crate::data::{Data, put_payload};
+use crate::flags::is_set;
+use crate::raw_chunk::RawChunk;
+use dcsctp_tlv::error::ChunkParseError;
+use dcsctp_tlv::frame::{MAX_VALUE_SIZE, TLV_HEADER_SIZE, put_header};
+use dcsctp_tlv::number::{put_u16, put_u32, read_u16_be, read_u32_be};
+use dcsctp_tlv::tlv::SerializableTlv;
+use dcsctp_types::api::{PpId, StreamId};
+use dcsctp_types::types::{Fsn, Mid, Ssn, StreamKey, Tsn};
+use std::alloc::Global;
+use std::fmt;
+
+/// The type of DATA.
+pub const CHUNK_TYPE: u8 = 0;
+
+/// Bytes of a DATA chunk before its payload.
+pub const HEADER_SIZE: usize = 16;
+
+/// Bytes of the value before the payload.
+const FIXED_SIZE: usize = HEADER_SIZE - TLV_HEADER_SIZE;
+
+/// DATA (RFC 9260 section 3.3.1).
+///
+/// It carries neither MID nor FSN: these aren't written, and are read as 0.
+#[derive(Debug, Drop)]
+pub struct DataChunk {
+    /// The chunk's place in its association.
+    pub tsn: Tsn,
+    /// The message, or the fragment of one.
+    pub user_data: Data,
+    /// Whether the sender asks for a SACK without delay (RFC 7053): the I bit.
+    pub immediate_ack: bool,
+}
+
+#[tactic(auto, unfolding(crate::specs::DataChunk::data_at))]
+impl DataChunk {
+    /// Reads the chunk, and copies its payload; flags but the four lowest are ignored.
+    ///
+    /// `InvalidType` exactly for another type; `InvalidLength` exactly where the value has fewer
+    /// than 12 bytes; `OutOfMemory` only where the payload can't be copied.
+    pub fn try_from(alloc: Global, raw: RawChunk) -> Result<Self, ChunkParseError>
+        ensures other { IsErrOf result ChunkParseError.InvalidType ↔ (raw.entry.typ ≢ CHUNK_TYPE) }
+        ensures own { raw.entry.typ ≡ CHUNK_TYPE → Gives IfMeant data_view result (data_at raw.entry.flags raw.entry.value.now) }
+    {
+        if raw.typ != CHUNK_TYPE {
+            return Err(ChunkParseError::InvalidType);
+        }
+        let value = raw.value;
+        if value.len() < FIXED_SIZE {
+            return Err(ChunkParseError::InvalidLength);
+        }
+        let stream = StreamId(read_u16_be(&value[4..]));
+        Ok(DataChunk {
+            tsn: Tsn(read_u32_be(value)),
+            user_data: Data {
+                stream_key: StreamKey::new(is_set(raw.flags, 2), stream),
+                ssn: Ssn(read_u16_be(&value[6..])),
+                mid: Mid(0),
+                fsn: Fsn(0),
+                ppid: PpId(read_u32_be(&value[8..])),
+                payload: Vec::from_slice(alloc, &value[FIXED_SIZE..])?,
+                is_beginning: is_set(raw.flags, 1),
+                is_end: is_set(raw.flags, 0),
+            },
+            immediate_ack: is_set(raw.flags, 3),
+        })
+    }
+}
+
+impl SerializableTlv for DataChunk {
+    ghost tlv = { λ c. data_tlv (data_view c) };
+
+    ghost is_encodable = { λ c. IsEncodable (data_tlv (data_view c)) };
+
+    ghost image_length = { λ c fits. length-solid_tlv 0 (user_data_flags (user_data_view c.user_data) c.immediate_ack) (data_bytes (data_view c)) };
+
+    ghost size_bound = { λ c fits. fits };
+
+    fn serialize_to(&self, output: &mut [u8]) {
+        let content = &self.user_data;
+        let flags = content.flags(self.immediate_ack);
+        put_header(CHUNK_TYPE, flags, self.value_size(), output);
+        put_u32(output, 4, self.tsn.0);
+        put_u16(output, 8, content.stream_key.id().0);
+        put_u16(output, 10, content.ssn.0);
+        put_u32(output, 12, content.ppid.0);
+        put_payload(output, HEADER_SIZE, &content.payload);
+    }
+
+    fn value_size(&self) -> usize {
+        FIXED_SIZE + self.user_data.payload.len()
+    }
+
+    fn encodable(&self) -> bool {
+        self.user_data.payload.len() <= MAX_VALUE_SIZE - FIXED_SIZE
+    }
+}
+
+impl fmt::Display for DataChunk {
+    ghost output = { λ c. Some (data_text (data_view c)) };
+
+    fn fmt<W: fmt::Write>(&self, f: &mut fmt::Formatter<W>) -> fmt::Result {
+        let content = &self.user_data;
+        let (order, part) = (content.order(), content.part());
+        let tsn = self.tsn;
+        let stream = content.stream_key.id();
+        let (ssn, ppid) = (content.ssn, content.ppid);
+        let length = content.payload.len();
+        write!(
+            f,
+            "DATA, type={order}::{part}, tsn={tsn}, sid={stream}, ssn={ssn}, ppid={ppid}, length={length}"
+        )
+    }
+}

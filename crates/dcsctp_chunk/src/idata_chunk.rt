@@ -1,0 +1,170 @@
+//! I-DATA: user data, a message or a fragment of one, where messages can be interleaved.
+//!
+//! ```txt
+//!  0                   1                   2                   3
+//!  0 1 2 3 4 5 6 7 8 9 0 1 2 3 4 5 6 7 8 9 0 1 2 3 4 5 6 7 8 9 0 1
+//! +-+-+-+-+-+-+-+-+-+-+-+-+-+-+-+-+-+-+-+-+-+-+-+-+-+-+-+-+-+-+-+-+
+//! |   type = 64   |  res  |I|U|B|E|    length = 20 + payload      |
+//! +-+-+-+-+-+-+-+-+-+-+-+-+-+-+-+-+-+-+-+-+-+-+-+-+-+-+-+-+-+-+-+-+
+//! |                              TSN                              |
+//! +-+-+-+-+-+-+-+-+-+-+-+-+-+-+-+-+-+-+-+-+-+-+-+-+-+-+-+-+-+-+-+-+
+//! |           stream id           |           reserved            |
+//! +-+-+-+-+-+-+-+-+-+-+-+-+-+-+-+-+-+-+-+-+-+-+-+-+-+-+-+-+-+-+-+-+
+//! |                      message identifier                       |
+//! +-+-+-+-+-+-+-+-+-+-+-+-+-+-+-+-+-+-+-+-+-+-+-+-+-+-+-+-+-+-+-+-+
+//! |    payload protocol identifier, or fragment sequence number   |
+//! +-+-+-+-+-+-+-+-+-+-+-+-+-+-+-+-+-+-+-+-+-+-+-+-+-+-+-+-+-+-+-+-+
+//! |                      payload, any bytes                       |
+//! +-+-+-+-+-+-+-+-+-+-+-+-+-+-+-+-+-+-+-+-+-+-+-+-+-+-+-+-+-+-+-+-+
+//! ```
+
+ghost use Rattle.std.specs.Prelude.{◌≡◌, ◌≢◌, ◌↔◌, Some, IsErrOf, if◌then◌else◌};
+ghost use Rattle.dcsctp_tlv.specs.Image.{IsEncodable};
+ghost use Rattle.dcsctp_tlv.specs.Reading.{Gives, IfMeant};
+ghost use Rattle.dcsctp_tlv.proofs.Images.{length-solid_tlv};
+ghost use Rattle.dcsctp_chunk.specs.Data.{user_data_view, user_data_flags};
+ghost use Rattle.dcsctp_chunk.specs.IDataChunk.{idata_at, ppid_or_fsn, idata_bytes, idata_tlv, idata_text, idata_view};
+
+use crate::data::{Data, put_payload};
+use crate::flags::is_set;
+use crate::raw_chunk::RawChunk;
+use dcsctp_tlv::error::ChunkParseError;
+use dcsctp_tlv::frame::{MAX_VALUE_SIZE, TLV_HEADER_SIZE, put_header};
+use dcsctp_tlv::number::{put_u16, put_u32, read_u16_be, read_u32_be};
+use dcsctp_tlv::tlv::SerializableTlv;
+use dcsctp_types::api::{PpId, StreamId};
+use dcsctp_types::types::{Fsn, Mid, Ssn, StreamKey, Tsn};
+use std::alloc::Global;
+use std::fmt;
+
+/// The type of I-DATA.
+pub const CHUNK_TYPE: u8 = 64;
+
+/// Bytes of an I-DATA chunk before its payload.
+pub const HEADER_SIZE: usize = 20;
+
+/// Bytes of the value before the payload.
+const FIXED_SIZE: usize = HEADER_SIZE - TLV_HEADER_SIZE;
+
+/// I-DATA (RFC 8260 section 2.1).
+///
+/// It carries no SSN. At the beginning of a message it carries the payload protocol identifier, and
+/// no FSN, which is 0 there; elsewhere the FSN, and no payload protocol identifier. What isn't
+/// carried isn't written, and is read as 0.
+#[derive(Debug, Drop)]
+pub struct IDataChunk {
+    /// The chunk's place in its association.
+    pub tsn: Tsn,
+    /// The message, or the fragment of one.
+    pub user_data: Data,
+    /// Whether the sender asks for a SACK without delay: the I bit.
+    pub immediate_ack: bool,
+}
+
+/// What the number before the payload says; what it doesn't say is 0.
+fn ppid_and_fsn(is_beginning: bool, number: u32) -> (PpId, Fsn)
+    ensures ppid { result.0.0 ≡ (if is_beginning then number else 0) }
+    ensures fsn { result.1.0 ≡ (if is_beginning then 0 else number) }
+{
+    if is_beginning {
+        (PpId(number), Fsn(0))
+    } else {
+        (PpId(0), Fsn(number))
+    }
+}
+
+/// The number before the payload.
+fn ppid_or_fsn(content: &Data) -> u32
+    ensures { result ≡ ppid_or_fsn (user_data_view content.now) }
+{
+    if content.is_beginning {
+        content.ppid.0
+    } else {
+        content.fsn.0
+    }
+}
+
+#[tactic(auto, unfolding(crate::specs::IDataChunk::idata_at))]
+impl IDataChunk {
+    /// Reads the chunk, and copies its payload; flags but the four lowest and the reserved bytes
+    /// are ignored.
+    ///
+    /// `InvalidType` exactly for another type; `InvalidLength` exactly where the value has fewer
+    /// than 16 bytes; `OutOfMemory` only where the payload can't be copied.
+    pub fn try_from(alloc: Global, raw: RawChunk) -> Result<Self, ChunkParseError>
+        ensures other { IsErrOf result ChunkParseError.InvalidType ↔ (raw.entry.typ ≢ CHUNK_TYPE) }
+        ensures own { raw.entry.typ ≡ CHUNK_TYPE → Gives IfMeant idata_view result (idata_at raw.entry.flags raw.entry.value.now) }
+    {
+        if raw.typ != CHUNK_TYPE {
+            return Err(ChunkParseError::InvalidType);
+        }
+        let value = raw.value;
+        if value.len() < FIXED_SIZE {
+            return Err(ChunkParseError::InvalidLength);
+        }
+        let is_beginning = is_set(raw.flags, 1);
+        let stream = StreamId(read_u16_be(&value[4..]));
+        let (ppid, fsn) = ppid_and_fsn(is_beginning, read_u32_be(&value[12..]));
+        Ok(IDataChunk {
+            tsn: Tsn(read_u32_be(value)),
+            user_data: Data {
+                stream_key: StreamKey::new(is_set(raw.flags, 2), stream),
+                ssn: Ssn(0),
+                mid: Mid(read_u32_be(&value[8..])),
+                fsn,
+                ppid,
+                payload: Vec::from_slice(alloc, &value[FIXED_SIZE..])?,
+                is_beginning,
+                is_end: is_set(raw.flags, 0),
+            },
+            immediate_ack: is_set(raw.flags, 3),
+        })
+    }
+}
+
+impl SerializableTlv for IDataChunk {
+    ghost tlv = { λ c. idata_tlv (idata_view c) };
+
+    ghost is_encodable = { λ c. IsEncodable (idata_tlv (idata_view c)) };
+
+    ghost image_length = { λ c fits. length-solid_tlv 64 (user_data_flags (user_data_view c.user_data) c.immediate_ack) (idata_bytes (idata_view c)) };
+
+    ghost size_bound = { λ c fits. fits };
+
+    fn serialize_to(&self, output: &mut [u8]) {
+        let content = &self.user_data;
+        let flags = content.flags(self.immediate_ack);
+        put_header(CHUNK_TYPE, flags, self.value_size(), output);
+        put_u32(output, 4, self.tsn.0);
+        put_u16(output, 8, content.stream_key.id().0);
+        put_u16(output, 10, 0);
+        put_u32(output, 12, content.mid.0);
+        put_u32(output, 16, ppid_or_fsn(content));
+        put_payload(output, HEADER_SIZE, &content.payload);
+    }
+
+    fn value_size(&self) -> usize {
+        FIXED_SIZE + self.user_data.payload.len()
+    }
+
+    fn encodable(&self) -> bool {
+        self.user_data.payload.len() <= MAX_VALUE_SIZE - FIXED_SIZE
+    }
+}
+
+impl fmt::Display for IDataChunk {
+    ghost output = { λ c. Some (idata_text (idata_view c)) };
+
+    fn fmt<W: fmt::Write>(&self, f: &mut fmt::Formatter<W>) -> fmt::Result {
+        let content = &self.user_data;
+        let (order, part) = (content.order(), content.part());
+        let tsn = self.tsn;
+        let stream = content.stream_key.id();
+        let (mid, ppid) = (content.mid, content.ppid);
+        let length = content.payload.len();
+        write!(
+            f,
+            "I-DATA, type={order}::{part}, tsn={tsn}, mid={stream}, ssn={mid}, ppid={ppid}, length={length}"
+        )
+    }
+}
