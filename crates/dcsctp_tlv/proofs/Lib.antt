@@ -8,3 +8,4 @@ pub mod ReadsBack
 pub mod Texts
 pub mod Puts
 pub mod KindLaws
+pub mod ParameterLaws
