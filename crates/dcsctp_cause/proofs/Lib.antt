@@ -1,2 +1,3 @@
 mod Texts
 mod Types
+pub mod CauseLaws

@@ -2,8 +2,9 @@
 -- bytes, and then the type of each, two bytes.
 --
 -- The count is a natural number here, so no count above the number of types that are there is accepted.
-use Rattle.std.specs.Prelude.{ℕ, ◌+◌, ◌*◌, List, [], ◌∷◌, ◌++◌, ◌==◌, nat_lt, Result, Ok, Err, if◌then◌else◌, length, drop, map, codes}
+use Rattle.std.specs.Prelude.{ℕ, ◌+◌, ◌*◌, ◌<◌, ◌^◌, List, [], ◌∷◌, ◌++◌, ◌==◌, nat_lt, Result, Ok, Err, if◌then◌else◌, length, drop, map, codes}
 use Rattle.std.specs.Fmt.{decimal}
+use Rattle.std.specs.List.{AllByRecursion}
 use Rattle.std.specs.Int.{w16, w32}
 use Rattle.dcsctp_tlv.specs.Fault.{Fault, Length}
 use Rattle.dcsctp_tlv.specs.Fields.{fields}
@@ -20,6 +21,9 @@ missing_mandatory_parameter_at value =
 
 abbrev pub missing_mandatory_parameter_tlv : List ℕ → Tlv
 missing_mandatory_parameter_tlv types = typed_tlv 2 (numbers w32 (length types ∷ []) ++ numbers w16 types)
+
+abbrev pub IsMissingMandatoryParameterInWidth : List ℕ → Type 0
+IsMissingMandatoryParameterInWidth types = AllByRecursion (λ typ. typ < 2 ^ 16) types
 
 abbrev pub missing_mandatory_parameter_text : List ℕ → List ℕ
 missing_mandatory_parameter_text types = codes "Missing Mandatory Parameter, missing_parameters=[" ++ (joined (codes ", ") (map decimal types) ++ codes "]")

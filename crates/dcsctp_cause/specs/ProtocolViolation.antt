@@ -4,7 +4,7 @@ use Rattle.std.specs.Prelude.{ℕ, List, ◌++◌, Result, Ok, codes}
 use Rattle.std.specs.String.{string_bytes}
 use Rattle.dcsctp_tlv.specs.Fault.{Fault}
 use Rattle.dcsctp_tlv.specs.Image.{Tlv, typed_tlv}
-use Rattle.dcsctp_cause.specs.Text.{text_or}
+use Rattle.dcsctp_cause.specs.Text.{text_or, IsText}
 use Rattle.dcsctp_cause.specs.declared.protocol_violation_error_cause.ProtocolViolationErrorCause.{ProtocolViolationErrorCause}
 
 unfoldable pub protocol_violation_at : List ℕ → Result (List ℕ) Fault
@@ -12,6 +12,9 @@ protocol_violation_at value = Ok (text_or (codes "Failed to parse additional inf
 
 abbrev pub protocol_violation_tlv : List ℕ → Tlv
 protocol_violation_tlv information = typed_tlv 13 information
+
+abbrev pub IsProtocolViolationInWidth : List ℕ → Type 0
+IsProtocolViolationInWidth information = IsText information
 
 abbrev pub protocol_violation_text : List ℕ → List ℕ
 protocol_violation_text information = codes "Protocol Violation, additional_information=" ++ information

@@ -9,3 +9,4 @@ pub mod Texts
 pub mod Puts
 pub mod KindLaws
 pub mod Listed
+pub mod ParameterLaws

@@ -2,6 +2,7 @@
 use Rattle.std.specs.Prelude.{ℕ, List, ◌++◌, Result, Ok, length, codes}
 use Rattle.std.specs.Fmt.{decimal}
 use Rattle.dcsctp_tlv.specs.Fault.{Fault}
+use Rattle.dcsctp_tlv.specs.Number.{AreBytes}
 use Rattle.dcsctp_tlv.specs.Image.{Tlv, typed_tlv}
 use Rattle.dcsctp_tlv.specs.declared.heartbeat_info_parameter.HeartbeatInfoParameter.{HeartbeatInfoParameter}
 
@@ -10,6 +11,9 @@ heartbeat_info_at value = Ok value
 
 abbrev pub heartbeat_info_tlv : List ℕ → Tlv
 heartbeat_info_tlv info = typed_tlv 1 info
+
+abbrev pub IsHeartbeatInfoInWidth : List ℕ → Type 0
+IsHeartbeatInfoInWidth info = AreBytes info
 
 abbrev pub heartbeat_info_text : List ℕ → List ℕ
 heartbeat_info_text info = codes "Heartbeat Info parameter, info_length=" ++ decimal (length info)

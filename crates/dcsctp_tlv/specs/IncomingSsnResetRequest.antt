@@ -1,7 +1,8 @@
 -- Incoming SSN Reset Request (RFC 6525 section 4.2): type 14; the value is the request number, four
 -- bytes, and then stream ids, two bytes each.
-use Rattle.std.specs.Prelude.{ℕ, ◌-◌, ◌/◌, ◌%◌, List, [], ◌∷◌, ◌++◌, ◌==◌, nat_lt, Result, Ok, Err, if◌then◌else◌, length, drop, codes}
+use Rattle.std.specs.Prelude.{ℕ, ◌-◌, ◌/◌, ◌%◌, ◌<◌, ◌^◌, List, [], ◌∷◌, ◌++◌, ◌==◌, nat_lt, Result, Ok, Err, if◌then◌else◌, length, drop, codes}
 use Rattle.std.specs.Fmt.{decimal}
+use Rattle.std.specs.List.{AllByRecursion}
 use Rattle.std.specs.Int.{w16, w32}
 use Rattle.dcsctp_tlv.specs.Fault.{Fault, Length}
 use Rattle.dcsctp_tlv.specs.Fields.{fields, stream_numbers}
@@ -24,6 +25,10 @@ incoming_ssn_reset_request_at value =
 
 abbrev pub incoming_ssn_reset_request_tlv : IncomingSsnResetRequestTree → Tlv
 incoming_ssn_reset_request_tlv r = typed_tlv 14 (numbers w32 (r.request ∷ []) ++ numbers w16 r.streams)
+
+pub record IsIncomingSsnResetRequestInWidth (r : IncomingSsnResetRequestTree) : Type 0 where
+  pub request : r.request < 2 ^ 32
+  pub streams : AllByRecursion (λ id. id < 2 ^ 16) r.streams
 
 abbrev pub incoming_ssn_reset_request_text : IncomingSsnResetRequestTree → List ℕ
 incoming_ssn_reset_request_text r = codes "Incoming SSN Reset Request, req_seq_nbr=" ++ decimal r.request

@@ -17,4 +17,5 @@ pub mod OutgoingSsnResetRequest
 pub mod IncomingSsnResetRequest
 pub mod ReconfigurationResponse
 pub mod Parameter
+pub mod WellFormedParameter
 pub mod Fields

@@ -1,7 +1,8 @@
 -- Outgoing SSN Reset Request (RFC 6525 section 4.1): type 13; the value is the request number, the
 -- response number and the sender's last assigned TSN, four bytes each, and then stream ids, two bytes each.
-use Rattle.std.specs.Prelude.{ℕ, ◌-◌, ◌/◌, ◌%◌, List, [], ◌∷◌, ◌++◌, ◌==◌, nat_lt, Result, Ok, Err, if◌then◌else◌, length, drop, codes}
+use Rattle.std.specs.Prelude.{ℕ, ◌-◌, ◌/◌, ◌%◌, ◌<◌, ◌^◌, List, [], ◌∷◌, ◌++◌, ◌==◌, nat_lt, Result, Ok, Err, if◌then◌else◌, length, drop, codes}
 use Rattle.std.specs.Fmt.{decimal}
+use Rattle.std.specs.List.{AllByRecursion}
 use Rattle.std.specs.Int.{w16, w32}
 use Rattle.dcsctp_tlv.specs.Fault.{Fault, Length}
 use Rattle.dcsctp_tlv.specs.Fields.{fields, stream_numbers}
@@ -28,6 +29,12 @@ outgoing_ssn_reset_request_at value =
 
 abbrev pub outgoing_ssn_reset_request_tlv : OutgoingSsnResetRequestTree → Tlv
 outgoing_ssn_reset_request_tlv r = typed_tlv 13 (numbers w32 (r.request ∷ r.response ∷ r.last_tsn ∷ []) ++ numbers w16 r.streams)
+
+pub record IsOutgoingSsnResetRequestInWidth (r : OutgoingSsnResetRequestTree) : Type 0 where
+  pub request : r.request < 2 ^ 32
+  pub response : r.response < 2 ^ 32
+  pub last_tsn : r.last_tsn < 2 ^ 32
+  pub streams : AllByRecursion (λ id. id < 2 ^ 16) r.streams
 
 -- the text begins as that of the incoming request
 abbrev pub outgoing_ssn_reset_request_text : OutgoingSsnResetRequestTree → List ℕ

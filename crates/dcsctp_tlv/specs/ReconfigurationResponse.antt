@@ -1,6 +1,6 @@
 -- Re-configuration Response (RFC 6525 section 4.4): type 16; the value is the response number and the
 -- result, four bytes each, and then both next TSNs, four bytes each, or neither.
-use Rattle.std.specs.Prelude.{ℕ, List, [], ◌∷◌, ◌++◌, ◌==◌, Option, Some, None, option_map, Result, Ok, Err, if◌then◌else◌, length, drop, codes}
+use Rattle.std.specs.Prelude.{ℕ, ◌<◌, ◌^◌, ◌↔◌, List, [], ◌∷◌, ◌++◌, ◌==◌, Option, Some, None, IsSome, IfSome, option_map, Result, Ok, Err, if◌then◌else◌, length, drop, codes}
 use Rattle.std.specs.Fmt.{decimal}
 use Rattle.std.specs.Int.{w32}
 use Rattle.dcsctp_types.specs.declared.types.tsn.Tsn.{Tsn}
@@ -60,6 +60,29 @@ next_tsns None receiver = []
 
 abbrev pub reconfiguration_response_tlv : ReconfigurationResponseTree → Tlv
 reconfiguration_response_tlv r = typed_tlv 16 (numbers w32 (r.response ∷ result_number r.result ∷ []) ++ numbers w32 (next_tsns r.sender_next_tsn r.receiver_next_tsn))
+
+pub record IsReconfigurationResponseInWidth (r : ReconfigurationResponseTree) : Type 0 where
+  pub response : r.response < 2 ^ 32
+  pub sender_next_tsn : IfSome r.sender_next_tsn (λ tsn. tsn < 2 ^ 32)
+  pub receiver_next_tsn : IfSome r.receiver_next_tsn (λ tsn. tsn < 2 ^ 32)
+
+-- both next TSNs are there, or neither
+abbrev pub IsReconfigurationResponseWellFormed : ReconfigurationResponseTree → Type 0
+IsReconfigurationResponseWellFormed r = IsSome r.sender_next_tsn ↔ IsSome r.receiver_next_tsn
+
+-- a next TSN, where the other is there too
+abbrev pub kept_tsn : Option ℕ → Option ℕ → Option ℕ
+kept_tsn tsn (Some other) = tsn
+kept_tsn tsn None = None
+
+-- the response that is written for a response: one next TSN alone is left out
+abbrev pub kept_reconfiguration_response : ReconfigurationResponseTree → ReconfigurationResponseTree
+kept_reconfiguration_response r = record {
+  response = r.response;
+  result = r.result;
+  sender_next_tsn = kept_tsn r.sender_next_tsn r.receiver_next_tsn;
+  receiver_next_tsn = kept_tsn r.receiver_next_tsn r.sender_next_tsn;
+}
 
 abbrev pub reconfiguration_response_text : ReconfigurationResponseTree → List ℕ
 reconfiguration_response_text r = codes "Reconfig Response, seq=" ++ decimal r.response
