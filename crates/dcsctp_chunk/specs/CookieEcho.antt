@@ -1,7 +1,8 @@
 -- COOKIE ECHO (RFC 9260 section 3.3.11): type 10, flags ignored; the value is the cookie, at least one byte.
-use Rattle.std.specs.Prelude.{ℕ, List, ◌++◌, ◌==◌, Result, Ok, Err, if◌then◌else◌, length, codes}
+use Rattle.std.specs.Prelude.{◌≢◌, ℕ, List, [], ◌++◌, ◌==◌, Result, Ok, Err, if◌then◌else◌, length, codes}
 use Rattle.std.specs.Fmt.{decimal}
 use Rattle.dcsctp_tlv.specs.Fault.{Fault, Length}
+use Rattle.dcsctp_tlv.specs.Number.{AreBytes}
 use Rattle.dcsctp_tlv.specs.Image.{Tlv, solid_tlv}
 use Rattle.dcsctp_chunk.specs.declared.cookie_echo_chunk.CookieEchoChunk.{CookieEchoChunk}
 
@@ -16,3 +17,11 @@ cookie_echo_text cookie = codes "COOKIE-ECHO, cookie=" ++ decimal (length cookie
 
 abbrev pub cookie_echo_view : CookieEchoChunk → List ℕ
 cookie_echo_view c = c.cookie.items
+
+-- ---- which trees can be read
+
+abbrev pub IsCookieEchoInWidth : List ℕ → Type 0
+IsCookieEchoInWidth cookie = AreBytes cookie
+
+abbrev pub IsCookieEchoWellFormed : List ℕ → Type 0
+IsCookieEchoWellFormed cookie = cookie ≢ []

@@ -1,5 +1,5 @@
 -- SHUTDOWN (RFC 9260 section 3.3.8): type 7, flags ignored; the value is the cumulative TSN, four bytes.
-use Rattle.std.specs.Prelude.{ℕ, List, ◌++◌, ◌==◌, Result, Ok, Err, if◌then◌else◌, length, codes}
+use Rattle.std.specs.Prelude.{ℕ, ◌<◌, ◌^◌, List, ◌++◌, ◌==◌, Result, Ok, Err, if◌then◌else◌, length, codes}
 use Rattle.std.specs.Fmt.{decimal}
 use Rattle.std.specs.Int.{w32, to_be_bytes}
 use Rattle.dcsctp_tlv.specs.Fault.{Fault, Length}
@@ -19,3 +19,7 @@ shutdown_text tsn = codes "SHUTDOWN cumulative_tsn_ack=" ++ decimal tsn
 
 abbrev pub shutdown_view : ShutdownChunk → ℕ
 shutdown_view c = c.cumulative_tsn_ack.0
+
+-- the number lies in its field's width
+abbrev pub IsShutdownInWidth : ℕ → Type 0
+IsShutdownInWidth tsn = tsn < 2 ^ 32
