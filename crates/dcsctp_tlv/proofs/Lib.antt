@@ -8,4 +8,8 @@ pub mod ReadsBack
 pub mod Texts
 pub mod Puts
 pub mod KindLaws
+pub mod FieldLaws
+pub mod ParameterKinds
+pub mod Forms
+pub mod Accounts
 pub mod ParameterLaws
