@@ -34,7 +34,7 @@ plain_account read tree tlv law value t e =
 
 -- ---- lists
 
-length-item : (i : Item) → length (item_bytes i) ≡ 4 + (length i.value + length i.padding)
+pub length-item : (i : Item) → length (item_bytes i) ≡ 4 + (length i.value + length i.padding)
 length-item i = let l = length-append i.value i.padding in omega (arith, l)
 
 -- an item before others

@@ -12,4 +12,6 @@ pub mod FieldLaws
 pub mod ParameterKinds
 pub mod Forms
 pub mod Accounts
+pub mod Counts
+pub mod Kept
 pub mod ParameterLaws
