@@ -1,7 +1,10 @@
 -- What a kind owes the laws of its level, where its value is read at fixed places.
-use Rattle.std.proofs.Common.{◌≡◌, ℕ, ◌+◌, List, length, Result, Ok}
+use Rattle.std.proofs.Common.{◌≡◌, ℕ, ◌+◌, ◌/◌, ◌%◌, ◌^◌, ◌<◌, Bool, true, false, cond, ◌⊎◌, inl, inr, List, length, Some, Result, Ok, Err, refl}
+use Rattle.std.proofs.lemmas.List.{length-map}
 use Rattle.dcsctp_tlv.specs.Fault.{Fault}
-use Rattle.dcsctp_tlv.specs.Image.{zeroed, Tlv, size_of, IsEncodable}
+use Rattle.dcsctp_tlv.specs.Level.{map_ok}
+use Rattle.dcsctp_tlv.specs.Image.{solid, zeroed, Tlv, typed_tlv, size_of, IsEncodable}
+use Rattle.dcsctp_tlv.proofs.ReadsBack.{zeroed-solid}
 
 -- A value as it is read, after the item's first two bytes; and its tree as it is written.
 pub record KindLaws {T : Type 0} (read : ℕ → ℕ → List ℕ → Result T Fault) (tlv : T → Tlv) (IsInWidth IsWellFormed : T → Type 0) : Type 0 where
@@ -15,3 +18,45 @@ pub record KindLaws {T : Type 0} (read : ℕ → ℕ → List ℕ → Result T F
 -- what is read is written with the size that it was read from
 abbrev pub KeepsSize : {T : Type 0} → (ℕ → ℕ → List ℕ → Result T Fault) → (T → Tlv) → Type 0
 KeepsSize read tlv = (first second : ℕ) (value : List ℕ) (t : _) → read first second value ≡ Ok t → size_of (tlv t) ≡ 4 + length value
+
+-- ---- a kind of parameter or cause, which has one type: its value alone is read
+
+abbrev pub by_value : {T : Type 0} → (List ℕ → Result T Fault) → ℕ → ℕ → List ℕ → Result T Fault
+by_value read first second value = read value
+
+pub typed_laws : {T : Type 0} (read : List ℕ → Result T Fault) (typ : ℕ) (bytes : T → List ℕ) (IsInWidth IsWellFormed : T → Type 0)
+    → ((t : T) → IsInWidth t → IsWellFormed t → 4 + length (bytes t) < 2 ^ 16 → read (bytes t) ≡ Ok t) → ((value : List ℕ) (t : T) → read value ≡ Ok t → IsWellFormed t)
+    → KindLaws (by_value read) (λ t. typed_tlv typ (bytes t)) IsInWidth IsWellFormed
+typed_laws read typ bytes IsInWidth IsWellFormed back formed = record {
+  sized = λ t. length-map (bytes t) Some;
+  back = λ t width form encodable. rw (zeroed-solid (bytes t)) (back t width form encodable);
+  formed = λ first second value t e. formed value t e;
+}
+
+-- ---- what was read
+
+abbrev ok_of : {T : Type 0} → T → Result T Fault
+ok_of x = Ok x
+
+pub of_ok : {T : Type 0} (x y : T) → ok_of x ≡ Ok y → x ≡ y
+of_ok x y e = cc
+
+-- the tree under a tree of the level
+pub of_map_ok : {A B : Type 0} (f : A → B) (r : Result A Fault) (y : B) → map_ok f r ≡ Ok y → (x : A) × ((r ≡ Ok x) × (y ≡ f x))
+of_map_ok f (Ok x) y e = (x, (refl, cc))
+of_map_ok f (Err d) y e = absurd cc
+
+-- the side that a test took
+pub chosen : {A : Type 0} (b : Bool) (x y z : A) → cond b x y ≡ z → ((b ≡ true) × (x ≡ z)) ⊎ ((b ≡ false) × (y ≡ z))
+chosen true x y z e = inl (refl, e)
+chosen false x y z e = inr (refl, e)
+
+-- a test that nothing is read past
+pub passed : {T : Type 0} (b : Bool) (r : Result T Fault) (e : Fault) (t : T) → cond b r (Err e) ≡ Ok t → (b ≡ true) × (r ≡ Ok t)
+passed true r e t h = (refl, h)
+passed false r e t h = absurd cc
+
+-- the same where it is refused first
+pub not_refused : {T : Type 0} (b : Bool) (r : Result T Fault) (e : Fault) (t : T) → cond b (Err e) r ≡ Ok t → (b ≡ false) × (r ≡ Ok t)
+not_refused false r e t h = (refl, h)
+not_refused true r e t h = absurd cc
