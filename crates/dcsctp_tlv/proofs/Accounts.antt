@@ -65,3 +65,10 @@ pub list_account : {T : Type 0} (level : Level T) (tlv : T → Tlv) (IsKept : It
     → AllByRecursion IsKept m.items → SameSpace (list_size tlv ts) (length bytes)
 list_account level tlv IsKept law bytes ts m k =
     subst (SameSpace (list_size tlv ts)) (ap length (sym m.are.split)) (items_account level tlv IsKept law m.items ts m.are.formed m.mean k)
+
+-- the same where every item is kept
+pub all_account : {T : Type 0} (level : Level T) (tlv : T → Tlv) → Accounts level tlv (λ i. Unit {0}) → (bytes : List ℕ) (ts : List T) → MeansTrees level bytes ts → SameSpace (list_size tlv ts) (length bytes)
+all_account level tlv law bytes ts m = list_account level tlv (λ i. Unit {0}) law bytes ts m (all m.items) where
+  all : (is : List Item) → AllByRecursion (λ i. Unit {0}) is
+  all [] = tt
+  all (i ∷ is) = (tt, all is)

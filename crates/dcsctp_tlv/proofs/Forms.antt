@@ -1,8 +1,6 @@
 -- What is read is well-formed, at every level whose rows read only that.
-use Rattle.std.proofs.Common.{◌≡◌, ◌≢◌, ℕ, Bool, true, false, List, [], ◌∷◌, refl, sym, subst, ◌∙◌, ◌⊎◌, inl, inr, Result}
-use Rattle.std.specs.Prelude.{◌==◌}
+use Rattle.std.proofs.Common.{◌≡◌, ℕ, Bool, true, false, List, [], ◌∷◌, refl, sym, subst, ◌∙◌, Result}
 use Rattle.std.specs.List.{flat_map, AllByRecursion}
-use Rattle.std.proofs.lemmas.Bool.Decides.{eqb_tells}
 use Rattle.dcsctp_tlv.specs.Fault.{Fault}
 use Rattle.dcsctp_tlv.specs.Image.{Tlv}
 use Rattle.dcsctp_tlv.specs.Frame.{Item, item_bytes}
@@ -18,9 +16,6 @@ pub record FormsTrees {T : Type 0} (level : Level T) (IsFormed : T → Type 0) :
 pub picked : {T : Type 0} (Holds : Row T → Type 0) (b : Bool) (row others : Row T) → (b ≡ true → Holds row) → (b ≡ false → Holds others) → Holds (pick b row others)
 picked Holds true row others p q = p refl
 picked Holds false row others p q = q refl
-
-pub not_equal : (m n : ℕ) → (m == n) ≡ false → m ≢ n
-not_equal m n e = elim (eqb_tells m n) [ inl p ↦ absurd (let both : true ≡ false = sym p.0 ∙ e in cc) | inr p ↦ p.1 ]
 
 abbrev pub FormsRow : {T : Type 0} → (T → Type 0) → Row T → Type 0
 FormsRow {T} IsFormed row = (value : List ℕ) (t : T) → row.means value t → IsFormed t

@@ -1,9 +1,9 @@
 -- What a kind owes the laws of its level, where its value is read at fixed places.
-use Rattle.std.proofs.Common.{◌≡◌, ℕ, ◌+◌, ◌/◌, ◌%◌, ◌^◌, ◌<◌, Bool, true, false, cond, ◌⊎◌, inl, inr, List, length, Some, Result, Ok, Err, refl}
+use Rattle.std.proofs.Common.{◌≡◌, ℕ, ◌+◌, ◌^◌, ◌<◌, Bool, true, false, cond, ◌⊎◌, inl, inr, List, length, Some, Result, Ok, Err, refl}
 use Rattle.std.proofs.lemmas.List.{length-map}
 use Rattle.dcsctp_tlv.specs.Fault.{Fault}
 use Rattle.dcsctp_tlv.specs.Level.{map_ok}
-use Rattle.dcsctp_tlv.specs.Image.{solid, zeroed, Tlv, typed_tlv, size_of, IsEncodable}
+use Rattle.dcsctp_tlv.specs.Image.{zeroed, Tlv, typed_tlv, size_of, IsEncodable}
 use Rattle.dcsctp_tlv.proofs.ReadsBack.{zeroed-solid}
 
 -- A value as it is read, after the item's first two bytes; and its tree as it is written.
@@ -18,6 +18,10 @@ pub record KindLaws {T : Type 0} (read : ℕ → ℕ → List ℕ → Result T F
 -- what is read is written with the size that it was read from
 abbrev pub KeepsSize : {T : Type 0} → (ℕ → ℕ → List ℕ → Result T Fault) → (T → Tlv) → Type 0
 KeepsSize read tlv = (first second : ℕ) (value : List ℕ) (t : _) → read first second value ≡ Ok t → size_of (tlv t) ≡ 4 + length value
+
+-- well-formed, or in width, whatever it says
+abbrev pub Always : {T : Type 0} → T → Type 0
+Always t = Unit {0}
 
 -- ---- a kind of parameter or cause, which has one type: its value alone is read
 

@@ -10,9 +10,9 @@ pub mod Puts
 pub mod KindLaws
 pub mod Listed
 pub mod FieldLaws
-pub mod ParameterKinds
 pub mod Forms
 pub mod Accounts
 pub mod Counts
 pub mod Kept
+pub mod ParameterKinds
 pub mod ParameterLaws

@@ -1,15 +1,14 @@
 -- What each kind of parameter owes the laws of the table.
-use Rattle.std.proofs.Common.{◌≡◌, ℕ, ◌+◌, ◌-◌, ◌*◌, ◌/◌, ◌%◌, ◌^◌, ◌<◌, ◌≤◌, true, false, List, [], ◌∷◌, ◌++◌, length, drop, refl, sym, ap, ◌∙◌, arith, Option, Some, None, Result, Ok, Err, ◌⊎◌, inl, inr}
-use Rattle.std.specs.Prelude.{◌==◌, nat_lt, IsSome, ◌↔◌}
+use Rattle.std.proofs.Common.{◌≡◌, ℕ, ◌+◌, ◌-◌, ◌/◌, ◌%◌, ◌^◌, ◌<◌, true, false, List, [], ◌∷◌, ◌++◌, length, drop, refl, sym, ap, subst, ◌∙◌, arith, Option, Some, None, Result, Ok, ◌⊎◌, inl, inr}
+use Rattle.std.specs.Prelude.{◌==◌, nat_lt}
 use Rattle.std.specs.Int.{w16, w32, to_be_bytes, from_be_bytes}
 use Rattle.std.proofs.lemmas.Bool.{eqb-true, ltb-false, le-ltb}
 use Rattle.std.proofs.lemmas.Bool.Decides.{Decides-eqb}
 use Rattle.std.proofs.lemmas.List.{length-map}
 use Rattle.std.proofs.lemmas.Nat.{from_be_bytes-to_be_bytes_4}
 use Rattle.dcsctp_tlv.specs.Fault.{Fault, Length}
+use Rattle.dcsctp_tlv.specs.Level.{plain, map_ok}
 use Rattle.dcsctp_tlv.specs.Number.{number16, number32, numbers}
-use Rattle.dcsctp_tlv.specs.Fields.{fields}
-use Rattle.dcsctp_tlv.specs.Image.{zeroed, solid, Tlv, IsEncodable, typed_tlv, size_of}
 use Rattle.dcsctp_tlv.specs.HeartbeatInfo.{heartbeat_info_at, heartbeat_info_tlv, IsHeartbeatInfoInWidth}
 use Rattle.dcsctp_tlv.specs.StateCookie.{state_cookie_at, state_cookie_tlv, IsStateCookieInWidth}
 use Rattle.dcsctp_tlv.specs.SupportedExtensions.{supported_extensions_at, supported_extensions_tlv, IsSupportedExtensionsInWidth}
@@ -22,13 +21,10 @@ use Rattle.dcsctp_tlv.specs.ReconfigurationResponse.{ReconfigurationResponseTree
 use Rattle.dcsctp_tlv.specs.declared.reconfiguration_response_parameter.ReconfigurationResponseResult.{ReconfigurationResponseResult}
 use Rattle.dcsctp_tlv.specs.declared.reconfiguration_response_parameter.ReconfigurationResponseResult.TheVariants.{SuccessNothingToDo, SuccessPerformed, Denied, ErrorWrongSSN, ErrorRequestAlreadyInProgress, ErrorBadSequenceNumber, InProgress}
 use Rattle.dcsctp_tlv.proofs.ReadsBack.{zeroed-solid}
-use Rattle.dcsctp_tlv.proofs.KindLaws.{KindLaws, KeepsSize, by_value, typed_laws, of_ok, of_map_ok, chosen, passed, not_refused}
+use Rattle.dcsctp_tlv.proofs.KindLaws.{KindLaws, KeepsSize, Always, by_value, typed_laws, of_ok, of_map_ok, chosen, passed, not_refused}
 use Rattle.dcsctp_tlv.proofs.FieldLaws.{length-fields, numbers16_back}
+use Rattle.dcsctp_tlv.proofs.Forms.{FormsRow}
 use Rattle.dcsctp_tlv.proofs.Puts.{length-numbers}
-
--- well-formed whatever it says
-abbrev pub Always : {T : Type 0} → T → Type 0
-Always t = Unit {0}
 
 -- ---- any bytes
 
@@ -96,10 +92,17 @@ unknown_parameter_laws = record {
   formed = λ first second value u e. tt;
 }
 
-pub unknown_parameter_keeps_size : KeepsSize unknown_parameter_read unknown_parameter_tlv
+pub unknown_parameter_keeps_size : (typ : ℕ) → KeepsSize (by_value (unknown_parameter_at typ)) unknown_parameter_tlv
 unfolding unknown_parameter_at
-unknown_parameter_keeps_size first second value u e =
-    ap (λ (v : UnknownParameterTree). 4 + length v.value) (sym (of_ok (record { typ = from_be_bytes w16 (first ∷ second ∷ []); value = value }) u e))
+unknown_parameter_keeps_size typ first second value u e = ap (λ (v : UnknownParameterTree). 4 + length v.value) (sym (of_ok (record { typ = typ; value = value }) u e))
+
+-- what is kept as it is holds the type of its item
+pub unknown_parameter_forms : {T : Type 0} (IsFormed : T → Type 0) (typ : ℕ) (tree : UnknownParameterTree → T) → ((value : List ℕ) → IsFormed (tree (record { typ = typ; value = value })))
+    → FormsRow IsFormed (plain (λ value. map_ok tree (unknown_parameter_at typ value)))
+unfolding unknown_parameter_at
+unknown_parameter_forms IsFormed typ tree law value t e =
+    let u = of_map_ok tree (unknown_parameter_at typ value) t e in
+    subst (λ (x : _). IsFormed x) (ap tree (of_ok (record { typ = typ; value = value }) u.0 u.1.0) ∙ sym u.1.1) (law value)
 
 -- ---- requests: numbers, and streams behind them
 

@@ -1,12 +1,10 @@
 -- The laws of the table of parameters: a line for each kind.
-use Rattle.std.proofs.Common.{◌≡◌, ℕ, ◌/◌, ◌%◌, ◌^◌, ◌<◌, true, false, ◌≢◌, List, [], ◌∷◌, ◌++◌, length, refl, sym, ap, subst, ◌∙◌, Option, Some, None, Ok, inl, inr}
+use Rattle.std.proofs.Common.{◌≡◌, ℕ, ◌^◌, ◌<◌, List, [], ◌∷◌, ◌++◌, length, refl, sym, ap, subst, Option, Some, None}
 use Rattle.std.specs.Prelude.{◌==◌, ◌↔◌, IsSome, IfSome}
 use Rattle.std.specs.Int.{w16, w32, from_be_bytes}
-use Rattle.std.specs.List.{AllByRecursion}
-use Rattle.std.proofs.lemmas.Bool.{eqb-true}
-use Rattle.std.proofs.lemmas.Bool.Decides.{eqb_tells}
-use Rattle.dcsctp_tlv.specs.Level.{Level, plain, map_ok}
-use Rattle.dcsctp_tlv.specs.Image.{Tlv, typed_tlv, zeroed, size_of, IsEncodable, list_image, list_size}
+use Rattle.std.proofs.lemmas.Bool.{eqb-true, eqb-false, ne_eqb}
+use Rattle.dcsctp_tlv.specs.Level.{Row, map_ok}
+use Rattle.dcsctp_tlv.specs.Image.{Tlv, typed_tlv, zeroed, IsEncodable, list_image, list_size}
 use Rattle.dcsctp_tlv.specs.Number.{numbers}
 use Rattle.dcsctp_tlv.specs.ReconfigurationResponse.{ReconfigurationResponseTree, result_number, next_tsns, reconfiguration_response_tlv, kept_tsn, kept_reconfiguration_response}
 use Rattle.dcsctp_tlv.specs.UnknownParameter.{UnknownParameterTree, unknown_parameter_at, unknown_parameter_tlv}
@@ -14,12 +12,11 @@ use Rattle.dcsctp_tlv.specs.Parameter.{ParameterTree, HeartbeatInfo, StateCookie
 use Rattle.dcsctp_tlv.specs.WellFormedParameter.{IsParameterInWidth, IsUnnamedParameter, IsParameterTyped, IsParameterWellFormed, kept_parameter, kept_parameters}
 use Rattle.dcsctp_tlv.proofs.Laws.{LawfulRow, Lawful, plain_lawful, pick_lawful}
 use Rattle.dcsctp_tlv.proofs.ReadsBack.{ReadsBack, zeroed-solid}
-use Rattle.dcsctp_tlv.proofs.ParameterKinds.{heartbeat_info_laws, heartbeat_info_keeps_size, state_cookie_laws, state_cookie_keeps_size, outgoing_ssn_reset_request_laws, outgoing_ssn_reset_request_keeps_size, incoming_ssn_reset_request_laws, incoming_ssn_reset_request_keeps_size, reconfiguration_response_laws, reconfiguration_response_keeps_size, zero_checksum_acceptable_laws, zero_checksum_acceptable_keeps_size, supported_extensions_laws, supported_extensions_keeps_size, forward_tsn_supported_laws, forward_tsn_supported_keeps_size, type_back, unknown_parameter_laws, unknown_parameter_keeps_size}
-use Rattle.dcsctp_tlv.proofs.Forms.{FormsTrees, FormsRow, picked, not_equal, plain_forms}
-use Rattle.dcsctp_tlv.proofs.Accounts.{Accounts, AccountsRow, plain_account, same_size}
+use Rattle.dcsctp_tlv.proofs.ParameterKinds.{heartbeat_info_laws, heartbeat_info_keeps_size, state_cookie_laws, state_cookie_keeps_size, outgoing_ssn_reset_request_laws, outgoing_ssn_reset_request_keeps_size, incoming_ssn_reset_request_laws, incoming_ssn_reset_request_keeps_size, reconfiguration_response_laws, reconfiguration_response_keeps_size, zero_checksum_acceptable_laws, zero_checksum_acceptable_keeps_size, supported_extensions_laws, supported_extensions_keeps_size, forward_tsn_supported_laws, forward_tsn_supported_keeps_size, type_back, unknown_parameter_laws, unknown_parameter_keeps_size, unknown_parameter_forms}
+use Rattle.dcsctp_tlv.proofs.Forms.{FormsTrees, FormsRow, picked, plain_forms}
+use Rattle.dcsctp_tlv.proofs.Accounts.{Accounts, AccountsRow, plain_account}
 use Rattle.dcsctp_tlv.proofs.Counts.{Counts, one_each}
 use Rattle.dcsctp_tlv.proofs.Kept.{list_image-kept, list_size-kept}
-use Rattle.dcsctp_tlv.proofs.KindLaws.{of_ok}
 
 -- ---- one answer
 
@@ -59,14 +56,11 @@ kept_means : (typ : ℕ) (tree : UnknownParameterTree → ParameterTree) → ((v
     → (u : UnknownParameterTree) → u.typ ≡ typ → Means (unknown_parameter_tlv u) (tree u)
 kept_means typ tree law u e = subst (λ (n : ℕ). Means (unknown_parameter_tlv (record { typ = n; value = u.value })) (tree (record { typ = n; value = u.value }))) (sym e) (law u.value)
 
-is_not : (m n : ℕ) → m ≢ n → (m == n) ≡ false
-is_not m n h = elim (eqb_tells m n) [ inl p ↦ absurd (h p.1) | inr p ↦ p.0 ]
-
 unknown_means : (u : UnknownParameterTree) → IsUnnamedParameter u.typ → Means (unknown_parameter_tlv u) (Unknown u)
 unfolding unknown_parameter_at
 unknown_means u h =
     subst (λ (typ : ℕ). (parameter_row typ).means (zeroed (unknown_parameter_tlv u).value) (Unknown u)) (sym (type_back u.typ))
-    (rw (is_not u.typ 1 h.0, is_not u.typ 7 h.1, is_not u.typ 13 h.2, is_not u.typ 14 h.3, is_not u.typ 15 h.4, is_not u.typ 16 h.5, is_not u.typ 17 h.6, is_not u.typ 18 h.7, is_not u.typ 0x8001 h.8, is_not u.typ 0x8008 h.9, is_not u.typ 0xC000 h.10, zeroed-solid u.value) refl)
+    (rw (ne_eqb u.typ 1 h.0, ne_eqb u.typ 7 h.1, ne_eqb u.typ 13 h.2, ne_eqb u.typ 14 h.3, ne_eqb u.typ 15 h.4, ne_eqb u.typ 16 h.5, ne_eqb u.typ 17 h.6, ne_eqb u.typ 18 h.7, ne_eqb u.typ 0x8001 h.8, ne_eqb u.typ 0x8008 h.9, ne_eqb u.typ 0xC000 h.10, zeroed-solid u.value) refl)
 
 parameter_means : (t : ParameterTree) → IsGoodParameter t → Means (parameter_tlv t) t
 unfolding unknown_parameter_at
@@ -102,53 +96,46 @@ parameters_read_back = record { sized = sized; fits = λ t good. good.encodable;
 
 -- ---- well-formed
 
--- a parameter kept as it is holds the type of its item
-unknown_forms : (typ : ℕ) (tree : UnknownParameterTree → ParameterTree) → ((value : List ℕ) → IsParameterWellFormed (tree (record { typ = typ; value = value })))
-    → FormsRow IsParameterWellFormed (plain (λ value. map_ok tree (unknown_parameter_at typ value)))
-unfolding unknown_parameter_at
-unknown_forms typ tree law value t e = subst IsParameterWellFormed (of_ok (tree (record { typ = typ; value = value })) t e) (law value)
+abbrev Forms : Row ParameterTree → Type 0
+Forms row = FormsRow IsParameterWellFormed row
 
-row_forms : (typ : ℕ) → FormsRow IsParameterWellFormed (parameter_row typ)
+row_forms : (typ : ℕ) → Forms (parameter_row typ)
 row_forms typ =
-    picked (FormsRow IsParameterWellFormed) (typ == 1) _ _ (λ is. plain_forms heartbeat_info_laws HeartbeatInfo IsParameterWellFormed 0 0 (λ x form. tt)) (λ not_1.
-    picked (FormsRow IsParameterWellFormed) (typ == 7) _ _ (λ is. plain_forms state_cookie_laws StateCookie IsParameterWellFormed 0 0 (λ x form. tt)) (λ not_7.
-    picked (FormsRow IsParameterWellFormed) (typ == 13) _ _ (λ is. plain_forms outgoing_ssn_reset_request_laws OutgoingSsnResetRequest IsParameterWellFormed 0 0 (λ x form. tt)) (λ not_13.
-    picked (FormsRow IsParameterWellFormed) (typ == 14) _ _ (λ is. plain_forms incoming_ssn_reset_request_laws IncomingSsnResetRequest IsParameterWellFormed 0 0 (λ x form. tt)) (λ not_14.
-    picked (FormsRow IsParameterWellFormed) (typ == 15) _ _ (λ is. unknown_forms typ SsnTsnResetRequest (λ value. eqb-true typ 15 is)) (λ not_15.
-    picked (FormsRow IsParameterWellFormed) (typ == 16) _ _ (λ is. plain_forms reconfiguration_response_laws ReconfigurationResponse IsParameterWellFormed 0 0 (λ x form. form)) (λ not_16.
-    picked (FormsRow IsParameterWellFormed) (typ == 17) _ _ (λ is. unknown_forms typ AddOutgoingStreamsRequest (λ value. eqb-true typ 17 is)) (λ not_17.
-    picked (FormsRow IsParameterWellFormed) (typ == 18) _ _ (λ is. unknown_forms typ AddIncomingStreamsRequest (λ value. eqb-true typ 18 is)) (λ not_18.
-    picked (FormsRow IsParameterWellFormed) (typ == 0x8001) _ _ (λ is. plain_forms zero_checksum_acceptable_laws ZeroChecksumAcceptable IsParameterWellFormed 0 0 (λ x form. tt)) (λ not_0x8001.
-    picked (FormsRow IsParameterWellFormed) (typ == 0x8008) _ _ (λ is. plain_forms supported_extensions_laws SupportedExtensions IsParameterWellFormed 0 0 (λ x form. tt)) (λ not_0x8008.
-    picked (FormsRow IsParameterWellFormed) (typ == 0xC000) _ _ (λ is. plain_forms forward_tsn_supported_laws (λ _. ForwardTsnSupported) IsParameterWellFormed 0 0 (λ x form. tt)) (λ not_0xC000.
-    unknown_forms typ Unknown (λ value. (not_equal typ 1 not_1, not_equal typ 7 not_7, not_equal typ 13 not_13, not_equal typ 14 not_14, not_equal typ 15 not_15, not_equal typ 16 not_16, not_equal typ 17 not_17, not_equal typ 18 not_18, not_equal typ 0x8001 not_0x8001, not_equal typ 0x8008 not_0x8008, not_equal typ 0xC000 not_0xC000)))))))))))))
+    picked Forms (typ == 1) _ _ (λ is. plain_forms heartbeat_info_laws HeartbeatInfo IsParameterWellFormed 0 0 (λ x form. tt)) (λ not_1.
+    picked Forms (typ == 7) _ _ (λ is. plain_forms state_cookie_laws StateCookie IsParameterWellFormed 0 0 (λ x form. tt)) (λ not_7.
+    picked Forms (typ == 13) _ _ (λ is. plain_forms outgoing_ssn_reset_request_laws OutgoingSsnResetRequest IsParameterWellFormed 0 0 (λ x form. tt)) (λ not_13.
+    picked Forms (typ == 14) _ _ (λ is. plain_forms incoming_ssn_reset_request_laws IncomingSsnResetRequest IsParameterWellFormed 0 0 (λ x form. tt)) (λ not_14.
+    picked Forms (typ == 15) _ _ (λ is. unknown_parameter_forms IsParameterWellFormed typ SsnTsnResetRequest (λ value. eqb-true typ 15 is)) (λ not_15.
+    picked Forms (typ == 16) _ _ (λ is. plain_forms reconfiguration_response_laws ReconfigurationResponse IsParameterWellFormed 0 0 (λ x form. form)) (λ not_16.
+    picked Forms (typ == 17) _ _ (λ is. unknown_parameter_forms IsParameterWellFormed typ AddOutgoingStreamsRequest (λ value. eqb-true typ 17 is)) (λ not_17.
+    picked Forms (typ == 18) _ _ (λ is. unknown_parameter_forms IsParameterWellFormed typ AddIncomingStreamsRequest (λ value. eqb-true typ 18 is)) (λ not_18.
+    picked Forms (typ == 0x8001) _ _ (λ is. plain_forms zero_checksum_acceptable_laws ZeroChecksumAcceptable IsParameterWellFormed 0 0 (λ x form. tt)) (λ not_0x8001.
+    picked Forms (typ == 0x8008) _ _ (λ is. plain_forms supported_extensions_laws SupportedExtensions IsParameterWellFormed 0 0 (λ x form. tt)) (λ not_0x8008.
+    picked Forms (typ == 0xC000) _ _ (λ is. plain_forms forward_tsn_supported_laws (λ _. ForwardTsnSupported) IsParameterWellFormed 0 0 (λ x form. tt)) (λ not_0xC000.
+    unknown_parameter_forms IsParameterWellFormed typ Unknown (λ value. (eqb-false typ 1 not_1, eqb-false typ 7 not_7, eqb-false typ 13 not_13, eqb-false typ 14 not_14, eqb-false typ 15 not_15, eqb-false typ 16 not_16, eqb-false typ 17 not_17, eqb-false typ 18 not_18, eqb-false typ 0x8001 not_0x8001, eqb-false typ 0x8008 not_0x8008, eqb-false typ 0xC000 not_0xC000)))))))))))))
 
 pub parameters_form : FormsTrees parameters IsParameterWellFormed
 parameters_form = record { formed = λ first second. row_forms (from_be_bytes w16 (first ∷ second ∷ [])) }
 
 -- ---- the size account
 
-unknown_account : (typ : ℕ) (tree : UnknownParameterTree → ParameterTree) → ((u : UnknownParameterTree) → parameter_tlv (tree u) ≡ unknown_parameter_tlv u)
-    → AccountsRow parameter_tlv (plain (λ value. map_ok tree (unknown_parameter_at typ value)))
-unfolding unknown_parameter_at
-unknown_account typ tree same value t e =
-    let u : UnknownParameterTree = record { typ = typ; value = value } in
-    same_size _ _ (ap (λ (x : ParameterTree). size_of (parameter_tlv x)) (sym (of_ok (tree u) t e)) ∙ ap size_of (same u))
+abbrev Accounted : Row ParameterTree → Type 0
+Accounted row = AccountsRow parameter_tlv row
 
-row_account : (typ : ℕ) → AccountsRow parameter_tlv (parameter_row typ)
+row_account : (typ : ℕ) → Accounted (parameter_row typ)
 row_account typ =
-    picked (AccountsRow parameter_tlv) (typ == 1) _ _ (λ is. plain_account _ HeartbeatInfo parameter_tlv (heartbeat_info_keeps_size 0 0)) (λ not_1.
-    picked (AccountsRow parameter_tlv) (typ == 7) _ _ (λ is. plain_account _ StateCookie parameter_tlv (state_cookie_keeps_size 0 0)) (λ not_7.
-    picked (AccountsRow parameter_tlv) (typ == 13) _ _ (λ is. plain_account _ OutgoingSsnResetRequest parameter_tlv (outgoing_ssn_reset_request_keeps_size 0 0)) (λ not_13.
-    picked (AccountsRow parameter_tlv) (typ == 14) _ _ (λ is. plain_account _ IncomingSsnResetRequest parameter_tlv (incoming_ssn_reset_request_keeps_size 0 0)) (λ not_14.
-    picked (AccountsRow parameter_tlv) (typ == 15) _ _ (λ is. unknown_account typ SsnTsnResetRequest (λ u. refl)) (λ not_15.
-    picked (AccountsRow parameter_tlv) (typ == 16) _ _ (λ is. plain_account _ ReconfigurationResponse parameter_tlv (reconfiguration_response_keeps_size 0 0)) (λ not_16.
-    picked (AccountsRow parameter_tlv) (typ == 17) _ _ (λ is. unknown_account typ AddOutgoingStreamsRequest (λ u. refl)) (λ not_17.
-    picked (AccountsRow parameter_tlv) (typ == 18) _ _ (λ is. unknown_account typ AddIncomingStreamsRequest (λ u. refl)) (λ not_18.
-    picked (AccountsRow parameter_tlv) (typ == 0x8001) _ _ (λ is. plain_account _ ZeroChecksumAcceptable parameter_tlv (zero_checksum_acceptable_keeps_size 0 0)) (λ not_0x8001.
-    picked (AccountsRow parameter_tlv) (typ == 0x8008) _ _ (λ is. plain_account _ SupportedExtensions parameter_tlv (supported_extensions_keeps_size 0 0)) (λ not_0x8008.
-    picked (AccountsRow parameter_tlv) (typ == 0xC000) _ _ (λ is. plain_account _ (λ _. ForwardTsnSupported) parameter_tlv (forward_tsn_supported_keeps_size 0 0)) (λ not_0xC000.
-    unknown_account typ Unknown (λ u. refl))))))))))))
+    picked Accounted (typ == 1) _ _ (λ _. plain_account _ HeartbeatInfo parameter_tlv (heartbeat_info_keeps_size 0 0)) (λ _.
+    picked Accounted (typ == 7) _ _ (λ _. plain_account _ StateCookie parameter_tlv (state_cookie_keeps_size 0 0)) (λ _.
+    picked Accounted (typ == 13) _ _ (λ _. plain_account _ OutgoingSsnResetRequest parameter_tlv (outgoing_ssn_reset_request_keeps_size 0 0)) (λ _.
+    picked Accounted (typ == 14) _ _ (λ _. plain_account _ IncomingSsnResetRequest parameter_tlv (incoming_ssn_reset_request_keeps_size 0 0)) (λ _.
+    picked Accounted (typ == 15) _ _ (λ _. plain_account _ SsnTsnResetRequest parameter_tlv (unknown_parameter_keeps_size typ 0 0)) (λ _.
+    picked Accounted (typ == 16) _ _ (λ _. plain_account _ ReconfigurationResponse parameter_tlv (reconfiguration_response_keeps_size 0 0)) (λ _.
+    picked Accounted (typ == 17) _ _ (λ _. plain_account _ AddOutgoingStreamsRequest parameter_tlv (unknown_parameter_keeps_size typ 0 0)) (λ _.
+    picked Accounted (typ == 18) _ _ (λ _. plain_account _ AddIncomingStreamsRequest parameter_tlv (unknown_parameter_keeps_size typ 0 0)) (λ _.
+    picked Accounted (typ == 0x8001) _ _ (λ _. plain_account _ ZeroChecksumAcceptable parameter_tlv (zero_checksum_acceptable_keeps_size 0 0)) (λ _.
+    picked Accounted (typ == 0x8008) _ _ (λ _. plain_account _ SupportedExtensions parameter_tlv (supported_extensions_keeps_size 0 0)) (λ _.
+    picked Accounted (typ == 0xC000) _ _ (λ _. plain_account _ (λ _. ForwardTsnSupported) parameter_tlv (forward_tsn_supported_keeps_size 0 0)) (λ _.
+    plain_account _ Unknown parameter_tlv (unknown_parameter_keeps_size typ 0 0))))))))))))
 
 pub parameters_account : Accounts parameters parameter_tlv (λ i. Unit {0})
 parameters_account = record { sized = λ i t kept. row_account (from_be_bytes w16 (i.first ∷ i.second ∷ [])) i.value t }
