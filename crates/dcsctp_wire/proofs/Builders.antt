@@ -4,9 +4,9 @@ use Rattle.std.specs.Prelude.{max}
 use Rattle.std.specs.List.{AllByRecursion}
 use Rattle.std.proofs.Math.Seq.{take-append_seam, drop-append_seam}
 use Rattle.dcsctp_tlv.specs.Frame.{round_up_to_4}
-use Rattle.dcsctp_tlv.specs.Image.{zeroed, gap, written, size_of, image_of, IsEncodable}
+use Rattle.dcsctp_tlv.specs.Image.{zeroed, gap, written, size_of, image_of}
 use Rattle.dcsctp_tlv.proofs.Images.{written-zeros}
-use Rattle.dcsctp_wire.specs.Chunk.{ChunkTree, chunk_tlv, length-chunk}
+use Rattle.dcsctp_wire.specs.Chunk.{ChunkTree, chunk_tlv, IsChunkEncodable, length-chunk}
 use Rattle.dcsctp_wire.specs.Canonical.{canonical, padded_chunk, padded_size}
 use Rattle.dcsctp_wire.specs.Builder.{BuilderState, meaning_with, HoldsPacket, Holds, room, begun}
 use Rattle.dcsctp_wire.proofs.Canonicals.{length-canonical, canonical-push, padded_size-push}
@@ -47,11 +47,11 @@ begun_held b (t ∷ ts) h =
     let len = ap length h.bytes ∙ length-canonical (meaning_with b (t ∷ ts)) in
     begun_some b b.bytes (omega (arith, len)) ∙ h.bytes
 
-each_held : (b : BuilderState) (ts : List ChunkTree) → Holds b ts → AllByRecursion (λ t. IsEncodable (chunk_tlv t)) ts
+each_held : (b : BuilderState) (ts : List ChunkTree) → Holds b ts → AllByRecursion IsChunkEncodable ts
 each_held b [] h = tt
 each_held b (t ∷ ts) h = h.each
 
-each-push : (ts : List ChunkTree) (t : ChunkTree) → AllByRecursion (λ u. IsEncodable (chunk_tlv u)) ts → IsEncodable (chunk_tlv t) → AllByRecursion (λ u. IsEncodable (chunk_tlv u)) (ts ++ t ∷ [])
+each-push : (ts : List ChunkTree) (t : ChunkTree) → AllByRecursion IsChunkEncodable ts → IsChunkEncodable t → AllByRecursion IsChunkEncodable (ts ++ t ∷ [])
 each-push [] t each last = (last, tt)
 each-push (u ∷ ts) t each last = (each.0, each-push ts t each.1 last)
 
@@ -60,7 +60,7 @@ holds_packet b [] t h = h
 holds_packet b (u ∷ ts) t h = h
 
 -- the same settings, and the chunk's bytes behind those that were there
-pub adds : (b after : BuilderState) (t : ChunkTree) → IsEncodable (chunk_tlv t) → round_up_to_4 (size_of (chunk_tlv t)) ≤ room b
+pub adds : (b after : BuilderState) (t : ChunkTree) → IsChunkEncodable t → round_up_to_4 (size_of (chunk_tlv t)) ≤ room b
     → after ≡ record b { bytes = begun b b.bytes ++ padded_chunk t } → (ts : List ChunkTree) → Holds b ts → Holds after (ts ++ t ∷ [])
 adds b after t encodable fits is ts h =
     let new = record b { bytes = begun b b.bytes ++ padded_chunk t } in

@@ -2,8 +2,8 @@
 use Rattle.std.specs.Prelude.{◌≡◌, ◌≢◌, ℕ, ◌-◌, ◌≤◌, max, Bool, true, false, List, [], ◌∷◌, length}
 use Rattle.std.specs.List.{AllByRecursion}
 use Rattle.std.specs.Int.{w32, to_be_bytes}
-use Rattle.dcsctp_tlv.specs.Image.{put, IsEncodable}
-use Rattle.dcsctp_wire.specs.Chunk.{ChunkTree, chunk_tlv}
+use Rattle.dcsctp_tlv.specs.Image.{put}
+use Rattle.dcsctp_wire.specs.Chunk.{ChunkTree, IsChunkEncodable}
 use Rattle.dcsctp_wire.specs.Packet.{Meaning}
 use Rattle.dcsctp_wire.specs.Canonical.{canonical}
 
@@ -25,7 +25,7 @@ meaning_with b chunks = record { source = b.source; destination = b.destination;
 
 -- the bytes are these chunks' canonical packet, within the limit
 pub record HoldsPacket (b : BuilderState) (chunks : List ChunkTree) : Type 0 where
-  pub each : AllByRecursion (λ t. IsEncodable (chunk_tlv t)) chunks
+  pub each : AllByRecursion IsChunkEncodable chunks
   pub bytes : b.bytes ≡ canonical (meaning_with b chunks)
   pub within : length b.bytes ≤ b.limit
 

@@ -3,8 +3,8 @@ use Rattle.std.specs.Prelude.{ℕ, ◌+◌, ◌≤◌, List, [], ◌∷◌, ◌+
 use Rattle.std.specs.List.{flat_map, AllByRecursion}
 use Rattle.std.specs.Int.{w16, w32, to_be_bytes}
 use Rattle.dcsctp_tlv.specs.Frame.{round_up_to_4}
-use Rattle.dcsctp_tlv.specs.Image.{zeroed, gap, size_of, image_of, IsEncodable}
-use Rattle.dcsctp_wire.specs.Chunk.{ChunkTree, chunk_tlv}
+use Rattle.dcsctp_tlv.specs.Image.{zeroed, gap, size_of, image_of}
+use Rattle.dcsctp_wire.specs.Chunk.{ChunkTree, chunk_tlv, IsChunkEncodable}
 use Rattle.dcsctp_wire.specs.Packet.{Meaning}
 
 -- a chunk as written over zeros, and zeros up to a multiple of 4
@@ -22,5 +22,5 @@ padded_size (t ∷ ts) = round_up_to_4 (size_of (chunk_tlv t)) + padded_size ts
 
 -- each chunk can be written, and the whole is the largest multiple of 4 that a packet can be, or less
 pub record Fits (m : Meaning) : Type 0 where
-  pub each : AllByRecursion (λ t. IsEncodable (chunk_tlv t)) m.chunks
+  pub each : AllByRecursion IsChunkEncodable m.chunks
   pub whole : 12 + padded_size m.chunks ≤ 65532

@@ -9,6 +9,7 @@ use Rattle.dcsctp_tlv.specs.Level.{Row, listed}
 use Rattle.dcsctp_tlv.specs.Image.{Tlv, listed_tlv}
 use Rattle.dcsctp_tlv.specs.Parameter.{ParameterTree, parameters, parameter_tlv}
 use Rattle.dcsctp_tlv.specs.Parameter as parameter
+use Rattle.dcsctp_tlv.specs.WellFormedParameter.{IsParameterInWidth}
 use Rattle.dcsctp_wire.specs.declared.packet.init.InitFields.{InitFields}
 use Rattle.dcsctp_wire.specs.declared.packet.init_chunk.InitChunk.{InitChunk}
 use Rattle.dcsctp_wire.specs.declared.packet.init_ack_chunk.InitAckChunk.{InitAckChunk}
@@ -73,3 +74,12 @@ init_ack_view c = record {
   tsn = c.initial_tsn.0;
   parameters = parameter.views c.parameters.items;
 }
+
+-- every number lies in its field's width
+pub record IsInitInWidth (i : InitTree) : Type 0 where
+  pub tag : i.tag < 2 ^ 32
+  pub window : i.window < 2 ^ 32
+  pub outbound : i.outbound < 2 ^ 16
+  pub inbound : i.inbound < 2 ^ 16
+  pub tsn : i.tsn < 2 ^ 32
+  pub each : AllByRecursion IsParameterInWidth i.parameters

@@ -1,23 +1,58 @@
 -- Meanings that a packet can have.
-use Rattle.std.specs.Prelude.{◌≢◌, ◌<◌, ◌^◌, []}
+use Rattle.std.specs.Prelude.{◌≢◌, ◌<◌, ◌^◌, ℕ, []}
 use Rattle.std.specs.List.{AllByRecursion}
-use Rattle.dcsctp_tlv.specs.Number.{AreBytes}
-use Rattle.dcsctp_wire.specs.Chunk.{ChunkTree, Shutdown, CookieEcho, CookieAck, Unknown}
+use Rattle.dcsctp_tlv.specs.WellFormedParameter.{IsParameterInWidth, IsParameterWellFormed}
+use Rattle.dcsctp_cause.specs.WellFormedCause.{IsCauseInWidth, IsCauseWellFormed}
+use Rattle.dcsctp_chunk.specs.DataChunk.{IsDataInWidth, IsDataWellFormed}
+use Rattle.dcsctp_chunk.specs.IDataChunk.{IsIDataInWidth, IsIDataWellFormed}
+use Rattle.dcsctp_chunk.specs.Shutdown.{IsShutdownInWidth}
+use Rattle.dcsctp_chunk.specs.CookieEcho.{IsCookieEchoInWidth, IsCookieEchoWellFormed}
+use Rattle.dcsctp_chunk.specs.Unknown.{IsUnknownInWidth}
+use Rattle.dcsctp_wire.specs.Init.{IsInitInWidth}
+use Rattle.dcsctp_wire.specs.Chunk.{ChunkTree, Data, Init, InitAck, HeartbeatRequest, HeartbeatAck, Abort, Shutdown, ShutdownAck, Error, CookieEcho, CookieAck, ShutdownComplete, IData, ReConfig, Unknown}
 use Rattle.dcsctp_wire.specs.Packet.{Meaning}
 
--- every number lies in its field's width
+-- every number lies in its field's width, and every text is one
 abbrev pub IsChunkInWidth : ChunkTree → Type 0
-IsChunkInWidth (Shutdown tsn) = tsn < 2 ^ 32
-IsChunkInWidth (CookieEcho cookie) = AreBytes cookie
+IsChunkInWidth (Data c) = IsDataInWidth c
+IsChunkInWidth (Init i) = IsInitInWidth i
+IsChunkInWidth (InitAck i) = IsInitInWidth i
+IsChunkInWidth (HeartbeatRequest ps) = AllByRecursion IsParameterInWidth ps
+IsChunkInWidth (HeartbeatAck ps) = AllByRecursion IsParameterInWidth ps
+IsChunkInWidth (Abort a) = AllByRecursion IsCauseInWidth a.causes
+IsChunkInWidth (Shutdown tsn) = IsShutdownInWidth tsn
+IsChunkInWidth ShutdownAck = Unit {0}
+IsChunkInWidth (Error cs) = AllByRecursion IsCauseInWidth cs
+IsChunkInWidth (CookieEcho cookie) = IsCookieEchoInWidth cookie
 IsChunkInWidth CookieAck = Unit {0}
-IsChunkInWidth (Unknown u) = (u.typ < 2 ^ 8) × (u.flags < 2 ^ 8) × AreBytes u.value
+IsChunkInWidth (ShutdownComplete reflected) = Unit {0}
+IsChunkInWidth (IData c) = IsIDataInWidth c
+IsChunkInWidth (ReConfig ps) = AllByRecursion IsParameterInWidth ps
+IsChunkInWidth (Unknown u) = IsUnknownInWidth u
 
--- The table can mean it: a COOKIE ECHO has a cookie, and an Unknown chunk a type that isn't named.
+-- a type that the table doesn't name
+abbrev pub IsUnnamedChunk : ℕ → Type 0
+IsUnnamedChunk typ =
+    (typ ≢ 0) × (typ ≢ 1) × (typ ≢ 2) × (typ ≢ 4) × (typ ≢ 5) × (typ ≢ 6) × (typ ≢ 7) × (typ ≢ 8) × (typ ≢ 9) × (typ ≢ 10) × (typ ≢ 11) × (typ ≢ 14) × (typ ≢ 64) × (typ ≢ 130)
+
+-- The table can mean it: a COOKIE ECHO has a cookie, and an ERROR a cause; an Unknown chunk has a
+-- type that isn't named; fields that a kind doesn't carry are zero; and so on within its list.
 abbrev pub IsChunkWellFormed : ChunkTree → Type 0
+IsChunkWellFormed (Data c) = IsDataWellFormed c
+IsChunkWellFormed (Init i) = AllByRecursion IsParameterWellFormed i.parameters
+IsChunkWellFormed (InitAck i) = AllByRecursion IsParameterWellFormed i.parameters
+IsChunkWellFormed (HeartbeatRequest ps) = AllByRecursion IsParameterWellFormed ps
+IsChunkWellFormed (HeartbeatAck ps) = AllByRecursion IsParameterWellFormed ps
+IsChunkWellFormed (Abort a) = AllByRecursion IsCauseWellFormed a.causes
 IsChunkWellFormed (Shutdown tsn) = Unit {0}
-IsChunkWellFormed (CookieEcho cookie) = cookie ≢ []
+IsChunkWellFormed ShutdownAck = Unit {0}
+IsChunkWellFormed (Error cs) = (cs ≢ []) × AllByRecursion IsCauseWellFormed cs
+IsChunkWellFormed (CookieEcho cookie) = IsCookieEchoWellFormed cookie
 IsChunkWellFormed CookieAck = Unit {0}
-IsChunkWellFormed (Unknown u) = (u.typ ≢ 7) × (u.typ ≢ 10) × (u.typ ≢ 11)
+IsChunkWellFormed (ShutdownComplete reflected) = Unit {0}
+IsChunkWellFormed (IData c) = IsIDataWellFormed c
+IsChunkWellFormed (ReConfig ps) = AllByRecursion IsParameterWellFormed ps
+IsChunkWellFormed (Unknown u) = IsUnnamedChunk u.typ
 
 pub record IsInWidth (m : Meaning) : Type 0 where
   pub source : m.source < 2 ^ 16

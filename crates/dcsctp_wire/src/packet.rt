@@ -17,7 +17,10 @@ pub use dcsctp_cause::{
     no_user_data_error_cause, protocol_violation_error_cause, unrecognized_chunk_error_cause,
     user_initiated_abort_error_cause,
 };
-pub use dcsctp_chunk::{cookie_ack_chunk, cookie_echo_chunk, shutdown_chunk, unknown_chunk};
+pub use dcsctp_chunk::{
+    cookie_ack_chunk, cookie_echo_chunk, data, data_chunk, idata_chunk, shutdown_ack_chunk,
+    shutdown_chunk, shutdown_complete_chunk, unknown_chunk,
+};
 pub use dcsctp_tlv::error::ChunkParseError;
 pub use dcsctp_tlv::frame::TLV_HEADER_SIZE;
 pub use dcsctp_tlv::number::{

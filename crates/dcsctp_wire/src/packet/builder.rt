@@ -3,8 +3,8 @@
 
 ghost use Rattle.std.specs.Prelude.{◌≡◌, ◌≢◌, ◌≤◌, ◌+◌, ◌-◌, ◌*◌, ◌/◌, ◌++◌, ◌∷◌, [], ◌↔◌, List, true, max, length, take, drop, vec_len, vec_capacity, IsTrue, IsOk, OnOk, OnErr};
 ghost use Rattle.dcsctp_tlv.specs.Frame.{round_up_to_4};
-ghost use Rattle.dcsctp_tlv.specs.Image.{size_of, image_of, written, IsEncodable};
-ghost use Rattle.dcsctp_wire.specs.Chunk.{ChunkTree, chunk_tlv, view};
+ghost use Rattle.dcsctp_tlv.specs.Image.{size_of, image_of, written};
+ghost use Rattle.dcsctp_wire.specs.Chunk.{ChunkTree, chunk_tlv, IsChunkEncodable, view};
 ghost use Rattle.dcsctp_wire.specs.Canonical.{padded_chunk, padded_size};
 ghost use Rattle.dcsctp_wire.specs.Builder.{Holds, room, begun, built};
 
@@ -92,7 +92,7 @@ impl SctpPacketBuilder {
     /// at most `bytes_remaining`. The first chunk of a packet reserves the whole packet: it alone
     /// can be refused, for want of memory, and nothing is changed then. No other takes memory.
     pub fn add(&mut self, chunk: &Chunk) -> Result<(), AllocError>
-        requires encodable { IsEncodable (chunk_tlv (view chunk.now)) }
+        requires encodable { IsChunkEncodable (view chunk.now) }
         requires room { round_up_to_4 (size_of (chunk_tlv (view chunk.now))) ≤ room self.old }
 
         // Whatever was held is held still, with the chunk behind it.
@@ -173,7 +173,7 @@ impl SctpPacketBuilder {
 
 /// Writes the chunk behind the bytes, in room that is there, with zeros up to a multiple of 4.
 fn append_chunk(bytes: &mut Vec<u8>, chunk: &Chunk)
-    requires encodable { IsEncodable (chunk_tlv (view chunk.now)) }
+    requires encodable { IsChunkEncodable (view chunk.now) }
     requires room { vec_len bytes.old + round_up_to_4 (size_of (chunk_tlv (view chunk.now)))
         ≤ vec_capacity bytes.old }
     ensures items { bytes.new.items ≡ bytes.old.items ++ padded_chunk (view chunk.now) }
@@ -190,7 +190,7 @@ fn append_chunk(bytes: &mut Vec<u8>, chunk: &Chunk)
 
 /// Writes the chunk at a place; the bytes before it stay.
 fn put_chunk(output: &mut [u8], place: usize, chunk: &Chunk)
-    requires encodable { IsEncodable (chunk_tlv (view chunk.now)) }
+    requires encodable { IsChunkEncodable (view chunk.now) }
     requires room { place + size_of (chunk_tlv (view chunk.now)) ≤ length output.old }
     ensures { output.new ≡ take place output.old
         ++ written (image_of (chunk_tlv (view chunk.now))) (drop place output.old) }

@@ -1,18 +1,22 @@
+-- Of a kind without a list, want of memory is answered only where the value means a tree.
 use Rattle.std.proofs.Common.{rules}
-use Rattle.std.proofs.lemmas.Result.{err_from_is_err_and}
-use Rattle.dcsctp_tlv.specs.declared.error.ChunkParseError.TheVariants.{OutOfMemory}
-use Rattle.dcsctp_tlv.proofs.Readings.{memory_where_meant, same_error}
+use Rattle.dcsctp_tlv.proofs.Readings.{lacks_where_meant}
 use Rattle.dcsctp_chunk.specs.CookieEcho.{cookie_echo_at, cookie_echo_view}
+use Rattle.dcsctp_chunk.specs.DataChunk.{data_at, data_view}
+use Rattle.dcsctp_chunk.specs.IDataChunk.{idata_at, idata_view}
 use Rattle.dcsctp_chunk.specs.Unknown.{unknown_at}
-use Rattle.dcsctp_wire.specs.Chunk.{CookieEcho, Unknown}
+use Rattle.dcsctp_wire.specs.Chunk.{Data, CookieEcho, IData, Unknown}
 use Rattle.dcsctp_wire.proofs.packet.chunk.Chunk.try_from.Goals as goal
 
+pub returns-in_err-try_from-in-0-clause-memory : goal.returns-in_err-try_from-in-0-clause-memory
+returns-in_err-try_from-in-0-clause-memory c = λ _ lacks. rw c.in-0.is (lacks_where_meant data_view Data (data_at c.args.raw.flags c.args.raw.value.now) _ _ c.from_residual.ensures.1 lacks (c.in_err-try_from-in-0.ensures.own c.in-0.is))
+
 pub returns-in_err-try_from-in-10-clause-memory : goal.returns-in_err-try_from-in-10-clause-memory
-returns-in_err-try_from-in-10-clause-memory c = λ lacks.
-    let p = err_from_is_err_and c.from_residual-in_err-try_from-in-10.result c.from_residual-in_err-try_from-in-10.ensures.1 in
-    rw c.in-10.is (memory_where_meant cookie_echo_view CookieEcho (cookie_echo_at c.args.raw.value.now) c.in_err-try_from-in-10.field-0.0 (same_error c.from_residual-in_err-try_from-in-10.result p.0 OutOfMemory c.in_err-try_from-in-10.field-0.0 p.1 lacks p.2) (c.in_err-try_from-in-10.ensures.own c.in-10.is))
+returns-in_err-try_from-in-10-clause-memory c = λ _ lacks. rw c.in-10.is (lacks_where_meant cookie_echo_view CookieEcho (cookie_echo_at c.args.raw.value.now) _ _ c.from_residual-in_err-try_from-in-10.ensures.1 lacks (c.in_err-try_from-in-10.ensures.own c.in-10.is))
+
+pub returns-in_err-try_from-in-64-clause-memory : goal.returns-in_err-try_from-in-64-clause-memory
+returns-in_err-try_from-in-64-clause-memory c = λ _ lacks. rw c.in-64.is (lacks_where_meant idata_view IData (idata_at c.args.raw.flags c.args.raw.value.now) _ _ c.from_residual-in_err-try_from-in-64.ensures.1 lacks (c.in_err-try_from-in-64.ensures.own c.in-64.is))
 
 pub returns-in_err-try_from-in_default-clause-memory : goal.returns-in_err-try_from-in_default-clause-memory
 unfolding unknown_at
-returns-in_err-try_from-in_default-clause-memory c = λ _.
-    (Unknown (record { typ = c.args.raw.typ; flags = c.args.raw.flags; value = c.args.raw.value.now }), search rules)
+returns-in_err-try_from-in_default-clause-memory c = λ _ _. (Unknown (record { typ = c.args.raw.typ; flags = c.args.raw.flags; value = c.args.raw.value.now }), search rules)
