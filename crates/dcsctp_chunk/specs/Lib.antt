@@ -1,4 +1,5 @@
 pub mod CookieAck
 pub mod CookieEcho
+pub mod Sack
 pub mod Shutdown
 pub mod Unknown
