@@ -3,7 +3,10 @@
 
 pub mod cookie_ack_chunk;
 pub mod cookie_echo_chunk;
+pub mod forward_tsn_chunk;
+pub mod iforward_tsn_chunk;
 pub mod raw_chunk;
 pub mod sack_chunk;
 pub mod shutdown_chunk;
+mod skipped_streams;
 pub mod unknown_chunk;
