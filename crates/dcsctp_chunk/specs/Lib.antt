@@ -6,3 +6,5 @@ pub mod ForwardTsn
 pub mod IForwardTsn
 pub mod Shutdown
 pub mod Unknown
+pub mod Cover
+pub mod Apart

@@ -1,6 +1,7 @@
 //! Raw chunks, and the kinds of chunk that hold no list of parameters or error causes.
 #![tactic(auto)]
 
+pub mod chunk_validators;
 pub mod cookie_ack_chunk;
 pub mod cookie_echo_chunk;
 pub mod forward_tsn_chunk;
