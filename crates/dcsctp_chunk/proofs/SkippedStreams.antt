@@ -1,5 +1,5 @@
 -- Chunks with skipped streams: when each stream has a place, and how long they are.
-use Rattle.std.proofs.Common.{◌≡◌, ℕ, ◌+◌, ◌*◌, Bool, List, [], ◌∷◌, length, ap, ◌∙◌, arith}
+use Rattle.std.proofs.Common.{◌≡◌, ℕ, ◌+◌, ◌*◌, Bool, List, [], ◌∷◌, length, arith}
 use Rattle.std.specs.Prelude.{false, true, All}
 use Rattle.std.specs.List.{flat_map, AllByRecursion}
 use Rattle.std.proofs.lemmas.List.{length-map}
@@ -21,15 +21,21 @@ of_views by_mid (s ∷ streams) own = (own.0, of_views by_mid streams own.1)
 pub each_by_mid : (by_mid : Bool) (streams : List SkippedStream) → AreByMid by_mid (skipped_stream_views streams) → All (λ s. is_by_mid (skipped_stream_view s) ≡ by_mid) streams
 each_by_mid by_mid streams own = All-from_recursion (λ s. is_by_mid (skipped_stream_view s) ≡ by_mid) streams (of_views by_mid streams own)
 
--- streams that are all written with one size
-size_of_streams : (write : SkippedStreamTree → List ℕ) (size : ℕ) (by_mid : Bool) → ((s : SkippedStreamTree) → is_by_mid s ≡ by_mid → length (write s) ≡ size)
-    → (streams : List SkippedStream) → AreByMid by_mid (skipped_stream_views streams) → length (flat_map write (skipped_stream_views streams)) ≡ size * length streams
-size_of_streams write size by_mid law streams own =
-    let trees = skipped_stream_views streams in
-    length-written write size trees (all_from (λ s. is_by_mid s ≡ by_mid) (λ s. length (write s) ≡ size) trees law own) ∙ ap (λ (n : ℕ). size * n) (length-map streams skipped_stream_view)
+-- streams that all have a place
+pub size_of_placed : (write : SkippedStreamTree → List ℕ) (size : ℕ) (by_mid : Bool) → ((s : SkippedStreamTree) → is_by_mid s ≡ by_mid → length (write s) ≡ size)
+    → (streams : List SkippedStreamTree) → AreByMid by_mid streams → length (flat_map write streams) ≡ size * length streams
+size_of_placed write size by_mid law streams own = length-written write size streams (all_from (λ s. is_by_mid s ≡ by_mid) (λ s. length (write s) ≡ size) streams law own)
 
 pub size_of_forward_tsn : (c : ForwardTsnChunk) → IsForwardTsnWellFormed (forward_tsn_view c) → size_of (forward_tsn_tlv (forward_tsn_view c)) ≡ 8 + 4 * length c.skipped_streams.items
-size_of_forward_tsn c own = let l = size_of_streams ssn_stream_bytes 4 false length-ssn_stream c.skipped_streams.items own in omega (arith, l)
+size_of_forward_tsn c own =
+    let streams = c.skipped_streams.items in
+    let l = size_of_placed ssn_stream_bytes 4 false length-ssn_stream (skipped_stream_views streams) own in
+    let n = length-map streams skipped_stream_view in
+    omega (arith, l, n)
 
 pub size_of_iforward_tsn : (c : IForwardTsnChunk) → IsIForwardTsnWellFormed (iforward_tsn_view c) → size_of (iforward_tsn_tlv (iforward_tsn_view c)) ≡ 8 + 8 * length c.skipped_streams.items
-size_of_iforward_tsn c own = let l = size_of_streams mid_stream_bytes 8 true length-mid_stream c.skipped_streams.items own in omega (arith, l)
+size_of_iforward_tsn c own =
+    let streams = c.skipped_streams.items in
+    let l = size_of_placed mid_stream_bytes 8 true length-mid_stream (skipped_stream_views streams) own in
+    let n = length-map streams skipped_stream_view in
+    omega (arith, l, n)
