@@ -10,4 +10,6 @@ pub mod raw_chunk;
 pub mod sack_chunk;
 pub mod shutdown_chunk;
 mod skipped_streams;
+#[cfg(test)]
+mod tests_sack;
 pub mod unknown_chunk;
