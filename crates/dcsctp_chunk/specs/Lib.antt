@@ -4,7 +4,13 @@ pub mod DataChunk
 pub mod IDataChunk
 pub mod CookieAck
 pub mod CookieEcho
+pub mod Sack
+pub mod SkippedStreams
+pub mod ForwardTsn
+pub mod IForwardTsn
 pub mod Shutdown
 pub mod ShutdownAck
 pub mod ShutdownComplete
 pub mod Unknown
+pub mod Cover
+pub mod Apart

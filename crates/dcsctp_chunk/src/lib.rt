@@ -1,6 +1,7 @@
 //! Raw chunks, and the kinds of chunk that hold no list of parameters or error causes.
 #![tactic(auto)]
 
+pub mod chunk_validators;
 pub mod cookie_ack_chunk;
 pub mod cookie_echo_chunk;
 pub mod data;
@@ -11,4 +12,10 @@ pub mod raw_chunk;
 pub mod shutdown_ack_chunk;
 pub mod shutdown_chunk;
 pub mod shutdown_complete_chunk;
+pub mod forward_tsn_chunk;
+pub mod iforward_tsn_chunk;
+pub mod sack_chunk;
+mod skipped_streams;
+#[cfg(test)]
+mod tests_sack;
 pub mod unknown_chunk;

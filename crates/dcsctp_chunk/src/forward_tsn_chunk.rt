@@ -1,0 +1,162 @@
+//! FORWARD-TSN: the sender has abandoned messages, and the receiver is to skip them.
+//!
+//! ```txt
+//!  0                   1                   2                   3
+//!  0 1 2 3 4 5 6 7 8 9 0 1 2 3 4 5 6 7 8 9 0 1 2 3 4 5 6 7 8 9 0 1
+//! +-+-+-+-+-+-+-+-+-+-+-+-+-+-+-+-+-+-+-+-+-+-+-+-+-+-+-+-+-+-+-+-+
+//! |  type = 192   |     flags     |    length = 8 + 4 * streams   |
+//! +-+-+-+-+-+-+-+-+-+-+-+-+-+-+-+-+-+-+-+-+-+-+-+-+-+-+-+-+-+-+-+-+
+//! |                      new cumulative TSN                       |
+//! +-+-+-+-+-+-+-+-+-+-+-+-+-+-+-+-+-+-+-+-+-+-+-+-+-+-+-+-+-+-+-+-+
+//! |           stream id           |   sequence number, and so on  |
+//! +-+-+-+-+-+-+-+-+-+-+-+-+-+-+-+-+-+-+-+-+-+-+-+-+-+-+-+-+-+-+-+-+
+//! ```
+
+ghost use Rattle.std.specs.Prelude.{◌≡◌, ◌≢◌, ◌↔◌, false, Some, IsErrOf};
+ghost use Rattle.dcsctp_tlv.specs.Reading.{Gives, IfMeant};
+ghost use Rattle.dcsctp_tlv.proofs.Images.{length-solid_tlv};
+ghost use Rattle.dcsctp_chunk.specs.SkippedStreams.{SkippedStreamTree, is_by_mid, skipped_stream_view};
+ghost use Rattle.dcsctp_chunk.specs.ForwardTsn.{ssn_stream_at, ssn_stream_bytes, length-ssn_stream, forward_tsn_at, forward_tsn_bytes, forward_tsn_tlv, forward_tsn_text, forward_tsn_view, IsForwardTsnEncodable};
+
+use crate::raw_chunk::RawChunk;
+use crate::skipped_streams::are_by_mid;
+use dcsctp_tlv::error::ChunkParseError;
+use dcsctp_tlv::fields::{Field, fields_from_bytes, put_numbers_and_fields};
+use dcsctp_tlv::frame::MAX_VALUE_SIZE;
+use dcsctp_tlv::number::{put_u16, read_u16_be, read_u32_be, write_u16_be};
+use dcsctp_tlv::skipped_stream::SkippedStream;
+use dcsctp_tlv::tlv::SerializableTlv;
+use dcsctp_types::api::StreamId;
+use dcsctp_types::types::{Ssn, Tsn};
+use std::alloc::Global;
+use std::fmt;
+
+pub const CHUNK_TYPE: u8 = 192;
+
+/// Bytes of the value before the skipped streams.
+const FIXED_SIZE: usize = 4;
+
+/// How a stream that is skipped by a sequence number is laid out: two bytes of stream id, and two
+/// of the number.
+struct SsnStreamField;
+
+impl Field for SsnStreamField {
+    type Value = SkippedStream;
+
+    ghost Tree = { SkippedStreamTree };
+
+    ghost view = { skipped_stream_view };
+
+    ghost field_at = { ssn_stream_at };
+
+    ghost field_bytes = { ssn_stream_bytes };
+
+    ghost is_writable = { λ s. is_by_mid (skipped_stream_view s) ≡ false };
+
+    ghost SIZE = { 4 };
+
+    const SIZE: usize = 4;
+
+    fn read(bytes: &[u8]) -> SkippedStream {
+        SkippedStream::ForwardTsn(StreamId(read_u16_be(bytes)), Ssn(read_u16_be(&bytes[2..])))
+    }
+
+    fn write(value: &SkippedStream, output: &mut [u8]) {
+        match value {
+            SkippedStream::ForwardTsn(id, ssn) => {
+                write_u16_be(output, id.0);
+                put_u16(output, 2, ssn.0);
+            }
+            // it isn't writable
+            SkippedStream::IForwardTsn(..) => {}
+        }
+    }
+
+    ghost field_length = { λ s own. length-ssn_stream (skipped_stream_view s) own };
+}
+
+/// FORWARD-TSN (RFC 3758 section 3.2).
+#[derive(Debug, Drop)]
+pub struct ForwardTsnChunk {
+    /// The TSN up to which all is to be taken as received.
+    pub new_cumulative_tsn: Tsn,
+    /// The ordered streams on which messages are skipped. `SkippedStream::IForwardTsn` can't be
+    /// written.
+    pub skipped_streams: Vec<SkippedStream>,
+}
+
+#[tactic(auto, unfolding(crate::specs::ForwardTsn::forward_tsn_at))]
+impl ForwardTsnChunk {
+    /// Reads the chunk, and copies its skipped streams, each as `SkippedStream::ForwardTsn`; flags
+    /// are ignored.
+    ///
+    /// `InvalidType` exactly for another type; `InvalidLength` exactly where the value has fewer
+    /// than 4 bytes, or no multiple of 4; `OutOfMemory` only where the streams can't be copied.
+    pub fn try_from(alloc: Global, raw: RawChunk) -> Result<Self, ChunkParseError>
+        ensures other { IsErrOf result ChunkParseError.InvalidType ↔ (raw.entry.typ ≢ CHUNK_TYPE) }
+        ensures own { raw.entry.typ ≡ CHUNK_TYPE → Gives IfMeant forward_tsn_view result (forward_tsn_at raw.entry.value.now) }
+    {
+        if raw.typ != CHUNK_TYPE {
+            return Err(ChunkParseError::InvalidType);
+        }
+        let value = raw.value;
+        if value.len() < FIXED_SIZE {
+            return Err(ChunkParseError::InvalidLength);
+        }
+        if !value.len().is_multiple_of(4) {
+            return Err(ChunkParseError::InvalidLength);
+        }
+        let count = (value.len() - FIXED_SIZE) / 4;
+        let skipped_streams = fields_from_bytes::<SsnStreamField>(
+            alloc,
+            &value[FIXED_SIZE..],
+            count,
+        )?;
+        Ok(ForwardTsnChunk {
+            new_cumulative_tsn: Tsn(read_u32_be(value)),
+            skipped_streams,
+        })
+    }
+}
+
+#[tactic(auto, using(crate::proofs::SkippedStreams::size_of_forward_tsn))]
+impl SerializableTlv for ForwardTsnChunk {
+    ghost tlv = { λ c. forward_tsn_tlv (forward_tsn_view c) };
+
+    ghost is_encodable = { λ c. IsForwardTsnEncodable (forward_tsn_view c) };
+
+    ghost image_length = { λ c fits. length-solid_tlv 192 0 (forward_tsn_bytes (forward_tsn_view c)) };
+
+    ghost size_bound = { λ c fits. fits.size };
+
+    fn serialize_to(&self, output: &mut [u8]) {
+        let leading = [self.new_cumulative_tsn.0];
+        put_numbers_and_fields::<SsnStreamField>(
+            CHUNK_TYPE,
+            0,
+            &leading,
+            &self.skipped_streams,
+            output,
+        );
+    }
+
+    fn value_size(&self) -> usize {
+        FIXED_SIZE + 4 * self.skipped_streams.len()
+    }
+
+    fn encodable(&self) -> bool {
+        if !are_by_mid(false, &self.skipped_streams) {
+            return false;
+        }
+        self.skipped_streams.len() <= (MAX_VALUE_SIZE - FIXED_SIZE) / 4
+    }
+}
+
+impl fmt::Display for ForwardTsnChunk {
+    ghost output = { λ c. Some (forward_tsn_text (forward_tsn_view c)) };
+
+    fn fmt<W: fmt::Write>(&self, f: &mut fmt::Formatter<W>) -> fmt::Result {
+        let tsn = self.new_cumulative_tsn;
+        write!(f, "FORWARD-TSN, new_cumulative_tsn={tsn}")
+    }
+}

@@ -1,0 +1,170 @@
+//! I-FORWARD-TSN: the sender has abandoned messages, and the receiver is to skip them.
+//!
+//! ```txt
+//!  0                   1                   2                   3
+//!  0 1 2 3 4 5 6 7 8 9 0 1 2 3 4 5 6 7 8 9 0 1 2 3 4 5 6 7 8 9 0 1
+//! +-+-+-+-+-+-+-+-+-+-+-+-+-+-+-+-+-+-+-+-+-+-+-+-+-+-+-+-+-+-+-+-+
+//! |  type = 194   |     flags     |    length = 8 + 8 * streams   |
+//! +-+-+-+-+-+-+-+-+-+-+-+-+-+-+-+-+-+-+-+-+-+-+-+-+-+-+-+-+-+-+-+-+
+//! |                      new cumulative TSN                       |
+//! +-+-+-+-+-+-+-+-+-+-+-+-+-+-+-+-+-+-+-+-+-+-+-+-+-+-+-+-+-+-+-+-+
+//! |           stream id           |          reserved           |U|
+//! +-+-+-+-+-+-+-+-+-+-+-+-+-+-+-+-+-+-+-+-+-+-+-+-+-+-+-+-+-+-+-+-+
+//! |             message id, and so on for each stream             |
+//! +-+-+-+-+-+-+-+-+-+-+-+-+-+-+-+-+-+-+-+-+-+-+-+-+-+-+-+-+-+-+-+-+
+//! ```
+//!
+//! U says that the stream's unordered messages are skipped.
+
+ghost use Rattle.std.specs.Prelude.{◌≡◌, ◌≢◌, ◌↔◌, true, Some, IsErrOf};
+ghost use Rattle.dcsctp_tlv.specs.Reading.{Gives, IfMeant};
+ghost use Rattle.dcsctp_tlv.proofs.Images.{length-solid_tlv};
+ghost use Rattle.dcsctp_chunk.specs.SkippedStreams.{SkippedStreamTree, is_by_mid, skipped_stream_view};
+ghost use Rattle.dcsctp_chunk.specs.IForwardTsn.{mid_stream_at, mid_stream_bytes, length-mid_stream, iforward_tsn_at, iforward_tsn_bytes, iforward_tsn_tlv, iforward_tsn_text, iforward_tsn_view, IsIForwardTsnEncodable};
+
+use crate::raw_chunk::RawChunk;
+use crate::skipped_streams::are_by_mid;
+use dcsctp_tlv::error::ChunkParseError;
+use dcsctp_tlv::fields::{Field, fields_from_bytes, put_numbers_and_fields};
+use dcsctp_tlv::frame::MAX_VALUE_SIZE;
+use dcsctp_tlv::number::{put_u16, put_u32, read_u16_be, read_u32_be, write_u16_be};
+use dcsctp_tlv::skipped_stream::SkippedStream;
+use dcsctp_tlv::tlv::SerializableTlv;
+use dcsctp_types::api::StreamId;
+use dcsctp_types::types::{Mid, StreamKey, Tsn};
+use std::alloc::Global;
+use std::fmt;
+
+pub const CHUNK_TYPE: u8 = 194;
+
+/// Bytes of the value before the skipped streams.
+const FIXED_SIZE: usize = 4;
+
+/// How a stream that is skipped by a message id is laid out: two bytes of stream id, two whose
+/// lowest bit says unordered, and four of message id.
+struct MidStreamField;
+
+impl Field for MidStreamField {
+    type Value = SkippedStream;
+
+    ghost Tree = { SkippedStreamTree };
+
+    ghost view = { skipped_stream_view };
+
+    ghost field_at = { mid_stream_at };
+
+    ghost field_bytes = { mid_stream_bytes };
+
+    ghost is_writable = { λ s. is_by_mid (skipped_stream_view s) ≡ true };
+
+    ghost SIZE = { 8 };
+
+    const SIZE: usize = 8;
+
+    fn read(bytes: &[u8]) -> SkippedStream {
+        let id = StreamId(read_u16_be(bytes));
+        let is_unordered = read_u16_be(&bytes[2..]) % 2 == 1;
+        let mid = Mid(read_u32_be(&bytes[4..]));
+        SkippedStream::IForwardTsn(StreamKey::new(is_unordered, id), mid)
+    }
+
+    fn write(value: &SkippedStream, output: &mut [u8]) {
+        match value {
+            // it isn't writable
+            SkippedStream::ForwardTsn(..) => {}
+            SkippedStream::IForwardTsn(key, mid) => {
+                write_u16_be(output, key.id().0);
+                put_u16(output, 2, key.is_unordered() as u16);
+                put_u32(output, 4, mid.0);
+            }
+        }
+    }
+
+    ghost field_length = { λ s own. length-mid_stream (skipped_stream_view s) own };
+}
+
+/// I-FORWARD-TSN (RFC 8260 section 2.3.1).
+#[derive(Debug, Drop)]
+pub struct IForwardTsnChunk {
+    /// The TSN up to which all is to be taken as received.
+    pub new_cumulative_tsn: Tsn,
+    /// The streams on which messages are skipped. `SkippedStream::ForwardTsn` can't be written.
+    pub skipped_streams: Vec<SkippedStream>,
+}
+
+#[tactic(auto, unfolding(crate::specs::IForwardTsn::iforward_tsn_at))]
+impl IForwardTsnChunk {
+    /// Reads the chunk, and copies its skipped streams, each as `SkippedStream::IForwardTsn`;
+    /// flags are ignored.
+    ///
+    /// `InvalidType` exactly for another type; `InvalidLength` exactly where the value has fewer
+    /// than 4 bytes, or no multiple of 8 behind the first 4; `OutOfMemory` only where the streams
+    /// can't be copied.
+    pub fn try_from(alloc: Global, raw: RawChunk) -> Result<Self, ChunkParseError>
+        ensures other { IsErrOf result ChunkParseError.InvalidType ↔ (raw.entry.typ ≢ CHUNK_TYPE) }
+        ensures own { raw.entry.typ ≡ CHUNK_TYPE → Gives IfMeant iforward_tsn_view result (iforward_tsn_at raw.entry.value.now) }
+    {
+        if raw.typ != CHUNK_TYPE {
+            return Err(ChunkParseError::InvalidType);
+        }
+        let value = raw.value;
+        if value.len() < FIXED_SIZE {
+            return Err(ChunkParseError::InvalidLength);
+        }
+        if !(value.len() - FIXED_SIZE).is_multiple_of(8) {
+            return Err(ChunkParseError::InvalidLength);
+        }
+        let count = (value.len() - FIXED_SIZE) / 8;
+        let skipped_streams = fields_from_bytes::<MidStreamField>(
+            alloc,
+            &value[FIXED_SIZE..],
+            count,
+        )?;
+        Ok(IForwardTsnChunk {
+            new_cumulative_tsn: Tsn(read_u32_be(value)),
+            skipped_streams,
+        })
+    }
+}
+
+#[tactic(auto, using(crate::proofs::SkippedStreams::size_of_iforward_tsn))]
+impl SerializableTlv for IForwardTsnChunk {
+    ghost tlv = { λ c. iforward_tsn_tlv (iforward_tsn_view c) };
+
+    ghost is_encodable = { λ c. IsIForwardTsnEncodable (iforward_tsn_view c) };
+
+    ghost image_length = { λ c fits. length-solid_tlv 194 0 (iforward_tsn_bytes (iforward_tsn_view c)) };
+
+    ghost size_bound = { λ c fits. fits.size };
+
+    fn serialize_to(&self, output: &mut [u8]) {
+        let leading = [self.new_cumulative_tsn.0];
+        put_numbers_and_fields::<MidStreamField>(
+            CHUNK_TYPE,
+            0,
+            &leading,
+            &self.skipped_streams,
+            output,
+        );
+    }
+
+    fn value_size(&self) -> usize {
+        FIXED_SIZE + 8 * self.skipped_streams.len()
+    }
+
+    fn encodable(&self) -> bool {
+        if !are_by_mid(true, &self.skipped_streams) {
+            return false;
+        }
+        self.skipped_streams.len() <= (MAX_VALUE_SIZE - FIXED_SIZE) / 8
+    }
+}
+
+impl fmt::Display for IForwardTsnChunk {
+    ghost output = { λ c. Some (iforward_tsn_text (iforward_tsn_view c)) };
+
+    fn fmt<W: fmt::Write>(&self, f: &mut fmt::Formatter<W>) -> fmt::Result {
+        let tsn = self.new_cumulative_tsn;
+        write!(f, "I-FORWARD-TSN, new_cumulative_tsn={tsn}")
+    }
+}

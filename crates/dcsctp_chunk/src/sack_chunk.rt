@@ -1,0 +1,185 @@
+//! SACK: which TSNs have come, and which are missing among them.
+//!
+//! ```txt
+//!  0                   1                   2                   3
+//!  0 1 2 3 4 5 6 7 8 9 0 1 2 3 4 5 6 7 8 9 0 1 2 3 4 5 6 7 8 9 0 1
+//! +-+-+-+-+-+-+-+-+-+-+-+-+-+-+-+-+-+-+-+-+-+-+-+-+-+-+-+-+-+-+-+-+
+//! |   type = 3    |     flags     |  length = 16 + 4 * n + 4 * m  |
+//! +-+-+-+-+-+-+-+-+-+-+-+-+-+-+-+-+-+-+-+-+-+-+-+-+-+-+-+-+-+-+-+-+
+//! |                      cumulative TSN ack                       |
+//! +-+-+-+-+-+-+-+-+-+-+-+-+-+-+-+-+-+-+-+-+-+-+-+-+-+-+-+-+-+-+-+-+
+//! |               advertised receiver window credit               |
+//! +-+-+-+-+-+-+-+-+-+-+-+-+-+-+-+-+-+-+-+-+-+-+-+-+-+-+-+-+-+-+-+-+
+//! |   n, number of gap ack blocks | m, number of duplicate TSNs   |
+//! +-+-+-+-+-+-+-+-+-+-+-+-+-+-+-+-+-+-+-+-+-+-+-+-+-+-+-+-+-+-+-+-+
+//! |     start of a gap ack block  |    its end, n of such pairs   |
+//! +-+-+-+-+-+-+-+-+-+-+-+-+-+-+-+-+-+-+-+-+-+-+-+-+-+-+-+-+-+-+-+-+
+//! |                  duplicate TSN, m of such                     |
+//! +-+-+-+-+-+-+-+-+-+-+-+-+-+-+-+-+-+-+-+-+-+-+-+-+-+-+-+-+-+-+-+-+
+//! ```
+
+ghost use Rattle.std.specs.Prelude.{◌≡◌, ◌≢◌, ◌↔◌, ◌≤◌, ◌+◌, ◌++◌, [], ◌∷◌, Some, IsErrOf, length, refl};
+ghost use Rattle.std.specs.Int.{w16, w32};
+ghost use Rattle.dcsctp_tlv.specs.Image.{IsEncodable};
+ghost use Rattle.dcsctp_tlv.specs.Number.{numbers};
+ghost use Rattle.dcsctp_tlv.specs.Reading.{Gives, IfMeant};
+ghost use Rattle.dcsctp_tlv.proofs.Images.{length-solid_tlv};
+ghost use Rattle.dcsctp_chunk.specs.Sack.{block_at, block_bytes, sack_at, sack_bytes, sack_tlv, sack_text, sack_view};
+
+use crate::raw_chunk::RawChunk;
+use dcsctp_tlv::error::ChunkParseError;
+use dcsctp_tlv::fields::{Field, fields_from_bytes, put_fields};
+use dcsctp_tlv::frame::{MAX_VALUE_SIZE, TLV_HEADER_SIZE, put_header};
+use dcsctp_tlv::number::{put_u16, put_u32, read_u16_be, read_u32_be, write_u16_be};
+use dcsctp_tlv::tlv::SerializableTlv;
+use dcsctp_types::types::Tsn;
+use std::alloc::Global;
+use std::fmt;
+
+pub const CHUNK_TYPE: u8 = 3;
+
+/// Bytes of the value before the gap ack blocks.
+const FIXED_SIZE: usize = 12;
+
+/// A run of TSNs that came behind the first one that is missing (RFC 9260 section 3.3.4).
+#[derive(Clone, Copy, Debug, PartialEq, Eq)]
+pub struct GapAckBlock {
+    /// The first TSN, as its offset from the cumulative TSN.
+    pub start: u16,
+    /// The last TSN, as its offset from the cumulative TSN.
+    pub end: u16,
+}
+
+impl GapAckBlock {
+    /// The block from `start` to `end`, both counted from the cumulative TSN.
+    pub fn new(start: u16, end: u16) -> Self
+        ensures start { result.start ≡ start }
+        ensures end { result.end ≡ end }
+    {
+        GapAckBlock { start, end }
+    }
+}
+
+impl Field for GapAckBlock {
+    ghost use Rattle.dcsctp_chunk.specs.declared.sack_chunk.GapAckBlock.{GapAckBlock};
+
+    type Value = GapAckBlock;
+
+    ghost Tree = { GapAckBlock };
+
+    ghost view = { λ b. b };
+
+    ghost field_at = { block_at };
+
+    ghost field_bytes = { block_bytes };
+
+    ghost is_writable = { λ b. Unit {0} };
+
+    ghost SIZE = { 4 };
+
+    const SIZE: usize = 4;
+
+    fn read(bytes: &[u8]) -> GapAckBlock {
+        GapAckBlock {
+            start: read_u16_be(bytes),
+            end: read_u16_be(&bytes[2..]),
+        }
+    }
+
+    fn write(value: &GapAckBlock, output: &mut [u8]) {
+        write_u16_be(output, value.start);
+        put_u16(output, 2, value.end);
+    }
+
+    ghost field_length = { λ b fits. refl };
+}
+
+/// SACK (RFC 9260 section 3.3.4).
+#[derive(Debug, Drop)]
+pub struct SackChunk {
+    /// The last TSN that was received in sequence.
+    pub cumulative_tsn_ack: Tsn,
+    /// Bytes that the receiver has room for.
+    pub a_rwnd: u32,
+    /// What was received behind the first missing TSN.
+    pub gap_ack_blocks: Vec<GapAckBlock>,
+    /// The TSNs that came more than once, as often as they came again.
+    pub duplicate_tsns: Vec<Tsn>,
+}
+
+#[tactic(auto, unfolding(crate::specs::Sack::sack_at))]
+impl SackChunk {
+    /// Reads the chunk, and copies its blocks and its duplicate TSNs; flags are ignored.
+    ///
+    /// `InvalidType` exactly for another type; `InvalidLength` exactly where the value has fewer
+    /// than 12 bytes, or isn't just as long as its two counts say; `OutOfMemory` only where the
+    /// lists can't be copied.
+    pub fn try_from(alloc: Global, raw: RawChunk) -> Result<Self, ChunkParseError>
+        ensures other { IsErrOf result ChunkParseError.InvalidType ↔ (raw.entry.typ ≢ CHUNK_TYPE) }
+        ensures own { raw.entry.typ ≡ CHUNK_TYPE → Gives IfMeant sack_view result (sack_at raw.entry.value.now) }
+    {
+        if raw.typ != CHUNK_TYPE {
+            return Err(ChunkParseError::InvalidType);
+        }
+        let value = raw.value;
+        if value.len() < FIXED_SIZE {
+            return Err(ChunkParseError::InvalidLength);
+        }
+        let blocks = read_u16_be(&value[8..]) as usize;
+        let duplicates = read_u16_be(&value[10..]) as usize;
+        let behind_blocks = FIXED_SIZE + 4 * blocks;
+        if value.len() != behind_blocks + 4 * duplicates {
+            return Err(ChunkParseError::InvalidLength);
+        }
+        Ok(SackChunk {
+            cumulative_tsn_ack: Tsn(read_u32_be(value)),
+            a_rwnd: read_u32_be(&value[4..]),
+            gap_ack_blocks: fields_from_bytes::<GapAckBlock>(alloc, &value[FIXED_SIZE..], blocks)?,
+            duplicate_tsns: fields_from_bytes::<Tsn>(alloc, &value[behind_blocks..], duplicates)?,
+        })
+    }
+}
+
+#[tactic(auto, using(crate::proofs::Sacks::size_of_sack))]
+impl SerializableTlv for SackChunk {
+    ghost tlv = { λ c. sack_tlv (sack_view c) };
+
+    ghost is_encodable = { λ c. IsEncodable (sack_tlv (sack_view c)) };
+
+    ghost image_length = { λ c fits. length-solid_tlv 3 0 (sack_bytes (sack_view c)) };
+
+    ghost size_bound = { λ c fits. fits };
+
+    fn serialize_to(&self, output: &mut [u8]) {
+        let blocks = self.gap_ack_blocks.len();
+        let duplicates = self.duplicate_tsns.len();
+        put_header(CHUNK_TYPE, 0, self.value_size(), output);
+        put_u32(output, TLV_HEADER_SIZE, self.cumulative_tsn_ack.0);
+        put_u32(output, TLV_HEADER_SIZE + 4, self.a_rwnd);
+        put_u16(output, TLV_HEADER_SIZE + 8, blocks as u16);
+        put_u16(output, TLV_HEADER_SIZE + 10, duplicates as u16);
+        let place = TLV_HEADER_SIZE + FIXED_SIZE;
+        put_fields::<GapAckBlock>(output, place, &self.gap_ack_blocks);
+        put_fields::<Tsn>(output, place + 4 * blocks, &self.duplicate_tsns);
+    }
+
+    fn value_size(&self) -> usize {
+        FIXED_SIZE + 4 * self.gap_ack_blocks.len() + 4 * self.duplicate_tsns.len()
+    }
+
+    fn encodable(&self) -> bool {
+        let blocks = self.gap_ack_blocks.len();
+        let duplicates = self.duplicate_tsns.len();
+        blocks.saturating_add(duplicates) <= (MAX_VALUE_SIZE - FIXED_SIZE) / 4
+    }
+}
+
+impl fmt::Display for SackChunk {
+    ghost output = { λ c. Some (sack_text (sack_view c)) };
+
+    fn fmt<W: fmt::Write>(&self, f: &mut fmt::Formatter<W>) -> fmt::Result {
+        let tsn = self.cumulative_tsn_ack;
+        let a_rwnd = self.a_rwnd;
+        write!(f, "SACK, cum_ack_tsn={tsn}, a_rwnd={a_rwnd}")
+    }
+}
