@@ -11,4 +11,6 @@ pub mod raw_chunk;
 pub mod shutdown_ack_chunk;
 pub mod shutdown_chunk;
 pub mod shutdown_complete_chunk;
+#[cfg(test)]
+mod tests;
 pub mod unknown_chunk;
