@@ -18,4 +18,5 @@ pub mod sack_chunk;
 mod skipped_streams;
 #[cfg(test)]
 mod tests_sack;
+mod tests;
 pub mod unknown_chunk;
