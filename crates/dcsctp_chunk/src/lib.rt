@@ -7,16 +7,18 @@ pub mod cookie_echo_chunk;
 pub mod data;
 pub mod data_chunk;
 pub mod flags;
+pub mod forward_tsn_chunk;
 pub mod idata_chunk;
+pub mod iforward_tsn_chunk;
 pub mod raw_chunk;
+pub mod sack_chunk;
 pub mod shutdown_ack_chunk;
 pub mod shutdown_chunk;
 pub mod shutdown_complete_chunk;
-pub mod forward_tsn_chunk;
-pub mod iforward_tsn_chunk;
-pub mod sack_chunk;
 mod skipped_streams;
+pub mod unknown_chunk;
+
+#[cfg(test)]
+mod tests;
 #[cfg(test)]
 mod tests_sack;
-mod tests;
-pub mod unknown_chunk;

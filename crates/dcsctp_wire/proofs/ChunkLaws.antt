@@ -21,10 +21,12 @@ use Rattle.dcsctp_chunk.specs.Flags.{flag_byte}
 use Rattle.dcsctp_chunk.specs.Unknown.{UnknownTree, unknown_at}
 use Rattle.dcsctp_chunk.proofs.FlagLaws.{one_again}
 use Rattle.dcsctp_chunk.proofs.Laws.{shutdown_laws, shutdown_ack_laws, shutdown_complete_laws, cookie_echo_laws, cookie_ack_laws, unknown_laws, data_laws, idata_laws}
+use Rattle.dcsctp_chunk.proofs.SackLaws.{sack_laws}
+use Rattle.dcsctp_chunk.proofs.ForwardTsnLaws.{forward_tsn_laws, iforward_tsn_laws}
 use Rattle.dcsctp_wire.specs.Init.{InitTree, init_numbers, init_row, init_tlv, IsInitInWidth}
 use Rattle.dcsctp_wire.specs.ParameterList.{parameter_list_row, parameter_list_tlv}
 use Rattle.dcsctp_wire.specs.CauseList.{AbortTree, abort_row, abort_tlv, error_row, error_tlv}
-use Rattle.dcsctp_wire.specs.Chunk.{ChunkTree, Data, Init, InitAck, HeartbeatRequest, HeartbeatAck, Abort, Shutdown, ShutdownAck, Error, CookieEcho, CookieAck, ShutdownComplete, IData, ReConfig, Unknown, chunks, chunk_row, chunk_tlv, IsChunkEncodable}
+use Rattle.dcsctp_wire.specs.Chunk.{ChunkTree, Data, Init, InitAck, Sack, HeartbeatRequest, HeartbeatAck, Abort, Shutdown, ShutdownAck, Error, CookieEcho, CookieAck, ShutdownComplete, ReConfig, ForwardTsn, IData, IForwardTsn, Unknown, chunks, chunk_row, chunk_tlv, IsChunkEncodable, encodable_size}
 use Rattle.dcsctp_wire.specs.WellFormed.{IsChunkInWidth, IsUnnamedChunk, IsChunkWellFormed}
 
 -- ---- what three say of each item of a list
@@ -81,12 +83,13 @@ pub record IsGood (t : ChunkTree) : Type 0 where
 unknown_means : (u : UnknownTree) → IsUnnamedChunk u.typ → (chunk_row u.typ u.flags).means (zeroed (chunk_tlv (Unknown u)).value) (Unknown u)
 unfolding unknown_at
 unknown_means u h =
-    rw (ne_eqb u.typ 0 h.0, ne_eqb u.typ 1 h.1, ne_eqb u.typ 2 h.2, ne_eqb u.typ 4 h.3, ne_eqb u.typ 5 h.4, ne_eqb u.typ 6 h.5, ne_eqb u.typ 7 h.6, ne_eqb u.typ 8 h.7, ne_eqb u.typ 9 h.8, ne_eqb u.typ 10 h.9, ne_eqb u.typ 11 h.10, ne_eqb u.typ 14 h.11, ne_eqb u.typ 64 h.12, ne_eqb u.typ 130 h.13, zeroed-solid u.value) refl
+    rw (ne_eqb u.typ 0 h.0, ne_eqb u.typ 1 h.1, ne_eqb u.typ 2 h.2, ne_eqb u.typ 3 h.3, ne_eqb u.typ 4 h.4, ne_eqb u.typ 5 h.5, ne_eqb u.typ 6 h.6, ne_eqb u.typ 7 h.7, ne_eqb u.typ 8 h.8, ne_eqb u.typ 9 h.9, ne_eqb u.typ 10 h.10, ne_eqb u.typ 11 h.11, ne_eqb u.typ 14 h.12, ne_eqb u.typ 64 h.13, ne_eqb u.typ 130 h.14, ne_eqb u.typ 192 h.15, ne_eqb u.typ 194 h.16, zeroed-solid u.value) refl
 
 means : (t : ChunkTree) → IsGood t → (chunk_row (chunk_tlv t).first (chunk_tlv t).second).means (zeroed (chunk_tlv t).value) t
 means (Data c) good = ap (map_ok Data) (data_laws.back c good.width good.formed good.encodable)
 means (Init i) good = (i, init_means 1 i good.width good.formed good.encodable, refl)
 means (InitAck i) good = (i, init_means 2 i good.width good.formed good.encodable, refl)
+means (Sack s) good = ap (map_ok Sack) (sack_laws.back s good.width tt good.encodable)
 means (HeartbeatRequest ps) good = (ps, parameter_list_means 4 ps good.width good.formed good.encodable, refl)
 means (HeartbeatAck ps) good = (ps, parameter_list_means 5 ps good.width good.formed good.encodable, refl)
 means (Abort a) good = (a, abort_means a good.width good.formed good.encodable, refl)
@@ -98,12 +101,15 @@ means CookieAck good = ap (map_ok (λ _. CookieAck)) (cookie_ack_laws.back tt tt
 means (ShutdownComplete reflected) good = ap (map_ok ShutdownComplete) (shutdown_complete_laws.back reflected tt tt good.encodable)
 means (IData c) good = ap (map_ok IData) (idata_laws.back c good.width good.formed good.encodable)
 means (ReConfig ps) good = (ps, parameter_list_means 130 ps good.width good.formed good.encodable, refl)
+means (ForwardTsn f) good = ap (map_ok ForwardTsn) (forward_tsn_laws.back f good.width good.formed good.encodable.size)
+means (IForwardTsn f) good = ap (map_ok IForwardTsn) (iforward_tsn_laws.back f good.width good.formed good.encodable.size)
 means (Unknown u) good = unknown_means u good.formed
 
 sized : (t : ChunkTree) → length (chunk_tlv t).value ≡ (chunk_tlv t).value_size
 sized (Data c) = data_laws.sized c
 sized (Init i) = listed_sized parameter_tlv length-parameter 1 0 (init_numbers i) i.parameters
 sized (InitAck i) = listed_sized parameter_tlv length-parameter 2 0 (init_numbers i) i.parameters
+sized (Sack s) = sack_laws.sized s
 sized (HeartbeatRequest ps) = listed_sized parameter_tlv length-parameter 4 0 [] ps
 sized (HeartbeatAck ps) = listed_sized parameter_tlv length-parameter 5 0 [] ps
 sized (Abort a) = listed_sized cause_tlv length-cause 6 (flag_byte (a.tag_reflected ∷ [])) [] a.causes
@@ -115,10 +121,12 @@ sized CookieAck = cookie_ack_laws.sized tt
 sized (ShutdownComplete reflected) = shutdown_complete_laws.sized reflected
 sized (IData c) = idata_laws.sized c
 sized (ReConfig ps) = listed_sized parameter_tlv length-parameter 130 0 [] ps
+sized (ForwardTsn f) = forward_tsn_laws.sized f
+sized (IForwardTsn f) = iforward_tsn_laws.sized f
 sized (Unknown u) = unknown_laws.sized u
 
 pub chunks_read_back : ReadsBack chunks chunk_tlv IsGood
-chunks_read_back = record { sized = sized; fits = λ t good. good.encodable; means = means }
+chunks_read_back = record { sized = sized; fits = λ t good. encodable_size t good.encodable; means = means }
 
 -- ---- each kind reads only what is well-formed
 
@@ -155,6 +163,7 @@ forms typ flags =
     picked (FormsRow IsChunkWellFormed) (typ == 0) _ _ (λ is. plain_forms data_laws Data IsChunkWellFormed typ flags (λ c formed. formed)) (λ not_0.
     picked (FormsRow IsChunkWellFormed) (typ == 1) _ _ (λ is. init_forms Init (λ i formed. formed)) (λ not_1.
     picked (FormsRow IsChunkWellFormed) (typ == 2) _ _ (λ is. init_forms InitAck (λ i formed. formed)) (λ not_2.
+    picked (FormsRow IsChunkWellFormed) (typ == 3) _ _ (λ is. plain_forms sack_laws Sack IsChunkWellFormed typ flags (λ c formed. tt)) (λ not_3.
     picked (FormsRow IsChunkWellFormed) (typ == 4) _ _ (λ is. parameter_list_forms HeartbeatRequest (λ ps formed. formed)) (λ not_4.
     picked (FormsRow IsChunkWellFormed) (typ == 5) _ _ (λ is. parameter_list_forms HeartbeatAck (λ ps formed. formed)) (λ not_5.
     picked (FormsRow IsChunkWellFormed) (typ == 6) _ _ (λ is. abort_forms flags) (λ not_6.
@@ -166,7 +175,9 @@ forms typ flags =
     picked (FormsRow IsChunkWellFormed) (typ == 14) _ _ (λ is. plain_forms shutdown_complete_laws ShutdownComplete IsChunkWellFormed typ flags (λ reflected formed. tt)) (λ not_14.
     picked (FormsRow IsChunkWellFormed) (typ == 64) _ _ (λ is. plain_forms idata_laws IData IsChunkWellFormed typ flags (λ c formed. formed)) (λ not_64.
     picked (FormsRow IsChunkWellFormed) (typ == 130) _ _ (λ is. parameter_list_forms ReConfig (λ ps formed. formed)) (λ not_130.
-    unknown_forms typ flags (eqb-false typ 0 not_0, eqb-false typ 1 not_1, eqb-false typ 2 not_2, eqb-false typ 4 not_4, eqb-false typ 5 not_5, eqb-false typ 6 not_6, eqb-false typ 7 not_7, eqb-false typ 8 not_8, eqb-false typ 9 not_9, eqb-false typ 10 not_10, eqb-false typ 11 not_11, eqb-false typ 14 not_14, eqb-false typ 64 not_64, eqb-false typ 130 not_130)))))))))))))))
+    picked (FormsRow IsChunkWellFormed) (typ == 192) _ _ (λ is. plain_forms forward_tsn_laws ForwardTsn IsChunkWellFormed typ flags (λ f formed. formed)) (λ not_192.
+    picked (FormsRow IsChunkWellFormed) (typ == 194) _ _ (λ is. plain_forms iforward_tsn_laws IForwardTsn IsChunkWellFormed typ flags (λ f formed. formed)) (λ not_194.
+    unknown_forms typ flags (eqb-false typ 0 not_0, eqb-false typ 1 not_1, eqb-false typ 2 not_2, eqb-false typ 3 not_3, eqb-false typ 4 not_4, eqb-false typ 5 not_5, eqb-false typ 6 not_6, eqb-false typ 7 not_7, eqb-false typ 8 not_8, eqb-false typ 9 not_9, eqb-false typ 10 not_10, eqb-false typ 11 not_11, eqb-false typ 14 not_14, eqb-false typ 64 not_64, eqb-false typ 130 not_130, eqb-false typ 192 not_192, eqb-false typ 194 not_194))))))))))))))))))
 
 pub chunks_form : FormsTrees chunks IsChunkWellFormed
 chunks_form = record { formed = forms }

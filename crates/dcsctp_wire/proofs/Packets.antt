@@ -49,6 +49,7 @@ chunks_lawful typ flags =
     pick_lawful (typ == 0) _ _ (plain_lawful _) (
     pick_lawful (typ == 1) _ _ (as_lawful Init init_row init_lawful) (
     pick_lawful (typ == 2) _ _ (as_lawful InitAck init_row init_lawful) (
+    pick_lawful (typ == 3) _ _ (plain_lawful _) (
     pick_lawful (typ == 4) _ _ (as_lawful HeartbeatRequest parameter_list_row parameter_list_lawful) (
     pick_lawful (typ == 5) _ _ (as_lawful HeartbeatAck parameter_list_row parameter_list_lawful) (
     pick_lawful (typ == 6) _ _ (as_lawful Abort (abort_row flags) (abort_lawful flags)) (
@@ -60,7 +61,9 @@ chunks_lawful typ flags =
     pick_lawful (typ == 14) _ _ (plain_lawful _) (
     pick_lawful (typ == 64) _ _ (plain_lawful _) (
     pick_lawful (typ == 130) _ _ (as_lawful ReConfig parameter_list_row parameter_list_lawful) (
-    plain_lawful _))))))))))))))
+    pick_lawful (typ == 192) _ _ (plain_lawful _) (
+    pick_lawful (typ == 194) _ _ (plain_lawful _) (
+    plain_lawful _)))))))))))))))))
 
 -- ---- one answer
 

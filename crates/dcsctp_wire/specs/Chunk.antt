@@ -14,7 +14,10 @@ use Rattle.dcsctp_chunk.specs.CookieEcho.{cookie_echo_at, cookie_echo_tlv, cooki
 use Rattle.dcsctp_chunk.specs.Data.{DataChunkTree, user_data_flags}
 use Rattle.dcsctp_chunk.specs.DataChunk.{data_at, data_bytes, data_tlv, data_text, data_view}
 use Rattle.dcsctp_chunk.specs.Flags.{flag_byte}
+use Rattle.dcsctp_chunk.specs.ForwardTsn.{ForwardTsnTree, forward_tsn_at, forward_tsn_bytes, forward_tsn_tlv, forward_tsn_text, forward_tsn_view, IsForwardTsnEncodable}
 use Rattle.dcsctp_chunk.specs.IDataChunk.{idata_at, idata_bytes, idata_tlv, idata_text, idata_view}
+use Rattle.dcsctp_chunk.specs.IForwardTsn.{IForwardTsnTree, iforward_tsn_at, iforward_tsn_bytes, iforward_tsn_tlv, iforward_tsn_text, iforward_tsn_view, IsIForwardTsnEncodable}
+use Rattle.dcsctp_chunk.specs.Sack.{SackTree, sack_at, sack_bytes, sack_tlv, sack_text, sack_view}
 use Rattle.dcsctp_chunk.specs.Shutdown.{shutdown_at, shutdown_tlv, shutdown_text, shutdown_view}
 use Rattle.dcsctp_chunk.specs.ShutdownAck.{shutdown_ack_at, shutdown_ack_tlv, shutdown_ack_text}
 use Rattle.dcsctp_chunk.specs.ShutdownComplete.{shutdown_complete_at, shutdown_complete_tlv, shutdown_complete_text, shutdown_complete_view}
@@ -30,6 +33,7 @@ pub data ChunkTree : Type 0 where
   Data : DataChunkTree → ChunkTree
   Init : InitTree → ChunkTree
   InitAck : InitTree → ChunkTree
+  Sack : SackTree → ChunkTree
   HeartbeatRequest : List ParameterTree → ChunkTree
   HeartbeatAck : List ParameterTree → ChunkTree
   Abort : AbortTree → ChunkTree
@@ -39,8 +43,10 @@ pub data ChunkTree : Type 0 where
   CookieEcho : List ℕ → ChunkTree
   CookieAck : ChunkTree
   ShutdownComplete : Bool → ChunkTree
-  IData : DataChunkTree → ChunkTree
   ReConfig : List ParameterTree → ChunkTree
+  ForwardTsn : ForwardTsnTree → ChunkTree
+  IData : DataChunkTree → ChunkTree
+  IForwardTsn : IForwardTsnTree → ChunkTree
   Unknown : UnknownTree → ChunkTree
 
 -- what the value of a type means, and its faults
@@ -49,6 +55,7 @@ chunk_row typ flags =
     pick (typ == 0) (plain (λ value. map_ok Data (data_at flags value))) (
     pick (typ == 1) (as_row Init init_row) (
     pick (typ == 2) (as_row InitAck init_row) (
+    pick (typ == 3) (plain (λ value. map_ok Sack (sack_at value))) (
     pick (typ == 4) (as_row HeartbeatRequest parameter_list_row) (
     pick (typ == 5) (as_row HeartbeatAck parameter_list_row) (
     pick (typ == 6) (as_row Abort (abort_row flags)) (
@@ -60,7 +67,9 @@ chunk_row typ flags =
     pick (typ == 14) (plain (λ value. map_ok ShutdownComplete (shutdown_complete_at flags value))) (
     pick (typ == 64) (plain (λ value. map_ok IData (idata_at flags value))) (
     pick (typ == 130) (as_row ReConfig parameter_list_row) (
-    plain (λ value. map_ok Unknown (unknown_at typ flags value))))))))))))))))
+    pick (typ == 192) (plain (λ value. map_ok ForwardTsn (forward_tsn_at value))) (
+    pick (typ == 194) (plain (λ value. map_ok IForwardTsn (iforward_tsn_at value))) (
+    plain (λ value. map_ok Unknown (unknown_at typ flags value)))))))))))))))))))
 
 -- the chunks of a packet: their padding is never looked at
 abbrev pub chunks : Level ChunkTree
@@ -75,6 +84,7 @@ abbrev pub chunk_tlv : ChunkTree → Tlv
 chunk_tlv (Data c) = data_tlv c
 chunk_tlv (Init i) = init_tlv 1 i
 chunk_tlv (InitAck i) = init_tlv 2 i
+chunk_tlv (Sack s) = sack_tlv s
 chunk_tlv (HeartbeatRequest ps) = parameter_list_tlv 4 ps
 chunk_tlv (HeartbeatAck ps) = parameter_list_tlv 5 ps
 chunk_tlv (Abort a) = abort_tlv a
@@ -86,10 +96,14 @@ chunk_tlv CookieAck = cookie_ack_tlv
 chunk_tlv (ShutdownComplete reflected) = shutdown_complete_tlv reflected
 chunk_tlv (IData c) = idata_tlv c
 chunk_tlv (ReConfig ps) = parameter_list_tlv 130 ps
+chunk_tlv (ForwardTsn f) = forward_tsn_tlv f
+chunk_tlv (IForwardTsn f) = iforward_tsn_tlv f
 chunk_tlv (Unknown u) = unknown_tlv u
 
--- it can be written
+-- It can be written: two bytes can hold its size, and skipped streams have a place in it.
 abbrev pub IsChunkEncodable : ChunkTree → Type 0
+IsChunkEncodable (ForwardTsn f) = IsForwardTsnEncodable f
+IsChunkEncodable (IForwardTsn f) = IsIForwardTsnEncodable f
 IsChunkEncodable t = IsEncodable (chunk_tlv t)
 
 -- how each is printed
@@ -97,6 +111,7 @@ abbrev pub chunk_text : ChunkTree → List ℕ
 chunk_text (Data c) = data_text c
 chunk_text (Init i) = init_text (codes "INIT") i
 chunk_text (InitAck i) = init_text (codes "INIT-ACK") i
+chunk_text (Sack s) = sack_text s
 chunk_text (HeartbeatRequest ps) = heartbeat_request_text
 chunk_text (HeartbeatAck ps) = heartbeat_ack_text
 chunk_text (Abort a) = abort_text a
@@ -108,6 +123,8 @@ chunk_text CookieAck = cookie_ack_text
 chunk_text (ShutdownComplete reflected) = shutdown_complete_text reflected
 chunk_text (IData c) = idata_text c
 chunk_text (ReConfig ps) = re_config_text
+chunk_text (ForwardTsn f) = forward_tsn_text f
+chunk_text (IForwardTsn f) = iforward_tsn_text f
 chunk_text (Unknown u) = unknown_text u
 
 -- a chunk of the code, without where it lies in memory
@@ -115,6 +132,7 @@ abbrev pub view : Chunk → ChunkTree
 view (kinds.Data c) = Data (data_view c)
 view (kinds.Init c) = Init (init_view c)
 view (kinds.InitAck c) = InitAck (init_ack_view c)
+view (kinds.Sack c) = Sack (sack_view c)
 view (kinds.HeartbeatRequest c) = HeartbeatRequest (heartbeat_request_view c)
 view (kinds.HeartbeatAck c) = HeartbeatAck (heartbeat_ack_view c)
 view (kinds.Abort c) = Abort (abort_view c)
@@ -126,16 +144,24 @@ view (kinds.CookieAck c) = CookieAck
 view (kinds.ShutdownComplete c) = ShutdownComplete (shutdown_complete_view c)
 view (kinds.IData c) = IData (idata_view c)
 view (kinds.ReConfig c) = ReConfig (re_config_view c)
+view (kinds.ForwardTsn c) = ForwardTsn (forward_tsn_view c)
+view (kinds.IForwardTsn c) = IForwardTsn (iforward_tsn_view c)
 view (kinds.Unknown c) = Unknown (unknown_view c)
 
 abbrev pub views : List Chunk → List ChunkTree
 views cs = map view cs
+
+pub encodable_size : (t : ChunkTree) → IsChunkEncodable t → IsEncodable (chunk_tlv t)
+encodable_size (ForwardTsn f) h = h.size
+encodable_size (IForwardTsn f) h = h.size
+encodable_size t h = h
 
 -- an image is as long as its size
 pub length-chunk : (t : ChunkTree) → length (image_of (chunk_tlv t)) ≡ size_of (chunk_tlv t)
 length-chunk (Data c) = length-solid_tlv 0 (user_data_flags c.user_data c.immediate_ack) (data_bytes c)
 length-chunk (Init i) = length-listed_tlv parameter_tlv length-parameter 1 0 (init_numbers i) i.parameters
 length-chunk (InitAck i) = length-listed_tlv parameter_tlv length-parameter 2 0 (init_numbers i) i.parameters
+length-chunk (Sack s) = length-solid_tlv 3 0 (sack_bytes s)
 length-chunk (HeartbeatRequest ps) = length-listed_tlv parameter_tlv length-parameter 4 0 [] ps
 length-chunk (HeartbeatAck ps) = length-listed_tlv parameter_tlv length-parameter 5 0 [] ps
 length-chunk (Abort a) = length-listed_tlv cause_tlv length-cause 6 (flag_byte (a.tag_reflected ∷ [])) [] a.causes
@@ -147,4 +173,6 @@ length-chunk CookieAck = length-solid_tlv 11 0 []
 length-chunk (ShutdownComplete reflected) = length-solid_tlv 14 (flag_byte (reflected ∷ [])) []
 length-chunk (IData c) = length-solid_tlv 64 (user_data_flags c.user_data c.immediate_ack) (idata_bytes c)
 length-chunk (ReConfig ps) = length-listed_tlv parameter_tlv length-parameter 130 0 [] ps
+length-chunk (ForwardTsn f) = length-solid_tlv 192 0 (forward_tsn_bytes f)
+length-chunk (IForwardTsn f) = length-solid_tlv 194 0 (iforward_tsn_bytes f)
 length-chunk (Unknown u) = length-solid_tlv u.typ u.flags u.value

@@ -18,8 +18,9 @@ pub use dcsctp_cause::{
     user_initiated_abort_error_cause,
 };
 pub use dcsctp_chunk::{
-    cookie_ack_chunk, cookie_echo_chunk, data, data_chunk, idata_chunk, shutdown_ack_chunk,
-    shutdown_chunk, shutdown_complete_chunk, unknown_chunk,
+    chunk_validators, cookie_ack_chunk, cookie_echo_chunk, data, data_chunk, forward_tsn_chunk,
+    idata_chunk, iforward_tsn_chunk, sack_chunk, shutdown_ack_chunk, shutdown_chunk,
+    shutdown_complete_chunk, unknown_chunk,
 };
 pub use dcsctp_tlv::error::ChunkParseError;
 pub use dcsctp_tlv::frame::TLV_HEADER_SIZE;

@@ -3,19 +3,22 @@
 ghost use Rattle.std.specs.Prelude.{◌≡◌, false, Some, IsErrOf, refl};
 ghost use Rattle.dcsctp_tlv.specs.Level.{HasMeaning};
 ghost use Rattle.dcsctp_tlv.specs.Reading.{Answers};
-ghost use Rattle.dcsctp_wire.specs.Chunk.{ChunkTree, chunk_row, chunks, holds_list, chunk_tlv, IsChunkEncodable, chunk_text, view, length-chunk};
+ghost use Rattle.dcsctp_wire.specs.Chunk.{ChunkTree, chunk_row, chunks, holds_list, chunk_tlv, IsChunkEncodable, chunk_text, view, encodable_size, length-chunk};
 
 use crate::packet::abort_chunk::{self, AbortChunk};
 use crate::packet::cookie_ack_chunk::{self, CookieAckChunk};
 use crate::packet::cookie_echo_chunk::{self, CookieEchoChunk};
 use crate::packet::data_chunk::{self, DataChunk};
 use crate::packet::error_chunk::{self, ErrorChunk};
+use crate::packet::forward_tsn_chunk::{self, ForwardTsnChunk};
 use crate::packet::heartbeat_ack_chunk::{self, HeartbeatAckChunk};
 use crate::packet::heartbeat_request_chunk::{self, HeartbeatRequestChunk};
 use crate::packet::idata_chunk::{self, IDataChunk};
+use crate::packet::iforward_tsn_chunk::{self, IForwardTsnChunk};
 use crate::packet::init_ack_chunk::{self, InitAckChunk};
 use crate::packet::init_chunk::{self, InitChunk};
 use crate::packet::re_config_chunk::{self, ReConfigChunk};
+use crate::packet::sack_chunk::{self, SackChunk};
 use crate::packet::shutdown_ack_chunk::{self, ShutdownAckChunk};
 use crate::packet::shutdown_chunk::{self, ShutdownChunk};
 use crate::packet::shutdown_complete_chunk::{self, ShutdownCompleteChunk};
@@ -33,6 +36,7 @@ pub enum Chunk {
     Data(DataChunk),
     Init(InitChunk),
     InitAck(InitAckChunk),
+    Sack(SackChunk),
     HeartbeatRequest(HeartbeatRequestChunk),
     HeartbeatAck(HeartbeatAckChunk),
     Abort(AbortChunk),
@@ -43,7 +47,9 @@ pub enum Chunk {
     CookieAck(CookieAckChunk),
     ShutdownComplete(ShutdownCompleteChunk),
     ReConfig(ReConfigChunk),
+    ForwardTsn(ForwardTsnChunk),
     IData(IDataChunk),
+    IForwardTsn(IForwardTsnChunk),
     Unknown(UnknownChunk),
 }
 
@@ -64,6 +70,7 @@ impl Chunk {
             data_chunk::CHUNK_TYPE => Chunk::Data(DataChunk::try_from(alloc, raw)?),
             init_chunk::CHUNK_TYPE => Chunk::Init(InitChunk::try_from(alloc, raw)?),
             init_ack_chunk::CHUNK_TYPE => Chunk::InitAck(InitAckChunk::try_from(alloc, raw)?),
+            sack_chunk::CHUNK_TYPE => Chunk::Sack(SackChunk::try_from(alloc, raw)?),
             heartbeat_request_chunk::CHUNK_TYPE => Chunk::HeartbeatRequest(
                 HeartbeatRequestChunk::try_from(alloc, raw)?,
             ),
@@ -83,6 +90,12 @@ impl Chunk {
             ),
             re_config_chunk::CHUNK_TYPE => Chunk::ReConfig(ReConfigChunk::try_from(alloc, raw)?),
             idata_chunk::CHUNK_TYPE => Chunk::IData(IDataChunk::try_from(alloc, raw)?),
+            forward_tsn_chunk::CHUNK_TYPE => Chunk::ForwardTsn(ForwardTsnChunk::try_from(
+                alloc, raw,
+            )?),
+            iforward_tsn_chunk::CHUNK_TYPE => Chunk::IForwardTsn(IForwardTsnChunk::try_from(
+                alloc, raw,
+            )?),
             _ => Chunk::Unknown(UnknownChunk::try_from(alloc, raw)?),
         })
     }
@@ -116,13 +129,14 @@ impl SerializableTlv for Chunk {
 
     ghost image_length = { λ c fits. length-chunk (view c) };
 
-    ghost size_bound = { λ c fits. fits };
+    ghost size_bound = { λ c fits. encodable_size (view c) fits };
 
     fn serialize_to(&self, output: &mut [u8]) {
         match self {
             Chunk::Data(c) => c.serialize_to(output),
             Chunk::Init(c) => c.serialize_to(output),
             Chunk::InitAck(c) => c.serialize_to(output),
+            Chunk::Sack(c) => c.serialize_to(output),
             Chunk::HeartbeatRequest(c) => c.serialize_to(output),
             Chunk::HeartbeatAck(c) => c.serialize_to(output),
             Chunk::Abort(c) => c.serialize_to(output),
@@ -133,7 +147,9 @@ impl SerializableTlv for Chunk {
             Chunk::CookieAck(c) => c.serialize_to(output),
             Chunk::ShutdownComplete(c) => c.serialize_to(output),
             Chunk::ReConfig(c) => c.serialize_to(output),
+            Chunk::ForwardTsn(c) => c.serialize_to(output),
             Chunk::IData(c) => c.serialize_to(output),
+            Chunk::IForwardTsn(c) => c.serialize_to(output),
             Chunk::Unknown(c) => c.serialize_to(output),
         }
     }
@@ -143,6 +159,7 @@ impl SerializableTlv for Chunk {
             Chunk::Data(c) => c.value_size(),
             Chunk::Init(c) => c.value_size(),
             Chunk::InitAck(c) => c.value_size(),
+            Chunk::Sack(c) => c.value_size(),
             Chunk::HeartbeatRequest(c) => c.value_size(),
             Chunk::HeartbeatAck(c) => c.value_size(),
             Chunk::Abort(c) => c.value_size(),
@@ -153,7 +170,9 @@ impl SerializableTlv for Chunk {
             Chunk::CookieAck(c) => c.value_size(),
             Chunk::ShutdownComplete(c) => c.value_size(),
             Chunk::ReConfig(c) => c.value_size(),
+            Chunk::ForwardTsn(c) => c.value_size(),
             Chunk::IData(c) => c.value_size(),
+            Chunk::IForwardTsn(c) => c.value_size(),
             Chunk::Unknown(c) => c.value_size(),
         }
     }
@@ -163,6 +182,7 @@ impl SerializableTlv for Chunk {
             Chunk::Data(c) => c.encodable(),
             Chunk::Init(c) => c.encodable(),
             Chunk::InitAck(c) => c.encodable(),
+            Chunk::Sack(c) => c.encodable(),
             Chunk::HeartbeatRequest(c) => c.encodable(),
             Chunk::HeartbeatAck(c) => c.encodable(),
             Chunk::Abort(c) => c.encodable(),
@@ -173,7 +193,9 @@ impl SerializableTlv for Chunk {
             Chunk::CookieAck(c) => c.encodable(),
             Chunk::ShutdownComplete(c) => c.encodable(),
             Chunk::ReConfig(c) => c.encodable(),
+            Chunk::ForwardTsn(c) => c.encodable(),
             Chunk::IData(c) => c.encodable(),
+            Chunk::IForwardTsn(c) => c.encodable(),
             Chunk::Unknown(c) => c.encodable(),
         }
     }
@@ -187,6 +209,7 @@ impl fmt::Display for Chunk {
             Chunk::Data(c) => c.fmt(f),
             Chunk::Init(c) => c.fmt(f),
             Chunk::InitAck(c) => c.fmt(f),
+            Chunk::Sack(c) => c.fmt(f),
             Chunk::HeartbeatRequest(c) => c.fmt(f),
             Chunk::HeartbeatAck(c) => c.fmt(f),
             Chunk::Abort(c) => c.fmt(f),
@@ -197,7 +220,9 @@ impl fmt::Display for Chunk {
             Chunk::CookieAck(c) => c.fmt(f),
             Chunk::ShutdownComplete(c) => c.fmt(f),
             Chunk::ReConfig(c) => c.fmt(f),
+            Chunk::ForwardTsn(c) => c.fmt(f),
             Chunk::IData(c) => c.fmt(f),
+            Chunk::IForwardTsn(c) => c.fmt(f),
             Chunk::Unknown(c) => c.fmt(f),
         }
     }
