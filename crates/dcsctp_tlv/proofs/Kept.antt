@@ -1,7 +1,7 @@
 -- Trees that are written alike: their lists are, too.
-use Rattle.std.proofs.Common.{◌≡◌, ℕ, ◌+◌, List, [], ◌∷◌, ◌++◌, refl, ap, ◌∙◌, Option, map}
+use Rattle.std.proofs.Common.{◌≡◌, ℕ, ◌+◌, List, [], ◌∷◌, ◌++◌, length, refl, ap, ◌∙◌, Option, map}
 use Rattle.dcsctp_tlv.specs.Frame.{round_up_to_4}
-use Rattle.dcsctp_tlv.specs.Image.{holes, gap, Tlv, size_of, image_of, list_image, list_size}
+use Rattle.dcsctp_tlv.specs.Image.{solid, holes, gap, Tlv, size_of, image_of, list_image, list_size, listed_tlv}
 
 -- f keeps how each is written
 abbrev pub KeepsTlv : {T : Type 0} → (T → Tlv) → (T → T) → Type 0
@@ -20,3 +20,12 @@ list_size-kept tlv f law (t ∷ []) = ap size_of (law t)
 list_size-kept tlv f law (t ∷ u ∷ ts) =
     ap (λ (x : Tlv). round_up_to_4 (size_of x) + list_size tlv (map f (u ∷ ts))) (law t)
     ∙ ap (λ (n : ℕ). round_up_to_4 (size_of (tlv t)) + n) (list_size-kept tlv f law (u ∷ ts))
+
+-- so is an item whose value ends in such a list
+pub listed_tlv-kept : {T : Type 0} (tlv : T → Tlv) (f : T → T) → KeepsTlv tlv f → (first second : ℕ) (leading : List ℕ) (ts : List T) → listed_tlv first second leading tlv (map f ts) ≡ listed_tlv first second leading tlv ts
+listed_tlv-kept tlv f law first second leading ts = λ k. record {
+  first = first;
+  second = second;
+  value = solid leading ++ list_image-kept tlv f law ts k;
+  value_size = length leading + list_size-kept tlv f law ts k;
+}

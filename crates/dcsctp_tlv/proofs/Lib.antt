@@ -16,3 +16,4 @@ pub mod Counts
 pub mod Kept
 pub mod ParameterKinds
 pub mod ParameterLaws
+pub mod Local
