@@ -1,0 +1,163 @@
+-- What was read is written again in the same space, and has no more parts than words: a line a kind.
+use Rattle.std.proofs.Common.{◌≡◌, ◌≢◌, ℕ, ◌+◌, ◌-◌, ◌*◌, ◌≤◌, Bool, true, List, [], ◌∷◌, length, drop, refl, sym, ap, subst, ◌∙◌, arith, ◌⊎◌, inl, inr, Result}
+use Rattle.std.specs.Prelude.{◌==◌}
+use Rattle.std.specs.List.{AllByRecursion}
+use Rattle.std.proofs.lemmas.Bool.{leb-true, eqb-true}
+use Rattle.std.proofs.lemmas.List.{length-drop}
+use Rattle.dcsctp_tlv.specs.Fault.{Fault}
+use Rattle.dcsctp_tlv.proofs.KindLaws.{of_map_ok}
+use Rattle.dcsctp_tlv.specs.Frame.{Item, AreItems, lenient, round_up_to_4}
+use Rattle.dcsctp_tlv.specs.Level.{Row, plain, as_row, map_ok, MeansTrees}
+use Rattle.dcsctp_tlv.specs.Image.{Tlv, size_of, list_size}
+use Rattle.dcsctp_tlv.specs.Count.{total}
+use Rattle.dcsctp_tlv.specs.Parameter.{ParameterTree, parameters, parameter_tlv}
+use Rattle.dcsctp_tlv.proofs.Forms.{picked}
+use Rattle.dcsctp_tlv.proofs.Accounts.{SameSpace, Accounts, plain_account, all_account, list_account}
+use Rattle.dcsctp_tlv.proofs.Counts.{Counts, list_count, total-one}
+use Rattle.dcsctp_tlv.proofs.ParameterLaws.{parameters_account, parameters_count}
+use Rattle.dcsctp_cause.specs.Cause.{CauseTree, causes, cause_tlv}
+use Rattle.dcsctp_cause.specs.Text.{IsTextKept}
+use Rattle.dcsctp_cause.proofs.CauseLaws.{causes_account, causes_count}
+use Rattle.dcsctp_chunk.proofs.Laws.{data_keeps_size, idata_keeps_size, shutdown_keeps_size, shutdown_ack_keeps_size, shutdown_complete_keeps_size, cookie_echo_keeps_size, cookie_ack_keeps_size, unknown_keeps_size}
+use Rattle.dcsctp_chunk.proofs.SackLaws.{sack_keeps_size}
+use Rattle.dcsctp_chunk.proofs.ForwardTsnLaws.{forward_tsn_keeps_size, iforward_tsn_keeps_size}
+use Rattle.dcsctp_wire.specs.Init.{InitTree, init_row}
+use Rattle.dcsctp_wire.specs.ParameterList.{parameter_list_row}
+use Rattle.dcsctp_wire.specs.CauseList.{AbortTree, abort_row, error_row}
+use Rattle.dcsctp_wire.specs.Chunk.{ChunkTree, Data, Init, InitAck, Sack, HeartbeatRequest, HeartbeatAck, Abort, Shutdown, ShutdownAck, Error, CookieEcho, CookieAck, ShutdownComplete, ReConfig, ForwardTsn, IData, IForwardTsn, Unknown, chunks, chunk_row, chunk_tlv}
+use Rattle.dcsctp_wire.specs.Account.{AreTextsKept, chunk_parts}
+
+-- ---- the size account
+
+-- a list behind so many bytes of a value
+behind : (words a b size : ℕ) → SameSpace a b → b ≡ size - 4 * words → 4 * words ≤ size → SameSpace (4 + (4 * words + a)) (4 + size)
+behind words a b size h e le = record { at_most = omega (arith, h.at_most, e, le); up = omega (arith, h.up, e, le) }
+
+-- the causes keep their texts
+abbrev KeepsCauses : ℕ → List ℕ → Type 0
+KeepsCauses typ value = (typ ≡ 6) ⊎ (typ ≡ 9) → (items : List Item) → AreItems lenient value items → AllByRecursion IsTextKept items
+
+-- what a row owes for the chunks of a type
+abbrev Accounted : ℕ → Row ChunkTree → Type 0
+Accounted typ row = (value : List ℕ) (t : ChunkTree) → KeepsCauses typ value → row.means value t → SameSpace (size_of (chunk_tlv t)) (4 + length value)
+
+tree_size : (t u : ChunkTree) (n : ℕ) → t ≡ u → SameSpace (size_of (chunk_tlv u)) n → SameSpace (size_of (chunk_tlv t)) n
+tree_size t u n e h = subst (λ (x : ChunkTree). SameSpace (size_of (chunk_tlv x)) n) (sym e) h
+
+init_account : (typ : ℕ) (tree : InitTree → ChunkTree) → ((i : InitTree) → size_of (chunk_tlv (tree i)) ≡ 4 + (16 + list_size parameter_tlv i.parameters)) → Accounted typ (as_row tree init_row)
+init_account typ tree size value t kept m =
+    let list = all_account parameters parameter_tlv parameters_account (drop 16 value) m.1.1.0 m.1.1.1 in
+    let ps : m.0.parameters ≡ m.1.1.0 = ap (λ (i : InitTree). i.parameters) m.1.1.2 in
+    tree_size t (tree m.0) _ m.2 (subst (λ (n : ℕ). SameSpace n (4 + length value)) (sym (size m.0 ∙ ap (λ (xs : List ParameterTree). 4 + (16 + list_size parameter_tlv xs)) ps))
+    (behind 4 (list_size parameter_tlv m.1.1.0) (length (drop 16 value)) (length value) list (length-drop 16 value) (leb-true 16 (length value) m.1.0)))
+
+parameter_list_account : (typ : ℕ) (tree : List ParameterTree → ChunkTree) → ((ps : List ParameterTree) → size_of (chunk_tlv (tree ps)) ≡ 4 + (0 + list_size parameter_tlv ps)) → Accounted typ (as_row tree parameter_list_row)
+parameter_list_account typ tree size value t kept m =
+    let list = all_account parameters parameter_tlv parameters_account value m.1.1.0 m.1.1.1 in
+    tree_size t (tree m.0) _ m.2 (subst (λ (n : ℕ). SameSpace n (4 + length value)) (sym (size m.0 ∙ ap (λ (xs : List ParameterTree). 4 + (0 + list_size parameter_tlv xs)) m.1.1.2))
+    (behind 0 (list_size parameter_tlv m.1.1.0) (length value) (length value) list (omega arith) (omega arith)))
+
+cause_list_account : (value : List ℕ) (cs : List CauseTree) (m : MeansTrees causes value cs) → ((items : List Item) → AreItems lenient value items → AllByRecursion IsTextKept items) → SameSpace (4 + (0 + list_size cause_tlv cs)) (4 + length value)
+cause_list_account value cs m kept =
+    behind 0 (list_size cause_tlv cs) (length value) (length value) (list_account causes cause_tlv IsTextKept causes_account value cs m (kept m.items m.are)) (omega arith) (omega arith)
+
+abort_account : (typ flags : ℕ) → typ ≡ 6 → Accounted typ (as_row Abort (abort_row flags))
+abort_account typ flags is value t kept m =
+    tree_size t (Abort m.0) _ m.2 (subst (λ (a : AbortTree). SameSpace (size_of (chunk_tlv (Abort a))) (4 + length value)) (sym m.1.1.2) (cause_list_account value m.1.1.0 m.1.1.1 (kept (inl is))))
+
+error_account : (typ : ℕ) → typ ≡ 9 → Accounted typ (as_row Error error_row)
+error_account typ is value t kept m =
+    tree_size t (Error m.0) _ m.2 (subst (λ (cs : List CauseTree). SameSpace (size_of (chunk_tlv (Error cs))) (4 + length value)) (sym m.1.1.2) (cause_list_account value m.1.1.0 m.1.1.1 (kept (inr is))))
+
+account : (typ flags : ℕ) → Accounted typ (chunk_row typ flags)
+account typ flags =
+    picked (Accounted typ) (typ == 0) _ _ (λ _ value t kept. plain_account _ Data chunk_tlv (data_keeps_size typ flags) value t) (λ _.
+    picked (Accounted typ) (typ == 1) _ _ (λ _. init_account typ Init (λ i. refl)) (λ _.
+    picked (Accounted typ) (typ == 2) _ _ (λ _. init_account typ InitAck (λ i. refl)) (λ _.
+    picked (Accounted typ) (typ == 3) _ _ (λ _ value t kept. plain_account _ Sack chunk_tlv (sack_keeps_size typ flags) value t) (λ _.
+    picked (Accounted typ) (typ == 4) _ _ (λ _. parameter_list_account typ HeartbeatRequest (λ ps. refl)) (λ _.
+    picked (Accounted typ) (typ == 5) _ _ (λ _. parameter_list_account typ HeartbeatAck (λ ps. refl)) (λ _.
+    picked (Accounted typ) (typ == 6) _ _ (λ is. abort_account typ flags (eqb-true typ 6 is)) (λ _.
+    picked (Accounted typ) (typ == 7) _ _ (λ _ value t kept. plain_account _ Shutdown chunk_tlv (shutdown_keeps_size typ flags) value t) (λ _.
+    picked (Accounted typ) (typ == 8) _ _ (λ _ value t kept. plain_account _ (λ _. ShutdownAck) chunk_tlv (shutdown_ack_keeps_size typ flags) value t) (λ _.
+    picked (Accounted typ) (typ == 9) _ _ (λ is. error_account typ (eqb-true typ 9 is)) (λ _.
+    picked (Accounted typ) (typ == 10) _ _ (λ _ value t kept. plain_account _ CookieEcho chunk_tlv (cookie_echo_keeps_size typ flags) value t) (λ _.
+    picked (Accounted typ) (typ == 11) _ _ (λ _ value t kept. plain_account _ (λ _. CookieAck) chunk_tlv (cookie_ack_keeps_size typ flags) value t) (λ _.
+    picked (Accounted typ) (typ == 14) _ _ (λ _ value t kept. plain_account _ ShutdownComplete chunk_tlv (shutdown_complete_keeps_size typ flags) value t) (λ _.
+    picked (Accounted typ) (typ == 64) _ _ (λ _ value t kept. plain_account _ IData chunk_tlv (idata_keeps_size typ flags) value t) (λ _.
+    picked (Accounted typ) (typ == 130) _ _ (λ _. parameter_list_account typ ReConfig (λ ps. refl)) (λ _.
+    picked (Accounted typ) (typ == 192) _ _ (λ _ value t kept. plain_account _ ForwardTsn chunk_tlv (forward_tsn_keeps_size typ flags) value t) (λ _.
+    picked (Accounted typ) (typ == 194) _ _ (λ _ value t kept. plain_account _ IForwardTsn chunk_tlv (iforward_tsn_keeps_size typ flags) value t) (λ _.
+    (λ value t kept. plain_account _ Unknown chunk_tlv (unknown_keeps_size typ flags) value t))))))))))))))))))
+
+pub chunks_account : Accounts chunks chunk_tlv AreTextsKept
+chunks_account = record { sized = λ i t kept. account i.first i.second i.value t kept }
+
+-- ---- the bound on the number of parts
+
+abbrev Counted : Row ChunkTree → Type 0
+Counted row = (value : List ℕ) (t : ChunkTree) → row.means value t → 4 * chunk_parts t ≤ 4 + length value
+
+-- a kind without a list counts as one
+plain_counted : {X : Type 0} (tree : X → ChunkTree) (read : List ℕ → Result X Fault) → ((x : X) → chunk_parts (tree x) ≡ 1) → Counted (plain (λ value. map_ok tree (read value)))
+plain_counted tree read one value t e =
+    let x = of_map_ok tree (read value) t e in
+    subst (λ (u : ChunkTree). 4 * chunk_parts u ≤ 4 + length value) (sym x.1.1) (let h = one x.0 in omega (arith, h))
+
+list_parts : (n value list : ℕ) → 4 * n ≤ list → list ≤ value → 4 * (1 + n) ≤ 4 + value
+list_parts n value list h le = omega (arith, h, le)
+
+parameters_parts : (bytes : List ℕ) (ps : List ParameterTree) → MeansTrees parameters bytes ps → 4 * length ps ≤ length bytes
+parameters_parts bytes ps m = subst (λ (n : ℕ). 4 * n ≤ length bytes) (total-one ps) (list_count parameters (λ p. 1) parameters_count bytes ps m)
+
+causes_parts : (bytes : List ℕ) (cs : List CauseTree) → MeansTrees causes bytes cs → 4 * length cs ≤ length bytes
+causes_parts bytes cs m = subst (λ (n : ℕ). 4 * n ≤ length bytes) (total-one cs) (list_count causes (λ c. 1) causes_count bytes cs m)
+
+init_counted : (tree : InitTree → ChunkTree) → ((i : InitTree) → chunk_parts (tree i) ≡ 1 + length i.parameters) → Counted (as_row tree init_row)
+init_counted tree parts value t m =
+    let e : chunk_parts t ≡ 1 + length m.1.1.0 = ap chunk_parts m.2 ∙ parts m.0 ∙ ap (λ (i : InitTree). 1 + length i.parameters) m.1.1.2 in
+    let h = parameters_parts (drop 16 value) m.1.1.0 m.1.1.1 in
+    let d = length-drop 16 value in
+    omega (arith, e, h, d)
+
+parameter_list_counted : (tree : List ParameterTree → ChunkTree) → ((ps : List ParameterTree) → chunk_parts (tree ps) ≡ 1 + length ps) → Counted (as_row tree parameter_list_row)
+parameter_list_counted tree parts value t m =
+    let e : chunk_parts t ≡ 1 + length m.1.1.0 = ap chunk_parts m.2 ∙ parts m.0 ∙ ap (λ (ps : List ParameterTree). 1 + length ps) m.1.1.2 in
+    let h = parameters_parts value m.1.1.0 m.1.1.1 in
+    omega (arith, e, h)
+
+abort_counted : (flags : ℕ) → Counted (as_row Abort (abort_row flags))
+abort_counted flags value t m =
+    let e : chunk_parts t ≡ 1 + length m.1.1.0 = ap chunk_parts m.2 ∙ ap (λ (a : AbortTree). 1 + length a.causes) m.1.1.2 in
+    let h = causes_parts value m.1.1.0 m.1.1.1 in
+    omega (arith, e, h)
+
+error_counted : Counted (as_row Error error_row)
+error_counted value t m =
+    let e : chunk_parts t ≡ 1 + length m.1.1.0 = ap chunk_parts m.2 ∙ ap (λ (cs : List CauseTree). 1 + length cs) m.1.1.2 in
+    let h = causes_parts value m.1.1.0 m.1.1.1 in
+    omega (arith, e, h)
+
+counted : (typ flags : ℕ) → Counted (chunk_row typ flags)
+counted typ flags =
+    picked Counted (typ == 0) _ _ (λ _. plain_counted Data _ (λ c. refl)) (λ _.
+    picked Counted (typ == 1) _ _ (λ _. init_counted Init (λ i. refl)) (λ _.
+    picked Counted (typ == 2) _ _ (λ _. init_counted InitAck (λ i. refl)) (λ _.
+    picked Counted (typ == 3) _ _ (λ _. plain_counted Sack _ (λ s. refl)) (λ _.
+    picked Counted (typ == 4) _ _ (λ _. parameter_list_counted HeartbeatRequest (λ ps. refl)) (λ _.
+    picked Counted (typ == 5) _ _ (λ _. parameter_list_counted HeartbeatAck (λ ps. refl)) (λ _.
+    picked Counted (typ == 6) _ _ (λ _. abort_counted flags) (λ _.
+    picked Counted (typ == 7) _ _ (λ _. plain_counted Shutdown _ (λ tsn. refl)) (λ _.
+    picked Counted (typ == 8) _ _ (λ _. plain_counted (λ _. ShutdownAck) _ (λ u. refl)) (λ _.
+    picked Counted (typ == 9) _ _ (λ _. error_counted) (λ _.
+    picked Counted (typ == 10) _ _ (λ _. plain_counted CookieEcho _ (λ cookie. refl)) (λ _.
+    picked Counted (typ == 11) _ _ (λ _. plain_counted (λ _. CookieAck) _ (λ u. refl)) (λ _.
+    picked Counted (typ == 14) _ _ (λ _. plain_counted ShutdownComplete _ (λ reflected. refl)) (λ _.
+    picked Counted (typ == 64) _ _ (λ _. plain_counted IData _ (λ c. refl)) (λ _.
+    picked Counted (typ == 130) _ _ (λ _. parameter_list_counted ReConfig (λ ps. refl)) (λ _.
+    picked Counted (typ == 192) _ _ (λ _. plain_counted ForwardTsn _ (λ f. refl)) (λ _.
+    picked Counted (typ == 194) _ _ (λ _. plain_counted IForwardTsn _ (λ f. refl)) (λ _.
+    plain_counted Unknown _ (λ u. refl))))))))))))))))))
+
+pub chunks_count : Counts chunks chunk_parts
+chunks_count = record { bound = λ i t m. counted i.first i.second i.value t m }

@@ -1,0 +1,82 @@
+-- The kept form of a chunk is written alike, and is well-formed: a line a kind.
+use Rattle.std.proofs.Common.{◌≡◌, ℕ, ◌^◌, ◌<◌, List, [], ◌∷◌, ◌++◌, refl, sym, ap, subst, ◌∙◌}
+use Rattle.std.specs.Prelude.{map, replicate}
+use Rattle.std.specs.List.{AllByRecursion, flat_map}
+use Rattle.dcsctp_tlv.specs.Image.{zeroed, gap, Tlv, image_of, size_of, IsEncodable, listed_tlv}
+use Rattle.dcsctp_tlv.specs.Parameter.{ParameterTree, parameter_tlv}
+use Rattle.dcsctp_tlv.specs.WellFormedParameter.{IsParameterInWidth, IsParameterTyped, IsParameterWellFormed, kept_parameter, kept_parameters}
+use Rattle.dcsctp_tlv.proofs.Kept.{listed_tlv-kept}
+use Rattle.dcsctp_tlv.proofs.ParameterLaws.{kept_parameter_tlv, kept_parameter_formed, kept_parameter_width}
+use Rattle.dcsctp_chunk.proofs.Laws.{data_kept_tlv, data_kept_formed, data_kept_width, idata_kept_tlv, idata_kept_formed, idata_kept_width}
+use Rattle.dcsctp_wire.specs.Init.{InitTree, init_numbers}
+use Rattle.dcsctp_wire.specs.Chunk.{ChunkTree, Data, Init, InitAck, Sack, HeartbeatRequest, HeartbeatAck, Abort, Shutdown, ShutdownAck, Error, CookieEcho, CookieAck, ShutdownComplete, ReConfig, ForwardTsn, IData, IForwardTsn, Unknown, chunk_tlv, IsChunkEncodable}
+use Rattle.dcsctp_wire.specs.WellFormed.{IsChunkInWidth, IsChunkWellFormed}
+use Rattle.dcsctp_wire.specs.Canonical.{canonical, padded_chunk}
+use Rattle.dcsctp_wire.specs.Kept.{kept_chunk, kept_chunks, IsChunkReadable}
+use Rattle.dcsctp_wire.specs.Packet.{Meaning}
+
+-- ---- it is written alike
+
+listed_kept : (typ : ℕ) (leading : List ℕ) (ps : List ParameterTree) → listed_tlv typ 0 leading parameter_tlv (kept_parameters ps) ≡ listed_tlv typ 0 leading parameter_tlv ps
+listed_kept typ leading ps = listed_tlv-kept parameter_tlv kept_parameter kept_parameter_tlv typ 0 leading ps
+
+pub kept_tlv : (t : ChunkTree) → chunk_tlv (kept_chunk t) ≡ chunk_tlv t
+kept_tlv (Data c) = data_kept_tlv c
+kept_tlv (Init i) = listed_kept 1 (init_numbers i) i.parameters
+kept_tlv (InitAck i) = listed_kept 2 (init_numbers i) i.parameters
+kept_tlv (HeartbeatRequest ps) = listed_kept 4 [] ps
+kept_tlv (HeartbeatAck ps) = listed_kept 5 [] ps
+kept_tlv (IData c) = idata_kept_tlv c
+kept_tlv (ReConfig ps) = listed_kept 130 [] ps
+kept_tlv t = refl
+
+-- a chunk with its padding, by how it is written
+abbrev padded : Tlv → List ℕ
+padded x = zeroed (image_of x) ++ replicate (gap (size_of x)) 0
+
+body_kept : (ts : List ChunkTree) → flat_map padded_chunk (kept_chunks ts) ≡ flat_map padded_chunk ts
+body_kept [] = refl
+body_kept (t ∷ ts) =
+    ap (λ (x : Tlv). padded x ++ flat_map padded_chunk (kept_chunks ts)) (kept_tlv t) ∙ ap (λ (xs : List ℕ). padded_chunk t ++ xs) (body_kept ts)
+
+pub canonical_kept : (m : Meaning) → canonical (record m { chunks = kept_chunks m.chunks }) ≡ canonical m
+unfolding canonical
+canonical_kept m = ap (λ (chunks : List ℕ). canonical (record m { chunks = [] }) ++ chunks) (body_kept m.chunks)
+
+pub kept_encodable : (t : ChunkTree) → IsChunkEncodable t → IsChunkEncodable (kept_chunk t)
+kept_encodable (Data c) h = subst IsEncodable (sym (kept_tlv (Data c))) h
+kept_encodable (Init i) h = subst IsEncodable (sym (kept_tlv (Init i))) h
+kept_encodable (InitAck i) h = subst IsEncodable (sym (kept_tlv (InitAck i))) h
+kept_encodable (HeartbeatRequest ps) h = subst IsEncodable (sym (kept_tlv (HeartbeatRequest ps))) h
+kept_encodable (HeartbeatAck ps) h = subst IsEncodable (sym (kept_tlv (HeartbeatAck ps))) h
+kept_encodable (IData c) h = subst IsEncodable (sym (kept_tlv (IData c))) h
+kept_encodable (ReConfig ps) h = subst IsEncodable (sym (kept_tlv (ReConfig ps))) h
+kept_encodable t h = h
+
+-- ---- it is in width and well-formed
+
+each : (P Q : ParameterTree → Type 0) → ((p : ParameterTree) → P p → Q (kept_parameter p)) → (ps : List ParameterTree) → AllByRecursion P ps → AllByRecursion Q (kept_parameters ps)
+each P Q law [] h = tt
+each P Q law (p ∷ ps) h = (law p h.0, each P Q law ps h.1)
+
+pub kept_width : (t : ChunkTree) → IsChunkInWidth t → IsChunkInWidth (kept_chunk t)
+kept_width (Data c) h = data_kept_width c h
+kept_width (Init i) h = record { tag = h.tag; window = h.window; outbound = h.outbound; inbound = h.inbound; tsn = h.tsn; each = each _ _ kept_parameter_width i.parameters h.each }
+kept_width (InitAck i) h = record { tag = h.tag; window = h.window; outbound = h.outbound; inbound = h.inbound; tsn = h.tsn; each = each _ _ kept_parameter_width i.parameters h.each }
+kept_width (HeartbeatRequest ps) h = each _ _ kept_parameter_width ps h
+kept_width (HeartbeatAck ps) h = each _ _ kept_parameter_width ps h
+kept_width (IData c) h = idata_kept_width c h
+kept_width (ReConfig ps) h = each _ _ kept_parameter_width ps h
+kept_width t h = h
+
+pub kept_formed : (t : ChunkTree) → IsChunkEncodable t → IsChunkReadable t → IsChunkWellFormed (kept_chunk t)
+kept_formed (Data c) fits h = data_kept_formed c
+kept_formed (Init i) fits h = each _ _ kept_parameter_formed i.parameters h
+kept_formed (InitAck i) fits h = each _ _ kept_parameter_formed i.parameters h
+kept_formed (HeartbeatRequest ps) fits h = each _ _ kept_parameter_formed ps h
+kept_formed (HeartbeatAck ps) fits h = each _ _ kept_parameter_formed ps h
+kept_formed (IData c) fits h = idata_kept_formed c
+kept_formed (ReConfig ps) fits h = each _ _ kept_parameter_formed ps h
+kept_formed (ForwardTsn f) fits h = fits.kinds
+kept_formed (IForwardTsn f) fits h = fits.kinds
+kept_formed t fits h = h

@@ -1,0 +1,44 @@
+-- How much a packet holds: its size as it is written again, and the number of its parts.
+use Rattle.std.specs.Prelude.{◌≡◌, ℕ, ◌+◌, ◌≤◌, ◌⊎◌, List, length}
+use Rattle.std.specs.List.{AllByRecursion}
+use Rattle.dcsctp_tlv.specs.Frame.{Item, AreItems, lenient, round_up_to_4}
+use Rattle.dcsctp_tlv.specs.Count.{total}
+use Rattle.dcsctp_cause.specs.Text.{IsTextKept}
+use Rattle.dcsctp_wire.specs.Chunk.{ChunkTree, Init, InitAck, HeartbeatRequest, HeartbeatAck, Abort, Error, ReConfig, IsChunkEncodable}
+use Rattle.dcsctp_wire.specs.Packet.{Meaning, body}
+use Rattle.dcsctp_wire.specs.Canonical.{padded_size, Fits}
+
+-- ---- replaced texts
+
+-- if the chunk holds causes, each of them keeps its bytes
+abbrev pub AreTextsKept : Item → Type 0
+AreTextsKept i = (i.first ≡ 6) ⊎ (i.first ≡ 9) → (causes : List Item) → AreItems lenient i.value causes → AllByRecursion IsTextKept causes
+
+-- no text of the packet is replaced by a fixed one
+abbrev pub KeepsTexts : List ℕ → Type 0
+KeepsTexts bytes = (chunks : List Item) → AreItems lenient (body bytes) chunks → AllByRecursion AreTextsKept chunks
+
+-- ---- size
+
+-- Written again, the packet has the size that it had, up to a multiple of 4.
+pub record KeepsSize (bytes : List ℕ) (m : Meaning) : Type 0 where
+  pub whole : 12 + padded_size m.chunks ≡ round_up_to_4 (length bytes)
+  pub each : AllByRecursion IsChunkEncodable m.chunks
+  pub fits : length bytes ≤ 65532 → Fits m
+
+-- ---- parts
+
+-- a chunk, and the parameters or causes in it
+abbrev pub chunk_parts : ChunkTree → ℕ
+chunk_parts (Init i) = 1 + length i.parameters
+chunk_parts (InitAck i) = 1 + length i.parameters
+chunk_parts (HeartbeatRequest ps) = 1 + length ps
+chunk_parts (HeartbeatAck ps) = 1 + length ps
+chunk_parts (Abort a) = 1 + length a.causes
+chunk_parts (Error cs) = 1 + length cs
+chunk_parts (ReConfig ps) = 1 + length ps
+chunk_parts t = 1
+
+-- chunks, parameters and causes together
+abbrev pub node_count : Meaning → ℕ
+node_count m = total chunk_parts m.chunks
