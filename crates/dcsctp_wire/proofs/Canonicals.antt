@@ -1,6 +1,7 @@
 -- The canonical packet is what the list of chunks writes over zeros; it reads back, and no other meaning has it.
-use Rattle.std.proofs.Common.{◌≡◌, ◌≢◌, ℕ, ◌+◌, ◌-◌, ◌≤◌, true, List, [], ◌∷◌, ◌++◌, length, replicate, unwrap_or, refl, sym, ap, subst, ◌∙◌, append_assoc, arith, Option, Ok}
+use Rattle.std.proofs.Common.{◌≡◌, ◌≢◌, ℕ, ◌+◌, ◌-◌, ◌^◌, ◌<◌, ◌≤◌, true, List, [], ◌∷◌, ◌++◌, length, replicate, unwrap_or, refl, sym, ap, subst, ◌∙◌, append_assoc, arith, Option, Ok}
 use Rattle.std.specs.List.{AllByRecursion, flat_map}
+use Rattle.std.specs.Int.{w16, w32, to_be_bytes}
 use Rattle.std.proofs.lemmas.List.{append-nil, length-append, length-map, length-replicate}
 use Rattle.std.proofs.lemmas.Nat.{from_be_bytes-to_be_bytes_2, from_be_bytes-to_be_bytes_4}
 use Rattle.std.proofs.lemmas.Grind.{flat_map-append}
@@ -12,7 +13,7 @@ use Rattle.dcsctp_tlv.proofs.ReadsBack.{body_reads_back}
 use Rattle.dcsctp_wire.specs.declared.packet.chunk.Chunk.{Chunk}
 use Rattle.dcsctp_wire.specs.declared.packet.sctp_packet.ChecksumPolicy.{ChecksumPolicy}
 use Rattle.dcsctp_wire.specs.Chunk.{ChunkTree, chunks, chunk_tlv, IsChunkEncodable, view, views, length-chunk}
-use Rattle.dcsctp_wire.specs.Packet.{Meaning, PacketTree, IsAccepted, disabled, Answer}
+use Rattle.dcsctp_wire.specs.Packet.{Meaning, PacketTree, checksum_field, IsAccepted, disabled, Answer}
 use Rattle.dcsctp_wire.specs.Canonical.{padded_chunk, canonical, padded_size, Fits}
 use Rattle.dcsctp_wire.specs.WellFormed.{IsChunkInWidth, IsChunkWellFormed, IsInWidth, IsWellFormed}
 use Rattle.dcsctp_wire.proofs.Packets.{packet_one}
@@ -136,20 +137,32 @@ four : (ts : List ChunkTree) → ts ≢ [] → 4 ≤ padded_size ts
 four [] some = absurd (some refl)
 four (t ∷ ts) some = omega arith
 
-pub reads_back : (m : Meaning) (word : ℕ) (policy : ChecksumPolicy) → IsInWidth m → IsWellFormed m → Fits m → IsAccepted policy 0 word → Answer (canonical m) word policy (Ok (record { meaning = m; checksum = 0 }))
-unfolding canonical
-reads_back m word policy width formed fits accepted =
+-- the canonical packet with a number in its checksum field
+abbrev pub with_field : Meaning → ℕ → List ℕ
+with_field m field = to_be_bytes w16 m.source ++ (to_be_bytes w16 m.destination ++ (to_be_bytes w32 m.tag ++ (to_be_bytes w32 field ++ flat_map padded_chunk m.chunks)))
+
+pub field_back : (m : Meaning) (field : ℕ) → field < 2 ^ 32 → checksum_field (with_field m field) ≡ field
+field_back m field fits = from_be_bytes-to_be_bytes_4 field fits
+
+pub reads_back_with : (m : Meaning) (field word : ℕ) (policy : ChecksumPolicy) → field < 2 ^ 32 → IsInWidth m → IsWellFormed m → Fits m → IsAccepted policy field word
+    → Answer (with_field m field) word policy (Ok (record { meaning = m; checksum = field }))
+reads_back_with m field word policy field_fits width formed fits accepted =
     let b = length-chunks m.chunks in
-    let k = four m.chunks formed.some in (
-      record { size = record { low = omega (arith, b, k, fits.whole); high = omega (arith, b, fits.whole) }; accepted = accepted },
+    let k = four m.chunks formed.some in
+    let e = field_back m field field_fits in (
+      record { size = record { low = omega (arith, b, k, fits.whole); high = omega (arith, b, fits.whole) }; accepted = subst (λ (n : ℕ). IsAccepted policy n word) (sym e) accepted },
       record {
         source = sym (from_be_bytes-to_be_bytes_2 m.source width.source);
         destination = sym (from_be_bytes-to_be_bytes_2 m.destination width.destination);
         tag = sym (from_be_bytes-to_be_bytes_4 m.tag width.tag);
-        checksum = refl;
+        checksum = sym e;
         chunks = body_reads_back chunks chunk_tlv IsGood chunks_read_back m.chunks (each_good m.chunks width.each formed.each fits.each) (λ n. refl);
       },
     )
+
+pub reads_back : (m : Meaning) (word : ℕ) (policy : ChecksumPolicy) → IsInWidth m → IsWellFormed m → Fits m → IsAccepted policy 0 word → Answer (canonical m) word policy (Ok (record { meaning = m; checksum = 0 }))
+unfolding canonical
+reads_back m word policy width formed fits accepted = reads_back_with m 0 word policy (omega arith) width formed fits accepted
 
 -- a policy that accepts every field
 abbrev off : ChecksumPolicy

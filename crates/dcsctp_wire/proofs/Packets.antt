@@ -21,7 +21,7 @@ use Rattle.dcsctp_wire.specs.Init.{init_of, init_row}
 use Rattle.dcsctp_wire.specs.ParameterList.{parameter_list_row}
 use Rattle.dcsctp_wire.specs.CauseList.{AbortTree, abort_row, error_row}
 use Rattle.dcsctp_wire.specs.Chunk.{ChunkTree, Init, InitAck, HeartbeatRequest, HeartbeatAck, Abort, Error, ReConfig, chunks}
-use Rattle.dcsctp_wire.specs.Packet.{PacketTree, HasPacketSize, IsAccepted, disabled, alternate, equal, checksum_field, body, IsOpened, MeansPacket, PacketFault, Size, Checksum, Chunk, Answer, ReadsFault}
+use Rattle.dcsctp_wire.specs.Packet.{PacketTree, HasPacketSize, IsAccepted, disabled, alternate, equal, checksum_field, body, IsOpened, MeansPacket, packet_with, PacketFault, Size, Checksum, Chunk, Answer, ReadsFault}
 
 pub reads_fault : (bytes : List ℕ) (word : ℕ) (policy : ChecksumPolicy) (e : ChunkParseError) → IsOpened bytes word policy → TellsFault (HasFault chunks (body bytes)) e → ReadsFault bytes word policy e
 reads_fault bytes word policy InvalidLength opened fault = (opened, fault)
@@ -134,10 +134,8 @@ answer_some bytes word policy fits = elim (size_tells bytes) [
   | inl size ↦ elim (accepted_tells policy (checksum_field bytes) word) [
     | inr refused ↦ (Err Checksum, (size, refused))
     | inl accepted ↦ elim (list_some chunks chunks_lawful (body bytes) (body_fits bytes fits)) [
-      | inl m ↦ (Ok (packet bytes m.0), (record { size = size; accepted = accepted }, record { source = refl; destination = refl; tag = refl; checksum = refl; chunks = m.1 }))
+      | inl m ↦ (Ok (packet_with bytes m.0), (record { size = size; accepted = accepted }, record { source = refl; destination = refl; tag = refl; checksum = refl; chunks = m.1 }))
       | inr f ↦ (Err (Chunk f.0), (record { size = size; accepted = accepted }, f.1))
     ]
   ]
-] where
-  packet : List ℕ → List ChunkTree → PacketTree
-  packet bytes cs = record { meaning = record { source = number16 bytes; destination = number16 (drop 2 bytes); tag = number32 (drop 4 bytes); chunks = cs }; checksum = checksum_field bytes }
+]

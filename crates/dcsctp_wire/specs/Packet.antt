@@ -67,6 +67,13 @@ pub record MeansPacket (bytes : List ℕ) (p : PacketTree) : Type 0 where
   pub checksum : p.checksum ≡ checksum_field bytes
   pub chunks : MeansTrees chunks (body bytes) p.meaning.chunks
 
+-- the packet with the header of these bytes, and these chunks
+abbrev pub packet_with : List ℕ → List ChunkTree → PacketTree
+packet_with bytes ts = record {
+  meaning = record { source = number16 bytes; destination = number16 (drop 2 bytes); tag = number32 (drop 4 bytes); chunks = ts };
+  checksum = checksum_field bytes;
+}
+
 -- The packet, or the first fault: of the size, then of the checksum, then of the chunks from the left.
 abbrev pub Answer : List ℕ → ℕ → ChecksumPolicy → Result PacketTree PacketFault → Type 0
 Answer bytes word policy (Ok p) = IsOpened bytes word policy × MeansPacket bytes p

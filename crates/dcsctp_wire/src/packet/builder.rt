@@ -1,12 +1,17 @@
 //! Packets that are built chunk by chunk: the common header, and behind it each chunk with its
 //! padding. A packet's bytes are reserved once, and written in place.
 
-ghost use Rattle.std.specs.Prelude.{◌≡◌, ◌≢◌, ◌≤◌, ◌+◌, ◌-◌, ◌*◌, ◌/◌, ◌++◌, ◌∷◌, [], ◌↔◌, List, true, max, length, take, drop, vec_len, vec_capacity, IsTrue, IsOk, OnOk, OnErr};
+ghost use Rattle.std.specs.Prelude.{◌≡◌, ◌≢◌, ◌≤◌, ◌+◌, ◌-◌, ◌*◌, ◌/◌, ◌++◌, ◌∷◌, [], ◌↔◌, ℕ, List, true, max, length, take, drop, vec_len, vec_capacity, IsTrue, IsOk, OnOk, OnErr};
 ghost use Rattle.dcsctp_tlv.specs.Frame.{round_up_to_4};
 ghost use Rattle.dcsctp_tlv.specs.Image.{size_of, image_of, written};
 ghost use Rattle.dcsctp_wire.specs.Chunk.{ChunkTree, chunk_tlv, IsChunkEncodable, view};
 ghost use Rattle.dcsctp_wire.specs.Canonical.{padded_chunk, padded_size};
-ghost use Rattle.dcsctp_wire.specs.Builder.{Holds, room, begun, built};
+ghost use Rattle.dcsctp_wire.specs.Builder.{Holds, meaning_with, room, begun, built};
+ghost use Rattle.dcsctp_wire.specs.Kept.{kept_chunks, IsChunkReadable};
+ghost use Rattle.dcsctp_wire.specs.Packet.{IsAccepted, checksum_field, Answer};
+ghost use Rattle.dcsctp_wire.specs.WellFormed.{IsChunkInWidth};
+ghost use Rattle.dcsctp_wire.specs.declared.packet.sctp_packet.ChecksumPolicy.{ChecksumPolicy};
+ghost use Rattle.std.specs.List.{AllByRecursion};
 
 use crate::packet::chunk::Chunk;
 use crate::packet::sctp_packet::{COMMON_HEADER_SIZE, header_bytes};
@@ -158,9 +163,16 @@ impl SctpPacketBuilder {
     ///
     /// If the switch is on, the number `checksum` stands big-endian at bytes 8 to 11; else they
     /// are zero. Without chunks there are no bytes. No memory is taken.
+    ///
+    /// What is built reads back, where the limit is at most 65,535 bytes and what was added can be
+    /// read: but for fields that a kind of chunk doesn't carry, which are zero then.
     pub fn build(&mut self, checksum: u32) -> Vec<u8>
         ensures bytes { result.items ≡ built self.old checksum }
         ensures empty { self.new ≡ record self.old { bytes = [] } }
+        ensures reads_back { self.old.limit ≤ 65535 → (chunks : List ChunkTree) → Holds self.old chunks → chunks ≢ []
+            → AllByRecursion IsChunkInWidth chunks → AllByRecursion IsChunkReadable chunks
+            → (word : ℕ) (policy : ChecksumPolicy) → IsAccepted policy (checksum_field result.items) word
+            → Answer result.items word policy (Ok (record { meaning = meaning_with self.old (kept_chunks chunks); checksum = checksum_field result.items })) }
     {
         let next = Vec::new(*self.bytes.allocator());
         let mut packet = std::mem::replace(&mut self.bytes, next);

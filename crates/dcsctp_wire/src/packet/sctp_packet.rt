@@ -14,9 +14,10 @@
 //! +-+-+-+-+-+-+-+-+-+-+-+-+-+-+-+-+-+-+-+-+-+-+-+-+-+-+-+-+-+-+-+-+
 //! ```
 
-ghost use Rattle.std.specs.Prelude.{◌≡◌, ◌↔◌, ◌+◌, ℕ, [], false, replicate, IsTrue, IfOk};
+ghost use Rattle.std.specs.Prelude.{◌≡◌, ◌↔◌, ◌≤◌, ◌+◌, ◌-◌, ◌/◌, ℕ, [], false, length, replicate, IsTrue, IfOk};
 ghost use Rattle.dcsctp_wire.specs.Chunk.{views};
-ghost use Rattle.dcsctp_wire.specs.Packet.{Meaning, Answer, Reads, IsAccepted, meaning_view};
+ghost use Rattle.dcsctp_wire.specs.Packet.{Meaning, Answer, Reads, IsAccepted, meaning_view, packet_view};
+ghost use Rattle.dcsctp_wire.specs.Account.{KeepsTexts, KeepsSize, node_count};
 ghost use Rattle.dcsctp_wire.specs.Canonical.{canonical, padded_size, Fits};
 ghost use Rattle.dcsctp_wire.specs.WellFormed.{IsInWidth, IsWellFormed};
 ghost use Rattle.dcsctp_wire.specs.declared.packet.sctp_packet.ChecksumPolicy.{ChecksumPolicy};
@@ -120,8 +121,6 @@ fn accepts(policy: &ChecksumPolicy, field: u32, word: u32) -> bool
 }
 
 impl SctpPacket {
-    ghost use Rattle.dcsctp_wire.specs.Packet.{packet_view};
-
     /// Reads a packet. `checksum` is the number whose big-endian bytes are expected at bytes 8
     /// to 11.
     ///
@@ -134,25 +133,16 @@ impl SctpPacket {
         checksum: u32,
         policy: &ChecksumPolicy,
     ) -> Result<SctpPacket, PacketParseError>
-        ensures { Reads packet_view bytes.now checksum policy.now result }
+        ensures answer { Reads packet_view bytes.now checksum policy.now result }
+        ensures formed { IfOk result (λ p. IsWellFormed (meaning_view p)) }
+
+        // Where no text of an error cause is replaced, the packet is as large as the input.
+        ensures size { KeepsTexts bytes.now → IfOk result (λ p. KeepsSize bytes.now (meaning_view p)) }
+
+        // Chunks, parameters and causes together.
+        ensures nodes { IfOk result (λ p. node_count (meaning_view p) ≤ (length bytes.now - 12) / 4) }
     {
-        if bytes.len() < MIN_PACKET_SIZE || bytes.len() > MAX_PACKET_SIZE {
-            return Err(PacketParseError::InvalidPacketSize);
-        }
-        let field = read_u32_be(&bytes[8..]);
-        if !accepts(policy, field, checksum) {
-            return Err(PacketParseError::InvalidChecksum);
-        }
-        let chunks = list_from_bytes(alloc, &bytes[COMMON_HEADER_SIZE..])?;
-        Ok(SctpPacket {
-            common_header: CommonHeader {
-                source_port: read_u16_be(bytes),
-                destination_port: read_u16_be(&bytes[2..]),
-                verification_tag: read_u32_be(&bytes[4..]),
-                checksum: field,
-            },
-            chunks,
-        })
+        read_packet(alloc, bytes, checksum, policy)
     }
 
     /// The canonical packet can be written: each chunk can be, and it has at most 65,532 bytes.
@@ -184,6 +174,34 @@ impl SctpPacket {
     {
         canonical_of(self, alloc)
     }
+}
+
+/// Reads a packet: what it answers, and no law of it.
+fn read_packet(
+    alloc: Global,
+    bytes: &[u8],
+    checksum: u32,
+    policy: &ChecksumPolicy,
+) -> Result<SctpPacket, PacketParseError>
+    ensures { Reads packet_view bytes.now checksum policy.now result }
+{
+    if bytes.len() < MIN_PACKET_SIZE || bytes.len() > MAX_PACKET_SIZE {
+        return Err(PacketParseError::InvalidPacketSize);
+    }
+    let field = read_u32_be(&bytes[8..]);
+    if !accepts(policy, field, checksum) {
+        return Err(PacketParseError::InvalidChecksum);
+    }
+    let chunks = list_from_bytes(alloc, &bytes[COMMON_HEADER_SIZE..])?;
+    Ok(SctpPacket {
+        common_header: CommonHeader {
+            source_port: read_u16_be(bytes),
+            destination_port: read_u16_be(&bytes[2..]),
+            verification_tag: read_u32_be(&bytes[4..]),
+            checksum: field,
+        },
+        chunks,
+    })
 }
 
 /// The canonical packet: what it is, and no law of it.

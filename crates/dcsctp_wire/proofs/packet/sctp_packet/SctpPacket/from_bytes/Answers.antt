@@ -1,10 +1,20 @@
-use Rattle.std.proofs.Common.{arith, rules}
-use Rattle.std.proofs.lemmas.Result.{err_from_is_err_and}
-use Rattle.std.proofs.lemmas.List.{take_rest}
-use Rattle.dcsctp_wire.proofs.Packets.{reads_fault}
+use Rattle.std.proofs.Common.{ℕ, ◌-◌, ◌/◌, ◌≤◌, length}
+use Rattle.dcsctp_wire.specs.WellFormed.{IsWellFormed}
+use Rattle.dcsctp_wire.specs.Account.{KeepsSize, node_count}
+use Rattle.dcsctp_wire.proofs.PacketLaws.{packet_formed, packet_size, packet_parts, reads_only}
 use Rattle.dcsctp_wire.proofs.packet.sctp_packet.SctpPacket.from_bytes.Goals as goal
 
-pub returns-in_err-chunks : goal.returns-in_err-chunks
-returns-in_err-chunks c =
-    let p = err_from_is_err_and c.from_residual.result c.from_residual.ensures.1 in
-    rw (p.1, p.2) (reads_fault c.args.bytes.now c.args.checksum c.args.policy.now c.in_err-chunks.field-0.0 (record { size = record { low = omega arith; high = omega arith }; accepted = search rules }) (rw (take_rest c.args.bytes.now 12) at c.in_err-chunks.ensures))
+pub returns-clause-formed : goal.returns-clause-formed
+returns-clause-formed c =
+    let bytes = c.args.bytes.now in
+    reads_only (λ p. IsWellFormed p.meaning) bytes c.args.checksum c.args.policy.now c.read_packet.result (packet_formed bytes) c.read_packet.ensures
+
+pub returns-clause-size : goal.returns-clause-size
+returns-clause-size c = λ kept.
+    (let bytes = c.args.bytes.now in
+    reads_only (λ p. KeepsSize bytes p.meaning) bytes c.args.checksum c.args.policy.now c.read_packet.result (λ p size m. packet_size bytes p size m kept) c.read_packet.ensures)
+
+pub returns-clause-nodes : goal.returns-clause-nodes
+returns-clause-nodes c =
+    let bytes = c.args.bytes.now in
+    reads_only (λ p. node_count p.meaning ≤ (length bytes - 12) / 4) bytes c.args.checksum c.args.policy.now c.read_packet.result (λ p size m. packet_parts bytes p m) c.read_packet.ensures

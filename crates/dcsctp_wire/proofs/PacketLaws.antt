@@ -1,0 +1,101 @@
+-- What holds of every packet that is read, and of what is read behind others.
+use Rattle.std.proofs.Common.{◌≡◌, ◌≢◌, ℕ, ◌+◌, ◌-◌, ◌*◌, ◌/◌, ◌%◌, ◌≤◌, List, [], ◌∷◌, ◌++◌, length, Result, Ok, Err, refl, sym, ap, subst, ◌∙◌, arith}
+use Rattle.std.specs.Prelude.{IfOk}
+use Rattle.std.specs.List.{AllByRecursion}
+use Rattle.std.proofs.lemmas.List.{length-drop, drop-append-le}
+use Rattle.dcsctp_tlv.specs.Fault.{Fault}
+use Rattle.dcsctp_tlv.specs.Frame.{round_up_to_4}
+use Rattle.dcsctp_tlv.specs.Level.{MeansTrees, HasFault}
+use Rattle.dcsctp_tlv.specs.Image.{IsEncodable, list_size}
+use Rattle.dcsctp_tlv.proofs.Listed.{each_encodable}
+use Rattle.dcsctp_tlv.proofs.Forms.{list_formed, nil_means}
+use Rattle.dcsctp_tlv.proofs.Accounts.{SameSpace, list_account}
+use Rattle.dcsctp_tlv.proofs.Counts.{list_count}
+use Rattle.dcsctp_tlv.proofs.Local.{local_means, local_fault}
+use Rattle.dcsctp_wire.specs.declared.packet.sctp_packet.ChecksumPolicy.{ChecksumPolicy}
+use Rattle.dcsctp_wire.specs.declared.packet.sctp_packet.PacketParseError.{PacketParseError}
+use Rattle.dcsctp_wire.specs.declared.packet.sctp_packet.SctpPacket.{SctpPacket}
+use Rattle.dcsctp_wire.specs.Chunk.{ChunkTree, ForwardTsn, IForwardTsn, chunks, chunk_tlv, IsChunkEncodable}
+use Rattle.dcsctp_wire.specs.Packet.{Meaning, PacketTree, HasPacketSize, body, IsOpened, MeansPacket, Chunk, packet_with, Answer, Reads, packet_view}
+use Rattle.dcsctp_wire.specs.Canonical.{padded_size, Fits}
+use Rattle.dcsctp_wire.specs.WellFormed.{IsChunkWellFormed, IsWellFormed}
+use Rattle.dcsctp_wire.specs.Account.{AreTextsKept, KeepsTexts, KeepsSize, chunk_parts, node_count}
+use Rattle.dcsctp_wire.proofs.ChunkLaws.{chunks_form}
+use Rattle.dcsctp_wire.proofs.AccountLaws.{chunks_account, chunks_count}
+use Rattle.dcsctp_wire.proofs.Canonicals.{padded_size-is}
+
+length-body : (bytes : List ℕ) → length (body bytes) ≡ length bytes - 12
+length-body bytes = length-drop 12 bytes
+
+-- ---- what was read is well-formed
+
+pub packet_formed : (bytes : List ℕ) (p : PacketTree) → HasPacketSize bytes → MeansPacket bytes p → IsWellFormed p.meaning
+packet_formed bytes p size m = record {
+  each = list_formed chunks IsChunkWellFormed chunks_form (body bytes) p.meaning.chunks m.chunks;
+  some = λ none.
+      (let nil = ap length (nil_means chunks (body bytes) (subst (MeansTrees chunks (body bytes)) none m.chunks)) in
+      let len = length-body bytes in
+      omega (arith, nil, len, size.low));
+}
+
+-- ---- the size account
+
+encodable : (t : ChunkTree) → IsChunkWellFormed t → IsEncodable (chunk_tlv t) → IsChunkEncodable t
+encodable (ForwardTsn f) formed fits = record { kinds = formed; size = fits }
+encodable (IForwardTsn f) formed fits = record { kinds = formed; size = fits }
+encodable t formed fits = fits
+
+each_chunk : (ts : List ChunkTree) → AllByRecursion IsChunkWellFormed ts → AllByRecursion (λ t. IsEncodable (chunk_tlv t)) ts → AllByRecursion IsChunkEncodable ts
+each_chunk [] formed fits = tt
+each_chunk (t ∷ ts) formed fits = (encodable t formed.0 fits.0, each_chunk ts formed.1 fits.1)
+
+whole_size : (written read all : ℕ) → SameSpace written read → read ≡ all - 12 → 16 ≤ all → 12 + round_up_to_4 written ≡ round_up_to_4 all
+whole_size written read all same e low = omega (arith, same.up, e, low)
+
+pub packet_size : (bytes : List ℕ) (p : PacketTree) → HasPacketSize bytes → MeansPacket bytes p → KeepsTexts bytes → KeepsSize bytes p.meaning
+packet_size bytes p size m kept =
+    let ts = p.meaning.chunks in
+    let same = list_account chunks chunk_tlv AreTextsKept chunks_account (body bytes) ts m.chunks (kept m.chunks.items m.chunks.are) in
+    let len = length-body bytes in
+    let whole : 12 + padded_size ts ≡ round_up_to_4 (length bytes) = ap (λ (n : ℕ). 12 + n) (padded_size-is ts) ∙ whole_size (list_size chunk_tlv ts) (length (body bytes)) (length bytes) same len size.low in
+    let each : AllByRecursion IsChunkEncodable ts = each_chunk ts (packet_formed bytes p size m).each (each_encodable chunk_tlv ts (omega (arith, same.at_most, len, size.high))) in
+    record { whole = whole; each = each; fits = λ short. record { each = each; whole = omega (arith, whole, short) } }
+
+-- ---- the number of its parts
+
+pub packet_parts : (bytes : List ℕ) (p : PacketTree) → MeansPacket bytes p → node_count p.meaning ≤ (length bytes - 12) / 4
+packet_parts bytes p m =
+    let count = list_count chunks chunk_parts chunks_count (body bytes) p.meaning.chunks m.chunks in
+    let len = length-body bytes in
+    omega (arith, count, len)
+
+-- ---- what the code reads
+
+-- what holds of each packet that the bytes mean holds of the one that was read
+pub reads_only : (Q : PacketTree → Type 0) (bytes : List ℕ) (word : ℕ) (policy : ChecksumPolicy) (result : Result SctpPacket PacketParseError)
+    → ((p : PacketTree) → HasPacketSize bytes → MeansPacket bytes p → Q p) → Reads packet_view bytes word policy result → IfOk result (λ p. Q (packet_view p))
+reads_only Q bytes word policy (Ok p) law reads = law (packet_view p) reads.0.size reads.1
+reads_only Q bytes word policy (Err e) law reads = tt
+
+-- ---- reading is local
+
+body_behind : (front end : List ℕ) → 16 ≤ length front → body (front ++ end) ≡ body front ++ end
+body_behind front end low = drop-append-le 12 front end (omega (arith, low))
+
+body_words : (front : List ℕ) → 16 ≤ length front → length front % 4 ≡ 0 → length (body front) % 4 ≡ 0
+body_words front low words = let len = length-body front in omega (arith, len, low, words)
+
+pub packet_behind : (front end : List ℕ) (word : ℕ) (policy : ChecksumPolicy) (ts us : List ChunkTree) → 16 ≤ length front → length front % 4 ≡ 0 → IsOpened (front ++ end) word policy
+    → MeansTrees chunks (body front) ts → MeansTrees chunks end us → Answer (front ++ end) word policy (Ok (packet_with (front ++ end) (ts ++ us)))
+packet_behind front end word policy ts us low words opened m n = (
+  opened,
+  record {
+    source = refl; destination = refl; tag = refl; checksum = refl;
+    chunks = subst (λ (bytes : List ℕ). MeansTrees chunks bytes (ts ++ us)) (sym (body_behind front end low)) (local_means chunks (body front) end ts us (body_words front low words) m n);
+  },
+)
+
+pub fault_behind : (front end : List ℕ) (word : ℕ) (policy : ChecksumPolicy) (ts : List ChunkTree) (e : Fault) → 16 ≤ length front → length front % 4 ≡ 0 → IsOpened (front ++ end) word policy
+    → MeansTrees chunks (body front) ts → HasFault chunks end e → Answer (front ++ end) word policy (Err (Chunk e))
+fault_behind front end word policy ts e low words opened m f =
+    (opened, subst (λ (bytes : List ℕ). HasFault chunks bytes e) (sym (body_behind front end low)) (local_fault chunks (body front) end ts e (body_words front low words) m f))

@@ -1,0 +1,10 @@
+use Rattle.std.proofs.Common.{arith, rules}
+use Rattle.std.proofs.lemmas.Result.{err_from_is_err_and}
+use Rattle.std.proofs.lemmas.List.{take_rest}
+use Rattle.dcsctp_wire.proofs.Packets.{reads_fault}
+use Rattle.dcsctp_wire.proofs.packet.sctp_packet.read_packet.Goals as goal
+
+pub returns-in_err-chunks : goal.returns-in_err-chunks
+returns-in_err-chunks c =
+    let p = err_from_is_err_and c.from_residual.result c.from_residual.ensures.1 in
+    rw (p.1, p.2) (reads_fault c.args.bytes.now c.args.checksum c.args.policy.now c.in_err-chunks.field-0.0 (record { size = record { low = omega arith; high = omega arith }; accepted = search rules }) (rw (take_rest c.args.bytes.now 12) at c.in_err-chunks.ensures))
