@@ -1,5 +1,6 @@
 -- Trees that are written alike: their lists are, too.
 use Rattle.std.proofs.Common.{◌≡◌, ℕ, ◌+◌, List, [], ◌∷◌, ◌++◌, refl, ap, ◌∙◌, Option, map}
+use Rattle.std.specs.List.{AllByRecursion}
 use Rattle.dcsctp_tlv.specs.Frame.{round_up_to_4}
 use Rattle.dcsctp_tlv.specs.Image.{holes, gap, Tlv, size_of, image_of, list_image, list_size}
 
@@ -20,3 +21,8 @@ list_size-kept tlv f law (t ∷ []) = ap size_of (law t)
 list_size-kept tlv f law (t ∷ u ∷ ts) =
     ap (λ (x : Tlv). round_up_to_4 (size_of x) + list_size tlv (map f (u ∷ ts))) (law t)
     ∙ ap (λ (n : ℕ). round_up_to_4 (size_of (tlv t)) + n) (list_size-kept tlv f law (u ∷ ts))
+
+-- what each is made to have
+pub all_map : {A B : Type 0} (P : A → Type 0) (Q : B → Type 0) (f : A → B) → ((x : A) → P x → Q (f x)) → (xs : List A) → AllByRecursion P xs → AllByRecursion Q (map f xs)
+all_map P Q f law [] h = tt
+all_map P Q f law (x ∷ xs) h = (law x h.0, all_map P Q f law xs h.1)
