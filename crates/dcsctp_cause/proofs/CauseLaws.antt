@@ -1,15 +1,16 @@
 -- The laws of the table of error causes: a line for each kind.
-use Rattle.std.proofs.Common.{◌≡◌, ℕ, ◌+◌, List, [], ◌∷◌, length, refl, sym, ap, subst, ◌∙◌, Result, Ok, ◌⊎◌, inl, inr}
+use Rattle.std.proofs.Common.{◌≡◌, ℕ, ◌+◌, ◌^◌, ◌<◌, List, [], ◌∷◌, length, refl, sym, ap, subst, ◌∙◌, Result, Ok, ◌⊎◌, inl, inr}
 use Rattle.std.specs.Prelude.{◌==◌}
 use Rattle.std.specs.Int.{w16, from_be_bytes}
 use Rattle.std.specs.Str.{IsUtf8}
 use Rattle.std.proofs.lemmas.Bool.{eqb-true, eqb-false, ne_eqb}
+use Rattle.std.specs.List.{AllByRecursion}
 use Rattle.dcsctp_tlv.specs.Level.{Row, plain, map_ok}
 use Rattle.dcsctp_tlv.specs.Fault.{Fault}
-use Rattle.dcsctp_tlv.specs.Image.{Tlv, zeroed, size_of, IsEncodable}
+use Rattle.dcsctp_tlv.specs.Image.{Tlv, zeroed, size_of, IsEncodable, list_size}
 use Rattle.dcsctp_tlv.specs.UnknownParameter.{UnknownParameterTree, unknown_parameter_at, unknown_parameter_tlv}
 use Rattle.dcsctp_tlv.proofs.Laws.{LawfulRow, Lawful, plain_lawful, pick_lawful}
-use Rattle.dcsctp_tlv.proofs.ReadsBack.{ReadsBack, zeroed-solid}
+use Rattle.dcsctp_tlv.proofs.ReadsBack.{ReadsBack, each_encodable, zeroed-solid}
 use Rattle.dcsctp_tlv.proofs.KindLaws.{of_map_ok}
 use Rattle.dcsctp_tlv.proofs.ParameterKinds.{type_back, unknown_parameter_laws, unknown_parameter_keeps_size, unknown_parameter_forms}
 use Rattle.dcsctp_tlv.proofs.Forms.{FormsTrees, FormsRow, picked, plain_forms}
@@ -76,6 +77,13 @@ sized (Unknown u) = unknown_parameter_laws.sized u
 
 pub causes_read_back : ReadsBack causes cause_tlv IsGoodCause
 causes_read_back = record { sized = sized; fits = λ t good. good.encodable; means = cause_means }
+
+-- the causes of a list that can be written
+pub good_causes : (ts : List CauseTree) → AllByRecursion IsCauseInWidth ts → AllByRecursion IsCauseWellFormed ts → list_size cause_tlv ts < 2 ^ 16 → AllByRecursion IsGoodCause ts
+good_causes ts width formed fits = each ts width formed (each_encodable cause_tlv ts fits) where
+  each : (ts : List CauseTree) → AllByRecursion IsCauseInWidth ts → AllByRecursion IsCauseWellFormed ts → AllByRecursion (λ t. IsEncodable (cause_tlv t)) ts → AllByRecursion IsGoodCause ts
+  each [] w f e = tt
+  each (t ∷ ts) w f e = (record { width = w.0; formed = f.0; encodable = e.0 }, each ts w.1 f.1 e.1)
 
 -- ---- well-formed
 

@@ -15,7 +15,7 @@ ghost use Rattle.dcsctp_tlv.specs.Length.{length-typed_tlv};
 ghost use Rattle.dcsctp_cause.specs.CookieReceivedWhileShuttingDown.{cookie_received_while_shutting_down_at, cookie_received_while_shutting_down_tlv, cookie_received_while_shutting_down_text, cookie_received_while_shutting_down_view};
 
 use dcsctp_tlv::error::ChunkParseError;
-use dcsctp_tlv::frame::put_typed;
+use dcsctp_tlv::frame::put_parameter;
 use dcsctp_tlv::raw_parameter::RawParameter;
 use dcsctp_tlv::tlv::SerializableTlv;
 use std::fmt;
@@ -56,7 +56,7 @@ impl SerializableTlv for CookieReceivedWhileShuttingDownErrorCause {
     ghost size_bound = { λ c fits. fits };
 
     fn serialize_to(&self, output: &mut [u8]) {
-        put_typed(CAUSE_CODE, &[], output);
+        put_parameter(CAUSE_CODE, &[], output);
     }
 
     fn value_size(&self) -> usize {

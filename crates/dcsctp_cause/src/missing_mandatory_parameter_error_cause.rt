@@ -21,7 +21,7 @@ ghost use Rattle.dcsctp_tlv.specs.Reading.{Gives, IfMeant};
 ghost use Rattle.dcsctp_cause.specs.MissingMandatoryParameter.{missing_mandatory_parameter_at, missing_mandatory_parameter_tlv, missing_mandatory_parameter_text, missing_mandatory_parameter_view};
 
 use dcsctp_tlv::error::ChunkParseError;
-use dcsctp_tlv::fields::{Field, fields_from_bytes, put_typed_numbers_and_fields};
+use dcsctp_tlv::fields::{Field, fields_from_bytes, put_parameter_fields};
 use dcsctp_tlv::frame::MAX_VALUE_SIZE;
 use dcsctp_tlv::number::{read_u16_be, read_u32_be, write_u16_be};
 use dcsctp_tlv::raw_parameter::RawParameter;
@@ -131,7 +131,7 @@ impl SerializableTlv for MissingMandatoryParameterErrorCause {
     fn serialize_to(&self, output: &mut [u8]) {
         let types = &self.missing_parameters;
         let leading = [types.len() as u32];
-        put_typed_numbers_and_fields::<ParameterTypeField>(CAUSE_CODE, &leading, types, output);
+        put_parameter_fields::<ParameterTypeField>(CAUSE_CODE, &leading, types, output);
     }
 
     fn value_size(&self) -> usize {

@@ -18,7 +18,7 @@ ghost use Rattle.dcsctp_tlv.specs.Length.{length-typed_tlv};
 ghost use Rattle.dcsctp_cause.specs.NoUserData.{no_user_data_at, no_user_data_tlv, no_user_data_text, no_user_data_view};
 
 use dcsctp_tlv::error::ChunkParseError;
-use dcsctp_tlv::frame::put_typed;
+use dcsctp_tlv::frame::put_parameter;
 use dcsctp_tlv::number::read_u32_be;
 use dcsctp_tlv::raw_parameter::RawParameter;
 use dcsctp_tlv::tlv::SerializableTlv;
@@ -67,7 +67,7 @@ impl SerializableTlv for NoUserDataErrorCause {
     ghost size_bound = { λ c fits. fits };
 
     fn serialize_to(&self, output: &mut [u8]) {
-        put_typed(CAUSE_CODE, &self.tsn.0.to_be_bytes(), output);
+        put_parameter(CAUSE_CODE, &self.tsn.0.to_be_bytes(), output);
     }
 
     fn value_size(&self) -> usize {

@@ -18,7 +18,7 @@ ghost use Rattle.dcsctp_cause.specs.ProtocolViolation.{protocol_violation_at, pr
 
 use crate::text::text_or;
 use dcsctp_tlv::error::ChunkParseError;
-use dcsctp_tlv::frame::{MAX_VALUE_SIZE, put_typed};
+use dcsctp_tlv::frame::{MAX_VALUE_SIZE, put_parameter};
 use dcsctp_tlv::raw_parameter::RawParameter;
 use dcsctp_tlv::tlv::SerializableTlv;
 use std::alloc::Global;
@@ -65,7 +65,7 @@ impl SerializableTlv for ProtocolViolationErrorCause {
     ghost size_bound = { λ c fits. fits };
 
     fn serialize_to(&self, output: &mut [u8]) {
-        put_typed(CAUSE_CODE, self.information.as_bytes(), output);
+        put_parameter(CAUSE_CODE, self.information.as_bytes(), output);
     }
 
     fn value_size(&self) -> usize {

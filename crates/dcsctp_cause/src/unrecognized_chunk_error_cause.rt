@@ -17,7 +17,7 @@ ghost use Rattle.dcsctp_tlv.specs.Length.{length-typed_tlv};
 ghost use Rattle.dcsctp_cause.specs.UnrecognizedChunk.{unrecognized_chunk_at, unrecognized_chunk_tlv, unrecognized_chunk_text, unrecognized_chunk_view};
 
 use dcsctp_tlv::error::ChunkParseError;
-use dcsctp_tlv::frame::{MAX_VALUE_SIZE, put_typed};
+use dcsctp_tlv::frame::{MAX_VALUE_SIZE, put_parameter};
 use dcsctp_tlv::raw_parameter::RawParameter;
 use dcsctp_tlv::tlv::SerializableTlv;
 use std::alloc::Global;
@@ -61,7 +61,7 @@ impl SerializableTlv for UnrecognizedChunkErrorCause {
     ghost size_bound = { λ c fits. fits };
 
     fn serialize_to(&self, output: &mut [u8]) {
-        put_typed(CAUSE_CODE, &self.chunk, output);
+        put_parameter(CAUSE_CODE, &self.chunk, output);
     }
 
     fn value_size(&self) -> usize {

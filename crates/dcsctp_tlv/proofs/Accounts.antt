@@ -17,6 +17,7 @@ pub record SameSpace (written read : ℕ) : Type 0 where
 pub record Accounts {T : Type 0} (level : Level T) (tlv : T → Tlv) (IsKept : Item → Type 0) : Type 0 where
   pub sized : (i : Item) (t : T) → IsKept i → (level.row i.first i.second).means i.value t → SameSpace (size_of (tlv t)) (4 + length i.value)
 
+-- two sizes that are one
 pub same_size : (m n : ℕ) → m ≡ n → SameSpace m n
 same_size m n e = record { at_most = omega (arith, e); up = ap round_up_to_4 e }
 

@@ -1,4 +1,4 @@
--- What is read is well-formed, at every level whose rows read only that.
+-- What is read is well-formed, at every level whose rows read nothing else.
 use Rattle.std.proofs.Common.{◌≡◌, ℕ, Bool, true, false, List, [], ◌∷◌, refl, sym, subst, ◌∙◌, Result}
 use Rattle.std.specs.List.{flat_map, AllByRecursion}
 use Rattle.dcsctp_tlv.specs.Fault.{Fault}
@@ -7,6 +7,7 @@ use Rattle.dcsctp_tlv.specs.Frame.{Item, item_bytes}
 use Rattle.dcsctp_tlv.specs.Level.{Row, Level, plain, pick, map_ok, ItemsMean, MeansTrees}
 use Rattle.dcsctp_tlv.proofs.KindLaws.{KindLaws, of_map_ok}
 
+-- each tree that a row means is well-formed
 pub record FormsTrees {T : Type 0} (level : Level T) (IsFormed : T → Type 0) : Type 0 where
   pub formed : (first second : ℕ) (value : List ℕ) (t : T) → (level.row first second).means value t → IsFormed t
 
@@ -44,7 +45,7 @@ no_items : {T : Type 0} (level : Level T) (is : List Item) → ItemsMean level i
 no_items level [] m = refl
 no_items level (i ∷ is) m = absurd m
 
--- no trees are meant by no bytes alone
+-- no trees are meant by an empty list of bytes, and by no other
 pub nil_means : {T : Type 0} (level : Level T) (bytes : List ℕ) → MeansTrees level bytes [] → bytes ≡ []
 nil_means level bytes m = m.are.split ∙ no_items level m.items m.mean
 
@@ -53,7 +54,7 @@ no_trees level [] [] e m = refl
 no_trees level [] (t ∷ ts) e m = absurd m
 no_trees level (i ∷ is) ts e m = absurd cc
 
--- no bytes mean no trees alone
+-- an empty list of bytes means no trees, and nothing else
 pub means_nil : {T : Type 0} (level : Level T) (ts : List T) → MeansTrees level [] ts → ts ≡ []
 means_nil level ts m = no_trees level m.items ts m.are.split m.mean
 

@@ -1,5 +1,6 @@
 -- Trees that are written alike: their lists are, too.
 use Rattle.std.proofs.Common.{◌≡◌, ℕ, ◌+◌, List, [], ◌∷◌, ◌++◌, length, refl, ap, ◌∙◌, Option, map}
+use Rattle.std.specs.List.{AllByRecursion}
 use Rattle.dcsctp_tlv.specs.Frame.{round_up_to_4}
 use Rattle.dcsctp_tlv.specs.Image.{solid, holes, gap, Tlv, size_of, image_of, list_image, list_size, listed_tlv}
 
@@ -29,3 +30,8 @@ listed_tlv-kept tlv f law first second leading ts = λ k. record {
   value = solid leading ++ list_image-kept tlv f law ts k;
   value_size = length leading + list_size-kept tlv f law ts k;
 }
+
+-- what each is made to have
+pub all_map : {A B : Type 0} (P : A → Type 0) (Q : B → Type 0) (f : A → B) → ((x : A) → P x → Q (f x)) → (xs : List A) → AllByRecursion P xs → AllByRecursion Q (map f xs)
+all_map P Q f law [] h = tt
+all_map P Q f law (x ∷ xs) h = (law x h.0, all_map P Q f law xs h.1)

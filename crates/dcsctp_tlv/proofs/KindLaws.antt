@@ -19,7 +19,7 @@ pub record KindLaws {T : Type 0} (read : ℕ → ℕ → List ℕ → Result T F
 abbrev pub KeepsSize : {T : Type 0} → (ℕ → ℕ → List ℕ → Result T Fault) → (T → Tlv) → Type 0
 KeepsSize read tlv = (first second : ℕ) (value : List ℕ) (t : _) → read first second value ≡ Ok t → size_of (tlv t) ≡ 4 + length value
 
--- well-formed, or in width, whatever it says
+-- true of every tree, as where there is nothing to be in width or well-formed
 abbrev pub Always : {T : Type 0} → T → Type 0
 Always t = Unit {0}
 
@@ -55,12 +55,12 @@ pub chosen : {A : Type 0} (b : Bool) (x y z : A) → cond b x y ≡ z → ((b �
 chosen true x y z e = inl (refl, e)
 chosen false x y z e = inr (refl, e)
 
--- a test that nothing is read past
+-- a test, and a fault where it fails: what was read passed it
 pub passed : {T : Type 0} (b : Bool) (r : Result T Fault) (e : Fault) (t : T) → cond b r (Err e) ≡ Ok t → (b ≡ true) × (r ≡ Ok t)
 passed true r e t h = (refl, h)
 passed false r e t h = absurd cc
 
--- the same where it is refused first
+-- a test, and a fault where it holds: what was read failed it
 pub not_refused : {T : Type 0} (b : Bool) (r : Result T Fault) (e : Fault) (t : T) → cond b (Err e) r ≡ Ok t → (b ≡ false) × (r ≡ Ok t)
 not_refused false r e t h = (refl, h)
 not_refused true r e t h = absurd cc

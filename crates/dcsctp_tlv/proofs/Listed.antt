@@ -10,6 +10,7 @@ use Rattle.dcsctp_tlv.specs.Level.{Level, HasFault, listed}
 use Rattle.dcsctp_tlv.specs.Reading.{TellsFault}
 use Rattle.dcsctp_tlv.specs.Image.{solid, written, Tlv, size_of, image_of, IsEncodable, list_image, list_size, listed_tlv, IsListEncodable}
 use Rattle.dcsctp_tlv.specs.Length.{length-image_of}
+use Rattle.dcsctp_tlv.proofs.ReadsBack.{each_encodable}
 use Rattle.dcsctp_tlv.proofs.Images.{list_size-map, list_image-map, AreSized, length-list_image, all_from}
 
 module _ {A B : Type 0} (tlv : A → Tlv) (view : A → B) (tree_tlv : B → Tlv) (same : (x : A) → tlv x ≡ tree_tlv (view x)) where
@@ -22,12 +23,7 @@ module _ {A B : Type 0} (tlv : A → Tlv) (view : A → B) (tree_tlv : B → Tlv
   pub list_image-view : (xs : List A) → list_image tlv xs ≡ list_image tree_tlv (map view xs)
   list_image-view xs = ap (λ (f : A → Tlv). list_image f xs) all_same ∙ list_image-map tree_tlv view xs
 
--- each item of a list that can be written can be
-pub each_encodable : {A : Type 0} (tlv : A → Tlv) (xs : List A) → list_size tlv xs < 2 ^ 16 → AllByRecursion (λ x. IsEncodable (tlv x)) xs
-each_encodable tlv [] h = tt
-each_encodable tlv (x ∷ []) h = (h, tt)
-each_encodable tlv (x ∷ y ∷ xs) h = (omega (arith, h), each_encodable tlv (y ∷ xs) (omega (arith, h)))
-
+-- a list whose size two bytes can hold can be written
 pub list_encodable : {A : Type 0} (tlv : A → Tlv) (is_encodable : A → Type 0) → ((x : A) → IsEncodable (tlv x) → is_encodable x) → (xs : List A) → list_size tlv xs < 2 ^ 16 → IsListEncodable tlv is_encodable xs
 list_encodable tlv is_encodable decides xs h = record {
   each = All-from_recursion is_encodable xs (all_from (λ x. IsEncodable (tlv x)) is_encodable xs decides (each_encodable tlv xs h));

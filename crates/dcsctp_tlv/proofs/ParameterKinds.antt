@@ -77,10 +77,11 @@ zero_checksum_acceptable_keeps_size first second value method e =
 
 -- ---- any type
 
--- the type of an item
+-- a value that is kept with the type of its item
 abbrev pub unknown_parameter_read : ℕ → ℕ → List ℕ → Result UnknownParameterTree Fault
 unknown_parameter_read first second value = unknown_parameter_at (from_be_bytes w16 (first ∷ second ∷ [])) value
 
+-- the two bytes that a type is written as are read as that type
 pub type_back : (typ : ℕ) → from_be_bytes w16 (typ / 256 ∷ typ % 256 ∷ []) ≡ typ
 type_back typ = omega arith
 
@@ -102,7 +103,7 @@ pub unknown_parameter_forms : {T : Type 0} (IsFormed : T → Type 0) (typ : ℕ)
 unfolding unknown_parameter_at
 unknown_parameter_forms IsFormed typ tree law value t e =
     let u = of_map_ok tree (unknown_parameter_at typ value) t e in
-    subst (λ (x : _). IsFormed x) (ap tree (of_ok (record { typ = typ; value = value }) u.0 u.1.0) ∙ sym u.1.1) (law value)
+    subst IsFormed (ap tree (of_ok (record { typ = typ; value = value }) u.0 u.1.0) ∙ sym u.1.1) (law value)
 
 -- ---- requests: numbers, and streams behind them
 

@@ -3,6 +3,7 @@ use Rattle.std.proofs.Common.{◌≡◌, ℕ, ◌^◌, ◌<◌, List, [], ◌∷
 use Rattle.std.specs.Prelude.{◌==◌, ◌↔◌, IsSome, IfSome}
 use Rattle.std.specs.Int.{w16, w32, from_be_bytes}
 use Rattle.std.proofs.lemmas.Bool.{eqb-true, eqb-false, ne_eqb}
+use Rattle.std.specs.List.{AllByRecursion}
 use Rattle.dcsctp_tlv.specs.Level.{Row, map_ok}
 use Rattle.dcsctp_tlv.specs.Image.{Tlv, typed_tlv, zeroed, IsEncodable, list_image, list_size}
 use Rattle.dcsctp_tlv.specs.Number.{numbers}
@@ -11,12 +12,12 @@ use Rattle.dcsctp_tlv.specs.UnknownParameter.{UnknownParameterTree, unknown_para
 use Rattle.dcsctp_tlv.specs.Parameter.{ParameterTree, HeartbeatInfo, StateCookie, OutgoingSsnResetRequest, IncomingSsnResetRequest, SsnTsnResetRequest, ReconfigurationResponse, AddOutgoingStreamsRequest, AddIncomingStreamsRequest, ZeroChecksumAcceptable, SupportedExtensions, ForwardTsnSupported, Unknown, parameters, parameter_row, parameter_tlv}
 use Rattle.dcsctp_tlv.specs.WellFormedParameter.{IsParameterInWidth, IsUnnamedParameter, IsParameterTyped, IsParameterWellFormed, kept_parameter, kept_parameters}
 use Rattle.dcsctp_tlv.proofs.Laws.{LawfulRow, Lawful, plain_lawful, pick_lawful}
-use Rattle.dcsctp_tlv.proofs.ReadsBack.{ReadsBack, zeroed-solid}
+use Rattle.dcsctp_tlv.proofs.ReadsBack.{ReadsBack, each_encodable, zeroed-solid}
 use Rattle.dcsctp_tlv.proofs.ParameterKinds.{heartbeat_info_laws, heartbeat_info_keeps_size, state_cookie_laws, state_cookie_keeps_size, outgoing_ssn_reset_request_laws, outgoing_ssn_reset_request_keeps_size, incoming_ssn_reset_request_laws, incoming_ssn_reset_request_keeps_size, reconfiguration_response_laws, reconfiguration_response_keeps_size, zero_checksum_acceptable_laws, zero_checksum_acceptable_keeps_size, supported_extensions_laws, supported_extensions_keeps_size, forward_tsn_supported_laws, forward_tsn_supported_keeps_size, type_back, unknown_parameter_laws, unknown_parameter_keeps_size, unknown_parameter_forms}
 use Rattle.dcsctp_tlv.proofs.Forms.{FormsTrees, FormsRow, picked, plain_forms}
 use Rattle.dcsctp_tlv.proofs.Accounts.{Accounts, AccountsRow, plain_account}
 use Rattle.dcsctp_tlv.proofs.Counts.{Counts, one_each}
-use Rattle.dcsctp_tlv.proofs.Kept.{list_image-kept, list_size-kept}
+use Rattle.dcsctp_tlv.proofs.Kept.{all_map, list_image-kept, list_size-kept}
 
 -- ---- one answer
 
@@ -93,6 +94,13 @@ sized (Unknown u) = unknown_parameter_laws.sized u
 
 pub parameters_read_back : ReadsBack parameters parameter_tlv IsGoodParameter
 parameters_read_back = record { sized = sized; fits = λ t good. good.encodable; means = parameter_means }
+
+-- the parameters of a list that can be written
+pub good_parameters : (ts : List ParameterTree) → AllByRecursion IsParameterInWidth ts → AllByRecursion IsParameterWellFormed ts → list_size parameter_tlv ts < 2 ^ 16 → AllByRecursion IsGoodParameter ts
+good_parameters ts width formed fits = each ts width formed (each_encodable parameter_tlv ts fits) where
+  each : (ts : List ParameterTree) → AllByRecursion IsParameterInWidth ts → AllByRecursion IsParameterWellFormed ts → AllByRecursion (λ t. IsEncodable (parameter_tlv t)) ts → AllByRecursion IsGoodParameter ts
+  each [] w f e = tt
+  each (t ∷ ts) w f e = (record { width = w.0; formed = f.0; encodable = e.0 }, each ts w.1 f.1 e.1)
 
 -- ---- well-formed
 
@@ -188,3 +196,9 @@ kept_parameters_image ts = list_image-kept parameter_tlv kept_parameter kept_par
 
 pub kept_parameters_size : (ts : List ParameterTree) → list_size parameter_tlv (kept_parameters ts) ≡ list_size parameter_tlv ts
 kept_parameters_size ts = list_size-kept parameter_tlv kept_parameter kept_parameter_tlv ts
+
+pub kept_parameters_formed : (ts : List ParameterTree) → AllByRecursion IsParameterTyped ts → AllByRecursion IsParameterWellFormed (kept_parameters ts)
+kept_parameters_formed ts typed = all_map IsParameterTyped IsParameterWellFormed kept_parameter kept_parameter_formed ts typed
+
+pub kept_parameters_width : (ts : List ParameterTree) → AllByRecursion IsParameterInWidth ts → AllByRecursion IsParameterInWidth (kept_parameters ts)
+kept_parameters_width ts width = all_map IsParameterInWidth IsParameterInWidth kept_parameter kept_parameter_width ts width

@@ -5,7 +5,7 @@ use Rattle.std.specs.List.{flat_map, AllByRecursion}
 use Rattle.std.proofs.lemmas.List.{append-nil, length-replicate, length-map}
 use Rattle.dcsctp_tlv.specs.Frame.{padding_size, header, Item, item_bytes, PaddingRule, IsWhole, IsLastForm, AreFormed}
 use Rattle.dcsctp_tlv.specs.Level.{Level, ItemsMean, MeansTrees}
-use Rattle.dcsctp_tlv.specs.Image.{solid, holes, zeroed, gap, Tlv, size_of, image_of, list_image}
+use Rattle.dcsctp_tlv.specs.Image.{solid, holes, zeroed, gap, Tlv, size_of, IsEncodable, image_of, list_image, list_size}
 use Rattle.dcsctp_tlv.proofs.Images.{zeroed-append, zeroed-holes}
 
 -- Which trees of a level read back: what each is written as means it.
@@ -27,6 +27,12 @@ zeroed-solid (b ∷ bytes) = ap (λ (xs : List ℕ). b ∷ xs) (zeroed-solid byt
 
 length-zeroed : (image : List (Option ℕ)) → length (zeroed image) ≡ length image
 length-zeroed image = length-map image (λ cell. unwrap_or cell 0)
+
+-- each item of a list that two bytes can hold the size of can be written
+pub each_encodable : {T : Type 0} (tlv : T → Tlv) (ts : List T) → list_size tlv ts < 2 ^ 16 → AllByRecursion (λ t. IsEncodable (tlv t)) ts
+each_encodable tlv [] fits = tt
+each_encodable tlv (t ∷ []) fits = (fits, tt)
+each_encodable tlv (t ∷ u ∷ ts) fits = (omega (arith, fits), each_encodable tlv (u ∷ ts) (omega (arith, fits)))
 
 -- ---- one item
 

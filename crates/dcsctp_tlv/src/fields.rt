@@ -187,7 +187,7 @@ pub fn put_numbers_and_fields<F: Field>(
 
 /// Writes a parameter or an error cause whose value is numbers of four bytes, and behind them a
 /// list of fields.
-pub fn put_typed_numbers_and_fields<F: Field>(
+pub fn put_parameter_fields<F: Field>(
     typ: u16,
     leading: &[u32],
     list: &[F::Value],

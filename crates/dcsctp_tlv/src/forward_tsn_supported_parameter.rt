@@ -15,11 +15,12 @@ ghost use Rattle.dcsctp_tlv.specs.Length.{length-typed_tlv};
 ghost use Rattle.dcsctp_tlv.specs.ForwardTsnSupported.{forward_tsn_supported_at, forward_tsn_supported_tlv, forward_tsn_supported_text, forward_tsn_supported_view};
 
 use crate::error::ChunkParseError;
-use crate::frame::put_typed;
+use crate::frame::put_parameter;
 use crate::raw_parameter::RawParameter;
 use crate::tlv::SerializableTlv;
 use std::fmt;
 
+/// The type of Forward-TSN-Supported.
 pub const PARAMETER_TYPE: u16 = 0xC000;
 
 /// Forward-TSN-Supported (RFC 3758 section 3.1). It holds nothing.
@@ -55,7 +56,7 @@ impl SerializableTlv for ForwardTsnSupportedParameter {
     ghost size_bound = { λ p fits. fits };
 
     fn serialize_to(&self, output: &mut [u8]) {
-        put_typed(PARAMETER_TYPE, &[], output);
+        put_parameter(PARAMETER_TYPE, &[], output);
     }
 
     fn value_size(&self) -> usize {

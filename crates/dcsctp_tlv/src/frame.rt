@@ -61,7 +61,7 @@ pub fn put_solid(first: u8, second: u8, value: &[u8], output: &mut [u8])
 }
 
 /// Writes a parameter or an error cause whose value is these bytes.
-pub fn put_typed(typ: u16, value: &[u8], output: &mut [u8])
+pub fn put_parameter(typ: u16, value: &[u8], output: &mut [u8])
     requires encodable { 4 + length value.now < 2 ^ 16 }
     requires room { 4 + length value.now ≤ length output.old }
     ensures { output.new ≡ written (image_of (typed_tlv typ value.now)) output.old }

@@ -17,12 +17,13 @@ ghost use Rattle.dcsctp_tlv.specs.Length.{length-typed_tlv};
 ghost use Rattle.dcsctp_tlv.specs.HeartbeatInfo.{heartbeat_info_at, heartbeat_info_tlv, heartbeat_info_text, heartbeat_info_view};
 
 use crate::error::ChunkParseError;
-use crate::frame::{MAX_VALUE_SIZE, put_typed};
+use crate::frame::{MAX_VALUE_SIZE, put_parameter};
 use crate::raw_parameter::RawParameter;
 use crate::tlv::SerializableTlv;
 use std::alloc::Global;
 use std::fmt;
 
+/// The type of Heartbeat Info.
 pub const PARAMETER_TYPE: u16 = 1;
 
 /// Heartbeat Info (RFC 9260 section 3.3.5). Only the sender of the HEARTBEAT knows what it means.
@@ -59,7 +60,7 @@ impl SerializableTlv for HeartbeatInfoParameter {
     ghost size_bound = { λ p fits. fits };
 
     fn serialize_to(&self, output: &mut [u8]) {
-        put_typed(PARAMETER_TYPE, &self.info, output);
+        put_parameter(PARAMETER_TYPE, &self.info, output);
     }
 
     fn value_size(&self) -> usize {

@@ -22,7 +22,7 @@ ghost use Rattle.dcsctp_tlv.specs.Reading.{Gives, IfMeant};
 ghost use Rattle.dcsctp_tlv.specs.IncomingSsnResetRequest.{incoming_ssn_reset_request_at, incoming_ssn_reset_request_tlv, incoming_ssn_reset_request_text, incoming_ssn_reset_request_view};
 
 use crate::error::ChunkParseError;
-use crate::fields::{fields_from_bytes, put_typed_numbers_and_fields};
+use crate::fields::{fields_from_bytes, put_parameter_fields};
 use crate::frame::MAX_VALUE_SIZE;
 use crate::number::read_u32_be;
 use crate::raw_parameter::RawParameter;
@@ -31,6 +31,7 @@ use dcsctp_types::api::StreamId;
 use std::alloc::Global;
 use std::fmt;
 
+/// The type of Incoming SSN Reset Request.
 pub const PARAMETER_TYPE: u16 = 14;
 
 /// Bytes of the value before the stream ids.
@@ -86,7 +87,7 @@ impl SerializableTlv for IncomingSsnResetRequestParameter {
 
     fn serialize_to(&self, output: &mut [u8]) {
         let leading = [self.request_seq_nbr];
-        put_typed_numbers_and_fields::<StreamId>(PARAMETER_TYPE, &leading, &self.streams, output);
+        put_parameter_fields::<StreamId>(PARAMETER_TYPE, &leading, &self.streams, output);
     }
 
     fn value_size(&self) -> usize {

@@ -26,7 +26,7 @@ ghost use Rattle.dcsctp_tlv.specs.Reading.{Gives, IfMeant};
 ghost use Rattle.dcsctp_tlv.specs.OutgoingSsnResetRequest.{outgoing_ssn_reset_request_at, outgoing_ssn_reset_request_tlv, outgoing_ssn_reset_request_text, outgoing_ssn_reset_request_view};
 
 use crate::error::ChunkParseError;
-use crate::fields::{fields_from_bytes, put_typed_numbers_and_fields};
+use crate::fields::{fields_from_bytes, put_parameter_fields};
 use crate::frame::MAX_VALUE_SIZE;
 use crate::number::read_u32_be;
 use crate::raw_parameter::RawParameter;
@@ -36,6 +36,7 @@ use dcsctp_types::types::Tsn;
 use std::alloc::Global;
 use std::fmt;
 
+/// The type of Outgoing SSN Reset Request.
 pub const PARAMETER_TYPE: u16 = 13;
 
 /// Bytes of the value before the stream ids.
@@ -101,7 +102,7 @@ impl SerializableTlv for OutgoingSsnResetRequestParameter {
             self.response_seq_nbr,
             self.sender_last_assigned_tsn.0,
         ];
-        put_typed_numbers_and_fields::<StreamId>(PARAMETER_TYPE, &leading, &self.streams, output);
+        put_parameter_fields::<StreamId>(PARAMETER_TYPE, &leading, &self.streams, output);
     }
 
     fn value_size(&self) -> usize {

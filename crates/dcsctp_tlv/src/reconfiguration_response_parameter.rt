@@ -25,13 +25,14 @@ ghost use Rattle.dcsctp_tlv.specs.Reading.{Gives, Never};
 ghost use Rattle.dcsctp_tlv.specs.ReconfigurationResponse.{result_of, result_number, response_with, reconfiguration_response_at, next_tsns, reconfiguration_response_tlv, reconfiguration_response_text, tsn_number, reconfiguration_response_view};
 
 use crate::error::ChunkParseError;
-use crate::fields::put_typed_numbers_and_fields;
+use crate::fields::put_parameter_fields;
 use crate::number::read_u32_be;
 use crate::raw_parameter::RawParameter;
 use crate::tlv::SerializableTlv;
 use dcsctp_types::types::Tsn;
 use std::fmt;
 
+/// The type of Re-configuration Response.
 pub const PARAMETER_TYPE: u16 = 16;
 
 /// What became of a request (RFC 6525 section 4.4). `as u32` gives its number on the wire.
@@ -142,13 +143,13 @@ impl SerializableTlv for ReconfigurationResponseParameter {
     fn serialize_to(&self, output: &mut [u8]) {
         let leading = [self.response_seq_nbr, self.result.number()];
         match (self.sender_next_tsn, self.receiver_next_tsn) {
-            (Some(sender), Some(receiver)) => put_typed_numbers_and_fields::<Tsn>(
+            (Some(sender), Some(receiver)) => put_parameter_fields::<Tsn>(
                 PARAMETER_TYPE,
                 &leading,
                 &[sender, receiver],
                 output,
             ),
-            _ => put_typed_numbers_and_fields::<Tsn>(PARAMETER_TYPE, &leading, &[], output),
+            _ => put_parameter_fields::<Tsn>(PARAMETER_TYPE, &leading, &[], output),
         }
     }
 

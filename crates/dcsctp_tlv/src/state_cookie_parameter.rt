@@ -17,12 +17,13 @@ ghost use Rattle.dcsctp_tlv.specs.Length.{length-typed_tlv};
 ghost use Rattle.dcsctp_tlv.specs.StateCookie.{state_cookie_at, state_cookie_tlv, state_cookie_text, state_cookie_view};
 
 use crate::error::ChunkParseError;
-use crate::frame::{MAX_VALUE_SIZE, put_typed};
+use crate::frame::{MAX_VALUE_SIZE, put_parameter};
 use crate::raw_parameter::RawParameter;
 use crate::tlv::SerializableTlv;
 use std::alloc::Global;
 use std::fmt;
 
+/// The type of State Cookie.
 pub const PARAMETER_TYPE: u16 = 7;
 
 /// State Cookie (RFC 9260 section 3.3.3.1.1). Only the sender of the INIT ACK knows what it means.
@@ -59,7 +60,7 @@ impl SerializableTlv for StateCookieParameter {
     ghost size_bound = { λ p fits. fits };
 
     fn serialize_to(&self, output: &mut [u8]) {
-        put_typed(PARAMETER_TYPE, &self.cookie, output);
+        put_parameter(PARAMETER_TYPE, &self.cookie, output);
     }
 
     fn value_size(&self) -> usize {

@@ -17,13 +17,14 @@ ghost use Rattle.dcsctp_tlv.specs.Length.{length-typed_tlv};
 ghost use Rattle.dcsctp_tlv.specs.SupportedExtensions.{supported_extensions_at, supported_extensions_tlv, supported_extensions_text, supported_extensions_view};
 
 use crate::error::ChunkParseError;
-use crate::frame::{MAX_VALUE_SIZE, put_typed};
+use crate::frame::{MAX_VALUE_SIZE, put_parameter};
 use crate::raw_parameter::RawParameter;
 use crate::text::write_joined;
 use crate::tlv::SerializableTlv;
 use std::alloc::Global;
 use std::fmt;
 
+/// The type of Supported Extensions.
 pub const PARAMETER_TYPE: u16 = 0x8008;
 
 /// Supported Extensions (RFC 5061 section 4.2.7).
@@ -61,7 +62,7 @@ impl SerializableTlv for SupportedExtensionsParameter {
     ghost size_bound = { λ p fits. fits };
 
     fn serialize_to(&self, output: &mut [u8]) {
-        put_typed(PARAMETER_TYPE, &self.chunk_types, output);
+        put_parameter(PARAMETER_TYPE, &self.chunk_types, output);
     }
 
     fn value_size(&self) -> usize {

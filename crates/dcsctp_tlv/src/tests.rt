@@ -7,7 +7,7 @@ ghost use Rattle.dcsctp_tlv.specs.Length.{length-typed_tlv};
 
 use crate::error::ChunkParseError;
 use crate::forward_tsn_supported_parameter::ForwardTsnSupportedParameter;
-use crate::frame::put_typed;
+use crate::frame::put_parameter;
 use crate::heartbeat_info_parameter::HeartbeatInfoParameter;
 use crate::incoming_ssn_reset_request_parameter::IncomingSsnResetRequestParameter;
 use crate::number::{is_divisible_by_4, read_u64_be, round_down_to_4, write_u64_be};
@@ -356,7 +356,7 @@ impl SerializableTlv for Number {
     ghost size_bound = { λ n fits. fits };
 
     fn serialize_to(&self, output: &mut [u8]) {
-        put_typed(66, &self.0.to_be_bytes(), output);
+        put_parameter(66, &self.0.to_be_bytes(), output);
     }
 
     fn value_size(&self) -> usize {

@@ -17,7 +17,7 @@ ghost use Rattle.dcsctp_tlv.specs.Length.{length-typed_tlv};
 ghost use Rattle.dcsctp_tlv.specs.UnknownParameter.{unknown_parameter_at, unknown_parameter_tlv, unknown_parameter_text, unknown_parameter_view};
 
 use crate::error::ChunkParseError;
-use crate::frame::{MAX_VALUE_SIZE, put_typed};
+use crate::frame::{MAX_VALUE_SIZE, put_parameter};
 use crate::raw_parameter::RawParameter;
 use crate::tlv::SerializableTlv;
 use std::alloc::Global;
@@ -61,7 +61,7 @@ impl SerializableTlv for UnknownParameter {
     ghost size_bound = { λ p fits. fits };
 
     fn serialize_to(&self, output: &mut [u8]) {
-        put_typed(self.typ, &self.value, output);
+        put_parameter(self.typ, &self.value, output);
     }
 
     fn value_size(&self) -> usize {

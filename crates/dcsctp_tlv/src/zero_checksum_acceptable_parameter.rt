@@ -18,13 +18,14 @@ ghost use Rattle.dcsctp_tlv.specs.Length.{length-typed_tlv};
 ghost use Rattle.dcsctp_tlv.specs.ZeroChecksumAcceptable.{zero_checksum_acceptable_at, zero_checksum_acceptable_tlv, zero_checksum_acceptable_text, zero_checksum_acceptable_view};
 
 use crate::error::ChunkParseError;
-use crate::frame::put_typed;
+use crate::frame::put_parameter;
 use crate::number::read_u32_be;
 use crate::raw_parameter::RawParameter;
 use crate::tlv::SerializableTlv;
 use dcsctp_types::api::ZeroChecksumAlternateErrorDetectionMethod;
 use std::fmt;
 
+/// The type of Zero Checksum Acceptable.
 pub const PARAMETER_TYPE: u16 = 0x8001;
 
 /// Zero Checksum Acceptable (RFC 9653 section 4).
@@ -66,7 +67,7 @@ impl SerializableTlv for ZeroChecksumAcceptableParameter {
     ghost size_bound = { λ p fits. fits };
 
     fn serialize_to(&self, output: &mut [u8]) {
-        put_typed(PARAMETER_TYPE, &self.method.0.to_be_bytes(), output);
+        put_parameter(PARAMETER_TYPE, &self.method.0.to_be_bytes(), output);
     }
 
     fn value_size(&self) -> usize {

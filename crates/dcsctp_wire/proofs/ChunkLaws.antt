@@ -10,13 +10,13 @@ use Rattle.dcsctp_tlv.specs.Image.{zeroed, image_of, list_image, list_size, IsEn
 use Rattle.dcsctp_tlv.specs.Parameter.{ParameterTree, parameters, parameter_tlv, length-parameter}
 use Rattle.dcsctp_tlv.specs.WellFormedParameter.{IsParameterInWidth, IsParameterWellFormed}
 use Rattle.dcsctp_tlv.proofs.KindLaws.{of_ok}
-use Rattle.dcsctp_tlv.proofs.Listed.{each_encodable, listed_sized}
+use Rattle.dcsctp_tlv.proofs.Listed.{listed_sized}
 use Rattle.dcsctp_tlv.proofs.ReadsBack.{ReadsBack, nested_reads_back, zeroed-solid}
-use Rattle.dcsctp_tlv.proofs.ParameterLaws.{IsGoodParameter, parameters_read_back, parameters_form}
+use Rattle.dcsctp_tlv.proofs.ParameterLaws.{IsGoodParameter, good_parameters, parameters_read_back, parameters_form}
 use Rattle.dcsctp_tlv.proofs.Forms.{FormsTrees, FormsRow, picked, plain_forms, list_formed, nil_means}
 use Rattle.dcsctp_cause.specs.Cause.{CauseTree, causes, cause_tlv, length-cause}
 use Rattle.dcsctp_cause.specs.WellFormedCause.{IsCauseInWidth, IsCauseWellFormed}
-use Rattle.dcsctp_cause.proofs.CauseLaws.{IsGoodCause, causes_read_back, causes_form}
+use Rattle.dcsctp_cause.proofs.CauseLaws.{IsGoodCause, good_causes, causes_read_back, causes_form}
 use Rattle.dcsctp_chunk.specs.Flags.{flag_byte}
 use Rattle.dcsctp_chunk.specs.Unknown.{UnknownTree, unknown_at}
 use Rattle.dcsctp_chunk.proofs.FlagLaws.{one_again}
@@ -28,18 +28,6 @@ use Rattle.dcsctp_wire.specs.ParameterList.{parameter_list_row, parameter_list_t
 use Rattle.dcsctp_wire.specs.CauseList.{AbortTree, abort_row, abort_tlv, error_row, error_tlv}
 use Rattle.dcsctp_wire.specs.Chunk.{ChunkTree, Data, Init, InitAck, Sack, HeartbeatRequest, HeartbeatAck, Abort, Shutdown, ShutdownAck, Error, CookieEcho, CookieAck, ShutdownComplete, ReConfig, ForwardTsn, IData, IForwardTsn, Unknown, chunks, chunk_row, chunk_tlv, IsChunkEncodable, encodable_size}
 use Rattle.dcsctp_wire.specs.WellFormed.{IsChunkInWidth, IsUnnamedChunk, IsChunkWellFormed}
-
--- ---- what three say of each item of a list
-
-each_of : {T : Type 0} (P Q R S : T → Type 0) → ((t : T) → P t → Q t → R t → S t) → (ts : List T) → AllByRecursion P ts → AllByRecursion Q ts → AllByRecursion R ts → AllByRecursion S ts
-each_of P Q R S law [] p q r = tt
-each_of P Q R S law (t ∷ ts) p q r = (law t p.0 q.0 r.0, each_of P Q R S law ts p.1 q.1 r.1)
-
-good_parameters : (ps : List ParameterTree) → AllByRecursion IsParameterInWidth ps → AllByRecursion IsParameterWellFormed ps → list_size parameter_tlv ps < 2 ^ 16 → AllByRecursion IsGoodParameter ps
-good_parameters ps width formed size = each_of _ _ (λ p. IsEncodable (parameter_tlv p)) _ (λ p w f e. record { width = w; formed = f; encodable = e }) ps width formed (each_encodable parameter_tlv ps size)
-
-good_causes : (cs : List CauseTree) → AllByRecursion IsCauseInWidth cs → AllByRecursion IsCauseWellFormed cs → list_size cause_tlv cs < 2 ^ 16 → AllByRecursion IsGoodCause cs
-good_causes cs width formed size = each_of _ _ (λ c. IsEncodable (cause_tlv c)) _ (λ c w f e. record { width = w; formed = f; encodable = e }) cs width formed (each_encodable cause_tlv cs size)
 
 -- ---- kinds with a list
 

@@ -6,7 +6,7 @@ use Rattle.dcsctp_tlv.specs.Image.{zeroed, gap, Tlv, image_of, size_of, IsEncoda
 use Rattle.dcsctp_tlv.specs.Parameter.{ParameterTree, parameter_tlv}
 use Rattle.dcsctp_tlv.specs.WellFormedParameter.{IsParameterInWidth, IsParameterTyped, IsParameterWellFormed, kept_parameter, kept_parameters}
 use Rattle.dcsctp_tlv.proofs.Kept.{listed_tlv-kept}
-use Rattle.dcsctp_tlv.proofs.ParameterLaws.{kept_parameter_tlv, kept_parameter_formed, kept_parameter_width}
+use Rattle.dcsctp_tlv.proofs.ParameterLaws.{kept_parameter_tlv, kept_parameters_formed, kept_parameters_width}
 use Rattle.dcsctp_chunk.proofs.Laws.{data_kept_tlv, data_kept_formed, data_kept_width, idata_kept_tlv, idata_kept_formed, idata_kept_width}
 use Rattle.dcsctp_wire.specs.Init.{InitTree, init_numbers}
 use Rattle.dcsctp_wire.specs.Chunk.{ChunkTree, Data, Init, InitAck, Sack, HeartbeatRequest, HeartbeatAck, Abort, Shutdown, ShutdownAck, Error, CookieEcho, CookieAck, ShutdownComplete, ReConfig, ForwardTsn, IData, IForwardTsn, Unknown, chunk_tlv, IsChunkEncodable}
@@ -55,28 +55,24 @@ kept_encodable t h = h
 
 -- ---- it is in width and well-formed
 
-each : (P Q : ParameterTree → Type 0) → ((p : ParameterTree) → P p → Q (kept_parameter p)) → (ps : List ParameterTree) → AllByRecursion P ps → AllByRecursion Q (kept_parameters ps)
-each P Q law [] h = tt
-each P Q law (p ∷ ps) h = (law p h.0, each P Q law ps h.1)
-
 pub kept_width : (t : ChunkTree) → IsChunkInWidth t → IsChunkInWidth (kept_chunk t)
 kept_width (Data c) h = data_kept_width c h
-kept_width (Init i) h = record { tag = h.tag; window = h.window; outbound = h.outbound; inbound = h.inbound; tsn = h.tsn; each = each _ _ kept_parameter_width i.parameters h.each }
-kept_width (InitAck i) h = record { tag = h.tag; window = h.window; outbound = h.outbound; inbound = h.inbound; tsn = h.tsn; each = each _ _ kept_parameter_width i.parameters h.each }
-kept_width (HeartbeatRequest ps) h = each _ _ kept_parameter_width ps h
-kept_width (HeartbeatAck ps) h = each _ _ kept_parameter_width ps h
+kept_width (Init i) h = record { tag = h.tag; window = h.window; outbound = h.outbound; inbound = h.inbound; tsn = h.tsn; each = kept_parameters_width i.parameters h.each }
+kept_width (InitAck i) h = record { tag = h.tag; window = h.window; outbound = h.outbound; inbound = h.inbound; tsn = h.tsn; each = kept_parameters_width i.parameters h.each }
+kept_width (HeartbeatRequest ps) h = kept_parameters_width ps h
+kept_width (HeartbeatAck ps) h = kept_parameters_width ps h
 kept_width (IData c) h = idata_kept_width c h
-kept_width (ReConfig ps) h = each _ _ kept_parameter_width ps h
+kept_width (ReConfig ps) h = kept_parameters_width ps h
 kept_width t h = h
 
 pub kept_formed : (t : ChunkTree) → IsChunkEncodable t → IsChunkReadable t → IsChunkWellFormed (kept_chunk t)
 kept_formed (Data c) fits h = data_kept_formed c
-kept_formed (Init i) fits h = each _ _ kept_parameter_formed i.parameters h
-kept_formed (InitAck i) fits h = each _ _ kept_parameter_formed i.parameters h
-kept_formed (HeartbeatRequest ps) fits h = each _ _ kept_parameter_formed ps h
-kept_formed (HeartbeatAck ps) fits h = each _ _ kept_parameter_formed ps h
+kept_formed (Init i) fits h = kept_parameters_formed i.parameters h
+kept_formed (InitAck i) fits h = kept_parameters_formed i.parameters h
+kept_formed (HeartbeatRequest ps) fits h = kept_parameters_formed ps h
+kept_formed (HeartbeatAck ps) fits h = kept_parameters_formed ps h
 kept_formed (IData c) fits h = idata_kept_formed c
-kept_formed (ReConfig ps) fits h = each _ _ kept_parameter_formed ps h
+kept_formed (ReConfig ps) fits h = kept_parameters_formed ps h
 kept_formed (ForwardTsn f) fits h = fits.kinds
 kept_formed (IForwardTsn f) fits h = fits.kinds
 kept_formed t fits h = h

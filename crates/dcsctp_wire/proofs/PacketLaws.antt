@@ -7,7 +7,7 @@ use Rattle.dcsctp_tlv.specs.Fault.{Fault}
 use Rattle.dcsctp_tlv.specs.Frame.{round_up_to_4}
 use Rattle.dcsctp_tlv.specs.Level.{MeansTrees, HasFault}
 use Rattle.dcsctp_tlv.specs.Image.{IsEncodable, list_size}
-use Rattle.dcsctp_tlv.proofs.Listed.{each_encodable}
+use Rattle.dcsctp_tlv.proofs.ReadsBack.{each_encodable}
 use Rattle.dcsctp_tlv.proofs.Forms.{list_formed, nil_means}
 use Rattle.dcsctp_tlv.proofs.Accounts.{SameSpace, list_account}
 use Rattle.dcsctp_tlv.proofs.Counts.{list_count}

@@ -174,6 +174,14 @@ impl SctpPacketBuilder {
             → (word : ℕ) (policy : ChecksumPolicy) → IsAccepted policy (checksum_field result.items) word
             → Answer result.items word policy (Ok (record { meaning = meaning_with self.old (kept_chunks chunks); checksum = checksum_field result.items })) }
     {
+        self.hand_out(checksum)
+    }
+
+    /// What `build` hands out and leaves, and no law of it.
+    fn hand_out(&mut self, checksum: u32) -> Vec<u8>
+        ensures bytes { result.items ≡ built self.old checksum }
+        ensures empty { self.new ≡ record self.old { bytes = [] } }
+    {
         let next = Vec::new(*self.bytes.allocator());
         let mut packet = std::mem::replace(&mut self.bytes, next);
         if self.write_checksum && !packet.is_empty() {
