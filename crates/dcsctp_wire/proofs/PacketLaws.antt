@@ -90,7 +90,10 @@ pub packet_behind : (front end : List ℕ) (word : ℕ) (policy : ChecksumPolicy
 packet_behind front end word policy ts us low words opened m n = (
   opened,
   record {
-    source = refl; destination = refl; tag = refl; checksum = refl;
+    source = refl;
+    destination = refl;
+    tag = refl;
+    checksum = refl;
     chunks = subst (λ (bytes : List ℕ). MeansTrees chunks bytes (ts ++ us)) (sym (body_behind front end low)) (local_means chunks (body front) end ts us (body_words front low words) m n);
   },
 )

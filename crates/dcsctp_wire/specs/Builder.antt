@@ -1,5 +1,5 @@
 -- The packet builder, as its callers see it: the packets are those of RFC 9260 section 3.
-use Rattle.std.specs.Prelude.{◌≡◌, ◌≢◌, ℕ, ◌-◌, ◌≤◌, max, Bool, true, false, List, [], ◌∷◌, length}
+use Rattle.std.specs.Prelude.{◌≡◌, ◌≢◌, ℕ, ◌-◌, ◌^◌, ◌<◌, ◌≤◌, max, Bool, true, false, List, [], ◌∷◌, length}
 use Rattle.std.specs.List.{AllByRecursion}
 use Rattle.std.specs.Int.{w32, to_be_bytes}
 use Rattle.dcsctp_tlv.specs.Image.{put}
@@ -60,6 +60,12 @@ built b word = checksummed b.writes_checksum word b.bytes
 abbrev pub begun : BuilderState → List ℕ → List ℕ
 begun b [] = canonical (meaning_with b [])
 begun b (byte ∷ bytes) = byte ∷ bytes
+
+-- the ports and the tag lie in their fields' widths
+pub record IsHeaderInWidth (b : BuilderState) : Type 0 where
+  pub source : b.source < 2 ^ 16
+  pub destination : b.destination < 2 ^ 16
+  pub tag : b.tag < 2 ^ 32
 
 -- Where there are bytes, the header is whole, and the limit was reserved.
 pub record IsReserved (limit capacity : ℕ) (bytes : List ℕ) : Type 0 where

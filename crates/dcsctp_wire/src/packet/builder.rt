@@ -6,7 +6,7 @@ ghost use Rattle.dcsctp_tlv.specs.Frame.{round_up_to_4};
 ghost use Rattle.dcsctp_tlv.specs.Image.{size_of, image_of, written};
 ghost use Rattle.dcsctp_wire.specs.Chunk.{ChunkTree, chunk_tlv, IsChunkEncodable, view};
 ghost use Rattle.dcsctp_wire.specs.Canonical.{padded_chunk, padded_size};
-ghost use Rattle.dcsctp_wire.specs.Builder.{Holds, meaning_with, room, begun, built};
+ghost use Rattle.dcsctp_wire.specs.Builder.{Holds, IsHeaderInWidth, meaning_with, room, begun, built};
 ghost use Rattle.dcsctp_wire.specs.Kept.{kept_chunks, IsChunkReadable};
 ghost use Rattle.dcsctp_wire.specs.Packet.{IsAccepted, checksum_field, Answer};
 ghost use Rattle.dcsctp_wire.specs.WellFormed.{IsChunkInWidth};
@@ -179,6 +179,7 @@ impl SctpPacketBuilder {
 
     /// What `build` hands out and leaves, and no law of it.
     fn hand_out(&mut self, checksum: u32) -> Vec<u8>
+        ensures width { IsHeaderInWidth self.old }
         ensures bytes { result.items ≡ built self.old checksum }
         ensures empty { self.new ≡ record self.old { bytes = [] } }
     {
