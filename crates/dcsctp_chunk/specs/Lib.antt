@@ -1,10 +1,10 @@
+pub mod Apart
 pub mod CookieAck
 pub mod CookieEcho
-pub mod Sack
-pub mod SkippedStreams
+pub mod Cover
 pub mod ForwardTsn
 pub mod IForwardTsn
+pub mod Sack
 pub mod Shutdown
+pub mod SkippedStreams
 pub mod Unknown
-pub mod Cover
-pub mod Apart
