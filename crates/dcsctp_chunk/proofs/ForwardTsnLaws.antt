@@ -36,6 +36,14 @@ mid_back (BySsn stream ssn) rest is = absurd (false≢true is.1)
 mid_back (ByMid stream true mid) rest is = rw (from_be_bytes-to_be_bytes_2 stream is.0.0, from_be_bytes-to_be_bytes_4 mid is.0.1) refl
 mid_back (ByMid stream false mid) rest is = rw (from_be_bytes-to_be_bytes_2 stream is.0.0, from_be_bytes-to_be_bytes_4 mid is.0.1) refl
 
+-- streams with a place read back
+streams_back : (read : List ℕ → SkippedStreamTree) (write : SkippedStreamTree → List ℕ) (size : ℕ) (by_mid : Bool)
+    → ((s : SkippedStreamTree) (rest : List ℕ) → IsPlaced by_mid s → read (write s ++ rest) ≡ s) → ((s : SkippedStreamTree) → is_by_mid s ≡ by_mid → length (write s) ≡ size)
+    → (streams : List SkippedStreamTree) → AllByRecursion IsSkippedStreamInWidth streams → AreByMid by_mid streams → fields read size (length streams) (flat_map write streams) ≡ streams
+streams_back read write size by_mid back sized streams width own =
+    ap (fields read size (length streams)) (sym (append-nil (flat_map write streams)))
+    ∙ fields_back read write size (IsPlaced by_mid) back (λ s is. sized s is.1) streams [] (placed by_mid streams width own)
+
 -- ---- FORWARD-TSN
 
 back : (t : ForwardTsnTree) → IsForwardTsnInWidth t → IsForwardTsnWellFormed t → forward_tsn_at (forward_tsn_bytes t) ≡ Ok t
@@ -43,12 +51,10 @@ unfolding forward_tsn_at
 back t width own =
     let value = forward_tsn_bytes t in
     let n = length t.streams in
-    let behind = flat_map ssn_stream_bytes t.streams in
     let sized : length value ≡ 4 + 4 * n = (let l = size_of_placed ssn_stream_bytes 4 false length-ssn_stream t.streams own in omega (arith, l)) in
     let whole : length value % 4 ≡ 0 = omega (arith, sized) in
     let count : (length value - 4) / 4 ≡ n = omega (arith, sized) in
-    let streams_are : fields ssn_stream_at 4 n behind ≡ t.streams =
-    ap (fields ssn_stream_at 4 n) (sym (append-nil behind)) ∙ fields_back ssn_stream_at ssn_stream_bytes 4 (IsPlaced false) ssn_back (λ s is. length-ssn_stream s is.1) t.streams [] (placed false t.streams width.streams own) in
+    let streams_are = streams_back ssn_stream_at ssn_stream_bytes 4 false ssn_back length-ssn_stream t.streams width.streams own in
     rw (le-ltb (length value) 4 (omega (arith, sized)), eq-eqb (length value % 4) 0 whole, count, from_be_bytes-to_be_bytes_4 t.tsn width.tsn, streams_are) refl
 
 -- what is read is well-formed, and is written with as many bytes
@@ -85,12 +91,10 @@ unfolding iforward_tsn_at
 iback t width own =
     let value = iforward_tsn_bytes t in
     let n = length t.streams in
-    let behind = flat_map mid_stream_bytes t.streams in
     let sized : length value ≡ 4 + 8 * n = (let l = size_of_placed mid_stream_bytes 8 true length-mid_stream t.streams own in omega (arith, l)) in
     let whole : (length value - 4) % 8 ≡ 0 = omega (arith, sized) in
     let count : (length value - 4) / 8 ≡ n = omega (arith, sized) in
-    let streams_are : fields mid_stream_at 8 n behind ≡ t.streams =
-    ap (fields mid_stream_at 8 n) (sym (append-nil behind)) ∙ fields_back mid_stream_at mid_stream_bytes 8 (IsPlaced true) mid_back (λ s is. length-mid_stream s is.1) t.streams [] (placed true t.streams width.streams own) in
+    let streams_are = streams_back mid_stream_at mid_stream_bytes 8 true mid_back length-mid_stream t.streams width.streams own in
     rw (le-ltb (length value) 4 (omega (arith, sized)), eq-eqb ((length value - 4) % 8) 0 whole, count, from_be_bytes-to_be_bytes_4 t.tsn width.tsn, streams_are) refl
 
 -- what is read is well-formed, and is written with as many bytes

@@ -66,7 +66,7 @@ fn are_apart(blocks: &[GapAckBlock]) -> bool
     true
 }
 
-/// Puts the runs in the place of the blocks.
+/// Puts the runs of the offsets that the blocks cover in the place of the blocks.
 fn clean_blocks(blocks: &mut Vec<GapAckBlock>)
     ensures apart { IsApart 0 blocks.new.items }
     ensures cover { SameCover blocks.new.items blocks.old.items }
@@ -106,7 +106,7 @@ fn merge(blocks: &mut [GapAckBlock]) -> usize
     kept + 1
 }
 
-/// Offsets are 16 bits wide. The loop is here for its proof, and does nothing.
+/// Offsets are 16 bits wide. The loop is here for its proof alone: the compiler leaves nothing of it.
 fn ends_fit(blocks: &[GapAckBlock])
     ensures { All (λ b. b.end ≤ 65535) blocks.now }
 {

@@ -36,6 +36,7 @@ use dcsctp_types::types::Tsn;
 use std::alloc::Global;
 use std::fmt;
 
+/// The type of this chunk.
 pub const CHUNK_TYPE: u8 = 3;
 
 /// Bytes of the value before the gap ack blocks.
