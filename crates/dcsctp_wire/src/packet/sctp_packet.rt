@@ -124,6 +124,12 @@ impl SctpPacket {
     /// Reads a packet. `checksum` is the number whose big-endian bytes are expected at bytes 8
     /// to 11.
     ///
+    /// Want of memory aside, for every byte list, checksum word and policy, `from_bytes` answers
+    /// the one packet that the grammar gives these bytes, or the fault of the first offending
+    /// place; where canonical packets fit, accepted inputs mean the same exactly if these are equal
+    /// bytes, and a canonical packet reads back under a policy that accepts its checksum.
+    /// (`canonical_bytes` has the second half. Nothing is said of whether the word is a checksum.)
+    ///
     /// `InvalidPacketSize` unless there are 16 to 65,535 bytes; then `InvalidChecksum` unless the
     /// policy accepts the field; then `FailedParseChunk` with the first fault of the chunks from
     /// the left, or with `OutOfMemory`. The first two take no memory. Padding isn't looked at.
