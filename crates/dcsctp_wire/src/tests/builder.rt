@@ -1,8 +1,13 @@
 //! Packets that are built chunk by chunk.
 
-use crate::packet::chunk::{Chunk, RawChunk};
+use crate::api::{PpId, StreamId};
+use crate::packet::chunk::Chunk;
+use crate::packet::data::Data;
+use crate::packet::data_chunk::DataChunk;
 use crate::packet::sctp_packet::{ChecksumPolicy, PacketParseError, SctpPacket, SctpPacketBuilder};
 use crate::packet::{SerializableTlv, round_up_to_4};
+use crate::tests::chunk_of;
+use crate::types::{Fsn, Mid, Ssn, StreamKey, Tsn};
 use std::alloc::AllocError;
 use std::test::Fail;
 
@@ -116,7 +121,7 @@ fn built(rt: HostRuntime) -> Result<(), Fail> {
             assert!(rt; builder.is_empty());
             for (i, bytes) in row.chunks.iter().enumerate() {
                 assert_eq!(rt; Some(builder.bytes_remaining()), row.rooms.get(i).copied());
-                let chunk = Chunk::try_from(alloc, RawChunk::from_bytes(bytes)?.0)?;
+                let chunk = chunk_of(alloc, bytes)?;
                 assert!(rt; add_if_room(&mut builder, &chunk)?);
                 assert!(rt; !builder.is_empty());
             }
@@ -142,7 +147,7 @@ fn rooms(rt: HostRuntime) -> Result<(), Fail> {
         (19, 4, true),
     ];
     let alloc = rt.alloc();
-    let ack = Chunk::try_from(alloc, RawChunk::from_bytes(COOKIE_ACK)?.0)?;
+    let ack = chunk_of(alloc, COOKIE_ACK)?;
     for (limit, room, fits) in rows {
         let mut builder = SctpPacketBuilder::new(alloc, 7, 1, 2, limit);
         assert_eq!(rt; builder.bytes_remaining(), room);
@@ -164,8 +169,8 @@ fn rooms(rt: HostRuntime) -> Result<(), Fail> {
 fn read_back(rt: HostRuntime) -> Result<(), Fail> {
     let alloc = rt.alloc();
     let policy = ChecksumPolicy::default();
-    let echo = Chunk::try_from(alloc, RawChunk::from_bytes(COOKIE_ECHO)?.0)?;
-    let shutdown = Chunk::try_from(alloc, RawChunk::from_bytes(SHUTDOWN)?.0)?;
+    let echo = chunk_of(alloc, COOKIE_ECHO)?;
+    let shutdown = chunk_of(alloc, SHUTDOWN)?;
     let mut builder = SctpPacketBuilder::new(alloc, 7, 1, 2, 40);
     assert!(rt; add_if_room(&mut builder, &echo)?);
     assert!(rt; add_if_room(&mut builder, &shutdown)?);
@@ -201,5 +206,59 @@ fn read_back(rt: HostRuntime) -> Result<(), Fail> {
             .checksum,
         0
     );
+    Ok(())
+}
+
+// A chunk with a field that it doesn't carry: it isn't written, and reads back as 0.
+#[test]
+fn data(rt: HostRuntime) -> Result<(), Fail> {
+    let alloc = rt.alloc();
+    let policy = ChecksumPolicy::default();
+    let echo = chunk_of(alloc, COOKIE_ECHO)?;
+    let data = Chunk::Data(DataChunk {
+        tsn: Tsn(1),
+        user_data: Data {
+            stream_key: StreamKey::Unordered(StreamId(2)),
+            ssn: Ssn(3),
+            mid: Mid(9),
+            fsn: Fsn(0),
+            ppid: PpId(4),
+            payload: Vec::new(alloc),
+            is_beginning: true,
+            is_end: true,
+        },
+        immediate_ack: false,
+    });
+    let mut builder = SctpPacketBuilder::new(alloc, 7, 1, 2, 40);
+    assert_eq!(rt; builder.bytes_remaining(), 28);
+    assert!(rt; add_if_room(&mut builder, &echo)?);
+    assert_eq!(rt; builder.bytes_remaining(), 20);
+    assert!(rt; add_if_room(&mut builder, &data)?);
+    assert_eq!(rt; builder.bytes_remaining(), 4);
+    let bytes = builder.build(9);
+    assert_eq!(rt;
+        bytes.as_slice(),
+        [
+            0, 1, 0, 2, 0, 0, 0, 7, 0, 0, 0, 9, 0x0a, 0, 0, 5, 0x7f, 0, 0, 0, 0, 7, 0, 16, 0, 0, 0,
+            1, 0, 2, 0, 3, 0, 0, 0, 4,
+        ]
+        .as_slice()
+    );
+
+    let packet = SctpPacket::from_bytes(alloc, &bytes, 9, &policy)?;
+    match packet.chunks.as_slice() {
+        [Chunk::CookieEcho(echo), Chunk::Data(data)] => {
+            assert_eq!(rt; echo.cookie.as_slice(), [0x7f].as_slice());
+            assert_eq!(rt; data.tsn, Tsn(1));
+            assert_eq!(rt; data.user_data.mid, Mid(0));
+            assert_eq!(rt; data.user_data.ppid, PpId(4));
+        }
+        _ => assert!(rt; false, "other chunks"),
+    }
+    // another word is expected
+    match SctpPacket::from_bytes(alloc, &bytes, 8, &policy) {
+        Ok(_) => assert!(rt; false, "accepted"),
+        Err(error) => assert_eq!(rt; error, PacketParseError::InvalidChecksum),
+    }
     Ok(())
 }

@@ -1,54 +1,19 @@
-//! Single chunks.
+//! Single chunks that hold no list, frames and numbers.
 
 use crate::packet::chunk::{Chunk, RawChunk, write_chunk_header};
 use crate::packet::cookie_ack_chunk::CookieAckChunk;
 use crate::packet::cookie_echo_chunk::CookieEchoChunk;
+use crate::packet::shutdown_ack_chunk::ShutdownAckChunk;
 use crate::packet::shutdown_chunk::ShutdownChunk;
+use crate::packet::shutdown_complete_chunk::ShutdownCompleteChunk;
 use crate::packet::unknown_chunk::UnknownChunk;
 use crate::packet::{
     ChunkParseError, SerializableTlv, read_u16_be, read_u32_be, round_up_to_4, write_u16_be,
     write_u32_be,
 };
+use crate::tests::{chunk_of, raw_of, written};
 use crate::types::Tsn;
-use std::alloc::{AllocError, Global};
 use std::test::Fail;
-
-/// A chunk as written over bytes `ee`, with two bytes behind it.
-fn written(alloc: Global, chunk: &Chunk) -> Result<Vec<u8>, AllocError> {
-    if !chunk.encodable() {
-        return Err(AllocError);
-    }
-    let mut output = vec![in alloc; 0xee; chunk.serialized_size() + 2]?;
-    chunk.serialize_to(&mut output);
-    Ok(output)
-}
-
-#[test]
-fn captures(rt: HostRuntime) -> Result<(), Fail> {
-    let rows: [(&[u8], &str); 4] = [
-        (
-            &[7, 0, 0, 8, 6, 0x11, 0xd1, 0xbd],
-            "SHUTDOWN cumulative_tsn_ack=101831101",
-        ),
-        (&[0x0b, 0, 0, 4], "COOKIE-ACK"),
-        (
-            &[0x0a, 0, 0, 8, 0x12, 0x34, 0x56, 0x78],
-            "COOKIE-ECHO, cookie=4 bytes",
-        ),
-        // no known type
-        (&[0x49, 0xf2, 0, 4], "Unknown chunk, type=73"),
-    ];
-    for (bytes, text) in rows {
-        let (raw, rest) = RawChunk::from_bytes(bytes)?;
-        assert_eq!(rt; rest.len(), 0);
-        let chunk = Chunk::try_from(rt.alloc(), raw)?;
-        assert_eq!(rt; chunk.to_string(rt.alloc())?.as_str(), text);
-        let mut wanted = Vec::from_slice(rt.alloc(), bytes)?;
-        wanted.extend_from_slice(&[0xee, 0xee])?;
-        assert_eq!(rt; written(rt.alloc(), &chunk)?.as_slice(), wanted.as_slice());
-    }
-    Ok(())
-}
 
 #[test]
 fn read_again(rt: HostRuntime) -> Result<(), Fail> {
@@ -58,7 +23,7 @@ fn read_again(rt: HostRuntime) -> Result<(), Fail> {
     let mut output = [0; 8];
     shutdown.serialize_to(&mut output);
     assert_eq!(rt; output.as_slice(), [7, 0, 0, 8, 1, 2, 3, 4].as_slice());
-    let again = ShutdownChunk::try_from(RawChunk::from_bytes(&output)?.0)?;
+    let again = ShutdownChunk::try_from(raw_of(&output)?)?;
     assert_eq!(rt; again.cumulative_tsn_ack, shutdown.cumulative_tsn_ack);
 
     let echo = CookieEchoChunk {
@@ -67,7 +32,7 @@ fn read_again(rt: HostRuntime) -> Result<(), Fail> {
     let mut output = [0; 7];
     echo.serialize_to(&mut output);
     assert_eq!(rt; output.as_slice(), [10, 0, 0, 7, 1, 2, 3].as_slice());
-    let again = CookieEchoChunk::try_from(rt.alloc(), RawChunk::from_bytes(&output)?.0)?;
+    let again = CookieEchoChunk::try_from(rt.alloc(), raw_of(&output)?)?;
     assert_eq!(rt; again.cookie.as_slice(), echo.cookie.as_slice());
     assert_eq!(rt; echo.clone()?.cookie.as_slice(), echo.cookie.as_slice());
     assert_eq!(rt; CookieEchoChunk::new(rt.alloc()).cookie.len(), 0);
@@ -75,7 +40,27 @@ fn read_again(rt: HostRuntime) -> Result<(), Fail> {
     let mut output = [0; 4];
     CookieAckChunk.serialize_to(&mut output);
     assert_eq!(rt; output.as_slice(), [11, 0, 0, 4].as_slice());
-    assert!(rt; CookieAckChunk::try_from(RawChunk::from_bytes(&output)?.0).is_ok());
+    assert!(rt; CookieAckChunk::try_from(raw_of(&output)?).is_ok());
+
+    let mut output = [0; 4];
+    ShutdownAckChunk.serialize_to(&mut output);
+    assert_eq!(rt; output.as_slice(), [8, 0, 0, 4].as_slice());
+    assert!(rt; ShutdownAckChunk::try_from(raw_of(&output)?).is_ok());
+    assert_eq!(rt;
+        ShutdownAckChunk.to_string(rt.alloc())?.as_str(),
+        "SHUTDOWN-ACK"
+    );
+
+    let complete = ShutdownCompleteChunk {
+        tag_reflected: true,
+    };
+    let mut output = [0; 4];
+    complete.serialize_to(&mut output);
+    assert_eq!(rt; output.as_slice(), [14, 1, 0, 4].as_slice());
+    let again = ShutdownCompleteChunk::try_from(raw_of(&output)?)?;
+    assert!(rt; again.tag_reflected);
+    let text = "SHUTDOWN-COMPLETE, tag_reflected=true";
+    assert_eq!(rt; again.to_string(rt.alloc())?.as_str(), text);
 
     let unknown = UnknownChunk {
         typ: 200,
@@ -85,10 +70,44 @@ fn read_again(rt: HostRuntime) -> Result<(), Fail> {
     let mut output = [0; 5];
     unknown.serialize_to(&mut output);
     assert_eq!(rt; output.as_slice(), [200, 0x81, 0, 5, 9].as_slice());
-    let again = UnknownChunk::try_from(rt.alloc(), RawChunk::from_bytes(&output)?.0)?;
+    let again = UnknownChunk::try_from(rt.alloc(), raw_of(&output)?)?;
     assert_eq!(rt; again.typ, 200);
     assert_eq!(rt; again.flags, 0x81);
     assert_eq!(rt; again.value.as_slice(), [9].as_slice());
+    Ok(())
+}
+
+// A type without a kind keeps its flags and its value; a named type isn't unknown when it is read.
+#[test]
+fn unknown(rt: HostRuntime) -> Result<(), Fail> {
+    let rows: [(&[u8], &str); 3] = [
+        (&[0x49, 0xf2, 0, 4], "Unknown chunk, type=73"),
+        (&[99, 0, 0, 6, 1, 2], "Unknown chunk, type=99"),
+        (&[0xff, 1, 0, 4], "Unknown chunk, type=255"),
+    ];
+    for (bytes, text) in rows {
+        let chunk = chunk_of(rt.alloc(), bytes)?;
+        assert_eq!(rt; chunk.to_string(rt.alloc())?.as_str(), text);
+        assert_eq!(rt; written(rt.alloc(), &chunk)?.as_slice(), bytes);
+    }
+    match chunk_of(rt.alloc(), &[0x49, 0xf2, 0, 4])? {
+        Chunk::Unknown(unknown) => {
+            assert_eq!(rt; unknown.typ, 73);
+            assert_eq!(rt; unknown.flags, 242);
+            assert_eq!(rt; unknown.value.len(), 0);
+        }
+        _ => assert!(rt; false, "another kind"),
+    }
+
+    let unknown = Chunk::Unknown(UnknownChunk {
+        typ: 11,
+        flags: 3,
+        value: Vec::new(rt.alloc()),
+    });
+    let bytes = written(rt.alloc(), &unknown)?;
+    assert_eq!(rt; bytes.as_slice(), [11, 3, 0, 4].as_slice());
+    let again = chunk_of(rt.alloc(), &bytes)?;
+    assert_eq!(rt; again.to_string(rt.alloc())?.as_str(), "COOKIE-ACK");
     Ok(())
 }
 
@@ -130,20 +149,14 @@ fn other_types(rt: HostRuntime) -> Result<(), Fail> {
     // another type is told before a value's size
     let bytes = [1, 0, 0, 5, 0];
     let wanted = Some(ChunkParseError::InvalidType);
-    assert_eq!(rt;
-        ShutdownChunk::try_from(RawChunk::from_bytes(&bytes)?.0).err(),
-        wanted
-    );
+    assert_eq!(rt; ShutdownChunk::try_from(raw_of(&bytes)?).err(), wanted);
     let wanted = Some(ChunkParseError::InvalidType);
-    assert_eq!(rt;
-        CookieAckChunk::try_from(RawChunk::from_bytes(&bytes)?.0).err(),
-        wanted
-    );
+    assert_eq!(rt; CookieAckChunk::try_from(raw_of(&bytes)?).err(), wanted);
     let wanted = Some(ChunkParseError::InvalidType);
-    let echo = CookieEchoChunk::try_from(rt.alloc(), RawChunk::from_bytes(&bytes)?.0);
+    let echo = CookieEchoChunk::try_from(rt.alloc(), raw_of(&bytes)?);
     assert_eq!(rt; echo.err(), wanted);
     // an unknown chunk may have any type, a named one too
-    let kept = UnknownChunk::try_from(rt.alloc(), RawChunk::from_bytes(&[11, 3, 0, 4])?.0)?;
+    let kept = UnknownChunk::try_from(rt.alloc(), raw_of(&[11, 3, 0, 4])?)?;
     assert_eq!(rt; kept.typ, 11);
     Ok(())
 }

@@ -2,49 +2,19 @@
 
 use crate::api::{
     ZERO_CHECKSUM_ALTERNATE_ERROR_DETECTION_METHOD_LOWER_LAYER_DTLS,
-    ZERO_CHECKSUM_ALTERNATE_ERROR_DETECTION_METHOD_NONE, ZeroChecksumAlternateErrorDetectionMethod,
+    ZeroChecksumAlternateErrorDetectionMethod,
 };
-use crate::packet::chunk::Chunk;
 use crate::packet::sctp_packet::{ChecksumPolicy, PacketParseError, SctpPacket};
 use crate::packet::{ChunkParseError, SerializableTlv};
+use crate::tests::captures::{INIT, RE_CONFIG};
+use crate::tests::{HEADER, UNVERIFIED, canonical_of, packet_of, text_of};
 use std::alloc::{AllocError, Global};
 use std::process::Abort;
 use std::test::Fail;
 
-const HEADER: [u8; 12] = [0x13, 0x88, 0x13, 0x88, 1, 2, 3, 4, 0, 0, 0, 0];
-
-const UNVERIFIED: ChecksumPolicy = ChecksumPolicy {
-    disable_checksum_verification: true,
-    zero_checksum_alternate_error_detection_method: ZERO_CHECKSUM_ALTERNATE_ERROR_DETECTION_METHOD_NONE,
-};
-
 const LENGTH: PacketParseError = PacketParseError::FailedParseChunk(ChunkParseError::InvalidLength);
 
-/// The header, and these chunks.
-fn packet_of(alloc: Global, chunks: &[u8]) -> Result<Vec<u8>, AllocError> {
-    let mut bytes = Vec::from_slice(alloc, &HEADER)?;
-    bytes.extend_from_slice(chunks)?;
-    Ok(bytes)
-}
-
-/// What the chunks print, a line each.
-fn text_of(alloc: Global, packet: &SctpPacket) -> Result<String, AllocError> {
-    let mut text = String::new(alloc);
-    for chunk in &packet.chunks {
-        text.push_str(chunk.to_string(alloc)?.as_str())?;
-        text.push_str("\n")?;
-    }
-    Ok(text)
-}
-
-/// The canonical packet, or nothing where it doesn't fit.
-fn canonical_of(alloc: Global, packet: &SctpPacket) -> Result<Option<Vec<u8>>, AllocError> {
-    if packet.fits() {
-        Ok(Some(packet.canonical_bytes(alloc)?))
-    } else {
-        Ok(None)
-    }
-}
+const VALUE: PacketParseError = PacketParseError::FailedParseChunk(ChunkParseError::InvalidValue);
 
 #[test]
 fn accepted(rt: HostRuntime) -> Result<(), Fail> {
@@ -91,7 +61,7 @@ fn accepted(rt: HostRuntime) -> Result<(), Fail> {
         // a named kind's flags are ignored, and written as 0
         (&[0x0b, 0xff, 0, 4], "COOKIE-ACK\n", &[0x0b, 0, 0, 4]),
         // a type without a kind of its own, without value
-        (&[6, 0, 0, 4], "Unknown chunk, type=6\n", &[6, 0, 0, 4]),
+        (&[99, 0, 0, 4], "Unknown chunk, type=99\n", &[99, 0, 0, 4]),
         // an unknown type keeps its flags and its value
         (
             &[0x49, 0xf2, 0, 6, 1, 2],
@@ -100,23 +70,146 @@ fn accepted(rt: HostRuntime) -> Result<(), Fail> {
         ),
     ];
     for (chunks, text, canonical) in rows {
-        let bytes = packet_of(rt.alloc(), chunks)?;
-        let packet = SctpPacket::from_bytes(rt.alloc(), &bytes, 0, &UNVERIFIED)?;
+        check_canonical(&rt, rt.alloc(), chunks, text, canonical)?;
+    }
+    Ok(())
+}
+
+/// These chunks are read, print the text, and are these in the canonical packet, which is read as
+/// the same packet again.
+fn check_canonical(
+    rt: &impl Abort,
+    alloc: Global,
+    chunks: &[u8],
+    text: &str,
+    canonical: &[u8],
+) -> Result<(), Fail> {
+    let mut bytes = packet_of(alloc, chunks)?;
+    for _ in 0..2 {
+        let packet = SctpPacket::from_bytes(alloc, &bytes, 0, &UNVERIFIED)?;
         assert_eq!(rt; packet.common_header.source_port, 5000);
         assert_eq!(rt; packet.common_header.destination_port, 5000);
         assert_eq!(rt; packet.common_header.verification_tag, 16909060);
         assert_eq!(rt; packet.common_header.checksum, 0);
-        assert_eq!(rt; text_of(rt.alloc(), &packet)?.as_str(), text);
-        let wanted = packet_of(rt.alloc(), canonical)?;
-        let written = canonical_of(rt.alloc(), &packet)?.ok_or("it fits")?;
-        assert_eq!(rt; written.as_slice(), wanted.as_slice());
+        assert_eq!(rt; text_of(alloc, &packet)?.as_str(), text);
+        bytes = canonical_of(alloc, &packet)?.ok_or("it fits")?;
+        assert_eq!(rt; bytes.as_slice(), packet_of(alloc, canonical)?.as_slice());
     }
     Ok(())
 }
 
 #[test]
+fn accepted_with_lists(rt: HostRuntime) -> Result<(), Fail> {
+    // The chunks of the input, what they print, the chunks of the canonical packet.
+    let rows: [(&[u8], &str, &[u8]); 14] = [
+        // an ABORT without causes, a HEARTBEAT and a RE-CONFIG without parameters
+        (&[6, 0, 0, 4], "ABORT, tag_reflected=false\n", &[6, 0, 0, 4]),
+        (&[4, 0, 0, 4], "HEARTBEAT-REQ\n", &[4, 0, 0, 4]),
+        (&[0x82, 0, 0, 4], "RE-CONFIG\n", &[0x82, 0, 0, 4]),
+        // INIT and INIT ACK without parameters
+        (
+            &[1, 0, 0, 20, 0, 0, 0, 1, 0, 0, 0, 2, 0, 3, 0, 4, 0, 0, 0, 5],
+            "INIT, initiate_tag=1, initial_tsn=5\n",
+            &[1, 0, 0, 20, 0, 0, 0, 1, 0, 0, 0, 2, 0, 3, 0, 4, 0, 0, 0, 5],
+        ),
+        (
+            &[2, 0, 0, 20, 0, 0, 0, 1, 0, 0, 0, 2, 0, 3, 0, 4, 0, 0, 0, 5],
+            "INIT-ACK, initiate_tag=1, initial_tsn=5\n",
+            &[2, 0, 0, 20, 0, 0, 0, 1, 0, 0, 0, 2, 0, 3, 0, 4, 0, 0, 0, 5],
+        ),
+        // a captured RE-CONFIG, whose length leaves out its parameter's padding
+        (RE_CONFIG, "RE-CONFIG\n", RE_CONFIG),
+        // the same with a length that counts it
+        (
+            &[
+                0x82, 0, 0, 0x18, 0, 0x0d, 0, 0x12, 0x87, 0x55, 0xd8, 0x23, 0x71, 0x97, 0x6a, 0x9e,
+                0x87, 0x55, 0xd8, 0x32, 0, 6, 0, 0,
+            ],
+            "RE-CONFIG\n",
+            RE_CONFIG,
+        ),
+        // a reason that isn't UTF-8 is replaced: "Failed to parse abort reason"
+        (
+            &[6, 0, 0, 9, 0, 0x0c, 0, 5, 0xff],
+            "ABORT, tag_reflected=false\n",
+            &[
+                6, 0, 0, 0x24, 0, 0x0c, 0, 0x20, 0x46, 0x61, 0x69, 0x6c, 0x65, 0x64, 0x20, 0x74,
+                0x6f, 0x20, 0x70, 0x61, 0x72, 0x73, 0x65, 0x20, 0x61, 0x62, 0x6f, 0x72, 0x74, 0x20,
+                0x72, 0x65, 0x61, 0x73, 0x6f, 0x6e,
+            ],
+        ),
+        // so is an information: "Failed to parse additional information", with padding
+        (
+            &[6, 0, 0, 9, 0, 0x0d, 0, 5, 0xff],
+            "ABORT, tag_reflected=false\n",
+            &[
+                6, 0, 0, 0x2e, 0, 0x0d, 0, 0x2a, 0x46, 0x61, 0x69, 0x6c, 0x65, 0x64, 0x20, 0x74,
+                0x6f, 0x20, 0x70, 0x61, 0x72, 0x73, 0x65, 0x20, 0x61, 0x64, 0x64, 0x69, 0x74, 0x69,
+                0x6f, 0x6e, 0x61, 0x6c, 0x20, 0x69, 0x6e, 0x66, 0x6f, 0x72, 0x6d, 0x61, 0x74, 0x69,
+                0x6f, 0x6e, 0, 0,
+            ],
+        ),
+        // three causes of an unknown code
+        (
+            &[6, 0, 0, 0x10, 0, 0x63, 0, 4, 0, 0x63, 0, 4, 0, 0x63, 0, 4],
+            "ABORT, tag_reflected=false\n",
+            &[6, 0, 0, 0x10, 0, 0x63, 0, 4, 0, 0x63, 0, 4, 0, 0x63, 0, 4],
+        ),
+        // a captured INIT, and the same without its padding
+        (
+            INIT,
+            "INIT, initiate_tag=3732543120, initial_tsn=621623272\n",
+            INIT,
+        ),
+        (
+            &INIT[..90],
+            "INIT, initiate_tag=3732543120, initial_tsn=621623272\n",
+            INIT,
+        ),
+        // a canonical packet, and another chunk behind it
+        (
+            &[0x0a, 0, 0, 5, 0x7f, 0, 0, 0, 0x0b, 0, 0, 4],
+            "COOKIE-ECHO, cookie=1 bytes\nCOOKIE-ACK\n",
+            &[0x0a, 0, 0, 5, 0x7f, 0, 0, 0, 0x0b, 0, 0, 4],
+        ),
+        // flags and bytes that have no meaning, in a chunk of user data, are zero afterwards
+        (
+            &[
+                0x40, 0xf2, 0, 0x15, 0x94, 0x4a, 0x5d, 0xd5, 0, 1, 0xab, 0xcd, 0, 0, 0, 0, 0, 0, 0,
+                0x35, 1, 9, 9, 9,
+            ],
+            "I-DATA, type=ordered::first, tsn=2487901653, mid=1, ssn=0, ppid=53, length=1\n",
+            &[
+                0x40, 2, 0, 0x15, 0x94, 0x4a, 0x5d, 0xd5, 0, 1, 0, 0, 0, 0, 0, 0, 0, 0, 0, 0x35, 1,
+                0, 0, 0,
+            ],
+        ),
+    ];
+    for (chunks, text, canonical) in rows {
+        check_canonical(&rt, rt.alloc(), chunks, text, canonical)?;
+    }
+    Ok(())
+}
+
+// Another port is another meaning, and other bytes.
+#[test]
+fn ports(rt: HostRuntime) -> Result<(), Fail> {
+    let bytes = packet_of(rt.alloc(), &[0x0b, 0, 0, 4])?;
+    let other = [
+        0x13, 0x89, 0x13, 0x88, 1, 2, 3, 4, 0, 0, 0, 0, 0x0b, 0, 0, 4,
+    ];
+    let packet = SctpPacket::from_bytes(rt.alloc(), &bytes, 0, &UNVERIFIED)?;
+    let canonical = canonical_of(rt.alloc(), &packet)?.ok_or("it fits")?;
+    let packet = SctpPacket::from_bytes(rt.alloc(), &other, 0, &UNVERIFIED)?;
+    assert_eq!(rt; packet.common_header.source_port, 5001);
+    let other = canonical_of(rt.alloc(), &packet)?.ok_or("it fits")?;
+    assert!(rt; canonical.as_slice() != other.as_slice());
+    Ok(())
+}
+
+#[test]
 fn refused(rt: HostRuntime) -> Result<(), Fail> {
-    let rows: [(&[u8], PacketParseError); 13] = [
+    let rows: [(&[u8], PacketParseError); 21] = [
         // no chunk at all
         (&[], PacketParseError::InvalidPacketSize),
         // fewer bytes than a chunk's header
@@ -143,6 +236,38 @@ fn refused(rt: HostRuntime) -> Result<(), Fail> {
         (&[0x0b, 0, 0, 4, 7, 0, 0, 8], LENGTH),
         // the first of three is at fault
         (&[0x0a, 0, 0, 4, 0x0b, 0, 0, 4, 0x0b, 0, 0, 4], LENGTH),
+        // of four bytes behind a chunk three are its padding, and one is left over
+        (&[0x0a, 0, 0, 5, 0x7f, 0x0b, 0, 0, 4], LENGTH),
+        // a sound chunk with padding, and one behind it whose length is below the header's
+        (&[0x0a, 0, 0, 5, 0x7f, 0, 0, 0, 0x0b, 0, 0, 3], LENGTH),
+        // ERROR without a cause
+        (&[9, 0, 0, 4], LENGTH),
+        // ERROR with half a header of a cause
+        (&[9, 0, 0, 6, 0, 0], LENGTH),
+        // INIT with a byte less than its numbers have
+        (
+            &[1, 0, 0, 19, 0, 0, 0, 1, 0, 0, 0, 2, 0, 3, 0, 4, 0, 0, 0],
+            LENGTH,
+        ),
+        // a response whose result has no meaning
+        (
+            &[0x82, 0, 0, 16, 0, 16, 0, 12, 0, 0, 0, 1, 0, 0, 0, 7],
+            VALUE,
+        ),
+        // the same before a chunk that has no frame
+        (
+            &[
+                0x82, 0, 0, 16, 0, 16, 0, 12, 0, 0, 0, 1, 0, 0, 0, 7, 0x0b, 0, 0, 3,
+            ],
+            VALUE,
+        ),
+        // such a result in a value of a length that none has
+        (
+            &[
+                0x82, 0, 0, 20, 0, 16, 0, 16, 0, 0, 0, 1, 0, 0, 0, 7, 0, 0, 0, 2,
+            ],
+            LENGTH,
+        ),
     ];
     for (chunks, wanted) in rows {
         let bytes = packet_of(rt.alloc(), chunks)?;
@@ -312,11 +437,12 @@ fn empty(rt: HostRuntime) -> Result<(), Fail> {
 fn memory(rt: HostRuntime) -> Result<(), Fail> {
     let bytes = [
         0x13, 0x88, 0x13, 0x88, 1, 2, 3, 4, 0, 0, 0, 0, 0x0a, 0, 0, 5, 0x7f, 0, 0, 0, 0x49, 1, 0,
-        5, 9, 0, 0, 0,
+        5, 9, 0, 0, 0, 6, 0, 0, 11, 0, 12, 0, 7, b'b', b'y', b'e', 0, 0x82, 0, 0, 14, 0, 14, 0, 10,
+        0, 0, 0, 2, 0, 3, 0, 0,
     ];
     match SctpPacket::from_bytes(rt.alloc(), &bytes, 0, &UNVERIFIED) {
         Ok(packet) => {
-            assert_eq!(rt; packet.chunks.len(), 2);
+            assert_eq!(rt; packet.chunks.len(), 4);
             assert!(rt; packet.fits());
             match packet.canonical_bytes(rt.alloc()) {
                 Ok(written) => assert_eq!(rt; written.as_slice(), bytes.as_slice()),
