@@ -138,7 +138,7 @@ fn run(alloc: Global, source: Source<'_>, sink: Sink) -> Outcome {
 
 #[test]
 fn answers(rt: HostRuntime) -> Result<(), Fail> {
-    let rows: [(&str, &str, u8); 13] = [
+    let rows: [(&str, &str, u8); 18] = [
         // A packet, with blanks between its fields and digits of both cases.
         (
             "1388 1388 01020304 00000000 0B000004",
@@ -168,6 +168,36 @@ fn answers(rt: HostRuntime) -> Result<(), Fail> {
             "1388138801020304000000000b000004070000080611d1bd",
             "source=5000 destination=5000 tag=16909060 checksum=0\nCOOKIE-ACK\nSHUTDOWN cumulative_tsn_ack=101831101\ncanonical=1388138801020304000000000b000004070000080611d1bd\n",
             0,
+        ),
+        // A fragment of user data, with padding that it lacks.
+        (
+            "13881388010203040000000000080015 0000007b 01c8 0315 00002382 0102030405",
+            "source=5000 destination=5000 tag=16909060 checksum=0\nDATA, type=ordered::middle, tsn=123, sid=456, ssn=789, ppid=9090, length=5\ncanonical=138813880102030400000000000800150000007b01c80315000023820102030405000000\n",
+            0,
+        ),
+        // A reason that isn't UTF-8: the canonical packet has another in its place.
+        (
+            "13881388010203040000000006000009000c0005ff",
+            "source=5000 destination=5000 tag=16909060 checksum=0\nABORT, tag_reflected=false\ncanonical=13881388010203040000000006000024000c00204661696c656420746f2070617273652061626f727420726561736f6e\n",
+            0,
+        ),
+        // A type without a kind of its own.
+        (
+            "1388138801020304000000006301000509",
+            "source=5000 destination=5000 tag=16909060 checksum=0\nUnknown chunk, type=99\ncanonical=1388138801020304000000006301000509000000\n",
+            0,
+        ),
+        // An answer to a request, with a result that has no meaning.
+        (
+            "138813880102030400000000820000100010000c0000000100000007",
+            "error: invalid chunk: value\n",
+            1,
+        ),
+        // The same, and a chunk without a frame behind it.
+        (
+            "138813880102030400000000820000100010000c00000001000000070b000003",
+            "error: invalid chunk: value\n",
+            1,
         ),
         // The second of two chunks is longer than the packet.
         (
@@ -212,7 +242,7 @@ fn answers(rt: HostRuntime) -> Result<(), Fail> {
 // written by `dcsctp` 0.1.16 behind the same program.
 #[test]
 fn answers_of_the_original(rt: HostRuntime) -> Result<(), Fail> {
-    let rows: [(&str, &str, u8); 9] = [
+    let rows: [(&str, &str, u8); 19] = [
         // Too short.
         (
             "7fff1645649444f1b4659ceb0408",
@@ -267,6 +297,66 @@ fn answers_of_the_original(rt: HostRuntime) -> Result<(), Fail> {
             "source=60226 destination=65535 tag=2852315136 checksum=4135576783\nUnknown chunk, type=15\nSHUTDOWN cumulative_tsn_ack=316994977\nUnknown chunk, type=65\nUnknown chunk, type=63\ncanonical=eb42ffffaa02e000000000000f080008168607330700000812e4f5a141000006132300003f79000adef619d030bf0000\n",
             0,
         ),
+        // An INIT whose length counts its parameter's padding.
+        (
+            "1388138801020304000000000101001c02c7411dc539b23608d043dd9743c6c900090007039a0200",
+            "source=5000 destination=5000 tag=16909060 checksum=0\nINIT, initiate_tag=46612765, initial_tsn=2537801417\ncanonical=1388138801020304000000000100001b02c7411dc539b23608d043dd9743c6c900090007039a0200\n",
+            0,
+        ),
+        // An INIT ACK with padding that isn't zero.
+        (
+            "5f0eaea9fffffffe8000000002010029ac7b02398ebe4f4539990926b34cba40c00000048002000cbcc0cc3f6b465d998002000519ffff",
+            "source=24334 destination=44713 tag=4294967294 checksum=2147483648\nINIT-ACK, initiate_tag=2893742649, initial_tsn=3008150080\ncanonical=5f0eaea9fffffffe0000000002000029ac7b02398ebe4f4539990926b34cba40c00000048002000cbcc0cc3f6b465d998002000519000000\n",
+            0,
+        ),
+        // User data in both forms: flags and reserved bytes become zero.
+        (
+            "1d41f33010714c747fffffff400700177fffffff5c146c49722651f40000000128578c090001001203a0547fadd148f56d9529b2ea05",
+            "source=7489 destination=62256 tag=275860596 checksum=2147483647\nI-DATA, type=unordered::complete, tsn=2147483647, mid=23572, ssn=1915113972, ppid=1, length=3\nDATA, type=ordered::last, tsn=60839039, sid=44497, ssn=18677, ppid=1838492082, length=2\ncanonical=1d41f33010714c7400000000400700177fffffff5c140000722651f40000000128578c000001001203a0547fadd148f56d9529b2ea050000\n",
+            0,
+        ),
+        // A HEARTBEAT and an ERROR, with padding that isn't zero.
+        (
+            "07d3c4ff085f49790eb5633904020014000100069bd2ffff800100080000000009bf0011000900088000000015420005f5",
+            "source=2003 destination=50431 tag=140462457 checksum=246768441\nHEARTBEAT-REQ\nERROR\ncanonical=07d3c4ff085f49790000000004000014000100069bd20000800100080000000009000011000900088000000015420005f5000000\n",
+            0,
+        ),
+        // A HEARTBEAT ACK that counts its last parameter's padding.
+        (
+            "1388138801020304000000000500001800010006d76401010006000b09278388a9d6c600",
+            "source=5000 destination=5000 tag=16909060 checksum=0\nHEARTBEAT-ACK\ncanonical=1388138801020304000000000500001700010006d76400000006000b09278388a9d6c600\n",
+            0,
+        ),
+        // An ABORT with a reason that isn't UTF-8, and two more causes.
+        (
+            "13881388010203040000000006040024000c000e4cecdfbfe0a080efbfbf0000000a000400080009a4a4a6f499000000",
+            "source=5000 destination=5000 tag=16909060 checksum=0\nABORT, tag_reflected=false\ncanonical=13881388010203040000000006000031000c00204661696c656420746f2070617273652061626f727420726561736f6e000a000400080009a4a4a6f499000000\n",
+            0,
+        ),
+        // An ABORT with a sound text.
+        (
+            "13881388010203040000000006030019000d0015557365722063616c6c656420636c6f7365000000",
+            "source=5000 destination=5000 tag=16909060 checksum=0\nABORT, tag_reflected=true\ncanonical=13881388010203040000000006010019000d0015557365722063616c6c656420636c6f7365000000\n",
+            0,
+        ),
+        // An ERROR with two reasons that aren't UTF-8, and two chunks behind it.
+        (
+            "0fb9a957ef2a1e6effffffff09170018000c0005fe000000000c0008f08080af000a00040a030008911aca6b0c10000895ddff39",
+            "source=4025 destination=43351 tag=4012514926 checksum=4294967295\nERROR\nCOOKIE-ECHO, cookie=4 bytes\nUnknown chunk, type=12\ncanonical=0fb9a957ef2a1e6e0000000009000048000c00204661696c656420746f2070617273652061626f727420726561736f6e000c00204661696c656420746f2070617273652061626f727420726561736f6e000a00040a000008911aca6b0c10000895ddff39\n",
+            0,
+        ),
+        // A RE-CONFIG, an ERROR and an unknown chunk.
+        (
+            "1388138801020304000000008210000c00050007d93f4e0009000008000a0004410000051d010100",
+            "source=5000 destination=5000 tag=16909060 checksum=0\nRE-CONFIG\nERROR\nUnknown chunk, type=65\ncanonical=1388138801020304000000008200000b00050007d93f4e0009000008000a0004410000051d000000\n",
+            0,
+        ),
+        // A RE-CONFIG whose first parameter has a result without a meaning.
+        (
+            "1388138801020304000000008200001c0010000caff0f12f16a56c000000051c81000a45cc9fdd42f2",
+            "error: invalid chunk: value\n",
+            1,
+        ),
     ];
     for (text, wanted, status) in rows {
         let sink = make_sink(rt.alloc(), 1000, NEVER, Fault::Error)?;
@@ -303,20 +393,35 @@ fn long_inputs(rt: HostRuntime) -> Result<(), Fail> {
     Ok(())
 }
 
-// A packet whose canonical packet has too many bytes: one chunk of 65,521 bytes.
+// Packets whose canonical packet has too many bytes.
 #[test]
 fn canonical_too_long(rt: HostRuntime) -> Result<(), Fail> {
-    let mut text = Vec::from_slice(rt.alloc(), b"1388138801020304000000000a00fff1")?;
-    for _ in 0..65517 {
-        text.extend_from_slice(b"7f")?;
+    let rows: [(&str, &str, usize, &str); 2] = [
+        // A cookie of 65,517 bytes: a chunk of 65,521, which is padded.
+        (
+            "1388138801020304000000000a00fff1",
+            "7f",
+            65517,
+            "source=5000 destination=5000 tag=16909060 checksum=0\nCOOKIE-ECHO, cookie=65517 bytes\ncanonical too long\n",
+        ),
+        // Reasons that aren't UTF-8, as many as a packet can have: each is replaced by a longer one.
+        (
+            "1388138801020304000000000600ffec",
+            "000c0005ff000000",
+            8189,
+            "source=5000 destination=5000 tag=16909060 checksum=0\nABORT, tag_reflected=false\ncanonical too long\n",
+        ),
+    ];
+    for (front, part, count, wanted) in rows {
+        let mut text = Vec::from_slice(rt.alloc(), front.as_bytes())?;
+        for _ in 0..count {
+            text.extend_from_slice(part.as_bytes())?;
+        }
+        let sink = make_sink(rt.alloc(), 1000, NEVER, Fault::Error)?;
+        let outcome = run(rt.alloc(), make_source(&text, 1_000_000, NEVER), sink);
+        assert_eq!(rt; outcome.bytes.as_slice(), wanted.as_bytes(), "{front}");
+        assert_eq!(rt; outcome.status, 0, "{front}");
     }
-    let sink = make_sink(rt.alloc(), 1000, NEVER, Fault::Error)?;
-    let outcome = run(rt.alloc(), make_source(&text, 1_000_000, NEVER), sink);
-    assert_eq!(rt;
-        outcome.bytes.as_slice(),
-        b"source=5000 destination=5000 tag=16909060 checksum=0\nCOOKIE-ECHO, cookie=65517 bytes\ncanonical too long\n".as_slice()
-    );
-    assert_eq!(rt; outcome.status, 0);
     Ok(())
 }
 
