@@ -2,6 +2,7 @@
 #![tactic(auto)]
 
 mod answer;
+mod captured;
 mod engine;
 mod failure;
 #[cfg(test)]
