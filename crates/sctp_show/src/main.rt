@@ -7,6 +7,8 @@ mod engine;
 mod failure;
 #[cfg(test)]
 mod tests;
+#[cfg(test)]
+mod tests_devices;
 mod text;
 mod watched;
 
