@@ -2,10 +2,13 @@
 #![tactic(auto)]
 
 mod answer;
+mod captured;
 mod engine;
 mod failure;
 #[cfg(test)]
 mod tests;
+#[cfg(test)]
+mod tests_devices;
 mod text;
 mod watched;
 
