@@ -1,14 +1,14 @@
 -- What each kind owes the laws of its level.
-use Rattle.std.proofs.Common.{◌≡◌, ℕ, ◌+◌, ◌<◌, ◌^◌, Bool, true, false, cond, List, length, drop, refl, sym, ap, subst, ◌∙◌, arith, inl, inr, Some, Result, Ok, Err}
+use Rattle.std.proofs.Common.{◌≡◌, ℕ, ◌+◌, ◌<◌, ◌^◌, Bool, true, false, cond, List, length, drop, refl, sym, ap, subst, ◌∙◌, arith, inl, inr, Some, Ok}
 use Rattle.std.specs.Prelude.{◌==◌, nat_lt}
 use Rattle.std.proofs.lemmas.Bool.{eqb-true, ltb-false, le-ltb}
 use Rattle.std.proofs.lemmas.Bool.Decides.{eqb_tells}
 use Rattle.std.proofs.lemmas.List.{length-map, length-drop, nil_from_length}
 use Rattle.std.proofs.lemmas.Nat.{from_be_bytes-to_be_bytes_2, from_be_bytes-to_be_bytes_4}
-use Rattle.dcsctp_tlv.specs.Fault.{Fault, Length}
+use Rattle.dcsctp_tlv.specs.Fault.{Length}
 use Rattle.dcsctp_tlv.specs.Image.{zeroed}
 use Rattle.dcsctp_tlv.specs.Number.{number32}
-use Rattle.dcsctp_tlv.proofs.KindLaws.{KindLaws, KeepsSize}
+use Rattle.dcsctp_tlv.proofs.KindLaws.{KindLaws, KeepsSize, of_ok, passed, not_refused}
 use Rattle.dcsctp_tlv.proofs.ReadsBack.{zeroed-solid}
 use Rattle.dcsctp_chunk.specs.CookieAck.{cookie_ack_at, cookie_ack_tlv}
 use Rattle.dcsctp_chunk.specs.CookieEcho.{cookie_echo_at, cookie_echo_tlv, IsCookieEchoInWidth, IsCookieEchoWellFormed}
@@ -21,21 +21,6 @@ use Rattle.dcsctp_chunk.specs.ShutdownAck.{shutdown_ack_at, shutdown_ack_tlv}
 use Rattle.dcsctp_chunk.specs.ShutdownComplete.{shutdown_complete_at, shutdown_complete_tlv}
 use Rattle.dcsctp_chunk.specs.Unknown.{UnknownTree, unknown_at, unknown_tlv, IsUnknownInWidth}
 use Rattle.dcsctp_chunk.proofs.FlagLaws.{one_again, four_again}
-
--- ---- what was read
-
--- of a value that has the size that is wanted
-read_where : {T : Type 0} (b : Bool) (x t : T) (e : Fault) → cond b (Ok x) (Err e) ≡ Ok t → (b ≡ true) × (x ≡ t)
-read_where true x t e is = (refl, cc)
-read_where false x t e is = absurd cc
-
--- of a value that isn't refused
-read_unless : {T : Type 0} (b : Bool) (x t : T) (e : Fault) → cond b (Err e) (Ok x) ≡ Ok t → (b ≡ false) × (x ≡ t)
-read_unless false x t e is = (refl, cc)
-read_unless true x t e is = absurd cc
-
-read_as : {T : Type 0} (x t : T) (r : Result T Fault) → r ≡ Ok x → r ≡ Ok t → x ≡ t
-read_as x t r e is = cc
 
 -- ---- SHUTDOWN
 
@@ -50,7 +35,7 @@ shutdown_laws = record {
 pub shutdown_keeps_size : KeepsSize (λ first flags value. shutdown_at value) shutdown_tlv
 unfolding shutdown_at
 shutdown_keeps_size first flags value tsn is =
-    let e = eqb-true _ _ (read_where (length value == 4) _ tsn Length is).0 in
+    let e = eqb-true _ _ (passed (length value == 4) _ Length tsn is).0 in
     omega (arith, e)
 
 -- ---- SHUTDOWN ACK
@@ -66,7 +51,7 @@ shutdown_ack_laws = record {
 pub shutdown_ack_keeps_size : KeepsSize (λ first flags value. shutdown_ack_at value) (λ u. shutdown_ack_tlv)
 unfolding shutdown_ack_at
 shutdown_ack_keeps_size first flags value u is =
-    let e = eqb-true _ _ (read_where (length value == 0) _ u Length is).0 in
+    let e = eqb-true _ _ (passed (length value == 0) _ Length u is).0 in
     omega (arith, e)
 
 -- ---- SHUTDOWN COMPLETE
@@ -82,7 +67,7 @@ shutdown_complete_laws = record {
 pub shutdown_complete_keeps_size : KeepsSize (λ first flags value. shutdown_complete_at flags value) shutdown_complete_tlv
 unfolding shutdown_complete_at
 shutdown_complete_keeps_size first flags value tag_reflected is =
-    let e = eqb-true _ _ (read_where (length value == 0) _ tag_reflected Length is).0 in
+    let e = eqb-true _ _ (passed (length value == 0) _ Length tag_reflected is).0 in
     omega (arith, e)
 
 -- ---- COOKIE ECHO
@@ -96,14 +81,14 @@ cookie_echo_laws = record {
     | inr p ↦ rw (zeroed-solid cookie, p.0) refl
   ];
   formed = λ first flags value cookie is none.
-      (let p = read_unless (length value == 0) value cookie Length is in
-      let empty : (length value == 0) ≡ true = ap (λ (xs : List ℕ). length xs == 0) (p.1 ∙ none) in
+      (let p = not_refused (length value == 0) _ Length cookie is in
+      let empty : (length value == 0) ≡ true = ap (λ (xs : List ℕ). length xs == 0) (of_ok value cookie p.1 ∙ none) in
       absurd (let e : true ≡ false = sym empty ∙ p.0 in cc));
 }
 
 pub cookie_echo_keeps_size : KeepsSize (λ first flags value. cookie_echo_at value) cookie_echo_tlv
 unfolding cookie_echo_at
-cookie_echo_keeps_size first flags value cookie is = ap (λ (xs : List ℕ). 4 + length xs) (sym (read_unless (length value == 0) value cookie Length is).1)
+cookie_echo_keeps_size first flags value cookie is = ap (λ (xs : List ℕ). 4 + length xs) (sym (of_ok value cookie (not_refused (length value == 0) _ Length cookie is).1))
 
 -- ---- COOKIE ACK
 
@@ -118,7 +103,7 @@ cookie_ack_laws = record {
 pub cookie_ack_keeps_size : KeepsSize (λ first flags value. cookie_ack_at value) (λ u. cookie_ack_tlv)
 unfolding cookie_ack_at
 cookie_ack_keeps_size first flags value u is =
-    let e = eqb-true _ _ (read_where (length value == 0) _ u Length is).0 in
+    let e = eqb-true _ _ (passed (length value == 0) _ Length u is).0 in
     omega (arith, e)
 
 -- ---- Unknown: which types aren't named is said where the table is
@@ -133,7 +118,7 @@ unknown_laws = record {
 
 pub unknown_keeps_size : KeepsSize unknown_at unknown_tlv
 unfolding unknown_at
-unknown_keeps_size first flags value u is = ap (λ (t : UnknownTree). 4 + length t.value) (sym (read_as (record { typ = first; flags = flags; value = value }) u (unknown_at first flags value) refl is))
+unknown_keeps_size first flags value u is = ap (λ (t : UnknownTree). 4 + length t.value) (sym (of_ok (record { typ = first; flags = flags; value = value }) u is))
 
 -- ---- DATA
 
@@ -174,15 +159,15 @@ data_laws = record {
   sized = λ c. length-map (data_bytes c) Some;
   back = λ c width form encodable. data_back c width ∙ ap (λ (t : DataChunkTree). Ok t) (kept_data_is c form);
   formed = λ first flags value c is.
-      (let p = (read_unless (nat_lt (length value) 12) _ c Length is).1 in
+      (let p = of_ok _ c (not_refused (nat_lt (length value) 12) _ Length c is).1 in
       record { mid = ap (λ (t : DataChunkTree). t.user_data.mid) (sym p); fsn = ap (λ (t : DataChunkTree). t.user_data.fsn) (sym p) });
 }
 
 pub data_keeps_size : KeepsSize (λ first flags value. data_at flags value) data_tlv
 unfolding data_at
 data_keeps_size first flags value c is =
-    let p = read_unless (nat_lt (length value) 12) _ c Length is in
-    let payload : length (drop 12 value) ≡ length c.user_data.payload = ap (λ (t : DataChunkTree). length t.user_data.payload) p.1 in
+    let p = not_refused (nat_lt (length value) 12) _ Length c is in
+    let payload : length (drop 12 value) ≡ length c.user_data.payload = ap (λ (t : DataChunkTree). length t.user_data.payload) (of_ok _ c p.1) in
     omega (arith, ltb-false _ _ p.0, length-drop 12 value, payload)
 
 -- what isn't carried is neither written nor read
@@ -262,7 +247,7 @@ idata_laws = record {
   sized = λ c. length-map (idata_bytes c) Some;
   back = λ c width form encodable. idata_back c width ∙ ap (λ (t : DataChunkTree). Ok t) (kept_idata_is c form);
   formed = λ first flags value c is.
-      (let p = (read_unless (nat_lt (length value) 16) _ c Length is).1 in
+      (let p = of_ok _ c (not_refused (nat_lt (length value) 16) _ Length c is).1 in
       let number = number32 (drop 12 value) in
       subst IsIDataWellFormed p (record { ssn = refl; fsn_or_ppid = other_number (is_set flags 1) number number }));
 }
@@ -270,8 +255,8 @@ idata_laws = record {
 pub idata_keeps_size : KeepsSize (λ first flags value. idata_at flags value) idata_tlv
 unfolding idata_at
 idata_keeps_size first flags value c is =
-    let p = read_unless (nat_lt (length value) 16) _ c Length is in
-    let payload : length (drop 16 value) ≡ length c.user_data.payload = ap (λ (t : DataChunkTree). length t.user_data.payload) p.1 in
+    let p = not_refused (nat_lt (length value) 16) _ Length c is in
+    let payload : length (drop 16 value) ≡ length c.user_data.payload = ap (λ (t : DataChunkTree). length t.user_data.payload) (of_ok _ c p.1) in
     omega (arith, ltb-false _ _ p.0, length-drop 16 value, payload)
 
 -- what isn't carried is neither written nor read

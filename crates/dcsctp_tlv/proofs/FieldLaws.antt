@@ -7,36 +7,47 @@ use Rattle.std.proofs.lemmas.Nat.{from_be_bytes-to_be_bytes_2, from_be_bytes-to_
 use Rattle.dcsctp_tlv.specs.Number.{number16, number32, numbers}
 use Rattle.dcsctp_tlv.specs.Fields.{fields}
 
+-- so many are read
 pub length-fields : {A : Type 0} (read : List ℕ → A) (size count : ℕ) (bytes : List ℕ) → length (fields read size count bytes) ≡ count
 length-fields read size zero bytes = refl
 length-fields read size (suc count) bytes = ap suc (length-fields read size count (drop size bytes))
 
--- one field: it has its size, and what is written is read again, whatever follows
-pub record FieldLaw {A : Type 0} (read : List ℕ → A) (write : A → List ℕ) (size : ℕ) (IsInWidth : A → Type 0) : Type 0 where
-  pub sized : (x : A) → length (write x) ≡ size
-  pub back : (x : A) (rest : List ℕ) → IsInWidth x → read (write x ++ rest) ≡ x
+-- what holds of whatever is read holds of each of them
+pub fields_each : {A : Type 0} (read : List ℕ → A) (size : ℕ) (P : A → Type 0) → ((bytes : List ℕ) → P (read bytes)) → (count : ℕ) (bytes : List ℕ) → AllByRecursion P (fields read size count bytes)
+fields_each read size P each zero bytes = tt
+fields_each read size P each (suc count) bytes = (each bytes, fields_each read size P each count (drop size bytes))
 
-pub fields_back : {A : Type 0} (read : List ℕ → A) (write : A → List ℕ) (size : ℕ) (IsInWidth : A → Type 0) → FieldLaw read write size IsInWidth
-    → (xs : List A) (rest : List ℕ) → AllByRecursion IsInWidth xs → fields read size (length xs) (flat_map write xs ++ rest) ≡ xs
-fields_back read write size IsInWidth law [] rest h = refl
-fields_back read write size IsInWidth law (x ∷ xs) rest h =
+-- one field that can be written: it has its size, and is read again, whatever follows
+pub record FieldLaw {A : Type 0} (read : List ℕ → A) (write : A → List ℕ) (size : ℕ) (IsWritable : A → Type 0) : Type 0 where
+  pub sized : (x : A) → IsWritable x → length (write x) ≡ size
+  pub back : (x : A) (rest : List ℕ) → IsWritable x → read (write x ++ rest) ≡ x
+
+pub fields_back : {A : Type 0} (read : List ℕ → A) (write : A → List ℕ) (size : ℕ) (IsWritable : A → Type 0) → FieldLaw read write size IsWritable
+    → (xs : List A) (rest : List ℕ) → AllByRecursion IsWritable xs → fields read size (length xs) (flat_map write xs ++ rest) ≡ xs
+fields_back read write size IsWritable law [] rest h = refl
+fields_back read write size IsWritable law (x ∷ xs) rest h =
     let behind : List ℕ = flat_map write xs ++ rest in
     let e : flat_map write (x ∷ xs) ++ rest ≡ write x ++ behind = append_assoc (write x) (flat_map write xs) rest in
     ap (λ (bytes : List ℕ). read bytes ∷ fields read size (length xs) (drop size bytes)) e
     ∙ ap (λ (y : _). y ∷ fields read size (length xs) (drop size (write x ++ behind))) (law.back x behind h.0)
-    ∙ ap (λ (bytes : List ℕ). x ∷ fields read size (length xs) bytes) (drop_at (write x) behind size (law.sized x))
-    ∙ ap (λ (ys : List _). x ∷ ys) (fields_back read write size IsInWidth law xs rest h.1)
+    ∙ ap (λ (bytes : List ℕ). x ∷ fields read size (length xs) bytes) (drop_at (write x) behind size (law.sized x h.0))
+    ∙ ap (λ (ys : List _). x ∷ ys) (fields_back read write size IsWritable law xs rest h.1)
+
+-- with nothing behind them
+pub last_fields_back : {A : Type 0} (read : List ℕ → A) (write : A → List ℕ) (size : ℕ) (IsWritable : A → Type 0) → FieldLaw read write size IsWritable
+    → (xs : List A) (count : ℕ) → count ≡ length xs → AllByRecursion IsWritable xs → fields read size count (flat_map write xs) ≡ xs
+last_fields_back read write size IsWritable law xs count e h = rw (e, ← append-nil (flat_map write xs)) (fields_back read write size IsWritable law xs [] h)
 
 -- ---- numbers
 
 pub number16_law : FieldLaw number16 (to_be_bytes w16) 2 (λ n. n < 2 ^ 16)
-number16_law = record { sized = λ n. refl; back = λ n rest lt. from_be_bytes-to_be_bytes_2 n lt }
+number16_law = record { sized = λ n lt. refl; back = λ n rest lt. from_be_bytes-to_be_bytes_2 n lt }
 
 pub number32_law : FieldLaw number32 (to_be_bytes w32) 4 (λ n. n < 2 ^ 32)
-number32_law = record { sized = λ n. refl; back = λ n rest lt. from_be_bytes-to_be_bytes_4 n lt }
+number32_law = record { sized = λ n lt. refl; back = λ n rest lt. from_be_bytes-to_be_bytes_4 n lt }
 
 pub numbers16_back : (ns : List ℕ) (count : ℕ) → count ≡ length ns → AllByRecursion (λ n. n < 2 ^ 16) ns → fields number16 2 count (numbers w16 ns) ≡ ns
-numbers16_back ns count e h = rw (e, ← append-nil (numbers w16 ns)) (fields_back number16 (to_be_bytes w16) 2 _ number16_law ns [] h)
+numbers16_back ns count e h = last_fields_back number16 (to_be_bytes w16) 2 _ number16_law ns count e h
 
 pub numbers32_back : (ns : List ℕ) (count : ℕ) → count ≡ length ns → AllByRecursion (λ n. n < 2 ^ 32) ns → fields number32 4 count (numbers w32 ns) ≡ ns
-numbers32_back ns count e h = rw (e, ← append-nil (numbers w32 ns)) (fields_back number32 (to_be_bytes w32) 4 _ number32_law ns [] h)
+numbers32_back ns count e h = last_fields_back number32 (to_be_bytes w32) 4 _ number32_law ns count e h
