@@ -1,7 +1,8 @@
-//! The gap ack blocks of a SACK: whether they are in order, and their cleaning.
+//! The gap ack blocks of a SACK (RFC 9260 section 3.3.4): whether they are in order, and their
+//! cleaning.
 //!
-//! A block covers the offsets from its start to its end; one that ends before its start covers
-//! none.
+//! A block covers the offsets from its start to its end, counted from the cumulative TSN; one that
+//! ends before its start covers none.
 
 ghost use Rattle.std.specs.Prelude.{◌≡◌, ◌↔◌, ℕ, ◌+◌, ◌<◌, ◌≤◌, ◌^◌, List, length, IsTrue, take};
 ghost use Rattle.std.specs.List.{All};

@@ -36,7 +36,7 @@ use dcsctp_types::types::Tsn;
 use std::alloc::Global;
 use std::fmt;
 
-/// The type of this chunk.
+/// The type of SACK.
 pub const CHUNK_TYPE: u8 = 3;
 
 /// Bytes of the value before the gap ack blocks.
@@ -52,7 +52,8 @@ pub struct GapAckBlock {
 }
 
 impl GapAckBlock {
-    /// The block from `start` to `end`, both counted from the cumulative TSN.
+    /// The block from `start` to `end`, both counted from the cumulative TSN. Any two numbers make
+    /// one, also where it ends before its start.
     pub fn new(start: u16, end: u16) -> Self
         ensures start { result.start ≡ start }
         ensures end { result.end ≡ end }
@@ -102,7 +103,8 @@ pub struct SackChunk {
     pub cumulative_tsn_ack: Tsn,
     /// Bytes that the receiver has room for.
     pub a_rwnd: u32,
-    /// What was received behind the first missing TSN.
+    /// What was received behind the first missing TSN. They are read and written as they are, in
+    /// any order.
     pub gap_ack_blocks: Vec<GapAckBlock>,
     /// The TSNs that came more than once, as often as they came again.
     pub duplicate_tsns: Vec<Tsn>,
