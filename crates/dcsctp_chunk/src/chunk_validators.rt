@@ -1,7 +1,8 @@
-//! The gap ack blocks of a SACK: whether they are in order, and their cleaning.
+//! The gap ack blocks of a SACK (RFC 9260 section 3.3.4): whether they are in order, and their
+//! cleaning.
 //!
-//! A block covers the offsets from its start to its end; one that ends before its start covers
-//! none.
+//! A block covers the offsets from its start to its end, counted from the cumulative TSN; one that
+//! ends before its start covers none.
 
 ghost use Rattle.std.specs.Prelude.{◌≡◌, ◌↔◌, ℕ, ◌+◌, ◌<◌, ◌≤◌, ◌^◌, List, length, IsTrue, take};
 ghost use Rattle.std.specs.List.{All};
@@ -89,10 +90,16 @@ fn merge(blocks: &mut [GapAckBlock]) -> usize
     if blocks.is_empty() {
         return 0;
     }
-    let mut run = blocks[0];
+    let mut run = GapAckBlock {
+        start: blocks[0].start,
+        end: blocks[0].end,
+    };
     let mut kept = 0;
     for i in 1..blocks.len() {
-        let block = blocks[i];
+        let block = GapAckBlock {
+            start: blocks[i].start,
+            end: blocks[i].end,
+        };
         // an end can be 65,535, so one is taken from the start
         if block.start.saturating_sub(1) <= run.end {
             run.end = run.end.max(block.end);

@@ -3,7 +3,7 @@
 ghost use Rattle.std.specs.Prelude.{◌≡◌, ◌<◌, [], ◌∷◌};
 ghost use Rattle.dcsctp_chunk.specs.Flags as bits;
 
-/// Whether a bit is set; the lowest is bit 0.
+/// Whether a bit is set: the lowest is bit 0, and the highest bit 7.
 #[tactic(auto, using(std::proofs::lemmas::Nat::Bits::shr_and_one))]
 pub fn is_set(flags: u8, bit: u32) -> bool
     requires { bit < 8 }

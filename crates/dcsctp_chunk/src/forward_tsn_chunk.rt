@@ -31,7 +31,7 @@ use dcsctp_types::types::{Ssn, Tsn};
 use std::alloc::Global;
 use std::fmt;
 
-/// The type of this chunk.
+/// The type of FORWARD-TSN.
 pub const CHUNK_TYPE: u8 = 192;
 
 /// Bytes of the value before the skipped streams.

@@ -35,7 +35,7 @@ use dcsctp_types::types::{Mid, StreamKey, Tsn};
 use std::alloc::Global;
 use std::fmt;
 
-/// The type of this chunk.
+/// The type of I-FORWARD-TSN.
 pub const CHUNK_TYPE: u8 = 194;
 
 /// Bytes of the value before the skipped streams.

@@ -36,14 +36,14 @@ use dcsctp_types::types::Tsn;
 use std::alloc::Global;
 use std::fmt;
 
-/// The type of this chunk.
+/// The type of SACK.
 pub const CHUNK_TYPE: u8 = 3;
 
 /// Bytes of the value before the gap ack blocks.
 const FIXED_SIZE: usize = 12;
 
 /// A run of TSNs that came behind the first one that is missing (RFC 9260 section 3.3.4).
-#[derive(Clone, Copy, Debug, PartialEq, Eq)]
+#[derive(Debug, Clone, PartialEq, Eq, Drop)]
 pub struct GapAckBlock {
     /// The first TSN, as its offset from the cumulative TSN.
     pub start: u16,
@@ -52,7 +52,8 @@ pub struct GapAckBlock {
 }
 
 impl GapAckBlock {
-    /// The block from `start` to `end`, both counted from the cumulative TSN.
+    /// The block from `start` to `end`, both counted from the cumulative TSN. Any two numbers make
+    /// one, also where it ends before its start.
     pub fn new(start: u16, end: u16) -> Self
         ensures start { result.start ≡ start }
         ensures end { result.end ≡ end }
@@ -102,7 +103,8 @@ pub struct SackChunk {
     pub cumulative_tsn_ack: Tsn,
     /// Bytes that the receiver has room for.
     pub a_rwnd: u32,
-    /// What was received behind the first missing TSN.
+    /// What was received behind the first missing TSN. They are read and written as they are, in
+    /// any order.
     pub gap_ack_blocks: Vec<GapAckBlock>,
     /// The TSNs that came more than once, as often as they came again.
     pub duplicate_tsns: Vec<Tsn>,
