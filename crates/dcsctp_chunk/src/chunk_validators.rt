@@ -90,16 +90,10 @@ fn merge(blocks: &mut [GapAckBlock]) -> usize
     if blocks.is_empty() {
         return 0;
     }
-    let mut run = GapAckBlock {
-        start: blocks[0].start,
-        end: blocks[0].end,
-    };
+    let mut run = blocks[0];
     let mut kept = 0;
     for i in 1..blocks.len() {
-        let block = GapAckBlock {
-            start: blocks[i].start,
-            end: blocks[i].end,
-        };
+        let block = blocks[i];
         // an end can be 65,535, so one is taken from the start
         if block.start.saturating_sub(1) <= run.end {
             run.end = run.end.max(block.end);

@@ -43,7 +43,7 @@ pub const CHUNK_TYPE: u8 = 3;
 const FIXED_SIZE: usize = 12;
 
 /// A run of TSNs that came behind the first one that is missing (RFC 9260 section 3.3.4).
-#[derive(Debug, Clone, PartialEq, Eq, Drop)]
+#[derive(Clone, Copy, Debug, PartialEq, Eq)]
 pub struct GapAckBlock {
     /// The first TSN, as its offset from the cumulative TSN.
     pub start: u16,
