@@ -1,10 +1,10 @@
 -- Reading is local: behind items that fill words, a list goes on as if it began there.
-use Rattle.std.proofs.Common.{◌≡◌, ℕ, suc, ◌+◌, ◌-◌, ◌%◌, ◌≤◌, List, [], ◌∷◌, ◌++◌, length, refl, sym, ap, subst, ◌∙◌, append_assoc, arith}
+use Rattle.std.proofs.Common.{◌≡◌, ℕ, ◌+◌, ◌%◌, List, [], ◌∷◌, ◌++◌, length, sym, ap, subst, ◌∙◌, append_assoc, arith}
 use Rattle.std.specs.List.{flat_map, AllByRecursion}
 use Rattle.std.proofs.lemmas.List.{append-nil, length-append}
 use Rattle.std.proofs.lemmas.List.Concat.{flat_map-append}
 use Rattle.dcsctp_tlv.specs.Fault.{Fault}
-use Rattle.dcsctp_tlv.specs.Frame.{padding_size, Item, item_bytes, PaddingRule, IsWhole, IsLastForm, AreFormed}
+use Rattle.dcsctp_tlv.specs.Frame.{Item, item_bytes, PaddingRule, IsWhole, IsLastForm, AreFormed}
 use Rattle.dcsctp_tlv.specs.Level.{Level, ItemsMean, MeansTrees, HasFault}
 use Rattle.dcsctp_tlv.proofs.Accounts.{length-item}
 

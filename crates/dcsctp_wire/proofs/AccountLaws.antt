@@ -1,15 +1,14 @@
 -- What was read is written again in the same space, and has no more parts than words: a line a kind.
-use Rattle.std.proofs.Common.{◌≡◌, ◌≢◌, ℕ, ◌+◌, ◌-◌, ◌*◌, ◌≤◌, Bool, true, List, [], ◌∷◌, length, drop, refl, sym, ap, subst, ◌∙◌, arith, ◌⊎◌, inl, inr, Result}
+use Rattle.std.proofs.Common.{◌≡◌, ℕ, ◌+◌, ◌-◌, ◌*◌, ◌≤◌, List, length, drop, refl, sym, ap, subst, ◌∙◌, arith, ◌⊎◌, inl, inr, Result}
 use Rattle.std.specs.Prelude.{◌==◌}
 use Rattle.std.specs.List.{AllByRecursion}
 use Rattle.std.proofs.lemmas.Bool.{leb-true, eqb-true}
 use Rattle.std.proofs.lemmas.List.{length-drop}
 use Rattle.dcsctp_tlv.specs.Fault.{Fault}
 use Rattle.dcsctp_tlv.proofs.KindLaws.{of_map_ok}
-use Rattle.dcsctp_tlv.specs.Frame.{Item, AreItems, lenient, round_up_to_4}
+use Rattle.dcsctp_tlv.specs.Frame.{Item, AreItems, lenient}
 use Rattle.dcsctp_tlv.specs.Level.{Row, plain, as_row, map_ok, MeansTrees}
-use Rattle.dcsctp_tlv.specs.Image.{Tlv, size_of, list_size}
-use Rattle.dcsctp_tlv.specs.Count.{total}
+use Rattle.dcsctp_tlv.specs.Image.{size_of, list_size}
 use Rattle.dcsctp_tlv.specs.Parameter.{ParameterTree, parameters, parameter_tlv}
 use Rattle.dcsctp_tlv.proofs.Forms.{picked}
 use Rattle.dcsctp_tlv.proofs.Accounts.{SameSpace, Accounts, plain_account, all_account, list_account}

@@ -1,12 +1,11 @@
 -- Each kind of chunk reads back, and reads only what is well-formed: a line a kind.
-use Rattle.std.proofs.Common.{◌≡◌, ◌≢◌, ℕ, ◌+◌, ◌^◌, ◌<◌, ◌≤◌, Bool, true, false, List, [], ◌∷◌, refl, sym, ap, subst, ◌∙◌, arith, Result, Ok, Some, inl, inr}
+use Rattle.std.proofs.Common.{◌≡◌, ◌≢◌, ℕ, true, false, List, [], ◌∷◌, refl, sym, ap, subst, ◌∙◌, arith}
 use Rattle.std.specs.Prelude.{◌==◌, length, drop}
 use Rattle.std.specs.List.{AllByRecursion}
-use Rattle.std.specs.Int.{w32, to_be_bytes}
 use Rattle.std.proofs.lemmas.Bool.{le-leb, eqb-false, ne_eqb}
 use Rattle.std.proofs.lemmas.Nat.{from_be_bytes-to_be_bytes_2, from_be_bytes-to_be_bytes_4}
-use Rattle.dcsctp_tlv.specs.Level.{Row, plain, as_row, map_ok, MeansTrees}
-use Rattle.dcsctp_tlv.specs.Image.{zeroed, image_of, list_image, list_size, IsEncodable}
+use Rattle.dcsctp_tlv.specs.Level.{plain, as_row, map_ok, MeansTrees}
+use Rattle.dcsctp_tlv.specs.Image.{zeroed, image_of, list_image, IsEncodable}
 use Rattle.dcsctp_tlv.specs.Parameter.{ParameterTree, parameters, parameter_tlv, length-parameter}
 use Rattle.dcsctp_tlv.specs.WellFormedParameter.{IsParameterInWidth, IsParameterWellFormed}
 use Rattle.dcsctp_tlv.proofs.KindLaws.{of_ok}

@@ -1,15 +1,15 @@
 -- The kept form of a chunk is written alike, and is well-formed: a line a kind.
-use Rattle.std.proofs.Common.{◌≡◌, ℕ, ◌^◌, ◌<◌, List, [], ◌∷◌, ◌++◌, refl, sym, ap, subst, ◌∙◌}
-use Rattle.std.specs.Prelude.{map, replicate}
-use Rattle.std.specs.List.{AllByRecursion, flat_map}
+use Rattle.std.proofs.Common.{◌≡◌, ℕ, List, [], ◌∷◌, ◌++◌, refl, sym, ap, subst, ◌∙◌}
+use Rattle.std.specs.Prelude.{replicate}
+use Rattle.std.specs.List.{flat_map}
 use Rattle.dcsctp_tlv.specs.Image.{zeroed, gap, Tlv, image_of, size_of, IsEncodable, listed_tlv}
 use Rattle.dcsctp_tlv.specs.Parameter.{ParameterTree, parameter_tlv}
-use Rattle.dcsctp_tlv.specs.WellFormedParameter.{IsParameterInWidth, IsParameterTyped, IsParameterWellFormed, kept_parameter, kept_parameters}
+use Rattle.dcsctp_tlv.specs.WellFormedParameter.{kept_parameter, kept_parameters}
 use Rattle.dcsctp_tlv.proofs.Kept.{listed_tlv-kept}
 use Rattle.dcsctp_tlv.proofs.ParameterLaws.{kept_parameter_tlv, kept_parameters_formed, kept_parameters_width}
 use Rattle.dcsctp_chunk.proofs.Laws.{data_kept_tlv, data_kept_formed, data_kept_width, idata_kept_tlv, idata_kept_formed, idata_kept_width}
-use Rattle.dcsctp_wire.specs.Init.{InitTree, init_numbers}
-use Rattle.dcsctp_wire.specs.Chunk.{ChunkTree, Data, Init, InitAck, Sack, HeartbeatRequest, HeartbeatAck, Abort, Shutdown, ShutdownAck, Error, CookieEcho, CookieAck, ShutdownComplete, ReConfig, ForwardTsn, IData, IForwardTsn, Unknown, chunk_tlv, IsChunkEncodable}
+use Rattle.dcsctp_wire.specs.Init.{init_numbers}
+use Rattle.dcsctp_wire.specs.Chunk.{ChunkTree, Data, Init, InitAck, HeartbeatRequest, HeartbeatAck, ReConfig, ForwardTsn, IData, IForwardTsn, chunk_tlv, IsChunkEncodable}
 use Rattle.dcsctp_wire.specs.WellFormed.{IsChunkInWidth, IsChunkWellFormed}
 use Rattle.dcsctp_wire.specs.Canonical.{canonical, padded_chunk}
 use Rattle.dcsctp_wire.specs.Kept.{kept_chunk, kept_chunks, IsChunkReadable}

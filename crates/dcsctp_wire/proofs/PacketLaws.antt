@@ -1,5 +1,5 @@
 -- What holds of every packet that is read, and of what is read behind others.
-use Rattle.std.proofs.Common.{◌≡◌, ◌≢◌, ℕ, ◌+◌, ◌-◌, ◌*◌, ◌/◌, ◌%◌, ◌≤◌, List, [], ◌∷◌, ◌++◌, length, Result, Ok, Err, refl, sym, ap, subst, ◌∙◌, arith}
+use Rattle.std.proofs.Common.{◌≡◌, ℕ, ◌+◌, ◌-◌, ◌/◌, ◌%◌, ◌≤◌, List, [], ◌∷◌, ◌++◌, length, Result, Ok, Err, refl, sym, ap, subst, ◌∙◌, arith}
 use Rattle.std.specs.Prelude.{IfOk}
 use Rattle.std.specs.List.{AllByRecursion}
 use Rattle.std.proofs.lemmas.List.{length-drop, drop-append-le}
@@ -16,8 +16,8 @@ use Rattle.dcsctp_wire.specs.declared.packet.sctp_packet.ChecksumPolicy.{Checksu
 use Rattle.dcsctp_wire.specs.declared.packet.sctp_packet.PacketParseError.{PacketParseError}
 use Rattle.dcsctp_wire.specs.declared.packet.sctp_packet.SctpPacket.{SctpPacket}
 use Rattle.dcsctp_wire.specs.Chunk.{ChunkTree, ForwardTsn, IForwardTsn, chunks, chunk_tlv, IsChunkEncodable}
-use Rattle.dcsctp_wire.specs.Packet.{Meaning, PacketTree, HasPacketSize, body, IsOpened, MeansPacket, Chunk, packet_with, Answer, Reads, packet_view}
-use Rattle.dcsctp_wire.specs.Canonical.{padded_size, Fits}
+use Rattle.dcsctp_wire.specs.Packet.{PacketTree, HasPacketSize, body, IsOpened, MeansPacket, Chunk, packet_with, Answer, Reads, packet_view}
+use Rattle.dcsctp_wire.specs.Canonical.{padded_size}
 use Rattle.dcsctp_wire.specs.WellFormed.{IsChunkWellFormed, IsWellFormed}
 use Rattle.dcsctp_wire.specs.Account.{AreTextsKept, KeepsTexts, KeepsSize, chunk_parts, node_count}
 use Rattle.dcsctp_wire.proofs.ChunkLaws.{chunks_form}

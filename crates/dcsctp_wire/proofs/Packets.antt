@@ -1,5 +1,5 @@
 -- Each input has one answer; and what the code answers where a chunk is at fault.
-use Rattle.std.proofs.Common.{◌≡◌, ◌≢◌, ℕ, ◌+◌, List, length, drop, Result, Ok, Err, refl, sym, ap, ◌∙◌, arith, ◌⊎◌, inl, inr, Bool, true, false}
+use Rattle.std.proofs.Common.{◌≡◌, ◌≢◌, ℕ, ◌+◌, List, length, Result, Ok, Err, refl, sym, ap, ◌∙◌, arith, ◌⊎◌, inl, inr, Bool, true, false}
 use Rattle.std.specs.Prelude.{◌==◌}
 use Rattle.std.proofs.lemmas.Bool.{cases_lt}
 use Rattle.std.proofs.lemmas.Bool.Decides.{eqb_tells}
@@ -7,7 +7,7 @@ use Rattle.std.proofs.lemmas.List.{get_or-drop}
 use Rattle.dcsctp_tlv.specs.declared.error.ChunkParseError.{ChunkParseError}
 use Rattle.dcsctp_tlv.specs.declared.error.ChunkParseError.TheVariants.{InvalidLength, InvalidType, InvalidPadding, InvalidValue, OutOfMemory}
 use Rattle.dcsctp_tlv.specs.Fault.{Fault}
-use Rattle.dcsctp_tlv.specs.Number.{AreBytes, number16, number32}
+use Rattle.dcsctp_tlv.specs.Number.{AreBytes}
 use Rattle.dcsctp_tlv.specs.Level.{HasFault}
 use Rattle.dcsctp_tlv.specs.Reading.{TellsFault}
 use Rattle.dcsctp_tlv.proofs.Laws.{LawfulRow, Lawful, plain_lawful, as_lawful, pick_lawful, listed_lawful, list_one, list_apart, list_same, list_some}
@@ -19,8 +19,8 @@ use Rattle.dcsctp_cause.proofs.CauseLaws.{causes_lawful}
 use Rattle.dcsctp_chunk.specs.Flags.{is_set}
 use Rattle.dcsctp_wire.specs.Init.{init_of, init_row}
 use Rattle.dcsctp_wire.specs.ParameterList.{parameter_list_row}
-use Rattle.dcsctp_wire.specs.CauseList.{AbortTree, abort_row, error_row}
-use Rattle.dcsctp_wire.specs.Chunk.{ChunkTree, Init, InitAck, HeartbeatRequest, HeartbeatAck, Abort, Error, ReConfig, chunks}
+use Rattle.dcsctp_wire.specs.CauseList.{abort_row, error_row}
+use Rattle.dcsctp_wire.specs.Chunk.{Init, InitAck, HeartbeatRequest, HeartbeatAck, Abort, Error, ReConfig, chunks}
 use Rattle.dcsctp_wire.specs.Packet.{PacketTree, HasPacketSize, IsAccepted, disabled, alternate, equal, checksum_field, body, IsOpened, MeansPacket, packet_with, PacketFault, Size, Checksum, Chunk, Answer, ReadsFault}
 
 pub reads_fault : (bytes : List ℕ) (word : ℕ) (policy : ChecksumPolicy) (e : ChunkParseError) → IsOpened bytes word policy → TellsFault (HasFault chunks (body bytes)) e → ReadsFault bytes word policy e

@@ -1,5 +1,5 @@
 -- What a chunk that is written reads back as.
-use Rattle.std.specs.Prelude.{◌≡◌, ◌≢◌, List, [], map}
+use Rattle.std.specs.Prelude.{◌≢◌, List, [], map}
 use Rattle.std.specs.List.{AllByRecursion}
 use Rattle.dcsctp_tlv.specs.WellFormedParameter.{IsParameterTyped, kept_parameters}
 use Rattle.dcsctp_cause.specs.WellFormedCause.{IsCauseWellFormed}

@@ -1,6 +1,5 @@
-use Rattle.std.proofs.Common.{arith, ap, sym, ◌∙◌, ◌≡◌, ◌≤◌, ◌++◌, ℕ, List, length, drop, take}
+use Rattle.std.proofs.Common.{arith, ap, ◌∙◌, ◌≡◌, ◌++◌, ℕ, List, length, drop}
 use Rattle.std.specs.Prelude.{map}
-use Rattle.std.proofs.lemmas.List.{length-drop}
 use Rattle.dcsctp_tlv.specs.Frame.{header}
 use Rattle.dcsctp_tlv.specs.Image.{solid, written, listed_tlv, list_image}
 use Rattle.dcsctp_tlv.proofs.Images.{written_item}
@@ -35,4 +34,4 @@ returns g c =
     let whole : front ++ c.parameters_serialize_to.new.output ≡ written (solid front ++ image) value =
     ap (λ (xs : List ℕ). front ++ xs) list ∙ written_front front image value (omega (arith, c.requires.room, c.put_header.auto.output, c.split_at_mut-value.ensures.back_len)) in
     rw (c.split_at_mut-value.ensures.front, c.copy_from_slice.ensures.after, whole, c.split_at_mut-value.ensures.back)
-        (written_item tlv c.args.output.now headed (c.put_header.ensures ∙ ap (λ (n : ℕ). header c.args.first c.args.second n ++ drop 4 c.args.output.now) c.listed_size.ensures) (omega (arith, c.requires.room)))
+    (written_item tlv c.args.output.now headed (c.put_header.ensures ∙ ap (λ (n : ℕ). header c.args.first c.args.second n ++ drop 4 c.args.output.now) c.listed_size.ensures) (omega (arith, c.requires.room)))

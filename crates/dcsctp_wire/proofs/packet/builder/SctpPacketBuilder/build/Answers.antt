@@ -1,5 +1,4 @@
 use Rattle.std.proofs.Common.{subst, sym, ℕ, List, Ok}
-use Rattle.dcsctp_wire.specs.declared.packet.sctp_packet.ChecksumPolicy.{ChecksumPolicy}
 use Rattle.dcsctp_wire.specs.Builder.{meaning_with}
 use Rattle.dcsctp_wire.specs.Kept.{kept_chunks}
 use Rattle.dcsctp_wire.specs.Packet.{IsAccepted, checksum_field, Answer}

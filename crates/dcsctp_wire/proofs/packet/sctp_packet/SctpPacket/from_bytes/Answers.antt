@@ -1,4 +1,4 @@
-use Rattle.std.proofs.Common.{ℕ, ◌-◌, ◌/◌, ◌≤◌, length}
+use Rattle.std.proofs.Common.{◌-◌, ◌/◌, ◌≤◌, length}
 use Rattle.dcsctp_wire.specs.WellFormed.{IsWellFormed}
 use Rattle.dcsctp_wire.specs.Account.{KeepsSize, node_count}
 use Rattle.dcsctp_wire.proofs.PacketLaws.{packet_formed, packet_size, packet_parts, reads_only}
