@@ -290,14 +290,18 @@ fn each_write_fails(rt: HostRuntime) -> Result<(), Fail> {
         for fault in faults {
             for step in [1, 10, 1000] {
                 let writes = wanted.len().div_ceil(step);
-                for call in 1..=writes {
+                for call in 1..=writes + 1 {
+                    if call > writes && matches!(fault, Fault::Nothing) {
+                        // A flush takes no bytes anyway.
+                        continue;
+                    }
                     let mut input = Watched::new(make_source(text.as_bytes(), 9, NEVER, fault));
                     let mut output = Watched::new(make_sink(rt.alloc(), step, call, fault)?);
                     assert_eq!(rt; show(rt.alloc(), &mut input, &mut output), 2);
                     assert!(rt; !input.failed() && output.failed());
                     let sink = output.into_device();
                     assert_eq!(rt; sink.calls, call);
-                    let taken = step.saturating_mul(call - 1);
+                    let taken = step.saturating_mul(call - 1).min(wanted.len());
                     assert_eq!(rt; sink.bytes.as_slice(), &wanted.as_bytes()[..taken]);
                 }
             }

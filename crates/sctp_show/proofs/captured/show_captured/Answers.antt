@@ -1,4 +1,4 @@
-use Rattle.std.proofs.Common.{◌≡◌, List, [], ap, subst, sym}
+use Rattle.std.proofs.Common.{◌≡◌, [], subst, sym}
 use Rattle.std.specs.Io.{StartsWith}
 use Rattle.sctp_show.specs.Watched.{device_of}
 use Rattle.sctp_show.proofs.InMemory.{output_worked, MayTell, MayTell-run, MayTell-written, StartsWith-written, told_as_known}
