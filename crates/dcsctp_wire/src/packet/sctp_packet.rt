@@ -171,16 +171,23 @@ impl SctpPacket {
     pub fn canonical_bytes(&self, alloc: Global) -> Result<Vec<u8>, AllocError>
         requires { Fits (meaning_view self.now) }
         ensures bytes { IfOk result (λ bytes. bytes.items ≡ canonical (meaning_view self.now)) }
-        ensures reads_back { IsInWidth (meaning_view self.now) → IsWellFormed (meaning_view self.now)
+        ensures reads_back { IsWellFormed (meaning_view self.now)
             → (word : ℕ) (policy : ChecksumPolicy) → IsAccepted policy 0 word
             → IfOk result (λ bytes. Answer bytes.items word policy (Ok (record { meaning = meaning_view self.now; checksum = 0 }))) }
-        ensures one { IsInWidth (meaning_view self.now) → IsWellFormed (meaning_view self.now)
+        ensures one { IsWellFormed (meaning_view self.now)
             → (m : Meaning) → IsInWidth m → IsWellFormed m → Fits m
             → IfOk result (λ bytes. (bytes.items ≡ canonical m) ↔ (meaning_view self.now ≡ m)) }
     {
+        has_widths(self);
         canonical_of(self, alloc)
     }
 }
+
+/// Every number of a packet lies in its field's width, and every text is one, by their types. It
+/// does nothing.
+fn has_widths(packet: &SctpPacket)
+    ensures { IsInWidth (meaning_view packet.now) }
+{}
 
 /// Reads a packet: what it answers, and no law of it.
 fn read_packet(
