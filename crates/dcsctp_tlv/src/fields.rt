@@ -146,7 +146,7 @@ pub fn fields_from_bytes<F: Field>(
 {
     let mut list = Vec::with_capacity(alloc, count)?;
     for i in 0..count {
-        list.push(F::read(&bytes[F::SIZE * i..]))?;
+        list.push_reserved(F::read(&bytes[F::SIZE * i..]));
     }
     Ok(list)
 }

@@ -1,4 +1,4 @@
-use Rattle.std.proofs.Common.{sym, ap, ◌∙◌, ◌≡◌, ◌*◌, ◌++◌, [], ◌∷◌, ℕ, List, drop, map}
+use Rattle.std.proofs.Common.{arith, sym, ap, ◌∙◌, ◌≡◌, ◌*◌, ◌++◌, [], ◌∷◌, ℕ, List, drop, map}
 use Rattle.std.proofs.lemmas.List.{map_push, take_rest}
 use Rattle.dcsctp_tlv.specs.Fields.{fields}
 use Rattle.dcsctp_tlv.proofs.Puts.{fields-push}
@@ -12,5 +12,9 @@ loop-i-preserved g c =
     let view = g.F.Field.view in
     let x = c.read.result in
     let h : view x ≡ g.F.Field.field_at (drop (size * i) bytes) = c.read.ensures ∙ ap g.F.Field.field_at (take_rest bytes (c.SIZE.result * i) ∙ ap (λ (n : ℕ). drop (n * i) bytes) c.SIZE.ensures) in
-    ap (map view) c.in_ok-push.ensures.items ∙ map_push view c.loop-i.list.items x
-    ∙ ap (λ (xs : List _). xs ++ view x ∷ []) c.loop-i.invariant ∙ ap (λ (y : _). fields g.F.Field.field_at size i bytes ++ y ∷ []) h ∙ sym (fields-push g.F.Field.field_at size i bytes)
+    record {
+      fields = ap (map view) c.push_reserved.ensures.items ∙ map_push view c.loop-i.list.items x
+          ∙ ap (λ (xs : List _). xs ++ view x ∷ []) c.loop-i.invariant.fields ∙ ap (λ (y : _). fields g.F.Field.field_at size i bytes ++ y ∷ []) h ∙ sym (fields-push g.F.Field.field_at size i bytes);
+      len = omega (arith, c.push_reserved.ensures.len, c.loop-i.invariant.len);
+      room = omega (arith, c.push_reserved.ensures.capacity, c.loop-i.invariant.room);
+    }
