@@ -171,6 +171,7 @@ impl SctpPacket {
     pub fn canonical_bytes(&self, alloc: Global) -> Result<Vec<u8>, AllocError>
         requires { Fits (meaning_view self.now) }
         ensures bytes { IfOk result (λ bytes. bytes.items ≡ canonical (meaning_view self.now)) }
+        ensures width { IsInWidth (meaning_view self.now) }
         ensures reads_back { IsWellFormed (meaning_view self.now)
             → (word : ℕ) (policy : ChecksumPolicy) → IsAccepted policy 0 word
             → IfOk result (λ bytes. Answer bytes.items word policy (Ok (record { meaning = meaning_view self.now; checksum = 0 }))) }
