@@ -15,7 +15,7 @@ use std::alloc::Global;
 use std::io;
 use std::io::{ErrorKind, Read, Write};
 
-/// A SACK that was captured, behind a common header.
+/// A SACK that was captured, after a common header.
 const SACK: &str =
     "1388138801020304000000000300001c369dd00b0001ed73000200010002000600080008369dd011";
 

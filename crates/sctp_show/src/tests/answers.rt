@@ -2,7 +2,7 @@
 
 use crate::tests::{SACK, SACK_TEXT, captured, is_answered};
 
-/// Captures of real peers, behind a common header, and what the Rust crate answers them.
+/// Captures of real peers, after a common header, and what the Rust crate answers them.
 const CAPTURES: &[(&str, &str)] = &[
     // An INIT with six parameters.
     (
@@ -91,7 +91,7 @@ const ANSWERS: &[(&str, &str, u8)] = &[
         "error: invalid chunk: value\n",
         1,
     ),
-    // The same, and a chunk without a frame behind it.
+    // The same, and a chunk without a frame after it.
     (
         "138813880102030400000000820000100010000c00000001000000070b000003",
         "error: invalid chunk: value\n",

@@ -6,9 +6,8 @@ use crate::tests::{
     steps,
 };
 use crate::watched::Watched;
-use std::alloc::{AllocError, Global};
+use std::alloc::Global;
 use std::io::{ErrorKind, Read, Write};
-use std::test::Fail;
 
 /// A text, how many bytes its reader gives a call, and how many its writer takes.
 const READS: &[(&str, usize, usize)] = &[
@@ -19,23 +18,30 @@ const READS: &[(&str, usize, usize)] = &[
     (SACK, 80, 1000),
 ];
 
-/// Runs each row with a reader that fails so, at each of its calls in turn. Its line has to be told,
-/// and no call follows. Answers the row and the call where that isn't so.
-fn wrong_read(alloc: Global, kind: ErrorKind) -> Option<(usize, usize)> {
-    for (row, (text, step, taken)) in READS.iter().enumerate() {
+/// Whether a read that fails at this call is told by its line alone, and no call follows.
+fn is_read_failure_told(
+    alloc: Global,
+    (text, step, taken): (&str, usize, usize),
+    call: usize,
+    kind: ErrorKind,
+) -> bool {
+    let reads = fails(step, call, Fault::Error(kind));
+    let outcome = run(alloc, text.as_bytes(), reads, READ_FAILED, steps(taken));
+    outcome.status == 1
+        && outcome.input_failed
+        && !outcome.output_failed
+        && outcome.reads == call
+        && outcome.given == step.saturating_mul(call.saturating_sub(1)).min(text.len())
+        && outcome.as_wanted
+        && outcome.written == READ_FAILED.len()
+}
+
+/// The row, and the call of its reader, at which such an error isn't told.
+fn untold_read(alloc: Global, kind: ErrorKind) -> Option<(usize, usize)> {
+    for (row, told) in READS.iter().enumerate() {
         // The last read is the one that finds the end.
-        for call in 1..=text.len().div_ceil(*step) + 1 {
-            let reads = fails(*step, call, Fault::Error(kind));
-            let outcome = run(alloc, text.as_bytes(), reads, READ_FAILED, steps(*taken));
-            let given = step.saturating_mul(call - 1).min(text.len());
-            let is_so = outcome.status == 1
-                && outcome.input_failed
-                && !outcome.output_failed
-                && outcome.reads == call
-                && outcome.given == given
-                && outcome.as_wanted
-                && outcome.written == READ_FAILED.len();
-            if !is_so {
+        for call in 1..=told.0.len().div_ceil(told.1) + 1 {
+            if !is_read_failure_told(alloc, *told, call, kind) {
                 return Some((row, call));
             }
         }
@@ -54,7 +60,7 @@ fn each_read_fails(rt: HostRuntime) {
         ErrorKind::Other,
     ];
     for kind in kinds {
-        assert_eq!(rt; wrong_read(rt.alloc(), kind), None, "{kind:?}");
+        assert_eq!(rt; untold_read(rt.alloc(), kind), None, "{kind:?}");
     }
 }
 
@@ -140,12 +146,33 @@ const WRITES: &[(&str, Plan, &str, usize)] = &[
     ),
 ];
 
-/// Runs each row with a writer that gives out so, at each of its calls in turn. The status has to be
-/// 2: no other call follows, nothing is written twice, and what was taken before stays. Answers the
-/// row and the call where that isn't so.
-fn wrong_write(alloc: Global, fault: Fault) -> Option<(usize, usize)> {
-    for (row, (text, reads, wanted, step)) in WRITES.iter().enumerate() {
-        let writes = wanted.len().div_ceil(*step);
+/// Whether a writer that gives out at this call, the last one after so many writes being the flush,
+/// ends the run with status 2: no call follows, nothing is written twice, and what was taken before
+/// stays.
+fn is_write_failure_told(
+    alloc: Global,
+    (text, reads, wanted, step): (&str, Plan, &str, usize),
+    (call, writes): (usize, usize),
+    fault: Fault,
+) -> bool {
+    let plan = fails(step, call, fault);
+    let outcome = run(alloc, text.as_bytes(), reads, wanted, plan);
+    outcome.status == 2
+        && outcome.input_failed == (reads.fails_at != 0)
+        && outcome.output_failed
+        && outcome.writes == call.min(writes)
+        && outcome.writes.saturating_add(outcome.flushes) == call
+        && outcome.as_wanted
+        && outcome.written
+            == step
+                .saturating_mul(call.saturating_sub(1))
+                .min(wanted.len())
+}
+
+/// The row, and the call of its writer, at which such a fault isn't told.
+fn untold_write(alloc: Global, fault: Fault) -> Option<(usize, usize)> {
+    for (row, told) in WRITES.iter().enumerate() {
+        let writes = told.2.len().div_ceil(told.3);
         let calls = match fault {
             // The last call is the flush.
             Fault::Error(_) => writes + 1,
@@ -153,17 +180,7 @@ fn wrong_write(alloc: Global, fault: Fault) -> Option<(usize, usize)> {
             Fault::Nothing => writes,
         };
         for call in 1..=calls {
-            let plan = fails(*step, call, fault);
-            let outcome = run(alloc, text.as_bytes(), *reads, wanted, plan);
-            let written = step.saturating_mul(call - 1).min(wanted.len());
-            let is_so = outcome.status == 2
-                && outcome.input_failed == (reads.fails_at != 0)
-                && outcome.output_failed
-                && outcome.writes == call.min(writes)
-                && outcome.writes.saturating_add(outcome.flushes) == call
-                && outcome.as_wanted
-                && outcome.written == written;
-            if !is_so {
+            if !is_write_failure_told(alloc, *told, (call, writes), fault) {
                 return Some((row, call));
             }
         }
@@ -173,25 +190,25 @@ fn wrong_write(alloc: Global, fault: Fault) -> Option<(usize, usize)> {
 
 #[test]
 fn interrupted_writes(rt: HostRuntime) {
-    assert_eq!(rt; wrong_write(rt.alloc(), INTERRUPTED), None);
+    assert_eq!(rt; untold_write(rt.alloc(), INTERRUPTED), None);
 }
 
 #[test]
 fn writes_that_would_block(rt: HostRuntime) {
     assert_eq!(rt;
-        wrong_write(rt.alloc(), Fault::Error(ErrorKind::WouldBlock)),
+        untold_write(rt.alloc(), Fault::Error(ErrorKind::WouldBlock)),
         None
     );
 }
 
 #[test]
 fn writes_to_a_broken_pipe(rt: HostRuntime) {
-    assert_eq!(rt; wrong_write(rt.alloc(), BROKEN_PIPE), None);
+    assert_eq!(rt; untold_write(rt.alloc(), BROKEN_PIPE), None);
 }
 
 #[test]
 fn writes_that_take_nothing(rt: HostRuntime) {
-    assert_eq!(rt; wrong_write(rt.alloc(), Fault::Nothing), None);
+    assert_eq!(rt; untold_write(rt.alloc(), Fault::Nothing), None);
 }
 
 /// What each of three reads gives of three bytes, the second of which fails, and whether the device
@@ -255,25 +272,27 @@ fn watched(rt: HostRuntime) {
 }
 
 /// Whether this text is answered with these bytes, or else with the line of no memory.
-fn is_answered_or_no_memory(alloc: Global, text: &[u8], wanted: &[u8]) -> Result<bool, AllocError> {
-    let mut input = Watched::new(make_source(text, NINE));
+fn is_answered_or_no_memory(alloc: Global, text: &[u8], wanted: &[u8]) -> bool {
     // Room for either, so that no write runs out of memory.
-    let mut output = Watched::new(Vec::with_capacity(alloc, 4096)?);
+    let Ok(room) = Vec::with_capacity(alloc, 4096) else {
+        return false;
+    };
+    let mut input = Watched::new(make_source(text, NINE));
+    let mut output = Watched::new(room);
     let status = show(alloc, &mut input, &mut output);
     let bytes = output.into_device();
-    Ok(match status {
+    match status {
         0 => bytes.as_slice() == wanted,
         1 => bytes.as_slice() == b"error: out of memory\n".as_slice(),
         _ => false,
-    })
+    }
 }
 
 // Either the whole answer or the line of no memory, whichever allocation fails.
 #[test]
-fn memory(rt: HostRuntime) -> Result<(), Fail> {
+fn memory(rt: HostRuntime) {
     let text = b"0000000000000000 00000000 0B000004";
     let wanted =
         b"source=0 destination=0 tag=0 checksum=0\nCOOKIE-ACK\ncanonical=0000000000000000000000000b000004\n";
-    assert!(rt; is_answered_or_no_memory(rt.alloc(), text, wanted)?);
-    Ok(())
+    assert!(rt; is_answered_or_no_memory(rt.alloc(), text, wanted));
 }

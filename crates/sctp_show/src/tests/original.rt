@@ -1,10 +1,10 @@
 //! A sample of what the Rust crate answers: packets drawn from a generated corpus, read, printed
-//! and written by `dcsctp` 0.1.16 behind the same program.
+//! and written by `dcsctp` 0.1.16 under the same program.
 
 use crate::tests::is_answered;
 
-/// A text, what is printed of it, and the status.
-const SAMPLE: &[(&str, &str, u8)] = &[
+/// Packets without parameters and causes: a text, what is printed of it, and the status.
+const PLAIN: &[(&str, &str, u8)] = &[
     // Too short.
     (
         "7fff1645649444f1b4659ceb0408",
@@ -59,6 +59,16 @@ const SAMPLE: &[(&str, &str, u8)] = &[
         "source=60226 destination=65535 tag=2852315136 checksum=4135576783\nUnknown chunk, type=15\nSHUTDOWN cumulative_tsn_ack=316994977\nUnknown chunk, type=65\nUnknown chunk, type=63\ncanonical=eb42ffffaa02e000000000000f080008168607330700000812e4f5a141000006132300003f79000adef619d030bf0000\n",
         0,
     ),
+    // User data in both forms: flags and reserved bytes become zero.
+    (
+        "1d41f33010714c747fffffff400700177fffffff5c146c49722651f40000000128578c090001001203a0547fadd148f56d9529b2ea05",
+        "source=7489 destination=62256 tag=275860596 checksum=2147483647\nI-DATA, type=unordered::complete, tsn=2147483647, mid=23572, ssn=1915113972, ppid=1, length=3\nDATA, type=ordered::last, tsn=60839039, sid=44497, ssn=18677, ppid=1838492082, length=2\ncanonical=1d41f33010714c7400000000400700177fffffff5c140000722651f40000000128578c000001001203a0547fadd148f56d9529b2ea050000\n",
+        0,
+    ),
+];
+
+/// Packets with parameters or causes.
+const LISTS: &[(&str, &str, u8)] = &[
     // An INIT whose length counts its parameter's padding.
     (
         "1388138801020304000000000101001c02c7411dc539b23608d043dd9743c6c900090007039a0200",
@@ -69,12 +79,6 @@ const SAMPLE: &[(&str, &str, u8)] = &[
     (
         "5f0eaea9fffffffe8000000002010029ac7b02398ebe4f4539990926b34cba40c00000048002000cbcc0cc3f6b465d998002000519ffff",
         "source=24334 destination=44713 tag=4294967294 checksum=2147483648\nINIT-ACK, initiate_tag=2893742649, initial_tsn=3008150080\ncanonical=5f0eaea9fffffffe0000000002000029ac7b02398ebe4f4539990926b34cba40c00000048002000cbcc0cc3f6b465d998002000519000000\n",
-        0,
-    ),
-    // User data in both forms: flags and reserved bytes become zero.
-    (
-        "1d41f33010714c747fffffff400700177fffffff5c146c49722651f40000000128578c090001001203a0547fadd148f56d9529b2ea05",
-        "source=7489 destination=62256 tag=275860596 checksum=2147483647\nI-DATA, type=unordered::complete, tsn=2147483647, mid=23572, ssn=1915113972, ppid=1, length=3\nDATA, type=ordered::last, tsn=60839039, sid=44497, ssn=18677, ppid=1838492082, length=2\ncanonical=1d41f33010714c7400000000400700177fffffff5c140000722651f40000000128578c000001001203a0547fadd148f56d9529b2ea050000\n",
         0,
     ),
     // A HEARTBEAT and an ERROR, with padding that isn't zero.
@@ -101,7 +105,7 @@ const SAMPLE: &[(&str, &str, u8)] = &[
         "source=5000 destination=5000 tag=16909060 checksum=0\nABORT, tag_reflected=true\ncanonical=13881388010203040000000006010019000d0015557365722063616c6c656420636c6f7365000000\n",
         0,
     ),
-    // An ERROR with two reasons that aren't UTF-8, and two chunks behind it.
+    // An ERROR with two reasons that aren't UTF-8, and two chunks after it.
     (
         "0fb9a957ef2a1e6effffffff09170018000c0005fe000000000c0008f08080af000a00040a030008911aca6b0c10000895ddff39",
         "source=4025 destination=43351 tag=4012514926 checksum=4294967295\nERROR\nCOOKIE-ECHO, cookie=4 bytes\nUnknown chunk, type=12\ncanonical=0fb9a957ef2a1e6e0000000009000048000c00204661696c656420746f2070617273652061626f727420726561736f6e000c00204661696c656420746f2070617273652061626f727420726561736f6e000a00040a000008911aca6b0c10000895ddff39\n",
@@ -122,8 +126,17 @@ const SAMPLE: &[(&str, &str, u8)] = &[
 ];
 
 #[test]
-fn answers_of_the_original(rt: HostRuntime) {
-    for (text, wanted, status) in SAMPLE {
+fn plain_packets(rt: HostRuntime) {
+    for (text, wanted, status) in PLAIN {
+        let bytes = text.as_bytes();
+        let is_so = is_answered(rt.alloc(), bytes, (1000, bytes.len()), (wanted, *status));
+        assert!(rt; is_so, "{text}");
+    }
+}
+
+#[test]
+fn packets_of_lists(rt: HostRuntime) {
+    for (text, wanted, status) in LISTS {
         let bytes = text.as_bytes();
         let is_so = is_answered(rt.alloc(), bytes, (1000, bytes.len()), (wanted, *status));
         assert!(rt; is_so, "{text}");
