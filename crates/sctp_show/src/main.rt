@@ -7,8 +7,6 @@ mod engine;
 mod failure;
 #[cfg(test)]
 mod tests;
-#[cfg(test)]
-mod tests_devices;
 mod text;
 mod watched;
 

@@ -1,0 +1,135 @@
+//! Texts of packets, and what is printed of them.
+
+use crate::tests::{SACK, SACK_TEXT, captured, is_answered};
+
+/// Captures of real peers, after a common header, and what the Rust crate answers them.
+const CAPTURES: &[(&str, &str)] = &[
+    // An INIT with six parameters.
+    (
+        "1388138801020304000000000100005ade7a16900002000003e803e8250d37e880000004c000000480080009c00fc1808200000080020024ab314462121a1513fd5a5f69efaa06e9abd748cc3bd14b60ed7fa644ce4dd2ad80040006000100008003000680c10000",
+        "source=5000 destination=5000 tag=16909060 checksum=0\nINIT, initiate_tag=3732543120, initial_tsn=621623272\ncanonical=1388138801020304000000000100005ade7a16900002000003e803e8250d37e880000004c000000480080009c00fc1808200000080020024ab314462121a1513fd5a5f69efaa06e9abd748cc3bd14b60ed7fa644ce4dd2ad80040006000100008003000680c10000\n",
+    ),
+    // DATA with four bytes of payload.
+    (
+        "138813880102030400000000000300145508363c000200010000003500010203",
+        "source=5000 destination=5000 tag=16909060 checksum=0\nDATA, type=ordered::complete, tsn=1426601532, sid=2, ssn=1, ppid=53, length=4\ncanonical=138813880102030400000000000300145508363c000200010000003500010203\n",
+    ),
+    // A SACK with two blocks and a duplicate.
+    (SACK, SACK_TEXT),
+    // A FORWARD-TSN that skips no stream.
+    (
+        "138813880102030400000000c000000871976b2a",
+        "source=5000 destination=5000 tag=16909060 checksum=0\nFORWARD-TSN, new_cumulative_tsn=1905748778\ncanonical=138813880102030400000000c000000871976b2a\n",
+    ),
+    // An I-FORWARD-TSN that skips one stream.
+    (
+        "138813880102030400000000c2000010b87452ec0001000000000002",
+        "source=5000 destination=5000 tag=16909060 checksum=0\nI-FORWARD-TSN, new_cumulative_tsn=3094631148\ncanonical=138813880102030400000000c2000010b87452ec0001000000000002\n",
+    ),
+];
+
+#[test]
+fn captures(rt: HostRuntime) {
+    for (text, wanted) in CAPTURES {
+        assert_eq!(rt; captured(rt.alloc(), text, wanted), (0, true), "{text}");
+    }
+}
+
+/// A text, what is printed of it, and the status.
+const ANSWERS: &[(&str, &str, u8)] = &[
+    // A packet, with blanks between its fields and digits of both cases.
+    (
+        "1388 1388 01020304 00000000 0B000004",
+        "source=5000 destination=5000 tag=16909060 checksum=0\nCOOKIE-ACK\ncanonical=1388138801020304000000000b000004\n",
+        0,
+    ),
+    // Blanks of each kind, also within a byte and at the ends.
+    (
+        "\n1 38\t81388\r\n01020304 00000000 0b000004 \n",
+        "source=5000 destination=5000 tag=16909060 checksum=0\nCOOKIE-ACK\ncanonical=1388138801020304000000000b000004\n",
+        0,
+    ),
+    // The last chunk lacks its padding: the canonical packet has it.
+    (
+        "1388138801020304000000000a0000057f",
+        "source=5000 destination=5000 tag=16909060 checksum=0\nCOOKIE-ECHO, cookie=1 bytes\ncanonical=1388138801020304000000000a0000057f000000\n",
+        0,
+    ),
+    // The checksum is printed, and isn't part of the canonical packet.
+    (
+        "1388138801020304000000050b000004",
+        "source=5000 destination=5000 tag=16909060 checksum=5\nCOOKIE-ACK\ncanonical=1388138801020304000000000b000004\n",
+        0,
+    ),
+    // Two chunks, a line each.
+    (
+        "1388138801020304000000000b000004070000080611d1bd",
+        "source=5000 destination=5000 tag=16909060 checksum=0\nCOOKIE-ACK\nSHUTDOWN cumulative_tsn_ack=101831101\ncanonical=1388138801020304000000000b000004070000080611d1bd\n",
+        0,
+    ),
+    // A fragment of user data, with padding that it lacks.
+    (
+        "13881388010203040000000000080015 0000007b 01c8 0315 00002382 0102030405",
+        "source=5000 destination=5000 tag=16909060 checksum=0\nDATA, type=ordered::middle, tsn=123, sid=456, ssn=789, ppid=9090, length=5\ncanonical=138813880102030400000000000800150000007b01c80315000023820102030405000000\n",
+        0,
+    ),
+    // A reason that isn't UTF-8: the canonical packet has another in its place.
+    (
+        "13881388010203040000000006000009000c0005ff",
+        "source=5000 destination=5000 tag=16909060 checksum=0\nABORT, tag_reflected=false\ncanonical=13881388010203040000000006000024000c00204661696c656420746f2070617273652061626f727420726561736f6e\n",
+        0,
+    ),
+    // A type without a kind of its own.
+    (
+        "1388138801020304000000006301000509",
+        "source=5000 destination=5000 tag=16909060 checksum=0\nUnknown chunk, type=99\ncanonical=1388138801020304000000006301000509000000\n",
+        0,
+    ),
+    // An answer to a request, with a result that has no meaning.
+    (
+        "138813880102030400000000820000100010000c0000000100000007",
+        "error: invalid chunk: value\n",
+        1,
+    ),
+    // The same, and a chunk without a frame after it.
+    (
+        "138813880102030400000000820000100010000c00000001000000070b000003",
+        "error: invalid chunk: value\n",
+        1,
+    ),
+    // The second of two chunks is longer than the packet.
+    (
+        "1388138801020304000000000b00000407000008",
+        "error: invalid chunk: length\n",
+        1,
+    ),
+    // A header without a chunk.
+    (
+        "138813880102030400000000",
+        "error: invalid packet size\n",
+        1,
+    ),
+    // No bytes.
+    ("", "error: invalid packet size\n", 1),
+    // Blanks alone.
+    (" \t\r\n", "error: invalid packet size\n", 1),
+    // An odd count of digits.
+    ("138", "error: not hexadecimal\n", 1),
+    // No digits.
+    ("zz", "error: not hexadecimal\n", 1),
+    // A line tabulation is no blank.
+    ("13\u{b}88", "error: not hexadecimal\n", 1),
+    // The digits are told before the packet's size.
+    ("13888", "error: not hexadecimal\n", 1),
+];
+
+#[test]
+fn answers(rt: HostRuntime) {
+    for (text, wanted, status) in ANSWERS {
+        for step in [1, 3, 1000] {
+            let bytes = text.as_bytes();
+            let is_so = is_answered(rt.alloc(), bytes, (step, bytes.len()), (wanted, *status));
+            assert!(rt; is_so, "{text}, {step} bytes a call");
+        }
+    }
+}

@@ -1,0 +1,298 @@
+//! Devices that give out at each of their calls, and what is told of them.
+
+use crate::engine::show;
+use crate::tests::{
+    Fault, INTERRUPTED, Plan, READ_FAILED, SACK, SACK_TEXT, fails, make_sink, make_source, run,
+    steps,
+};
+use crate::watched::Watched;
+use std::alloc::Global;
+use std::io::{ErrorKind, Read, Write};
+
+/// A text, how many bytes its reader gives a call, and how many its writer takes.
+const READS: &[(&str, usize, usize)] = &[
+    ("0a0b0c", 1, 5),
+    (SACK, 1, 1000),
+    (SACK, 7, 1000),
+    // All bytes at once: the second read finds the end.
+    (SACK, 80, 1000),
+];
+
+/// Whether a read that fails at this call is told by its line alone, and no call follows.
+fn is_read_failure_told(
+    alloc: Global,
+    (text, step, taken): (&str, usize, usize),
+    call: usize,
+    kind: ErrorKind,
+) -> bool {
+    let reads = fails(step, call, Fault::Error(kind));
+    let outcome = run(alloc, text.as_bytes(), reads, READ_FAILED, steps(taken));
+    outcome.status == 1
+        && outcome.input_failed
+        && !outcome.output_failed
+        && outcome.reads == call
+        && outcome.given == step.saturating_mul(call.saturating_sub(1)).min(text.len())
+        && outcome.as_wanted
+        && outcome.written == READ_FAILED.len()
+}
+
+/// The row, and the call of its reader, at which such an error isn't told.
+fn untold_read(alloc: Global, kind: ErrorKind) -> Option<(usize, usize)> {
+    for (row, told) in READS.iter().enumerate() {
+        // The last read is the one that finds the end.
+        for call in 1..=told.0.len().div_ceil(told.1) + 1 {
+            if !is_read_failure_told(alloc, *told, call, kind) {
+                return Some((row, call));
+            }
+        }
+    }
+    None
+}
+
+// An error of any kind at any read is told by one line.
+#[test]
+fn each_read_fails(rt: HostRuntime) {
+    let kinds = [
+        ErrorKind::Interrupted,
+        ErrorKind::WouldBlock,
+        ErrorKind::UnexpectedEof,
+        ErrorKind::OutOfMemory,
+        ErrorKind::Other,
+    ];
+    for kind in kinds {
+        assert_eq!(rt; untold_read(rt.alloc(), kind), None, "{kind:?}");
+    }
+}
+
+/// At which call a reader of the captured SACK, at 8 bytes a call, gives none, and the answer to
+/// the bytes before it.
+const GIVES_NONE: &[(usize, &str, u8)] = &[
+    // No bytes.
+    (1, "error: invalid packet size\n", 1),
+    // A common header alone.
+    (4, "error: invalid packet size\n", 1),
+    // The chunk's header with it, whose length is greater than what is there.
+    (5, "error: invalid chunk: length\n", 1),
+    // All but the last four bytes.
+    (10, "error: invalid chunk: length\n", 1),
+    // All bytes.
+    (11, SACK_TEXT, 0),
+];
+
+// A reader that gives no byte is at its end: no call follows, and what was read is answered.
+#[test]
+fn reader_gives_none(rt: HostRuntime) {
+    for (call, wanted, status) in GIVES_NONE {
+        let reads = fails(8, *call, Fault::Nothing);
+        let outcome = run(rt.alloc(), SACK.as_bytes(), reads, wanted, steps(1000));
+        let is_so = outcome.status == *status
+            && !outcome.input_failed
+            && !outcome.output_failed
+            && outcome.reads == *call
+            && outcome.as_wanted
+            && outcome.written == wanted.len();
+        assert!(rt; is_so, "call {call}");
+    }
+}
+
+const BROKEN_PIPE: Fault = Fault::Error(ErrorKind::BrokenPipe);
+
+/// A reader of 9 bytes a call.
+const NINE: Plan = Plan {
+    step: 9,
+    fails_at: 0,
+    fault: Fault::Nothing,
+};
+
+/// A text, how its reader gives it, what is to be written, and how many bytes the writer takes a
+/// call.
+const WRITES: &[(&str, Plan, &str, usize)] = &[
+    (SACK, NINE, SACK_TEXT, 1),
+    (SACK, NINE, SACK_TEXT, 10),
+    (SACK, NINE, SACK_TEXT, 1000),
+    ("138", NINE, "error: not hexadecimal\n", 1),
+    ("138", NINE, "error: not hexadecimal\n", 10),
+    ("138", NINE, "error: not hexadecimal\n", 1000),
+    ("0b000004", NINE, "error: invalid packet size\n", 1),
+    ("0b000004", NINE, "error: invalid packet size\n", 10),
+    ("0b000004", NINE, "error: invalid packet size\n", 1000),
+    // Blanks, digits of both cases, and a checksum.
+    (
+        "1388138901020304 00000005 0B000004",
+        NINE,
+        "source=5000 destination=5001 tag=16909060 checksum=5\nCOOKIE-ACK\ncanonical=1388138901020304000000000b000004\n",
+        1,
+    ),
+    // A reader that failed before, at its first call or later: it's the writer that decides.
+    (
+        "0a0b",
+        Plan {
+            step: 9,
+            fails_at: 1,
+            fault: INTERRUPTED,
+        },
+        READ_FAILED,
+        5,
+    ),
+    (
+        SACK,
+        Plan {
+            step: 30,
+            fails_at: 2,
+            fault: BROKEN_PIPE,
+        },
+        READ_FAILED,
+        1,
+    ),
+];
+
+/// Whether a writer that gives out at this call, the last one after so many writes being the flush,
+/// ends the run with status 2: no call follows, nothing is written twice, and what was taken before
+/// stays.
+fn is_write_failure_told(
+    alloc: Global,
+    (text, reads, wanted, step): (&str, Plan, &str, usize),
+    (call, writes): (usize, usize),
+    fault: Fault,
+) -> bool {
+    let plan = fails(step, call, fault);
+    let outcome = run(alloc, text.as_bytes(), reads, wanted, plan);
+    outcome.status == 2
+        && outcome.input_failed == (reads.fails_at != 0)
+        && outcome.output_failed
+        && outcome.writes == call.min(writes)
+        && outcome.writes.saturating_add(outcome.flushes) == call
+        && outcome.as_wanted
+        && outcome.written
+            == step
+                .saturating_mul(call.saturating_sub(1))
+                .min(wanted.len())
+}
+
+/// The row, and the call of its writer, at which such a fault isn't told.
+fn untold_write(alloc: Global, fault: Fault) -> Option<(usize, usize)> {
+    for (row, told) in WRITES.iter().enumerate() {
+        let writes = told.2.len().div_ceil(told.3);
+        let calls = match fault {
+            // The last call is the flush.
+            Fault::Error(_) => writes + 1,
+            // A flush takes no bytes anyway.
+            Fault::Nothing => writes,
+        };
+        for call in 1..=calls {
+            if !is_write_failure_told(alloc, *told, (call, writes), fault) {
+                return Some((row, call));
+            }
+        }
+    }
+    None
+}
+
+#[test]
+fn interrupted_writes(rt: HostRuntime) {
+    assert_eq!(rt; untold_write(rt.alloc(), INTERRUPTED), None);
+}
+
+#[test]
+fn writes_that_would_block(rt: HostRuntime) {
+    assert_eq!(rt;
+        untold_write(rt.alloc(), Fault::Error(ErrorKind::WouldBlock)),
+        None
+    );
+}
+
+#[test]
+fn writes_to_a_broken_pipe(rt: HostRuntime) {
+    assert_eq!(rt; untold_write(rt.alloc(), BROKEN_PIPE), None);
+}
+
+#[test]
+fn writes_that_take_nothing(rt: HostRuntime) {
+    assert_eq!(rt; untold_write(rt.alloc(), Fault::Nothing), None);
+}
+
+/// What each of three reads gives of three bytes, the second of which fails, and whether the device
+/// has failed by then.
+fn watched_reads() -> [(Option<usize>, bool); 3] {
+    let mut input = Watched::new(make_source(b"abc", fails(1, 2, INTERRUPTED)));
+    let mut room = [0; 4];
+    let first = input.read(&mut room).ok();
+    let first_failed = input.failed();
+    let second = input.read(&mut room).ok();
+    let second_failed = input.failed();
+    let third = input.read(&mut room).ok();
+    [
+        (first, first_failed),
+        (second, second_failed),
+        (third, input.failed()),
+    ]
+}
+
+/// What each of four writes takes, the third of which takes nothing, whether the device has failed
+/// by then; whether a flush succeeds after them, and it has failed still; and how many bytes were
+/// taken, and whether these are the other writes'.
+fn watched_writes() -> ([(Option<usize>, bool); 4], (bool, bool), (usize, bool)) {
+    let mut output = Watched::new(make_sink(b"abef", fails(9, 3, Fault::Nothing)));
+    let first = output.write(b"").ok();
+    let first_failed = output.failed();
+    let second = output.write(b"ab").ok();
+    let second_failed = output.failed();
+    let third = output.write(b"cd").ok();
+    let third_failed = output.failed();
+    let fourth = output.write(b"ef").ok();
+    let fourth_failed = output.failed();
+    let flushed = output.flush().is_ok();
+    let failed = output.failed();
+    let sink = output.into_device();
+    (
+        [
+            (first, first_failed),
+            (second, second_failed),
+            (third, third_failed),
+            (fourth, fourth_failed),
+        ],
+        (flushed, failed),
+        (sink.taken, sink.as_wanted),
+    )
+}
+
+// A device that failed is remembered through calls that succeed, and a write of no bytes that
+// takes none is no failure.
+#[test]
+fn watched(rt: HostRuntime) {
+    let reads = [(Some(1), false), (None, true), (Some(1), true)];
+    assert_eq!(rt; watched_reads(), reads);
+    let writes = [
+        (Some(0), false),
+        (Some(2), false),
+        (Some(0), true),
+        (Some(2), true),
+    ];
+    assert_eq!(rt; watched_writes(), (writes, (true, true), (4, true)));
+}
+
+/// Whether this text is answered with these bytes, or else with the line of no memory.
+fn is_answered_or_no_memory(alloc: Global, text: &[u8], wanted: &[u8]) -> bool {
+    // Room for either, so that no write runs out of memory.
+    let Ok(room) = Vec::with_capacity(alloc, 4096) else {
+        return false;
+    };
+    let mut input = Watched::new(make_source(text, NINE));
+    let mut output = Watched::new(room);
+    let status = show(alloc, &mut input, &mut output);
+    let bytes = output.into_device();
+    match status {
+        0 => bytes.as_slice() == wanted,
+        1 => bytes.as_slice() == b"error: out of memory\n".as_slice(),
+        _ => false,
+    }
+}
+
+// Either the whole answer or the line of no memory, whichever allocation fails.
+#[test]
+fn memory(rt: HostRuntime) {
+    let text = b"0000000000000000 00000000 0B000004";
+    let wanted =
+        b"source=0 destination=0 tag=0 checksum=0\nCOOKIE-ACK\ncanonical=0000000000000000000000000b000004\n";
+    assert!(rt; is_answered_or_no_memory(rt.alloc(), text, wanted));
+}
