@@ -16,8 +16,4 @@ pub mod shutdown_ack_chunk;
 pub mod shutdown_chunk;
 pub mod shutdown_complete_chunk;
 mod skipped_streams;
-#[cfg(test)]
-mod tests;
-#[cfg(test)]
-mod tests_sack;
 pub mod unknown_chunk;

@@ -18,8 +18,6 @@ pub mod reconfiguration_response_parameter;
 pub mod skipped_stream;
 pub mod state_cookie_parameter;
 pub mod supported_extensions_parameter;
-#[cfg(test)]
-mod tests;
 pub mod text;
 pub mod tlv;
 pub mod unknown_parameter;

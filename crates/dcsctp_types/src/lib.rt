@@ -5,6 +5,4 @@
 
 pub mod api;
 pub mod laws;
-#[cfg(test)]
-mod tests;
 pub mod types;

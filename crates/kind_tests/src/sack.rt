@@ -1,0 +1,404 @@
+//! SACK, and the cleaning of its gap ack blocks.
+
+ghost use Rattle.std.specs.Prelude.{◌<◌, ◌≤◌};
+
+use crate::help::{Kind, is_kept, raw_chunk, rewritten, size_of, told};
+use dcsctp_chunk::chunk_validators::{clean_sack, validate_sack};
+use dcsctp_chunk::sack_chunk::{GapAckBlock, SackChunk};
+use dcsctp_tlv::error::ChunkParseError;
+use dcsctp_types::types::{SerialNumber, Tsn};
+use std::alloc::{AllocError, Global};
+use std::test::Fail;
+
+impl Kind for SackChunk {
+    fn read(alloc: Global, bytes: &[u8]) -> Result<Self, ChunkParseError> {
+        SackChunk::try_from(alloc, raw_chunk(bytes)?)
+    }
+}
+
+/// A captured SACK.
+const SACK: &[u8] = &[
+    0x03, 0x00, 0x00, 0x1c, 0x36, 0x9d, 0xd0, 0x0b, 0x00, 0x01, 0xed, 0x73, 0x00, 0x02, 0x00, 0x01,
+    0x00, 0x02, 0x00, 0x06, 0x00, 0x08, 0x00, 0x08, 0x36, 0x9d, 0xd0, 0x11,
+];
+
+fn is_valid_sack(alloc: Global, bytes: &[u8]) -> Result<bool, ChunkParseError> {
+    let sack = SackChunk::read(alloc, bytes)?;
+    Ok(validate_sack(&sack))
+}
+
+#[test]
+fn captured(rt: HostRuntime) -> Result<(), Fail> {
+    assert_eq!(rt;
+        told::<SackChunk>(rt.alloc(), SACK)?.as_str(),
+        "SackChunk { cumulative_tsn_ack: 916312075, a_rwnd: 126323, gap_ack_blocks: [GapAckBlock { start: 2, end: 6 }, GapAckBlock { start: 8, end: 8 }], duplicate_tsns: [916312081] }; SACK, cum_ack_tsn=916312075, a_rwnd=126323"
+    );
+    assert_eq!(rt; rewritten::<SackChunk>(rt.alloc(), SACK)?.as_slice(), SACK);
+    assert!(rt; is_valid_sack(rt.alloc(), SACK)?);
+    Ok(())
+}
+
+#[test]
+fn refused(rt: HostRuntime) -> Result<(), Fail> {
+    let rows: [(&[u8], &str); 5] = [
+        // one duplicate is counted, and none is there
+        (
+            &[3, 0, 0, 0x10, 0, 0, 0, 1, 0, 0, 0, 0, 0, 1, 0, 0],
+            "InvalidLength",
+        ),
+        // fewer bytes than the fixed part
+        (
+            &[3, 0, 0, 0x0f, 0, 0, 0, 1, 0, 0, 0, 0, 0, 0, 0],
+            "InvalidLength",
+        ),
+        // both counts at their most
+        (
+            &[
+                3, 0, 0, 0x10, 0, 0, 0, 1, 0, 0, 0, 0, 0xff, 0xff, 0xff, 0xff,
+            ],
+            "InvalidLength",
+        ),
+        // the captured one, with four bytes more than the counts say
+        (
+            &[
+                0x03, 0x00, 0x00, 0x20, 0x36, 0x9d, 0xd0, 0x0b, 0x00, 0x01, 0xed, 0x73, 0x00, 0x02,
+                0x00, 0x01, 0x00, 0x02, 0x00, 0x06, 0x00, 0x08, 0x00, 0x08, 0x36, 0x9d, 0xd0, 0x11,
+                0x00, 0x00, 0x00, 0x00,
+            ],
+            "InvalidLength",
+        ),
+        // another kind
+        (&[0x0b, 0, 0, 4], "InvalidType"),
+    ];
+    for (bytes, wanted) in rows {
+        assert_eq!(rt; told::<SackChunk>(rt.alloc(), bytes)?.as_str(), wanted);
+    }
+    Ok(())
+}
+
+fn size_with(alloc: Global, blocks: usize, tsns: usize) -> Result<Option<usize>, AllocError> {
+    let sack = SackChunk {
+        cumulative_tsn_ack: Tsn(1),
+        a_rwnd: 2,
+        gap_ack_blocks: vec![in alloc; GapAckBlock::new(3, 4); blocks]?,
+        duplicate_tsns: vec![in alloc; Tsn(5); tsns]?,
+    };
+    Ok(size_of(&sack))
+}
+
+#[test]
+fn sizes(rt: HostRuntime) -> Result<(), Fail> {
+    // the most blocks, one more, and the same with TSNs among them
+    let rows = [
+        (16379, 0, Some(65532)),
+        (16380, 0, None),
+        (16378, 1, Some(65532)),
+        (0, 16379, Some(65532)),
+        (8190, 8190, None),
+    ];
+    for (blocks, tsns, size) in rows {
+        assert_eq!(rt;
+            size_with(rt.alloc(), blocks, tsns)?,
+            size,
+            "{blocks}, {tsns}"
+        );
+    }
+    Ok(())
+}
+
+/// Blocks from their starts and ends.
+fn blocks_of(alloc: Global, pairs: &[(u16, u16)]) -> Result<Vec<GapAckBlock>, AllocError> {
+    let mut blocks = Vec::new(alloc);
+    for (start, end) in pairs {
+        blocks.push(GapAckBlock::new(*start, *end))?;
+    }
+    Ok(blocks)
+}
+
+/// A SACK of TSN 7 with these blocks.
+fn sack_of(alloc: Global, gap_ack_blocks: Vec<GapAckBlock>) -> SackChunk {
+    SackChunk {
+        cumulative_tsn_ack: Tsn(7),
+        a_rwnd: 9,
+        gap_ack_blocks,
+        duplicate_tsns: Vec::new(alloc),
+    }
+}
+
+fn is_valid(alloc: Global, pairs: &[(u16, u16)]) -> Result<bool, AllocError> {
+    let sack = sack_of(alloc, blocks_of(alloc, pairs)?);
+    Ok(validate_sack(&sack))
+}
+
+/// Whether the blocks are cleaned to these, and then pass as valid or not.
+fn cleans_to(alloc: Global, blocks: Vec<GapAckBlock>, wanted: &[GapAckBlock], valid: bool) -> bool {
+    let cleaned = clean_sack(sack_of(alloc, blocks));
+    cleaned.gap_ack_blocks.as_slice() == wanted && validate_sack(&cleaned) == valid
+}
+
+fn is_cleaned(
+    alloc: Global,
+    pairs: &[(u16, u16)],
+    wanted: &[(u16, u16)],
+    valid: bool,
+) -> Result<bool, AllocError> {
+    let wanted = blocks_of(alloc, wanted)?;
+    Ok(cleans_to(alloc, blocks_of(alloc, pairs)?, &wanted, valid))
+}
+
+/// Blocks, whether they are valid, what they are cleaned to, and whether that is valid.
+const CLEANED: &[(&[(u16, u16)], bool, &[(u16, u16)], bool)] = &[
+    // in order
+    (&[], true, &[], true),
+    (&[(2, 3)], true, &[(2, 3)], true),
+    (&[(2, 3), (5, 6)], true, &[(2, 3), (5, 6)], true),
+    // the first starts too low, and stays
+    (&[(1, 2)], false, &[(1, 2)], false),
+    (&[(1, 6)], false, &[(1, 6)], false),
+    (&[(0, 0), (0, 0)], false, &[(0, 0)], false),
+    // reversed
+    (&[(2, 3), (6, 4)], false, &[(2, 3)], true),
+    (&[(6, 4)], false, &[], true),
+    (&[(1, 0)], false, &[], true),
+    // not by rising start
+    (&[(6, 7), (3, 4)], false, &[(3, 4), (6, 7)], true),
+    (&[(10, 10), (5, 5)], false, &[(5, 5), (10, 10)], true),
+    (
+        &[(65534, 65535), (2, 3)],
+        false,
+        &[(2, 3), (65534, 65535)],
+        true,
+    ),
+    // they overlap
+    (&[(3, 4), (4, 5)], false, &[(3, 5)], true),
+    (&[(3, 10), (4, 5)], false, &[(3, 10)], true),
+    (&[(3, 7), (3, 5), (3, 9)], false, &[(3, 9)], true),
+    (&[(3, 7), (5, 9)], false, &[(3, 9)], true),
+    (&[(0, 65535), (7, 7)], false, &[(0, 65535)], false),
+    (&[(2, 65535), (10, 11)], false, &[(2, 65535)], true),
+    // they touch
+    (&[(3, 4), (5, 6)], false, &[(3, 6)], true),
+    (&[(2, 3), (4, 5)], false, &[(2, 5)], true),
+    (&[(5, 5), (7, 7), (6, 6)], false, &[(5, 7)], true),
+    (&[(5, 6), (1, 3), (4, 4)], false, &[(1, 6)], false),
+    // the highest offset touches none
+    (
+        &[(65535, 65535), (0, 0)],
+        false,
+        &[(0, 0), (65535, 65535)],
+        false,
+    ),
+];
+
+#[test]
+fn validated_and_cleaned(rt: HostRuntime) -> Result<(), Fail> {
+    for (i, (pairs, valid, wanted, valid_then)) in CLEANED.iter().enumerate() {
+        assert_eq!(rt; is_valid(rt.alloc(), pairs)?, *valid, "row {i}");
+        assert!(rt;
+            is_cleaned(rt.alloc(), pairs, wanted, *valid_then)?,
+            "row {i}"
+        );
+    }
+    Ok(())
+}
+
+/// All fields of a SACK with a reversed block, after its cleaning.
+fn kept_fields(alloc: Global) -> Result<String, AllocError> {
+    let cleaned = clean_sack(SackChunk {
+        cumulative_tsn_ack: Tsn(7),
+        a_rwnd: 9,
+        gap_ack_blocks: blocks_of(alloc, &[(6, 4)])?,
+        duplicate_tsns: Vec::from_slice(alloc, &[Tsn(9), Tsn(9), Tsn(3)])?,
+    });
+    format!(in alloc; "{cleaned:?}")
+}
+
+/// Whether offsets 2 to 8 are valid in a SACK of this TSN.
+fn is_valid_from(alloc: Global, cumulative_tsn_ack: Tsn) -> Result<bool, AllocError> {
+    let mut sack = sack_of(alloc, blocks_of(alloc, &[(2, 8)])?);
+    sack.cumulative_tsn_ack = cumulative_tsn_ack;
+    Ok(validate_sack(&sack))
+}
+
+fn is_sack_kept(alloc: Global) -> Result<bool, AllocError> {
+    let sack = SackChunk {
+        cumulative_tsn_ack: Tsn(4294967295),
+        a_rwnd: 4294967294,
+        gap_ack_blocks: blocks_of(alloc, &[(65535, 1), (0, 0)])?,
+        duplicate_tsns: Vec::from_slice(alloc, &[Tsn(3), Tsn(4294967293), Tsn(3)])?,
+    };
+    is_kept(alloc, &sack)
+}
+
+#[test]
+fn other_fields(rt: HostRuntime) -> Result<(), Fail> {
+    assert_eq!(rt;
+        kept_fields(rt.alloc())?.as_str(),
+        "SackChunk { cumulative_tsn_ack: 7, a_rwnd: 9, gap_ack_blocks: [], duplicate_tsns: [9, 9, 3] }"
+    );
+    // offsets past the last TSN
+    let cumulative = Tsn(4294967290);
+    assert!(rt; is_valid_from(rt.alloc(), cumulative)?);
+    let last = cumulative + 8;
+    assert_eq!(rt; last, Tsn(2));
+    assert!(rt; last.greater_than(cumulative));
+    // blocks in any order, and reversed ones, are written and read as they are
+    assert!(rt; is_sack_kept(rt.alloc())?);
+    Ok(())
+}
+
+/// The next number of a xorshift generator.
+fn next(seed: u32) -> u32 {
+    let mut x = seed;
+    x ^= x << 13;
+    x ^= x >> 17;
+    x ^= x << 5;
+    x
+}
+
+/// Which of all offsets the blocks cover.
+fn table_of(alloc: Global, blocks: &[GapAckBlock]) -> Result<Vec<bool>, AllocError> {
+    let mut table = vec![in alloc; false; 65536]?;
+    for block in blocks {
+        for offset in block.start..=block.end {
+            if let Some(covered) = table.get_mut(offset as usize) {
+                *covered = true;
+            }
+        }
+    }
+    Ok(table)
+}
+
+/// The runs of a table of offsets.
+fn runs_of(alloc: Global, table: &[bool]) -> Result<Vec<GapAckBlock>, AllocError> {
+    let mut runs = Vec::new(alloc);
+    let mut run: Option<GapAckBlock> = None;
+    let mut offset: u16 = 0;
+    for covered in table {
+        match run {
+            Some(block) if *covered => run = Some(GapAckBlock::new(block.start, offset)),
+            Some(block) => {
+                runs.push(block)?;
+                run = None;
+            }
+            None if *covered => run = Some(GapAckBlock::new(offset, offset)),
+            None => {}
+        }
+        offset = offset.wrapping_add(1);
+    }
+    if let Some(block) = run {
+        runs.push(block)?;
+    }
+    Ok(runs)
+}
+
+/// The runs of the offsets that the blocks cover.
+fn runs_by_table(alloc: Global, blocks: &[GapAckBlock]) -> Result<Vec<GapAckBlock>, AllocError> {
+    let table = table_of(alloc, blocks)?;
+    runs_of(alloc, &table)
+}
+
+/// Whether the blocks are cleaned to those runs, which are valid where the first starts at 2 or
+/// later.
+fn cleans_as_by_a_table(alloc: Global, blocks: Vec<GapAckBlock>) -> Result<bool, AllocError> {
+    let wanted = runs_by_table(alloc, &blocks)?;
+    let valid = match wanted.first() {
+        Some(block) => block.start >= 2,
+        None => true,
+    };
+    Ok(cleans_to(alloc, blocks, &wanted, valid))
+}
+
+/// Fills in blocks of offsets below a number, and answers the seed of the next ones.
+fn fill(pairs: &mut [(u16, u16)], seed: u32, range: u32) -> u32
+    requires some { 0 < range }
+    requires fits { range ≤ 65536 }
+{
+    let mut seed = seed;
+    for pair in pairs {
+        let start = next(seed);
+        seed = next(start);
+        *pair = ((start % range) as u16, (seed % range) as u16);
+    }
+    seed
+}
+
+fn pairs_clean_as_by_a_table(alloc: Global, pairs: &[(u16, u16)]) -> Result<bool, AllocError> {
+    cleans_as_by_a_table(alloc, blocks_of(alloc, pairs)?)
+}
+
+#[test]
+fn cleaned_as_by_a_table(rt: HostRuntime) -> Result<(), Fail> {
+    let mut seed = 2463534242;
+    let mut pairs = [(0, 0); 12];
+    for list in 0..300u32 {
+        // offsets close together, or from the whole range
+        let range = if list % 3 == 0 { 65536 } else { 40 };
+        let used = &mut pairs[..(list % 13) as usize];
+        seed = fill(used, seed, range);
+        assert!(rt; pairs_clean_as_by_a_table(rt.alloc(), used)?, "{list}");
+    }
+    Ok(())
+}
+
+/// Blocks of one offset each: the even ones from 2 on, so many, by rising start.
+fn rising(alloc: Global, count: u16) -> Result<Vec<GapAckBlock>, AllocError> {
+    let mut blocks = Vec::new(alloc);
+    for i in 0..count {
+        let offset = i.wrapping_mul(2).wrapping_add(2);
+        blocks.push(GapAckBlock::new(offset, offset))?;
+    }
+    Ok(blocks)
+}
+
+/// The same by falling start.
+fn falling(alloc: Global, count: u16) -> Result<Vec<GapAckBlock>, AllocError> {
+    let mut blocks = Vec::new(alloc);
+    for i in 0..count {
+        let offset = count.wrapping_sub(i).wrapping_mul(2);
+        blocks.push(GapAckBlock::new(offset, offset))?;
+    }
+    Ok(blocks)
+}
+
+/// Blocks of one even offset each, by turns from the front and from the end.
+fn alternating(alloc: Global, count: u16) -> Result<Vec<GapAckBlock>, AllocError> {
+    let mut blocks = Vec::new(alloc);
+    for i in 0..count {
+        let place = (i / 2).wrapping_mul(2);
+        let offset = if i % 2 == 0 {
+            place.wrapping_add(2)
+        } else {
+            65534u16.wrapping_sub(place)
+        };
+        blocks.push(GapAckBlock::new(offset, offset))?;
+    }
+    Ok(blocks)
+}
+
+fn falling_are_sorted(alloc: Global, count: u16) -> Result<bool, AllocError> {
+    let wanted = rising(alloc, count)?;
+    Ok(cleans_to(alloc, falling(alloc, count)?, &wanted, true))
+}
+
+fn alternating_are_sorted(alloc: Global, count: u16) -> Result<bool, AllocError> {
+    cleans_as_by_a_table(alloc, alternating(alloc, count)?)
+}
+
+/// Falling blocks, and after them one that covers them all from 1 to 601.
+fn falling_are_merged(alloc: Global) -> Result<bool, AllocError> {
+    let mut blocks = falling(alloc, 300)?;
+    blocks.push(GapAckBlock::new(1, 601))?;
+    Ok(cleans_to(alloc, blocks, &[GapAckBlock::new(1, 601)], false))
+}
+
+#[test]
+fn many_blocks(rt: HostRuntime) -> Result<(), Fail> {
+    // the most that a SACK can have
+    assert!(rt; falling_are_sorted(rt.alloc(), 16379)?);
+    assert!(rt; alternating_are_sorted(rt.alloc(), 16379)?);
+    // 600, 598 .. 2, and the same with a block over all
+    assert!(rt; falling_are_sorted(rt.alloc(), 300)?);
+    assert!(rt; falling_are_merged(rt.alloc())?);
+    Ok(())
+}
