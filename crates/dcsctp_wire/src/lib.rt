@@ -8,6 +8,3 @@ pub mod laws;
 pub mod packet;
 
 pub use dcsctp_types::{api, types};
-
-#[cfg(test)]
-mod tests;

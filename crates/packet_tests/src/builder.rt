@@ -1,0 +1,306 @@
+//! Packets that are built chunk by chunk.
+
+use crate::help::{answer_of, chunk_of, chunks_of, header_of};
+use dcsctp_wire::api::{PpId, StreamId};
+use dcsctp_wire::packet::chunk::Chunk;
+use dcsctp_wire::packet::data::Data;
+use dcsctp_wire::packet::data_chunk::DataChunk;
+use dcsctp_wire::packet::sctp_packet::{ChecksumPolicy, SctpPacketBuilder};
+use dcsctp_wire::packet::{ChunkParseError, SerializableTlv, round_up_to_4};
+use dcsctp_wire::types::{Fsn, Mid, Ssn, StreamKey, Tsn};
+use std::alloc::{AllocError, Global};
+use std::test::Fail;
+
+/// A packet that is built twice with one builder.
+struct Row {
+    tag: u32,
+    ports: (u16, u16),
+    limit: usize,
+    switch: bool,
+    /// The room ahead of each chunk, and the chunk.
+    chunks: &'static [(usize, &'static [u8])],
+    /// The room after the last.
+    room: usize,
+    word: u32,
+    packet: &'static [u8],
+    /// The same with a checksum field of zero.
+    unsigned: &'static [u8],
+}
+
+const COOKIE_ACK: &[u8] = &[0x0b, 0, 0, 4];
+
+const COOKIE_ECHO: &[u8] = &[0x0a, 0, 0, 5, 0x7f];
+
+const SHUTDOWN: &[u8] = &[7, 0, 0, 8, 6, 0x11, 0xd1, 0xbd];
+
+const ROWS: &[Row] = &[
+    // one chunk, with the switch off: the word is left out
+    Row {
+        tag: 16909060,
+        ports: (5000, 5000),
+        limit: 1191,
+        switch: false,
+        chunks: &[(1176, COOKIE_ACK)],
+        room: 1172,
+        word: 7,
+        packet: &[
+            0x13, 0x88, 0x13, 0x88, 1, 2, 3, 4, 0, 0, 0, 0, 0x0b, 0, 0, 4,
+        ],
+        unsigned: &[
+            0x13, 0x88, 0x13, 0x88, 1, 2, 3, 4, 0, 0, 0, 0, 0x0b, 0, 0, 4,
+        ],
+    },
+    // a chunk with padding, another after it, and room that is left
+    Row {
+        tag: 7,
+        ports: (1, 2),
+        limit: 40,
+        switch: true,
+        chunks: &[(28, COOKIE_ECHO), (20, SHUTDOWN)],
+        room: 12,
+        word: 9,
+        packet: TWO_CHUNKS,
+        unsigned: &[
+            0, 1, 0, 2, 0, 0, 0, 7, 0, 0, 0, 0, 0x0a, 0, 0, 5, 0x7f, 0, 0, 0, 7, 0, 0, 8, 6, 0x11,
+            0xd1, 0xbd,
+        ],
+    },
+    // the least limit for a chunk, used up; the word's first byte stands first
+    Row {
+        tag: 7,
+        ports: (1, 2),
+        limit: 16,
+        switch: true,
+        chunks: &[(4, COOKIE_ACK)],
+        room: 0,
+        word: 0x01020304,
+        packet: &[0, 1, 0, 2, 0, 0, 0, 7, 1, 2, 3, 4, 0x0b, 0, 0, 4],
+        unsigned: &[0, 1, 0, 2, 0, 0, 0, 7, 0, 0, 0, 0, 0x0b, 0, 0, 4],
+    },
+    // no chunk: no bytes, and no word
+    Row {
+        tag: 7,
+        ports: (1, 2),
+        limit: 40,
+        switch: true,
+        chunks: &[],
+        room: 28,
+        word: 9,
+        packet: &[],
+        unsigned: &[],
+    },
+];
+
+/// What the second row builds.
+const TWO_CHUNKS: &[u8] = &[
+    0, 1, 0, 2, 0, 0, 0, 7, 0, 0, 0, 9, 0x0a, 0, 0, 5, 0x7f, 0, 0, 0, 7, 0, 0, 8, 6, 0x11, 0xd1,
+    0xbd,
+];
+
+/// Adds the chunk if there is room for it, and tells whether there was.
+fn add_if_room(builder: &mut SctpPacketBuilder, chunk: &Chunk) -> Result<bool, AllocError> {
+    if !chunk.encodable() {
+        return Ok(false);
+    }
+    if round_up_to_4(chunk.serialized_size()) > builder.bytes_remaining() {
+        return Ok(false);
+    }
+    builder.add(chunk)?;
+    Ok(true)
+}
+
+/// The same of the chunk that the bytes are.
+fn add(
+    alloc: Global,
+    builder: &mut SctpPacketBuilder,
+    bytes: &[u8],
+) -> Result<bool, ChunkParseError> {
+    let chunk = chunk_of(alloc, bytes)?;
+    Ok(add_if_room(builder, &chunk)?)
+}
+
+/// Adds the row's chunks, and tells whether there was the room that the row has, each time.
+fn is_filled(
+    alloc: Global,
+    builder: &mut SctpPacketBuilder,
+    row: &Row,
+) -> Result<bool, ChunkParseError> {
+    let mut is_filled = builder.is_empty();
+    for (room, bytes) in row.chunks {
+        is_filled &= builder.bytes_remaining() == *room;
+        is_filled &= add(alloc, builder, bytes)?;
+        is_filled &= !builder.is_empty();
+    }
+    Ok(is_filled && builder.bytes_remaining() == row.room)
+}
+
+/// The packet so far is these bytes.
+fn holds(builder: &SctpPacketBuilder, bytes: &[u8]) -> bool {
+    builder.as_bytes() == bytes
+}
+
+/// With this word, the packet is these bytes.
+fn builds(builder: &mut SctpPacketBuilder, word: u32, bytes: &[u8]) -> bool {
+    builder.build(word).as_slice() == bytes
+}
+
+/// Whether the row was built, and built again.
+fn is_built_twice(alloc: Global, row: &Row) -> Result<bool, ChunkParseError> {
+    let mut builder = SctpPacketBuilder::new(alloc, row.tag, row.ports.0, row.ports.1, row.limit);
+    builder.write_checksum(row.switch);
+    let mut is_built = true;
+    for _ in 0..2 {
+        is_built &= is_filled(alloc, &mut builder, row)?;
+        is_built &= holds(&builder, row.unsigned);
+        is_built &= builds(&mut builder, row.word, row.packet);
+    }
+    Ok(is_built)
+}
+
+#[test]
+fn built(rt: HostRuntime) -> Result<(), Fail> {
+    for (i, row) in ROWS.iter().enumerate() {
+        assert!(rt; is_built_twice(rt.alloc(), row)?, "row {i}");
+    }
+    Ok(())
+}
+
+/// The room of a limit, whether a chunk without value fits, and the room after it.
+fn rooms_of(alloc: Global, limit: usize) -> Result<(usize, bool, usize), ChunkParseError> {
+    let mut builder = SctpPacketBuilder::new(alloc, 7, 1, 2, limit);
+    let room = builder.bytes_remaining();
+    let fits = add(alloc, &mut builder, COOKIE_ACK)?;
+    Ok((room, fits, builder.bytes_remaining()))
+}
+
+#[test]
+fn rooms(rt: HostRuntime) -> Result<(), Fail> {
+    // The limit, the room, whether a chunk without value fits.
+    let rows = [
+        // less than a header
+        (11, 0, false),
+        // a header, and not all of a chunk's
+        (15, 0, false),
+        // a header and a chunk without value
+        (16, 4, true),
+        // limits count by fours
+        (19, 4, true),
+    ];
+    for (limit, room, fits) in rows {
+        assert_eq!(rt; rooms_of(rt.alloc(), limit)?, (room, fits, 0), "{limit}");
+    }
+    Ok(())
+}
+
+/// Whether a builder of the largest limit refuses its first chunk, how many bytes it holds then,
+/// and whether it is empty with as much room as ahead of it.
+fn refused_first(alloc: Global) -> Result<(bool, usize, bool), ChunkParseError> {
+    let chunk = chunk_of(alloc, COOKIE_ACK)?;
+    let mut builder = SctpPacketBuilder::new(alloc, 7, 1, 2, usize::MAX);
+    let room = builder.bytes_remaining();
+    let is_refused = add_if_room(&mut builder, &chunk).is_err();
+    let is_same = builder.is_empty() && builder.bytes_remaining() == room;
+    Ok((is_refused, builder.as_bytes().len(), is_same))
+}
+
+// No memory holds such a packet: the first chunk is refused, and nothing has changed.
+#[test]
+fn too_large(rt: HostRuntime) -> Result<(), Fail> {
+    assert_eq!(rt; refused_first(rt.alloc())?, (true, 0, true));
+    Ok(())
+}
+
+#[test]
+fn read_back(rt: HostRuntime) -> Result<(), Fail> {
+    let policy = ChecksumPolicy::default();
+    // the word is in its field
+    let header = header_of(rt.alloc(), TWO_CHUNKS, 9, &policy)?;
+    assert_eq!(rt; header, (1, 2, 7, 9));
+    let text = "COOKIE-ECHO, cookie=1 bytes\nSHUTDOWN cumulative_tsn_ack=101831101\n";
+    assert_eq!(rt;
+        answer_of(rt.alloc(), TWO_CHUNKS, 9, &policy)?.as_str(),
+        text
+    );
+    // another word isn't
+    assert_eq!(rt;
+        answer_of(rt.alloc(), TWO_CHUNKS, 8, &policy)?.as_str(),
+        "InvalidChecksum"
+    );
+    Ok(())
+}
+
+/// The room after a packet was built and the switch was off, and on again; then the checksum field
+/// of a packet that is built with the switch off.
+fn switched(alloc: Global) -> Result<(usize, u32), Fail> {
+    let mut builder = SctpPacketBuilder::new(alloc, 7, 1, 2, 40);
+    add(alloc, &mut builder, COOKIE_ECHO)?;
+    builder.build(9);
+    let room = builder
+        .write_checksum(false)
+        .write_checksum(true)
+        .bytes_remaining();
+    builder.write_checksum(false);
+    add(alloc, &mut builder, COOKIE_ECHO)?;
+    let bytes = builder.build(9);
+    let (_, _, _, field) = header_of(alloc, &bytes, 0, &ChecksumPolicy::default())?;
+    Ok((room, field))
+}
+
+#[test]
+fn switch(rt: HostRuntime) -> Result<(), Fail> {
+    assert_eq!(rt; switched(rt.alloc())?, (28, 0));
+    Ok(())
+}
+
+/// A DATA with a field that it doesn't carry, the MID.
+fn data(alloc: Global) -> Chunk {
+    Chunk::Data(DataChunk {
+        tsn: Tsn(1),
+        user_data: Data {
+            stream_key: StreamKey::Unordered(StreamId(2)),
+            ssn: Ssn(3),
+            mid: Mid(9),
+            fsn: Fsn(0),
+            ppid: PpId(4),
+            payload: Vec::new(alloc),
+            is_beginning: true,
+            is_end: true,
+        },
+        immediate_ack: false,
+    })
+}
+
+const WITH_DATA: &[u8] = &[
+    0, 1, 0, 2, 0, 0, 0, 7, 0, 0, 0, 9, 0x0a, 0, 0, 5, 0x7f, 0, 0, 0, 0, 7, 0, 16, 0, 0, 0, 1, 0,
+    2, 0, 3, 0, 0, 0, 4,
+];
+
+/// The rooms ahead of a COOKIE ECHO, between both, and after the DATA, and whether the packet is
+/// built as it is to be.
+fn built_with_data(alloc: Global) -> Result<(usize, usize, usize, bool), ChunkParseError> {
+    let mut builder = SctpPacketBuilder::new(alloc, 7, 1, 2, 40);
+    let first = builder.bytes_remaining();
+    add(alloc, &mut builder, COOKIE_ECHO)?;
+    let second = builder.bytes_remaining();
+    add_if_room(&mut builder, &data(alloc))?;
+    let last = builder.bytes_remaining();
+    let is_built = builder.build(9).as_slice() == WITH_DATA;
+    Ok((first, second, last, is_built))
+}
+
+// The MID isn't written, and reads back as 0.
+#[test]
+fn not_carried(rt: HostRuntime) -> Result<(), Fail> {
+    assert_eq!(rt; built_with_data(rt.alloc())?, (28, 20, 4, true));
+    let policy = ChecksumPolicy::default();
+    assert_eq!(rt;
+        chunks_of(rt.alloc(), WITH_DATA, 9, &policy)?.as_str(),
+        "[CookieEcho(CookieEchoChunk { cookie: [127] }), Data(DataChunk { tsn: 1, user_data: Data { stream_key: Unordered(2), ssn: 3, mid: 0, fsn: 0, ppid: 4, payload: [], is_beginning: true, is_end: true }, immediate_ack: false })]"
+    );
+    // another word is expected
+    assert_eq!(rt;
+        answer_of(rt.alloc(), WITH_DATA, 8, &policy)?.as_str(),
+        "InvalidChecksum"
+    );
+    Ok(())
+}

@@ -1,0 +1,102 @@
+//! Checksum words: which of them are accepted, with verification on.
+
+use crate::help::{answer_of, header_of, is_canonical};
+use dcsctp_wire::api::ZERO_CHECKSUM_ALTERNATE_ERROR_DETECTION_METHOD_LOWER_LAYER_DTLS;
+use dcsctp_wire::packet::sctp_packet::ChecksumPolicy;
+use std::test::Fail;
+
+/// A packet whose checksum field is zero.
+const ZERO: &[u8] = &[
+    0x13, 0x88, 0x13, 0x88, 1, 2, 3, 4, 0, 0, 0, 0, 0x0b, 0, 0, 4,
+];
+
+/// The same whose field is 5, most significant byte first.
+const FIVE: &[u8] = &[
+    0x13, 0x88, 0x13, 0x88, 1, 2, 3, 4, 0, 0, 0, 5, 0x0b, 0, 0, 4,
+];
+
+/// The same with its CRC32c as it stands in a packet: least significant byte first.
+const TRUE: &[u8] = &[
+    0x13, 0x88, 0x13, 0x88, 1, 2, 3, 4, 0xee, 0x5a, 0x51, 0xa5, 0x0b, 0, 0, 4,
+];
+
+/// The CRC32c of the packet whose field is zero, as another program computes it.
+const CRC32C: u32 = 0xa5515aee;
+
+/// The packet, the word that is expected, whether there is another method, and the answer.
+const ROWS: &[(&[u8], u32, bool, &str)] = &[
+    // a zero field is wrong without another method
+    (ZERO, 5, false, "InvalidChecksum"),
+    // a zero field is accepted under another method
+    (ZERO, 5, true, "COOKIE-ACK\n"),
+    // a zero field is accepted where zero is expected
+    (ZERO, 0, false, "COOKIE-ACK\n"),
+    // a field that is the expected word
+    (FIVE, 5, false, "COOKIE-ACK\n"),
+    // another method accepts the word too, and no other number but zero
+    (FIVE, 5, true, "COOKIE-ACK\n"),
+    (FIVE, 6, true, "InvalidChecksum"),
+    // the size is told ahead of the checksum
+    (
+        &[0, 0, 0, 0, 0, 0, 0, 0, 0, 0, 0, 0, 0, 0, 0],
+        5,
+        false,
+        "InvalidPacketSize",
+    ),
+    // the checksum is told ahead of the chunks: a length below 4, and one beyond the packet
+    (
+        &[
+            0x13, 0x88, 0x13, 0x88, 1, 2, 3, 4, 0, 0, 0, 0, 0x0b, 0, 0, 3,
+        ],
+        5,
+        false,
+        "InvalidChecksum",
+    ),
+    (
+        &[
+            0x13, 0x88, 0x13, 0x88, 1, 2, 3, 4, 0, 0, 0, 0, 0x0b, 0, 0, 5,
+        ],
+        5,
+        false,
+        "InvalidChecksum",
+    ),
+];
+
+#[test]
+fn verified(rt: HostRuntime) -> Result<(), Fail> {
+    let none = ChecksumPolicy::default();
+    let dtls = ChecksumPolicy {
+        disable_checksum_verification: false,
+        zero_checksum_alternate_error_detection_method: ZERO_CHECKSUM_ALTERNATE_ERROR_DETECTION_METHOD_LOWER_LAYER_DTLS,
+    };
+    for (i, (bytes, word, other, wanted)) in ROWS.iter().enumerate() {
+        let policy = if *other { &dtls } else { &none };
+        assert_eq!(rt;
+            answer_of(rt.alloc(), bytes, *word, policy)?.as_str(),
+            *wanted,
+            "row {i}"
+        );
+    }
+    Ok(())
+}
+
+// The word is the CRC32c with its bytes swapped, and not the CRC32c as it is.
+#[test]
+fn of_a_real_packet(rt: HostRuntime) -> Result<(), Fail> {
+    let policy = ChecksumPolicy::default();
+    let accepted = answer_of(rt.alloc(), TRUE, CRC32C.swap_bytes(), &policy)?;
+    assert_eq!(rt; accepted.as_str(), "COOKIE-ACK\n");
+    let refused = answer_of(rt.alloc(), TRUE, CRC32C, &policy)?;
+    assert_eq!(rt; refused.as_str(), "InvalidChecksum");
+    Ok(())
+}
+
+// The field is a part of what is read, and none of the canonical packet, where it is 0.
+#[test]
+fn field(rt: HostRuntime) -> Result<(), Fail> {
+    let policy = ChecksumPolicy::default();
+    let header = header_of(rt.alloc(), FIVE, 5, &policy)?;
+    assert_eq!(rt; header, (5000, 5000, 16909060, 5));
+    assert!(rt; is_canonical(rt.alloc(), FIVE, 5, &policy, ZERO)?);
+    Ok(())
+}

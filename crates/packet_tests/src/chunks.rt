@@ -1,0 +1,339 @@
+//! Chunks of each kind, worked by hand: read, printed and written again.
+
+use crate::help::{fields_of, is_rewritten, is_shown, text_of};
+use dcsctp_wire::api::{PpId, StreamId};
+use dcsctp_wire::packet::chunk::Chunk;
+use dcsctp_wire::packet::data::Data;
+use dcsctp_wire::packet::data_chunk::DataChunk;
+use dcsctp_wire::packet::idata_chunk::IDataChunk;
+use dcsctp_wire::packet::unknown_chunk::UnknownChunk;
+use dcsctp_wire::packet::{TLV_HEADER_SIZE, error_chunk, heartbeat_ack_chunk};
+use dcsctp_wire::types::{Fsn, Mid, Ssn, StreamKey, Tsn};
+use std::alloc::{AllocError, Global};
+use std::test::Fail;
+
+/// The bytes, what the chunk prints, all that it holds, and the chunk as it is written again.
+const ROWS: &[(&[u8], &str, &str, &[u8])] = &[
+    // DATA in mid-message, which asks for an immediate ack; it carries no MID and no FSN
+    (
+        &[
+            0, 8, 0, 0x15, 0, 0, 0, 0x7b, 1, 0xc8, 3, 0x15, 0, 0, 0x23, 0x82, 1, 2, 3, 4, 5,
+        ],
+        "DATA, type=ordered::middle, tsn=123, sid=456, ssn=789, ppid=9090, length=5",
+        "Data(DataChunk { tsn: 123, user_data: Data { stream_key: Ordered(456), ssn: 789, mid: 0, fsn: 0, ppid: 9090, payload: [1, 2, 3, 4, 5], is_beginning: false, is_end: false }, immediate_ack: true })",
+        &[
+            0, 8, 0, 0x15, 0, 0, 0, 0x7b, 1, 0xc8, 3, 0x15, 0, 0, 0x23, 0x82, 1, 2, 3, 4, 5,
+        ],
+    ),
+    // no payload
+    (
+        &[0, 7, 0, 0x10, 0, 0, 0, 1, 0, 2, 0, 3, 0, 0, 0, 4],
+        "DATA, type=unordered::complete, tsn=1, sid=2, ssn=3, ppid=4, length=0",
+        "Data(DataChunk { tsn: 1, user_data: Data { stream_key: Unordered(2), ssn: 3, mid: 0, fsn: 0, ppid: 4, payload: [], is_beginning: true, is_end: true }, immediate_ack: false })",
+        &[0, 7, 0, 0x10, 0, 0, 0, 1, 0, 2, 0, 3, 0, 0, 0, 4],
+    ),
+    (
+        &[0, 2, 0, 0x10, 0, 0, 0, 1, 0, 2, 0, 3, 0, 0, 0, 4],
+        "DATA, type=ordered::first, tsn=1, sid=2, ssn=3, ppid=4, length=0",
+        "Data(DataChunk { tsn: 1, user_data: Data { stream_key: Ordered(2), ssn: 3, mid: 0, fsn: 0, ppid: 4, payload: [], is_beginning: true, is_end: false }, immediate_ack: false })",
+        &[0, 2, 0, 0x10, 0, 0, 0, 1, 0, 2, 0, 3, 0, 0, 0, 4],
+    ),
+    // the immediate ack and the four highest flags aren't printed, and the latter aren't kept
+    (
+        &[0, 0xfd, 0, 0x10, 0, 0, 0, 1, 0, 2, 0, 3, 0, 0, 0, 4],
+        "DATA, type=unordered::last, tsn=1, sid=2, ssn=3, ppid=4, length=0",
+        "Data(DataChunk { tsn: 1, user_data: Data { stream_key: Unordered(2), ssn: 3, mid: 0, fsn: 0, ppid: 4, payload: [], is_beginning: false, is_end: true }, immediate_ack: true })",
+        &[0, 0x0d, 0, 0x10, 0, 0, 0, 1, 0, 2, 0, 3, 0, 0, 0, 4],
+    ),
+    // INIT and INIT ACK with a parameter each
+    (
+        &[
+            1, 0, 0, 28, 0, 0, 0, 1, 0, 0, 0, 2, 0, 3, 0, 4, 0, 0, 0, 5, 0x80, 1, 0, 8, 0, 0, 0, 1,
+        ],
+        "INIT, initiate_tag=1, initial_tsn=5",
+        "Init(InitChunk { initiate_tag: 1, a_rwnd: 2, nbr_outbound_streams: 3, nbr_inbound_streams: 4, initial_tsn: 5, parameters: [ZeroChecksumAcceptable(ZeroChecksumAcceptableParameter { method: ZeroChecksumAlternateErrorDetectionMethod(1) })] })",
+        &[
+            1, 0, 0, 28, 0, 0, 0, 1, 0, 0, 0, 2, 0, 3, 0, 4, 0, 0, 0, 5, 0x80, 1, 0, 8, 0, 0, 0, 1,
+        ],
+    ),
+    (
+        &[
+            2, 0, 0, 27, 0, 0, 0, 1, 0, 0, 0, 2, 0, 3, 0, 4, 0, 0, 0, 5, 0, 7, 0, 7, 7, 8, 9,
+        ],
+        "INIT-ACK, initiate_tag=1, initial_tsn=5",
+        "InitAck(InitAckChunk { initiate_tag: 1, a_rwnd: 2, nbr_outbound_streams: 3, nbr_inbound_streams: 4, initial_tsn: 5, parameters: [StateCookie(StateCookieParameter { cookie: [7, 8, 9] })] })",
+        &[
+            2, 0, 0, 27, 0, 0, 0, 1, 0, 0, 0, 2, 0, 3, 0, 4, 0, 0, 0, 5, 0, 7, 0, 7, 7, 8, 9,
+        ],
+    ),
+    // a SACK with a number in each field, and one without blocks and duplicates
+    (
+        &[
+            3, 0, 0, 24, 0, 0, 0, 1, 0, 0, 0, 2, 0, 1, 0, 1, 0, 3, 0, 4, 0, 0, 0, 5,
+        ],
+        "SACK, cum_ack_tsn=1, a_rwnd=2",
+        "Sack(SackChunk { cumulative_tsn_ack: 1, a_rwnd: 2, gap_ack_blocks: [GapAckBlock { start: 3, end: 4 }], duplicate_tsns: [5] })",
+        &[
+            3, 0, 0, 24, 0, 0, 0, 1, 0, 0, 0, 2, 0, 1, 0, 1, 0, 3, 0, 4, 0, 0, 0, 5,
+        ],
+    ),
+    (
+        &[3, 0, 0, 16, 0, 0, 0, 1, 0, 0, 0, 2, 0, 0, 0, 0],
+        "SACK, cum_ack_tsn=1, a_rwnd=2",
+        "Sack(SackChunk { cumulative_tsn_ack: 1, a_rwnd: 2, gap_ack_blocks: [], duplicate_tsns: [] })",
+        &[3, 0, 0, 16, 0, 0, 0, 1, 0, 0, 0, 2, 0, 0, 0, 0],
+    ),
+    // HEARTBEAT and HEARTBEAT ACK
+    (
+        &[4, 0, 0, 11, 0, 1, 0, 7, 1, 2, 3],
+        "HEARTBEAT-REQ",
+        "HeartbeatRequest(HeartbeatRequestChunk { parameters: [HeartbeatInfo(HeartbeatInfoParameter { info: [1, 2, 3] })] })",
+        &[4, 0, 0, 11, 0, 1, 0, 7, 1, 2, 3],
+    ),
+    (
+        &[5, 0, 0, 11, 0, 1, 0, 7, 1, 2, 3],
+        "HEARTBEAT-ACK",
+        "HeartbeatAck(HeartbeatAckChunk { parameters: [HeartbeatInfo(HeartbeatInfoParameter { info: [1, 2, 3] })] })",
+        &[5, 0, 0, 11, 0, 1, 0, 7, 1, 2, 3],
+    ),
+    // ABORT: flags but the lowest are ignored, and not written again
+    (
+        &[6, 0xff, 0, 4],
+        "ABORT, tag_reflected=true",
+        "Abort(AbortChunk { tag_reflected: true, error_causes: [] })",
+        &[6, 1, 0, 4],
+    ),
+    (
+        &[6, 0xfe, 0, 4],
+        "ABORT, tag_reflected=false",
+        "Abort(AbortChunk { tag_reflected: false, error_causes: [] })",
+        &[6, 0, 0, 4],
+    ),
+    // SHUTDOWN and SHUTDOWN ACK
+    (
+        &[7, 0, 0, 8, 1, 2, 3, 4],
+        "SHUTDOWN cumulative_tsn_ack=16909060",
+        "Shutdown(ShutdownChunk { cumulative_tsn_ack: 16909060 })",
+        &[7, 0, 0, 8, 1, 2, 3, 4],
+    ),
+    (
+        &[8, 0, 0, 4],
+        "SHUTDOWN-ACK",
+        "ShutdownAck(ShutdownAckChunk)",
+        &[8, 0, 0, 4],
+    ),
+    // ERROR with a cause without value
+    (
+        &[9, 0, 0, 8, 0, 10, 0, 4],
+        "ERROR",
+        "Error(ErrorChunk { error_causes: [CookieReceivedWhileShuttingDown(CookieReceivedWhileShuttingDownErrorCause)] })",
+        &[9, 0, 0, 8, 0, 10, 0, 4],
+    ),
+    // COOKIE ECHO and COOKIE ACK
+    (
+        &[10, 0, 0, 7, 1, 2, 3],
+        "COOKIE-ECHO, cookie=3 bytes",
+        "CookieEcho(CookieEchoChunk { cookie: [1, 2, 3] })",
+        &[10, 0, 0, 7, 1, 2, 3],
+    ),
+    (
+        &[11, 0, 0, 4],
+        "COOKIE-ACK",
+        "CookieAck(CookieAckChunk)",
+        &[11, 0, 0, 4],
+    ),
+    // SHUTDOWN COMPLETE, whose tag is the receiver's own
+    (
+        &[14, 1, 0, 4],
+        "SHUTDOWN-COMPLETE, tag_reflected=true",
+        "ShutdownComplete(ShutdownCompleteChunk { tag_reflected: true })",
+        &[14, 1, 0, 4],
+    ),
+    // I-DATA: the stream stands after mid=, and the message's number after ssn=
+    (
+        &[
+            0x40, 2, 0, 0x19, 0, 0, 0, 0x7b, 1, 0xc8, 0, 0, 0, 0, 3, 0x15, 0, 0, 0x23, 0x82, 1, 2,
+            3, 4, 5,
+        ],
+        "I-DATA, type=ordered::first, tsn=123, mid=456, ssn=789, ppid=9090, length=5",
+        "IData(IDataChunk { tsn: 123, user_data: Data { stream_key: Ordered(456), ssn: 0, mid: 789, fsn: 0, ppid: 9090, payload: [1, 2, 3, 4, 5], is_beginning: true, is_end: false }, immediate_ack: false })",
+        &[
+            0x40, 2, 0, 0x19, 0, 0, 0, 0x7b, 1, 0xc8, 0, 0, 0, 0, 3, 0x15, 0, 0, 0x23, 0x82, 1, 2,
+            3, 4, 5,
+        ],
+    ),
+    // in mid-message the last number is the fragment's, and there is no protocol
+    (
+        &[
+            0x40, 4, 0, 0x14, 0, 0, 0, 1, 0, 2, 0, 0, 0, 0, 0, 3, 0, 0, 0, 6,
+        ],
+        "I-DATA, type=unordered::middle, tsn=1, mid=2, ssn=3, ppid=0, length=0",
+        "IData(IDataChunk { tsn: 1, user_data: Data { stream_key: Unordered(2), ssn: 0, mid: 3, fsn: 6, ppid: 0, payload: [], is_beginning: false, is_end: false }, immediate_ack: false })",
+        &[
+            0x40, 4, 0, 0x14, 0, 0, 0, 1, 0, 2, 0, 0, 0, 0, 0, 3, 0, 0, 0, 6,
+        ],
+    ),
+    // the four highest flags and the reserved bytes are ignored
+    (
+        &[
+            0x40, 0xf2, 0, 0x15, 0x94, 0x4a, 0x5d, 0xd5, 0, 1, 0xab, 0xcd, 0, 0, 0, 0, 0, 0, 0,
+            0x35, 1, 0, 0, 0,
+        ],
+        "I-DATA, type=ordered::first, tsn=2487901653, mid=1, ssn=0, ppid=53, length=1",
+        "IData(IDataChunk { tsn: 2487901653, user_data: Data { stream_key: Ordered(1), ssn: 0, mid: 0, fsn: 0, ppid: 53, payload: [1], is_beginning: true, is_end: false }, immediate_ack: false })",
+        &[
+            0x40, 2, 0, 0x15, 0x94, 0x4a, 0x5d, 0xd5, 0, 1, 0, 0, 0, 0, 0, 0, 0, 0, 0, 0x35, 1,
+        ],
+    ),
+    // RE-CONFIG with a parameter of a type without a kind
+    (
+        &[0x82, 0, 0, 9, 0, 99, 0, 5, 1],
+        "RE-CONFIG",
+        "ReConfig(ReConfigChunk { parameters: [Unknown(UnknownParameter { typ: 99, value: [1] })] })",
+        &[0x82, 0, 0, 9, 0, 99, 0, 5, 1],
+    ),
+    // FORWARD-TSN and I-FORWARD-TSN that skip messages of one stream
+    (
+        &[0xc0, 0, 0, 0x0c, 0, 0, 0, 0x7b, 0, 1, 0, 0x17],
+        "FORWARD-TSN, new_cumulative_tsn=123",
+        "ForwardTsn(ForwardTsnChunk { new_cumulative_tsn: 123, skipped_streams: [ForwardTsn(1, 23)] })",
+        &[0xc0, 0, 0, 0x0c, 0, 0, 0, 0x7b, 0, 1, 0, 0x17],
+    ),
+    (
+        &[
+            0xc2, 0, 0, 0x10, 0, 0, 0, 0x7b, 0, 1, 0xff, 0xff, 0, 0, 0, 0x17,
+        ],
+        "I-FORWARD-TSN, new_cumulative_tsn=123",
+        "IForwardTsn(IForwardTsnChunk { new_cumulative_tsn: 123, skipped_streams: [IForwardTsn(Unordered(1), 23)] })",
+        &[0xc2, 0, 0, 0x10, 0, 0, 0, 0x7b, 0, 1, 0, 1, 0, 0, 0, 0x17],
+    ),
+    // a type without a kind of its own keeps its flags and its value
+    (
+        &[0x49, 0xf2, 0, 4],
+        "Unknown chunk, type=73",
+        "Unknown(UnknownChunk { typ: 73, flags: 242, value: [] })",
+        &[0x49, 0xf2, 0, 4],
+    ),
+    (
+        &[99, 0, 0, 6, 1, 2],
+        "Unknown chunk, type=99",
+        "Unknown(UnknownChunk { typ: 99, flags: 0, value: [1, 2] })",
+        &[99, 0, 0, 6, 1, 2],
+    ),
+    (
+        &[200, 0x81, 0, 5, 9],
+        "Unknown chunk, type=200",
+        "Unknown(UnknownChunk { typ: 200, flags: 129, value: [9] })",
+        &[200, 0x81, 0, 5, 9],
+    ),
+    (
+        &[0xff, 1, 0, 4],
+        "Unknown chunk, type=255",
+        "Unknown(UnknownChunk { typ: 255, flags: 1, value: [] })",
+        &[0xff, 1, 0, 4],
+    ),
+];
+
+#[test]
+fn read_and_written_again(rt: HostRuntime) -> Result<(), Fail> {
+    for (i, (bytes, text, fields, again)) in ROWS.iter().enumerate() {
+        assert_eq!(rt; text_of(rt.alloc(), bytes)?.as_str(), *text, "row {i}");
+        assert_eq!(rt; fields_of(rt.alloc(), bytes)?.as_str(), *fields, "row {i}");
+        assert!(rt; is_rewritten(rt.alloc(), bytes, again)?, "row {i}");
+    }
+    Ok(())
+}
+
+/// Five bytes on stream 456, with a number in each field.
+fn message(alloc: Global, is_beginning: bool) -> Result<Data, AllocError> {
+    Ok(Data {
+        stream_key: StreamKey::Ordered(StreamId(456)),
+        ssn: Ssn(789),
+        mid: Mid(7),
+        fsn: Fsn(6),
+        ppid: PpId(9090),
+        payload: Vec::from_slice(alloc, &[1, 2, 3, 4, 5])?,
+        is_beginning,
+        is_end: false,
+    })
+}
+
+/// DATA in mid-message, which asks for an immediate ack.
+fn data(alloc: Global) -> Result<Chunk, AllocError> {
+    Ok(Chunk::Data(DataChunk {
+        tsn: Tsn(123),
+        user_data: message(alloc, false)?,
+        immediate_ack: true,
+    }))
+}
+
+/// The first I-DATA of a message, which asks for an immediate ack.
+fn first_idata(alloc: Global) -> Result<Chunk, AllocError> {
+    Ok(Chunk::IData(IDataChunk {
+        tsn: Tsn(123),
+        user_data: message(alloc, true)?,
+        immediate_ack: true,
+    }))
+}
+
+/// An I-DATA in mid-message, without a payload.
+fn idata(alloc: Global) -> Chunk {
+    Chunk::IData(IDataChunk {
+        tsn: Tsn(1),
+        user_data: Data {
+            stream_key: StreamKey::Ordered(StreamId(2)),
+            ssn: Ssn(9),
+            mid: Mid(3),
+            fsn: Fsn(6),
+            ppid: PpId(5),
+            payload: Vec::new(alloc),
+            is_beginning: false,
+            is_end: false,
+        },
+        immediate_ack: false,
+    })
+}
+
+/// An unknown chunk of a type that has a kind.
+fn unknown(alloc: Global) -> Chunk {
+    Chunk::Unknown(UnknownChunk {
+        typ: 11,
+        flags: 3,
+        value: Vec::new(alloc),
+    })
+}
+
+// What a kind doesn't carry isn't written.
+#[test]
+fn made(rt: HostRuntime) -> Result<(), Fail> {
+    let text = "DATA, type=ordered::middle, tsn=123, sid=456, ssn=789, ppid=9090, length=5";
+    let bytes = [
+        0, 8, 0, 0x15, 0, 0, 0, 0x7b, 1, 0xc8, 3, 0x15, 0, 0, 0x23, 0x82, 1, 2, 3, 4, 5,
+    ];
+    assert!(rt; is_shown(rt.alloc(), data(rt.alloc())?, text, &bytes)?);
+    // at the beginning: the protocol is carried, and no number of the fragment
+    let text = "I-DATA, type=ordered::first, tsn=123, mid=456, ssn=7, ppid=9090, length=5";
+    let bytes = [
+        0x40, 10, 0, 0x19, 0, 0, 0, 0x7b, 1, 0xc8, 0, 0, 0, 0, 0, 7, 0, 0, 0x23, 0x82, 1, 2, 3, 4,
+        5,
+    ];
+    assert!(rt; is_shown(rt.alloc(), first_idata(rt.alloc())?, text, &bytes)?);
+    // in mid-message: the fragment's number is carried, and neither the SSN nor the protocol
+    let text = "I-DATA, type=ordered::middle, tsn=1, mid=2, ssn=3, ppid=5, length=0";
+    let bytes = [
+        0x40, 0, 0, 0x14, 0, 0, 0, 1, 0, 2, 0, 0, 0, 0, 0, 3, 0, 0, 0, 6,
+    ];
+    assert!(rt; is_shown(rt.alloc(), idata(rt.alloc()), text, &bytes)?);
+    // a named type isn't unknown when it is read
+    let text = "Unknown chunk, type=11";
+    assert!(rt; is_shown(rt.alloc(), unknown(rt.alloc()), text, &[11, 3, 0, 4])?);
+    assert_eq!(rt; text_of(rt.alloc(), &[11, 3, 0, 4])?.as_str(), "COOKIE-ACK");
+    Ok(())
+}
+
+#[test]
+fn header_sizes(rt: HostRuntime) {
+    assert_eq!(rt; TLV_HEADER_SIZE, 4);
+    assert_eq!(rt; error_chunk::HEADER_SIZE, 4);
+    assert_eq!(rt; heartbeat_ack_chunk::HEADER_SIZE, 4);
+}

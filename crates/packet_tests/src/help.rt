@@ -1,0 +1,198 @@
+//! What the tests ask: each takes bytes, and answers a text, numbers or a bool.
+
+use dcsctp_wire::api::ZERO_CHECKSUM_ALTERNATE_ERROR_DETECTION_METHOD_NONE;
+use dcsctp_wire::packet::chunk::{Chunk, RawChunk};
+use dcsctp_wire::packet::sctp_packet::{ChecksumPolicy, PacketParseError, SctpPacket};
+use dcsctp_wire::packet::{ChunkParseError, SerializableTlv};
+use std::alloc::{AllocError, Global};
+use std::fmt;
+use std::test::Fail;
+
+/// Both ports 5000, tag 16909060, checksum 0.
+pub(crate) const HEADER: [u8; 12] = [0x13, 0x88, 0x13, 0x88, 1, 2, 3, 4, 0, 0, 0, 0];
+
+pub(crate) const UNVERIFIED: ChecksumPolicy = ChecksumPolicy {
+    disable_checksum_verification: true,
+    zero_checksum_alternate_error_detection_method: ZERO_CHECKSUM_ALTERNATE_ERROR_DETECTION_METHOD_NONE,
+};
+
+/// The frame at the front of the bytes.
+pub(crate) fn raw_of(bytes: &[u8]) -> Result<RawChunk, ChunkParseError> {
+    let (raw, _) = RawChunk::from_bytes(bytes)?;
+    Ok(raw)
+}
+
+/// What stands after the frame at the front, and its padding.
+pub(crate) fn rest_of(bytes: &[u8]) -> Result<&[u8], ChunkParseError> {
+    let (_, rest) = RawChunk::from_bytes(bytes)?;
+    Ok(rest)
+}
+
+/// The chunk at the front of the bytes.
+pub(crate) fn chunk_of(alloc: Global, bytes: &[u8]) -> Result<Chunk, ChunkParseError> {
+    Chunk::try_from(alloc, raw_of(bytes)?)
+}
+
+/// What the chunk at the front prints.
+pub(crate) fn text_of(alloc: Global, bytes: &[u8]) -> Result<String, ChunkParseError> {
+    let chunk = chunk_of(alloc, bytes)?;
+    Ok(chunk.to_string(alloc)?)
+}
+
+/// All that the chunk at the front holds.
+pub(crate) fn fields_of(alloc: Global, bytes: &[u8]) -> Result<String, ChunkParseError> {
+    let chunk = chunk_of(alloc, bytes)?;
+    Ok(format!(in alloc; "{chunk:?}")?)
+}
+
+/// What a reader answered, as `Ok` of all that the chunk holds, or as `Err` of its fault.
+pub(crate) fn told<T: fmt::Debug + Drop>(
+    alloc: Global,
+    answer: Result<T, ChunkParseError>,
+) -> Result<String, AllocError> {
+    format!(in alloc; "{answer:?}")
+}
+
+/// The chunk at the front is written as these bytes.
+pub(crate) fn is_rewritten(
+    alloc: Global,
+    bytes: &[u8],
+    wanted: &[u8],
+) -> Result<bool, ChunkParseError> {
+    let chunk = chunk_of(alloc, bytes)?;
+    Ok(is_image(alloc, &chunk, wanted)?)
+}
+
+/// As written over zeros, the chunk is these bytes.
+fn is_image<T: SerializableTlv>(
+    alloc: Global,
+    chunk: &T,
+    wanted: &[u8],
+) -> Result<bool, AllocError> {
+    if !chunk.encodable() {
+        return Ok(false);
+    }
+    let mut output = vec![in alloc; 0; chunk.serialized_size()]?;
+    chunk.serialize_to(&mut output);
+    Ok(output.as_slice() == wanted)
+}
+
+/// The chunk prints this text, and is written as these bytes.
+pub(crate) fn is_shown<T: SerializableTlv + fmt::Display + Drop>(
+    alloc: Global,
+    chunk: T,
+    text: &str,
+    bytes: &[u8],
+) -> Result<bool, AllocError> {
+    if chunk.to_string(alloc)?.as_str() != text {
+        return Ok(false);
+    }
+    is_image(alloc, &chunk, bytes)
+}
+
+/// The header, and these chunks.
+pub(crate) fn packet_of(alloc: Global, chunks: &[u8]) -> Result<Vec<u8>, AllocError> {
+    let mut bytes = Vec::from_slice(alloc, &HEADER)?;
+    bytes.extend_from_slice(chunks)?;
+    Ok(bytes)
+}
+
+/// The canonical packet, or nothing where it doesn't fit.
+pub(crate) fn canonical_of(
+    alloc: Global,
+    packet: &SctpPacket,
+) -> Result<Option<Vec<u8>>, AllocError> {
+    if packet.fits() {
+        Ok(Some(packet.canonical_bytes(alloc)?))
+    } else {
+        Ok(None)
+    }
+}
+
+/// What the chunks print, a line each.
+fn lines_of(alloc: Global, chunks: &[Chunk]) -> Result<String, AllocError> {
+    let mut text = String::new(alloc);
+    for chunk in chunks {
+        writeln!(text, "{chunk}")?;
+    }
+    Ok(text)
+}
+
+/// What the packet's chunks print, a line each; or the packet's fault.
+pub(crate) fn answer_of(
+    alloc: Global,
+    bytes: &[u8],
+    word: u32,
+    policy: &ChecksumPolicy,
+) -> Result<String, AllocError> {
+    match SctpPacket::from_bytes(alloc, bytes, word, policy) {
+        Ok(packet) => lines_of(alloc, &packet.chunks),
+        Err(error) => format!(in alloc; "{error:?}"),
+    }
+}
+
+/// All that the packet's chunks hold.
+pub(crate) fn chunks_of(
+    alloc: Global,
+    bytes: &[u8],
+    word: u32,
+    policy: &ChecksumPolicy,
+) -> Result<String, Fail> {
+    let packet = SctpPacket::from_bytes(alloc, bytes, word, policy)?;
+    let chunks = &packet.chunks;
+    Ok(format!(in alloc; "{chunks:?}")?)
+}
+
+/// The ports, the tag and the checksum field.
+pub(crate) fn header_of(
+    alloc: Global,
+    bytes: &[u8],
+    word: u32,
+    policy: &ChecksumPolicy,
+) -> Result<(u16, u16, u32, u32), PacketParseError> {
+    let header = SctpPacket::from_bytes(alloc, bytes, word, policy)?.common_header;
+    Ok((
+        header.source_port,
+        header.destination_port,
+        header.verification_tag,
+        header.checksum,
+    ))
+}
+
+/// How many chunks the packet has, whether each can be written, and the size of the canonical
+/// packet, or nothing where that doesn't fit.
+pub(crate) fn sizes_of(alloc: Global, bytes: &[u8]) -> Result<(usize, bool, Option<usize>), Fail> {
+    let packet = SctpPacket::from_bytes(alloc, bytes, 0, &UNVERIFIED)?;
+    let encodable = packet.chunks.iter().all(|chunk| chunk.encodable());
+    let size = canonical_of(alloc, &packet)?.map(|bytes| bytes.len());
+    Ok((packet.chunks.len(), encodable, size))
+}
+
+/// The packet's canonical bytes are these.
+pub(crate) fn is_canonical(
+    alloc: Global,
+    bytes: &[u8],
+    word: u32,
+    policy: &ChecksumPolicy,
+    wanted: &[u8],
+) -> Result<bool, Fail> {
+    let packet = SctpPacket::from_bytes(alloc, bytes, word, policy)?;
+    Ok(match canonical_of(alloc, &packet)? {
+        Some(canonical) => canonical.as_slice() == wanted,
+        None => false,
+    })
+}
+
+/// The packet is refused for this fault. It takes no memory where the fault is told by none.
+pub(crate) fn is_refused(
+    alloc: Global,
+    bytes: &[u8],
+    word: u32,
+    policy: &ChecksumPolicy,
+    fault: &PacketParseError,
+) -> bool {
+    match SctpPacket::from_bytes(alloc, bytes, word, policy) {
+        Ok(_) => false,
+        Err(error) => error == *fault,
+    }
+}
