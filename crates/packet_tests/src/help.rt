@@ -223,7 +223,7 @@ pub(crate) fn is_canonical(
     })
 }
 
-/// The packet is refused for this fault. It takes no memory where the fault is told by none.
+/// The packet is refused for this fault. Nothing is allocated but by `from_bytes`.
 pub(crate) fn is_refused(
     alloc: Global,
     bytes: &[u8],

@@ -82,7 +82,7 @@ const ACCEPTED: &[(&[u8], &str, &[u8])] = &[
         "Unknown chunk, type=73\n",
         &[0x49, 0xf2, 0, 6, 1, 2, 0, 0],
     ),
-    // chunks whose lists are of fixed size: SACK, FORWARD-TSN and I-FORWARD-TSN, as captured
+    // captured: SACK, FORWARD-TSN and I-FORWARD-TSN
     (SACK, "SACK, cum_ack_tsn=916312075, a_rwnd=126323\n", SACK),
     (
         FORWARD_TSN,
