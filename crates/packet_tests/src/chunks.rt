@@ -1,6 +1,6 @@
 //! Chunks of each kind, worked by hand: read, printed and written again.
 
-use crate::help::{fields_of, is_rewritten, is_shown, text_of};
+use crate::help::{has_text, is_kept, is_shown};
 use dcsctp_wire::api::{PpId, StreamId};
 use dcsctp_wire::packet::chunk::Chunk;
 use dcsctp_wire::packet::data::Data;
@@ -237,9 +237,8 @@ const ROWS: &[(&[u8], &str, &str, &[u8])] = &[
 #[test]
 fn read_and_written_again(rt: HostRuntime) -> Result<(), Fail> {
     for (i, (bytes, text, fields, again)) in ROWS.iter().enumerate() {
-        assert_eq!(rt; text_of(rt.alloc(), bytes)?.as_str(), *text, "row {i}");
-        assert_eq!(rt; fields_of(rt.alloc(), bytes)?.as_str(), *fields, "row {i}");
-        assert!(rt; is_rewritten(rt.alloc(), bytes, again)?, "row {i}");
+        let is_kept = is_kept(rt.alloc(), bytes, text, fields, again)?;
+        assert_eq!(rt; is_kept, (true, true, true), "row {i}");
     }
     Ok(())
 }
@@ -303,6 +302,26 @@ fn unknown(alloc: Global) -> Chunk {
     })
 }
 
+/// The DATA prints this text, and is written as these bytes.
+fn is_data_shown(alloc: Global, text: &str, bytes: &[u8]) -> Result<bool, AllocError> {
+    is_shown(alloc, data(alloc)?, text, bytes)
+}
+
+/// So does the first I-DATA.
+fn is_first_idata_shown(alloc: Global, text: &str, bytes: &[u8]) -> Result<bool, AllocError> {
+    is_shown(alloc, first_idata(alloc)?, text, bytes)
+}
+
+/// So does the I-DATA in mid-message.
+fn is_idata_shown(alloc: Global, text: &str, bytes: &[u8]) -> Result<bool, AllocError> {
+    is_shown(alloc, idata(alloc), text, bytes)
+}
+
+/// So does the unknown chunk.
+fn is_unknown_shown(alloc: Global, text: &str, bytes: &[u8]) -> Result<bool, AllocError> {
+    is_shown(alloc, unknown(alloc), text, bytes)
+}
+
 // What a kind doesn't carry isn't written.
 #[test]
 fn made(rt: HostRuntime) -> Result<(), Fail> {
@@ -310,24 +329,24 @@ fn made(rt: HostRuntime) -> Result<(), Fail> {
     let bytes = [
         0, 8, 0, 0x15, 0, 0, 0, 0x7b, 1, 0xc8, 3, 0x15, 0, 0, 0x23, 0x82, 1, 2, 3, 4, 5,
     ];
-    assert!(rt; is_shown(rt.alloc(), data(rt.alloc())?, text, &bytes)?);
+    assert!(rt; is_data_shown(rt.alloc(), text, &bytes)?);
     // at the beginning: the protocol is carried, and no number of the fragment
     let text = "I-DATA, type=ordered::first, tsn=123, mid=456, ssn=7, ppid=9090, length=5";
     let bytes = [
         0x40, 10, 0, 0x19, 0, 0, 0, 0x7b, 1, 0xc8, 0, 0, 0, 0, 0, 7, 0, 0, 0x23, 0x82, 1, 2, 3, 4,
         5,
     ];
-    assert!(rt; is_shown(rt.alloc(), first_idata(rt.alloc())?, text, &bytes)?);
+    assert!(rt; is_first_idata_shown(rt.alloc(), text, &bytes)?);
     // in mid-message: the fragment's number is carried, and neither the SSN nor the protocol
     let text = "I-DATA, type=ordered::middle, tsn=1, mid=2, ssn=3, ppid=5, length=0";
     let bytes = [
         0x40, 0, 0, 0x14, 0, 0, 0, 1, 0, 2, 0, 0, 0, 0, 0, 3, 0, 0, 0, 6,
     ];
-    assert!(rt; is_shown(rt.alloc(), idata(rt.alloc()), text, &bytes)?);
+    assert!(rt; is_idata_shown(rt.alloc(), text, &bytes)?);
     // a named type isn't unknown when it is read
-    let text = "Unknown chunk, type=11";
-    assert!(rt; is_shown(rt.alloc(), unknown(rt.alloc()), text, &[11, 3, 0, 4])?);
-    assert_eq!(rt; text_of(rt.alloc(), &[11, 3, 0, 4])?.as_str(), "COOKIE-ACK");
+    let bytes = [11, 3, 0, 4];
+    assert!(rt; is_unknown_shown(rt.alloc(), "Unknown chunk, type=11", &bytes)?);
+    assert!(rt; has_text(rt.alloc(), &bytes, "COOKIE-ACK")?);
     Ok(())
 }
 

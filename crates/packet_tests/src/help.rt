@@ -34,7 +34,7 @@ pub(crate) fn chunk_of(alloc: Global, bytes: &[u8]) -> Result<Chunk, ChunkParseE
 }
 
 /// What the chunk at the front prints.
-pub(crate) fn text_of(alloc: Global, bytes: &[u8]) -> Result<String, ChunkParseError> {
+fn text_of(alloc: Global, bytes: &[u8]) -> Result<String, ChunkParseError> {
     let chunk = chunk_of(alloc, bytes)?;
     Ok(chunk.to_string(alloc)?)
 }
@@ -51,6 +51,34 @@ pub(crate) fn told<T: fmt::Debug + Drop>(
     answer: Result<T, ChunkParseError>,
 ) -> Result<String, AllocError> {
     format!(in alloc; "{answer:?}")
+}
+
+/// The chunk at the front prints this text.
+pub(crate) fn has_text(alloc: Global, bytes: &[u8], text: &str) -> Result<bool, ChunkParseError> {
+    Ok(text_of(alloc, bytes)?.as_str() == text)
+}
+
+/// The chunk at the front holds this, and nothing else.
+pub(crate) fn has_fields(
+    alloc: Global,
+    bytes: &[u8],
+    fields: &str,
+) -> Result<bool, ChunkParseError> {
+    Ok(fields_of(alloc, bytes)?.as_str() == fields)
+}
+
+/// Whether the chunk at the front prints this text, holds these fields, and is written as these
+/// bytes.
+pub(crate) fn is_kept(
+    alloc: Global,
+    bytes: &[u8],
+    text: &str,
+    fields: &str,
+    again: &[u8],
+) -> Result<(bool, bool, bool), ChunkParseError> {
+    let has_text = has_text(alloc, bytes, text)?;
+    let has_fields = has_fields(alloc, bytes, fields)?;
+    Ok((has_text, has_fields, is_rewritten(alloc, bytes, again)?))
 }
 
 /// The chunk at the front is written as these bytes.
@@ -119,7 +147,7 @@ fn lines_of(alloc: Global, chunks: &[Chunk]) -> Result<String, AllocError> {
 }
 
 /// What the packet's chunks print, a line each; or the packet's fault.
-pub(crate) fn answer_of(
+fn answer_of(
     alloc: Global,
     bytes: &[u8],
     word: u32,
@@ -131,16 +159,28 @@ pub(crate) fn answer_of(
     }
 }
 
-/// All that the packet's chunks hold.
-pub(crate) fn chunks_of(
+/// The packet's answer is this.
+pub(crate) fn is_answered(
     alloc: Global,
     bytes: &[u8],
     word: u32,
     policy: &ChecksumPolicy,
-) -> Result<String, Fail> {
+    wanted: &str,
+) -> Result<bool, AllocError> {
+    Ok(answer_of(alloc, bytes, word, policy)?.as_str() == wanted)
+}
+
+/// The packet's chunks hold this, and nothing else.
+pub(crate) fn has_chunks(
+    alloc: Global,
+    bytes: &[u8],
+    word: u32,
+    policy: &ChecksumPolicy,
+    wanted: &str,
+) -> Result<bool, Fail> {
     let packet = SctpPacket::from_bytes(alloc, bytes, word, policy)?;
     let chunks = &packet.chunks;
-    Ok(format!(in alloc; "{chunks:?}")?)
+    Ok(format!(in alloc; "{chunks:?}")?.as_str() == wanted)
 }
 
 /// The ports, the tag and the checksum field.
@@ -183,7 +223,7 @@ pub(crate) fn is_canonical(
     })
 }
 
-/// The packet is refused for this fault. It takes no memory where the fault is told by none.
+/// The packet is refused for this fault. Nothing is allocated but by `from_bytes`.
 pub(crate) fn is_refused(
     alloc: Global,
     bytes: &[u8],
