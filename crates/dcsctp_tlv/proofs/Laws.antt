@@ -64,11 +64,17 @@ loosened : (rule : PaddingRule) (i : Item) (r : List ℕ) → IsNext rule i r �
 loosened rule i r p = record { fits = p.fits; at_most = p.at_most; whole = p.whole; accepted = refl }
 
 -- the front of an item's bytes is the item
-front_is : (rule : PaddingRule) (i : Item) (r bytes : List ℕ) → AreBytes bytes → bytes ≡ item_bytes i ++ r → IsNext rule i r → BeginsWithFrame bytes × (i ≡ front_item bytes)
+pub front_is : (rule : PaddingRule) (i : Item) (r bytes : List ℕ) → AreBytes bytes → bytes ≡ item_bytes i ++ r → IsNext rule i r → BeginsWithFrame bytes × (i ≡ front_item bytes)
 front_is rule i r bytes fits e p =
     let frame : BeginsWithFrame bytes = subst BeginsWithFrame (sym e) (item_frame rule i r p) in
     let same = next_one lenient i (front_item bytes) r (frame_rest bytes) (sym e ∙ front_split bytes fits frame) (loosened rule i r p) (front_next lenient bytes fits frame refl) in
     (frame, same.0)
+
+-- and so is what follows it
+pub rest_is : (rule : PaddingRule) (i : Item) (r bytes : List ℕ) → AreBytes bytes → bytes ≡ item_bytes i ++ r → IsNext rule i r → r ≡ frame_rest bytes
+rest_is rule i r bytes fits e p =
+    let frame = (front_is rule i r bytes fits e p).0 in
+    (next_one lenient i (front_item bytes) r (frame_rest bytes) (sym e ∙ front_split bytes fits frame) (loosened rule i r p) (front_next lenient bytes fits frame refl)).1
 
 value_fits : (bytes : List ℕ) → AreBytes bytes → AreBytes (frame_value bytes)
 value_fits bytes fits i = elim (cases_lt i (frame_length bytes - 4)) [

@@ -6,7 +6,7 @@ use Rattle.std.proofs.lemmas.List.Elements.{All-from_recursion}
 use Rattle.dcsctp_tlv.specs.declared.error.ChunkParseError.{ChunkParseError}
 use Rattle.dcsctp_tlv.specs.declared.error.ChunkParseError.TheVariants.{InvalidLength, InvalidType, InvalidPadding, InvalidValue, OutOfMemory}
 use Rattle.dcsctp_tlv.specs.Level.{Level, HasFault, listed}
-use Rattle.dcsctp_tlv.specs.Reading.{TellsFault}
+use Rattle.dcsctp_tlv.specs.Reading.{TellsFault, IsFault}
 use Rattle.dcsctp_tlv.specs.Image.{solid, written, Tlv, size_of, image_of, IsEncodable, list_image, list_size, listed_tlv, IsListEncodable}
 use Rattle.dcsctp_tlv.specs.Length.{length-image_of}
 use Rattle.dcsctp_tlv.proofs.ReadsBack.{each_encodable}
@@ -45,6 +45,15 @@ listed_fault rule place level tree_of value InvalidLength h f = inr (h, f)
 listed_fault rule place level tree_of value InvalidType h f = absurd f
 listed_fault rule place level tree_of value InvalidPadding h f = inr (h, f)
 listed_fault rule place level tree_of value InvalidValue h f = inr (h, f)
+
+-- the same of a check
+pub listed_check_fault : {T U : Type 0} (rule : List ℕ → Bool) (place : ℕ) (level : Level U) (tree_of : List ℕ → List U → T) (value : List ℕ) (e : ChunkParseError) → rule value ≡ true
+    → IsFault (HasFault level (drop place value)) e → IsFault ((listed rule place level tree_of).faults value) e
+listed_check_fault rule place level tree_of value OutOfMemory h f = absurd f
+listed_check_fault rule place level tree_of value InvalidLength h f = inr (h, f)
+listed_check_fault rule place level tree_of value InvalidType h f = absurd f
+listed_check_fault rule place level tree_of value InvalidPadding h f = inr (h, f)
+listed_check_fault rule place level tree_of value InvalidValue h f = inr (h, f)
 
 -- ---- its length
 

@@ -79,6 +79,10 @@ chunks = record { row = chunk_row; padding = lenient }
 abbrev pub holds_list : ℕ → Bool
 holds_list typ = list_any (λ listed. typ == listed) (1 ∷ 2 ∷ 4 ∷ 5 ∷ 6 ∷ 9 ∷ 130 ∷ [])
 
+-- the kinds at which the two passes are tried
+abbrev pub tried : ℕ → Bool
+tried typ = list_any (λ kind. typ == kind) (1 ∷ 3 ∷ 4 ∷ [])
+
 -- how each is written
 abbrev pub chunk_tlv : ChunkTree → Tlv
 chunk_tlv (Data c) = data_tlv c

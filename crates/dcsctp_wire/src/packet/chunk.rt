@@ -1,9 +1,10 @@
 //! A chunk of any kind.
 
-ghost use Rattle.std.specs.Prelude.{◌≡◌, false, Some, IsErrOf, refl};
-ghost use Rattle.dcsctp_tlv.specs.Level.{HasMeaning};
-ghost use Rattle.dcsctp_tlv.specs.Reading.{Answers};
-ghost use Rattle.dcsctp_wire.specs.Chunk.{ChunkTree, chunk_row, chunks, holds_list, chunk_tlv, IsChunkEncodable, chunk_text, view, encodable_size, length-chunk};
+ghost use Rattle.std.specs.Prelude.{◌≡◌, ◌+◌, ◌<◌, ℕ, true, false, Some, IfOk, IsErrOf, refl, vec_len, vec_capacity};
+ghost use Rattle.dcsctp_tlv.specs.Level.{HasMeaning, MeansParts, Grows};
+ghost use Rattle.dcsctp_tlv.specs.Reading.{Answers, Finds};
+ghost use Rattle.dcsctp_wire.specs.Account.{chunk_parts};
+ghost use Rattle.dcsctp_wire.specs.Chunk.{ChunkTree, chunk_row, tried, chunks, holds_list, chunk_tlv, IsChunkEncodable, chunk_text, view, encodable_size, length-chunk};
 
 use crate::packet::abort_chunk::{self, AbortChunk};
 use crate::packet::cookie_ack_chunk::{self, CookieAckChunk};
@@ -15,6 +16,7 @@ use crate::packet::heartbeat_ack_chunk::{self, HeartbeatAckChunk};
 use crate::packet::heartbeat_request_chunk::{self, HeartbeatRequestChunk};
 use crate::packet::idata_chunk::{self, IDataChunk};
 use crate::packet::iforward_tsn_chunk::{self, IForwardTsnChunk};
+use crate::packet::init::init_check;
 use crate::packet::init_ack_chunk::{self, InitAckChunk};
 use crate::packet::init_chunk::{self, InitChunk};
 use crate::packet::re_config_chunk::{self, ReConfigChunk};
@@ -27,7 +29,7 @@ pub use dcsctp_chunk::raw_chunk::{RawChunk, write_chunk_header};
 use dcsctp_tlv::error::ChunkParseError;
 use dcsctp_tlv::reader::ReadableTlv;
 use dcsctp_tlv::tlv::SerializableTlv;
-use std::alloc::Global;
+use std::alloc::{AllocError, Global};
 use std::fmt;
 
 /// A chunk of any kind (RFC 9260 section 3.2); a type without a kind of its own is `Unknown`.
@@ -98,6 +100,57 @@ impl Chunk {
             )?),
             _ => Chunk::Unknown(UnknownChunk::try_from(alloc, raw)?),
         })
+    }
+}
+
+/// A trial of the two passes at three kinds: the arms as they would stand for all.
+impl Chunk {
+    /// The number of parts, or the fault.
+    pub(crate) fn check_some(first: u8, value: &[u8]) -> Result<usize, ChunkParseError>
+        requires { tried first ≡ true }
+        ensures { (flags : ℕ) → Finds result (MeansParts chunk_parts (chunk_row first flags) value.now) ((chunk_row first flags).faults value.now) }
+    {
+        match first {
+            init_chunk::CHUNK_TYPE => init_check(value),
+            sack_chunk::CHUNK_TYPE => {
+                SackChunk::check(value)?;
+                Ok(1)
+            }
+            _ => HeartbeatRequestChunk::check(value),
+        }
+    }
+
+    /// Builds what an item's value means at the end of a list that has room for it.
+    pub(crate) fn some_onto(
+        list: &mut Vec<Self>,
+        alloc: Global,
+        first: u8,
+        second: u8,
+        value: &[u8],
+    ) -> Result<(), AllocError>
+        requires kind { tried first ≡ true }
+        requires meant { HasMeaning (chunk_row first second) value.now }
+        requires room { vec_len list.old < vec_capacity list.old }
+        ensures grows { IfOk result (λ _. Grows view (chunk_row first second) value.now list.old.items list.new.items) }
+        ensures len { IfOk result (λ _. vec_len list.new ≡ vec_len list.old + 1) }
+        ensures capacity { IfOk result (λ _. vec_capacity list.new ≡ vec_capacity list.old) }
+    {
+        match first {
+            init_chunk::CHUNK_TYPE => {
+                list.push_reserved(Chunk::Init(InitChunk::build(alloc, value)?));
+                Ok(())
+            }
+            sack_chunk::CHUNK_TYPE => {
+                list.push_reserved(Chunk::Sack(SackChunk::build(alloc, value)?));
+                Ok(())
+            }
+            _ => {
+                list.push_reserved(Chunk::HeartbeatRequest(HeartbeatRequestChunk::build(
+                    alloc, value,
+                )?));
+                Ok(())
+            }
+        }
     }
 }
 

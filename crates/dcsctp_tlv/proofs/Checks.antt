@@ -1,0 +1,202 @@
+-- A check of a list, and the build behind it: what both have gone over, and what is left.
+use Rattle.std.proofs.Common.{◌≡◌, ◌≢◌, ℕ, suc, ◌+◌, ◌*◌, ◌≤◌, true, false, Result, Ok, Err, List, [], ◌∷◌, ◌++◌, length, refl, sym, ap, subst, ◌∙◌, arith}
+use Rattle.std.specs.List.{flat_map}
+use Rattle.std.proofs.lemmas.List.{append-nil, get_or-drop, length-append, length-drop}
+use Rattle.dcsctp_tlv.specs.declared.error.ChunkParseError.{ChunkParseError}
+use Rattle.dcsctp_tlv.specs.declared.error.ChunkParseError.TheVariants.{InvalidLength, InvalidType, InvalidPadding, InvalidValue, OutOfMemory}
+use Rattle.dcsctp_tlv.specs.Fault.{Fault, Length, Padding, Value}
+use Rattle.dcsctp_tlv.specs.Number.{AreBytes}
+use Rattle.dcsctp_tlv.specs.Count.{total}
+use Rattle.dcsctp_tlv.specs.Frame.{padding_size, round_up_to_4, Item, item_bytes, PaddingRule, AreFormed, AreItems, frame_length, BeginsWithFrame, frame_value, frame_padding, frame_rest}
+use Rattle.dcsctp_tlv.specs.Level.{Level, ItemsMean, MeansTrees, MeansMany, MeansCounted, HasFault, no_frame, value, front_row}
+use Rattle.dcsctp_tlv.specs.Reading.{IsFault, Finds, Exact}
+use Rattle.dcsctp_tlv.proofs.Items.{front_item, front_length, items_before}
+use Rattle.dcsctp_tlv.proofs.Lists.{Progress, step, finish, fault}
+use Rattle.dcsctp_tlv.proofs.Laws.{Lawful, front_is, rest_is, list_one, list_apart, list_same}
+
+-- ---- the check
+
+-- what a check has gone over
+pub record Checked {T : Type 0} (level : Level T) (parts : T → ℕ) (bytes rest : List ℕ) (n all : ℕ) : Type 0 where
+  pub trees : List T
+  pub progress : Progress level bytes trees rest
+  pub item_count : n ≡ length trees
+  pub part_count : all ≡ total parts trees
+  pub few_items : 4 * n + length rest ≤ length bytes
+  pub few_parts : 4 * all + length rest ≤ length bytes
+
+total-append : {T : Type 0} (parts : T → ℕ) (ts : List T) (t : T) → total parts (ts ++ t ∷ []) ≡ total parts ts + parts t
+total-append parts [] t = omega arith
+total-append parts (u ∷ ts) t = let h = total-append parts ts t in omega (arith, h)
+
+pub rest_bytes : (rest : List ℕ) → AreBytes rest → AreBytes (frame_rest rest)
+rest_bytes rest fits = λ k. rw get_or-drop (fits (round_up_to_4 (frame_length rest) + k))
+
+-- a frame takes its length from what is left
+pub frame_shrinks : (rest : List ℕ) → BeginsWithFrame rest → length (frame_rest rest) + frame_length rest ≤ length rest
+frame_shrinks rest frame = omega (arith, frame.header, frame.low, frame.high, length-drop (round_up_to_4 (frame_length rest)) rest)
+
+pub check_step : {T : Type 0} (level : Level T) (parts : T → ℕ) (bytes rest : List ℕ) (n all : ℕ) (t : T) → Checked level parts bytes rest n all → BeginsWithFrame rest
+    → (front_row level rest).means (frame_value rest) t → level.padding (padding_size (length (frame_value rest))) (frame_padding rest) ≡ true → 4 * parts t ≤ 4 + length (frame_value rest)
+    → Checked level parts bytes (frame_rest rest) (n + 1) (all + parts t)
+check_step level parts bytes rest n all t c frame means accepted few =
+    let shrinks = frame_shrinks rest frame in
+    let len = front_length rest frame in
+    let long = length-append c.trees (t ∷ []) in
+    record {
+      trees = c.trees ++ t ∷ [];
+      progress = step level bytes c.trees rest t c.progress frame means accepted;
+      item_count = omega (arith, c.item_count, long);
+      part_count = ap (λ (k : ℕ). k + parts t) c.part_count ∙ sym (total-append parts c.trees t);
+      few_items = omega (arith, c.few_items, shrinks, frame.low);
+      few_parts = omega (arith, c.few_parts, shrinks, len, few);
+    }
+
+pub check_finish : {T : Type 0} (level : Level T) (parts : T → ℕ) (bytes rest : List ℕ) (n all : ℕ) → Checked level parts bytes rest n all → rest ≡ [] → MeansCounted level parts bytes n all
+check_finish level parts bytes rest n all c e = record { trees = c.trees; mean = finish level bytes c.trees rest c.progress e; item_count = c.item_count; part_count = c.part_count }
+
+-- a fault of an item is the list's
+pub check_fault : {T : Type 0} (level : Level T) (bytes : List ℕ) (trees : List T) (rest : List ℕ) (e : ChunkParseError) → Progress level bytes trees rest → BeginsWithFrame rest
+    → IsFault ((front_row level rest).faults (frame_value rest)) e → IsFault (HasFault level bytes) e
+check_fault level bytes trees rest OutOfMemory p frame f = absurd f
+check_fault level bytes trees rest InvalidLength p frame f = fault level bytes trees rest Length p (value frame f)
+check_fault level bytes trees rest InvalidType p frame f = absurd f
+check_fault level bytes trees rest InvalidPadding p frame f = fault level bytes trees rest Padding p (value frame f)
+check_fault level bytes trees rest InvalidValue p frame f = fault level bytes trees rest Value p (value frame f)
+
+-- ---- the build
+
+tail_formed : (rule : PaddingRule) (i : Item) (is : List Item) → AreFormed rule (i ∷ is) → AreFormed rule is
+tail_formed rule i [] p = tt
+tail_formed rule i (j ∷ is) p = p.1
+
+at_first : (bytes : List ℕ) (i : Item) (is : List Item) → bytes ≡ flat_map item_bytes (i ∷ is) → bytes ≡ item_bytes i ++ (flat_map item_bytes is ++ [])
+at_first bytes i is e = e ∙ ap (λ (x : List ℕ). item_bytes i ++ x) (sym (append-nil (flat_map item_bytes is)))
+
+-- items begin with a frame, and behind it are the others
+pub record FirstItem (rule : PaddingRule) (bytes : List ℕ) (items : List Item) : Type 0 where
+  pub frame : BeginsWithFrame bytes
+  pub others : List Item
+  pub split : items ≡ front_item bytes ∷ others
+  pub are : AreItems rule (frame_rest bytes) others
+
+pub first_item : (rule : PaddingRule) (bytes : List ℕ) (items : List Item) → AreBytes bytes → bytes ≢ [] → AreItems rule bytes items → FirstItem rule bytes items
+first_item rule bytes [] fits h are = absurd (h are.split)
+first_item rule bytes (i ∷ is) fits h are =
+    let e = at_first bytes i is are.split in
+    let next = (items_before rule (i ∷ is) are.formed).0 in
+    let front = front_is rule i (flat_map item_bytes is ++ []) bytes fits e next in
+    let rest = rest_is rule i (flat_map item_bytes is ++ []) bytes fits e next in
+    record {
+      frame = front.0;
+      others = is;
+      split = ap (λ (j : Item). j ∷ is) front.1;
+      are = record { split = sym rest ∙ append-nil (flat_map item_bytes is); formed = tail_formed rule i is are.formed };
+    }
+
+-- the front means the first tree, and what is behind it the others
+pub record FirstTree {T : Type 0} (level : Level T) (bytes : List ℕ) (trees : List T) : Type 0 where
+  pub frame : BeginsWithFrame bytes
+  pub first : T
+  pub others : List T
+  pub count : length trees ≡ suc (length others)
+  pub means : (front_row level bytes).means (frame_value bytes) first
+  pub mean : MeansTrees level (frame_rest bytes) others
+
+first_means : {T : Type 0} (level : Level T) (bytes : List ℕ) (items others : List Item) (trees : List T) → items ≡ front_item bytes ∷ others → BeginsWithFrame bytes → AreItems level.padding (frame_rest bytes) others
+    → ItemsMean level (front_item bytes ∷ others) trees → FirstTree level bytes trees
+first_means level bytes items others [] e frame are mean = absurd mean
+first_means level bytes items others (t ∷ ts) e frame are mean =
+    record { frame = frame; first = t; others = ts; count = refl; means = mean.0; mean = record { items = others; are = are; mean = mean.1 } }
+
+pub first_tree : {T : Type 0} (level : Level T) (bytes : List ℕ) (trees : List T) → AreBytes bytes → bytes ≢ [] → MeansTrees level bytes trees → FirstTree level bytes trees
+first_tree level bytes trees fits h m =
+    let f = first_item level.padding bytes m.items fits h m.are in
+    first_means level bytes m.items f.others trees f.split f.frame f.are (subst (λ (is : List Item). ItemsMean level is trees) f.split m.mean)
+
+-- what is built, and what is left
+pub record Building {T : Type 0} (level : Level T) (bytes rest : List ℕ) (built : List T) (len capacity : ℕ) : Type 0 where
+  pub progress : Progress level bytes built rest
+  pub left : List T
+  pub mean : MeansTrees level rest left
+  pub room : len + length left ≤ capacity
+
+pub build_step : {T : Type 0} (level : Level T) (bytes rest : List ℕ) (built : List T) (t : T) (len capacity : ℕ) (b : Building level bytes rest built len capacity) → (f : FirstTree level rest b.left)
+    → (front_row level rest).means (frame_value rest) t → level.padding (padding_size (length (frame_value rest))) (frame_padding rest) ≡ true → Building level bytes (frame_rest rest) (built ++ t ∷ []) (len + 1) capacity
+build_step level bytes rest built t len capacity b f means accepted = record {
+  progress = step level bytes built rest t b.progress f.frame means accepted;
+  left = f.others;
+  mean = f.mean;
+  room = omega (arith, b.room, f.count);
+}
+
+-- ---- the count
+
+pub one_counted : (rule : PaddingRule) (rest : List ℕ) (items : List Item) (count all : ℕ) → AreBytes rest → rest ≢ [] → AreItems rule rest items → count + length items ≡ all
+    → (left : List Item) × (AreItems rule (frame_rest rest) left × (count + 1 + length left ≡ all))
+one_counted rule rest items count all fits h are e =
+    let f = first_item rule rest items fits h are in
+    let long : length items ≡ suc (length f.others) = ap length f.split in
+    (f.others, (f.are, omega (arith, long, e)))
+
+nothing_left : (rule : PaddingRule) (items : List Item) → AreItems rule [] items → length items ≡ 0
+nothing_left rule [] are = refl
+nothing_left rule (i ∷ is) are = absurd (let e = are.split in cc)
+
+pub none_left : (rule : PaddingRule) (rest : List ℕ) (items : List Item) (count all : ℕ) → rest ≡ [] → AreItems rule rest items → count + length items ≡ all → count ≡ all
+none_left rule rest items count all e are h =
+    let none = nothing_left rule items (subst (λ (r : List ℕ). AreItems rule r items) e are) in
+    omega (arith, none, h)
+
+-- no bytes mean no trees
+pub no_trees : {T : Type 0} (level : Level T) (bytes : List ℕ) (trees : List T) → bytes ≡ [] → MeansTrees level bytes trees → length trees ≡ 0
+no_trees level bytes trees e m = none level m.items trees (nothing_left level.padding m.items (subst (λ (r : List ℕ). AreItems level.padding r m.items) e m.are)) m.mean where
+  none : {T : Type 0} (level : Level T) (items : List Item) (trees : List T) → length items ≡ 0 → ItemsMean level items trees → length trees ≡ 0
+  none level [] [] h m = refl
+  none level [] (t ∷ ts) h m = absurd m
+  none level (i ∷ is) ts h m = absurd (omega (arith, h))
+
+pub check_no_frame : {T : Type 0} (level : Level T) (bytes : List ℕ) (trees : List T) (rest : List ℕ) (e : ChunkParseError) → Progress level bytes trees rest → rest ≢ [] → ¬ BeginsWithFrame rest → e ≡ InvalidLength
+    → IsFault (HasFault level bytes) e
+check_no_frame level bytes trees rest e p h none is = rw is (fault level bytes trees rest Length p (no_frame h none refl))
+
+-- as many items as trees
+pub as_many : {T : Type 0} (level : Level T) (items : List Item) (trees : List T) → ItemsMean level items trees → length items ≡ length trees
+as_many level [] [] m = refl
+as_many level [] (t ∷ ts) m = absurd m
+as_many level (i ∷ is) [] m = absurd m
+as_many level (i ∷ is) (t ∷ ts) m = ap suc (as_many level is ts m.1)
+
+-- ---- both ways, where each list of bytes has one answer
+
+pub exact : {T X : Type 0} (level : Level T) → Lawful level → (bytes : List ℕ) → AreBytes bytes → (count : X → ℕ) (r : Result X ChunkParseError) → Finds r (λ x. MeansMany level bytes (count x)) (HasFault level bytes) → Exact level bytes count r
+exact level law bytes fits count (Ok x) f = record {
+  good = ((λ _. (f.0, f.1)), (λ _. refl));
+  counted = λ trees m. f.2 ∙ ap length (list_one level law bytes f.0 trees f.1 m);
+  faulty = λ e. ((λ h. absurd (list_apart level law bytes f.0 e fits f.1 h)), (λ h. absurd h));
+}
+exact level law bytes fits count (Err d) f = record {
+  good = ((λ h. absurd (let e : false ≡ true = h in cc)), (λ m. absurd (refuted d f m.0 m.1)));
+  counted = λ trees m. tt;
+  faulty = λ e. ((λ h. same d f e h), (λ h. back d f e h));
+} where
+  refuted : (d : ChunkParseError) → IsFault (HasFault level bytes) d → (trees : List _) → MeansTrees level bytes trees → ⊥
+  refuted InvalidLength f trees m = list_apart level law bytes trees Length fits m f
+  refuted InvalidPadding f trees m = list_apart level law bytes trees Padding fits m f
+  refuted InvalidValue f trees m = list_apart level law bytes trees Value fits m f
+  refuted InvalidType f trees m = f
+  refuted OutOfMemory f trees m = f
+
+  same : (d : ChunkParseError) → IsFault (HasFault level bytes) d → (e : Fault) → HasFault level bytes e → IsFault (λ f. f ≡ e) d
+  same InvalidLength f e h = list_same level law bytes Length e fits f h
+  same InvalidPadding f e h = list_same level law bytes Padding e fits f h
+  same InvalidValue f e h = list_same level law bytes Value e fits f h
+  same InvalidType f e h = f
+  same OutOfMemory f e h = f
+
+  back : (d : ChunkParseError) → IsFault (HasFault level bytes) d → (e : Fault) → IsFault (λ f. f ≡ e) d → HasFault level bytes e
+  back InvalidLength f e h = subst (λ (x : Fault). HasFault level bytes x) h f
+  back InvalidPadding f e h = subst (λ (x : Fault). HasFault level bytes x) h f
+  back InvalidValue f e h = subst (λ (x : Fault). HasFault level bytes x) h f
+  back InvalidType f e h = absurd f
+  back OutOfMemory f e h = absurd f
