@@ -1,5 +1,5 @@
 -- What a reader answers, beside what the table says of the bytes.
-use Rattle.std.specs.Prelude.{◌≡◌, ◌↔◌, ℕ, List, Result, Ok, Err, IsOk, IfOk, IsErrAnd, length}
+use Rattle.std.specs.Prelude.{◌≡◌, ◌↔◌, ◌⊎◌, ℕ, List, Result, Ok, Err, IsOk, IfOk, IsErrOf, length}
 use Rattle.dcsctp_tlv.specs.declared.error.ChunkParseError.{ChunkParseError}
 use Rattle.dcsctp_tlv.specs.declared.error.ChunkParseError.TheVariants.{InvalidLength, InvalidType, InvalidPadding, InvalidValue, OutOfMemory}
 use Rattle.dcsctp_tlv.specs.Level.{Level, MeansTrees, MeansSome, HasFault}
@@ -63,8 +63,23 @@ abbrev pub Builds : {X T E : Type 0} → (X → T) → Result X E → Result T F
 Builds view (Ok x) read = read ≡ Ok (view x)
 Builds view (Err e) read = Unit {0}
 
--- a good check, and its count, exactly where the bytes mean trees; a fault exactly where it is theirs
-pub record Exact {T X : Type 0} (level : Level T) (bytes : List ℕ) (count : X → ℕ) (r : Result X ChunkParseError) : Type 0 where
-  pub good : IsOk r ↔ MeansSome level bytes
-  pub counted : (trees : List T) → MeansTrees level bytes trees → IfOk r (λ x. count x ≡ length trees)
-  pub faulty : (e : Fault) → HasFault level bytes e ↔ IsErrAnd r (λ d. IsFault (λ f. f ≡ e) d)
+-- ---- both ways, which the laws of the tables give: no bytes have two answers
+
+-- the error that tells a fault
+abbrev pub error_of : Fault → ChunkParseError
+error_of Length = InvalidLength
+error_of Padding = InvalidPadding
+error_of Value = InvalidValue
+
+-- a good check, and its count, exactly where the bytes mean trees; the fault exactly where they have one
+pub record ChecksExactly {T : Type 0} (result : Result ℕ ChunkParseError) (level : Level T) (bytes : List ℕ) : Type 0 where
+  pub good : IsOk result ↔ MeansSome level bytes
+  pub counted : (trees : List T) → MeansTrees level bytes trees → IfOk result (λ n. n ≡ length trees)
+  pub faulty : (e : Fault) → IsErrOf result (error_of e) ↔ HasFault level bytes e
+
+-- Something was read, or memory ran out, exactly where something is meant, and what was read is that;
+-- the fault exactly where there is one.
+pub record ReadsExactly {X T : Type 0} (result : Result X ChunkParseError) (view : X → T) (means : T → Type 0) (faults : Fault → Type 0) : Type 0 where
+  pub good : (IsOk result ⊎ IsErrOf result OutOfMemory) ↔ ((t : T) × means t)
+  pub one : (t : T) → means t → IfOk result (λ x. view x ≡ t)
+  pub faulty : (e : Fault) → IsErrOf result (error_of e) ↔ faults e

@@ -91,6 +91,7 @@ pub fn list_build<T: CheckedTlv>(
 ) -> Result<Vec<T>, AllocError>
     requires { MeansMany T.level bytes.now count }
     ensures meant { IfOk result (λ list. MeansTrees T.level bytes.now (map T.view list.items)) }
+    ensures reserved { IfOk result (λ list. vec_capacity list ≡ vec_len list) }
     ensures empty { bytes.now ≡ [] → IsOk result }
 {
     let mut list = Vec::with_capacity(alloc, count)?;
@@ -106,7 +107,9 @@ pub fn list_build<T: CheckedTlv>(
 /// The same where their number isn't known: the items are counted first.
 pub fn list_build_counted<T: CheckedTlv>(alloc: Global, bytes: &[u8]) -> Result<Vec<T>, AllocError>
     requires { MeansSome T.level bytes.now }
-    ensures { IfOk result (λ list. MeansTrees T.level bytes.now (map T.view list.items)) }
+    ensures meant { IfOk result (λ list. MeansTrees T.level bytes.now (map T.view list.items)) }
+    ensures reserved { IfOk result (λ list. vec_capacity list ≡ vec_len list) }
+    ensures empty { bytes.now ≡ [] → IsOk result }
 {
     list_build(alloc, bytes, count_items(bytes))
 }
@@ -118,6 +121,7 @@ pub fn list_build_counted<T: CheckedTlv>(alloc: Global, bytes: &[u8]) -> Result<
 pub fn list_of_bytes<T: CheckedTlv>(alloc: Global, bytes: &[u8]) -> Result<Vec<T>, ChunkParseError>
     ensures answer { Answers result (λ list. MeansTrees T.level bytes.now (map T.view list.items)) (HasFault T.level bytes.now) }
     ensures memory { IsErrOf result ChunkParseError.OutOfMemory → MeansSome T.level bytes.now × (bytes.now ≢ []) }
+    ensures reserved { IfOk result (λ list. vec_capacity list ≡ vec_len list) }
 {
     let (count, _) = list_check::<T>(bytes)?;
     Ok(list_build(alloc, bytes, count)?)

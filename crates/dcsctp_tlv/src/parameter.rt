@@ -10,11 +10,11 @@
 //! +-+-+-+-+-+-+-+-+-+-+-+-+-+-+-+-+-+-+-+-+-+-+-+-+-+-+-+-+-+-+-+-+
 //! ```
 
-ghost use Rattle.std.specs.Prelude.{◌≢◌, ◌≤◌, ◌*◌, [], length, IfOk, IsErrOf, refl};
+ghost use Rattle.std.specs.Prelude.{◌≡◌, ◌≢◌, ◌≤◌, ◌*◌, [], length, vec_len, vec_capacity, IsOk, IfOk, IsErrOf, refl};
 ghost use Rattle.std.proofs.Common.{arith};
 ghost use Rattle.dcsctp_tlv.specs.Image.{IsEncodable};
 ghost use Rattle.dcsctp_tlv.specs.Level.{HasMeaning, MeansTrees, MeansSome, MeansMany, HasFault};
-ghost use Rattle.dcsctp_tlv.specs.Reading.{Answers, Finds, Exact};
+ghost use Rattle.dcsctp_tlv.specs.Reading.{Answers, Finds, ChecksExactly, ReadsExactly};
 ghost use Rattle.dcsctp_tlv.specs.Parameter.{ParameterTree, parameter_row, parameters, parameter_tlv, view, views, length-parameter};
 
 use crate::checked::{CheckedTlv, list_build_counted, list_check, list_of_bytes};
@@ -321,6 +321,8 @@ impl ListedTlv for Parameter {
 pub fn parameters_from_bytes(alloc: Global, bytes: &[u8]) -> Result<Vec<Parameter>, ChunkParseError>
     ensures answer { Answers result (λ list. MeansTrees parameters bytes.now (views list.items)) (HasFault parameters bytes.now) }
     ensures memory { IsErrOf result ChunkParseError.OutOfMemory → MeansSome parameters bytes.now × (bytes.now ≢ []) }
+    ensures exact { ReadsExactly result (λ list. views list.items) (MeansTrees parameters bytes.now) (HasFault parameters bytes.now) }
+    ensures reserved { IfOk result (λ list. vec_capacity list ≡ vec_len list) }
 {
     list_of_bytes(alloc, bytes)
 }
@@ -328,7 +330,7 @@ pub fn parameters_from_bytes(alloc: Global, bytes: &[u8]) -> Result<Vec<Paramete
 /// The number of parameters, or the first fault from the left. It takes no memory.
 pub fn parameters_check(bytes: &[u8]) -> Result<usize, ChunkParseError>
     ensures found { Finds result (MeansMany parameters bytes.now) (HasFault parameters bytes.now) }
-    ensures exact { Exact parameters bytes.now (λ n. n) result }
+    ensures exact { ChecksExactly result parameters bytes.now }
     ensures few { IfOk result (λ n. 4 * n ≤ length bytes.now) }
 {
     let (count, _) = list_check::<Parameter>(bytes)?;
@@ -338,7 +340,9 @@ pub fn parameters_check(bytes: &[u8]) -> Result<usize, ChunkParseError>
 /// Builds the parameters that the bytes are known to mean.
 pub fn parameters_build(alloc: Global, bytes: &[u8]) -> Result<Vec<Parameter>, AllocError>
     requires { MeansSome parameters bytes.now }
-    ensures { IfOk result (λ list. MeansTrees parameters bytes.now (views list.items)) }
+    ensures meant { IfOk result (λ list. MeansTrees parameters bytes.now (views list.items)) }
+    ensures reserved { IfOk result (λ list. vec_capacity list ≡ vec_len list) }
+    ensures empty { bytes.now ≡ [] → IsOk result }
 {
     list_build_counted(alloc, bytes)
 }

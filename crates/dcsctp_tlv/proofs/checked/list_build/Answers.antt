@@ -49,3 +49,9 @@ loop-rest-preserved g c =
 
 pub returns-clause-meant : goal.returns-clause-meant
 returns-clause-meant g c = finish g.T.CheckedTlv.level c.args.bytes.now (map g.T.CheckedTlv.view c.loop-rest.list.items) c.loop-rest.rest.now c.loop-rest.invariant.progress (is_nil c.loop-rest.rest.now c.is_empty.result c.is_empty.ensures c.loop-rest-test.false)
+
+pub returns-clause-reserved : goal.returns-clause-reserved
+returns-clause-reserved g c =
+    let b = c.loop-rest.invariant in
+    let none = no_trees g.T.CheckedTlv.level c.loop-rest.rest.now b.left (is_nil c.loop-rest.rest.now c.is_empty.result c.is_empty.ensures c.loop-rest-test.false) b.mean in
+    omega (arith, none, b.room)
