@@ -129,8 +129,8 @@ impl SackChunk {
     }
 
     /// `InvalidLength` exactly where the value has fewer than 12 bytes, or isn't just as long as its
-    /// two counts say. It takes no memory.
-    pub fn check(value: &[u8]) -> Result<(), ChunkParseError>
+    /// two counts say.
+    pub(crate) fn check(value: &[u8]) -> Result<(), ChunkParseError>
         ensures { Passes result (sack_at value.now) }
     {
         if value.len() < FIXED_SIZE {
