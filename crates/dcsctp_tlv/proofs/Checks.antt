@@ -198,7 +198,7 @@ fault_told faults InvalidValue f = (Value, refl, f)
 fault_told faults InvalidType f = absurd f
 fault_told faults OutOfMemory f = absurd f
 
-error_one : (d e : Fault) → error_of d ≡ error_of e → d ≡ e
+pub error_one : (d e : Fault) → error_of d ≡ error_of e → d ≡ e
 error_one Length Length h = refl
 error_one Length Padding h = absurd cc
 error_one Length Value h = absurd cc

@@ -2,7 +2,6 @@
 //! parameters.
 #![tactic(auto)]
 
-pub mod checked;
 pub mod error;
 pub mod fields;
 pub mod forward_tsn_supported_parameter;

@@ -11,13 +11,12 @@
 //! ```
 
 ghost use Rattle.std.specs.Prelude.{◌≡◌, ◌≢◌, ◌≤◌, ◌*◌, [], length, vec_len, vec_capacity, IsOk, IfOk, IsErrOf, refl};
-ghost use Rattle.std.proofs.Common.{arith};
 ghost use Rattle.dcsctp_tlv.specs.Image.{IsEncodable};
 ghost use Rattle.dcsctp_tlv.specs.Level.{HasMeaning, MeansTrees, MeansSome, MeansMany, HasFault};
 ghost use Rattle.dcsctp_tlv.specs.Reading.{Answers, Finds, ChecksExactly, ReadsExactly};
-ghost use Rattle.dcsctp_tlv.specs.Parameter.{ParameterTree, parameter_row, parameters, parameter_tlv, view, views, length-parameter};
+ghost use Rattle.dcsctp_tlv.specs.Parameter.{ParameterTree, parameter_row, parameters, TakesNoMemory, parameter_tlv, view, views, length-parameter};
 
-use crate::checked::{CheckedTlv, list_build_counted, list_check, list_of_bytes};
+use crate::reader::{ReadableTlv, list_build_counted, list_check, list_from_bytes};
 use crate::error::ChunkParseError;
 use crate::forward_tsn_supported_parameter::{self, ForwardTsnSupportedParameter};
 use crate::heartbeat_info_parameter::{self, HeartbeatInfoParameter};
@@ -65,13 +64,14 @@ impl Parameter {
     /// Reads a parameter as its type says.
     ///
     /// `InvalidLength` exactly where the value has a size that its kind doesn't allow;
-    /// `OutOfMemory` only where it has a meaning, and what it holds can't be copied. `InvalidType`
-    /// is never answered.
+    /// `OutOfMemory` only where it has a meaning, and what it holds can't be copied; never where it
+    /// holds nothing on the heap. `InvalidType` is never answered.
     pub fn try_from(alloc: Global, raw: RawParameter) -> Result<Self, ChunkParseError>
         ensures answer { Answers result (λ p. (parameter_row raw.entry.typ).means raw.entry.value.now (view p))
             ((parameter_row raw.entry.typ).faults raw.entry.value.now) }
         ensures memory { IsErrOf result ChunkParseError.OutOfMemory →
             HasMeaning (parameter_row raw.entry.typ) raw.entry.value.now }
+        ensures heap { TakesNoMemory raw.entry.typ → ¬ IsErrOf result ChunkParseError.OutOfMemory }
     {
         Parameter::check_value(raw.typ, raw.value)?;
         Ok(Parameter::build(alloc, raw.typ, raw.value)?)
@@ -100,7 +100,8 @@ impl Parameter {
     /// What the value means.
     fn build(alloc: Global, typ: u16, value: &[u8]) -> Result<Self, AllocError>
         requires { HasMeaning (parameter_row typ) value.now }
-        ensures { IfOk result (λ p. (parameter_row typ).means value.now (view p)) }
+        ensures meant { IfOk result (λ p. (parameter_row typ).means value.now (view p)) }
+        ensures heap { TakesNoMemory typ → IsOk result }
     {
         Ok(match typ {
             heartbeat_info_parameter::PARAMETER_TYPE => Parameter::HeartbeatInfo(
@@ -142,7 +143,7 @@ impl Parameter {
     }
 }
 
-impl CheckedTlv for Parameter {
+impl ReadableTlv for Parameter {
     ghost Tree = { ParameterTree };
 
     ghost level = { parameters };
@@ -237,8 +238,6 @@ impl CheckedTlv for Parameter {
     }
 
     ghost ignores_padding = { λ size there. refl };
-
-    ghost few_parts = { λ first second value tree means. Prim.omega arith };
 }
 
 impl SerializableTlv for Parameter {
@@ -324,7 +323,7 @@ pub fn parameters_from_bytes(alloc: Global, bytes: &[u8]) -> Result<Vec<Paramete
     ensures exact { ReadsExactly result (λ list. views list.items) (MeansTrees parameters bytes.now) (HasFault parameters bytes.now) }
     ensures reserved { IfOk result (λ list. vec_capacity list ≡ vec_len list) }
 {
-    list_of_bytes(alloc, bytes)
+    list_from_bytes(alloc, bytes)
 }
 
 /// The number of parameters, or the first fault from the left. It takes no memory.

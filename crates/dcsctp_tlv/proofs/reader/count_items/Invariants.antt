@@ -1,7 +1,7 @@
 use Rattle.std.proofs.Common.{◌≡◌, ◌≤◌, ◌+◌, List, length}
 use Rattle.dcsctp_tlv.specs.Number.{AreBytes}
 use Rattle.dcsctp_tlv.specs.Frame.{PaddingRule, Item, AreItems}
-use Rattle.dcsctp_tlv.proofs.checked.count_items.Given as goal
+use Rattle.dcsctp_tlv.proofs.reader.count_items.Given as goal
 
 abbrev pub invariant-loop-rest : goal.invariant-loop-rest
 invariant-loop-rest l = record {
