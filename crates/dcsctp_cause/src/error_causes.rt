@@ -11,11 +11,10 @@
 //! ```
 
 ghost use Rattle.std.specs.Prelude.{◌≡◌, ◌≢◌, ◌≤◌, ◌*◌, [], length, vec_len, vec_capacity, Some, IsOk, IfOk, IsErrOf, refl};
-ghost use Rattle.std.proofs.Common.{arith};
 ghost use Rattle.dcsctp_tlv.specs.Image.{IsEncodable};
 ghost use Rattle.dcsctp_tlv.specs.Level.{HasMeaning, MeansTrees, MeansSome, MeansMany, HasFault};
 ghost use Rattle.dcsctp_tlv.specs.Reading.{Answers, Finds, ChecksExactly, ReadsExactly};
-ghost use Rattle.dcsctp_cause.specs.Cause.{CauseTree, cause_row, causes, cause_tlv, cause_text, view, views, length-cause};
+ghost use Rattle.dcsctp_cause.specs.Cause.{CauseTree, cause_row, causes, TakesNoMemory, cause_tlv, cause_text, view, views, length-cause};
 
 use crate::cookie_received_while_shutting_down::{self, CookieReceivedWhileShuttingDownErrorCause};
 use crate::missing_mandatory_parameter_error_cause::{self, MissingMandatoryParameterErrorCause};
@@ -23,7 +22,7 @@ use crate::no_user_data_error_cause::{self, NoUserDataErrorCause};
 use crate::protocol_violation_error_cause::{self, ProtocolViolationErrorCause};
 use crate::unrecognized_chunk_error_cause::{self, UnrecognizedChunkErrorCause};
 use crate::user_initiated_abort_error_cause::{self, UserInitiatedAbortErrorCause};
-use dcsctp_tlv::checked::{CheckedTlv, list_build_counted, list_check, list_of_bytes};
+use dcsctp_tlv::reader::{ReadableTlv, list_build_counted, list_check, list_from_bytes};
 use dcsctp_tlv::error::ChunkParseError;
 use dcsctp_tlv::raw_parameter::RawParameter;
 use dcsctp_tlv::tlv::{ListedTlv, SerializableTlv};
@@ -48,13 +47,14 @@ impl ErrorCause {
     /// Reads a cause as its code says.
     ///
     /// `InvalidLength` exactly where the value has a size that its kind doesn't allow;
-    /// `OutOfMemory` only where it has a meaning, and what it holds can't be copied. No other error
-    /// is answered.
+    /// `OutOfMemory` only where it has a meaning, and what it holds can't be copied; never where it
+    /// holds nothing on the heap. No other error is answered.
     pub fn try_from(alloc: Global, raw: RawParameter) -> Result<Self, ChunkParseError>
         ensures answer { Answers result (λ c. (cause_row raw.entry.typ).means raw.entry.value.now (view c))
             ((cause_row raw.entry.typ).faults raw.entry.value.now) }
         ensures memory { IsErrOf result ChunkParseError.OutOfMemory →
             HasMeaning (cause_row raw.entry.typ) raw.entry.value.now }
+        ensures heap { TakesNoMemory raw.entry.typ → ¬ IsErrOf result ChunkParseError.OutOfMemory }
     {
         ErrorCause::check_value(raw.typ, raw.value)?;
         Ok(ErrorCause::build(alloc, raw.typ, raw.value)?)
@@ -77,7 +77,8 @@ impl ErrorCause {
     /// What the value means.
     fn build(alloc: Global, code: u16, value: &[u8]) -> Result<Self, AllocError>
         requires { HasMeaning (cause_row code) value.now }
-        ensures { IfOk result (λ c. (cause_row code).means value.now (view c)) }
+        ensures meant { IfOk result (λ c. (cause_row code).means value.now (view c)) }
+        ensures heap { TakesNoMemory code → IsOk result }
     {
         Ok(match code {
             missing_mandatory_parameter_error_cause::CAUSE_CODE =>
@@ -105,7 +106,7 @@ impl ErrorCause {
     }
 }
 
-impl CheckedTlv for ErrorCause {
+impl ReadableTlv for ErrorCause {
     ghost Tree = { CauseTree };
 
     ghost level = { causes };
@@ -170,8 +171,6 @@ impl CheckedTlv for ErrorCause {
     }
 
     ghost ignores_padding = { λ size there. refl };
-
-    ghost few_parts = { λ first second value tree means. Prim.omega arith };
 }
 
 impl SerializableTlv for ErrorCause {
@@ -261,7 +260,7 @@ pub fn error_cause_from_bytes(
     ensures exact { ReadsExactly result (λ list. views list.items) (MeansTrees causes bytes.now) (HasFault causes bytes.now) }
     ensures reserved { IfOk result (λ list. vec_capacity list ≡ vec_len list) }
 {
-    list_of_bytes(alloc, bytes)
+    list_from_bytes(alloc, bytes)
 }
 
 /// The number of error causes, or the first fault from the left. It takes no memory.
