@@ -22,9 +22,9 @@ use crate::no_user_data_error_cause::{self, NoUserDataErrorCause};
 use crate::protocol_violation_error_cause::{self, ProtocolViolationErrorCause};
 use crate::unrecognized_chunk_error_cause::{self, UnrecognizedChunkErrorCause};
 use crate::user_initiated_abort_error_cause::{self, UserInitiatedAbortErrorCause};
-use dcsctp_tlv::reader::{ReadableTlv, list_build_counted, list_check, list_from_bytes};
 use dcsctp_tlv::error::ChunkParseError;
 use dcsctp_tlv::raw_parameter::RawParameter;
+use dcsctp_tlv::reader::{ReadableTlv, list_build_counted, list_check, list_from_bytes};
 use dcsctp_tlv::tlv::{ListedTlv, SerializableTlv};
 use dcsctp_tlv::unknown_parameter::UnknownParameter;
 use std::alloc::{AllocError, Global};
@@ -136,9 +136,9 @@ impl ReadableTlv for ErrorCause {
                 Ok(())
             }
             unrecognized_chunk_error_cause::CAUSE_CODE => {
-                list.push_reserved(ErrorCause::UnrecognizedChunk(
-                    UnrecognizedChunkErrorCause::build(alloc, value)?,
-                ));
+                list.push_reserved(ErrorCause::UnrecognizedChunk(UnrecognizedChunkErrorCause::build(
+                    alloc, value,
+                )?));
                 Ok(())
             }
             no_user_data_error_cause::CAUSE_CODE => {
@@ -158,13 +158,15 @@ impl ReadableTlv for ErrorCause {
                 Ok(())
             }
             protocol_violation_error_cause::CAUSE_CODE => {
-                list.push_reserved(ErrorCause::ProtocolViolation(
-                    ProtocolViolationErrorCause::build(alloc, value)?,
-                ));
+                list.push_reserved(ErrorCause::ProtocolViolation(ProtocolViolationErrorCause::build(
+                    alloc, value,
+                )?));
                 Ok(())
             }
             _ => {
-                list.push_reserved(ErrorCause::Unknown(UnknownParameter::build(alloc, code, value)?));
+                list.push_reserved(ErrorCause::Unknown(UnknownParameter::build(
+                    alloc, code, value,
+                )?));
                 Ok(())
             }
         }

@@ -105,9 +105,7 @@ impl MissingMandatoryParameterErrorCause {
             return Err(ChunkParseError::InvalidType);
         }
         MissingMandatoryParameterErrorCause::check(raw.value)?;
-        Ok(MissingMandatoryParameterErrorCause::build(
-            alloc, raw.value,
-        )?)
+        Ok(MissingMandatoryParameterErrorCause::build(alloc, raw.value)?)
     }
 
     /// `InvalidLength` exactly where the value has fewer than 4 bytes, or other than 4 and 2 more

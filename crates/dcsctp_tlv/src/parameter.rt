@@ -16,7 +16,6 @@ ghost use Rattle.dcsctp_tlv.specs.Level.{HasMeaning, MeansTrees, MeansSome, Mean
 ghost use Rattle.dcsctp_tlv.specs.Reading.{Answers, Finds, ChecksExactly, ReadsExactly};
 ghost use Rattle.dcsctp_tlv.specs.Parameter.{ParameterTree, parameter_row, parameters, TakesNoMemory, parameter_tlv, view, views, length-parameter};
 
-use crate::reader::{ReadableTlv, list_build_counted, list_check, list_from_bytes};
 use crate::error::ChunkParseError;
 use crate::forward_tsn_supported_parameter::{self, ForwardTsnSupportedParameter};
 use crate::heartbeat_info_parameter::{self, HeartbeatInfoParameter};
@@ -24,6 +23,7 @@ use crate::incoming_ssn_reset_request_parameter::{self, IncomingSsnResetRequestP
 pub use crate::list::{parameters_encodable, parameters_serialize_to, parameters_serialized_size};
 use crate::outgoing_ssn_reset_request_parameter::{self, OutgoingSsnResetRequestParameter};
 pub use crate::raw_parameter::{PARAMETER_HEADER_SIZE, RawParameter, write_parameter_header};
+use crate::reader::{ReadableTlv, list_build_counted, list_check, list_from_bytes};
 use crate::reconfiguration_response_parameter::{self, ReconfigurationResponseParameter};
 use crate::state_cookie_parameter::{self, StateCookieParameter};
 use crate::supported_extensions_parameter::{self, SupportedExtensionsParameter};

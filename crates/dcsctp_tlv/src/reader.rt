@@ -117,7 +117,10 @@ pub fn list_build_counted<T: ReadableTlv>(alloc: Global, bytes: &[u8]) -> Result
 ///
 /// It answers what the items mean, or the first fault from the left wherever there is one;
 /// `OutOfMemory` only where there is none, and there are items.
-pub fn list_from_bytes<T: ReadableTlv>(alloc: Global, bytes: &[u8]) -> Result<Vec<T>, ChunkParseError>
+pub fn list_from_bytes<T: ReadableTlv>(
+    alloc: Global,
+    bytes: &[u8],
+) -> Result<Vec<T>, ChunkParseError>
     ensures answer { Answers result (λ list. MeansTrees T.level bytes.now (map T.view list.items)) (HasFault T.level bytes.now) }
     ensures memory { IsErrOf result ChunkParseError.OutOfMemory → MeansSome T.level bytes.now × (bytes.now ≢ []) }
     ensures reserved { IfOk result (λ list. vec_capacity list ≡ vec_len list) }

@@ -1,8 +1,8 @@
 //! What INIT and INIT ACK have in common.
 
-ghost use Rattle.std.specs.Prelude.{◌≡◌, [], IfOk, IsErrOf};
+ghost use Rattle.std.specs.Prelude.{◌≡◌, ◌≤◌, ◌+◌, ◌*◌, [], length, drop, IsOk, IfOk};
 ghost use Rattle.dcsctp_tlv.specs.Level.{HasMeaning, MeansParts};
-ghost use Rattle.dcsctp_tlv.specs.Reading.{Answers, Finds};
+ghost use Rattle.dcsctp_tlv.specs.Reading.{Finds};
 ghost use Rattle.dcsctp_wire.specs.Init.{init_row, init_parts, init_numbers, init_fields_view};
 
 use dcsctp_tlv::error::ChunkParseError;
@@ -28,7 +28,8 @@ pub(crate) struct InitFields {
 /// The number of parts: the chunk and its parameters. `InvalidLength` where the value has fewer than
 /// 16 bytes; else the first fault of the parameters from the left. It takes no memory.
 pub(crate) fn init_check(value: &[u8]) -> Result<usize, ChunkParseError>
-    ensures { Finds result (MeansParts init_parts init_row value.now) (init_row.faults value.now) }
+    ensures found { Finds result (MeansParts init_parts init_row value.now) (init_row.faults value.now) }
+    ensures few { IfOk result (λ n. 4 * n ≤ 4 + length value.now) }
 {
     if value.len() < FIXED_SIZE {
         return Err(ChunkParseError::InvalidLength);
@@ -37,23 +38,11 @@ pub(crate) fn init_check(value: &[u8]) -> Result<usize, ChunkParseError>
     Ok(1 + count)
 }
 
-/// Reads the value: `InvalidLength` where it has fewer than 16 bytes; else the first fault of the
-/// parameters from the left; `OutOfMemory` only where there is none.
-pub(crate) fn init_fields_from_bytes(
-    alloc: Global,
-    value: &[u8],
-) -> Result<InitFields, ChunkParseError>
-    ensures answer { Answers result (λ fields. init_row.means value.now (init_fields_view fields)) (init_row.faults value.now) }
-    ensures memory { IsErrOf result ChunkParseError.OutOfMemory → HasMeaning init_row value.now }
-{
-    init_check(value)?;
-    Ok(init_build(alloc, value)?)
-}
-
 /// What the value means.
 pub(crate) fn init_build(alloc: Global, value: &[u8]) -> Result<InitFields, AllocError>
     requires { HasMeaning init_row value.now }
-    ensures { IfOk result (λ fields. init_row.means value.now (init_fields_view fields)) }
+    ensures meant { IfOk result (λ fields. init_row.means value.now (init_fields_view fields)) }
+    ensures empty { drop 16 value.now ≡ [] → IsOk result }
 {
     let parameters = parameters_build(alloc, &value[FIXED_SIZE..])?;
     Ok(InitFields {

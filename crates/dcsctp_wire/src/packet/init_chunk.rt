@@ -18,7 +18,7 @@
 //! +-+-+-+-+-+-+-+-+-+-+-+-+-+-+-+-+-+-+-+-+-+-+-+-+-+-+-+-+-+-+-+-+
 //! ```
 
-ghost use Rattle.std.specs.Prelude.{◌≡◌, ◌≢◌, ◌↔◌, Some, IfOk, IsErrOf, codes};
+ghost use Rattle.std.specs.Prelude.{◌≡◌, ◌≢◌, ◌↔◌, [], drop, Some, IsOk, IfOk, IsErrOf, codes};
 ghost use Rattle.dcsctp_tlv.specs.Image.{IsEncodable};
 ghost use Rattle.dcsctp_tlv.specs.Parameter.{parameter_tlv, length-parameter};
 ghost use Rattle.dcsctp_tlv.specs.Level.{HasMeaning};
@@ -59,10 +59,12 @@ impl InitChunk {
     /// Reads the chunk and its parameters; flags are ignored.
     ///
     /// `InvalidType` exactly for another type; `InvalidLength` where the value has fewer than 16
-    /// bytes; else the first fault of the parameters from the left; or `OutOfMemory`.
+    /// bytes; else the first fault of the parameters from the left; `OutOfMemory` only where there is
+    /// none, and there are parameters.
     pub fn try_from(alloc: Global, raw: RawChunk) -> Result<Self, ChunkParseError>
         ensures other { IsErrOf result ChunkParseError.InvalidType ↔ (raw.entry.typ ≢ CHUNK_TYPE) }
         ensures own { raw.entry.typ ≡ CHUNK_TYPE → Answers result (λ c. init_row.means raw.entry.value.now (init_view c)) (init_row.faults raw.entry.value.now) }
+        ensures memory { IsErrOf result ChunkParseError.OutOfMemory → HasMeaning init_row raw.entry.value.now × (drop 16 raw.entry.value.now ≢ []) }
     {
         if raw.typ != CHUNK_TYPE {
             return Err(ChunkParseError::InvalidType);
@@ -74,7 +76,8 @@ impl InitChunk {
     /// What the value means.
     pub(crate) fn build(alloc: Global, value: &[u8]) -> Result<Self, AllocError>
         requires { HasMeaning init_row value.now }
-        ensures { IfOk result (λ c. init_row.means value.now (init_view c)) }
+        ensures meant { IfOk result (λ c. init_row.means value.now (init_view c)) }
+        ensures empty { drop 16 value.now ≡ [] → IsOk result }
     {
         let fields = init_build(alloc, value)?;
         Ok(InitChunk {
