@@ -49,10 +49,10 @@ const FIXED_SIZE: usize = HEADER_SIZE - TLV_HEADER_SIZE;
 /// It carries neither MID nor FSN: these aren't written, and are read as 0.
 #[derive(Debug, Drop)]
 pub struct DataChunk {
-    /// The chunk's place in its association.
-    pub tsn: Tsn,
     /// The message, or the fragment of one.
     pub user_data: Data,
+    /// The chunk's place in its association.
+    pub tsn: Tsn,
     /// Whether the sender asks for a SACK without delay (RFC 7053): the I bit.
     pub immediate_ack: bool,
 }

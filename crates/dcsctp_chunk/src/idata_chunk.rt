@@ -53,10 +53,10 @@ const FIXED_SIZE: usize = HEADER_SIZE - TLV_HEADER_SIZE;
 /// carried isn't written, and is read as 0.
 #[derive(Debug, Drop)]
 pub struct IDataChunk {
-    /// The chunk's place in its association.
-    pub tsn: Tsn,
     /// The message, or the fragment of one.
     pub user_data: Data,
+    /// The chunk's place in its association.
+    pub tsn: Tsn,
     /// Whether the sender asks for a SACK without delay: the I bit.
     pub immediate_ack: bool,
 }

@@ -95,8 +95,8 @@ pub struct CommonHeader {
 /// A packet (RFC 9260 section 3).
 #[derive(Drop)]
 pub struct SctpPacket {
-    pub common_header: CommonHeader,
     pub chunks: Vec<Chunk>,
+    pub common_header: CommonHeader,
 }
 
 /// Which checksum fields are accepted.
