@@ -1,15 +1,15 @@
 -- The laws of the table of error causes: a line for each kind.
-use Rattle.std.proofs.Common.{◌≡◌, ℕ, ◌+◌, ◌^◌, ◌<◌, List, [], ◌∷◌, length, refl, sym, ap, subst, ◌∙◌, Result, Ok, ◌⊎◌, inl, inr}
+use Rattle.std.proofs.Common.{◌≡◌, ◌≢◌, ℕ, ◌+◌, ◌^◌, ◌<◌, List, [], ◌∷◌, length, refl, sym, ap, subst, ◌∙◌, Result, Ok, ◌⊎◌, inl, inr}
 use Rattle.std.specs.Prelude.{◌==◌}
 use Rattle.std.specs.Int.{w16, from_be_bytes}
 use Rattle.std.specs.Str.{IsUtf8}
 use Rattle.std.proofs.lemmas.Bool.{eqb-true, eqb-false, ne_eqb}
 use Rattle.std.specs.List.{AllByRecursion}
-use Rattle.dcsctp_tlv.specs.Level.{Row, plain, map_ok}
+use Rattle.dcsctp_tlv.specs.Level.{Row, plain, map_ok, HasMeaning}
 use Rattle.dcsctp_tlv.specs.Fault.{Fault}
 use Rattle.dcsctp_tlv.specs.Image.{Tlv, zeroed, size_of, IsEncodable, list_size}
 use Rattle.dcsctp_tlv.specs.UnknownParameter.{UnknownParameterTree, unknown_parameter_at, unknown_parameter_tlv}
-use Rattle.dcsctp_tlv.proofs.Laws.{LawfulRow, Lawful, plain_lawful, pick_lawful}
+use Rattle.dcsctp_tlv.proofs.Laws.{LawfulRow, Lawful, plain_lawful, pick_lawful, pick_means}
 use Rattle.dcsctp_tlv.proofs.ReadsBack.{ReadsBack, each_encodable, zeroed-solid}
 use Rattle.dcsctp_tlv.proofs.KindLaws.{of_map_ok}
 use Rattle.dcsctp_tlv.proofs.ParameterKinds.{type_back, unknown_parameter_laws, unknown_parameter_keeps_size, unknown_parameter_forms}
@@ -19,6 +19,7 @@ use Rattle.dcsctp_tlv.proofs.Counts.{Counts, one_each}
 use Rattle.dcsctp_cause.specs.Text.{item_code, IsTextKept}
 use Rattle.dcsctp_cause.specs.Cause.{CauseTree, MissingMandatoryParameter, UnrecognizedChunk, NoUserData, CookieReceivedWhileShuttingDown, UserInitiatedAbort, ProtocolViolation, Unknown, causes, cause_row, cause_tlv}
 use Rattle.dcsctp_cause.specs.WellFormedCause.{IsCauseInWidth, IsUnnamedCause, IsCauseWellFormed}
+use Rattle.dcsctp_cause.specs.UnrecognizedChunk.{unrecognized_chunk_at}
 use Rattle.dcsctp_cause.specs.UserInitiatedAbort.{user_initiated_abort_at}
 use Rattle.dcsctp_cause.specs.ProtocolViolation.{protocol_violation_at}
 use Rattle.dcsctp_cause.proofs.CauseKinds.{missing_mandatory_parameter_laws, missing_mandatory_parameter_keeps_size, unrecognized_chunk_laws, unrecognized_chunk_keeps_size, no_user_data_laws, no_user_data_keeps_size, cookie_received_while_shutting_down_laws, cookie_received_while_shutting_down_keeps_size, user_initiated_abort_laws, user_initiated_abort_kept, protocol_violation_laws, protocol_violation_kept}
@@ -38,6 +39,14 @@ row_lawful code =
 -- each value of a cause means one tree or has one fault
 pub causes_lawful : Lawful causes
 causes_lawful = λ first second. row_lawful (from_be_bytes w16 (first ∷ second ∷ []))
+
+-- any value of a code that allows any has a meaning
+pub any_value : (code : ℕ) (value : List ℕ) → code ≢ 2 → code ≢ 9 → code ≢ 10 → HasMeaning (cause_row code) value
+unfolding unrecognized_chunk_at user_initiated_abort_at protocol_violation_at unknown_parameter_at
+any_value code value a b c = rw (ne_eqb code 2 a, ne_eqb code 9 b, ne_eqb code 10 c) (
+    pick_means (code == 6) _ _ value (_, refl) (
+    pick_means (code == 12) _ _ value (_, refl) (
+    pick_means (code == 13) _ _ value (_, refl) (_, refl))))
 
 -- ---- reading back
 

@@ -1,5 +1,5 @@
 -- The table of error causes (RFC 9260 section 3.3.10): a line for each kind in each definition.
-use Rattle.std.specs.Prelude.{◌≡◌, ℕ, List, [], ◌∷◌, ◌++◌, ◌==◌, length, map}
+use Rattle.std.specs.Prelude.{◌≡◌, ◌⊎◌, ℕ, List, [], ◌∷◌, ◌++◌, ◌==◌, length, map}
 use Rattle.std.specs.Int.{w16, w32, from_be_bytes, to_be_bytes}
 use Rattle.dcsctp_tlv.specs.Frame.{lenient}
 use Rattle.dcsctp_tlv.specs.Level.{Row, plain, pick, Level, map_ok}
@@ -40,6 +40,10 @@ cause_row code =
 -- lists of causes: their padding is never looked at
 abbrev pub causes : Level CauseTree
 causes = record { row = λ first second. cause_row (from_be_bytes w16 (first ∷ second ∷ [])); padding = lenient }
+
+-- what such a value means holds nothing on the heap
+abbrev pub TakesNoMemory : ℕ → Type 0
+TakesNoMemory code = (code ≡ 9) ⊎ (code ≡ 10)
 
 -- how each is written
 abbrev pub cause_tlv : CauseTree → Tlv

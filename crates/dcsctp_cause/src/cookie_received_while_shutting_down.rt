@@ -10,7 +10,7 @@
 
 ghost use Rattle.std.specs.Prelude.{◌≡◌, ◌≢◌, ◌↔◌, [], Some, IsErrOf};
 ghost use Rattle.dcsctp_tlv.specs.Image.{IsEncodable};
-ghost use Rattle.dcsctp_tlv.specs.Reading.{Gives, Never};
+ghost use Rattle.dcsctp_tlv.specs.Reading.{Gives, Never, Passes};
 ghost use Rattle.dcsctp_tlv.specs.Length.{length-typed_tlv};
 ghost use Rattle.dcsctp_cause.specs.CookieReceivedWhileShuttingDown.{cookie_received_while_shutting_down_at, cookie_received_while_shutting_down_tlv, cookie_received_while_shutting_down_text, cookie_received_while_shutting_down_view};
 
@@ -39,10 +39,18 @@ impl CookieReceivedWhileShuttingDownErrorCause {
         if raw.typ != CAUSE_CODE {
             return Err(ChunkParseError::InvalidType);
         }
-        if !raw.value.is_empty() {
+        CookieReceivedWhileShuttingDownErrorCause::check(raw.value)?;
+        Ok(CookieReceivedWhileShuttingDownErrorCause {})
+    }
+
+    /// `InvalidLength` exactly where the value isn't empty.
+    pub(crate) fn check(value: &[u8]) -> Result<(), ChunkParseError>
+        ensures { Passes result (cookie_received_while_shutting_down_at value.now) }
+    {
+        if !value.is_empty() {
             return Err(ChunkParseError::InvalidLength);
         }
-        Ok(CookieReceivedWhileShuttingDownErrorCause {})
+        Ok(())
     }
 }
 

@@ -10,11 +10,11 @@
 //! +-+-+-+-+-+-+-+-+-+-+-+-+-+-+-+-+-+-+-+-+-+-+-+-+-+-+-+-+-+-+-+-+
 //! ```
 
-ghost use Rattle.std.specs.Prelude.{Some, IsErrOf, refl};
+ghost use Rattle.std.specs.Prelude.{◌≡◌, ◌≢◌, ◌≤◌, ◌*◌, [], length, vec_len, vec_capacity, Some, IsOk, IfOk, IsErrOf, refl};
 ghost use Rattle.dcsctp_tlv.specs.Image.{IsEncodable};
-ghost use Rattle.dcsctp_tlv.specs.Level.{HasMeaning, MeansTrees, HasFault};
-ghost use Rattle.dcsctp_tlv.specs.Reading.{Answers};
-ghost use Rattle.dcsctp_cause.specs.Cause.{CauseTree, cause_row, causes, cause_tlv, cause_text, view, views, length-cause};
+ghost use Rattle.dcsctp_tlv.specs.Level.{HasMeaning, MeansTrees, MeansSome, MeansMany, HasFault};
+ghost use Rattle.dcsctp_tlv.specs.Reading.{Answers, Finds, ChecksExactly, ReadsExactly};
+ghost use Rattle.dcsctp_cause.specs.Cause.{CauseTree, cause_row, causes, TakesNoMemory, cause_tlv, cause_text, view, views, length-cause};
 
 use crate::cookie_received_while_shutting_down::{self, CookieReceivedWhileShuttingDownErrorCause};
 use crate::missing_mandatory_parameter_error_cause::{self, MissingMandatoryParameterErrorCause};
@@ -24,10 +24,10 @@ use crate::unrecognized_chunk_error_cause::{self, UnrecognizedChunkErrorCause};
 use crate::user_initiated_abort_error_cause::{self, UserInitiatedAbortErrorCause};
 use dcsctp_tlv::error::ChunkParseError;
 use dcsctp_tlv::raw_parameter::RawParameter;
-use dcsctp_tlv::reader::{ReadableTlv, list_from_bytes};
+use dcsctp_tlv::reader::{ReadableTlv, list_build_counted, list_check, list_from_bytes};
 use dcsctp_tlv::tlv::{ListedTlv, SerializableTlv};
 use dcsctp_tlv::unknown_parameter::UnknownParameter;
-use std::alloc::Global;
+use std::alloc::{AllocError, Global};
 use std::fmt;
 
 /// An error cause of any kind (RFC 9260 section 3.3.10); a code without a kind of its own is
@@ -47,38 +47,61 @@ impl ErrorCause {
     /// Reads a cause as its code says.
     ///
     /// `InvalidLength` exactly where the value has a size that its kind doesn't allow;
-    /// `OutOfMemory` only where it has a meaning, and what it holds can't be copied. No other error
-    /// is answered.
+    /// `OutOfMemory` only where it has a meaning, and what it holds can't be copied; never where it
+    /// holds nothing on the heap. No other error is answered.
     pub fn try_from(alloc: Global, raw: RawParameter) -> Result<Self, ChunkParseError>
         ensures answer { Answers result (λ c. (cause_row raw.entry.typ).means raw.entry.value.now (view c))
             ((cause_row raw.entry.typ).faults raw.entry.value.now) }
         ensures memory { IsErrOf result ChunkParseError.OutOfMemory →
             HasMeaning (cause_row raw.entry.typ) raw.entry.value.now }
+        ensures heap { TakesNoMemory raw.entry.typ → ¬ IsErrOf result ChunkParseError.OutOfMemory }
     {
-        Ok(match raw.typ {
-            missing_mandatory_parameter_error_cause::CAUSE_CODE => {
-                ErrorCause::MissingMandatoryParameter(MissingMandatoryParameterErrorCause::try_from(
-                    alloc, raw,
-                )?)
-            }
-            unrecognized_chunk_error_cause::CAUSE_CODE => {
-                ErrorCause::UnrecognizedChunk(UnrecognizedChunkErrorCause::try_from(alloc, raw)?)
-            }
-            no_user_data_error_cause::CAUSE_CODE => {
-                ErrorCause::NoUserData(NoUserDataErrorCause::try_from(raw)?)
-            }
-            cookie_received_while_shutting_down::CAUSE_CODE => {
+        ErrorCause::check_value(raw.typ, raw.value)?;
+        Ok(ErrorCause::build(alloc, raw.typ, raw.value)?)
+    }
+
+    /// Passes exactly where the value has a meaning; else its fault. It takes no memory.
+    fn check_value(code: u16, value: &[u8]) -> Result<(), ChunkParseError>
+        ensures { Finds result (λ _. HasMeaning (cause_row code) value.now) ((cause_row code).faults value.now) }
+    {
+        match code {
+            missing_mandatory_parameter_error_cause::CAUSE_CODE =>
+                MissingMandatoryParameterErrorCause::check(value),
+            no_user_data_error_cause::CAUSE_CODE => NoUserDataErrorCause::check(value),
+            cookie_received_while_shutting_down::CAUSE_CODE =>
+                CookieReceivedWhileShuttingDownErrorCause::check(value),
+            _ => Ok(()),
+        }
+    }
+
+    /// What the value means.
+    fn build(alloc: Global, code: u16, value: &[u8]) -> Result<Self, AllocError>
+        requires { HasMeaning (cause_row code) value.now }
+        ensures meant { IfOk result (λ c. (cause_row code).means value.now (view c)) }
+        ensures heap { TakesNoMemory code → IsOk result }
+    {
+        Ok(match code {
+            missing_mandatory_parameter_error_cause::CAUSE_CODE =>
+                ErrorCause::MissingMandatoryParameter(MissingMandatoryParameterErrorCause::build(
+                    alloc, value,
+                )?),
+            unrecognized_chunk_error_cause::CAUSE_CODE => ErrorCause::UnrecognizedChunk(
+                UnrecognizedChunkErrorCause::build(alloc, value)?,
+            ),
+            no_user_data_error_cause::CAUSE_CODE => ErrorCause::NoUserData(
+                NoUserDataErrorCause::build(value),
+            ),
+            cookie_received_while_shutting_down::CAUSE_CODE =>
                 ErrorCause::CookieReceivedWhileShuttingDown(
-                    CookieReceivedWhileShuttingDownErrorCause::try_from(raw)?,
-                )
-            }
-            user_initiated_abort_error_cause::CAUSE_CODE => {
-                ErrorCause::UserInitiatedAbort(UserInitiatedAbortErrorCause::try_from(alloc, raw)?)
-            }
-            protocol_violation_error_cause::CAUSE_CODE => {
-                ErrorCause::ProtocolViolation(ProtocolViolationErrorCause::try_from(alloc, raw)?)
-            }
-            _ => ErrorCause::Unknown(UnknownParameter::try_from(alloc, raw)?),
+                    CookieReceivedWhileShuttingDownErrorCause {},
+                ),
+            user_initiated_abort_error_cause::CAUSE_CODE => ErrorCause::UserInitiatedAbort(
+                UserInitiatedAbortErrorCause::build(alloc, value)?,
+            ),
+            protocol_violation_error_cause::CAUSE_CODE => ErrorCause::ProtocolViolation(
+                ProtocolViolationErrorCause::build(alloc, value)?,
+            ),
+            _ => ErrorCause::Unknown(UnknownParameter::build(alloc, code, value)?),
         })
     }
 }
@@ -90,14 +113,63 @@ impl ReadableTlv for ErrorCause {
 
     ghost view = { view };
 
-    fn read(alloc: Global, first: u8, second: u8, value: &[u8]) -> Result<Self, ChunkParseError> {
-        ErrorCause::try_from(
-            alloc,
-            RawParameter {
-                typ: u16::from_be_bytes([first, second]),
-                value,
-            },
-        )
+    ghost parts = { λ t. 1 };
+
+    fn check(first: u8, second: u8, value: &[u8]) -> Result<usize, ChunkParseError> {
+        ErrorCause::check_value(u16::from_be_bytes([first, second]), value)?;
+        Ok(1)
+    }
+
+    fn read_onto(
+        list: &mut Vec<Self>,
+        alloc: Global,
+        first: u8,
+        second: u8,
+        value: &[u8],
+    ) -> Result<(), AllocError> {
+        let code = u16::from_be_bytes([first, second]);
+        match code {
+            missing_mandatory_parameter_error_cause::CAUSE_CODE => {
+                list.push_reserved(ErrorCause::MissingMandatoryParameter(
+                    MissingMandatoryParameterErrorCause::build(alloc, value)?,
+                ));
+                Ok(())
+            }
+            unrecognized_chunk_error_cause::CAUSE_CODE => {
+                list.push_reserved(ErrorCause::UnrecognizedChunk(UnrecognizedChunkErrorCause::build(
+                    alloc, value,
+                )?));
+                Ok(())
+            }
+            no_user_data_error_cause::CAUSE_CODE => {
+                list.push_reserved(ErrorCause::NoUserData(NoUserDataErrorCause::build(value)));
+                Ok(())
+            }
+            cookie_received_while_shutting_down::CAUSE_CODE => {
+                list.push_reserved(ErrorCause::CookieReceivedWhileShuttingDown(
+                    CookieReceivedWhileShuttingDownErrorCause {},
+                ));
+                Ok(())
+            }
+            user_initiated_abort_error_cause::CAUSE_CODE => {
+                list.push_reserved(ErrorCause::UserInitiatedAbort(
+                    UserInitiatedAbortErrorCause::build(alloc, value)?,
+                ));
+                Ok(())
+            }
+            protocol_violation_error_cause::CAUSE_CODE => {
+                list.push_reserved(ErrorCause::ProtocolViolation(ProtocolViolationErrorCause::build(
+                    alloc, value,
+                )?));
+                Ok(())
+            }
+            _ => {
+                list.push_reserved(ErrorCause::Unknown(UnknownParameter::build(
+                    alloc, code, value,
+                )?));
+                Ok(())
+            }
+        }
     }
 
     ghost ignores_padding = { λ size there. refl };
@@ -179,13 +251,36 @@ impl ListedTlv for ErrorCause {
 
 /// Reads all the bytes as a list of error causes; no bytes are the empty list.
 ///
-/// The first item that has no frame, or whose value is at fault, decides the error: `InvalidLength`,
-/// or `OutOfMemory` for want of memory.
+/// The first item that has no frame, or whose value is at fault, decides the error, which is
+/// `InvalidLength`; `OutOfMemory` only where there is none.
 pub fn error_cause_from_bytes(
     alloc: Global,
     bytes: &[u8],
 ) -> Result<Vec<ErrorCause>, ChunkParseError>
-    ensures { Answers result (λ list. MeansTrees causes bytes.now (views list.items)) (HasFault causes bytes.now) }
+    ensures answer { Answers result (λ list. MeansTrees causes bytes.now (views list.items)) (HasFault causes bytes.now) }
+    ensures memory { IsErrOf result ChunkParseError.OutOfMemory → MeansSome causes bytes.now × (bytes.now ≢ []) }
+    ensures exact { ReadsExactly result (λ list. views list.items) (MeansTrees causes bytes.now) (HasFault causes bytes.now) }
+    ensures reserved { IfOk result (λ list. vec_capacity list ≡ vec_len list) }
 {
     list_from_bytes(alloc, bytes)
+}
+
+/// The number of error causes, or the first fault from the left. It takes no memory.
+pub fn error_cause_check(bytes: &[u8]) -> Result<usize, ChunkParseError>
+    ensures found { Finds result (MeansMany causes bytes.now) (HasFault causes bytes.now) }
+    ensures exact { ChecksExactly result causes bytes.now }
+    ensures few { IfOk result (λ n. 4 * n ≤ length bytes.now) }
+{
+    let (count, _) = list_check::<ErrorCause>(bytes)?;
+    Ok(count)
+}
+
+/// Builds the error causes that the bytes are known to mean.
+pub fn error_cause_build(alloc: Global, bytes: &[u8]) -> Result<Vec<ErrorCause>, AllocError>
+    requires { MeansSome causes bytes.now }
+    ensures meant { IfOk result (λ list. MeansTrees causes bytes.now (views list.items)) }
+    ensures reserved { IfOk result (λ list. vec_capacity list ≡ vec_len list) }
+    ensures empty { bytes.now ≡ [] → IsOk result }
+{
+    list_build_counted(alloc, bytes)
 }

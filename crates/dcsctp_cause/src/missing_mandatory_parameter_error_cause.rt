@@ -12,12 +12,12 @@
 //! +-+-+-+-+-+-+-+-+-+-+-+-+-+-+-+-+-+-+-+-+-+-+-+-+-+-+-+-+-+-+-+-+
 //! ```
 
-ghost use Rattle.std.specs.Prelude.{◌≡◌, ◌≢◌, ◌↔◌, ◌++◌, [], ◌∷◌, ℕ, Some, IsErrOf, IfOk, length, refl};
+ghost use Rattle.std.specs.Prelude.{◌≡◌, ◌≢◌, ◌↔◌, ◌++◌, [], ◌∷◌, ℕ, Some, IsOk, IfOk, IsErrOf, length, refl};
 ghost use Rattle.std.specs.Int.{w16, w32, to_be_bytes};
 ghost use Rattle.dcsctp_tlv.specs.Image.{IsEncodable};
 ghost use Rattle.dcsctp_tlv.specs.Length.{length-typed_tlv};
 ghost use Rattle.dcsctp_tlv.specs.Number.{number16, numbers};
-ghost use Rattle.dcsctp_tlv.specs.Reading.{Gives, IfMeant};
+ghost use Rattle.dcsctp_tlv.specs.Reading.{Gives, IfMeant, Passes, Builds};
 ghost use Rattle.dcsctp_cause.specs.MissingMandatoryParameter.{missing_mandatory_parameter_at, missing_mandatory_parameter_tlv, missing_mandatory_parameter_text, missing_mandatory_parameter_view};
 
 use dcsctp_tlv::error::ChunkParseError;
@@ -104,7 +104,15 @@ impl MissingMandatoryParameterErrorCause {
         if raw.typ != CAUSE_CODE {
             return Err(ChunkParseError::InvalidType);
         }
-        let value = raw.value;
+        MissingMandatoryParameterErrorCause::check(raw.value)?;
+        Ok(MissingMandatoryParameterErrorCause::build(alloc, raw.value)?)
+    }
+
+    /// `InvalidLength` exactly where the value has fewer than 4 bytes, or other than 4 and 2 more
+    /// for each type that it counts.
+    pub(crate) fn check(value: &[u8]) -> Result<(), ChunkParseError>
+        ensures { Passes result (missing_mandatory_parameter_at value.now) }
+    {
         if value.len() < FIXED_SIZE {
             return Err(ChunkParseError::InvalidLength);
         }
@@ -112,9 +120,18 @@ impl MissingMandatoryParameterErrorCause {
         if value.len() != FIXED_SIZE + 2 * count {
             return Err(ChunkParseError::InvalidLength);
         }
+        Ok(())
+    }
+
+    /// What the value means.
+    pub(crate) fn build(alloc: Global, value: &[u8]) -> Result<Self, AllocError>
+        requires { IsOk (missing_mandatory_parameter_at value.now) }
+        ensures { Builds missing_mandatory_parameter_view result (missing_mandatory_parameter_at value.now) }
+    {
+        let count = read_u32_be(value) as usize;
         let types = &value[FIXED_SIZE..];
         let missing_parameters = fields_from_bytes::<ParameterTypeField>(alloc, types, count)?;
-        Ok(MissingMandatoryParameterErrorCause::new(missing_parameters))
+        Ok(MissingMandatoryParameterErrorCause { missing_parameters })
     }
 }
 

@@ -10,10 +10,10 @@
 //! +-+-+-+-+-+-+-+-+-+-+-+-+-+-+-+-+-+-+-+-+-+-+-+-+-+-+-+-+-+-+-+-+
 //! ```
 
-ghost use Rattle.std.specs.Prelude.{◌≡◌, ◌≢◌, ◌↔◌, Some, IsErrOf};
+ghost use Rattle.std.specs.Prelude.{◌≡◌, ◌≢◌, ◌↔◌, Some, Ok, IsOk, IsErrOf};
 ghost use Rattle.std.specs.Int.{w32, to_be_bytes};
 ghost use Rattle.dcsctp_tlv.specs.Image.{IsEncodable};
-ghost use Rattle.dcsctp_tlv.specs.Reading.{Gives, Never};
+ghost use Rattle.dcsctp_tlv.specs.Reading.{Gives, Never, Passes};
 ghost use Rattle.dcsctp_tlv.specs.Length.{length-typed_tlv};
 ghost use Rattle.dcsctp_cause.specs.NoUserData.{no_user_data_at, no_user_data_tlv, no_user_data_text, no_user_data_view};
 
@@ -48,12 +48,28 @@ impl NoUserDataErrorCause {
         if raw.typ != CAUSE_CODE {
             return Err(ChunkParseError::InvalidType);
         }
-        if raw.value.len() != 4 {
+        NoUserDataErrorCause::check(raw.value)?;
+        Ok(NoUserDataErrorCause::build(raw.value))
+    }
+
+    /// `InvalidLength` exactly where the value hasn't 4 bytes.
+    pub(crate) fn check(value: &[u8]) -> Result<(), ChunkParseError>
+        ensures { Passes result (no_user_data_at value.now) }
+    {
+        if value.len() != 4 {
             return Err(ChunkParseError::InvalidLength);
         }
-        Ok(NoUserDataErrorCause {
-            tsn: Tsn(read_u32_be(raw.value)),
-        })
+        Ok(())
+    }
+
+    /// What the value means.
+    pub(crate) fn build(value: &[u8]) -> Self
+        requires { IsOk (no_user_data_at value.now) }
+        ensures { no_user_data_at value.now ≡ Ok (no_user_data_view result) }
+    {
+        NoUserDataErrorCause {
+            tsn: Tsn(read_u32_be(value)),
+        }
     }
 }
 

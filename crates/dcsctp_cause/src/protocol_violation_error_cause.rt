@@ -12,7 +12,7 @@
 
 ghost use Rattle.std.specs.Prelude.{◌≡◌, ◌≢◌, ◌↔◌, Some, IsErrOf};
 ghost use Rattle.dcsctp_tlv.specs.Image.{IsEncodable};
-ghost use Rattle.dcsctp_tlv.specs.Reading.{Gives, IfMeant};
+ghost use Rattle.dcsctp_tlv.specs.Reading.{Gives, IfMeant, Builds};
 ghost use Rattle.dcsctp_tlv.specs.Length.{length-typed_tlv};
 ghost use Rattle.dcsctp_cause.specs.ProtocolViolation.{protocol_violation_at, protocol_violation_tlv, protocol_violation_text, protocol_violation_view};
 
@@ -21,7 +21,7 @@ use dcsctp_tlv::error::ChunkParseError;
 use dcsctp_tlv::frame::{MAX_VALUE_SIZE, put_parameter};
 use dcsctp_tlv::raw_parameter::RawParameter;
 use dcsctp_tlv::tlv::SerializableTlv;
-use std::alloc::Global;
+use std::alloc::{AllocError, Global};
 use std::fmt;
 
 /// The code of this cause.
@@ -49,8 +49,15 @@ impl ProtocolViolationErrorCause {
         if raw.typ != CAUSE_CODE {
             return Err(ChunkParseError::InvalidType);
         }
+        Ok(ProtocolViolationErrorCause::build(alloc, raw.value)?)
+    }
+
+    /// Copies the text, or says that the value isn't UTF-8.
+    pub(crate) fn build(alloc: Global, value: &[u8]) -> Result<Self, AllocError>
+        ensures { Builds protocol_violation_view result (protocol_violation_at value.now) }
+    {
         Ok(ProtocolViolationErrorCause {
-            information: text_or(alloc, UNREADABLE, raw.value)?,
+            information: text_or(alloc, UNREADABLE, value)?,
         })
     }
 }

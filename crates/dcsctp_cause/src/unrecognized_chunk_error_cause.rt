@@ -12,7 +12,7 @@
 
 ghost use Rattle.std.specs.Prelude.{◌≡◌, ◌≢◌, ◌↔◌, Some, IsErrOf};
 ghost use Rattle.dcsctp_tlv.specs.Image.{IsEncodable};
-ghost use Rattle.dcsctp_tlv.specs.Reading.{Gives, IfMeant};
+ghost use Rattle.dcsctp_tlv.specs.Reading.{Gives, IfMeant, Builds};
 ghost use Rattle.dcsctp_tlv.specs.Length.{length-typed_tlv};
 ghost use Rattle.dcsctp_cause.specs.UnrecognizedChunk.{unrecognized_chunk_at, unrecognized_chunk_tlv, unrecognized_chunk_text, unrecognized_chunk_view};
 
@@ -20,7 +20,7 @@ use dcsctp_tlv::error::ChunkParseError;
 use dcsctp_tlv::frame::{MAX_VALUE_SIZE, put_parameter};
 use dcsctp_tlv::raw_parameter::RawParameter;
 use dcsctp_tlv::tlv::SerializableTlv;
-use std::alloc::Global;
+use std::alloc::{AllocError, Global};
 use std::fmt;
 
 /// The code of this cause.
@@ -45,8 +45,15 @@ impl UnrecognizedChunkErrorCause {
         if raw.typ != CAUSE_CODE {
             return Err(ChunkParseError::InvalidType);
         }
+        Ok(UnrecognizedChunkErrorCause::build(alloc, raw.value)?)
+    }
+
+    /// Copies the value.
+    pub(crate) fn build(alloc: Global, value: &[u8]) -> Result<Self, AllocError>
+        ensures { Builds unrecognized_chunk_view result (unrecognized_chunk_at value.now) }
+    {
         Ok(UnrecognizedChunkErrorCause {
-            chunk: Vec::from_slice(alloc, raw.value)?,
+            chunk: Vec::from_slice(alloc, value)?,
         })
     }
 }

@@ -12,7 +12,7 @@
 
 ghost use Rattle.std.specs.Prelude.{◌≡◌, ◌≢◌, ◌↔◌, Some, IsErrOf};
 ghost use Rattle.dcsctp_tlv.specs.Image.{IsEncodable};
-ghost use Rattle.dcsctp_tlv.specs.Reading.{Gives, IfMeant};
+ghost use Rattle.dcsctp_tlv.specs.Reading.{Gives, IfMeant, Builds};
 ghost use Rattle.dcsctp_tlv.specs.Length.{length-typed_tlv};
 ghost use Rattle.dcsctp_cause.specs.UserInitiatedAbort.{user_initiated_abort_at, user_initiated_abort_tlv, user_initiated_abort_text, user_initiated_abort_view};
 
@@ -21,7 +21,7 @@ use dcsctp_tlv::error::ChunkParseError;
 use dcsctp_tlv::frame::{MAX_VALUE_SIZE, put_parameter};
 use dcsctp_tlv::raw_parameter::RawParameter;
 use dcsctp_tlv::tlv::SerializableTlv;
-use std::alloc::Global;
+use std::alloc::{AllocError, Global};
 use std::fmt;
 
 /// The code of this cause.
@@ -49,8 +49,15 @@ impl UserInitiatedAbortErrorCause {
         if raw.typ != CAUSE_CODE {
             return Err(ChunkParseError::InvalidType);
         }
+        Ok(UserInitiatedAbortErrorCause::build(alloc, raw.value)?)
+    }
+
+    /// Copies the text, or says that the value isn't UTF-8.
+    pub(crate) fn build(alloc: Global, value: &[u8]) -> Result<Self, AllocError>
+        ensures { Builds user_initiated_abort_view result (user_initiated_abort_at value.now) }
+    {
         Ok(UserInitiatedAbortErrorCause {
-            reason: text_or(alloc, UNREADABLE, raw.value)?,
+            reason: text_or(alloc, UNREADABLE, value)?,
         })
     }
 }

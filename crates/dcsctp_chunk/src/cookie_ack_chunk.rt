@@ -10,7 +10,7 @@
 
 ghost use Rattle.std.specs.Prelude.{◌≡◌, ◌≢◌, ◌↔◌, [], Some, IsErrOf};
 ghost use Rattle.dcsctp_tlv.specs.Image.{IsEncodable};
-ghost use Rattle.dcsctp_tlv.specs.Reading.{Gives, Never};
+ghost use Rattle.dcsctp_tlv.specs.Reading.{Gives, Never, Passes};
 ghost use Rattle.dcsctp_tlv.proofs.Images.{length-solid_tlv};
 ghost use Rattle.dcsctp_chunk.specs.CookieAck.{cookie_ack_at, cookie_ack_tlv, cookie_ack_text, cookie_ack_view};
 
@@ -39,10 +39,18 @@ impl CookieAckChunk {
         if raw.typ != CHUNK_TYPE {
             return Err(ChunkParseError::InvalidType);
         }
-        if !raw.value.is_empty() {
+        CookieAckChunk::check(raw.value)?;
+        Ok(CookieAckChunk)
+    }
+
+    /// `InvalidLength` exactly where the value isn't empty.
+    pub(crate) fn check(value: &[u8]) -> Result<(), ChunkParseError>
+        ensures { Passes result (cookie_ack_at value.now) }
+    {
+        if !value.is_empty() {
             return Err(ChunkParseError::InvalidLength);
         }
-        Ok(CookieAckChunk)
+        Ok(())
     }
 }
 

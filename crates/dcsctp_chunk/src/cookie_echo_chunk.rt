@@ -10,9 +10,9 @@
 //! +-+-+-+-+-+-+-+-+-+-+-+-+-+-+-+-+-+-+-+-+-+-+-+-+-+-+-+-+-+-+-+-+
 //! ```
 
-ghost use Rattle.std.specs.Prelude.{◌≡◌, ◌≢◌, ◌↔◌, [], Some, IfOk, IsErrOf};
+ghost use Rattle.std.specs.Prelude.{◌≡◌, ◌≢◌, ◌↔◌, [], Some, IsOk, IfOk, IsErrOf};
 ghost use Rattle.dcsctp_tlv.specs.Image.{IsEncodable};
-ghost use Rattle.dcsctp_tlv.specs.Reading.{Gives, IfMeant};
+ghost use Rattle.dcsctp_tlv.specs.Reading.{Gives, IfMeant, Passes, Builds};
 ghost use Rattle.dcsctp_tlv.proofs.Images.{length-solid_tlv};
 ghost use Rattle.dcsctp_chunk.specs.CookieEcho.{cookie_echo_at, cookie_echo_tlv, cookie_echo_text, cookie_echo_view};
 
@@ -65,11 +65,27 @@ impl CookieEchoChunk {
         if raw.typ != CHUNK_TYPE {
             return Err(ChunkParseError::InvalidType);
         }
-        if raw.value.is_empty() {
+        CookieEchoChunk::check(raw.value)?;
+        Ok(CookieEchoChunk::build(alloc, raw.value)?)
+    }
+
+    /// `InvalidLength` exactly where the value is empty.
+    pub(crate) fn check(value: &[u8]) -> Result<(), ChunkParseError>
+        ensures { Passes result (cookie_echo_at value.now) }
+    {
+        if value.is_empty() {
             return Err(ChunkParseError::InvalidLength);
         }
+        Ok(())
+    }
+
+    /// Copies the value.
+    pub fn build(alloc: Global, value: &[u8]) -> Result<Self, AllocError>
+        requires { IsOk (cookie_echo_at value.now) }
+        ensures { Builds cookie_echo_view result (cookie_echo_at value.now) }
+    {
         Ok(CookieEchoChunk {
-            cookie: Vec::from_slice(alloc, raw.value)?,
+            cookie: Vec::from_slice(alloc, value)?,
         })
     }
 }

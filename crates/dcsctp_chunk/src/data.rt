@@ -12,11 +12,8 @@ use std::alloc::{AllocError, Global};
 /// A message, or a fragment of one (RFC 9260 section 3.3.1, RFC 8260 section 2.1).
 #[derive(Debug, Drop)]
 pub struct Data {
-    /// The stream, and whether the message is delivered in sequence: the U bit is set where not.
-    pub stream_key: StreamKey,
-    /// The message's place in its stream, where a DATA chunk carries it; 0 in an I-DATA chunk that
-    /// was read.
-    pub ssn: Ssn,
+    /// The fragment's bytes.
+    pub payload: Vec<u8>,
     /// The message's place in its stream, where an I-DATA chunk carries it; 0 in a DATA chunk that
     /// was read.
     pub mid: Mid,
@@ -26,8 +23,11 @@ pub struct Data {
     /// What the payload is, in the application's own numbers; an I-DATA chunk carries it for the
     /// first fragment alone.
     pub ppid: PpId,
-    /// The fragment's bytes.
-    pub payload: Vec<u8>,
+    /// The stream, and whether the message is delivered in sequence: the U bit is set where not.
+    pub stream_key: StreamKey,
+    /// The message's place in its stream, where a DATA chunk carries it; 0 in an I-DATA chunk that
+    /// was read.
+    pub ssn: Ssn,
     /// Whether the message begins with it: the B bit.
     pub is_beginning: bool,
     /// Whether the message ends with it: the E bit.

@@ -16,9 +16,9 @@
 //! +-+-+-+-+-+-+-+-+-+-+-+-+-+-+-+-+-+-+-+-+-+-+-+-+-+-+-+-+-+-+-+-+
 //! ```
 
-ghost use Rattle.std.specs.Prelude.{◌≡◌, ◌≢◌, ◌↔◌, Some, IsErrOf};
+ghost use Rattle.std.specs.Prelude.{◌≡◌, ◌≢◌, ◌↔◌, ℕ, Some, IsOk, IsErrOf};
 ghost use Rattle.dcsctp_tlv.specs.Image.{IsEncodable};
-ghost use Rattle.dcsctp_tlv.specs.Reading.{Gives, IfMeant};
+ghost use Rattle.dcsctp_tlv.specs.Reading.{Gives, IfMeant, Passes, Builds};
 ghost use Rattle.dcsctp_tlv.proofs.Images.{length-solid_tlv};
 ghost use Rattle.dcsctp_chunk.specs.Data.{user_data_view, user_data_flags};
 ghost use Rattle.dcsctp_chunk.specs.DataChunk.{data_at, data_bytes, data_tlv, data_text, data_view};
@@ -32,7 +32,7 @@ use dcsctp_tlv::number::{put_u16, put_u32, read_u16_be, read_u32_be};
 use dcsctp_tlv::tlv::SerializableTlv;
 use dcsctp_types::api::{PpId, StreamId};
 use dcsctp_types::types::{Fsn, Mid, Ssn, StreamKey, Tsn};
-use std::alloc::Global;
+use std::alloc::{AllocError, Global};
 use std::fmt;
 
 /// The type of DATA.
@@ -49,10 +49,10 @@ const FIXED_SIZE: usize = HEADER_SIZE - TLV_HEADER_SIZE;
 /// It carries neither MID nor FSN: these aren't written, and are read as 0.
 #[derive(Debug, Drop)]
 pub struct DataChunk {
-    /// The chunk's place in its association.
-    pub tsn: Tsn,
     /// The message, or the fragment of one.
     pub user_data: Data,
+    /// The chunk's place in its association.
+    pub tsn: Tsn,
     /// Whether the sender asks for a SACK without delay (RFC 7053): the I bit.
     pub immediate_ack: bool,
 }
@@ -70,24 +70,39 @@ impl DataChunk {
         if raw.typ != CHUNK_TYPE {
             return Err(ChunkParseError::InvalidType);
         }
-        let value = raw.value;
+        DataChunk::check(raw.value)?;
+        Ok(DataChunk::build(alloc, raw.flags, raw.value)?)
+    }
+
+    /// `InvalidLength` exactly where the value has fewer than 12 bytes.
+    pub(crate) fn check(value: &[u8]) -> Result<(), ChunkParseError>
+        ensures { (flags : ℕ) → Passes result (data_at flags value.now) }
+    {
         if value.len() < FIXED_SIZE {
             return Err(ChunkParseError::InvalidLength);
         }
+        Ok(())
+    }
+
+    /// What the value means, under these flags.
+    pub fn build(alloc: Global, flags: u8, value: &[u8]) -> Result<Self, AllocError>
+        requires { IsOk (data_at flags value.now) }
+        ensures { Builds data_view result (data_at flags value.now) }
+    {
         let stream = StreamId(read_u16_be(&value[4..]));
         Ok(DataChunk {
             tsn: Tsn(read_u32_be(value)),
             user_data: Data {
-                stream_key: StreamKey::new(is_set(raw.flags, 2), stream),
+                stream_key: StreamKey::new(is_set(flags, 2), stream),
                 ssn: Ssn(read_u16_be(&value[6..])),
                 mid: Mid(0),
                 fsn: Fsn(0),
                 ppid: PpId(read_u32_be(&value[8..])),
                 payload: Vec::from_slice(alloc, &value[FIXED_SIZE..])?,
-                is_beginning: is_set(raw.flags, 1),
-                is_end: is_set(raw.flags, 0),
+                is_beginning: is_set(flags, 1),
+                is_end: is_set(flags, 0),
             },
-            immediate_ack: is_set(raw.flags, 3),
+            immediate_ack: is_set(flags, 3),
         })
     }
 }

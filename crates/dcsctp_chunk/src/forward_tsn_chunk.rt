@@ -12,8 +12,8 @@
 //! +-+-+-+-+-+-+-+-+-+-+-+-+-+-+-+-+-+-+-+-+-+-+-+-+-+-+-+-+-+-+-+-+
 //! ```
 
-ghost use Rattle.std.specs.Prelude.{◌≡◌, ◌≢◌, ◌↔◌, false, Some, IsErrOf};
-ghost use Rattle.dcsctp_tlv.specs.Reading.{Gives, IfMeant};
+ghost use Rattle.std.specs.Prelude.{◌≡◌, ◌≢◌, ◌↔◌, false, Some, IsOk, IsErrOf};
+ghost use Rattle.dcsctp_tlv.specs.Reading.{Gives, IfMeant, Passes, Builds};
 ghost use Rattle.dcsctp_tlv.proofs.Images.{length-solid_tlv};
 ghost use Rattle.dcsctp_chunk.specs.SkippedStreams.{SkippedStreamTree, is_by_mid, skipped_stream_view};
 ghost use Rattle.dcsctp_chunk.specs.ForwardTsn.{ssn_stream_at, ssn_stream_bytes, length-ssn_stream, forward_tsn_at, forward_tsn_bytes, forward_tsn_tlv, forward_tsn_text, forward_tsn_view, IsForwardTsnEncodable};
@@ -28,7 +28,7 @@ use dcsctp_tlv::skipped_stream::SkippedStream;
 use dcsctp_tlv::tlv::SerializableTlv;
 use dcsctp_types::api::StreamId;
 use dcsctp_types::types::{Ssn, Tsn};
-use std::alloc::Global;
+use std::alloc::{AllocError, Global};
 use std::fmt;
 
 /// The type of FORWARD-TSN.
@@ -100,13 +100,28 @@ impl ForwardTsnChunk {
         if raw.typ != CHUNK_TYPE {
             return Err(ChunkParseError::InvalidType);
         }
-        let value = raw.value;
+        ForwardTsnChunk::check(raw.value)?;
+        Ok(ForwardTsnChunk::build(alloc, raw.value)?)
+    }
+
+    /// `InvalidLength` exactly where the value has fewer than 4 bytes, or no multiple of 4.
+    pub(crate) fn check(value: &[u8]) -> Result<(), ChunkParseError>
+        ensures { Passes result (forward_tsn_at value.now) }
+    {
         if value.len() < FIXED_SIZE {
             return Err(ChunkParseError::InvalidLength);
         }
         if !value.len().is_multiple_of(4) {
             return Err(ChunkParseError::InvalidLength);
         }
+        Ok(())
+    }
+
+    /// What the value means.
+    pub fn build(alloc: Global, value: &[u8]) -> Result<Self, AllocError>
+        requires { IsOk (forward_tsn_at value.now) }
+        ensures { Builds forward_tsn_view result (forward_tsn_at value.now) }
+    {
         let count = (value.len() - FIXED_SIZE) / 4;
         let skipped_streams = fields_from_bytes::<SsnStreamField>(
             alloc,

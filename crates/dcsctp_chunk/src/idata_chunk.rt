@@ -18,9 +18,9 @@
 //! +-+-+-+-+-+-+-+-+-+-+-+-+-+-+-+-+-+-+-+-+-+-+-+-+-+-+-+-+-+-+-+-+
 //! ```
 
-ghost use Rattle.std.specs.Prelude.{◌≡◌, ◌≢◌, ◌↔◌, Some, IsErrOf, if◌then◌else◌};
+ghost use Rattle.std.specs.Prelude.{◌≡◌, ◌≢◌, ◌↔◌, ℕ, Some, IsOk, IsErrOf, if◌then◌else◌};
 ghost use Rattle.dcsctp_tlv.specs.Image.{IsEncodable};
-ghost use Rattle.dcsctp_tlv.specs.Reading.{Gives, IfMeant};
+ghost use Rattle.dcsctp_tlv.specs.Reading.{Gives, IfMeant, Passes, Builds};
 ghost use Rattle.dcsctp_tlv.proofs.Images.{length-solid_tlv};
 ghost use Rattle.dcsctp_chunk.specs.Data.{user_data_view, user_data_flags};
 ghost use Rattle.dcsctp_chunk.specs.IDataChunk.{idata_at, ppid_or_fsn, idata_bytes, idata_tlv, idata_text, idata_view};
@@ -34,7 +34,7 @@ use dcsctp_tlv::number::{put_u16, put_u32, read_u16_be, read_u32_be};
 use dcsctp_tlv::tlv::SerializableTlv;
 use dcsctp_types::api::{PpId, StreamId};
 use dcsctp_types::types::{Fsn, Mid, Ssn, StreamKey, Tsn};
-use std::alloc::Global;
+use std::alloc::{AllocError, Global};
 use std::fmt;
 
 /// The type of I-DATA.
@@ -53,10 +53,10 @@ const FIXED_SIZE: usize = HEADER_SIZE - TLV_HEADER_SIZE;
 /// carried isn't written, and is read as 0.
 #[derive(Debug, Drop)]
 pub struct IDataChunk {
-    /// The chunk's place in its association.
-    pub tsn: Tsn,
     /// The message, or the fragment of one.
     pub user_data: Data,
+    /// The chunk's place in its association.
+    pub tsn: Tsn,
     /// Whether the sender asks for a SACK without delay: the I bit.
     pub immediate_ack: bool,
 }
@@ -98,26 +98,41 @@ impl IDataChunk {
         if raw.typ != CHUNK_TYPE {
             return Err(ChunkParseError::InvalidType);
         }
-        let value = raw.value;
+        IDataChunk::check(raw.value)?;
+        Ok(IDataChunk::build(alloc, raw.flags, raw.value)?)
+    }
+
+    /// `InvalidLength` exactly where the value has fewer than 16 bytes.
+    pub(crate) fn check(value: &[u8]) -> Result<(), ChunkParseError>
+        ensures { (flags : ℕ) → Passes result (idata_at flags value.now) }
+    {
         if value.len() < FIXED_SIZE {
             return Err(ChunkParseError::InvalidLength);
         }
-        let is_beginning = is_set(raw.flags, 1);
+        Ok(())
+    }
+
+    /// What the value means, under these flags.
+    pub fn build(alloc: Global, flags: u8, value: &[u8]) -> Result<Self, AllocError>
+        requires { IsOk (idata_at flags value.now) }
+        ensures { Builds idata_view result (idata_at flags value.now) }
+    {
+        let is_beginning = is_set(flags, 1);
         let stream = StreamId(read_u16_be(&value[4..]));
         let (ppid, fsn) = ppid_and_fsn(is_beginning, read_u32_be(&value[12..]));
         Ok(IDataChunk {
             tsn: Tsn(read_u32_be(value)),
             user_data: Data {
-                stream_key: StreamKey::new(is_set(raw.flags, 2), stream),
+                stream_key: StreamKey::new(is_set(flags, 2), stream),
                 ssn: Ssn(0),
                 mid: Mid(read_u32_be(&value[8..])),
                 fsn,
                 ppid,
                 payload: Vec::from_slice(alloc, &value[FIXED_SIZE..])?,
                 is_beginning,
-                is_end: is_set(raw.flags, 0),
+                is_end: is_set(flags, 0),
             },
-            immediate_ack: is_set(raw.flags, 3),
+            immediate_ack: is_set(flags, 3),
         })
     }
 }

@@ -16,8 +16,8 @@
 //!
 //! U says that the stream's unordered messages are skipped.
 
-ghost use Rattle.std.specs.Prelude.{◌≡◌, ◌≢◌, ◌↔◌, true, Some, IsErrOf};
-ghost use Rattle.dcsctp_tlv.specs.Reading.{Gives, IfMeant};
+ghost use Rattle.std.specs.Prelude.{◌≡◌, ◌≢◌, ◌↔◌, true, Some, IsOk, IsErrOf};
+ghost use Rattle.dcsctp_tlv.specs.Reading.{Gives, IfMeant, Passes, Builds};
 ghost use Rattle.dcsctp_tlv.proofs.Images.{length-solid_tlv};
 ghost use Rattle.dcsctp_chunk.specs.SkippedStreams.{SkippedStreamTree, is_by_mid, skipped_stream_view};
 ghost use Rattle.dcsctp_chunk.specs.IForwardTsn.{mid_stream_at, mid_stream_bytes, length-mid_stream, iforward_tsn_at, iforward_tsn_bytes, iforward_tsn_tlv, iforward_tsn_text, iforward_tsn_view, IsIForwardTsnEncodable};
@@ -32,7 +32,7 @@ use dcsctp_tlv::skipped_stream::SkippedStream;
 use dcsctp_tlv::tlv::SerializableTlv;
 use dcsctp_types::api::StreamId;
 use dcsctp_types::types::{Mid, StreamKey, Tsn};
-use std::alloc::Global;
+use std::alloc::{AllocError, Global};
 use std::fmt;
 
 /// The type of I-FORWARD-TSN.
@@ -108,13 +108,29 @@ impl IForwardTsnChunk {
         if raw.typ != CHUNK_TYPE {
             return Err(ChunkParseError::InvalidType);
         }
-        let value = raw.value;
+        IForwardTsnChunk::check(raw.value)?;
+        Ok(IForwardTsnChunk::build(alloc, raw.value)?)
+    }
+
+    /// `InvalidLength` exactly where the value has fewer than 4 bytes, or no multiple of 8 after the
+    /// first 4.
+    pub(crate) fn check(value: &[u8]) -> Result<(), ChunkParseError>
+        ensures { Passes result (iforward_tsn_at value.now) }
+    {
         if value.len() < FIXED_SIZE {
             return Err(ChunkParseError::InvalidLength);
         }
         if !(value.len() - FIXED_SIZE).is_multiple_of(8) {
             return Err(ChunkParseError::InvalidLength);
         }
+        Ok(())
+    }
+
+    /// What the value means.
+    pub fn build(alloc: Global, value: &[u8]) -> Result<Self, AllocError>
+        requires { IsOk (iforward_tsn_at value.now) }
+        ensures { Builds iforward_tsn_view result (iforward_tsn_at value.now) }
+    {
         let count = (value.len() - FIXED_SIZE) / 8;
         let skipped_streams = fields_from_bytes::<MidStreamField>(
             alloc,

@@ -10,6 +10,7 @@ pub mod flags;
 pub mod forward_tsn_chunk;
 pub mod idata_chunk;
 pub mod iforward_tsn_chunk;
+pub mod plain_check;
 pub mod raw_chunk;
 pub mod sack_chunk;
 pub mod shutdown_ack_chunk;

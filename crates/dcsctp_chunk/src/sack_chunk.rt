@@ -18,11 +18,11 @@
 //! +-+-+-+-+-+-+-+-+-+-+-+-+-+-+-+-+-+-+-+-+-+-+-+-+-+-+-+-+-+-+-+-+
 //! ```
 
-ghost use Rattle.std.specs.Prelude.{◌≡◌, ◌≢◌, ◌↔◌, ◌≤◌, ◌+◌, ◌++◌, [], ◌∷◌, Some, IsErrOf, length, refl};
+ghost use Rattle.std.specs.Prelude.{◌≡◌, ◌≢◌, ◌↔◌, ◌≤◌, ◌+◌, ◌++◌, [], ◌∷◌, Some, IsOk, IsErrOf, length, refl};
 ghost use Rattle.std.specs.Int.{w16, w32};
 ghost use Rattle.dcsctp_tlv.specs.Image.{IsEncodable};
 ghost use Rattle.dcsctp_tlv.specs.Number.{numbers};
-ghost use Rattle.dcsctp_tlv.specs.Reading.{Gives, IfMeant};
+ghost use Rattle.dcsctp_tlv.specs.Reading.{Gives, IfMeant, Passes, Builds};
 ghost use Rattle.dcsctp_tlv.proofs.Images.{length-solid_tlv};
 ghost use Rattle.dcsctp_chunk.specs.Sack.{block_at, block_bytes, sack_at, sack_bytes, sack_tlv, sack_text, sack_view};
 
@@ -33,7 +33,7 @@ use dcsctp_tlv::frame::{MAX_VALUE_SIZE, TLV_HEADER_SIZE, put_header};
 use dcsctp_tlv::number::{put_u16, put_u32, read_u16_be, read_u32_be, write_u16_be};
 use dcsctp_tlv::tlv::SerializableTlv;
 use dcsctp_types::types::Tsn;
-use std::alloc::Global;
+use std::alloc::{AllocError, Global};
 use std::fmt;
 
 /// The type of SACK.
@@ -124,16 +124,34 @@ impl SackChunk {
         if raw.typ != CHUNK_TYPE {
             return Err(ChunkParseError::InvalidType);
         }
-        let value = raw.value;
+        SackChunk::check(raw.value)?;
+        Ok(SackChunk::build(alloc, raw.value)?)
+    }
+
+    /// `InvalidLength` exactly where the value has fewer than 12 bytes, or isn't just as long as its
+    /// two counts say.
+    pub(crate) fn check(value: &[u8]) -> Result<(), ChunkParseError>
+        ensures { Passes result (sack_at value.now) }
+    {
         if value.len() < FIXED_SIZE {
             return Err(ChunkParseError::InvalidLength);
         }
         let blocks = read_u16_be(&value[8..]) as usize;
         let duplicates = read_u16_be(&value[10..]) as usize;
-        let behind_blocks = FIXED_SIZE + 4 * blocks;
-        if value.len() != behind_blocks + 4 * duplicates {
+        if value.len() != FIXED_SIZE + 4 * blocks + 4 * duplicates {
             return Err(ChunkParseError::InvalidLength);
         }
+        Ok(())
+    }
+
+    /// What the value means.
+    pub fn build(alloc: Global, value: &[u8]) -> Result<Self, AllocError>
+        requires { IsOk (sack_at value.now) }
+        ensures { Builds sack_view result (sack_at value.now) }
+    {
+        let blocks = read_u16_be(&value[8..]) as usize;
+        let duplicates = read_u16_be(&value[10..]) as usize;
+        let behind_blocks = FIXED_SIZE + 4 * blocks;
         Ok(SackChunk {
             cumulative_tsn_ack: Tsn(read_u32_be(value)),
             a_rwnd: read_u32_be(&value[4..]),

@@ -10,7 +10,7 @@
 
 ghost use Rattle.std.specs.Prelude.{◌≡◌, ◌≢◌, ◌↔◌, [], Some, IsErrOf};
 ghost use Rattle.dcsctp_tlv.specs.Image.{IsEncodable};
-ghost use Rattle.dcsctp_tlv.specs.Reading.{Gives, Never};
+ghost use Rattle.dcsctp_tlv.specs.Reading.{Gives, Never, Passes};
 ghost use Rattle.dcsctp_tlv.proofs.Images.{length-solid_tlv};
 ghost use Rattle.dcsctp_chunk.specs.ShutdownAck.{shutdown_ack_at, shutdown_ack_tlv, shutdown_ack_text, shutdown_ack_view};
 
@@ -39,10 +39,18 @@ impl ShutdownAckChunk {
         if raw.typ != CHUNK_TYPE {
             return Err(ChunkParseError::InvalidType);
         }
-        if !raw.value.is_empty() {
+        ShutdownAckChunk::check(raw.value)?;
+        Ok(ShutdownAckChunk)
+    }
+
+    /// `InvalidLength` exactly where the value isn't empty.
+    pub(crate) fn check(value: &[u8]) -> Result<(), ChunkParseError>
+        ensures { Passes result (shutdown_ack_at value.now) }
+    {
+        if !value.is_empty() {
             return Err(ChunkParseError::InvalidLength);
         }
-        Ok(ShutdownAckChunk)
+        Ok(())
     }
 }
 

@@ -10,10 +10,10 @@
 //! +-+-+-+-+-+-+-+-+-+-+-+-+-+-+-+-+-+-+-+-+-+-+-+-+-+-+-+-+-+-+-+-+
 //! ```
 
-ghost use Rattle.std.specs.Prelude.{◌≡◌, ◌≢◌, ◌↔◌, Some, IsErrOf};
+ghost use Rattle.std.specs.Prelude.{◌≡◌, ◌≢◌, ◌↔◌, Some, Ok, IsOk, IsErrOf};
 ghost use Rattle.std.specs.Int.{w32, to_be_bytes};
 ghost use Rattle.dcsctp_tlv.specs.Image.{IsEncodable};
-ghost use Rattle.dcsctp_tlv.specs.Reading.{Gives, Never};
+ghost use Rattle.dcsctp_tlv.specs.Reading.{Gives, Never, Passes};
 ghost use Rattle.dcsctp_tlv.proofs.Images.{length-solid_tlv};
 ghost use Rattle.dcsctp_chunk.specs.Shutdown.{shutdown_at, shutdown_tlv, shutdown_text, shutdown_view};
 
@@ -48,12 +48,28 @@ impl ShutdownChunk {
         if raw.typ != CHUNK_TYPE {
             return Err(ChunkParseError::InvalidType);
         }
-        if raw.value.len() != 4 {
+        ShutdownChunk::check(raw.value)?;
+        Ok(ShutdownChunk::build(raw.value))
+    }
+
+    /// `InvalidLength` exactly where the value hasn't 4 bytes.
+    pub(crate) fn check(value: &[u8]) -> Result<(), ChunkParseError>
+        ensures { Passes result (shutdown_at value.now) }
+    {
+        if value.len() != 4 {
             return Err(ChunkParseError::InvalidLength);
         }
-        Ok(ShutdownChunk {
-            cumulative_tsn_ack: Tsn(read_u32_be(raw.value)),
-        })
+        Ok(())
+    }
+
+    /// What the value means.
+    pub fn build(value: &[u8]) -> Self
+        requires { IsOk (shutdown_at value.now) }
+        ensures { shutdown_at value.now ≡ Ok (shutdown_view result) }
+    {
+        ShutdownChunk {
+            cumulative_tsn_ack: Tsn(read_u32_be(value)),
+        }
     }
 }
 

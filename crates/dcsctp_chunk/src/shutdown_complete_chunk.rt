@@ -8,9 +8,9 @@
 //! +-+-+-+-+-+-+-+-+-+-+-+-+-+-+-+-+-+-+-+-+-+-+-+-+-+-+-+-+-+-+-+-+
 //! ```
 
-ghost use Rattle.std.specs.Prelude.{◌≡◌, ◌≢◌, ◌↔◌, [], ◌∷◌, Some, IsErrOf};
+ghost use Rattle.std.specs.Prelude.{◌≡◌, ◌≢◌, ◌↔◌, ℕ, List, [], ◌∷◌, Some, Ok, IsOk, IsErrOf};
 ghost use Rattle.dcsctp_tlv.specs.Image.{IsEncodable};
-ghost use Rattle.dcsctp_tlv.specs.Reading.{Gives, Never};
+ghost use Rattle.dcsctp_tlv.specs.Reading.{Gives, Never, Passes};
 ghost use Rattle.dcsctp_tlv.proofs.Images.{length-solid_tlv};
 ghost use Rattle.dcsctp_chunk.specs.Flags.{flag_byte};
 ghost use Rattle.dcsctp_chunk.specs.ShutdownComplete.{shutdown_complete_at, shutdown_complete_tlv, shutdown_complete_text, shutdown_complete_view};
@@ -45,12 +45,28 @@ impl ShutdownCompleteChunk {
         if raw.typ != CHUNK_TYPE {
             return Err(ChunkParseError::InvalidType);
         }
-        if !raw.value.is_empty() {
+        ShutdownCompleteChunk::check(raw.value)?;
+        Ok(ShutdownCompleteChunk::build(raw.flags))
+    }
+
+    /// `InvalidLength` exactly where the value isn't empty.
+    pub(crate) fn check(value: &[u8]) -> Result<(), ChunkParseError>
+        ensures { (flags : ℕ) → Passes result (shutdown_complete_at flags value.now) }
+    {
+        if !value.is_empty() {
             return Err(ChunkParseError::InvalidLength);
         }
-        Ok(ShutdownCompleteChunk {
-            tag_reflected: is_set(raw.flags, 0),
-        })
+        Ok(())
+    }
+
+    /// What a value without bytes means, under these flags.
+    pub fn build(flags: u8) -> Self
+        ensures { (value : List ℕ) → IsOk (shutdown_complete_at flags value)
+            → shutdown_complete_at flags value ≡ Ok (shutdown_complete_view result) }
+    {
+        ShutdownCompleteChunk {
+            tag_reflected: is_set(flags, 0),
+        }
     }
 }
 

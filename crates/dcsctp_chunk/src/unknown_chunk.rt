@@ -12,7 +12,7 @@
 
 ghost use Rattle.std.specs.Prelude.{◌≡◌, Some};
 ghost use Rattle.dcsctp_tlv.specs.Image.{IsEncodable};
-ghost use Rattle.dcsctp_tlv.specs.Reading.{Gives, IfMeant};
+ghost use Rattle.dcsctp_tlv.specs.Reading.{Gives, IfMeant, Builds};
 ghost use Rattle.dcsctp_tlv.proofs.Images.{length-solid_tlv};
 ghost use Rattle.dcsctp_chunk.specs.Unknown.{unknown_at, unknown_tlv, unknown_text, unknown_view};
 
@@ -20,7 +20,7 @@ use crate::raw_chunk::RawChunk;
 use dcsctp_tlv::error::ChunkParseError;
 use dcsctp_tlv::frame::{MAX_VALUE_SIZE, put_solid};
 use dcsctp_tlv::tlv::SerializableTlv;
-use std::alloc::Global;
+use std::alloc::{AllocError, Global};
 use std::fmt;
 
 /// A chunk that is kept as it is: its type, all its flags and its value (RFC 9260 section 3.2).
@@ -37,10 +37,17 @@ impl UnknownChunk {
     pub fn try_from(alloc: Global, raw: RawChunk) -> Result<Self, ChunkParseError>
         ensures { Gives IfMeant unknown_view result (unknown_at raw.entry.typ raw.entry.flags raw.entry.value.now) }
     {
+        Ok(UnknownChunk::build(alloc, raw.typ, raw.flags, raw.value)?)
+    }
+
+    /// Copies the value.
+    pub fn build(alloc: Global, typ: u8, flags: u8, value: &[u8]) -> Result<Self, AllocError>
+        ensures { Builds unknown_view result (unknown_at typ flags value.now) }
+    {
         Ok(UnknownChunk {
-            typ: raw.typ,
-            flags: raw.flags,
-            value: Vec::from_slice(alloc, raw.value)?,
+            typ,
+            flags,
+            value: Vec::from_slice(alloc, value)?,
         })
     }
 }

@@ -53,7 +53,7 @@ header_is a b c d more fits = be_bytes_2 (c ∷ d ∷ []) (frame_length (a ∷ b
   two c d p q (suc zero) = q
   two c d p q (suc (suc i)) = omega arith
 
-front_length : (bytes : List ℕ) → BeginsWithFrame bytes → 4 + length (frame_value bytes) ≡ frame_length bytes
+pub front_length : (bytes : List ℕ) → BeginsWithFrame bytes → 4 + length (frame_value bytes) ≡ frame_length bytes
 front_length bytes frame =
     let len = frame_length bytes in
     omega (arith, frame.header, frame.low, frame.high, length-take (frame_length bytes - 4) (drop 4 bytes), length-drop 4 bytes)

@@ -6,7 +6,7 @@ use Rattle.std.proofs.lemmas.List.{append-nil, get_or-drop, get_or-take, get_or_
 use Rattle.dcsctp_tlv.specs.Fault.{Fault, Length, Padding}
 use Rattle.dcsctp_tlv.specs.Number.{AreBytes}
 use Rattle.dcsctp_tlv.specs.Frame.{round_up_to_4, padding_size, lenient, Item, item_bytes, PaddingRule, frame_length, BeginsWithFrame, frame_value, frame_padding, frame_rest}
-use Rattle.dcsctp_tlv.specs.Level.{Row, Level, ItemsMean, MeansTrees, HasFault, BeginsWithFault, no_frame, value, padding, front_row, plain, as_row, pick, listed}
+use Rattle.dcsctp_tlv.specs.Level.{Row, Level, ItemsMean, MeansTrees, HasFault, BeginsWithFault, no_frame, value, padding, front_row, HasMeaning, plain, as_row, pick, listed}
 use Rattle.dcsctp_tlv.proofs.Items.{IsNext, AreBefore, front_item, front_split, front_next, next_one, item_frame, items_before, whole_before}
 use Rattle.dcsctp_tlv.proofs.Lists.{Progress, begin, step, finish, fault}
 
@@ -44,6 +44,10 @@ pub pick_lawful : {T : Type 0} (b : Bool) (row others : Row T) → LawfulRow row
 pick_lawful true row others p q = p
 pick_lawful false row others p q = q
 
+pub pick_means : {T : Type 0} (b : Bool) (row others : Row T) (v : List ℕ) → HasMeaning row v → HasMeaning others v → HasMeaning (pick b row others) v
+pick_means true row others v p q = p
+pick_means false row others v p q = q
+
 pub as_lawful : {A B : Type 0} (f : A → B) (row : Row A) → LawfulRow row → LawfulRow (as_row f row)
 as_lawful {A} {B} f row law = record {
   one = λ v s t p q. p.2 ∙ ap f (law.one v p.0 q.0 p.1 q.1) ∙ sym q.2;
@@ -64,11 +68,17 @@ loosened : (rule : PaddingRule) (i : Item) (r : List ℕ) → IsNext rule i r �
 loosened rule i r p = record { fits = p.fits; at_most = p.at_most; whole = p.whole; accepted = refl }
 
 -- the front of an item's bytes is the item
-front_is : (rule : PaddingRule) (i : Item) (r bytes : List ℕ) → AreBytes bytes → bytes ≡ item_bytes i ++ r → IsNext rule i r → BeginsWithFrame bytes × (i ≡ front_item bytes)
+pub front_is : (rule : PaddingRule) (i : Item) (r bytes : List ℕ) → AreBytes bytes → bytes ≡ item_bytes i ++ r → IsNext rule i r → BeginsWithFrame bytes × (i ≡ front_item bytes)
 front_is rule i r bytes fits e p =
     let frame : BeginsWithFrame bytes = subst BeginsWithFrame (sym e) (item_frame rule i r p) in
     let same = next_one lenient i (front_item bytes) r (frame_rest bytes) (sym e ∙ front_split bytes fits frame) (loosened rule i r p) (front_next lenient bytes fits frame refl) in
     (frame, same.0)
+
+-- and so is what follows it
+pub rest_is : (rule : PaddingRule) (i : Item) (r bytes : List ℕ) → AreBytes bytes → bytes ≡ item_bytes i ++ r → IsNext rule i r → r ≡ frame_rest bytes
+rest_is rule i r bytes fits e p =
+    let frame = (front_is rule i r bytes fits e p).0 in
+    (next_one lenient i (front_item bytes) r (frame_rest bytes) (sym e ∙ front_split bytes fits frame) (loosened rule i r p) (front_next lenient bytes fits frame refl)).1
 
 value_fits : (bytes : List ℕ) → AreBytes bytes → AreBytes (frame_value bytes)
 value_fits bytes fits i = elim (cases_lt i (frame_length bytes - 4)) [

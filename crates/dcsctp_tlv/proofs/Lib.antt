@@ -17,3 +17,4 @@ pub mod Kept
 pub mod ParameterKinds
 pub mod ParameterLaws
 pub mod Local
+pub mod Checks

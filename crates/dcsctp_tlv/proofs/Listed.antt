@@ -6,7 +6,7 @@ use Rattle.std.proofs.lemmas.List.Elements.{All-from_recursion}
 use Rattle.dcsctp_tlv.specs.declared.error.ChunkParseError.{ChunkParseError}
 use Rattle.dcsctp_tlv.specs.declared.error.ChunkParseError.TheVariants.{InvalidLength, InvalidType, InvalidPadding, InvalidValue, OutOfMemory}
 use Rattle.dcsctp_tlv.specs.Level.{Level, HasFault, listed}
-use Rattle.dcsctp_tlv.specs.Reading.{TellsFault}
+use Rattle.dcsctp_tlv.specs.Reading.{IsFault}
 use Rattle.dcsctp_tlv.specs.Image.{solid, written, Tlv, size_of, image_of, IsEncodable, list_image, list_size, listed_tlv, IsListEncodable}
 use Rattle.dcsctp_tlv.specs.Length.{length-image_of}
 use Rattle.dcsctp_tlv.proofs.ReadsBack.{each_encodable}
@@ -35,12 +35,12 @@ written_front [] image old le = refl
 written_front (b ∷ front) image [] le = absurd (omega arith)
 written_front (b ∷ front) image (x ∷ old) le = ap (λ (xs : List ℕ). b ∷ xs) (written_front front image old (omega arith))
 
--- ---- what a reader answers
+-- ---- what a check finds
 
 -- the rule holds, and the list is at fault
 pub listed_fault : {T U : Type 0} (rule : List ℕ → Bool) (place : ℕ) (level : Level U) (tree_of : List ℕ → List U → T) (value : List ℕ) (e : ChunkParseError) → rule value ≡ true
-    → TellsFault (HasFault level (drop place value)) e → TellsFault ((listed rule place level tree_of).faults value) e
-listed_fault rule place level tree_of value OutOfMemory h f = tt
+    → IsFault (HasFault level (drop place value)) e → IsFault ((listed rule place level tree_of).faults value) e
+listed_fault rule place level tree_of value OutOfMemory h f = absurd f
 listed_fault rule place level tree_of value InvalidLength h f = inr (h, f)
 listed_fault rule place level tree_of value InvalidType h f = absurd f
 listed_fault rule place level tree_of value InvalidPadding h f = inr (h, f)

@@ -4,14 +4,11 @@ use Rattle.std.specs.List.{flat_map}
 use Rattle.std.proofs.lemmas.Bool.{eqb-true}
 use Rattle.std.proofs.lemmas.List.{append-nil, get_or-drop, nil_from_length}
 use Rattle.std.proofs.lemmas.List.Concat.{flat_map-append}
-use Rattle.dcsctp_tlv.specs.declared.error.ChunkParseError.{ChunkParseError}
-use Rattle.dcsctp_tlv.specs.declared.error.ChunkParseError.TheVariants.{InvalidLength, InvalidType, InvalidPadding, InvalidValue, OutOfMemory}
 use Rattle.std.specs.Prelude.{◌==◌}
-use Rattle.dcsctp_tlv.specs.Fault.{Fault, Length, Padding, Value}
+use Rattle.dcsctp_tlv.specs.Fault.{Fault}
 use Rattle.dcsctp_tlv.specs.Number.{AreBytes}
 use Rattle.dcsctp_tlv.specs.Frame.{round_up_to_4, padding_size, Item, item_bytes, frame_length, BeginsWithFrame, frame_value, frame_padding, frame_rest}
 use Rattle.dcsctp_tlv.specs.Level.{Level, ItemsMean, MeansTrees, HasFault, BeginsWithFault, no_frame, value, padding, front_row}
-use Rattle.dcsctp_tlv.specs.Reading.{TellsFault}
 use Rattle.dcsctp_tlv.proofs.Items.{AreBefore, front_item, front_split, front_next, before_push, before_end, before_rest}
 
 -- what a loop over the frames has read
@@ -75,19 +72,6 @@ fault level bytes trees rest e p f = record {
   mean = p.mean;
   fault = f;
 }
-
--- what a loop answers where an item is at fault, or memory ran out
-pub fault_answer : {T : Type 0} (level : Level T) (bytes : List ℕ) (trees : List T) (rest : List ℕ) (e : ChunkParseError) → Progress level bytes trees rest → BeginsWithFrame rest
-    → TellsFault ((front_row level rest).faults (frame_value rest)) e → TellsFault (HasFault level bytes) e
-fault_answer level bytes trees rest OutOfMemory p frame f = tt
-fault_answer level bytes trees rest InvalidLength p frame f = fault level bytes trees rest Length p (value frame f)
-fault_answer level bytes trees rest InvalidType p frame f = absurd f
-fault_answer level bytes trees rest InvalidPadding p frame f = fault level bytes trees rest Padding p (value frame f)
-fault_answer level bytes trees rest InvalidValue p frame f = fault level bytes trees rest Value p (value frame f)
-
-pub frame_answer : {T : Type 0} (level : Level T) (bytes : List ℕ) (trees : List T) (rest : List ℕ) (e : ChunkParseError) → Progress level bytes trees rest → rest ≢ [] → ¬ BeginsWithFrame rest → e ≡ InvalidLength
-    → TellsFault (HasFault level bytes) e
-frame_answer level bytes trees rest e p h none is = rw is (fault level bytes trees rest Length p (no_frame h none refl))
 
 -- what is_empty says
 pub is_nil : (xs : List ℕ) (b : Bool) → b ≡ (length xs == 0) → b ≡ true → xs ≡ []

@@ -1,17 +1,20 @@
 -- The laws of the table of parameters: a line for each kind.
-use Rattle.std.proofs.Common.{◌≡◌, ℕ, ◌^◌, ◌<◌, List, [], ◌∷◌, ◌++◌, length, refl, sym, ap, subst, Option, Some, None}
+use Rattle.std.proofs.Common.{◌≡◌, ℕ, ◌^◌, ◌<◌, ◌≢◌, Bool, true, false, List, [], ◌∷◌, ◌++◌, length, refl, sym, ap, subst, Option, Some, None}
 use Rattle.std.specs.Prelude.{◌==◌, ◌↔◌, IsSome, IfSome}
 use Rattle.std.specs.Int.{w16, w32, from_be_bytes}
 use Rattle.std.proofs.lemmas.Bool.{eqb-true, eqb-false, ne_eqb}
 use Rattle.std.specs.List.{AllByRecursion}
-use Rattle.dcsctp_tlv.specs.Level.{Row, map_ok}
+use Rattle.dcsctp_tlv.specs.Level.{Row, map_ok, pick, HasMeaning}
 use Rattle.dcsctp_tlv.specs.Image.{Tlv, typed_tlv, zeroed, IsEncodable, list_image, list_size}
 use Rattle.dcsctp_tlv.specs.Number.{numbers}
 use Rattle.dcsctp_tlv.specs.ReconfigurationResponse.{ReconfigurationResponseTree, result_number, next_tsns, reconfiguration_response_tlv, kept_tsn, kept_reconfiguration_response}
+use Rattle.dcsctp_tlv.specs.HeartbeatInfo.{heartbeat_info_at}
+use Rattle.dcsctp_tlv.specs.StateCookie.{state_cookie_at}
+use Rattle.dcsctp_tlv.specs.SupportedExtensions.{supported_extensions_at}
 use Rattle.dcsctp_tlv.specs.UnknownParameter.{UnknownParameterTree, unknown_parameter_at, unknown_parameter_tlv}
 use Rattle.dcsctp_tlv.specs.Parameter.{ParameterTree, HeartbeatInfo, StateCookie, OutgoingSsnResetRequest, IncomingSsnResetRequest, SsnTsnResetRequest, ReconfigurationResponse, AddOutgoingStreamsRequest, AddIncomingStreamsRequest, ZeroChecksumAcceptable, SupportedExtensions, ForwardTsnSupported, Unknown, parameters, parameter_row, parameter_tlv}
 use Rattle.dcsctp_tlv.specs.WellFormedParameter.{IsParameterInWidth, IsUnnamedParameter, IsParameterTyped, IsParameterWellFormed, kept_parameter, kept_parameters}
-use Rattle.dcsctp_tlv.proofs.Laws.{LawfulRow, Lawful, plain_lawful, pick_lawful}
+use Rattle.dcsctp_tlv.proofs.Laws.{LawfulRow, Lawful, plain_lawful, pick_lawful, pick_means}
 use Rattle.dcsctp_tlv.proofs.ReadsBack.{ReadsBack, each_encodable, zeroed-solid}
 use Rattle.dcsctp_tlv.proofs.ParameterKinds.{heartbeat_info_laws, heartbeat_info_keeps_size, state_cookie_laws, state_cookie_keeps_size, outgoing_ssn_reset_request_laws, outgoing_ssn_reset_request_keeps_size, incoming_ssn_reset_request_laws, incoming_ssn_reset_request_keeps_size, reconfiguration_response_laws, reconfiguration_response_keeps_size, zero_checksum_acceptable_laws, zero_checksum_acceptable_keeps_size, supported_extensions_laws, supported_extensions_keeps_size, forward_tsn_supported_laws, forward_tsn_supported_keeps_size, type_back, unknown_parameter_laws, unknown_parameter_keeps_size, unknown_parameter_forms}
 use Rattle.dcsctp_tlv.proofs.Forms.{FormsTrees, FormsRow, picked, plain_forms}
@@ -39,6 +42,17 @@ row_lawful typ =
 -- each value of a parameter means one tree or has one fault
 pub parameters_lawful : Lawful parameters
 parameters_lawful = λ first second. row_lawful (from_be_bytes w16 (first ∷ second ∷ []))
+
+-- any value of a type that allows any has a meaning
+pub any_value : (typ : ℕ) (value : List ℕ) → typ ≢ 13 → typ ≢ 14 → typ ≢ 16 → typ ≢ 0x8001 → typ ≢ 0xC000 → HasMeaning (parameter_row typ) value
+unfolding heartbeat_info_at state_cookie_at supported_extensions_at unknown_parameter_at
+any_value typ value a b c d e = rw (ne_eqb typ 13 a, ne_eqb typ 14 b, ne_eqb typ 16 c, ne_eqb typ 0x8001 d, ne_eqb typ 0xC000 e) (
+    pick_means (typ == 1) _ _ value (_, refl) (
+    pick_means (typ == 7) _ _ value (_, refl) (
+    pick_means (typ == 15) _ _ value (_, refl) (
+    pick_means (typ == 17) _ _ value (_, refl) (
+    pick_means (typ == 18) _ _ value (_, refl) (
+    pick_means (typ == 0x8008) _ _ value (_, refl) (_, refl)))))))
 
 -- ---- reading back
 

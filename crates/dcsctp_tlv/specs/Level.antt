@@ -5,6 +5,7 @@
 use Rattle.std.specs.Prelude.{◌≡◌, ◌≢◌, ℕ, Bool, true, false, List, [], ◌∷◌, ◌++◌, Result, Ok, Err, ◌⊎◌, slice_index, length, drop}
 use Rattle.std.specs.List.{flat_map, AllByRecursion}
 use Rattle.dcsctp_tlv.specs.Fault.{Fault, Length, Padding}
+use Rattle.dcsctp_tlv.specs.Count.{total}
 use Rattle.dcsctp_tlv.specs.Frame.{Item, item_bytes, PaddingRule, IsWhole, AreItems, BeginsWithFrame, frame_value, frame_padding, padding_size}
 
 -- ---- rows
@@ -36,6 +37,16 @@ as_row f row = record { means = λ value tree. (x : _) × row.means value x × (
 abbrev pub HasMeaning : {T : Type 0} → Row T → List ℕ → Type 0
 HasMeaning row value = (tree : _) × row.means value tree
 
+-- the value means a tree of so many parts
+abbrev pub MeansParts : {T : Type 0} → (T → ℕ) → Row T → List ℕ → ℕ → Type 0
+MeansParts parts row value n = (tree : _) × row.means value tree × (n ≡ parts tree)
+
+-- one item more, which the value means, in the same memory
+pub record Grows {X T : Type 0} (view : X → T) (row : Row T) (value : List ℕ) (old new : List X) : Type 0 where
+  pub last : X
+  pub items : new ≡ old ++ last ∷ []
+  pub means : row.means value (view last)
+
 -- ---- levels
 
 pub record Level (T : Type 0) : Type 1 where
@@ -55,6 +66,21 @@ pub record MeansTrees {T : Type 0} (level : Level T) (bytes : List ℕ) (trees :
   pub items : List Item
   pub are : AreItems level.padding bytes items
   pub mean : ItemsMean level items trees
+
+-- all the bytes mean some trees
+abbrev pub MeansSome : {T : Type 0} → Level T → List ℕ → Type 0
+MeansSome level bytes = (trees : List _) × MeansTrees level bytes trees
+
+-- all the bytes mean so many trees
+abbrev pub MeansMany : {T : Type 0} → Level T → List ℕ → ℕ → Type 0
+MeansMany level bytes n = (trees : List _) × MeansTrees level bytes trees × (n ≡ length trees)
+
+-- all the bytes mean so many trees, with so many parts
+pub record MeansCounted {T : Type 0} (level : Level T) (parts : T → ℕ) (bytes : List ℕ) (n all : ℕ) : Type 0 where
+  pub trees : List T
+  pub mean : MeansTrees level bytes trees
+  pub item_count : n ≡ length trees
+  pub part_count : all ≡ total parts trees
 
 -- the row for what stands at the front
 abbrev pub front_row : {T : Type 0} → Level T → List ℕ → Row T

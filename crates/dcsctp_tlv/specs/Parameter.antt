@@ -1,5 +1,5 @@
 -- The table of parameters (RFC 9260 section 3.2.1): a line for each kind in each definition.
-use Rattle.std.specs.Prelude.{◌≡◌, ℕ, List, [], ◌∷◌, ◌++◌, ◌==◌, length, map}
+use Rattle.std.specs.Prelude.{◌≡◌, ◌⊎◌, ℕ, List, [], ◌∷◌, ◌++◌, ◌==◌, length, map}
 use Rattle.std.specs.Int.{w16, w32, from_be_bytes, to_be_bytes}
 use Rattle.dcsctp_tlv.specs.Frame.{lenient}
 use Rattle.dcsctp_tlv.specs.Level.{Row, plain, pick, Level, map_ok}
@@ -52,6 +52,10 @@ parameter_row typ =
 -- lists of parameters: their padding is never looked at
 abbrev pub parameters : Level ParameterTree
 parameters = record { row = λ first second. parameter_row (from_be_bytes w16 (first ∷ second ∷ [])); padding = lenient }
+
+-- what such a value means holds nothing on the heap
+abbrev pub TakesNoMemory : ℕ → Type 0
+TakesNoMemory typ = (typ ≡ 16) ⊎ (typ ≡ 0x8001) ⊎ (typ ≡ 0xC000)
 
 -- how each is written
 abbrev pub parameter_tlv : ParameterTree → Tlv

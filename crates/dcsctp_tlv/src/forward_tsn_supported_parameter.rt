@@ -10,7 +10,7 @@
 
 ghost use Rattle.std.specs.Prelude.{◌≡◌, ◌≢◌, ◌↔◌, [], Some, IsErrOf};
 ghost use Rattle.dcsctp_tlv.specs.Image.{IsEncodable};
-ghost use Rattle.dcsctp_tlv.specs.Reading.{Gives, Never};
+ghost use Rattle.dcsctp_tlv.specs.Reading.{Gives, Never, Passes};
 ghost use Rattle.dcsctp_tlv.specs.Length.{length-typed_tlv};
 ghost use Rattle.dcsctp_tlv.specs.ForwardTsnSupported.{forward_tsn_supported_at, forward_tsn_supported_tlv, forward_tsn_supported_text, forward_tsn_supported_view};
 
@@ -39,10 +39,18 @@ impl ForwardTsnSupportedParameter {
         if raw.typ != PARAMETER_TYPE {
             return Err(ChunkParseError::InvalidType);
         }
-        if !raw.value.is_empty() {
+        ForwardTsnSupportedParameter::check(raw.value)?;
+        Ok(ForwardTsnSupportedParameter)
+    }
+
+    /// `InvalidLength` exactly where the value isn't empty.
+    pub fn check(value: &[u8]) -> Result<(), ChunkParseError>
+        ensures { Passes result (forward_tsn_supported_at value.now) }
+    {
+        if !value.is_empty() {
             return Err(ChunkParseError::InvalidLength);
         }
-        Ok(ForwardTsnSupportedParameter)
+        Ok(())
     }
 }
 

@@ -31,10 +31,20 @@ pub fn split_frame(bytes: &[u8]) -> Result<(&[u8], &[u8]), ChunkParseError>
     if length < TLV_HEADER_SIZE || length > bytes.len() {
         return Err(ChunkParseError::InvalidLength);
     }
+    Ok(frame_parts(bytes))
+}
+
+/// The same where the bytes are known to begin with a frame; nothing is tested.
+pub fn frame_parts(bytes: &[u8]) -> (&[u8], &[u8])
+    requires { BeginsWithFrame bytes.now }
+    ensures value { result.0.now ≡ frame_value bytes.now }
+    ensures rest { result.1.now ≡ frame_rest bytes.now }
+{
+    let length = read_u16_be(&bytes[2..]) as usize;
     let value = &bytes[TLV_HEADER_SIZE..length];
     let padded = length.div_ceil(4) * 4;
     let rest = &bytes[padded.min(bytes.len())..];
-    Ok((value, rest))
+    (value, rest)
 }
 
 /// Writes a header into the first four bytes; the bytes behind them stay.

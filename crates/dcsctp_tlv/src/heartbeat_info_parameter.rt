@@ -12,7 +12,7 @@
 
 ghost use Rattle.std.specs.Prelude.{◌≡◌, ◌≢◌, ◌↔◌, Some, IsErrOf};
 ghost use Rattle.dcsctp_tlv.specs.Image.{IsEncodable};
-ghost use Rattle.dcsctp_tlv.specs.Reading.{Gives, IfMeant};
+ghost use Rattle.dcsctp_tlv.specs.Reading.{Gives, IfMeant, Builds};
 ghost use Rattle.dcsctp_tlv.specs.Length.{length-typed_tlv};
 ghost use Rattle.dcsctp_tlv.specs.HeartbeatInfo.{heartbeat_info_at, heartbeat_info_tlv, heartbeat_info_text, heartbeat_info_view};
 
@@ -20,7 +20,7 @@ use crate::error::ChunkParseError;
 use crate::frame::{MAX_VALUE_SIZE, put_parameter};
 use crate::raw_parameter::RawParameter;
 use crate::tlv::SerializableTlv;
-use std::alloc::Global;
+use std::alloc::{AllocError, Global};
 use std::fmt;
 
 /// The type of Heartbeat Info.
@@ -44,8 +44,15 @@ impl HeartbeatInfoParameter {
         if raw.typ != PARAMETER_TYPE {
             return Err(ChunkParseError::InvalidType);
         }
+        Ok(HeartbeatInfoParameter::build(alloc, raw.value)?)
+    }
+
+    /// Copies the value.
+    pub fn build(alloc: Global, value: &[u8]) -> Result<Self, AllocError>
+        ensures { Builds heartbeat_info_view result (heartbeat_info_at value.now) }
+    {
         Ok(HeartbeatInfoParameter {
-            info: Vec::from_slice(alloc, raw.value)?,
+            info: Vec::from_slice(alloc, value)?,
         })
     }
 }

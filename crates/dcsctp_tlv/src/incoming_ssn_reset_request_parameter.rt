@@ -12,13 +12,13 @@
 //! +-+-+-+-+-+-+-+-+-+-+-+-+-+-+-+-+-+-+-+-+-+-+-+-+-+-+-+-+-+-+-+-+
 //! ```
 
-ghost use Rattle.std.specs.Prelude.{◌≡◌, ◌≢◌, ◌↔◌, ◌++◌, [], ◌∷◌, Some, IsErrOf};
+ghost use Rattle.std.specs.Prelude.{◌≡◌, ◌≢◌, ◌↔◌, ◌++◌, [], ◌∷◌, Some, IsOk, IsErrOf};
 ghost use Rattle.std.specs.Int.{w16, w32};
 ghost use Rattle.dcsctp_tlv.specs.Fields.{stream_numbers};
 ghost use Rattle.dcsctp_tlv.specs.Image.{IsEncodable};
 ghost use Rattle.dcsctp_tlv.specs.Length.{length-typed_tlv};
 ghost use Rattle.dcsctp_tlv.specs.Number.{numbers};
-ghost use Rattle.dcsctp_tlv.specs.Reading.{Gives, IfMeant};
+ghost use Rattle.dcsctp_tlv.specs.Reading.{Gives, IfMeant, Passes, Builds};
 ghost use Rattle.dcsctp_tlv.specs.IncomingSsnResetRequest.{incoming_ssn_reset_request_at, incoming_ssn_reset_request_tlv, incoming_ssn_reset_request_text, incoming_ssn_reset_request_view};
 
 use crate::error::ChunkParseError;
@@ -28,7 +28,7 @@ use crate::number::read_u32_be;
 use crate::raw_parameter::RawParameter;
 use crate::tlv::SerializableTlv;
 use dcsctp_types::api::StreamId;
-use std::alloc::Global;
+use std::alloc::{AllocError, Global};
 use std::fmt;
 
 /// The type of Incoming SSN Reset Request.
@@ -59,13 +59,28 @@ impl IncomingSsnResetRequestParameter {
         if raw.typ != PARAMETER_TYPE {
             return Err(ChunkParseError::InvalidType);
         }
-        let value = raw.value;
+        IncomingSsnResetRequestParameter::check(raw.value)?;
+        Ok(IncomingSsnResetRequestParameter::build(alloc, raw.value)?)
+    }
+
+    /// `InvalidLength` exactly where the value has fewer than 4 bytes or an odd number of them.
+    pub fn check(value: &[u8]) -> Result<(), ChunkParseError>
+        ensures { Passes result (incoming_ssn_reset_request_at value.now) }
+    {
         if value.len() < FIXED_SIZE {
             return Err(ChunkParseError::InvalidLength);
         }
         if !value.len().is_multiple_of(2) {
             return Err(ChunkParseError::InvalidLength);
         }
+        Ok(())
+    }
+
+    /// What the value means.
+    pub fn build(alloc: Global, value: &[u8]) -> Result<Self, AllocError>
+        requires { IsOk (incoming_ssn_reset_request_at value.now) }
+        ensures { Builds incoming_ssn_reset_request_view result (incoming_ssn_reset_request_at value.now) }
+    {
         let count = (value.len() - FIXED_SIZE) / 2;
         let streams = fields_from_bytes::<StreamId>(alloc, &value[FIXED_SIZE..], count)?;
         Ok(IncomingSsnResetRequestParameter {

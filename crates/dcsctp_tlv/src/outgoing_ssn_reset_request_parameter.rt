@@ -16,13 +16,13 @@
 //! +-+-+-+-+-+-+-+-+-+-+-+-+-+-+-+-+-+-+-+-+-+-+-+-+-+-+-+-+-+-+-+-+
 //! ```
 
-ghost use Rattle.std.specs.Prelude.{◌≡◌, ◌≢◌, ◌↔◌, ◌++◌, [], ◌∷◌, Some, IsErrOf};
+ghost use Rattle.std.specs.Prelude.{◌≡◌, ◌≢◌, ◌↔◌, ◌++◌, [], ◌∷◌, Some, IsOk, IsErrOf};
 ghost use Rattle.std.specs.Int.{w16, w32};
 ghost use Rattle.dcsctp_tlv.specs.Fields.{stream_numbers};
 ghost use Rattle.dcsctp_tlv.specs.Image.{IsEncodable};
 ghost use Rattle.dcsctp_tlv.specs.Length.{length-typed_tlv};
 ghost use Rattle.dcsctp_tlv.specs.Number.{numbers};
-ghost use Rattle.dcsctp_tlv.specs.Reading.{Gives, IfMeant};
+ghost use Rattle.dcsctp_tlv.specs.Reading.{Gives, IfMeant, Passes, Builds};
 ghost use Rattle.dcsctp_tlv.specs.OutgoingSsnResetRequest.{outgoing_ssn_reset_request_at, outgoing_ssn_reset_request_tlv, outgoing_ssn_reset_request_text, outgoing_ssn_reset_request_view};
 
 use crate::error::ChunkParseError;
@@ -33,7 +33,7 @@ use crate::raw_parameter::RawParameter;
 use crate::tlv::SerializableTlv;
 use dcsctp_types::api::StreamId;
 use dcsctp_types::types::Tsn;
-use std::alloc::Global;
+use std::alloc::{AllocError, Global};
 use std::fmt;
 
 /// The type of Outgoing SSN Reset Request.
@@ -68,13 +68,28 @@ impl OutgoingSsnResetRequestParameter {
         if raw.typ != PARAMETER_TYPE {
             return Err(ChunkParseError::InvalidType);
         }
-        let value = raw.value;
+        OutgoingSsnResetRequestParameter::check(raw.value)?;
+        Ok(OutgoingSsnResetRequestParameter::build(alloc, raw.value)?)
+    }
+
+    /// `InvalidLength` exactly where the value has fewer than 12 bytes or an odd number of them.
+    pub fn check(value: &[u8]) -> Result<(), ChunkParseError>
+        ensures { Passes result (outgoing_ssn_reset_request_at value.now) }
+    {
         if value.len() < FIXED_SIZE {
             return Err(ChunkParseError::InvalidLength);
         }
         if !value.len().is_multiple_of(2) {
             return Err(ChunkParseError::InvalidLength);
         }
+        Ok(())
+    }
+
+    /// What the value means.
+    pub fn build(alloc: Global, value: &[u8]) -> Result<Self, AllocError>
+        requires { IsOk (outgoing_ssn_reset_request_at value.now) }
+        ensures { Builds outgoing_ssn_reset_request_view result (outgoing_ssn_reset_request_at value.now) }
+    {
         let count = (value.len() - FIXED_SIZE) / 2;
         let streams = fields_from_bytes::<StreamId>(alloc, &value[FIXED_SIZE..], count)?;
         Ok(OutgoingSsnResetRequestParameter {

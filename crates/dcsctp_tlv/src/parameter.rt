@@ -10,11 +10,11 @@
 //! +-+-+-+-+-+-+-+-+-+-+-+-+-+-+-+-+-+-+-+-+-+-+-+-+-+-+-+-+-+-+-+-+
 //! ```
 
-ghost use Rattle.std.specs.Prelude.{IsErrOf, refl};
+ghost use Rattle.std.specs.Prelude.{◌≡◌, ◌≢◌, ◌≤◌, ◌*◌, [], length, vec_len, vec_capacity, IsOk, IfOk, IsErrOf, refl};
 ghost use Rattle.dcsctp_tlv.specs.Image.{IsEncodable};
-ghost use Rattle.dcsctp_tlv.specs.Level.{HasMeaning, MeansTrees, HasFault};
-ghost use Rattle.dcsctp_tlv.specs.Reading.{Answers};
-ghost use Rattle.dcsctp_tlv.specs.Parameter.{ParameterTree, parameter_row, parameters, parameter_tlv, view, views, length-parameter};
+ghost use Rattle.dcsctp_tlv.specs.Level.{HasMeaning, MeansTrees, MeansSome, MeansMany, HasFault};
+ghost use Rattle.dcsctp_tlv.specs.Reading.{Answers, Finds, ChecksExactly, ReadsExactly};
+ghost use Rattle.dcsctp_tlv.specs.Parameter.{ParameterTree, parameter_row, parameters, TakesNoMemory, parameter_tlv, view, views, length-parameter};
 
 use crate::error::ChunkParseError;
 use crate::forward_tsn_supported_parameter::{self, ForwardTsnSupportedParameter};
@@ -23,14 +23,14 @@ use crate::incoming_ssn_reset_request_parameter::{self, IncomingSsnResetRequestP
 pub use crate::list::{parameters_encodable, parameters_serialize_to, parameters_serialized_size};
 use crate::outgoing_ssn_reset_request_parameter::{self, OutgoingSsnResetRequestParameter};
 pub use crate::raw_parameter::{PARAMETER_HEADER_SIZE, RawParameter, write_parameter_header};
-use crate::reader::{ReadableTlv, list_from_bytes};
+use crate::reader::{ReadableTlv, list_build_counted, list_check, list_from_bytes};
 use crate::reconfiguration_response_parameter::{self, ReconfigurationResponseParameter};
 use crate::state_cookie_parameter::{self, StateCookieParameter};
 use crate::supported_extensions_parameter::{self, SupportedExtensionsParameter};
 use crate::tlv::{ListedTlv, SerializableTlv};
 use crate::unknown_parameter::UnknownParameter;
 use crate::zero_checksum_acceptable_parameter::{self, ZeroChecksumAcceptableParameter};
-use std::alloc::Global;
+use std::alloc::{AllocError, Global};
 
 /// SSN/TSN Reset Request (RFC 6525 section 4.3), kept as it is.
 pub const PARAMETER_TYPE_SSN_TSN_RESET_REQUEST: u16 = 15;
@@ -64,53 +64,81 @@ impl Parameter {
     /// Reads a parameter as its type says.
     ///
     /// `InvalidLength` exactly where the value has a size that its kind doesn't allow;
-    /// `OutOfMemory` only where it has a meaning, and what it holds can't be copied. `InvalidType`
-    /// is never answered.
+    /// `OutOfMemory` only where it has a meaning, and what it holds can't be copied; never where it
+    /// holds nothing on the heap. `InvalidType` is never answered.
     pub fn try_from(alloc: Global, raw: RawParameter) -> Result<Self, ChunkParseError>
         ensures answer { Answers result (λ p. (parameter_row raw.entry.typ).means raw.entry.value.now (view p))
             ((parameter_row raw.entry.typ).faults raw.entry.value.now) }
         ensures memory { IsErrOf result ChunkParseError.OutOfMemory →
             HasMeaning (parameter_row raw.entry.typ) raw.entry.value.now }
+        ensures heap { TakesNoMemory raw.entry.typ → ¬ IsErrOf result ChunkParseError.OutOfMemory }
     {
-        Ok(match raw.typ {
-            heartbeat_info_parameter::PARAMETER_TYPE => {
-                Parameter::HeartbeatInfo(HeartbeatInfoParameter::try_from(alloc, raw)?)
-            }
-            state_cookie_parameter::PARAMETER_TYPE => {
-                Parameter::StateCookie(StateCookieParameter::try_from(alloc, raw)?)
-            }
-            outgoing_ssn_reset_request_parameter::PARAMETER_TYPE => {
-                Parameter::OutgoingSsnResetRequest(OutgoingSsnResetRequestParameter::try_from(
-                    alloc, raw,
-                )?)
-            }
-            incoming_ssn_reset_request_parameter::PARAMETER_TYPE => {
-                Parameter::IncomingSsnResetRequest(IncomingSsnResetRequestParameter::try_from(
-                    alloc, raw,
-                )?)
-            }
-            PARAMETER_TYPE_SSN_TSN_RESET_REQUEST => {
-                Parameter::SsnTsnResetRequest(UnknownParameter::try_from(alloc, raw)?)
-            }
-            reconfiguration_response_parameter::PARAMETER_TYPE => {
-                Parameter::ReconfigurationResponse(ReconfigurationResponseParameter::try_from(raw)?)
-            }
-            PARAMETER_TYPE_ADD_OUTGOING_STREAMS_REQUEST => {
-                Parameter::AddOutgoingStreamsRequest(UnknownParameter::try_from(alloc, raw)?)
-            }
-            PARAMETER_TYPE_ADD_INCOMING_STREAMS_REQUEST => {
-                Parameter::AddIncomingStreamsRequest(UnknownParameter::try_from(alloc, raw)?)
-            }
-            zero_checksum_acceptable_parameter::PARAMETER_TYPE => {
-                Parameter::ZeroChecksumAcceptable(ZeroChecksumAcceptableParameter::try_from(raw)?)
-            }
-            supported_extensions_parameter::PARAMETER_TYPE => {
-                Parameter::SupportedExtensions(SupportedExtensionsParameter::try_from(alloc, raw)?)
-            }
-            forward_tsn_supported_parameter::PARAMETER_TYPE => {
-                Parameter::ForwardTsnSupported(ForwardTsnSupportedParameter::try_from(raw)?)
-            }
-            _ => Parameter::Unknown(UnknownParameter::try_from(alloc, raw)?),
+        Parameter::check_value(raw.typ, raw.value)?;
+        Ok(Parameter::build(alloc, raw.typ, raw.value)?)
+    }
+
+    /// Passes exactly where the value has a meaning; else its fault. It takes no memory.
+    fn check_value(typ: u16, value: &[u8]) -> Result<(), ChunkParseError>
+        ensures { Finds result (λ _. HasMeaning (parameter_row typ) value.now) ((parameter_row typ).faults value.now) }
+    {
+        match typ {
+            outgoing_ssn_reset_request_parameter::PARAMETER_TYPE =>
+                OutgoingSsnResetRequestParameter::check(value),
+            incoming_ssn_reset_request_parameter::PARAMETER_TYPE =>
+                IncomingSsnResetRequestParameter::check(value),
+            reconfiguration_response_parameter::PARAMETER_TYPE =>
+                ReconfigurationResponseParameter::check(value),
+            zero_checksum_acceptable_parameter::PARAMETER_TYPE =>
+                ZeroChecksumAcceptableParameter::check(value),
+            forward_tsn_supported_parameter::PARAMETER_TYPE => ForwardTsnSupportedParameter::check(
+                value,
+            ),
+            _ => Ok(()),
+        }
+    }
+
+    /// What the value means.
+    fn build(alloc: Global, typ: u16, value: &[u8]) -> Result<Self, AllocError>
+        requires { HasMeaning (parameter_row typ) value.now }
+        ensures meant { IfOk result (λ p. (parameter_row typ).means value.now (view p)) }
+        ensures heap { TakesNoMemory typ → IsOk result }
+    {
+        Ok(match typ {
+            heartbeat_info_parameter::PARAMETER_TYPE => Parameter::HeartbeatInfo(
+                HeartbeatInfoParameter::build(alloc, value)?,
+            ),
+            state_cookie_parameter::PARAMETER_TYPE => Parameter::StateCookie(
+                StateCookieParameter::build(alloc, value)?,
+            ),
+            outgoing_ssn_reset_request_parameter::PARAMETER_TYPE =>
+                Parameter::OutgoingSsnResetRequest(OutgoingSsnResetRequestParameter::build(
+                    alloc, value,
+                )?),
+            incoming_ssn_reset_request_parameter::PARAMETER_TYPE =>
+                Parameter::IncomingSsnResetRequest(IncomingSsnResetRequestParameter::build(
+                    alloc, value,
+                )?),
+            PARAMETER_TYPE_SSN_TSN_RESET_REQUEST => Parameter::SsnTsnResetRequest(
+                UnknownParameter::build(alloc, typ, value)?,
+            ),
+            reconfiguration_response_parameter::PARAMETER_TYPE =>
+                Parameter::ReconfigurationResponse(ReconfigurationResponseParameter::build(value)),
+            PARAMETER_TYPE_ADD_OUTGOING_STREAMS_REQUEST => Parameter::AddOutgoingStreamsRequest(
+                UnknownParameter::build(alloc, typ, value)?,
+            ),
+            PARAMETER_TYPE_ADD_INCOMING_STREAMS_REQUEST => Parameter::AddIncomingStreamsRequest(
+                UnknownParameter::build(alloc, typ, value)?,
+            ),
+            zero_checksum_acceptable_parameter::PARAMETER_TYPE => Parameter::ZeroChecksumAcceptable(
+                ZeroChecksumAcceptableParameter::build(value),
+            ),
+            supported_extensions_parameter::PARAMETER_TYPE => Parameter::SupportedExtensions(
+                SupportedExtensionsParameter::build(alloc, value)?,
+            ),
+            forward_tsn_supported_parameter::PARAMETER_TYPE => Parameter::ForwardTsnSupported(
+                ForwardTsnSupportedParameter,
+            ),
+            _ => Parameter::Unknown(UnknownParameter::build(alloc, typ, value)?),
         })
     }
 }
@@ -122,14 +150,91 @@ impl ReadableTlv for Parameter {
 
     ghost view = { view };
 
-    fn read(alloc: Global, first: u8, second: u8, value: &[u8]) -> Result<Self, ChunkParseError> {
-        Parameter::try_from(
-            alloc,
-            RawParameter {
-                typ: u16::from_be_bytes([first, second]),
-                value,
-            },
-        )
+    ghost parts = { λ t. 1 };
+
+    fn check(first: u8, second: u8, value: &[u8]) -> Result<usize, ChunkParseError> {
+        Parameter::check_value(u16::from_be_bytes([first, second]), value)?;
+        Ok(1)
+    }
+
+    fn read_onto(
+        list: &mut Vec<Self>,
+        alloc: Global,
+        first: u8,
+        second: u8,
+        value: &[u8],
+    ) -> Result<(), AllocError> {
+        let typ = u16::from_be_bytes([first, second]);
+        match typ {
+            heartbeat_info_parameter::PARAMETER_TYPE => {
+                list.push_reserved(Parameter::HeartbeatInfo(HeartbeatInfoParameter::build(
+                    alloc, value,
+                )?));
+                Ok(())
+            }
+            state_cookie_parameter::PARAMETER_TYPE => {
+                list.push_reserved(Parameter::StateCookie(StateCookieParameter::build(
+                    alloc, value,
+                )?));
+                Ok(())
+            }
+            outgoing_ssn_reset_request_parameter::PARAMETER_TYPE => {
+                list.push_reserved(Parameter::OutgoingSsnResetRequest(
+                    OutgoingSsnResetRequestParameter::build(alloc, value)?,
+                ));
+                Ok(())
+            }
+            incoming_ssn_reset_request_parameter::PARAMETER_TYPE => {
+                list.push_reserved(Parameter::IncomingSsnResetRequest(
+                    IncomingSsnResetRequestParameter::build(alloc, value)?,
+                ));
+                Ok(())
+            }
+            PARAMETER_TYPE_SSN_TSN_RESET_REQUEST => {
+                list.push_reserved(Parameter::SsnTsnResetRequest(UnknownParameter::build(
+                    alloc, typ, value,
+                )?));
+                Ok(())
+            }
+            reconfiguration_response_parameter::PARAMETER_TYPE => {
+                list.push_reserved(Parameter::ReconfigurationResponse(
+                    ReconfigurationResponseParameter::build(value),
+                ));
+                Ok(())
+            }
+            PARAMETER_TYPE_ADD_OUTGOING_STREAMS_REQUEST => {
+                list.push_reserved(Parameter::AddOutgoingStreamsRequest(UnknownParameter::build(
+                    alloc, typ, value,
+                )?));
+                Ok(())
+            }
+            PARAMETER_TYPE_ADD_INCOMING_STREAMS_REQUEST => {
+                list.push_reserved(Parameter::AddIncomingStreamsRequest(UnknownParameter::build(
+                    alloc, typ, value,
+                )?));
+                Ok(())
+            }
+            zero_checksum_acceptable_parameter::PARAMETER_TYPE => {
+                list.push_reserved(Parameter::ZeroChecksumAcceptable(
+                    ZeroChecksumAcceptableParameter::build(value),
+                ));
+                Ok(())
+            }
+            supported_extensions_parameter::PARAMETER_TYPE => {
+                list.push_reserved(Parameter::SupportedExtensions(
+                    SupportedExtensionsParameter::build(alloc, value)?,
+                ));
+                Ok(())
+            }
+            forward_tsn_supported_parameter::PARAMETER_TYPE => {
+                list.push_reserved(Parameter::ForwardTsnSupported(ForwardTsnSupportedParameter));
+                Ok(())
+            }
+            _ => {
+                list.push_reserved(Parameter::Unknown(UnknownParameter::build(alloc, typ, value)?));
+                Ok(())
+            }
+        }
     }
 
     ghost ignores_padding = { λ size there. refl };
@@ -211,9 +316,32 @@ impl ListedTlv for Parameter {
 /// Reads all the bytes as a list of parameters; no bytes are the empty list.
 ///
 /// The first item that has no frame, or whose value is at fault, decides the error: `InvalidLength`
-/// or `InvalidValue`, or `OutOfMemory` for want of memory.
+/// or `InvalidValue`; `OutOfMemory` only where there is none.
 pub fn parameters_from_bytes(alloc: Global, bytes: &[u8]) -> Result<Vec<Parameter>, ChunkParseError>
-    ensures { Answers result (λ list. MeansTrees parameters bytes.now (views list.items)) (HasFault parameters bytes.now) }
+    ensures answer { Answers result (λ list. MeansTrees parameters bytes.now (views list.items)) (HasFault parameters bytes.now) }
+    ensures memory { IsErrOf result ChunkParseError.OutOfMemory → MeansSome parameters bytes.now × (bytes.now ≢ []) }
+    ensures exact { ReadsExactly result (λ list. views list.items) (MeansTrees parameters bytes.now) (HasFault parameters bytes.now) }
+    ensures reserved { IfOk result (λ list. vec_capacity list ≡ vec_len list) }
 {
     list_from_bytes(alloc, bytes)
+}
+
+/// The number of parameters, or the first fault from the left. It takes no memory.
+pub fn parameters_check(bytes: &[u8]) -> Result<usize, ChunkParseError>
+    ensures found { Finds result (MeansMany parameters bytes.now) (HasFault parameters bytes.now) }
+    ensures exact { ChecksExactly result parameters bytes.now }
+    ensures few { IfOk result (λ n. 4 * n ≤ length bytes.now) }
+{
+    let (count, _) = list_check::<Parameter>(bytes)?;
+    Ok(count)
+}
+
+/// Builds the parameters that the bytes are known to mean.
+pub fn parameters_build(alloc: Global, bytes: &[u8]) -> Result<Vec<Parameter>, AllocError>
+    requires { MeansSome parameters bytes.now }
+    ensures meant { IfOk result (λ list. MeansTrees parameters bytes.now (views list.items)) }
+    ensures reserved { IfOk result (λ list. vec_capacity list ≡ vec_len list) }
+    ensures empty { bytes.now ≡ [] → IsOk result }
+{
+    list_build_counted(alloc, bytes)
 }

@@ -1,14 +1,16 @@
-//! Reading a list of items: the one loop over frames, for every level.
+//! Reading a list of items in two passes: a check that takes no memory, and a build that tests
+//! nothing again. For every level.
 
-ghost use Rattle.std.specs.Prelude.{◌≡◌, ℕ, List, true, map};
-ghost use Rattle.dcsctp_tlv.specs.Level.{Level, MeansTrees, HasFault};
-ghost use Rattle.dcsctp_tlv.specs.Reading.{Answers};
+ghost use Rattle.std.specs.Prelude.{◌≡◌, ◌≢◌, ◌≤◌, ◌<◌, ◌+◌, ◌*◌, ℕ, List, [], true, length, map, IsOk, IfOk, IsErrOf, vec_len, vec_capacity};
+ghost use Rattle.dcsctp_tlv.specs.Frame.{PaddingRule, Item, AreItems};
+ghost use Rattle.dcsctp_tlv.specs.Level.{Level, HasMeaning, MeansParts, Grows, MeansTrees, MeansSome, MeansMany, MeansCounted, HasFault};
+ghost use Rattle.dcsctp_tlv.specs.Reading.{Answers, Finds};
 
 use crate::error::ChunkParseError;
-use crate::frame::split_frame;
-use std::alloc::Global;
+use crate::frame::{frame_parts, split_frame};
+use std::alloc::{AllocError, Global};
 
-/// A chunk, a parameter or an error cause that is read from its item.
+/// A chunk, a parameter or an error cause that is checked, and then built from its item.
 pub trait ReadableTlv: Sized + Drop {
     /// What its bytes mean.
     ghost Tree: { Type 0 };
@@ -19,34 +21,110 @@ pub trait ReadableTlv: Sized + Drop {
     /// What it means, without where it lies in memory.
     ghost view: { Self → Tree };
 
-    /// Reads an item's value. Its first two bytes are a chunk's type and flags, or the type of a
-    /// parameter or a cause.
-    ///
-    /// It answers what the table says of the value, or `OutOfMemory`.
-    fn read(alloc: Global, first: u8, second: u8, value: &[u8]) -> Result<Self, ChunkParseError>
-        ensures { Answers result (λ x. (level.row first second).means value.now (view x)) ((level.row first second).faults value.now) };
+    /// It and the items within it, counted.
+    ghost parts: { Tree → ℕ };
+
+    /// The number of parts of what an item's value means, each of which has four bytes of its own;
+    /// or its fault. It takes no memory.
+    fn check(first: u8, second: u8, value: &[u8]) -> Result<usize, ChunkParseError>
+        ensures found { Finds result (MeansParts parts (level.row first second) value.now) ((level.row first second).faults value.now) }
+        ensures few { IfOk result (λ n. 4 * n ≤ 4 + length value.now) };
+
+    /// Builds what an item's value means at the end of a list that has room for it.
+    fn read_onto(
+        list: &mut Vec<Self>,
+        alloc: Global,
+        first: u8,
+        second: u8,
+        value: &[u8],
+    ) -> Result<(), AllocError>
+        requires meant { HasMeaning (level.row first second) value.now }
+        requires room { vec_len list.old < vec_capacity list.old }
+        ensures grows { IfOk result (λ _. Grows view (level.row first second) value.now list.old.items list.new.items) }
+        ensures len { IfOk result (λ _. vec_len list.new ≡ vec_len list.old + 1) }
+        ensures capacity { IfOk result (λ _. vec_capacity list.new ≡ vec_capacity list.old) };
 
     /// Padding is never looked at.
     ghost ignores_padding: { (n : ℕ) (there : List ℕ) → level.padding n there ≡ true };
 }
 
-/// Reads all the bytes as a list of items, one behind the other; no bytes are the empty list.
+/// The number of items, and that of all parts; or the first fault from the left. It takes no memory.
+pub fn list_check<T: ReadableTlv>(bytes: &[u8]) -> Result<(usize, usize), ChunkParseError>
+    ensures found { Finds result (λ n. MeansCounted T.level T.parts bytes.now n.0 n.1) (HasFault T.level bytes.now) }
+    ensures few { IfOk result (λ n. (4 * n.0 ≤ length bytes.now) × (4 * n.1 ≤ length bytes.now)) }
+{
+    let mut items: usize = 0;
+    let mut parts: usize = 0;
+    let mut rest = bytes;
+    while !rest.is_empty() {
+        let (value, after) = split_frame(rest)?;
+        let found = T::check(rest[0], rest[1], value)?;
+        items += 1;
+        parts += found;
+        rest = after;
+    }
+    Ok((items, parts))
+}
+
+/// The number of items, where the bytes are known to be items.
+pub fn count_items(bytes: &[u8]) -> usize
+    requires { (rule : PaddingRule) × ((items : List Item) × AreItems rule bytes.now items) }
+    ensures { (rule : PaddingRule) (items : List Item) → AreItems rule bytes.now items → result ≡ length items }
+{
+    let mut count: usize = 0;
+    let mut rest = bytes;
+    while !rest.is_empty() {
+        let (_, after) = frame_parts(rest);
+        count += 1;
+        rest = after;
+    }
+    count
+}
+
+/// Builds the list that the bytes mean, where they are known to mean so many items. The memory for
+/// the list is taken at once.
+pub fn list_build<T: ReadableTlv>(
+    alloc: Global,
+    bytes: &[u8],
+    count: usize,
+) -> Result<Vec<T>, AllocError>
+    requires { MeansMany T.level bytes.now count }
+    ensures meant { IfOk result (λ list. MeansTrees T.level bytes.now (map T.view list.items)) }
+    ensures reserved { IfOk result (λ list. vec_capacity list ≡ vec_len list) }
+    ensures empty { bytes.now ≡ [] → IsOk result }
+{
+    let mut list = Vec::with_capacity(alloc, count)?;
+    let mut rest = bytes;
+    while !rest.is_empty() {
+        let (value, after) = frame_parts(rest);
+        T::read_onto(&mut list, alloc, rest[0], rest[1], value)?;
+        rest = after;
+    }
+    Ok(list)
+}
+
+/// The same where their number isn't known: the items are counted first.
+pub fn list_build_counted<T: ReadableTlv>(alloc: Global, bytes: &[u8]) -> Result<Vec<T>, AllocError>
+    requires { MeansSome T.level bytes.now }
+    ensures meant { IfOk result (λ list. MeansTrees T.level bytes.now (map T.view list.items)) }
+    ensures reserved { IfOk result (λ list. vec_capacity list ≡ vec_len list) }
+    ensures empty { bytes.now ≡ [] → IsOk result }
+{
+    list_build(alloc, bytes, count_items(bytes))
+}
+
+/// Reads all the bytes as a list of items: a check, and then a build.
 ///
-/// It answers what the items mean, or the first fault from the left: that of an item's value, or
-/// `InvalidLength` where the bytes that are left don't begin with a frame; or `OutOfMemory`. Only
-/// the last item may lack padding.
+/// It answers what the items mean, or the first fault from the left wherever there is one;
+/// `OutOfMemory` only where there is none, and there are items.
 pub fn list_from_bytes<T: ReadableTlv>(
     alloc: Global,
     bytes: &[u8],
 ) -> Result<Vec<T>, ChunkParseError>
-    ensures { Answers result (λ list. MeansTrees T.level bytes.now (map T.view list.items)) (HasFault T.level bytes.now) }
+    ensures answer { Answers result (λ list. MeansTrees T.level bytes.now (map T.view list.items)) (HasFault T.level bytes.now) }
+    ensures memory { IsErrOf result ChunkParseError.OutOfMemory → MeansSome T.level bytes.now × (bytes.now ≢ []) }
+    ensures reserved { IfOk result (λ list. vec_capacity list ≡ vec_len list) }
 {
-    let mut list = Vec::new(alloc);
-    let mut rest = bytes;
-    while !rest.is_empty() {
-        let (value, after) = split_frame(rest)?;
-        list.push(T::read(alloc, rest[0], rest[1], value)?)?;
-        rest = after;
-    }
-    Ok(list)
+    let (count, _) = list_check::<T>(bytes)?;
+    Ok(list_build(alloc, bytes, count)?)
 }

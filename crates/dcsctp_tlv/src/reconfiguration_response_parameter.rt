@@ -16,12 +16,12 @@
 //! +-+-+-+-+-+-+-+-+-+-+-+-+-+-+-+-+-+-+-+-+-+-+-+-+-+-+-+-+-+-+-+-+
 //! ```
 
-ghost use Rattle.std.specs.Prelude.{◌≡◌, ◌≢◌, ◌↔◌, ◌≤◌, ◌++◌, [], ◌∷◌, Some, IsErrOf, length, map};
+ghost use Rattle.std.specs.Prelude.{◌≡◌, ◌≢◌, ◌↔◌, ◌≤◌, ◌++◌, [], ◌∷◌, Some, Ok, IsOk, IsErrOf, length, map};
 ghost use Rattle.std.specs.Int.{w32};
 ghost use Rattle.dcsctp_tlv.specs.Image.{IsEncodable};
 ghost use Rattle.dcsctp_tlv.specs.Length.{length-typed_tlv};
 ghost use Rattle.dcsctp_tlv.specs.Number.{numbers};
-ghost use Rattle.dcsctp_tlv.specs.Reading.{Gives, Never};
+ghost use Rattle.dcsctp_tlv.specs.Reading.{Gives, Never, Passes};
 ghost use Rattle.dcsctp_tlv.specs.ReconfigurationResponse.{result_of, result_number, response_with, reconfiguration_response_at, next_tsns, reconfiguration_response_tlv, reconfiguration_response_text, tsn_number, reconfiguration_response_view};
 
 use crate::error::ChunkParseError;
@@ -34,6 +34,9 @@ use std::fmt;
 
 /// The type of Re-configuration Response.
 pub const PARAMETER_TYPE: u16 = 16;
+
+/// The greatest number of a result.
+const MAX_RESULT: u32 = 6;
 
 /// What became of a request (RFC 6525 section 4.4). `as u32` gives its number on the wire.
 #[derive(Clone, Copy, Debug, PartialEq, Eq)]
@@ -54,20 +57,30 @@ impl TryFrom<u32> for ReconfigurationResponseResult {
 
     /// The result of a number; `InvalidValue` exactly above 6.
     fn try_from(value: u32) -> Result<Self, ChunkParseError> {
-        match value {
-            0 => Ok(ReconfigurationResponseResult::SuccessNothingToDo),
-            1 => Ok(ReconfigurationResponseResult::SuccessPerformed),
-            2 => Ok(ReconfigurationResponseResult::Denied),
-            3 => Ok(ReconfigurationResponseResult::ErrorWrongSSN),
-            4 => Ok(ReconfigurationResponseResult::ErrorRequestAlreadyInProgress),
-            5 => Ok(ReconfigurationResponseResult::ErrorBadSequenceNumber),
-            6 => Ok(ReconfigurationResponseResult::InProgress),
-            _ => Err(ChunkParseError::InvalidValue),
+        if value > MAX_RESULT {
+            return Err(ChunkParseError::InvalidValue);
         }
+        Ok(ReconfigurationResponseResult::of(value))
     }
 }
 
 impl ReconfigurationResponseResult {
+    /// The result of a number that has one.
+    fn of(value: u32) -> Self
+        requires { value ≤ 6 }
+        ensures { result_of value ≡ Ok result }
+    {
+        match value {
+            0 => ReconfigurationResponseResult::SuccessNothingToDo,
+            1 => ReconfigurationResponseResult::SuccessPerformed,
+            2 => ReconfigurationResponseResult::Denied,
+            3 => ReconfigurationResponseResult::ErrorWrongSSN,
+            4 => ReconfigurationResponseResult::ErrorRequestAlreadyInProgress,
+            5 => ReconfigurationResponseResult::ErrorBadSequenceNumber,
+            _ => ReconfigurationResponseResult::InProgress,
+        }
+    }
+
     fn number(self) -> u32
         ensures { result ≡ result_number self }
     {
@@ -101,34 +114,46 @@ impl ReconfigurationResponseParameter {
         if raw.typ != PARAMETER_TYPE {
             return Err(ChunkParseError::InvalidType);
         }
-        let value = raw.value;
-        match value.len() {
-            8 => response_of(value, None, None),
-            16 => response_of(
-                value,
-                Some(Tsn(read_u32_be(&value[8..]))),
-                Some(Tsn(read_u32_be(&value[12..]))),
-            ),
-            _ => Err(ChunkParseError::InvalidLength),
+        ReconfigurationResponseParameter::check(raw.value)?;
+        Ok(ReconfigurationResponseParameter::build(raw.value))
+    }
+
+    /// `InvalidLength` exactly where the value hasn't 8 or 16 bytes; `InvalidValue` exactly where it
+    /// has, and its result is above 6.
+    pub fn check(value: &[u8]) -> Result<(), ChunkParseError>
+        ensures { Passes result (reconfiguration_response_at value.now) }
+    {
+        if value.len() != 8 && value.len() != 16 {
+            return Err(ChunkParseError::InvalidLength);
+        }
+        if read_u32_be(&value[4..]) > MAX_RESULT {
+            return Err(ChunkParseError::InvalidValue);
+        }
+        Ok(())
+    }
+
+    /// What the value means.
+    pub fn build(value: &[u8]) -> Self
+        requires { IsOk (reconfiguration_response_at value.now) }
+        ensures { reconfiguration_response_at value.now ≡ Ok (reconfiguration_response_view result) }
+    {
+        let response_seq_nbr = read_u32_be(value);
+        let result = ReconfigurationResponseResult::of(read_u32_be(&value[4..]));
+        if value.len() == 8 {
+            return ReconfigurationResponseParameter {
+                response_seq_nbr,
+                result,
+                sender_next_tsn: None,
+                receiver_next_tsn: None,
+            };
+        }
+        ReconfigurationResponseParameter {
+            response_seq_nbr,
+            result,
+            sender_next_tsn: Some(Tsn(read_u32_be(&value[8..]))),
+            receiver_next_tsn: Some(Tsn(read_u32_be(&value[12..]))),
         }
     }
-}
-
-/// A response with these next TSNs, from its first eight bytes.
-fn response_of(
-    value: &[u8],
-    sender_next_tsn: Option<Tsn>,
-    receiver_next_tsn: Option<Tsn>,
-) -> Result<ReconfigurationResponseParameter, ChunkParseError>
-    requires { 8 ≤ length value.now }
-    ensures { Gives Never reconfiguration_response_view result (response_with value.now (tsn_number sender_next_tsn) (tsn_number receiver_next_tsn)) }
-{
-    Ok(ReconfigurationResponseParameter {
-        response_seq_nbr: read_u32_be(value),
-        result: ReconfigurationResponseResult::try_from(read_u32_be(&value[4..]))?,
-        sender_next_tsn,
-        receiver_next_tsn,
-    })
 }
 
 impl SerializableTlv for ReconfigurationResponseParameter {

@@ -12,7 +12,7 @@
 
 ghost use Rattle.std.specs.Prelude.{◌≡◌, ◌≢◌, ◌↔◌, Some, IsErrOf};
 ghost use Rattle.dcsctp_tlv.specs.Image.{IsEncodable};
-ghost use Rattle.dcsctp_tlv.specs.Reading.{Gives, IfMeant};
+ghost use Rattle.dcsctp_tlv.specs.Reading.{Gives, IfMeant, Builds};
 ghost use Rattle.dcsctp_tlv.specs.Length.{length-typed_tlv};
 ghost use Rattle.dcsctp_tlv.specs.StateCookie.{state_cookie_at, state_cookie_tlv, state_cookie_text, state_cookie_view};
 
@@ -20,7 +20,7 @@ use crate::error::ChunkParseError;
 use crate::frame::{MAX_VALUE_SIZE, put_parameter};
 use crate::raw_parameter::RawParameter;
 use crate::tlv::SerializableTlv;
-use std::alloc::Global;
+use std::alloc::{AllocError, Global};
 use std::fmt;
 
 /// The type of State Cookie.
@@ -44,8 +44,15 @@ impl StateCookieParameter {
         if raw.typ != PARAMETER_TYPE {
             return Err(ChunkParseError::InvalidType);
         }
+        Ok(StateCookieParameter::build(alloc, raw.value)?)
+    }
+
+    /// Copies the value.
+    pub fn build(alloc: Global, value: &[u8]) -> Result<Self, AllocError>
+        ensures { Builds state_cookie_view result (state_cookie_at value.now) }
+    {
         Ok(StateCookieParameter {
-            cookie: Vec::from_slice(alloc, raw.value)?,
+            cookie: Vec::from_slice(alloc, value)?,
         })
     }
 }

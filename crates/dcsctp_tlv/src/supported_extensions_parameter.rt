@@ -12,7 +12,7 @@
 
 ghost use Rattle.std.specs.Prelude.{◌≡◌, ◌≢◌, ◌↔◌, Some, IsErrOf};
 ghost use Rattle.dcsctp_tlv.specs.Image.{IsEncodable};
-ghost use Rattle.dcsctp_tlv.specs.Reading.{Gives, IfMeant};
+ghost use Rattle.dcsctp_tlv.specs.Reading.{Gives, IfMeant, Builds};
 ghost use Rattle.dcsctp_tlv.specs.Length.{length-typed_tlv};
 ghost use Rattle.dcsctp_tlv.specs.SupportedExtensions.{supported_extensions_at, supported_extensions_tlv, supported_extensions_text, supported_extensions_view};
 
@@ -21,7 +21,7 @@ use crate::frame::{MAX_VALUE_SIZE, put_parameter};
 use crate::raw_parameter::RawParameter;
 use crate::text::write_joined;
 use crate::tlv::SerializableTlv;
-use std::alloc::Global;
+use std::alloc::{AllocError, Global};
 use std::fmt;
 
 /// The type of Supported Extensions.
@@ -46,8 +46,15 @@ impl SupportedExtensionsParameter {
         if raw.typ != PARAMETER_TYPE {
             return Err(ChunkParseError::InvalidType);
         }
+        Ok(SupportedExtensionsParameter::build(alloc, raw.value)?)
+    }
+
+    /// Copies the value.
+    pub fn build(alloc: Global, value: &[u8]) -> Result<Self, AllocError>
+        ensures { Builds supported_extensions_view result (supported_extensions_at value.now) }
+    {
         Ok(SupportedExtensionsParameter {
-            chunk_types: Vec::from_slice(alloc, raw.value)?,
+            chunk_types: Vec::from_slice(alloc, value)?,
         })
     }
 }

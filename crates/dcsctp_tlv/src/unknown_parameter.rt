@@ -12,7 +12,7 @@
 
 ghost use Rattle.std.specs.Prelude.{◌≡◌, Some};
 ghost use Rattle.dcsctp_tlv.specs.Image.{IsEncodable};
-ghost use Rattle.dcsctp_tlv.specs.Reading.{Gives, IfMeant};
+ghost use Rattle.dcsctp_tlv.specs.Reading.{Gives, IfMeant, Builds};
 ghost use Rattle.dcsctp_tlv.specs.Length.{length-typed_tlv};
 ghost use Rattle.dcsctp_tlv.specs.UnknownParameter.{unknown_parameter_at, unknown_parameter_tlv, unknown_parameter_text, unknown_parameter_view};
 
@@ -20,7 +20,7 @@ use crate::error::ChunkParseError;
 use crate::frame::{MAX_VALUE_SIZE, put_parameter};
 use crate::raw_parameter::RawParameter;
 use crate::tlv::SerializableTlv;
-use std::alloc::Global;
+use std::alloc::{AllocError, Global};
 use std::fmt;
 
 /// A parameter or an error cause that is kept as it is: its type and its value (RFC 9260 sections
@@ -44,9 +44,16 @@ impl UnknownParameter {
     pub fn try_from(alloc: Global, raw: RawParameter) -> Result<Self, ChunkParseError>
         ensures { Gives IfMeant unknown_parameter_view result (unknown_parameter_at raw.entry.typ raw.entry.value.now) }
     {
+        Ok(UnknownParameter::build(alloc, raw.typ, raw.value)?)
+    }
+
+    /// Copies the value.
+    pub fn build(alloc: Global, typ: u16, value: &[u8]) -> Result<Self, AllocError>
+        ensures { Builds unknown_parameter_view result (unknown_parameter_at typ value.now) }
+    {
         Ok(UnknownParameter {
-            typ: raw.typ,
-            value: Vec::from_slice(alloc, raw.value)?,
+            typ,
+            value: Vec::from_slice(alloc, value)?,
         })
     }
 }

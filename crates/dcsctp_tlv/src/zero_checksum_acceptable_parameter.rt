@@ -10,10 +10,10 @@
 //! +-+-+-+-+-+-+-+-+-+-+-+-+-+-+-+-+-+-+-+-+-+-+-+-+-+-+-+-+-+-+-+-+
 //! ```
 
-ghost use Rattle.std.specs.Prelude.{◌≡◌, ◌≢◌, ◌↔◌, Some, IsErrOf};
+ghost use Rattle.std.specs.Prelude.{◌≡◌, ◌≢◌, ◌↔◌, Some, Ok, IsOk, IsErrOf};
 ghost use Rattle.std.specs.Int.{w32, to_be_bytes};
 ghost use Rattle.dcsctp_tlv.specs.Image.{IsEncodable};
-ghost use Rattle.dcsctp_tlv.specs.Reading.{Gives, Never};
+ghost use Rattle.dcsctp_tlv.specs.Reading.{Gives, Never, Passes};
 ghost use Rattle.dcsctp_tlv.specs.Length.{length-typed_tlv};
 ghost use Rattle.dcsctp_tlv.specs.ZeroChecksumAcceptable.{zero_checksum_acceptable_at, zero_checksum_acceptable_tlv, zero_checksum_acceptable_text, zero_checksum_acceptable_view};
 
@@ -48,12 +48,28 @@ impl ZeroChecksumAcceptableParameter {
         if raw.typ != PARAMETER_TYPE {
             return Err(ChunkParseError::InvalidType);
         }
-        if raw.value.len() != 4 {
+        ZeroChecksumAcceptableParameter::check(raw.value)?;
+        Ok(ZeroChecksumAcceptableParameter::build(raw.value))
+    }
+
+    /// `InvalidLength` exactly where the value hasn't 4 bytes.
+    pub fn check(value: &[u8]) -> Result<(), ChunkParseError>
+        ensures { Passes result (zero_checksum_acceptable_at value.now) }
+    {
+        if value.len() != 4 {
             return Err(ChunkParseError::InvalidLength);
         }
-        Ok(ZeroChecksumAcceptableParameter {
-            method: ZeroChecksumAlternateErrorDetectionMethod(read_u32_be(raw.value)),
-        })
+        Ok(())
+    }
+
+    /// What the value means.
+    pub fn build(value: &[u8]) -> Self
+        requires { IsOk (zero_checksum_acceptable_at value.now) }
+        ensures { zero_checksum_acceptable_at value.now ≡ Ok (zero_checksum_acceptable_view result) }
+    {
+        ZeroChecksumAcceptableParameter {
+            method: ZeroChecksumAlternateErrorDetectionMethod(read_u32_be(value)),
+        }
     }
 }
 

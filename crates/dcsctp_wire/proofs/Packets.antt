@@ -44,7 +44,7 @@ error_lawful : LawfulRow error_row
 error_lawful = listed_lawful _ 0 causes (λ value cs. cs) causes_lawful
 
 -- each row of the table of chunks is a function of the value, or has one answer otherwise
-chunks_lawful : Lawful chunks
+pub chunks_lawful : Lawful chunks
 chunks_lawful typ flags =
     pick_lawful (typ == 0) _ _ (plain_lawful _) (
     pick_lawful (typ == 1) _ _ (as_lawful Init init_row init_lawful) (

@@ -235,7 +235,7 @@ error_causes_width cs f = each error_cause.Fact IsCauseInWidth causes.view error
 
 -- ---- chunks
 abbrev user_data : Known (Struct (struct.shape Data.the_type))
-user_data = fields Data.the_type (stream_key & ssn & mid & fields Fsn.the_type (uint_known w32 & tt) & fields PpId.the_type (uint_known w32 & tt) & bytes & nothing_known _ & nothing_known _ & tt)
+user_data = fields Data.the_type (bytes & mid & fields Fsn.the_type (uint_known w32 & tt) & fields PpId.the_type (uint_known w32 & tt) & stream_key & ssn & nothing_known _ & nothing_known _ & tt)
 
 abbrev skipped_stream : Known SkippedStream.the_row
 skipped_stream = declared_enum_known SkippedStream.the_type ((stream_id & ssn & tt) & (stream_key & mid & tt) & tt)
@@ -255,7 +255,7 @@ block = declared_known GapAckBlock.the_type (uint_known w16 & uint_known w16 & t
 
 abbrev chunk : Known Chunk.the_row
 chunk = declared_enum_known Chunk.the_type (
-    one (fields DataChunk.the_type (tsn & user_data & nothing_known _ & tt)) &
+    one (fields DataChunk.the_type (user_data & tsn & nothing_known _ & tt)) &
     one (fields InitChunk.the_type (uint_known w32 & uint_known w32 & uint_known w16 & uint_known w16 & tsn & parameter_list & tt)) &
     one (fields InitAckChunk.the_type (uint_known w32 & uint_known w32 & uint_known w16 & uint_known w16 & tsn & parameter_list & tt)) &
     one (fields SackChunk.the_type (tsn & uint_known w32 & vec block & vec tsn_item & tt)) &
@@ -270,15 +270,15 @@ chunk = declared_enum_known Chunk.the_type (
     one (nothing_known _) &
     one (fields ReConfigChunk.the_type (parameter_list & tt)) &
     one (fields ForwardTsnChunk.the_type (tsn & skipped_streams & tt)) &
-    one (fields IDataChunk.the_type (tsn & user_data & nothing_known _ & tt)) &
+    one (fields IDataChunk.the_type (user_data & tsn & nothing_known _ & tt)) &
     one (fields IForwardTsnChunk.the_type (tsn & skipped_streams & tt)) &
     one (fields UnknownChunk.the_type (uint_known w8 & uint_known w8 & bytes & tt)) & tt)
 
 user_data_width : (n : ℕ) → n < 2 ^ 32 → (d : (Data.the_row).Denot) (at_once : Bool) → user_data.Fact ((Data.the_type).to d) → IsUserDataInWidth (record { tsn = n; user_data = user_data_view d; immediate_ack = at_once })
-user_data_width n low d at_once f = record { tsn = low; stream = stream_width d.stream_key f.0; ssn = f.1.0.0; mid = f.1.1.0.0; fsn = f.1.1.1.0.0; ppid = f.1.1.1.1.0.0; payload = bytes_width d.payload.items f.1.1.1.1.1.0 }
+user_data_width n low d at_once f = record { tsn = low; stream = stream_width d.stream_key f.1.1.1.1.0; ssn = f.1.1.1.1.1.0.0; mid = f.1.0.0; fsn = f.1.1.0.0; ppid = f.1.1.1.0.0; payload = bytes_width d.payload.items f.0 }
 
 chunk_width : (c : (Chunk.the_row).Denot) → chunk.Fact c → IsChunkInWidth (view c)
-chunk_width (kinds.Data c) f = user_data_width c.tsn.0 f.0.0.0 c.user_data c.immediate_ack f.0.1.0
+chunk_width (kinds.Data c) f = user_data_width c.tsn.0 f.0.1.0.0 c.user_data c.immediate_ack f.0.0
 chunk_width (kinds.Init c) f = record { tag = f.0.0; window = f.0.1.0; outbound = f.0.1.1.0; inbound = f.0.1.1.1.0; tsn = f.0.1.1.1.1.0.0; each = parameters_width c.parameters.items f.0.1.1.1.1.1.0 }
 chunk_width (kinds.InitAck c) f = record { tag = f.0.0; window = f.0.1.0; outbound = f.0.1.1.0; inbound = f.0.1.1.1.0; tsn = f.0.1.1.1.1.0.0; each = parameters_width c.parameters.items f.0.1.1.1.1.1.0 }
 chunk_width (kinds.Sack c) f = record { tsn = f.0.0.0; a_rwnd = f.0.1.0; blocks = every block.Fact IsBlockInWidth (λ b w. record { start = w.0; end = w.1.0 }) c.gap_ack_blocks.items f.0.1.1.0; duplicates = tsns_width c.duplicate_tsns.items f.0.1.1.1.0 }
@@ -293,13 +293,13 @@ chunk_width (kinds.CookieAck c) f = tt
 chunk_width (kinds.ShutdownComplete c) f = tt
 chunk_width (kinds.ReConfig c) f = parameters_width c.parameters.items f.0.0
 chunk_width (kinds.ForwardTsn c) f = record { tsn = f.0.0.0; streams = skipped_streams_width c.skipped_streams.items f.0.1.0 }
-chunk_width (kinds.IData c) f = user_data_width c.tsn.0 f.0.0.0 c.user_data c.immediate_ack f.0.1.0
+chunk_width (kinds.IData c) f = user_data_width c.tsn.0 f.0.1.0.0 c.user_data c.immediate_ack f.0.0
 chunk_width (kinds.IForwardTsn c) f = record { tsn = f.0.0.0; streams = skipped_streams_width c.skipped_streams.items f.0.1.0 }
 chunk_width (kinds.Unknown c) f = (f.0.0, f.0.1.0, bytes_width c.value.items f.0.1.1.0)
 
 -- ---- the packet
 abbrev pub packet : Known SctpPacket.the_row
-packet = declared_known SctpPacket.the_type (fields CommonHeader.the_type (uint_known w16 & uint_known w16 & uint_known w32 & uint_known w32 & tt) & vec chunk & tt)
+packet = declared_known SctpPacket.the_type (vec chunk & fields CommonHeader.the_type (uint_known w16 & uint_known w16 & uint_known w32 & uint_known w32 & tt) & tt)
 
 pub packet_width : (p : (SctpPacket.the_row).Denot) → packet.Fact p → IsInWidth (meaning_view p)
-packet_width p f = record { source = f.0.0; destination = f.0.1.0; tag = f.0.1.1.0; each = each chunk.Fact IsChunkInWidth view chunk_width p.chunks.items f.1.0 }
+packet_width p f = record { source = f.1.0.0; destination = f.1.0.1.0; tag = f.1.0.1.1.0; each = each chunk.Fact IsChunkInWidth view chunk_width p.chunks.items f.0 }

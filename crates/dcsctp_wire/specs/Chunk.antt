@@ -1,6 +1,5 @@
 -- The table of chunks (RFC 9260 section 3.2): a line for each kind in each definition.
-use Rattle.std.specs.Prelude.{◌≡◌, ℕ, Bool, List, [], ◌∷◌, ◌==◌, length, map, codes}
-use Rattle.std.specs.List.{list_any}
+use Rattle.std.specs.Prelude.{◌≡◌, ◌⊎◌, ℕ, Bool, List, [], ◌∷◌, ◌==◌, length, drop, map, codes}
 use Rattle.std.specs.Int.{w32, to_be_bytes}
 use Rattle.dcsctp_tlv.specs.Frame.{lenient}
 use Rattle.dcsctp_tlv.specs.Level.{Row, plain, as_row, pick, Level, map_ok}
@@ -75,9 +74,12 @@ chunk_row typ flags =
 abbrev pub chunks : Level ChunkTree
 chunks = record { row = chunk_row; padding = lenient }
 
--- the types whose value holds a list of parameters or error causes
-abbrev pub holds_list : ℕ → Bool
-holds_list typ = list_any (λ listed. typ == listed) (1 ∷ 2 ∷ 4 ∷ 5 ∷ 6 ∷ 9 ∷ 130 ∷ [])
+-- What the value means holds nothing on the heap: a kind of fixed size, or an empty list.
+abbrev pub TakesNoMemory : ℕ → List ℕ → Type 0
+TakesNoMemory typ value =
+    ((typ ≡ 7) ⊎ (typ ≡ 8) ⊎ (typ ≡ 11) ⊎ (typ ≡ 14))
+    ⊎ (((typ ≡ 1) ⊎ (typ ≡ 2)) × (drop 16 value ≡ []))
+    ⊎ (((typ ≡ 4) ⊎ (typ ≡ 5) ⊎ (typ ≡ 6) ⊎ (typ ≡ 130)) × (value ≡ []))
 
 -- how each is written
 abbrev pub chunk_tlv : ChunkTree → Tlv

@@ -1,6 +1,6 @@
 -- INIT and INIT ACK (RFC 9260 sections 3.3.2 and 3.3.3): types 1 and 2, flags ignored; sixteen bytes
 -- of numbers, and behind them parameters.
-use Rattle.std.specs.Prelude.{ℕ, ◌<◌, ◌^◌, List, ◌++◌, length, drop, codes, nat_le}
+use Rattle.std.specs.Prelude.{ℕ, ◌+◌, ◌<◌, ◌^◌, List, ◌++◌, length, drop, codes, nat_le}
 use Rattle.std.specs.List.{AllByRecursion}
 use Rattle.std.specs.Fmt.{decimal}
 use Rattle.std.specs.Int.{w16, w32, to_be_bytes}
@@ -34,6 +34,10 @@ init_of value ps = record {
 
 abbrev pub init_row : Row InitTree
 init_row = listed (λ value. nat_le 16 (length value)) 16 parameters init_of
+
+-- the chunk and its parameters
+abbrev pub init_parts : InitTree → ℕ
+init_parts i = 1 + length i.parameters
 
 abbrev pub init_numbers : InitTree → List ℕ
 init_numbers i = to_be_bytes w32 i.tag ++ (to_be_bytes w32 i.window ++ (to_be_bytes w16 i.outbound ++ (to_be_bytes w16 i.inbound ++ to_be_bytes w32 i.tsn)))

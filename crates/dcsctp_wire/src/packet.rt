@@ -9,6 +9,7 @@ pub mod heartbeat_request_chunk;
 mod init;
 pub mod init_ack_chunk;
 pub mod init_chunk;
+mod parameter_list;
 pub mod re_config_chunk;
 pub mod sctp_packet;
 

@@ -10,21 +10,22 @@
 //! +-+-+-+-+-+-+-+-+-+-+-+-+-+-+-+-+-+-+-+-+-+-+-+-+-+-+-+-+-+-+-+-+
 //! ```
 
-ghost use Rattle.std.specs.Prelude.{◌≡◌, ◌≢◌, ◌↔◌, [], ◌∷◌, false, Some, IsErrOf};
+ghost use Rattle.std.specs.Prelude.{◌≡◌, ◌≢◌, ◌↔◌, ◌≤◌, ◌+◌, ◌*◌, ℕ, [], ◌∷◌, false, length, Some, IsOk, IfOk, IsErrOf};
 ghost use Rattle.dcsctp_tlv.specs.Image.{IsEncodable};
-ghost use Rattle.dcsctp_tlv.specs.Reading.{Answers};
+ghost use Rattle.dcsctp_tlv.specs.Level.{HasMeaning, MeansParts};
+ghost use Rattle.dcsctp_tlv.specs.Reading.{Answers, Finds};
 ghost use Rattle.dcsctp_tlv.proofs.Listed.{length-listed_tlv};
 ghost use Rattle.dcsctp_cause.specs.Cause.{cause_tlv, length-cause};
 ghost use Rattle.dcsctp_chunk.specs.Flags.{flag_byte};
 ghost use Rattle.dcsctp_wire.specs.CauseList.{abort_row, abort_tlv, abort_text, abort_view};
 
-use dcsctp_cause::error_causes::{ErrorCause, error_cause_from_bytes};
+use dcsctp_cause::error_causes::{ErrorCause, error_cause_build, error_cause_check};
 use dcsctp_chunk::flags::{is_set, one_flag};
 use dcsctp_chunk::raw_chunk::RawChunk;
 use dcsctp_tlv::error::ChunkParseError;
 use dcsctp_tlv::list::{listed_encodable, listed_size, put_listed};
 use dcsctp_tlv::tlv::SerializableTlv;
-use std::alloc::Global;
+use std::alloc::{AllocError, Global};
 use std::fmt;
 
 /// The type of ABORT.
@@ -54,17 +55,38 @@ impl AbortChunk {
     /// Reads the chunk and its causes, if it has any; flags but the T bit are ignored.
     ///
     /// `InvalidType` exactly for another type; else the first fault of the causes from the left;
-    /// or `OutOfMemory`.
+    /// `OutOfMemory` only where there is none, and there are causes.
     pub fn try_from(alloc: Global, raw: RawChunk) -> Result<Self, ChunkParseError>
         ensures other { IsErrOf result ChunkParseError.InvalidType ↔ (raw.entry.typ ≢ CHUNK_TYPE) }
         ensures own { raw.entry.typ ≡ CHUNK_TYPE → Answers result (λ c. (abort_row raw.entry.flags).means raw.entry.value.now (abort_view c)) ((abort_row raw.entry.flags).faults raw.entry.value.now) }
+        ensures memory { IsErrOf result ChunkParseError.OutOfMemory → HasMeaning (abort_row raw.entry.flags) raw.entry.value.now × (raw.entry.value.now ≢ []) }
     {
         if raw.typ != CHUNK_TYPE {
             return Err(ChunkParseError::InvalidType);
         }
+        AbortChunk::check(raw.value)?;
+        Ok(AbortChunk::build(alloc, raw.flags, raw.value)?)
+    }
+
+    /// The number of parts: the chunk and its causes; or the first fault of these from the left. It
+    /// takes no memory.
+    pub(crate) fn check(value: &[u8]) -> Result<usize, ChunkParseError>
+        ensures found { (flags : ℕ) → Finds result (MeansParts (λ a. 1 + length a.causes) (abort_row flags) value.now) ((abort_row flags).faults value.now) }
+        ensures few { IfOk result (λ n. 4 * n ≤ 4 + length value.now) }
+    {
+        let count = error_cause_check(value)?;
+        Ok(1 + count)
+    }
+
+    /// What the value means, under these flags.
+    pub(crate) fn build(alloc: Global, flags: u8, value: &[u8]) -> Result<Self, AllocError>
+        requires { HasMeaning (abort_row flags) value.now }
+        ensures meant { IfOk result (λ c. (abort_row flags).means value.now (abort_view c)) }
+        ensures empty { value.now ≡ [] → IsOk result }
+    {
         Ok(AbortChunk {
-            tag_reflected: is_set(raw.flags, 0),
-            error_causes: error_cause_from_bytes(alloc, raw.value)?,
+            tag_reflected: is_set(flags, 0),
+            error_causes: error_cause_build(alloc, value)?,
         })
     }
 }

@@ -1,9 +1,10 @@
 //! A chunk of any kind.
 
-ghost use Rattle.std.specs.Prelude.{◌≡◌, false, Some, IsErrOf, refl};
+ghost use Rattle.std.specs.Prelude.{[], Some, IsOk, IfOk, IsErrOf, refl};
 ghost use Rattle.dcsctp_tlv.specs.Level.{HasMeaning};
-ghost use Rattle.dcsctp_tlv.specs.Reading.{Answers};
-ghost use Rattle.dcsctp_wire.specs.Chunk.{ChunkTree, chunk_row, chunks, holds_list, chunk_tlv, IsChunkEncodable, chunk_text, view, encodable_size, length-chunk};
+ghost use Rattle.dcsctp_tlv.specs.Reading.{Answers, ReadsExactly};
+ghost use Rattle.dcsctp_wire.specs.Account.{chunk_parts};
+ghost use Rattle.dcsctp_wire.specs.Chunk.{ChunkTree, chunk_row, chunks, TakesNoMemory, chunk_tlv, IsChunkEncodable, chunk_text, view, encodable_size, length-chunk};
 
 use crate::packet::abort_chunk::{self, AbortChunk};
 use crate::packet::cookie_ack_chunk::{self, CookieAckChunk};
@@ -15,19 +16,22 @@ use crate::packet::heartbeat_ack_chunk::{self, HeartbeatAckChunk};
 use crate::packet::heartbeat_request_chunk::{self, HeartbeatRequestChunk};
 use crate::packet::idata_chunk::{self, IDataChunk};
 use crate::packet::iforward_tsn_chunk::{self, IForwardTsnChunk};
+use crate::packet::init::init_check;
 use crate::packet::init_ack_chunk::{self, InitAckChunk};
 use crate::packet::init_chunk::{self, InitChunk};
+use crate::packet::parameter_list::parameter_list_check;
 use crate::packet::re_config_chunk::{self, ReConfigChunk};
 use crate::packet::sack_chunk::{self, SackChunk};
 use crate::packet::shutdown_ack_chunk::{self, ShutdownAckChunk};
 use crate::packet::shutdown_chunk::{self, ShutdownChunk};
 use crate::packet::shutdown_complete_chunk::{self, ShutdownCompleteChunk};
 use crate::packet::unknown_chunk::UnknownChunk;
+pub use dcsctp_chunk::plain_check::plain_check;
 pub use dcsctp_chunk::raw_chunk::{RawChunk, write_chunk_header};
 use dcsctp_tlv::error::ChunkParseError;
 use dcsctp_tlv::reader::ReadableTlv;
 use dcsctp_tlv::tlv::SerializableTlv;
-use std::alloc::Global;
+use std::alloc::{AllocError, Global};
 use std::fmt;
 
 /// A chunk of any kind (RFC 9260 section 3.2); a type without a kind of its own is `Unknown`.
@@ -57,46 +61,69 @@ impl Chunk {
     /// Reads a chunk as its type says.
     ///
     /// `InvalidLength` where the value has a size that its kind doesn't allow; else the first
-    /// fault of the list that it holds, if it holds one. `OutOfMemory` where what it holds can't be
-    /// copied: of a kind without a list, only where the value has a meaning. `InvalidType` is never
-    /// answered.
+    /// fault of the list that it holds, if it holds one. `OutOfMemory` only where the value has a
+    /// meaning, and what it holds can't be copied; never where it holds nothing on the heap.
+    /// `InvalidType` is never answered.
     pub fn try_from(alloc: Global, raw: RawChunk) -> Result<Self, ChunkParseError>
         ensures answer { Answers result (λ c. (chunk_row raw.entry.typ raw.entry.flags).means raw.entry.value.now (view c))
             ((chunk_row raw.entry.typ raw.entry.flags).faults raw.entry.value.now) }
-        ensures memory { holds_list raw.entry.typ ≡ false → IsErrOf result ChunkParseError.OutOfMemory →
+        ensures memory { IsErrOf result ChunkParseError.OutOfMemory →
             HasMeaning (chunk_row raw.entry.typ raw.entry.flags) raw.entry.value.now }
+        ensures exact { ReadsExactly result view ((chunk_row raw.entry.typ raw.entry.flags).means raw.entry.value.now)
+            ((chunk_row raw.entry.typ raw.entry.flags).faults raw.entry.value.now) }
+        ensures heap { TakesNoMemory raw.entry.typ raw.entry.value.now → ¬ IsErrOf result ChunkParseError.OutOfMemory }
     {
-        Ok(match raw.typ {
-            data_chunk::CHUNK_TYPE => Chunk::Data(DataChunk::try_from(alloc, raw)?),
-            init_chunk::CHUNK_TYPE => Chunk::Init(InitChunk::try_from(alloc, raw)?),
-            init_ack_chunk::CHUNK_TYPE => Chunk::InitAck(InitAckChunk::try_from(alloc, raw)?),
-            sack_chunk::CHUNK_TYPE => Chunk::Sack(SackChunk::try_from(alloc, raw)?),
+        Chunk::read(alloc, raw.typ, raw.flags, raw.value)
+    }
+
+    /// Checks a chunk's value, and builds what it means.
+    fn read(alloc: Global, typ: u8, flags: u8, value: &[u8]) -> Result<Self, ChunkParseError>
+        ensures answer { Answers result (λ c. (chunk_row typ flags).means value.now (view c)) ((chunk_row typ flags).faults value.now) }
+        ensures memory { IsErrOf result ChunkParseError.OutOfMemory → HasMeaning (chunk_row typ flags) value.now }
+        ensures exact { ReadsExactly result view ((chunk_row typ flags).means value.now) ((chunk_row typ flags).faults value.now) }
+        ensures heap { TakesNoMemory typ value.now → ¬ IsErrOf result ChunkParseError.OutOfMemory }
+    {
+        Chunk::check(typ, flags, value)?;
+        Ok(Chunk::build(alloc, typ, flags, value)?)
+    }
+
+    /// What the value means.
+    fn build(alloc: Global, typ: u8, flags: u8, value: &[u8]) -> Result<Self, AllocError>
+        requires { HasMeaning (chunk_row typ flags) value.now }
+        ensures meant { IfOk result (λ c. (chunk_row typ flags).means value.now (view c)) }
+        ensures heap { TakesNoMemory typ value.now → IsOk result }
+    {
+        Ok(match typ {
+            data_chunk::CHUNK_TYPE => Chunk::Data(DataChunk::build(alloc, flags, value)?),
+            init_chunk::CHUNK_TYPE => Chunk::Init(InitChunk::build(alloc, value)?),
+            init_ack_chunk::CHUNK_TYPE => Chunk::InitAck(InitAckChunk::build(alloc, value)?),
+            sack_chunk::CHUNK_TYPE => Chunk::Sack(SackChunk::build(alloc, value)?),
             heartbeat_request_chunk::CHUNK_TYPE => Chunk::HeartbeatRequest(
-                HeartbeatRequestChunk::try_from(alloc, raw)?,
+                HeartbeatRequestChunk::build(alloc, value)?,
             ),
-            heartbeat_ack_chunk::CHUNK_TYPE => Chunk::HeartbeatAck(HeartbeatAckChunk::try_from(
-                alloc, raw,
+            heartbeat_ack_chunk::CHUNK_TYPE => Chunk::HeartbeatAck(HeartbeatAckChunk::build(
+                alloc, value,
             )?),
-            abort_chunk::CHUNK_TYPE => Chunk::Abort(AbortChunk::try_from(alloc, raw)?),
-            shutdown_chunk::CHUNK_TYPE => Chunk::Shutdown(ShutdownChunk::try_from(raw)?),
-            shutdown_ack_chunk::CHUNK_TYPE => Chunk::ShutdownAck(ShutdownAckChunk::try_from(raw)?),
-            error_chunk::CHUNK_TYPE => Chunk::Error(ErrorChunk::try_from(alloc, raw)?),
-            cookie_echo_chunk::CHUNK_TYPE => Chunk::CookieEcho(CookieEchoChunk::try_from(
-                alloc, raw,
+            abort_chunk::CHUNK_TYPE => Chunk::Abort(AbortChunk::build(alloc, flags, value)?),
+            shutdown_chunk::CHUNK_TYPE => Chunk::Shutdown(ShutdownChunk::build(value)),
+            shutdown_ack_chunk::CHUNK_TYPE => Chunk::ShutdownAck(ShutdownAckChunk),
+            error_chunk::CHUNK_TYPE => Chunk::Error(ErrorChunk::build(alloc, value)?),
+            cookie_echo_chunk::CHUNK_TYPE => Chunk::CookieEcho(CookieEchoChunk::build(
+                alloc, value,
             )?),
-            cookie_ack_chunk::CHUNK_TYPE => Chunk::CookieAck(CookieAckChunk::try_from(raw)?),
+            cookie_ack_chunk::CHUNK_TYPE => Chunk::CookieAck(CookieAckChunk),
             shutdown_complete_chunk::CHUNK_TYPE => Chunk::ShutdownComplete(
-                ShutdownCompleteChunk::try_from(raw)?,
+                ShutdownCompleteChunk::build(flags),
             ),
-            re_config_chunk::CHUNK_TYPE => Chunk::ReConfig(ReConfigChunk::try_from(alloc, raw)?),
-            idata_chunk::CHUNK_TYPE => Chunk::IData(IDataChunk::try_from(alloc, raw)?),
-            forward_tsn_chunk::CHUNK_TYPE => Chunk::ForwardTsn(ForwardTsnChunk::try_from(
-                alloc, raw,
+            re_config_chunk::CHUNK_TYPE => Chunk::ReConfig(ReConfigChunk::build(alloc, value)?),
+            idata_chunk::CHUNK_TYPE => Chunk::IData(IDataChunk::build(alloc, flags, value)?),
+            forward_tsn_chunk::CHUNK_TYPE => Chunk::ForwardTsn(ForwardTsnChunk::build(
+                alloc, value,
             )?),
-            iforward_tsn_chunk::CHUNK_TYPE => Chunk::IForwardTsn(IForwardTsnChunk::try_from(
-                alloc, raw,
+            iforward_tsn_chunk::CHUNK_TYPE => Chunk::IForwardTsn(IForwardTsnChunk::build(
+                alloc, value,
             )?),
-            _ => Chunk::Unknown(UnknownChunk::try_from(alloc, raw)?),
+            _ => Chunk::Unknown(UnknownChunk::build(alloc, typ, flags, value)?),
         })
     }
 }
@@ -108,15 +135,113 @@ impl ReadableTlv for Chunk {
 
     ghost view = { view };
 
-    fn read(alloc: Global, first: u8, second: u8, value: &[u8]) -> Result<Self, ChunkParseError> {
-        Chunk::try_from(
-            alloc,
-            RawChunk {
-                typ: first,
-                flags: second,
-                value,
-            },
-        )
+    ghost parts = { chunk_parts };
+
+    fn check(first: u8, second: u8, value: &[u8]) -> Result<usize, ChunkParseError> {
+        match first {
+            init_chunk::CHUNK_TYPE => init_check(value),
+            init_ack_chunk::CHUNK_TYPE => init_check(value),
+            heartbeat_request_chunk::CHUNK_TYPE => parameter_list_check(value),
+            heartbeat_ack_chunk::CHUNK_TYPE => parameter_list_check(value),
+            abort_chunk::CHUNK_TYPE => AbortChunk::check(value),
+            error_chunk::CHUNK_TYPE => ErrorChunk::check(value),
+            re_config_chunk::CHUNK_TYPE => parameter_list_check(value),
+            _ => {
+                plain_check(RawChunk {
+                    typ: first,
+                    flags: second,
+                    value,
+                })?;
+                Ok(1)
+            }
+        }
+    }
+
+    fn read_onto(
+        list: &mut Vec<Self>,
+        alloc: Global,
+        first: u8,
+        second: u8,
+        value: &[u8],
+    ) -> Result<(), AllocError> {
+        match first {
+            data_chunk::CHUNK_TYPE => {
+                list.push_reserved(Chunk::Data(DataChunk::build(alloc, second, value)?));
+                Ok(())
+            }
+            init_chunk::CHUNK_TYPE => {
+                list.push_reserved(Chunk::Init(InitChunk::build(alloc, value)?));
+                Ok(())
+            }
+            init_ack_chunk::CHUNK_TYPE => {
+                list.push_reserved(Chunk::InitAck(InitAckChunk::build(alloc, value)?));
+                Ok(())
+            }
+            sack_chunk::CHUNK_TYPE => {
+                list.push_reserved(Chunk::Sack(SackChunk::build(alloc, value)?));
+                Ok(())
+            }
+            heartbeat_request_chunk::CHUNK_TYPE => {
+                list.push_reserved(Chunk::HeartbeatRequest(HeartbeatRequestChunk::build(
+                    alloc, value,
+                )?));
+                Ok(())
+            }
+            heartbeat_ack_chunk::CHUNK_TYPE => {
+                list.push_reserved(Chunk::HeartbeatAck(HeartbeatAckChunk::build(alloc, value)?));
+                Ok(())
+            }
+            abort_chunk::CHUNK_TYPE => {
+                list.push_reserved(Chunk::Abort(AbortChunk::build(alloc, second, value)?));
+                Ok(())
+            }
+            shutdown_chunk::CHUNK_TYPE => {
+                list.push_reserved(Chunk::Shutdown(ShutdownChunk::build(value)));
+                Ok(())
+            }
+            shutdown_ack_chunk::CHUNK_TYPE => {
+                list.push_reserved(Chunk::ShutdownAck(ShutdownAckChunk));
+                Ok(())
+            }
+            error_chunk::CHUNK_TYPE => {
+                list.push_reserved(Chunk::Error(ErrorChunk::build(alloc, value)?));
+                Ok(())
+            }
+            cookie_echo_chunk::CHUNK_TYPE => {
+                list.push_reserved(Chunk::CookieEcho(CookieEchoChunk::build(alloc, value)?));
+                Ok(())
+            }
+            cookie_ack_chunk::CHUNK_TYPE => {
+                list.push_reserved(Chunk::CookieAck(CookieAckChunk));
+                Ok(())
+            }
+            shutdown_complete_chunk::CHUNK_TYPE => {
+                list.push_reserved(Chunk::ShutdownComplete(ShutdownCompleteChunk::build(second)));
+                Ok(())
+            }
+            re_config_chunk::CHUNK_TYPE => {
+                list.push_reserved(Chunk::ReConfig(ReConfigChunk::build(alloc, value)?));
+                Ok(())
+            }
+            idata_chunk::CHUNK_TYPE => {
+                list.push_reserved(Chunk::IData(IDataChunk::build(alloc, second, value)?));
+                Ok(())
+            }
+            forward_tsn_chunk::CHUNK_TYPE => {
+                list.push_reserved(Chunk::ForwardTsn(ForwardTsnChunk::build(alloc, value)?));
+                Ok(())
+            }
+            iforward_tsn_chunk::CHUNK_TYPE => {
+                list.push_reserved(Chunk::IForwardTsn(IForwardTsnChunk::build(alloc, value)?));
+                Ok(())
+            }
+            _ => {
+                list.push_reserved(Chunk::Unknown(UnknownChunk::build(
+                    alloc, first, second, value,
+                )?));
+                Ok(())
+            }
+        }
     }
 
     ghost ignores_padding = { λ size there. refl };

@@ -10,19 +10,20 @@
 //! +-+-+-+-+-+-+-+-+-+-+-+-+-+-+-+-+-+-+-+-+-+-+-+-+-+-+-+-+-+-+-+-+
 //! ```
 
-ghost use Rattle.std.specs.Prelude.{◌≡◌, ◌≢◌, ◌↔◌, [], Some, IsErrOf};
+ghost use Rattle.std.specs.Prelude.{◌≡◌, ◌≢◌, ◌↔◌, ◌≤◌, ◌+◌, ◌*◌, [], length, Some, IfOk, IsErrOf};
 ghost use Rattle.dcsctp_tlv.specs.Image.{IsEncodable};
-ghost use Rattle.dcsctp_tlv.specs.Reading.{Answers};
+ghost use Rattle.dcsctp_tlv.specs.Level.{HasMeaning, MeansParts};
+ghost use Rattle.dcsctp_tlv.specs.Reading.{Answers, Finds};
 ghost use Rattle.dcsctp_tlv.proofs.Listed.{length-listed_tlv};
 ghost use Rattle.dcsctp_cause.specs.Cause.{cause_tlv, length-cause};
 ghost use Rattle.dcsctp_wire.specs.CauseList.{error_row, error_tlv, error_text, error_view};
 
-use dcsctp_cause::error_causes::{ErrorCause, error_cause_from_bytes};
+use dcsctp_cause::error_causes::{ErrorCause, error_cause_build, error_cause_check};
 use dcsctp_chunk::raw_chunk::RawChunk;
 use dcsctp_tlv::error::ChunkParseError;
 use dcsctp_tlv::list::{listed_encodable, listed_size, put_listed};
 use dcsctp_tlv::tlv::SerializableTlv;
-use std::alloc::Global;
+use std::alloc::{AllocError, Global};
 use std::fmt;
 
 /// The type of ERROR.
@@ -52,19 +53,39 @@ impl ErrorChunk {
     /// Reads the chunk and its causes; flags are ignored.
     ///
     /// `InvalidType` exactly for another type; `InvalidLength` where there are no causes; else the
-    /// first fault of the causes from the left; or `OutOfMemory`.
+    /// first fault of the causes from the left; `OutOfMemory` only where there is none.
     pub fn try_from(alloc: Global, raw: RawChunk) -> Result<Self, ChunkParseError>
         ensures other { IsErrOf result ChunkParseError.InvalidType ↔ (raw.entry.typ ≢ CHUNK_TYPE) }
         ensures own { raw.entry.typ ≡ CHUNK_TYPE → Answers result (λ c. error_row.means raw.entry.value.now (error_view c)) (error_row.faults raw.entry.value.now) }
+        ensures memory { IsErrOf result ChunkParseError.OutOfMemory → HasMeaning error_row raw.entry.value.now }
     {
         if raw.typ != CHUNK_TYPE {
             return Err(ChunkParseError::InvalidType);
         }
-        if raw.value.is_empty() {
+        ErrorChunk::check(raw.value)?;
+        Ok(ErrorChunk::build(alloc, raw.value)?)
+    }
+
+    /// The number of parts: the chunk and its causes. `InvalidLength` where there are no causes; else
+    /// the first fault of these from the left. It takes no memory.
+    pub(crate) fn check(value: &[u8]) -> Result<usize, ChunkParseError>
+        ensures found { Finds result (MeansParts (λ cs. 1 + length cs) error_row value.now) (error_row.faults value.now) }
+        ensures few { IfOk result (λ n. 4 * n ≤ 4 + length value.now) }
+    {
+        if value.is_empty() {
             return Err(ChunkParseError::InvalidLength);
         }
+        let count = error_cause_check(value)?;
+        Ok(1 + count)
+    }
+
+    /// What the value means.
+    pub(crate) fn build(alloc: Global, value: &[u8]) -> Result<Self, AllocError>
+        requires { HasMeaning error_row value.now }
+        ensures { IfOk result (λ c. error_row.means value.now (error_view c)) }
+    {
         Ok(ErrorChunk {
-            error_causes: error_cause_from_bytes(alloc, raw.value)?,
+            error_causes: error_cause_build(alloc, value)?,
         })
     }
 }

@@ -10,19 +10,21 @@
 //! +-+-+-+-+-+-+-+-+-+-+-+-+-+-+-+-+-+-+-+-+-+-+-+-+-+-+-+-+-+-+-+-+
 //! ```
 
-ghost use Rattle.std.specs.Prelude.{◌≡◌, ◌≢◌, ◌↔◌, [], Some, IsErrOf};
+ghost use Rattle.std.specs.Prelude.{◌≡◌, ◌≢◌, ◌↔◌, [], Some, IsOk, IfOk, IsErrOf};
 ghost use Rattle.dcsctp_tlv.specs.Image.{IsEncodable};
 ghost use Rattle.dcsctp_tlv.specs.Parameter.{parameter_tlv, length-parameter};
+ghost use Rattle.dcsctp_tlv.specs.Level.{HasMeaning};
 ghost use Rattle.dcsctp_tlv.specs.Reading.{Answers};
 ghost use Rattle.dcsctp_tlv.proofs.Listed.{length-listed_tlv};
 ghost use Rattle.dcsctp_wire.specs.ParameterList.{parameter_list_row, parameter_list_tlv, heartbeat_ack_text, heartbeat_ack_view};
 
+use crate::packet::parameter_list::parameter_list_check;
 use dcsctp_chunk::raw_chunk::RawChunk;
 use dcsctp_tlv::error::ChunkParseError;
 use dcsctp_tlv::list::{listed_encodable, listed_size, put_listed};
-use dcsctp_tlv::parameter::{Parameter, parameters_from_bytes};
+use dcsctp_tlv::parameter::{Parameter, parameters_build};
 use dcsctp_tlv::tlv::SerializableTlv;
-use std::alloc::Global;
+use std::alloc::{AllocError, Global};
 use std::fmt;
 
 /// The type of HEARTBEAT ACK.
@@ -50,16 +52,27 @@ impl HeartbeatAckChunk {
     /// Reads the chunk and its parameters, if it has any; flags are ignored.
     ///
     /// `InvalidType` exactly for another type; else the first fault of the parameters from the
-    /// left; or `OutOfMemory`.
+    /// left; `OutOfMemory` only where there is none, and there are parameters.
     pub fn try_from(alloc: Global, raw: RawChunk) -> Result<Self, ChunkParseError>
         ensures other { IsErrOf result ChunkParseError.InvalidType ↔ (raw.entry.typ ≢ CHUNK_TYPE) }
         ensures own { raw.entry.typ ≡ CHUNK_TYPE → Answers result (λ c. parameter_list_row.means raw.entry.value.now (heartbeat_ack_view c)) (parameter_list_row.faults raw.entry.value.now) }
+        ensures memory { IsErrOf result ChunkParseError.OutOfMemory → HasMeaning parameter_list_row raw.entry.value.now × (raw.entry.value.now ≢ []) }
     {
         if raw.typ != CHUNK_TYPE {
             return Err(ChunkParseError::InvalidType);
         }
+        parameter_list_check(raw.value)?;
+        Ok(HeartbeatAckChunk::build(alloc, raw.value)?)
+    }
+
+    /// What the value means.
+    pub(crate) fn build(alloc: Global, value: &[u8]) -> Result<Self, AllocError>
+        requires { HasMeaning parameter_list_row value.now }
+        ensures meant { IfOk result (λ c. parameter_list_row.means value.now (heartbeat_ack_view c)) }
+        ensures empty { value.now ≡ [] → IsOk result }
+    {
         Ok(HeartbeatAckChunk {
-            parameters: parameters_from_bytes(alloc, raw.value)?,
+            parameters: parameters_build(alloc, value)?,
         })
     }
 }

@@ -1,14 +1,15 @@
 //! What INIT and INIT ACK have in common.
 
-ghost use Rattle.std.specs.Prelude.{◌≡◌, []};
-ghost use Rattle.dcsctp_tlv.specs.Reading.{Answers};
-ghost use Rattle.dcsctp_wire.specs.Init.{init_row, init_numbers, init_fields_view};
+ghost use Rattle.std.specs.Prelude.{◌≡◌, ◌≤◌, ◌+◌, ◌*◌, [], length, drop, IsOk, IfOk};
+ghost use Rattle.dcsctp_tlv.specs.Level.{HasMeaning, MeansParts};
+ghost use Rattle.dcsctp_tlv.specs.Reading.{Finds};
+ghost use Rattle.dcsctp_wire.specs.Init.{init_row, init_parts, init_numbers, init_fields_view};
 
 use dcsctp_tlv::error::ChunkParseError;
 use dcsctp_tlv::number::{put_u16, put_u32, read_u16_be, read_u32_be};
-use dcsctp_tlv::parameter::{Parameter, parameters_from_bytes};
+use dcsctp_tlv::parameter::{Parameter, parameters_build, parameters_check};
 use dcsctp_types::types::Tsn;
-use std::alloc::Global;
+use std::alloc::{AllocError, Global};
 
 /// The bytes of the value before the parameters.
 pub(crate) const FIXED_SIZE: usize = 16;
@@ -24,18 +25,26 @@ pub(crate) struct InitFields {
     pub parameters: Vec<Parameter>,
 }
 
-/// Reads the value: `InvalidLength` where it has fewer than 16 bytes; else the first fault of the
-/// parameters from the left; or `OutOfMemory`.
-pub(crate) fn init_fields_from_bytes(
-    alloc: Global,
-    value: &[u8],
-) -> Result<InitFields, ChunkParseError>
-    ensures { Answers result (λ fields. init_row.means value.now (init_fields_view fields)) (init_row.faults value.now) }
+/// The number of parts: the chunk and its parameters. `InvalidLength` where the value has fewer than
+/// 16 bytes; else the first fault of the parameters from the left. It takes no memory.
+pub(crate) fn init_check(value: &[u8]) -> Result<usize, ChunkParseError>
+    ensures found { Finds result (MeansParts init_parts init_row value.now) (init_row.faults value.now) }
+    ensures few { IfOk result (λ n. 4 * n ≤ 4 + length value.now) }
 {
     if value.len() < FIXED_SIZE {
         return Err(ChunkParseError::InvalidLength);
     }
-    let parameters = parameters_from_bytes(alloc, &value[FIXED_SIZE..])?;
+    let count = parameters_check(&value[FIXED_SIZE..])?;
+    Ok(1 + count)
+}
+
+/// What the value means.
+pub(crate) fn init_build(alloc: Global, value: &[u8]) -> Result<InitFields, AllocError>
+    requires { HasMeaning init_row value.now }
+    ensures meant { IfOk result (λ fields. init_row.means value.now (init_fields_view fields)) }
+    ensures empty { drop 16 value.now ≡ [] → IsOk result }
+{
+    let parameters = parameters_build(alloc, &value[FIXED_SIZE..])?;
     Ok(InitFields {
         initiate_tag: read_u32_be(value),
         a_rwnd: read_u32_be(&value[4..]),

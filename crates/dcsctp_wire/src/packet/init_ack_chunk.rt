@@ -18,21 +18,22 @@
 //! +-+-+-+-+-+-+-+-+-+-+-+-+-+-+-+-+-+-+-+-+-+-+-+-+-+-+-+-+-+-+-+-+
 //! ```
 
-ghost use Rattle.std.specs.Prelude.{◌≡◌, ◌≢◌, ◌↔◌, Some, IsErrOf, codes};
+ghost use Rattle.std.specs.Prelude.{◌≡◌, ◌≢◌, ◌↔◌, [], drop, Some, IsOk, IfOk, IsErrOf, codes};
 ghost use Rattle.dcsctp_tlv.specs.Image.{IsEncodable};
 ghost use Rattle.dcsctp_tlv.specs.Parameter.{parameter_tlv, length-parameter};
+ghost use Rattle.dcsctp_tlv.specs.Level.{HasMeaning};
 ghost use Rattle.dcsctp_tlv.specs.Reading.{Answers};
 ghost use Rattle.dcsctp_tlv.proofs.Listed.{length-listed_tlv};
 ghost use Rattle.dcsctp_wire.specs.Init.{init_row, init_numbers, init_tlv, init_text, init_ack_view};
 
-use crate::packet::init::{FIXED_SIZE, init_bytes, init_fields_from_bytes};
+use crate::packet::init::{FIXED_SIZE, init_build, init_bytes, init_check};
 use dcsctp_chunk::raw_chunk::RawChunk;
 use dcsctp_tlv::error::ChunkParseError;
 use dcsctp_tlv::list::{listed_encodable, listed_size, put_listed};
 use dcsctp_tlv::parameter::Parameter;
 use dcsctp_tlv::tlv::SerializableTlv;
 use dcsctp_types::types::Tsn;
-use std::alloc::Global;
+use std::alloc::{AllocError, Global};
 use std::fmt;
 
 /// The type of INIT ACK.
@@ -58,15 +59,27 @@ impl InitAckChunk {
     /// Reads the chunk and its parameters; flags are ignored.
     ///
     /// `InvalidType` exactly for another type; `InvalidLength` where the value has fewer than 16
-    /// bytes; else the first fault of the parameters from the left; or `OutOfMemory`.
+    /// bytes; else the first fault of the parameters from the left; `OutOfMemory` only where there is
+    /// none, and there are parameters.
     pub fn try_from(alloc: Global, raw: RawChunk) -> Result<Self, ChunkParseError>
         ensures other { IsErrOf result ChunkParseError.InvalidType ↔ (raw.entry.typ ≢ CHUNK_TYPE) }
         ensures own { raw.entry.typ ≡ CHUNK_TYPE → Answers result (λ c. init_row.means raw.entry.value.now (init_ack_view c)) (init_row.faults raw.entry.value.now) }
+        ensures memory { IsErrOf result ChunkParseError.OutOfMemory → HasMeaning init_row raw.entry.value.now × (drop 16 raw.entry.value.now ≢ []) }
     {
         if raw.typ != CHUNK_TYPE {
             return Err(ChunkParseError::InvalidType);
         }
-        let fields = init_fields_from_bytes(alloc, raw.value)?;
+        init_check(raw.value)?;
+        Ok(InitAckChunk::build(alloc, raw.value)?)
+    }
+
+    /// What the value means.
+    pub(crate) fn build(alloc: Global, value: &[u8]) -> Result<Self, AllocError>
+        requires { HasMeaning init_row value.now }
+        ensures meant { IfOk result (λ c. init_row.means value.now (init_ack_view c)) }
+        ensures empty { drop 16 value.now ≡ [] → IsOk result }
+    {
+        let fields = init_build(alloc, value)?;
         Ok(InitAckChunk {
             initiate_tag: fields.initiate_tag,
             a_rwnd: fields.a_rwnd,

@@ -14,13 +14,15 @@
 //! +-+-+-+-+-+-+-+-+-+-+-+-+-+-+-+-+-+-+-+-+-+-+-+-+-+-+-+-+-+-+-+-+
 //! ```
 
-ghost use Rattle.std.specs.Prelude.{◌≡◌, ◌↔◌, ◌≤◌, ◌+◌, ◌-◌, ◌/◌, ℕ, [], false, length, replicate, IsTrue, IfOk};
+ghost use Rattle.std.specs.Prelude.{◌≡◌, ◌↔◌, ◌≤◌, ◌+◌, ◌-◌, ◌/◌, ℕ, [], false, length, replicate, vec_len, vec_capacity, IsTrue, IfOk, IsErrOf};
 ghost use Rattle.dcsctp_wire.specs.Chunk.{views};
 ghost use Rattle.dcsctp_wire.specs.Packet.{Meaning, Answer, Reads, IsAccepted, meaning_view, packet_view};
 ghost use Rattle.dcsctp_wire.specs.Account.{KeepsTexts, KeepsSize, node_count};
+ghost use Rattle.dcsctp_wire.specs.Exact.{IsPacket, ChecksPacket, ReadsPacket, FindsPacket};
 ghost use Rattle.dcsctp_wire.specs.Canonical.{canonical, padded_size, Fits};
 ghost use Rattle.dcsctp_wire.specs.WellFormed.{IsInWidth, IsWellFormed};
 ghost use Rattle.dcsctp_wire.specs.declared.packet.sctp_packet.ChecksumPolicy.{ChecksumPolicy};
+ghost use Rattle.dcsctp_tlv.specs.declared.error.ChunkParseError.TheVariants.{OutOfMemory};
 ghost use Rattle.dcsctp_wire.specs.declared.packet.sctp_packet.PacketParseError.TheVariants.{FailedParseChunk};
 
 pub use crate::packet::builder::SctpPacketBuilder;
@@ -28,7 +30,7 @@ use crate::packet::chunk::Chunk;
 use dcsctp_tlv::error::ChunkParseError;
 use dcsctp_tlv::list::{parameters_encodable, parameters_serialize_to, parameters_serialized_size};
 use dcsctp_tlv::number::{put_u16, put_u32, read_u16_be, read_u32_be, round_up_to_4};
-use dcsctp_tlv::reader::list_from_bytes;
+use dcsctp_tlv::reader::{list_build, list_check};
 use dcsctp_types::api::{
     ZERO_CHECKSUM_ALTERNATE_ERROR_DETECTION_METHOD_NONE, ZeroChecksumAlternateErrorDetectionMethod,
 };
@@ -59,7 +61,7 @@ pub enum PacketParseError {
     /// Never answered.
     #[error("Invalid chunk size")]
     InvalidChunkSize,
-    /// The first chunk at fault, and its fault; or a growth was refused.
+    /// The first fault of the chunks; or memory ran out.
     #[error("Failed to parse chunk")]
     FailedParseChunk(ChunkParseError),
 }
@@ -69,6 +71,14 @@ impl From<ChunkParseError> for PacketParseError {
 
     fn from(e: ChunkParseError) -> PacketParseError {
         PacketParseError::FailedParseChunk(e)
+    }
+}
+
+impl From<AllocError> for PacketParseError {
+    ghost from_gives = { λ e f. f ≡ FailedParseChunk OutOfMemory };
+
+    fn from(_: AllocError) -> PacketParseError {
+        PacketParseError::FailedParseChunk(ChunkParseError::OutOfMemory)
     }
 }
 
@@ -85,8 +95,8 @@ pub struct CommonHeader {
 /// A packet (RFC 9260 section 3).
 #[derive(Drop)]
 pub struct SctpPacket {
-    pub common_header: CommonHeader,
     pub chunks: Vec<Chunk>,
+    pub common_header: CommonHeader,
 }
 
 /// Which checksum fields are accepted.
@@ -132,7 +142,8 @@ impl SctpPacket {
     ///
     /// `InvalidPacketSize` unless there are 16 to 65,535 bytes; then `InvalidChecksum` unless the
     /// policy accepts the field; then `FailedParseChunk` with the first fault of the chunks from
-    /// the left, or with `OutOfMemory`. The first two take no memory. Padding isn't looked at.
+    /// the left. Where there is no fault, memory is taken, each list at once, and `FailedParseChunk`
+    /// with `OutOfMemory` is answered where it runs out. Padding isn't looked at.
     pub fn from_bytes(
         alloc: Global,
         bytes: &[u8],
@@ -147,8 +158,33 @@ impl SctpPacket {
 
         // Chunks, parameters and causes together.
         ensures nodes { IfOk result (λ p. node_count (meaning_view p) ≤ (length bytes.now - 12) / 4) }
+
+        // A fault is told wherever there is one, and `OutOfMemory` only where there is none.
+        ensures memory { IsErrOf result (FailedParseChunk OutOfMemory) → IsPacket bytes.now checksum policy.now }
+        ensures exact { ReadsPacket packet_view bytes.now checksum policy.now result }
+
+        // The memory for the list of chunks is taken at once.
+        ensures reserved { IfOk result (λ p. vec_capacity p.chunks ≡ vec_len p.chunks) }
     {
         read_packet(alloc, bytes, checksum, policy)
+    }
+
+    /// The number of parts of a packet: its chunks, and the parameters and error causes in them;
+    /// or its fault. It takes no memory.
+    ///
+    /// The number exactly where the grammar gives these bytes a packet, and the same faults as
+    /// `from_bytes` exactly where this tells them. `OutOfMemory` is never answered.
+    pub fn check(
+        bytes: &[u8],
+        checksum: u32,
+        policy: &ChecksumPolicy,
+    ) -> Result<usize, PacketParseError>
+        ensures answer { ChecksPacket bytes.now checksum policy.now result }
+        ensures few { IfOk result (λ n. n ≤ (length bytes.now - 12) / 4) }
+        ensures memory { ¬ IsErrOf result (FailedParseChunk OutOfMemory) }
+    {
+        let (_, parts) = check_packet(bytes, checksum, policy)?;
+        Ok(parts)
     }
 
     /// The canonical packet can be written: each chunk can be, and it has at most 65,532 bytes.
@@ -190,6 +226,23 @@ fn has_widths(packet: &SctpPacket)
     ensures { IsInWidth (meaning_view packet.now) }
 {}
 
+/// The numbers of chunks and of all parts, or the fault: what it finds, and no law of it.
+fn check_packet(
+    bytes: &[u8],
+    checksum: u32,
+    policy: &ChecksumPolicy,
+) -> Result<(usize, usize), PacketParseError>
+    ensures { FindsPacket bytes.now checksum policy.now result }
+{
+    if bytes.len() < MIN_PACKET_SIZE || bytes.len() > MAX_PACKET_SIZE {
+        return Err(PacketParseError::InvalidPacketSize);
+    }
+    if !accepts(policy, read_u32_be(&bytes[8..]), checksum) {
+        return Err(PacketParseError::InvalidChecksum);
+    }
+    Ok(list_check::<Chunk>(&bytes[COMMON_HEADER_SIZE..])?)
+}
+
 /// Reads a packet: what it answers, and no law of it.
 fn read_packet(
     alloc: Global,
@@ -197,22 +250,18 @@ fn read_packet(
     checksum: u32,
     policy: &ChecksumPolicy,
 ) -> Result<SctpPacket, PacketParseError>
-    ensures { Reads packet_view bytes.now checksum policy.now result }
+    ensures answer { Reads packet_view bytes.now checksum policy.now result }
+    ensures memory { IsErrOf result (FailedParseChunk OutOfMemory) → IsPacket bytes.now checksum policy.now }
+    ensures reserved { IfOk result (λ p. vec_capacity p.chunks ≡ vec_len p.chunks) }
 {
-    if bytes.len() < MIN_PACKET_SIZE || bytes.len() > MAX_PACKET_SIZE {
-        return Err(PacketParseError::InvalidPacketSize);
-    }
-    let field = read_u32_be(&bytes[8..]);
-    if !accepts(policy, field, checksum) {
-        return Err(PacketParseError::InvalidChecksum);
-    }
-    let chunks = list_from_bytes(alloc, &bytes[COMMON_HEADER_SIZE..])?;
+    let (count, _) = check_packet(bytes, checksum, policy)?;
+    let chunks = list_build(alloc, &bytes[COMMON_HEADER_SIZE..], count)?;
     Ok(SctpPacket {
         common_header: CommonHeader {
             source_port: read_u16_be(bytes),
             destination_port: read_u16_be(&bytes[2..]),
             verification_tag: read_u32_be(&bytes[4..]),
-            checksum: field,
+            checksum: read_u32_be(&bytes[8..]),
         },
         chunks,
     })

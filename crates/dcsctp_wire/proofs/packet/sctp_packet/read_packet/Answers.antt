@@ -1,10 +1,6 @@
-use Rattle.std.proofs.Common.{arith, rules}
-use Rattle.std.proofs.lemmas.Result.{err_from_is_err_and}
-use Rattle.std.proofs.lemmas.List.{take_rest}
-use Rattle.dcsctp_wire.proofs.Packets.{reads_fault}
+use Rattle.dcsctp_wire.specs.Packet.{packet_with}
+use Rattle.dcsctp_wire.proofs.PacketChecks.{packet_is}
 use Rattle.dcsctp_wire.proofs.packet.sctp_packet.read_packet.Goals as goal
 
-pub returns-in_err-chunks : goal.returns-in_err-chunks
-returns-in_err-chunks c =
-    let p = err_from_is_err_and c.from_residual.result c.from_residual.ensures.1 in
-    rw (p.1, p.2) (reads_fault c.args.bytes.now c.args.checksum c.args.policy.now c.in_err-chunks.field-0.0 (record { size = record { low = omega arith; high = omega arith }; accepted = search rules }) (rw (take_rest c.args.bytes.now 12) at c.in_err-chunks.ensures))
+pub returns-in_err-chunks-clause-memory : goal.returns-in_err-chunks-clause-memory
+returns-in_err-chunks-clause-memory c = λ lacks. (let found = c.in_ok-count.ensures in (packet_with c.args.bytes.now found.1.trees, packet_is c.args.bytes.now c.args.checksum c.args.policy.now found.1.trees found.0 found.1.mean))

@@ -1,0 +1,23 @@
+use Rattle.std.proofs.Common.{rules}
+use Rattle.dcsctp_tlv.specs.Parameter.{OutgoingSsnResetRequest, IncomingSsnResetRequest, ReconfigurationResponse, ZeroChecksumAcceptable, ForwardTsnSupported}
+use Rattle.dcsctp_tlv.proofs.Readings.{passes_row}
+use Rattle.dcsctp_tlv.proofs.ParameterLaws.{any_value}
+use Rattle.dcsctp_tlv.proofs.parameter.Parameter.check_value.Goals as goal
+
+pub returns-in-13 : goal.returns-in-13
+returns-in-13 c = rw c.in-13.is (passes_row OutgoingSsnResetRequest _ c.check.result c.check.ensures)
+
+pub returns-in-14 : goal.returns-in-14
+returns-in-14 c = rw c.in-14.is (passes_row IncomingSsnResetRequest _ c.check-in-14.result c.check-in-14.ensures)
+
+pub returns-in-16 : goal.returns-in-16
+returns-in-16 c = rw c.in-16.is (passes_row ReconfigurationResponse _ c.check-in-16.result c.check-in-16.ensures)
+
+pub returns-in-32769 : goal.returns-in-32769
+returns-in-32769 c = rw c.in-32769.is (passes_row ZeroChecksumAcceptable _ c.check-in-32769.result c.check-in-32769.ensures)
+
+pub returns-in-49152 : goal.returns-in-49152
+returns-in-49152 c = rw c.in-49152.is (passes_row (λ _. ForwardTsnSupported) _ c.check-in-49152.result c.check-in-49152.ensures)
+
+pub returns-in_default : goal.returns-in_default
+returns-in_default c = any_value c.args.typ c.args.value.now (search rules) (search rules) (search rules) (search rules) (search rules)
