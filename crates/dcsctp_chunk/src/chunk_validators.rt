@@ -4,9 +4,9 @@
 //! A block covers the offsets from its start to its end, counted from the cumulative TSN; one that
 //! ends before its start covers none.
 
-ghost use Rattle.std.specs.Prelude.{◌≡◌, ◌↔◌, ℕ, ◌+◌, ◌<◌, ◌≤◌, ◌^◌, List, length, IsTrue, take};
-ghost use Rattle.std.specs.List.{All};
-ghost use Rattle.std.specs.List.Sorted.{IsNonDecreasingBy};
+ghost use Rattle.std.specs.Prelude.{◌≡◌, ◌↔◌, ℕ, ◌+◌, ◌-◌, ◌<◌, ◌≤◌, ◌^◌, List, [], ◌∷◌, ◌++◌, length, IsTrue, take, drop};
+ghost use Rattle.std.specs.List.{All, SameFrom, copy_within};
+ghost use Rattle.std.specs.List.Sorted.{IsPartitionPoint};
 ghost use Rattle.dcsctp_types.specs.Serial.{wrapped_sum, IsGreater};
 ghost use Rattle.dcsctp_chunk.specs.declared.sack_chunk.GapAckBlock.{GapAckBlock};
 ghost use Rattle.dcsctp_chunk.specs.Apart.{IsApart};
@@ -72,39 +72,197 @@ fn clean_blocks(blocks: &mut Vec<GapAckBlock>)
     ensures apart { IsApart 0 blocks.new.items }
     ensures cover { SameCover blocks.new.items blocks.old.items }
 {
-    blocks.retain(|block| block.start <= block.end);
-    blocks.sort_unstable_by_key(|block| block.start);
-    let kept = merge(blocks);
+    let kept = gather(blocks);
     blocks.truncate(kept);
 }
 
-/// Merges blocks that rise by their starts: the first so many are then the runs of what the blocks
-/// covered.
-fn merge(blocks: &mut [GapAckBlock]) -> usize
-    requires nonempty { All (λ b. b.start ≤ b.end) blocks.old }
-    requires rising { IsNonDecreasingBy (λ b. b.start) blocks.old }
+/// Puts block after block in among the runs of those before it: the first so many are then the
+/// runs of what the blocks covered.
+///
+/// A run that is put in before others moves them all, and 16,379 blocks fit in a packet. So it goes
+/// among a few recent runs, and only when these are many they go among the others, all at once.
+fn gather(blocks: &mut [GapAckBlock]) -> usize
     ensures len { result ≤ length blocks.old }
     ensures apart { IsApart 0 (take result blocks.new) }
     ensures cover { SameCover (take result blocks.new) blocks.old }
 {
-    if blocks.is_empty() {
-        return 0;
-    }
-    let mut run = blocks[0];
-    let mut kept = 0;
-    for i in 1..blocks.len() {
+    let mut recent = [GapAckBlock::new(0, 0); 64];
+    let mut counts = Counts {
+        front: 0,
+        recent: 0,
+    };
+    for i in 0..blocks.len() {
         let block = blocks[i];
-        // an end can be 65,535, so one is taken from the start
-        if block.start.saturating_sub(1) <= run.end {
-            run.end = run.end.max(block.end);
-        } else {
-            blocks[kept] = run;
-            kept += 1;
-            run = block;
+        if block.start <= block.end {
+            counts = add_block(blocks, &mut recent, counts, block);
         }
     }
-    blocks[kept] = run;
-    kept + 1
+    let both = counts.front + counts.recent;
+    join_runs(&mut blocks[..both], counts.front, &recent[..counts.recent])
+}
+
+/// How many runs stand in front, and how many recent ones beside them.
+#[derive(Clone, Copy)]
+struct Counts {
+    front: usize,
+    recent: usize,
+}
+
+/// Puts the block in among the runs in front and the recent ones.
+fn add_block(
+    blocks: &mut [GapAckBlock],
+    recent: &mut [GapAckBlock],
+    counts: Counts,
+    block: GapAckBlock,
+) -> Counts
+    requires room { counts.front + counts.recent < length blocks.old }
+    requires recent_room { counts.recent < length recent.old }
+    requires nonempty { block.start ≤ block.end }
+    requires apart { IsApart 0 (take counts.front blocks.old) }
+    requires recent_apart { IsApart 0 (take counts.recent recent.old) }
+    ensures bound { result.front + result.recent ≤ counts.front + counts.recent + 1 }
+    ensures recent_bound { result.recent < length recent.old }
+    ensures apart { IsApart 0 (take result.front blocks.new) }
+    ensures recent_apart { IsApart 0 (take result.recent recent.new) }
+    ensures cover { SameCover (take result.recent recent.new ++ take result.front blocks.new) (block ∷ take counts.recent recent.old ++ take counts.front blocks.old) }
+    ensures rest { SameFrom blocks.old blocks.new (counts.front + counts.recent + 1) }
+{
+    if counts.recent == 0 && follows(&blocks[..counts.front], block) {
+        blocks[counts.front] = block;
+        return Counts {
+            front: counts.front + 1,
+            recent: 0,
+        };
+    }
+    let count = join_runs(&mut recent[..counts.recent + 1], counts.recent, &[block]);
+    if count < recent.len() {
+        return Counts {
+            front: counts.front,
+            recent: count,
+        };
+    }
+    let both = counts.front + count;
+    Counts {
+        front: join_runs(&mut blocks[..both], counts.front, recent),
+        recent: 0,
+    }
+}
+
+/// Whether the block starts at least 2 past the end of the last run.
+fn follows(runs: &[GapAckBlock], block: GapAckBlock) -> bool
+    requires nonempty { block.start ≤ block.end }
+    requires apart { IsApart 0 runs.now }
+    ensures { IsTrue result → IsApart 0 (runs.now ++ (block ∷ [])) }
+{
+    match runs.last() {
+        Some(run) => run.end < block.start.saturating_sub(1),
+        None => true,
+    }
+}
+
+/// Puts the others in among the first `kept` runs, from the last on: the first so many are then
+/// the runs of both.
+fn join_runs(runs: &mut [GapAckBlock], kept: usize, others: &[GapAckBlock]) -> usize
+    requires room { length runs.old ≡ kept + length others.now }
+    requires apart { IsApart 0 (take kept runs.old) }
+    requires others_apart { IsApart 0 others.now }
+    ensures len { result ≤ kept + length others.now }
+    ensures apart { IsApart 0 (take result runs.new) }
+    ensures cover { SameCover (take result runs.new) (others.now ++ take kept runs.old) }
+{
+    let mut gap = Gap {
+        low: kept,
+        high: runs.len(),
+    };
+    let mut left = others.len();
+    while left > 0 {
+        left -= 1;
+        gap = put_below(runs, gap, others[left]);
+    }
+    let end = runs.len();
+    move_within(runs, gap.high, end, gap.low);
+    gap.low + (end - gap.high)
+}
+
+/// Room between runs: those below `low`, and those from `high` on.
+#[derive(Clone, Copy)]
+struct Gap {
+    low: usize,
+    high: usize,
+}
+
+/// Puts the block in among the runs below the gap, and moves those past it to the gap's other side.
+fn put_below(runs: &mut [GapAckBlock], gap: Gap, block: GapAckBlock) -> Gap
+    requires order { gap.low < gap.high }
+    requires bound { gap.high ≤ length runs.old }
+    requires nonempty { block.start ≤ block.end }
+    requires apart { IsApart 0 (take gap.low runs.old ++ drop gap.high runs.old) }
+    requires below { IsApart 0 (block ∷ drop gap.high runs.old) }
+    ensures order { result.low + gap.high ≤ gap.low + 1 + result.high }
+    ensures bound { result.high ≤ length runs.old }
+    ensures apart { IsApart 0 (take result.low runs.new ++ drop result.high runs.new) }
+    ensures below { IsApart (block.end + 2) (drop result.high runs.new) }
+    ensures cover { SameCover (take result.low runs.new ++ drop result.high runs.new) (block ∷ take gap.low runs.old ++ drop gap.high runs.old) }
+{
+    let place = find_place(&runs[..gap.low], block);
+    let high = gap.high - (gap.low - place.last);
+    move_within(runs, place.last, gap.low, high);
+    runs[place.first] = place.run;
+    Gap {
+        low: place.first + 1,
+        high,
+    }
+}
+
+/// Moves the blocks from `start` up to `end` to `dest`.
+fn move_within(blocks: &mut [GapAckBlock], start: usize, end: usize, dest: usize)
+    requires order { start ≤ end }
+    requires bound { end ≤ length blocks.old }
+    requires room { dest + (end - start) ≤ length blocks.old }
+    ensures { blocks.new ≡ copy_within blocks.old start end dest }
+{
+    if start != dest {
+        blocks.copy_within(start..end, dest);
+    }
+}
+
+/// The runs from `first` up to `last` overlap or touch a block, and `run` is they and it in one.
+#[derive(Clone, Copy)]
+struct Place {
+    first: usize,
+    last: usize,
+    run: GapAckBlock,
+}
+
+/// The place of the block among the runs.
+fn find_place(runs: &[GapAckBlock], block: GapAckBlock) -> Place
+    requires nonempty { block.start ≤ block.end }
+    requires apart { IsApart 0 runs.now }
+    ensures order { result.first ≤ result.last }
+    ensures bound { result.last ≤ length runs.now }
+    ensures within { block.end ≤ result.run.end }
+    ensures apart { IsApart 0 (take result.first runs.now ++ (result.run ∷ drop result.last runs.now)) }
+    ensures cover { SameCover (take result.first runs.now ++ (result.run ∷ drop result.last runs.now)) (block ∷ runs.now) }
+{
+    let first = first_reaching(runs, block.start.saturating_sub(1));
+    let mut last = first;
+    let mut run = block;
+    // an end can be 65,535, so one is taken from the start
+    while last < runs.len() && runs[last].start.saturating_sub(1) <= run.end {
+        run.start = run.start.min(runs[last].start);
+        run.end = run.end.max(runs[last].end);
+        last += 1;
+    }
+    Place { first, last, run }
+}
+
+/// The first run that ends at `offset` or later.
+fn first_reaching(runs: &[GapAckBlock], offset: u16) -> usize
+    requires { IsApart 0 runs.now }
+    ensures bound { result ≤ length runs.now }
+    ensures point { IsPartitionPoint (λ r. r.end < offset) (λ r. offset ≤ r.end) runs.now result }
+{
+    runs.partition_point(|run| run.end < offset)
 }
 
 /// Offsets are 16 bits wide. The loop is here for its proof alone: the compiler leaves nothing of it.
