@@ -1,13 +1,14 @@
 -- Runs put in among others, from the last on: those below a gap, and those past it.
-use Rattle.std.proofs.Common.{◌≡◌, ◌↔◌, ◌⊎◌, inl, inr, ℕ, ◌+◌, ◌-◌, ◌<◌, ◌≤◌, List, [], ◌∷◌, ◌++◌, length, get_or, set, take, drop, refl, sym, ap, subst, ◌∙◌, arith}
+use Rattle.std.proofs.Common.{◌≡◌, ◌⊎◌, inl, inr, ℕ, ◌+◌, ◌-◌, ◌<◌, ◌≤◌, List, [], ◌∷◌, ◌++◌, length, get_or, set, take, drop, sym, ap, subst, ◌∙◌, arith}
 use Rattle.std.specs.List.{copy_within}
-use Rattle.std.proofs.lemmas.List.{append_assoc, append-nil, take_more, take_all, drop_all, take_at, drop_at, take_more_set, take-append-le, drop-set-lt, length-append, length-take-le, length-drop, take-take, drop-take}
+use Rattle.std.proofs.lemmas.List.{append_assoc, take_more, take_all, take_at, drop_at, take_more_set, take-append-le, drop-set-lt, length-append, length-take-le, length-drop, take-take, drop-take, take-append-drop, take-set-le, drop-set, get_or-take}
+use Rattle.std.proofs.lemmas.Bool.{cases_lt}
 use Rattle.std.proofs.lemmas.List.Sorted.{IsPermutation-to_front}
 use Rattle.dcsctp_chunk.specs.declared.sack_chunk.GapAckBlock.{GapAckBlock}
 use Rattle.dcsctp_chunk.specs.Cover.{Covers, SameCover}
 use Rattle.dcsctp_chunk.specs.Apart.{IsApart}
 use Rattle.dcsctp_chunk.proofs.Runs.{covers_head, covers_tail, covers_cases, contains_none, apart_weaker}
-use Rattle.dcsctp_chunk.proofs.RunsOf.{same_refl, same_trans, same_cons, same_reversed, permutation_cover}
+use Rattle.dcsctp_chunk.proofs.RunsOf.{join, same_refl, same_trans, same_cons, same_swap, same_join, same_reversed, permutation_cover}
 
 pub covers_left : (xs ys : List GapAckBlock) (o : ℕ) → Covers xs o → Covers (xs ++ ys) o
 covers_left [] ys o h = absurd (contains_none h.0 h.1)
@@ -187,3 +188,60 @@ more_blocks xs runs old b i d l e h k =
 
 pub no_more_blocks : (xs runs : List GapAckBlock) (b : GapAckBlock) (i : ℕ) (d : GapAckBlock) → i < length xs → b ≡ get_or xs i d → b.end < b.start → SameCover runs (take i xs) → SameCover runs (take (i + 1) xs)
 no_more_blocks xs runs b i d l e r h = more_blocks xs runs runs b i d l e h (same_reversed b runs r)
+
+-- a run moved over the gap
+lifted_back : (xs : List GapAckBlock) (x : GapAckBlock) (high : ℕ) → 0 < high → high ≤ length xs → drop (high - 1) (set xs (high - 1) x) ≡ x ∷ drop high xs
+lifted_back xs x high l m =
+    let e : high - 1 + 1 ≡ high = omega arith in
+    drop-set xs (high - 1) x (omega arith) ∙ ap (λ n. x ∷ drop n xs) e
+
+pub lifted : (xs : List GapAckBlock) (d : GapAckBlock) (low high : ℕ) → 0 < low → low < high → high ≤ length xs → take (low - 1) (set xs (high - 1) (get_or xs (low - 1) d)) ++ drop (high - 1) (set xs (high - 1) (get_or xs (low - 1) d)) ≡ take low xs ++ drop high xs
+lifted xs d low high l m n =
+    let x = get_or xs (low - 1) d in
+    let after = set xs (high - 1) x in
+    let whole : take low xs ++ drop high xs ≡ take (low - 1) xs ++ (x ∷ drop high xs) = ap (λ y. y ++ drop high xs) (last_left xs low d l (omega arith)) ∙ simp append_assoc in
+    ap (λ y. y ++ drop (high - 1) after) (take-set-le (low - 1) xs (high - 1) x (omega arith)) ∙ (ap (λ y. take (low - 1) xs ++ y) (lifted_back xs x high (omega arith) n) ∙ sym whole)
+
+pub lifted_apart : (xs : List GapAckBlock) (d : GapAckBlock) (low high m : ℕ) → 0 < low → low < high → high ≤ length xs → IsApart 0 (take low xs ++ drop high xs) → m ≤ (get_or xs (low - 1) d).start → IsApart m (drop (high - 1) (set xs (high - 1) (get_or xs (low - 1) d)))
+lifted_apart xs d low high m k l n a f =
+    let x = get_or xs (low - 1) d in
+    let b = next_below (take (low - 1) xs) (drop high xs) x (next_apart xs (drop high xs) low d k (omega arith) a) in
+    subst (λ y. IsApart m y) (sym (lifted_back xs x high (omega arith) n)) (f, b.1, b.2)
+
+-- the step of the walk down over the runs that a block touches
+pub walk_back : (run r block next : GapAckBlock) (rest : List GapAckBlock) → run.start ≤ run.end → r.start ≤ r.end → r.start ≤ run.end + 1 → run.start ≤ r.end + 1 → next ≡ join run r → SameCover (run ∷ []) (block ∷ rest) → SameCover (next ∷ []) (block ∷ r ∷ rest)
+walk_back run r block next rest k l m n e f =
+    let joined = subst (λ x. SameCover (x ∷ []) (run ∷ r ∷ [])) (sym e) (same_join run r [] k l m n) in
+    let turned = same_trans (next ∷ []) (run ∷ r ∷ []) (r ∷ run ∷ []) joined (same_swap run r []) in
+    let more = same_trans (next ∷ []) (r ∷ run ∷ []) (r ∷ block ∷ rest) turned (same_cons r (run ∷ []) (block ∷ rest) f) in
+    same_trans (next ∷ []) (r ∷ block ∷ rest) (block ∷ r ∷ rest) more (same_swap r block rest)
+
+-- its end
+pub back_apart : (runs : List GapAckBlock) (run d : GapAckBlock) (first : ℕ) → first ≤ length runs → run.start ≤ run.end → IsApart 0 runs → (0 < first → (get_or runs (first - 1) d).end + 1 < run.start) → IsApart 0 (take first runs ++ (run ∷ []))
+back_apart runs run d first l m a h =
+    elim (cases_lt 0 first) [
+      | inl lt ↦
+          let front = take first runs in
+          let long : length front ≡ first = length-take-le first runs l in
+          let apart : IsApart 0 front = apart_left 0 front (drop first runs) (subst (λ x. IsApart 0 x) (sym (take-append-drop first runs)) a) in
+          let e : get_or front (length front - 1) d ≡ get_or runs (first - 1) d = ap (λ n. get_or front (n - 1) d) long ∙ get_or-take first runs (first - 1) d (omega arith) in
+          apart_last front run d m apart (omega arith) (subst (λ (x : GapAckBlock). x.end + 1 < run.start) (sym e) (h lt))
+      | inr le ↦
+          let e : first ≡ 0 = omega arith in
+          subst (λ n. IsApart 0 (take n runs ++ (run ∷ []))) (sym e) (omega arith, m, tt)
+    ]
+
+pub back_cover : (runs : List GapAckBlock) (run block : GapAckBlock) (first : ℕ) → SameCover (run ∷ []) (block ∷ drop first runs) → SameCover (take first runs ++ (run ∷ [])) (block ∷ runs)
+back_cover runs run block first e =
+    let front = take first runs in
+    let back = drop first runs in
+    let split : (front ++ (block ∷ [])) ++ back ≡ front ++ (block ∷ back) = simp append_assoc in
+    let turned : SameCover ((front ++ (block ∷ [])) ++ back) (block ∷ (front ++ back)) = same_append (front ++ (block ∷ [])) back (block ∷ front) back (same_turned front (block ∷ [])) (same_refl back) in
+    let whole : SameCover (front ++ (block ∷ back)) (block ∷ runs) = subst (λ x. SameCover x (block ∷ runs)) split (subst (λ x. SameCover ((front ++ (block ∷ [])) ++ back) (block ∷ x)) (take-append-drop first runs) turned) in
+    same_trans (front ++ (run ∷ [])) (front ++ (block ∷ back)) (block ∷ runs) (same_append front (run ∷ []) front (block ∷ back) (same_refl front) e) whole
+
+-- the runs after the write below the gap
+pub written : (xs : List GapAckBlock) (run : GapAckBlock) (first low high : ℕ) → first ≤ low → low < high → high ≤ length xs → take (first + 1) (set xs first run) ++ drop high (set xs first run) ≡ (take first (take low xs) ++ (run ∷ [])) ++ drop high xs
+written xs run first low high l m n =
+    let front : take (first + 1) (set xs first run) ≡ take first (take low xs) ++ (run ∷ []) = take_more_set xs first run (omega arith) ∙ ap (λ x. x ++ (run ∷ [])) (sym (take-take first low xs l)) in
+    ap (λ x. x ++ drop high (set xs first run)) front ∙ ap (λ x. (take first (take low xs) ++ (run ∷ [])) ++ x) (drop-set-lt high xs first run (omega arith))

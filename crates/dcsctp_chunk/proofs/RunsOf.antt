@@ -90,7 +90,7 @@ join_within b r ne me k l o w =
       ]
     ]
 
-same_join : (b r : GapAckBlock) (bs : List GapAckBlock) → b.start ≤ b.end → r.start ≤ r.end → r.start ≤ b.end + 1 → b.start ≤ r.end + 1 → SameCover (join b r ∷ bs) (b ∷ r ∷ bs)
+pub same_join : (b r : GapAckBlock) (bs : List GapAckBlock) → b.start ≤ b.end → r.start ≤ r.end → r.start ≤ b.end + 1 → b.start ≤ r.end + 1 → SameCover (join b r ∷ bs) (b ∷ r ∷ bs)
 unfolding join
 same_join b r bs ne me k l = same_two (join b r) b r bs (omega arith) (omega arith) (omega arith) (omega arith) (join_within b r ne me k l)
 

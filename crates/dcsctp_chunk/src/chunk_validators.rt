@@ -4,7 +4,7 @@
 //! A block covers the offsets from its start to its end, counted from the cumulative TSN; one that
 //! ends before its start covers none.
 
-ghost use Rattle.std.specs.Prelude.{◌≡◌, ◌↔◌, ℕ, ◌+◌, ◌-◌, ◌<◌, ◌≤◌, ◌^◌, List, [], ◌∷◌, ◌++◌, length, IsTrue, take, drop};
+ghost use Rattle.std.specs.Prelude.{◌≡◌, ◌↔◌, ℕ, ◌+◌, ◌-◌, ◌<◌, ◌≤◌, ◌^◌, List, [], ◌∷◌, ◌++◌, length, IsTrue, slice_index_or, take, drop};
 ghost use Rattle.std.specs.List.{All, SameFrom, copy_within};
 ghost use Rattle.std.specs.List.Sorted.{IsPartitionPoint};
 ghost use Rattle.dcsctp_types.specs.Serial.{wrapped_sum, IsGreater};
@@ -86,7 +86,8 @@ fn gather(blocks: &mut [GapAckBlock]) -> usize
     ensures apart { IsApart 0 (take result blocks.new) }
     ensures cover { SameCover (take result blocks.new) blocks.old }
 {
-    let mut recent = [GapAckBlock::new(0, 0); 64];
+    turn_falling(blocks);
+    let mut recent = [GapAckBlock::new(0, 0); 256];
     let mut counts = Counts {
         front: 0,
         recent: 0,
@@ -99,6 +100,17 @@ fn gather(blocks: &mut [GapAckBlock]) -> usize
     }
     let both = counts.front + counts.recent;
     join_runs(&mut blocks[..both], counts.front, &recent[..counts.recent])
+}
+
+/// Turns the blocks round where the first starts after the last: of falling blocks each then
+/// starts after the one before it.
+fn turn_falling(blocks: &mut [GapAckBlock])
+    ensures { SameCover blocks.new blocks.old }
+{
+    let len = blocks.len();
+    if len > 0 && blocks[0].start > blocks[len - 1].start {
+        blocks.reverse();
+    }
 }
 
 /// How many runs stand in front, and how many recent ones beside them.
@@ -134,7 +146,7 @@ fn add_block(
             recent: 0,
         };
     }
-    let count = join_runs(&mut recent[..counts.recent + 1], counts.recent, &[block]);
+    let count = insert(&mut recent[..counts.recent + 1], counts.recent, block);
     if count < recent.len() {
         return Counts {
             front: counts.front,
@@ -160,6 +172,23 @@ fn follows(runs: &[GapAckBlock], block: GapAckBlock) -> bool
     }
 }
 
+/// Puts the block in among the first `kept` runs: the first so many are then the runs of both.
+fn insert(runs: &mut [GapAckBlock], kept: usize, block: GapAckBlock) -> usize
+    requires room { length runs.old ≡ kept + 1 }
+    requires nonempty { block.start ≤ block.end }
+    requires apart { IsApart 0 (take kept runs.old) }
+    ensures len { result ≤ kept + 1 }
+    ensures apart { IsApart 0 (take result runs.new) }
+    ensures cover { SameCover (take result runs.new) (block ∷ take kept runs.old) }
+{
+    let gap = Gap {
+        low: kept,
+        high: runs.len(),
+    };
+    let after = put_below(runs, gap, block);
+    close(runs, after)
+}
+
 /// Puts the others in among the first `kept` runs, from the last on: the first so many are then
 /// the runs of both.
 fn join_runs(runs: &mut [GapAckBlock], kept: usize, others: &[GapAckBlock]) -> usize
@@ -177,11 +206,9 @@ fn join_runs(runs: &mut [GapAckBlock], kept: usize, others: &[GapAckBlock]) -> u
     let mut left = others.len();
     while left > 0 {
         left -= 1;
-        gap = put_below(runs, gap, others[left]);
+        gap = put_next(runs, gap, others[left]);
     }
-    let end = runs.len();
-    move_within(runs, gap.high, end, gap.low);
-    gap.low + (end - gap.high)
+    close(runs, gap)
 }
 
 /// Room between runs: those below `low`, and those from `high` on.
@@ -189,6 +216,18 @@ fn join_runs(runs: &mut [GapAckBlock], kept: usize, others: &[GapAckBlock]) -> u
 struct Gap {
     low: usize,
     high: usize,
+}
+
+/// Moves the runs past the gap next to those below it, and counts both.
+fn close(runs: &mut [GapAckBlock], gap: Gap) -> usize
+    requires order { gap.low ≤ gap.high }
+    requires bound { gap.high ≤ length runs.old }
+    ensures len { result ≤ length runs.old }
+    ensures runs { take result runs.new ≡ take gap.low runs.old ++ drop gap.high runs.old }
+{
+    let end = runs.len();
+    move_within(runs, gap.high, end, gap.low);
+    gap.low + (end - gap.high)
 }
 
 /// Puts the block in among the runs below the gap, and moves those past it to the gap's other side.
@@ -212,6 +251,51 @@ fn put_below(runs: &mut [GapAckBlock], gap: Gap, block: GapAckBlock) -> Gap
         low: place.first + 1,
         high,
     }
+}
+
+/// Does what `put_below` does, for a block near the gap: it walks, where that one searches.
+fn put_next(runs: &mut [GapAckBlock], gap: Gap, block: GapAckBlock) -> Gap
+    requires order { gap.low < gap.high }
+    requires bound { gap.high ≤ length runs.old }
+    requires nonempty { block.start ≤ block.end }
+    requires apart { IsApart 0 (take gap.low runs.old ++ drop gap.high runs.old) }
+    requires below { IsApart 0 (block ∷ drop gap.high runs.old) }
+    ensures order { result.low + gap.high ≤ gap.low + 1 + result.high }
+    ensures bound { result.high ≤ length runs.old }
+    ensures apart { IsApart 0 (take result.low runs.new ++ drop result.high runs.new) }
+    ensures below { IsApart (block.end + 2) (drop result.high runs.new) }
+    ensures cover { SameCover (take result.low runs.new ++ drop result.high runs.new) (block ∷ take gap.low runs.old ++ drop gap.high runs.old) }
+{
+    let past = lift_past(runs, gap, block);
+    let place = last_place(&runs[..past.low], block);
+    runs[place.first] = place.run;
+    Gap {
+        low: place.first + 1,
+        high: past.high,
+    }
+}
+
+/// Moves the runs that start at least 2 past the block's end to the gap's other side.
+fn lift_past(runs: &mut [GapAckBlock], gap: Gap, block: GapAckBlock) -> Gap
+    requires order { gap.low < gap.high }
+    requires bound { gap.high ≤ length runs.old }
+    requires apart { IsApart 0 (take gap.low runs.old ++ drop gap.high runs.old) }
+    requires below { IsApart (block.end + 2) (drop gap.high runs.old) }
+    ensures order { result.low + gap.high ≡ gap.low + result.high }
+    ensures bound { result.high ≤ gap.high }
+    ensures runs { take result.low runs.new ++ drop result.high runs.new ≡ take gap.low runs.old ++ drop gap.high runs.old }
+    ensures below { IsApart (block.end + 2) (drop result.high runs.new) }
+    ensures near { (d : GapAckBlock) → 0 < result.low → (slice_index_or runs.new (result.low - 1) d).start ≤ block.end + 1 }
+{
+    let mut low = gap.low;
+    let mut high = gap.high;
+    // a start can be 0, and an end 65,535, so one is taken from the start
+    while low > 0 && runs[low - 1].start.saturating_sub(1) > block.end {
+        low -= 1;
+        high -= 1;
+        runs[high] = runs[low];
+    }
+    Gap { low, high }
 }
 
 /// Moves the blocks from `start` up to `end` to `dest`.
@@ -254,6 +338,33 @@ fn find_place(runs: &[GapAckBlock], block: GapAckBlock) -> Place
         last += 1;
     }
     Place { first, last, run }
+}
+
+/// The place of a block past which no run starts.
+fn last_place(runs: &[GapAckBlock], block: GapAckBlock) -> Last
+    requires nonempty { block.start ≤ block.end }
+    requires apart { IsApart 0 runs.now }
+    requires near { (d : GapAckBlock) → 0 < length runs.now → (slice_index_or runs.now (length runs.now - 1) d).start ≤ block.end + 1 }
+    ensures bound { result.first ≤ length runs.now }
+    ensures within { block.end ≤ result.run.end }
+    ensures apart { IsApart 0 (take result.first runs.now ++ (result.run ∷ [])) }
+    ensures cover { SameCover (take result.first runs.now ++ (result.run ∷ [])) (block ∷ runs.now) }
+{
+    let mut first = runs.len();
+    let mut run = block;
+    while first > 0 && run.start.saturating_sub(1) <= runs[first - 1].end {
+        first -= 1;
+        run.start = run.start.min(runs[first].start);
+        run.end = run.end.max(runs[first].end);
+    }
+    Last { first, run }
+}
+
+/// The runs from `first` on overlap or touch a block, and `run` is they and it in one.
+#[derive(Clone, Copy)]
+struct Last {
+    first: usize,
+    run: GapAckBlock,
 }
 
 /// The first run that ends at `offset` or later.

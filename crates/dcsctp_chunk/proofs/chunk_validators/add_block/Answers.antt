@@ -1,7 +1,6 @@
 -- The block follows the runs in front, or it goes among the recent ones, and these, once they are many, among those in front.
-use Rattle.std.proofs.Common.{◌≡◌, ◌+◌, ◌≤◌, [], ◌∷◌, ◌++◌, length, take, drop, set, arith, subst, sym}
+use Rattle.std.proofs.Common.{◌≡◌, ◌+◌, [], ◌∷◌, ◌++◌, take, drop, set, arith, subst, sym}
 use Rattle.std.proofs.lemmas.List.{length-take-le, take_more_set, take_all}
-use Rattle.dcsctp_chunk.specs.declared.sack_chunk.GapAckBlock.{GapAckBlock}
 use Rattle.dcsctp_chunk.specs.Cover.{SameCover}
 use Rattle.dcsctp_chunk.proofs.Joined.{same_turned, recent_cover, front_cover}
 use Rattle.dcsctp_chunk.proofs.chunk_validators.add_block.Goals as goal
@@ -17,7 +16,7 @@ pub returns-then-count-recent-clause-cover : goal.returns-then-count-recent-clau
 returns-then-count-recent-clause-cover c =
     let n = c.args.counts.recent in
     let recent = c.args.recent.now in
-    recent_cover c.join_runs-count.new.runs (drop (n + 1) recent) recent (take c.args.counts.front c.args.blocks.now) c.args.block c.join_runs-count.result n (omega (arith, length-take-le (n + 1) recent (omega arith))) c.join_runs-count.ensures.cover
+    recent_cover c.insert-count.new.runs (drop (n + 1) recent) recent (take c.args.counts.front c.args.blocks.now) c.args.block c.insert-count.result n (omega (arith, length-take-le (n + 1) recent (omega arith))) c.insert-count.ensures.cover
 
 pub returns-clause-cover : goal.returns-clause-cover
 returns-clause-cover c =
@@ -25,10 +24,10 @@ returns-clause-cover c =
     let recent = c.args.recent.now in
     let blocks = c.args.blocks.now in
     let front = c.args.counts.front in
-    let count = c.join_runs-count.result in
+    let count = c.insert-count.result in
     let every = c.args.block ∷ (take n recent ++ take front blocks) in
-    let after = c.join_runs-count.new.runs ++ drop (n + 1) recent in
+    let after = c.insert-count.new.runs ++ drop (n + 1) recent in
     let all : take count after ≡ after = take_all count after c.if-count-recent.false in
-    let joined = recent_cover c.join_runs-count.new.runs (drop (n + 1) recent) recent (take front blocks) c.args.block count n (omega (arith, length-take-le (n + 1) recent (omega arith))) c.join_runs-count.ensures.cover in
+    let joined = recent_cover c.insert-count.new.runs (drop (n + 1) recent) recent (take front blocks) c.args.block count n (omega (arith, length-take-le (n + 1) recent (omega arith))) c.insert-count.ensures.cover in
     let cover : SameCover (take c.join_runs.result c.join_runs.new.runs) (take count after ++ take front (take (front + count) blocks)) = subst (λ x. SameCover (take c.join_runs.result c.join_runs.new.runs) (x ++ take front (take (front + count) blocks))) (sym all) c.join_runs.ensures.cover in
     front_cover c.join_runs.new.runs (drop (front + count) blocks) after blocks every count front (front + count) c.join_runs.result (omega (arith, length-take-le (front + count) blocks (omega arith), length-take-le (n + 1) recent (omega arith))) (omega arith) cover joined

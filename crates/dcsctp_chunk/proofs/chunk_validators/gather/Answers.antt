@@ -1,8 +1,9 @@
 -- One block more, or one that covers nothing; at the end the recent runs go among those in front.
-use Rattle.std.proofs.Common.{◌≡◌, ◌+◌, ◌≤◌, ◌++◌, length, take, drop, get_or, arith, subst, ◌∙◌}
+use Rattle.std.proofs.Common.{◌≡◌, ◌+◌, ◌++◌, take, drop, get_or, arith, subst, ◌∙◌}
 use Rattle.std.proofs.lemmas.List.{length-take-le, take_all}
 use Rattle.dcsctp_chunk.specs.declared.sack_chunk.GapAckBlock.{GapAckBlock}
 use Rattle.dcsctp_chunk.specs.Cover.{SameCover}
+use Rattle.dcsctp_chunk.proofs.RunsOf.{same_trans}
 use Rattle.dcsctp_chunk.proofs.Joined.{more_blocks, no_more_blocks, front_cover}
 use Rattle.dcsctp_chunk.proofs.chunk_validators.gather.Goals as goal
 use Rattle.dcsctp_chunk.proofs.chunk_validators.gather.Goals.{then-block, else-block}
@@ -10,7 +11,7 @@ use Rattle.dcsctp_chunk.proofs.chunk_validators.gather.Goals.{then-block, else-b
 pub loop-i-preserved : goal.loop-i-preserved
 loop-i-preserved c =
     let zero_block : GapAckBlock = record { start = 0; end = 0 } in
-    let old = c.args.blocks.now in
+    let old = c.turn_falling.new.blocks in
     let i = c.loop-i.i in
     let inv = c.loop-i.invariant in
     let room = inv.room in
@@ -47,6 +48,8 @@ returns-clause-cover c =
     let front = c.loop-i.counts.front in
     let count = c.loop-i.counts.recent in
     let blocks = c.loop-i.blocks in
+    let turned = c.turn_falling.new.blocks in
     let over = c.loop-i-test.false in
-    let cover : SameCover (take count c.loop-i.recent ++ take front blocks) c.args.blocks.now = subst (λ x. SameCover (take count c.loop-i.recent ++ take front blocks) x) (take_all c.loop-i.i c.args.blocks.now (omega arith)) c.loop-i.invariant.cover in
-    front_cover c.join_runs.new.runs (drop (front + count) blocks) c.loop-i.recent blocks c.args.blocks.now count front (front + count) c.join_runs.result (omega (arith, length-take-le (front + count) blocks (omega arith), length-take-le count c.loop-i.recent (omega arith))) (omega arith) c.join_runs.ensures.cover cover
+    let runs = take count c.loop-i.recent ++ take front blocks in
+    let cover : SameCover runs turned = subst (λ x. SameCover runs x) (take_all c.loop-i.i turned (omega arith)) c.loop-i.invariant.cover in
+    front_cover c.join_runs.new.runs (drop (front + count) blocks) c.loop-i.recent blocks c.args.blocks.now count front (front + count) c.join_runs.result (omega (arith, length-take-le (front + count) blocks (omega arith), length-take-le count c.loop-i.recent (omega arith))) (omega arith) c.join_runs.ensures.cover (same_trans runs turned c.args.blocks.now cover c.turn_falling.ensures)

@@ -1,7 +1,6 @@
 -- What stands on both sides of the gap is what `find_place` promised, and what stood past the gap.
-use Rattle.std.proofs.Common.{◌≡◌, ◌+◌, ◌-◌, ◌≤◌, List, [], ◌∷◌, ◌++◌, take, drop, set, length, arith, ap, subst, sym, ◌∙◌}
-use Rattle.std.proofs.lemmas.List.{append_assoc, length-take-le}
-use Rattle.dcsctp_chunk.specs.declared.sack_chunk.GapAckBlock.{GapAckBlock}
+use Rattle.std.proofs.Common.{◌+◌, ◌-◌, ◌≤◌, ◌∷◌, ◌++◌, take, drop, set, arith, ap, subst, sym, ◌∙◌}
+use Rattle.std.proofs.lemmas.List.{length-take-le}
 use Rattle.dcsctp_chunk.specs.Cover.{SameCover}
 use Rattle.dcsctp_chunk.specs.Apart.{IsApart}
 use Rattle.dcsctp_chunk.proofs.Joined.{apart_left, below-apart, below-cover, below-gap, moved, moved_back}
