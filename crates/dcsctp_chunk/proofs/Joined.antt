@@ -101,10 +101,10 @@ pub left_apart : (rest high after : List GapAckBlock) (b : GapAckBlock) → IsAp
 left_apart rest high after b a d =
     apart_append 0 rest after (apart_left 0 rest (b ∷ high) a) (apart_weaker 0 (b.end + 2) after (omega arith) d)
     (λ o c.
-        let k = apart_past 0 rest (b ∷ high) a o c in
-        let k0 = k.0 in
-        let k1 = k.1 in
-        apart_weaker (o + 2) (b.end + 2) after (omega arith) d)
+    let k = apart_past 0 rest (b ∷ high) a o c in
+    let k0 = k.0 in
+    let k1 = k.1 in
+    apart_weaker (o + 2) (b.end + 2) after (omega arith) d)
 
 pub left_cover : (others runs after every : List GapAckBlock) (left : ℕ) (d : GapAckBlock) → 0 < left → left ≤ length others → SameCover after (get_or others (left - 1) d ∷ runs) → SameCover (take left others ++ runs) every → SameCover (take (left - 1) others ++ after) every
 left_cover others runs after every left d l m e f =
@@ -134,7 +134,7 @@ moved_front xs run first last low high k l m n =
     let whole : copy_within xs last low dest ≡ front ++ others = simp append_assoc in
     let room : first < length (copy_within xs last low dest) = omega (arith, ap length whole, length-append front others) in
     let e : take first (copy_within xs last low dest) ≡ take first (take low xs) =
-      ap (λ x. take first x) whole ∙ (take-append-le first front others (omega arith) ∙ (take-take first dest xs (omega arith) ∙ sym (take-take first low xs (omega arith)))) in
+    ap (λ x. take first x) whole ∙ (take-append-le first front others (omega arith) ∙ (take-take first dest xs (omega arith) ∙ sym (take-take first low xs (omega arith)))) in
     take_more_set (copy_within xs last low dest) first run room ∙ ap (λ x. x ++ (run ∷ [])) e
 
 pub moved_back : (xs : List GapAckBlock) (run : GapAckBlock) (first last low high : ℕ) → first ≤ last → last ≤ low → low < high → high ≤ length xs → drop (high - (low - last)) (set (copy_within xs last low (high - (low - last))) first run) ≡ drop last (take low xs) ++ drop high xs
@@ -164,6 +164,13 @@ closed xs low high l m =
     let rest = drop (low + (length xs - high)) xs in
     let long : length runs ≡ low + (length xs - high) = omega (arith, length-append (take low xs) (take (length xs - high) (drop high xs)), length-take-le low xs (omega arith), length-take-le (length xs - high) (drop high xs) (omega (arith, length-drop high xs))) in
     take_at runs rest (low + (length xs - high)) long ∙ ap (λ x. take low xs ++ x) (take_all (length xs - high) (drop high xs) (omega (arith, length-drop high xs)))
+
+-- the block after the runs in front, with the recent ones beside them
+pub follows_cover : (recent blocks : List GapAckBlock) (b : GapAckBlock) (front : ℕ) → front < length blocks → SameCover (recent ++ take (front + 1) (set blocks front b)) (b ∷ (recent ++ take front blocks))
+follows_cover recent blocks b front l =
+    let runs = recent ++ take front blocks in
+    let e : recent ++ take (front + 1) (set blocks front b) ≡ runs ++ (b ∷ []) = ap (λ x. recent ++ x) (take_more_set blocks front b l) ∙ simp append_assoc in
+    subst (λ x. SameCover x (b ∷ runs)) (sym e) (same_turned runs (b ∷ []))
 
 -- the block put in among the recent runs, and these among those in front
 pub recent_cover : (after rest recent front : List GapAckBlock) (b : GapAckBlock) (count n : ℕ) → count ≤ length after → SameCover (take count after) (b ∷ take n (take (n + 1) recent)) → SameCover (take count (after ++ rest) ++ front) (b ∷ (take n recent ++ front))

@@ -79,8 +79,9 @@ fn clean_blocks(blocks: &mut Vec<GapAckBlock>)
 /// Puts block after block in among the runs of those before it: the first so many are then the
 /// runs of what the blocks covered.
 ///
-/// A run that is put in before others moves them all, and 16,379 blocks fit in a packet. So it goes
-/// among a few recent runs, and only when these are many they go among the others, all at once.
+/// A packet holds 16,379 blocks, and a run that is put in before others moves them all. So a block
+/// that does not follow the runs in front goes among a few recent ones, and these go among those in
+/// front all at once, when they are 256 and at the end.
 fn gather(blocks: &mut [GapAckBlock]) -> usize
     ensures len { result ≤ length blocks.old }
     ensures apart { IsApart 0 (take result blocks.new) }
@@ -120,7 +121,7 @@ struct Counts {
     recent: usize,
 }
 
-/// Puts the block in among the runs in front and the recent ones.
+/// Puts the block in after the runs in front or among the recent ones, which may overlap those.
 fn add_block(
     blocks: &mut [GapAckBlock],
     recent: &mut [GapAckBlock],
@@ -139,11 +140,11 @@ fn add_block(
     ensures cover { SameCover (take result.recent recent.new ++ take result.front blocks.new) (block ∷ take counts.recent recent.old ++ take counts.front blocks.old) }
     ensures rest { SameFrom blocks.old blocks.new (counts.front + counts.recent + 1) }
 {
-    if counts.recent == 0 && follows(&blocks[..counts.front], block) {
+    if follows(&blocks[..counts.front], block) {
         blocks[counts.front] = block;
         return Counts {
             front: counts.front + 1,
-            recent: 0,
+            recent: counts.recent,
         };
     }
     let count = insert(&mut recent[..counts.recent + 1], counts.recent, block);
@@ -185,8 +186,8 @@ fn insert(runs: &mut [GapAckBlock], kept: usize, block: GapAckBlock) -> usize
         low: kept,
         high: runs.len(),
     };
-    let after = put_below(runs, gap, block);
-    close(runs, after)
+    let after = put_by_search(runs, gap, block);
+    close_gap(runs, after)
 }
 
 /// Puts the others in among the first `kept` runs, from the last on: the first so many are then
@@ -206,9 +207,9 @@ fn join_runs(runs: &mut [GapAckBlock], kept: usize, others: &[GapAckBlock]) -> u
     let mut left = others.len();
     while left > 0 {
         left -= 1;
-        gap = put_next(runs, gap, others[left]);
+        gap = put_by_walk(runs, gap, others[left]);
     }
-    close(runs, gap)
+    close_gap(runs, gap)
 }
 
 /// Room between runs: those below `low`, and those from `high` on.
@@ -219,7 +220,7 @@ struct Gap {
 }
 
 /// Moves the runs past the gap next to those below it, and counts both.
-fn close(runs: &mut [GapAckBlock], gap: Gap) -> usize
+fn close_gap(runs: &mut [GapAckBlock], gap: Gap) -> usize
     requires order { gap.low ≤ gap.high }
     requires bound { gap.high ≤ length runs.old }
     ensures len { result ≤ length runs.old }
@@ -231,7 +232,8 @@ fn close(runs: &mut [GapAckBlock], gap: Gap) -> usize
 }
 
 /// Puts the block in among the runs below the gap, and moves those past it to the gap's other side.
-fn put_below(runs: &mut [GapAckBlock], gap: Gap, block: GapAckBlock) -> Gap
+/// It finds the place by a binary search.
+fn put_by_search(runs: &mut [GapAckBlock], gap: Gap, block: GapAckBlock) -> Gap
     requires order { gap.low < gap.high }
     requires bound { gap.high ≤ length runs.old }
     requires nonempty { block.start ≤ block.end }
@@ -253,8 +255,8 @@ fn put_below(runs: &mut [GapAckBlock], gap: Gap, block: GapAckBlock) -> Gap
     }
 }
 
-/// Does what `put_below` does, for a block near the gap: it walks, where that one searches.
-fn put_next(runs: &mut [GapAckBlock], gap: Gap, block: GapAckBlock) -> Gap
+/// Does what `put_by_search` does, for a block near the gap: it walks down from there.
+fn put_by_walk(runs: &mut [GapAckBlock], gap: Gap, block: GapAckBlock) -> Gap
     requires order { gap.low < gap.high }
     requires bound { gap.high ≤ length runs.old }
     requires nonempty { block.start ≤ block.end }
@@ -340,7 +342,14 @@ fn find_place(runs: &[GapAckBlock], block: GapAckBlock) -> Place
     Place { first, last, run }
 }
 
-/// The place of a block past which no run starts.
+/// The runs from `first` on overlap or touch a block, and `run` is they and it in one.
+#[derive(Clone, Copy)]
+struct Last {
+    first: usize,
+    run: GapAckBlock,
+}
+
+/// The place of the block among runs none of which starts at least 2 past its end.
 fn last_place(runs: &[GapAckBlock], block: GapAckBlock) -> Last
     requires nonempty { block.start ≤ block.end }
     requires apart { IsApart 0 runs.now }
@@ -358,13 +367,6 @@ fn last_place(runs: &[GapAckBlock], block: GapAckBlock) -> Last
         run.end = run.end.max(runs[first].end);
     }
     Last { first, run }
-}
-
-/// The runs from `first` on overlap or touch a block, and `run` is they and it in one.
-#[derive(Clone, Copy)]
-struct Last {
-    first: usize,
-    run: GapAckBlock,
 }
 
 /// The first run that ends at `offset` or later.

@@ -1,16 +1,12 @@
 -- The block follows the runs in front, or it goes among the recent ones, and these, once they are many, among those in front.
-use Rattle.std.proofs.Common.{◌≡◌, ◌+◌, [], ◌∷◌, ◌++◌, take, drop, set, arith, subst, sym}
-use Rattle.std.proofs.lemmas.List.{length-take-le, take_more_set, take_all}
+use Rattle.std.proofs.Common.{◌≡◌, ◌+◌, ◌∷◌, ◌++◌, take, drop, arith, subst, sym}
+use Rattle.std.proofs.lemmas.List.{length-take-le, take_all}
 use Rattle.dcsctp_chunk.specs.Cover.{SameCover}
-use Rattle.dcsctp_chunk.proofs.Joined.{same_turned, recent_cover, front_cover}
+use Rattle.dcsctp_chunk.proofs.Joined.{follows_cover, recent_cover, front_cover}
 use Rattle.dcsctp_chunk.proofs.chunk_validators.add_block.Goals as goal
 
 pub returns-then-follows-clause-cover : goal.returns-then-follows-clause-cover
-returns-then-follows-clause-cover c =
-    let front = take c.args.counts.front c.args.blocks.now in
-    let e = take_more_set c.args.blocks.now c.args.counts.front c.args.block (omega arith) in
-    let turned : SameCover (take (c.args.counts.front + 1) (set c.args.blocks.now c.args.counts.front c.args.block)) (c.args.block ∷ front) = subst (λ x. SameCover x (c.args.block ∷ front)) (sym e) (same_turned front (c.args.block ∷ [])) in
-    subst (λ x. SameCover (take (c.args.counts.front + 1) (set c.args.blocks.now c.args.counts.front c.args.block)) (c.args.block ∷ (take x c.args.recent.now ++ front))) (sym c.if-counts-eq0.true) turned
+returns-then-follows-clause-cover c = follows_cover (take c.args.counts.recent c.args.recent.now) c.args.blocks.now c.args.block c.args.counts.front (omega arith)
 
 pub returns-then-count-recent-clause-cover : goal.returns-then-count-recent-clause-cover
 returns-then-count-recent-clause-cover c =

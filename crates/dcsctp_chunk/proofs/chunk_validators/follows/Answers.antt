@@ -11,5 +11,5 @@ returns-in-Some c =
     let some : 0 < length runs = c.in-Some.ensures.item.3.0 in
     let e : c.in-Some.run'.now.end ≡ (get_or runs (length runs - 1) zero_block).end = ap (λ (b : GapAckBlock). b.end) (c.in-Some.ensures.item.3.1 zero_block) in
     (λ t.
-        let lt = ltb-true _ _ t in
-        apart_last runs c.args.block zero_block c.requires.nonempty c.requires.apart some (omega arith))
+    let lt = ltb-true _ _ t in
+    apart_last runs c.args.block zero_block c.requires.nonempty c.requires.apart some (omega arith))

@@ -5,8 +5,8 @@ use Rattle.dcsctp_chunk.specs.Cover.{SameCover}
 use Rattle.dcsctp_chunk.proofs.Joined.{next_apart, next_below, left_apart, left_cover}
 use Rattle.dcsctp_chunk.proofs.chunk_validators.join_runs.Goals as goal
 
-pub put_next-gap-requires-clause-nonempty : goal.put_next-gap-requires-clause-nonempty
-put_next-gap-requires-clause-nonempty c =
+pub put_by_walk-gap-requires-clause-nonempty : goal.put_by_walk-gap-requires-clause-nonempty
+put_by_walk-gap-requires-clause-nonempty c =
     let zero_block : GapAckBlock = record { start = 0; end = 0 } in
     let others = c.args.others.now in
     let left = c.loop-left.left in
@@ -14,8 +14,8 @@ put_next-gap-requires-clause-nonempty c =
     let a = next_apart others high left zero_block (omega arith) c.loop-left.invariant.left_bound c.loop-left.invariant.left_apart in
     (next_below (take (left - 1) others) high (get_or others (left - 1) zero_block) a).1
 
-pub put_next-gap-requires-clause-below : goal.put_next-gap-requires-clause-below
-put_next-gap-requires-clause-below c =
+pub put_by_walk-gap-requires-clause-below : goal.put_by_walk-gap-requires-clause-below
+put_by_walk-gap-requires-clause-below c =
     let zero_block : GapAckBlock = record { start = 0; end = 0 } in
     let others = c.args.others.now in
     let left = c.loop-left.left in
@@ -31,17 +31,17 @@ loop-left-preserved c =
     let runs = c.loop-left.runs in
     let low = take c.loop-left.gap.low runs in
     let high = drop c.loop-left.gap.high runs in
-    let gap = c.put_next-gap.result in
-    let after = c.put_next-gap.new.runs in
+    let gap = c.put_by_walk-gap.result in
+    let after = c.put_by_walk-gap.new.runs in
     let every = others ++ take c.args.kept c.args.runs.now in
     let a = next_apart others high left zero_block (omega arith) c.loop-left.invariant.left_bound c.loop-left.invariant.left_apart in
     record {
       room = omega arith;
       bound = omega arith;
       left_bound = omega arith;
-      apart = c.put_next-gap.ensures.apart;
-      left_apart = left_apart (take (left - 1) others) high (drop gap.high after) (get_or others (left - 1) zero_block) a c.put_next-gap.ensures.below;
-      cover = left_cover others (low ++ high) (take gap.low after ++ drop gap.high after) every left zero_block (omega arith) c.loop-left.invariant.left_bound c.put_next-gap.ensures.cover c.loop-left.invariant.cover;
+      apart = c.put_by_walk-gap.ensures.apart;
+      left_apart = left_apart (take (left - 1) others) high (drop gap.high after) (get_or others (left - 1) zero_block) a c.put_by_walk-gap.ensures.below;
+      cover = left_cover others (low ++ high) (take gap.low after ++ drop gap.high after) every left zero_block (omega arith) c.loop-left.invariant.left_bound c.put_by_walk-gap.ensures.cover c.loop-left.invariant.cover;
     }
 
 pub returns-clause-cover : goal.returns-clause-cover
@@ -52,4 +52,4 @@ returns-clause-cover c =
     let every = c.args.others.now ++ take c.args.kept c.args.runs.now in
     let none : c.loop-left.left ≡ 0 = omega arith in
     let both = subst (λ x. SameCover (take x c.args.others.now ++ (take low runs ++ drop high runs)) every) none c.loop-left.invariant.cover in
-    subst (λ x. SameCover x every) (sym c.close.ensures.runs) both
+    subst (λ x. SameCover x every) (sym c.close_gap.ensures.runs) both

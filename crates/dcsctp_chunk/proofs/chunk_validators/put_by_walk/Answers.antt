@@ -4,7 +4,7 @@ use Rattle.std.proofs.lemmas.List.{length-take-le}
 use Rattle.dcsctp_chunk.specs.Cover.{SameCover}
 use Rattle.dcsctp_chunk.specs.Apart.{IsApart}
 use Rattle.dcsctp_chunk.proofs.Joined.{apart_left, below-apart, below-cover, written}
-use Rattle.dcsctp_chunk.proofs.chunk_validators.put_next.Goals as goal
+use Rattle.dcsctp_chunk.proofs.chunk_validators.put_by_walk.Goals as goal
 
 pub last_place-place-requires-clause-apart : goal.last_place-place-requires-clause-apart
 last_place-place-requires-clause-apart c =

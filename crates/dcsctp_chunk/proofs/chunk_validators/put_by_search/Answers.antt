@@ -4,7 +4,7 @@ use Rattle.std.proofs.lemmas.List.{length-take-le}
 use Rattle.dcsctp_chunk.specs.Cover.{SameCover}
 use Rattle.dcsctp_chunk.specs.Apart.{IsApart}
 use Rattle.dcsctp_chunk.proofs.Joined.{apart_left, below-apart, below-cover, below-gap, moved, moved_back}
-use Rattle.dcsctp_chunk.proofs.chunk_validators.put_below.Goals as goal
+use Rattle.dcsctp_chunk.proofs.chunk_validators.put_by_search.Goals as goal
 
 pub find_place-place-requires-clause-apart : goal.find_place-place-requires-clause-apart
 find_place-place-requires-clause-apart c = apart_left 0 (take c.args.gap.low c.args.runs.now) (drop c.args.gap.high c.args.runs.now) c.requires.apart
