@@ -1,7 +1,7 @@
 -- Runs put in among others, from the last on: those below a gap, and those past it.
 use Rattle.std.proofs.Common.{◌≡◌, ◌⊎◌, inl, inr, ℕ, ◌+◌, ◌-◌, ◌<◌, ◌≤◌, List, [], ◌∷◌, ◌++◌, length, get_or, set, take, drop, sym, ap, subst, ◌∙◌, arith}
 use Rattle.std.specs.List.{copy_within}
-use Rattle.std.proofs.lemmas.List.{append_assoc, take_more, take_all, take_at, drop_at, take_more_set, take-append-le, drop-set-lt, length-append, length-take-le, length-drop, take-take, drop-take, take-append-drop, take-set-le, drop-set, get_or-take}
+use Rattle.std.proofs.lemmas.List.{append_assoc, take_more, drop_at, take_more_set, take-append-le, drop-set-lt, length-append, length-take-le, take-take, drop-take, take-append-drop, take-set-le, drop-set, get_or-take}
 use Rattle.std.proofs.lemmas.Bool.{cases_lt}
 use Rattle.std.proofs.lemmas.List.Sorted.{IsPermutation-to_front}
 use Rattle.dcsctp_chunk.specs.declared.sack_chunk.GapAckBlock.{GapAckBlock}
@@ -10,15 +10,15 @@ use Rattle.dcsctp_chunk.specs.Apart.{IsApart}
 use Rattle.dcsctp_chunk.proofs.Runs.{covers_head, covers_tail, covers_cases, contains_none, apart_weaker}
 use Rattle.dcsctp_chunk.proofs.RunsOf.{join, same_refl, same_trans, same_cons, same_swap, same_join, same_reversed, permutation_cover}
 
-pub covers_left : (xs ys : List GapAckBlock) (o : ℕ) → Covers xs o → Covers (xs ++ ys) o
+covers_left : (xs ys : List GapAckBlock) (o : ℕ) → Covers xs o → Covers (xs ++ ys) o
 covers_left [] ys o h = absurd (contains_none h.0 h.1)
 covers_left (x ∷ xs) ys o h = elim (covers_cases x xs o h) [ inl w ↦ covers_head x (xs ++ ys) o w | inr t ↦ covers_tail x (xs ++ ys) o (covers_left xs ys o t) ]
 
-pub covers_right : (xs ys : List GapAckBlock) (o : ℕ) → Covers ys o → Covers (xs ++ ys) o
+covers_right : (xs ys : List GapAckBlock) (o : ℕ) → Covers ys o → Covers (xs ++ ys) o
 covers_right [] ys o h = h
 covers_right (x ∷ xs) ys o h = covers_tail x (xs ++ ys) o (covers_right xs ys o h)
 
-pub covers_either : (xs ys : List GapAckBlock) (o : ℕ) → Covers (xs ++ ys) o → Covers xs o ⊎ Covers ys o
+covers_either : (xs ys : List GapAckBlock) (o : ℕ) → Covers (xs ++ ys) o → Covers xs o ⊎ Covers ys o
 covers_either [] ys o h = inr h
 covers_either (x ∷ xs) ys o h =
     elim (covers_cases x (xs ++ ys) o h) [
@@ -26,13 +26,13 @@ covers_either (x ∷ xs) ys o h =
       | inr t ↦ elim (covers_either xs ys o t) [ inl u ↦ inl (covers_tail x xs o u) | inr u ↦ inr u ]
     ]
 
-pub same_append : (xs ys ss ts : List GapAckBlock) → SameCover xs ss → SameCover ys ts → SameCover (xs ++ ys) (ss ++ ts)
+same_append : (xs ys ss ts : List GapAckBlock) → SameCover xs ss → SameCover ys ts → SameCover (xs ++ ys) (ss ++ ts)
 same_append xs ys ss ts e f o = (
   (λ h. elim (covers_either xs ys o h) [ inl u ↦ covers_left ss ts o ((e o).0 u) | inr u ↦ covers_right ss ts o ((f o).0 u) ]),
   (λ h. elim (covers_either ss ts o h) [ inl u ↦ covers_left xs ys o ((e o).1 u) | inr u ↦ covers_right xs ys o ((f o).1 u) ]),
 )
 
-pub same_turned : (xs ys : List GapAckBlock) → SameCover (xs ++ ys) (ys ++ xs)
+same_turned : (xs ys : List GapAckBlock) → SameCover (xs ++ ys) (ys ++ xs)
 same_turned xs ys o = (
   (λ h. elim (covers_either xs ys o h) [ inl u ↦ covers_right ys xs o u | inr u ↦ covers_left ys xs o u ]),
   (λ h. elim (covers_either ys xs o h) [ inl u ↦ covers_right xs ys o u | inr u ↦ covers_left xs ys o u ]),
@@ -42,7 +42,7 @@ pub apart_left : (n : ℕ) (xs ys : List GapAckBlock) → IsApart n (xs ++ ys) �
 apart_left n [] ys a = tt
 apart_left n (x ∷ xs) ys a = (a.0, a.1, apart_left (x.end + 2) xs ys a.2)
 
-pub apart_right : (n : ℕ) (xs ys : List GapAckBlock) → IsApart n (xs ++ ys) → IsApart n ys
+apart_right : (n : ℕ) (xs ys : List GapAckBlock) → IsApart n (xs ++ ys) → IsApart n ys
 apart_right n [] ys a = a
 apart_right n (x ∷ xs) ys a =
     let a0 = a.0 in
@@ -50,7 +50,7 @@ apart_right n (x ∷ xs) ys a =
     apart_weaker n (x.end + 2) ys (omega arith) (apart_right (x.end + 2) xs ys a.2)
 
 -- what comes later starts at least 2 past each offset that is covered before
-pub apart_past : (n : ℕ) (xs ys : List GapAckBlock) → IsApart n (xs ++ ys) → (o : ℕ) → Covers xs o → IsApart (o + 2) ys
+apart_past : (n : ℕ) (xs ys : List GapAckBlock) → IsApart n (xs ++ ys) → (o : ℕ) → Covers xs o → IsApart (o + 2) ys
 apart_past n [] ys a o c = absurd (contains_none c.0 c.1)
 apart_past n (x ∷ xs) ys a o c =
     elim (covers_cases x xs o c) [
@@ -58,7 +58,7 @@ apart_past n (x ∷ xs) ys a o c =
       | inr t ↦ apart_past (x.end + 2) xs ys a.2 o t
     ]
 
-pub apart_append : (n : ℕ) (xs ys : List GapAckBlock) → IsApart n xs → IsApart n ys → ((o : ℕ) → Covers xs o → IsApart (o + 2) ys) → IsApart n (xs ++ ys)
+apart_append : (n : ℕ) (xs ys : List GapAckBlock) → IsApart n xs → IsApart n ys → ((o : ℕ) → Covers xs o → IsApart (o + 2) ys) → IsApart n (xs ++ ys)
 apart_append n [] ys a b f = b
 apart_append n (x ∷ xs) ys a b f =
     let a1 = a.1 in
@@ -156,14 +156,6 @@ moved xs run first last low high k l m n =
     let front = take first (take low xs) ++ (run ∷ []) in
     let joined : front ++ (drop last (take low xs) ++ drop high xs) ≡ (take first (take low xs) ++ (run ∷ drop last (take low xs))) ++ drop high xs = simp append_assoc in
     ap (λ x. x ++ drop dest after) (moved_front xs run first last low high k l m n) ∙ (ap (λ x. front ++ x) (moved_back xs run first last low high k l m n) ∙ joined)
-
--- the gap closed
-pub closed : (xs : List GapAckBlock) (low high : ℕ) → low ≤ high → high ≤ length xs → take (low + (length xs - high)) (copy_within xs high (length xs) low) ≡ take low xs ++ drop high xs
-closed xs low high l m =
-    let runs = take low xs ++ take (length xs - high) (drop high xs) in
-    let rest = drop (low + (length xs - high)) xs in
-    let long : length runs ≡ low + (length xs - high) = omega (arith, length-append (take low xs) (take (length xs - high) (drop high xs)), length-take-le low xs (omega arith), length-take-le (length xs - high) (drop high xs) (omega (arith, length-drop high xs))) in
-    take_at runs rest (low + (length xs - high)) long ∙ ap (λ x. take low xs ++ x) (take_all (length xs - high) (drop high xs) (omega (arith, length-drop high xs)))
 
 -- the block after the runs in front, with the recent ones beside them
 pub follows_cover : (recent blocks : List GapAckBlock) (b : GapAckBlock) (front : ℕ) → front < length blocks → SameCover (recent ++ take (front + 1) (set blocks front b)) (b ∷ (recent ++ take front blocks))
