@@ -83,7 +83,7 @@ interval_in_one n bs low high a l h =
       | inr ge ↦ (c.0, c.1, c0, ge)
     ]
 
-apart_rising : (n : ℕ) (bs : List GapAckBlock) → IsApart n bs → (i j : ℕ) (d : GapAckBlock) → i < j → j < length bs → (get_or bs i d).start < (get_or bs j d).start
+pub apart_rising : (n : ℕ) (bs : List GapAckBlock) → IsApart n bs → (i j : ℕ) (d : GapAckBlock) → i < j → j < length bs → (get_or bs i d).start < (get_or bs j d).start
 apart_rising n [] a i j d l m = absurd (omega arith)
 apart_rising n (b ∷ bs) a i zero d l m = absurd (omega arith)
 apart_rising n (b ∷ bs) a zero (suc j) d l m =

@@ -2,7 +2,7 @@
 use Rattle.std.proofs.Common.{◌≡◌, ◌↔◌, ◌⊎◌, inl, inr, ℕ, ◌+◌, ◌<◌, ◌≤◌, min, max, List, [], ◌∷◌, length, cond, ltb, leb, sym, subst, arith}
 use Rattle.std.proofs.lemmas.Bool.{cases_lt, ltb-true, ltb-false, leb-true, leb-false, cond_both}
 use Rattle.dcsctp_chunk.specs.declared.sack_chunk.GapAckBlock.{GapAckBlock}
-use Rattle.std.specs.List.{All, filter}
+use Rattle.std.specs.List.{All}
 use Rattle.std.specs.List.Sorted.{IsPermutation}
 use Rattle.std.proofs.lemmas.List.Elements.{All-contains}
 use Rattle.std.proofs.lemmas.List.Sorted.{Contains-permutation, IsPermutation-sym}
@@ -90,7 +90,7 @@ join_within b r ne me k l o w =
       ]
     ]
 
-same_join : (b r : GapAckBlock) (bs : List GapAckBlock) → b.start ≤ b.end → r.start ≤ r.end → r.start ≤ b.end + 1 → b.start ≤ r.end + 1 → SameCover (join b r ∷ bs) (b ∷ r ∷ bs)
+pub same_join : (b r : GapAckBlock) (bs : List GapAckBlock) → b.start ≤ b.end → r.start ≤ r.end → r.start ≤ b.end + 1 → b.start ≤ r.end + 1 → SameCover (join b r ∷ bs) (b ∷ r ∷ bs)
 unfolding join
 same_join b r bs ne me k l = same_two (join b r) b r bs (omega arith) (omega arith) (omega arith) (omega arith) (join_within b r ne me k l)
 
@@ -166,15 +166,6 @@ validated_runs bs a = record { runs = runs_from_apart 2 bs a; first = apart_past
 
 pub runs_validated : (bs : List GapAckBlock) → AreValid bs → IsApart 2 bs
 runs_validated bs h = past_one_apart 0 bs (apart_from_runs bs bs h.runs) h.first
-
--- without the blocks that cover nothing
-pub filter_cover : (bs : List GapAckBlock) → SameCover (filter (λ b. leb b.start b.end) bs) bs
-filter_cover [] = same_refl []
-filter_cover (b ∷ bs) =
-    let rest = filter (λ b. leb b.start b.end) bs in
-    cond_both (leb b.start b.end) (b ∷ rest) rest (λ x. SameCover x (b ∷ bs))
-    (λ e. same_cons b rest bs (filter_cover bs))
-    (λ e. same_trans rest bs (b ∷ bs) (filter_cover bs) (same_reversed b bs (leb-false b.start b.end e)))
 
 -- in another order
 pub permutation_cover : (xs ys : List GapAckBlock) → IsPermutation xs ys → SameCover ys xs

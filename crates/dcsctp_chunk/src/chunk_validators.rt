@@ -4,9 +4,9 @@
 //! A block covers the offsets from its start to its end, counted from the cumulative TSN; one that
 //! ends before its start covers none.
 
-ghost use Rattle.std.specs.Prelude.{◌≡◌, ◌↔◌, ℕ, ◌+◌, ◌<◌, ◌≤◌, ◌^◌, List, length, IsTrue, take};
-ghost use Rattle.std.specs.List.{All};
-ghost use Rattle.std.specs.List.Sorted.{IsNonDecreasingBy};
+ghost use Rattle.std.specs.Prelude.{◌≡◌, ◌↔◌, ℕ, ◌+◌, ◌-◌, ◌<◌, ◌≤◌, ◌^◌, List, [], ◌∷◌, ◌++◌, length, IsTrue, slice_index_or, take, drop};
+ghost use Rattle.std.specs.List.{All, SameFrom, copy_within};
+ghost use Rattle.std.specs.List.Sorted.{IsPartitionPoint};
 ghost use Rattle.dcsctp_types.specs.Serial.{wrapped_sum, IsGreater};
 ghost use Rattle.dcsctp_chunk.specs.declared.sack_chunk.GapAckBlock.{GapAckBlock};
 ghost use Rattle.dcsctp_chunk.specs.Apart.{IsApart};
@@ -72,39 +72,310 @@ fn clean_blocks(blocks: &mut Vec<GapAckBlock>)
     ensures apart { IsApart 0 blocks.new.items }
     ensures cover { SameCover blocks.new.items blocks.old.items }
 {
-    blocks.retain(|block| block.start <= block.end);
-    blocks.sort_unstable_by_key(|block| block.start);
-    let kept = merge(blocks);
+    let kept = gather(blocks);
     blocks.truncate(kept);
 }
 
-/// Merges blocks that rise by their starts: the first so many are then the runs of what the blocks
-/// covered.
-fn merge(blocks: &mut [GapAckBlock]) -> usize
-    requires nonempty { All (λ b. b.start ≤ b.end) blocks.old }
-    requires rising { IsNonDecreasingBy (λ b. b.start) blocks.old }
+/// Puts block after block in among the runs of those before it: the first so many are then the
+/// runs of what the blocks covered.
+///
+/// A packet holds 16,379 blocks, and a run that is put in before others moves them all. So a block
+/// that does not follow the runs in front goes among a few recent ones, and these go among those in
+/// front all at once, when they are 256 and at the end.
+fn gather(blocks: &mut [GapAckBlock]) -> usize
     ensures len { result ≤ length blocks.old }
     ensures apart { IsApart 0 (take result blocks.new) }
     ensures cover { SameCover (take result blocks.new) blocks.old }
 {
-    if blocks.is_empty() {
-        return 0;
-    }
-    let mut run = blocks[0];
-    let mut kept = 0;
-    for i in 1..blocks.len() {
+    turn_falling(blocks);
+    let mut recent = [GapAckBlock::new(0, 0); 256];
+    let mut counts = Counts {
+        front: 0,
+        recent: 0,
+    };
+    for i in 0..blocks.len() {
         let block = blocks[i];
-        // an end can be 65,535, so one is taken from the start
-        if block.start.saturating_sub(1) <= run.end {
-            run.end = run.end.max(block.end);
-        } else {
-            blocks[kept] = run;
-            kept += 1;
-            run = block;
+        if block.start <= block.end {
+            counts = add_block(blocks, &mut recent, counts, block);
         }
     }
-    blocks[kept] = run;
-    kept + 1
+    let both = counts.front + counts.recent;
+    join_runs(&mut blocks[..both], counts.front, &recent[..counts.recent])
+}
+
+/// Turns the blocks round where the first starts after the last: of falling blocks each then
+/// starts after the one before it.
+fn turn_falling(blocks: &mut [GapAckBlock])
+    ensures { SameCover blocks.new blocks.old }
+{
+    let len = blocks.len();
+    if len > 0 && blocks[0].start > blocks[len - 1].start {
+        blocks.reverse();
+    }
+}
+
+/// How many runs stand in front, and how many recent ones beside them.
+#[derive(Clone, Copy)]
+struct Counts {
+    front: usize,
+    recent: usize,
+}
+
+/// Puts the block in after the runs in front or among the recent ones, which may overlap those.
+fn add_block(
+    blocks: &mut [GapAckBlock],
+    recent: &mut [GapAckBlock],
+    counts: Counts,
+    block: GapAckBlock,
+) -> Counts
+    requires room { counts.front + counts.recent < length blocks.old }
+    requires recent_room { counts.recent < length recent.old }
+    requires nonempty { block.start ≤ block.end }
+    requires apart { IsApart 0 (take counts.front blocks.old) }
+    requires recent_apart { IsApart 0 (take counts.recent recent.old) }
+    ensures bound { result.front + result.recent ≤ counts.front + counts.recent + 1 }
+    ensures recent_bound { result.recent < length recent.old }
+    ensures apart { IsApart 0 (take result.front blocks.new) }
+    ensures recent_apart { IsApart 0 (take result.recent recent.new) }
+    ensures cover { SameCover (take result.recent recent.new ++ take result.front blocks.new) (block ∷ take counts.recent recent.old ++ take counts.front blocks.old) }
+    ensures rest { SameFrom blocks.old blocks.new (counts.front + counts.recent + 1) }
+{
+    if follows(&blocks[..counts.front], block) {
+        blocks[counts.front] = block;
+        return Counts {
+            front: counts.front + 1,
+            recent: counts.recent,
+        };
+    }
+    let count = insert(&mut recent[..counts.recent + 1], counts.recent, block);
+    if count < recent.len() {
+        return Counts {
+            front: counts.front,
+            recent: count,
+        };
+    }
+    let both = counts.front + count;
+    Counts {
+        front: join_runs(&mut blocks[..both], counts.front, recent),
+        recent: 0,
+    }
+}
+
+/// Whether the block starts at least 2 past the end of the last run.
+fn follows(runs: &[GapAckBlock], block: GapAckBlock) -> bool
+    requires nonempty { block.start ≤ block.end }
+    requires apart { IsApart 0 runs.now }
+    ensures { IsTrue result → IsApart 0 (runs.now ++ (block ∷ [])) }
+{
+    match runs.last() {
+        Some(run) => run.end < block.start.saturating_sub(1),
+        None => true,
+    }
+}
+
+/// Puts the block in among the first `kept` runs: the first so many are then the runs of both.
+fn insert(runs: &mut [GapAckBlock], kept: usize, block: GapAckBlock) -> usize
+    requires room { length runs.old ≡ kept + 1 }
+    requires nonempty { block.start ≤ block.end }
+    requires apart { IsApart 0 (take kept runs.old) }
+    ensures len { result ≤ kept + 1 }
+    ensures apart { IsApart 0 (take result runs.new) }
+    ensures cover { SameCover (take result runs.new) (block ∷ take kept runs.old) }
+{
+    let gap = Gap {
+        low: kept,
+        high: runs.len(),
+    };
+    let after = put_by_search(runs, gap, block);
+    close_gap(runs, after)
+}
+
+/// Puts the others in among the first `kept` runs, from the last on: the first so many are then
+/// the runs of both.
+fn join_runs(runs: &mut [GapAckBlock], kept: usize, others: &[GapAckBlock]) -> usize
+    requires room { length runs.old ≡ kept + length others.now }
+    requires apart { IsApart 0 (take kept runs.old) }
+    requires others_apart { IsApart 0 others.now }
+    ensures len { result ≤ kept + length others.now }
+    ensures apart { IsApart 0 (take result runs.new) }
+    ensures cover { SameCover (take result runs.new) (others.now ++ take kept runs.old) }
+{
+    let mut gap = Gap {
+        low: kept,
+        high: runs.len(),
+    };
+    let mut left = others.len();
+    while left > 0 {
+        left -= 1;
+        gap = put_by_walk(runs, gap, others[left]);
+    }
+    close_gap(runs, gap)
+}
+
+/// Room between runs: those below `low`, and those from `high` on.
+#[derive(Clone, Copy)]
+struct Gap {
+    low: usize,
+    high: usize,
+}
+
+/// Moves the runs past the gap next to those below it, and counts both.
+fn close_gap(runs: &mut [GapAckBlock], gap: Gap) -> usize
+    requires order { gap.low ≤ gap.high }
+    requires bound { gap.high ≤ length runs.old }
+    ensures len { result ≤ length runs.old }
+    ensures runs { take result runs.new ≡ take gap.low runs.old ++ drop gap.high runs.old }
+{
+    let end = runs.len();
+    move_within(runs, gap.high, end, gap.low);
+    gap.low + (end - gap.high)
+}
+
+/// Puts the block in among the runs below the gap, and moves those past it to the gap's other side.
+/// It finds the place by a binary search.
+fn put_by_search(runs: &mut [GapAckBlock], gap: Gap, block: GapAckBlock) -> Gap
+    requires order { gap.low < gap.high }
+    requires bound { gap.high ≤ length runs.old }
+    requires nonempty { block.start ≤ block.end }
+    requires apart { IsApart 0 (take gap.low runs.old ++ drop gap.high runs.old) }
+    requires below { IsApart 0 (block ∷ drop gap.high runs.old) }
+    ensures order { result.low + gap.high ≤ gap.low + 1 + result.high }
+    ensures bound { result.high ≤ length runs.old }
+    ensures apart { IsApart 0 (take result.low runs.new ++ drop result.high runs.new) }
+    ensures below { IsApart (block.end + 2) (drop result.high runs.new) }
+    ensures cover { SameCover (take result.low runs.new ++ drop result.high runs.new) (block ∷ take gap.low runs.old ++ drop gap.high runs.old) }
+{
+    let place = find_place(&runs[..gap.low], block);
+    let high = gap.high - (gap.low - place.last);
+    move_within(runs, place.last, gap.low, high);
+    runs[place.first] = place.run;
+    Gap {
+        low: place.first + 1,
+        high,
+    }
+}
+
+/// Does what `put_by_search` does, for a block near the gap: it walks down from there.
+fn put_by_walk(runs: &mut [GapAckBlock], gap: Gap, block: GapAckBlock) -> Gap
+    requires order { gap.low < gap.high }
+    requires bound { gap.high ≤ length runs.old }
+    requires nonempty { block.start ≤ block.end }
+    requires apart { IsApart 0 (take gap.low runs.old ++ drop gap.high runs.old) }
+    requires below { IsApart 0 (block ∷ drop gap.high runs.old) }
+    ensures order { result.low + gap.high ≤ gap.low + 1 + result.high }
+    ensures bound { result.high ≤ length runs.old }
+    ensures apart { IsApart 0 (take result.low runs.new ++ drop result.high runs.new) }
+    ensures below { IsApart (block.end + 2) (drop result.high runs.new) }
+    ensures cover { SameCover (take result.low runs.new ++ drop result.high runs.new) (block ∷ take gap.low runs.old ++ drop gap.high runs.old) }
+{
+    let past = lift_past(runs, gap, block);
+    let place = last_place(&runs[..past.low], block);
+    runs[place.first] = place.run;
+    Gap {
+        low: place.first + 1,
+        high: past.high,
+    }
+}
+
+/// Moves the runs that start at least 2 past the block's end to the gap's other side.
+fn lift_past(runs: &mut [GapAckBlock], gap: Gap, block: GapAckBlock) -> Gap
+    requires order { gap.low < gap.high }
+    requires bound { gap.high ≤ length runs.old }
+    requires apart { IsApart 0 (take gap.low runs.old ++ drop gap.high runs.old) }
+    requires below { IsApart (block.end + 2) (drop gap.high runs.old) }
+    ensures order { result.low + gap.high ≡ gap.low + result.high }
+    ensures bound { result.high ≤ gap.high }
+    ensures runs { take result.low runs.new ++ drop result.high runs.new ≡ take gap.low runs.old ++ drop gap.high runs.old }
+    ensures below { IsApart (block.end + 2) (drop result.high runs.new) }
+    ensures near { (d : GapAckBlock) → 0 < result.low → (slice_index_or runs.new (result.low - 1) d).start ≤ block.end + 1 }
+{
+    let mut low = gap.low;
+    let mut high = gap.high;
+    // a start can be 0, and an end 65,535, so one is taken from the start
+    while low > 0 && runs[low - 1].start.saturating_sub(1) > block.end {
+        low -= 1;
+        high -= 1;
+        runs[high] = runs[low];
+    }
+    Gap { low, high }
+}
+
+/// Moves the blocks from `start` up to `end` to `dest`.
+fn move_within(blocks: &mut [GapAckBlock], start: usize, end: usize, dest: usize)
+    requires order { start ≤ end }
+    requires bound { end ≤ length blocks.old }
+    requires room { dest + (end - start) ≤ length blocks.old }
+    ensures { blocks.new ≡ copy_within blocks.old start end dest }
+{
+    if start != dest {
+        blocks.copy_within(start..end, dest);
+    }
+}
+
+/// The runs from `first` up to `last` overlap or touch a block, and `run` is they and it in one.
+#[derive(Clone, Copy)]
+struct Place {
+    first: usize,
+    last: usize,
+    run: GapAckBlock,
+}
+
+/// The place of the block among the runs.
+fn find_place(runs: &[GapAckBlock], block: GapAckBlock) -> Place
+    requires nonempty { block.start ≤ block.end }
+    requires apart { IsApart 0 runs.now }
+    ensures order { result.first ≤ result.last }
+    ensures bound { result.last ≤ length runs.now }
+    ensures within { block.end ≤ result.run.end }
+    ensures apart { IsApart 0 (take result.first runs.now ++ (result.run ∷ drop result.last runs.now)) }
+    ensures cover { SameCover (take result.first runs.now ++ (result.run ∷ drop result.last runs.now)) (block ∷ runs.now) }
+{
+    let first = first_reaching(runs, block.start.saturating_sub(1));
+    let mut last = first;
+    let mut run = block;
+    // an end can be 65,535, so one is taken from the start
+    while last < runs.len() && runs[last].start.saturating_sub(1) <= run.end {
+        run.start = run.start.min(runs[last].start);
+        run.end = run.end.max(runs[last].end);
+        last += 1;
+    }
+    Place { first, last, run }
+}
+
+/// The runs from `first` on overlap or touch a block, and `run` is they and it in one.
+#[derive(Clone, Copy)]
+struct Last {
+    first: usize,
+    run: GapAckBlock,
+}
+
+/// The place of the block among runs none of which starts at least 2 past its end.
+fn last_place(runs: &[GapAckBlock], block: GapAckBlock) -> Last
+    requires nonempty { block.start ≤ block.end }
+    requires apart { IsApart 0 runs.now }
+    requires near { (d : GapAckBlock) → 0 < length runs.now → (slice_index_or runs.now (length runs.now - 1) d).start ≤ block.end + 1 }
+    ensures bound { result.first ≤ length runs.now }
+    ensures within { block.end ≤ result.run.end }
+    ensures apart { IsApart 0 (take result.first runs.now ++ (result.run ∷ [])) }
+    ensures cover { SameCover (take result.first runs.now ++ (result.run ∷ [])) (block ∷ runs.now) }
+{
+    let mut first = runs.len();
+    let mut run = block;
+    while first > 0 && run.start.saturating_sub(1) <= runs[first - 1].end {
+        first -= 1;
+        run.start = run.start.min(runs[first].start);
+        run.end = run.end.max(runs[first].end);
+    }
+    Last { first, run }
+}
+
+/// The first run that ends at `offset` or later.
+fn first_reaching(runs: &[GapAckBlock], offset: u16) -> usize
+    requires { IsApart 0 runs.now }
+    ensures bound { result ≤ length runs.now }
+    ensures point { IsPartitionPoint (λ r. r.end < offset) (λ r. offset ≤ r.end) runs.now result }
+{
+    runs.partition_point(|run| run.end < offset)
 }
 
 /// Offsets are 16 bits wide. The loop is here for its proof alone: the compiler leaves nothing of it.
