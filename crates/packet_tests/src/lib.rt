@@ -10,6 +10,8 @@ mod builder;
 #[cfg(test)]
 mod captures;
 #[cfg(test)]
+mod checks;
+#[cfg(test)]
 mod checksums;
 #[cfg(test)]
 mod chunks;
