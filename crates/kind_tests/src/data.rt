@@ -34,7 +34,7 @@ const DATA: &[(&[u8], &[u8], &str)] = &[
         &[
             0, 3, 0, 0x14, 0x55, 8, 0x36, 0x3c, 0, 2, 0, 1, 0, 0, 0, 0x35, 0, 1, 2, 3,
         ],
-        "DataChunk { tsn: 1426601532, user_data: Data { stream_key: Ordered(2), ssn: 1, mid: 0, fsn: 0, ppid: 53, payload: [0, 1, 2, 3], is_beginning: true, is_end: true }, immediate_ack: false }; DATA, type=ordered::complete, tsn=1426601532, sid=2, ssn=1, ppid=53, length=4",
+        "DataChunk { user_data: Data { payload: [0, 1, 2, 3], mid: 0, fsn: 0, ppid: 53, stream_key: Ordered(2), ssn: 1, is_beginning: true, is_end: true }, tsn: 1426601532, immediate_ack: false }; DATA, type=ordered::complete, tsn=1426601532, sid=2, ssn=1, ppid=53, length=4",
     ),
     // a fragment from the middle, of which a SACK is asked at once
     (
@@ -44,13 +44,13 @@ const DATA: &[(&[u8], &[u8], &str)] = &[
         &[
             0, 8, 0, 0x15, 0, 0, 0, 0x7b, 1, 0xc8, 3, 0x15, 0, 0, 0x23, 0x82, 1, 2, 3, 4, 5,
         ],
-        "DataChunk { tsn: 123, user_data: Data { stream_key: Ordered(456), ssn: 789, mid: 0, fsn: 0, ppid: 9090, payload: [1, 2, 3, 4, 5], is_beginning: false, is_end: false }, immediate_ack: true }; DATA, type=ordered::middle, tsn=123, sid=456, ssn=789, ppid=9090, length=5",
+        "DataChunk { user_data: Data { payload: [1, 2, 3, 4, 5], mid: 0, fsn: 0, ppid: 9090, stream_key: Ordered(456), ssn: 789, is_beginning: false, is_end: false }, tsn: 123, immediate_ack: true }; DATA, type=ordered::middle, tsn=123, sid=456, ssn=789, ppid=9090, length=5",
     ),
     // the immediate ack and the four highest flags aren't printed, and these four aren't written
     (
         &[0, 0xfd, 0, 0x10, 0, 0, 0, 1, 0, 2, 0, 3, 0, 0, 0, 4],
         &[0, 0x0d, 0, 0x10, 0, 0, 0, 1, 0, 2, 0, 3, 0, 0, 0, 4],
-        "DataChunk { tsn: 1, user_data: Data { stream_key: Unordered(2), ssn: 3, mid: 0, fsn: 0, ppid: 4, payload: [], is_beginning: false, is_end: true }, immediate_ack: true }; DATA, type=unordered::last, tsn=1, sid=2, ssn=3, ppid=4, length=0",
+        "DataChunk { user_data: Data { payload: [], mid: 0, fsn: 0, ppid: 4, stream_key: Unordered(2), ssn: 3, is_beginning: false, is_end: true }, tsn: 1, immediate_ack: true }; DATA, type=unordered::last, tsn=1, sid=2, ssn=3, ppid=4, length=0",
     ),
     // captured: it stands after a COOKIE ACK, opens a channel, and has three bytes of padding
     (
@@ -66,7 +66,7 @@ const DATA: &[(&[u8], &[u8], &str)] = &[
             0x6e, 0x73, 0x77, 0x65, 0x62, 0x72, 0x74, 0x63, 0x2d, 0x64, 0x61, 0x74, 0x61, 0x63,
             0x68, 0x61, 0x6e, 0x6e, 0x65, 0x6c,
         ],
-        "DataChunk { tsn: 3479146723, user_data: Data { stream_key: Ordered(111), ssn: 0, mid: 0, fsn: 0, ppid: 50, payload: [3, 130, 0, 0, 0, 0, 156, 64, 0, 11, 0, 18, 99, 111, 108, 108, 101, 99, 116, 105, 111, 110, 115, 119, 101, 98, 114, 116, 99, 45, 100, 97, 116, 97, 99, 104, 97, 110, 110, 101, 108], is_beginning: true, is_end: true }, immediate_ack: false }; DATA, type=ordered::complete, tsn=3479146723, sid=111, ssn=0, ppid=50, length=41",
+        "DataChunk { user_data: Data { payload: [3, 130, 0, 0, 0, 0, 156, 64, 0, 11, 0, 18, 99, 111, 108, 108, 101, 99, 116, 105, 111, 110, 115, 119, 101, 98, 114, 116, 99, 45, 100, 97, 116, 97, 99, 104, 97, 110, 110, 101, 108], mid: 0, fsn: 0, ppid: 50, stream_key: Ordered(111), ssn: 0, is_beginning: true, is_end: true }, tsn: 3479146723, immediate_ack: false }; DATA, type=ordered::complete, tsn=3479146723, sid=111, ssn=0, ppid=50, length=41",
     ),
 ];
 
@@ -92,67 +92,67 @@ fn data(rt: HostRuntime) -> Result<(), Fail> {
 const FLAGS: &[(u8, &str)] = &[
     (
         0b0000,
-        "DataChunk { tsn: 1, user_data: Data { stream_key: Ordered(2), ssn: 3, mid: 0, fsn: 0, ppid: 4, payload: [], is_beginning: false, is_end: false }, immediate_ack: false }; DATA, type=ordered::middle, tsn=1, sid=2, ssn=3, ppid=4, length=0",
+        "DataChunk { user_data: Data { payload: [], mid: 0, fsn: 0, ppid: 4, stream_key: Ordered(2), ssn: 3, is_beginning: false, is_end: false }, tsn: 1, immediate_ack: false }; DATA, type=ordered::middle, tsn=1, sid=2, ssn=3, ppid=4, length=0",
     ),
     (
         0b0001,
-        "DataChunk { tsn: 1, user_data: Data { stream_key: Ordered(2), ssn: 3, mid: 0, fsn: 0, ppid: 4, payload: [], is_beginning: false, is_end: true }, immediate_ack: false }; DATA, type=ordered::last, tsn=1, sid=2, ssn=3, ppid=4, length=0",
+        "DataChunk { user_data: Data { payload: [], mid: 0, fsn: 0, ppid: 4, stream_key: Ordered(2), ssn: 3, is_beginning: false, is_end: true }, tsn: 1, immediate_ack: false }; DATA, type=ordered::last, tsn=1, sid=2, ssn=3, ppid=4, length=0",
     ),
     (
         0b0010,
-        "DataChunk { tsn: 1, user_data: Data { stream_key: Ordered(2), ssn: 3, mid: 0, fsn: 0, ppid: 4, payload: [], is_beginning: true, is_end: false }, immediate_ack: false }; DATA, type=ordered::first, tsn=1, sid=2, ssn=3, ppid=4, length=0",
+        "DataChunk { user_data: Data { payload: [], mid: 0, fsn: 0, ppid: 4, stream_key: Ordered(2), ssn: 3, is_beginning: true, is_end: false }, tsn: 1, immediate_ack: false }; DATA, type=ordered::first, tsn=1, sid=2, ssn=3, ppid=4, length=0",
     ),
     (
         0b0011,
-        "DataChunk { tsn: 1, user_data: Data { stream_key: Ordered(2), ssn: 3, mid: 0, fsn: 0, ppid: 4, payload: [], is_beginning: true, is_end: true }, immediate_ack: false }; DATA, type=ordered::complete, tsn=1, sid=2, ssn=3, ppid=4, length=0",
+        "DataChunk { user_data: Data { payload: [], mid: 0, fsn: 0, ppid: 4, stream_key: Ordered(2), ssn: 3, is_beginning: true, is_end: true }, tsn: 1, immediate_ack: false }; DATA, type=ordered::complete, tsn=1, sid=2, ssn=3, ppid=4, length=0",
     ),
     (
         0b0100,
-        "DataChunk { tsn: 1, user_data: Data { stream_key: Unordered(2), ssn: 3, mid: 0, fsn: 0, ppid: 4, payload: [], is_beginning: false, is_end: false }, immediate_ack: false }; DATA, type=unordered::middle, tsn=1, sid=2, ssn=3, ppid=4, length=0",
+        "DataChunk { user_data: Data { payload: [], mid: 0, fsn: 0, ppid: 4, stream_key: Unordered(2), ssn: 3, is_beginning: false, is_end: false }, tsn: 1, immediate_ack: false }; DATA, type=unordered::middle, tsn=1, sid=2, ssn=3, ppid=4, length=0",
     ),
     (
         0b0101,
-        "DataChunk { tsn: 1, user_data: Data { stream_key: Unordered(2), ssn: 3, mid: 0, fsn: 0, ppid: 4, payload: [], is_beginning: false, is_end: true }, immediate_ack: false }; DATA, type=unordered::last, tsn=1, sid=2, ssn=3, ppid=4, length=0",
+        "DataChunk { user_data: Data { payload: [], mid: 0, fsn: 0, ppid: 4, stream_key: Unordered(2), ssn: 3, is_beginning: false, is_end: true }, tsn: 1, immediate_ack: false }; DATA, type=unordered::last, tsn=1, sid=2, ssn=3, ppid=4, length=0",
     ),
     (
         0b0110,
-        "DataChunk { tsn: 1, user_data: Data { stream_key: Unordered(2), ssn: 3, mid: 0, fsn: 0, ppid: 4, payload: [], is_beginning: true, is_end: false }, immediate_ack: false }; DATA, type=unordered::first, tsn=1, sid=2, ssn=3, ppid=4, length=0",
+        "DataChunk { user_data: Data { payload: [], mid: 0, fsn: 0, ppid: 4, stream_key: Unordered(2), ssn: 3, is_beginning: true, is_end: false }, tsn: 1, immediate_ack: false }; DATA, type=unordered::first, tsn=1, sid=2, ssn=3, ppid=4, length=0",
     ),
     (
         0b0111,
-        "DataChunk { tsn: 1, user_data: Data { stream_key: Unordered(2), ssn: 3, mid: 0, fsn: 0, ppid: 4, payload: [], is_beginning: true, is_end: true }, immediate_ack: false }; DATA, type=unordered::complete, tsn=1, sid=2, ssn=3, ppid=4, length=0",
+        "DataChunk { user_data: Data { payload: [], mid: 0, fsn: 0, ppid: 4, stream_key: Unordered(2), ssn: 3, is_beginning: true, is_end: true }, tsn: 1, immediate_ack: false }; DATA, type=unordered::complete, tsn=1, sid=2, ssn=3, ppid=4, length=0",
     ),
     (
         0b1000,
-        "DataChunk { tsn: 1, user_data: Data { stream_key: Ordered(2), ssn: 3, mid: 0, fsn: 0, ppid: 4, payload: [], is_beginning: false, is_end: false }, immediate_ack: true }; DATA, type=ordered::middle, tsn=1, sid=2, ssn=3, ppid=4, length=0",
+        "DataChunk { user_data: Data { payload: [], mid: 0, fsn: 0, ppid: 4, stream_key: Ordered(2), ssn: 3, is_beginning: false, is_end: false }, tsn: 1, immediate_ack: true }; DATA, type=ordered::middle, tsn=1, sid=2, ssn=3, ppid=4, length=0",
     ),
     (
         0b1001,
-        "DataChunk { tsn: 1, user_data: Data { stream_key: Ordered(2), ssn: 3, mid: 0, fsn: 0, ppid: 4, payload: [], is_beginning: false, is_end: true }, immediate_ack: true }; DATA, type=ordered::last, tsn=1, sid=2, ssn=3, ppid=4, length=0",
+        "DataChunk { user_data: Data { payload: [], mid: 0, fsn: 0, ppid: 4, stream_key: Ordered(2), ssn: 3, is_beginning: false, is_end: true }, tsn: 1, immediate_ack: true }; DATA, type=ordered::last, tsn=1, sid=2, ssn=3, ppid=4, length=0",
     ),
     (
         0b1010,
-        "DataChunk { tsn: 1, user_data: Data { stream_key: Ordered(2), ssn: 3, mid: 0, fsn: 0, ppid: 4, payload: [], is_beginning: true, is_end: false }, immediate_ack: true }; DATA, type=ordered::first, tsn=1, sid=2, ssn=3, ppid=4, length=0",
+        "DataChunk { user_data: Data { payload: [], mid: 0, fsn: 0, ppid: 4, stream_key: Ordered(2), ssn: 3, is_beginning: true, is_end: false }, tsn: 1, immediate_ack: true }; DATA, type=ordered::first, tsn=1, sid=2, ssn=3, ppid=4, length=0",
     ),
     (
         0b1011,
-        "DataChunk { tsn: 1, user_data: Data { stream_key: Ordered(2), ssn: 3, mid: 0, fsn: 0, ppid: 4, payload: [], is_beginning: true, is_end: true }, immediate_ack: true }; DATA, type=ordered::complete, tsn=1, sid=2, ssn=3, ppid=4, length=0",
+        "DataChunk { user_data: Data { payload: [], mid: 0, fsn: 0, ppid: 4, stream_key: Ordered(2), ssn: 3, is_beginning: true, is_end: true }, tsn: 1, immediate_ack: true }; DATA, type=ordered::complete, tsn=1, sid=2, ssn=3, ppid=4, length=0",
     ),
     (
         0b1100,
-        "DataChunk { tsn: 1, user_data: Data { stream_key: Unordered(2), ssn: 3, mid: 0, fsn: 0, ppid: 4, payload: [], is_beginning: false, is_end: false }, immediate_ack: true }; DATA, type=unordered::middle, tsn=1, sid=2, ssn=3, ppid=4, length=0",
+        "DataChunk { user_data: Data { payload: [], mid: 0, fsn: 0, ppid: 4, stream_key: Unordered(2), ssn: 3, is_beginning: false, is_end: false }, tsn: 1, immediate_ack: true }; DATA, type=unordered::middle, tsn=1, sid=2, ssn=3, ppid=4, length=0",
     ),
     (
         0b1101,
-        "DataChunk { tsn: 1, user_data: Data { stream_key: Unordered(2), ssn: 3, mid: 0, fsn: 0, ppid: 4, payload: [], is_beginning: false, is_end: true }, immediate_ack: true }; DATA, type=unordered::last, tsn=1, sid=2, ssn=3, ppid=4, length=0",
+        "DataChunk { user_data: Data { payload: [], mid: 0, fsn: 0, ppid: 4, stream_key: Unordered(2), ssn: 3, is_beginning: false, is_end: true }, tsn: 1, immediate_ack: true }; DATA, type=unordered::last, tsn=1, sid=2, ssn=3, ppid=4, length=0",
     ),
     (
         0b1110,
-        "DataChunk { tsn: 1, user_data: Data { stream_key: Unordered(2), ssn: 3, mid: 0, fsn: 0, ppid: 4, payload: [], is_beginning: true, is_end: false }, immediate_ack: true }; DATA, type=unordered::first, tsn=1, sid=2, ssn=3, ppid=4, length=0",
+        "DataChunk { user_data: Data { payload: [], mid: 0, fsn: 0, ppid: 4, stream_key: Unordered(2), ssn: 3, is_beginning: true, is_end: false }, tsn: 1, immediate_ack: true }; DATA, type=unordered::first, tsn=1, sid=2, ssn=3, ppid=4, length=0",
     ),
     (
         0b1111,
-        "DataChunk { tsn: 1, user_data: Data { stream_key: Unordered(2), ssn: 3, mid: 0, fsn: 0, ppid: 4, payload: [], is_beginning: true, is_end: true }, immediate_ack: true }; DATA, type=unordered::complete, tsn=1, sid=2, ssn=3, ppid=4, length=0",
+        "DataChunk { user_data: Data { payload: [], mid: 0, fsn: 0, ppid: 4, stream_key: Unordered(2), ssn: 3, is_beginning: true, is_end: true }, tsn: 1, immediate_ack: true }; DATA, type=unordered::complete, tsn=1, sid=2, ssn=3, ppid=4, length=0",
     ),
 ];
 
@@ -179,7 +179,7 @@ const IDATA: &[(&[u8], &[u8], &str)] = &[
         &[
             0x40, 2, 0, 0x15, 0x94, 0x4a, 0x5d, 0xd5, 0, 1, 0, 0, 0, 0, 0, 0, 0, 0, 0, 0x35, 1,
         ],
-        "IDataChunk { tsn: 2487901653, user_data: Data { stream_key: Ordered(1), ssn: 0, mid: 0, fsn: 0, ppid: 53, payload: [1], is_beginning: true, is_end: false }, immediate_ack: false }; I-DATA, type=ordered::first, tsn=2487901653, mid=1, ssn=0, ppid=53, length=1",
+        "IDataChunk { user_data: Data { payload: [1], mid: 0, fsn: 0, ppid: 53, stream_key: Ordered(1), ssn: 0, is_beginning: true, is_end: false }, tsn: 2487901653, immediate_ack: false }; I-DATA, type=ordered::first, tsn=2487901653, mid=1, ssn=0, ppid=53, length=1",
     ),
     // captured: each later one carries its number, and no protocol
     (
@@ -190,7 +190,7 @@ const IDATA: &[(&[u8], &[u8], &str)] = &[
         &[
             0x40, 1, 0, 0x15, 0x94, 0x4a, 0x5e, 0x0a, 0, 3, 0, 0, 0, 0, 0, 1, 0, 0, 0, 8, 1,
         ],
-        "IDataChunk { tsn: 2487901706, user_data: Data { stream_key: Ordered(3), ssn: 0, mid: 1, fsn: 8, ppid: 0, payload: [1], is_beginning: false, is_end: true }, immediate_ack: false }; I-DATA, type=ordered::last, tsn=2487901706, mid=3, ssn=1, ppid=0, length=1",
+        "IDataChunk { user_data: Data { payload: [1], mid: 1, fsn: 8, ppid: 0, stream_key: Ordered(3), ssn: 0, is_beginning: false, is_end: true }, tsn: 2487901706, immediate_ack: false }; I-DATA, type=ordered::last, tsn=2487901706, mid=3, ssn=1, ppid=0, length=1",
     ),
     // without a payload
     (
@@ -200,7 +200,7 @@ const IDATA: &[(&[u8], &[u8], &str)] = &[
         &[
             0x40, 0, 0, 0x14, 0, 0, 0, 1, 0, 2, 0, 0, 0, 0, 0, 3, 0, 0, 0, 6,
         ],
-        "IDataChunk { tsn: 1, user_data: Data { stream_key: Ordered(2), ssn: 0, mid: 3, fsn: 6, ppid: 0, payload: [], is_beginning: false, is_end: false }, immediate_ack: false }; I-DATA, type=ordered::middle, tsn=1, mid=2, ssn=3, ppid=0, length=0",
+        "IDataChunk { user_data: Data { payload: [], mid: 3, fsn: 6, ppid: 0, stream_key: Ordered(2), ssn: 0, is_beginning: false, is_end: false }, tsn: 1, immediate_ack: false }; I-DATA, type=ordered::middle, tsn=1, mid=2, ssn=3, ppid=0, length=0",
     ),
     // the same out of sequence: the last number is the fragment's, and there is no protocol
     (
@@ -210,7 +210,7 @@ const IDATA: &[(&[u8], &[u8], &str)] = &[
         &[
             0x40, 4, 0, 0x14, 0, 0, 0, 1, 0, 2, 0, 0, 0, 0, 0, 3, 0, 0, 0, 6,
         ],
-        "IDataChunk { tsn: 1, user_data: Data { stream_key: Unordered(2), ssn: 0, mid: 3, fsn: 6, ppid: 0, payload: [], is_beginning: false, is_end: false }, immediate_ack: false }; I-DATA, type=unordered::middle, tsn=1, mid=2, ssn=3, ppid=0, length=0",
+        "IDataChunk { user_data: Data { payload: [], mid: 3, fsn: 6, ppid: 0, stream_key: Unordered(2), ssn: 0, is_beginning: false, is_end: false }, tsn: 1, immediate_ack: false }; I-DATA, type=unordered::middle, tsn=1, mid=2, ssn=3, ppid=0, length=0",
     ),
     // a first fragment: its text has the stream after mid=, and the message's number after ssn=
     (
@@ -222,7 +222,7 @@ const IDATA: &[(&[u8], &[u8], &str)] = &[
             0x40, 2, 0, 0x19, 0, 0, 0, 0x7b, 1, 0xc8, 0, 0, 0, 0, 3, 0x15, 0, 0, 0x23, 0x82, 1, 2,
             3, 4, 5,
         ],
-        "IDataChunk { tsn: 123, user_data: Data { stream_key: Ordered(456), ssn: 0, mid: 789, fsn: 0, ppid: 9090, payload: [1, 2, 3, 4, 5], is_beginning: true, is_end: false }, immediate_ack: false }; I-DATA, type=ordered::first, tsn=123, mid=456, ssn=789, ppid=9090, length=5",
+        "IDataChunk { user_data: Data { payload: [1, 2, 3, 4, 5], mid: 789, fsn: 0, ppid: 9090, stream_key: Ordered(456), ssn: 0, is_beginning: true, is_end: false }, tsn: 123, immediate_ack: false }; I-DATA, type=ordered::first, tsn=123, mid=456, ssn=789, ppid=9090, length=5",
     ),
     // the four highest flags and the reserved bytes of a captured chunk are ignored, and written as
     // zeros
@@ -234,7 +234,7 @@ const IDATA: &[(&[u8], &[u8], &str)] = &[
         &[
             0x40, 2, 0, 0x15, 0x94, 0x4a, 0x5d, 0xd5, 0, 1, 0, 0, 0, 0, 0, 0, 0, 0, 0, 0x35, 1,
         ],
-        "IDataChunk { tsn: 2487901653, user_data: Data { stream_key: Ordered(1), ssn: 0, mid: 0, fsn: 0, ppid: 53, payload: [1], is_beginning: true, is_end: false }, immediate_ack: false }; I-DATA, type=ordered::first, tsn=2487901653, mid=1, ssn=0, ppid=53, length=1",
+        "IDataChunk { user_data: Data { payload: [1], mid: 0, fsn: 0, ppid: 53, stream_key: Ordered(1), ssn: 0, is_beginning: true, is_end: false }, tsn: 2487901653, immediate_ack: false }; I-DATA, type=ordered::first, tsn=2487901653, mid=1, ssn=0, ppid=53, length=1",
     ),
 ];
 
@@ -389,7 +389,7 @@ fn not_carried(rt: HostRuntime) -> Result<(), Fail> {
     // DATA has no place for a MID or an FSN
     assert_eq!(rt;
         data_told(rt.alloc())?.as_str(),
-        "DataChunk { tsn: 123, user_data: Data { stream_key: Ordered(456), ssn: 789, mid: 7, fsn: 6, ppid: 9090, payload: [1, 2, 3, 4, 5], is_beginning: false, is_end: false }, immediate_ack: true }; DATA, type=ordered::middle, tsn=123, sid=456, ssn=789, ppid=9090, length=5"
+        "DataChunk { user_data: Data { payload: [1, 2, 3, 4, 5], mid: 7, fsn: 6, ppid: 9090, stream_key: Ordered(456), ssn: 789, is_beginning: false, is_end: false }, tsn: 123, immediate_ack: true }; DATA, type=ordered::middle, tsn=123, sid=456, ssn=789, ppid=9090, length=5"
     );
     let wanted = [
         0, 8, 0, 0x15, 0, 0, 0, 0x7b, 1, 0xc8, 3, 0x15, 0, 0, 0x23, 0x82, 1, 2, 3, 4, 5,
@@ -397,7 +397,7 @@ fn not_carried(rt: HostRuntime) -> Result<(), Fail> {
     assert_eq!(rt; data_written(rt.alloc())?.as_slice(), wanted.as_slice());
     assert_eq!(rt;
         data_read_back(rt.alloc())?.as_str(),
-        "DataChunk { tsn: 123, user_data: Data { stream_key: Ordered(456), ssn: 789, mid: 0, fsn: 0, ppid: 9090, payload: [1, 2, 3, 4, 5], is_beginning: false, is_end: false }, immediate_ack: true }; DATA, type=ordered::middle, tsn=123, sid=456, ssn=789, ppid=9090, length=5"
+        "DataChunk { user_data: Data { payload: [1, 2, 3, 4, 5], mid: 0, fsn: 0, ppid: 9090, stream_key: Ordered(456), ssn: 789, is_beginning: false, is_end: false }, tsn: 123, immediate_ack: true }; DATA, type=ordered::middle, tsn=123, sid=456, ssn=789, ppid=9090, length=5"
     );
     Ok(())
 }
@@ -426,7 +426,7 @@ fn not_carried_interleaved(rt: HostRuntime) -> Result<(), Fail> {
     );
     assert_eq!(rt;
         idata_read_back(rt.alloc(), 1, &MIDDLE, false)?.as_str(),
-        "IDataChunk { tsn: 1, user_data: Data { stream_key: Ordered(2), ssn: 0, mid: 3, fsn: 6, ppid: 0, payload: [], is_beginning: false, is_end: false }, immediate_ack: false }; I-DATA, type=ordered::middle, tsn=1, mid=2, ssn=3, ppid=0, length=0"
+        "IDataChunk { user_data: Data { payload: [], mid: 3, fsn: 6, ppid: 0, stream_key: Ordered(2), ssn: 0, is_beginning: false, is_end: false }, tsn: 1, immediate_ack: false }; I-DATA, type=ordered::middle, tsn=1, mid=2, ssn=3, ppid=0, length=0"
     );
     // at the beginning: the protocol is carried, and no number of the fragment
     let first = Made {
@@ -435,7 +435,7 @@ fn not_carried_interleaved(rt: HostRuntime) -> Result<(), Fail> {
     };
     assert_eq!(rt;
         idata_read_back(rt.alloc(), 123, &first, true)?.as_str(),
-        "IDataChunk { tsn: 123, user_data: Data { stream_key: Ordered(456), ssn: 0, mid: 7, fsn: 0, ppid: 9090, payload: [1, 2, 3, 4, 5], is_beginning: true, is_end: false }, immediate_ack: true }; I-DATA, type=ordered::first, tsn=123, mid=456, ssn=7, ppid=9090, length=5"
+        "IDataChunk { user_data: Data { payload: [1, 2, 3, 4, 5], mid: 7, fsn: 0, ppid: 9090, stream_key: Ordered(456), ssn: 0, is_beginning: true, is_end: false }, tsn: 123, immediate_ack: true }; I-DATA, type=ordered::first, tsn=123, mid=456, ssn=7, ppid=9090, length=5"
     );
     Ok(())
 }
@@ -536,7 +536,7 @@ fn clone_told(alloc: Global, row: &Made) -> Result<String, AllocError> {
 fn new_and_clone(rt: HostRuntime) -> Result<(), Fail> {
     assert_eq!(rt;
         new_told(rt.alloc())?.as_str(),
-        "Data { stream_key: Ordered(0), ssn: 0, mid: 0, fsn: 0, ppid: 0, payload: [], is_beginning: false, is_end: false }"
+        "Data { payload: [], mid: 0, fsn: 0, ppid: 0, stream_key: Ordered(0), ssn: 0, is_beginning: false, is_end: false }"
     );
     let full = Made {
         stream_key: StreamKey::Unordered(StreamId(1)),
@@ -550,7 +550,7 @@ fn new_and_clone(rt: HostRuntime) -> Result<(), Fail> {
     };
     assert_eq!(rt;
         clone_told(rt.alloc(), &full)?.as_str(),
-        "Data { stream_key: Unordered(1), ssn: 2, mid: 3, fsn: 4, ppid: 5, payload: [6, 7], is_beginning: true, is_end: false }"
+        "Data { payload: [6, 7], mid: 3, fsn: 4, ppid: 5, stream_key: Unordered(1), ssn: 2, is_beginning: true, is_end: false }"
     );
     let first = Made {
         is_beginning: true,
@@ -558,7 +558,7 @@ fn new_and_clone(rt: HostRuntime) -> Result<(), Fail> {
     };
     assert_eq!(rt;
         clone_told(rt.alloc(), &first)?.as_str(),
-        "Data { stream_key: Ordered(456), ssn: 789, mid: 7, fsn: 6, ppid: 9090, payload: [1, 2, 3, 4, 5], is_beginning: true, is_end: false }"
+        "Data { payload: [1, 2, 3, 4, 5], mid: 7, fsn: 6, ppid: 9090, stream_key: Ordered(456), ssn: 789, is_beginning: true, is_end: false }"
     );
     Ok(())
 }

@@ -463,14 +463,31 @@ fn made(rt: HostRuntime) -> Result<(), Fail> {
     Ok(())
 }
 
-fn none_written(alloc: Global) -> Result<Vec<u8>, AllocError> {
-    let list: Vec<Parameter> = Vec::new(alloc);
-    list_written(alloc, &list)
+/// A list, and the bytes that are written of it over `ee`.
+const WRITTEN: &[(&[u8], &[u8])] = &[
+    // no item
+    (&[], &[]),
+    // one, which has no padding
+    (&[0x80, 8, 0, 6, 1, 2], &[0x80, 8, 0, 6, 1, 2]),
+    // the bytes between two stay
+    (
+        &[0x80, 8, 0, 6, 1, 2, 0, 0, 0xc0, 0, 0, 4],
+        &[0x80, 8, 0, 6, 1, 2, 0xee, 0xee, 0xc0, 0, 0, 4],
+    ),
+];
+
+/// The list is read, and written as these bytes.
+fn is_list_written(alloc: Global, bytes: &[u8], wanted: &[u8]) -> Result<bool, ChunkParseError> {
+    let again = list_rewritten::<Parameter>(alloc, bytes)?;
+    Ok(again.as_slice() == wanted)
 }
 
-fn one_written(alloc: Global) -> Result<Vec<u8>, AllocError> {
-    let extensions = Parameter::SupportedExtensions(extensions(alloc, &[1, 2])?);
-    list_written(alloc, &[extensions])
+#[test]
+fn lists_written(rt: HostRuntime) -> Result<(), Fail> {
+    for (i, (bytes, wanted)) in WRITTEN.iter().enumerate() {
+        assert!(rt; is_list_written(rt.alloc(), bytes, wanted)?, "row {i}");
+    }
+    Ok(())
 }
 
 /// Whether a list of two cookies with so many bytes can be written.
@@ -492,17 +509,6 @@ fn outgoing_size(alloc: Global, count: usize) -> Result<Option<usize>, AllocErro
 
 #[test]
 fn sizes(rt: HostRuntime) -> Result<(), Fail> {
-    assert_eq!(rt; none_written(rt.alloc())?.len(), 0);
-    assert_eq!(rt;
-        one_written(rt.alloc())?.as_slice(),
-        [0x80, 8, 0, 6, 1, 2].as_slice()
-    );
-    // the bytes between two stay
-    let bytes = [0x80, 8, 0, 6, 1, 2, 0, 0, 0xc0, 0, 0, 4];
-    assert_eq!(rt;
-        list_rewritten::<Parameter>(rt.alloc(), &bytes)?.as_slice(),
-        [0x80, 8, 0, 6, 1, 2, 0xee, 0xee, 0xc0, 0, 0, 4].as_slice()
-    );
     // two cookies in 65,536 bytes, and in 65,535
     assert!(rt; !are_cookies_encodable(rt.alloc(), 32764, 32764)?);
     assert!(rt; are_cookies_encodable(rt.alloc(), 32764, 32763)?);

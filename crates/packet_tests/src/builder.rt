@@ -288,7 +288,7 @@ fn not_carried(rt: HostRuntime) -> Result<(), Fail> {
     assert_eq!(rt; built_with_data(rt.alloc())?, (28, 20, 4, true));
     let policy = ChecksumPolicy::default();
     let wanted =
-        "[CookieEcho(CookieEchoChunk { cookie: [127] }), Data(DataChunk { tsn: 1, user_data: Data { stream_key: Unordered(2), ssn: 3, mid: 0, fsn: 0, ppid: 4, payload: [], is_beginning: true, is_end: true }, immediate_ack: false })]";
+        "[CookieEcho(CookieEchoChunk { cookie: [127] }), Data(DataChunk { user_data: Data { payload: [], mid: 0, fsn: 0, ppid: 4, stream_key: Unordered(2), ssn: 3, is_beginning: true, is_end: true }, tsn: 1, immediate_ack: false })]";
     assert!(rt; has_chunks(rt.alloc(), WITH_DATA, 9, &policy, wanted)?);
     // another word is expected
     assert!(rt; is_answered(rt.alloc(), WITH_DATA, 8, &policy, "InvalidChecksum")?);

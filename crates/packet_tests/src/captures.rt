@@ -102,7 +102,7 @@ const ROWS: &[(&[u8], usize, &str, &str)] = &[
         DATA,
         20,
         "DATA, type=ordered::complete, tsn=1426601532, sid=2, ssn=1, ppid=53, length=4",
-        "Data(DataChunk { tsn: 1426601532, user_data: Data { stream_key: Ordered(2), ssn: 1, mid: 0, fsn: 0, ppid: 53, payload: [0, 1, 2, 3], is_beginning: true, is_end: true }, immediate_ack: false })",
+        "Data(DataChunk { user_data: Data { payload: [0, 1, 2, 3], mid: 0, fsn: 0, ppid: 53, stream_key: Ordered(2), ssn: 1, is_beginning: true, is_end: true }, tsn: 1426601532, immediate_ack: false })",
     ),
     (
         INIT,
@@ -170,14 +170,14 @@ const ROWS: &[(&[u8], usize, &str, &str)] = &[
         IDATA_FIRST,
         21,
         "I-DATA, type=ordered::first, tsn=2487901653, mid=1, ssn=0, ppid=53, length=1",
-        "IData(IDataChunk { tsn: 2487901653, user_data: Data { stream_key: Ordered(1), ssn: 0, mid: 0, fsn: 0, ppid: 53, payload: [1], is_beginning: true, is_end: false }, immediate_ack: false })",
+        "IData(IDataChunk { user_data: Data { payload: [1], mid: 0, fsn: 0, ppid: 53, stream_key: Ordered(1), ssn: 0, is_beginning: true, is_end: false }, tsn: 2487901653, immediate_ack: false })",
     ),
     // each later one carries its number, and no protocol
     (
         IDATA_LAST,
         21,
         "I-DATA, type=ordered::last, tsn=2487901706, mid=3, ssn=1, ppid=0, length=1",
-        "IData(IDataChunk { tsn: 2487901706, user_data: Data { stream_key: Ordered(3), ssn: 0, mid: 1, fsn: 8, ppid: 0, payload: [1], is_beginning: false, is_end: true }, immediate_ack: false })",
+        "IData(IDataChunk { user_data: Data { payload: [1], mid: 1, fsn: 8, ppid: 0, stream_key: Ordered(3), ssn: 0, is_beginning: false, is_end: true }, tsn: 2487901706, immediate_ack: false })",
     ),
     (
         RE_CONFIG,
@@ -228,7 +228,7 @@ fn two_chunks(rt: HostRuntime) -> Result<(), Fail> {
         rt.alloc(),
         rest,
         "DATA, type=ordered::complete, tsn=3479146723, sid=111, ssn=0, ppid=50, length=41",
-        "Data(DataChunk { tsn: 3479146723, user_data: Data { stream_key: Ordered(111), ssn: 0, mid: 0, fsn: 0, ppid: 50, payload: [3, 130, 0, 0, 0, 0, 156, 64, 0, 11, 0, 18, 99, 111, 108, 108, 101, 99, 116, 105, 111, 110, 115, 119, 101, 98, 114, 116, 99, 45, 100, 97, 116, 97, 99, 104, 97, 110, 110, 101, 108], is_beginning: true, is_end: true }, immediate_ack: false })",
+        "Data(DataChunk { user_data: Data { payload: [3, 130, 0, 0, 0, 0, 156, 64, 0, 11, 0, 18, 99, 111, 108, 108, 101, 99, 116, 105, 111, 110, 115, 119, 101, 98, 114, 116, 99, 45, 100, 97, 116, 97, 99, 104, 97, 110, 110, 101, 108], mid: 0, fsn: 0, ppid: 50, stream_key: Ordered(111), ssn: 0, is_beginning: true, is_end: true }, tsn: 3479146723, immediate_ack: false })",
         DATA_OF_TWO,
     )?;
     assert_eq!(rt; data, (true, true, true));

@@ -20,7 +20,7 @@ const ROWS: &[(&[u8], &str, &str, &[u8])] = &[
             0, 8, 0, 0x15, 0, 0, 0, 0x7b, 1, 0xc8, 3, 0x15, 0, 0, 0x23, 0x82, 1, 2, 3, 4, 5,
         ],
         "DATA, type=ordered::middle, tsn=123, sid=456, ssn=789, ppid=9090, length=5",
-        "Data(DataChunk { tsn: 123, user_data: Data { stream_key: Ordered(456), ssn: 789, mid: 0, fsn: 0, ppid: 9090, payload: [1, 2, 3, 4, 5], is_beginning: false, is_end: false }, immediate_ack: true })",
+        "Data(DataChunk { user_data: Data { payload: [1, 2, 3, 4, 5], mid: 0, fsn: 0, ppid: 9090, stream_key: Ordered(456), ssn: 789, is_beginning: false, is_end: false }, tsn: 123, immediate_ack: true })",
         &[
             0, 8, 0, 0x15, 0, 0, 0, 0x7b, 1, 0xc8, 3, 0x15, 0, 0, 0x23, 0x82, 1, 2, 3, 4, 5,
         ],
@@ -29,20 +29,20 @@ const ROWS: &[(&[u8], &str, &str, &[u8])] = &[
     (
         &[0, 7, 0, 0x10, 0, 0, 0, 1, 0, 2, 0, 3, 0, 0, 0, 4],
         "DATA, type=unordered::complete, tsn=1, sid=2, ssn=3, ppid=4, length=0",
-        "Data(DataChunk { tsn: 1, user_data: Data { stream_key: Unordered(2), ssn: 3, mid: 0, fsn: 0, ppid: 4, payload: [], is_beginning: true, is_end: true }, immediate_ack: false })",
+        "Data(DataChunk { user_data: Data { payload: [], mid: 0, fsn: 0, ppid: 4, stream_key: Unordered(2), ssn: 3, is_beginning: true, is_end: true }, tsn: 1, immediate_ack: false })",
         &[0, 7, 0, 0x10, 0, 0, 0, 1, 0, 2, 0, 3, 0, 0, 0, 4],
     ),
     (
         &[0, 2, 0, 0x10, 0, 0, 0, 1, 0, 2, 0, 3, 0, 0, 0, 4],
         "DATA, type=ordered::first, tsn=1, sid=2, ssn=3, ppid=4, length=0",
-        "Data(DataChunk { tsn: 1, user_data: Data { stream_key: Ordered(2), ssn: 3, mid: 0, fsn: 0, ppid: 4, payload: [], is_beginning: true, is_end: false }, immediate_ack: false })",
+        "Data(DataChunk { user_data: Data { payload: [], mid: 0, fsn: 0, ppid: 4, stream_key: Ordered(2), ssn: 3, is_beginning: true, is_end: false }, tsn: 1, immediate_ack: false })",
         &[0, 2, 0, 0x10, 0, 0, 0, 1, 0, 2, 0, 3, 0, 0, 0, 4],
     ),
     // the immediate ack and the four highest flags aren't printed, and the latter aren't kept
     (
         &[0, 0xfd, 0, 0x10, 0, 0, 0, 1, 0, 2, 0, 3, 0, 0, 0, 4],
         "DATA, type=unordered::last, tsn=1, sid=2, ssn=3, ppid=4, length=0",
-        "Data(DataChunk { tsn: 1, user_data: Data { stream_key: Unordered(2), ssn: 3, mid: 0, fsn: 0, ppid: 4, payload: [], is_beginning: false, is_end: true }, immediate_ack: true })",
+        "Data(DataChunk { user_data: Data { payload: [], mid: 0, fsn: 0, ppid: 4, stream_key: Unordered(2), ssn: 3, is_beginning: false, is_end: true }, tsn: 1, immediate_ack: true })",
         &[0, 0x0d, 0, 0x10, 0, 0, 0, 1, 0, 2, 0, 3, 0, 0, 0, 4],
     ),
     // INIT and INIT ACK with a parameter each
@@ -156,7 +156,7 @@ const ROWS: &[(&[u8], &str, &str, &[u8])] = &[
             3, 4, 5,
         ],
         "I-DATA, type=ordered::first, tsn=123, mid=456, ssn=789, ppid=9090, length=5",
-        "IData(IDataChunk { tsn: 123, user_data: Data { stream_key: Ordered(456), ssn: 0, mid: 789, fsn: 0, ppid: 9090, payload: [1, 2, 3, 4, 5], is_beginning: true, is_end: false }, immediate_ack: false })",
+        "IData(IDataChunk { user_data: Data { payload: [1, 2, 3, 4, 5], mid: 789, fsn: 0, ppid: 9090, stream_key: Ordered(456), ssn: 0, is_beginning: true, is_end: false }, tsn: 123, immediate_ack: false })",
         &[
             0x40, 2, 0, 0x19, 0, 0, 0, 0x7b, 1, 0xc8, 0, 0, 0, 0, 3, 0x15, 0, 0, 0x23, 0x82, 1, 2,
             3, 4, 5,
@@ -168,7 +168,7 @@ const ROWS: &[(&[u8], &str, &str, &[u8])] = &[
             0x40, 4, 0, 0x14, 0, 0, 0, 1, 0, 2, 0, 0, 0, 0, 0, 3, 0, 0, 0, 6,
         ],
         "I-DATA, type=unordered::middle, tsn=1, mid=2, ssn=3, ppid=0, length=0",
-        "IData(IDataChunk { tsn: 1, user_data: Data { stream_key: Unordered(2), ssn: 0, mid: 3, fsn: 6, ppid: 0, payload: [], is_beginning: false, is_end: false }, immediate_ack: false })",
+        "IData(IDataChunk { user_data: Data { payload: [], mid: 3, fsn: 6, ppid: 0, stream_key: Unordered(2), ssn: 0, is_beginning: false, is_end: false }, tsn: 1, immediate_ack: false })",
         &[
             0x40, 4, 0, 0x14, 0, 0, 0, 1, 0, 2, 0, 0, 0, 0, 0, 3, 0, 0, 0, 6,
         ],
@@ -180,7 +180,7 @@ const ROWS: &[(&[u8], &str, &str, &[u8])] = &[
             0x35, 1, 0, 0, 0,
         ],
         "I-DATA, type=ordered::first, tsn=2487901653, mid=1, ssn=0, ppid=53, length=1",
-        "IData(IDataChunk { tsn: 2487901653, user_data: Data { stream_key: Ordered(1), ssn: 0, mid: 0, fsn: 0, ppid: 53, payload: [1], is_beginning: true, is_end: false }, immediate_ack: false })",
+        "IData(IDataChunk { user_data: Data { payload: [1], mid: 0, fsn: 0, ppid: 53, stream_key: Ordered(1), ssn: 0, is_beginning: true, is_end: false }, tsn: 2487901653, immediate_ack: false })",
         &[
             0x40, 2, 0, 0x15, 0x94, 0x4a, 0x5d, 0xd5, 0, 1, 0, 0, 0, 0, 0, 0, 0, 0, 0, 0x35, 1,
         ],
