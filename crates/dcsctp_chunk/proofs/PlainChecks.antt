@@ -1,5 +1,5 @@
 -- A check of one kind, in the table of the kinds without a list.
-use Rattle.std.proofs.Common.{◌≡◌, true, false, Result, Ok, Err, ap}
+use Rattle.std.proofs.Common.{Result, Ok, Err, ap}
 use Rattle.dcsctp_tlv.specs.declared.error.ChunkParseError.{ChunkParseError}
 use Rattle.dcsctp_tlv.specs.declared.error.ChunkParseError.TheVariants.{InvalidLength, InvalidType, InvalidPadding, InvalidValue, OutOfMemory}
 use Rattle.dcsctp_tlv.specs.Fault.{Fault}

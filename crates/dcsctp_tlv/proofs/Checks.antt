@@ -1,4 +1,4 @@
--- A check of a list, and the build behind it: what both have gone over, and what is left.
+-- A check of a list, and the build after it: what both have gone over, and what is left.
 use Rattle.std.proofs.Common.{◌≡◌, ◌≢◌, ℕ, suc, ◌+◌, ◌*◌, ◌≤◌, true, false, Result, Ok, Err, ◌⊎◌, inl, inr, List, [], ◌∷◌, ◌++◌, length, refl, sym, ap, subst, ◌∙◌, arith}
 use Rattle.std.specs.Prelude.{◌↔◌, IsOk, IsErrOf}
 use Rattle.std.specs.List.{flat_map}
@@ -74,7 +74,7 @@ tail_formed rule i (j ∷ is) p = p.1
 at_first : (bytes : List ℕ) (i : Item) (is : List Item) → bytes ≡ flat_map item_bytes (i ∷ is) → bytes ≡ item_bytes i ++ (flat_map item_bytes is ++ [])
 at_first bytes i is e = e ∙ ap (λ (x : List ℕ). item_bytes i ++ x) (sym (append-nil (flat_map item_bytes is)))
 
--- items begin with a frame, and behind it are the others
+-- items begin with a frame, and after it are the others
 pub record FirstItem (rule : PaddingRule) (bytes : List ℕ) (items : List Item) : Type 0 where
   pub frame : BeginsWithFrame bytes
   pub others : List Item
@@ -95,7 +95,7 @@ first_item rule bytes (i ∷ is) fits h are =
       are = record { split = sym rest ∙ append-nil (flat_map item_bytes is); formed = tail_formed rule i is are.formed };
     }
 
--- the front means the first tree, and what is behind it the others
+-- the front means the first tree, and what is after it the others
 pub record FirstTree {T : Type 0} (level : Level T) (bytes : List ℕ) (trees : List T) : Type 0 where
   pub frame : BeginsWithFrame bytes
   pub first : T

@@ -1,10 +1,10 @@
 -- The laws of the table of parameters: a line for each kind.
-use Rattle.std.proofs.Common.{◌≡◌, ℕ, ◌^◌, ◌<◌, ◌≢◌, Bool, true, false, List, [], ◌∷◌, ◌++◌, length, refl, sym, ap, subst, Option, Some, None}
+use Rattle.std.proofs.Common.{◌≡◌, ℕ, ◌^◌, ◌<◌, ◌≢◌, List, [], ◌∷◌, ◌++◌, length, refl, sym, ap, subst, Option, Some, None}
 use Rattle.std.specs.Prelude.{◌==◌, ◌↔◌, IsSome, IfSome}
 use Rattle.std.specs.Int.{w16, w32, from_be_bytes}
 use Rattle.std.proofs.lemmas.Bool.{eqb-true, eqb-false, ne_eqb}
 use Rattle.std.specs.List.{AllByRecursion}
-use Rattle.dcsctp_tlv.specs.Level.{Row, map_ok, pick, HasMeaning}
+use Rattle.dcsctp_tlv.specs.Level.{Row, map_ok, HasMeaning}
 use Rattle.dcsctp_tlv.specs.Image.{Tlv, typed_tlv, zeroed, IsEncodable, list_image, list_size}
 use Rattle.dcsctp_tlv.specs.Number.{numbers}
 use Rattle.dcsctp_tlv.specs.ReconfigurationResponse.{ReconfigurationResponseTree, result_number, next_tsns, reconfiguration_response_tlv, kept_tsn, kept_reconfiguration_response}

@@ -5,7 +5,7 @@ use Rattle.dcsctp_tlv.specs.declared.error.ChunkParseError.TheVariants.{InvalidL
 use Rattle.dcsctp_tlv.specs.Level.{Level, MeansTrees, MeansSome, HasFault}
 use Rattle.dcsctp_tlv.specs.Fault.{Fault, Length, Padding, Value}
 
--- The error is a fault of the bytes, want of memory aside.
+-- The error is a fault of the bytes, running out of memory aside.
 abbrev pub TellsFault : (Fault → Type 0) → ChunkParseError → Type 0
 TellsFault faults InvalidLength = faults Length
 TellsFault faults InvalidPadding = faults Padding
@@ -20,7 +20,7 @@ Answers (Err e) means faults = TellsFault faults e
 
 -- ---- where the table is a function of the value
 
--- Want of memory may be the answer where a tree is meant, or never.
+-- Running out of memory may be the answer where a tree is meant, or never.
 pub data Memory : Type 0 where
   Never : Memory
   IfMeant : Memory
@@ -30,7 +30,7 @@ MayLackMemory Never read = ⊥
 MayLackMemory IfMeant read = IsOk read
 
 -- A reader of one kind gives the tree exactly where the table reads one, the fault exactly where
--- it reads a fault, and nothing else but want of memory.
+-- it reads a fault, and nothing else but running out of memory.
 abbrev pub Gives : {X T : Type 0} → Memory → (X → T) → Result X ChunkParseError → Result T Fault → Type 0
 Gives memory view (Ok x) read = read ≡ Ok (view x)
 Gives memory view (Err InvalidLength) read = read ≡ Err Length
@@ -41,7 +41,7 @@ Gives memory view (Err OutOfMemory) read = MayLackMemory memory read
 
 -- ---- checks, which take no memory
 
--- the error is a fault of the bytes, and never want of memory
+-- the error is a fault of the bytes, and never that memory ran out
 abbrev pub IsFault : (Fault → Type 0) → ChunkParseError → Type 0
 IsFault faults InvalidLength = faults Length
 IsFault faults InvalidPadding = faults Padding

@@ -44,7 +44,7 @@ impl ForwardTsnSupportedParameter {
     }
 
     /// `InvalidLength` exactly where the value isn't empty.
-    pub fn check(value: &[u8]) -> Result<(), ChunkParseError>
+    pub(crate) fn check(value: &[u8]) -> Result<(), ChunkParseError>
         ensures { Passes result (forward_tsn_supported_at value.now) }
     {
         if !value.is_empty() {

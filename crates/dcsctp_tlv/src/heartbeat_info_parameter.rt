@@ -48,7 +48,7 @@ impl HeartbeatInfoParameter {
     }
 
     /// Copies the value.
-    pub fn build(alloc: Global, value: &[u8]) -> Result<Self, AllocError>
+    pub(crate) fn build(alloc: Global, value: &[u8]) -> Result<Self, AllocError>
         ensures { Builds heartbeat_info_view result (heartbeat_info_at value.now) }
     {
         Ok(HeartbeatInfoParameter {

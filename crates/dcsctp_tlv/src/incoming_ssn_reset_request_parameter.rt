@@ -64,7 +64,7 @@ impl IncomingSsnResetRequestParameter {
     }
 
     /// `InvalidLength` exactly where the value has fewer than 4 bytes or an odd number of them.
-    pub fn check(value: &[u8]) -> Result<(), ChunkParseError>
+    pub(crate) fn check(value: &[u8]) -> Result<(), ChunkParseError>
         ensures { Passes result (incoming_ssn_reset_request_at value.now) }
     {
         if value.len() < FIXED_SIZE {
@@ -77,7 +77,7 @@ impl IncomingSsnResetRequestParameter {
     }
 
     /// What the value means.
-    pub fn build(alloc: Global, value: &[u8]) -> Result<Self, AllocError>
+    pub(crate) fn build(alloc: Global, value: &[u8]) -> Result<Self, AllocError>
         requires { IsOk (incoming_ssn_reset_request_at value.now) }
         ensures { Builds incoming_ssn_reset_request_view result (incoming_ssn_reset_request_at value.now) }
     {

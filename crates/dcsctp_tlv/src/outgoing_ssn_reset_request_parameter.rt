@@ -73,7 +73,7 @@ impl OutgoingSsnResetRequestParameter {
     }
 
     /// `InvalidLength` exactly where the value has fewer than 12 bytes or an odd number of them.
-    pub fn check(value: &[u8]) -> Result<(), ChunkParseError>
+    pub(crate) fn check(value: &[u8]) -> Result<(), ChunkParseError>
         ensures { Passes result (outgoing_ssn_reset_request_at value.now) }
     {
         if value.len() < FIXED_SIZE {
@@ -86,7 +86,7 @@ impl OutgoingSsnResetRequestParameter {
     }
 
     /// What the value means.
-    pub fn build(alloc: Global, value: &[u8]) -> Result<Self, AllocError>
+    pub(crate) fn build(alloc: Global, value: &[u8]) -> Result<Self, AllocError>
         requires { IsOk (outgoing_ssn_reset_request_at value.now) }
         ensures { Builds outgoing_ssn_reset_request_view result (outgoing_ssn_reset_request_at value.now) }
     {

@@ -67,7 +67,7 @@ pub fn list_check<T: ReadableTlv>(bytes: &[u8]) -> Result<(usize, usize), ChunkP
 }
 
 /// The number of items, where the bytes are known to be items.
-pub fn count_items(bytes: &[u8]) -> usize
+fn count_items(bytes: &[u8]) -> usize
     requires { (rule : PaddingRule) × ((items : List Item) × AreItems rule bytes.now items) }
     ensures { (rule : PaddingRule) (items : List Item) → AreItems rule bytes.now items → result ≡ length items }
 {

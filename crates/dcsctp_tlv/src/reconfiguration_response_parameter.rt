@@ -120,7 +120,7 @@ impl ReconfigurationResponseParameter {
 
     /// `InvalidLength` exactly where the value hasn't 8 or 16 bytes; `InvalidValue` exactly where it
     /// has, and its result is above 6.
-    pub fn check(value: &[u8]) -> Result<(), ChunkParseError>
+    pub(crate) fn check(value: &[u8]) -> Result<(), ChunkParseError>
         ensures { Passes result (reconfiguration_response_at value.now) }
     {
         if value.len() != 8 && value.len() != 16 {
@@ -133,7 +133,7 @@ impl ReconfigurationResponseParameter {
     }
 
     /// What the value means.
-    pub fn build(value: &[u8]) -> Self
+    pub(crate) fn build(value: &[u8]) -> Self
         requires { IsOk (reconfiguration_response_at value.now) }
         ensures { reconfiguration_response_at value.now ≡ Ok (reconfiguration_response_view result) }
     {

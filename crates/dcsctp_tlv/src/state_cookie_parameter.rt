@@ -48,7 +48,7 @@ impl StateCookieParameter {
     }
 
     /// Copies the value.
-    pub fn build(alloc: Global, value: &[u8]) -> Result<Self, AllocError>
+    pub(crate) fn build(alloc: Global, value: &[u8]) -> Result<Self, AllocError>
         ensures { Builds state_cookie_view result (state_cookie_at value.now) }
     {
         Ok(StateCookieParameter {

@@ -50,7 +50,7 @@ impl SupportedExtensionsParameter {
     }
 
     /// Copies the value.
-    pub fn build(alloc: Global, value: &[u8]) -> Result<Self, AllocError>
+    pub(crate) fn build(alloc: Global, value: &[u8]) -> Result<Self, AllocError>
         ensures { Builds supported_extensions_view result (supported_extensions_at value.now) }
     {
         Ok(SupportedExtensionsParameter {

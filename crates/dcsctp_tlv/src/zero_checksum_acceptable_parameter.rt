@@ -53,7 +53,7 @@ impl ZeroChecksumAcceptableParameter {
     }
 
     /// `InvalidLength` exactly where the value hasn't 4 bytes.
-    pub fn check(value: &[u8]) -> Result<(), ChunkParseError>
+    pub(crate) fn check(value: &[u8]) -> Result<(), ChunkParseError>
         ensures { Passes result (zero_checksum_acceptable_at value.now) }
     {
         if value.len() != 4 {
@@ -63,7 +63,7 @@ impl ZeroChecksumAcceptableParameter {
     }
 
     /// What the value means.
-    pub fn build(value: &[u8]) -> Self
+    pub(crate) fn build(value: &[u8]) -> Self
         requires { IsOk (zero_checksum_acceptable_at value.now) }
         ensures { zero_checksum_acceptable_at value.now ≡ Ok (zero_checksum_acceptable_view result) }
     {

@@ -1,12 +1,10 @@
 -- A check and a reader of packets, both ways: from what they find, since each input has one answer.
 use Rattle.std.proofs.Common.{◌≡◌, ℕ, true, false, List, Result, Ok, Err, ◌⊎◌, inl, inr, refl, sym, ap, subst, ◌∙◌}
 use Rattle.std.specs.Prelude.{◌↔◌, IsOk, IsErrOf}
-use Rattle.dcsctp_tlv.specs.declared.error.ChunkParseError.{ChunkParseError}
 use Rattle.dcsctp_tlv.specs.declared.error.ChunkParseError.TheVariants.{InvalidLength, InvalidType, InvalidPadding, InvalidValue, OutOfMemory}
-use Rattle.dcsctp_tlv.specs.Fault.{Fault, Length, Padding, Value}
+use Rattle.dcsctp_tlv.specs.Fault.{Length, Padding, Value}
 use Rattle.dcsctp_tlv.specs.Number.{AreBytes}
 use Rattle.dcsctp_tlv.specs.Level.{MeansTrees}
-use Rattle.dcsctp_tlv.specs.Reading.{error_of}
 use Rattle.dcsctp_tlv.proofs.Checks.{error_one}
 use Rattle.dcsctp_wire.specs.declared.packet.sctp_packet.PacketParseError.{PacketParseError}
 use Rattle.dcsctp_wire.specs.declared.packet.sctp_packet.PacketParseError.TheVariants.{InvalidPacketSize, InvalidChecksum, InvalidChunkSize, FailedParseChunk}

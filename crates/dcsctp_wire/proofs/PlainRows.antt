@@ -3,7 +3,7 @@ use Rattle.std.proofs.Common.{◌≡◌, ◌≢◌, ℕ, Bool, true, false, cond
 use Rattle.std.specs.Prelude.{◌==◌, IsOk}
 use Rattle.std.proofs.lemmas.Bool.{ne_eqb}
 use Rattle.dcsctp_tlv.specs.Fault.{Fault}
-use Rattle.dcsctp_tlv.specs.Level.{Row, plain, pick, map_ok, MeansParts}
+use Rattle.dcsctp_tlv.specs.Level.{Row, pick, map_ok, MeansParts}
 use Rattle.dcsctp_chunk.specs.CookieAck.{cookie_ack_at}
 use Rattle.dcsctp_chunk.specs.CookieEcho.{cookie_echo_at}
 use Rattle.dcsctp_chunk.specs.DataChunk.{data_at}

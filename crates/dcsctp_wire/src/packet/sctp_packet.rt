@@ -183,8 +183,8 @@ impl SctpPacket {
         ensures few { IfOk result (λ n. n ≤ (length bytes.now - 12) / 4) }
         ensures memory { ¬ IsErrOf result (FailedParseChunk OutOfMemory) }
     {
-        let (_, parts) = check_packet(bytes, checksum, policy)?;
-        Ok(parts)
+        let counts = check_packet(bytes, checksum, policy)?;
+        Ok(counts.1)
     }
 
     /// The canonical packet can be written: each chunk can be, and it has at most 65,532 bytes.

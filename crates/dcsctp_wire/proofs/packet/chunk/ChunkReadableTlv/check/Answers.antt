@@ -1,4 +1,4 @@
-use Rattle.std.proofs.Common.{rules, ◌≡◌, ◌+◌, length, refl}
+use Rattle.std.proofs.Common.{rules, ◌+◌, length, refl}
 use Rattle.dcsctp_tlv.proofs.Readings.{finds_as}
 use Rattle.dcsctp_wire.specs.Init.{init_row, init_parts}
 use Rattle.dcsctp_wire.specs.ParameterList.{parameter_list_row}
