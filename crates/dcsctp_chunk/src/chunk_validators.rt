@@ -57,12 +57,13 @@ pub fn clean_sack(mut sack: SackChunk) -> SackChunk
 fn are_apart(blocks: &[GapAckBlock]) -> bool
     ensures { IsTrue result ↔ IsApart 2 blocks.now }
 {
-    let mut previous_end = 0;
+    let mut least: u32 = 2;
     for block in blocks {
-        if block.end < block.start || block.start.saturating_sub(1) <= previous_end {
+        if block.end < block.start || (block.start as u32) < least {
             return false;
         }
-        previous_end = block.end;
+        // an end can be 65,535
+        least = block.end as u32 + 2;
     }
     true
 }
