@@ -1,5 +1,5 @@
 -- What the steps of the cleaning say of neighbouring blocks.
-use Rattle.std.specs.Prelude.{ℕ, ◌+◌, ◌≤◌, List, [], ◌∷◌, ◌++◌, take, drop}
+use Rattle.std.specs.Prelude.{ℕ, ◌+◌, ◌-◌, ◌<◌, ◌≤◌, List, [], ◌∷◌, ◌++◌, slice_index_or, take, drop}
 use Rattle.dcsctp_chunk.specs.declared.sack_chunk.GapAckBlock.{GapAckBlock}
 use Rattle.dcsctp_chunk.specs.declared.chunk_validators.Counts.{Counts}
 use Rattle.dcsctp_chunk.specs.declared.chunk_validators.Gap.{Gap}
@@ -21,3 +21,7 @@ around gap runs = take gap.low runs ++ drop gap.high runs
 -- the runs with that of the place in the place of those that it takes in
 abbrev pub placed : Place → List GapAckBlock → List GapAckBlock
 placed place runs = take place.first runs ++ (place.run ∷ drop place.last runs)
+
+-- the last of the first k runs, if any, starts at n or earlier
+abbrev pub LastStartsBy : ℕ → ℕ → List GapAckBlock → Type 0
+LastStartsBy n k runs = (d : GapAckBlock) → 0 < k → (slice_index_or runs (k - 1) d).start ≤ n

@@ -4,12 +4,12 @@
 //! A block covers the offsets from its start to its end, counted from the cumulative TSN; one that
 //! ends before its start covers none.
 
-ghost use Rattle.std.specs.Prelude.{◌≡◌, ◌↔◌, ℕ, ◌+◌, ◌-◌, ◌<◌, ◌≤◌, ◌^◌, List, [], ◌∷◌, ◌++◌, length, IsTrue, slice_index_or, take, drop};
+ghost use Rattle.std.specs.Prelude.{◌≡◌, ◌↔◌, ℕ, ◌+◌, ◌-◌, ◌<◌, ◌≤◌, ◌^◌, List, [], ◌∷◌, ◌++◌, length, IsTrue, take, drop};
 ghost use Rattle.std.specs.List.{All, SameFrom, copy_within};
 ghost use Rattle.std.specs.List.Sorted.{IsPartitionPoint};
 ghost use Rattle.dcsctp_types.specs.Serial.{wrapped_sum, IsGreater};
 ghost use Rattle.dcsctp_chunk.specs.declared.sack_chunk.GapAckBlock.{GapAckBlock};
-ghost use Rattle.dcsctp_chunk.specs.Apart.{IsApart, both, around, placed};
+ghost use Rattle.dcsctp_chunk.specs.Apart.{IsApart, LastStartsBy, both, around, placed};
 ghost use Rattle.dcsctp_chunk.specs.Cover.{Covers, SameCover, IsRuns, HasBlockInEach, AreValid};
 
 use crate::sack_chunk::{GapAckBlock, SackChunk};
@@ -290,7 +290,7 @@ fn lift_past(runs: &mut [GapAckBlock], gap: Gap, block: GapAckBlock) -> Gap
     ensures bound { result.high ≤ gap.high }
     ensures runs { around result runs.new ≡ around gap runs.old }
     ensures below { IsApart (block.end + 2) (drop result.high runs.new) }
-    ensures near { (d : GapAckBlock) → 0 < result.low → (slice_index_or runs.new (result.low - 1) d).start ≤ block.end + 1 }
+    ensures near { LastStartsBy (block.end + 1) result.low runs.new }
 {
     let mut low = gap.low;
     let mut high = gap.high;
@@ -356,7 +356,7 @@ struct Last {
 fn last_place(runs: &[GapAckBlock], block: GapAckBlock) -> Last
     requires nonempty { block.start ≤ block.end }
     requires apart { IsApart 0 runs.now }
-    requires near { (d : GapAckBlock) → 0 < length runs.now → (slice_index_or runs.now (length runs.now - 1) d).start ≤ block.end + 1 }
+    requires near { LastStartsBy (block.end + 1) (length runs.now) runs.now }
     ensures bound { result.first ≤ length runs.now }
     ensures within { block.end ≤ result.run.end }
     ensures apart { IsApart 0 (take result.first runs.now ++ (result.run ∷ [])) }
