@@ -1,8 +1,27 @@
 -- What the steps of the cleaning say of neighbouring blocks.
-use Rattle.std.specs.Prelude.{ℕ, ◌+◌, ◌≤◌, List, [], ◌∷◌}
+use Rattle.std.specs.Prelude.{ℕ, ◌+◌, ◌-◌, ◌<◌, ◌≤◌, List, [], ◌∷◌, ◌++◌, slice_index_or, take, drop}
 use Rattle.dcsctp_chunk.specs.declared.sack_chunk.GapAckBlock.{GapAckBlock}
+use Rattle.dcsctp_chunk.specs.declared.chunk_validators.Counts.{Counts}
+use Rattle.dcsctp_chunk.specs.declared.chunk_validators.Gap.{Gap}
+use Rattle.dcsctp_chunk.specs.declared.chunk_validators.Place.{Place}
 
 -- no block ends before its start, the first starts at low or later, and each later one at least 2 past the end before it
 abbrev pub IsApart : ℕ → List GapAckBlock → Type 0
 IsApart low [] = Unit {0}
 IsApart low (b ∷ bs) = (low ≤ b.start) × (b.start ≤ b.end) × IsApart (b.end + 2) bs
+
+-- the recent runs and those in front
+abbrev pub both : Counts → List GapAckBlock → List GapAckBlock → List GapAckBlock
+both counts recent front = take counts.recent recent ++ take counts.front front
+
+-- the runs on both sides of the gap
+abbrev pub around : Gap → List GapAckBlock → List GapAckBlock
+around gap runs = take gap.low runs ++ drop gap.high runs
+
+-- the runs with that of the place in the place of those that it takes in
+abbrev pub placed : Place → List GapAckBlock → List GapAckBlock
+placed place runs = take place.first runs ++ (place.run ∷ drop place.last runs)
+
+-- the last of the first k runs, if any, starts at n or earlier
+abbrev pub LastStartsBy : ℕ → ℕ → List GapAckBlock → Type 0
+LastStartsBy n k runs = (d : GapAckBlock) → 0 < k → (slice_index_or runs (k - 1) d).start ≤ n

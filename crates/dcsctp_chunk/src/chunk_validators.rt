@@ -4,12 +4,12 @@
 //! A block covers the offsets from its start to its end, counted from the cumulative TSN; one that
 //! ends before its start covers none.
 
-ghost use Rattle.std.specs.Prelude.{◌≡◌, ◌↔◌, ℕ, ◌+◌, ◌-◌, ◌<◌, ◌≤◌, ◌^◌, List, [], ◌∷◌, ◌++◌, length, IsTrue, slice_index_or, take, drop};
+ghost use Rattle.std.specs.Prelude.{◌≡◌, ◌↔◌, ℕ, ◌+◌, ◌-◌, ◌<◌, ◌≤◌, ◌^◌, List, [], ◌∷◌, ◌++◌, length, IsTrue, take, drop};
 ghost use Rattle.std.specs.List.{All, SameFrom, copy_within};
 ghost use Rattle.std.specs.List.Sorted.{IsPartitionPoint};
 ghost use Rattle.dcsctp_types.specs.Serial.{wrapped_sum, IsGreater};
 ghost use Rattle.dcsctp_chunk.specs.declared.sack_chunk.GapAckBlock.{GapAckBlock};
-ghost use Rattle.dcsctp_chunk.specs.Apart.{IsApart};
+ghost use Rattle.dcsctp_chunk.specs.Apart.{IsApart, LastStartsBy, both, around, placed};
 ghost use Rattle.dcsctp_chunk.specs.Cover.{Covers, SameCover, IsRuns, HasBlockInEach, AreValid};
 
 use crate::sack_chunk::{GapAckBlock, SackChunk};
@@ -54,12 +54,14 @@ pub fn clean_sack(mut sack: SackChunk) -> SackChunk
 
 /// Whether no block ends before its start, and each starts at least 2 past the end of the one
 /// before it, or past 0.
+#[inline(never)]
 fn are_apart(blocks: &[GapAckBlock]) -> bool
     ensures { IsTrue result ↔ IsApart 2 blocks.now }
 {
     let mut least: u32 = 2;
     for block in blocks {
-        if block.end < block.start || (block.start as u32) < least {
+        // `|`, so that a block costs one jump and not two
+        if (block.end < block.start) | ((block.start as u32) < least) {
             return false;
         }
         // an end can be 65,535
@@ -138,7 +140,7 @@ fn add_block(
     ensures recent_bound { result.recent < length recent.old }
     ensures apart { IsApart 0 (take result.front blocks.new) }
     ensures recent_apart { IsApart 0 (take result.recent recent.new) }
-    ensures cover { SameCover (take result.recent recent.new ++ take result.front blocks.new) (block ∷ take counts.recent recent.old ++ take counts.front blocks.old) }
+    ensures cover { SameCover (both result recent.new blocks.new) (block ∷ both counts recent.old blocks.old) }
     ensures rest { SameFrom blocks.old blocks.new (counts.front + counts.recent + 1) }
 {
     if follows(&blocks[..counts.front], block) {
@@ -225,7 +227,7 @@ fn close_gap(runs: &mut [GapAckBlock], gap: Gap) -> usize
     requires order { gap.low ≤ gap.high }
     requires bound { gap.high ≤ length runs.old }
     ensures len { result ≤ length runs.old }
-    ensures runs { take result runs.new ≡ take gap.low runs.old ++ drop gap.high runs.old }
+    ensures runs { take result runs.new ≡ around gap runs.old }
 {
     let end = runs.len();
     move_within(runs, gap.high, end, gap.low);
@@ -238,13 +240,13 @@ fn put_by_search(runs: &mut [GapAckBlock], gap: Gap, block: GapAckBlock) -> Gap
     requires order { gap.low < gap.high }
     requires bound { gap.high ≤ length runs.old }
     requires nonempty { block.start ≤ block.end }
-    requires apart { IsApart 0 (take gap.low runs.old ++ drop gap.high runs.old) }
+    requires apart { IsApart 0 (around gap runs.old) }
     requires below { IsApart 0 (block ∷ drop gap.high runs.old) }
     ensures order { result.low + gap.high ≤ gap.low + 1 + result.high }
     ensures bound { result.high ≤ length runs.old }
-    ensures apart { IsApart 0 (take result.low runs.new ++ drop result.high runs.new) }
+    ensures apart { IsApart 0 (around result runs.new) }
     ensures below { IsApart (block.end + 2) (drop result.high runs.new) }
-    ensures cover { SameCover (take result.low runs.new ++ drop result.high runs.new) (block ∷ take gap.low runs.old ++ drop gap.high runs.old) }
+    ensures cover { SameCover (around result runs.new) (block ∷ around gap runs.old) }
 {
     let place = find_place(&runs[..gap.low], block);
     let high = gap.high - (gap.low - place.last);
@@ -261,13 +263,13 @@ fn put_by_walk(runs: &mut [GapAckBlock], gap: Gap, block: GapAckBlock) -> Gap
     requires order { gap.low < gap.high }
     requires bound { gap.high ≤ length runs.old }
     requires nonempty { block.start ≤ block.end }
-    requires apart { IsApart 0 (take gap.low runs.old ++ drop gap.high runs.old) }
+    requires apart { IsApart 0 (around gap runs.old) }
     requires below { IsApart 0 (block ∷ drop gap.high runs.old) }
     ensures order { result.low + gap.high ≤ gap.low + 1 + result.high }
     ensures bound { result.high ≤ length runs.old }
-    ensures apart { IsApart 0 (take result.low runs.new ++ drop result.high runs.new) }
+    ensures apart { IsApart 0 (around result runs.new) }
     ensures below { IsApart (block.end + 2) (drop result.high runs.new) }
-    ensures cover { SameCover (take result.low runs.new ++ drop result.high runs.new) (block ∷ take gap.low runs.old ++ drop gap.high runs.old) }
+    ensures cover { SameCover (around result runs.new) (block ∷ around gap runs.old) }
 {
     let past = lift_past(runs, gap, block);
     let place = last_place(&runs[..past.low], block);
@@ -282,13 +284,13 @@ fn put_by_walk(runs: &mut [GapAckBlock], gap: Gap, block: GapAckBlock) -> Gap
 fn lift_past(runs: &mut [GapAckBlock], gap: Gap, block: GapAckBlock) -> Gap
     requires order { gap.low < gap.high }
     requires bound { gap.high ≤ length runs.old }
-    requires apart { IsApart 0 (take gap.low runs.old ++ drop gap.high runs.old) }
+    requires apart { IsApart 0 (around gap runs.old) }
     requires below { IsApart (block.end + 2) (drop gap.high runs.old) }
     ensures order { result.low + gap.high ≡ gap.low + result.high }
     ensures bound { result.high ≤ gap.high }
-    ensures runs { take result.low runs.new ++ drop result.high runs.new ≡ take gap.low runs.old ++ drop gap.high runs.old }
+    ensures runs { around result runs.new ≡ around gap runs.old }
     ensures below { IsApart (block.end + 2) (drop result.high runs.new) }
-    ensures near { (d : GapAckBlock) → 0 < result.low → (slice_index_or runs.new (result.low - 1) d).start ≤ block.end + 1 }
+    ensures near { LastStartsBy (block.end + 1) result.low runs.new }
 {
     let mut low = gap.low;
     let mut high = gap.high;
@@ -328,8 +330,8 @@ fn find_place(runs: &[GapAckBlock], block: GapAckBlock) -> Place
     ensures order { result.first ≤ result.last }
     ensures bound { result.last ≤ length runs.now }
     ensures within { block.end ≤ result.run.end }
-    ensures apart { IsApart 0 (take result.first runs.now ++ (result.run ∷ drop result.last runs.now)) }
-    ensures cover { SameCover (take result.first runs.now ++ (result.run ∷ drop result.last runs.now)) (block ∷ runs.now) }
+    ensures apart { IsApart 0 (placed result runs.now) }
+    ensures cover { SameCover (placed result runs.now) (block ∷ runs.now) }
 {
     let first = first_reaching(runs, block.start.saturating_sub(1));
     let mut last = first;
@@ -354,7 +356,7 @@ struct Last {
 fn last_place(runs: &[GapAckBlock], block: GapAckBlock) -> Last
     requires nonempty { block.start ≤ block.end }
     requires apart { IsApart 0 runs.now }
-    requires near { (d : GapAckBlock) → 0 < length runs.now → (slice_index_or runs.now (length runs.now - 1) d).start ≤ block.end + 1 }
+    requires near { LastStartsBy (block.end + 1) (length runs.now) runs.now }
     ensures bound { result.first ≤ length runs.now }
     ensures within { block.end ≤ result.run.end }
     ensures apart { IsApart 0 (take result.first runs.now ++ (result.run ∷ [])) }
