@@ -1,7 +1,7 @@
 //! A chunk of any kind.
 
-ghost use Rattle.std.specs.Prelude.{[], Some, IsOk, IfOk, IsErrOf, refl};
-ghost use Rattle.dcsctp_tlv.specs.Level.{HasMeaning};
+ghost use Rattle.std.specs.Prelude.{◌≡◌, ◌≢◌, ◌<◌, ◌+◌, [], Some, IsOk, IfOk, IsErrOf, vec_len, vec_capacity, refl};
+ghost use Rattle.dcsctp_tlv.specs.Level.{HasMeaning, Grows};
 ghost use Rattle.dcsctp_tlv.specs.Reading.{Answers, ReadsExactly};
 ghost use Rattle.dcsctp_wire.specs.Account.{chunk_parts};
 ghost use Rattle.dcsctp_wire.specs.Chunk.{ChunkTree, chunk_row, chunks, TakesNoMemory, chunk_tlv, IsChunkEncodable, chunk_text, view, encodable_size, length-chunk};
@@ -126,6 +126,63 @@ impl Chunk {
             _ => Chunk::Unknown(UnknownChunk::build(alloc, typ, flags, value)?),
         })
     }
+
+    /// Does what `read_onto` does for a kind with a list, and for a type without a kind. It stands apart, so
+    /// that the loop over chunks has no room to clear for the lists.
+    #[inline(never)]
+    fn other_onto(
+        list: &mut Vec<Self>,
+        alloc: Global,
+        first: u8,
+        second: u8,
+        value: &[u8],
+    ) -> Result<(), AllocError>
+        requires other { (first ≢ 0) × (first ≢ 3) × (first ≢ 7) × (first ≢ 8) × (first ≢ 10) × (first ≢ 11) × (first ≢ 14) × (first ≢ 64) × (first ≢ 192) × (first ≢ 194) }
+        requires meant { HasMeaning (chunk_row first second) value.now }
+        requires room { vec_len list.old < vec_capacity list.old }
+        ensures grows { IfOk result (λ _. Grows view (chunk_row first second) value.now list.old.items list.new.items) }
+        ensures len { IfOk result (λ _. vec_len list.new ≡ vec_len list.old + 1) }
+        ensures capacity { IfOk result (λ _. vec_capacity list.new ≡ vec_capacity list.old) }
+    {
+        match first {
+            init_chunk::CHUNK_TYPE => {
+                list.push_reserved(Chunk::Init(InitChunk::build(alloc, value)?));
+                Ok(())
+            }
+            init_ack_chunk::CHUNK_TYPE => {
+                list.push_reserved(Chunk::InitAck(InitAckChunk::build(alloc, value)?));
+                Ok(())
+            }
+            heartbeat_request_chunk::CHUNK_TYPE => {
+                list.push_reserved(Chunk::HeartbeatRequest(HeartbeatRequestChunk::build(
+                    alloc, value,
+                )?));
+                Ok(())
+            }
+            heartbeat_ack_chunk::CHUNK_TYPE => {
+                list.push_reserved(Chunk::HeartbeatAck(HeartbeatAckChunk::build(alloc, value)?));
+                Ok(())
+            }
+            abort_chunk::CHUNK_TYPE => {
+                list.push_reserved(Chunk::Abort(AbortChunk::build(alloc, second, value)?));
+                Ok(())
+            }
+            error_chunk::CHUNK_TYPE => {
+                list.push_reserved(Chunk::Error(ErrorChunk::build(alloc, value)?));
+                Ok(())
+            }
+            re_config_chunk::CHUNK_TYPE => {
+                list.push_reserved(Chunk::ReConfig(ReConfigChunk::build(alloc, value)?));
+                Ok(())
+            }
+            _ => {
+                list.push_reserved(Chunk::Unknown(UnknownChunk::build(
+                    alloc, first, second, value,
+                )?));
+                Ok(())
+            }
+        }
+    }
 }
 
 impl ReadableTlv for Chunk {
@@ -169,30 +226,8 @@ impl ReadableTlv for Chunk {
                 list.push_reserved(Chunk::Data(DataChunk::build(alloc, second, value)?));
                 Ok(())
             }
-            init_chunk::CHUNK_TYPE => {
-                list.push_reserved(Chunk::Init(InitChunk::build(alloc, value)?));
-                Ok(())
-            }
-            init_ack_chunk::CHUNK_TYPE => {
-                list.push_reserved(Chunk::InitAck(InitAckChunk::build(alloc, value)?));
-                Ok(())
-            }
             sack_chunk::CHUNK_TYPE => {
                 list.push_reserved(Chunk::Sack(SackChunk::build(alloc, value)?));
-                Ok(())
-            }
-            heartbeat_request_chunk::CHUNK_TYPE => {
-                list.push_reserved(Chunk::HeartbeatRequest(HeartbeatRequestChunk::build(
-                    alloc, value,
-                )?));
-                Ok(())
-            }
-            heartbeat_ack_chunk::CHUNK_TYPE => {
-                list.push_reserved(Chunk::HeartbeatAck(HeartbeatAckChunk::build(alloc, value)?));
-                Ok(())
-            }
-            abort_chunk::CHUNK_TYPE => {
-                list.push_reserved(Chunk::Abort(AbortChunk::build(alloc, second, value)?));
                 Ok(())
             }
             shutdown_chunk::CHUNK_TYPE => {
@@ -201,10 +236,6 @@ impl ReadableTlv for Chunk {
             }
             shutdown_ack_chunk::CHUNK_TYPE => {
                 list.push_reserved(Chunk::ShutdownAck(ShutdownAckChunk));
-                Ok(())
-            }
-            error_chunk::CHUNK_TYPE => {
-                list.push_reserved(Chunk::Error(ErrorChunk::build(alloc, value)?));
                 Ok(())
             }
             cookie_echo_chunk::CHUNK_TYPE => {
@@ -219,10 +250,6 @@ impl ReadableTlv for Chunk {
                 list.push_reserved(Chunk::ShutdownComplete(ShutdownCompleteChunk::build(second)));
                 Ok(())
             }
-            re_config_chunk::CHUNK_TYPE => {
-                list.push_reserved(Chunk::ReConfig(ReConfigChunk::build(alloc, value)?));
-                Ok(())
-            }
             idata_chunk::CHUNK_TYPE => {
                 list.push_reserved(Chunk::IData(IDataChunk::build(alloc, second, value)?));
                 Ok(())
@@ -235,12 +262,7 @@ impl ReadableTlv for Chunk {
                 list.push_reserved(Chunk::IForwardTsn(IForwardTsnChunk::build(alloc, value)?));
                 Ok(())
             }
-            _ => {
-                list.push_reserved(Chunk::Unknown(UnknownChunk::build(
-                    alloc, first, second, value,
-                )?));
-                Ok(())
-            }
+            _ => Chunk::other_onto(list, alloc, first, second, value),
         }
     }
 
