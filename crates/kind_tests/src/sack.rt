@@ -392,6 +392,41 @@ fn falling_are_merged(alloc: Global) -> Result<bool, AllocError> {
     Ok(cleans_to(alloc, blocks, &[GapAckBlock::new(1, 601)], false))
 }
 
+/// A low block and a high one, and between them so many by falling start: none of these follows
+/// the last run.
+fn between(alloc: Global, count: u16) -> Result<Vec<GapAckBlock>, AllocError> {
+    let mut blocks = Vec::new(alloc);
+    blocks.push(GapAckBlock::new(2, 2))?;
+    blocks.push(GapAckBlock::new(65534, 65535))?;
+    for i in 0..count {
+        let offset = count.wrapping_sub(i).wrapping_mul(3).wrapping_add(2);
+        blocks.push(GapAckBlock::new(offset, offset))?;
+    }
+    Ok(blocks)
+}
+
+fn between_are_sorted(alloc: Global, count: u16) -> Result<bool, AllocError> {
+    cleans_as_by_a_table(alloc, between(alloc, count)?)
+}
+
+/// The same, and then one that joins the lowest of them to the low block.
+fn between_are_joined(alloc: Global, count: u16) -> Result<bool, AllocError> {
+    let mut blocks = between(alloc, count)?;
+    blocks.push(GapAckBlock::new(3, 4))?;
+    cleans_as_by_a_table(alloc, blocks)
+}
+
+// As many as the recent runs have room for, once and twice, one more and one less; and as many as
+// there can be.
+#[test]
+fn as_many_as_stand_apart(rt: HostRuntime) -> Result<(), Fail> {
+    for count in [1, 2, 255, 256, 257, 511, 512, 513, 16377] {
+        assert!(rt; between_are_sorted(rt.alloc(), count)?, "{count}");
+        assert!(rt; between_are_joined(rt.alloc(), count)?, "{count}");
+    }
+    Ok(())
+}
+
 #[test]
 fn many_blocks(rt: HostRuntime) -> Result<(), Fail> {
     // the most that a SACK can have
