@@ -1,6 +1,6 @@
 //! FORWARD-TSN, I-FORWARD-TSN and the streams that they skip.
 
-use crate::help::{Kind, is_kept, raw_chunk, rewritten, told};
+use crate::help::{Kind, is_kept, is_rewritten, is_told, raw_chunk, rewritten, told};
 use dcsctp_chunk::forward_tsn_chunk::ForwardTsnChunk;
 use dcsctp_chunk::iforward_tsn_chunk::IForwardTsnChunk;
 use dcsctp_tlv::error::ChunkParseError;
@@ -38,13 +38,13 @@ fn forward_tsn(rt: HostRuntime) -> Result<(), Fail> {
         ),
     ];
     for (bytes, wanted) in rows {
-        assert_eq!(rt;
-            told::<ForwardTsnChunk>(rt.alloc(), bytes)?.as_str(),
-            wanted
+        assert!(rt;
+            is_told::<ForwardTsnChunk>(rt.alloc(), bytes, wanted)?,
+            "{wanted}"
         );
-        assert_eq!(rt;
-            rewritten::<ForwardTsnChunk>(rt.alloc(), bytes)?.as_slice(),
-            bytes
+        assert!(rt;
+            is_rewritten::<ForwardTsnChunk>(rt.alloc(), bytes, bytes)?,
+            "{wanted}"
         );
     }
     Ok(())

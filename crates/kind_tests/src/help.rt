@@ -46,6 +46,16 @@ pub(crate) fn told<T: Kind>(alloc: Global, bytes: &[u8]) -> Result<String, Alloc
     }
 }
 
+/// What is told of the bytes is this text.
+pub(crate) fn is_told<T: Kind>(
+    alloc: Global,
+    bytes: &[u8],
+    wanted: &str,
+) -> Result<bool, AllocError> {
+    let text = told::<T>(alloc, bytes)?;
+    Ok(text.as_str() == wanted)
+}
+
 /// A value as it is written over zeros.
 pub(crate) fn written<T: SerializableTlv>(alloc: Global, value: &T) -> Result<Vec<u8>, AllocError> {
     if !value.encodable() {
@@ -60,6 +70,16 @@ pub(crate) fn written<T: SerializableTlv>(alloc: Global, value: &T) -> Result<Ve
 pub(crate) fn rewritten<T: Kind>(alloc: Global, bytes: &[u8]) -> Result<Vec<u8>, ChunkParseError> {
     let value = T::read(alloc, bytes)?;
     Ok(written(alloc, &value)?)
+}
+
+/// What is written of a value that was read is these bytes.
+pub(crate) fn is_rewritten<T: Kind>(
+    alloc: Global,
+    bytes: &[u8],
+    wanted: &[u8],
+) -> Result<bool, ChunkParseError> {
+    let again = rewritten::<T>(alloc, bytes)?;
+    Ok(again.as_slice() == wanted)
 }
 
 /// What is read of a value that was written.
@@ -100,6 +120,16 @@ pub(crate) fn list_told<T: Listed>(alloc: Global, bytes: &[u8]) -> Result<String
         Err(ChunkParseError::OutOfMemory) => Err(AllocError),
         Err(error) => format!(in alloc; "{error:?}"),
     }
+}
+
+/// What is told of the bytes as a list is this text.
+pub(crate) fn is_list_told<T: Listed>(
+    alloc: Global,
+    bytes: &[u8],
+    wanted: &str,
+) -> Result<bool, AllocError> {
+    let text = list_told::<T>(alloc, bytes)?;
+    Ok(text.as_str() == wanted)
 }
 
 /// What the first item that was read prints.

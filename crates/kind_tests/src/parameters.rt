@@ -5,8 +5,8 @@ ghost use Rattle.dcsctp_tlv.specs.Image.{typed_tlv, IsEncodable};
 ghost use Rattle.dcsctp_tlv.specs.Length.{length-typed_tlv};
 
 use crate::help::{
-    Kind, Listed, first_printed, is_kept, list_rewritten, list_told, list_written, raw_parameter,
-    size_of, told, told_of,
+    Kind, Listed, first_printed, is_kept, is_list_told, is_told, list_rewritten, list_told,
+    list_written, raw_parameter, size_of, told, told_of,
 };
 use dcsctp_tlv::error::ChunkParseError;
 use dcsctp_tlv::forward_tsn_supported_parameter::ForwardTsnSupportedParameter;
@@ -250,9 +250,8 @@ const LISTS: &[(&[u8], &str)] = &[
 #[test]
 fn lists(rt: HostRuntime) -> Result<(), Fail> {
     for (i, (bytes, wanted)) in LISTS.iter().enumerate() {
-        assert_eq!(rt;
-            list_told::<Parameter>(rt.alloc(), bytes)?.as_str(),
-            *wanted,
+        assert!(rt;
+            is_list_told::<Parameter>(rt.alloc(), bytes, wanted)?,
             "row {i}"
         );
     }
@@ -304,17 +303,17 @@ fn requests(rt: HostRuntime) -> Result<(), Fail> {
         ),
     ];
     for (bytes, wanted) in rows {
-        assert_eq!(rt;
-            told::<OutgoingSsnResetRequestParameter>(rt.alloc(), bytes)?.as_str(),
-            wanted
+        assert!(rt;
+            is_told::<OutgoingSsnResetRequestParameter>(rt.alloc(), bytes, wanted)?,
+            "{wanted}"
         );
     }
-    assert_eq!(rt;
-        told::<IncomingSsnResetRequestParameter>(
+    assert!(rt;
+        is_told::<IncomingSsnResetRequestParameter>(
             rt.alloc(),
-            &[0, 14, 0, 10, 0, 0, 0, 7, 0, 3]
-        )?.as_str(),
-        "IncomingSsnResetRequestParameter { request_seq_nbr: 7, streams: [3] }; Incoming SSN Reset Request, req_seq_nbr=7"
+            &[0, 14, 0, 10, 0, 0, 0, 7, 0, 3],
+            "IncomingSsnResetRequestParameter { request_seq_nbr: 7, streams: [3] }; Incoming SSN Reset Request, req_seq_nbr=7"
+        )?
     );
     Ok(())
 }
