@@ -106,6 +106,7 @@ impl ErrorCause {
     }
 }
 
+#[tactic(auto, unfolding(crate::specs::UnrecognizedChunk::unrecognized_chunk_at, dcsctp_tlv::specs::UnknownParameter::unknown_parameter_at))]
 impl ReadableTlv for ErrorCause {
     ghost Tree = { CauseTree };
 
@@ -135,12 +136,6 @@ impl ReadableTlv for ErrorCause {
                 ));
                 Ok(())
             }
-            unrecognized_chunk_error_cause::CAUSE_CODE => {
-                list.push_reserved(ErrorCause::UnrecognizedChunk(UnrecognizedChunkErrorCause::build(
-                    alloc, value,
-                )?));
-                Ok(())
-            }
             no_user_data_error_cause::CAUSE_CODE => {
                 list.push_reserved(ErrorCause::NoUserData(NoUserDataErrorCause::build(value)));
                 Ok(())
@@ -164,9 +159,18 @@ impl ReadableTlv for ErrorCause {
                 Ok(())
             }
             _ => {
-                list.push_reserved(ErrorCause::Unknown(UnknownParameter::build(
-                    alloc, code, value,
-                )?));
+                // one copy for both kinds that keep their value, so that an item costs one result
+                let bytes = Vec::from_slice(alloc, value)?;
+                if code == unrecognized_chunk_error_cause::CAUSE_CODE {
+                    list.push_reserved(ErrorCause::UnrecognizedChunk(UnrecognizedChunkErrorCause {
+                        chunk: bytes,
+                    }));
+                } else {
+                    list.push_reserved(ErrorCause::Unknown(UnknownParameter {
+                        typ: code,
+                        value: bytes,
+                    }));
+                }
                 Ok(())
             }
         }

@@ -57,7 +57,7 @@ impl ProtocolViolationErrorCause {
         ensures { Builds protocol_violation_view result (protocol_violation_at value.now) }
     {
         Ok(ProtocolViolationErrorCause {
-            information: text_or(alloc, UNREADABLE, value)?,
+            information: String::from_str(alloc, text_or(UNREADABLE, value))?,
         })
     }
 }

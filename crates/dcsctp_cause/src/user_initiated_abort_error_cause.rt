@@ -57,7 +57,7 @@ impl UserInitiatedAbortErrorCause {
         ensures { Builds user_initiated_abort_view result (user_initiated_abort_at value.now) }
     {
         Ok(UserInitiatedAbortErrorCause {
-            reason: text_or(alloc, UNREADABLE, value)?,
+            reason: String::from_str(alloc, text_or(UNREADABLE, value))?,
         })
     }
 }

@@ -143,6 +143,7 @@ impl Parameter {
     }
 }
 
+#[tactic(auto, unfolding(crate::specs::HeartbeatInfo::heartbeat_info_at, crate::specs::StateCookie::state_cookie_at, crate::specs::SupportedExtensions::supported_extensions_at, crate::specs::UnknownParameter::unknown_parameter_at))]
 impl ReadableTlv for Parameter {
     ghost Tree = { ParameterTree };
 
@@ -166,18 +167,6 @@ impl ReadableTlv for Parameter {
     ) -> Result<(), AllocError> {
         let typ = u16::from_be_bytes([first, second]);
         match typ {
-            heartbeat_info_parameter::PARAMETER_TYPE => {
-                list.push_reserved(Parameter::HeartbeatInfo(HeartbeatInfoParameter::build(
-                    alloc, value,
-                )?));
-                Ok(())
-            }
-            state_cookie_parameter::PARAMETER_TYPE => {
-                list.push_reserved(Parameter::StateCookie(StateCookieParameter::build(
-                    alloc, value,
-                )?));
-                Ok(())
-            }
             outgoing_ssn_reset_request_parameter::PARAMETER_TYPE => {
                 list.push_reserved(Parameter::OutgoingSsnResetRequest(
                     OutgoingSsnResetRequestParameter::build(alloc, value)?,
@@ -190,28 +179,10 @@ impl ReadableTlv for Parameter {
                 ));
                 Ok(())
             }
-            PARAMETER_TYPE_SSN_TSN_RESET_REQUEST => {
-                list.push_reserved(Parameter::SsnTsnResetRequest(UnknownParameter::build(
-                    alloc, typ, value,
-                )?));
-                Ok(())
-            }
             reconfiguration_response_parameter::PARAMETER_TYPE => {
                 list.push_reserved(Parameter::ReconfigurationResponse(
                     ReconfigurationResponseParameter::build(value),
                 ));
-                Ok(())
-            }
-            PARAMETER_TYPE_ADD_OUTGOING_STREAMS_REQUEST => {
-                list.push_reserved(Parameter::AddOutgoingStreamsRequest(UnknownParameter::build(
-                    alloc, typ, value,
-                )?));
-                Ok(())
-            }
-            PARAMETER_TYPE_ADD_INCOMING_STREAMS_REQUEST => {
-                list.push_reserved(Parameter::AddIncomingStreamsRequest(UnknownParameter::build(
-                    alloc, typ, value,
-                )?));
                 Ok(())
             }
             zero_checksum_acceptable_parameter::PARAMETER_TYPE => {
@@ -220,18 +191,54 @@ impl ReadableTlv for Parameter {
                 ));
                 Ok(())
             }
-            supported_extensions_parameter::PARAMETER_TYPE => {
-                list.push_reserved(Parameter::SupportedExtensions(
-                    SupportedExtensionsParameter::build(alloc, value)?,
-                ));
-                Ok(())
-            }
             forward_tsn_supported_parameter::PARAMETER_TYPE => {
                 list.push_reserved(Parameter::ForwardTsnSupported(ForwardTsnSupportedParameter));
                 Ok(())
             }
             _ => {
-                list.push_reserved(Parameter::Unknown(UnknownParameter::build(alloc, typ, value)?));
+                // one copy for all kinds that keep their value, so that each item costs one result
+                let bytes = Vec::from_slice(alloc, value)?;
+                match typ {
+                    heartbeat_info_parameter::PARAMETER_TYPE => {
+                        list.push_reserved(Parameter::HeartbeatInfo(HeartbeatInfoParameter {
+                            info: bytes,
+                        }));
+                    }
+                    state_cookie_parameter::PARAMETER_TYPE => {
+                        list.push_reserved(Parameter::StateCookie(StateCookieParameter {
+                            cookie: bytes,
+                        }));
+                    }
+                    supported_extensions_parameter::PARAMETER_TYPE => {
+                        list.push_reserved(Parameter::SupportedExtensions(
+                            SupportedExtensionsParameter { chunk_types: bytes },
+                        ));
+                    }
+                    PARAMETER_TYPE_SSN_TSN_RESET_REQUEST => {
+                        list.push_reserved(Parameter::SsnTsnResetRequest(UnknownParameter {
+                            typ,
+                            value: bytes,
+                        }));
+                    }
+                    PARAMETER_TYPE_ADD_OUTGOING_STREAMS_REQUEST => {
+                        list.push_reserved(Parameter::AddOutgoingStreamsRequest(UnknownParameter {
+                            typ,
+                            value: bytes,
+                        }));
+                    }
+                    PARAMETER_TYPE_ADD_INCOMING_STREAMS_REQUEST => {
+                        list.push_reserved(Parameter::AddIncomingStreamsRequest(UnknownParameter {
+                            typ,
+                            value: bytes,
+                        }));
+                    }
+                    _ => {
+                        list.push_reserved(Parameter::Unknown(UnknownParameter {
+                            typ,
+                            value: bytes,
+                        }));
+                    }
+                }
                 Ok(())
             }
         }

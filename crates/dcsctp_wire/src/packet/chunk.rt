@@ -16,7 +16,7 @@ use crate::packet::heartbeat_ack_chunk::{self, HeartbeatAckChunk};
 use crate::packet::heartbeat_request_chunk::{self, HeartbeatRequestChunk};
 use crate::packet::idata_chunk::{self, IDataChunk};
 use crate::packet::iforward_tsn_chunk::{self, IForwardTsnChunk};
-use crate::packet::init::init_check;
+use crate::packet::init::{init_build, init_check};
 use crate::packet::init_ack_chunk::{self, InitAckChunk};
 use crate::packet::init_chunk::{self, InitChunk};
 use crate::packet::parameter_list::parameter_list_check;
@@ -28,7 +28,10 @@ use crate::packet::shutdown_complete_chunk::{self, ShutdownCompleteChunk};
 use crate::packet::unknown_chunk::UnknownChunk;
 pub use dcsctp_chunk::plain_check::plain_check;
 pub use dcsctp_chunk::raw_chunk::{RawChunk, write_chunk_header};
+use dcsctp_cause::error_causes::error_cause_build;
+use dcsctp_chunk::flags::is_set;
 use dcsctp_tlv::error::ChunkParseError;
+use dcsctp_tlv::parameter::parameters_build;
 use dcsctp_tlv::reader::ReadableTlv;
 use dcsctp_tlv::tlv::SerializableTlv;
 use std::alloc::{AllocError, Global};
@@ -145,34 +148,40 @@ impl Chunk {
         ensures capacity { IfOk result (λ _. vec_capacity list.new ≡ vec_capacity list.old) }
     {
         match first {
-            init_chunk::CHUNK_TYPE => {
-                list.push_reserved(Chunk::Init(InitChunk::build(alloc, value)?));
+            init_chunk::CHUNK_TYPE | init_ack_chunk::CHUNK_TYPE => {
+                let fields = init_build(alloc, value)?;
+                if first == init_chunk::CHUNK_TYPE {
+                    list.push_reserved(Chunk::Init(InitChunk::of_fields(fields)));
+                } else {
+                    list.push_reserved(Chunk::InitAck(InitAckChunk::of_fields(fields)));
+                }
                 Ok(())
             }
-            init_ack_chunk::CHUNK_TYPE => {
-                list.push_reserved(Chunk::InitAck(InitAckChunk::build(alloc, value)?));
+            heartbeat_request_chunk::CHUNK_TYPE
+            | heartbeat_ack_chunk::CHUNK_TYPE
+            | re_config_chunk::CHUNK_TYPE => {
+                let parameters = parameters_build(alloc, value)?;
+                if first == heartbeat_request_chunk::CHUNK_TYPE {
+                    list.push_reserved(Chunk::HeartbeatRequest(HeartbeatRequestChunk {
+                        parameters,
+                    }));
+                } else if first == heartbeat_ack_chunk::CHUNK_TYPE {
+                    list.push_reserved(Chunk::HeartbeatAck(HeartbeatAckChunk { parameters }));
+                } else {
+                    list.push_reserved(Chunk::ReConfig(ReConfigChunk { parameters }));
+                }
                 Ok(())
             }
-            heartbeat_request_chunk::CHUNK_TYPE => {
-                list.push_reserved(Chunk::HeartbeatRequest(HeartbeatRequestChunk::build(
-                    alloc, value,
-                )?));
-                Ok(())
-            }
-            heartbeat_ack_chunk::CHUNK_TYPE => {
-                list.push_reserved(Chunk::HeartbeatAck(HeartbeatAckChunk::build(alloc, value)?));
-                Ok(())
-            }
-            abort_chunk::CHUNK_TYPE => {
-                list.push_reserved(Chunk::Abort(AbortChunk::build(alloc, second, value)?));
-                Ok(())
-            }
-            error_chunk::CHUNK_TYPE => {
-                list.push_reserved(Chunk::Error(ErrorChunk::build(alloc, value)?));
-                Ok(())
-            }
-            re_config_chunk::CHUNK_TYPE => {
-                list.push_reserved(Chunk::ReConfig(ReConfigChunk::build(alloc, value)?));
+            abort_chunk::CHUNK_TYPE | error_chunk::CHUNK_TYPE => {
+                let error_causes = error_cause_build(alloc, value)?;
+                if first == abort_chunk::CHUNK_TYPE {
+                    list.push_reserved(Chunk::Abort(AbortChunk {
+                        tag_reflected: is_set(second, 0),
+                        error_causes,
+                    }));
+                } else {
+                    list.push_reserved(Chunk::Error(ErrorChunk { error_causes }));
+                }
                 Ok(())
             }
             _ => {

@@ -24,9 +24,9 @@ ghost use Rattle.dcsctp_tlv.specs.Parameter.{parameter_tlv, length-parameter};
 ghost use Rattle.dcsctp_tlv.specs.Level.{HasMeaning};
 ghost use Rattle.dcsctp_tlv.specs.Reading.{Answers};
 ghost use Rattle.dcsctp_tlv.proofs.Listed.{length-listed_tlv};
-ghost use Rattle.dcsctp_wire.specs.Init.{init_row, init_numbers, init_tlv, init_text, init_view};
+ghost use Rattle.dcsctp_wire.specs.Init.{init_row, init_numbers, init_tlv, init_text, init_view, init_fields_view};
 
-use crate::packet::init::{FIXED_SIZE, init_build, init_bytes, init_check};
+use crate::packet::init::{FIXED_SIZE, InitFields, init_build, init_bytes, init_check};
 use dcsctp_chunk::raw_chunk::RawChunk;
 use dcsctp_tlv::error::ChunkParseError;
 use dcsctp_tlv::list::{listed_encodable, listed_size, put_listed};
@@ -79,15 +79,21 @@ impl InitChunk {
         ensures meant { IfOk result (λ c. init_row.means value.now (init_view c)) }
         ensures empty { drop 16 value.now ≡ [] → IsOk result }
     {
-        let fields = init_build(alloc, value)?;
-        Ok(InitChunk {
+        Ok(InitChunk::of_fields(init_build(alloc, value)?))
+    }
+
+    /// The chunk that holds these.
+    pub(crate) fn of_fields(fields: InitFields) -> Self
+        ensures { init_view result ≡ init_fields_view fields }
+    {
+        InitChunk {
             initiate_tag: fields.initiate_tag,
             a_rwnd: fields.a_rwnd,
             nbr_outbound_streams: fields.nbr_outbound_streams,
             nbr_inbound_streams: fields.nbr_inbound_streams,
             initial_tsn: fields.initial_tsn,
             parameters: fields.parameters,
-        })
+        }
     }
 }
 
