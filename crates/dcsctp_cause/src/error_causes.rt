@@ -176,7 +176,9 @@ impl ReadableTlv for ErrorCause {
         }
     }
 
-    ghost ignores_padding = { λ size there. refl };
+    fn accepts_padding(_size: usize, _there: &[u8]) -> bool {
+        true
+    }
 }
 
 impl SerializableTlv for ErrorCause {

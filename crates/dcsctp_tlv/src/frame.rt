@@ -1,7 +1,7 @@
 //! The frame of an item: a header of four bytes, and a value (RFC 9260 section 3.2).
 
 ghost use Rattle.std.specs.Prelude.{◌≡◌, ◌≤◌, ◌<◌, ◌+◌, ◌^◌, ◌++◌, ◌↔◌, length, drop, IsOk, IfOk, IfErr};
-ghost use Rattle.dcsctp_tlv.specs.Frame.{header, BeginsWithFrame, frame_value, frame_rest};
+ghost use Rattle.dcsctp_tlv.specs.Frame.{padding_size, header, BeginsWithFrame, frame_value, frame_padding, frame_rest};
 ghost use Rattle.dcsctp_tlv.specs.Image.{solid_tlv, typed_tlv, image_of, written};
 ghost use Rattle.dcsctp_tlv.specs.declared.error.ChunkParseError.TheVariants.{InvalidLength};
 
@@ -45,6 +45,17 @@ pub fn frame_parts(bytes: &[u8]) -> (&[u8], &[u8])
     let padded = length.div_ceil(4) * 4;
     let rest = &bytes[padded.min(bytes.len())..];
     (value, rest)
+}
+
+/// The padding of the frame at the front: how many bytes there should be, and those that are there.
+pub fn padding_parts(bytes: &[u8]) -> (usize, &[u8])
+    requires { BeginsWithFrame bytes.now }
+    ensures size { result.0 ≡ padding_size (length (frame_value bytes.now)) }
+    ensures there { result.1.now ≡ frame_padding bytes.now }
+{
+    let length = read_u16_be(&bytes[2..]) as usize;
+    let padded = length.div_ceil(4) * 4;
+    (padded - length, &bytes[length..padded.min(bytes.len())])
 }
 
 /// Writes a header into the first four bytes; the bytes behind them stay.

@@ -244,7 +244,9 @@ impl ReadableTlv for Parameter {
         }
     }
 
-    ghost ignores_padding = { λ size there. refl };
+    fn accepts_padding(_size: usize, _there: &[u8]) -> bool {
+        true
+    }
 }
 
 impl SerializableTlv for Parameter {

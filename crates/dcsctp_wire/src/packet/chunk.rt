@@ -1,6 +1,6 @@
 //! A chunk of any kind.
 
-ghost use Rattle.std.specs.Prelude.{◌≡◌, ◌≢◌, ◌<◌, ◌+◌, [], Some, IsOk, IfOk, IsErrOf, vec_len, vec_capacity, refl};
+ghost use Rattle.std.specs.Prelude.{◌≡◌, ◌≢◌, ◌<◌, ◌+◌, [], Some, IsOk, IfOk, IsErrOf, vec_len, vec_capacity};
 ghost use Rattle.dcsctp_tlv.specs.Level.{HasMeaning, Grows};
 ghost use Rattle.dcsctp_tlv.specs.Reading.{Answers, ReadsExactly};
 ghost use Rattle.dcsctp_wire.specs.Account.{chunk_parts};
@@ -26,10 +26,10 @@ use crate::packet::shutdown_ack_chunk::{self, ShutdownAckChunk};
 use crate::packet::shutdown_chunk::{self, ShutdownChunk};
 use crate::packet::shutdown_complete_chunk::{self, ShutdownCompleteChunk};
 use crate::packet::unknown_chunk::UnknownChunk;
-pub use dcsctp_chunk::plain_check::plain_check;
-pub use dcsctp_chunk::raw_chunk::{RawChunk, write_chunk_header};
 use dcsctp_cause::error_causes::error_cause_build;
 use dcsctp_chunk::flags::is_set;
+pub use dcsctp_chunk::plain_check::plain_check;
+pub use dcsctp_chunk::raw_chunk::{RawChunk, write_chunk_header};
 use dcsctp_tlv::error::ChunkParseError;
 use dcsctp_tlv::parameter::parameters_build;
 use dcsctp_tlv::reader::ReadableTlv;
@@ -275,7 +275,9 @@ impl ReadableTlv for Chunk {
         }
     }
 
-    ghost ignores_padding = { λ size there. refl };
+    fn accepts_padding(_size: usize, _there: &[u8]) -> bool {
+        true
+    }
 }
 
 impl SerializableTlv for Chunk {
