@@ -6,7 +6,7 @@ ghost use Rattle.dcsctp_tlv.specs.Image.{solid_tlv, typed_tlv, image_of, written
 ghost use Rattle.dcsctp_tlv.specs.declared.error.ChunkParseError.TheVariants.{InvalidLength};
 
 use crate::error::ChunkParseError;
-use crate::number::{read_u16_be, write_u16_be};
+use crate::number::{read_u16_be, round_up_to_4, write_u16_be};
 
 /// Bytes of a header: two that say what the item is, and two of length.
 pub const TLV_HEADER_SIZE: usize = 4;
@@ -54,7 +54,7 @@ pub fn padding_parts(bytes: &[u8]) -> (usize, &[u8])
     ensures there { result.1.now ≡ frame_padding bytes.now }
 {
     let length = read_u16_be(&bytes[2..]) as usize;
-    let padded = length.div_ceil(4) * 4;
+    let padded = round_up_to_4(length);
     (padded - length, &bytes[length..padded.min(bytes.len())])
 }
 
