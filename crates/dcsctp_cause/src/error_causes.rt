@@ -43,6 +43,21 @@ pub enum ErrorCause {
     Unknown(UnknownParameter),
 }
 
+/// The same of every kind.
+macro_rules! each_kind {
+    ($cause:expr, $kind:ident => $does:expr) => {
+        match $cause {
+            ErrorCause::UnrecognizedChunk($kind) => $does,
+            ErrorCause::NoUserData($kind) => $does,
+            ErrorCause::CookieReceivedWhileShuttingDown($kind) => $does,
+            ErrorCause::UserInitiatedAbort($kind) => $does,
+            ErrorCause::ProtocolViolation($kind) => $does,
+            ErrorCause::MissingMandatoryParameter($kind) => $does,
+            ErrorCause::Unknown($kind) => $does,
+        }
+    };
+}
+
 impl ErrorCause {
     /// Reads a cause as its code says.
     ///
@@ -191,39 +206,15 @@ impl SerializableTlv for ErrorCause {
     ghost size_bound = { λ c fits. fits };
 
     fn serialize_to(&self, output: &mut [u8]) {
-        match self {
-            ErrorCause::UnrecognizedChunk(c) => c.serialize_to(output),
-            ErrorCause::NoUserData(c) => c.serialize_to(output),
-            ErrorCause::CookieReceivedWhileShuttingDown(c) => c.serialize_to(output),
-            ErrorCause::UserInitiatedAbort(c) => c.serialize_to(output),
-            ErrorCause::ProtocolViolation(c) => c.serialize_to(output),
-            ErrorCause::MissingMandatoryParameter(c) => c.serialize_to(output),
-            ErrorCause::Unknown(c) => c.serialize_to(output),
-        }
+        each_kind!(self, c => c.serialize_to(output))
     }
 
     fn value_size(&self) -> usize {
-        match self {
-            ErrorCause::UnrecognizedChunk(c) => c.value_size(),
-            ErrorCause::NoUserData(c) => c.value_size(),
-            ErrorCause::CookieReceivedWhileShuttingDown(c) => c.value_size(),
-            ErrorCause::UserInitiatedAbort(c) => c.value_size(),
-            ErrorCause::ProtocolViolation(c) => c.value_size(),
-            ErrorCause::MissingMandatoryParameter(c) => c.value_size(),
-            ErrorCause::Unknown(c) => c.value_size(),
-        }
+        each_kind!(self, c => c.value_size())
     }
 
     fn encodable(&self) -> bool {
-        match self {
-            ErrorCause::UnrecognizedChunk(c) => c.encodable(),
-            ErrorCause::NoUserData(c) => c.encodable(),
-            ErrorCause::CookieReceivedWhileShuttingDown(c) => c.encodable(),
-            ErrorCause::UserInitiatedAbort(c) => c.encodable(),
-            ErrorCause::ProtocolViolation(c) => c.encodable(),
-            ErrorCause::MissingMandatoryParameter(c) => c.encodable(),
-            ErrorCause::Unknown(c) => c.encodable(),
-        }
+        each_kind!(self, c => c.encodable())
     }
 }
 
@@ -231,15 +222,7 @@ impl fmt::Display for ErrorCause {
     ghost output = { λ c. Some (cause_text (view c)) };
 
     fn fmt<W: fmt::Write>(&self, f: &mut fmt::Formatter<W>) -> fmt::Result {
-        match self {
-            ErrorCause::UnrecognizedChunk(c) => c.fmt(f),
-            ErrorCause::NoUserData(c) => c.fmt(f),
-            ErrorCause::CookieReceivedWhileShuttingDown(c) => c.fmt(f),
-            ErrorCause::UserInitiatedAbort(c) => c.fmt(f),
-            ErrorCause::ProtocolViolation(c) => c.fmt(f),
-            ErrorCause::MissingMandatoryParameter(c) => c.fmt(f),
-            ErrorCause::Unknown(c) => c.fmt(f),
-        }
+        each_kind!(self, c => c.fmt(f))
     }
 }
 

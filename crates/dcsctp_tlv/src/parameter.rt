@@ -60,6 +60,26 @@ pub enum Parameter {
     Unknown(UnknownParameter),
 }
 
+/// The same of every kind.
+macro_rules! each_kind {
+    ($parameter:expr, $kind:ident => $does:expr) => {
+        match $parameter {
+            Parameter::HeartbeatInfo($kind) => $does,
+            Parameter::StateCookie($kind) => $does,
+            Parameter::OutgoingSsnResetRequest($kind) => $does,
+            Parameter::IncomingSsnResetRequest($kind) => $does,
+            Parameter::SsnTsnResetRequest($kind) => $does,
+            Parameter::ReconfigurationResponse($kind) => $does,
+            Parameter::AddOutgoingStreamsRequest($kind) => $does,
+            Parameter::AddIncomingStreamsRequest($kind) => $does,
+            Parameter::SupportedExtensions($kind) => $does,
+            Parameter::ForwardTsnSupported($kind) => $does,
+            Parameter::ZeroChecksumAcceptable($kind) => $does,
+            Parameter::Unknown($kind) => $does,
+        }
+    };
+}
+
 impl Parameter {
     /// Reads a parameter as its type says.
     ///
@@ -259,54 +279,15 @@ impl SerializableTlv for Parameter {
     ghost size_bound = { λ p fits. fits };
 
     fn serialize_to(&self, output: &mut [u8]) {
-        match self {
-            Parameter::HeartbeatInfo(p) => p.serialize_to(output),
-            Parameter::StateCookie(p) => p.serialize_to(output),
-            Parameter::OutgoingSsnResetRequest(p) => p.serialize_to(output),
-            Parameter::IncomingSsnResetRequest(p) => p.serialize_to(output),
-            Parameter::ReconfigurationResponse(p) => p.serialize_to(output),
-            Parameter::SsnTsnResetRequest(p)
-            | Parameter::AddOutgoingStreamsRequest(p)
-            | Parameter::AddIncomingStreamsRequest(p)
-            | Parameter::Unknown(p) => p.serialize_to(output),
-            Parameter::SupportedExtensions(p) => p.serialize_to(output),
-            Parameter::ForwardTsnSupported(p) => p.serialize_to(output),
-            Parameter::ZeroChecksumAcceptable(p) => p.serialize_to(output),
-        }
+        each_kind!(self, p => p.serialize_to(output))
     }
 
     fn value_size(&self) -> usize {
-        match self {
-            Parameter::HeartbeatInfo(p) => p.value_size(),
-            Parameter::StateCookie(p) => p.value_size(),
-            Parameter::OutgoingSsnResetRequest(p) => p.value_size(),
-            Parameter::IncomingSsnResetRequest(p) => p.value_size(),
-            Parameter::ReconfigurationResponse(p) => p.value_size(),
-            Parameter::SsnTsnResetRequest(p)
-            | Parameter::AddOutgoingStreamsRequest(p)
-            | Parameter::AddIncomingStreamsRequest(p)
-            | Parameter::Unknown(p) => p.value_size(),
-            Parameter::SupportedExtensions(p) => p.value_size(),
-            Parameter::ForwardTsnSupported(p) => p.value_size(),
-            Parameter::ZeroChecksumAcceptable(p) => p.value_size(),
-        }
+        each_kind!(self, p => p.value_size())
     }
 
     fn encodable(&self) -> bool {
-        match self {
-            Parameter::HeartbeatInfo(p) => p.encodable(),
-            Parameter::StateCookie(p) => p.encodable(),
-            Parameter::OutgoingSsnResetRequest(p) => p.encodable(),
-            Parameter::IncomingSsnResetRequest(p) => p.encodable(),
-            Parameter::ReconfigurationResponse(p) => p.encodable(),
-            Parameter::SsnTsnResetRequest(p)
-            | Parameter::AddOutgoingStreamsRequest(p)
-            | Parameter::AddIncomingStreamsRequest(p)
-            | Parameter::Unknown(p) => p.encodable(),
-            Parameter::SupportedExtensions(p) => p.encodable(),
-            Parameter::ForwardTsnSupported(p) => p.encodable(),
-            Parameter::ZeroChecksumAcceptable(p) => p.encodable(),
-        }
+        each_kind!(self, p => p.encodable())
     }
 }
 

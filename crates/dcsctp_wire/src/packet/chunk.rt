@@ -60,6 +60,32 @@ pub enum Chunk {
     Unknown(UnknownChunk),
 }
 
+/// The same of every kind.
+macro_rules! each_kind {
+    ($chunk:expr, $kind:ident => $does:expr) => {
+        match $chunk {
+            Chunk::Data($kind) => $does,
+            Chunk::Init($kind) => $does,
+            Chunk::InitAck($kind) => $does,
+            Chunk::Sack($kind) => $does,
+            Chunk::HeartbeatRequest($kind) => $does,
+            Chunk::HeartbeatAck($kind) => $does,
+            Chunk::Abort($kind) => $does,
+            Chunk::Shutdown($kind) => $does,
+            Chunk::ShutdownAck($kind) => $does,
+            Chunk::Error($kind) => $does,
+            Chunk::CookieEcho($kind) => $does,
+            Chunk::CookieAck($kind) => $does,
+            Chunk::ShutdownComplete($kind) => $does,
+            Chunk::ReConfig($kind) => $does,
+            Chunk::ForwardTsn($kind) => $does,
+            Chunk::IData($kind) => $does,
+            Chunk::IForwardTsn($kind) => $does,
+            Chunk::Unknown($kind) => $does,
+        }
+    };
+}
+
 impl Chunk {
     /// Reads a chunk as its type says.
     ///
@@ -290,72 +316,15 @@ impl SerializableTlv for Chunk {
     ghost size_bound = { λ c fits. encodable_size (view c) fits };
 
     fn serialize_to(&self, output: &mut [u8]) {
-        match self {
-            Chunk::Data(c) => c.serialize_to(output),
-            Chunk::Init(c) => c.serialize_to(output),
-            Chunk::InitAck(c) => c.serialize_to(output),
-            Chunk::Sack(c) => c.serialize_to(output),
-            Chunk::HeartbeatRequest(c) => c.serialize_to(output),
-            Chunk::HeartbeatAck(c) => c.serialize_to(output),
-            Chunk::Abort(c) => c.serialize_to(output),
-            Chunk::Shutdown(c) => c.serialize_to(output),
-            Chunk::ShutdownAck(c) => c.serialize_to(output),
-            Chunk::Error(c) => c.serialize_to(output),
-            Chunk::CookieEcho(c) => c.serialize_to(output),
-            Chunk::CookieAck(c) => c.serialize_to(output),
-            Chunk::ShutdownComplete(c) => c.serialize_to(output),
-            Chunk::ReConfig(c) => c.serialize_to(output),
-            Chunk::ForwardTsn(c) => c.serialize_to(output),
-            Chunk::IData(c) => c.serialize_to(output),
-            Chunk::IForwardTsn(c) => c.serialize_to(output),
-            Chunk::Unknown(c) => c.serialize_to(output),
-        }
+        each_kind!(self, c => c.serialize_to(output))
     }
 
     fn value_size(&self) -> usize {
-        match self {
-            Chunk::Data(c) => c.value_size(),
-            Chunk::Init(c) => c.value_size(),
-            Chunk::InitAck(c) => c.value_size(),
-            Chunk::Sack(c) => c.value_size(),
-            Chunk::HeartbeatRequest(c) => c.value_size(),
-            Chunk::HeartbeatAck(c) => c.value_size(),
-            Chunk::Abort(c) => c.value_size(),
-            Chunk::Shutdown(c) => c.value_size(),
-            Chunk::ShutdownAck(c) => c.value_size(),
-            Chunk::Error(c) => c.value_size(),
-            Chunk::CookieEcho(c) => c.value_size(),
-            Chunk::CookieAck(c) => c.value_size(),
-            Chunk::ShutdownComplete(c) => c.value_size(),
-            Chunk::ReConfig(c) => c.value_size(),
-            Chunk::ForwardTsn(c) => c.value_size(),
-            Chunk::IData(c) => c.value_size(),
-            Chunk::IForwardTsn(c) => c.value_size(),
-            Chunk::Unknown(c) => c.value_size(),
-        }
+        each_kind!(self, c => c.value_size())
     }
 
     fn encodable(&self) -> bool {
-        match self {
-            Chunk::Data(c) => c.encodable(),
-            Chunk::Init(c) => c.encodable(),
-            Chunk::InitAck(c) => c.encodable(),
-            Chunk::Sack(c) => c.encodable(),
-            Chunk::HeartbeatRequest(c) => c.encodable(),
-            Chunk::HeartbeatAck(c) => c.encodable(),
-            Chunk::Abort(c) => c.encodable(),
-            Chunk::Shutdown(c) => c.encodable(),
-            Chunk::ShutdownAck(c) => c.encodable(),
-            Chunk::Error(c) => c.encodable(),
-            Chunk::CookieEcho(c) => c.encodable(),
-            Chunk::CookieAck(c) => c.encodable(),
-            Chunk::ShutdownComplete(c) => c.encodable(),
-            Chunk::ReConfig(c) => c.encodable(),
-            Chunk::ForwardTsn(c) => c.encodable(),
-            Chunk::IData(c) => c.encodable(),
-            Chunk::IForwardTsn(c) => c.encodable(),
-            Chunk::Unknown(c) => c.encodable(),
-        }
+        each_kind!(self, c => c.encodable())
     }
 }
 
@@ -363,25 +332,6 @@ impl fmt::Display for Chunk {
     ghost output = { λ c. Some (chunk_text (view c)) };
 
     fn fmt<W: fmt::Write>(&self, f: &mut fmt::Formatter<W>) -> fmt::Result {
-        match self {
-            Chunk::Data(c) => c.fmt(f),
-            Chunk::Init(c) => c.fmt(f),
-            Chunk::InitAck(c) => c.fmt(f),
-            Chunk::Sack(c) => c.fmt(f),
-            Chunk::HeartbeatRequest(c) => c.fmt(f),
-            Chunk::HeartbeatAck(c) => c.fmt(f),
-            Chunk::Abort(c) => c.fmt(f),
-            Chunk::Shutdown(c) => c.fmt(f),
-            Chunk::ShutdownAck(c) => c.fmt(f),
-            Chunk::Error(c) => c.fmt(f),
-            Chunk::CookieEcho(c) => c.fmt(f),
-            Chunk::CookieAck(c) => c.fmt(f),
-            Chunk::ShutdownComplete(c) => c.fmt(f),
-            Chunk::ReConfig(c) => c.fmt(f),
-            Chunk::ForwardTsn(c) => c.fmt(f),
-            Chunk::IData(c) => c.fmt(f),
-            Chunk::IForwardTsn(c) => c.fmt(f),
-            Chunk::Unknown(c) => c.fmt(f),
-        }
+        each_kind!(self, c => c.fmt(f))
     }
 }
