@@ -34,12 +34,19 @@ use std::fmt;
 /// `Unknown`.
 #[derive(Debug, Drop)]
 pub enum ErrorCause {
+    /// Unrecognized Chunk Type (RFC 9260 section 3.3.10.6), code 6.
     UnrecognizedChunk(UnrecognizedChunkErrorCause),
+    /// No User Data (RFC 9260 section 3.3.10.9), code 9.
     NoUserData(NoUserDataErrorCause),
+    /// Cookie Received While Shutting Down (RFC 9260 section 3.3.10.10), code 10.
     CookieReceivedWhileShuttingDown(CookieReceivedWhileShuttingDownErrorCause),
+    /// User-Initiated Abort (RFC 9260 section 3.3.10.12), code 12.
     UserInitiatedAbort(UserInitiatedAbortErrorCause),
+    /// Protocol Violation (RFC 9260 section 3.3.10.13), code 13.
     ProtocolViolation(ProtocolViolationErrorCause),
+    /// Missing Mandatory Parameter (RFC 9260 section 3.3.10.2), code 2.
     MissingMandatoryParameter(MissingMandatoryParameterErrorCause),
+    /// A cause of any other code.
     Unknown(UnknownParameter),
 }
 

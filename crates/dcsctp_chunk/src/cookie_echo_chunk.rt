@@ -31,6 +31,7 @@ pub const CHUNK_TYPE: u8 = 10;
 /// An empty cookie can be written, but isn't read.
 #[derive(Debug, Drop)]
 pub struct CookieEchoChunk {
+    /// The State Cookie of the INIT ACK, byte for byte.
     pub cookie: Vec<u8>,
 }
 

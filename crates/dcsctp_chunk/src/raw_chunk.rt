@@ -22,7 +22,9 @@ use dcsctp_tlv::frame::split_frame;
 /// A chunk's type, its flags and its value as bytes (RFC 9260 section 3.2).
 #[derive(Debug, Drop)]
 pub struct RawChunk<'a> {
+    /// What kind of chunk it is.
     pub typ: u8,
+    /// What they mean depends on the type.
     pub flags: u8,
     /// What stands behind the header, without padding.
     pub value: &'a [u8],

@@ -29,6 +29,7 @@ pub const PARAMETER_TYPE: u16 = 1;
 /// Heartbeat Info (RFC 9260 section 3.3.5). Only the sender of the HEARTBEAT knows what it means.
 #[derive(Debug, Drop)]
 pub struct HeartbeatInfoParameter {
+    /// Any bytes; HEARTBEAT ACK sends them back.
     pub info: Vec<u8>,
 }
 

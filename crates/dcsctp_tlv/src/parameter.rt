@@ -46,17 +46,29 @@ pub const PARAMETER_TYPE_ADD_INCOMING_STREAMS_REQUEST: u16 = 18;
 /// Three requests have a variant of their own, but their values are kept as they are.
 #[derive(Debug, Drop)]
 pub enum Parameter {
+    /// Heartbeat Info (RFC 9260 section 3.3.5), type 1.
     HeartbeatInfo(HeartbeatInfoParameter),
+    /// State Cookie (RFC 9260 section 3.3.3.1.1), type 7.
     StateCookie(StateCookieParameter),
+    /// Outgoing SSN Reset Request (RFC 6525 section 4.1), type 13.
     OutgoingSsnResetRequest(OutgoingSsnResetRequestParameter),
+    /// Incoming SSN Reset Request (RFC 6525 section 4.2), type 14.
     IncomingSsnResetRequest(IncomingSsnResetRequestParameter),
+    /// SSN/TSN Reset Request (RFC 6525 section 4.3), type 15, kept as it is.
     SsnTsnResetRequest(UnknownParameter),
+    /// Re-configuration Response (RFC 6525 section 4.4), type 16.
     ReconfigurationResponse(ReconfigurationResponseParameter),
+    /// Add Outgoing Streams Request (RFC 6525 section 4.5), type 17, kept as it is.
     AddOutgoingStreamsRequest(UnknownParameter),
+    /// Add Incoming Streams Request (RFC 6525 section 4.6), type 18, kept as it is.
     AddIncomingStreamsRequest(UnknownParameter),
+    /// Supported Extensions (RFC 5061 section 4.2.7), type 0x8008.
     SupportedExtensions(SupportedExtensionsParameter),
+    /// Forward-TSN Supported (RFC 3758 section 3.1), type 0xc000.
     ForwardTsnSupported(ForwardTsnSupportedParameter),
+    /// Zero Checksum Acceptable (RFC 9653 section 4), type 0x8001.
     ZeroChecksumAcceptable(ZeroChecksumAcceptableParameter),
+    /// A parameter of any other type.
     Unknown(UnknownParameter),
 }
 

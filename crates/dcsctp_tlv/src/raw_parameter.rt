@@ -18,6 +18,7 @@ pub const PARAMETER_HEADER_SIZE: usize = 4;
 /// 3.3.10).
 #[derive(Debug, Drop)]
 pub struct RawParameter<'a> {
+    /// The type of the parameter, or the code of the cause.
     pub typ: u16,
     /// What stands behind the header, without padding.
     pub value: &'a [u8],

@@ -96,8 +96,11 @@ impl ReconfigurationResponseResult {
 pub struct ReconfigurationResponseParameter {
     /// The sequence number of the request.
     pub response_seq_nbr: u32,
+    /// What became of the request.
     pub result: ReconfigurationResponseResult,
+    /// The TSN that the sender of the response uses next.
     pub sender_next_tsn: Option<Tsn>,
+    /// The TSN that the receiver of the response has to use next.
     pub receiver_next_tsn: Option<Tsn>,
 }
 

@@ -29,6 +29,7 @@ pub const PARAMETER_TYPE: u16 = 7;
 /// State Cookie (RFC 9260 section 3.3.3.1.1). Only the sender of the INIT ACK knows what it means.
 #[derive(Debug, Drop)]
 pub struct StateCookieParameter {
+    /// Any bytes; COOKIE ECHO sends them back.
     pub cookie: Vec<u8>,
 }
 

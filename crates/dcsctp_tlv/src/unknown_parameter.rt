@@ -27,12 +27,15 @@ use std::fmt;
 /// 3.2.1 and 3.3.10).
 #[derive(Debug, Drop)]
 pub struct UnknownParameter {
+    /// The type of the parameter, or the code of the cause.
     pub typ: u16,
+    /// The bytes after the header, without padding.
     pub value: Vec<u8>,
 }
 
 #[tactic(auto, unfolding(crate::specs::UnknownParameter::unknown_parameter_at))]
 impl UnknownParameter {
+    /// A parameter or cause of this type that holds these bytes. It takes no memory.
     pub fn new(typ: u16, value: Vec<u8>) -> UnknownParameter
         ensures typ { result.typ ≡ typ }
         ensures value { result.value ≡ value }

@@ -40,23 +40,41 @@ use std::fmt;
 /// A chunk of any kind (RFC 9260 section 3.2); a type without a kind of its own is `Unknown`.
 #[derive(Debug, Drop)]
 pub enum Chunk {
+    /// DATA (RFC 9260 section 3.3.1), type 0.
     Data(DataChunk),
+    /// INIT (RFC 9260 section 3.3.2), type 1.
     Init(InitChunk),
+    /// INIT ACK (RFC 9260 section 3.3.3), type 2.
     InitAck(InitAckChunk),
+    /// SACK (RFC 9260 section 3.3.4), type 3.
     Sack(SackChunk),
+    /// HEARTBEAT (RFC 9260 section 3.3.5), type 4.
     HeartbeatRequest(HeartbeatRequestChunk),
+    /// HEARTBEAT ACK (RFC 9260 section 3.3.6), type 5.
     HeartbeatAck(HeartbeatAckChunk),
+    /// ABORT (RFC 9260 section 3.3.7), type 6.
     Abort(AbortChunk),
+    /// SHUTDOWN (RFC 9260 section 3.3.8), type 7.
     Shutdown(ShutdownChunk),
+    /// SHUTDOWN ACK (RFC 9260 section 3.3.9), type 8.
     ShutdownAck(ShutdownAckChunk),
+    /// ERROR (RFC 9260 section 3.3.10), type 9.
     Error(ErrorChunk),
+    /// COOKIE ECHO (RFC 9260 section 3.3.11), type 10.
     CookieEcho(CookieEchoChunk),
+    /// COOKIE ACK (RFC 9260 section 3.3.12), type 11.
     CookieAck(CookieAckChunk),
+    /// SHUTDOWN COMPLETE (RFC 9260 section 3.3.13), type 14.
     ShutdownComplete(ShutdownCompleteChunk),
+    /// RE-CONFIG (RFC 6525 section 3.1), type 130.
     ReConfig(ReConfigChunk),
+    /// FORWARD-TSN (RFC 3758 section 3.2), type 192.
     ForwardTsn(ForwardTsnChunk),
+    /// I-DATA (RFC 8260 section 2.1), type 64.
     IData(IDataChunk),
+    /// I-FORWARD-TSN (RFC 8260 section 2.3.1), type 194.
     IForwardTsn(IForwardTsnChunk),
+    /// A chunk of any other type.
     Unknown(UnknownChunk),
 }
 

@@ -85,8 +85,11 @@ impl From<AllocError> for PacketParseError {
 /// What stands before the chunks of a packet (RFC 9260 section 3.1).
 #[derive(Drop)]
 pub struct CommonHeader {
+    /// The sender's port, as the sender sees it.
     pub source_port: u16,
+    /// The port that the packet is for.
     pub destination_port: u16,
+    /// The initiate tag that the receiver chose; 0 where the packet holds an INIT.
     pub verification_tag: u32,
     /// The number at bytes 8 to 11, most significant byte first.
     pub checksum: u32,
@@ -95,7 +98,9 @@ pub struct CommonHeader {
 /// A packet (RFC 9260 section 3).
 #[derive(Drop)]
 pub struct SctpPacket {
+    /// In the order in which they stand; a packet that was read has at least one.
     pub chunks: Vec<Chunk>,
+    /// What stands before them.
     pub common_header: CommonHeader,
 }
 
