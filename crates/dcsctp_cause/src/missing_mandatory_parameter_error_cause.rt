@@ -83,7 +83,7 @@ impl MissingMandatoryParameterErrorCause {
         MissingMandatoryParameterErrorCause { missing_parameters }
     }
 
-    /// A cause with the same types; refused for want of memory alone.
+    /// A cause with the same types; refused only where memory runs out.
     pub fn clone(&self) -> Result<MissingMandatoryParameterErrorCause, AllocError>
         ensures { IfOk result (λ c. c.missing_parameters.items ≡ self.now.missing_parameters.items) }
     {

@@ -46,7 +46,7 @@ impl CookieEchoChunk {
         }
     }
 
-    /// A chunk with the same cookie; refused for want of memory alone.
+    /// A chunk with the same cookie; refused only where memory runs out.
     pub fn clone(&self) -> Result<CookieEchoChunk, AllocError>
         ensures { IfOk result (λ c. c.cookie.items ≡ self.now.cookie.items) }
     {

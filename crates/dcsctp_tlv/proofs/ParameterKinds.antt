@@ -105,7 +105,7 @@ unknown_parameter_forms IsFormed typ tree law value t e =
     let u = of_map_ok tree (unknown_parameter_at typ value) t e in
     subst IsFormed (ap tree (of_ok (record { typ = typ; value = value }) u.0 u.1.0) ∙ sym u.1.1) (law value)
 
--- ---- requests: numbers, and streams behind them
+-- ---- requests: numbers, and streams after them
 
 outgoing_back : (r : OutgoingSsnResetRequestTree) → IsOutgoingSsnResetRequestInWidth r
     → outgoing_ssn_reset_request_at (numbers w32 (r.request ∷ r.response ∷ r.last_tsn ∷ []) ++ numbers w16 r.streams) ≡ Ok r

@@ -14,7 +14,7 @@ pub const TLV_HEADER_SIZE: usize = 4;
 /// The most bytes that a value can have: two bytes hold its size with the header's.
 pub const MAX_VALUE_SIZE: usize = 65531;
 
-/// The value of the frame at the front, and the bytes behind it and its padding.
+/// The value of the frame at the front, and the bytes after it and its padding.
 ///
 /// Both are parts of the input. The last item of a list may lack padding: then nothing is left.
 /// `InvalidLength` exactly where the bytes don't begin with a frame.
@@ -58,7 +58,7 @@ pub fn padding_parts(bytes: &[u8]) -> (usize, &[u8])
     (padded - length, &bytes[length..padded.min(bytes.len())])
 }
 
-/// Writes a header into the first four bytes; the bytes behind them stay.
+/// Writes a header into the first four bytes; the bytes after them stay.
 pub fn put_header(first: u8, second: u8, value_size: usize, output: &mut [u8])
     requires encodable { 4 + value_size < 2 ^ 16 }
     requires room { 4 ≤ length output.old }

@@ -26,7 +26,7 @@ pub fn parameters_encodable<T: SerializableTlv>(list: &[T]) -> bool
     true
 }
 
-/// The bytes of the list, without padding behind its last item.
+/// The bytes of the list, without padding after its last item.
 pub fn parameters_serialized_size<T: SerializableTlv>(list: &[T]) -> usize
     requires { IsListEncodable T.tlv T.is_encodable list.now }
     ensures { result ≡ list_size T.tlv list.now }
@@ -54,7 +54,7 @@ pub fn parameters_serialize_to<T: SerializableTlv>(list: &[T], output: &mut [u8]
     }
 }
 
-/// The list can be written in one value behind so many bytes.
+/// The list can be written in one value after so many bytes.
 pub fn listed_encodable<T: ListedTlv>(leading: usize, list: &[T]) -> bool
     requires { leading ≤ MAX_VALUE_SIZE }
     ensures { IsTrue result ↔ 4 + (leading + list_size T.tree_tlv (map T.view list.now)) < 2 ^ 16 }
@@ -65,7 +65,7 @@ pub fn listed_encodable<T: ListedTlv>(leading: usize, list: &[T]) -> bool
     parameters_serialized_size(list) <= MAX_VALUE_SIZE - leading
 }
 
-/// The bytes of a value with the list behind so many bytes.
+/// The bytes of a value with the list after so many bytes.
 pub fn listed_size<T: ListedTlv>(leading: usize, list: &[T]) -> usize
     requires { 4 + (leading + list_size T.tree_tlv (map T.view list.now)) < 2 ^ 16 }
     ensures { result ≡ leading + list_size T.tree_tlv (map T.view list.now) }
@@ -73,7 +73,7 @@ pub fn listed_size<T: ListedTlv>(leading: usize, list: &[T]) -> usize
     leading + parameters_serialized_size(list)
 }
 
-/// Writes an item whose value begins with these bytes, and behind them is the list.
+/// Writes an item whose value begins with these bytes, and after them is the list.
 pub fn put_listed<T: ListedTlv>(
     first: u8,
     second: u8,

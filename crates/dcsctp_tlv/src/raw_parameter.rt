@@ -20,12 +20,12 @@ pub const PARAMETER_HEADER_SIZE: usize = 4;
 pub struct RawParameter<'a> {
     /// The type of the parameter, or the code of the cause.
     pub typ: u16,
-    /// What stands behind the header, without padding.
+    /// What stands after the header, without padding.
     pub value: &'a [u8],
 }
 
 impl<'a> RawParameter<'a> {
-    /// The parameter at the front of `bytes`, and the bytes behind it and its padding.
+    /// The parameter at the front of `bytes`, and the bytes after it and its padding.
     ///
     /// Value and rest are parts of the input, and no memory is taken. Padding isn't looked at; the
     /// last parameter of a list may lack some or all of it, and then nothing is left.
@@ -51,8 +51,8 @@ impl<'a> RawParameter<'a> {
 
 /// Writes a parameter's header for a value of `value_size` bytes, and lends the part for the value.
 ///
-/// The lent part is as it stood, and so is all behind it. `output` ends as the header, what the
-/// caller leaves in the lent part, and the bytes behind it.
+/// The lent part is as it stood, and so is all after it. `output` ends as the header, what the
+/// caller leaves in the lent part, and the bytes after it.
 pub fn write_parameter_header(typ: u16, value_size: usize, output: &mut [u8]) -> &mut [u8]
     requires encodable { 4 + value_size < 2 ^ 16 }
     requires room { 4 + value_size ≤ length output.old }

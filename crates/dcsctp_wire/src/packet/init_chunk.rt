@@ -46,9 +46,9 @@ pub struct InitChunk {
     pub initiate_tag: u32,
     /// The bytes that the sender has room for.
     pub a_rwnd: u32,
-    /// The streams that the sender would send on.
+    /// How many streams the sender wants to send on.
     pub nbr_outbound_streams: u16,
-    /// The streams that the sender can receive on.
+    /// How many streams the sender can receive on.
     pub nbr_inbound_streams: u16,
     /// The TSN that the sender begins with.
     pub initial_tsn: Tsn,

@@ -208,7 +208,7 @@ impl SctpPacket {
     ///
     /// Where the packet is well-formed and has a chunk, these bytes read back under each word and
     /// policy that accept a field of 0, and two such packets have equal bytes exactly where they
-    /// mean the same. Refused for want of memory alone.
+    /// mean the same. Refused only where memory runs out.
     pub fn canonical_bytes(&self, alloc: Global) -> Result<Vec<u8>, AllocError>
         requires { Fits (meaning_view self.now) }
         ensures bytes { IfOk result (λ bytes. bytes.items ≡ canonical (meaning_view self.now)) }

@@ -1,4 +1,4 @@
--- What the three calls write, one behind the other.
+-- What the three calls write, one after the other.
 use Rattle.std.proofs.Common.{ap, refl, ◌∙◌, map, append_assoc}
 use Rattle.std.specs.Fmt.{decimal}
 use Rattle.std.specs.Prelude.{codes}
