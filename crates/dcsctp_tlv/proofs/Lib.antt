@@ -18,3 +18,6 @@ pub mod ParameterKinds
 pub mod ParameterLaws
 pub mod Local
 pub mod Checks
+pub mod Tables
+pub mod FormatLaws
+pub mod Sizes

@@ -20,3 +20,6 @@ pub mod ReconfigurationResponse
 pub mod Parameter
 pub mod WellFormedParameter
 pub mod Fields
+pub mod Format
+pub mod Table
+pub mod Kind

@@ -13,9 +13,8 @@ use Rattle.dcsctp_tlv.proofs.Listed.{listed_sized}
 use Rattle.dcsctp_tlv.proofs.ReadsBack.{ReadsBack, nested_reads_back, zeroed-solid}
 use Rattle.dcsctp_tlv.proofs.ParameterLaws.{IsGoodParameter, good_parameters, parameters_read_back, parameters_form}
 use Rattle.dcsctp_tlv.proofs.Forms.{FormsTrees, FormsRow, picked, plain_forms, list_formed, nil_means}
-use Rattle.dcsctp_cause.specs.Cause.{CauseTree, causes, cause_tlv, length-cause}
-use Rattle.dcsctp_cause.specs.WellFormedCause.{IsCauseInWidth, IsCauseWellFormed}
-use Rattle.dcsctp_cause.proofs.CauseLaws.{IsGoodCause, good_causes, causes_read_back, causes_form}
+use Rattle.dcsctp_cause.specs.Cause.{CauseTree, causes, tlv as cause_tlv, IsInWidth as IsCauseInWidth, IsWellFormed as IsCauseWellFormed}
+use Rattle.dcsctp_cause.proofs.CauseLaws.{IsGoodCause, length-cause, good_causes, causes_read_back, causes_form}
 use Rattle.dcsctp_chunk.specs.Flags.{flag_byte}
 use Rattle.dcsctp_chunk.specs.Unknown.{UnknownTree, unknown_at}
 use Rattle.dcsctp_chunk.proofs.FlagLaws.{one_again}

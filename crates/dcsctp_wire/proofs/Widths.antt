@@ -55,7 +55,7 @@ use Rattle.dcsctp_cause.specs.contracts.missing_mandatory_parameter_error_cause.
 use Rattle.dcsctp_cause.specs.declared.error_causes.ErrorCause.TheVariants as cause_kinds
 use Rattle.dcsctp_cause.specs.Cause as causes
 use Rattle.dcsctp_cause.specs.Text.{IsText}
-use Rattle.dcsctp_cause.specs.WellFormedCause.{IsCauseInWidth}
+use Rattle.dcsctp_cause.specs.Cause.{IsInWidth as IsCauseInWidth}
 use Rattle.dcsctp_chunk.specs.contracts.data.Data as Data
 use Rattle.dcsctp_chunk.specs.contracts.data_chunk.DataChunk as DataChunk
 use Rattle.dcsctp_chunk.specs.contracts.idata_chunk.IDataChunk as IDataChunk
