@@ -7,13 +7,13 @@ use Rattle.dcsctp_tlv.specs.Level.{Row, plain, map_ok, HasMeaning}
 use Rattle.dcsctp_tlv.specs.Fault.{Fault}
 use Rattle.dcsctp_tlv.specs.Image.{Tlv, zeroed, size_of, image_of, IsEncodable, list_size}
 use Rattle.dcsctp_tlv.specs.Table.{IsUnnamed}
-use Rattle.dcsctp_tlv.specs.UnknownParameter.{UnknownParameterTree, unknown_parameter_at}
+use Rattle.dcsctp_tlv.specs.Length.{length-format}
+use Rattle.dcsctp_tlv.specs.UnknownParameter as unknown
 use Rattle.dcsctp_tlv.proofs.Laws.{LawfulRow, Lawful, plain_lawful}
 use Rattle.dcsctp_tlv.proofs.Tables.{◌&◌, of_table, of_others}
 use Rattle.dcsctp_tlv.proofs.ReadsBack.{ReadsBack, each_encodable, zeroed-solid}
 use Rattle.dcsctp_tlv.proofs.KindLaws.{of_map_ok}
-use Rattle.dcsctp_tlv.proofs.FormatLaws.{length-format}
-use Rattle.dcsctp_tlv.proofs.ParameterKinds.{type_back, unknown_parameter_keeps_size, unknown_parameter_forms}
+use Rattle.dcsctp_tlv.proofs.ParameterKinds.{type_back, unknown_keeps, unknown_forms}
 use Rattle.dcsctp_tlv.proofs.Forms.{FormsTrees, FormsRow, plain_forms}
 use Rattle.dcsctp_tlv.proofs.Accounts.{SameSpace, Accounts, plain_account, same_size}
 use Rattle.dcsctp_tlv.proofs.Counts.{Counts, one_each}
@@ -48,7 +48,7 @@ MeansAny value code row = code ≢ 2 → code ≢ 9 → code ≢ 10 → HasMeani
 
 -- any value of a code that allows any has a meaning
 pub any_value : (code : ℕ) (value : List ℕ) → MeansAny value code (row code)
-unfolding chunk.read abort.read violation.read unknown_parameter_at
+unfolding chunk.read abort.read violation.read unknown.read
 any_value code value = of_table (MeansAny value) table code _ (
     (λ not_2 not_9 not_10. absurd (not_2 refl)) &
     (λ not_2 not_9 not_10. (_, refl)) &
@@ -70,9 +70,9 @@ pub record IsGoodCause (t : CauseTree) : Type 0 where
 abbrev Means : Tlv → CauseTree → Type 0
 Means tlv t = (causes.row tlv.first tlv.second).means (zeroed tlv.value) t
 
-unknown_means : (u : UnknownParameterTree) → IsUnnamed table u.typ
+unknown_means : (u : unknown.Tree) → IsUnnamed table u.typ
     → Means (tlv (Unknown u)) (Unknown u)
-unfolding unknown_parameter_at
+unfolding unknown.read
 unknown_means u h =
     subst (λ (code : ℕ). (row code).means (zeroed (tlv (Unknown u)).value) (Unknown u))
     (sym (type_back u.typ))
@@ -122,7 +122,7 @@ row_forms code = of_table (λ _ row. FormsRow IsWellFormed row) table code _ (
     plain_forms cookie_received_laws _ IsWellFormed 0 0 (λ x form. tt) &
     plain_forms abort_laws _ IsWellFormed 0 0 (λ x form. tt) &
     plain_forms violation_laws _ IsWellFormed 0 0 (λ x form. tt) & tt)
-    (λ unnamed. unknown_parameter_forms IsWellFormed code Unknown (λ value. unnamed))
+    (λ unnamed. unknown_forms IsWellFormed code Unknown (λ value. unnamed))
 
 pub causes_form : FormsTrees causes IsWellFormed
 causes_form =
@@ -160,7 +160,7 @@ row_account code = of_table Accounted table code _ (
     (λ value t kept.
     text_account violation.read ProtocolViolation value t (kept (inr refl)) (λ x. refl)
     (violation_kept value)) & tt)
-    (λ _ value t kept. plain_account _ Unknown tlv (unknown_parameter_keeps_size code 0 0) value t)
+    (λ _ value t kept. plain_account _ Unknown tlv (unknown_keeps code 0 0) value t)
 
 pub causes_account : Accounts causes tlv IsTextKept
 causes_account = record { sized = λ i t kept. row_account (item_code i) i.value t kept }

@@ -7,7 +7,6 @@ use Rattle.dcsctp_tlv.specs.Level.{Row, Level, plain, map_ok}
 use Rattle.dcsctp_tlv.specs.Table.{Named, named, row_of, IsUnnamed}
 use Rattle.dcsctp_tlv.specs.Format.{Format}
 use Rattle.dcsctp_tlv.specs.UnknownParameter as unknown
-use Rattle.dcsctp_tlv.proofs.Sizes.{length-solid}
 use Rattle.dcsctp_cause.specs as kind
 use Rattle.dcsctp_cause.specs.declared.error_causes.ErrorCause.{ErrorCause}
 use Rattle.dcsctp_cause.specs.declared.error_causes.ErrorCause.TheVariants as variant
@@ -20,7 +19,7 @@ pub data CauseTree : Type 0 where
   CookieReceivedWhileShuttingDown : CauseTree
   UserInitiatedAbort : List ℕ → CauseTree
   ProtocolViolation : List ℕ → CauseTree
-  Unknown : unknown.UnknownParameterTree → CauseTree
+  Unknown : unknown.Tree → CauseTree
 
 -- the codes that are named, and how the value of each is read
 abbrev pub table : List (Named CauseTree)
@@ -34,8 +33,7 @@ table =
 
 -- what the value of a code means, and its faults
 abbrev pub row : ℕ → Row CauseTree
-row code =
-    row_of table code (plain (λ value. map_ok Unknown (unknown.unknown_parameter_at code value)))
+row code = row_of table code (plain (λ value. map_ok Unknown (unknown.read code value)))
 
 -- lists of causes: their padding is never looked at
 abbrev pub causes : Level CauseTree
@@ -56,13 +54,7 @@ format (NoUserData tsn) = kind.NoUserData.format tsn
 format CookieReceivedWhileShuttingDown = kind.CookieReceivedWhileShuttingDown.format tt
 format (UserInitiatedAbort reason) = kind.UserInitiatedAbort.format reason
 format (ProtocolViolation information) = kind.ProtocolViolation.format information
-format (Unknown u) = record {
-  tlv = unknown.unknown_parameter_tlv u;
-  sized = length-solid u.value;
-  text = unknown.unknown_parameter_text u;
-  IsInWidth = unknown.IsUnknownParameterInWidth u;
-  IsWellFormed = IsUnnamed table u.typ;
-}
+format (Unknown u) = record (unknown.format u) { IsWellFormed = IsUnnamed table u.typ }
 
 abbrev pub tlv : CauseTree → Tlv
 tlv t = (format t).tlv
@@ -85,7 +77,7 @@ view (variant.NoUserData c) = NoUserData (kind.NoUserData.view c)
 view (variant.CookieReceivedWhileShuttingDown c) = CookieReceivedWhileShuttingDown
 view (variant.UserInitiatedAbort c) = UserInitiatedAbort (kind.UserInitiatedAbort.view c)
 view (variant.ProtocolViolation c) = ProtocolViolation (kind.ProtocolViolation.view c)
-view (variant.Unknown u) = Unknown (unknown.unknown_parameter_view u)
+view (variant.Unknown u) = Unknown (unknown.view u)
 
 abbrev pub views : List ErrorCause → List CauseTree
 views cs = map view cs

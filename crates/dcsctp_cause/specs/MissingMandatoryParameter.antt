@@ -3,12 +3,11 @@
 --
 -- The count is a natural number here, so no count above the number of types that are there is
 -- accepted.
-use Rattle.std.specs.Prelude.{ℕ, ◌+◌, ◌*◌, ◌<◌, ◌^◌, List, [], ◌∷◌, ◌++◌, ◌==◌, nat_lt, Result, Ok, Err, if◌then◌else◌, length, drop, map, codes}
+use Rattle.std.specs.Prelude.{ℕ, ◌+◌, ◌*◌, ◌<◌, ◌^◌, List, [], ◌∷◌, ◌++◌, ◌==◌, nat_lt, Result, Ok, Err, if◌then◌else◌, length, drop, map, codes, refl}
 use Rattle.std.specs.Fmt.{decimal}
 use Rattle.std.specs.List.{AllByRecursion}
 use Rattle.std.specs.Int.{w16, w32}
-use Rattle.dcsctp_tlv.specs.Kind.{Fault, Length, fields, number16, number32, numbers, joined, Format, sized_tlv}
-use Rattle.dcsctp_tlv.proofs.Sizes.{length-words}
+use Rattle.dcsctp_tlv.specs.Kind.{Fault, Length, fields, number16, number32, numbers, joined, Format, sized_tlv, length-words}
 use Rattle.dcsctp_cause.specs.declared.missing_mandatory_parameter_error_cause.MissingMandatoryParameterErrorCause.{MissingMandatoryParameterErrorCause}
 
 unfoldable pub read : List ℕ → Result (List ℕ) Fault
@@ -21,7 +20,7 @@ read value =
 abbrev pub format : List ℕ → Format
 format types = record {
   tlv = sized_tlv 2 (4 + 2 * length types) (numbers w32 (length types ∷ []) ++ numbers w16 types);
-  sized = length-words (length types ∷ []) types;
+  sized = length-words w16 2 (length types ∷ []) types (λ n. refl);
   text =
       codes "Missing Mandatory Parameter, missing_parameters=["
       ++ (joined (codes ", ") (map decimal types) ++ codes "]");

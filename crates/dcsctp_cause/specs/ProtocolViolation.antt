@@ -2,8 +2,7 @@
 -- is read as a text, whatever its bytes are.
 use Rattle.std.specs.Prelude.{ℕ, List, ◌++◌, Result, Ok, length, codes}
 use Rattle.std.specs.String.{string_bytes}
-use Rattle.dcsctp_tlv.specs.Kind.{Fault, Format, sized_tlv}
-use Rattle.dcsctp_tlv.proofs.Sizes.{length-solid}
+use Rattle.dcsctp_tlv.specs.Kind.{Fault, Format, sized_tlv, length-solid}
 use Rattle.dcsctp_cause.specs.Text.{text_or, IsText}
 use Rattle.dcsctp_cause.specs.declared.protocol_violation_error_cause.ProtocolViolationErrorCause.{ProtocolViolationErrorCause}
 

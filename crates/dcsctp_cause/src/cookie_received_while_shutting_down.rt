@@ -11,7 +11,7 @@
 ghost use Rattle.std.specs.Prelude.{◌≡◌, ◌≢◌, ◌↔◌, Some, IsErrOf};
 ghost use Rattle.dcsctp_tlv.specs.Image.{IsEncodable};
 ghost use Rattle.dcsctp_tlv.specs.Reading.{Gives, Never, Passes};
-ghost use Rattle.dcsctp_tlv.proofs.FormatLaws.{length-format};
+ghost use Rattle.dcsctp_tlv.specs.Length.{length-format};
 ghost use Rattle.dcsctp_cause.specs.CookieReceivedWhileShuttingDown as kind;
 
 use dcsctp_tlv::error::ChunkParseError;

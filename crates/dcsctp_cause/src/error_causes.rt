@@ -14,7 +14,7 @@ ghost use Rattle.std.specs.Prelude.{◌≡◌, ◌≢◌, ◌≤◌, ◌*◌, []
 ghost use Rattle.dcsctp_tlv.specs.Image.{IsEncodable};
 ghost use Rattle.dcsctp_tlv.specs.Level.{HasMeaning, MeansTrees, MeansSome, MeansMany, HasFault};
 ghost use Rattle.dcsctp_tlv.specs.Reading.{Answers, Finds, ChecksExactly, ReadsExactly};
-ghost use Rattle.dcsctp_tlv.proofs.FormatLaws.{length-format};
+ghost use Rattle.dcsctp_tlv.specs.Length.{length-format};
 ghost use Rattle.dcsctp_cause.specs.Cause as cause;
 ghost use Rattle.dcsctp_cause.specs.Cause.{CauseTree, causes, TakesNoMemory, view, views};
 

@@ -17,7 +17,7 @@ ghost use Rattle.std.specs.Int.{w16, to_be_bytes};
 ghost use Rattle.dcsctp_tlv.specs.Image.{IsEncodable};
 ghost use Rattle.dcsctp_tlv.specs.Number.{number16};
 ghost use Rattle.dcsctp_tlv.specs.Reading.{Gives, IfMeant, Passes, Builds};
-ghost use Rattle.dcsctp_tlv.proofs.FormatLaws.{length-format};
+ghost use Rattle.dcsctp_tlv.specs.Length.{length-format};
 ghost use Rattle.dcsctp_cause.specs.MissingMandatoryParameter as kind;
 
 use dcsctp_tlv::error::ChunkParseError;
@@ -136,7 +136,6 @@ impl MissingMandatoryParameterErrorCause {
     }
 }
 
-#[tactic(auto, using(crate::proofs::Types::size_of_types))]
 impl SerializableTlv for MissingMandatoryParameterErrorCause {
     ghost tlv = { λ c. (kind.format (kind.view c)).tlv };
 

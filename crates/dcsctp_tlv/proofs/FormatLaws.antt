@@ -1,15 +1,10 @@
 -- What a kind owes the laws of its level, where one record is all that the tables say of a tree.
-use Rattle.std.proofs.Common.{◌≡◌, ℕ, List, length, Result, Ok}
+use Rattle.std.proofs.Common.{◌≡◌, ℕ, List, Result, Ok}
 use Rattle.dcsctp_tlv.specs.Fault.{Fault}
 use Rattle.dcsctp_tlv.specs.Format.{Format}
-use Rattle.dcsctp_tlv.specs.Image.{solid, image_of, size_of, IsEncodable}
-use Rattle.dcsctp_tlv.specs.Length.{length-image_of}
+use Rattle.dcsctp_tlv.specs.Image.{solid, IsEncodable}
 use Rattle.dcsctp_tlv.proofs.KindLaws.{KindLaws, KeepsSize, by_value}
 use Rattle.dcsctp_tlv.proofs.ReadsBack.{zeroed-solid}
-
--- an image is as long as its size
-pub length-format : (f : Format) → length (image_of f.tlv) ≡ size_of f.tlv
-length-format f = length-image_of f.tlv f.sized
 
 abbrev pub FormatLaws : {T : Type 0} → (List ℕ → Result T Fault) → (T → Format) → Type 0
 FormatLaws read format =

@@ -20,4 +20,3 @@ pub mod Local
 pub mod Checks
 pub mod Tables
 pub mod FormatLaws
-pub mod Sizes

@@ -9,7 +9,7 @@ use Rattle.dcsctp_tlv.proofs.KindLaws.{of_map_ok}
 use Rattle.dcsctp_tlv.specs.Frame.{Item, AreItems, lenient}
 use Rattle.dcsctp_tlv.specs.Level.{Row, plain, as_row, map_ok, MeansTrees}
 use Rattle.dcsctp_tlv.specs.Image.{size_of, list_size}
-use Rattle.dcsctp_tlv.specs.Parameter.{ParameterTree, parameters, parameter_tlv}
+use Rattle.dcsctp_tlv.specs.Parameter.{ParameterTree, parameters, tlv as parameter_tlv}
 use Rattle.dcsctp_tlv.proofs.Forms.{picked}
 use Rattle.dcsctp_tlv.proofs.Accounts.{SameSpace, Accounts, plain_account, all_account, list_account}
 use Rattle.dcsctp_tlv.proofs.Counts.{Counts, list_count, total-one}

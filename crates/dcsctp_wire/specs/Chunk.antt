@@ -4,7 +4,8 @@ use Rattle.std.specs.Int.{w32, to_be_bytes}
 use Rattle.dcsctp_tlv.specs.Frame.{lenient}
 use Rattle.dcsctp_tlv.specs.Level.{Row, plain, as_row, pick, Level, map_ok}
 use Rattle.dcsctp_tlv.specs.Image.{Tlv, size_of, image_of, IsEncodable}
-use Rattle.dcsctp_tlv.specs.Parameter.{ParameterTree, parameter_tlv, length-parameter}
+use Rattle.dcsctp_tlv.specs.Parameter.{ParameterTree, tlv as parameter_tlv}
+use Rattle.dcsctp_tlv.proofs.ParameterLaws.{length-parameter}
 use Rattle.dcsctp_tlv.proofs.Images.{length-solid_tlv}
 use Rattle.dcsctp_tlv.proofs.Listed.{length-listed_tlv}
 use Rattle.dcsctp_cause.specs.Cause.{CauseTree, tlv as cause_tlv}
