@@ -150,7 +150,7 @@ outgoing_keeps first second value r e =
     omega (arith, ltb-false (length value) 12 long.0, eqb-true (length value % 2) 0 even.0, count)
 
 abbrev incoming_bytes : incoming.Tree → List ℕ
-incoming_bytes r = numbers w32 (r.request ∷ []) ++ numbers w16 r.streams
+incoming_bytes r = numbers w32 (incoming.leading r) ++ numbers w16 r.streams
 
 incoming_back : (r : incoming.Tree) → incoming.IsInWidth r → incoming.read (incoming_bytes r) ≡ Ok r
 unfolding incoming.read
@@ -203,7 +203,8 @@ response_of n x s r =
     record { response = n; result = x; sender_next_tsn = s; receiver_next_tsn = r }
 
 response_back : (n : ℕ) (x : ReconfigurationResponseResult) (s r : Option ℕ)
-    → response.IsInWidth (response_of n x s r) → (response.format (response_of n x s r)).IsWellFormed
+    → response.IsInWidth (response_of n x s r)
+    → (response.format (response_of n x s r)).IsWellFormed
     → response.read (numbers w32 (n ∷ result_number x ∷ []) ++ numbers w32 (next_tsns s r))
     ≡ Ok (response_of n x s r)
 unfolding response.read
@@ -234,7 +235,8 @@ IsRead value t =
 with_tsns : (value : List ℕ) (s r : Option ℕ) (t : response.Tree) → response_with value s r ≡ Ok t
     → (t.sender_next_tsn ≡ s) × (t.receiver_next_tsn ≡ r)
 with_tsns value s r t e =
-    let x = of_map_ok (λ result. response_of (number32 value) result s r) (result_of (number32 (drop 4 value))) t e in (
+    let x = of_map_ok (λ result. response_of (number32 value) result s r)
+    (result_of (number32 (drop 4 value))) t e in (
       ap (λ (y : response.Tree). y.sender_next_tsn) x.1.1,
       ap (λ (y : response.Tree). y.receiver_next_tsn) x.1.1,
     )
@@ -243,16 +245,19 @@ response_read : (value : List ℕ) (t : response.Tree) → response.read value �
 unfolding response.read
 response_read value t e = elim (chosen (length value == 8) _ _ (Ok t) e) [
   | inl p ↦ inl (eqb-true (length value) 8 p.0, with_tsns value None None t p.1)
-  | inr p ↦ (let q = passed (length value == 16) _ Length t p.1 in inr (eqb-true (length value) 16 q.0, with_tsns value _ _ t q.1))
+  | inr p ↦ (let q = passed (length value == 16) _ Length t p.1 in
+      inr (eqb-true (length value) 16 q.0, with_tsns value _ _ t q.1))
 ]
 
 pub response_laws : FormatLaws response.read response.format
 response_laws =
     format_laws response.read response.format
-    (λ r. numbers w32 (response.leading r) ++ numbers w32 (response.trailing r)) (λ r. refl)
-    (λ r width form fits. response_back r.response r.result r.sender_next_tsn r.receiver_next_tsn width form)
+    (λ r. numbers w32 (response.leading r) ++ numbers w32 (response.tsns r)) (λ r. refl)
+    (λ r width form fits. response_back r.response r.result r.sender_next_tsn r.receiver_next_tsn
+    width form)
     (λ value t e. both value t (response_read value t e)) where
-      both : (value : List ℕ) (t : response.Tree) → IsRead value t → (response.format t).IsWellFormed
+      both : (value : List ℕ) (t : response.Tree) → IsRead value t
+          → (response.format t).IsWellFormed
       both value t (inl p) = rw (p.1.0, p.1.1) ((λ h. h), (λ h. h))
       both value t (inr p) = rw (p.1.0, p.1.1) ((λ h. h), (λ h. h))
 

@@ -82,16 +82,18 @@ pub record IsGoodParameter (t : ParameterTree) : Type 0 where
 abbrev Means : Tlv → ParameterTree → Type 0
 Means tlv t = (parameters.row tlv.first tlv.second).means (zeroed tlv.value) t
 
-abbrev kept_as_it_is : ℕ → List ℕ → unknown.Tree
-kept_as_it_is typ value = record { typ = typ; value = value }
+abbrev with_type : ℕ → List ℕ → unknown.Tree
+with_type typ value = record { typ = typ; value = value }
+
+abbrev MeansWith : (unknown.Tree → ParameterTree) → ℕ → List ℕ → Type 0
+MeansWith tree typ value =
+    Means (unknown.format (with_type typ value)).tlv (tree (with_type typ value))
 
 -- a request that is kept as it is: the type that it holds names its row
 kept_means : (typ : ℕ) (tree : unknown.Tree → ParameterTree)
-    → ((value : List ℕ) → Means (unknown.format (kept_as_it_is typ value)).tlv (tree (kept_as_it_is typ value)))
-    → (u : unknown.Tree) → u.typ ≡ typ → Means (unknown.format u).tlv (tree u)
-kept_means typ tree law u e =
-    subst (λ (n : ℕ). Means (unknown.format (kept_as_it_is n u.value)).tlv (tree (kept_as_it_is n u.value)))
-    (sym e) (law u.value)
+    → ((value : List ℕ) → MeansWith tree typ value) → (u : unknown.Tree) → u.typ ≡ typ
+    → Means (unknown.format u).tlv (tree u)
+kept_means typ tree law u e = subst (λ (n : ℕ). MeansWith tree n u.value) (sym e) (law u.value)
 
 unknown_means : (u : unknown.Tree) → IsUnnamed table u.typ → Means (tlv (Unknown u)) (Unknown u)
 unfolding unknown.read
@@ -132,8 +134,11 @@ pub length-parameter : (t : ParameterTree) → length (image_of (tlv t)) ≡ siz
 length-parameter t = length-format (format t)
 
 pub parameters_read_back : ReadsBack parameters tlv IsGoodParameter
-parameters_read_back =
-    record { sized = λ t. (format t).sized; fits = λ t good. good.encodable; means = parameter_means }
+parameters_read_back = record {
+  sized = λ t. (format t).sized;
+  fits = λ t good. good.encodable;
+  means = parameter_means;
+}
 
 -- the parameters of a list that can be written
 pub good_parameters : (ts : List ParameterTree) → AllByRecursion IsInWidth ts
@@ -183,8 +188,9 @@ row_account typ = of_table (λ _ row. AccountsRow tlv row) table typ _ (
     (λ _. plain_account _ Unknown tlv (unknown_keeps typ 0 0))
 
 pub parameters_account : Accounts parameters tlv (λ i. Unit {0})
-parameters_account =
-    record { sized = λ i t kept. row_account (from_be_bytes w16 (i.first ∷ i.second ∷ [])) i.value t }
+parameters_account = record {
+  sized = λ i t kept. row_account (from_be_bytes w16 (i.first ∷ i.second ∷ [])) i.value t;
+}
 
 -- ---- the bound on their number
 
@@ -204,7 +210,8 @@ abbrev tlv_with : response.Tree → List ℕ → Tlv
 tlv_with r tsns =
     sized_tlv 16 (8 + 4 * length tsns) (numbers w32 (response.leading r) ++ numbers w32 tsns)
 
-kept_response_tlv : (r : response.Tree) → (response.format (response.kept r)).tlv ≡ (response.format r).tlv
+kept_response_tlv : (r : response.Tree)
+    → (response.format (response.kept r)).tlv ≡ (response.format r).tlv
 kept_response_tlv r = ap (tlv_with r) (kept_tsns r.sender_next_tsn r.receiver_next_tsn)
 
 both_kept : (s r : Option ℕ) → IsSome (kept_tsn s r) ↔ IsSome (kept_tsn r s)
@@ -223,14 +230,18 @@ kept_parameter_tlv (ReconfigurationResponse r) = kept_response_tlv r
 kept_parameter_tlv t = refl
 
 pub kept_parameter_formed : (t : ParameterTree) → IsTyped t → IsWellFormed (kept t)
-kept_parameter_formed (ReconfigurationResponse r) typed = both_kept r.sender_next_tsn r.receiver_next_tsn
+kept_parameter_formed (ReconfigurationResponse r) typed =
+    both_kept r.sender_next_tsn r.receiver_next_tsn
 kept_parameter_formed t typed = typed
+
+abbrev IsTsn : ℕ → Type 0
+IsTsn tsn = tsn < 2 ^ 32
 
 pub kept_parameter_width : (t : ParameterTree) → IsInWidth t → IsInWidth (kept t)
 kept_parameter_width (ReconfigurationResponse r) w = record {
   response = w.response;
-  sender_next_tsn = tsn_kept (λ tsn. tsn < 2 ^ 32) r.sender_next_tsn r.receiver_next_tsn w.sender_next_tsn;
-  receiver_next_tsn = tsn_kept (λ tsn. tsn < 2 ^ 32) r.receiver_next_tsn r.sender_next_tsn w.receiver_next_tsn;
+  sender_next_tsn = tsn_kept IsTsn r.sender_next_tsn r.receiver_next_tsn w.sender_next_tsn;
+  receiver_next_tsn = tsn_kept IsTsn r.receiver_next_tsn r.sender_next_tsn w.receiver_next_tsn;
 }
 kept_parameter_width t w = w
 

@@ -85,8 +85,11 @@ length-fields view write size is_writable xs law each =
     ap length (flat_map-map write view xs) ∙ length-written (λ x. write (view x)) size xs (all_from is_writable _ xs law (recursion_from_All is_writable xs each))
 
 -- numbers of four bytes, and after them fields
-pub length-value : {X T : Type 0} (view : X → T) (write : T → List ℕ) (size : ℕ) (is_writable : X → Type 0) (ns : List ℕ) (xs : List X)
-    → ((x : X) → is_writable x → length (write (view x)) ≡ size) → All is_writable xs → length (numbers w32 ns ++ flat_map write (map view xs)) ≡ 4 * length ns + size * length (map view xs)
+pub length-value : {X T : Type 0} (view : X → T) (write : T → List ℕ) (size : ℕ)
+    (is_writable : X → Type 0) (ns : List ℕ) (xs : List X)
+    → ((x : X) → is_writable x → length (write (view x)) ≡ size) → All is_writable xs
+    → length (numbers w32 ns ++ flat_map write (map view xs))
+    ≡ 4 * length ns + size * length (map view xs)
 length-value view write size is_writable ns xs law each =
     let l = length-append (numbers w32 ns) (flat_map write (map view xs)) in
     let n = length-numbers w32 4 ns (λ k. refl) in

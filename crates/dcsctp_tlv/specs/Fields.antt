@@ -15,7 +15,8 @@ fields read size (suc count) bytes = read bytes ∷ fields read size count (drop
 -- a parameter or a cause with numbers of four bytes in its value, and after them fields of a size
 abbrev pub fields_tlv : {A : Type 0} → ℕ → List ℕ → (A → List ℕ) → ℕ → List A → Tlv
 fields_tlv typ leading bytes size list =
-    sized_tlv typ (4 * length leading + size * length list) (numbers w32 leading ++ flat_map bytes list)
+    sized_tlv typ (4 * length leading + size * length list)
+    (numbers w32 leading ++ flat_map bytes list)
 
 abbrev pub stream_numbers : List StreamId → List ℕ
 stream_numbers streams = map (λ id. id.0) streams

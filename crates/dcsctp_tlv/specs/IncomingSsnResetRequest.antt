@@ -24,10 +24,14 @@ pub record IsInWidth (r : Tree) : Type 0 where
   pub request : r.request < 2 ^ 32
   pub streams : AllByRecursion (λ id. id < 2 ^ 16) r.streams
 
+-- the number before the stream ids
+abbrev pub leading : Tree → List ℕ
+leading r = r.request ∷ []
+
 abbrev pub format : Tree → Format
 format r = record {
-  tlv = sized_tlv 14 (4 + 2 * length r.streams) (numbers w32 (r.request ∷ []) ++ numbers w16 r.streams);
-  sized = length-words w16 2 (r.request ∷ []) r.streams (λ n. refl);
+  tlv = sized_tlv 14 (4 + 2 * length r.streams) (numbers w32 (leading r) ++ numbers w16 r.streams);
+  sized = length-words w16 2 (leading r) r.streams (λ n. refl);
   text = codes "Incoming SSN Reset Request, req_seq_nbr=" ++ decimal r.request;
   IsInWidth = IsInWidth r;
   IsWellFormed = Unit {0};

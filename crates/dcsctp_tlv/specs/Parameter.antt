@@ -109,7 +109,8 @@ view (variant.ReconfigurationResponse p) =
     ReconfigurationResponse (kind.ReconfigurationResponse.view p)
 view (variant.AddOutgoingStreamsRequest p) = AddOutgoingStreamsRequest (unknown.view p)
 view (variant.AddIncomingStreamsRequest p) = AddIncomingStreamsRequest (unknown.view p)
-view (variant.ZeroChecksumAcceptable p) = ZeroChecksumAcceptable (kind.ZeroChecksumAcceptable.view p)
+view (variant.ZeroChecksumAcceptable p) =
+    ZeroChecksumAcceptable (kind.ZeroChecksumAcceptable.view p)
 view (variant.SupportedExtensions p) = SupportedExtensions (kind.SupportedExtensions.view p)
 view (variant.ForwardTsnSupported p) = ForwardTsnSupported
 view (variant.Unknown p) = Unknown (unknown.view p)

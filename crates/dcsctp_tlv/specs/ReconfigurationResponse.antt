@@ -61,23 +61,23 @@ next_tsns (Some sender) (Some receiver) = sender ∷ receiver ∷ []
 next_tsns (Some sender) None = []
 next_tsns None receiver = []
 
--- the numbers of the value
+-- the numbers before the next TSNs, and these
 abbrev pub leading : Tree → List ℕ
 leading r = r.response ∷ result_number r.result ∷ []
 
-abbrev pub trailing : Tree → List ℕ
-trailing r = next_tsns r.sender_next_tsn r.receiver_next_tsn
+abbrev pub tsns : Tree → List ℕ
+tsns r = next_tsns r.sender_next_tsn r.receiver_next_tsn
 
 pub record IsInWidth (r : Tree) : Type 0 where
   pub response : r.response < 2 ^ 32
   pub sender_next_tsn : IfSome r.sender_next_tsn (λ tsn. tsn < 2 ^ 32)
   pub receiver_next_tsn : IfSome r.receiver_next_tsn (λ tsn. tsn < 2 ^ 32)
 
--- both next TSNs are there, or neither
+-- it is well-formed where both next TSNs are there, or neither
 abbrev pub format : Tree → Format
 format r = record {
-  tlv = sized_tlv 16 (8 + 4 * length (trailing r)) (numbers w32 (leading r) ++ numbers w32 (trailing r));
-  sized = length-words w32 4 (leading r) (trailing r) (λ n. refl);
+  tlv = sized_tlv 16 (8 + 4 * length (tsns r)) (numbers w32 (leading r) ++ numbers w32 (tsns r));
+  sized = length-words w32 4 (leading r) (tsns r) (λ n. refl);
   text = codes "Reconfig Response, seq=" ++ decimal r.response;
   IsInWidth = IsInWidth r;
   IsWellFormed = IsSome r.sender_next_tsn ↔ IsSome r.receiver_next_tsn;

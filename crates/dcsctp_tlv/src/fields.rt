@@ -42,7 +42,7 @@ pub trait Field {
         requires { SIZE ≤ length bytes.now }
         ensures { view result ≡ field_at bytes.now };
 
-    /// Writes the field at the front; the bytes behind it stay.
+    /// Writes the field at the front; the bytes after it stay.
     fn write(value: &Self::Value, output: &mut [u8])
         requires writable { is_writable value.now }
         requires room { SIZE ≤ length output.old }
@@ -151,7 +151,7 @@ pub fn fields_from_bytes<F: Field>(
     Ok(list)
 }
 
-/// Writes the fields one behind the other from a place on; all other bytes stay.
+/// Writes the fields one after the other from a place on; all other bytes stay.
 pub fn put_fields<F: Field>(output: &mut [u8], place: usize, list: &[F::Value])
     requires writable { All F.is_writable list.now }
     requires room { place + F.SIZE * length list.now ≤ length output.old }
@@ -165,7 +165,7 @@ pub fn put_fields<F: Field>(output: &mut [u8], place: usize, list: &[F::Value])
     }
 }
 
-/// Writes an item whose value is numbers of four bytes, and behind them a list of fields.
+/// Writes an item whose value is numbers of four bytes, and after them a list of fields.
 pub fn put_numbers_and_fields<F: Field>(
     first: u8,
     second: u8,
@@ -185,7 +185,7 @@ pub fn put_numbers_and_fields<F: Field>(
     put_fields::<F>(output, TLV_HEADER_SIZE + place, list);
 }
 
-/// Writes a parameter or an error cause whose value is numbers of four bytes, and behind them a
+/// Writes a parameter or an error cause whose value is numbers of four bytes, and after them a
 /// list of fields.
 pub fn put_parameter_fields<F: Field>(
     typ: u16,

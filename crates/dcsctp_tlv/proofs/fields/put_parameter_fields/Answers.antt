@@ -10,7 +10,8 @@ use Rattle.dcsctp_tlv.proofs.Puts.{length-value}
 use Rattle.dcsctp_tlv.proofs.fields.put_parameter_fields.Goals as goal
 use Rattle.dcsctp_tlv.proofs.fields.put_parameter_fields.Given as given
 
-value_length : (g : given.Over) (ns : List ℕ) (xs : List g.row.F-Value.Denot) → All g.F.Field.is_writable xs
+value_length : (g : given.Over) (ns : List ℕ) (xs : List g.row.F-Value.Denot)
+    → All g.F.Field.is_writable xs
     → length (numbers w32 ns ++ flat_map g.F.Field.field_bytes (map g.F.Field.view xs))
     ≡ 4 * length ns + g.F.Field.SIZE * length (map g.F.Field.view xs)
 value_length g ns xs each =
@@ -19,15 +20,18 @@ value_length g ns xs each =
 
 pub put_numbers_and_fields-requires-clause-encodable : goal.put_numbers_and_fields-requires-clause-encodable
 put_numbers_and_fields-requires-clause-encodable g c =
-    omega (arith, value_length g c.args.leading.now c.args.list.now c.requires.writable, c.requires.encodable)
+    let size = value_length g c.args.leading.now c.args.list.now c.requires.writable in
+    omega (arith, size, c.requires.encodable)
 
 pub put_numbers_and_fields-requires-clause-room : goal.put_numbers_and_fields-requires-clause-room
 put_numbers_and_fields-requires-clause-room g c =
-    omega (arith, value_length g c.args.leading.now c.args.list.now c.requires.writable, c.requires.room)
+    let size = value_length g c.args.leading.now c.args.list.now c.requires.writable in
+    omega (arith, size, c.requires.room)
 
 pub returns : goal.returns
 returns g c =
-    let bytes = numbers w32 c.args.leading.now ++ flat_map g.F.Field.field_bytes (map g.F.Field.view c.args.list.now) in
+    let trees = map g.F.Field.view c.args.list.now in
+    let bytes = numbers w32 c.args.leading.now ++ flat_map g.F.Field.field_bytes trees in
     c.put_numbers_and_fields.ensures
     ∙ ap (λ (n : ℕ). written (image_of (sized_tlv c.args.typ n bytes)) c.args.output.now)
     (value_length g c.args.leading.now c.args.list.now c.requires.writable)
