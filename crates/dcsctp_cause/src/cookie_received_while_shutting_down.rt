@@ -8,11 +8,11 @@
 //! +-+-+-+-+-+-+-+-+-+-+-+-+-+-+-+-+-+-+-+-+-+-+-+-+-+-+-+-+-+-+-+-+
 //! ```
 
-ghost use Rattle.std.specs.Prelude.{◌≡◌, ◌≢◌, ◌↔◌, [], Some, IsErrOf};
+ghost use Rattle.std.specs.Prelude.{◌≡◌, ◌≢◌, ◌↔◌, Some, IsErrOf};
 ghost use Rattle.dcsctp_tlv.specs.Image.{IsEncodable};
 ghost use Rattle.dcsctp_tlv.specs.Reading.{Gives, Never, Passes};
-ghost use Rattle.dcsctp_tlv.specs.Length.{length-typed_tlv};
-ghost use Rattle.dcsctp_cause.specs.CookieReceivedWhileShuttingDown.{cookie_received_while_shutting_down_at, cookie_received_while_shutting_down_tlv, cookie_received_while_shutting_down_text, cookie_received_while_shutting_down_view};
+ghost use Rattle.dcsctp_tlv.specs.Length.{length-format};
+ghost use Rattle.dcsctp_cause.specs.CookieReceivedWhileShuttingDown as kind;
 
 use dcsctp_tlv::error::ChunkParseError;
 use dcsctp_tlv::frame::put_parameter;
@@ -27,14 +27,15 @@ pub const CAUSE_CODE: u16 = 10;
 #[derive(Debug, Drop)]
 pub struct CookieReceivedWhileShuttingDownErrorCause {}
 
-#[tactic(auto, unfolding(crate::specs::CookieReceivedWhileShuttingDown::cookie_received_while_shutting_down_at))]
+#[tactic(auto, unfolding(crate::specs::CookieReceivedWhileShuttingDown::read))]
 impl CookieReceivedWhileShuttingDownErrorCause {
     /// Reads the cause; no memory is taken.
     ///
     /// `InvalidType` exactly for another code; `InvalidLength` exactly where the value isn't empty.
     pub fn try_from(raw: RawParameter) -> Result<Self, ChunkParseError>
         ensures other { IsErrOf result ChunkParseError.InvalidType ↔ (raw.entry.typ ≢ CAUSE_CODE) }
-        ensures own { raw.entry.typ ≡ CAUSE_CODE → Gives Never cookie_received_while_shutting_down_view result (cookie_received_while_shutting_down_at raw.entry.value.now) }
+        ensures own { raw.entry.typ ≡ CAUSE_CODE →
+            Gives Never kind.view result (kind.read raw.entry.value.now) }
     {
         if raw.typ != CAUSE_CODE {
             return Err(ChunkParseError::InvalidType);
@@ -45,7 +46,7 @@ impl CookieReceivedWhileShuttingDownErrorCause {
 
     /// `InvalidLength` exactly where the value isn't empty.
     pub(crate) fn check(value: &[u8]) -> Result<(), ChunkParseError>
-        ensures { Passes result (cookie_received_while_shutting_down_at value.now) }
+        ensures { Passes result (kind.read value.now) }
     {
         if !value.is_empty() {
             return Err(ChunkParseError::InvalidLength);
@@ -55,11 +56,11 @@ impl CookieReceivedWhileShuttingDownErrorCause {
 }
 
 impl SerializableTlv for CookieReceivedWhileShuttingDownErrorCause {
-    ghost tlv = { λ c. cookie_received_while_shutting_down_tlv };
+    ghost tlv = { λ c. (kind.format (kind.view c)).tlv };
 
-    ghost is_encodable = { λ c. IsEncodable cookie_received_while_shutting_down_tlv };
+    ghost is_encodable = { λ c. IsEncodable (kind.format (kind.view c)).tlv };
 
-    ghost image_length = { λ c fits. length-typed_tlv 10 [] };
+    ghost image_length = { λ c fits. length-format (kind.format (kind.view c)) };
 
     ghost size_bound = { λ c fits. fits };
 
@@ -77,7 +78,7 @@ impl SerializableTlv for CookieReceivedWhileShuttingDownErrorCause {
 }
 
 impl fmt::Display for CookieReceivedWhileShuttingDownErrorCause {
-    ghost output = { λ c. Some cookie_received_while_shutting_down_text };
+    ghost output = { λ c. Some (kind.format (kind.view c)).text };
 
     fn fmt<W: fmt::Write>(&self, f: &mut fmt::Formatter<W>) -> fmt::Result {
         write!(f, "Cookie Received While Shutting Down")

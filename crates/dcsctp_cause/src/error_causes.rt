@@ -14,7 +14,9 @@ ghost use Rattle.std.specs.Prelude.{◌≡◌, ◌≢◌, ◌≤◌, ◌*◌, []
 ghost use Rattle.dcsctp_tlv.specs.Image.{IsEncodable};
 ghost use Rattle.dcsctp_tlv.specs.Level.{HasMeaning, MeansTrees, MeansSome, MeansMany, HasFault};
 ghost use Rattle.dcsctp_tlv.specs.Reading.{Answers, Finds, ChecksExactly, ReadsExactly};
-ghost use Rattle.dcsctp_cause.specs.Cause.{CauseTree, cause_row, causes, TakesNoMemory, cause_tlv, cause_text, view, views, length-cause};
+ghost use Rattle.dcsctp_tlv.specs.Length.{length-format};
+ghost use Rattle.dcsctp_cause.specs.Cause as cause;
+ghost use Rattle.dcsctp_cause.specs.Cause.{CauseTree, causes, TakesNoMemory, view, views};
 
 use crate::cookie_received_while_shutting_down::{self, CookieReceivedWhileShuttingDownErrorCause};
 use crate::missing_mandatory_parameter_error_cause::{self, MissingMandatoryParameterErrorCause};
@@ -72,10 +74,11 @@ impl ErrorCause {
     /// `OutOfMemory` only where it has a meaning, and what it holds can't be copied; never where it
     /// holds nothing on the heap. No other error is answered.
     pub fn try_from(alloc: Global, raw: RawParameter) -> Result<Self, ChunkParseError>
-        ensures answer { Answers result (λ c. (cause_row raw.entry.typ).means raw.entry.value.now (view c))
-            ((cause_row raw.entry.typ).faults raw.entry.value.now) }
+        ensures answer { Answers result
+            (λ c. (cause.row raw.entry.typ).means raw.entry.value.now (view c))
+            ((cause.row raw.entry.typ).faults raw.entry.value.now) }
         ensures memory { IsErrOf result ChunkParseError.OutOfMemory →
-            HasMeaning (cause_row raw.entry.typ) raw.entry.value.now }
+            HasMeaning (cause.row raw.entry.typ) raw.entry.value.now }
         ensures heap { TakesNoMemory raw.entry.typ → ¬ IsErrOf result ChunkParseError.OutOfMemory }
     {
         ErrorCause::check_value(raw.typ, raw.value)?;
@@ -84,7 +87,8 @@ impl ErrorCause {
 
     /// Passes exactly where the value has a meaning; else its fault. It takes no memory.
     fn check_value(code: u16, value: &[u8]) -> Result<(), ChunkParseError>
-        ensures { Finds result (λ _. HasMeaning (cause_row code) value.now) ((cause_row code).faults value.now) }
+        ensures { Finds result (λ _. HasMeaning (cause.row code) value.now)
+            ((cause.row code).faults value.now) }
     {
         match code {
             missing_mandatory_parameter_error_cause::CAUSE_CODE =>
@@ -98,8 +102,8 @@ impl ErrorCause {
 
     /// What the value means.
     fn build(alloc: Global, code: u16, value: &[u8]) -> Result<Self, AllocError>
-        requires { HasMeaning (cause_row code) value.now }
-        ensures meant { IfOk result (λ c. (cause_row code).means value.now (view c)) }
+        requires { HasMeaning (cause.row code) value.now }
+        ensures meant { IfOk result (λ c. (cause.row code).means value.now (view c)) }
         ensures heap { TakesNoMemory code → IsOk result }
     {
         Ok(match code {
@@ -128,7 +132,7 @@ impl ErrorCause {
     }
 }
 
-#[tactic(auto, unfolding(crate::specs::UnrecognizedChunk::unrecognized_chunk_at, dcsctp_tlv::specs::UnknownParameter::unknown_parameter_at))]
+#[tactic(auto, unfolding(crate::specs::UnrecognizedChunk::read, dcsctp_tlv::specs::UnknownParameter::read))]
 impl ReadableTlv for ErrorCause {
     ghost Tree = { CauseTree };
 
@@ -204,11 +208,11 @@ impl ReadableTlv for ErrorCause {
 }
 
 impl SerializableTlv for ErrorCause {
-    ghost tlv = { λ c. cause_tlv (view c) };
+    ghost tlv = { λ c. cause.tlv (view c) };
 
-    ghost is_encodable = { λ c. IsEncodable (cause_tlv (view c)) };
+    ghost is_encodable = { λ c. IsEncodable (cause.tlv (view c)) };
 
-    ghost image_length = { λ c fits. length-cause (view c) };
+    ghost image_length = { λ c fits. length-format (cause.format (view c)) };
 
     ghost size_bound = { λ c fits. fits };
 
@@ -226,7 +230,7 @@ impl SerializableTlv for ErrorCause {
 }
 
 impl fmt::Display for ErrorCause {
-    ghost output = { λ c. Some (cause_text (view c)) };
+    ghost output = { λ c. Some (cause.text (view c)) };
 
     fn fmt<W: fmt::Write>(&self, f: &mut fmt::Formatter<W>) -> fmt::Result {
         each_kind!(self, c => c.fmt(f))
@@ -238,7 +242,7 @@ impl ListedTlv for ErrorCause {
 
     ghost view = { view };
 
-    ghost tree_tlv = { cause_tlv };
+    ghost tree_tlv = { cause.tlv };
 
     ghost same_tlv = { λ c. refl };
 

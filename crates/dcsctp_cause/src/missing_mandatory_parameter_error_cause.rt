@@ -12,13 +12,13 @@
 //! +-+-+-+-+-+-+-+-+-+-+-+-+-+-+-+-+-+-+-+-+-+-+-+-+-+-+-+-+-+-+-+-+
 //! ```
 
-ghost use Rattle.std.specs.Prelude.{◌≡◌, ◌≢◌, ◌↔◌, ◌++◌, [], ◌∷◌, ℕ, Some, IsOk, IfOk, IsErrOf, length, refl};
-ghost use Rattle.std.specs.Int.{w16, w32, to_be_bytes};
+ghost use Rattle.std.specs.Prelude.{◌≡◌, ◌≢◌, ◌↔◌, ℕ, Some, IsOk, IfOk, IsErrOf, refl};
+ghost use Rattle.std.specs.Int.{w16, to_be_bytes};
 ghost use Rattle.dcsctp_tlv.specs.Image.{IsEncodable};
-ghost use Rattle.dcsctp_tlv.specs.Length.{length-typed_tlv};
-ghost use Rattle.dcsctp_tlv.specs.Number.{number16, numbers};
+ghost use Rattle.dcsctp_tlv.specs.Number.{number16};
 ghost use Rattle.dcsctp_tlv.specs.Reading.{Gives, IfMeant, Passes, Builds};
-ghost use Rattle.dcsctp_cause.specs.MissingMandatoryParameter.{missing_mandatory_parameter_at, missing_mandatory_parameter_tlv, missing_mandatory_parameter_text, missing_mandatory_parameter_view};
+ghost use Rattle.dcsctp_tlv.specs.Length.{length-format};
+ghost use Rattle.dcsctp_cause.specs.MissingMandatoryParameter as kind;
 
 use dcsctp_tlv::error::ChunkParseError;
 use dcsctp_tlv::fields::{Field, fields_from_bytes, put_parameter_fields};
@@ -74,7 +74,7 @@ pub struct MissingMandatoryParameterErrorCause {
     pub missing_parameters: Vec<u16>,
 }
 
-#[tactic(auto, unfolding(crate::specs::MissingMandatoryParameter::missing_mandatory_parameter_at))]
+#[tactic(auto, unfolding(crate::specs::MissingMandatoryParameter::read))]
 impl MissingMandatoryParameterErrorCause {
     /// The cause with these types.
     pub fn new(missing_parameters: Vec<u16>) -> MissingMandatoryParameterErrorCause
@@ -99,7 +99,8 @@ impl MissingMandatoryParameterErrorCause {
     /// where the types can't be copied.
     pub fn try_from(alloc: Global, raw: RawParameter) -> Result<Self, ChunkParseError>
         ensures other { IsErrOf result ChunkParseError.InvalidType ↔ (raw.entry.typ ≢ CAUSE_CODE) }
-        ensures own { raw.entry.typ ≡ CAUSE_CODE → Gives IfMeant missing_mandatory_parameter_view result (missing_mandatory_parameter_at raw.entry.value.now) }
+        ensures own { raw.entry.typ ≡ CAUSE_CODE →
+            Gives IfMeant kind.view result (kind.read raw.entry.value.now) }
     {
         if raw.typ != CAUSE_CODE {
             return Err(ChunkParseError::InvalidType);
@@ -111,7 +112,7 @@ impl MissingMandatoryParameterErrorCause {
     /// `InvalidLength` exactly where the value has fewer than 4 bytes, or other than 4 and 2 more
     /// for each type that it counts.
     pub(crate) fn check(value: &[u8]) -> Result<(), ChunkParseError>
-        ensures { Passes result (missing_mandatory_parameter_at value.now) }
+        ensures { Passes result (kind.read value.now) }
     {
         if value.len() < FIXED_SIZE {
             return Err(ChunkParseError::InvalidLength);
@@ -125,8 +126,8 @@ impl MissingMandatoryParameterErrorCause {
 
     /// What the value means.
     pub(crate) fn build(alloc: Global, value: &[u8]) -> Result<Self, AllocError>
-        requires { IsOk (missing_mandatory_parameter_at value.now) }
-        ensures { Builds missing_mandatory_parameter_view result (missing_mandatory_parameter_at value.now) }
+        requires { IsOk (kind.read value.now) }
+        ensures { Builds kind.view result (kind.read value.now) }
     {
         let count = read_u32_be(value) as usize;
         let types = &value[FIXED_SIZE..];
@@ -135,13 +136,12 @@ impl MissingMandatoryParameterErrorCause {
     }
 }
 
-#[tactic(auto, using(crate::proofs::Types::size_of_types))]
 impl SerializableTlv for MissingMandatoryParameterErrorCause {
-    ghost tlv = { λ c. missing_mandatory_parameter_tlv (missing_mandatory_parameter_view c) };
+    ghost tlv = { λ c. (kind.format (kind.view c)).tlv };
 
-    ghost is_encodable = { λ c. IsEncodable (missing_mandatory_parameter_tlv (missing_mandatory_parameter_view c)) };
+    ghost is_encodable = { λ c. IsEncodable (kind.format (kind.view c)).tlv };
 
-    ghost image_length = { λ c fits. length-typed_tlv 2 (numbers w32 (length c.missing_parameters.items ∷ []) ++ numbers w16 c.missing_parameters.items) };
+    ghost image_length = { λ c fits. length-format (kind.format (kind.view c)) };
 
     ghost size_bound = { λ c fits. fits };
 
@@ -161,7 +161,7 @@ impl SerializableTlv for MissingMandatoryParameterErrorCause {
 }
 
 impl fmt::Display for MissingMandatoryParameterErrorCause {
-    ghost output = { λ c. Some (missing_mandatory_parameter_text (missing_mandatory_parameter_view c)) };
+    ghost output = { λ c. Some (kind.format (kind.view c)).text };
 
     fn fmt<W: fmt::Write>(&self, f: &mut fmt::Formatter<W>) -> fmt::Result {
         write!(f, "Missing Mandatory Parameter, missing_parameters=[")?;

@@ -11,11 +11,10 @@
 //! ```
 
 ghost use Rattle.std.specs.Prelude.{◌≡◌, ◌≢◌, ◌↔◌, Some, Ok, IsOk, IsErrOf};
-ghost use Rattle.std.specs.Int.{w32, to_be_bytes};
 ghost use Rattle.dcsctp_tlv.specs.Image.{IsEncodable};
 ghost use Rattle.dcsctp_tlv.specs.Reading.{Gives, Never, Passes};
-ghost use Rattle.dcsctp_tlv.specs.Length.{length-typed_tlv};
-ghost use Rattle.dcsctp_cause.specs.NoUserData.{no_user_data_at, no_user_data_tlv, no_user_data_text, no_user_data_view};
+ghost use Rattle.dcsctp_tlv.specs.Length.{length-format};
+ghost use Rattle.dcsctp_cause.specs.NoUserData as kind;
 
 use dcsctp_tlv::error::ChunkParseError;
 use dcsctp_tlv::frame::put_parameter;
@@ -35,7 +34,7 @@ pub struct NoUserDataErrorCause {
     pub tsn: Tsn,
 }
 
-#[tactic(auto, unfolding(crate::specs::NoUserData::no_user_data_at))]
+#[tactic(auto, unfolding(crate::specs::NoUserData::read))]
 impl NoUserDataErrorCause {
     /// Reads the cause; no memory is taken.
     ///
@@ -43,7 +42,8 @@ impl NoUserDataErrorCause {
     /// bytes.
     pub fn try_from(raw: RawParameter) -> Result<Self, ChunkParseError>
         ensures other { IsErrOf result ChunkParseError.InvalidType ↔ (raw.entry.typ ≢ CAUSE_CODE) }
-        ensures own { raw.entry.typ ≡ CAUSE_CODE → Gives Never no_user_data_view result (no_user_data_at raw.entry.value.now) }
+        ensures own { raw.entry.typ ≡ CAUSE_CODE →
+            Gives Never kind.view result (kind.read raw.entry.value.now) }
     {
         if raw.typ != CAUSE_CODE {
             return Err(ChunkParseError::InvalidType);
@@ -54,7 +54,7 @@ impl NoUserDataErrorCause {
 
     /// `InvalidLength` exactly where the value hasn't 4 bytes.
     pub(crate) fn check(value: &[u8]) -> Result<(), ChunkParseError>
-        ensures { Passes result (no_user_data_at value.now) }
+        ensures { Passes result (kind.read value.now) }
     {
         if value.len() != 4 {
             return Err(ChunkParseError::InvalidLength);
@@ -64,8 +64,8 @@ impl NoUserDataErrorCause {
 
     /// What the value means.
     pub(crate) fn build(value: &[u8]) -> Self
-        requires { IsOk (no_user_data_at value.now) }
-        ensures { no_user_data_at value.now ≡ Ok (no_user_data_view result) }
+        requires { IsOk (kind.read value.now) }
+        ensures { kind.read value.now ≡ Ok (kind.view result) }
     {
         NoUserDataErrorCause {
             tsn: Tsn(read_u32_be(value)),
@@ -74,11 +74,11 @@ impl NoUserDataErrorCause {
 }
 
 impl SerializableTlv for NoUserDataErrorCause {
-    ghost tlv = { λ c. no_user_data_tlv (no_user_data_view c) };
+    ghost tlv = { λ c. (kind.format (kind.view c)).tlv };
 
-    ghost is_encodable = { λ c. IsEncodable (no_user_data_tlv (no_user_data_view c)) };
+    ghost is_encodable = { λ c. IsEncodable (kind.format (kind.view c)).tlv };
 
-    ghost image_length = { λ c fits. length-typed_tlv 9 (to_be_bytes w32 (no_user_data_view c)) };
+    ghost image_length = { λ c fits. length-format (kind.format (kind.view c)) };
 
     ghost size_bound = { λ c fits. fits };
 
@@ -96,7 +96,7 @@ impl SerializableTlv for NoUserDataErrorCause {
 }
 
 impl fmt::Display for NoUserDataErrorCause {
-    ghost output = { λ c. Some (no_user_data_text (no_user_data_view c)) };
+    ghost output = { λ c. Some (kind.format (kind.view c)).text };
 
     fn fmt<W: fmt::Write>(&self, f: &mut fmt::Formatter<W>) -> fmt::Result {
         let tsn = self.tsn.0;

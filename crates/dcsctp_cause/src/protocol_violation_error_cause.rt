@@ -13,8 +13,8 @@
 ghost use Rattle.std.specs.Prelude.{◌≡◌, ◌≢◌, ◌↔◌, Some, IsErrOf};
 ghost use Rattle.dcsctp_tlv.specs.Image.{IsEncodable};
 ghost use Rattle.dcsctp_tlv.specs.Reading.{Gives, IfMeant, Builds};
-ghost use Rattle.dcsctp_tlv.specs.Length.{length-typed_tlv};
-ghost use Rattle.dcsctp_cause.specs.ProtocolViolation.{protocol_violation_at, protocol_violation_tlv, protocol_violation_text, protocol_violation_view};
+ghost use Rattle.dcsctp_tlv.specs.Length.{length-format};
+ghost use Rattle.dcsctp_cause.specs.ProtocolViolation as kind;
 
 use crate::text::text_or;
 use dcsctp_tlv::error::ChunkParseError;
@@ -37,14 +37,15 @@ pub struct ProtocolViolationErrorCause {
     pub information: String,
 }
 
-#[tactic(auto, unfolding(crate::specs::ProtocolViolation::protocol_violation_at))]
+#[tactic(auto, unfolding(crate::specs::ProtocolViolation::read))]
 impl ProtocolViolationErrorCause {
     /// Reads the cause, and copies the text; where the value isn't UTF-8, the text says so.
     ///
     /// `InvalidType` exactly for another code; `OutOfMemory` only where the text can't be copied.
     pub fn try_from(alloc: Global, raw: RawParameter) -> Result<Self, ChunkParseError>
         ensures other { IsErrOf result ChunkParseError.InvalidType ↔ (raw.entry.typ ≢ CAUSE_CODE) }
-        ensures own { raw.entry.typ ≡ CAUSE_CODE → Gives IfMeant protocol_violation_view result (protocol_violation_at raw.entry.value.now) }
+        ensures own { raw.entry.typ ≡ CAUSE_CODE →
+            Gives IfMeant kind.view result (kind.read raw.entry.value.now) }
     {
         if raw.typ != CAUSE_CODE {
             return Err(ChunkParseError::InvalidType);
@@ -54,7 +55,7 @@ impl ProtocolViolationErrorCause {
 
     /// Copies the text, or says that the value isn't UTF-8.
     pub(crate) fn build(alloc: Global, value: &[u8]) -> Result<Self, AllocError>
-        ensures { Builds protocol_violation_view result (protocol_violation_at value.now) }
+        ensures { Builds kind.view result (kind.read value.now) }
     {
         Ok(ProtocolViolationErrorCause {
             information: String::from_str(alloc, text_or(UNREADABLE, value))?,
@@ -63,11 +64,11 @@ impl ProtocolViolationErrorCause {
 }
 
 impl SerializableTlv for ProtocolViolationErrorCause {
-    ghost tlv = { λ c. protocol_violation_tlv (protocol_violation_view c) };
+    ghost tlv = { λ c. (kind.format (kind.view c)).tlv };
 
-    ghost is_encodable = { λ c. IsEncodable (protocol_violation_tlv (protocol_violation_view c)) };
+    ghost is_encodable = { λ c. IsEncodable (kind.format (kind.view c)).tlv };
 
-    ghost image_length = { λ c fits. length-typed_tlv 13 (protocol_violation_view c) };
+    ghost image_length = { λ c fits. length-format (kind.format (kind.view c)) };
 
     ghost size_bound = { λ c fits. fits };
 
@@ -85,7 +86,7 @@ impl SerializableTlv for ProtocolViolationErrorCause {
 }
 
 impl fmt::Display for ProtocolViolationErrorCause {
-    ghost output = { λ c. Some (protocol_violation_text (protocol_violation_view c)) };
+    ghost output = { λ c. Some (kind.format (kind.view c)).text };
 
     fn fmt<W: fmt::Write>(&self, f: &mut fmt::Formatter<W>) -> fmt::Result {
         let information = &self.information;

@@ -13,8 +13,8 @@
 ghost use Rattle.std.specs.Prelude.{◌≡◌, ◌≢◌, ◌↔◌, Some, IsErrOf};
 ghost use Rattle.dcsctp_tlv.specs.Image.{IsEncodable};
 ghost use Rattle.dcsctp_tlv.specs.Reading.{Gives, IfMeant, Builds};
-ghost use Rattle.dcsctp_tlv.specs.Length.{length-typed_tlv};
-ghost use Rattle.dcsctp_cause.specs.UnrecognizedChunk.{unrecognized_chunk_at, unrecognized_chunk_tlv, unrecognized_chunk_text, unrecognized_chunk_view};
+ghost use Rattle.dcsctp_tlv.specs.Length.{length-format};
+ghost use Rattle.dcsctp_cause.specs.UnrecognizedChunk as kind;
 
 use dcsctp_tlv::error::ChunkParseError;
 use dcsctp_tlv::frame::{MAX_VALUE_SIZE, put_parameter};
@@ -33,14 +33,15 @@ pub struct UnrecognizedChunkErrorCause {
     pub chunk: Vec<u8>,
 }
 
-#[tactic(auto, unfolding(crate::specs::UnrecognizedChunk::unrecognized_chunk_at))]
+#[tactic(auto, unfolding(crate::specs::UnrecognizedChunk::read))]
 impl UnrecognizedChunkErrorCause {
     /// Reads the cause, and copies the chunk.
     ///
     /// `InvalidType` exactly for another code; `OutOfMemory` only where the chunk can't be copied.
     pub fn try_from(alloc: Global, raw: RawParameter) -> Result<Self, ChunkParseError>
         ensures other { IsErrOf result ChunkParseError.InvalidType ↔ (raw.entry.typ ≢ CAUSE_CODE) }
-        ensures own { raw.entry.typ ≡ CAUSE_CODE → Gives IfMeant unrecognized_chunk_view result (unrecognized_chunk_at raw.entry.value.now) }
+        ensures own { raw.entry.typ ≡ CAUSE_CODE →
+            Gives IfMeant kind.view result (kind.read raw.entry.value.now) }
     {
         if raw.typ != CAUSE_CODE {
             return Err(ChunkParseError::InvalidType);
@@ -50,7 +51,7 @@ impl UnrecognizedChunkErrorCause {
 
     /// Copies the value.
     pub(crate) fn build(alloc: Global, value: &[u8]) -> Result<Self, AllocError>
-        ensures { Builds unrecognized_chunk_view result (unrecognized_chunk_at value.now) }
+        ensures { Builds kind.view result (kind.read value.now) }
     {
         Ok(UnrecognizedChunkErrorCause {
             chunk: Vec::from_slice(alloc, value)?,
@@ -59,11 +60,11 @@ impl UnrecognizedChunkErrorCause {
 }
 
 impl SerializableTlv for UnrecognizedChunkErrorCause {
-    ghost tlv = { λ c. unrecognized_chunk_tlv (unrecognized_chunk_view c) };
+    ghost tlv = { λ c. (kind.format (kind.view c)).tlv };
 
-    ghost is_encodable = { λ c. IsEncodable (unrecognized_chunk_tlv (unrecognized_chunk_view c)) };
+    ghost is_encodable = { λ c. IsEncodable (kind.format (kind.view c)).tlv };
 
-    ghost image_length = { λ c fits. length-typed_tlv 6 (unrecognized_chunk_view c) };
+    ghost image_length = { λ c fits. length-format (kind.format (kind.view c)) };
 
     ghost size_bound = { λ c fits. fits };
 
@@ -81,7 +82,7 @@ impl SerializableTlv for UnrecognizedChunkErrorCause {
 }
 
 impl fmt::Display for UnrecognizedChunkErrorCause {
-    ghost output = { λ c. Some unrecognized_chunk_text };
+    ghost output = { λ c. Some (kind.format (kind.view c)).text };
 
     fn fmt<W: fmt::Write>(&self, f: &mut fmt::Formatter<W>) -> fmt::Result {
         write!(f, "Unrecognized Chunk Type")

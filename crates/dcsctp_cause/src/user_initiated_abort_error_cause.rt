@@ -13,8 +13,8 @@
 ghost use Rattle.std.specs.Prelude.{◌≡◌, ◌≢◌, ◌↔◌, Some, IsErrOf};
 ghost use Rattle.dcsctp_tlv.specs.Image.{IsEncodable};
 ghost use Rattle.dcsctp_tlv.specs.Reading.{Gives, IfMeant, Builds};
-ghost use Rattle.dcsctp_tlv.specs.Length.{length-typed_tlv};
-ghost use Rattle.dcsctp_cause.specs.UserInitiatedAbort.{user_initiated_abort_at, user_initiated_abort_tlv, user_initiated_abort_text, user_initiated_abort_view};
+ghost use Rattle.dcsctp_tlv.specs.Length.{length-format};
+ghost use Rattle.dcsctp_cause.specs.UserInitiatedAbort as kind;
 
 use crate::text::text_or;
 use dcsctp_tlv::error::ChunkParseError;
@@ -37,14 +37,15 @@ pub struct UserInitiatedAbortErrorCause {
     pub reason: String,
 }
 
-#[tactic(auto, unfolding(crate::specs::UserInitiatedAbort::user_initiated_abort_at))]
+#[tactic(auto, unfolding(crate::specs::UserInitiatedAbort::read))]
 impl UserInitiatedAbortErrorCause {
     /// Reads the cause, and copies the text; where the value isn't UTF-8, the text says so.
     ///
     /// `InvalidType` exactly for another code; `OutOfMemory` only where the text can't be copied.
     pub fn try_from(alloc: Global, raw: RawParameter) -> Result<Self, ChunkParseError>
         ensures other { IsErrOf result ChunkParseError.InvalidType ↔ (raw.entry.typ ≢ CAUSE_CODE) }
-        ensures own { raw.entry.typ ≡ CAUSE_CODE → Gives IfMeant user_initiated_abort_view result (user_initiated_abort_at raw.entry.value.now) }
+        ensures own { raw.entry.typ ≡ CAUSE_CODE →
+            Gives IfMeant kind.view result (kind.read raw.entry.value.now) }
     {
         if raw.typ != CAUSE_CODE {
             return Err(ChunkParseError::InvalidType);
@@ -54,7 +55,7 @@ impl UserInitiatedAbortErrorCause {
 
     /// Copies the text, or says that the value isn't UTF-8.
     pub(crate) fn build(alloc: Global, value: &[u8]) -> Result<Self, AllocError>
-        ensures { Builds user_initiated_abort_view result (user_initiated_abort_at value.now) }
+        ensures { Builds kind.view result (kind.read value.now) }
     {
         Ok(UserInitiatedAbortErrorCause {
             reason: String::from_str(alloc, text_or(UNREADABLE, value))?,
@@ -63,11 +64,11 @@ impl UserInitiatedAbortErrorCause {
 }
 
 impl SerializableTlv for UserInitiatedAbortErrorCause {
-    ghost tlv = { λ c. user_initiated_abort_tlv (user_initiated_abort_view c) };
+    ghost tlv = { λ c. (kind.format (kind.view c)).tlv };
 
-    ghost is_encodable = { λ c. IsEncodable (user_initiated_abort_tlv (user_initiated_abort_view c)) };
+    ghost is_encodable = { λ c. IsEncodable (kind.format (kind.view c)).tlv };
 
-    ghost image_length = { λ c fits. length-typed_tlv 12 (user_initiated_abort_view c) };
+    ghost image_length = { λ c fits. length-format (kind.format (kind.view c)) };
 
     ghost size_bound = { λ c fits. fits };
 
@@ -85,7 +86,7 @@ impl SerializableTlv for UserInitiatedAbortErrorCause {
 }
 
 impl fmt::Display for UserInitiatedAbortErrorCause {
-    ghost output = { λ c. Some (user_initiated_abort_text (user_initiated_abort_view c)) };
+    ghost output = { λ c. Some (kind.format (kind.view c)).text };
 
     fn fmt<W: fmt::Write>(&self, f: &mut fmt::Formatter<W>) -> fmt::Result {
         let reason = &self.reason;

@@ -1,10 +1,8 @@
 -- What a kind owes the laws of its level, where its value is read at fixed places.
-use Rattle.std.proofs.Common.{◌≡◌, ℕ, ◌+◌, ◌^◌, ◌<◌, Bool, true, false, cond, ◌⊎◌, inl, inr, List, length, Some, Result, Ok, Err, refl}
-use Rattle.std.proofs.lemmas.List.{length-map}
+use Rattle.std.proofs.Common.{◌≡◌, ℕ, ◌+◌, Bool, true, false, cond, ◌⊎◌, inl, inr, List, length, Result, Ok, Err, refl}
 use Rattle.dcsctp_tlv.specs.Fault.{Fault}
 use Rattle.dcsctp_tlv.specs.Level.{map_ok}
-use Rattle.dcsctp_tlv.specs.Image.{zeroed, Tlv, typed_tlv, size_of, IsEncodable}
-use Rattle.dcsctp_tlv.proofs.ReadsBack.{zeroed-solid}
+use Rattle.dcsctp_tlv.specs.Image.{zeroed, Tlv, size_of, IsEncodable}
 
 -- A value as it is read, after the item's first two bytes; and its tree as it is written.
 pub record KindLaws {T : Type 0} (read : ℕ → ℕ → List ℕ → Result T Fault) (tlv : T → Tlv) (IsInWidth IsWellFormed : T → Type 0) : Type 0 where
@@ -27,15 +25,6 @@ Always t = Unit {0}
 
 abbrev pub by_value : {T : Type 0} → (List ℕ → Result T Fault) → ℕ → ℕ → List ℕ → Result T Fault
 by_value read first second value = read value
-
-pub typed_laws : {T : Type 0} (read : List ℕ → Result T Fault) (typ : ℕ) (bytes : T → List ℕ) (IsInWidth IsWellFormed : T → Type 0)
-    → ((t : T) → IsInWidth t → IsWellFormed t → 4 + length (bytes t) < 2 ^ 16 → read (bytes t) ≡ Ok t) → ((value : List ℕ) (t : T) → read value ≡ Ok t → IsWellFormed t)
-    → KindLaws (by_value read) (λ t. typed_tlv typ (bytes t)) IsInWidth IsWellFormed
-typed_laws read typ bytes IsInWidth IsWellFormed back formed = record {
-  sized = λ t. length-map (bytes t) Some;
-  back = λ t width form encodable. rw (zeroed-solid (bytes t)) (back t width form encodable);
-  formed = λ first second value t e. formed value t e;
-}
 
 -- ---- what was read
 

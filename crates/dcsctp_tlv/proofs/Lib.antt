@@ -18,3 +18,5 @@ pub mod ParameterKinds
 pub mod ParameterLaws
 pub mod Local
 pub mod Checks
+pub mod Tables
+pub mod FormatLaws

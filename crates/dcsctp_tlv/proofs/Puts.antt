@@ -1,7 +1,7 @@
 -- Fields in a row: read one after the other, and written one after the other.
 use Rattle.std.proofs.Common.{◌≡◌, ℕ, suc, zero, ◌+◌, ◌*◌, ◌<◌, ◌≤◌, List, [], ◌∷◌, ◌++◌, length, get_or, drop, take, refl, sym, ap, ◌∙◌, append_assoc, arith, add-one}
 use Rattle.std.specs.Prelude.{All, map}
-use Rattle.std.specs.Int.{Width, w16, to_be_bytes}
+use Rattle.std.specs.Int.{w32}
 use Rattle.std.specs.List.{flat_map, AllByRecursion}
 use Rattle.std.proofs.lemmas.List.{append-nil, length-append, length-take, take_more, take_at, drop_at, drop-drop, length-drop, length-map}
 use Rattle.std.proofs.lemmas.List.Elements.{recursion_from_All}
@@ -12,6 +12,7 @@ use Rattle.dcsctp_types.specs.declared.api.stream_id.StreamId.{StreamId}
 use Rattle.dcsctp_tlv.specs.Frame.{header}
 use Rattle.dcsctp_tlv.specs.Image.{put, solid_tlv, image_of, written}
 use Rattle.dcsctp_tlv.specs.Number.{numbers}
+pub use Rattle.dcsctp_tlv.specs.Length.{length-numbers}
 use Rattle.dcsctp_tlv.proofs.Images.{written-solid, written_item, all_take, all_from}
 use Rattle.dcsctp_tlv.specs.Fields.{fields, stream_numbers}
 
@@ -83,15 +84,20 @@ pub length-fields : {X T : Type 0} (view : X → T) (write : T → List ℕ) (si
 length-fields view write size is_writable xs law each =
     ap length (flat_map-map write view xs) ∙ length-written (λ x. write (view x)) size xs (all_from is_writable _ xs law (recursion_from_All is_writable xs each))
 
-pub length-numbers : (width : Width) (size : ℕ) (ns : List ℕ) → ((n : ℕ) → length (to_be_bytes width n) ≡ size) → length (numbers width ns) ≡ size * length ns
-length-numbers width size [] each = sym (mul-zero size)
-length-numbers width size (n ∷ ns) each =
-    let l = length-append (to_be_bytes width n) (numbers width ns) in
-    let more = length-numbers width size ns each in
-    omega (arith, l, more, each n, mul-suc size (length ns))
+-- numbers of four bytes, and after them fields
+pub length-value : {X T : Type 0} (view : X → T) (write : T → List ℕ) (size : ℕ)
+    (is_writable : X → Type 0) (ns : List ℕ) (xs : List X)
+    → ((x : X) → is_writable x → length (write (view x)) ≡ size) → All is_writable xs
+    → length (numbers w32 ns ++ flat_map write (map view xs))
+    ≡ 4 * length ns + size * length (map view xs)
+length-value view write size is_writable ns xs law each =
+    let l = length-append (numbers w32 ns) (flat_map write (map view xs)) in
+    let n = length-numbers w32 4 ns (λ k. refl) in
+    let m = length-fields view write size is_writable xs law each in
+    omega (arith, l, n, m ∙ ap (λ (k : ℕ). size * k) (sym (length-map xs view)))
 
-pub size_of_streams : (streams : List StreamId) → length (numbers w16 (stream_numbers streams)) ≡ 2 * length streams
-size_of_streams streams = length-numbers w16 2 (stream_numbers streams) (λ n. refl) ∙ ap (λ (n : ℕ). 2 * n) (length-map streams (λ id. id.0))
+pub count_of_streams : (streams : List StreamId) → length (stream_numbers streams) ≡ length streams
+count_of_streams streams = length-map streams (λ id. id.0)
 
 -- ---- items
 

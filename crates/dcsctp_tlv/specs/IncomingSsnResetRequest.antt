@@ -1,21 +1,18 @@
 -- Incoming SSN Reset Request (RFC 6525 section 4.2): type 14; the value is the request number, four
 -- bytes, and then stream ids, two bytes each.
-use Rattle.std.specs.Prelude.{ℕ, ◌-◌, ◌/◌, ◌%◌, ◌<◌, ◌^◌, List, [], ◌∷◌, ◌++◌, ◌==◌, nat_lt, Result, Ok, Err, if◌then◌else◌, length, drop, codes}
+use Rattle.std.specs.Prelude.{ℕ, ◌+◌, ◌-◌, ◌*◌, ◌/◌, ◌%◌, ◌<◌, ◌^◌, List, [], ◌∷◌, ◌++◌, ◌==◌, nat_lt, Result, Ok, Err, if◌then◌else◌, length, drop, codes, refl}
 use Rattle.std.specs.Fmt.{decimal}
 use Rattle.std.specs.List.{AllByRecursion}
 use Rattle.std.specs.Int.{w16, w32}
-use Rattle.dcsctp_tlv.specs.Fault.{Fault, Length}
-use Rattle.dcsctp_tlv.specs.Fields.{fields, stream_numbers}
-use Rattle.dcsctp_tlv.specs.Number.{number16, number32, numbers}
-use Rattle.dcsctp_tlv.specs.Image.{Tlv, typed_tlv}
+use Rattle.dcsctp_tlv.specs.Kind.{Fault, Length, fields, stream_numbers, number16, number32, numbers, Format, sized_tlv, length-words}
 use Rattle.dcsctp_tlv.specs.declared.incoming_ssn_reset_request_parameter.IncomingSsnResetRequestParameter.{IncomingSsnResetRequestParameter}
 
-pub record IncomingSsnResetRequestTree : Type 0 where
+pub record Tree : Type 0 where
   pub request : ℕ
   pub streams : List ℕ
 
-unfoldable pub incoming_ssn_reset_request_at : List ℕ → Result IncomingSsnResetRequestTree Fault
-incoming_ssn_reset_request_at value =
+unfoldable pub read : List ℕ → Result Tree Fault
+read value =
     if nat_lt (length value) 4 then Err Length else
     if length value % 2 == 0 then Ok (record {
       request = number32 value;
@@ -23,18 +20,22 @@ incoming_ssn_reset_request_at value =
     }) else
     Err Length
 
-abbrev pub incoming_ssn_reset_request_tlv : IncomingSsnResetRequestTree → Tlv
-incoming_ssn_reset_request_tlv r = typed_tlv 14 (numbers w32 (r.request ∷ []) ++ numbers w16 r.streams)
-
-pub record IsIncomingSsnResetRequestInWidth (r : IncomingSsnResetRequestTree) : Type 0 where
+pub record IsInWidth (r : Tree) : Type 0 where
   pub request : r.request < 2 ^ 32
   pub streams : AllByRecursion (λ id. id < 2 ^ 16) r.streams
 
-abbrev pub incoming_ssn_reset_request_text : IncomingSsnResetRequestTree → List ℕ
-incoming_ssn_reset_request_text r = codes "Incoming SSN Reset Request, req_seq_nbr=" ++ decimal r.request
+-- the number before the stream ids
+abbrev pub leading : Tree → List ℕ
+leading r = r.request ∷ []
 
-abbrev pub incoming_ssn_reset_request_view : IncomingSsnResetRequestParameter → IncomingSsnResetRequestTree
-incoming_ssn_reset_request_view p = record {
-  request = p.request_seq_nbr;
-  streams = stream_numbers p.streams.items;
+abbrev pub format : Tree → Format
+format r = record {
+  tlv = sized_tlv 14 (4 + 2 * length r.streams) (numbers w32 (leading r) ++ numbers w16 r.streams);
+  sized = length-words w16 2 (leading r) r.streams (λ n. refl);
+  text = codes "Incoming SSN Reset Request, req_seq_nbr=" ++ decimal r.request;
+  IsInWidth = IsInWidth r;
+  IsWellFormed = Unit {0};
 }
+
+abbrev pub view : IncomingSsnResetRequestParameter → Tree
+view p = record { request = p.request_seq_nbr; streams = stream_numbers p.streams.items }

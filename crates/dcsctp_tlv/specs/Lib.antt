@@ -18,5 +18,7 @@ pub mod OutgoingSsnResetRequest
 pub mod IncomingSsnResetRequest
 pub mod ReconfigurationResponse
 pub mod Parameter
-pub mod WellFormedParameter
 pub mod Fields
+pub mod Format
+pub mod Table
+pub mod Kind

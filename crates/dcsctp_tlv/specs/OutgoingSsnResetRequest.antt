@@ -1,23 +1,21 @@
 -- Outgoing SSN Reset Request (RFC 6525 section 4.1): type 13; the value is the request number, the
--- response number and the sender's last assigned TSN, four bytes each, and then stream ids, two bytes each.
-use Rattle.std.specs.Prelude.{ℕ, ◌-◌, ◌/◌, ◌%◌, ◌<◌, ◌^◌, List, [], ◌∷◌, ◌++◌, ◌==◌, nat_lt, Result, Ok, Err, if◌then◌else◌, length, drop, codes}
+-- response number and the sender's last assigned TSN, four bytes each, and then stream ids, two
+-- bytes each.
+use Rattle.std.specs.Prelude.{ℕ, ◌+◌, ◌-◌, ◌*◌, ◌/◌, ◌%◌, ◌<◌, ◌^◌, List, [], ◌∷◌, ◌++◌, ◌==◌, nat_lt, Result, Ok, Err, if◌then◌else◌, length, drop, codes, refl}
 use Rattle.std.specs.Fmt.{decimal}
 use Rattle.std.specs.List.{AllByRecursion}
 use Rattle.std.specs.Int.{w16, w32}
-use Rattle.dcsctp_tlv.specs.Fault.{Fault, Length}
-use Rattle.dcsctp_tlv.specs.Fields.{fields, stream_numbers}
-use Rattle.dcsctp_tlv.specs.Number.{number16, number32, numbers}
-use Rattle.dcsctp_tlv.specs.Image.{Tlv, typed_tlv}
+use Rattle.dcsctp_tlv.specs.Kind.{Fault, Length, fields, stream_numbers, number16, number32, numbers, Format, sized_tlv, length-words}
 use Rattle.dcsctp_tlv.specs.declared.outgoing_ssn_reset_request_parameter.OutgoingSsnResetRequestParameter.{OutgoingSsnResetRequestParameter}
 
-pub record OutgoingSsnResetRequestTree : Type 0 where
+pub record Tree : Type 0 where
   pub request : ℕ
   pub response : ℕ
   pub last_tsn : ℕ
   pub streams : List ℕ
 
-unfoldable pub outgoing_ssn_reset_request_at : List ℕ → Result OutgoingSsnResetRequestTree Fault
-outgoing_ssn_reset_request_at value =
+unfoldable pub read : List ℕ → Result Tree Fault
+read value =
     if nat_lt (length value) 12 then Err Length else
     if length value % 2 == 0 then Ok (record {
       request = number32 value;
@@ -27,22 +25,34 @@ outgoing_ssn_reset_request_at value =
     }) else
     Err Length
 
-abbrev pub outgoing_ssn_reset_request_tlv : OutgoingSsnResetRequestTree → Tlv
-outgoing_ssn_reset_request_tlv r = typed_tlv 13 (numbers w32 (r.request ∷ r.response ∷ r.last_tsn ∷ []) ++ numbers w16 r.streams)
+-- the numbers before the stream ids
+abbrev pub leading : Tree → List ℕ
+leading r = r.request ∷ r.response ∷ r.last_tsn ∷ []
 
-pub record IsOutgoingSsnResetRequestInWidth (r : OutgoingSsnResetRequestTree) : Type 0 where
+pub record IsInWidth (r : Tree) : Type 0 where
   pub request : r.request < 2 ^ 32
   pub response : r.response < 2 ^ 32
   pub last_tsn : r.last_tsn < 2 ^ 32
   pub streams : AllByRecursion (λ id. id < 2 ^ 16) r.streams
 
 -- the text begins as that of the incoming request
-abbrev pub outgoing_ssn_reset_request_text : OutgoingSsnResetRequestTree → List ℕ
-outgoing_ssn_reset_request_text r =
-    codes "Incoming SSN Reset Request, req_seq_nbr=" ++ (decimal r.request ++ (codes ", resp_seq_nbr=" ++ (decimal r.response ++ (codes ", slatsn=" ++ decimal r.last_tsn))))
+abbrev pub text : Tree → List ℕ
+text r =
+    codes "Incoming SSN Reset Request, req_seq_nbr=" ++ (decimal r.request
+    ++ (codes ", resp_seq_nbr=" ++ (decimal r.response
+    ++ (codes ", slatsn=" ++ decimal r.last_tsn))))
 
-abbrev pub outgoing_ssn_reset_request_view : OutgoingSsnResetRequestParameter → OutgoingSsnResetRequestTree
-outgoing_ssn_reset_request_view p = record {
+abbrev pub format : Tree → Format
+format r = record {
+  tlv = sized_tlv 13 (12 + 2 * length r.streams) (numbers w32 (leading r) ++ numbers w16 r.streams);
+  sized = length-words w16 2 (leading r) r.streams (λ n. refl);
+  text = text r;
+  IsInWidth = IsInWidth r;
+  IsWellFormed = Unit {0};
+}
+
+abbrev pub view : OutgoingSsnResetRequestParameter → Tree
+view p = record {
   request = p.request_seq_nbr;
   response = p.response_seq_nbr;
   last_tsn = p.sender_last_assigned_tsn.0;

@@ -1,18 +1,16 @@
--- Re-configuration Response (RFC 6525 section 4.4): type 16; the value is the response number and the
--- result, four bytes each, and then both next TSNs, four bytes each, or neither.
-use Rattle.std.specs.Prelude.{ℕ, ◌<◌, ◌^◌, ◌↔◌, List, [], ◌∷◌, ◌++◌, ◌==◌, Option, Some, None, IsSome, IfSome, option_map, Result, Ok, Err, if◌then◌else◌, length, drop, codes}
+-- Re-configuration Response (RFC 6525 section 4.4): type 16; the value is the response number and
+-- the result, four bytes each, and then both next TSNs, four bytes each, or neither.
+use Rattle.std.specs.Prelude.{ℕ, ◌+◌, ◌*◌, ◌<◌, ◌^◌, ◌↔◌, List, [], ◌∷◌, ◌++◌, ◌==◌, Option, Some, None, IsSome, IfSome, option_map, Result, Ok, Err, if◌then◌else◌, length, drop, codes, refl}
 use Rattle.std.specs.Fmt.{decimal}
 use Rattle.std.specs.Int.{w32}
 use Rattle.dcsctp_types.specs.declared.types.tsn.Tsn.{Tsn}
-use Rattle.dcsctp_tlv.specs.Fault.{Fault, Length, Value}
-use Rattle.dcsctp_tlv.specs.Number.{number32, numbers}
 use Rattle.dcsctp_tlv.specs.Level.{map_ok}
-use Rattle.dcsctp_tlv.specs.Image.{Tlv, typed_tlv}
+use Rattle.dcsctp_tlv.specs.Kind.{Fault, Length, Value, number32, numbers, Format, sized_tlv, length-words}
 use Rattle.dcsctp_tlv.specs.declared.reconfiguration_response_parameter.ReconfigurationResponseResult.{ReconfigurationResponseResult}
 use Rattle.dcsctp_tlv.specs.declared.reconfiguration_response_parameter.ReconfigurationResponseResult.TheVariants.{SuccessNothingToDo, SuccessPerformed, Denied, ErrorWrongSSN, ErrorRequestAlreadyInProgress, ErrorBadSequenceNumber, InProgress}
 use Rattle.dcsctp_tlv.specs.declared.reconfiguration_response_parameter.ReconfigurationResponseParameter.{ReconfigurationResponseParameter}
 
-pub record ReconfigurationResponseTree : Type 0 where
+pub record Tree : Type 0 where
   pub response : ℕ
   pub result : ReconfigurationResponseResult
   pub sender_next_tsn : Option ℕ
@@ -40,16 +38,21 @@ result_number ErrorBadSequenceNumber = 5
 result_number InProgress = 6
 
 -- a value with these next TSNs
-abbrev pub response_with : List ℕ → Option ℕ → Option ℕ → Result ReconfigurationResponseTree Fault
+abbrev pub response_with : List ℕ → Option ℕ → Option ℕ → Result Tree Fault
 response_with value sender receiver =
-    map_ok (λ result. record { response = number32 value; result = result; sender_next_tsn = sender; receiver_next_tsn = receiver })
-    (result_of (number32 (drop 4 value)))
+    map_ok (λ result. record {
+      response = number32 value;
+      result = result;
+      sender_next_tsn = sender;
+      receiver_next_tsn = receiver;
+    }) (result_of (number32 (drop 4 value)))
 
 -- the length comes before the result
-unfoldable pub reconfiguration_response_at : List ℕ → Result ReconfigurationResponseTree Fault
-reconfiguration_response_at value =
+unfoldable pub read : List ℕ → Result Tree Fault
+read value =
     if length value == 8 then response_with value None None else
-    if length value == 16 then response_with value (Some (number32 (drop 8 value))) (Some (number32 (drop 12 value))) else
+    if length value == 16 then
+    response_with value (Some (number32 (drop 8 value))) (Some (number32 (drop 12 value))) else
     Err Length
 
 -- both next TSNs where both are there, and neither otherwise
@@ -58,17 +61,27 @@ next_tsns (Some sender) (Some receiver) = sender ∷ receiver ∷ []
 next_tsns (Some sender) None = []
 next_tsns None receiver = []
 
-abbrev pub reconfiguration_response_tlv : ReconfigurationResponseTree → Tlv
-reconfiguration_response_tlv r = typed_tlv 16 (numbers w32 (r.response ∷ result_number r.result ∷ []) ++ numbers w32 (next_tsns r.sender_next_tsn r.receiver_next_tsn))
+-- the numbers before the next TSNs, and these
+abbrev pub leading : Tree → List ℕ
+leading r = r.response ∷ result_number r.result ∷ []
 
-pub record IsReconfigurationResponseInWidth (r : ReconfigurationResponseTree) : Type 0 where
+abbrev pub tsns : Tree → List ℕ
+tsns r = next_tsns r.sender_next_tsn r.receiver_next_tsn
+
+pub record IsInWidth (r : Tree) : Type 0 where
   pub response : r.response < 2 ^ 32
   pub sender_next_tsn : IfSome r.sender_next_tsn (λ tsn. tsn < 2 ^ 32)
   pub receiver_next_tsn : IfSome r.receiver_next_tsn (λ tsn. tsn < 2 ^ 32)
 
--- both next TSNs are there, or neither
-abbrev pub IsReconfigurationResponseWellFormed : ReconfigurationResponseTree → Type 0
-IsReconfigurationResponseWellFormed r = IsSome r.sender_next_tsn ↔ IsSome r.receiver_next_tsn
+-- it is well-formed where both next TSNs are there, or neither
+abbrev pub format : Tree → Format
+format r = record {
+  tlv = sized_tlv 16 (8 + 4 * length (tsns r)) (numbers w32 (leading r) ++ numbers w32 (tsns r));
+  sized = length-words w32 4 (leading r) (tsns r) (λ n. refl);
+  text = codes "Reconfig Response, seq=" ++ decimal r.response;
+  IsInWidth = IsInWidth r;
+  IsWellFormed = IsSome r.sender_next_tsn ↔ IsSome r.receiver_next_tsn;
+}
 
 -- a next TSN, where the other is there too
 abbrev pub kept_tsn : Option ℕ → Option ℕ → Option ℕ
@@ -76,22 +89,17 @@ kept_tsn tsn (Some other) = tsn
 kept_tsn tsn None = None
 
 -- the response that is written for a response: one next TSN alone is left out
-abbrev pub kept_reconfiguration_response : ReconfigurationResponseTree → ReconfigurationResponseTree
-kept_reconfiguration_response r = record {
-  response = r.response;
-  result = r.result;
+abbrev pub kept : Tree → Tree
+kept r = record r {
   sender_next_tsn = kept_tsn r.sender_next_tsn r.receiver_next_tsn;
   receiver_next_tsn = kept_tsn r.receiver_next_tsn r.sender_next_tsn;
 }
 
-abbrev pub reconfiguration_response_text : ReconfigurationResponseTree → List ℕ
-reconfiguration_response_text r = codes "Reconfig Response, seq=" ++ decimal r.response
-
 abbrev pub tsn_number : Option Tsn → Option ℕ
 tsn_number tsn = option_map (λ t. t.0) tsn
 
-abbrev pub reconfiguration_response_view : ReconfigurationResponseParameter → ReconfigurationResponseTree
-reconfiguration_response_view p = record {
+abbrev pub view : ReconfigurationResponseParameter → Tree
+view p = record {
   response = p.response_seq_nbr;
   result = p.result;
   sender_next_tsn = tsn_number p.sender_next_tsn;

@@ -1,23 +1,22 @@
--- Zero Checksum Acceptable (RFC 9653 section 4): type 0x8001; the value is the method's identifier, four bytes.
-use Rattle.std.specs.Prelude.{ℕ, ◌<◌, ◌^◌, List, ◌++◌, ◌==◌, Result, Ok, Err, if◌then◌else◌, length, codes}
+-- Zero Checksum Acceptable (RFC 9653 section 4): type 0x8001; the value is the method's identifier,
+-- four bytes.
+use Rattle.std.specs.Prelude.{ℕ, ◌<◌, ◌^◌, List, ◌++◌, ◌==◌, Result, Ok, Err, if◌then◌else◌, length, codes, refl}
 use Rattle.std.specs.Fmt.{decimal}
 use Rattle.std.specs.Int.{w32, to_be_bytes}
-use Rattle.dcsctp_tlv.specs.Fault.{Fault, Length}
-use Rattle.dcsctp_tlv.specs.Number.{number32}
-use Rattle.dcsctp_tlv.specs.Image.{Tlv, typed_tlv}
+use Rattle.dcsctp_tlv.specs.Kind.{Fault, Length, number32, Format, sized_tlv}
 use Rattle.dcsctp_tlv.specs.declared.zero_checksum_acceptable_parameter.ZeroChecksumAcceptableParameter.{ZeroChecksumAcceptableParameter}
 
-unfoldable pub zero_checksum_acceptable_at : List ℕ → Result ℕ Fault
-zero_checksum_acceptable_at value = if length value == 4 then Ok (number32 value) else Err Length
+unfoldable pub read : List ℕ → Result ℕ Fault
+read value = if length value == 4 then Ok (number32 value) else Err Length
 
-abbrev pub zero_checksum_acceptable_tlv : ℕ → Tlv
-zero_checksum_acceptable_tlv method = typed_tlv 0x8001 (to_be_bytes w32 method)
+abbrev pub format : ℕ → Format
+format method = record {
+  tlv = sized_tlv 0x8001 4 (to_be_bytes w32 method);
+  sized = refl;
+  text = codes "Zero Checksum Acceptable, method=" ++ decimal method;
+  IsInWidth = method < 2 ^ 32;
+  IsWellFormed = Unit {0};
+}
 
-abbrev pub IsZeroChecksumAcceptableInWidth : ℕ → Type 0
-IsZeroChecksumAcceptableInWidth method = method < 2 ^ 32
-
-abbrev pub zero_checksum_acceptable_text : ℕ → List ℕ
-zero_checksum_acceptable_text method = codes "Zero Checksum Acceptable, method=" ++ decimal method
-
-abbrev pub zero_checksum_acceptable_view : ZeroChecksumAcceptableParameter → ℕ
-zero_checksum_acceptable_view p = p.method.0
+abbrev pub view : ZeroChecksumAcceptableParameter → ℕ
+view p = p.method.0

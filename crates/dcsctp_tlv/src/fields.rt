@@ -3,8 +3,8 @@
 ghost use Rattle.std.specs.Prelude.{◌≡◌, ◌≤◌, ◌+◌, ◌*◌, ◌++◌, ℕ, List, All, IfOk, length, drop, map, refl};
 ghost use Rattle.std.specs.Int.{w16, w32, to_be_bytes};
 ghost use Rattle.std.specs.List.{flat_map};
-ghost use Rattle.dcsctp_tlv.specs.Fields.{fields};
-ghost use Rattle.dcsctp_tlv.specs.Image.{put, solid_tlv, typed_tlv, IsEncodable, size_of, image_of, written};
+ghost use Rattle.dcsctp_tlv.specs.Fields.{fields, fields_tlv};
+ghost use Rattle.dcsctp_tlv.specs.Image.{put, solid_tlv, IsEncodable, size_of, image_of, written};
 ghost use Rattle.dcsctp_tlv.specs.Number.{number16, number32, numbers};
 
 use crate::frame::{TLV_HEADER_SIZE, put_header};
@@ -194,9 +194,12 @@ pub fn put_parameter_fields<F: Field>(
     output: &mut [u8],
 )
     requires writable { All F.is_writable list.now }
-    requires encodable { IsEncodable (typed_tlv typ (numbers w32 leading.now ++ flat_map F.field_bytes (map F.view list.now))) }
-    requires room { size_of (typed_tlv typ (numbers w32 leading.now ++ flat_map F.field_bytes (map F.view list.now))) ≤ length output.old }
-    ensures { output.new ≡ written (image_of (typed_tlv typ (numbers w32 leading.now ++ flat_map F.field_bytes (map F.view list.now)))) output.old }
+    requires encodable { IsEncodable
+        (fields_tlv typ leading.now F.field_bytes F.SIZE (map F.view list.now)) }
+    requires room { size_of (fields_tlv typ leading.now F.field_bytes F.SIZE (map F.view list.now))
+        ≤ length output.old }
+    ensures { output.new ≡ written (image_of
+        (fields_tlv typ leading.now F.field_bytes F.SIZE (map F.view list.now))) output.old }
 {
     let (first, second) = ((typ / 256) as u8, (typ % 256) as u8);
     put_numbers_and_fields::<F>(first, second, leading, list, output);

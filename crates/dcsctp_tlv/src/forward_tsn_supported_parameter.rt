@@ -8,11 +8,11 @@
 //! +-+-+-+-+-+-+-+-+-+-+-+-+-+-+-+-+-+-+-+-+-+-+-+-+-+-+-+-+-+-+-+-+
 //! ```
 
-ghost use Rattle.std.specs.Prelude.{◌≡◌, ◌≢◌, ◌↔◌, [], Some, IsErrOf};
+ghost use Rattle.std.specs.Prelude.{◌≡◌, ◌≢◌, ◌↔◌, Some, IsErrOf};
 ghost use Rattle.dcsctp_tlv.specs.Image.{IsEncodable};
 ghost use Rattle.dcsctp_tlv.specs.Reading.{Gives, Never, Passes};
-ghost use Rattle.dcsctp_tlv.specs.Length.{length-typed_tlv};
-ghost use Rattle.dcsctp_tlv.specs.ForwardTsnSupported.{forward_tsn_supported_at, forward_tsn_supported_tlv, forward_tsn_supported_text, forward_tsn_supported_view};
+ghost use Rattle.dcsctp_tlv.specs.Length.{length-format};
+ghost use Rattle.dcsctp_tlv.specs.ForwardTsnSupported as kind;
 
 use crate::error::ChunkParseError;
 use crate::frame::put_parameter;
@@ -27,14 +27,15 @@ pub const PARAMETER_TYPE: u16 = 0xC000;
 #[derive(Debug, Drop)]
 pub struct ForwardTsnSupportedParameter;
 
-#[tactic(auto, unfolding(crate::specs::ForwardTsnSupported::forward_tsn_supported_at))]
+#[tactic(auto, unfolding(crate::specs::ForwardTsnSupported::read))]
 impl ForwardTsnSupportedParameter {
     /// Reads the parameter; no memory is taken.
     ///
     /// `InvalidType` exactly for another type; `InvalidLength` exactly where the value isn't empty.
     pub fn try_from(raw: RawParameter) -> Result<Self, ChunkParseError>
         ensures other { IsErrOf result ChunkParseError.InvalidType ↔ (raw.entry.typ ≢ PARAMETER_TYPE) }
-        ensures own { raw.entry.typ ≡ PARAMETER_TYPE → Gives Never forward_tsn_supported_view result (forward_tsn_supported_at raw.entry.value.now) }
+        ensures own { raw.entry.typ ≡ PARAMETER_TYPE →
+            Gives Never kind.view result (kind.read raw.entry.value.now) }
     {
         if raw.typ != PARAMETER_TYPE {
             return Err(ChunkParseError::InvalidType);
@@ -45,7 +46,7 @@ impl ForwardTsnSupportedParameter {
 
     /// `InvalidLength` exactly where the value isn't empty.
     pub(crate) fn check(value: &[u8]) -> Result<(), ChunkParseError>
-        ensures { Passes result (forward_tsn_supported_at value.now) }
+        ensures { Passes result (kind.read value.now) }
     {
         if !value.is_empty() {
             return Err(ChunkParseError::InvalidLength);
@@ -55,11 +56,11 @@ impl ForwardTsnSupportedParameter {
 }
 
 impl SerializableTlv for ForwardTsnSupportedParameter {
-    ghost tlv = { λ p. forward_tsn_supported_tlv };
+    ghost tlv = { λ p. (kind.format (kind.view p)).tlv };
 
-    ghost is_encodable = { λ p. IsEncodable forward_tsn_supported_tlv };
+    ghost is_encodable = { λ p. IsEncodable (kind.format (kind.view p)).tlv };
 
-    ghost image_length = { λ p fits. length-typed_tlv 0xC000 [] };
+    ghost image_length = { λ p fits. length-format (kind.format (kind.view p)) };
 
     ghost size_bound = { λ p fits. fits };
 
@@ -77,7 +78,7 @@ impl SerializableTlv for ForwardTsnSupportedParameter {
 }
 
 impl fmt::Display for ForwardTsnSupportedParameter {
-    ghost output = { λ p. Some forward_tsn_supported_text };
+    ghost output = { λ p. Some (kind.format (kind.view p)).text };
 
     fn fmt<W: fmt::Write>(&self, f: &mut fmt::Formatter<W>) -> fmt::Result {
         write!(f, "Forward-TSN supported")

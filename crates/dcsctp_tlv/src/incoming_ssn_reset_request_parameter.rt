@@ -12,14 +12,11 @@
 //! +-+-+-+-+-+-+-+-+-+-+-+-+-+-+-+-+-+-+-+-+-+-+-+-+-+-+-+-+-+-+-+-+
 //! ```
 
-ghost use Rattle.std.specs.Prelude.{◌≡◌, ◌≢◌, ◌↔◌, ◌++◌, [], ◌∷◌, Some, IsOk, IsErrOf};
-ghost use Rattle.std.specs.Int.{w16, w32};
-ghost use Rattle.dcsctp_tlv.specs.Fields.{stream_numbers};
+ghost use Rattle.std.specs.Prelude.{◌≡◌, ◌≢◌, ◌↔◌, Some, IsOk, IsErrOf};
 ghost use Rattle.dcsctp_tlv.specs.Image.{IsEncodable};
-ghost use Rattle.dcsctp_tlv.specs.Length.{length-typed_tlv};
-ghost use Rattle.dcsctp_tlv.specs.Number.{numbers};
+ghost use Rattle.dcsctp_tlv.specs.Length.{length-format};
 ghost use Rattle.dcsctp_tlv.specs.Reading.{Gives, IfMeant, Passes, Builds};
-ghost use Rattle.dcsctp_tlv.specs.IncomingSsnResetRequest.{incoming_ssn_reset_request_at, incoming_ssn_reset_request_tlv, incoming_ssn_reset_request_text, incoming_ssn_reset_request_view};
+ghost use Rattle.dcsctp_tlv.specs.IncomingSsnResetRequest as kind;
 
 use crate::error::ChunkParseError;
 use crate::fields::{fields_from_bytes, put_parameter_fields};
@@ -46,7 +43,7 @@ pub struct IncomingSsnResetRequestParameter {
     pub streams: Vec<StreamId>,
 }
 
-#[tactic(auto, unfolding(crate::specs::IncomingSsnResetRequest::incoming_ssn_reset_request_at))]
+#[tactic(auto, unfolding(crate::specs::IncomingSsnResetRequest::read))]
 impl IncomingSsnResetRequestParameter {
     /// Reads the parameter, and copies its stream ids.
     ///
@@ -54,7 +51,8 @@ impl IncomingSsnResetRequestParameter {
     /// than 4 bytes or an odd number of them; `OutOfMemory` only where the ids can't be copied.
     pub fn try_from(alloc: Global, raw: RawParameter) -> Result<Self, ChunkParseError>
         ensures other { IsErrOf result ChunkParseError.InvalidType ↔ (raw.entry.typ ≢ PARAMETER_TYPE) }
-        ensures own { raw.entry.typ ≡ PARAMETER_TYPE → Gives IfMeant incoming_ssn_reset_request_view result (incoming_ssn_reset_request_at raw.entry.value.now) }
+        ensures own { raw.entry.typ ≡ PARAMETER_TYPE →
+            Gives IfMeant kind.view result (kind.read raw.entry.value.now) }
     {
         if raw.typ != PARAMETER_TYPE {
             return Err(ChunkParseError::InvalidType);
@@ -65,7 +63,7 @@ impl IncomingSsnResetRequestParameter {
 
     /// `InvalidLength` exactly where the value has fewer than 4 bytes or an odd number of them.
     pub(crate) fn check(value: &[u8]) -> Result<(), ChunkParseError>
-        ensures { Passes result (incoming_ssn_reset_request_at value.now) }
+        ensures { Passes result (kind.read value.now) }
     {
         if value.len() < FIXED_SIZE {
             return Err(ChunkParseError::InvalidLength);
@@ -78,8 +76,8 @@ impl IncomingSsnResetRequestParameter {
 
     /// What the value means.
     pub(crate) fn build(alloc: Global, value: &[u8]) -> Result<Self, AllocError>
-        requires { IsOk (incoming_ssn_reset_request_at value.now) }
-        ensures { Builds incoming_ssn_reset_request_view result (incoming_ssn_reset_request_at value.now) }
+        requires { IsOk (kind.read value.now) }
+        ensures { Builds kind.view result (kind.read value.now) }
     {
         let count = (value.len() - FIXED_SIZE) / 2;
         let streams = fields_from_bytes::<StreamId>(alloc, &value[FIXED_SIZE..], count)?;
@@ -90,13 +88,13 @@ impl IncomingSsnResetRequestParameter {
     }
 }
 
-#[tactic(auto, using(crate::proofs::Puts::size_of_streams))]
+#[tactic(auto, using(crate::proofs::Puts::count_of_streams))]
 impl SerializableTlv for IncomingSsnResetRequestParameter {
-    ghost tlv = { λ p. incoming_ssn_reset_request_tlv (incoming_ssn_reset_request_view p) };
+    ghost tlv = { λ p. (kind.format (kind.view p)).tlv };
 
-    ghost is_encodable = { λ p. IsEncodable (incoming_ssn_reset_request_tlv (incoming_ssn_reset_request_view p)) };
+    ghost is_encodable = { λ p. IsEncodable (kind.format (kind.view p)).tlv };
 
-    ghost image_length = { λ p fits. length-typed_tlv 14 (numbers w32 (p.request_seq_nbr ∷ []) ++ numbers w16 (stream_numbers p.streams.items)) };
+    ghost image_length = { λ p fits. length-format (kind.format (kind.view p)) };
 
     ghost size_bound = { λ p fits. fits };
 
@@ -115,7 +113,7 @@ impl SerializableTlv for IncomingSsnResetRequestParameter {
 }
 
 impl fmt::Display for IncomingSsnResetRequestParameter {
-    ghost output = { λ p. Some (incoming_ssn_reset_request_text (incoming_ssn_reset_request_view p)) };
+    ghost output = { λ p. Some (kind.format (kind.view p)).text };
 
     fn fmt<W: fmt::Write>(&self, f: &mut fmt::Formatter<W>) -> fmt::Result {
         let request = self.request_seq_nbr;

@@ -16,14 +16,11 @@
 //! +-+-+-+-+-+-+-+-+-+-+-+-+-+-+-+-+-+-+-+-+-+-+-+-+-+-+-+-+-+-+-+-+
 //! ```
 
-ghost use Rattle.std.specs.Prelude.{◌≡◌, ◌≢◌, ◌↔◌, ◌++◌, [], ◌∷◌, Some, IsOk, IsErrOf};
-ghost use Rattle.std.specs.Int.{w16, w32};
-ghost use Rattle.dcsctp_tlv.specs.Fields.{stream_numbers};
+ghost use Rattle.std.specs.Prelude.{◌≡◌, ◌≢◌, ◌↔◌, Some, IsOk, IsErrOf};
 ghost use Rattle.dcsctp_tlv.specs.Image.{IsEncodable};
-ghost use Rattle.dcsctp_tlv.specs.Length.{length-typed_tlv};
-ghost use Rattle.dcsctp_tlv.specs.Number.{numbers};
+ghost use Rattle.dcsctp_tlv.specs.Length.{length-format};
 ghost use Rattle.dcsctp_tlv.specs.Reading.{Gives, IfMeant, Passes, Builds};
-ghost use Rattle.dcsctp_tlv.specs.OutgoingSsnResetRequest.{outgoing_ssn_reset_request_at, outgoing_ssn_reset_request_tlv, outgoing_ssn_reset_request_text, outgoing_ssn_reset_request_view};
+ghost use Rattle.dcsctp_tlv.specs.OutgoingSsnResetRequest as kind;
 
 use crate::error::ChunkParseError;
 use crate::fields::{fields_from_bytes, put_parameter_fields};
@@ -55,7 +52,7 @@ pub struct OutgoingSsnResetRequestParameter {
     pub streams: Vec<StreamId>,
 }
 
-#[tactic(auto, unfolding(crate::specs::OutgoingSsnResetRequest::outgoing_ssn_reset_request_at))]
+#[tactic(auto, unfolding(crate::specs::OutgoingSsnResetRequest::read))]
 impl OutgoingSsnResetRequestParameter {
     /// Reads the parameter, and copies its stream ids.
     ///
@@ -63,7 +60,8 @@ impl OutgoingSsnResetRequestParameter {
     /// than 12 bytes or an odd number of them; `OutOfMemory` only where the ids can't be copied.
     pub fn try_from(alloc: Global, raw: RawParameter) -> Result<Self, ChunkParseError>
         ensures other { IsErrOf result ChunkParseError.InvalidType ↔ (raw.entry.typ ≢ PARAMETER_TYPE) }
-        ensures own { raw.entry.typ ≡ PARAMETER_TYPE → Gives IfMeant outgoing_ssn_reset_request_view result (outgoing_ssn_reset_request_at raw.entry.value.now) }
+        ensures own { raw.entry.typ ≡ PARAMETER_TYPE →
+            Gives IfMeant kind.view result (kind.read raw.entry.value.now) }
     {
         if raw.typ != PARAMETER_TYPE {
             return Err(ChunkParseError::InvalidType);
@@ -74,7 +72,7 @@ impl OutgoingSsnResetRequestParameter {
 
     /// `InvalidLength` exactly where the value has fewer than 12 bytes or an odd number of them.
     pub(crate) fn check(value: &[u8]) -> Result<(), ChunkParseError>
-        ensures { Passes result (outgoing_ssn_reset_request_at value.now) }
+        ensures { Passes result (kind.read value.now) }
     {
         if value.len() < FIXED_SIZE {
             return Err(ChunkParseError::InvalidLength);
@@ -87,8 +85,8 @@ impl OutgoingSsnResetRequestParameter {
 
     /// What the value means.
     pub(crate) fn build(alloc: Global, value: &[u8]) -> Result<Self, AllocError>
-        requires { IsOk (outgoing_ssn_reset_request_at value.now) }
-        ensures { Builds outgoing_ssn_reset_request_view result (outgoing_ssn_reset_request_at value.now) }
+        requires { IsOk (kind.read value.now) }
+        ensures { Builds kind.view result (kind.read value.now) }
     {
         let count = (value.len() - FIXED_SIZE) / 2;
         let streams = fields_from_bytes::<StreamId>(alloc, &value[FIXED_SIZE..], count)?;
@@ -101,13 +99,13 @@ impl OutgoingSsnResetRequestParameter {
     }
 }
 
-#[tactic(auto, using(crate::proofs::Puts::size_of_streams))]
+#[tactic(auto, using(crate::proofs::Puts::count_of_streams))]
 impl SerializableTlv for OutgoingSsnResetRequestParameter {
-    ghost tlv = { λ p. outgoing_ssn_reset_request_tlv (outgoing_ssn_reset_request_view p) };
+    ghost tlv = { λ p. (kind.format (kind.view p)).tlv };
 
-    ghost is_encodable = { λ p. IsEncodable (outgoing_ssn_reset_request_tlv (outgoing_ssn_reset_request_view p)) };
+    ghost is_encodable = { λ p. IsEncodable (kind.format (kind.view p)).tlv };
 
-    ghost image_length = { λ p fits. length-typed_tlv 13 (numbers w32 (p.request_seq_nbr ∷ p.response_seq_nbr ∷ p.sender_last_assigned_tsn.0 ∷ []) ++ numbers w16 (stream_numbers p.streams.items)) };
+    ghost image_length = { λ p fits. length-format (kind.format (kind.view p)) };
 
     ghost size_bound = { λ p fits. fits };
 
@@ -130,7 +128,7 @@ impl SerializableTlv for OutgoingSsnResetRequestParameter {
 }
 
 impl fmt::Display for OutgoingSsnResetRequestParameter {
-    ghost output = { λ p. Some (outgoing_ssn_reset_request_text (outgoing_ssn_reset_request_view p)) };
+    ghost output = { λ p. Some (kind.format (kind.view p)).text };
 
     fn fmt<W: fmt::Write>(&self, f: &mut fmt::Formatter<W>) -> fmt::Result {
         let request = self.request_seq_nbr;

@@ -14,7 +14,9 @@ ghost use Rattle.std.specs.Prelude.{◌≡◌, ◌≢◌, ◌≤◌, ◌*◌, []
 ghost use Rattle.dcsctp_tlv.specs.Image.{IsEncodable};
 ghost use Rattle.dcsctp_tlv.specs.Level.{HasMeaning, MeansTrees, MeansSome, MeansMany, HasFault};
 ghost use Rattle.dcsctp_tlv.specs.Reading.{Answers, Finds, ChecksExactly, ReadsExactly};
-ghost use Rattle.dcsctp_tlv.specs.Parameter.{ParameterTree, parameter_row, parameters, TakesNoMemory, parameter_tlv, view, views, length-parameter};
+ghost use Rattle.dcsctp_tlv.specs.Length.{length-format};
+ghost use Rattle.dcsctp_tlv.specs.Parameter as parameter;
+ghost use Rattle.dcsctp_tlv.specs.Parameter.{ParameterTree, parameters, TakesNoMemory, view, views};
 
 use crate::error::ChunkParseError;
 use crate::forward_tsn_supported_parameter::{self, ForwardTsnSupportedParameter};
@@ -99,10 +101,11 @@ impl Parameter {
     /// `OutOfMemory` only where it has a meaning, and what it holds can't be copied; never where it
     /// holds nothing on the heap. `InvalidType` is never answered.
     pub fn try_from(alloc: Global, raw: RawParameter) -> Result<Self, ChunkParseError>
-        ensures answer { Answers result (λ p. (parameter_row raw.entry.typ).means raw.entry.value.now (view p))
-            ((parameter_row raw.entry.typ).faults raw.entry.value.now) }
+        ensures answer { Answers result
+            (λ p. (parameter.row raw.entry.typ).means raw.entry.value.now (view p))
+            ((parameter.row raw.entry.typ).faults raw.entry.value.now) }
         ensures memory { IsErrOf result ChunkParseError.OutOfMemory →
-            HasMeaning (parameter_row raw.entry.typ) raw.entry.value.now }
+            HasMeaning (parameter.row raw.entry.typ) raw.entry.value.now }
         ensures heap { TakesNoMemory raw.entry.typ → ¬ IsErrOf result ChunkParseError.OutOfMemory }
     {
         Parameter::check_value(raw.typ, raw.value)?;
@@ -111,7 +114,8 @@ impl Parameter {
 
     /// Passes exactly where the value has a meaning; else its fault. It takes no memory.
     fn check_value(typ: u16, value: &[u8]) -> Result<(), ChunkParseError>
-        ensures { Finds result (λ _. HasMeaning (parameter_row typ) value.now) ((parameter_row typ).faults value.now) }
+        ensures { Finds result (λ _. HasMeaning (parameter.row typ) value.now)
+            ((parameter.row typ).faults value.now) }
     {
         match typ {
             outgoing_ssn_reset_request_parameter::PARAMETER_TYPE =>
@@ -131,8 +135,8 @@ impl Parameter {
 
     /// What the value means.
     fn build(alloc: Global, typ: u16, value: &[u8]) -> Result<Self, AllocError>
-        requires { HasMeaning (parameter_row typ) value.now }
-        ensures meant { IfOk result (λ p. (parameter_row typ).means value.now (view p)) }
+        requires { HasMeaning (parameter.row typ) value.now }
+        ensures meant { IfOk result (λ p. (parameter.row typ).means value.now (view p)) }
         ensures heap { TakesNoMemory typ → IsOk result }
     {
         Ok(match typ {
@@ -175,7 +179,7 @@ impl Parameter {
     }
 }
 
-#[tactic(auto, unfolding(crate::specs::HeartbeatInfo::heartbeat_info_at, crate::specs::StateCookie::state_cookie_at, crate::specs::SupportedExtensions::supported_extensions_at, crate::specs::UnknownParameter::unknown_parameter_at))]
+#[tactic(auto, unfolding(crate::specs::HeartbeatInfo::read, crate::specs::StateCookie::read, crate::specs::SupportedExtensions::read, crate::specs::UnknownParameter::read))]
 impl ReadableTlv for Parameter {
     ghost Tree = { ParameterTree };
 
@@ -282,11 +286,11 @@ impl ReadableTlv for Parameter {
 }
 
 impl SerializableTlv for Parameter {
-    ghost tlv = { λ p. parameter_tlv (view p) };
+    ghost tlv = { λ p. parameter.tlv (view p) };
 
-    ghost is_encodable = { λ p. IsEncodable (parameter_tlv (view p)) };
+    ghost is_encodable = { λ p. IsEncodable (parameter.tlv (view p)) };
 
-    ghost image_length = { λ p fits. length-parameter (view p) };
+    ghost image_length = { λ p fits. length-format (parameter.format (view p)) };
 
     ghost size_bound = { λ p fits. fits };
 
@@ -308,7 +312,7 @@ impl ListedTlv for Parameter {
 
     ghost view = { view };
 
-    ghost tree_tlv = { parameter_tlv };
+    ghost tree_tlv = { parameter.tlv };
 
     ghost same_tlv = { λ p. refl };
 

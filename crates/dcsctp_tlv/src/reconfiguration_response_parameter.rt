@@ -16,13 +16,12 @@
 //! +-+-+-+-+-+-+-+-+-+-+-+-+-+-+-+-+-+-+-+-+-+-+-+-+-+-+-+-+-+-+-+-+
 //! ```
 
-ghost use Rattle.std.specs.Prelude.{◌≡◌, ◌≢◌, ◌↔◌, ◌≤◌, ◌++◌, [], ◌∷◌, Some, Ok, IsOk, IsErrOf, length, map};
-ghost use Rattle.std.specs.Int.{w32};
+ghost use Rattle.std.specs.Prelude.{◌≡◌, ◌≢◌, ◌↔◌, ◌≤◌, Some, Ok, IsOk, IsErrOf};
 ghost use Rattle.dcsctp_tlv.specs.Image.{IsEncodable};
-ghost use Rattle.dcsctp_tlv.specs.Length.{length-typed_tlv};
-ghost use Rattle.dcsctp_tlv.specs.Number.{numbers};
+ghost use Rattle.dcsctp_tlv.specs.Length.{length-format};
 ghost use Rattle.dcsctp_tlv.specs.Reading.{Gives, Never, Passes};
-ghost use Rattle.dcsctp_tlv.specs.ReconfigurationResponse.{result_of, result_number, response_with, reconfiguration_response_at, next_tsns, reconfiguration_response_tlv, reconfiguration_response_text, tsn_number, reconfiguration_response_view};
+ghost use Rattle.dcsctp_tlv.specs.ReconfigurationResponse as kind;
+ghost use Rattle.dcsctp_tlv.specs.ReconfigurationResponse.{result_of, result_number};
 
 use crate::error::ChunkParseError;
 use crate::fields::put_parameter_fields;
@@ -104,7 +103,7 @@ pub struct ReconfigurationResponseParameter {
     pub receiver_next_tsn: Option<Tsn>,
 }
 
-#[tactic(auto, unfolding(crate::specs::ReconfigurationResponse::reconfiguration_response_at))]
+#[tactic(auto, unfolding(crate::specs::ReconfigurationResponse::read))]
 impl ReconfigurationResponseParameter {
     /// Reads the parameter; no memory is taken.
     ///
@@ -112,7 +111,8 @@ impl ReconfigurationResponseParameter {
     /// 16 bytes; `InvalidValue` exactly where it has, and its result is above 6.
     pub fn try_from(raw: RawParameter) -> Result<Self, ChunkParseError>
         ensures other { IsErrOf result ChunkParseError.InvalidType ↔ (raw.entry.typ ≢ PARAMETER_TYPE) }
-        ensures own { raw.entry.typ ≡ PARAMETER_TYPE → Gives Never reconfiguration_response_view result (reconfiguration_response_at raw.entry.value.now) }
+        ensures own { raw.entry.typ ≡ PARAMETER_TYPE →
+            Gives Never kind.view result (kind.read raw.entry.value.now) }
     {
         if raw.typ != PARAMETER_TYPE {
             return Err(ChunkParseError::InvalidType);
@@ -124,7 +124,7 @@ impl ReconfigurationResponseParameter {
     /// `InvalidLength` exactly where the value hasn't 8 or 16 bytes; `InvalidValue` exactly where it
     /// has, and its result is above 6.
     pub(crate) fn check(value: &[u8]) -> Result<(), ChunkParseError>
-        ensures { Passes result (reconfiguration_response_at value.now) }
+        ensures { Passes result (kind.read value.now) }
     {
         if value.len() != 8 && value.len() != 16 {
             return Err(ChunkParseError::InvalidLength);
@@ -137,8 +137,8 @@ impl ReconfigurationResponseParameter {
 
     /// What the value means.
     pub(crate) fn build(value: &[u8]) -> Self
-        requires { IsOk (reconfiguration_response_at value.now) }
-        ensures { reconfiguration_response_at value.now ≡ Ok (reconfiguration_response_view result) }
+        requires { IsOk (kind.read value.now) }
+        ensures { kind.read value.now ≡ Ok (kind.view result) }
     {
         let response_seq_nbr = read_u32_be(value);
         let result = ReconfigurationResponseResult::of(read_u32_be(&value[4..]));
@@ -160,11 +160,11 @@ impl ReconfigurationResponseParameter {
 }
 
 impl SerializableTlv for ReconfigurationResponseParameter {
-    ghost tlv = { λ p. reconfiguration_response_tlv (reconfiguration_response_view p) };
+    ghost tlv = { λ p. (kind.format (kind.view p)).tlv };
 
-    ghost is_encodable = { λ p. IsEncodable (reconfiguration_response_tlv (reconfiguration_response_view p)) };
+    ghost is_encodable = { λ p. IsEncodable (kind.format (kind.view p)).tlv };
 
-    ghost image_length = { λ p fits. length-typed_tlv 16 (numbers w32 (p.response_seq_nbr ∷ result_number p.result ∷ []) ++ numbers w32 (next_tsns (tsn_number p.sender_next_tsn) (tsn_number p.receiver_next_tsn))) };
+    ghost image_length = { λ p fits. length-format (kind.format (kind.view p)) };
 
     ghost size_bound = { λ p fits. fits };
 
@@ -194,7 +194,7 @@ impl SerializableTlv for ReconfigurationResponseParameter {
 }
 
 impl fmt::Display for ReconfigurationResponseParameter {
-    ghost output = { λ p. Some (reconfiguration_response_text (reconfiguration_response_view p)) };
+    ghost output = { λ p. Some (kind.format (kind.view p)).text };
 
     fn fmt<W: fmt::Write>(&self, f: &mut fmt::Formatter<W>) -> fmt::Result {
         let response = self.response_seq_nbr;

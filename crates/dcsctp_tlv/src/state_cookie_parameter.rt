@@ -13,8 +13,8 @@
 ghost use Rattle.std.specs.Prelude.{◌≡◌, ◌≢◌, ◌↔◌, Some, IsErrOf};
 ghost use Rattle.dcsctp_tlv.specs.Image.{IsEncodable};
 ghost use Rattle.dcsctp_tlv.specs.Reading.{Gives, IfMeant, Builds};
-ghost use Rattle.dcsctp_tlv.specs.Length.{length-typed_tlv};
-ghost use Rattle.dcsctp_tlv.specs.StateCookie.{state_cookie_at, state_cookie_tlv, state_cookie_text, state_cookie_view};
+ghost use Rattle.dcsctp_tlv.specs.Length.{length-format};
+ghost use Rattle.dcsctp_tlv.specs.StateCookie as kind;
 
 use crate::error::ChunkParseError;
 use crate::frame::{MAX_VALUE_SIZE, put_parameter};
@@ -33,14 +33,15 @@ pub struct StateCookieParameter {
     pub cookie: Vec<u8>,
 }
 
-#[tactic(auto, unfolding(crate::specs::StateCookie::state_cookie_at))]
+#[tactic(auto, unfolding(crate::specs::StateCookie::read))]
 impl StateCookieParameter {
     /// Reads the parameter, and copies the cookie.
     ///
     /// `InvalidType` exactly for another type; `OutOfMemory` only where the cookie can't be copied.
     pub fn try_from(alloc: Global, raw: RawParameter) -> Result<Self, ChunkParseError>
         ensures other { IsErrOf result ChunkParseError.InvalidType ↔ (raw.entry.typ ≢ PARAMETER_TYPE) }
-        ensures own { raw.entry.typ ≡ PARAMETER_TYPE → Gives IfMeant state_cookie_view result (state_cookie_at raw.entry.value.now) }
+        ensures own { raw.entry.typ ≡ PARAMETER_TYPE →
+            Gives IfMeant kind.view result (kind.read raw.entry.value.now) }
     {
         if raw.typ != PARAMETER_TYPE {
             return Err(ChunkParseError::InvalidType);
@@ -50,7 +51,7 @@ impl StateCookieParameter {
 
     /// Copies the value.
     pub(crate) fn build(alloc: Global, value: &[u8]) -> Result<Self, AllocError>
-        ensures { Builds state_cookie_view result (state_cookie_at value.now) }
+        ensures { Builds kind.view result (kind.read value.now) }
     {
         Ok(StateCookieParameter {
             cookie: Vec::from_slice(alloc, value)?,
@@ -59,11 +60,11 @@ impl StateCookieParameter {
 }
 
 impl SerializableTlv for StateCookieParameter {
-    ghost tlv = { λ p. state_cookie_tlv (state_cookie_view p) };
+    ghost tlv = { λ p. (kind.format (kind.view p)).tlv };
 
-    ghost is_encodable = { λ p. IsEncodable (state_cookie_tlv (state_cookie_view p)) };
+    ghost is_encodable = { λ p. IsEncodable (kind.format (kind.view p)).tlv };
 
-    ghost image_length = { λ p fits. length-typed_tlv 7 (state_cookie_view p) };
+    ghost image_length = { λ p fits. length-format (kind.format (kind.view p)) };
 
     ghost size_bound = { λ p fits. fits };
 
@@ -81,7 +82,7 @@ impl SerializableTlv for StateCookieParameter {
 }
 
 impl fmt::Display for StateCookieParameter {
-    ghost output = { λ p. Some (state_cookie_text (state_cookie_view p)) };
+    ghost output = { λ p. Some (kind.format (kind.view p)).text };
 
     fn fmt<W: fmt::Write>(&self, f: &mut fmt::Formatter<W>) -> fmt::Result {
         let size = self.cookie.len();

@@ -13,8 +13,8 @@
 ghost use Rattle.std.specs.Prelude.{◌≡◌, ◌≢◌, ◌↔◌, Some, IsErrOf};
 ghost use Rattle.dcsctp_tlv.specs.Image.{IsEncodable};
 ghost use Rattle.dcsctp_tlv.specs.Reading.{Gives, IfMeant, Builds};
-ghost use Rattle.dcsctp_tlv.specs.Length.{length-typed_tlv};
-ghost use Rattle.dcsctp_tlv.specs.SupportedExtensions.{supported_extensions_at, supported_extensions_tlv, supported_extensions_text, supported_extensions_view};
+ghost use Rattle.dcsctp_tlv.specs.Length.{length-format};
+ghost use Rattle.dcsctp_tlv.specs.SupportedExtensions as kind;
 
 use crate::error::ChunkParseError;
 use crate::frame::{MAX_VALUE_SIZE, put_parameter};
@@ -34,14 +34,15 @@ pub struct SupportedExtensionsParameter {
     pub chunk_types: Vec<u8>,
 }
 
-#[tactic(auto, unfolding(crate::specs::SupportedExtensions::supported_extensions_at))]
+#[tactic(auto, unfolding(crate::specs::SupportedExtensions::read))]
 impl SupportedExtensionsParameter {
     /// Reads the parameter, and copies the list.
     ///
     /// `InvalidType` exactly for another type; `OutOfMemory` only where the list can't be copied.
     pub fn try_from(alloc: Global, raw: RawParameter) -> Result<Self, ChunkParseError>
         ensures other { IsErrOf result ChunkParseError.InvalidType ↔ (raw.entry.typ ≢ PARAMETER_TYPE) }
-        ensures own { raw.entry.typ ≡ PARAMETER_TYPE → Gives IfMeant supported_extensions_view result (supported_extensions_at raw.entry.value.now) }
+        ensures own { raw.entry.typ ≡ PARAMETER_TYPE →
+            Gives IfMeant kind.view result (kind.read raw.entry.value.now) }
     {
         if raw.typ != PARAMETER_TYPE {
             return Err(ChunkParseError::InvalidType);
@@ -51,7 +52,7 @@ impl SupportedExtensionsParameter {
 
     /// Copies the value.
     pub(crate) fn build(alloc: Global, value: &[u8]) -> Result<Self, AllocError>
-        ensures { Builds supported_extensions_view result (supported_extensions_at value.now) }
+        ensures { Builds kind.view result (kind.read value.now) }
     {
         Ok(SupportedExtensionsParameter {
             chunk_types: Vec::from_slice(alloc, value)?,
@@ -60,11 +61,11 @@ impl SupportedExtensionsParameter {
 }
 
 impl SerializableTlv for SupportedExtensionsParameter {
-    ghost tlv = { λ p. supported_extensions_tlv (supported_extensions_view p) };
+    ghost tlv = { λ p. (kind.format (kind.view p)).tlv };
 
-    ghost is_encodable = { λ p. IsEncodable (supported_extensions_tlv (supported_extensions_view p)) };
+    ghost is_encodable = { λ p. IsEncodable (kind.format (kind.view p)).tlv };
 
-    ghost image_length = { λ p fits. length-typed_tlv 0x8008 (supported_extensions_view p) };
+    ghost image_length = { λ p fits. length-format (kind.format (kind.view p)) };
 
     ghost size_bound = { λ p fits. fits };
 
@@ -82,7 +83,7 @@ impl SerializableTlv for SupportedExtensionsParameter {
 }
 
 impl fmt::Display for SupportedExtensionsParameter {
-    ghost output = { λ p. Some (supported_extensions_text (supported_extensions_view p)) };
+    ghost output = { λ p. Some (kind.format (kind.view p)).text };
 
     fn fmt<W: fmt::Write>(&self, f: &mut fmt::Formatter<W>) -> fmt::Result {
         write!(f, "Supported extensions, chunks=")?;

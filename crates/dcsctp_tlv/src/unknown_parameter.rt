@@ -13,8 +13,8 @@
 ghost use Rattle.std.specs.Prelude.{◌≡◌, Some};
 ghost use Rattle.dcsctp_tlv.specs.Image.{IsEncodable};
 ghost use Rattle.dcsctp_tlv.specs.Reading.{Gives, IfMeant, Builds};
-ghost use Rattle.dcsctp_tlv.specs.Length.{length-typed_tlv};
-ghost use Rattle.dcsctp_tlv.specs.UnknownParameter.{unknown_parameter_at, unknown_parameter_tlv, unknown_parameter_text, unknown_parameter_view};
+ghost use Rattle.dcsctp_tlv.specs.Length.{length-format};
+ghost use Rattle.dcsctp_tlv.specs.UnknownParameter as kind;
 
 use crate::error::ChunkParseError;
 use crate::frame::{MAX_VALUE_SIZE, put_parameter};
@@ -33,7 +33,7 @@ pub struct UnknownParameter {
     pub value: Vec<u8>,
 }
 
-#[tactic(auto, unfolding(crate::specs::UnknownParameter::unknown_parameter_at))]
+#[tactic(auto, unfolding(crate::specs::UnknownParameter::read))]
 impl UnknownParameter {
     /// A parameter or cause of this type that holds these bytes. It takes no memory.
     pub fn new(typ: u16, value: Vec<u8>) -> UnknownParameter
@@ -45,14 +45,14 @@ impl UnknownParameter {
 
     /// Keeps a parameter of any type, and copies its value; `OutOfMemory` is its only error.
     pub fn try_from(alloc: Global, raw: RawParameter) -> Result<Self, ChunkParseError>
-        ensures { Gives IfMeant unknown_parameter_view result (unknown_parameter_at raw.entry.typ raw.entry.value.now) }
+        ensures { Gives IfMeant kind.view result (kind.read raw.entry.typ raw.entry.value.now) }
     {
         Ok(UnknownParameter::build(alloc, raw.typ, raw.value)?)
     }
 
     /// Copies the value.
     pub fn build(alloc: Global, typ: u16, value: &[u8]) -> Result<Self, AllocError>
-        ensures { Builds unknown_parameter_view result (unknown_parameter_at typ value.now) }
+        ensures { Builds kind.view result (kind.read typ value.now) }
     {
         Ok(UnknownParameter {
             typ,
@@ -62,11 +62,11 @@ impl UnknownParameter {
 }
 
 impl SerializableTlv for UnknownParameter {
-    ghost tlv = { λ p. unknown_parameter_tlv (unknown_parameter_view p) };
+    ghost tlv = { λ p. (kind.format (kind.view p)).tlv };
 
-    ghost is_encodable = { λ p. IsEncodable (unknown_parameter_tlv (unknown_parameter_view p)) };
+    ghost is_encodable = { λ p. IsEncodable (kind.format (kind.view p)).tlv };
 
-    ghost image_length = { λ p fits. length-typed_tlv p.typ p.value.items };
+    ghost image_length = { λ p fits. length-format (kind.format (kind.view p)) };
 
     ghost size_bound = { λ p fits. fits };
 
@@ -84,7 +84,7 @@ impl SerializableTlv for UnknownParameter {
 }
 
 impl fmt::Display for UnknownParameter {
-    ghost output = { λ p. Some (unknown_parameter_text (unknown_parameter_view p)) };
+    ghost output = { λ p. Some (kind.format (kind.view p)).text };
 
     fn fmt<W: fmt::Write>(&self, f: &mut fmt::Formatter<W>) -> fmt::Result {
         let typ = self.typ;

@@ -11,11 +11,10 @@
 //! ```
 
 ghost use Rattle.std.specs.Prelude.{◌≡◌, ◌≢◌, ◌↔◌, Some, Ok, IsOk, IsErrOf};
-ghost use Rattle.std.specs.Int.{w32, to_be_bytes};
 ghost use Rattle.dcsctp_tlv.specs.Image.{IsEncodable};
 ghost use Rattle.dcsctp_tlv.specs.Reading.{Gives, Never, Passes};
-ghost use Rattle.dcsctp_tlv.specs.Length.{length-typed_tlv};
-ghost use Rattle.dcsctp_tlv.specs.ZeroChecksumAcceptable.{zero_checksum_acceptable_at, zero_checksum_acceptable_tlv, zero_checksum_acceptable_text, zero_checksum_acceptable_view};
+ghost use Rattle.dcsctp_tlv.specs.Length.{length-format};
+ghost use Rattle.dcsctp_tlv.specs.ZeroChecksumAcceptable as kind;
 
 use crate::error::ChunkParseError;
 use crate::frame::put_parameter;
@@ -35,7 +34,7 @@ pub struct ZeroChecksumAcceptableParameter {
     pub method: ZeroChecksumAlternateErrorDetectionMethod,
 }
 
-#[tactic(auto, unfolding(crate::specs::ZeroChecksumAcceptable::zero_checksum_acceptable_at))]
+#[tactic(auto, unfolding(crate::specs::ZeroChecksumAcceptable::read))]
 impl ZeroChecksumAcceptableParameter {
     /// Reads the parameter; no memory is taken, and every method is accepted.
     ///
@@ -43,7 +42,8 @@ impl ZeroChecksumAcceptableParameter {
     /// bytes.
     pub fn try_from(raw: RawParameter) -> Result<Self, ChunkParseError>
         ensures other { IsErrOf result ChunkParseError.InvalidType ↔ (raw.entry.typ ≢ PARAMETER_TYPE) }
-        ensures own { raw.entry.typ ≡ PARAMETER_TYPE → Gives Never zero_checksum_acceptable_view result (zero_checksum_acceptable_at raw.entry.value.now) }
+        ensures own { raw.entry.typ ≡ PARAMETER_TYPE →
+            Gives Never kind.view result (kind.read raw.entry.value.now) }
     {
         if raw.typ != PARAMETER_TYPE {
             return Err(ChunkParseError::InvalidType);
@@ -54,7 +54,7 @@ impl ZeroChecksumAcceptableParameter {
 
     /// `InvalidLength` exactly where the value hasn't 4 bytes.
     pub(crate) fn check(value: &[u8]) -> Result<(), ChunkParseError>
-        ensures { Passes result (zero_checksum_acceptable_at value.now) }
+        ensures { Passes result (kind.read value.now) }
     {
         if value.len() != 4 {
             return Err(ChunkParseError::InvalidLength);
@@ -64,8 +64,8 @@ impl ZeroChecksumAcceptableParameter {
 
     /// What the value means.
     pub(crate) fn build(value: &[u8]) -> Self
-        requires { IsOk (zero_checksum_acceptable_at value.now) }
-        ensures { zero_checksum_acceptable_at value.now ≡ Ok (zero_checksum_acceptable_view result) }
+        requires { IsOk (kind.read value.now) }
+        ensures { kind.read value.now ≡ Ok (kind.view result) }
     {
         ZeroChecksumAcceptableParameter {
             method: ZeroChecksumAlternateErrorDetectionMethod(read_u32_be(value)),
@@ -74,11 +74,11 @@ impl ZeroChecksumAcceptableParameter {
 }
 
 impl SerializableTlv for ZeroChecksumAcceptableParameter {
-    ghost tlv = { λ p. zero_checksum_acceptable_tlv (zero_checksum_acceptable_view p) };
+    ghost tlv = { λ p. (kind.format (kind.view p)).tlv };
 
-    ghost is_encodable = { λ p. IsEncodable (zero_checksum_acceptable_tlv (zero_checksum_acceptable_view p)) };
+    ghost is_encodable = { λ p. IsEncodable (kind.format (kind.view p)).tlv };
 
-    ghost image_length = { λ p fits. length-typed_tlv 0x8001 (to_be_bytes w32 (zero_checksum_acceptable_view p)) };
+    ghost image_length = { λ p fits. length-format (kind.format (kind.view p)) };
 
     ghost size_bound = { λ p fits. fits };
 
@@ -96,7 +96,7 @@ impl SerializableTlv for ZeroChecksumAcceptableParameter {
 }
 
 impl fmt::Display for ZeroChecksumAcceptableParameter {
-    ghost output = { λ p. Some (zero_checksum_acceptable_text (zero_checksum_acceptable_view p)) };
+    ghost output = { λ p. Some (kind.format (kind.view p)).text };
 
     fn fmt<W: fmt::Write>(&self, f: &mut fmt::Formatter<W>) -> fmt::Result {
         let method = self.method.0;

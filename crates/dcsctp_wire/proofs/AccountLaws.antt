@@ -9,12 +9,12 @@ use Rattle.dcsctp_tlv.proofs.KindLaws.{of_map_ok}
 use Rattle.dcsctp_tlv.specs.Frame.{Item, AreItems, lenient}
 use Rattle.dcsctp_tlv.specs.Level.{Row, plain, as_row, map_ok, MeansTrees}
 use Rattle.dcsctp_tlv.specs.Image.{size_of, list_size}
-use Rattle.dcsctp_tlv.specs.Parameter.{ParameterTree, parameters, parameter_tlv}
+use Rattle.dcsctp_tlv.specs.Parameter.{ParameterTree, parameters, tlv as parameter_tlv}
 use Rattle.dcsctp_tlv.proofs.Forms.{picked}
 use Rattle.dcsctp_tlv.proofs.Accounts.{SameSpace, Accounts, plain_account, all_account, list_account}
 use Rattle.dcsctp_tlv.proofs.Counts.{Counts, list_count, total-one}
 use Rattle.dcsctp_tlv.proofs.ParameterLaws.{parameters_account, parameters_count}
-use Rattle.dcsctp_cause.specs.Cause.{CauseTree, causes, cause_tlv}
+use Rattle.dcsctp_cause.specs.Cause.{CauseTree, causes, tlv as cause_tlv}
 use Rattle.dcsctp_cause.specs.Text.{IsTextKept}
 use Rattle.dcsctp_cause.proofs.CauseLaws.{causes_account, causes_count}
 use Rattle.dcsctp_chunk.proofs.Laws.{data_keeps_size, idata_keeps_size, shutdown_keeps_size, shutdown_ack_keeps_size, shutdown_complete_keeps_size, cookie_echo_keeps_size, cookie_ack_keeps_size, unknown_keeps_size}

@@ -6,16 +6,14 @@ use Rattle.std.proofs.lemmas.Bool.{le-leb, eqb-false, ne_eqb}
 use Rattle.std.proofs.lemmas.Nat.{from_be_bytes-to_be_bytes_2, from_be_bytes-to_be_bytes_4}
 use Rattle.dcsctp_tlv.specs.Level.{plain, as_row, map_ok, MeansTrees}
 use Rattle.dcsctp_tlv.specs.Image.{zeroed, image_of, list_image, IsEncodable}
-use Rattle.dcsctp_tlv.specs.Parameter.{ParameterTree, parameters, parameter_tlv, length-parameter}
-use Rattle.dcsctp_tlv.specs.WellFormedParameter.{IsParameterInWidth, IsParameterWellFormed}
+use Rattle.dcsctp_tlv.specs.Parameter.{ParameterTree, parameters, tlv as parameter_tlv, IsInWidth as IsParameterInWidth, IsWellFormed as IsParameterWellFormed}
 use Rattle.dcsctp_tlv.proofs.KindLaws.{of_ok}
 use Rattle.dcsctp_tlv.proofs.Listed.{listed_sized}
 use Rattle.dcsctp_tlv.proofs.ReadsBack.{ReadsBack, nested_reads_back, zeroed-solid}
-use Rattle.dcsctp_tlv.proofs.ParameterLaws.{IsGoodParameter, good_parameters, parameters_read_back, parameters_form}
+use Rattle.dcsctp_tlv.proofs.ParameterLaws.{IsGoodParameter, length-parameter, good_parameters, parameters_read_back, parameters_form}
 use Rattle.dcsctp_tlv.proofs.Forms.{FormsTrees, FormsRow, picked, plain_forms, list_formed, nil_means}
-use Rattle.dcsctp_cause.specs.Cause.{CauseTree, causes, cause_tlv, length-cause}
-use Rattle.dcsctp_cause.specs.WellFormedCause.{IsCauseInWidth, IsCauseWellFormed}
-use Rattle.dcsctp_cause.proofs.CauseLaws.{IsGoodCause, good_causes, causes_read_back, causes_form}
+use Rattle.dcsctp_cause.specs.Cause.{CauseTree, causes, tlv as cause_tlv, IsInWidth as IsCauseInWidth, IsWellFormed as IsCauseWellFormed}
+use Rattle.dcsctp_cause.proofs.CauseLaws.{IsGoodCause, length-cause, good_causes, causes_read_back, causes_form}
 use Rattle.dcsctp_chunk.specs.Flags.{flag_byte}
 use Rattle.dcsctp_chunk.specs.Unknown.{UnknownTree, unknown_at}
 use Rattle.dcsctp_chunk.proofs.FlagLaws.{one_again}

@@ -3,8 +3,7 @@ use Rattle.std.proofs.Common.{◌≡◌, ℕ, List, [], ◌∷◌, ◌++◌, ref
 use Rattle.std.specs.Prelude.{replicate}
 use Rattle.std.specs.List.{flat_map}
 use Rattle.dcsctp_tlv.specs.Image.{zeroed, gap, Tlv, image_of, size_of, IsEncodable, listed_tlv}
-use Rattle.dcsctp_tlv.specs.Parameter.{ParameterTree, parameter_tlv}
-use Rattle.dcsctp_tlv.specs.WellFormedParameter.{kept_parameter, kept_parameters}
+use Rattle.dcsctp_tlv.specs.Parameter.{ParameterTree, tlv as parameter_tlv, kept as kept_parameter, all_kept as kept_parameters}
 use Rattle.dcsctp_tlv.proofs.Kept.{listed_tlv-kept}
 use Rattle.dcsctp_tlv.proofs.ParameterLaws.{kept_parameter_tlv, kept_parameters_formed, kept_parameters_width}
 use Rattle.dcsctp_chunk.proofs.Laws.{data_kept_tlv, data_kept_formed, data_kept_width, idata_kept_tlv, idata_kept_formed, idata_kept_width}

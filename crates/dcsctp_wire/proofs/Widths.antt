@@ -44,8 +44,8 @@ use Rattle.dcsctp_tlv.specs.declared.skipped_stream.SkippedStream.TheVariants as
 use Rattle.dcsctp_tlv.specs.Fields.{stream_numbers}
 use Rattle.dcsctp_tlv.specs.ReconfigurationResponse.{tsn_number}
 use Rattle.dcsctp_tlv.specs.Parameter as parameters
-use Rattle.dcsctp_tlv.specs.UnknownParameter.{unknown_parameter_view, IsUnknownParameterInWidth}
-use Rattle.dcsctp_tlv.specs.WellFormedParameter.{IsParameterInWidth}
+use Rattle.dcsctp_tlv.specs.UnknownParameter.{view as unknown_parameter_view, IsInWidth as IsUnknownParameterInWidth}
+use Rattle.dcsctp_tlv.specs.Parameter.{IsInWidth as IsParameterInWidth}
 use Rattle.dcsctp_cause.specs.contracts.error_causes.ErrorCause as ErrorCause
 use Rattle.dcsctp_cause.specs.contracts.unrecognized_chunk_error_cause.UnrecognizedChunkErrorCause as UnrecognizedChunkErrorCause
 use Rattle.dcsctp_cause.specs.contracts.no_user_data_error_cause.NoUserDataErrorCause as NoUserDataErrorCause
@@ -55,7 +55,7 @@ use Rattle.dcsctp_cause.specs.contracts.missing_mandatory_parameter_error_cause.
 use Rattle.dcsctp_cause.specs.declared.error_causes.ErrorCause.TheVariants as cause_kinds
 use Rattle.dcsctp_cause.specs.Cause as causes
 use Rattle.dcsctp_cause.specs.Text.{IsText}
-use Rattle.dcsctp_cause.specs.WellFormedCause.{IsCauseInWidth}
+use Rattle.dcsctp_cause.specs.Cause.{IsInWidth as IsCauseInWidth}
 use Rattle.dcsctp_chunk.specs.contracts.data.Data as Data
 use Rattle.dcsctp_chunk.specs.contracts.data_chunk.DataChunk as DataChunk
 use Rattle.dcsctp_chunk.specs.contracts.idata_chunk.IDataChunk as IDataChunk

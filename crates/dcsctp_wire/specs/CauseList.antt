@@ -3,7 +3,7 @@
 use Rattle.std.specs.Prelude.{ℕ, Bool, true, false, List, [], ◌∷◌, ◌++◌, ◌==◌, if◌then◌else◌, length, codes}
 use Rattle.dcsctp_tlv.specs.Level.{Row, listed}
 use Rattle.dcsctp_tlv.specs.Image.{Tlv, listed_tlv}
-use Rattle.dcsctp_cause.specs.Cause.{CauseTree, causes, cause_tlv}
+use Rattle.dcsctp_cause.specs.Cause.{CauseTree, causes, tlv as cause_tlv}
 use Rattle.dcsctp_cause.specs.Cause as cause
 use Rattle.dcsctp_chunk.specs.Flags.{is_set, flag_byte}
 use Rattle.dcsctp_wire.specs.declared.packet.abort_chunk.AbortChunk.{AbortChunk}

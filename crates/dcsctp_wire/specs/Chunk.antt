@@ -4,10 +4,12 @@ use Rattle.std.specs.Int.{w32, to_be_bytes}
 use Rattle.dcsctp_tlv.specs.Frame.{lenient}
 use Rattle.dcsctp_tlv.specs.Level.{Row, plain, as_row, pick, Level, map_ok}
 use Rattle.dcsctp_tlv.specs.Image.{Tlv, size_of, image_of, IsEncodable}
-use Rattle.dcsctp_tlv.specs.Parameter.{ParameterTree, parameter_tlv, length-parameter}
+use Rattle.dcsctp_tlv.specs.Parameter.{ParameterTree, tlv as parameter_tlv}
+use Rattle.dcsctp_tlv.proofs.ParameterLaws.{length-parameter}
 use Rattle.dcsctp_tlv.proofs.Images.{length-solid_tlv}
 use Rattle.dcsctp_tlv.proofs.Listed.{length-listed_tlv}
-use Rattle.dcsctp_cause.specs.Cause.{CauseTree, cause_tlv, length-cause}
+use Rattle.dcsctp_cause.specs.Cause.{CauseTree, tlv as cause_tlv}
+use Rattle.dcsctp_cause.proofs.CauseLaws.{length-cause}
 use Rattle.dcsctp_chunk.specs.CookieAck.{cookie_ack_at, cookie_ack_tlv, cookie_ack_text}
 use Rattle.dcsctp_chunk.specs.CookieEcho.{cookie_echo_at, cookie_echo_tlv, cookie_echo_text, cookie_echo_view}
 use Rattle.dcsctp_chunk.specs.Data.{DataChunkTree, user_data_flags}

@@ -7,9 +7,8 @@ use Rattle.std.specs.Int.{w16, w32, to_be_bytes}
 use Rattle.dcsctp_tlv.specs.Number.{number16, number32}
 use Rattle.dcsctp_tlv.specs.Level.{Row, listed}
 use Rattle.dcsctp_tlv.specs.Image.{Tlv, listed_tlv}
-use Rattle.dcsctp_tlv.specs.Parameter.{ParameterTree, parameters, parameter_tlv}
+use Rattle.dcsctp_tlv.specs.Parameter.{ParameterTree, parameters, tlv as parameter_tlv, IsInWidth as IsParameterInWidth}
 use Rattle.dcsctp_tlv.specs.Parameter as parameter
-use Rattle.dcsctp_tlv.specs.WellFormedParameter.{IsParameterInWidth}
 use Rattle.dcsctp_wire.specs.declared.packet.init.InitFields.{InitFields}
 use Rattle.dcsctp_wire.specs.declared.packet.init_chunk.InitChunk.{InitChunk}
 use Rattle.dcsctp_wire.specs.declared.packet.init_ack_chunk.InitAckChunk.{InitAckChunk}

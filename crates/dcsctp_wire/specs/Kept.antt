@@ -1,8 +1,8 @@
 -- What a chunk that is written reads back as.
 use Rattle.std.specs.Prelude.{◌≢◌, List, [], map}
 use Rattle.std.specs.List.{AllByRecursion}
-use Rattle.dcsctp_tlv.specs.WellFormedParameter.{IsParameterTyped, kept_parameters}
-use Rattle.dcsctp_cause.specs.WellFormedCause.{IsCauseWellFormed}
+use Rattle.dcsctp_tlv.specs.Parameter.{IsTyped as IsParameterTyped, all_kept as kept_parameters}
+use Rattle.dcsctp_cause.specs.Cause.{IsWellFormed as IsCauseWellFormed}
 use Rattle.dcsctp_chunk.specs.DataChunk.{kept_data}
 use Rattle.dcsctp_chunk.specs.IDataChunk.{kept_idata}
 use Rattle.dcsctp_chunk.specs.CookieEcho.{IsCookieEchoWellFormed}

@@ -3,7 +3,7 @@
 use Rattle.std.specs.Prelude.{ℕ, true, List, [], codes}
 use Rattle.dcsctp_tlv.specs.Level.{Row, listed}
 use Rattle.dcsctp_tlv.specs.Image.{Tlv, listed_tlv}
-use Rattle.dcsctp_tlv.specs.Parameter.{ParameterTree, parameters, parameter_tlv}
+use Rattle.dcsctp_tlv.specs.Parameter.{ParameterTree, parameters, tlv as parameter_tlv}
 use Rattle.dcsctp_tlv.specs.Parameter as parameter
 use Rattle.dcsctp_wire.specs.declared.packet.heartbeat_request_chunk.HeartbeatRequestChunk.{HeartbeatRequestChunk}
 use Rattle.dcsctp_wire.specs.declared.packet.heartbeat_ack_chunk.HeartbeatAckChunk.{HeartbeatAckChunk}

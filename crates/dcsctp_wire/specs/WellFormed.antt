@@ -1,8 +1,8 @@
 -- Meanings that a packet can have.
 use Rattle.std.specs.Prelude.{◌≢◌, ◌<◌, ◌^◌, ℕ, []}
 use Rattle.std.specs.List.{AllByRecursion}
-use Rattle.dcsctp_tlv.specs.WellFormedParameter.{IsParameterInWidth, IsParameterWellFormed}
-use Rattle.dcsctp_cause.specs.WellFormedCause.{IsCauseInWidth, IsCauseWellFormed}
+use Rattle.dcsctp_tlv.specs.Parameter.{IsInWidth as IsParameterInWidth, IsWellFormed as IsParameterWellFormed}
+use Rattle.dcsctp_cause.specs.Cause.{IsInWidth as IsCauseInWidth, IsWellFormed as IsCauseWellFormed}
 use Rattle.dcsctp_chunk.specs.DataChunk.{IsDataInWidth, IsDataWellFormed}
 use Rattle.dcsctp_chunk.specs.IDataChunk.{IsIDataInWidth, IsIDataWellFormed}
 use Rattle.dcsctp_chunk.specs.ForwardTsn.{IsForwardTsnInWidth, IsForwardTsnWellFormed}

@@ -15,7 +15,8 @@ ghost use Rattle.dcsctp_tlv.specs.Image.{IsEncodable};
 ghost use Rattle.dcsctp_tlv.specs.Level.{HasMeaning, MeansParts};
 ghost use Rattle.dcsctp_tlv.specs.Reading.{Answers, Finds};
 ghost use Rattle.dcsctp_tlv.proofs.Listed.{length-listed_tlv};
-ghost use Rattle.dcsctp_cause.specs.Cause.{cause_tlv, length-cause};
+ghost use Rattle.dcsctp_cause.specs.Cause.{tlv as cause_tlv};
+ghost use Rattle.dcsctp_cause.proofs.CauseLaws.{length-cause};
 ghost use Rattle.dcsctp_chunk.specs.Flags.{flag_byte};
 ghost use Rattle.dcsctp_wire.specs.CauseList.{abort_row, abort_tlv, abort_text, abort_view};
 

@@ -15,7 +15,8 @@ ghost use Rattle.dcsctp_tlv.specs.Image.{IsEncodable};
 ghost use Rattle.dcsctp_tlv.specs.Level.{HasMeaning, MeansParts};
 ghost use Rattle.dcsctp_tlv.specs.Reading.{Answers, Finds};
 ghost use Rattle.dcsctp_tlv.proofs.Listed.{length-listed_tlv};
-ghost use Rattle.dcsctp_cause.specs.Cause.{cause_tlv, length-cause};
+ghost use Rattle.dcsctp_cause.specs.Cause.{tlv as cause_tlv};
+ghost use Rattle.dcsctp_cause.proofs.CauseLaws.{length-cause};
 ghost use Rattle.dcsctp_wire.specs.CauseList.{error_row, error_tlv, error_text, error_view};
 
 use dcsctp_cause::error_causes::{ErrorCause, error_cause_build, error_cause_check};

@@ -1,0 +1,30 @@
+-- What a kind owes the laws of its level, where one record is all that the tables say of a tree.
+use Rattle.std.proofs.Common.{◌≡◌, ℕ, List, Result, Ok}
+use Rattle.dcsctp_tlv.specs.Fault.{Fault}
+use Rattle.dcsctp_tlv.specs.Format.{Format}
+use Rattle.dcsctp_tlv.specs.Image.{solid, IsEncodable}
+use Rattle.dcsctp_tlv.proofs.KindLaws.{KindLaws, KeepsSize, by_value}
+use Rattle.dcsctp_tlv.proofs.ReadsBack.{zeroed-solid}
+
+abbrev pub FormatLaws : {T : Type 0} → (List ℕ → Result T Fault) → (T → Format) → Type 0
+FormatLaws read format =
+    KindLaws (by_value read) (λ t. (format t).tlv) (λ t. (format t).IsInWidth)
+    (λ t. (format t).IsWellFormed)
+
+-- what is read is written with the size that it was read from
+abbrev pub Keeps : {T : Type 0} → (List ℕ → Result T Fault) → (T → Format) → Type 0
+Keeps read format = KeepsSize (by_value read) (λ t. (format t).tlv)
+
+-- a value without holes
+pub format_laws : {T : Type 0} (read : List ℕ → Result T Fault) (format : T → Format)
+    (bytes : T → List ℕ)
+    → ((t : T) → (format t).tlv.value ≡ solid (bytes t))
+    → ((t : T) → (format t).IsInWidth → (format t).IsWellFormed → IsEncodable (format t).tlv
+    → read (bytes t) ≡ Ok t)
+    → ((value : List ℕ) (t : T) → read value ≡ Ok t → (format t).IsWellFormed)
+    → FormatLaws read format
+format_laws read format bytes same back formed = record {
+  sized = λ t. (format t).sized;
+  back = λ t width form fits. rw (same t, zeroed-solid (bytes t)) (back t width form fits);
+  formed = λ first second value t e. formed value t e;
+}

@@ -1,0 +1,20 @@
+-- What the tables say of a tree, each kind for its own trees: all but how it is read.
+use Rattle.std.specs.Prelude.{◌≡◌, ℕ, ◌/◌, ◌%◌, List, length}
+use Rattle.dcsctp_tlv.specs.Image.{solid, Tlv}
+
+pub record Format : Type 1 where
+  -- how it is written (RFC 9260 sections 3.2.1 and 3.3.10), and that its value has the size that
+  -- is counted
+  pub tlv : Tlv
+  pub sized : length tlv.value ≡ tlv.value_size
+  -- how it is printed
+  pub text : List ℕ
+  -- every number lies in its field's width, and a text is one
+  pub IsInWidth : Type 0
+  -- the table can mean it
+  pub IsWellFormed : Type 0
+
+-- a parameter or a cause: its type, the size of its value, and the value
+abbrev pub sized_tlv : ℕ → ℕ → List ℕ → Tlv
+sized_tlv typ size bytes =
+    record { first = typ / 256; second = typ % 256; value = solid bytes; value_size = size }
