@@ -25,10 +25,10 @@ use crate::protocol_violation_error_cause::{self, ProtocolViolationErrorCause};
 use crate::unrecognized_chunk_error_cause::{self, UnrecognizedChunkErrorCause};
 use crate::user_initiated_abort_error_cause::{self, UserInitiatedAbortErrorCause};
 use dcsctp_tlv::error::ChunkParseError;
-use dcsctp_tlv::raw_parameter::RawParameter;
+use dcsctp_tlv::parameter::raw_parameter::RawParameter;
+use dcsctp_tlv::parameter::unknown_parameter::UnknownParameter;
 use dcsctp_tlv::reader::{ReadableTlv, list_build_counted, list_check, list_from_bytes};
 use dcsctp_tlv::tlv::{ListedTlv, SerializableTlv};
-use dcsctp_tlv::unknown_parameter::UnknownParameter;
 use std::alloc::{AllocError, Global};
 use std::fmt;
 

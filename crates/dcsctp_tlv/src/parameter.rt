@@ -10,6 +10,17 @@
 //! +-+-+-+-+-+-+-+-+-+-+-+-+-+-+-+-+-+-+-+-+-+-+-+-+-+-+-+-+-+-+-+-+
 //! ```
 
+pub mod forward_tsn_supported_parameter;
+pub mod heartbeat_info_parameter;
+pub mod incoming_ssn_reset_request_parameter;
+pub mod outgoing_ssn_reset_request_parameter;
+pub mod raw_parameter;
+pub mod reconfiguration_response_parameter;
+pub mod state_cookie_parameter;
+pub mod supported_extensions_parameter;
+pub mod unknown_parameter;
+pub mod zero_checksum_acceptable_parameter;
+
 ghost use Rattle.std.specs.Prelude.{◌≡◌, ◌≢◌, ◌≤◌, ◌*◌, [], length, vec_len, vec_capacity, IsOk, IfOk, IsErrOf, refl};
 ghost use Rattle.dcsctp_tlv.specs.Image.{IsEncodable};
 ghost use Rattle.dcsctp_tlv.specs.Level.{HasMeaning, MeansTrees, MeansSome, MeansMany, HasFault};
@@ -19,19 +30,24 @@ ghost use Rattle.dcsctp_tlv.specs.Parameter as parameter;
 ghost use Rattle.dcsctp_tlv.specs.Parameter.{ParameterTree, parameters, TakesNoMemory, view, views};
 
 use crate::error::ChunkParseError;
-use crate::forward_tsn_supported_parameter::{self, ForwardTsnSupportedParameter};
-use crate::heartbeat_info_parameter::{self, HeartbeatInfoParameter};
-use crate::incoming_ssn_reset_request_parameter::{self, IncomingSsnResetRequestParameter};
-pub use crate::list::{parameters_encodable, parameters_serialize_to, parameters_serialized_size};
-use crate::outgoing_ssn_reset_request_parameter::{self, OutgoingSsnResetRequestParameter};
-pub use crate::raw_parameter::{PARAMETER_HEADER_SIZE, RawParameter, write_parameter_header};
+pub use crate::list::{
+    list_encodable as parameters_encodable, list_size as parameters_serialized_size,
+    put_list as parameters_serialize_to,
+};
+use crate::parameter::forward_tsn_supported_parameter::ForwardTsnSupportedParameter;
+use crate::parameter::heartbeat_info_parameter::HeartbeatInfoParameter;
+use crate::parameter::incoming_ssn_reset_request_parameter::IncomingSsnResetRequestParameter;
+use crate::parameter::outgoing_ssn_reset_request_parameter::OutgoingSsnResetRequestParameter;
+pub use crate::parameter::raw_parameter::{
+    PARAMETER_HEADER_SIZE, RawParameter, write_parameter_header,
+};
+use crate::parameter::reconfiguration_response_parameter::ReconfigurationResponseParameter;
+use crate::parameter::state_cookie_parameter::StateCookieParameter;
+use crate::parameter::supported_extensions_parameter::SupportedExtensionsParameter;
+use crate::parameter::unknown_parameter::UnknownParameter;
+use crate::parameter::zero_checksum_acceptable_parameter::ZeroChecksumAcceptableParameter;
 use crate::reader::{ReadableTlv, list_build_counted, list_check, list_from_bytes};
-use crate::reconfiguration_response_parameter::{self, ReconfigurationResponseParameter};
-use crate::state_cookie_parameter::{self, StateCookieParameter};
-use crate::supported_extensions_parameter::{self, SupportedExtensionsParameter};
 use crate::tlv::{ListedTlv, SerializableTlv};
-use crate::unknown_parameter::UnknownParameter;
-use crate::zero_checksum_acceptable_parameter::{self, ZeroChecksumAcceptableParameter};
 use std::alloc::{AllocError, Global};
 
 /// SSN/TSN Reset Request (RFC 6525 section 4.3), kept as it is.

@@ -28,7 +28,7 @@ ghost use Rattle.dcsctp_wire.specs.declared.packet.sctp_packet.PacketParseError.
 pub use crate::packet::builder::SctpPacketBuilder;
 use crate::packet::chunk::Chunk;
 use dcsctp_tlv::error::ChunkParseError;
-use dcsctp_tlv::list::{parameters_encodable, parameters_serialize_to, parameters_serialized_size};
+use dcsctp_tlv::list::{list_encodable, list_size, put_list};
 use dcsctp_tlv::number::{put_u16, put_u32, read_u16_be, read_u32_be, round_up_to_4};
 use dcsctp_tlv::reader::{list_build, list_check};
 use dcsctp_types::api::{
@@ -196,11 +196,10 @@ impl SctpPacket {
     pub fn fits(&self) -> bool
         ensures { IsTrue result ↔ Fits (meaning_view self.now) }
     {
-        if !parameters_encodable(&self.chunks) {
+        if !list_encodable(&self.chunks) {
             return false;
         }
-        round_up_to_4(parameters_serialized_size(&self.chunks))
-            <= MAX_CANONICAL_SIZE - COMMON_HEADER_SIZE
+        round_up_to_4(list_size(&self.chunks)) <= MAX_CANONICAL_SIZE - COMMON_HEADER_SIZE
     }
 
     /// The canonical packet: the ports and the tag, a checksum of 0, and each chunk with zeros up
@@ -277,7 +276,7 @@ fn canonical_of(packet: &SctpPacket, alloc: Global) -> Result<Vec<u8>, AllocErro
     requires { Fits (meaning_view packet.now) }
     ensures { IfOk result (λ bytes. bytes.items ≡ canonical (meaning_view packet.now)) }
 {
-    let body_size = round_up_to_4(parameters_serialized_size(&packet.chunks));
+    let body_size = round_up_to_4(list_size(&packet.chunks));
     let mut bytes = vec![in alloc; 0; COMMON_HEADER_SIZE + body_size]?;
     write_canonical(packet, &mut bytes);
     Ok(bytes)
@@ -311,5 +310,5 @@ fn write_canonical(packet: &SctpPacket, output: &mut [u8])
         packet.common_header.destination_port,
         packet.common_header.verification_tag,
     ));
-    parameters_serialize_to(&packet.chunks, body);
+    put_list(&packet.chunks, body);
 }
