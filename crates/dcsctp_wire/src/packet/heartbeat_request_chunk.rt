@@ -66,7 +66,8 @@ impl HeartbeatRequestChunk {
 
     /// Checks the value, and builds what it means.
     fn read(alloc: Global, value: &[u8]) -> Result<Self, ChunkParseError>
-        ensures answer { Answers result (λ c. parameter_list_row.means value.now (heartbeat_request_view c))
+        ensures answer { Answers result
+            (λ c. parameter_list_row.means value.now (heartbeat_request_view c))
             (parameter_list_row.faults value.now) }
         ensures memory { IsErrOf result ChunkParseError.OutOfMemory →
             HasMeaning parameter_list_row value.now × (value.now ≢ []) }

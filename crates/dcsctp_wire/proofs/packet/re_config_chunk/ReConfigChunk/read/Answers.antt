@@ -3,7 +3,8 @@ use Rattle.dcsctp_tlv.proofs.Checks.{row_exactly}
 use Rattle.dcsctp_wire.proofs.Packets.{parameter_list_lawful}
 use Rattle.dcsctp_wire.proofs.packet.re_config_chunk.ReConfigChunk.read.Goals as goal
 
-pub returns-in_err-parameter_list_check-clause-exact : goal.returns-in_err-parameter_list_check-clause-exact
+pub returns-in_err-parameter_list_check-clause-exact :
+    goal.returns-in_err-parameter_list_check-clause-exact
 returns-in_err-parameter_list_check-clause-exact c =
     row_exactly parameter_list_lawful _ c.type_inv.value (search rules)
 
