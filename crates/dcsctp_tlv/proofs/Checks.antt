@@ -1,7 +1,8 @@
 -- A check of a list, and the build after it: what both have gone over, and what is left.
-use Rattle.std.proofs.Common.{◌≡◌, ◌≢◌, ℕ, suc, ◌+◌, ◌*◌, ◌≤◌, true, false, Result, Ok, Err, ◌⊎◌, inl, inr, List, [], ◌∷◌, ◌++◌, length, refl, sym, ap, subst, ◌∙◌, arith}
+use Rattle.std.proofs.Common.{◌≡◌, ◌≢◌, ℕ, suc, ◌+◌, ◌*◌, ◌≤◌, true, false, Result, Ok, Err, ◌⊎◌, inl, inr, List, [], ◌∷◌, ◌++◌, length, refl, sym, ap, subst, ◌∙◌, arith, get_or, Fits}
 use Rattle.std.specs.Prelude.{◌↔◌, IsOk, IsErrOf}
 use Rattle.std.specs.List.{flat_map}
+use Rattle.std.specs.Int.{w8}
 use Rattle.std.proofs.lemmas.List.{append-nil, get_or-drop, length-append, length-drop}
 use Rattle.dcsctp_tlv.specs.declared.error.ChunkParseError.{ChunkParseError}
 use Rattle.dcsctp_tlv.specs.declared.error.ChunkParseError.TheVariants.{InvalidLength, InvalidType, InvalidPadding, InvalidValue, OutOfMemory}
@@ -9,7 +10,7 @@ use Rattle.dcsctp_tlv.specs.Fault.{Fault, Length, Padding, Value}
 use Rattle.dcsctp_tlv.specs.Number.{AreBytes}
 use Rattle.dcsctp_tlv.specs.Count.{total}
 use Rattle.dcsctp_tlv.specs.Frame.{padding_size, round_up_to_4, Item, item_bytes, PaddingRule, AreFormed, AreItems, frame_length, BeginsWithFrame, frame_value, frame_padding, frame_rest}
-use Rattle.dcsctp_tlv.specs.Level.{Row, Level, ItemsMean, MeansTrees, MeansMany, MeansCounted, HasFault, no_frame, value, padding, front_row}
+use Rattle.dcsctp_tlv.specs.Level.{Row, Level, HasMeaning, ItemsMean, MeansTrees, MeansMany, MeansCounted, HasFault, no_frame, value, padding, front_row}
 use Rattle.dcsctp_tlv.specs.Reading.{Answers, IsFault, Finds, error_of, ChecksExactly, ReadsExactly}
 use Rattle.dcsctp_tlv.proofs.Items.{front_item, front_length, items_before}
 use Rattle.dcsctp_tlv.proofs.Lists.{Progress, step, finish, fault}
@@ -285,3 +286,13 @@ reads_exactly view means faults single (Err InvalidLength) a memory = told_exact
 reads_exactly view means faults single (Err InvalidPadding) a memory = told_exactly view means faults single InvalidPadding a (Err InvalidPadding) refl
 reads_exactly view means faults single (Err InvalidValue) a memory = told_exactly view means faults single InvalidValue a (Err InvalidValue) refl
 reads_exactly view means faults single (Err InvalidType) a memory = absurd a
+
+-- a value has one answer under a lawful row
+pub row_exactly : {X T : Type 0} {row : Row T} → LawfulRow row → (v : List ℕ)
+    → ((i : ℕ) → Fits w8 (get_or v i 0)) → {view : X → T} {r : Result X ChunkParseError}
+    → Answers r (λ x. row.means v (view x)) (row.faults v)
+      × (IsErrOf r OutOfMemory → HasMeaning row v)
+    → ReadsExactly r view (row.means v) (row.faults v)
+row_exactly {X} {T} {row} law v fits {view} {r} a =
+    let single = row_single row law v (λ i. (fits i).fits) in
+    reads_exactly view (row.means v) (row.faults v) single r a.0 a.1

@@ -23,7 +23,7 @@ ghost use Rattle.dcsctp_tlv.specs.Image.{IsEncodable};
 ghost use Rattle.dcsctp_tlv.specs.Parameter.{tlv as parameter_tlv};
 ghost use Rattle.dcsctp_tlv.proofs.ParameterLaws.{length-parameter};
 ghost use Rattle.dcsctp_tlv.specs.Level.{HasMeaning};
-ghost use Rattle.dcsctp_tlv.specs.Reading.{Answers};
+ghost use Rattle.dcsctp_tlv.specs.Reading.{Answers, ReadsExactly};
 ghost use Rattle.dcsctp_tlv.proofs.Listed.{length-listed_tlv};
 ghost use Rattle.dcsctp_wire.specs.Init.{init_row, init_numbers, init_tlv, init_text, init_view, init_fields_view};
 
@@ -66,12 +66,26 @@ impl InitChunk {
         ensures other { IsErrOf result ChunkParseError.InvalidType ↔ (raw.entry.typ ≢ CHUNK_TYPE) }
         ensures own { raw.entry.typ ≡ CHUNK_TYPE → Answers result (λ c. init_row.means raw.entry.value.now (init_view c)) (init_row.faults raw.entry.value.now) }
         ensures memory { IsErrOf result ChunkParseError.OutOfMemory → HasMeaning init_row raw.entry.value.now × (drop 16 raw.entry.value.now ≢ []) }
+        ensures exact { raw.entry.typ ≡ CHUNK_TYPE → ReadsExactly result init_view
+            (init_row.means raw.entry.value.now) (init_row.faults raw.entry.value.now) }
     {
         if raw.typ != CHUNK_TYPE {
             return Err(ChunkParseError::InvalidType);
         }
-        init_check(raw.value)?;
-        Ok(InitChunk::build(alloc, raw.value)?)
+        InitChunk::read(alloc, raw.value)
+    }
+
+    /// Checks the value, and builds what it means.
+    fn read(alloc: Global, value: &[u8]) -> Result<Self, ChunkParseError>
+        ensures answer { Answers result (λ c. init_row.means value.now (init_view c))
+            (init_row.faults value.now) }
+        ensures memory { IsErrOf result ChunkParseError.OutOfMemory →
+            HasMeaning init_row value.now × (drop 16 value.now ≢ []) }
+        ensures exact { ReadsExactly result init_view
+            (init_row.means value.now) (init_row.faults value.now) }
+    {
+        init_check(value)?;
+        Ok(InitChunk::build(alloc, value)?)
     }
 
     /// What the value means.
