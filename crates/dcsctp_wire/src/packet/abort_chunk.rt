@@ -38,6 +38,7 @@ pub struct AbortChunk {
     /// Whether the packet's verification tag is the receiver's own, sent back to it: the T bit. It
     /// is set where the sender has no association.
     pub tag_reflected: bool,
+    /// Why; none, where the sender gives no reason.
     pub error_causes: Vec<ErrorCause>,
 }
 

@@ -38,6 +38,7 @@ pub const HEADER_SIZE: usize = 4;
 /// An empty list can be written, but isn't read.
 #[derive(Debug, Drop)]
 pub struct ErrorChunk {
+    /// What went wrong; a chunk that was read has at least one.
     pub error_causes: Vec<ErrorCause>,
 }
 

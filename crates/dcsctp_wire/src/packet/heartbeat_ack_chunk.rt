@@ -37,6 +37,7 @@ pub const HEADER_SIZE: usize = 4;
 /// HEARTBEAT ACK (RFC 9260 section 3.3.6).
 #[derive(Debug, Drop)]
 pub struct HeartbeatAckChunk {
+    /// Those of the HEARTBEAT, sent back.
     pub parameters: Vec<Parameter>,
 }
 

@@ -34,6 +34,7 @@ pub const CHUNK_TYPE: u8 = 4;
 /// HEARTBEAT (RFC 9260 section 3.3.5).
 #[derive(Debug, Drop)]
 pub struct HeartbeatRequestChunk {
+    /// The Heartbeat Info, and whatever else the sender put in.
     pub parameters: Vec<Parameter>,
 }
 
