@@ -4,7 +4,7 @@ use Rattle.std.specs.List.{copy_within}
 use Rattle.std.proofs.lemmas.List.{append_assoc, take_more, drop_at, take_more_set, take-append-le, drop-set-lt, length-take-le, length-drop, drop-drop, drop-append-le, take-take, drop-take, take-append-drop, get_or-take, get_or-drop, get_or_append_left}
 use Rattle.std.proofs.Math.Seq.{take-add, take-append_seam}
 use Rattle.std.proofs.lemmas.Bool.{cases_lt}
-use Rattle.std.proofs.lemmas.List.Elements.{All-append, All-drop}
+use Rattle.std.proofs.lemmas.List.Elements.{All-append, All-drop, All-take}
 use Rattle.std.proofs.lemmas.List.Sorted.{IsPermutation-to_front}
 use Rattle.dcsctp_chunk.specs.declared.sack_chunk.GapAckBlock.{GapAckBlock}
 use Rattle.dcsctp_chunk.specs.Cover.{Covers, SameCover}
@@ -138,31 +138,51 @@ copied_back xs i j dest m =
 pub first_part : (front back : List GapAckBlock) (n : ℕ) → length front ≡ n → take n (front ++ back) ≡ front
 first_part front back n e = ap (λ x. take x (front ++ back)) (sym e) ∙ take-append_seam front back
 
--- the runs with one in the place of those that it takes in
-pub put_run : (xs : List GapAckBlock) (run : GapAckBlock) (first last kept : ℕ) → first ≤ last → last ≤ kept → length xs ≡ kept + 1 → length (copy_within xs last kept (first + 1)) ≡ length xs → take (first + 1 + (kept - last)) (set (copy_within xs last kept (first + 1)) first run) ≡ take first (take kept xs) ++ (run ∷ drop last (take kept xs))
-put_run xs run first last kept k l m n =
-    let after = copy_within xs last kept (first + 1) in
-    let mid = take (kept - last) (drop last xs) in
-    let rest = drop (first + 1 + (kept - last)) xs in
+-- the runs with one in the place of those that it takes in, where free places behind them are moved with them
+pub put_run : (xs : List GapAckBlock) (run : GapAckBlock) (first last kept end : ℕ) → first ≤ last → last ≤ kept → kept ≤ end → end < length xs → length (copy_within xs last end (first + 1)) ≡ length xs → take (first + 1 + (kept - last)) (set (copy_within xs last end (first + 1)) first run) ≡ take first (take kept xs) ++ (run ∷ drop last (take kept xs))
+put_run xs run first last kept end k l o m n =
+    let after = copy_within xs last end (first + 1) in
+    let mid = take (end - last) (drop last xs) in
+    let rest = drop (first + 1 + (end - last)) xs in
     let back : last + (kept - last) ≡ kept = omega arith in
-    let kept_mid : mid ≡ drop last (take kept xs) = sym (drop-take last (kept - last) xs) ∙ ap (λ x. drop last (take x xs)) back in
-    let long : length mid ≡ kept - last = length-take-le (kept - last) (drop last xs) (omega (arith, length-drop last xs)) in
+    let long : length mid ≡ end - last = length-take-le (end - last) (drop last xs) (omega (arith, length-drop last xs)) in
     let front : take (first + 1) (set after first run) ≡ take first (take kept xs) ++ (run ∷ []) =
-    take_more_set after first run (omega arith) ∙ ap (λ x. x ++ (run ∷ [])) (copied_front xs last kept first (first + 1) (omega arith) (omega arith) ∙ sym (take-take first kept xs (omega arith))) in
+    take_more_set after first run (omega arith) ∙ ap (λ x. x ++ (run ∷ [])) (copied_front xs last end first (first + 1) (omega arith) (omega arith) ∙ sym (take-take first kept xs (omega arith))) in
     let behind : take (kept - last) (drop (first + 1) (set after first run)) ≡ drop last (take kept xs) =
-    ap (λ x. take (kept - last) x) (drop-set-lt (first + 1) after first run (omega arith) ∙ copied_back xs last kept (first + 1) (omega arith)) ∙ (first_part mid rest (kept - last) long ∙ kept_mid) in
+    ap (λ x. take (kept - last) x) (drop-set-lt (first + 1) after first run (omega arith) ∙ copied_back xs last end (first + 1) (omega arith))
+    ∙ (take-append-le (kept - last) mid rest (omega arith)
+    ∙ (take-take (kept - last) (end - last) (drop last xs) (omega arith)
+    ∙ (sym (drop-take last (kept - last) xs) ∙ ap (λ x. drop last (take x xs)) back))) in
     let joined : (take first (take kept xs) ++ (run ∷ [])) ++ drop last (take kept xs) ≡ take first (take kept xs) ++ (run ∷ drop last (take kept xs)) = simp append_assoc in
     take-add (first + 1) (kept - last) (set after first run) ∙ (ap (λ x. x ++ take (kept - last) (drop (first + 1) (set after first run))) front ∙ (ap (λ x. (take first (take kept xs) ++ (run ∷ [])) ++ x) behind ∙ joined))
 
-pub put_rest : (xs : List GapAckBlock) (run : GapAckBlock) (first last kept : ℕ) → first ≤ last → last ≤ kept → length xs ≡ kept + 1 → drop (first + 1 + (kept - last)) (set (copy_within xs last kept (first + 1)) first run) ≡ drop (first + 1 + (kept - last)) xs
-put_rest xs run first last kept k l m =
-    let after = copy_within xs last kept (first + 1) in
-    let mid = take (kept - last) (drop last xs) in
-    let long : length mid ≡ kept - last = length-take-le (kept - last) (drop last xs) (omega (arith, length-drop last xs)) in
+free_later : (xs : List GapAckBlock) (kept n : ℕ) → kept ≤ n → AreFree (drop kept xs) → AreFree (drop n xs)
+free_later xs kept n l f =
+    let P : GapAckBlock → Type 0 = λ b. b.end ≡ 65535 in
+    let some : kept + (n - kept) ≡ n = omega arith in
+    subst (λ k. AreFree (drop k xs)) some (subst (λ x. AreFree x) (drop-drop (n - kept) kept xs) (All-drop P (n - kept) (drop kept xs) f))
+
+-- behind them all is free
+pub put_free : (xs : List GapAckBlock) (run : GapAckBlock) (first last kept end : ℕ) → first ≤ last → last ≤ kept → kept ≤ end → end < length xs → AreFree (drop kept xs) → kept ≤ first + 1 + (kept - last) → AreFree (drop (first + 1 + (kept - last)) (set (copy_within xs last end (first + 1)) first run))
+put_free xs run first last kept end k l o m f g =
+    let P : GapAckBlock → Type 0 = λ b. b.end ≡ 65535 in
+    let after = copy_within xs last end (first + 1) in
+    let mid = take (end - last) (drop last xs) in
+    let rest = drop (first + 1 + (end - last)) xs in
+    let long : length mid ≡ end - last = length-take-le (end - last) (drop last xs) (omega (arith, length-drop last xs)) in
+    let upto : end - last ≡ (kept - last) + (end - kept) = omega arith in
+    let back : last + (kept - last) ≡ kept = omega arith in
+    let whole : drop (first + 1 + (kept - last)) (set after first run) ≡ drop (kept - last) mid ++ rest =
     drop-set-lt (first + 1 + (kept - last)) after first run (omega arith)
     ∙ (sym (drop-drop (kept - last) (first + 1) after)
-    ∙ (ap (λ x. drop (kept - last) x) (copied_back xs last kept (first + 1) (omega arith))
-    ∙ drop_at mid (drop (first + 1 + (kept - last)) xs) (kept - last) long))
+    ∙ (ap (λ x. drop (kept - last) x) (copied_back xs last end (first + 1) (omega arith))
+    ∙ drop-append-le (kept - last) mid rest (omega arith))) in
+    let moved : drop (kept - last) mid ≡ take (end - kept) (drop kept xs) =
+    ap (λ x. drop (kept - last) (take x (drop last xs))) upto
+    ∙ (drop-take (kept - last) (end - kept) (drop last xs)
+    ∙ ap (λ x. take (end - kept) x) (drop-drop (kept - last) last xs ∙ ap (λ x. drop x xs) back)) in
+    let near : AreFree (drop (kept - last) mid) = subst (λ x. AreFree x) (sym moved) (All-take P (end - kept) (drop kept xs) f) in
+    subst (λ x. AreFree x) (sym whole) (All-append P (drop (kept - last) mid) rest near (free_later xs kept (first + 1 + (end - last)) (omega arith) f))
 
 -- the block after the runs in front, with the recent ones beside them
 pub follows_cover : (recent blocks : List GapAckBlock) (b : GapAckBlock) (front : ℕ) → front < length blocks → SameCover (recent ++ take (front + 1) (set blocks front b)) (b ∷ (recent ++ take front blocks))
@@ -172,18 +192,8 @@ follows_cover recent blocks b front l =
     subst (λ x. SameCover x (b ∷ runs)) (sym e) (same_turned runs (b ∷ []))
 
 -- the block put in among the recent runs, and these among those in front
-pub recent_cover : (after rest recent front : List GapAckBlock) (b : GapAckBlock) (count n : ℕ) → count ≤ length after → SameCover (take count after) (b ∷ take n (take (n + 1) recent)) → SameCover (take count (after ++ rest) ++ front) (b ∷ (take n recent ++ front))
-recent_cover after rest recent front b count n l e =
-    let p : take count (after ++ rest) ≡ take count after = take-append-le count after rest l in
-    let q : take n (take (n + 1) recent) ≡ take n recent = take-take n (n + 1) recent (omega arith) in
-    let f : SameCover (take count (after ++ rest)) (b ∷ take n recent) = subst (λ x. SameCover x (b ∷ take n recent)) (sym p) (subst (λ x. SameCover (take count after) (b ∷ x)) q e) in
-    same_append (take count (after ++ rest)) front (b ∷ take n recent) front f (same_refl front)
-
-pub free_behind : (after recent : List GapAckBlock) (count n : ℕ) → count ≤ length after → AreFree (drop count after) → AreFree (drop n recent) → AreFree (drop count (after ++ drop (n + 1) recent))
-free_behind after recent count n l f g =
-    let P : GapAckBlock → Type 0 = λ b. b.end ≡ 65535 in
-    let later : AreFree (drop (n + 1) recent) = subst (λ x. AreFree x) (drop-drop 1 n recent) (All-drop P 1 (drop n recent) g) in
-    subst (λ x. AreFree x) (sym (drop-append-le count after (drop (n + 1) recent) l)) (All-append P (drop count after) (drop (n + 1) recent) f later)
+pub recent_cover : (after recent front : List GapAckBlock) (b : GapAckBlock) → SameCover after (b ∷ recent) → SameCover (after ++ front) (b ∷ (recent ++ front))
+recent_cover after recent front b e = same_append after front (b ∷ recent) front e (same_refl front)
 
 pub front_cover : (after rest recent blocks every : List GapAckBlock) (count front both n : ℕ) → n ≤ length after → front ≤ both → SameCover (take n after) (take count recent ++ take front (take both blocks)) → SameCover (take count recent ++ take front blocks) every → SameCover (take n (after ++ rest)) every
 front_cover after rest recent blocks every count front both n l m e f =

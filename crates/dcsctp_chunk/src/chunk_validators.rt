@@ -158,12 +158,7 @@ fn add_block(
         };
     }
     let first = first_reaching(recent, counts.recent, block);
-    let count = insert(
-        &mut recent[..counts.recent + 1],
-        counts.recent,
-        first,
-        block,
-    );
+    let count = insert(recent, counts.recent, first, block);
     if count < recent.len() {
         return Counts {
             front: counts.front,
@@ -191,7 +186,7 @@ fn follows(runs: &[GapAckBlock], block: GapAckBlock) -> bool
 /// Puts the block in among the first `kept` runs, of which the one at `first` is the first that it
 /// can touch: the first so many are then the runs of both.
 fn insert(runs: &mut [GapAckBlock], kept: usize, first: usize, block: GapAckBlock) -> usize
-    requires room { length runs.old ≡ kept + 1 }
+    requires room { kept < length runs.old }
     requires nonempty { block.start ≤ block.end }
     requires apart { IsApart 0 (take kept runs.old) }
     requires bound { first ≤ kept }
@@ -203,7 +198,10 @@ fn insert(runs: &mut [GapAckBlock], kept: usize, first: usize, block: GapAckBloc
     ensures cover { SameCover (take result runs.new) (block ∷ take kept runs.old) }
 {
     let place = find_place(&runs[..kept], first, block);
-    move_within(runs, place.last, kept, place.first + 1);
+    // whole eights where there is room, with free places behind the runs: that makes fewer jumps
+    let eights = (kept - place.last + 7) / 8 * 8;
+    let end = (place.last + eights).min(runs.len() - 1);
+    move_within(runs, place.last, end, place.first + 1);
     runs[place.first] = place.run;
     let count = place.first + 1 + (kept - place.last);
     free_past(runs, count, kept);
