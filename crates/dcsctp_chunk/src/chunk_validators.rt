@@ -70,7 +70,7 @@ fn are_apart(blocks: &[GapAckBlock]) -> bool
 
 /// Puts the runs of the offsets that the blocks cover in the place of the blocks.
 ///
-/// It isn't inlined, so that a caller keeps a SACK that is valid where it is.
+/// It takes the vector alone and isn't inlined, so that a valid SACK needs no move.
 #[inline(never)]
 fn clean_blocks(mut blocks: Vec<GapAckBlock>) -> Vec<GapAckBlock>
     ensures apart { IsApart 0 result.items }
@@ -81,6 +81,12 @@ fn clean_blocks(mut blocks: Vec<GapAckBlock>) -> Vec<GapAckBlock>
     blocks
 }
 
+/// What stands in a free place: no block ends later.
+const FREE: GapAckBlock = GapAckBlock {
+    start: 65535,
+    end: 65535,
+};
+
 /// Puts block after block in among the runs of those before it: the first so many are then the
 /// runs of what the blocks covered.
 ///
@@ -88,8 +94,8 @@ fn clean_blocks(mut blocks: Vec<GapAckBlock>) -> Vec<GapAckBlock>
 /// that does not follow the runs in front goes among a few recent ones, and these go among those in
 /// front all at once, when they are 256 and at the end.
 ///
-/// The array of the recent ones is searched as a whole, since the compiler makes no jumps of a
-/// search whose length it knows: so its free places hold what ends last.
+/// The array of the recent ones is searched as a whole, since a search of a length that the
+/// compiler knows has no jumps. So a free place holds a block that ends last.
 fn gather(blocks: &mut [GapAckBlock]) -> usize
     ensures len { result ≤ length blocks.old }
     ensures apart { IsApart 0 (take result blocks.new) }
@@ -167,7 +173,7 @@ fn add_block(
     }
     let both = counts.front + count;
     let front = join_runs(&mut blocks[..both], counts.front, recent);
-    free(recent);
+    make_free(recent);
     Counts { front, recent: 0 }
 }
 
@@ -204,12 +210,12 @@ fn insert(runs: &mut [GapAckBlock], kept: usize, first: usize, block: GapAckBloc
     move_within(runs, place.last, end, place.first + 1);
     runs[place.first] = place.run;
     let count = place.first + 1 + (kept - place.last);
-    free_past(runs, count, kept);
+    make_free_from(runs, count, kept);
     count
 }
 
 /// Makes the places from `count` on free, where those from `kept` on are free.
-fn free_past(runs: &mut [GapAckBlock], count: usize, kept: usize)
+fn make_free_from(runs: &mut [GapAckBlock], count: usize, kept: usize)
     requires bound { count ≤ length runs.old }
     requires free { kept ≤ count → AreFree (drop count runs.old) }
     ensures front { take count runs.new ≡ take count runs.old }
@@ -217,18 +223,12 @@ fn free_past(runs: &mut [GapAckBlock], count: usize, kept: usize)
 {
     if count < kept {
         let (_, places) = runs.split_at_mut(count);
-        free(places);
+        make_free(places);
     }
 }
 
-/// What stands in a free place: no run ends later.
-const FREE: GapAckBlock = GapAckBlock {
-    start: 65535,
-    end: 65535,
-};
-
 /// Makes every place free.
-fn free(places: &mut [GapAckBlock])
+fn make_free(places: &mut [GapAckBlock])
     ensures { AreFree places.new }
 {
     for place in places.iter_mut() {

@@ -7,8 +7,8 @@ use Rattle.dcsctp_chunk.specs.Apart.{IsApart, AreFree}
 use Rattle.dcsctp_chunk.proofs.Joined.{put_run, put_free}
 use Rattle.dcsctp_chunk.proofs.chunk_validators.insert.Goals as goal
 
-pub free_past-requires-clause-free : goal.free_past-requires-clause-free
-free_past-requires-clause-free c =
+pub make_free_from-requires-clause-free : goal.make_free_from-requires-clause-free
+make_free_from-requires-clause-free c =
     let xs = c.args.runs.now in
     let kept = c.args.kept in
     let p = c.find_place-place.result in
@@ -26,7 +26,7 @@ returns-clause-apart c =
     let count = p.first + 1 + (kept - p.last) in
     let within : p.last ≤ kept = omega (arith, length-take-le kept xs (omega arith)) in
     let same : length (copy_within xs p.last end (p.first + 1)) ≡ length xs = omega (arith, ap length c.move_within.ensures) in
-    let front = c.free_past.ensures.front ∙ (ap (λ x. take count (set x p.first p.run)) c.move_within.ensures ∙ put_run xs p.run p.first p.last kept end c.find_place-place.ensures.order within (omega arith) (omega arith) same) in
+    let front = c.make_free_from.ensures.front ∙ (ap (λ x. take count (set x p.first p.run)) c.move_within.ensures ∙ put_run xs p.run p.first p.last kept end c.find_place-place.ensures.order within (omega arith) (omega arith) same) in
     subst (λ x. IsApart 0 x) (sym front) c.find_place-place.ensures.apart
 
 pub returns-clause-cover : goal.returns-clause-cover
@@ -38,5 +38,5 @@ returns-clause-cover c =
     let count = p.first + 1 + (kept - p.last) in
     let within : p.last ≤ kept = omega (arith, length-take-le kept xs (omega arith)) in
     let same : length (copy_within xs p.last end (p.first + 1)) ≡ length xs = omega (arith, ap length c.move_within.ensures) in
-    let front = c.free_past.ensures.front ∙ (ap (λ x. take count (set x p.first p.run)) c.move_within.ensures ∙ put_run xs p.run p.first p.last kept end c.find_place-place.ensures.order within (omega arith) (omega arith) same) in
+    let front = c.make_free_from.ensures.front ∙ (ap (λ x. take count (set x p.first p.run)) c.move_within.ensures ∙ put_run xs p.run p.first p.last kept end c.find_place-place.ensures.order within (omega arith) (omega arith) same) in
     subst (λ x. SameCover x (c.args.block ∷ take kept xs)) (sym front) c.find_place-place.ensures.cover
