@@ -1,12 +1,14 @@
 -- Runs put in among others, from the last on: those below a gap, and those past it.
 use Rattle.std.proofs.Common.{◌≡◌, ◌⊎◌, inl, inr, ℕ, ◌+◌, ◌-◌, ◌<◌, ◌≤◌, List, [], ◌∷◌, ◌++◌, length, get_or, set, take, drop, sym, ap, subst, ◌∙◌, arith}
 use Rattle.std.specs.List.{copy_within}
-use Rattle.std.proofs.lemmas.List.{append_assoc, take_more, drop_at, take_more_set, take-append-le, drop-set-lt, length-append, length-take-le, take-take, drop-take, take-append-drop, take-set-le, drop-set, get_or-take}
+use Rattle.std.proofs.lemmas.List.{append_assoc, take_more, drop_at, take_more_set, take-append-le, drop-set-lt, length-take-le, length-drop, drop-drop, drop-append-le, take-take, drop-take, take-append-drop, get_or-take, get_or-drop, get_or_append_left}
+use Rattle.std.proofs.Math.Seq.{take-add, take-append_seam}
 use Rattle.std.proofs.lemmas.Bool.{cases_lt}
+use Rattle.std.proofs.lemmas.List.Elements.{All-append, All-drop, All-take}
 use Rattle.std.proofs.lemmas.List.Sorted.{IsPermutation-to_front}
 use Rattle.dcsctp_chunk.specs.declared.sack_chunk.GapAckBlock.{GapAckBlock}
 use Rattle.dcsctp_chunk.specs.Cover.{Covers, SameCover}
-use Rattle.dcsctp_chunk.specs.Apart.{IsApart}
+use Rattle.dcsctp_chunk.specs.Apart.{IsApart, AreFree}
 use Rattle.dcsctp_chunk.proofs.Runs.{covers_head, covers_tail, covers_cases, contains_none, apart_weaker}
 use Rattle.dcsctp_chunk.proofs.RunsOf.{join, same_refl, same_trans, same_cons, same_swap, same_join, same_reversed, permutation_cover}
 
@@ -76,13 +78,6 @@ below-apart low high placed b a d p e =
 pub below-cover : (low high placed : List GapAckBlock) (b : GapAckBlock) → SameCover placed (b ∷ low) → SameCover (placed ++ high) (b ∷ (low ++ high))
 below-cover low high placed b e = same_append placed high (b ∷ low) high e (same_refl high)
 
--- the block reaches no run past the gap's new far side
-pub below-gap : (front back high : List GapAckBlock) (run b : GapAckBlock) → IsApart 0 ((front ++ (run ∷ back)) ++ high) → b.end ≤ run.end → IsApart (b.end + 2) (back ++ high)
-below-gap front back high run b a l =
-    let whole : IsApart 0 (front ++ (run ∷ (back ++ high))) = simp append_assoc at a in
-    let r = apart_right 0 front (run ∷ (back ++ high)) whole in
-    apart_weaker (b.end + 2) (run.end + 2) (back ++ high) (omega arith) r.2
-
 -- the last of the others that are left
 last_left : (others : List GapAckBlock) (left : ℕ) (d : GapAckBlock) → 0 < left → left ≤ length others → take left others ≡ take (left - 1) others ++ (get_or others (left - 1) d ∷ [])
 last_left others left d l m =
@@ -124,38 +119,70 @@ apart_last (r ∷ rs) b d m a l h =
     let e : length (r ∷ rs) - 1 ≡ length rs = omega arith in
     apart_end 0 r rs b d a (subst (λ x. (get_or (r ∷ rs) x d).end + 1 < b.start) e h) m
 
--- the runs after the move to the gap's end, and the write
-moved_front : (xs : List GapAckBlock) (run : GapAckBlock) (first last low high : ℕ) → first ≤ last → last ≤ low → low < high → high ≤ length xs → take (first + 1) (set (copy_within xs last low (high - (low - last))) first run) ≡ take first (take low xs) ++ (run ∷ [])
-moved_front xs run first last low high k l m n =
-    let dest = high - (low - last) in
+-- what stands before the place that blocks were moved to, and from it on
+pub copied_front : (xs : List GapAckBlock) (i j k dest : ℕ) → k ≤ dest → dest ≤ length xs → take k (copy_within xs i j dest) ≡ take k xs
+copied_front xs i j k dest l m =
     let front = take dest xs in
-    let others = take (low - last) (drop last xs) ++ drop (dest + (low - last)) xs in
-    let long : length front ≡ dest = length-take-le dest xs (omega arith) in
-    let whole : copy_within xs last low dest ≡ front ++ others = simp append_assoc in
-    let room : first < length (copy_within xs last low dest) = omega (arith, ap length whole, length-append front others) in
-    let e : take first (copy_within xs last low dest) ≡ take first (take low xs) =
-    ap (λ x. take first x) whole ∙ (take-append-le first front others (omega arith) ∙ (take-take first dest xs (omega arith) ∙ sym (take-take first low xs (omega arith)))) in
-    take_more_set (copy_within xs last low dest) first run room ∙ ap (λ x. x ++ (run ∷ [])) e
+    let others = take (j - i) (drop i xs) ++ drop (dest + (j - i)) xs in
+    let whole : copy_within xs i j dest ≡ front ++ others = simp append_assoc in
+    ap (λ x. take k x) whole ∙ (take-append-le k front others (omega (arith, length-take-le dest xs m)) ∙ take-take k dest xs l)
 
-pub moved_back : (xs : List GapAckBlock) (run : GapAckBlock) (first last low high : ℕ) → first ≤ last → last ≤ low → low < high → high ≤ length xs → drop (high - (low - last)) (set (copy_within xs last low (high - (low - last))) first run) ≡ drop last (take low xs) ++ drop high xs
-moved_back xs run first last low high k l m n =
-    let dest = high - (low - last) in
+pub copied_back : (xs : List GapAckBlock) (i j dest : ℕ) → dest ≤ length xs → drop dest (copy_within xs i j dest) ≡ take (j - i) (drop i xs) ++ drop (dest + (j - i)) xs
+copied_back xs i j dest m =
     let front = take dest xs in
-    let others = take (low - last) (drop last xs) ++ drop (dest + (low - last)) xs in
-    let long : length front ≡ dest = length-take-le dest xs (omega arith) in
-    let whole : copy_within xs last low dest ≡ front ++ others = simp append_assoc in
-    let back : last + (low - last) ≡ low = omega arith in
-    let up : dest + (low - last) ≡ high = omega arith in
-    let e : take (low - last) (drop last xs) ≡ drop last (take low xs) = sym (drop-take last (low - last) xs) ∙ ap (λ x. drop last (take x xs)) back in
-    drop-set-lt dest (copy_within xs last low dest) first run (omega arith) ∙ (ap (λ x. drop dest x) whole ∙ (drop_at front others dest long ∙ (ap (λ x. x ++ drop (dest + (low - last)) xs) e ∙ ap (λ x. drop last (take low xs) ++ drop x xs) up)))
+    let others = take (j - i) (drop i xs) ++ drop (dest + (j - i)) xs in
+    let whole : copy_within xs i j dest ≡ front ++ others = simp append_assoc in
+    ap (λ x. drop dest x) whole ∙ drop_at front others dest (length-take-le dest xs m)
 
-pub moved : (xs : List GapAckBlock) (run : GapAckBlock) (first last low high : ℕ) → first ≤ last → last ≤ low → low < high → high ≤ length xs → take (first + 1) (set (copy_within xs last low (high - (low - last))) first run) ++ drop (high - (low - last)) (set (copy_within xs last low (high - (low - last))) first run) ≡ (take first (take low xs) ++ (run ∷ drop last (take low xs))) ++ drop high xs
-moved xs run first last low high k l m n =
-    let dest = high - (low - last) in
-    let after = set (copy_within xs last low dest) first run in
-    let front = take first (take low xs) ++ (run ∷ []) in
-    let joined : front ++ (drop last (take low xs) ++ drop high xs) ≡ (take first (take low xs) ++ (run ∷ drop last (take low xs))) ++ drop high xs = simp append_assoc in
-    ap (λ x. x ++ drop dest after) (moved_front xs run first last low high k l m n) ∙ (ap (λ x. front ++ x) (moved_back xs run first last low high k l m n) ∙ joined)
+-- the first part of a list that was split
+pub first_part : (front back : List GapAckBlock) (n : ℕ) → length front ≡ n → take n (front ++ back) ≡ front
+first_part front back n e = ap (λ x. take x (front ++ back)) (sym e) ∙ take-append_seam front back
+
+-- the runs with one in the place of those that it takes in, where free places behind them are moved with them
+pub put_run : (xs : List GapAckBlock) (run : GapAckBlock) (first last kept end : ℕ) → first ≤ last → last ≤ kept → kept ≤ end → end < length xs → length (copy_within xs last end (first + 1)) ≡ length xs → take (first + 1 + (kept - last)) (set (copy_within xs last end (first + 1)) first run) ≡ take first (take kept xs) ++ (run ∷ drop last (take kept xs))
+put_run xs run first last kept end k l o m n =
+    let after = copy_within xs last end (first + 1) in
+    let mid = take (end - last) (drop last xs) in
+    let rest = drop (first + 1 + (end - last)) xs in
+    let back : last + (kept - last) ≡ kept = omega arith in
+    let long : length mid ≡ end - last = length-take-le (end - last) (drop last xs) (omega (arith, length-drop last xs)) in
+    let front : take (first + 1) (set after first run) ≡ take first (take kept xs) ++ (run ∷ []) =
+    take_more_set after first run (omega arith) ∙ ap (λ x. x ++ (run ∷ [])) (copied_front xs last end first (first + 1) (omega arith) (omega arith) ∙ sym (take-take first kept xs (omega arith))) in
+    let behind : take (kept - last) (drop (first + 1) (set after first run)) ≡ drop last (take kept xs) =
+    ap (λ x. take (kept - last) x) (drop-set-lt (first + 1) after first run (omega arith) ∙ copied_back xs last end (first + 1) (omega arith))
+    ∙ (take-append-le (kept - last) mid rest (omega arith)
+    ∙ (take-take (kept - last) (end - last) (drop last xs) (omega arith)
+    ∙ (sym (drop-take last (kept - last) xs) ∙ ap (λ x. drop last (take x xs)) back))) in
+    let joined : (take first (take kept xs) ++ (run ∷ [])) ++ drop last (take kept xs) ≡ take first (take kept xs) ++ (run ∷ drop last (take kept xs)) = simp append_assoc in
+    take-add (first + 1) (kept - last) (set after first run) ∙ (ap (λ x. x ++ take (kept - last) (drop (first + 1) (set after first run))) front ∙ (ap (λ x. (take first (take kept xs) ++ (run ∷ [])) ++ x) behind ∙ joined))
+
+free_later : (xs : List GapAckBlock) (kept n : ℕ) → kept ≤ n → AreFree (drop kept xs) → AreFree (drop n xs)
+free_later xs kept n l f =
+    let P : GapAckBlock → Type 0 = λ b. b.end ≡ 65535 in
+    let some : kept + (n - kept) ≡ n = omega arith in
+    subst (λ k. AreFree (drop k xs)) some (subst (λ x. AreFree x) (drop-drop (n - kept) kept xs) (All-drop P (n - kept) (drop kept xs) f))
+
+-- behind them all is free
+pub put_free : (xs : List GapAckBlock) (run : GapAckBlock) (first last kept end : ℕ) → first ≤ last → last ≤ kept → kept ≤ end → end < length xs → AreFree (drop kept xs) → kept ≤ first + 1 + (kept - last) → AreFree (drop (first + 1 + (kept - last)) (set (copy_within xs last end (first + 1)) first run))
+put_free xs run first last kept end k l o m f g =
+    let P : GapAckBlock → Type 0 = λ b. b.end ≡ 65535 in
+    let after = copy_within xs last end (first + 1) in
+    let mid = take (end - last) (drop last xs) in
+    let rest = drop (first + 1 + (end - last)) xs in
+    let long : length mid ≡ end - last = length-take-le (end - last) (drop last xs) (omega (arith, length-drop last xs)) in
+    let upto : end - last ≡ (kept - last) + (end - kept) = omega arith in
+    let back : last + (kept - last) ≡ kept = omega arith in
+    let whole : drop (first + 1 + (kept - last)) (set after first run) ≡ drop (kept - last) mid ++ rest =
+    drop-set-lt (first + 1 + (kept - last)) after first run (omega arith)
+    ∙ (sym (drop-drop (kept - last) (first + 1) after)
+    ∙ (ap (λ x. drop (kept - last) x) (copied_back xs last end (first + 1) (omega arith))
+    ∙ drop-append-le (kept - last) mid rest (omega arith))) in
+    let moved : drop (kept - last) mid ≡ take (end - kept) (drop kept xs) =
+    ap (λ x. drop (kept - last) (take x (drop last xs))) upto
+    ∙ (drop-take (kept - last) (end - kept) (drop last xs)
+    ∙ ap (λ x. take (end - kept) x) (drop-drop (kept - last) last xs ∙ ap (λ x. drop x xs) back)) in
+    let near : AreFree (drop (kept - last) mid) = subst (λ x. AreFree x) (sym moved) (All-take P (end - kept) (drop kept xs) f) in
+    subst (λ x. AreFree x) (sym whole) (All-append P (drop (kept - last) mid) rest near (free_later xs kept (first + 1 + (end - last)) (omega arith) f))
 
 -- the block after the runs in front, with the recent ones beside them
 pub follows_cover : (recent blocks : List GapAckBlock) (b : GapAckBlock) (front : ℕ) → front < length blocks → SameCover (recent ++ take (front + 1) (set blocks front b)) (b ∷ (recent ++ take front blocks))
@@ -165,12 +192,8 @@ follows_cover recent blocks b front l =
     subst (λ x. SameCover x (b ∷ runs)) (sym e) (same_turned runs (b ∷ []))
 
 -- the block put in among the recent runs, and these among those in front
-pub recent_cover : (after rest recent front : List GapAckBlock) (b : GapAckBlock) (count n : ℕ) → count ≤ length after → SameCover (take count after) (b ∷ take n (take (n + 1) recent)) → SameCover (take count (after ++ rest) ++ front) (b ∷ (take n recent ++ front))
-recent_cover after rest recent front b count n l e =
-    let p : take count (after ++ rest) ≡ take count after = take-append-le count after rest l in
-    let q : take n (take (n + 1) recent) ≡ take n recent = take-take n (n + 1) recent (omega arith) in
-    let f : SameCover (take count (after ++ rest)) (b ∷ take n recent) = subst (λ x. SameCover x (b ∷ take n recent)) (sym p) (subst (λ x. SameCover (take count after) (b ∷ x)) q e) in
-    same_append (take count (after ++ rest)) front (b ∷ take n recent) front f (same_refl front)
+pub recent_cover : (after recent front : List GapAckBlock) (b : GapAckBlock) → SameCover after (b ∷ recent) → SameCover (after ++ front) (b ∷ (recent ++ front))
+recent_cover after recent front b e = same_append after front (b ∷ recent) front e (same_refl front)
 
 pub front_cover : (after rest recent blocks every : List GapAckBlock) (count front both n : ℕ) → n ≤ length after → front ≤ both → SameCover (take n after) (take count recent ++ take front (take both blocks)) → SameCover (take count recent ++ take front blocks) every → SameCover (take n (after ++ rest)) every
 front_cover after rest recent blocks every count front both n l m e f =
@@ -188,24 +211,25 @@ more_blocks xs runs old b i d l e h k =
 pub no_more_blocks : (xs runs : List GapAckBlock) (b : GapAckBlock) (i : ℕ) (d : GapAckBlock) → i < length xs → b ≡ get_or xs i d → b.end < b.start → SameCover runs (take i xs) → SameCover runs (take (i + 1) xs)
 no_more_blocks xs runs b i d l e r h = more_blocks xs runs runs b i d l e h (same_reversed b runs r)
 
--- a run moved over the gap
-lifted_back : (xs : List GapAckBlock) (x : GapAckBlock) (high : ℕ) → 0 < high → high ≤ length xs → drop (high - 1) (set xs (high - 1) x) ≡ x ∷ drop high xs
-lifted_back xs x high l m =
-    let e : high - 1 + 1 ≡ high = omega arith in
-    drop-set xs (high - 1) x (omega arith) ∙ ap (λ n. x ∷ drop n xs) e
+-- runs moved over the gap
+pub lifted : (xs after : List GapAckBlock) (i j count low high : ℕ) → i + count ≡ low → take i after ≡ take i xs → drop j after ≡ take count (drop i xs) ++ drop high xs → take i after ++ drop j after ≡ take low xs ++ drop high xs
+lifted xs after i j count low high e f g =
+    let split : take low xs ≡ take i xs ++ take count (drop i xs) = ap (λ x. take x xs) (sym e) ∙ take-add i count xs in
+    let joined : take i xs ++ (take count (drop i xs) ++ drop high xs) ≡ (take i xs ++ take count (drop i xs)) ++ drop high xs = simp append_assoc in
+    ap (λ x. x ++ drop j after) f ∙ (ap (λ x. take i xs ++ x) g ∙ (joined ∙ ap (λ x. x ++ drop high xs) (sym split)))
 
-pub lifted : (xs : List GapAckBlock) (d : GapAckBlock) (low high : ℕ) → 0 < low → low < high → high ≤ length xs → take (low - 1) (set xs (high - 1) (get_or xs (low - 1) d)) ++ drop (high - 1) (set xs (high - 1) (get_or xs (low - 1) d)) ≡ take low xs ++ drop high xs
-lifted xs d low high l m n =
-    let x = get_or xs (low - 1) d in
-    let after = set xs (high - 1) x in
-    let whole : take low xs ++ drop high xs ≡ take (low - 1) xs ++ (x ∷ drop high xs) = ap (λ y. y ++ drop high xs) (last_left xs low d l (omega arith)) ∙ simp append_assoc in
-    ap (λ y. y ++ drop (high - 1) after) (take-set-le (low - 1) xs (high - 1) x (omega arith)) ∙ (ap (λ y. take (low - 1) xs ++ y) (lifted_back xs x high (omega arith) n) ∙ sym whole)
+apart_from : (n : ℕ) (xs : List GapAckBlock) (d : GapAckBlock) → IsApart 0 xs → n ≤ (get_or xs 0 d).start → IsApart n xs
+apart_from n [] d a l = tt
+apart_from n (x ∷ xs) d a l = (l, a.1, a.2)
 
-pub lifted_apart : (xs : List GapAckBlock) (d : GapAckBlock) (low high m : ℕ) → 0 < low → low < high → high ≤ length xs → IsApart 0 (take low xs ++ drop high xs) → m ≤ (get_or xs (low - 1) d).start → IsApart m (drop (high - 1) (set xs (high - 1) (get_or xs (low - 1) d)))
-lifted_apart xs d low high m k l n a f =
-    let x = get_or xs (low - 1) d in
-    let b = next_below (take (low - 1) xs) (drop high xs) x (next_apart xs (drop high xs) low d k (omega arith) a) in
-    subst (λ y. IsApart m y) (sym (lifted_back xs x high (omega arith) n)) (f, b.1, b.2)
+pub lifted_apart : (xs : List GapAckBlock) (d : GapAckBlock) (i count low high n : ℕ) → i + count ≡ low → 0 < count → low ≤ length xs → IsApart 0 (take low xs ++ drop high xs) → n ≤ (get_or xs i d).start → IsApart n (take count (drop i xs) ++ drop high xs)
+lifted_apart xs d i count low high n e k l a f =
+    let mid = take count (drop i xs) in
+    let split : take low xs ++ drop high xs ≡ take i xs ++ (mid ++ drop high xs) = ap (λ x. x ++ drop high xs) (ap (λ x. take x xs) (sym e) ∙ take-add i count xs) ∙ simp append_assoc in
+    let apart = apart_right 0 (take i xs) (mid ++ drop high xs) (subst (λ x. IsApart 0 x) split a) in
+    let long : length mid ≡ count = length-take-le count (drop i xs) (omega (arith, length-drop i xs)) in
+    let same : get_or (mid ++ drop high xs) 0 d ≡ get_or xs i d = get_or_append_left mid (drop high xs) d 0 (omega arith) ∙ (get_or-take count (drop i xs) 0 d k ∙ (get_or-drop i xs 0 d ∙ ap (λ x. get_or xs x d) (omega arith))) in
+    apart_from n (mid ++ drop high xs) d apart (subst (λ (b : GapAckBlock). n ≤ b.start) (sym same) f)
 
 -- the step of the walk down over the runs that a block touches
 pub walk_back : (run r block next : GapAckBlock) (rest : List GapAckBlock) → run.start ≤ run.end → r.start ≤ r.end → r.start ≤ run.end + 1 → run.start ≤ r.end + 1 → next ≡ join run r → SameCover (run ∷ []) (block ∷ rest) → SameCover (next ∷ []) (block ∷ r ∷ rest)

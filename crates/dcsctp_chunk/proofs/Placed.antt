@@ -1,13 +1,13 @@
 -- A block put in among runs: the walk over the runs that it touches.
 use Rattle.std.proofs.Common.{◌≡◌, inl, inr, ℕ, zero, suc, ◌+◌, ◌-◌, ◌<◌, ◌≤◌, min, max, List, [], ◌∷◌, ◌++◌, length, get_or, take, drop, cond, ltb, refl, sym, ap, subst, ◌∙◌, arith}
 use Rattle.std.specs.List.{All, copy_within}
-use Rattle.std.specs.List.Sorted.{IsNonDecreasingBy}
-use Rattle.std.proofs.lemmas.Bool.{cases_lt, lt-ltb, le-ltb, cond-true, cond-false}
-use Rattle.std.proofs.lemmas.List.{append_assoc, drop_more, drop_all, length-take-le, get_or-take, take-append-drop, drop-drop}
+use Rattle.std.specs.List.Sorted.{IsNonDecreasingBy, IsPartitionedBy}
+use Rattle.std.proofs.lemmas.Bool.{cases_lt, ltb-true, lt-ltb, le-ltb, cond-true, cond-false}
+use Rattle.std.proofs.lemmas.List.{append_assoc, drop_more, drop_all, length-take-le, length-drop, get_or-take, get_or-drop, take-append-drop, drop-drop}
 use Rattle.std.proofs.lemmas.List.Elements.{Contains-get_or, All-head, All-tail}
 use Rattle.dcsctp_chunk.specs.declared.sack_chunk.GapAckBlock.{GapAckBlock}
 use Rattle.dcsctp_chunk.specs.Cover.{SameCover}
-use Rattle.dcsctp_chunk.specs.Apart.{IsApart}
+use Rattle.dcsctp_chunk.specs.Apart.{IsApart, AreFree}
 use Rattle.dcsctp_chunk.proofs.Runs.{apart_low}
 use Rattle.dcsctp_chunk.proofs.RunsOf.{put_in, join, put_in_apart, put_in_cover}
 
@@ -50,7 +50,7 @@ walk_end rs run d i k l =
     ]
 
 -- the whole search for the place
-pub placed : (rs : List GapAckBlock) (b run : GapAckBlock) (first last : ℕ) → first ≤ length rs → ((k : ℕ) (d : GapAckBlock) → 0 ≤ k → k < first → (get_or rs k d).end < b.start - 1) → run ∷ drop last rs ≡ put_in b (drop first rs) → take first rs ++ (run ∷ drop last rs) ≡ put_in b rs
+pub placed : (rs : List GapAckBlock) (b run : GapAckBlock) (first last : ℕ) → first ≤ length rs → ((k : ℕ) (d : GapAckBlock) → 0 ≤ k → k < first → (get_or rs k d).end + 1 < b.start) → run ∷ drop last rs ≡ put_in b (drop first rs) → take first rs ++ (run ∷ drop last rs) ≡ put_in b rs
 placed rs b run first last l h e =
     let P : GapAckBlock → Type 0 = λ r. r.end + 1 < b.start in
     let low : All P (take first rs) = λ k d m.
@@ -70,6 +70,26 @@ apart_ends n (b ∷ bs) a zero (suc j) d l m =
     omega arith
 apart_ends n (b ∷ bs) a (suc i) zero d l m = absurd (omega arith)
 apart_ends n (b ∷ bs) a (suc i) (suc j) d l m = apart_ends (b.end + 2) bs a.2 i j d (omega arith) (omega arith)
+
+-- a free place ends last
+pub free_end : (rs : List GapAckBlock) (kept k : ℕ) (d : GapAckBlock) → kept ≤ k → k < length rs → AreFree (drop kept rs) → (get_or rs k d).end ≡ 65535
+free_end rs kept k d l m f =
+    let e : kept + (k - kept) ≡ k = omega arith in
+    let g = f (k - kept) d (omega (arith, length-drop kept rs)) in
+    ap (λ n. (get_or rs n d).end) (sym e) ∙ (ap (λ (b : GapAckBlock). b.end) (sym (get_or-drop kept rs (k - kept) d)) ∙ g)
+
+-- so the free places change nothing for a search
+pub parted_kept : (rs : List GapAckBlock) (kept t : ℕ) → t ≤ 65535 → kept ≤ length rs → IsApart 0 (take kept rs) → AreFree (drop kept rs) → IsPartitionedBy (λ b. ltb b.end t) rs
+parted_kept rs kept t m l a f i j d le lt e =
+    let early = ltb-true (get_or rs j d).end t e in
+    elim (cases_lt j kept) [
+      | inl here ↦
+          let up = apart_ends 0 (take kept rs) a i j d le (omega (arith, length-take-le kept rs l)) in
+          let p = ap (λ (b : GapAckBlock). b.end) (get_or-take kept rs i d (omega arith)) in
+          let q = ap (λ (b : GapAckBlock). b.end) (get_or-take kept rs j d here) in
+          lt-ltb (get_or rs i d).end t (omega arith)
+      | inr ge ↦ let g = free_end rs kept j d ge lt f in absurd (omega arith)
+    ]
 
 pub copy_nowhere : {X : Type 0} (xs : List X) (i j : ℕ) → i ≤ j → xs ≡ copy_within xs i j i
 copy_nowhere xs i j l =

@@ -1,5 +1,7 @@
 -- What the steps of the cleaning say of neighbouring blocks.
-use Rattle.std.specs.Prelude.{ℕ, ◌+◌, ◌-◌, ◌<◌, ◌≤◌, List, [], ◌∷◌, ◌++◌, slice_index_or, take, drop}
+use Rattle.std.specs.Prelude.{◌≡◌, ℕ, ◌+◌, ◌-◌, ◌<◌, ◌≤◌, List, [], ◌∷◌, ◌++◌, slice_index_or, take, drop}
+use Rattle.std.specs.List.{All}
+use Rattle.std.specs.List.Sorted.{IsPartitionPoint}
 use Rattle.dcsctp_chunk.specs.declared.sack_chunk.GapAckBlock.{GapAckBlock}
 use Rattle.dcsctp_chunk.specs.declared.chunk_validators.Counts.{Counts}
 use Rattle.dcsctp_chunk.specs.declared.chunk_validators.Gap.{Gap}
@@ -21,6 +23,14 @@ around gap runs = take gap.low runs ++ drop gap.high runs
 -- the runs with that of the place in the place of those that it takes in
 abbrev pub placed : Place → List GapAckBlock → List GapAckBlock
 placed place runs = take place.first runs ++ (place.run ∷ drop place.last runs)
+
+-- each ends last, as what stands in a place that is free
+abbrev pub AreFree : List GapAckBlock → Type 0
+AreFree blocks = All (λ b. b.end ≡ 65535) blocks
+
+-- the runs before the i-th end too early for a block that starts at n, and those from it on do not
+abbrev pub IsReachedAt : ℕ → ℕ → List GapAckBlock → Type 0
+IsReachedAt n i runs = IsPartitionPoint (λ r. r.end + 1 < n) (λ r. n ≤ r.end + 1) runs i
 
 -- the last of the first k runs, if any, starts at n or earlier
 abbrev pub LastStartsBy : ℕ → ℕ → List GapAckBlock → Type 0

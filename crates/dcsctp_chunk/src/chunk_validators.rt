@@ -6,10 +6,9 @@
 
 ghost use Rattle.std.specs.Prelude.{◌≡◌, ◌↔◌, ℕ, ◌+◌, ◌-◌, ◌<◌, ◌≤◌, ◌^◌, List, [], ◌∷◌, ◌++◌, length, IsTrue, take, drop};
 ghost use Rattle.std.specs.List.{All, SameFrom, copy_within};
-ghost use Rattle.std.specs.List.Sorted.{IsPartitionPoint};
 ghost use Rattle.dcsctp_types.specs.Serial.{wrapped_sum, IsGreater};
 ghost use Rattle.dcsctp_chunk.specs.declared.sack_chunk.GapAckBlock.{GapAckBlock};
-ghost use Rattle.dcsctp_chunk.specs.Apart.{IsApart, LastStartsBy, both, around, placed};
+ghost use Rattle.dcsctp_chunk.specs.Apart.{IsApart, AreFree, LastStartsBy, IsReachedAt, both, around, placed};
 ghost use Rattle.dcsctp_chunk.specs.Cover.{Covers, SameCover, IsRuns, HasBlockInEach, AreValid};
 
 use crate::sack_chunk::{GapAckBlock, SackChunk};
@@ -48,7 +47,7 @@ pub fn clean_sack(mut sack: SackChunk) -> SackChunk
     if validate_sack(&sack) {
         return sack;
     }
-    clean_blocks(&mut sack.gap_ack_blocks);
+    sack.gap_ack_blocks = clean_blocks(sack.gap_ack_blocks);
     sack
 }
 
@@ -58,26 +57,35 @@ pub fn clean_sack(mut sack: SackChunk) -> SackChunk
 fn are_apart(blocks: &[GapAckBlock]) -> bool
     ensures { IsTrue result ↔ IsApart 2 blocks.now }
 {
+    let mut apart = true;
     let mut least: u32 = 2;
+    // no way out before the end, so that several blocks are tested at once
     for block in blocks {
-        // `|`, so that a block costs one jump and not two
-        if (block.end < block.start) | ((block.start as u32) < least) {
-            return false;
-        }
+        apart &= (block.start <= block.end) & (least <= block.start as u32);
         // an end can be 65,535
         least = block.end as u32 + 2;
     }
-    true
+    apart
 }
 
 /// Puts the runs of the offsets that the blocks cover in the place of the blocks.
-fn clean_blocks(blocks: &mut Vec<GapAckBlock>)
-    ensures apart { IsApart 0 blocks.new.items }
-    ensures cover { SameCover blocks.new.items blocks.old.items }
+///
+/// It takes the vector alone and isn't inlined, so that a valid SACK needs no move.
+#[inline(never)]
+fn clean_blocks(mut blocks: Vec<GapAckBlock>) -> Vec<GapAckBlock>
+    ensures apart { IsApart 0 result.items }
+    ensures cover { SameCover result.items blocks.items }
 {
-    let kept = gather(blocks);
+    let kept = gather(&mut blocks);
     blocks.truncate(kept);
+    blocks
 }
+
+/// What stands in a free place: no block ends later.
+const FREE: GapAckBlock = GapAckBlock {
+    start: 65535,
+    end: 65535,
+};
 
 /// Puts block after block in among the runs of those before it: the first so many are then the
 /// runs of what the blocks covered.
@@ -85,13 +93,16 @@ fn clean_blocks(blocks: &mut Vec<GapAckBlock>)
 /// A packet holds 16,379 blocks, and a run that is put in before others moves them all. So a block
 /// that does not follow the runs in front goes among a few recent ones, and these go among those in
 /// front all at once, when they are 256 and at the end.
+///
+/// The array of the recent ones is searched as a whole, since a search of a length that the
+/// compiler knows has no jumps. So a free place holds a block that ends last.
 fn gather(blocks: &mut [GapAckBlock]) -> usize
     ensures len { result ≤ length blocks.old }
     ensures apart { IsApart 0 (take result blocks.new) }
     ensures cover { SameCover (take result blocks.new) blocks.old }
 {
     turn_falling(blocks);
-    let mut recent = [GapAckBlock::new(0, 0); 256];
+    let mut recent = [FREE; 256];
     let mut counts = Counts {
         front: 0,
         recent: 0,
@@ -136,10 +147,12 @@ fn add_block(
     requires nonempty { block.start ≤ block.end }
     requires apart { IsApart 0 (take counts.front blocks.old) }
     requires recent_apart { IsApart 0 (take counts.recent recent.old) }
+    requires free { AreFree (drop counts.recent recent.old) }
     ensures bound { result.front + result.recent ≤ counts.front + counts.recent + 1 }
     ensures recent_bound { result.recent < length recent.old }
     ensures apart { IsApart 0 (take result.front blocks.new) }
     ensures recent_apart { IsApart 0 (take result.recent recent.new) }
+    ensures free { AreFree (drop result.recent recent.new) }
     ensures cover { SameCover (both result recent.new blocks.new) (block ∷ both counts recent.old blocks.old) }
     ensures rest { SameFrom blocks.old blocks.new (counts.front + counts.recent + 1) }
 {
@@ -150,7 +163,8 @@ fn add_block(
             recent: counts.recent,
         };
     }
-    let count = insert(&mut recent[..counts.recent + 1], counts.recent, block);
+    let first = first_reaching(recent, counts.recent, block);
+    let count = insert(recent, counts.recent, first, block);
     if count < recent.len() {
         return Counts {
             front: counts.front,
@@ -158,10 +172,9 @@ fn add_block(
         };
     }
     let both = counts.front + count;
-    Counts {
-        front: join_runs(&mut blocks[..both], counts.front, recent),
-        recent: 0,
-    }
+    let front = join_runs(&mut blocks[..both], counts.front, recent);
+    make_free(recent);
+    Counts { front, recent: 0 }
 }
 
 /// Whether the block starts at least 2 past the end of the last run.
@@ -176,21 +189,51 @@ fn follows(runs: &[GapAckBlock], block: GapAckBlock) -> bool
     }
 }
 
-/// Puts the block in among the first `kept` runs: the first so many are then the runs of both.
-fn insert(runs: &mut [GapAckBlock], kept: usize, block: GapAckBlock) -> usize
-    requires room { length runs.old ≡ kept + 1 }
+/// Puts the block in among the first `kept` runs, of which the one at `first` is the first that it
+/// can touch: the first so many are then the runs of both.
+fn insert(runs: &mut [GapAckBlock], kept: usize, first: usize, block: GapAckBlock) -> usize
+    requires room { kept < length runs.old }
     requires nonempty { block.start ≤ block.end }
     requires apart { IsApart 0 (take kept runs.old) }
+    requires bound { first ≤ kept }
+    requires point { IsReachedAt block.start first (take kept runs.old) }
+    requires free { AreFree (drop kept runs.old) }
     ensures len { result ≤ kept + 1 }
     ensures apart { IsApart 0 (take result runs.new) }
+    ensures free { AreFree (drop result runs.new) }
     ensures cover { SameCover (take result runs.new) (block ∷ take kept runs.old) }
 {
-    let gap = Gap {
-        low: kept,
-        high: runs.len(),
-    };
-    let after = put_by_search(runs, gap, block);
-    close_gap(runs, after)
+    let place = find_place(&runs[..kept], first, block);
+    // whole eights where there is room, with free places behind the runs: that makes fewer jumps
+    let eights = (kept - place.last + 7) / 8 * 8;
+    let end = (place.last + eights).min(runs.len() - 1);
+    move_within(runs, place.last, end, place.first + 1);
+    runs[place.first] = place.run;
+    let count = place.first + 1 + (kept - place.last);
+    make_free_from(runs, count, kept);
+    count
+}
+
+/// Makes the places from `count` on free, where those from `kept` on are free.
+fn make_free_from(runs: &mut [GapAckBlock], count: usize, kept: usize)
+    requires bound { count ≤ length runs.old }
+    requires free { kept ≤ count → AreFree (drop count runs.old) }
+    ensures front { take count runs.new ≡ take count runs.old }
+    ensures free { AreFree (drop count runs.new) }
+{
+    if count < kept {
+        let (_, places) = runs.split_at_mut(count);
+        make_free(places);
+    }
+}
+
+/// Makes every place free.
+fn make_free(places: &mut [GapAckBlock])
+    ensures { AreFree places.new }
+{
+    for place in places.iter_mut() {
+        *place = FREE;
+    }
 }
 
 /// Puts the others in among the first `kept` runs, from the last on: the first so many are then
@@ -235,30 +278,7 @@ fn close_gap(runs: &mut [GapAckBlock], gap: Gap) -> usize
 }
 
 /// Puts the block in among the runs below the gap, and moves those past it to the gap's other side.
-/// It finds the place by a binary search.
-fn put_by_search(runs: &mut [GapAckBlock], gap: Gap, block: GapAckBlock) -> Gap
-    requires order { gap.low < gap.high }
-    requires bound { gap.high ≤ length runs.old }
-    requires nonempty { block.start ≤ block.end }
-    requires apart { IsApart 0 (around gap runs.old) }
-    requires below { IsApart 0 (block ∷ drop gap.high runs.old) }
-    ensures order { result.low + gap.high ≤ gap.low + 1 + result.high }
-    ensures bound { result.high ≤ length runs.old }
-    ensures apart { IsApart 0 (around result runs.new) }
-    ensures below { IsApart (block.end + 2) (drop result.high runs.new) }
-    ensures cover { SameCover (around result runs.new) (block ∷ around gap runs.old) }
-{
-    let place = find_place(&runs[..gap.low], block);
-    let high = gap.high - (gap.low - place.last);
-    move_within(runs, place.last, gap.low, high);
-    runs[place.first] = place.run;
-    Gap {
-        low: place.first + 1,
-        high,
-    }
-}
-
-/// Does what `put_by_search` does, for a block near the gap: it walks down from there.
+/// It walks down from the gap.
 fn put_by_walk(runs: &mut [GapAckBlock], gap: Gap, block: GapAckBlock) -> Gap
     requires order { gap.low < gap.high }
     requires bound { gap.high ≤ length runs.old }
@@ -292,14 +312,38 @@ fn lift_past(runs: &mut [GapAckBlock], gap: Gap, block: GapAckBlock) -> Gap
     ensures below { IsApart (block.end + 2) (drop result.high runs.new) }
     ensures near { LastStartsBy (block.end + 1) result.low runs.new }
 {
-    let mut low = gap.low;
-    let mut high = gap.high;
-    // a start can be 0, and an end 65,535, so one is taken from the start
-    while low > 0 && runs[low - 1].start.saturating_sub(1) > block.end {
-        low -= 1;
-        high -= 1;
-        runs[high] = runs[low];
+    let mut left = gap;
+    // eight at a time where the first of them is past already
+    while left.low > 7 && is_past(runs[left.low - 8], block) {
+        left = lift(runs, left, 8);
     }
+    while left.low > 0 && is_past(runs[left.low - 1], block) {
+        left = lift(runs, left, 1);
+    }
+    left
+}
+
+/// Whether the run starts at least 2 past the block's end.
+fn is_past(run: GapAckBlock, block: GapAckBlock) -> bool
+    ensures { IsTrue result ↔ (block.end + 2 ≤ run.start) }
+{
+    // an end can be 65,535
+    run.start as u32 > block.end as u32 + 1
+}
+
+/// Moves so many runs to the gap's other side.
+fn lift(runs: &mut [GapAckBlock], gap: Gap, count: usize) -> Gap
+    requires count { count ≤ gap.low }
+    requires order { gap.low ≤ gap.high }
+    requires bound { gap.high ≤ length runs.old }
+    ensures low { result.low + count ≡ gap.low }
+    ensures high { result.high + count ≡ gap.high }
+    ensures front { take result.low runs.new ≡ take result.low runs.old }
+    ensures back { drop result.high runs.new ≡ take count (drop result.low runs.old) ++ drop gap.high runs.old }
+{
+    let low = gap.low - count;
+    let high = gap.high - count;
+    runs.copy_within(low..gap.low, high);
     Gap { low, high }
 }
 
@@ -323,17 +367,19 @@ struct Place {
     run: GapAckBlock,
 }
 
-/// The place of the block among the runs.
-fn find_place(runs: &[GapAckBlock], block: GapAckBlock) -> Place
+/// The place of the block among the runs, of which the one at `first` is the first that it can
+/// touch.
+fn find_place(runs: &[GapAckBlock], first: usize, block: GapAckBlock) -> Place
     requires nonempty { block.start ≤ block.end }
     requires apart { IsApart 0 runs.now }
+    requires bound { first ≤ length runs.now }
+    requires point { IsReachedAt block.start first runs.now }
     ensures order { result.first ≤ result.last }
     ensures bound { result.last ≤ length runs.now }
     ensures within { block.end ≤ result.run.end }
     ensures apart { IsApart 0 (placed result runs.now) }
     ensures cover { SameCover (placed result runs.now) (block ∷ runs.now) }
 {
-    let first = first_reaching(runs, block.start.saturating_sub(1));
     let mut last = first;
     let mut run = block;
     // an end can be 65,535, so one is taken from the start
@@ -372,12 +418,15 @@ fn last_place(runs: &[GapAckBlock], block: GapAckBlock) -> Last
     Last { first, run }
 }
 
-/// The first run that ends at `offset` or later.
-fn first_reaching(runs: &[GapAckBlock], offset: u16) -> usize
-    requires { IsApart 0 runs.now }
-    ensures bound { result ≤ length runs.now }
-    ensures point { IsPartitionPoint (λ r. r.end < offset) (λ r. offset ≤ r.end) runs.now result }
+/// The first of the first `kept` runs that ends next to the block's start or later.
+fn first_reaching(runs: &[GapAckBlock], kept: usize, block: GapAckBlock) -> usize
+    requires room { kept ≤ length runs.now }
+    requires apart { IsApart 0 (take kept runs.now) }
+    requires free { AreFree (drop kept runs.now) }
+    ensures bound { result ≤ kept }
+    ensures point { IsReachedAt block.start result (take kept runs.now) }
 {
+    let offset = block.start.saturating_sub(1);
     runs.partition_point(|run| run.end < offset)
 }
 

@@ -35,7 +35,7 @@ returns-then-validate_sack-clause-offsets c =
     offsets_from_ends c.args.sack.gap_ack_blocks.items (subst (λ x. All P x) c.deref.ensures.value c.ends_fit.ensures)
 
 pub returns-clause-runs : goal.returns-clause-runs
-returns-clause-runs c = runs_from_cover c.clean_blocks.new.blocks.items c.args.sack.gap_ack_blocks.items c.clean_blocks.ensures.apart c.clean_blocks.ensures.cover
+returns-clause-runs c = runs_from_cover c.clean_blocks.result.items c.args.sack.gap_ack_blocks.items c.clean_blocks.ensures.apart c.clean_blocks.ensures.cover
 
 pub returns-clause-offsets : goal.returns-clause-offsets
 returns-clause-offsets c =
@@ -43,13 +43,13 @@ returns-clause-offsets c =
     offsets_from_ends c.args.sack.gap_ack_blocks.items (subst (λ x. All P x) c.deref.ensures.value c.ends_fit.ensures)
 
 pub returns-clause-fewest : goal.returns-clause-fewest
-returns-clause-fewest c = fewest_runs c.clean_blocks.new.blocks.items c.args.sack.gap_ack_blocks.items c.clean_blocks.ensures.apart c.clean_blocks.ensures.cover
+returns-clause-fewest c = fewest_runs c.clean_blocks.result.items c.args.sack.gap_ack_blocks.items c.clean_blocks.ensures.apart c.clean_blocks.ensures.cover
 
 pub returns-clause-own : goal.returns-clause-own
-returns-clause-own c = own_in_runs c.clean_blocks.new.blocks.items c.args.sack.gap_ack_blocks.items c.clean_blocks.ensures.apart c.clean_blocks.ensures.cover
+returns-clause-own c = own_in_runs c.clean_blocks.result.items c.args.sack.gap_ack_blocks.items c.clean_blocks.ensures.apart c.clean_blocks.ensures.cover
 
 pub returns-clause-unique : goal.returns-clause-unique
-returns-clause-unique c = unique_runs c.clean_blocks.new.blocks.items c.args.sack.gap_ack_blocks.items c.clean_blocks.ensures.apart c.clean_blocks.ensures.cover
+returns-clause-unique c = unique_runs c.clean_blocks.result.items c.args.sack.gap_ack_blocks.items c.clean_blocks.ensures.apart c.clean_blocks.ensures.cover
 
 pub returns-clause-once : goal.returns-clause-once
-returns-clause-once c = runs_once c.clean_blocks.new.blocks.items c.clean_blocks.ensures.apart
+returns-clause-once c = runs_once c.clean_blocks.result.items c.clean_blocks.ensures.apart

@@ -28,6 +28,7 @@ loop-i-preserved c =
             recent_room = omega arith;
             apart = w.add_block-counts.ensures.apart;
             recent_apart = w.add_block-counts.ensures.recent_apart;
+            free = w.add_block-counts.ensures.free;
             cover = more_blocks old after before block i zero_block within same inv.cover w.add_block-counts.ensures.cover;
             rest = (λ k d m. w.add_block-counts.ensures.rest k d (omega arith) ∙ inv.rest k d (omega arith));
           }
@@ -38,6 +39,7 @@ loop-i-preserved c =
             recent_room = omega arith;
             apart = inv.apart;
             recent_apart = inv.recent_apart;
+            free = inv.free;
             cover = no_more_blocks old before block i zero_block within same reversed inv.cover;
             rest = (λ k d m. inv.rest k d (omega arith));
           }

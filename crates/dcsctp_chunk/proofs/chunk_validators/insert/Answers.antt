@@ -1,14 +1,42 @@
--- Past the gap no run stood.
-use Rattle.std.proofs.Common.{◌≡◌, ◌∷◌, ◌++◌, length, take, drop, arith, ap, subst, sym, ◌∙◌}
-use Rattle.std.proofs.lemmas.List.{append-nil, drop_all}
+-- The run stands in the place of those that it takes in, and behind them all is free.
+use Rattle.std.proofs.Common.{◌≡◌, ◌+◌, ◌-◌, ◌≤◌, ◌∷◌, length, take, drop, set, arith, ap, subst, sym, ◌∙◌}
+use Rattle.std.specs.List.{copy_within}
+use Rattle.std.proofs.lemmas.List.{length-take-le}
 use Rattle.dcsctp_chunk.specs.Cover.{SameCover}
+use Rattle.dcsctp_chunk.specs.Apart.{IsApart, AreFree}
+use Rattle.dcsctp_chunk.proofs.Joined.{put_run, put_free}
 use Rattle.dcsctp_chunk.proofs.chunk_validators.insert.Goals as goal
+
+pub make_free_from-requires-clause-free : goal.make_free_from-requires-clause-free
+make_free_from-requires-clause-free c =
+    let xs = c.args.runs.now in
+    let kept = c.args.kept in
+    let p = c.find_place-place.result in
+    let end = c.min-end.result in
+    let count = p.first + 1 + (kept - p.last) in
+    let within : p.last ≤ kept = omega (arith, length-take-le kept xs (omega arith)) in
+    (λ l. subst (λ x. AreFree (drop count (set x p.first p.run))) (sym c.move_within.ensures) (put_free xs p.run p.first p.last kept end c.find_place-place.ensures.order within (omega arith) (omega arith) c.requires.free l))
+
+pub returns-clause-apart : goal.returns-clause-apart
+returns-clause-apart c =
+    let xs = c.args.runs.now in
+    let kept = c.args.kept in
+    let p = c.find_place-place.result in
+    let end = c.min-end.result in
+    let count = p.first + 1 + (kept - p.last) in
+    let within : p.last ≤ kept = omega (arith, length-take-le kept xs (omega arith)) in
+    let same : length (copy_within xs p.last end (p.first + 1)) ≡ length xs = omega (arith, ap length c.move_within.ensures) in
+    let front = c.make_free_from.ensures.front ∙ (ap (λ x. take count (set x p.first p.run)) c.move_within.ensures ∙ put_run xs p.run p.first p.last kept end c.find_place-place.ensures.order within (omega arith) (omega arith) same) in
+    subst (λ x. IsApart 0 x) (sym front) c.find_place-place.ensures.apart
 
 pub returns-clause-cover : goal.returns-clause-cover
 returns-clause-cover c =
-    let runs = c.args.runs.now in
-    let kept = take c.args.kept runs in
-    let none : kept ++ drop (length runs) runs ≡ kept = ap (λ x. kept ++ x) (drop_all (length runs) runs (omega arith)) ∙ append-nil kept in
-    let after = take c.put_by_search-after.result.low c.put_by_search-after.new.runs ++ drop c.put_by_search-after.result.high c.put_by_search-after.new.runs in
-    let cover : SameCover after (c.args.block ∷ kept) = subst (λ x. SameCover after (c.args.block ∷ x)) none c.put_by_search-after.ensures.cover in
-    subst (λ x. SameCover x (c.args.block ∷ kept)) (sym c.close_gap.ensures.runs) cover
+    let xs = c.args.runs.now in
+    let kept = c.args.kept in
+    let p = c.find_place-place.result in
+    let end = c.min-end.result in
+    let count = p.first + 1 + (kept - p.last) in
+    let within : p.last ≤ kept = omega (arith, length-take-le kept xs (omega arith)) in
+    let same : length (copy_within xs p.last end (p.first + 1)) ≡ length xs = omega (arith, ap length c.move_within.ensures) in
+    let front = c.make_free_from.ensures.front ∙ (ap (λ x. take count (set x p.first p.run)) c.move_within.ensures ∙ put_run xs p.run p.first p.last kept end c.find_place-place.ensures.order within (omega arith) (omega arith) same) in
+    subst (λ x. SameCover x (c.args.block ∷ take kept xs)) (sym front) c.find_place-place.ensures.cover
