@@ -138,7 +138,7 @@ copied_back xs i j dest m =
 pub first_part : (front back : List GapAckBlock) (n : ℕ) → length front ≡ n → take n (front ++ back) ≡ front
 first_part front back n e = ap (λ x. take x (front ++ back)) (sym e) ∙ take-append_seam front back
 
--- the runs with one in the place of those that it takes in, where free places behind them are moved with them
+-- the runs with one in the place of those that it takes in, where free places after them are moved with them
 pub put_run : (xs : List GapAckBlock) (run : GapAckBlock) (first last kept end : ℕ) → first ≤ last → last ≤ kept → kept ≤ end → end < length xs → length (copy_within xs last end (first + 1)) ≡ length xs → take (first + 1 + (kept - last)) (set (copy_within xs last end (first + 1)) first run) ≡ take first (take kept xs) ++ (run ∷ drop last (take kept xs))
 put_run xs run first last kept end k l o m n =
     let after = copy_within xs last end (first + 1) in
@@ -148,13 +148,13 @@ put_run xs run first last kept end k l o m n =
     let long : length mid ≡ end - last = length-take-le (end - last) (drop last xs) (omega (arith, length-drop last xs)) in
     let front : take (first + 1) (set after first run) ≡ take first (take kept xs) ++ (run ∷ []) =
     take_more_set after first run (omega arith) ∙ ap (λ x. x ++ (run ∷ [])) (copied_front xs last end first (first + 1) (omega arith) (omega arith) ∙ sym (take-take first kept xs (omega arith))) in
-    let behind : take (kept - last) (drop (first + 1) (set after first run)) ≡ drop last (take kept xs) =
+    let after : take (kept - last) (drop (first + 1) (set after first run)) ≡ drop last (take kept xs) =
     ap (λ x. take (kept - last) x) (drop-set-lt (first + 1) after first run (omega arith) ∙ copied_back xs last end (first + 1) (omega arith))
     ∙ (take-append-le (kept - last) mid rest (omega arith)
     ∙ (take-take (kept - last) (end - last) (drop last xs) (omega arith)
     ∙ (sym (drop-take last (kept - last) xs) ∙ ap (λ x. drop last (take x xs)) back))) in
     let joined : (take first (take kept xs) ++ (run ∷ [])) ++ drop last (take kept xs) ≡ take first (take kept xs) ++ (run ∷ drop last (take kept xs)) = simp append_assoc in
-    take-add (first + 1) (kept - last) (set after first run) ∙ (ap (λ x. x ++ take (kept - last) (drop (first + 1) (set after first run))) front ∙ (ap (λ x. (take first (take kept xs) ++ (run ∷ [])) ++ x) behind ∙ joined))
+    take-add (first + 1) (kept - last) (set after first run) ∙ (ap (λ x. x ++ take (kept - last) (drop (first + 1) (set after first run))) front ∙ (ap (λ x. (take first (take kept xs) ++ (run ∷ [])) ++ x) after ∙ joined))
 
 free_later : (xs : List GapAckBlock) (kept n : ℕ) → kept ≤ n → AreFree (drop kept xs) → AreFree (drop n xs)
 free_later xs kept n l f =
@@ -162,7 +162,7 @@ free_later xs kept n l f =
     let some : kept + (n - kept) ≡ n = omega arith in
     subst (λ k. AreFree (drop k xs)) some (subst (λ x. AreFree x) (drop-drop (n - kept) kept xs) (All-drop P (n - kept) (drop kept xs) f))
 
--- behind them all is free
+-- after them all is free
 pub put_free : (xs : List GapAckBlock) (run : GapAckBlock) (first last kept end : ℕ) → first ≤ last → last ≤ kept → kept ≤ end → end < length xs → AreFree (drop kept xs) → kept ≤ first + 1 + (kept - last) → AreFree (drop (first + 1 + (kept - last)) (set (copy_within xs last end (first + 1)) first run))
 put_free xs run first last kept end k l o m f g =
     let P : GapAckBlock → Type 0 = λ b. b.end ≡ 65535 in

@@ -204,7 +204,7 @@ fn insert(runs: &mut [GapAckBlock], kept: usize, first: usize, block: GapAckBloc
     ensures cover { SameCover (take result runs.new) (block ∷ take kept runs.old) }
 {
     let place = find_place(&runs[..kept], first, block);
-    // whole eights where there is room, with free places behind the runs: that makes fewer jumps
+    // whole eights where there is room, with free places after the runs: that makes fewer jumps
     let eights = (kept - place.last + 7) / 8 * 8;
     let end = (place.last + eights).min(runs.len() - 1);
     move_within(runs, place.last, end, place.first + 1);

@@ -1,4 +1,4 @@
--- The run stands in the place of those that it takes in, and behind them all is free.
+-- The run stands in the place of those that it takes in, and after them all is free.
 use Rattle.std.proofs.Common.{◌≡◌, ◌+◌, ◌-◌, ◌≤◌, ◌∷◌, length, take, drop, set, arith, ap, subst, sym, ◌∙◌}
 use Rattle.std.specs.List.{copy_within}
 use Rattle.std.proofs.lemmas.List.{length-take-le}
