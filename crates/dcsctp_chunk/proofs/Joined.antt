@@ -148,13 +148,13 @@ put_run xs run first last kept end k l o m n =
     let long : length mid ≡ end - last = length-take-le (end - last) (drop last xs) (omega (arith, length-drop last xs)) in
     let front : take (first + 1) (set after first run) ≡ take first (take kept xs) ++ (run ∷ []) =
     take_more_set after first run (omega arith) ∙ ap (λ x. x ++ (run ∷ [])) (copied_front xs last end first (first + 1) (omega arith) (omega arith) ∙ sym (take-take first kept xs (omega arith))) in
-    let after : take (kept - last) (drop (first + 1) (set after first run)) ≡ drop last (take kept xs) =
+    let past : take (kept - last) (drop (first + 1) (set after first run)) ≡ drop last (take kept xs) =
     ap (λ x. take (kept - last) x) (drop-set-lt (first + 1) after first run (omega arith) ∙ copied_back xs last end (first + 1) (omega arith))
     ∙ (take-append-le (kept - last) mid rest (omega arith)
     ∙ (take-take (kept - last) (end - last) (drop last xs) (omega arith)
     ∙ (sym (drop-take last (kept - last) xs) ∙ ap (λ x. drop last (take x xs)) back))) in
     let joined : (take first (take kept xs) ++ (run ∷ [])) ++ drop last (take kept xs) ≡ take first (take kept xs) ++ (run ∷ drop last (take kept xs)) = simp append_assoc in
-    take-add (first + 1) (kept - last) (set after first run) ∙ (ap (λ x. x ++ take (kept - last) (drop (first + 1) (set after first run))) front ∙ (ap (λ x. (take first (take kept xs) ++ (run ∷ [])) ++ x) after ∙ joined))
+    take-add (first + 1) (kept - last) (set after first run) ∙ (ap (λ x. x ++ take (kept - last) (drop (first + 1) (set after first run))) front ∙ (ap (λ x. (take first (take kept xs) ++ (run ∷ [])) ++ x) past ∙ joined))
 
 free_later : (xs : List GapAckBlock) (kept n : ℕ) → kept ≤ n → AreFree (drop kept xs) → AreFree (drop n xs)
 free_later xs kept n l f =
