@@ -88,7 +88,6 @@ impl IncomingSsnResetRequestParameter {
     }
 }
 
-#[tactic(auto, using(crate::proofs::Puts::count_of_streams))]
 impl SerializableTlv for IncomingSsnResetRequestParameter {
     ghost tlv = { λ p. (kind.format (kind.view p)).tlv };
 

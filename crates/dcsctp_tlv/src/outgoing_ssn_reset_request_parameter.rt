@@ -99,7 +99,6 @@ impl OutgoingSsnResetRequestParameter {
     }
 }
 
-#[tactic(auto, using(crate::proofs::Puts::count_of_streams))]
 impl SerializableTlv for OutgoingSsnResetRequestParameter {
     ghost tlv = { λ p. (kind.format (kind.view p)).tlv };
 
