@@ -16,7 +16,7 @@ ghost use Rattle.dcsctp_cause.specs.CookieReceivedWhileShuttingDown as kind;
 
 use dcsctp_tlv::error::ChunkParseError;
 use dcsctp_tlv::frame::put_parameter;
-use dcsctp_tlv::raw_parameter::RawParameter;
+use dcsctp_tlv::parameter::raw_parameter::RawParameter;
 use dcsctp_tlv::tlv::SerializableTlv;
 use std::fmt;
 

@@ -25,10 +25,10 @@ use crate::protocol_violation_error_cause::{self, ProtocolViolationErrorCause};
 use crate::unrecognized_chunk_error_cause::{self, UnrecognizedChunkErrorCause};
 use crate::user_initiated_abort_error_cause::{self, UserInitiatedAbortErrorCause};
 use dcsctp_tlv::error::ChunkParseError;
-use dcsctp_tlv::raw_parameter::RawParameter;
+use dcsctp_tlv::parameter::raw_parameter::RawParameter;
+use dcsctp_tlv::parameter::unknown_parameter::UnknownParameter;
 use dcsctp_tlv::reader::{ReadableTlv, list_build_counted, list_check, list_from_bytes};
 use dcsctp_tlv::tlv::{ListedTlv, SerializableTlv};
-use dcsctp_tlv::unknown_parameter::UnknownParameter;
 use std::alloc::{AllocError, Global};
 use std::fmt;
 
@@ -36,13 +36,35 @@ use std::fmt;
 /// `Unknown`.
 #[derive(Debug, Drop)]
 pub enum ErrorCause {
+    /// Unrecognized Chunk Type (RFC 9260 section 3.3.10.6), code 6.
     UnrecognizedChunk(UnrecognizedChunkErrorCause),
+    /// No User Data (RFC 9260 section 3.3.10.9), code 9.
     NoUserData(NoUserDataErrorCause),
+    /// Cookie Received While Shutting Down (RFC 9260 section 3.3.10.10), code 10.
     CookieReceivedWhileShuttingDown(CookieReceivedWhileShuttingDownErrorCause),
+    /// User-Initiated Abort (RFC 9260 section 3.3.10.12), code 12.
     UserInitiatedAbort(UserInitiatedAbortErrorCause),
+    /// Protocol Violation (RFC 9260 section 3.3.10.13), code 13.
     ProtocolViolation(ProtocolViolationErrorCause),
+    /// Missing Mandatory Parameter (RFC 9260 section 3.3.10.2), code 2.
     MissingMandatoryParameter(MissingMandatoryParameterErrorCause),
+    /// A cause of any other code.
     Unknown(UnknownParameter),
+}
+
+/// The same of every kind.
+macro_rules! each_kind {
+    ($cause:expr, $kind:ident => $does:expr) => {
+        match $cause {
+            ErrorCause::UnrecognizedChunk($kind) => $does,
+            ErrorCause::NoUserData($kind) => $does,
+            ErrorCause::CookieReceivedWhileShuttingDown($kind) => $does,
+            ErrorCause::UserInitiatedAbort($kind) => $does,
+            ErrorCause::ProtocolViolation($kind) => $does,
+            ErrorCause::MissingMandatoryParameter($kind) => $does,
+            ErrorCause::Unknown($kind) => $does,
+        }
+    };
 }
 
 impl ErrorCause {
@@ -110,6 +132,7 @@ impl ErrorCause {
     }
 }
 
+#[tactic(auto, unfolding(crate::specs::UnrecognizedChunk::read, dcsctp_tlv::specs::UnknownParameter::read))]
 impl ReadableTlv for ErrorCause {
     ghost Tree = { CauseTree };
 
@@ -139,12 +162,6 @@ impl ReadableTlv for ErrorCause {
                 ));
                 Ok(())
             }
-            unrecognized_chunk_error_cause::CAUSE_CODE => {
-                list.push_reserved(ErrorCause::UnrecognizedChunk(UnrecognizedChunkErrorCause::build(
-                    alloc, value,
-                )?));
-                Ok(())
-            }
             no_user_data_error_cause::CAUSE_CODE => {
                 list.push_reserved(ErrorCause::NoUserData(NoUserDataErrorCause::build(value)));
                 Ok(())
@@ -168,15 +185,26 @@ impl ReadableTlv for ErrorCause {
                 Ok(())
             }
             _ => {
-                list.push_reserved(ErrorCause::Unknown(UnknownParameter::build(
-                    alloc, code, value,
-                )?));
+                // one copy for both kinds that keep their value, so that an item costs one result
+                let bytes = Vec::from_slice(alloc, value)?;
+                if code == unrecognized_chunk_error_cause::CAUSE_CODE {
+                    list.push_reserved(ErrorCause::UnrecognizedChunk(UnrecognizedChunkErrorCause {
+                        chunk: bytes,
+                    }));
+                } else {
+                    list.push_reserved(ErrorCause::Unknown(UnknownParameter {
+                        typ: code,
+                        value: bytes,
+                    }));
+                }
                 Ok(())
             }
         }
     }
 
-    ghost ignores_padding = { λ size there. refl };
+    fn accepts_padding(_size: usize, _there: &[u8]) -> bool {
+        true
+    }
 }
 
 impl SerializableTlv for ErrorCause {
@@ -189,39 +217,15 @@ impl SerializableTlv for ErrorCause {
     ghost size_bound = { λ c fits. fits };
 
     fn serialize_to(&self, output: &mut [u8]) {
-        match self {
-            ErrorCause::UnrecognizedChunk(c) => c.serialize_to(output),
-            ErrorCause::NoUserData(c) => c.serialize_to(output),
-            ErrorCause::CookieReceivedWhileShuttingDown(c) => c.serialize_to(output),
-            ErrorCause::UserInitiatedAbort(c) => c.serialize_to(output),
-            ErrorCause::ProtocolViolation(c) => c.serialize_to(output),
-            ErrorCause::MissingMandatoryParameter(c) => c.serialize_to(output),
-            ErrorCause::Unknown(c) => c.serialize_to(output),
-        }
+        each_kind!(self, c => c.serialize_to(output))
     }
 
     fn value_size(&self) -> usize {
-        match self {
-            ErrorCause::UnrecognizedChunk(c) => c.value_size(),
-            ErrorCause::NoUserData(c) => c.value_size(),
-            ErrorCause::CookieReceivedWhileShuttingDown(c) => c.value_size(),
-            ErrorCause::UserInitiatedAbort(c) => c.value_size(),
-            ErrorCause::ProtocolViolation(c) => c.value_size(),
-            ErrorCause::MissingMandatoryParameter(c) => c.value_size(),
-            ErrorCause::Unknown(c) => c.value_size(),
-        }
+        each_kind!(self, c => c.value_size())
     }
 
     fn encodable(&self) -> bool {
-        match self {
-            ErrorCause::UnrecognizedChunk(c) => c.encodable(),
-            ErrorCause::NoUserData(c) => c.encodable(),
-            ErrorCause::CookieReceivedWhileShuttingDown(c) => c.encodable(),
-            ErrorCause::UserInitiatedAbort(c) => c.encodable(),
-            ErrorCause::ProtocolViolation(c) => c.encodable(),
-            ErrorCause::MissingMandatoryParameter(c) => c.encodable(),
-            ErrorCause::Unknown(c) => c.encodable(),
-        }
+        each_kind!(self, c => c.encodable())
     }
 }
 
@@ -229,15 +233,7 @@ impl fmt::Display for ErrorCause {
     ghost output = { λ c. Some (cause.text (view c)) };
 
     fn fmt<W: fmt::Write>(&self, f: &mut fmt::Formatter<W>) -> fmt::Result {
-        match self {
-            ErrorCause::UnrecognizedChunk(c) => c.fmt(f),
-            ErrorCause::NoUserData(c) => c.fmt(f),
-            ErrorCause::CookieReceivedWhileShuttingDown(c) => c.fmt(f),
-            ErrorCause::UserInitiatedAbort(c) => c.fmt(f),
-            ErrorCause::ProtocolViolation(c) => c.fmt(f),
-            ErrorCause::MissingMandatoryParameter(c) => c.fmt(f),
-            ErrorCause::Unknown(c) => c.fmt(f),
-        }
+        each_kind!(self, c => c.fmt(f))
     }
 }
 

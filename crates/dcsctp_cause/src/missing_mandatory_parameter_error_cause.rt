@@ -24,7 +24,7 @@ use dcsctp_tlv::error::ChunkParseError;
 use dcsctp_tlv::fields::{Field, fields_from_bytes, put_parameter_fields};
 use dcsctp_tlv::frame::MAX_VALUE_SIZE;
 use dcsctp_tlv::number::{read_u16_be, read_u32_be, write_u16_be};
-use dcsctp_tlv::raw_parameter::RawParameter;
+use dcsctp_tlv::parameter::raw_parameter::RawParameter;
 use dcsctp_tlv::text::write_joined;
 use dcsctp_tlv::tlv::SerializableTlv;
 use std::alloc::{AllocError, Global};
@@ -83,7 +83,7 @@ impl MissingMandatoryParameterErrorCause {
         MissingMandatoryParameterErrorCause { missing_parameters }
     }
 
-    /// A cause with the same types; refused for want of memory alone.
+    /// A cause with the same types; refused only where memory runs out.
     pub fn clone(&self) -> Result<MissingMandatoryParameterErrorCause, AllocError>
         ensures { IfOk result
             (λ c. c.missing_parameters.items ≡ self.now.missing_parameters.items) }

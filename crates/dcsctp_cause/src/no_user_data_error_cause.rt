@@ -19,7 +19,7 @@ ghost use Rattle.dcsctp_cause.specs.NoUserData as kind;
 use dcsctp_tlv::error::ChunkParseError;
 use dcsctp_tlv::frame::put_parameter;
 use dcsctp_tlv::number::read_u32_be;
-use dcsctp_tlv::raw_parameter::RawParameter;
+use dcsctp_tlv::parameter::raw_parameter::RawParameter;
 use dcsctp_tlv::tlv::SerializableTlv;
 use dcsctp_types::types::Tsn;
 use std::fmt;

@@ -19,7 +19,7 @@ ghost use Rattle.dcsctp_cause.specs.ProtocolViolation as kind;
 use crate::text::text_or;
 use dcsctp_tlv::error::ChunkParseError;
 use dcsctp_tlv::frame::{MAX_VALUE_SIZE, put_parameter};
-use dcsctp_tlv::raw_parameter::RawParameter;
+use dcsctp_tlv::parameter::raw_parameter::RawParameter;
 use dcsctp_tlv::tlv::SerializableTlv;
 use std::alloc::{AllocError, Global};
 use std::fmt;
@@ -58,7 +58,7 @@ impl ProtocolViolationErrorCause {
         ensures { Builds kind.view result (kind.read value.now) }
     {
         Ok(ProtocolViolationErrorCause {
-            information: text_or(alloc, UNREADABLE, value)?,
+            information: String::from_str(alloc, text_or(UNREADABLE, value))?,
         })
     }
 }

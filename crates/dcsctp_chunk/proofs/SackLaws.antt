@@ -33,8 +33,8 @@ back s width fits =
     let count : block_count value ≡ n = from_be_bytes-to_be_bytes_2 n (omega (arith, sized, fits)) in
     let more : duplicate_count value ≡ m = from_be_bytes-to_be_bytes_2 m (omega (arith, sized, fits)) in
     let blocks_are : fields block_at 4 n (drop 12 value) ≡ s.blocks = fields_back block_at block_bytes 4 IsBlockInWidth block_law s.blocks duplicates width.blocks in
-    let behind : drop (12 + 4 * n) value ≡ duplicates = sym (drop-drop (4 * n) 12 value) ∙ drop_at (flat_map block_bytes s.blocks) duplicates (4 * n) (size_of_blocks s.blocks) in
-    let duplicates_are : fields number32 4 m (drop (12 + 4 * n) value) ≡ s.duplicates = ap (fields number32 4 m) behind ∙ numbers32_back s.duplicates m refl width.duplicates in
+    let after : drop (12 + 4 * n) value ≡ duplicates = sym (drop-drop (4 * n) 12 value) ∙ drop_at (flat_map block_bytes s.blocks) duplicates (4 * n) (size_of_blocks s.blocks) in
+    let duplicates_are : fields number32 4 m (drop (12 + 4 * n) value) ≡ s.duplicates = ap (fields number32 4 m) after ∙ numbers32_back s.duplicates m refl width.duplicates in
     rw (count, more, le-ltb (length value) 12 (omega (arith, sized)), eq-eqb (length value) (12 + 4 * n + 4 * m) sized, from_be_bytes-to_be_bytes_4 s.tsn width.tsn, from_be_bytes-to_be_bytes_4 s.a_rwnd width.a_rwnd, blocks_are, duplicates_are) refl
 
 pub sack_laws : KindLaws (λ first flags value. sack_at value) sack_tlv IsSackInWidth (λ s. Unit {0})

@@ -31,7 +31,7 @@ size_of_sack c =
     let d = length-map c.duplicate_tsns.items (λ tsn. tsn.0) in
     omega (arith, l, d)
 
--- header, numbers and lists, each written behind what was written
+-- header, numbers and lists, each written after what was written
 pub sack_written : (s : SackTree) (n : ℕ) (old headed one two three four five out : List ℕ)
     → n ≡ length (sack_bytes s) → 4 + length (sack_bytes s) ≤ length old → 4 ≤ length headed
     → headed ≡ header 3 0 n ++ drop 4 old

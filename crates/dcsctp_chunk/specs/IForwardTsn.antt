@@ -17,7 +17,7 @@ pub record IForwardTsnTree : Type 0 where
   pub tsn : ℕ
   pub streams : List SkippedStreamTree
 
--- all bits but the lowest of the two bytes behind the stream id are ignored
+-- all bits but the lowest of the two bytes after the stream id are ignored
 abbrev pub mid_stream_at : List ℕ → SkippedStreamTree
 mid_stream_at bytes = ByMid (number16 bytes) (number16 (drop 2 bytes) % 2 == 1) (number32 (drop 4 bytes))
 

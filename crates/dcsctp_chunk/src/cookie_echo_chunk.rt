@@ -31,6 +31,7 @@ pub const CHUNK_TYPE: u8 = 10;
 /// An empty cookie can be written, but isn't read.
 #[derive(Debug, Drop)]
 pub struct CookieEchoChunk {
+    /// The State Cookie of the INIT ACK, byte for byte.
     pub cookie: Vec<u8>,
 }
 
@@ -45,7 +46,7 @@ impl CookieEchoChunk {
         }
     }
 
-    /// A chunk with the same cookie; refused for want of memory alone.
+    /// A chunk with the same cookie; refused only where memory runs out.
     pub fn clone(&self) -> Result<CookieEchoChunk, AllocError>
         ensures { IfOk result (λ c. c.cookie.items ≡ self.now.cookie.items) }
     {

@@ -52,7 +52,7 @@ impl Data {
         }
     }
 
-    /// The same, with a payload of its own; refused for want of memory alone.
+    /// The same, with a payload of its own; refused only where memory runs out.
     pub fn clone(&self) -> Result<Data, AllocError>
         ensures { IfOk result (λ d. user_data_view d ≡ user_data_view self.now) }
     {

@@ -99,7 +99,7 @@ impl IForwardTsnChunk {
     /// flags are ignored.
     ///
     /// `InvalidType` exactly for another type; `InvalidLength` exactly where the value has fewer
-    /// than 4 bytes, or no multiple of 8 behind the first 4; `OutOfMemory` only where the streams
+    /// than 4 bytes, or no multiple of 8 after the first 4; `OutOfMemory` only where the streams
     /// can't be copied.
     pub fn try_from(alloc: Global, raw: RawChunk) -> Result<Self, ChunkParseError>
         ensures other { IsErrOf result ChunkParseError.InvalidType ↔ (raw.entry.typ ≢ CHUNK_TYPE) }

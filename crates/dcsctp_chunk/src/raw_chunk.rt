@@ -22,14 +22,16 @@ use dcsctp_tlv::frame::split_frame;
 /// A chunk's type, its flags and its value as bytes (RFC 9260 section 3.2).
 #[derive(Debug, Drop)]
 pub struct RawChunk<'a> {
+    /// What kind of chunk it is.
     pub typ: u8,
+    /// What they mean depends on the type.
     pub flags: u8,
-    /// What stands behind the header, without padding.
+    /// What stands after the header, without padding.
     pub value: &'a [u8],
 }
 
 impl<'a> RawChunk<'a> {
-    /// The chunk at the front of `bytes`, and the bytes behind it and its padding.
+    /// The chunk at the front of `bytes`, and the bytes after it and its padding.
     ///
     /// Value and rest are parts of the input, and no memory is taken. Padding isn't looked at; the
     /// last chunk of a packet may lack some or all of it, and then nothing is left.
@@ -57,8 +59,8 @@ impl<'a> RawChunk<'a> {
 
 /// Writes a chunk's header for a value of `value_size` bytes, and lends the part for the value.
 ///
-/// The lent part is as it stood, and so is all behind it. `output` ends as the header, what the
-/// caller leaves in the lent part, and the bytes behind it.
+/// The lent part is as it stood, and so is all after it. `output` ends as the header, what the
+/// caller leaves in the lent part, and the bytes after it.
 pub fn write_chunk_header(typ: u8, flags: u8, value_size: usize, output: &mut [u8]) -> &mut [u8]
     requires encodable { 4 + value_size < 2 ^ 16 }
     requires room { 4 + value_size ≤ length output.old }

@@ -42,7 +42,7 @@ pub const CHUNK_TYPE: u8 = 3;
 /// Bytes of the value before the gap ack blocks.
 const FIXED_SIZE: usize = 12;
 
-/// A run of TSNs that came behind the first one that is missing (RFC 9260 section 3.3.4).
+/// A run of TSNs that came in beyond the first one that is missing (RFC 9260 section 3.3.4).
 #[derive(Clone, Copy, Debug, PartialEq, Eq)]
 pub struct GapAckBlock {
     /// The first TSN, as its offset from the cumulative TSN.
@@ -103,7 +103,7 @@ pub struct SackChunk {
     pub cumulative_tsn_ack: Tsn,
     /// Bytes that the receiver has room for.
     pub a_rwnd: u32,
-    /// What was received behind the first missing TSN. They are read and written as they are, in
+    /// What was received beyond the first missing TSN. They are read and written as they are, in
     /// any order.
     pub gap_ack_blocks: Vec<GapAckBlock>,
     /// The TSNs that came more than once, as often as they came again.
@@ -151,12 +151,12 @@ impl SackChunk {
     {
         let blocks = read_u16_be(&value[8..]) as usize;
         let duplicates = read_u16_be(&value[10..]) as usize;
-        let behind_blocks = FIXED_SIZE + 4 * blocks;
+        let after_blocks = FIXED_SIZE + 4 * blocks;
         Ok(SackChunk {
             cumulative_tsn_ack: Tsn(read_u32_be(value)),
             a_rwnd: read_u32_be(&value[4..]),
             gap_ack_blocks: fields_from_bytes::<GapAckBlock>(alloc, &value[FIXED_SIZE..], blocks)?,
-            duplicate_tsns: fields_from_bytes::<Tsn>(alloc, &value[behind_blocks..], duplicates)?,
+            duplicate_tsns: fields_from_bytes::<Tsn>(alloc, &value[after_blocks..], duplicates)?,
         })
     }
 }

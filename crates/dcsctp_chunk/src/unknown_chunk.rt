@@ -26,8 +26,11 @@ use std::fmt;
 /// A chunk that is kept as it is: its type, all its flags and its value (RFC 9260 section 3.2).
 #[derive(Debug, Drop)]
 pub struct UnknownChunk {
+    /// What kind of chunk it is.
     pub typ: u8,
+    /// What they mean depends on the type.
     pub flags: u8,
+    /// The bytes after the header, without padding.
     pub value: Vec<u8>,
 }
 

@@ -1,7 +1,8 @@
 -- A check of a list, and the build after it: what both have gone over, and what is left.
-use Rattle.std.proofs.Common.{◌≡◌, ◌≢◌, ℕ, suc, ◌+◌, ◌*◌, ◌≤◌, true, false, Result, Ok, Err, ◌⊎◌, inl, inr, List, [], ◌∷◌, ◌++◌, length, refl, sym, ap, subst, ◌∙◌, arith}
+use Rattle.std.proofs.Common.{◌≡◌, ◌≢◌, ℕ, suc, ◌+◌, ◌*◌, ◌≤◌, true, false, Result, Ok, Err, ◌⊎◌, inl, inr, List, [], ◌∷◌, ◌++◌, length, refl, sym, ap, subst, ◌∙◌, arith, get_or, Fits}
 use Rattle.std.specs.Prelude.{◌↔◌, IsOk, IsErrOf}
 use Rattle.std.specs.List.{flat_map}
+use Rattle.std.specs.Int.{w8}
 use Rattle.std.proofs.lemmas.List.{append-nil, get_or-drop, length-append, length-drop}
 use Rattle.dcsctp_tlv.specs.declared.error.ChunkParseError.{ChunkParseError}
 use Rattle.dcsctp_tlv.specs.declared.error.ChunkParseError.TheVariants.{InvalidLength, InvalidType, InvalidPadding, InvalidValue, OutOfMemory}
@@ -9,7 +10,7 @@ use Rattle.dcsctp_tlv.specs.Fault.{Fault, Length, Padding, Value}
 use Rattle.dcsctp_tlv.specs.Number.{AreBytes}
 use Rattle.dcsctp_tlv.specs.Count.{total}
 use Rattle.dcsctp_tlv.specs.Frame.{padding_size, round_up_to_4, Item, item_bytes, PaddingRule, AreFormed, AreItems, frame_length, BeginsWithFrame, frame_value, frame_padding, frame_rest}
-use Rattle.dcsctp_tlv.specs.Level.{Row, Level, ItemsMean, MeansTrees, MeansMany, MeansCounted, HasFault, no_frame, value, front_row}
+use Rattle.dcsctp_tlv.specs.Level.{Row, Level, HasMeaning, ItemsMean, MeansTrees, MeansMany, MeansCounted, HasFault, no_frame, value, padding, front_row}
 use Rattle.dcsctp_tlv.specs.Reading.{Answers, IsFault, Finds, error_of, ChecksExactly, ReadsExactly}
 use Rattle.dcsctp_tlv.proofs.Items.{front_item, front_length, items_before}
 use Rattle.dcsctp_tlv.proofs.Lists.{Progress, step, finish, fault}
@@ -65,7 +66,16 @@ check_fault level bytes trees rest InvalidType p frame f = absurd f
 check_fault level bytes trees rest InvalidPadding p frame f = fault level bytes trees rest Padding p (value frame f)
 check_fault level bytes trees rest InvalidValue p frame f = fault level bytes trees rest Value p (value frame f)
 
+-- so is a padding that isn't accepted
+pub check_padding : {T : Type 0} (level : Level T) (bytes : List ℕ) (trees : List T) (rest : List ℕ) (t : T) → Progress level bytes trees rest → BeginsWithFrame rest
+    → (front_row level rest).means (frame_value rest) t → level.padding (padding_size (length (frame_value rest))) (frame_padding rest) ≡ false → HasFault level bytes Padding
+check_padding level bytes trees rest t p frame means refused = fault level bytes trees rest Padding p (padding t frame means refused refl)
+
 -- ---- the build
+
+head_accepted : (rule : PaddingRule) (i : Item) (is : List Item) → AreFormed rule (i ∷ is) → rule (padding_size (length i.value)) i.padding ≡ true
+head_accepted rule i [] p = p.accepted
+head_accepted rule i (j ∷ is) p = p.0.accepted
 
 tail_formed : (rule : PaddingRule) (i : Item) (is : List Item) → AreFormed rule (i ∷ is) → AreFormed rule is
 tail_formed rule i [] p = tt
@@ -77,6 +87,7 @@ at_first bytes i is e = e ∙ ap (λ (x : List ℕ). item_bytes i ++ x) (sym (ap
 -- items begin with a frame, and after it are the others
 pub record FirstItem (rule : PaddingRule) (bytes : List ℕ) (items : List Item) : Type 0 where
   pub frame : BeginsWithFrame bytes
+  pub accepted : rule (padding_size (length (frame_value bytes))) (frame_padding bytes) ≡ true
   pub others : List Item
   pub split : items ≡ front_item bytes ∷ others
   pub are : AreItems rule (frame_rest bytes) others
@@ -90,6 +101,7 @@ first_item rule bytes (i ∷ is) fits h are =
     let rest = rest_is rule i (flat_map item_bytes is ++ []) bytes fits e next in
     record {
       frame = front.0;
+      accepted = subst (λ (j : Item). rule (padding_size (length j.value)) j.padding ≡ true) front.1 (head_accepted rule i is are.formed);
       others = is;
       split = ap (λ (j : Item). j ∷ is) front.1;
       are = record { split = sym rest ∙ append-nil (flat_map item_bytes is); formed = tail_formed rule i is are.formed };
@@ -98,22 +110,23 @@ first_item rule bytes (i ∷ is) fits h are =
 -- the front means the first tree, and what is after it the others
 pub record FirstTree {T : Type 0} (level : Level T) (bytes : List ℕ) (trees : List T) : Type 0 where
   pub frame : BeginsWithFrame bytes
+  pub accepted : level.padding (padding_size (length (frame_value bytes))) (frame_padding bytes) ≡ true
   pub first : T
   pub others : List T
   pub count : length trees ≡ suc (length others)
   pub means : (front_row level bytes).means (frame_value bytes) first
   pub mean : MeansTrees level (frame_rest bytes) others
 
-first_means : {T : Type 0} (level : Level T) (bytes : List ℕ) (items others : List Item) (trees : List T) → items ≡ front_item bytes ∷ others → BeginsWithFrame bytes → AreItems level.padding (frame_rest bytes) others
-    → ItemsMean level (front_item bytes ∷ others) trees → FirstTree level bytes trees
-first_means level bytes items others [] e frame are mean = absurd mean
-first_means level bytes items others (t ∷ ts) e frame are mean =
-    record { frame = frame; first = t; others = ts; count = refl; means = mean.0; mean = record { items = others; are = are; mean = mean.1 } }
+first_means : {T : Type 0} (level : Level T) (bytes : List ℕ) (items others : List Item) (trees : List T) → items ≡ front_item bytes ∷ others → BeginsWithFrame bytes
+    → level.padding (padding_size (length (frame_value bytes))) (frame_padding bytes) ≡ true → AreItems level.padding (frame_rest bytes) others → ItemsMean level (front_item bytes ∷ others) trees → FirstTree level bytes trees
+first_means level bytes items others [] e frame accepted are mean = absurd mean
+first_means level bytes items others (t ∷ ts) e frame accepted are mean =
+    record { frame = frame; accepted = accepted; first = t; others = ts; count = refl; means = mean.0; mean = record { items = others; are = are; mean = mean.1 } }
 
 pub first_tree : {T : Type 0} (level : Level T) (bytes : List ℕ) (trees : List T) → AreBytes bytes → bytes ≢ [] → MeansTrees level bytes trees → FirstTree level bytes trees
 first_tree level bytes trees fits h m =
     let f = first_item level.padding bytes m.items fits h m.are in
-    first_means level bytes m.items f.others trees f.split f.frame f.are (subst (λ (is : List Item). ItemsMean level is trees) f.split m.mean)
+    first_means level bytes m.items f.others trees f.split f.frame f.accepted f.are (subst (λ (is : List Item). ItemsMean level is trees) f.split m.mean)
 
 -- what is built, and what is left
 pub record Building {T : Type 0} (level : Level T) (bytes rest : List ℕ) (built : List T) (len capacity : ℕ) : Type 0 where
@@ -123,9 +136,9 @@ pub record Building {T : Type 0} (level : Level T) (bytes rest : List ℕ) (buil
   pub room : len + length left ≡ capacity
 
 pub build_step : {T : Type 0} (level : Level T) (bytes rest : List ℕ) (built : List T) (t : T) (len capacity : ℕ) (b : Building level bytes rest built len capacity) → (f : FirstTree level rest b.left)
-    → (front_row level rest).means (frame_value rest) t → level.padding (padding_size (length (frame_value rest))) (frame_padding rest) ≡ true → Building level bytes (frame_rest rest) (built ++ t ∷ []) (len + 1) capacity
-build_step level bytes rest built t len capacity b f means accepted = record {
-  progress = step level bytes built rest t b.progress f.frame means accepted;
+    → (front_row level rest).means (frame_value rest) t → Building level bytes (frame_rest rest) (built ++ t ∷ []) (len + 1) capacity
+build_step level bytes rest built t len capacity b f means = record {
+  progress = step level bytes built rest t b.progress f.frame means f.accepted;
   left = f.others;
   mean = f.mean;
   room = omega (arith, b.room, f.count);
@@ -273,3 +286,13 @@ reads_exactly view means faults single (Err InvalidLength) a memory = told_exact
 reads_exactly view means faults single (Err InvalidPadding) a memory = told_exactly view means faults single InvalidPadding a (Err InvalidPadding) refl
 reads_exactly view means faults single (Err InvalidValue) a memory = told_exactly view means faults single InvalidValue a (Err InvalidValue) refl
 reads_exactly view means faults single (Err InvalidType) a memory = absurd a
+
+-- a value has one answer under a lawful row
+pub row_exactly : {X T : Type 0} {row : Row T} → LawfulRow row → (v : List ℕ)
+    → ((i : ℕ) → Fits w8 (get_or v i 0)) → {view : X → T} {r : Result X ChunkParseError}
+    → Answers r (λ x. row.means v (view x)) (row.faults v)
+      × (IsErrOf r OutOfMemory → HasMeaning row v)
+    → ReadsExactly r view (row.means v) (row.faults v)
+row_exactly {X} {T} {row} law v fits {view} {r} a =
+    let single = row_single row law v (λ i. (fits i).fits) in
+    reads_exactly view (row.means v) (row.faults v) single r a.0 a.1

@@ -1,4 +1,4 @@
--- Fields of one size in a row read back: written one behind the other, they are read one after the other.
+-- Fields of one size in a row read back: written one after the other, they are read one after the other.
 use Rattle.std.proofs.Common.{◌≡◌, ℕ, zero, suc, ◌^◌, ◌<◌, List, [], ◌∷◌, ◌++◌, length, drop, refl, ap, ◌∙◌, append_assoc}
 use Rattle.std.specs.Int.{w16, w32, to_be_bytes}
 use Rattle.std.specs.List.{flat_map, AllByRecursion}
@@ -26,14 +26,14 @@ pub fields_back : {A : Type 0} (read : List ℕ → A) (write : A → List ℕ) 
     → (xs : List A) (rest : List ℕ) → AllByRecursion IsWritable xs → fields read size (length xs) (flat_map write xs ++ rest) ≡ xs
 fields_back read write size IsWritable law [] rest h = refl
 fields_back read write size IsWritable law (x ∷ xs) rest h =
-    let behind : List ℕ = flat_map write xs ++ rest in
-    let e : flat_map write (x ∷ xs) ++ rest ≡ write x ++ behind = append_assoc (write x) (flat_map write xs) rest in
+    let after : List ℕ = flat_map write xs ++ rest in
+    let e : flat_map write (x ∷ xs) ++ rest ≡ write x ++ after = append_assoc (write x) (flat_map write xs) rest in
     ap (λ (bytes : List ℕ). read bytes ∷ fields read size (length xs) (drop size bytes)) e
-    ∙ ap (λ (y : _). y ∷ fields read size (length xs) (drop size (write x ++ behind))) (law.back x behind h.0)
-    ∙ ap (λ (bytes : List ℕ). x ∷ fields read size (length xs) bytes) (drop_at (write x) behind size (law.sized x h.0))
+    ∙ ap (λ (y : _). y ∷ fields read size (length xs) (drop size (write x ++ after))) (law.back x after h.0)
+    ∙ ap (λ (bytes : List ℕ). x ∷ fields read size (length xs) bytes) (drop_at (write x) after size (law.sized x h.0))
     ∙ ap (λ (ys : List _). x ∷ ys) (fields_back read write size IsWritable law xs rest h.1)
 
--- with nothing behind them
+-- with nothing after them
 pub last_fields_back : {A : Type 0} (read : List ℕ → A) (write : A → List ℕ) (size : ℕ) (IsWritable : A → Type 0) → FieldLaw read write size IsWritable
     → (xs : List A) (count : ℕ) → count ≡ length xs → AllByRecursion IsWritable xs → fields read size count (flat_map write xs) ≡ xs
 last_fields_back read write size IsWritable law xs count e h = rw (e, ← append-nil (flat_map write xs)) (fields_back read write size IsWritable law xs [] h)

@@ -32,29 +32,29 @@ written-solid [] old le = refl
 written-solid (b ∷ bytes) [] le = absurd (omega arith)
 written-solid (b ∷ bytes) (x ∷ old) le = ap (λ (ys : List ℕ). b ∷ ys) (written-solid bytes old (omega arith))
 
--- bytes at the front, and behind them an image
-written_behind : (front : List ℕ) (image : List (Option ℕ)) (old out : List ℕ) → out ≡ front ++ drop (length front) old → length front ≤ length old
+-- bytes at the front, and after them an image
+written_after : (front : List ℕ) (image : List (Option ℕ)) (old out : List ℕ) → out ≡ front ++ drop (length front) old → length front ≤ length old
     → take (length front) out ++ written image (drop (length front) out) ≡ written (solid front ++ image) old
-written_behind front image old out e room =
+written_after front image old out e room =
     let len : length (solid front) ≡ length front = length-map front Some in
     let is : out ≡ written (solid front) old = e ∙ sym (written-solid front old room) in
-    let behind : drop (length front) out ≡ drop (length front) old = ap (drop (length front)) e ∙ drop_at front (drop (length front) old) (length front) refl in
-    ap (λ (xs : List ℕ). take (length front) out ++ written image xs) behind
+    let after : drop (length front) out ≡ drop (length front) old = ap (drop (length front)) e ∙ drop_at front (drop (length front) old) (length front) refl in
+    ap (λ (xs : List ℕ). take (length front) out ++ written image xs) after
     ∙ ap (λ (xs : List ℕ). take (length front) xs ++ written image (drop (length front) old)) is
     ∙ ap (λ (n : ℕ). take n (written (solid front) old) ++ written image (drop n old)) (sym len)
     ∙ sym (written-append (solid front) image old)
 
 -- ---- items
 
--- a header at the front, and behind it a value
+-- a header at the front, and after it a value
 pub written_item : (t : Tlv) (old out : List ℕ) → out ≡ header t.first t.second t.value_size ++ drop 4 old → 4 ≤ length old
     → take 4 out ++ written t.value (drop 4 out) ≡ written (image_of t) old
 unfolding image_of
-written_item t old out e room = written_behind (header t.first t.second t.value_size) t.value old out e room
+written_item t old out e room = written_after (header t.first t.second t.value_size) t.value old out e room
 
 -- ---- lists of items
 
--- an item behind an image and its gap
+-- an item after an image and its gap
 written_next : (p i : List (Option ℕ)) (n start : ℕ) (old out : List ℕ) → out ≡ written p old → start ≡ length p + n → take start out ++ written i (drop start out) ≡ written (p ++ (holes n ++ i)) old
 written_next p i n start old out e s =
     let q : List (Option ℕ) = p ++ holes n in
@@ -63,12 +63,12 @@ written_next p i n start old out e s =
     ∙ ap (λ (ys : List ℕ). take (length p) (written p old) ++ ys) (written-holes n (drop (length p) old) ∙ sym (drop-written p old))
     ∙ take-append-drop (length p) (written p old) in
     let len : length q ≡ start = length-append p (holes n) ∙ ap (λ (k : ℕ). length p + k) (length-replicate n None) ∙ sym s in
-    let behind : drop start out ≡ drop start old = rw (← len, e, ← same) (drop-written q old) in
+    let after : drop start out ≡ drop start old = rw (← len, e, ← same) (drop-written q old) in
     sym (ap (λ (image : List (Option ℕ)). written image old) (sym (append_assoc p (holes n) i))
     ∙ written-append q i old
     ∙ ap (λ (k : ℕ). take k (written q old) ++ written i (drop k old)) len
     ∙ ap (λ (ys : List ℕ). take start ys ++ written i (drop start old)) (same ∙ sym e)
-    ∙ ap (λ (ys : List ℕ). take start out ++ written i ys) (sym behind))
+    ∙ ap (λ (ys : List ℕ). take start out ++ written i ys) (sym after))
 
 round_up-add : (a b : ℕ) → round_up_to_4 (round_up_to_4 a + b) ≡ round_up_to_4 a + round_up_to_4 b
 round_up-add a b = omega arith
@@ -117,7 +117,7 @@ size_front tlv (t ∷ []) [] = omega arith
 size_front tlv (t ∷ []) (u ∷ us) = omega arith
 size_front tlv (t ∷ u ∷ ts) us = let h = size_front tlv (u ∷ ts) us in omega (arith, h)
 
--- the next item fits behind those before it
+-- the next item fits after those before it
 next_size : {T : Type 0} (tlv : T → Tlv) (ts : List T) (i : ℕ) (t : T) → i < length ts → t ≡ get_or ts i t
     → (list_size tlv (take (i + 1) ts) ≡ round_up_to_4 (list_size tlv (take i ts)) + size_of (tlv t)) × (list_size tlv (take (i + 1) ts) ≤ list_size tlv ts)
 next_size tlv ts i t lt e =

@@ -99,10 +99,10 @@ rest_fits [] ys bytes fits e = subst AreBytes e fits
 rest_fits (x ∷ xs) ys [] fits e = absurd cc
 rest_fits (x ∷ xs) ys (b ∷ bytes) fits e = rest_fits xs ys bytes (λ i. fits (suc i)) cc
 
--- the rest behind a first item
-behind : (rule : PaddingRule) (i j : Item) (is js : List Item) (r s : List ℕ) → flat_map item_bytes (i ∷ is) ++ r ≡ flat_map item_bytes (j ∷ js) ++ s → AreBefore rule (i ∷ is) r → AreBefore rule (j ∷ js) s
+-- the rest after a first item
+after : (rule : PaddingRule) (i j : Item) (is js : List Item) (r s : List ℕ) → flat_map item_bytes (i ∷ is) ++ r ≡ flat_map item_bytes (j ∷ js) ++ s → AreBefore rule (i ∷ is) r → AreBefore rule (j ∷ js) s
     → (i ≡ j) × (flat_map item_bytes is ++ r ≡ flat_map item_bytes js ++ s)
-behind rule i j is js r s e p q = next_one rule i j (flat_map item_bytes is ++ r) (flat_map item_bytes js ++ s)
+after rule i j is js r s e p q = next_one rule i j (flat_map item_bytes is ++ r) (flat_map item_bytes js ++ s)
     (sym (append_assoc (item_bytes i) (flat_map item_bytes is) r) ∙ e ∙ append_assoc (item_bytes j) (flat_map item_bytes js) s) p.0 q.0
 
 at_item : (i : Item) (is : List Item) (r : List ℕ) → flat_map item_bytes (i ∷ is) ++ r ≡ item_bytes i ++ (flat_map item_bytes is ++ r)
@@ -118,7 +118,7 @@ all_one level law (i ∷ is) [] ts us e p q m n = absurd cc
 all_one level law (i ∷ is) (j ∷ js) [] us e p q m n = absurd m
 all_one level law (i ∷ is) (j ∷ js) (t ∷ ts) [] e p q m n = absurd n
 all_one level law (i ∷ is) (j ∷ js) (t ∷ ts) (u ∷ us) e p q m n =
-    let b = behind level.padding i j is js [] [] e p q in
+    let b = after level.padding i j is js [] [] e p q in
     let head : t ≡ u = (law i.first i.second).one i.value t u m.0 (subst (λ (k : Item). (level.row k.first k.second).means k.value u) (sym b.0) n.0) in
     let tail : ts ≡ us = all_one level law is js ts us b.1 p.1 q.1 m.1 n.1 in
     cc
@@ -132,7 +132,7 @@ all_apart level law (i ∷ is) [] (t ∷ ts) us rest x fits e p q m n f h = fron
 all_apart level law (i ∷ is) (j ∷ js) [] us rest x fits e p q m n f h = m
 all_apart level law (i ∷ is) (j ∷ js) (t ∷ ts) [] rest x fits e p q m n f h = n
 all_apart level law (i ∷ is) (j ∷ js) (t ∷ ts) (u ∷ us) rest x fits e p q m n f h =
-    let b = behind level.padding i j is js [] rest e p q in
+    let b = after level.padding i j is js [] rest e p q in
     all_apart level law is js ts us rest x (rest_fits (item_bytes j) (flat_map item_bytes js ++ rest) _ fits (at_item j js rest)) b.1 p.1 q.1 m.1 n.1 f h
 
 front_same : {T : Type 0} (level : Level T) → Lawful level → (rest : List ℕ) (d e : Fault) → AreBytes rest → BeginsWithFault level rest d → BeginsWithFault level rest e → d ≡ e
@@ -156,7 +156,7 @@ all_same level law (i ∷ is) [] (t ∷ ts) us rest more d x fits e p q m n f g 
 all_same level law (i ∷ is) (j ∷ js) [] us rest more d x fits e p q m n f g = absurd m
 all_same level law (i ∷ is) (j ∷ js) (t ∷ ts) [] rest more d x fits e p q m n f g = absurd n
 all_same level law (i ∷ is) (j ∷ js) (t ∷ ts) (u ∷ us) rest more d x fits e p q m n f g =
-    let b = behind level.padding i j is js rest more e p q in
+    let b = after level.padding i j is js rest more e p q in
     all_same level law is js ts us rest more d x (rest_fits (item_bytes j) (flat_map item_bytes js ++ more) _ fits (at_item j js more)) b.1 p.1 q.1 m.1 n.1 f g
 
 -- ---- each list of bytes has an answer

@@ -29,7 +29,7 @@ list_encodable tlv is_encodable decides xs h = record {
   total = h;
 }
 
--- bytes at the front of a value, and behind them an image
+-- bytes at the front of a value, and after them an image
 pub written_front : (front : List ℕ) (image : List (Option ℕ)) (old : List ℕ) → length front ≤ length old → front ++ written image (drop (length front) old) ≡ written (solid front ++ image) old
 written_front [] image old le = refl
 written_front (b ∷ front) image [] le = absurd (omega arith)

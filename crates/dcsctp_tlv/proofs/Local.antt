@@ -1,4 +1,4 @@
--- Reading is local: behind items that fill words, a list goes on as if it began there.
+-- Reading is local: after items that fill words, a list goes on as if it began there.
 use Rattle.std.proofs.Common.{◌≡◌, ℕ, ◌+◌, ◌%◌, List, [], ◌∷◌, ◌++◌, length, sym, ap, subst, ◌∙◌, append_assoc, arith}
 use Rattle.std.specs.List.{flat_map, AllByRecursion}
 use Rattle.std.proofs.lemmas.List.{append-nil, length-append}
@@ -15,8 +15,8 @@ whole_last rule i p words =
     let len = length-item i in
     record { fits = p.fits; padded = omega (arith, p.padded, words, len); accepted = p.accepted }
 
-behind_words : (m n : ℕ) → m % 4 ≡ 0 → (m + n) % 4 ≡ 0 → n % 4 ≡ 0
-behind_words m n h k = omega (arith, h, k)
+after_words : (m n : ℕ) → m % 4 ≡ 0 → (m + n) % 4 ≡ 0 → n % 4 ≡ 0
+after_words m n h k = omega (arith, h, k)
 
 whole_words : (rule : PaddingRule) (i : Item) → IsWhole rule i → length (item_bytes i) % 4 ≡ 0
 whole_words rule i p = let len = length-item i in omega (arith, p.padded, len)
@@ -26,39 +26,39 @@ all_whole rule [] p words = tt
 all_whole rule (i ∷ []) p words = (whole_last rule i p (subst (λ (xs : List ℕ). length xs % 4 ≡ 0) (append-nil (item_bytes i)) words), tt)
 all_whole rule (i ∷ j ∷ is) p words =
     let len = length-append (item_bytes i) (flat_map item_bytes (j ∷ is)) in
-    (p.0, all_whole rule (j ∷ is) p.1 (behind_words (length (item_bytes i)) (length (flat_map item_bytes (j ∷ is))) (whole_words rule i p.0) (ap (λ (n : ℕ). n % 4) (sym len) ∙ words)))
+    (p.0, all_whole rule (j ∷ is) p.1 (after_words (length (item_bytes i)) (length (flat_map item_bytes (j ∷ is))) (whole_words rule i p.0) (ap (λ (n : ℕ). n % 4) (sym len) ∙ words)))
 
--- ---- one list behind another
+-- ---- one list after another
 
-formed_behind : (rule : PaddingRule) (is js : List Item) → AllByRecursion (IsWhole rule) is → AreFormed rule is → AreFormed rule js → AreFormed rule (is ++ js)
-formed_behind rule [] js whole p q = q
-formed_behind rule (i ∷ []) [] whole p q = p
-formed_behind rule (i ∷ []) (j ∷ js) whole p q = (whole.0, q)
-formed_behind rule (i ∷ k ∷ is) js whole p q = (whole.0, formed_behind rule (k ∷ is) js whole.1 p.1 q)
+formed_after : (rule : PaddingRule) (is js : List Item) → AllByRecursion (IsWhole rule) is → AreFormed rule is → AreFormed rule js → AreFormed rule (is ++ js)
+formed_after rule [] js whole p q = q
+formed_after rule (i ∷ []) [] whole p q = p
+formed_after rule (i ∷ []) (j ∷ js) whole p q = (whole.0, q)
+formed_after rule (i ∷ k ∷ is) js whole p q = (whole.0, formed_after rule (k ∷ is) js whole.1 p.1 q)
 
-whole_behind : (rule : PaddingRule) (is js : List Item) → AllByRecursion (IsWhole rule) is → AllByRecursion (IsWhole rule) js → AllByRecursion (IsWhole rule) (is ++ js)
-whole_behind rule [] js p q = q
-whole_behind rule (i ∷ is) js p q = (p.0, whole_behind rule is js p.1 q)
+whole_after : (rule : PaddingRule) (is js : List Item) → AllByRecursion (IsWhole rule) is → AllByRecursion (IsWhole rule) js → AllByRecursion (IsWhole rule) (is ++ js)
+whole_after rule [] js p q = q
+whole_after rule (i ∷ is) js p q = (p.0, whole_after rule is js p.1 q)
 
 module _ {T : Type 0} (level : Level T) where
-  mean_behind : (is js : List Item) (ts us : List T) → ItemsMean level is ts → ItemsMean level js us → ItemsMean level (is ++ js) (ts ++ us)
-  mean_behind [] js [] us m n = n
-  mean_behind [] js (t ∷ ts) us m n = absurd m
-  mean_behind (i ∷ is) js [] us m n = absurd m
-  mean_behind (i ∷ is) js (t ∷ ts) us m n = (m.0, mean_behind is js ts us m.1 n)
+  mean_after : (is js : List Item) (ts us : List T) → ItemsMean level is ts → ItemsMean level js us → ItemsMean level (is ++ js) (ts ++ us)
+  mean_after [] js [] us m n = n
+  mean_after [] js (t ∷ ts) us m n = absurd m
+  mean_after (i ∷ is) js [] us m n = absurd m
+  mean_after (i ∷ is) js (t ∷ ts) us m n = (m.0, mean_after is js ts us m.1 n)
 
   whole_items : (front : List ℕ) (ts : List T) (m : MeansTrees level front ts) → length front % 4 ≡ 0 → AllByRecursion (IsWhole level.padding) m.items
   whole_items front ts m words = all_whole level.padding m.items m.are.formed (subst (λ (xs : List ℕ). length xs % 4 ≡ 0) m.are.split words)
 
-  -- the trees of both, one list behind the other
+  -- the trees of both, one list after the other
   pub local_means : (front end : List ℕ) (ts us : List T) → length front % 4 ≡ 0 → MeansTrees level front ts → MeansTrees level end us → MeansTrees level (front ++ end) (ts ++ us)
   local_means front end ts us words m n = record {
     items = m.items ++ n.items;
     are = record {
       split = ap (λ (xs : List ℕ). xs ++ end) m.are.split ∙ ap (λ (xs : List ℕ). flat_map item_bytes m.items ++ xs) n.are.split ∙ sym (flat_map-append item_bytes m.items n.items);
-      formed = formed_behind level.padding m.items n.items (whole_items front ts m words) m.are.formed n.are.formed;
+      formed = formed_after level.padding m.items n.items (whole_items front ts m words) m.are.formed n.are.formed;
     };
-    mean = mean_behind m.items n.items ts us m.mean n.mean;
+    mean = mean_after m.items n.items ts us m.mean n.mean;
   }
 
   -- the fault of the second
@@ -69,7 +69,7 @@ module _ {T : Type 0} (level : Level T) where
     rest = f.rest;
     split = ap (λ (xs : List ℕ). xs ++ end) m.are.split ∙ ap (λ (xs : List ℕ). flat_map item_bytes m.items ++ xs) f.split
         ∙ sym (append_assoc (flat_map item_bytes m.items) (flat_map item_bytes f.items) f.rest) ∙ ap (λ (xs : List ℕ). xs ++ f.rest) (sym (flat_map-append item_bytes m.items f.items));
-    whole = whole_behind level.padding m.items f.items (whole_items front ts m words) f.whole;
-    mean = mean_behind m.items f.items ts f.trees m.mean f.mean;
+    whole = whole_after level.padding m.items f.items (whole_items front ts m words) f.whole;
+    mean = mean_after m.items f.items ts f.trees m.mean f.mean;
     fault = f.fault;
   }

@@ -18,8 +18,8 @@ use Rattle.dcsctp_tlv.specs.OutgoingSsnResetRequest as outgoing
 use Rattle.dcsctp_tlv.specs.IncomingSsnResetRequest as incoming
 use Rattle.dcsctp_tlv.specs.ReconfigurationResponse as response
 use Rattle.dcsctp_tlv.specs.ReconfigurationResponse.{result_of, result_number, response_with, next_tsns}
-use Rattle.dcsctp_tlv.specs.declared.reconfiguration_response_parameter.ReconfigurationResponseResult.{ReconfigurationResponseResult}
-use Rattle.dcsctp_tlv.specs.declared.reconfiguration_response_parameter.ReconfigurationResponseResult.TheVariants.{SuccessNothingToDo, SuccessPerformed, Denied, ErrorWrongSSN, ErrorRequestAlreadyInProgress, ErrorBadSequenceNumber, InProgress}
+use Rattle.dcsctp_tlv.specs.declared.parameter.reconfiguration_response_parameter.ReconfigurationResponseResult.{ReconfigurationResponseResult}
+use Rattle.dcsctp_tlv.specs.declared.parameter.reconfiguration_response_parameter.ReconfigurationResponseResult.TheVariants.{SuccessNothingToDo, SuccessPerformed, Denied, ErrorWrongSSN, ErrorRequestAlreadyInProgress, ErrorBadSequenceNumber, InProgress}
 use Rattle.dcsctp_tlv.proofs.KindLaws.{of_ok, of_map_ok, chosen, passed, not_refused}
 use Rattle.dcsctp_tlv.proofs.FormatLaws.{FormatLaws, Keeps, format_laws}
 use Rattle.dcsctp_tlv.proofs.FieldLaws.{length-fields, numbers16_back}

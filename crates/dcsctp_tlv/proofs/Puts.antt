@@ -1,4 +1,4 @@
--- Fields in a row: read one after the other, and written one behind the other.
+-- Fields in a row: read one after the other, and written one after the other.
 use Rattle.std.proofs.Common.{◌≡◌, ℕ, suc, zero, ◌+◌, ◌*◌, ◌<◌, ◌≤◌, List, [], ◌∷◌, ◌++◌, length, get_or, drop, take, refl, sym, ap, ◌∙◌, append_assoc, arith, add-one}
 use Rattle.std.specs.Prelude.{All, map}
 use Rattle.std.specs.Int.{w32}
@@ -41,7 +41,7 @@ fields-push read size count bytes = ap (λ (k : ℕ). fields read size k bytes) 
 
 -- ---- writing
 
--- what is written behind what was written
+-- what is written after what was written
 pub put-put : (old : List ℕ) (place next : ℕ) (a b : List ℕ) → place ≤ length old → next ≡ place + length a → put (put old place a) next b ≡ put old place (a ++ b)
 put-put old place next a b le e =
     let front : List ℕ = take place old ++ a in
@@ -97,7 +97,7 @@ length-value view write size is_writable ns xs law each =
 
 -- ---- items
 
--- a value behind its header
+-- a value after its header
 pub written_value : (first second n : ℕ) (bytes old headed : List ℕ) → n ≡ length bytes → 4 + length bytes ≤ length old
     → headed ≡ header first second n ++ drop 4 old → put headed 4 bytes ≡ written (image_of (solid_tlv first second bytes)) old
 written_value first second n bytes old headed e room is =

@@ -19,7 +19,7 @@ pub joined_first : {X : Type 0} (separator : List ℕ) (text : X → List ℕ) (
 joined_first separator text xs zero x none lt e = sym (ap (joined separator) (one_more text xs zero x lt e))
 joined_first separator text xs (suc i) x none lt e = absurd (omega arith)
 
--- each other stands behind a separator
+-- each other stands after a separator
 pub joined_next : {X : Type 0} (separator : List ℕ) (text : X → List ℕ) (xs : List X) (i : ℕ) (x : X) → 0 < i → i < length xs → x ≡ get_or xs i x
     → joined separator (map text (take i xs)) ++ (separator ++ text x) ≡ joined separator (map text (take (i + 1) xs))
 joined_next separator text [] i x some lt e = absurd (omega arith)

@@ -68,7 +68,7 @@ AreFormed rule [] = Unit {0}
 AreFormed rule (i ∷ []) = IsLastForm rule i
 AreFormed rule (i ∷ j ∷ is) = IsWhole rule i × AreFormed rule (j ∷ is)
 
--- the bytes are these items, one behind the other, and nothing else
+-- the bytes are these items, one after the other, and nothing else
 pub record AreItems (rule : PaddingRule) (bytes : List ℕ) (items : List Item) : Type 0 where
   pub split : bytes ≡ flat_map item_bytes items
   pub formed : AreFormed rule items

@@ -2,7 +2,7 @@
 use Rattle.std.specs.Prelude.{ℕ, List, ◌++◌, Result, Ok, length, codes}
 use Rattle.std.specs.Fmt.{decimal}
 use Rattle.dcsctp_tlv.specs.Kind.{Fault, AreBytes, Format, sized_tlv, length-solid}
-use Rattle.dcsctp_tlv.specs.declared.heartbeat_info_parameter.HeartbeatInfoParameter.{HeartbeatInfoParameter}
+use Rattle.dcsctp_tlv.specs.declared.parameter.heartbeat_info_parameter.HeartbeatInfoParameter.{HeartbeatInfoParameter}
 
 unfoldable pub read : List ℕ → Result (List ℕ) Fault
 read value = Ok value

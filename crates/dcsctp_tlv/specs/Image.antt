@@ -66,7 +66,7 @@ list_size tlv [] = 0
 list_size tlv (t ∷ []) = size_of (tlv t)
 list_size tlv (t ∷ u ∷ ts) = round_up_to_4 (size_of (tlv t)) + list_size tlv (u ∷ ts)
 
--- an item whose value begins with some bytes, and behind them is a list
+-- an item whose value begins with some bytes, and after them is a list
 abbrev pub listed_tlv : {T : Type 0} → ℕ → ℕ → List ℕ → (T → Tlv) → List T → Tlv
 listed_tlv first second leading tlv ts = record { first = first; second = second; value = solid leading ++ list_image tlv ts; value_size = length leading + list_size tlv ts }
 

@@ -5,7 +5,7 @@ use Rattle.std.specs.Fmt.{decimal}
 use Rattle.std.specs.List.{AllByRecursion}
 use Rattle.std.specs.Int.{w16, w32}
 use Rattle.dcsctp_tlv.specs.Kind.{Fault, Length, fields, stream_numbers, number16, number32, numbers, Format, sized_tlv, length-words}
-use Rattle.dcsctp_tlv.specs.declared.incoming_ssn_reset_request_parameter.IncomingSsnResetRequestParameter.{IncomingSsnResetRequestParameter}
+use Rattle.dcsctp_tlv.specs.declared.parameter.incoming_ssn_reset_request_parameter.IncomingSsnResetRequestParameter.{IncomingSsnResetRequestParameter}
 
 pub record Tree : Type 0 where
   pub request : ℕ

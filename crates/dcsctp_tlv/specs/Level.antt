@@ -94,7 +94,7 @@ pub data BeginsWithFault {T : Type 0} (level : Level T) (rest : List ℕ) (e : F
   padding : (tree : T) → BeginsWithFrame rest → (front_row level rest).means (frame_value rest) tree
       → level.padding (padding_size (length (frame_value rest))) (frame_padding rest) ≡ false → e ≡ Padding → BeginsWithFault level rest e
 
--- whole items that each mean a tree, and behind them the first fault
+-- whole items that each mean a tree, and after them the first fault
 pub record HasFault {T : Type 0} (level : Level T) (bytes : List ℕ) (e : Fault) : Type 0 where
   pub items : List Item
   pub trees : List T
@@ -106,7 +106,7 @@ pub record HasFault {T : Type 0} (level : Level T) (bytes : List ℕ) (e : Fault
 
 -- ---- a kind with a list of another level in its value
 
--- A value that follows a rule, and behind its first bytes is a list. The rule comes first.
+-- A value that follows a rule, and after its first bytes is a list. The rule comes first.
 abbrev pub listed : {T U : Type 0} → (List ℕ → Bool) → ℕ → Level U → (List ℕ → List U → T) → Row T
 listed rule place level tree_of = record {
   means = λ value tree. (rule value ≡ true) × ((trees : List _) × MeansTrees level (drop place value) trees × (tree ≡ tree_of value trees));

@@ -20,6 +20,6 @@ number32 = number w32
 abbrev pub number64 : List ℕ → ℕ
 number64 = number w64
 
--- numbers of one width, one behind the other
+-- numbers of one width, one after the other
 abbrev pub numbers : Width → List ℕ → List ℕ
 numbers width ns = flat_map (to_be_bytes width) ns

@@ -6,7 +6,7 @@ use Rattle.std.specs.Fmt.{decimal}
 use Rattle.std.specs.List.{AllByRecursion}
 use Rattle.std.specs.Int.{w16, w32}
 use Rattle.dcsctp_tlv.specs.Kind.{Fault, Length, fields, stream_numbers, number16, number32, numbers, Format, sized_tlv, length-words}
-use Rattle.dcsctp_tlv.specs.declared.outgoing_ssn_reset_request_parameter.OutgoingSsnResetRequestParameter.{OutgoingSsnResetRequestParameter}
+use Rattle.dcsctp_tlv.specs.declared.parameter.outgoing_ssn_reset_request_parameter.OutgoingSsnResetRequestParameter.{OutgoingSsnResetRequestParameter}
 
 pub record Tree : Type 0 where
   pub request : ℕ

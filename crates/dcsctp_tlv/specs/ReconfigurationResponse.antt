@@ -6,9 +6,9 @@ use Rattle.std.specs.Int.{w32}
 use Rattle.dcsctp_types.specs.declared.types.tsn.Tsn.{Tsn}
 use Rattle.dcsctp_tlv.specs.Level.{map_ok}
 use Rattle.dcsctp_tlv.specs.Kind.{Fault, Length, Value, number32, numbers, Format, sized_tlv, length-words}
-use Rattle.dcsctp_tlv.specs.declared.reconfiguration_response_parameter.ReconfigurationResponseResult.{ReconfigurationResponseResult}
-use Rattle.dcsctp_tlv.specs.declared.reconfiguration_response_parameter.ReconfigurationResponseResult.TheVariants.{SuccessNothingToDo, SuccessPerformed, Denied, ErrorWrongSSN, ErrorRequestAlreadyInProgress, ErrorBadSequenceNumber, InProgress}
-use Rattle.dcsctp_tlv.specs.declared.reconfiguration_response_parameter.ReconfigurationResponseParameter.{ReconfigurationResponseParameter}
+use Rattle.dcsctp_tlv.specs.declared.parameter.reconfiguration_response_parameter.ReconfigurationResponseResult.{ReconfigurationResponseResult}
+use Rattle.dcsctp_tlv.specs.declared.parameter.reconfiguration_response_parameter.ReconfigurationResponseResult.TheVariants.{SuccessNothingToDo, SuccessPerformed, Denied, ErrorWrongSSN, ErrorRequestAlreadyInProgress, ErrorBadSequenceNumber, InProgress}
+use Rattle.dcsctp_tlv.specs.declared.parameter.reconfiguration_response_parameter.ReconfigurationResponseParameter.{ReconfigurationResponseParameter}
 
 pub record Tree : Type 0 where
   pub response : ℕ

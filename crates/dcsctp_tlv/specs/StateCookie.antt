@@ -2,7 +2,7 @@
 use Rattle.std.specs.Prelude.{ℕ, List, ◌++◌, Result, Ok, length, codes}
 use Rattle.std.specs.Fmt.{decimal}
 use Rattle.dcsctp_tlv.specs.Kind.{Fault, AreBytes, Format, sized_tlv, length-solid}
-use Rattle.dcsctp_tlv.specs.declared.state_cookie_parameter.StateCookieParameter.{StateCookieParameter}
+use Rattle.dcsctp_tlv.specs.declared.parameter.state_cookie_parameter.StateCookieParameter.{StateCookieParameter}
 
 unfoldable pub read : List ℕ → Result (List ℕ) Fault
 read value = Ok value

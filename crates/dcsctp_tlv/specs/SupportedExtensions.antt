@@ -3,7 +3,7 @@
 use Rattle.std.specs.Prelude.{ℕ, List, ◌++◌, Result, Ok, length, map, codes}
 use Rattle.std.specs.Fmt.{decimal}
 use Rattle.dcsctp_tlv.specs.Kind.{Fault, AreBytes, joined, Format, sized_tlv, length-solid}
-use Rattle.dcsctp_tlv.specs.declared.supported_extensions_parameter.SupportedExtensionsParameter.{SupportedExtensionsParameter}
+use Rattle.dcsctp_tlv.specs.declared.parameter.supported_extensions_parameter.SupportedExtensionsParameter.{SupportedExtensionsParameter}
 
 unfoldable pub read : List ℕ → Result (List ℕ) Fault
 read value = Ok value

@@ -3,7 +3,7 @@
 use Rattle.std.specs.Prelude.{ℕ, ◌<◌, ◌^◌, List, ◌++◌, Result, Ok, length, codes}
 use Rattle.std.specs.Fmt.{decimal}
 use Rattle.dcsctp_tlv.specs.Kind.{Fault, AreBytes, Format, sized_tlv, length-solid}
-use Rattle.dcsctp_tlv.specs.declared.unknown_parameter.UnknownParameter.{UnknownParameter}
+use Rattle.dcsctp_tlv.specs.declared.parameter.unknown_parameter.UnknownParameter.{UnknownParameter}
 
 pub record Tree : Type 0 where
   pub typ : ℕ

@@ -4,7 +4,7 @@ use Rattle.std.specs.Prelude.{ℕ, ◌<◌, ◌^◌, List, ◌++◌, ◌==◌, R
 use Rattle.std.specs.Fmt.{decimal}
 use Rattle.std.specs.Int.{w32, to_be_bytes}
 use Rattle.dcsctp_tlv.specs.Kind.{Fault, Length, number32, Format, sized_tlv}
-use Rattle.dcsctp_tlv.specs.declared.zero_checksum_acceptable_parameter.ZeroChecksumAcceptableParameter.{ZeroChecksumAcceptableParameter}
+use Rattle.dcsctp_tlv.specs.declared.parameter.zero_checksum_acceptable_parameter.ZeroChecksumAcceptableParameter.{ZeroChecksumAcceptableParameter}
 
 unfoldable pub read : List ℕ → Result ℕ Fault
 read value = if length value == 4 then Ok (number32 value) else Err Length

@@ -24,7 +24,7 @@ pub enum ChunkParseError {
     /// A number that has no meaning in its field.
     #[error("Invalid value")]
     InvalidValue,
-    /// A growth was refused for want of memory.
+    /// Memory ran out.
     #[error("Out of memory")]
     OutOfMemory,
 }

@@ -136,7 +136,7 @@ impl Field for StreamId {
     ghost field_length = { λ id fits. refl };
 }
 
-/// Reads so many fields from the front; the memory is taken at once.
+/// Reads `count` fields from the front; the memory is taken at once.
 pub fn fields_from_bytes<F: Field>(
     alloc: Global,
     bytes: &[u8],

@@ -1,12 +1,12 @@
 //! The frame of an item: a header of four bytes, and a value (RFC 9260 section 3.2).
 
 ghost use Rattle.std.specs.Prelude.{◌≡◌, ◌≤◌, ◌<◌, ◌+◌, ◌^◌, ◌++◌, ◌↔◌, length, drop, IsOk, IfOk, IfErr};
-ghost use Rattle.dcsctp_tlv.specs.Frame.{header, BeginsWithFrame, frame_value, frame_rest};
+ghost use Rattle.dcsctp_tlv.specs.Frame.{padding_size, header, BeginsWithFrame, frame_value, frame_padding, frame_rest};
 ghost use Rattle.dcsctp_tlv.specs.Image.{solid_tlv, typed_tlv, image_of, written};
 ghost use Rattle.dcsctp_tlv.specs.declared.error.ChunkParseError.TheVariants.{InvalidLength};
 
 use crate::error::ChunkParseError;
-use crate::number::{read_u16_be, write_u16_be};
+use crate::number::{read_u16_be, round_up_to_4, write_u16_be};
 
 /// Bytes of a header: two that say what the item is, and two of length.
 pub const TLV_HEADER_SIZE: usize = 4;
@@ -14,7 +14,7 @@ pub const TLV_HEADER_SIZE: usize = 4;
 /// The most bytes that a value can have: two bytes hold its size with the header's.
 pub const MAX_VALUE_SIZE: usize = 65531;
 
-/// The value of the frame at the front, and the bytes behind it and its padding.
+/// The value of the frame at the front, and the bytes after it and its padding.
 ///
 /// Both are parts of the input. The last item of a list may lack padding: then nothing is left.
 /// `InvalidLength` exactly where the bytes don't begin with a frame.
@@ -47,7 +47,18 @@ pub fn frame_parts(bytes: &[u8]) -> (&[u8], &[u8])
     (value, rest)
 }
 
-/// Writes a header into the first four bytes; the bytes behind them stay.
+/// The padding of the frame at the front: how many bytes there should be, and those that are there.
+pub fn padding_parts(bytes: &[u8]) -> (usize, &[u8])
+    requires { BeginsWithFrame bytes.now }
+    ensures size { result.0 ≡ padding_size (length (frame_value bytes.now)) }
+    ensures there { result.1.now ≡ frame_padding bytes.now }
+{
+    let length = read_u16_be(&bytes[2..]) as usize;
+    let padded = round_up_to_4(length);
+    (padded - length, &bytes[length..padded.min(bytes.len())])
+}
+
+/// Writes a header into the first four bytes; the bytes after them stay.
 pub fn put_header(first: u8, second: u8, value_size: usize, output: &mut [u8])
     requires encodable { 4 + value_size < 2 ^ 16 }
     requires room { 4 ≤ length output.old }

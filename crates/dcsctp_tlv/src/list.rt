@@ -10,7 +10,7 @@ use crate::number::round_up_to_4;
 use crate::tlv::{ListedTlv, SerializableTlv};
 
 /// Each item can be written, and the list has at most 65,535 bytes.
-pub fn parameters_encodable<T: SerializableTlv>(list: &[T]) -> bool
+pub fn list_encodable<T: SerializableTlv>(list: &[T]) -> bool
     ensures { IsTrue result ↔ IsListEncodable T.tlv T.is_encodable list.now }
 {
     let mut total: usize = 0;
@@ -26,8 +26,8 @@ pub fn parameters_encodable<T: SerializableTlv>(list: &[T]) -> bool
     true
 }
 
-/// The bytes of the list, without padding behind its last item.
-pub fn parameters_serialized_size<T: SerializableTlv>(list: &[T]) -> usize
+/// The bytes of the list, without padding after its last item.
+pub fn list_size<T: SerializableTlv>(list: &[T]) -> usize
     requires { IsListEncodable T.tlv T.is_encodable list.now }
     ensures { result ≡ list_size T.tlv list.now }
 {
@@ -40,7 +40,7 @@ pub fn parameters_serialized_size<T: SerializableTlv>(list: &[T]) -> usize
 
 /// Writes the list at the front of `output`. The bytes between items, and those past the list,
 /// stay as they stood.
-pub fn parameters_serialize_to<T: SerializableTlv>(list: &[T], output: &mut [u8])
+pub fn put_list<T: SerializableTlv>(list: &[T], output: &mut [u8])
     requires encodable { IsListEncodable T.tlv T.is_encodable list.now }
     requires room { list_size T.tlv list.now ≤ length output.old }
     ensures { output.new ≡ written (list_image T.tlv list.now) output.old }
@@ -54,26 +54,26 @@ pub fn parameters_serialize_to<T: SerializableTlv>(list: &[T], output: &mut [u8]
     }
 }
 
-/// The list can be written in one value behind so many bytes.
+/// The list can be written in one value after so many bytes.
 pub fn listed_encodable<T: ListedTlv>(leading: usize, list: &[T]) -> bool
     requires { leading ≤ MAX_VALUE_SIZE }
     ensures { IsTrue result ↔ 4 + (leading + list_size T.tree_tlv (map T.view list.now)) < 2 ^ 16 }
 {
-    if !parameters_encodable(list) {
+    if !list_encodable(list) {
         return false;
     }
-    parameters_serialized_size(list) <= MAX_VALUE_SIZE - leading
+    list_size(list) <= MAX_VALUE_SIZE - leading
 }
 
-/// The bytes of a value with the list behind so many bytes.
+/// The bytes of a value with the list after so many bytes.
 pub fn listed_size<T: ListedTlv>(leading: usize, list: &[T]) -> usize
     requires { 4 + (leading + list_size T.tree_tlv (map T.view list.now)) < 2 ^ 16 }
     ensures { result ≡ leading + list_size T.tree_tlv (map T.view list.now) }
 {
-    leading + parameters_serialized_size(list)
+    leading + list_size(list)
 }
 
-/// Writes an item whose value begins with these bytes, and behind them is the list.
+/// Writes an item whose value begins with these bytes, and after them is the list.
 pub fn put_listed<T: ListedTlv>(
     first: u8,
     second: u8,
@@ -89,5 +89,5 @@ pub fn put_listed<T: ListedTlv>(
     let (_, value) = output.split_at_mut(TLV_HEADER_SIZE);
     let (front, rest) = value.split_at_mut(leading.len());
     front.copy_from_slice(leading);
-    parameters_serialize_to(list, rest);
+    put_list(list, rest);
 }

@@ -32,7 +32,7 @@ pub fn read_u64_be(bytes: &[u8]) -> u64
     ])
 }
 
-/// Writes the number into the first two bytes; the bytes behind them stay.
+/// Writes the number into the first two bytes; the bytes after them stay.
 pub fn write_u16_be(output: &mut [u8], value: u16)
     requires { 2 ≤ length output.old }
     ensures { output.new ≡ to_be_bytes w16 value ++ drop 2 output.old }
@@ -40,7 +40,7 @@ pub fn write_u16_be(output: &mut [u8], value: u16)
     output[..2].copy_from_slice(&value.to_be_bytes());
 }
 
-/// Writes the number into the first four bytes; the bytes behind them stay.
+/// Writes the number into the first four bytes; the bytes after them stay.
 pub fn write_u32_be(output: &mut [u8], value: u32)
     requires { 4 ≤ length output.old }
     ensures { output.new ≡ to_be_bytes w32 value ++ drop 4 output.old }
@@ -48,7 +48,7 @@ pub fn write_u32_be(output: &mut [u8], value: u32)
     output[..4].copy_from_slice(&value.to_be_bytes());
 }
 
-/// Writes the number into the first eight bytes; the bytes behind them stay.
+/// Writes the number into the first eight bytes; the bytes after them stay.
 pub fn write_u64_be(output: &mut [u8], value: u64)
     requires { 8 ≤ length output.old }
     ensures { output.new ≡ to_be_bytes w64 value ++ drop 8 output.old }

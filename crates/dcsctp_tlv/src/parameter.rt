@@ -10,6 +10,17 @@
 //! +-+-+-+-+-+-+-+-+-+-+-+-+-+-+-+-+-+-+-+-+-+-+-+-+-+-+-+-+-+-+-+-+
 //! ```
 
+pub mod forward_tsn_supported_parameter;
+pub mod heartbeat_info_parameter;
+pub mod incoming_ssn_reset_request_parameter;
+pub mod outgoing_ssn_reset_request_parameter;
+pub mod raw_parameter;
+pub mod reconfiguration_response_parameter;
+pub mod state_cookie_parameter;
+pub mod supported_extensions_parameter;
+pub mod unknown_parameter;
+pub mod zero_checksum_acceptable_parameter;
+
 ghost use Rattle.std.specs.Prelude.{◌≡◌, ◌≢◌, ◌≤◌, ◌*◌, [], length, vec_len, vec_capacity, IsOk, IfOk, IsErrOf, refl};
 ghost use Rattle.dcsctp_tlv.specs.Image.{IsEncodable};
 ghost use Rattle.dcsctp_tlv.specs.Level.{HasMeaning, MeansTrees, MeansSome, MeansMany, HasFault};
@@ -19,19 +30,24 @@ ghost use Rattle.dcsctp_tlv.specs.Parameter as parameter;
 ghost use Rattle.dcsctp_tlv.specs.Parameter.{ParameterTree, parameters, TakesNoMemory, view, views};
 
 use crate::error::ChunkParseError;
-use crate::forward_tsn_supported_parameter::{self, ForwardTsnSupportedParameter};
-use crate::heartbeat_info_parameter::{self, HeartbeatInfoParameter};
-use crate::incoming_ssn_reset_request_parameter::{self, IncomingSsnResetRequestParameter};
-pub use crate::list::{parameters_encodable, parameters_serialize_to, parameters_serialized_size};
-use crate::outgoing_ssn_reset_request_parameter::{self, OutgoingSsnResetRequestParameter};
-pub use crate::raw_parameter::{PARAMETER_HEADER_SIZE, RawParameter, write_parameter_header};
+pub use crate::list::{
+    list_encodable as parameters_encodable, list_size as parameters_serialized_size,
+    put_list as parameters_serialize_to,
+};
+use crate::parameter::forward_tsn_supported_parameter::ForwardTsnSupportedParameter;
+use crate::parameter::heartbeat_info_parameter::HeartbeatInfoParameter;
+use crate::parameter::incoming_ssn_reset_request_parameter::IncomingSsnResetRequestParameter;
+use crate::parameter::outgoing_ssn_reset_request_parameter::OutgoingSsnResetRequestParameter;
+pub use crate::parameter::raw_parameter::{
+    PARAMETER_HEADER_SIZE, RawParameter, write_parameter_header,
+};
+use crate::parameter::reconfiguration_response_parameter::ReconfigurationResponseParameter;
+use crate::parameter::state_cookie_parameter::StateCookieParameter;
+use crate::parameter::supported_extensions_parameter::SupportedExtensionsParameter;
+use crate::parameter::unknown_parameter::UnknownParameter;
+use crate::parameter::zero_checksum_acceptable_parameter::ZeroChecksumAcceptableParameter;
 use crate::reader::{ReadableTlv, list_build_counted, list_check, list_from_bytes};
-use crate::reconfiguration_response_parameter::{self, ReconfigurationResponseParameter};
-use crate::state_cookie_parameter::{self, StateCookieParameter};
-use crate::supported_extensions_parameter::{self, SupportedExtensionsParameter};
 use crate::tlv::{ListedTlv, SerializableTlv};
-use crate::unknown_parameter::UnknownParameter;
-use crate::zero_checksum_acceptable_parameter::{self, ZeroChecksumAcceptableParameter};
 use std::alloc::{AllocError, Global};
 
 /// SSN/TSN Reset Request (RFC 6525 section 4.3), kept as it is.
@@ -48,18 +64,50 @@ pub const PARAMETER_TYPE_ADD_INCOMING_STREAMS_REQUEST: u16 = 18;
 /// Three requests have a variant of their own, but their values are kept as they are.
 #[derive(Debug, Drop)]
 pub enum Parameter {
+    /// Heartbeat Info (RFC 9260 section 3.3.5), type 1.
     HeartbeatInfo(HeartbeatInfoParameter),
+    /// State Cookie (RFC 9260 section 3.3.3.1.1), type 7.
     StateCookie(StateCookieParameter),
+    /// Outgoing SSN Reset Request (RFC 6525 section 4.1), type 13.
     OutgoingSsnResetRequest(OutgoingSsnResetRequestParameter),
+    /// Incoming SSN Reset Request (RFC 6525 section 4.2), type 14.
     IncomingSsnResetRequest(IncomingSsnResetRequestParameter),
+    /// SSN/TSN Reset Request (RFC 6525 section 4.3), type 15, kept as it is.
     SsnTsnResetRequest(UnknownParameter),
+    /// Re-configuration Response (RFC 6525 section 4.4), type 16.
     ReconfigurationResponse(ReconfigurationResponseParameter),
+    /// Add Outgoing Streams Request (RFC 6525 section 4.5), type 17, kept as it is.
     AddOutgoingStreamsRequest(UnknownParameter),
+    /// Add Incoming Streams Request (RFC 6525 section 4.6), type 18, kept as it is.
     AddIncomingStreamsRequest(UnknownParameter),
+    /// Supported Extensions (RFC 5061 section 4.2.7), type 0x8008.
     SupportedExtensions(SupportedExtensionsParameter),
+    /// Forward-TSN Supported (RFC 3758 section 3.1), type 0xc000.
     ForwardTsnSupported(ForwardTsnSupportedParameter),
+    /// Zero Checksum Acceptable (RFC 9653 section 4), type 0x8001.
     ZeroChecksumAcceptable(ZeroChecksumAcceptableParameter),
+    /// A parameter of any other type.
     Unknown(UnknownParameter),
+}
+
+/// The same of every kind.
+macro_rules! each_kind {
+    ($parameter:expr, $kind:ident => $does:expr) => {
+        match $parameter {
+            Parameter::HeartbeatInfo($kind) => $does,
+            Parameter::StateCookie($kind) => $does,
+            Parameter::OutgoingSsnResetRequest($kind) => $does,
+            Parameter::IncomingSsnResetRequest($kind) => $does,
+            Parameter::SsnTsnResetRequest($kind) => $does,
+            Parameter::ReconfigurationResponse($kind) => $does,
+            Parameter::AddOutgoingStreamsRequest($kind) => $does,
+            Parameter::AddIncomingStreamsRequest($kind) => $does,
+            Parameter::SupportedExtensions($kind) => $does,
+            Parameter::ForwardTsnSupported($kind) => $does,
+            Parameter::ZeroChecksumAcceptable($kind) => $does,
+            Parameter::Unknown($kind) => $does,
+        }
+    };
 }
 
 impl Parameter {
@@ -147,6 +195,7 @@ impl Parameter {
     }
 }
 
+#[tactic(auto, unfolding(crate::specs::HeartbeatInfo::read, crate::specs::StateCookie::read, crate::specs::SupportedExtensions::read, crate::specs::UnknownParameter::read))]
 impl ReadableTlv for Parameter {
     ghost Tree = { ParameterTree };
 
@@ -170,18 +219,6 @@ impl ReadableTlv for Parameter {
     ) -> Result<(), AllocError> {
         let typ = u16::from_be_bytes([first, second]);
         match typ {
-            heartbeat_info_parameter::PARAMETER_TYPE => {
-                list.push_reserved(Parameter::HeartbeatInfo(HeartbeatInfoParameter::build(
-                    alloc, value,
-                )?));
-                Ok(())
-            }
-            state_cookie_parameter::PARAMETER_TYPE => {
-                list.push_reserved(Parameter::StateCookie(StateCookieParameter::build(
-                    alloc, value,
-                )?));
-                Ok(())
-            }
             outgoing_ssn_reset_request_parameter::PARAMETER_TYPE => {
                 list.push_reserved(Parameter::OutgoingSsnResetRequest(
                     OutgoingSsnResetRequestParameter::build(alloc, value)?,
@@ -194,28 +231,10 @@ impl ReadableTlv for Parameter {
                 ));
                 Ok(())
             }
-            PARAMETER_TYPE_SSN_TSN_RESET_REQUEST => {
-                list.push_reserved(Parameter::SsnTsnResetRequest(UnknownParameter::build(
-                    alloc, typ, value,
-                )?));
-                Ok(())
-            }
             reconfiguration_response_parameter::PARAMETER_TYPE => {
                 list.push_reserved(Parameter::ReconfigurationResponse(
                     ReconfigurationResponseParameter::build(value),
                 ));
-                Ok(())
-            }
-            PARAMETER_TYPE_ADD_OUTGOING_STREAMS_REQUEST => {
-                list.push_reserved(Parameter::AddOutgoingStreamsRequest(UnknownParameter::build(
-                    alloc, typ, value,
-                )?));
-                Ok(())
-            }
-            PARAMETER_TYPE_ADD_INCOMING_STREAMS_REQUEST => {
-                list.push_reserved(Parameter::AddIncomingStreamsRequest(UnknownParameter::build(
-                    alloc, typ, value,
-                )?));
                 Ok(())
             }
             zero_checksum_acceptable_parameter::PARAMETER_TYPE => {
@@ -224,24 +243,62 @@ impl ReadableTlv for Parameter {
                 ));
                 Ok(())
             }
-            supported_extensions_parameter::PARAMETER_TYPE => {
-                list.push_reserved(Parameter::SupportedExtensions(
-                    SupportedExtensionsParameter::build(alloc, value)?,
-                ));
-                Ok(())
-            }
             forward_tsn_supported_parameter::PARAMETER_TYPE => {
                 list.push_reserved(Parameter::ForwardTsnSupported(ForwardTsnSupportedParameter));
                 Ok(())
             }
             _ => {
-                list.push_reserved(Parameter::Unknown(UnknownParameter::build(alloc, typ, value)?));
+                // one copy for all kinds that keep their value, so that each item costs one result
+                let bytes = Vec::from_slice(alloc, value)?;
+                match typ {
+                    heartbeat_info_parameter::PARAMETER_TYPE => {
+                        list.push_reserved(Parameter::HeartbeatInfo(HeartbeatInfoParameter {
+                            info: bytes,
+                        }));
+                    }
+                    state_cookie_parameter::PARAMETER_TYPE => {
+                        list.push_reserved(Parameter::StateCookie(StateCookieParameter {
+                            cookie: bytes,
+                        }));
+                    }
+                    supported_extensions_parameter::PARAMETER_TYPE => {
+                        list.push_reserved(Parameter::SupportedExtensions(
+                            SupportedExtensionsParameter { chunk_types: bytes },
+                        ));
+                    }
+                    PARAMETER_TYPE_SSN_TSN_RESET_REQUEST => {
+                        list.push_reserved(Parameter::SsnTsnResetRequest(UnknownParameter {
+                            typ,
+                            value: bytes,
+                        }));
+                    }
+                    PARAMETER_TYPE_ADD_OUTGOING_STREAMS_REQUEST => {
+                        list.push_reserved(Parameter::AddOutgoingStreamsRequest(UnknownParameter {
+                            typ,
+                            value: bytes,
+                        }));
+                    }
+                    PARAMETER_TYPE_ADD_INCOMING_STREAMS_REQUEST => {
+                        list.push_reserved(Parameter::AddIncomingStreamsRequest(UnknownParameter {
+                            typ,
+                            value: bytes,
+                        }));
+                    }
+                    _ => {
+                        list.push_reserved(Parameter::Unknown(UnknownParameter {
+                            typ,
+                            value: bytes,
+                        }));
+                    }
+                }
                 Ok(())
             }
         }
     }
 
-    ghost ignores_padding = { λ size there. refl };
+    fn accepts_padding(_size: usize, _there: &[u8]) -> bool {
+        true
+    }
 }
 
 impl SerializableTlv for Parameter {
@@ -254,54 +311,15 @@ impl SerializableTlv for Parameter {
     ghost size_bound = { λ p fits. fits };
 
     fn serialize_to(&self, output: &mut [u8]) {
-        match self {
-            Parameter::HeartbeatInfo(p) => p.serialize_to(output),
-            Parameter::StateCookie(p) => p.serialize_to(output),
-            Parameter::OutgoingSsnResetRequest(p) => p.serialize_to(output),
-            Parameter::IncomingSsnResetRequest(p) => p.serialize_to(output),
-            Parameter::ReconfigurationResponse(p) => p.serialize_to(output),
-            Parameter::SsnTsnResetRequest(p)
-            | Parameter::AddOutgoingStreamsRequest(p)
-            | Parameter::AddIncomingStreamsRequest(p)
-            | Parameter::Unknown(p) => p.serialize_to(output),
-            Parameter::SupportedExtensions(p) => p.serialize_to(output),
-            Parameter::ForwardTsnSupported(p) => p.serialize_to(output),
-            Parameter::ZeroChecksumAcceptable(p) => p.serialize_to(output),
-        }
+        each_kind!(self, p => p.serialize_to(output))
     }
 
     fn value_size(&self) -> usize {
-        match self {
-            Parameter::HeartbeatInfo(p) => p.value_size(),
-            Parameter::StateCookie(p) => p.value_size(),
-            Parameter::OutgoingSsnResetRequest(p) => p.value_size(),
-            Parameter::IncomingSsnResetRequest(p) => p.value_size(),
-            Parameter::ReconfigurationResponse(p) => p.value_size(),
-            Parameter::SsnTsnResetRequest(p)
-            | Parameter::AddOutgoingStreamsRequest(p)
-            | Parameter::AddIncomingStreamsRequest(p)
-            | Parameter::Unknown(p) => p.value_size(),
-            Parameter::SupportedExtensions(p) => p.value_size(),
-            Parameter::ForwardTsnSupported(p) => p.value_size(),
-            Parameter::ZeroChecksumAcceptable(p) => p.value_size(),
-        }
+        each_kind!(self, p => p.value_size())
     }
 
     fn encodable(&self) -> bool {
-        match self {
-            Parameter::HeartbeatInfo(p) => p.encodable(),
-            Parameter::StateCookie(p) => p.encodable(),
-            Parameter::OutgoingSsnResetRequest(p) => p.encodable(),
-            Parameter::IncomingSsnResetRequest(p) => p.encodable(),
-            Parameter::ReconfigurationResponse(p) => p.encodable(),
-            Parameter::SsnTsnResetRequest(p)
-            | Parameter::AddOutgoingStreamsRequest(p)
-            | Parameter::AddIncomingStreamsRequest(p)
-            | Parameter::Unknown(p) => p.encodable(),
-            Parameter::SupportedExtensions(p) => p.encodable(),
-            Parameter::ForwardTsnSupported(p) => p.encodable(),
-            Parameter::ZeroChecksumAcceptable(p) => p.encodable(),
-        }
+        each_kind!(self, p => p.encodable())
     }
 }
 

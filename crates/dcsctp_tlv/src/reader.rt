@@ -7,7 +7,7 @@ ghost use Rattle.dcsctp_tlv.specs.Level.{Level, HasMeaning, MeansParts, Grows, M
 ghost use Rattle.dcsctp_tlv.specs.Reading.{Answers, Finds};
 
 use crate::error::ChunkParseError;
-use crate::frame::{frame_parts, split_frame};
+use crate::frame::{frame_parts, padding_parts, split_frame};
 use std::alloc::{AllocError, Global};
 
 /// A chunk, a parameter or an error cause that is checked, and then built from its item.
@@ -44,8 +44,9 @@ pub trait ReadableTlv: Sized + Drop {
         ensures len { IfOk result (λ _. vec_len list.new ≡ vec_len list.old + 1) }
         ensures capacity { IfOk result (λ _. vec_capacity list.new ≡ vec_capacity list.old) };
 
-    /// Padding is never looked at.
-    ghost ignores_padding: { (n : ℕ) (there : List ℕ) → level.padding n there ≡ true };
+    /// Whether an item that should have so many bytes of padding may have these.
+    fn accepts_padding(size: usize, there: &[u8]) -> bool
+        ensures { result ≡ level.padding size there.now };
 }
 
 /// The number of items, and that of all parts; or the first fault from the left. It takes no memory.
@@ -59,6 +60,10 @@ pub fn list_check<T: ReadableTlv>(bytes: &[u8]) -> Result<(usize, usize), ChunkP
     while !rest.is_empty() {
         let (value, after) = split_frame(rest)?;
         let found = T::check(rest[0], rest[1], value)?;
+        let (size, there) = padding_parts(rest);
+        if !T::accepts_padding(size, there) {
+            return Err(ChunkParseError::InvalidPadding);
+        }
         items += 1;
         parts += found;
         rest = after;

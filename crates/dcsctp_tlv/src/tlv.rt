@@ -25,7 +25,7 @@ pub trait SerializableTlv {
         requires { is_encodable self.now }
         ensures { 4 + result ≡ size_of (tlv self.now) };
 
-    /// The bytes of its header and its value, without padding behind it.
+    /// The bytes of its header and its value, without padding after it.
     fn serialized_size(&self) -> usize
         requires { is_encodable self.now }
         ensures { result ≡ size_of (tlv self.now) }

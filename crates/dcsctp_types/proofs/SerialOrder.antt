@@ -34,7 +34,7 @@ difference_wraps_once m a b p q some at_a at_b =
     let once : WrapsOnce m (a % m + (m - b % m)) ((a % m + (m - b % m)) % m) = wraps_once m (a % m + (m - b % m)) (omega arith) in
     rw (at_a, at_b, ← mod-add-mod a m (m - b % m)) once
 
--- the order of x and y, i and j places behind c, where d is their difference
+-- the order of x and y, i and j places ahead of c, where d is their difference
 further_is_greater : (m c i j x y d : ℕ) → c < m → i < m / 2 → j < m / 2
     → WrapsOnce m (c + i) x → WrapsOnce m (c + j) y → WrapsOnce m (x + (m - y)) d
     → (((0 < d) × (d < m / 2)) ↔ (j < i))
@@ -45,14 +45,14 @@ pub ordered_in_window : (m base x y i j : ℕ) → i < m / 2 → j < m / 2
     → x ≡ wrapped_sum m base i → y ≡ wrapped_sum m base j → (IsGreater m x y ↔ (j < i))
 ordered_in_window m base x y i j near_x near_y at_x at_y =
     let some : 0 < m = omega arith in
-    let behind_x : WrapsOnce m (base % m + i) x = rw at_x (sum_wraps_once m base i (omega arith)) in
-    let behind_y : WrapsOnce m (base % m + j) y = rw at_y (sum_wraps_once m base j (omega arith)) in
-    let same_x : x ≡ x % m = sym (mod-eq_of_lt behind_x.0) in
-    let same_y : y ≡ y % m = sym (mod-eq_of_lt behind_y.0) in
-    further_is_greater m (base % m) i j x y (wrapped_difference m x y) (mod-lt base some) near_x near_y behind_x behind_y
+    let ahead_x : WrapsOnce m (base % m + i) x = rw at_x (sum_wraps_once m base i (omega arith)) in
+    let ahead_y : WrapsOnce m (base % m + j) y = rw at_y (sum_wraps_once m base j (omega arith)) in
+    let same_x : x ≡ x % m = sym (mod-eq_of_lt ahead_x.0) in
+    let same_y : y ≡ y % m = sym (mod-eq_of_lt ahead_y.0) in
+    further_is_greater m (base % m) i j x y (wrapped_difference m x y) (mod-lt base some) near_x near_y ahead_x ahead_y
     (difference_wraps_once m x y x y some same_x same_y)
 
--- where b is greater than a, a stands behind b by more than half of the space
+-- where b is greater than a, a stands ahead of b by more than half of the space
 pub greater_one_way : (m a b : ℕ) → IsGreater m b a → m / 2 < wrapped_difference m a b
 greater_one_way m a b greater =
     let some : 0 < m = omega arith in

@@ -9,14 +9,14 @@ use crate::types::{SerialNumber, StreamKey};
 use std::cmp::Ordering;
 use std::time::Duration;
 
-/// The order of serial numbers, seen from a base: of two numbers that stand behind the base by less
-/// than half of the space, the greater one stands further behind it (RFC 1982 section 3.2).
+/// The order of serial numbers, seen from a base: of two numbers that stand ahead of the base by less
+/// than half of the space, the greater one stands further ahead of it (RFC 1982 section 3.2).
 ///
 /// Without such a base the order isn't transitive. But no number is greater than itself, no two are
 /// greater than each other, and at a difference of half of the space neither is greater.
 #[tactic(auto, using(crate::proofs::SerialOrder::ordered_in_window, crate::proofs::SerialOrder::greater_one_way))]
 pub fn window<S: SerialNumber>()
-    // x and y stand i and j places behind the base
+    // x and y stand i and j places ahead of the base
     ensures window { (base x y : S) (i j : ℕ) → i < S.space / 2 → j < S.space / 2
         → S.position x ≡ wrapped_sum S.space (S.position base) i
         → S.position y ≡ wrapped_sum S.space (S.position base) j

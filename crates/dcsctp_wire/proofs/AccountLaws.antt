@@ -28,9 +28,9 @@ use Rattle.dcsctp_wire.specs.Account.{AreTextsKept, chunk_parts}
 
 -- ---- the size account
 
--- a list behind so many bytes of a value
-behind : (words a b size : ℕ) → SameSpace a b → b ≡ size - 4 * words → 4 * words ≤ size → SameSpace (4 + (4 * words + a)) (4 + size)
-behind words a b size h e le = record { at_most = omega (arith, h.at_most, e, le); up = omega (arith, h.up, e, le) }
+-- a list after so many bytes of a value
+after : (words a b size : ℕ) → SameSpace a b → b ≡ size - 4 * words → 4 * words ≤ size → SameSpace (4 + (4 * words + a)) (4 + size)
+after words a b size h e le = record { at_most = omega (arith, h.at_most, e, le); up = omega (arith, h.up, e, le) }
 
 -- the causes keep their texts
 abbrev KeepsCauses : ℕ → List ℕ → Type 0
@@ -48,17 +48,17 @@ init_account typ tree size value t kept m =
     let list = all_account parameters parameter_tlv parameters_account (drop 16 value) m.1.1.0 m.1.1.1 in
     let ps : m.0.parameters ≡ m.1.1.0 = ap (λ (i : InitTree). i.parameters) m.1.1.2 in
     tree_size t (tree m.0) _ m.2 (subst (λ (n : ℕ). SameSpace n (4 + length value)) (sym (size m.0 ∙ ap (λ (xs : List ParameterTree). 4 + (16 + list_size parameter_tlv xs)) ps))
-    (behind 4 (list_size parameter_tlv m.1.1.0) (length (drop 16 value)) (length value) list (length-drop 16 value) (leb-true 16 (length value) m.1.0)))
+    (after 4 (list_size parameter_tlv m.1.1.0) (length (drop 16 value)) (length value) list (length-drop 16 value) (leb-true 16 (length value) m.1.0)))
 
 parameter_list_account : (typ : ℕ) (tree : List ParameterTree → ChunkTree) → ((ps : List ParameterTree) → size_of (chunk_tlv (tree ps)) ≡ 4 + (0 + list_size parameter_tlv ps)) → Accounted typ (as_row tree parameter_list_row)
 parameter_list_account typ tree size value t kept m =
     let list = all_account parameters parameter_tlv parameters_account value m.1.1.0 m.1.1.1 in
     tree_size t (tree m.0) _ m.2 (subst (λ (n : ℕ). SameSpace n (4 + length value)) (sym (size m.0 ∙ ap (λ (xs : List ParameterTree). 4 + (0 + list_size parameter_tlv xs)) m.1.1.2))
-    (behind 0 (list_size parameter_tlv m.1.1.0) (length value) (length value) list (omega arith) (omega arith)))
+    (after 0 (list_size parameter_tlv m.1.1.0) (length value) (length value) list (omega arith) (omega arith)))
 
 cause_list_account : (value : List ℕ) (cs : List CauseTree) (m : MeansTrees causes value cs) → ((items : List Item) → AreItems lenient value items → AllByRecursion IsTextKept items) → SameSpace (4 + (0 + list_size cause_tlv cs)) (4 + length value)
 cause_list_account value cs m kept =
-    behind 0 (list_size cause_tlv cs) (length value) (length value) (list_account causes cause_tlv IsTextKept causes_account value cs m (kept m.items m.are)) (omega arith) (omega arith)
+    after 0 (list_size cause_tlv cs) (length value) (length value) (list_account causes cause_tlv IsTextKept causes_account value cs m (kept m.items m.are)) (omega arith) (omega arith)
 
 abort_account : (typ flags : ℕ) → typ ≡ 6 → Accounted typ (as_row Abort (abort_row flags))
 abort_account typ flags is value t kept m =

@@ -18,10 +18,10 @@ use Rattle.dcsctp_wire.proofs.Canonicals.{length-canonical, canonical-push, padd
 
 -- ---- one chunk's bytes
 
--- a chunk written over the zeros behind some bytes
-pub padded_behind : (bytes output : List ℕ) (t : ChunkTree) → output ≡ bytes ++ replicate (round_up_to_4 (size_of (chunk_tlv t))) 0
+-- a chunk written over the zeros after some bytes
+pub padded_after : (bytes output : List ℕ) (t : ChunkTree) → output ≡ bytes ++ replicate (round_up_to_4 (size_of (chunk_tlv t))) 0
     → take (length bytes) output ++ written (image_of (chunk_tlv t)) (drop (length bytes) output) ≡ bytes ++ padded_chunk t
-padded_behind bytes output t e =
+padded_after bytes output t e =
     let size = size_of (chunk_tlv t) in
     let image = image_of (chunk_tlv t) in
     let zeros : List ℕ = replicate (round_up_to_4 size) 0 in
@@ -37,8 +37,8 @@ size_held : (b : BuilderState) (ts : List ChunkTree) → Holds b ts → max 12 (
 size_held b [] h = let none = ap length h in omega (arith, none)
 size_held b (t ∷ ts) h = let len = ap length h.bytes ∙ length-canonical (meaning_with b (t ∷ ts)) in omega (arith, len)
 
-pub room_behind : (b : BuilderState) (ts : List ChunkTree) → Holds b ts → room b ≡ b.limit - 12 - padded_size ts
-room_behind b ts h = let size = size_held b ts h in omega (arith, size)
+pub room_after : (b : BuilderState) (ts : List ChunkTree) → Holds b ts → room b ≡ b.limit - 12 - padded_size ts
+room_after b ts h = let size = size_held b ts h in omega (arith, size)
 
 -- ---- one more chunk
 
@@ -64,7 +64,7 @@ holds_packet : (b : BuilderState) (ts : List ChunkTree) (t : ChunkTree) → Hold
 holds_packet b [] t h = h
 holds_packet b (u ∷ ts) t h = h
 
--- the same settings, and the chunk's bytes behind those that were there
+-- the same settings, and the chunk's bytes after those that were there
 pub adds : (b after : BuilderState) (t : ChunkTree) → IsChunkEncodable t → round_up_to_4 (size_of (chunk_tlv t)) ≤ room b
     → after ≡ record b { bytes = begun b b.bytes ++ padded_chunk t } → (ts : List ChunkTree) → Holds b ts → Holds after (ts ++ t ∷ [])
 adds b after t encodable fits is ts h =
@@ -72,7 +72,7 @@ adds b after t encodable fits is ts h =
     let bytes : new.bytes ≡ canonical (meaning_with b (ts ++ t ∷ [])) = ap (λ (xs : List ℕ). xs ++ padded_chunk t) (begun_held b ts h) ∙ canonical-push (meaning_with b ts) t in
     let len = ap length bytes ∙ length-canonical (meaning_with b (ts ++ t ∷ [])) in
     let more = padded_size-push ts t in
-    let left = room_behind b ts h in
+    let left = room_after b ts h in
     subst (λ (s : BuilderState). Holds s (ts ++ t ∷ [])) (sym is) (
     holds_packet new ts t (record {
       each = each-push ts t (each_held b ts h) encodable;

@@ -1,4 +1,4 @@
--- What holds of every packet that is read, and of what is read behind others.
+-- What holds of every packet that is read, and of what is read after others.
 use Rattle.std.proofs.Common.{◌≡◌, ℕ, ◌+◌, ◌-◌, ◌/◌, ◌%◌, ◌≤◌, List, [], ◌∷◌, ◌++◌, length, Result, Ok, Err, refl, sym, ap, subst, ◌∙◌, arith}
 use Rattle.std.specs.Prelude.{IfOk}
 use Rattle.std.specs.List.{AllByRecursion}
@@ -79,26 +79,26 @@ reads_only Q bytes word policy (Err e) law reads = tt
 
 -- ---- reading is local
 
-body_behind : (front end : List ℕ) → 16 ≤ length front → body (front ++ end) ≡ body front ++ end
-body_behind front end low = drop-append-le 12 front end (omega (arith, low))
+body_after : (front end : List ℕ) → 16 ≤ length front → body (front ++ end) ≡ body front ++ end
+body_after front end low = drop-append-le 12 front end (omega (arith, low))
 
 body_words : (front : List ℕ) → 16 ≤ length front → length front % 4 ≡ 0 → length (body front) % 4 ≡ 0
 body_words front low words = let len = length-body front in omega (arith, len, low, words)
 
-pub packet_behind : (front end : List ℕ) (word : ℕ) (policy : ChecksumPolicy) (ts us : List ChunkTree) → 16 ≤ length front → length front % 4 ≡ 0 → IsOpened (front ++ end) word policy
+pub packet_after : (front end : List ℕ) (word : ℕ) (policy : ChecksumPolicy) (ts us : List ChunkTree) → 16 ≤ length front → length front % 4 ≡ 0 → IsOpened (front ++ end) word policy
     → MeansTrees chunks (body front) ts → MeansTrees chunks end us → Answer (front ++ end) word policy (Ok (packet_with (front ++ end) (ts ++ us)))
-packet_behind front end word policy ts us low words opened m n = (
+packet_after front end word policy ts us low words opened m n = (
   opened,
   record {
     source = refl;
     destination = refl;
     tag = refl;
     checksum = refl;
-    chunks = subst (λ (bytes : List ℕ). MeansTrees chunks bytes (ts ++ us)) (sym (body_behind front end low)) (local_means chunks (body front) end ts us (body_words front low words) m n);
+    chunks = subst (λ (bytes : List ℕ). MeansTrees chunks bytes (ts ++ us)) (sym (body_after front end low)) (local_means chunks (body front) end ts us (body_words front low words) m n);
   },
 )
 
-pub fault_behind : (front end : List ℕ) (word : ℕ) (policy : ChecksumPolicy) (ts : List ChunkTree) (e : Fault) → 16 ≤ length front → length front % 4 ≡ 0 → IsOpened (front ++ end) word policy
+pub fault_after : (front end : List ℕ) (word : ℕ) (policy : ChecksumPolicy) (ts : List ChunkTree) (e : Fault) → 16 ≤ length front → length front % 4 ≡ 0 → IsOpened (front ++ end) word policy
     → MeansTrees chunks (body front) ts → HasFault chunks end e → Answer (front ++ end) word policy (Err (Chunk e))
-fault_behind front end word policy ts e low words opened m f =
-    (opened, subst (λ (bytes : List ℕ). HasFault chunks bytes e) (sym (body_behind front end low)) (local_fault chunks (body front) end ts e (body_words front low words) m f))
+fault_after front end word policy ts e low words opened m f =
+    (opened, subst (λ (bytes : List ℕ). HasFault chunks bytes e) (sym (body_after front end low)) (local_fault chunks (body front) end ts e (body_words front low words) m f))

@@ -31,16 +31,16 @@ reads_fault bytes word policy InvalidType opened fault = absurd fault
 reads_fault bytes word policy OutOfMemory opened fault = opened
 
 -- a value with a list has one answer since its list has
-init_lawful : LawfulRow init_row
+pub init_lawful : LawfulRow init_row
 init_lawful = listed_lawful _ 16 parameters init_of parameters_lawful
 
-parameter_list_lawful : LawfulRow parameter_list_row
+pub parameter_list_lawful : LawfulRow parameter_list_row
 parameter_list_lawful = listed_lawful _ 0 parameters (λ value ps. ps) parameters_lawful
 
-abort_lawful : (flags : ℕ) → LawfulRow (abort_row flags)
+pub abort_lawful : (flags : ℕ) → LawfulRow (abort_row flags)
 abort_lawful flags = listed_lawful _ 0 causes (λ value cs. record { tag_reflected = is_set flags 0; causes = cs }) causes_lawful
 
-error_lawful : LawfulRow error_row
+pub error_lawful : LawfulRow error_row
 error_lawful = listed_lawful _ 0 causes (λ value cs. cs) causes_lawful
 
 -- each row of the table of chunks is a function of the value, or has one answer otherwise

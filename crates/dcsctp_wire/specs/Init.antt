@@ -1,5 +1,5 @@
 -- INIT and INIT ACK (RFC 9260 sections 3.3.2 and 3.3.3): types 1 and 2, flags ignored; sixteen bytes
--- of numbers, and behind them parameters.
+-- of numbers, and after them parameters.
 use Rattle.std.specs.Prelude.{ℕ, ◌+◌, ◌<◌, ◌^◌, List, ◌++◌, length, drop, codes, nat_le}
 use Rattle.std.specs.List.{AllByRecursion}
 use Rattle.std.specs.Fmt.{decimal}
@@ -44,7 +44,7 @@ init_numbers i = to_be_bytes w32 i.tag ++ (to_be_bytes w32 i.window ++ (to_be_by
 abbrev pub init_tlv : ℕ → InitTree → Tlv
 init_tlv typ i = listed_tlv typ 0 (init_numbers i) parameter_tlv i.parameters
 
--- behind the kind's name
+-- after the kind's name
 abbrev pub init_text : List ℕ → InitTree → List ℕ
 init_text name i = name ++ (codes ", initiate_tag=" ++ (decimal i.tag ++ (codes ", initial_tsn=" ++ decimal i.tsn)))
 

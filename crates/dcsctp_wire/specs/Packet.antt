@@ -83,7 +83,7 @@ Answer bytes word policy (Err (Chunk e)) = IsOpened bytes word policy × HasFaul
 
 -- ---- what the code answers
 
--- want of memory comes only once size and checksum are accepted
+-- running out of memory comes only once size and checksum are accepted
 abbrev pub ReadsFault : List ℕ → ℕ → ChecksumPolicy → ChunkParseError → Type 0
 ReadsFault bytes word policy chunk_errors.InvalidLength = Answer bytes word policy (Err (Chunk Length))
 ReadsFault bytes word policy chunk_errors.InvalidPadding = Answer bytes word policy (Err (Chunk Padding))

@@ -16,9 +16,9 @@ pub fn one_answer()
         → AreBytes bytes → ((a : Result PacketTree PacketFault) × Answer bytes word policy a) }
 {}
 
-/// Reading is local. Behind bytes that fill words of four, and whose chunks mean some trees, the
+/// Reading is local. After bytes that fill words of four, and whose chunks mean some trees, the
 /// next chunks are read as if they began there: the answer is the packet with both lists, one
-/// behind the other, or the first fault of the second.
+/// after the other, or the first fault of the second.
 pub fn reading_is_local()
     ensures packet { (front end : List ℕ) (word : ℕ) (policy : ChecksumPolicy) (ts us : List ChunkTree)
         → 16 ≤ length front → length front % 4 ≡ 0 → IsOpened (front ++ end) word policy

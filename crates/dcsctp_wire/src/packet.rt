@@ -29,11 +29,11 @@ pub use dcsctp_tlv::number::{
     is_divisible_by_4, read_u16_be, read_u32_be, read_u64_be, round_down_to_4, round_up_to_4,
     write_u16_be, write_u32_be, write_u64_be,
 };
-pub use dcsctp_tlv::skipped_stream::SkippedStream;
-pub use dcsctp_tlv::tlv::SerializableTlv;
-pub use dcsctp_tlv::{
-    forward_tsn_supported_parameter, heartbeat_info_parameter,
-    incoming_ssn_reset_request_parameter, outgoing_ssn_reset_request_parameter, parameter,
+pub use dcsctp_tlv::parameter::{
+    self, forward_tsn_supported_parameter, heartbeat_info_parameter,
+    incoming_ssn_reset_request_parameter, outgoing_ssn_reset_request_parameter,
     reconfiguration_response_parameter, state_cookie_parameter, supported_extensions_parameter,
     unknown_parameter, zero_checksum_acceptable_parameter,
 };
+pub use dcsctp_tlv::skipped_stream::SkippedStream;
+pub use dcsctp_tlv::tlv::SerializableTlv;

@@ -8,7 +8,7 @@ use dcsctp_tlv::number::{
     is_divisible_by_4, read_u16_be, read_u32_be, read_u64_be, round_down_to_4, round_up_to_4,
     write_u16_be, write_u32_be, write_u64_be,
 };
-use dcsctp_tlv::raw_parameter::{PARAMETER_HEADER_SIZE, write_parameter_header};
+use dcsctp_tlv::parameter::raw_parameter::{PARAMETER_HEADER_SIZE, write_parameter_header};
 
 #[test]
 fn numbers(rt: HostRuntime) {

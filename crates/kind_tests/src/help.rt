@@ -2,8 +2,10 @@
 
 use dcsctp_chunk::raw_chunk::RawChunk;
 use dcsctp_tlv::error::ChunkParseError;
-use dcsctp_tlv::list::{parameters_encodable, parameters_serialize_to, parameters_serialized_size};
-use dcsctp_tlv::raw_parameter::RawParameter;
+use dcsctp_tlv::parameter::raw_parameter::RawParameter;
+use dcsctp_tlv::parameter::{
+    parameters_encodable, parameters_serialize_to, parameters_serialized_size,
+};
 use dcsctp_tlv::tlv::SerializableTlv;
 use std::alloc::{AllocError, Global};
 use std::fmt::{Debug, Display};

@@ -9,21 +9,20 @@ use crate::help::{
     list_written, raw_parameter, size_of, told, told_of,
 };
 use dcsctp_tlv::error::ChunkParseError;
-use dcsctp_tlv::forward_tsn_supported_parameter::ForwardTsnSupportedParameter;
 use dcsctp_tlv::frame::put_parameter;
-use dcsctp_tlv::heartbeat_info_parameter::HeartbeatInfoParameter;
-use dcsctp_tlv::incoming_ssn_reset_request_parameter::IncomingSsnResetRequestParameter;
-use dcsctp_tlv::list::parameters_encodable;
-use dcsctp_tlv::outgoing_ssn_reset_request_parameter::OutgoingSsnResetRequestParameter;
-use dcsctp_tlv::parameter::{Parameter, parameters_from_bytes};
-use dcsctp_tlv::reconfiguration_response_parameter::{
+use dcsctp_tlv::parameter::forward_tsn_supported_parameter::ForwardTsnSupportedParameter;
+use dcsctp_tlv::parameter::heartbeat_info_parameter::HeartbeatInfoParameter;
+use dcsctp_tlv::parameter::incoming_ssn_reset_request_parameter::IncomingSsnResetRequestParameter;
+use dcsctp_tlv::parameter::outgoing_ssn_reset_request_parameter::OutgoingSsnResetRequestParameter;
+use dcsctp_tlv::parameter::reconfiguration_response_parameter::{
     ReconfigurationResponseParameter, ReconfigurationResponseResult,
 };
-use dcsctp_tlv::state_cookie_parameter::StateCookieParameter;
-use dcsctp_tlv::supported_extensions_parameter::SupportedExtensionsParameter;
+use dcsctp_tlv::parameter::state_cookie_parameter::StateCookieParameter;
+use dcsctp_tlv::parameter::supported_extensions_parameter::SupportedExtensionsParameter;
+use dcsctp_tlv::parameter::unknown_parameter::UnknownParameter;
+use dcsctp_tlv::parameter::zero_checksum_acceptable_parameter::ZeroChecksumAcceptableParameter;
+use dcsctp_tlv::parameter::{Parameter, parameters_encodable, parameters_from_bytes};
 use dcsctp_tlv::tlv::SerializableTlv;
-use dcsctp_tlv::unknown_parameter::UnknownParameter;
-use dcsctp_tlv::zero_checksum_acceptable_parameter::ZeroChecksumAcceptableParameter;
 use dcsctp_types::api::StreamId;
 use dcsctp_types::types::Tsn;
 use std::alloc::{AllocError, Global};

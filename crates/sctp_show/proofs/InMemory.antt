@@ -18,7 +18,7 @@ MayTell-run text known true left answer same may = inr may
 MayTell-run text known false left answer same (inl memory) = inl (inr memory)
 MayTell-run text known false left answer same (inr (input, is, read, shown)) = inl (inl (subst (λ i. Shows i answer) (is ∙ same) shown))
 
--- what a vector without bytes holds behind them is the answer
+-- what a vector without bytes holds after them is the answer
 pub MayTell-written : (text held bytes : List ℕ) (status : ℕ) (answer : List ℕ × ℕ) → held ≡ [] → MayTell text answer
     → Writes answer status (Some held) (Some bytes) → MayTell text (bytes, status)
 MayTell-written text held bytes status answer empty may (is, grows) =

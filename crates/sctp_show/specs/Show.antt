@@ -100,11 +100,11 @@ MayAnswer false known left answer =
 abbrev pub TakesAtMost : ℕ → Option (List ℕ) → Option (List ℕ) → Type 0
 TakesAtMost most old new = (taken : List ℕ) × (length taken ≤ most) × Consumes old new taken
 
--- the run wrote the whole answer behind what the writer held, and has its status
+-- the run wrote the whole answer after what the writer held, and has its status
 abbrev pub Writes : List ℕ × ℕ → ℕ → Option (List ℕ) → Option (List ℕ) → Type 0
 Writes answer status old new = (status ≡ answer.1) × Appends old new answer.0
 
--- the run wrote a beginning of the answer behind what the writer held, and has status 2
+-- the run wrote a beginning of the answer after what the writer held, and has status 2
 abbrev pub WritesBeginning : List ℕ × ℕ → ℕ → Option (List ℕ) → Option (List ℕ) → Type 0
 WritesBeginning answer status old new =
     (status ≡ 2) × (written : List ℕ) × StartsWith answer.0 written × Appends old new written

@@ -19,7 +19,7 @@ pub struct Captured {
 
 /// Runs the program on a text, and keeps what it writes.
 pub fn show_captured(alloc: Global, text: &[u8]) -> Captured
-    // Unless the status is 2, bytes and status are the text's answer, or tell of a want of memory
+    // Unless the status is 2, bytes and status are the text's answer, or tell that memory ran out
     // or of a failed read.
     ensures shown { result.status ≢ 2
         → MayShow text.now (captured result) ⊎ (captured result ≡ read_failed) }

@@ -16,17 +16,15 @@ use std::io::{Read, Write};
 const MOST_READ: usize = MOST_BYTES + 1;
 
 /// Reads the input, writes its answer, and answers the status: 0 for a packet, 1 for a fault, and
-/// 2 where the output failed.
+/// 2 where the output failed. Of a device that had failed before it tells no more than `at_most`.
 pub fn show<R: Read, W: Write>(alloc: Global, input: &mut Watched<R>, output: &mut Watched<W>) -> u8
-    requires input_works { has_failed input.old ≡ false }
-    requires output_works { has_failed output.old ≡ false }
-
     // The input is read once, from its front on, and no further than tells that it is too long.
     ensures at_most { TakesAtMost 200001 (R.remaining (device_of input.old))
         (R.remaining (device_of input.new)) }
 
     // Where no device fails, the output and the status are those of the input, or memory ran out.
-    ensures shown { has_failed input.new ≡ false → has_failed output.new ≡ false
+    ensures shown { has_failed input.old ≡ false → has_failed output.old ≡ false
+        → has_failed input.new ≡ false → has_failed output.new ≡ false
         → IfSome (R.remaining (device_of input.old)) (λ all. (answer : List ℕ × ℕ) × MayShow all answer
         × Writes answer result (W.contents (device_of output.old)) (W.contents (device_of output.new))) }
 
@@ -34,19 +32,23 @@ pub fn show<R: Read, W: Write>(alloc: Global, input: &mut Watched<R>, output: &m
     ensures one_answer { (all : List ℕ) (a b : List ℕ × ℕ) → Shows all a → Shows all b → a ≡ b }
 
     // A failed read is told by its line alone, and no other run has that line alone and status 1.
-    ensures read_failed { has_failed output.new ≡ false → IfSome (W.contents (device_of output.old))
+    ensures read_failed { has_failed input.old ≡ false → has_failed output.old ≡ false
+        → has_failed output.new ≡ false → IfSome (W.contents (device_of output.old))
         (λ held. ((result ≡ 1)
         × (W.contents (device_of output.new) ≡ Some (held ++ codes "error: read failed\n")))
         ↔ (has_failed input.new ≡ true)) }
 
     // Status 2 tells that the output failed: what was written is then a beginning of an answer that
     // the run could have had, and else the whole of one.
-    ensures status { (result ≡ 2) ↔ (has_failed output.new ≡ true) }
-    ensures whole { has_failed output.new ≡ false → (answer : List ℕ × ℕ)
+    ensures status { has_failed output.old ≡ false
+        → (result ≡ 2) ↔ (has_failed output.new ≡ true) }
+    ensures whole { has_failed input.old ≡ false → has_failed output.old ≡ false
+        → has_failed output.new ≡ false → (answer : List ℕ × ℕ)
         × MayAnswer (has_failed input.new) (R.remaining (device_of input.old))
         (R.remaining (device_of input.new)) answer
         × Writes answer result (W.contents (device_of output.old)) (W.contents (device_of output.new)) }
-    ensures cut { has_failed output.new ≡ true → (answer : List ℕ × ℕ)
+    ensures cut { has_failed input.old ≡ false → has_failed output.old ≡ false
+        → has_failed output.new ≡ true → (answer : List ℕ × ℕ)
         × MayAnswer (has_failed input.new) (R.remaining (device_of input.old))
         (R.remaining (device_of input.new)) answer
         × WritesBeginning answer result (W.contents (device_of output.old))
@@ -58,10 +60,10 @@ pub fn show<R: Read, W: Write>(alloc: Global, input: &mut Watched<R>, output: &m
 
 /// What the input is answered with, or why it is not.
 fn reply_to<R: Read>(alloc: Global, input: &mut Watched<R>) -> Result<String, Failure>
-    requires { has_failed input.old ≡ false }
     ensures at_most { TakesAtMost 200001 (R.remaining (device_of input.old))
         (R.remaining (device_of input.new)) }
-    ensures reply { MayAnswer (has_failed input.new) (R.remaining (device_of input.old))
+    ensures reply { has_failed input.old ≡ false
+        → MayAnswer (has_failed input.new) (R.remaining (device_of input.old))
         (R.remaining (device_of input.new)) (reply_of result) }
 {
     let bytes = read_input(alloc, input)?;
@@ -70,7 +72,6 @@ fn reply_to<R: Read>(alloc: Global, input: &mut Watched<R>) -> Result<String, Fa
 
 /// The input up to its end, or its first bytes.
 fn read_input<R: Read>(alloc: Global, input: &mut Watched<R>) -> Result<Vec<u8>, Failure>
-    requires { has_failed input.old ≡ false }
     ensures read { IfOk result (λ bytes. Consumes (R.remaining (device_of input.old))
         (R.remaining (device_of input.new)) bytes.items) }
     ensures at_most { IfOk result (λ bytes. length bytes.items ≤ 200001) }
@@ -78,7 +79,8 @@ fn read_input<R: Read>(alloc: Global, input: &mut Watched<R>) -> Result<Vec<u8>,
         (λ all. bytes.items ≡ take 200001 all)) }
     ensures none_lost { OnErr result (TakesAtMost 200001 (R.remaining (device_of input.old))
         (R.remaining (device_of input.new))) }
-    ensures failed { (result ≡ Err Failure.Read) ↔ (has_failed input.new ≡ true) }
+    ensures failed { has_failed input.old ≡ false
+        → (result ≡ Err Failure.Read) ↔ (has_failed input.new ≡ true) }
     ensures memory { IfErr result (λ e. (e ≡ Failure.Read) ⊎ (e ≡ Failure.OutOfMemory)) }
 {
     let mut bytes = vec![in alloc; 0; MOST_READ]?;
@@ -115,11 +117,12 @@ fn fill<R: Read>(input: &mut Watched<R>, room: &mut [u8]) -> io::Result<usize>
 
 /// Writes the reply and answers its status, or 2 where the output failed.
 fn tell<W: Write>(output: &mut Watched<W>, reply: &Result<String, Failure>) -> u8
-    requires { has_failed output.old ≡ false }
-    ensures status { (result ≡ 2) ↔ (has_failed output.new ≡ true) }
+    ensures status { has_failed output.old ≡ false
+        → (result ≡ 2) ↔ (has_failed output.new ≡ true) }
     ensures whole { has_failed output.new ≡ false → Writes (reply_of reply.now) result
         (W.contents (device_of output.old)) (W.contents (device_of output.new)) }
-    ensures cut { has_failed output.new ≡ true → WritesBeginning (reply_of reply.now) result
+    ensures cut { has_failed output.old ≡ false → has_failed output.new ≡ true
+        → WritesBeginning (reply_of reply.now) result
         (W.contents (device_of output.old)) (W.contents (device_of output.new)) }
 {
     match reply {
@@ -130,12 +133,13 @@ fn tell<W: Write>(output: &mut Watched<W>, reply: &Result<String, Failure>) -> u
 
 /// Writes the text, flushes, and answers `status`, or 2 where the output failed.
 fn print<W: Write>(output: &mut Watched<W>, text: &[u8], status: u8) -> u8
-    requires works { has_failed output.old ≡ false }
-    requires answers { status < 2 }
-    ensures status { (result ≡ 2) ↔ (has_failed output.new ≡ true) }
+    requires { status < 2 }
+    ensures status { has_failed output.old ≡ false
+        → (result ≡ 2) ↔ (has_failed output.new ≡ true) }
     ensures whole { has_failed output.new ≡ false → Writes (text.now, status) result
         (W.contents (device_of output.old)) (W.contents (device_of output.new)) }
-    ensures cut { has_failed output.new ≡ true → WritesBeginning (text.now, status) result
+    ensures cut { has_failed output.old ≡ false → has_failed output.new ≡ true
+        → WritesBeginning (text.now, status) result
         (W.contents (device_of output.old)) (W.contents (device_of output.new)) }
 {
     let mut written = 0;

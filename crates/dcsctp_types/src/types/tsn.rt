@@ -15,7 +15,7 @@ use std::ops::{Add, AddAssign, Sub, SubAssign};
 pub struct Tsn(pub u32);
 
 impl Tsn {
-    /// The number `n` places behind this one, the same as `self + n`.
+    /// The number `n` places ahead of this one, the same as `self + n`.
     pub fn add_to(self, n: u32) -> Self
         ensures { result.0 ≡ wrapped_sum (2 ^ 32) self.0 n }
     {
@@ -33,8 +33,8 @@ impl SerialNumber for Tsn {
     ghost places = { λ n. n };
 
     fn distance_to(self, other: Self) -> u32 {
-        let behind = self.0.wrapping_sub(other.0);
-        behind.min(behind.wrapping_neg())
+        let ahead = self.0.wrapping_sub(other.0);
+        ahead.min(ahead.wrapping_neg())
     }
 
     fn greater_than(&self, base: Self) -> bool {

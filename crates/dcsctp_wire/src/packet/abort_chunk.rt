@@ -13,7 +13,7 @@
 ghost use Rattle.std.specs.Prelude.{◌≡◌, ◌≢◌, ◌↔◌, ◌≤◌, ◌+◌, ◌*◌, ℕ, [], ◌∷◌, false, length, Some, IsOk, IfOk, IsErrOf};
 ghost use Rattle.dcsctp_tlv.specs.Image.{IsEncodable};
 ghost use Rattle.dcsctp_tlv.specs.Level.{HasMeaning, MeansParts};
-ghost use Rattle.dcsctp_tlv.specs.Reading.{Answers, Finds};
+ghost use Rattle.dcsctp_tlv.specs.Reading.{Answers, Finds, ReadsExactly};
 ghost use Rattle.dcsctp_tlv.proofs.Listed.{length-listed_tlv};
 ghost use Rattle.dcsctp_cause.specs.Cause.{tlv as cause_tlv};
 ghost use Rattle.dcsctp_cause.proofs.CauseLaws.{length-cause};
@@ -38,6 +38,7 @@ pub struct AbortChunk {
     /// Whether the packet's verification tag is the receiver's own, sent back to it: the T bit. It
     /// is set where the sender has no association.
     pub tag_reflected: bool,
+    /// Why; none, where the sender gives no reason.
     pub error_causes: Vec<ErrorCause>,
 }
 
@@ -61,12 +62,27 @@ impl AbortChunk {
         ensures other { IsErrOf result ChunkParseError.InvalidType ↔ (raw.entry.typ ≢ CHUNK_TYPE) }
         ensures own { raw.entry.typ ≡ CHUNK_TYPE → Answers result (λ c. (abort_row raw.entry.flags).means raw.entry.value.now (abort_view c)) ((abort_row raw.entry.flags).faults raw.entry.value.now) }
         ensures memory { IsErrOf result ChunkParseError.OutOfMemory → HasMeaning (abort_row raw.entry.flags) raw.entry.value.now × (raw.entry.value.now ≢ []) }
+        ensures exact { raw.entry.typ ≡ CHUNK_TYPE → ReadsExactly result abort_view
+            ((abort_row raw.entry.flags).means raw.entry.value.now)
+            ((abort_row raw.entry.flags).faults raw.entry.value.now) }
     {
         if raw.typ != CHUNK_TYPE {
             return Err(ChunkParseError::InvalidType);
         }
-        AbortChunk::check(raw.value)?;
-        Ok(AbortChunk::build(alloc, raw.flags, raw.value)?)
+        AbortChunk::read(alloc, raw.flags, raw.value)
+    }
+
+    /// Checks the value, and builds what it means.
+    fn read(alloc: Global, flags: u8, value: &[u8]) -> Result<Self, ChunkParseError>
+        ensures answer { Answers result (λ c. (abort_row flags).means value.now (abort_view c))
+            ((abort_row flags).faults value.now) }
+        ensures memory { IsErrOf result ChunkParseError.OutOfMemory →
+            HasMeaning (abort_row flags) value.now × (value.now ≢ []) }
+        ensures exact { ReadsExactly result abort_view
+            ((abort_row flags).means value.now) ((abort_row flags).faults value.now) }
+    {
+        AbortChunk::check(value)?;
+        Ok(AbortChunk::build(alloc, flags, value)?)
     }
 
     /// The number of parts: the chunk and its causes; or the first fault of these from the left. It

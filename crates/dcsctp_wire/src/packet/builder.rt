@@ -1,4 +1,4 @@
-//! Packets that are built chunk by chunk: the common header, and behind it each chunk with its
+//! Packets that are built chunk by chunk: the common header, and after it each chunk with its
 //! padding. A packet's bytes are reserved once, and written in place.
 
 ghost use Rattle.std.specs.Prelude.{◌≡◌, ◌≢◌, ◌≤◌, ◌+◌, ◌-◌, ◌*◌, ◌/◌, ◌++◌, ◌∷◌, [], ◌↔◌, ℕ, List, true, max, length, take, drop, vec_len, vec_capacity, IsTrue, IsOk, OnOk, OnErr};
@@ -91,16 +91,16 @@ impl SctpPacketBuilder {
         self
     }
 
-    /// Adds a chunk behind those that are held, with zeros up to a multiple of 4.
+    /// Adds a chunk after those that are held, with zeros up to a multiple of 4.
     ///
     /// The chunk must be `encodable`, and its `serialized_size`, rounded up to a multiple of 4,
     /// at most `bytes_remaining`. The first chunk of a packet reserves the whole packet: it alone
-    /// can be refused, for want of memory, and nothing is changed then. No other takes memory.
+    /// can be refused, where memory runs out, and nothing is changed then. No other takes memory.
     pub fn add(&mut self, chunk: &Chunk) -> Result<(), AllocError>
         requires encodable { IsChunkEncodable (view chunk.now) }
         requires room { round_up_to_4 (size_of (chunk_tlv (view chunk.now))) ≤ room self.old }
 
-        // Whatever was held is held still, with the chunk behind it.
+        // Whatever was held is held still, with the chunk after it.
         ensures added { OnOk result ((chunks : List ChunkTree) → Holds self.old chunks →
             Holds self.new (chunks ++ view chunk.now ∷ [])) }
         ensures room_left { OnOk result
@@ -192,7 +192,7 @@ impl SctpPacketBuilder {
     }
 }
 
-/// Writes the chunk behind the bytes, in room that is there, with zeros up to a multiple of 4.
+/// Writes the chunk after the bytes, in room that is there, with zeros up to a multiple of 4.
 fn append_chunk(bytes: &mut Vec<u8>, chunk: &Chunk)
     requires encodable { IsChunkEncodable (view chunk.now) }
     requires room { vec_len bytes.old + round_up_to_4 (size_of (chunk_tlv (view chunk.now)))

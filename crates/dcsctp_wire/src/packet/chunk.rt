@@ -1,6 +1,6 @@
 //! A chunk of any kind.
 
-ghost use Rattle.std.specs.Prelude.{◌≡◌, ◌≢◌, ◌<◌, ◌+◌, [], Some, IsOk, IfOk, IsErrOf, vec_len, vec_capacity, refl};
+ghost use Rattle.std.specs.Prelude.{◌≡◌, ◌≢◌, ◌<◌, ◌+◌, [], Some, IsOk, IfOk, IsErrOf, vec_len, vec_capacity};
 ghost use Rattle.dcsctp_tlv.specs.Level.{HasMeaning, Grows};
 ghost use Rattle.dcsctp_tlv.specs.Reading.{Answers, ReadsExactly};
 ghost use Rattle.dcsctp_wire.specs.Account.{chunk_parts};
@@ -16,7 +16,7 @@ use crate::packet::heartbeat_ack_chunk::{self, HeartbeatAckChunk};
 use crate::packet::heartbeat_request_chunk::{self, HeartbeatRequestChunk};
 use crate::packet::idata_chunk::{self, IDataChunk};
 use crate::packet::iforward_tsn_chunk::{self, IForwardTsnChunk};
-use crate::packet::init::init_check;
+use crate::packet::init::{init_build, init_check};
 use crate::packet::init_ack_chunk::{self, InitAckChunk};
 use crate::packet::init_chunk::{self, InitChunk};
 use crate::packet::parameter_list::parameter_list_check;
@@ -26,9 +26,12 @@ use crate::packet::shutdown_ack_chunk::{self, ShutdownAckChunk};
 use crate::packet::shutdown_chunk::{self, ShutdownChunk};
 use crate::packet::shutdown_complete_chunk::{self, ShutdownCompleteChunk};
 use crate::packet::unknown_chunk::UnknownChunk;
+use dcsctp_cause::error_causes::error_cause_build;
+use dcsctp_chunk::flags::is_set;
 pub use dcsctp_chunk::plain_check::plain_check;
 pub use dcsctp_chunk::raw_chunk::{RawChunk, write_chunk_header};
 use dcsctp_tlv::error::ChunkParseError;
+use dcsctp_tlv::parameter::parameters_build;
 use dcsctp_tlv::reader::ReadableTlv;
 use dcsctp_tlv::tlv::SerializableTlv;
 use std::alloc::{AllocError, Global};
@@ -37,24 +40,68 @@ use std::fmt;
 /// A chunk of any kind (RFC 9260 section 3.2); a type without a kind of its own is `Unknown`.
 #[derive(Debug, Drop)]
 pub enum Chunk {
+    /// DATA (RFC 9260 section 3.3.1), type 0.
     Data(DataChunk),
+    /// INIT (RFC 9260 section 3.3.2), type 1.
     Init(InitChunk),
+    /// INIT ACK (RFC 9260 section 3.3.3), type 2.
     InitAck(InitAckChunk),
+    /// SACK (RFC 9260 section 3.3.4), type 3.
     Sack(SackChunk),
+    /// HEARTBEAT (RFC 9260 section 3.3.5), type 4.
     HeartbeatRequest(HeartbeatRequestChunk),
+    /// HEARTBEAT ACK (RFC 9260 section 3.3.6), type 5.
     HeartbeatAck(HeartbeatAckChunk),
+    /// ABORT (RFC 9260 section 3.3.7), type 6.
     Abort(AbortChunk),
+    /// SHUTDOWN (RFC 9260 section 3.3.8), type 7.
     Shutdown(ShutdownChunk),
+    /// SHUTDOWN ACK (RFC 9260 section 3.3.9), type 8.
     ShutdownAck(ShutdownAckChunk),
+    /// ERROR (RFC 9260 section 3.3.10), type 9.
     Error(ErrorChunk),
+    /// COOKIE ECHO (RFC 9260 section 3.3.11), type 10.
     CookieEcho(CookieEchoChunk),
+    /// COOKIE ACK (RFC 9260 section 3.3.12), type 11.
     CookieAck(CookieAckChunk),
+    /// SHUTDOWN COMPLETE (RFC 9260 section 3.3.13), type 14.
     ShutdownComplete(ShutdownCompleteChunk),
+    /// RE-CONFIG (RFC 6525 section 3.1), type 130.
     ReConfig(ReConfigChunk),
+    /// FORWARD-TSN (RFC 3758 section 3.2), type 192.
     ForwardTsn(ForwardTsnChunk),
+    /// I-DATA (RFC 8260 section 2.1), type 64.
     IData(IDataChunk),
+    /// I-FORWARD-TSN (RFC 8260 section 2.3.1), type 194.
     IForwardTsn(IForwardTsnChunk),
+    /// A chunk of any other type.
     Unknown(UnknownChunk),
+}
+
+/// The same of every kind.
+macro_rules! each_kind {
+    ($chunk:expr, $kind:ident => $does:expr) => {
+        match $chunk {
+            Chunk::Data($kind) => $does,
+            Chunk::Init($kind) => $does,
+            Chunk::InitAck($kind) => $does,
+            Chunk::Sack($kind) => $does,
+            Chunk::HeartbeatRequest($kind) => $does,
+            Chunk::HeartbeatAck($kind) => $does,
+            Chunk::Abort($kind) => $does,
+            Chunk::Shutdown($kind) => $does,
+            Chunk::ShutdownAck($kind) => $does,
+            Chunk::Error($kind) => $does,
+            Chunk::CookieEcho($kind) => $does,
+            Chunk::CookieAck($kind) => $does,
+            Chunk::ShutdownComplete($kind) => $does,
+            Chunk::ReConfig($kind) => $does,
+            Chunk::ForwardTsn($kind) => $does,
+            Chunk::IData($kind) => $does,
+            Chunk::IForwardTsn($kind) => $does,
+            Chunk::Unknown($kind) => $does,
+        }
+    };
 }
 
 impl Chunk {
@@ -145,34 +192,40 @@ impl Chunk {
         ensures capacity { IfOk result (λ _. vec_capacity list.new ≡ vec_capacity list.old) }
     {
         match first {
-            init_chunk::CHUNK_TYPE => {
-                list.push_reserved(Chunk::Init(InitChunk::build(alloc, value)?));
+            init_chunk::CHUNK_TYPE | init_ack_chunk::CHUNK_TYPE => {
+                let fields = init_build(alloc, value)?;
+                if first == init_chunk::CHUNK_TYPE {
+                    list.push_reserved(Chunk::Init(InitChunk::of_fields(fields)));
+                } else {
+                    list.push_reserved(Chunk::InitAck(InitAckChunk::of_fields(fields)));
+                }
                 Ok(())
             }
-            init_ack_chunk::CHUNK_TYPE => {
-                list.push_reserved(Chunk::InitAck(InitAckChunk::build(alloc, value)?));
+            heartbeat_request_chunk::CHUNK_TYPE
+            | heartbeat_ack_chunk::CHUNK_TYPE
+            | re_config_chunk::CHUNK_TYPE => {
+                let parameters = parameters_build(alloc, value)?;
+                if first == heartbeat_request_chunk::CHUNK_TYPE {
+                    list.push_reserved(Chunk::HeartbeatRequest(HeartbeatRequestChunk {
+                        parameters,
+                    }));
+                } else if first == heartbeat_ack_chunk::CHUNK_TYPE {
+                    list.push_reserved(Chunk::HeartbeatAck(HeartbeatAckChunk { parameters }));
+                } else {
+                    list.push_reserved(Chunk::ReConfig(ReConfigChunk { parameters }));
+                }
                 Ok(())
             }
-            heartbeat_request_chunk::CHUNK_TYPE => {
-                list.push_reserved(Chunk::HeartbeatRequest(HeartbeatRequestChunk::build(
-                    alloc, value,
-                )?));
-                Ok(())
-            }
-            heartbeat_ack_chunk::CHUNK_TYPE => {
-                list.push_reserved(Chunk::HeartbeatAck(HeartbeatAckChunk::build(alloc, value)?));
-                Ok(())
-            }
-            abort_chunk::CHUNK_TYPE => {
-                list.push_reserved(Chunk::Abort(AbortChunk::build(alloc, second, value)?));
-                Ok(())
-            }
-            error_chunk::CHUNK_TYPE => {
-                list.push_reserved(Chunk::Error(ErrorChunk::build(alloc, value)?));
-                Ok(())
-            }
-            re_config_chunk::CHUNK_TYPE => {
-                list.push_reserved(Chunk::ReConfig(ReConfigChunk::build(alloc, value)?));
+            abort_chunk::CHUNK_TYPE | error_chunk::CHUNK_TYPE => {
+                let error_causes = error_cause_build(alloc, value)?;
+                if first == abort_chunk::CHUNK_TYPE {
+                    list.push_reserved(Chunk::Abort(AbortChunk {
+                        tag_reflected: is_set(second, 0),
+                        error_causes,
+                    }));
+                } else {
+                    list.push_reserved(Chunk::Error(ErrorChunk { error_causes }));
+                }
                 Ok(())
             }
             _ => {
@@ -266,7 +319,9 @@ impl ReadableTlv for Chunk {
         }
     }
 
-    ghost ignores_padding = { λ size there. refl };
+    fn accepts_padding(_size: usize, _there: &[u8]) -> bool {
+        true
+    }
 }
 
 impl SerializableTlv for Chunk {
@@ -279,72 +334,15 @@ impl SerializableTlv for Chunk {
     ghost size_bound = { λ c fits. encodable_size (view c) fits };
 
     fn serialize_to(&self, output: &mut [u8]) {
-        match self {
-            Chunk::Data(c) => c.serialize_to(output),
-            Chunk::Init(c) => c.serialize_to(output),
-            Chunk::InitAck(c) => c.serialize_to(output),
-            Chunk::Sack(c) => c.serialize_to(output),
-            Chunk::HeartbeatRequest(c) => c.serialize_to(output),
-            Chunk::HeartbeatAck(c) => c.serialize_to(output),
-            Chunk::Abort(c) => c.serialize_to(output),
-            Chunk::Shutdown(c) => c.serialize_to(output),
-            Chunk::ShutdownAck(c) => c.serialize_to(output),
-            Chunk::Error(c) => c.serialize_to(output),
-            Chunk::CookieEcho(c) => c.serialize_to(output),
-            Chunk::CookieAck(c) => c.serialize_to(output),
-            Chunk::ShutdownComplete(c) => c.serialize_to(output),
-            Chunk::ReConfig(c) => c.serialize_to(output),
-            Chunk::ForwardTsn(c) => c.serialize_to(output),
-            Chunk::IData(c) => c.serialize_to(output),
-            Chunk::IForwardTsn(c) => c.serialize_to(output),
-            Chunk::Unknown(c) => c.serialize_to(output),
-        }
+        each_kind!(self, c => c.serialize_to(output))
     }
 
     fn value_size(&self) -> usize {
-        match self {
-            Chunk::Data(c) => c.value_size(),
-            Chunk::Init(c) => c.value_size(),
-            Chunk::InitAck(c) => c.value_size(),
-            Chunk::Sack(c) => c.value_size(),
-            Chunk::HeartbeatRequest(c) => c.value_size(),
-            Chunk::HeartbeatAck(c) => c.value_size(),
-            Chunk::Abort(c) => c.value_size(),
-            Chunk::Shutdown(c) => c.value_size(),
-            Chunk::ShutdownAck(c) => c.value_size(),
-            Chunk::Error(c) => c.value_size(),
-            Chunk::CookieEcho(c) => c.value_size(),
-            Chunk::CookieAck(c) => c.value_size(),
-            Chunk::ShutdownComplete(c) => c.value_size(),
-            Chunk::ReConfig(c) => c.value_size(),
-            Chunk::ForwardTsn(c) => c.value_size(),
-            Chunk::IData(c) => c.value_size(),
-            Chunk::IForwardTsn(c) => c.value_size(),
-            Chunk::Unknown(c) => c.value_size(),
-        }
+        each_kind!(self, c => c.value_size())
     }
 
     fn encodable(&self) -> bool {
-        match self {
-            Chunk::Data(c) => c.encodable(),
-            Chunk::Init(c) => c.encodable(),
-            Chunk::InitAck(c) => c.encodable(),
-            Chunk::Sack(c) => c.encodable(),
-            Chunk::HeartbeatRequest(c) => c.encodable(),
-            Chunk::HeartbeatAck(c) => c.encodable(),
-            Chunk::Abort(c) => c.encodable(),
-            Chunk::Shutdown(c) => c.encodable(),
-            Chunk::ShutdownAck(c) => c.encodable(),
-            Chunk::Error(c) => c.encodable(),
-            Chunk::CookieEcho(c) => c.encodable(),
-            Chunk::CookieAck(c) => c.encodable(),
-            Chunk::ShutdownComplete(c) => c.encodable(),
-            Chunk::ReConfig(c) => c.encodable(),
-            Chunk::ForwardTsn(c) => c.encodable(),
-            Chunk::IData(c) => c.encodable(),
-            Chunk::IForwardTsn(c) => c.encodable(),
-            Chunk::Unknown(c) => c.encodable(),
-        }
+        each_kind!(self, c => c.encodable())
     }
 }
 
@@ -352,25 +350,6 @@ impl fmt::Display for Chunk {
     ghost output = { λ c. Some (chunk_text (view c)) };
 
     fn fmt<W: fmt::Write>(&self, f: &mut fmt::Formatter<W>) -> fmt::Result {
-        match self {
-            Chunk::Data(c) => c.fmt(f),
-            Chunk::Init(c) => c.fmt(f),
-            Chunk::InitAck(c) => c.fmt(f),
-            Chunk::Sack(c) => c.fmt(f),
-            Chunk::HeartbeatRequest(c) => c.fmt(f),
-            Chunk::HeartbeatAck(c) => c.fmt(f),
-            Chunk::Abort(c) => c.fmt(f),
-            Chunk::Shutdown(c) => c.fmt(f),
-            Chunk::ShutdownAck(c) => c.fmt(f),
-            Chunk::Error(c) => c.fmt(f),
-            Chunk::CookieEcho(c) => c.fmt(f),
-            Chunk::CookieAck(c) => c.fmt(f),
-            Chunk::ShutdownComplete(c) => c.fmt(f),
-            Chunk::ReConfig(c) => c.fmt(f),
-            Chunk::ForwardTsn(c) => c.fmt(f),
-            Chunk::IData(c) => c.fmt(f),
-            Chunk::IForwardTsn(c) => c.fmt(f),
-            Chunk::Unknown(c) => c.fmt(f),
-        }
+        each_kind!(self, c => c.fmt(f))
     }
 }

@@ -13,7 +13,7 @@
 ghost use Rattle.std.specs.Prelude.{◌≡◌, ◌≢◌, ◌↔◌, ◌≤◌, ◌+◌, ◌*◌, [], length, Some, IfOk, IsErrOf};
 ghost use Rattle.dcsctp_tlv.specs.Image.{IsEncodable};
 ghost use Rattle.dcsctp_tlv.specs.Level.{HasMeaning, MeansParts};
-ghost use Rattle.dcsctp_tlv.specs.Reading.{Answers, Finds};
+ghost use Rattle.dcsctp_tlv.specs.Reading.{Answers, Finds, ReadsExactly};
 ghost use Rattle.dcsctp_tlv.proofs.Listed.{length-listed_tlv};
 ghost use Rattle.dcsctp_cause.specs.Cause.{tlv as cause_tlv};
 ghost use Rattle.dcsctp_cause.proofs.CauseLaws.{length-cause};
@@ -38,6 +38,7 @@ pub const HEADER_SIZE: usize = 4;
 /// An empty list can be written, but isn't read.
 #[derive(Debug, Drop)]
 pub struct ErrorChunk {
+    /// What went wrong; a chunk that was read has at least one.
     pub error_causes: Vec<ErrorCause>,
 }
 
@@ -59,12 +60,26 @@ impl ErrorChunk {
         ensures other { IsErrOf result ChunkParseError.InvalidType ↔ (raw.entry.typ ≢ CHUNK_TYPE) }
         ensures own { raw.entry.typ ≡ CHUNK_TYPE → Answers result (λ c. error_row.means raw.entry.value.now (error_view c)) (error_row.faults raw.entry.value.now) }
         ensures memory { IsErrOf result ChunkParseError.OutOfMemory → HasMeaning error_row raw.entry.value.now }
+        ensures exact { raw.entry.typ ≡ CHUNK_TYPE → ReadsExactly result error_view
+            (error_row.means raw.entry.value.now) (error_row.faults raw.entry.value.now) }
     {
         if raw.typ != CHUNK_TYPE {
             return Err(ChunkParseError::InvalidType);
         }
-        ErrorChunk::check(raw.value)?;
-        Ok(ErrorChunk::build(alloc, raw.value)?)
+        ErrorChunk::read(alloc, raw.value)
+    }
+
+    /// Checks the value, and builds what it means.
+    fn read(alloc: Global, value: &[u8]) -> Result<Self, ChunkParseError>
+        ensures answer { Answers result (λ c. error_row.means value.now (error_view c))
+            (error_row.faults value.now) }
+        ensures memory { IsErrOf result ChunkParseError.OutOfMemory →
+            HasMeaning error_row value.now }
+        ensures exact { ReadsExactly result error_view
+            (error_row.means value.now) (error_row.faults value.now) }
+    {
+        ErrorChunk::check(value)?;
+        Ok(ErrorChunk::build(alloc, value)?)
     }
 
     /// The number of parts: the chunk and its causes. `InvalidLength` where there are no causes; else

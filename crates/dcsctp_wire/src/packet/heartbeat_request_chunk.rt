@@ -15,7 +15,7 @@ ghost use Rattle.dcsctp_tlv.specs.Image.{IsEncodable};
 ghost use Rattle.dcsctp_tlv.specs.Parameter.{tlv as parameter_tlv};
 ghost use Rattle.dcsctp_tlv.proofs.ParameterLaws.{length-parameter};
 ghost use Rattle.dcsctp_tlv.specs.Level.{HasMeaning};
-ghost use Rattle.dcsctp_tlv.specs.Reading.{Answers};
+ghost use Rattle.dcsctp_tlv.specs.Reading.{Answers, ReadsExactly};
 ghost use Rattle.dcsctp_tlv.proofs.Listed.{length-listed_tlv};
 ghost use Rattle.dcsctp_wire.specs.ParameterList.{parameter_list_row, parameter_list_tlv, heartbeat_request_text, heartbeat_request_view};
 
@@ -34,6 +34,7 @@ pub const CHUNK_TYPE: u8 = 4;
 /// HEARTBEAT (RFC 9260 section 3.3.5).
 #[derive(Debug, Drop)]
 pub struct HeartbeatRequestChunk {
+    /// The Heartbeat Info, and whatever else the sender put in.
     pub parameters: Vec<Parameter>,
 }
 
@@ -55,12 +56,28 @@ impl HeartbeatRequestChunk {
         ensures other { IsErrOf result ChunkParseError.InvalidType ↔ (raw.entry.typ ≢ CHUNK_TYPE) }
         ensures own { raw.entry.typ ≡ CHUNK_TYPE → Answers result (λ c. parameter_list_row.means raw.entry.value.now (heartbeat_request_view c)) (parameter_list_row.faults raw.entry.value.now) }
         ensures memory { IsErrOf result ChunkParseError.OutOfMemory → HasMeaning parameter_list_row raw.entry.value.now × (raw.entry.value.now ≢ []) }
+        ensures exact { raw.entry.typ ≡ CHUNK_TYPE → ReadsExactly result heartbeat_request_view
+            (parameter_list_row.means raw.entry.value.now)
+            (parameter_list_row.faults raw.entry.value.now) }
     {
         if raw.typ != CHUNK_TYPE {
             return Err(ChunkParseError::InvalidType);
         }
-        parameter_list_check(raw.value)?;
-        Ok(HeartbeatRequestChunk::build(alloc, raw.value)?)
+        HeartbeatRequestChunk::read(alloc, raw.value)
+    }
+
+    /// Checks the value, and builds what it means.
+    fn read(alloc: Global, value: &[u8]) -> Result<Self, ChunkParseError>
+        ensures answer { Answers result
+            (λ c. parameter_list_row.means value.now (heartbeat_request_view c))
+            (parameter_list_row.faults value.now) }
+        ensures memory { IsErrOf result ChunkParseError.OutOfMemory →
+            HasMeaning parameter_list_row value.now × (value.now ≢ []) }
+        ensures exact { ReadsExactly result heartbeat_request_view
+            (parameter_list_row.means value.now) (parameter_list_row.faults value.now) }
+    {
+        parameter_list_check(value)?;
+        Ok(HeartbeatRequestChunk::build(alloc, value)?)
     }
 
     /// What the value means.

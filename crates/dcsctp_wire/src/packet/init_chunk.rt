@@ -23,11 +23,11 @@ ghost use Rattle.dcsctp_tlv.specs.Image.{IsEncodable};
 ghost use Rattle.dcsctp_tlv.specs.Parameter.{tlv as parameter_tlv};
 ghost use Rattle.dcsctp_tlv.proofs.ParameterLaws.{length-parameter};
 ghost use Rattle.dcsctp_tlv.specs.Level.{HasMeaning};
-ghost use Rattle.dcsctp_tlv.specs.Reading.{Answers};
+ghost use Rattle.dcsctp_tlv.specs.Reading.{Answers, ReadsExactly};
 ghost use Rattle.dcsctp_tlv.proofs.Listed.{length-listed_tlv};
-ghost use Rattle.dcsctp_wire.specs.Init.{init_row, init_numbers, init_tlv, init_text, init_view};
+ghost use Rattle.dcsctp_wire.specs.Init.{init_row, init_numbers, init_tlv, init_text, init_view, init_fields_view};
 
-use crate::packet::init::{FIXED_SIZE, init_build, init_bytes, init_check};
+use crate::packet::init::{FIXED_SIZE, InitFields, init_build, init_bytes, init_check};
 use dcsctp_chunk::raw_chunk::RawChunk;
 use dcsctp_tlv::error::ChunkParseError;
 use dcsctp_tlv::list::{listed_encodable, listed_size, put_listed};
@@ -47,12 +47,13 @@ pub struct InitChunk {
     pub initiate_tag: u32,
     /// The bytes that the sender has room for.
     pub a_rwnd: u32,
-    /// The streams that the sender would send on.
+    /// How many streams the sender wants to send on.
     pub nbr_outbound_streams: u16,
-    /// The streams that the sender can receive on.
+    /// How many streams the sender can receive on.
     pub nbr_inbound_streams: u16,
     /// The TSN that the sender begins with.
     pub initial_tsn: Tsn,
+    /// What the sender offers beyond the numbers, in the order in which it stands.
     pub parameters: Vec<Parameter>,
 }
 
@@ -66,12 +67,26 @@ impl InitChunk {
         ensures other { IsErrOf result ChunkParseError.InvalidType ↔ (raw.entry.typ ≢ CHUNK_TYPE) }
         ensures own { raw.entry.typ ≡ CHUNK_TYPE → Answers result (λ c. init_row.means raw.entry.value.now (init_view c)) (init_row.faults raw.entry.value.now) }
         ensures memory { IsErrOf result ChunkParseError.OutOfMemory → HasMeaning init_row raw.entry.value.now × (drop 16 raw.entry.value.now ≢ []) }
+        ensures exact { raw.entry.typ ≡ CHUNK_TYPE → ReadsExactly result init_view
+            (init_row.means raw.entry.value.now) (init_row.faults raw.entry.value.now) }
     {
         if raw.typ != CHUNK_TYPE {
             return Err(ChunkParseError::InvalidType);
         }
-        init_check(raw.value)?;
-        Ok(InitChunk::build(alloc, raw.value)?)
+        InitChunk::read(alloc, raw.value)
+    }
+
+    /// Checks the value, and builds what it means.
+    fn read(alloc: Global, value: &[u8]) -> Result<Self, ChunkParseError>
+        ensures answer { Answers result (λ c. init_row.means value.now (init_view c))
+            (init_row.faults value.now) }
+        ensures memory { IsErrOf result ChunkParseError.OutOfMemory →
+            HasMeaning init_row value.now × (drop 16 value.now ≢ []) }
+        ensures exact { ReadsExactly result init_view
+            (init_row.means value.now) (init_row.faults value.now) }
+    {
+        init_check(value)?;
+        Ok(InitChunk::build(alloc, value)?)
     }
 
     /// What the value means.
@@ -80,15 +95,21 @@ impl InitChunk {
         ensures meant { IfOk result (λ c. init_row.means value.now (init_view c)) }
         ensures empty { drop 16 value.now ≡ [] → IsOk result }
     {
-        let fields = init_build(alloc, value)?;
-        Ok(InitChunk {
+        Ok(InitChunk::of_fields(init_build(alloc, value)?))
+    }
+
+    /// The chunk that holds these.
+    pub(crate) fn of_fields(fields: InitFields) -> Self
+        ensures { init_view result ≡ init_fields_view fields }
+    {
+        InitChunk {
             initiate_tag: fields.initiate_tag,
             a_rwnd: fields.a_rwnd,
             nbr_outbound_streams: fields.nbr_outbound_streams,
             nbr_inbound_streams: fields.nbr_inbound_streams,
             initial_tsn: fields.initial_tsn,
             parameters: fields.parameters,
-        })
+        }
     }
 }
 

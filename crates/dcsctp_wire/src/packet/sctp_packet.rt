@@ -28,7 +28,7 @@ ghost use Rattle.dcsctp_wire.specs.declared.packet.sctp_packet.PacketParseError.
 pub use crate::packet::builder::SctpPacketBuilder;
 use crate::packet::chunk::Chunk;
 use dcsctp_tlv::error::ChunkParseError;
-use dcsctp_tlv::list::{parameters_encodable, parameters_serialize_to, parameters_serialized_size};
+use dcsctp_tlv::list::{list_encodable, list_size, put_list};
 use dcsctp_tlv::number::{put_u16, put_u32, read_u16_be, read_u32_be, round_up_to_4};
 use dcsctp_tlv::reader::{list_build, list_check};
 use dcsctp_types::api::{
@@ -85,8 +85,11 @@ impl From<AllocError> for PacketParseError {
 /// What stands before the chunks of a packet (RFC 9260 section 3.1).
 #[derive(Drop)]
 pub struct CommonHeader {
+    /// The sender's port, as the sender sees it.
     pub source_port: u16,
+    /// The port that the packet is for.
     pub destination_port: u16,
+    /// The initiate tag that the receiver chose; 0 where the packet holds an INIT.
     pub verification_tag: u32,
     /// The number at bytes 8 to 11, most significant byte first.
     pub checksum: u32,
@@ -95,7 +98,9 @@ pub struct CommonHeader {
 /// A packet (RFC 9260 section 3).
 #[derive(Drop)]
 pub struct SctpPacket {
+    /// In the order in which they stand; a packet that was read has at least one.
     pub chunks: Vec<Chunk>,
+    /// What stands before them.
     pub common_header: CommonHeader,
 }
 
@@ -191,11 +196,10 @@ impl SctpPacket {
     pub fn fits(&self) -> bool
         ensures { IsTrue result ↔ Fits (meaning_view self.now) }
     {
-        if !parameters_encodable(&self.chunks) {
+        if !list_encodable(&self.chunks) {
             return false;
         }
-        round_up_to_4(parameters_serialized_size(&self.chunks))
-            <= MAX_CANONICAL_SIZE - COMMON_HEADER_SIZE
+        round_up_to_4(list_size(&self.chunks)) <= MAX_CANONICAL_SIZE - COMMON_HEADER_SIZE
     }
 
     /// The canonical packet: the ports and the tag, a checksum of 0, and each chunk with zeros up
@@ -203,7 +207,7 @@ impl SctpPacket {
     ///
     /// Where the packet is well-formed and has a chunk, these bytes read back under each word and
     /// policy that accept a field of 0, and two such packets have equal bytes exactly where they
-    /// mean the same. Refused for want of memory alone.
+    /// mean the same. Refused only where memory runs out.
     pub fn canonical_bytes(&self, alloc: Global) -> Result<Vec<u8>, AllocError>
         requires { Fits (meaning_view self.now) }
         ensures bytes { IfOk result (λ bytes. bytes.items ≡ canonical (meaning_view self.now)) }
@@ -272,7 +276,7 @@ fn canonical_of(packet: &SctpPacket, alloc: Global) -> Result<Vec<u8>, AllocErro
     requires { Fits (meaning_view packet.now) }
     ensures { IfOk result (λ bytes. bytes.items ≡ canonical (meaning_view packet.now)) }
 {
-    let body_size = round_up_to_4(parameters_serialized_size(&packet.chunks));
+    let body_size = round_up_to_4(list_size(&packet.chunks));
     let mut bytes = vec![in alloc; 0; COMMON_HEADER_SIZE + body_size]?;
     write_canonical(packet, &mut bytes);
     Ok(bytes)
@@ -306,5 +310,5 @@ fn write_canonical(packet: &SctpPacket, output: &mut [u8])
         packet.common_header.destination_port,
         packet.common_header.verification_tag,
     ));
-    parameters_serialize_to(&packet.chunks, body);
+    put_list(&packet.chunks, body);
 }

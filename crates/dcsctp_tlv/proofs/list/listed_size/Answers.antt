@@ -2,8 +2,8 @@ use Rattle.std.proofs.Common.{arith}
 use Rattle.dcsctp_tlv.proofs.Listed.{list_size-view, list_encodable}
 use Rattle.dcsctp_tlv.proofs.list.listed_size.Goals as goal
 
-pub parameters_serialized_size-requires : goal.parameters_serialized_size-requires
-parameters_serialized_size-requires g c =
+pub list_size-requires : goal.list_size-requires
+list_size-requires g c =
     let s = g.T.SerializableTlv in
     let l = g.T.ListedTlv in
     let law = g.met.T.ListedTlv in
@@ -13,9 +13,9 @@ parameters_serialized_size-requires g c =
 pub overflow_add-result : goal.overflow_add-result
 overflow_add-result g c =
     let size = list_size-view g.T.SerializableTlv.tlv g.T.ListedTlv.view g.T.ListedTlv.tree_tlv g.met.T.ListedTlv.same_tlv c.args.list.now in
-    record { fits = omega (arith, size, c.parameters_serialized_size.ensures, c.requires) }
+    record { fits = omega (arith, size, c.list_size.ensures, c.requires) }
 
 pub returns : goal.returns
 returns g c =
     let size = list_size-view g.T.SerializableTlv.tlv g.T.ListedTlv.view g.T.ListedTlv.tree_tlv g.met.T.ListedTlv.same_tlv c.args.list.now in
-    omega (arith, size, c.parameters_serialized_size.ensures)
+    omega (arith, size, c.list_size.ensures)

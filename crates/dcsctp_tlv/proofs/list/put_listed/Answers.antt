@@ -6,16 +6,16 @@ use Rattle.dcsctp_tlv.proofs.Images.{written_item}
 use Rattle.dcsctp_tlv.proofs.Listed.{list_size-view, list_image-view, list_encodable, written_front}
 use Rattle.dcsctp_tlv.proofs.list.put_listed.Goals as goal
 
-pub parameters_serialize_to-requires-clause-encodable : goal.parameters_serialize_to-requires-clause-encodable
-parameters_serialize_to-requires-clause-encodable g c =
+pub put_list-requires-clause-encodable : goal.put_list-requires-clause-encodable
+put_list-requires-clause-encodable g c =
     let s = g.T.SerializableTlv in
     let l = g.T.ListedTlv in
     let law = g.met.T.ListedTlv in
     let size = list_size-view s.tlv l.view l.tree_tlv law.same_tlv c.args.list.now in
     list_encodable s.tlv s.is_encodable law.size_decides c.args.list.now (omega (arith, size, c.requires.encodable))
 
-pub parameters_serialize_to-requires-clause-room : goal.parameters_serialize_to-requires-clause-room
-parameters_serialize_to-requires-clause-room g c =
+pub put_list-requires-clause-room : goal.put_list-requires-clause-room
+put_list-requires-clause-room g c =
     let size = list_size-view g.T.SerializableTlv.tlv g.T.ListedTlv.view g.T.ListedTlv.tree_tlv g.met.T.ListedTlv.same_tlv c.args.list.now in
     omega (arith, size, c.requires.room, c.put_header.auto.output, c.split_at_mut-value.ensures.back_len, c.split_at_mut-front.ensures.back_len)
 
@@ -27,11 +27,11 @@ returns g c =
     let value = c.split_at_mut-value.result.1.now in
     let tlv = listed_tlv c.args.first c.args.second front g.T.ListedTlv.tree_tlv trees in
     let image = list_image g.T.ListedTlv.tree_tlv trees in
-    let list : c.parameters_serialize_to.new.output ≡ written image (drop (length front) value) =
-    c.parameters_serialize_to.ensures
+    let list : c.put_list.new.output ≡ written image (drop (length front) value) =
+    c.put_list.ensures
     ∙ ap (λ (i : _). written i c.split_at_mut-front.result.1.now) (list_image-view g.T.SerializableTlv.tlv g.T.ListedTlv.view g.T.ListedTlv.tree_tlv g.met.T.ListedTlv.same_tlv c.args.list.now)
     ∙ ap (written image) c.split_at_mut-front.ensures.back in
-    let whole : front ++ c.parameters_serialize_to.new.output ≡ written (solid front ++ image) value =
+    let whole : front ++ c.put_list.new.output ≡ written (solid front ++ image) value =
     ap (λ (xs : List ℕ). front ++ xs) list ∙ written_front front image value (omega (arith, c.requires.room, c.put_header.auto.output, c.split_at_mut-value.ensures.back_len)) in
     rw (c.split_at_mut-value.ensures.front, c.copy_from_slice.ensures.after, whole, c.split_at_mut-value.ensures.back)
     (written_item tlv c.args.output.now headed (c.put_header.ensures ∙ ap (λ (n : ℕ). header c.args.first c.args.second n ++ drop 4 c.args.output.now) c.listed_size.ensures) (omega (arith, c.requires.room)))

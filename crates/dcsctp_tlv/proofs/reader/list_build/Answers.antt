@@ -45,7 +45,7 @@ loop-rest-preserved g c =
     let e : map view c.read_onto.new.list.items ≡ map view c.loop-rest.list.items ++ view grows.last ∷ [] = ap (map view) grows.items ∙ map_push view c.loop-rest.list.items grows.last in
     rw (e, c.frame_parts.ensures.rest, c.in_ok-read_onto.ensures.len, c.in_ok-read_onto.ensures.capacity)
     (build_step g.T.ReadableTlv.level c.args.bytes.now c.loop-rest.rest.now (map view c.loop-rest.list.items) (view grows.last) (vec_len c.loop-rest.list) (vec_capacity c.loop-rest.list)
-    c.loop-rest.invariant f (rw (← c.frame_parts.ensures.value) grows.means) (g.met.T.ReadableTlv.ignores_padding _ _))
+    c.loop-rest.invariant f (rw (← c.frame_parts.ensures.value) grows.means))
 
 pub returns-clause-meant : goal.returns-clause-meant
 returns-clause-meant g c = finish g.T.ReadableTlv.level c.args.bytes.now (map g.T.ReadableTlv.view c.loop-rest.list.items) c.loop-rest.rest.now c.loop-rest.invariant.progress (is_nil c.loop-rest.rest.now c.is_empty.result c.is_empty.ensures c.loop-rest-test.false)

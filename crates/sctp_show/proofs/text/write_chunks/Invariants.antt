@@ -1,4 +1,4 @@
--- The lines of the chunks so far stand behind the text.
+-- The lines of the chunks so far stand after the text.
 use Rattle.std.proofs.Common.{◌≡◌, ◌++◌, string_bytes, take}
 use Rattle.std.specs.List.{flat_map}
 use Rattle.dcsctp_wire.specs.Chunk.{views}

@@ -7,11 +7,11 @@ use Rattle.dcsctp_wire.specs.Canonical.{canonical, padded_size}
 use Rattle.dcsctp_wire.proofs.Canonicals.{fits_to, body_is, size_views}
 use Rattle.dcsctp_wire.proofs.packet.sctp_packet.write_canonical.Goals as goal
 
-pub parameters_serialize_to-requires-clause-encodable : goal.parameters_serialize_to-requires-clause-encodable
-parameters_serialize_to-requires-clause-encodable c = rw c.deref.ensures.value (fits_to (meaning_view c.args.packet.now) c.args.packet.now.chunks.items refl c.requires.fits).0
+pub put_list-requires-clause-encodable : goal.put_list-requires-clause-encodable
+put_list-requires-clause-encodable c = rw c.deref.ensures.value (fits_to (meaning_view c.args.packet.now) c.args.packet.now.chunks.items refl c.requires.fits).0
 
-pub parameters_serialize_to-requires-clause-room : goal.parameters_serialize_to-requires-clause-room
-parameters_serialize_to-requires-clause-room c =
+pub put_list-requires-clause-room : goal.put_list-requires-clause-room
+put_list-requires-clause-room c =
     let cs = c.args.packet.now.chunks.items in
     let s = size_views cs in
     let l : length c.args.output.now ≡ 12 + padded_size (views cs) = ap length c.requires.zeros ∙ length-replicate {A = ℕ} (12 + padded_size (views cs)) 0 in
@@ -28,6 +28,6 @@ returns c =
     let header : List ℕ = canonical (record (meaning_view p) { chunks = [] }) in
     let rest : (12 + w) - 12 ≡ w = omega arith in
     let back : c.split_at_mut-header.result.1.now ≡ replicate w 0 = c.split_at_mut-header.ensures.back ∙ ap (drop 12) c.requires.zeros ∙ drop-replicate {X = ℕ} 12 (12 + w) 0 ∙ ap (λ (k : ℕ). replicate k 0) rest in
-    let body : c.parameters_serialize_to.new.output ≡ written (list_image (λ x. chunk_tlv (view x)) cs) (replicate w 0) =
-    c.parameters_serialize_to.ensures ∙ ap (λ (x : List ℕ). written (list_image (λ y. chunk_tlv (view y)) c.deref.result.now) x) back ∙ ap (λ (x : _). written (list_image (λ y. chunk_tlv (view y)) x) (replicate w 0)) c.deref.ensures.value in
-    ap (λ (x : List ℕ). x ++ c.parameters_serialize_to.new.output) (c.copy_from_slice.ensures.after ∙ c.header_bytes.ensures) ∙ ap (λ (x : List ℕ). header ++ x) (body ∙ body_is cs w refl)
+    let body : c.put_list.new.output ≡ written (list_image (λ x. chunk_tlv (view x)) cs) (replicate w 0) =
+    c.put_list.ensures ∙ ap (λ (x : List ℕ). written (list_image (λ y. chunk_tlv (view y)) c.deref.result.now) x) back ∙ ap (λ (x : _). written (list_image (λ y. chunk_tlv (view y)) x) (replicate w 0)) c.deref.ensures.value in
+    ap (λ (x : List ℕ). x ++ c.put_list.new.output) (c.copy_from_slice.ensures.after ∙ c.header_bytes.ensures) ∙ ap (λ (x : List ℕ). header ++ x) (body ∙ body_is cs w refl)

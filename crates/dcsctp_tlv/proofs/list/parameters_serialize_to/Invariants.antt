@@ -1,9 +1,0 @@
-use Rattle.std.proofs.Common.{◌≡◌, take}
-use Rattle.dcsctp_tlv.specs.Image.{list_size, list_image, written}
-use Rattle.dcsctp_tlv.proofs.list.parameters_serialize_to.Given as goal
-
-abbrev pub invariant-loop-item : goal.invariant-loop-item
-invariant-loop-item g l = record {
-  total : l.end ≡ list_size g.T.SerializableTlv.tlv (take l.item-index l.list);
-  done : l.output ≡ written (list_image g.T.SerializableTlv.tlv (take l.item-index l.list)) l.fn.output;
-}

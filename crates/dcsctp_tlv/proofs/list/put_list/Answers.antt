@@ -1,0 +1,29 @@
+use Rattle.std.proofs.Common.{arith, ◌∙◌, ap}
+use Rattle.dcsctp_tlv.specs.Frame.{round_up_to_4}
+use Rattle.dcsctp_tlv.proofs.Images.{room_for, written_more}
+use Rattle.dcsctp_tlv.proofs.list.put_list.Goals as goal
+
+pub round_up_to_4-start-requires : goal.round_up_to_4-start-requires
+round_up_to_4-start-requires g c =
+    let n = room_for g.T.SerializableTlv.tlv g.T.SerializableTlv.is_encodable c.args.list.now c.loop-item.item-index c.item-item.result c.requires.encodable c.loop-item-test.true c.item-item.is in
+    omega (arith, n.1, n.2, c.requires.encodable.total, c.loop-item.invariant.total)
+
+pub split_at_mut-rest-requires : goal.split_at_mut-rest-requires
+split_at_mut-rest-requires g c =
+    let n = room_for g.T.SerializableTlv.tlv g.T.SerializableTlv.is_encodable c.args.list.now c.loop-item.item-index c.item-item.result c.requires.encodable c.loop-item-test.true c.item-item.is in
+    omega (arith, n.1, n.2, c.requires.room, ap round_up_to_4 c.loop-item.invariant.total, c.round_up_to_4-start.ensures, c.loop-item.auto.output)
+
+pub serialize_to-requires-clause-room : goal.serialize_to-requires-clause-room
+serialize_to-requires-clause-room g c =
+    let n = room_for g.T.SerializableTlv.tlv g.T.SerializableTlv.is_encodable c.args.list.now c.loop-item.item-index c.item-item.result c.requires.encodable c.loop-item-test.true c.item-item.is in
+    omega (arith, n.1, n.2, c.requires.room, ap round_up_to_4 c.loop-item.invariant.total, c.round_up_to_4-start.ensures, c.loop-item.auto.output, c.split_at_mut-rest.ensures.back_len)
+
+pub loop-item-preserved : goal.loop-item-preserved
+loop-item-preserved g c =
+    let n = room_for g.T.SerializableTlv.tlv g.T.SerializableTlv.is_encodable c.args.list.now c.loop-item.item-index c.item-item.result c.requires.encodable c.loop-item-test.true c.item-item.is in
+    record {
+      total = omega (arith, n.1, c.loop-item.invariant.total, c.round_up_to_4-start.ensures, c.serialized_size.ensures, ap round_up_to_4 c.loop-item.invariant.total);
+      done = rw (c.split_at_mut-rest.ensures.front, c.serialize_to.ensures, c.split_at_mut-rest.ensures.back)
+          (written_more g.T.SerializableTlv.tlv g.T.SerializableTlv.is_encodable c.args.list.now c.loop-item.item-index c.item-item.result c.args.output.now c.loop-item.output c.round_up_to_4-start.result
+          g.met.T.SerializableTlv.image_length c.requires.encodable.each c.loop-item-test.true c.item-item.is c.loop-item.invariant.done (c.round_up_to_4-start.ensures ∙ ap round_up_to_4 c.loop-item.invariant.total));
+    }

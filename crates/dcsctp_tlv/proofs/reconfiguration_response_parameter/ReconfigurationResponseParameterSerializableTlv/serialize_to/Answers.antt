@@ -1,4 +1,0 @@
-use Rattle.dcsctp_tlv.proofs.reconfiguration_response_parameter.ReconfigurationResponseParameterSerializableTlv.serialize_to.Goals as goal
-
-pub returns-in-Some-Some : goal.returns-in-Some-Some
-returns-in-Some-Some c = rw (c.in-Some-Some.is-0, c.in-Some-Some.is-1, ← c.number.ensures) c.put_parameter_fields.ensures

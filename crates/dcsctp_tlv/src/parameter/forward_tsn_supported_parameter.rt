@@ -1,0 +1,87 @@
+//! Forward-TSN-Supported: the sender knows FORWARD-TSN.
+//!
+//! ```txt
+//!  0                   1                   2                   3
+//!  0 1 2 3 4 5 6 7 8 9 0 1 2 3 4 5 6 7 8 9 0 1 2 3 4 5 6 7 8 9 0 1
+//! +-+-+-+-+-+-+-+-+-+-+-+-+-+-+-+-+-+-+-+-+-+-+-+-+-+-+-+-+-+-+-+-+
+//! |         type = 0xC000         |           length = 4          |
+//! +-+-+-+-+-+-+-+-+-+-+-+-+-+-+-+-+-+-+-+-+-+-+-+-+-+-+-+-+-+-+-+-+
+//! ```
+
+ghost use Rattle.std.specs.Prelude.{◌≡◌, ◌≢◌, ◌↔◌, Some, IsErrOf};
+ghost use Rattle.dcsctp_tlv.specs.Image.{IsEncodable};
+ghost use Rattle.dcsctp_tlv.specs.Reading.{Gives, Never, Passes};
+ghost use Rattle.dcsctp_tlv.specs.Length.{length-format};
+ghost use Rattle.dcsctp_tlv.specs.ForwardTsnSupported as kind;
+
+use crate::error::ChunkParseError;
+use crate::frame::put_parameter;
+use crate::parameter::raw_parameter::RawParameter;
+use crate::tlv::SerializableTlv;
+use std::fmt;
+
+/// The type of Forward-TSN-Supported.
+pub const PARAMETER_TYPE: u16 = 0xC000;
+
+/// Forward-TSN-Supported (RFC 3758 section 3.1). It holds nothing.
+#[derive(Debug, Drop)]
+pub struct ForwardTsnSupportedParameter;
+
+#[tactic(auto, unfolding(crate::specs::ForwardTsnSupported::read))]
+impl ForwardTsnSupportedParameter {
+    /// Reads the parameter; no memory is taken.
+    ///
+    /// `InvalidType` exactly for another type; `InvalidLength` exactly where the value isn't empty.
+    pub fn try_from(raw: RawParameter) -> Result<Self, ChunkParseError>
+        ensures other { IsErrOf result ChunkParseError.InvalidType ↔
+            (raw.entry.typ ≢ PARAMETER_TYPE) }
+        ensures own { raw.entry.typ ≡ PARAMETER_TYPE →
+            Gives Never kind.view result (kind.read raw.entry.value.now) }
+    {
+        if raw.typ != PARAMETER_TYPE {
+            return Err(ChunkParseError::InvalidType);
+        }
+        ForwardTsnSupportedParameter::check(raw.value)?;
+        Ok(ForwardTsnSupportedParameter)
+    }
+
+    /// `InvalidLength` exactly where the value isn't empty.
+    pub(crate) fn check(value: &[u8]) -> Result<(), ChunkParseError>
+        ensures { Passes result (kind.read value.now) }
+    {
+        if !value.is_empty() {
+            return Err(ChunkParseError::InvalidLength);
+        }
+        Ok(())
+    }
+}
+
+impl SerializableTlv for ForwardTsnSupportedParameter {
+    ghost tlv = { λ p. (kind.format (kind.view p)).tlv };
+
+    ghost is_encodable = { λ p. IsEncodable (kind.format (kind.view p)).tlv };
+
+    ghost image_length = { λ p fits. length-format (kind.format (kind.view p)) };
+
+    ghost size_bound = { λ p fits. fits };
+
+    fn serialize_to(&self, output: &mut [u8]) {
+        put_parameter(PARAMETER_TYPE, &[], output);
+    }
+
+    fn value_size(&self) -> usize {
+        0
+    }
+
+    fn encodable(&self) -> bool {
+        true
+    }
+}
+
+impl fmt::Display for ForwardTsnSupportedParameter {
+    ghost output = { λ p. Some (kind.format (kind.view p)).text };
+
+    fn fmt<W: fmt::Write>(&self, f: &mut fmt::Formatter<W>) -> fmt::Result {
+        write!(f, "Forward-TSN supported")
+    }
+}

@@ -1,0 +1,122 @@
+//! Incoming SSN Reset Request: the sender asks its peer to reset streams.
+//!
+//! ```txt
+//!  0                   1                   2                   3
+//!  0 1 2 3 4 5 6 7 8 9 0 1 2 3 4 5 6 7 8 9 0 1 2 3 4 5 6 7 8 9 0 1
+//! +-+-+-+-+-+-+-+-+-+-+-+-+-+-+-+-+-+-+-+-+-+-+-+-+-+-+-+-+-+-+-+-+
+//! |           type = 14           |    length = 8 + 2 * streams   |
+//! +-+-+-+-+-+-+-+-+-+-+-+-+-+-+-+-+-+-+-+-+-+-+-+-+-+-+-+-+-+-+-+-+
+//! |                    request sequence number                    |
+//! +-+-+-+-+-+-+-+-+-+-+-+-+-+-+-+-+-+-+-+-+-+-+-+-+-+-+-+-+-+-+-+-+
+//! |                   stream id, two bytes each                   |
+//! +-+-+-+-+-+-+-+-+-+-+-+-+-+-+-+-+-+-+-+-+-+-+-+-+-+-+-+-+-+-+-+-+
+//! ```
+
+ghost use Rattle.std.specs.Prelude.{◌≡◌, ◌≢◌, ◌↔◌, Some, IsOk, IsErrOf};
+ghost use Rattle.dcsctp_tlv.specs.Image.{IsEncodable};
+ghost use Rattle.dcsctp_tlv.specs.Length.{length-format};
+ghost use Rattle.dcsctp_tlv.specs.Reading.{Gives, IfMeant, Passes, Builds};
+ghost use Rattle.dcsctp_tlv.specs.IncomingSsnResetRequest as kind;
+
+use crate::error::ChunkParseError;
+use crate::fields::{fields_from_bytes, put_parameter_fields};
+use crate::frame::MAX_VALUE_SIZE;
+use crate::number::read_u32_be;
+use crate::parameter::raw_parameter::RawParameter;
+use crate::tlv::SerializableTlv;
+use dcsctp_types::api::StreamId;
+use std::alloc::{AllocError, Global};
+use std::fmt;
+
+/// The type of Incoming SSN Reset Request.
+pub const PARAMETER_TYPE: u16 = 14;
+
+/// Bytes of the value before the stream ids.
+const FIXED_SIZE: usize = 4;
+
+/// Incoming SSN Reset Request (RFC 6525 section 4.2).
+#[derive(Debug, Drop)]
+pub struct IncomingSsnResetRequestParameter {
+    /// The sequence number of this request.
+    pub request_seq_nbr: u32,
+    /// The streams to be reset; none stands for all.
+    pub streams: Vec<StreamId>,
+}
+
+#[tactic(auto, unfolding(crate::specs::IncomingSsnResetRequest::read))]
+impl IncomingSsnResetRequestParameter {
+    /// Reads the parameter, and copies its stream ids.
+    ///
+    /// `InvalidType` exactly for another type; `InvalidLength` exactly where the value has fewer
+    /// than 4 bytes or an odd number of them; `OutOfMemory` only where the ids can't be copied.
+    pub fn try_from(alloc: Global, raw: RawParameter) -> Result<Self, ChunkParseError>
+        ensures other { IsErrOf result ChunkParseError.InvalidType ↔
+            (raw.entry.typ ≢ PARAMETER_TYPE) }
+        ensures own { raw.entry.typ ≡ PARAMETER_TYPE →
+            Gives IfMeant kind.view result (kind.read raw.entry.value.now) }
+    {
+        if raw.typ != PARAMETER_TYPE {
+            return Err(ChunkParseError::InvalidType);
+        }
+        IncomingSsnResetRequestParameter::check(raw.value)?;
+        Ok(IncomingSsnResetRequestParameter::build(alloc, raw.value)?)
+    }
+
+    /// `InvalidLength` exactly where the value has fewer than 4 bytes or an odd number of them.
+    pub(crate) fn check(value: &[u8]) -> Result<(), ChunkParseError>
+        ensures { Passes result (kind.read value.now) }
+    {
+        if value.len() < FIXED_SIZE {
+            return Err(ChunkParseError::InvalidLength);
+        }
+        if !value.len().is_multiple_of(2) {
+            return Err(ChunkParseError::InvalidLength);
+        }
+        Ok(())
+    }
+
+    /// What the value means.
+    pub(crate) fn build(alloc: Global, value: &[u8]) -> Result<Self, AllocError>
+        requires { IsOk (kind.read value.now) }
+        ensures { Builds kind.view result (kind.read value.now) }
+    {
+        let count = (value.len() - FIXED_SIZE) / 2;
+        let streams = fields_from_bytes::<StreamId>(alloc, &value[FIXED_SIZE..], count)?;
+        Ok(IncomingSsnResetRequestParameter {
+            request_seq_nbr: read_u32_be(value),
+            streams,
+        })
+    }
+}
+
+impl SerializableTlv for IncomingSsnResetRequestParameter {
+    ghost tlv = { λ p. (kind.format (kind.view p)).tlv };
+
+    ghost is_encodable = { λ p. IsEncodable (kind.format (kind.view p)).tlv };
+
+    ghost image_length = { λ p fits. length-format (kind.format (kind.view p)) };
+
+    ghost size_bound = { λ p fits. fits };
+
+    fn serialize_to(&self, output: &mut [u8]) {
+        let leading = [self.request_seq_nbr];
+        put_parameter_fields::<StreamId>(PARAMETER_TYPE, &leading, &self.streams, output);
+    }
+
+    fn value_size(&self) -> usize {
+        FIXED_SIZE + 2 * self.streams.len()
+    }
+
+    fn encodable(&self) -> bool {
+        self.streams.len() <= (MAX_VALUE_SIZE - FIXED_SIZE) / 2
+    }
+}
+
+impl fmt::Display for IncomingSsnResetRequestParameter {
+    ghost output = { λ p. Some (kind.format (kind.view p)).text };
+
+    fn fmt<W: fmt::Write>(&self, f: &mut fmt::Formatter<W>) -> fmt::Result {
+        let request = self.request_seq_nbr;
+        write!(f, "Incoming SSN Reset Request, req_seq_nbr={request}")
+    }
+}

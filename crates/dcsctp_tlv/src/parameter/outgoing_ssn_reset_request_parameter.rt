@@ -1,0 +1,142 @@
+//! Outgoing SSN Reset Request: the sender resets streams that it sends on.
+//!
+//! ```txt
+//!  0                   1                   2                   3
+//!  0 1 2 3 4 5 6 7 8 9 0 1 2 3 4 5 6 7 8 9 0 1 2 3 4 5 6 7 8 9 0 1
+//! +-+-+-+-+-+-+-+-+-+-+-+-+-+-+-+-+-+-+-+-+-+-+-+-+-+-+-+-+-+-+-+-+
+//! |           type = 13           |   length = 16 + 2 * streams   |
+//! +-+-+-+-+-+-+-+-+-+-+-+-+-+-+-+-+-+-+-+-+-+-+-+-+-+-+-+-+-+-+-+-+
+//! |                    request sequence number                    |
+//! +-+-+-+-+-+-+-+-+-+-+-+-+-+-+-+-+-+-+-+-+-+-+-+-+-+-+-+-+-+-+-+-+
+//! |                    response sequence number                   |
+//! +-+-+-+-+-+-+-+-+-+-+-+-+-+-+-+-+-+-+-+-+-+-+-+-+-+-+-+-+-+-+-+-+
+//! |                   sender's last assigned TSN                  |
+//! +-+-+-+-+-+-+-+-+-+-+-+-+-+-+-+-+-+-+-+-+-+-+-+-+-+-+-+-+-+-+-+-+
+//! |                   stream id, two bytes each                   |
+//! +-+-+-+-+-+-+-+-+-+-+-+-+-+-+-+-+-+-+-+-+-+-+-+-+-+-+-+-+-+-+-+-+
+//! ```
+
+ghost use Rattle.std.specs.Prelude.{◌≡◌, ◌≢◌, ◌↔◌, Some, IsOk, IsErrOf};
+ghost use Rattle.dcsctp_tlv.specs.Image.{IsEncodable};
+ghost use Rattle.dcsctp_tlv.specs.Length.{length-format};
+ghost use Rattle.dcsctp_tlv.specs.Reading.{Gives, IfMeant, Passes, Builds};
+ghost use Rattle.dcsctp_tlv.specs.OutgoingSsnResetRequest as kind;
+
+use crate::error::ChunkParseError;
+use crate::fields::{fields_from_bytes, put_parameter_fields};
+use crate::frame::MAX_VALUE_SIZE;
+use crate::number::read_u32_be;
+use crate::parameter::raw_parameter::RawParameter;
+use crate::tlv::SerializableTlv;
+use dcsctp_types::api::StreamId;
+use dcsctp_types::types::Tsn;
+use std::alloc::{AllocError, Global};
+use std::fmt;
+
+/// The type of Outgoing SSN Reset Request.
+pub const PARAMETER_TYPE: u16 = 13;
+
+/// Bytes of the value before the stream ids.
+const FIXED_SIZE: usize = 12;
+
+/// Outgoing SSN Reset Request (RFC 6525 section 4.1).
+#[derive(Debug, Drop)]
+pub struct OutgoingSsnResetRequestParameter {
+    /// The sequence number of this request.
+    pub request_seq_nbr: u32,
+    /// The sequence number of the incoming request that it answers, if it answers one.
+    pub response_seq_nbr: u32,
+    /// The last TSN that was assigned before the reset.
+    pub sender_last_assigned_tsn: Tsn,
+    /// The streams to be reset; none stands for all.
+    pub streams: Vec<StreamId>,
+}
+
+#[tactic(auto, unfolding(crate::specs::OutgoingSsnResetRequest::read))]
+impl OutgoingSsnResetRequestParameter {
+    /// Reads the parameter, and copies its stream ids.
+    ///
+    /// `InvalidType` exactly for another type; `InvalidLength` exactly where the value has fewer
+    /// than 12 bytes or an odd number of them; `OutOfMemory` only where the ids can't be copied.
+    pub fn try_from(alloc: Global, raw: RawParameter) -> Result<Self, ChunkParseError>
+        ensures other { IsErrOf result ChunkParseError.InvalidType ↔
+            (raw.entry.typ ≢ PARAMETER_TYPE) }
+        ensures own { raw.entry.typ ≡ PARAMETER_TYPE →
+            Gives IfMeant kind.view result (kind.read raw.entry.value.now) }
+    {
+        if raw.typ != PARAMETER_TYPE {
+            return Err(ChunkParseError::InvalidType);
+        }
+        OutgoingSsnResetRequestParameter::check(raw.value)?;
+        Ok(OutgoingSsnResetRequestParameter::build(alloc, raw.value)?)
+    }
+
+    /// `InvalidLength` exactly where the value has fewer than 12 bytes or an odd number of them.
+    pub(crate) fn check(value: &[u8]) -> Result<(), ChunkParseError>
+        ensures { Passes result (kind.read value.now) }
+    {
+        if value.len() < FIXED_SIZE {
+            return Err(ChunkParseError::InvalidLength);
+        }
+        if !value.len().is_multiple_of(2) {
+            return Err(ChunkParseError::InvalidLength);
+        }
+        Ok(())
+    }
+
+    /// What the value means.
+    pub(crate) fn build(alloc: Global, value: &[u8]) -> Result<Self, AllocError>
+        requires { IsOk (kind.read value.now) }
+        ensures { Builds kind.view result (kind.read value.now) }
+    {
+        let count = (value.len() - FIXED_SIZE) / 2;
+        let streams = fields_from_bytes::<StreamId>(alloc, &value[FIXED_SIZE..], count)?;
+        Ok(OutgoingSsnResetRequestParameter {
+            request_seq_nbr: read_u32_be(value),
+            response_seq_nbr: read_u32_be(&value[4..]),
+            sender_last_assigned_tsn: Tsn(read_u32_be(&value[8..])),
+            streams,
+        })
+    }
+}
+
+impl SerializableTlv for OutgoingSsnResetRequestParameter {
+    ghost tlv = { λ p. (kind.format (kind.view p)).tlv };
+
+    ghost is_encodable = { λ p. IsEncodable (kind.format (kind.view p)).tlv };
+
+    ghost image_length = { λ p fits. length-format (kind.format (kind.view p)) };
+
+    ghost size_bound = { λ p fits. fits };
+
+    fn serialize_to(&self, output: &mut [u8]) {
+        let leading = [
+            self.request_seq_nbr,
+            self.response_seq_nbr,
+            self.sender_last_assigned_tsn.0,
+        ];
+        put_parameter_fields::<StreamId>(PARAMETER_TYPE, &leading, &self.streams, output);
+    }
+
+    fn value_size(&self) -> usize {
+        FIXED_SIZE + 2 * self.streams.len()
+    }
+
+    fn encodable(&self) -> bool {
+        self.streams.len() <= (MAX_VALUE_SIZE - FIXED_SIZE) / 2
+    }
+}
+
+impl fmt::Display for OutgoingSsnResetRequestParameter {
+    ghost output = { λ p. Some (kind.format (kind.view p)).text };
+
+    fn fmt<W: fmt::Write>(&self, f: &mut fmt::Formatter<W>) -> fmt::Result {
+        let request = self.request_seq_nbr;
+        let response = self.response_seq_nbr;
+        let tsn = self.sender_last_assigned_tsn;
+        write!(
+            f,
+            "Incoming SSN Reset Request, req_seq_nbr={request}, resp_seq_nbr={response}, slatsn={tsn}"
+        )
+    }
+}

@@ -1,0 +1,204 @@
+//! Re-configuration Response: what became of a request to reset or add streams.
+//!
+//! ```txt
+//!  0                   1                   2                   3
+//!  0 1 2 3 4 5 6 7 8 9 0 1 2 3 4 5 6 7 8 9 0 1 2 3 4 5 6 7 8 9 0 1
+//! +-+-+-+-+-+-+-+-+-+-+-+-+-+-+-+-+-+-+-+-+-+-+-+-+-+-+-+-+-+-+-+-+
+//! |           type = 16           |       length = 12 or 20       |
+//! +-+-+-+-+-+-+-+-+-+-+-+-+-+-+-+-+-+-+-+-+-+-+-+-+-+-+-+-+-+-+-+-+
+//! |                    response sequence number                   |
+//! +-+-+-+-+-+-+-+-+-+-+-+-+-+-+-+-+-+-+-+-+-+-+-+-+-+-+-+-+-+-+-+-+
+//! |                             result                            |
+//! +-+-+-+-+-+-+-+-+-+-+-+-+-+-+-+-+-+-+-+-+-+-+-+-+-+-+-+-+-+-+-+-+
+//! |                  sender's next TSN (optional)                 |
+//! +-+-+-+-+-+-+-+-+-+-+-+-+-+-+-+-+-+-+-+-+-+-+-+-+-+-+-+-+-+-+-+-+
+//! |                 receiver's next TSN (optional)                |
+//! +-+-+-+-+-+-+-+-+-+-+-+-+-+-+-+-+-+-+-+-+-+-+-+-+-+-+-+-+-+-+-+-+
+//! ```
+
+ghost use Rattle.std.specs.Prelude.{◌≡◌, ◌≢◌, ◌↔◌, ◌≤◌, Some, Ok, IsOk, IsErrOf};
+ghost use Rattle.dcsctp_tlv.specs.Image.{IsEncodable};
+ghost use Rattle.dcsctp_tlv.specs.Length.{length-format};
+ghost use Rattle.dcsctp_tlv.specs.Reading.{Gives, Never, Passes};
+ghost use Rattle.dcsctp_tlv.specs.ReconfigurationResponse as kind;
+ghost use Rattle.dcsctp_tlv.specs.ReconfigurationResponse.{result_of, result_number};
+
+use crate::error::ChunkParseError;
+use crate::fields::put_parameter_fields;
+use crate::number::read_u32_be;
+use crate::parameter::raw_parameter::RawParameter;
+use crate::tlv::SerializableTlv;
+use dcsctp_types::types::Tsn;
+use std::fmt;
+
+/// The type of Re-configuration Response.
+pub const PARAMETER_TYPE: u16 = 16;
+
+/// The greatest number of a result.
+const MAX_RESULT: u32 = 6;
+
+/// What became of a request (RFC 6525 section 4.4). `as u32` gives its number on the wire.
+#[derive(Clone, Copy, Debug, PartialEq, Eq)]
+pub enum ReconfigurationResponseResult {
+    SuccessNothingToDo = 0,
+    SuccessPerformed = 1,
+    Denied = 2,
+    ErrorWrongSSN = 3,
+    ErrorRequestAlreadyInProgress = 4,
+    ErrorBadSequenceNumber = 5,
+    InProgress = 6,
+}
+
+impl TryFrom<u32> for ReconfigurationResponseResult {
+    type Error = ChunkParseError;
+
+    ghost try_from_gives = { λ n r. Gives Never (λ x. x) r (result_of n) };
+
+    /// The result of a number; `InvalidValue` exactly above 6.
+    fn try_from(value: u32) -> Result<Self, ChunkParseError> {
+        if value > MAX_RESULT {
+            return Err(ChunkParseError::InvalidValue);
+        }
+        Ok(ReconfigurationResponseResult::of(value))
+    }
+}
+
+impl ReconfigurationResponseResult {
+    /// The result of a number that has one.
+    fn of(value: u32) -> Self
+        requires { value ≤ 6 }
+        ensures { result_of value ≡ Ok result }
+    {
+        match value {
+            0 => ReconfigurationResponseResult::SuccessNothingToDo,
+            1 => ReconfigurationResponseResult::SuccessPerformed,
+            2 => ReconfigurationResponseResult::Denied,
+            3 => ReconfigurationResponseResult::ErrorWrongSSN,
+            4 => ReconfigurationResponseResult::ErrorRequestAlreadyInProgress,
+            5 => ReconfigurationResponseResult::ErrorBadSequenceNumber,
+            _ => ReconfigurationResponseResult::InProgress,
+        }
+    }
+
+    fn number(self) -> u32
+        ensures { result ≡ result_number self }
+    {
+        self as u32
+    }
+}
+
+/// Re-configuration Response (RFC 6525 section 4.4).
+///
+/// The next TSNs answer an SSN/TSN Reset Request. One without the other can't be written: then
+/// neither is.
+#[derive(Debug, Drop)]
+pub struct ReconfigurationResponseParameter {
+    /// The sequence number of the request.
+    pub response_seq_nbr: u32,
+    /// What became of the request.
+    pub result: ReconfigurationResponseResult,
+    /// The TSN that the sender of the response uses next.
+    pub sender_next_tsn: Option<Tsn>,
+    /// The TSN that the receiver of the response has to use next.
+    pub receiver_next_tsn: Option<Tsn>,
+}
+
+#[tactic(auto, unfolding(crate::specs::ReconfigurationResponse::read))]
+impl ReconfigurationResponseParameter {
+    /// Reads the parameter; no memory is taken.
+    ///
+    /// `InvalidType` exactly for another type; `InvalidLength` exactly where the value hasn't 8 or
+    /// 16 bytes; `InvalidValue` exactly where it has, and its result is above 6.
+    pub fn try_from(raw: RawParameter) -> Result<Self, ChunkParseError>
+        ensures other { IsErrOf result ChunkParseError.InvalidType ↔
+            (raw.entry.typ ≢ PARAMETER_TYPE) }
+        ensures own { raw.entry.typ ≡ PARAMETER_TYPE →
+            Gives Never kind.view result (kind.read raw.entry.value.now) }
+    {
+        if raw.typ != PARAMETER_TYPE {
+            return Err(ChunkParseError::InvalidType);
+        }
+        ReconfigurationResponseParameter::check(raw.value)?;
+        Ok(ReconfigurationResponseParameter::build(raw.value))
+    }
+
+    /// `InvalidLength` exactly where the value hasn't 8 or 16 bytes; `InvalidValue` exactly where
+    /// it has, and its result is above 6.
+    pub(crate) fn check(value: &[u8]) -> Result<(), ChunkParseError>
+        ensures { Passes result (kind.read value.now) }
+    {
+        if value.len() != 8 && value.len() != 16 {
+            return Err(ChunkParseError::InvalidLength);
+        }
+        if read_u32_be(&value[4..]) > MAX_RESULT {
+            return Err(ChunkParseError::InvalidValue);
+        }
+        Ok(())
+    }
+
+    /// What the value means.
+    pub(crate) fn build(value: &[u8]) -> Self
+        requires { IsOk (kind.read value.now) }
+        ensures { kind.read value.now ≡ Ok (kind.view result) }
+    {
+        let response_seq_nbr = read_u32_be(value);
+        let result = ReconfigurationResponseResult::of(read_u32_be(&value[4..]));
+        if value.len() == 8 {
+            return ReconfigurationResponseParameter {
+                response_seq_nbr,
+                result,
+                sender_next_tsn: None,
+                receiver_next_tsn: None,
+            };
+        }
+        ReconfigurationResponseParameter {
+            response_seq_nbr,
+            result,
+            sender_next_tsn: Some(Tsn(read_u32_be(&value[8..]))),
+            receiver_next_tsn: Some(Tsn(read_u32_be(&value[12..]))),
+        }
+    }
+}
+
+impl SerializableTlv for ReconfigurationResponseParameter {
+    ghost tlv = { λ p. (kind.format (kind.view p)).tlv };
+
+    ghost is_encodable = { λ p. IsEncodable (kind.format (kind.view p)).tlv };
+
+    ghost image_length = { λ p fits. length-format (kind.format (kind.view p)) };
+
+    ghost size_bound = { λ p fits. fits };
+
+    fn serialize_to(&self, output: &mut [u8]) {
+        let leading = [self.response_seq_nbr, self.result.number()];
+        match (self.sender_next_tsn, self.receiver_next_tsn) {
+            (Some(sender), Some(receiver)) => put_parameter_fields::<Tsn>(
+                PARAMETER_TYPE,
+                &leading,
+                &[sender, receiver],
+                output,
+            ),
+            _ => put_parameter_fields::<Tsn>(PARAMETER_TYPE, &leading, &[], output),
+        }
+    }
+
+    fn value_size(&self) -> usize {
+        match (self.sender_next_tsn, self.receiver_next_tsn) {
+            (Some(_), Some(_)) => 16,
+            _ => 8,
+        }
+    }
+
+    fn encodable(&self) -> bool {
+        true
+    }
+}
+
+impl fmt::Display for ReconfigurationResponseParameter {
+    ghost output = { λ p. Some (kind.format (kind.view p)).text };
+
+    fn fmt<W: fmt::Write>(&self, f: &mut fmt::Formatter<W>) -> fmt::Result {
+        let response = self.response_seq_nbr;
+        write!(f, "Reconfig Response, seq={response}")
+    }
+}

@@ -1,0 +1,92 @@
+//! State Cookie: what an INIT ACK hands out, and a COOKIE ECHO brings back.
+//!
+//! ```txt
+//!  0                   1                   2                   3
+//!  0 1 2 3 4 5 6 7 8 9 0 1 2 3 4 5 6 7 8 9 0 1 2 3 4 5 6 7 8 9 0 1
+//! +-+-+-+-+-+-+-+-+-+-+-+-+-+-+-+-+-+-+-+-+-+-+-+-+-+-+-+-+-+-+-+-+
+//! |            type = 7           |             length            |
+//! +-+-+-+-+-+-+-+-+-+-+-+-+-+-+-+-+-+-+-+-+-+-+-+-+-+-+-+-+-+-+-+-+
+//! |                       cookie, any bytes                       |
+//! +-+-+-+-+-+-+-+-+-+-+-+-+-+-+-+-+-+-+-+-+-+-+-+-+-+-+-+-+-+-+-+-+
+//! ```
+
+ghost use Rattle.std.specs.Prelude.{◌≡◌, ◌≢◌, ◌↔◌, Some, IsErrOf};
+ghost use Rattle.dcsctp_tlv.specs.Image.{IsEncodable};
+ghost use Rattle.dcsctp_tlv.specs.Reading.{Gives, IfMeant, Builds};
+ghost use Rattle.dcsctp_tlv.specs.Length.{length-format};
+ghost use Rattle.dcsctp_tlv.specs.StateCookie as kind;
+
+use crate::error::ChunkParseError;
+use crate::frame::{MAX_VALUE_SIZE, put_parameter};
+use crate::parameter::raw_parameter::RawParameter;
+use crate::tlv::SerializableTlv;
+use std::alloc::{AllocError, Global};
+use std::fmt;
+
+/// The type of State Cookie.
+pub const PARAMETER_TYPE: u16 = 7;
+
+/// State Cookie (RFC 9260 section 3.3.3.1.1). Only the sender of the INIT ACK knows what it means.
+#[derive(Debug, Drop)]
+pub struct StateCookieParameter {
+    /// Any bytes; COOKIE ECHO sends them back.
+    pub cookie: Vec<u8>,
+}
+
+#[tactic(auto, unfolding(crate::specs::StateCookie::read))]
+impl StateCookieParameter {
+    /// Reads the parameter, and copies the cookie.
+    ///
+    /// `InvalidType` exactly for another type; `OutOfMemory` only where the cookie can't be copied.
+    pub fn try_from(alloc: Global, raw: RawParameter) -> Result<Self, ChunkParseError>
+        ensures other { IsErrOf result ChunkParseError.InvalidType ↔
+            (raw.entry.typ ≢ PARAMETER_TYPE) }
+        ensures own { raw.entry.typ ≡ PARAMETER_TYPE →
+            Gives IfMeant kind.view result (kind.read raw.entry.value.now) }
+    {
+        if raw.typ != PARAMETER_TYPE {
+            return Err(ChunkParseError::InvalidType);
+        }
+        Ok(StateCookieParameter::build(alloc, raw.value)?)
+    }
+
+    /// Copies the value.
+    pub(crate) fn build(alloc: Global, value: &[u8]) -> Result<Self, AllocError>
+        ensures { Builds kind.view result (kind.read value.now) }
+    {
+        Ok(StateCookieParameter {
+            cookie: Vec::from_slice(alloc, value)?,
+        })
+    }
+}
+
+impl SerializableTlv for StateCookieParameter {
+    ghost tlv = { λ p. (kind.format (kind.view p)).tlv };
+
+    ghost is_encodable = { λ p. IsEncodable (kind.format (kind.view p)).tlv };
+
+    ghost image_length = { λ p fits. length-format (kind.format (kind.view p)) };
+
+    ghost size_bound = { λ p fits. fits };
+
+    fn serialize_to(&self, output: &mut [u8]) {
+        put_parameter(PARAMETER_TYPE, &self.cookie, output);
+    }
+
+    fn value_size(&self) -> usize {
+        self.cookie.len()
+    }
+
+    fn encodable(&self) -> bool {
+        self.cookie.len() <= MAX_VALUE_SIZE
+    }
+}
+
+impl fmt::Display for StateCookieParameter {
+    ghost output = { λ p. Some (kind.format (kind.view p)).text };
+
+    fn fmt<W: fmt::Write>(&self, f: &mut fmt::Formatter<W>) -> fmt::Result {
+        let size = self.cookie.len();
+        write!(f, "State cookie, cookie_length={size}")
+    }
+}

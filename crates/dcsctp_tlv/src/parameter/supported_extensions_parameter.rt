@@ -1,0 +1,93 @@
+//! Supported Extensions: the types of chunk that the sender knows beside the standard ones.
+//!
+//! ```txt
+//!  0                   1                   2                   3
+//!  0 1 2 3 4 5 6 7 8 9 0 1 2 3 4 5 6 7 8 9 0 1 2 3 4 5 6 7 8 9 0 1
+//! +-+-+-+-+-+-+-+-+-+-+-+-+-+-+-+-+-+-+-+-+-+-+-+-+-+-+-+-+-+-+-+-+
+//! |         type = 0x8008         |             length            |
+//! +-+-+-+-+-+-+-+-+-+-+-+-+-+-+-+-+-+-+-+-+-+-+-+-+-+-+-+-+-+-+-+-+
+//! |                   chunk types, one byte each                  |
+//! +-+-+-+-+-+-+-+-+-+-+-+-+-+-+-+-+-+-+-+-+-+-+-+-+-+-+-+-+-+-+-+-+
+//! ```
+
+ghost use Rattle.std.specs.Prelude.{◌≡◌, ◌≢◌, ◌↔◌, Some, IsErrOf};
+ghost use Rattle.dcsctp_tlv.specs.Image.{IsEncodable};
+ghost use Rattle.dcsctp_tlv.specs.Reading.{Gives, IfMeant, Builds};
+ghost use Rattle.dcsctp_tlv.specs.Length.{length-format};
+ghost use Rattle.dcsctp_tlv.specs.SupportedExtensions as kind;
+
+use crate::error::ChunkParseError;
+use crate::frame::{MAX_VALUE_SIZE, put_parameter};
+use crate::parameter::raw_parameter::RawParameter;
+use crate::text::write_joined;
+use crate::tlv::SerializableTlv;
+use std::alloc::{AllocError, Global};
+use std::fmt;
+
+/// The type of Supported Extensions.
+pub const PARAMETER_TYPE: u16 = 0x8008;
+
+/// Supported Extensions (RFC 5061 section 4.2.7).
+#[derive(Debug, Drop)]
+pub struct SupportedExtensionsParameter {
+    /// In the order of the list, with repeats.
+    pub chunk_types: Vec<u8>,
+}
+
+#[tactic(auto, unfolding(crate::specs::SupportedExtensions::read))]
+impl SupportedExtensionsParameter {
+    /// Reads the parameter, and copies the list.
+    ///
+    /// `InvalidType` exactly for another type; `OutOfMemory` only where the list can't be copied.
+    pub fn try_from(alloc: Global, raw: RawParameter) -> Result<Self, ChunkParseError>
+        ensures other { IsErrOf result ChunkParseError.InvalidType ↔
+            (raw.entry.typ ≢ PARAMETER_TYPE) }
+        ensures own { raw.entry.typ ≡ PARAMETER_TYPE →
+            Gives IfMeant kind.view result (kind.read raw.entry.value.now) }
+    {
+        if raw.typ != PARAMETER_TYPE {
+            return Err(ChunkParseError::InvalidType);
+        }
+        Ok(SupportedExtensionsParameter::build(alloc, raw.value)?)
+    }
+
+    /// Copies the value.
+    pub(crate) fn build(alloc: Global, value: &[u8]) -> Result<Self, AllocError>
+        ensures { Builds kind.view result (kind.read value.now) }
+    {
+        Ok(SupportedExtensionsParameter {
+            chunk_types: Vec::from_slice(alloc, value)?,
+        })
+    }
+}
+
+impl SerializableTlv for SupportedExtensionsParameter {
+    ghost tlv = { λ p. (kind.format (kind.view p)).tlv };
+
+    ghost is_encodable = { λ p. IsEncodable (kind.format (kind.view p)).tlv };
+
+    ghost image_length = { λ p fits. length-format (kind.format (kind.view p)) };
+
+    ghost size_bound = { λ p fits. fits };
+
+    fn serialize_to(&self, output: &mut [u8]) {
+        put_parameter(PARAMETER_TYPE, &self.chunk_types, output);
+    }
+
+    fn value_size(&self) -> usize {
+        self.chunk_types.len()
+    }
+
+    fn encodable(&self) -> bool {
+        self.chunk_types.len() <= MAX_VALUE_SIZE
+    }
+}
+
+impl fmt::Display for SupportedExtensionsParameter {
+    ghost output = { λ p. Some (kind.format (kind.view p)).text };
+
+    fn fmt<W: fmt::Write>(&self, f: &mut fmt::Formatter<W>) -> fmt::Result {
+        write!(f, "Supported extensions, chunks=")?;
+        write_joined(&self.chunk_types, ",", f)
+    }
+}

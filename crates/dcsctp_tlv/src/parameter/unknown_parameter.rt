@@ -1,0 +1,93 @@
+//! A parameter or an error cause of a type that has no kind of its own.
+//!
+//! ```txt
+//!  0                   1                   2                   3
+//!  0 1 2 3 4 5 6 7 8 9 0 1 2 3 4 5 6 7 8 9 0 1 2 3 4 5 6 7 8 9 0 1
+//! +-+-+-+-+-+-+-+-+-+-+-+-+-+-+-+-+-+-+-+-+-+-+-+-+-+-+-+-+-+-+-+-+
+//! |              type             |             length            |
+//! +-+-+-+-+-+-+-+-+-+-+-+-+-+-+-+-+-+-+-+-+-+-+-+-+-+-+-+-+-+-+-+-+
+//! |                        value, any bytes                       |
+//! +-+-+-+-+-+-+-+-+-+-+-+-+-+-+-+-+-+-+-+-+-+-+-+-+-+-+-+-+-+-+-+-+
+//! ```
+
+ghost use Rattle.std.specs.Prelude.{◌≡◌, Some};
+ghost use Rattle.dcsctp_tlv.specs.Image.{IsEncodable};
+ghost use Rattle.dcsctp_tlv.specs.Reading.{Gives, IfMeant, Builds};
+ghost use Rattle.dcsctp_tlv.specs.Length.{length-format};
+ghost use Rattle.dcsctp_tlv.specs.UnknownParameter as kind;
+
+use crate::error::ChunkParseError;
+use crate::frame::{MAX_VALUE_SIZE, put_parameter};
+use crate::parameter::raw_parameter::RawParameter;
+use crate::tlv::SerializableTlv;
+use std::alloc::{AllocError, Global};
+use std::fmt;
+
+/// A parameter or an error cause that is kept as it is: its type and its value (RFC 9260 sections
+/// 3.2.1 and 3.3.10).
+#[derive(Debug, Drop)]
+pub struct UnknownParameter {
+    /// The type of the parameter, or the code of the cause.
+    pub typ: u16,
+    /// The bytes after the header, without padding.
+    pub value: Vec<u8>,
+}
+
+#[tactic(auto, unfolding(crate::specs::UnknownParameter::read))]
+impl UnknownParameter {
+    /// A parameter or cause of this type that holds these bytes. It takes no memory.
+    pub fn new(typ: u16, value: Vec<u8>) -> UnknownParameter
+        ensures typ { result.typ ≡ typ }
+        ensures value { result.value ≡ value }
+    {
+        UnknownParameter { typ, value }
+    }
+
+    /// Keeps a parameter of any type, and copies its value; `OutOfMemory` is its only error.
+    pub fn try_from(alloc: Global, raw: RawParameter) -> Result<Self, ChunkParseError>
+        ensures { Gives IfMeant kind.view result (kind.read raw.entry.typ raw.entry.value.now) }
+    {
+        Ok(UnknownParameter::build(alloc, raw.typ, raw.value)?)
+    }
+
+    /// Copies the value.
+    pub fn build(alloc: Global, typ: u16, value: &[u8]) -> Result<Self, AllocError>
+        ensures { Builds kind.view result (kind.read typ value.now) }
+    {
+        Ok(UnknownParameter {
+            typ,
+            value: Vec::from_slice(alloc, value)?,
+        })
+    }
+}
+
+impl SerializableTlv for UnknownParameter {
+    ghost tlv = { λ p. (kind.format (kind.view p)).tlv };
+
+    ghost is_encodable = { λ p. IsEncodable (kind.format (kind.view p)).tlv };
+
+    ghost image_length = { λ p fits. length-format (kind.format (kind.view p)) };
+
+    ghost size_bound = { λ p fits. fits };
+
+    fn serialize_to(&self, output: &mut [u8]) {
+        put_parameter(self.typ, &self.value, output);
+    }
+
+    fn value_size(&self) -> usize {
+        self.value.len()
+    }
+
+    fn encodable(&self) -> bool {
+        self.value.len() <= MAX_VALUE_SIZE
+    }
+}
+
+impl fmt::Display for UnknownParameter {
+    ghost output = { λ p. Some (kind.format (kind.view p)).text };
+
+    fn fmt<W: fmt::Write>(&self, f: &mut fmt::Formatter<W>) -> fmt::Result {
+        let typ = self.typ;
+        write!(f, "Unknown parameter, type={typ}")
+    }
+}

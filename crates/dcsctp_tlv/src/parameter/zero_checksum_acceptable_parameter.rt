@@ -1,0 +1,106 @@
+//! Zero Checksum Acceptable: the sender takes packets whose checksum is zero.
+//!
+//! ```txt
+//!  0                   1                   2                   3
+//!  0 1 2 3 4 5 6 7 8 9 0 1 2 3 4 5 6 7 8 9 0 1 2 3 4 5 6 7 8 9 0 1
+//! +-+-+-+-+-+-+-+-+-+-+-+-+-+-+-+-+-+-+-+-+-+-+-+-+-+-+-+-+-+-+-+-+
+//! |         type = 0x8001         |           length = 8          |
+//! +-+-+-+-+-+-+-+-+-+-+-+-+-+-+-+-+-+-+-+-+-+-+-+-+-+-+-+-+-+-+-+-+
+//! |                     error detection method                    |
+//! +-+-+-+-+-+-+-+-+-+-+-+-+-+-+-+-+-+-+-+-+-+-+-+-+-+-+-+-+-+-+-+-+
+//! ```
+
+ghost use Rattle.std.specs.Prelude.{◌≡◌, ◌≢◌, ◌↔◌, Some, Ok, IsOk, IsErrOf};
+ghost use Rattle.dcsctp_tlv.specs.Image.{IsEncodable};
+ghost use Rattle.dcsctp_tlv.specs.Reading.{Gives, Never, Passes};
+ghost use Rattle.dcsctp_tlv.specs.Length.{length-format};
+ghost use Rattle.dcsctp_tlv.specs.ZeroChecksumAcceptable as kind;
+
+use crate::error::ChunkParseError;
+use crate::frame::put_parameter;
+use crate::number::read_u32_be;
+use crate::parameter::raw_parameter::RawParameter;
+use crate::tlv::SerializableTlv;
+use dcsctp_types::api::ZeroChecksumAlternateErrorDetectionMethod;
+use std::fmt;
+
+/// The type of Zero Checksum Acceptable.
+pub const PARAMETER_TYPE: u16 = 0x8001;
+
+/// Zero Checksum Acceptable (RFC 9653 section 4).
+#[derive(Debug, Drop)]
+pub struct ZeroChecksumAcceptableParameter {
+    /// How the packets are protected in place of the checksum.
+    pub method: ZeroChecksumAlternateErrorDetectionMethod,
+}
+
+#[tactic(auto, unfolding(crate::specs::ZeroChecksumAcceptable::read))]
+impl ZeroChecksumAcceptableParameter {
+    /// Reads the parameter; no memory is taken, and every method is accepted.
+    ///
+    /// `InvalidType` exactly for another type; `InvalidLength` exactly where the value hasn't 4
+    /// bytes.
+    pub fn try_from(raw: RawParameter) -> Result<Self, ChunkParseError>
+        ensures other { IsErrOf result ChunkParseError.InvalidType ↔
+            (raw.entry.typ ≢ PARAMETER_TYPE) }
+        ensures own { raw.entry.typ ≡ PARAMETER_TYPE →
+            Gives Never kind.view result (kind.read raw.entry.value.now) }
+    {
+        if raw.typ != PARAMETER_TYPE {
+            return Err(ChunkParseError::InvalidType);
+        }
+        ZeroChecksumAcceptableParameter::check(raw.value)?;
+        Ok(ZeroChecksumAcceptableParameter::build(raw.value))
+    }
+
+    /// `InvalidLength` exactly where the value hasn't 4 bytes.
+    pub(crate) fn check(value: &[u8]) -> Result<(), ChunkParseError>
+        ensures { Passes result (kind.read value.now) }
+    {
+        if value.len() != 4 {
+            return Err(ChunkParseError::InvalidLength);
+        }
+        Ok(())
+    }
+
+    /// What the value means.
+    pub(crate) fn build(value: &[u8]) -> Self
+        requires { IsOk (kind.read value.now) }
+        ensures { kind.read value.now ≡ Ok (kind.view result) }
+    {
+        ZeroChecksumAcceptableParameter {
+            method: ZeroChecksumAlternateErrorDetectionMethod(read_u32_be(value)),
+        }
+    }
+}
+
+impl SerializableTlv for ZeroChecksumAcceptableParameter {
+    ghost tlv = { λ p. (kind.format (kind.view p)).tlv };
+
+    ghost is_encodable = { λ p. IsEncodable (kind.format (kind.view p)).tlv };
+
+    ghost image_length = { λ p fits. length-format (kind.format (kind.view p)) };
+
+    ghost size_bound = { λ p fits. fits };
+
+    fn serialize_to(&self, output: &mut [u8]) {
+        put_parameter(PARAMETER_TYPE, &self.method.0.to_be_bytes(), output);
+    }
+
+    fn value_size(&self) -> usize {
+        4
+    }
+
+    fn encodable(&self) -> bool {
+        true
+    }
+}
+
+impl fmt::Display for ZeroChecksumAcceptableParameter {
+    ghost output = { λ p. Some (kind.format (kind.view p)).text };
+
+    fn fmt<W: fmt::Write>(&self, f: &mut fmt::Formatter<W>) -> fmt::Result {
+        let method = self.method.0;
+        write!(f, "Zero Checksum Acceptable, method={method}")
+    }
+}
