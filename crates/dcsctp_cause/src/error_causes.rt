@@ -257,9 +257,12 @@ pub fn error_cause_from_bytes(
     alloc: Global,
     bytes: &[u8],
 ) -> Result<Vec<ErrorCause>, ChunkParseError>
-    ensures answer { Answers result (λ list. MeansTrees causes bytes.now (views list.items)) (HasFault causes bytes.now) }
-    ensures memory { IsErrOf result ChunkParseError.OutOfMemory → MeansSome causes bytes.now × (bytes.now ≢ []) }
-    ensures exact { ReadsExactly result (λ list. views list.items) (MeansTrees causes bytes.now) (HasFault causes bytes.now) }
+    ensures answer { Answers result (λ list. MeansTrees causes bytes.now (views list.items))
+        (HasFault causes bytes.now) }
+    ensures memory { IsErrOf result ChunkParseError.OutOfMemory →
+        MeansSome causes bytes.now × (bytes.now ≢ []) }
+    ensures exact { ReadsExactly result (λ list. views list.items) (MeansTrees causes bytes.now)
+        (HasFault causes bytes.now) }
     ensures reserved { IfOk result (λ list. vec_capacity list ≡ vec_len list) }
 {
     list_from_bytes(alloc, bytes)

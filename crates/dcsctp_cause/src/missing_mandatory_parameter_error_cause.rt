@@ -85,7 +85,8 @@ impl MissingMandatoryParameterErrorCause {
 
     /// A cause with the same types; refused only where memory runs out.
     pub fn clone(&self) -> Result<MissingMandatoryParameterErrorCause, AllocError>
-        ensures { IfOk result (λ c. c.missing_parameters.items ≡ self.now.missing_parameters.items) }
+        ensures { IfOk result
+            (λ c. c.missing_parameters.items ≡ self.now.missing_parameters.items) }
     {
         Ok(MissingMandatoryParameterErrorCause {
             missing_parameters: self.missing_parameters.clone()?,

@@ -17,10 +17,6 @@ pub record KindLaws {T : Type 0} (read : ℕ → ℕ → List ℕ → Result T F
 abbrev pub KeepsSize : {T : Type 0} → (ℕ → ℕ → List ℕ → Result T Fault) → (T → Tlv) → Type 0
 KeepsSize read tlv = (first second : ℕ) (value : List ℕ) (t : _) → read first second value ≡ Ok t → size_of (tlv t) ≡ 4 + length value
 
--- true of every tree, as where there is nothing to be in width or well-formed
-abbrev pub Always : {T : Type 0} → T → Type 0
-Always t = Unit {0}
-
 -- ---- a kind of parameter or cause, which has one type: its value alone is read
 
 abbrev pub by_value : {T : Type 0} → (List ℕ → Result T Fault) → ℕ → ℕ → List ℕ → Result T Fault

@@ -6,7 +6,7 @@ use Rattle.std.proofs.lemmas.List.{append-nil, get_or-drop, get_or-take, get_or_
 use Rattle.dcsctp_tlv.specs.Fault.{Fault, Length, Padding}
 use Rattle.dcsctp_tlv.specs.Number.{AreBytes}
 use Rattle.dcsctp_tlv.specs.Frame.{round_up_to_4, padding_size, lenient, Item, item_bytes, PaddingRule, frame_length, BeginsWithFrame, frame_value, frame_padding, frame_rest}
-use Rattle.dcsctp_tlv.specs.Level.{Row, Level, ItemsMean, MeansTrees, HasFault, BeginsWithFault, no_frame, value, padding, front_row, HasMeaning, plain, as_row, pick, listed}
+use Rattle.dcsctp_tlv.specs.Level.{Row, Level, ItemsMean, MeansTrees, HasFault, BeginsWithFault, no_frame, value, padding, front_row, plain, as_row, pick, listed}
 use Rattle.dcsctp_tlv.proofs.Items.{IsNext, AreBefore, front_item, front_split, front_next, next_one, item_frame, items_before, whole_before}
 use Rattle.dcsctp_tlv.proofs.Lists.{Progress, begin, step, finish, fault}
 
@@ -43,10 +43,6 @@ plain_lawful {T} read = record {
 pub pick_lawful : {T : Type 0} (b : Bool) (row others : Row T) → LawfulRow row → LawfulRow others → LawfulRow (pick b row others)
 pick_lawful true row others p q = p
 pick_lawful false row others p q = q
-
-pub pick_means : {T : Type 0} (b : Bool) (row others : Row T) (v : List ℕ) → HasMeaning row v → HasMeaning others v → HasMeaning (pick b row others) v
-pick_means true row others v p q = p
-pick_means false row others v p q = q
 
 pub as_lawful : {A B : Type 0} (f : A → B) (row : Row A) → LawfulRow row → LawfulRow (as_row f row)
 as_lawful {A} {B} f row law = record {

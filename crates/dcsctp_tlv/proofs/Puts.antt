@@ -8,13 +8,12 @@ use Rattle.std.proofs.lemmas.List.Elements.{recursion_from_All}
 use Rattle.std.proofs.lemmas.List.Concat.{flat_map-append}
 use Rattle.std.proofs.lemmas.List.Folds.{flat_map-map}
 use native.Mathlib.Nat.{mul-zero, mul-suc}
-use Rattle.dcsctp_types.specs.declared.api.stream_id.StreamId.{StreamId}
 use Rattle.dcsctp_tlv.specs.Frame.{header}
 use Rattle.dcsctp_tlv.specs.Image.{put, solid_tlv, image_of, written}
 use Rattle.dcsctp_tlv.specs.Number.{numbers}
 pub use Rattle.dcsctp_tlv.specs.Length.{length-numbers}
 use Rattle.dcsctp_tlv.proofs.Images.{written-solid, written_item, all_take, all_from}
-use Rattle.dcsctp_tlv.specs.Fields.{fields, stream_numbers}
+use Rattle.dcsctp_tlv.specs.Fields.{fields}
 
 -- ---- places
 
@@ -95,9 +94,6 @@ length-value view write size is_writable ns xs law each =
     let n = length-numbers w32 4 ns (λ k. refl) in
     let m = length-fields view write size is_writable xs law each in
     omega (arith, l, n, m ∙ ap (λ (k : ℕ). size * k) (sym (length-map xs view)))
-
-pub count_of_streams : (streams : List StreamId) → length (stream_numbers streams) ≡ length streams
-count_of_streams streams = length-map streams (λ id. id.0)
 
 -- ---- items
 

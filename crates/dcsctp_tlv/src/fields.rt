@@ -48,7 +48,8 @@ pub trait Field {
         requires room { SIZE ≤ length output.old }
         ensures { output.new ≡ field_bytes (view value.now) ++ drop SIZE output.old };
 
-    ghost field_length: { (value : Self.Value) → is_writable value → length (field_bytes (view value)) ≡ SIZE };
+    ghost field_length: { (value : Self.Value) → is_writable value →
+        length (field_bytes (view value)) ≡ SIZE };
 }
 
 impl Field for u32 {
@@ -142,7 +143,8 @@ pub fn fields_from_bytes<F: Field>(
     count: usize,
 ) -> Result<Vec<F::Value>, AllocError>
     requires { F.SIZE * count ≤ length bytes.now }
-    ensures { IfOk result (λ list. map F.view list.items ≡ fields F.field_at F.SIZE count bytes.now) }
+    ensures { IfOk result
+        (λ list. map F.view list.items ≡ fields F.field_at F.SIZE count bytes.now) }
 {
     let mut list = Vec::with_capacity(alloc, count)?;
     for i in 0..count {
@@ -174,9 +176,13 @@ pub fn put_numbers_and_fields<F: Field>(
     output: &mut [u8],
 )
     requires writable { All F.is_writable list.now }
-    requires encodable { IsEncodable (solid_tlv first second (numbers w32 leading.now ++ flat_map F.field_bytes (map F.view list.now))) }
-    requires room { size_of (solid_tlv first second (numbers w32 leading.now ++ flat_map F.field_bytes (map F.view list.now))) ≤ length output.old }
-    ensures { output.new ≡ written (image_of (solid_tlv first second (numbers w32 leading.now ++ flat_map F.field_bytes (map F.view list.now)))) output.old }
+    requires encodable { IsEncodable (solid_tlv first second
+        (numbers w32 leading.now ++ flat_map F.field_bytes (map F.view list.now))) }
+    requires room { size_of (solid_tlv first second
+        (numbers w32 leading.now ++ flat_map F.field_bytes (map F.view list.now)))
+        ≤ length output.old }
+    ensures { output.new ≡ written (image_of (solid_tlv first second
+        (numbers w32 leading.now ++ flat_map F.field_bytes (map F.view list.now)))) output.old }
 {
     let place = 4 * leading.len();
     let value_size = place + F::SIZE * list.len();

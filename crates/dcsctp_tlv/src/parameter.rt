@@ -340,9 +340,12 @@ impl ListedTlv for Parameter {
 /// The first item that has no frame, or whose value is at fault, decides the error: `InvalidLength`
 /// or `InvalidValue`; `OutOfMemory` only where there is none.
 pub fn parameters_from_bytes(alloc: Global, bytes: &[u8]) -> Result<Vec<Parameter>, ChunkParseError>
-    ensures answer { Answers result (λ list. MeansTrees parameters bytes.now (views list.items)) (HasFault parameters bytes.now) }
-    ensures memory { IsErrOf result ChunkParseError.OutOfMemory → MeansSome parameters bytes.now × (bytes.now ≢ []) }
-    ensures exact { ReadsExactly result (λ list. views list.items) (MeansTrees parameters bytes.now) (HasFault parameters bytes.now) }
+    ensures answer { Answers result (λ list. MeansTrees parameters bytes.now (views list.items))
+        (HasFault parameters bytes.now) }
+    ensures memory { IsErrOf result ChunkParseError.OutOfMemory →
+        MeansSome parameters bytes.now × (bytes.now ≢ []) }
+    ensures exact { ReadsExactly result (λ list. views list.items) (MeansTrees parameters bytes.now)
+        (HasFault parameters bytes.now) }
     ensures reserved { IfOk result (λ list. vec_capacity list ≡ vec_len list) }
 {
     list_from_bytes(alloc, bytes)

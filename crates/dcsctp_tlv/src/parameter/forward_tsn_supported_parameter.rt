@@ -33,7 +33,8 @@ impl ForwardTsnSupportedParameter {
     ///
     /// `InvalidType` exactly for another type; `InvalidLength` exactly where the value isn't empty.
     pub fn try_from(raw: RawParameter) -> Result<Self, ChunkParseError>
-        ensures other { IsErrOf result ChunkParseError.InvalidType ↔ (raw.entry.typ ≢ PARAMETER_TYPE) }
+        ensures other { IsErrOf result ChunkParseError.InvalidType ↔
+            (raw.entry.typ ≢ PARAMETER_TYPE) }
         ensures own { raw.entry.typ ≡ PARAMETER_TYPE →
             Gives Never kind.view result (kind.read raw.entry.value.now) }
     {

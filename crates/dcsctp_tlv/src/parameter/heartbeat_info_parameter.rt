@@ -39,7 +39,8 @@ impl HeartbeatInfoParameter {
     ///
     /// `InvalidType` exactly for another type; `OutOfMemory` only where the info can't be copied.
     pub fn try_from(alloc: Global, raw: RawParameter) -> Result<Self, ChunkParseError>
-        ensures other { IsErrOf result ChunkParseError.InvalidType ↔ (raw.entry.typ ≢ PARAMETER_TYPE) }
+        ensures other { IsErrOf result ChunkParseError.InvalidType ↔
+            (raw.entry.typ ≢ PARAMETER_TYPE) }
         ensures own { raw.entry.typ ≡ PARAMETER_TYPE →
             Gives IfMeant kind.view result (kind.read raw.entry.value.now) }
     {

@@ -59,7 +59,8 @@ impl OutgoingSsnResetRequestParameter {
     /// `InvalidType` exactly for another type; `InvalidLength` exactly where the value has fewer
     /// than 12 bytes or an odd number of them; `OutOfMemory` only where the ids can't be copied.
     pub fn try_from(alloc: Global, raw: RawParameter) -> Result<Self, ChunkParseError>
-        ensures other { IsErrOf result ChunkParseError.InvalidType ↔ (raw.entry.typ ≢ PARAMETER_TYPE) }
+        ensures other { IsErrOf result ChunkParseError.InvalidType ↔
+            (raw.entry.typ ≢ PARAMETER_TYPE) }
         ensures own { raw.entry.typ ≡ PARAMETER_TYPE →
             Gives IfMeant kind.view result (kind.read raw.entry.value.now) }
     {
@@ -99,7 +100,6 @@ impl OutgoingSsnResetRequestParameter {
     }
 }
 
-#[tactic(auto, using(crate::proofs::Puts::count_of_streams))]
 impl SerializableTlv for OutgoingSsnResetRequestParameter {
     ghost tlv = { λ p. (kind.format (kind.view p)).tlv };
 

@@ -110,7 +110,8 @@ impl ReconfigurationResponseParameter {
     /// `InvalidType` exactly for another type; `InvalidLength` exactly where the value hasn't 8 or
     /// 16 bytes; `InvalidValue` exactly where it has, and its result is above 6.
     pub fn try_from(raw: RawParameter) -> Result<Self, ChunkParseError>
-        ensures other { IsErrOf result ChunkParseError.InvalidType ↔ (raw.entry.typ ≢ PARAMETER_TYPE) }
+        ensures other { IsErrOf result ChunkParseError.InvalidType ↔
+            (raw.entry.typ ≢ PARAMETER_TYPE) }
         ensures own { raw.entry.typ ≡ PARAMETER_TYPE →
             Gives Never kind.view result (kind.read raw.entry.value.now) }
     {
@@ -121,8 +122,8 @@ impl ReconfigurationResponseParameter {
         Ok(ReconfigurationResponseParameter::build(raw.value))
     }
 
-    /// `InvalidLength` exactly where the value hasn't 8 or 16 bytes; `InvalidValue` exactly where it
-    /// has, and its result is above 6.
+    /// `InvalidLength` exactly where the value hasn't 8 or 16 bytes; `InvalidValue` exactly where
+    /// it has, and its result is above 6.
     pub(crate) fn check(value: &[u8]) -> Result<(), ChunkParseError>
         ensures { Passes result (kind.read value.now) }
     {
