@@ -2,16 +2,18 @@
 use Rattle.std.proofs.Common.{◌≡◌, ◌≢◌, ℕ, true, false, List, [], ◌∷◌, refl, sym, ap, subst, ◌∙◌, arith}
 use Rattle.std.specs.Prelude.{◌==◌, length, drop}
 use Rattle.std.specs.List.{AllByRecursion}
-use Rattle.std.proofs.lemmas.Bool.{le-leb, eqb-false, ne_eqb}
+use Rattle.std.proofs.lemmas.Bool.{le-leb, ne_eqb}
 use Rattle.std.proofs.lemmas.Nat.{from_be_bytes-to_be_bytes_2, from_be_bytes-to_be_bytes_4}
 use Rattle.dcsctp_tlv.specs.Level.{plain, as_row, map_ok, MeansTrees}
 use Rattle.dcsctp_tlv.specs.Image.{zeroed, image_of, list_image, IsEncodable}
 use Rattle.dcsctp_tlv.specs.Parameter.{ParameterTree, parameters, tlv as parameter_tlv, IsInWidth as IsParameterInWidth, IsWellFormed as IsParameterWellFormed}
+use Rattle.dcsctp_tlv.specs.Table.{IsUnnamed}
+use Rattle.dcsctp_tlv.proofs.Tables.{of_table, of_others, ◌&◌}
 use Rattle.dcsctp_tlv.proofs.KindLaws.{of_ok}
 use Rattle.dcsctp_tlv.proofs.Listed.{listed_sized}
 use Rattle.dcsctp_tlv.proofs.ReadsBack.{ReadsBack, nested_reads_back, zeroed-solid}
 use Rattle.dcsctp_tlv.proofs.ParameterLaws.{IsGoodParameter, length-parameter, good_parameters, parameters_read_back, parameters_form}
-use Rattle.dcsctp_tlv.proofs.Forms.{FormsTrees, FormsRow, picked, plain_forms, list_formed, nil_means}
+use Rattle.dcsctp_tlv.proofs.Forms.{FormsTrees, FormsRow, plain_forms, list_formed, nil_means}
 use Rattle.dcsctp_cause.specs.Cause.{CauseTree, causes, tlv as cause_tlv, IsInWidth as IsCauseInWidth, IsWellFormed as IsCauseWellFormed}
 use Rattle.dcsctp_cause.proofs.CauseLaws.{IsGoodCause, length-cause, good_causes, causes_read_back, causes_form}
 use Rattle.dcsctp_chunk.specs.Flags.{flag_byte}
@@ -23,8 +25,8 @@ use Rattle.dcsctp_chunk.proofs.ForwardTsnLaws.{forward_tsn_laws, iforward_tsn_la
 use Rattle.dcsctp_wire.specs.Init.{InitTree, init_numbers, init_row, init_tlv, IsInitInWidth}
 use Rattle.dcsctp_wire.specs.ParameterList.{parameter_list_row, parameter_list_tlv}
 use Rattle.dcsctp_wire.specs.CauseList.{AbortTree, abort_row, abort_tlv, error_row, error_tlv}
-use Rattle.dcsctp_wire.specs.Chunk.{ChunkTree, Data, Init, InitAck, Sack, HeartbeatRequest, HeartbeatAck, Abort, Shutdown, ShutdownAck, Error, CookieEcho, CookieAck, ShutdownComplete, ReConfig, ForwardTsn, IData, IForwardTsn, Unknown, chunks, chunk_row, chunk_tlv, IsChunkEncodable, encodable_size}
-use Rattle.dcsctp_wire.specs.WellFormed.{IsChunkInWidth, IsUnnamedChunk, IsChunkWellFormed}
+use Rattle.dcsctp_wire.specs.Chunk.{ChunkTree, Data, Init, InitAck, Sack, HeartbeatRequest, HeartbeatAck, Abort, Shutdown, ShutdownAck, Error, CookieEcho, CookieAck, ShutdownComplete, ReConfig, ForwardTsn, IData, IForwardTsn, Unknown, table, chunks, chunk_row, chunk_tlv, IsChunkEncodable, encodable_size}
+use Rattle.dcsctp_wire.specs.WellFormed.{IsChunkInWidth, IsChunkWellFormed}
 
 -- ---- kinds with a list
 
@@ -65,10 +67,12 @@ pub record IsGood (t : ChunkTree) : Type 0 where
   pub formed : IsChunkWellFormed t
   pub encodable : IsChunkEncodable t
 
-unknown_means : (u : UnknownTree) → IsUnnamedChunk u.typ → (chunk_row u.typ u.flags).means (zeroed (chunk_tlv (Unknown u)).value) (Unknown u)
+unknown_means : (u : UnknownTree) → IsUnnamed (table u.flags) u.typ
+    → (chunk_row u.typ u.flags).means (zeroed (chunk_tlv (Unknown u)).value) (Unknown u)
 unfolding unknown_at
 unknown_means u h =
-    rw (ne_eqb u.typ 0 h.0, ne_eqb u.typ 1 h.1, ne_eqb u.typ 2 h.2, ne_eqb u.typ 3 h.3, ne_eqb u.typ 4 h.4, ne_eqb u.typ 5 h.5, ne_eqb u.typ 6 h.6, ne_eqb u.typ 7 h.7, ne_eqb u.typ 8 h.8, ne_eqb u.typ 9 h.9, ne_eqb u.typ 10 h.10, ne_eqb u.typ 11 h.11, ne_eqb u.typ 14 h.12, ne_eqb u.typ 64 h.13, ne_eqb u.typ 130 h.14, ne_eqb u.typ 192 h.15, ne_eqb u.typ 194 h.16, zeroed-solid u.value) refl
+    of_others (λ row. row.means (zeroed (chunk_tlv (Unknown u)).value) (Unknown u)) (table u.flags)
+    u.typ _ h (rw (zeroed-solid u.value) refl)
 
 means : (t : ChunkTree) → IsGood t → (chunk_row (chunk_tlv t).first (chunk_tlv t).second).means (zeroed (chunk_tlv t).value) t
 means (Data c) good = ap (map_ok Data) (data_laws.back c good.width good.formed good.encodable)
@@ -139,30 +143,35 @@ error_forms : FormsRow IsChunkWellFormed (as_row Error error_row)
 error_forms value t m =
     subst IsChunkWellFormed (sym m.2) (some_causes value m.0 m.1, subst (AllByRecursion IsCauseWellFormed) (sym m.1.1.2) (list_formed causes IsCauseWellFormed causes_form value m.1.1.0 m.1.1.1))
 
-unknown_forms : (typ flags : ℕ) → IsUnnamedChunk typ → FormsRow IsChunkWellFormed (plain (λ value. map_ok Unknown (unknown_at typ flags value)))
+unknown_forms : (typ flags : ℕ) → IsUnnamed (table flags) typ
+    → FormsRow IsChunkWellFormed (plain (λ value. map_ok Unknown (unknown_at typ flags value)))
 unfolding unknown_at
-unknown_forms typ flags h value t e = subst IsChunkWellFormed (of_ok (Unknown (record { typ = typ; flags = flags; value = value })) t e) h
+unknown_forms typ flags h value t e =
+    subst IsChunkWellFormed
+    (of_ok (Unknown (record { typ = typ; flags = flags; value = value })) t e) h
 
 forms : (typ flags : ℕ) → FormsRow IsChunkWellFormed (chunk_row typ flags)
-forms typ flags =
-    picked (FormsRow IsChunkWellFormed) (typ == 0) _ _ (λ is. plain_forms data_laws Data IsChunkWellFormed typ flags (λ c formed. formed)) (λ not_0.
-    picked (FormsRow IsChunkWellFormed) (typ == 1) _ _ (λ is. init_forms Init (λ i formed. formed)) (λ not_1.
-    picked (FormsRow IsChunkWellFormed) (typ == 2) _ _ (λ is. init_forms InitAck (λ i formed. formed)) (λ not_2.
-    picked (FormsRow IsChunkWellFormed) (typ == 3) _ _ (λ is. plain_forms sack_laws Sack IsChunkWellFormed typ flags (λ c formed. tt)) (λ not_3.
-    picked (FormsRow IsChunkWellFormed) (typ == 4) _ _ (λ is. parameter_list_forms HeartbeatRequest (λ ps formed. formed)) (λ not_4.
-    picked (FormsRow IsChunkWellFormed) (typ == 5) _ _ (λ is. parameter_list_forms HeartbeatAck (λ ps formed. formed)) (λ not_5.
-    picked (FormsRow IsChunkWellFormed) (typ == 6) _ _ (λ is. abort_forms flags) (λ not_6.
-    picked (FormsRow IsChunkWellFormed) (typ == 7) _ _ (λ is. plain_forms shutdown_laws Shutdown IsChunkWellFormed typ flags (λ tsn formed. tt)) (λ not_7.
-    picked (FormsRow IsChunkWellFormed) (typ == 8) _ _ (λ is. plain_forms shutdown_ack_laws (λ _. ShutdownAck) IsChunkWellFormed typ flags (λ u formed. tt)) (λ not_8.
-    picked (FormsRow IsChunkWellFormed) (typ == 9) _ _ (λ is. error_forms) (λ not_9.
-    picked (FormsRow IsChunkWellFormed) (typ == 10) _ _ (λ is. plain_forms cookie_echo_laws CookieEcho IsChunkWellFormed typ flags (λ cookie formed. formed)) (λ not_10.
-    picked (FormsRow IsChunkWellFormed) (typ == 11) _ _ (λ is. plain_forms cookie_ack_laws (λ _. CookieAck) IsChunkWellFormed typ flags (λ u formed. tt)) (λ not_11.
-    picked (FormsRow IsChunkWellFormed) (typ == 14) _ _ (λ is. plain_forms shutdown_complete_laws ShutdownComplete IsChunkWellFormed typ flags (λ reflected formed. tt)) (λ not_14.
-    picked (FormsRow IsChunkWellFormed) (typ == 64) _ _ (λ is. plain_forms idata_laws IData IsChunkWellFormed typ flags (λ c formed. formed)) (λ not_64.
-    picked (FormsRow IsChunkWellFormed) (typ == 130) _ _ (λ is. parameter_list_forms ReConfig (λ ps formed. formed)) (λ not_130.
-    picked (FormsRow IsChunkWellFormed) (typ == 192) _ _ (λ is. plain_forms forward_tsn_laws ForwardTsn IsChunkWellFormed typ flags (λ f formed. formed)) (λ not_192.
-    picked (FormsRow IsChunkWellFormed) (typ == 194) _ _ (λ is. plain_forms iforward_tsn_laws IForwardTsn IsChunkWellFormed typ flags (λ f formed. formed)) (λ not_194.
-    unknown_forms typ flags (eqb-false typ 0 not_0, eqb-false typ 1 not_1, eqb-false typ 2 not_2, eqb-false typ 3 not_3, eqb-false typ 4 not_4, eqb-false typ 5 not_5, eqb-false typ 6 not_6, eqb-false typ 7 not_7, eqb-false typ 8 not_8, eqb-false typ 9 not_9, eqb-false typ 10 not_10, eqb-false typ 11 not_11, eqb-false typ 14 not_14, eqb-false typ 64 not_64, eqb-false typ 130 not_130, eqb-false typ 192 not_192, eqb-false typ 194 not_194))))))))))))))))))
+forms typ flags = of_table (λ _ row. FormsRow IsChunkWellFormed row) (table flags) typ _ (
+    plain_forms data_laws Data IsChunkWellFormed 0 flags (λ c formed. formed) &
+    init_forms Init (λ i formed. formed) &
+    init_forms InitAck (λ i formed. formed) &
+    plain_forms sack_laws Sack IsChunkWellFormed 3 flags (λ c formed. tt) &
+    parameter_list_forms HeartbeatRequest (λ ps formed. formed) &
+    parameter_list_forms HeartbeatAck (λ ps formed. formed) &
+    abort_forms flags &
+    plain_forms shutdown_laws Shutdown IsChunkWellFormed 7 flags (λ tsn formed. tt) &
+    plain_forms shutdown_ack_laws (λ _. ShutdownAck) IsChunkWellFormed 8 flags (λ u formed. tt) &
+    error_forms &
+    plain_forms cookie_echo_laws CookieEcho IsChunkWellFormed 10 flags (λ cookie formed. formed) &
+    plain_forms cookie_ack_laws (λ _. CookieAck) IsChunkWellFormed 11 flags (λ u formed. tt) &
+    plain_forms shutdown_complete_laws ShutdownComplete IsChunkWellFormed 14 flags
+    (λ reflected formed. tt) &
+    plain_forms idata_laws IData IsChunkWellFormed 64 flags (λ c formed. formed) &
+    parameter_list_forms ReConfig (λ ps formed. formed) &
+    plain_forms forward_tsn_laws ForwardTsn IsChunkWellFormed 192 flags (λ f formed. formed) &
+    plain_forms iforward_tsn_laws IForwardTsn IsChunkWellFormed 194 flags (λ f formed. formed) &
+    tt)
+    (unknown_forms typ flags)
 
 pub chunks_form : FormsTrees chunks IsChunkWellFormed
 chunks_form = record { formed = forms }

@@ -1,8 +1,9 @@
 -- The table of chunks (RFC 9260 section 3.2): a line for each kind in each definition.
-use Rattle.std.specs.Prelude.{◌≡◌, ◌⊎◌, ℕ, Bool, List, [], ◌∷◌, ◌==◌, length, drop, map, codes}
+use Rattle.std.specs.Prelude.{◌≡◌, ◌⊎◌, ℕ, Bool, List, [], ◌∷◌, length, drop, map, codes}
 use Rattle.std.specs.Int.{w32, to_be_bytes}
 use Rattle.dcsctp_tlv.specs.Frame.{lenient}
-use Rattle.dcsctp_tlv.specs.Level.{Row, plain, as_row, pick, Level, map_ok}
+use Rattle.dcsctp_tlv.specs.Level.{Row, plain, as_row, Level, map_ok}
+use Rattle.dcsctp_tlv.specs.Table.{Named, named, row_of}
 use Rattle.dcsctp_tlv.specs.Image.{Tlv, size_of, image_of, IsEncodable}
 use Rattle.dcsctp_tlv.specs.Parameter.{ParameterTree, tlv as parameter_tlv}
 use Rattle.dcsctp_tlv.proofs.ParameterLaws.{length-parameter}
@@ -50,27 +51,35 @@ pub data ChunkTree : Type 0 where
   IForwardTsn : IForwardTsnTree → ChunkTree
   Unknown : UnknownTree → ChunkTree
 
+-- a kind with a list in its value: its type, its trees in the level, and its row
+abbrev nested : {X : Type 0} → ℕ → (X → ChunkTree) → Row X → Named ChunkTree
+nested typ tree row = record { typ = typ; row = as_row tree row }
+
+-- the types that are named, and how the value of each is read
+abbrev pub table : ℕ → List (Named ChunkTree)
+table flags =
+    named 0 Data (data_at flags) ∷
+    nested 1 Init init_row ∷
+    nested 2 InitAck init_row ∷
+    named 3 Sack sack_at ∷
+    nested 4 HeartbeatRequest parameter_list_row ∷
+    nested 5 HeartbeatAck parameter_list_row ∷
+    nested 6 Abort (abort_row flags) ∷
+    named 7 Shutdown shutdown_at ∷
+    named 8 (λ _. ShutdownAck) shutdown_ack_at ∷
+    nested 9 Error error_row ∷
+    named 10 CookieEcho cookie_echo_at ∷
+    named 11 (λ _. CookieAck) cookie_ack_at ∷
+    named 14 ShutdownComplete (shutdown_complete_at flags) ∷
+    named 64 IData (idata_at flags) ∷
+    nested 130 ReConfig parameter_list_row ∷
+    named 192 ForwardTsn forward_tsn_at ∷
+    named 194 IForwardTsn iforward_tsn_at ∷ []
+
 -- what the value of a type means, and its faults
 abbrev pub chunk_row : ℕ → ℕ → Row ChunkTree
 chunk_row typ flags =
-    pick (typ == 0) (plain (λ value. map_ok Data (data_at flags value))) (
-    pick (typ == 1) (as_row Init init_row) (
-    pick (typ == 2) (as_row InitAck init_row) (
-    pick (typ == 3) (plain (λ value. map_ok Sack (sack_at value))) (
-    pick (typ == 4) (as_row HeartbeatRequest parameter_list_row) (
-    pick (typ == 5) (as_row HeartbeatAck parameter_list_row) (
-    pick (typ == 6) (as_row Abort (abort_row flags)) (
-    pick (typ == 7) (plain (λ value. map_ok Shutdown (shutdown_at value))) (
-    pick (typ == 8) (plain (λ value. map_ok (λ _. ShutdownAck) (shutdown_ack_at value))) (
-    pick (typ == 9) (as_row Error error_row) (
-    pick (typ == 10) (plain (λ value. map_ok CookieEcho (cookie_echo_at value))) (
-    pick (typ == 11) (plain (λ value. map_ok (λ _. CookieAck) (cookie_ack_at value))) (
-    pick (typ == 14) (plain (λ value. map_ok ShutdownComplete (shutdown_complete_at flags value))) (
-    pick (typ == 64) (plain (λ value. map_ok IData (idata_at flags value))) (
-    pick (typ == 130) (as_row ReConfig parameter_list_row) (
-    pick (typ == 192) (plain (λ value. map_ok ForwardTsn (forward_tsn_at value))) (
-    pick (typ == 194) (plain (λ value. map_ok IForwardTsn (iforward_tsn_at value))) (
-    plain (λ value. map_ok Unknown (unknown_at typ flags value)))))))))))))))))))
+    row_of (table flags) typ (plain (λ value. map_ok Unknown (unknown_at typ flags value)))
 
 -- the chunks of a packet: their padding is never looked at
 abbrev pub chunks : Level ChunkTree

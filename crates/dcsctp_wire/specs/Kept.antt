@@ -1,13 +1,13 @@
 -- What a chunk that is written reads back as.
 use Rattle.std.specs.Prelude.{◌≢◌, List, [], map}
 use Rattle.std.specs.List.{AllByRecursion}
+use Rattle.dcsctp_tlv.specs.Table.{IsUnnamed}
 use Rattle.dcsctp_tlv.specs.Parameter.{IsTyped as IsParameterTyped, all_kept as kept_parameters}
 use Rattle.dcsctp_cause.specs.Cause.{IsWellFormed as IsCauseWellFormed}
 use Rattle.dcsctp_chunk.specs.DataChunk.{kept_data}
 use Rattle.dcsctp_chunk.specs.IDataChunk.{kept_idata}
 use Rattle.dcsctp_chunk.specs.CookieEcho.{IsCookieEchoWellFormed}
-use Rattle.dcsctp_wire.specs.Chunk.{ChunkTree, Data, Init, InitAck, HeartbeatRequest, HeartbeatAck, Abort, Error, CookieEcho, IData, ReConfig, Unknown}
-use Rattle.dcsctp_wire.specs.WellFormed.{IsUnnamedChunk}
+use Rattle.dcsctp_wire.specs.Chunk.{ChunkTree, Data, Init, InitAck, HeartbeatRequest, HeartbeatAck, Abort, Error, CookieEcho, IData, ReConfig, Unknown, table}
 
 -- Fields that a kind doesn't carry are zero; a response with fewer than two next TSNs has none.
 abbrev pub kept_chunk : ChunkTree → ChunkTree
@@ -34,5 +34,5 @@ IsChunkReadable (Abort a) = AllByRecursion IsCauseWellFormed a.causes
 IsChunkReadable (Error cs) = (cs ≢ []) × AllByRecursion IsCauseWellFormed cs
 IsChunkReadable (CookieEcho cookie) = IsCookieEchoWellFormed cookie
 IsChunkReadable (ReConfig ps) = AllByRecursion IsParameterTyped ps
-IsChunkReadable (Unknown u) = IsUnnamedChunk u.typ
+IsChunkReadable (Unknown u) = IsUnnamed (table u.flags) u.typ
 IsChunkReadable t = Unit {0}

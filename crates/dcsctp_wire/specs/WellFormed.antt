@@ -1,6 +1,7 @@
 -- Meanings that a packet can have.
-use Rattle.std.specs.Prelude.{◌≢◌, ◌<◌, ◌^◌, ℕ, []}
+use Rattle.std.specs.Prelude.{◌≢◌, ◌<◌, ◌^◌, []}
 use Rattle.std.specs.List.{AllByRecursion}
+use Rattle.dcsctp_tlv.specs.Table.{IsUnnamed}
 use Rattle.dcsctp_tlv.specs.Parameter.{IsInWidth as IsParameterInWidth, IsWellFormed as IsParameterWellFormed}
 use Rattle.dcsctp_cause.specs.Cause.{IsInWidth as IsCauseInWidth, IsWellFormed as IsCauseWellFormed}
 use Rattle.dcsctp_chunk.specs.DataChunk.{IsDataInWidth, IsDataWellFormed}
@@ -12,7 +13,7 @@ use Rattle.dcsctp_chunk.specs.Shutdown.{IsShutdownInWidth}
 use Rattle.dcsctp_chunk.specs.CookieEcho.{IsCookieEchoInWidth, IsCookieEchoWellFormed}
 use Rattle.dcsctp_chunk.specs.Unknown.{IsUnknownInWidth}
 use Rattle.dcsctp_wire.specs.Init.{IsInitInWidth}
-use Rattle.dcsctp_wire.specs.Chunk.{ChunkTree, Data, Init, InitAck, Sack, HeartbeatRequest, HeartbeatAck, Abort, Shutdown, ShutdownAck, Error, CookieEcho, CookieAck, ShutdownComplete, ReConfig, ForwardTsn, IData, IForwardTsn, Unknown}
+use Rattle.dcsctp_wire.specs.Chunk.{ChunkTree, Data, Init, InitAck, Sack, HeartbeatRequest, HeartbeatAck, Abort, Shutdown, ShutdownAck, Error, CookieEcho, CookieAck, ShutdownComplete, ReConfig, ForwardTsn, IData, IForwardTsn, Unknown, table}
 use Rattle.dcsctp_wire.specs.Packet.{Meaning}
 
 -- every number lies in its field's width, and every text is one
@@ -36,11 +37,6 @@ IsChunkInWidth (ForwardTsn f) = IsForwardTsnInWidth f
 IsChunkInWidth (IForwardTsn f) = IsIForwardTsnInWidth f
 IsChunkInWidth (Unknown u) = IsUnknownInWidth u
 
--- a type that the table doesn't name
-abbrev pub IsUnnamedChunk : ℕ → Type 0
-IsUnnamedChunk typ =
-    (typ ≢ 0) × (typ ≢ 1) × (typ ≢ 2) × (typ ≢ 3) × (typ ≢ 4) × (typ ≢ 5) × (typ ≢ 6) × (typ ≢ 7) × (typ ≢ 8) × (typ ≢ 9) × (typ ≢ 10) × (typ ≢ 11) × (typ ≢ 14) × (typ ≢ 64) × (typ ≢ 130) × (typ ≢ 192) × (typ ≢ 194)
-
 -- The table can mean it: a COOKIE ECHO has a cookie, and an ERROR a cause; an Unknown chunk has a
 -- type that isn't named; fields that a kind doesn't carry are zero; skipped streams have a place; and
 -- so on within its list.
@@ -62,7 +58,7 @@ IsChunkWellFormed (IData c) = IsIDataWellFormed c
 IsChunkWellFormed (ReConfig ps) = AllByRecursion IsParameterWellFormed ps
 IsChunkWellFormed (ForwardTsn f) = IsForwardTsnWellFormed f
 IsChunkWellFormed (IForwardTsn f) = IsIForwardTsnWellFormed f
-IsChunkWellFormed (Unknown u) = IsUnnamedChunk u.typ
+IsChunkWellFormed (Unknown u) = IsUnnamed (table u.flags) u.typ
 
 pub record IsInWidth (m : Meaning) : Type 0 where
   pub source : m.source < 2 ^ 16
