@@ -22,8 +22,8 @@ use Rattle.dcsctp_chunk.proofs.ForwardTsnLaws.{forward_tsn_keeps_size, iforward_
 use Rattle.dcsctp_wire.specs.Init.{InitTree, init_row}
 use Rattle.dcsctp_wire.specs.ParameterList.{parameter_list_row}
 use Rattle.dcsctp_wire.specs.CauseList.{AbortTree, abort_row, error_row}
-use Rattle.dcsctp_wire.specs.Chunk.{ChunkTree, Data, Init, InitAck, Sack, HeartbeatRequest, HeartbeatAck, Abort, Shutdown, ShutdownAck, Error, CookieEcho, CookieAck, ShutdownComplete, ReConfig, ForwardTsn, IData, IForwardTsn, Unknown, table, chunks, chunk_row, chunk_tlv}
-use Rattle.dcsctp_wire.specs.Account.{AreTextsKept, chunk_parts}
+use Rattle.dcsctp_wire.specs.Chunk.{ChunkTree, Data, Init, InitAck, Sack, HeartbeatRequest, HeartbeatAck, Abort, Shutdown, ShutdownAck, Error, CookieEcho, CookieAck, ShutdownComplete, ReConfig, ForwardTsn, IData, IForwardTsn, Unknown, table, chunks, chunk_row, tlv as chunk_tlv, parts as chunk_parts}
+use Rattle.dcsctp_wire.specs.Account.{AreTextsKept}
 
 -- ---- the size account
 

@@ -10,23 +10,20 @@ use Rattle.dcsctp_tlv.specs.Parameter.{ParameterTree, parameters, tlv as paramet
 use Rattle.dcsctp_tlv.specs.Table.{IsUnnamed}
 use Rattle.dcsctp_tlv.proofs.Tables.{of_table, of_others, ◌&◌}
 use Rattle.dcsctp_tlv.proofs.KindLaws.{of_ok}
-use Rattle.dcsctp_tlv.proofs.Listed.{listed_sized}
 use Rattle.dcsctp_tlv.proofs.ReadsBack.{ReadsBack, nested_reads_back, zeroed-solid}
-use Rattle.dcsctp_tlv.proofs.ParameterLaws.{IsGoodParameter, length-parameter, good_parameters, parameters_read_back, parameters_form}
+use Rattle.dcsctp_tlv.proofs.ParameterLaws.{IsGoodParameter, good_parameters, parameters_read_back, parameters_form}
 use Rattle.dcsctp_tlv.proofs.Forms.{FormsTrees, FormsRow, plain_forms, list_formed, nil_means}
 use Rattle.dcsctp_cause.specs.Cause.{CauseTree, causes, tlv as cause_tlv, IsInWidth as IsCauseInWidth, IsWellFormed as IsCauseWellFormed}
-use Rattle.dcsctp_cause.proofs.CauseLaws.{IsGoodCause, length-cause, good_causes, causes_read_back, causes_form}
-use Rattle.dcsctp_chunk.specs.Flags.{flag_byte}
+use Rattle.dcsctp_cause.proofs.CauseLaws.{IsGoodCause, good_causes, causes_read_back, causes_form}
 use Rattle.dcsctp_chunk.specs.Unknown.{UnknownTree, unknown_at}
 use Rattle.dcsctp_chunk.proofs.FlagLaws.{one_again}
-use Rattle.dcsctp_chunk.proofs.Laws.{shutdown_laws, shutdown_ack_laws, shutdown_complete_laws, cookie_echo_laws, cookie_ack_laws, unknown_laws, data_laws, idata_laws}
+use Rattle.dcsctp_chunk.proofs.Laws.{shutdown_laws, shutdown_ack_laws, shutdown_complete_laws, cookie_echo_laws, cookie_ack_laws, data_laws, idata_laws}
 use Rattle.dcsctp_chunk.proofs.SackLaws.{sack_laws}
 use Rattle.dcsctp_chunk.proofs.ForwardTsnLaws.{forward_tsn_laws, iforward_tsn_laws}
-use Rattle.dcsctp_wire.specs.Init.{InitTree, init_numbers, init_row, init_tlv, IsInitInWidth}
+use Rattle.dcsctp_wire.specs.Init.{InitTree, init_row, init_tlv, IsInitInWidth}
 use Rattle.dcsctp_wire.specs.ParameterList.{parameter_list_row, parameter_list_tlv}
 use Rattle.dcsctp_wire.specs.CauseList.{AbortTree, abort_row, abort_tlv, error_row, error_tlv}
-use Rattle.dcsctp_wire.specs.Chunk.{ChunkTree, Data, Init, InitAck, Sack, HeartbeatRequest, HeartbeatAck, Abort, Shutdown, ShutdownAck, Error, CookieEcho, CookieAck, ShutdownComplete, ReConfig, ForwardTsn, IData, IForwardTsn, Unknown, table, chunks, chunk_row, chunk_tlv, IsChunkEncodable, encodable_size}
-use Rattle.dcsctp_wire.specs.WellFormed.{IsChunkInWidth, IsChunkWellFormed}
+use Rattle.dcsctp_wire.specs.Chunk.{ChunkTree, Data, Init, InitAck, Sack, HeartbeatRequest, HeartbeatAck, Abort, Shutdown, ShutdownAck, Error, CookieEcho, CookieAck, ShutdownComplete, ReConfig, ForwardTsn, IData, IForwardTsn, Unknown, table, chunks, chunk_row, format, tlv as chunk_tlv, IsChunkEncodable, encodable_size, IsInWidth as IsChunkInWidth, IsWellFormed as IsChunkWellFormed}
 
 -- ---- kinds with a list
 
@@ -94,28 +91,12 @@ means (ForwardTsn f) good = ap (map_ok ForwardTsn) (forward_tsn_laws.back f good
 means (IForwardTsn f) good = ap (map_ok IForwardTsn) (iforward_tsn_laws.back f good.width good.formed good.encodable.size)
 means (Unknown u) good = unknown_means u good.formed
 
-sized : (t : ChunkTree) → length (chunk_tlv t).value ≡ (chunk_tlv t).value_size
-sized (Data c) = data_laws.sized c
-sized (Init i) = listed_sized parameter_tlv length-parameter 1 0 (init_numbers i) i.parameters
-sized (InitAck i) = listed_sized parameter_tlv length-parameter 2 0 (init_numbers i) i.parameters
-sized (Sack s) = sack_laws.sized s
-sized (HeartbeatRequest ps) = listed_sized parameter_tlv length-parameter 4 0 [] ps
-sized (HeartbeatAck ps) = listed_sized parameter_tlv length-parameter 5 0 [] ps
-sized (Abort a) = listed_sized cause_tlv length-cause 6 (flag_byte (a.tag_reflected ∷ [])) [] a.causes
-sized (Shutdown tsn) = shutdown_laws.sized tsn
-sized ShutdownAck = shutdown_ack_laws.sized tt
-sized (Error cs) = listed_sized cause_tlv length-cause 9 0 [] cs
-sized (CookieEcho cookie) = cookie_echo_laws.sized cookie
-sized CookieAck = cookie_ack_laws.sized tt
-sized (ShutdownComplete reflected) = shutdown_complete_laws.sized reflected
-sized (IData c) = idata_laws.sized c
-sized (ReConfig ps) = listed_sized parameter_tlv length-parameter 130 0 [] ps
-sized (ForwardTsn f) = forward_tsn_laws.sized f
-sized (IForwardTsn f) = iforward_tsn_laws.sized f
-sized (Unknown u) = unknown_laws.sized u
-
 pub chunks_read_back : ReadsBack chunks chunk_tlv IsGood
-chunks_read_back = record { sized = sized; fits = λ t good. encodable_size t good.encodable; means = means }
+chunks_read_back = record {
+  sized = λ t. (format t).sized;
+  fits = λ t good. encodable_size t good.encodable;
+  means = means;
+}
 
 -- ---- each kind reads only what is well-formed
 

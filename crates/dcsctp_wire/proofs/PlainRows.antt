@@ -17,8 +17,7 @@ use Rattle.dcsctp_chunk.specs.Shutdown.{shutdown_at}
 use Rattle.dcsctp_chunk.specs.ShutdownAck.{shutdown_ack_at}
 use Rattle.dcsctp_chunk.specs.ShutdownComplete.{shutdown_complete_at}
 use Rattle.dcsctp_chunk.specs.Unknown.{unknown_at}
-use Rattle.dcsctp_wire.specs.Account.{chunk_parts}
-use Rattle.dcsctp_wire.specs.Chunk.{ChunkTree, Data, Sack, Shutdown, ShutdownAck, CookieEcho, CookieAck, ShutdownComplete, IData, ForwardTsn, IForwardTsn, Unknown, table, chunk_row}
+use Rattle.dcsctp_wire.specs.Chunk.{parts as chunk_parts, ChunkTree, Data, Sack, Shutdown, ShutdownAck, CookieEcho, CookieAck, ShutdownComplete, IData, ForwardTsn, IForwardTsn, Unknown, table, chunk_row}
 
 -- a value that passes means one part, and what is told of another is its fault
 abbrev Stands : Row ChunkTree → List ℕ → Result (Unit {0}) Fault → Type 0

@@ -1,32 +1,30 @@
--- The table of chunks (RFC 9260 section 3.2): a line for each kind in each definition.
-use Rattle.std.specs.Prelude.{◌≡◌, ◌⊎◌, ℕ, Bool, List, [], ◌∷◌, length, drop, map, codes}
+-- The table of chunks (RFC 9260 section 3.2).
+use Rattle.std.specs.Prelude.{◌≡◌, ◌⊎◌, ℕ, ◌+◌, Bool, List, [], ◌∷◌, length, drop, map, codes}
 use Rattle.std.specs.Int.{w32, to_be_bytes}
 use Rattle.dcsctp_tlv.specs.Frame.{lenient}
 use Rattle.dcsctp_tlv.specs.Level.{Row, plain, as_row, Level, map_ok}
-use Rattle.dcsctp_tlv.specs.Table.{Named, named, row_of}
-use Rattle.dcsctp_tlv.specs.Image.{Tlv, size_of, image_of, IsEncodable}
-use Rattle.dcsctp_tlv.specs.Parameter.{ParameterTree, tlv as parameter_tlv}
-use Rattle.dcsctp_tlv.proofs.ParameterLaws.{length-parameter}
-use Rattle.dcsctp_tlv.proofs.Images.{length-solid_tlv}
-use Rattle.dcsctp_tlv.proofs.Listed.{length-listed_tlv}
-use Rattle.dcsctp_cause.specs.Cause.{CauseTree, tlv as cause_tlv}
-use Rattle.dcsctp_cause.proofs.CauseLaws.{length-cause}
-use Rattle.dcsctp_chunk.specs.CookieAck.{cookie_ack_at, cookie_ack_tlv, cookie_ack_text}
-use Rattle.dcsctp_chunk.specs.CookieEcho.{cookie_echo_at, cookie_echo_tlv, cookie_echo_text, cookie_echo_view}
+use Rattle.dcsctp_tlv.specs.Table.{Named, named, row_of, IsUnnamed}
+use Rattle.dcsctp_tlv.specs.Image.{Tlv, size_of, image_of, IsEncodable, solid_tlv}
+use Rattle.dcsctp_tlv.specs.Format.{Format}
+use Rattle.dcsctp_tlv.specs.Length.{length-solid, length-format}
+use Rattle.dcsctp_tlv.specs.Parameter.{ParameterTree, all_kept as kept_parameters}
+use Rattle.dcsctp_cause.specs.Cause.{CauseTree}
+use Rattle.dcsctp_chunk.specs.CookieAck.{cookie_ack_at, cookie_ack_text}
+use Rattle.dcsctp_chunk.specs.CookieEcho.{cookie_echo_at, cookie_echo_text, cookie_echo_view, IsCookieEchoInWidth, IsCookieEchoWellFormed}
 use Rattle.dcsctp_chunk.specs.Data.{DataChunkTree, user_data_flags}
-use Rattle.dcsctp_chunk.specs.DataChunk.{data_at, data_bytes, data_tlv, data_text, data_view}
+use Rattle.dcsctp_chunk.specs.DataChunk.{data_at, data_bytes, data_text, data_view, kept_data, IsDataInWidth, IsDataWellFormed}
 use Rattle.dcsctp_chunk.specs.Flags.{flag_byte}
-use Rattle.dcsctp_chunk.specs.ForwardTsn.{ForwardTsnTree, forward_tsn_at, forward_tsn_bytes, forward_tsn_tlv, forward_tsn_text, forward_tsn_view, IsForwardTsnEncodable}
-use Rattle.dcsctp_chunk.specs.IDataChunk.{idata_at, idata_bytes, idata_tlv, idata_text, idata_view}
-use Rattle.dcsctp_chunk.specs.IForwardTsn.{IForwardTsnTree, iforward_tsn_at, iforward_tsn_bytes, iforward_tsn_tlv, iforward_tsn_text, iforward_tsn_view, IsIForwardTsnEncodable}
-use Rattle.dcsctp_chunk.specs.Sack.{SackTree, sack_at, sack_bytes, sack_tlv, sack_text, sack_view}
-use Rattle.dcsctp_chunk.specs.Shutdown.{shutdown_at, shutdown_tlv, shutdown_text, shutdown_view}
-use Rattle.dcsctp_chunk.specs.ShutdownAck.{shutdown_ack_at, shutdown_ack_tlv, shutdown_ack_text}
-use Rattle.dcsctp_chunk.specs.ShutdownComplete.{shutdown_complete_at, shutdown_complete_tlv, shutdown_complete_text, shutdown_complete_view}
-use Rattle.dcsctp_chunk.specs.Unknown.{UnknownTree, unknown_at, unknown_tlv, unknown_text, unknown_view}
-use Rattle.dcsctp_wire.specs.CauseList.{AbortTree, abort_row, abort_tlv, abort_text, abort_view, error_row, error_tlv, error_text, error_view}
-use Rattle.dcsctp_wire.specs.Init.{InitTree, init_row, init_numbers, init_tlv, init_text, init_view, init_ack_view}
-use Rattle.dcsctp_wire.specs.ParameterList.{parameter_list_row, parameter_list_tlv, heartbeat_request_text, heartbeat_request_view, heartbeat_ack_text, heartbeat_ack_view, re_config_text, re_config_view}
+use Rattle.dcsctp_chunk.specs.ForwardTsn.{ForwardTsnTree, forward_tsn_at, forward_tsn_bytes, forward_tsn_text, forward_tsn_view, IsForwardTsnInWidth, IsForwardTsnWellFormed, IsForwardTsnEncodable}
+use Rattle.dcsctp_chunk.specs.IDataChunk.{idata_at, idata_bytes, idata_text, idata_view, kept_idata, IsIDataInWidth, IsIDataWellFormed}
+use Rattle.dcsctp_chunk.specs.IForwardTsn.{IForwardTsnTree, iforward_tsn_at, iforward_tsn_bytes, iforward_tsn_text, iforward_tsn_view, IsIForwardTsnInWidth, IsIForwardTsnWellFormed, IsIForwardTsnEncodable}
+use Rattle.dcsctp_chunk.specs.Sack.{SackTree, sack_at, sack_bytes, sack_text, sack_view, IsSackInWidth}
+use Rattle.dcsctp_chunk.specs.Shutdown.{shutdown_at, shutdown_text, shutdown_view, IsShutdownInWidth}
+use Rattle.dcsctp_chunk.specs.ShutdownAck.{shutdown_ack_at, shutdown_ack_text}
+use Rattle.dcsctp_chunk.specs.ShutdownComplete.{shutdown_complete_at, shutdown_complete_text, shutdown_complete_view}
+use Rattle.dcsctp_chunk.specs.Unknown.{UnknownTree, unknown_at, unknown_text, unknown_view, IsUnknownInWidth}
+use Rattle.dcsctp_wire.specs.CauseList.{AbortTree, abort_row, abort_format, abort_view, error_row, error_format, error_view}
+use Rattle.dcsctp_wire.specs.Init.{InitTree, init_row, init_format, init_view, init_ack_view}
+use Rattle.dcsctp_wire.specs.ParameterList.{parameter_list_row, parameter_list_format, heartbeat_request_text, heartbeat_request_view, heartbeat_ack_text, heartbeat_ack_view, re_config_text, re_config_view}
 use Rattle.dcsctp_wire.specs.declared.packet.chunk.Chunk.{Chunk}
 use Rattle.dcsctp_wire.specs.declared.packet.chunk.Chunk.TheVariants as kinds
 
@@ -92,53 +90,95 @@ TakesNoMemory typ value =
     ⊎ (((typ ≡ 1) ⊎ (typ ≡ 2)) × (drop 16 value ≡ []))
     ⊎ (((typ ≡ 4) ⊎ (typ ≡ 5) ⊎ (typ ≡ 6) ⊎ (typ ≡ 130)) × (value ≡ []))
 
--- how each is written
-abbrev pub chunk_tlv : ChunkTree → Tlv
-chunk_tlv (Data c) = data_tlv c
-chunk_tlv (Init i) = init_tlv 1 i
-chunk_tlv (InitAck i) = init_tlv 2 i
-chunk_tlv (Sack s) = sack_tlv s
-chunk_tlv (HeartbeatRequest ps) = parameter_list_tlv 4 ps
-chunk_tlv (HeartbeatAck ps) = parameter_list_tlv 5 ps
-chunk_tlv (Abort a) = abort_tlv a
-chunk_tlv (Shutdown tsn) = shutdown_tlv tsn
-chunk_tlv ShutdownAck = shutdown_ack_tlv
-chunk_tlv (Error cs) = error_tlv cs
-chunk_tlv (CookieEcho cookie) = cookie_echo_tlv cookie
-chunk_tlv CookieAck = cookie_ack_tlv
-chunk_tlv (ShutdownComplete reflected) = shutdown_complete_tlv reflected
-chunk_tlv (IData c) = idata_tlv c
-chunk_tlv (ReConfig ps) = parameter_list_tlv 130 ps
-chunk_tlv (ForwardTsn f) = forward_tsn_tlv f
-chunk_tlv (IForwardTsn f) = iforward_tsn_tlv f
-chunk_tlv (Unknown u) = unknown_tlv u
+-- a value without a list
+abbrev plain_format : ℕ → ℕ → List ℕ → List ℕ → Type 0 → Type 0 → Format
+plain_format typ flags bytes text IsInWidth IsWellFormed = record {
+  tlv = solid_tlv typ flags bytes;
+  sized = length-solid bytes;
+  text = text;
+  IsInWidth = IsInWidth;
+  IsWellFormed = IsWellFormed;
+}
+
+-- what is said of a chunk; an Unknown one has a type that isn't named
+abbrev pub format : ChunkTree → Format
+format (Data c) =
+    plain_format 0 (user_data_flags c.user_data c.immediate_ack) (data_bytes c) (data_text c)
+    (IsDataInWidth c) (IsDataWellFormed c)
+format (Init i) = init_format 1 (codes "INIT") i
+format (InitAck i) = init_format 2 (codes "INIT-ACK") i
+format (Sack s) = plain_format 3 0 (sack_bytes s) (sack_text s) (IsSackInWidth s) (Unit {0})
+format (HeartbeatRequest ps) = parameter_list_format 4 heartbeat_request_text ps
+format (HeartbeatAck ps) = parameter_list_format 5 heartbeat_ack_text ps
+format (Abort a) = abort_format a
+format (Shutdown tsn) =
+    plain_format 7 0 (to_be_bytes w32 tsn) (shutdown_text tsn) (IsShutdownInWidth tsn) (Unit {0})
+format ShutdownAck = plain_format 8 0 [] shutdown_ack_text (Unit {0}) (Unit {0})
+format (Error cs) = error_format cs
+format (CookieEcho cookie) =
+    plain_format 10 0 cookie (cookie_echo_text cookie) (IsCookieEchoInWidth cookie)
+    (IsCookieEchoWellFormed cookie)
+format CookieAck = plain_format 11 0 [] cookie_ack_text (Unit {0}) (Unit {0})
+format (ShutdownComplete reflected) =
+    plain_format 14 (flag_byte (reflected ∷ [])) [] (shutdown_complete_text reflected) (Unit {0})
+    (Unit {0})
+format (IData c) =
+    plain_format 64 (user_data_flags c.user_data c.immediate_ack) (idata_bytes c) (idata_text c)
+    (IsIDataInWidth c) (IsIDataWellFormed c)
+format (ReConfig ps) = parameter_list_format 130 re_config_text ps
+format (ForwardTsn f) =
+    plain_format 192 0 (forward_tsn_bytes f) (forward_tsn_text f) (IsForwardTsnInWidth f)
+    (IsForwardTsnWellFormed f)
+format (IForwardTsn f) =
+    plain_format 194 0 (iforward_tsn_bytes f) (iforward_tsn_text f) (IsIForwardTsnInWidth f)
+    (IsIForwardTsnWellFormed f)
+format (Unknown u) =
+    plain_format u.typ u.flags u.value (unknown_text u) (IsUnknownInWidth u)
+    (IsUnnamed (table u.flags) u.typ)
+
+abbrev pub tlv : ChunkTree → Tlv
+tlv t = (format t).tlv
+
+abbrev pub text : ChunkTree → List ℕ
+text t = (format t).text
+
+abbrev pub IsInWidth : ChunkTree → Type 0
+IsInWidth t = (format t).IsInWidth
+
+abbrev pub IsWellFormed : ChunkTree → Type 0
+IsWellFormed t = (format t).IsWellFormed
 
 -- It can be written: two bytes can hold its size, and skipped streams have a place in it.
 abbrev pub IsChunkEncodable : ChunkTree → Type 0
 IsChunkEncodable (ForwardTsn f) = IsForwardTsnEncodable f
 IsChunkEncodable (IForwardTsn f) = IsIForwardTsnEncodable f
-IsChunkEncodable t = IsEncodable (chunk_tlv t)
+IsChunkEncodable t = IsEncodable (tlv t)
 
--- how each is printed
-abbrev pub chunk_text : ChunkTree → List ℕ
-chunk_text (Data c) = data_text c
-chunk_text (Init i) = init_text (codes "INIT") i
-chunk_text (InitAck i) = init_text (codes "INIT-ACK") i
-chunk_text (Sack s) = sack_text s
-chunk_text (HeartbeatRequest ps) = heartbeat_request_text
-chunk_text (HeartbeatAck ps) = heartbeat_ack_text
-chunk_text (Abort a) = abort_text a
-chunk_text (Shutdown tsn) = shutdown_text tsn
-chunk_text ShutdownAck = shutdown_ack_text
-chunk_text (Error cs) = error_text
-chunk_text (CookieEcho cookie) = cookie_echo_text cookie
-chunk_text CookieAck = cookie_ack_text
-chunk_text (ShutdownComplete reflected) = shutdown_complete_text reflected
-chunk_text (IData c) = idata_text c
-chunk_text (ReConfig ps) = re_config_text
-chunk_text (ForwardTsn f) = forward_tsn_text f
-chunk_text (IForwardTsn f) = iforward_tsn_text f
-chunk_text (Unknown u) = unknown_text u
+-- What a chunk that is written reads back as: fields that a kind doesn't carry are zero; a response
+-- with fewer than two next TSNs has none.
+abbrev pub kept : ChunkTree → ChunkTree
+kept (Data c) = Data (kept_data c)
+kept (Init i) = Init (record i { parameters = kept_parameters i.parameters })
+kept (InitAck i) = InitAck (record i { parameters = kept_parameters i.parameters })
+kept (HeartbeatRequest ps) = HeartbeatRequest (kept_parameters ps)
+kept (HeartbeatAck ps) = HeartbeatAck (kept_parameters ps)
+kept (IData c) = IData (kept_idata c)
+kept (ReConfig ps) = ReConfig (kept_parameters ps)
+kept t = t
+
+abbrev pub all_kept : List ChunkTree → List ChunkTree
+all_kept ts = map kept ts
+
+-- how many parts it has: itself, and the parameters or causes in it
+abbrev pub parts : ChunkTree → ℕ
+parts (Init i) = 1 + length i.parameters
+parts (InitAck i) = 1 + length i.parameters
+parts (HeartbeatRequest ps) = 1 + length ps
+parts (HeartbeatAck ps) = 1 + length ps
+parts (Abort a) = 1 + length a.causes
+parts (Error cs) = 1 + length cs
+parts (ReConfig ps) = 1 + length ps
+parts t = 1
 
 -- a chunk of the code, without where it lies in memory
 abbrev pub view : Chunk → ChunkTree
@@ -164,28 +204,11 @@ view (kinds.Unknown c) = Unknown (unknown_view c)
 abbrev pub views : List Chunk → List ChunkTree
 views cs = map view cs
 
-pub encodable_size : (t : ChunkTree) → IsChunkEncodable t → IsEncodable (chunk_tlv t)
+pub encodable_size : (t : ChunkTree) → IsChunkEncodable t → IsEncodable (tlv t)
 encodable_size (ForwardTsn f) h = h.size
 encodable_size (IForwardTsn f) h = h.size
 encodable_size t h = h
 
 -- an image is as long as its size
-pub length-chunk : (t : ChunkTree) → length (image_of (chunk_tlv t)) ≡ size_of (chunk_tlv t)
-length-chunk (Data c) = length-solid_tlv 0 (user_data_flags c.user_data c.immediate_ack) (data_bytes c)
-length-chunk (Init i) = length-listed_tlv parameter_tlv length-parameter 1 0 (init_numbers i) i.parameters
-length-chunk (InitAck i) = length-listed_tlv parameter_tlv length-parameter 2 0 (init_numbers i) i.parameters
-length-chunk (Sack s) = length-solid_tlv 3 0 (sack_bytes s)
-length-chunk (HeartbeatRequest ps) = length-listed_tlv parameter_tlv length-parameter 4 0 [] ps
-length-chunk (HeartbeatAck ps) = length-listed_tlv parameter_tlv length-parameter 5 0 [] ps
-length-chunk (Abort a) = length-listed_tlv cause_tlv length-cause 6 (flag_byte (a.tag_reflected ∷ [])) [] a.causes
-length-chunk (Shutdown tsn) = length-solid_tlv 7 0 (to_be_bytes w32 tsn)
-length-chunk ShutdownAck = length-solid_tlv 8 0 []
-length-chunk (Error cs) = length-listed_tlv cause_tlv length-cause 9 0 [] cs
-length-chunk (CookieEcho cookie) = length-solid_tlv 10 0 cookie
-length-chunk CookieAck = length-solid_tlv 11 0 []
-length-chunk (ShutdownComplete reflected) = length-solid_tlv 14 (flag_byte (reflected ∷ [])) []
-length-chunk (IData c) = length-solid_tlv 64 (user_data_flags c.user_data c.immediate_ack) (idata_bytes c)
-length-chunk (ReConfig ps) = length-listed_tlv parameter_tlv length-parameter 130 0 [] ps
-length-chunk (ForwardTsn f) = length-solid_tlv 192 0 (forward_tsn_bytes f)
-length-chunk (IForwardTsn f) = length-solid_tlv 194 0 (iforward_tsn_bytes f)
-length-chunk (Unknown u) = length-solid_tlv u.typ u.flags u.value
+pub length-chunk : (t : ChunkTree) → length (image_of (tlv t)) ≡ size_of (tlv t)
+length-chunk t = length-format (format t)

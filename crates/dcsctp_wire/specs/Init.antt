@@ -5,6 +5,9 @@ use Rattle.std.specs.List.{AllByRecursion}
 use Rattle.std.specs.Fmt.{decimal}
 use Rattle.std.specs.Int.{w16, w32, to_be_bytes}
 use Rattle.dcsctp_tlv.specs.Number.{number16, number32}
+use Rattle.dcsctp_tlv.specs.Format.{Format}
+use Rattle.dcsctp_tlv.proofs.Listed.{listed_sized}
+use Rattle.dcsctp_tlv.proofs.ParameterLaws.{length-parameter}
 use Rattle.dcsctp_tlv.specs.Level.{Row, listed}
 use Rattle.dcsctp_tlv.specs.Image.{Tlv, listed_tlv}
 use Rattle.dcsctp_tlv.specs.Parameter.{ParameterTree, parameters, tlv as parameter_tlv, IsInWidth as IsParameterInWidth}
@@ -48,6 +51,25 @@ init_tlv typ i = listed_tlv typ 0 (init_numbers i) parameter_tlv i.parameters
 abbrev pub init_text : List ℕ → InitTree → List ℕ
 init_text name i = name ++ (codes ", initiate_tag=" ++ (decimal i.tag ++ (codes ", initial_tsn=" ++ decimal i.tsn)))
 
+-- every number lies in its field's width
+pub record IsInitInWidth (i : InitTree) : Type 0 where
+  pub tag : i.tag < 2 ^ 32
+  pub window : i.window < 2 ^ 32
+  pub outbound : i.outbound < 2 ^ 16
+  pub inbound : i.inbound < 2 ^ 16
+  pub tsn : i.tsn < 2 ^ 32
+  pub each : AllByRecursion IsParameterInWidth i.parameters
+
+-- what is said of such a chunk, after its type and its name
+abbrev pub init_format : ℕ → List ℕ → InitTree → Format
+init_format typ name i = record {
+  tlv = init_tlv typ i;
+  sized = listed_sized parameter_tlv length-parameter typ 0 (init_numbers i) i.parameters;
+  text = init_text name i;
+  IsInWidth = IsInitInWidth i;
+  IsWellFormed = AllByRecursion parameter.IsWellFormed i.parameters;
+}
+
 abbrev pub init_fields_view : InitFields → InitTree
 init_fields_view c = record {
   tag = c.initiate_tag;
@@ -77,12 +99,3 @@ init_ack_view c = record {
   tsn = c.initial_tsn.0;
   parameters = parameter.views c.parameters.items;
 }
-
--- every number lies in its field's width
-pub record IsInitInWidth (i : InitTree) : Type 0 where
-  pub tag : i.tag < 2 ^ 32
-  pub window : i.window < 2 ^ 32
-  pub outbound : i.outbound < 2 ^ 16
-  pub inbound : i.inbound < 2 ^ 16
-  pub tsn : i.tsn < 2 ^ 32
-  pub each : AllByRecursion IsParameterInWidth i.parameters

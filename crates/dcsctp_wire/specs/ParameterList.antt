@@ -1,6 +1,10 @@
 -- Chunks whose value is a list of parameters, and nothing else; flags ignored: HEARTBEAT, type 4
 -- (RFC 9260 section 3.3.5), HEARTBEAT ACK, type 5 (3.3.6), RE-CONFIG, type 130 (RFC 6525 section 3.1).
 use Rattle.std.specs.Prelude.{ℕ, true, List, [], codes}
+use Rattle.std.specs.List.{AllByRecursion}
+use Rattle.dcsctp_tlv.specs.Format.{Format}
+use Rattle.dcsctp_tlv.proofs.Listed.{listed_sized}
+use Rattle.dcsctp_tlv.proofs.ParameterLaws.{length-parameter}
 use Rattle.dcsctp_tlv.specs.Level.{Row, listed}
 use Rattle.dcsctp_tlv.specs.Image.{Tlv, listed_tlv}
 use Rattle.dcsctp_tlv.specs.Parameter.{ParameterTree, parameters, tlv as parameter_tlv}
@@ -12,6 +16,16 @@ use Rattle.dcsctp_wire.specs.declared.packet.re_config_chunk.ReConfigChunk.{ReCo
 -- any list, the empty one too
 abbrev pub parameter_list_row : Row (List ParameterTree)
 parameter_list_row = listed (λ value. true) 0 parameters (λ value ps. ps)
+
+-- what is said of such a chunk, after its type and its name
+abbrev pub parameter_list_format : ℕ → List ℕ → List ParameterTree → Format
+parameter_list_format typ name ps = record {
+  tlv = listed_tlv typ 0 [] parameter_tlv ps;
+  sized = listed_sized parameter_tlv length-parameter typ 0 [] ps;
+  text = name;
+  IsInWidth = AllByRecursion parameter.IsInWidth ps;
+  IsWellFormed = AllByRecursion parameter.IsWellFormed ps;
+}
 
 abbrev pub parameter_list_tlv : ℕ → List ParameterTree → Tlv
 parameter_list_tlv typ ps = listed_tlv typ 0 [] parameter_tlv ps

@@ -3,8 +3,7 @@ use Rattle.dcsctp_tlv.proofs.Readings.{finds_as}
 use Rattle.dcsctp_wire.specs.Init.{init_row, init_parts}
 use Rattle.dcsctp_wire.specs.ParameterList.{parameter_list_row}
 use Rattle.dcsctp_wire.specs.CauseList.{abort_row, error_row}
-use Rattle.dcsctp_wire.specs.Account.{chunk_parts}
-use Rattle.dcsctp_wire.specs.Chunk.{Init, InitAck, HeartbeatRequest, HeartbeatAck, Abort, Error, ReConfig}
+use Rattle.dcsctp_wire.specs.Chunk.{parts as chunk_parts, Init, InitAck, HeartbeatRequest, HeartbeatAck, Abort, Error, ReConfig}
 use Rattle.dcsctp_wire.proofs.PlainRows.{plain_stands}
 use Rattle.dcsctp_wire.proofs.packet.chunk.ChunkReadableTlv.check.Goals as goal
 
