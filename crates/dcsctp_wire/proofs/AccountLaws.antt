@@ -19,9 +19,10 @@ use Rattle.dcsctp_cause.proofs.CauseLaws.{causes_account, causes_count}
 use Rattle.dcsctp_chunk.proofs.Laws.{data_keeps_size, idata_keeps_size, shutdown_keeps_size, shutdown_ack_keeps_size, shutdown_complete_keeps_size, cookie_echo_keeps_size, cookie_ack_keeps_size, unknown_keeps_size}
 use Rattle.dcsctp_chunk.proofs.SackLaws.{sack_keeps_size}
 use Rattle.dcsctp_chunk.proofs.ForwardTsnLaws.{forward_tsn_keeps_size, iforward_tsn_keeps_size}
-use Rattle.dcsctp_wire.specs.Init.{InitTree, init_row}
-use Rattle.dcsctp_wire.specs.ParameterList.{parameter_list_row}
-use Rattle.dcsctp_wire.specs.CauseList.{AbortTree, abort_row, error_row}
+use Rattle.dcsctp_wire.specs.InitFields.{Tree as InitTree, row as init_row}
+use Rattle.dcsctp_wire.specs.ParameterList.{row as parameter_list_row}
+use Rattle.dcsctp_wire.specs.Abort.{Tree as AbortTree, row as abort_row}
+use Rattle.dcsctp_wire.specs.Error.{row as error_row}
 use Rattle.dcsctp_wire.specs.Chunk.{ChunkTree, Data, Init, InitAck, Sack, HeartbeatRequest, HeartbeatAck, Abort, Shutdown, ShutdownAck, Error, CookieEcho, CookieAck, ShutdownComplete, ReConfig, ForwardTsn, IData, IForwardTsn, Unknown, table, chunks, chunk_row, tlv as chunk_tlv, parts as chunk_parts}
 use Rattle.dcsctp_wire.specs.Account.{AreTextsKept}
 

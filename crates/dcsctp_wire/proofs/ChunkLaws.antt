@@ -5,7 +5,7 @@ use Rattle.std.specs.List.{AllByRecursion}
 use Rattle.std.proofs.lemmas.Bool.{le-leb, ne_eqb}
 use Rattle.std.proofs.lemmas.Nat.{from_be_bytes-to_be_bytes_2, from_be_bytes-to_be_bytes_4}
 use Rattle.dcsctp_tlv.specs.Level.{plain, as_row, map_ok, MeansTrees}
-use Rattle.dcsctp_tlv.specs.Image.{zeroed, image_of, list_image, IsEncodable}
+use Rattle.dcsctp_tlv.specs.Image.{Tlv, zeroed, image_of, list_image, IsEncodable}
 use Rattle.dcsctp_tlv.specs.Parameter.{ParameterTree, parameters, tlv as parameter_tlv, IsInWidth as IsParameterInWidth, IsWellFormed as IsParameterWellFormed}
 use Rattle.dcsctp_tlv.specs.Table.{IsUnnamed}
 use Rattle.dcsctp_tlv.proofs.Tables.{of_table, of_others, ◌&◌}
@@ -20,30 +20,66 @@ use Rattle.dcsctp_chunk.proofs.FlagLaws.{one_again}
 use Rattle.dcsctp_chunk.proofs.Laws.{shutdown_laws, shutdown_ack_laws, shutdown_complete_laws, cookie_echo_laws, cookie_ack_laws, data_laws, idata_laws}
 use Rattle.dcsctp_chunk.proofs.SackLaws.{sack_laws}
 use Rattle.dcsctp_chunk.proofs.ForwardTsnLaws.{forward_tsn_laws, iforward_tsn_laws}
-use Rattle.dcsctp_wire.specs.Init.{InitTree, init_row, init_tlv, IsInitInWidth}
-use Rattle.dcsctp_wire.specs.ParameterList.{parameter_list_row, parameter_list_tlv}
-use Rattle.dcsctp_wire.specs.CauseList.{AbortTree, abort_row, abort_tlv, error_row, error_tlv}
+use Rattle.dcsctp_wire.specs.InitFields.{Tree as InitTree, row as init_row, IsInWidth as IsInitInWidth, format as init_format}
+use Rattle.dcsctp_wire.specs.ParameterList.{row as parameter_list_row, format as parameter_list_format}
+use Rattle.dcsctp_wire.specs.Abort.{Tree as AbortTree, row as abort_row, format as abort_format}
+use Rattle.dcsctp_wire.specs.Error.{row as error_row, format as error_format}
 use Rattle.dcsctp_wire.specs.Chunk.{ChunkTree, Data, Init, InitAck, Sack, HeartbeatRequest, HeartbeatAck, Abort, Shutdown, ShutdownAck, Error, CookieEcho, CookieAck, ShutdownComplete, ReConfig, ForwardTsn, IData, IForwardTsn, Unknown, table, chunks, chunk_row, format, tlv as chunk_tlv, IsChunkEncodable, encodable_size, IsInWidth as IsChunkInWidth, IsWellFormed as IsChunkWellFormed}
 
 -- ---- kinds with a list
 
-init_means : (typ : ℕ) (i : InitTree) → IsInitInWidth i → AllByRecursion IsParameterWellFormed i.parameters → IsEncodable (init_tlv typ i) → init_row.means (zeroed (init_tlv typ i).value) i
+-- how a kind with parameters is written, whatever its name
+abbrev init_tlv : ℕ → InitTree → Tlv
+init_tlv typ i = (init_format typ [] i).tlv
+
+abbrev parameter_list_tlv : ℕ → List ParameterTree → Tlv
+parameter_list_tlv typ ps = (parameter_list_format typ [] ps).tlv
+
+init_means : (typ : ℕ) (i : InitTree) → IsInitInWidth i
+    → AllByRecursion IsParameterWellFormed i.parameters → IsEncodable (init_tlv typ i)
+    → init_row.means (zeroed (init_tlv typ i).value) i
 init_means typ i width formed fits = (
   le-leb 16 (length (zeroed (init_tlv typ i).value)) (omega arith),
   (
     i.parameters,
-    nested_reads_back parameters parameter_tlv IsGoodParameter parameters_read_back i.parameters (good_parameters i.parameters width.each formed (omega (arith, fits))) (λ n. refl) (λ n. refl),
-    rw (from_be_bytes-to_be_bytes_4 i.tag width.tag, from_be_bytes-to_be_bytes_4 i.window width.window, from_be_bytes-to_be_bytes_2 i.outbound width.outbound, from_be_bytes-to_be_bytes_2 i.inbound width.inbound, from_be_bytes-to_be_bytes_4 i.tsn width.tsn) refl,
+    nested_reads_back parameters parameter_tlv IsGoodParameter parameters_read_back i.parameters
+        (good_parameters i.parameters width.each formed (omega (arith, fits))) (λ n. refl)
+        (λ n. refl),
+    rw (
+      from_be_bytes-to_be_bytes_4 i.tag width.tag,
+      from_be_bytes-to_be_bytes_4 i.window width.window,
+      from_be_bytes-to_be_bytes_2 i.outbound width.outbound,
+      from_be_bytes-to_be_bytes_2 i.inbound width.inbound,
+      from_be_bytes-to_be_bytes_4 i.tsn width.tsn,
+    ) refl,
   ),
 )
 
-parameter_list_means : (typ : ℕ) (ps : List ParameterTree) → AllByRecursion IsParameterInWidth ps → AllByRecursion IsParameterWellFormed ps → IsEncodable (parameter_list_tlv typ ps) → parameter_list_row.means (zeroed (parameter_list_tlv typ ps).value) ps
-parameter_list_means typ ps width formed fits =
-    (refl, (ps, nested_reads_back parameters parameter_tlv IsGoodParameter parameters_read_back ps (good_parameters ps width formed (omega (arith, fits))) (λ n. refl) (λ n. refl), refl))
+parameter_list_means : (typ : ℕ) (ps : List ParameterTree) → AllByRecursion IsParameterInWidth ps
+    → AllByRecursion IsParameterWellFormed ps → IsEncodable (parameter_list_tlv typ ps)
+    → parameter_list_row.means (zeroed (parameter_list_tlv typ ps).value) ps
+parameter_list_means typ ps width formed fits = (
+  refl,
+  (
+    ps,
+    nested_reads_back parameters parameter_tlv IsGoodParameter parameters_read_back ps
+        (good_parameters ps width formed (omega (arith, fits))) (λ n. refl) (λ n. refl),
+    refl,
+  ),
+)
 
-abort_means : (a : AbortTree) → AllByRecursion IsCauseInWidth a.causes → AllByRecursion IsCauseWellFormed a.causes → IsEncodable (abort_tlv a) → (abort_row (abort_tlv a).second).means (zeroed (abort_tlv a).value) a
-abort_means a width formed fits =
-    (refl, (a.causes, nested_reads_back causes cause_tlv IsGoodCause causes_read_back a.causes (good_causes a.causes width formed (omega (arith, fits))) (λ n. refl) (λ n. refl), rw (one_again a.tag_reflected) refl))
+abort_means : (a : AbortTree) → AllByRecursion IsCauseInWidth a.causes
+    → AllByRecursion IsCauseWellFormed a.causes → IsEncodable (abort_format a).tlv
+    → (abort_row (abort_format a).tlv.second).means (zeroed (abort_format a).tlv.value) a
+abort_means a width formed fits = (
+  refl,
+  (
+    a.causes,
+    nested_reads_back causes cause_tlv IsGoodCause causes_read_back a.causes
+        (good_causes a.causes width formed (omega (arith, fits))) (λ n. refl) (λ n. refl),
+    rw (one_again a.tag_reflected) refl,
+  ),
+)
 
 -- a list of causes that is written isn't empty
 some_bytes : (cs : List CauseTree) → cs ≢ [] → (length (zeroed (list_image cause_tlv cs)) == 0) ≡ false
@@ -52,9 +88,18 @@ some_bytes [] some = absurd (some refl)
 some_bytes (c ∷ []) some = ne_eqb (length (zeroed (list_image cause_tlv (c ∷ [])))) 0 (λ e. omega (arith, e))
 some_bytes (c ∷ d ∷ cs) some = ne_eqb (length (zeroed (list_image cause_tlv (c ∷ d ∷ cs)))) 0 (λ e. omega (arith, e))
 
-error_means : (cs : List CauseTree) → AllByRecursion IsCauseInWidth cs → (cs ≢ []) × AllByRecursion IsCauseWellFormed cs → IsEncodable (error_tlv cs) → error_row.means (zeroed (error_tlv cs).value) cs
-error_means cs width formed fits =
-    (rw (some_bytes cs formed.0) refl, (cs, nested_reads_back causes cause_tlv IsGoodCause causes_read_back cs (good_causes cs width formed.1 (omega (arith, fits))) (λ n. refl) (λ n. refl), refl))
+error_means : (cs : List CauseTree) → AllByRecursion IsCauseInWidth cs
+    → (cs ≢ []) × AllByRecursion IsCauseWellFormed cs → IsEncodable (error_format cs).tlv
+    → error_row.means (zeroed (error_format cs).tlv.value) cs
+error_means cs width formed fits = (
+  rw (some_bytes cs formed.0) refl,
+  (
+    cs,
+    nested_reads_back causes cause_tlv IsGoodCause causes_read_back cs
+        (good_causes cs width formed.1 (omega (arith, fits))) (λ n. refl) (λ n. refl),
+    refl,
+  ),
+)
 
 -- ---- each kind reads back
 

@@ -7,7 +7,7 @@ use Rattle.dcsctp_tlv.specs.Parameter.{ParameterTree, tlv as parameter_tlv, kept
 use Rattle.dcsctp_tlv.proofs.Kept.{listed_tlv-kept}
 use Rattle.dcsctp_tlv.proofs.ParameterLaws.{kept_parameter_tlv, kept_parameters_width}
 use Rattle.dcsctp_chunk.proofs.Laws.{data_kept_tlv, data_kept_width, idata_kept_tlv, idata_kept_width}
-use Rattle.dcsctp_wire.specs.Init.{init_numbers}
+use Rattle.dcsctp_wire.specs.InitFields.{leading as init_numbers}
 use Rattle.dcsctp_wire.specs.Chunk.{ChunkTree, Data, Init, InitAck, HeartbeatRequest, HeartbeatAck, ReConfig, IData, tlv as chunk_tlv, IsChunkEncodable, IsInWidth as IsChunkInWidth, kept as kept_chunk, all_kept as kept_chunks}
 use Rattle.dcsctp_wire.specs.Canonical.{canonical, padded_chunk}
 use Rattle.dcsctp_wire.specs.Packet.{Meaning}

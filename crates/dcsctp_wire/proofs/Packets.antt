@@ -16,10 +16,10 @@ use Rattle.dcsctp_tlv.specs.Parameter.{parameters}
 use Rattle.dcsctp_tlv.proofs.ParameterLaws.{parameters_lawful}
 use Rattle.dcsctp_cause.specs.Cause.{causes}
 use Rattle.dcsctp_cause.proofs.CauseLaws.{causes_lawful}
-use Rattle.dcsctp_chunk.specs.Flags.{is_set}
-use Rattle.dcsctp_wire.specs.Init.{init_of, init_row}
-use Rattle.dcsctp_wire.specs.ParameterList.{parameter_list_row}
-use Rattle.dcsctp_wire.specs.CauseList.{abort_row, error_row}
+use Rattle.dcsctp_wire.specs.InitFields.{tree_of as init_of, row as init_row}
+use Rattle.dcsctp_wire.specs.ParameterList.{row as parameter_list_row}
+use Rattle.dcsctp_wire.specs.Abort.{tree_of as abort_of, row as abort_row}
+use Rattle.dcsctp_wire.specs.Error.{row as error_row}
 use Rattle.dcsctp_wire.specs.Chunk.{Init, InitAck, HeartbeatRequest, HeartbeatAck, Abort, Error, ReConfig, table, chunks}
 use Rattle.dcsctp_wire.specs.Packet.{PacketTree, HasPacketSize, IsAccepted, disabled, alternate, equal, checksum_field, body, IsOpened, MeansPacket, packet_with, PacketFault, Size, Checksum, Chunk, Answer, ReadsFault}
 
@@ -38,7 +38,7 @@ parameter_list_lawful : LawfulRow parameter_list_row
 parameter_list_lawful = listed_lawful _ 0 parameters (λ value ps. ps) parameters_lawful
 
 abort_lawful : (flags : ℕ) → LawfulRow (abort_row flags)
-abort_lawful flags = listed_lawful _ 0 causes (λ value cs. record { tag_reflected = is_set flags 0; causes = cs }) causes_lawful
+abort_lawful flags = listed_lawful _ 0 causes (λ value cs. abort_of flags cs) causes_lawful
 
 error_lawful : LawfulRow error_row
 error_lawful = listed_lawful _ 0 causes (λ value cs. cs) causes_lawful

@@ -1,5 +1,5 @@
 -- The table of chunks (RFC 9260 section 3.2).
-use Rattle.std.specs.Prelude.{◌≡◌, ◌⊎◌, ℕ, ◌+◌, Bool, List, [], ◌∷◌, length, drop, map, codes}
+use Rattle.std.specs.Prelude.{◌≡◌, ◌⊎◌, ℕ, ◌+◌, Bool, List, [], ◌∷◌, length, drop, map}
 use Rattle.std.specs.Int.{w32, to_be_bytes}
 use Rattle.dcsctp_tlv.specs.Frame.{lenient}
 use Rattle.dcsctp_tlv.specs.Level.{Row, plain, as_row, Level, map_ok}
@@ -22,21 +22,19 @@ use Rattle.dcsctp_chunk.specs.Shutdown.{shutdown_at, shutdown_text, shutdown_vie
 use Rattle.dcsctp_chunk.specs.ShutdownAck.{shutdown_ack_at, shutdown_ack_text}
 use Rattle.dcsctp_chunk.specs.ShutdownComplete.{shutdown_complete_at, shutdown_complete_text, shutdown_complete_view}
 use Rattle.dcsctp_chunk.specs.Unknown.{UnknownTree, unknown_at, unknown_text, unknown_view, IsUnknownInWidth}
-use Rattle.dcsctp_wire.specs.CauseList.{AbortTree, abort_row, abort_format, abort_view, error_row, error_format, error_view}
-use Rattle.dcsctp_wire.specs.Init.{InitTree, init_row, init_format, init_view, init_ack_view}
-use Rattle.dcsctp_wire.specs.ParameterList.{parameter_list_row, parameter_list_format, heartbeat_request_text, heartbeat_request_view, heartbeat_ack_text, heartbeat_ack_view, re_config_text, re_config_view}
+use Rattle.dcsctp_wire.specs as kind
 use Rattle.dcsctp_wire.specs.declared.packet.chunk.Chunk.{Chunk}
-use Rattle.dcsctp_wire.specs.declared.packet.chunk.Chunk.TheVariants as kinds
+use Rattle.dcsctp_wire.specs.declared.packet.chunk.Chunk.TheVariants as variant
 
 -- a chunk as plain data
 pub data ChunkTree : Type 0 where
   Data : DataChunkTree → ChunkTree
-  Init : InitTree → ChunkTree
-  InitAck : InitTree → ChunkTree
+  Init : kind.InitFields.Tree → ChunkTree
+  InitAck : kind.InitFields.Tree → ChunkTree
   Sack : SackTree → ChunkTree
   HeartbeatRequest : List ParameterTree → ChunkTree
   HeartbeatAck : List ParameterTree → ChunkTree
-  Abort : AbortTree → ChunkTree
+  Abort : kind.Abort.Tree → ChunkTree
   Shutdown : ℕ → ChunkTree
   ShutdownAck : ChunkTree
   Error : List CauseTree → ChunkTree
@@ -57,20 +55,20 @@ nested typ tree row = record { typ = typ; row = as_row tree row }
 abbrev pub table : ℕ → List (Named ChunkTree)
 table flags =
     named 0 Data (data_at flags) ∷
-    nested 1 Init init_row ∷
-    nested 2 InitAck init_row ∷
+    nested 1 Init kind.InitFields.row ∷
+    nested 2 InitAck kind.InitFields.row ∷
     named 3 Sack sack_at ∷
-    nested 4 HeartbeatRequest parameter_list_row ∷
-    nested 5 HeartbeatAck parameter_list_row ∷
-    nested 6 Abort (abort_row flags) ∷
+    nested 4 HeartbeatRequest kind.ParameterList.row ∷
+    nested 5 HeartbeatAck kind.ParameterList.row ∷
+    nested 6 Abort (kind.Abort.row flags) ∷
     named 7 Shutdown shutdown_at ∷
     named 8 (λ _. ShutdownAck) shutdown_ack_at ∷
-    nested 9 Error error_row ∷
+    nested 9 Error kind.Error.row ∷
     named 10 CookieEcho cookie_echo_at ∷
     named 11 (λ _. CookieAck) cookie_ack_at ∷
     named 14 ShutdownComplete (shutdown_complete_at flags) ∷
     named 64 IData (idata_at flags) ∷
-    nested 130 ReConfig parameter_list_row ∷
+    nested 130 ReConfig kind.ParameterList.row ∷
     named 192 ForwardTsn forward_tsn_at ∷
     named 194 IForwardTsn iforward_tsn_at ∷ []
 
@@ -105,16 +103,16 @@ abbrev pub format : ChunkTree → Format
 format (Data c) =
     plain_format 0 (user_data_flags c.user_data c.immediate_ack) (data_bytes c) (data_text c)
     (IsDataInWidth c) (IsDataWellFormed c)
-format (Init i) = init_format 1 (codes "INIT") i
-format (InitAck i) = init_format 2 (codes "INIT-ACK") i
+format (Init i) = kind.Init.format i
+format (InitAck i) = kind.InitAck.format i
 format (Sack s) = plain_format 3 0 (sack_bytes s) (sack_text s) (IsSackInWidth s) (Unit {0})
-format (HeartbeatRequest ps) = parameter_list_format 4 heartbeat_request_text ps
-format (HeartbeatAck ps) = parameter_list_format 5 heartbeat_ack_text ps
-format (Abort a) = abort_format a
+format (HeartbeatRequest ps) = kind.HeartbeatRequest.format ps
+format (HeartbeatAck ps) = kind.HeartbeatAck.format ps
+format (Abort a) = kind.Abort.format a
 format (Shutdown tsn) =
     plain_format 7 0 (to_be_bytes w32 tsn) (shutdown_text tsn) (IsShutdownInWidth tsn) (Unit {0})
 format ShutdownAck = plain_format 8 0 [] shutdown_ack_text (Unit {0}) (Unit {0})
-format (Error cs) = error_format cs
+format (Error cs) = kind.Error.format cs
 format (CookieEcho cookie) =
     plain_format 10 0 cookie (cookie_echo_text cookie) (IsCookieEchoInWidth cookie)
     (IsCookieEchoWellFormed cookie)
@@ -125,7 +123,7 @@ format (ShutdownComplete reflected) =
 format (IData c) =
     plain_format 64 (user_data_flags c.user_data c.immediate_ack) (idata_bytes c) (idata_text c)
     (IsIDataInWidth c) (IsIDataWellFormed c)
-format (ReConfig ps) = parameter_list_format 130 re_config_text ps
+format (ReConfig ps) = kind.ReConfig.format ps
 format (ForwardTsn f) =
     plain_format 192 0 (forward_tsn_bytes f) (forward_tsn_text f) (IsForwardTsnInWidth f)
     (IsForwardTsnWellFormed f)
@@ -171,8 +169,8 @@ all_kept ts = map kept ts
 
 -- how many parts it has: itself, and the parameters or causes in it
 abbrev pub parts : ChunkTree → ℕ
-parts (Init i) = 1 + length i.parameters
-parts (InitAck i) = 1 + length i.parameters
+parts (Init i) = kind.InitFields.parts i
+parts (InitAck i) = kind.InitFields.parts i
 parts (HeartbeatRequest ps) = 1 + length ps
 parts (HeartbeatAck ps) = 1 + length ps
 parts (Abort a) = 1 + length a.causes
@@ -182,24 +180,24 @@ parts t = 1
 
 -- a chunk of the code, without where it lies in memory
 abbrev pub view : Chunk → ChunkTree
-view (kinds.Data c) = Data (data_view c)
-view (kinds.Init c) = Init (init_view c)
-view (kinds.InitAck c) = InitAck (init_ack_view c)
-view (kinds.Sack c) = Sack (sack_view c)
-view (kinds.HeartbeatRequest c) = HeartbeatRequest (heartbeat_request_view c)
-view (kinds.HeartbeatAck c) = HeartbeatAck (heartbeat_ack_view c)
-view (kinds.Abort c) = Abort (abort_view c)
-view (kinds.Shutdown c) = Shutdown (shutdown_view c)
-view (kinds.ShutdownAck c) = ShutdownAck
-view (kinds.Error c) = Error (error_view c)
-view (kinds.CookieEcho c) = CookieEcho (cookie_echo_view c)
-view (kinds.CookieAck c) = CookieAck
-view (kinds.ShutdownComplete c) = ShutdownComplete (shutdown_complete_view c)
-view (kinds.IData c) = IData (idata_view c)
-view (kinds.ReConfig c) = ReConfig (re_config_view c)
-view (kinds.ForwardTsn c) = ForwardTsn (forward_tsn_view c)
-view (kinds.IForwardTsn c) = IForwardTsn (iforward_tsn_view c)
-view (kinds.Unknown c) = Unknown (unknown_view c)
+view (variant.Data c) = Data (data_view c)
+view (variant.Init c) = Init (kind.Init.view c)
+view (variant.InitAck c) = InitAck (kind.InitAck.view c)
+view (variant.Sack c) = Sack (sack_view c)
+view (variant.HeartbeatRequest c) = HeartbeatRequest (kind.HeartbeatRequest.view c)
+view (variant.HeartbeatAck c) = HeartbeatAck (kind.HeartbeatAck.view c)
+view (variant.Abort c) = Abort (kind.Abort.view c)
+view (variant.Shutdown c) = Shutdown (shutdown_view c)
+view (variant.ShutdownAck c) = ShutdownAck
+view (variant.Error c) = Error (kind.Error.view c)
+view (variant.CookieEcho c) = CookieEcho (cookie_echo_view c)
+view (variant.CookieAck c) = CookieAck
+view (variant.ShutdownComplete c) = ShutdownComplete (shutdown_complete_view c)
+view (variant.IData c) = IData (idata_view c)
+view (variant.ReConfig c) = ReConfig (kind.ReConfig.view c)
+view (variant.ForwardTsn c) = ForwardTsn (forward_tsn_view c)
+view (variant.IForwardTsn c) = IForwardTsn (iforward_tsn_view c)
+view (variant.Unknown c) = Unknown (unknown_view c)
 
 abbrev pub views : List Chunk → List ChunkTree
 views cs = map view cs
