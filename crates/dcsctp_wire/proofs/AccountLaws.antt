@@ -1,16 +1,15 @@
 -- What was read is written again in the same space, and has no more parts than words: a line a kind.
 use Rattle.std.proofs.Common.{◌≡◌, ℕ, ◌+◌, ◌-◌, ◌*◌, ◌≤◌, List, length, drop, refl, sym, ap, subst, ◌∙◌, arith, ◌⊎◌, inl, inr, Result}
-use Rattle.std.specs.Prelude.{◌==◌}
 use Rattle.std.specs.List.{AllByRecursion}
-use Rattle.std.proofs.lemmas.Bool.{leb-true, eqb-true}
+use Rattle.std.proofs.lemmas.Bool.{leb-true}
 use Rattle.std.proofs.lemmas.List.{length-drop}
 use Rattle.dcsctp_tlv.specs.Fault.{Fault}
-use Rattle.dcsctp_tlv.proofs.KindLaws.{of_map_ok}
+use Rattle.dcsctp_tlv.proofs.KindLaws.{KeepsSize, of_map_ok}
 use Rattle.dcsctp_tlv.specs.Frame.{Item, AreItems, lenient}
 use Rattle.dcsctp_tlv.specs.Level.{Row, plain, as_row, map_ok, MeansTrees}
-use Rattle.dcsctp_tlv.specs.Image.{size_of, list_size}
+use Rattle.dcsctp_tlv.specs.Image.{Tlv, size_of, list_size}
 use Rattle.dcsctp_tlv.specs.Parameter.{ParameterTree, parameters, tlv as parameter_tlv}
-use Rattle.dcsctp_tlv.proofs.Forms.{picked}
+use Rattle.dcsctp_tlv.proofs.Tables.{of_table, ◌&◌}
 use Rattle.dcsctp_tlv.proofs.Accounts.{SameSpace, Accounts, plain_account, all_account, list_account}
 use Rattle.dcsctp_tlv.proofs.Counts.{Counts, list_count, total-one}
 use Rattle.dcsctp_tlv.proofs.ParameterLaws.{parameters_account, parameters_count}
@@ -20,11 +19,12 @@ use Rattle.dcsctp_cause.proofs.CauseLaws.{causes_account, causes_count}
 use Rattle.dcsctp_chunk.proofs.Laws.{data_keeps_size, idata_keeps_size, shutdown_keeps_size, shutdown_ack_keeps_size, shutdown_complete_keeps_size, cookie_echo_keeps_size, cookie_ack_keeps_size, unknown_keeps_size}
 use Rattle.dcsctp_chunk.proofs.SackLaws.{sack_keeps_size}
 use Rattle.dcsctp_chunk.proofs.ForwardTsnLaws.{forward_tsn_keeps_size, iforward_tsn_keeps_size}
-use Rattle.dcsctp_wire.specs.Init.{InitTree, init_row}
-use Rattle.dcsctp_wire.specs.ParameterList.{parameter_list_row}
-use Rattle.dcsctp_wire.specs.CauseList.{AbortTree, abort_row, error_row}
-use Rattle.dcsctp_wire.specs.Chunk.{ChunkTree, Data, Init, InitAck, Sack, HeartbeatRequest, HeartbeatAck, Abort, Shutdown, ShutdownAck, Error, CookieEcho, CookieAck, ShutdownComplete, ReConfig, ForwardTsn, IData, IForwardTsn, Unknown, chunks, chunk_row, chunk_tlv}
-use Rattle.dcsctp_wire.specs.Account.{AreTextsKept, chunk_parts}
+use Rattle.dcsctp_wire.specs.InitFields.{Tree as InitTree, row as init_row}
+use Rattle.dcsctp_wire.specs.ParameterList.{row as parameter_list_row}
+use Rattle.dcsctp_wire.specs.Abort.{Tree as AbortTree, row as abort_row}
+use Rattle.dcsctp_wire.specs.Error.{row as error_row}
+use Rattle.dcsctp_wire.specs.Chunk.{ChunkTree, Data, Init, InitAck, Sack, HeartbeatRequest, HeartbeatAck, Abort, Shutdown, ShutdownAck, Error, CookieEcho, CookieAck, ShutdownComplete, ReConfig, ForwardTsn, IData, IForwardTsn, Unknown, table, chunks, chunk_row, tlv as chunk_tlv, parts as chunk_parts}
+use Rattle.dcsctp_wire.specs.Account.{AreTextsKept}
 
 -- ---- the size account
 
@@ -60,34 +60,47 @@ cause_list_account : (value : List ℕ) (cs : List CauseTree) (m : MeansTrees ca
 cause_list_account value cs m kept =
     after 0 (list_size cause_tlv cs) (length value) (length value) (list_account causes cause_tlv IsTextKept causes_account value cs m (kept m.items m.are)) (omega arith) (omega arith)
 
-abort_account : (typ flags : ℕ) → typ ≡ 6 → Accounted typ (as_row Abort (abort_row flags))
-abort_account typ flags is value t kept m =
-    tree_size t (Abort m.0) _ m.2 (subst (λ (a : AbortTree). SameSpace (size_of (chunk_tlv (Abort a))) (4 + length value)) (sym m.1.1.2) (cause_list_account value m.1.1.0 m.1.1.1 (kept (inl is))))
+abort_account : (flags : ℕ) → Accounted 6 (as_row Abort (abort_row flags))
+abort_account flags value t kept m =
+    tree_size t (Abort m.0) _ m.2
+    (subst (λ (a : AbortTree). SameSpace (size_of (chunk_tlv (Abort a))) (4 + length value))
+    (sym m.1.1.2) (cause_list_account value m.1.1.0 m.1.1.1 (kept (inl refl))))
 
-error_account : (typ : ℕ) → typ ≡ 9 → Accounted typ (as_row Error error_row)
-error_account typ is value t kept m =
-    tree_size t (Error m.0) _ m.2 (subst (λ (cs : List CauseTree). SameSpace (size_of (chunk_tlv (Error cs))) (4 + length value)) (sym m.1.1.2) (cause_list_account value m.1.1.0 m.1.1.1 (kept (inr is))))
+error_account : Accounted 9 (as_row Error error_row)
+error_account value t kept m =
+    tree_size t (Error m.0) _ m.2
+    (subst (λ (cs : List CauseTree). SameSpace (size_of (chunk_tlv (Error cs))) (4 + length value))
+    (sym m.1.1.2) (cause_list_account value m.1.1.0 m.1.1.1 (kept (inr refl))))
+
+-- a kind whose value is read at fixed places keeps its size, whatever its type
+plain_accounted : {X : Type 0} (typ flags : ℕ) {read : ℕ → ℕ → List ℕ → Result X Fault}
+    {tlv : X → Tlv} (tree : X → ChunkTree) → KeepsSize read tlv
+    → ((x : X) → chunk_tlv (tree x) ≡ tlv x)
+    → Accounted typ (plain (λ value. map_ok tree (read typ flags value)))
+plain_accounted typ flags tree keeps written value t kept =
+    plain_account _ tree chunk_tlv
+    (λ v x e. ap size_of (written x) ∙ keeps typ flags v x e) value t
 
 account : (typ flags : ℕ) → Accounted typ (chunk_row typ flags)
-account typ flags =
-    picked (Accounted typ) (typ == 0) _ _ (λ _ value t kept. plain_account _ Data chunk_tlv (data_keeps_size typ flags) value t) (λ _.
-    picked (Accounted typ) (typ == 1) _ _ (λ _. init_account typ Init (λ i. refl)) (λ _.
-    picked (Accounted typ) (typ == 2) _ _ (λ _. init_account typ InitAck (λ i. refl)) (λ _.
-    picked (Accounted typ) (typ == 3) _ _ (λ _ value t kept. plain_account _ Sack chunk_tlv (sack_keeps_size typ flags) value t) (λ _.
-    picked (Accounted typ) (typ == 4) _ _ (λ _. parameter_list_account typ HeartbeatRequest (λ ps. refl)) (λ _.
-    picked (Accounted typ) (typ == 5) _ _ (λ _. parameter_list_account typ HeartbeatAck (λ ps. refl)) (λ _.
-    picked (Accounted typ) (typ == 6) _ _ (λ is. abort_account typ flags (eqb-true typ 6 is)) (λ _.
-    picked (Accounted typ) (typ == 7) _ _ (λ _ value t kept. plain_account _ Shutdown chunk_tlv (shutdown_keeps_size typ flags) value t) (λ _.
-    picked (Accounted typ) (typ == 8) _ _ (λ _ value t kept. plain_account _ (λ _. ShutdownAck) chunk_tlv (shutdown_ack_keeps_size typ flags) value t) (λ _.
-    picked (Accounted typ) (typ == 9) _ _ (λ is. error_account typ (eqb-true typ 9 is)) (λ _.
-    picked (Accounted typ) (typ == 10) _ _ (λ _ value t kept. plain_account _ CookieEcho chunk_tlv (cookie_echo_keeps_size typ flags) value t) (λ _.
-    picked (Accounted typ) (typ == 11) _ _ (λ _ value t kept. plain_account _ (λ _. CookieAck) chunk_tlv (cookie_ack_keeps_size typ flags) value t) (λ _.
-    picked (Accounted typ) (typ == 14) _ _ (λ _ value t kept. plain_account _ ShutdownComplete chunk_tlv (shutdown_complete_keeps_size typ flags) value t) (λ _.
-    picked (Accounted typ) (typ == 64) _ _ (λ _ value t kept. plain_account _ IData chunk_tlv (idata_keeps_size typ flags) value t) (λ _.
-    picked (Accounted typ) (typ == 130) _ _ (λ _. parameter_list_account typ ReConfig (λ ps. refl)) (λ _.
-    picked (Accounted typ) (typ == 192) _ _ (λ _ value t kept. plain_account _ ForwardTsn chunk_tlv (forward_tsn_keeps_size typ flags) value t) (λ _.
-    picked (Accounted typ) (typ == 194) _ _ (λ _ value t kept. plain_account _ IForwardTsn chunk_tlv (iforward_tsn_keeps_size typ flags) value t) (λ _.
-    (λ value t kept. plain_account _ Unknown chunk_tlv (unknown_keeps_size typ flags) value t))))))))))))))))))
+account typ flags = of_table Accounted (table flags) typ _ (
+    plain_accounted 0 flags Data data_keeps_size (λ x. refl) &
+    init_account 1 Init (λ i. refl) &
+    init_account 2 InitAck (λ i. refl) &
+    plain_accounted 3 flags Sack sack_keeps_size (λ x. refl) &
+    parameter_list_account 4 HeartbeatRequest (λ ps. refl) &
+    parameter_list_account 5 HeartbeatAck (λ ps. refl) &
+    abort_account flags &
+    plain_accounted 7 flags Shutdown shutdown_keeps_size (λ x. refl) &
+    plain_accounted 8 flags (λ _. ShutdownAck) shutdown_ack_keeps_size (λ x. refl) &
+    error_account &
+    plain_accounted 10 flags CookieEcho cookie_echo_keeps_size (λ x. refl) &
+    plain_accounted 11 flags (λ _. CookieAck) cookie_ack_keeps_size (λ x. refl) &
+    plain_accounted 14 flags ShutdownComplete shutdown_complete_keeps_size (λ x. refl) &
+    plain_accounted 64 flags IData idata_keeps_size (λ x. refl) &
+    parameter_list_account 130 ReConfig (λ ps. refl) &
+    plain_accounted 192 flags ForwardTsn forward_tsn_keeps_size (λ x. refl) &
+    plain_accounted 194 flags IForwardTsn iforward_tsn_keeps_size (λ x. refl) & tt)
+    (λ _. plain_accounted typ flags Unknown unknown_keeps_size (λ x. refl))
 
 pub chunks_account : Accounts chunks chunk_tlv AreTextsKept
 chunks_account = record { sized = λ i t kept. account i.first i.second i.value t kept }
@@ -138,25 +151,25 @@ error_counted value t m =
     omega (arith, e, h)
 
 counted : (typ flags : ℕ) → Counted (chunk_row typ flags)
-counted typ flags =
-    picked Counted (typ == 0) _ _ (λ _. plain_counted Data _ (λ c. refl)) (λ _.
-    picked Counted (typ == 1) _ _ (λ _. init_counted Init (λ i. refl)) (λ _.
-    picked Counted (typ == 2) _ _ (λ _. init_counted InitAck (λ i. refl)) (λ _.
-    picked Counted (typ == 3) _ _ (λ _. plain_counted Sack _ (λ s. refl)) (λ _.
-    picked Counted (typ == 4) _ _ (λ _. parameter_list_counted HeartbeatRequest (λ ps. refl)) (λ _.
-    picked Counted (typ == 5) _ _ (λ _. parameter_list_counted HeartbeatAck (λ ps. refl)) (λ _.
-    picked Counted (typ == 6) _ _ (λ _. abort_counted flags) (λ _.
-    picked Counted (typ == 7) _ _ (λ _. plain_counted Shutdown _ (λ tsn. refl)) (λ _.
-    picked Counted (typ == 8) _ _ (λ _. plain_counted (λ _. ShutdownAck) _ (λ u. refl)) (λ _.
-    picked Counted (typ == 9) _ _ (λ _. error_counted) (λ _.
-    picked Counted (typ == 10) _ _ (λ _. plain_counted CookieEcho _ (λ cookie. refl)) (λ _.
-    picked Counted (typ == 11) _ _ (λ _. plain_counted (λ _. CookieAck) _ (λ u. refl)) (λ _.
-    picked Counted (typ == 14) _ _ (λ _. plain_counted ShutdownComplete _ (λ reflected. refl)) (λ _.
-    picked Counted (typ == 64) _ _ (λ _. plain_counted IData _ (λ c. refl)) (λ _.
-    picked Counted (typ == 130) _ _ (λ _. parameter_list_counted ReConfig (λ ps. refl)) (λ _.
-    picked Counted (typ == 192) _ _ (λ _. plain_counted ForwardTsn _ (λ f. refl)) (λ _.
-    picked Counted (typ == 194) _ _ (λ _. plain_counted IForwardTsn _ (λ f. refl)) (λ _.
-    plain_counted Unknown _ (λ u. refl))))))))))))))))))
+counted typ flags = of_table (λ _ row. Counted row) (table flags) typ _ (
+    plain_counted Data _ (λ c. refl) &
+    init_counted Init (λ i. refl) &
+    init_counted InitAck (λ i. refl) &
+    plain_counted Sack _ (λ s. refl) &
+    parameter_list_counted HeartbeatRequest (λ ps. refl) &
+    parameter_list_counted HeartbeatAck (λ ps. refl) &
+    abort_counted flags &
+    plain_counted Shutdown _ (λ tsn. refl) &
+    plain_counted (λ _. ShutdownAck) _ (λ u. refl) &
+    error_counted &
+    plain_counted CookieEcho _ (λ cookie. refl) &
+    plain_counted (λ _. CookieAck) _ (λ u. refl) &
+    plain_counted ShutdownComplete _ (λ reflected. refl) &
+    plain_counted IData _ (λ c. refl) &
+    parameter_list_counted ReConfig (λ ps. refl) &
+    plain_counted ForwardTsn _ (λ f. refl) &
+    plain_counted IForwardTsn _ (λ f. refl) & tt)
+    (λ _. plain_counted Unknown _ (λ u. refl))
 
 pub chunks_count : Counts chunks chunk_parts
 chunks_count = record { bound = λ i t m. counted i.first i.second i.value t m }

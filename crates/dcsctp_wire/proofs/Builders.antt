@@ -6,14 +6,14 @@ use Rattle.std.proofs.Math.Seq.{take-append_seam, drop-append_seam}
 use Rattle.dcsctp_tlv.specs.Frame.{round_up_to_4}
 use Rattle.dcsctp_tlv.specs.Image.{zeroed, gap, written, size_of, image_of}
 use Rattle.dcsctp_tlv.proofs.Images.{written-zeros}
-use Rattle.dcsctp_wire.specs.Chunk.{ChunkTree, chunk_tlv, IsChunkEncodable, length-chunk}
+use Rattle.dcsctp_wire.specs.Chunk.{ChunkTree, tlv as chunk_tlv, IsChunkEncodable, length-chunk, IsInWidth as IsChunkInWidth, IsWellFormed as IsChunkWellFormed, kept as kept_chunk, all_kept as kept_chunks}
 use Rattle.dcsctp_wire.specs.Canonical.{canonical, padded_chunk, padded_size, Fits}
 use Rattle.dcsctp_wire.specs.Builder.{BuilderState, meaning_with, HoldsPacket, Holds, room, begun, checksummed, built}
 use Rattle.dcsctp_wire.specs.declared.packet.sctp_packet.ChecksumPolicy.{ChecksumPolicy}
 use Rattle.dcsctp_wire.specs.Packet.{Meaning, checksum_field, IsAccepted, Answer}
-use Rattle.dcsctp_wire.specs.WellFormed.{IsChunkInWidth, IsChunkWellFormed, IsInWidth, IsWellFormed}
-use Rattle.dcsctp_wire.specs.Kept.{kept_chunk, kept_chunks, IsChunkReadable}
-use Rattle.dcsctp_wire.proofs.KeptLaws.{canonical_kept, kept_encodable, kept_formed, kept_width}
+use Rattle.dcsctp_wire.specs.WellFormed.{IsInWidth, IsWellFormed}
+use Rattle.dcsctp_tlv.proofs.Kept.{all_map}
+use Rattle.dcsctp_wire.proofs.KeptLaws.{canonical_kept, kept_encodable, kept_width}
 use Rattle.dcsctp_wire.proofs.Canonicals.{length-canonical, canonical-push, padded_size-push, padded_size-is, with_field, field_back, reads_back_with}
 
 -- ---- one chunk's bytes
@@ -96,10 +96,6 @@ field_fits : (b : Bool) (word : ℕ) → word < 2 ^ 32 → field_of b word < 2 ^
 field_fits true word h = h
 field_fits false word h = omega arith
 
-each_kept : (P Q R S : ChunkTree → Type 0) → ((t : ChunkTree) → P t → Q t → R t → S (kept_chunk t)) → (ts : List ChunkTree) → AllByRecursion P ts → AllByRecursion Q ts → AllByRecursion R ts → AllByRecursion S (kept_chunks ts)
-each_kept P Q R S law [] p q r = tt
-each_kept P Q R S law (t ∷ ts) p q r = (law t p.0 q.0 r.0, each_kept P Q R S law ts p.1 q.1 r.1)
-
 some_kept : (ts : List ChunkTree) → ts ≢ [] → kept_chunks ts ≢ []
 some_kept [] some = absurd (some refl)
 some_kept (t ∷ ts) some = λ e. cc
@@ -113,7 +109,9 @@ in_words : (ts : List ChunkTree) (limit : ℕ) → 12 + padded_size ts ≤ limit
 in_words ts limit h le = let e = padded_size-is ts in omega (arith, e, h, le)
 
 pub built_reads_back : (b : BuilderState) (field word : ℕ) (policy : ChecksumPolicy) (ts : List ChunkTree) → field < 2 ^ 32 → b.source < 2 ^ 16 → b.destination < 2 ^ 16 → b.tag < 2 ^ 32 → b.limit ≤ 65535
-    → Holds b ts → ts ≢ [] → AllByRecursion IsChunkInWidth ts → AllByRecursion IsChunkReadable ts → IsAccepted policy (checksum_field (built b field)) word
+    → Holds b ts → ts ≢ [] → AllByRecursion IsChunkInWidth ts
+    → AllByRecursion IsChunkWellFormed (kept_chunks ts)
+    → IsAccepted policy (checksum_field (built b field)) word
     → Answer (built b field) word policy (Ok (record { meaning = meaning_with b (kept_chunks ts); checksum = checksum_field (built b field) }))
 built_reads_back b field word policy ts field_ok source destination tag short h some width readable accepted =
     let p = held b ts some h in
@@ -124,14 +122,17 @@ built_reads_back b field word policy ts field_ok source destination tag short h 
     let field_is : checksum_field (built b field) ≡ n = ap checksum_field is ∙ field_back m n n_fits in
     let len : length b.bytes ≡ 12 + padded_size (kept_chunks ts) = ap length (p.bytes ∙ sym (canonical_kept (meaning_with b ts))) ∙ length-canonical m in
     let fits : Fits m = record {
-      each = each_kept IsChunkEncodable (λ t. Unit {0}) (λ t. Unit {0}) IsChunkEncodable (λ t e _ _. kept_encodable t e) ts p.each (units ts) (units ts);
+      each = all_map IsChunkEncodable IsChunkEncodable kept_chunk kept_encodable ts p.each;
       whole = in_words (kept_chunks ts) b.limit (omega (arith, len, p.within)) short;
     } in
-    let formed : IsWellFormed m = record { each = each_kept IsChunkEncodable IsChunkReadable (λ t. Unit {0}) IsChunkWellFormed (λ t e r _. kept_formed t e r) ts p.each readable (units ts); some = some_kept ts some } in
-    let in_width : IsInWidth m = record { source = source; destination = destination; tag = tag; each = each_kept IsChunkInWidth (λ t. Unit {0}) (λ t. Unit {0}) IsChunkInWidth (λ t w _ _. kept_width t w) ts width (units ts) (units ts) } in
+    let formed : IsWellFormed m = record { each = readable; some = some_kept ts some } in
+    let in_width : IsInWidth m = record {
+      source = source;
+      destination = destination;
+      tag = tag;
+      each = all_map IsChunkInWidth IsChunkInWidth kept_chunk kept_width ts width;
+    } in
     subst (λ (bytes : List ℕ). Answer bytes word policy (Ok (record { meaning = m; checksum = checksum_field bytes }))) (sym is)
     (subst (λ (f : ℕ). Answer (with_field m n) word policy (Ok (record { meaning = m; checksum = f }))) (sym (field_back m n n_fits))
-    (reads_back_with m n word policy n_fits in_width formed fits (subst (λ (f : ℕ). IsAccepted policy f word) field_is accepted))) where
-      units : (ts : List ChunkTree) → AllByRecursion (λ t. Unit {0}) ts
-      units [] = tt
-      units (t ∷ ts) = (tt, units ts)
+    (reads_back_with m n word policy n_fits in_width formed fits
+    (subst (λ (f : ℕ). IsAccepted policy f word) field_is accepted)))

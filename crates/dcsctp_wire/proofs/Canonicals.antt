@@ -12,10 +12,10 @@ use Rattle.dcsctp_tlv.proofs.Images.{list_size-map, list_image-map, length-list_
 use Rattle.dcsctp_tlv.proofs.ReadsBack.{body_reads_back}
 use Rattle.dcsctp_wire.specs.declared.packet.chunk.Chunk.{Chunk}
 use Rattle.dcsctp_wire.specs.declared.packet.sctp_packet.ChecksumPolicy.{ChecksumPolicy}
-use Rattle.dcsctp_wire.specs.Chunk.{ChunkTree, chunks, chunk_tlv, IsChunkEncodable, view, views, length-chunk}
+use Rattle.dcsctp_wire.specs.Chunk.{ChunkTree, chunks, tlv as chunk_tlv, IsChunkEncodable, view, views, length-chunk, IsInWidth as IsChunkInWidth, IsWellFormed as IsChunkWellFormed}
 use Rattle.dcsctp_wire.specs.Packet.{Meaning, PacketTree, checksum_field, IsAccepted, disabled, Answer}
 use Rattle.dcsctp_wire.specs.Canonical.{padded_chunk, canonical, padded_size, Fits}
-use Rattle.dcsctp_wire.specs.WellFormed.{IsChunkInWidth, IsChunkWellFormed, IsInWidth, IsWellFormed}
+use Rattle.dcsctp_wire.specs.WellFormed.{IsInWidth, IsWellFormed}
 use Rattle.dcsctp_wire.proofs.Packets.{packet_one}
 use Rattle.dcsctp_wire.proofs.ChunkLaws.{IsGood, chunks_read_back}
 

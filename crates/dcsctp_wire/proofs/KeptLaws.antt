@@ -1,17 +1,15 @@
--- The kept form of a chunk is written alike, and is well-formed: a line a kind.
+-- The kept form of a chunk is written alike, and its numbers lie in their widths: a line a kind.
 use Rattle.std.proofs.Common.{◌≡◌, ℕ, List, [], ◌∷◌, ◌++◌, refl, sym, ap, subst, ◌∙◌}
 use Rattle.std.specs.Prelude.{replicate}
 use Rattle.std.specs.List.{flat_map}
 use Rattle.dcsctp_tlv.specs.Image.{zeroed, gap, Tlv, image_of, size_of, IsEncodable, listed_tlv}
 use Rattle.dcsctp_tlv.specs.Parameter.{ParameterTree, tlv as parameter_tlv, kept as kept_parameter, all_kept as kept_parameters}
 use Rattle.dcsctp_tlv.proofs.Kept.{listed_tlv-kept}
-use Rattle.dcsctp_tlv.proofs.ParameterLaws.{kept_parameter_tlv, kept_parameters_formed, kept_parameters_width}
-use Rattle.dcsctp_chunk.proofs.Laws.{data_kept_tlv, data_kept_formed, data_kept_width, idata_kept_tlv, idata_kept_formed, idata_kept_width}
-use Rattle.dcsctp_wire.specs.Init.{init_numbers}
-use Rattle.dcsctp_wire.specs.Chunk.{ChunkTree, Data, Init, InitAck, HeartbeatRequest, HeartbeatAck, ReConfig, ForwardTsn, IData, IForwardTsn, chunk_tlv, IsChunkEncodable}
-use Rattle.dcsctp_wire.specs.WellFormed.{IsChunkInWidth, IsChunkWellFormed}
+use Rattle.dcsctp_tlv.proofs.ParameterLaws.{kept_parameter_tlv, kept_parameters_width}
+use Rattle.dcsctp_chunk.proofs.Laws.{data_kept_tlv, data_kept_width, idata_kept_tlv, idata_kept_width}
+use Rattle.dcsctp_wire.specs.InitFields.{leading as init_numbers}
+use Rattle.dcsctp_wire.specs.Chunk.{ChunkTree, Data, Init, InitAck, HeartbeatRequest, HeartbeatAck, ReConfig, IData, tlv as chunk_tlv, IsChunkEncodable, IsInWidth as IsChunkInWidth, kept as kept_chunk, all_kept as kept_chunks}
 use Rattle.dcsctp_wire.specs.Canonical.{canonical, padded_chunk}
-use Rattle.dcsctp_wire.specs.Kept.{kept_chunk, kept_chunks, IsChunkReadable}
 use Rattle.dcsctp_wire.specs.Packet.{Meaning}
 
 -- ---- it is written alike
@@ -52,7 +50,7 @@ kept_encodable (IData c) h = subst IsEncodable (sym (kept_tlv (IData c))) h
 kept_encodable (ReConfig ps) h = subst IsEncodable (sym (kept_tlv (ReConfig ps))) h
 kept_encodable t h = h
 
--- ---- it is in width and well-formed
+-- ---- it is in width
 
 pub kept_width : (t : ChunkTree) → IsChunkInWidth t → IsChunkInWidth (kept_chunk t)
 kept_width (Data c) h = data_kept_width c h
@@ -63,15 +61,3 @@ kept_width (HeartbeatAck ps) h = kept_parameters_width ps h
 kept_width (IData c) h = idata_kept_width c h
 kept_width (ReConfig ps) h = kept_parameters_width ps h
 kept_width t h = h
-
-pub kept_formed : (t : ChunkTree) → IsChunkEncodable t → IsChunkReadable t → IsChunkWellFormed (kept_chunk t)
-kept_formed (Data c) fits h = data_kept_formed c
-kept_formed (Init i) fits h = kept_parameters_formed i.parameters h
-kept_formed (InitAck i) fits h = kept_parameters_formed i.parameters h
-kept_formed (HeartbeatRequest ps) fits h = kept_parameters_formed ps h
-kept_formed (HeartbeatAck ps) fits h = kept_parameters_formed ps h
-kept_formed (IData c) fits h = idata_kept_formed c
-kept_formed (ReConfig ps) fits h = kept_parameters_formed ps h
-kept_formed (ForwardTsn f) fits h = fits.kinds
-kept_formed (IForwardTsn f) fits h = fits.kinds
-kept_formed t fits h = h

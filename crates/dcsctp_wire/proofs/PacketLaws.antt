@@ -15,11 +15,11 @@ use Rattle.dcsctp_tlv.proofs.Local.{local_means, local_fault}
 use Rattle.dcsctp_wire.specs.declared.packet.sctp_packet.ChecksumPolicy.{ChecksumPolicy}
 use Rattle.dcsctp_wire.specs.declared.packet.sctp_packet.PacketParseError.{PacketParseError}
 use Rattle.dcsctp_wire.specs.declared.packet.sctp_packet.SctpPacket.{SctpPacket}
-use Rattle.dcsctp_wire.specs.Chunk.{ChunkTree, ForwardTsn, IForwardTsn, chunks, chunk_tlv, IsChunkEncodable}
+use Rattle.dcsctp_wire.specs.Chunk.{ChunkTree, ForwardTsn, IForwardTsn, chunks, tlv as chunk_tlv, IsChunkEncodable, IsWellFormed as IsChunkWellFormed, parts as chunk_parts}
 use Rattle.dcsctp_wire.specs.Packet.{PacketTree, HasPacketSize, body, IsOpened, MeansPacket, Chunk, packet_with, Answer, Reads, packet_view}
 use Rattle.dcsctp_wire.specs.Canonical.{padded_size}
-use Rattle.dcsctp_wire.specs.WellFormed.{IsChunkWellFormed, IsWellFormed}
-use Rattle.dcsctp_wire.specs.Account.{AreTextsKept, KeepsTexts, KeepsSize, chunk_parts, node_count}
+use Rattle.dcsctp_wire.specs.WellFormed.{IsWellFormed}
+use Rattle.dcsctp_wire.specs.Account.{AreTextsKept, KeepsTexts, KeepsSize, node_count}
 use Rattle.dcsctp_wire.proofs.ChunkLaws.{chunks_form}
 use Rattle.dcsctp_wire.proofs.AccountLaws.{chunks_account, chunks_count}
 use Rattle.dcsctp_wire.proofs.Canonicals.{padded_size-is}

@@ -1,6 +1,5 @@
 -- Each input has one answer; and what the code answers where a chunk is at fault.
 use Rattle.std.proofs.Common.{◌≡◌, ◌≢◌, ℕ, ◌+◌, List, length, Result, Ok, Err, refl, sym, ap, ◌∙◌, arith, ◌⊎◌, inl, inr, Bool, true, false}
-use Rattle.std.specs.Prelude.{◌==◌}
 use Rattle.std.proofs.lemmas.Bool.{cases_lt}
 use Rattle.std.proofs.lemmas.Bool.Decides.{eqb_tells}
 use Rattle.std.proofs.lemmas.List.{get_or-drop}
@@ -10,17 +9,18 @@ use Rattle.dcsctp_tlv.specs.Fault.{Fault}
 use Rattle.dcsctp_tlv.specs.Number.{AreBytes}
 use Rattle.dcsctp_tlv.specs.Level.{HasFault}
 use Rattle.dcsctp_tlv.specs.Reading.{TellsFault}
-use Rattle.dcsctp_tlv.proofs.Laws.{LawfulRow, Lawful, plain_lawful, as_lawful, pick_lawful, listed_lawful, list_one, list_apart, list_same, list_some}
+use Rattle.dcsctp_tlv.proofs.Laws.{LawfulRow, Lawful, plain_lawful, as_lawful, listed_lawful, list_one, list_apart, list_same, list_some}
+use Rattle.dcsctp_tlv.proofs.Tables.{of_table, ◌&◌}
 use Rattle.dcsctp_wire.specs.declared.packet.sctp_packet.ChecksumPolicy.{ChecksumPolicy}
 use Rattle.dcsctp_tlv.specs.Parameter.{parameters}
 use Rattle.dcsctp_tlv.proofs.ParameterLaws.{parameters_lawful}
 use Rattle.dcsctp_cause.specs.Cause.{causes}
 use Rattle.dcsctp_cause.proofs.CauseLaws.{causes_lawful}
-use Rattle.dcsctp_chunk.specs.Flags.{is_set}
-use Rattle.dcsctp_wire.specs.Init.{init_of, init_row}
-use Rattle.dcsctp_wire.specs.ParameterList.{parameter_list_row}
-use Rattle.dcsctp_wire.specs.CauseList.{abort_row, error_row}
-use Rattle.dcsctp_wire.specs.Chunk.{Init, InitAck, HeartbeatRequest, HeartbeatAck, Abort, Error, ReConfig, chunks}
+use Rattle.dcsctp_wire.specs.InitFields.{tree_of as init_of, row as init_row}
+use Rattle.dcsctp_wire.specs.ParameterList.{row as parameter_list_row}
+use Rattle.dcsctp_wire.specs.Abort.{tree_of as abort_of, row as abort_row}
+use Rattle.dcsctp_wire.specs.Error.{row as error_row}
+use Rattle.dcsctp_wire.specs.Chunk.{Init, InitAck, HeartbeatRequest, HeartbeatAck, Abort, Error, ReConfig, table, chunks}
 use Rattle.dcsctp_wire.specs.Packet.{PacketTree, HasPacketSize, IsAccepted, disabled, alternate, equal, checksum_field, body, IsOpened, MeansPacket, packet_with, PacketFault, Size, Checksum, Chunk, Answer, ReadsFault}
 
 pub reads_fault : (bytes : List ℕ) (word : ℕ) (policy : ChecksumPolicy) (e : ChunkParseError) → IsOpened bytes word policy → TellsFault (HasFault chunks (body bytes)) e → ReadsFault bytes word policy e
@@ -38,32 +38,32 @@ pub parameter_list_lawful : LawfulRow parameter_list_row
 parameter_list_lawful = listed_lawful _ 0 parameters (λ value ps. ps) parameters_lawful
 
 pub abort_lawful : (flags : ℕ) → LawfulRow (abort_row flags)
-abort_lawful flags = listed_lawful _ 0 causes (λ value cs. record { tag_reflected = is_set flags 0; causes = cs }) causes_lawful
+abort_lawful flags = listed_lawful _ 0 causes (λ value cs. abort_of flags cs) causes_lawful
 
 pub error_lawful : LawfulRow error_row
 error_lawful = listed_lawful _ 0 causes (λ value cs. cs) causes_lawful
 
 -- each row of the table of chunks is a function of the value, or has one answer otherwise
 pub chunks_lawful : Lawful chunks
-chunks_lawful typ flags =
-    pick_lawful (typ == 0) _ _ (plain_lawful _) (
-    pick_lawful (typ == 1) _ _ (as_lawful Init init_row init_lawful) (
-    pick_lawful (typ == 2) _ _ (as_lawful InitAck init_row init_lawful) (
-    pick_lawful (typ == 3) _ _ (plain_lawful _) (
-    pick_lawful (typ == 4) _ _ (as_lawful HeartbeatRequest parameter_list_row parameter_list_lawful) (
-    pick_lawful (typ == 5) _ _ (as_lawful HeartbeatAck parameter_list_row parameter_list_lawful) (
-    pick_lawful (typ == 6) _ _ (as_lawful Abort (abort_row flags) (abort_lawful flags)) (
-    pick_lawful (typ == 7) _ _ (plain_lawful _) (
-    pick_lawful (typ == 8) _ _ (plain_lawful _) (
-    pick_lawful (typ == 9) _ _ (as_lawful Error error_row error_lawful) (
-    pick_lawful (typ == 10) _ _ (plain_lawful _) (
-    pick_lawful (typ == 11) _ _ (plain_lawful _) (
-    pick_lawful (typ == 14) _ _ (plain_lawful _) (
-    pick_lawful (typ == 64) _ _ (plain_lawful _) (
-    pick_lawful (typ == 130) _ _ (as_lawful ReConfig parameter_list_row parameter_list_lawful) (
-    pick_lawful (typ == 192) _ _ (plain_lawful _) (
-    pick_lawful (typ == 194) _ _ (plain_lawful _) (
-    plain_lawful _)))))))))))))))))
+chunks_lawful typ flags = of_table (λ _ row. LawfulRow row) (table flags) typ _ (
+    plain_lawful _ &
+    as_lawful Init init_row init_lawful &
+    as_lawful InitAck init_row init_lawful &
+    plain_lawful _ &
+    as_lawful HeartbeatRequest parameter_list_row parameter_list_lawful &
+    as_lawful HeartbeatAck parameter_list_row parameter_list_lawful &
+    as_lawful Abort (abort_row flags) (abort_lawful flags) &
+    plain_lawful _ &
+    plain_lawful _ &
+    as_lawful Error error_row error_lawful &
+    plain_lawful _ &
+    plain_lawful _ &
+    plain_lawful _ &
+    plain_lawful _ &
+    as_lawful ReConfig parameter_list_row parameter_list_lawful &
+    plain_lawful _ &
+    plain_lawful _ & tt)
+    (λ _. plain_lawful _)
 
 -- ---- one answer
 

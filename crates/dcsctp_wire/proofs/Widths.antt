@@ -69,10 +69,10 @@ use Rattle.dcsctp_chunk.specs.contracts.unknown_chunk.UnknownChunk as UnknownChu
 use Rattle.dcsctp_chunk.specs.Data.{user_data_view, IsUserDataInWidth}
 use Rattle.dcsctp_chunk.specs.Sack.{IsBlockInWidth, duplicate_numbers}
 use Rattle.dcsctp_chunk.specs.SkippedStreams.{IsSkippedStreamInWidth, skipped_stream_view, skipped_stream_views}
-use Rattle.dcsctp_wire.specs.Chunk.{view}
+use Rattle.dcsctp_wire.specs.Chunk.{view, IsInWidth as IsChunkInWidth}
 use Rattle.dcsctp_wire.specs.declared.packet.chunk.Chunk.TheVariants as kinds
 use Rattle.dcsctp_wire.specs.Packet.{meaning_view}
-use Rattle.dcsctp_wire.specs.WellFormed.{IsChunkInWidth, IsInWidth}
+use Rattle.dcsctp_wire.specs.WellFormed.{IsInWidth}
 use Rattle.dcsctp_wire.specs.contracts.packet.init_chunk.InitChunk as InitChunk
 use Rattle.dcsctp_wire.specs.contracts.packet.init_ack_chunk.InitAckChunk as InitAckChunk
 use Rattle.dcsctp_wire.specs.contracts.packet.heartbeat_request_chunk.HeartbeatRequestChunk as HeartbeatRequestChunk

@@ -4,7 +4,7 @@ use Rattle.std.specs.List.{AllByRecursion}
 use Rattle.dcsctp_tlv.specs.Frame.{Item, AreItems, lenient, round_up_to_4}
 use Rattle.dcsctp_tlv.specs.Count.{total}
 use Rattle.dcsctp_cause.specs.Text.{IsTextKept}
-use Rattle.dcsctp_wire.specs.Chunk.{ChunkTree, Init, InitAck, HeartbeatRequest, HeartbeatAck, Abort, Error, ReConfig, IsChunkEncodable}
+use Rattle.dcsctp_wire.specs.Chunk.{IsChunkEncodable, parts}
 use Rattle.dcsctp_wire.specs.Packet.{Meaning, body}
 use Rattle.dcsctp_wire.specs.Canonical.{padded_size, Fits}
 
@@ -28,17 +28,6 @@ pub record KeepsSize (bytes : List ℕ) (m : Meaning) : Type 0 where
 
 -- ---- parts
 
--- a chunk, and the parameters or causes in it
-abbrev pub chunk_parts : ChunkTree → ℕ
-chunk_parts (Init i) = 1 + length i.parameters
-chunk_parts (InitAck i) = 1 + length i.parameters
-chunk_parts (HeartbeatRequest ps) = 1 + length ps
-chunk_parts (HeartbeatAck ps) = 1 + length ps
-chunk_parts (Abort a) = 1 + length a.causes
-chunk_parts (Error cs) = 1 + length cs
-chunk_parts (ReConfig ps) = 1 + length ps
-chunk_parts t = 1
-
 -- chunks, parameters and causes together
 abbrev pub node_count : Meaning → ℕ
-node_count m = total chunk_parts m.chunks
+node_count m = total parts m.chunks

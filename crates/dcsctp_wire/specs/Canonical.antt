@@ -4,7 +4,7 @@ use Rattle.std.specs.List.{flat_map, AllByRecursion}
 use Rattle.std.specs.Int.{w16, w32, to_be_bytes}
 use Rattle.dcsctp_tlv.specs.Frame.{round_up_to_4}
 use Rattle.dcsctp_tlv.specs.Image.{zeroed, gap, size_of, image_of}
-use Rattle.dcsctp_wire.specs.Chunk.{ChunkTree, chunk_tlv, IsChunkEncodable}
+use Rattle.dcsctp_wire.specs.Chunk.{ChunkTree, tlv as chunk_tlv, IsChunkEncodable}
 use Rattle.dcsctp_wire.specs.Packet.{Meaning}
 
 -- a chunk as written over zeros, and zeros up to a multiple of 4

@@ -6,9 +6,9 @@ use Rattle.dcsctp_tlv.specs.Reading.{IsFault, error_of}
 use Rattle.dcsctp_wire.specs.declared.packet.sctp_packet.PacketParseError.{PacketParseError}
 use Rattle.dcsctp_wire.specs.declared.packet.sctp_packet.PacketParseError.TheVariants.{InvalidPacketSize, InvalidChecksum, InvalidChunkSize, FailedParseChunk}
 use Rattle.dcsctp_wire.specs.declared.packet.sctp_packet.ChecksumPolicy.{ChecksumPolicy}
-use Rattle.dcsctp_wire.specs.Chunk.{chunks}
+use Rattle.dcsctp_wire.specs.Chunk.{chunks, parts as chunk_parts}
 use Rattle.dcsctp_wire.specs.Packet.{PacketTree, PacketFault, Size, Checksum, Chunk, IsOpened, body, Answer}
-use Rattle.dcsctp_wire.specs.Account.{chunk_parts, node_count}
+use Rattle.dcsctp_wire.specs.Account.{node_count}
 
 -- the error that tells a packet's fault
 abbrev pub packet_error_of : PacketFault → PacketParseError

@@ -6,7 +6,7 @@ use Rattle.std.specs.Io.{StartsWith}
 use Rattle.std.specs.Io.KnownBytes.{Consumes, Appends}
 use Rattle.hex.specs.Hex.{decode_of, encode_lower}
 use Rattle.dcsctp_wire.specs.declared.packet.sctp_packet.ChecksumPolicy.{ChecksumPolicy}
-use Rattle.dcsctp_wire.specs.Chunk.{ChunkTree, chunk_text}
+use Rattle.dcsctp_wire.specs.Chunk.{ChunkTree, text as chunk_text}
 use Rattle.dcsctp_wire.specs.Packet.{Meaning, PacketTree, PacketFault, Size, Checksum, Chunk, Answer}
 use Rattle.dcsctp_wire.specs.Fault.{Length, Padding, Value}
 use Rattle.dcsctp_wire.specs.Canonical.{canonical, Fits}

@@ -14,11 +14,8 @@ ghost use Rattle.std.specs.Prelude.{◌≡◌, ◌≢◌, ◌↔◌, ◌≤◌, 
 ghost use Rattle.dcsctp_tlv.specs.Image.{IsEncodable};
 ghost use Rattle.dcsctp_tlv.specs.Level.{HasMeaning, MeansParts};
 ghost use Rattle.dcsctp_tlv.specs.Reading.{Answers, Finds, ReadsExactly};
-ghost use Rattle.dcsctp_tlv.proofs.Listed.{length-listed_tlv};
-ghost use Rattle.dcsctp_cause.specs.Cause.{tlv as cause_tlv};
-ghost use Rattle.dcsctp_cause.proofs.CauseLaws.{length-cause};
-ghost use Rattle.dcsctp_chunk.specs.Flags.{flag_byte};
-ghost use Rattle.dcsctp_wire.specs.CauseList.{abort_row, abort_tlv, abort_text, abort_view};
+ghost use Rattle.dcsctp_tlv.specs.Length.{length-format};
+ghost use Rattle.dcsctp_wire.specs.Abort.{row as abort_row, format, view as abort_view};
 
 use dcsctp_cause::error_causes::{ErrorCause, error_cause_build, error_cause_check};
 use dcsctp_chunk::flags::{is_set, one_flag};
@@ -109,11 +106,11 @@ impl AbortChunk {
 }
 
 impl SerializableTlv for AbortChunk {
-    ghost tlv = { λ c. abort_tlv (abort_view c) };
+    ghost tlv = { λ c. (format (abort_view c)).tlv };
 
-    ghost is_encodable = { λ c. IsEncodable (abort_tlv (abort_view c)) };
+    ghost is_encodable = { λ c. IsEncodable (format (abort_view c)).tlv };
 
-    ghost image_length = { λ c fits. length-listed_tlv cause_tlv length-cause 6 (flag_byte (c.tag_reflected ∷ [])) [] (abort_view c).causes };
+    ghost image_length = { λ c fits. length-format (format (abort_view c)) };
 
     ghost size_bound = { λ c fits. fits };
 
@@ -132,7 +129,7 @@ impl SerializableTlv for AbortChunk {
 }
 
 impl fmt::Display for AbortChunk {
-    ghost output = { λ c. Some (abort_text (abort_view c)) };
+    ghost output = { λ c. Some (format (abort_view c)).text };
 
     fn fmt<W: fmt::Write>(&self, f: &mut fmt::Formatter<W>) -> fmt::Result {
         let tag_reflected = self.tag_reflected;

@@ -4,12 +4,10 @@
 ghost use Rattle.std.specs.Prelude.{◌≡◌, ◌≢◌, ◌≤◌, ◌+◌, ◌-◌, ◌*◌, ◌/◌, ◌++◌, ◌∷◌, [], ◌↔◌, ℕ, List, true, max, length, take, drop, vec_len, vec_capacity, IsTrue, IsOk, OnOk, OnErr};
 ghost use Rattle.dcsctp_tlv.specs.Frame.{round_up_to_4};
 ghost use Rattle.dcsctp_tlv.specs.Image.{size_of, image_of, written};
-ghost use Rattle.dcsctp_wire.specs.Chunk.{ChunkTree, chunk_tlv, IsChunkEncodable, view};
+ghost use Rattle.dcsctp_wire.specs.Chunk.{ChunkTree, tlv as chunk_tlv, IsChunkEncodable, view, all_kept as kept_chunks, IsInWidth as IsChunkInWidth, IsWellFormed as IsChunkWellFormed};
 ghost use Rattle.dcsctp_wire.specs.Canonical.{padded_chunk, padded_size};
 ghost use Rattle.dcsctp_wire.specs.Builder.{Holds, IsHeaderInWidth, meaning_with, room, begun, built};
-ghost use Rattle.dcsctp_wire.specs.Kept.{kept_chunks, IsChunkReadable};
 ghost use Rattle.dcsctp_wire.specs.Packet.{IsAccepted, checksum_field, Answer};
-ghost use Rattle.dcsctp_wire.specs.WellFormed.{IsChunkInWidth};
 ghost use Rattle.dcsctp_wire.specs.declared.packet.sctp_packet.ChecksumPolicy.{ChecksumPolicy};
 ghost use Rattle.std.specs.List.{AllByRecursion};
 
@@ -170,7 +168,8 @@ impl SctpPacketBuilder {
         ensures bytes { result.items ≡ built self.old checksum }
         ensures empty { self.new ≡ record self.old { bytes = [] } }
         ensures reads_back { self.old.limit ≤ 65535 → (chunks : List ChunkTree) → Holds self.old chunks → chunks ≢ []
-            → AllByRecursion IsChunkInWidth chunks → AllByRecursion IsChunkReadable chunks
+            → AllByRecursion IsChunkInWidth chunks
+            → AllByRecursion IsChunkWellFormed (kept_chunks chunks)
             → (word : ℕ) (policy : ChecksumPolicy) → IsAccepted policy (checksum_field result.items) word
             → Answer result.items word policy (Ok (record { meaning = meaning_with self.old (kept_chunks chunks); checksum = checksum_field result.items })) }
     {

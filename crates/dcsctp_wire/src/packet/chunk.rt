@@ -3,8 +3,7 @@
 ghost use Rattle.std.specs.Prelude.{◌≡◌, ◌≢◌, ◌<◌, ◌+◌, [], Some, IsOk, IfOk, IsErrOf, vec_len, vec_capacity};
 ghost use Rattle.dcsctp_tlv.specs.Level.{HasMeaning, Grows};
 ghost use Rattle.dcsctp_tlv.specs.Reading.{Answers, ReadsExactly};
-ghost use Rattle.dcsctp_wire.specs.Account.{chunk_parts};
-ghost use Rattle.dcsctp_wire.specs.Chunk.{ChunkTree, chunk_row, chunks, TakesNoMemory, chunk_tlv, IsChunkEncodable, chunk_text, view, encodable_size, length-chunk};
+ghost use Rattle.dcsctp_wire.specs.Chunk.{parts as chunk_parts, ChunkTree, chunk_row, chunks, TakesNoMemory, tlv as chunk_tlv, IsChunkEncodable, text as chunk_text, view, encodable_size, length-chunk};
 
 use crate::packet::abort_chunk::{self, AbortChunk};
 use crate::packet::cookie_ack_chunk::{self, CookieAckChunk};

@@ -14,10 +14,8 @@ ghost use Rattle.std.specs.Prelude.{◌≡◌, ◌≢◌, ◌↔◌, ◌≤◌, 
 ghost use Rattle.dcsctp_tlv.specs.Image.{IsEncodable};
 ghost use Rattle.dcsctp_tlv.specs.Level.{HasMeaning, MeansParts};
 ghost use Rattle.dcsctp_tlv.specs.Reading.{Answers, Finds, ReadsExactly};
-ghost use Rattle.dcsctp_tlv.proofs.Listed.{length-listed_tlv};
-ghost use Rattle.dcsctp_cause.specs.Cause.{tlv as cause_tlv};
-ghost use Rattle.dcsctp_cause.proofs.CauseLaws.{length-cause};
-ghost use Rattle.dcsctp_wire.specs.CauseList.{error_row, error_tlv, error_text, error_view};
+ghost use Rattle.dcsctp_tlv.specs.Length.{length-format};
+ghost use Rattle.dcsctp_wire.specs.Error.{row as error_row, format, view as error_view};
 
 use dcsctp_cause::error_causes::{ErrorCause, error_cause_build, error_cause_check};
 use dcsctp_chunk::raw_chunk::RawChunk;
@@ -107,11 +105,11 @@ impl ErrorChunk {
 }
 
 impl SerializableTlv for ErrorChunk {
-    ghost tlv = { λ c. error_tlv (error_view c) };
+    ghost tlv = { λ c. (format (error_view c)).tlv };
 
-    ghost is_encodable = { λ c. IsEncodable (error_tlv (error_view c)) };
+    ghost is_encodable = { λ c. IsEncodable (format (error_view c)).tlv };
 
-    ghost image_length = { λ c fits. length-listed_tlv cause_tlv length-cause 9 0 [] (error_view c) };
+    ghost image_length = { λ c fits. length-format (format (error_view c)) };
 
     ghost size_bound = { λ c fits. fits };
 
@@ -129,7 +127,7 @@ impl SerializableTlv for ErrorChunk {
 }
 
 impl fmt::Display for ErrorChunk {
-    ghost output = { λ c. Some error_text };
+    ghost output = { λ c. Some (format (error_view c)).text };
 
     fn fmt<W: fmt::Write>(&self, f: &mut fmt::Formatter<W>) -> fmt::Result {
         write!(f, "ERROR")

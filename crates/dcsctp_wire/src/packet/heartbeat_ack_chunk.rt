@@ -12,12 +12,11 @@
 
 ghost use Rattle.std.specs.Prelude.{◌≡◌, ◌≢◌, ◌↔◌, [], Some, IsOk, IfOk, IsErrOf};
 ghost use Rattle.dcsctp_tlv.specs.Image.{IsEncodable};
-ghost use Rattle.dcsctp_tlv.specs.Parameter.{tlv as parameter_tlv};
-ghost use Rattle.dcsctp_tlv.proofs.ParameterLaws.{length-parameter};
 ghost use Rattle.dcsctp_tlv.specs.Level.{HasMeaning};
 ghost use Rattle.dcsctp_tlv.specs.Reading.{Answers, ReadsExactly};
-ghost use Rattle.dcsctp_tlv.proofs.Listed.{length-listed_tlv};
-ghost use Rattle.dcsctp_wire.specs.ParameterList.{parameter_list_row, parameter_list_tlv, heartbeat_ack_text, heartbeat_ack_view};
+ghost use Rattle.dcsctp_tlv.specs.Length.{length-format};
+ghost use Rattle.dcsctp_wire.specs.HeartbeatAck.{format, view as heartbeat_ack_view};
+ghost use Rattle.dcsctp_wire.specs.ParameterList.{row as parameter_list_row};
 
 use crate::packet::parameter_list::parameter_list_check;
 use dcsctp_chunk::raw_chunk::RawChunk;
@@ -96,11 +95,11 @@ impl HeartbeatAckChunk {
 }
 
 impl SerializableTlv for HeartbeatAckChunk {
-    ghost tlv = { λ c. parameter_list_tlv 5 (heartbeat_ack_view c) };
+    ghost tlv = { λ c. (format (heartbeat_ack_view c)).tlv };
 
-    ghost is_encodable = { λ c. IsEncodable (parameter_list_tlv 5 (heartbeat_ack_view c)) };
+    ghost is_encodable = { λ c. IsEncodable (format (heartbeat_ack_view c)).tlv };
 
-    ghost image_length = { λ c fits. length-listed_tlv parameter_tlv length-parameter 5 0 [] (heartbeat_ack_view c) };
+    ghost image_length = { λ c fits. length-format (format (heartbeat_ack_view c)) };
 
     ghost size_bound = { λ c fits. fits };
 
@@ -118,7 +117,7 @@ impl SerializableTlv for HeartbeatAckChunk {
 }
 
 impl fmt::Display for HeartbeatAckChunk {
-    ghost output = { λ c. Some heartbeat_ack_text };
+    ghost output = { λ c. Some (format (heartbeat_ack_view c)).text };
 
     fn fmt<W: fmt::Write>(&self, f: &mut fmt::Formatter<W>) -> fmt::Result {
         write!(f, "HEARTBEAT-ACK")

@@ -3,7 +3,7 @@
 ghost use Rattle.std.specs.Prelude.{◌≡◌, ◌≤◌, ◌+◌, ◌*◌, [], length, drop, IsOk, IfOk};
 ghost use Rattle.dcsctp_tlv.specs.Level.{HasMeaning, MeansParts};
 ghost use Rattle.dcsctp_tlv.specs.Reading.{Finds};
-ghost use Rattle.dcsctp_wire.specs.Init.{init_row, init_parts, init_numbers, init_fields_view};
+ghost use Rattle.dcsctp_wire.specs.InitFields.{row as init_row, parts as init_parts, leading as init_numbers, view as init_fields_view};
 
 use dcsctp_tlv::error::ChunkParseError;
 use dcsctp_tlv::number::{put_u16, put_u32, read_u16_be, read_u32_be};

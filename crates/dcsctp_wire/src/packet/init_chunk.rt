@@ -18,14 +18,13 @@
 //! +-+-+-+-+-+-+-+-+-+-+-+-+-+-+-+-+-+-+-+-+-+-+-+-+-+-+-+-+-+-+-+-+
 //! ```
 
-ghost use Rattle.std.specs.Prelude.{◌≡◌, ◌≢◌, ◌↔◌, [], drop, Some, IsOk, IfOk, IsErrOf, codes};
+ghost use Rattle.std.specs.Prelude.{◌≡◌, ◌≢◌, ◌↔◌, [], drop, Some, IsOk, IfOk, IsErrOf};
 ghost use Rattle.dcsctp_tlv.specs.Image.{IsEncodable};
-ghost use Rattle.dcsctp_tlv.specs.Parameter.{tlv as parameter_tlv};
-ghost use Rattle.dcsctp_tlv.proofs.ParameterLaws.{length-parameter};
 ghost use Rattle.dcsctp_tlv.specs.Level.{HasMeaning};
 ghost use Rattle.dcsctp_tlv.specs.Reading.{Answers, ReadsExactly};
-ghost use Rattle.dcsctp_tlv.proofs.Listed.{length-listed_tlv};
-ghost use Rattle.dcsctp_wire.specs.Init.{init_row, init_numbers, init_tlv, init_text, init_view, init_fields_view};
+ghost use Rattle.dcsctp_tlv.specs.Length.{length-format};
+ghost use Rattle.dcsctp_wire.specs.Init.{format, view as init_view};
+ghost use Rattle.dcsctp_wire.specs.InitFields.{row as init_row, view as init_fields_view};
 
 use crate::packet::init::{FIXED_SIZE, InitFields, init_build, init_bytes, init_check};
 use dcsctp_chunk::raw_chunk::RawChunk;
@@ -114,11 +113,11 @@ impl InitChunk {
 }
 
 impl SerializableTlv for InitChunk {
-    ghost tlv = { λ c. init_tlv 1 (init_view c) };
+    ghost tlv = { λ c. (format (init_view c)).tlv };
 
-    ghost is_encodable = { λ c. IsEncodable (init_tlv 1 (init_view c)) };
+    ghost is_encodable = { λ c. IsEncodable (format (init_view c)).tlv };
 
-    ghost image_length = { λ c fits. length-listed_tlv parameter_tlv length-parameter 1 0 (init_numbers (init_view c)) (init_view c).parameters };
+    ghost image_length = { λ c fits. length-format (format (init_view c)) };
 
     ghost size_bound = { λ c fits. fits };
 
@@ -143,7 +142,7 @@ impl SerializableTlv for InitChunk {
 }
 
 impl fmt::Display for InitChunk {
-    ghost output = { λ c. Some (init_text (codes "INIT") (init_view c)) };
+    ghost output = { λ c. Some (format (init_view c)).text };
 
     fn fmt<W: fmt::Write>(&self, f: &mut fmt::Formatter<W>) -> fmt::Result {
         let tag = self.initiate_tag;

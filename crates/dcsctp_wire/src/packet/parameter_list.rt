@@ -3,7 +3,7 @@
 ghost use Rattle.std.specs.Prelude.{◌≤◌, ◌+◌, ◌*◌, length, IfOk};
 ghost use Rattle.dcsctp_tlv.specs.Level.{MeansParts};
 ghost use Rattle.dcsctp_tlv.specs.Reading.{Finds};
-ghost use Rattle.dcsctp_wire.specs.ParameterList.{parameter_list_row};
+ghost use Rattle.dcsctp_wire.specs.ParameterList.{row as parameter_list_row};
 
 use dcsctp_tlv::error::ChunkParseError;
 use dcsctp_tlv::parameter::parameters_check;

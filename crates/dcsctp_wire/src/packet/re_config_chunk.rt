@@ -12,12 +12,11 @@
 
 ghost use Rattle.std.specs.Prelude.{◌≡◌, ◌≢◌, ◌↔◌, [], Some, IsOk, IfOk, IsErrOf};
 ghost use Rattle.dcsctp_tlv.specs.Image.{IsEncodable};
-ghost use Rattle.dcsctp_tlv.specs.Parameter.{tlv as parameter_tlv};
-ghost use Rattle.dcsctp_tlv.proofs.ParameterLaws.{length-parameter};
 ghost use Rattle.dcsctp_tlv.specs.Level.{HasMeaning};
 ghost use Rattle.dcsctp_tlv.specs.Reading.{Answers, ReadsExactly};
-ghost use Rattle.dcsctp_tlv.proofs.Listed.{length-listed_tlv};
-ghost use Rattle.dcsctp_wire.specs.ParameterList.{parameter_list_row, parameter_list_tlv, re_config_text, re_config_view};
+ghost use Rattle.dcsctp_tlv.specs.Length.{length-format};
+ghost use Rattle.dcsctp_wire.specs.ReConfig.{format, view as re_config_view};
+ghost use Rattle.dcsctp_wire.specs.ParameterList.{row as parameter_list_row};
 
 use crate::packet::parameter_list::parameter_list_check;
 use dcsctp_chunk::raw_chunk::RawChunk;
@@ -92,11 +91,11 @@ impl ReConfigChunk {
 }
 
 impl SerializableTlv for ReConfigChunk {
-    ghost tlv = { λ c. parameter_list_tlv 130 (re_config_view c) };
+    ghost tlv = { λ c. (format (re_config_view c)).tlv };
 
-    ghost is_encodable = { λ c. IsEncodable (parameter_list_tlv 130 (re_config_view c)) };
+    ghost is_encodable = { λ c. IsEncodable (format (re_config_view c)).tlv };
 
-    ghost image_length = { λ c fits. length-listed_tlv parameter_tlv length-parameter 130 0 [] (re_config_view c) };
+    ghost image_length = { λ c fits. length-format (format (re_config_view c)) };
 
     ghost size_bound = { λ c fits. fits };
 
@@ -114,7 +113,7 @@ impl SerializableTlv for ReConfigChunk {
 }
 
 impl fmt::Display for ReConfigChunk {
-    ghost output = { λ c. Some re_config_text };
+    ghost output = { λ c. Some (format (re_config_view c)).text };
 
     fn fmt<W: fmt::Write>(&self, f: &mut fmt::Formatter<W>) -> fmt::Result {
         write!(f, "RE-CONFIG")

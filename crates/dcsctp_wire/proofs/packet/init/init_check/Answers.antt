@@ -5,7 +5,7 @@ use Rattle.std.proofs.lemmas.List.{take_rest}
 use Rattle.std.proofs.lemmas.Result.{err_from_is_err_and}
 use Rattle.dcsctp_tlv.specs.Parameter.{parameters}
 use Rattle.dcsctp_tlv.proofs.Listed.{listed_fault}
-use Rattle.dcsctp_wire.specs.Init.{init_of}
+use Rattle.dcsctp_wire.specs.InitFields.{tree_of as init_of}
 use Rattle.dcsctp_wire.proofs.packet.init.init_check.Goals as goal
 
 pub returns-in_err-count-clause-found : goal.returns-in_err-count-clause-found

@@ -1,7 +1,7 @@
 use Rattle.std.proofs.Common.{refl, arith, ap, ◌∙◌, ◌≡◌, ◌+◌, ℕ, replicate}
 use Rattle.dcsctp_tlv.specs.Frame.{round_up_to_4}
 use Rattle.dcsctp_tlv.specs.Image.{list_size}
-use Rattle.dcsctp_wire.specs.Chunk.{chunk_tlv, view, views}
+use Rattle.dcsctp_wire.specs.Chunk.{tlv as chunk_tlv, view, views}
 use Rattle.dcsctp_wire.specs.Packet.{meaning_view}
 use Rattle.dcsctp_wire.specs.Canonical.{padded_size}
 use Rattle.dcsctp_wire.proofs.Canonicals.{fits_to, size_views}

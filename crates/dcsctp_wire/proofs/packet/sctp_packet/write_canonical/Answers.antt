@@ -1,7 +1,7 @@
 use Rattle.std.proofs.Common.{[], refl, arith, ap, ◌∙◌, ◌≡◌, ◌+◌, ◌-◌, ◌++◌, ℕ, List, length, drop, replicate}
 use Rattle.std.proofs.lemmas.List.{drop-replicate, length-replicate}
 use Rattle.dcsctp_tlv.specs.Image.{written, list_image, list_size}
-use Rattle.dcsctp_wire.specs.Chunk.{chunk_tlv, view, views}
+use Rattle.dcsctp_wire.specs.Chunk.{tlv as chunk_tlv, view, views}
 use Rattle.dcsctp_wire.specs.Packet.{meaning_view}
 use Rattle.dcsctp_wire.specs.Canonical.{canonical, padded_size}
 use Rattle.dcsctp_wire.proofs.Canonicals.{fits_to, body_is, size_views}

@@ -1,6 +1,6 @@
 use Rattle.std.proofs.Common.{subst, sym, ℕ, List, Ok}
 use Rattle.dcsctp_wire.specs.Builder.{meaning_with}
-use Rattle.dcsctp_wire.specs.Kept.{kept_chunks}
+use Rattle.dcsctp_wire.specs.Chunk.{all_kept as kept_chunks}
 use Rattle.dcsctp_wire.specs.Packet.{IsAccepted, checksum_field, Answer}
 use Rattle.dcsctp_wire.proofs.Builders.{built_reads_back}
 use Rattle.dcsctp_wire.proofs.packet.builder.SctpPacketBuilder.build.Goals as goal

@@ -1,10 +1,10 @@
 use Rattle.std.proofs.Common.{rules, ◌+◌, length, refl}
 use Rattle.dcsctp_tlv.proofs.Readings.{finds_as}
-use Rattle.dcsctp_wire.specs.Init.{init_row, init_parts}
-use Rattle.dcsctp_wire.specs.ParameterList.{parameter_list_row}
-use Rattle.dcsctp_wire.specs.CauseList.{abort_row, error_row}
-use Rattle.dcsctp_wire.specs.Account.{chunk_parts}
-use Rattle.dcsctp_wire.specs.Chunk.{Init, InitAck, HeartbeatRequest, HeartbeatAck, Abort, Error, ReConfig}
+use Rattle.dcsctp_wire.specs.InitFields.{row as init_row, parts as init_parts}
+use Rattle.dcsctp_wire.specs.ParameterList.{row as parameter_list_row}
+use Rattle.dcsctp_wire.specs.Abort.{row as abort_row}
+use Rattle.dcsctp_wire.specs.Error.{row as error_row}
+use Rattle.dcsctp_wire.specs.Chunk.{parts as chunk_parts, Init, InitAck, HeartbeatRequest, HeartbeatAck, Abort, Error, ReConfig}
 use Rattle.dcsctp_wire.proofs.PlainRows.{plain_stands}
 use Rattle.dcsctp_wire.proofs.packet.chunk.ChunkReadableTlv.check.Goals as goal
 

@@ -1,7 +1,8 @@
 use Rattle.std.proofs.Common.{ap, ◌∙◌, ℕ, List}
 use Rattle.dcsctp_tlv.specs.Image.{image_of, listed_tlv, written}
 use Rattle.dcsctp_tlv.specs.Parameter.{ParameterTree, tlv as parameter_tlv, views}
-use Rattle.dcsctp_wire.specs.Init.{init_numbers, init_view}
+use Rattle.dcsctp_wire.specs.InitFields.{leading as init_numbers}
+use Rattle.dcsctp_wire.specs.Init.{view as init_view}
 use Rattle.dcsctp_wire.proofs.packet.init_chunk.InitChunkSerializableTlv.serialize_to.Goals as goal
 
 pub returns : goal.returns

@@ -1,0 +1,27 @@
+-- ERROR (RFC 9260 section 3.3.10): type 9, flags ignored; the value is a list of error causes, one
+-- at least.
+use Rattle.std.specs.Prelude.{◌≢◌, true, false, List, [], ◌==◌, if◌then◌else◌, length, codes}
+use Rattle.std.specs.List.{AllByRecursion}
+use Rattle.dcsctp_tlv.specs.Format.{Format}
+use Rattle.dcsctp_tlv.specs.Level.{Row, listed}
+use Rattle.dcsctp_tlv.specs.Image.{listed_tlv}
+use Rattle.dcsctp_tlv.proofs.Listed.{listed_sized}
+use Rattle.dcsctp_cause.specs.Cause as cause
+use Rattle.dcsctp_cause.proofs.CauseLaws.{length-cause}
+use Rattle.dcsctp_wire.specs.declared.packet.error_chunk.ErrorChunk.{ErrorChunk}
+
+-- No bytes are the empty list: it is refused.
+abbrev pub row : Row (List cause.CauseTree)
+row = listed (λ value. if length value == 0 then false else true) 0 cause.causes (λ value cs. cs)
+
+abbrev pub format : List cause.CauseTree → Format
+format cs = record {
+  tlv = listed_tlv 9 0 [] cause.tlv cs;
+  sized = listed_sized cause.tlv length-cause 9 0 [] cs;
+  text = codes "ERROR";
+  IsInWidth = AllByRecursion cause.IsInWidth cs;
+  IsWellFormed = (cs ≢ []) × AllByRecursion cause.IsWellFormed cs;
+}
+
+abbrev pub view : ErrorChunk → List cause.CauseTree
+view c = cause.views c.error_causes.items
