@@ -3,9 +3,9 @@
 ghost use Rattle.std.specs.Prelude.{◌≡◌, ◌≤◌, ◌+◌, ◌*◌, ◌++◌, ℕ, List, All, IfOk, length, drop, map, refl};
 ghost use Rattle.std.specs.Int.{w16, w32, to_be_bytes};
 ghost use Rattle.std.specs.List.{flat_map};
-ghost use Rattle.dcsctp_tlv.specs.Fields.{fields, fields_tlv};
-ghost use Rattle.dcsctp_tlv.specs.Image.{put, solid_tlv, IsEncodable, size_of, image_of, written};
-ghost use Rattle.dcsctp_tlv.specs.Number.{number16, number32, numbers};
+ghost use Rattle.dcsctp_tlv.specs.Fields.{fields, numbers_and_fields_tlv, fields_tlv};
+ghost use Rattle.dcsctp_tlv.specs.Image.{put, IsEncodable, size_of, image_of, written};
+ghost use Rattle.dcsctp_tlv.specs.Number.{number16, number32};
 
 use crate::frame::{TLV_HEADER_SIZE, put_header};
 use crate::number::{read_u16_be, read_u32_be, write_u16_be, write_u32_be};
@@ -174,9 +174,12 @@ pub fn put_numbers_and_fields<F: Field>(
     output: &mut [u8],
 )
     requires writable { All F.is_writable list.now }
-    requires encodable { IsEncodable (solid_tlv first second (numbers w32 leading.now ++ flat_map F.field_bytes (map F.view list.now))) }
-    requires room { size_of (solid_tlv first second (numbers w32 leading.now ++ flat_map F.field_bytes (map F.view list.now))) ≤ length output.old }
-    ensures { output.new ≡ written (image_of (solid_tlv first second (numbers w32 leading.now ++ flat_map F.field_bytes (map F.view list.now)))) output.old }
+    requires encodable { IsEncodable (numbers_and_fields_tlv
+        first second leading.now F.field_bytes F.SIZE (map F.view list.now)) }
+    requires room { size_of (numbers_and_fields_tlv
+        first second leading.now F.field_bytes F.SIZE (map F.view list.now)) ≤ length output.old }
+    ensures { output.new ≡ written (image_of (numbers_and_fields_tlv
+        first second leading.now F.field_bytes F.SIZE (map F.view list.now))) output.old }
 {
     let place = 4 * leading.len();
     let value_size = place + F::SIZE * list.len();
