@@ -36,6 +36,13 @@ length-typed_tlv typ bytes = length-solid_tlv (typ / 256) (typ % 256) bytes
 
 -- ---- fields
 
+-- bytes of a known number, and after them any
+pub length-fixed : (size : ℕ) (fixed rest : List ℕ) → length fixed ≡ size
+    → length (solid (fixed ++ rest)) ≡ size + length rest
+length-fixed size fixed rest e =
+    length-solid (fixed ++ rest) ∙ length-append fixed rest
+    ∙ ap (λ (k : ℕ). k + length rest) e
+
 -- so many fields of one size
 pub length-each : {A : Type 0} (write : A → List ℕ) (size : ℕ) (xs : List A)
     → ((x : A) → length (write x) ≡ size) → length (flat_map write xs) ≡ size * length xs
