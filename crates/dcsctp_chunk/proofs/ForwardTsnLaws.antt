@@ -1,5 +1,5 @@
--- FORWARD-TSN and I-FORWARD-TSN: what is written is read again, and what was read is well-formed and
--- keeps its size.
+-- FORWARD-TSN and I-FORWARD-TSN: what is written is read again, and what was read is well-formed
+-- and keeps its size.
 use Rattle.std.proofs.Common.{◌≡◌, ℕ, ◌+◌, ◌-◌, ◌*◌, ◌/◌, ◌%◌, Bool, true, false, List, [], ◌∷◌, ◌++◌, length, drop, refl, sym, ap, subst, ◌∙◌, arith, Ok}
 use Rattle.std.specs.Prelude.{◌==◌, nat_lt}
 use Rattle.std.specs.Int.{w32}

@@ -1,4 +1,5 @@
--- User data as it is written: a header, and after it numbers and a payload, one put after the other.
+-- User data as it is written: a header, and after it numbers and a payload, one put after the
+-- other.
 use Rattle.std.proofs.Common.{◌≡◌, ℕ, ◌+◌, ◌≤◌, List, ◌++◌, length, drop, ap, ◌∙◌, arith}
 use Rattle.dcsctp_tlv.specs.Format.{flagged_tlv}
 use Rattle.dcsctp_tlv.specs.Frame.{header}

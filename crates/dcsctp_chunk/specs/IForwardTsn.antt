@@ -1,6 +1,6 @@
 -- I-FORWARD-TSN (RFC 8260 section 2.3.1): type 194, flags ignored; the value is the new cumulative
--- TSN, four bytes, and then the skipped streams: the stream id, two bytes, two more whose lowest bit
--- says unordered, and the message id, four bytes.
+-- TSN, four bytes, and then the skipped streams: the stream id, two bytes, two more whose lowest
+-- bit says unordered, and the message id, four bytes.
 use Rattle.std.specs.Prelude.{◌≡◌, ℕ, ◌-◌, ◌/◌, ◌%◌, true, List, [], ◌∷◌, ◌++◌, ◌==◌, nat_lt, Result, Ok, Err, if◌then◌else◌, length, drop, codes, refl}
 use Rattle.std.specs.Fmt.{decimal}
 use Rattle.std.specs.Int.{w16, w32}

@@ -4,18 +4,18 @@ use Rattle.std.specs.Prelude.{◌==◌, IsOk}
 use Rattle.std.proofs.lemmas.Bool.{ne_eqb}
 use Rattle.dcsctp_tlv.specs.Fault.{Fault}
 use Rattle.dcsctp_tlv.specs.Level.{Row, pick, map_ok, MeansParts}
-use Rattle.dcsctp_chunk.specs.CookieAck.{cookie_ack_at}
-use Rattle.dcsctp_chunk.specs.CookieEcho.{cookie_echo_at}
-use Rattle.dcsctp_chunk.specs.DataChunk.{data_at}
-use Rattle.dcsctp_chunk.specs.ForwardTsn.{forward_tsn_at}
-use Rattle.dcsctp_chunk.specs.IDataChunk.{idata_at}
-use Rattle.dcsctp_chunk.specs.IForwardTsn.{iforward_tsn_at}
+use Rattle.dcsctp_wire.specs.PlainKinds.{cookie_ack_at}
+use Rattle.dcsctp_wire.specs.PlainKinds.{cookie_echo_at}
+use Rattle.dcsctp_wire.specs.PlainKinds.{data_at}
+use Rattle.dcsctp_wire.specs.PlainKinds.{forward_tsn_at}
+use Rattle.dcsctp_wire.specs.PlainKinds.{idata_at}
+use Rattle.dcsctp_wire.specs.PlainKinds.{iforward_tsn_at}
 use Rattle.dcsctp_chunk.specs.PlainCheck.{outcome, plain_outcome}
-use Rattle.dcsctp_chunk.specs.Sack.{sack_at}
-use Rattle.dcsctp_chunk.specs.Shutdown.{shutdown_at}
-use Rattle.dcsctp_chunk.specs.ShutdownAck.{shutdown_ack_at}
-use Rattle.dcsctp_chunk.specs.ShutdownComplete.{shutdown_complete_at}
-use Rattle.dcsctp_chunk.specs.Unknown.{unknown_at}
+use Rattle.dcsctp_wire.specs.PlainKinds.{sack_at}
+use Rattle.dcsctp_wire.specs.PlainKinds.{shutdown_at}
+use Rattle.dcsctp_wire.specs.PlainKinds.{shutdown_ack_at}
+use Rattle.dcsctp_wire.specs.PlainKinds.{shutdown_complete_at}
+use Rattle.dcsctp_chunk.specs.Unknown.{read as unknown_at}
 use Rattle.dcsctp_wire.specs.Account.{chunk_parts}
 use Rattle.dcsctp_wire.specs.Chunk.{ChunkTree, Data, Sack, Shutdown, ShutdownAck, CookieEcho, CookieAck, ShutdownComplete, IData, ForwardTsn, IForwardTsn, Unknown, chunk_row}
 

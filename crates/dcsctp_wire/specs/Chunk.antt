@@ -10,19 +10,20 @@ use Rattle.dcsctp_tlv.proofs.Images.{length-solid_tlv}
 use Rattle.dcsctp_tlv.proofs.Listed.{length-listed_tlv}
 use Rattle.dcsctp_cause.specs.Cause.{CauseTree, tlv as cause_tlv}
 use Rattle.dcsctp_cause.proofs.CauseLaws.{length-cause}
-use Rattle.dcsctp_chunk.specs.CookieAck.{cookie_ack_at, cookie_ack_tlv, cookie_ack_text}
-use Rattle.dcsctp_chunk.specs.CookieEcho.{cookie_echo_at, cookie_echo_tlv, cookie_echo_text, cookie_echo_view}
-use Rattle.dcsctp_chunk.specs.Data.{DataChunkTree, user_data_flags}
-use Rattle.dcsctp_chunk.specs.DataChunk.{data_at, data_bytes, data_tlv, data_text, data_view}
+use Rattle.dcsctp_wire.specs.PlainKinds.{cookie_ack_at, cookie_ack_tlv, cookie_ack_text}
+use Rattle.dcsctp_wire.specs.PlainKinds.{cookie_echo_at, cookie_echo_tlv, cookie_echo_text, cookie_echo_view}
+use Rattle.dcsctp_tlv.specs.Length.{length-format}
+use Rattle.dcsctp_wire.specs.PlainKinds.{DataChunkTree}
+use Rattle.dcsctp_wire.specs.PlainKinds.{data_at, data_format, data_tlv, data_text, data_view}
 use Rattle.dcsctp_chunk.specs.Flags.{flag_byte}
-use Rattle.dcsctp_chunk.specs.ForwardTsn.{ForwardTsnTree, forward_tsn_at, forward_tsn_bytes, forward_tsn_tlv, forward_tsn_text, forward_tsn_view, IsForwardTsnEncodable}
-use Rattle.dcsctp_chunk.specs.IDataChunk.{idata_at, idata_bytes, idata_tlv, idata_text, idata_view}
-use Rattle.dcsctp_chunk.specs.IForwardTsn.{IForwardTsnTree, iforward_tsn_at, iforward_tsn_bytes, iforward_tsn_tlv, iforward_tsn_text, iforward_tsn_view, IsIForwardTsnEncodable}
-use Rattle.dcsctp_chunk.specs.Sack.{SackTree, sack_at, sack_bytes, sack_tlv, sack_text, sack_view}
-use Rattle.dcsctp_chunk.specs.Shutdown.{shutdown_at, shutdown_tlv, shutdown_text, shutdown_view}
-use Rattle.dcsctp_chunk.specs.ShutdownAck.{shutdown_ack_at, shutdown_ack_tlv, shutdown_ack_text}
-use Rattle.dcsctp_chunk.specs.ShutdownComplete.{shutdown_complete_at, shutdown_complete_tlv, shutdown_complete_text, shutdown_complete_view}
-use Rattle.dcsctp_chunk.specs.Unknown.{UnknownTree, unknown_at, unknown_tlv, unknown_text, unknown_view}
+use Rattle.dcsctp_wire.specs.PlainKinds.{ForwardTsnTree, forward_tsn_at, forward_tsn_format, forward_tsn_tlv, forward_tsn_text, forward_tsn_view, IsForwardTsnEncodable}
+use Rattle.dcsctp_wire.specs.PlainKinds.{idata_at, idata_format, idata_tlv, idata_text, idata_view}
+use Rattle.dcsctp_wire.specs.PlainKinds.{IForwardTsnTree, iforward_tsn_at, iforward_tsn_format, iforward_tsn_tlv, iforward_tsn_text, iforward_tsn_view, IsIForwardTsnEncodable}
+use Rattle.dcsctp_wire.specs.PlainKinds.{SackTree, sack_at, sack_format, sack_tlv, sack_text, sack_view}
+use Rattle.dcsctp_wire.specs.PlainKinds.{shutdown_at, shutdown_tlv, shutdown_text, shutdown_view}
+use Rattle.dcsctp_wire.specs.PlainKinds.{shutdown_ack_at, shutdown_ack_tlv, shutdown_ack_text}
+use Rattle.dcsctp_wire.specs.PlainKinds.{shutdown_complete_at, shutdown_complete_tlv, shutdown_complete_text, shutdown_complete_view}
+use Rattle.dcsctp_wire.specs.PlainKinds.{UnknownTree, unknown_at, unknown_tlv, unknown_text, unknown_view}
 use Rattle.dcsctp_wire.specs.CauseList.{AbortTree, abort_row, abort_tlv, abort_text, abort_view, error_row, error_tlv, error_text, error_view}
 use Rattle.dcsctp_wire.specs.Init.{InitTree, init_row, init_numbers, init_tlv, init_text, init_view, init_ack_view}
 use Rattle.dcsctp_wire.specs.ParameterList.{parameter_list_row, parameter_list_tlv, heartbeat_request_text, heartbeat_request_view, heartbeat_ack_text, heartbeat_ack_view, re_config_text, re_config_view}
@@ -162,10 +163,10 @@ encodable_size t h = h
 
 -- an image is as long as its size
 pub length-chunk : (t : ChunkTree) → length (image_of (chunk_tlv t)) ≡ size_of (chunk_tlv t)
-length-chunk (Data c) = length-solid_tlv 0 (user_data_flags c.user_data c.immediate_ack) (data_bytes c)
+length-chunk (Data c) = length-format (data_format c)
 length-chunk (Init i) = length-listed_tlv parameter_tlv length-parameter 1 0 (init_numbers i) i.parameters
 length-chunk (InitAck i) = length-listed_tlv parameter_tlv length-parameter 2 0 (init_numbers i) i.parameters
-length-chunk (Sack s) = length-solid_tlv 3 0 (sack_bytes s)
+length-chunk (Sack s) = length-format (sack_format s)
 length-chunk (HeartbeatRequest ps) = length-listed_tlv parameter_tlv length-parameter 4 0 [] ps
 length-chunk (HeartbeatAck ps) = length-listed_tlv parameter_tlv length-parameter 5 0 [] ps
 length-chunk (Abort a) = length-listed_tlv cause_tlv length-cause 6 (flag_byte (a.tag_reflected ∷ [])) [] a.causes
@@ -175,8 +176,8 @@ length-chunk (Error cs) = length-listed_tlv cause_tlv length-cause 9 0 [] cs
 length-chunk (CookieEcho cookie) = length-solid_tlv 10 0 cookie
 length-chunk CookieAck = length-solid_tlv 11 0 []
 length-chunk (ShutdownComplete reflected) = length-solid_tlv 14 (flag_byte (reflected ∷ [])) []
-length-chunk (IData c) = length-solid_tlv 64 (user_data_flags c.user_data c.immediate_ack) (idata_bytes c)
+length-chunk (IData c) = length-format (idata_format c)
 length-chunk (ReConfig ps) = length-listed_tlv parameter_tlv length-parameter 130 0 [] ps
-length-chunk (ForwardTsn f) = length-solid_tlv 192 0 (forward_tsn_bytes f)
-length-chunk (IForwardTsn f) = length-solid_tlv 194 0 (iforward_tsn_bytes f)
+length-chunk (ForwardTsn f) = length-format (forward_tsn_format f)
+length-chunk (IForwardTsn f) = length-format (iforward_tsn_format f)
 length-chunk (Unknown u) = length-solid_tlv u.typ u.flags u.value

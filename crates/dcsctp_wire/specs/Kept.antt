@@ -3,9 +3,9 @@ use Rattle.std.specs.Prelude.{◌≢◌, List, [], map}
 use Rattle.std.specs.List.{AllByRecursion}
 use Rattle.dcsctp_tlv.specs.Parameter.{IsTyped as IsParameterTyped, all_kept as kept_parameters}
 use Rattle.dcsctp_cause.specs.Cause.{IsWellFormed as IsCauseWellFormed}
-use Rattle.dcsctp_chunk.specs.DataChunk.{kept_data}
-use Rattle.dcsctp_chunk.specs.IDataChunk.{kept_idata}
-use Rattle.dcsctp_chunk.specs.CookieEcho.{IsCookieEchoWellFormed}
+use Rattle.dcsctp_wire.specs.PlainKinds.{kept_data}
+use Rattle.dcsctp_wire.specs.PlainKinds.{kept_idata}
+use Rattle.dcsctp_wire.specs.PlainKinds.{IsCookieEchoWellFormed}
 use Rattle.dcsctp_wire.specs.Chunk.{ChunkTree, Data, Init, InitAck, HeartbeatRequest, HeartbeatAck, Abort, Error, CookieEcho, IData, ReConfig, Unknown}
 use Rattle.dcsctp_wire.specs.WellFormed.{IsUnnamedChunk}
 

@@ -3,14 +3,14 @@ use Rattle.std.specs.Prelude.{◌≢◌, ◌<◌, ◌^◌, ℕ, []}
 use Rattle.std.specs.List.{AllByRecursion}
 use Rattle.dcsctp_tlv.specs.Parameter.{IsInWidth as IsParameterInWidth, IsWellFormed as IsParameterWellFormed}
 use Rattle.dcsctp_cause.specs.Cause.{IsInWidth as IsCauseInWidth, IsWellFormed as IsCauseWellFormed}
-use Rattle.dcsctp_chunk.specs.DataChunk.{IsDataInWidth, IsDataWellFormed}
-use Rattle.dcsctp_chunk.specs.IDataChunk.{IsIDataInWidth, IsIDataWellFormed}
-use Rattle.dcsctp_chunk.specs.ForwardTsn.{IsForwardTsnInWidth, IsForwardTsnWellFormed}
-use Rattle.dcsctp_chunk.specs.IForwardTsn.{IsIForwardTsnInWidth, IsIForwardTsnWellFormed}
-use Rattle.dcsctp_chunk.specs.Sack.{IsSackInWidth}
-use Rattle.dcsctp_chunk.specs.Shutdown.{IsShutdownInWidth}
-use Rattle.dcsctp_chunk.specs.CookieEcho.{IsCookieEchoInWidth, IsCookieEchoWellFormed}
-use Rattle.dcsctp_chunk.specs.Unknown.{IsUnknownInWidth}
+use Rattle.dcsctp_wire.specs.PlainKinds.{IsDataInWidth, IsDataWellFormed}
+use Rattle.dcsctp_wire.specs.PlainKinds.{IsIDataInWidth, IsIDataWellFormed}
+use Rattle.dcsctp_wire.specs.PlainKinds.{IsForwardTsnInWidth, IsForwardTsnWellFormed}
+use Rattle.dcsctp_wire.specs.PlainKinds.{IsIForwardTsnInWidth, IsIForwardTsnWellFormed}
+use Rattle.dcsctp_wire.specs.PlainKinds.{IsSackInWidth}
+use Rattle.dcsctp_wire.specs.PlainKinds.{IsShutdownInWidth}
+use Rattle.dcsctp_wire.specs.PlainKinds.{IsCookieEchoInWidth, IsCookieEchoWellFormed}
+use Rattle.dcsctp_wire.specs.PlainKinds.{IsUnknownInWidth}
 use Rattle.dcsctp_wire.specs.Init.{IsInitInWidth}
 use Rattle.dcsctp_wire.specs.Chunk.{ChunkTree, Data, Init, InitAck, Sack, HeartbeatRequest, HeartbeatAck, Abort, Shutdown, ShutdownAck, Error, CookieEcho, CookieAck, ShutdownComplete, ReConfig, ForwardTsn, IData, IForwardTsn, Unknown}
 use Rattle.dcsctp_wire.specs.Packet.{Meaning}
