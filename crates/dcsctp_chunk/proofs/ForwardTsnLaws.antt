@@ -36,7 +36,8 @@ ssn_stream_law = record { sized = λ s is. by_ssn.length-stream s; back = again 
       → by_ssn.stream_at (by_ssn.stream_bytes s ++ rest) ≡ s
   again (BySsn stream ssn) rest is =
       rw (
-        from_be_bytes-to_be_bytes_2 stream is.0.0, from_be_bytes-to_be_bytes_2 ssn is.0.1
+        from_be_bytes-to_be_bytes_2 stream is.0.0,
+        from_be_bytes-to_be_bytes_2 ssn is.0.1,
       ) refl
   again (ByMid stream is_unordered mid) rest is = absurd (true≢false is.1)
 
@@ -47,11 +48,13 @@ mid_stream_law = record { sized = λ s is. by_mid.length-stream s; back = again 
   again (BySsn stream ssn) rest is = absurd (false≢true is.1)
   again (ByMid stream true mid) rest is =
       rw (
-        from_be_bytes-to_be_bytes_2 stream is.0.0, from_be_bytes-to_be_bytes_4 mid is.0.1
+        from_be_bytes-to_be_bytes_2 stream is.0.0,
+        from_be_bytes-to_be_bytes_4 mid is.0.1,
       ) refl
   again (ByMid stream false mid) rest is =
       rw (
-        from_be_bytes-to_be_bytes_2 stream is.0.0, from_be_bytes-to_be_bytes_4 mid is.0.1
+        from_be_bytes-to_be_bytes_2 stream is.0.0,
+        from_be_bytes-to_be_bytes_4 mid is.0.1,
       ) refl
 
 -- streams that were read have a place each, and are as many as were read
@@ -85,8 +88,10 @@ back t width own =
     t.streams ((length value - 4) / 4) (omega (arith, sized))
     (placed false t.streams width.streams own) in
     rw (
-      le-ltb (length value) 4 (omega (arith, sized)), eq-eqb (length value % 4) 0 whole,
-      from_be_bytes-to_be_bytes_4 t.tsn width.tsn, streams_are
+      le-ltb (length value) 4 (omega (arith, sized)),
+      eq-eqb (length value % 4) 0 whole,
+      from_be_bytes-to_be_bytes_4 t.tsn width.tsn,
+      streams_are,
     ) refl
 
 -- what is read is well-formed, and is written with as many bytes
@@ -129,8 +134,10 @@ iback t width own =
     t.streams ((length value - 4) / 8) (omega (arith, sized))
     (placed true t.streams width.streams own) in
     rw (
-      le-ltb (length value) 4 (omega (arith, sized)), eq-eqb ((length value - 4) % 8) 0 whole,
-      from_be_bytes-to_be_bytes_4 t.tsn width.tsn, streams_are
+      le-ltb (length value) 4 (omega (arith, sized)),
+      eq-eqb ((length value - 4) % 8) 0 whole,
+      from_be_bytes-to_be_bytes_4 t.tsn width.tsn,
+      streams_are,
     ) refl
 
 -- what is read is well-formed, and is written with as many bytes

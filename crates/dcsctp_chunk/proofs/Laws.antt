@@ -119,15 +119,22 @@ kept_data_is c form =
     ∙ ap (λ (n : ℕ). record c { user_data = record c.user_data { fsn = n } }) (sym form.fsn)
 
 -- what is written of a tree is read as what it keeps
-data_back : (c : Tree) → IsInWidth c → data_chunk.read (flags_of c) (data_chunk.bytes c) ≡ Ok (data_chunk.kept c)
+data_back : (c : Tree) → IsInWidth c
+    → data_chunk.read (flags_of c) (data_chunk.bytes c) ≡ Ok (data_chunk.kept c)
 unfolding data_chunk.read
 data_back c width =
     let d = c.user_data in
     let flags = four_again d.ending d.beginning d.unordered c.immediate_ack in
     rw (
-      le-ltb (length (data_chunk.bytes c)) 12 (omega arith), from_be_bytes-to_be_bytes_4 c.tsn width.tsn,
-      from_be_bytes-to_be_bytes_2 d.stream width.stream, from_be_bytes-to_be_bytes_2 d.ssn width.ssn,
-      from_be_bytes-to_be_bytes_4 d.ppid width.ppid, flags.0, flags.1, flags.2, flags.3
+      le-ltb (length (data_chunk.bytes c)) 12 (omega arith),
+      from_be_bytes-to_be_bytes_4 c.tsn width.tsn,
+      from_be_bytes-to_be_bytes_2 d.stream width.stream,
+      from_be_bytes-to_be_bytes_2 d.ssn width.ssn,
+      from_be_bytes-to_be_bytes_4 d.ppid width.ppid,
+      flags.0,
+      flags.1,
+      flags.2,
+      flags.3,
     ) refl
 
 pub data_laws : TypedLaws (λ first. data_chunk.read) data_chunk.format
@@ -151,7 +158,8 @@ data_keeps_size first flags value c is =
     omega (arith, ltb-false _ _ p.0, length-drop 12 value, payload)
 
 -- what isn't carried is neither written nor read
-pub data_kept_tlv : (c : Tree) → (data_chunk.format (data_chunk.kept c)).tlv ≡ (data_chunk.format c).tlv
+pub data_kept_tlv : (c : Tree)
+    → (data_chunk.format (data_chunk.kept c)).tlv ≡ (data_chunk.format c).tlv
 data_kept_tlv c = refl
 
 pub data_kept_formed : (c : Tree) → data_chunk.IsWellFormed (data_chunk.kept c)
@@ -211,7 +219,8 @@ kept_idata_is c form =
     ∙ ap (λ (n : ℕ). idata_with c d.ssn d.fsn n) p.1
 
 -- what is written of a tree is read as what it keeps
-idata_back : (c : Tree) → IsInWidth c → idata_chunk.read (flags_of c) (idata_chunk.bytes c) ≡ Ok (idata_chunk.kept c)
+idata_back : (c : Tree) → IsInWidth c
+    → idata_chunk.read (flags_of c) (idata_chunk.bytes c) ≡ Ok (idata_chunk.kept c)
 unfolding idata_chunk.read
 idata_back c width =
     let d = c.user_data in
@@ -219,10 +228,17 @@ idata_back c width =
     let numbers = read_numbers d.beginning d.fsn d.ppid in
     let number = number_in_width d.beginning d.ppid d.fsn width.ppid width.fsn in
     rw (
-      le-ltb (length (idata_chunk.bytes c)) 16 (omega arith), from_be_bytes-to_be_bytes_4 c.tsn width.tsn,
-      from_be_bytes-to_be_bytes_2 d.stream width.stream, from_be_bytes-to_be_bytes_4 d.mid width.mid,
+      le-ltb (length (idata_chunk.bytes c)) 16 (omega arith),
+      from_be_bytes-to_be_bytes_4 c.tsn width.tsn,
+      from_be_bytes-to_be_bytes_2 d.stream width.stream,
+      from_be_bytes-to_be_bytes_4 d.mid width.mid,
       from_be_bytes-to_be_bytes_4 (cond d.beginning d.ppid d.fsn) number,
-      flags.0, flags.1, flags.2, flags.3, numbers.0, numbers.1
+      flags.0,
+      flags.1,
+      flags.2,
+      flags.3,
+      numbers.0,
+      numbers.1,
     ) refl
 
 pub idata_laws : TypedLaws (λ first. idata_chunk.read) idata_chunk.format
@@ -245,7 +261,8 @@ idata_keeps_size first flags value c is =
     omega (arith, ltb-false _ _ p.0, length-drop 16 value, payload)
 
 -- what isn't carried is neither written nor read
-pub idata_kept_tlv : (c : Tree) → (idata_chunk.format (idata_chunk.kept c)).tlv ≡ (idata_chunk.format c).tlv
+pub idata_kept_tlv : (c : Tree)
+    → (idata_chunk.format (idata_chunk.kept c)).tlv ≡ (idata_chunk.format c).tlv
 idata_kept_tlv c =
     rw (carried_number c.user_data.beginning c.user_data.fsn c.user_data.ppid) refl
 

@@ -22,7 +22,8 @@ block_law = record {
   sized = λ b width. refl;
   back = λ b rest width.
       rw (
-        from_be_bytes-to_be_bytes_2 b.start width.start, from_be_bytes-to_be_bytes_2 b.end width.end
+        from_be_bytes-to_be_bytes_2 b.start width.start,
+        from_be_bytes-to_be_bytes_2 b.end width.end,
       ) refl;
 }
 
@@ -45,9 +46,14 @@ back s width fits =
     let duplicates_are : fields number32 4 m (drop (12 + 4 * n) value) ≡ s.duplicates =
     ap (fields number32 4 m) after ∙ numbers32_back s.duplicates m refl width.duplicates in
     rw (
-      count, more, le-ltb (length value) 12 (omega (arith, sized)),
-      eq-eqb (length value) (12 + 4 * n + 4 * m) sized, from_be_bytes-to_be_bytes_4 s.tsn width.tsn,
-      from_be_bytes-to_be_bytes_4 s.a_rwnd width.a_rwnd, blocks_are, duplicates_are
+      count,
+      more,
+      le-ltb (length value) 12 (omega (arith, sized)),
+      eq-eqb (length value) (12 + 4 * n + 4 * m) sized,
+      from_be_bytes-to_be_bytes_4 s.tsn width.tsn,
+      from_be_bytes-to_be_bytes_4 s.a_rwnd width.a_rwnd,
+      blocks_are,
+      duplicates_are,
     ) refl
 
 pub sack_laws : FormatLaws sack.read sack.format
