@@ -1,57 +1,77 @@
 -- SACK: what is written is read again, and what was read keeps its size.
-use Rattle.std.proofs.Common.{◌≡◌, ◌+◌, ◌*◌, length, drop, refl, sym, ap, ◌∙◌, arith, Ok, Some}
+use Rattle.std.proofs.Common.{◌≡◌, ◌+◌, ◌*◌, length, drop, refl, sym, ap, ◌∙◌, arith, Ok}
 use Rattle.std.specs.Prelude.{◌==◌, nat_lt}
 use Rattle.std.specs.Int.{w32}
 use Rattle.std.specs.List.{flat_map}
 use Rattle.std.proofs.lemmas.Bool.{le-ltb, eq-eqb, eqb-true}
-use Rattle.std.proofs.lemmas.List.{length-map, drop_at, drop-drop}
+use Rattle.std.proofs.lemmas.List.{drop_at, drop-drop}
 use Rattle.std.proofs.lemmas.Nat.{from_be_bytes-to_be_bytes_2, from_be_bytes-to_be_bytes_4}
 use Rattle.dcsctp_tlv.specs.Fault.{Length}
 use Rattle.dcsctp_tlv.specs.Fields.{fields}
 use Rattle.dcsctp_tlv.specs.Image.{IsEncodable}
+use Rattle.dcsctp_tlv.specs.Length.{length-each}
 use Rattle.dcsctp_tlv.specs.Number.{number32, numbers}
 use Rattle.dcsctp_tlv.proofs.FieldLaws.{FieldLaw, length-fields, fields_back, numbers32_back}
-use Rattle.dcsctp_tlv.proofs.KindLaws.{KindLaws, KeepsSize, of_ok, passed, not_refused}
-use Rattle.dcsctp_tlv.proofs.ReadsBack.{zeroed-solid}
-use Rattle.dcsctp_chunk.specs.Sack.{SackTree, block_at, block_bytes, block_count, duplicate_count, sack_at, sack_bytes, sack_tlv, IsBlockInWidth, IsSackInWidth}
-use Rattle.dcsctp_chunk.proofs.Sacks.{size_of_blocks, length-sack}
+use Rattle.dcsctp_tlv.proofs.FormatLaws.{FormatLaws, Keeps, format_laws}
+use Rattle.dcsctp_tlv.proofs.KindLaws.{of_ok, passed, not_refused}
+use Rattle.dcsctp_chunk.specs.Sack as sack
+use Rattle.dcsctp_chunk.specs.Sack.{Tree, block_at, block_bytes, block_count, duplicate_count, length-lists, IsBlockInWidth, IsInWidth}
 
 block_law : FieldLaw block_at block_bytes 4 IsBlockInWidth
 block_law = record {
   sized = λ b width. refl;
-  back = λ b rest width. rw (from_be_bytes-to_be_bytes_2 b.start width.start, from_be_bytes-to_be_bytes_2 b.end width.end) refl;
+  back = λ b rest width.
+      rw (
+        from_be_bytes-to_be_bytes_2 b.start width.start,
+        from_be_bytes-to_be_bytes_2 b.end width.end,
+      ) refl;
 }
 
-back : (s : SackTree) → IsSackInWidth s → IsEncodable (sack_tlv s) → sack_at (sack_bytes s) ≡ Ok s
-unfolding sack_at
+back : (s : Tree) → IsInWidth s → IsEncodable (sack.format s).tlv → sack.read (sack.bytes s) ≡ Ok s
+unfolding sack.read
 back s width fits =
-    let value = sack_bytes s in
+    let value = sack.bytes s in
     let n = length s.blocks in
     let m = length s.duplicates in
     let duplicates = numbers w32 s.duplicates in
-    let sized = length-sack s in
-    let count : block_count value ≡ n = from_be_bytes-to_be_bytes_2 n (omega (arith, sized, fits)) in
-    let more : duplicate_count value ≡ m = from_be_bytes-to_be_bytes_2 m (omega (arith, sized, fits)) in
-    let blocks_are : fields block_at 4 n (drop 12 value) ≡ s.blocks = fields_back block_at block_bytes 4 IsBlockInWidth block_law s.blocks duplicates width.blocks in
-    let after : drop (12 + 4 * n) value ≡ duplicates = sym (drop-drop (4 * n) 12 value) ∙ drop_at (flat_map block_bytes s.blocks) duplicates (4 * n) (size_of_blocks s.blocks) in
-    let duplicates_are : fields number32 4 m (drop (12 + 4 * n) value) ≡ s.duplicates = ap (fields number32 4 m) after ∙ numbers32_back s.duplicates m refl width.duplicates in
-    rw (count, more, le-ltb (length value) 12 (omega (arith, sized)), eq-eqb (length value) (12 + 4 * n + 4 * m) sized, from_be_bytes-to_be_bytes_4 s.tsn width.tsn, from_be_bytes-to_be_bytes_4 s.a_rwnd width.a_rwnd, blocks_are, duplicates_are) refl
+    let sized : length value ≡ 12 + 4 * n + 4 * m = (let l = length-lists s in omega (arith, l)) in
+    let count : block_count value ≡ n = from_be_bytes-to_be_bytes_2 n (omega (arith, fits)) in
+    let more : duplicate_count value ≡ m = from_be_bytes-to_be_bytes_2 m (omega (arith, fits)) in
+    let blocks_are : fields block_at 4 n (drop 12 value) ≡ s.blocks =
+    fields_back block_at block_bytes 4 IsBlockInWidth block_law s.blocks duplicates width.blocks in
+    let after : drop (12 + 4 * n) value ≡ duplicates =
+    sym (drop-drop (4 * n) 12 value)
+    ∙ drop_at (flat_map block_bytes s.blocks) duplicates (4 * n)
+    (length-each block_bytes 4 s.blocks (λ b. refl)) in
+    let duplicates_are : fields number32 4 m (drop (12 + 4 * n) value) ≡ s.duplicates =
+    ap (fields number32 4 m) after ∙ numbers32_back s.duplicates m refl width.duplicates in
+    rw (
+      count,
+      more,
+      le-ltb (length value) 12 (omega (arith, sized)),
+      eq-eqb (length value) (12 + 4 * n + 4 * m) sized,
+      from_be_bytes-to_be_bytes_4 s.tsn width.tsn,
+      from_be_bytes-to_be_bytes_4 s.a_rwnd width.a_rwnd,
+      blocks_are,
+      duplicates_are,
+    ) refl
 
-pub sack_laws : KindLaws (λ first flags value. sack_at value) sack_tlv IsSackInWidth (λ s. Unit {0})
-sack_laws = record {
-  sized = λ s. length-map (sack_bytes s) Some;
-  back = λ s width formed fits. ap sack_at (zeroed-solid (sack_bytes s)) ∙ back s width fits;
-  formed = λ first flags value s is. tt;
-}
+pub sack_laws : FormatLaws sack.read sack.format
+sack_laws =
+    format_laws sack.read sack.format sack.bytes (λ s. refl)
+    (λ s width formed fits. back s width fits) (λ value s is. tt)
 
-pub sack_keeps_size : KeepsSize (λ first flags value. sack_at value) sack_tlv
-unfolding sack_at
+pub sack_keeps_size : Keeps sack.read sack.format
+unfolding sack.read
 sack_keeps_size first flags value s is =
     let n = block_count value in
     let m = duplicate_count value in
     let long = not_refused (nat_lt (length value) 12) _ Length s is in
     let whole = passed (length value == 12 + 4 * n + 4 * m) _ Length s long.1 in
     let e = of_ok _ s whole.1 in
-    let blocks : length s.blocks ≡ n = ap (λ (t : SackTree). length t.blocks) (sym e) ∙ length-fields block_at 4 n (drop 12 value) in
-    let duplicates : length s.duplicates ≡ m = ap (λ (t : SackTree). length t.duplicates) (sym e) ∙ length-fields number32 4 m (drop (12 + 4 * n) value) in
-    omega (arith, length-sack s, blocks, duplicates, eqb-true (length value) (12 + 4 * n + 4 * m) whole.0)
+    let blocks : length s.blocks ≡ n =
+    ap (λ (t : Tree). length t.blocks) (sym e) ∙ length-fields block_at 4 n (drop 12 value) in
+    let duplicates : length s.duplicates ≡ m =
+    ap (λ (t : Tree). length t.duplicates) (sym e)
+    ∙ length-fields number32 4 m (drop (12 + 4 * n) value) in
+    omega (arith, blocks, duplicates, eqb-true (length value) (12 + 4 * n + 4 * m) whole.0)

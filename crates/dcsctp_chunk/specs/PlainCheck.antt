@@ -1,17 +1,18 @@
--- Which values the kinds without a list of parameters or error causes can have: a line for each kind.
+-- Which values the kinds without a list of parameters or error causes can have: a line for each
+-- kind.
 use Rattle.std.specs.Prelude.{ℕ, List, ◌==◌, Result, Ok, if◌then◌else◌}
 use Rattle.dcsctp_tlv.specs.Fault.{Fault}
 use Rattle.dcsctp_tlv.specs.Level.{map_ok}
-use Rattle.dcsctp_chunk.specs.CookieAck.{cookie_ack_at}
-use Rattle.dcsctp_chunk.specs.CookieEcho.{cookie_echo_at}
-use Rattle.dcsctp_chunk.specs.DataChunk.{data_at}
-use Rattle.dcsctp_chunk.specs.ForwardTsn.{forward_tsn_at}
-use Rattle.dcsctp_chunk.specs.IDataChunk.{idata_at}
-use Rattle.dcsctp_chunk.specs.IForwardTsn.{iforward_tsn_at}
-use Rattle.dcsctp_chunk.specs.Sack.{sack_at}
-use Rattle.dcsctp_chunk.specs.Shutdown.{shutdown_at}
-use Rattle.dcsctp_chunk.specs.ShutdownAck.{shutdown_ack_at}
-use Rattle.dcsctp_chunk.specs.ShutdownComplete.{shutdown_complete_at}
+use Rattle.dcsctp_chunk.specs.CookieAck as cookie_ack
+use Rattle.dcsctp_chunk.specs.CookieEcho as cookie_echo
+use Rattle.dcsctp_chunk.specs.DataChunk as data_chunk
+use Rattle.dcsctp_chunk.specs.ForwardTsn as forward_tsn
+use Rattle.dcsctp_chunk.specs.IDataChunk as idata_chunk
+use Rattle.dcsctp_chunk.specs.IForwardTsn as iforward_tsn
+use Rattle.dcsctp_chunk.specs.Sack as sack
+use Rattle.dcsctp_chunk.specs.Shutdown as shutdown
+use Rattle.dcsctp_chunk.specs.ShutdownAck as shutdown_ack
+use Rattle.dcsctp_chunk.specs.ShutdownComplete as shutdown_complete
 
 -- whether the kind reads the value, or with which fault it doesn't
 abbrev pub outcome : {T : Type 0} → Result T Fault → Result (Unit {0}) Fault
@@ -20,14 +21,14 @@ outcome read = map_ok (λ _. tt) read
 -- A kind reads the value, or has a fault. Any value of another type passes.
 abbrev pub plain_outcome : ℕ → ℕ → List ℕ → Result (Unit {0}) Fault
 plain_outcome typ flags value =
-    if typ == 0 then outcome (data_at flags value) else
-    if typ == 3 then outcome (sack_at value) else
-    if typ == 7 then outcome (shutdown_at value) else
-    if typ == 8 then outcome (shutdown_ack_at value) else
-    if typ == 10 then outcome (cookie_echo_at value) else
-    if typ == 11 then outcome (cookie_ack_at value) else
-    if typ == 14 then outcome (shutdown_complete_at flags value) else
-    if typ == 64 then outcome (idata_at flags value) else
-    if typ == 192 then outcome (forward_tsn_at value) else
-    if typ == 194 then outcome (iforward_tsn_at value) else
+    if typ == 0 then outcome (data_chunk.read flags value) else
+    if typ == 3 then outcome (sack.read value) else
+    if typ == 7 then outcome (shutdown.read value) else
+    if typ == 8 then outcome (shutdown_ack.read value) else
+    if typ == 10 then outcome (cookie_echo.read value) else
+    if typ == 11 then outcome (cookie_ack.read value) else
+    if typ == 14 then outcome (shutdown_complete.read flags value) else
+    if typ == 64 then outcome (idata_chunk.read flags value) else
+    if typ == 192 then outcome (forward_tsn.read value) else
+    if typ == 194 then outcome (iforward_tsn.read value) else
     Ok tt

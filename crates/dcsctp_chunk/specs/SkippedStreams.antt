@@ -1,8 +1,12 @@
--- Streams that are skipped: each by a sequence number (RFC 3758 section 3.2), or by a message id (RFC
--- 8260 section 2.3.1).
-use Rattle.std.specs.Prelude.{◌≡◌, ℕ, ◌<◌, ◌^◌, Bool, true, false, not, List, map}
+-- Streams that are skipped: each by a sequence number (RFC 3758 section 3.2), or by a message id
+-- (RFC 8260 section 2.3.1); and what the chunks that hold them have in common.
+use Rattle.std.specs.Prelude.{◌≡◌, ℕ, ◌<◌, ◌^◌, Bool, true, false, not, List, ◌∷◌, [], map}
 use Rattle.std.specs.List.{AllByRecursion}
 use Rattle.dcsctp_types.specs.StreamKey.{stream_of, is_ordered_key}
+use Rattle.dcsctp_types.specs.declared.types.tsn.Tsn.{Tsn}
+use Rattle.dcsctp_tlv.specs.Fields.{numbers_and_fields_tlv}
+use Rattle.dcsctp_tlv.specs.Format.{Format}
+use Rattle.dcsctp_tlv.specs.Image.{Tlv, IsEncodable as FitsTlv}
 use Rattle.dcsctp_tlv.specs.declared.skipped_stream.SkippedStream.{SkippedStream}
 use Rattle.dcsctp_tlv.specs.declared.skipped_stream.SkippedStream.TheVariants.{ForwardTsn, IForwardTsn}
 
@@ -27,7 +31,31 @@ IsSkippedStreamInWidth (ByMid stream is_unordered mid) = (stream < 2 ^ 16) × (m
 
 abbrev pub skipped_stream_view : SkippedStream → SkippedStreamTree
 skipped_stream_view (ForwardTsn stream ssn) = BySsn stream.0 ssn.0
-skipped_stream_view (IForwardTsn key mid) = ByMid (stream_of key).0 (not (is_ordered_key key)) mid.0
+skipped_stream_view (IForwardTsn key mid) =
+    ByMid (stream_of key).0 (not (is_ordered_key key)) mid.0
 
 abbrev pub skipped_stream_views : List SkippedStream → List SkippedStreamTree
 skipped_stream_views streams = map skipped_stream_view streams
+
+-- ---- a chunk with skipped streams, FORWARD-TSN or I-FORWARD-TSN: the new cumulative TSN, and them
+
+pub record Tree : Type 0 where
+  pub tsn : ℕ
+  pub streams : List SkippedStreamTree
+
+abbrev pub tree_of : Tsn → List SkippedStream → Tree
+tree_of tsn streams = record { tsn = tsn.0; streams = skipped_stream_views streams }
+
+-- its type, and how a stream is written and in how many bytes
+abbrev pub tlv_of : ℕ → (SkippedStreamTree → List ℕ) → ℕ → Tree → Tlv
+tlv_of typ bytes size t = numbers_and_fields_tlv typ 0 (t.tsn ∷ []) bytes size t.streams
+
+-- every number lies in its field's width
+pub record IsInWidth (t : Tree) : Type 0 where
+  pub tsn : t.tsn < 2 ^ 32
+  pub streams : AllByRecursion IsSkippedStreamInWidth t.streams
+
+-- it can be written: each stream has a place, and two bytes can hold the size
+pub record IsEncodable (f : Format) : Type 0 where
+  pub kinds : f.IsWellFormed
+  pub size : FitsTlv f.tlv

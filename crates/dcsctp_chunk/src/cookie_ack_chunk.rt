@@ -11,8 +11,8 @@
 ghost use Rattle.std.specs.Prelude.{◌≡◌, ◌≢◌, ◌↔◌, [], Some, IsErrOf};
 ghost use Rattle.dcsctp_tlv.specs.Image.{IsEncodable};
 ghost use Rattle.dcsctp_tlv.specs.Reading.{Gives, Never, Passes};
-ghost use Rattle.dcsctp_tlv.proofs.Images.{length-solid_tlv};
-ghost use Rattle.dcsctp_chunk.specs.CookieAck.{cookie_ack_at, cookie_ack_tlv, cookie_ack_text, cookie_ack_view};
+ghost use Rattle.dcsctp_tlv.specs.Length.{length-format};
+ghost use Rattle.dcsctp_chunk.specs.CookieAck as kind;
 
 use crate::raw_chunk::RawChunk;
 use dcsctp_tlv::error::ChunkParseError;
@@ -27,14 +27,15 @@ pub const CHUNK_TYPE: u8 = 11;
 #[derive(Debug, Drop)]
 pub struct CookieAckChunk;
 
-#[tactic(auto, unfolding(crate::specs::CookieAck::cookie_ack_at))]
+#[tactic(auto, unfolding(crate::specs::CookieAck::read))]
 impl CookieAckChunk {
     /// Reads the chunk; flags are ignored, and no memory is taken.
     ///
     /// `InvalidType` exactly for another type; `InvalidLength` exactly where the value isn't empty.
     pub fn try_from(raw: RawChunk) -> Result<Self, ChunkParseError>
         ensures other { IsErrOf result ChunkParseError.InvalidType ↔ (raw.entry.typ ≢ CHUNK_TYPE) }
-        ensures own { raw.entry.typ ≡ CHUNK_TYPE → Gives Never cookie_ack_view result (cookie_ack_at raw.entry.value.now) }
+        ensures own { raw.entry.typ ≡ CHUNK_TYPE →
+            Gives Never kind.view result (kind.read raw.entry.value.now) }
     {
         if raw.typ != CHUNK_TYPE {
             return Err(ChunkParseError::InvalidType);
@@ -45,7 +46,7 @@ impl CookieAckChunk {
 
     /// `InvalidLength` exactly where the value isn't empty.
     pub(crate) fn check(value: &[u8]) -> Result<(), ChunkParseError>
-        ensures { Passes result (cookie_ack_at value.now) }
+        ensures { Passes result (kind.read value.now) }
     {
         if !value.is_empty() {
             return Err(ChunkParseError::InvalidLength);
@@ -55,11 +56,11 @@ impl CookieAckChunk {
 }
 
 impl SerializableTlv for CookieAckChunk {
-    ghost tlv = { λ c. cookie_ack_tlv };
+    ghost tlv = { λ c. (kind.format (kind.view c)).tlv };
 
-    ghost is_encodable = { λ c. IsEncodable cookie_ack_tlv };
+    ghost is_encodable = { λ c. IsEncodable (kind.format (kind.view c)).tlv };
 
-    ghost image_length = { λ c fits. length-solid_tlv 11 0 [] };
+    ghost image_length = { λ c fits. length-format (kind.format (kind.view c)) };
 
     ghost size_bound = { λ c fits. fits };
 
@@ -77,7 +78,7 @@ impl SerializableTlv for CookieAckChunk {
 }
 
 impl fmt::Display for CookieAckChunk {
-    ghost output = { λ c. Some cookie_ack_text };
+    ghost output = { λ c. Some (kind.format (kind.view c)).text };
 
     fn fmt<W: fmt::Write>(&self, f: &mut fmt::Formatter<W>) -> fmt::Result {
         write!(f, "COOKIE-ACK")

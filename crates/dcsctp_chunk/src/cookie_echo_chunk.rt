@@ -13,8 +13,8 @@
 ghost use Rattle.std.specs.Prelude.{◌≡◌, ◌≢◌, ◌↔◌, [], Some, IsOk, IfOk, IsErrOf};
 ghost use Rattle.dcsctp_tlv.specs.Image.{IsEncodable};
 ghost use Rattle.dcsctp_tlv.specs.Reading.{Gives, IfMeant, Passes, Builds};
-ghost use Rattle.dcsctp_tlv.proofs.Images.{length-solid_tlv};
-ghost use Rattle.dcsctp_chunk.specs.CookieEcho.{cookie_echo_at, cookie_echo_tlv, cookie_echo_text, cookie_echo_view};
+ghost use Rattle.dcsctp_tlv.specs.Length.{length-format};
+ghost use Rattle.dcsctp_chunk.specs.CookieEcho as kind;
 
 use crate::raw_chunk::RawChunk;
 use dcsctp_tlv::error::ChunkParseError;
@@ -35,7 +35,7 @@ pub struct CookieEchoChunk {
     pub cookie: Vec<u8>,
 }
 
-#[tactic(auto, unfolding(crate::specs::CookieEcho::cookie_echo_at))]
+#[tactic(auto, unfolding(crate::specs::CookieEcho::read))]
 impl CookieEchoChunk {
     /// The chunk with an empty cookie. It takes no memory.
     pub fn new(alloc: Global) -> CookieEchoChunk
@@ -61,7 +61,8 @@ impl CookieEchoChunk {
     /// `OutOfMemory` only where the cookie can't be copied.
     pub fn try_from(alloc: Global, raw: RawChunk) -> Result<Self, ChunkParseError>
         ensures other { IsErrOf result ChunkParseError.InvalidType ↔ (raw.entry.typ ≢ CHUNK_TYPE) }
-        ensures own { raw.entry.typ ≡ CHUNK_TYPE → Gives IfMeant cookie_echo_view result (cookie_echo_at raw.entry.value.now) }
+        ensures own { raw.entry.typ ≡ CHUNK_TYPE →
+            Gives IfMeant kind.view result (kind.read raw.entry.value.now) }
     {
         if raw.typ != CHUNK_TYPE {
             return Err(ChunkParseError::InvalidType);
@@ -72,7 +73,7 @@ impl CookieEchoChunk {
 
     /// `InvalidLength` exactly where the value is empty.
     pub(crate) fn check(value: &[u8]) -> Result<(), ChunkParseError>
-        ensures { Passes result (cookie_echo_at value.now) }
+        ensures { Passes result (kind.read value.now) }
     {
         if value.is_empty() {
             return Err(ChunkParseError::InvalidLength);
@@ -82,8 +83,8 @@ impl CookieEchoChunk {
 
     /// Copies the value.
     pub fn build(alloc: Global, value: &[u8]) -> Result<Self, AllocError>
-        requires { IsOk (cookie_echo_at value.now) }
-        ensures { Builds cookie_echo_view result (cookie_echo_at value.now) }
+        requires { IsOk (kind.read value.now) }
+        ensures { Builds kind.view result (kind.read value.now) }
     {
         Ok(CookieEchoChunk {
             cookie: Vec::from_slice(alloc, value)?,
@@ -92,11 +93,11 @@ impl CookieEchoChunk {
 }
 
 impl SerializableTlv for CookieEchoChunk {
-    ghost tlv = { λ c. cookie_echo_tlv (cookie_echo_view c) };
+    ghost tlv = { λ c. (kind.format (kind.view c)).tlv };
 
-    ghost is_encodable = { λ c. IsEncodable (cookie_echo_tlv (cookie_echo_view c)) };
+    ghost is_encodable = { λ c. IsEncodable (kind.format (kind.view c)).tlv };
 
-    ghost image_length = { λ c fits. length-solid_tlv 10 0 (cookie_echo_view c) };
+    ghost image_length = { λ c fits. length-format (kind.format (kind.view c)) };
 
     ghost size_bound = { λ c fits. fits };
 
@@ -114,7 +115,7 @@ impl SerializableTlv for CookieEchoChunk {
 }
 
 impl fmt::Display for CookieEchoChunk {
-    ghost output = { λ c. Some (cookie_echo_text (cookie_echo_view c)) };
+    ghost output = { λ c. Some (kind.format (kind.view c)).text };
 
     fn fmt<W: fmt::Write>(&self, f: &mut fmt::Formatter<W>) -> fmt::Result {
         let size = self.cookie.len();

@@ -19,9 +19,8 @@
 ghost use Rattle.std.specs.Prelude.{◌≡◌, ◌≢◌, ◌↔◌, ℕ, Some, IsOk, IsErrOf};
 ghost use Rattle.dcsctp_tlv.specs.Image.{IsEncodable};
 ghost use Rattle.dcsctp_tlv.specs.Reading.{Gives, IfMeant, Passes, Builds};
-ghost use Rattle.dcsctp_tlv.proofs.Images.{length-solid_tlv};
-ghost use Rattle.dcsctp_chunk.specs.Data.{user_data_view, user_data_flags};
-ghost use Rattle.dcsctp_chunk.specs.DataChunk.{data_at, data_bytes, data_tlv, data_text, data_view};
+ghost use Rattle.dcsctp_tlv.specs.Length.{length-format};
+ghost use Rattle.dcsctp_chunk.specs.DataChunk as kind;
 
 use crate::data::{Data, put_payload};
 use crate::flags::is_set;
@@ -57,7 +56,7 @@ pub struct DataChunk {
     pub immediate_ack: bool,
 }
 
-#[tactic(auto, unfolding(crate::specs::DataChunk::data_at))]
+#[tactic(auto, unfolding(crate::specs::DataChunk::read))]
 impl DataChunk {
     /// Reads the chunk, and copies its payload; flags but the four lowest are ignored.
     ///
@@ -65,7 +64,8 @@ impl DataChunk {
     /// than 12 bytes; `OutOfMemory` only where the payload can't be copied.
     pub fn try_from(alloc: Global, raw: RawChunk) -> Result<Self, ChunkParseError>
         ensures other { IsErrOf result ChunkParseError.InvalidType ↔ (raw.entry.typ ≢ CHUNK_TYPE) }
-        ensures own { raw.entry.typ ≡ CHUNK_TYPE → Gives IfMeant data_view result (data_at raw.entry.flags raw.entry.value.now) }
+        ensures own { raw.entry.typ ≡ CHUNK_TYPE →
+            Gives IfMeant kind.view result (kind.read raw.entry.flags raw.entry.value.now) }
     {
         if raw.typ != CHUNK_TYPE {
             return Err(ChunkParseError::InvalidType);
@@ -76,7 +76,7 @@ impl DataChunk {
 
     /// `InvalidLength` exactly where the value has fewer than 12 bytes.
     pub(crate) fn check(value: &[u8]) -> Result<(), ChunkParseError>
-        ensures { (flags : ℕ) → Passes result (data_at flags value.now) }
+        ensures { (flags : ℕ) → Passes result (kind.read flags value.now) }
     {
         if value.len() < FIXED_SIZE {
             return Err(ChunkParseError::InvalidLength);
@@ -86,8 +86,8 @@ impl DataChunk {
 
     /// What the value means, under these flags.
     pub fn build(alloc: Global, flags: u8, value: &[u8]) -> Result<Self, AllocError>
-        requires { IsOk (data_at flags value.now) }
-        ensures { Builds data_view result (data_at flags value.now) }
+        requires { IsOk (kind.read flags value.now) }
+        ensures { Builds kind.view result (kind.read flags value.now) }
     {
         let stream = StreamId(read_u16_be(&value[4..]));
         Ok(DataChunk {
@@ -108,11 +108,11 @@ impl DataChunk {
 }
 
 impl SerializableTlv for DataChunk {
-    ghost tlv = { λ c. data_tlv (data_view c) };
+    ghost tlv = { λ c. (kind.format (kind.view c)).tlv };
 
-    ghost is_encodable = { λ c. IsEncodable (data_tlv (data_view c)) };
+    ghost is_encodable = { λ c. IsEncodable (kind.format (kind.view c)).tlv };
 
-    ghost image_length = { λ c fits. length-solid_tlv 0 (user_data_flags (user_data_view c.user_data) c.immediate_ack) (data_bytes (data_view c)) };
+    ghost image_length = { λ c fits. length-format (kind.format (kind.view c)) };
 
     ghost size_bound = { λ c fits. fits };
 
@@ -137,7 +137,7 @@ impl SerializableTlv for DataChunk {
 }
 
 impl fmt::Display for DataChunk {
-    ghost output = { λ c. Some (data_text (data_view c)) };
+    ghost output = { λ c. Some (kind.format (kind.view c)).text };
 
     fn fmt<W: fmt::Write>(&self, f: &mut fmt::Formatter<W>) -> fmt::Result {
         let content = &self.user_data;

@@ -14,9 +14,9 @@
 
 ghost use Rattle.std.specs.Prelude.{◌≡◌, ◌≢◌, ◌↔◌, false, Some, IsOk, IsErrOf};
 ghost use Rattle.dcsctp_tlv.specs.Reading.{Gives, IfMeant, Passes, Builds};
-ghost use Rattle.dcsctp_tlv.proofs.Images.{length-solid_tlv};
-ghost use Rattle.dcsctp_chunk.specs.SkippedStreams.{SkippedStreamTree, is_by_mid, skipped_stream_view};
-ghost use Rattle.dcsctp_chunk.specs.ForwardTsn.{ssn_stream_at, ssn_stream_bytes, length-ssn_stream, forward_tsn_at, forward_tsn_bytes, forward_tsn_tlv, forward_tsn_text, forward_tsn_view, IsForwardTsnEncodable};
+ghost use Rattle.dcsctp_tlv.specs.Length.{length-format};
+ghost use Rattle.dcsctp_chunk.specs.SkippedStreams.{SkippedStreamTree, is_by_mid, skipped_stream_view, IsEncodable};
+ghost use Rattle.dcsctp_chunk.specs.ForwardTsn as kind;
 
 use crate::raw_chunk::RawChunk;
 use crate::skipped_streams::are_by_mid;
@@ -48,9 +48,9 @@ impl Field for SsnStreamField {
 
     ghost view = { skipped_stream_view };
 
-    ghost field_at = { ssn_stream_at };
+    ghost field_at = { kind.stream_at };
 
-    ghost field_bytes = { ssn_stream_bytes };
+    ghost field_bytes = { kind.stream_bytes };
 
     ghost is_writable = { λ s. is_by_mid (skipped_stream_view s) ≡ false };
 
@@ -73,7 +73,7 @@ impl Field for SsnStreamField {
         }
     }
 
-    ghost field_length = { λ s own. length-ssn_stream (skipped_stream_view s) own };
+    ghost field_length = { λ s own. kind.length-stream (skipped_stream_view s) };
 }
 
 /// FORWARD-TSN (RFC 3758 section 3.2).
@@ -86,7 +86,7 @@ pub struct ForwardTsnChunk {
     pub skipped_streams: Vec<SkippedStream>,
 }
 
-#[tactic(auto, unfolding(crate::specs::ForwardTsn::forward_tsn_at))]
+#[tactic(auto, unfolding(crate::specs::ForwardTsn::read))]
 impl ForwardTsnChunk {
     /// Reads the chunk, and copies its skipped streams, each as `SkippedStream::ForwardTsn`; flags
     /// are ignored.
@@ -95,7 +95,8 @@ impl ForwardTsnChunk {
     /// than 4 bytes, or no multiple of 4; `OutOfMemory` only where the streams can't be copied.
     pub fn try_from(alloc: Global, raw: RawChunk) -> Result<Self, ChunkParseError>
         ensures other { IsErrOf result ChunkParseError.InvalidType ↔ (raw.entry.typ ≢ CHUNK_TYPE) }
-        ensures own { raw.entry.typ ≡ CHUNK_TYPE → Gives IfMeant forward_tsn_view result (forward_tsn_at raw.entry.value.now) }
+        ensures own { raw.entry.typ ≡ CHUNK_TYPE →
+            Gives IfMeant kind.view result (kind.read raw.entry.value.now) }
     {
         if raw.typ != CHUNK_TYPE {
             return Err(ChunkParseError::InvalidType);
@@ -106,7 +107,7 @@ impl ForwardTsnChunk {
 
     /// `InvalidLength` exactly where the value has fewer than 4 bytes, or no multiple of 4.
     pub(crate) fn check(value: &[u8]) -> Result<(), ChunkParseError>
-        ensures { Passes result (forward_tsn_at value.now) }
+        ensures { Passes result (kind.read value.now) }
     {
         if value.len() < FIXED_SIZE {
             return Err(ChunkParseError::InvalidLength);
@@ -119,8 +120,8 @@ impl ForwardTsnChunk {
 
     /// What the value means.
     pub fn build(alloc: Global, value: &[u8]) -> Result<Self, AllocError>
-        requires { IsOk (forward_tsn_at value.now) }
-        ensures { Builds forward_tsn_view result (forward_tsn_at value.now) }
+        requires { IsOk (kind.read value.now) }
+        ensures { Builds kind.view result (kind.read value.now) }
     {
         let count = (value.len() - FIXED_SIZE) / 4;
         let skipped_streams = fields_from_bytes::<SsnStreamField>(
@@ -135,13 +136,13 @@ impl ForwardTsnChunk {
     }
 }
 
-#[tactic(auto, using(crate::proofs::SkippedStreams::size_of_forward_tsn))]
+#[tactic(auto, using(crate::proofs::SkippedStreams::count_of_streams))]
 impl SerializableTlv for ForwardTsnChunk {
-    ghost tlv = { λ c. forward_tsn_tlv (forward_tsn_view c) };
+    ghost tlv = { λ c. (kind.format (kind.view c)).tlv };
 
-    ghost is_encodable = { λ c. IsForwardTsnEncodable (forward_tsn_view c) };
+    ghost is_encodable = { λ c. IsEncodable (kind.format (kind.view c)) };
 
-    ghost image_length = { λ c fits. length-solid_tlv 192 0 (forward_tsn_bytes (forward_tsn_view c)) };
+    ghost image_length = { λ c fits. length-format (kind.format (kind.view c)) };
 
     ghost size_bound = { λ c fits. fits.size };
 
@@ -169,7 +170,7 @@ impl SerializableTlv for ForwardTsnChunk {
 }
 
 impl fmt::Display for ForwardTsnChunk {
-    ghost output = { λ c. Some (forward_tsn_text (forward_tsn_view c)) };
+    ghost output = { λ c. Some (kind.format (kind.view c)).text };
 
     fn fmt<W: fmt::Write>(&self, f: &mut fmt::Formatter<W>) -> fmt::Result {
         let tsn = self.new_cumulative_tsn;

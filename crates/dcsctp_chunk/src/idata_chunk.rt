@@ -21,9 +21,9 @@
 ghost use Rattle.std.specs.Prelude.{◌≡◌, ◌≢◌, ◌↔◌, ℕ, Some, IsOk, IsErrOf, if◌then◌else◌};
 ghost use Rattle.dcsctp_tlv.specs.Image.{IsEncodable};
 ghost use Rattle.dcsctp_tlv.specs.Reading.{Gives, IfMeant, Passes, Builds};
-ghost use Rattle.dcsctp_tlv.proofs.Images.{length-solid_tlv};
-ghost use Rattle.dcsctp_chunk.specs.Data.{user_data_view, user_data_flags};
-ghost use Rattle.dcsctp_chunk.specs.IDataChunk.{idata_at, ppid_or_fsn, idata_bytes, idata_tlv, idata_text, idata_view};
+ghost use Rattle.dcsctp_tlv.specs.Length.{length-format};
+ghost use Rattle.dcsctp_chunk.specs.Data.{user_data_view};
+ghost use Rattle.dcsctp_chunk.specs.IDataChunk as kind;
 
 use crate::data::{Data, put_payload};
 use crate::flags::is_set;
@@ -75,7 +75,7 @@ fn ppid_and_fsn(is_beginning: bool, number: u32) -> (PpId, Fsn)
 
 /// The number before the payload.
 fn ppid_or_fsn(content: &Data) -> u32
-    ensures { result ≡ ppid_or_fsn (user_data_view content.now) }
+    ensures { result ≡ kind.ppid_or_fsn (user_data_view content.now) }
 {
     if content.is_beginning {
         content.ppid.0
@@ -84,7 +84,7 @@ fn ppid_or_fsn(content: &Data) -> u32
     }
 }
 
-#[tactic(auto, unfolding(crate::specs::IDataChunk::idata_at))]
+#[tactic(auto, unfolding(crate::specs::IDataChunk::read))]
 impl IDataChunk {
     /// Reads the chunk, and copies its payload; flags but the four lowest and the reserved bytes
     /// are ignored.
@@ -93,7 +93,8 @@ impl IDataChunk {
     /// than 16 bytes; `OutOfMemory` only where the payload can't be copied.
     pub fn try_from(alloc: Global, raw: RawChunk) -> Result<Self, ChunkParseError>
         ensures other { IsErrOf result ChunkParseError.InvalidType ↔ (raw.entry.typ ≢ CHUNK_TYPE) }
-        ensures own { raw.entry.typ ≡ CHUNK_TYPE → Gives IfMeant idata_view result (idata_at raw.entry.flags raw.entry.value.now) }
+        ensures own { raw.entry.typ ≡ CHUNK_TYPE →
+            Gives IfMeant kind.view result (kind.read raw.entry.flags raw.entry.value.now) }
     {
         if raw.typ != CHUNK_TYPE {
             return Err(ChunkParseError::InvalidType);
@@ -104,7 +105,7 @@ impl IDataChunk {
 
     /// `InvalidLength` exactly where the value has fewer than 16 bytes.
     pub(crate) fn check(value: &[u8]) -> Result<(), ChunkParseError>
-        ensures { (flags : ℕ) → Passes result (idata_at flags value.now) }
+        ensures { (flags : ℕ) → Passes result (kind.read flags value.now) }
     {
         if value.len() < FIXED_SIZE {
             return Err(ChunkParseError::InvalidLength);
@@ -114,8 +115,8 @@ impl IDataChunk {
 
     /// What the value means, under these flags.
     pub fn build(alloc: Global, flags: u8, value: &[u8]) -> Result<Self, AllocError>
-        requires { IsOk (idata_at flags value.now) }
-        ensures { Builds idata_view result (idata_at flags value.now) }
+        requires { IsOk (kind.read flags value.now) }
+        ensures { Builds kind.view result (kind.read flags value.now) }
     {
         let is_beginning = is_set(flags, 1);
         let stream = StreamId(read_u16_be(&value[4..]));
@@ -138,11 +139,11 @@ impl IDataChunk {
 }
 
 impl SerializableTlv for IDataChunk {
-    ghost tlv = { λ c. idata_tlv (idata_view c) };
+    ghost tlv = { λ c. (kind.format (kind.view c)).tlv };
 
-    ghost is_encodable = { λ c. IsEncodable (idata_tlv (idata_view c)) };
+    ghost is_encodable = { λ c. IsEncodable (kind.format (kind.view c)).tlv };
 
-    ghost image_length = { λ c fits. length-solid_tlv 64 (user_data_flags (user_data_view c.user_data) c.immediate_ack) (idata_bytes (idata_view c)) };
+    ghost image_length = { λ c fits. length-format (kind.format (kind.view c)) };
 
     ghost size_bound = { λ c fits. fits };
 
@@ -168,7 +169,7 @@ impl SerializableTlv for IDataChunk {
 }
 
 impl fmt::Display for IDataChunk {
-    ghost output = { λ c. Some (idata_text (idata_view c)) };
+    ghost output = { λ c. Some (kind.format (kind.view c)).text };
 
     fn fmt<W: fmt::Write>(&self, f: &mut fmt::Formatter<W>) -> fmt::Result {
         let content = &self.user_data;

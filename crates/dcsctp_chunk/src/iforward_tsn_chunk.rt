@@ -18,9 +18,9 @@
 
 ghost use Rattle.std.specs.Prelude.{◌≡◌, ◌≢◌, ◌↔◌, true, Some, IsOk, IsErrOf};
 ghost use Rattle.dcsctp_tlv.specs.Reading.{Gives, IfMeant, Passes, Builds};
-ghost use Rattle.dcsctp_tlv.proofs.Images.{length-solid_tlv};
-ghost use Rattle.dcsctp_chunk.specs.SkippedStreams.{SkippedStreamTree, is_by_mid, skipped_stream_view};
-ghost use Rattle.dcsctp_chunk.specs.IForwardTsn.{mid_stream_at, mid_stream_bytes, length-mid_stream, iforward_tsn_at, iforward_tsn_bytes, iforward_tsn_tlv, iforward_tsn_text, iforward_tsn_view, IsIForwardTsnEncodable};
+ghost use Rattle.dcsctp_tlv.specs.Length.{length-format};
+ghost use Rattle.dcsctp_chunk.specs.SkippedStreams.{SkippedStreamTree, is_by_mid, skipped_stream_view, IsEncodable};
+ghost use Rattle.dcsctp_chunk.specs.IForwardTsn as kind;
 
 use crate::raw_chunk::RawChunk;
 use crate::skipped_streams::are_by_mid;
@@ -52,9 +52,9 @@ impl Field for MidStreamField {
 
     ghost view = { skipped_stream_view };
 
-    ghost field_at = { mid_stream_at };
+    ghost field_at = { kind.stream_at };
 
-    ghost field_bytes = { mid_stream_bytes };
+    ghost field_bytes = { kind.stream_bytes };
 
     ghost is_writable = { λ s. is_by_mid (skipped_stream_view s) ≡ true };
 
@@ -81,7 +81,7 @@ impl Field for MidStreamField {
         }
     }
 
-    ghost field_length = { λ s own. length-mid_stream (skipped_stream_view s) own };
+    ghost field_length = { λ s own. kind.length-stream (skipped_stream_view s) };
 }
 
 /// I-FORWARD-TSN (RFC 8260 section 2.3.1).
@@ -93,7 +93,7 @@ pub struct IForwardTsnChunk {
     pub skipped_streams: Vec<SkippedStream>,
 }
 
-#[tactic(auto, unfolding(crate::specs::IForwardTsn::iforward_tsn_at))]
+#[tactic(auto, unfolding(crate::specs::IForwardTsn::read))]
 impl IForwardTsnChunk {
     /// Reads the chunk, and copies its skipped streams, each as `SkippedStream::IForwardTsn`;
     /// flags are ignored.
@@ -103,7 +103,8 @@ impl IForwardTsnChunk {
     /// can't be copied.
     pub fn try_from(alloc: Global, raw: RawChunk) -> Result<Self, ChunkParseError>
         ensures other { IsErrOf result ChunkParseError.InvalidType ↔ (raw.entry.typ ≢ CHUNK_TYPE) }
-        ensures own { raw.entry.typ ≡ CHUNK_TYPE → Gives IfMeant iforward_tsn_view result (iforward_tsn_at raw.entry.value.now) }
+        ensures own { raw.entry.typ ≡ CHUNK_TYPE →
+            Gives IfMeant kind.view result (kind.read raw.entry.value.now) }
     {
         if raw.typ != CHUNK_TYPE {
             return Err(ChunkParseError::InvalidType);
@@ -112,10 +113,10 @@ impl IForwardTsnChunk {
         Ok(IForwardTsnChunk::build(alloc, raw.value)?)
     }
 
-    /// `InvalidLength` exactly where the value has fewer than 4 bytes, or no multiple of 8 after the
-    /// first 4.
+    /// `InvalidLength` exactly where the value has fewer than 4 bytes, or no multiple of 8 after
+    /// the first 4.
     pub(crate) fn check(value: &[u8]) -> Result<(), ChunkParseError>
-        ensures { Passes result (iforward_tsn_at value.now) }
+        ensures { Passes result (kind.read value.now) }
     {
         if value.len() < FIXED_SIZE {
             return Err(ChunkParseError::InvalidLength);
@@ -128,8 +129,8 @@ impl IForwardTsnChunk {
 
     /// What the value means.
     pub fn build(alloc: Global, value: &[u8]) -> Result<Self, AllocError>
-        requires { IsOk (iforward_tsn_at value.now) }
-        ensures { Builds iforward_tsn_view result (iforward_tsn_at value.now) }
+        requires { IsOk (kind.read value.now) }
+        ensures { Builds kind.view result (kind.read value.now) }
     {
         let count = (value.len() - FIXED_SIZE) / 8;
         let skipped_streams = fields_from_bytes::<MidStreamField>(
@@ -144,13 +145,13 @@ impl IForwardTsnChunk {
     }
 }
 
-#[tactic(auto, using(crate::proofs::SkippedStreams::size_of_iforward_tsn))]
+#[tactic(auto, using(crate::proofs::SkippedStreams::count_of_streams))]
 impl SerializableTlv for IForwardTsnChunk {
-    ghost tlv = { λ c. iforward_tsn_tlv (iforward_tsn_view c) };
+    ghost tlv = { λ c. (kind.format (kind.view c)).tlv };
 
-    ghost is_encodable = { λ c. IsIForwardTsnEncodable (iforward_tsn_view c) };
+    ghost is_encodable = { λ c. IsEncodable (kind.format (kind.view c)) };
 
-    ghost image_length = { λ c fits. length-solid_tlv 194 0 (iforward_tsn_bytes (iforward_tsn_view c)) };
+    ghost image_length = { λ c fits. length-format (kind.format (kind.view c)) };
 
     ghost size_bound = { λ c fits. fits.size };
 
@@ -178,7 +179,7 @@ impl SerializableTlv for IForwardTsnChunk {
 }
 
 impl fmt::Display for IForwardTsnChunk {
-    ghost output = { λ c. Some (iforward_tsn_text (iforward_tsn_view c)) };
+    ghost output = { λ c. Some (kind.format (kind.view c)).text };
 
     fn fmt<W: fmt::Write>(&self, f: &mut fmt::Formatter<W>) -> fmt::Result {
         let tsn = self.new_cumulative_tsn;

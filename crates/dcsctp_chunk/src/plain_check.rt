@@ -18,8 +18,8 @@ use dcsctp_tlv::error::ChunkParseError;
 
 /// Whether the value is one that the chunk's kind reads. It takes no memory.
 ///
-/// `InvalidLength` exactly where the value has a size that its kind doesn't allow. Each value passes
-/// whose type has no kind of its own, or a kind with a list of parameters or error causes.
+/// `InvalidLength` exactly where the value has a size that its kind doesn't allow. Each value
+/// passes whose type has no kind of its own, or a kind with a list of parameters or error causes.
 pub fn plain_check(raw: RawChunk) -> Result<(), ChunkParseError>
     ensures { Passes result (plain_outcome raw.entry.typ raw.entry.flags raw.entry.value.now) }
 {

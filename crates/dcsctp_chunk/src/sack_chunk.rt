@@ -23,8 +23,8 @@ ghost use Rattle.std.specs.Int.{w16, w32};
 ghost use Rattle.dcsctp_tlv.specs.Image.{IsEncodable};
 ghost use Rattle.dcsctp_tlv.specs.Number.{numbers};
 ghost use Rattle.dcsctp_tlv.specs.Reading.{Gives, IfMeant, Passes, Builds};
-ghost use Rattle.dcsctp_tlv.proofs.Images.{length-solid_tlv};
-ghost use Rattle.dcsctp_chunk.specs.Sack.{block_at, block_bytes, sack_at, sack_bytes, sack_tlv, sack_text, sack_view};
+ghost use Rattle.dcsctp_tlv.specs.Length.{length-format};
+ghost use Rattle.dcsctp_chunk.specs.Sack as kind;
 
 use crate::raw_chunk::RawChunk;
 use dcsctp_tlv::error::ChunkParseError;
@@ -71,9 +71,9 @@ impl Field for GapAckBlock {
 
     ghost view = { λ b. b };
 
-    ghost field_at = { block_at };
+    ghost field_at = { kind.block_at };
 
-    ghost field_bytes = { block_bytes };
+    ghost field_bytes = { kind.block_bytes };
 
     ghost is_writable = { λ b. Unit {0} };
 
@@ -110,7 +110,7 @@ pub struct SackChunk {
     pub duplicate_tsns: Vec<Tsn>,
 }
 
-#[tactic(auto, unfolding(crate::specs::Sack::sack_at))]
+#[tactic(auto, unfolding(crate::specs::Sack::read))]
 impl SackChunk {
     /// Reads the chunk, and copies its blocks and its duplicate TSNs; flags are ignored.
     ///
@@ -119,7 +119,8 @@ impl SackChunk {
     /// lists can't be copied.
     pub fn try_from(alloc: Global, raw: RawChunk) -> Result<Self, ChunkParseError>
         ensures other { IsErrOf result ChunkParseError.InvalidType ↔ (raw.entry.typ ≢ CHUNK_TYPE) }
-        ensures own { raw.entry.typ ≡ CHUNK_TYPE → Gives IfMeant sack_view result (sack_at raw.entry.value.now) }
+        ensures own { raw.entry.typ ≡ CHUNK_TYPE →
+            Gives IfMeant kind.view result (kind.read raw.entry.value.now) }
     {
         if raw.typ != CHUNK_TYPE {
             return Err(ChunkParseError::InvalidType);
@@ -128,10 +129,10 @@ impl SackChunk {
         Ok(SackChunk::build(alloc, raw.value)?)
     }
 
-    /// `InvalidLength` exactly where the value has fewer than 12 bytes, or isn't just as long as its
-    /// two counts say.
+    /// `InvalidLength` exactly where the value has fewer than 12 bytes, or isn't just as long as
+    /// its two counts say.
     pub(crate) fn check(value: &[u8]) -> Result<(), ChunkParseError>
-        ensures { Passes result (sack_at value.now) }
+        ensures { Passes result (kind.read value.now) }
     {
         if value.len() < FIXED_SIZE {
             return Err(ChunkParseError::InvalidLength);
@@ -146,8 +147,8 @@ impl SackChunk {
 
     /// What the value means.
     pub fn build(alloc: Global, value: &[u8]) -> Result<Self, AllocError>
-        requires { IsOk (sack_at value.now) }
-        ensures { Builds sack_view result (sack_at value.now) }
+        requires { IsOk (kind.read value.now) }
+        ensures { Builds kind.view result (kind.read value.now) }
     {
         let blocks = read_u16_be(&value[8..]) as usize;
         let duplicates = read_u16_be(&value[10..]) as usize;
@@ -161,13 +162,13 @@ impl SackChunk {
     }
 }
 
-#[tactic(auto, using(crate::proofs::Sacks::size_of_sack))]
+#[tactic(auto, using(crate::proofs::Sacks::count_of_duplicates))]
 impl SerializableTlv for SackChunk {
-    ghost tlv = { λ c. sack_tlv (sack_view c) };
+    ghost tlv = { λ c. (kind.format (kind.view c)).tlv };
 
-    ghost is_encodable = { λ c. IsEncodable (sack_tlv (sack_view c)) };
+    ghost is_encodable = { λ c. IsEncodable (kind.format (kind.view c)).tlv };
 
-    ghost image_length = { λ c fits. length-solid_tlv 3 0 (sack_bytes (sack_view c)) };
+    ghost image_length = { λ c fits. length-format (kind.format (kind.view c)) };
 
     ghost size_bound = { λ c fits. fits };
 
@@ -196,7 +197,7 @@ impl SerializableTlv for SackChunk {
 }
 
 impl fmt::Display for SackChunk {
-    ghost output = { λ c. Some (sack_text (sack_view c)) };
+    ghost output = { λ c. Some (kind.format (kind.view c)).text };
 
     fn fmt<W: fmt::Write>(&self, f: &mut fmt::Formatter<W>) -> fmt::Result {
         let tsn = self.cumulative_tsn_ack;

@@ -11,8 +11,8 @@
 ghost use Rattle.std.specs.Prelude.{◌≡◌, ◌≢◌, ◌↔◌, [], Some, IsErrOf};
 ghost use Rattle.dcsctp_tlv.specs.Image.{IsEncodable};
 ghost use Rattle.dcsctp_tlv.specs.Reading.{Gives, Never, Passes};
-ghost use Rattle.dcsctp_tlv.proofs.Images.{length-solid_tlv};
-ghost use Rattle.dcsctp_chunk.specs.ShutdownAck.{shutdown_ack_at, shutdown_ack_tlv, shutdown_ack_text, shutdown_ack_view};
+ghost use Rattle.dcsctp_tlv.specs.Length.{length-format};
+ghost use Rattle.dcsctp_chunk.specs.ShutdownAck as kind;
 
 use crate::raw_chunk::RawChunk;
 use dcsctp_tlv::error::ChunkParseError;
@@ -27,14 +27,15 @@ pub const CHUNK_TYPE: u8 = 8;
 #[derive(Debug, Drop)]
 pub struct ShutdownAckChunk;
 
-#[tactic(auto, unfolding(crate::specs::ShutdownAck::shutdown_ack_at))]
+#[tactic(auto, unfolding(crate::specs::ShutdownAck::read))]
 impl ShutdownAckChunk {
     /// Reads the chunk; flags are ignored, and no memory is taken.
     ///
     /// `InvalidType` exactly for another type; `InvalidLength` exactly where the value isn't empty.
     pub fn try_from(raw: RawChunk) -> Result<Self, ChunkParseError>
         ensures other { IsErrOf result ChunkParseError.InvalidType ↔ (raw.entry.typ ≢ CHUNK_TYPE) }
-        ensures own { raw.entry.typ ≡ CHUNK_TYPE → Gives Never shutdown_ack_view result (shutdown_ack_at raw.entry.value.now) }
+        ensures own { raw.entry.typ ≡ CHUNK_TYPE →
+            Gives Never kind.view result (kind.read raw.entry.value.now) }
     {
         if raw.typ != CHUNK_TYPE {
             return Err(ChunkParseError::InvalidType);
@@ -45,7 +46,7 @@ impl ShutdownAckChunk {
 
     /// `InvalidLength` exactly where the value isn't empty.
     pub(crate) fn check(value: &[u8]) -> Result<(), ChunkParseError>
-        ensures { Passes result (shutdown_ack_at value.now) }
+        ensures { Passes result (kind.read value.now) }
     {
         if !value.is_empty() {
             return Err(ChunkParseError::InvalidLength);
@@ -55,11 +56,11 @@ impl ShutdownAckChunk {
 }
 
 impl SerializableTlv for ShutdownAckChunk {
-    ghost tlv = { λ c. shutdown_ack_tlv };
+    ghost tlv = { λ c. (kind.format (kind.view c)).tlv };
 
-    ghost is_encodable = { λ c. IsEncodable shutdown_ack_tlv };
+    ghost is_encodable = { λ c. IsEncodable (kind.format (kind.view c)).tlv };
 
-    ghost image_length = { λ c fits. length-solid_tlv 8 0 [] };
+    ghost image_length = { λ c fits. length-format (kind.format (kind.view c)) };
 
     ghost size_bound = { λ c fits. fits };
 
@@ -77,7 +78,7 @@ impl SerializableTlv for ShutdownAckChunk {
 }
 
 impl fmt::Display for ShutdownAckChunk {
-    ghost output = { λ c. Some shutdown_ack_text };
+    ghost output = { λ c. Some (kind.format (kind.view c)).text };
 
     fn fmt<W: fmt::Write>(&self, f: &mut fmt::Formatter<W>) -> fmt::Result {
         write!(f, "SHUTDOWN-ACK")

@@ -14,8 +14,8 @@ ghost use Rattle.std.specs.Prelude.{◌≡◌, ◌≢◌, ◌↔◌, Some, Ok, I
 ghost use Rattle.std.specs.Int.{w32, to_be_bytes};
 ghost use Rattle.dcsctp_tlv.specs.Image.{IsEncodable};
 ghost use Rattle.dcsctp_tlv.specs.Reading.{Gives, Never, Passes};
-ghost use Rattle.dcsctp_tlv.proofs.Images.{length-solid_tlv};
-ghost use Rattle.dcsctp_chunk.specs.Shutdown.{shutdown_at, shutdown_tlv, shutdown_text, shutdown_view};
+ghost use Rattle.dcsctp_tlv.specs.Length.{length-format};
+ghost use Rattle.dcsctp_chunk.specs.Shutdown as kind;
 
 use crate::raw_chunk::RawChunk;
 use dcsctp_tlv::error::ChunkParseError;
@@ -35,7 +35,7 @@ pub struct ShutdownChunk {
     pub cumulative_tsn_ack: Tsn,
 }
 
-#[tactic(auto, unfolding(crate::specs::Shutdown::shutdown_at))]
+#[tactic(auto, unfolding(crate::specs::Shutdown::read))]
 impl ShutdownChunk {
     /// Reads the chunk; flags are ignored, and no memory is taken.
     ///
@@ -43,7 +43,8 @@ impl ShutdownChunk {
     /// bytes.
     pub fn try_from(raw: RawChunk) -> Result<Self, ChunkParseError>
         ensures other { IsErrOf result ChunkParseError.InvalidType ↔ (raw.entry.typ ≢ CHUNK_TYPE) }
-        ensures own { raw.entry.typ ≡ CHUNK_TYPE → Gives Never shutdown_view result (shutdown_at raw.entry.value.now) }
+        ensures own { raw.entry.typ ≡ CHUNK_TYPE →
+            Gives Never kind.view result (kind.read raw.entry.value.now) }
     {
         if raw.typ != CHUNK_TYPE {
             return Err(ChunkParseError::InvalidType);
@@ -54,7 +55,7 @@ impl ShutdownChunk {
 
     /// `InvalidLength` exactly where the value hasn't 4 bytes.
     pub(crate) fn check(value: &[u8]) -> Result<(), ChunkParseError>
-        ensures { Passes result (shutdown_at value.now) }
+        ensures { Passes result (kind.read value.now) }
     {
         if value.len() != 4 {
             return Err(ChunkParseError::InvalidLength);
@@ -64,8 +65,8 @@ impl ShutdownChunk {
 
     /// What the value means.
     pub fn build(value: &[u8]) -> Self
-        requires { IsOk (shutdown_at value.now) }
-        ensures { shutdown_at value.now ≡ Ok (shutdown_view result) }
+        requires { IsOk (kind.read value.now) }
+        ensures { kind.read value.now ≡ Ok (kind.view result) }
     {
         ShutdownChunk {
             cumulative_tsn_ack: Tsn(read_u32_be(value)),
@@ -74,11 +75,11 @@ impl ShutdownChunk {
 }
 
 impl SerializableTlv for ShutdownChunk {
-    ghost tlv = { λ c. shutdown_tlv (shutdown_view c) };
+    ghost tlv = { λ c. (kind.format (kind.view c)).tlv };
 
-    ghost is_encodable = { λ c. IsEncodable (shutdown_tlv (shutdown_view c)) };
+    ghost is_encodable = { λ c. IsEncodable (kind.format (kind.view c)).tlv };
 
-    ghost image_length = { λ c fits. length-solid_tlv 7 0 (to_be_bytes w32 (shutdown_view c)) };
+    ghost image_length = { λ c fits. length-format (kind.format (kind.view c)) };
 
     ghost size_bound = { λ c fits. fits };
 
@@ -101,7 +102,7 @@ impl SerializableTlv for ShutdownChunk {
 }
 
 impl fmt::Display for ShutdownChunk {
-    ghost output = { λ c. Some (shutdown_text (shutdown_view c)) };
+    ghost output = { λ c. Some (kind.format (kind.view c)).text };
 
     fn fmt<W: fmt::Write>(&self, f: &mut fmt::Formatter<W>) -> fmt::Result {
         let tsn = self.cumulative_tsn_ack;

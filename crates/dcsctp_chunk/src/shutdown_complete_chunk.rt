@@ -11,9 +11,9 @@
 ghost use Rattle.std.specs.Prelude.{◌≡◌, ◌≢◌, ◌↔◌, ℕ, List, [], ◌∷◌, Some, Ok, IsOk, IsErrOf};
 ghost use Rattle.dcsctp_tlv.specs.Image.{IsEncodable};
 ghost use Rattle.dcsctp_tlv.specs.Reading.{Gives, Never, Passes};
-ghost use Rattle.dcsctp_tlv.proofs.Images.{length-solid_tlv};
+ghost use Rattle.dcsctp_tlv.specs.Length.{length-format};
 ghost use Rattle.dcsctp_chunk.specs.Flags.{flag_byte};
-ghost use Rattle.dcsctp_chunk.specs.ShutdownComplete.{shutdown_complete_at, shutdown_complete_tlv, shutdown_complete_text, shutdown_complete_view};
+ghost use Rattle.dcsctp_chunk.specs.ShutdownComplete as kind;
 
 use crate::flags::{is_set, one_flag};
 use crate::raw_chunk::RawChunk;
@@ -33,14 +33,15 @@ pub struct ShutdownCompleteChunk {
     pub tag_reflected: bool,
 }
 
-#[tactic(auto, unfolding(crate::specs::ShutdownComplete::shutdown_complete_at))]
+#[tactic(auto, unfolding(crate::specs::ShutdownComplete::read))]
 impl ShutdownCompleteChunk {
     /// Reads the chunk; flags but the T bit are ignored, and no memory is taken.
     ///
     /// `InvalidType` exactly for another type; `InvalidLength` exactly where the value isn't empty.
     pub fn try_from(raw: RawChunk) -> Result<Self, ChunkParseError>
         ensures other { IsErrOf result ChunkParseError.InvalidType ↔ (raw.entry.typ ≢ CHUNK_TYPE) }
-        ensures own { raw.entry.typ ≡ CHUNK_TYPE → Gives Never shutdown_complete_view result (shutdown_complete_at raw.entry.flags raw.entry.value.now) }
+        ensures own { raw.entry.typ ≡ CHUNK_TYPE →
+            Gives Never kind.view result (kind.read raw.entry.flags raw.entry.value.now) }
     {
         if raw.typ != CHUNK_TYPE {
             return Err(ChunkParseError::InvalidType);
@@ -51,7 +52,7 @@ impl ShutdownCompleteChunk {
 
     /// `InvalidLength` exactly where the value isn't empty.
     pub(crate) fn check(value: &[u8]) -> Result<(), ChunkParseError>
-        ensures { (flags : ℕ) → Passes result (shutdown_complete_at flags value.now) }
+        ensures { (flags : ℕ) → Passes result (kind.read flags value.now) }
     {
         if !value.is_empty() {
             return Err(ChunkParseError::InvalidLength);
@@ -61,8 +62,8 @@ impl ShutdownCompleteChunk {
 
     /// What a value without bytes means, under these flags.
     pub fn build(flags: u8) -> Self
-        ensures { (value : List ℕ) → IsOk (shutdown_complete_at flags value)
-            → shutdown_complete_at flags value ≡ Ok (shutdown_complete_view result) }
+        ensures { (value : List ℕ) → IsOk (kind.read flags value)
+            → kind.read flags value ≡ Ok (kind.view result) }
     {
         ShutdownCompleteChunk {
             tag_reflected: is_set(flags, 0),
@@ -71,11 +72,11 @@ impl ShutdownCompleteChunk {
 }
 
 impl SerializableTlv for ShutdownCompleteChunk {
-    ghost tlv = { λ c. shutdown_complete_tlv (shutdown_complete_view c) };
+    ghost tlv = { λ c. (kind.format (kind.view c)).tlv };
 
-    ghost is_encodable = { λ c. IsEncodable (shutdown_complete_tlv (shutdown_complete_view c)) };
+    ghost is_encodable = { λ c. IsEncodable (kind.format (kind.view c)).tlv };
 
-    ghost image_length = { λ c fits. length-solid_tlv 14 (flag_byte (c.tag_reflected ∷ [])) [] };
+    ghost image_length = { λ c fits. length-format (kind.format (kind.view c)) };
 
     ghost size_bound = { λ c fits. fits };
 
@@ -93,7 +94,7 @@ impl SerializableTlv for ShutdownCompleteChunk {
 }
 
 impl fmt::Display for ShutdownCompleteChunk {
-    ghost output = { λ c. Some (shutdown_complete_text (shutdown_complete_view c)) };
+    ghost output = { λ c. Some (kind.format (kind.view c)).text };
 
     fn fmt<W: fmt::Write>(&self, f: &mut fmt::Formatter<W>) -> fmt::Result {
         let tag_reflected = self.tag_reflected;

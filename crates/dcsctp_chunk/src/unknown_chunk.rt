@@ -13,8 +13,8 @@
 ghost use Rattle.std.specs.Prelude.{◌≡◌, Some};
 ghost use Rattle.dcsctp_tlv.specs.Image.{IsEncodable};
 ghost use Rattle.dcsctp_tlv.specs.Reading.{Gives, IfMeant, Builds};
-ghost use Rattle.dcsctp_tlv.proofs.Images.{length-solid_tlv};
-ghost use Rattle.dcsctp_chunk.specs.Unknown.{unknown_at, unknown_tlv, unknown_text, unknown_view};
+ghost use Rattle.dcsctp_tlv.specs.Length.{length-format};
+ghost use Rattle.dcsctp_chunk.specs.Unknown as kind;
 
 use crate::raw_chunk::RawChunk;
 use dcsctp_tlv::error::ChunkParseError;
@@ -34,18 +34,19 @@ pub struct UnknownChunk {
     pub value: Vec<u8>,
 }
 
-#[tactic(auto, unfolding(crate::specs::Unknown::unknown_at))]
+#[tactic(auto, unfolding(crate::specs::Unknown::read))]
 impl UnknownChunk {
     /// Keeps a chunk of any type, and copies its value; `OutOfMemory` is its only error.
     pub fn try_from(alloc: Global, raw: RawChunk) -> Result<Self, ChunkParseError>
-        ensures { Gives IfMeant unknown_view result (unknown_at raw.entry.typ raw.entry.flags raw.entry.value.now) }
+        ensures { Gives IfMeant kind.view result
+            (kind.read raw.entry.typ raw.entry.flags raw.entry.value.now) }
     {
         Ok(UnknownChunk::build(alloc, raw.typ, raw.flags, raw.value)?)
     }
 
     /// Copies the value.
     pub fn build(alloc: Global, typ: u8, flags: u8, value: &[u8]) -> Result<Self, AllocError>
-        ensures { Builds unknown_view result (unknown_at typ flags value.now) }
+        ensures { Builds kind.view result (kind.read typ flags value.now) }
     {
         Ok(UnknownChunk {
             typ,
@@ -56,11 +57,11 @@ impl UnknownChunk {
 }
 
 impl SerializableTlv for UnknownChunk {
-    ghost tlv = { λ c. unknown_tlv (unknown_view c) };
+    ghost tlv = { λ c. (kind.format (kind.view c)).tlv };
 
-    ghost is_encodable = { λ c. IsEncodable (unknown_tlv (unknown_view c)) };
+    ghost is_encodable = { λ c. IsEncodable (kind.format (kind.view c)).tlv };
 
-    ghost image_length = { λ c fits. length-solid_tlv c.typ c.flags c.value.items };
+    ghost image_length = { λ c fits. length-format (kind.format (kind.view c)) };
 
     ghost size_bound = { λ c fits. fits };
 
@@ -78,7 +79,7 @@ impl SerializableTlv for UnknownChunk {
 }
 
 impl fmt::Display for UnknownChunk {
-    ghost output = { λ c. Some (unknown_text (unknown_view c)) };
+    ghost output = { λ c. Some (kind.format (kind.view c)).text };
 
     fn fmt<W: fmt::Write>(&self, f: &mut fmt::Formatter<W>) -> fmt::Result {
         let typ = self.typ;

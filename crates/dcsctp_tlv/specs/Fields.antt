@@ -1,8 +1,8 @@
 -- Fields of one size in a row, as stream ids, TSNs or gap ack blocks lie in a value.
-use Rattle.std.specs.Prelude.{ℕ, zero, suc, ◌+◌, ◌*◌, List, [], ◌∷◌, ◌++◌, length, drop, map}
+use Rattle.std.specs.Prelude.{ℕ, zero, suc, ◌+◌, ◌*◌, ◌/◌, ◌%◌, List, [], ◌∷◌, ◌++◌, length, drop, map}
 use Rattle.std.specs.Int.{w32}
 use Rattle.std.specs.List.{flat_map}
-use Rattle.dcsctp_tlv.specs.Format.{sized_tlv}
+use Rattle.dcsctp_tlv.specs.Format.{flagged_tlv}
 use Rattle.dcsctp_tlv.specs.Image.{Tlv}
 use Rattle.dcsctp_tlv.specs.Number.{numbers}
 use Rattle.dcsctp_types.specs.declared.api.stream_id.StreamId.{StreamId}
@@ -12,11 +12,17 @@ abbrev pub fields : {A : Type 0} → (List ℕ → A) → ℕ → ℕ → List �
 fields read size zero bytes = []
 fields read size (suc count) bytes = read bytes ∷ fields read size count (drop size bytes)
 
--- a parameter or a cause with numbers of four bytes in its value, and after them fields of a size
+-- an item with numbers of four bytes in its value, and after them fields of a size
+abbrev pub numbers_and_fields_tlv
+    : {A : Type 0} → ℕ → ℕ → List ℕ → (A → List ℕ) → ℕ → List A → Tlv
+numbers_and_fields_tlv first second leading bytes size list =
+    flagged_tlv first second (4 * length leading + size * length list)
+    (numbers w32 leading ++ flat_map bytes list)
+
+-- the same of a parameter or a cause
 abbrev pub fields_tlv : {A : Type 0} → ℕ → List ℕ → (A → List ℕ) → ℕ → List A → Tlv
 fields_tlv typ leading bytes size list =
-    sized_tlv typ (4 * length leading + size * length list)
-    (numbers w32 leading ++ flat_map bytes list)
+    numbers_and_fields_tlv (typ / 256) (typ % 256) leading bytes size list
 
 abbrev pub stream_numbers : List StreamId → List ℕ
 stream_numbers streams = map (λ id. id.0) streams

@@ -3,8 +3,8 @@ use Rattle.std.specs.Prelude.{◌≡◌, ℕ, ◌/◌, ◌%◌, List, length}
 use Rattle.dcsctp_tlv.specs.Image.{solid, Tlv}
 
 pub record Format : Type 1 where
-  -- how it is written (RFC 9260 sections 3.2.1 and 3.3.10), and that its value has the size that
-  -- is counted
+  -- how it is written (RFC 9260 sections 3.2, 3.2.1 and 3.3.10), and that its value has the size
+  -- that is counted
   pub tlv : Tlv
   pub sized : length tlv.value ≡ tlv.value_size
   -- how it is printed
@@ -14,7 +14,11 @@ pub record Format : Type 1 where
   -- the table can mean it
   pub IsWellFormed : Type 0
 
--- a parameter or a cause: its type, the size of its value, and the value
+-- a chunk: its type, its flags, the size of its value, and the value (RFC 9260 section 3.2)
+abbrev pub flagged_tlv : ℕ → ℕ → ℕ → List ℕ → Tlv
+flagged_tlv typ flags size bytes =
+    record { first = typ; second = flags; value = solid bytes; value_size = size }
+
+-- a parameter or a cause: its type in both bytes, the size of its value, and the value
 abbrev pub sized_tlv : ℕ → ℕ → List ℕ → Tlv
-sized_tlv typ size bytes =
-    record { first = typ / 256; second = typ % 256; value = solid bytes; value_size = size }
+sized_tlv typ size bytes = flagged_tlv (typ / 256) (typ % 256) size bytes

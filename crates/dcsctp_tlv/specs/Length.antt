@@ -2,6 +2,7 @@
 -- They stand here and not in proofs/, since definitions cite them; none of them has to be believed.
 use Rattle.std.specs.Prelude.{◌≡◌, ℕ, ◌+◌, ◌*◌, ◌/◌, ◌%◌, List, [], ◌∷◌, ◌++◌, Some, length}
 use Rattle.std.specs.Int.{Width, w32, to_be_bytes}
+use Rattle.std.specs.List.{flat_map}
 use Rattle.std.proofs.Common.{refl, sym, ap, ◌∙◌}
 use Rattle.std.proofs.Math.Nat.{mul-zero, mul-suc, add_comm}
 use Rattle.std.proofs.lemmas.List.{length-append, length-map}
@@ -33,16 +34,48 @@ pub length-typed_tlv : (typ : ℕ) (bytes : List ℕ)
     → length (image_of (typed_tlv typ bytes)) ≡ size_of (typed_tlv typ bytes)
 length-typed_tlv typ bytes = length-solid_tlv (typ / 256) (typ % 256) bytes
 
--- ---- numbers
+-- ---- fields
+
+-- bytes of a known number, and after them any
+pub length-fixed : (size : ℕ) (fixed rest : List ℕ) → length fixed ≡ size
+    → length (solid (fixed ++ rest)) ≡ size + length rest
+length-fixed size fixed rest e =
+    length-solid (fixed ++ rest) ∙ length-append fixed rest
+    ∙ ap (λ (k : ℕ). k + length rest) e
+
+-- so many fields of one size
+pub length-each : {A : Type 0} (write : A → List ℕ) (size : ℕ) (xs : List A)
+    → ((x : A) → length (write x) ≡ size) → length (flat_map write xs) ≡ size * length xs
+length-each write size [] each = sym (mul-zero size)
+length-each write size (x ∷ xs) each =
+    length-append (write x) (flat_map write xs)
+    ∙ ap (λ (k : ℕ). k + length (flat_map write xs)) (each x)
+    ∙ ap (λ (k : ℕ). size + k) (length-each write size xs each)
+    ∙ add_comm size (size * length xs) ∙ sym (mul-suc size (length xs))
 
 pub length-numbers : (width : Width) (size : ℕ) (ns : List ℕ)
     → ((n : ℕ) → length (to_be_bytes width n) ≡ size) → length (numbers width ns) ≡ size * length ns
-length-numbers width size [] each = sym (mul-zero size)
-length-numbers width size (n ∷ ns) each =
-    length-append (to_be_bytes width n) (numbers width ns)
-    ∙ ap (λ (k : ℕ). k + length (numbers width ns)) (each n)
-    ∙ ap (λ (k : ℕ). size + k) (length-numbers width size ns each)
-    ∙ add_comm size (size * length ns) ∙ sym (mul-suc size (length ns))
+length-numbers width size ns each = length-each (to_be_bytes width) size ns each
+
+-- two lists of fields, one after the other
+pub length-two_lists : {A B : Type 0} (write : A → List ℕ) (size : ℕ) (xs : List A)
+    (write_more : B → List ℕ) (more_size : ℕ) (ys : List B)
+    → ((x : A) → length (write x) ≡ size) → ((y : B) → length (write_more y) ≡ more_size)
+    → length (flat_map write xs ++ flat_map write_more ys)
+    ≡ size * length xs + more_size * length ys
+length-two_lists write size xs write_more more_size ys each each_more =
+    length-append (flat_map write xs) (flat_map write_more ys)
+    ∙ ap (λ (k : ℕ). k + length (flat_map write_more ys)) (length-each write size xs each)
+    ∙ ap (λ (k : ℕ). size * length xs + k) (length-each write_more more_size ys each_more)
+
+-- numbers of four bytes, and after them fields
+pub length-fields : {A : Type 0} (leading : List ℕ) (write : A → List ℕ) (size : ℕ) (list : List A)
+    → ((x : A) → length (write x) ≡ size)
+    → length (solid (numbers w32 leading ++ flat_map write list))
+    ≡ 4 * length leading + size * length list
+length-fields leading write size list each =
+    length-solid (numbers w32 leading ++ flat_map write list)
+    ∙ length-two_lists (to_be_bytes w32) 4 leading write size list (λ n. refl) each
 
 -- numbers of four bytes, and after them a list of numbers of another width
 pub length-words : (width : Width) (size : ℕ) (leading list : List ℕ)
@@ -50,7 +83,4 @@ pub length-words : (width : Width) (size : ℕ) (leading list : List ℕ)
     → length (solid (numbers w32 leading ++ numbers width list))
     ≡ 4 * length leading + size * length list
 length-words width size leading list each =
-    length-solid (numbers w32 leading ++ numbers width list)
-    ∙ length-append (numbers w32 leading) (numbers width list)
-    ∙ ap (λ (k : ℕ). k + length (numbers width list)) (length-numbers w32 4 leading (λ n. refl))
-    ∙ ap (λ (k : ℕ). 4 * length leading + k) (length-numbers width size list each)
+    length-fields leading (to_be_bytes width) size list each

@@ -3,9 +3,9 @@
 ghost use Rattle.std.specs.Prelude.{◌≡◌, ◌≤◌, ◌+◌, ◌*◌, ◌++◌, ℕ, List, All, IfOk, length, drop, map, refl};
 ghost use Rattle.std.specs.Int.{w16, w32, to_be_bytes};
 ghost use Rattle.std.specs.List.{flat_map};
-ghost use Rattle.dcsctp_tlv.specs.Fields.{fields, fields_tlv};
-ghost use Rattle.dcsctp_tlv.specs.Image.{put, solid_tlv, IsEncodable, size_of, image_of, written};
-ghost use Rattle.dcsctp_tlv.specs.Number.{number16, number32, numbers};
+ghost use Rattle.dcsctp_tlv.specs.Fields.{fields, numbers_and_fields_tlv, fields_tlv};
+ghost use Rattle.dcsctp_tlv.specs.Image.{put, IsEncodable, size_of, image_of, written};
+ghost use Rattle.dcsctp_tlv.specs.Number.{number16, number32};
 
 use crate::frame::{TLV_HEADER_SIZE, put_header};
 use crate::number::{read_u16_be, read_u32_be, write_u16_be, write_u32_be};
@@ -48,8 +48,7 @@ pub trait Field {
         requires room { SIZE ≤ length output.old }
         ensures { output.new ≡ field_bytes (view value.now) ++ drop SIZE output.old };
 
-    ghost field_length: { (value : Self.Value) → is_writable value →
-        length (field_bytes (view value)) ≡ SIZE };
+    ghost field_length: { (value : Self.Value) → is_writable value → length (field_bytes (view value)) ≡ SIZE };
 }
 
 impl Field for u32 {
@@ -143,8 +142,7 @@ pub fn fields_from_bytes<F: Field>(
     count: usize,
 ) -> Result<Vec<F::Value>, AllocError>
     requires { F.SIZE * count ≤ length bytes.now }
-    ensures { IfOk result
-        (λ list. map F.view list.items ≡ fields F.field_at F.SIZE count bytes.now) }
+    ensures { IfOk result (λ list. map F.view list.items ≡ fields F.field_at F.SIZE count bytes.now) }
 {
     let mut list = Vec::with_capacity(alloc, count)?;
     for i in 0..count {
@@ -176,13 +174,12 @@ pub fn put_numbers_and_fields<F: Field>(
     output: &mut [u8],
 )
     requires writable { All F.is_writable list.now }
-    requires encodable { IsEncodable (solid_tlv first second
-        (numbers w32 leading.now ++ flat_map F.field_bytes (map F.view list.now))) }
-    requires room { size_of (solid_tlv first second
-        (numbers w32 leading.now ++ flat_map F.field_bytes (map F.view list.now)))
-        ≤ length output.old }
-    ensures { output.new ≡ written (image_of (solid_tlv first second
-        (numbers w32 leading.now ++ flat_map F.field_bytes (map F.view list.now)))) output.old }
+    requires encodable { IsEncodable (numbers_and_fields_tlv
+        first second leading.now F.field_bytes F.SIZE (map F.view list.now)) }
+    requires room { size_of (numbers_and_fields_tlv
+        first second leading.now F.field_bytes F.SIZE (map F.view list.now)) ≤ length output.old }
+    ensures { output.new ≡ written (image_of (numbers_and_fields_tlv
+        first second leading.now F.field_bytes F.SIZE (map F.view list.now))) output.old }
 {
     let place = 4 * leading.len();
     let value_size = place + F::SIZE * list.len();

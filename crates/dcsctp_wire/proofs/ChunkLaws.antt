@@ -15,7 +15,7 @@ use Rattle.dcsctp_tlv.proofs.ParameterLaws.{IsGoodParameter, good_parameters, pa
 use Rattle.dcsctp_tlv.proofs.Forms.{FormsTrees, FormsRow, plain_forms, list_formed, nil_means}
 use Rattle.dcsctp_cause.specs.Cause.{CauseTree, causes, tlv as cause_tlv, IsInWidth as IsCauseInWidth, IsWellFormed as IsCauseWellFormed}
 use Rattle.dcsctp_cause.proofs.CauseLaws.{IsGoodCause, good_causes, causes_read_back, causes_form}
-use Rattle.dcsctp_chunk.specs.Unknown.{UnknownTree, unknown_at}
+use Rattle.dcsctp_chunk.specs.Unknown.{Tree as UnknownTree, read as unknown_at}
 use Rattle.dcsctp_chunk.proofs.FlagLaws.{one_again}
 use Rattle.dcsctp_chunk.proofs.Laws.{shutdown_laws, shutdown_ack_laws, shutdown_complete_laws, cookie_echo_laws, cookie_ack_laws, data_laws, idata_laws}
 use Rattle.dcsctp_chunk.proofs.SackLaws.{sack_laws}

@@ -5,18 +5,18 @@ use Rattle.std.proofs.lemmas.Bool.{ne_eqb}
 use Rattle.dcsctp_tlv.specs.Fault.{Fault}
 use Rattle.dcsctp_tlv.specs.Level.{Row, map_ok, MeansParts}
 use Rattle.dcsctp_tlv.proofs.Tables.{of_table, ◌&◌}
-use Rattle.dcsctp_chunk.specs.CookieAck.{cookie_ack_at}
-use Rattle.dcsctp_chunk.specs.CookieEcho.{cookie_echo_at}
-use Rattle.dcsctp_chunk.specs.DataChunk.{data_at}
-use Rattle.dcsctp_chunk.specs.ForwardTsn.{forward_tsn_at}
-use Rattle.dcsctp_chunk.specs.IDataChunk.{idata_at}
-use Rattle.dcsctp_chunk.specs.IForwardTsn.{iforward_tsn_at}
+use Rattle.dcsctp_chunk.specs.CookieAck.{read as cookie_ack_at}
+use Rattle.dcsctp_chunk.specs.CookieEcho.{read as cookie_echo_at}
+use Rattle.dcsctp_chunk.specs.DataChunk.{read as data_at}
+use Rattle.dcsctp_chunk.specs.ForwardTsn.{read as forward_tsn_at}
+use Rattle.dcsctp_chunk.specs.IDataChunk.{read as idata_at}
+use Rattle.dcsctp_chunk.specs.IForwardTsn.{read as iforward_tsn_at}
 use Rattle.dcsctp_chunk.specs.PlainCheck.{outcome, plain_outcome}
-use Rattle.dcsctp_chunk.specs.Sack.{sack_at}
-use Rattle.dcsctp_chunk.specs.Shutdown.{shutdown_at}
-use Rattle.dcsctp_chunk.specs.ShutdownAck.{shutdown_ack_at}
-use Rattle.dcsctp_chunk.specs.ShutdownComplete.{shutdown_complete_at}
-use Rattle.dcsctp_chunk.specs.Unknown.{unknown_at}
+use Rattle.dcsctp_chunk.specs.Sack.{read as sack_at}
+use Rattle.dcsctp_chunk.specs.Shutdown.{read as shutdown_at}
+use Rattle.dcsctp_chunk.specs.ShutdownAck.{read as shutdown_ack_at}
+use Rattle.dcsctp_chunk.specs.ShutdownComplete.{read as shutdown_complete_at}
+use Rattle.dcsctp_chunk.specs.Unknown.{read as unknown_at}
 use Rattle.dcsctp_wire.specs.Chunk.{parts as chunk_parts, ChunkTree, Data, Sack, Shutdown, ShutdownAck, CookieEcho, CookieAck, ShutdownComplete, IData, ForwardTsn, IForwardTsn, Unknown, table, chunk_row}
 
 -- a value that passes means one part, and what is told of another is its fault

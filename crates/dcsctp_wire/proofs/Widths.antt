@@ -66,7 +66,7 @@ use Rattle.dcsctp_chunk.specs.contracts.cookie_echo_chunk.CookieEchoChunk as Coo
 use Rattle.dcsctp_chunk.specs.contracts.forward_tsn_chunk.ForwardTsnChunk as ForwardTsnChunk
 use Rattle.dcsctp_chunk.specs.contracts.iforward_tsn_chunk.IForwardTsnChunk as IForwardTsnChunk
 use Rattle.dcsctp_chunk.specs.contracts.unknown_chunk.UnknownChunk as UnknownChunk
-use Rattle.dcsctp_chunk.specs.Data.{user_data_view, IsUserDataInWidth}
+use Rattle.dcsctp_chunk.specs.Data.{user_data_view, IsInWidth as IsUserDataInWidth}
 use Rattle.dcsctp_chunk.specs.Sack.{IsBlockInWidth, duplicate_numbers}
 use Rattle.dcsctp_chunk.specs.SkippedStreams.{IsSkippedStreamInWidth, skipped_stream_view, skipped_stream_views}
 use Rattle.dcsctp_wire.specs.Chunk.{view, IsInWidth as IsChunkInWidth}

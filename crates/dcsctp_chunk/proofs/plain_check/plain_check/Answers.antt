@@ -1,42 +1,42 @@
-use Rattle.dcsctp_chunk.specs.DataChunk.{data_at}
-use Rattle.dcsctp_chunk.specs.Sack.{sack_at}
-use Rattle.dcsctp_chunk.specs.Shutdown.{shutdown_at}
-use Rattle.dcsctp_chunk.specs.ShutdownAck.{shutdown_ack_at}
-use Rattle.dcsctp_chunk.specs.CookieEcho.{cookie_echo_at}
-use Rattle.dcsctp_chunk.specs.CookieAck.{cookie_ack_at}
-use Rattle.dcsctp_chunk.specs.ShutdownComplete.{shutdown_complete_at}
-use Rattle.dcsctp_chunk.specs.IDataChunk.{idata_at}
-use Rattle.dcsctp_chunk.specs.ForwardTsn.{forward_tsn_at}
-use Rattle.dcsctp_chunk.specs.IForwardTsn.{iforward_tsn_at}
+use Rattle.dcsctp_chunk.specs.DataChunk as data_chunk
+use Rattle.dcsctp_chunk.specs.Sack as sack
+use Rattle.dcsctp_chunk.specs.Shutdown as shutdown
+use Rattle.dcsctp_chunk.specs.ShutdownAck as shutdown_ack
+use Rattle.dcsctp_chunk.specs.CookieEcho as cookie_echo
+use Rattle.dcsctp_chunk.specs.CookieAck as cookie_ack
+use Rattle.dcsctp_chunk.specs.ShutdownComplete as shutdown_complete
+use Rattle.dcsctp_chunk.specs.IDataChunk as idata_chunk
+use Rattle.dcsctp_chunk.specs.ForwardTsn as forward_tsn
+use Rattle.dcsctp_chunk.specs.IForwardTsn as iforward_tsn
 use Rattle.dcsctp_chunk.proofs.PlainChecks.{passes_outcome}
 use Rattle.dcsctp_chunk.proofs.plain_check.plain_check.Goals as goal
 
 pub returns-in-0 : goal.returns-in-0
-returns-in-0 c = rw c.in-0.is (passes_outcome (data_at c.args.raw.flags c.args.raw.value.now) c.check.result (c.check.ensures c.args.raw.flags))
+returns-in-0 c = rw c.in-0.is (passes_outcome (data_chunk.read c.args.raw.flags c.args.raw.value.now) c.check.result (c.check.ensures c.args.raw.flags))
 
 pub returns-in-3 : goal.returns-in-3
-returns-in-3 c = rw c.in-3.is (passes_outcome (sack_at c.args.raw.value.now) c.check-in-3.result c.check-in-3.ensures)
+returns-in-3 c = rw c.in-3.is (passes_outcome (sack.read c.args.raw.value.now) c.check-in-3.result c.check-in-3.ensures)
 
 pub returns-in-7 : goal.returns-in-7
-returns-in-7 c = rw c.in-7.is (passes_outcome (shutdown_at c.args.raw.value.now) c.check-in-7.result c.check-in-7.ensures)
+returns-in-7 c = rw c.in-7.is (passes_outcome (shutdown.read c.args.raw.value.now) c.check-in-7.result c.check-in-7.ensures)
 
 pub returns-in-8 : goal.returns-in-8
-returns-in-8 c = rw c.in-8.is (passes_outcome (shutdown_ack_at c.args.raw.value.now) c.check-in-8.result c.check-in-8.ensures)
+returns-in-8 c = rw c.in-8.is (passes_outcome (shutdown_ack.read c.args.raw.value.now) c.check-in-8.result c.check-in-8.ensures)
 
 pub returns-in-10 : goal.returns-in-10
-returns-in-10 c = rw c.in-10.is (passes_outcome (cookie_echo_at c.args.raw.value.now) c.check-in-10.result c.check-in-10.ensures)
+returns-in-10 c = rw c.in-10.is (passes_outcome (cookie_echo.read c.args.raw.value.now) c.check-in-10.result c.check-in-10.ensures)
 
 pub returns-in-11 : goal.returns-in-11
-returns-in-11 c = rw c.in-11.is (passes_outcome (cookie_ack_at c.args.raw.value.now) c.check-in-11.result c.check-in-11.ensures)
+returns-in-11 c = rw c.in-11.is (passes_outcome (cookie_ack.read c.args.raw.value.now) c.check-in-11.result c.check-in-11.ensures)
 
 pub returns-in-14 : goal.returns-in-14
-returns-in-14 c = rw c.in-14.is (passes_outcome (shutdown_complete_at c.args.raw.flags c.args.raw.value.now) c.check-in-14.result (c.check-in-14.ensures c.args.raw.flags))
+returns-in-14 c = rw c.in-14.is (passes_outcome (shutdown_complete.read c.args.raw.flags c.args.raw.value.now) c.check-in-14.result (c.check-in-14.ensures c.args.raw.flags))
 
 pub returns-in-64 : goal.returns-in-64
-returns-in-64 c = rw c.in-64.is (passes_outcome (idata_at c.args.raw.flags c.args.raw.value.now) c.check-in-64.result (c.check-in-64.ensures c.args.raw.flags))
+returns-in-64 c = rw c.in-64.is (passes_outcome (idata_chunk.read c.args.raw.flags c.args.raw.value.now) c.check-in-64.result (c.check-in-64.ensures c.args.raw.flags))
 
 pub returns-in-192 : goal.returns-in-192
-returns-in-192 c = rw c.in-192.is (passes_outcome (forward_tsn_at c.args.raw.value.now) c.check-in-192.result c.check-in-192.ensures)
+returns-in-192 c = rw c.in-192.is (passes_outcome (forward_tsn.read c.args.raw.value.now) c.check-in-192.result c.check-in-192.ensures)
 
 pub returns-in-194 : goal.returns-in-194
-returns-in-194 c = rw c.in-194.is (passes_outcome (iforward_tsn_at c.args.raw.value.now) c.check-in-194.result c.check-in-194.ensures)
+returns-in-194 c = rw c.in-194.is (passes_outcome (iforward_tsn.read c.args.raw.value.now) c.check-in-194.result c.check-in-194.ensures)

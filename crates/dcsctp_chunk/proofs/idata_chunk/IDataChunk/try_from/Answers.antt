@@ -1,11 +1,11 @@
 use Rattle.std.proofs.Common.{rules}
-use Rattle.dcsctp_chunk.specs.IDataChunk.{idata_at}
+use Rattle.dcsctp_chunk.specs.IDataChunk.{read}
 use Rattle.dcsctp_chunk.proofs.idata_chunk.IDataChunk.try_from.Goals as goal
 
 pub returns-in_err-check-clause-other : goal.returns-in_err-check-clause-other
-unfolding idata_at
+unfolding read
 returns-in_err-check-clause-other c = let p = c.in_err-check.ensures c.args.raw.flags in search (rules, p)
 
 pub returns-in_err-check-clause-own : goal.returns-in_err-check-clause-own
-unfolding idata_at
+unfolding read
 returns-in_err-check-clause-own c = let p = c.in_err-check.ensures c.args.raw.flags in search (rules, p)

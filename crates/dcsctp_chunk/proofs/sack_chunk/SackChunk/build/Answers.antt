@@ -5,11 +5,11 @@ use Rattle.dcsctp_tlv.specs.Fault.{Length}
 use Rattle.dcsctp_tlv.proofs.Readings.{ok_passed, ok_not_refused}
 use Rattle.dcsctp_tlv.specs.Fields.{fields}
 use Rattle.dcsctp_tlv.specs.Number.{number16, number32}
-use Rattle.dcsctp_chunk.specs.Sack.{block_at, block_count, duplicate_count, duplicate_numbers, sack_at}
+use Rattle.dcsctp_chunk.specs.Sack.{block_at, block_count, duplicate_count, duplicate_numbers, read}
 use Rattle.dcsctp_chunk.proofs.sack_chunk.SackChunk.build.Goals as goal
 
 pub returns : goal.returns
-unfolding sack_at
+unfolding read
 returns c =
     let value = c.args.value.now in
     let long = ok_not_refused (nat_lt (length value) 12) _ Length c.requires in

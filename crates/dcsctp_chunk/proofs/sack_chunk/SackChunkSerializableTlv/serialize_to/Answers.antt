@@ -5,13 +5,13 @@ use Rattle.std.proofs.lemmas.List.{length-map, map-id}
 use Rattle.dcsctp_tlv.specs.Image.{put}
 use Rattle.dcsctp_tlv.specs.Number.{numbers}
 use Rattle.dcsctp_chunk.specs.declared.sack_chunk.GapAckBlock.{GapAckBlock}
-use Rattle.dcsctp_chunk.specs.Sack.{block_bytes, duplicate_numbers, sack_view}
+use Rattle.dcsctp_chunk.specs.Sack.{block_bytes, duplicate_numbers, view}
 use Rattle.dcsctp_chunk.proofs.Sacks.{sack_written}
 use Rattle.dcsctp_chunk.proofs.sack_chunk.SackChunkSerializableTlv.serialize_to.Goals as goal
 
 pub returns : goal.returns
 returns c =
-    let s = sack_view c.args.self.now in
+    let s = view c.args.self.now in
     let bs = c.args.self.now.gap_ack_blocks.items in
     let ts = c.args.self.now.duplicate_tsns.items in
     let blocks : c.len-blocks.result ≡ length bs = omega (arith, c.len-blocks.ensures) in

@@ -1,11 +1,11 @@
 use Rattle.std.proofs.Common.{rules}
-use Rattle.dcsctp_chunk.specs.ShutdownComplete.{shutdown_complete_at}
+use Rattle.dcsctp_chunk.specs.ShutdownComplete.{read}
 use Rattle.dcsctp_chunk.proofs.shutdown_complete_chunk.ShutdownCompleteChunk.try_from.Goals as goal
 
 pub returns-in_err-check-clause-other : goal.returns-in_err-check-clause-other
-unfolding shutdown_complete_at
+unfolding read
 returns-in_err-check-clause-other c = let p = c.in_err-check.ensures c.args.raw.flags in search (rules, p)
 
 pub returns-in_err-check-clause-own : goal.returns-in_err-check-clause-own
-unfolding shutdown_complete_at
+unfolding read
 returns-in_err-check-clause-own c = let p = c.in_err-check.ensures c.args.raw.flags in search (rules, p)
