@@ -1,6 +1,6 @@
 -- The laws of the table of parameters: a line for each kind.
 use Rattle.std.proofs.Common.{◌≡◌, ℕ, ◌+◌, ◌*◌, ◌^◌, ◌<◌, ◌≢◌, List, [], ◌∷◌, ◌++◌, length, refl, sym, ap, subst, Option, Some, None}
-use Rattle.std.specs.Prelude.{◌↔◌, IsSome, IfSome}
+use Rattle.std.specs.Prelude.{IfSome}
 use Rattle.std.specs.Int.{w16, w32, from_be_bytes}
 use Rattle.std.specs.List.{AllByRecursion}
 use Rattle.dcsctp_tlv.specs.Format.{sized_tlv}
@@ -15,7 +15,7 @@ use Rattle.dcsctp_tlv.specs.SupportedExtensions as extensions
 use Rattle.dcsctp_tlv.specs.ReconfigurationResponse as response
 use Rattle.dcsctp_tlv.specs.ReconfigurationResponse.{next_tsns, kept_tsn}
 use Rattle.dcsctp_tlv.specs.UnknownParameter as unknown
-use Rattle.dcsctp_tlv.specs.Parameter.{ParameterTree, HeartbeatInfo, StateCookie, OutgoingSsnResetRequest, IncomingSsnResetRequest, SsnTsnResetRequest, ReconfigurationResponse, AddOutgoingStreamsRequest, AddIncomingStreamsRequest, ZeroChecksumAcceptable, SupportedExtensions, ForwardTsnSupported, Unknown, table, row, parameters, format, tlv, IsInWidth, IsWellFormed, kept, all_kept, IsTyped}
+use Rattle.dcsctp_tlv.specs.Parameter.{ParameterTree, HeartbeatInfo, StateCookie, OutgoingSsnResetRequest, IncomingSsnResetRequest, SsnTsnResetRequest, ReconfigurationResponse, AddOutgoingStreamsRequest, AddIncomingStreamsRequest, ZeroChecksumAcceptable, SupportedExtensions, ForwardTsnSupported, Unknown, table, row, parameters, format, tlv, IsInWidth, IsWellFormed, kept, all_kept}
 use Rattle.dcsctp_tlv.proofs.Laws.{LawfulRow, Lawful, plain_lawful}
 use Rattle.dcsctp_tlv.proofs.Tables.{◌&◌, of_table, of_others}
 use Rattle.dcsctp_tlv.proofs.ReadsBack.{ReadsBack, each_encodable, zeroed-solid}
@@ -214,12 +214,6 @@ kept_response_tlv : (r : response.Tree)
     → (response.format (response.kept r)).tlv ≡ (response.format r).tlv
 kept_response_tlv r = ap (tlv_with r) (kept_tsns r.sender_next_tsn r.receiver_next_tsn)
 
-both_kept : (s r : Option ℕ) → IsSome (kept_tsn s r) ↔ IsSome (kept_tsn r s)
-both_kept (Some s) (Some r) = ((λ h. h), (λ h. h))
-both_kept (Some s) None = ((λ h. h), (λ h. h))
-both_kept None (Some r) = ((λ h. h), (λ h. h))
-both_kept None None = ((λ h. h), (λ h. h))
-
 -- what holds of a next TSN holds of the one that is kept
 tsn_kept : (P : ℕ → Type 0) (s r : Option ℕ) → IfSome s P → IfSome (kept_tsn s r) P
 tsn_kept P s (Some r) h = h
@@ -228,11 +222,6 @@ tsn_kept P s None h = tt
 pub kept_parameter_tlv : (t : ParameterTree) → tlv (kept t) ≡ tlv t
 kept_parameter_tlv (ReconfigurationResponse r) = kept_response_tlv r
 kept_parameter_tlv t = refl
-
-pub kept_parameter_formed : (t : ParameterTree) → IsTyped t → IsWellFormed (kept t)
-kept_parameter_formed (ReconfigurationResponse r) typed =
-    both_kept r.sender_next_tsn r.receiver_next_tsn
-kept_parameter_formed t typed = typed
 
 abbrev IsTsn : ℕ → Type 0
 IsTsn tsn = tsn < 2 ^ 32
@@ -244,10 +233,6 @@ kept_parameter_width (ReconfigurationResponse r) w = record {
   receiver_next_tsn = tsn_kept IsTsn r.receiver_next_tsn r.sender_next_tsn w.receiver_next_tsn;
 }
 kept_parameter_width t w = w
-
-pub kept_parameters_formed : (ts : List ParameterTree) → AllByRecursion IsTyped ts
-    → AllByRecursion IsWellFormed (all_kept ts)
-kept_parameters_formed ts typed = all_map IsTyped IsWellFormed kept kept_parameter_formed ts typed
 
 pub kept_parameters_width : (ts : List ParameterTree) → AllByRecursion IsInWidth ts
     → AllByRecursion IsInWidth (all_kept ts)

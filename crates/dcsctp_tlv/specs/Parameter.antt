@@ -91,11 +91,6 @@ kept t = t
 abbrev pub all_kept : List ParameterTree → List ParameterTree
 all_kept ts = map kept ts
 
--- where it holds a type, it holds its own: what is written for it is well-formed
-abbrev pub IsTyped : ParameterTree → Type 0
-IsTyped (ReconfigurationResponse r) = Unit {0}
-IsTyped t = IsWellFormed t
-
 -- a parameter of the code, without where it lies in memory
 abbrev pub view : Parameter → ParameterTree
 view (variant.HeartbeatInfo p) = HeartbeatInfo (kind.HeartbeatInfo.view p)

@@ -82,11 +82,14 @@ abort_means a width formed fits = (
 )
 
 -- a list of causes that is written isn't empty
-some_bytes : (cs : List CauseTree) → cs ≢ [] → (length (zeroed (list_image cause_tlv cs)) == 0) ≡ false
+some_bytes : (cs : List CauseTree) → cs ≢ []
+    → (length (zeroed (list_image cause_tlv cs)) == 0) ≡ false
 unfolding image_of
 some_bytes [] some = absurd (some refl)
-some_bytes (c ∷ []) some = ne_eqb (length (zeroed (list_image cause_tlv (c ∷ [])))) 0 (λ e. omega (arith, e))
-some_bytes (c ∷ d ∷ cs) some = ne_eqb (length (zeroed (list_image cause_tlv (c ∷ d ∷ cs)))) 0 (λ e. omega (arith, e))
+some_bytes (c ∷ []) some =
+    ne_eqb (length (zeroed (list_image cause_tlv (c ∷ [])))) 0 (λ e. omega (arith, e))
+some_bytes (c ∷ d ∷ cs) some =
+    ne_eqb (length (zeroed (list_image cause_tlv (c ∷ d ∷ cs)))) 0 (λ e. omega (arith, e))
 
 error_means : (cs : List CauseTree) → AllByRecursion IsCauseInWidth cs
     → (cs ≢ []) × AllByRecursion IsCauseWellFormed cs → IsEncodable (error_format cs).tlv
@@ -116,24 +119,34 @@ unknown_means u h =
     of_others (λ row. row.means (zeroed (chunk_tlv (Unknown u)).value) (Unknown u)) (table u.flags)
     u.typ _ h (rw (zeroed-solid u.value) refl)
 
-means : (t : ChunkTree) → IsGood t → (chunk_row (chunk_tlv t).first (chunk_tlv t).second).means (zeroed (chunk_tlv t).value) t
+means : (t : ChunkTree) → IsGood t
+    → (chunk_row (chunk_tlv t).first (chunk_tlv t).second).means (zeroed (chunk_tlv t).value) t
 means (Data c) good = ap (map_ok Data) (data_laws.back c good.width good.formed good.encodable)
 means (Init i) good = (i, init_means 1 i good.width good.formed good.encodable, refl)
 means (InitAck i) good = (i, init_means 2 i good.width good.formed good.encodable, refl)
 means (Sack s) good = ap (map_ok Sack) (sack_laws.back s good.width tt good.encodable)
-means (HeartbeatRequest ps) good = (ps, parameter_list_means 4 ps good.width good.formed good.encodable, refl)
-means (HeartbeatAck ps) good = (ps, parameter_list_means 5 ps good.width good.formed good.encodable, refl)
+means (HeartbeatRequest ps) good =
+    (ps, parameter_list_means 4 ps good.width good.formed good.encodable, refl)
+means (HeartbeatAck ps) good =
+    (ps, parameter_list_means 5 ps good.width good.formed good.encodable, refl)
 means (Abort a) good = (a, abort_means a good.width good.formed good.encodable, refl)
-means (Shutdown tsn) good = ap (map_ok Shutdown) (shutdown_laws.back tsn good.width tt good.encodable)
-means ShutdownAck good = ap (map_ok (λ _. ShutdownAck)) (shutdown_ack_laws.back tt tt tt good.encodable)
+means (Shutdown tsn) good =
+    ap (map_ok Shutdown) (shutdown_laws.back tsn good.width tt good.encodable)
+means ShutdownAck good =
+    ap (map_ok (λ _. ShutdownAck)) (shutdown_ack_laws.back tt tt tt good.encodable)
 means (Error cs) good = (cs, error_means cs good.width good.formed good.encodable, refl)
-means (CookieEcho cookie) good = ap (map_ok CookieEcho) (cookie_echo_laws.back cookie good.width good.formed good.encodable)
+means (CookieEcho cookie) good =
+    ap (map_ok CookieEcho) (cookie_echo_laws.back cookie good.width good.formed good.encodable)
 means CookieAck good = ap (map_ok (λ _. CookieAck)) (cookie_ack_laws.back tt tt tt good.encodable)
-means (ShutdownComplete reflected) good = ap (map_ok ShutdownComplete) (shutdown_complete_laws.back reflected tt tt good.encodable)
+means (ShutdownComplete reflected) good =
+    ap (map_ok ShutdownComplete) (shutdown_complete_laws.back reflected tt tt good.encodable)
 means (IData c) good = ap (map_ok IData) (idata_laws.back c good.width good.formed good.encodable)
-means (ReConfig ps) good = (ps, parameter_list_means 130 ps good.width good.formed good.encodable, refl)
-means (ForwardTsn f) good = ap (map_ok ForwardTsn) (forward_tsn_laws.back f good.width good.formed good.encodable.size)
-means (IForwardTsn f) good = ap (map_ok IForwardTsn) (iforward_tsn_laws.back f good.width good.formed good.encodable.size)
+means (ReConfig ps) good =
+    (ps, parameter_list_means 130 ps good.width good.formed good.encodable, refl)
+means (ForwardTsn f) good =
+    ap (map_ok ForwardTsn) (forward_tsn_laws.back f good.width good.formed good.encodable.size)
+means (IForwardTsn f) good =
+    ap (map_ok IForwardTsn) (iforward_tsn_laws.back f good.width good.formed good.encodable.size)
 means (Unknown u) good = unknown_means u good.formed
 
 pub chunks_read_back : ReadsBack chunks chunk_tlv IsGood
@@ -145,29 +158,44 @@ chunks_read_back = record {
 
 -- ---- each kind reads only what is well-formed
 
-init_forms : (tree : InitTree → ChunkTree) → ((i : InitTree) → AllByRecursion IsParameterWellFormed i.parameters → IsChunkWellFormed (tree i)) → FormsRow IsChunkWellFormed (as_row tree init_row)
+init_forms : (tree : InitTree → ChunkTree)
+    → ((i : InitTree) → AllByRecursion IsParameterWellFormed i.parameters
+    → IsChunkWellFormed (tree i)) → FormsRow IsChunkWellFormed (as_row tree init_row)
 init_forms tree law value t m =
     let is = m.1.1.2 in
-    subst IsChunkWellFormed (sym m.2) (law m.0 (subst (λ (i : InitTree). AllByRecursion IsParameterWellFormed i.parameters) (sym is) (list_formed parameters IsParameterWellFormed parameters_form (drop 16 value) m.1.1.0 m.1.1.1)))
+    subst IsChunkWellFormed (sym m.2)
+    (law m.0 (subst (λ (i : InitTree). AllByRecursion IsParameterWellFormed i.parameters) (sym is)
+    (list_formed parameters IsParameterWellFormed parameters_form (drop 16 value) m.1.1.0 m.1.1.1)))
 
-parameter_list_forms : (tree : List ParameterTree → ChunkTree) → ((ps : List ParameterTree) → AllByRecursion IsParameterWellFormed ps → IsChunkWellFormed (tree ps)) → FormsRow IsChunkWellFormed (as_row tree parameter_list_row)
+parameter_list_forms : (tree : List ParameterTree → ChunkTree)
+    → ((ps : List ParameterTree) → AllByRecursion IsParameterWellFormed ps
+    → IsChunkWellFormed (tree ps)) → FormsRow IsChunkWellFormed (as_row tree parameter_list_row)
 parameter_list_forms tree law value t m =
-    subst IsChunkWellFormed (sym m.2) (law m.0 (subst (AllByRecursion IsParameterWellFormed) (sym m.1.1.2) (list_formed parameters IsParameterWellFormed parameters_form value m.1.1.0 m.1.1.1)))
+    subst IsChunkWellFormed (sym m.2)
+    (law m.0 (subst (AllByRecursion IsParameterWellFormed) (sym m.1.1.2)
+    (list_formed parameters IsParameterWellFormed parameters_form value m.1.1.0 m.1.1.1)))
 
 abort_forms : (flags : ℕ) → FormsRow IsChunkWellFormed (as_row Abort (abort_row flags))
 abort_forms flags value t m =
-    subst IsChunkWellFormed (sym m.2) (subst (λ (a : AbortTree). AllByRecursion IsCauseWellFormed a.causes) (sym m.1.1.2) (list_formed causes IsCauseWellFormed causes_form value m.1.1.0 m.1.1.1))
+    subst IsChunkWellFormed (sym m.2)
+    (subst (λ (a : AbortTree). AllByRecursion IsCauseWellFormed a.causes) (sym m.1.1.2)
+    (list_formed causes IsCauseWellFormed causes_form value m.1.1.0 m.1.1.1))
 
 -- bytes that aren't empty mean some cause
 some_causes : (value : List ℕ) (cs : List CauseTree) → error_row.means value cs → cs ≢ []
 some_causes value cs m none =
-    let nil : value ≡ [] = nil_means causes value (subst (λ (ds : List CauseTree). MeansTrees causes value ds) (sym m.1.2 ∙ none) m.1.1) in
+    let nil : value ≡ [] = nil_means causes value
+    (subst (λ (ds : List CauseTree). MeansTrees causes value ds) (sym m.1.2 ∙ none) m.1.1) in
     let refused : false ≡ true = rw nil at m.0 in
     cc
 
 error_forms : FormsRow IsChunkWellFormed (as_row Error error_row)
 error_forms value t m =
-    subst IsChunkWellFormed (sym m.2) (some_causes value m.0 m.1, subst (AllByRecursion IsCauseWellFormed) (sym m.1.1.2) (list_formed causes IsCauseWellFormed causes_form value m.1.1.0 m.1.1.1))
+    subst IsChunkWellFormed (sym m.2) (
+      some_causes value m.0 m.1,
+      subst (AllByRecursion IsCauseWellFormed) (sym m.1.1.2)
+          (list_formed causes IsCauseWellFormed causes_form value m.1.1.0 m.1.1.1),
+    )
 
 unknown_forms : (typ flags : ℕ) → IsUnnamed (table flags) typ
     → FormsRow IsChunkWellFormed (plain (λ value. map_ok Unknown (unknown_at typ flags value)))

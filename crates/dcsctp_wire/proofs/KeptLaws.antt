@@ -7,15 +7,18 @@ use Rattle.dcsctp_tlv.specs.Parameter.{ParameterTree, tlv as parameter_tlv, kept
 use Rattle.dcsctp_tlv.proofs.Kept.{listed_tlv-kept}
 use Rattle.dcsctp_tlv.proofs.ParameterLaws.{kept_parameter_tlv, kept_parameters_width}
 use Rattle.dcsctp_chunk.proofs.Laws.{data_kept_tlv, data_kept_width, idata_kept_tlv, idata_kept_width}
-use Rattle.dcsctp_wire.specs.InitFields.{leading as init_numbers}
+use Rattle.dcsctp_wire.specs.InitFields.{Tree as InitTree, leading as init_numbers, IsInWidth as IsInitInWidth}
 use Rattle.dcsctp_wire.specs.Chunk.{ChunkTree, Data, Init, InitAck, HeartbeatRequest, HeartbeatAck, ReConfig, IData, tlv as chunk_tlv, IsChunkEncodable, IsInWidth as IsChunkInWidth, kept as kept_chunk, all_kept as kept_chunks}
 use Rattle.dcsctp_wire.specs.Canonical.{canonical, padded_chunk}
 use Rattle.dcsctp_wire.specs.Packet.{Meaning}
 
 -- ---- it is written alike
 
-listed_kept : (typ : ℕ) (leading : List ℕ) (ps : List ParameterTree) → listed_tlv typ 0 leading parameter_tlv (kept_parameters ps) ≡ listed_tlv typ 0 leading parameter_tlv ps
-listed_kept typ leading ps = listed_tlv-kept parameter_tlv kept_parameter kept_parameter_tlv typ 0 leading ps
+listed_kept : (typ : ℕ) (leading : List ℕ) (ps : List ParameterTree)
+    → listed_tlv typ 0 leading parameter_tlv (kept_parameters ps)
+    ≡ listed_tlv typ 0 leading parameter_tlv ps
+listed_kept typ leading ps =
+    listed_tlv-kept parameter_tlv kept_parameter kept_parameter_tlv typ 0 leading ps
 
 pub kept_tlv : (t : ChunkTree) → chunk_tlv (kept_chunk t) ≡ chunk_tlv t
 kept_tlv (Data c) = data_kept_tlv c
@@ -31,14 +34,18 @@ kept_tlv t = refl
 abbrev padded : Tlv → List ℕ
 padded x = zeroed (image_of x) ++ replicate (gap (size_of x)) 0
 
-body_kept : (ts : List ChunkTree) → flat_map padded_chunk (kept_chunks ts) ≡ flat_map padded_chunk ts
+body_kept : (ts : List ChunkTree)
+    → flat_map padded_chunk (kept_chunks ts) ≡ flat_map padded_chunk ts
 body_kept [] = refl
 body_kept (t ∷ ts) =
-    ap (λ (x : Tlv). padded x ++ flat_map padded_chunk (kept_chunks ts)) (kept_tlv t) ∙ ap (λ (xs : List ℕ). padded_chunk t ++ xs) (body_kept ts)
+    ap (λ (x : Tlv). padded x ++ flat_map padded_chunk (kept_chunks ts)) (kept_tlv t)
+    ∙ ap (λ (xs : List ℕ). padded_chunk t ++ xs) (body_kept ts)
 
-pub canonical_kept : (m : Meaning) → canonical (record m { chunks = kept_chunks m.chunks }) ≡ canonical m
+pub canonical_kept : (m : Meaning)
+    → canonical (record m { chunks = kept_chunks m.chunks }) ≡ canonical m
 unfolding canonical
-canonical_kept m = ap (λ (chunks : List ℕ). canonical (record m { chunks = [] }) ++ chunks) (body_kept m.chunks)
+canonical_kept m =
+    ap (λ (chunks : List ℕ). canonical (record m { chunks = [] }) ++ chunks) (body_kept m.chunks)
 
 pub kept_encodable : (t : ChunkTree) → IsChunkEncodable t → IsChunkEncodable (kept_chunk t)
 kept_encodable (Data c) h = subst IsEncodable (sym (kept_tlv (Data c))) h
@@ -52,10 +59,21 @@ kept_encodable t h = h
 
 -- ---- it is in width
 
+init_kept_width : (i : InitTree) → IsInitInWidth i
+    → IsInitInWidth (record i { parameters = kept_parameters i.parameters })
+init_kept_width i h = record {
+  tag = h.tag;
+  window = h.window;
+  outbound = h.outbound;
+  inbound = h.inbound;
+  tsn = h.tsn;
+  each = kept_parameters_width i.parameters h.each;
+}
+
 pub kept_width : (t : ChunkTree) → IsChunkInWidth t → IsChunkInWidth (kept_chunk t)
 kept_width (Data c) h = data_kept_width c h
-kept_width (Init i) h = record { tag = h.tag; window = h.window; outbound = h.outbound; inbound = h.inbound; tsn = h.tsn; each = kept_parameters_width i.parameters h.each }
-kept_width (InitAck i) h = record { tag = h.tag; window = h.window; outbound = h.outbound; inbound = h.inbound; tsn = h.tsn; each = kept_parameters_width i.parameters h.each }
+kept_width (Init i) h = init_kept_width i h
+kept_width (InitAck i) h = init_kept_width i h
 kept_width (HeartbeatRequest ps) h = kept_parameters_width ps h
 kept_width (HeartbeatAck ps) h = kept_parameters_width ps h
 kept_width (IData c) h = idata_kept_width c h

@@ -12,11 +12,14 @@ use Rattle.dcsctp_wire.specs.Canonical.{padded_size, Fits}
 
 -- if the chunk holds causes, each of them keeps its bytes
 abbrev pub AreTextsKept : Item → Type 0
-AreTextsKept i = (i.first ≡ 6) ⊎ (i.first ≡ 9) → (causes : List Item) → AreItems lenient i.value causes → AllByRecursion IsTextKept causes
+AreTextsKept i =
+    (i.first ≡ 6) ⊎ (i.first ≡ 9) → (causes : List Item) → AreItems lenient i.value causes
+    → AllByRecursion IsTextKept causes
 
 -- no text of the packet is replaced by a fixed one
 abbrev pub KeepsTexts : List ℕ → Type 0
-KeepsTexts bytes = (chunks : List Item) → AreItems lenient (body bytes) chunks → AllByRecursion AreTextsKept chunks
+KeepsTexts bytes =
+    (chunks : List Item) → AreItems lenient (body bytes) chunks → AllByRecursion AreTextsKept chunks
 
 -- ---- size
 

@@ -13,14 +13,17 @@ padded_chunk t = zeroed (image_of (chunk_tlv t)) ++ replicate (gap (size_of (chu
 
 -- the header with a checksum of zero, and the chunks
 unfoldable pub canonical : Meaning → List ℕ
-canonical m = to_be_bytes w16 m.source ++ (to_be_bytes w16 m.destination ++ (to_be_bytes w32 m.tag ++ (to_be_bytes w32 0 ++ flat_map padded_chunk m.chunks)))
+canonical m =
+    to_be_bytes w16 m.source ++ (to_be_bytes w16 m.destination ++ (to_be_bytes w32 m.tag
+    ++ (to_be_bytes w32 0 ++ flat_map padded_chunk m.chunks)))
 
 -- the bytes of the chunks with their padding
 abbrev pub padded_size : List ChunkTree → ℕ
 padded_size [] = 0
 padded_size (t ∷ ts) = round_up_to_4 (size_of (chunk_tlv t)) + padded_size ts
 
--- each chunk can be written, and the whole is the largest multiple of 4 that a packet can be, or less
+-- each chunk can be written, and the whole is the largest multiple of 4 that a packet can be, or
+-- less than that
 pub record Fits (m : Meaning) : Type 0 where
   pub each : AllByRecursion IsChunkEncodable m.chunks
   pub whole : 12 + padded_size m.chunks ≤ 65532

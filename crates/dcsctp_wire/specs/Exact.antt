@@ -20,22 +20,31 @@ packet_error_of (Chunk e) = FailedParseChunk (error_of e)
 abbrev pub IsPacket : List ℕ → ℕ → ChecksumPolicy → Type 0
 IsPacket bytes word policy = (p : PacketTree) × Answer bytes word policy (Ok p)
 
--- The number of parts exactly where the bytes are a packet, and the fault exactly where they have one.
-pub record ChecksPacket (bytes : List ℕ) (word : ℕ) (policy : ChecksumPolicy) (result : Result ℕ PacketParseError) : Type 0 where
-  pub good : (n : ℕ) → (result ≡ Ok n) ↔ ((p : PacketTree) × Answer bytes word policy (Ok p) × (n ≡ node_count p.meaning))
-  pub faulty : (e : PacketFault) → IsErrOf result (packet_error_of e) ↔ Answer bytes word policy (Err e)
+-- The number of parts exactly where the bytes are a packet, and the fault exactly where they have
+-- one.
+pub record ChecksPacket (bytes : List ℕ) (word : ℕ) (policy : ChecksumPolicy)
+    (result : Result ℕ PacketParseError) : Type 0 where
+  pub good : (n : ℕ) → (result ≡ Ok n)
+      ↔ ((p : PacketTree) × Answer bytes word policy (Ok p) × (n ≡ node_count p.meaning))
+  pub faulty : (e : PacketFault) → IsErrOf result (packet_error_of e)
+      ↔ Answer bytes word policy (Err e)
 
--- A packet was read, or memory ran out, exactly where the bytes are a packet, and what was read is that
--- packet; the fault exactly where they have one.
-pub record ReadsPacket {X : Type 0} (view : X → PacketTree) (bytes : List ℕ) (word : ℕ) (policy : ChecksumPolicy) (result : Result X PacketParseError) : Type 0 where
-  pub good : (IsOk result ⊎ IsErrOf result (FailedParseChunk OutOfMemory)) ↔ IsPacket bytes word policy
+-- A packet was read, or memory ran out, exactly where the bytes are a packet, and what was read is
+-- that packet; the fault exactly where they have one.
+pub record ReadsPacket {X : Type 0} (view : X → PacketTree) (bytes : List ℕ) (word : ℕ)
+    (policy : ChecksumPolicy) (result : Result X PacketParseError) : Type 0 where
+  pub good : (IsOk result ⊎ IsErrOf result (FailedParseChunk OutOfMemory))
+      ↔ IsPacket bytes word policy
   pub one : (p : PacketTree) → Answer bytes word policy (Ok p) → IfOk result (λ x. view x ≡ p)
-  pub faulty : (e : PacketFault) → IsErrOf result (packet_error_of e) ↔ Answer bytes word policy (Err e)
+  pub faulty : (e : PacketFault) → IsErrOf result (packet_error_of e)
+      ↔ Answer bytes word policy (Err e)
 
 -- What a check finds, without a law of it: its numbers are those of the chunks and of all parts.
 abbrev pub FindsPacket : List ℕ → ℕ → ChecksumPolicy → Result (ℕ × ℕ) PacketParseError → Type 0
-FindsPacket bytes word policy (Ok n) = IsOpened bytes word policy × MeansCounted chunks chunk_parts (body bytes) n.0 n.1
+FindsPacket bytes word policy (Ok n) =
+    IsOpened bytes word policy × MeansCounted chunks chunk_parts (body bytes) n.0 n.1
 FindsPacket bytes word policy (Err InvalidPacketSize) = Answer bytes word policy (Err Size)
 FindsPacket bytes word policy (Err InvalidChecksum) = Answer bytes word policy (Err Checksum)
 FindsPacket bytes word policy (Err InvalidChunkSize) = ⊥
-FindsPacket bytes word policy (Err (FailedParseChunk e)) = IsOpened bytes word policy × IsFault (HasFault chunks (body bytes)) e
+FindsPacket bytes word policy (Err (FailedParseChunk e)) =
+    IsOpened bytes word policy × IsFault (HasFault chunks (body bytes)) e
