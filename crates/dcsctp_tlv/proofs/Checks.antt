@@ -291,7 +291,7 @@ reads_exactly view means faults single (Err InvalidType) a memory = absurd a
 pub row_exactly : {X T : Type 0} {row : Row T} → LawfulRow row → (v : List ℕ)
     → ((i : ℕ) → Fits w8 (get_or v i 0)) → {view : X → T} {r : Result X ChunkParseError}
     → Answers r (λ x. row.means v (view x)) (row.faults v)
-      × (IsErrOf r OutOfMemory → HasMeaning row v)
+    × (IsErrOf r OutOfMemory → HasMeaning row v)
     → ReadsExactly r view (row.means v) (row.faults v)
 row_exactly {X} {T} {row} law v fits {view} {r} a =
     let single = row_single row law v (λ i. (fits i).fits) in
