@@ -17,12 +17,12 @@ counted g size xs e = rw (e, length-map xs g.F.Field.view) refl
 
 pub overflow_mul-value_size : goal.overflow_mul-value_size
 overflow_mul-value_size g c = record {
-  fits = omega (arith, counted g c.SIZE.result c.args.list.now c.SIZE.ensures, c.requires.encodable)
+  fits = omega (arith, counted g c.SIZE.result c.args.list.now c.SIZE.ensures, c.requires.encodable);
 }
 
 pub overflow_add-value_size : goal.overflow_add-value_size
 overflow_add-value_size g c = record {
-  fits = omega (arith, counted g c.SIZE.result c.args.list.now c.SIZE.ensures, c.requires.encodable)
+  fits = omega (arith, counted g c.SIZE.result c.args.list.now c.SIZE.ensures, c.requires.encodable);
 }
 
 pub put_header-requires-clause-encodable : goal.put_header-requires-clause-encodable
