@@ -162,9 +162,6 @@ pub data_kept_tlv : (c : Tree)
     → (data_chunk.format (data_chunk.kept c)).tlv ≡ (data_chunk.format c).tlv
 data_kept_tlv c = refl
 
-pub data_kept_formed : (c : Tree) → data_chunk.IsWellFormed (data_chunk.kept c)
-data_kept_formed c = record { mid = refl; fsn = refl }
-
 pub data_kept_width : (c : Tree) → IsInWidth c → IsInWidth (data_chunk.kept c)
 data_kept_width c width = record {
   tsn = width.tsn;
@@ -265,12 +262,6 @@ pub idata_kept_tlv : (c : Tree)
     → (idata_chunk.format (idata_chunk.kept c)).tlv ≡ (idata_chunk.format c).tlv
 idata_kept_tlv c =
     rw (carried_number c.user_data.beginning c.user_data.fsn c.user_data.ppid) refl
-
-pub idata_kept_formed : (c : Tree) → idata_chunk.IsWellFormed (idata_chunk.kept c)
-idata_kept_formed c = record {
-  ssn = refl;
-  fsn_or_ppid = other_number c.user_data.beginning c.user_data.fsn c.user_data.ppid;
-}
 
 pub idata_kept_width : (c : Tree) → IsInWidth c → IsInWidth (idata_chunk.kept c)
 idata_kept_width c width = record {
