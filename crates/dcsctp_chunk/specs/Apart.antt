@@ -7,7 +7,8 @@ use Rattle.dcsctp_chunk.specs.declared.chunk_validators.Counts.{Counts}
 use Rattle.dcsctp_chunk.specs.declared.chunk_validators.Gap.{Gap}
 use Rattle.dcsctp_chunk.specs.declared.chunk_validators.Place.{Place}
 
--- no block ends before its start, the first starts at low or later, and each later one at least 2 past the end before it
+-- no block ends before its start, the first starts at low or later, and each later one at least 2
+-- past the end before it
 abbrev pub IsApart : ℕ → List GapAckBlock → Type 0
 IsApart low [] = Unit {0}
 IsApart low (b ∷ bs) = (low ≤ b.start) × (b.start ≤ b.end) × IsApart (b.end + 2) bs

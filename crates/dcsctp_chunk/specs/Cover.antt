@@ -1,5 +1,5 @@
--- What gap ack blocks cover (RFC 9260 section 3.3.4): offsets above the cumulative TSN, and the runs of
--- such a set.
+-- What gap ack blocks cover (RFC 9260 section 3.3.4): offsets above the cumulative TSN, and the
+-- runs of such a set.
 use Rattle.std.specs.Prelude.{◌≡◌, ◌↔◌, ℕ, ◌<◌, ◌≤◌, List, [], ◌∷◌, length, slice_index_or}
 use Rattle.std.specs.List.{Contains}
 use Rattle.dcsctp_chunk.specs.declared.sack_chunk.GapAckBlock.{GapAckBlock}
@@ -24,17 +24,21 @@ IsInside P low high = (o : ℕ) → low ≤ o → o ≤ high → P o
 pub record IsRun (P : ℕ → Type 0) (r : GapAckBlock) : Type 0 where
   pub some : r.start ≤ r.end
   pub inside : IsInside P r.start r.end
-  pub longest : (low high : ℕ) → low ≤ r.start → r.end ≤ high → IsInside P low high → (low ≡ r.start) × (high ≡ r.end)
+  pub longest : (low high : ℕ) → low ≤ r.start → r.end ≤ high → IsInside P low high
+      → (low ≡ r.start) × (high ≡ r.end)
 
 -- by rising start, exactly the runs of the set
 pub record IsRuns (runs : List GapAckBlock) (P : ℕ → Type 0) : Type 0 where
-  pub rising : (i j : ℕ) (d : GapAckBlock) → i < j → j < length runs → (slice_index_or runs i d).start < (slice_index_or runs j d).start
+  pub rising : (i j : ℕ) (d : GapAckBlock) → i < j → j < length runs
+      → (slice_index_or runs i d).start < (slice_index_or runs j d).start
   pub each : (r : GapAckBlock) → Contains runs r → IsRun P r
   pub all : (r : GapAckBlock) → IsRun P r → Contains runs r
 
 -- in each run lies a nonempty block of the list
 abbrev pub HasBlockInEach : List GapAckBlock → List GapAckBlock → Type 0
-HasBlockInEach runs blocks = (r : GapAckBlock) → Contains runs r → (b : GapAckBlock) × Contains blocks b × (r.start ≤ b.start) × (b.start ≤ b.end) × (b.end ≤ r.end)
+HasBlockInEach runs blocks = (r : GapAckBlock) → Contains runs r
+    → (b : GapAckBlock) × Contains blocks b × (r.start ≤ b.start) × (b.start ≤ b.end)
+    × (b.end ≤ r.end)
 
 -- the first block, if any, starts past n
 abbrev pub StartsPast : ℕ → List GapAckBlock → Type 0

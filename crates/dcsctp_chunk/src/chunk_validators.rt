@@ -19,7 +19,9 @@ use crate::sack_chunk::{GapAckBlock, SackChunk};
 /// Each TSN at a covered offset of 1 to 65,535 is greater than the cumulative TSN.
 pub fn validate_sack(sack: &SackChunk) -> bool
     ensures valid { IsTrue result ↔ AreValid sack.now.gap_ack_blocks.items }
-    ensures greater { (o : ℕ) → Covers sack.now.gap_ack_blocks.items o → 1 ≤ o → o ≤ 65535 → IsGreater (2 ^ 32) (wrapped_sum (2 ^ 32) sack.now.cumulative_tsn_ack.0 o) sack.now.cumulative_tsn_ack.0 }
+    ensures greater { (o : ℕ) → Covers sack.now.gap_ack_blocks.items o → 1 ≤ o → o ≤ 65535
+        → IsGreater (2 ^ 32) (wrapped_sum (2 ^ 32) sack.now.cumulative_tsn_ack.0 o)
+        sack.now.cumulative_tsn_ack.0 }
 {
     are_apart(&sack.gap_ack_blocks)
 }
@@ -38,10 +40,14 @@ pub fn clean_sack(mut sack: SackChunk) -> SackChunk
     ensures runs { IsRuns result.gap_ack_blocks.items (Covers sack.gap_ack_blocks.items) }
     ensures cover { SameCover result.gap_ack_blocks.items sack.gap_ack_blocks.items }
     ensures offsets { (o : ℕ) → Covers sack.gap_ack_blocks.items o → o ≤ 65535 }
-    ensures fewest { (others : List GapAckBlock) → SameCover others sack.gap_ack_blocks.items → length result.gap_ack_blocks.items ≤ length others }
-    ensures own { (others : List GapAckBlock) → SameCover others sack.gap_ack_blocks.items → HasBlockInEach result.gap_ack_blocks.items others }
-    ensures unique { (others runs : List GapAckBlock) → IsRuns runs (Covers others) → SameCover others sack.gap_ack_blocks.items ↔ (runs ≡ result.gap_ack_blocks.items) }
-    ensures once { (again : List GapAckBlock) → IsRuns again (Covers result.gap_ack_blocks.items) → again ≡ result.gap_ack_blocks.items }
+    ensures fewest { (others : List GapAckBlock) → SameCover others sack.gap_ack_blocks.items
+        → length result.gap_ack_blocks.items ≤ length others }
+    ensures own { (others : List GapAckBlock) → SameCover others sack.gap_ack_blocks.items
+        → HasBlockInEach result.gap_ack_blocks.items others }
+    ensures unique { (others runs : List GapAckBlock) → IsRuns runs (Covers others)
+        → SameCover others sack.gap_ack_blocks.items ↔ (runs ≡ result.gap_ack_blocks.items) }
+    ensures once { (again : List GapAckBlock) → IsRuns again (Covers result.gap_ack_blocks.items)
+        → again ≡ result.gap_ack_blocks.items }
 {
     ends_fit(&sack.gap_ack_blocks);
     if validate_sack(&sack) {
@@ -153,7 +159,8 @@ fn add_block(
     ensures apart { IsApart 0 (take result.front blocks.new) }
     ensures recent_apart { IsApart 0 (take result.recent recent.new) }
     ensures free { AreFree (drop result.recent recent.new) }
-    ensures cover { SameCover (both result recent.new blocks.new) (block ∷ both counts recent.old blocks.old) }
+    ensures cover { SameCover (both result recent.new blocks.new)
+        (block ∷ both counts recent.old blocks.old) }
     ensures rest { SameFrom blocks.old blocks.new (counts.front + counts.recent + 1) }
 {
     if follows(&blocks[..counts.front], block) {
@@ -339,7 +346,8 @@ fn lift(runs: &mut [GapAckBlock], gap: Gap, count: usize) -> Gap
     ensures low { result.low + count ≡ gap.low }
     ensures high { result.high + count ≡ gap.high }
     ensures front { take result.low runs.new ≡ take result.low runs.old }
-    ensures back { drop result.high runs.new ≡ take count (drop result.low runs.old) ++ drop gap.high runs.old }
+    ensures back { drop result.high runs.new ≡ take count (drop result.low runs.old)
+        ++ drop gap.high runs.old }
 {
     let low = gap.low - count;
     let high = gap.high - count;
@@ -430,7 +438,8 @@ fn first_reaching(runs: &[GapAckBlock], kept: usize, block: GapAckBlock) -> usiz
     runs.partition_point(|run| run.end < offset)
 }
 
-/// Offsets are 16 bits wide. The loop is here for its proof alone: the compiler leaves nothing of it.
+/// Offsets are 16 bits wide. The loop is here for its proof alone: the compiler leaves nothing of
+/// it.
 fn ends_fit(blocks: &[GapAckBlock])
     ensures { All (λ b. b.end ≤ 65535) blocks.now }
 {

@@ -1,4 +1,5 @@
--- Items: how a chunk, a parameter or an error cause lies in the bytes (RFC 9260 sections 3.2, 3.2.1 and 3.3.10).
+-- Items: how a chunk, a parameter or an error cause lies in the bytes (RFC 9260 sections 3.2, 3.2.1
+-- and 3.3.10).
 --
 --   | first byte | second byte | length, two bytes | value .. | padding, none to three bytes |
 --
@@ -88,7 +89,8 @@ frame_value bytes = take (frame_length bytes - 4) (drop 4 bytes)
 
 -- the padding that is there
 abbrev pub frame_padding : List ℕ → List ℕ
-frame_padding bytes = take (round_up_to_4 (frame_length bytes) - frame_length bytes) (drop (frame_length bytes) bytes)
+frame_padding bytes =
+    take (round_up_to_4 (frame_length bytes) - frame_length bytes) (drop (frame_length bytes) bytes)
 
 -- what follows the frame and its padding
 abbrev pub frame_rest : List ℕ → List ℕ

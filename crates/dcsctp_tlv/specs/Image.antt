@@ -1,4 +1,5 @@
--- What is written for a tree: bytes, and places between the items of a list that stay as they stood.
+-- What is written for a tree: bytes, and places between the items of a list that stay as they
+-- stood.
 use Rattle.std.specs.Prelude.{ℕ, ◌+◌, ◌-◌, ◌/◌, ◌%◌, ◌<◌, ◌^◌, All, List, [], ◌∷◌, ◌++◌, Option, Some, None, length, map, unwrap_or, replicate, take, drop}
 use Rattle.dcsctp_tlv.specs.Frame.{round_up_to_4, header}
 
@@ -33,7 +34,8 @@ pub record Tlv : Type 0 where
 
 -- a value without holes
 abbrev pub solid_tlv : ℕ → ℕ → List ℕ → Tlv
-solid_tlv first second bytes = record { first = first; second = second; value = solid bytes; value_size = length bytes }
+solid_tlv first second bytes =
+    record { first = first; second = second; value = solid bytes; value_size = length bytes }
 
 -- the same of a parameter or a cause, whose type stands in the first two bytes
 abbrev pub typed_tlv : ℕ → List ℕ → Tlv
@@ -59,7 +61,8 @@ gap n = round_up_to_4 n - n
 abbrev pub list_image : {T : Type 0} → (T → Tlv) → List T → List (Option ℕ)
 list_image tlv [] = []
 list_image tlv (t ∷ []) = image_of (tlv t)
-list_image tlv (t ∷ u ∷ ts) = image_of (tlv t) ++ (holes (gap (size_of (tlv t))) ++ list_image tlv (u ∷ ts))
+list_image tlv (t ∷ u ∷ ts) =
+    image_of (tlv t) ++ (holes (gap (size_of (tlv t))) ++ list_image tlv (u ∷ ts))
 
 abbrev pub list_size : {T : Type 0} → (T → Tlv) → List T → ℕ
 list_size tlv [] = 0
@@ -68,10 +71,13 @@ list_size tlv (t ∷ u ∷ ts) = round_up_to_4 (size_of (tlv t)) + list_size tlv
 
 -- an item whose value begins with some bytes, and after them is a list
 abbrev pub listed_tlv : {T : Type 0} → ℕ → ℕ → List ℕ → (T → Tlv) → List T → Tlv
-listed_tlv first second leading tlv ts = record { first = first; second = second; value = solid leading ++ list_image tlv ts; value_size = length leading + list_size tlv ts }
+listed_tlv first second leading tlv ts =
+    record { first = first; second = second; value = solid leading ++ list_image tlv ts;
+    value_size = length leading + list_size tlv ts }
 
 -- each item can be written, and two bytes can hold the size of the list
-pub record IsListEncodable {T : Type 0} (tlv : T → Tlv) (is_encodable : T → Type 0) (ts : List T) : Type 0 where
+pub record IsListEncodable {T : Type 0} (tlv : T → Tlv) (is_encodable : T → Type 0)
+    (ts : List T) : Type 0 where
   pub each : All is_encodable ts
   pub total : list_size tlv ts < 2 ^ 16
 

@@ -17,7 +17,8 @@ pub record Row (T : Type 0) : Type 1 where
 
 -- a kind whose value is read at fixed places
 abbrev pub plain : {T : Type 0} → (List ℕ → Result T Fault) → Row T
-plain read = record { means = λ value tree. read value ≡ Ok tree; faults = λ value e. read value ≡ Err e }
+plain read = record { means = λ value tree. read value ≡ Ok tree;
+    faults = λ value e. read value ≡ Err e }
 
 -- the tree of a kind, as a tree of its level
 abbrev pub map_ok : {A B E : Type 0} → (A → B) → Result A E → Result B E
@@ -31,7 +32,8 @@ pick false row others = others
 
 -- a kind's row, where its trees are trees of the level
 abbrev pub as_row : {A B : Type 0} → (A → B) → Row A → Row B
-as_row f row = record { means = λ value tree. (x : _) × row.means value x × (tree ≡ f x); faults = row.faults }
+as_row f row = record { means = λ value tree. (x : _) × row.means value x × (tree ≡ f x);
+    faults = row.faults }
 
 -- the value means some tree
 abbrev pub HasMeaning : {T : Type 0} → Row T → List ℕ → Type 0
@@ -42,7 +44,8 @@ abbrev pub MeansParts : {T : Type 0} → (T → ℕ) → Row T → List ℕ → 
 MeansParts parts row value n = (tree : _) × row.means value tree × (n ≡ parts tree)
 
 -- one item more, which the value means, in the same memory
-pub record Grows {X T : Type 0} (view : X → T) (row : Row T) (value : List ℕ) (old new : List X) : Type 0 where
+pub record Grows {X T : Type 0} (view : X → T) (row : Row T) (value : List ℕ)
+    (old new : List X) : Type 0 where
   pub last : X
   pub items : new ≡ old ++ last ∷ []
   pub means : row.means value (view last)
@@ -57,12 +60,14 @@ pub record Level (T : Type 0) : Type 1 where
 -- the items mean the trees, one for one
 abbrev pub ItemsMean : {T : Type 0} → Level T → List Item → List T → Type 0
 ItemsMean level [] [] = Unit {0}
-ItemsMean level (i ∷ is) (t ∷ ts) = (level.row i.first i.second).means i.value t × ItemsMean level is ts
+ItemsMean level (i ∷ is) (t ∷ ts) =
+    (level.row i.first i.second).means i.value t × ItemsMean level is ts
 ItemsMean level [] (t ∷ ts) = ⊥
 ItemsMean level (i ∷ is) [] = ⊥
 
 -- all the bytes are items, and these mean the trees
-pub record MeansTrees {T : Type 0} (level : Level T) (bytes : List ℕ) (trees : List T) : Type 0 where
+pub record MeansTrees {T : Type 0} (level : Level T) (bytes : List ℕ)
+    (trees : List T) : Type 0 where
   pub items : List Item
   pub are : AreItems level.padding bytes items
   pub mean : ItemsMean level items trees
@@ -76,7 +81,8 @@ abbrev pub MeansMany : {T : Type 0} → Level T → List ℕ → ℕ → Type 0
 MeansMany level bytes n = (trees : List _) × MeansTrees level bytes trees × (n ≡ length trees)
 
 -- all the bytes mean so many trees, with so many parts
-pub record MeansCounted {T : Type 0} (level : Level T) (parts : T → ℕ) (bytes : List ℕ) (n all : ℕ) : Type 0 where
+pub record MeansCounted {T : Type 0} (level : Level T) (parts : T → ℕ) (bytes : List ℕ)
+    (n all : ℕ) : Type 0 where
   pub trees : List T
   pub mean : MeansTrees level bytes trees
   pub item_count : n ≡ length trees
@@ -90,9 +96,11 @@ front_row level bytes = level.row (slice_index bytes 0) (slice_index bytes 1)
 -- tree and its padding isn't accepted.
 pub data BeginsWithFault {T : Type 0} (level : Level T) (rest : List ℕ) (e : Fault) : Type 0 where
   no_frame : rest ≢ [] → ¬ BeginsWithFrame rest → e ≡ Length → BeginsWithFault level rest e
-  value : BeginsWithFrame rest → (front_row level rest).faults (frame_value rest) e → BeginsWithFault level rest e
+  value : BeginsWithFrame rest → (front_row level rest).faults (frame_value rest) e
+      → BeginsWithFault level rest e
   padding : (tree : T) → BeginsWithFrame rest → (front_row level rest).means (frame_value rest) tree
-      → level.padding (padding_size (length (frame_value rest))) (frame_padding rest) ≡ false → e ≡ Padding → BeginsWithFault level rest e
+      → level.padding (padding_size (length (frame_value rest))) (frame_padding rest) ≡ false
+      → e ≡ Padding → BeginsWithFault level rest e
 
 -- whole items that each mean a tree, and after them the first fault
 pub record HasFault {T : Type 0} (level : Level T) (bytes : List ℕ) (e : Fault) : Type 0 where
@@ -109,6 +117,9 @@ pub record HasFault {T : Type 0} (level : Level T) (bytes : List ℕ) (e : Fault
 -- A value that follows a rule, and after its first bytes is a list. The rule comes first.
 abbrev pub listed : {T U : Type 0} → (List ℕ → Bool) → ℕ → Level U → (List ℕ → List U → T) → Row T
 listed rule place level tree_of = record {
-  means = λ value tree. (rule value ≡ true) × ((trees : List _) × MeansTrees level (drop place value) trees × (tree ≡ tree_of value trees));
-  faults = λ value e. ((rule value ≡ false) × (e ≡ Length)) ⊎ ((rule value ≡ true) × HasFault level (drop place value) e);
+  means = λ value tree. (rule value ≡ true)
+      × ((trees : List _) × MeansTrees level (drop place value) trees
+      × (tree ≡ tree_of value trees));
+  faults = λ value e. ((rule value ≡ false) × (e ≡ Length))
+      ⊎ ((rule value ≡ true) × HasFault level (drop place value) e);
 }

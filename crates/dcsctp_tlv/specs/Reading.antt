@@ -14,7 +14,8 @@ TellsFault faults InvalidType = ⊥
 TellsFault faults OutOfMemory = Unit {0}
 
 -- what the value was read as is what it means, and an error is its fault
-abbrev pub Answers : {X : Type 0} → Result X ChunkParseError → (X → Type 0) → (Fault → Type 0) → Type 0
+abbrev pub Answers : {X : Type 0} → Result X ChunkParseError → (X → Type 0)
+    → (Fault → Type 0) → Type 0
 Answers (Ok x) means faults = means x
 Answers (Err e) means faults = TellsFault faults e
 
@@ -31,7 +32,8 @@ MayLackMemory IfMeant read = IsOk read
 
 -- A reader of one kind gives the tree exactly where the table reads one, the fault exactly where
 -- it reads a fault, and nothing else but running out of memory.
-abbrev pub Gives : {X T : Type 0} → Memory → (X → T) → Result X ChunkParseError → Result T Fault → Type 0
+abbrev pub Gives : {X T : Type 0} → Memory → (X → T) → Result X ChunkParseError
+    → Result T Fault → Type 0
 Gives memory view (Ok x) read = read ≡ Ok (view x)
 Gives memory view (Err InvalidLength) read = read ≡ Err Length
 Gives memory view (Err InvalidPadding) read = read ≡ Err Padding
@@ -50,11 +52,13 @@ IsFault faults InvalidType = ⊥
 IsFault faults OutOfMemory = ⊥
 
 -- a check answers what it found, or the fault
-abbrev pub Finds : {X : Type 0} → Result X ChunkParseError → (X → Type 0) → (Fault → Type 0) → Type 0
+abbrev pub Finds : {X : Type 0} → Result X ChunkParseError → (X → Type 0)
+    → (Fault → Type 0) → Type 0
 Finds (Ok x) found faults = found x
 Finds (Err e) found faults = IsFault faults e
 
--- the check of a kind whose value is read at fixed places passes exactly where the table reads a tree
+-- the check of a kind whose value is read at fixed places passes exactly where the table reads a
+-- tree
 abbrev pub Passes : {X T : Type 0} → Result X ChunkParseError → Result T Fault → Type 0
 Passes result read = Finds result (λ _. IsOk read) (λ e. read ≡ Err e)
 
@@ -71,15 +75,19 @@ error_of Length = InvalidLength
 error_of Padding = InvalidPadding
 error_of Value = InvalidValue
 
--- a good check, and its count, exactly where the bytes mean trees; the fault exactly where they have one
-pub record ChecksExactly {T : Type 0} (result : Result ℕ ChunkParseError) (level : Level T) (bytes : List ℕ) : Type 0 where
+-- a good check, and its count, exactly where the bytes mean trees; the fault exactly where they
+-- have one
+pub record ChecksExactly {T : Type 0} (result : Result ℕ ChunkParseError) (level : Level T)
+    (bytes : List ℕ) : Type 0 where
   pub good : IsOk result ↔ MeansSome level bytes
-  pub counted : (trees : List T) → MeansTrees level bytes trees → IfOk result (λ n. n ≡ length trees)
+  pub counted : (trees : List T) → MeansTrees level bytes trees
+      → IfOk result (λ n. n ≡ length trees)
   pub faulty : (e : Fault) → IsErrOf result (error_of e) ↔ HasFault level bytes e
 
--- Something was read, or memory ran out, exactly where something is meant, and what was read is that;
--- the fault exactly where there is one.
-pub record ReadsExactly {X T : Type 0} (result : Result X ChunkParseError) (view : X → T) (means : T → Type 0) (faults : Fault → Type 0) : Type 0 where
+-- Something was read, or memory ran out, exactly where something is meant, and what was read is
+-- that; the fault exactly where there is one.
+pub record ReadsExactly {X T : Type 0} (result : Result X ChunkParseError) (view : X → T)
+    (means : T → Type 0) (faults : Fault → Type 0) : Type 0 where
   pub good : (IsOk result ⊎ IsErrOf result OutOfMemory) ↔ ((t : T) × means t)
   pub one : (t : T) → means t → IfOk result (λ x. view x ≡ t)
   pub faulty : (e : Fault) → IsErrOf result (error_of e) ↔ faults e

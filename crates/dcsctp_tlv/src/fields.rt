@@ -48,7 +48,8 @@ pub trait Field {
         requires room { SIZE ≤ length output.old }
         ensures { output.new ≡ field_bytes (view value.now) ++ drop SIZE output.old };
 
-    ghost field_length: { (value : Self.Value) → is_writable value → length (field_bytes (view value)) ≡ SIZE };
+    ghost field_length: { (value : Self.Value) → is_writable value
+        → length (field_bytes (view value)) ≡ SIZE };
 }
 
 impl Field for u32 {
@@ -142,7 +143,8 @@ pub fn fields_from_bytes<F: Field>(
     count: usize,
 ) -> Result<Vec<F::Value>, AllocError>
     requires { F.SIZE * count ≤ length bytes.now }
-    ensures { IfOk result (λ list. map F.view list.items ≡ fields F.field_at F.SIZE count bytes.now) }
+    ensures { IfOk result (λ list. map F.view list.items
+        ≡ fields F.field_at F.SIZE count bytes.now) }
 {
     let mut list = Vec::with_capacity(alloc, count)?;
     for i in 0..count {

@@ -81,9 +81,13 @@ pub fn put_listed<T: ListedTlv>(
     list: &[T],
     output: &mut [u8],
 )
-    requires encodable { IsEncodable (listed_tlv first second leading.now T.tree_tlv (map T.view list.now)) }
-    requires room { size_of (listed_tlv first second leading.now T.tree_tlv (map T.view list.now)) ≤ length output.old }
-    ensures { output.new ≡ written (image_of (listed_tlv first second leading.now T.tree_tlv (map T.view list.now))) output.old }
+    requires encodable { IsEncodable
+        (listed_tlv first second leading.now T.tree_tlv (map T.view list.now)) }
+    requires room { size_of (listed_tlv first second leading.now T.tree_tlv (map T.view list.now))
+        ≤ length output.old }
+    ensures { output.new ≡ written
+        (image_of (listed_tlv first second leading.now T.tree_tlv (map T.view list.now)))
+        output.old }
 {
     put_header(first, second, listed_size(leading.len(), list), output);
     let (_, value) = output.split_at_mut(TLV_HEADER_SIZE);

@@ -27,7 +27,8 @@ pub trait ReadableTlv: Sized + Drop {
     /// The number of parts of what an item's value means, each of which has four bytes of its own;
     /// or its fault. It takes no memory.
     fn check(first: u8, second: u8, value: &[u8]) -> Result<usize, ChunkParseError>
-        ensures found { Finds result (MeansParts parts (level.row first second) value.now) ((level.row first second).faults value.now) }
+        ensures found { Finds result (MeansParts parts (level.row first second) value.now)
+            ((level.row first second).faults value.now) }
         ensures few { IfOk result (λ n. 4 * n ≤ 4 + length value.now) };
 
     /// Builds what an item's value means at the end of a list that has room for it.
@@ -40,7 +41,8 @@ pub trait ReadableTlv: Sized + Drop {
     ) -> Result<(), AllocError>
         requires meant { HasMeaning (level.row first second) value.now }
         requires room { vec_len list.old < vec_capacity list.old }
-        ensures grows { IfOk result (λ _. Grows view (level.row first second) value.now list.old.items list.new.items) }
+        ensures grows { IfOk result (λ _. Grows view
+            (level.row first second) value.now list.old.items list.new.items) }
         ensures len { IfOk result (λ _. vec_len list.new ≡ vec_len list.old + 1) }
         ensures capacity { IfOk result (λ _. vec_capacity list.new ≡ vec_capacity list.old) };
 
@@ -49,9 +51,11 @@ pub trait ReadableTlv: Sized + Drop {
         ensures { result ≡ level.padding size there.now };
 }
 
-/// The number of items, and that of all parts; or the first fault from the left. It takes no memory.
+/// The number of items, and that of all parts; or the first fault from the left. It takes no
+/// memory.
 pub fn list_check<T: ReadableTlv>(bytes: &[u8]) -> Result<(usize, usize), ChunkParseError>
-    ensures found { Finds result (λ n. MeansCounted T.level T.parts bytes.now n.0 n.1) (HasFault T.level bytes.now) }
+    ensures found { Finds result (λ n. MeansCounted T.level T.parts bytes.now n.0 n.1)
+        (HasFault T.level bytes.now) }
     ensures few { IfOk result (λ n. (4 * n.0 ≤ length bytes.now) × (4 * n.1 ≤ length bytes.now)) }
 {
     let mut items: usize = 0;
@@ -74,7 +78,8 @@ pub fn list_check<T: ReadableTlv>(bytes: &[u8]) -> Result<(usize, usize), ChunkP
 /// The number of items, where the bytes are known to be items.
 fn count_items(bytes: &[u8]) -> usize
     requires { (rule : PaddingRule) × ((items : List Item) × AreItems rule bytes.now items) }
-    ensures { (rule : PaddingRule) (items : List Item) → AreItems rule bytes.now items → result ≡ length items }
+    ensures { (rule : PaddingRule) (items : List Item) → AreItems rule bytes.now items
+        → result ≡ length items }
 {
     let mut count: usize = 0;
     let mut rest = bytes;
@@ -126,8 +131,10 @@ pub fn list_from_bytes<T: ReadableTlv>(
     alloc: Global,
     bytes: &[u8],
 ) -> Result<Vec<T>, ChunkParseError>
-    ensures answer { Answers result (λ list. MeansTrees T.level bytes.now (map T.view list.items)) (HasFault T.level bytes.now) }
-    ensures memory { IsErrOf result ChunkParseError.OutOfMemory → MeansSome T.level bytes.now × (bytes.now ≢ []) }
+    ensures answer { Answers result (λ list. MeansTrees T.level bytes.now (map T.view list.items))
+        (HasFault T.level bytes.now) }
+    ensures memory { IsErrOf result ChunkParseError.OutOfMemory
+        → MeansSome T.level bytes.now × (bytes.now ≢ []) }
     ensures reserved { IfOk result (λ list. vec_capacity list ≡ vec_len list) }
 {
     let (count, _) = list_check::<T>(bytes)?;

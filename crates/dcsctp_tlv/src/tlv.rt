@@ -38,7 +38,8 @@ pub trait SerializableTlv {
         ensures { IsTrue result ↔ is_encodable self.now };
 
     /// An image is as long as the size.
-    ghost image_length: { (x : Self) → is_encodable x → length (image_of (tlv x)) ≡ size_of (tlv x) };
+    ghost image_length: { (x : Self) → is_encodable x
+        → length (image_of (tlv x)) ≡ size_of (tlv x) };
 
     ghost size_bound: { (x : Self) → is_encodable x → size_of (tlv x) < 2 ^ 16 };
 }

@@ -9,12 +9,13 @@ use crate::types::{SerialNumber, StreamKey};
 use std::cmp::Ordering;
 use std::time::Duration;
 
-/// The order of serial numbers, seen from a base: of two numbers that stand ahead of the base by less
-/// than half of the space, the greater one stands further ahead of it (RFC 1982 section 3.2).
+#[tactic(auto, using(crate::proofs::SerialOrder::ordered_in_window,
+    crate::proofs::SerialOrder::greater_one_way))]
+/// The order of serial numbers, seen from a base: of two numbers that stand ahead of the base by
+/// less than half of the space, the greater one stands further ahead of it (RFC 1982 section 3.2).
 ///
 /// Without such a base the order isn't transitive. But no number is greater than itself, no two are
 /// greater than each other, and at a difference of half of the space neither is greater.
-#[tactic(auto, using(crate::proofs::SerialOrder::ordered_in_window, crate::proofs::SerialOrder::greater_one_way))]
 pub fn window<S: SerialNumber>()
     // x and y stand i and j places ahead of the base
     ensures window { (base x y : S) (i j : ℕ) → i < S.space / 2 → j < S.space / 2
@@ -31,14 +32,15 @@ pub fn window<S: SerialNumber>()
 {}
 
 /// The orders of ids, keys and times: stream ids and lifecycle ids stand by their numbers, times by
-/// their durations; every ordered key is less than every unordered one, and keys of one kind stand by
-/// their stream ids.
+/// their durations; every ordered key is less than every unordered one, and keys of one kind stand
+/// by their stream ids.
 pub fn orders()
     ensures stream_ids { (a b : StreamId) → ⟦<StreamId as Ord>⟧.cmp a b ≡ nat_cmp a.0 b.0 }
     ensures ordered_keys { (a b : StreamId)
         → ⟦<StreamKey as Ord>⟧.cmp (StreamKey.Ordered a) (StreamKey.Ordered b) ≡ nat_cmp a.0 b.0 }
     ensures unordered_keys { (a b : StreamId)
-        → ⟦<StreamKey as Ord>⟧.cmp (StreamKey.Unordered a) (StreamKey.Unordered b) ≡ nat_cmp a.0 b.0 }
+        → ⟦<StreamKey as Ord>⟧.cmp (StreamKey.Unordered a)
+        (StreamKey.Unordered b) ≡ nat_cmp a.0 b.0 }
     ensures kinds_of_keys { (a b : StreamId)
         → ⟦<StreamKey as Ord>⟧.cmp (StreamKey.Ordered a) (StreamKey.Unordered b) ≡ Ordering.Less }
     ensures lifecycle_ids { (a b : LifecycleId) → ⟦<LifecycleId as Ord>⟧.cmp a b ≡ nat_cmp a b }

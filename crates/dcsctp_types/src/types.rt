@@ -20,8 +20,8 @@ pub use tsn::Tsn;
 /// A number of a space that wraps round (RFC 1982): after the last number comes the first.
 ///
 /// One number is greater than another if it stands ahead of it by less than half of the space. At
-/// exactly half neither is greater. So this is no order of all numbers: it is one of those that stand
-/// ahead of one base by less than half of the space (`laws::window`).
+/// exactly half neither is greater. So this is no order of all numbers: it is one of those that
+/// stand ahead of one base by less than half of the space (`laws::window`).
 pub trait SerialNumber: Sized + Copy + Eq {
     /// A count of places.
     type DistanceType;

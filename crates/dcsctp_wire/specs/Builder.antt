@@ -21,7 +21,8 @@ pub record BuilderState : Type 0 where
 
 -- the packet of these chunks, with the builder's ports and tag
 abbrev pub meaning_with : BuilderState → List ChunkTree → Meaning
-meaning_with b chunks = record { source = b.source; destination = b.destination; tag = b.tag; chunks = chunks }
+meaning_with b chunks =
+    record { source = b.source; destination = b.destination; tag = b.tag; chunks = chunks }
 
 -- the bytes are these chunks' canonical packet, within the limit
 pub record HoldsPacket (b : BuilderState) (chunks : List ChunkTree) : Type 0 where

@@ -63,7 +63,8 @@ table flags =
 -- what the value of a type means, and its faults
 abbrev pub chunk_row : ℕ → ℕ → Row ChunkTree
 chunk_row typ flags =
-    row_of (table flags) typ (plain (λ value. map_ok Unknown (plain_kind.Unknown.read typ flags value)))
+    row_of (table flags) typ (plain
+        (λ value. map_ok Unknown (plain_kind.Unknown.read typ flags value)))
 
 -- the chunks of a packet: their padding is never looked at
 abbrev pub chunks : Level ChunkTree

@@ -1,4 +1,5 @@
--- What the bytes of a packet mean, under a checksum word and a policy (RFC 9260 section 3, RFC 9653 section 5.2).
+-- What the bytes of a packet mean, under a checksum word and a policy (RFC 9260 section 3, RFC 9653
+-- section 5.2).
 --
 --   | source port u16 | destination port u16 | verification tag u32 | checksum u32 | chunks .. |
 use Rattle.std.specs.Prelude.{◌≡◌, ◌≢◌, ℕ, ◌≤◌, List, Result, Ok, Err, true, length, drop}
@@ -43,10 +44,12 @@ pub record HasPacketSize (bytes : List ℕ) : Type 0 where
 abbrev pub checksum_field : List ℕ → ℕ
 checksum_field bytes = number32 (drop 8 bytes)
 
--- Verification is off; or another method stands in, and the field is zero; or the field is the word.
+-- Verification is off; or another method stands in, and the field is zero; or the field is the
+-- word.
 pub data IsAccepted (policy : ChecksumPolicy) (field word : ℕ) : Type 0 where
   disabled : policy.disable_checksum_verification ≡ true → IsAccepted policy field word
-  alternate : policy.zero_checksum_alternate_error_detection_method.0 ≢ 0 → field ≡ 0 → IsAccepted policy field word
+  alternate : policy.zero_checksum_alternate_error_detection_method.0 ≢ 0 → field ≡ 0
+      → IsAccepted policy field word
   equal : field ≡ word → IsAccepted policy field word
 
 -- size and checksum are right
@@ -70,29 +73,37 @@ pub record MeansPacket (bytes : List ℕ) (p : PacketTree) : Type 0 where
 -- the packet with the header of these bytes, and these chunks
 abbrev pub packet_with : List ℕ → List ChunkTree → PacketTree
 packet_with bytes ts = record {
-  meaning = record { source = number16 bytes; destination = number16 (drop 2 bytes); tag = number32 (drop 4 bytes); chunks = ts };
+  meaning = record { source = number16 bytes; destination = number16 (drop 2 bytes);
+      tag = number32 (drop 4 bytes); chunks = ts };
   checksum = checksum_field bytes;
 }
 
--- The packet, or the first fault: of the size, then of the checksum, then of the chunks from the left.
+-- The packet, or the first fault: of the size, then of the checksum, then of the chunks from the
+-- left.
 abbrev pub Answer : List ℕ → ℕ → ChecksumPolicy → Result PacketTree PacketFault → Type 0
 Answer bytes word policy (Ok p) = IsOpened bytes word policy × MeansPacket bytes p
 Answer bytes word policy (Err Size) = ¬ HasPacketSize bytes
-Answer bytes word policy (Err Checksum) = HasPacketSize bytes × ¬ IsAccepted policy (checksum_field bytes) word
-Answer bytes word policy (Err (Chunk e)) = IsOpened bytes word policy × HasFault chunks (body bytes) e
+Answer bytes word policy (Err Checksum) =
+    HasPacketSize bytes × ¬ IsAccepted policy (checksum_field bytes) word
+Answer bytes word policy (Err (Chunk e)) =
+    IsOpened bytes word policy × HasFault chunks (body bytes) e
 
 -- ---- what the code answers
 
 -- running out of memory comes only once size and checksum are accepted
 abbrev pub ReadsFault : List ℕ → ℕ → ChecksumPolicy → ChunkParseError → Type 0
-ReadsFault bytes word policy chunk_errors.InvalidLength = Answer bytes word policy (Err (Chunk Length))
-ReadsFault bytes word policy chunk_errors.InvalidPadding = Answer bytes word policy (Err (Chunk Padding))
-ReadsFault bytes word policy chunk_errors.InvalidValue = Answer bytes word policy (Err (Chunk Value))
+ReadsFault bytes word policy chunk_errors.InvalidLength =
+    Answer bytes word policy (Err (Chunk Length))
+ReadsFault bytes word policy chunk_errors.InvalidPadding =
+    Answer bytes word policy (Err (Chunk Padding))
+ReadsFault bytes word policy chunk_errors.InvalidValue =
+    Answer bytes word policy (Err (Chunk Value))
 ReadsFault bytes word policy chunk_errors.InvalidType = ⊥
 ReadsFault bytes word policy chunk_errors.OutOfMemory = IsOpened bytes word policy
 
 -- want of memory aside, what was read is the answer
-abbrev pub Reads : {X : Type 0} → (X → PacketTree) → List ℕ → ℕ → ChecksumPolicy → Result X PacketParseError → Type 0
+abbrev pub Reads : {X : Type 0} → (X → PacketTree) → List ℕ → ℕ → ChecksumPolicy
+    → Result X PacketParseError → Type 0
 Reads view bytes word policy (Ok x) = Answer bytes word policy (Ok (view x))
 Reads view bytes word policy (Err InvalidPacketSize) = Answer bytes word policy (Err Size)
 Reads view bytes word policy (Err InvalidChecksum) = Answer bytes word policy (Err Checksum)

@@ -10,7 +10,8 @@ ghost use Rattle.dcsctp_wire.specs.declared.packet.sctp_packet.ChecksumPolicy.{C
 
 /// Each input has exactly one answer, under each checksum word and each policy.
 pub fn one_answer()
-    ensures one { (bytes : List ℕ) (word : ℕ) (policy : ChecksumPolicy) (a b : Result PacketTree PacketFault)
+    ensures one { (bytes : List ℕ) (word : ℕ) (policy : ChecksumPolicy)
+        (a b : Result PacketTree PacketFault)
         → AreBytes bytes → Answer bytes word policy a → Answer bytes word policy b → a ≡ b }
     ensures some { (bytes : List ℕ) (word : ℕ) (policy : ChecksumPolicy)
         → AreBytes bytes → ((a : Result PacketTree PacketFault) × Answer bytes word policy a) }
@@ -20,11 +21,13 @@ pub fn one_answer()
 /// next chunks are read as if they began there: the answer is the packet with both lists, one
 /// after the other, or the first fault of the second.
 pub fn reading_is_local()
-    ensures packet { (front end : List ℕ) (word : ℕ) (policy : ChecksumPolicy) (ts us : List ChunkTree)
+    ensures packet { (front end : List ℕ) (word : ℕ) (policy : ChecksumPolicy)
+        (ts us : List ChunkTree)
         → 16 ≤ length front → length front % 4 ≡ 0 → IsOpened (front ++ end) word policy
         → MeansTrees chunks (body front) ts → MeansTrees chunks end us
         → Answer (front ++ end) word policy (Ok (packet_with (front ++ end) (ts ++ us))) }
-    ensures fault { (front end : List ℕ) (word : ℕ) (policy : ChecksumPolicy) (ts : List ChunkTree) (e : Fault)
+    ensures fault { (front end : List ℕ) (word : ℕ) (policy : ChecksumPolicy)
+        (ts : List ChunkTree) (e : Fault)
         → 16 ≤ length front → length front % 4 ≡ 0 → IsOpened (front ++ end) word policy
         → MeansTrees chunks (body front) ts → HasFault chunks end e
         → Answer (front ++ end) word policy (Err (Chunk e)) }

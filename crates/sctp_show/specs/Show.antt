@@ -27,7 +27,8 @@ chunk_line chunk = chunk_text chunk ++ codes "\n"
 
 -- the canonical packet in hexadecimal, or that it doesn't fit
 pub data CanonicalLine (m : Meaning) (line : List ℕ) : Type 0 where
-  fits : Fits m → line ≡ codes "canonical=" ++ encode_lower (canonical m) ++ codes "\n" → CanonicalLine m line
+  fits : Fits m → line ≡ codes "canonical=" ++ encode_lower (canonical m) ++ codes "\n"
+      → CanonicalLine m line
   unfit : ¬ Fits m → line ≡ codes "canonical too long\n" → CanonicalLine m line
 
 -- a packet's header line, a line for each chunk, and its canonical line
@@ -64,16 +65,19 @@ without_blanks text = filter (λ byte. not (is_blank byte)) text
 
 -- the policy under which any checksum is accepted
 abbrev pub unverified : ChecksumPolicy
-unverified = record { disable_checksum_verification = true; zero_checksum_alternate_error_detection_method = record { 0 = 0 } }
+unverified = record { disable_checksum_verification = true;
+    zero_checksum_alternate_error_detection_method = record { 0 = 0 } }
 
 -- the input is answered with this text and status, where no device fails and memory lasts: the
 -- first of the rules that applies decides
 pub data Shows (input : List ℕ) (answer : List ℕ × ℕ) : Type 0 where
-  too_long : 200000 < length input → answer ≡ fault (codes "error: input too long\n") → Shows input answer
+  too_long : 200000 < length input → answer ≡ fault (codes "error: input too long\n")
+      → Shows input answer
   not_hexadecimal : length input ≤ 200000 → IsErr (decode_of (without_blanks input))
       → answer ≡ fault (codes "error: not hexadecimal\n") → Shows input answer
   packet : length input ≤ 200000 → (bytes : List ℕ) → decode_of (without_blanks input) ≡ Ok bytes
-      → (read : Result PacketTree PacketFault) → Answer bytes 0 unverified read → Tells read answer → Shows input answer
+      → (read : Result PacketTree PacketFault) → Answer bytes 0 unverified read → Tells read answer
+      → Shows input answer
 
 abbrev pub out_of_memory : List ℕ × ℕ
 out_of_memory = fault (codes "error: out of memory\n")
@@ -94,7 +98,8 @@ abbrev pub MayAnswer : Bool → Option (List ℕ) → Option (List ℕ) → List
 MayAnswer true known left answer = answer ≡ read_failed
 MayAnswer false known left answer =
     (answer ≡ out_of_memory)
-    ⊎ ((input : List ℕ) × IfSome known (λ all. input ≡ all) × Consumes known left (take 200001 input) × Shows input answer)
+    ⊎ ((input : List ℕ) × IfSome known (λ all. input ≡ all)
+        × Consumes known left (take 200001 input) × Shows input answer)
 
 -- at most `most` bytes were taken from the reader
 abbrev pub TakesAtMost : ℕ → Option (List ℕ) → Option (List ℕ) → Type 0

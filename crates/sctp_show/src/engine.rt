@@ -25,8 +25,10 @@ pub fn show<R: Read, W: Write>(alloc: Global, input: &mut Watched<R>, output: &m
     // Where no device fails, the output and the status are those of the input, or memory ran out.
     ensures shown { has_failed input.old ≡ false → has_failed output.old ≡ false
         → has_failed input.new ≡ false → has_failed output.new ≡ false
-        → IfSome (R.remaining (device_of input.old)) (λ all. (answer : List ℕ × ℕ) × MayShow all answer
-        × Writes answer result (W.contents (device_of output.old)) (W.contents (device_of output.new))) }
+        → IfSome (R.remaining (device_of input.old))
+        (λ all. (answer : List ℕ × ℕ) × MayShow all answer
+        × Writes answer result (W.contents (device_of output.old))
+        (W.contents (device_of output.new))) }
 
     // An input has no two answers.
     ensures one_answer { (all : List ℕ) (a b : List ℕ × ℕ) → Shows all a → Shows all b → a ≡ b }
@@ -46,7 +48,8 @@ pub fn show<R: Read, W: Write>(alloc: Global, input: &mut Watched<R>, output: &m
         → has_failed output.new ≡ false → (answer : List ℕ × ℕ)
         × MayAnswer (has_failed input.new) (R.remaining (device_of input.old))
         (R.remaining (device_of input.new)) answer
-        × Writes answer result (W.contents (device_of output.old)) (W.contents (device_of output.new)) }
+        × Writes answer result (W.contents (device_of output.old))
+        (W.contents (device_of output.new)) }
     ensures cut { has_failed input.old ≡ false → has_failed output.old ≡ false
         → has_failed output.new ≡ true → (answer : List ℕ × ℕ)
         × MayAnswer (has_failed input.new) (R.remaining (device_of input.old))

@@ -56,7 +56,8 @@ impl<'a> RawParameter<'a> {
 pub fn write_parameter_header(typ: u16, value_size: usize, output: &mut [u8]) -> &mut [u8]
     requires encodable { 4 + value_size < 2 ^ 16 }
     requires room { 4 + value_size ≤ length output.old }
-    ensures* writes_back { sem 𝓛 (LendsValue (typed_header typ value_size) output.entry value_size result) }
+    ensures* writes_back { sem 𝓛 (LendsValue
+        (typed_header typ value_size) output.entry value_size result) }
     ensures value { result.now ≡ take value_size (drop 4 output.old) }
 {
     // Four plain writes, and no call: so the proof by hand stays a short walk.

@@ -9,8 +9,8 @@ use crate::types::SerialNumber;
 use std::fmt;
 use std::ops::{Add, AddAssign, Sub, SubAssign};
 
-/// A message identifier (MID, RFC 8260 section 2.1): the place of a message in its stream, among the
-/// ordered or the unordered ones. It prints as its decimal number.
+/// A message identifier (MID, RFC 8260 section 2.1): the place of a message in its stream, among
+/// the ordered or the unordered ones. It prints as its decimal number.
 #[derive(Clone, Copy, PartialEq, Eq, Hash)]
 pub struct Mid(pub u32);
 

@@ -7,8 +7,8 @@ ghost use Rattle.dcsctp_types.specs.Serial.{wrapped_sum};
 use std::fmt;
 use std::ops::AddAssign;
 
-/// Tells outgoing messages apart, so that a chunk can be traced to the message that it was cut from.
-/// Ids are equal or not; they have no order. An id prints as its decimal number.
+/// Tells outgoing messages apart, so that a chunk can be traced to the message that it was cut
+/// from. Ids are equal or not; they have no order. An id prints as its decimal number.
 #[derive(Clone, Copy, PartialEq, Eq, Hash)]
 pub struct OutgoingMessageId(pub u32);
 

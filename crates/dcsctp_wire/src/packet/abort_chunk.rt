@@ -57,8 +57,12 @@ impl AbortChunk {
     /// `OutOfMemory` only where there is none, and there are causes.
     pub fn try_from(alloc: Global, raw: RawChunk) -> Result<Self, ChunkParseError>
         ensures other { IsErrOf result ChunkParseError.InvalidType ↔ (raw.entry.typ ≢ CHUNK_TYPE) }
-        ensures own { raw.entry.typ ≡ CHUNK_TYPE → Answers result (λ c. (abort_row raw.entry.flags).means raw.entry.value.now (abort_view c)) ((abort_row raw.entry.flags).faults raw.entry.value.now) }
-        ensures memory { IsErrOf result ChunkParseError.OutOfMemory → HasMeaning (abort_row raw.entry.flags) raw.entry.value.now × (raw.entry.value.now ≢ []) }
+        ensures own { raw.entry.typ ≡ CHUNK_TYPE
+            → Answers result (λ c. (abort_row raw.entry.flags).means raw.entry.value.now
+            (abort_view c)) ((abort_row raw.entry.flags).faults raw.entry.value.now) }
+        ensures memory { IsErrOf result ChunkParseError.OutOfMemory
+            → HasMeaning (abort_row raw.entry.flags) raw.entry.value.now
+            × (raw.entry.value.now ≢ []) }
         ensures exact { raw.entry.typ ≡ CHUNK_TYPE → ReadsExactly result abort_view
             ((abort_row raw.entry.flags).means raw.entry.value.now)
             ((abort_row raw.entry.flags).faults raw.entry.value.now) }
@@ -85,7 +89,9 @@ impl AbortChunk {
     /// The number of parts: the chunk and its causes; or the first fault of these from the left. It
     /// takes no memory.
     pub(crate) fn check(value: &[u8]) -> Result<usize, ChunkParseError>
-        ensures found { (flags : ℕ) → Finds result (MeansParts (λ a. 1 + length a.causes) (abort_row flags) value.now) ((abort_row flags).faults value.now) }
+        ensures found { (flags : ℕ) → Finds result
+            (MeansParts (λ a. 1 + length a.causes) (abort_row flags) value.now)
+            ((abort_row flags).faults value.now) }
         ensures few { IfOk result (λ n. 4 * n ≤ 4 + length value.now) }
     {
         let count = error_cause_check(value)?;

@@ -167,11 +167,15 @@ impl SctpPacketBuilder {
     pub fn build(&mut self, checksum: u32) -> Vec<u8>
         ensures bytes { result.items ≡ built self.old checksum }
         ensures empty { self.new ≡ record self.old { bytes = [] } }
-        ensures reads_back { self.old.limit ≤ 65535 → (chunks : List ChunkTree) → Holds self.old chunks → chunks ≢ []
+        ensures reads_back { self.old.limit ≤ 65535 → (chunks : List ChunkTree)
+            → Holds self.old chunks → chunks ≢ []
             → AllByRecursion IsChunkInWidth chunks
             → AllByRecursion IsChunkWellFormed (kept_chunks chunks)
-            → (word : ℕ) (policy : ChecksumPolicy) → IsAccepted policy (checksum_field result.items) word
-            → Answer result.items word policy (Ok (record { meaning = meaning_with self.old (kept_chunks chunks); checksum = checksum_field result.items })) }
+            → (word : ℕ) (policy : ChecksumPolicy)
+            → IsAccepted policy (checksum_field result.items) word
+            → Answer result.items word policy
+            (Ok (record { meaning = meaning_with self.old (kept_chunks chunks);
+            checksum = checksum_field result.items })) }
     {
         self.hand_out(checksum)
     }

@@ -111,22 +111,28 @@ impl Chunk {
     /// meaning, and what it holds can't be copied; never where it holds nothing on the heap.
     /// `InvalidType` is never answered.
     pub fn try_from(alloc: Global, raw: RawChunk) -> Result<Self, ChunkParseError>
-        ensures answer { Answers result (λ c. (chunk_row raw.entry.typ raw.entry.flags).means raw.entry.value.now (view c))
+        ensures answer { Answers result
+            (λ c. (chunk_row raw.entry.typ raw.entry.flags).means raw.entry.value.now (view c))
             ((chunk_row raw.entry.typ raw.entry.flags).faults raw.entry.value.now) }
         ensures memory { IsErrOf result ChunkParseError.OutOfMemory →
             HasMeaning (chunk_row raw.entry.typ raw.entry.flags) raw.entry.value.now }
-        ensures exact { ReadsExactly result view ((chunk_row raw.entry.typ raw.entry.flags).means raw.entry.value.now)
+        ensures exact { ReadsExactly result view
+            ((chunk_row raw.entry.typ raw.entry.flags).means raw.entry.value.now)
             ((chunk_row raw.entry.typ raw.entry.flags).faults raw.entry.value.now) }
-        ensures heap { TakesNoMemory raw.entry.typ raw.entry.value.now → ¬ IsErrOf result ChunkParseError.OutOfMemory }
+        ensures heap { TakesNoMemory raw.entry.typ raw.entry.value.now
+            → ¬ IsErrOf result ChunkParseError.OutOfMemory }
     {
         Chunk::read(alloc, raw.typ, raw.flags, raw.value)
     }
 
     /// Checks a chunk's value, and builds what it means.
     fn read(alloc: Global, typ: u8, flags: u8, value: &[u8]) -> Result<Self, ChunkParseError>
-        ensures answer { Answers result (λ c. (chunk_row typ flags).means value.now (view c)) ((chunk_row typ flags).faults value.now) }
-        ensures memory { IsErrOf result ChunkParseError.OutOfMemory → HasMeaning (chunk_row typ flags) value.now }
-        ensures exact { ReadsExactly result view ((chunk_row typ flags).means value.now) ((chunk_row typ flags).faults value.now) }
+        ensures answer { Answers result (λ c. (chunk_row typ flags).means value.now (view c))
+            ((chunk_row typ flags).faults value.now) }
+        ensures memory { IsErrOf result ChunkParseError.OutOfMemory
+            → HasMeaning (chunk_row typ flags) value.now }
+        ensures exact { ReadsExactly result view ((chunk_row typ flags).means value.now)
+            ((chunk_row typ flags).faults value.now) }
         ensures heap { TakesNoMemory typ value.now → ¬ IsErrOf result ChunkParseError.OutOfMemory }
     {
         Chunk::check(typ, flags, value)?;
@@ -173,8 +179,8 @@ impl Chunk {
         })
     }
 
-    /// Does what `read_onto` does for a kind with a list, and for a type without a kind. It stands apart, so
-    /// that the loop over chunks has no room to clear for the lists.
+    /// Does what `read_onto` does for a kind with a list, and for a type without a kind. It stands
+    /// apart, so that the loop over chunks has no room to clear for the lists.
     #[inline(never)]
     fn other_onto(
         list: &mut Vec<Self>,
@@ -183,10 +189,12 @@ impl Chunk {
         second: u8,
         value: &[u8],
     ) -> Result<(), AllocError>
-        requires other { (first ≢ 0) × (first ≢ 3) × (first ≢ 7) × (first ≢ 8) × (first ≢ 10) × (first ≢ 11) × (first ≢ 14) × (first ≢ 64) × (first ≢ 192) × (first ≢ 194) }
+        requires other { (first ≢ 0) × (first ≢ 3) × (first ≢ 7) × (first ≢ 8) × (first ≢ 10)
+            × (first ≢ 11) × (first ≢ 14) × (first ≢ 64) × (first ≢ 192) × (first ≢ 194) }
         requires meant { HasMeaning (chunk_row first second) value.now }
         requires room { vec_len list.old < vec_capacity list.old }
-        ensures grows { IfOk result (λ _. Grows view (chunk_row first second) value.now list.old.items list.new.items) }
+        ensures grows { IfOk result (λ _. Grows view
+            (chunk_row first second) value.now list.old.items list.new.items) }
         ensures len { IfOk result (λ _. vec_len list.new ≡ vec_len list.old + 1) }
         ensures capacity { IfOk result (λ _. vec_capacity list.new ≡ vec_capacity list.old) }
     {

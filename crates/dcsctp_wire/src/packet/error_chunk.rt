@@ -56,8 +56,11 @@ impl ErrorChunk {
     /// first fault of the causes from the left; `OutOfMemory` only where there is none.
     pub fn try_from(alloc: Global, raw: RawChunk) -> Result<Self, ChunkParseError>
         ensures other { IsErrOf result ChunkParseError.InvalidType ↔ (raw.entry.typ ≢ CHUNK_TYPE) }
-        ensures own { raw.entry.typ ≡ CHUNK_TYPE → Answers result (λ c. error_row.means raw.entry.value.now (error_view c)) (error_row.faults raw.entry.value.now) }
-        ensures memory { IsErrOf result ChunkParseError.OutOfMemory → HasMeaning error_row raw.entry.value.now }
+        ensures own { raw.entry.typ ≡ CHUNK_TYPE
+            → Answers result (λ c. error_row.means raw.entry.value.now (error_view c))
+            (error_row.faults raw.entry.value.now) }
+        ensures memory { IsErrOf result ChunkParseError.OutOfMemory
+            → HasMeaning error_row raw.entry.value.now }
         ensures exact { raw.entry.typ ≡ CHUNK_TYPE → ReadsExactly result error_view
             (error_row.means raw.entry.value.now) (error_row.faults raw.entry.value.now) }
     {
@@ -80,10 +83,11 @@ impl ErrorChunk {
         Ok(ErrorChunk::build(alloc, value)?)
     }
 
-    /// The number of parts: the chunk and its causes. `InvalidLength` where there are no causes; else
-    /// the first fault of these from the left. It takes no memory.
+    /// The number of parts: the chunk and its causes. `InvalidLength` where there are no causes;
+    /// else the first fault of these from the left. It takes no memory.
     pub(crate) fn check(value: &[u8]) -> Result<usize, ChunkParseError>
-        ensures found { Finds result (MeansParts (λ cs. 1 + length cs) error_row value.now) (error_row.faults value.now) }
+        ensures found { Finds result (MeansParts (λ cs. 1 + length cs) error_row value.now)
+            (error_row.faults value.now) }
         ensures few { IfOk result (λ n. 4 * n ≤ 4 + length value.now) }
     {
         if value.is_empty() {

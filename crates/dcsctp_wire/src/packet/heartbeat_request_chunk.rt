@@ -53,8 +53,11 @@ impl HeartbeatRequestChunk {
     /// left; `OutOfMemory` only where there is none, and there are parameters.
     pub fn try_from(alloc: Global, raw: RawChunk) -> Result<Self, ChunkParseError>
         ensures other { IsErrOf result ChunkParseError.InvalidType ↔ (raw.entry.typ ≢ CHUNK_TYPE) }
-        ensures own { raw.entry.typ ≡ CHUNK_TYPE → Answers result (λ c. parameter_list_row.means raw.entry.value.now (heartbeat_request_view c)) (parameter_list_row.faults raw.entry.value.now) }
-        ensures memory { IsErrOf result ChunkParseError.OutOfMemory → HasMeaning parameter_list_row raw.entry.value.now × (raw.entry.value.now ≢ []) }
+        ensures own { raw.entry.typ ≡ CHUNK_TYPE
+            → Answers result (λ c. parameter_list_row.means raw.entry.value.now
+            (heartbeat_request_view c)) (parameter_list_row.faults raw.entry.value.now) }
+        ensures memory { IsErrOf result ChunkParseError.OutOfMemory
+            → HasMeaning parameter_list_row raw.entry.value.now × (raw.entry.value.now ≢ []) }
         ensures exact { raw.entry.typ ≡ CHUNK_TYPE → ReadsExactly result heartbeat_request_view
             (parameter_list_row.means raw.entry.value.now)
             (parameter_list_row.faults raw.entry.value.now) }
@@ -82,7 +85,8 @@ impl HeartbeatRequestChunk {
     /// What the value means.
     pub(crate) fn build(alloc: Global, value: &[u8]) -> Result<Self, AllocError>
         requires { HasMeaning parameter_list_row value.now }
-        ensures meant { IfOk result (λ c. parameter_list_row.means value.now (heartbeat_request_view c)) }
+        ensures meant { IfOk result (λ c. parameter_list_row.means value.now
+            (heartbeat_request_view c)) }
         ensures empty { value.now ≡ [] → IsOk result }
     {
         Ok(HeartbeatRequestChunk {

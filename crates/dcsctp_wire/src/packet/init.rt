@@ -25,10 +25,11 @@ pub(crate) struct InitFields {
     pub parameters: Vec<Parameter>,
 }
 
-/// The number of parts: the chunk and its parameters. `InvalidLength` where the value has fewer than
-/// 16 bytes; else the first fault of the parameters from the left. It takes no memory.
+/// The number of parts: the chunk and its parameters. `InvalidLength` where the value has fewer
+/// than 16 bytes; else the first fault of the parameters from the left. It takes no memory.
 pub(crate) fn init_check(value: &[u8]) -> Result<usize, ChunkParseError>
-    ensures found { Finds result (MeansParts init_parts init_row value.now) (init_row.faults value.now) }
+    ensures found { Finds result (MeansParts init_parts init_row value.now)
+        (init_row.faults value.now) }
     ensures few { IfOk result (λ n. 4 * n ≤ 4 + length value.now) }
 {
     if value.len() < FIXED_SIZE {
@@ -63,7 +64,9 @@ pub(crate) fn init_bytes(
     nbr_inbound_streams: u16,
     initial_tsn: Tsn,
 ) -> [u8; FIXED_SIZE]
-    ensures { result ≡ init_numbers (record { tag = initiate_tag; window = a_rwnd; outbound = nbr_outbound_streams; inbound = nbr_inbound_streams; tsn = initial_tsn.0; parameters = [] }) }
+    ensures { result ≡ init_numbers
+        (record { tag = initiate_tag; window = a_rwnd; outbound = nbr_outbound_streams;
+        inbound = nbr_inbound_streams; tsn = initial_tsn.0; parameters = [] }) }
 {
     let mut bytes = [0; FIXED_SIZE];
     put_u32(&mut bytes, 0, initiate_tag);

@@ -60,12 +60,15 @@ impl InitAckChunk {
     /// Reads the chunk and its parameters; flags are ignored.
     ///
     /// `InvalidType` exactly for another type; `InvalidLength` where the value has fewer than 16
-    /// bytes; else the first fault of the parameters from the left; `OutOfMemory` only where there is
-    /// none, and there are parameters.
+    /// bytes; else the first fault of the parameters from the left; `OutOfMemory` only where there
+    /// is none, and there are parameters.
     pub fn try_from(alloc: Global, raw: RawChunk) -> Result<Self, ChunkParseError>
         ensures other { IsErrOf result ChunkParseError.InvalidType ↔ (raw.entry.typ ≢ CHUNK_TYPE) }
-        ensures own { raw.entry.typ ≡ CHUNK_TYPE → Answers result (λ c. init_row.means raw.entry.value.now (init_ack_view c)) (init_row.faults raw.entry.value.now) }
-        ensures memory { IsErrOf result ChunkParseError.OutOfMemory → HasMeaning init_row raw.entry.value.now × (drop 16 raw.entry.value.now ≢ []) }
+        ensures own { raw.entry.typ ≡ CHUNK_TYPE
+            → Answers result (λ c. init_row.means raw.entry.value.now (init_ack_view c))
+            (init_row.faults raw.entry.value.now) }
+        ensures memory { IsErrOf result ChunkParseError.OutOfMemory
+            → HasMeaning init_row raw.entry.value.now × (drop 16 raw.entry.value.now ≢ []) }
         ensures exact { raw.entry.typ ≡ CHUNK_TYPE → ReadsExactly result init_ack_view
             (init_row.means raw.entry.value.now) (init_row.faults raw.entry.value.now) }
     {

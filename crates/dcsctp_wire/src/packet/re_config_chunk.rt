@@ -53,8 +53,11 @@ impl ReConfigChunk {
     /// left; `OutOfMemory` only where there is none, and there are parameters.
     pub fn try_from(alloc: Global, raw: RawChunk) -> Result<Self, ChunkParseError>
         ensures other { IsErrOf result ChunkParseError.InvalidType ↔ (raw.entry.typ ≢ CHUNK_TYPE) }
-        ensures own { raw.entry.typ ≡ CHUNK_TYPE → Answers result (λ c. parameter_list_row.means raw.entry.value.now (re_config_view c)) (parameter_list_row.faults raw.entry.value.now) }
-        ensures memory { IsErrOf result ChunkParseError.OutOfMemory → HasMeaning parameter_list_row raw.entry.value.now × (raw.entry.value.now ≢ []) }
+        ensures own { raw.entry.typ ≡ CHUNK_TYPE
+            → Answers result (λ c. parameter_list_row.means raw.entry.value.now (re_config_view c))
+            (parameter_list_row.faults raw.entry.value.now) }
+        ensures memory { IsErrOf result ChunkParseError.OutOfMemory
+            → HasMeaning parameter_list_row raw.entry.value.now × (raw.entry.value.now ≢ []) }
         ensures exact { raw.entry.typ ≡ CHUNK_TYPE → ReadsExactly result re_config_view
             (parameter_list_row.means raw.entry.value.now)
             (parameter_list_row.faults raw.entry.value.now) }

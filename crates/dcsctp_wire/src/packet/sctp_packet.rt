@@ -147,8 +147,9 @@ impl SctpPacket {
     ///
     /// `InvalidPacketSize` unless there are 16 to 65,535 bytes; then `InvalidChecksum` unless the
     /// policy accepts the field; then `FailedParseChunk` with the first fault of the chunks from
-    /// the left. Where there is no fault, memory is taken, each list at once, and `FailedParseChunk`
-    /// with `OutOfMemory` is answered where it runs out. Padding isn't looked at.
+    /// the left. Where there is no fault, memory is taken, each list at once, and
+    /// `FailedParseChunk` with `OutOfMemory` is answered where it runs out. Padding isn't looked
+    /// at.
     pub fn from_bytes(
         alloc: Global,
         bytes: &[u8],
@@ -159,13 +160,16 @@ impl SctpPacket {
         ensures formed { IfOk result (λ p. IsWellFormed (meaning_view p)) }
 
         // Where no text of an error cause is replaced, the packet is as large as the input.
-        ensures size { KeepsTexts bytes.now → IfOk result (λ p. KeepsSize bytes.now (meaning_view p)) }
+        ensures size { KeepsTexts bytes.now
+            → IfOk result (λ p. KeepsSize bytes.now (meaning_view p)) }
 
         // Chunks, parameters and causes together.
-        ensures nodes { IfOk result (λ p. node_count (meaning_view p) ≤ (length bytes.now - 12) / 4) }
+        ensures nodes { IfOk result (λ p. node_count
+            (meaning_view p) ≤ (length bytes.now - 12) / 4) }
 
         // A fault is told wherever there is one, and `OutOfMemory` only where there is none.
-        ensures memory { IsErrOf result (FailedParseChunk OutOfMemory) → IsPacket bytes.now checksum policy.now }
+        ensures memory { IsErrOf result (FailedParseChunk OutOfMemory)
+            → IsPacket bytes.now checksum policy.now }
         ensures exact { ReadsPacket packet_view bytes.now checksum policy.now result }
 
         // The memory for the list of chunks is taken at once.
@@ -214,7 +218,8 @@ impl SctpPacket {
         ensures width { IsInWidth (meaning_view self.now) }
         ensures reads_back { IsWellFormed (meaning_view self.now)
             → (word : ℕ) (policy : ChecksumPolicy) → IsAccepted policy 0 word
-            → IfOk result (λ bytes. Answer bytes.items word policy (Ok (record { meaning = meaning_view self.now; checksum = 0 }))) }
+            → IfOk result (λ bytes. Answer bytes.items word policy
+            (Ok (record { meaning = meaning_view self.now; checksum = 0 }))) }
         ensures one { IsWellFormed (meaning_view self.now)
             → (m : Meaning) → IsInWidth m → IsWellFormed m → Fits m
             → IfOk result (λ bytes. (bytes.items ≡ canonical m) ↔ (meaning_view self.now ≡ m)) }
@@ -255,7 +260,8 @@ fn read_packet(
     policy: &ChecksumPolicy,
 ) -> Result<SctpPacket, PacketParseError>
     ensures answer { Reads packet_view bytes.now checksum policy.now result }
-    ensures memory { IsErrOf result (FailedParseChunk OutOfMemory) → IsPacket bytes.now checksum policy.now }
+    ensures memory { IsErrOf result (FailedParseChunk OutOfMemory)
+        → IsPacket bytes.now checksum policy.now }
     ensures reserved { IfOk result (λ p. vec_capacity p.chunks ≡ vec_len p.chunks) }
 {
     let (count, _) = check_packet(bytes, checksum, policy)?;
@@ -289,7 +295,9 @@ pub(crate) fn header_bytes(
     destination_port: u16,
     verification_tag: u32,
 ) -> [u8; COMMON_HEADER_SIZE]
-    ensures { result ≡ canonical (record { source = source_port; destination = destination_port; tag = verification_tag; chunks = [] }) }
+    ensures { result ≡ canonical (record
+        { source = source_port; destination = destination_port; tag = verification_tag;
+        chunks = [] }) }
 {
     let mut header = [0; COMMON_HEADER_SIZE];
     put_u16(&mut header, 0, source_port);
