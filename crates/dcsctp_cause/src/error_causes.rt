@@ -132,8 +132,7 @@ impl ErrorCause {
     }
 }
 
-#[tactic(auto, unfolding(crate::specs::UnrecognizedChunk::read,
-    dcsctp_tlv::specs::UnknownParameter::read))]
+#[tactic(auto, unfolding(crate::specs::UnrecognizedChunk::read, dcsctp_tlv::specs::UnknownParameter::read))]
 impl ReadableTlv for ErrorCause {
     ghost Tree = { CauseTree };
 

@@ -72,8 +72,12 @@ list_size tlv (t ∷ u ∷ ts) = round_up_to_4 (size_of (tlv t)) + list_size tlv
 -- an item whose value begins with some bytes, and after them is a list
 abbrev pub listed_tlv : {T : Type 0} → ℕ → ℕ → List ℕ → (T → Tlv) → List T → Tlv
 listed_tlv first second leading tlv ts =
-    record { first = first; second = second; value = solid leading ++ list_image tlv ts;
-    value_size = length leading + list_size tlv ts }
+    record {
+      first = first;
+      second = second;
+      value = solid leading ++ list_image tlv ts;
+      value_size = length leading + list_size tlv ts;
+    }
 
 -- each item can be written, and two bytes can hold the size of the list
 pub record IsListEncodable {T : Type 0} (tlv : T → Tlv) (is_encodable : T → Type 0)

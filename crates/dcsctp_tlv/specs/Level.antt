@@ -17,8 +17,10 @@ pub record Row (T : Type 0) : Type 1 where
 
 -- a kind whose value is read at fixed places
 abbrev pub plain : {T : Type 0} → (List ℕ → Result T Fault) → Row T
-plain read = record { means = λ value tree. read value ≡ Ok tree;
-    faults = λ value e. read value ≡ Err e }
+plain read = record {
+  means = λ value tree. read value ≡ Ok tree;
+  faults = λ value e. read value ≡ Err e;
+}
 
 -- the tree of a kind, as a tree of its level
 abbrev pub map_ok : {A B E : Type 0} → (A → B) → Result A E → Result B E
@@ -32,8 +34,10 @@ pick false row others = others
 
 -- a kind's row, where its trees are trees of the level
 abbrev pub as_row : {A B : Type 0} → (A → B) → Row A → Row B
-as_row f row = record { means = λ value tree. (x : _) × row.means value x × (tree ≡ f x);
-    faults = row.faults }
+as_row f row = record {
+  means = λ value tree. (x : _) × row.means value x × (tree ≡ f x);
+  faults = row.faults;
+}
 
 -- the value means some tree
 abbrev pub HasMeaning : {T : Type 0} → Row T → List ℕ → Type 0

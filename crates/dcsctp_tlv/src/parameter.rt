@@ -195,8 +195,7 @@ impl Parameter {
     }
 }
 
-#[tactic(auto, unfolding(crate::specs::HeartbeatInfo::read, crate::specs::StateCookie::read,
-    crate::specs::SupportedExtensions::read, crate::specs::UnknownParameter::read))]
+#[tactic(auto, unfolding(crate::specs::HeartbeatInfo::read, crate::specs::StateCookie::read, crate::specs::SupportedExtensions::read, crate::specs::UnknownParameter::read))]
 impl ReadableTlv for Parameter {
     ghost Tree = { ParameterTree };
 

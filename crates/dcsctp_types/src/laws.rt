@@ -9,8 +9,7 @@ use crate::types::{SerialNumber, StreamKey};
 use std::cmp::Ordering;
 use std::time::Duration;
 
-#[tactic(auto, using(crate::proofs::SerialOrder::ordered_in_window,
-    crate::proofs::SerialOrder::greater_one_way))]
+#[tactic(auto, using(crate::proofs::SerialOrder::ordered_in_window, crate::proofs::SerialOrder::greater_one_way))]
 /// The order of serial numbers, seen from a base: of two numbers that stand ahead of the base by
 /// less than half of the space, the greater one stands further ahead of it (RFC 1982 section 3.2).
 ///

@@ -64,7 +64,7 @@ table flags =
 abbrev pub chunk_row : ℕ → ℕ → Row ChunkTree
 chunk_row typ flags =
     row_of (table flags) typ (plain
-        (λ value. map_ok Unknown (plain_kind.Unknown.read typ flags value)))
+    (λ value. map_ok Unknown (plain_kind.Unknown.read typ flags value)))
 
 -- the chunks of a packet: their padding is never looked at
 abbrev pub chunks : Level ChunkTree

@@ -73,8 +73,12 @@ pub record MeansPacket (bytes : List ℕ) (p : PacketTree) : Type 0 where
 -- the packet with the header of these bytes, and these chunks
 abbrev pub packet_with : List ℕ → List ChunkTree → PacketTree
 packet_with bytes ts = record {
-  meaning = record { source = number16 bytes; destination = number16 (drop 2 bytes);
-      tag = number32 (drop 4 bytes); chunks = ts };
+  meaning = record {
+    source = number16 bytes;
+    destination = number16 (drop 2 bytes);
+    tag = number32 (drop 4 bytes);
+    chunks = ts;
+  };
   checksum = checksum_field bytes;
 }
 

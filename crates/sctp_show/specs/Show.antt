@@ -65,8 +65,10 @@ without_blanks text = filter (λ byte. not (is_blank byte)) text
 
 -- the policy under which any checksum is accepted
 abbrev pub unverified : ChecksumPolicy
-unverified = record { disable_checksum_verification = true;
-    zero_checksum_alternate_error_detection_method = record { 0 = 0 } }
+unverified = record {
+  disable_checksum_verification = true;
+  zero_checksum_alternate_error_detection_method = record { 0 = 0 };
+}
 
 -- the input is answered with this text and status, where no device fails and memory lasts: the
 -- first of the rules that applies decides
@@ -99,7 +101,7 @@ MayAnswer true known left answer = answer ≡ read_failed
 MayAnswer false known left answer =
     (answer ≡ out_of_memory)
     ⊎ ((input : List ℕ) × IfSome known (λ all. input ≡ all)
-        × Consumes known left (take 200001 input) × Shows input answer)
+    × Consumes known left (take 200001 input) × Shows input answer)
 
 -- at most `most` bytes were taken from the reader
 abbrev pub TakesAtMost : ℕ → Option (List ℕ) → Option (List ℕ) → Type 0

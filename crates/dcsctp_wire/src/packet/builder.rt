@@ -174,8 +174,10 @@ impl SctpPacketBuilder {
             → (word : ℕ) (policy : ChecksumPolicy)
             → IsAccepted policy (checksum_field result.items) word
             → Answer result.items word policy
-            (Ok (record { meaning = meaning_with self.old (kept_chunks chunks);
-            checksum = checksum_field result.items })) }
+            (Ok (record {
+              meaning = meaning_with self.old (kept_chunks chunks);
+              checksum = checksum_field result.items;
+            })) }
     {
         self.hand_out(checksum)
     }

@@ -65,8 +65,14 @@ pub(crate) fn init_bytes(
     initial_tsn: Tsn,
 ) -> [u8; FIXED_SIZE]
     ensures { result ≡ init_numbers
-        (record { tag = initiate_tag; window = a_rwnd; outbound = nbr_outbound_streams;
-        inbound = nbr_inbound_streams; tsn = initial_tsn.0; parameters = [] }) }
+        (record {
+          tag = initiate_tag;
+          window = a_rwnd;
+          outbound = nbr_outbound_streams;
+          inbound = nbr_inbound_streams;
+          tsn = initial_tsn.0;
+          parameters = [];
+        }) }
 {
     let mut bytes = [0; FIXED_SIZE];
     put_u32(&mut bytes, 0, initiate_tag);

@@ -295,9 +295,12 @@ pub(crate) fn header_bytes(
     destination_port: u16,
     verification_tag: u32,
 ) -> [u8; COMMON_HEADER_SIZE]
-    ensures { result ≡ canonical (record
-        { source = source_port; destination = destination_port; tag = verification_tag;
-        chunks = [] }) }
+    ensures { result ≡ canonical (record {
+      source = source_port;
+      destination = destination_port;
+      tag = verification_tag;
+      chunks = [];
+    }) }
 {
     let mut header = [0; COMMON_HEADER_SIZE];
     put_u16(&mut header, 0, source_port);
