@@ -9,9 +9,7 @@
 //! ```
 
 ghost use Rattle.std.specs.Prelude.{◌≡◌, ◌≢◌, ◌↔◌, Some, IsErrOf};
-ghost use Rattle.dcsctp_tlv.specs.Image.{IsEncodable};
 ghost use Rattle.dcsctp_tlv.specs.Reading.{Gives, Never, Passes};
-ghost use Rattle.dcsctp_tlv.specs.Length.{length-format};
 ghost use Rattle.dcsctp_cause.specs.CookieReceivedWhileShuttingDown as kind;
 
 use dcsctp_tlv::error::ChunkParseError;
@@ -56,13 +54,7 @@ impl CookieReceivedWhileShuttingDownErrorCause {
 }
 
 impl SerializableTlv for CookieReceivedWhileShuttingDownErrorCause {
-    ghost tlv = { λ c. (kind.format (kind.view c)).tlv };
-
-    ghost is_encodable = { λ c. IsEncodable (kind.format (kind.view c)).tlv };
-
-    ghost image_length = { λ c fits. length-format (kind.format (kind.view c)) };
-
-    ghost size_bound = { λ c fits. fits };
+    ghost format = { λ c. kind.format (kind.view c) };
 
     fn serialize_to(&self, output: &mut [u8]) {
         put_parameter(CAUSE_CODE, &[], output);

@@ -11,10 +11,8 @@
 //! ```
 
 ghost use Rattle.std.specs.Prelude.{◌≡◌, ◌≢◌, ◌≤◌, ◌*◌, [], length, vec_len, vec_capacity, Some, IsOk, IfOk, IsErrOf, refl};
-ghost use Rattle.dcsctp_tlv.specs.Image.{IsEncodable};
 ghost use Rattle.dcsctp_tlv.specs.Level.{HasMeaning, MeansTrees, MeansSome, MeansMany, HasFault};
 ghost use Rattle.dcsctp_tlv.specs.Reading.{Answers, Finds, ChecksExactly, ReadsExactly};
-ghost use Rattle.dcsctp_tlv.specs.Length.{length-format};
 ghost use Rattle.dcsctp_cause.specs.Cause as cause;
 ghost use Rattle.dcsctp_cause.specs.Cause.{CauseTree, causes, TakesNoMemory, view, views};
 
@@ -208,13 +206,7 @@ impl ReadableTlv for ErrorCause {
 }
 
 impl SerializableTlv for ErrorCause {
-    ghost tlv = { λ c. cause.tlv (view c) };
-
-    ghost is_encodable = { λ c. IsEncodable (cause.tlv (view c)) };
-
-    ghost image_length = { λ c fits. length-format (cause.format (view c)) };
-
-    ghost size_bound = { λ c fits. fits };
+    ghost format = { λ c. cause.format (view c) };
 
     fn serialize_to(&self, output: &mut [u8]) {
         each_kind!(self, c => c.serialize_to(output))
@@ -246,7 +238,7 @@ impl ListedTlv for ErrorCause {
 
     ghost same_tlv = { λ c. refl };
 
-    ghost size_decides = { λ c fits. fits };
+    ghost all_placed = { λ c. tt };
 }
 
 /// Reads all the bytes as a list of error causes; no bytes are the empty list.

@@ -14,10 +14,8 @@
 
 ghost use Rattle.std.specs.Prelude.{◌≡◌, ◌≢◌, ◌↔◌, ℕ, Some, IsOk, IfOk, IsErrOf, refl};
 ghost use Rattle.std.specs.Int.{w16, to_be_bytes};
-ghost use Rattle.dcsctp_tlv.specs.Image.{IsEncodable};
 ghost use Rattle.dcsctp_tlv.specs.Number.{number16};
 ghost use Rattle.dcsctp_tlv.specs.Reading.{Gives, IfMeant, Passes, Builds};
-ghost use Rattle.dcsctp_tlv.specs.Length.{length-format};
 ghost use Rattle.dcsctp_cause.specs.MissingMandatoryParameter as kind;
 
 use dcsctp_tlv::error::ChunkParseError;
@@ -138,13 +136,7 @@ impl MissingMandatoryParameterErrorCause {
 }
 
 impl SerializableTlv for MissingMandatoryParameterErrorCause {
-    ghost tlv = { λ c. (kind.format (kind.view c)).tlv };
-
-    ghost is_encodable = { λ c. IsEncodable (kind.format (kind.view c)).tlv };
-
-    ghost image_length = { λ c fits. length-format (kind.format (kind.view c)) };
-
-    ghost size_bound = { λ c fits. fits };
+    ghost format = { λ c. kind.format (kind.view c) };
 
     fn serialize_to(&self, output: &mut [u8]) {
         let types = &self.missing_parameters;

@@ -5,8 +5,7 @@ use Rattle.std.specs.List.{AllByRecursion}
 use Rattle.dcsctp_types.specs.StreamKey.{stream_of, is_ordered_key}
 use Rattle.dcsctp_types.specs.declared.types.tsn.Tsn.{Tsn}
 use Rattle.dcsctp_tlv.specs.Fields.{numbers_and_fields_tlv}
-use Rattle.dcsctp_tlv.specs.Format.{Format}
-use Rattle.dcsctp_tlv.specs.Image.{Tlv, IsEncodable as FitsTlv}
+use Rattle.dcsctp_tlv.specs.Image.{Tlv}
 use Rattle.dcsctp_tlv.specs.declared.skipped_stream.SkippedStream.{SkippedStream}
 use Rattle.dcsctp_tlv.specs.declared.skipped_stream.SkippedStream.TheVariants.{ForwardTsn, IForwardTsn}
 
@@ -54,8 +53,3 @@ tlv_of typ bytes size t = numbers_and_fields_tlv typ 0 (t.tsn ∷ []) bytes size
 pub record IsInWidth (t : Tree) : Type 0 where
   pub tsn : t.tsn < 2 ^ 32
   pub streams : AllByRecursion IsSkippedStreamInWidth t.streams
-
--- it can be written: each stream has a place, and two bytes can hold the size
-pub record IsEncodable (f : Format) : Type 0 where
-  pub kinds : f.IsWellFormed
-  pub size : FitsTlv f.tlv

@@ -14,8 +14,7 @@
 
 ghost use Rattle.std.specs.Prelude.{◌≡◌, ◌≢◌, ◌↔◌, false, Some, IsOk, IsErrOf};
 ghost use Rattle.dcsctp_tlv.specs.Reading.{Gives, IfMeant, Passes, Builds};
-ghost use Rattle.dcsctp_tlv.specs.Length.{length-format};
-ghost use Rattle.dcsctp_chunk.specs.SkippedStreams.{SkippedStreamTree, is_by_mid, skipped_stream_view, IsEncodable};
+ghost use Rattle.dcsctp_chunk.specs.SkippedStreams.{SkippedStreamTree, is_by_mid, skipped_stream_view};
 ghost use Rattle.dcsctp_chunk.specs.ForwardTsn as kind;
 
 use crate::raw_chunk::RawChunk;
@@ -138,13 +137,10 @@ impl ForwardTsnChunk {
 
 #[tactic(auto, using(crate::proofs::SkippedStreams::count_of_streams))]
 impl SerializableTlv for ForwardTsnChunk {
-    ghost tlv = { λ c. (kind.format (kind.view c)).tlv };
+    ghost format = { λ c. kind.format (kind.view c) };
 
-    ghost is_encodable = { λ c. IsEncodable (kind.format (kind.view c)) };
-
-    ghost image_length = { λ c fits. length-format (kind.format (kind.view c)) };
-
-    ghost size_bound = { λ c fits. fits.size };
+    /// Each stream is skipped by a sequence number.
+    ghost placed = { λ c. (kind.format (kind.view c)).IsWellFormed };
 
     fn serialize_to(&self, output: &mut [u8]) {
         let leading = [self.new_cumulative_tsn.0];

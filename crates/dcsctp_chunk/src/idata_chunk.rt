@@ -19,9 +19,7 @@
 //! ```
 
 ghost use Rattle.std.specs.Prelude.{◌≡◌, ◌≢◌, ◌↔◌, ℕ, Some, IsOk, IsErrOf, if◌then◌else◌};
-ghost use Rattle.dcsctp_tlv.specs.Image.{IsEncodable};
 ghost use Rattle.dcsctp_tlv.specs.Reading.{Gives, IfMeant, Passes, Builds};
-ghost use Rattle.dcsctp_tlv.specs.Length.{length-format};
 ghost use Rattle.dcsctp_chunk.specs.Data.{user_data_view};
 ghost use Rattle.dcsctp_chunk.specs.IDataChunk as kind;
 
@@ -139,13 +137,7 @@ impl IDataChunk {
 }
 
 impl SerializableTlv for IDataChunk {
-    ghost tlv = { λ c. (kind.format (kind.view c)).tlv };
-
-    ghost is_encodable = { λ c. IsEncodable (kind.format (kind.view c)).tlv };
-
-    ghost image_length = { λ c fits. length-format (kind.format (kind.view c)) };
-
-    ghost size_bound = { λ c fits. fits };
+    ghost format = { λ c. kind.format (kind.view c) };
 
     fn serialize_to(&self, output: &mut [u8]) {
         let content = &self.user_data;

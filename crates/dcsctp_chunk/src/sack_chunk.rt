@@ -20,10 +20,8 @@
 
 ghost use Rattle.std.specs.Prelude.{◌≡◌, ◌≢◌, ◌↔◌, ◌≤◌, ◌+◌, ◌++◌, [], ◌∷◌, Some, IsOk, IsErrOf, length, refl};
 ghost use Rattle.std.specs.Int.{w16, w32};
-ghost use Rattle.dcsctp_tlv.specs.Image.{IsEncodable};
 ghost use Rattle.dcsctp_tlv.specs.Number.{numbers};
 ghost use Rattle.dcsctp_tlv.specs.Reading.{Gives, IfMeant, Passes, Builds};
-ghost use Rattle.dcsctp_tlv.specs.Length.{length-format};
 ghost use Rattle.dcsctp_chunk.specs.Sack as kind;
 
 use crate::raw_chunk::RawChunk;
@@ -164,13 +162,7 @@ impl SackChunk {
 
 #[tactic(auto, using(crate::proofs::Sacks::count_of_duplicates))]
 impl SerializableTlv for SackChunk {
-    ghost tlv = { λ c. (kind.format (kind.view c)).tlv };
-
-    ghost is_encodable = { λ c. IsEncodable (kind.format (kind.view c)).tlv };
-
-    ghost image_length = { λ c fits. length-format (kind.format (kind.view c)) };
-
-    ghost size_bound = { λ c fits. fits };
+    ghost format = { λ c. kind.format (kind.view c) };
 
     fn serialize_to(&self, output: &mut [u8]) {
         let blocks = self.gap_ack_blocks.len();

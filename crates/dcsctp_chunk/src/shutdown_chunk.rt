@@ -12,9 +12,7 @@
 
 ghost use Rattle.std.specs.Prelude.{◌≡◌, ◌≢◌, ◌↔◌, Some, Ok, IsOk, IsErrOf};
 ghost use Rattle.std.specs.Int.{w32, to_be_bytes};
-ghost use Rattle.dcsctp_tlv.specs.Image.{IsEncodable};
 ghost use Rattle.dcsctp_tlv.specs.Reading.{Gives, Never, Passes};
-ghost use Rattle.dcsctp_tlv.specs.Length.{length-format};
 ghost use Rattle.dcsctp_chunk.specs.Shutdown as kind;
 
 use crate::raw_chunk::RawChunk;
@@ -75,13 +73,7 @@ impl ShutdownChunk {
 }
 
 impl SerializableTlv for ShutdownChunk {
-    ghost tlv = { λ c. (kind.format (kind.view c)).tlv };
-
-    ghost is_encodable = { λ c. IsEncodable (kind.format (kind.view c)).tlv };
-
-    ghost image_length = { λ c fits. length-format (kind.format (kind.view c)) };
-
-    ghost size_bound = { λ c fits. fits };
+    ghost format = { λ c. kind.format (kind.view c) };
 
     fn serialize_to(&self, output: &mut [u8]) {
         put_solid(

@@ -9,9 +9,7 @@
 //! ```
 
 ghost use Rattle.std.specs.Prelude.{◌≡◌, ◌≢◌, ◌↔◌, ℕ, List, [], ◌∷◌, Some, Ok, IsOk, IsErrOf};
-ghost use Rattle.dcsctp_tlv.specs.Image.{IsEncodable};
 ghost use Rattle.dcsctp_tlv.specs.Reading.{Gives, Never, Passes};
-ghost use Rattle.dcsctp_tlv.specs.Length.{length-format};
 ghost use Rattle.dcsctp_chunk.specs.Flags.{flag_byte};
 ghost use Rattle.dcsctp_chunk.specs.ShutdownComplete as kind;
 
@@ -72,13 +70,7 @@ impl ShutdownCompleteChunk {
 }
 
 impl SerializableTlv for ShutdownCompleteChunk {
-    ghost tlv = { λ c. (kind.format (kind.view c)).tlv };
-
-    ghost is_encodable = { λ c. IsEncodable (kind.format (kind.view c)).tlv };
-
-    ghost image_length = { λ c fits. length-format (kind.format (kind.view c)) };
-
-    ghost size_bound = { λ c fits. fits };
+    ghost format = { λ c. kind.format (kind.view c) };
 
     fn serialize_to(&self, output: &mut [u8]) {
         put_solid(CHUNK_TYPE, one_flag(self.tag_reflected), &[], output);

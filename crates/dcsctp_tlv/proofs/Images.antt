@@ -1,10 +1,9 @@
 -- Images: how long they are, and what an output is after they were written.
 use Rattle.std.proofs.Common.{◌≡◌, ℕ, suc, zero, ◌+◌, ◌-◌, ◌^◌, ◌<◌, ◌≤◌, List, [], ◌∷◌, ◌++◌, length, get_or, take, drop, refl, sym, ap, subst, ◌∙◌, append_assoc, arith, inl, inr, Option, Some, None}
-use Rattle.std.specs.Prelude.{replicate, All, unwrap_or, map}
+use Rattle.std.specs.Prelude.{replicate, unwrap_or, map}
 use Rattle.std.specs.List.{AllByRecursion}
 use Rattle.std.proofs.lemmas.List.{take-append-drop, length-append, length-replicate, length-map, take_more, take_all, get_or_read, drop_at, map-append}
 use Rattle.std.proofs.lemmas.Bool.{cases_lt}
-use Rattle.std.proofs.lemmas.List.Elements.{recursion_from_All}
 use Rattle.dcsctp_tlv.specs.Frame.{round_up_to_4, header}
 use Rattle.dcsctp_tlv.specs.Image.{solid, holes, written, zeroed, gap, Tlv, size_of, image_of, list_image, list_size, IsListEncodable}
 pub use Rattle.dcsctp_tlv.specs.Length.{length-image_of, length-solid_tlv}
@@ -81,21 +80,18 @@ list_size-push tlv [] t = omega arith
 list_size-push tlv (u ∷ []) t = refl
 list_size-push tlv (u ∷ v ∷ ts) t = ap (λ (n : ℕ). round_up_to_4 (size_of (tlv u)) + n) (list_size-push tlv (v ∷ ts) t) ∙ omega (arith, round_up-add (size_of (tlv u)) (list_size tlv (v ∷ ts)))
 
--- the images of a list are as long as their sizes
-abbrev pub AreSized : {T : Type 0} → (T → Tlv) → List T → Type 0
-AreSized tlv ts = AllByRecursion (λ t. length (image_of (tlv t)) ≡ size_of (tlv t)) ts
-
-pub length-list_image : {T : Type 0} (tlv : T → Tlv) (ts : List T) → AreSized tlv ts → length (list_image tlv ts) ≡ list_size tlv ts
-length-list_image tlv [] p = refl
-length-list_image tlv (t ∷ []) p = p.0
-length-list_image tlv (t ∷ u ∷ ts) p =
-    let rest = length-list_image tlv (u ∷ ts) p.1 in
+-- the image of a list is as long as its size
+pub length-list_image : {T : Type 0} (tlv : T → Tlv) → ((t : T) → length (image_of (tlv t)) ≡ size_of (tlv t)) → (ts : List T) → length (list_image tlv ts) ≡ list_size tlv ts
+length-list_image tlv law [] = refl
+length-list_image tlv law (t ∷ []) = law t
+length-list_image tlv law (t ∷ u ∷ ts) =
+    let rest = length-list_image tlv law (u ∷ ts) in
     let h = holes (gap (size_of (tlv t))) in
     let l = list_image tlv (u ∷ ts) in
     let a = length-append (image_of (tlv t)) (h ++ l) in
     let b = length-append h l in
     let c : length h ≡ gap (size_of (tlv t)) = length-replicate (gap (size_of (tlv t))) None in
-    let e : length (image_of (tlv t)) ≡ size_of (tlv t) = p.0 in
+    let e = law t in
     a ∙ omega (arith, b, c, rest, e)
 
 list_image-push : {T : Type 0} (tlv : T → Tlv) (ts : List T) (t : T) → list_image tlv (ts ++ t ∷ []) ≡ list_image tlv ts ++ (holes (gap (list_size tlv ts)) ++ image_of (tlv t))
@@ -127,11 +123,11 @@ next_size tlv ts i t lt e =
     )
 
 -- the same for a list that can be written
-pub room_for : {T : Type 0} (tlv : T → Tlv) (is_encodable : T → Type 0) (ts : List T) (i : ℕ) (t : T) → IsListEncodable tlv is_encodable ts → i < length ts → t ≡ get_or ts i t
-    → is_encodable t × (list_size tlv (take (i + 1) ts) ≡ round_up_to_4 (list_size tlv (take i ts)) + size_of (tlv t)) × (list_size tlv (take (i + 1) ts) ≤ list_size tlv ts)
-room_for tlv is_encodable ts i t h lt e =
+pub room_for : {T : Type 0} (tlv : T → Tlv) (placed : T → Type 0) (ts : List T) (i : ℕ) (t : T) → IsListEncodable tlv placed ts → i < length ts → t ≡ get_or ts i t
+    → placed t × (list_size tlv (take (i + 1) ts) ≡ round_up_to_4 (list_size tlv (take i ts)) + size_of (tlv t)) × (list_size tlv (take (i + 1) ts) ≤ list_size tlv ts)
+room_for tlv placed ts i t h lt e =
     let n = next_size tlv ts i t lt e in
-    (subst is_encodable (sym e) (h.each i t lt), n.0, n.1)
+    (subst placed (sym e) (h.each i t lt), n.0, n.1)
 
 -- what follows for each item
 pub all_from : {T : Type 0} (P Q : T → Type 0) (ts : List T) → ((t : T) → P t → Q t) → AllByRecursion P ts → AllByRecursion Q ts
@@ -144,15 +140,14 @@ all_take P (suc i) [] h = tt
 all_take P (suc i) (t ∷ ts) h = (h.0, all_take P i ts h.1)
 
 -- one item more of a list is written
-pub written_more : {T : Type 0} (tlv : T → Tlv) (is_encodable : T → Type 0) (ts : List T) (i : ℕ) (t : T) (old out : List ℕ) (start : ℕ)
-    → ((x : T) → is_encodable x → length (image_of (tlv x)) ≡ size_of (tlv x)) → All is_encodable ts → i < length ts → t ≡ get_or ts i t
+pub written_more : {T : Type 0} (tlv : T → Tlv) (ts : List T) (i : ℕ) (t : T) (old out : List ℕ) (start : ℕ)
+    → ((x : T) → length (image_of (tlv x)) ≡ size_of (tlv x)) → i < length ts → t ≡ get_or ts i t
     → out ≡ written (list_image tlv (take i ts)) old → start ≡ round_up_to_4 (list_size tlv (take i ts))
     → take start out ++ written (image_of (tlv t)) (drop start out) ≡ written (list_image tlv (take (i + 1) ts)) old
-written_more tlv is_encodable ts i t old out start law each lt e so_far here =
+written_more tlv ts i t old out start law lt e so_far here =
     let before = list_image tlv (take i ts) in
     let size = list_size tlv (take i ts) in
-    let len : length before ≡ size =
-    length-list_image tlv (take i ts) (all_from is_encodable _ (take i ts) law (all_take is_encodable i ts (recursion_from_All is_encodable ts each))) in
+    let len : length before ≡ size = length-list_image tlv law (take i ts) in
     let more : take (i + 1) ts ≡ take i ts ++ t ∷ [] = take_more ts i t lt ∙ ap (λ (x : _). take i ts ++ x ∷ []) (sym e) in
     let place : start ≡ length before + gap size = here ∙ omega (arith, len) in
     written_next before (image_of (tlv t)) (gap size) start old out so_far place
@@ -160,10 +155,10 @@ written_more tlv is_encodable ts i t old out start law each lt e so_far here =
 
 -- ---- the test of a list
 
-pub not_total : {T : Type 0} (tlv : T → Tlv) (is_encodable : T → Type 0) (ts : List T) (i : ℕ) (t : T) (total : ℕ) → i < length ts → t ≡ get_or ts i t
-    → total ≡ list_size tlv (take i ts) → 65535 < round_up_to_4 total + size_of (tlv t) → IsListEncodable tlv is_encodable ts → ⊥
-not_total tlv is_encodable ts i t total lt e so_far big h =
-    let n = room_for tlv is_encodable ts i t h lt e in
+pub not_total : {T : Type 0} (tlv : T → Tlv) (placed : T → Type 0) (ts : List T) (i : ℕ) (t : T) (total : ℕ) → i < length ts → t ≡ get_or ts i t
+    → total ≡ list_size tlv (take i ts) → 65535 < round_up_to_4 total + size_of (tlv t) → IsListEncodable tlv placed ts → ⊥
+not_total tlv placed ts i t total lt e so_far big h =
+    let n = room_for tlv placed ts i t h lt e in
     let k = ap round_up_to_4 so_far in
     omega (arith, n.1, n.2, h.total, k, big)
 
@@ -178,9 +173,9 @@ all_more P ts i t lt e here before k d below = elim (cases_lt k i) [
   | inr le ↦ (let same : i ≡ k = omega arith in subst P (get_or_read ts i t lt e d ∙ ap (λ (j : ℕ). get_or ts j d) same) here)
 ]
 
-pub all_done : {T : Type 0} (tlv : T → Tlv) (is_encodable : T → Type 0) (ts : List T) (i total : ℕ) → length ts ≤ i → total ≡ list_size tlv (take i ts) → total < 2 ^ 16
-    → ((k : ℕ) (d : T) → k < i → is_encodable (get_or ts k d)) → IsListEncodable tlv is_encodable ts
-all_done tlv is_encodable ts i total le so_far small each =
+pub all_done : {T : Type 0} (tlv : T → Tlv) (placed : T → Type 0) (ts : List T) (i total : ℕ) → length ts ≤ i → total ≡ list_size tlv (take i ts) → total < 2 ^ 16
+    → ((k : ℕ) (d : T) → k < i → placed (get_or ts k d)) → IsListEncodable tlv placed ts
+all_done tlv placed ts i total le so_far small each =
     let whole : total ≡ list_size tlv ts = so_far ∙ ap (list_size tlv) (take_all i ts le) in
     record { each = λ k d lt. each k d (omega arith); total = omega (arith, whole) }
 

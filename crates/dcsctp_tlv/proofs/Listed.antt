@@ -1,16 +1,14 @@
 -- A list in a value: of the code's items, seen by what they mean.
-use Rattle.std.proofs.Common.{◌≡◌, ℕ, Bool, true, inr, ◌^◌, ◌<◌, ◌≤◌, List, [], ◌∷◌, ◌++◌, length, drop, refl, ap, ◌∙◌, arith, Option, Some}
+use Rattle.std.proofs.Common.{◌≡◌, ℕ, Bool, true, inr, ◌^◌, ◌<◌, ◌≤◌, List, [], ◌∷◌, ◌++◌, length, get_or, drop, refl, ap, ◌∙◌, arith, Option, Some}
 use Rattle.std.specs.Prelude.{map}
 use Rattle.std.proofs.lemmas.List.{length-append, length-map}
-use Rattle.std.proofs.lemmas.List.Elements.{All-from_recursion}
 use Rattle.dcsctp_tlv.specs.declared.error.ChunkParseError.{ChunkParseError}
 use Rattle.dcsctp_tlv.specs.declared.error.ChunkParseError.TheVariants.{InvalidLength, InvalidType, InvalidPadding, InvalidValue, OutOfMemory}
 use Rattle.dcsctp_tlv.specs.Level.{Level, HasFault, listed}
 use Rattle.dcsctp_tlv.specs.Reading.{IsFault}
-use Rattle.dcsctp_tlv.specs.Image.{solid, written, Tlv, size_of, image_of, IsEncodable, list_image, list_size, listed_tlv, IsListEncodable}
+use Rattle.dcsctp_tlv.specs.Image.{solid, written, Tlv, size_of, image_of, list_image, list_size, listed_tlv, IsListEncodable}
 use Rattle.dcsctp_tlv.specs.Length.{length-image_of}
-use Rattle.dcsctp_tlv.proofs.ReadsBack.{each_encodable}
-use Rattle.dcsctp_tlv.proofs.Images.{list_size-map, list_image-map, AreSized, length-list_image, all_from}
+use Rattle.dcsctp_tlv.proofs.Images.{list_size-map, list_image-map, length-list_image}
 
 module _ {A B : Type 0} (tlv : A → Tlv) (view : A → B) (tree_tlv : B → Tlv) (same : (x : A) → tlv x ≡ tree_tlv (view x)) where
   all_same : tlv ≡ (λ x. tree_tlv (view x))
@@ -23,11 +21,8 @@ module _ {A B : Type 0} (tlv : A → Tlv) (view : A → B) (tree_tlv : B → Tlv
   list_image-view xs = ap (λ (f : A → Tlv). list_image f xs) all_same ∙ list_image-map tree_tlv view xs
 
 -- a list whose size two bytes can hold can be written
-pub list_encodable : {A : Type 0} (tlv : A → Tlv) (is_encodable : A → Type 0) → ((x : A) → IsEncodable (tlv x) → is_encodable x) → (xs : List A) → list_size tlv xs < 2 ^ 16 → IsListEncodable tlv is_encodable xs
-list_encodable tlv is_encodable decides xs h = record {
-  each = All-from_recursion is_encodable xs (all_from (λ x. IsEncodable (tlv x)) is_encodable xs decides (each_encodable tlv xs h));
-  total = h;
-}
+pub list_encodable : {A : Type 0} (tlv : A → Tlv) (placed : A → Type 0) → ((x : A) → placed x) → (xs : List A) → list_size tlv xs < 2 ^ 16 → IsListEncodable tlv placed xs
+list_encodable tlv placed all xs h = record { each = λ i d lt. all (get_or xs i d); total = h }
 
 -- bytes at the front of a value, and after them an image
 pub written_front : (front : List ℕ) (image : List (Option ℕ)) (old : List ℕ) → length front ≤ length old → front ++ written image (drop (length front) old) ≡ written (solid front ++ image) old
@@ -49,16 +44,12 @@ listed_fault rule place level tree_of value InvalidValue h f = inr (h, f)
 -- ---- its length
 
 module _ {T : Type 0} (tlv : T → Tlv) (law : (t : T) → length (image_of (tlv t)) ≡ size_of (tlv t)) where
-  each_sized : (ts : List T) → AreSized tlv ts
-  each_sized [] = tt
-  each_sized (t ∷ ts) = (law t, each_sized ts)
-
   -- a value with a list has the size that is counted
   pub listed_sized : (first second : ℕ) (leading : List ℕ) (ts : List T) → length (listed_tlv first second leading tlv ts).value ≡ (listed_tlv first second leading tlv ts).value_size
   listed_sized first second leading ts =
       let whole = length-append (solid leading) (list_image tlv ts) in
       let front = length-map leading Some in
-      let back = length-list_image tlv ts (each_sized ts) in
+      let back = length-list_image tlv law ts in
       omega (arith, whole, front, back)
 
   pub length-listed_tlv : (first second : ℕ) (leading : List ℕ) (ts : List T) → length (image_of (listed_tlv first second leading tlv ts)) ≡ size_of (listed_tlv first second leading tlv ts)

@@ -14,6 +14,10 @@ pub record Format : Type 1 where
   -- the table can mean it
   pub IsWellFormed : Type 0
 
+-- how the values of a type are written, each as its format says
+abbrev pub tlv_by : {T : Type 0} → (T → Format) → T → Tlv
+tlv_by format x = (format x).tlv
+
 -- a chunk: its type, its flags, the size of its value, and the value (RFC 9260 section 3.2)
 abbrev pub flagged_tlv : ℕ → ℕ → ℕ → List ℕ → Tlv
 flagged_tlv typ flags size bytes =

@@ -79,10 +79,10 @@ listed_tlv first second leading tlv ts =
       value_size = length leading + list_size tlv ts;
     }
 
--- each item can be written, and two bytes can hold the size of the list
-pub record IsListEncodable {T : Type 0} (tlv : T → Tlv) (is_encodable : T → Type 0)
+-- what each item holds has a place in it, and two bytes can hold the size of the list
+pub record IsListEncodable {T : Type 0} (tlv : T → Tlv) (placed : T → Type 0)
     (ts : List T) : Type 0 where
-  pub each : All is_encodable ts
+  pub each : All placed ts
   pub total : list_size tlv ts < 2 ^ 16
 
 -- ---- outputs

@@ -3,6 +3,7 @@
 //! lists of error causes and of chunks too.
 
 ghost use Rattle.std.specs.Prelude.{◌≡◌, ◌≤◌, ◌<◌, ◌+◌, ◌^◌, ◌↔◌, length, map, IsTrue};
+ghost use Rattle.dcsctp_tlv.specs.Format.{tlv_by};
 ghost use Rattle.dcsctp_tlv.specs.Image.{written, image_of, size_of, IsEncodable, list_image, list_size, listed_tlv, IsListEncodable};
 
 use crate::frame::{MAX_VALUE_SIZE, TLV_HEADER_SIZE, put_header};
@@ -11,7 +12,7 @@ use crate::tlv::{ListedTlv, SerializableTlv};
 
 /// Each item can be written, and the list has at most 65,535 bytes.
 pub fn list_encodable<T: SerializableTlv>(list: &[T]) -> bool
-    ensures { IsTrue result ↔ IsListEncodable T.tlv T.is_encodable list.now }
+    ensures { IsTrue result ↔ IsListEncodable (tlv_by T.format) T.placed list.now }
 {
     let mut total: usize = 0;
     for item in list {
@@ -28,8 +29,8 @@ pub fn list_encodable<T: SerializableTlv>(list: &[T]) -> bool
 
 /// The bytes of the list, without padding after its last item.
 pub fn list_size<T: SerializableTlv>(list: &[T]) -> usize
-    requires { IsListEncodable T.tlv T.is_encodable list.now }
-    ensures { result ≡ list_size T.tlv list.now }
+    requires { IsListEncodable (tlv_by T.format) T.placed list.now }
+    ensures { result ≡ list_size (tlv_by T.format) list.now }
 {
     let mut size: usize = 0;
     for item in list {
@@ -41,9 +42,9 @@ pub fn list_size<T: SerializableTlv>(list: &[T]) -> usize
 /// Writes the list at the front of `output`. The bytes between items, and those past the list,
 /// stay as they stood.
 pub fn put_list<T: SerializableTlv>(list: &[T], output: &mut [u8])
-    requires encodable { IsListEncodable T.tlv T.is_encodable list.now }
-    requires room { list_size T.tlv list.now ≤ length output.old }
-    ensures { output.new ≡ written (list_image T.tlv list.now) output.old }
+    requires encodable { IsListEncodable (tlv_by T.format) T.placed list.now }
+    requires room { list_size (tlv_by T.format) list.now ≤ length output.old }
+    ensures { output.new ≡ written (list_image (tlv_by T.format) list.now) output.old }
 {
     let mut end: usize = 0;
     for item in list {

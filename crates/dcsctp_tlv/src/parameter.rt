@@ -22,10 +22,8 @@ pub mod unknown_parameter;
 pub mod zero_checksum_acceptable_parameter;
 
 ghost use Rattle.std.specs.Prelude.{◌≡◌, ◌≢◌, ◌≤◌, ◌*◌, [], length, vec_len, vec_capacity, IsOk, IfOk, IsErrOf, refl};
-ghost use Rattle.dcsctp_tlv.specs.Image.{IsEncodable};
 ghost use Rattle.dcsctp_tlv.specs.Level.{HasMeaning, MeansTrees, MeansSome, MeansMany, HasFault};
 ghost use Rattle.dcsctp_tlv.specs.Reading.{Answers, Finds, ChecksExactly, ReadsExactly};
-ghost use Rattle.dcsctp_tlv.specs.Length.{length-format};
 ghost use Rattle.dcsctp_tlv.specs.Parameter as parameter;
 ghost use Rattle.dcsctp_tlv.specs.Parameter.{ParameterTree, parameters, TakesNoMemory, view, views};
 
@@ -302,13 +300,7 @@ impl ReadableTlv for Parameter {
 }
 
 impl SerializableTlv for Parameter {
-    ghost tlv = { λ p. parameter.tlv (view p) };
-
-    ghost is_encodable = { λ p. IsEncodable (parameter.tlv (view p)) };
-
-    ghost image_length = { λ p fits. length-format (parameter.format (view p)) };
-
-    ghost size_bound = { λ p fits. fits };
+    ghost format = { λ p. parameter.format (view p) };
 
     fn serialize_to(&self, output: &mut [u8]) {
         each_kind!(self, p => p.serialize_to(output))
@@ -332,7 +324,7 @@ impl ListedTlv for Parameter {
 
     ghost same_tlv = { λ p. refl };
 
-    ghost size_decides = { λ p fits. fits };
+    ghost all_placed = { λ p. tt };
 }
 
 /// Reads all the bytes as a list of parameters; no bytes are the empty list.

@@ -1,47 +1,45 @@
 //! What can be written: chunks, parameters and error causes.
 
-ghost use Rattle.std.specs.Prelude.{◌≡◌, ◌≤◌, ◌<◌, ◌+◌, ◌^◌, ◌↔◌, length, IsTrue};
+ghost use Rattle.std.specs.Prelude.{◌≡◌, ◌≤◌, ◌+◌, ◌↔◌, length, IsTrue};
+ghost use Rattle.dcsctp_tlv.specs.Format.{Format};
 ghost use Rattle.dcsctp_tlv.specs.Image.{Tlv, size_of, image_of, IsEncodable, written};
 
 /// A chunk, a parameter or an error cause that can be sized and written.
 ///
 /// No call takes memory or is refused.
 pub trait SerializableTlv {
-    /// It as it is written.
-    ghost tlv: { Self → Tlv };
+    /// All that is said of it: how it is written, and how it is printed.
+    ghost format: { Self → Format };
 
-    /// It can be written.
-    ghost is_encodable: { Self → Type 0 };
+    /// All that it holds has a place in it. Only skipped streams can be without one.
+    ghost placed: { Self → Type 0 } = { λ _. Unit {0} };
 
     /// Writes it at the front of `output`: header and value. The bytes between the items of a
     /// list in it, and those past it, stay as they stood.
     fn serialize_to(&self, output: &mut [u8])
-        requires encodable { is_encodable self.now }
-        requires room { size_of (tlv self.now) ≤ length output.old }
-        ensures { output.new ≡ written (image_of (tlv self.now)) output.old };
+        requires placed { placed self.now }
+        requires encodable { IsEncodable (format self.now).tlv }
+        requires room { size_of (format self.now).tlv ≤ length output.old }
+        ensures { output.new ≡ written (image_of (format self.now).tlv) output.old };
 
     /// The bytes of its value.
     fn value_size(&self) -> usize
-        requires { is_encodable self.now }
-        ensures { 4 + result ≡ size_of (tlv self.now) };
+        requires placed { placed self.now }
+        requires encodable { IsEncodable (format self.now).tlv }
+        ensures { 4 + result ≡ size_of (format self.now).tlv };
 
     /// The bytes of its header and its value, without padding after it.
     fn serialized_size(&self) -> usize
-        requires { is_encodable self.now }
-        ensures { result ≡ size_of (tlv self.now) }
+        requires placed { placed self.now }
+        requires encodable { IsEncodable (format self.now).tlv }
+        ensures { result ≡ size_of (format self.now).tlv }
     {
         4 + self.value_size()
     }
 
-    /// It can be written: two bytes can hold its size.
+    /// It can be written: what it holds has a place, and two bytes can hold its size.
     fn encodable(&self) -> bool
-        ensures { IsTrue result ↔ is_encodable self.now };
-
-    /// An image is as long as the size.
-    ghost image_length: { (x : Self) → is_encodable x
-        → length (image_of (tlv x)) ≡ size_of (tlv x) };
-
-    ghost size_bound: { (x : Self) → is_encodable x → size_of (tlv x) < 2 ^ 16 };
+        ensures { IsTrue result ↔ (placed self.now × IsEncodable (format self.now).tlv) };
 }
 
 /// What a list in a chunk's value holds: parameters or error causes.
@@ -54,8 +52,8 @@ pub trait ListedTlv: SerializableTlv {
     /// What it means, as it is written.
     ghost tree_tlv: { Tree → Tlv };
 
-    ghost same_tlv: { (x : Self) → Self.tlv x ≡ tree_tlv (view x) };
+    ghost same_tlv: { (x : Self) → (Self.format x).tlv ≡ tree_tlv (view x) };
 
     /// Nothing but its size is asked of it.
-    ghost size_decides: { (x : Self) → IsEncodable (Self.tlv x) → Self.is_encodable x };
+    ghost all_placed: { (x : Self) → Self.placed x };
 }

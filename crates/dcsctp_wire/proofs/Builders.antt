@@ -6,7 +6,7 @@ use Rattle.std.proofs.Math.Seq.{take-append_seam, drop-append_seam}
 use Rattle.dcsctp_tlv.specs.Frame.{round_up_to_4}
 use Rattle.dcsctp_tlv.specs.Image.{zeroed, gap, written, size_of, image_of}
 use Rattle.dcsctp_tlv.proofs.Images.{written-zeros}
-use Rattle.dcsctp_wire.specs.Chunk.{ChunkTree, tlv as chunk_tlv, IsChunkEncodable, length-chunk, IsInWidth as IsChunkInWidth, IsWellFormed as IsChunkWellFormed, kept as kept_chunk, all_kept as kept_chunks}
+use Rattle.dcsctp_wire.specs.Chunk.{ChunkTree, tlv as chunk_tlv, IsChunkEncodable, IsInWidth as IsChunkInWidth, IsWellFormed as IsChunkWellFormed, kept as kept_chunk, all_kept as kept_chunks}
 use Rattle.dcsctp_wire.specs.Canonical.{canonical, padded_chunk, padded_size, Fits}
 use Rattle.dcsctp_wire.specs.Builder.{BuilderState, meaning_with, HoldsPacket, Holds, room, begun, checksummed, built}
 use Rattle.dcsctp_wire.specs.declared.packet.sctp_packet.ChecksumPolicy.{ChecksumPolicy}
@@ -14,7 +14,7 @@ use Rattle.dcsctp_wire.specs.Packet.{Meaning, checksum_field, IsAccepted, Answer
 use Rattle.dcsctp_wire.specs.WellFormed.{IsInWidth, IsWellFormed}
 use Rattle.dcsctp_tlv.proofs.Kept.{all_map}
 use Rattle.dcsctp_wire.proofs.KeptLaws.{canonical_kept, kept_encodable, kept_width}
-use Rattle.dcsctp_wire.proofs.Canonicals.{length-canonical, canonical-push, padded_size-push, padded_size-is, with_field, field_back, reads_back_with}
+use Rattle.dcsctp_wire.proofs.Canonicals.{length-chunk, length-canonical, canonical-push, padded_size-push, padded_size-is, with_field, field_back, reads_back_with}
 
 -- ---- one chunk's bytes
 

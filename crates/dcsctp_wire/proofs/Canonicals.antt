@@ -7,12 +7,13 @@ use Rattle.std.proofs.lemmas.Nat.{from_be_bytes-to_be_bytes_2, from_be_bytes-to_
 use Rattle.std.proofs.lemmas.Grind.{flat_map-append}
 use Rattle.std.proofs.lemmas.List.Elements.{recursion_from_All, All-from_recursion}
 use Rattle.dcsctp_tlv.specs.Frame.{round_up_to_4}
-use Rattle.dcsctp_tlv.specs.Image.{zeroed, gap, holes, written, size_of, image_of, list_image, list_size, IsListEncodable}
-use Rattle.dcsctp_tlv.proofs.Images.{list_size-map, list_image-map, length-list_image, AreSized, written-zeros, zeroed-append, zeroed-holes}
-use Rattle.dcsctp_tlv.proofs.ReadsBack.{body_reads_back}
+use Rattle.dcsctp_tlv.specs.Image.{zeroed, gap, holes, written, size_of, image_of, IsEncodable, list_image, list_size, IsListEncodable}
+use Rattle.dcsctp_tlv.specs.Length.{length-format}
+use Rattle.dcsctp_tlv.proofs.Images.{list_size-map, list_image-map, length-list_image, written-zeros, zeroed-append, zeroed-holes}
+use Rattle.dcsctp_tlv.proofs.ReadsBack.{body_reads_back, each_encodable}
 use Rattle.dcsctp_wire.specs.declared.packet.chunk.Chunk.{Chunk}
 use Rattle.dcsctp_wire.specs.declared.packet.sctp_packet.ChecksumPolicy.{ChecksumPolicy}
-use Rattle.dcsctp_wire.specs.Chunk.{ChunkTree, chunks, tlv as chunk_tlv, IsChunkEncodable, view, views, length-chunk, IsInWidth as IsChunkInWidth, IsWellFormed as IsChunkWellFormed}
+use Rattle.dcsctp_wire.specs.Chunk.{ChunkTree, chunks, tlv as chunk_tlv, format, IsPlaced, IsChunkEncodable, view, views, IsInWidth as IsChunkInWidth, IsWellFormed as IsChunkWellFormed}
 use Rattle.dcsctp_wire.specs.Packet.{Meaning, PacketTree, checksum_field, IsAccepted, disabled, Answer}
 use Rattle.dcsctp_wire.specs.Canonical.{padded_chunk, canonical, padded_size, Fits}
 use Rattle.dcsctp_wire.specs.WellFormed.{IsInWidth, IsWellFormed}
@@ -33,30 +34,32 @@ padded_size-is (t ∷ u ∷ ts) = ap (λ (n : ℕ). round_up_to_4 (size_of (chun
 pub size_views : (cs : List Chunk) → round_up_to_4 (list_size (λ c. chunk_tlv (view c)) cs) ≡ padded_size (views cs)
 size_views cs = ap round_up_to_4 (list_size-map chunk_tlv view cs) ∙ sym (padded_size-is (views cs))
 
-each_view : (cs : List Chunk) → AllByRecursion (λ c. IsChunkEncodable (view c)) cs → AllByRecursion IsChunkEncodable (views cs)
-each_view [] h = tt
-each_view (c ∷ cs) h = (h.0, each_view cs h.1)
+each_view : (cs : List Chunk) → AllByRecursion (λ c. IsPlaced (view c)) cs → AllByRecursion (λ t. IsEncodable (chunk_tlv t)) (views cs) → AllByRecursion IsChunkEncodable (views cs)
+each_view [] placed fits = tt
+each_view (c ∷ cs) placed fits = ((placed.0, fits.0), each_view cs placed.1 fits.1)
 
-each_chunk : (cs : List Chunk) → AllByRecursion IsChunkEncodable (views cs) → AllByRecursion (λ c. IsChunkEncodable (view c)) cs
-each_chunk [] h = tt
-each_chunk (c ∷ cs) h = (h.0, each_chunk cs h.1)
+each_placed : (cs : List Chunk) → AllByRecursion IsChunkEncodable (views cs) → AllByRecursion (λ c. IsPlaced (view c)) cs
+each_placed [] h = tt
+each_placed (c ∷ cs) h = (h.0.0, each_placed cs h.1)
 
-pub fits_from : (m : Meaning) (cs : List Chunk) → m.chunks ≡ views cs → IsListEncodable (λ c. chunk_tlv (view c)) (λ c. IsChunkEncodable (view c)) cs
+pub fits_from : (m : Meaning) (cs : List Chunk) → m.chunks ≡ views cs → IsListEncodable (λ c. chunk_tlv (view c)) (λ c. IsPlaced (view c)) cs
     → round_up_to_4 (list_size (λ c. chunk_tlv (view c)) cs) ≤ 65520 → Fits m
 fits_from m cs e h le =
     let s = size_views cs in
     record {
-      each = rw e (each_view cs (recursion_from_All (λ c. IsChunkEncodable (view c)) cs h.each));
+      each =
+          (let small = list_size-map chunk_tlv view cs in
+          rw e (each_view cs (recursion_from_All (λ c. IsPlaced (view c)) cs h.each) (each_encodable chunk_tlv (views cs) (omega (arith, small, h.total)))));
       whole = (let w = ap padded_size e in omega (arith, s, w, le));
     }
 
 pub fits_to : (m : Meaning) (cs : List Chunk) → m.chunks ≡ views cs → Fits m
-    → IsListEncodable (λ c. chunk_tlv (view c)) (λ c. IsChunkEncodable (view c)) cs × (round_up_to_4 (list_size (λ c. chunk_tlv (view c)) cs) ≤ 65520)
+    → IsListEncodable (λ c. chunk_tlv (view c)) (λ c. IsPlaced (view c)) cs × (round_up_to_4 (list_size (λ c. chunk_tlv (view c)) cs) ≤ 65520)
 fits_to m cs e f =
     let s = size_views cs in
     let w = ap padded_size e in (
       record {
-        each = All-from_recursion (λ c. IsChunkEncodable (view c)) cs (each_chunk cs (rw e at f.each));
+        each = All-from_recursion (λ c. IsPlaced (view c)) cs (each_placed cs (rw e at f.each));
         total = omega (arith, s, w, f.whole);
       },
       omega (arith, s, w, f.whole),
@@ -79,14 +82,14 @@ joined (t ∷ u ∷ ts) =
     ∙ append_assoc (padded_chunk t) (zeroed l) (replicate (gap n) 0)
     ∙ ap (λ (xs : List ℕ). padded_chunk t ++ xs) (joined (u ∷ ts))
 
-each_sized : (ts : List ChunkTree) → AreSized chunk_tlv ts
-each_sized [] = tt
-each_sized (t ∷ ts) = (length-chunk t, each_sized ts)
+-- an image is as long as its size
+pub length-chunk : (t : ChunkTree) → length (image_of (chunk_tlv t)) ≡ size_of (chunk_tlv t)
+length-chunk t = length-format (format t)
 
 pub body_is : (cs : List Chunk) (n : ℕ) → n ≡ padded_size (views cs) → written (list_image (λ c. chunk_tlv (view c)) cs) (replicate n 0) ≡ flat_map padded_chunk (views cs)
 body_is cs n e =
     let image = list_image chunk_tlv (views cs) in
-    let len = length-list_image chunk_tlv (views cs) (each_sized (views cs)) in
+    let len = length-list_image chunk_tlv length-chunk (views cs) in
     let w = padded_size-is (views cs) in
     let k : n - length image ≡ gap (list_size chunk_tlv (views cs)) = omega (arith, len, w, e) in
     ap (λ (i : List (Option ℕ)). written i (replicate n 0)) (list_image-map chunk_tlv view cs)
@@ -131,7 +134,7 @@ padded_size-push (u ∷ ts) t = let rest = padded_size-push ts t in omega (arith
 
 each_good : (ts : List ChunkTree) → AllByRecursion IsChunkInWidth ts → AllByRecursion IsChunkWellFormed ts → AllByRecursion IsChunkEncodable ts → AllByRecursion IsGood ts
 each_good [] w f e = tt
-each_good (t ∷ ts) w f e = (record { width = w.0; formed = f.0; encodable = e.0 }, each_good ts w.1 f.1 e.1)
+each_good (t ∷ ts) w f e = (record { width = w.0; formed = f.0; encodable = e.0.1 }, each_good ts w.1 f.1 e.1)
 
 four : (ts : List ChunkTree) → ts ≢ [] → 4 ≤ padded_size ts
 four [] some = absurd (some refl)

@@ -24,7 +24,7 @@ use Rattle.dcsctp_wire.specs.InitFields.{Tree as InitTree, row as init_row, IsIn
 use Rattle.dcsctp_wire.specs.ParameterList.{row as parameter_list_row, format as parameter_list_format}
 use Rattle.dcsctp_wire.specs.Abort.{Tree as AbortTree, row as abort_row, format as abort_format}
 use Rattle.dcsctp_wire.specs.Error.{row as error_row, format as error_format}
-use Rattle.dcsctp_wire.specs.Chunk.{ChunkTree, Data, Init, InitAck, Sack, HeartbeatRequest, HeartbeatAck, Abort, Shutdown, ShutdownAck, Error, CookieEcho, CookieAck, ShutdownComplete, ReConfig, ForwardTsn, IData, IForwardTsn, Unknown, table, chunks, chunk_row, format, tlv as chunk_tlv, IsChunkEncodable, encodable_size, IsInWidth as IsChunkInWidth, IsWellFormed as IsChunkWellFormed}
+use Rattle.dcsctp_wire.specs.Chunk.{ChunkTree, Data, Init, InitAck, Sack, HeartbeatRequest, HeartbeatAck, Abort, Shutdown, ShutdownAck, Error, CookieEcho, CookieAck, ShutdownComplete, ReConfig, ForwardTsn, IData, IForwardTsn, Unknown, table, chunks, chunk_row, format, tlv as chunk_tlv, IsInWidth as IsChunkInWidth, IsWellFormed as IsChunkWellFormed}
 
 -- ---- kinds with a list
 
@@ -110,7 +110,7 @@ error_means cs width formed fits = (
 pub record IsGood (t : ChunkTree) : Type 0 where
   pub width : IsChunkInWidth t
   pub formed : IsChunkWellFormed t
-  pub encodable : IsChunkEncodable t
+  pub encodable : IsEncodable (chunk_tlv t)
 
 unknown_means : (u : UnknownTree) → IsUnnamed (table u.flags) u.typ
     → (chunk_row u.typ u.flags).means (zeroed (chunk_tlv (Unknown u)).value) (Unknown u)
@@ -144,15 +144,15 @@ means (IData c) good = ap (map_ok IData) (idata_laws.back c good.width good.form
 means (ReConfig ps) good =
     (ps, parameter_list_means 130 ps good.width good.formed good.encodable, refl)
 means (ForwardTsn f) good =
-    ap (map_ok ForwardTsn) (forward_tsn_laws.back f good.width good.formed good.encodable.size)
+    ap (map_ok ForwardTsn) (forward_tsn_laws.back f good.width good.formed good.encodable)
 means (IForwardTsn f) good =
-    ap (map_ok IForwardTsn) (iforward_tsn_laws.back f good.width good.formed good.encodable.size)
+    ap (map_ok IForwardTsn) (iforward_tsn_laws.back f good.width good.formed good.encodable)
 means (Unknown u) good = unknown_means u good.formed
 
 pub chunks_read_back : ReadsBack chunks chunk_tlv IsGood
 chunks_read_back = record {
   sized = λ t. (format t).sized;
-  fits = λ t good. encodable_size t good.encodable;
+  fits = λ t good. good.encodable;
   means = means;
 }
 

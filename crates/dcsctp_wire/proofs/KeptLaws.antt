@@ -8,7 +8,7 @@ use Rattle.dcsctp_tlv.proofs.Kept.{listed_tlv-kept}
 use Rattle.dcsctp_tlv.proofs.ParameterLaws.{kept_parameter_tlv, kept_parameters_width}
 use Rattle.dcsctp_chunk.proofs.Laws.{data_kept_tlv, data_kept_width, idata_kept_tlv, idata_kept_width}
 use Rattle.dcsctp_wire.specs.InitFields.{Tree as InitTree, leading as init_numbers, IsInWidth as IsInitInWidth}
-use Rattle.dcsctp_wire.specs.Chunk.{ChunkTree, Data, Init, InitAck, HeartbeatRequest, HeartbeatAck, ReConfig, IData, tlv as chunk_tlv, IsChunkEncodable, IsInWidth as IsChunkInWidth, kept as kept_chunk, all_kept as kept_chunks}
+use Rattle.dcsctp_wire.specs.Chunk.{ChunkTree, Data, Init, InitAck, HeartbeatRequest, HeartbeatAck, ReConfig, IData, tlv as chunk_tlv, IsPlaced, IsChunkEncodable, IsInWidth as IsChunkInWidth, kept as kept_chunk, all_kept as kept_chunks}
 use Rattle.dcsctp_wire.specs.Canonical.{canonical, padded_chunk}
 use Rattle.dcsctp_wire.specs.Packet.{Meaning}
 
@@ -47,15 +47,12 @@ unfolding canonical
 canonical_kept m =
     ap (λ (chunks : List ℕ). canonical (record m { chunks = [] }) ++ chunks) (body_kept m.chunks)
 
+kept_placed : (t : ChunkTree) → IsPlaced t → IsPlaced (kept_chunk t)
+kept_placed (Data c) h = h
+kept_placed t h = h
+
 pub kept_encodable : (t : ChunkTree) → IsChunkEncodable t → IsChunkEncodable (kept_chunk t)
-kept_encodable (Data c) h = subst IsEncodable (sym (kept_tlv (Data c))) h
-kept_encodable (Init i) h = subst IsEncodable (sym (kept_tlv (Init i))) h
-kept_encodable (InitAck i) h = subst IsEncodable (sym (kept_tlv (InitAck i))) h
-kept_encodable (HeartbeatRequest ps) h = subst IsEncodable (sym (kept_tlv (HeartbeatRequest ps))) h
-kept_encodable (HeartbeatAck ps) h = subst IsEncodable (sym (kept_tlv (HeartbeatAck ps))) h
-kept_encodable (IData c) h = subst IsEncodable (sym (kept_tlv (IData c))) h
-kept_encodable (ReConfig ps) h = subst IsEncodable (sym (kept_tlv (ReConfig ps))) h
-kept_encodable t h = h
+kept_encodable t h = (kept_placed t h.0, subst IsEncodable (sym (kept_tlv t)) h.1)
 
 -- ---- it is in width
 

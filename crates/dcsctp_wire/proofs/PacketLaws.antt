@@ -15,7 +15,7 @@ use Rattle.dcsctp_tlv.proofs.Local.{local_means, local_fault}
 use Rattle.dcsctp_wire.specs.declared.packet.sctp_packet.ChecksumPolicy.{ChecksumPolicy}
 use Rattle.dcsctp_wire.specs.declared.packet.sctp_packet.PacketParseError.{PacketParseError}
 use Rattle.dcsctp_wire.specs.declared.packet.sctp_packet.SctpPacket.{SctpPacket}
-use Rattle.dcsctp_wire.specs.Chunk.{ChunkTree, ForwardTsn, IForwardTsn, chunks, tlv as chunk_tlv, IsChunkEncodable, IsWellFormed as IsChunkWellFormed, parts as chunk_parts}
+use Rattle.dcsctp_wire.specs.Chunk.{ChunkTree, ForwardTsn, IForwardTsn, chunks, tlv as chunk_tlv, IsPlaced, IsChunkEncodable, IsWellFormed as IsChunkWellFormed, parts as chunk_parts}
 use Rattle.dcsctp_wire.specs.Packet.{PacketTree, HasPacketSize, body, IsOpened, MeansPacket, Chunk, packet_with, Answer, Reads, packet_view}
 use Rattle.dcsctp_wire.specs.Canonical.{padded_size}
 use Rattle.dcsctp_wire.specs.WellFormed.{IsWellFormed}
@@ -40,14 +40,14 @@ packet_formed bytes p size m = record {
 
 -- ---- the size account
 
-encodable : (t : ChunkTree) → IsChunkWellFormed t → IsEncodable (chunk_tlv t) → IsChunkEncodable t
-encodable (ForwardTsn f) formed fits = record { kinds = formed; size = fits }
-encodable (IForwardTsn f) formed fits = record { kinds = formed; size = fits }
-encodable t formed fits = fits
+placed : (t : ChunkTree) → IsChunkWellFormed t → IsPlaced t
+placed (ForwardTsn f) formed = formed
+placed (IForwardTsn f) formed = formed
+placed t formed = tt
 
 each_chunk : (ts : List ChunkTree) → AllByRecursion IsChunkWellFormed ts → AllByRecursion (λ t. IsEncodable (chunk_tlv t)) ts → AllByRecursion IsChunkEncodable ts
 each_chunk [] formed fits = tt
-each_chunk (t ∷ ts) formed fits = (encodable t formed.0 fits.0, each_chunk ts formed.1 fits.1)
+each_chunk (t ∷ ts) formed fits = ((placed t formed.0, fits.0), each_chunk ts formed.1 fits.1)
 
 whole_size : (written read all : ℕ) → SameSpace written read → read ≡ all - 12 → 16 ≤ all → 12 + round_up_to_4 written ≡ round_up_to_4 all
 whole_size written read all same e low = omega (arith, same.up, e, low)

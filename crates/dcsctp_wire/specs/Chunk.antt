@@ -3,9 +3,8 @@ use Rattle.std.specs.Prelude.{◌≡◌, ◌⊎◌, ℕ, ◌+◌, Bool, List, []
 use Rattle.dcsctp_tlv.specs.Frame.{lenient}
 use Rattle.dcsctp_tlv.specs.Level.{Row, plain, as_row, Level, map_ok}
 use Rattle.dcsctp_tlv.specs.Table.{Named, named, row_of, IsUnnamed}
-use Rattle.dcsctp_tlv.specs.Image.{Tlv, size_of, image_of, IsEncodable}
+use Rattle.dcsctp_tlv.specs.Image.{Tlv, IsEncodable}
 use Rattle.dcsctp_tlv.specs.Format.{Format}
-use Rattle.dcsctp_tlv.specs.Length.{length-format}
 use Rattle.dcsctp_tlv.specs.Parameter.{ParameterTree, all_kept as kept_parameters}
 use Rattle.dcsctp_cause.specs.Cause.{CauseTree}
 use Rattle.dcsctp_chunk.specs as plain_kind
@@ -111,11 +110,15 @@ IsInWidth t = (format t).IsInWidth
 abbrev pub IsWellFormed : ChunkTree → Type 0
 IsWellFormed t = (format t).IsWellFormed
 
--- It can be written: two bytes can hold its size, and skipped streams have a place in it.
+-- the skipped streams have a place in it
+abbrev pub IsPlaced : ChunkTree → Type 0
+IsPlaced (ForwardTsn f) = IsWellFormed (ForwardTsn f)
+IsPlaced (IForwardTsn f) = IsWellFormed (IForwardTsn f)
+IsPlaced t = Unit {0}
+
+-- it can be written: that, and two bytes can hold its size
 abbrev pub IsChunkEncodable : ChunkTree → Type 0
-IsChunkEncodable (ForwardTsn f) = skipped_streams.IsEncodable (plain_kind.ForwardTsn.format f)
-IsChunkEncodable (IForwardTsn f) = skipped_streams.IsEncodable (plain_kind.IForwardTsn.format f)
-IsChunkEncodable t = IsEncodable (tlv t)
+IsChunkEncodable t = IsPlaced t × IsEncodable (tlv t)
 
 -- What a chunk that is written reads back as: fields that a kind doesn't carry are zero; a response
 -- with fewer than two next TSNs has none.
@@ -166,12 +169,3 @@ view (variant.Unknown c) = Unknown (plain_kind.Unknown.view c)
 
 abbrev pub views : List Chunk → List ChunkTree
 views cs = map view cs
-
-pub encodable_size : (t : ChunkTree) → IsChunkEncodable t → IsEncodable (tlv t)
-encodable_size (ForwardTsn f) h = h.size
-encodable_size (IForwardTsn f) h = h.size
-encodable_size t h = h
-
--- an image is as long as its size
-pub length-chunk : (t : ChunkTree) → length (image_of (tlv t)) ≡ size_of (tlv t)
-length-chunk t = length-format (format t)

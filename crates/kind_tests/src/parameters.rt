@@ -1,8 +1,7 @@
 //! Each kind of parameter, and lists of them.
 
 ghost use Rattle.std.specs.Int.{w32, to_be_bytes};
-ghost use Rattle.dcsctp_tlv.specs.Image.{typed_tlv, IsEncodable};
-ghost use Rattle.dcsctp_tlv.specs.Length.{length-typed_tlv};
+ghost use Rattle.dcsctp_tlv.specs.UnknownParameter as unknown;
 
 use crate::help::{
     Kind, Listed, first_printed, is_kept, is_list_told, is_told, list_rewritten, list_told,
@@ -521,13 +520,8 @@ fn sizes(rt: HostRuntime) -> Result<(), Fail> {
 struct Number(u32);
 
 impl SerializableTlv for Number {
-    ghost tlv = { λ n. typed_tlv 66 (to_be_bytes w32 n.0) };
-
-    ghost is_encodable = { λ n. IsEncodable (typed_tlv 66 (to_be_bytes w32 n.0)) };
-
-    ghost image_length = { λ n fits. length-typed_tlv 66 (to_be_bytes w32 n.0) };
-
-    ghost size_bound = { λ n fits. fits };
+    /// An unknown parameter of that type is written alike.
+    ghost format = { λ n. unknown.format (record { typ = 66; value = to_be_bytes w32 n.0 }) };
 
     fn serialize_to(&self, output: &mut [u8]) {
         put_parameter(66, &self.0.to_be_bytes(), output);

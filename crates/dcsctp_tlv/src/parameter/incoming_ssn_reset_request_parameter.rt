@@ -13,8 +13,6 @@
 //! ```
 
 ghost use Rattle.std.specs.Prelude.{◌≡◌, ◌≢◌, ◌↔◌, Some, IsOk, IsErrOf};
-ghost use Rattle.dcsctp_tlv.specs.Image.{IsEncodable};
-ghost use Rattle.dcsctp_tlv.specs.Length.{length-format};
 ghost use Rattle.dcsctp_tlv.specs.Reading.{Gives, IfMeant, Passes, Builds};
 ghost use Rattle.dcsctp_tlv.specs.IncomingSsnResetRequest as kind;
 
@@ -90,13 +88,7 @@ impl IncomingSsnResetRequestParameter {
 }
 
 impl SerializableTlv for IncomingSsnResetRequestParameter {
-    ghost tlv = { λ p. (kind.format (kind.view p)).tlv };
-
-    ghost is_encodable = { λ p. IsEncodable (kind.format (kind.view p)).tlv };
-
-    ghost image_length = { λ p fits. length-format (kind.format (kind.view p)) };
-
-    ghost size_bound = { λ p fits. fits };
+    ghost format = { λ p. kind.format (kind.view p) };
 
     fn serialize_to(&self, output: &mut [u8]) {
         let leading = [self.request_seq_nbr];

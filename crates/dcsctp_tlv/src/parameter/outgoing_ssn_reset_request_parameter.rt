@@ -17,8 +17,6 @@
 //! ```
 
 ghost use Rattle.std.specs.Prelude.{◌≡◌, ◌≢◌, ◌↔◌, Some, IsOk, IsErrOf};
-ghost use Rattle.dcsctp_tlv.specs.Image.{IsEncodable};
-ghost use Rattle.dcsctp_tlv.specs.Length.{length-format};
 ghost use Rattle.dcsctp_tlv.specs.Reading.{Gives, IfMeant, Passes, Builds};
 ghost use Rattle.dcsctp_tlv.specs.OutgoingSsnResetRequest as kind;
 
@@ -101,13 +99,7 @@ impl OutgoingSsnResetRequestParameter {
 }
 
 impl SerializableTlv for OutgoingSsnResetRequestParameter {
-    ghost tlv = { λ p. (kind.format (kind.view p)).tlv };
-
-    ghost is_encodable = { λ p. IsEncodable (kind.format (kind.view p)).tlv };
-
-    ghost image_length = { λ p fits. length-format (kind.format (kind.view p)) };
-
-    ghost size_bound = { λ p fits. fits };
+    ghost format = { λ p. kind.format (kind.view p) };
 
     fn serialize_to(&self, output: &mut [u8]) {
         let leading = [

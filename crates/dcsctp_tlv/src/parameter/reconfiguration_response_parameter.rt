@@ -17,8 +17,6 @@
 //! ```
 
 ghost use Rattle.std.specs.Prelude.{◌≡◌, ◌≢◌, ◌↔◌, ◌≤◌, Some, Ok, IsOk, IsErrOf};
-ghost use Rattle.dcsctp_tlv.specs.Image.{IsEncodable};
-ghost use Rattle.dcsctp_tlv.specs.Length.{length-format};
 ghost use Rattle.dcsctp_tlv.specs.Reading.{Gives, Never, Passes};
 ghost use Rattle.dcsctp_tlv.specs.ReconfigurationResponse as kind;
 ghost use Rattle.dcsctp_tlv.specs.ReconfigurationResponse.{result_of, result_number};
@@ -161,13 +159,7 @@ impl ReconfigurationResponseParameter {
 }
 
 impl SerializableTlv for ReconfigurationResponseParameter {
-    ghost tlv = { λ p. (kind.format (kind.view p)).tlv };
-
-    ghost is_encodable = { λ p. IsEncodable (kind.format (kind.view p)).tlv };
-
-    ghost image_length = { λ p fits. length-format (kind.format (kind.view p)) };
-
-    ghost size_bound = { λ p fits. fits };
+    ghost format = { λ p. kind.format (kind.view p) };
 
     fn serialize_to(&self, output: &mut [u8]) {
         let leading = [self.response_seq_nbr, self.result.number()];

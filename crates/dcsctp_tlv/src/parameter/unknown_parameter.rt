@@ -11,9 +11,7 @@
 //! ```
 
 ghost use Rattle.std.specs.Prelude.{◌≡◌, Some};
-ghost use Rattle.dcsctp_tlv.specs.Image.{IsEncodable};
 ghost use Rattle.dcsctp_tlv.specs.Reading.{Gives, IfMeant, Builds};
-ghost use Rattle.dcsctp_tlv.specs.Length.{length-format};
 ghost use Rattle.dcsctp_tlv.specs.UnknownParameter as kind;
 
 use crate::error::ChunkParseError;
@@ -62,13 +60,7 @@ impl UnknownParameter {
 }
 
 impl SerializableTlv for UnknownParameter {
-    ghost tlv = { λ p. (kind.format (kind.view p)).tlv };
-
-    ghost is_encodable = { λ p. IsEncodable (kind.format (kind.view p)).tlv };
-
-    ghost image_length = { λ p fits. length-format (kind.format (kind.view p)) };
-
-    ghost size_bound = { λ p fits. fits };
+    ghost format = { λ p. kind.format (kind.view p) };
 
     fn serialize_to(&self, output: &mut [u8]) {
         put_parameter(self.typ, &self.value, output);

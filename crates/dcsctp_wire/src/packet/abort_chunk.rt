@@ -11,11 +11,9 @@
 //! ```
 
 ghost use Rattle.std.specs.Prelude.{◌≡◌, ◌≢◌, ◌↔◌, ◌≤◌, ◌+◌, ◌*◌, ℕ, [], ◌∷◌, false, length, Some, IsOk, IfOk, IsErrOf};
-ghost use Rattle.dcsctp_tlv.specs.Image.{IsEncodable};
 ghost use Rattle.dcsctp_tlv.specs.Level.{HasMeaning, MeansParts};
 ghost use Rattle.dcsctp_tlv.specs.Reading.{Answers, Finds, ReadsExactly};
-ghost use Rattle.dcsctp_tlv.specs.Length.{length-format};
-ghost use Rattle.dcsctp_wire.specs.Abort.{row as abort_row, format, view as abort_view};
+ghost use Rattle.dcsctp_wire.specs.Abort as kind;
 
 use dcsctp_cause::error_causes::{ErrorCause, error_cause_build, error_cause_check};
 use dcsctp_chunk::flags::{is_set, one_flag};
@@ -58,14 +56,14 @@ impl AbortChunk {
     pub fn try_from(alloc: Global, raw: RawChunk) -> Result<Self, ChunkParseError>
         ensures other { IsErrOf result ChunkParseError.InvalidType ↔ (raw.entry.typ ≢ CHUNK_TYPE) }
         ensures own { raw.entry.typ ≡ CHUNK_TYPE
-            → Answers result (λ c. (abort_row raw.entry.flags).means raw.entry.value.now
-            (abort_view c)) ((abort_row raw.entry.flags).faults raw.entry.value.now) }
+            → Answers result (λ c. (kind.row raw.entry.flags).means raw.entry.value.now
+            (kind.view c)) ((kind.row raw.entry.flags).faults raw.entry.value.now) }
         ensures memory { IsErrOf result ChunkParseError.OutOfMemory
-            → HasMeaning (abort_row raw.entry.flags) raw.entry.value.now
+            → HasMeaning (kind.row raw.entry.flags) raw.entry.value.now
             × (raw.entry.value.now ≢ []) }
-        ensures exact { raw.entry.typ ≡ CHUNK_TYPE → ReadsExactly result abort_view
-            ((abort_row raw.entry.flags).means raw.entry.value.now)
-            ((abort_row raw.entry.flags).faults raw.entry.value.now) }
+        ensures exact { raw.entry.typ ≡ CHUNK_TYPE → ReadsExactly result kind.view
+            ((kind.row raw.entry.flags).means raw.entry.value.now)
+            ((kind.row raw.entry.flags).faults raw.entry.value.now) }
     {
         if raw.typ != CHUNK_TYPE {
             return Err(ChunkParseError::InvalidType);
@@ -75,12 +73,12 @@ impl AbortChunk {
 
     /// Checks the value, and builds what it means.
     fn read(alloc: Global, flags: u8, value: &[u8]) -> Result<Self, ChunkParseError>
-        ensures answer { Answers result (λ c. (abort_row flags).means value.now (abort_view c))
-            ((abort_row flags).faults value.now) }
+        ensures answer { Answers result (λ c. (kind.row flags).means value.now (kind.view c))
+            ((kind.row flags).faults value.now) }
         ensures memory { IsErrOf result ChunkParseError.OutOfMemory →
-            HasMeaning (abort_row flags) value.now × (value.now ≢ []) }
-        ensures exact { ReadsExactly result abort_view
-            ((abort_row flags).means value.now) ((abort_row flags).faults value.now) }
+            HasMeaning (kind.row flags) value.now × (value.now ≢ []) }
+        ensures exact { ReadsExactly result kind.view
+            ((kind.row flags).means value.now) ((kind.row flags).faults value.now) }
     {
         AbortChunk::check(value)?;
         Ok(AbortChunk::build(alloc, flags, value)?)
@@ -90,8 +88,8 @@ impl AbortChunk {
     /// takes no memory.
     pub(crate) fn check(value: &[u8]) -> Result<usize, ChunkParseError>
         ensures found { (flags : ℕ) → Finds result
-            (MeansParts (λ a. 1 + length a.causes) (abort_row flags) value.now)
-            ((abort_row flags).faults value.now) }
+            (MeansParts (λ a. 1 + length a.causes) (kind.row flags) value.now)
+            ((kind.row flags).faults value.now) }
         ensures few { IfOk result (λ n. 4 * n ≤ 4 + length value.now) }
     {
         let count = error_cause_check(value)?;
@@ -100,8 +98,8 @@ impl AbortChunk {
 
     /// What the value means, under these flags.
     pub(crate) fn build(alloc: Global, flags: u8, value: &[u8]) -> Result<Self, AllocError>
-        requires { HasMeaning (abort_row flags) value.now }
-        ensures meant { IfOk result (λ c. (abort_row flags).means value.now (abort_view c)) }
+        requires { HasMeaning (kind.row flags) value.now }
+        ensures meant { IfOk result (λ c. (kind.row flags).means value.now (kind.view c)) }
         ensures empty { value.now ≡ [] → IsOk result }
     {
         Ok(AbortChunk {
@@ -112,13 +110,7 @@ impl AbortChunk {
 }
 
 impl SerializableTlv for AbortChunk {
-    ghost tlv = { λ c. (format (abort_view c)).tlv };
-
-    ghost is_encodable = { λ c. IsEncodable (format (abort_view c)).tlv };
-
-    ghost image_length = { λ c fits. length-format (format (abort_view c)) };
-
-    ghost size_bound = { λ c fits. fits };
+    ghost format = { λ c. kind.format (kind.view c) };
 
     fn serialize_to(&self, output: &mut [u8]) {
         let flags = one_flag(self.tag_reflected);
@@ -135,7 +127,7 @@ impl SerializableTlv for AbortChunk {
 }
 
 impl fmt::Display for AbortChunk {
-    ghost output = { λ c. Some (format (abort_view c)).text };
+    ghost output = { λ c. Some (kind.format (kind.view c)).text };
 
     fn fmt<W: fmt::Write>(&self, f: &mut fmt::Formatter<W>) -> fmt::Result {
         let tag_reflected = self.tag_reflected;

@@ -3,7 +3,8 @@
 ghost use Rattle.std.specs.Prelude.{◌≡◌, ◌≢◌, ◌<◌, ◌+◌, [], Some, IsOk, IfOk, IsErrOf, vec_len, vec_capacity};
 ghost use Rattle.dcsctp_tlv.specs.Level.{HasMeaning, Grows};
 ghost use Rattle.dcsctp_tlv.specs.Reading.{Answers, ReadsExactly};
-ghost use Rattle.dcsctp_wire.specs.Chunk.{parts as chunk_parts, ChunkTree, chunk_row, chunks, TakesNoMemory, tlv as chunk_tlv, IsChunkEncodable, text as chunk_text, view, encodable_size, length-chunk};
+ghost use Rattle.dcsctp_wire.specs.Chunk as chunk;
+ghost use Rattle.dcsctp_wire.specs.Chunk.{parts as chunk_parts, ChunkTree, chunk_row, chunks, TakesNoMemory, IsPlaced, text as chunk_text, view};
 
 use crate::packet::abort_chunk::{self, AbortChunk};
 use crate::packet::cookie_ack_chunk::{self, CookieAckChunk};
@@ -332,13 +333,10 @@ impl ReadableTlv for Chunk {
 }
 
 impl SerializableTlv for Chunk {
-    ghost tlv = { λ c. chunk_tlv (view c) };
+    ghost format = { λ c. chunk.format (view c) };
 
-    ghost is_encodable = { λ c. IsChunkEncodable (view c) };
-
-    ghost image_length = { λ c fits. length-chunk (view c) };
-
-    ghost size_bound = { λ c fits. encodable_size (view c) fits };
+    /// Its skipped streams have a place.
+    ghost placed = { λ c. IsPlaced (view c) };
 
     fn serialize_to(&self, output: &mut [u8]) {
         each_kind!(self, c => c.serialize_to(output))

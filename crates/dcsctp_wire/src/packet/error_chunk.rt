@@ -11,11 +11,9 @@
 //! ```
 
 ghost use Rattle.std.specs.Prelude.{◌≡◌, ◌≢◌, ◌↔◌, ◌≤◌, ◌+◌, ◌*◌, [], length, Some, IfOk, IsErrOf};
-ghost use Rattle.dcsctp_tlv.specs.Image.{IsEncodable};
 ghost use Rattle.dcsctp_tlv.specs.Level.{HasMeaning, MeansParts};
 ghost use Rattle.dcsctp_tlv.specs.Reading.{Answers, Finds, ReadsExactly};
-ghost use Rattle.dcsctp_tlv.specs.Length.{length-format};
-ghost use Rattle.dcsctp_wire.specs.Error.{row as error_row, format, view as error_view};
+ghost use Rattle.dcsctp_wire.specs.Error as kind;
 
 use dcsctp_cause::error_causes::{ErrorCause, error_cause_build, error_cause_check};
 use dcsctp_chunk::raw_chunk::RawChunk;
@@ -57,12 +55,12 @@ impl ErrorChunk {
     pub fn try_from(alloc: Global, raw: RawChunk) -> Result<Self, ChunkParseError>
         ensures other { IsErrOf result ChunkParseError.InvalidType ↔ (raw.entry.typ ≢ CHUNK_TYPE) }
         ensures own { raw.entry.typ ≡ CHUNK_TYPE
-            → Answers result (λ c. error_row.means raw.entry.value.now (error_view c))
-            (error_row.faults raw.entry.value.now) }
+            → Answers result (λ c. kind.row.means raw.entry.value.now (kind.view c))
+            (kind.row.faults raw.entry.value.now) }
         ensures memory { IsErrOf result ChunkParseError.OutOfMemory
-            → HasMeaning error_row raw.entry.value.now }
-        ensures exact { raw.entry.typ ≡ CHUNK_TYPE → ReadsExactly result error_view
-            (error_row.means raw.entry.value.now) (error_row.faults raw.entry.value.now) }
+            → HasMeaning kind.row raw.entry.value.now }
+        ensures exact { raw.entry.typ ≡ CHUNK_TYPE → ReadsExactly result kind.view
+            (kind.row.means raw.entry.value.now) (kind.row.faults raw.entry.value.now) }
     {
         if raw.typ != CHUNK_TYPE {
             return Err(ChunkParseError::InvalidType);
@@ -72,12 +70,12 @@ impl ErrorChunk {
 
     /// Checks the value, and builds what it means.
     fn read(alloc: Global, value: &[u8]) -> Result<Self, ChunkParseError>
-        ensures answer { Answers result (λ c. error_row.means value.now (error_view c))
-            (error_row.faults value.now) }
+        ensures answer { Answers result (λ c. kind.row.means value.now (kind.view c))
+            (kind.row.faults value.now) }
         ensures memory { IsErrOf result ChunkParseError.OutOfMemory →
-            HasMeaning error_row value.now }
-        ensures exact { ReadsExactly result error_view
-            (error_row.means value.now) (error_row.faults value.now) }
+            HasMeaning kind.row value.now }
+        ensures exact { ReadsExactly result kind.view
+            (kind.row.means value.now) (kind.row.faults value.now) }
     {
         ErrorChunk::check(value)?;
         Ok(ErrorChunk::build(alloc, value)?)
@@ -86,8 +84,8 @@ impl ErrorChunk {
     /// The number of parts: the chunk and its causes. `InvalidLength` where there are no causes;
     /// else the first fault of these from the left. It takes no memory.
     pub(crate) fn check(value: &[u8]) -> Result<usize, ChunkParseError>
-        ensures found { Finds result (MeansParts (λ cs. 1 + length cs) error_row value.now)
-            (error_row.faults value.now) }
+        ensures found { Finds result (MeansParts (λ cs. 1 + length cs) kind.row value.now)
+            (kind.row.faults value.now) }
         ensures few { IfOk result (λ n. 4 * n ≤ 4 + length value.now) }
     {
         if value.is_empty() {
@@ -99,8 +97,8 @@ impl ErrorChunk {
 
     /// What the value means.
     pub(crate) fn build(alloc: Global, value: &[u8]) -> Result<Self, AllocError>
-        requires { HasMeaning error_row value.now }
-        ensures { IfOk result (λ c. error_row.means value.now (error_view c)) }
+        requires { HasMeaning kind.row value.now }
+        ensures { IfOk result (λ c. kind.row.means value.now (kind.view c)) }
     {
         Ok(ErrorChunk {
             error_causes: error_cause_build(alloc, value)?,
@@ -109,13 +107,7 @@ impl ErrorChunk {
 }
 
 impl SerializableTlv for ErrorChunk {
-    ghost tlv = { λ c. (format (error_view c)).tlv };
-
-    ghost is_encodable = { λ c. IsEncodable (format (error_view c)).tlv };
-
-    ghost image_length = { λ c fits. length-format (format (error_view c)) };
-
-    ghost size_bound = { λ c fits. fits };
+    ghost format = { λ c. kind.format (kind.view c) };
 
     fn serialize_to(&self, output: &mut [u8]) {
         put_listed(CHUNK_TYPE, 0, &[], &self.error_causes, output);
@@ -131,7 +123,7 @@ impl SerializableTlv for ErrorChunk {
 }
 
 impl fmt::Display for ErrorChunk {
-    ghost output = { λ c. Some (format (error_view c)).text };
+    ghost output = { λ c. Some (kind.format (kind.view c)).text };
 
     fn fmt<W: fmt::Write>(&self, f: &mut fmt::Formatter<W>) -> fmt::Result {
         write!(f, "ERROR")

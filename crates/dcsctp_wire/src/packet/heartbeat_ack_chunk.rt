@@ -11,12 +11,10 @@
 //! ```
 
 ghost use Rattle.std.specs.Prelude.{◌≡◌, ◌≢◌, ◌↔◌, [], Some, IsOk, IfOk, IsErrOf};
-ghost use Rattle.dcsctp_tlv.specs.Image.{IsEncodable};
 ghost use Rattle.dcsctp_tlv.specs.Level.{HasMeaning};
 ghost use Rattle.dcsctp_tlv.specs.Reading.{Answers, ReadsExactly};
-ghost use Rattle.dcsctp_tlv.specs.Length.{length-format};
-ghost use Rattle.dcsctp_wire.specs.HeartbeatAck.{format, view as heartbeat_ack_view};
-ghost use Rattle.dcsctp_wire.specs.ParameterList.{row as parameter_list_row};
+ghost use Rattle.dcsctp_wire.specs.HeartbeatAck as kind;
+ghost use Rattle.dcsctp_wire.specs.ParameterList as parameter_list;
 
 use crate::packet::parameter_list::parameter_list_check;
 use dcsctp_chunk::raw_chunk::RawChunk;
@@ -57,13 +55,13 @@ impl HeartbeatAckChunk {
     pub fn try_from(alloc: Global, raw: RawChunk) -> Result<Self, ChunkParseError>
         ensures other { IsErrOf result ChunkParseError.InvalidType ↔ (raw.entry.typ ≢ CHUNK_TYPE) }
         ensures own { raw.entry.typ ≡ CHUNK_TYPE
-            → Answers result (λ c. parameter_list_row.means raw.entry.value.now
-            (heartbeat_ack_view c)) (parameter_list_row.faults raw.entry.value.now) }
+            → Answers result (λ c. parameter_list.row.means raw.entry.value.now
+            (kind.view c)) (parameter_list.row.faults raw.entry.value.now) }
         ensures memory { IsErrOf result ChunkParseError.OutOfMemory
-            → HasMeaning parameter_list_row raw.entry.value.now × (raw.entry.value.now ≢ []) }
-        ensures exact { raw.entry.typ ≡ CHUNK_TYPE → ReadsExactly result heartbeat_ack_view
-            (parameter_list_row.means raw.entry.value.now)
-            (parameter_list_row.faults raw.entry.value.now) }
+            → HasMeaning parameter_list.row raw.entry.value.now × (raw.entry.value.now ≢ []) }
+        ensures exact { raw.entry.typ ≡ CHUNK_TYPE → ReadsExactly result kind.view
+            (parameter_list.row.means raw.entry.value.now)
+            (parameter_list.row.faults raw.entry.value.now) }
     {
         if raw.typ != CHUNK_TYPE {
             return Err(ChunkParseError::InvalidType);
@@ -74,12 +72,12 @@ impl HeartbeatAckChunk {
     /// Checks the value, and builds what it means.
     fn read(alloc: Global, value: &[u8]) -> Result<Self, ChunkParseError>
         ensures answer { Answers result
-            (λ c. parameter_list_row.means value.now (heartbeat_ack_view c))
-            (parameter_list_row.faults value.now) }
+            (λ c. parameter_list.row.means value.now (kind.view c))
+            (parameter_list.row.faults value.now) }
         ensures memory { IsErrOf result ChunkParseError.OutOfMemory →
-            HasMeaning parameter_list_row value.now × (value.now ≢ []) }
-        ensures exact { ReadsExactly result heartbeat_ack_view
-            (parameter_list_row.means value.now) (parameter_list_row.faults value.now) }
+            HasMeaning parameter_list.row value.now × (value.now ≢ []) }
+        ensures exact { ReadsExactly result kind.view
+            (parameter_list.row.means value.now) (parameter_list.row.faults value.now) }
     {
         parameter_list_check(value)?;
         Ok(HeartbeatAckChunk::build(alloc, value)?)
@@ -87,9 +85,9 @@ impl HeartbeatAckChunk {
 
     /// What the value means.
     pub(crate) fn build(alloc: Global, value: &[u8]) -> Result<Self, AllocError>
-        requires { HasMeaning parameter_list_row value.now }
-        ensures meant { IfOk result (λ c. parameter_list_row.means value.now
-            (heartbeat_ack_view c)) }
+        requires { HasMeaning parameter_list.row value.now }
+        ensures meant { IfOk result (λ c. parameter_list.row.means value.now
+            (kind.view c)) }
         ensures empty { value.now ≡ [] → IsOk result }
     {
         Ok(HeartbeatAckChunk {
@@ -99,13 +97,7 @@ impl HeartbeatAckChunk {
 }
 
 impl SerializableTlv for HeartbeatAckChunk {
-    ghost tlv = { λ c. (format (heartbeat_ack_view c)).tlv };
-
-    ghost is_encodable = { λ c. IsEncodable (format (heartbeat_ack_view c)).tlv };
-
-    ghost image_length = { λ c fits. length-format (format (heartbeat_ack_view c)) };
-
-    ghost size_bound = { λ c fits. fits };
+    ghost format = { λ c. kind.format (kind.view c) };
 
     fn serialize_to(&self, output: &mut [u8]) {
         put_listed(CHUNK_TYPE, 0, &[], &self.parameters, output);
@@ -121,7 +113,7 @@ impl SerializableTlv for HeartbeatAckChunk {
 }
 
 impl fmt::Display for HeartbeatAckChunk {
-    ghost output = { λ c. Some (format (heartbeat_ack_view c)).text };
+    ghost output = { λ c. Some (kind.format (kind.view c)).text };
 
     fn fmt<W: fmt::Write>(&self, f: &mut fmt::Formatter<W>) -> fmt::Result {
         write!(f, "HEARTBEAT-ACK")

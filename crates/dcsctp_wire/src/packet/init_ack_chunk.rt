@@ -19,12 +19,10 @@
 //! ```
 
 ghost use Rattle.std.specs.Prelude.{◌≡◌, ◌≢◌, ◌↔◌, [], drop, Some, IsOk, IfOk, IsErrOf};
-ghost use Rattle.dcsctp_tlv.specs.Image.{IsEncodable};
 ghost use Rattle.dcsctp_tlv.specs.Level.{HasMeaning};
 ghost use Rattle.dcsctp_tlv.specs.Reading.{Answers, ReadsExactly};
-ghost use Rattle.dcsctp_tlv.specs.Length.{length-format};
-ghost use Rattle.dcsctp_wire.specs.InitAck.{format, view as init_ack_view};
-ghost use Rattle.dcsctp_wire.specs.InitFields.{row as init_row, view as init_fields_view};
+ghost use Rattle.dcsctp_wire.specs.InitAck as kind;
+ghost use Rattle.dcsctp_wire.specs.InitFields as init_fields;
 
 use crate::packet::init::{FIXED_SIZE, InitFields, init_build, init_bytes, init_check};
 use dcsctp_chunk::raw_chunk::RawChunk;
@@ -65,12 +63,12 @@ impl InitAckChunk {
     pub fn try_from(alloc: Global, raw: RawChunk) -> Result<Self, ChunkParseError>
         ensures other { IsErrOf result ChunkParseError.InvalidType ↔ (raw.entry.typ ≢ CHUNK_TYPE) }
         ensures own { raw.entry.typ ≡ CHUNK_TYPE
-            → Answers result (λ c. init_row.means raw.entry.value.now (init_ack_view c))
-            (init_row.faults raw.entry.value.now) }
+            → Answers result (λ c. init_fields.row.means raw.entry.value.now (kind.view c))
+            (init_fields.row.faults raw.entry.value.now) }
         ensures memory { IsErrOf result ChunkParseError.OutOfMemory
-            → HasMeaning init_row raw.entry.value.now × (drop 16 raw.entry.value.now ≢ []) }
-        ensures exact { raw.entry.typ ≡ CHUNK_TYPE → ReadsExactly result init_ack_view
-            (init_row.means raw.entry.value.now) (init_row.faults raw.entry.value.now) }
+            → HasMeaning init_fields.row raw.entry.value.now × (drop 16 raw.entry.value.now ≢ []) }
+        ensures exact { raw.entry.typ ≡ CHUNK_TYPE → ReadsExactly result kind.view
+            (init_fields.row.means raw.entry.value.now) (init_fields.row.faults raw.entry.value.now) }
     {
         if raw.typ != CHUNK_TYPE {
             return Err(ChunkParseError::InvalidType);
@@ -80,12 +78,12 @@ impl InitAckChunk {
 
     /// Checks the value, and builds what it means.
     fn read(alloc: Global, value: &[u8]) -> Result<Self, ChunkParseError>
-        ensures answer { Answers result (λ c. init_row.means value.now (init_ack_view c))
-            (init_row.faults value.now) }
+        ensures answer { Answers result (λ c. init_fields.row.means value.now (kind.view c))
+            (init_fields.row.faults value.now) }
         ensures memory { IsErrOf result ChunkParseError.OutOfMemory →
-            HasMeaning init_row value.now × (drop 16 value.now ≢ []) }
-        ensures exact { ReadsExactly result init_ack_view
-            (init_row.means value.now) (init_row.faults value.now) }
+            HasMeaning init_fields.row value.now × (drop 16 value.now ≢ []) }
+        ensures exact { ReadsExactly result kind.view
+            (init_fields.row.means value.now) (init_fields.row.faults value.now) }
     {
         init_check(value)?;
         Ok(InitAckChunk::build(alloc, value)?)
@@ -93,8 +91,8 @@ impl InitAckChunk {
 
     /// What the value means.
     pub(crate) fn build(alloc: Global, value: &[u8]) -> Result<Self, AllocError>
-        requires { HasMeaning init_row value.now }
-        ensures meant { IfOk result (λ c. init_row.means value.now (init_ack_view c)) }
+        requires { HasMeaning init_fields.row value.now }
+        ensures meant { IfOk result (λ c. init_fields.row.means value.now (kind.view c)) }
         ensures empty { drop 16 value.now ≡ [] → IsOk result }
     {
         Ok(InitAckChunk::of_fields(init_build(alloc, value)?))
@@ -102,7 +100,7 @@ impl InitAckChunk {
 
     /// The chunk that holds these.
     pub(crate) fn of_fields(fields: InitFields) -> Self
-        ensures { init_ack_view result ≡ init_fields_view fields }
+        ensures { kind.view result ≡ init_fields.view fields }
     {
         InitAckChunk {
             initiate_tag: fields.initiate_tag,
@@ -116,13 +114,7 @@ impl InitAckChunk {
 }
 
 impl SerializableTlv for InitAckChunk {
-    ghost tlv = { λ c. (format (init_ack_view c)).tlv };
-
-    ghost is_encodable = { λ c. IsEncodable (format (init_ack_view c)).tlv };
-
-    ghost image_length = { λ c fits. length-format (format (init_ack_view c)) };
-
-    ghost size_bound = { λ c fits. fits };
+    ghost format = { λ c. kind.format (kind.view c) };
 
     fn serialize_to(&self, output: &mut [u8]) {
         let numbers = init_bytes(
@@ -145,7 +137,7 @@ impl SerializableTlv for InitAckChunk {
 }
 
 impl fmt::Display for InitAckChunk {
-    ghost output = { λ c. Some (format (init_ack_view c)).text };
+    ghost output = { λ c. Some (kind.format (kind.view c)).text };
 
     fn fmt<W: fmt::Write>(&self, f: &mut fmt::Formatter<W>) -> fmt::Result {
         let tag = self.initiate_tag;

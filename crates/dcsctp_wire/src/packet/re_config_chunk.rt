@@ -11,12 +11,10 @@
 //! ```
 
 ghost use Rattle.std.specs.Prelude.{◌≡◌, ◌≢◌, ◌↔◌, [], Some, IsOk, IfOk, IsErrOf};
-ghost use Rattle.dcsctp_tlv.specs.Image.{IsEncodable};
 ghost use Rattle.dcsctp_tlv.specs.Level.{HasMeaning};
 ghost use Rattle.dcsctp_tlv.specs.Reading.{Answers, ReadsExactly};
-ghost use Rattle.dcsctp_tlv.specs.Length.{length-format};
-ghost use Rattle.dcsctp_wire.specs.ReConfig.{format, view as re_config_view};
-ghost use Rattle.dcsctp_wire.specs.ParameterList.{row as parameter_list_row};
+ghost use Rattle.dcsctp_wire.specs.ReConfig as kind;
+ghost use Rattle.dcsctp_wire.specs.ParameterList as parameter_list;
 
 use crate::packet::parameter_list::parameter_list_check;
 use dcsctp_chunk::raw_chunk::RawChunk;
@@ -54,13 +52,13 @@ impl ReConfigChunk {
     pub fn try_from(alloc: Global, raw: RawChunk) -> Result<Self, ChunkParseError>
         ensures other { IsErrOf result ChunkParseError.InvalidType ↔ (raw.entry.typ ≢ CHUNK_TYPE) }
         ensures own { raw.entry.typ ≡ CHUNK_TYPE
-            → Answers result (λ c. parameter_list_row.means raw.entry.value.now (re_config_view c))
-            (parameter_list_row.faults raw.entry.value.now) }
+            → Answers result (λ c. parameter_list.row.means raw.entry.value.now (kind.view c))
+            (parameter_list.row.faults raw.entry.value.now) }
         ensures memory { IsErrOf result ChunkParseError.OutOfMemory
-            → HasMeaning parameter_list_row raw.entry.value.now × (raw.entry.value.now ≢ []) }
-        ensures exact { raw.entry.typ ≡ CHUNK_TYPE → ReadsExactly result re_config_view
-            (parameter_list_row.means raw.entry.value.now)
-            (parameter_list_row.faults raw.entry.value.now) }
+            → HasMeaning parameter_list.row raw.entry.value.now × (raw.entry.value.now ≢ []) }
+        ensures exact { raw.entry.typ ≡ CHUNK_TYPE → ReadsExactly result kind.view
+            (parameter_list.row.means raw.entry.value.now)
+            (parameter_list.row.faults raw.entry.value.now) }
     {
         if raw.typ != CHUNK_TYPE {
             return Err(ChunkParseError::InvalidType);
@@ -70,12 +68,12 @@ impl ReConfigChunk {
 
     /// Checks the value, and builds what it means.
     fn read(alloc: Global, value: &[u8]) -> Result<Self, ChunkParseError>
-        ensures answer { Answers result (λ c. parameter_list_row.means value.now (re_config_view c))
-            (parameter_list_row.faults value.now) }
+        ensures answer { Answers result (λ c. parameter_list.row.means value.now (kind.view c))
+            (parameter_list.row.faults value.now) }
         ensures memory { IsErrOf result ChunkParseError.OutOfMemory →
-            HasMeaning parameter_list_row value.now × (value.now ≢ []) }
-        ensures exact { ReadsExactly result re_config_view
-            (parameter_list_row.means value.now) (parameter_list_row.faults value.now) }
+            HasMeaning parameter_list.row value.now × (value.now ≢ []) }
+        ensures exact { ReadsExactly result kind.view
+            (parameter_list.row.means value.now) (parameter_list.row.faults value.now) }
     {
         parameter_list_check(value)?;
         Ok(ReConfigChunk::build(alloc, value)?)
@@ -83,8 +81,8 @@ impl ReConfigChunk {
 
     /// What the value means.
     pub(crate) fn build(alloc: Global, value: &[u8]) -> Result<Self, AllocError>
-        requires { HasMeaning parameter_list_row value.now }
-        ensures meant { IfOk result (λ c. parameter_list_row.means value.now (re_config_view c)) }
+        requires { HasMeaning parameter_list.row value.now }
+        ensures meant { IfOk result (λ c. parameter_list.row.means value.now (kind.view c)) }
         ensures empty { value.now ≡ [] → IsOk result }
     {
         Ok(ReConfigChunk {
@@ -94,13 +92,7 @@ impl ReConfigChunk {
 }
 
 impl SerializableTlv for ReConfigChunk {
-    ghost tlv = { λ c. (format (re_config_view c)).tlv };
-
-    ghost is_encodable = { λ c. IsEncodable (format (re_config_view c)).tlv };
-
-    ghost image_length = { λ c fits. length-format (format (re_config_view c)) };
-
-    ghost size_bound = { λ c fits. fits };
+    ghost format = { λ c. kind.format (kind.view c) };
 
     fn serialize_to(&self, output: &mut [u8]) {
         put_listed(CHUNK_TYPE, 0, &[], &self.parameters, output);
@@ -116,7 +108,7 @@ impl SerializableTlv for ReConfigChunk {
 }
 
 impl fmt::Display for ReConfigChunk {
-    ghost output = { λ c. Some (format (re_config_view c)).text };
+    ghost output = { λ c. Some (kind.format (kind.view c)).text };
 
     fn fmt<W: fmt::Write>(&self, f: &mut fmt::Formatter<W>) -> fmt::Result {
         write!(f, "RE-CONFIG")

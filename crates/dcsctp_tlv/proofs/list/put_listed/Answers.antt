@@ -1,5 +1,6 @@
 use Rattle.std.proofs.Common.{arith, ap, ◌∙◌, ◌≡◌, ◌++◌, ℕ, List, length, drop}
 use Rattle.std.specs.Prelude.{map}
+use Rattle.dcsctp_tlv.specs.Format.{tlv_by}
 use Rattle.dcsctp_tlv.specs.Frame.{header}
 use Rattle.dcsctp_tlv.specs.Image.{solid, written, listed_tlv, list_image}
 use Rattle.dcsctp_tlv.proofs.Images.{written_item}
@@ -11,12 +12,12 @@ put_list-requires-clause-encodable g c =
     let s = g.T.SerializableTlv in
     let l = g.T.ListedTlv in
     let law = g.met.T.ListedTlv in
-    let size = list_size-view s.tlv l.view l.tree_tlv law.same_tlv c.args.list.now in
-    list_encodable s.tlv s.is_encodable law.size_decides c.args.list.now (omega (arith, size, c.requires.encodable))
+    let size = list_size-view (tlv_by s.format) l.view l.tree_tlv law.same_tlv c.args.list.now in
+    list_encodable (tlv_by s.format) s.placed law.all_placed c.args.list.now (omega (arith, size, c.requires.encodable))
 
 pub put_list-requires-clause-room : goal.put_list-requires-clause-room
 put_list-requires-clause-room g c =
-    let size = list_size-view g.T.SerializableTlv.tlv g.T.ListedTlv.view g.T.ListedTlv.tree_tlv g.met.T.ListedTlv.same_tlv c.args.list.now in
+    let size = list_size-view (tlv_by g.T.SerializableTlv.format) g.T.ListedTlv.view g.T.ListedTlv.tree_tlv g.met.T.ListedTlv.same_tlv c.args.list.now in
     omega (arith, size, c.requires.room, c.put_header.auto.output, c.split_at_mut-value.ensures.back_len, c.split_at_mut-front.ensures.back_len)
 
 pub returns : goal.returns
@@ -29,7 +30,7 @@ returns g c =
     let image = list_image g.T.ListedTlv.tree_tlv trees in
     let list : c.put_list.new.output ≡ written image (drop (length front) value) =
     c.put_list.ensures
-    ∙ ap (λ (i : _). written i c.split_at_mut-front.result.1.now) (list_image-view g.T.SerializableTlv.tlv g.T.ListedTlv.view g.T.ListedTlv.tree_tlv g.met.T.ListedTlv.same_tlv c.args.list.now)
+    ∙ ap (λ (i : _). written i c.split_at_mut-front.result.1.now) (list_image-view (tlv_by g.T.SerializableTlv.format) g.T.ListedTlv.view g.T.ListedTlv.tree_tlv g.met.T.ListedTlv.same_tlv c.args.list.now)
     ∙ ap (written image) c.split_at_mut-front.ensures.back in
     let whole : front ++ c.put_list.new.output ≡ written (solid front ++ image) value =
     ap (λ (xs : List ℕ). front ++ xs) list ∙ written_front front image value (omega (arith, c.requires.room, c.put_header.auto.output, c.split_at_mut-value.ensures.back_len)) in
