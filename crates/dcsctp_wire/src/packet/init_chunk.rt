@@ -68,7 +68,8 @@ impl InitChunk {
         ensures memory { IsErrOf result ChunkParseError.OutOfMemory
             → HasMeaning init_fields.row raw.entry.value.now × (drop 16 raw.entry.value.now ≢ []) }
         ensures exact { raw.entry.typ ≡ CHUNK_TYPE → ReadsExactly result kind.view
-            (init_fields.row.means raw.entry.value.now) (init_fields.row.faults raw.entry.value.now) }
+            (init_fields.row.means raw.entry.value.now)
+            (init_fields.row.faults raw.entry.value.now) }
     {
         if raw.typ != CHUNK_TYPE {
             return Err(ChunkParseError::InvalidType);
