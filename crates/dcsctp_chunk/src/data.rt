@@ -1,7 +1,6 @@
 //! User data, as DATA and I-DATA chunks hold it.
 
-ghost use Rattle.std.specs.Prelude.{◌≡◌, ◌≤◌, ◌+◌, IfOk, length};
-ghost use Rattle.dcsctp_tlv.specs.Image.{put};
+ghost use Rattle.std.specs.Prelude.{◌≡◌, IfOk};
 ghost use Rattle.dcsctp_chunk.specs.Data.{user_data_view, no_data, user_data_flags, order_text, part_text};
 
 use crate::flags::four_flags;
@@ -102,14 +101,4 @@ impl Data {
             (false, false) => "middle",
         }
     }
-}
-
-/// Writes the payload at a place; all other bytes stay.
-pub(crate) fn put_payload(output: &mut [u8], place: usize, payload: &[u8])
-    requires { place + length payload.now ≤ length output.old }
-    ensures { output.new ≡ put output.old place payload.now }
-{
-    let (_, rest) = output.split_at_mut(place);
-    let (front, _) = rest.split_at_mut(payload.len());
-    front.copy_from_slice(payload);
 }

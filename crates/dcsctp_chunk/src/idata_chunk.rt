@@ -23,11 +23,11 @@ ghost use Rattle.dcsctp_tlv.specs.Reading.{Gives, IfMeant, Passes, Builds};
 ghost use Rattle.dcsctp_chunk.specs.Data.{user_data_view};
 ghost use Rattle.dcsctp_chunk.specs.IDataChunk as kind;
 
-use crate::data::{Data, put_payload};
+use crate::data::Data;
 use crate::flags::is_set;
 use crate::raw_chunk::RawChunk;
 use dcsctp_tlv::error::ChunkParseError;
-use dcsctp_tlv::frame::{MAX_VALUE_SIZE, TLV_HEADER_SIZE, put_header};
+use dcsctp_tlv::frame::{MAX_VALUE_SIZE, TLV_HEADER_SIZE, put_solid_after};
 use dcsctp_tlv::number::{put_u16, put_u32, read_u16_be, read_u32_be};
 use dcsctp_tlv::tlv::SerializableTlv;
 use dcsctp_types::api::{PpId, StreamId};
@@ -39,10 +39,10 @@ use std::fmt;
 pub const CHUNK_TYPE: u8 = 64;
 
 /// Bytes of an I-DATA chunk before its payload.
-pub const HEADER_SIZE: usize = 20;
+pub const HEADER_SIZE: usize = TLV_HEADER_SIZE + FIXED_SIZE;
 
 /// Bytes of the value before the payload.
-const FIXED_SIZE: usize = HEADER_SIZE - TLV_HEADER_SIZE;
+const FIXED_SIZE: usize = 16;
 
 /// I-DATA (RFC 8260 section 2.1).
 ///
@@ -134,21 +134,34 @@ impl IDataChunk {
             immediate_ack: is_set(flags, 3),
         })
     }
+
+    /// The value ahead of its payload, as it is written.
+    fn fixed(&self) -> [u8; FIXED_SIZE]
+        ensures { result ≡ kind.fixed (kind.view self.now) }
+    {
+        let content = &self.user_data;
+        let mut bytes = [0; FIXED_SIZE];
+        put_u32(&mut bytes, 0, self.tsn.0);
+        put_u16(&mut bytes, 4, content.stream_key.id().0);
+        put_u16(&mut bytes, 6, 0);
+        put_u32(&mut bytes, 8, content.mid.0);
+        put_u32(&mut bytes, 12, ppid_or_fsn(content));
+        bytes
+    }
 }
 
 impl SerializableTlv for IDataChunk {
     ghost format = { λ c. kind.format (kind.view c) };
 
     fn serialize_to(&self, output: &mut [u8]) {
-        let content = &self.user_data;
-        let flags = content.flags(self.immediate_ack);
-        put_header(CHUNK_TYPE, flags, self.value_size(), output);
-        put_u32(output, 4, self.tsn.0);
-        put_u16(output, 8, content.stream_key.id().0);
-        put_u16(output, 10, 0);
-        put_u32(output, 12, content.mid.0);
-        put_u32(output, 16, ppid_or_fsn(content));
-        put_payload(output, HEADER_SIZE, &content.payload);
+        let flags = self.user_data.flags(self.immediate_ack);
+        put_solid_after(
+            CHUNK_TYPE,
+            flags,
+            &self.fixed(),
+            &self.user_data.payload,
+            output,
+        );
     }
 
     fn value_size(&self) -> usize {

@@ -18,16 +18,14 @@
 //! +-+-+-+-+-+-+-+-+-+-+-+-+-+-+-+-+-+-+-+-+-+-+-+-+-+-+-+-+-+-+-+-+
 //! ```
 
-ghost use Rattle.std.specs.Prelude.{◌≡◌, ◌≢◌, ◌↔◌, ◌≤◌, ◌+◌, ◌++◌, [], ◌∷◌, Some, IsOk, IsErrOf, length, refl};
-ghost use Rattle.std.specs.Int.{w16, w32};
-ghost use Rattle.dcsctp_tlv.specs.Number.{numbers};
+ghost use Rattle.std.specs.Prelude.{◌≡◌, ◌≢◌, ◌↔◌, ◌<◌, ◌^◌, Some, IsOk, IsErrOf, length, refl};
 ghost use Rattle.dcsctp_tlv.specs.Reading.{Gives, IfMeant, Passes, Builds};
 ghost use Rattle.dcsctp_chunk.specs.Sack as kind;
 
 use crate::raw_chunk::RawChunk;
 use dcsctp_tlv::error::ChunkParseError;
 use dcsctp_tlv::fields::{Field, fields_from_bytes, put_fields};
-use dcsctp_tlv::frame::{MAX_VALUE_SIZE, TLV_HEADER_SIZE, put_header};
+use dcsctp_tlv::frame::{MAX_VALUE_SIZE, TLV_HEADER_SIZE, put_bytes, put_header};
 use dcsctp_tlv::number::{put_u16, put_u32, read_u16_be, read_u32_be, write_u16_be};
 use dcsctp_tlv::tlv::SerializableTlv;
 use dcsctp_types::types::Tsn;
@@ -158,6 +156,20 @@ impl SackChunk {
             duplicate_tsns: fields_from_bytes::<Tsn>(alloc, &value[after_blocks..], duplicates)?,
         })
     }
+
+    /// The value ahead of its lists, as it is written.
+    fn fixed(&self) -> [u8; FIXED_SIZE]
+        requires blocks { length self.now.gap_ack_blocks.items < 2 ^ 16 }
+        requires duplicates { length self.now.duplicate_tsns.items < 2 ^ 16 }
+        ensures { result ≡ kind.fixed (kind.view self.now) }
+    {
+        let mut bytes = [0; FIXED_SIZE];
+        put_u32(&mut bytes, 0, self.cumulative_tsn_ack.0);
+        put_u32(&mut bytes, 4, self.a_rwnd);
+        put_u16(&mut bytes, 8, self.gap_ack_blocks.len() as u16);
+        put_u16(&mut bytes, 10, self.duplicate_tsns.len() as u16);
+        bytes
+    }
 }
 
 #[tactic(auto, using(crate::proofs::Sacks::count_of_duplicates))]
@@ -165,16 +177,12 @@ impl SerializableTlv for SackChunk {
     ghost format = { λ c. kind.format (kind.view c) };
 
     fn serialize_to(&self, output: &mut [u8]) {
-        let blocks = self.gap_ack_blocks.len();
-        let duplicates = self.duplicate_tsns.len();
         put_header(CHUNK_TYPE, 0, self.value_size(), output);
-        put_u32(output, TLV_HEADER_SIZE, self.cumulative_tsn_ack.0);
-        put_u32(output, TLV_HEADER_SIZE + 4, self.a_rwnd);
-        put_u16(output, TLV_HEADER_SIZE + 8, blocks as u16);
-        put_u16(output, TLV_HEADER_SIZE + 10, duplicates as u16);
+        put_bytes(output, TLV_HEADER_SIZE, &self.fixed());
         let place = TLV_HEADER_SIZE + FIXED_SIZE;
         put_fields::<GapAckBlock>(output, place, &self.gap_ack_blocks);
-        put_fields::<Tsn>(output, place + 4 * blocks, &self.duplicate_tsns);
+        let after_blocks = place + 4 * self.gap_ack_blocks.len();
+        put_fields::<Tsn>(output, after_blocks, &self.duplicate_tsns);
     }
 
     fn value_size(&self) -> usize {

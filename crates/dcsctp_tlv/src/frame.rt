@@ -2,7 +2,8 @@
 
 ghost use Rattle.std.specs.Prelude.{◌≡◌, ◌≤◌, ◌<◌, ◌+◌, ◌^◌, ◌++◌, ◌↔◌, length, drop, IsOk, IfOk, IfErr};
 ghost use Rattle.dcsctp_tlv.specs.Frame.{padding_size, header, BeginsWithFrame, frame_value, frame_padding, frame_rest};
-ghost use Rattle.dcsctp_tlv.specs.Image.{solid_tlv, typed_tlv, image_of, written};
+ghost use Rattle.dcsctp_tlv.specs.Format.{flagged_tlv};
+ghost use Rattle.dcsctp_tlv.specs.Image.{put, solid_tlv, typed_tlv, image_of, written};
 ghost use Rattle.dcsctp_tlv.specs.declared.error.ChunkParseError.TheVariants.{InvalidLength};
 
 use crate::error::ChunkParseError;
@@ -69,6 +70,16 @@ pub fn put_header(first: u8, second: u8, value_size: usize, output: &mut [u8])
     write_u16_be(&mut output[2..], 4 + value_size as u16);
 }
 
+/// Writes the bytes at a place; all others stay.
+pub fn put_bytes(output: &mut [u8], place: usize, bytes: &[u8])
+    requires { place + length bytes.now ≤ length output.old }
+    ensures { output.new ≡ put output.old place bytes.now }
+{
+    let (_, rest) = output.split_at_mut(place);
+    let (front, _) = rest.split_at_mut(bytes.len());
+    front.copy_from_slice(bytes);
+}
+
 /// Writes an item whose value is these bytes.
 pub fn put_solid(first: u8, second: u8, value: &[u8], output: &mut [u8])
     requires encodable { 4 + length value.now < 2 ^ 16 }
@@ -76,9 +87,19 @@ pub fn put_solid(first: u8, second: u8, value: &[u8], output: &mut [u8])
     ensures { output.new ≡ written (image_of (solid_tlv first second value.now)) output.old }
 {
     put_header(first, second, value.len(), output);
-    let (_, rest) = output.split_at_mut(TLV_HEADER_SIZE);
-    let (front, _) = rest.split_at_mut(value.len());
-    front.copy_from_slice(value);
+    put_bytes(output, TLV_HEADER_SIZE, value);
+}
+
+/// Writes an item whose value is two runs of bytes, one after the other.
+pub fn put_solid_after(first: u8, second: u8, front: &[u8], rest: &[u8], output: &mut [u8])
+    requires encodable { 4 + (length front.now + length rest.now) < 2 ^ 16 }
+    requires room { 4 + (length front.now + length rest.now) ≤ length output.old }
+    ensures { output.new ≡ written (image_of (flagged_tlv first second
+        (length front.now + length rest.now) (front.now ++ rest.now))) output.old }
+{
+    put_header(first, second, front.len() + rest.len(), output);
+    put_bytes(output, TLV_HEADER_SIZE, front);
+    put_bytes(output, TLV_HEADER_SIZE + front.len(), rest);
 }
 
 /// Writes a parameter or an error cause whose value is these bytes.

@@ -1,7 +1,7 @@
 use Rattle.std.proofs.Common.{◌≡◌, ◌+◌, ◌*◌, ℕ, length, ap, ◌∙◌, arith, map}
-use Rattle.std.specs.Int.{w16, w32, to_be_bytes}
+use Rattle.std.specs.Int.{w32}
 use Rattle.std.specs.List.{flat_map}
-use Rattle.std.proofs.lemmas.List.{length-map, map-id}
+use Rattle.std.proofs.lemmas.List.{map-id}
 use Rattle.dcsctp_tlv.specs.Image.{put}
 use Rattle.dcsctp_tlv.specs.Number.{numbers}
 use Rattle.dcsctp_chunk.specs.declared.sack_chunk.GapAckBlock.{GapAckBlock}
@@ -13,14 +13,11 @@ pub returns : goal.returns
 returns c =
     let s = view c.args.self.now in
     let bs = c.args.self.now.gap_ack_blocks.items in
-    let ts = c.args.self.now.duplicate_tsns.items in
-    let blocks : c.len-blocks.result ≡ length bs = omega (arith, c.len-blocks.ensures) in
-    let duplicates : c.len-duplicates.result ≡ length s.duplicates = (let l = length-map ts (λ tsn. tsn.0) in omega (arith, c.len-duplicates.ensures, l)) in
+    let blocks : c.len.result ≡ length bs = omega (arith, c.len.ensures) in
     let block_list : flat_map block_bytes (map (λ (b : GapAckBlock). b) c.deref.result.now) ≡ flat_map block_bytes bs = ap (flat_map block_bytes) (map-id c.deref.result.now ∙ c.deref.ensures.value) in
     let duplicate_list = ap (λ xs. numbers w32 (duplicate_numbers xs)) c.deref-2.ensures.value in
-    sack_written s c.value_size.result c.args.output.now c.put_header.new.output c.put_u32.new.output c.put_u32-2.new.output c.put_u16.new.output c.put_u16-2.new.output c.put_fields.new.output c.put_fields-2.new.output
-    (omega (arith, c.value_size.ensures)) c.requires.room (omega (arith, c.put_header.auto.output, c.requires.room)) c.put_header.ensures c.put_u32.ensures c.put_u32-2.ensures
-    (c.put_u16.ensures ∙ ap (λ (n : ℕ). put c.put_u32-2.new.output 12 (to_be_bytes w16 n)) blocks)
-    (c.put_u16-2.ensures ∙ ap (λ (n : ℕ). put c.put_u16.new.output 14 (to_be_bytes w16 n)) duplicates)
-    (c.put_fields.ensures ∙ ap (put c.put_u16-2.new.output 16) block_list)
+    sack_written s c.value_size.result c.args.output.now c.put_header.new.output c.put_bytes.new.output c.put_fields.new.output c.put_fields-2.new.output
+    (omega (arith, c.value_size.ensures)) c.requires.room (omega (arith, c.put_header.auto.output, c.requires.room)) c.put_header.ensures
+    (c.put_bytes.ensures ∙ ap (put c.put_header.new.output 4) c.fixed.ensures)
+    (c.put_fields.ensures ∙ ap (put c.put_bytes.new.output 16) block_list)
     (c.put_fields-2.ensures ∙ ap (λ (n : ℕ). put c.put_fields.new.output (16 + 4 * n) (numbers w32 (duplicate_numbers c.deref-2.result.now))) blocks ∙ ap (put c.put_fields.new.output (16 + 4 * length bs)) duplicate_list)
