@@ -4,7 +4,7 @@ use Rattle.std.specs.Prelude.{◌==◌, nat_lt}
 use Rattle.std.specs.Int.{w16, w32, to_be_bytes, from_be_bytes}
 use Rattle.std.proofs.lemmas.Bool.{eqb-true, ltb-false, le-ltb}
 use Rattle.std.proofs.lemmas.Bool.Decides.{Decides-eqb}
-use Rattle.std.proofs.lemmas.Nat.{from_be_bytes-to_be_bytes_4}
+use Rattle.std.proofs.lemmas.Nat.{from_be_bytes-to_be_bytes_2, from_be_bytes-to_be_bytes_4}
 use Rattle.dcsctp_tlv.specs.Fault.{Length}
 use Rattle.dcsctp_tlv.specs.Level.{plain, map_ok}
 use Rattle.dcsctp_tlv.specs.Number.{number16, number32, numbers}
@@ -16,6 +16,8 @@ use Rattle.dcsctp_tlv.specs.ZeroChecksumAcceptable as zero_checksum
 use Rattle.dcsctp_tlv.specs.UnknownParameter as unknown
 use Rattle.dcsctp_tlv.specs.OutgoingSsnResetRequest as outgoing
 use Rattle.dcsctp_tlv.specs.IncomingSsnResetRequest as incoming
+use Rattle.dcsctp_tlv.specs.SsnTsnResetRequest as ssn_tsn
+use Rattle.dcsctp_tlv.specs.AddStreamsRequest as add_streams
 use Rattle.dcsctp_tlv.specs.ReconfigurationResponse as response
 use Rattle.dcsctp_tlv.specs.ReconfigurationResponse.{result_of, result_number, response_with, next_tsns}
 use Rattle.dcsctp_tlv.specs.declared.parameter.reconfiguration_response_parameter.ReconfigurationResponseResult.{ReconfigurationResponseResult}
@@ -88,6 +90,40 @@ zero_checksum_keeps first second value method e =
     let whole = passed (length value == 4) (Ok (number32 value)) Length method e in
     let four = eqb-true (length value) 4 whole.0 in
     omega (arith, four)
+
+pub ssn_tsn_laws : FormatLaws ssn_tsn.read ssn_tsn.format
+unfolding ssn_tsn.read
+ssn_tsn_laws =
+    format_laws ssn_tsn.read ssn_tsn.format (to_be_bytes w32) (λ request. refl)
+    (λ request width form fits. ap (λ (n : ℕ). Ok n) (from_be_bytes-to_be_bytes_4 request width))
+    (λ value request e. tt)
+
+pub ssn_tsn_keeps : Keeps ssn_tsn.read ssn_tsn.format
+unfolding ssn_tsn.read
+ssn_tsn_keeps first second value request e =
+    let whole = passed (length value == 4) (Ok (number32 value)) Length request e in
+    let four = eqb-true (length value) 4 whole.0 in
+    omega (arith, four)
+
+-- both requests for more streams, each of its type and name
+pub add_streams_laws : (typ : ℕ) (name : List ℕ)
+    → FormatLaws add_streams.read (add_streams.format typ name)
+unfolding add_streams.read
+add_streams_laws typ name =
+    format_laws add_streams.read (add_streams.format typ name) add_streams.value_of (λ r. refl)
+    (λ r width form fits. rw (
+      from_be_bytes-to_be_bytes_4 r.request width.request,
+      from_be_bytes-to_be_bytes_2 r.new_streams width.new_streams,
+    ) refl)
+    (λ value r e. tt)
+
+pub add_streams_keeps : (typ : ℕ) (name : List ℕ)
+    → Keeps add_streams.read (add_streams.format typ name)
+unfolding add_streams.read
+add_streams_keeps typ name first second value r e =
+    let whole = passed (length value == 8) _ Length r e in
+    let eight = eqb-true (length value) 8 whole.0 in
+    omega (arith, eight)
 
 -- ---- any type
 

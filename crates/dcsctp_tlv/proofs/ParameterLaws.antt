@@ -12,6 +12,8 @@ use Rattle.dcsctp_tlv.specs.Table.{IsUnnamed}
 use Rattle.dcsctp_tlv.specs.HeartbeatInfo as info
 use Rattle.dcsctp_tlv.specs.StateCookie as cookie
 use Rattle.dcsctp_tlv.specs.SupportedExtensions as extensions
+use Rattle.dcsctp_tlv.specs.AddOutgoingStreamsRequest as add_outgoing
+use Rattle.dcsctp_tlv.specs.AddIncomingStreamsRequest as add_incoming
 use Rattle.dcsctp_tlv.specs.ReconfigurationResponse as response
 use Rattle.dcsctp_tlv.specs.ReconfigurationResponse.{next_tsns, kept_tsn}
 use Rattle.dcsctp_tlv.specs.UnknownParameter as unknown
@@ -19,7 +21,7 @@ use Rattle.dcsctp_tlv.specs.Parameter.{ParameterTree, HeartbeatInfo, StateCookie
 use Rattle.dcsctp_tlv.proofs.Laws.{LawfulRow, Lawful, plain_lawful}
 use Rattle.dcsctp_tlv.proofs.Tables.{◌&◌, of_table, of_others}
 use Rattle.dcsctp_tlv.proofs.ReadsBack.{ReadsBack, each_encodable, zeroed-solid}
-use Rattle.dcsctp_tlv.proofs.ParameterKinds.{info_laws, info_keeps, cookie_laws, cookie_keeps, outgoing_laws, outgoing_keeps, incoming_laws, incoming_keeps, response_laws, response_keeps, zero_checksum_laws, zero_checksum_keeps, extensions_laws, extensions_keeps, forward_tsn_laws, forward_tsn_keeps, type_back, unknown_keeps, unknown_forms}
+use Rattle.dcsctp_tlv.proofs.ParameterKinds.{info_laws, info_keeps, cookie_laws, cookie_keeps, outgoing_laws, outgoing_keeps, incoming_laws, incoming_keeps, response_laws, response_keeps, zero_checksum_laws, zero_checksum_keeps, extensions_laws, extensions_keeps, forward_tsn_laws, forward_tsn_keeps, ssn_tsn_laws, ssn_tsn_keeps, add_streams_laws, add_streams_keeps, type_back, unknown_keeps, unknown_forms}
 use Rattle.dcsctp_tlv.proofs.Forms.{FormsTrees, FormsRow, plain_forms}
 use Rattle.dcsctp_tlv.proofs.Accounts.{Accounts, AccountsRow, plain_account}
 use Rattle.dcsctp_tlv.proofs.Counts.{Counts, one_each}
@@ -51,24 +53,25 @@ parameters_lawful = λ first second. row_lawful (from_be_bytes w16 (first ∷ se
 -- what a row owes where its type is none of those whose values can be at fault
 abbrev MeansAny : List ℕ → ℕ → Row ParameterTree → Type 0
 MeansAny value typ row =
-    typ ≢ 13 → typ ≢ 14 → typ ≢ 16 → typ ≢ 0x8001 → typ ≢ 0xC000 → HasMeaning row value
+    typ ≢ 13 → typ ≢ 14 → typ ≢ 15 → typ ≢ 16 → typ ≢ 17 → typ ≢ 18 → typ ≢ 0x8001 → typ ≢ 0xC000
+    → HasMeaning row value
 
 -- any value of a type that allows any has a meaning
 pub any_value : (typ : ℕ) (value : List ℕ) → MeansAny value typ (row typ)
 unfolding info.read cookie.read extensions.read unknown.read
 any_value typ value = of_table (MeansAny value) table typ _ (
-    (λ a b c d e. (_, refl)) &
-    (λ a b c d e. (_, refl)) &
-    (λ not_13 b c d e. absurd (not_13 refl)) &
-    (λ a not_14 c d e. absurd (not_14 refl)) &
-    (λ a b c d e. (_, refl)) &
-    (λ a b not_16 d e. absurd (not_16 refl)) &
-    (λ a b c d e. (_, refl)) &
-    (λ a b c d e. (_, refl)) &
-    (λ a b c not_0x8001 e. absurd (not_0x8001 refl)) &
-    (λ a b c d e. (_, refl)) &
-    (λ a b c d not_0xC000. absurd (not_0xC000 refl)) & tt)
-    (λ _ a b c d e. (_, refl))
+    (λ a b c d e f g h. (_, refl)) &
+    (λ a b c d e f g h. (_, refl)) &
+    (λ not_13 b c d e f g h. absurd (not_13 refl)) &
+    (λ a not_14 c d e f g h. absurd (not_14 refl)) &
+    (λ a b not_15 d e f g h. absurd (not_15 refl)) &
+    (λ a b c not_16 e f g h. absurd (not_16 refl)) &
+    (λ a b c d not_17 f g h. absurd (not_17 refl)) &
+    (λ a b c d e not_18 g h. absurd (not_18 refl)) &
+    (λ a b c d e f not_0x8001 h. absurd (not_0x8001 refl)) &
+    (λ a b c d e f g h. (_, refl)) &
+    (λ a b c d e f g not_0xC000. absurd (not_0xC000 refl)) & tt)
+    (λ _ a b c d e f g h. (_, refl))
 
 -- ---- reading back
 
@@ -81,19 +84,6 @@ pub record IsGoodParameter (t : ParameterTree) : Type 0 where
 -- the row for the two bytes that a type is written as
 abbrev Means : Tlv → ParameterTree → Type 0
 Means tlv t = (parameters.row tlv.first tlv.second).means (zeroed tlv.value) t
-
-abbrev with_type : ℕ → List ℕ → unknown.Tree
-with_type typ value = record { typ = typ; value = value }
-
-abbrev MeansWith : (unknown.Tree → ParameterTree) → ℕ → List ℕ → Type 0
-MeansWith tree typ value =
-    Means (unknown.format (with_type typ value)).tlv (tree (with_type typ value))
-
--- a request that is kept as it is: the type that it holds names its row
-kept_means : (typ : ℕ) (tree : unknown.Tree → ParameterTree)
-    → ((value : List ℕ) → MeansWith tree typ value) → (u : unknown.Tree) → u.typ ≡ typ
-    → Means (unknown.format u).tlv (tree u)
-kept_means typ tree law u e = subst (λ (n : ℕ). MeansWith tree n u.value) (sym e) (law u.value)
 
 unknown_means : (u : unknown.Tree) → IsUnnamed table u.typ → Means (tlv (Unknown u)) (Unknown u)
 unfolding unknown.read
@@ -113,14 +103,16 @@ parameter_means (OutgoingSsnResetRequest r) good =
     ap (map_ok OutgoingSsnResetRequest) (outgoing_laws.back r good.width tt good.encodable)
 parameter_means (IncomingSsnResetRequest r) good =
     ap (map_ok IncomingSsnResetRequest) (incoming_laws.back r good.width tt good.encodable)
-parameter_means (SsnTsnResetRequest u) good =
-    kept_means 15 SsnTsnResetRequest (λ value. rw (zeroed-solid value) refl) u good.formed
+parameter_means (SsnTsnResetRequest request) good =
+    ap (map_ok SsnTsnResetRequest) (ssn_tsn_laws.back request good.width tt good.encodable)
 parameter_means (ReconfigurationResponse r) good =
     ap (map_ok ReconfigurationResponse) (response_laws.back r good.width good.formed good.encodable)
-parameter_means (AddOutgoingStreamsRequest u) good =
-    kept_means 17 AddOutgoingStreamsRequest (λ value. rw (zeroed-solid value) refl) u good.formed
-parameter_means (AddIncomingStreamsRequest u) good =
-    kept_means 18 AddIncomingStreamsRequest (λ value. rw (zeroed-solid value) refl) u good.formed
+parameter_means (AddOutgoingStreamsRequest r) good =
+    ap (map_ok AddOutgoingStreamsRequest)
+    ((add_streams_laws 17 add_outgoing.name).back r good.width tt good.encodable)
+parameter_means (AddIncomingStreamsRequest r) good =
+    ap (map_ok AddIncomingStreamsRequest)
+    ((add_streams_laws 18 add_incoming.name).back r good.width tt good.encodable)
 parameter_means (ZeroChecksumAcceptable method) good =
     ap (map_ok ZeroChecksumAcceptable) (zero_checksum_laws.back method good.width tt good.encodable)
 parameter_means (SupportedExtensions types) good =
@@ -157,10 +149,10 @@ row_forms typ = of_table (λ _ row. FormsRow IsWellFormed row) table typ _ (
     plain_forms cookie_laws _ IsWellFormed 0 0 (λ x form. tt) &
     plain_forms outgoing_laws _ IsWellFormed 0 0 (λ x form. tt) &
     plain_forms incoming_laws _ IsWellFormed 0 0 (λ x form. tt) &
-    unknown_forms IsWellFormed 15 SsnTsnResetRequest (λ value. refl) &
+    plain_forms ssn_tsn_laws _ IsWellFormed 0 0 (λ x form. tt) &
     plain_forms response_laws _ IsWellFormed 0 0 (λ x form. form) &
-    unknown_forms IsWellFormed 17 AddOutgoingStreamsRequest (λ value. refl) &
-    unknown_forms IsWellFormed 18 AddIncomingStreamsRequest (λ value. refl) &
+    plain_forms (add_streams_laws 17 add_outgoing.name) _ IsWellFormed 0 0 (λ x form. tt) &
+    plain_forms (add_streams_laws 18 add_incoming.name) _ IsWellFormed 0 0 (λ x form. tt) &
     plain_forms zero_checksum_laws _ IsWellFormed 0 0 (λ x form. tt) &
     plain_forms extensions_laws _ IsWellFormed 0 0 (λ x form. tt) &
     plain_forms forward_tsn_laws _ IsWellFormed 0 0 (λ x form. tt) & tt)
@@ -178,10 +170,10 @@ row_account typ = of_table (λ _ row. AccountsRow tlv row) table typ _ (
     plain_account _ StateCookie tlv (cookie_keeps 0 0) &
     plain_account _ OutgoingSsnResetRequest tlv (outgoing_keeps 0 0) &
     plain_account _ IncomingSsnResetRequest tlv (incoming_keeps 0 0) &
-    plain_account _ SsnTsnResetRequest tlv (unknown_keeps 15 0 0) &
+    plain_account _ SsnTsnResetRequest tlv (ssn_tsn_keeps 0 0) &
     plain_account _ ReconfigurationResponse tlv (response_keeps 0 0) &
-    plain_account _ AddOutgoingStreamsRequest tlv (unknown_keeps 17 0 0) &
-    plain_account _ AddIncomingStreamsRequest tlv (unknown_keeps 18 0 0) &
+    plain_account _ AddOutgoingStreamsRequest tlv (add_streams_keeps 17 add_outgoing.name 0 0) &
+    plain_account _ AddIncomingStreamsRequest tlv (add_streams_keeps 18 add_incoming.name 0 0) &
     plain_account _ ZeroChecksumAcceptable tlv (zero_checksum_keeps 0 0) &
     plain_account _ SupportedExtensions tlv (extensions_keeps 0 0) &
     plain_account _ (λ _. ForwardTsnSupported) tlv (forward_tsn_keeps 0 0) & tt)

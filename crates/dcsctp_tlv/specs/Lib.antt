@@ -16,6 +16,10 @@ pub mod ForwardTsnSupported
 pub mod ZeroChecksumAcceptable
 pub mod OutgoingSsnResetRequest
 pub mod IncomingSsnResetRequest
+pub mod SsnTsnResetRequest
+pub mod AddStreamsRequest
+pub mod AddOutgoingStreamsRequest
+pub mod AddIncomingStreamsRequest
 pub mod ReconfigurationResponse
 pub mod Parameter
 pub mod Fields

@@ -11,16 +11,16 @@ use Rattle.dcsctp_tlv.specs.UnknownParameter as unknown
 use Rattle.dcsctp_tlv.specs.declared.parameter.Parameter.{Parameter}
 use Rattle.dcsctp_tlv.specs.declared.parameter.Parameter.TheVariants as variant
 
--- a parameter as plain data; the three requests that are kept as they are hold their type
+-- a parameter as plain data
 pub data ParameterTree : Type 0 where
   HeartbeatInfo : List ℕ → ParameterTree
   StateCookie : List ℕ → ParameterTree
   OutgoingSsnResetRequest : kind.OutgoingSsnResetRequest.Tree → ParameterTree
   IncomingSsnResetRequest : kind.IncomingSsnResetRequest.Tree → ParameterTree
-  SsnTsnResetRequest : unknown.Tree → ParameterTree
+  SsnTsnResetRequest : ℕ → ParameterTree
   ReconfigurationResponse : kind.ReconfigurationResponse.Tree → ParameterTree
-  AddOutgoingStreamsRequest : unknown.Tree → ParameterTree
-  AddIncomingStreamsRequest : unknown.Tree → ParameterTree
+  AddOutgoingStreamsRequest : kind.AddStreamsRequest.Tree → ParameterTree
+  AddIncomingStreamsRequest : kind.AddStreamsRequest.Tree → ParameterTree
   ZeroChecksumAcceptable : ℕ → ParameterTree
   SupportedExtensions : List ℕ → ParameterTree
   ForwardTsnSupported : ParameterTree
@@ -33,10 +33,10 @@ table =
     named 7 StateCookie kind.StateCookie.read ∷
     named 13 OutgoingSsnResetRequest kind.OutgoingSsnResetRequest.read ∷
     named 14 IncomingSsnResetRequest kind.IncomingSsnResetRequest.read ∷
-    named 15 SsnTsnResetRequest (unknown.read 15) ∷
+    named 15 SsnTsnResetRequest kind.SsnTsnResetRequest.read ∷
     named 16 ReconfigurationResponse kind.ReconfigurationResponse.read ∷
-    named 17 AddOutgoingStreamsRequest (unknown.read 17) ∷
-    named 18 AddIncomingStreamsRequest (unknown.read 18) ∷
+    named 17 AddOutgoingStreamsRequest kind.AddStreamsRequest.read ∷
+    named 18 AddIncomingStreamsRequest kind.AddStreamsRequest.read ∷
     named 0x8001 ZeroChecksumAcceptable kind.ZeroChecksumAcceptable.read ∷
     named 0x8008 SupportedExtensions kind.SupportedExtensions.read ∷
     named 0xC000 (λ _. ForwardTsnSupported) kind.ForwardTsnSupported.read ∷ []
@@ -54,18 +54,19 @@ parameters = record {
 
 -- what such a value means holds nothing on the heap
 abbrev pub TakesNoMemory : ℕ → Type 0
-TakesNoMemory typ = (typ ≡ 16) ⊎ (typ ≡ 0x8001) ⊎ (typ ≡ 0xC000)
+TakesNoMemory typ =
+    (typ ≡ 15) ⊎ (typ ≡ 16) ⊎ (typ ≡ 17) ⊎ (typ ≡ 18) ⊎ (typ ≡ 0x8001) ⊎ (typ ≡ 0xC000)
 
--- what is said of a parameter; where it holds a type, that names its row
+-- what is said of a parameter
 abbrev pub format : ParameterTree → Format
 format (HeartbeatInfo info) = kind.HeartbeatInfo.format info
 format (StateCookie cookie) = kind.StateCookie.format cookie
 format (OutgoingSsnResetRequest r) = kind.OutgoingSsnResetRequest.format r
 format (IncomingSsnResetRequest r) = kind.IncomingSsnResetRequest.format r
-format (SsnTsnResetRequest u) = record (unknown.format u) { IsWellFormed = u.typ ≡ 15 }
+format (SsnTsnResetRequest request) = kind.SsnTsnResetRequest.format request
 format (ReconfigurationResponse r) = kind.ReconfigurationResponse.format r
-format (AddOutgoingStreamsRequest u) = record (unknown.format u) { IsWellFormed = u.typ ≡ 17 }
-format (AddIncomingStreamsRequest u) = record (unknown.format u) { IsWellFormed = u.typ ≡ 18 }
+format (AddOutgoingStreamsRequest r) = kind.AddOutgoingStreamsRequest.format r
+format (AddIncomingStreamsRequest r) = kind.AddIncomingStreamsRequest.format r
 format (ZeroChecksumAcceptable method) = kind.ZeroChecksumAcceptable.format method
 format (SupportedExtensions types) = kind.SupportedExtensions.format types
 format ForwardTsnSupported = kind.ForwardTsnSupported.format tt
@@ -99,11 +100,13 @@ view (variant.OutgoingSsnResetRequest p) =
     OutgoingSsnResetRequest (kind.OutgoingSsnResetRequest.view p)
 view (variant.IncomingSsnResetRequest p) =
     IncomingSsnResetRequest (kind.IncomingSsnResetRequest.view p)
-view (variant.SsnTsnResetRequest p) = SsnTsnResetRequest (unknown.view p)
+view (variant.SsnTsnResetRequest p) = SsnTsnResetRequest (kind.SsnTsnResetRequest.view p)
 view (variant.ReconfigurationResponse p) =
     ReconfigurationResponse (kind.ReconfigurationResponse.view p)
-view (variant.AddOutgoingStreamsRequest p) = AddOutgoingStreamsRequest (unknown.view p)
-view (variant.AddIncomingStreamsRequest p) = AddIncomingStreamsRequest (unknown.view p)
+view (variant.AddOutgoingStreamsRequest p) =
+    AddOutgoingStreamsRequest (kind.AddOutgoingStreamsRequest.view p)
+view (variant.AddIncomingStreamsRequest p) =
+    AddIncomingStreamsRequest (kind.AddIncomingStreamsRequest.view p)
 view (variant.ZeroChecksumAcceptable p) =
     ZeroChecksumAcceptable (kind.ZeroChecksumAcceptable.view p)
 view (variant.SupportedExtensions p) = SupportedExtensions (kind.SupportedExtensions.view p)

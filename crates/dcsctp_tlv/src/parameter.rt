@@ -10,12 +10,16 @@
 //! +-+-+-+-+-+-+-+-+-+-+-+-+-+-+-+-+-+-+-+-+-+-+-+-+-+-+-+-+-+-+-+-+
 //! ```
 
+pub mod add_incoming_streams_request_parameter;
+pub mod add_outgoing_streams_request_parameter;
+mod add_streams_request;
 pub mod forward_tsn_supported_parameter;
 pub mod heartbeat_info_parameter;
 pub mod incoming_ssn_reset_request_parameter;
 pub mod outgoing_ssn_reset_request_parameter;
 pub mod raw_parameter;
 pub mod reconfiguration_response_parameter;
+pub mod ssn_tsn_reset_request_parameter;
 pub mod state_cookie_parameter;
 pub mod supported_extensions_parameter;
 pub mod unknown_parameter;
@@ -32,6 +36,9 @@ pub use crate::list::{
     list_encodable as parameters_encodable, list_size as parameters_serialized_size,
     put_list as parameters_serialize_to,
 };
+use crate::parameter::add_incoming_streams_request_parameter::AddIncomingStreamsRequestParameter;
+use crate::parameter::add_outgoing_streams_request_parameter::AddOutgoingStreamsRequestParameter;
+use crate::parameter::add_streams_request::add_streams_check;
 use crate::parameter::forward_tsn_supported_parameter::ForwardTsnSupportedParameter;
 use crate::parameter::heartbeat_info_parameter::HeartbeatInfoParameter;
 use crate::parameter::incoming_ssn_reset_request_parameter::IncomingSsnResetRequestParameter;
@@ -40,6 +47,7 @@ pub use crate::parameter::raw_parameter::{
     PARAMETER_HEADER_SIZE, RawParameter, write_parameter_header,
 };
 use crate::parameter::reconfiguration_response_parameter::ReconfigurationResponseParameter;
+use crate::parameter::ssn_tsn_reset_request_parameter::SsnTsnResetRequestParameter;
 use crate::parameter::state_cookie_parameter::StateCookieParameter;
 use crate::parameter::supported_extensions_parameter::SupportedExtensionsParameter;
 use crate::parameter::unknown_parameter::UnknownParameter;
@@ -48,18 +56,19 @@ use crate::reader::{ReadableTlv, list_build_counted, list_check, list_from_bytes
 use crate::tlv::{ListedTlv, SerializableTlv};
 use std::alloc::{AllocError, Global};
 
-/// SSN/TSN Reset Request (RFC 6525 section 4.3), kept as it is.
-pub const PARAMETER_TYPE_SSN_TSN_RESET_REQUEST: u16 = 15;
+/// The type of SSN/TSN Reset Request (RFC 6525 section 4.3).
+pub const PARAMETER_TYPE_SSN_TSN_RESET_REQUEST: u16 =
+    ssn_tsn_reset_request_parameter::PARAMETER_TYPE;
 
-/// Add Outgoing Streams Request (RFC 6525 section 4.5), kept as it is.
-pub const PARAMETER_TYPE_ADD_OUTGOING_STREAMS_REQUEST: u16 = 17;
+/// The type of Add Outgoing Streams Request (RFC 6525 section 4.5).
+pub const PARAMETER_TYPE_ADD_OUTGOING_STREAMS_REQUEST: u16 =
+    add_outgoing_streams_request_parameter::PARAMETER_TYPE;
 
-/// Add Incoming Streams Request (RFC 6525 section 4.6), kept as it is.
-pub const PARAMETER_TYPE_ADD_INCOMING_STREAMS_REQUEST: u16 = 18;
+/// The type of Add Incoming Streams Request (RFC 6525 section 4.6).
+pub const PARAMETER_TYPE_ADD_INCOMING_STREAMS_REQUEST: u16 =
+    add_incoming_streams_request_parameter::PARAMETER_TYPE;
 
 /// A parameter of any kind (RFC 9260 section 3.2.1); a type without a kind of its own is `Unknown`.
-///
-/// Three requests have a variant of their own, but their values are kept as they are.
 #[derive(Debug, Drop)]
 pub enum Parameter {
     /// Heartbeat Info (RFC 9260 section 3.3.5), type 1.
@@ -70,14 +79,14 @@ pub enum Parameter {
     OutgoingSsnResetRequest(OutgoingSsnResetRequestParameter),
     /// Incoming SSN Reset Request (RFC 6525 section 4.2), type 14.
     IncomingSsnResetRequest(IncomingSsnResetRequestParameter),
-    /// SSN/TSN Reset Request (RFC 6525 section 4.3), type 15, kept as it is.
-    SsnTsnResetRequest(UnknownParameter),
+    /// SSN/TSN Reset Request (RFC 6525 section 4.3), type 15.
+    SsnTsnResetRequest(SsnTsnResetRequestParameter),
     /// Re-configuration Response (RFC 6525 section 4.4), type 16.
     ReconfigurationResponse(ReconfigurationResponseParameter),
-    /// Add Outgoing Streams Request (RFC 6525 section 4.5), type 17, kept as it is.
-    AddOutgoingStreamsRequest(UnknownParameter),
-    /// Add Incoming Streams Request (RFC 6525 section 4.6), type 18, kept as it is.
-    AddIncomingStreamsRequest(UnknownParameter),
+    /// Add Outgoing Streams Request (RFC 6525 section 4.5), type 17.
+    AddOutgoingStreamsRequest(AddOutgoingStreamsRequestParameter),
+    /// Add Incoming Streams Request (RFC 6525 section 4.6), type 18.
+    AddIncomingStreamsRequest(AddIncomingStreamsRequestParameter),
     /// Supported Extensions (RFC 5061 section 4.2.7), type 0x8008.
     SupportedExtensions(SupportedExtensionsParameter),
     /// Forward-TSN Supported (RFC 3758 section 3.1), type 0xc000.
@@ -136,6 +145,11 @@ impl Parameter {
                 OutgoingSsnResetRequestParameter::check(value),
             incoming_ssn_reset_request_parameter::PARAMETER_TYPE =>
                 IncomingSsnResetRequestParameter::check(value),
+            ssn_tsn_reset_request_parameter::PARAMETER_TYPE => SsnTsnResetRequestParameter::check(
+                value,
+            ),
+            add_outgoing_streams_request_parameter::PARAMETER_TYPE => add_streams_check(value),
+            add_incoming_streams_request_parameter::PARAMETER_TYPE => add_streams_check(value),
             reconfiguration_response_parameter::PARAMETER_TYPE =>
                 ReconfigurationResponseParameter::check(value),
             zero_checksum_acceptable_parameter::PARAMETER_TYPE =>
@@ -168,17 +182,19 @@ impl Parameter {
                 Parameter::IncomingSsnResetRequest(IncomingSsnResetRequestParameter::build(
                     alloc, value,
                 )?),
-            PARAMETER_TYPE_SSN_TSN_RESET_REQUEST => Parameter::SsnTsnResetRequest(
-                UnknownParameter::build(alloc, typ, value)?,
+            ssn_tsn_reset_request_parameter::PARAMETER_TYPE => Parameter::SsnTsnResetRequest(
+                SsnTsnResetRequestParameter::build(value),
             ),
             reconfiguration_response_parameter::PARAMETER_TYPE =>
                 Parameter::ReconfigurationResponse(ReconfigurationResponseParameter::build(value)),
-            PARAMETER_TYPE_ADD_OUTGOING_STREAMS_REQUEST => Parameter::AddOutgoingStreamsRequest(
-                UnknownParameter::build(alloc, typ, value)?,
-            ),
-            PARAMETER_TYPE_ADD_INCOMING_STREAMS_REQUEST => Parameter::AddIncomingStreamsRequest(
-                UnknownParameter::build(alloc, typ, value)?,
-            ),
+            add_outgoing_streams_request_parameter::PARAMETER_TYPE =>
+                Parameter::AddOutgoingStreamsRequest(AddOutgoingStreamsRequestParameter::build(
+                    value,
+                )),
+            add_incoming_streams_request_parameter::PARAMETER_TYPE =>
+                Parameter::AddIncomingStreamsRequest(AddIncomingStreamsRequestParameter::build(
+                    value,
+                )),
             zero_checksum_acceptable_parameter::PARAMETER_TYPE => Parameter::ZeroChecksumAcceptable(
                 ZeroChecksumAcceptableParameter::build(value),
             ),
@@ -229,6 +245,24 @@ impl ReadableTlv for Parameter {
                 ));
                 Ok(())
             }
+            ssn_tsn_reset_request_parameter::PARAMETER_TYPE => {
+                list.push_reserved(Parameter::SsnTsnResetRequest(SsnTsnResetRequestParameter::build(
+                    value,
+                )));
+                Ok(())
+            }
+            add_outgoing_streams_request_parameter::PARAMETER_TYPE => {
+                list.push_reserved(Parameter::AddOutgoingStreamsRequest(
+                    AddOutgoingStreamsRequestParameter::build(value),
+                ));
+                Ok(())
+            }
+            add_incoming_streams_request_parameter::PARAMETER_TYPE => {
+                list.push_reserved(Parameter::AddIncomingStreamsRequest(
+                    AddIncomingStreamsRequestParameter::build(value),
+                ));
+                Ok(())
+            }
             reconfiguration_response_parameter::PARAMETER_TYPE => {
                 list.push_reserved(Parameter::ReconfigurationResponse(
                     ReconfigurationResponseParameter::build(value),
@@ -263,24 +297,6 @@ impl ReadableTlv for Parameter {
                         list.push_reserved(Parameter::SupportedExtensions(
                             SupportedExtensionsParameter { chunk_types: bytes },
                         ));
-                    }
-                    PARAMETER_TYPE_SSN_TSN_RESET_REQUEST => {
-                        list.push_reserved(Parameter::SsnTsnResetRequest(UnknownParameter {
-                            typ,
-                            value: bytes,
-                        }));
-                    }
-                    PARAMETER_TYPE_ADD_OUTGOING_STREAMS_REQUEST => {
-                        list.push_reserved(Parameter::AddOutgoingStreamsRequest(UnknownParameter {
-                            typ,
-                            value: bytes,
-                        }));
-                    }
-                    PARAMETER_TYPE_ADD_INCOMING_STREAMS_REQUEST => {
-                        list.push_reserved(Parameter::AddIncomingStreamsRequest(UnknownParameter {
-                            typ,
-                            value: bytes,
-                        }));
                     }
                     _ => {
                         list.push_reserved(Parameter::Unknown(UnknownParameter {

@@ -34,6 +34,9 @@ use Rattle.dcsctp_tlv.specs.contracts.parameter.heartbeat_info_parameter.Heartbe
 use Rattle.dcsctp_tlv.specs.contracts.parameter.state_cookie_parameter.StateCookieParameter as StateCookieParameter
 use Rattle.dcsctp_tlv.specs.contracts.parameter.outgoing_ssn_reset_request_parameter.OutgoingSsnResetRequestParameter as OutgoingSsnResetRequestParameter
 use Rattle.dcsctp_tlv.specs.contracts.parameter.incoming_ssn_reset_request_parameter.IncomingSsnResetRequestParameter as IncomingSsnResetRequestParameter
+use Rattle.dcsctp_tlv.specs.contracts.parameter.ssn_tsn_reset_request_parameter.SsnTsnResetRequestParameter as SsnTsnResetRequestParameter
+use Rattle.dcsctp_tlv.specs.contracts.parameter.add_outgoing_streams_request_parameter.AddOutgoingStreamsRequestParameter as AddOutgoingStreamsRequestParameter
+use Rattle.dcsctp_tlv.specs.contracts.parameter.add_incoming_streams_request_parameter.AddIncomingStreamsRequestParameter as AddIncomingStreamsRequestParameter
 use Rattle.dcsctp_tlv.specs.contracts.parameter.reconfiguration_response_parameter.ReconfigurationResponseParameter as ReconfigurationResponseParameter
 use Rattle.dcsctp_tlv.specs.contracts.parameter.supported_extensions_parameter.SupportedExtensionsParameter as SupportedExtensionsParameter
 use Rattle.dcsctp_tlv.specs.contracts.parameter.zero_checksum_acceptable_parameter.ZeroChecksumAcceptableParameter as ZeroChecksumAcceptableParameter
@@ -172,10 +175,10 @@ parameter = declared_enum_known Parameter.the_type (
     one (fields StateCookieParameter.the_type (bytes & tt)) &
     one (fields OutgoingSsnResetRequestParameter.the_type (uint_known w32 & uint_known w32 & tsn & vec stream_id_item & tt)) &
     one (fields IncomingSsnResetRequestParameter.the_type (uint_known w32 & vec stream_id_item & tt)) &
-    one unknown_parameter &
+    one (fields SsnTsnResetRequestParameter.the_type (uint_known w32 & tt)) &
     one (fields ReconfigurationResponseParameter.the_type (uint_known w32 & nothing_known _ & optional_tsn & optional_tsn & tt)) &
-    one unknown_parameter &
-    one unknown_parameter &
+    one (fields AddOutgoingStreamsRequestParameter.the_type (uint_known w32 & uint_known w16 & tt)) &
+    one (fields AddIncomingStreamsRequestParameter.the_type (uint_known w32 & uint_known w16 & tt)) &
     one (fields SupportedExtensionsParameter.the_type (bytes & tt)) &
     one (nothing_known _) &
     one (fields ZeroChecksumAcceptableParameter.the_type (fields Method.the_type (uint_known w32 & tt) & tt)) &
@@ -186,10 +189,10 @@ parameter_width (parameter_kinds.HeartbeatInfo p) f = bytes_width p.info.items f
 parameter_width (parameter_kinds.StateCookie p) f = bytes_width p.cookie.items f.0.0
 parameter_width (parameter_kinds.OutgoingSsnResetRequest p) f = record { request = f.0.0; response = f.0.1.0; last_tsn = f.0.1.1.0.0; streams = stream_ids_width p.streams.items f.0.1.1.1.0 }
 parameter_width (parameter_kinds.IncomingSsnResetRequest p) f = record { request = f.0.0; streams = stream_ids_width p.streams.items f.0.1.0 }
-parameter_width (parameter_kinds.SsnTsnResetRequest u) f = unknown_parameter_width u f.0
+parameter_width (parameter_kinds.SsnTsnResetRequest p) f = f.0.0
 parameter_width (parameter_kinds.ReconfigurationResponse p) f = record { response = f.0.0; sender_next_tsn = optional_tsn_width p.sender_next_tsn f.0.1.1.0; receiver_next_tsn = optional_tsn_width p.receiver_next_tsn f.0.1.1.1.0 }
-parameter_width (parameter_kinds.AddOutgoingStreamsRequest u) f = unknown_parameter_width u f.0
-parameter_width (parameter_kinds.AddIncomingStreamsRequest u) f = unknown_parameter_width u f.0
+parameter_width (parameter_kinds.AddOutgoingStreamsRequest p) f = record { request = f.0.0; new_streams = f.0.1.0 }
+parameter_width (parameter_kinds.AddIncomingStreamsRequest p) f = record { request = f.0.0; new_streams = f.0.1.0 }
 parameter_width (parameter_kinds.SupportedExtensions p) f = bytes_width p.chunk_types.items f.0.0
 parameter_width (parameter_kinds.ForwardTsnSupported p) f = tt
 parameter_width (parameter_kinds.ZeroChecksumAcceptable p) f = f.0.0.0

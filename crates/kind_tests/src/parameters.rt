@@ -9,6 +9,8 @@ use crate::help::{
 };
 use dcsctp_tlv::error::ChunkParseError;
 use dcsctp_tlv::frame::put_parameter;
+use dcsctp_tlv::parameter::add_incoming_streams_request_parameter::AddIncomingStreamsRequestParameter;
+use dcsctp_tlv::parameter::add_outgoing_streams_request_parameter::AddOutgoingStreamsRequestParameter;
 use dcsctp_tlv::parameter::forward_tsn_supported_parameter::ForwardTsnSupportedParameter;
 use dcsctp_tlv::parameter::heartbeat_info_parameter::HeartbeatInfoParameter;
 use dcsctp_tlv::parameter::incoming_ssn_reset_request_parameter::IncomingSsnResetRequestParameter;
@@ -16,6 +18,7 @@ use dcsctp_tlv::parameter::outgoing_ssn_reset_request_parameter::OutgoingSsnRese
 use dcsctp_tlv::parameter::reconfiguration_response_parameter::{
     ReconfigurationResponseParameter, ReconfigurationResponseResult,
 };
+use dcsctp_tlv::parameter::ssn_tsn_reset_request_parameter::SsnTsnResetRequestParameter;
 use dcsctp_tlv::parameter::state_cookie_parameter::StateCookieParameter;
 use dcsctp_tlv::parameter::supported_extensions_parameter::SupportedExtensionsParameter;
 use dcsctp_tlv::parameter::unknown_parameter::UnknownParameter;
@@ -48,6 +51,24 @@ impl Kind for OutgoingSsnResetRequestParameter {
 impl Kind for IncomingSsnResetRequestParameter {
     fn read(alloc: Global, bytes: &[u8]) -> Result<Self, ChunkParseError> {
         IncomingSsnResetRequestParameter::try_from(alloc, raw_parameter(bytes)?)
+    }
+}
+
+impl Kind for SsnTsnResetRequestParameter {
+    fn read(_alloc: Global, bytes: &[u8]) -> Result<Self, ChunkParseError> {
+        SsnTsnResetRequestParameter::try_from(raw_parameter(bytes)?)
+    }
+}
+
+impl Kind for AddOutgoingStreamsRequestParameter {
+    fn read(_alloc: Global, bytes: &[u8]) -> Result<Self, ChunkParseError> {
+        AddOutgoingStreamsRequestParameter::try_from(raw_parameter(bytes)?)
+    }
+}
+
+impl Kind for AddIncomingStreamsRequestParameter {
+    fn read(_alloc: Global, bytes: &[u8]) -> Result<Self, ChunkParseError> {
+        AddIncomingStreamsRequestParameter::try_from(raw_parameter(bytes)?)
     }
 }
 
@@ -96,10 +117,10 @@ impl Listed for Parameter {
             Parameter::SupportedExtensions(p) => p.to_string(alloc),
             Parameter::ForwardTsnSupported(p) => p.to_string(alloc),
             Parameter::ZeroChecksumAcceptable(p) => p.to_string(alloc),
-            Parameter::SsnTsnResetRequest(p)
-            | Parameter::AddOutgoingStreamsRequest(p)
-            | Parameter::AddIncomingStreamsRequest(p)
-            | Parameter::Unknown(p) => p.to_string(alloc),
+            Parameter::SsnTsnResetRequest(p) => p.to_string(alloc),
+            Parameter::AddOutgoingStreamsRequest(p) => p.to_string(alloc),
+            Parameter::AddIncomingStreamsRequest(p) => p.to_string(alloc),
+            Parameter::Unknown(p) => p.to_string(alloc),
         }
     }
 }
@@ -130,21 +151,20 @@ const PARAMETERS: &[(&[u8], &str, &str)] = &[
         "[IncomingSsnResetRequest(IncomingSsnResetRequestParameter { request_seq_nbr: 7, streams: [3, 258] })]",
         "Incoming SSN Reset Request, req_seq_nbr=7",
     ),
-    // three requests that are kept as they are
     (
-        &[0, 0x0f, 0, 5, 0xaa],
-        "[SsnTsnResetRequest(UnknownParameter { typ: 15, value: [170] })]",
-        "Unknown parameter, type=15",
+        &[0, 0x0f, 0, 8, 0, 0, 0, 7],
+        "[SsnTsnResetRequest(SsnTsnResetRequestParameter { request_seq_nbr: 7 })]",
+        "SSN/TSN Reset Request, req_seq_nbr=7",
     ),
     (
-        &[0, 0x11, 0, 4],
-        "[AddOutgoingStreamsRequest(UnknownParameter { typ: 17, value: [] })]",
-        "Unknown parameter, type=17",
+        &[0, 0x11, 0, 0x0c, 0, 0, 0, 7, 0, 0x10, 0, 0],
+        "[AddOutgoingStreamsRequest(AddOutgoingStreamsRequestParameter { request_seq_nbr: 7, nbr_new_streams: 16 })]",
+        "Add Outgoing Streams Request, req_seq_nbr=7, new_streams=16",
     ),
     (
-        &[0, 0x12, 0, 6, 1, 2],
-        "[AddIncomingStreamsRequest(UnknownParameter { typ: 18, value: [1, 2] })]",
-        "Unknown parameter, type=18",
+        &[0, 0x12, 0, 0x0c, 1, 2, 3, 4, 1, 0, 0, 0],
+        "[AddIncomingStreamsRequest(AddIncomingStreamsRequestParameter { request_seq_nbr: 16909060, nbr_new_streams: 256 })]",
+        "Add Incoming Streams Request, req_seq_nbr=16909060, new_streams=256",
     ),
     (
         &[0, 0x10, 0, 0x0c, 0, 0, 0, 9, 0, 0, 0, 6],
@@ -234,6 +254,15 @@ const LISTS: &[(&[u8], &str)] = &[
         &[0, 16, 0, 16, 0, 0, 0, 1, 0, 0, 0, 7, 0, 0, 0, 2],
         "InvalidLength",
     ),
+    // a reset request of one byte, of three and of five
+    (&[0, 15, 0, 5, 0xaa], "InvalidLength"),
+    (&[0, 15, 0, 7, 0, 0, 7], "InvalidLength"),
+    (&[0, 15, 0, 9, 0, 0, 0, 7, 0], "InvalidLength"),
+    // a request for streams without its reserved bytes, and one without their number
+    (&[0, 17, 0, 10, 0, 0, 0, 7, 0, 16], "InvalidLength"),
+    (&[0, 18, 0, 8, 0, 0, 0, 7], "InvalidLength"),
+    // one byte beyond the reserved ones
+    (&[0, 18, 0, 13, 0, 0, 0, 7, 0, 16, 0, 0, 0], "InvalidLength"),
     // a value where none may be
     (&[0xc0, 0, 0, 5, 1], "InvalidLength"),
     // a method of three bytes
@@ -279,6 +308,25 @@ fn kinds(rt: HostRuntime) -> Result<(), Fail> {
         told::<ZeroChecksumAcceptableParameter>(rt.alloc(), &[0x80, 1, 0, 8, 1, 2, 3, 4])?.as_str(),
         "ZeroChecksumAcceptableParameter { method: ZeroChecksumAlternateErrorDetectionMethod(16909060) }; Zero Checksum Acceptable, method=16909060"
     );
+    assert_eq!(rt;
+        told::<SsnTsnResetRequestParameter>(rt.alloc(), &[0, 15, 0, 8, 1, 2, 3, 4])?.as_str(),
+        "SsnTsnResetRequestParameter { request_seq_nbr: 16909060 }; SSN/TSN Reset Request, req_seq_nbr=16909060"
+    );
+    // the reserved bytes are ignored
+    assert_eq!(rt;
+        told::<AddOutgoingStreamsRequestParameter>(
+            rt.alloc(),
+            &[0, 17, 0, 12, 0, 0, 0, 7, 1, 2, 0xab, 0xcd]
+        )?.as_str(),
+        "AddOutgoingStreamsRequestParameter { request_seq_nbr: 7, nbr_new_streams: 258 }; Add Outgoing Streams Request, req_seq_nbr=7, new_streams=258"
+    );
+    assert_eq!(rt;
+        told::<AddIncomingStreamsRequestParameter>(
+            rt.alloc(),
+            &[0, 18, 0, 12, 0, 0, 0, 7, 0, 16, 0xff, 0xff]
+        )?.as_str(),
+        "AddIncomingStreamsRequestParameter { request_seq_nbr: 7, nbr_new_streams: 16 }; Add Incoming Streams Request, req_seq_nbr=7, new_streams=16"
+    );
     // an unknown parameter may have any type, a named one too
     assert_eq!(rt;
         told::<UnknownParameter>(rt.alloc(), &[0xc0, 0, 0, 5, 6])?.as_str(),
@@ -316,6 +364,32 @@ fn requests(rt: HostRuntime) -> Result<(), Fail> {
     Ok(())
 }
 
+// A kind refuses another type ahead of any other fault.
+#[test]
+fn other_types(rt: HostRuntime) -> Result<(), Fail> {
+    let rows: [(u8, bool, bool, bool); 4] = [
+        (15, false, true, true),
+        (16, true, true, true),
+        (17, true, false, true),
+        (18, true, true, false),
+    ];
+    for (typ, ssn_tsn, outgoing, incoming) in rows {
+        let bytes = [0, typ, 0, 5, 0xaa];
+        let refused = "InvalidType";
+        let alloc = rt.alloc();
+        assert_eq!(rt; is_told::<SsnTsnResetRequestParameter>(alloc, &bytes, refused)?, ssn_tsn);
+        assert_eq!(rt;
+            is_told::<AddOutgoingStreamsRequestParameter>(alloc, &bytes, refused)?,
+            outgoing
+        );
+        assert_eq!(rt;
+            is_told::<AddIncomingStreamsRequestParameter>(alloc, &bytes, refused)?,
+            incoming
+        );
+    }
+    Ok(())
+}
+
 /// All fields of one parameter.
 fn parameter_told(alloc: Global, bytes: &[u8]) -> Result<String, ChunkParseError> {
     let parameter = Parameter::try_from(alloc, raw_parameter(bytes)?)?;
@@ -324,20 +398,9 @@ fn parameter_told(alloc: Global, bytes: &[u8]) -> Result<String, ChunkParseError
 
 #[test]
 fn variants(rt: HostRuntime) -> Result<(), Fail> {
-    // three requests have variants of their own, and the type after theirs has none
+    // the types beside those of requests have no kind of their own
     let rows = [
-        (
-            15,
-            "SsnTsnResetRequest(UnknownParameter { typ: 15, value: [170] })",
-        ),
-        (
-            17,
-            "AddOutgoingStreamsRequest(UnknownParameter { typ: 17, value: [170] })",
-        ),
-        (
-            18,
-            "AddIncomingStreamsRequest(UnknownParameter { typ: 18, value: [170] })",
-        ),
+        (12, "Unknown(UnknownParameter { typ: 12, value: [170] })"),
         (19, "Unknown(UnknownParameter { typ: 19, value: [170] })"),
     ];
     for (typ, wanted) in rows {
@@ -470,6 +533,11 @@ const WRITTEN: &[(&[u8], &[u8])] = &[
     (
         &[0x80, 8, 0, 6, 1, 2, 0, 0, 0xc0, 0, 0, 4],
         &[0x80, 8, 0, 6, 1, 2, 0xee, 0xee, 0xc0, 0, 0, 4],
+    ),
+    // reserved bytes that were ignored are written as zeros
+    (
+        &[0, 17, 0, 12, 0, 0, 0, 7, 0, 16, 0xab, 0xcd],
+        &[0, 17, 0, 12, 0, 0, 0, 7, 0, 16, 0, 0],
     ),
 ];
 

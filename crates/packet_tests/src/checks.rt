@@ -44,6 +44,14 @@ const ROWS: &[(&[u8], Answer)] = &[
     // padding between the items of a list: where it is left out, what follows has no frame
     (&[4, 0, 0, 16, 0, 1, 0, 5, 7, 0, 0, 0, 0xc0, 0, 0, 4], Ok(3)),
     (&[4, 0, 0, 13, 0, 1, 0, 5, 7, 0xc0, 0, 0, 4], LENGTH),
+    // a request for streams, and one without its number of streams
+    (
+        &[
+            0x82, 0, 0, 0x10, 0, 0x11, 0, 0x0c, 0, 0, 0, 7, 0, 0x10, 0xab, 0xcd,
+        ],
+        Ok(2),
+    ),
+    (&[0x82, 0, 0, 12, 0, 0x12, 0, 8, 0, 0, 0, 7], LENGTH),
     // a response whose result has no meaning
     (
         &[0x82, 0, 0, 16, 0, 16, 0, 12, 0, 0, 0, 1, 0, 0, 0, 7],

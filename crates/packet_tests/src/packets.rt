@@ -133,6 +133,16 @@ const ACCEPTED_WITH_LISTS: &[(&[u8], &str, &[u8])] = &[
         "RE-CONFIG\n",
         RE_CONFIG,
     ),
+    // a request for 16 outgoing streams, whose reserved bytes are ignored, and written as zeros
+    (
+        &[
+            0x82, 0, 0, 0x10, 0, 0x11, 0, 0x0c, 0, 0, 0, 7, 0, 0x10, 0xab, 0xcd,
+        ],
+        "RE-CONFIG\n",
+        &[
+            0x82, 0, 0, 0x10, 0, 0x11, 0, 0x0c, 0, 0, 0, 7, 0, 0x10, 0, 0,
+        ],
+    ),
     // a reason that isn't UTF-8 is replaced: "Failed to parse abort reason"
     (
         &[6, 0, 0, 9, 0, 0x0c, 0, 5, 0xff],

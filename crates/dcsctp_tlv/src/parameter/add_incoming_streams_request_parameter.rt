@@ -1,0 +1,107 @@
+//! Add Incoming Streams Request: the sender asks to add streams on which it receives.
+//!
+//! ```txt
+//!  0                   1                   2                   3
+//!  0 1 2 3 4 5 6 7 8 9 0 1 2 3 4 5 6 7 8 9 0 1 2 3 4 5 6 7 8 9 0 1
+//! +-+-+-+-+-+-+-+-+-+-+-+-+-+-+-+-+-+-+-+-+-+-+-+-+-+-+-+-+-+-+-+-+
+//! |           type = 18           |          length = 12          |
+//! +-+-+-+-+-+-+-+-+-+-+-+-+-+-+-+-+-+-+-+-+-+-+-+-+-+-+-+-+-+-+-+-+
+//! |                    request sequence number                    |
+//! +-+-+-+-+-+-+-+-+-+-+-+-+-+-+-+-+-+-+-+-+-+-+-+-+-+-+-+-+-+-+-+-+
+//! |     number of new streams     |           reserved            |
+//! +-+-+-+-+-+-+-+-+-+-+-+-+-+-+-+-+-+-+-+-+-+-+-+-+-+-+-+-+-+-+-+-+
+//! ```
+
+ghost use Rattle.std.specs.Prelude.{◌≡◌, ◌≢◌, ◌↔◌, Some, Ok, IsOk, IsErrOf};
+ghost use Rattle.dcsctp_tlv.specs.Image.{IsEncodable};
+ghost use Rattle.dcsctp_tlv.specs.Reading.{Gives, Never};
+ghost use Rattle.dcsctp_tlv.specs.Length.{length-format};
+ghost use Rattle.dcsctp_tlv.specs.AddStreamsRequest as request;
+ghost use Rattle.dcsctp_tlv.specs.AddIncomingStreamsRequest as kind;
+
+use crate::error::ChunkParseError;
+use crate::frame::put_parameter;
+use crate::number::{read_u16_be, read_u32_be};
+use crate::parameter::add_streams_request::{add_streams_check, add_streams_value};
+use crate::parameter::raw_parameter::RawParameter;
+use crate::tlv::SerializableTlv;
+use std::fmt;
+
+/// The type of Add Incoming Streams Request.
+pub const PARAMETER_TYPE: u16 = 18;
+
+/// Add Incoming Streams Request (RFC 6525 section 4.6).
+#[derive(Debug, Drop)]
+pub struct AddIncomingStreamsRequestParameter {
+    /// The number of this request.
+    pub request_seq_nbr: u32,
+    /// How many streams the sender asks to add on which it receives.
+    pub nbr_new_streams: u16,
+}
+
+#[tactic(auto, unfolding(crate::specs::AddStreamsRequest::read))]
+impl AddIncomingStreamsRequestParameter {
+    /// Reads the parameter; no memory is taken, and the reserved bytes are ignored.
+    ///
+    /// `InvalidType` exactly for another type; `InvalidLength` exactly where the value hasn't 8
+    /// bytes.
+    pub fn try_from(raw: RawParameter) -> Result<Self, ChunkParseError>
+        ensures other { IsErrOf result ChunkParseError.InvalidType ↔
+            (raw.entry.typ ≢ PARAMETER_TYPE) }
+        ensures own { raw.entry.typ ≡ PARAMETER_TYPE →
+            Gives Never kind.view result (request.read raw.entry.value.now) }
+    {
+        if raw.typ != PARAMETER_TYPE {
+            return Err(ChunkParseError::InvalidType);
+        }
+        add_streams_check(raw.value)?;
+        Ok(AddIncomingStreamsRequestParameter::build(raw.value))
+    }
+
+    /// What the value means.
+    pub(crate) fn build(value: &[u8]) -> Self
+        requires { IsOk (request.read value.now) }
+        ensures { request.read value.now ≡ Ok (kind.view result) }
+    {
+        AddIncomingStreamsRequestParameter {
+            request_seq_nbr: read_u32_be(value),
+            nbr_new_streams: read_u16_be(&value[4..]),
+        }
+    }
+}
+
+impl SerializableTlv for AddIncomingStreamsRequestParameter {
+    ghost tlv = { λ p. (kind.format (kind.view p)).tlv };
+
+    ghost is_encodable = { λ p. IsEncodable (kind.format (kind.view p)).tlv };
+
+    ghost image_length = { λ p fits. length-format (kind.format (kind.view p)) };
+
+    ghost size_bound = { λ p fits. fits };
+
+    fn serialize_to(&self, output: &mut [u8]) {
+        let value = add_streams_value(self.request_seq_nbr, self.nbr_new_streams);
+        put_parameter(PARAMETER_TYPE, &value, output);
+    }
+
+    fn value_size(&self) -> usize {
+        8
+    }
+
+    fn encodable(&self) -> bool {
+        true
+    }
+}
+
+impl fmt::Display for AddIncomingStreamsRequestParameter {
+    ghost output = { λ p. Some (kind.format (kind.view p)).text };
+
+    fn fmt<W: fmt::Write>(&self, f: &mut fmt::Formatter<W>) -> fmt::Result {
+        let request = self.request_seq_nbr;
+        let streams = self.nbr_new_streams;
+        write!(
+            f,
+            "Add Incoming Streams Request, req_seq_nbr={request}, new_streams={streams}"
+        )
+    }
+}

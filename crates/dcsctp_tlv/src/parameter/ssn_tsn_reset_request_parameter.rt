@@ -1,0 +1,105 @@
+//! SSN/TSN Reset Request: the sender asks that all stream numbers and the TSN begin anew.
+//!
+//! ```txt
+//!  0                   1                   2                   3
+//!  0 1 2 3 4 5 6 7 8 9 0 1 2 3 4 5 6 7 8 9 0 1 2 3 4 5 6 7 8 9 0 1
+//! +-+-+-+-+-+-+-+-+-+-+-+-+-+-+-+-+-+-+-+-+-+-+-+-+-+-+-+-+-+-+-+-+
+//! |           type = 15           |           length = 8          |
+//! +-+-+-+-+-+-+-+-+-+-+-+-+-+-+-+-+-+-+-+-+-+-+-+-+-+-+-+-+-+-+-+-+
+//! |                    request sequence number                    |
+//! +-+-+-+-+-+-+-+-+-+-+-+-+-+-+-+-+-+-+-+-+-+-+-+-+-+-+-+-+-+-+-+-+
+//! ```
+
+ghost use Rattle.std.specs.Prelude.{◌≡◌, ◌≢◌, ◌↔◌, Some, Ok, IsOk, IsErrOf};
+ghost use Rattle.dcsctp_tlv.specs.Image.{IsEncodable};
+ghost use Rattle.dcsctp_tlv.specs.Reading.{Gives, Never, Passes};
+ghost use Rattle.dcsctp_tlv.specs.Length.{length-format};
+ghost use Rattle.dcsctp_tlv.specs.SsnTsnResetRequest as kind;
+
+use crate::error::ChunkParseError;
+use crate::frame::put_parameter;
+use crate::number::read_u32_be;
+use crate::parameter::raw_parameter::RawParameter;
+use crate::tlv::SerializableTlv;
+use std::fmt;
+
+/// The type of SSN/TSN Reset Request.
+pub const PARAMETER_TYPE: u16 = 15;
+
+/// SSN/TSN Reset Request (RFC 6525 section 4.3).
+#[derive(Debug, Drop)]
+pub struct SsnTsnResetRequestParameter {
+    /// The number of this request.
+    pub request_seq_nbr: u32,
+}
+
+#[tactic(auto, unfolding(crate::specs::SsnTsnResetRequest::read))]
+impl SsnTsnResetRequestParameter {
+    /// Reads the parameter; no memory is taken.
+    ///
+    /// `InvalidType` exactly for another type; `InvalidLength` exactly where the value hasn't 4
+    /// bytes.
+    pub fn try_from(raw: RawParameter) -> Result<Self, ChunkParseError>
+        ensures other { IsErrOf result ChunkParseError.InvalidType ↔
+            (raw.entry.typ ≢ PARAMETER_TYPE) }
+        ensures own { raw.entry.typ ≡ PARAMETER_TYPE →
+            Gives Never kind.view result (kind.read raw.entry.value.now) }
+    {
+        if raw.typ != PARAMETER_TYPE {
+            return Err(ChunkParseError::InvalidType);
+        }
+        SsnTsnResetRequestParameter::check(raw.value)?;
+        Ok(SsnTsnResetRequestParameter::build(raw.value))
+    }
+
+    /// `InvalidLength` exactly where the value hasn't 4 bytes.
+    pub(crate) fn check(value: &[u8]) -> Result<(), ChunkParseError>
+        ensures { Passes result (kind.read value.now) }
+    {
+        if value.len() != 4 {
+            return Err(ChunkParseError::InvalidLength);
+        }
+        Ok(())
+    }
+
+    /// What the value means.
+    pub(crate) fn build(value: &[u8]) -> Self
+        requires { IsOk (kind.read value.now) }
+        ensures { kind.read value.now ≡ Ok (kind.view result) }
+    {
+        SsnTsnResetRequestParameter {
+            request_seq_nbr: read_u32_be(value),
+        }
+    }
+}
+
+impl SerializableTlv for SsnTsnResetRequestParameter {
+    ghost tlv = { λ p. (kind.format (kind.view p)).tlv };
+
+    ghost is_encodable = { λ p. IsEncodable (kind.format (kind.view p)).tlv };
+
+    ghost image_length = { λ p fits. length-format (kind.format (kind.view p)) };
+
+    ghost size_bound = { λ p fits. fits };
+
+    fn serialize_to(&self, output: &mut [u8]) {
+        put_parameter(PARAMETER_TYPE, &self.request_seq_nbr.to_be_bytes(), output);
+    }
+
+    fn value_size(&self) -> usize {
+        4
+    }
+
+    fn encodable(&self) -> bool {
+        true
+    }
+}
+
+impl fmt::Display for SsnTsnResetRequestParameter {
+    ghost output = { λ p. Some (kind.format (kind.view p)).text };
+
+    fn fmt<W: fmt::Write>(&self, f: &mut fmt::Formatter<W>) -> fmt::Result {
+        let request = self.request_seq_nbr;
+        write!(f, "SSN/TSN Reset Request, req_seq_nbr={request}")
+    }
+}

@@ -1,0 +1,112 @@
+//! Small programs over the wire layer, as its callers write them: each has a contract that follows
+//! from the library's clauses alone.
+#![tactic(auto)]
+
+ghost use Rattle.std.specs.Prelude.{◌≡◌, ◌↔◌, ◌∷◌, [], Ok, IsTrue, IfOk, IfSome, option_map};
+ghost use Rattle.std.specs.Int.{w32, to_be_bytes, to_le_bytes};
+ghost use Rattle.dcsctp_chunk.specs.Cover.{Covers, IsRuns};
+ghost use Rattle.dcsctp_chunk.specs.Data.{user_data_view};
+ghost use Rattle.dcsctp_wire.specs.Builder.{Holds, built};
+ghost use Rattle.dcsctp_wire.specs.Canonical.{canonical};
+ghost use Rattle.dcsctp_wire.specs.Chunk.{InitAck, view};
+ghost use Rattle.dcsctp_wire.specs.Exact.{IsPacket};
+ghost use Rattle.dcsctp_wire.specs.InitAck as init_ack;
+ghost use Rattle.dcsctp_wire.specs.Packet.{PacketTree, Answer};
+ghost use Rattle.dcsctp_uses.specs.UserData.{user_data_of};
+
+use dcsctp_wire::packet::chunk::Chunk;
+use dcsctp_wire::packet::chunk_validators::clean_sack;
+use dcsctp_wire::packet::data::Data;
+use dcsctp_wire::packet::init_ack_chunk::InitAckChunk;
+use dcsctp_wire::packet::init_chunk::InitChunk;
+use dcsctp_wire::packet::sack_chunk::{GapAckBlock, SackChunk};
+use dcsctp_wire::packet::sctp_packet::{
+    ChecksumPolicy, CommonHeader, PacketParseError, SctpPacket, SctpPacketBuilder,
+};
+use dcsctp_wire::packet::{SerializableTlv, round_up_to_4};
+use std::alloc::{AllocError, Global};
+
+/// The word that `from_bytes`, `check` and `build` take, of a CRC32c: a packet holds the CRC least
+/// significant byte first (RFC 9260 appendix A), and the word is what bytes 8 to 11 are most
+/// significant byte first.
+pub fn checksum_word(crc32c: u32) -> u32
+    ensures { to_be_bytes w32 result ≡ to_le_bytes w32 crc32c }
+{
+    crc32c.swap_bytes()
+}
+
+/// Whether the bytes are a packet. It takes no memory, so that a flood of bad packets costs none.
+pub fn is_packet(bytes: &[u8], word: u32, policy: &ChecksumPolicy) -> bool
+    ensures { IsTrue result ↔ IsPacket bytes.now word policy.now }
+{
+    SctpPacket::check(bytes, word, policy).is_ok()
+}
+
+/// The canonical packet, which two packets share exactly where they mean the same: the key of a
+/// replay cache. Nothing where it has more bytes than a packet may have.
+pub fn fingerprint(
+    alloc: Global,
+    bytes: &[u8],
+    word: u32,
+    policy: &ChecksumPolicy,
+) -> Result<Option<Vec<u8>>, PacketParseError>
+    ensures { IfOk result (λ key. IfSome key (λ key. (p : PacketTree)
+        → Answer bytes.now word policy.now (Ok p) → key.items ≡ canonical p.meaning)) }
+{
+    let packet = SctpPacket::from_bytes(alloc, bytes, word, policy)?;
+    if !packet.fits() {
+        return Ok(None);
+    }
+    Ok(Some(packet.canonical_bytes(alloc)?))
+}
+
+/// The user data of DATA or I-DATA, without a copy; nothing of any other chunk.
+pub fn user_data(chunk: Chunk) -> Option<Data>
+    ensures { option_map user_data_view result ≡ user_data_of (view chunk) }
+{
+    match chunk {
+        Chunk::Data(data) => Some(data.user_data),
+        Chunk::IData(data) => Some(data.user_data),
+        _ => None,
+    }
+}
+
+/// The packet that answers an INIT: to where it came from, with the tag that it asks for. Nothing
+/// where the answer can't be written within the limit.
+///
+/// `as_bytes` of the builder is what the CRC32c is computed over; `build(checksum_word(crc32c))`
+/// then hands out the packet.
+pub fn init_answer(
+    alloc: Global,
+    header: &CommonHeader,
+    init: &InitChunk,
+    answer: InitAckChunk,
+    limit: usize,
+) -> Result<Option<SctpPacketBuilder>, AllocError>
+    ensures holds { IfOk result (λ made. IfSome made (λ builder.
+        Holds builder (InitAck (init_ack.view answer) ∷ []))) }
+    ensures tag { IfOk result (λ made. IfSome made (λ builder.
+        builder.tag ≡ init.now.initiate_tag)) }
+{
+    let mut builder = SctpPacketBuilder::new(
+        alloc,
+        init.initiate_tag,
+        header.destination_port,
+        header.source_port,
+        limit,
+    );
+    let chunk = Chunk::InitAck(answer);
+    if !chunk.encodable() || round_up_to_4(chunk.serialized_size()) > builder.bytes_remaining() {
+        return Ok(None);
+    }
+    builder.add(&chunk)?;
+    Ok(Some(builder))
+}
+
+/// The offsets that a SACK acknowledges beyond its cumulative TSN, in as few blocks as there can
+/// be. It takes no memory.
+pub fn acknowledged(sack: SackChunk) -> Vec<GapAckBlock>
+    ensures { IsRuns result.items (Covers sack.gap_ack_blocks.items) }
+{
+    clean_sack(sack).gap_ack_blocks
+}
