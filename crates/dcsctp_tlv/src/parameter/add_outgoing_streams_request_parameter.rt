@@ -13,9 +13,7 @@
 //! ```
 
 ghost use Rattle.std.specs.Prelude.{◌≡◌, ◌≢◌, ◌↔◌, Some, Ok, IsOk, IsErrOf};
-ghost use Rattle.dcsctp_tlv.specs.Image.{IsEncodable};
 ghost use Rattle.dcsctp_tlv.specs.Reading.{Gives, Never};
-ghost use Rattle.dcsctp_tlv.specs.Length.{length-format};
 ghost use Rattle.dcsctp_tlv.specs.AddStreamsRequest as request;
 ghost use Rattle.dcsctp_tlv.specs.AddOutgoingStreamsRequest as kind;
 
@@ -71,13 +69,7 @@ impl AddOutgoingStreamsRequestParameter {
 }
 
 impl SerializableTlv for AddOutgoingStreamsRequestParameter {
-    ghost tlv = { λ p. (kind.format (kind.view p)).tlv };
-
-    ghost is_encodable = { λ p. IsEncodable (kind.format (kind.view p)).tlv };
-
-    ghost image_length = { λ p fits. length-format (kind.format (kind.view p)) };
-
-    ghost size_bound = { λ p fits. fits };
+    ghost format = { λ p. kind.format (kind.view p) };
 
     fn serialize_to(&self, output: &mut [u8]) {
         let value = add_streams_value(self.request_seq_nbr, self.nbr_new_streams);
