@@ -11,6 +11,7 @@
 //! ```
 
 ghost use Rattle.std.specs.Prelude.{◌≡◌, ◌≢◌, ◌↔◌, ◌≤◌, ◌+◌, ◌*◌, ℕ, [], ◌∷◌, false, length, Some, IsOk, IfOk, IsErrOf};
+ghost use Rattle.dcsctp_tlv.specs.Frame.{lenient};
 ghost use Rattle.dcsctp_tlv.specs.Image.{IsEncodable};
 ghost use Rattle.dcsctp_tlv.specs.Level.{HasMeaning, MeansParts};
 ghost use Rattle.dcsctp_tlv.specs.Reading.{Answers, Finds, ReadsExactly};
@@ -58,14 +59,14 @@ impl AbortChunk {
     pub fn try_from(alloc: Global, raw: RawChunk) -> Result<Self, ChunkParseError>
         ensures other { IsErrOf result ChunkParseError.InvalidType ↔ (raw.entry.typ ≢ CHUNK_TYPE) }
         ensures own { raw.entry.typ ≡ CHUNK_TYPE
-            → Answers result (λ c. (abort_row raw.entry.flags).means raw.entry.value.now
-            (abort_view c)) ((abort_row raw.entry.flags).faults raw.entry.value.now) }
+            → Answers result (λ c. (abort_row lenient raw.entry.flags).means raw.entry.value.now
+            (abort_view c)) ((abort_row lenient raw.entry.flags).faults raw.entry.value.now) }
         ensures memory { IsErrOf result ChunkParseError.OutOfMemory
-            → HasMeaning (abort_row raw.entry.flags) raw.entry.value.now
+            → HasMeaning (abort_row lenient raw.entry.flags) raw.entry.value.now
             × (raw.entry.value.now ≢ []) }
         ensures exact { raw.entry.typ ≡ CHUNK_TYPE → ReadsExactly result abort_view
-            ((abort_row raw.entry.flags).means raw.entry.value.now)
-            ((abort_row raw.entry.flags).faults raw.entry.value.now) }
+            ((abort_row lenient raw.entry.flags).means raw.entry.value.now)
+            ((abort_row lenient raw.entry.flags).faults raw.entry.value.now) }
     {
         if raw.typ != CHUNK_TYPE {
             return Err(ChunkParseError::InvalidType);
@@ -75,33 +76,36 @@ impl AbortChunk {
 
     /// Checks the value, and builds what it means.
     fn read(alloc: Global, flags: u8, value: &[u8]) -> Result<Self, ChunkParseError>
-        ensures answer { Answers result (λ c. (abort_row flags).means value.now (abort_view c))
-            ((abort_row flags).faults value.now) }
+        ensures answer { Answers result
+            (λ c. (abort_row lenient flags).means value.now (abort_view c))
+            ((abort_row lenient flags).faults value.now) }
         ensures memory { IsErrOf result ChunkParseError.OutOfMemory →
-            HasMeaning (abort_row flags) value.now × (value.now ≢ []) }
+            HasMeaning (abort_row lenient flags) value.now × (value.now ≢ []) }
         ensures exact { ReadsExactly result abort_view
-            ((abort_row flags).means value.now) ((abort_row flags).faults value.now) }
+            ((abort_row lenient flags).means value.now)
+            ((abort_row lenient flags).faults value.now) }
     {
-        AbortChunk::check(value)?;
+        AbortChunk::check(value, false)?;
         Ok(AbortChunk::build(alloc, flags, value)?)
     }
 
     /// The number of parts: the chunk and its causes; or the first fault of these from the left. It
     /// takes no memory.
-    pub(crate) fn check(value: &[u8]) -> Result<usize, ChunkParseError>
+    pub(crate) fn check(value: &[u8], strict: bool) -> Result<usize, ChunkParseError>
         ensures found { (flags : ℕ) → Finds result
-            (MeansParts (λ a. 1 + length a.causes) (abort_row flags) value.now)
-            ((abort_row flags).faults value.now) }
+            (MeansParts (λ a. 1 + length a.causes) (abort_row strict flags) value.now)
+            ((abort_row strict flags).faults value.now) }
         ensures few { IfOk result (λ n. 4 * n ≤ 4 + length value.now) }
     {
-        let count = error_cause_check(value)?;
+        let count = error_cause_check(value, strict)?;
         Ok(1 + count)
     }
 
     /// What the value means, under these flags.
     pub(crate) fn build(alloc: Global, flags: u8, value: &[u8]) -> Result<Self, AllocError>
-        requires { HasMeaning (abort_row flags) value.now }
-        ensures meant { IfOk result (λ c. (abort_row flags).means value.now (abort_view c)) }
+        requires { HasMeaning (abort_row lenient flags) value.now }
+        ensures meant { IfOk result
+            (λ c. (abort_row lenient flags).means value.now (abort_view c)) }
         ensures empty { value.now ≡ [] → IsOk result }
     {
         Ok(AbortChunk {

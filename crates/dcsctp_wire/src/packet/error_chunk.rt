@@ -11,6 +11,7 @@
 //! ```
 
 ghost use Rattle.std.specs.Prelude.{◌≡◌, ◌≢◌, ◌↔◌, ◌≤◌, ◌+◌, ◌*◌, [], length, Some, IfOk, IsErrOf};
+ghost use Rattle.dcsctp_tlv.specs.Frame.{lenient};
 ghost use Rattle.dcsctp_tlv.specs.Image.{IsEncodable};
 ghost use Rattle.dcsctp_tlv.specs.Level.{HasMeaning, MeansParts};
 ghost use Rattle.dcsctp_tlv.specs.Reading.{Answers, Finds, ReadsExactly};
@@ -57,12 +58,13 @@ impl ErrorChunk {
     pub fn try_from(alloc: Global, raw: RawChunk) -> Result<Self, ChunkParseError>
         ensures other { IsErrOf result ChunkParseError.InvalidType ↔ (raw.entry.typ ≢ CHUNK_TYPE) }
         ensures own { raw.entry.typ ≡ CHUNK_TYPE
-            → Answers result (λ c. error_row.means raw.entry.value.now (error_view c))
-            (error_row.faults raw.entry.value.now) }
+            → Answers result (λ c. (error_row lenient).means raw.entry.value.now (error_view c))
+            ((error_row lenient).faults raw.entry.value.now) }
         ensures memory { IsErrOf result ChunkParseError.OutOfMemory
-            → HasMeaning error_row raw.entry.value.now }
+            → HasMeaning (error_row lenient) raw.entry.value.now }
         ensures exact { raw.entry.typ ≡ CHUNK_TYPE → ReadsExactly result error_view
-            (error_row.means raw.entry.value.now) (error_row.faults raw.entry.value.now) }
+            ((error_row lenient).means raw.entry.value.now)
+            ((error_row lenient).faults raw.entry.value.now) }
     {
         if raw.typ != CHUNK_TYPE {
             return Err(ChunkParseError::InvalidType);
@@ -72,35 +74,36 @@ impl ErrorChunk {
 
     /// Checks the value, and builds what it means.
     fn read(alloc: Global, value: &[u8]) -> Result<Self, ChunkParseError>
-        ensures answer { Answers result (λ c. error_row.means value.now (error_view c))
-            (error_row.faults value.now) }
+        ensures answer { Answers result (λ c. (error_row lenient).means value.now (error_view c))
+            ((error_row lenient).faults value.now) }
         ensures memory { IsErrOf result ChunkParseError.OutOfMemory →
-            HasMeaning error_row value.now }
+            HasMeaning (error_row lenient) value.now }
         ensures exact { ReadsExactly result error_view
-            (error_row.means value.now) (error_row.faults value.now) }
+            ((error_row lenient).means value.now)
+            ((error_row lenient).faults value.now) }
     {
-        ErrorChunk::check(value)?;
+        ErrorChunk::check(value, false)?;
         Ok(ErrorChunk::build(alloc, value)?)
     }
 
     /// The number of parts: the chunk and its causes. `InvalidLength` where there are no causes;
     /// else the first fault of these from the left. It takes no memory.
-    pub(crate) fn check(value: &[u8]) -> Result<usize, ChunkParseError>
-        ensures found { Finds result (MeansParts (λ cs. 1 + length cs) error_row value.now)
-            (error_row.faults value.now) }
+    pub(crate) fn check(value: &[u8], strict: bool) -> Result<usize, ChunkParseError>
+        ensures found { Finds result (MeansParts (λ cs. 1 + length cs) (error_row strict) value.now)
+            ((error_row strict).faults value.now) }
         ensures few { IfOk result (λ n. 4 * n ≤ 4 + length value.now) }
     {
         if value.is_empty() {
             return Err(ChunkParseError::InvalidLength);
         }
-        let count = error_cause_check(value)?;
+        let count = error_cause_check(value, strict)?;
         Ok(1 + count)
     }
 
     /// What the value means.
     pub(crate) fn build(alloc: Global, value: &[u8]) -> Result<Self, AllocError>
-        requires { HasMeaning error_row value.now }
-        ensures { IfOk result (λ c. error_row.means value.now (error_view c)) }
+        requires { HasMeaning (error_row lenient) value.now }
+        ensures { IfOk result (λ c. (error_row lenient).means value.now (error_view c)) }
     {
         Ok(ErrorChunk {
             error_causes: error_cause_build(alloc, value)?,
