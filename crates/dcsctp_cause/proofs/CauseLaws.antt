@@ -1,8 +1,9 @@
 -- The laws of the table of error causes: a line for each kind.
-use Rattle.std.proofs.Common.{◌≡◌, ◌≢◌, ℕ, ◌+◌, ◌^◌, ◌<◌, List, [], ◌∷◌, length, refl, sym, ap, subst, ◌∙◌, Result, Ok, ◌⊎◌, inl, inr}
+use Rattle.std.proofs.Common.{◌≡◌, ◌≢◌, ℕ, Bool, ◌+◌, ◌^◌, ◌<◌, List, [], ◌∷◌, length, refl, sym, ap, subst, ◌∙◌, Result, Ok, ◌⊎◌, inl, inr}
 use Rattle.std.specs.Int.{w16, from_be_bytes}
 use Rattle.std.specs.Str.{IsUtf8}
 use Rattle.std.specs.List.{AllByRecursion}
+use Rattle.dcsctp_tlv.specs.Frame.{lenient}
 use Rattle.dcsctp_tlv.specs.Level.{Row, plain, map_ok, HasMeaning}
 use Rattle.dcsctp_tlv.specs.Fault.{Fault}
 use Rattle.dcsctp_tlv.specs.Image.{Tlv, zeroed, size_of, image_of, IsEncodable, list_size}
@@ -10,6 +11,7 @@ use Rattle.dcsctp_tlv.specs.Table.{IsUnnamed}
 use Rattle.dcsctp_tlv.specs.Length.{length-format}
 use Rattle.dcsctp_tlv.specs.UnknownParameter as unknown
 use Rattle.dcsctp_tlv.proofs.Laws.{LawfulRow, Lawful, plain_lawful}
+use Rattle.dcsctp_tlv.proofs.Lenient.{Loosens}
 use Rattle.dcsctp_tlv.proofs.Tables.{◌&◌, of_table, of_others}
 use Rattle.dcsctp_tlv.proofs.ReadsBack.{ReadsBack, each_encodable, zeroed-solid}
 use Rattle.dcsctp_tlv.proofs.KindLaws.{of_map_ok}
@@ -37,8 +39,12 @@ row_lawful code = of_table (λ _ row. LawfulRow row) table code _ (
     (λ _. plain_lawful _)
 
 -- each value of a cause means one tree or has one fault
-pub causes_lawful : Lawful causes
-causes_lawful = λ first second. row_lawful (from_be_bytes w16 (first ∷ second ∷ []))
+pub causes_lawful : (strict : Bool) → Lawful (causes strict)
+causes_lawful strict = λ first second. row_lawful (from_be_bytes w16 (first ∷ second ∷ []))
+
+-- a strict reader's causes are a lenient one's
+pub causes_looser : (strict : Bool) → Loosens (causes strict) (causes lenient)
+causes_looser strict = record { row = λ first second value t m. m; any = λ size there. refl }
 
 -- ---- any value
 
@@ -68,7 +74,7 @@ pub record IsGoodCause (t : CauseTree) : Type 0 where
 
 -- the row for the two bytes that a code is written as
 abbrev Means : Tlv → CauseTree → Type 0
-Means tlv t = (causes.row tlv.first tlv.second).means (zeroed tlv.value) t
+Means tlv t = ((causes lenient).row tlv.first tlv.second).means (zeroed tlv.value) t
 
 unknown_means : (u : unknown.Tree) → IsUnnamed table u.typ
     → Means (tlv (Unknown u)) (Unknown u)
@@ -99,8 +105,8 @@ cause_means (Unknown u) good = unknown_means u good.formed
 pub length-cause : (t : CauseTree) → length (image_of (tlv t)) ≡ size_of (tlv t)
 length-cause t = length-format (format t)
 
-pub causes_read_back : ReadsBack causes tlv IsGoodCause
-causes_read_back =
+pub causes_read_back : (strict : Bool) → ReadsBack (causes strict) tlv IsGoodCause
+causes_read_back strict =
     record { sized = λ t. (format t).sized; fits = λ t good. good.encodable; means = cause_means }
 
 -- the causes of a list that can be written
@@ -124,7 +130,7 @@ row_forms code = of_table (λ _ row. FormsRow IsWellFormed row) table code _ (
     plain_forms violation_laws _ IsWellFormed 0 0 (λ x form. tt) & tt)
     (λ unnamed. unknown_forms IsWellFormed code Unknown (λ value. unnamed))
 
-pub causes_form : FormsTrees causes IsWellFormed
+pub causes_form : FormsTrees (causes lenient) IsWellFormed
 causes_form =
     record { formed = λ first second. row_forms (from_be_bytes w16 (first ∷ second ∷ [])) }
 
@@ -162,10 +168,10 @@ row_account code = of_table Accounted table code _ (
     (violation_kept value)) & tt)
     (λ _ value t kept. plain_account _ Unknown tlv (unknown_keeps code 0 0) value t)
 
-pub causes_account : Accounts causes tlv IsTextKept
+pub causes_account : Accounts (causes lenient) tlv IsTextKept
 causes_account = record { sized = λ i t kept. row_account (item_code i) i.value t kept }
 
 -- ---- the bound on their number
 
-pub causes_count : Counts causes (λ t. 1)
-causes_count = one_each causes
+pub causes_count : Counts (causes lenient) (λ t. 1)
+causes_count = one_each (causes lenient)

@@ -11,6 +11,7 @@
 //! ```
 
 ghost use Rattle.std.specs.Prelude.{◌≡◌, ◌≢◌, ◌≤◌, ◌*◌, [], length, vec_len, vec_capacity, Some, IsOk, IfOk, IsErrOf, refl};
+ghost use Rattle.dcsctp_tlv.specs.Frame.{lenient};
 ghost use Rattle.dcsctp_tlv.specs.Level.{HasMeaning, MeansTrees, MeansSome, MeansMany, HasFault};
 ghost use Rattle.dcsctp_tlv.specs.Reading.{Answers, Finds, ChecksExactly, ReadsExactly};
 ghost use Rattle.dcsctp_cause.specs.Cause as cause;
@@ -23,6 +24,7 @@ use crate::protocol_violation_error_cause::{self, ProtocolViolationErrorCause};
 use crate::unrecognized_chunk_error_cause::{self, UnrecognizedChunkErrorCause};
 use crate::user_initiated_abort_error_cause::{self, UserInitiatedAbortErrorCause};
 use dcsctp_tlv::error::ChunkParseError;
+use dcsctp_tlv::frame::are_zeros;
 use dcsctp_tlv::parameter::raw_parameter::RawParameter;
 use dcsctp_tlv::parameter::unknown_parameter::UnknownParameter;
 use dcsctp_tlv::reader::{ReadableTlv, list_build_counted, list_check, list_from_bytes};
@@ -140,7 +142,7 @@ impl ReadableTlv for ErrorCause {
 
     ghost parts = { λ t. 1 };
 
-    fn check(first: u8, second: u8, value: &[u8]) -> Result<usize, ChunkParseError> {
+    fn check(_strict: bool, first: u8, second: u8, value: &[u8]) -> Result<usize, ChunkParseError> {
         ErrorCause::check_value(u16::from_be_bytes([first, second]), value)?;
         Ok(1)
     }
@@ -200,8 +202,8 @@ impl ReadableTlv for ErrorCause {
         }
     }
 
-    fn accepts_padding(_size: usize, _there: &[u8]) -> bool {
-        true
+    fn accepts_padding(strict: bool, _size: usize, there: &[u8]) -> bool {
+        !strict || are_zeros(there)
     }
 }
 
@@ -241,7 +243,7 @@ impl ListedTlv for ErrorCause {
     ghost all_placed = { λ c. tt };
 }
 
-/// Reads all the bytes as a list of error causes; no bytes are the empty list.
+/// Reads all the bytes as a list of error causes; no bytes are the empty list. Padding is ignored.
 ///
 /// The first item that has no frame, or whose value is at fault, decides the error, which is
 /// `InvalidLength`; `OutOfMemory` only where there is none.
@@ -249,31 +251,37 @@ pub fn error_cause_from_bytes(
     alloc: Global,
     bytes: &[u8],
 ) -> Result<Vec<ErrorCause>, ChunkParseError>
-    ensures answer { Answers result (λ list. MeansTrees causes bytes.now (views list.items))
-        (HasFault causes bytes.now) }
+    ensures answer { Answers result
+        (λ list. MeansTrees (causes lenient) bytes.now (views list.items))
+        (HasFault (causes lenient) bytes.now) }
     ensures memory { IsErrOf result ChunkParseError.OutOfMemory →
-        MeansSome causes bytes.now × (bytes.now ≢ []) }
-    ensures exact { ReadsExactly result (λ list. views list.items) (MeansTrees causes bytes.now)
-        (HasFault causes bytes.now) }
+        MeansSome (causes lenient) bytes.now × (bytes.now ≢ []) }
+    ensures exact { ReadsExactly result (λ list. views list.items)
+        (MeansTrees (causes lenient) bytes.now) (HasFault (causes lenient) bytes.now) }
     ensures reserved { IfOk result (λ list. vec_capacity list ≡ vec_len list) }
 {
     list_from_bytes(alloc, bytes)
 }
 
 /// The number of error causes, or the first fault from the left. It takes no memory.
-pub fn error_cause_check(bytes: &[u8]) -> Result<usize, ChunkParseError>
-    ensures found { Finds result (MeansMany causes bytes.now) (HasFault causes bytes.now) }
-    ensures exact { ChecksExactly result causes bytes.now }
+///
+/// Where it is strict, `InvalidPadding` is the fault of a cause that has a meaning, and padding that
+/// isn't zero; the last may lack some or all of it.
+pub fn error_cause_check(bytes: &[u8], strict: bool) -> Result<usize, ChunkParseError>
+    ensures found { Finds result (MeansMany (causes strict) bytes.now)
+        (HasFault (causes strict) bytes.now) }
+    ensures exact { ChecksExactly result (causes strict) bytes.now }
     ensures few { IfOk result (λ n. 4 * n ≤ length bytes.now) }
 {
-    let (count, _) = list_check::<ErrorCause>(bytes)?;
+    let (count, _) = list_check::<ErrorCause>(strict, bytes)?;
     Ok(count)
 }
 
 /// Builds the error causes that the bytes are known to mean.
 pub fn error_cause_build(alloc: Global, bytes: &[u8]) -> Result<Vec<ErrorCause>, AllocError>
-    requires { MeansSome causes bytes.now }
-    ensures meant { IfOk result (λ list. MeansTrees causes bytes.now (views list.items)) }
+    requires { MeansSome (causes lenient) bytes.now }
+    ensures meant { IfOk result
+        (λ list. MeansTrees (causes lenient) bytes.now (views list.items)) }
     ensures reserved { IfOk result (λ list. vec_capacity list ≡ vec_len list) }
     ensures empty { bytes.now ≡ [] → IsOk result }
 {

@@ -12,12 +12,12 @@
 
 ghost use Rattle.std.specs.Borrow.{sem};
 ghost use Rattle.std.specs.Prelude.{◌≡◌, ◌↔◌, ◌≤◌, ◌<◌, ◌+◌, ◌^◌, length, take, drop, slice_index, IsOk, IfOk, IfErr};
-ghost use Rattle.dcsctp_tlv.specs.Frame.{header, BeginsWithFrame, frame_value, frame_rest};
+ghost use Rattle.dcsctp_tlv.specs.Frame.{header, BeginsWithFrame, frame_value, frame_padding, frame_rest};
 ghost use Rattle.dcsctp_tlv.specs.Lending.{LendsValue};
 ghost use Rattle.dcsctp_tlv.specs.declared.error.ChunkParseError.TheVariants.{InvalidLength};
 
 use dcsctp_tlv::error::ChunkParseError;
-use dcsctp_tlv::frame::split_frame;
+use dcsctp_tlv::frame::{padding_parts, split_frame};
 
 /// A chunk's type, its flags and its value as bytes (RFC 9260 section 3.2).
 #[derive(Debug, Drop)]
@@ -54,6 +54,24 @@ impl<'a> RawChunk<'a> {
             },
             rest,
         ))
+    }
+
+    /// The same, and between them its padding, as far as it is there.
+    ///
+    /// Value, padding and rest are parts of the input, one after the other. A reader that wants
+    /// zeros in the padding can look at it.
+    pub fn from_bytes_padded(bytes: &'a [u8]) -> Result<(Self, &'a [u8], &'a [u8]), ChunkParseError>
+        ensures frame { IsOk result ↔ BeginsWithFrame bytes.now }
+        ensures typ { IfOk result (λ x. x.0.typ ≡ slice_index bytes.now 0) }
+        ensures flags { IfOk result (λ x. x.0.flags ≡ slice_index bytes.now 1) }
+        ensures value { IfOk result (λ x. x.0.value.now ≡ frame_value bytes.now) }
+        ensures padding { IfOk result (λ x. x.1.now ≡ frame_padding bytes.now) }
+        ensures rest { IfOk result (λ x. x.2.now ≡ frame_rest bytes.now) }
+        ensures fault { IfErr result (λ e. e ≡ InvalidLength) }
+    {
+        let (raw, rest) = RawChunk::from_bytes(bytes)?;
+        let (_, padding) = padding_parts(bytes);
+        Ok((raw, padding, rest))
     }
 }
 

@@ -5,7 +5,7 @@ use Rattle.std.proofs.lemmas.Bool.{cases_lt}
 use Rattle.std.proofs.lemmas.List.{append-nil, get_or-drop, get_or-take, get_or_past, length-take, length-drop}
 use Rattle.dcsctp_tlv.specs.Fault.{Fault, Length, Padding}
 use Rattle.dcsctp_tlv.specs.Number.{AreBytes}
-use Rattle.dcsctp_tlv.specs.Frame.{round_up_to_4, padding_size, lenient, Item, item_bytes, PaddingRule, frame_length, BeginsWithFrame, frame_value, frame_padding, frame_rest}
+use Rattle.dcsctp_tlv.specs.Frame.{round_up_to_4, padding_size, any_padding, Item, item_bytes, PaddingRule, frame_length, BeginsWithFrame, frame_value, frame_padding, frame_rest}
 use Rattle.dcsctp_tlv.specs.Level.{Row, Level, ItemsMean, MeansTrees, HasFault, BeginsWithFault, no_frame, value, padding, front_row, plain, as_row, pick, listed}
 use Rattle.dcsctp_tlv.proofs.Items.{IsNext, AreBefore, front_item, front_split, front_next, next_one, item_frame, items_before, whole_before}
 use Rattle.dcsctp_tlv.proofs.Lists.{Progress, begin, step, finish, fault}
@@ -60,21 +60,21 @@ as_lawful {A} {B} f row law = record {
 nil_not_item : (i : Item) (r s : List ℕ) → [] ≡ (item_bytes i ++ r) ++ s → ⊥
 nil_not_item i r s e = cc
 
-loosened : (rule : PaddingRule) (i : Item) (r : List ℕ) → IsNext rule i r → IsNext lenient i r
+loosened : (rule : PaddingRule) (i : Item) (r : List ℕ) → IsNext rule i r → IsNext any_padding i r
 loosened rule i r p = record { fits = p.fits; at_most = p.at_most; whole = p.whole; accepted = refl }
 
 -- the front of an item's bytes is the item
 pub front_is : (rule : PaddingRule) (i : Item) (r bytes : List ℕ) → AreBytes bytes → bytes ≡ item_bytes i ++ r → IsNext rule i r → BeginsWithFrame bytes × (i ≡ front_item bytes)
 front_is rule i r bytes fits e p =
     let frame : BeginsWithFrame bytes = subst BeginsWithFrame (sym e) (item_frame rule i r p) in
-    let same = next_one lenient i (front_item bytes) r (frame_rest bytes) (sym e ∙ front_split bytes fits frame) (loosened rule i r p) (front_next lenient bytes fits frame refl) in
+    let same = next_one any_padding i (front_item bytes) r (frame_rest bytes) (sym e ∙ front_split bytes fits frame) (loosened rule i r p) (front_next any_padding bytes fits frame refl) in
     (frame, same.0)
 
 -- and so is what follows it
 pub rest_is : (rule : PaddingRule) (i : Item) (r bytes : List ℕ) → AreBytes bytes → bytes ≡ item_bytes i ++ r → IsNext rule i r → r ≡ frame_rest bytes
 rest_is rule i r bytes fits e p =
     let frame = (front_is rule i r bytes fits e p).0 in
-    (next_one lenient i (front_item bytes) r (frame_rest bytes) (sym e ∙ front_split bytes fits frame) (loosened rule i r p) (front_next lenient bytes fits frame refl)).1
+    (next_one any_padding i (front_item bytes) r (frame_rest bytes) (sym e ∙ front_split bytes fits frame) (loosened rule i r p) (front_next any_padding bytes fits frame refl)).1
 
 value_fits : (bytes : List ℕ) → AreBytes bytes → AreBytes (frame_value bytes)
 value_fits bytes fits i = elim (cases_lt i (frame_length bytes - 4)) [

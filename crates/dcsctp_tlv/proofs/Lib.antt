@@ -4,6 +4,7 @@ pub mod Images
 pub mod Lending
 pub mod Readings
 pub mod Laws
+pub mod Lenient
 pub mod ReadsBack
 pub mod Texts
 pub mod Puts

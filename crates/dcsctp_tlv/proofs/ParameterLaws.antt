@@ -1,9 +1,10 @@
 -- The laws of the table of parameters: a line for each kind.
-use Rattle.std.proofs.Common.{◌≡◌, ℕ, ◌+◌, ◌*◌, ◌^◌, ◌<◌, ◌≢◌, List, [], ◌∷◌, ◌++◌, length, refl, sym, ap, subst, Option, Some, None}
+use Rattle.std.proofs.Common.{◌≡◌, ℕ, Bool, ◌+◌, ◌*◌, ◌^◌, ◌<◌, ◌≢◌, List, [], ◌∷◌, ◌++◌, length, refl, sym, ap, subst, Option, Some, None}
 use Rattle.std.specs.Prelude.{IfSome}
 use Rattle.std.specs.Int.{w16, w32, from_be_bytes}
 use Rattle.std.specs.List.{AllByRecursion}
 use Rattle.dcsctp_tlv.specs.Format.{sized_tlv}
+use Rattle.dcsctp_tlv.specs.Frame.{lenient}
 use Rattle.dcsctp_tlv.specs.Number.{numbers}
 use Rattle.dcsctp_tlv.specs.Length.{length-format}
 use Rattle.dcsctp_tlv.specs.Level.{Row, map_ok, HasMeaning}
@@ -19,6 +20,7 @@ use Rattle.dcsctp_tlv.specs.ReconfigurationResponse.{next_tsns, kept_tsn}
 use Rattle.dcsctp_tlv.specs.UnknownParameter as unknown
 use Rattle.dcsctp_tlv.specs.Parameter.{ParameterTree, HeartbeatInfo, StateCookie, OutgoingSsnResetRequest, IncomingSsnResetRequest, SsnTsnResetRequest, ReconfigurationResponse, AddOutgoingStreamsRequest, AddIncomingStreamsRequest, ZeroChecksumAcceptable, SupportedExtensions, ForwardTsnSupported, Unknown, table, row, parameters, format, tlv, IsInWidth, IsWellFormed, kept, all_kept}
 use Rattle.dcsctp_tlv.proofs.Laws.{LawfulRow, Lawful, plain_lawful}
+use Rattle.dcsctp_tlv.proofs.Lenient.{Loosens}
 use Rattle.dcsctp_tlv.proofs.Tables.{◌&◌, of_table, of_others}
 use Rattle.dcsctp_tlv.proofs.ReadsBack.{ReadsBack, each_encodable, zeroed-solid}
 use Rattle.dcsctp_tlv.proofs.ParameterKinds.{info_laws, info_keeps, cookie_laws, cookie_keeps, outgoing_laws, outgoing_keeps, incoming_laws, incoming_keeps, response_laws, response_keeps, zero_checksum_laws, zero_checksum_keeps, extensions_laws, extensions_keeps, forward_tsn_laws, forward_tsn_keeps, ssn_tsn_laws, ssn_tsn_keeps, add_streams_laws, add_streams_keeps, type_back, unknown_keeps, unknown_forms}
@@ -45,8 +47,13 @@ row_lawful typ = of_table (λ _ row. LawfulRow row) table typ _ (
     (λ _. plain_lawful _)
 
 -- each value of a parameter means one tree or has one fault
-pub parameters_lawful : Lawful parameters
-parameters_lawful = λ first second. row_lawful (from_be_bytes w16 (first ∷ second ∷ []))
+pub parameters_lawful : (strict : Bool) → Lawful (parameters strict)
+parameters_lawful strict = λ first second. row_lawful (from_be_bytes w16 (first ∷ second ∷ []))
+
+-- a strict reader's parameters are a lenient one's
+pub parameters_looser : (strict : Bool) → Loosens (parameters strict) (parameters lenient)
+parameters_looser strict =
+    record { row = λ first second value t m. m; any = λ size there. refl }
 
 -- ---- any value
 
@@ -83,7 +90,7 @@ pub record IsGoodParameter (t : ParameterTree) : Type 0 where
 
 -- the row for the two bytes that a type is written as
 abbrev Means : Tlv → ParameterTree → Type 0
-Means tlv t = (parameters.row tlv.first tlv.second).means (zeroed tlv.value) t
+Means tlv t = ((parameters lenient).row tlv.first tlv.second).means (zeroed tlv.value) t
 
 unknown_means : (u : unknown.Tree) → IsUnnamed table u.typ → Means (tlv (Unknown u)) (Unknown u)
 unfolding unknown.read
@@ -125,8 +132,8 @@ parameter_means (Unknown u) good = unknown_means u good.formed
 pub length-parameter : (t : ParameterTree) → length (image_of (tlv t)) ≡ size_of (tlv t)
 length-parameter t = length-format (format t)
 
-pub parameters_read_back : ReadsBack parameters tlv IsGoodParameter
-parameters_read_back = record {
+pub parameters_read_back : (strict : Bool) → ReadsBack (parameters strict) tlv IsGoodParameter
+parameters_read_back strict = record {
   sized = λ t. (format t).sized;
   fits = λ t good. good.encodable;
   means = parameter_means;
@@ -158,7 +165,7 @@ row_forms typ = of_table (λ _ row. FormsRow IsWellFormed row) table typ _ (
     plain_forms forward_tsn_laws _ IsWellFormed 0 0 (λ x form. tt) & tt)
     (λ unnamed. unknown_forms IsWellFormed typ Unknown (λ value. unnamed))
 
-pub parameters_form : FormsTrees parameters IsWellFormed
+pub parameters_form : FormsTrees (parameters lenient) IsWellFormed
 parameters_form =
     record { formed = λ first second. row_forms (from_be_bytes w16 (first ∷ second ∷ [])) }
 
@@ -179,15 +186,15 @@ row_account typ = of_table (λ _ row. AccountsRow tlv row) table typ _ (
     plain_account _ (λ _. ForwardTsnSupported) tlv (forward_tsn_keeps 0 0) & tt)
     (λ _. plain_account _ Unknown tlv (unknown_keeps typ 0 0))
 
-pub parameters_account : Accounts parameters tlv (λ i. Unit {0})
+pub parameters_account : Accounts (parameters lenient) tlv (λ i. Unit {0})
 parameters_account = record {
   sized = λ i t kept. row_account (from_be_bytes w16 (i.first ∷ i.second ∷ [])) i.value t;
 }
 
 -- ---- the bound on their number
 
-pub parameters_count : Counts parameters (λ t. 1)
-parameters_count = one_each parameters
+pub parameters_count : Counts (parameters lenient) (λ t. 1)
+parameters_count = one_each (parameters lenient)
 
 -- ---- as they are written
 

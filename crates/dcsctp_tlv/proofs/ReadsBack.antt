@@ -1,9 +1,10 @@
 -- What is written reads back, at every level whose kinds do; and what was read has the size of its bytes.
-use Rattle.std.proofs.Common.{◌≡◌, ℕ, ◌^◌, ◌<◌, true, List, [], ◌∷◌, ◌++◌, length, refl, sym, ap, ◌∙◌, append_assoc, arith, Option}
+use Rattle.std.proofs.Common.{◌≡◌, ℕ, suc, zero, ◌^◌, ◌<◌, Bool, true, false, List, [], ◌∷◌, ◌++◌, length, refl, sym, ap, ◌∙◌, append_assoc, arith, Option}
 use Rattle.std.specs.Prelude.{replicate, unwrap_or}
 use Rattle.std.specs.List.{flat_map, AllByRecursion}
+use Rattle.std.proofs.lemmas.Bool.{eq-eqb}
 use Rattle.std.proofs.lemmas.List.{append-nil, length-replicate, length-map}
-use Rattle.dcsctp_tlv.specs.Frame.{padding_size, header, Item, item_bytes, PaddingRule, IsWhole, IsLastForm, AreFormed}
+use Rattle.dcsctp_tlv.specs.Frame.{padding_size, header, Item, item_bytes, PaddingRule, are_zeros, zero_padding, full_padding, IsWhole, IsLastForm, AreFormed}
 use Rattle.dcsctp_tlv.specs.Level.{Level, ItemsMean, MeansTrees}
 use Rattle.dcsctp_tlv.specs.Image.{solid, holes, zeroed, gap, Tlv, size_of, IsEncodable, image_of, list_image, list_size}
 use Rattle.dcsctp_tlv.proofs.Images.{zeroed-append, zeroed-holes}
@@ -20,6 +21,23 @@ AcceptsZeros rule = (n : ℕ) → rule n (replicate n 0) ≡ true
 
 abbrev pub AcceptsNone : PaddingRule → Type 0
 AcceptsNone rule = (n : ℕ) → rule n [] ≡ true
+
+zeros_are : (n : ℕ) → are_zeros (replicate n 0) ≡ true
+zeros_are zero = refl
+zeros_are (suc n) = zeros_are n
+
+-- what is written is accepted by strict readers and lenient ones
+pub zeros_accepted : (strict : Bool) → AcceptsZeros (zero_padding strict)
+zeros_accepted true n = zeros_are n
+zeros_accepted false n = refl
+
+pub none_accepted : (strict : Bool) → AcceptsNone (zero_padding strict)
+none_accepted true n = refl
+none_accepted false n = refl
+
+pub full_zeros_accepted : (strict : Bool) → AcceptsZeros (full_padding strict)
+full_zeros_accepted true n = rw (length-replicate {A = ℕ} n 0, eq-eqb n n refl, zeros_are n) refl
+full_zeros_accepted false n = refl
 
 pub zeroed-solid : (bytes : List ℕ) → zeroed (solid bytes) ≡ bytes
 zeroed-solid [] = refl

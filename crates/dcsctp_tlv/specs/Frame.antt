@@ -5,8 +5,8 @@
 --
 -- For a chunk the first two bytes are its type and its flags; for a parameter or a cause they
 -- are its type. The length counts these four bytes and the value, and leaves out the padding.
-use Rattle.std.specs.Prelude.{◌≡◌, ℕ, ◌+◌, ◌-◌, ◌*◌, ◌/◌, ◌%◌, ◌≤◌, ◌<◌, ◌^◌, Bool, true, List, [], ◌∷◌, ◌++◌, length, take, drop}
-use Rattle.std.specs.List.{flat_map}
+use Rattle.std.specs.Prelude.{◌≡◌, ℕ, ◌+◌, ◌-◌, ◌*◌, ◌/◌, ◌%◌, ◌≤◌, ◌<◌, ◌^◌, ◌==◌, Bool, true, false, ◌&&◌, if◌then◌else◌, List, [], ◌∷◌, ◌++◌, length, take, drop}
+use Rattle.std.specs.List.{flat_map, list_all}
 use Rattle.std.specs.Int.{w16, to_be_bytes}
 use Rattle.dcsctp_tlv.specs.Number.{number16}
 
@@ -47,9 +47,26 @@ HasLength i = 4 + length i.value < 2 ^ 16
 abbrev pub PaddingRule : Type 0
 PaddingRule = ℕ → List ℕ → Bool
 
--- A receiver ignores the padding (RFC 9260 section 3.2): any bytes are accepted.
-abbrev pub lenient : PaddingRule
-lenient size there = true
+-- any bytes
+abbrev pub any_padding : PaddingRule
+any_padding size there = true
+
+-- A lenient reader ignores the padding, as a receiver does (RFC 9260 section 3.2). A strict one
+-- wants the zeros that a sender writes there.
+abbrev pub lenient : Bool
+lenient = false
+
+abbrev pub are_zeros : List ℕ → Bool
+are_zeros bytes = list_all (λ byte. byte == 0) bytes
+
+-- Where it is strict, what is there is zero; some may be missing, of the last item of a list.
+abbrev pub zero_padding : Bool → PaddingRule
+zero_padding strict size there = if strict then are_zeros there else true
+
+-- Where it is strict, what is there is zero, and none is missing.
+abbrev pub full_padding : Bool → PaddingRule
+full_padding strict size there =
+    if strict then (length there == size && are_zeros there) else true
 
 -- with all its padding
 pub record IsWhole (rule : PaddingRule) (i : Item) : Type 0 where

@@ -1,7 +1,7 @@
 -- The table of parameters (RFC 9260 section 3.2.1).
-use Rattle.std.specs.Prelude.{◌≡◌, ◌⊎◌, ℕ, List, [], ◌∷◌, map}
+use Rattle.std.specs.Prelude.{◌≡◌, ◌⊎◌, ℕ, Bool, List, [], ◌∷◌, map}
 use Rattle.std.specs.Int.{w16, from_be_bytes}
-use Rattle.dcsctp_tlv.specs.Frame.{lenient}
+use Rattle.dcsctp_tlv.specs.Frame.{zero_padding}
 use Rattle.dcsctp_tlv.specs.Image.{Tlv}
 use Rattle.dcsctp_tlv.specs.Level.{Row, Level, plain, map_ok}
 use Rattle.dcsctp_tlv.specs.Table.{Named, named, row_of, IsUnnamed}
@@ -45,11 +45,11 @@ table =
 abbrev pub row : ℕ → Row ParameterTree
 row typ = row_of table typ (plain (λ value. map_ok Unknown (unknown.read typ value)))
 
--- lists of parameters: their padding is never looked at
-abbrev pub parameters : Level ParameterTree
-parameters = record {
+-- lists of parameters, for a strict reader or a lenient one
+abbrev pub parameters : Bool → Level ParameterTree
+parameters strict = record {
   row = λ first second. row (from_be_bytes w16 (first ∷ second ∷ []));
-  padding = lenient;
+  padding = zero_padding strict;
 }
 
 -- what such a value means holds nothing on the heap

@@ -1,7 +1,7 @@
 //! The frame of an item: a header of four bytes, and a value (RFC 9260 section 3.2).
 
 ghost use Rattle.std.specs.Prelude.{◌≡◌, ◌≤◌, ◌<◌, ◌+◌, ◌^◌, ◌++◌, ◌↔◌, length, drop, IsOk, IfOk, IfErr};
-ghost use Rattle.dcsctp_tlv.specs.Frame.{padding_size, header, BeginsWithFrame, frame_value, frame_padding, frame_rest};
+ghost use Rattle.dcsctp_tlv.specs.Frame.{padding_size, are_zeros as are_zero_bytes, header, BeginsWithFrame, frame_value, frame_padding, frame_rest};
 ghost use Rattle.dcsctp_tlv.specs.Format.{flagged_tlv};
 ghost use Rattle.dcsctp_tlv.specs.Image.{put, solid_tlv, typed_tlv, image_of, written};
 ghost use Rattle.dcsctp_tlv.specs.declared.error.ChunkParseError.TheVariants.{InvalidLength};
@@ -57,6 +57,13 @@ pub fn padding_parts(bytes: &[u8]) -> (usize, &[u8])
     let length = read_u16_be(&bytes[2..]) as usize;
     let padded = round_up_to_4(length);
     (padded - length, &bytes[length..padded.min(bytes.len())])
+}
+
+/// Every byte is zero, as a sender pads (RFC 9260 section 3.2).
+pub fn are_zeros(bytes: &[u8]) -> bool
+    ensures { result ≡ are_zero_bytes bytes.now }
+{
+    bytes.iter().all(|byte| *byte == 0)
 }
 
 /// Writes a header into the first four bytes; the bytes after them stay.

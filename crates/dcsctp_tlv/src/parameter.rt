@@ -26,12 +26,14 @@ pub mod unknown_parameter;
 pub mod zero_checksum_acceptable_parameter;
 
 ghost use Rattle.std.specs.Prelude.{◌≡◌, ◌≢◌, ◌≤◌, ◌*◌, [], length, vec_len, vec_capacity, IsOk, IfOk, IsErrOf, refl};
+ghost use Rattle.dcsctp_tlv.specs.Frame.{lenient};
 ghost use Rattle.dcsctp_tlv.specs.Level.{HasMeaning, MeansTrees, MeansSome, MeansMany, HasFault};
 ghost use Rattle.dcsctp_tlv.specs.Reading.{Answers, Finds, ChecksExactly, ReadsExactly};
 ghost use Rattle.dcsctp_tlv.specs.Parameter as parameter;
 ghost use Rattle.dcsctp_tlv.specs.Parameter.{ParameterTree, parameters, TakesNoMemory, view, views};
 
 use crate::error::ChunkParseError;
+use crate::frame::are_zeros;
 pub use crate::list::{
     list_encodable as parameters_encodable, list_size as parameters_serialized_size,
     put_list as parameters_serialize_to,
@@ -219,7 +221,7 @@ impl ReadableTlv for Parameter {
 
     ghost parts = { λ t. 1 };
 
-    fn check(first: u8, second: u8, value: &[u8]) -> Result<usize, ChunkParseError> {
+    fn check(_strict: bool, first: u8, second: u8, value: &[u8]) -> Result<usize, ChunkParseError> {
         Parameter::check_value(u16::from_be_bytes([first, second]), value)?;
         Ok(1)
     }
@@ -310,8 +312,8 @@ impl ReadableTlv for Parameter {
         }
     }
 
-    fn accepts_padding(_size: usize, _there: &[u8]) -> bool {
-        true
+    fn accepts_padding(strict: bool, _size: usize, there: &[u8]) -> bool {
+        !strict || are_zeros(there)
     }
 }
 
@@ -343,36 +345,42 @@ impl ListedTlv for Parameter {
     ghost all_placed = { λ p. tt };
 }
 
-/// Reads all the bytes as a list of parameters; no bytes are the empty list.
+/// Reads all the bytes as a list of parameters; no bytes are the empty list. Padding is ignored.
 ///
 /// The first item that has no frame, or whose value is at fault, decides the error: `InvalidLength`
 /// or `InvalidValue`; `OutOfMemory` only where there is none.
 pub fn parameters_from_bytes(alloc: Global, bytes: &[u8]) -> Result<Vec<Parameter>, ChunkParseError>
-    ensures answer { Answers result (λ list. MeansTrees parameters bytes.now (views list.items))
-        (HasFault parameters bytes.now) }
+    ensures answer { Answers result
+        (λ list. MeansTrees (parameters lenient) bytes.now (views list.items))
+        (HasFault (parameters lenient) bytes.now) }
     ensures memory { IsErrOf result ChunkParseError.OutOfMemory →
-        MeansSome parameters bytes.now × (bytes.now ≢ []) }
-    ensures exact { ReadsExactly result (λ list. views list.items) (MeansTrees parameters bytes.now)
-        (HasFault parameters bytes.now) }
+        MeansSome (parameters lenient) bytes.now × (bytes.now ≢ []) }
+    ensures exact { ReadsExactly result (λ list. views list.items)
+        (MeansTrees (parameters lenient) bytes.now) (HasFault (parameters lenient) bytes.now) }
     ensures reserved { IfOk result (λ list. vec_capacity list ≡ vec_len list) }
 {
     list_from_bytes(alloc, bytes)
 }
 
 /// The number of parameters, or the first fault from the left. It takes no memory.
-pub fn parameters_check(bytes: &[u8]) -> Result<usize, ChunkParseError>
-    ensures found { Finds result (MeansMany parameters bytes.now) (HasFault parameters bytes.now) }
-    ensures exact { ChecksExactly result parameters bytes.now }
+///
+/// Where it is strict, `InvalidPadding` is the fault of a parameter that has a meaning, and padding
+/// that isn't zero; the last may lack some or all of it.
+pub fn parameters_check(bytes: &[u8], strict: bool) -> Result<usize, ChunkParseError>
+    ensures found { Finds result (MeansMany (parameters strict) bytes.now)
+        (HasFault (parameters strict) bytes.now) }
+    ensures exact { ChecksExactly result (parameters strict) bytes.now }
     ensures few { IfOk result (λ n. 4 * n ≤ length bytes.now) }
 {
-    let (count, _) = list_check::<Parameter>(bytes)?;
+    let (count, _) = list_check::<Parameter>(strict, bytes)?;
     Ok(count)
 }
 
 /// Builds the parameters that the bytes are known to mean.
 pub fn parameters_build(alloc: Global, bytes: &[u8]) -> Result<Vec<Parameter>, AllocError>
-    requires { MeansSome parameters bytes.now }
-    ensures meant { IfOk result (λ list. MeansTrees parameters bytes.now (views list.items)) }
+    requires { MeansSome (parameters lenient) bytes.now }
+    ensures meant { IfOk result
+        (λ list. MeansTrees (parameters lenient) bytes.now (views list.items)) }
     ensures reserved { IfOk result (λ list. vec_capacity list ≡ vec_len list) }
     ensures empty { bytes.now ≡ [] → IsOk result }
 {

@@ -1,8 +1,8 @@
 //! Reading a list of items in two passes: a check that takes no memory, and a build that tests
 //! nothing again. For every level.
 
-ghost use Rattle.std.specs.Prelude.{◌≡◌, ◌≢◌, ◌≤◌, ◌<◌, ◌+◌, ◌*◌, ℕ, List, [], true, length, map, IsOk, IfOk, IsErrOf, vec_len, vec_capacity};
-ghost use Rattle.dcsctp_tlv.specs.Frame.{PaddingRule, Item, AreItems};
+ghost use Rattle.std.specs.Prelude.{◌≡◌, ◌≢◌, ◌≤◌, ◌<◌, ◌+◌, ◌*◌, ℕ, Bool, List, [], true, length, map, IsOk, IfOk, IsErrOf, vec_len, vec_capacity};
+ghost use Rattle.dcsctp_tlv.specs.Frame.{PaddingRule, lenient, Item, AreItems};
 ghost use Rattle.dcsctp_tlv.specs.Level.{Level, HasMeaning, MeansParts, Grows, MeansTrees, MeansSome, MeansMany, MeansCounted, HasFault};
 ghost use Rattle.dcsctp_tlv.specs.Reading.{Answers, Finds};
 
@@ -15,8 +15,8 @@ pub trait ReadableTlv: Sized + Drop {
     /// What its bytes mean.
     ghost Tree: { Type 0 };
 
-    /// The table of its level.
-    ghost level: { Level Tree };
+    /// The table of its level, for a strict reader or a lenient one.
+    ghost level: { Bool → Level Tree };
 
     /// What it means, without where it lies in memory.
     ghost view: { Self → Tree };
@@ -26,9 +26,9 @@ pub trait ReadableTlv: Sized + Drop {
 
     /// The number of parts of what an item's value means, each of which has four bytes of its own;
     /// or its fault. It takes no memory.
-    fn check(first: u8, second: u8, value: &[u8]) -> Result<usize, ChunkParseError>
-        ensures found { Finds result (MeansParts parts (level.row first second) value.now)
-            ((level.row first second).faults value.now) }
+    fn check(strict: bool, first: u8, second: u8, value: &[u8]) -> Result<usize, ChunkParseError>
+        ensures found { Finds result (MeansParts parts ((level strict).row first second) value.now)
+            (((level strict).row first second).faults value.now) }
         ensures few { IfOk result (λ n. 4 * n ≤ 4 + length value.now) };
 
     /// Builds what an item's value means at the end of a list that has room for it.
@@ -39,23 +39,28 @@ pub trait ReadableTlv: Sized + Drop {
         second: u8,
         value: &[u8],
     ) -> Result<(), AllocError>
-        requires meant { HasMeaning (level.row first second) value.now }
+        requires meant { HasMeaning ((level lenient).row first second) value.now }
         requires room { vec_len list.old < vec_capacity list.old }
         ensures grows { IfOk result (λ _. Grows view
-            (level.row first second) value.now list.old.items list.new.items) }
+            ((level lenient).row first second) value.now list.old.items list.new.items) }
         ensures len { IfOk result (λ _. vec_len list.new ≡ vec_len list.old + 1) }
         ensures capacity { IfOk result (λ _. vec_capacity list.new ≡ vec_capacity list.old) };
 
     /// Whether an item that should have so many bytes of padding may have these.
-    fn accepts_padding(size: usize, there: &[u8]) -> bool
-        ensures { result ≡ level.padding size there.now };
+    fn accepts_padding(strict: bool, size: usize, there: &[u8]) -> bool
+        ensures { result ≡ (level strict).padding size there.now };
 }
 
 /// The number of items, and that of all parts; or the first fault from the left. It takes no
 /// memory.
-pub fn list_check<T: ReadableTlv>(bytes: &[u8]) -> Result<(usize, usize), ChunkParseError>
-    ensures found { Finds result (λ n. MeansCounted T.level T.parts bytes.now n.0 n.1)
-        (HasFault T.level bytes.now) }
+///
+/// Where it is strict it also looks at the padding of each item, after its value.
+pub fn list_check<T: ReadableTlv>(
+    strict: bool,
+    bytes: &[u8],
+) -> Result<(usize, usize), ChunkParseError>
+    ensures found { Finds result (λ n. MeansCounted (T.level strict) T.parts bytes.now n.0 n.1)
+        (HasFault (T.level strict) bytes.now) }
     ensures few { IfOk result (λ n. (4 * n.0 ≤ length bytes.now) × (4 * n.1 ≤ length bytes.now)) }
 {
     let mut items: usize = 0;
@@ -63,9 +68,9 @@ pub fn list_check<T: ReadableTlv>(bytes: &[u8]) -> Result<(usize, usize), ChunkP
     let mut rest = bytes;
     while !rest.is_empty() {
         let (value, after) = split_frame(rest)?;
-        let found = T::check(rest[0], rest[1], value)?;
+        let found = T::check(strict, rest[0], rest[1], value)?;
         let (size, there) = padding_parts(rest);
-        if !T::accepts_padding(size, there) {
+        if !T::accepts_padding(strict, size, there) {
             return Err(ChunkParseError::InvalidPadding);
         }
         items += 1;
@@ -98,8 +103,9 @@ pub fn list_build<T: ReadableTlv>(
     bytes: &[u8],
     count: usize,
 ) -> Result<Vec<T>, AllocError>
-    requires { MeansMany T.level bytes.now count }
-    ensures meant { IfOk result (λ list. MeansTrees T.level bytes.now (map T.view list.items)) }
+    requires { MeansMany (T.level lenient) bytes.now count }
+    ensures meant { IfOk result
+        (λ list. MeansTrees (T.level lenient) bytes.now (map T.view list.items)) }
     ensures reserved { IfOk result (λ list. vec_capacity list ≡ vec_len list) }
     ensures empty { bytes.now ≡ [] → IsOk result }
 {
@@ -115,8 +121,9 @@ pub fn list_build<T: ReadableTlv>(
 
 /// The same where their number isn't known: the items are counted first.
 pub fn list_build_counted<T: ReadableTlv>(alloc: Global, bytes: &[u8]) -> Result<Vec<T>, AllocError>
-    requires { MeansSome T.level bytes.now }
-    ensures meant { IfOk result (λ list. MeansTrees T.level bytes.now (map T.view list.items)) }
+    requires { MeansSome (T.level lenient) bytes.now }
+    ensures meant { IfOk result
+        (λ list. MeansTrees (T.level lenient) bytes.now (map T.view list.items)) }
     ensures reserved { IfOk result (λ list. vec_capacity list ≡ vec_len list) }
     ensures empty { bytes.now ≡ [] → IsOk result }
 {
@@ -131,12 +138,13 @@ pub fn list_from_bytes<T: ReadableTlv>(
     alloc: Global,
     bytes: &[u8],
 ) -> Result<Vec<T>, ChunkParseError>
-    ensures answer { Answers result (λ list. MeansTrees T.level bytes.now (map T.view list.items))
-        (HasFault T.level bytes.now) }
+    ensures answer { Answers result
+        (λ list. MeansTrees (T.level lenient) bytes.now (map T.view list.items))
+        (HasFault (T.level lenient) bytes.now) }
     ensures memory { IsErrOf result ChunkParseError.OutOfMemory
-        → MeansSome T.level bytes.now × (bytes.now ≢ []) }
+        → MeansSome (T.level lenient) bytes.now × (bytes.now ≢ []) }
     ensures reserved { IfOk result (λ list. vec_capacity list ≡ vec_len list) }
 {
-    let (count, _) = list_check::<T>(bytes)?;
+    let (count, _) = list_check::<T>(false, bytes)?;
     Ok(list_build(alloc, bytes, count)?)
 }

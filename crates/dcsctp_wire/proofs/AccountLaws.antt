@@ -6,7 +6,7 @@ use Rattle.std.proofs.lemmas.Bool.{leb-true}
 use Rattle.std.proofs.lemmas.List.{length-drop}
 use Rattle.dcsctp_tlv.specs.Fault.{Fault}
 use Rattle.dcsctp_tlv.proofs.KindLaws.{KeepsSize, of_map_ok}
-use Rattle.dcsctp_tlv.specs.Frame.{Item, AreItems, lenient}
+use Rattle.dcsctp_tlv.specs.Frame.{Item, AreItems, lenient, any_padding}
 use Rattle.dcsctp_tlv.specs.Level.{Row, plain, as_row, map_ok, MeansTrees}
 use Rattle.dcsctp_tlv.specs.Image.{Tlv, size_of, list_size}
 use Rattle.dcsctp_tlv.specs.Parameter.{ParameterTree, parameters, tlv as parameter_tlv}
@@ -38,7 +38,7 @@ after words a b size h e le =
 -- the causes keep their texts
 abbrev KeepsCauses : ℕ → List ℕ → Type 0
 KeepsCauses typ value =
-    (typ ≡ 6) ⊎ (typ ≡ 9) → (items : List Item) → AreItems lenient value items
+    (typ ≡ 6) ⊎ (typ ≡ 9) → (items : List Item) → AreItems any_padding value items
     → AllByRecursion IsTextKept items
 
 -- what a row owes for the chunks of a type
@@ -53,9 +53,9 @@ tree_size t u n e h = subst (λ (x : ChunkTree). SameSpace (size_of (chunk_tlv x
 
 init_account : (typ : ℕ) (tree : InitTree → ChunkTree)
     → ((i : InitTree) → size_of (chunk_tlv (tree i))
-    ≡ 4 + (16 + list_size parameter_tlv i.parameters)) → Accounted typ (as_row tree init_row)
+    ≡ 4 + (16 + list_size parameter_tlv i.parameters)) → Accounted typ (as_row tree (init_row lenient))
 init_account typ tree size value t kept m =
-    let list = all_account parameters parameter_tlv parameters_account
+    let list = all_account (parameters lenient) parameter_tlv parameters_account
     (drop 16 value) m.1.1.0 m.1.1.1 in
     let ps : m.0.parameters ≡ m.1.1.0 = ap (λ (i : InitTree). i.parameters) m.1.1.2 in
     tree_size t (tree m.0) _ m.2 (subst (λ (n : ℕ). SameSpace n (4 + length value))
@@ -65,30 +65,30 @@ init_account typ tree size value t kept m =
 
 parameter_list_account : (typ : ℕ) (tree : List ParameterTree → ChunkTree)
     → ((ps : List ParameterTree) → size_of (chunk_tlv (tree ps))
-    ≡ 4 + (0 + list_size parameter_tlv ps)) → Accounted typ (as_row tree parameter_list_row)
+    ≡ 4 + (0 + list_size parameter_tlv ps)) → Accounted typ (as_row tree (parameter_list_row lenient))
 parameter_list_account typ tree size value t kept m =
-    let list = all_account parameters parameter_tlv parameters_account value m.1.1.0 m.1.1.1 in
+    let list = all_account (parameters lenient) parameter_tlv parameters_account value m.1.1.0 m.1.1.1 in
     tree_size t (tree m.0) _ m.2 (subst (λ (n : ℕ). SameSpace n (4 + length value))
     (sym (size m.0
     ∙ ap (λ (xs : List ParameterTree). 4 + (0 + list_size parameter_tlv xs)) m.1.1.2))
     (after 0 (list_size parameter_tlv m.1.1.0) (length value) (length value) list (omega arith)
     (omega arith)))
 
-cause_list_account : (value : List ℕ) (cs : List CauseTree) (m : MeansTrees causes value cs)
-    → ((items : List Item) → AreItems lenient value items → AllByRecursion IsTextKept items)
+cause_list_account : (value : List ℕ) (cs : List CauseTree) (m : MeansTrees (causes lenient) value cs)
+    → ((items : List Item) → AreItems any_padding value items → AllByRecursion IsTextKept items)
     → SameSpace (4 + (0 + list_size cause_tlv cs)) (4 + length value)
 cause_list_account value cs m kept =
     after 0 (list_size cause_tlv cs) (length value) (length value)
-    (list_account causes cause_tlv IsTextKept causes_account value cs m (kept m.items m.are))
+    (list_account (causes lenient) cause_tlv IsTextKept causes_account value cs m (kept m.items m.are))
     (omega arith) (omega arith)
 
-abort_account : (flags : ℕ) → Accounted 6 (as_row Abort (abort_row flags))
+abort_account : (flags : ℕ) → Accounted 6 (as_row Abort (abort_row lenient flags))
 abort_account flags value t kept m =
     tree_size t (Abort m.0) _ m.2
     (subst (λ (a : AbortTree). SameSpace (size_of (chunk_tlv (Abort a))) (4 + length value))
     (sym m.1.1.2) (cause_list_account value m.1.1.0 m.1.1.1 (kept (inl refl))))
 
-error_account : Accounted 9 (as_row Error error_row)
+error_account : Accounted 9 (as_row Error (error_row lenient))
 error_account value t kept m =
     tree_size t (Error m.0) _ m.2
     (subst (λ (cs : List CauseTree). SameSpace (size_of (chunk_tlv (Error cs))) (4 + length value))
@@ -103,8 +103,8 @@ plain_accounted typ flags tree keeps written value t kept =
     plain_account _ tree chunk_tlv
     (λ v x e. ap size_of (written x) ∙ keeps typ flags v x e) value t
 
-account : (typ flags : ℕ) → Accounted typ (chunk_row typ flags)
-account typ flags = of_table Accounted (table flags) typ _ (
+account : (typ flags : ℕ) → Accounted typ (chunk_row lenient typ flags)
+account typ flags = of_table Accounted (table lenient flags) typ _ (
     plain_accounted 0 flags Data data_keeps_size (λ x. refl) &
     init_account 1 Init (λ i. refl) &
     init_account 2 InitAck (λ i. refl) &
@@ -124,7 +124,7 @@ account typ flags = of_table Accounted (table flags) typ _ (
     plain_accounted 194 flags IForwardTsn iforward_tsn_keeps_size (λ x. refl) & tt)
     (λ _. plain_accounted typ flags Unknown unknown_keeps_size (λ x. refl))
 
-pub chunks_account : Accounts chunks chunk_tlv AreTextsKept
+pub chunks_account : Accounts (chunks lenient) chunk_tlv AreTextsKept
 chunks_account = record { sized = λ i t kept. account i.first i.second i.value t kept }
 
 -- ---- the bound on the number of parts
@@ -144,21 +144,21 @@ plain_counted tree read one value t e =
 list_parts : (n value list : ℕ) → 4 * n ≤ list → list ≤ value → 4 * (1 + n) ≤ 4 + value
 list_parts n value list h le = omega (arith, h, le)
 
-parameters_parts : (bytes : List ℕ) (ps : List ParameterTree) → MeansTrees parameters bytes ps
+parameters_parts : (bytes : List ℕ) (ps : List ParameterTree) → MeansTrees (parameters lenient) bytes ps
     → 4 * length ps ≤ length bytes
 parameters_parts bytes ps m =
     subst (λ (n : ℕ). 4 * n ≤ length bytes) (total-one ps)
-    (list_count parameters (λ p. 1) parameters_count bytes ps m)
+    (list_count (parameters lenient) (λ p. 1) parameters_count bytes ps m)
 
-causes_parts : (bytes : List ℕ) (cs : List CauseTree) → MeansTrees causes bytes cs
+causes_parts : (bytes : List ℕ) (cs : List CauseTree) → MeansTrees (causes lenient) bytes cs
     → 4 * length cs ≤ length bytes
 causes_parts bytes cs m =
     subst (λ (n : ℕ). 4 * n ≤ length bytes) (total-one cs)
-    (list_count causes (λ c. 1) causes_count bytes cs m)
+    (list_count (causes lenient) (λ c. 1) causes_count bytes cs m)
 
 init_counted : (tree : InitTree → ChunkTree)
     → ((i : InitTree) → chunk_parts (tree i) ≡ 1 + length i.parameters)
-    → Counted (as_row tree init_row)
+    → Counted (as_row tree (init_row lenient))
 init_counted tree parts value t m =
     let e : chunk_parts t ≡ 1 + length m.1.1.0 = ap chunk_parts m.2 ∙ parts m.0
     ∙ ap (λ (i : InitTree). 1 + length i.parameters) m.1.1.2 in
@@ -168,29 +168,29 @@ init_counted tree parts value t m =
 
 parameter_list_counted : (tree : List ParameterTree → ChunkTree)
     → ((ps : List ParameterTree) → chunk_parts (tree ps) ≡ 1 + length ps)
-    → Counted (as_row tree parameter_list_row)
+    → Counted (as_row tree (parameter_list_row lenient))
 parameter_list_counted tree parts value t m =
     let e : chunk_parts t ≡ 1 + length m.1.1.0 = ap chunk_parts m.2 ∙ parts m.0
     ∙ ap (λ (ps : List ParameterTree). 1 + length ps) m.1.1.2 in
     let h = parameters_parts value m.1.1.0 m.1.1.1 in
     omega (arith, e, h)
 
-abort_counted : (flags : ℕ) → Counted (as_row Abort (abort_row flags))
+abort_counted : (flags : ℕ) → Counted (as_row Abort (abort_row lenient flags))
 abort_counted flags value t m =
     let e : chunk_parts t ≡ 1 + length m.1.1.0 = ap chunk_parts m.2
     ∙ ap (λ (a : AbortTree). 1 + length a.causes) m.1.1.2 in
     let h = causes_parts value m.1.1.0 m.1.1.1 in
     omega (arith, e, h)
 
-error_counted : Counted (as_row Error error_row)
+error_counted : Counted (as_row Error (error_row lenient))
 error_counted value t m =
     let e : chunk_parts t ≡ 1 + length m.1.1.0 = ap chunk_parts m.2
     ∙ ap (λ (cs : List CauseTree). 1 + length cs) m.1.1.2 in
     let h = causes_parts value m.1.1.0 m.1.1.1 in
     omega (arith, e, h)
 
-counted : (typ flags : ℕ) → Counted (chunk_row typ flags)
-counted typ flags = of_table (λ _ row. Counted row) (table flags) typ _ (
+counted : (typ flags : ℕ) → Counted (chunk_row lenient typ flags)
+counted typ flags = of_table (λ _ row. Counted row) (table lenient flags) typ _ (
     plain_counted Data _ (λ c. refl) &
     init_counted Init (λ i. refl) &
     init_counted InitAck (λ i. refl) &
@@ -210,5 +210,5 @@ counted typ flags = of_table (λ _ row. Counted row) (table flags) typ _ (
     plain_counted IForwardTsn _ (λ f. refl) & tt)
     (λ _. plain_counted Unknown _ (λ u. refl))
 
-pub chunks_count : Counts chunks chunk_parts
+pub chunks_count : Counts (chunks lenient) chunk_parts
 chunks_count = record { bound = λ i t m. counted i.first i.second i.value t m }

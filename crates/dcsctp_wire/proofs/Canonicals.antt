@@ -6,11 +6,11 @@ use Rattle.std.proofs.lemmas.List.{append-nil, length-append, length-map, length
 use Rattle.std.proofs.lemmas.Nat.{from_be_bytes-to_be_bytes_2, from_be_bytes-to_be_bytes_4}
 use Rattle.std.proofs.lemmas.Grind.{flat_map-append}
 use Rattle.std.proofs.lemmas.List.Elements.{recursion_from_All, All-from_recursion}
-use Rattle.dcsctp_tlv.specs.Frame.{round_up_to_4}
+use Rattle.dcsctp_tlv.specs.Frame.{lenient, round_up_to_4}
 use Rattle.dcsctp_tlv.specs.Image.{zeroed, gap, holes, written, size_of, image_of, IsEncodable, list_image, list_size, IsListEncodable}
 use Rattle.dcsctp_tlv.specs.Length.{length-format}
-use Rattle.dcsctp_tlv.proofs.Images.{list_size-map, list_image-map, length-list_image, written-zeros, zeroed-append, zeroed-holes}
-use Rattle.dcsctp_tlv.proofs.ReadsBack.{body_reads_back, each_encodable}
+use Rattle.dcsctp_tlv.proofs.Images.{list_size-map, list_image-map, length-list_image, AreSized, written-zeros, zeroed-append, zeroed-holes}
+use Rattle.dcsctp_tlv.proofs.ReadsBack.{full_zeros_accepted, body_reads_back, each_encodable}
 use Rattle.dcsctp_wire.specs.declared.packet.chunk.Chunk.{Chunk}
 use Rattle.dcsctp_wire.specs.declared.packet.sctp_packet.ChecksumPolicy.{ChecksumPolicy}
 use Rattle.dcsctp_wire.specs.Chunk.{ChunkTree, chunks, tlv as chunk_tlv, format, IsPlaced, IsChunkEncodable, view, views, IsInWidth as IsChunkInWidth, IsWellFormed as IsChunkWellFormed}
@@ -159,7 +159,7 @@ reads_back_with m field word policy field_fits width formed fits accepted =
         destination = sym (from_be_bytes-to_be_bytes_2 m.destination width.destination);
         tag = sym (from_be_bytes-to_be_bytes_4 m.tag width.tag);
         checksum = sym e;
-        chunks = body_reads_back chunks chunk_tlv IsGood chunks_read_back m.chunks (each_good m.chunks width.each formed.each fits.each) (λ n. refl);
+        chunks = body_reads_back (chunks policy.strict_padding) chunk_tlv IsGood (chunks_read_back policy.strict_padding) m.chunks (each_good m.chunks width.each formed.each fits.each) (full_zeros_accepted policy.strict_padding);
       },
     )
 
@@ -169,11 +169,11 @@ reads_back m word policy width formed fits accepted = reads_back_with m 0 word p
 
 -- a policy that accepts every field
 abbrev off : ChecksumPolicy
-off = record { disable_checksum_verification = true; zero_checksum_alternate_error_detection_method = record { 0 = 0 } }
+off = record { disable_checksum_verification = true; zero_checksum_alternate_error_detection_method = record { 0 = 0 }; strict_padding = lenient }
 
 -- equal canonical packets have one meaning
 pub canonical_one : (m n : Meaning) → IsInWidth m → IsWellFormed m → Fits m → IsInWidth n → IsWellFormed n → Fits n → canonical m ≡ canonical n → m ≡ n
 canonical_one m n mw mf mfits nw nf nfits e =
     let a = reads_back m 0 off mw mf mfits (disabled refl) in
     let b = subst (λ (bytes : List ℕ). Answer bytes 0 off (Ok (record { meaning = n; checksum = 0 }))) (sym e) (reads_back n 0 off nw nf nfits (disabled refl)) in
-    ap (λ (x : PacketTree). x.meaning) (packet_one (canonical m) _ _ a.1 b.1)
+    ap (λ (x : PacketTree). x.meaning) (packet_one lenient (canonical m) _ _ a.1 b.1)

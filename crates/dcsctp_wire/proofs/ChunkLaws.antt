@@ -1,16 +1,17 @@
 -- Each kind of chunk reads back, and reads only what is well-formed: a line a kind.
-use Rattle.std.proofs.Common.{◌≡◌, ◌≢◌, ℕ, true, false, List, [], ◌∷◌, refl, sym, ap, subst, ◌∙◌, arith}
+use Rattle.std.proofs.Common.{◌≡◌, ◌≢◌, ℕ, Bool, true, false, List, [], ◌∷◌, refl, sym, ap, subst, ◌∙◌, arith}
 use Rattle.std.specs.Prelude.{◌==◌, length, drop}
 use Rattle.std.specs.List.{AllByRecursion}
 use Rattle.std.proofs.lemmas.Bool.{le-leb, ne_eqb}
 use Rattle.std.proofs.lemmas.Nat.{from_be_bytes-to_be_bytes_2, from_be_bytes-to_be_bytes_4}
+use Rattle.dcsctp_tlv.specs.Frame.{lenient}
 use Rattle.dcsctp_tlv.specs.Level.{plain, as_row, map_ok, MeansTrees}
 use Rattle.dcsctp_tlv.specs.Image.{Tlv, zeroed, image_of, list_image, IsEncodable}
 use Rattle.dcsctp_tlv.specs.Parameter.{ParameterTree, parameters, tlv as parameter_tlv, IsInWidth as IsParameterInWidth, IsWellFormed as IsParameterWellFormed}
 use Rattle.dcsctp_tlv.specs.Table.{IsUnnamed}
 use Rattle.dcsctp_tlv.proofs.Tables.{of_table, of_others, ◌&◌}
 use Rattle.dcsctp_tlv.proofs.KindLaws.{of_ok}
-use Rattle.dcsctp_tlv.proofs.ReadsBack.{ReadsBack, nested_reads_back, zeroed-solid}
+use Rattle.dcsctp_tlv.proofs.ReadsBack.{ReadsBack, nested_reads_back, zeros_accepted, none_accepted, zeroed-solid}
 use Rattle.dcsctp_tlv.proofs.ParameterLaws.{IsGoodParameter, good_parameters, parameters_read_back, parameters_form}
 use Rattle.dcsctp_tlv.proofs.Forms.{FormsTrees, FormsRow, plain_forms, list_formed, nil_means}
 use Rattle.dcsctp_cause.specs.Cause.{CauseTree, causes, tlv as cause_tlv, IsInWidth as IsCauseInWidth, IsWellFormed as IsCauseWellFormed}
@@ -35,16 +36,17 @@ init_tlv typ i = (init_format typ [] i).tlv
 abbrev parameter_list_tlv : ℕ → List ParameterTree → Tlv
 parameter_list_tlv typ ps = (parameter_list_format typ [] ps).tlv
 
-init_means : (typ : ℕ) (i : InitTree) → IsInitInWidth i
+init_means : (strict : Bool) (typ : ℕ) (i : InitTree) → IsInitInWidth i
     → AllByRecursion IsParameterWellFormed i.parameters → IsEncodable (init_tlv typ i)
-    → init_row.means (zeroed (init_tlv typ i).value) i
-init_means typ i width formed fits = (
+    → (init_row strict).means (zeroed (init_tlv typ i).value) i
+init_means strict typ i width formed fits = (
   le-leb 16 (length (zeroed (init_tlv typ i).value)) (omega arith),
   (
     i.parameters,
-    nested_reads_back parameters parameter_tlv IsGoodParameter parameters_read_back i.parameters
-        (good_parameters i.parameters width.each formed (omega (arith, fits))) (λ n. refl)
-        (λ n. refl),
+    nested_reads_back (parameters strict) parameter_tlv IsGoodParameter
+        (parameters_read_back strict) i.parameters
+        (good_parameters i.parameters width.each formed (omega (arith, fits)))
+        (zeros_accepted strict) (none_accepted strict),
     rw (
       from_be_bytes-to_be_bytes_4 i.tag width.tag,
       from_be_bytes-to_be_bytes_4 i.window width.window,
@@ -55,28 +57,30 @@ init_means typ i width formed fits = (
   ),
 )
 
-parameter_list_means : (typ : ℕ) (ps : List ParameterTree) → AllByRecursion IsParameterInWidth ps
+parameter_list_means : (strict : Bool) (typ : ℕ) (ps : List ParameterTree) → AllByRecursion IsParameterInWidth ps
     → AllByRecursion IsParameterWellFormed ps → IsEncodable (parameter_list_tlv typ ps)
-    → parameter_list_row.means (zeroed (parameter_list_tlv typ ps).value) ps
-parameter_list_means typ ps width formed fits = (
+    → (parameter_list_row strict).means (zeroed (parameter_list_tlv typ ps).value) ps
+parameter_list_means strict typ ps width formed fits = (
   refl,
   (
     ps,
-    nested_reads_back parameters parameter_tlv IsGoodParameter parameters_read_back ps
-        (good_parameters ps width formed (omega (arith, fits))) (λ n. refl) (λ n. refl),
+    nested_reads_back (parameters strict) parameter_tlv IsGoodParameter
+        (parameters_read_back strict) ps (good_parameters ps width formed (omega (arith, fits)))
+        (zeros_accepted strict) (none_accepted strict),
     refl,
   ),
 )
 
-abort_means : (a : AbortTree) → AllByRecursion IsCauseInWidth a.causes
+abort_means : (strict : Bool) (a : AbortTree) → AllByRecursion IsCauseInWidth a.causes
     → AllByRecursion IsCauseWellFormed a.causes → IsEncodable (abort_format a).tlv
-    → (abort_row (abort_format a).tlv.second).means (zeroed (abort_format a).tlv.value) a
-abort_means a width formed fits = (
+    → (abort_row strict (abort_format a).tlv.second).means (zeroed (abort_format a).tlv.value) a
+abort_means strict a width formed fits = (
   refl,
   (
     a.causes,
-    nested_reads_back causes cause_tlv IsGoodCause causes_read_back a.causes
-        (good_causes a.causes width formed (omega (arith, fits))) (λ n. refl) (λ n. refl),
+    nested_reads_back (causes strict) cause_tlv IsGoodCause (causes_read_back strict) a.causes
+        (good_causes a.causes width formed (omega (arith, fits)))
+        (zeros_accepted strict) (none_accepted strict),
     rw (one_again a.tag_reflected) refl,
   ),
 )
@@ -91,15 +95,16 @@ some_bytes (c ∷ []) some =
 some_bytes (c ∷ d ∷ cs) some =
     ne_eqb (length (zeroed (list_image cause_tlv (c ∷ d ∷ cs)))) 0 (λ e. omega (arith, e))
 
-error_means : (cs : List CauseTree) → AllByRecursion IsCauseInWidth cs
+error_means : (strict : Bool) (cs : List CauseTree) → AllByRecursion IsCauseInWidth cs
     → (cs ≢ []) × AllByRecursion IsCauseWellFormed cs → IsEncodable (error_format cs).tlv
-    → error_row.means (zeroed (error_format cs).tlv.value) cs
-error_means cs width formed fits = (
+    → (error_row strict).means (zeroed (error_format cs).tlv.value) cs
+error_means strict cs width formed fits = (
   rw (some_bytes cs formed.0) refl,
   (
     cs,
-    nested_reads_back causes cause_tlv IsGoodCause causes_read_back cs
-        (good_causes cs width formed.1 (omega (arith, fits))) (λ n. refl) (λ n. refl),
+    nested_reads_back (causes strict) cause_tlv IsGoodCause (causes_read_back strict) cs
+        (good_causes cs width formed.1 (omega (arith, fits)))
+        (zeros_accepted strict) (none_accepted strict),
     refl,
   ),
 )
@@ -112,100 +117,100 @@ pub record IsGood (t : ChunkTree) : Type 0 where
   pub formed : IsChunkWellFormed t
   pub encodable : IsEncodable (chunk_tlv t)
 
-unknown_means : (u : UnknownTree) → IsUnnamed (table u.flags) u.typ
-    → (chunk_row u.typ u.flags).means (zeroed (chunk_tlv (Unknown u)).value) (Unknown u)
+unknown_means : (strict : Bool) (u : UnknownTree) → IsUnnamed (table strict u.flags) u.typ
+    → (chunk_row strict u.typ u.flags).means (zeroed (chunk_tlv (Unknown u)).value) (Unknown u)
 unfolding unknown_at
-unknown_means u h =
-    of_others (λ row. row.means (zeroed (chunk_tlv (Unknown u)).value) (Unknown u)) (table u.flags)
-    u.typ _ h (rw (zeroed-solid u.value) refl)
+unknown_means strict u h =
+    of_others (λ row. row.means (zeroed (chunk_tlv (Unknown u)).value) (Unknown u))
+    (table strict u.flags) u.typ _ h (rw (zeroed-solid u.value) refl)
 
-means : (t : ChunkTree) → IsGood t
-    → (chunk_row (chunk_tlv t).first (chunk_tlv t).second).means (zeroed (chunk_tlv t).value) t
-means (Data c) good = ap (map_ok Data) (data_laws.back c good.width good.formed good.encodable)
-means (Init i) good = (i, init_means 1 i good.width good.formed good.encodable, refl)
-means (InitAck i) good = (i, init_means 2 i good.width good.formed good.encodable, refl)
-means (Sack s) good = ap (map_ok Sack) (sack_laws.back s good.width tt good.encodable)
-means (HeartbeatRequest ps) good =
-    (ps, parameter_list_means 4 ps good.width good.formed good.encodable, refl)
-means (HeartbeatAck ps) good =
-    (ps, parameter_list_means 5 ps good.width good.formed good.encodable, refl)
-means (Abort a) good = (a, abort_means a good.width good.formed good.encodable, refl)
-means (Shutdown tsn) good =
+means : (strict : Bool) (t : ChunkTree) → IsGood t
+    → (chunk_row strict (chunk_tlv t).first (chunk_tlv t).second).means (zeroed (chunk_tlv t).value) t
+means strict (Data c) good = ap (map_ok Data) (data_laws.back c good.width good.formed good.encodable)
+means strict (Init i) good = (i, init_means strict 1 i good.width good.formed good.encodable, refl)
+means strict (InitAck i) good = (i, init_means strict 2 i good.width good.formed good.encodable, refl)
+means strict (Sack s) good = ap (map_ok Sack) (sack_laws.back s good.width tt good.encodable)
+means strict (HeartbeatRequest ps) good =
+    (ps, parameter_list_means strict 4 ps good.width good.formed good.encodable, refl)
+means strict (HeartbeatAck ps) good =
+    (ps, parameter_list_means strict 5 ps good.width good.formed good.encodable, refl)
+means strict (Abort a) good = (a, abort_means strict a good.width good.formed good.encodable, refl)
+means strict (Shutdown tsn) good =
     ap (map_ok Shutdown) (shutdown_laws.back tsn good.width tt good.encodable)
-means ShutdownAck good =
+means strict ShutdownAck good =
     ap (map_ok (λ _. ShutdownAck)) (shutdown_ack_laws.back tt tt tt good.encodable)
-means (Error cs) good = (cs, error_means cs good.width good.formed good.encodable, refl)
-means (CookieEcho cookie) good =
+means strict (Error cs) good = (cs, error_means strict cs good.width good.formed good.encodable, refl)
+means strict (CookieEcho cookie) good =
     ap (map_ok CookieEcho) (cookie_echo_laws.back cookie good.width good.formed good.encodable)
-means CookieAck good = ap (map_ok (λ _. CookieAck)) (cookie_ack_laws.back tt tt tt good.encodable)
-means (ShutdownComplete reflected) good =
+means strict CookieAck good = ap (map_ok (λ _. CookieAck)) (cookie_ack_laws.back tt tt tt good.encodable)
+means strict (ShutdownComplete reflected) good =
     ap (map_ok ShutdownComplete) (shutdown_complete_laws.back reflected tt tt good.encodable)
-means (IData c) good = ap (map_ok IData) (idata_laws.back c good.width good.formed good.encodable)
-means (ReConfig ps) good =
-    (ps, parameter_list_means 130 ps good.width good.formed good.encodable, refl)
-means (ForwardTsn f) good =
+means strict (IData c) good = ap (map_ok IData) (idata_laws.back c good.width good.formed good.encodable)
+means strict (ReConfig ps) good =
+    (ps, parameter_list_means strict 130 ps good.width good.formed good.encodable, refl)
+means strict (ForwardTsn f) good =
     ap (map_ok ForwardTsn) (forward_tsn_laws.back f good.width good.formed good.encodable)
-means (IForwardTsn f) good =
+means strict (IForwardTsn f) good =
     ap (map_ok IForwardTsn) (iforward_tsn_laws.back f good.width good.formed good.encodable)
-means (Unknown u) good = unknown_means u good.formed
+means strict (Unknown u) good = unknown_means strict u good.formed
 
-pub chunks_read_back : ReadsBack chunks chunk_tlv IsGood
-chunks_read_back = record {
+pub chunks_read_back : (strict : Bool) → ReadsBack (chunks strict) chunk_tlv IsGood
+chunks_read_back strict = record {
   sized = λ t. (format t).sized;
   fits = λ t good. good.encodable;
-  means = means;
+  means = means strict;
 }
 
 -- ---- each kind reads only what is well-formed
 
 init_forms : (tree : InitTree → ChunkTree)
     → ((i : InitTree) → AllByRecursion IsParameterWellFormed i.parameters
-    → IsChunkWellFormed (tree i)) → FormsRow IsChunkWellFormed (as_row tree init_row)
+    → IsChunkWellFormed (tree i)) → FormsRow IsChunkWellFormed (as_row tree (init_row lenient))
 init_forms tree law value t m =
     let is = m.1.1.2 in
     subst IsChunkWellFormed (sym m.2)
     (law m.0 (subst (λ (i : InitTree). AllByRecursion IsParameterWellFormed i.parameters) (sym is)
-    (list_formed parameters IsParameterWellFormed parameters_form (drop 16 value) m.1.1.0 m.1.1.1)))
+    (list_formed (parameters lenient) IsParameterWellFormed parameters_form (drop 16 value) m.1.1.0 m.1.1.1)))
 
 parameter_list_forms : (tree : List ParameterTree → ChunkTree)
     → ((ps : List ParameterTree) → AllByRecursion IsParameterWellFormed ps
-    → IsChunkWellFormed (tree ps)) → FormsRow IsChunkWellFormed (as_row tree parameter_list_row)
+    → IsChunkWellFormed (tree ps)) → FormsRow IsChunkWellFormed (as_row tree (parameter_list_row lenient))
 parameter_list_forms tree law value t m =
     subst IsChunkWellFormed (sym m.2)
     (law m.0 (subst (AllByRecursion IsParameterWellFormed) (sym m.1.1.2)
-    (list_formed parameters IsParameterWellFormed parameters_form value m.1.1.0 m.1.1.1)))
+    (list_formed (parameters lenient) IsParameterWellFormed parameters_form value m.1.1.0 m.1.1.1)))
 
-abort_forms : (flags : ℕ) → FormsRow IsChunkWellFormed (as_row Abort (abort_row flags))
+abort_forms : (flags : ℕ) → FormsRow IsChunkWellFormed (as_row Abort (abort_row lenient flags))
 abort_forms flags value t m =
     subst IsChunkWellFormed (sym m.2)
     (subst (λ (a : AbortTree). AllByRecursion IsCauseWellFormed a.causes) (sym m.1.1.2)
-    (list_formed causes IsCauseWellFormed causes_form value m.1.1.0 m.1.1.1))
+    (list_formed (causes lenient) IsCauseWellFormed causes_form value m.1.1.0 m.1.1.1))
 
 -- bytes that aren't empty mean some cause
-some_causes : (value : List ℕ) (cs : List CauseTree) → error_row.means value cs → cs ≢ []
+some_causes : (value : List ℕ) (cs : List CauseTree) → (error_row lenient).means value cs → cs ≢ []
 some_causes value cs m none =
-    let nil : value ≡ [] = nil_means causes value
-    (subst (λ (ds : List CauseTree). MeansTrees causes value ds) (sym m.1.2 ∙ none) m.1.1) in
+    let nil : value ≡ [] = nil_means (causes lenient) value
+    (subst (λ (ds : List CauseTree). MeansTrees (causes lenient) value ds) (sym m.1.2 ∙ none) m.1.1) in
     let refused : false ≡ true = rw nil at m.0 in
     cc
 
-error_forms : FormsRow IsChunkWellFormed (as_row Error error_row)
+error_forms : FormsRow IsChunkWellFormed (as_row Error (error_row lenient))
 error_forms value t m =
     subst IsChunkWellFormed (sym m.2) (
       some_causes value m.0 m.1,
       subst (AllByRecursion IsCauseWellFormed) (sym m.1.1.2)
-          (list_formed causes IsCauseWellFormed causes_form value m.1.1.0 m.1.1.1),
+          (list_formed (causes lenient) IsCauseWellFormed causes_form value m.1.1.0 m.1.1.1),
     )
 
-unknown_forms : (typ flags : ℕ) → IsUnnamed (table flags) typ
+unknown_forms : (typ flags : ℕ) → IsUnnamed (table lenient flags) typ
     → FormsRow IsChunkWellFormed (plain (λ value. map_ok Unknown (unknown_at typ flags value)))
 unfolding unknown_at
 unknown_forms typ flags h value t e =
     subst IsChunkWellFormed
     (of_ok (Unknown (record { typ = typ; flags = flags; value = value })) t e) h
 
-forms : (typ flags : ℕ) → FormsRow IsChunkWellFormed (chunk_row typ flags)
-forms typ flags = of_table (λ _ row. FormsRow IsChunkWellFormed row) (table flags) typ _ (
+forms : (typ flags : ℕ) → FormsRow IsChunkWellFormed (chunk_row lenient typ flags)
+forms typ flags = of_table (λ _ row. FormsRow IsChunkWellFormed row) (table lenient flags) typ _ (
     plain_forms data_laws Data IsChunkWellFormed 0 flags (λ c formed. formed) &
     init_forms Init (λ i formed. formed) &
     init_forms InitAck (λ i formed. formed) &
@@ -227,5 +232,5 @@ forms typ flags = of_table (λ _ row. FormsRow IsChunkWellFormed row) (table fla
     tt)
     (unknown_forms typ flags)
 
-pub chunks_form : FormsTrees chunks IsChunkWellFormed
+pub chunks_form : FormsTrees (chunks lenient) IsChunkWellFormed
 chunks_form = record { formed = forms }

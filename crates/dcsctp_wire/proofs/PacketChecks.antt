@@ -40,7 +40,7 @@ neither d (Err y) is (inl h) = let p : false ≡ true = h in cc
 neither d (Err y) is (inr h) = no_lack d cc
 
 -- the packet of these chunks
-pub packet_is : (bytes : List ℕ) (word : ℕ) (policy : ChecksumPolicy) (ts : List ChunkTree) → IsOpened bytes word policy → MeansTrees chunks (body bytes) ts → Answer bytes word policy (Ok (packet_with bytes ts))
+pub packet_is : (bytes : List ℕ) (word : ℕ) (policy : ChecksumPolicy) (ts : List ChunkTree) → IsOpened bytes word policy → MeansTrees (chunks policy.strict_padding) (body bytes) ts → Answer bytes word policy (Ok (packet_with bytes ts))
 packet_is bytes word policy ts opened m = (opened, record { source = refl; destination = refl; tag = refl; checksum = refl; chunks = m })
 
 -- the fault that a check tells

@@ -23,7 +23,7 @@ use Rattle.dcsctp_wire.specs.Error.{row as error_row}
 use Rattle.dcsctp_wire.specs.Chunk.{Init, InitAck, HeartbeatRequest, HeartbeatAck, Abort, Error, ReConfig, table, chunks}
 use Rattle.dcsctp_wire.specs.Packet.{PacketTree, HasPacketSize, IsAccepted, disabled, alternate, equal, checksum_field, body, IsOpened, MeansPacket, packet_with, PacketFault, Size, Checksum, Chunk, Answer, ReadsFault}
 
-pub reads_fault : (bytes : List ℕ) (word : ℕ) (policy : ChecksumPolicy) (e : ChunkParseError) → IsOpened bytes word policy → TellsFault (HasFault chunks (body bytes)) e → ReadsFault bytes word policy e
+pub reads_fault : (bytes : List ℕ) (word : ℕ) (policy : ChecksumPolicy) (e : ChunkParseError) → IsOpened bytes word policy → TellsFault (HasFault (chunks policy.strict_padding) (body bytes)) e → ReadsFault bytes word policy e
 reads_fault bytes word policy InvalidLength opened fault = (opened, fault)
 reads_fault bytes word policy InvalidPadding opened fault = (opened, fault)
 reads_fault bytes word policy InvalidValue opened fault = (opened, fault)
@@ -31,36 +31,36 @@ reads_fault bytes word policy InvalidType opened fault = absurd fault
 reads_fault bytes word policy OutOfMemory opened fault = opened
 
 -- a value with a list has one answer since its list has
-pub init_lawful : LawfulRow init_row
-init_lawful = listed_lawful _ 16 parameters init_of parameters_lawful
+pub init_lawful : (strict : Bool) → LawfulRow (init_row strict)
+init_lawful strict = listed_lawful _ 16 (parameters strict) init_of (parameters_lawful strict)
 
-pub parameter_list_lawful : LawfulRow parameter_list_row
-parameter_list_lawful = listed_lawful _ 0 parameters (λ value ps. ps) parameters_lawful
+pub parameter_list_lawful : (strict : Bool) → LawfulRow (parameter_list_row strict)
+parameter_list_lawful strict = listed_lawful _ 0 (parameters strict) (λ value ps. ps) (parameters_lawful strict)
 
-pub abort_lawful : (flags : ℕ) → LawfulRow (abort_row flags)
-abort_lawful flags = listed_lawful _ 0 causes (λ value cs. abort_of flags cs) causes_lawful
+pub abort_lawful : (strict : Bool) (flags : ℕ) → LawfulRow (abort_row strict flags)
+abort_lawful strict flags = listed_lawful _ 0 (causes strict) (λ value cs. abort_of flags cs) (causes_lawful strict)
 
-pub error_lawful : LawfulRow error_row
-error_lawful = listed_lawful _ 0 causes (λ value cs. cs) causes_lawful
+pub error_lawful : (strict : Bool) → LawfulRow (error_row strict)
+error_lawful strict = listed_lawful _ 0 (causes strict) (λ value cs. cs) (causes_lawful strict)
 
 -- each row of the table of chunks is a function of the value, or has one answer otherwise
-pub chunks_lawful : Lawful chunks
-chunks_lawful typ flags = of_table (λ _ row. LawfulRow row) (table flags) typ _ (
+pub chunks_lawful : (strict : Bool) → Lawful (chunks strict)
+chunks_lawful strict typ flags = of_table (λ _ row. LawfulRow row) (table strict flags) typ _ (
     plain_lawful _ &
-    as_lawful Init init_row init_lawful &
-    as_lawful InitAck init_row init_lawful &
+    as_lawful Init (init_row strict) (init_lawful strict) &
+    as_lawful InitAck (init_row strict) (init_lawful strict) &
     plain_lawful _ &
-    as_lawful HeartbeatRequest parameter_list_row parameter_list_lawful &
-    as_lawful HeartbeatAck parameter_list_row parameter_list_lawful &
-    as_lawful Abort (abort_row flags) (abort_lawful flags) &
-    plain_lawful _ &
-    plain_lawful _ &
-    as_lawful Error error_row error_lawful &
+    as_lawful HeartbeatRequest (parameter_list_row strict) (parameter_list_lawful strict) &
+    as_lawful HeartbeatAck (parameter_list_row strict) (parameter_list_lawful strict) &
+    as_lawful Abort (abort_row strict flags) (abort_lawful strict flags) &
     plain_lawful _ &
     plain_lawful _ &
+    as_lawful Error (error_row strict) (error_lawful strict) &
     plain_lawful _ &
     plain_lawful _ &
-    as_lawful ReConfig parameter_list_row parameter_list_lawful &
+    plain_lawful _ &
+    plain_lawful _ &
+    as_lawful ReConfig (parameter_list_row strict) (parameter_list_lawful strict) &
     plain_lawful _ &
     plain_lawful _ & tt)
     (λ _. plain_lawful _)
@@ -73,15 +73,15 @@ body_fits bytes fits i = rw get_or-drop (fits (12 + i))
 made : (p q : PacketTree) → p.meaning.source ≡ q.meaning.source → p.meaning.destination ≡ q.meaning.destination → p.meaning.tag ≡ q.meaning.tag → p.meaning.chunks ≡ q.meaning.chunks → p.checksum ≡ q.checksum → p ≡ q
 made p q a b c d e = λ k. record { meaning = record { source = a k; destination = b k; tag = c k; chunks = d k }; checksum = e k }
 
-pub packet_one : (bytes : List ℕ) (p q : PacketTree) → MeansPacket bytes p → MeansPacket bytes q → p ≡ q
-packet_one bytes p q m n = made p q (m.source ∙ sym n.source) (m.destination ∙ sym n.destination) (m.tag ∙ sym n.tag)
-    (list_one chunks chunks_lawful (body bytes) p.meaning.chunks q.meaning.chunks m.chunks n.chunks) (m.checksum ∙ sym n.checksum)
+pub packet_one : (strict : Bool) (bytes : List ℕ) (p q : PacketTree) → MeansPacket strict bytes p → MeansPacket strict bytes q → p ≡ q
+packet_one strict bytes p q m n = made p q (m.source ∙ sym n.source) (m.destination ∙ sym n.destination) (m.tag ∙ sym n.tag)
+    (list_one (chunks strict) (chunks_lawful strict) (body bytes) p.meaning.chunks q.meaning.chunks m.chunks n.chunks) (m.checksum ∙ sym n.checksum)
 
 pub answer_one : (bytes : List ℕ) (word : ℕ) (policy : ChecksumPolicy) (a b : Result PacketTree PacketFault) → AreBytes bytes → Answer bytes word policy a → Answer bytes word policy b → a ≡ b
-answer_one bytes word policy (Ok p) (Ok q) fits m n = ap Ok (packet_one bytes p q m.1 n.1)
+answer_one bytes word policy (Ok p) (Ok q) fits m n = ap Ok (packet_one policy.strict_padding bytes p q m.1 n.1)
 answer_one bytes word policy (Ok p) (Err Size) fits m n = absurd (n m.0.size)
 answer_one bytes word policy (Ok p) (Err Checksum) fits m n = absurd (n.1 m.0.accepted)
-answer_one bytes word policy (Ok p) (Err (Chunk e)) fits m n = absurd (list_apart chunks chunks_lawful (body bytes) p.meaning.chunks e (body_fits bytes fits) m.1.chunks n.1)
+answer_one bytes word policy (Ok p) (Err (Chunk e)) fits m n = absurd (list_apart (chunks policy.strict_padding) (chunks_lawful policy.strict_padding) (body bytes) p.meaning.chunks e (body_fits bytes fits) m.1.chunks n.1)
 answer_one bytes word policy (Err Size) (Ok q) fits m n = absurd (m n.0.size)
 answer_one bytes word policy (Err Size) (Err Size) fits m n = refl
 answer_one bytes word policy (Err Size) (Err Checksum) fits m n = absurd (m n.0)
@@ -90,10 +90,10 @@ answer_one bytes word policy (Err Checksum) (Ok q) fits m n = absurd (m.1 n.0.ac
 answer_one bytes word policy (Err Checksum) (Err Size) fits m n = absurd (n m.0)
 answer_one bytes word policy (Err Checksum) (Err Checksum) fits m n = refl
 answer_one bytes word policy (Err Checksum) (Err (Chunk e)) fits m n = absurd (m.1 n.0.accepted)
-answer_one bytes word policy (Err (Chunk d)) (Ok q) fits m n = absurd (list_apart chunks chunks_lawful (body bytes) q.meaning.chunks d (body_fits bytes fits) n.1.chunks m.1)
+answer_one bytes word policy (Err (Chunk d)) (Ok q) fits m n = absurd (list_apart (chunks policy.strict_padding) (chunks_lawful policy.strict_padding) (body bytes) q.meaning.chunks d (body_fits bytes fits) n.1.chunks m.1)
 answer_one bytes word policy (Err (Chunk d)) (Err Size) fits m n = absurd (n m.0.size)
 answer_one bytes word policy (Err (Chunk d)) (Err Checksum) fits m n = absurd (n.1 m.0.accepted)
-answer_one bytes word policy (Err (Chunk d)) (Err (Chunk e)) fits m n = ap (λ (x : Fault). Err (Chunk x)) (list_same chunks chunks_lawful (body bytes) d e (body_fits bytes fits) m.1 n.1)
+answer_one bytes word policy (Err (Chunk d)) (Err (Chunk e)) fits m n = ap (λ (x : Fault). Err (Chunk x)) (list_same (chunks policy.strict_padding) (chunks_lawful policy.strict_padding) (body bytes) d e (body_fits bytes fits) m.1 n.1)
 
 size_tells : (bytes : List ℕ) → HasPacketSize bytes ⊎ (¬ HasPacketSize bytes)
 size_tells bytes = elim (cases_lt (length bytes) 16) [
@@ -133,7 +133,7 @@ answer_some bytes word policy fits = elim (size_tells bytes) [
   | inr no_size ↦ (Err Size, no_size)
   | inl size ↦ elim (accepted_tells policy (checksum_field bytes) word) [
     | inr refused ↦ (Err Checksum, (size, refused))
-    | inl accepted ↦ elim (list_some chunks chunks_lawful (body bytes) (body_fits bytes fits)) [
+    | inl accepted ↦ elim (list_some (chunks policy.strict_padding) (chunks_lawful policy.strict_padding) (body bytes) (body_fits bytes fits)) [
       | inl m ↦ (Ok (packet_with bytes m.0), (record { size = size; accepted = accepted }, record { source = refl; destination = refl; tag = refl; checksum = refl; chunks = m.1 }))
       | inr f ↦ (Err (Chunk f.0), (record { size = size; accepted = accepted }, f.1))
     ]

@@ -1,5 +1,5 @@
 -- The kinds without a list, as rows of the table of chunks: a line a kind.
-use Rattle.std.proofs.Common.{◌≡◌, ◌≢◌, ℕ, true, false, List, Result, Ok, Err, refl, sym, ap}
+use Rattle.std.proofs.Common.{◌≡◌, ◌≢◌, ℕ, Bool, true, false, List, Result, Ok, Err, refl, sym, ap}
 use Rattle.std.specs.Prelude.{IsOk}
 use Rattle.std.proofs.lemmas.Bool.{ne_eqb}
 use Rattle.dcsctp_tlv.specs.Fault.{Fault}
@@ -41,10 +41,10 @@ StandsIfPlain flags value typ row =
     typ ≢ 1 → typ ≢ 2 → typ ≢ 4 → typ ≢ 5 → typ ≢ 6 → typ ≢ 9 → typ ≢ 130
     → Stands row value (plain_outcome typ flags value)
 
-pub plain_stands : (typ flags : ℕ) (value : List ℕ)
-    → StandsIfPlain flags value typ (chunk_row typ flags)
+pub plain_stands : (strict : Bool) (typ flags : ℕ) (value : List ℕ)
+    → StandsIfPlain flags value typ (chunk_row strict typ flags)
 unfolding unknown_at
-plain_stands typ flags value = of_table (StandsIfPlain flags value) (table flags) typ _ (
+plain_stands strict typ flags value = of_table (StandsIfPlain flags value) (table strict flags) typ _ (
     (λ a b c d e f g. kind_stands Data (λ x. refl) (data_at flags value)) &
     (λ a b c d e f g. absurd (a refl)) &
     (λ a b c d e f g. absurd (b refl)) &

@@ -19,8 +19,9 @@ pub record Tree : Type 0 where
 abbrev pub tree_of : ℕ → List cause.CauseTree → Tree
 tree_of flags cs = record { tag_reflected = is_set flags 0; causes = cs }
 
-abbrev pub row : ℕ → Row Tree
-row flags = listed (λ value. true) 0 cause.causes (λ value cs. tree_of flags cs)
+abbrev pub row : Bool → ℕ → Row Tree
+row strict flags =
+    listed (λ value. true) 0 (cause.causes strict) (λ value cs. tree_of flags cs)
 
 abbrev pub flags_of : Tree → ℕ
 flags_of a = flag_byte (a.tag_reflected ∷ [])

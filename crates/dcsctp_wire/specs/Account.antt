@@ -1,7 +1,7 @@
 -- How much a packet holds: its size as it is written again, and the number of its parts.
 use Rattle.std.specs.Prelude.{◌≡◌, ℕ, ◌+◌, ◌≤◌, ◌⊎◌, List, length}
 use Rattle.std.specs.List.{AllByRecursion}
-use Rattle.dcsctp_tlv.specs.Frame.{Item, AreItems, lenient, round_up_to_4}
+use Rattle.dcsctp_tlv.specs.Frame.{Item, AreItems, any_padding, round_up_to_4}
 use Rattle.dcsctp_tlv.specs.Count.{total}
 use Rattle.dcsctp_cause.specs.Text.{IsTextKept}
 use Rattle.dcsctp_wire.specs.Chunk.{IsChunkEncodable, parts}
@@ -13,13 +13,13 @@ use Rattle.dcsctp_wire.specs.Canonical.{padded_size, Fits}
 -- if the chunk holds causes, each of them keeps its bytes
 abbrev pub AreTextsKept : Item → Type 0
 AreTextsKept i =
-    (i.first ≡ 6) ⊎ (i.first ≡ 9) → (causes : List Item) → AreItems lenient i.value causes
+    (i.first ≡ 6) ⊎ (i.first ≡ 9) → (causes : List Item) → AreItems any_padding i.value causes
     → AllByRecursion IsTextKept causes
 
 -- no text of the packet is replaced by a fixed one
 abbrev pub KeepsTexts : List ℕ → Type 0
 KeepsTexts bytes =
-    (chunks : List Item) → AreItems lenient (body bytes) chunks → AllByRecursion AreTextsKept chunks
+    (chunks : List Item) → AreItems any_padding (body bytes) chunks → AllByRecursion AreTextsKept chunks
 
 -- ---- size
 

@@ -1,6 +1,6 @@
 -- The table of chunks (RFC 9260 section 3.2).
 use Rattle.std.specs.Prelude.{◌≡◌, ◌⊎◌, ℕ, ◌+◌, Bool, List, [], ◌∷◌, length, drop, map}
-use Rattle.dcsctp_tlv.specs.Frame.{lenient}
+use Rattle.dcsctp_tlv.specs.Frame.{lenient, full_padding}
 use Rattle.dcsctp_tlv.specs.Level.{Row, plain, as_row, Level, map_ok}
 use Rattle.dcsctp_tlv.specs.Table.{Named, named, row_of, IsUnnamed}
 use Rattle.dcsctp_tlv.specs.Image.{Tlv, IsEncodable}
@@ -38,36 +38,36 @@ pub data ChunkTree : Type 0 where
 abbrev nested : {X : Type 0} → ℕ → (X → ChunkTree) → Row X → Named ChunkTree
 nested typ tree row = record { typ = typ; row = as_row tree row }
 
--- the types that are named, and how the value of each is read
-abbrev pub table : ℕ → List (Named ChunkTree)
-table flags =
+-- the types that are named, and how the value of each is read, by a strict reader or a lenient one
+abbrev pub table : Bool → ℕ → List (Named ChunkTree)
+table strict flags =
     named 0 Data (plain_kind.DataChunk.read flags) ∷
-    nested 1 Init kind.InitFields.row ∷
-    nested 2 InitAck kind.InitFields.row ∷
+    nested 1 Init (kind.InitFields.row strict) ∷
+    nested 2 InitAck (kind.InitFields.row strict) ∷
     named 3 Sack plain_kind.Sack.read ∷
-    nested 4 HeartbeatRequest kind.ParameterList.row ∷
-    nested 5 HeartbeatAck kind.ParameterList.row ∷
-    nested 6 Abort (kind.Abort.row flags) ∷
+    nested 4 HeartbeatRequest (kind.ParameterList.row strict) ∷
+    nested 5 HeartbeatAck (kind.ParameterList.row strict) ∷
+    nested 6 Abort (kind.Abort.row strict flags) ∷
     named 7 Shutdown plain_kind.Shutdown.read ∷
     named 8 (λ _. ShutdownAck) plain_kind.ShutdownAck.read ∷
-    nested 9 Error kind.Error.row ∷
+    nested 9 Error (kind.Error.row strict) ∷
     named 10 CookieEcho plain_kind.CookieEcho.read ∷
     named 11 (λ _. CookieAck) plain_kind.CookieAck.read ∷
     named 14 ShutdownComplete (plain_kind.ShutdownComplete.read flags) ∷
     named 64 IData (plain_kind.IDataChunk.read flags) ∷
-    nested 130 ReConfig kind.ParameterList.row ∷
+    nested 130 ReConfig (kind.ParameterList.row strict) ∷
     named 192 ForwardTsn plain_kind.ForwardTsn.read ∷
     named 194 IForwardTsn plain_kind.IForwardTsn.read ∷ []
 
 -- what the value of a type means, and its faults
-abbrev pub chunk_row : ℕ → ℕ → Row ChunkTree
-chunk_row typ flags =
-    row_of (table flags) typ (plain
+abbrev pub chunk_row : Bool → ℕ → ℕ → Row ChunkTree
+chunk_row strict typ flags =
+    row_of (table strict flags) typ (plain
     (λ value. map_ok Unknown (plain_kind.Unknown.read typ flags value)))
 
--- the chunks of a packet: their padding is never looked at
-abbrev pub chunks : Level ChunkTree
-chunks = record { row = chunk_row; padding = lenient }
+-- The chunks of a packet. A strict reader wants all the padding of the last one too.
+abbrev pub chunks : Bool → Level ChunkTree
+chunks strict = record { row = chunk_row strict; padding = full_padding strict }
 
 -- What the value means holds nothing on the heap: a kind of fixed size, or an empty list.
 abbrev pub TakesNoMemory : ℕ → List ℕ → Type 0
@@ -96,7 +96,7 @@ format (ReConfig ps) = kind.ReConfig.format ps
 format (ForwardTsn t) = plain_kind.ForwardTsn.format t
 format (IForwardTsn t) = plain_kind.IForwardTsn.format t
 format (Unknown u) =
-    record (plain_kind.Unknown.format u) { IsWellFormed = IsUnnamed (table u.flags) u.typ }
+    record (plain_kind.Unknown.format u) { IsWellFormed = IsUnnamed (table lenient u.flags) u.typ }
 
 abbrev pub tlv : ChunkTree → Tlv
 tlv t = (format t).tlv

@@ -42,9 +42,11 @@ pub record ReadsPacket {X : Type 0} (view : X → PacketTree) (bytes : List ℕ)
 -- What a check finds, without a law of it: its numbers are those of the chunks and of all parts.
 abbrev pub FindsPacket : List ℕ → ℕ → ChecksumPolicy → Result (ℕ × ℕ) PacketParseError → Type 0
 FindsPacket bytes word policy (Ok n) =
-    IsOpened bytes word policy × MeansCounted chunks chunk_parts (body bytes) n.0 n.1
+    IsOpened bytes word policy
+    × MeansCounted (chunks policy.strict_padding) chunk_parts (body bytes) n.0 n.1
 FindsPacket bytes word policy (Err InvalidPacketSize) = Answer bytes word policy (Err Size)
 FindsPacket bytes word policy (Err InvalidChecksum) = Answer bytes word policy (Err Checksum)
 FindsPacket bytes word policy (Err InvalidChunkSize) = ⊥
 FindsPacket bytes word policy (Err (FailedParseChunk e)) =
-    IsOpened bytes word policy × IsFault (HasFault chunks (body bytes)) e
+    IsOpened bytes word policy
+    × IsFault (HasFault (chunks policy.strict_padding) (body bytes)) e

@@ -1,6 +1,6 @@
 -- What INIT and INIT ACK have in common (RFC 9260 sections 3.3.2 and 3.3.3): flags ignored; sixteen
 -- bytes of numbers, and after them parameters.
-use Rattle.std.specs.Prelude.{ℕ, ◌+◌, ◌<◌, ◌^◌, List, ◌++◌, length, drop, codes, nat_le}
+use Rattle.std.specs.Prelude.{ℕ, Bool, ◌+◌, ◌<◌, ◌^◌, List, ◌++◌, length, drop, codes, nat_le}
 use Rattle.std.specs.List.{AllByRecursion}
 use Rattle.std.specs.Fmt.{decimal}
 use Rattle.std.specs.Int.{w16, w32, to_be_bytes}
@@ -32,8 +32,8 @@ tree_of value ps = record {
   parameters = ps;
 }
 
-abbrev pub row : Row Tree
-row = listed (λ value. nat_le 16 (length value)) 16 parameter.parameters tree_of
+abbrev pub row : Bool → Row Tree
+row strict = listed (λ value. nat_le 16 (length value)) 16 (parameter.parameters strict) tree_of
 
 -- the chunk and its parameters
 abbrev pub parts : Tree → ℕ

@@ -2,7 +2,7 @@
 -- section 5.2).
 --
 --   | source port u16 | destination port u16 | verification tag u32 | checksum u32 | chunks .. |
-use Rattle.std.specs.Prelude.{◌≡◌, ◌≢◌, ℕ, ◌≤◌, List, Result, Ok, Err, true, length, drop}
+use Rattle.std.specs.Prelude.{◌≡◌, ◌≢◌, ℕ, ◌≤◌, Bool, List, Result, Ok, Err, true, length, drop}
 use Rattle.dcsctp_tlv.specs.declared.error.ChunkParseError.{ChunkParseError}
 use Rattle.dcsctp_tlv.specs.declared.error.ChunkParseError.TheVariants as chunk_errors
 use Rattle.dcsctp_tlv.specs.Fault.{Fault, Length, Padding, Value}
@@ -63,12 +63,12 @@ abbrev pub body : List ℕ → List ℕ
 body bytes = drop 12 bytes
 
 -- the four numbers of the header, and the chunks that all of the body means
-pub record MeansPacket (bytes : List ℕ) (p : PacketTree) : Type 0 where
+pub record MeansPacket (strict : Bool) (bytes : List ℕ) (p : PacketTree) : Type 0 where
   pub source : p.meaning.source ≡ number16 bytes
   pub destination : p.meaning.destination ≡ number16 (drop 2 bytes)
   pub tag : p.meaning.tag ≡ number32 (drop 4 bytes)
   pub checksum : p.checksum ≡ checksum_field bytes
-  pub chunks : MeansTrees chunks (body bytes) p.meaning.chunks
+  pub chunks : MeansTrees (chunks strict) (body bytes) p.meaning.chunks
 
 -- the packet with the header of these bytes, and these chunks
 abbrev pub packet_with : List ℕ → List ChunkTree → PacketTree
@@ -83,14 +83,15 @@ packet_with bytes ts = record {
 }
 
 -- The packet, or the first fault: of the size, then of the checksum, then of the chunks from the
--- left.
+-- left. The policy says whether padding is looked at.
 abbrev pub Answer : List ℕ → ℕ → ChecksumPolicy → Result PacketTree PacketFault → Type 0
-Answer bytes word policy (Ok p) = IsOpened bytes word policy × MeansPacket bytes p
+Answer bytes word policy (Ok p) =
+    IsOpened bytes word policy × MeansPacket policy.strict_padding bytes p
 Answer bytes word policy (Err Size) = ¬ HasPacketSize bytes
 Answer bytes word policy (Err Checksum) =
     HasPacketSize bytes × ¬ IsAccepted policy (checksum_field bytes) word
 Answer bytes word policy (Err (Chunk e)) =
-    IsOpened bytes word policy × HasFault chunks (body bytes) e
+    IsOpened bytes word policy × HasFault (chunks policy.strict_padding) (body bytes) e
 
 -- ---- what the code answers
 

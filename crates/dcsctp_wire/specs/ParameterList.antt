@@ -1,6 +1,6 @@
 -- What the chunks have in common whose value is a list of parameters, and nothing else: flags are
 -- ignored, and any list is read, the empty one too.
-use Rattle.std.specs.Prelude.{ℕ, true, List, []}
+use Rattle.std.specs.Prelude.{ℕ, Bool, true, List, []}
 use Rattle.std.specs.List.{AllByRecursion}
 use Rattle.dcsctp_tlv.specs.Format.{Format}
 use Rattle.dcsctp_tlv.specs.Level.{Row, listed}
@@ -9,8 +9,8 @@ use Rattle.dcsctp_tlv.specs.Parameter as parameter
 use Rattle.dcsctp_tlv.proofs.Listed.{listed_sized}
 use Rattle.dcsctp_tlv.proofs.ParameterLaws.{length-parameter}
 
-abbrev pub row : Row (List parameter.ParameterTree)
-row = listed (λ value. true) 0 parameter.parameters (λ value ps. ps)
+abbrev pub row : Bool → Row (List parameter.ParameterTree)
+row strict = listed (λ value. true) 0 (parameter.parameters strict) (λ value ps. ps)
 
 -- what is said of such a chunk, by its type and its name
 abbrev pub format : ℕ → List ℕ → List parameter.ParameterTree → Format

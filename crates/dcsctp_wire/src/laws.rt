@@ -1,6 +1,6 @@
 //! What holds of the definitions alone.
 
-ghost use Rattle.std.specs.Prelude.{◌≡◌, ◌≤◌, ◌++◌, ◌%◌, ℕ, List, Result, length};
+ghost use Rattle.std.specs.Prelude.{◌≡◌, ◌≤◌, ◌++◌, ◌%◌, ℕ, false, List, Result, length};
 ghost use Rattle.dcsctp_tlv.specs.Fault.{Fault};
 ghost use Rattle.dcsctp_tlv.specs.Level.{MeansTrees, HasFault};
 ghost use Rattle.dcsctp_tlv.specs.Number.{AreBytes};
@@ -24,11 +24,21 @@ pub fn reading_is_local()
     ensures packet { (front end : List ℕ) (word : ℕ) (policy : ChecksumPolicy)
         (ts us : List ChunkTree)
         → 16 ≤ length front → length front % 4 ≡ 0 → IsOpened (front ++ end) word policy
-        → MeansTrees chunks (body front) ts → MeansTrees chunks end us
+        → MeansTrees (chunks policy.strict_padding) (body front) ts
+        → MeansTrees (chunks policy.strict_padding) end us
         → Answer (front ++ end) word policy (Ok (packet_with (front ++ end) (ts ++ us))) }
     ensures fault { (front end : List ℕ) (word : ℕ) (policy : ChecksumPolicy)
         (ts : List ChunkTree) (e : Fault)
         → 16 ≤ length front → length front % 4 ≡ 0 → IsOpened (front ++ end) word policy
-        → MeansTrees chunks (body front) ts → HasFault chunks end e
+        → MeansTrees (chunks policy.strict_padding) (body front) ts
+        → HasFault (chunks policy.strict_padding) end e
         → Answer (front ++ end) word policy (Err (Chunk e)) }
+{}
+
+/// What a policy accepts that looks at padding, the same policy accepts where it doesn't, as the
+/// same packet.
+pub fn strict_is_lenient()
+    ensures { (bytes : List ℕ) (word : ℕ) (policy : ChecksumPolicy) (p : PacketTree)
+        → Answer bytes word policy (Ok p)
+        → Answer bytes word (record policy { strict_padding = false }) (Ok p) }
 {}

@@ -8,6 +8,8 @@ use dcsctp_tlv::parameter::parameters_check;
 
 const LENGTH: Result<usize, ChunkParseError> = Err(ChunkParseError::InvalidLength);
 
+const PADDING: Result<usize, ChunkParseError> = Err(ChunkParseError::InvalidPadding);
+
 const VALUE: Result<usize, ChunkParseError> = Err(ChunkParseError::InvalidValue);
 
 /// Bytes, and the check of them as a list of parameters.
@@ -49,7 +51,41 @@ const PARAMETERS: &[(&[u8], Result<usize, ChunkParseError>)] = &[
 #[test]
 fn parameters(rt: HostRuntime) {
     for (i, (bytes, wanted)) in PARAMETERS.iter().enumerate() {
-        assert!(rt; parameters_check(bytes) == *wanted, "row {i}");
+        assert!(rt; parameters_check(bytes, false) == *wanted, "row {i}");
+    }
+}
+
+/// Bytes, and the check of them as a list of parameters whose padding is looked at.
+const STRICT_PARAMETERS: &[(&[u8], Result<usize, ChunkParseError>)] = &[
+    (&[], Ok(0)),
+    (&[0xc0, 0, 0, 4], Ok(1)),
+    // the last without padding, with some, and with all, of zeros
+    (&[0xc0, 0, 0, 4, 0x80, 8, 0, 5, 1], Ok(2)),
+    (&[0xc0, 0, 0, 4, 0x80, 8, 0, 5, 1, 0], Ok(2)),
+    (&[0xc0, 0, 0, 4, 0x80, 8, 0, 5, 1, 0, 0, 0], Ok(2)),
+    // some and all, of other bytes
+    (&[0xc0, 0, 0, 4, 0x80, 8, 0, 5, 1, 9], PADDING),
+    (&[0xc0, 0, 0, 4, 0x80, 8, 0, 5, 1, 0, 0, 9], PADDING),
+    // padding within the list: zeros, and not
+    (&[0x80, 8, 0, 6, 1, 2, 0, 0, 0xc0, 0, 0, 4], Ok(2)),
+    (&[0x80, 8, 0, 6, 1, 2, 0, 9, 0xc0, 0, 0, 4], PADDING),
+    // the same ahead of a value that is at fault, and of a byte too few
+    (&[0x80, 8, 0, 6, 1, 2, 0, 9, 0xc0, 0, 0, 5, 1], PADDING),
+    (&[0x80, 8, 0, 6, 1, 2, 0, 9, 0xc0, 0, 0], PADDING),
+    // a value that is at fault, and padding that isn't zero after it
+    (&[0xc0, 0, 0, 5, 1, 9, 9, 9], LENGTH),
+    (
+        &[
+            0, 16, 0, 12, 0, 0, 0, 1, 0, 0, 0, 7, 0x80, 8, 0, 5, 1, 9, 9, 9,
+        ],
+        VALUE,
+    ),
+];
+
+#[test]
+fn strict_parameters(rt: HostRuntime) {
+    for (i, (bytes, wanted)) in STRICT_PARAMETERS.iter().enumerate() {
+        assert!(rt; parameters_check(bytes, true) == *wanted, "row {i}");
     }
 }
 
@@ -79,7 +115,30 @@ const CAUSES: &[(&[u8], Result<usize, ChunkParseError>)] = &[
 #[test]
 fn error_causes(rt: HostRuntime) {
     for (i, (bytes, wanted)) in CAUSES.iter().enumerate() {
-        assert!(rt; error_cause_check(bytes) == *wanted, "row {i}");
+        assert!(rt; error_cause_check(bytes, false) == *wanted, "row {i}");
+    }
+}
+
+/// Bytes, and the check of them as a list of error causes whose padding is looked at.
+const STRICT_CAUSES: &[(&[u8], Result<usize, ChunkParseError>)] = &[
+    (&[], Ok(0)),
+    // a text without its padding, with zeros, and with other bytes
+    (&[0, 12, 0, 5, 0xff], Ok(1)),
+    (&[0, 12, 0, 5, 0xff, 0, 0, 0], Ok(1)),
+    (&[0, 12, 0, 5, 0xff, 1, 0, 0], PADDING),
+    // padding within the list: zeros, and not
+    (&[0, 99, 0, 7, 1, 2, 3, 0, 0, 10, 0, 4], Ok(2)),
+    (&[0, 99, 0, 7, 1, 2, 3, 4, 0, 10, 0, 4], PADDING),
+    // the same ahead of a value that is at fault
+    (&[0, 99, 0, 7, 1, 2, 3, 4, 0, 10, 0, 5, 1], PADDING),
+    // a value that is at fault, and padding that isn't zero after it
+    (&[0, 10, 0, 5, 1, 9, 9, 9], LENGTH),
+];
+
+#[test]
+fn strict_error_causes(rt: HostRuntime) {
+    for (i, (bytes, wanted)) in STRICT_CAUSES.iter().enumerate() {
+        assert!(rt; error_cause_check(bytes, true) == *wanted, "row {i}");
     }
 }
 

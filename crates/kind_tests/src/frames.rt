@@ -8,7 +8,9 @@ use dcsctp_tlv::number::{
     is_divisible_by_4, read_u16_be, read_u32_be, read_u64_be, round_down_to_4, round_up_to_4,
     write_u16_be, write_u32_be, write_u64_be,
 };
-use dcsctp_tlv::parameter::raw_parameter::{PARAMETER_HEADER_SIZE, write_parameter_header};
+use dcsctp_tlv::parameter::raw_parameter::{
+    PARAMETER_HEADER_SIZE, RawParameter, write_parameter_header,
+};
 
 #[test]
 fn numbers(rt: HostRuntime) {
@@ -182,4 +184,72 @@ fn frames(rt: HostRuntime) {
             "row {i}"
         );
     }
+}
+
+/// The value, the padding that is there, and the bytes after it.
+type Parts = (&'static [u8], &'static [u8], &'static [u8]);
+
+/// The parts of the chunk at the front, if there is one.
+fn chunk_parts(bytes: &'static [u8]) -> Option<Parts> {
+    match RawChunk::from_bytes_padded(bytes) {
+        Ok((raw, padding, rest)) => Some((raw.value, padding, rest)),
+        Err(_) => None,
+    }
+}
+
+/// The parts of the parameter at the front, if there is one.
+fn parameter_parts(bytes: &'static [u8]) -> Option<Parts> {
+    match RawParameter::from_bytes_padded(bytes) {
+        Ok((raw, padding, rest)) => Some((raw.value, padding, rest)),
+        Err(_) => None,
+    }
+}
+
+const PADDED: &[(&[u8], Option<Parts>)] = &[
+    // a value that needs no padding, at the end and ahead of other bytes
+    (&[0x42, 1, 0, 4], Some((&[], &[], &[]))),
+    (&[0x42, 1, 0, 4, 7], Some((&[], &[], &[7]))),
+    // three bytes of padding, and a byte after them
+    (
+        &[0x42, 1, 0, 5, 2, 7, 8, 9, 6],
+        Some((&[2], &[7, 8, 9], &[6])),
+    ),
+    // one byte of padding, and nothing after it
+    (&[0x42, 1, 0, 7, 2, 3, 4, 0], Some((&[2, 3, 4], &[0], &[]))),
+    // some of the padding, and none of it
+    (&[0x42, 1, 0, 5, 2, 7, 8], Some((&[2], &[7, 8], &[]))),
+    (&[0x42, 1, 0, 5, 2], Some((&[2], &[], &[]))),
+    // no frame: fewer bytes than a header, a length below it, and one beyond the bytes
+    (&[0x42, 0, 0], None),
+    (&[0x42, 0, 0, 3], None),
+    (&[0x42, 0, 0, 5], None),
+];
+
+#[test]
+fn padded(rt: HostRuntime) {
+    for (i, (bytes, wanted)) in PADDED.iter().enumerate() {
+        assert!(rt; chunk_parts(bytes) == *wanted, "row {i}");
+        assert!(rt; parameter_parts(bytes) == *wanted, "row {i}");
+    }
+}
+
+/// The bytes begin with no chunk and no parameter, since a length is at fault.
+fn is_fault_of_length(bytes: &[u8]) -> bool {
+    let length = Some(ChunkParseError::InvalidLength);
+    RawChunk::from_bytes_padded(bytes).err() == length
+        && RawParameter::from_bytes_padded(bytes).err() == length
+}
+
+// Type and flags are those of the header, and a fault is one of the length.
+#[test]
+fn padded_headers(rt: HostRuntime) -> Result<(), ChunkParseError> {
+    let bytes = [0x42, 1, 0, 5, 2, 0, 0, 0];
+    let (chunk, _, _) = RawChunk::from_bytes_padded(&bytes)?;
+    assert_eq!(rt; (chunk.typ, chunk.flags), (0x42, 1));
+    let (parameter, _, _) = RawParameter::from_bytes_padded(&bytes)?;
+    assert_eq!(rt; parameter.typ, 0x4201);
+    for (i, bytes) in NO_FRAMES.iter().enumerate() {
+        assert!(rt; is_fault_of_length(bytes), "row {i}");
+    }
+    Ok(())
 }

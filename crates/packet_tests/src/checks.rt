@@ -188,6 +188,7 @@ fn verified(rt: HostRuntime) {
     let dtls = ChecksumPolicy {
         disable_checksum_verification: false,
         zero_checksum_alternate_error_detection_method: ZERO_CHECKSUM_ALTERNATE_ERROR_DETECTION_METHOD_LOWER_LAYER_DTLS,
+        strict_padding: false,
     };
     // a header alone, and all of it but a byte of a chunk's header
     assert!(rt; SctpPacket::check(&HEADER, 5, &none) == Err(PacketParseError::InvalidPacketSize));

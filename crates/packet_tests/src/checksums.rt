@@ -68,6 +68,7 @@ fn verified(rt: HostRuntime) -> Result<(), Fail> {
     let dtls = ChecksumPolicy {
         disable_checksum_verification: false,
         zero_checksum_alternate_error_detection_method: ZERO_CHECKSUM_ALTERNATE_ERROR_DETECTION_METHOD_LOWER_LAYER_DTLS,
+        strict_padding: false,
     };
     for (i, (bytes, word, other, wanted)) in ROWS.iter().enumerate() {
         let policy = if *other { &dtls } else { &none };

@@ -14,6 +14,14 @@ pub(crate) const HEADER: [u8; 12] = [0x13, 0x88, 0x13, 0x88, 1, 2, 3, 4, 0, 0, 0
 pub(crate) const UNVERIFIED: ChecksumPolicy = ChecksumPolicy {
     disable_checksum_verification: true,
     zero_checksum_alternate_error_detection_method: ZERO_CHECKSUM_ALTERNATE_ERROR_DETECTION_METHOD_NONE,
+    strict_padding: false,
+};
+
+/// The same, but that padding is looked at.
+pub(crate) const STRICT: ChecksumPolicy = ChecksumPolicy {
+    disable_checksum_verification: true,
+    zero_checksum_alternate_error_detection_method: ZERO_CHECKSUM_ALTERNATE_ERROR_DETECTION_METHOD_NONE,
+    strict_padding: true,
 };
 
 /// The frame at the front of the bytes.

@@ -26,6 +26,8 @@ mod lists;
 #[cfg(test)]
 mod packets;
 #[cfg(test)]
+mod padding;
+#[cfg(test)]
 mod replaced_texts;
 #[cfg(test)]
 mod sizes;

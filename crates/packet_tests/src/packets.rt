@@ -33,7 +33,7 @@ fn is_kept_as(alloc: Global, chunks: &[u8], wanted: &[u8]) -> Result<bool, Fail>
 }
 
 /// The chunks of the input, what they print, the chunks of the canonical packet.
-const ACCEPTED: &[(&[u8], &str, &[u8])] = &[
+pub(crate) const ACCEPTED: &[(&[u8], &str, &[u8])] = &[
     // one chunk without value
     (&[0x0b, 0, 0, 4], "COOKIE-ACK\n", &[0x0b, 0, 0, 4]),
     // the last chunk lacks its padding; the canonical packet has it
@@ -106,7 +106,7 @@ pub(crate) const INIT_WITHOUT_PADDING: &[u8] = &[
 ];
 
 /// The same of packets with lists of parameters or causes.
-const ACCEPTED_WITH_LISTS: &[(&[u8], &str, &[u8])] = &[
+pub(crate) const ACCEPTED_WITH_LISTS: &[(&[u8], &str, &[u8])] = &[
     // an ABORT without causes, a HEARTBEAT and a RE-CONFIG without parameters
     (&[6, 0, 0, 4], "ABORT, tag_reflected=false\n", &[6, 0, 0, 4]),
     (&[4, 0, 0, 4], "HEARTBEAT-REQ\n", &[4, 0, 0, 4]),

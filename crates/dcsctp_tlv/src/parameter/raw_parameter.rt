@@ -2,13 +2,13 @@
 
 ghost use Rattle.std.specs.Borrow.{sem};
 ghost use Rattle.std.specs.Prelude.{◌≡◌, ◌↔◌, ◌≤◌, ◌<◌, ◌+◌, ◌^◌, length, take, drop, IsOk, IfOk, IfErr};
-ghost use Rattle.dcsctp_tlv.specs.Frame.{typed_header, BeginsWithFrame, frame_value, frame_rest};
+ghost use Rattle.dcsctp_tlv.specs.Frame.{typed_header, BeginsWithFrame, frame_value, frame_padding, frame_rest};
 ghost use Rattle.dcsctp_tlv.specs.Lending.{LendsValue};
 ghost use Rattle.dcsctp_tlv.specs.Number.{number16};
 ghost use Rattle.dcsctp_tlv.specs.declared.error.ChunkParseError.TheVariants.{InvalidLength};
 
 use crate::error::ChunkParseError;
-use crate::frame::split_frame;
+use crate::frame::{padding_parts, split_frame};
 use crate::number::read_u16_be;
 
 /// Bytes of a parameter's header: two of type, and two of length.
@@ -46,6 +46,23 @@ impl<'a> RawParameter<'a> {
             },
             rest,
         ))
+    }
+
+    /// The same, and between them its padding, as far as it is there.
+    ///
+    /// Value, padding and rest are parts of the input, one after the other. A reader that wants
+    /// zeros in the padding can look at it.
+    pub fn from_bytes_padded(bytes: &'a [u8]) -> Result<(Self, &'a [u8], &'a [u8]), ChunkParseError>
+        ensures frame { IsOk result ↔ BeginsWithFrame bytes.now }
+        ensures typ { IfOk result (λ x. x.0.typ ≡ number16 bytes.now) }
+        ensures value { IfOk result (λ x. x.0.value.now ≡ frame_value bytes.now) }
+        ensures padding { IfOk result (λ x. x.1.now ≡ frame_padding bytes.now) }
+        ensures rest { IfOk result (λ x. x.2.now ≡ frame_rest bytes.now) }
+        ensures fault { IfErr result (λ e. e ≡ InvalidLength) }
+    {
+        let (raw, rest) = RawParameter::from_bytes(bytes)?;
+        let (_, padding) = padding_parts(bytes);
+        Ok((raw, padding, rest))
     }
 }
 

@@ -11,6 +11,7 @@
 //! ```
 
 ghost use Rattle.std.specs.Prelude.{◌≡◌, ◌≢◌, ◌↔◌, ◌≤◌, ◌+◌, ◌*◌, ℕ, [], ◌∷◌, false, length, Some, IsOk, IfOk, IsErrOf};
+ghost use Rattle.dcsctp_tlv.specs.Frame.{lenient};
 ghost use Rattle.dcsctp_tlv.specs.Level.{HasMeaning, MeansParts};
 ghost use Rattle.dcsctp_tlv.specs.Reading.{Answers, Finds, ReadsExactly};
 ghost use Rattle.dcsctp_wire.specs.Abort as kind;
@@ -56,14 +57,14 @@ impl AbortChunk {
     pub fn try_from(alloc: Global, raw: RawChunk) -> Result<Self, ChunkParseError>
         ensures other { IsErrOf result ChunkParseError.InvalidType ↔ (raw.entry.typ ≢ CHUNK_TYPE) }
         ensures own { raw.entry.typ ≡ CHUNK_TYPE
-            → Answers result (λ c. (kind.row raw.entry.flags).means raw.entry.value.now
-            (kind.view c)) ((kind.row raw.entry.flags).faults raw.entry.value.now) }
+            → Answers result (λ c. (kind.row lenient raw.entry.flags).means raw.entry.value.now
+            (kind.view c)) ((kind.row lenient raw.entry.flags).faults raw.entry.value.now) }
         ensures memory { IsErrOf result ChunkParseError.OutOfMemory
-            → HasMeaning (kind.row raw.entry.flags) raw.entry.value.now
+            → HasMeaning (kind.row lenient raw.entry.flags) raw.entry.value.now
             × (raw.entry.value.now ≢ []) }
         ensures exact { raw.entry.typ ≡ CHUNK_TYPE → ReadsExactly result kind.view
-            ((kind.row raw.entry.flags).means raw.entry.value.now)
-            ((kind.row raw.entry.flags).faults raw.entry.value.now) }
+            ((kind.row lenient raw.entry.flags).means raw.entry.value.now)
+            ((kind.row lenient raw.entry.flags).faults raw.entry.value.now) }
     {
         if raw.typ != CHUNK_TYPE {
             return Err(ChunkParseError::InvalidType);
@@ -73,33 +74,33 @@ impl AbortChunk {
 
     /// Checks the value, and builds what it means.
     fn read(alloc: Global, flags: u8, value: &[u8]) -> Result<Self, ChunkParseError>
-        ensures answer { Answers result (λ c. (kind.row flags).means value.now (kind.view c))
-            ((kind.row flags).faults value.now) }
+        ensures answer { Answers result (λ c. (kind.row lenient flags).means value.now (kind.view c))
+            ((kind.row lenient flags).faults value.now) }
         ensures memory { IsErrOf result ChunkParseError.OutOfMemory →
-            HasMeaning (kind.row flags) value.now × (value.now ≢ []) }
+            HasMeaning (kind.row lenient flags) value.now × (value.now ≢ []) }
         ensures exact { ReadsExactly result kind.view
-            ((kind.row flags).means value.now) ((kind.row flags).faults value.now) }
+            ((kind.row lenient flags).means value.now) ((kind.row lenient flags).faults value.now) }
     {
-        AbortChunk::check(value)?;
+        AbortChunk::check(value, false)?;
         Ok(AbortChunk::build(alloc, flags, value)?)
     }
 
     /// The number of parts: the chunk and its causes; or the first fault of these from the left. It
     /// takes no memory.
-    pub(crate) fn check(value: &[u8]) -> Result<usize, ChunkParseError>
+    pub(crate) fn check(value: &[u8], strict: bool) -> Result<usize, ChunkParseError>
         ensures found { (flags : ℕ) → Finds result
-            (MeansParts (λ a. 1 + length a.causes) (kind.row flags) value.now)
-            ((kind.row flags).faults value.now) }
+            (MeansParts (λ a. 1 + length a.causes) (kind.row lenient flags) value.now)
+            ((kind.row lenient flags).faults value.now) }
         ensures few { IfOk result (λ n. 4 * n ≤ 4 + length value.now) }
     {
-        let count = error_cause_check(value)?;
+        let count = error_cause_check(value, strict)?;
         Ok(1 + count)
     }
 
     /// What the value means, under these flags.
     pub(crate) fn build(alloc: Global, flags: u8, value: &[u8]) -> Result<Self, AllocError>
-        requires { HasMeaning (kind.row flags) value.now }
-        ensures meant { IfOk result (λ c. (kind.row flags).means value.now (kind.view c)) }
+        requires { HasMeaning (kind.row lenient flags) value.now }
+        ensures meant { IfOk result (λ c. (kind.row lenient flags).means value.now (kind.view c)) }
         ensures empty { value.now ≡ [] → IsOk result }
     {
         Ok(AbortChunk {

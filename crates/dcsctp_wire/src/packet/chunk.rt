@@ -1,6 +1,7 @@
 //! A chunk of any kind.
 
 ghost use Rattle.std.specs.Prelude.{◌≡◌, ◌≢◌, ◌<◌, ◌+◌, [], Some, IsOk, IfOk, IsErrOf, vec_len, vec_capacity};
+ghost use Rattle.dcsctp_tlv.specs.Frame.{lenient};
 ghost use Rattle.dcsctp_tlv.specs.Level.{HasMeaning, Grows};
 ghost use Rattle.dcsctp_tlv.specs.Reading.{Answers, ReadsExactly};
 ghost use Rattle.dcsctp_wire.specs.Chunk as chunk;
@@ -31,6 +32,7 @@ use dcsctp_chunk::flags::is_set;
 pub use dcsctp_chunk::plain_check::plain_check;
 pub use dcsctp_chunk::raw_chunk::{RawChunk, write_chunk_header};
 use dcsctp_tlv::error::ChunkParseError;
+use dcsctp_tlv::frame::are_zeros;
 use dcsctp_tlv::parameter::parameters_build;
 use dcsctp_tlv::reader::ReadableTlv;
 use dcsctp_tlv::tlv::SerializableTlv;
@@ -113,13 +115,14 @@ impl Chunk {
     /// `InvalidType` is never answered.
     pub fn try_from(alloc: Global, raw: RawChunk) -> Result<Self, ChunkParseError>
         ensures answer { Answers result
-            (λ c. (chunk_row raw.entry.typ raw.entry.flags).means raw.entry.value.now (view c))
-            ((chunk_row raw.entry.typ raw.entry.flags).faults raw.entry.value.now) }
+            (λ c. (chunk_row lenient raw.entry.typ raw.entry.flags).means raw.entry.value.now
+            (view c))
+            ((chunk_row lenient raw.entry.typ raw.entry.flags).faults raw.entry.value.now) }
         ensures memory { IsErrOf result ChunkParseError.OutOfMemory →
-            HasMeaning (chunk_row raw.entry.typ raw.entry.flags) raw.entry.value.now }
+            HasMeaning (chunk_row lenient raw.entry.typ raw.entry.flags) raw.entry.value.now }
         ensures exact { ReadsExactly result view
-            ((chunk_row raw.entry.typ raw.entry.flags).means raw.entry.value.now)
-            ((chunk_row raw.entry.typ raw.entry.flags).faults raw.entry.value.now) }
+            ((chunk_row lenient raw.entry.typ raw.entry.flags).means raw.entry.value.now)
+            ((chunk_row lenient raw.entry.typ raw.entry.flags).faults raw.entry.value.now) }
         ensures heap { TakesNoMemory raw.entry.typ raw.entry.value.now
             → ¬ IsErrOf result ChunkParseError.OutOfMemory }
     {
@@ -128,22 +131,23 @@ impl Chunk {
 
     /// Checks a chunk's value, and builds what it means.
     fn read(alloc: Global, typ: u8, flags: u8, value: &[u8]) -> Result<Self, ChunkParseError>
-        ensures answer { Answers result (λ c. (chunk_row typ flags).means value.now (view c))
-            ((chunk_row typ flags).faults value.now) }
+        ensures answer { Answers result
+            (λ c. (chunk_row lenient typ flags).means value.now (view c))
+            ((chunk_row lenient typ flags).faults value.now) }
         ensures memory { IsErrOf result ChunkParseError.OutOfMemory
-            → HasMeaning (chunk_row typ flags) value.now }
-        ensures exact { ReadsExactly result view ((chunk_row typ flags).means value.now)
-            ((chunk_row typ flags).faults value.now) }
+            → HasMeaning (chunk_row lenient typ flags) value.now }
+        ensures exact { ReadsExactly result view ((chunk_row lenient typ flags).means value.now)
+            ((chunk_row lenient typ flags).faults value.now) }
         ensures heap { TakesNoMemory typ value.now → ¬ IsErrOf result ChunkParseError.OutOfMemory }
     {
-        Chunk::check(typ, flags, value)?;
+        Chunk::check(false, typ, flags, value)?;
         Ok(Chunk::build(alloc, typ, flags, value)?)
     }
 
     /// What the value means.
     fn build(alloc: Global, typ: u8, flags: u8, value: &[u8]) -> Result<Self, AllocError>
-        requires { HasMeaning (chunk_row typ flags) value.now }
-        ensures meant { IfOk result (λ c. (chunk_row typ flags).means value.now (view c)) }
+        requires { HasMeaning (chunk_row lenient typ flags) value.now }
+        ensures meant { IfOk result (λ c. (chunk_row lenient typ flags).means value.now (view c)) }
         ensures heap { TakesNoMemory typ value.now → IsOk result }
     {
         Ok(match typ {
@@ -192,10 +196,10 @@ impl Chunk {
     ) -> Result<(), AllocError>
         requires other { (first ≢ 0) × (first ≢ 3) × (first ≢ 7) × (first ≢ 8) × (first ≢ 10)
             × (first ≢ 11) × (first ≢ 14) × (first ≢ 64) × (first ≢ 192) × (first ≢ 194) }
-        requires meant { HasMeaning (chunk_row first second) value.now }
+        requires meant { HasMeaning (chunk_row lenient first second) value.now }
         requires room { vec_len list.old < vec_capacity list.old }
         ensures grows { IfOk result (λ _. Grows view
-            (chunk_row first second) value.now list.old.items list.new.items) }
+            (chunk_row lenient first second) value.now list.old.items list.new.items) }
         ensures len { IfOk result (λ _. vec_len list.new ≡ vec_len list.old + 1) }
         ensures capacity { IfOk result (λ _. vec_capacity list.new ≡ vec_capacity list.old) }
     {
@@ -255,15 +259,15 @@ impl ReadableTlv for Chunk {
 
     ghost parts = { chunk_parts };
 
-    fn check(first: u8, second: u8, value: &[u8]) -> Result<usize, ChunkParseError> {
+    fn check(strict: bool, first: u8, second: u8, value: &[u8]) -> Result<usize, ChunkParseError> {
         match first {
-            init_chunk::CHUNK_TYPE => init_check(value),
-            init_ack_chunk::CHUNK_TYPE => init_check(value),
-            heartbeat_request_chunk::CHUNK_TYPE => parameter_list_check(value),
-            heartbeat_ack_chunk::CHUNK_TYPE => parameter_list_check(value),
-            abort_chunk::CHUNK_TYPE => AbortChunk::check(value),
-            error_chunk::CHUNK_TYPE => ErrorChunk::check(value),
-            re_config_chunk::CHUNK_TYPE => parameter_list_check(value),
+            init_chunk::CHUNK_TYPE => init_check(value, strict),
+            init_ack_chunk::CHUNK_TYPE => init_check(value, strict),
+            heartbeat_request_chunk::CHUNK_TYPE => parameter_list_check(value, strict),
+            heartbeat_ack_chunk::CHUNK_TYPE => parameter_list_check(value, strict),
+            abort_chunk::CHUNK_TYPE => AbortChunk::check(value, strict),
+            error_chunk::CHUNK_TYPE => ErrorChunk::check(value, strict),
+            re_config_chunk::CHUNK_TYPE => parameter_list_check(value, strict),
             _ => {
                 plain_check(RawChunk {
                     typ: first,
@@ -327,8 +331,8 @@ impl ReadableTlv for Chunk {
         }
     }
 
-    fn accepts_padding(_size: usize, _there: &[u8]) -> bool {
-        true
+    fn accepts_padding(strict: bool, size: usize, there: &[u8]) -> bool {
+        !strict || (there.len() == size && are_zeros(there))
     }
 }
 

@@ -11,6 +11,7 @@
 //! ```
 
 ghost use Rattle.std.specs.Prelude.{◌≡◌, ◌≢◌, ◌↔◌, ◌≤◌, ◌+◌, ◌*◌, [], length, Some, IfOk, IsErrOf};
+ghost use Rattle.dcsctp_tlv.specs.Frame.{lenient};
 ghost use Rattle.dcsctp_tlv.specs.Level.{HasMeaning, MeansParts};
 ghost use Rattle.dcsctp_tlv.specs.Reading.{Answers, Finds, ReadsExactly};
 ghost use Rattle.dcsctp_wire.specs.Error as kind;
@@ -55,10 +56,10 @@ impl ErrorChunk {
     pub fn try_from(alloc: Global, raw: RawChunk) -> Result<Self, ChunkParseError>
         ensures other { IsErrOf result ChunkParseError.InvalidType ↔ (raw.entry.typ ≢ CHUNK_TYPE) }
         ensures own { raw.entry.typ ≡ CHUNK_TYPE
-            → Answers result (λ c. kind.row.means raw.entry.value.now (kind.view c))
+            → Answers result (λ c. (kind.row lenient).means raw.entry.value.now (kind.view c))
             (kind.row.faults raw.entry.value.now) }
         ensures memory { IsErrOf result ChunkParseError.OutOfMemory
-            → HasMeaning kind.row raw.entry.value.now }
+            → HasMeaning (kind.row lenient) raw.entry.value.now }
         ensures exact { raw.entry.typ ≡ CHUNK_TYPE → ReadsExactly result kind.view
             (kind.row.means raw.entry.value.now) (kind.row.faults raw.entry.value.now) }
     {
@@ -70,35 +71,35 @@ impl ErrorChunk {
 
     /// Checks the value, and builds what it means.
     fn read(alloc: Global, value: &[u8]) -> Result<Self, ChunkParseError>
-        ensures answer { Answers result (λ c. kind.row.means value.now (kind.view c))
+        ensures answer { Answers result (λ c. (kind.row lenient).means value.now (kind.view c))
             (kind.row.faults value.now) }
         ensures memory { IsErrOf result ChunkParseError.OutOfMemory →
-            HasMeaning kind.row value.now }
+            HasMeaning (kind.row lenient) value.now }
         ensures exact { ReadsExactly result kind.view
             (kind.row.means value.now) (kind.row.faults value.now) }
     {
-        ErrorChunk::check(value)?;
+        ErrorChunk::check(value, false)?;
         Ok(ErrorChunk::build(alloc, value)?)
     }
 
     /// The number of parts: the chunk and its causes. `InvalidLength` where there are no causes;
     /// else the first fault of these from the left. It takes no memory.
     pub(crate) fn check(value: &[u8]) -> Result<usize, ChunkParseError>
-        ensures found { Finds result (MeansParts (λ cs. 1 + length cs) kind.row value.now)
+        ensures found { Finds result (MeansParts (λ cs. 1 + length cs) (kind.row lenient) value.now)
             (kind.row.faults value.now) }
         ensures few { IfOk result (λ n. 4 * n ≤ 4 + length value.now) }
     {
         if value.is_empty() {
             return Err(ChunkParseError::InvalidLength);
         }
-        let count = error_cause_check(value)?;
+        let count = error_cause_check(value, strict)?;
         Ok(1 + count)
     }
 
     /// What the value means.
     pub(crate) fn build(alloc: Global, value: &[u8]) -> Result<Self, AllocError>
-        requires { HasMeaning kind.row value.now }
-        ensures { IfOk result (λ c. kind.row.means value.now (kind.view c)) }
+        requires { HasMeaning (kind.row lenient) value.now }
+        ensures { IfOk result (λ c. (kind.row lenient).means value.now (kind.view c)) }
     {
         Ok(ErrorChunk {
             error_causes: error_cause_build(alloc, value)?,

@@ -1,6 +1,7 @@
 //! What INIT and INIT ACK have in common.
 
 ghost use Rattle.std.specs.Prelude.{◌≡◌, ◌≤◌, ◌+◌, ◌*◌, [], length, drop, IsOk, IfOk};
+ghost use Rattle.dcsctp_tlv.specs.Frame.{lenient};
 ghost use Rattle.dcsctp_tlv.specs.Level.{HasMeaning, MeansParts};
 ghost use Rattle.dcsctp_tlv.specs.Reading.{Finds};
 ghost use Rattle.dcsctp_wire.specs.InitFields.{row as init_row, parts as init_parts, leading as init_numbers, view as init_fields_view};
@@ -27,22 +28,23 @@ pub(crate) struct InitFields {
 
 /// The number of parts: the chunk and its parameters. `InvalidLength` where the value has fewer
 /// than 16 bytes; else the first fault of the parameters from the left. It takes no memory.
-pub(crate) fn init_check(value: &[u8]) -> Result<usize, ChunkParseError>
-    ensures found { Finds result (MeansParts init_parts init_row value.now)
-        (init_row.faults value.now) }
+pub(crate) fn init_check(value: &[u8], strict: bool) -> Result<usize, ChunkParseError>
+    ensures found { Finds result (MeansParts init_parts (init_row strict) value.now)
+        ((init_row strict).faults value.now) }
     ensures few { IfOk result (λ n. 4 * n ≤ 4 + length value.now) }
 {
     if value.len() < FIXED_SIZE {
         return Err(ChunkParseError::InvalidLength);
     }
-    let count = parameters_check(&value[FIXED_SIZE..])?;
+    let count = parameters_check(&value[FIXED_SIZE..], strict)?;
     Ok(1 + count)
 }
 
 /// What the value means.
 pub(crate) fn init_build(alloc: Global, value: &[u8]) -> Result<InitFields, AllocError>
-    requires { HasMeaning init_row value.now }
-    ensures meant { IfOk result (λ fields. init_row.means value.now (init_fields_view fields)) }
+    requires { HasMeaning (init_row lenient) value.now }
+    ensures meant { IfOk result
+        (λ fields. (init_row lenient).means value.now (init_fields_view fields)) }
     ensures empty { drop 16 value.now ≡ [] → IsOk result }
 {
     let parameters = parameters_build(alloc, &value[FIXED_SIZE..])?;

@@ -19,6 +19,7 @@
 //! ```
 
 ghost use Rattle.std.specs.Prelude.{◌≡◌, ◌≢◌, ◌↔◌, [], drop, Some, IsOk, IfOk, IsErrOf};
+ghost use Rattle.dcsctp_tlv.specs.Frame.{lenient};
 ghost use Rattle.dcsctp_tlv.specs.Level.{HasMeaning};
 ghost use Rattle.dcsctp_tlv.specs.Reading.{Answers, ReadsExactly};
 ghost use Rattle.dcsctp_wire.specs.InitAck as kind;
@@ -63,13 +64,13 @@ impl InitAckChunk {
     pub fn try_from(alloc: Global, raw: RawChunk) -> Result<Self, ChunkParseError>
         ensures other { IsErrOf result ChunkParseError.InvalidType ↔ (raw.entry.typ ≢ CHUNK_TYPE) }
         ensures own { raw.entry.typ ≡ CHUNK_TYPE
-            → Answers result (λ c. init_fields.row.means raw.entry.value.now (kind.view c))
-            (init_fields.row.faults raw.entry.value.now) }
+            → Answers result (λ c. (init_fields.row lenient).means raw.entry.value.now (kind.view c))
+            ((init_fields.row lenient).faults raw.entry.value.now) }
         ensures memory { IsErrOf result ChunkParseError.OutOfMemory
-            → HasMeaning init_fields.row raw.entry.value.now × (drop 16 raw.entry.value.now ≢ []) }
+            → HasMeaning (init_fields.row lenient) raw.entry.value.now × (drop 16 raw.entry.value.now ≢ []) }
         ensures exact { raw.entry.typ ≡ CHUNK_TYPE → ReadsExactly result kind.view
-            (init_fields.row.means raw.entry.value.now)
-            (init_fields.row.faults raw.entry.value.now) }
+            ((init_fields.row lenient).means raw.entry.value.now)
+            ((init_fields.row lenient).faults raw.entry.value.now) }
     {
         if raw.typ != CHUNK_TYPE {
             return Err(ChunkParseError::InvalidType);
@@ -79,21 +80,21 @@ impl InitAckChunk {
 
     /// Checks the value, and builds what it means.
     fn read(alloc: Global, value: &[u8]) -> Result<Self, ChunkParseError>
-        ensures answer { Answers result (λ c. init_fields.row.means value.now (kind.view c))
-            (init_fields.row.faults value.now) }
+        ensures answer { Answers result (λ c. (init_fields.row lenient).means value.now (kind.view c))
+            ((init_fields.row lenient).faults value.now) }
         ensures memory { IsErrOf result ChunkParseError.OutOfMemory →
-            HasMeaning init_fields.row value.now × (drop 16 value.now ≢ []) }
+            HasMeaning (init_fields.row lenient) value.now × (drop 16 value.now ≢ []) }
         ensures exact { ReadsExactly result kind.view
-            (init_fields.row.means value.now) (init_fields.row.faults value.now) }
+            ((init_fields.row lenient).means value.now) ((init_fields.row lenient).faults value.now) }
     {
-        init_check(value)?;
+        init_check(value, false)?;
         Ok(InitAckChunk::build(alloc, value)?)
     }
 
     /// What the value means.
     pub(crate) fn build(alloc: Global, value: &[u8]) -> Result<Self, AllocError>
-        requires { HasMeaning init_fields.row value.now }
-        ensures meant { IfOk result (λ c. init_fields.row.means value.now (kind.view c)) }
+        requires { HasMeaning (init_fields.row lenient) value.now }
+        ensures meant { IfOk result (λ c. (init_fields.row lenient).means value.now (kind.view c)) }
         ensures empty { drop 16 value.now ≡ [] → IsOk result }
     {
         Ok(InitAckChunk::of_fields(init_build(alloc, value)?))

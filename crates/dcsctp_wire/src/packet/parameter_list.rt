@@ -10,11 +10,12 @@ use dcsctp_tlv::parameter::parameters_check;
 
 /// The number of parts: the chunk and its parameters; or the first fault of these from the left. It
 /// takes no memory.
-pub(crate) fn parameter_list_check(value: &[u8]) -> Result<usize, ChunkParseError>
-    ensures found { Finds result (MeansParts (λ ps. 1 + length ps) parameter_list_row value.now)
-        (parameter_list_row.faults value.now) }
+pub(crate) fn parameter_list_check(value: &[u8], strict: bool) -> Result<usize, ChunkParseError>
+    ensures found { Finds result
+        (MeansParts (λ ps. 1 + length ps) (parameter_list_row strict) value.now)
+        ((parameter_list_row strict).faults value.now) }
     ensures few { IfOk result (λ n. 4 * n ≤ 4 + length value.now) }
 {
-    let count = parameters_check(value)?;
+    let count = parameters_check(value, strict)?;
     Ok(1 + count)
 }

@@ -104,24 +104,30 @@ pub struct SctpPacket {
     pub common_header: CommonHeader,
 }
 
-/// Which checksum fields are accepted.
+/// Which checksum fields are accepted, and whether padding is looked at.
 #[derive(Clone, Copy)]
 pub struct ChecksumPolicy {
     /// Every field is.
     pub disable_checksum_verification: bool,
     /// Where this isn't NONE, a field of zero is (RFC 9653).
     pub zero_checksum_alternate_error_detection_method: ZeroChecksumAlternateErrorDetectionMethod,
+    /// Padding is looked at, which a receiver ignores (RFC 9260 section 3.2): every byte of it is
+    /// zero, that of chunks, parameters and error causes; and the last chunk lacks none. The last
+    /// parameter or cause of a list may lack some or all of its own.
+    pub strict_padding: bool,
 }
 
 impl Default for ChecksumPolicy {
     ghost is_default = { λ p. (p.disable_checksum_verification ≡ false)
-        × (p.zero_checksum_alternate_error_detection_method.0 ≡ 0) };
+        × (p.zero_checksum_alternate_error_detection_method.0 ≡ 0)
+        × (p.strict_padding ≡ false) };
 
-    /// Only the expected checksum is accepted.
+    /// Only the expected checksum is accepted, and any padding.
     fn default() -> ChecksumPolicy {
         ChecksumPolicy {
             disable_checksum_verification: false,
             zero_checksum_alternate_error_detection_method: ZERO_CHECKSUM_ALTERNATE_ERROR_DETECTION_METHOD_NONE,
+            strict_padding: false,
         }
     }
 }
@@ -148,8 +154,11 @@ impl SctpPacket {
     /// `InvalidPacketSize` unless there are 16 to 65,535 bytes; then `InvalidChecksum` unless the
     /// policy accepts the field; then `FailedParseChunk` with the first fault of the chunks from
     /// the left. Where there is no fault, memory is taken, each list at once, and
-    /// `FailedParseChunk` with `OutOfMemory` is answered where it runs out. Padding isn't looked
-    /// at.
+    /// `FailedParseChunk` with `OutOfMemory` is answered where it runs out.
+    ///
+    /// Padding isn't looked at, unless the policy is strict. Then `InvalidPadding` is the fault of
+    /// a chunk, a parameter or an error cause that has a meaning, and padding that isn't accepted;
+    /// what a strict policy accepts, the lenient one accepts with the same packet.
     pub fn from_bytes(
         alloc: Global,
         bytes: &[u8],
@@ -249,7 +258,7 @@ fn check_packet(
     if !accepts(policy, read_u32_be(&bytes[8..]), checksum) {
         return Err(PacketParseError::InvalidChecksum);
     }
-    Ok(list_check::<Chunk>(&bytes[COMMON_HEADER_SIZE..])?)
+    Ok(list_check::<Chunk>(policy.strict_padding, &bytes[COMMON_HEADER_SIZE..])?)
 }
 
 /// Reads a packet: what it answers, and no law of it.

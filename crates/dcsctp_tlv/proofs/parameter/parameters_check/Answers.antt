@@ -10,9 +10,9 @@ pub returns-in_err-count-clause-exact : goal.returns-in_err-count-clause-exact
 returns-in_err-count-clause-exact c =
     let p = err_from_is_err_and c.from_residual.result c.from_residual.ensures.1 in
     let fault : Result ℕ ChunkParseError = Err c.in_err-count.field-0.0 in
-    rw (p.1, p.2) (checks_exactly parameters parameters_lawful c.args.bytes.now (λ i. (c.type_inv.bytes i).fits) fault c.in_err-count.ensures.found)
+    rw (p.1, p.2) (checks_exactly (parameters c.args.strict) (parameters_lawful c.args.strict) c.args.bytes.now (λ i. (c.type_inv.bytes i).fits) fault c.in_err-count.ensures.found)
 
 pub returns-clause-exact : goal.returns-clause-exact
 returns-clause-exact c =
     let f = c.in_ok-count.ensures.found in
-    checks_exactly parameters parameters_lawful c.args.bytes.now (λ i. (c.type_inv.bytes i).fits) (Ok c.in_ok-count.count) (f.trees, f.mean, f.item_count)
+    checks_exactly (parameters c.args.strict) (parameters_lawful c.args.strict) c.args.bytes.now (λ i. (c.type_inv.bytes i).fits) (Ok c.in_ok-count.count) (f.trees, f.mean, f.item_count)

@@ -12,7 +12,7 @@ pub returns-in_err-count-clause-found : goal.returns-in_err-count-clause-found
 returns-in_err-count-clause-found c =
     let v = c.args.value.now in
     let p = err_from_is_err_and c.from_residual.result c.from_residual.ensures.1 in
-    rw (p.1, p.2) (listed_fault (λ value. nat_le 16 (length value)) 16 parameters init_of v c.in_err-count.field-0.0 (le-leb 16 (length v) (omega arith)) (rw (take_rest v 16) at c.in_err-count.ensures.found))
+    rw (p.1, p.2) (listed_fault (λ value. nat_le 16 (length value)) 16 (parameters c.args.strict) init_of v c.in_err-count.field-0.0 (le-leb 16 (length v) (omega arith)) (rw (take_rest v 16) at c.in_err-count.ensures.found))
 
 pub returns-clause-found : goal.returns-clause-found
 returns-clause-found c =

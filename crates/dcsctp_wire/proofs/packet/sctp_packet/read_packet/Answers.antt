@@ -1,6 +1,33 @@
-use Rattle.dcsctp_wire.specs.Packet.{packet_with}
+use Rattle.std.proofs.lemmas.List.{take_rest}
+use Rattle.dcsctp_tlv.specs.Frame.{lenient}
+use Rattle.dcsctp_tlv.proofs.Lenient.{list_looser}
+use Rattle.dcsctp_wire.specs.Chunk.{chunks, views}
+use Rattle.dcsctp_wire.specs.Packet.{body, packet_with}
+use Rattle.dcsctp_wire.proofs.Lenient.{chunks_looser, built_means}
 use Rattle.dcsctp_wire.proofs.PacketChecks.{packet_is}
 use Rattle.dcsctp_wire.proofs.packet.sctp_packet.read_packet.Goals as goal
 
+pub list_build-requires : goal.list_build-requires
+list_build-requires c =
+    let bytes = c.args.bytes.now in
+    let strict = c.args.policy.now.strict_padding in
+    let found = c.in_ok-count.ensures.1 in
+    rw (take_rest bytes 12) (found.trees, list_looser (chunks strict) (chunks lenient) (chunks_looser strict) (body bytes) found.trees found.mean, found.item_count)
+
 pub returns-in_err-chunks-clause-memory : goal.returns-in_err-chunks-clause-memory
 returns-in_err-chunks-clause-memory c = λ lacks. (let found = c.in_ok-count.ensures in (packet_with c.args.bytes.now found.1.trees, packet_is c.args.bytes.now c.args.checksum c.args.policy.now found.1.trees found.0 found.1.mean))
+
+pub returns-clause-answer : goal.returns-clause-answer
+returns-clause-answer c =
+    let bytes = c.args.bytes.now in
+    let found = c.in_ok-count.ensures in
+    let built = rw (take_rest bytes 12) at c.in_ok-chunks.ensures.meant in (
+      found.0,
+      record {
+        source = c.read_u16_be.ensures;
+        destination = rw (take_rest bytes 2) at c.read_u16_be-2.ensures;
+        tag = rw (take_rest bytes 4) at c.read_u32_be.ensures;
+        checksum = rw (take_rest bytes 8) at c.read_u32_be-2.ensures;
+        chunks = built_means c.args.policy.now.strict_padding (body bytes) found.1.trees (views c.in_ok-chunks.chunks.items) found.1.mean built;
+      },
+    )

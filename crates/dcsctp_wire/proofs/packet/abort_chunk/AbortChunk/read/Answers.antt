@@ -1,4 +1,5 @@
 use Rattle.std.proofs.Common.{rules}
+use Rattle.dcsctp_tlv.specs.Frame.{lenient}
 use Rattle.dcsctp_tlv.proofs.Checks.{row_exactly}
 use Rattle.dcsctp_wire.proofs.Packets.{abort_lawful}
 use Rattle.dcsctp_wire.proofs.packet.abort_chunk.AbortChunk.read.Goals as goal
@@ -8,7 +9,7 @@ returns-in_err-check c =
     let p = c.in_err-check.ensures.found c.args.flags in record {
       answer = search (rules, p);
       memory = search (rules, p);
-      exact = row_exactly (abort_lawful c.args.flags) _ c.type_inv.value (search (rules, p));
+      exact = row_exactly (abort_lawful lenient c.args.flags) _ c.type_inv.value (search (rules, p));
     }
 
 pub build-requires : goal.build-requires
@@ -21,8 +22,8 @@ returns-in_err-build-clause-memory c = λ lacks.
 pub returns-in_err-build-clause-exact : goal.returns-in_err-build-clause-exact
 returns-in_err-build-clause-exact c =
     let p = c.in_ok-check.ensures.found c.args.flags in
-    row_exactly (abort_lawful c.args.flags) _ c.type_inv.value (search rules, λ lacks. (p.0, p.1))
+    row_exactly (abort_lawful lenient c.args.flags) _ c.type_inv.value (search rules, λ lacks. (p.0, p.1))
 
 pub returns-clause-exact : goal.returns-clause-exact
 returns-clause-exact c =
-    row_exactly (abort_lawful c.args.flags) _ c.type_inv.value (search rules)
+    row_exactly (abort_lawful lenient c.args.flags) _ c.type_inv.value (search rules)

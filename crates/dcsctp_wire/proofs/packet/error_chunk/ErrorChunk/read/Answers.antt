@@ -1,13 +1,14 @@
 use Rattle.std.proofs.Common.{rules}
+use Rattle.dcsctp_tlv.specs.Frame.{lenient}
 use Rattle.dcsctp_tlv.proofs.Checks.{row_exactly}
 use Rattle.dcsctp_wire.proofs.Packets.{error_lawful}
 use Rattle.dcsctp_wire.proofs.packet.error_chunk.ErrorChunk.read.Goals as goal
 
 pub returns-in_err-check-clause-exact : goal.returns-in_err-check-clause-exact
-returns-in_err-check-clause-exact c = row_exactly error_lawful _ c.type_inv.value (search rules)
+returns-in_err-check-clause-exact c = row_exactly (error_lawful lenient) _ c.type_inv.value (search rules)
 
 pub returns-in_err-build-clause-exact : goal.returns-in_err-build-clause-exact
-returns-in_err-build-clause-exact c = row_exactly error_lawful _ c.type_inv.value (search rules)
+returns-in_err-build-clause-exact c = row_exactly (error_lawful lenient) _ c.type_inv.value (search rules)
 
 pub returns-clause-exact : goal.returns-clause-exact
-returns-clause-exact c = row_exactly error_lawful _ c.type_inv.value (search rules)
+returns-clause-exact c = row_exactly (error_lawful lenient) _ c.type_inv.value (search rules)

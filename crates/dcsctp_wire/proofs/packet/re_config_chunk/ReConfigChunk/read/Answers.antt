@@ -1,4 +1,5 @@
 use Rattle.std.proofs.Common.{rules}
+use Rattle.dcsctp_tlv.specs.Frame.{lenient}
 use Rattle.dcsctp_tlv.proofs.Checks.{row_exactly}
 use Rattle.dcsctp_wire.proofs.Packets.{parameter_list_lawful}
 use Rattle.dcsctp_wire.proofs.packet.re_config_chunk.ReConfigChunk.read.Goals as goal
@@ -6,11 +7,11 @@ use Rattle.dcsctp_wire.proofs.packet.re_config_chunk.ReConfigChunk.read.Goals as
 pub returns-in_err-parameter_list_check-clause-exact :
     goal.returns-in_err-parameter_list_check-clause-exact
 returns-in_err-parameter_list_check-clause-exact c =
-    row_exactly parameter_list_lawful _ c.type_inv.value (search rules)
+    row_exactly (parameter_list_lawful lenient) _ c.type_inv.value (search rules)
 
 pub returns-in_err-build-clause-exact : goal.returns-in_err-build-clause-exact
 returns-in_err-build-clause-exact c =
-    row_exactly parameter_list_lawful _ c.type_inv.value (search rules)
+    row_exactly (parameter_list_lawful lenient) _ c.type_inv.value (search rules)
 
 pub returns-clause-exact : goal.returns-clause-exact
-returns-clause-exact c = row_exactly parameter_list_lawful _ c.type_inv.value (search rules)
+returns-clause-exact c = row_exactly (parameter_list_lawful lenient) _ c.type_inv.value (search rules)

@@ -1,6 +1,7 @@
 use Rattle.std.proofs.lemmas.Result.{err_from_is_err_and}
 use Rattle.dcsctp_wire.specs.Packet.{packet_with}
 use Rattle.dcsctp_wire.proofs.PacketLaws.{packet_parts}
+use Rattle.dcsctp_wire.proofs.Lenient.{lenient_packet}
 use Rattle.dcsctp_wire.proofs.PacketChecks.{check_good, check_fault, packet_is}
 use Rattle.dcsctp_wire.proofs.packet.sctp_packet.SctpPacket.check.Goals as goal
 
@@ -16,4 +17,4 @@ pub returns-clause-few : goal.returns-clause-few
 returns-clause-few c =
     let bytes = c.args.bytes.now in
     let found = c.in_ok-counts.ensures in
-    rw found.1.part_count (packet_parts bytes (packet_with bytes found.1.trees) (packet_is bytes c.args.checksum c.args.policy.now found.1.trees found.0 found.1.mean).1)
+    rw found.1.part_count (packet_parts bytes (packet_with bytes found.1.trees) (lenient_packet c.args.policy.now.strict_padding bytes (packet_with bytes found.1.trees) (packet_is bytes c.args.checksum c.args.policy.now found.1.trees found.0 found.1.mean).1))
