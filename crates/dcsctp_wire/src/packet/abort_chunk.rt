@@ -89,8 +89,8 @@ impl AbortChunk {
     /// takes no memory.
     pub(crate) fn check(value: &[u8], strict: bool) -> Result<usize, ChunkParseError>
         ensures found { (flags : ℕ) → Finds result
-            (MeansParts (λ a. 1 + length a.causes) (kind.row lenient flags) value.now)
-            ((kind.row lenient flags).faults value.now) }
+            (MeansParts (λ a. 1 + length a.causes) (kind.row strict flags) value.now)
+            ((kind.row strict flags).faults value.now) }
         ensures few { IfOk result (λ n. 4 * n ≤ 4 + length value.now) }
     {
         let count = error_cause_check(value, strict)?;

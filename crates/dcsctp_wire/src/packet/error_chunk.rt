@@ -57,11 +57,11 @@ impl ErrorChunk {
         ensures other { IsErrOf result ChunkParseError.InvalidType ↔ (raw.entry.typ ≢ CHUNK_TYPE) }
         ensures own { raw.entry.typ ≡ CHUNK_TYPE
             → Answers result (λ c. (kind.row lenient).means raw.entry.value.now (kind.view c))
-            (kind.row.faults raw.entry.value.now) }
+            ((kind.row lenient).faults raw.entry.value.now) }
         ensures memory { IsErrOf result ChunkParseError.OutOfMemory
             → HasMeaning (kind.row lenient) raw.entry.value.now }
         ensures exact { raw.entry.typ ≡ CHUNK_TYPE → ReadsExactly result kind.view
-            (kind.row.means raw.entry.value.now) (kind.row.faults raw.entry.value.now) }
+            ((kind.row lenient).means raw.entry.value.now) ((kind.row lenient).faults raw.entry.value.now) }
     {
         if raw.typ != CHUNK_TYPE {
             return Err(ChunkParseError::InvalidType);
@@ -72,11 +72,11 @@ impl ErrorChunk {
     /// Checks the value, and builds what it means.
     fn read(alloc: Global, value: &[u8]) -> Result<Self, ChunkParseError>
         ensures answer { Answers result (λ c. (kind.row lenient).means value.now (kind.view c))
-            (kind.row.faults value.now) }
+            ((kind.row lenient).faults value.now) }
         ensures memory { IsErrOf result ChunkParseError.OutOfMemory →
             HasMeaning (kind.row lenient) value.now }
         ensures exact { ReadsExactly result kind.view
-            (kind.row.means value.now) (kind.row.faults value.now) }
+            ((kind.row lenient).means value.now) ((kind.row lenient).faults value.now) }
     {
         ErrorChunk::check(value, false)?;
         Ok(ErrorChunk::build(alloc, value)?)
@@ -84,9 +84,9 @@ impl ErrorChunk {
 
     /// The number of parts: the chunk and its causes. `InvalidLength` where there are no causes;
     /// else the first fault of these from the left. It takes no memory.
-    pub(crate) fn check(value: &[u8]) -> Result<usize, ChunkParseError>
-        ensures found { Finds result (MeansParts (λ cs. 1 + length cs) (kind.row lenient) value.now)
-            (kind.row.faults value.now) }
+    pub(crate) fn check(value: &[u8], strict: bool) -> Result<usize, ChunkParseError>
+        ensures found { Finds result (MeansParts (λ cs. 1 + length cs) (kind.row strict) value.now)
+            ((kind.row strict).faults value.now) }
         ensures few { IfOk result (λ n. 4 * n ≤ 4 + length value.now) }
     {
         if value.is_empty() {
