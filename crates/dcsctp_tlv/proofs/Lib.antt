@@ -4,6 +4,8 @@ pub mod Images
 pub mod Lending
 pub mod Readings
 pub mod Laws
+pub mod Decided
+pub mod Unpadded
 pub mod ReadsBack
 pub mod Texts
 pub mod Puts

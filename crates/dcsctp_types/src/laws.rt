@@ -6,7 +6,10 @@ ghost use Rattle.dcsctp_types.specs.Equality.{TellsSame};
 ghost use Rattle.dcsctp_types.specs.Serial.{wrapped_sum, wrapped_difference, IsGreater};
 
 use crate::api::{
-    LifecycleId, PpId, SocketTime, StreamId, ZeroChecksumAlternateErrorDetectionMethod,
+    LifecycleId, PpId, SocketTime, StreamId,
+    ZERO_CHECKSUM_ALTERNATE_ERROR_DETECTION_METHOD_LOWER_LAYER_DTLS as DTLS,
+    ZERO_CHECKSUM_ALTERNATE_ERROR_DETECTION_METHOD_NONE as NONE,
+    ZeroChecksumAlternateErrorDetectionMethod,
 };
 use crate::types::{Fsn, Mid, OutgoingMessageId, SerialNumber, Ssn, StreamKey, Tsn};
 use std::cmp::Ordering;
@@ -64,4 +67,10 @@ pub fn equality()
     ensures lifecycle_ids { TellsSame ⟦<LifecycleId as PartialEq>⟧.eq }
     ensures times { TellsSame ⟦<SocketTime as PartialEq>⟧.eq }
     ensures methods { TellsSame ⟦<ZeroChecksumAlternateErrorDetectionMethod as PartialEq>⟧.eq }
+{}
+
+/// The methods of error detection have these numbers.
+pub fn methods()
+    ensures none { NONE.0 ≡ 0 }
+    ensures dtls { DTLS.0 ≡ 1 }
 {}
