@@ -246,7 +246,8 @@ impl ListedTlv for ErrorCause {
 /// Reads all the bytes as a list of error causes; no bytes are the empty list. Padding is ignored.
 ///
 /// The first item that has no frame, or whose value is at fault, decides the error, which is
-/// `InvalidLength`; `OutOfMemory` only where there is none.
+/// `InvalidLength`; `OutOfMemory` only where there is none. Bytes mean one list or have one fault,
+/// which is a law of the level (`IsDecided`, in `laws::one_answer` of `dcsctp_wire`).
 pub fn error_cause_from_bytes(
     alloc: Global,
     bytes: &[u8],

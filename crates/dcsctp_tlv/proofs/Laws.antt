@@ -100,7 +100,7 @@ rest_fits (x ∷ xs) ys [] fits e = absurd cc
 rest_fits (x ∷ xs) ys (b ∷ bytes) fits e = rest_fits xs ys bytes (λ i. fits (suc i)) cc
 
 -- the rest after a first item
-after : (rule : PaddingRule) (i j : Item) (is js : List Item) (r s : List ℕ) → flat_map item_bytes (i ∷ is) ++ r ≡ flat_map item_bytes (j ∷ js) ++ s → AreBefore rule (i ∷ is) r → AreBefore rule (j ∷ js) s
+pub after : (rule : PaddingRule) (i j : Item) (is js : List Item) (r s : List ℕ) → flat_map item_bytes (i ∷ is) ++ r ≡ flat_map item_bytes (j ∷ js) ++ s → AreBefore rule (i ∷ is) r → AreBefore rule (j ∷ js) s
     → (i ≡ j) × (flat_map item_bytes is ++ r ≡ flat_map item_bytes js ++ s)
 after rule i j is js r s e p q = next_one rule i j (flat_map item_bytes is ++ r) (flat_map item_bytes js ++ s)
     (sym (append_assoc (item_bytes i) (flat_map item_bytes is) r) ∙ e ∙ append_assoc (item_bytes j) (flat_map item_bytes js) s) p.0 q.0

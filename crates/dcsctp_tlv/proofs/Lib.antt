@@ -5,6 +5,8 @@ pub mod Lending
 pub mod Readings
 pub mod Laws
 pub mod Lenient
+pub mod Decided
+pub mod Unpadded
 pub mod ReadsBack
 pub mod Texts
 pub mod Puts

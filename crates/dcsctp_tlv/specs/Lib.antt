@@ -2,6 +2,7 @@ pub mod Number
 pub mod Fault
 pub mod Frame
 pub mod Level
+pub mod Decided
 pub mod Count
 pub mod Reading
 pub mod Image

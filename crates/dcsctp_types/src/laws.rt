@@ -2,10 +2,16 @@
 
 ghost use Rattle.std.specs.Prelude.{◌≡◌, ℕ, ◌/◌, ◌<◌, ◌↔◌};
 ghost use Rattle.std.specs.Ordering.{nat_cmp};
+ghost use Rattle.dcsctp_types.specs.Equality.{TellsSame};
 ghost use Rattle.dcsctp_types.specs.Serial.{wrapped_sum, wrapped_difference, IsGreater};
 
-use crate::api::{LifecycleId, SocketTime, StreamId};
-use crate::types::{SerialNumber, StreamKey};
+use crate::api::{
+    LifecycleId, PpId, SocketTime, StreamId,
+    ZERO_CHECKSUM_ALTERNATE_ERROR_DETECTION_METHOD_LOWER_LAYER_DTLS as DTLS,
+    ZERO_CHECKSUM_ALTERNATE_ERROR_DETECTION_METHOD_NONE as NONE,
+    ZeroChecksumAlternateErrorDetectionMethod,
+};
+use crate::types::{Fsn, Mid, OutgoingMessageId, SerialNumber, Ssn, StreamKey, Tsn};
 use std::cmp::Ordering;
 use std::time::Duration;
 
@@ -45,4 +51,26 @@ pub fn orders()
     ensures lifecycle_ids { (a b : LifecycleId) → ⟦<LifecycleId as Ord>⟧.cmp a b ≡ nat_cmp a b }
     ensures times { (a b : SocketTime)
         → ⟦<SocketTime as Ord>⟧.cmp a b ≡ ⟦<Duration as Ord>⟧.cmp a b }
+{}
+
+/// Two values are equal exactly where they are the same: serial numbers, keys, ids, times and
+/// methods.
+pub fn equality()
+    ensures tsns { TellsSame ⟦<Tsn as PartialEq>⟧.eq }
+    ensures ssns { TellsSame ⟦<Ssn as PartialEq>⟧.eq }
+    ensures mids { TellsSame ⟦<Mid as PartialEq>⟧.eq }
+    ensures fsns { TellsSame ⟦<Fsn as PartialEq>⟧.eq }
+    ensures message_ids { TellsSame ⟦<OutgoingMessageId as PartialEq>⟧.eq }
+    ensures stream_keys { TellsSame ⟦<StreamKey as PartialEq>⟧.eq }
+    ensures stream_ids { TellsSame ⟦<StreamId as PartialEq>⟧.eq }
+    ensures ppids { TellsSame ⟦<PpId as PartialEq>⟧.eq }
+    ensures lifecycle_ids { TellsSame ⟦<LifecycleId as PartialEq>⟧.eq }
+    ensures times { TellsSame ⟦<SocketTime as PartialEq>⟧.eq }
+    ensures methods { TellsSame ⟦<ZeroChecksumAlternateErrorDetectionMethod as PartialEq>⟧.eq }
+{}
+
+/// The methods of error detection have these numbers.
+pub fn methods()
+    ensures none { NONE.0 ≡ 0 }
+    ensures dtls { DTLS.0 ≡ 1 }
 {}

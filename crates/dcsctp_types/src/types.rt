@@ -1,6 +1,6 @@
 //! Serial numbers and stream keys.
 
-ghost use Rattle.std.specs.Prelude.{◌≡◌, ◌↔◌, ℕ, IsTrue};
+ghost use Rattle.std.specs.Prelude.{◌≡◌, ◌<◌, ◌↔◌, ℕ, IsTrue};
 ghost use Rattle.dcsctp_types.specs.Serial.{IsGreater, IsGreaterOrEqual, distance};
 
 mod fsn;
@@ -37,6 +37,8 @@ pub trait SerialNumber: Sized + Copy + Eq {
 
     /// How many places both are apart, the shorter way round.
     fn distance_to(self, other: Self) -> Self::DistanceType
+        // every number stands at a position of the space
+        ensures in_space { (position self < space) × (position other < space) }
         ensures value { places result ≡ distance space (position self) (position other) }
         ensures symmetric { places result ≡ distance space (position other) (position self) }
         ensures zero { (places result ≡ 0) ↔ (position self ≡ position other) };

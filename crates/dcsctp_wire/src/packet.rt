@@ -30,7 +30,9 @@ pub use dcsctp_tlv::number::{
     write_u16_be, write_u32_be, write_u64_be,
 };
 pub use dcsctp_tlv::parameter::{
-    self, add_incoming_streams_request_parameter, add_outgoing_streams_request_parameter, forward_tsn_supported_parameter, heartbeat_info_parameter,
+    self, PARAMETER_HEADER_SIZE, add_incoming_streams_request_parameter,
+    add_outgoing_streams_request_parameter, forward_tsn_supported_parameter,
+    heartbeat_info_parameter,
     incoming_ssn_reset_request_parameter, outgoing_ssn_reset_request_parameter,
     reconfiguration_response_parameter, ssn_tsn_reset_request_parameter, state_cookie_parameter, supported_extensions_parameter,
     unknown_parameter, zero_checksum_acceptable_parameter,

@@ -7,7 +7,9 @@ use dcsctp_wire::packet::data::Data;
 use dcsctp_wire::packet::data_chunk::DataChunk;
 use dcsctp_wire::packet::idata_chunk::IDataChunk;
 use dcsctp_wire::packet::unknown_chunk::UnknownChunk;
-use dcsctp_wire::packet::{TLV_HEADER_SIZE, error_chunk, heartbeat_ack_chunk};
+use dcsctp_wire::packet::{
+    PARAMETER_HEADER_SIZE, TLV_HEADER_SIZE, error_chunk, heartbeat_ack_chunk,
+};
 use dcsctp_wire::types::{Fsn, Mid, Ssn, StreamKey, Tsn};
 use std::alloc::{AllocError, Global};
 use std::test::Fail;
@@ -353,6 +355,7 @@ fn made(rt: HostRuntime) -> Result<(), Fail> {
 #[test]
 fn header_sizes(rt: HostRuntime) {
     assert_eq!(rt; TLV_HEADER_SIZE, 4);
+    assert_eq!(rt; PARAMETER_HEADER_SIZE, 4);
     assert_eq!(rt; error_chunk::HEADER_SIZE, 4);
     assert_eq!(rt; heartbeat_ack_chunk::HEADER_SIZE, 4);
 }

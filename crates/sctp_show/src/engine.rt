@@ -1,7 +1,7 @@
 //! The program over a reader and a writer, either of which may fail.
 ghost use Rattle.std.specs.Prelude.{◌≡◌, ◌||◌, ◌⊎◌, ◌↔◌, ℕ, ◌<◌, ◌≤◌, List, ◌++◌, true, false, Some, codes, is_err, take, length, IfOk, IfErr, IfSome, OnErr};
 ghost use Rattle.std.specs.Io.KnownBytes.{Consumes, IsAtEnd};
-ghost use Rattle.sctp_show.specs.Watched.{device_of, has_failed};
+ghost use Rattle.sctp_show.specs.Watched.{device_of, has_failed, is_flushed};
 ghost use Rattle.sctp_show.specs.Show.{TakesAtMost, MayAnswer, MayShow, Shows, Writes, WritesBeginning};
 ghost use Rattle.sctp_show.specs.Reply.{reply_of};
 
@@ -30,7 +30,8 @@ pub fn show<R: Read, W: Write>(alloc: Global, input: &mut Watched<R>, output: &m
         × Writes answer result (W.contents (device_of output.old))
         (W.contents (device_of output.new))) }
 
-    // An input has no two answers.
+    // Each input has an answer, and no input has two.
+    ensures some_answer { (all : List ℕ) → (answer : List ℕ × ℕ) × Shows all answer }
     ensures one_answer { (all : List ℕ) (a b : List ℕ × ℕ) → Shows all a → Shows all b → a ≡ b }
 
     // A failed read is told by its line alone, and no other run has that line alone and status 1.
@@ -56,6 +57,9 @@ pub fn show<R: Read, W: Write>(alloc: Global, input: &mut Watched<R>, output: &m
         (R.remaining (device_of input.new)) answer
         × WritesBeginning answer result (W.contents (device_of output.old))
         (W.contents (device_of output.new)) }
+
+    // What was written is flushed.
+    ensures flushed { has_failed output.new ≡ false → is_flushed output.new ≡ true }
 {
     let reply = reply_to(alloc, input);
     tell(output, &reply)
@@ -127,6 +131,7 @@ fn tell<W: Write>(output: &mut Watched<W>, reply: &Result<String, Failure>) -> u
     ensures cut { has_failed output.old ≡ false → has_failed output.new ≡ true
         → WritesBeginning (reply_of reply.now) result
         (W.contents (device_of output.old)) (W.contents (device_of output.new)) }
+    ensures flushed { has_failed output.new ≡ false → is_flushed output.new ≡ true }
 {
     match reply {
         Ok(text) => print(output, text.as_bytes(), 0),
@@ -144,6 +149,7 @@ fn print<W: Write>(output: &mut Watched<W>, text: &[u8], status: u8) -> u8
     ensures cut { has_failed output.old ≡ false → has_failed output.new ≡ true
         → WritesBeginning (text.now, status) result
         (W.contents (device_of output.old)) (W.contents (device_of output.new)) }
+    ensures flushed { has_failed output.new ≡ false → is_flushed output.new ≡ true }
 {
     let mut written = 0;
     while written < text.len() {

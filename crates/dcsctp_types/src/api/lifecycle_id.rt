@@ -57,6 +57,8 @@ impl fmt::Display for LifecycleId {
 }
 
 impl fmt::Debug for LifecycleId {
+    ghost debug_output = { λ id. Some (decimal id) };
+
     fn fmt<W: fmt::Write>(&self, f: &mut fmt::Formatter<W>) -> fmt::Result {
         fmt::Display::fmt(self, f)
     }

@@ -20,6 +20,8 @@ impl fmt::Display for PpId {
 }
 
 impl fmt::Debug for PpId {
+    ghost debug_output = { λ ppid. Some (decimal ppid.0) };
+
     fn fmt<W: fmt::Write>(&self, f: &mut fmt::Formatter<W>) -> fmt::Result {
         fmt::Display::fmt(self, f)
     }

@@ -19,6 +19,8 @@ impl fmt::Display for StreamId {
 }
 
 impl fmt::Debug for StreamId {
+    ghost debug_output = { λ id. Some (decimal id.0) };
+
     fn fmt<W: fmt::Write>(&self, f: &mut fmt::Formatter<W>) -> fmt::Result {
         fmt::Display::fmt(self, f)
     }

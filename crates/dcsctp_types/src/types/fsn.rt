@@ -90,6 +90,8 @@ impl fmt::Display for Fsn {
 }
 
 impl fmt::Debug for Fsn {
+    ghost debug_output = { λ fsn. Some (decimal fsn.0) };
+
     fn fmt<W: fmt::Write>(&self, f: &mut fmt::Formatter<W>) -> fmt::Result {
         fmt::Display::fmt(self, f)
     }

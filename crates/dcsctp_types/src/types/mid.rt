@@ -90,6 +90,8 @@ impl fmt::Display for Mid {
 }
 
 impl fmt::Debug for Mid {
+    ghost debug_output = { λ mid. Some (decimal mid.0) };
+
     fn fmt<W: fmt::Write>(&self, f: &mut fmt::Formatter<W>) -> fmt::Result {
         fmt::Display::fmt(self, f)
     }

@@ -30,6 +30,8 @@ impl fmt::Display for OutgoingMessageId {
 }
 
 impl fmt::Debug for OutgoingMessageId {
+    ghost debug_output = { λ id. Some (decimal id.0) };
+
     fn fmt<W: fmt::Write>(&self, f: &mut fmt::Formatter<W>) -> fmt::Result {
         fmt::Display::fmt(self, f)
     }

@@ -90,6 +90,8 @@ impl fmt::Display for Ssn {
 }
 
 impl fmt::Debug for Ssn {
+    ghost debug_output = { λ ssn. Some (decimal ssn.0) };
+
     fn fmt<W: fmt::Write>(&self, f: &mut fmt::Formatter<W>) -> fmt::Result {
         fmt::Display::fmt(self, f)
     }

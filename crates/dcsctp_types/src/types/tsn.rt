@@ -90,6 +90,8 @@ impl fmt::Display for Tsn {
 }
 
 impl fmt::Debug for Tsn {
+    ghost debug_output = { λ tsn. Some (decimal tsn.0) };
+
     fn fmt<W: fmt::Write>(&self, f: &mut fmt::Formatter<W>) -> fmt::Result {
         fmt::Display::fmt(self, f)
     }

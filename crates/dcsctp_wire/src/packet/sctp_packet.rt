@@ -224,11 +224,12 @@ impl SctpPacket {
     pub fn canonical_bytes(&self, alloc: Global) -> Result<Vec<u8>, AllocError>
         requires { Fits (meaning_view self.now) }
         ensures bytes { IfOk result (λ bytes. bytes.items ≡ canonical (meaning_view self.now)) }
-        ensures width { IsInWidth (meaning_view self.now) }
         ensures reads_back { IsWellFormed (meaning_view self.now)
             → (word : ℕ) (policy : ChecksumPolicy) → IsAccepted policy 0 word
             → IfOk result (λ bytes. Answer bytes.items word policy
             (Ok (record { meaning = meaning_view self.now; checksum = 0 }))) }
+
+        // This packet is in width too (`has_widths`).
         ensures one { IsWellFormed (meaning_view self.now)
             → (m : Meaning) → IsInWidth m → IsWellFormed m → Fits m
             → IfOk result (λ bytes. (bytes.items ≡ canonical m) ↔ (meaning_view self.now ≡ m)) }
@@ -238,9 +239,9 @@ impl SctpPacket {
     }
 }
 
-/// Every number of a packet lies in its field's width, and every text is one, by their types. It
-/// does nothing.
-fn has_widths(packet: &SctpPacket)
+/// A law of packets: every number of a packet lies in its field's width, and every text is one, by
+/// their types. It does nothing.
+pub fn has_widths(packet: &SctpPacket)
     ensures { IsInWidth (meaning_view packet.now) }
 {}
 

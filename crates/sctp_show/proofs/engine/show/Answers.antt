@@ -1,5 +1,6 @@
 use Rattle.sctp_show.proofs.ShowLemmas.{only_read_failed, writes_shown}
 use Rattle.sctp_show.proofs.OneAnswer.{Shows-one}
+use Rattle.sctp_show.proofs.SomeAnswer.{Shows-some}
 use Rattle.sctp_show.proofs.engine.show.Goals as goal
 
 pub returns-clause-shown : goal.returns-clause-shown
@@ -13,3 +14,6 @@ returns-clause-read_failed g c = λ began opened works.
 
 pub returns-clause-one_answer : goal.returns-clause-one_answer
 returns-clause-one_answer g c = Shows-one
+
+pub returns-clause-some_answer : goal.returns-clause-some_answer
+returns-clause-some_answer g c = Shows-some
