@@ -5,7 +5,7 @@ use dcsctp_wire::packet::ChunkParseError;
 use std::alloc::{AllocError, Global};
 use std::test::Fail;
 
-const DATA: &[u8] = &[
+pub(crate) const DATA: &[u8] = &[
     0, 3, 0, 0x14, 0x55, 8, 0x36, 0x3c, 0, 2, 0, 1, 0, 0, 0, 0x35, 0, 1, 2, 3,
 ];
 
@@ -30,39 +30,39 @@ pub(crate) const SACK: &[u8] = &[
     0x36, 0x9d, 0xd0, 0x11,
 ];
 
-const HEARTBEAT: &[u8] = &[
+pub(crate) const HEARTBEAT: &[u8] = &[
     4, 0, 0, 0x2c, 0, 1, 0, 0x28, 0xad, 0x24, 0x36, 0x60, 0x37, 0x26, 7, 0, 0, 0, 0, 0, 0, 0, 0, 0,
     0x7b, 0x10, 0, 0, 1, 0, 0, 0, 0, 0, 0, 0, 0, 0, 0, 0, 0, 0, 0, 0,
 ];
 
-const HEARTBEAT_ACK: &[u8] = &[
+pub(crate) const HEARTBEAT_ACK: &[u8] = &[
     5, 0, 0, 0x2c, 0, 1, 0, 0x28, 0xad, 0x24, 0x36, 0x60, 0x37, 0x26, 7, 0, 0, 0, 0, 0, 0, 0, 0, 0,
     0x7b, 0x10, 0, 0, 1, 0, 0, 0, 0, 0, 0, 0, 0, 0, 0, 0, 0, 0, 0, 0,
 ];
 
 /// An ABORT with one cause: the user's, without a reason.
-const ABORT: &[u8] = &[6, 0, 0, 8, 0, 0x0c, 0, 4];
+pub(crate) const ABORT: &[u8] = &[6, 0, 0, 8, 0, 0x0c, 0, 4];
 
-const SHUTDOWN: &[u8] = &[7, 0, 0, 8, 6, 0x11, 0xd1, 0xbd];
+pub(crate) const SHUTDOWN: &[u8] = &[7, 0, 0, 8, 6, 0x11, 0xd1, 0xbd];
 
-const SHUTDOWN_ACK: &[u8] = &[8, 0, 0, 4];
+pub(crate) const SHUTDOWN_ACK: &[u8] = &[8, 0, 0, 4];
 
 /// An ERROR with one cause: a chunk that wasn't recognized.
-const ERROR: &[u8] = &[9, 0, 0, 0x0c, 0, 6, 0, 8, 0x49, 0, 0, 4];
+pub(crate) const ERROR: &[u8] = &[9, 0, 0, 0x0c, 0, 6, 0, 8, 0x49, 0, 0, 4];
 
-const COOKIE_ECHO: &[u8] = &[0x0a, 0, 0, 8, 0x12, 0x34, 0x56, 0x78];
+pub(crate) const COOKIE_ECHO: &[u8] = &[0x0a, 0, 0, 8, 0x12, 0x34, 0x56, 0x78];
 
-const COOKIE_ACK: &[u8] = &[0x0b, 0, 0, 4];
+pub(crate) const COOKIE_ACK: &[u8] = &[0x0b, 0, 0, 4];
 
-const SHUTDOWN_COMPLETE: &[u8] = &[0x0e, 0, 0, 4];
+pub(crate) const SHUTDOWN_COMPLETE: &[u8] = &[0x0e, 0, 0, 4];
 
 /// The first fragment of a message.
-const IDATA_FIRST: &[u8] = &[
+pub(crate) const IDATA_FIRST: &[u8] = &[
     0x40, 2, 0, 0x15, 0x94, 0x4a, 0x5d, 0xd5, 0, 1, 0, 0, 0, 0, 0, 0, 0, 0, 0, 0x35, 1, 0, 0, 0,
 ];
 
 /// The last fragment of a message.
-const IDATA_LAST: &[u8] = &[
+pub(crate) const IDATA_LAST: &[u8] = &[
     0x40, 1, 0, 0x15, 0x94, 0x4a, 0x5e, 0x0a, 0, 3, 0, 0, 0, 0, 0, 1, 0, 0, 0, 8, 1, 0, 0, 0,
 ];
 
@@ -80,7 +80,7 @@ pub(crate) const IFORWARD_TSN: &[u8] = &[
 ];
 
 /// Two chunks of one packet: COOKIE ACK, and DATA with three bytes of padding.
-const TWO_CHUNKS: &[u8] = &[
+pub(crate) const TWO_CHUNKS: &[u8] = &[
     0x0b, 0, 0, 4, 0, 3, 0, 0x39, 0xcf, 0x5f, 0x90, 0xe3, 0, 0x6f, 0, 0, 0, 0, 0, 0x32, 3, 0x82, 0,
     0, 0, 0, 0x9c, 0x40, 0, 0x0b, 0, 0x12, 0x63, 0x6f, 0x6c, 0x6c, 0x65, 0x63, 0x74, 0x69, 0x6f,
     0x6e, 0x73, 0x77, 0x65, 0x62, 0x72, 0x74, 0x63, 0x2d, 0x64, 0x61, 0x74, 0x61, 0x63, 0x68, 0x61,
@@ -236,7 +236,7 @@ fn two_chunks(rt: HostRuntime) -> Result<(), Fail> {
 }
 
 /// An INIT ACK of 292 bytes.
-fn init_ack_bytes(alloc: Global) -> Result<Vec<u8>, AllocError> {
+pub(crate) fn init_ack_bytes(alloc: Global) -> Result<Vec<u8>, AllocError> {
     let mut bytes = Vec::from_slice(alloc, INIT_ACK_FRONT)?;
     bytes.resize(292, 0x4b)?;
     Ok(bytes)

@@ -230,17 +230,3 @@ pub(crate) fn is_canonical(
         None => false,
     })
 }
-
-/// The packet is refused for this fault. Nothing is allocated but by `from_bytes`.
-pub(crate) fn is_refused(
-    alloc: Global,
-    bytes: &[u8],
-    word: u32,
-    policy: &ChecksumPolicy,
-    fault: &PacketParseError,
-) -> bool {
-    match SctpPacket::from_bytes(alloc, bytes, word, policy) {
-        Ok(_) => false,
-        Err(error) => error == *fault,
-    }
-}

@@ -10,23 +10,35 @@ mod builder;
 #[cfg(test)]
 mod captures;
 #[cfg(test)]
+mod changes;
+#[cfg(test)]
 mod checks;
 #[cfg(test)]
 mod checksums;
 #[cfg(test)]
 mod chunks;
 #[cfg(test)]
+mod counts;
+#[cfg(test)]
 mod faults;
 #[cfg(test)]
 mod help;
 #[cfg(test)]
+mod largest;
+#[cfg(test)]
 mod laws;
 #[cfg(test)]
+mod lengths;
+#[cfg(test)]
 mod lists;
+#[cfg(test)]
+mod outcomes;
 #[cfg(test)]
 mod packets;
 #[cfg(test)]
 mod padding;
+#[cfg(test)]
+mod prefixes;
 #[cfg(test)]
 mod replaced_texts;
 #[cfg(test)]

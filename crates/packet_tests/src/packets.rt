@@ -2,13 +2,10 @@
 
 use crate::captures::{FORWARD_TSN, IFORWARD_TSN, INIT, RE_CONFIG, SACK};
 use crate::help::{
-    HEADER, UNVERIFIED, canonical_of, header_of, is_answered, is_canonical, is_refused, packet_of,
-    sizes_of,
+    HEADER, UNVERIFIED, canonical_of, header_of, is_answered, is_canonical, packet_of, sizes_of,
 };
 use dcsctp_wire::packet::ChunkParseError;
-use dcsctp_wire::packet::sctp_packet::{
-    COMMON_HEADER_SIZE, ChecksumPolicy, PacketParseError, SctpPacket,
-};
+use dcsctp_wire::packet::sctp_packet::{COMMON_HEADER_SIZE, PacketParseError, SctpPacket};
 use std::alloc::{AllocError, Global};
 use std::fmt;
 use std::test::Fail;
@@ -447,43 +444,6 @@ fn empty(rt: HostRuntime) -> Result<(), Fail> {
     assert!(rt; is_header_without_chunks(rt.alloc(), &bytes)?);
     assert_eq!(rt; COMMON_HEADER_SIZE, 12);
     Ok(())
-}
-
-/// It has four chunks and fits, and it is its own canonical packet, or memory has run out.
-fn is_kept(alloc: Global, packet: &SctpPacket, bytes: &[u8]) -> bool {
-    if packet.chunks.len() != 4 || !packet.fits() {
-        return false;
-    }
-    match packet.canonical_bytes(alloc) {
-        Ok(canonical) => canonical.as_slice() == bytes,
-        Err(AllocError) => true,
-    }
-}
-
-/// It is read and kept, or memory has run out.
-fn is_read_if_there_is_memory(alloc: Global, bytes: &[u8]) -> bool {
-    match SctpPacket::from_bytes(alloc, bytes, 0, &UNVERIFIED) {
-        Ok(packet) => is_kept(alloc, &packet, bytes),
-        Err(error) => error == PacketParseError::FailedParseChunk(ChunkParseError::OutOfMemory),
-    }
-}
-
-// Whichever allocation fails, the answer is the packet or running out of memory, and a wrong size
-// or checksum is told all the same.
-#[test]
-fn memory(rt: HostRuntime) {
-    let alloc = rt.alloc();
-    let bytes = [
-        0x13, 0x88, 0x13, 0x88, 1, 2, 3, 4, 0, 0, 0, 0, 0x0a, 0, 0, 5, 0x7f, 0, 0, 0, 0x49, 1, 0,
-        5, 9, 0, 0, 0, 6, 0, 0, 11, 0, 12, 0, 7, b'b', b'y', b'e', 0, 0x82, 0, 0, 14, 0, 14, 0, 10,
-        0, 0, 0, 2, 0, 3, 0, 0,
-    ];
-    assert!(rt; is_read_if_there_is_memory(alloc, &bytes));
-    let policy = ChecksumPolicy::default();
-    let size = PacketParseError::InvalidPacketSize;
-    assert!(rt; is_refused(alloc, &bytes[..15], 0, &policy, &size));
-    let checksum = PacketParseError::InvalidChecksum;
-    assert!(rt; is_refused(alloc, &bytes, 5, &policy, &checksum));
 }
 
 const TEXTS: &[(PacketParseError, &str)] = &[

@@ -1,0 +1,221 @@
+//! Counts of what is not there, among them those whose product with a size is small again in 16 or 32
+//! bits.
+
+use crate::outcomes::{Outcome, outcome_of_chunks};
+use std::alloc::{AllocError, Global};
+use std::test::Fail;
+
+/// An ABORT with a cause that counts missing parameters, and has so many types.
+fn missing(alloc: Global, count: u32, types: u8) -> Result<Vec<u8>, AllocError> {
+    let size = types.saturating_mul(2);
+    let mut bytes = Vec::from_slice(
+        alloc,
+        &[
+            6,
+            0,
+            0,
+            size.saturating_add(12),
+            0,
+            2,
+            0,
+            size.saturating_add(8),
+        ],
+    )?;
+    bytes.extend_from_slice(&count.to_be_bytes())?;
+    for _ in 0..types {
+        bytes.extend_from_slice(&[0, 7])?;
+    }
+    Ok(bytes)
+}
+
+fn outcome_of_missing(alloc: Global, count: u32, types: u8) -> Result<Outcome, Fail> {
+    let bytes = missing(alloc, count, types)?;
+    outcome_of_chunks(alloc, &bytes)
+}
+
+/// Counts that are those of 0 to 4 types modulo 2^8, 2^15, 2^16, 2^30 or 2^31, and others.
+const COUNTS: &[u32] = &[
+    0x0000_0005,
+    0x0000_0100,
+    0x0000_0101,
+    0x0000_7fff,
+    0x0000_8000,
+    0x0000_8001,
+    0x0000_8002,
+    0x0001_0000,
+    0x0001_0001,
+    0x0001_0002,
+    0x3fff_ffff,
+    0x4000_0000,
+    0x4000_0001,
+    0x4000_0002,
+    0x7fff_fffe,
+    0x7fff_ffff,
+    0x8000_0000,
+    0x8000_0001,
+    0x8000_0002,
+    0x8000_0003,
+    0x8000_0004,
+    0xc000_0001,
+    0xffff_fffe,
+    0xffff_ffff,
+];
+
+// No count but the number of types that are there is accepted.
+#[test]
+fn of_missing_parameters(rt: HostRuntime) -> Result<(), Fail> {
+    for types in 0..=4 {
+        for count in 0..=4 {
+            let wanted = if count == u32::from(types) {
+                Outcome::Kept(2)
+            } else {
+                Outcome::Length
+            };
+            let outcome = outcome_of_missing(rt.alloc(), count, types)?;
+            assert_eq!(rt; outcome, wanted, "{count} of {types}");
+        }
+        for count in COUNTS {
+            let outcome = outcome_of_missing(rt.alloc(), *count, types)?;
+            assert_eq!(rt; outcome, Outcome::Length, "{count} of {types}");
+        }
+    }
+    Ok(())
+}
+
+/// A SACK that counts so many blocks and duplicates, and has so many words of four bytes for them.
+fn sack(alloc: Global, blocks: u16, duplicates: u16, words: u16) -> Result<Vec<u8>, AllocError> {
+    let mut bytes = Vec::from_slice(alloc, &[3, 0])?;
+    let length = words.saturating_mul(4).saturating_add(16);
+    bytes.extend_from_slice(&length.to_be_bytes())?;
+    bytes.extend_from_slice(&[0, 0, 0, 1, 0, 0, 0, 0])?;
+    bytes.extend_from_slice(&blocks.to_be_bytes())?;
+    bytes.extend_from_slice(&duplicates.to_be_bytes())?;
+    bytes.resize(usize::from(length), 0)?;
+    Ok(bytes)
+}
+
+fn outcome_of_sack(
+    alloc: Global,
+    (blocks, duplicates, words): (u16, u16, u16),
+) -> Result<Outcome, Fail> {
+    let bytes = sack(alloc, blocks, duplicates, words)?;
+    outcome_of_chunks(alloc, &bytes)
+}
+
+/// Blocks, duplicates, and as many words as they need.
+const SOUND: &[(u16, u16, u16)] = &[
+    (0, 0, 0),
+    (1, 0, 1),
+    (0, 1, 1),
+    (1, 1, 2),
+    (2, 1, 3),
+    // as many as the largest packet that is its own canonical one has room for
+    (16376, 0, 16376),
+    (0, 16376, 16376),
+    (8188, 8188, 16376),
+];
+
+/// Blocks, duplicates, and another number of words.
+const UNSOUND: &[(u16, u16, u16)] = &[
+    // one too few, and one too many
+    (1, 0, 0),
+    (0, 1, 0),
+    (0, 0, 1),
+    (1, 1, 1),
+    (1, 1, 3),
+    // four times the blocks are four modulo 2^16
+    (0x4001, 0, 1),
+    (0x8001, 0, 1),
+    (0xc001, 0, 1),
+    // and four times the duplicates
+    (0, 0x4001, 1),
+    (0, 0x8001, 1),
+    (0, 0xc001, 1),
+    // the sum is none or one modulo 2^16
+    (0x8000, 0x8000, 0),
+    (0x8000, 0x8001, 1),
+    (0xffff, 1, 0),
+    (0xffff, 2, 1),
+    // four times the sum is none or four modulo 2^16
+    (0x2000, 0x2000, 0),
+    (0x4000, 0, 0),
+    (0xc000, 0x4001, 1),
+    // one more than the packet has, and all that a count can say
+    (16377, 0, 16376),
+    (16376, 1, 16376),
+    (0xffff, 0, 16376),
+    (0, 0xffff, 16376),
+];
+
+#[test]
+fn of_sacks(rt: HostRuntime) -> Result<(), Fail> {
+    for (i, row) in SOUND.iter().enumerate() {
+        assert_eq!(rt;
+            outcome_of_sack(rt.alloc(), *row)?,
+            Outcome::Kept(1),
+            "sound row {i}"
+        );
+    }
+    for (i, row) in UNSOUND.iter().enumerate() {
+        assert_eq!(rt;
+            outcome_of_sack(rt.alloc(), *row)?,
+            Outcome::Length,
+            "row {i}"
+        );
+    }
+    Ok(())
+}
+
+/// A chunk of this length, all zeros after it but for the header of a parameter that fills it.
+fn filled(alloc: Global, front: &[u8], length: usize) -> Result<Vec<u8>, AllocError> {
+    let mut bytes = Vec::from_slice(alloc, front)?;
+    bytes.resize(length, 0)?;
+    Ok(bytes)
+}
+
+fn outcome_of_filled(alloc: Global, front: &[u8], length: u8) -> Result<Outcome, Fail> {
+    let mut bytes = filled(alloc, front, usize::from(length))?;
+    if let Some(byte) = bytes.get_mut(3) {
+        *byte = length;
+    }
+    if let Some(byte) = bytes.get_mut(7) {
+        // a parameter's length, which the skipped streams of the other chunks have no use for
+        if front.len() == 8 {
+            *byte = length.saturating_sub(4);
+        }
+    }
+    outcome_of_chunks(alloc, &bytes)
+}
+
+/// Chunks with entries of two, four or eight bytes: how they begin, the lengths that are tried, and
+/// those that are accepted, with the number of parts.
+const ENTRIES: &[(&[u8], &[u8], usize)] = &[
+    // RE-CONFIG that asks to reset outgoing streams, of two bytes each
+    (&[130, 0, 0, 0, 0, 13, 0, 0], &[20, 22, 24, 26, 28], 2),
+    // and incoming ones
+    (
+        &[130, 0, 0, 0, 0, 14, 0, 0],
+        &[12, 14, 16, 18, 20, 22, 24, 26, 28],
+        2,
+    ),
+    // FORWARD-TSN with streams of four bytes each
+    (&[0xc0, 0, 0, 0], &[8, 12, 16, 20, 24, 28], 1),
+    // I-FORWARD-TSN with streams of eight
+    (&[0xc2, 0, 0, 0], &[8, 16, 24], 1),
+];
+
+#[test]
+fn of_entries(rt: HostRuntime) -> Result<(), Fail> {
+    for (i, (front, accepted, parts)) in ENTRIES.iter().enumerate() {
+        for length in 8..=28 {
+            let wanted = if accepted.contains(&length) {
+                Outcome::Kept(*parts)
+            } else {
+                Outcome::Length
+            };
+            let outcome = outcome_of_filled(rt.alloc(), front, length)?;
+            assert_eq!(rt; outcome, wanted, "row {i}, length {length}");
+        }
+    }
+    Ok(())
+}

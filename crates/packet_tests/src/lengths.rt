@@ -1,0 +1,219 @@
+//! Length fields that don't say what is there.
+
+use crate::outcomes::{Outcome, outcome_of_chunks};
+use std::alloc::{AllocError, Global};
+use std::test::Fail;
+
+/// A chunk with this length field, and a value of so many zeros.
+fn chunk_of(alloc: Global, typ: u8, length: u16, zeros: usize) -> Result<Vec<u8>, AllocError> {
+    let [high, low] = length.to_be_bytes();
+    let mut bytes = Vec::from_slice(alloc, &[typ, 0, high, low])?;
+    bytes.resize(zeros.saturating_add(4), 0)?;
+    Ok(bytes)
+}
+
+fn outcome_of_length(alloc: Global, typ: u8, length: u16, zeros: usize) -> Result<Outcome, Fail> {
+    let bytes = chunk_of(alloc, typ, length, zeros)?;
+    outcome_of_chunks(alloc, &bytes)
+}
+
+/// Of how many types a chunk with this length field, and so many zeros after it, is refused for its
+/// length.
+fn types_refused(alloc: Global, length: u16, zeros: usize) -> Result<usize, Fail> {
+    let mut refused = 0usize;
+    for typ in 0..=255 {
+        if outcome_of_length(alloc, typ, length, zeros)? == Outcome::Length {
+            refused = refused.saturating_add(1);
+        }
+    }
+    Ok(refused)
+}
+
+// A length that doesn't count all of the header, of a chunk of each type, whether or not other bytes
+// come after.
+#[test]
+fn below_the_header(rt: HostRuntime) -> Result<(), Fail> {
+    for length in [0, 1, 2, 3] {
+        for zeros in [0, 1, 4, 16, 20] {
+            let refused = types_refused(rt.alloc(), length, zeros)?;
+            assert_eq!(rt; refused, 256, "length {length}, {zeros} zeros");
+        }
+    }
+    Ok(())
+}
+
+// A length beyond the packet, of a chunk of each type: by a byte, by a header, and by all that a length
+// can say.
+#[test]
+fn beyond_the_packet(rt: HostRuntime) -> Result<(), Fail> {
+    // A length, and fewer bytes after the header than it counts.
+    let rows = [
+        (5, 0),
+        (8, 0),
+        (16, 11),
+        (20, 15),
+        (24, 16),
+        (0x7fff, 16),
+        (0x8000, 16),
+        (0xfffc, 16),
+        (0xffff, 0),
+        (0xffff, 16),
+    ];
+    for (length, zeros) in rows {
+        let refused = types_refused(rt.alloc(), length, zeros)?;
+        assert_eq!(rt; refused, 256, "length {length}, {zeros} zeros");
+    }
+    Ok(())
+}
+
+/// A length, and how many bytes an item of this length may have at least and at most: with none of
+/// its padding, and with all of it.
+const SIZES: &[(u16, usize, usize)] = &[
+    (5, 5, 8),
+    (6, 6, 8),
+    (7, 7, 8),
+    (8, 8, 8),
+    (9, 9, 12),
+    (10, 10, 12),
+    (11, 11, 12),
+    (12, 12, 12),
+    (13, 13, 16),
+    (14, 14, 16),
+    (15, 15, 16),
+    (16, 16, 16),
+];
+
+// A COOKIE ECHO of each length in each size: one byte too few, or too many, is a fault, as are two
+// or three, and as is what comes after it as a chunk of zeros.
+#[test]
+fn around_padding(rt: HostRuntime) -> Result<(), Fail> {
+    for (length, least, most) in SIZES {
+        for size in 4..=20usize {
+            let wanted = if *least <= size && size <= *most {
+                Outcome::Kept(1)
+            } else {
+                Outcome::Length
+            };
+            let outcome = outcome_of_length(rt.alloc(), 10, *length, size - 4)?;
+            assert_eq!(rt; outcome, wanted, "length {length}, {size} bytes");
+        }
+    }
+    Ok(())
+}
+
+/// A chunk with a list of one item in `size` bytes, all zeros but its header; the chunk's own
+/// numbers are before it.
+fn listed(
+    alloc: Global,
+    (typ, numbers): (u8, usize),
+    item: [u8; 2],
+    length: u16,
+    size: usize,
+) -> Result<Vec<u8>, AllocError> {
+    let own = numbers.saturating_add(size).saturating_add(4);
+    let mut bytes = Vec::from_slice(alloc, &[typ, 0])?;
+    bytes.extend_from_slice(&u16::try_from(own).unwrap_or(0).to_be_bytes())?;
+    bytes.resize(numbers.saturating_add(4), 0)?;
+    bytes.extend_from_slice(&item)?;
+    bytes.extend_from_slice(&length.to_be_bytes())?;
+    bytes.resize(own, 0)?;
+    Ok(bytes)
+}
+
+fn outcome_of_listed(
+    alloc: Global,
+    chunk: (u8, usize),
+    item: [u8; 2],
+    length: u16,
+    size: usize,
+) -> Result<Outcome, Fail> {
+    let bytes = listed(alloc, chunk, item, length, size)?;
+    outcome_of_chunks(alloc, &bytes)
+}
+
+/// Types of chunks with a list, how many bytes of numbers are before it, and the type of an item
+/// that may have any value.
+const LISTS: &[(u8, usize, [u8; 2])] = &[
+    // INIT and INIT ACK: a parameter without a kind, and a cookie
+    (1, 16, [0, 99]),
+    (2, 16, [0, 7]),
+    // HEARTBEAT, HEARTBEAT ACK and RE-CONFIG: information, chunk types, a parameter without a kind
+    (4, 0, [0, 1]),
+    (5, 0, [0x80, 8]),
+    (130, 0, [0xff, 0xff]),
+    // ABORT and ERROR: a reason, a chunk, information, a cause without a kind
+    (6, 0, [0, 12]),
+    (9, 0, [0, 6]),
+    (6, 0, [0, 13]),
+    (9, 0, [0, 99]),
+];
+
+/// The length and the size at which such an item isn't answered as it is to be.
+fn wrong_item(
+    alloc: Global,
+    (typ, numbers, item): (u8, usize, [u8; 2]),
+) -> Result<Option<(u16, usize)>, Fail> {
+    for (length, least, most) in SIZES {
+        for size in 4..=20usize {
+            let wanted = if *least <= size && size <= *most {
+                Outcome::Kept(2)
+            } else {
+                Outcome::Length
+            };
+            if outcome_of_listed(alloc, (typ, numbers), item, *length, size)? != wanted {
+                return Ok(Some((*length, size)));
+            }
+        }
+    }
+    Ok(None)
+}
+
+// The same of a parameter or an error cause in each list: where its padding is not counted by the
+// chunk, and where it is.
+#[test]
+fn around_padding_of_items(rt: HostRuntime) -> Result<(), Fail> {
+    for (i, row) in LISTS.iter().enumerate() {
+        assert_eq!(rt; wrong_item(rt.alloc(), *row)?, None, "row {i}");
+    }
+    Ok(())
+}
+
+/// How many of the lengths below a header's are refused, of an item in a list of 20 bytes.
+fn refused_items(alloc: Global, (typ, numbers, item): (u8, usize, [u8; 2])) -> Result<usize, Fail> {
+    let mut refused = 0usize;
+    for length in 0..4 {
+        if outcome_of_listed(alloc, (typ, numbers), item, length, 20)? == Outcome::Length {
+            refused = refused.saturating_add(1);
+        }
+    }
+    Ok(refused)
+}
+
+#[test]
+fn below_the_header_of_items(rt: HostRuntime) -> Result<(), Fail> {
+    for (i, row) in LISTS.iter().enumerate() {
+        assert_eq!(rt; refused_items(rt.alloc(), *row)?, 4, "row {i}");
+    }
+    Ok(())
+}
+
+/// Causes whose length is below a header's, and above it in a chunk without room.
+const CAUSES: &[&[u8]] = &[
+    &[6, 0, 0, 8, 0, 12, 0, 0],
+    &[6, 0, 0, 8, 0, 12, 0, 1],
+    &[6, 0, 0, 8, 0, 12, 0, 2],
+    &[6, 0, 0, 8, 0, 12, 0, 3],
+    &[6, 0, 0, 8, 0, 12, 0, 5],
+    &[6, 0, 0, 8, 0, 12, 0xff, 0xff],
+    // the byte that the cause counts is there, after the chunk
+    &[6, 0, 0, 8, 0, 12, 0, 5, b'a', 0, 0, 0],
+];
+
+#[test]
+fn of_causes(rt: HostRuntime) -> Result<(), Fail> {
+    for (i, chunks) in CAUSES.iter().enumerate() {
+        let outcome = outcome_of_chunks(rt.alloc(), chunks)?;
+        assert_eq!(rt; outcome, Outcome::Length, "row {i}");
+    }
+    Ok(())
+}
