@@ -65,8 +65,8 @@ pub use dcsctp_types::laws as types;
 ///
 /// So has each list of chunks, of parameters and of error causes: bytes are split into items in
 /// one way or not at all, and they mean one list of trees or have one fault, never two of either,
-/// never both, and never neither; for a strict reader and for a lenient one. A lenient one refuses no
-/// list for its padding.
+/// never both, and never neither; for a strict reader and for a lenient one. A lenient reader
+/// refuses no list for its padding.
 pub fn one_answer()
     ensures one { (bytes : List ℕ) (word : ℕ) (policy : ChecksumPolicy)
         (a b : Result PacketTree PacketFault)

@@ -74,7 +74,8 @@ impl AbortChunk {
 
     /// Checks the value, and builds what it means.
     fn read(alloc: Global, flags: u8, value: &[u8]) -> Result<Self, ChunkParseError>
-        ensures answer { Answers result (λ c. (kind.row lenient flags).means value.now (kind.view c))
+        ensures answer { Answers result (λ c. (kind.row lenient flags).means value.now
+            (kind.view c))
             ((kind.row lenient flags).faults value.now) }
         ensures memory { IsErrOf result ChunkParseError.OutOfMemory →
             HasMeaning (kind.row lenient flags) value.now × (value.now ≢ []) }

@@ -61,7 +61,8 @@ impl ErrorChunk {
         ensures memory { IsErrOf result ChunkParseError.OutOfMemory
             → HasMeaning (kind.row lenient) raw.entry.value.now }
         ensures exact { raw.entry.typ ≡ CHUNK_TYPE → ReadsExactly result kind.view
-            ((kind.row lenient).means raw.entry.value.now) ((kind.row lenient).faults raw.entry.value.now) }
+            ((kind.row lenient).means raw.entry.value.now)
+            ((kind.row lenient).faults raw.entry.value.now) }
     {
         if raw.typ != CHUNK_TYPE {
             return Err(ChunkParseError::InvalidType);

@@ -59,7 +59,8 @@ impl HeartbeatAckChunk {
             → Answers result (λ c. (parameter_list.row lenient).means raw.entry.value.now
             (kind.view c)) ((parameter_list.row lenient).faults raw.entry.value.now) }
         ensures memory { IsErrOf result ChunkParseError.OutOfMemory
-            → HasMeaning (parameter_list.row lenient) raw.entry.value.now × (raw.entry.value.now ≢ []) }
+            → HasMeaning (parameter_list.row lenient) raw.entry.value.now
+            × (raw.entry.value.now ≢ []) }
         ensures exact { raw.entry.typ ≡ CHUNK_TYPE → ReadsExactly result kind.view
             ((parameter_list.row lenient).means raw.entry.value.now)
             ((parameter_list.row lenient).faults raw.entry.value.now) }
@@ -78,7 +79,8 @@ impl HeartbeatAckChunk {
         ensures memory { IsErrOf result ChunkParseError.OutOfMemory →
             HasMeaning (parameter_list.row lenient) value.now × (value.now ≢ []) }
         ensures exact { ReadsExactly result kind.view
-            ((parameter_list.row lenient).means value.now) ((parameter_list.row lenient).faults value.now) }
+            ((parameter_list.row lenient).means value.now)
+            ((parameter_list.row lenient).faults value.now) }
     {
         parameter_list_check(value, false)?;
         Ok(HeartbeatAckChunk::build(alloc, value)?)

@@ -64,10 +64,12 @@ impl InitAckChunk {
     pub fn try_from(alloc: Global, raw: RawChunk) -> Result<Self, ChunkParseError>
         ensures other { IsErrOf result ChunkParseError.InvalidType ↔ (raw.entry.typ ≢ CHUNK_TYPE) }
         ensures own { raw.entry.typ ≡ CHUNK_TYPE
-            → Answers result (λ c. (init_fields.row lenient).means raw.entry.value.now (kind.view c))
+            → Answers result (λ c. (init_fields.row lenient).means raw.entry.value.now
+            (kind.view c))
             ((init_fields.row lenient).faults raw.entry.value.now) }
         ensures memory { IsErrOf result ChunkParseError.OutOfMemory
-            → HasMeaning (init_fields.row lenient) raw.entry.value.now × (drop 16 raw.entry.value.now ≢ []) }
+            → HasMeaning (init_fields.row lenient) raw.entry.value.now
+            × (drop 16 raw.entry.value.now ≢ []) }
         ensures exact { raw.entry.typ ≡ CHUNK_TYPE → ReadsExactly result kind.view
             ((init_fields.row lenient).means raw.entry.value.now)
             ((init_fields.row lenient).faults raw.entry.value.now) }
@@ -80,12 +82,14 @@ impl InitAckChunk {
 
     /// Checks the value, and builds what it means.
     fn read(alloc: Global, value: &[u8]) -> Result<Self, ChunkParseError>
-        ensures answer { Answers result (λ c. (init_fields.row lenient).means value.now (kind.view c))
+        ensures answer { Answers result (λ c. (init_fields.row lenient).means value.now
+            (kind.view c))
             ((init_fields.row lenient).faults value.now) }
         ensures memory { IsErrOf result ChunkParseError.OutOfMemory →
             HasMeaning (init_fields.row lenient) value.now × (drop 16 value.now ≢ []) }
         ensures exact { ReadsExactly result kind.view
-            ((init_fields.row lenient).means value.now) ((init_fields.row lenient).faults value.now) }
+            ((init_fields.row lenient).means value.now)
+            ((init_fields.row lenient).faults value.now) }
     {
         init_check(value, false)?;
         Ok(InitAckChunk::build(alloc, value)?)

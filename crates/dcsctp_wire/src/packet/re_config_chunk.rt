@@ -53,10 +53,12 @@ impl ReConfigChunk {
     pub fn try_from(alloc: Global, raw: RawChunk) -> Result<Self, ChunkParseError>
         ensures other { IsErrOf result ChunkParseError.InvalidType ↔ (raw.entry.typ ≢ CHUNK_TYPE) }
         ensures own { raw.entry.typ ≡ CHUNK_TYPE
-            → Answers result (λ c. (parameter_list.row lenient).means raw.entry.value.now (kind.view c))
+            → Answers result (λ c. (parameter_list.row lenient).means raw.entry.value.now
+            (kind.view c))
             ((parameter_list.row lenient).faults raw.entry.value.now) }
         ensures memory { IsErrOf result ChunkParseError.OutOfMemory
-            → HasMeaning (parameter_list.row lenient) raw.entry.value.now × (raw.entry.value.now ≢ []) }
+            → HasMeaning (parameter_list.row lenient) raw.entry.value.now
+            × (raw.entry.value.now ≢ []) }
         ensures exact { raw.entry.typ ≡ CHUNK_TYPE → ReadsExactly result kind.view
             ((parameter_list.row lenient).means raw.entry.value.now)
             ((parameter_list.row lenient).faults raw.entry.value.now) }
@@ -69,12 +71,14 @@ impl ReConfigChunk {
 
     /// Checks the value, and builds what it means.
     fn read(alloc: Global, value: &[u8]) -> Result<Self, ChunkParseError>
-        ensures answer { Answers result (λ c. (parameter_list.row lenient).means value.now (kind.view c))
+        ensures answer { Answers result (λ c. (parameter_list.row lenient).means value.now
+            (kind.view c))
             ((parameter_list.row lenient).faults value.now) }
         ensures memory { IsErrOf result ChunkParseError.OutOfMemory →
             HasMeaning (parameter_list.row lenient) value.now × (value.now ≢ []) }
         ensures exact { ReadsExactly result kind.view
-            ((parameter_list.row lenient).means value.now) ((parameter_list.row lenient).faults value.now) }
+            ((parameter_list.row lenient).means value.now)
+            ((parameter_list.row lenient).faults value.now) }
     {
         parameter_list_check(value, false)?;
         Ok(ReConfigChunk::build(alloc, value)?)
@@ -83,7 +87,8 @@ impl ReConfigChunk {
     /// What the value means.
     pub(crate) fn build(alloc: Global, value: &[u8]) -> Result<Self, AllocError>
         requires { HasMeaning (parameter_list.row lenient) value.now }
-        ensures meant { IfOk result (λ c. (parameter_list.row lenient).means value.now (kind.view c)) }
+        ensures meant { IfOk result (λ c. (parameter_list.row lenient).means value.now
+            (kind.view c)) }
         ensures empty { value.now ≡ [] → IsOk result }
     {
         Ok(ReConfigChunk {
