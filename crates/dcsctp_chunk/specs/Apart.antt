@@ -1,4 +1,5 @@
--- What the steps of the cleaning say of neighbouring blocks.
+-- What the steps of the cleaning say of neighbouring blocks (RFC 9260 section 3.3.4): for private
+-- functions alone, whose contracts can cite nothing but specs/.
 use Rattle.std.specs.Prelude.{◌≡◌, ℕ, ◌+◌, ◌-◌, ◌<◌, ◌≤◌, List, [], ◌∷◌, ◌++◌, slice_index_or, take, drop}
 use Rattle.std.specs.List.{All}
 use Rattle.std.specs.List.Sorted.{IsPartitionPoint}

@@ -4,7 +4,8 @@
 -- and FSN one alone.
 use Rattle.std.specs.Prelude.{◌≡◌, ℕ, ◌+◌, List, ◌++◌, nat_lt, Result, Ok, Err, if◌then◌else◌, length, drop, codes, refl}
 use Rattle.std.specs.Int.{w16, w32, to_be_bytes}
-use Rattle.dcsctp_tlv.specs.Kind.{Fault, Length, number32, Format, flagged_tlv, length-fixed}
+use Rattle.dcsctp_tlv.specs.Kind.{Fault, Length, number32, Format, flagged_tlv}
+use Rattle.dcsctp_tlv.proofs.Lengths.{length-fixed}
 use Rattle.dcsctp_chunk.specs.Data.{DataTree, Tree, common, chunk_of, flags_of, text, tree_of, IsInWidth}
 use Rattle.dcsctp_chunk.specs.Flags.{is_set}
 use Rattle.dcsctp_chunk.specs.declared.idata_chunk.IDataChunk.{IDataChunk}

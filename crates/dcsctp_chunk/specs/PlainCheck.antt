@@ -1,5 +1,5 @@
--- Which values the kinds without a list of parameters or error causes can have: a line for each
--- kind.
+-- Which values the kinds of chunk (RFC 9260 section 3.2) can have that hold no list of parameters
+-- or error causes: a line for each kind.
 use Rattle.std.specs.Prelude.{ℕ, List, ◌==◌, Result, Ok, if◌then◌else◌}
 use Rattle.dcsctp_tlv.specs.Fault.{Fault}
 use Rattle.dcsctp_tlv.specs.Level.{map_ok}

@@ -7,7 +7,8 @@ use Rattle.std.specs.Int.{w16, w32, to_be_bytes}
 use Rattle.std.proofs.Common.{ap, ◌∙◌}
 use Rattle.std.specs.List.{flat_map, AllByRecursion}
 use Rattle.dcsctp_types.specs.declared.types.tsn.Tsn.{Tsn}
-use Rattle.dcsctp_tlv.specs.Kind.{Fault, Length, fields, number16, number32, numbers, Format, flagged_tlv, length-fixed, length-two_lists}
+use Rattle.dcsctp_tlv.specs.Kind.{Fault, Length, fields, number16, number32, numbers, Format, flagged_tlv, length-two_lists}
+use Rattle.dcsctp_tlv.proofs.Lengths.{length-fixed}
 use Rattle.dcsctp_chunk.specs.declared.sack_chunk.GapAckBlock.{GapAckBlock}
 use Rattle.dcsctp_chunk.specs.declared.sack_chunk.SackChunk.{SackChunk}
 

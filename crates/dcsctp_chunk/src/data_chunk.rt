@@ -24,7 +24,7 @@ use crate::data::Data;
 use crate::flags::is_set;
 use crate::raw_chunk::RawChunk;
 use dcsctp_tlv::error::ChunkParseError;
-use dcsctp_tlv::frame::{MAX_VALUE_SIZE, TLV_HEADER_SIZE, put_solid_after};
+use dcsctp_tlv::frame::{MAX_VALUE_SIZE, TLV_HEADER_SIZE, put_fixed_and_rest};
 use dcsctp_tlv::number::{put_u16, put_u32, read_u16_be, read_u32_be};
 use dcsctp_tlv::tlv::SerializableTlv;
 use dcsctp_types::api::{PpId, StreamId};
@@ -123,7 +123,7 @@ impl SerializableTlv for DataChunk {
 
     fn serialize_to(&self, output: &mut [u8]) {
         let flags = self.user_data.flags(self.immediate_ack);
-        put_solid_after(
+        put_fixed_and_rest(
             CHUNK_TYPE,
             flags,
             &self.fixed(),

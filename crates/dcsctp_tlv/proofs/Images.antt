@@ -6,7 +6,6 @@ use Rattle.std.proofs.lemmas.List.{take-append-drop, length-append, length-repli
 use Rattle.std.proofs.lemmas.Bool.{cases_lt}
 use Rattle.dcsctp_tlv.specs.Frame.{round_up_to_4, header}
 use Rattle.dcsctp_tlv.specs.Image.{solid, holes, written, zeroed, gap, Tlv, size_of, image_of, list_image, list_size, IsListEncodable}
-pub use Rattle.dcsctp_tlv.specs.Length.{length-image_of, length-solid_tlv}
 
 -- ---- writing
 

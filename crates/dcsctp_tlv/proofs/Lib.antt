@@ -1,5 +1,6 @@
 pub mod Items
 pub mod Lists
+pub mod Lengths
 pub mod Images
 pub mod Lending
 pub mod Readings

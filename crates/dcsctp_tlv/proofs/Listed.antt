@@ -7,7 +7,7 @@ use Rattle.dcsctp_tlv.specs.declared.error.ChunkParseError.TheVariants.{InvalidL
 use Rattle.dcsctp_tlv.specs.Level.{Level, HasFault, listed}
 use Rattle.dcsctp_tlv.specs.Reading.{IsFault}
 use Rattle.dcsctp_tlv.specs.Image.{solid, written, Tlv, size_of, image_of, list_image, list_size, listed_tlv, IsListEncodable}
-use Rattle.dcsctp_tlv.specs.Length.{length-image_of}
+use Rattle.dcsctp_tlv.proofs.Lengths.{length-image_of}
 use Rattle.dcsctp_tlv.proofs.Images.{list_size-map, list_image-map, length-list_image}
 
 module _ {A B : Type 0} (tlv : A → Tlv) (view : A → B) (tree_tlv : B → Tlv) (same : (x : A) → tlv x ≡ tree_tlv (view x)) where

@@ -6,7 +6,7 @@ use Rattle.std.specs.List.{AllByRecursion}
 use Rattle.dcsctp_tlv.specs.Format.{sized_tlv}
 use Rattle.dcsctp_tlv.specs.Frame.{lenient}
 use Rattle.dcsctp_tlv.specs.Number.{numbers}
-use Rattle.dcsctp_tlv.specs.Length.{length-format}
+use Rattle.dcsctp_tlv.proofs.Lengths.{length-format}
 use Rattle.dcsctp_tlv.specs.Level.{Row, map_ok, HasMeaning}
 use Rattle.dcsctp_tlv.specs.Image.{Tlv, zeroed, image_of, size_of, IsEncodable, list_size}
 use Rattle.dcsctp_tlv.specs.Table.{IsUnnamed}

@@ -11,7 +11,7 @@ use native.Mathlib.Nat.{mul-zero, mul-suc}
 use Rattle.dcsctp_tlv.specs.Frame.{header}
 use Rattle.dcsctp_tlv.specs.Image.{put, solid_tlv, image_of, written}
 use Rattle.dcsctp_tlv.specs.Number.{numbers}
-pub use Rattle.dcsctp_tlv.specs.Length.{length-numbers}
+pub use Rattle.dcsctp_tlv.proofs.Lengths.{length-numbers}
 use Rattle.dcsctp_tlv.proofs.Images.{written-solid, written_item, all_take, all_from}
 use Rattle.dcsctp_tlv.specs.Fields.{fields}
 

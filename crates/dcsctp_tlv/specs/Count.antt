@@ -1,4 +1,5 @@
--- How many trees there are, those within trees included.
+-- How many trees there are, those within trees included: a word of this library, for the bounds on
+-- what reading takes.
 use Rattle.std.specs.Prelude.{ℕ, ◌+◌, List, [], ◌∷◌}
 
 -- the counts of a list together

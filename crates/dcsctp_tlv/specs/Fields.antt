@@ -1,4 +1,5 @@
--- Fields of one size in a row, as stream ids, TSNs or gap ack blocks lie in a value.
+-- Fields of one size in a row, as gap ack blocks and TSNs (RFC 9260 section 3.3.4), stream ids
+-- (RFC 6525 section 4) or skipped streams (RFC 3758 section 3.2) lie in a value.
 use Rattle.std.specs.Prelude.{ℕ, zero, suc, ◌+◌, ◌*◌, ◌/◌, ◌%◌, List, [], ◌∷◌, ◌++◌, length, drop, map}
 use Rattle.std.specs.Int.{w32}
 use Rattle.std.specs.List.{flat_map}

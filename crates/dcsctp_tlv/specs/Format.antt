@@ -1,4 +1,5 @@
--- What the tables say of a tree, each kind for its own trees: all but how it is read.
+-- What the tables of chunks, parameters and error causes (RFC 9260 sections 3.2, 3.2.1 and 3.3.10)
+-- say of a tree, each kind for its own trees: all but how it is read.
 use Rattle.std.specs.Prelude.{◌≡◌, ℕ, ◌/◌, ◌%◌, List, length}
 use Rattle.dcsctp_tlv.specs.Image.{solid, Tlv}
 

@@ -1,5 +1,5 @@
--- What is written for a tree: bytes, and places between the items of a list that stay as they
--- stood.
+-- What is written for a tree: an item of RFC 9260 section 3.2, and lists of items, with places
+-- between these that stay as they stood.
 use Rattle.std.specs.Prelude.{ℕ, ◌+◌, ◌-◌, ◌/◌, ◌%◌, ◌<◌, ◌^◌, All, List, [], ◌∷◌, ◌++◌, Option, Some, None, length, map, unwrap_or, replicate, take, drop}
 use Rattle.dcsctp_tlv.specs.Frame.{round_up_to_4, header}
 

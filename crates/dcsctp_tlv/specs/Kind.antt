@@ -4,4 +4,4 @@ pub use Rattle.dcsctp_tlv.specs.Fields.{fields, stream_numbers}
 pub use Rattle.dcsctp_tlv.specs.Number.{AreBytes, number16, number32, numbers}
 pub use Rattle.dcsctp_tlv.specs.Text.{joined}
 pub use Rattle.dcsctp_tlv.specs.Format.{Format, flagged_tlv, sized_tlv}
-pub use Rattle.dcsctp_tlv.specs.Length.{length-solid, length-fixed, length-two_lists, length-fields, length-words}
+pub use Rattle.dcsctp_tlv.specs.Length.{length-solid, length-two_lists, length-fields, length-words}

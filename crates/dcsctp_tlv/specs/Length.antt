@@ -1,49 +1,18 @@
--- An image is as long as its size: the lemmas that formats cite for this, and the law that follows.
--- They stand here and not in proofs/, since definitions cite them; none of them has to be believed.
-use Rattle.std.specs.Prelude.{◌≡◌, ℕ, ◌+◌, ◌*◌, ◌/◌, ◌%◌, List, [], ◌∷◌, ◌++◌, Some, length}
+-- A value has the size that is counted: the lemmas that formats cite for this. They stand here and
+-- not in proofs/, which a definition of the same crate can't cite; none of them has to be believed.
+use Rattle.std.specs.Prelude.{◌≡◌, ℕ, ◌+◌, ◌*◌, List, [], ◌∷◌, ◌++◌, Some, length}
 use Rattle.std.specs.Int.{Width, w32, to_be_bytes}
 use Rattle.std.specs.List.{flat_map}
 use Rattle.std.proofs.Common.{refl, sym, ap, ◌∙◌}
 use Rattle.std.proofs.Math.Nat.{mul-zero, mul-suc, add_comm}
 use Rattle.std.proofs.lemmas.List.{length-append, length-map}
-use Rattle.dcsctp_tlv.specs.Frame.{header}
-use Rattle.dcsctp_tlv.specs.Image.{solid, Tlv, solid_tlv, typed_tlv, size_of, image_of}
+use Rattle.dcsctp_tlv.specs.Image.{solid}
 use Rattle.dcsctp_tlv.specs.Number.{numbers}
-use Rattle.dcsctp_tlv.specs.Format.{Format}
-
--- ---- images
-
-pub length-image_of : (t : Tlv) → length t.value ≡ t.value_size → length (image_of t) ≡ size_of t
-unfolding image_of
-length-image_of t e =
-    length-append (solid (header t.first t.second t.value_size)) t.value ∙ ap (λ (n : ℕ). 4 + n) e
-
--- where all that is said of a tree is its format
-pub length-format : (f : Format) → length (image_of f.tlv) ≡ size_of f.tlv
-length-format f = length-image_of f.tlv f.sized
 
 pub length-solid : (bytes : List ℕ) → length (solid bytes) ≡ length bytes
 length-solid bytes = length-map bytes Some
 
-pub length-solid_tlv : (first second : ℕ) (bytes : List ℕ)
-    → length (image_of (solid_tlv first second bytes)) ≡ size_of (solid_tlv first second bytes)
-length-solid_tlv first second bytes =
-    length-image_of (solid_tlv first second bytes) (length-solid bytes)
-
-pub length-typed_tlv : (typ : ℕ) (bytes : List ℕ)
-    → length (image_of (typed_tlv typ bytes)) ≡ size_of (typed_tlv typ bytes)
-length-typed_tlv typ bytes = length-solid_tlv (typ / 256) (typ % 256) bytes
-
--- ---- fields
-
--- bytes of a known number, and after them any
-pub length-fixed : (size : ℕ) (fixed rest : List ℕ) → length fixed ≡ size
-    → length (solid (fixed ++ rest)) ≡ size + length rest
-length-fixed size fixed rest e =
-    length-solid (fixed ++ rest) ∙ length-append fixed rest
-    ∙ ap (λ (k : ℕ). k + length rest) e
-
--- so many fields of one size
+-- fields of one size
 pub length-each : {A : Type 0} (write : A → List ℕ) (size : ℕ) (xs : List A)
     → ((x : A) → length (write x) ≡ size) → length (flat_map write xs) ≡ size * length xs
 length-each write size [] each = sym (mul-zero size)
@@ -52,10 +21,6 @@ length-each write size (x ∷ xs) each =
     ∙ ap (λ (k : ℕ). k + length (flat_map write xs)) (each x)
     ∙ ap (λ (k : ℕ). size + k) (length-each write size xs each)
     ∙ add_comm size (size * length xs) ∙ sym (mul-suc size (length xs))
-
-pub length-numbers : (width : Width) (size : ℕ) (ns : List ℕ)
-    → ((n : ℕ) → length (to_be_bytes width n) ≡ size) → length (numbers width ns) ≡ size * length ns
-length-numbers width size ns each = length-each (to_be_bytes width) size ns each
 
 -- two lists of fields, one after the other
 pub length-two_lists : {A B : Type 0} (write : A → List ℕ) (size : ℕ) (xs : List A)

@@ -1,4 +1,5 @@
--- Levels: what the items of a list mean. Chunks are one level, parameters another, causes a third.
+-- Levels: what the items of a list mean. Chunks are one level, parameters another, causes a third
+-- (RFC 9260 sections 3.2, 3.2.1 and 3.3.10).
 --
 -- A level is a table with a row for each kind of item, and a rule for the padding. From these
 -- follow, for every level alike: which trees a list of bytes means, and which fault it has.

@@ -1,4 +1,5 @@
--- What a reader answers, beside what the table says of the bytes.
+-- What a reader answers, beside what a table of RFC 9260 section 3.2, 3.2.1 or 3.3.10 says of the
+-- bytes.
 use Rattle.std.specs.Prelude.{◌≡◌, ◌↔◌, ◌⊎◌, ℕ, List, Result, Ok, Err, IsOk, IfOk, IsErrOf, length}
 use Rattle.dcsctp_tlv.specs.declared.error.ChunkParseError.{ChunkParseError}
 use Rattle.dcsctp_tlv.specs.declared.error.ChunkParseError.TheVariants.{InvalidLength, InvalidType, InvalidPadding, InvalidValue, OutOfMemory}

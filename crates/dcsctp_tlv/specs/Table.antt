@@ -1,4 +1,5 @@
--- Tables of types: a row for each type that is named, and one for all others.
+-- Tables of types, as RFC 9260 sections 3.2, 3.2.1 and 3.3.10 list them: a row for each type that
+-- is named, and one for all others.
 use Rattle.std.specs.Prelude.{◌≢◌, ℕ, List, [], ◌∷◌, Result, ◌==◌}
 use Rattle.dcsctp_tlv.specs.Fault.{Fault}
 use Rattle.dcsctp_tlv.specs.Level.{Row, plain, pick, map_ok}

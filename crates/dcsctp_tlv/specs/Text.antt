@@ -1,4 +1,4 @@
--- Printed texts.
+-- Printed texts: no standard names them.
 use Rattle.std.specs.Prelude.{ℕ, List, [], ◌∷◌, ◌++◌}
 
 -- the texts one after the other, with a separator between each two

@@ -97,16 +97,16 @@ pub fn put_solid(first: u8, second: u8, value: &[u8], output: &mut [u8])
     put_bytes(output, TLV_HEADER_SIZE, value);
 }
 
-/// Writes an item whose value is two runs of bytes, one after the other.
-pub fn put_solid_after(first: u8, second: u8, front: &[u8], rest: &[u8], output: &mut [u8])
-    requires encodable { 4 + (length front.now + length rest.now) < 2 ^ 16 }
-    requires room { 4 + (length front.now + length rest.now) ≤ length output.old }
+/// Writes an item whose value is a fixed part, and after it the rest.
+pub fn put_fixed_and_rest(first: u8, second: u8, fixed: &[u8], rest: &[u8], output: &mut [u8])
+    requires encodable { 4 + (length fixed.now + length rest.now) < 2 ^ 16 }
+    requires room { 4 + (length fixed.now + length rest.now) ≤ length output.old }
     ensures { output.new ≡ written (image_of (flagged_tlv first second
-        (length front.now + length rest.now) (front.now ++ rest.now))) output.old }
+        (length fixed.now + length rest.now) (fixed.now ++ rest.now))) output.old }
 {
-    put_header(first, second, front.len() + rest.len(), output);
-    put_bytes(output, TLV_HEADER_SIZE, front);
-    put_bytes(output, TLV_HEADER_SIZE + front.len(), rest);
+    put_header(first, second, fixed.len() + rest.len(), output);
+    put_bytes(output, TLV_HEADER_SIZE, fixed);
+    put_bytes(output, TLV_HEADER_SIZE + fixed.len(), rest);
 }
 
 /// Writes a parameter or an error cause whose value is these bytes.

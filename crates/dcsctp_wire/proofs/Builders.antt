@@ -1,6 +1,5 @@
 -- What a builder holds: its room, and one more chunk.
 use Rattle.std.proofs.Common.{◌≡◌, ◌≢◌, ℕ, ◌+◌, ◌-◌, ◌^◌, ◌≤◌, ◌<◌, Bool, true, false, Ok, List, [], ◌∷◌, ◌++◌, length, take, drop, replicate, refl, sym, ap, subst, ◌∙◌, arith}
-use Rattle.std.specs.Prelude.{max}
 use Rattle.std.specs.List.{AllByRecursion}
 use Rattle.std.proofs.Math.Seq.{take-append_seam, drop-append_seam}
 use Rattle.dcsctp_tlv.specs.Frame.{round_up_to_4}
@@ -32,8 +31,8 @@ padded_after bytes output t e =
 
 -- ---- the room
 
--- the header counts before it is there
-size_held : (b : BuilderState) (ts : List ChunkTree) → Holds b ts → max 12 (length b.bytes) ≡ 12 + padded_size ts
+-- what is held is the bytes after the header
+size_held : (b : BuilderState) (ts : List ChunkTree) → Holds b ts → length b.bytes - 12 ≡ padded_size ts
 size_held b [] h = let none = ap length h in omega (arith, none)
 size_held b (t ∷ ts) h = let len = ap length h.bytes ∙ length-canonical (meaning_with b (t ∷ ts)) in omega (arith, len)
 

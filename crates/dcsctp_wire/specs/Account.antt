@@ -1,4 +1,5 @@
--- How much a packet holds: its size as it is written again, and the number of its parts.
+-- How much a packet (RFC 9260 section 3) holds: its size as it is written again, and the number of
+-- its parts.
 use Rattle.std.specs.Prelude.{◌≡◌, ℕ, ◌+◌, ◌≤◌, ◌⊎◌, List, length}
 use Rattle.std.specs.List.{AllByRecursion}
 use Rattle.dcsctp_tlv.specs.Frame.{Item, AreItems, any_padding, round_up_to_4}

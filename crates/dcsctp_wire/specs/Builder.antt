@@ -1,5 +1,5 @@
 -- The packet builder, as its callers see it: the packets are those of RFC 9260 section 3.
-use Rattle.std.specs.Prelude.{◌≡◌, ◌≢◌, ℕ, ◌-◌, ◌^◌, ◌<◌, ◌≤◌, max, Bool, true, false, List, [], ◌∷◌, length}
+use Rattle.std.specs.Prelude.{◌≡◌, ◌≢◌, ℕ, ◌-◌, ◌^◌, ◌<◌, ◌≤◌, Bool, true, false, List, [], ◌∷◌, length}
 use Rattle.std.specs.List.{AllByRecursion}
 use Rattle.std.specs.Int.{w32, to_be_bytes}
 use Rattle.dcsctp_tlv.specs.Image.{put}
@@ -36,9 +36,10 @@ abbrev pub Holds : BuilderState → List ChunkTree → Type 0
 Holds b [] = b.bytes ≡ []
 Holds b (c ∷ cs) = HoldsPacket b (c ∷ cs)
 
--- The bytes that chunks and their padding can still take. The header counts before it is there.
+-- The bytes that chunks and their padding can still take: the limit, less the header, and less the
+-- chunks that are held, which are the bytes after the header.
 abbrev pub room : BuilderState → ℕ
-room b = b.limit - max 12 (length b.bytes)
+room b = b.limit - 12 - (length b.bytes - 12)
 
 -- ---- what is built
 
@@ -55,7 +56,7 @@ checksummed false word bytes = bytes
 abbrev pub built : BuilderState → ℕ → List ℕ
 built b word = checksummed b.writes_checksum word b.bytes
 
--- ---- inside
+-- ---- inside: for private functions alone, whose contracts can cite nothing but specs/
 
 -- the bytes, which begin with a header: the packet of no chunks
 abbrev pub begun : BuilderState → List ℕ → List ℕ

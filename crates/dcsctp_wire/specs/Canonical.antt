@@ -1,4 +1,5 @@
--- The canonical packet of a meaning: the one form in which it is written.
+-- The canonical packet of a meaning: the one form in which it is written, out of those that RFC
+-- 9260 section 3 allows.
 use Rattle.std.specs.Prelude.{ℕ, ◌+◌, ◌≤◌, List, [], ◌∷◌, ◌++◌, replicate}
 use Rattle.std.specs.List.{flat_map, AllByRecursion}
 use Rattle.std.specs.Int.{w16, w32, to_be_bytes}

@@ -1,4 +1,5 @@
--- What a check and a reader of packets answer, both ways: each input has one answer.
+-- What a check and a reader of packets (RFC 9260 section 3) answer, both ways: each input has one
+-- answer.
 use Rattle.std.specs.Prelude.{◌≡◌, ◌↔◌, ◌⊎◌, ℕ, List, Result, Ok, Err, IsOk, IfOk, IsErrOf}
 use Rattle.dcsctp_tlv.specs.declared.error.ChunkParseError.TheVariants.{OutOfMemory}
 use Rattle.dcsctp_tlv.specs.Level.{MeansCounted, HasFault}

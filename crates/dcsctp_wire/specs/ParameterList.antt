@@ -1,5 +1,6 @@
--- What the chunks have in common whose value is a list of parameters, and nothing else: flags are
--- ignored, and any list is read, the empty one too.
+-- What the chunks have in common whose value is a list of parameters, and nothing else (RFC 9260
+-- sections 3.3.5 and 3.3.6, RFC 6525 section 3.1): flags are ignored, and any list is read, the
+-- empty one too.
 use Rattle.std.specs.Prelude.{ℕ, Bool, true, List, []}
 use Rattle.std.specs.List.{AllByRecursion}
 use Rattle.dcsctp_tlv.specs.Format.{Format}

@@ -1,4 +1,4 @@
--- Meanings that a packet can have.
+-- Meanings that a packet (RFC 9260 section 3) can have.
 use Rattle.std.specs.Prelude.{◌≢◌, ◌<◌, ◌^◌, []}
 use Rattle.std.specs.List.{AllByRecursion}
 use Rattle.dcsctp_wire.specs.Chunk.{IsInWidth as IsChunkInWidth, IsWellFormed as IsChunkWellFormed}

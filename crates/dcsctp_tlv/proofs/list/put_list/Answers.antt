@@ -1,6 +1,6 @@
 use Rattle.std.proofs.Common.{arith, ◌∙◌, ap}
 use Rattle.dcsctp_tlv.specs.Format.{tlv_by}
-use Rattle.dcsctp_tlv.specs.Length.{length-format}
+use Rattle.dcsctp_tlv.proofs.Lengths.{length-format}
 use Rattle.dcsctp_tlv.specs.Frame.{round_up_to_4}
 use Rattle.dcsctp_tlv.proofs.Images.{room_for, written_more}
 use Rattle.dcsctp_tlv.proofs.list.put_list.Goals as goal
