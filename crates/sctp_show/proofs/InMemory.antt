@@ -1,6 +1,7 @@
 -- What a run over bytes in memory answers.
 use Rattle.std.proofs.Common.{◌≡◌, ◌≢◌, ◌⊎◌, ◌↔◌, inl, inr, ℕ, Bool, true, false, List, [], ◌++◌, Option, Some, refl, sym, subst, ap, ◌∙◌}
 use Rattle.std.specs.Io.{StartsWith}
+use Rattle.dcsctp_wire.specs.Frame.{lenient}
 use Rattle.sctp_show.specs.Show.{Shows, MayShow, MayAnswer, Writes, WritesBeginning, read_failed, out_of_memory}
 
 -- an output worked where the status isn't 2
@@ -10,13 +11,13 @@ output_worked status false tells other = refl
 
 -- the text's answer, or that memory ran out, or a read failed
 abbrev pub MayTell : List ℕ → List ℕ × ℕ → Type 0
-MayTell text answer = MayShow text answer ⊎ (answer ≡ read_failed)
+MayTell text answer = MayShow lenient text answer ⊎ (answer ≡ read_failed)
 
 pub MayTell-run : (text known : List ℕ) (failed : Bool) (left : Option (List ℕ)) (answer : List ℕ × ℕ) → known ≡ text
-    → MayAnswer failed (Some known) left answer → MayTell text answer
+    → MayAnswer lenient failed (Some known) left answer → MayTell text answer
 MayTell-run text known true left answer same may = inr may
 MayTell-run text known false left answer same (inl memory) = inl (inr memory)
-MayTell-run text known false left answer same (inr (input, is, read, shown)) = inl (inl (subst (λ i. Shows i answer) (is ∙ same) shown))
+MayTell-run text known false left answer same (inr (input, is, read, shown)) = inl (inl (subst (λ i. Shows lenient i answer) (is ∙ same) shown))
 
 -- what a vector without bytes holds after them is the answer
 pub MayTell-written : (text held bytes : List ℕ) (status : ℕ) (answer : List ℕ × ℕ) → held ≡ [] → MayTell text answer
@@ -33,7 +34,7 @@ StartsWith-written held bytes status answer empty (is, written, starts, grows) =
 
 -- an answer that the text has is told, those two lines aside
 pub told_as_known : (text : List ℕ) (told answer : List ℕ × ℕ)
-    → ((input : List ℕ) (a b : List ℕ × ℕ) → Shows input a → Shows input b → a ≡ b) → MayTell text told → Shows text answer
+    → ((input : List ℕ) (a b : List ℕ × ℕ) → Shows lenient input a → Shows lenient input b → a ≡ b) → MayTell text told → Shows lenient text answer
     → (told ≡ answer) ⊎ (told ≡ out_of_memory) ⊎ (told ≡ read_failed)
 told_as_known text told answer one (inl (inl shown)) is = inl (one text told answer shown is)
 told_as_known text told answer one (inl (inr memory)) is = inr (inl memory)

@@ -1,6 +1,7 @@
 //! The program over bytes in memory.
 ghost use Rattle.std.specs.Prelude.{◌≡◌, ◌≢◌, ◌⊎◌, ℕ, List};
 ghost use Rattle.std.specs.Io.{StartsWith};
+ghost use Rattle.dcsctp_wire.specs.Frame.{lenient};
 ghost use Rattle.sctp_show.specs.Show.{MayShow, Shows, out_of_memory, read_failed};
 ghost use Rattle.sctp_show.specs.Captured.{captured};
 
@@ -22,16 +23,16 @@ pub fn show_captured(alloc: Global, text: &[u8]) -> Captured
     // Unless the status is 2, bytes and status are the text's answer, or tell that memory ran out
     // or of a failed read.
     ensures shown { result.status ≢ 2
-        → MayShow text.now (captured result) ⊎ (captured result ≡ read_failed) }
+        → MayShow lenient text.now (captured result) ⊎ (captured result ≡ read_failed) }
 
     // So they are any answer that is known of the text beforehand, those two lines aside.
-    ensures known { result.status ≢ 2 → (answer : List ℕ × ℕ) → Shows text.now answer
+    ensures known { result.status ≢ 2 → (answer : List ℕ × ℕ) → Shows lenient text.now answer
         → (captured result ≡ answer) ⊎ (captured result ≡ out_of_memory)
         ⊎ (captured result ≡ read_failed) }
 
     // At status 2 the bytes are a beginning of such an answer.
     ensures cut { result.status ≡ 2 → (answer : List ℕ × ℕ)
-        × (MayShow text.now answer ⊎ (answer ≡ read_failed))
+        × (MayShow lenient text.now answer ⊎ (answer ≡ read_failed))
         × StartsWith answer.0 result.bytes.items }
 {
     let mut input = Watched::new(text);
