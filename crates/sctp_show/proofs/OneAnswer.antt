@@ -1,5 +1,5 @@
 -- An input has one answer.
-use Rattle.std.proofs.Common.{◌≡◌, ℕ, List, ◌++◌, Result, Ok, Err, IsErr, sym, subst, ap, ◌∙◌, arith}
+use Rattle.std.proofs.Common.{◌≡◌, ℕ, Bool, List, ◌++◌, Result, Ok, Err, IsErr, sym, subst, ap, ◌∙◌, arith}
 use Rattle.std.specs.List.{flat_map}
 use Rattle.hex.specs.declared.error.FromHexError.{FromHexError}
 use Rattle.hex.proofs.HexLemmas.{decode_of-ok, decode_of-same}
@@ -26,17 +26,17 @@ not_both : (decoded : Result (List ℕ) FromHexError) (bytes : List ℕ) → IsE
 not_both (Ok x) bytes bad is = cc bad
 not_both (Err e) bytes bad is = cc is
 
-pub Shows-one : (input : List ℕ) (a b : List ℕ × ℕ) → Shows input a → Shows input b → a ≡ b
-Shows-one input a b (too_long long is) (too_long also_long also) = is ∙ sym also
-Shows-one input a b (too_long long is) (not_hexadecimal short bad also) = absurd (omega arith)
-Shows-one input a b (too_long long is) (packet short bytes decoded read answers told) = absurd (omega arith)
-Shows-one input a b (not_hexadecimal short bad is) (too_long long also) = absurd (omega arith)
-Shows-one input a b (not_hexadecimal short bad is) (not_hexadecimal also_short also_bad also) = is ∙ sym also
-Shows-one input a b (not_hexadecimal short bad is) (packet also_short bytes decoded read answers told) = absurd (not_both _ bytes bad decoded)
-Shows-one input a b (packet short bytes decoded read answers told) (too_long long also) = absurd (omega arith)
-Shows-one input a b (packet short bytes decoded read answers told) (not_hexadecimal also_short bad also) = absurd (not_both _ bytes bad decoded)
-Shows-one input a b (packet short bytes decoded read answers told) (packet also_short also_bytes also_decoded also_read also_answers also_told) =
+pub Shows-one : (strict : Bool) (input : List ℕ) (a b : List ℕ × ℕ) → Shows strict input a → Shows strict input b → a ≡ b
+Shows-one strict input a b (too_long long is) (too_long also_long also) = is ∙ sym also
+Shows-one strict input a b (too_long long is) (not_hexadecimal short bad also) = absurd (omega arith)
+Shows-one strict input a b (too_long long is) (packet short bytes decoded read answers told) = absurd (omega arith)
+Shows-one strict input a b (not_hexadecimal short bad is) (too_long long also) = absurd (omega arith)
+Shows-one strict input a b (not_hexadecimal short bad is) (not_hexadecimal also_short also_bad also) = is ∙ sym also
+Shows-one strict input a b (not_hexadecimal short bad is) (packet also_short bytes decoded read answers told) = absurd (not_both _ bytes bad decoded)
+Shows-one strict input a b (packet short bytes decoded read answers told) (too_long long also) = absurd (omega arith)
+Shows-one strict input a b (packet short bytes decoded read answers told) (not_hexadecimal also_short bad also) = absurd (not_both _ bytes bad decoded)
+Shows-one strict input a b (packet short bytes decoded read answers told) (packet also_short also_bytes also_decoded also_read also_answers also_told) =
     let same : also_bytes ≡ bytes = decode_of-same (without_blanks input) also_bytes bytes also_decoded decoded in
     let one : also_read ≡ read =
-    answer_one bytes 0 unverified also_read read (decode_of-ok _ bytes decoded).3 (subst (λ l. Answer l 0 unverified also_read) same also_answers) answers in
+    answer_one bytes 0 (unverified strict) also_read read (decode_of-ok _ bytes decoded).3 (subst (λ l. Answer l 0 (unverified strict) also_read) same also_answers) answers in
     same_told read a b told (subst (λ r. Tells r b) one also_told)

@@ -23,27 +23,27 @@ reply_of-err (Ok text) failure is = absurd is
 reply_of-err (Err e) failure is = ap (λ (f : Failure). fault (line_of f)) (sym is)
 
 -- bytes that aren't hexadecimal, or for which memory ran out
-pub MayShow-no_bytes : (input : List ℕ) (e : Failure) → length input ≤ 200000
-    → (e ≡ OutOfMemory) ⊎ ((e ≡ NotHexadecimal) × IsErr (decode_of (without_blanks input))) → MayShow input (fault (line_of e))
-MayShow-no_bytes input e short (inl memory) = inr (ap (λ (f : Failure). fault (line_of f)) memory)
-MayShow-no_bytes input e short (inr (other, bad)) = inl (not_hexadecimal short bad (ap (λ (f : Failure). fault (line_of f)) other))
+pub MayShow-no_bytes : (strict : Bool) (input : List ℕ) (e : Failure) → length input ≤ 200000
+    → (e ≡ OutOfMemory) ⊎ ((e ≡ NotHexadecimal) × IsErr (decode_of (without_blanks input))) → MayShow strict input (fault (line_of e))
+MayShow-no_bytes strict input e short (inl memory) = inr (ap (λ (f : Failure). fault (line_of f)) memory)
+MayShow-no_bytes strict input e short (inr (other, bad)) = inl (not_hexadecimal short bad (ap (λ (f : Failure). fault (line_of f)) other))
 
 -- a packet that isn't read
-pub MayShow-no_packet : (input bytes : List ℕ) (e : PacketParseError) → length input ≤ 200000 → decode_of (without_blanks input) ≡ Ok bytes
-    → Reads {X = SctpPacket} packet_view bytes 0 unverified (Err e) → MayShow input (fault (packet_error_line e))
-MayShow-no_packet input bytes packet_errors.InvalidPacketSize short is reads = inl (packet short bytes is (Err Size) reads refl)
-MayShow-no_packet input bytes packet_errors.InvalidChecksum short is reads = inl (packet short bytes is (Err Checksum) reads refl)
-MayShow-no_packet input bytes packet_errors.InvalidChunkSize short is reads = absurd reads
-MayShow-no_packet input bytes (packet_errors.FailedParseChunk chunk_errors.InvalidLength) short is reads = inl (packet short bytes is (Err (Chunk Length)) reads refl)
-MayShow-no_packet input bytes (packet_errors.FailedParseChunk chunk_errors.InvalidType) short is reads = absurd reads
-MayShow-no_packet input bytes (packet_errors.FailedParseChunk chunk_errors.InvalidPadding) short is reads = inl (packet short bytes is (Err (Chunk Padding)) reads refl)
-MayShow-no_packet input bytes (packet_errors.FailedParseChunk chunk_errors.InvalidValue) short is reads = inl (packet short bytes is (Err (Chunk Value)) reads refl)
-MayShow-no_packet input bytes (packet_errors.FailedParseChunk chunk_errors.OutOfMemory) short is reads = inr refl
+pub MayShow-no_packet : (strict : Bool) (input bytes : List ℕ) (e : PacketParseError) → length input ≤ 200000 → decode_of (without_blanks input) ≡ Ok bytes
+    → Reads {X = SctpPacket} packet_view bytes 0 (unverified strict) (Err e) → MayShow strict input (fault (packet_error_line e))
+MayShow-no_packet strict input bytes packet_errors.InvalidPacketSize short is reads = inl (packet short bytes is (Err Size) reads refl)
+MayShow-no_packet strict input bytes packet_errors.InvalidChecksum short is reads = inl (packet short bytes is (Err Checksum) reads refl)
+MayShow-no_packet strict input bytes packet_errors.InvalidChunkSize short is reads = absurd reads
+MayShow-no_packet strict input bytes (packet_errors.FailedParseChunk chunk_errors.InvalidLength) short is reads = inl (packet short bytes is (Err (Chunk Length)) reads refl)
+MayShow-no_packet strict input bytes (packet_errors.FailedParseChunk chunk_errors.InvalidType) short is reads = absurd reads
+MayShow-no_packet strict input bytes (packet_errors.FailedParseChunk chunk_errors.InvalidPadding) short is reads = inl (packet short bytes is (Err (Chunk Padding)) reads refl)
+MayShow-no_packet strict input bytes (packet_errors.FailedParseChunk chunk_errors.InvalidValue) short is reads = inl (packet short bytes is (Err (Chunk Value)) reads refl)
+MayShow-no_packet strict input bytes (packet_errors.FailedParseChunk chunk_errors.OutOfMemory) short is reads = inr refl
 
 -- a packet and its text
-pub MayShow-packet : (input bytes : List ℕ) (p : SctpPacket) (text : List ℕ) → length input ≤ 200000 → decode_of (without_blanks input) ≡ Ok bytes
-    → Reads packet_view bytes 0 unverified (Ok p) → PacketText (packet_view p) text → MayShow input (text, 0)
-MayShow-packet input bytes p text short is reads told = inl (packet short bytes is (Ok (packet_view p)) reads (text, told, refl))
+pub MayShow-packet : (strict : Bool) (input bytes : List ℕ) (p : SctpPacket) (text : List ℕ) → length input ≤ 200000 → decode_of (without_blanks input) ≡ Ok bytes
+    → Reads packet_view bytes 0 (unverified strict) (Ok p) → PacketText (packet_view p) text → MayShow strict input (text, 0)
+MayShow-packet strict input bytes p text short is reads told = inl (packet short bytes is (Ok (packet_view p)) reads (text, told, refl))
 
 ---- from the first bytes to the input
 
@@ -65,29 +65,29 @@ all_taken : (input : List ℕ) → length (take 200001 input) ≤ 200000 → tak
 all_taken input short = take_all 200001 input (omega (arith, length-take 200001 input))
 
 -- what stands after the first 200,001 bytes changes nothing
-pub Shows-take : (input : List ℕ) (answer : List ℕ × ℕ) → Shows (take 200001 input) answer → Shows input answer
-Shows-take input answer (too_long long e) = too_long (omega (arith, length-take 200001 input)) e
-Shows-take input answer (not_hexadecimal short bad e) =
-    subst (λ i. Shows i answer) (all_taken input short) (not_hexadecimal short bad e)
-Shows-take input answer (packet short bytes is read answers told) =
-    subst (λ i. Shows i answer) (all_taken input short) (packet short bytes is read answers told)
+pub Shows-take : (strict : Bool) (input : List ℕ) (answer : List ℕ × ℕ) → Shows strict (take 200001 input) answer → Shows strict input answer
+Shows-take strict input answer (too_long long e) = too_long (omega (arith, length-take 200001 input)) e
+Shows-take strict input answer (not_hexadecimal short bad e) =
+    subst (λ i. Shows strict i answer) (all_taken input short) (not_hexadecimal short bad e)
+Shows-take strict input answer (packet short bytes is read answers told) =
+    subst (λ i. Shows strict i answer) (all_taken input short) (packet short bytes is read answers told)
 
-pub MayAnswer-shown : (failed : Bool) (known left : Option (List ℕ)) (bytes : List ℕ) (answer : List ℕ × ℕ)
+pub MayAnswer-shown : (strict : Bool) (failed : Bool) (known left : Option (List ℕ)) (bytes : List ℕ) (answer : List ℕ × ℕ)
     → (failed ≡ true → ⊥) → Consumes known left bytes → IfSome known (λ all. bytes ≡ take 200001 all) → length bytes ≤ 200001
-    → MayShow bytes answer → MayAnswer failed known left answer
-MayAnswer-shown true known left bytes answer works read first fits shown = absurd (works refl)
-MayAnswer-shown false known left bytes answer works read first fits (inr memory) = inl memory
-MayAnswer-shown false None left bytes answer works read first fits (inl shown) = inr (bytes, tt, tt, shown)
-MayAnswer-shown false (Some all) None bytes answer works read first fits (inl shown) = absurd read
-MayAnswer-shown false (Some all) (Some rest) bytes answer works read first fits (inl shown) =
-    inr (all, refl, read ∙ ap (λ l. l ++ rest) first, Shows-take all answer (subst (λ i. Shows i answer) first shown))
+    → MayShow strict bytes answer → MayAnswer strict failed known left answer
+MayAnswer-shown strict true known left bytes answer works read first fits shown = absurd (works refl)
+MayAnswer-shown strict false known left bytes answer works read first fits (inr memory) = inl memory
+MayAnswer-shown strict false None left bytes answer works read first fits (inl shown) = inr (bytes, tt, tt, shown)
+MayAnswer-shown strict false (Some all) None bytes answer works read first fits (inl shown) = absurd read
+MayAnswer-shown strict false (Some all) (Some rest) bytes answer works read first fits (inl shown) =
+    inr (all, refl, read ∙ ap (λ l. l ++ rest) first, Shows-take strict all answer (subst (λ i. Shows strict i answer) first shown))
 
 -- the input wasn't read: a read failed, or memory ran out
-pub MayAnswer-unread : (failed : Bool) (known left : Option (List ℕ)) (e : Failure) → ((e ≡ Read) ↔ (failed ≡ true))
-    → (e ≡ Read) ⊎ (e ≡ OutOfMemory) → MayAnswer failed known left (fault (line_of e))
-MayAnswer-unread true known left e reads one = ap (λ (f : Failure). fault (line_of f)) (reads.1 refl)
-MayAnswer-unread false known left e reads (inl read) = cc (reads.0 read)
-MayAnswer-unread false known left e reads (inr memory) = inl (ap (λ (f : Failure). fault (line_of f)) memory)
+pub MayAnswer-unread : (strict : Bool) (failed : Bool) (known left : Option (List ℕ)) (e : Failure) → ((e ≡ Read) ↔ (failed ≡ true))
+    → (e ≡ Read) ⊎ (e ≡ OutOfMemory) → MayAnswer strict failed known left (fault (line_of e))
+MayAnswer-unread strict true known left e reads one = ap (λ (f : Failure). fault (line_of f)) (reads.1 refl)
+MayAnswer-unread strict false known left e reads (inl read) = cc (reads.0 read)
+MayAnswer-unread strict false known left e reads (inr memory) = inl (ap (λ (f : Failure). fault (line_of f)) memory)
 
 ---- the line of a failed read
 
@@ -119,37 +119,37 @@ not_read_failed-told : (read : Result PacketTree PacketFault) (answer : List ℕ
 not_read_failed-told (Ok p) answer (text, told, e) h = zero_not_one 0 refl (along answer _ e h).1
 not_read_failed-told (Err fault) answer e h = not_read_failed-fault fault (along answer _ e h)
 
-not_read_failed-shown : (input : List ℕ) (answer : List ℕ × ℕ) → Shows input answer → IsReadFailed answer → ⊥
-not_read_failed-shown input answer (too_long long e) h = other_line _ 105 refl (differs 105 (lit< tt)) (along answer _ e h).0
-not_read_failed-shown input answer (not_hexadecimal short bad e) h = other_line _ 110 refl (differs 110 (lit< tt)) (along answer _ e h).0
-not_read_failed-shown input answer (packet short bytes is read answers told) h = not_read_failed-told read answer told h
+not_read_failed-shown : (strict : Bool) (input : List ℕ) (answer : List ℕ × ℕ) → Shows strict input answer → IsReadFailed answer → ⊥
+not_read_failed-shown strict input answer (too_long long e) h = other_line _ 105 refl (differs 105 (lit< tt)) (along answer _ e h).0
+not_read_failed-shown strict input answer (not_hexadecimal short bad e) h = other_line _ 110 refl (differs 110 (lit< tt)) (along answer _ e h).0
+not_read_failed-shown strict input answer (packet short bytes is read answers told) h = not_read_failed-told read answer told h
 
-not_read_failed : (known left : Option (List ℕ)) (answer : List ℕ × ℕ) → MayAnswer false known left answer → IsReadFailed answer → ⊥
-not_read_failed known left answer (inl e) h = other_line out_of_memory.0 111 refl (differs 111 (lit< tt)) (along answer _ e h).0
-not_read_failed known left answer (inr (input, all, read, shown)) h = not_read_failed-shown input answer shown h
+not_read_failed : (strict : Bool) (known left : Option (List ℕ)) (answer : List ℕ × ℕ) → MayAnswer strict false known left answer → IsReadFailed answer → ⊥
+not_read_failed strict known left answer (inl e) h = other_line out_of_memory.0 111 refl (differs 111 (lit< tt)) (along answer _ e h).0
+not_read_failed strict known left answer (inr (input, all, read, shown)) h = not_read_failed-shown strict input answer shown h
 
 same_bytes : (now is : List ℕ) → Some now ≡ Some is → now ≡ is
 same_bytes now is e = cc
 
 -- the line of a failed read alone, and status 1, come exactly where a read failed
-pub only_read_failed : (failed : Bool) (known left old new : Option (List ℕ)) (answer : List ℕ × ℕ) (status : ℕ)
-    → MayAnswer failed known left answer → status ≡ answer.1 → Appends old new answer.0
+pub only_read_failed : (strict : Bool) (failed : Bool) (known left old new : Option (List ℕ)) (answer : List ℕ × ℕ) (status : ℕ)
+    → MayAnswer strict failed known left answer → status ≡ answer.1 → Appends old new answer.0
     → IfSome old (λ held. ((status ≡ 1) × (new ≡ Some (held ++ read_failed.0))) ↔ (failed ≡ true))
-only_read_failed failed known left None new answer status may is grows = tt
-only_read_failed failed known left (Some held) None answer status may is grows = absurd grows
-only_read_failed true known left (Some held) (Some now) answer status may is grows =
+only_read_failed strict failed known left None new answer status may is grows = tt
+only_read_failed strict failed known left (Some held) None answer status may is grows = absurd grows
+only_read_failed strict true known left (Some held) (Some now) answer status may is grows =
     (λ _. refl, λ _. (is ∙ ap (λ (a : List ℕ × ℕ). a.1) may, ap (λ (l : List ℕ). Some l) (grows ∙ ap (λ (a : List ℕ × ℕ). held ++ a.0) may)))
-only_read_failed false known left (Some held) (Some now) answer status may is grows = (
-  λ alone. absurd (not_read_failed known left answer may (append_cancel_left held _ _ (sym grows ∙ same_bytes now _ alone.1), sym is ∙ alone.0)),
+only_read_failed strict false known left (Some held) (Some now) answer status may is grows = (
+  λ alone. absurd (not_read_failed strict known left answer may (append_cancel_left held _ _ (sym grows ∙ same_bytes now _ alone.1), sym is ∙ alone.0)),
   λ e. cc,
 )
 
 -- where no device failed, the input's answer was written, or that memory ran out
-pub writes_shown : (failed : Bool) (known left old new : Option (List ℕ)) (status : ℕ) → failed ≡ false
-    → (answer : List ℕ × ℕ) → MayAnswer failed known left answer → Writes answer status old new
-    → IfSome known (λ all. (answer : List ℕ × ℕ) × MayShow all answer × Writes answer status old new)
-writes_shown failed None left old new status works answer may writes = tt
-writes_shown true (Some all) left old new status works answer may writes = cc
-writes_shown false (Some all) left old new status works answer (inl memory) writes = (answer, inr memory, writes)
-writes_shown false (Some all) left old new status works answer (inr (input, is, read, shown)) writes =
-    (answer, inl (subst (λ i. Shows i answer) is shown), writes)
+pub writes_shown : (strict : Bool) (failed : Bool) (known left old new : Option (List ℕ)) (status : ℕ) → failed ≡ false
+    → (answer : List ℕ × ℕ) → MayAnswer strict failed known left answer → Writes answer status old new
+    → IfSome known (λ all. (answer : List ℕ × ℕ) × MayShow strict all answer × Writes answer status old new)
+writes_shown strict failed None left old new status works answer may writes = tt
+writes_shown strict true (Some all) left old new status works answer may writes = cc
+writes_shown strict false (Some all) left old new status works answer (inl memory) writes = (answer, inr memory, writes)
+writes_shown strict false (Some all) left old new status works answer (inr (input, is, read, shown)) writes =
+    (answer, inl (subst (λ i. Shows strict i answer) is shown), writes)

@@ -1,5 +1,5 @@
 -- What the program answers an input with: a text and a status.
-use Rattle.std.specs.Prelude.{◌≡◌, ◌≤◌, ◌<◌, ◌⊎◌, ℕ, ◌||◌, ◌==◌, Bool, true, false, not, List, ◌++◌, length, take, codes, Option, Result, Ok, Err, IsErr, IfSome}
+use Rattle.std.specs.Prelude.{◌≡◌, ◌↔◌, ◌≤◌, ◌<◌, ◌⊎◌, ℕ, ◌||◌, ◌==◌, Bool, true, false, not, List, ◌++◌, length, take, codes, Option, Some, Result, Ok, Err, IsErr, IfSome}
 use Rattle.std.specs.List.{filter, flat_map}
 use Rattle.std.specs.Fmt.{decimal}
 use Rattle.std.specs.Io.{StartsWith}
@@ -63,30 +63,31 @@ is_blank byte = byte == 32 || byte == 9 || byte == 13 || byte == 10
 abbrev pub without_blanks : List ℕ → List ℕ
 without_blanks text = filter (λ byte. not (is_blank byte)) text
 
--- the policy under which any checksum is accepted
-abbrev pub unverified : ChecksumPolicy
-unverified = record {
+-- the policy under which any checksum is accepted, and which looks at padding where it is strict
+abbrev pub unverified : Bool → ChecksumPolicy
+unverified strict = record {
   disable_checksum_verification = true;
   zero_checksum_alternate_error_detection_method = record { 0 = 0 };
+  strict_padding = strict;
 }
 
 -- the input is answered with this text and status, where no device fails and memory lasts: the
 -- first of the rules that applies decides
-pub data Shows (input : List ℕ) (answer : List ℕ × ℕ) : Type 0 where
+pub data Shows (strict : Bool) (input : List ℕ) (answer : List ℕ × ℕ) : Type 0 where
   too_long : 200000 < length input → answer ≡ fault (codes "error: input too long\n")
-      → Shows input answer
+      → Shows strict input answer
   not_hexadecimal : length input ≤ 200000 → IsErr (decode_of (without_blanks input))
-      → answer ≡ fault (codes "error: not hexadecimal\n") → Shows input answer
+      → answer ≡ fault (codes "error: not hexadecimal\n") → Shows strict input answer
   packet : length input ≤ 200000 → (bytes : List ℕ) → decode_of (without_blanks input) ≡ Ok bytes
-      → (read : Result PacketTree PacketFault) → Answer bytes 0 unverified read → Tells read answer
-      → Shows input answer
+      → (read : Result PacketTree PacketFault) → Answer bytes 0 (unverified strict) read
+      → Tells read answer → Shows strict input answer
 
 abbrev pub out_of_memory : List ℕ × ℕ
 out_of_memory = fault (codes "error: out of memory\n")
 
 -- the input's answer, or that memory ran out
-abbrev pub MayShow : List ℕ → List ℕ × ℕ → Type 0
-MayShow input answer = Shows input answer ⊎ (answer ≡ out_of_memory)
+abbrev pub MayShow : Bool → List ℕ → List ℕ × ℕ → Type 0
+MayShow strict input answer = Shows strict input answer ⊎ (answer ≡ out_of_memory)
 
 ---- the answer of a run
 
@@ -96,12 +97,12 @@ read_failed = fault (codes "error: read failed\n")
 -- the answer that a run may have: that of a failed read where one failed, and else that of no
 -- memory, or that to the input, which is all that the reader had, where that is known, and of
 -- which it gave the first 200,001 bytes
-abbrev pub MayAnswer : Bool → Option (List ℕ) → Option (List ℕ) → List ℕ × ℕ → Type 0
-MayAnswer true known left answer = answer ≡ read_failed
-MayAnswer false known left answer =
+abbrev pub MayAnswer : Bool → Bool → Option (List ℕ) → Option (List ℕ) → List ℕ × ℕ → Type 0
+MayAnswer strict true known left answer = answer ≡ read_failed
+MayAnswer strict false known left answer =
     (answer ≡ out_of_memory)
     ⊎ ((input : List ℕ) × IfSome known (λ all. input ≡ all)
-    × Consumes known left (take 200001 input) × Shows input answer)
+    × Consumes known left (take 200001 input) × Shows strict input answer)
 
 -- at most `most` bytes were taken from the reader
 abbrev pub TakesAtMost : ℕ → Option (List ℕ) → Option (List ℕ) → Type 0
@@ -115,3 +116,35 @@ Writes answer status old new = (status ≡ answer.1) × Appends old new answer.0
 abbrev pub WritesBeginning : List ℕ × ℕ → ℕ → Option (List ℕ) → Option (List ℕ) → Type 0
 WritesBeginning answer status old new =
     (status ≡ 2) × (written : List ℕ) × StartsWith answer.0 written × Appends old new written
+
+-- a device before and after a run: whether it had failed, and what is known of its bytes
+pub record Change : Type 0 where
+  pub began_failed : Bool
+  pub failed : Bool
+  pub old : Option (List ℕ)
+  pub new : Option (List ℕ)
+
+-- what a run did, of either program: to its reader, its writer, and its status
+pub record Runs (strict : Bool) (input output : Change) (result : ℕ) : Type 0 where
+  -- The input is read once, from its front on, and no further than tells that it is too long.
+  pub at_most : TakesAtMost 200001 input.old input.new
+  -- Where no device fails, the output and the status are those of the input, or memory ran out.
+  pub shown : input.began_failed ≡ false → output.began_failed ≡ false → input.failed ≡ false
+      → output.failed ≡ false → IfSome input.old (λ all. (answer : List ℕ × ℕ)
+      × MayShow strict all answer × Writes answer result output.old output.new)
+  -- An input has no two answers.
+  pub one_answer : (all : List ℕ) (a b : List ℕ × ℕ) → Shows strict all a → Shows strict all b
+      → a ≡ b
+  -- A failed read is told by its line alone, and no other run has that line alone and status 1.
+  pub read_failed : input.began_failed ≡ false → output.began_failed ≡ false
+      → output.failed ≡ false → IfSome output.old (λ held. ((result ≡ 1)
+      × (output.new ≡ Some (held ++ codes "error: read failed\n"))) ↔ (input.failed ≡ true))
+  -- Status 2 tells that the output failed: what was written is then a beginning of an answer that
+  -- the run could have had, and else the whole of one.
+  pub status : output.began_failed ≡ false → (result ≡ 2) ↔ (output.failed ≡ true)
+  pub whole : input.began_failed ≡ false → output.began_failed ≡ false → output.failed ≡ false
+      → (answer : List ℕ × ℕ) × MayAnswer strict input.failed input.old input.new answer
+      × Writes answer result output.old output.new
+  pub cut : input.began_failed ≡ false → output.began_failed ≡ false → output.failed ≡ true
+      → (answer : List ℕ × ℕ) × MayAnswer strict input.failed input.old input.new answer
+      × WritesBeginning answer result output.old output.new

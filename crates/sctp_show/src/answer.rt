@@ -14,9 +14,10 @@ use std::alloc::Global;
 /// An input of more bytes is too long.
 pub const MOST_BYTES: usize = 200_000;
 
-/// The text of the packet that the input says in hexadecimal, or why it says none.
-pub fn answer_to(alloc: Global, input: Vec<u8>) -> Result<String, Failure>
-    ensures { MayShow input.items (reply_of result) }
+/// The text of the packet that the input says in hexadecimal, or why it says none. Padding is looked
+/// at where it is strict.
+pub fn answer_to(alloc: Global, strict: bool, input: Vec<u8>) -> Result<String, Failure>
+    ensures { MayShow strict input.items (reply_of result) }
 {
     if input.len() > MOST_BYTES {
         return Err(Failure::TooLong);
@@ -25,6 +26,7 @@ pub fn answer_to(alloc: Global, input: Vec<u8>) -> Result<String, Failure>
     let policy = ChecksumPolicy {
         disable_checksum_verification: true,
         zero_checksum_alternate_error_detection_method: ZERO_CHECKSUM_ALTERNATE_ERROR_DETECTION_METHOD_NONE,
+        strict_padding: strict,
     };
     let packet = SctpPacket::from_bytes(alloc, &bytes, 0, &policy)?;
     Ok(text_of(alloc, &packet)?)

@@ -1,8 +1,9 @@
 //! The program over a reader and a writer, either of which may fail.
-ghost use Rattle.std.specs.Prelude.{◌≡◌, ◌||◌, ◌⊎◌, ◌↔◌, ℕ, ◌<◌, ◌≤◌, List, ◌++◌, true, false, Some, codes, is_err, take, length, IfOk, IfErr, IfSome, OnErr};
+ghost use Rattle.std.specs.Prelude.{◌≡◌, ◌||◌, ◌⊎◌, ◌↔◌, ◌<◌, ◌≤◌, true, false, is_err, take, length, IfOk, IfErr, IfSome, OnErr};
 ghost use Rattle.std.specs.Io.KnownBytes.{Consumes, IsAtEnd};
-ghost use Rattle.sctp_show.specs.Watched.{device_of, has_failed, is_flushed};
-ghost use Rattle.sctp_show.specs.Show.{TakesAtMost, MayAnswer, MayShow, Shows, Writes, WritesBeginning};
+ghost use Rattle.dcsctp_wire.specs.Frame.{lenient};
+ghost use Rattle.sctp_show.specs.Watched.{device_of, has_failed, change};
+ghost use Rattle.sctp_show.specs.Show.{TakesAtMost, MayAnswer, Writes, WritesBeginning, Runs};
 ghost use Rattle.sctp_show.specs.Reply.{reply_of};
 
 use crate::answer::{MOST_BYTES, answer_to};
@@ -16,65 +17,52 @@ use std::io::{Read, Write};
 const MOST_READ: usize = MOST_BYTES + 1;
 
 /// Reads the input, writes its answer, and answers the status: 0 for a packet, 1 for a fault, and
-/// 2 where the output failed. Of a device that had failed before it tells no more than `at_most`.
+/// 2 where the output failed. Of a device that had failed before it tells no more than that at most
+/// 200,001 bytes were read. Padding isn't looked at.
 pub fn show<R: Read, W: Write>(alloc: Global, input: &mut Watched<R>, output: &mut Watched<W>) -> u8
-    // The input is read once, from its front on, and no further than tells that it is too long.
-    ensures at_most { TakesAtMost 200001 (R.remaining (device_of input.old))
-        (R.remaining (device_of input.new)) }
-
-    // Where no device fails, the output and the status are those of the input, or memory ran out.
-    ensures shown { has_failed input.old ≡ false → has_failed output.old ≡ false
-        → has_failed input.new ≡ false → has_failed output.new ≡ false
-        → IfSome (R.remaining (device_of input.old))
-        (λ all. (answer : List ℕ × ℕ) × MayShow all answer
-        × Writes answer result (W.contents (device_of output.old))
-        (W.contents (device_of output.new))) }
-
-    // Each input has an answer, and no input has two.
-    ensures some_answer { (all : List ℕ) → (answer : List ℕ × ℕ) × Shows all answer }
-    ensures one_answer { (all : List ℕ) (a b : List ℕ × ℕ) → Shows all a → Shows all b → a ≡ b }
-
-    // A failed read is told by its line alone, and no other run has that line alone and status 1.
-    ensures read_failed { has_failed input.old ≡ false → has_failed output.old ≡ false
-        → has_failed output.new ≡ false → IfSome (W.contents (device_of output.old))
-        (λ held. ((result ≡ 1)
-        × (W.contents (device_of output.new) ≡ Some (held ++ codes "error: read failed\n")))
-        ↔ (has_failed input.new ≡ true)) }
-
-    // Status 2 tells that the output failed: what was written is then a beginning of an answer that
-    // the run could have had, and else the whole of one.
-    ensures status { has_failed output.old ≡ false
-        → (result ≡ 2) ↔ (has_failed output.new ≡ true) }
-    ensures whole { has_failed input.old ≡ false → has_failed output.old ≡ false
-        → has_failed output.new ≡ false → (answer : List ℕ × ℕ)
-        × MayAnswer (has_failed input.new) (R.remaining (device_of input.old))
-        (R.remaining (device_of input.new)) answer
-        × Writes answer result (W.contents (device_of output.old))
-        (W.contents (device_of output.new)) }
-    ensures cut { has_failed input.old ≡ false → has_failed output.old ≡ false
-        → has_failed output.new ≡ true → (answer : List ℕ × ℕ)
-        × MayAnswer (has_failed input.new) (R.remaining (device_of input.old))
-        (R.remaining (device_of input.new)) answer
-        × WritesBeginning answer result (W.contents (device_of output.old))
-        (W.contents (device_of output.new)) }
-
-    // What was written is flushed.
-    ensures flushed { has_failed output.new ≡ false → is_flushed output.new ≡ true }
+    ensures { Runs lenient (change R.remaining input.old input.new)
+        (change W.contents output.old output.new) result }
 {
-    let reply = reply_to(alloc, input);
+    run(alloc, false, input, output)
+}
+
+/// The same under a strict policy: padding that isn't zero, or that the last chunk lacks, is a
+/// fault.
+pub fn show_strict<R: Read, W: Write>(
+    alloc: Global,
+    input: &mut Watched<R>,
+    output: &mut Watched<W>,
+) -> u8
+    ensures { Runs true (change R.remaining input.old input.new)
+        (change W.contents output.old output.new) result }
+{
+    run(alloc, true, input, output)
+}
+
+/// Both, as the policy says.
+fn run<R: Read, W: Write>(
+    alloc: Global,
+    strict: bool,
+    input: &mut Watched<R>,
+    output: &mut Watched<W>,
+) -> u8
+    ensures { Runs strict (change R.remaining input.old input.new)
+        (change W.contents output.old output.new) result }
+{
+    let reply = reply_to(alloc, strict, input);
     tell(output, &reply)
 }
 
 /// What the input is answered with, or why it is not.
-fn reply_to<R: Read>(alloc: Global, input: &mut Watched<R>) -> Result<String, Failure>
+fn reply_to<R: Read>(alloc: Global, strict: bool, input: &mut Watched<R>) -> Result<String, Failure>
     ensures at_most { TakesAtMost 200001 (R.remaining (device_of input.old))
         (R.remaining (device_of input.new)) }
     ensures reply { has_failed input.old ≡ false
-        → MayAnswer (has_failed input.new) (R.remaining (device_of input.old))
+        → MayAnswer strict (has_failed input.new) (R.remaining (device_of input.old))
         (R.remaining (device_of input.new)) (reply_of result) }
 {
     let bytes = read_input(alloc, input)?;
-    answer_to(alloc, bytes)
+    answer_to(alloc, strict, bytes)
 }
 
 /// The input up to its end, or its first bytes.
@@ -131,7 +119,6 @@ fn tell<W: Write>(output: &mut Watched<W>, reply: &Result<String, Failure>) -> u
     ensures cut { has_failed output.old ≡ false → has_failed output.new ≡ true
         → WritesBeginning (reply_of reply.now) result
         (W.contents (device_of output.old)) (W.contents (device_of output.new)) }
-    ensures flushed { has_failed output.new ≡ false → is_flushed output.new ≡ true }
 {
     match reply {
         Ok(text) => print(output, text.as_bytes(), 0),
@@ -149,7 +136,6 @@ fn print<W: Write>(output: &mut Watched<W>, text: &[u8], status: u8) -> u8
     ensures cut { has_failed output.old ≡ false → has_failed output.new ≡ true
         → WritesBeginning (text.now, status) result
         (W.contents (device_of output.old)) (W.contents (device_of output.new)) }
-    ensures flushed { has_failed output.new ≡ false → is_flushed output.new ≡ true }
 {
     let mut written = 0;
     while written < text.len() {

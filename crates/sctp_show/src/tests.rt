@@ -7,9 +7,10 @@ mod devices;
 mod original;
 mod pasted;
 mod sizes;
+mod strict;
 
 use crate::captured::show_captured;
-use crate::engine::show;
+use crate::engine::{show, show_strict};
 use crate::watched::Watched;
 use std::alloc::Global;
 use std::io;
@@ -172,6 +173,19 @@ fn run(alloc: Global, text: &[u8], reads: Plan, wanted: &str, writes: Plan) -> O
     let mut input = Watched::new(make_source(text, reads));
     let mut output = Watched::new(make_sink(wanted.as_bytes(), writes));
     let status = show(alloc, &mut input, &mut output);
+    outcome_of(status, input, output)
+}
+
+/// The same, and it looks at padding.
+fn run_strict(alloc: Global, text: &[u8], wanted: &str) -> Outcome {
+    let mut input = Watched::new(make_source(text, steps(7)));
+    let mut output = Watched::new(make_sink(wanted.as_bytes(), steps(7)));
+    let status = show_strict(alloc, &mut input, &mut output);
+    outcome_of(status, input, output)
+}
+
+/// What is known of the devices after a run.
+fn outcome_of(status: u8, input: Watched<Source<'_>>, output: Watched<Sink<'_>>) -> Outcome {
     let input_failed = input.failed();
     let output_failed = output.failed();
     let source = input.into_device();
@@ -187,6 +201,17 @@ fn run(alloc: Global, text: &[u8], reads: Plan, wanted: &str, writes: Plan) -> O
         written: sink.taken,
         as_wanted: sink.as_wanted,
     }
+}
+
+/// Whether the text is answered so where padding is looked at.
+fn is_answered_strictly(alloc: Global, text: &str, (wanted, status): (&str, u8)) -> bool {
+    let outcome = run_strict(alloc, text.as_bytes(), wanted);
+    outcome.status == status
+        && outcome.as_wanted
+        && outcome.written == wanted.len()
+        && outcome.given == text.len()
+        && !outcome.input_failed
+        && !outcome.output_failed
 }
 
 /// Whether so many bytes of the text are read, in steps, and it is answered so, with one flush.
@@ -208,8 +233,6 @@ fn is_answered(
 
 /// Runs the program over bytes in memory: the status, and whether these bytes are written.
 fn captured(alloc: Global, text: &str, wanted: &str) -> (u8, bool) {
-    match show_captured(alloc, text.as_bytes()) {
-        Ok(run) => (run.status, run.bytes.as_slice() == wanted.as_bytes()),
-        Err(_) => (2, false),
-    }
+    let run = show_captured(alloc, text.as_bytes());
+    (run.status, run.bytes.as_slice() == wanted.as_bytes())
 }

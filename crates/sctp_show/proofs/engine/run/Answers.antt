@@ -1,0 +1,17 @@
+use Rattle.sctp_show.proofs.ShowLemmas.{only_read_failed, writes_shown}
+use Rattle.sctp_show.proofs.OneAnswer.{Shows-one}
+use Rattle.sctp_show.proofs.engine.run.Goals as goal
+
+pub returns : goal.returns
+returns g c = record {
+  at_most = c.reply_to-reply.ensures.at_most;
+  shown = λ began opened read works.
+      writes_shown c.args.strict _ _ _ _ _ _ read _ (c.reply_to-reply.ensures.reply began) (c.tell.ensures.whole works);
+  one_answer = Shows-one c.args.strict;
+  read_failed = λ began opened works.
+      (let told = c.tell.ensures.whole works in
+      only_read_failed c.args.strict _ _ _ _ _ _ _ (c.reply_to-reply.ensures.reply began) told.0 told.1);
+  status = c.tell.ensures.status;
+  whole = λ began opened works. (_, c.reply_to-reply.ensures.reply began, c.tell.ensures.whole works);
+  cut = λ began opened failed. (_, c.reply_to-reply.ensures.reply began, c.tell.ensures.cut opened failed);
+}
