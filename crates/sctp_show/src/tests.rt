@@ -4,6 +4,7 @@ ghost use Rattle.std.specs.Prelude.{◌≡◌, IfOk};
 
 mod answers;
 mod devices;
+mod memory;
 mod original;
 mod pasted;
 mod sizes;
@@ -22,6 +23,12 @@ const SACK: &str =
 
 const SACK_TEXT: &str =
     "source=5000 destination=5000 tag=16909060 checksum=0\nSACK, cum_ack_tsn=916312075, a_rwnd=126323\ncanonical=1388138801020304000000000300001c369dd00b0001ed73000200010002000600080008369dd011\n";
+
+/// A packet with one chunk, with blanks between its fields and digits of both cases.
+const SMALL: &str = "1388 1388 01020304 00000000 0B000004";
+
+const SMALL_TEXT: &str =
+    "source=5000 destination=5000 tag=16909060 checksum=0\nCOOKIE-ACK\ncanonical=1388138801020304000000000b000004\n";
 
 const READ_FAILED: &str = "error: read failed\n";
 

@@ -1,9 +1,8 @@
 //! Devices that give out at each of their calls, and what is told of them.
 
-use crate::engine::show;
 use crate::tests::{
-    Fault, INTERRUPTED, Plan, READ_FAILED, SACK, SACK_TEXT, fails, make_sink, make_source, run,
-    steps,
+    Fault, INTERRUPTED, Plan, READ_FAILED, SACK, SACK_TEXT, SMALL, SMALL_TEXT, fails, make_sink,
+    make_source, run, steps,
 };
 use crate::watched::Watched;
 use std::alloc::Global;
@@ -16,6 +15,9 @@ const READS: &[(&str, usize, usize)] = &[
     (SACK, 7, 1000),
     // All bytes at once: the second read finds the end.
     (SACK, 80, 1000),
+    (SMALL, 1, 1),
+    (SMALL, 5, 1000),
+    (SMALL, 36, 1000),
 ];
 
 /// Whether a read that fails at this call is told by its line alone, and no call follows.
@@ -110,6 +112,9 @@ const WRITES: &[(&str, Plan, &str, usize)] = &[
     (SACK, NINE, SACK_TEXT, 1),
     (SACK, NINE, SACK_TEXT, 10),
     (SACK, NINE, SACK_TEXT, 1000),
+    (SMALL, NINE, SMALL_TEXT, 1),
+    (SMALL, NINE, SMALL_TEXT, 10),
+    (SMALL, NINE, SMALL_TEXT, 1000),
     ("138", NINE, "error: not hexadecimal\n", 1),
     ("138", NINE, "error: not hexadecimal\n", 10),
     ("138", NINE, "error: not hexadecimal\n", 1000),
@@ -186,6 +191,39 @@ fn untold_write(alloc: Global, fault: Fault) -> Option<(usize, usize)> {
         }
     }
     None
+}
+
+// A run of one packet, with what is written and the status, as these devices have it.
+#[test]
+fn small_packet(rt: HostRuntime) {
+    let rows = [
+        // the writer takes ten bytes, and then fails
+        (steps(36), fails(10, 2, BROKEN_PIPE), "source=500", 2),
+        // it takes one byte a call
+        (steps(36), steps(1), SMALL_TEXT, 0),
+        // it takes none at once
+        (steps(36), fails(1000, 1, Fault::Nothing), "", 2),
+        // it takes all, and its flush fails
+        (steps(36), fails(1000, 2, BROKEN_PIPE), SMALL_TEXT, 2),
+        // the reader gives one byte a call
+        (steps(1), steps(1000), SMALL_TEXT, 0),
+        (steps(1), steps(1), SMALL_TEXT, 0),
+        // it fails after five bytes
+        (fails(5, 2, BROKEN_PIPE), steps(1000), READ_FAILED, 1),
+        (fails(1, 6, BROKEN_PIPE), steps(1), READ_FAILED, 1),
+        // the reader fails, and then the writer
+        (
+            fails(5, 2, BROKEN_PIPE),
+            fails(7, 2, BROKEN_PIPE),
+            "error: ",
+            2,
+        ),
+    ];
+    for (i, (reads, writes, wanted, status)) in rows.iter().enumerate() {
+        let outcome = run(rt.alloc(), SMALL.as_bytes(), *reads, wanted, *writes);
+        let told = (outcome.status, outcome.as_wanted, outcome.written);
+        assert_eq!(rt; told, (*status, true, wanted.len()), "row {i}");
+    }
 }
 
 #[test]
@@ -269,30 +307,4 @@ fn watched(rt: HostRuntime) {
         (Some(2), true),
     ];
     assert_eq!(rt; watched_writes(), (writes, (true, true), (4, true)));
-}
-
-/// Whether this text is answered with these bytes, or else with the line of no memory.
-fn is_answered_or_no_memory(alloc: Global, text: &[u8], wanted: &[u8]) -> bool {
-    // Room for either, so that no write runs out of memory.
-    let Ok(room) = Vec::with_capacity(alloc, 4096) else {
-        return false;
-    };
-    let mut input = Watched::new(make_source(text, NINE));
-    let mut output = Watched::new(room);
-    let status = show(alloc, &mut input, &mut output);
-    let bytes = output.into_device();
-    match status {
-        0 => bytes.as_slice() == wanted,
-        1 => bytes.as_slice() == b"error: out of memory\n".as_slice(),
-        _ => false,
-    }
-}
-
-// Either the whole answer or the line of no memory, whichever allocation fails.
-#[test]
-fn memory(rt: HostRuntime) {
-    let text = b"0000000000000000 00000000 0B000004";
-    let wanted =
-        b"source=0 destination=0 tag=0 checksum=0\nCOOKIE-ACK\ncanonical=0000000000000000000000000b000004\n";
-    assert!(rt; is_answered_or_no_memory(rt.alloc(), text, wanted));
 }
