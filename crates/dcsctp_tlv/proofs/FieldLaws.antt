@@ -1,21 +1,41 @@
 -- Fields of one size in a row read back: written one after the other, they are read one after the other.
-use Rattle.std.proofs.Common.{◌≡◌, ℕ, zero, suc, ◌^◌, ◌<◌, List, [], ◌∷◌, ◌++◌, length, drop, refl, ap, ◌∙◌, append_assoc}
+use Rattle.std.proofs.Common.{◌≡◌, ℕ, zero, suc, ◌+◌, ◌*◌, ◌^◌, ◌<◌, List, [], ◌∷◌, ◌++◌, length, drop, refl, sym, ap, ◌∙◌, append_assoc, add-one, arith}
+use Rattle.std.specs.Prelude.{map}
 use Rattle.std.specs.Int.{w16, w32, to_be_bytes}
-use Rattle.std.specs.List.{flat_map, AllByRecursion}
-use Rattle.std.proofs.lemmas.List.{append-nil, drop_at}
+use Rattle.std.specs.List.{flat_map, AllByRecursion, range_with_len}
+use Rattle.std.proofs.lemmas.List.{append-nil, drop_at, drop-drop}
+use Rattle.std.proofs.lemmas.List.FromFn.{length-map-range_with_len}
+use native.Mathlib.Nat.{mul-zero, mul-suc}
 use Rattle.std.proofs.lemmas.Nat.{from_be_bytes-to_be_bytes_2, from_be_bytes-to_be_bytes_4}
 use Rattle.dcsctp_tlv.specs.Number.{number16, number32, numbers}
 use Rattle.dcsctp_tlv.specs.Fields.{fields}
 
--- so many are read
+-- `count` are read
 pub length-fields : {A : Type 0} (read : List ℕ → A) (size count : ℕ) (bytes : List ℕ) → length (fields read size count bytes) ≡ count
-length-fields read size zero bytes = refl
-length-fields read size (suc count) bytes = ap suc (length-fields read size count (drop size bytes))
+length-fields read size count bytes = length-map-range_with_len (λ i. read (drop (size * i) bytes)) 0 count
+
+each_read : {A : Type 0} (f : ℕ → A) (P : A → Type 0) → ((i : ℕ) → P (f i)) → (ns : List ℕ) → AllByRecursion P (map f ns)
+each_read f P each [] = tt
+each_read f P each (n ∷ ns) = (each n, each_read f P each ns)
 
 -- what holds of whatever is read holds of each of them
 pub fields_each : {A : Type 0} (read : List ℕ → A) (size : ℕ) (P : A → Type 0) → ((bytes : List ℕ) → P (read bytes)) → (count : ℕ) (bytes : List ℕ) → AllByRecursion P (fields read size count bytes)
-fields_each read size P each zero bytes = tt
-fields_each read size P each (suc count) bytes = (each bytes, fields_each read size P each count (drop size bytes))
+fields_each read size P each count bytes = each_read (λ i. read (drop (size * i) bytes)) P (λ i. each (drop (size * i) bytes)) (range_with_len 0 count)
+
+later : {A : Type 0} (read : List ℕ → A) (size : ℕ) (bytes : List ℕ) (a n : ℕ)
+    → map (λ i. read (drop (size * i) bytes)) (range_with_len (a + 1) n) ≡ map (λ i. read (drop (size * i) (drop size bytes))) (range_with_len a n)
+later read size bytes a zero = refl
+later read size bytes a (suc n) =
+    let at : size + size * a ≡ size * (a + 1) = omega (arith, mul-suc size a, ap (λ (k : ℕ). size * k) (add-one a)) in
+    let same : read (drop (size * (a + 1)) bytes) ≡ read (drop (size * a) (drop size bytes)) = ap read (sym (drop-drop (size * a) size bytes ∙ ap (λ (k : ℕ). drop k bytes) at)) in
+    ap (λ (x : _). x ∷ map (λ i. read (drop (size * i) bytes)) (range_with_len (a + 1 + 1) n)) same
+    ∙ ap (λ (xs : List _). read (drop (size * a) (drop size bytes)) ∷ xs) (later read size bytes (a + 1) n)
+
+-- the first, and those after it
+fields-first : {A : Type 0} (read : List ℕ → A) (size n : ℕ) (bytes : List ℕ) → fields read size (suc n) bytes ≡ read bytes ∷ fields read size n (drop size bytes)
+fields-first read size n bytes =
+    ap (λ (k : ℕ). read (drop k bytes) ∷ map (λ i. read (drop (size * i) bytes)) (range_with_len 1 n)) (mul-zero size)
+    ∙ ap (λ (xs : List _). read bytes ∷ xs) (later read size bytes 0 n)
 
 -- one field that can be written: it has its size, and is read again, whatever follows
 pub record FieldLaw {A : Type 0} (read : List ℕ → A) (write : A → List ℕ) (size : ℕ) (IsWritable : A → Type 0) : Type 0 where
@@ -28,7 +48,8 @@ fields_back read write size IsWritable law [] rest h = refl
 fields_back read write size IsWritable law (x ∷ xs) rest h =
     let after : List ℕ = flat_map write xs ++ rest in
     let e : flat_map write (x ∷ xs) ++ rest ≡ write x ++ after = append_assoc (write x) (flat_map write xs) rest in
-    ap (λ (bytes : List ℕ). read bytes ∷ fields read size (length xs) (drop size bytes)) e
+    fields-first read size (length xs) (flat_map write (x ∷ xs) ++ rest)
+    ∙ ap (λ (bytes : List ℕ). read bytes ∷ fields read size (length xs) (drop size bytes)) e
     ∙ ap (λ (y : _). y ∷ fields read size (length xs) (drop size (write x ++ after))) (law.back x after h.0)
     ∙ ap (λ (bytes : List ℕ). x ∷ fields read size (length xs) bytes) (drop_at (write x) after size (law.sized x h.0))
     ∙ ap (λ (ys : List _). x ∷ ys) (fields_back read write size IsWritable law xs rest h.1)

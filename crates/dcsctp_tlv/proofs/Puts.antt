@@ -5,6 +5,7 @@ use Rattle.std.specs.Int.{w32}
 use Rattle.std.specs.List.{flat_map, AllByRecursion}
 use Rattle.std.proofs.lemmas.List.{append-nil, length-append, length-take, take_more, take_at, drop_at, drop-drop, length-drop, length-map}
 use Rattle.std.proofs.lemmas.List.Elements.{recursion_from_All}
+use Rattle.std.proofs.lemmas.List.FromFn.{map-range_with_len_more}
 use Rattle.std.proofs.lemmas.List.Concat.{flat_map-append}
 use Rattle.std.proofs.lemmas.List.Folds.{flat_map-map}
 use native.Mathlib.Nat.{mul-zero, mul-suc}
@@ -28,16 +29,9 @@ next_place size i = omega (arith, mul-suc size i, ap (λ (n : ℕ). size * n) (a
 
 -- ---- reading
 
-fields-suc : {A : Type 0} (read : List ℕ → A) (size count : ℕ) (bytes : List ℕ) → fields read size (suc count) bytes ≡ fields read size count bytes ++ read (drop (size * count) bytes) ∷ []
-fields-suc read size zero bytes = rw (mul-zero size) refl
-fields-suc read size (suc count) bytes =
-    let at : size + size * count ≡ size * suc count = omega (arith, mul-suc size count) in
-    ap (λ (xs : List _). read bytes ∷ xs) (fields-suc read size count (drop size bytes)
-    ∙ ap (λ (xs : List ℕ). fields read size count (drop size bytes) ++ read xs ∷ []) (drop-drop (size * count) size bytes ∙ ap (λ (k : ℕ). drop k bytes) at))
-
 -- one field more
 pub fields-push : {A : Type 0} (read : List ℕ → A) (size count : ℕ) (bytes : List ℕ) → fields read size (count + 1) bytes ≡ fields read size count bytes ++ read (drop (size * count) bytes) ∷ []
-fields-push read size count bytes = ap (λ (k : ℕ). fields read size k bytes) (add-one count) ∙ fields-suc read size count bytes
+fields-push read size count bytes = map-range_with_len_more (λ i. read (drop (size * i) bytes)) 0 count count (omega arith)
 
 -- ---- writing
 

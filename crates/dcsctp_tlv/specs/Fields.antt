@@ -1,17 +1,16 @@
 -- Fields of one size in a row, as gap ack blocks and TSNs (RFC 9260 section 3.3.4), stream ids
 -- (RFC 6525 section 4) or skipped streams (RFC 3758 section 3.2) lie in a value.
-use Rattle.std.specs.Prelude.{ℕ, zero, suc, ◌+◌, ◌*◌, ◌/◌, ◌%◌, List, [], ◌∷◌, ◌++◌, length, drop, map}
+use Rattle.std.specs.Prelude.{ℕ, ◌+◌, ◌*◌, ◌/◌, ◌%◌, List, ◌++◌, length, drop, map}
 use Rattle.std.specs.Int.{w32}
-use Rattle.std.specs.List.{flat_map}
+use Rattle.std.specs.List.{flat_map, range_with_len}
 use Rattle.dcsctp_tlv.specs.Format.{flagged_tlv}
 use Rattle.dcsctp_tlv.specs.Image.{Tlv}
 use Rattle.dcsctp_tlv.specs.Number.{numbers}
 use Rattle.dcsctp_types.specs.declared.api.stream_id.StreamId.{StreamId}
 
--- `count` fields of a size, each read from its place on
+-- `count` fields of a size: field i is read where i such fields end
 abbrev pub fields : {A : Type 0} → (List ℕ → A) → ℕ → ℕ → List ℕ → List A
-fields read size zero bytes = []
-fields read size (suc count) bytes = read bytes ∷ fields read size count (drop size bytes)
+fields read size count bytes = map (λ i. read (drop (size * i) bytes)) (range_with_len 0 count)
 
 -- an item with numbers of four bytes in its value, and after them fields of a size
 abbrev pub numbers_and_fields_tlv
