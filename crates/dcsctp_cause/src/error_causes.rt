@@ -79,10 +79,26 @@ impl ErrorCause {
             ((cause.row raw.entry.typ).faults raw.entry.value.now) }
         ensures memory { IsErrOf result ChunkParseError.OutOfMemory →
             HasMeaning (cause.row raw.entry.typ) raw.entry.value.now }
+        ensures exact { ReadsExactly result view
+            ((cause.row raw.entry.typ).means raw.entry.value.now)
+            ((cause.row raw.entry.typ).faults raw.entry.value.now) }
         ensures heap { TakesNoMemory raw.entry.typ → ¬ IsErrOf result ChunkParseError.OutOfMemory }
     {
-        ErrorCause::check_value(raw.typ, raw.value)?;
-        Ok(ErrorCause::build(alloc, raw.typ, raw.value)?)
+        ErrorCause::read(alloc, raw.typ, raw.value)
+    }
+
+    /// Checks a cause's value, and builds what it means.
+    fn read(alloc: Global, code: u16, value: &[u8]) -> Result<Self, ChunkParseError>
+        ensures answer { Answers result (λ c. (cause.row code).means value.now (view c))
+            ((cause.row code).faults value.now) }
+        ensures memory { IsErrOf result ChunkParseError.OutOfMemory
+            → HasMeaning (cause.row code) value.now }
+        ensures exact { ReadsExactly result view ((cause.row code).means value.now)
+            ((cause.row code).faults value.now) }
+        ensures heap { TakesNoMemory code → ¬ IsErrOf result ChunkParseError.OutOfMemory }
+    {
+        ErrorCause::check_value(code, value)?;
+        Ok(ErrorCause::build(alloc, code, value)?)
     }
 
     /// Passes exactly where the value has a meaning; else its fault. It takes no memory.

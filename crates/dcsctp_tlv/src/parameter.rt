@@ -122,10 +122,26 @@ impl Parameter {
             ((parameter.row raw.entry.typ).faults raw.entry.value.now) }
         ensures memory { IsErrOf result ChunkParseError.OutOfMemory →
             HasMeaning (parameter.row raw.entry.typ) raw.entry.value.now }
+        ensures exact { ReadsExactly result view
+            ((parameter.row raw.entry.typ).means raw.entry.value.now)
+            ((parameter.row raw.entry.typ).faults raw.entry.value.now) }
         ensures heap { TakesNoMemory raw.entry.typ → ¬ IsErrOf result ChunkParseError.OutOfMemory }
     {
-        Parameter::check_value(raw.typ, raw.value)?;
-        Ok(Parameter::build(alloc, raw.typ, raw.value)?)
+        Parameter::read(alloc, raw.typ, raw.value)
+    }
+
+    /// Checks a parameter's value, and builds what it means.
+    fn read(alloc: Global, typ: u16, value: &[u8]) -> Result<Self, ChunkParseError>
+        ensures answer { Answers result (λ p. (parameter.row typ).means value.now (view p))
+            ((parameter.row typ).faults value.now) }
+        ensures memory { IsErrOf result ChunkParseError.OutOfMemory
+            → HasMeaning (parameter.row typ) value.now }
+        ensures exact { ReadsExactly result view ((parameter.row typ).means value.now)
+            ((parameter.row typ).faults value.now) }
+        ensures heap { TakesNoMemory typ → ¬ IsErrOf result ChunkParseError.OutOfMemory }
+    {
+        Parameter::check_value(typ, value)?;
+        Ok(Parameter::build(alloc, typ, value)?)
     }
 
     /// Passes exactly where the value has a meaning; else its fault. It takes no memory.
