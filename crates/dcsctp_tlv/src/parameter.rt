@@ -46,7 +46,7 @@ use crate::parameter::state_cookie_parameter::StateCookieParameter;
 use crate::parameter::supported_extensions_parameter::SupportedExtensionsParameter;
 use crate::parameter::unknown_parameter::UnknownParameter;
 use crate::parameter::zero_checksum_acceptable_parameter::ZeroChecksumAcceptableParameter;
-use crate::reader::{ReadableTlv, list_build_counted, list_check, list_from_bytes};
+use crate::reader::{ReadableTlv, list_fill_counted, list_check, list_from_bytes};
 use crate::tlv::{ListedTlv, SerializableTlv};
 use std::alloc::{AllocError, Global};
 
@@ -384,5 +384,23 @@ pub fn parameters_build(alloc: Global, bytes: &[u8]) -> Result<Vec<Parameter>, A
     ensures reserved { IfOk result (λ list. vec_capacity list ≡ vec_len list) }
     ensures empty { bytes.now ≡ [] → IsOk result }
 {
-    list_build_counted(alloc, bytes)
+    let mut list = Vec::new(alloc);
+    parameters_fill(&mut list, alloc, bytes)?;
+    Ok(list)
+}
+
+/// Builds the same into a list that has no memory yet.
+#[inline(never)]
+pub fn parameters_fill(
+    list: &mut Vec<Parameter>,
+    alloc: Global,
+    bytes: &[u8],
+) -> Result<(), AllocError>
+    requires meant { MeansSome parameters bytes.now }
+    requires fresh { (list.old.items ≡ []) × (vec_len list.old ≡ 0) × (vec_capacity list.old ≡ 0) }
+    ensures meant { IfOk result (λ _. MeansTrees parameters bytes.now (views list.new.items)) }
+    ensures reserved { IfOk result (λ _. vec_capacity list.new ≡ vec_len list.new) }
+    ensures empty { bytes.now ≡ [] → IsOk result }
+{
+    list_fill_counted(list, alloc, bytes)
 }

@@ -131,14 +131,19 @@ pub fn list_fill<T: ReadableTlv>(
     Ok(())
 }
 
-/// The same where their number isn't known: the items are counted first.
-pub fn list_build_counted<T: ReadableTlv>(alloc: Global, bytes: &[u8]) -> Result<Vec<T>, AllocError>
-    requires { MeansSome T.level bytes.now }
-    ensures meant { IfOk result (λ list. MeansTrees T.level bytes.now (map T.view list.items)) }
-    ensures reserved { IfOk result (λ list. vec_capacity list ≡ vec_len list) }
+/// Fills a list where the number of items isn't known: they are counted first.
+pub fn list_fill_counted<T: ReadableTlv>(
+    list: &mut Vec<T>,
+    alloc: Global,
+    bytes: &[u8],
+) -> Result<(), AllocError>
+    requires meant { MeansSome T.level bytes.now }
+    requires fresh { (list.old.items ≡ []) × (vec_len list.old ≡ 0) × (vec_capacity list.old ≡ 0) }
+    ensures meant { IfOk result (λ _. MeansTrees T.level bytes.now (map T.view list.new.items)) }
+    ensures reserved { IfOk result (λ _. vec_capacity list.new ≡ vec_len list.new) }
     ensures empty { bytes.now ≡ [] → IsOk result }
 {
-    list_build(alloc, bytes, count_items(bytes))
+    list_fill(list, alloc, bytes, count_items(bytes))
 }
 
 /// Reads all the bytes as a list of items: a check, and then a build.
