@@ -27,7 +27,7 @@ use crate::user_initiated_abort_error_cause::{self, UserInitiatedAbortErrorCause
 use dcsctp_tlv::error::ChunkParseError;
 use dcsctp_tlv::parameter::raw_parameter::RawParameter;
 use dcsctp_tlv::parameter::unknown_parameter::UnknownParameter;
-use dcsctp_tlv::reader::{ReadableTlv, list_build_counted, list_check, list_from_bytes};
+use dcsctp_tlv::reader::{ReadableTlv, list_fill_counted, list_check, list_from_bytes};
 use dcsctp_tlv::tlv::{ListedTlv, SerializableTlv};
 use std::alloc::{AllocError, Global};
 use std::fmt;
@@ -301,5 +301,23 @@ pub fn error_cause_build(alloc: Global, bytes: &[u8]) -> Result<Vec<ErrorCause>,
     ensures reserved { IfOk result (λ list. vec_capacity list ≡ vec_len list) }
     ensures empty { bytes.now ≡ [] → IsOk result }
 {
-    list_build_counted(alloc, bytes)
+    let mut list = Vec::new(alloc);
+    error_cause_fill(&mut list, alloc, bytes)?;
+    Ok(list)
+}
+
+/// Builds the same into a list that has no memory yet.
+#[inline(never)]
+pub fn error_cause_fill(
+    list: &mut Vec<ErrorCause>,
+    alloc: Global,
+    bytes: &[u8],
+) -> Result<(), AllocError>
+    requires meant { MeansSome causes bytes.now }
+    requires fresh { (list.old.items ≡ []) × (vec_len list.old ≡ 0) × (vec_capacity list.old ≡ 0) }
+    ensures meant { IfOk result (λ _. MeansTrees causes bytes.now (views list.new.items)) }
+    ensures reserved { IfOk result (λ _. vec_capacity list.new ≡ vec_len list.new) }
+    ensures empty { bytes.now ≡ [] → IsOk result }
+{
+    list_fill_counted(list, alloc, bytes)
 }
