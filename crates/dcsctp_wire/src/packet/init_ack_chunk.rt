@@ -102,7 +102,8 @@ impl InitAckChunk {
 
     /// The chunk that holds these.
     pub(crate) fn of_fields(fields: InitFields) -> Self
-        ensures { init_ack_view result ≡ init_fields_view fields }
+        ensures fields { init_ack_view result ≡ init_fields_view fields }
+        ensures parameters { result.parameters ≡ fields.parameters }
     {
         InitAckChunk {
             initiate_tag: fields.initiate_tag,
