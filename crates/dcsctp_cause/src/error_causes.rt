@@ -27,7 +27,7 @@ use crate::user_initiated_abort_error_cause::{self, UserInitiatedAbortErrorCause
 use dcsctp_tlv::error::ChunkParseError;
 use dcsctp_tlv::parameter::raw_parameter::RawParameter;
 use dcsctp_tlv::parameter::unknown_parameter::UnknownParameter;
-use dcsctp_tlv::reader::{ReadableTlv, list_fill_counted, list_check, list_from_bytes};
+use dcsctp_tlv::reader::{ReadableTlv, list_check, list_fill_counted, list_from_bytes};
 use dcsctp_tlv::tlv::{ListedTlv, SerializableTlv};
 use std::alloc::{AllocError, Global};
 use std::fmt;

@@ -1,7 +1,6 @@
 -- A check of a list, and the build after it: what both have gone over, and what is left.
 use Rattle.std.proofs.Common.{◌≡◌, ◌≢◌, ℕ, suc, ◌+◌, ◌*◌, ◌≤◌, true, false, Result, Ok, Err, ◌⊎◌, inl, inr, List, [], ◌∷◌, ◌++◌, length, refl, sym, ap, subst, ◌∙◌, arith, get_or, Fits}
-use Rattle.std.specs.Prelude.{◌↔◌, IsOk, IsErrOf, slice_set}
-use Rattle.std.proofs.Math.Seq.{set-append_seam}
+use Rattle.std.specs.Prelude.{◌↔◌, IsOk, IsErrOf}
 use Rattle.std.specs.List.{flat_map}
 use Rattle.std.specs.Int.{w8}
 use Rattle.std.proofs.lemmas.List.{append-nil, get_or-drop, length-append, length-drop}
@@ -11,7 +10,7 @@ use Rattle.dcsctp_tlv.specs.Fault.{Fault, Length, Padding, Value}
 use Rattle.dcsctp_tlv.specs.Number.{AreBytes}
 use Rattle.dcsctp_tlv.specs.Count.{total}
 use Rattle.dcsctp_tlv.specs.Frame.{padding_size, round_up_to_4, Item, item_bytes, PaddingRule, AreFormed, AreItems, frame_length, BeginsWithFrame, frame_value, frame_padding, frame_rest}
-use Rattle.dcsctp_tlv.specs.Level.{Row, Level, HasMeaning, Grows, ItemsMean, MeansTrees, MeansMany, MeansCounted, HasFault, no_frame, value, padding, front_row}
+use Rattle.dcsctp_tlv.specs.Level.{Row, Level, HasMeaning, ItemsMean, MeansTrees, MeansMany, MeansCounted, HasFault, no_frame, value, padding, front_row}
 use Rattle.dcsctp_tlv.specs.Reading.{Answers, IsFault, Finds, error_of, ChecksExactly, ReadsExactly}
 use Rattle.dcsctp_tlv.proofs.Items.{front_item, front_length, items_before}
 use Rattle.dcsctp_tlv.proofs.Lists.{Progress, step, finish, fault}
@@ -297,9 +296,3 @@ pub row_exactly : {X T : Type 0} {row : Row T} → LawfulRow row → (v : List �
 row_exactly {X} {T} {row} law v fits {view} {r} a =
     let single = row_single row law v (λ i. (fits i).fits) in
     reads_exactly view (row.means v) (row.faults v) single r a.0 a.1
-
--- ---- an item that was pushed, and then filled in its place
-
-pub filled : {X T : Type 0} (view : X → T) (row : Row T) (v : List ℕ) (old : List X) (n : ℕ) (x y : X) → n ≡ length old → row.means v (view y)
-    → Grows view row v old (slice_set (old ++ x ∷ []) n y)
-filled view row v old n x y e means = record { last = y; items = rw e (set-append_seam old x [] y); means = means }

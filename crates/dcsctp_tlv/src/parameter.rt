@@ -46,7 +46,7 @@ use crate::parameter::state_cookie_parameter::StateCookieParameter;
 use crate::parameter::supported_extensions_parameter::SupportedExtensionsParameter;
 use crate::parameter::unknown_parameter::UnknownParameter;
 use crate::parameter::zero_checksum_acceptable_parameter::ZeroChecksumAcceptableParameter;
-use crate::reader::{ReadableTlv, list_fill_counted, list_check, list_from_bytes};
+use crate::reader::{ReadableTlv, list_check, list_fill_counted, list_from_bytes};
 use crate::tlv::{ListedTlv, SerializableTlv};
 use std::alloc::{AllocError, Global};
 

@@ -6,7 +6,7 @@ use Rattle.dcsctp_tlv.specs.Level.{Row, Grows}
 use Rattle.dcsctp_tlv.specs.Parameter.{ParameterTree}
 use Rattle.dcsctp_cause.specs.Cause.{CauseTree}
 use Rattle.dcsctp_wire.specs.InitFields as init
-use Rattle.dcsctp_wire.specs.Chunk.{ChunkTree, Abort}
+use Rattle.dcsctp_wire.specs.Chunk.{Abort}
 use Rattle.dcsctp_wire.specs.declared.packet.abort_chunk.AbortChunk.{AbortChunk}
 use Rattle.dcsctp_wire.specs.declared.packet.init_chunk.InitChunk.{InitChunk}
 use Rattle.dcsctp_wire.specs.declared.packet.init_ack_chunk.InitAckChunk.{InitAckChunk}

@@ -1,6 +1,4 @@
-use Rattle.std.proofs.Common.{refl}
 use Rattle.std.proofs.lemmas.List.{take_rest}
-use Rattle.dcsctp_tlv.specs.Parameter.{views}
 use Rattle.dcsctp_wire.proofs.packet.init.init_build.Goals as goal
 
 pub parameters_fill-requires-clause-meant : goal.parameters_fill-requires-clause-meant
