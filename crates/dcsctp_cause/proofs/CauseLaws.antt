@@ -28,7 +28,7 @@ use Rattle.dcsctp_cause.proofs.CauseKinds.{missing_laws, missing_keeps, chunk_la
 
 -- ---- one answer
 
-row_lawful : (code : ℕ) → LawfulRow (row code)
+pub row_lawful : (code : ℕ) → LawfulRow (row code)
 row_lawful code = of_table (λ _ row. LawfulRow row) table code _ (
     plain_lawful _ &
     plain_lawful _ &

@@ -27,7 +27,7 @@ use dcsctp_tlv::error::ChunkParseError;
 use dcsctp_tlv::frame::are_zeros;
 use dcsctp_tlv::parameter::raw_parameter::RawParameter;
 use dcsctp_tlv::parameter::unknown_parameter::UnknownParameter;
-use dcsctp_tlv::reader::{ReadableTlv, list_build_counted, list_check, list_from_bytes};
+use dcsctp_tlv::reader::{ReadableTlv, list_check, list_fill_counted, list_from_bytes};
 use dcsctp_tlv::tlv::{ListedTlv, SerializableTlv};
 use std::alloc::{AllocError, Global};
 use std::fmt;
@@ -79,10 +79,26 @@ impl ErrorCause {
             ((cause.row raw.entry.typ).faults raw.entry.value.now) }
         ensures memory { IsErrOf result ChunkParseError.OutOfMemory →
             HasMeaning (cause.row raw.entry.typ) raw.entry.value.now }
+        ensures exact { ReadsExactly result view
+            ((cause.row raw.entry.typ).means raw.entry.value.now)
+            ((cause.row raw.entry.typ).faults raw.entry.value.now) }
         ensures heap { TakesNoMemory raw.entry.typ → ¬ IsErrOf result ChunkParseError.OutOfMemory }
     {
-        ErrorCause::check_value(raw.typ, raw.value)?;
-        Ok(ErrorCause::build(alloc, raw.typ, raw.value)?)
+        ErrorCause::read(alloc, raw.typ, raw.value)
+    }
+
+    /// Checks a cause's value, and builds what it means.
+    fn read(alloc: Global, code: u16, value: &[u8]) -> Result<Self, ChunkParseError>
+        ensures answer { Answers result (λ c. (cause.row code).means value.now (view c))
+            ((cause.row code).faults value.now) }
+        ensures memory { IsErrOf result ChunkParseError.OutOfMemory
+            → HasMeaning (cause.row code) value.now }
+        ensures exact { ReadsExactly result view ((cause.row code).means value.now)
+            ((cause.row code).faults value.now) }
+        ensures heap { TakesNoMemory code → ¬ IsErrOf result ChunkParseError.OutOfMemory }
+    {
+        ErrorCause::check_value(code, value)?;
+        Ok(ErrorCause::build(alloc, code, value)?)
     }
 
     /// Passes exactly where the value has a meaning; else its fault. It takes no memory.
@@ -286,5 +302,24 @@ pub fn error_cause_build(alloc: Global, bytes: &[u8]) -> Result<Vec<ErrorCause>,
     ensures reserved { IfOk result (λ list. vec_capacity list ≡ vec_len list) }
     ensures empty { bytes.now ≡ [] → IsOk result }
 {
-    list_build_counted(alloc, bytes)
+    let mut list = Vec::new(alloc);
+    error_cause_fill(&mut list, alloc, bytes)?;
+    Ok(list)
+}
+
+/// Builds the same into a list that has no memory yet.
+#[inline(never)]
+pub fn error_cause_fill(
+    list: &mut Vec<ErrorCause>,
+    alloc: Global,
+    bytes: &[u8],
+) -> Result<(), AllocError>
+    requires meant { MeansSome (causes lenient) bytes.now }
+    requires fresh { (list.old.items ≡ []) × (vec_len list.old ≡ 0) × (vec_capacity list.old ≡ 0) }
+    ensures meant { IfOk result
+        (λ _. MeansTrees (causes lenient) bytes.now (views list.new.items)) }
+    ensures reserved { IfOk result (λ _. vec_capacity list.new ≡ vec_len list.new) }
+    ensures empty { bytes.now ≡ [] → IsOk result }
+{
+    list_fill_counted(list, alloc, bytes)
 }

@@ -31,7 +31,7 @@ use Rattle.dcsctp_tlv.proofs.Kept.{all_map}
 
 -- ---- one answer
 
-row_lawful : (typ : ℕ) → LawfulRow (row typ)
+pub row_lawful : (typ : ℕ) → LawfulRow (row typ)
 row_lawful typ = of_table (λ _ row. LawfulRow row) table typ _ (
     plain_lawful _ &
     plain_lawful _ &

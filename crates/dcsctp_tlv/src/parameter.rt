@@ -54,7 +54,7 @@ use crate::parameter::state_cookie_parameter::StateCookieParameter;
 use crate::parameter::supported_extensions_parameter::SupportedExtensionsParameter;
 use crate::parameter::unknown_parameter::UnknownParameter;
 use crate::parameter::zero_checksum_acceptable_parameter::ZeroChecksumAcceptableParameter;
-use crate::reader::{ReadableTlv, list_build_counted, list_check, list_from_bytes};
+use crate::reader::{ReadableTlv, list_check, list_fill_counted, list_from_bytes};
 use crate::tlv::{ListedTlv, SerializableTlv};
 use std::alloc::{AllocError, Global};
 
@@ -131,10 +131,26 @@ impl Parameter {
             ((parameter.row raw.entry.typ).faults raw.entry.value.now) }
         ensures memory { IsErrOf result ChunkParseError.OutOfMemory →
             HasMeaning (parameter.row raw.entry.typ) raw.entry.value.now }
+        ensures exact { ReadsExactly result view
+            ((parameter.row raw.entry.typ).means raw.entry.value.now)
+            ((parameter.row raw.entry.typ).faults raw.entry.value.now) }
         ensures heap { TakesNoMemory raw.entry.typ → ¬ IsErrOf result ChunkParseError.OutOfMemory }
     {
-        Parameter::check_value(raw.typ, raw.value)?;
-        Ok(Parameter::build(alloc, raw.typ, raw.value)?)
+        Parameter::read(alloc, raw.typ, raw.value)
+    }
+
+    /// Checks a parameter's value, and builds what it means.
+    fn read(alloc: Global, typ: u16, value: &[u8]) -> Result<Self, ChunkParseError>
+        ensures answer { Answers result (λ p. (parameter.row typ).means value.now (view p))
+            ((parameter.row typ).faults value.now) }
+        ensures memory { IsErrOf result ChunkParseError.OutOfMemory
+            → HasMeaning (parameter.row typ) value.now }
+        ensures exact { ReadsExactly result view ((parameter.row typ).means value.now)
+            ((parameter.row typ).faults value.now) }
+        ensures heap { TakesNoMemory typ → ¬ IsErrOf result ChunkParseError.OutOfMemory }
+    {
+        Parameter::check_value(typ, value)?;
+        Ok(Parameter::build(alloc, typ, value)?)
     }
 
     /// Passes exactly where the value has a meaning; else its fault. It takes no memory.
@@ -385,5 +401,24 @@ pub fn parameters_build(alloc: Global, bytes: &[u8]) -> Result<Vec<Parameter>, A
     ensures reserved { IfOk result (λ list. vec_capacity list ≡ vec_len list) }
     ensures empty { bytes.now ≡ [] → IsOk result }
 {
-    list_build_counted(alloc, bytes)
+    let mut list = Vec::new(alloc);
+    parameters_fill(&mut list, alloc, bytes)?;
+    Ok(list)
+}
+
+/// Builds the same into a list that has no memory yet.
+#[inline(never)]
+pub fn parameters_fill(
+    list: &mut Vec<Parameter>,
+    alloc: Global,
+    bytes: &[u8],
+) -> Result<(), AllocError>
+    requires meant { MeansSome (parameters lenient) bytes.now }
+    requires fresh { (list.old.items ≡ []) × (vec_len list.old ≡ 0) × (vec_capacity list.old ≡ 0) }
+    ensures meant { IfOk result
+        (λ _. MeansTrees (parameters lenient) bytes.now (views list.new.items)) }
+    ensures reserved { IfOk result (λ _. vec_capacity list.new ≡ vec_len list.new) }
+    ensures empty { bytes.now ≡ [] → IsOk result }
+{
+    list_fill_counted(list, alloc, bytes)
 }

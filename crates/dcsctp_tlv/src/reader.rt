@@ -109,25 +109,49 @@ pub fn list_build<T: ReadableTlv>(
     ensures reserved { IfOk result (λ list. vec_capacity list ≡ vec_len list) }
     ensures empty { bytes.now ≡ [] → IsOk result }
 {
-    let mut list = Vec::with_capacity(alloc, count)?;
-    let mut rest = bytes;
-    while !rest.is_empty() {
-        let (value, after) = frame_parts(rest);
-        T::read_onto(&mut list, alloc, rest[0], rest[1], value)?;
-        rest = after;
-    }
+    let mut list = Vec::new(alloc);
+    list_fill(&mut list, alloc, bytes, count)?;
     Ok(list)
 }
 
-/// The same where their number isn't known: the items are counted first.
-pub fn list_build_counted<T: ReadableTlv>(alloc: Global, bytes: &[u8]) -> Result<Vec<T>, AllocError>
-    requires { MeansSome (T.level lenient) bytes.now }
+/// Builds the same into a list that has no memory yet.
+pub fn list_fill<T: ReadableTlv>(
+    list: &mut Vec<T>,
+    alloc: Global,
+    bytes: &[u8],
+    count: usize,
+) -> Result<(), AllocError>
+    requires meant { MeansMany (T.level lenient) bytes.now count }
+    requires fresh { (list.old.items ≡ []) × (vec_len list.old ≡ 0) × (vec_capacity list.old ≡ 0) }
     ensures meant { IfOk result
-        (λ list. MeansTrees (T.level lenient) bytes.now (map T.view list.items)) }
-    ensures reserved { IfOk result (λ list. vec_capacity list ≡ vec_len list) }
+        (λ _. MeansTrees (T.level lenient) bytes.now (map T.view list.new.items)) }
+    ensures reserved { IfOk result (λ _. vec_capacity list.new ≡ vec_len list.new) }
     ensures empty { bytes.now ≡ [] → IsOk result }
 {
-    list_build(alloc, bytes, count_items(bytes))
+    list.reserve_exact(count)?;
+    let mut rest = bytes;
+    while !rest.is_empty() {
+        let (value, after) = frame_parts(rest);
+        T::read_onto(list, alloc, rest[0], rest[1], value)?;
+        rest = after;
+    }
+    Ok(())
+}
+
+/// Fills a list where the number of items isn't known: they are counted first.
+pub fn list_fill_counted<T: ReadableTlv>(
+    list: &mut Vec<T>,
+    alloc: Global,
+    bytes: &[u8],
+) -> Result<(), AllocError>
+    requires meant { MeansSome (T.level lenient) bytes.now }
+    requires fresh { (list.old.items ≡ []) × (vec_len list.old ≡ 0) × (vec_capacity list.old ≡ 0) }
+    ensures meant { IfOk result
+        (λ _. MeansTrees (T.level lenient) bytes.now (map T.view list.new.items)) }
+    ensures reserved { IfOk result (λ _. vec_capacity list.new ≡ vec_len list.new) }
+    ensures empty { bytes.now ≡ [] → IsOk result }
+{
+    list_fill(list, alloc, bytes, count_items(bytes))
 }
 
 /// Reads all the bytes as a list of items: a check, and then a build.

@@ -17,7 +17,7 @@ use crate::packet::heartbeat_ack_chunk::{self, HeartbeatAckChunk};
 use crate::packet::heartbeat_request_chunk::{self, HeartbeatRequestChunk};
 use crate::packet::idata_chunk::{self, IDataChunk};
 use crate::packet::iforward_tsn_chunk::{self, IForwardTsnChunk};
-use crate::packet::init::{init_build, init_check};
+use crate::packet::init::{FIXED_SIZE, init_check, init_numbers};
 use crate::packet::init_ack_chunk::{self, InitAckChunk};
 use crate::packet::init_chunk::{self, InitChunk};
 use crate::packet::parameter_list::parameter_list_check;
@@ -27,13 +27,13 @@ use crate::packet::shutdown_ack_chunk::{self, ShutdownAckChunk};
 use crate::packet::shutdown_chunk::{self, ShutdownChunk};
 use crate::packet::shutdown_complete_chunk::{self, ShutdownCompleteChunk};
 use crate::packet::unknown_chunk::UnknownChunk;
-use dcsctp_cause::error_causes::error_cause_build;
+use dcsctp_cause::error_causes::error_cause_fill;
 use dcsctp_chunk::flags::is_set;
 pub use dcsctp_chunk::plain_check::plain_check;
 pub use dcsctp_chunk::raw_chunk::{RawChunk, write_chunk_header};
 use dcsctp_tlv::error::ChunkParseError;
 use dcsctp_tlv::frame::are_zeros;
-use dcsctp_tlv::parameter::parameters_build;
+use dcsctp_tlv::parameter::parameters_fill;
 use dcsctp_tlv::reader::ReadableTlv;
 use dcsctp_tlv::tlv::SerializableTlv;
 use std::alloc::{AllocError, Global};
@@ -185,9 +185,8 @@ impl Chunk {
         })
     }
 
-    /// Does what `read_onto` does for a kind with a list, and for a type without a kind. It stands
-    /// apart, so that the loop over chunks has no room to clear for the lists.
-    #[inline(never)]
+    /// Does what `read_onto` does for a kind with a list, and for a type without a kind. The list is
+    /// filled where the chunk lies, so that neither it nor the chunk is moved.
     fn other_onto(
         list: &mut Vec<Self>,
         alloc: Global,
@@ -204,40 +203,67 @@ impl Chunk {
         ensures len { IfOk result (λ _. vec_len list.new ≡ vec_len list.old + 1) }
         ensures capacity { IfOk result (λ _. vec_capacity list.new ≡ vec_capacity list.old) }
     {
+        let last = list.len();
         match first {
-            init_chunk::CHUNK_TYPE | init_ack_chunk::CHUNK_TYPE => {
-                let fields = init_build(alloc, value)?;
-                if first == init_chunk::CHUNK_TYPE {
-                    list.push_reserved(Chunk::Init(InitChunk::of_fields(fields)));
-                } else {
-                    list.push_reserved(Chunk::InitAck(InitAckChunk::of_fields(fields)));
+            init_chunk::CHUNK_TYPE => {
+                list.push_reserved(Chunk::Init(InitChunk::of_fields(init_numbers(alloc, value))));
+                if let Chunk::Init(chunk) = &mut list[last] {
+                    parameters_fill(&mut chunk.parameters, alloc, &value[FIXED_SIZE..])?;
                 }
                 Ok(())
             }
-            heartbeat_request_chunk::CHUNK_TYPE
-            | heartbeat_ack_chunk::CHUNK_TYPE
-            | re_config_chunk::CHUNK_TYPE => {
-                let parameters = parameters_build(alloc, value)?;
-                if first == heartbeat_request_chunk::CHUNK_TYPE {
-                    list.push_reserved(Chunk::HeartbeatRequest(HeartbeatRequestChunk {
-                        parameters,
-                    }));
-                } else if first == heartbeat_ack_chunk::CHUNK_TYPE {
-                    list.push_reserved(Chunk::HeartbeatAck(HeartbeatAckChunk { parameters }));
-                } else {
-                    list.push_reserved(Chunk::ReConfig(ReConfigChunk { parameters }));
+            init_ack_chunk::CHUNK_TYPE => {
+                list.push_reserved(Chunk::InitAck(InitAckChunk::of_fields(init_numbers(
+                    alloc, value,
+                ))));
+                if let Chunk::InitAck(chunk) = &mut list[last] {
+                    parameters_fill(&mut chunk.parameters, alloc, &value[FIXED_SIZE..])?;
                 }
                 Ok(())
             }
-            abort_chunk::CHUNK_TYPE | error_chunk::CHUNK_TYPE => {
-                let error_causes = error_cause_build(alloc, value)?;
-                if first == abort_chunk::CHUNK_TYPE {
-                    list.push_reserved(Chunk::Abort(AbortChunk {
-                        tag_reflected: is_set(second, 0),
-                        error_causes,
-                    }));
-                } else {
-                    list.push_reserved(Chunk::Error(ErrorChunk { error_causes }));
+            heartbeat_request_chunk::CHUNK_TYPE => {
+                list.push_reserved(Chunk::HeartbeatRequest(HeartbeatRequestChunk {
+                    parameters: Vec::new(alloc),
+                }));
+                if let Chunk::HeartbeatRequest(chunk) = &mut list[last] {
+                    parameters_fill(&mut chunk.parameters, alloc, value)?;
+                }
+                Ok(())
+            }
+            heartbeat_ack_chunk::CHUNK_TYPE => {
+                list.push_reserved(Chunk::HeartbeatAck(HeartbeatAckChunk {
+                    parameters: Vec::new(alloc),
+                }));
+                if let Chunk::HeartbeatAck(chunk) = &mut list[last] {
+                    parameters_fill(&mut chunk.parameters, alloc, value)?;
+                }
+                Ok(())
+            }
+            re_config_chunk::CHUNK_TYPE => {
+                list.push_reserved(Chunk::ReConfig(ReConfigChunk {
+                    parameters: Vec::new(alloc),
+                }));
+                if let Chunk::ReConfig(chunk) = &mut list[last] {
+                    parameters_fill(&mut chunk.parameters, alloc, value)?;
+                }
+                Ok(())
+            }
+            abort_chunk::CHUNK_TYPE => {
+                list.push_reserved(Chunk::Abort(AbortChunk {
+                    tag_reflected: is_set(second, 0),
+                    error_causes: Vec::new(alloc),
+                }));
+                if let Chunk::Abort(chunk) = &mut list[last] {
+                    error_cause_fill(&mut chunk.error_causes, alloc, value)?;
+                }
+                Ok(())
+            }
+            error_chunk::CHUNK_TYPE => {
+                list.push_reserved(Chunk::Error(ErrorChunk {
+                    error_causes: Vec::new(alloc),
+                }));
+                if let Chunk::Error(chunk) = &mut list[last] {
+                    error_cause_fill(&mut chunk.error_causes, alloc, value)?;
                 }
                 Ok(())
             }

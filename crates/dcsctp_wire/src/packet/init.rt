@@ -1,14 +1,14 @@
 //! What INIT and INIT ACK have in common.
 
-ghost use Rattle.std.specs.Prelude.{◌≡◌, ◌≤◌, ◌+◌, ◌*◌, [], length, drop, IsOk, IfOk};
+ghost use Rattle.std.specs.Prelude.{◌≡◌, ◌≤◌, ◌+◌, ◌*◌, [], length, drop, vec_len, vec_capacity, IsOk, IfOk};
 ghost use Rattle.dcsctp_tlv.specs.Frame.{lenient};
 ghost use Rattle.dcsctp_tlv.specs.Level.{HasMeaning, MeansParts};
 ghost use Rattle.dcsctp_tlv.specs.Reading.{Finds};
-ghost use Rattle.dcsctp_wire.specs.InitFields.{row as init_row, parts as init_parts, leading as init_numbers, view as init_fields_view};
+ghost use Rattle.dcsctp_wire.specs.InitFields.{row as init_row, parts as init_parts, leading as init_numbers, tree_of, view as init_fields_view};
 
 use dcsctp_tlv::error::ChunkParseError;
 use dcsctp_tlv::number::{put_u16, put_u32, read_u16_be, read_u32_be};
-use dcsctp_tlv::parameter::{Parameter, parameters_build, parameters_check};
+use dcsctp_tlv::parameter::{Parameter, parameters_check, parameters_fill};
 use dcsctp_types::types::Tsn;
 use std::alloc::{AllocError, Global};
 
@@ -40,6 +40,23 @@ pub(crate) fn init_check(value: &[u8], strict: bool) -> Result<usize, ChunkParse
     Ok(1 + count)
 }
 
+/// The numbers of the value, and no parameters. It takes no memory.
+pub(crate) fn init_numbers(alloc: Global, value: &[u8]) -> InitFields
+    requires { 16 ≤ length value.now }
+    ensures numbers { init_fields_view result ≡ tree_of value.now [] }
+    ensures fresh { (result.parameters.items ≡ []) × (vec_len result.parameters ≡ 0)
+        × (vec_capacity result.parameters ≡ 0) }
+{
+    InitFields {
+        initiate_tag: read_u32_be(value),
+        a_rwnd: read_u32_be(&value[4..]),
+        nbr_outbound_streams: read_u16_be(&value[8..]),
+        nbr_inbound_streams: read_u16_be(&value[10..]),
+        initial_tsn: Tsn(read_u32_be(&value[12..])),
+        parameters: Vec::new(alloc),
+    }
+}
+
 /// What the value means.
 pub(crate) fn init_build(alloc: Global, value: &[u8]) -> Result<InitFields, AllocError>
     requires { HasMeaning (init_row lenient) value.now }
@@ -47,15 +64,9 @@ pub(crate) fn init_build(alloc: Global, value: &[u8]) -> Result<InitFields, Allo
         (λ fields. (init_row lenient).means value.now (init_fields_view fields)) }
     ensures empty { drop 16 value.now ≡ [] → IsOk result }
 {
-    let parameters = parameters_build(alloc, &value[FIXED_SIZE..])?;
-    Ok(InitFields {
-        initiate_tag: read_u32_be(value),
-        a_rwnd: read_u32_be(&value[4..]),
-        nbr_outbound_streams: read_u16_be(&value[8..]),
-        nbr_inbound_streams: read_u16_be(&value[10..]),
-        initial_tsn: Tsn(read_u32_be(&value[12..])),
-        parameters,
-    })
+    let mut fields = init_numbers(alloc, value);
+    parameters_fill(&mut fields.parameters, alloc, &value[FIXED_SIZE..])?;
+    Ok(fields)
 }
 
 /// The numbers of the value before the parameters, as they are written.

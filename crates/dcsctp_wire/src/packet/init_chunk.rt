@@ -106,7 +106,8 @@ impl InitChunk {
 
     /// The chunk that holds these.
     pub(crate) fn of_fields(fields: InitFields) -> Self
-        ensures { kind.view result ≡ init_fields.view fields }
+        ensures fields { kind.view result ≡ init_fields.view fields }
+        ensures parameters { result.parameters ≡ fields.parameters }
     {
         InitChunk {
             initiate_tag: fields.initiate_tag,

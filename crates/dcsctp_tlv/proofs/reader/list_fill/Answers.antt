@@ -4,13 +4,14 @@ use Rattle.std.proofs.lemmas.List.{map_push}
 use Rattle.dcsctp_tlv.specs.Frame.{lenient}
 use Rattle.dcsctp_tlv.proofs.Lists.{finish, is_nil, is_cons}
 use Rattle.dcsctp_tlv.proofs.Checks.{first_tree, frame_shrinks, build_step, no_trees}
-use Rattle.dcsctp_tlv.proofs.reader.list_build.Goals as goal
+use Rattle.dcsctp_tlv.proofs.reader.list_fill.Goals as goal
 
-pub returns-in_err-list-clause-empty : goal.returns-in_err-list-clause-empty
-returns-in_err-list-clause-empty g c = λ e. (
-    let none = no_trees (g.T.ReadableTlv.level lenient) c.args.bytes.now c.requires.0 e c.requires.1 in
-    let zero : c.args.count ≡ 0 = c.requires.2 ∙ none in
-    let ok = c.in_err-list.ensures.succeeds zero in
+pub returns-in_err-reserve_exact-clause-empty : goal.returns-in_err-reserve_exact-clause-empty
+returns-in_err-reserve_exact-clause-empty g c = λ e. (
+    let meant = c.requires.meant in
+    let none = no_trees (g.T.ReadableTlv.level lenient) c.args.bytes.now meant.0 e meant.1 in
+    let zero : c.args.count ≡ 0 = meant.2 ∙ none in
+    let ok = c.in_err-reserve_exact.ensures.succeeds (omega (arith, zero)) in
     cc)
 
 pub frame_parts-requires : goal.frame_parts-requires
