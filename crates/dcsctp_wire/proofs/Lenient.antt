@@ -1,5 +1,5 @@
 -- What a strict policy accepts, the lenient one accepts with the same packet: a line a kind.
-use Rattle.std.proofs.Common.{◌≡◌, ℕ, Bool, false, List, Ok, subst, refl}
+use Rattle.std.proofs.Common.{ℕ, Bool, false, List, Ok, subst, refl}
 use Rattle.dcsctp_tlv.specs.Frame.{lenient}
 use Rattle.dcsctp_tlv.specs.Level.{Row, plain, map_ok, MeansTrees}
 use Rattle.dcsctp_tlv.specs.Parameter.{parameters}

@@ -20,7 +20,8 @@ AreTextsKept i =
 -- no text of the packet is replaced by a fixed one
 abbrev pub KeepsTexts : List ℕ → Type 0
 KeepsTexts bytes =
-    (chunks : List Item) → AreItems any_padding (body bytes) chunks → AllByRecursion AreTextsKept chunks
+    (chunks : List Item) → AreItems any_padding (body bytes) chunks
+    → AllByRecursion AreTextsKept chunks
 
 -- ---- size
 

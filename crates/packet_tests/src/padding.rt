@@ -84,11 +84,7 @@ const ROWS: &[(&[u8], Answer, Answer)] = &[
         LENGTH,
     ),
     // the last cause has all its padding, of which the first byte isn't zero
-    (
-        &[6, 0, 0, 12, 0, 0x63, 0, 5, 0, 1, 0, 0],
-        Ok(2),
-        PADDING,
-    ),
+    (&[6, 0, 0, 12, 0, 0x63, 0, 5, 0, 1, 0, 0], Ok(2), PADDING),
     // the last cause has some of its padding, which is zero; the chunk has all of its own
     (&[6, 0, 0, 10, 0, 0x63, 0, 5, 0, 0, 0, 0], Ok(2), Ok(2)),
     // the padding of a parameter that isn't the last: zero, and not
