@@ -9,7 +9,7 @@ use Rattle.std.proofs.lemmas.List.Elements.{recursion_from_All, All-from_recursi
 use Rattle.dcsctp_tlv.specs.Frame.{lenient, round_up_to_4}
 use Rattle.dcsctp_tlv.specs.Image.{zeroed, gap, holes, written, size_of, image_of, IsEncodable, list_image, list_size, IsListEncodable}
 use Rattle.dcsctp_tlv.proofs.Lengths.{length-format}
-use Rattle.dcsctp_tlv.proofs.Images.{list_size-map, list_image-map, length-list_image, AreSized, written-zeros, zeroed-append, zeroed-holes}
+use Rattle.dcsctp_tlv.proofs.Images.{list_size-map, list_image-map, length-list_image, written-zeros, zeroed-append, zeroed-holes}
 use Rattle.dcsctp_tlv.proofs.ReadsBack.{full_zeros_accepted, body_reads_back, each_encodable}
 use Rattle.dcsctp_wire.specs.declared.packet.chunk.Chunk.{Chunk}
 use Rattle.dcsctp_wire.specs.declared.packet.sctp_packet.ChecksumPolicy.{ChecksumPolicy}
