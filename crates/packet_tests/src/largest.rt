@@ -1,6 +1,6 @@
 //! The largest packets, with as many parts as they have room for.
 
-use crate::outcomes::{Outcome, outcome_of_repeated};
+use crate::outcomes::{Outcome, outcome_of_ended, outcome_of_repeated};
 use std::test::Fail;
 
 /// How the chunks begin, what follows, how often, and the outcome.
@@ -198,6 +198,17 @@ fn refused(rt: HostRuntime) -> Result<(), Fail> {
     for (i, (front, item, count, wanted)) in FAULTS.iter().enumerate() {
         let outcome = outcome_of_repeated(rt.alloc(), front, item, *count)?;
         assert_eq!(rt; outcome, *wanted, "row {i}");
+    }
+    Ok(())
+}
+
+// As many chunks as there can be, and after them one to three bytes: 65,535 at most, and no chunk.
+#[test]
+fn bytes_left(rt: HostRuntime) -> Result<(), Fail> {
+    let ends: [&[u8]; 3] = [&[0], &[0, 0], &[0, 0, 0]];
+    for end in ends {
+        let outcome = outcome_of_ended(rt.alloc(), &[], &[0x0b, 0, 0, 4], 16380, end)?;
+        assert_eq!(rt; outcome, Outcome::Length);
     }
     Ok(())
 }

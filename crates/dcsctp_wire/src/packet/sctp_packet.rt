@@ -143,7 +143,7 @@ fn accepts(policy: &ChecksumPolicy, field: u32, word: u32) -> bool
 
 impl SctpPacket {
     /// Reads a packet. `checksum` is the number whose big-endian bytes are expected at bytes 8
-    /// to 11.
+    /// to 11: of a CRC32c, which stands there least significant byte first, `swap_bytes()`.
     ///
     /// Want of memory aside, for every byte list, checksum word and policy, `from_bytes` answers
     /// the one packet that the grammar gives these bytes, or the fault of the first offending
@@ -237,6 +237,26 @@ impl SctpPacket {
         has_widths(self);
         canonical_of(self, alloc)
     }
+
+    /// The bytes of the canonical packet: 12 of its header, and the chunks with their padding.
+    pub fn canonical_size(&self) -> usize
+        requires { Fits (meaning_view self.now) }
+        ensures { result ≡ length (canonical (meaning_view self.now)) }
+    {
+        let body_size = round_up_to_4(list_size(&self.chunks));
+        COMMON_HEADER_SIZE + body_size
+    }
+
+    /// Writes the canonical packet, which `canonical_bytes` answers, over as many bytes as it has
+    /// (`canonical_size`). It takes no memory.
+    pub fn write_canonical(&self, output: &mut [u8])
+        requires fits { Fits (meaning_view self.now) }
+        requires size { length output.old ≡ length (canonical (meaning_view self.now)) }
+        ensures { output.new ≡ canonical (meaning_view self.now) }
+    {
+        output.fill(0);
+        write_over_zeros(self, output);
+    }
 }
 
 /// A law of packets: every number of a packet lies in its field's width, and every text is one, by
@@ -292,9 +312,8 @@ fn canonical_of(packet: &SctpPacket, alloc: Global) -> Result<Vec<u8>, AllocErro
     requires { Fits (meaning_view packet.now) }
     ensures { IfOk result (λ bytes. bytes.items ≡ canonical (meaning_view packet.now)) }
 {
-    let body_size = round_up_to_4(list_size(&packet.chunks));
-    let mut bytes = vec![in alloc; 0; COMMON_HEADER_SIZE + body_size]?;
-    write_canonical(packet, &mut bytes);
+    let mut bytes = vec![in alloc; 0; packet.canonical_size()]?;
+    write_over_zeros(packet, &mut bytes);
     Ok(bytes)
 }
 
@@ -320,7 +339,7 @@ pub(crate) fn header_bytes(
 }
 
 /// Writes the canonical packet over zeros.
-fn write_canonical(packet: &SctpPacket, output: &mut [u8])
+fn write_over_zeros(packet: &SctpPacket, output: &mut [u8])
     requires fits { Fits (meaning_view packet.now) }
     requires zeros { output.old ≡ replicate (12 + padded_size (views packet.now.chunks.items)) 0 }
     ensures { output.new ≡ canonical (meaning_view packet.now) }

@@ -5,7 +5,7 @@ use Rattle.dcsctp_wire.specs.Chunk.{tlv as chunk_tlv, view, views}
 use Rattle.dcsctp_wire.specs.Packet.{meaning_view}
 use Rattle.dcsctp_wire.specs.Canonical.{canonical, padded_size}
 use Rattle.dcsctp_wire.proofs.Canonicals.{fits_to, body_is, size_views}
-use Rattle.dcsctp_wire.proofs.packet.sctp_packet.write_canonical.Goals as goal
+use Rattle.dcsctp_wire.proofs.packet.sctp_packet.write_over_zeros.Goals as goal
 
 pub put_list-requires-clause-encodable : goal.put_list-requires-clause-encodable
 put_list-requires-clause-encodable c = rw c.deref.ensures.value (fits_to (meaning_view c.args.packet.now) c.args.packet.now.chunks.items refl c.requires.fits).0

@@ -1,0 +1,11 @@
+use Rattle.std.proofs.Common.{ap, ◌∙◌, ◌≡◌, ◌+◌, ℕ, length, replicate}
+use Rattle.dcsctp_wire.specs.Chunk.{views}
+use Rattle.dcsctp_wire.specs.Packet.{meaning_view}
+use Rattle.dcsctp_wire.specs.Canonical.{padded_size}
+use Rattle.dcsctp_wire.proofs.Canonicals.{length-canonical}
+use Rattle.dcsctp_wire.proofs.packet.sctp_packet.SctpPacket.write_canonical.Goals as goal
+
+pub write_over_zeros-requires-clause-zeros : goal.write_over_zeros-requires-clause-zeros
+write_over_zeros-requires-clause-zeros c =
+    let n : length c.args.output.now ≡ 12 + padded_size (views c.args.self.now.chunks.items) = c.requires.size ∙ length-canonical (meaning_view c.args.self.now) in
+    c.fill.ensures ∙ ap (λ (k : ℕ). replicate k 0) n
