@@ -1,4 +1,4 @@
--- What a run over bytes in memory leaves.
+-- What a run of the program over bytes in memory leaves.
 use Rattle.std.specs.Prelude.{ℕ, List}
 use Rattle.sctp_show.specs.declared.captured.Captured.{Captured}
 

@@ -1,4 +1,4 @@
--- What the engine writes for a text or a failure.
+-- What the program's engine writes for a text or a failure.
 use Rattle.std.specs.Prelude.{ℕ, List, codes, Result, Ok, Err, String, string_bytes}
 use Rattle.std.specs.declared.alloc.Global.{Global}
 use Rattle.sctp_show.specs.declared.failure.Failure.{Failure}

@@ -117,10 +117,12 @@ abbrev pub WritesBeginning : List ℕ × ℕ → ℕ → Option (List ℕ) → O
 WritesBeginning answer status old new =
     (status ≡ 2) × (written : List ℕ) × StartsWith answer.0 written × Appends old new written
 
--- a device before and after a run: whether it had failed, and what is known of its bytes
+-- a device before and after a run: whether it had failed, whether all that was written to it is
+-- flushed, and what is known of its bytes
 pub record Change : Type 0 where
   pub began_failed : Bool
   pub failed : Bool
+  pub flushed : Bool
   pub old : Option (List ℕ)
   pub new : Option (List ℕ)
 
@@ -132,7 +134,8 @@ pub record Runs (strict : Bool) (input output : Change) (result : ℕ) : Type 0 
   pub shown : input.began_failed ≡ false → output.began_failed ≡ false → input.failed ≡ false
       → output.failed ≡ false → IfSome input.old (λ all. (answer : List ℕ × ℕ)
       × MayShow strict all answer × Writes answer result output.old output.new)
-  -- An input has no two answers.
+  -- Each input has an answer, and no input has two.
+  pub some_answer : (all : List ℕ) → (answer : List ℕ × ℕ) × Shows strict all answer
   pub one_answer : (all : List ℕ) (a b : List ℕ × ℕ) → Shows strict all a → Shows strict all b
       → a ≡ b
   -- A failed read is told by its line alone, and no other run has that line alone and status 1.
@@ -148,3 +151,5 @@ pub record Runs (strict : Bool) (input output : Change) (result : ℕ) : Type 0 
   pub cut : input.began_failed ≡ false → output.began_failed ≡ false → output.failed ≡ true
       → (answer : List ℕ × ℕ) × MayAnswer strict input.failed input.old input.new answer
       × WritesBeginning answer result output.old output.new
+  -- Where the output didn't fail, what was written is flushed.
+  pub flushed : output.failed ≡ false → output.flushed ≡ true

@@ -14,8 +14,8 @@ use std::alloc::Global;
 /// An input of more bytes is too long.
 pub const MOST_BYTES: usize = 200_000;
 
-/// The text of the packet that the input says in hexadecimal, or why it says none. Padding is looked
-/// at where it is strict.
+/// The text of the packet that the input says in hexadecimal, or why it says none. Padding is
+/// looked at where it is strict.
 pub fn answer_to(alloc: Global, strict: bool, input: Vec<u8>) -> Result<String, Failure>
     ensures { MayShow strict input.items (reply_of result) }
 {

@@ -1,45 +1,41 @@
 //! The program over bytes in memory.
-ghost use Rattle.std.specs.Prelude.{◌≡◌, ◌≢◌, ◌⊎◌, ℕ, List};
-ghost use Rattle.std.specs.Io.{StartsWith};
+ghost use Rattle.std.specs.Prelude.{◌≡◌, ◌⊎◌, ℕ, List, IfOk};
 ghost use Rattle.dcsctp_wire.specs.Frame.{lenient};
-ghost use Rattle.sctp_show.specs.Show.{MayShow, Shows, out_of_memory, read_failed};
+ghost use Rattle.sctp_show.specs.Show.{MayShow, Shows, out_of_memory};
 ghost use Rattle.sctp_show.specs.Captured.{captured};
 
 use crate::engine::show;
 use crate::watched::Watched;
-use std::alloc::Global;
+use std::alloc::{AllocError, Global};
 
 /// What a run wrote, and its status.
 #[derive(Drop)]
 pub struct Captured {
-    /// The whole answer, or a beginning of it where the status is 2.
+    /// The whole answer.
     pub bytes: Vec<u8>,
-    /// 0 for a packet, 1 for a fault, and 2 where there was no memory for the bytes.
+    /// 0 for a packet, and 1 for a fault.
     pub status: u8,
 }
 
-/// Runs the program on a text, and keeps what it writes.
-pub fn show_captured(alloc: Global, text: &[u8]) -> Captured
-    // Unless the status is 2, bytes and status are the text's answer, or tell that memory ran out
-    // or of a failed read.
-    ensures shown { result.status ≢ 2
-        → MayShow lenient text.now (captured result) ⊎ (captured result ≡ read_failed) }
+/// Runs the program on a text, and keeps what it writes; refused only where there is no memory for
+/// that.
+pub fn show_captured(alloc: Global, text: &[u8]) -> Result<Captured, AllocError>
+    // Bytes and status are the text's answer, or tell that memory ran out.
+    ensures shown { IfOk result (λ c. MayShow lenient text.now (captured c)) }
 
-    // So they are any answer that is known of the text beforehand, those two lines aside.
-    ensures known { result.status ≢ 2 → (answer : List ℕ × ℕ) → Shows lenient text.now answer
-        → (captured result ≡ answer) ⊎ (captured result ≡ out_of_memory)
-        ⊎ (captured result ≡ read_failed) }
-
-    // At status 2 the bytes are a beginning of such an answer.
-    ensures cut { result.status ≡ 2 → (answer : List ℕ × ℕ)
-        × (MayShow lenient text.now answer ⊎ (answer ≡ read_failed))
-        × StartsWith answer.0 result.bytes.items }
+    // So they are any answer that is known of the text beforehand, that line aside.
+    ensures known { IfOk result (λ c. (answer : List ℕ × ℕ) → Shows lenient text.now answer
+        → (captured c ≡ answer) ⊎ (captured c ≡ out_of_memory)) }
 {
     let mut input = Watched::new(text);
     let mut output = Watched::new(Vec::new(alloc));
     let status = show(alloc, &mut input, &mut output);
-    Captured {
+    // No read of bytes in memory fails; a write does where memory runs out.
+    if input.failed() || output.failed() {
+        return Err(AllocError);
+    }
+    Ok(Captured {
         bytes: output.into_device(),
         status,
-    }
+    })
 }

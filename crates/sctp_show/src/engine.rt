@@ -2,7 +2,7 @@
 ghost use Rattle.std.specs.Prelude.{◌≡◌, ◌||◌, ◌⊎◌, ◌↔◌, ◌<◌, ◌≤◌, true, false, is_err, take, length, IfOk, IfErr, IfSome, OnErr};
 ghost use Rattle.std.specs.Io.KnownBytes.{Consumes, IsAtEnd};
 ghost use Rattle.dcsctp_wire.specs.Frame.{lenient};
-ghost use Rattle.sctp_show.specs.Watched.{device_of, has_failed, change};
+ghost use Rattle.sctp_show.specs.Watched.{device_of, has_failed, is_flushed, change};
 ghost use Rattle.sctp_show.specs.Show.{TakesAtMost, MayAnswer, Writes, WritesBeginning, Runs};
 ghost use Rattle.sctp_show.specs.Reply.{reply_of};
 
@@ -119,6 +119,7 @@ fn tell<W: Write>(output: &mut Watched<W>, reply: &Result<String, Failure>) -> u
     ensures cut { has_failed output.old ≡ false → has_failed output.new ≡ true
         → WritesBeginning (reply_of reply.now) result
         (W.contents (device_of output.old)) (W.contents (device_of output.new)) }
+    ensures flushed { has_failed output.new ≡ false → is_flushed output.new ≡ true }
 {
     match reply {
         Ok(text) => print(output, text.as_bytes(), 0),
@@ -136,6 +137,7 @@ fn print<W: Write>(output: &mut Watched<W>, text: &[u8], status: u8) -> u8
     ensures cut { has_failed output.old ≡ false → has_failed output.new ≡ true
         → WritesBeginning (text.now, status) result
         (W.contents (device_of output.old)) (W.contents (device_of output.new)) }
+    ensures flushed { has_failed output.new ≡ false → is_flushed output.new ≡ true }
 {
     let mut written = 0;
     while written < text.len() {

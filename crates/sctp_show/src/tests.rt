@@ -240,6 +240,8 @@ fn is_answered(
 
 /// Runs the program over bytes in memory: the status, and whether these bytes are written.
 fn captured(alloc: Global, text: &str, wanted: &str) -> (u8, bool) {
-    let run = show_captured(alloc, text.as_bytes());
-    (run.status, run.bytes.as_slice() == wanted.as_bytes())
+    match show_captured(alloc, text.as_bytes()) {
+        Ok(run) => (run.status, run.bytes.as_slice() == wanted.as_bytes()),
+        Err(_) => (2, false),
+    }
 }

@@ -308,3 +308,21 @@ fn watched(rt: HostRuntime) {
     ];
     assert_eq!(rt; watched_writes(), (writes, (true, true), (4, true)));
 }
+
+/// Whether a device is flushed: at first, after a write, after a flush that fails, and after one
+/// that doesn't.
+fn watched_flushes() -> [bool; 4] {
+    let mut output = Watched::new(make_sink(b"ab", fails(9, 2, INTERRUPTED)));
+    let first = output.is_flushed();
+    let _written = output.write(b"ab").ok();
+    let second = output.is_flushed();
+    let _failed = output.flush().ok();
+    let third = output.is_flushed();
+    let _flushed = output.flush().ok();
+    [first, second, third, output.is_flushed()]
+}
+
+#[test]
+fn watched_flush(rt: HostRuntime) {
+    assert_eq!(rt; watched_flushes(), [true, false, false, true]);
+}

@@ -1,7 +1,7 @@
 //! Runs of the program in which a request for memory is refused.
 //!
-//! Run by `rt try --test --fail-alloc N`, each test has its Nth request refused, and no other. What it
-//! is written into is taken beforehand, so that all requests are the program's own.
+//! Run by `rt try --test --fail-alloc N`, each test has its Nth request refused, and no other. What
+//! it is written into is taken beforehand, so that all requests are the program's own.
 
 use crate::engine::show;
 use crate::tests::{SACK, SACK_TEXT, SMALL, SMALL_TEXT, make_source, steps};

@@ -1,32 +1,20 @@
-use Rattle.std.proofs.Common.{◌≡◌, [], subst, sym}
-use Rattle.std.specs.Io.{StartsWith}
-use Rattle.sctp_show.specs.Watched.{device_of}
-use Rattle.sctp_show.proofs.InMemory.{output_worked, MayTell, MayTell-run, MayTell-written, StartsWith-written, told_as_known}
+use Rattle.std.proofs.Common.{◌≡◌, false, [], subst, sym}
+use Rattle.dcsctp_wire.specs.Frame.{lenient}
+use Rattle.sctp_show.specs.Show.{MayShow}
+use Rattle.sctp_show.specs.Watched.{device_of, has_failed}
+use Rattle.sctp_show.proofs.InMemory.{MayShow-written, told_as_known}
 use Rattle.sctp_show.proofs.captured.show_captured.Goals as goal
 
 pub returns-clause-shown : goal.returns-clause-shown
-returns-clause-shown c = λ other.
+returns-clause-shown c =
     let known : (device_of c.new-input.result).now ≡ c.args.text.now = cc in
     let empty : (device_of c.new-output.result).items ≡ [] = cc in
-    let began = c.new-input.ensures.failed in
-    let opened = c.new-output.ensures.failed in
-    let worked = output_worked _ _ (c.show-status.ensures.status opened) other in
-    let whole = c.show-status.ensures.whole began opened worked in
-    subst (λ v. MayTell c.args.text.now (v.items, c.show-status.result)) (sym c.into_device.ensures)
-    (MayTell-written _ _ _ _ _ empty (MayTell-run _ _ _ _ _ known whole.1) whole.2)
+    let read : has_failed c.show-status.new.input ≡ false = cc in
+    let works : has_failed c.show-status.new.output ≡ false = cc in
+    let shown = c.show-status.ensures.shown c.new-input.ensures.failed c.new-output.ensures.failed read works in
+    subst (λ v. MayShow lenient c.args.text.now (v.items, c.show-status.result)) (sym c.into_device.ensures)
+    (MayShow-written _ _ _ _ _ known empty shown)
 
 pub returns-clause-known : goal.returns-clause-known
-returns-clause-known c = λ other answer is.
-    told_as_known _ _ answer c.show-status.ensures.one_answer (returns-clause-shown c other) is
-
-pub returns-clause-cut : goal.returns-clause-cut
-returns-clause-cut c = λ failed.
-    let known : (device_of c.new-input.result).now ≡ c.args.text.now = cc in
-    let empty : (device_of c.new-output.result).items ≡ [] = cc in
-    let began = c.new-input.ensures.failed in
-    let opened = c.new-output.ensures.failed in
-    let cut = c.show-status.ensures.cut began opened ((c.show-status.ensures.status opened).0 failed) in (
-      cut.0,
-      MayTell-run _ _ _ _ _ known cut.1,
-      subst (λ v. StartsWith cut.0.0 v.items) (sym c.into_device.ensures) (StartsWith-written _ _ _ cut.0 empty cut.2),
-    )
+returns-clause-known c = λ answer is.
+    told_as_known _ _ answer c.show-status.ensures.one_answer (returns-clause-shown c) is
