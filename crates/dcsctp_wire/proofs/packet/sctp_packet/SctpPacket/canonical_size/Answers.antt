@@ -15,8 +15,8 @@ round_up_to_4-body_size-requires c =
     let d = ap round_up_to_4 (c.list_size.ensures ∙ ap (list_size (λ x. chunk_tlv (view x))) c.deref.ensures.value) in
     omega (arith, s, d, c.requires.whole)
 
-pub overflow_add : goal.overflow_add
-overflow_add c =
+pub overflow_add-result : goal.overflow_add-result
+overflow_add-result c =
     let s = size_views c.args.self.now.chunks.items in
     let d = ap round_up_to_4 (c.list_size.ensures ∙ ap (list_size (λ x. chunk_tlv (view x))) c.deref.ensures.value) in
     omega (arith, s, d, c.requires.whole, c.round_up_to_4-body_size.ensures)
