@@ -1,7 +1,7 @@
 //! Padding under a policy that looks at it, and under one that doesn't.
 
 use crate::captures::{INIT, RE_CONFIG};
-use crate::help::{STRICT, UNVERIFIED, is_answered, is_canonical, is_refused, packet_of};
+use crate::help::{STRICT, UNVERIFIED, is_answered, is_canonical, packet_of};
 use crate::packets::{ACCEPTED, ACCEPTED_WITH_LISTS, INIT_WITHOUT_PADDING};
 use dcsctp_wire::packet::ChunkParseError;
 use dcsctp_wire::packet::sctp_packet::{PacketParseError, SctpPacket};
@@ -156,13 +156,21 @@ fn checked(alloc: Global, chunks: &[u8]) -> Result<(Answer, Answer), AllocError>
     ))
 }
 
+/// A strict reader refuses the packet for this fault.
+fn is_refused(alloc: Global, bytes: &[u8], fault: &PacketParseError) -> bool {
+    match SctpPacket::from_bytes(alloc, bytes, 0, &STRICT) {
+        Ok(_) => false,
+        Err(error) => error == *fault,
+    }
+}
+
 /// A packet with these chunks is read under the strict policy exactly where this is no fault, and
 /// else this is told.
 fn is_read(alloc: Global, chunks: &[u8], wanted: &Answer) -> Result<bool, AllocError> {
     let bytes = packet_of(alloc, chunks)?;
     match wanted {
         Ok(_) => Ok(SctpPacket::from_bytes(alloc, &bytes, 0, &STRICT).is_ok()),
-        Err(fault) => Ok(is_refused(alloc, &bytes, 0, &STRICT, fault)),
+        Err(fault) => Ok(is_refused(alloc, &bytes, fault)),
     }
 }
 
