@@ -377,7 +377,10 @@ fn other_types(rt: HostRuntime) -> Result<(), Fail> {
         let bytes = [0, typ, 0, 5, 0xaa];
         let refused = "InvalidType";
         let alloc = rt.alloc();
-        assert_eq!(rt; is_told::<SsnTsnResetRequestParameter>(alloc, &bytes, refused)?, ssn_tsn);
+        assert_eq!(rt;
+            is_told::<SsnTsnResetRequestParameter>(alloc, &bytes, refused)?,
+            ssn_tsn
+        );
         assert_eq!(rt;
             is_told::<AddOutgoingStreamsRequestParameter>(alloc, &bytes, refused)?,
             outgoing
