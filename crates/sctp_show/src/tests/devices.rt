@@ -177,7 +177,7 @@ fn is_write_failure_told(
 /// The row, and the call of its writer, at which such a fault isn't told.
 fn untold_write(alloc: Global, fault: Fault) -> Option<(usize, usize)> {
     for (row, told) in WRITES.iter().enumerate() {
-        let writes = told.2.len().div_ceil(told.3);
+        let writes = told.2.len().div_ceil(told.3.max(1));
         let calls = match fault {
             // The last call is the flush.
             Fault::Error(_) => writes + 1,
