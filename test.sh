@@ -1,6 +1,6 @@
 #!/usr/bin/env bash
-# The README's test command, from the root of the repository: each request for memory is refused in turn, and then the
-# gate runs. The last line is the gate's.
+# The README's test command, from the root of the repository: the page of captures is compared with the table that a test
+# holds, each request for memory is refused in turn, and then the gate runs. The last line is the gate's.
 set -u
 cd "$(dirname "$0")"
 
@@ -82,6 +82,7 @@ canonical=1388138801020304000000000b000004'
     give_up "sctp_show runs out of memory without a refusal" "$output"
 }
 
+docs/captures.py --compare || exit 1
 sweep_tests
 sweep_program
 rt ci

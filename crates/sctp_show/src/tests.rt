@@ -3,6 +3,7 @@
 ghost use Rattle.std.specs.Prelude.{◌≡◌, IfOk};
 
 mod answers;
+mod captures;
 mod devices;
 mod memory;
 mod original;

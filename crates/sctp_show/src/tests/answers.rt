@@ -1,39 +1,6 @@
 //! Texts of packets, and what is printed of them.
 
-use crate::tests::{SACK, SACK_TEXT, captured, is_answered};
-
-/// Captures of real peers, after a common header, and what the Rust crate answers them.
-const CAPTURES: &[(&str, &str)] = &[
-    // An INIT with six parameters.
-    (
-        "1388138801020304000000000100005ade7a16900002000003e803e8250d37e880000004c000000480080009c00fc1808200000080020024ab314462121a1513fd5a5f69efaa06e9abd748cc3bd14b60ed7fa644ce4dd2ad80040006000100008003000680c10000",
-        "source=5000 destination=5000 tag=16909060 checksum=0\nINIT, initiate_tag=3732543120, initial_tsn=621623272\ncanonical=1388138801020304000000000100005ade7a16900002000003e803e8250d37e880000004c000000480080009c00fc1808200000080020024ab314462121a1513fd5a5f69efaa06e9abd748cc3bd14b60ed7fa644ce4dd2ad80040006000100008003000680c10000\n",
-    ),
-    // DATA with four bytes of payload.
-    (
-        "138813880102030400000000000300145508363c000200010000003500010203",
-        "source=5000 destination=5000 tag=16909060 checksum=0\nDATA, type=ordered::complete, tsn=1426601532, sid=2, ssn=1, ppid=53, length=4\ncanonical=138813880102030400000000000300145508363c000200010000003500010203\n",
-    ),
-    // A SACK with two blocks and a duplicate.
-    (SACK, SACK_TEXT),
-    // A FORWARD-TSN that skips no stream.
-    (
-        "138813880102030400000000c000000871976b2a",
-        "source=5000 destination=5000 tag=16909060 checksum=0\nFORWARD-TSN, new_cumulative_tsn=1905748778\ncanonical=138813880102030400000000c000000871976b2a\n",
-    ),
-    // An I-FORWARD-TSN that skips one stream.
-    (
-        "138813880102030400000000c2000010b87452ec0001000000000002",
-        "source=5000 destination=5000 tag=16909060 checksum=0\nI-FORWARD-TSN, new_cumulative_tsn=3094631148\ncanonical=138813880102030400000000c2000010b87452ec0001000000000002\n",
-    ),
-];
-
-#[test]
-fn captures(rt: HostRuntime) {
-    for (text, wanted) in CAPTURES {
-        assert_eq!(rt; captured(rt.alloc(), text, wanted), (0, true), "{text}");
-    }
-}
+use crate::tests::is_answered;
 
 /// A text, what is printed of it, and the status.
 const ANSWERS: &[(&str, &str, u8)] = &[
