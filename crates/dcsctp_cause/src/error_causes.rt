@@ -237,6 +237,10 @@ impl SerializableTlv for ErrorCause {
     fn encodable(&self) -> bool {
         each_kind!(self, c => c.encodable())
     }
+
+    fn encoded_size(&self) -> Option<usize> {
+        each_kind!(self, c => c.encoded_size())
+    }
 }
 
 impl fmt::Display for ErrorCause {

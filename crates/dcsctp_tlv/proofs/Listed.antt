@@ -1,12 +1,14 @@
 -- A list in a value: of the code's items, seen by what they mean.
-use Rattle.std.proofs.Common.{◌≡◌, ℕ, Bool, true, inr, ◌^◌, ◌<◌, ◌≤◌, List, [], ◌∷◌, ◌++◌, length, get_or, drop, refl, ap, ◌∙◌, arith, Option, Some}
+use Rattle.std.proofs.Common.{◌≡◌, ℕ, Bool, true, inr, ◌^◌, ◌<◌, ◌≤◌, List, [], ◌∷◌, ◌++◌, length, get_or, drop, refl, sym, ap, ◌∙◌, arith, Option, Some}
 use Rattle.std.specs.Prelude.{map}
 use Rattle.std.proofs.lemmas.List.{length-append, length-map}
 use Rattle.dcsctp_tlv.specs.declared.error.ChunkParseError.{ChunkParseError}
 use Rattle.dcsctp_tlv.specs.declared.error.ChunkParseError.TheVariants.{InvalidLength, InvalidType, InvalidPadding, InvalidValue, OutOfMemory}
 use Rattle.dcsctp_tlv.specs.Level.{Level, HasFault, listed}
 use Rattle.dcsctp_tlv.specs.Reading.{IsFault}
-use Rattle.dcsctp_tlv.specs.Image.{solid, written, Tlv, size_of, image_of, list_image, list_size, listed_tlv, IsListEncodable}
+use Rattle.dcsctp_tlv.specs.Image.{solid, written, Tlv, size_of, image_of, list_image, list_size, listed_tlv, IsEncodable, IsListEncodable}
+use Rattle.dcsctp_tlv.specs.Frame.{header, frame_length}
+use Rattle.dcsctp_tlv.proofs.FieldLaws.{number16_law}
 use Rattle.dcsctp_tlv.proofs.Lengths.{length-image_of}
 use Rattle.dcsctp_tlv.proofs.Images.{list_size-map, list_image-map, length-list_image}
 
@@ -29,6 +31,23 @@ pub written_front : (front : List ℕ) (image : List (Option ℕ)) (old : List �
 written_front [] image old le = refl
 written_front (b ∷ front) image [] le = absurd (omega arith)
 written_front (b ∷ front) image (x ∷ old) le = ap (λ (xs : List ℕ). b ∷ xs) (written_front front image old (omega arith))
+
+-- a header, and after it the value
+pub written_headed : (t : Tlv) (old headed value : List ℕ) → headed ≡ header t.first t.second t.value_size → value ≡ written t.value (drop 4 old) → 4 ≤ length old
+    → headed ++ value ≡ written (image_of t) old
+unfolding image_of
+written_headed t old headed value e is room =
+    ap (λ (xs : List ℕ). xs ++ value) e
+    ∙ ap (λ (xs : List ℕ). header t.first t.second t.value_size ++ xs) is
+    ∙ written_front (header t.first t.second t.value_size) t.value old room
+
+-- what was written says how long it is
+pub written_length : (t : Tlv) (old out : List ℕ) → IsEncodable t → size_of t ≤ length old → out ≡ written (image_of t) old → frame_length out ≡ size_of t
+unfolding image_of
+written_length t old out fits room e =
+    let front = header t.first t.second t.value_size in
+    ap frame_length (e ∙ sym (written_front front t.value old (omega (arith, room))))
+    ∙ number16_law.back (size_of t) (written t.value (drop 4 old)) fits
 
 -- ---- what a check finds
 

@@ -1,6 +1,6 @@
 -- What is written for a tree: an item of RFC 9260 section 3.2, and lists of items, with places
 -- between these that stay as they stood.
-use Rattle.std.specs.Prelude.{ℕ, ◌+◌, ◌-◌, ◌/◌, ◌%◌, ◌<◌, ◌^◌, All, List, [], ◌∷◌, ◌++◌, Option, Some, None, length, map, unwrap_or, replicate, take, drop}
+use Rattle.std.specs.Prelude.{◌≡◌, ℕ, ◌+◌, ◌-◌, ◌/◌, ◌%◌, ◌<◌, ◌^◌, All, List, [], ◌∷◌, ◌++◌, Option, Some, None, length, map, unwrap_or, replicate, take, drop}
 use Rattle.dcsctp_tlv.specs.Frame.{round_up_to_4, header}
 
 -- ---- images
@@ -84,6 +84,11 @@ pub record IsListEncodable {T : Type 0} (tlv : T → Tlv) (placed : T → Type 0
     (ts : List T) : Type 0 where
   pub each : All placed ts
   pub total : list_size tlv ts < 2 ^ 16
+
+-- a size is told of what can be written, and of nothing else
+abbrev pub Sizes : Option ℕ → Type 0 → ℕ → Type 0
+Sizes (Some n) encodable size = encodable × (n ≡ size)
+Sizes None encodable size = ¬ encodable
 
 -- ---- outputs
 

@@ -1,7 +1,7 @@
 //! The frame of an item: a header of four bytes, and a value (RFC 9260 section 3.2).
 
 ghost use Rattle.std.specs.Prelude.{◌≡◌, ◌≤◌, ◌<◌, ◌+◌, ◌^◌, ◌++◌, ◌↔◌, length, drop, IsOk, IfOk, IfErr};
-ghost use Rattle.dcsctp_tlv.specs.Frame.{padding_size, are_zeros as are_zero_bytes, header, BeginsWithFrame, frame_value, frame_padding, frame_rest};
+ghost use Rattle.dcsctp_tlv.specs.Frame.{padding_size, are_zeros as are_zero_bytes, header, BeginsWithFrame, frame_length, frame_value, frame_padding, frame_rest};
 ghost use Rattle.dcsctp_tlv.specs.Format.{flagged_tlv};
 ghost use Rattle.dcsctp_tlv.specs.Image.{put, solid_tlv, typed_tlv, image_of, written};
 ghost use Rattle.dcsctp_tlv.specs.declared.error.ChunkParseError.TheVariants.{InvalidLength};
@@ -14,6 +14,14 @@ pub const TLV_HEADER_SIZE: usize = 4;
 
 /// The most bytes that a value can have: two bytes hold its size with the header's.
 pub const MAX_VALUE_SIZE: usize = 65531;
+
+/// What the length field at the front says: the bytes of header and value.
+pub(crate) fn frame_length(bytes: &[u8]) -> usize
+    requires { 4 ≤ length bytes.now }
+    ensures { result ≡ frame_length bytes.now }
+{
+    read_u16_be(&bytes[2..]) as usize
+}
 
 /// The value of the frame at the front, and the bytes after it and its padding.
 ///

@@ -4,27 +4,36 @@
 
 ghost use Rattle.std.specs.Prelude.{◌≡◌, ◌≤◌, ◌<◌, ◌+◌, ◌^◌, ◌↔◌, length, map, IsTrue};
 ghost use Rattle.dcsctp_tlv.specs.Format.{tlv_by};
-ghost use Rattle.dcsctp_tlv.specs.Image.{written, image_of, size_of, IsEncodable, list_image, list_size, listed_tlv, IsListEncodable};
+ghost use Rattle.dcsctp_tlv.specs.Image.{written, image_of, size_of, IsEncodable, Sizes, list_image, list_size, listed_tlv, IsListEncodable};
 
-use crate::frame::{MAX_VALUE_SIZE, TLV_HEADER_SIZE, put_header};
+use crate::frame::{MAX_VALUE_SIZE, TLV_HEADER_SIZE, frame_length, put_header};
 use crate::number::round_up_to_4;
 use crate::tlv::{ListedTlv, SerializableTlv};
+
+/// The bytes of the list, without padding after its last item; nothing where an item can't be
+/// written, or the list has more than 65,535 bytes.
+pub fn encoded_list_size<T: SerializableTlv>(list: &[T]) -> Option<usize>
+    ensures { Sizes result (IsListEncodable (tlv_by T.format) T.placed list.now)
+        (list_size (tlv_by T.format) list.now) }
+{
+    let mut total: usize = 0;
+    for item in list {
+        let Some(size) = item.encoded_size() else {
+            return None;
+        };
+        total = round_up_to_4(total) + size;
+        if total > 65535 {
+            return None;
+        }
+    }
+    Some(total)
+}
 
 /// Each item can be written, and the list has at most 65,535 bytes.
 pub fn list_encodable<T: SerializableTlv>(list: &[T]) -> bool
     ensures { IsTrue result ↔ IsListEncodable (tlv_by T.format) T.placed list.now }
 {
-    let mut total: usize = 0;
-    for item in list {
-        if !item.encodable() {
-            return false;
-        }
-        total = round_up_to_4(total) + item.serialized_size();
-        if total > 65535 {
-            return false;
-        }
-    }
-    true
+    encoded_list_size(list).is_some()
 }
 
 /// The bytes of the list, without padding after its last item.
@@ -39,20 +48,23 @@ pub fn list_size<T: SerializableTlv>(list: &[T]) -> usize
     size
 }
 
-/// Writes the list at the front of `output`. The bytes between items, and those past the list,
-/// stay as they stood.
-pub fn put_list<T: SerializableTlv>(list: &[T], output: &mut [u8])
+/// Writes the list at the front of `output`, and answers its bytes. The bytes between items, and
+/// those past the list, stay as they stood.
+pub fn put_list<T: SerializableTlv>(list: &[T], output: &mut [u8]) -> usize
     requires encodable { IsListEncodable (tlv_by T.format) T.placed list.now }
     requires room { list_size (tlv_by T.format) list.now ≤ length output.old }
-    ensures { output.new ≡ written (list_image (tlv_by T.format) list.now) output.old }
+    ensures written { output.new ≡ written (list_image (tlv_by T.format) list.now) output.old }
+    ensures size { result ≡ list_size (tlv_by T.format) list.now }
 {
     let mut end: usize = 0;
     for item in list {
         let start = round_up_to_4(end);
         let (_, rest) = output.split_at_mut(start);
         item.serialize_to(rest);
-        end = start + item.serialized_size();
+        // The length that was written: the item needn't be sized again.
+        end = start + frame_length(rest);
     }
+    end
 }
 
 /// The list can be written in one value after so many bytes.
@@ -60,10 +72,7 @@ pub fn listed_encodable<T: ListedTlv>(leading: usize, list: &[T]) -> bool
     requires { leading ≤ MAX_VALUE_SIZE }
     ensures { IsTrue result ↔ 4 + (leading + list_size T.tree_tlv (map T.view list.now)) < 2 ^ 16 }
 {
-    if !list_encodable(list) {
-        return false;
-    }
-    list_size(list) <= MAX_VALUE_SIZE - leading
+    listed_encoded_size(leading, list).is_some()
 }
 
 /// The bytes of a value with the list after so many bytes.
@@ -72,6 +81,22 @@ pub fn listed_size<T: ListedTlv>(leading: usize, list: &[T]) -> usize
     ensures { result ≡ leading + list_size T.tree_tlv (map T.view list.now) }
 {
     leading + list_size(list)
+}
+
+/// The bytes of an item whose value is the list after so many bytes; nothing where it can't be
+/// written.
+pub fn listed_encoded_size<T: ListedTlv>(leading: usize, list: &[T]) -> Option<usize>
+    requires { leading ≤ MAX_VALUE_SIZE }
+    ensures { Sizes result (4 + (leading + list_size T.tree_tlv (map T.view list.now)) < 2 ^ 16)
+        (4 + (leading + list_size T.tree_tlv (map T.view list.now))) }
+{
+    let Some(size) = encoded_list_size(list) else {
+        return None;
+    };
+    if size > MAX_VALUE_SIZE - leading {
+        return None;
+    }
+    Some(TLV_HEADER_SIZE + leading + size)
 }
 
 /// Writes an item whose value begins with these bytes, and after them is the list.
@@ -90,9 +115,9 @@ pub fn put_listed<T: ListedTlv>(
         (image_of (listed_tlv first second leading.now T.tree_tlv (map T.view list.now)))
         output.old }
 {
-    put_header(first, second, listed_size(leading.len(), list), output);
-    let (_, value) = output.split_at_mut(TLV_HEADER_SIZE);
+    let (header, value) = output.split_at_mut(TLV_HEADER_SIZE);
     let (front, rest) = value.split_at_mut(leading.len());
     front.copy_from_slice(leading);
-    put_list(list, rest);
+    let size = put_list(list, rest);
+    put_header(first, second, leading.len() + size, header);
 }

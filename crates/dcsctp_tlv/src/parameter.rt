@@ -347,6 +347,10 @@ impl SerializableTlv for Parameter {
     fn encodable(&self) -> bool {
         each_kind!(self, p => p.encodable())
     }
+
+    fn encoded_size(&self) -> Option<usize> {
+        each_kind!(self, p => p.encoded_size())
+    }
 }
 
 impl ListedTlv for Parameter {

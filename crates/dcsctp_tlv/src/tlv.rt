@@ -2,7 +2,7 @@
 
 ghost use Rattle.std.specs.Prelude.{◌≡◌, ◌≤◌, ◌+◌, ◌↔◌, length, IsTrue};
 ghost use Rattle.dcsctp_tlv.specs.Format.{Format};
-ghost use Rattle.dcsctp_tlv.specs.Image.{Tlv, size_of, image_of, IsEncodable, written};
+ghost use Rattle.dcsctp_tlv.specs.Image.{Tlv, size_of, image_of, IsEncodable, Sizes, written};
 
 /// A chunk, a parameter or an error cause that can be sized and written.
 ///
@@ -40,6 +40,17 @@ pub trait SerializableTlv {
     /// It can be written: what it holds has a place, and two bytes can hold its size.
     fn encodable(&self) -> bool
         ensures { IsTrue result ↔ (placed self.now × IsEncodable (format self.now).tlv) };
+
+    /// Its `serialized_size` where it is `encodable`, and nothing where it isn't.
+    fn encoded_size(&self) -> Option<usize>
+        ensures { Sizes result (placed self.now × IsEncodable (format self.now).tlv)
+            (size_of (format self.now).tlv) }
+    {
+        if !self.encodable() {
+            return None;
+        }
+        Some(self.serialized_size())
+    }
 }
 
 /// What a list in a chunk's value holds: parameters or error causes.

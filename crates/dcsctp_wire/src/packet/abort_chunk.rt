@@ -20,7 +20,7 @@ use dcsctp_cause::error_causes::{ErrorCause, error_cause_build, error_cause_chec
 use dcsctp_chunk::flags::{is_set, one_flag};
 use dcsctp_chunk::raw_chunk::RawChunk;
 use dcsctp_tlv::error::ChunkParseError;
-use dcsctp_tlv::list::{listed_encodable, listed_size, put_listed};
+use dcsctp_tlv::list::{listed_encodable, listed_encoded_size, listed_size, put_listed};
 use dcsctp_tlv::tlv::SerializableTlv;
 use std::alloc::{AllocError, Global};
 use std::fmt;
@@ -125,6 +125,10 @@ impl SerializableTlv for AbortChunk {
 
     fn encodable(&self) -> bool {
         listed_encodable(0, &self.error_causes)
+    }
+
+    fn encoded_size(&self) -> Option<usize> {
+        listed_encoded_size(0, &self.error_causes)
     }
 }
 

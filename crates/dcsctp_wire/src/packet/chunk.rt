@@ -380,6 +380,10 @@ impl SerializableTlv for Chunk {
     fn encodable(&self) -> bool {
         each_kind!(self, c => c.encodable())
     }
+
+    fn encoded_size(&self) -> Option<usize> {
+        each_kind!(self, c => c.encoded_size())
+    }
 }
 
 impl fmt::Display for Chunk {

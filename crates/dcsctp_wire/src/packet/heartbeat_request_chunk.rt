@@ -20,7 +20,7 @@ ghost use Rattle.dcsctp_wire.specs.ParameterList as parameter_list;
 use crate::packet::parameter_list::parameter_list_check;
 use dcsctp_chunk::raw_chunk::RawChunk;
 use dcsctp_tlv::error::ChunkParseError;
-use dcsctp_tlv::list::{listed_encodable, listed_size, put_listed};
+use dcsctp_tlv::list::{listed_encodable, listed_encoded_size, listed_size, put_listed};
 use dcsctp_tlv::parameter::{Parameter, parameters_build};
 use dcsctp_tlv::tlv::SerializableTlv;
 use std::alloc::{AllocError, Global};
@@ -109,6 +109,10 @@ impl SerializableTlv for HeartbeatRequestChunk {
 
     fn encodable(&self) -> bool {
         listed_encodable(0, &self.parameters)
+    }
+
+    fn encoded_size(&self) -> Option<usize> {
+        listed_encoded_size(0, &self.parameters)
     }
 }
 

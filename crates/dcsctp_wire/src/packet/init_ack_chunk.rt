@@ -28,7 +28,7 @@ ghost use Rattle.dcsctp_wire.specs.InitFields as init_fields;
 use crate::packet::init::{FIXED_SIZE, InitFields, init_build, init_bytes, init_check};
 use dcsctp_chunk::raw_chunk::RawChunk;
 use dcsctp_tlv::error::ChunkParseError;
-use dcsctp_tlv::list::{listed_encodable, listed_size, put_listed};
+use dcsctp_tlv::list::{listed_encodable, listed_encoded_size, listed_size, put_listed};
 use dcsctp_tlv::parameter::Parameter;
 use dcsctp_tlv::tlv::SerializableTlv;
 use dcsctp_types::types::Tsn;
@@ -140,6 +140,10 @@ impl SerializableTlv for InitAckChunk {
 
     fn encodable(&self) -> bool {
         listed_encodable(FIXED_SIZE, &self.parameters)
+    }
+
+    fn encoded_size(&self) -> Option<usize> {
+        listed_encoded_size(FIXED_SIZE, &self.parameters)
     }
 }
 

@@ -28,7 +28,7 @@ ghost use Rattle.dcsctp_wire.specs.declared.packet.sctp_packet.PacketParseError.
 pub use crate::packet::builder::SctpPacketBuilder;
 use crate::packet::chunk::Chunk;
 use dcsctp_tlv::error::ChunkParseError;
-use dcsctp_tlv::list::{list_encodable, list_size, put_list};
+use dcsctp_tlv::list::{encoded_list_size, list_size, put_list};
 use dcsctp_tlv::number::{put_u16, put_u32, read_u16_be, read_u32_be, round_up_to_4};
 use dcsctp_tlv::reader::{list_build, list_check};
 use dcsctp_types::api::{
@@ -209,10 +209,10 @@ impl SctpPacket {
     pub fn fits(&self) -> bool
         ensures { IsTrue result ↔ Fits (meaning_view self.now) }
     {
-        if !list_encodable(&self.chunks) {
-            return false;
+        match encoded_list_size(&self.chunks) {
+            Some(size) => round_up_to_4(size) <= MAX_CANONICAL_SIZE - COMMON_HEADER_SIZE,
+            None => false,
         }
-        round_up_to_4(list_size(&self.chunks)) <= MAX_CANONICAL_SIZE - COMMON_HEADER_SIZE
     }
 
     /// The canonical packet: the ports and the tag, a checksum of 0, and each chunk with zeros up

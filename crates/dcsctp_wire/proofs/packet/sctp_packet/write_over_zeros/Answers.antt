@@ -29,5 +29,5 @@ returns c =
     let rest : (12 + w) - 12 ≡ w = omega arith in
     let back : c.split_at_mut-header.result.1.now ≡ replicate w 0 = c.split_at_mut-header.ensures.back ∙ ap (drop 12) c.requires.zeros ∙ drop-replicate {X = ℕ} 12 (12 + w) 0 ∙ ap (λ (k : ℕ). replicate k 0) rest in
     let body : c.put_list.new.output ≡ written (list_image (λ x. chunk_tlv (view x)) cs) (replicate w 0) =
-    c.put_list.ensures ∙ ap (λ (x : List ℕ). written (list_image (λ y. chunk_tlv (view y)) c.deref.result.now) x) back ∙ ap (λ (x : _). written (list_image (λ y. chunk_tlv (view y)) x) (replicate w 0)) c.deref.ensures.value in
+    c.put_list.ensures.written ∙ ap (λ (x : List ℕ). written (list_image (λ y. chunk_tlv (view y)) c.deref.result.now) x) back ∙ ap (λ (x : _). written (list_image (λ y. chunk_tlv (view y)) x) (replicate w 0)) c.deref.ensures.value in
     ap (λ (x : List ℕ). x ++ c.put_list.new.output) (c.copy_from_slice.ensures.after ∙ c.header_bytes.ensures) ∙ ap (λ (x : List ℕ). header ++ x) (body ∙ body_is cs w refl)
