@@ -1,9 +1,9 @@
 -- What each kind of error cause owes the laws of the table.
-use Rattle.std.proofs.Common.{◌≡◌, ℕ, ◌+◌, ◌*◌, true, false, List, [], length, drop, refl, sym, ap, ◌∙◌, arith, Ok}
-use Rattle.std.specs.Prelude.{◌==◌, nat_lt}
+use Rattle.std.proofs.Common.{◌≡◌, ℕ, ◌+◌, ◌*◌, true, List, [], length, drop, refl, sym, ap, ◌∙◌, arith, Ok}
+use Rattle.std.specs.Prelude.{◌==◌}
 use Rattle.std.specs.Int.{w32, to_be_bytes}
 use Rattle.std.specs.Str.{IsUtf8}
-use Rattle.std.proofs.lemmas.Bool.{eqb-true, le-ltb}
+use Rattle.std.proofs.lemmas.Bool.{eqb-true}
 use Rattle.std.proofs.lemmas.Bool.Decides.{Decides-eqb}
 use Rattle.std.proofs.lemmas.Nat.{from_be_bytes-to_be_bytes_4}
 use Rattle.dcsctp_tlv.specs.Fault.{Length}
@@ -11,7 +11,7 @@ use Rattle.dcsctp_tlv.specs.Image.{IsEncodable}
 use Rattle.dcsctp_tlv.specs.Number.{number16, number32}
 use Rattle.dcsctp_tlv.proofs.FieldLaws.{length-fields, numbers16_back}
 use Rattle.dcsctp_tlv.proofs.FormatLaws.{FormatLaws, Keeps, format_laws}
-use Rattle.dcsctp_tlv.proofs.KindLaws.{of_ok, passed, not_refused}
+use Rattle.dcsctp_tlv.proofs.KindLaws.{of_ok, passed}
 use Rattle.dcsctp_cause.specs.MissingMandatoryParameter as missing
 use Rattle.dcsctp_cause.specs.UnrecognizedChunk as chunk
 use Rattle.dcsctp_cause.specs.NoUserData as no_user_data
@@ -31,10 +31,9 @@ missing_back types w fits =
     let size = length-bytes_of_types types in
     let count : number32 value ≡ length types =
     from_be_bytes-to_be_bytes_4 (length types) (omega (arith, fits)) in
-    let long : nat_lt (length value) 4 ≡ false = le-ltb (length value) 4 (omega arith) in
     let whole : (length value == 4 + 2 * length types) ≡ true =
     (Decides-eqb (length value) (4 + 2 * length types)).1 size in
-    rw (count, whole, long, numbers16_back types (length types) refl w) refl
+    rw (count, whole, numbers16_back types (length types) refl w) refl
 
 pub missing_laws : FormatLaws missing.read missing.format
 missing_laws =
@@ -44,8 +43,7 @@ missing_laws =
 pub missing_keeps : Keeps missing.read missing.format
 unfolding missing.read
 missing_keeps first second value types e =
-    let long = not_refused (nat_lt (length value) 4) _ Length types e in
-    let whole = passed (length value == 4 + 2 * number32 value) _ Length types long.1 in
+    let whole = passed (length value == 4 + 2 * number32 value) _ Length types e in
     let is = of_ok _ types whole.1 in
     let count : length types ≡ number32 value =
     ap length (sym is) ∙ length-fields number16 2 (number32 value) (drop 4 value) in

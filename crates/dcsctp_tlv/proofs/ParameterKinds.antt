@@ -1,9 +1,8 @@
 -- What each kind of parameter owes the laws of the table.
-use Rattle.std.proofs.Common.{◌≡◌, ℕ, ◌+◌, ◌-◌, ◌/◌, ◌%◌, ◌^◌, ◌<◌, true, false, List, [], ◌∷◌, ◌++◌, length, drop, refl, sym, ap, subst, ◌∙◌, arith, Option, Some, None, Ok, ◌⊎◌, inl, inr}
-use Rattle.std.specs.Prelude.{◌==◌, nat_lt}
+use Rattle.std.proofs.Common.{◌≡◌, ℕ, ◌+◌, ◌-◌, ◌*◌, ◌/◌, ◌%◌, ◌^◌, ◌<◌, true, false, List, [], ◌∷◌, ◌++◌, length, drop, refl, sym, ap, subst, ◌∙◌, arith, Option, Some, None, Ok, ◌⊎◌, inl, inr}
+use Rattle.std.specs.Prelude.{◌==◌}
 use Rattle.std.specs.Int.{w16, w32, to_be_bytes, from_be_bytes}
-use Rattle.std.proofs.lemmas.Bool.{eqb-true, ltb-false, le-ltb}
-use Rattle.std.proofs.lemmas.Bool.Decides.{Decides-eqb}
+use Rattle.std.proofs.lemmas.Bool.{eqb-true, eq-eqb}
 use Rattle.std.proofs.lemmas.Nat.{from_be_bytes-to_be_bytes_2, from_be_bytes-to_be_bytes_4}
 use Rattle.dcsctp_tlv.specs.Fault.{Length}
 use Rattle.dcsctp_tlv.specs.Level.{plain, map_ok}
@@ -22,7 +21,7 @@ use Rattle.dcsctp_tlv.specs.ReconfigurationResponse as response
 use Rattle.dcsctp_tlv.specs.ReconfigurationResponse.{result_of, result_number, response_with, next_tsns}
 use Rattle.dcsctp_tlv.specs.declared.parameter.reconfiguration_response_parameter.ReconfigurationResponseResult.{ReconfigurationResponseResult}
 use Rattle.dcsctp_tlv.specs.declared.parameter.reconfiguration_response_parameter.ReconfigurationResponseResult.TheVariants.{SuccessNothingToDo, SuccessPerformed, Denied, ErrorWrongSSN, ErrorRequestAlreadyInProgress, ErrorBadSequenceNumber, InProgress}
-use Rattle.dcsctp_tlv.proofs.KindLaws.{of_ok, of_map_ok, chosen, passed, not_refused}
+use Rattle.dcsctp_tlv.proofs.KindLaws.{of_ok, of_map_ok, chosen, passed}
 use Rattle.dcsctp_tlv.proofs.FormatLaws.{FormatLaws, Keeps, format_laws}
 use Rattle.dcsctp_tlv.proofs.FieldLaws.{length-fields, numbers16_back}
 use Rattle.dcsctp_tlv.proofs.Forms.{FormsRow}
@@ -157,12 +156,10 @@ unfolding outgoing.read
 outgoing_back r w =
     let n : ℕ = length (outgoing_bytes r) in
     let twice = length-numbers w16 2 r.streams (λ n. refl) in
-    let even : (n % 2 == 0) ≡ true = (Decides-eqb (n % 2) 0).1 (omega (arith, twice)) in
-    let long : nat_lt n 12 ≡ false = le-ltb n 12 (omega arith) in
+    let whole = eq-eqb n (12 + 2 * ((n - 12) / 2)) (omega (arith, twice)) in
     let streams = numbers16_back r.streams ((n - 12) / 2) (omega (arith, twice)) w.streams in
     rw (
-      even,
-      long,
+      whole,
       streams,
       from_be_bytes-to_be_bytes_4 r.request w.request,
       from_be_bytes-to_be_bytes_4 r.response w.response,
@@ -177,13 +174,13 @@ outgoing_laws =
 pub outgoing_keeps : Keeps outgoing.read outgoing.format
 unfolding outgoing.read
 outgoing_keeps first second value r e =
-    let long = not_refused (nat_lt (length value) 12) _ Length r e in
-    let even = passed (length value % 2 == 0) _ Length r long.1 in
-    let is = of_ok _ r even.1 in
-    let count : length r.streams ≡ (length value - 12) / 2 =
+    let n : ℕ = outgoing.stream_count value in
+    let whole = passed (length value == 12 + 2 * n) _ Length r e in
+    let is = of_ok _ r whole.1 in
+    let count : length r.streams ≡ n =
     ap (λ (x : outgoing.Tree). length x.streams) (sym is)
-    ∙ length-fields number16 2 ((length value - 12) / 2) (drop 12 value) in
-    omega (arith, ltb-false (length value) 12 long.0, eqb-true (length value % 2) 0 even.0, count)
+    ∙ length-fields number16 2 n (drop 12 value) in
+    omega (arith, eqb-true (length value) (12 + 2 * n) whole.0, count)
 
 abbrev incoming_bytes : incoming.Tree → List ℕ
 incoming_bytes r = numbers w32 (incoming.leading r) ++ numbers w16 r.streams
@@ -193,10 +190,9 @@ unfolding incoming.read
 incoming_back r w =
     let n : ℕ = length (incoming_bytes r) in
     let twice = length-numbers w16 2 r.streams (λ n. refl) in
-    let even : (n % 2 == 0) ≡ true = (Decides-eqb (n % 2) 0).1 (omega (arith, twice)) in
-    let long : nat_lt n 4 ≡ false = le-ltb n 4 (omega arith) in
+    let whole = eq-eqb n (4 + 2 * ((n - 4) / 2)) (omega (arith, twice)) in
     let streams = numbers16_back r.streams ((n - 4) / 2) (omega (arith, twice)) w.streams in
-    rw (even, long, streams, from_be_bytes-to_be_bytes_4 r.request w.request) refl
+    rw (whole, streams, from_be_bytes-to_be_bytes_4 r.request w.request) refl
 
 pub incoming_laws : FormatLaws incoming.read incoming.format
 incoming_laws =
@@ -206,13 +202,13 @@ incoming_laws =
 pub incoming_keeps : Keeps incoming.read incoming.format
 unfolding incoming.read
 incoming_keeps first second value r e =
-    let long = not_refused (nat_lt (length value) 4) _ Length r e in
-    let even = passed (length value % 2 == 0) _ Length r long.1 in
-    let is = of_ok _ r even.1 in
-    let count : length r.streams ≡ (length value - 4) / 2 =
+    let n : ℕ = incoming.stream_count value in
+    let whole = passed (length value == 4 + 2 * n) _ Length r e in
+    let is = of_ok _ r whole.1 in
+    let count : length r.streams ≡ n =
     ap (λ (x : incoming.Tree). length x.streams) (sym is)
-    ∙ length-fields number16 2 ((length value - 4) / 2) (drop 4 value) in
-    omega (arith, ltb-false (length value) 4 long.0, eqb-true (length value % 2) 0 even.0, count)
+    ∙ length-fields number16 2 n (drop 4 value) in
+    omega (arith, eqb-true (length value) (4 + 2 * n) whole.0, count)
 
 -- ---- a response
 

@@ -1,8 +1,8 @@
 -- Each kind of chunk reads back, and reads only what is well-formed: a line a kind.
 use Rattle.std.proofs.Common.{◌≡◌, ◌≢◌, ℕ, Bool, true, false, List, [], ◌∷◌, refl, sym, ap, subst, ◌∙◌, arith}
-use Rattle.std.specs.Prelude.{◌==◌, length, drop}
+use Rattle.std.specs.Prelude.{nat_lt, length, drop}
 use Rattle.std.specs.List.{AllByRecursion}
-use Rattle.std.proofs.lemmas.Bool.{le-leb, ne_eqb}
+use Rattle.std.proofs.lemmas.Bool.{le-leb, lt-ltb}
 use Rattle.std.proofs.lemmas.Nat.{from_be_bytes-to_be_bytes_2, from_be_bytes-to_be_bytes_4}
 use Rattle.dcsctp_tlv.specs.Frame.{lenient}
 use Rattle.dcsctp_tlv.specs.Level.{plain, as_row, map_ok, MeansTrees}
@@ -87,19 +87,19 @@ abort_means strict a width formed fits = (
 
 -- a list of causes that is written isn't empty
 some_bytes : (cs : List CauseTree) → cs ≢ []
-    → (length (zeroed (list_image cause_tlv cs)) == 0) ≡ false
+    → nat_lt 0 (length (zeroed (list_image cause_tlv cs))) ≡ true
 unfolding image_of
 some_bytes [] some = absurd (some refl)
 some_bytes (c ∷ []) some =
-    ne_eqb (length (zeroed (list_image cause_tlv (c ∷ [])))) 0 (λ e. omega (arith, e))
+    lt-ltb 0 (length (zeroed (list_image cause_tlv (c ∷ [])))) (omega arith)
 some_bytes (c ∷ d ∷ cs) some =
-    ne_eqb (length (zeroed (list_image cause_tlv (c ∷ d ∷ cs)))) 0 (λ e. omega (arith, e))
+    lt-ltb 0 (length (zeroed (list_image cause_tlv (c ∷ d ∷ cs)))) (omega arith)
 
 error_means : (strict : Bool) (cs : List CauseTree) → AllByRecursion IsCauseInWidth cs
     → (cs ≢ []) × AllByRecursion IsCauseWellFormed cs → IsEncodable (error_format cs).tlv
     → (error_row strict).means (zeroed (error_format cs).tlv.value) cs
 error_means strict cs width formed fits = (
-  rw (some_bytes cs formed.0) refl,
+  some_bytes cs formed.0,
   (
     cs,
     nested_reads_back (causes strict) cause_tlv IsGoodCause (causes_read_back strict) cs

@@ -1,6 +1,6 @@
 -- No list of parameters, causes or chunks is refused for its padding by a lenient reader: a line for
 -- each kind.
-use Rattle.std.proofs.Common.{ℕ, ◌+◌, ◌-◌, ◌*◌, ◌%◌, List, [], ◌∷◌, length, drop, refl}
+use Rattle.std.proofs.Common.{ℕ, ◌+◌, ◌*◌, List, [], ◌∷◌, length, drop, refl}
 use Rattle.std.specs.Prelude.{◌==◌, nat_lt}
 use Rattle.std.specs.Int.{w16, from_be_bytes}
 use Rattle.dcsctp_tlv.specs.Number.{number32}
@@ -66,11 +66,11 @@ response_unpadded v =
 
 outgoing_unpadded : (v : List ℕ) → NotPadding (outgoing.read v)
 unfolding outgoing.read
-outgoing_unpadded v = by_test (nat_lt (length v) 12) (λ e. rw e fine) (λ e. rw e (by_test (length v % 2 == 0) (λ e. rw e fine) (λ e. rw e fine)))
+outgoing_unpadded v = by_test (length v == 12 + 2 * outgoing.stream_count v) (λ e. rw e fine) (λ e. rw e fine)
 
 incoming_unpadded : (v : List ℕ) → NotPadding (incoming.read v)
 unfolding incoming.read
-incoming_unpadded v = by_test (nat_lt (length v) 4) (λ e. rw e fine) (λ e. rw e (by_test (length v % 2 == 0) (λ e. rw e fine) (λ e. rw e fine)))
+incoming_unpadded v = by_test (length v == 4 + 2 * incoming.stream_count v) (λ e. rw e fine) (λ e. rw e fine)
 
 ssn_tsn_unpadded : (v : List ℕ) → NotPadding (ssn_tsn.read v)
 unfolding ssn_tsn.read
@@ -113,7 +113,7 @@ parameters_unpadded =
 
 missing_unpadded : (v : List ℕ) → NotPadding (missing.read v)
 unfolding missing.read
-missing_unpadded v = by_test (nat_lt (length v) 4) (λ e. rw e fine) (λ e. rw e (by_test (length v == 4 + 2 * number32 v) (λ e. rw e fine) (λ e. rw e fine)))
+missing_unpadded v = by_test (length v == 4 + 2 * number32 v) (λ e. rw e fine) (λ e. rw e fine)
 
 no_user_data_unpadded : (v : List ℕ) → NotPadding (no_user_data.read v)
 unfolding no_user_data.read
@@ -147,7 +147,7 @@ data_unpadded flags v = by_test (nat_lt (length v) 12) (λ e. rw e fine) (λ e. 
 
 sack_unpadded : (v : List ℕ) → NotPadding (sack.read v)
 unfolding sack.read
-sack_unpadded v = by_test (nat_lt (length v) 12) (λ e. rw e fine) (λ e. rw e (by_test (length v == 12 + 4 * block_count v + 4 * duplicate_count v) (λ e. rw e fine) (λ e. rw e fine)))
+sack_unpadded v = by_test (length v == 12 + 4 * block_count v + 4 * duplicate_count v) (λ e. rw e fine) (λ e. rw e fine)
 
 shutdown_unpadded : (v : List ℕ) → NotPadding (shutdown.read v)
 unfolding shutdown.read
@@ -175,11 +175,11 @@ i_data_unpadded flags v = by_test (nat_lt (length v) 16) (λ e. rw e fine) (λ e
 
 forward_tsn_unpadded : (v : List ℕ) → NotPadding (forward_tsn.read v)
 unfolding forward_tsn.read
-forward_tsn_unpadded v = by_test (nat_lt (length v) 4) (λ e. rw e fine) (λ e. rw e (by_test (length v % 4 == 0) (λ e. rw e fine) (λ e. rw e fine)))
+forward_tsn_unpadded v = by_test (length v == 4 + 4 * forward_tsn.stream_count v) (λ e. rw e fine) (λ e. rw e fine)
 
 i_forward_tsn_unpadded : (v : List ℕ) → NotPadding (i_forward_tsn.read v)
 unfolding i_forward_tsn.read
-i_forward_tsn_unpadded v = by_test (nat_lt (length v) 4) (λ e. rw e fine) (λ e. rw e (by_test ((length v - 4) % 8 == 0) (λ e. rw e fine) (λ e. rw e fine)))
+i_forward_tsn_unpadded v = by_test (length v == 4 + 8 * i_forward_tsn.stream_count v) (λ e. rw e fine) (λ e. rw e fine)
 
 init_unpadded : Unpadded (init_row lenient)
 init_unpadded = listed_unpadded _ 16 (parameters lenient) init_of parameters_unpadded
