@@ -20,7 +20,7 @@ use Rattle.dcsctp_tlv.specs.ForwardTsnSupported as forward_tsn_supported
 use Rattle.dcsctp_tlv.specs.UnknownParameter as unknown_parameter
 use Rattle.dcsctp_tlv.specs.Parameter.{parameters, row as parameter_row, table as parameter_table}
 use Rattle.dcsctp_tlv.proofs.Tables.{of_table, ◌&◌}
-use Rattle.dcsctp_tlv.proofs.Unpadded.{Unpadded, NotPadding, fine, by_test, mapped, plain_unpadded, ok_unpadded, listed_unpadded, list_unpadded}
+use Rattle.dcsctp_tlv.proofs.Unpadded.{Unpadded, NotPadding, fine, by_test, mapped, plain_unpadded, ok_unpadded, list_unpadded}
 use Rattle.dcsctp_cause.specs.MissingMandatoryParameter as missing
 use Rattle.dcsctp_cause.specs.UnrecognizedChunk as unrecognized_chunk
 use Rattle.dcsctp_cause.specs.NoUserData as no_user_data
@@ -39,12 +39,6 @@ use Rattle.dcsctp_chunk.specs.ShutdownComplete as shutdown_complete
 use Rattle.dcsctp_chunk.specs.IDataChunk as i_data
 use Rattle.dcsctp_chunk.specs.ForwardTsn as forward_tsn
 use Rattle.dcsctp_chunk.specs.IForwardTsn as i_forward_tsn
-use Rattle.dcsctp_chunk.specs.Unknown as unknown_chunk
-use Rattle.dcsctp_wire.specs.InitFields.{tree_of as init_of, row as init_row}
-use Rattle.dcsctp_wire.specs.ParameterList.{row as parameter_list_row}
-use Rattle.dcsctp_wire.specs.Abort.{tree_of as abort_of, row as abort_row}
-use Rattle.dcsctp_wire.specs.Error.{row as error_row}
-use Rattle.dcsctp_wire.specs.Chunk.{chunks, chunk_row, table}
 
 -- ---- parameters
 
@@ -139,81 +133,44 @@ causes_unpadded =
     list_unpadded (causes lenient) (λ _ _. refl)
     (λ first second. cause_unpadded (from_be_bytes w16 (first ∷ second ∷ [])))
 
--- ---- chunks
+-- ---- chunks without a list
 
-data_unpadded : (flags : ℕ) (v : List ℕ) → NotPadding (data_chunk.read flags v)
+pub data_unpadded : (flags : ℕ) (v : List ℕ) → NotPadding (data_chunk.read flags v)
 unfolding data_chunk.read
 data_unpadded flags v = by_test (nat_lt (length v) 12) (λ e. rw e fine) (λ e. rw e fine)
 
-sack_unpadded : (v : List ℕ) → NotPadding (sack.read v)
+pub sack_unpadded : (v : List ℕ) → NotPadding (sack.read v)
 unfolding sack.read
 sack_unpadded v = by_test (length v == 12 + 4 * block_count v + 4 * duplicate_count v) (λ e. rw e fine) (λ e. rw e fine)
 
-shutdown_unpadded : (v : List ℕ) → NotPadding (shutdown.read v)
+pub shutdown_unpadded : (v : List ℕ) → NotPadding (shutdown.read v)
 unfolding shutdown.read
 shutdown_unpadded v = by_test (length v == 4) (λ e. rw e fine) (λ e. rw e fine)
 
-shutdown_ack_unpadded : (v : List ℕ) → NotPadding (shutdown_ack.read v)
+pub shutdown_ack_unpadded : (v : List ℕ) → NotPadding (shutdown_ack.read v)
 unfolding shutdown_ack.read
 shutdown_ack_unpadded v = by_test (length v == 0) (λ e. rw e fine) (λ e. rw e fine)
 
-cookie_echo_unpadded : (v : List ℕ) → NotPadding (cookie_echo.read v)
+pub cookie_echo_unpadded : (v : List ℕ) → NotPadding (cookie_echo.read v)
 unfolding cookie_echo.read
 cookie_echo_unpadded v = by_test (length v == 0) (λ e. rw e fine) (λ e. rw e fine)
 
-cookie_ack_unpadded : (v : List ℕ) → NotPadding (cookie_ack.read v)
+pub cookie_ack_unpadded : (v : List ℕ) → NotPadding (cookie_ack.read v)
 unfolding cookie_ack.read
 cookie_ack_unpadded v = by_test (length v == 0) (λ e. rw e fine) (λ e. rw e fine)
 
-shutdown_complete_unpadded : (flags : ℕ) (v : List ℕ) → NotPadding (shutdown_complete.read flags v)
+pub shutdown_complete_unpadded : (flags : ℕ) (v : List ℕ) → NotPadding (shutdown_complete.read flags v)
 unfolding shutdown_complete.read
 shutdown_complete_unpadded flags v = by_test (length v == 0) (λ e. rw e fine) (λ e. rw e fine)
 
-i_data_unpadded : (flags : ℕ) (v : List ℕ) → NotPadding (i_data.read flags v)
+pub i_data_unpadded : (flags : ℕ) (v : List ℕ) → NotPadding (i_data.read flags v)
 unfolding i_data.read
 i_data_unpadded flags v = by_test (nat_lt (length v) 16) (λ e. rw e fine) (λ e. rw e fine)
 
-forward_tsn_unpadded : (v : List ℕ) → NotPadding (forward_tsn.read v)
+pub forward_tsn_unpadded : (v : List ℕ) → NotPadding (forward_tsn.read v)
 unfolding forward_tsn.read
 forward_tsn_unpadded v = by_test (length v == 4 + 4 * forward_tsn.stream_count v) (λ e. rw e fine) (λ e. rw e fine)
 
-i_forward_tsn_unpadded : (v : List ℕ) → NotPadding (i_forward_tsn.read v)
+pub i_forward_tsn_unpadded : (v : List ℕ) → NotPadding (i_forward_tsn.read v)
 unfolding i_forward_tsn.read
 i_forward_tsn_unpadded v = by_test (length v == 4 + 8 * i_forward_tsn.stream_count v) (λ e. rw e fine) (λ e. rw e fine)
-
-init_unpadded : Unpadded (init_row lenient)
-init_unpadded = listed_unpadded _ 16 (parameters lenient) init_of parameters_unpadded
-
-parameter_list_unpadded : Unpadded (parameter_list_row lenient)
-parameter_list_unpadded = listed_unpadded _ 0 (parameters lenient) (λ value ps. ps) parameters_unpadded
-
-abort_unpadded : (flags : ℕ) → Unpadded (abort_row lenient flags)
-abort_unpadded flags = listed_unpadded _ 0 (causes lenient) (λ value cs. abort_of flags cs) causes_unpadded
-
-error_unpadded : Unpadded (error_row lenient)
-error_unpadded = listed_unpadded _ 0 (causes lenient) (λ value cs. cs) causes_unpadded
-
-chunk_unpadded : (typ flags : ℕ) → Unpadded (chunk_row lenient typ flags)
-unfolding unknown_chunk.read
-chunk_unpadded typ flags = of_table (λ _ row. Unpadded row) (table lenient flags) typ _ (
-    plain_unpadded _ _ (data_unpadded flags) &
-    init_unpadded &
-    init_unpadded &
-    plain_unpadded _ _ sack_unpadded &
-    parameter_list_unpadded &
-    parameter_list_unpadded &
-    abort_unpadded flags &
-    plain_unpadded _ _ shutdown_unpadded &
-    plain_unpadded _ _ shutdown_ack_unpadded &
-    error_unpadded &
-    plain_unpadded _ _ cookie_echo_unpadded &
-    plain_unpadded _ _ cookie_ack_unpadded &
-    plain_unpadded _ _ (shutdown_complete_unpadded flags) &
-    plain_unpadded _ _ (i_data_unpadded flags) &
-    parameter_list_unpadded &
-    plain_unpadded _ _ forward_tsn_unpadded &
-    plain_unpadded _ _ i_forward_tsn_unpadded & tt)
-    (λ _. ok_unpadded _)
-
-pub chunks_unpadded : IgnoresPadding (chunks lenient)
-chunks_unpadded = list_unpadded (chunks lenient) (λ _ _. refl) chunk_unpadded
