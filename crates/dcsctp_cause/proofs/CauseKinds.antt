@@ -12,6 +12,7 @@ use Rattle.dcsctp_tlv.specs.Number.{number16, number32}
 use Rattle.dcsctp_tlv.proofs.FieldLaws.{length-fields, numbers16_back}
 use Rattle.dcsctp_tlv.proofs.FormatLaws.{FormatLaws, Keeps, format_laws}
 use Rattle.dcsctp_tlv.proofs.KindLaws.{of_ok, passed}
+use Rattle.dcsctp_tlv.proofs.Unpadded.{if_passed}
 use Rattle.dcsctp_cause.specs.MissingMandatoryParameter as missing
 use Rattle.dcsctp_cause.specs.UnrecognizedChunk as chunk
 use Rattle.dcsctp_cause.specs.NoUserData as no_user_data
@@ -36,9 +37,11 @@ missing_back types w fits =
     rw (count, whole, numbers16_back types (length types) refl w) refl
 
 pub missing_laws : FormatLaws missing.read missing.format
+unfolding missing.read
 missing_laws =
     format_laws missing.read missing.format bytes_of_types (λ types. refl)
     (λ types width form fits. missing_back types width fits) (λ value types e. tt)
+    (λ value. if_passed (length value == 4 + 2 * number32 value) _)
 
 pub missing_keeps : Keeps missing.read missing.format
 unfolding missing.read
@@ -56,7 +59,7 @@ pub chunk_laws : FormatLaws chunk.read chunk.format
 unfolding chunk.read
 chunk_laws =
     format_laws chunk.read chunk.format (λ x. x) (λ x. refl) (λ x width form fits. refl)
-    (λ value x e. tt)
+    (λ value x e. tt) (λ value. tt)
 
 pub chunk_keeps : Keeps chunk.read chunk.format
 unfolding chunk.read
@@ -70,7 +73,7 @@ unfolding no_user_data.read
 no_user_data_laws =
     format_laws no_user_data.read no_user_data.format (to_be_bytes w32) (λ tsn. refl)
     (λ tsn width form fits. ap (λ (n : ℕ). Ok n) (from_be_bytes-to_be_bytes_4 tsn width))
-    (λ value tsn e. tt)
+    (λ value tsn e. tt) (λ value. if_passed (length value == 4) (number32 value))
 
 pub no_user_data_keeps : Keeps no_user_data.read no_user_data.format
 unfolding no_user_data.read
@@ -84,6 +87,7 @@ unfolding cookie_received.read
 cookie_received_laws =
     format_laws cookie_received.read cookie_received.format (λ t. []) (λ t. refl)
     (λ t width form fits. refl) (λ value t e. tt)
+    (λ value. if_passed (length value == 0) tt)
 
 pub cookie_received_keeps : Keeps cookie_received.read cookie_received.format
 unfolding cookie_received.read
@@ -98,7 +102,7 @@ unfolding abort.read
 abort_laws =
     format_laws abort.read abort.format (λ x. x) (λ x. refl)
     (λ x width form fits. ap (λ (text : List ℕ). Ok text) (text_or_utf8 _ x width.utf8))
-    (λ value x e. tt)
+    (λ value x e. tt) (λ value. tt)
 
 pub abort_kept : (value x : List ℕ) → IsUtf8 value → abort.read value ≡ Ok x → x ≡ value
 unfolding abort.read
@@ -109,7 +113,7 @@ unfolding violation.read
 violation_laws =
     format_laws violation.read violation.format (λ x. x) (λ x. refl)
     (λ x width form fits. ap (λ (text : List ℕ). Ok text) (text_or_utf8 _ x width.utf8))
-    (λ value x e. tt)
+    (λ value x e. tt) (λ value. tt)
 
 pub violation_kept : (value x : List ℕ) → IsUtf8 value → violation.read value ≡ Ok x → x ≡ value
 unfolding violation.read

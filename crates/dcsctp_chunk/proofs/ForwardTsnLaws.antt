@@ -13,6 +13,7 @@ use Rattle.dcsctp_tlv.specs.Number.{numbers}
 use Rattle.dcsctp_tlv.proofs.FieldLaws.{FieldLaw, length-fields, fields_each, last_fields_back}
 use Rattle.dcsctp_tlv.proofs.FormatLaws.{FormatLaws, Keeps, format_laws}
 use Rattle.dcsctp_tlv.proofs.KindLaws.{of_ok, passed}
+use Rattle.dcsctp_tlv.proofs.Unpadded.{if_passed}
 use Rattle.dcsctp_chunk.specs.SkippedStreams.{SkippedStreamTree, BySsn, ByMid, is_by_mid, AreByMid, IsSkippedStreamInWidth, Tree, IsInWidth}
 use Rattle.dcsctp_chunk.specs.ForwardTsn as by_ssn
 use Rattle.dcsctp_chunk.specs.IForwardTsn as by_mid
@@ -107,9 +108,11 @@ kept value t is =
     (streams.0, omega (arith, streams.1, sized))
 
 pub forward_tsn_laws : FormatLaws by_ssn.read by_ssn.format
+unfolding by_ssn.read
 forward_tsn_laws =
     format_laws by_ssn.read by_ssn.format (bytes_of by_ssn.stream_bytes) (λ t. refl)
     (λ t width own fits. back t width own) (λ value t is. (kept value t is).0)
+    (λ value. if_passed (length value == 4 + 4 * by_ssn.stream_count value) _)
 
 pub forward_tsn_keeps_size : Keeps by_ssn.read by_ssn.format
 forward_tsn_keeps_size first flags value t is = (kept value t is).1
@@ -150,9 +153,11 @@ ikept value t is =
     (streams.0, omega (arith, streams.1, sized))
 
 pub iforward_tsn_laws : FormatLaws by_mid.read by_mid.format
+unfolding by_mid.read
 iforward_tsn_laws =
     format_laws by_mid.read by_mid.format (bytes_of by_mid.stream_bytes) (λ t. refl)
     (λ t width own fits. iback t width own) (λ value t is. (ikept value t is).0)
+    (λ value. if_passed (length value == 4 + 8 * by_mid.stream_count value) _)
 
 pub iforward_tsn_keeps_size : Keeps by_mid.read by_mid.format
 iforward_tsn_keeps_size first flags value t is = (ikept value t is).1

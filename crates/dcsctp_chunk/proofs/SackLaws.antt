@@ -14,6 +14,7 @@ use Rattle.dcsctp_tlv.specs.Number.{number32, numbers}
 use Rattle.dcsctp_tlv.proofs.FieldLaws.{FieldLaw, length-fields, fields_back, numbers32_back}
 use Rattle.dcsctp_tlv.proofs.FormatLaws.{FormatLaws, Keeps, format_laws}
 use Rattle.dcsctp_tlv.proofs.KindLaws.{of_ok, passed}
+use Rattle.dcsctp_tlv.proofs.Unpadded.{if_passed}
 use Rattle.dcsctp_chunk.specs.Sack as sack
 use Rattle.dcsctp_chunk.specs.Sack.{Tree, block_at, block_bytes, block_count, duplicate_count, IsBlockInWidth, IsInWidth}
 use Rattle.dcsctp_chunk.proofs.Sacks.{length-lists}
@@ -58,9 +59,11 @@ back s width fits =
     ) refl
 
 pub sack_laws : FormatLaws sack.read sack.format
+unfolding sack.read
 sack_laws =
     format_laws sack.read sack.format sack.bytes (λ s. refl)
     (λ s width formed fits. back s width fits) (λ value s is. tt)
+    (λ value. if_passed (length value == 12 + 4 * block_count value + 4 * duplicate_count value) _)
 
 pub sack_keeps_size : Keeps sack.read sack.format
 unfolding sack.read

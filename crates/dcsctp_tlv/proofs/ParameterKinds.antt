@@ -26,6 +26,7 @@ use Rattle.dcsctp_tlv.proofs.FormatLaws.{FormatLaws, Keeps, format_laws}
 use Rattle.dcsctp_tlv.proofs.FieldLaws.{length-fields, numbers16_back}
 use Rattle.dcsctp_tlv.proofs.Forms.{FormsRow}
 use Rattle.dcsctp_tlv.proofs.Puts.{length-numbers}
+use Rattle.dcsctp_tlv.proofs.Unpadded.{NotPadding, if_passed, either, mapped}
 
 -- ---- any bytes
 
@@ -33,7 +34,7 @@ pub info_laws : FormatLaws info.read info.format
 unfolding info.read
 info_laws =
     format_laws info.read info.format (λ x. x) (λ x. refl) (λ x width form fits. refl)
-    (λ value x e. tt)
+    (λ value x e. tt) (λ value. tt)
 
 pub info_keeps : Keeps info.read info.format
 unfolding info.read
@@ -44,7 +45,7 @@ pub cookie_laws : FormatLaws cookie.read cookie.format
 unfolding cookie.read
 cookie_laws =
     format_laws cookie.read cookie.format (λ x. x) (λ x. refl) (λ x width form fits. refl)
-    (λ value x e. tt)
+    (λ value x e. tt) (λ value. tt)
 
 pub cookie_keeps : Keeps cookie.read cookie.format
 unfolding cookie.read
@@ -55,7 +56,7 @@ pub extensions_laws : FormatLaws extensions.read extensions.format
 unfolding extensions.read
 extensions_laws =
     format_laws extensions.read extensions.format (λ x. x) (λ x. refl)
-    (λ x width form fits. refl) (λ value x e. tt)
+    (λ x width form fits. refl) (λ value x e. tt) (λ value. tt)
 
 pub extensions_keeps : Keeps extensions.read extensions.format
 unfolding extensions.read
@@ -69,6 +70,7 @@ unfolding forward_tsn.read
 forward_tsn_laws =
     format_laws forward_tsn.read forward_tsn.format (λ t. []) (λ t. refl)
     (λ t width form fits. refl) (λ value t e. tt)
+    (λ value. if_passed (length value == 0) tt)
 
 pub forward_tsn_keeps : Keeps forward_tsn.read forward_tsn.format
 unfolding forward_tsn.read
@@ -81,7 +83,7 @@ unfolding zero_checksum.read
 zero_checksum_laws =
     format_laws zero_checksum.read zero_checksum.format (to_be_bytes w32) (λ method. refl)
     (λ method width form fits. ap (λ (n : ℕ). Ok n) (from_be_bytes-to_be_bytes_4 method width))
-    (λ value method e. tt)
+    (λ value method e. tt) (λ value. if_passed (length value == 4) (number32 value))
 
 pub zero_checksum_keeps : Keeps zero_checksum.read zero_checksum.format
 unfolding zero_checksum.read
@@ -95,7 +97,7 @@ unfolding ssn_tsn.read
 ssn_tsn_laws =
     format_laws ssn_tsn.read ssn_tsn.format (to_be_bytes w32) (λ request. refl)
     (λ request width form fits. ap (λ (n : ℕ). Ok n) (from_be_bytes-to_be_bytes_4 request width))
-    (λ value request e. tt)
+    (λ value request e. tt) (λ value. if_passed (length value == 4) (number32 value))
 
 pub ssn_tsn_keeps : Keeps ssn_tsn.read ssn_tsn.format
 unfolding ssn_tsn.read
@@ -114,7 +116,7 @@ add_streams_laws typ name =
       from_be_bytes-to_be_bytes_4 r.request width.request,
       from_be_bytes-to_be_bytes_2 r.new_streams width.new_streams,
     ) refl)
-    (λ value r e. tt)
+    (λ value r e. tt) (λ value. if_passed (length value == 8) _)
 
 pub add_streams_keeps : (typ : ℕ) (name : List ℕ)
     → Keeps add_streams.read (add_streams.format typ name)
@@ -167,9 +169,11 @@ outgoing_back r w =
     ) refl
 
 pub outgoing_laws : FormatLaws outgoing.read outgoing.format
+unfolding outgoing.read
 outgoing_laws =
     format_laws outgoing.read outgoing.format outgoing_bytes (λ r. refl)
     (λ r width form fits. outgoing_back r width) (λ value r e. tt)
+    (λ value. if_passed (length value == 12 + 2 * outgoing.stream_count value) _)
 
 pub outgoing_keeps : Keeps outgoing.read outgoing.format
 unfolding outgoing.read
@@ -195,9 +199,11 @@ incoming_back r w =
     rw (whole, streams, from_be_bytes-to_be_bytes_4 r.request w.request) refl
 
 pub incoming_laws : FormatLaws incoming.read incoming.format
+unfolding incoming.read
 incoming_laws =
     format_laws incoming.read incoming.format incoming_bytes (λ r. refl)
     (λ r width form fits. incoming_back r width) (λ value r e. tt)
+    (λ value. if_passed (length value == 4 + 2 * incoming.stream_count value) _)
 
 pub incoming_keeps : Keeps incoming.read incoming.format
 unfolding incoming.read
@@ -281,13 +287,26 @@ response_read value t e = elim (chosen (length value == 8) _ _ (Ok t) e) [
       inr (eqb-true (length value) 16 q.0, with_tsns value _ _ t q.1))
 ]
 
+result_unpadded : (n : ℕ) → NotPadding (result_of n)
+result_unpadded n =
+    either (n == 0) _ _ tt (either (n == 1) _ _ tt (either (n == 2) _ _ tt (either (n == 3) _ _ tt
+    (either (n == 4) _ _ tt (either (n == 5) _ _ tt (either (n == 6) _ _ tt tt))))))
+
+response_unpadded : (value : List ℕ) → NotPadding (response.read value)
+unfolding response.read
+response_unpadded value =
+    let known = λ (s r : Option ℕ). mapped
+    (λ result. response_of (number32 value) result s r) (result_of (number32 (drop 4 value)))
+    (result_unpadded (number32 (drop 4 value))) in
+    either (length value == 8) _ _ (known _ _) (either (length value == 16) _ _ (known _ _) tt)
+
 pub response_laws : FormatLaws response.read response.format
 response_laws =
     format_laws response.read response.format
     (λ r. numbers w32 (response.leading r) ++ numbers w32 (response.tsns r)) (λ r. refl)
     (λ r width form fits. response_back r.response r.result r.sender_next_tsn r.receiver_next_tsn
     width form)
-    (λ value t e. both value t (response_read value t e)) where
+    (λ value t e. both value t (response_read value t e)) response_unpadded where
       both : (value : List ℕ) (t : response.Tree) → IsRead value t
           → (response.format t).IsWellFormed
       both value t (inl p) = rw (p.1.0, p.1.1) ((λ h. h), (λ h. h))

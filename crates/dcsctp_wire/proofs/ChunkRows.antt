@@ -17,7 +17,7 @@ use Rattle.dcsctp_tlv.proofs.KindLaws.{KindLaws, KeepsSize, chosen}
 use Rattle.dcsctp_tlv.proofs.Laws.{LawfulRow, Lawful, plain_lawful, as_lawful}
 use Rattle.dcsctp_tlv.proofs.Lenient.{LoosensRow, Loosens, as_looser}
 use Rattle.dcsctp_tlv.proofs.Tables.{of_table, of_others, ◌&◌}
-use Rattle.dcsctp_tlv.proofs.Unpadded.{Unpadded, NotPadding, plain_unpadded, ok_unpadded, list_unpadded}
+use Rattle.dcsctp_tlv.proofs.Unpadded.{Unpadded, plain_unpadded, ok_unpadded, list_unpadded}
 use Rattle.dcsctp_chunk.specs.PlainCheck.{outcome, plain_outcome}
 use Rattle.dcsctp_chunk.specs.Unknown.{read as unknown_at}
 use Rattle.dcsctp_chunk.proofs.Laws as kind
@@ -32,7 +32,6 @@ use Rattle.dcsctp_wire.specs.Account.{AreTextsKept}
 use Rattle.dcsctp_wire.proofs.AccountLaws.{Accounted, Counted, init_account, parameter_list_account, abort_account, error_account, plain_accounted, plain_counted, init_counted, parameter_list_counted, abort_counted, error_counted}
 use Rattle.dcsctp_wire.proofs.ChunkLaws.{init_forms, parameter_list_forms, abort_forms, error_forms, unknown_forms}
 use Rattle.dcsctp_wire.proofs.ListRows as list
-use Rattle.dcsctp_wire.proofs.Unpadded as value
 
 -- ---- the check of a kind without a list
 
@@ -145,21 +144,20 @@ error_sound = record {
 }
 
 module _ (strict : Bool) (flags : ℕ) where
-  -- a kind without a list: its laws, its trees in the table, its type; how its value can be at
-  -- fault; and what computing shows: it is written and well-formed as its own format says, it has
-  -- one part, the check knows it, and both tables have the same row
+  -- a kind without a list: its laws, its trees in the table, and its type; and what computing shows:
+  -- it is written and well-formed as its own format says, it has one part, the check knows it, and
+  -- both tables have the same row
   plain_kind : {X : Type 0} {read : ℕ → ℕ → List ℕ → Result X Fault} {tlv : X → Tlv}
       {IsInWidth IsWellFormed : X → Type 0}
       → KindLaws read tlv IsInWidth IsWellFormed → KeepsSize read tlv
       → (tree : X → ChunkTree) (typ : ℕ)
-      → ((v : List ℕ) → NotPadding (read typ flags v))
       → ((x : X) → chunk_tlv (tree x) ≡ tlv x)
       → ((x : X) → IsWellFormed x → IsChunkWellFormed (tree x))
       → ((x : X) → chunk_parts (tree x) ≡ 1)
       → ((v : List ℕ) → plain_outcome typ flags v ≡ outcome (read typ flags v))
       → LoosensRow (plain (λ v. map_ok tree (read typ flags v))) (chunk_row lenient typ flags)
       → RowLaws strict flags typ (plain (λ v. map_ok tree (read typ flags v)))
-  plain_kind {X} {read} laws keeps tree typ unpadded written formed one check looser = record {
+  plain_kind {X} {read} laws keeps tree typ written formed one check looser = record {
     lawful = plain_lawful _;
     looser = looser;
     stands = λ v a b c d e f g.
@@ -169,7 +167,7 @@ module _ (strict : Bool) (flags : ℕ) where
       forms = plain_forms laws tree IsChunkWellFormed typ flags formed;
       account = plain_accounted typ flags tree keeps written;
       counted = plain_counted tree _ one;
-      unpadded = plain_unpadded tree _ unpadded;
+      unpadded = plain_unpadded tree _ (laws.unpadded typ flags);
     };
   }
 
@@ -215,7 +213,7 @@ module _ (strict : Bool) (flags : ℕ) where
 
 rows : (strict : Bool) (typ flags : ℕ) → RowLaws strict flags typ (chunk_row strict typ flags)
 rows strict typ flags = of_table (RowLaws strict flags) (table strict flags) typ _ (
-    plain_kind strict flags kind.data_laws kind.data_keeps_size Data 0 (value.data_unpadded flags)
+    plain_kind strict flags kind.data_laws kind.data_keeps_size Data 0
     (λ x. refl) (λ x h. h) (λ x. refl) (λ v. refl) (λ v t m. m) &
     listed_kind strict flags 1 Init init_row (list.init_lawful strict) (list.init_looser strict)
     (init_sound 1 Init (λ i h. h) (λ i. refl) (λ i. refl)) (λ v t m. m)
@@ -224,7 +222,6 @@ rows strict typ flags = of_table (RowLaws strict flags) (table strict flags) typ
     (init_sound 2 InitAck (λ i h. h) (λ i. refl) (λ i. refl)) (λ v t m. m)
     (λ v a b c d e f g. absurd (b refl)) &
     plain_kind strict flags kind_sack.sack_laws kind_sack.sack_keeps_size Sack 3
-    value.sack_unpadded
     (λ x. refl) (λ x h. h) (λ x. refl) (λ v. refl) (λ v t m. m) &
     listed_kind strict flags 4 HeartbeatRequest parameter_list_row
     (list.parameter_list_lawful strict) (list.parameter_list_looser strict)
@@ -239,35 +236,30 @@ rows strict typ flags = of_table (RowLaws strict flags) (table strict flags) typ
     (abort_sound flags) (λ v t m. m)
     (λ v a b c d e f g. absurd (e refl)) &
     plain_kind strict flags kind.shutdown_laws kind.shutdown_keeps_size Shutdown 7
-    value.shutdown_unpadded
     (λ x. refl) (λ x h. h) (λ x. refl) (λ v. refl) (λ v t m. m) &
     plain_kind strict flags kind.shutdown_ack_laws kind.shutdown_ack_keeps_size (λ _. ShutdownAck) 8
-    value.shutdown_ack_unpadded
     (λ x. refl) (λ x h. h) (λ x. refl) (λ v. refl) (λ v t m. m) &
     listed_kind strict flags 9 Error error_row (list.error_lawful strict) (list.error_looser strict)
     error_sound (λ v t m. m)
     (λ v a b c d e f g. absurd (f refl)) &
     plain_kind strict flags kind.cookie_echo_laws kind.cookie_echo_keeps_size CookieEcho 10
-    value.cookie_echo_unpadded
     (λ x. refl) (λ x h. h) (λ x. refl) (λ v. refl) (λ v t m. m) &
     plain_kind strict flags kind.cookie_ack_laws kind.cookie_ack_keeps_size (λ _. CookieAck) 11
-    value.cookie_ack_unpadded
     (λ x. refl) (λ x h. h) (λ x. refl) (λ v. refl) (λ v t m. m) &
     plain_kind strict flags kind.shutdown_complete_laws kind.shutdown_complete_keeps_size
-    ShutdownComplete 14 (value.shutdown_complete_unpadded flags)
+    ShutdownComplete 14
     (λ x. refl) (λ x h. h) (λ x. refl) (λ v. refl) (λ v t m. m) &
     plain_kind strict flags kind.idata_laws kind.idata_keeps_size IData 64
-    (value.i_data_unpadded flags)
     (λ x. refl) (λ x h. h) (λ x. refl) (λ v. refl) (λ v t m. m) &
     listed_kind strict flags 130 ReConfig parameter_list_row
     (list.parameter_list_lawful strict) (list.parameter_list_looser strict)
     (parameter_list_sound 130 ReConfig (λ ps h. h) (λ ps. refl) (λ ps. refl)) (λ v t m. m)
     (λ v a b c d e f g. absurd (g refl)) &
     plain_kind strict flags kind_skipped.forward_tsn_laws kind_skipped.forward_tsn_keeps_size
-    ForwardTsn 192 value.forward_tsn_unpadded
+    ForwardTsn 192
     (λ x. refl) (λ x h. h) (λ x. refl) (λ v. refl) (λ v t m. m) &
     plain_kind strict flags kind_skipped.iforward_tsn_laws kind_skipped.iforward_tsn_keeps_size
-    IForwardTsn 194 value.i_forward_tsn_unpadded
+    IForwardTsn 194
     (λ x. refl) (λ x h. h) (λ x. refl) (λ v. refl) (λ v t m. m) & tt)
     (other_kind strict flags typ)
 

@@ -6,14 +6,13 @@ use Rattle.dcsctp_tlv.specs.Parameter.{parameters}
 use Rattle.dcsctp_tlv.proofs.Laws.{LawfulRow, listed_lawful}
 use Rattle.dcsctp_tlv.proofs.Lenient.{LoosensRow, listed_looser}
 use Rattle.dcsctp_tlv.proofs.Unpadded.{Unpadded, listed_unpadded}
-use Rattle.dcsctp_tlv.proofs.ParameterLaws.{parameters_lawful, parameters_looser}
+use Rattle.dcsctp_tlv.proofs.ParameterLaws.{parameters_lawful, parameters_looser, parameters_unpadded}
 use Rattle.dcsctp_cause.specs.Cause.{causes}
-use Rattle.dcsctp_cause.proofs.CauseLaws.{causes_lawful, causes_looser}
+use Rattle.dcsctp_cause.proofs.CauseLaws.{causes_lawful, causes_looser, causes_unpadded}
 use Rattle.dcsctp_wire.specs.InitFields.{tree_of as init_of, row as init_row}
 use Rattle.dcsctp_wire.specs.ParameterList.{row as parameter_list_row}
 use Rattle.dcsctp_wire.specs.Abort.{tree_of as abort_of, row as abort_row}
 use Rattle.dcsctp_wire.specs.Error.{row as error_row}
-use Rattle.dcsctp_wire.proofs.Unpadded.{parameters_unpadded, causes_unpadded}
 
 -- ---- one answer
 
