@@ -1,9 +1,9 @@
 -- What each kind of error cause owes the laws of the table.
-use Rattle.std.proofs.Common.{◌≡◌, ℕ, ◌+◌, ◌*◌, true, false, List, [], length, drop, refl, sym, ap, ◌∙◌, arith, Ok}
-use Rattle.std.specs.Prelude.{◌==◌, nat_lt}
+use Rattle.std.proofs.Common.{◌≡◌, ℕ, ◌+◌, ◌*◌, true, List, [], length, drop, refl, sym, ap, ◌∙◌, arith, Ok}
+use Rattle.std.specs.Prelude.{◌==◌}
 use Rattle.std.specs.Int.{w32, to_be_bytes}
 use Rattle.std.specs.Str.{IsUtf8}
-use Rattle.std.proofs.lemmas.Bool.{eqb-true, le-ltb}
+use Rattle.std.proofs.lemmas.Bool.{eqb-true}
 use Rattle.std.proofs.lemmas.Bool.Decides.{Decides-eqb}
 use Rattle.std.proofs.lemmas.Nat.{from_be_bytes-to_be_bytes_4}
 use Rattle.dcsctp_tlv.specs.Fault.{Length}
@@ -11,7 +11,8 @@ use Rattle.dcsctp_tlv.specs.Image.{IsEncodable}
 use Rattle.dcsctp_tlv.specs.Number.{number16, number32}
 use Rattle.dcsctp_tlv.proofs.FieldLaws.{length-fields, numbers16_back}
 use Rattle.dcsctp_tlv.proofs.FormatLaws.{FormatLaws, Keeps, format_laws}
-use Rattle.dcsctp_tlv.proofs.KindLaws.{of_ok, passed, not_refused}
+use Rattle.dcsctp_tlv.proofs.KindLaws.{of_ok, passed}
+use Rattle.dcsctp_tlv.proofs.Unpadded.{if_passed}
 use Rattle.dcsctp_cause.specs.MissingMandatoryParameter as missing
 use Rattle.dcsctp_cause.specs.UnrecognizedChunk as chunk
 use Rattle.dcsctp_cause.specs.NoUserData as no_user_data
@@ -31,21 +32,21 @@ missing_back types w fits =
     let size = length-bytes_of_types types in
     let count : number32 value ≡ length types =
     from_be_bytes-to_be_bytes_4 (length types) (omega (arith, fits)) in
-    let long : nat_lt (length value) 4 ≡ false = le-ltb (length value) 4 (omega arith) in
     let whole : (length value == 4 + 2 * length types) ≡ true =
     (Decides-eqb (length value) (4 + 2 * length types)).1 size in
-    rw (count, whole, long, numbers16_back types (length types) refl w) refl
+    rw (count, whole, numbers16_back types (length types) refl w) refl
 
 pub missing_laws : FormatLaws missing.read missing.format
+unfolding missing.read
 missing_laws =
     format_laws missing.read missing.format bytes_of_types (λ types. refl)
     (λ types width form fits. missing_back types width fits) (λ value types e. tt)
+    (λ value. if_passed (length value == 4 + 2 * number32 value) _)
 
 pub missing_keeps : Keeps missing.read missing.format
 unfolding missing.read
 missing_keeps first second value types e =
-    let long = not_refused (nat_lt (length value) 4) _ Length types e in
-    let whole = passed (length value == 4 + 2 * number32 value) _ Length types long.1 in
+    let whole = passed (length value == 4 + 2 * number32 value) _ Length types e in
     let is = of_ok _ types whole.1 in
     let count : length types ≡ number32 value =
     ap length (sym is) ∙ length-fields number16 2 (number32 value) (drop 4 value) in
@@ -58,7 +59,7 @@ pub chunk_laws : FormatLaws chunk.read chunk.format
 unfolding chunk.read
 chunk_laws =
     format_laws chunk.read chunk.format (λ x. x) (λ x. refl) (λ x width form fits. refl)
-    (λ value x e. tt)
+    (λ value x e. tt) (λ value. tt)
 
 pub chunk_keeps : Keeps chunk.read chunk.format
 unfolding chunk.read
@@ -72,7 +73,7 @@ unfolding no_user_data.read
 no_user_data_laws =
     format_laws no_user_data.read no_user_data.format (to_be_bytes w32) (λ tsn. refl)
     (λ tsn width form fits. ap (λ (n : ℕ). Ok n) (from_be_bytes-to_be_bytes_4 tsn width))
-    (λ value tsn e. tt)
+    (λ value tsn e. tt) (λ value. if_passed (length value == 4) (number32 value))
 
 pub no_user_data_keeps : Keeps no_user_data.read no_user_data.format
 unfolding no_user_data.read
@@ -86,6 +87,7 @@ unfolding cookie_received.read
 cookie_received_laws =
     format_laws cookie_received.read cookie_received.format (λ t. []) (λ t. refl)
     (λ t width form fits. refl) (λ value t e. tt)
+    (λ value. if_passed (length value == 0) tt)
 
 pub cookie_received_keeps : Keeps cookie_received.read cookie_received.format
 unfolding cookie_received.read
@@ -100,7 +102,7 @@ unfolding abort.read
 abort_laws =
     format_laws abort.read abort.format (λ x. x) (λ x. refl)
     (λ x width form fits. ap (λ (text : List ℕ). Ok text) (text_or_utf8 _ x width.utf8))
-    (λ value x e. tt)
+    (λ value x e. tt) (λ value. tt)
 
 pub abort_kept : (value x : List ℕ) → IsUtf8 value → abort.read value ≡ Ok x → x ≡ value
 unfolding abort.read
@@ -111,7 +113,7 @@ unfolding violation.read
 violation_laws =
     format_laws violation.read violation.format (λ x. x) (λ x. refl)
     (λ x width form fits. ap (λ (text : List ℕ). Ok text) (text_or_utf8 _ x width.utf8))
-    (λ value x e. tt)
+    (λ value x e. tt) (λ value. tt)
 
 pub violation_kept : (value x : List ℕ) → IsUtf8 value → violation.read value ≡ Ok x → x ≡ value
 unfolding violation.read

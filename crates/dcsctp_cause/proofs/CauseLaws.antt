@@ -3,6 +3,7 @@ use Rattle.std.proofs.Common.{◌≡◌, ◌≢◌, ℕ, Bool, ◌+◌, ◌^◌,
 use Rattle.std.specs.Int.{w16, from_be_bytes}
 use Rattle.std.specs.Str.{IsUtf8}
 use Rattle.std.specs.List.{AllByRecursion}
+use Rattle.dcsctp_tlv.specs.Decided.{IgnoresPadding}
 use Rattle.dcsctp_tlv.specs.Frame.{lenient}
 use Rattle.dcsctp_tlv.specs.Level.{Row, plain, map_ok, HasMeaning}
 use Rattle.dcsctp_tlv.specs.Fault.{Fault}
@@ -14,7 +15,8 @@ use Rattle.dcsctp_tlv.proofs.Laws.{LawfulRow, Lawful, plain_lawful}
 use Rattle.dcsctp_tlv.proofs.Lenient.{Loosens}
 use Rattle.dcsctp_tlv.proofs.Tables.{◌&◌, of_table, of_others}
 use Rattle.dcsctp_tlv.proofs.ReadsBack.{ReadsBack, each_encodable, zeroed-solid}
-use Rattle.dcsctp_tlv.proofs.KindLaws.{of_map_ok}
+use Rattle.dcsctp_tlv.proofs.KindLaws.{KindLaws, KeepsSize, of_map_ok}
+use Rattle.dcsctp_tlv.proofs.Unpadded.{Unpadded, plain_unpadded, ok_unpadded, list_unpadded}
 use Rattle.dcsctp_tlv.proofs.ParameterKinds.{type_back, unknown_keeps, unknown_forms}
 use Rattle.dcsctp_tlv.proofs.Forms.{FormsTrees, FormsRow, plain_forms}
 use Rattle.dcsctp_tlv.proofs.Accounts.{SameSpace, Accounts, plain_account, same_size}
@@ -26,17 +28,81 @@ use Rattle.dcsctp_cause.specs.UserInitiatedAbort as abort
 use Rattle.dcsctp_cause.specs.ProtocolViolation as violation
 use Rattle.dcsctp_cause.proofs.CauseKinds.{missing_laws, missing_keeps, chunk_laws, chunk_keeps, no_user_data_laws, no_user_data_keeps, cookie_received_laws, cookie_received_keeps, abort_laws, abort_kept, violation_laws, violation_kept}
 
--- ---- one answer
+-- ---- what each row owes
+
+-- an item whose text is kept is written in the same space
+abbrev Accounted : ℕ → Row CauseTree → Type 0
+Accounted code row = (value : List ℕ) (t : CauseTree) → ((code ≡ 12) ⊎ (code ≡ 13) → IsUtf8 value)
+    → row.means value t → SameSpace (size_of (tlv t)) (4 + length value)
+
+-- a text that is kept has the size of its value
+text_account : (read : List ℕ → Result (List ℕ) Fault) (tree : List ℕ → CauseTree) (value : List ℕ)
+    (t : CauseTree) → IsUtf8 value → ((x : List ℕ) → size_of (tlv (tree x)) ≡ 4 + length x)
+    → ((x : List ℕ) → IsUtf8 value → read value ≡ Ok x → x ≡ value)
+    → (plain (λ v. map_ok tree (read v))).means value t
+    → SameSpace (size_of (tlv t)) (4 + length value)
+text_account read tree value t utf8 sized law e =
+    let x = of_map_ok tree (read value) t e in
+    same_size _ _ (ap (λ (u : CauseTree). size_of (tlv u)) x.1.1 ∙ sized x.0
+    ∙ ap (λ (v : List ℕ). 4 + length v) (law x.0 utf8 x.1.0))
+
+record RowLaws (code : ℕ) (row : Row CauseTree) : Type 0 where
+  -- each value means one tree or has one fault
+  pub lawful : LawfulRow row
+  -- what it means is well-formed, and is written in the same space
+  pub forms : FormsRow IsWellFormed row
+  pub account : Accounted code row
+  -- no fault is that of padding
+  pub unpadded : Unpadded row
+
+-- A kind, by its laws and its trees in the table: they are well-formed as its own format says.
+kind : {X : Type 0} {read : ℕ → ℕ → List ℕ → Result X Fault} {written : X → Tlv}
+    {HasWidths IsFormed : X → Type 0}
+    → KindLaws read written HasWidths IsFormed → (tree : X → CauseTree) (code : ℕ)
+    → ((x : X) → IsFormed x → IsWellFormed (tree x))
+    → Accounted code (plain (λ value. map_ok tree (read 0 0 value)))
+    → RowLaws code (plain (λ value. map_ok tree (read 0 0 value)))
+kind {X} {read} laws tree code formed account = record {
+  lawful = plain_lawful _;
+  forms = plain_forms laws tree IsWellFormed 0 0 formed;
+  account = account;
+  unpadded = plain_unpadded tree (read 0 0) (laws.unpadded 0 0);
+}
+
+-- one that keeps the size of its value
+sized : {X : Type 0} {read : ℕ → ℕ → List ℕ → Result X Fault} {written : X → Tlv}
+    → KeepsSize read written → (tree : X → CauseTree) (code : ℕ)
+    → ((x : X) → tlv (tree x) ≡ written x)
+    → Accounted code (plain (λ value. map_ok tree (read 0 0 value)))
+sized {X} {read} keeps tree code same value t kept =
+    plain_account (read 0 0) tree tlv (λ v x e. ap size_of (same x) ∙ keeps 0 0 v x e) value t
+
+rows : (code : ℕ) → RowLaws code (row code)
+unfolding unknown.read
+rows code = of_table RowLaws table code _ (
+    kind missing_laws MissingMandatoryParameter 2 (λ x h. h)
+    (sized missing_keeps MissingMandatoryParameter 2 (λ x. refl)) &
+    kind chunk_laws UnrecognizedChunk 6 (λ x h. h)
+    (sized chunk_keeps UnrecognizedChunk 6 (λ x. refl)) &
+    kind no_user_data_laws NoUserData 9 (λ x h. h)
+    (sized no_user_data_keeps NoUserData 9 (λ x. refl)) &
+    kind cookie_received_laws (λ _. CookieReceivedWhileShuttingDown) 10 (λ x h. h)
+    (sized cookie_received_keeps (λ _. CookieReceivedWhileShuttingDown) 10 (λ x. refl)) &
+    kind abort_laws UserInitiatedAbort 12 (λ x h. h)
+    (λ value t kept. text_account abort.read UserInitiatedAbort value t (kept (inl refl))
+    (λ x. refl) (abort_kept value)) &
+    kind violation_laws ProtocolViolation 13 (λ x h. h)
+    (λ value t kept. text_account violation.read ProtocolViolation value t (kept (inr refl))
+    (λ x. refl) (violation_kept value)) & tt)
+    (λ unnamed. record {
+      lawful = plain_lawful _;
+      forms = unknown_forms IsWellFormed code Unknown (λ value. unnamed);
+      account = λ value t kept. plain_account _ Unknown tlv (unknown_keeps code 0 0) value t;
+      unpadded = ok_unpadded _;
+    })
 
 pub row_lawful : (code : ℕ) → LawfulRow (row code)
-row_lawful code = of_table (λ _ row. LawfulRow row) table code _ (
-    plain_lawful _ &
-    plain_lawful _ &
-    plain_lawful _ &
-    plain_lawful _ &
-    plain_lawful _ &
-    plain_lawful _ & tt)
-    (λ _. plain_lawful _)
+row_lawful code = (rows code).lawful
 
 -- each value of a cause means one tree or has one fault
 pub causes_lawful : (strict : Bool) → Lawful (causes strict)
@@ -120,56 +186,21 @@ good_causes ts width formed fits = each ts width formed (each_encodable tlv ts f
 
 -- ---- well-formed
 
-row_forms : (code : ℕ) → FormsRow IsWellFormed (row code)
-row_forms code = of_table (λ _ row. FormsRow IsWellFormed row) table code _ (
-    plain_forms missing_laws _ IsWellFormed 0 0 (λ x form. tt) &
-    plain_forms chunk_laws _ IsWellFormed 0 0 (λ x form. tt) &
-    plain_forms no_user_data_laws _ IsWellFormed 0 0 (λ x form. tt) &
-    plain_forms cookie_received_laws _ IsWellFormed 0 0 (λ x form. tt) &
-    plain_forms abort_laws _ IsWellFormed 0 0 (λ x form. tt) &
-    plain_forms violation_laws _ IsWellFormed 0 0 (λ x form. tt) & tt)
-    (λ unnamed. unknown_forms IsWellFormed code Unknown (λ value. unnamed))
-
 pub causes_form : FormsTrees (causes lenient) IsWellFormed
 causes_form =
-    record { formed = λ first second. row_forms (from_be_bytes w16 (first ∷ second ∷ [])) }
+    record { formed = λ first second. (rows (from_be_bytes w16 (first ∷ second ∷ []))).forms }
 
 -- ---- the size account
 
--- what a row owes for the items of a code
-abbrev Accounted : ℕ → Row CauseTree → Type 0
-Accounted code row = (value : List ℕ) (t : CauseTree) → ((code ≡ 12) ⊎ (code ≡ 13) → IsUtf8 value)
-    → row.means value t → SameSpace (size_of (tlv t)) (4 + length value)
-
--- a text that is kept has the size of its value
-text_account : (read : List ℕ → Result (List ℕ) Fault) (tree : List ℕ → CauseTree) (value : List ℕ)
-    (t : CauseTree) → IsUtf8 value → ((x : List ℕ) → size_of (tlv (tree x)) ≡ 4 + length x)
-    → ((x : List ℕ) → IsUtf8 value → read value ≡ Ok x → x ≡ value)
-    → (plain (λ v. map_ok tree (read v))).means value t
-    → SameSpace (size_of (tlv t)) (4 + length value)
-text_account read tree value t utf8 sized law e =
-    let x = of_map_ok tree (read value) t e in
-    same_size _ _ (ap (λ (u : CauseTree). size_of (tlv u)) x.1.1 ∙ sized x.0
-    ∙ ap (λ (v : List ℕ). 4 + length v) (law x.0 utf8 x.1.0))
-
-row_account : (code : ℕ) → Accounted code (row code)
-row_account code = of_table Accounted table code _ (
-    (λ value t kept. plain_account _ MissingMandatoryParameter tlv (missing_keeps 0 0) value t) &
-    (λ value t kept. plain_account _ UnrecognizedChunk tlv (chunk_keeps 0 0) value t) &
-    (λ value t kept. plain_account _ NoUserData tlv (no_user_data_keeps 0 0) value t) &
-    (λ value t kept.
-    plain_account _ (λ _. CookieReceivedWhileShuttingDown) tlv (cookie_received_keeps 0 0)
-    value t) &
-    (λ value t kept.
-    text_account abort.read UserInitiatedAbort value t (kept (inl refl)) (λ x. refl)
-    (abort_kept value)) &
-    (λ value t kept.
-    text_account violation.read ProtocolViolation value t (kept (inr refl)) (λ x. refl)
-    (violation_kept value)) & tt)
-    (λ _ value t kept. plain_account _ Unknown tlv (unknown_keeps code 0 0) value t)
-
 pub causes_account : Accounts (causes lenient) tlv IsTextKept
-causes_account = record { sized = λ i t kept. row_account (item_code i) i.value t kept }
+causes_account = record { sized = λ i t kept. (rows (item_code i)).account i.value t kept }
+
+-- ---- padding
+
+pub causes_unpadded : IgnoresPadding (causes lenient)
+causes_unpadded =
+    list_unpadded (causes lenient) (λ _ _. refl)
+    (λ first second. (rows (from_be_bytes w16 (first ∷ second ∷ []))).unpadded)
 
 -- ---- the bound on their number
 

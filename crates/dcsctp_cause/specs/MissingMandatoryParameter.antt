@@ -3,7 +3,7 @@
 --
 -- The count is a natural number here, so no count above the number of types that are there is
 -- accepted.
-use Rattle.std.specs.Prelude.{ℕ, ◌+◌, ◌*◌, ◌<◌, ◌^◌, List, [], ◌∷◌, ◌++◌, ◌==◌, nat_lt, Result, Ok, Err, if◌then◌else◌, length, drop, map, codes, refl}
+use Rattle.std.specs.Prelude.{ℕ, ◌+◌, ◌*◌, ◌<◌, ◌^◌, List, [], ◌∷◌, ◌++◌, ◌==◌, Result, Ok, Err, if◌then◌else◌, length, drop, map, codes, refl}
 use Rattle.std.specs.Fmt.{decimal}
 use Rattle.std.specs.List.{AllByRecursion}
 use Rattle.std.specs.Int.{w16, w32}
@@ -12,7 +12,6 @@ use Rattle.dcsctp_cause.specs.declared.missing_mandatory_parameter_error_cause.M
 
 unfoldable pub read : List ℕ → Result (List ℕ) Fault
 read value =
-    if nat_lt (length value) 4 then Err Length else
     if length value == 4 + 2 * number32 value
     then Ok (fields number16 2 (number32 value) (drop 4 value)) else
     Err Length

@@ -1,10 +1,10 @@
 -- FORWARD-TSN and I-FORWARD-TSN: what is written is read again, and what was read is well-formed
 -- and keeps its size.
-use Rattle.std.proofs.Common.{◌≡◌, ℕ, ◌+◌, ◌-◌, ◌*◌, ◌/◌, ◌%◌, Bool, true, false, List, [], ◌∷◌, ◌++◌, length, drop, refl, sym, ap, subst, ◌∙◌, arith, Ok}
-use Rattle.std.specs.Prelude.{◌==◌, nat_lt}
+use Rattle.std.proofs.Common.{◌≡◌, ℕ, ◌+◌, ◌-◌, ◌*◌, ◌/◌, Bool, true, false, List, [], ◌∷◌, ◌++◌, length, drop, refl, sym, ap, subst, ◌∙◌, arith, Ok}
+use Rattle.std.specs.Prelude.{◌==◌}
 use Rattle.std.specs.Int.{w32}
 use Rattle.std.specs.List.{flat_map, AllByRecursion}
-use Rattle.std.proofs.lemmas.Bool.{le-ltb, ltb-false, eq-eqb, eqb-true, true≢false, false≢true}
+use Rattle.std.proofs.lemmas.Bool.{eq-eqb, eqb-true, true≢false, false≢true}
 use Rattle.std.proofs.lemmas.Nat.{from_be_bytes-to_be_bytes_2, from_be_bytes-to_be_bytes_4}
 use Rattle.dcsctp_tlv.specs.Fault.{Length}
 use Rattle.dcsctp_tlv.specs.Fields.{fields}
@@ -12,7 +12,8 @@ use Rattle.dcsctp_tlv.specs.Length.{length-each}
 use Rattle.dcsctp_tlv.specs.Number.{numbers}
 use Rattle.dcsctp_tlv.proofs.FieldLaws.{FieldLaw, length-fields, fields_each, last_fields_back}
 use Rattle.dcsctp_tlv.proofs.FormatLaws.{FormatLaws, Keeps, format_laws}
-use Rattle.dcsctp_tlv.proofs.KindLaws.{of_ok, passed, not_refused}
+use Rattle.dcsctp_tlv.proofs.KindLaws.{of_ok, passed}
+use Rattle.dcsctp_tlv.proofs.Unpadded.{if_passed}
 use Rattle.dcsctp_chunk.specs.SkippedStreams.{SkippedStreamTree, BySsn, ByMid, is_by_mid, AreByMid, IsSkippedStreamInWidth, Tree, IsInWidth}
 use Rattle.dcsctp_chunk.specs.ForwardTsn as by_ssn
 use Rattle.dcsctp_chunk.specs.IForwardTsn as by_mid
@@ -82,14 +83,13 @@ back t width own =
     let sized : length value ≡ 4 + 4 * n =
     (let list = length-each by_ssn.stream_bytes 4 t.streams by_ssn.length-stream in
     omega (arith, list)) in
-    let whole : length value % 4 ≡ 0 = omega (arith, sized) in
+    let whole : length value ≡ 4 + 4 * ((length value - 4) / 4) = omega (arith, sized) in
     let streams_are =
     last_fields_back by_ssn.stream_at by_ssn.stream_bytes 4 (IsPlaced false) ssn_stream_law
     t.streams ((length value - 4) / 4) (omega (arith, sized))
     (placed false t.streams width.streams own) in
     rw (
-      le-ltb (length value) 4 (omega (arith, sized)),
-      eq-eqb (length value % 4) 0 whole,
+      eq-eqb (length value) (4 + 4 * ((length value - 4) / 4)) whole,
       from_be_bytes-to_be_bytes_4 t.tsn width.tsn,
       streams_are,
     ) refl
@@ -100,19 +100,19 @@ kept : (value : List ℕ) (t : Tree) → by_ssn.read value ≡ Ok t
 unfolding by_ssn.read
 kept value t is =
     let n = (length value - 4) / 4 in
-    let long = not_refused (nat_lt (length value) 4) _ Length t is in
-    let whole = passed (length value % 4 == 0) _ Length t long.1 in
+    let whole = passed (length value == 4 + 4 * n) _ Length t is in
     let e = ap (λ (u : Tree). u.streams) (of_ok _ t whole.1) in
     let streams =
     streams_kept by_ssn.stream_at 4 false (λ bytes. refl) n (drop 4 value) t.streams e in
-    let at_least = ltb-false (length value) 4 long.0 in
-    let divides = eqb-true (length value % 4) 0 whole.0 in
-    (streams.0, omega (arith, streams.1, at_least, divides))
+    let sized = eqb-true (length value) (4 + 4 * n) whole.0 in
+    (streams.0, omega (arith, streams.1, sized))
 
 pub forward_tsn_laws : FormatLaws by_ssn.read by_ssn.format
+unfolding by_ssn.read
 forward_tsn_laws =
     format_laws by_ssn.read by_ssn.format (bytes_of by_ssn.stream_bytes) (λ t. refl)
     (λ t width own fits. back t width own) (λ value t is. (kept value t is).0)
+    (λ value. if_passed (length value == 4 + 4 * by_ssn.stream_count value) _)
 
 pub forward_tsn_keeps_size : Keeps by_ssn.read by_ssn.format
 forward_tsn_keeps_size first flags value t is = (kept value t is).1
@@ -128,14 +128,13 @@ iback t width own =
     let sized : length value ≡ 4 + 8 * n =
     (let list = length-each by_mid.stream_bytes 8 t.streams by_mid.length-stream in
     omega (arith, list)) in
-    let whole : (length value - 4) % 8 ≡ 0 = omega (arith, sized) in
+    let whole : length value ≡ 4 + 8 * ((length value - 4) / 8) = omega (arith, sized) in
     let streams_are =
     last_fields_back by_mid.stream_at by_mid.stream_bytes 8 (IsPlaced true) mid_stream_law
     t.streams ((length value - 4) / 8) (omega (arith, sized))
     (placed true t.streams width.streams own) in
     rw (
-      le-ltb (length value) 4 (omega (arith, sized)),
-      eq-eqb ((length value - 4) % 8) 0 whole,
+      eq-eqb (length value) (4 + 8 * ((length value - 4) / 8)) whole,
       from_be_bytes-to_be_bytes_4 t.tsn width.tsn,
       streams_are,
     ) refl
@@ -146,19 +145,19 @@ ikept : (value : List ℕ) (t : Tree) → by_mid.read value ≡ Ok t
 unfolding by_mid.read
 ikept value t is =
     let n = (length value - 4) / 8 in
-    let long = not_refused (nat_lt (length value) 4) _ Length t is in
-    let whole = passed ((length value - 4) % 8 == 0) _ Length t long.1 in
+    let whole = passed (length value == 4 + 8 * n) _ Length t is in
     let e = ap (λ (u : Tree). u.streams) (of_ok _ t whole.1) in
     let streams =
     streams_kept by_mid.stream_at 8 true (λ bytes. refl) n (drop 4 value) t.streams e in
-    let at_least = ltb-false (length value) 4 long.0 in
-    let divides = eqb-true ((length value - 4) % 8) 0 whole.0 in
-    (streams.0, omega (arith, streams.1, at_least, divides))
+    let sized = eqb-true (length value) (4 + 8 * n) whole.0 in
+    (streams.0, omega (arith, streams.1, sized))
 
 pub iforward_tsn_laws : FormatLaws by_mid.read by_mid.format
+unfolding by_mid.read
 iforward_tsn_laws =
     format_laws by_mid.read by_mid.format (bytes_of by_mid.stream_bytes) (λ t. refl)
     (λ t width own fits. iback t width own) (λ value t is. (ikept value t is).0)
+    (λ value. if_passed (length value == 4 + 8 * by_mid.stream_count value) _)
 
 pub iforward_tsn_keeps_size : Keeps by_mid.read by_mid.format
 iforward_tsn_keeps_size first flags value t is = (ikept value t is).1

@@ -10,6 +10,7 @@ use Rattle.dcsctp_tlv.specs.Fault.{Fault, Length}
 use Rattle.dcsctp_tlv.specs.Number.{number32}
 use Rattle.dcsctp_tlv.proofs.FormatLaws.{FormatLaws, Keeps, format_laws, TypedLaws, TypedKeeps, typed_laws}
 use Rattle.dcsctp_tlv.proofs.KindLaws.{of_ok, passed, not_refused}
+use Rattle.dcsctp_tlv.proofs.Unpadded.{if_passed, if_not_refused}
 use Rattle.dcsctp_chunk.specs.CookieAck as cookie_ack
 use Rattle.dcsctp_chunk.specs.CookieEcho as cookie_echo
 use Rattle.dcsctp_chunk.specs.Data.{Tree, IsInWidth, flags_of}
@@ -36,7 +37,7 @@ unfolding shutdown.read
 shutdown_laws =
     format_laws shutdown.read shutdown.format (to_be_bytes w32) (λ tsn. refl)
     (λ tsn width form fits. ap (λ (n : ℕ). Ok n) (from_be_bytes-to_be_bytes_4 tsn width))
-    (λ value tsn is. tt)
+    (λ value tsn is. tt) (λ value. if_passed (length value == 4) (number32 value))
 
 pub shutdown_keeps_size : Keeps shutdown.read shutdown.format
 unfolding shutdown.read
@@ -47,6 +48,7 @@ unfolding shutdown_ack.read
 shutdown_ack_laws =
     format_laws shutdown_ack.read shutdown_ack.format (λ u. []) (λ u. refl)
     (λ u width form fits. refl) (λ value u is. tt)
+    (λ value. if_passed (length value == 0) tt)
 
 pub shutdown_ack_keeps_size : Keeps shutdown_ack.read shutdown_ack.format
 unfolding shutdown_ack.read
@@ -57,6 +59,7 @@ unfolding cookie_ack.read
 cookie_ack_laws =
     format_laws cookie_ack.read cookie_ack.format (λ u. []) (λ u. refl)
     (λ u width form fits. refl) (λ value u is. tt)
+    (λ value. if_passed (length value == 0) tt)
 
 pub cookie_ack_keeps_size : Keeps cookie_ack.read cookie_ack.format
 unfolding cookie_ack.read
@@ -69,6 +72,7 @@ shutdown_complete_laws =
     (λ reflected. []) (λ reflected. refl)
     (λ reflected width form fits. ap (λ (b : Bool). Ok b) (one_again reflected))
     (λ first flags value reflected is. tt)
+    (λ first flags value. if_passed (length value == 0) (is_set flags 0))
 
 pub shutdown_complete_keeps_size
     : TypedKeeps (λ first. shutdown_complete.read) shutdown_complete.format
@@ -91,6 +95,7 @@ cookie_echo_laws =
     let empty : (length value == 0) ≡ true =
     ap (λ (xs : List ℕ). length xs == 0) (of_ok value cookie p.1 ∙ none) in
     absurd (let e : true ≡ false = sym empty ∙ p.0 in cc)))
+    (λ value. if_not_refused (length value == 0) value)
 
 pub cookie_echo_keeps_size : Keeps cookie_echo.read cookie_echo.format
 unfolding cookie_echo.read
@@ -103,7 +108,7 @@ pub unknown_laws : TypedLaws unknown.read unknown.format
 unfolding unknown.read
 unknown_laws =
     typed_laws unknown.read unknown.format (λ u. u.value) (λ u. refl)
-    (λ u width form fits. refl) (λ first flags value u is. tt)
+    (λ u width form fits. refl) (λ first flags value u is. tt) (λ first flags value. tt)
 
 pub unknown_keeps_size : TypedKeeps unknown.read unknown.format
 unfolding unknown.read
@@ -148,6 +153,7 @@ data_laws =
       mid = ap (λ (t : Tree). t.user_data.mid) (sym p);
       fsn = ap (λ (t : Tree). t.user_data.fsn) (sym p);
     }))
+    (λ first flags value. if_not_refused (nat_lt (length value) 12) _)
 
 pub data_keeps_size : TypedKeeps (λ first. data_chunk.read) data_chunk.format
 unfolding data_chunk.read
@@ -248,6 +254,7 @@ idata_laws =
     let number = number32 (drop 12 value) in
     subst idata_chunk.IsWellFormed p
     (record { ssn = refl; fsn_or_ppid = other_number (is_set flags 1) number number })))
+    (λ first flags value. if_not_refused (nat_lt (length value) 16) _)
 
 pub idata_keeps_size : TypedKeeps (λ first. idata_chunk.read) idata_chunk.format
 unfolding idata_chunk.read

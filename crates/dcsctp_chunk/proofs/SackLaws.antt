@@ -1,9 +1,9 @@
 -- SACK: what is written is read again, and what was read keeps its size.
 use Rattle.std.proofs.Common.{◌≡◌, ◌+◌, ◌*◌, length, drop, refl, sym, ap, ◌∙◌, arith, Ok}
-use Rattle.std.specs.Prelude.{◌==◌, nat_lt}
+use Rattle.std.specs.Prelude.{◌==◌}
 use Rattle.std.specs.Int.{w32}
 use Rattle.std.specs.List.{flat_map}
-use Rattle.std.proofs.lemmas.Bool.{le-ltb, eq-eqb, eqb-true}
+use Rattle.std.proofs.lemmas.Bool.{eq-eqb, eqb-true}
 use Rattle.std.proofs.lemmas.List.{drop_at, drop-drop}
 use Rattle.std.proofs.lemmas.Nat.{from_be_bytes-to_be_bytes_2, from_be_bytes-to_be_bytes_4}
 use Rattle.dcsctp_tlv.specs.Fault.{Length}
@@ -13,9 +13,11 @@ use Rattle.dcsctp_tlv.specs.Length.{length-each}
 use Rattle.dcsctp_tlv.specs.Number.{number32, numbers}
 use Rattle.dcsctp_tlv.proofs.FieldLaws.{FieldLaw, length-fields, fields_back, numbers32_back}
 use Rattle.dcsctp_tlv.proofs.FormatLaws.{FormatLaws, Keeps, format_laws}
-use Rattle.dcsctp_tlv.proofs.KindLaws.{of_ok, passed, not_refused}
+use Rattle.dcsctp_tlv.proofs.KindLaws.{of_ok, passed}
+use Rattle.dcsctp_tlv.proofs.Unpadded.{if_passed}
 use Rattle.dcsctp_chunk.specs.Sack as sack
-use Rattle.dcsctp_chunk.specs.Sack.{Tree, block_at, block_bytes, block_count, duplicate_count, length-lists, IsBlockInWidth, IsInWidth}
+use Rattle.dcsctp_chunk.specs.Sack.{Tree, block_at, block_bytes, block_count, duplicate_count, IsBlockInWidth, IsInWidth}
+use Rattle.dcsctp_chunk.proofs.Sacks.{length-lists}
 
 block_law : FieldLaw block_at block_bytes 4 IsBlockInWidth
 block_law = record {
@@ -34,7 +36,8 @@ back s width fits =
     let n = length s.blocks in
     let m = length s.duplicates in
     let duplicates = numbers w32 s.duplicates in
-    let sized : length value ≡ 12 + 4 * n + 4 * m = (let l = length-lists s in omega (arith, l)) in
+    let sized : length value ≡ 12 + 4 * n + 4 * m =
+    (let lists = length-lists s in omega (arith, lists)) in
     let count : block_count value ≡ n = from_be_bytes-to_be_bytes_2 n (omega (arith, fits)) in
     let more : duplicate_count value ≡ m = from_be_bytes-to_be_bytes_2 m (omega (arith, fits)) in
     let blocks_are : fields block_at 4 n (drop 12 value) ≡ s.blocks =
@@ -48,7 +51,6 @@ back s width fits =
     rw (
       count,
       more,
-      le-ltb (length value) 12 (omega (arith, sized)),
       eq-eqb (length value) (12 + 4 * n + 4 * m) sized,
       from_be_bytes-to_be_bytes_4 s.tsn width.tsn,
       from_be_bytes-to_be_bytes_4 s.a_rwnd width.a_rwnd,
@@ -57,17 +59,18 @@ back s width fits =
     ) refl
 
 pub sack_laws : FormatLaws sack.read sack.format
+unfolding sack.read
 sack_laws =
     format_laws sack.read sack.format sack.bytes (λ s. refl)
     (λ s width formed fits. back s width fits) (λ value s is. tt)
+    (λ value. if_passed (length value == 12 + 4 * block_count value + 4 * duplicate_count value) _)
 
 pub sack_keeps_size : Keeps sack.read sack.format
 unfolding sack.read
 sack_keeps_size first flags value s is =
     let n = block_count value in
     let m = duplicate_count value in
-    let long = not_refused (nat_lt (length value) 12) _ Length s is in
-    let whole = passed (length value == 12 + 4 * n + 4 * m) _ Length s long.1 in
+    let whole = passed (length value == 12 + 4 * n + 4 * m) _ Length s is in
     let e = of_ok _ s whole.1 in
     let blocks : length s.blocks ≡ n =
     ap (λ (t : Tree). length t.blocks) (sym e) ∙ length-fields block_at 4 n (drop 12 value) in

@@ -1,19 +1,24 @@
 -- What an output is after a SACK was written.
 use Rattle.std.proofs.Common.{◌≡◌, ℕ, ◌+◌, ◌*◌, ◌≤◌, ◌++◌, List, length, drop, refl, ap, ◌∙◌, arith}
-use Rattle.std.specs.Int.{w32}
+use Rattle.std.specs.Int.{w32, to_be_bytes}
 use Rattle.std.specs.List.{flat_map}
 use Rattle.std.proofs.lemmas.List.{length-map}
 use Rattle.dcsctp_types.specs.declared.types.tsn.Tsn.{Tsn}
 use Rattle.dcsctp_tlv.specs.Format.{flagged_tlv}
 use Rattle.dcsctp_tlv.specs.Frame.{header}
 use Rattle.dcsctp_tlv.specs.Image.{put, image_of, written}
-use Rattle.dcsctp_tlv.specs.Length.{length-each}
+use Rattle.dcsctp_tlv.specs.Length.{length-each, length-two_lists}
 use Rattle.dcsctp_tlv.specs.Number.{numbers}
 use Rattle.dcsctp_tlv.proofs.Puts.{put-put, written_value}
-use Rattle.dcsctp_chunk.specs.Sack.{Tree, block_bytes, fixed, bytes, length-lists, format, duplicate_numbers}
+use Rattle.dcsctp_chunk.specs.Sack.{Tree, block_bytes, fixed, lists, bytes, format, duplicate_numbers}
 
 pub count_of_duplicates : (tsns : List Tsn) → length (duplicate_numbers tsns) ≡ length tsns
 count_of_duplicates tsns = length-map tsns (λ tsn. tsn.0)
+
+pub length-lists : (s : Tree) → length (lists s) ≡ 4 * length s.blocks + 4 * length s.duplicates
+length-lists s =
+    length-two_lists block_bytes 4 s.blocks (to_be_bytes w32) 4 s.duplicates
+    (λ b. refl) (λ n. refl)
 
 -- header, numbers and lists, each written after what was written
 pub sack_written : (s : Tree) (n : ℕ) (old headed one two out : List ℕ)

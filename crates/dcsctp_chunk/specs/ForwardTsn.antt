@@ -1,6 +1,6 @@
 -- FORWARD-TSN (RFC 3758 section 3.2): type 192, flags ignored; the value is the new cumulative TSN,
 -- four bytes, and then the skipped streams: the stream id and the sequence number, two bytes each.
-use Rattle.std.specs.Prelude.{◌≡◌, ℕ, ◌-◌, ◌/◌, ◌%◌, false, List, [], ◌∷◌, ◌++◌, ◌==◌, nat_lt, Result, Ok, Err, if◌then◌else◌, length, drop, codes, refl}
+use Rattle.std.specs.Prelude.{◌≡◌, ℕ, ◌+◌, ◌-◌, ◌*◌, ◌/◌, false, List, [], ◌∷◌, ◌++◌, ◌==◌, Result, Ok, Err, if◌then◌else◌, length, drop, codes, refl}
 use Rattle.std.specs.Fmt.{decimal}
 use Rattle.std.specs.Int.{w16, w32}
 use Rattle.dcsctp_tlv.specs.Kind.{Fault, Length, fields, number16, number32, numbers, Format, length-fields}
@@ -15,16 +15,20 @@ abbrev pub stream_bytes : SkippedStreamTree → List ℕ
 stream_bytes (BySsn stream ssn) = numbers w16 (stream ∷ ssn ∷ [])
 stream_bytes (ByMid stream is_unordered mid) = numbers w32 (0 ∷ [])
 
+-- for the format's `sized`, which can cite no proof of its own crate
 pub length-stream : (s : SkippedStreamTree) → length (stream_bytes s) ≡ 4
 length-stream (BySsn stream ssn) = refl
 length-stream (ByMid stream is_unordered mid) = refl
 
+-- how many streams follow the TSN
+abbrev pub stream_count : List ℕ → ℕ
+stream_count value = (length value - 4) / 4
+
 unfoldable pub read : List ℕ → Result Tree Fault
 read value =
-    if nat_lt (length value) 4 then Err Length else
-    if length value % 4 == 0 then Ok (record {
+    if length value == 4 + 4 * stream_count value then Ok (record {
       tsn = number32 value;
-      streams = fields stream_at 4 ((length value - 4) / 4) (drop 4 value);
+      streams = fields stream_at 4 (stream_count value) (drop 4 value);
     }) else
     Err Length
 

@@ -1,7 +1,7 @@
 -- I-FORWARD-TSN (RFC 8260 section 2.3.1): type 194, flags ignored; the value is the new cumulative
 -- TSN, four bytes, and then the skipped streams: the stream id, two bytes, two more whose lowest
 -- bit says unordered, and the message id, four bytes.
-use Rattle.std.specs.Prelude.{◌≡◌, ℕ, ◌-◌, ◌/◌, ◌%◌, true, List, [], ◌∷◌, ◌++◌, ◌==◌, nat_lt, Result, Ok, Err, if◌then◌else◌, length, drop, codes, refl}
+use Rattle.std.specs.Prelude.{◌≡◌, ℕ, ◌+◌, ◌-◌, ◌*◌, ◌/◌, ◌%◌, true, List, [], ◌∷◌, ◌++◌, ◌==◌, Result, Ok, Err, if◌then◌else◌, length, drop, codes, refl}
 use Rattle.std.specs.Fmt.{decimal}
 use Rattle.std.specs.Int.{w16, w32}
 use Rattle.dcsctp_tlv.specs.Kind.{Fault, Length, fields, number16, number32, numbers, Format, length-fields}
@@ -20,16 +20,20 @@ stream_bytes (BySsn stream ssn) = numbers w32 (0 ∷ 0 ∷ [])
 stream_bytes (ByMid stream is_unordered mid) =
     numbers w16 (stream ∷ (if is_unordered then 1 else 0) ∷ []) ++ numbers w32 (mid ∷ [])
 
+-- for the format's `sized`, which can cite no proof of its own crate
 pub length-stream : (s : SkippedStreamTree) → length (stream_bytes s) ≡ 8
 length-stream (BySsn stream ssn) = refl
 length-stream (ByMid stream is_unordered mid) = refl
 
+-- how many streams follow the TSN
+abbrev pub stream_count : List ℕ → ℕ
+stream_count value = (length value - 4) / 8
+
 unfoldable pub read : List ℕ → Result Tree Fault
 read value =
-    if nat_lt (length value) 4 then Err Length else
-    if (length value - 4) % 8 == 0 then Ok (record {
+    if length value == 4 + 8 * stream_count value then Ok (record {
       tsn = number32 value;
-      streams = fields stream_at 8 ((length value - 4) / 8) (drop 4 value);
+      streams = fields stream_at 8 (stream_count value) (drop 4 value);
     }) else
     Err Length
 

@@ -1,7 +1,7 @@
 -- SACK (RFC 9260 section 3.3.4): type 3, flags ignored; the value is the cumulative TSN and the
 -- window, four bytes each, the numbers of gap ack blocks and of duplicate TSNs, two bytes each, and
 -- then just as many blocks and TSNs, four bytes each.
-use Rattle.std.specs.Prelude.{◌≡◌, ℕ, ◌+◌, ◌*◌, ◌<◌, ◌^◌, List, [], ◌∷◌, ◌++◌, ◌==◌, nat_lt, Result, Ok, Err, if◌then◌else◌, length, drop, map, codes, refl}
+use Rattle.std.specs.Prelude.{ℕ, ◌+◌, ◌*◌, ◌<◌, ◌^◌, List, [], ◌∷◌, ◌++◌, ◌==◌, Result, Ok, Err, if◌then◌else◌, length, drop, map, codes, refl}
 use Rattle.std.specs.Fmt.{decimal}
 use Rattle.std.specs.Int.{w16, w32, to_be_bytes}
 use Rattle.std.proofs.Common.{ap, ◌∙◌}
@@ -33,7 +33,6 @@ duplicate_count value = number16 (drop 10 value)
 
 unfoldable pub read : List ℕ → Result Tree Fault
 read value =
-    if nat_lt (length value) 12 then Err Length else
     if length value == 12 + 4 * block_count value + 4 * duplicate_count value then Ok (record {
       tsn = number32 value;
       a_rwnd = number32 (drop 4 value);
@@ -54,11 +53,6 @@ lists s = flat_map block_bytes s.blocks ++ numbers w32 s.duplicates
 abbrev pub bytes : Tree → List ℕ
 bytes s = fixed s ++ lists s
 
-pub length-lists : (s : Tree) → length (lists s) ≡ 4 * length s.blocks + 4 * length s.duplicates
-length-lists s =
-    length-two_lists block_bytes 4 s.blocks (to_be_bytes w32) 4 s.duplicates
-    (λ b. refl) (λ n. refl)
-
 pub record IsBlockInWidth (b : GapAckBlock) : Type 0 where
   pub start : b.start < 2 ^ 16
   pub end : b.end < 2 ^ 16
@@ -75,7 +69,9 @@ format s = record {
   tlv = flagged_tlv 3 0 (12 + (4 * length s.blocks + 4 * length s.duplicates)) (bytes s);
   sized =
       length-fixed 12 (fixed s) (lists s) refl
-      ∙ ap (λ (k : ℕ). 12 + k) (length-lists s);
+      ∙ ap (λ (k : ℕ). 12 + k)
+      (length-two_lists block_bytes 4 s.blocks (to_be_bytes w32) 4 s.duplicates
+      (λ b. refl) (λ n. refl));
   text = codes "SACK, cum_ack_tsn=" ++ decimal s.tsn ++ codes ", a_rwnd=" ++ decimal s.a_rwnd;
   IsInWidth = IsInWidth s;
   IsWellFormed = Unit {0};

@@ -5,6 +5,7 @@ use Rattle.dcsctp_tlv.specs.Format.{Format}
 use Rattle.dcsctp_tlv.specs.Image.{solid, IsEncodable}
 use Rattle.dcsctp_tlv.proofs.KindLaws.{KindLaws, KeepsSize, by_value}
 use Rattle.dcsctp_tlv.proofs.ReadsBack.{zeroed-solid}
+use Rattle.dcsctp_tlv.proofs.Unpadded.{NotPadding}
 
 -- ---- a kind that is read under the item's first two bytes, as a chunk under its flags
 
@@ -25,11 +26,13 @@ pub typed_laws : {T : Type 0} (read : ℕ → ℕ → List ℕ → Result T Faul
     → read (format t).tlv.first (format t).tlv.second (bytes t) ≡ Ok t)
     → ((first second : ℕ) (value : List ℕ) (t : T) → read first second value ≡ Ok t
     → (format t).IsWellFormed)
+    → ((first second : ℕ) (value : List ℕ) → NotPadding (read first second value))
     → TypedLaws read format
-typed_laws read format bytes same back formed = record {
+typed_laws read format bytes same back formed unpadded = record {
   sized = λ t. (format t).sized;
   back = λ t width form fits. rw (same t, zeroed-solid (bytes t)) (back t width form fits);
   formed = formed;
+  unpadded = unpadded;
 }
 
 -- ---- a kind whose value alone is read
@@ -47,6 +50,8 @@ pub format_laws : {T : Type 0} (read : List ℕ → Result T Fault) (format : T 
     → ((t : T) → (format t).IsInWidth → (format t).IsWellFormed → IsEncodable (format t).tlv
     → read (bytes t) ≡ Ok t)
     → ((value : List ℕ) (t : T) → read value ≡ Ok t → (format t).IsWellFormed)
+    → ((value : List ℕ) → NotPadding (read value))
     → FormatLaws read format
-format_laws read format bytes same back formed =
+format_laws read format bytes same back formed unpadded =
     typed_laws (by_value read) format bytes same back (λ first second value t e. formed value t e)
+    (λ first second value. unpadded value)

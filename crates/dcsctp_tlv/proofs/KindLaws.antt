@@ -3,6 +3,7 @@ use Rattle.std.proofs.Common.{◌≡◌, ℕ, ◌+◌, Bool, true, false, cond, 
 use Rattle.dcsctp_tlv.specs.Fault.{Fault}
 use Rattle.dcsctp_tlv.specs.Level.{map_ok}
 use Rattle.dcsctp_tlv.specs.Image.{zeroed, Tlv, size_of, IsEncodable}
+use Rattle.dcsctp_tlv.proofs.Unpadded.{NotPadding}
 
 -- A value as it is read, after the item's first two bytes; and its tree as it is written.
 pub record KindLaws {T : Type 0} (read : ℕ → ℕ → List ℕ → Result T Fault) (tlv : T → Tlv) (IsInWidth IsWellFormed : T → Type 0) : Type 0 where
@@ -12,6 +13,8 @@ pub record KindLaws {T : Type 0} (read : ℕ → ℕ → List ℕ → Result T F
   pub back : (t : T) → IsInWidth t → IsWellFormed t → IsEncodable (tlv t) → read (tlv t).first (tlv t).second (zeroed (tlv t).value) ≡ Ok t
   -- what is read is well-formed
   pub formed : (first second : ℕ) (value : List ℕ) (t : T) → read first second value ≡ Ok t → IsWellFormed t
+  -- its fault, if any, isn't that of padding
+  pub unpadded : (first second : ℕ) (value : List ℕ) → NotPadding (read first second value)
 
 -- what is read is written with the size that it was read from
 abbrev pub KeepsSize : {T : Type 0} → (ℕ → ℕ → List ℕ → Result T Fault) → (T → Tlv) → Type 0

@@ -1,9 +1,8 @@
 -- What each kind of parameter owes the laws of the table.
-use Rattle.std.proofs.Common.{◌≡◌, ℕ, ◌+◌, ◌-◌, ◌/◌, ◌%◌, ◌^◌, ◌<◌, true, false, List, [], ◌∷◌, ◌++◌, length, drop, refl, sym, ap, subst, ◌∙◌, arith, Option, Some, None, Ok, ◌⊎◌, inl, inr}
-use Rattle.std.specs.Prelude.{◌==◌, nat_lt}
+use Rattle.std.proofs.Common.{◌≡◌, ℕ, ◌+◌, ◌-◌, ◌*◌, ◌/◌, ◌%◌, ◌^◌, ◌<◌, true, false, List, [], ◌∷◌, ◌++◌, length, drop, refl, sym, ap, subst, ◌∙◌, arith, Option, Some, None, Ok, ◌⊎◌, inl, inr}
+use Rattle.std.specs.Prelude.{◌==◌}
 use Rattle.std.specs.Int.{w16, w32, to_be_bytes, from_be_bytes}
-use Rattle.std.proofs.lemmas.Bool.{eqb-true, ltb-false, le-ltb}
-use Rattle.std.proofs.lemmas.Bool.Decides.{Decides-eqb}
+use Rattle.std.proofs.lemmas.Bool.{eqb-true, eq-eqb}
 use Rattle.std.proofs.lemmas.Nat.{from_be_bytes-to_be_bytes_2, from_be_bytes-to_be_bytes_4}
 use Rattle.dcsctp_tlv.specs.Fault.{Length}
 use Rattle.dcsctp_tlv.specs.Level.{plain, map_ok}
@@ -22,11 +21,12 @@ use Rattle.dcsctp_tlv.specs.ReconfigurationResponse as response
 use Rattle.dcsctp_tlv.specs.ReconfigurationResponse.{result_of, result_number, response_with, next_tsns}
 use Rattle.dcsctp_tlv.specs.declared.parameter.reconfiguration_response_parameter.ReconfigurationResponseResult.{ReconfigurationResponseResult}
 use Rattle.dcsctp_tlv.specs.declared.parameter.reconfiguration_response_parameter.ReconfigurationResponseResult.TheVariants.{SuccessNothingToDo, SuccessPerformed, Denied, ErrorWrongSSN, ErrorRequestAlreadyInProgress, ErrorBadSequenceNumber, InProgress}
-use Rattle.dcsctp_tlv.proofs.KindLaws.{of_ok, of_map_ok, chosen, passed, not_refused}
+use Rattle.dcsctp_tlv.proofs.KindLaws.{of_ok, of_map_ok, chosen, passed}
 use Rattle.dcsctp_tlv.proofs.FormatLaws.{FormatLaws, Keeps, format_laws}
 use Rattle.dcsctp_tlv.proofs.FieldLaws.{length-fields, numbers16_back}
 use Rattle.dcsctp_tlv.proofs.Forms.{FormsRow}
 use Rattle.dcsctp_tlv.proofs.Puts.{length-numbers}
+use Rattle.dcsctp_tlv.proofs.Unpadded.{NotPadding, if_passed, either, mapped}
 
 -- ---- any bytes
 
@@ -34,7 +34,7 @@ pub info_laws : FormatLaws info.read info.format
 unfolding info.read
 info_laws =
     format_laws info.read info.format (λ x. x) (λ x. refl) (λ x width form fits. refl)
-    (λ value x e. tt)
+    (λ value x e. tt) (λ value. tt)
 
 pub info_keeps : Keeps info.read info.format
 unfolding info.read
@@ -45,7 +45,7 @@ pub cookie_laws : FormatLaws cookie.read cookie.format
 unfolding cookie.read
 cookie_laws =
     format_laws cookie.read cookie.format (λ x. x) (λ x. refl) (λ x width form fits. refl)
-    (λ value x e. tt)
+    (λ value x e. tt) (λ value. tt)
 
 pub cookie_keeps : Keeps cookie.read cookie.format
 unfolding cookie.read
@@ -56,7 +56,7 @@ pub extensions_laws : FormatLaws extensions.read extensions.format
 unfolding extensions.read
 extensions_laws =
     format_laws extensions.read extensions.format (λ x. x) (λ x. refl)
-    (λ x width form fits. refl) (λ value x e. tt)
+    (λ x width form fits. refl) (λ value x e. tt) (λ value. tt)
 
 pub extensions_keeps : Keeps extensions.read extensions.format
 unfolding extensions.read
@@ -70,6 +70,7 @@ unfolding forward_tsn.read
 forward_tsn_laws =
     format_laws forward_tsn.read forward_tsn.format (λ t. []) (λ t. refl)
     (λ t width form fits. refl) (λ value t e. tt)
+    (λ value. if_passed (length value == 0) tt)
 
 pub forward_tsn_keeps : Keeps forward_tsn.read forward_tsn.format
 unfolding forward_tsn.read
@@ -82,7 +83,7 @@ unfolding zero_checksum.read
 zero_checksum_laws =
     format_laws zero_checksum.read zero_checksum.format (to_be_bytes w32) (λ method. refl)
     (λ method width form fits. ap (λ (n : ℕ). Ok n) (from_be_bytes-to_be_bytes_4 method width))
-    (λ value method e. tt)
+    (λ value method e. tt) (λ value. if_passed (length value == 4) (number32 value))
 
 pub zero_checksum_keeps : Keeps zero_checksum.read zero_checksum.format
 unfolding zero_checksum.read
@@ -96,7 +97,7 @@ unfolding ssn_tsn.read
 ssn_tsn_laws =
     format_laws ssn_tsn.read ssn_tsn.format (to_be_bytes w32) (λ request. refl)
     (λ request width form fits. ap (λ (n : ℕ). Ok n) (from_be_bytes-to_be_bytes_4 request width))
-    (λ value request e. tt)
+    (λ value request e. tt) (λ value. if_passed (length value == 4) (number32 value))
 
 pub ssn_tsn_keeps : Keeps ssn_tsn.read ssn_tsn.format
 unfolding ssn_tsn.read
@@ -115,7 +116,7 @@ add_streams_laws typ name =
       from_be_bytes-to_be_bytes_4 r.request width.request,
       from_be_bytes-to_be_bytes_2 r.new_streams width.new_streams,
     ) refl)
-    (λ value r e. tt)
+    (λ value r e. tt) (λ value. if_passed (length value == 8) _)
 
 pub add_streams_keeps : (typ : ℕ) (name : List ℕ)
     → Keeps add_streams.read (add_streams.format typ name)
@@ -157,12 +158,10 @@ unfolding outgoing.read
 outgoing_back r w =
     let n : ℕ = length (outgoing_bytes r) in
     let twice = length-numbers w16 2 r.streams (λ n. refl) in
-    let even : (n % 2 == 0) ≡ true = (Decides-eqb (n % 2) 0).1 (omega (arith, twice)) in
-    let long : nat_lt n 12 ≡ false = le-ltb n 12 (omega arith) in
+    let whole = eq-eqb n (12 + 2 * ((n - 12) / 2)) (omega (arith, twice)) in
     let streams = numbers16_back r.streams ((n - 12) / 2) (omega (arith, twice)) w.streams in
     rw (
-      even,
-      long,
+      whole,
       streams,
       from_be_bytes-to_be_bytes_4 r.request w.request,
       from_be_bytes-to_be_bytes_4 r.response w.response,
@@ -170,20 +169,22 @@ outgoing_back r w =
     ) refl
 
 pub outgoing_laws : FormatLaws outgoing.read outgoing.format
+unfolding outgoing.read
 outgoing_laws =
     format_laws outgoing.read outgoing.format outgoing_bytes (λ r. refl)
     (λ r width form fits. outgoing_back r width) (λ value r e. tt)
+    (λ value. if_passed (length value == 12 + 2 * outgoing.stream_count value) _)
 
 pub outgoing_keeps : Keeps outgoing.read outgoing.format
 unfolding outgoing.read
 outgoing_keeps first second value r e =
-    let long = not_refused (nat_lt (length value) 12) _ Length r e in
-    let even = passed (length value % 2 == 0) _ Length r long.1 in
-    let is = of_ok _ r even.1 in
-    let count : length r.streams ≡ (length value - 12) / 2 =
+    let n : ℕ = outgoing.stream_count value in
+    let whole = passed (length value == 12 + 2 * n) _ Length r e in
+    let is = of_ok _ r whole.1 in
+    let count : length r.streams ≡ n =
     ap (λ (x : outgoing.Tree). length x.streams) (sym is)
-    ∙ length-fields number16 2 ((length value - 12) / 2) (drop 12 value) in
-    omega (arith, ltb-false (length value) 12 long.0, eqb-true (length value % 2) 0 even.0, count)
+    ∙ length-fields number16 2 n (drop 12 value) in
+    omega (arith, eqb-true (length value) (12 + 2 * n) whole.0, count)
 
 abbrev incoming_bytes : incoming.Tree → List ℕ
 incoming_bytes r = numbers w32 (incoming.leading r) ++ numbers w16 r.streams
@@ -193,26 +194,27 @@ unfolding incoming.read
 incoming_back r w =
     let n : ℕ = length (incoming_bytes r) in
     let twice = length-numbers w16 2 r.streams (λ n. refl) in
-    let even : (n % 2 == 0) ≡ true = (Decides-eqb (n % 2) 0).1 (omega (arith, twice)) in
-    let long : nat_lt n 4 ≡ false = le-ltb n 4 (omega arith) in
+    let whole = eq-eqb n (4 + 2 * ((n - 4) / 2)) (omega (arith, twice)) in
     let streams = numbers16_back r.streams ((n - 4) / 2) (omega (arith, twice)) w.streams in
-    rw (even, long, streams, from_be_bytes-to_be_bytes_4 r.request w.request) refl
+    rw (whole, streams, from_be_bytes-to_be_bytes_4 r.request w.request) refl
 
 pub incoming_laws : FormatLaws incoming.read incoming.format
+unfolding incoming.read
 incoming_laws =
     format_laws incoming.read incoming.format incoming_bytes (λ r. refl)
     (λ r width form fits. incoming_back r width) (λ value r e. tt)
+    (λ value. if_passed (length value == 4 + 2 * incoming.stream_count value) _)
 
 pub incoming_keeps : Keeps incoming.read incoming.format
 unfolding incoming.read
 incoming_keeps first second value r e =
-    let long = not_refused (nat_lt (length value) 4) _ Length r e in
-    let even = passed (length value % 2 == 0) _ Length r long.1 in
-    let is = of_ok _ r even.1 in
-    let count : length r.streams ≡ (length value - 4) / 2 =
+    let n : ℕ = incoming.stream_count value in
+    let whole = passed (length value == 4 + 2 * n) _ Length r e in
+    let is = of_ok _ r whole.1 in
+    let count : length r.streams ≡ n =
     ap (λ (x : incoming.Tree). length x.streams) (sym is)
-    ∙ length-fields number16 2 ((length value - 4) / 2) (drop 4 value) in
-    omega (arith, ltb-false (length value) 4 long.0, eqb-true (length value % 2) 0 even.0, count)
+    ∙ length-fields number16 2 n (drop 4 value) in
+    omega (arith, eqb-true (length value) (4 + 2 * n) whole.0, count)
 
 -- ---- a response
 
@@ -285,13 +287,26 @@ response_read value t e = elim (chosen (length value == 8) _ _ (Ok t) e) [
       inr (eqb-true (length value) 16 q.0, with_tsns value _ _ t q.1))
 ]
 
+result_unpadded : (n : ℕ) → NotPadding (result_of n)
+result_unpadded n =
+    either (n == 0) _ _ tt (either (n == 1) _ _ tt (either (n == 2) _ _ tt (either (n == 3) _ _ tt
+    (either (n == 4) _ _ tt (either (n == 5) _ _ tt (either (n == 6) _ _ tt tt))))))
+
+response_unpadded : (value : List ℕ) → NotPadding (response.read value)
+unfolding response.read
+response_unpadded value =
+    let known = λ (s r : Option ℕ). mapped
+    (λ result. response_of (number32 value) result s r) (result_of (number32 (drop 4 value)))
+    (result_unpadded (number32 (drop 4 value))) in
+    either (length value == 8) _ _ (known _ _) (either (length value == 16) _ _ (known _ _) tt)
+
 pub response_laws : FormatLaws response.read response.format
 response_laws =
     format_laws response.read response.format
     (λ r. numbers w32 (response.leading r) ++ numbers w32 (response.tsns r)) (λ r. refl)
     (λ r width form fits. response_back r.response r.result r.sender_next_tsn r.receiver_next_tsn
     width form)
-    (λ value t e. both value t (response_read value t e)) where
+    (λ value t e. both value t (response_read value t e)) response_unpadded where
       both : (value : List ℕ) (t : response.Tree) → IsRead value t
           → (response.format t).IsWellFormed
       both value t (inl p) = rw (p.1.0, p.1.1) ((λ h. h), (λ h. h))

@@ -1,13 +1,15 @@
 -- The laws of the table of parameters: a line for each kind.
-use Rattle.std.proofs.Common.{◌≡◌, ℕ, Bool, ◌+◌, ◌*◌, ◌^◌, ◌<◌, ◌≢◌, List, [], ◌∷◌, ◌++◌, length, refl, sym, ap, subst, Option, Some, None}
+use Rattle.std.proofs.Common.{◌≡◌, ℕ, Bool, ◌+◌, ◌*◌, ◌^◌, ◌<◌, ◌≢◌, List, [], ◌∷◌, ◌++◌, length, refl, sym, ap, subst, ◌∙◌, Option, Some, None, Result}
 use Rattle.std.specs.Prelude.{IfSome}
 use Rattle.std.specs.Int.{w16, w32, from_be_bytes}
 use Rattle.std.specs.List.{AllByRecursion}
+use Rattle.dcsctp_tlv.specs.Decided.{IgnoresPadding}
+use Rattle.dcsctp_tlv.specs.Fault.{Fault}
 use Rattle.dcsctp_tlv.specs.Format.{sized_tlv}
 use Rattle.dcsctp_tlv.specs.Frame.{lenient}
 use Rattle.dcsctp_tlv.specs.Number.{numbers}
 use Rattle.dcsctp_tlv.proofs.Lengths.{length-format}
-use Rattle.dcsctp_tlv.specs.Level.{Row, map_ok, HasMeaning}
+use Rattle.dcsctp_tlv.specs.Level.{Row, plain, map_ok, HasMeaning}
 use Rattle.dcsctp_tlv.specs.Image.{Tlv, zeroed, image_of, size_of, IsEncodable, list_size}
 use Rattle.dcsctp_tlv.specs.Table.{IsUnnamed}
 use Rattle.dcsctp_tlv.specs.HeartbeatInfo as info
@@ -21,6 +23,8 @@ use Rattle.dcsctp_tlv.specs.UnknownParameter as unknown
 use Rattle.dcsctp_tlv.specs.Parameter.{ParameterTree, HeartbeatInfo, StateCookie, OutgoingSsnResetRequest, IncomingSsnResetRequest, SsnTsnResetRequest, ReconfigurationResponse, AddOutgoingStreamsRequest, AddIncomingStreamsRequest, ZeroChecksumAcceptable, SupportedExtensions, ForwardTsnSupported, Unknown, table, row, parameters, format, tlv, IsInWidth, IsWellFormed, kept, all_kept}
 use Rattle.dcsctp_tlv.proofs.Laws.{LawfulRow, Lawful, plain_lawful}
 use Rattle.dcsctp_tlv.proofs.Lenient.{Loosens}
+use Rattle.dcsctp_tlv.proofs.KindLaws.{KindLaws, KeepsSize}
+use Rattle.dcsctp_tlv.proofs.Unpadded.{Unpadded, plain_unpadded, ok_unpadded, list_unpadded}
 use Rattle.dcsctp_tlv.proofs.Tables.{◌&◌, of_table, of_others}
 use Rattle.dcsctp_tlv.proofs.ReadsBack.{ReadsBack, each_encodable, zeroed-solid}
 use Rattle.dcsctp_tlv.proofs.ParameterKinds.{info_laws, info_keeps, cookie_laws, cookie_keeps, outgoing_laws, outgoing_keeps, incoming_laws, incoming_keeps, response_laws, response_keeps, zero_checksum_laws, zero_checksum_keeps, extensions_laws, extensions_keeps, forward_tsn_laws, forward_tsn_keeps, ssn_tsn_laws, ssn_tsn_keeps, add_streams_laws, add_streams_keeps, type_back, unknown_keeps, unknown_forms}
@@ -29,22 +33,59 @@ use Rattle.dcsctp_tlv.proofs.Accounts.{Accounts, AccountsRow, plain_account}
 use Rattle.dcsctp_tlv.proofs.Counts.{Counts, one_each}
 use Rattle.dcsctp_tlv.proofs.Kept.{all_map}
 
--- ---- one answer
+-- ---- what each row owes
+
+record RowLaws (row : Row ParameterTree) : Type 0 where
+  -- each value means one tree or has one fault
+  pub lawful : LawfulRow row
+  -- what it means is well-formed, and is written in the same space
+  pub forms : FormsRow IsWellFormed row
+  pub account : AccountsRow tlv row
+  -- no fault is that of padding
+  pub unpadded : Unpadded row
+
+-- A kind, by its laws and its trees in the table: they are written, and well-formed, as its own
+-- format says.
+kind : {X : Type 0} {read : ℕ → ℕ → List ℕ → Result X Fault} {written : X → Tlv}
+    {HasWidths IsFormed : X → Type 0}
+    → KindLaws read written HasWidths IsFormed → KeepsSize read written
+    → (tree : X → ParameterTree) → ((x : X) → tlv (tree x) ≡ written x)
+    → ((x : X) → IsFormed x → IsWellFormed (tree x))
+    → RowLaws (plain (λ value. map_ok tree (read 0 0 value)))
+kind {X} {read} laws keeps tree same formed = record {
+  lawful = plain_lawful _;
+  forms = plain_forms laws tree IsWellFormed 0 0 formed;
+  account =
+      plain_account (read 0 0) tree tlv
+      (λ value x e. ap size_of (same x) ∙ keeps 0 0 value x e);
+  unpadded = plain_unpadded tree (read 0 0) (laws.unpadded 0 0);
+}
+
+rows : (typ : ℕ) → RowLaws (row typ)
+unfolding unknown.read
+rows typ = of_table (λ _ row. RowLaws row) table typ _ (
+    kind info_laws info_keeps HeartbeatInfo (λ x. refl) (λ x h. h) &
+    kind cookie_laws cookie_keeps StateCookie (λ x. refl) (λ x h. h) &
+    kind outgoing_laws outgoing_keeps OutgoingSsnResetRequest (λ x. refl) (λ x h. h) &
+    kind incoming_laws incoming_keeps IncomingSsnResetRequest (λ x. refl) (λ x h. h) &
+    kind ssn_tsn_laws ssn_tsn_keeps SsnTsnResetRequest (λ x. refl) (λ x h. h) &
+    kind response_laws response_keeps ReconfigurationResponse (λ x. refl) (λ x h. h) &
+    kind (add_streams_laws 17 add_outgoing.name) (add_streams_keeps 17 add_outgoing.name)
+    AddOutgoingStreamsRequest (λ x. refl) (λ x h. h) &
+    kind (add_streams_laws 18 add_incoming.name) (add_streams_keeps 18 add_incoming.name)
+    AddIncomingStreamsRequest (λ x. refl) (λ x h. h) &
+    kind zero_checksum_laws zero_checksum_keeps ZeroChecksumAcceptable (λ x. refl) (λ x h. h) &
+    kind extensions_laws extensions_keeps SupportedExtensions (λ x. refl) (λ x h. h) &
+    kind forward_tsn_laws forward_tsn_keeps (λ _. ForwardTsnSupported) (λ x. refl) (λ x h. h) & tt)
+    (λ unnamed. record {
+      lawful = plain_lawful _;
+      forms = unknown_forms IsWellFormed typ Unknown (λ value. unnamed);
+      account = plain_account _ Unknown tlv (unknown_keeps typ 0 0);
+      unpadded = ok_unpadded _;
+    })
 
 pub row_lawful : (typ : ℕ) → LawfulRow (row typ)
-row_lawful typ = of_table (λ _ row. LawfulRow row) table typ _ (
-    plain_lawful _ &
-    plain_lawful _ &
-    plain_lawful _ &
-    plain_lawful _ &
-    plain_lawful _ &
-    plain_lawful _ &
-    plain_lawful _ &
-    plain_lawful _ &
-    plain_lawful _ &
-    plain_lawful _ &
-    plain_lawful _ & tt)
-    (λ _. plain_lawful _)
+row_lawful typ = (rows typ).lawful
 
 -- each value of a parameter means one tree or has one fault
 pub parameters_lawful : (strict : Bool) → Lawful (parameters strict)
@@ -150,46 +191,23 @@ good_parameters ts width formed fits = each ts width formed (each_encodable tlv 
 
 -- ---- well-formed
 
-row_forms : (typ : ℕ) → FormsRow IsWellFormed (row typ)
-row_forms typ = of_table (λ _ row. FormsRow IsWellFormed row) table typ _ (
-    plain_forms info_laws _ IsWellFormed 0 0 (λ x form. tt) &
-    plain_forms cookie_laws _ IsWellFormed 0 0 (λ x form. tt) &
-    plain_forms outgoing_laws _ IsWellFormed 0 0 (λ x form. tt) &
-    plain_forms incoming_laws _ IsWellFormed 0 0 (λ x form. tt) &
-    plain_forms ssn_tsn_laws _ IsWellFormed 0 0 (λ x form. tt) &
-    plain_forms response_laws _ IsWellFormed 0 0 (λ x form. form) &
-    plain_forms (add_streams_laws 17 add_outgoing.name) _ IsWellFormed 0 0 (λ x form. tt) &
-    plain_forms (add_streams_laws 18 add_incoming.name) _ IsWellFormed 0 0 (λ x form. tt) &
-    plain_forms zero_checksum_laws _ IsWellFormed 0 0 (λ x form. tt) &
-    plain_forms extensions_laws _ IsWellFormed 0 0 (λ x form. tt) &
-    plain_forms forward_tsn_laws _ IsWellFormed 0 0 (λ x form. tt) & tt)
-    (λ unnamed. unknown_forms IsWellFormed typ Unknown (λ value. unnamed))
-
 pub parameters_form : FormsTrees (parameters lenient) IsWellFormed
 parameters_form =
-    record { formed = λ first second. row_forms (from_be_bytes w16 (first ∷ second ∷ [])) }
+    record { formed = λ first second. (rows (from_be_bytes w16 (first ∷ second ∷ []))).forms }
 
 -- ---- the size account
 
-row_account : (typ : ℕ) → AccountsRow tlv (row typ)
-row_account typ = of_table (λ _ row. AccountsRow tlv row) table typ _ (
-    plain_account _ HeartbeatInfo tlv (info_keeps 0 0) &
-    plain_account _ StateCookie tlv (cookie_keeps 0 0) &
-    plain_account _ OutgoingSsnResetRequest tlv (outgoing_keeps 0 0) &
-    plain_account _ IncomingSsnResetRequest tlv (incoming_keeps 0 0) &
-    plain_account _ SsnTsnResetRequest tlv (ssn_tsn_keeps 0 0) &
-    plain_account _ ReconfigurationResponse tlv (response_keeps 0 0) &
-    plain_account _ AddOutgoingStreamsRequest tlv (add_streams_keeps 17 add_outgoing.name 0 0) &
-    plain_account _ AddIncomingStreamsRequest tlv (add_streams_keeps 18 add_incoming.name 0 0) &
-    plain_account _ ZeroChecksumAcceptable tlv (zero_checksum_keeps 0 0) &
-    plain_account _ SupportedExtensions tlv (extensions_keeps 0 0) &
-    plain_account _ (λ _. ForwardTsnSupported) tlv (forward_tsn_keeps 0 0) & tt)
-    (λ _. plain_account _ Unknown tlv (unknown_keeps typ 0 0))
-
 pub parameters_account : Accounts (parameters lenient) tlv (λ i. Unit {0})
 parameters_account = record {
-  sized = λ i t kept. row_account (from_be_bytes w16 (i.first ∷ i.second ∷ [])) i.value t;
+  sized = λ i t kept. (rows (from_be_bytes w16 (i.first ∷ i.second ∷ []))).account i.value t;
 }
+
+-- ---- padding
+
+pub parameters_unpadded : IgnoresPadding (parameters lenient)
+parameters_unpadded =
+    list_unpadded (parameters lenient) (λ _ _. refl)
+    (λ first second. (rows (from_be_bytes w16 (first ∷ second ∷ []))).unpadded)
 
 -- ---- the bound on their number
 

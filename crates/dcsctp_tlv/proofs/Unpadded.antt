@@ -1,5 +1,5 @@
 -- No fault is that of padding, where the rule accepts all padding and no row tells such a fault.
-use Rattle.std.proofs.Common.{◌≡◌, ℕ, Bool, true, false, List, refl, sym, subst, ◌∙◌, inl, inr, Result, Ok, Err}
+use Rattle.std.proofs.Common.{◌≡◌, ℕ, Bool, true, false, cond, List, sym, subst, ◌∙◌, inl, inr, Result, Ok, Err}
 use Rattle.dcsctp_tlv.specs.Fault.{Fault, Length, Padding, Value}
 use Rattle.dcsctp_tlv.specs.Level.{Row, Level, plain, map_ok, listed, BeginsWithFault, no_frame, value, padding}
 use Rattle.dcsctp_tlv.specs.Decided.{IgnoresPadding}
@@ -15,14 +15,21 @@ NotPadding (Err Length) = Unit {0}
 NotPadding (Err Padding) = ⊥
 NotPadding (Err Value) = Unit {0}
 
--- what isn't a fault of padding, where a row shows it
-abbrev pub fine : Unit {0}
-fine = tt
+-- a test, and a fault of length where it fails
+pub if_passed : {T : Type 0} (b : Bool) (t : T) → NotPadding (cond b (Ok t) (Err Length))
+if_passed true t = tt
+if_passed false t = tt
 
--- a test, either way
-pub by_test : {A : Type 0} (b : Bool) → (b ≡ true → A) → (b ≡ false → A) → A
-by_test true p q = p refl
-by_test false p q = q refl
+-- a test, and a fault of length where it holds
+pub if_not_refused : {T : Type 0} (b : Bool) (t : T) → NotPadding (cond b (Err Length) (Ok t))
+if_not_refused true t = tt
+if_not_refused false t = tt
+
+-- what one side or the other of a test gives
+pub either : {T : Type 0} (b : Bool) (r s : Result T Fault) → NotPadding r → NotPadding s
+    → NotPadding (cond b r s)
+either true r s p q = p
+either false r s p q = q
 
 pub mapped : {A B : Type 0} (f : A → B) (r : Result A Fault) → NotPadding r → NotPadding (map_ok f r)
 mapped f (Ok x) h = tt

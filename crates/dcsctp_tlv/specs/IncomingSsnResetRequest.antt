@@ -1,6 +1,6 @@
 -- Incoming SSN Reset Request (RFC 6525 section 4.2): type 14; the value is the request number, four
 -- bytes, and then stream ids, two bytes each.
-use Rattle.std.specs.Prelude.{ℕ, ◌+◌, ◌-◌, ◌*◌, ◌/◌, ◌%◌, ◌<◌, ◌^◌, List, [], ◌∷◌, ◌++◌, ◌==◌, nat_lt, Result, Ok, Err, if◌then◌else◌, length, drop, codes, refl}
+use Rattle.std.specs.Prelude.{ℕ, ◌+◌, ◌-◌, ◌*◌, ◌/◌, ◌<◌, ◌^◌, List, [], ◌∷◌, ◌++◌, ◌==◌, Result, Ok, Err, if◌then◌else◌, length, drop, codes, refl}
 use Rattle.std.specs.Fmt.{decimal}
 use Rattle.std.specs.List.{AllByRecursion}
 use Rattle.std.specs.Int.{w16, w32}
@@ -11,12 +11,15 @@ pub record Tree : Type 0 where
   pub request : ℕ
   pub streams : List ℕ
 
+-- how many stream ids follow the number
+abbrev pub stream_count : List ℕ → ℕ
+stream_count value = (length value - 4) / 2
+
 unfoldable pub read : List ℕ → Result Tree Fault
 read value =
-    if nat_lt (length value) 4 then Err Length else
-    if length value % 2 == 0 then Ok (record {
+    if length value == 4 + 2 * stream_count value then Ok (record {
       request = number32 value;
-      streams = fields number16 2 ((length value - 4) / 2) (drop 4 value);
+      streams = fields number16 2 (stream_count value) (drop 4 value);
     }) else
     Err Length
 

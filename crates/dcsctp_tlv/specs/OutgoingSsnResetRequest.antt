@@ -1,7 +1,7 @@
 -- Outgoing SSN Reset Request (RFC 6525 section 4.1): type 13; the value is the request number, the
 -- response number and the sender's last assigned TSN, four bytes each, and then stream ids, two
 -- bytes each.
-use Rattle.std.specs.Prelude.{ℕ, ◌+◌, ◌-◌, ◌*◌, ◌/◌, ◌%◌, ◌<◌, ◌^◌, List, [], ◌∷◌, ◌++◌, ◌==◌, nat_lt, Result, Ok, Err, if◌then◌else◌, length, drop, codes, refl}
+use Rattle.std.specs.Prelude.{ℕ, ◌+◌, ◌-◌, ◌*◌, ◌/◌, ◌<◌, ◌^◌, List, [], ◌∷◌, ◌++◌, ◌==◌, Result, Ok, Err, if◌then◌else◌, length, drop, codes, refl}
 use Rattle.std.specs.Fmt.{decimal}
 use Rattle.std.specs.List.{AllByRecursion}
 use Rattle.std.specs.Int.{w16, w32}
@@ -14,14 +14,17 @@ pub record Tree : Type 0 where
   pub last_tsn : ℕ
   pub streams : List ℕ
 
+-- how many stream ids follow the numbers
+abbrev pub stream_count : List ℕ → ℕ
+stream_count value = (length value - 12) / 2
+
 unfoldable pub read : List ℕ → Result Tree Fault
 read value =
-    if nat_lt (length value) 12 then Err Length else
-    if length value % 2 == 0 then Ok (record {
+    if length value == 12 + 2 * stream_count value then Ok (record {
       request = number32 value;
       response = number32 (drop 4 value);
       last_tsn = number32 (drop 8 value);
-      streams = fields number16 2 ((length value - 12) / 2) (drop 12 value);
+      streams = fields number16 2 (stream_count value) (drop 12 value);
     }) else
     Err Length
 

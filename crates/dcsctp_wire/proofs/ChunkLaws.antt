@@ -1,19 +1,19 @@
 -- Each kind of chunk reads back, and reads only what is well-formed: a line a kind.
 use Rattle.std.proofs.Common.{◌≡◌, ◌≢◌, ℕ, Bool, true, false, List, [], ◌∷◌, refl, sym, ap, subst, ◌∙◌, arith}
-use Rattle.std.specs.Prelude.{◌==◌, length, drop}
+use Rattle.std.specs.Prelude.{nat_lt, length, drop}
 use Rattle.std.specs.List.{AllByRecursion}
-use Rattle.std.proofs.lemmas.Bool.{le-leb, ne_eqb}
+use Rattle.std.proofs.lemmas.Bool.{le-leb, lt-ltb}
 use Rattle.std.proofs.lemmas.Nat.{from_be_bytes-to_be_bytes_2, from_be_bytes-to_be_bytes_4}
 use Rattle.dcsctp_tlv.specs.Frame.{lenient}
 use Rattle.dcsctp_tlv.specs.Level.{plain, as_row, map_ok, MeansTrees}
 use Rattle.dcsctp_tlv.specs.Image.{Tlv, zeroed, image_of, list_image, IsEncodable}
 use Rattle.dcsctp_tlv.specs.Parameter.{ParameterTree, parameters, tlv as parameter_tlv, IsInWidth as IsParameterInWidth, IsWellFormed as IsParameterWellFormed}
 use Rattle.dcsctp_tlv.specs.Table.{IsUnnamed}
-use Rattle.dcsctp_tlv.proofs.Tables.{of_table, of_others, ◌&◌}
+use Rattle.dcsctp_tlv.proofs.Tables.{of_others}
 use Rattle.dcsctp_tlv.proofs.KindLaws.{of_ok}
 use Rattle.dcsctp_tlv.proofs.ReadsBack.{ReadsBack, nested_reads_back, zeros_accepted, none_accepted, zeroed-solid}
 use Rattle.dcsctp_tlv.proofs.ParameterLaws.{IsGoodParameter, good_parameters, parameters_read_back, parameters_form}
-use Rattle.dcsctp_tlv.proofs.Forms.{FormsTrees, FormsRow, plain_forms, list_formed, nil_means}
+use Rattle.dcsctp_tlv.proofs.Forms.{FormsRow, list_formed, nil_means}
 use Rattle.dcsctp_cause.specs.Cause.{CauseTree, causes, tlv as cause_tlv, IsInWidth as IsCauseInWidth, IsWellFormed as IsCauseWellFormed}
 use Rattle.dcsctp_cause.proofs.CauseLaws.{IsGoodCause, good_causes, causes_read_back, causes_form}
 use Rattle.dcsctp_chunk.specs.Unknown.{Tree as UnknownTree, read as unknown_at}
@@ -87,19 +87,19 @@ abort_means strict a width formed fits = (
 
 -- a list of causes that is written isn't empty
 some_bytes : (cs : List CauseTree) → cs ≢ []
-    → (length (zeroed (list_image cause_tlv cs)) == 0) ≡ false
+    → nat_lt 0 (length (zeroed (list_image cause_tlv cs))) ≡ true
 unfolding image_of
 some_bytes [] some = absurd (some refl)
 some_bytes (c ∷ []) some =
-    ne_eqb (length (zeroed (list_image cause_tlv (c ∷ [])))) 0 (λ e. omega (arith, e))
+    lt-ltb 0 (length (zeroed (list_image cause_tlv (c ∷ [])))) (omega arith)
 some_bytes (c ∷ d ∷ cs) some =
-    ne_eqb (length (zeroed (list_image cause_tlv (c ∷ d ∷ cs)))) 0 (λ e. omega (arith, e))
+    lt-ltb 0 (length (zeroed (list_image cause_tlv (c ∷ d ∷ cs)))) (omega arith)
 
 error_means : (strict : Bool) (cs : List CauseTree) → AllByRecursion IsCauseInWidth cs
     → (cs ≢ []) × AllByRecursion IsCauseWellFormed cs → IsEncodable (error_format cs).tlv
     → (error_row strict).means (zeroed (error_format cs).tlv.value) cs
 error_means strict cs width formed fits = (
-  rw (some_bytes cs formed.0) refl,
+  some_bytes cs formed.0,
   (
     cs,
     nested_reads_back (causes strict) cause_tlv IsGoodCause (causes_read_back strict) cs
@@ -163,7 +163,7 @@ chunks_read_back strict = record {
 
 -- ---- each kind reads only what is well-formed
 
-init_forms : (tree : InitTree → ChunkTree)
+pub init_forms : (tree : InitTree → ChunkTree)
     → ((i : InitTree) → AllByRecursion IsParameterWellFormed i.parameters
     → IsChunkWellFormed (tree i)) → FormsRow IsChunkWellFormed (as_row tree (init_row lenient))
 init_forms tree law value t m =
@@ -172,7 +172,7 @@ init_forms tree law value t m =
     (law m.0 (subst (λ (i : InitTree). AllByRecursion IsParameterWellFormed i.parameters) (sym is)
     (list_formed (parameters lenient) IsParameterWellFormed parameters_form (drop 16 value) m.1.1.0 m.1.1.1)))
 
-parameter_list_forms : (tree : List ParameterTree → ChunkTree)
+pub parameter_list_forms : (tree : List ParameterTree → ChunkTree)
     → ((ps : List ParameterTree) → AllByRecursion IsParameterWellFormed ps
     → IsChunkWellFormed (tree ps)) → FormsRow IsChunkWellFormed (as_row tree (parameter_list_row lenient))
 parameter_list_forms tree law value t m =
@@ -180,7 +180,7 @@ parameter_list_forms tree law value t m =
     (law m.0 (subst (AllByRecursion IsParameterWellFormed) (sym m.1.1.2)
     (list_formed (parameters lenient) IsParameterWellFormed parameters_form value m.1.1.0 m.1.1.1)))
 
-abort_forms : (flags : ℕ) → FormsRow IsChunkWellFormed (as_row Abort (abort_row lenient flags))
+pub abort_forms : (flags : ℕ) → FormsRow IsChunkWellFormed (as_row Abort (abort_row lenient flags))
 abort_forms flags value t m =
     subst IsChunkWellFormed (sym m.2)
     (subst (λ (a : AbortTree). AllByRecursion IsCauseWellFormed a.causes) (sym m.1.1.2)
@@ -194,7 +194,7 @@ some_causes value cs m none =
     let refused : false ≡ true = rw nil at m.0 in
     cc
 
-error_forms : FormsRow IsChunkWellFormed (as_row Error (error_row lenient))
+pub error_forms : FormsRow IsChunkWellFormed (as_row Error (error_row lenient))
 error_forms value t m =
     subst IsChunkWellFormed (sym m.2) (
       some_causes value m.0 m.1,
@@ -202,35 +202,9 @@ error_forms value t m =
           (list_formed (causes lenient) IsCauseWellFormed causes_form value m.1.1.0 m.1.1.1),
     )
 
-unknown_forms : (typ flags : ℕ) → IsUnnamed (table lenient flags) typ
+pub unknown_forms : (typ flags : ℕ) → IsUnnamed (table lenient flags) typ
     → FormsRow IsChunkWellFormed (plain (λ value. map_ok Unknown (unknown_at typ flags value)))
 unfolding unknown_at
 unknown_forms typ flags h value t e =
     subst IsChunkWellFormed
     (of_ok (Unknown (record { typ = typ; flags = flags; value = value })) t e) h
-
-forms : (typ flags : ℕ) → FormsRow IsChunkWellFormed (chunk_row lenient typ flags)
-forms typ flags = of_table (λ _ row. FormsRow IsChunkWellFormed row) (table lenient flags) typ _ (
-    plain_forms data_laws Data IsChunkWellFormed 0 flags (λ c formed. formed) &
-    init_forms Init (λ i formed. formed) &
-    init_forms InitAck (λ i formed. formed) &
-    plain_forms sack_laws Sack IsChunkWellFormed 3 flags (λ c formed. tt) &
-    parameter_list_forms HeartbeatRequest (λ ps formed. formed) &
-    parameter_list_forms HeartbeatAck (λ ps formed. formed) &
-    abort_forms flags &
-    plain_forms shutdown_laws Shutdown IsChunkWellFormed 7 flags (λ tsn formed. tt) &
-    plain_forms shutdown_ack_laws (λ _. ShutdownAck) IsChunkWellFormed 8 flags (λ u formed. tt) &
-    error_forms &
-    plain_forms cookie_echo_laws CookieEcho IsChunkWellFormed 10 flags (λ cookie formed. formed) &
-    plain_forms cookie_ack_laws (λ _. CookieAck) IsChunkWellFormed 11 flags (λ u formed. tt) &
-    plain_forms shutdown_complete_laws ShutdownComplete IsChunkWellFormed 14 flags
-    (λ reflected formed. tt) &
-    plain_forms idata_laws IData IsChunkWellFormed 64 flags (λ c formed. formed) &
-    parameter_list_forms ReConfig (λ ps formed. formed) &
-    plain_forms forward_tsn_laws ForwardTsn IsChunkWellFormed 192 flags (λ f formed. formed) &
-    plain_forms iforward_tsn_laws IForwardTsn IsChunkWellFormed 194 flags (λ f formed. formed) &
-    tt)
-    (unknown_forms typ flags)
-
-pub chunks_form : FormsTrees (chunks lenient) IsChunkWellFormed
-chunks_form = record { formed = forms }

@@ -20,8 +20,7 @@ use Rattle.dcsctp_wire.specs.Packet.{PacketTree, HasPacketSize, body, IsOpened, 
 use Rattle.dcsctp_wire.specs.Canonical.{padded_size}
 use Rattle.dcsctp_wire.specs.WellFormed.{IsWellFormed}
 use Rattle.dcsctp_wire.specs.Account.{AreTextsKept, KeepsTexts, KeepsSize, node_count}
-use Rattle.dcsctp_wire.proofs.ChunkLaws.{chunks_form}
-use Rattle.dcsctp_wire.proofs.AccountLaws.{chunks_account, chunks_count}
+use Rattle.dcsctp_wire.proofs.ChunkRows.{chunks_form, chunks_account, chunks_count}
 use Rattle.dcsctp_wire.proofs.Canonicals.{padded_size-is}
 use Rattle.dcsctp_wire.proofs.Lenient.{lenient_packet}
 

@@ -9,19 +9,11 @@ use Rattle.dcsctp_tlv.specs.Fault.{Fault}
 use Rattle.dcsctp_tlv.specs.Number.{AreBytes}
 use Rattle.dcsctp_tlv.specs.Level.{HasFault}
 use Rattle.dcsctp_tlv.specs.Reading.{TellsFault}
-use Rattle.dcsctp_tlv.proofs.Laws.{LawfulRow, Lawful, plain_lawful, as_lawful, listed_lawful, list_one, list_apart, list_same, list_some}
-use Rattle.dcsctp_tlv.proofs.Tables.{of_table, ◌&◌}
+use Rattle.dcsctp_tlv.proofs.Laws.{list_one, list_apart, list_same, list_some}
 use Rattle.dcsctp_wire.specs.declared.packet.sctp_packet.ChecksumPolicy.{ChecksumPolicy}
-use Rattle.dcsctp_tlv.specs.Parameter.{parameters}
-use Rattle.dcsctp_tlv.proofs.ParameterLaws.{parameters_lawful}
-use Rattle.dcsctp_cause.specs.Cause.{causes}
-use Rattle.dcsctp_cause.proofs.CauseLaws.{causes_lawful}
-use Rattle.dcsctp_wire.specs.InitFields.{tree_of as init_of, row as init_row}
-use Rattle.dcsctp_wire.specs.ParameterList.{row as parameter_list_row}
-use Rattle.dcsctp_wire.specs.Abort.{tree_of as abort_of, row as abort_row}
-use Rattle.dcsctp_wire.specs.Error.{row as error_row}
-use Rattle.dcsctp_wire.specs.Chunk.{Init, InitAck, HeartbeatRequest, HeartbeatAck, Abort, Error, ReConfig, table, chunks}
+use Rattle.dcsctp_wire.specs.Chunk.{chunks}
 use Rattle.dcsctp_wire.specs.Packet.{PacketTree, HasPacketSize, IsAccepted, disabled, alternate, equal, checksum_field, body, IsOpened, MeansPacket, packet_with, PacketFault, Size, Checksum, Chunk, Answer, ReadsFault}
+use Rattle.dcsctp_wire.proofs.ChunkRows.{chunks_lawful}
 
 pub reads_fault : (bytes : List ℕ) (word : ℕ) (policy : ChecksumPolicy) (e : ChunkParseError) → IsOpened bytes word policy → TellsFault (HasFault (chunks policy.strict_padding) (body bytes)) e → ReadsFault bytes word policy e
 reads_fault bytes word policy InvalidLength opened fault = (opened, fault)
@@ -29,41 +21,6 @@ reads_fault bytes word policy InvalidPadding opened fault = (opened, fault)
 reads_fault bytes word policy InvalidValue opened fault = (opened, fault)
 reads_fault bytes word policy InvalidType opened fault = absurd fault
 reads_fault bytes word policy OutOfMemory opened fault = opened
-
--- a value with a list has one answer since its list has
-pub init_lawful : (strict : Bool) → LawfulRow (init_row strict)
-init_lawful strict = listed_lawful _ 16 (parameters strict) init_of (parameters_lawful strict)
-
-pub parameter_list_lawful : (strict : Bool) → LawfulRow (parameter_list_row strict)
-parameter_list_lawful strict = listed_lawful _ 0 (parameters strict) (λ value ps. ps) (parameters_lawful strict)
-
-pub abort_lawful : (strict : Bool) (flags : ℕ) → LawfulRow (abort_row strict flags)
-abort_lawful strict flags = listed_lawful _ 0 (causes strict) (λ value cs. abort_of flags cs) (causes_lawful strict)
-
-pub error_lawful : (strict : Bool) → LawfulRow (error_row strict)
-error_lawful strict = listed_lawful _ 0 (causes strict) (λ value cs. cs) (causes_lawful strict)
-
--- each row of the table of chunks is a function of the value, or has one answer otherwise
-pub chunks_lawful : (strict : Bool) → Lawful (chunks strict)
-chunks_lawful strict typ flags = of_table (λ _ row. LawfulRow row) (table strict flags) typ _ (
-    plain_lawful _ &
-    as_lawful Init (init_row strict) (init_lawful strict) &
-    as_lawful InitAck (init_row strict) (init_lawful strict) &
-    plain_lawful _ &
-    as_lawful HeartbeatRequest (parameter_list_row strict) (parameter_list_lawful strict) &
-    as_lawful HeartbeatAck (parameter_list_row strict) (parameter_list_lawful strict) &
-    as_lawful Abort (abort_row strict flags) (abort_lawful strict flags) &
-    plain_lawful _ &
-    plain_lawful _ &
-    as_lawful Error (error_row strict) (error_lawful strict) &
-    plain_lawful _ &
-    plain_lawful _ &
-    plain_lawful _ &
-    plain_lawful _ &
-    as_lawful ReConfig (parameter_list_row strict) (parameter_list_lawful strict) &
-    plain_lawful _ &
-    plain_lawful _ & tt)
-    (λ _. plain_lawful _)
 
 -- ---- one answer
 

@@ -1,6 +1,6 @@
 -- ERROR (RFC 9260 section 3.3.10): type 9, flags ignored; the value is a list of error causes, one
 -- at least.
-use Rattle.std.specs.Prelude.{◌≢◌, Bool, true, false, List, [], ◌==◌, if◌then◌else◌, length, codes}
+use Rattle.std.specs.Prelude.{◌≢◌, Bool, List, [], nat_lt, length, codes}
 use Rattle.std.specs.List.{AllByRecursion}
 use Rattle.dcsctp_tlv.specs.Format.{Format}
 use Rattle.dcsctp_tlv.specs.Level.{Row, listed}
@@ -13,8 +13,7 @@ use Rattle.dcsctp_wire.specs.declared.packet.error_chunk.ErrorChunk.{ErrorChunk}
 -- No bytes are the empty list: it is refused.
 abbrev pub row : Bool → Row (List cause.CauseTree)
 row strict =
-    listed (λ value. if length value == 0 then false else true) 0 (cause.causes strict)
-    (λ value cs. cs)
+    listed (λ value. nat_lt 0 (length value)) 0 (cause.causes strict) (λ value cs. cs)
 
 abbrev pub format : List cause.CauseTree → Format
 format cs = record {

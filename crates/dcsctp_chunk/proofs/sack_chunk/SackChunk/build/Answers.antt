@@ -1,8 +1,8 @@
 use Rattle.std.proofs.Common.{◌≡◌, ◌+◌, ◌*◌, refl, length, drop, ap, ◌∙◌, sym}
-use Rattle.std.specs.Prelude.{◌==◌, nat_lt}
+use Rattle.std.specs.Prelude.{◌==◌}
 use Rattle.std.proofs.lemmas.List.{map-id, take_rest}
 use Rattle.dcsctp_tlv.specs.Fault.{Length}
-use Rattle.dcsctp_tlv.proofs.Readings.{ok_passed, ok_not_refused}
+use Rattle.dcsctp_tlv.proofs.Readings.{ok_passed}
 use Rattle.dcsctp_tlv.specs.Fields.{fields}
 use Rattle.dcsctp_tlv.specs.Number.{number16, number32}
 use Rattle.dcsctp_chunk.specs.Sack.{block_at, block_count, duplicate_count, duplicate_numbers, read}
@@ -12,8 +12,7 @@ pub returns : goal.returns
 unfolding read
 returns c =
     let value = c.args.value.now in
-    let long = ok_not_refused (nat_lt (length value) 12) _ Length c.requires in
-    let just = ok_passed (length value == 12 + 4 * block_count value + 4 * duplicate_count value) _ Length long.1 in
+    let just = ok_passed (length value == 12 + 4 * block_count value + 4 * duplicate_count value) _ Length c.requires in
     let n = c.read_u16_be-blocks.result in
     let m = c.read_u16_be-duplicates.result in
     let bs = c.in_ok-fields_from_bytes.field-0.items in
@@ -24,4 +23,4 @@ returns c =
     let a_rwnd : number32 (drop 4 value) ≡ c.read_u32_be-2.result = sym (c.read_u32_be-2.ensures ∙ ap number32 (take_rest value 4)) in
     let blocks : fields block_at 4 n (drop 12 value) ≡ bs = sym (sym (map-id bs) ∙ c.in_ok-fields_from_bytes.ensures ∙ ap (fields block_at 4 n) (take_rest value 12)) in
     let duplicates : fields number32 4 m (drop (12 + 4 * n) value) ≡ duplicate_numbers ts = sym (c.in_ok-fields_from_bytes-2.ensures ∙ ap (fields number32 4 m) (take_rest value (12 + 4 * n))) in
-    rw (long.0, just, count, more, tsn, a_rwnd, blocks, duplicates) refl
+    rw (just, count, more, tsn, a_rwnd, blocks, duplicates) refl

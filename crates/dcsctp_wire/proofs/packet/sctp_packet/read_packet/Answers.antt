@@ -3,7 +3,8 @@ use Rattle.dcsctp_tlv.specs.Frame.{lenient}
 use Rattle.dcsctp_tlv.proofs.Lenient.{list_looser}
 use Rattle.dcsctp_wire.specs.Chunk.{chunks, views}
 use Rattle.dcsctp_wire.specs.Packet.{body, packet_with}
-use Rattle.dcsctp_wire.proofs.Lenient.{chunks_looser, built_means}
+use Rattle.dcsctp_wire.proofs.ChunkRows.{chunks_looser}
+use Rattle.dcsctp_wire.proofs.Lenient.{built_means}
 use Rattle.dcsctp_wire.proofs.PacketChecks.{packet_is}
 use Rattle.dcsctp_wire.proofs.packet.sctp_packet.read_packet.Goals as goal
 

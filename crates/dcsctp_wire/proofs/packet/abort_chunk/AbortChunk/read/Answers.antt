@@ -1,7 +1,7 @@
 use Rattle.std.proofs.Common.{rules}
 use Rattle.dcsctp_tlv.specs.Frame.{lenient}
 use Rattle.dcsctp_tlv.proofs.Checks.{row_exactly}
-use Rattle.dcsctp_wire.proofs.Packets.{abort_lawful}
+use Rattle.dcsctp_wire.proofs.ListRows.{abort_lawful}
 use Rattle.dcsctp_wire.proofs.packet.abort_chunk.AbortChunk.read.Goals as goal
 
 pub returns-in_err-check : goal.returns-in_err-check

@@ -5,7 +5,7 @@ use Rattle.dcsctp_wire.specs.ParameterList.{row as parameter_list_row}
 use Rattle.dcsctp_wire.specs.Abort.{row as abort_row}
 use Rattle.dcsctp_wire.specs.Error.{row as error_row}
 use Rattle.dcsctp_wire.specs.Chunk.{parts as chunk_parts, Init, InitAck, HeartbeatRequest, HeartbeatAck, Abort, Error, ReConfig}
-use Rattle.dcsctp_wire.proofs.PlainRows.{plain_stands}
+use Rattle.dcsctp_wire.proofs.ChunkRows.{plain_stands}
 use Rattle.dcsctp_wire.proofs.packet.chunk.ChunkReadableTlv.check.Goals as goal
 
 pub returns-in-1-clause-found : goal.returns-in-1-clause-found

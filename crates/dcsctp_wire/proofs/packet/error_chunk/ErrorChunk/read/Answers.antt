@@ -1,7 +1,7 @@
 use Rattle.std.proofs.Common.{rules}
 use Rattle.dcsctp_tlv.specs.Frame.{lenient}
 use Rattle.dcsctp_tlv.proofs.Checks.{row_exactly}
-use Rattle.dcsctp_wire.proofs.Packets.{error_lawful}
+use Rattle.dcsctp_wire.proofs.ListRows.{error_lawful}
 use Rattle.dcsctp_wire.proofs.packet.error_chunk.ErrorChunk.read.Goals as goal
 
 pub returns-in_err-check-clause-exact : goal.returns-in_err-check-clause-exact

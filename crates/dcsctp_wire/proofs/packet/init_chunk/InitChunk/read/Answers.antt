@@ -1,7 +1,7 @@
 use Rattle.std.proofs.Common.{rules}
 use Rattle.dcsctp_tlv.specs.Frame.{lenient}
 use Rattle.dcsctp_tlv.proofs.Checks.{row_exactly}
-use Rattle.dcsctp_wire.proofs.Packets.{init_lawful}
+use Rattle.dcsctp_wire.proofs.ListRows.{init_lawful}
 use Rattle.dcsctp_wire.proofs.packet.init_chunk.InitChunk.read.Goals as goal
 
 pub returns-in_err-init_check-clause-exact : goal.returns-in_err-init_check-clause-exact

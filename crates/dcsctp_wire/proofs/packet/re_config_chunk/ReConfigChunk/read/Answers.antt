@@ -1,7 +1,7 @@
 use Rattle.std.proofs.Common.{rules}
 use Rattle.dcsctp_tlv.specs.Frame.{lenient}
 use Rattle.dcsctp_tlv.proofs.Checks.{row_exactly}
-use Rattle.dcsctp_wire.proofs.Packets.{parameter_list_lawful}
+use Rattle.dcsctp_wire.proofs.ListRows.{parameter_list_lawful}
 use Rattle.dcsctp_wire.proofs.packet.re_config_chunk.ReConfigChunk.read.Goals as goal
 
 pub returns-in_err-parameter_list_check-clause-exact :
