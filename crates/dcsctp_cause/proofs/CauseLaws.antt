@@ -10,7 +10,8 @@ use Rattle.dcsctp_tlv.specs.Image.{Tlv, zeroed, size_of, image_of, IsEncodable, 
 use Rattle.dcsctp_tlv.specs.Table.{IsUnnamed}
 use Rattle.dcsctp_tlv.proofs.Lengths.{length-format}
 use Rattle.dcsctp_tlv.specs.UnknownParameter as unknown
-use Rattle.dcsctp_tlv.proofs.Laws.{LawfulRow, Lawful, plain_lawful}
+use Rattle.dcsctp_tlv.proofs.Laws.{LawfulRow, Lawful}
+use Rattle.dcsctp_tlv.proofs.Places.{AtFront, IsPlain, is_plain}
 use Rattle.dcsctp_tlv.proofs.Lenient.{Loosens}
 use Rattle.dcsctp_tlv.proofs.Tables.{◌&◌, of_table, of_others}
 use Rattle.dcsctp_tlv.proofs.ReadsBack.{ReadsBack, each_encodable, zeroed-solid}
@@ -28,15 +29,22 @@ use Rattle.dcsctp_cause.proofs.CauseKinds.{missing_laws, missing_keeps, chunk_la
 
 -- ---- one answer
 
+row_plain : (code : ℕ) → IsPlain (row code)
+row_plain code = of_table (λ _ row. IsPlain row) table code _ (
+    is_plain _ &
+    is_plain _ &
+    is_plain _ &
+    is_plain _ &
+    is_plain _ &
+    is_plain _ & tt)
+    (λ _. is_plain _)
+
 pub row_lawful : (code : ℕ) → LawfulRow (row code)
-row_lawful code = of_table (λ _ row. LawfulRow row) table code _ (
-    plain_lawful _ &
-    plain_lawful _ &
-    plain_lawful _ &
-    plain_lawful _ &
-    plain_lawful _ &
-    plain_lawful _ & tt)
-    (λ _. plain_lawful _)
+row_lawful code = (row_plain code).0
+
+-- a cause's fault is that of the cause as a whole
+pub row_at_front : (code : ℕ) → AtFront (row code)
+row_at_front code = (row_plain code).1
 
 -- each value of a cause means one tree or has one fault
 pub causes_lawful : (strict : Bool) → Lawful (causes strict)

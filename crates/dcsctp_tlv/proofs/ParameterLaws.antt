@@ -19,7 +19,8 @@ use Rattle.dcsctp_tlv.specs.ReconfigurationResponse as response
 use Rattle.dcsctp_tlv.specs.ReconfigurationResponse.{next_tsns, kept_tsn}
 use Rattle.dcsctp_tlv.specs.UnknownParameter as unknown
 use Rattle.dcsctp_tlv.specs.Parameter.{ParameterTree, HeartbeatInfo, StateCookie, OutgoingSsnResetRequest, IncomingSsnResetRequest, SsnTsnResetRequest, ReconfigurationResponse, AddOutgoingStreamsRequest, AddIncomingStreamsRequest, ZeroChecksumAcceptable, SupportedExtensions, ForwardTsnSupported, Unknown, table, row, parameters, format, tlv, IsInWidth, IsWellFormed, kept, all_kept}
-use Rattle.dcsctp_tlv.proofs.Laws.{LawfulRow, Lawful, plain_lawful}
+use Rattle.dcsctp_tlv.proofs.Laws.{LawfulRow, Lawful}
+use Rattle.dcsctp_tlv.proofs.Places.{AtFront, IsPlain, is_plain}
 use Rattle.dcsctp_tlv.proofs.Lenient.{Loosens}
 use Rattle.dcsctp_tlv.proofs.Tables.{◌&◌, of_table, of_others}
 use Rattle.dcsctp_tlv.proofs.ReadsBack.{ReadsBack, each_encodable, zeroed-solid}
@@ -31,20 +32,27 @@ use Rattle.dcsctp_tlv.proofs.Kept.{all_map}
 
 -- ---- one answer
 
+row_plain : (typ : ℕ) → IsPlain (row typ)
+row_plain typ = of_table (λ _ row. IsPlain row) table typ _ (
+    is_plain _ &
+    is_plain _ &
+    is_plain _ &
+    is_plain _ &
+    is_plain _ &
+    is_plain _ &
+    is_plain _ &
+    is_plain _ &
+    is_plain _ &
+    is_plain _ &
+    is_plain _ & tt)
+    (λ _. is_plain _)
+
 pub row_lawful : (typ : ℕ) → LawfulRow (row typ)
-row_lawful typ = of_table (λ _ row. LawfulRow row) table typ _ (
-    plain_lawful _ &
-    plain_lawful _ &
-    plain_lawful _ &
-    plain_lawful _ &
-    plain_lawful _ &
-    plain_lawful _ &
-    plain_lawful _ &
-    plain_lawful _ &
-    plain_lawful _ &
-    plain_lawful _ &
-    plain_lawful _ & tt)
-    (λ _. plain_lawful _)
+row_lawful typ = (row_plain typ).0
+
+-- a parameter's fault is that of the parameter as a whole
+pub row_at_front : (typ : ℕ) → AtFront (row typ)
+row_at_front typ = (row_plain typ).1
 
 -- each value of a parameter means one tree or has one fault
 pub parameters_lawful : (strict : Bool) → Lawful (parameters strict)
