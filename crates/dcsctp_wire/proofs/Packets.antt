@@ -67,7 +67,7 @@ chunks_lawful strict typ flags = of_table (λ _ row. LawfulRow row) (table stric
 
 -- ---- one answer
 
-body_fits : (bytes : List ℕ) → AreBytes bytes → AreBytes (body bytes)
+pub body_fits : (bytes : List ℕ) → AreBytes bytes → AreBytes (body bytes)
 body_fits bytes fits i = rw get_or-drop (fits (12 + i))
 
 made : (p q : PacketTree) → p.meaning.source ≡ q.meaning.source → p.meaning.destination ≡ q.meaning.destination → p.meaning.tag ≡ q.meaning.tag → p.meaning.chunks ≡ q.meaning.chunks → p.checksum ≡ q.checksum → p ≡ q
