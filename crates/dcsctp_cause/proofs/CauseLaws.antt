@@ -11,7 +11,8 @@ use Rattle.dcsctp_tlv.specs.Image.{Tlv, zeroed, size_of, image_of, IsEncodable, 
 use Rattle.dcsctp_tlv.specs.Table.{IsUnnamed}
 use Rattle.dcsctp_tlv.proofs.Lengths.{length-format}
 use Rattle.dcsctp_tlv.specs.UnknownParameter as unknown
-use Rattle.dcsctp_tlv.proofs.Laws.{LawfulRow, Lawful, plain_lawful}
+use Rattle.dcsctp_tlv.proofs.Laws.{LawfulRow, Lawful}
+use Rattle.dcsctp_tlv.proofs.Places.{AtFront, IsPlain, is_plain}
 use Rattle.dcsctp_tlv.proofs.Lenient.{Loosens}
 use Rattle.dcsctp_tlv.proofs.Tables.{◌&◌, of_table, of_others}
 use Rattle.dcsctp_tlv.proofs.ReadsBack.{ReadsBack, each_encodable, zeroed-solid}
@@ -47,8 +48,8 @@ text_account read tree value t utf8 sized law e =
     ∙ ap (λ (v : List ℕ). 4 + length v) (law x.0 utf8 x.1.0))
 
 record RowLaws (code : ℕ) (row : Row CauseTree) : Type 0 where
-  -- each value means one tree or has one fault
-  pub lawful : LawfulRow row
+  -- each value means one tree or has one fault, which is the item's as a whole
+  pub plain : IsPlain row
   -- what it means is well-formed, and is written in the same space
   pub forms : FormsRow IsWellFormed row
   pub account : Accounted code row
@@ -63,7 +64,7 @@ kind : {X : Type 0} {read : ℕ → ℕ → List ℕ → Result X Fault} {writte
     → Accounted code (plain (λ value. map_ok tree (read 0 0 value)))
     → RowLaws code (plain (λ value. map_ok tree (read 0 0 value)))
 kind {X} {read} laws tree code formed account = record {
-  lawful = plain_lawful _;
+  plain = is_plain _;
   forms = plain_forms laws tree IsWellFormed 0 0 formed;
   account = account;
   unpadded = plain_unpadded tree (read 0 0) (laws.unpadded 0 0);
@@ -95,14 +96,18 @@ rows code = of_table RowLaws table code _ (
     (λ value t kept. text_account violation.read ProtocolViolation value t (kept (inr refl))
     (λ x. refl) (violation_kept value)) & tt)
     (λ unnamed. record {
-      lawful = plain_lawful _;
+      plain = is_plain _;
       forms = unknown_forms IsWellFormed code Unknown (λ value. unnamed);
       account = λ value t kept. plain_account _ Unknown tlv (unknown_keeps code 0 0) value t;
       unpadded = ok_unpadded _;
     })
 
 pub row_lawful : (code : ℕ) → LawfulRow (row code)
-row_lawful code = (rows code).lawful
+row_lawful code = (rows code).plain.0
+
+-- a cause's fault is that of the cause as a whole
+pub row_at_front : (code : ℕ) → AtFront (row code)
+row_at_front code = (rows code).plain.1
 
 -- each value of a cause means one tree or has one fault
 pub causes_lawful : (strict : Bool) → Lawful (causes strict)

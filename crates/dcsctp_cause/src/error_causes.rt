@@ -163,6 +163,18 @@ impl ReadableTlv for ErrorCause {
         Ok(1)
     }
 
+    fn first_fault(
+        _strict: bool,
+        first: u8,
+        second: u8,
+        value: &[u8],
+    ) -> Option<(ChunkParseError, usize)> {
+        match ErrorCause::check_value(u16::from_be_bytes([first, second]), value) {
+            Ok(()) => None,
+            Err(fault) => Some((fault, 0)),
+        }
+    }
+
     fn read_onto(
         list: &mut Vec<Self>,
         alloc: Global,

@@ -5,7 +5,7 @@ use Rattle.dcsctp_tlv.specs.Frame.{Item, item_bytes, PaddingRule}
 use Rattle.dcsctp_tlv.specs.Level.{Row, Level}
 use Rattle.dcsctp_tlv.specs.Decided.{SplitsOneWay, IsRowDecided, IsDecided}
 use Rattle.dcsctp_tlv.proofs.Items.{AreBefore, items_before}
-use Rattle.dcsctp_tlv.proofs.Laws.{LawfulRow, Lawful, after, list_one, list_apart, list_same, list_some}
+use Rattle.dcsctp_tlv.proofs.Laws.{LawfulRow, Lawful, after, list_one, list_apart, list_same, list_place, list_some}
 
 items_one : (rule : PaddingRule) (is js : List Item) → flat_map item_bytes is ++ [] ≡ flat_map item_bytes js ++ [] → AreBefore rule is [] → AreBefore rule js [] → is ≡ js
 items_one rule [] [] e p q = refl
@@ -21,13 +21,20 @@ pub splits_one_way : (rule : PaddingRule) → SplitsOneWay rule
 splits_one_way rule bytes is js p q = items_one rule is js (ap (λ (x : List ℕ). x ++ []) (sym p.split ∙ q.split)) (items_before rule is p.formed) (items_before rule js q.formed)
 
 row_decided : {T : Type 0} {row : Row T} → LawfulRow row → IsRowDecided row
-row_decided law = record { meaning = law.one; fault = law.same; apart = law.apart; either = law.some }
+row_decided law = record {
+  meaning = law.one;
+  fault = law.same;
+  place = λ v d e m n fits f g. f.1 ∙ law.place v d e fits f.0 g.0 ∙ sym g.1;
+  apart = law.apart;
+  either = law.some;
+}
 
 pub decided : {T : Type 0} (level : Level T) → Lawful level → IsDecided level
 decided level law = record {
   row = λ first second. row_decided (law first second);
   meaning = list_one level law;
   fault = list_same level law;
+  place = λ bytes d e m n fits f g. f.1 ∙ list_place level law bytes d e fits f.0 g.0 ∙ sym g.1;
   apart = list_apart level law;
   either = list_some level law;
 }

@@ -2,19 +2,20 @@
 use Rattle.std.proofs.Common.{◌≡◌, ◌≢◌, ℕ, suc, zero, ◌+◌, ◌-◌, ◌<◌, ◌≤◌, Bool, true, false, List, [], ◌∷◌, ◌++◌, length, get_or, drop, refl, sym, ap, subst, ◌∙◌, append_assoc, arith, ◌⊎◌, inl, inr, Result, Ok, Err}
 use Rattle.std.specs.List.{flat_map}
 use Rattle.std.proofs.lemmas.Bool.{cases_lt}
-use Rattle.std.proofs.lemmas.List.{append-nil, get_or-drop, get_or-take, get_or_past, length-take, length-drop}
+use Rattle.std.proofs.lemmas.List.{append-nil, get_or-drop, get_or-take, get_or_past, length-take, length-drop, length-append}
 use Rattle.dcsctp_tlv.specs.Fault.{Fault, Length, Padding}
 use Rattle.dcsctp_tlv.specs.Number.{AreBytes}
 use Rattle.dcsctp_tlv.specs.Frame.{round_up_to_4, padding_size, any_padding, Item, item_bytes, PaddingRule, frame_length, BeginsWithFrame, frame_value, frame_padding, frame_rest}
-use Rattle.dcsctp_tlv.specs.Level.{Row, Level, ItemsMean, MeansTrees, HasFault, BeginsWithFault, no_frame, value, padding, front_row, plain, as_row, pick, listed}
+use Rattle.dcsctp_tlv.specs.Level.{Row, Level, ItemsMean, MeansTrees, HasFault, BeginsWithFault, no_frame, value, padding, front_row, plain, as_row, pick, front_offset, fault_offset, listed, listed_offset}
 use Rattle.dcsctp_tlv.proofs.Items.{IsNext, AreBefore, front_item, front_split, front_next, next_one, item_frame, items_before, whole_before}
 use Rattle.dcsctp_tlv.proofs.Lists.{Progress, begin, step, finish, fault}
 
--- each value means one tree or has one fault
+-- each value means one tree or has one fault, at one place
 pub record LawfulRow {T : Type 0} (row : Row T) : Type 0 where
   pub one : (v : List ℕ) (s t : T) → row.means v s → row.means v t → s ≡ t
   pub apart : (v : List ℕ) (t : T) (e : Fault) → AreBytes v → row.means v t → row.faults v e → ⊥
   pub same : (v : List ℕ) (d e : Fault) → AreBytes v → row.faults v d → row.faults v e → d ≡ e
+  pub place : (v : List ℕ) (d e : Fault) → AreBytes v → (f : row.faults v d) (g : row.faults v e) → row.offset v d f ≡ row.offset v e g
   pub some : (v : List ℕ) → AreBytes v → ((t : T) × row.means v t) ⊎ ((e : Fault) × row.faults v e)
 
 abbrev pub Lawful : {T : Type 0} → Level T → Type 0
@@ -34,6 +35,7 @@ plain_lawful {T} read = record {
   one = λ v s t p q. ok_same (read v) s t p q;
   apart = λ v t e fits p q. ok_not_err (read v) t e p q;
   same = λ v d e fits p q. err_same (read v) d e p q;
+  place = λ v d e fits p q. refl;
   some = λ v fits. go v (read v) refl;
 } where
   go : (v : List ℕ) (r : Result T Fault) → read v ≡ r → ((t : T) × (read v ≡ Ok t)) ⊎ ((e : Fault) × (read v ≡ Err e))
@@ -49,6 +51,7 @@ as_lawful {A} {B} f row law = record {
   one = λ v s t p q. p.2 ∙ ap f (law.one v p.0 q.0 p.1 q.1) ∙ sym q.2;
   apart = λ v t e fits p q. law.apart v p.0 e fits p.1 q;
   same = law.same;
+  place = law.place;
   some = λ v fits. elim (law.some v fits) [
     | inl m ↦ inl (f m.0, (m.0, m.1, refl))
     | inr x ↦ inr x
@@ -159,6 +162,53 @@ all_same level law (i ∷ is) (j ∷ js) (t ∷ ts) (u ∷ us) rest more d x fit
     let b = after level.padding i j is js rest more e p q in
     all_same level law is js ts us rest more d x (rest_fits (item_bytes j) (flat_map item_bytes js ++ more) _ fits (at_item j js more)) b.1 p.1 q.1 m.1 n.1 f g
 
+-- ---- a fault lies at one place
+
+front_place : {T : Type 0} (level : Level T) → Lawful level → (rest : List ℕ) (d e : Fault) → AreBytes rest → (f : BeginsWithFault level rest d) (g : BeginsWithFault level rest e) → front_offset level rest d f ≡ front_offset level rest e g
+front_place level law rest d e fits (no_frame _ _ _) (no_frame _ _ _) = refl
+front_place level law rest d e fits (no_frame _ h _) (value k _) = absurd (h k)
+front_place level law rest d e fits (no_frame _ h _) (padding _ k _ _ _) = absurd (h k)
+front_place level law rest d e fits (value k _) (no_frame _ h _) = absurd (h k)
+front_place level law rest d e fits (value _ p) (value _ q) = (law (get_or rest 0 0) (get_or rest 1 0)).place (frame_value rest) d e (value_fits rest fits) p q
+front_place level law rest d e fits (value _ p) (padding t _ m _ _) = absurd ((law (get_or rest 0 0) (get_or rest 1 0)).apart (frame_value rest) t d (value_fits rest fits) m p)
+front_place level law rest d e fits (padding _ k _ _ _) (no_frame _ h _) = absurd (h k)
+front_place level law rest d e fits (padding t _ m _ _) (value _ p) = absurd ((law (get_or rest 0 0) (get_or rest 1 0)).apart (frame_value rest) t e (value_fits rest fits) m p)
+front_place level law rest d e fits (padding _ _ _ _ _) (padding _ _ _ _ _) = refl
+
+-- the same at bytes that are equal
+moved_place : {T : Type 0} (level : Level T) → Lawful level → (rest more : List ℕ) (d e : Fault) → AreBytes more → rest ≡ more → (f : BeginsWithFault level rest d) (g : BeginsWithFault level more e)
+    → front_offset level rest d f ≡ front_offset level more e g
+moved_place level law rest more d e fits is f =
+    let P : List ℕ → Type 0 = λ r. (g : BeginsWithFault level r e) → front_offset level rest d f ≡ front_offset level r e g in
+    subst P is (λ g. front_place level law rest d e (subst AreBytes (sym is) fits) f g)
+
+-- after one item that both have
+one_further : (i j : Item) (xs ys : List ℕ) (m n : ℕ) → i ≡ j → length xs + m ≡ length ys + n → length (item_bytes i ++ xs) + m ≡ length (item_bytes j ++ ys) + n
+one_further i j xs ys m n is h =
+    let same : length (item_bytes i) ≡ length (item_bytes j) = ap (λ (k : Item). length (item_bytes k)) is in
+    let left = length-append (item_bytes i) xs in
+    let right = length-append (item_bytes j) ys in
+    omega (arith, same, left, right, h)
+
+all_place : {T : Type 0} (level : Level T) → Lawful level → (is js : List Item) (ts us : List T) (rest more : List ℕ) (d e : Fault) → AreBytes (flat_map item_bytes js ++ more) → flat_map item_bytes is ++ rest ≡ flat_map item_bytes js ++ more
+    → AreBefore level.padding is rest → AreBefore level.padding js more → ItemsMean level is ts → ItemsMean level js us → (f : BeginsWithFault level rest d) (g : BeginsWithFault level more e)
+    → length (flat_map item_bytes is) + front_offset level rest d f ≡ length (flat_map item_bytes js) + front_offset level more e g
+all_place level law [] [] ts us rest more d x fits e p q m n f g = ap (λ (k : ℕ). 0 + k) (moved_place level law rest more d x fits e f g)
+all_place level law [] (j ∷ js) ts [] rest more d x fits e p q m n f g = absurd n
+all_place level law [] (j ∷ js) ts (u ∷ us) rest more d x fits e p q m n f g = absurd (front_apart level law j u (flat_map item_bytes js ++ more) rest d (subst AreBytes (sym e) fits) (e ∙ at_item j js more) q.0 n.0 f)
+all_place level law (i ∷ is) [] [] us rest more d x fits e p q m n f g = absurd m
+all_place level law (i ∷ is) [] (t ∷ ts) us rest more d x fits e p q m n f g = absurd (front_apart level law i t (flat_map item_bytes is ++ rest) more x fits (sym e ∙ at_item i is rest) p.0 m.0 g)
+all_place level law (i ∷ is) (j ∷ js) [] us rest more d x fits e p q m n f g = absurd m
+all_place level law (i ∷ is) (j ∷ js) (t ∷ ts) [] rest more d x fits e p q m n f g = absurd n
+all_place level law (i ∷ is) (j ∷ js) (t ∷ ts) (u ∷ us) rest more d x fits e p q m n f g =
+    let b = after level.padding i j is js rest more e p q in
+    one_further i j (flat_map item_bytes is) (flat_map item_bytes js) (front_offset level rest d f) (front_offset level more x g) b.0
+    (all_place level law is js ts us rest more d x (rest_fits (item_bytes j) (flat_map item_bytes js ++ more) _ fits (at_item j js more)) b.1 p.1 q.1 m.1 n.1 f g)
+
+pub list_place : {T : Type 0} (level : Level T) → Lawful level → (bytes : List ℕ) (d e : Fault) → AreBytes bytes → (f : HasFault level bytes d) (g : HasFault level bytes e) → fault_offset level bytes d f ≡ fault_offset level bytes e g
+list_place level law bytes d e fits f g = all_place level law f.items g.items f.trees g.trees f.rest g.rest d e (subst AreBytes g.split fits) (sym f.split ∙ g.split)
+    (whole_before level.padding f.items f.rest f.whole) (whole_before level.padding g.items g.rest g.whole) f.mean g.mean f.fault g.fault
+
 -- ---- each list of bytes has an answer
 
 abbrev pub ListAnswer : {T : Type 0} → Level T → List ℕ → Type 0
@@ -229,8 +279,16 @@ listed_lawful {T} {U} rule at level tree_of law = record {
     | inr g ↦ list_apart level law (drop at v) p.1.0 e (drop_fits at v fits) p.1.1 g.1
   ];
   same = λ v d e fits f g. faults_same v d e fits f g;
+  place = λ v d e fits f g. offsets_same v d e fits f g;
   some = λ v fits. answered v fits (rule v) refl;
 } where
+  offsets_same : (v : List ℕ) (d e : Fault) → AreBytes v → (f : (listed rule at level tree_of).faults v d) (g : (listed rule at level tree_of).faults v e)
+      → listed_offset rule at level v d f ≡ listed_offset rule at level v e g
+  offsets_same v d e fits (inl f) (inl g) = refl
+  offsets_same v d e fits (inl f) (inr g) = absurd (let h : false ≡ true = sym f.0 ∙ g.0 in cc)
+  offsets_same v d e fits (inr f) (inl g) = absurd (let h : true ≡ false = sym f.0 ∙ g.0 in cc)
+  offsets_same v d e fits (inr f) (inr g) = ap (λ (n : ℕ). 4 + (at + n)) (list_place level law (drop at v) d e (drop_fits at v fits) f.1 g.1)
+
   faults_same : (v : List ℕ) (d e : Fault) → AreBytes v → (listed rule at level tree_of).faults v d → (listed rule at level tree_of).faults v e → d ≡ e
   faults_same v d e fits (inl f) (inl g) = f.1 ∙ sym g.1
   faults_same v d e fits (inl f) (inr g) = let h : false ≡ true = sym f.0 ∙ g.0 in cc

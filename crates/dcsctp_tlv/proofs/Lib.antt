@@ -22,5 +22,6 @@ pub mod ParameterKinds
 pub mod ParameterLaws
 pub mod Local
 pub mod Checks
+pub mod Places
 pub mod Tables
 pub mod FormatLaws

@@ -1,14 +1,14 @@
 -- Lists of items: one loop over frames gives the one answer.
-use Rattle.std.proofs.Common.{◌≡◌, ◌≢◌, ℕ, ◌+◌, Bool, true, false, List, [], ◌∷◌, ◌++◌, length, refl, sym, ap, subst, ◌∙◌, append_assoc, arith}
+use Rattle.std.proofs.Common.{◌≡◌, ◌≢◌, ℕ, ◌+◌, ◌-◌, Bool, true, false, List, [], ◌∷◌, ◌++◌, length, refl, sym, ap, subst, ◌∙◌, append_assoc, arith}
 use Rattle.std.specs.List.{flat_map}
 use Rattle.std.proofs.lemmas.Bool.{eqb-true}
-use Rattle.std.proofs.lemmas.List.{append-nil, get_or-drop, nil_from_length}
+use Rattle.std.proofs.lemmas.List.{append-nil, get_or-drop, length-append, nil_from_length}
 use Rattle.std.proofs.lemmas.List.Concat.{flat_map-append}
 use Rattle.std.specs.Prelude.{◌==◌}
 use Rattle.dcsctp_tlv.specs.Fault.{Fault}
 use Rattle.dcsctp_tlv.specs.Number.{AreBytes}
 use Rattle.dcsctp_tlv.specs.Frame.{round_up_to_4, padding_size, Item, item_bytes, frame_length, BeginsWithFrame, frame_value, frame_padding, frame_rest}
-use Rattle.dcsctp_tlv.specs.Level.{Level, ItemsMean, MeansTrees, HasFault, BeginsWithFault, no_frame, value, padding, front_row}
+use Rattle.dcsctp_tlv.specs.Level.{Level, ItemsMean, MeansTrees, HasFault, HasFaultAt, BeginsWithFault, no_frame, value, padding, front_row, front_offset}
 use Rattle.dcsctp_tlv.proofs.Items.{AreBefore, front_item, front_split, front_next, before_push, before_end, before_rest}
 
 -- what a loop over the frames has read
@@ -72,6 +72,26 @@ fault level bytes trees rest e p f = record {
   mean = p.mean;
   fault = f;
 }
+
+-- at the front of what is left, after the bytes that were gone over
+after_front : (all before left n k : ℕ) → all ≡ before + left → n ≡ (all - left) + k → n ≡ before + k
+after_front all before left n k e h = omega (arith, e, h)
+
+-- the same, and where it lies
+pub fault_at : {T : Type 0} (level : Level T) (bytes : List ℕ) (trees : List T) (rest : List ℕ) (e : Fault) (n : ℕ) → Progress level bytes trees rest → (f : BeginsWithFault level rest e)
+    → n ≡ (length bytes - length rest) + front_offset level rest e f → HasFaultAt level bytes e n
+fault_at level bytes trees rest e n p f h = (
+  record {
+    items = p.items;
+    trees = trees;
+    rest = rest;
+    split = p.split;
+    whole = before_rest level.padding p.items rest (not_nil level rest e f) p.before;
+    mean = p.mean;
+    fault = f;
+  },
+  after_front (length bytes) (length (flat_map item_bytes p.items)) (length rest) n (front_offset level rest e f) (ap length p.split ∙ length-append (flat_map item_bytes p.items) rest) h,
+)
 
 -- what is_empty says
 pub is_nil : (xs : List ℕ) (b : Bool) → b ≡ (length xs == 0) → b ≡ true → xs ≡ []

@@ -21,7 +21,8 @@ use Rattle.dcsctp_tlv.specs.ReconfigurationResponse as response
 use Rattle.dcsctp_tlv.specs.ReconfigurationResponse.{next_tsns, kept_tsn}
 use Rattle.dcsctp_tlv.specs.UnknownParameter as unknown
 use Rattle.dcsctp_tlv.specs.Parameter.{ParameterTree, HeartbeatInfo, StateCookie, OutgoingSsnResetRequest, IncomingSsnResetRequest, SsnTsnResetRequest, ReconfigurationResponse, AddOutgoingStreamsRequest, AddIncomingStreamsRequest, ZeroChecksumAcceptable, SupportedExtensions, ForwardTsnSupported, Unknown, table, row, parameters, format, tlv, IsInWidth, IsWellFormed, kept, all_kept}
-use Rattle.dcsctp_tlv.proofs.Laws.{LawfulRow, Lawful, plain_lawful}
+use Rattle.dcsctp_tlv.proofs.Laws.{LawfulRow, Lawful}
+use Rattle.dcsctp_tlv.proofs.Places.{AtFront, IsPlain, is_plain}
 use Rattle.dcsctp_tlv.proofs.Lenient.{Loosens}
 use Rattle.dcsctp_tlv.proofs.KindLaws.{KindLaws, KeepsSize}
 use Rattle.dcsctp_tlv.proofs.Unpadded.{Unpadded, plain_unpadded, ok_unpadded, list_unpadded}
@@ -36,8 +37,8 @@ use Rattle.dcsctp_tlv.proofs.Kept.{all_map}
 -- ---- what each row owes
 
 record RowLaws (row : Row ParameterTree) : Type 0 where
-  -- each value means one tree or has one fault
-  pub lawful : LawfulRow row
+  -- each value means one tree or has one fault, which is the item's as a whole
+  pub plain : IsPlain row
   -- what it means is well-formed, and is written in the same space
   pub forms : FormsRow IsWellFormed row
   pub account : AccountsRow tlv row
@@ -53,7 +54,7 @@ kind : {X : Type 0} {read : ℕ → ℕ → List ℕ → Result X Fault} {writte
     → ((x : X) → IsFormed x → IsWellFormed (tree x))
     → RowLaws (plain (λ value. map_ok tree (read 0 0 value)))
 kind {X} {read} laws keeps tree same formed = record {
-  lawful = plain_lawful _;
+  plain = is_plain _;
   forms = plain_forms laws tree IsWellFormed 0 0 formed;
   account =
       plain_account (read 0 0) tree tlv
@@ -78,14 +79,18 @@ rows typ = of_table (λ _ row. RowLaws row) table typ _ (
     kind extensions_laws extensions_keeps SupportedExtensions (λ x. refl) (λ x h. h) &
     kind forward_tsn_laws forward_tsn_keeps (λ _. ForwardTsnSupported) (λ x. refl) (λ x h. h) & tt)
     (λ unnamed. record {
-      lawful = plain_lawful _;
+      plain = is_plain _;
       forms = unknown_forms IsWellFormed typ Unknown (λ value. unnamed);
       account = plain_account _ Unknown tlv (unknown_keeps typ 0 0);
       unpadded = ok_unpadded _;
     })
 
 pub row_lawful : (typ : ℕ) → LawfulRow (row typ)
-row_lawful typ = (rows typ).lawful
+row_lawful typ = (rows typ).plain.0
+
+-- a parameter's fault is that of the parameter as a whole
+pub row_at_front : (typ : ℕ) → AtFront (row typ)
+row_at_front typ = (rows typ).plain.1
 
 -- each value of a parameter means one tree or has one fault
 pub parameters_lawful : (strict : Bool) → Lawful (parameters strict)

@@ -3,7 +3,7 @@ use Rattle.std.specs.Prelude.{◌≡◌, ◌⊎◌, ℕ, List}
 use Rattle.dcsctp_tlv.specs.Fault.{Fault, Padding}
 use Rattle.dcsctp_tlv.specs.Number.{AreBytes}
 use Rattle.dcsctp_tlv.specs.Frame.{Item, PaddingRule, AreItems}
-use Rattle.dcsctp_tlv.specs.Level.{Row, Level, MeansTrees, HasFault}
+use Rattle.dcsctp_tlv.specs.Level.{Row, FaultsAt, Level, MeansTrees, HasFault, HasFaultAt}
 
 -- a list of bytes is split into items in one way, or not at all
 abbrev pub SplitsOneWay : PaddingRule → Type 0
@@ -12,23 +12,28 @@ SplitsOneWay rule =
     → is ≡ js
 
 -- Each value means one tree or has one fault: never two of either, never both, and never neither.
+-- The fault lies at one place.
 pub record IsRowDecided {T : Type 0} (row : Row T) : Type 0 where
   pub meaning : (value : List ℕ) (t u : T) → row.means value t → row.means value u → t ≡ u
   pub fault : (value : List ℕ) (d e : Fault) → AreBytes value → row.faults value d
       → row.faults value e → d ≡ e
+  pub place : (value : List ℕ) (d e : Fault) (m n : ℕ) → AreBytes value → FaultsAt row value d m
+      → FaultsAt row value e n → m ≡ n
   pub apart : (value : List ℕ) (t : T) (e : Fault) → AreBytes value → row.means value t
       → ¬ row.faults value e
   pub either : (value : List ℕ) → AreBytes value
       → ((t : T) × row.means value t) ⊎ ((e : Fault) × row.faults value e)
 
 -- Each list of bytes means one list of trees or has one fault, and so does each value in it: never
--- two of either, never both, and never neither.
+-- two of either, never both, and never neither. The fault lies at one place.
 pub record IsDecided {T : Type 0} (level : Level T) : Type 0 where
   pub row : (first second : ℕ) → IsRowDecided (level.row first second)
   pub meaning : (bytes : List ℕ) (ts us : List T) → MeansTrees level bytes ts
       → MeansTrees level bytes us → ts ≡ us
   pub fault : (bytes : List ℕ) (d e : Fault) → AreBytes bytes → HasFault level bytes d
       → HasFault level bytes e → d ≡ e
+  pub place : (bytes : List ℕ) (d e : Fault) (m n : ℕ) → AreBytes bytes
+      → HasFaultAt level bytes d m → HasFaultAt level bytes e n → m ≡ n
   pub apart : (bytes : List ℕ) (ts : List T) (e : Fault) → AreBytes bytes
       → MeansTrees level bytes ts → ¬ HasFault level bytes e
   pub either : (bytes : List ℕ) → AreBytes bytes

@@ -6,7 +6,7 @@
 -- For a chunk the first two bytes are its type and its flags; for a parameter or a cause they
 -- are its type. The length counts these four bytes and the value, and leaves out the padding.
 use Rattle.std.specs.Prelude.{◌≡◌, ℕ, ◌+◌, ◌-◌, ◌*◌, ◌/◌, ◌%◌, ◌≤◌, ◌<◌, ◌^◌, ◌==◌, Bool, true, false, ◌&&◌, if◌then◌else◌, List, [], ◌∷◌, ◌++◌, length, take, drop}
-use Rattle.std.specs.List.{flat_map, list_all}
+use Rattle.std.specs.List.{flat_map, list_all, prefix_len}
 use Rattle.std.specs.Int.{w16, to_be_bytes}
 use Rattle.dcsctp_tlv.specs.Number.{number16}
 
@@ -58,6 +58,10 @@ lenient = false
 
 abbrev pub are_zeros : List ℕ → Bool
 are_zeros bytes = list_all (λ byte. byte == 0) bytes
+
+-- where the first byte stands that isn't zero, or the end
+abbrev pub first_nonzero : List ℕ → ℕ
+first_nonzero bytes = prefix_len (λ byte. byte == 0) bytes
 
 -- Where it is strict, what is there is zero; some may be missing, of the last item of a list.
 abbrev pub zero_padding : Bool → PaddingRule

@@ -2,25 +2,30 @@
 -- (RFC 9260 sections 3.2, 3.2.1 and 3.3.10).
 --
 -- A level is a table with a row for each kind of item, and a rule for the padding. From these
--- follow, for every level alike: which trees a list of bytes means, and which fault it has.
-use Rattle.std.specs.Prelude.{◌≡◌, ◌≢◌, ℕ, Bool, true, false, List, [], ◌∷◌, ◌++◌, Result, Ok, Err, ◌⊎◌, slice_index, length, drop}
+-- follow, for every level alike: which trees a list of bytes means, and which fault it has, and
+-- where.
+use Rattle.std.specs.Prelude.{◌≡◌, ◌≢◌, ℕ, ◌+◌, Bool, true, false, List, [], ◌∷◌, ◌++◌, Result, Ok, Err, ◌⊎◌, slice_index, length, drop}
+use Rattle.std.proofs.Common.{inl, inr}
 use Rattle.std.specs.List.{flat_map, AllByRecursion}
 use Rattle.dcsctp_tlv.specs.Fault.{Fault, Length, Padding}
 use Rattle.dcsctp_tlv.specs.Count.{total}
-use Rattle.dcsctp_tlv.specs.Frame.{Item, item_bytes, PaddingRule, IsWhole, AreItems, BeginsWithFrame, frame_value, frame_padding, padding_size}
+use Rattle.dcsctp_tlv.specs.Frame.{Item, item_bytes, PaddingRule, IsWhole, AreItems, BeginsWithFrame, frame_length, frame_value, frame_padding, padding_size, first_nonzero}
 
 -- ---- rows
 
--- A row of a table: which tree a value means, and which fault it has.
+-- A row of a table: which tree a value means; which fault it has, and how many bytes stand
+-- between the item's first byte and the fault.
 pub record Row (T : Type 0) : Type 1 where
   pub means : List ℕ → T → Type 0
   pub faults : List ℕ → Fault → Type 0
+  pub offset : (value : List ℕ) (e : Fault) → faults value e → ℕ
 
--- a kind whose value is read at fixed places
+-- a kind whose value is read at fixed places; its fault is the item's as a whole
 abbrev pub plain : {T : Type 0} → (List ℕ → Result T Fault) → Row T
 plain read = record {
   means = λ value tree. read value ≡ Ok tree;
   faults = λ value e. read value ≡ Err e;
+  offset = λ value e fault. 0;
 }
 
 -- the tree of a kind, as a tree of its level
@@ -38,7 +43,12 @@ abbrev pub as_row : {A B : Type 0} → (A → B) → Row A → Row B
 as_row f row = record {
   means = λ value tree. (x : _) × row.means value x × (tree ≡ f x);
   faults = row.faults;
+  offset = row.offset;
 }
+
+-- the value has this fault, so many bytes from the item's first
+abbrev pub FaultsAt : {T : Type 0} → Row T → List ℕ → Fault → ℕ → Type 0
+FaultsAt row value e n = (fault : row.faults value e) × (n ≡ row.offset value e fault)
 
 -- the value means some tree
 abbrev pub HasMeaning : {T : Type 0} → Row T → List ℕ → Type 0
@@ -117,7 +127,40 @@ pub record HasFault {T : Type 0} (level : Level T) (bytes : List ℕ) (e : Fault
   pub mean : ItemsMean level items trees
   pub fault : BeginsWithFault level rest e
 
+-- ---- where a fault lies
+
+-- How far from the first byte its fault lies. Where there is no frame, nowhere else; of a value as
+-- its row says; of padding at the first byte that isn't zero, or else where the first that is
+-- missing should stand.
+abbrev pub front_offset : {T : Type 0} (level : Level T) (rest : List ℕ) (e : Fault)
+    → BeginsWithFault level rest e → ℕ
+front_offset level rest e (no_frame _ _ _) = 0
+front_offset level rest e (value _ fault) = (front_row level rest).offset (frame_value rest) e fault
+front_offset level rest e (padding _ _ _ _ _) =
+    frame_length rest + first_nonzero (frame_padding rest)
+
+-- the bytes of the items ahead of it, and how far from the front it lies
+abbrev pub fault_offset : {T : Type 0} (level : Level T) (bytes : List ℕ) (e : Fault)
+    → HasFault level bytes e → ℕ
+fault_offset level bytes e f =
+    length (flat_map item_bytes f.items) + front_offset level f.rest e f.fault
+
+-- the bytes have this fault, and so many stand ahead of it
+abbrev pub HasFaultAt : {T : Type 0} → Level T → List ℕ → Fault → ℕ → Type 0
+HasFaultAt level bytes e n =
+    (fault : HasFault level bytes e) × (n ≡ fault_offset level bytes e fault)
+
 -- ---- a kind with a list of another level in its value
+
+-- How far from the item's first byte: the item as a whole, where the rule is broken; else past its
+-- header and the bytes ahead of the list, where the list's fault lies.
+abbrev pub listed_offset : {U : Type 0} (rule : List ℕ → Bool) (place : ℕ) (level : Level U)
+    (bytes : List ℕ) (e : Fault)
+    → ((rule bytes ≡ false) × (e ≡ Length))
+    ⊎ ((rule bytes ≡ true) × HasFault level (drop place bytes) e) → ℕ
+listed_offset rule place level bytes e (inl broken) = 0
+listed_offset rule place level bytes e (inr fault) =
+    4 + (place + fault_offset level (drop place bytes) e fault.1)
 
 -- A value that follows a rule, and after its first bytes is a list. The rule comes first.
 abbrev pub listed : {T U : Type 0} → (List ℕ → Bool) → ℕ → Level U → (List ℕ → List U → T) → Row T
@@ -127,4 +170,5 @@ listed rule place level tree_of = record {
       × (tree ≡ tree_of value trees));
   faults = λ value e. ((rule value ≡ false) × (e ≡ Length))
       ⊎ ((rule value ≡ true) × HasFault level (drop place value) e);
+  offset = λ value e fault. listed_offset rule place level value e fault;
 }

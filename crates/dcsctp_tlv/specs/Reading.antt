@@ -1,6 +1,6 @@
 -- What a reader answers, beside what a table of RFC 9260 section 3.2, 3.2.1 or 3.3.10 says of the
 -- bytes.
-use Rattle.std.specs.Prelude.{◌≡◌, ◌↔◌, ◌⊎◌, ℕ, List, Result, Ok, Err, IsOk, IfOk, IsErrOf, length}
+use Rattle.std.specs.Prelude.{◌≡◌, ◌↔◌, ◌⊎◌, ℕ, List, Option, Some, None, Result, Ok, Err, IsOk, IfOk, IsErrOf, length}
 use Rattle.dcsctp_tlv.specs.declared.error.ChunkParseError.{ChunkParseError}
 use Rattle.dcsctp_tlv.specs.declared.error.ChunkParseError.TheVariants.{InvalidLength, InvalidType, InvalidPadding, InvalidValue, OutOfMemory}
 use Rattle.dcsctp_tlv.specs.Level.{Level, MeansTrees, MeansSome, HasFault}
@@ -57,6 +57,11 @@ abbrev pub Finds : {X : Type 0} → Result X ChunkParseError → (X → Type 0)
     → (Fault → Type 0) → Type 0
 Finds (Ok x) found faults = found x
 Finds (Err e) found faults = IsFault faults e
+
+-- a search for the first fault finds none where something is meant, else it and its place
+abbrev pub Locates : Option (ChunkParseError × ℕ) → Type 0 → (Fault → ℕ → Type 0) → Type 0
+Locates None means faults_at = means
+Locates (Some found) means faults_at = IsFault (λ e. faults_at e found.1) found.0
 
 -- the check of a kind whose value is read at fixed places passes exactly where the table reads a
 -- tree

@@ -1,7 +1,7 @@
 //! The frame of an item: a header of four bytes, and a value (RFC 9260 section 3.2).
 
 ghost use Rattle.std.specs.Prelude.{◌≡◌, ◌≤◌, ◌<◌, ◌+◌, ◌^◌, ◌++◌, ◌↔◌, length, drop, IsOk, IfOk, IfErr};
-ghost use Rattle.dcsctp_tlv.specs.Frame.{padding_size, are_zeros as are_zero_bytes, header, BeginsWithFrame, frame_length, frame_value, frame_padding, frame_rest};
+ghost use Rattle.dcsctp_tlv.specs.Frame.{padding_size, are_zeros as are_zero_bytes, first_nonzero as first_nonzero_byte, header, BeginsWithFrame, frame_length, frame_value, frame_padding, frame_rest};
 ghost use Rattle.dcsctp_tlv.specs.Format.{flagged_tlv};
 ghost use Rattle.dcsctp_tlv.specs.Image.{put, solid_tlv, typed_tlv, image_of, written};
 ghost use Rattle.dcsctp_tlv.specs.declared.error.ChunkParseError.TheVariants.{InvalidLength};
@@ -72,6 +72,13 @@ pub fn are_zeros(bytes: &[u8]) -> bool
     ensures { result ≡ are_zero_bytes bytes.now }
 {
     bytes.iter().all(|byte| *byte == 0)
+}
+
+/// Where the first byte stands that isn't zero, or the end.
+pub fn first_nonzero(bytes: &[u8]) -> usize
+    ensures { result ≡ first_nonzero_byte bytes.now }
+{
+    bytes.iter().take_while(|byte| **byte == 0).count()
 }
 
 /// Writes a header into the first four bytes; the bytes after them stay.

@@ -242,6 +242,18 @@ impl ReadableTlv for Parameter {
         Ok(1)
     }
 
+    fn first_fault(
+        _strict: bool,
+        first: u8,
+        second: u8,
+        value: &[u8],
+    ) -> Option<(ChunkParseError, usize)> {
+        match Parameter::check_value(u16::from_be_bytes([first, second]), value) {
+            Ok(()) => None,
+            Err(fault) => Some((fault, 0)),
+        }
+    }
+
     fn read_onto(
         list: &mut Vec<Self>,
         alloc: Global,

@@ -6,7 +6,7 @@ use Rattle.std.proofs.lemmas.Bool.{ne_eqb, eqb-true}
 use Rattle.dcsctp_tlv.specs.Decided.{IgnoresPadding}
 use Rattle.dcsctp_tlv.specs.Fault.{Fault}
 use Rattle.dcsctp_tlv.specs.Frame.{lenient}
-use Rattle.dcsctp_tlv.specs.Level.{Row, plain, as_row, map_ok, MeansParts}
+use Rattle.dcsctp_tlv.specs.Level.{Row, plain, as_row, map_ok, MeansParts, FaultsAt}
 use Rattle.dcsctp_tlv.specs.Image.{Tlv, size_of, list_size}
 use Rattle.dcsctp_tlv.specs.Parameter.{ParameterTree, tlv as parameter_tlv, IsWellFormed as IsParameterWellFormed}
 use Rattle.dcsctp_tlv.specs.Table.{Named, IsUnnamed}
@@ -35,20 +35,25 @@ use Rattle.dcsctp_wire.proofs.ListRows as list
 
 -- ---- the check of a kind without a list
 
--- a value that passes means one part, and what is told of another is its fault
+-- a value that passes means one part, and what is told of another is its fault, of the chunk as a
+-- whole
 abbrev Stands : Row ChunkTree → List ℕ → Result (Unit {0}) Fault → Type 0
 Stands row value read =
     (IsOk read → MeansParts chunk_parts row value 1)
-    × ((e : Fault) → read ≡ Err e → row.faults value e)
+    × ((e : Fault) → read ≡ Err e → FaultsAt row value e 0)
+
+-- a place that is the chunk's first byte
+abbrev IsNought : ℕ → Type 0
+IsNought n = n ≡ 0
 
 kind_stands : {T : Type 0} (f : T → ChunkTree) → ((t : T) → chunk_parts (f t) ≡ 1)
     → (r : Result T Fault)
     → (IsOk (outcome r) → (u : ChunkTree) × (map_ok f r ≡ Ok u) × (1 ≡ chunk_parts u))
-    × ((e : Fault) → outcome r ≡ Err e → map_ok f r ≡ Err e)
+    × ((e : Fault) → outcome r ≡ Err e → (map_ok f r ≡ Err e) × IsNought 0)
 kind_stands f one (Ok t) = ((λ _. (f t, refl, sym (one t))), (λ e h. absurd cc))
 kind_stands f one (Err d) = (
   (λ h. absurd (let p : false ≡ true = h in cc)),
-  (λ e h. (let p : d ≡ e = cc in ap (λ (x : Fault). Err x) p)),
+  (λ e h. (let p : d ≡ e = cc in (ap (λ (x : Fault). Err x) p, refl))),
 )
 
 -- what the row of a type without a list owes

@@ -16,7 +16,7 @@ use Rattle.dcsctp_wire.specs.Exact.{packet_error_of, IsPacket, ChecksPacket, Rea
 use Rattle.dcsctp_wire.proofs.Packets.{answer_one}
 
 -- errors tell faults apart
-packet_error_one : (d e : PacketFault) → packet_error_of d ≡ packet_error_of e → d ≡ e
+pub packet_error_one : (d e : PacketFault) → packet_error_of d ≡ packet_error_of e → d ≡ e
 packet_error_one Size Size h = refl
 packet_error_one Size Checksum h = absurd cc
 packet_error_one Size (Chunk y) h = absurd cc

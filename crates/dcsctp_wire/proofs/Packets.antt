@@ -24,7 +24,7 @@ reads_fault bytes word policy OutOfMemory opened fault = opened
 
 -- ---- one answer
 
-body_fits : (bytes : List ℕ) → AreBytes bytes → AreBytes (body bytes)
+pub body_fits : (bytes : List ℕ) → AreBytes bytes → AreBytes (body bytes)
 body_fits bytes fits i = rw get_or-drop (fits (12 + i))
 
 made : (p q : PacketTree) → p.meaning.source ≡ q.meaning.source → p.meaning.destination ≡ q.meaning.destination → p.meaning.tag ≡ q.meaning.tag → p.meaning.chunks ≡ q.meaning.chunks → p.checksum ≡ q.checksum → p ≡ q

@@ -12,6 +12,7 @@ ghost use Rattle.dcsctp_tlv.specs.Parameter.{parameters};
 ghost use Rattle.dcsctp_cause.specs.Cause.{causes};
 ghost use Rattle.dcsctp_wire.specs.Chunk.{ChunkTree, chunks};
 ghost use Rattle.dcsctp_wire.specs.Packet.{PacketTree, PacketFault, Chunk, IsOpened, body, packet_with, Answer};
+ghost use Rattle.dcsctp_wire.specs.Place.{HasPacketFaultAt};
 ghost use Rattle.dcsctp_wire.specs.declared.packet.sctp_packet.ChecksumPolicy.{ChecksumPolicy};
 
 use crate::packet::abort_chunk::CHUNK_TYPE as ABORT;
@@ -66,13 +67,16 @@ pub use dcsctp_types::laws as types;
 /// So has each list of chunks, of parameters and of error causes: bytes are split into items in
 /// one way or not at all, and they mean one list of trees or have one fault, never two of either,
 /// never both, and never neither; for a strict reader and for a lenient one. A lenient reader
-/// refuses no list for its padding.
+/// refuses no list for its padding. A fault, of a packet or of a list, lies at one place.
 pub fn one_answer()
     ensures one { (bytes : List ℕ) (word : ℕ) (policy : ChecksumPolicy)
         (a b : Result PacketTree PacketFault)
         → AreBytes bytes → Answer bytes word policy a → Answer bytes word policy b → a ≡ b }
     ensures some { (bytes : List ℕ) (word : ℕ) (policy : ChecksumPolicy)
         → AreBytes bytes → ((a : Result PacketTree PacketFault) × Answer bytes word policy a) }
+    ensures place { (bytes : List ℕ) (word : ℕ) (policy : ChecksumPolicy) (d e : PacketFault)
+        (m n : ℕ) → AreBytes bytes → HasPacketFaultAt bytes word policy d m
+        → HasPacketFaultAt bytes word policy e n → m ≡ n }
     ensures splitting { (rule : PaddingRule) → SplitsOneWay rule }
     ensures chunks { (strict : Bool) → IsDecided (chunks strict) }
     ensures parameters { (strict : Bool) → IsDecided (parameters strict) }

@@ -4,6 +4,7 @@ pub mod abort_chunk;
 mod builder;
 pub mod chunk;
 pub mod error_chunk;
+mod first_fault;
 pub mod heartbeat_ack_chunk;
 pub mod heartbeat_request_chunk;
 mod init;

@@ -38,6 +38,8 @@ mod packets;
 #[cfg(test)]
 mod padding;
 #[cfg(test)]
+mod places;
+#[cfg(test)]
 mod prefixes;
 #[cfg(test)]
 mod replaced_texts;

@@ -10,10 +10,10 @@
 //! +-+-+-+-+-+-+-+-+-+-+-+-+-+-+-+-+-+-+-+-+-+-+-+-+-+-+-+-+-+-+-+-+
 //! ```
 
-ghost use Rattle.std.specs.Prelude.{◌≡◌, ◌≢◌, ◌↔◌, ◌≤◌, ◌+◌, ◌*◌, ℕ, [], ◌∷◌, false, length, Some, IsOk, IfOk, IsErrOf};
+ghost use Rattle.std.specs.Prelude.{◌≡◌, ◌≢◌, ◌↔◌, ◌≤◌, ◌+◌, ◌*◌, ℕ, [], ◌∷◌, false, length, Some, IsOk, IfOk, IsErrOf, IfSome};
 ghost use Rattle.dcsctp_tlv.specs.Frame.{lenient};
-ghost use Rattle.dcsctp_tlv.specs.Level.{HasMeaning, MeansParts};
-ghost use Rattle.dcsctp_tlv.specs.Reading.{Answers, Finds, ReadsExactly};
+ghost use Rattle.dcsctp_tlv.specs.Level.{HasMeaning, MeansParts, FaultsAt};
+ghost use Rattle.dcsctp_tlv.specs.Reading.{Answers, Finds, ReadsExactly, Locates};
 ghost use Rattle.dcsctp_wire.specs.Abort as kind;
 
 use dcsctp_cause::error_causes::{ErrorCause, error_cause_build, error_cause_check};
@@ -21,6 +21,7 @@ use dcsctp_chunk::flags::{is_set, one_flag};
 use dcsctp_chunk::raw_chunk::RawChunk;
 use dcsctp_tlv::error::ChunkParseError;
 use dcsctp_tlv::list::{listed_encodable, listed_encoded_size, listed_size, put_listed};
+use dcsctp_tlv::reader::listed_first_fault;
 use dcsctp_tlv::tlv::SerializableTlv;
 use std::alloc::{AllocError, Global};
 use std::fmt;
@@ -96,6 +97,16 @@ impl AbortChunk {
     {
         let count = error_cause_check(value, strict)?;
         Ok(1 + count)
+    }
+
+    /// The same fault, and how many bytes stand between the chunk's first byte and it.
+    pub(crate) fn first_fault(value: &[u8], strict: bool) -> Option<(ChunkParseError, usize)>
+        ensures located { (flags : ℕ) → Locates result
+            (HasMeaning (kind.row strict flags) value.now)
+            (FaultsAt (kind.row strict flags) value.now) }
+        ensures within { IfSome result (λ found. found.1 ≤ 4 + length value.now) }
+    {
+        listed_first_fault::<ErrorCause>(strict, value, 0)
     }
 
     /// What the value means, under these flags.

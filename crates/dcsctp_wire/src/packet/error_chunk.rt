@@ -10,16 +10,17 @@
 //! +-+-+-+-+-+-+-+-+-+-+-+-+-+-+-+-+-+-+-+-+-+-+-+-+-+-+-+-+-+-+-+-+
 //! ```
 
-ghost use Rattle.std.specs.Prelude.{◌≡◌, ◌≢◌, ◌↔◌, ◌≤◌, ◌+◌, ◌*◌, [], length, Some, IfOk, IsErrOf};
+ghost use Rattle.std.specs.Prelude.{◌≡◌, ◌≢◌, ◌↔◌, ◌≤◌, ◌+◌, ◌*◌, [], length, Some, IfOk, IsErrOf, IfSome};
 ghost use Rattle.dcsctp_tlv.specs.Frame.{lenient};
-ghost use Rattle.dcsctp_tlv.specs.Level.{HasMeaning, MeansParts};
-ghost use Rattle.dcsctp_tlv.specs.Reading.{Answers, Finds, ReadsExactly};
+ghost use Rattle.dcsctp_tlv.specs.Level.{HasMeaning, MeansParts, FaultsAt};
+ghost use Rattle.dcsctp_tlv.specs.Reading.{Answers, Finds, ReadsExactly, Locates};
 ghost use Rattle.dcsctp_wire.specs.Error as kind;
 
 use dcsctp_cause::error_causes::{ErrorCause, error_cause_build, error_cause_check};
 use dcsctp_chunk::raw_chunk::RawChunk;
 use dcsctp_tlv::error::ChunkParseError;
 use dcsctp_tlv::list::{listed_encodable, listed_encoded_size, listed_size, put_listed};
+use dcsctp_tlv::reader::listed_first_fault;
 use dcsctp_tlv::tlv::SerializableTlv;
 use std::alloc::{AllocError, Global};
 use std::fmt;
@@ -95,6 +96,20 @@ impl ErrorChunk {
         }
         let count = error_cause_check(value, strict)?;
         Ok(1 + count)
+    }
+
+    /// The same fault, and how many bytes stand between the chunk's first byte and it: none, where
+    /// there are no causes.
+    pub(crate) fn first_fault(value: &[u8], strict: bool) -> Option<(ChunkParseError, usize)>
+        ensures located { Locates result (HasMeaning (kind.row strict) value.now)
+            (FaultsAt (kind.row strict) value.now) }
+        ensures within { IfSome result (λ found. found.1 ≤ 4 + length value.now) }
+    {
+        let lacks_causes = value.is_empty();
+        if lacks_causes {
+            return Some((ChunkParseError::InvalidLength, 0));
+        }
+        listed_first_fault::<ErrorCause>(strict, value, 0)
     }
 
     /// What the value means.

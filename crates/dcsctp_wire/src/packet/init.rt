@@ -1,14 +1,15 @@
 //! What INIT and INIT ACK have in common.
 
-ghost use Rattle.std.specs.Prelude.{◌≡◌, ◌≤◌, ◌+◌, ◌*◌, [], length, drop, vec_len, vec_capacity, IsOk, IfOk};
+ghost use Rattle.std.specs.Prelude.{◌≡◌, ◌≤◌, ◌+◌, ◌*◌, [], length, drop, vec_len, vec_capacity, IsOk, IfOk, IfSome};
 ghost use Rattle.dcsctp_tlv.specs.Frame.{lenient};
-ghost use Rattle.dcsctp_tlv.specs.Level.{HasMeaning, MeansParts};
-ghost use Rattle.dcsctp_tlv.specs.Reading.{Finds};
+ghost use Rattle.dcsctp_tlv.specs.Level.{HasMeaning, MeansParts, FaultsAt};
+ghost use Rattle.dcsctp_tlv.specs.Reading.{Finds, Locates};
 ghost use Rattle.dcsctp_wire.specs.InitFields.{row as init_row, parts as init_parts, leading as init_numbers, tree_of, view as init_fields_view};
 
 use dcsctp_tlv::error::ChunkParseError;
 use dcsctp_tlv::number::{put_u16, put_u32, read_u16_be, read_u32_be};
 use dcsctp_tlv::parameter::{Parameter, parameters_check, parameters_fill};
+use dcsctp_tlv::reader::listed_first_fault;
 use dcsctp_types::types::Tsn;
 use std::alloc::{AllocError, Global};
 
@@ -38,6 +39,19 @@ pub(crate) fn init_check(value: &[u8], strict: bool) -> Result<usize, ChunkParse
     }
     let count = parameters_check(&value[FIXED_SIZE..], strict)?;
     Ok(1 + count)
+}
+
+/// The same fault, and how many bytes stand between the chunk's first byte and it: none, where the
+/// value has fewer than 16 bytes.
+pub(crate) fn init_first_fault(value: &[u8], strict: bool) -> Option<(ChunkParseError, usize)>
+    ensures located { Locates result (HasMeaning (init_row strict) value.now)
+        (FaultsAt (init_row strict) value.now) }
+    ensures within { IfSome result (λ found. found.1 ≤ 4 + length value.now) }
+{
+    if value.len() < FIXED_SIZE {
+        return Some((ChunkParseError::InvalidLength, 0));
+    }
+    listed_first_fault::<Parameter>(strict, value, FIXED_SIZE)
 }
 
 /// The numbers of the value, and no parameters. It takes no memory.

@@ -27,6 +27,7 @@ ghost use Rattle.dcsctp_wire.specs.declared.packet.sctp_packet.PacketParseError.
 
 pub use crate::packet::builder::SctpPacketBuilder;
 use crate::packet::chunk::Chunk;
+pub use crate::packet::first_fault::FirstFault;
 use dcsctp_tlv::error::ChunkParseError;
 use dcsctp_tlv::list::{encoded_list_size, list_size, put_list};
 use dcsctp_tlv::number::{put_u16, put_u32, read_u16_be, read_u32_be, round_up_to_4};
@@ -41,10 +42,10 @@ use thiserror::Error;
 pub const COMMON_HEADER_SIZE: usize = 12;
 
 /// The fewest bytes of a packet: the common header and one chunk without value.
-const MIN_PACKET_SIZE: usize = 16;
+pub(crate) const MIN_PACKET_SIZE: usize = 16;
 
 /// The most bytes of a packet.
-const MAX_PACKET_SIZE: usize = 65535;
+pub(crate) const MAX_PACKET_SIZE: usize = 65535;
 
 /// The most bytes of a canonical packet, whose size is a multiple of 4.
 const MAX_CANONICAL_SIZE: usize = 65532;
@@ -133,7 +134,7 @@ impl Default for ChecksumPolicy {
 }
 
 /// The policy accepts the checksum field, where `word` is expected.
-fn accepts(policy: &ChecksumPolicy, field: u32, word: u32) -> bool
+pub(crate) fn accepts(policy: &ChecksumPolicy, field: u32, word: u32) -> bool
     ensures { IsTrue result ↔ IsAccepted policy.now field word }
 {
     policy.disable_checksum_verification

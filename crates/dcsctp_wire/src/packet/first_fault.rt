@@ -1,0 +1,73 @@
+//! The first fault of a packet, and where it lies.
+
+ghost use Rattle.std.specs.Prelude.{◌≡◌, ◌≤◌, length, IfSome};
+ghost use Rattle.dcsctp_wire.specs.Place.{LocatesFault};
+ghost use Rattle.dcsctp_tlv.specs.declared.error.ChunkParseError.TheVariants.{OutOfMemory};
+ghost use Rattle.dcsctp_wire.specs.declared.packet.sctp_packet.PacketParseError.TheVariants.{FailedParseChunk};
+
+use crate::packet::chunk::Chunk;
+use crate::packet::sctp_packet::{
+    COMMON_HEADER_SIZE, ChecksumPolicy, MAX_PACKET_SIZE, MIN_PACKET_SIZE, PacketParseError,
+    SctpPacket, accepts,
+};
+use dcsctp_tlv::number::read_u32_be;
+use dcsctp_tlv::reader::list_first_fault;
+
+/// The bytes ahead of the checksum field.
+const CHECKSUM_OFFSET: usize = 8;
+
+/// Why bytes are no packet, and where.
+#[derive(Debug, Drop, PartialEq, Eq)]
+pub struct FirstFault {
+    /// What `from_bytes` and `check` answer; never that memory ran out.
+    pub fault: PacketParseError,
+    /// How many bytes stand ahead of the fault: at most as many as the input has.
+    ///
+    /// For `InvalidPacketSize`, the place of the first byte that is missing, which is the input's
+    /// length, or of the first too many, 65,535. For `InvalidChecksum`, 8, where the field begins.
+    /// For `FailedParseChunk` the first byte of the item whose length or value is at fault: of the
+    /// parameter or error cause, where it is one in a chunk, and else of the chunk. For padding, the
+    /// first byte of it that isn't zero, or the place of the first that is missing.
+    pub offset: usize,
+}
+
+impl SctpPacket {
+    /// The first fault of the bytes, and its offset in bytes from the packet's first byte. It takes
+    /// no memory.
+    ///
+    /// Nothing exactly where the grammar gives these bytes a packet; else the fault that
+    /// `from_bytes` and `check` answer under the same word and policy, and its place, of which there
+    /// is one (`laws::one_answer`). `OutOfMemory` is never answered.
+    pub fn first_fault(bytes: &[u8], checksum: u32, policy: &ChecksumPolicy) -> Option<FirstFault>
+        ensures answer { LocatesFault bytes.now checksum policy.now result }
+        ensures within { IfSome result (λ found. found.offset ≤ length bytes.now) }
+        ensures memory { IfSome result
+            (λ found. ¬ (found.fault ≡ FailedParseChunk OutOfMemory)) }
+    {
+        if bytes.len() < MIN_PACKET_SIZE {
+            return Some(FirstFault {
+                fault: PacketParseError::InvalidPacketSize,
+                offset: bytes.len(),
+            });
+        }
+        if bytes.len() > MAX_PACKET_SIZE {
+            return Some(FirstFault {
+                fault: PacketParseError::InvalidPacketSize,
+                offset: MAX_PACKET_SIZE,
+            });
+        }
+        if !accepts(policy, read_u32_be(&bytes[CHECKSUM_OFFSET..]), checksum) {
+            return Some(FirstFault {
+                fault: PacketParseError::InvalidChecksum,
+                offset: CHECKSUM_OFFSET,
+            });
+        }
+        match list_first_fault::<Chunk>(policy.strict_padding, &bytes[COMMON_HEADER_SIZE..]) {
+            None => None,
+            Some((fault, within)) => Some(FirstFault {
+                fault: PacketParseError::FailedParseChunk(fault),
+                offset: COMMON_HEADER_SIZE + within,
+            }),
+        }
+    }
+}
