@@ -1,4 +1,4 @@
-use Rattle.std.proofs.Common.{◌≡◌, ◌∙◌, List, [], ◌∷◌, ap, inr}
+use Rattle.std.proofs.Common.{◌∙◌, [], ◌∷◌, ap, inr}
 use Rattle.std.proofs.lemmas.List.{map-append}
 use Rattle.dcsctp_chunk.specs.Sack as sack
 use Rattle.dcsctp_wire.specs.Chunk.{view, views}
