@@ -154,10 +154,12 @@ def filled(text):
 def caption(folder):
     with open(os.path.join(folder, 'circumstances.tsv'), encoding='utf-8') as lines:
         said = dict(line.rstrip('\n').split('\t', 1) for line in lines)
+    is_busy = float(said['load']) > float(said['processors']) / 2
     return filled((
         'Measured on {date}, with the crates of commit `{commit}`: {processor}, {processors} processors, load {load} as it '
         'began; `{toolchain}`; the driver compiled by {compiler} with `-O2`; {rounds} rounds of {millis} '
-        'ms in each of {turns} turns, seed {seed}.').format(**said))
+        'ms in each of {turns} turns, seed {seed}.').format(**said)
+        + (' **The machine was busy, so these figures say little**: run it again in a quiet hour.' if is_busy else ''))
 
 
 def record_in(document, text):

@@ -35,6 +35,8 @@ cd "$(dirname "$0")/.."
 export PYTHONDONTWRITEBYTECODE=1
 out=bench/out
 mkdir -p "$out"
+# ahead of what it computes itself
+load=$(cut -d' ' -f1 /proc/loadavg)
 
 echo 'building the library: minutes the first time, since it is proved first' >&2
 (cd crates/speed_probes && rt lib) >"$out/library.log" 2>&1 || { tail -n 5 "$out/library.log" >&2; give_up 'no library'; }
@@ -50,7 +52,7 @@ python3 bench/traffic.py "$seed" "$out/traffic"
     printf 'date\t%s\n' "$(date -u '+%Y-%m-%d %H:%M UTC')"
     printf 'processor\t%s\n' "$(sed -n 's/^model name[^:]*: //p' /proc/cpuinfo | head -n 1)"
     printf 'processors\t%s\n' "$(nproc)"
-    printf 'load\t%s\n' "$(cut -d' ' -f1 /proc/loadavg)"
+    printf 'load\t%s\n' "$load"
     printf 'compiler\t%s\n' "$(gcc --version | head -n 1)"
     printf 'toolchain\t%s\n' "$(rt version)"
     printf 'commit\t%s\n' "$(git log -1 --format=%h -- crates)$(git diff --quiet HEAD -- crates || echo ' with changes')"
