@@ -1,0 +1,177 @@
+/* Times the calls of crates/speed_probes over traffic files, and counts their requests for memory.
+
+   usage: driver ROUNDS MILLIS FILE..
+
+   A file holds one packet a line, in hexadecimal. In each round every call goes over the whole file again and again
+   for so many milliseconds, one call after the other, so that a slow spell of the machine hits them all; the best
+   round counts. Prints a line a file and call, tab separated, after a line of names. */
+#define _GNU_SOURCE
+#include <stdio.h>
+#include <stdlib.h>
+#include <string.h>
+#include <time.h>
+
+/* A slice is a pointer and a length; the allocator takes no place. */
+extern size_t speed_probes_check(const unsigned char *bytes, size_t length);
+extern size_t speed_probes_read(const unsigned char *bytes, size_t length);
+extern size_t speed_probes_read_and_write(const unsigned char *bytes, size_t length);
+extern size_t speed_probes_write_over(const unsigned char *bytes, size_t length, unsigned char *output, size_t room);
+extern size_t speed_probes_build(const unsigned char *bytes, size_t length);
+extern size_t speed_probes_clean(const unsigned char *bytes, size_t length);
+
+static unsigned char output[1 << 16];
+
+static size_t write_over(const unsigned char *bytes, size_t length)
+{
+    return speed_probes_write_over(bytes, length, output, sizeof output);
+}
+
+static const struct {
+    const char *name;
+    size_t (*call)(const unsigned char *bytes, size_t length);
+} calls[] = {
+    {"check", speed_probes_check},
+    {"read", speed_probes_read},
+    {"read_and_write", speed_probes_read_and_write},
+    {"write_over", write_over},
+    {"build", speed_probes_build},
+    {"clean", speed_probes_clean},
+};
+enum { CALLS = sizeof calls / sizeof calls[0] };
+
+/* The linker sends the library's requests here (--wrap). */
+static unsigned long requests;
+void *__real_malloc(size_t size);
+void *__real_realloc(void *block, size_t size);
+
+void *__wrap_malloc(size_t size)
+{
+    requests++;
+    return __real_malloc(size);
+}
+
+void *__wrap_realloc(void *block, size_t size)
+{
+    requests++;
+    return __real_realloc(block, size);
+}
+
+static void fail(const char *what, const char *file)
+{
+    fprintf(stderr, "driver: %s: %s\n", file, what);
+    exit(1);
+}
+
+static double seconds(void)
+{
+    struct timespec now;
+    clock_gettime(CLOCK_MONOTONIC, &now);
+    return (double)now.tv_sec + (double)now.tv_nsec * 1e-9;
+}
+
+struct packet {
+    unsigned char *bytes;
+    size_t length;
+};
+
+struct packets {
+    struct packet *list;
+    size_t count, bytes;
+};
+
+static int digit(char c)
+{
+    return c >= '0' && c <= '9' ? c - '0' : c >= 'a' && c <= 'f' ? c - 'a' + 10 : -1;
+}
+
+static struct packets load(const char *file)
+{
+    struct packets all = {0, 0, 0};
+    size_t room = 0, line_room = 0;
+    char *line = 0;
+    ssize_t read;
+    FILE *stream = fopen(file, "r");
+    if (!stream)
+        fail("cannot be read", file);
+    while ((read = getline(&line, &line_room, stream)) > 0) {
+        size_t digits = (size_t)read - (line[read - 1] == '\n');
+        struct packet packet = {__real_malloc(digits / 2 + 1), digits / 2};
+        if (digits % 2 || !packet.bytes)
+            fail("a line has half a byte, or memory ran out", file);
+        for (size_t i = 0; i < packet.length; i++) {
+            int high = digit(line[2 * i]), low = digit(line[2 * i + 1]);
+            if (high < 0 || low < 0)
+                fail("a line is not hexadecimal", file);
+            packet.bytes[i] = (unsigned char)(high << 4 | low);
+        }
+        if (all.count == room) {
+            room = room ? 2 * room : 64;
+            all.list = __real_realloc(all.list, room * sizeof *all.list);
+            if (!all.list)
+                fail("memory ran out", file);
+        }
+        all.list[all.count++] = packet;
+        all.bytes += packet.length;
+    }
+    free(line);
+    fclose(stream);
+    if (!all.count)
+        fail("holds no packet", file);
+    return all;
+}
+
+static volatile size_t sink;
+
+static void once(size_t (*call)(const unsigned char *, size_t), const struct packets *all)
+{
+    size_t sum = 0;
+    for (size_t i = 0; i < all->count; i++)
+        sum += call(all->list[i].bytes, all->list[i].length);
+    sink += sum;
+}
+
+int main(int count, char **words)
+{
+    if (count < 4)
+        fail("usage: driver ROUNDS MILLIS FILE..", "");
+    int rounds = atoi(words[1]);
+    double least = atoi(words[2]) * 1e-3;
+    /* The C library then keeps large blocks, and doesn't ask the system for each of them. */
+    free(__real_malloc(16 << 20));
+    printf("file\tcall\tpackets\tbytes\tzero\tgreatest\trequests\n");
+    for (int word = 3; word < count; word++) {
+        struct packets all = load(words[word]);
+        double best[CALLS], asked[CALLS];
+        size_t zero[CALLS];
+        for (int k = 0; k < CALLS; k++) {
+            unsigned long before = requests;
+            zero[k] = 0;
+            for (size_t i = 0; i < all.count; i++)
+                zero[k] += calls[k].call(all.list[i].bytes, all.list[i].length) == 0;
+            asked[k] = (double)(requests - before) / (double)all.count;
+            best[k] = 1e9;
+        }
+        for (int round = 0; round < rounds; round++)
+            for (int k = 0; k < CALLS; k++) {
+                double start = seconds(), took;
+                size_t done = 0;
+                do {
+                    once(calls[k].call, &all);
+                    done += all.count;
+                    took = seconds() - start;
+                } while (took < least);
+                if (took / (double)done < best[k])
+                    best[k] = took / (double)done;
+            }
+        const char *slash = strrchr(words[word], '/'), *name = slash ? slash + 1 : words[word];
+        int size = (int)strcspn(name, ".");
+        for (int k = 0; k < CALLS; k++)
+            printf("%.*s\t%s\t%zu\t%.1f\t%zu\t%.0f\t%.2f\n", size, name, calls[k].name, all.count,
+                   (double)all.bytes / (double)all.count, zero[k], 1 / best[k], asked[k]);
+        fflush(stdout);
+        for (size_t i = 0; i < all.count; i++)
+            free(all.list[i].bytes);
+        free(all.list);
+    }
+    return 0;
+}
