@@ -10,7 +10,7 @@
 //! +-+-+-+-+-+-+-+-+-+-+-+-+-+-+-+-+-+-+-+-+-+-+-+-+-+-+-+-+-+-+-+-+
 //! ```
 
-ghost use Rattle.std.specs.Prelude.{◌≡◌, ◌≢◌, ◌↔◌, ◌≤◌, ◌+◌, ◌*◌, [], length, Some, IfOk, IsErrOf};
+ghost use Rattle.std.specs.Prelude.{◌≡◌, ◌≢◌, ◌↔◌, ◌≤◌, ◌+◌, ◌*◌, [], length, Some, IfOk, IsErrOf, vec_capacity};
 ghost use Rattle.dcsctp_tlv.specs.Frame.{lenient};
 ghost use Rattle.dcsctp_tlv.specs.Level.{HasMeaning, MeansParts};
 ghost use Rattle.dcsctp_tlv.specs.Reading.{Answers, Finds, ReadsExactly};
@@ -42,7 +42,8 @@ pub struct ErrorChunk {
 impl ErrorChunk {
     /// The chunk without causes. It takes no memory.
     pub fn new(alloc: Global) -> ErrorChunk
-        ensures { result.error_causes.items ≡ [] }
+        ensures error_causes { result.error_causes.items ≡ [] }
+        ensures memory { vec_capacity result.error_causes ≡ 0 }
     {
         ErrorChunk {
             error_causes: Vec::new(alloc),
