@@ -4,7 +4,7 @@
 //! A block covers the offsets from its start to its end, counted from the cumulative TSN; one that
 //! ends before its start covers none.
 
-ghost use Rattle.std.specs.Prelude.{◌≡◌, ◌↔◌, ℕ, ◌+◌, ◌-◌, ◌<◌, ◌≤◌, ◌^◌, List, [], ◌∷◌, ◌++◌, length, IsTrue, take, drop};
+ghost use Rattle.std.specs.Prelude.{◌≡◌, ◌↔◌, ℕ, ◌+◌, ◌-◌, ◌<◌, ◌≤◌, ◌^◌, List, [], ◌∷◌, ◌++◌, length, IsTrue, take, drop, vec_capacity};
 ghost use Rattle.std.specs.List.{All, SameFrom, copy_within};
 ghost use Rattle.dcsctp_types.specs.Serial.{wrapped_sum, IsGreater};
 ghost use Rattle.dcsctp_chunk.specs.declared.sack_chunk.GapAckBlock.{GapAckBlock};
@@ -48,6 +48,7 @@ pub fn clean_sack(mut sack: SackChunk) -> SackChunk
         → SameCover others sack.gap_ack_blocks.items ↔ (runs ≡ result.gap_ack_blocks.items) }
     ensures once { (again : List GapAckBlock) → IsRuns again (Covers result.gap_ack_blocks.items)
         → again ≡ result.gap_ack_blocks.items }
+    ensures memory { vec_capacity result.gap_ack_blocks ≡ vec_capacity sack.gap_ack_blocks }
 {
     ends_fit(&sack.gap_ack_blocks);
     if validate_sack(&sack) {
@@ -81,6 +82,7 @@ fn are_apart(blocks: &[GapAckBlock]) -> bool
 fn clean_blocks(mut blocks: Vec<GapAckBlock>) -> Vec<GapAckBlock>
     ensures apart { IsApart 0 result.items }
     ensures cover { SameCover result.items blocks.items }
+    ensures memory { vec_capacity result ≡ vec_capacity blocks }
 {
     let kept = gather(&mut blocks);
     blocks.truncate(kept);

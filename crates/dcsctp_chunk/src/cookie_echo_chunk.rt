@@ -10,7 +10,7 @@
 //! +-+-+-+-+-+-+-+-+-+-+-+-+-+-+-+-+-+-+-+-+-+-+-+-+-+-+-+-+-+-+-+-+
 //! ```
 
-ghost use Rattle.std.specs.Prelude.{◌≡◌, ◌≢◌, ◌↔◌, [], Some, IsOk, IfOk, IsErrOf};
+ghost use Rattle.std.specs.Prelude.{◌≡◌, ◌≢◌, ◌↔◌, [], Some, IsOk, IfOk, IsErrOf, vec_capacity};
 ghost use Rattle.dcsctp_tlv.specs.Reading.{Gives, IfMeant, Passes, Builds};
 ghost use Rattle.dcsctp_chunk.specs.CookieEcho as kind;
 
@@ -37,7 +37,8 @@ pub struct CookieEchoChunk {
 impl CookieEchoChunk {
     /// The chunk with an empty cookie. It takes no memory.
     pub fn new(alloc: Global) -> CookieEchoChunk
-        ensures { result.cookie.items ≡ [] }
+        ensures cookie { result.cookie.items ≡ [] }
+        ensures memory { vec_capacity result.cookie ≡ 0 }
     {
         CookieEchoChunk {
             cookie: Vec::new(alloc),

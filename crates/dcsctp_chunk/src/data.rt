@@ -1,6 +1,6 @@
 //! User data, as DATA and I-DATA chunks hold it.
 
-ghost use Rattle.std.specs.Prelude.{◌≡◌, IfOk};
+ghost use Rattle.std.specs.Prelude.{◌≡◌, IfOk, vec_capacity};
 ghost use Rattle.dcsctp_chunk.specs.Data.{user_data_view, no_data, user_data_flags, order_text, part_text};
 
 use crate::flags::four_flags;
@@ -37,7 +37,8 @@ impl Data {
     /// No payload, ordered on stream 0, with all numbers 0, neither a beginning nor an end. It
     /// takes no memory.
     pub fn new(alloc: Global) -> Data
-        ensures { user_data_view result ≡ no_data }
+        ensures fields { user_data_view result ≡ no_data }
+        ensures memory { vec_capacity result.payload ≡ 0 }
     {
         Data {
             stream_key: StreamKey::Ordered(StreamId(0)),

@@ -2,16 +2,16 @@
 //! from the library's clauses alone.
 #![tactic(auto)]
 
-ghost use Rattle.std.specs.Prelude.{◌≡◌, ◌↔◌, ◌∷◌, [], Ok, IsTrue, IfOk, IfSome, option_map};
+ghost use Rattle.std.specs.Prelude.{◌≡◌, ◌↔◌, ◌≤◌, ◌+◌, ◌*◌, ◌/◌, ◌∷◌, [], true, Ok, IsTrue, IfOk, IsErrOf, IfSome, IfNone, option_map};
 ghost use Rattle.std.specs.Int.{w32, to_be_bytes, to_le_bytes};
 ghost use Rattle.dcsctp_chunk.specs.Cover.{Covers, IsRuns};
 ghost use Rattle.dcsctp_chunk.specs.Data.{user_data_view};
 ghost use Rattle.dcsctp_wire.specs.Builder.{Holds, built};
-ghost use Rattle.dcsctp_wire.specs.Canonical.{canonical};
-ghost use Rattle.dcsctp_wire.specs.Chunk.{InitAck, view};
-ghost use Rattle.dcsctp_wire.specs.Exact.{IsPacket};
+ghost use Rattle.dcsctp_wire.specs.Canonical.{canonical, padded_size, Fits};
+ghost use Rattle.dcsctp_wire.specs.Chunk.{InitAck, IsChunkEncodable, view};
+ghost use Rattle.dcsctp_wire.specs.Exact.{IsPacket, packet_error_of};
 ghost use Rattle.dcsctp_wire.specs.InitAck as init_ack;
-ghost use Rattle.dcsctp_wire.specs.Packet.{PacketTree, Answer};
+ghost use Rattle.dcsctp_wire.specs.Packet.{PacketTree, PacketFault, Answer};
 ghost use Rattle.dcsctp_uses.specs.UserData.{user_data_of};
 
 use dcsctp_wire::packet::chunk::Chunk;
@@ -43,15 +43,20 @@ pub fn is_packet(bytes: &[u8], word: u32, policy: &ChecksumPolicy) -> bool
 }
 
 /// The canonical packet, which two packets share exactly where they mean the same: the key of a
-/// replay cache. Nothing where it has more bytes than a packet may have.
+/// replay cache. Nothing where it has more bytes than a packet may have; the fault exactly where
+/// the bytes have one.
 pub fn fingerprint(
     alloc: Global,
     bytes: &[u8],
     word: u32,
     policy: &ChecksumPolicy,
 ) -> Result<Option<Vec<u8>>, PacketParseError>
-    ensures { IfOk result (λ key. IfSome key (λ key. (p : PacketTree)
+    ensures key { IfOk result (λ key. IfSome key (λ key. (p : PacketTree)
         → Answer bytes.now word policy.now (Ok p) → key.items ≡ canonical p.meaning)) }
+    ensures nothing { IfOk result (λ key. IfNone key ((p : PacketTree)
+        → Answer bytes.now word policy.now (Ok p) → ¬ Fits p.meaning)) }
+    ensures faulty { (e : PacketFault) → IsErrOf result (packet_error_of e)
+        ↔ Answer bytes.now word policy.now (Err e) }
 {
     let packet = SctpPacket::from_bytes(alloc, bytes, word, policy)?;
     if !packet.fits() {
@@ -85,8 +90,17 @@ pub fn init_answer(
 ) -> Result<Option<SctpPacketBuilder>, AllocError>
     ensures holds { IfOk result (λ made. IfSome made (λ builder.
         Holds builder (InitAck (init_ack.view answer) ∷ []))) }
-    ensures tag { IfOk result (λ made. IfSome made (λ builder.
-        builder.tag ≡ init.now.initiate_tag)) }
+    ensures settings { IfOk result (λ made. IfSome made (λ builder. builder ≡ record {
+      source = header.now.destination_port;
+      destination = header.now.source_port;
+      tag = init.now.initiate_tag;
+      limit = limit / 4 * 4;
+      writes_checksum = true;
+      bytes = builder.bytes;
+    })) }
+    ensures nothing { IfOk result (λ made. IfNone made
+        (¬ (IsChunkEncodable (InitAck (init_ack.view answer))
+        × (12 + padded_size (InitAck (init_ack.view answer) ∷ []) ≤ limit / 4 * 4)))) }
 {
     let mut builder = SctpPacketBuilder::new(
         alloc,

@@ -10,7 +10,7 @@
 //! +-+-+-+-+-+-+-+-+-+-+-+-+-+-+-+-+-+-+-+-+-+-+-+-+-+-+-+-+-+-+-+-+
 //! ```
 
-ghost use Rattle.std.specs.Prelude.{◌≡◌, ◌≢◌, ◌↔◌, ◌≤◌, ◌+◌, ◌*◌, ℕ, [], ◌∷◌, false, length, Some, IsOk, IfOk, IsErrOf, IfSome};
+ghost use Rattle.std.specs.Prelude.{◌≡◌, ◌≢◌, ◌↔◌, ◌≤◌, ◌+◌, ◌*◌, ℕ, [], ◌∷◌, false, length, Some, IsOk, IfOk, IsErrOf, IfSome, vec_capacity};
 ghost use Rattle.dcsctp_tlv.specs.Frame.{lenient};
 ghost use Rattle.dcsctp_tlv.specs.Level.{HasMeaning, MeansParts, FaultsAt};
 ghost use Rattle.dcsctp_tlv.specs.Reading.{Answers, Finds, ReadsExactly, Locates};
@@ -44,6 +44,7 @@ impl AbortChunk {
     pub fn new(alloc: Global) -> AbortChunk
         ensures tag_reflected { result.tag_reflected ≡ false }
         ensures error_causes { result.error_causes.items ≡ [] }
+        ensures memory { vec_capacity result.error_causes ≡ 0 }
     {
         AbortChunk {
             tag_reflected: false,

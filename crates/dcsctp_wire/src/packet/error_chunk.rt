@@ -10,7 +10,7 @@
 //! +-+-+-+-+-+-+-+-+-+-+-+-+-+-+-+-+-+-+-+-+-+-+-+-+-+-+-+-+-+-+-+-+
 //! ```
 
-ghost use Rattle.std.specs.Prelude.{◌≡◌, ◌≢◌, ◌↔◌, ◌≤◌, ◌+◌, ◌*◌, [], length, Some, IfOk, IsErrOf, IfSome};
+ghost use Rattle.std.specs.Prelude.{◌≡◌, ◌≢◌, ◌↔◌, ◌≤◌, ◌+◌, ◌*◌, [], length, Some, IfOk, IsErrOf, IfSome, vec_capacity};
 ghost use Rattle.dcsctp_tlv.specs.Frame.{lenient};
 ghost use Rattle.dcsctp_tlv.specs.Level.{HasMeaning, MeansParts, FaultsAt};
 ghost use Rattle.dcsctp_tlv.specs.Reading.{Answers, Finds, ReadsExactly, Locates};
@@ -43,7 +43,8 @@ pub struct ErrorChunk {
 impl ErrorChunk {
     /// The chunk without causes. It takes no memory.
     pub fn new(alloc: Global) -> ErrorChunk
-        ensures { result.error_causes.items ≡ [] }
+        ensures error_causes { result.error_causes.items ≡ [] }
+        ensures memory { vec_capacity result.error_causes ≡ 0 }
     {
         ErrorChunk {
             error_causes: Vec::new(alloc),

@@ -10,7 +10,7 @@
 //! +-+-+-+-+-+-+-+-+-+-+-+-+-+-+-+-+-+-+-+-+-+-+-+-+-+-+-+-+-+-+-+-+
 //! ```
 
-ghost use Rattle.std.specs.Prelude.{◌≡◌, ◌≢◌, ◌↔◌, [], Some, IsOk, IfOk, IsErrOf};
+ghost use Rattle.std.specs.Prelude.{◌≡◌, ◌≢◌, ◌↔◌, [], Some, IsOk, IfOk, IsErrOf, vec_capacity};
 ghost use Rattle.dcsctp_tlv.specs.Frame.{lenient};
 ghost use Rattle.dcsctp_tlv.specs.Level.{HasMeaning};
 ghost use Rattle.dcsctp_tlv.specs.Reading.{Answers, ReadsExactly};
@@ -39,7 +39,8 @@ pub struct ReConfigChunk {
 impl ReConfigChunk {
     /// The chunk without parameters. It takes no memory.
     pub fn new(alloc: Global) -> ReConfigChunk
-        ensures { result.parameters.items ≡ [] }
+        ensures parameters { result.parameters.items ≡ [] }
+        ensures memory { vec_capacity result.parameters ≡ 0 }
     {
         ReConfigChunk {
             parameters: Vec::new(alloc),
