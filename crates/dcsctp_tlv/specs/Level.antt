@@ -129,9 +129,9 @@ pub record HasFault {T : Type 0} (level : Level T) (bytes : List ℕ) (e : Fault
 
 -- ---- where a fault lies
 
--- How far from the first byte its fault lies. Where there is no frame, nowhere else; of a value as
--- its row says; of padding at the first byte that isn't zero, or else where the first that is
--- missing should stand.
+-- How many bytes stand ahead of the fault, from the front on: none, where there is no frame; of a
+-- value, what its row says; of padding, those ahead of the first byte that isn't zero, or else of
+-- the first that is missing.
 abbrev pub front_offset : {T : Type 0} (level : Level T) (rest : List ℕ) (e : Fault)
     → BeginsWithFault level rest e → ℕ
 front_offset level rest e (no_frame _ _ _) = 0
@@ -139,7 +139,7 @@ front_offset level rest e (value _ fault) = (front_row level rest).offset (frame
 front_offset level rest e (padding _ _ _ _ _) =
     frame_length rest + first_nonzero (frame_padding rest)
 
--- the bytes of the items ahead of it, and how far from the front it lies
+-- the same of a list: the bytes of the items ahead, and those after the front of the rest
 abbrev pub fault_offset : {T : Type 0} (level : Level T) (bytes : List ℕ) (e : Fault)
     → HasFault level bytes e → ℕ
 fault_offset level bytes e f =
@@ -152,8 +152,8 @@ HasFaultAt level bytes e n =
 
 -- ---- a kind with a list of another level in its value
 
--- How far from the item's first byte: the item as a whole, where the rule is broken; else past its
--- header and the bytes ahead of the list, where the list's fault lies.
+-- How many bytes stand between the item's first byte and its fault: none, where the rule is broken;
+-- else its header, the bytes ahead of the list, and those of the list ahead of its fault.
 abbrev pub listed_offset : {U : Type 0} (rule : List ℕ → Bool) (place : ℕ) (level : Level U)
     (bytes : List ℕ) (e : Fault)
     → ((rule bytes ≡ false) × (e ≡ Length))
