@@ -2,7 +2,7 @@
 //! from the library's clauses alone.
 #![tactic(auto)]
 
-ghost use Rattle.std.specs.Prelude.{◌≡◌, ◌↔◌, ◌≤◌, ◌+◌, ◌*◌, ◌/◌, ◌∷◌, [], true, Ok, IsTrue, IfOk, IsErrOf, IfSome, IfNone, option_map};
+ghost use Rattle.std.specs.Prelude.{◌≡◌, ◌↔◌, ◌≤◌, ◌+◌, ◌*◌, ◌/◌, ◌∷◌, [], true, Ok, IsTrue, IfOk, IsErrOf, IfSome, IfNone, option_map, vec_capacity};
 ghost use Rattle.std.specs.Int.{w32, to_be_bytes, to_le_bytes};
 ghost use Rattle.dcsctp_chunk.specs.Cover.{Covers, IsRuns};
 ghost use Rattle.dcsctp_chunk.specs.Data.{user_data_view};
@@ -120,7 +120,8 @@ pub fn init_answer(
 /// The offsets that a SACK acknowledges beyond its cumulative TSN, in as few blocks as there can
 /// be. It takes no memory.
 pub fn acknowledged(sack: SackChunk) -> Vec<GapAckBlock>
-    ensures { IsRuns result.items (Covers sack.gap_ack_blocks.items) }
+    ensures runs { IsRuns result.items (Covers sack.gap_ack_blocks.items) }
+    ensures memory { vec_capacity result ≡ vec_capacity sack.gap_ack_blocks }
 {
     clean_sack(sack).gap_ack_blocks
 }
