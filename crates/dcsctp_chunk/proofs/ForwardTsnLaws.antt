@@ -13,8 +13,8 @@ use Rattle.dcsctp_tlv.specs.Number.{numbers}
 use Rattle.dcsctp_tlv.proofs.FieldLaws.{FieldLaw, length-fields, fields_each, last_fields_back}
 use Rattle.dcsctp_tlv.proofs.FormatLaws.{FormatLaws, Keeps, format_laws}
 use Rattle.dcsctp_tlv.proofs.KindLaws.{of_ok, passed}
-use Rattle.dcsctp_tlv.proofs.Unpadded.{if_passed}
-use Rattle.dcsctp_chunk.specs.SkippedStreams.{SkippedStreamTree, BySsn, ByMid, is_by_mid, AreByMid, IsSkippedStreamInWidth, Tree, IsInWidth}
+use Rattle.dcsctp_tlv.proofs.Unpadded.{NotPadding, if_passed}
+use Rattle.dcsctp_chunk.specs.SkippedStreams.{SkippedStreamTree, BySsn, ByMid, is_by_mid, AreByMid, IsSkippedStreamInWidth, Tree, stream_count, read_of, IsInWidth}
 use Rattle.dcsctp_chunk.specs.ForwardTsn as by_ssn
 use Rattle.dcsctp_chunk.specs.IForwardTsn as by_mid
 
@@ -72,92 +72,95 @@ streams_kept read size by_mid own count bytes streams e = (
 abbrev bytes_of : (SkippedStreamTree → List ℕ) → Tree → List ℕ
 bytes_of write t = numbers w32 (t.tsn ∷ []) ++ flat_map write t.streams
 
--- ---- FORWARD-TSN
+-- ---- chunks with such streams, of either kind
 
-back : (t : Tree) → IsInWidth t → AreByMid false t.streams
-    → by_ssn.read (bytes_of by_ssn.stream_bytes t) ≡ Ok t
-unfolding by_ssn.read
-back t width own =
-    let value = bytes_of by_ssn.stream_bytes t in
+-- how a stream is read and written, in how many bytes, and by what it is skipped
+record Streams (read : List ℕ → SkippedStreamTree) (write : SkippedStreamTree → List ℕ) (size : ℕ)
+    (by_mid : Bool) : Type 0 where
+  pub law : FieldLaw read write size (IsPlaced by_mid)
+  pub sized : (s : SkippedStreamTree) → length (write s) ≡ size
+  pub own : (bytes : List ℕ) → is_by_mid (read bytes) ≡ by_mid
+  pub counted : (n : ℕ) → (4 + size * n - 4) / size ≡ n
+
+back : {read : List ℕ → SkippedStreamTree} {write : SkippedStreamTree → List ℕ} {size : ℕ}
+    {by_mid : Bool} → Streams read write size by_mid
+    → (t : Tree) → IsInWidth t → AreByMid by_mid t.streams
+    → read_of read size (bytes_of write t) ≡ Ok t
+back {read} {write} {size} {by_mid} laws t width own =
+    let value = bytes_of write t in
     let n = length t.streams in
-    let sized : length value ≡ 4 + 4 * n =
-    (let list = length-each by_ssn.stream_bytes 4 t.streams by_ssn.length-stream in
-    omega (arith, list)) in
-    let whole : length value ≡ 4 + 4 * ((length value - 4) / 4) = omega (arith, sized) in
+    let sized : length value ≡ 4 + size * n =
+    (let list = length-each write size t.streams laws.sized in omega (arith, list)) in
+    let count : stream_count size value ≡ n =
+    ap (λ (k : ℕ). (k - 4) / size) sized ∙ laws.counted n in
+    let whole : length value ≡ 4 + size * stream_count size value =
+    sized ∙ ap (λ (k : ℕ). 4 + size * k) (sym count) in
     let streams_are =
-    last_fields_back by_ssn.stream_at by_ssn.stream_bytes 4 (IsPlaced false) ssn_stream_law
-    t.streams ((length value - 4) / 4) (omega (arith, sized))
-    (placed false t.streams width.streams own) in
+    last_fields_back read write size (IsPlaced by_mid) laws.law t.streams (stream_count size value)
+    count (placed by_mid t.streams width.streams own) in
     rw (
-      eq-eqb (length value) (4 + 4 * ((length value - 4) / 4)) whole,
+      eq-eqb (length value) (4 + size * stream_count size value) whole,
       from_be_bytes-to_be_bytes_4 t.tsn width.tsn,
       streams_are,
     ) refl
 
 -- what is read is well-formed, and is written with as many bytes
-kept : (value : List ℕ) (t : Tree) → by_ssn.read value ≡ Ok t
-    → AreByMid false t.streams × (4 + (4 + 4 * length t.streams) ≡ 4 + length value)
-unfolding by_ssn.read
-kept value t is =
-    let n = (length value - 4) / 4 in
-    let whole = passed (length value == 4 + 4 * n) _ Length t is in
+kept : {read : List ℕ → SkippedStreamTree} {write : SkippedStreamTree → List ℕ} {size : ℕ}
+    {by_mid : Bool} → Streams read write size by_mid
+    → (value : List ℕ) (t : Tree) → read_of read size value ≡ Ok t
+    → AreByMid by_mid t.streams × (4 + (4 + size * length t.streams) ≡ 4 + length value)
+kept {read} {write} {size} {by_mid} laws value t is =
+    let n = stream_count size value in
+    let whole = passed (length value == 4 + size * n) _ Length t is in
     let e = ap (λ (u : Tree). u.streams) (of_ok _ t whole.1) in
-    let streams =
-    streams_kept by_ssn.stream_at 4 false (λ bytes. refl) n (drop 4 value) t.streams e in
-    let sized = eqb-true (length value) (4 + 4 * n) whole.0 in
-    (streams.0, omega (arith, streams.1, sized))
+    let streams = streams_kept read size by_mid laws.own n (drop 4 value) t.streams e in
+    let sized = eqb-true (length value) (4 + size * n) whole.0 in (
+      streams.0,
+      ap (λ (k : ℕ). 4 + (4 + size * k)) streams.1 ∙ ap (λ (k : ℕ). 4 + k) (sym sized),
+    )
+
+unpadded : (read : List ℕ → SkippedStreamTree) (size : ℕ) (value : List ℕ)
+    → NotPadding (read_of read size value)
+unpadded read size value = if_passed (length value == 4 + size * stream_count size value) _
+
+-- ---- FORWARD-TSN
+
+ssn_streams : Streams by_ssn.stream_at by_ssn.stream_bytes 4 false
+ssn_streams = record {
+  law = ssn_stream_law;
+  sized = by_ssn.length-stream;
+  own = λ bytes. refl;
+  counted = λ n. omega arith;
+}
 
 pub forward_tsn_laws : FormatLaws by_ssn.read by_ssn.format
 unfolding by_ssn.read
 forward_tsn_laws =
     format_laws by_ssn.read by_ssn.format (bytes_of by_ssn.stream_bytes) (λ t. refl)
-    (λ t width own fits. back t width own) (λ value t is. (kept value t is).0)
-    (λ value. if_passed (length value == 4 + 4 * by_ssn.stream_count value) _)
+    (λ t width own fits. back ssn_streams t width own)
+    (λ value t is. (kept ssn_streams value t is).0) (unpadded by_ssn.stream_at 4)
 
 pub forward_tsn_keeps_size : Keeps by_ssn.read by_ssn.format
-forward_tsn_keeps_size first flags value t is = (kept value t is).1
+unfolding by_ssn.read
+forward_tsn_keeps_size first flags value t is = (kept ssn_streams value t is).1
 
 -- ---- I-FORWARD-TSN
 
-iback : (t : Tree) → IsInWidth t → AreByMid true t.streams
-    → by_mid.read (bytes_of by_mid.stream_bytes t) ≡ Ok t
-unfolding by_mid.read
-iback t width own =
-    let value = bytes_of by_mid.stream_bytes t in
-    let n = length t.streams in
-    let sized : length value ≡ 4 + 8 * n =
-    (let list = length-each by_mid.stream_bytes 8 t.streams by_mid.length-stream in
-    omega (arith, list)) in
-    let whole : length value ≡ 4 + 8 * ((length value - 4) / 8) = omega (arith, sized) in
-    let streams_are =
-    last_fields_back by_mid.stream_at by_mid.stream_bytes 8 (IsPlaced true) mid_stream_law
-    t.streams ((length value - 4) / 8) (omega (arith, sized))
-    (placed true t.streams width.streams own) in
-    rw (
-      eq-eqb (length value) (4 + 8 * ((length value - 4) / 8)) whole,
-      from_be_bytes-to_be_bytes_4 t.tsn width.tsn,
-      streams_are,
-    ) refl
-
--- what is read is well-formed, and is written with as many bytes
-ikept : (value : List ℕ) (t : Tree) → by_mid.read value ≡ Ok t
-    → AreByMid true t.streams × (4 + (4 + 8 * length t.streams) ≡ 4 + length value)
-unfolding by_mid.read
-ikept value t is =
-    let n = (length value - 4) / 8 in
-    let whole = passed (length value == 4 + 8 * n) _ Length t is in
-    let e = ap (λ (u : Tree). u.streams) (of_ok _ t whole.1) in
-    let streams =
-    streams_kept by_mid.stream_at 8 true (λ bytes. refl) n (drop 4 value) t.streams e in
-    let sized = eqb-true (length value) (4 + 8 * n) whole.0 in
-    (streams.0, omega (arith, streams.1, sized))
+mid_streams : Streams by_mid.stream_at by_mid.stream_bytes 8 true
+mid_streams = record {
+  law = mid_stream_law;
+  sized = by_mid.length-stream;
+  own = λ bytes. refl;
+  counted = λ n. omega arith;
+}
 
 pub iforward_tsn_laws : FormatLaws by_mid.read by_mid.format
 unfolding by_mid.read
 iforward_tsn_laws =
     format_laws by_mid.read by_mid.format (bytes_of by_mid.stream_bytes) (λ t. refl)
-    (λ t width own fits. iback t width own) (λ value t is. (ikept value t is).0)
-    (λ value. if_passed (length value == 4 + 8 * by_mid.stream_count value) _)
+    (λ t width own fits. back mid_streams t width own)
+    (λ value t is. (kept mid_streams value t is).0) (unpadded by_mid.stream_at 8)
 
 pub iforward_tsn_keeps_size : Keeps by_mid.read by_mid.format
-iforward_tsn_keeps_size first flags value t is = (ikept value t is).1
+unfolding by_mid.read
+iforward_tsn_keeps_size first flags value t is = (kept mid_streams value t is).1

@@ -1,10 +1,10 @@
 -- FORWARD-TSN (RFC 3758 section 3.2): type 192, flags ignored; the value is the new cumulative TSN,
 -- four bytes, and then the skipped streams: the stream id and the sequence number, two bytes each.
-use Rattle.std.specs.Prelude.{◌≡◌, ℕ, ◌+◌, ◌-◌, ◌*◌, ◌/◌, false, List, [], ◌∷◌, ◌++◌, ◌==◌, Result, Ok, Err, if◌then◌else◌, length, drop, codes, refl}
+use Rattle.std.specs.Prelude.{◌≡◌, ℕ, false, List, [], ◌∷◌, ◌++◌, Result, length, drop, codes, refl}
 use Rattle.std.specs.Fmt.{decimal}
 use Rattle.std.specs.Int.{w16, w32}
-use Rattle.dcsctp_tlv.specs.Kind.{Fault, Length, fields, number16, number32, numbers, Format, length-fields}
-use Rattle.dcsctp_chunk.specs.SkippedStreams.{SkippedStreamTree, BySsn, ByMid, AreByMid, Tree, tree_of, tlv_of, IsInWidth}
+use Rattle.dcsctp_tlv.specs.Kind.{Fault, number16, numbers, Format, length-fields}
+use Rattle.dcsctp_chunk.specs.SkippedStreams.{SkippedStreamTree, BySsn, ByMid, AreByMid, Tree, tree_of, read_of, tlv_of, IsInWidth}
 use Rattle.dcsctp_chunk.specs.declared.forward_tsn_chunk.ForwardTsnChunk.{ForwardTsnChunk}
 
 abbrev pub stream_at : List ℕ → SkippedStreamTree
@@ -20,17 +20,8 @@ pub length-stream : (s : SkippedStreamTree) → length (stream_bytes s) ≡ 4
 length-stream (BySsn stream ssn) = refl
 length-stream (ByMid stream is_unordered mid) = refl
 
--- how many streams follow the TSN
-abbrev pub stream_count : List ℕ → ℕ
-stream_count value = (length value - 4) / 4
-
 unfoldable pub read : List ℕ → Result Tree Fault
-read value =
-    if length value == 4 + 4 * stream_count value then Ok (record {
-      tsn = number32 value;
-      streams = fields stream_at 4 (stream_count value) (drop 4 value);
-    }) else
-    Err Length
+read value = read_of stream_at 4 value
 
 -- each stream is skipped by a sequence number
 abbrev pub format : Tree → Format

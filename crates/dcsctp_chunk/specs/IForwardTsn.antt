@@ -1,11 +1,11 @@
 -- I-FORWARD-TSN (RFC 8260 section 2.3.1): type 194, flags ignored; the value is the new cumulative
 -- TSN, four bytes, and then the skipped streams: the stream id, two bytes, two more whose lowest
 -- bit says unordered, and the message id, four bytes.
-use Rattle.std.specs.Prelude.{◌≡◌, ℕ, ◌+◌, ◌-◌, ◌*◌, ◌/◌, ◌%◌, true, List, [], ◌∷◌, ◌++◌, ◌==◌, Result, Ok, Err, if◌then◌else◌, length, drop, codes, refl}
+use Rattle.std.specs.Prelude.{◌≡◌, ℕ, ◌%◌, true, List, [], ◌∷◌, ◌++◌, ◌==◌, Result, if◌then◌else◌, length, drop, codes, refl}
 use Rattle.std.specs.Fmt.{decimal}
 use Rattle.std.specs.Int.{w16, w32}
-use Rattle.dcsctp_tlv.specs.Kind.{Fault, Length, fields, number16, number32, numbers, Format, length-fields}
-use Rattle.dcsctp_chunk.specs.SkippedStreams.{SkippedStreamTree, BySsn, ByMid, AreByMid, Tree, tree_of, tlv_of, IsInWidth}
+use Rattle.dcsctp_tlv.specs.Kind.{Fault, number16, number32, numbers, Format, length-fields}
+use Rattle.dcsctp_chunk.specs.SkippedStreams.{SkippedStreamTree, BySsn, ByMid, AreByMid, Tree, tree_of, read_of, tlv_of, IsInWidth}
 use Rattle.dcsctp_chunk.specs.declared.iforward_tsn_chunk.IForwardTsnChunk.{IForwardTsnChunk}
 
 -- all bits but the lowest of the two bytes after the stream id are ignored
@@ -25,17 +25,8 @@ pub length-stream : (s : SkippedStreamTree) → length (stream_bytes s) ≡ 8
 length-stream (BySsn stream ssn) = refl
 length-stream (ByMid stream is_unordered mid) = refl
 
--- how many streams follow the TSN
-abbrev pub stream_count : List ℕ → ℕ
-stream_count value = (length value - 4) / 8
-
 unfoldable pub read : List ℕ → Result Tree Fault
-read value =
-    if length value == 4 + 8 * stream_count value then Ok (record {
-      tsn = number32 value;
-      streams = fields stream_at 8 (stream_count value) (drop 4 value);
-    }) else
-    Err Length
+read value = read_of stream_at 8 value
 
 -- each stream is skipped by a message id
 abbrev pub format : Tree → Format

@@ -1,9 +1,10 @@
 -- Streams that are skipped: each by a sequence number (RFC 3758 section 3.2), or by a message id
 -- (RFC 8260 section 2.3.1); and what the chunks that hold them have in common.
-use Rattle.std.specs.Prelude.{◌≡◌, ℕ, ◌<◌, ◌^◌, Bool, true, false, not, List, ◌∷◌, [], map}
+use Rattle.std.specs.Prelude.{◌≡◌, ℕ, ◌+◌, ◌-◌, ◌*◌, ◌/◌, ◌<◌, ◌^◌, Bool, true, false, not, List, ◌∷◌, [], ◌==◌, Result, Ok, Err, if◌then◌else◌, length, drop, map}
 use Rattle.std.specs.List.{AllByRecursion}
 use Rattle.dcsctp_types.specs.StreamKey.{stream_of, is_ordered_key}
 use Rattle.dcsctp_types.specs.declared.types.tsn.Tsn.{Tsn}
+use Rattle.dcsctp_tlv.specs.Kind.{Fault, Length, fields, number32}
 use Rattle.dcsctp_tlv.specs.Fields.{numbers_and_fields_tlv}
 use Rattle.dcsctp_tlv.specs.Image.{Tlv}
 use Rattle.dcsctp_tlv.specs.declared.skipped_stream.SkippedStream.{SkippedStream}
@@ -44,6 +45,19 @@ pub record Tree : Type 0 where
 
 abbrev pub tree_of : Tsn → List SkippedStream → Tree
 tree_of tsn streams = record { tsn = tsn.0; streams = skipped_stream_views streams }
+
+-- how many streams of a size follow the TSN
+abbrev pub stream_count : ℕ → List ℕ → ℕ
+stream_count size value = (length value - 4) / size
+
+-- by how a stream is read, and in how many bytes it lies
+abbrev pub read_of : (List ℕ → SkippedStreamTree) → ℕ → List ℕ → Result Tree Fault
+read_of stream_at size value =
+    if length value == 4 + size * stream_count size value then Ok (record {
+      tsn = number32 value;
+      streams = fields stream_at size (stream_count size value) (drop 4 value);
+    }) else
+    Err Length
 
 -- its type, and how a stream is written and in how many bytes
 abbrev pub tlv_of : ℕ → (SkippedStreamTree → List ℕ) → ℕ → Tree → Tlv

@@ -149,7 +149,7 @@ error_sound = record {
 }
 
 module _ (strict : Bool) (flags : ℕ) where
-  -- a kind without a list: its laws, its trees in the table, and its type; and what computing shows:
+  -- a kind without a list: its laws, its trees in the table, its type; and what computing shows:
   -- it is written and well-formed as its own format says, it has one part, the check knows it, and
   -- both tables have the same row
   plain_kind : {X : Type 0} {read : ℕ → ℕ → List ℕ → Result X Fault} {tlv : X → Tlv}
