@@ -50,7 +50,7 @@ use crate::packet::reconfiguration_response_parameter::{
 };
 use crate::packet::sack_chunk::{CHUNK_TYPE as SACK, GapAckBlock};
 pub use crate::packet::sctp_packet::has_widths;
-use crate::packet::sctp_packet::{COMMON_HEADER_SIZE, PacketParseError};
+use crate::packet::sctp_packet::{COMMON_HEADER_SIZE, FirstFault, PacketParseError};
 use crate::packet::shutdown_ack_chunk::CHUNK_TYPE as SHUTDOWN_ACK;
 use crate::packet::shutdown_chunk::CHUNK_TYPE as SHUTDOWN;
 use crate::packet::shutdown_complete_chunk::CHUNK_TYPE as SHUTDOWN_COMPLETE;
@@ -111,11 +111,12 @@ pub fn strict_is_lenient()
         → Answer bytes word (record policy { strict_padding = false }) (Ok p) }
 {}
 
-/// Two values are equal exactly where they are the same: errors, results, gap ack blocks and
-/// skipped streams; and causes of missing parameters exactly where they name the same ones.
+/// Two values are equal exactly where they are the same: errors, first faults, results, gap ack
+/// blocks and skipped streams; and causes of missing parameters exactly where they name the same ones.
 /// (`types::equality` has the serial numbers, ids, keys, times and methods.)
 pub fn equality()
     ensures packet_errors { TellsSame ⟦<PacketParseError as PartialEq>⟧.eq }
+    ensures first_faults { TellsSame ⟦<FirstFault as PartialEq>⟧.eq }
     ensures chunk_errors { TellsSame ⟦<ChunkParseError as PartialEq>⟧.eq }
     ensures results { TellsSame ⟦<ReconfigurationResponseResult as PartialEq>⟧.eq }
     ensures blocks { TellsSame ⟦<GapAckBlock as PartialEq>⟧.eq }
