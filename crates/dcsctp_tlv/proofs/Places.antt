@@ -1,13 +1,12 @@
 -- Where a fault lies: what a search for it has gone over, and what it finds.
-use Rattle.std.proofs.Common.{◌≡◌, ℕ, ◌+◌, ◌-◌, ◌≤◌, true, false, Bool, cond, Option, Some, None, Result, List, [], ◌∷◌, length, drop, refl, sym, ap, ◌∙◌, arith, inl, inr}
+use Rattle.std.proofs.Common.{◌≡◌, ℕ, ◌+◌, ◌-◌, ◌≤◌, true, false, Bool, cond, Option, Some, None, Result, List, [], ◌∷◌, length, drop, refl, ap, ◌∙◌, arith, inr}
 use Rattle.std.specs.Prelude.{◌==◌}
 use Rattle.std.proofs.lemmas.List.{length-take, length-drop}
 use Rattle.dcsctp_tlv.specs.declared.error.ChunkParseError.{ChunkParseError}
 use Rattle.dcsctp_tlv.specs.declared.error.ChunkParseError.TheVariants.{InvalidLength, InvalidType, InvalidPadding, InvalidValue, OutOfMemory}
 use Rattle.dcsctp_tlv.specs.Fault.{Fault, Length, Padding, Value}
-use Rattle.dcsctp_tlv.specs.Number.{AreBytes}
 use Rattle.dcsctp_tlv.specs.Frame.{round_up_to_4, padding_size, first_nonzero, BeginsWithFrame, frame_length, frame_value, frame_padding, frame_rest}
-use Rattle.dcsctp_tlv.specs.Level.{Row, plain, as_row, FaultsAt, HasMeaning, Level, front_row, BeginsWithFault, value, padding, front_offset, HasFaultAt, MeansTrees, MeansSome, listed}
+use Rattle.dcsctp_tlv.specs.Level.{Row, plain, as_row, FaultsAt, HasMeaning, Level, front_row, BeginsWithFault, value, padding, front_offset, HasFaultAt, MeansSome, listed}
 use Rattle.dcsctp_tlv.specs.Reading.{IsFault, Locates}
 use Rattle.dcsctp_tlv.proofs.Items.{front_length}
 use Rattle.dcsctp_tlv.proofs.Lists.{Progress, step, finish, fault_at}

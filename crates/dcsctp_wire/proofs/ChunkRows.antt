@@ -203,8 +203,16 @@ module _ (strict : Bool) (flags : ℕ) where
             unnamed (λ v t m. m);
         stands = λ v a b c d e f g.
             rw (
-              n 0 refl, n 3 refl, n 7 refl, n 8 refl, n 10 refl, n 11 refl, n 14 refl, n 64 refl,
-              n 192 refl, n 194 refl,
+              n 0 refl,
+              n 3 refl,
+              n 7 refl,
+              n 8 refl,
+              n 10 refl,
+              n 11 refl,
+              n 14 refl,
+              n 64 refl,
+              n 192 refl,
+              n 194 refl,
             ) (kind_stands Unknown (λ u. refl) (unknown_at typ flags v));
         sound = λ _. record {
           forms = unknown_forms typ flags unnamed;
