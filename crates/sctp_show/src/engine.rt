@@ -10,6 +10,7 @@ use crate::answer::{MOST_BYTES, answer_to};
 use crate::failure::Failure;
 use crate::watched::Watched;
 use std::alloc::Global;
+use std::io;
 use std::io::{Read, Write};
 
 // A longer input is known by one byte too many.
@@ -78,13 +79,17 @@ fn read_input<R: Read>(alloc: Global, input: &mut Watched<R>) -> Result<Vec<u8>,
     ensures memory { IfErr result (λ e. (e ≡ Failure.Read) ⊎ (e ≡ Failure.OutOfMemory)) }
 {
     let mut bytes = vec![in alloc; 0; MOST_READ]?;
-    let filled = fill(input, bytes.as_mut_slice())?;
-    bytes.truncate(filled);
-    Ok(bytes)
+    match fill(input, bytes.as_mut_slice()) {
+        Ok(filled) => {
+            bytes.truncate(filled);
+            Ok(bytes)
+        }
+        Err(_) => Err(Failure::Read),
+    }
 }
 
 /// Reads into `room` from its front on, until it is full or the input at its end.
-fn fill<R: Read>(input: &mut Watched<R>, room: &mut [u8]) -> Result<usize, Failure>
+fn fill<R: Read>(input: &mut Watched<R>, room: &mut [u8]) -> io::Result<usize>
     ensures within { IfOk result (λ n. n ≤ length room.new) }
     ensures read { IfOk result (λ n. Consumes (R.remaining (device_of input.old))
         (R.remaining (device_of input.new)) (take n room.new)) }
@@ -93,14 +98,13 @@ fn fill<R: Read>(input: &mut Watched<R>, room: &mut [u8]) -> Result<usize, Failu
     ensures none_lost { OnErr result (TakesAtMost (length room.old)
         (R.remaining (device_of input.old)) (R.remaining (device_of input.new))) }
     ensures failed { has_failed input.new ≡ (has_failed input.old || is_err result) }
-    ensures fault { IfErr result (λ e. e ≡ Failure.Read) }
 {
     let mut filled = 0;
     while filled < room.len() {
         match input.read(&mut room[filled..]) {
             Ok(0) => break,
             Ok(count) => filled += count,
-            Err(_) => return Err(Failure::Read),
+            Err(error) => return Err(error),
         }
     }
     Ok(filled)
