@@ -10,7 +10,6 @@ use crate::answer::{MOST_BYTES, answer_to};
 use crate::failure::Failure;
 use crate::watched::Watched;
 use std::alloc::Global;
-use std::io;
 use std::io::{Read, Write};
 
 // A longer input is known by one byte too many.
@@ -79,17 +78,13 @@ fn read_input<R: Read>(alloc: Global, input: &mut Watched<R>) -> Result<Vec<u8>,
     ensures memory { IfErr result (λ e. (e ≡ Failure.Read) ⊎ (e ≡ Failure.OutOfMemory)) }
 {
     let mut bytes = vec![in alloc; 0; MOST_READ]?;
-    match fill(input, bytes.as_mut_slice()) {
-        Ok(filled) => {
-            bytes.truncate(filled);
-            Ok(bytes)
-        }
-        Err(_) => Err(Failure::Read),
-    }
+    let filled = fill(input, bytes.as_mut_slice())?;
+    bytes.truncate(filled);
+    Ok(bytes)
 }
 
 /// Reads into `room` from its front on, until it is full or the input at its end.
-fn fill<R: Read>(input: &mut Watched<R>, room: &mut [u8]) -> io::Result<usize>
+fn fill<R: Read>(input: &mut Watched<R>, room: &mut [u8]) -> Result<usize, Failure>
     ensures within { IfOk result (λ n. n ≤ length room.new) }
     ensures read { IfOk result (λ n. Consumes (R.remaining (device_of input.old))
         (R.remaining (device_of input.new)) (take n room.new)) }
@@ -98,13 +93,14 @@ fn fill<R: Read>(input: &mut Watched<R>, room: &mut [u8]) -> io::Result<usize>
     ensures none_lost { OnErr result (TakesAtMost (length room.old)
         (R.remaining (device_of input.old)) (R.remaining (device_of input.new))) }
     ensures failed { has_failed input.new ≡ (has_failed input.old || is_err result) }
+    ensures fault { IfErr result (λ e. e ≡ Failure.Read) }
 {
     let mut filled = 0;
     while filled < room.len() {
         match input.read(&mut room[filled..]) {
             Ok(0) => break,
             Ok(count) => filled += count,
-            Err(error) => return Err(error),
+            Err(_) => return Err(Failure::Read),
         }
     }
     Ok(filled)

@@ -394,6 +394,8 @@ impl SerializableTlv for Chunk {
     /// Its skipped streams have a place.
     ghost placed = { λ c. IsPlaced (view c) };
 
+    // Not inlined into the loop over a list, which would compute the places of every kind ahead.
+    #[inline(never)]
     fn serialize_to(&self, output: &mut [u8]) {
         each_kind!(self, c => c.serialize_to(output))
     }
