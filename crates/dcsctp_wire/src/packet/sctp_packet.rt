@@ -267,6 +267,8 @@ pub fn has_widths(packet: &SctpPacket)
 {}
 
 /// The numbers of chunks and of all parts, or the fault: what it finds, and no law of it.
+// A part of both callers, also where a program has both.
+#[inline(always)]
 fn check_packet(
     bytes: &[u8],
     checksum: u32,
