@@ -85,7 +85,7 @@ static int digit(char c)
 }
 
 /* Not from the heap: what is freed there before the calls is a hole, and each request that it serves is cut off it
-   and joined to it again, which takes twice as long as one from the heap's end. */
+   and joined to it again, which takes longer than one from the heap's end. */
 static char line[2 * 65536 + 2], stream_buffer[1 << 16];
 
 static struct packets load(const char *file)
@@ -97,6 +97,8 @@ static struct packets load(const char *file)
         fail("cannot be read", file);
     while (fgets(line, sizeof line, stream)) {
         size_t digits = strcspn(line, "\n");
+        if (!line[digits] && !feof(stream))
+            fail("a line is longer than a packet can be", file);
         struct packet packet = {__real_malloc(digits / 2 + 1), digits / 2};
         if (digits % 2 || !packet.bytes)
             fail("a line has half a byte, or memory ran out", file);
