@@ -23,7 +23,7 @@ use crate::no_user_data_error_cause::{self, NoUserDataErrorCause};
 use crate::protocol_violation_error_cause::{self, ProtocolViolationErrorCause};
 use crate::unrecognized_chunk_error_cause::{self, UnrecognizedChunkErrorCause};
 use crate::user_initiated_abort_error_cause::{self, UserInitiatedAbortErrorCause};
-use dcsctp_tlv::error::ChunkParseError;
+use dcsctp_tlv::error::{ChunkParseError, Located};
 use dcsctp_tlv::frame::are_zeros;
 use dcsctp_tlv::parameter::raw_parameter::RawParameter;
 use dcsctp_tlv::parameter::unknown_parameter::UnknownParameter;
@@ -158,20 +158,10 @@ impl ReadableTlv for ErrorCause {
 
     ghost parts = { λ t. 1 };
 
-    fn check(_strict: bool, first: u8, second: u8, value: &[u8]) -> Result<usize, ChunkParseError> {
-        ErrorCause::check_value(u16::from_be_bytes([first, second]), value)?;
-        Ok(1)
-    }
-
-    fn first_fault(
-        _strict: bool,
-        first: u8,
-        second: u8,
-        value: &[u8],
-    ) -> Option<(ChunkParseError, usize)> {
+    fn check(_strict: bool, first: u8, second: u8, value: &[u8]) -> Result<usize, Located> {
         match ErrorCause::check_value(u16::from_be_bytes([first, second]), value) {
-            Ok(()) => None,
-            Err(fault) => Some((fault, 0)),
+            Ok(()) => Ok(1),
+            Err(fault) => Err(Located::at_front(fault)),
         }
     }
 

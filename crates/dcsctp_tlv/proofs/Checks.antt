@@ -10,10 +10,10 @@ use Rattle.dcsctp_tlv.specs.Fault.{Fault, Length, Padding, Value}
 use Rattle.dcsctp_tlv.specs.Number.{AreBytes}
 use Rattle.dcsctp_tlv.specs.Count.{total}
 use Rattle.dcsctp_tlv.specs.Frame.{padding_size, round_up_to_4, Item, item_bytes, PaddingRule, AreFormed, AreItems, frame_length, BeginsWithFrame, frame_value, frame_padding, frame_rest}
-use Rattle.dcsctp_tlv.specs.Level.{Row, Level, HasMeaning, ItemsMean, MeansTrees, MeansMany, MeansCounted, HasFault, no_frame, value, padding, front_row}
+use Rattle.dcsctp_tlv.specs.Level.{Row, Level, HasMeaning, ItemsMean, MeansTrees, MeansMany, MeansCounted, HasFault, front_row}
 use Rattle.dcsctp_tlv.specs.Reading.{Answers, IsFault, Finds, error_of, ChecksExactly, ReadsExactly}
 use Rattle.dcsctp_tlv.proofs.Items.{front_item, front_length, items_before}
-use Rattle.dcsctp_tlv.proofs.Lists.{Progress, step, finish, fault}
+use Rattle.dcsctp_tlv.proofs.Lists.{Progress, step, finish}
 use Rattle.dcsctp_tlv.proofs.Laws.{LawfulRow, Lawful, front_is, rest_is, list_one, list_apart, list_same}
 
 -- ---- the check
@@ -56,20 +56,6 @@ check_step level parts bytes rest n all t c frame means accepted few =
 
 pub check_finish : {T : Type 0} (level : Level T) (parts : T → ℕ) (bytes rest : List ℕ) (n all : ℕ) → Checked level parts bytes rest n all → rest ≡ [] → MeansCounted level parts bytes n all
 check_finish level parts bytes rest n all c e = record { trees = c.trees; mean = finish level bytes c.trees rest c.progress e; item_count = c.item_count; part_count = c.part_count }
-
--- a fault of an item is the list's
-pub check_fault : {T : Type 0} (level : Level T) (bytes : List ℕ) (trees : List T) (rest : List ℕ) (e : ChunkParseError) → Progress level bytes trees rest → BeginsWithFrame rest
-    → IsFault ((front_row level rest).faults (frame_value rest)) e → IsFault (HasFault level bytes) e
-check_fault level bytes trees rest OutOfMemory p frame f = absurd f
-check_fault level bytes trees rest InvalidLength p frame f = fault level bytes trees rest Length p (value frame f)
-check_fault level bytes trees rest InvalidType p frame f = absurd f
-check_fault level bytes trees rest InvalidPadding p frame f = fault level bytes trees rest Padding p (value frame f)
-check_fault level bytes trees rest InvalidValue p frame f = fault level bytes trees rest Value p (value frame f)
-
--- so is a padding that isn't accepted
-pub check_padding : {T : Type 0} (level : Level T) (bytes : List ℕ) (trees : List T) (rest : List ℕ) (t : T) → Progress level bytes trees rest → BeginsWithFrame rest
-    → (front_row level rest).means (frame_value rest) t → level.padding (padding_size (length (frame_value rest))) (frame_padding rest) ≡ false → HasFault level bytes Padding
-check_padding level bytes trees rest t p frame means refused = fault level bytes trees rest Padding p (padding t frame means refused refl)
 
 -- ---- the build
 
@@ -169,10 +155,6 @@ no_trees level bytes trees e m = none level m.items trees (nothing_left level.pa
   none level [] [] h m = refl
   none level [] (t ∷ ts) h m = absurd m
   none level (i ∷ is) ts h m = absurd (omega (arith, h))
-
-pub check_no_frame : {T : Type 0} (level : Level T) (bytes : List ℕ) (trees : List T) (rest : List ℕ) (e : ChunkParseError) → Progress level bytes trees rest → rest ≢ [] → ¬ BeginsWithFrame rest → e ≡ InvalidLength
-    → IsFault (HasFault level bytes) e
-check_no_frame level bytes trees rest e p h none is = rw is (fault level bytes trees rest Length p (no_frame h none refl))
 
 -- as many items as trees
 pub as_many : {T : Type 0} (level : Level T) (items : List Item) (trees : List T) → ItemsMean level items trees → length items ≡ length trees

@@ -1,11 +1,7 @@
 -- A list in a value: of the code's items, seen by what they mean.
-use Rattle.std.proofs.Common.{◌≡◌, ℕ, Bool, true, inr, ◌^◌, ◌<◌, ◌≤◌, List, [], ◌∷◌, ◌++◌, length, get_or, drop, refl, sym, ap, ◌∙◌, arith, Option, Some}
+use Rattle.std.proofs.Common.{◌≡◌, ℕ, ◌^◌, ◌<◌, ◌≤◌, List, [], ◌∷◌, ◌++◌, length, get_or, drop, refl, sym, ap, ◌∙◌, arith, Option, Some}
 use Rattle.std.specs.Prelude.{map}
 use Rattle.std.proofs.lemmas.List.{length-append, length-map}
-use Rattle.dcsctp_tlv.specs.declared.error.ChunkParseError.{ChunkParseError}
-use Rattle.dcsctp_tlv.specs.declared.error.ChunkParseError.TheVariants.{InvalidLength, InvalidType, InvalidPadding, InvalidValue, OutOfMemory}
-use Rattle.dcsctp_tlv.specs.Level.{Level, HasFault, listed}
-use Rattle.dcsctp_tlv.specs.Reading.{IsFault}
 use Rattle.dcsctp_tlv.specs.Image.{solid, written, Tlv, size_of, image_of, list_image, list_size, listed_tlv, IsEncodable, IsListEncodable}
 use Rattle.dcsctp_tlv.specs.Frame.{header, frame_length}
 use Rattle.dcsctp_tlv.proofs.FieldLaws.{number16_law}
@@ -48,17 +44,6 @@ written_length t old out fits room e =
     let front = header t.first t.second t.value_size in
     ap frame_length (e ∙ sym (written_front front t.value old (omega (arith, room))))
     ∙ number16_law.back (size_of t) (written t.value (drop 4 old)) fits
-
--- ---- what a check finds
-
--- the rule holds, and the list is at fault
-pub listed_fault : {T U : Type 0} (rule : List ℕ → Bool) (place : ℕ) (level : Level U) (tree_of : List ℕ → List U → T) (value : List ℕ) (e : ChunkParseError) → rule value ≡ true
-    → IsFault (HasFault level (drop place value)) e → IsFault ((listed rule place level tree_of).faults value) e
-listed_fault rule place level tree_of value OutOfMemory h f = absurd f
-listed_fault rule place level tree_of value InvalidLength h f = inr (h, f)
-listed_fault rule place level tree_of value InvalidType h f = absurd f
-listed_fault rule place level tree_of value InvalidPadding h f = inr (h, f)
-listed_fault rule place level tree_of value InvalidValue h f = inr (h, f)
 
 -- ---- its length
 

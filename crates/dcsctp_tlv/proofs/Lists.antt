@@ -62,22 +62,11 @@ not_nil level [] e (value h _) = absurd (omega (arith, h.header))
 not_nil level [] e (padding _ h _ _ _) = absurd (omega (arith, h.header))
 not_nil level (b ∷ rest) e f = λ c. cc
 
-pub fault : {T : Type 0} (level : Level T) (bytes : List ℕ) (trees : List T) (rest : List ℕ) (e : Fault) → Progress level bytes trees rest → BeginsWithFault level rest e → HasFault level bytes e
-fault level bytes trees rest e p f = record {
-  items = p.items;
-  trees = trees;
-  rest = rest;
-  split = p.split;
-  whole = before_rest level.padding p.items rest (not_nil level rest e f) p.before;
-  mean = p.mean;
-  fault = f;
-}
-
 -- at the front of what is left, after the bytes that were gone over
 after_front : (all before left n k : ℕ) → all ≡ before + left → n ≡ (all - left) + k → n ≡ before + k
 after_front all before left n k e h = omega (arith, e, h)
 
--- the same, and where it lies
+-- what is wrong at the front of what is left is the fault, and where it lies
 pub fault_at : {T : Type 0} (level : Level T) (bytes : List ℕ) (trees : List T) (rest : List ℕ) (e : Fault) (n : ℕ) → Progress level bytes trees rest → (f : BeginsWithFault level rest e)
     → n ≡ (length bytes - length rest) + front_offset level rest e f → HasFaultAt level bytes e n
 fault_at level bytes trees rest e n p f h = (
@@ -92,6 +81,9 @@ fault_at level bytes trees rest e n p f h = (
   },
   after_front (length bytes) (length (flat_map item_bytes p.items)) (length rest) n (front_offset level rest e f) (ap length p.split ∙ length-append (flat_map item_bytes p.items) rest) h,
 )
+
+pub fault : {T : Type 0} (level : Level T) (bytes : List ℕ) (trees : List T) (rest : List ℕ) (e : Fault) → Progress level bytes trees rest → BeginsWithFault level rest e → HasFault level bytes e
+fault level bytes trees rest e p f = (fault_at level bytes trees rest e _ p f refl).0
 
 -- what is_empty says
 pub is_nil : (xs : List ℕ) (b : Bool) → b ≡ (length xs == 0) → b ≡ true → xs ≡ []

@@ -3,9 +3,10 @@ use Rattle.std.proofs.Common.{◌≡◌, Bool, true, false, cond, ℕ, List, Res
 use Rattle.std.specs.Prelude.{IsOk}
 use Rattle.dcsctp_tlv.specs.declared.error.ChunkParseError.{ChunkParseError}
 use Rattle.dcsctp_tlv.specs.declared.error.ChunkParseError.TheVariants.{InvalidLength, InvalidType, InvalidPadding, InvalidValue, OutOfMemory}
+use Rattle.dcsctp_tlv.specs.declared.error.Located.{Located}
 use Rattle.dcsctp_tlv.specs.Fault.{Fault}
-use Rattle.dcsctp_tlv.specs.Level.{Row, map_ok, as_row, MeansParts}
-use Rattle.dcsctp_tlv.specs.Reading.{Finds, Passes}
+use Rattle.dcsctp_tlv.specs.Level.{Row, map_ok, as_row, FaultsAt, MeansParts}
+use Rattle.dcsctp_tlv.specs.Reading.{Finds, FindsAt, Passes}
 
 -- ---- a check of one kind, at the level of its table
 
@@ -32,7 +33,7 @@ ok_not_refused true r e ok = absurd (let h : false ≡ true = ok in cc)
 
 -- ---- a check of a kind with a list, at the level of its table
 
-pub finds_as : {A B : Type 0} (f : A → B) (row : Row A) (parts : A → ℕ) (all : B → ℕ) → ((x : A) → all (f x) ≡ parts x) → (value : List ℕ) (r : Result ℕ ChunkParseError)
-    → Finds r (MeansParts parts row value) (row.faults value) → Finds r (MeansParts all (as_row f row) value) ((as_row f row).faults value)
-finds_as f row parts all same value (Ok n) p = (f p.0, (p.0, p.1, refl), p.2 ∙ sym (same p.0))
-finds_as f row parts all same value (Err e) p = p
+pub finds_as : {A B : Type 0} (f : A → B) (row : Row A) (parts : A → ℕ) (all : B → ℕ) → ((x : A) → all (f x) ≡ parts x) → (v : List ℕ) (r : Result ℕ Located)
+    → FindsAt r (MeansParts parts row v) (FaultsAt row v) → FindsAt r (MeansParts all (as_row f row) v) (FaultsAt (as_row f row) v)
+finds_as f row parts all same v (Ok n) p = (f p.0, (p.0, p.1, refl), p.2 ∙ sym (same p.0))
+finds_as f row parts all same v (Err l) p = p

@@ -1,7 +1,8 @@
 -- What a reader answers, beside what a table of RFC 9260 section 3.2, 3.2.1 or 3.3.10 says of the
 -- bytes.
-use Rattle.std.specs.Prelude.{◌≡◌, ◌↔◌, ◌⊎◌, ℕ, List, Option, Some, None, Result, Ok, Err, IsOk, IfOk, IsErrOf, length}
+use Rattle.std.specs.Prelude.{◌≡◌, ◌↔◌, ◌⊎◌, ℕ, List, Result, Ok, Err, IsOk, IfOk, IsErrOf, length}
 use Rattle.dcsctp_tlv.specs.declared.error.ChunkParseError.{ChunkParseError}
+use Rattle.dcsctp_tlv.specs.declared.error.Located.{Located}
 use Rattle.dcsctp_tlv.specs.declared.error.ChunkParseError.TheVariants.{InvalidLength, InvalidType, InvalidPadding, InvalidValue, OutOfMemory}
 use Rattle.dcsctp_tlv.specs.Level.{Level, MeansTrees, MeansSome, HasFault}
 use Rattle.dcsctp_tlv.specs.Fault.{Fault, Length, Padding, Value}
@@ -58,10 +59,11 @@ abbrev pub Finds : {X : Type 0} → Result X ChunkParseError → (X → Type 0)
 Finds (Ok x) found faults = found x
 Finds (Err e) found faults = IsFault faults e
 
--- a search for the first fault finds none where something is meant, else it and its place
-abbrev pub Locates : Option (ChunkParseError × ℕ) → Type 0 → (Fault → ℕ → Type 0) → Type 0
-Locates None means faults_at = means
-Locates (Some found) means faults_at = IsFault (λ e. faults_at e found.1) found.0
+-- the same where the fault has a place
+abbrev pub FindsAt : {X : Type 0} → Result X Located → (X → Type 0)
+    → (Fault → ℕ → Type 0) → Type 0
+FindsAt (Ok x) found faults_at = found x
+FindsAt (Err l) found faults_at = IsFault (λ e. faults_at e l.offset) l.fault
 
 -- the check of a kind whose value is read at fixed places passes exactly where the table reads a
 -- tree

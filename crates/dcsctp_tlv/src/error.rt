@@ -29,6 +29,36 @@ pub enum ChunkParseError {
     OutOfMemory,
 }
 
+/// The first fault of the bytes, and where it lies.
+#[derive(Drop)]
+pub struct Located {
+    // A number first: it then shares its place in a `Result` with the number of a good answer.
+    /// How many bytes stand ahead of it.
+    pub offset: usize,
+    /// What is wrong; never that memory ran out.
+    pub fault: ChunkParseError,
+}
+
+impl Located {
+    /// A fault of an item as a whole, which is told by the item's first byte.
+    // A call on the way of a fault alone, so that no good item pays for it.
+    #[cold]
+    #[inline(never)]
+    pub fn at_front(fault: ChunkParseError) -> Located
+        ensures { result ≡ record { fault = fault; offset = 0 } }
+    {
+        Located { fault, offset: 0 }
+    }
+}
+
+impl From<Located> for ChunkParseError {
+    ghost from_gives = { λ found e. e ≡ found.fault };
+
+    fn from(found: Located) -> ChunkParseError {
+        found.fault
+    }
+}
+
 impl From<AllocError> for ChunkParseError {
     ghost from_gives = { λ _ e. e ≡ OutOfMemory };
 

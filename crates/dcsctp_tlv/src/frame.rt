@@ -81,6 +81,20 @@ pub fn first_nonzero(bytes: &[u8]) -> usize
     bytes.iter().take_while(|byte| **byte == 0).count()
 }
 
+/// How many bytes of the frame at the front stand ahead of the first byte of its padding that isn't
+/// zero, or else of the first that is missing.
+// Counted on the way of a fault alone, so that no good item pays for it.
+#[cold]
+#[inline(never)]
+pub fn padding_fault(bytes: &[u8]) -> usize
+    requires { BeginsWithFrame bytes.now }
+    ensures place { result ≡ frame_length bytes.now + first_nonzero_byte (frame_padding bytes.now) }
+    ensures within { result ≤ length bytes.now }
+{
+    let (_, there) = padding_parts(bytes);
+    frame_length(bytes) + first_nonzero(there)
+}
+
 /// Writes a header into the first four bytes; the bytes after them stay.
 pub fn put_header(first: u8, second: u8, value_size: usize, output: &mut [u8])
     requires encodable { 4 + value_size < 2 ^ 16 }

@@ -32,7 +32,7 @@ ghost use Rattle.dcsctp_tlv.specs.Reading.{Answers, Finds, ChecksExactly, ReadsE
 ghost use Rattle.dcsctp_tlv.specs.Parameter as parameter;
 ghost use Rattle.dcsctp_tlv.specs.Parameter.{ParameterTree, parameters, TakesNoMemory, view, views};
 
-use crate::error::ChunkParseError;
+use crate::error::{ChunkParseError, Located};
 use crate::frame::are_zeros;
 pub use crate::list::{
     list_encodable as parameters_encodable, list_size as parameters_serialized_size,
@@ -237,20 +237,10 @@ impl ReadableTlv for Parameter {
 
     ghost parts = { λ t. 1 };
 
-    fn check(_strict: bool, first: u8, second: u8, value: &[u8]) -> Result<usize, ChunkParseError> {
-        Parameter::check_value(u16::from_be_bytes([first, second]), value)?;
-        Ok(1)
-    }
-
-    fn first_fault(
-        _strict: bool,
-        first: u8,
-        second: u8,
-        value: &[u8],
-    ) -> Option<(ChunkParseError, usize)> {
+    fn check(_strict: bool, first: u8, second: u8, value: &[u8]) -> Result<usize, Located> {
         match Parameter::check_value(u16::from_be_bytes([first, second]), value) {
-            Ok(()) => None,
-            Err(fault) => Some((fault, 0)),
+            Ok(()) => Ok(1),
+            Err(fault) => Err(Located::at_front(fault)),
         }
     }
 

@@ -1,13 +1,13 @@
 //! Reading a list of items in two passes: a check that takes no memory, and a build that tests
 //! nothing again. For every level.
 
-ghost use Rattle.std.specs.Prelude.{◌≡◌, ◌≢◌, ◌≤◌, ◌<◌, ◌+◌, ◌*◌, ℕ, Bool, List, [], true, length, drop, map, IsOk, IfOk, IsErrOf, IfSome, vec_len, vec_capacity};
-ghost use Rattle.dcsctp_tlv.specs.Frame.{PaddingRule, lenient, Item, AreItems, BeginsWithFrame, frame_value, frame_padding, padding_size};
-ghost use Rattle.dcsctp_tlv.specs.Level.{Level, HasMeaning, MeansParts, Grows, FaultsAt, MeansTrees, MeansSome, MeansMany, MeansCounted, HasFault, HasFaultAt, front_row, BeginsWithFault, front_offset};
-ghost use Rattle.dcsctp_tlv.specs.Reading.{Answers, Finds, Locates};
+ghost use Rattle.std.specs.Prelude.{◌≡◌, ◌≢◌, ◌≤◌, ◌<◌, ◌+◌, ◌*◌, ℕ, Bool, List, [], length, drop, map, IsOk, IfOk, IfErr, IsErrOf, vec_len, vec_capacity};
+ghost use Rattle.dcsctp_tlv.specs.Frame.{PaddingRule, lenient, Item, AreItems};
+ghost use Rattle.dcsctp_tlv.specs.Level.{Level, HasMeaning, MeansParts, Grows, FaultsAt, MeansTrees, MeansSome, MeansMany, MeansCounted, HasFault, HasFaultAt};
+ghost use Rattle.dcsctp_tlv.specs.Reading.{Answers, FindsAt};
 
-use crate::error::ChunkParseError;
-use crate::frame::{TLV_HEADER_SIZE, first_nonzero, frame_parts, padding_parts, split_frame};
+use crate::error::{ChunkParseError, Located};
+use crate::frame::{TLV_HEADER_SIZE, frame_parts, padding_fault, padding_parts, split_frame};
 use std::alloc::{AllocError, Global};
 
 /// A chunk, a parameter or an error cause that is checked, and then built from its item.
@@ -25,23 +25,14 @@ pub trait ReadableTlv: Sized + Drop {
     ghost parts: { Tree → ℕ };
 
     /// The number of parts of what an item's value means, each of which has four bytes of its own;
-    /// or its fault. It takes no memory.
-    fn check(strict: bool, first: u8, second: u8, value: &[u8]) -> Result<usize, ChunkParseError>
-        ensures found { Finds result (MeansParts parts ((level strict).row first second) value.now)
-            (((level strict).row first second).faults value.now) }
-        ensures few { IfOk result (λ n. 4 * n ≤ 4 + length value.now) };
-
-    /// The fault of an item's value, and how many bytes stand between the item's first byte and the
-    /// fault; nothing where the value has a meaning. It takes no memory.
-    fn first_fault(
-        strict: bool,
-        first: u8,
-        second: u8,
-        value: &[u8],
-    ) -> Option<(ChunkParseError, usize)>
-        ensures located { Locates result (HasMeaning ((level strict).row first second) value.now)
+    /// or its fault, and how many bytes stand between the item's first byte and the fault. It takes
+    /// no memory.
+    fn check(strict: bool, first: u8, second: u8, value: &[u8]) -> Result<usize, Located>
+        ensures found { FindsAt result
+            (MeansParts parts ((level strict).row first second) value.now)
             (FaultsAt ((level strict).row first second) value.now) }
-        ensures within { IfSome result (λ found. found.1 ≤ 4 + length value.now) };
+        ensures few { IfOk result (λ n. 4 * n ≤ 4 + length value.now) }
+        ensures within { IfErr result (λ found. found.offset ≤ 4 + length value.now) };
 
     /// Builds what an item's value means at the end of a list that has room for it.
     fn read_onto(
@@ -63,106 +54,77 @@ pub trait ReadableTlv: Sized + Drop {
         ensures { result ≡ (level strict).padding size there.now };
 }
 
-/// The number of items, and that of all parts; or the first fault from the left. It takes no
-/// memory.
+/// The number of items, and that of all parts; or the first fault from the left, and how many bytes
+/// stand ahead of it. It takes no memory.
 ///
 /// Where it is strict it also looks at the padding of each item, after its value.
-pub fn list_check<T: ReadableTlv>(
-    strict: bool,
-    bytes: &[u8],
-) -> Result<(usize, usize), ChunkParseError>
-    ensures found { Finds result (λ n. MeansCounted (T.level strict) T.parts bytes.now n.0 n.1)
-        (HasFault (T.level strict) bytes.now) }
+///
+/// An item whose frame or value is at fault is told by its first byte; the innermost item, where it
+/// is an item of a list in a value. Of padding the first byte that isn't zero is told, or the place
+/// of the first that is missing.
+pub fn list_check<T: ReadableTlv>(strict: bool, bytes: &[u8]) -> Result<(usize, usize), Located>
+    ensures found { FindsAt result
+        (λ n. MeansCounted (T.level strict) T.parts bytes.now n.0 n.1)
+        (HasFaultAt (T.level strict) bytes.now) }
     ensures few { IfOk result (λ n. (4 * n.0 ≤ length bytes.now) × (4 * n.1 ≤ length bytes.now)) }
+    ensures within { IfErr result (λ found. found.offset ≤ length bytes.now) }
 {
     let mut items: usize = 0;
     let mut parts: usize = 0;
     let mut rest = bytes;
     while !rest.is_empty() {
-        let (value, after) = split_frame(rest)?;
-        let found = T::check(strict, rest[0], rest[1], value)?;
+        let ahead = bytes.len() - rest.len();
+        let Ok((value, after)) = split_frame(rest) else {
+            return Err(Located {
+                fault: ChunkParseError::InvalidLength,
+                offset: ahead,
+            });
+        };
+        match T::check(strict, rest[0], rest[1], value) {
+            Ok(found) => parts += found,
+            Err(found) => {
+                return Err(Located {
+                    fault: found.fault,
+                    offset: ahead + found.offset,
+                });
+            }
+        }
         let (size, there) = padding_parts(rest);
         if !T::accepts_padding(strict, size, there) {
-            return Err(ChunkParseError::InvalidPadding);
+            return Err(Located {
+                fault: ChunkParseError::InvalidPadding,
+                offset: ahead + padding_fault(rest),
+            });
         }
         items += 1;
-        parts += found;
         rest = after;
     }
     Ok((items, parts))
 }
 
-/// The first fault from the left, and how many bytes stand ahead of it; nothing where the bytes mean
-/// a list. It takes no memory.
-///
-/// An item whose frame or value is at fault is told by its first byte; the innermost item, where it
-/// is an item of a list in a value. Of padding the first byte that isn't zero is told, or the place
-/// of the first that is missing.
-pub fn list_first_fault<T: ReadableTlv>(
-    strict: bool,
-    bytes: &[u8],
-) -> Option<(ChunkParseError, usize)>
-    ensures located { Locates result (MeansSome (T.level strict) bytes.now)
-        (HasFaultAt (T.level strict) bytes.now) }
-    ensures within { IfSome result (λ found. found.1 ≤ length bytes.now) }
-{
-    let mut rest = bytes;
-    while !rest.is_empty() {
-        if let Some((fault, within)) = front_fault::<T>(strict, rest) {
-            let ahead = bytes.len() - rest.len();
-            return Some((fault, ahead + within));
-        }
-        let (_, after) = frame_parts(rest);
-        rest = after;
-    }
-    None
-}
-
-/// What is wrong at the front of the bytes, and how far from their first byte it lies; nothing where
-/// they begin with an item that means a tree.
-fn front_fault<T: ReadableTlv>(strict: bool, bytes: &[u8]) -> Option<(ChunkParseError, usize)>
-    requires { bytes.now ≢ [] }
-    ensures located { Locates result
-        (BeginsWithFrame bytes.now
-        × HasMeaning (front_row (T.level strict) bytes.now) (frame_value bytes.now)
-        × ((T.level strict).padding (padding_size (length (frame_value bytes.now)))
-        (frame_padding bytes.now) ≡ true))
-        (λ e n. (fault : BeginsWithFault (T.level strict) bytes.now e)
-        × (n ≡ front_offset (T.level strict) bytes.now e fault)) }
-    ensures within { IfSome result (λ found. found.1 ≤ length bytes.now) }
-{
-    let Ok((value, _)) = split_frame(bytes) else {
-        return Some((ChunkParseError::InvalidLength, 0));
-    };
-    if let Some(found) = T::first_fault(strict, bytes[0], bytes[1], value) {
-        return Some(found);
-    }
-    let (size, there) = padding_parts(bytes);
-    if T::accepts_padding(strict, size, there) {
-        return None;
-    }
-    let zeros = first_nonzero(there);
-    Some((
-        ChunkParseError::InvalidPadding,
-        TLV_HEADER_SIZE + value.len() + zeros,
-    ))
-}
-
-/// The first fault of a value that is a list after so many bytes, and how many bytes stand between
-/// the item's first byte and the fault; nothing where these bytes mean a list.
-pub fn listed_first_fault<T: ReadableTlv>(
+/// The number of parts of an item whose value is a list after so many bytes: the item and the items
+/// of the list; or the first fault of these, and how many bytes stand between the item's first byte
+/// and the fault. It takes no memory.
+pub fn listed_check<T: ReadableTlv>(
     strict: bool,
     value: &[u8],
     place: usize,
-) -> Option<(ChunkParseError, usize)>
+) -> Result<usize, Located>
     requires { place ≤ length value.now }
-    ensures located { Locates result (MeansSome (T.level strict) (drop place value.now))
+    ensures found { FindsAt result
+        (λ n. (k : ℕ) × MeansMany (T.level strict) (drop place value.now) k × (n ≡ 1 + k))
         (λ e n. (k : ℕ) × HasFaultAt (T.level strict) (drop place value.now) e k
         × (n ≡ 4 + (place + k))) }
-    ensures within { IfSome result (λ found. found.1 ≤ 4 + length value.now) }
+    ensures few { IfOk result (λ n. 4 * n ≤ 4 + length value.now) }
+    ensures within { IfErr result (λ found. found.offset ≤ 4 + length value.now) }
 {
-    let (fault, within) = list_first_fault::<T>(strict, &value[place..])?;
-    Some((fault, TLV_HEADER_SIZE + (place + within)))
+    match list_check::<T>(strict, &value[place..]) {
+        Ok((count, _)) => Ok(1 + count),
+        Err(found) => Err(Located {
+            fault: found.fault,
+            offset: TLV_HEADER_SIZE + (place + found.offset),
+        }),
+    }
 }
 
 /// The number of items, where the bytes are known to be items.

@@ -4,15 +4,15 @@ use Rattle.std.specs.Prelude.{◌↔◌, IsOk, IsErrOf}
 use Rattle.dcsctp_tlv.specs.declared.error.ChunkParseError.TheVariants.{InvalidLength, InvalidType, InvalidPadding, InvalidValue, OutOfMemory}
 use Rattle.dcsctp_tlv.specs.Fault.{Length, Padding, Value}
 use Rattle.dcsctp_tlv.specs.Number.{AreBytes}
-use Rattle.dcsctp_tlv.specs.Level.{MeansTrees}
+use Rattle.dcsctp_tlv.specs.Level.{MeansTrees, MeansCounted}
 use Rattle.dcsctp_tlv.proofs.Checks.{error_one}
 use Rattle.dcsctp_wire.specs.declared.packet.sctp_packet.PacketParseError.{PacketParseError}
 use Rattle.dcsctp_wire.specs.declared.packet.sctp_packet.PacketParseError.TheVariants.{InvalidPacketSize, InvalidChecksum, InvalidChunkSize, FailedParseChunk}
 use Rattle.dcsctp_wire.specs.declared.packet.sctp_packet.ChecksumPolicy.{ChecksumPolicy}
-use Rattle.dcsctp_wire.specs.Chunk.{ChunkTree, chunks}
+use Rattle.dcsctp_wire.specs.Chunk.{ChunkTree, chunks, parts as chunk_parts}
 use Rattle.dcsctp_wire.specs.Packet.{PacketTree, PacketFault, Size, Checksum, Chunk, IsOpened, body, packet_with, Answer, Reads}
 use Rattle.dcsctp_wire.specs.Account.{node_count}
-use Rattle.dcsctp_wire.specs.Exact.{packet_error_of, IsPacket, ChecksPacket, ReadsPacket, FindsPacket}
+use Rattle.dcsctp_wire.specs.Exact.{packet_error_of, IsPacket, ChecksPacket, ReadsPacket}
 use Rattle.dcsctp_wire.proofs.Packets.{answer_one}
 
 -- errors tell faults apart
@@ -27,7 +27,8 @@ packet_error_one (Chunk x) Size h = absurd cc
 packet_error_one (Chunk x) Checksum h = absurd cc
 packet_error_one (Chunk x) (Chunk y) h = ap Chunk (error_one x y cc)
 
-no_lack : (e : PacketFault) → packet_error_of e ≡ FailedParseChunk OutOfMemory → ⊥
+-- and none is that memory ran out
+pub no_lack : (e : PacketFault) → packet_error_of e ≡ FailedParseChunk OutOfMemory → ⊥
 no_lack Size h = cc
 no_lack Checksum h = cc
 no_lack (Chunk Length) h = cc
@@ -43,25 +44,25 @@ neither d (Err y) is (inr h) = no_lack d cc
 pub packet_is : (bytes : List ℕ) (word : ℕ) (policy : ChecksumPolicy) (ts : List ChunkTree) → IsOpened bytes word policy → MeansTrees (chunks policy.strict_padding) (body bytes) ts → Answer bytes word policy (Ok (packet_with bytes ts))
 packet_is bytes word policy ts opened m = (opened, record { source = refl; destination = refl; tag = refl; checksum = refl; chunks = m })
 
--- the fault that a check tells
-found_told : (bytes : List ℕ) (word : ℕ) (policy : ChecksumPolicy) (y : PacketParseError) → FindsPacket bytes word policy (Err y) → (d : PacketFault) × Answer bytes word policy (Err d) × (y ≡ packet_error_of d)
-found_told bytes word policy InvalidPacketSize f = (Size, f, refl)
-found_told bytes word policy InvalidChecksum f = (Checksum, f, refl)
-found_told bytes word policy InvalidChunkSize f = absurd f
-found_told bytes word policy (FailedParseChunk InvalidLength) f = (Chunk Length, f, refl)
-found_told bytes word policy (FailedParseChunk InvalidPadding) f = (Chunk Padding, f, refl)
-found_told bytes word policy (FailedParseChunk InvalidValue) f = (Chunk Value, f, refl)
-found_told bytes word policy (FailedParseChunk InvalidType) f = absurd f.1
-found_told bytes word policy (FailedParseChunk OutOfMemory) f = absurd f.1
+-- what a reader answers where there is a fault
+pub reads_told : {X : Type 0} (view : X → PacketTree) (bytes : List ℕ) (word : ℕ) (policy : ChecksumPolicy) (d : PacketFault) → Answer bytes word policy (Err d) → (r : Result X PacketParseError) → r ≡ Err (packet_error_of d)
+    → Reads view bytes word policy r
+reads_told {X} view bytes word policy d f r is = subst (Reads view bytes word policy) (sym is) (told d f) where
+  told : (d : PacketFault) → Answer bytes word policy (Err d) → Reads view bytes word policy (Err (packet_error_of d))
+  told Size f = f
+  told Checksum f = f
+  told (Chunk Length) f = f
+  told (Chunk Padding) f = f
+  told (Chunk Value) f = f
 
 module _ (bytes : List ℕ) (word : ℕ) (policy : ChecksumPolicy) (fits : AreBytes bytes) where
   one_packet : (p q : PacketTree) → Answer bytes word policy (Ok p) → Answer bytes word policy (Ok q) → p ≡ q
   one_packet p q m n = let h : Ok p ≡ Ok q = answer_one bytes word policy (Ok p) (Ok q) fits m n in cc
 
-  not_both : (p : PacketTree) (e : PacketFault) → Answer bytes word policy (Ok p) → Answer bytes word policy (Err e) → ⊥
+  pub not_both : (p : PacketTree) (e : PacketFault) → Answer bytes word policy (Ok p) → Answer bytes word policy (Err e) → ⊥
   not_both p e m f = let h : Ok p ≡ Err e = answer_one bytes word policy (Ok p) (Err e) fits m f in cc
 
-  one_fault : (d e : PacketFault) → Answer bytes word policy (Err d) → Answer bytes word policy (Err e) → d ≡ e
+  pub one_fault : (d e : PacketFault) → Answer bytes word policy (Err d) → Answer bytes word policy (Err e) → d ≡ e
   one_fault d e f g = let h : Err d ≡ Err e = answer_one bytes word policy (Err d) (Err e) fits f g in cc
 
   -- the fault that is told is the one that there is
@@ -77,25 +78,23 @@ module _ (bytes : List ℕ) (word : ℕ) (policy : ChecksumPolicy) (fits : AreBy
 
   -- ---- the check
 
-  pub check_good : (n all : ℕ) → FindsPacket bytes word policy (Ok (n, all)) → ChecksPacket bytes word policy (Ok all)
-  check_good n all f =
-      let p = packet_with bytes f.1.trees in
-      let m = packet_is bytes word policy f.1.trees f.0 f.1.mean in
+  pub check_good : (n all : ℕ) → IsOpened bytes word policy → MeansCounted (chunks policy.strict_padding) chunk_parts (body bytes) n all → ChecksPacket bytes word policy (Ok all)
+  check_good n all opened f =
+      let p = packet_with bytes f.trees in
+      let m = packet_is bytes word policy f.trees opened f.mean in
       record {
         good = λ k. (
-          (λ h. (p, m, (let e : k ≡ all = cc in e ∙ f.1.part_count))),
-          (λ w. ap (λ (x : ℕ). Ok x) (f.1.part_count ∙ ap (λ (q : PacketTree). node_count q.meaning) (one_packet p w.0 m w.1) ∙ sym w.2)),
+          (λ h. (p, m, (let e : k ≡ all = cc in e ∙ f.part_count))),
+          (λ w. ap (λ (x : ℕ). Ok x) (f.part_count ∙ ap (λ (q : PacketTree). node_count q.meaning) (one_packet p w.0 m w.1) ∙ sym w.2)),
         );
         faulty = none_faulty (Ok all) p m (λ e h. cc);
       }
 
-  pub check_fault : (y : PacketParseError) → FindsPacket bytes word policy (Err y) → ChecksPacket bytes word policy (Err y)
-  check_fault y f =
-      let told = found_told bytes word policy y f in
-      record {
-        good = λ k. ((λ h. absurd cc), (λ w. absurd (not_both w.0 told.0 w.1 told.1)));
-        faulty = told_faulty (Err y) told.0 told.1 (ap (λ (x : PacketParseError). Err x) told.2);
-      }
+  pub check_fault : (d : PacketFault) → Answer bytes word policy (Err d) → (y : PacketParseError) → y ≡ packet_error_of d → ChecksPacket bytes word policy (Err y)
+  check_fault d f y is = record {
+    good = λ k. ((λ h. absurd cc), (λ w. absurd (not_both w.0 d w.1 f)));
+    faulty = told_faulty (Err y) d f (ap (λ (x : PacketParseError). Err x) is);
+  }
 
   -- ---- the reader
 
@@ -119,7 +118,7 @@ module _ (bytes : List ℕ) (word : ℕ) (policy : ChecksumPolicy) (fits : AreBy
   read_exactly view (Err (FailedParseChunk InvalidLength)) f memory = read_told view (Chunk Length) f (Err (FailedParseChunk InvalidLength)) refl
   read_exactly view (Err (FailedParseChunk InvalidPadding)) f memory = read_told view (Chunk Padding) f (Err (FailedParseChunk InvalidPadding)) refl
   read_exactly view (Err (FailedParseChunk InvalidValue)) f memory = read_told view (Chunk Value) f (Err (FailedParseChunk InvalidValue)) refl
-  read_exactly view (Err (FailedParseChunk InvalidType)) f memory = absurd f
+  read_exactly view (Err (FailedParseChunk InvalidType)) f memory = absurd f.1
   read_exactly {X} view (Err (FailedParseChunk OutOfMemory)) f memory =
       let p = memory refl in
       record {

@@ -1,26 +1,15 @@
--- Each input has one answer; and what the code answers where a chunk is at fault.
+-- Each input has one answer.
 use Rattle.std.proofs.Common.{◌≡◌, ◌≢◌, ℕ, ◌+◌, List, length, Result, Ok, Err, refl, sym, ap, ◌∙◌, arith, ◌⊎◌, inl, inr, Bool, true, false}
 use Rattle.std.proofs.lemmas.Bool.{cases_lt}
 use Rattle.std.proofs.lemmas.Bool.Decides.{eqb_tells}
 use Rattle.std.proofs.lemmas.List.{get_or-drop}
-use Rattle.dcsctp_tlv.specs.declared.error.ChunkParseError.{ChunkParseError}
-use Rattle.dcsctp_tlv.specs.declared.error.ChunkParseError.TheVariants.{InvalidLength, InvalidType, InvalidPadding, InvalidValue, OutOfMemory}
 use Rattle.dcsctp_tlv.specs.Fault.{Fault}
 use Rattle.dcsctp_tlv.specs.Number.{AreBytes}
-use Rattle.dcsctp_tlv.specs.Level.{HasFault}
-use Rattle.dcsctp_tlv.specs.Reading.{TellsFault}
 use Rattle.dcsctp_tlv.proofs.Laws.{list_one, list_apart, list_same, list_some}
 use Rattle.dcsctp_wire.specs.declared.packet.sctp_packet.ChecksumPolicy.{ChecksumPolicy}
 use Rattle.dcsctp_wire.specs.Chunk.{chunks}
-use Rattle.dcsctp_wire.specs.Packet.{PacketTree, HasPacketSize, IsAccepted, disabled, alternate, equal, checksum_field, body, IsOpened, MeansPacket, packet_with, PacketFault, Size, Checksum, Chunk, Answer, ReadsFault}
+use Rattle.dcsctp_wire.specs.Packet.{PacketTree, HasPacketSize, IsAccepted, disabled, alternate, equal, checksum_field, body, MeansPacket, packet_with, PacketFault, Size, Checksum, Chunk, Answer}
 use Rattle.dcsctp_wire.proofs.ChunkRows.{chunks_lawful}
-
-pub reads_fault : (bytes : List ℕ) (word : ℕ) (policy : ChecksumPolicy) (e : ChunkParseError) → IsOpened bytes word policy → TellsFault (HasFault (chunks policy.strict_padding) (body bytes)) e → ReadsFault bytes word policy e
-reads_fault bytes word policy InvalidLength opened fault = (opened, fault)
-reads_fault bytes word policy InvalidPadding opened fault = (opened, fault)
-reads_fault bytes word policy InvalidValue opened fault = (opened, fault)
-reads_fault bytes word policy InvalidType opened fault = absurd fault
-reads_fault bytes word policy OutOfMemory opened fault = opened
 
 -- ---- one answer
 

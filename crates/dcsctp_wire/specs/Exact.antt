@@ -2,13 +2,11 @@
 -- answer.
 use Rattle.std.specs.Prelude.{◌≡◌, ◌↔◌, ◌⊎◌, ℕ, List, Result, Ok, Err, IsOk, IfOk, IsErrOf}
 use Rattle.dcsctp_tlv.specs.declared.error.ChunkParseError.TheVariants.{OutOfMemory}
-use Rattle.dcsctp_tlv.specs.Level.{MeansCounted, HasFault}
-use Rattle.dcsctp_tlv.specs.Reading.{IsFault, error_of}
+use Rattle.dcsctp_tlv.specs.Reading.{error_of}
 use Rattle.dcsctp_wire.specs.declared.packet.sctp_packet.PacketParseError.{PacketParseError}
-use Rattle.dcsctp_wire.specs.declared.packet.sctp_packet.PacketParseError.TheVariants.{InvalidPacketSize, InvalidChecksum, InvalidChunkSize, FailedParseChunk}
+use Rattle.dcsctp_wire.specs.declared.packet.sctp_packet.PacketParseError.TheVariants.{InvalidPacketSize, InvalidChecksum, FailedParseChunk}
 use Rattle.dcsctp_wire.specs.declared.packet.sctp_packet.ChecksumPolicy.{ChecksumPolicy}
-use Rattle.dcsctp_wire.specs.Chunk.{chunks, parts as chunk_parts}
-use Rattle.dcsctp_wire.specs.Packet.{PacketTree, PacketFault, Size, Checksum, Chunk, IsOpened, body, Answer}
+use Rattle.dcsctp_wire.specs.Packet.{PacketTree, PacketFault, Size, Checksum, Chunk, Answer}
 use Rattle.dcsctp_wire.specs.Account.{node_count}
 
 -- the error that tells a packet's fault
@@ -39,15 +37,3 @@ pub record ReadsPacket {X : Type 0} (view : X → PacketTree) (bytes : List ℕ)
   pub one : (p : PacketTree) → Answer bytes word policy (Ok p) → IfOk result (λ x. view x ≡ p)
   pub faulty : (e : PacketFault) → IsErrOf result (packet_error_of e)
       ↔ Answer bytes word policy (Err e)
-
--- What a check finds, without a law of it: its numbers are those of the chunks and of all parts.
-abbrev pub FindsPacket : List ℕ → ℕ → ChecksumPolicy → Result (ℕ × ℕ) PacketParseError → Type 0
-FindsPacket bytes word policy (Ok n) =
-    IsOpened bytes word policy
-    × MeansCounted (chunks policy.strict_padding) chunk_parts (body bytes) n.0 n.1
-FindsPacket bytes word policy (Err InvalidPacketSize) = Answer bytes word policy (Err Size)
-FindsPacket bytes word policy (Err InvalidChecksum) = Answer bytes word policy (Err Checksum)
-FindsPacket bytes word policy (Err InvalidChunkSize) = ⊥
-FindsPacket bytes word policy (Err (FailedParseChunk e)) =
-    IsOpened bytes word policy
-    × IsFault (HasFault (chunks policy.strict_padding) (body bytes)) e

@@ -3,11 +3,10 @@
 --
 --   | source port u16 | destination port u16 | verification tag u32 | checksum u32 | chunks .. |
 use Rattle.std.specs.Prelude.{◌≡◌, ◌≢◌, ℕ, ◌≤◌, Bool, List, Result, Ok, Err, true, length, drop}
-use Rattle.dcsctp_tlv.specs.declared.error.ChunkParseError.{ChunkParseError}
-use Rattle.dcsctp_tlv.specs.declared.error.ChunkParseError.TheVariants as chunk_errors
-use Rattle.dcsctp_tlv.specs.Fault.{Fault, Length, Padding, Value}
+use Rattle.dcsctp_tlv.specs.Fault.{Fault}
 use Rattle.dcsctp_tlv.specs.Number.{number16, number32}
 use Rattle.dcsctp_tlv.specs.Level.{MeansTrees, HasFault}
+use Rattle.dcsctp_tlv.specs.Reading.{TellsFault}
 use Rattle.dcsctp_wire.specs.declared.packet.sctp_packet.PacketParseError.{PacketParseError}
 use Rattle.dcsctp_wire.specs.declared.packet.sctp_packet.PacketParseError.TheVariants.{InvalidPacketSize, InvalidChecksum, InvalidChunkSize, FailedParseChunk}
 use Rattle.dcsctp_wire.specs.declared.packet.sctp_packet.ChecksumPolicy.{ChecksumPolicy}
@@ -95,25 +94,17 @@ Answer bytes word policy (Err (Chunk e)) =
 
 -- ---- what the code answers
 
--- running out of memory comes only once size and checksum are accepted
-abbrev pub ReadsFault : List ℕ → ℕ → ChecksumPolicy → ChunkParseError → Type 0
-ReadsFault bytes word policy chunk_errors.InvalidLength =
-    Answer bytes word policy (Err (Chunk Length))
-ReadsFault bytes word policy chunk_errors.InvalidPadding =
-    Answer bytes word policy (Err (Chunk Padding))
-ReadsFault bytes word policy chunk_errors.InvalidValue =
-    Answer bytes word policy (Err (Chunk Value))
-ReadsFault bytes word policy chunk_errors.InvalidType = ⊥
-ReadsFault bytes word policy chunk_errors.OutOfMemory = IsOpened bytes word policy
-
--- want of memory aside, what was read is the answer
+-- Want of memory aside, what was read is the answer. It comes only once size and checksum are
+-- accepted.
 abbrev pub Reads : {X : Type 0} → (X → PacketTree) → List ℕ → ℕ → ChecksumPolicy
     → Result X PacketParseError → Type 0
 Reads view bytes word policy (Ok x) = Answer bytes word policy (Ok (view x))
 Reads view bytes word policy (Err InvalidPacketSize) = Answer bytes word policy (Err Size)
 Reads view bytes word policy (Err InvalidChecksum) = Answer bytes word policy (Err Checksum)
 Reads view bytes word policy (Err InvalidChunkSize) = ⊥
-Reads view bytes word policy (Err (FailedParseChunk e)) = ReadsFault bytes word policy e
+Reads view bytes word policy (Err (FailedParseChunk e)) =
+    IsOpened bytes word policy
+    × TellsFault (HasFault (chunks policy.strict_padding) (body bytes)) e
 
 -- a packet of the code, without where it lies in memory
 abbrev pub meaning_view : SctpPacket → Meaning

@@ -1,10 +1,10 @@
 -- Where the fault of a packet lies (RFC 9260 section 3): how many bytes stand ahead of it.
-use Rattle.std.specs.Prelude.{◌≡◌, ◌↔◌, ℕ, ◌+◌, List, Option, Some, Err, IsNone, length, nat_lt, if◌then◌else◌}
-use Rattle.dcsctp_tlv.specs.Level.{fault_offset}
+use Rattle.std.specs.Prelude.{◌≡◌, ◌↔◌, ℕ, ◌+◌, List, Option, Some, Result, Ok, Err, IsNone, length, nat_lt, if◌then◌else◌}
+use Rattle.dcsctp_tlv.specs.Level.{MeansCounted, fault_offset}
 use Rattle.dcsctp_wire.specs.declared.packet.sctp_packet.ChecksumPolicy.{ChecksumPolicy}
 use Rattle.dcsctp_wire.specs.declared.packet.first_fault.FirstFault.{FirstFault}
-use Rattle.dcsctp_wire.specs.Chunk.{chunks}
-use Rattle.dcsctp_wire.specs.Packet.{PacketFault, Size, Checksum, Chunk, body, Answer}
+use Rattle.dcsctp_wire.specs.Chunk.{chunks, parts as chunk_parts}
+use Rattle.dcsctp_wire.specs.Packet.{PacketFault, Size, Checksum, Chunk, IsOpened, body, Answer}
 use Rattle.dcsctp_wire.specs.Exact.{packet_error_of, IsPacket}
 
 -- Of a size, the first byte that is missing or too many; of a checksum, its field; of a chunk,
@@ -29,3 +29,13 @@ pub record LocatesFault (bytes : List ℕ) (word : ℕ) (policy : ChecksumPolicy
   pub some : (e : PacketFault) (n : ℕ)
       → (result ≡ Some (record { fault = packet_error_of e; offset = n }))
       ↔ HasPacketFaultAt bytes word policy e n
+
+-- What a check finds, without a law of it: the numbers of the chunks and of all parts, or the fault
+-- and its place.
+abbrev pub FindsPacket : List ℕ → ℕ → ChecksumPolicy → Result (ℕ × ℕ) FirstFault → Type 0
+FindsPacket bytes word policy (Ok n) =
+    IsOpened bytes word policy
+    × MeansCounted (chunks policy.strict_padding) chunk_parts (body bytes) n.0 n.1
+FindsPacket bytes word policy (Err found) =
+    (e : PacketFault) × (found.fault ≡ packet_error_of e)
+    × HasPacketFaultAt bytes word policy e found.offset

@@ -35,7 +35,7 @@ MayShow-no_packet strict input bytes packet_errors.InvalidPacketSize short is re
 MayShow-no_packet strict input bytes packet_errors.InvalidChecksum short is reads = inl (packet short bytes is (Err Checksum) reads refl)
 MayShow-no_packet strict input bytes packet_errors.InvalidChunkSize short is reads = absurd reads
 MayShow-no_packet strict input bytes (packet_errors.FailedParseChunk chunk_errors.InvalidLength) short is reads = inl (packet short bytes is (Err (Chunk Length)) reads refl)
-MayShow-no_packet strict input bytes (packet_errors.FailedParseChunk chunk_errors.InvalidType) short is reads = absurd reads
+MayShow-no_packet strict input bytes (packet_errors.FailedParseChunk chunk_errors.InvalidType) short is reads = absurd reads.1
 MayShow-no_packet strict input bytes (packet_errors.FailedParseChunk chunk_errors.InvalidPadding) short is reads = inl (packet short bytes is (Err (Chunk Padding)) reads refl)
 MayShow-no_packet strict input bytes (packet_errors.FailedParseChunk chunk_errors.InvalidValue) short is reads = inl (packet short bytes is (Err (Chunk Value)) reads refl)
 MayShow-no_packet strict input bytes (packet_errors.FailedParseChunk chunk_errors.OutOfMemory) short is reads = inr refl

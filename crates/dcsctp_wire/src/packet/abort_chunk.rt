@@ -10,18 +10,18 @@
 //! +-+-+-+-+-+-+-+-+-+-+-+-+-+-+-+-+-+-+-+-+-+-+-+-+-+-+-+-+-+-+-+-+
 //! ```
 
-ghost use Rattle.std.specs.Prelude.{◌≡◌, ◌≢◌, ◌↔◌, ◌≤◌, ◌+◌, ◌*◌, ℕ, [], ◌∷◌, false, length, Some, IsOk, IfOk, IsErrOf, IfSome, vec_capacity};
+ghost use Rattle.std.specs.Prelude.{◌≡◌, ◌≢◌, ◌↔◌, ◌≤◌, ◌+◌, ◌*◌, ℕ, [], ◌∷◌, false, length, Some, IsOk, IfOk, IfErr, IsErrOf, vec_capacity};
 ghost use Rattle.dcsctp_tlv.specs.Frame.{lenient};
 ghost use Rattle.dcsctp_tlv.specs.Level.{HasMeaning, MeansParts, FaultsAt};
-ghost use Rattle.dcsctp_tlv.specs.Reading.{Answers, Finds, ReadsExactly, Locates};
+ghost use Rattle.dcsctp_tlv.specs.Reading.{Answers, FindsAt, ReadsExactly};
 ghost use Rattle.dcsctp_wire.specs.Abort as kind;
 
-use dcsctp_cause::error_causes::{ErrorCause, error_cause_build, error_cause_check};
+use dcsctp_cause::error_causes::{ErrorCause, error_cause_build};
 use dcsctp_chunk::flags::{is_set, one_flag};
 use dcsctp_chunk::raw_chunk::RawChunk;
-use dcsctp_tlv::error::ChunkParseError;
+use dcsctp_tlv::error::{ChunkParseError, Located};
 use dcsctp_tlv::list::{listed_encodable, listed_encoded_size, listed_size, put_listed};
-use dcsctp_tlv::reader::listed_first_fault;
+use dcsctp_tlv::reader::listed_check;
 use dcsctp_tlv::tlv::SerializableTlv;
 use std::alloc::{AllocError, Global};
 use std::fmt;
@@ -88,26 +88,16 @@ impl AbortChunk {
         Ok(AbortChunk::build(alloc, flags, value)?)
     }
 
-    /// The number of parts: the chunk and its causes; or the first fault of these from the left. It
-    /// takes no memory.
-    pub(crate) fn check(value: &[u8], strict: bool) -> Result<usize, ChunkParseError>
-        ensures found { (flags : ℕ) → Finds result
+    /// The number of parts: the chunk and its causes; or the first fault of these from the left, and
+    /// how many bytes stand between the chunk's first byte and it. It takes no memory.
+    pub(crate) fn check(value: &[u8], strict: bool) -> Result<usize, Located>
+        ensures found { (flags : ℕ) → FindsAt result
             (MeansParts (λ a. 1 + length a.causes) (kind.row strict flags) value.now)
-            ((kind.row strict flags).faults value.now) }
-        ensures few { IfOk result (λ n. 4 * n ≤ 4 + length value.now) }
-    {
-        let count = error_cause_check(value, strict)?;
-        Ok(1 + count)
-    }
-
-    /// The same fault, and how many bytes stand between the chunk's first byte and it.
-    pub(crate) fn first_fault(value: &[u8], strict: bool) -> Option<(ChunkParseError, usize)>
-        ensures located { (flags : ℕ) → Locates result
-            (HasMeaning (kind.row strict flags) value.now)
             (FaultsAt (kind.row strict flags) value.now) }
-        ensures within { IfSome result (λ found. found.1 ≤ 4 + length value.now) }
+        ensures few { IfOk result (λ n. 4 * n ≤ 4 + length value.now) }
+        ensures within { IfErr result (λ found. found.offset ≤ 4 + length value.now) }
     {
-        listed_first_fault::<ErrorCause>(strict, value, 0)
+        listed_check::<ErrorCause>(strict, value, 0)
     }
 
     /// What the value means, under these flags.

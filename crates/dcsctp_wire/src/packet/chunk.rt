@@ -17,10 +17,10 @@ use crate::packet::heartbeat_ack_chunk::{self, HeartbeatAckChunk};
 use crate::packet::heartbeat_request_chunk::{self, HeartbeatRequestChunk};
 use crate::packet::idata_chunk::{self, IDataChunk};
 use crate::packet::iforward_tsn_chunk::{self, IForwardTsnChunk};
-use crate::packet::init::{FIXED_SIZE, init_check, init_first_fault, init_numbers};
+use crate::packet::init::{FIXED_SIZE, init_check, init_numbers};
 use crate::packet::init_ack_chunk::{self, InitAckChunk};
 use crate::packet::init_chunk::{self, InitChunk};
-use crate::packet::parameter_list::{parameter_list_check, parameter_list_first_fault};
+use crate::packet::parameter_list::parameter_list_check;
 use crate::packet::re_config_chunk::{self, ReConfigChunk};
 use crate::packet::sack_chunk::{self, SackChunk};
 use crate::packet::shutdown_ack_chunk::{self, ShutdownAckChunk};
@@ -31,7 +31,7 @@ use dcsctp_cause::error_causes::error_cause_fill;
 use dcsctp_chunk::flags::is_set;
 pub use dcsctp_chunk::plain_check::plain_check;
 pub use dcsctp_chunk::raw_chunk::{RawChunk, write_chunk_header};
-use dcsctp_tlv::error::ChunkParseError;
+use dcsctp_tlv::error::{ChunkParseError, Located};
 use dcsctp_tlv::frame::are_zeros;
 use dcsctp_tlv::parameter::parameters_fill;
 use dcsctp_tlv::reader::ReadableTlv;
@@ -286,7 +286,7 @@ impl ReadableTlv for Chunk {
 
     ghost parts = { chunk_parts };
 
-    fn check(strict: bool, first: u8, second: u8, value: &[u8]) -> Result<usize, ChunkParseError> {
+    fn check(strict: bool, first: u8, second: u8, value: &[u8]) -> Result<usize, Located> {
         match first {
             init_chunk::CHUNK_TYPE => init_check(value, strict),
             init_ack_chunk::CHUNK_TYPE => init_check(value, strict),
@@ -295,38 +295,13 @@ impl ReadableTlv for Chunk {
             abort_chunk::CHUNK_TYPE => AbortChunk::check(value, strict),
             error_chunk::CHUNK_TYPE => ErrorChunk::check(value, strict),
             re_config_chunk::CHUNK_TYPE => parameter_list_check(value, strict),
-            _ => {
-                plain_check(RawChunk {
-                    typ: first,
-                    flags: second,
-                    value,
-                })?;
-                Ok(1)
-            }
-        }
-    }
-
-    fn first_fault(
-        strict: bool,
-        first: u8,
-        second: u8,
-        value: &[u8],
-    ) -> Option<(ChunkParseError, usize)> {
-        match first {
-            init_chunk::CHUNK_TYPE => init_first_fault(value, strict),
-            init_ack_chunk::CHUNK_TYPE => init_first_fault(value, strict),
-            heartbeat_request_chunk::CHUNK_TYPE => parameter_list_first_fault(value, strict),
-            heartbeat_ack_chunk::CHUNK_TYPE => parameter_list_first_fault(value, strict),
-            abort_chunk::CHUNK_TYPE => AbortChunk::first_fault(value, strict),
-            error_chunk::CHUNK_TYPE => ErrorChunk::first_fault(value, strict),
-            re_config_chunk::CHUNK_TYPE => parameter_list_first_fault(value, strict),
             _ => match plain_check(RawChunk {
                 typ: first,
                 flags: second,
                 value,
             }) {
-                Ok(()) => None,
-                Err(fault) => Some((fault, 0)),
+                Ok(()) => Ok(1),
+                Err(fault) => Err(Located::at_front(fault)),
             },
         }
     }

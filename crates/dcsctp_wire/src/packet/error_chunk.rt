@@ -10,17 +10,17 @@
 //! +-+-+-+-+-+-+-+-+-+-+-+-+-+-+-+-+-+-+-+-+-+-+-+-+-+-+-+-+-+-+-+-+
 //! ```
 
-ghost use Rattle.std.specs.Prelude.{◌≡◌, ◌≢◌, ◌↔◌, ◌≤◌, ◌+◌, ◌*◌, [], length, Some, IfOk, IsErrOf, IfSome, vec_capacity};
+ghost use Rattle.std.specs.Prelude.{◌≡◌, ◌≢◌, ◌↔◌, ◌≤◌, ◌+◌, ◌*◌, [], length, Some, IfOk, IfErr, IsErrOf, vec_capacity};
 ghost use Rattle.dcsctp_tlv.specs.Frame.{lenient};
 ghost use Rattle.dcsctp_tlv.specs.Level.{HasMeaning, MeansParts, FaultsAt};
-ghost use Rattle.dcsctp_tlv.specs.Reading.{Answers, Finds, ReadsExactly, Locates};
+ghost use Rattle.dcsctp_tlv.specs.Reading.{Answers, FindsAt, ReadsExactly};
 ghost use Rattle.dcsctp_wire.specs.Error as kind;
 
-use dcsctp_cause::error_causes::{ErrorCause, error_cause_build, error_cause_check};
+use dcsctp_cause::error_causes::{ErrorCause, error_cause_build};
 use dcsctp_chunk::raw_chunk::RawChunk;
-use dcsctp_tlv::error::ChunkParseError;
+use dcsctp_tlv::error::{ChunkParseError, Located};
 use dcsctp_tlv::list::{listed_encodable, listed_encoded_size, listed_size, put_listed};
-use dcsctp_tlv::reader::listed_first_fault;
+use dcsctp_tlv::reader::listed_check;
 use dcsctp_tlv::tlv::SerializableTlv;
 use std::alloc::{AllocError, Global};
 use std::fmt;
@@ -87,30 +87,21 @@ impl ErrorChunk {
 
     /// The number of parts: the chunk and its causes. `InvalidLength` where there are no causes;
     /// else the first fault of these from the left. It takes no memory.
-    pub(crate) fn check(value: &[u8], strict: bool) -> Result<usize, ChunkParseError>
-        ensures found { Finds result (MeansParts (λ cs. 1 + length cs) (kind.row strict) value.now)
-            ((kind.row strict).faults value.now) }
-        ensures few { IfOk result (λ n. 4 * n ≤ 4 + length value.now) }
-    {
-        if value.is_empty() {
-            return Err(ChunkParseError::InvalidLength);
-        }
-        let count = error_cause_check(value, strict)?;
-        Ok(1 + count)
-    }
-
-    /// The same fault, and how many bytes stand between the chunk's first byte and it: none, where
+    ///
+    /// With a fault comes how many bytes stand between the chunk's first byte and it: none, where
     /// there are no causes.
-    pub(crate) fn first_fault(value: &[u8], strict: bool) -> Option<(ChunkParseError, usize)>
-        ensures located { Locates result (HasMeaning (kind.row strict) value.now)
+    pub(crate) fn check(value: &[u8], strict: bool) -> Result<usize, Located>
+        ensures found { FindsAt result
+            (MeansParts (λ cs. 1 + length cs) (kind.row strict) value.now)
             (FaultsAt (kind.row strict) value.now) }
-        ensures within { IfSome result (λ found. found.1 ≤ 4 + length value.now) }
+        ensures few { IfOk result (λ n. 4 * n ≤ 4 + length value.now) }
+        ensures within { IfErr result (λ found. found.offset ≤ 4 + length value.now) }
     {
         let lacks_causes = value.is_empty();
         if lacks_causes {
-            return Some((ChunkParseError::InvalidLength, 0));
+            return Err(Located::at_front(ChunkParseError::InvalidLength));
         }
-        listed_first_fault::<ErrorCause>(strict, value, 0)
+        listed_check::<ErrorCause>(strict, value, 0)
     }
 
     /// What the value means.

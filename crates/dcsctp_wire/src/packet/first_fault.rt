@@ -5,16 +5,7 @@ ghost use Rattle.dcsctp_wire.specs.Place.{LocatesFault};
 ghost use Rattle.dcsctp_tlv.specs.declared.error.ChunkParseError.TheVariants.{OutOfMemory};
 ghost use Rattle.dcsctp_wire.specs.declared.packet.sctp_packet.PacketParseError.TheVariants.{FailedParseChunk};
 
-use crate::packet::chunk::Chunk;
-use crate::packet::sctp_packet::{
-    COMMON_HEADER_SIZE, ChecksumPolicy, MAX_PACKET_SIZE, MIN_PACKET_SIZE, PacketParseError,
-    SctpPacket, accepts,
-};
-use dcsctp_tlv::number::read_u32_be;
-use dcsctp_tlv::reader::list_first_fault;
-
-/// The bytes ahead of the checksum field.
-const CHECKSUM_OFFSET: usize = 8;
+use crate::packet::sctp_packet::{ChecksumPolicy, PacketParseError, SctpPacket, check_packet};
 
 /// Why bytes are no packet, and where.
 #[derive(Debug, Drop, PartialEq, Eq)]
@@ -31,6 +22,14 @@ pub struct FirstFault {
     pub offset: usize,
 }
 
+impl From<FirstFault> for PacketParseError {
+    ghost from_gives = { λ found e. e ≡ found.fault };
+
+    fn from(found: FirstFault) -> PacketParseError {
+        found.fault
+    }
+}
+
 impl SctpPacket {
     /// The first fault of the bytes, and its offset in bytes from the packet's first byte. It takes
     /// no memory.
@@ -44,30 +43,6 @@ impl SctpPacket {
         ensures memory { IfSome result
             (λ found. ¬ (found.fault ≡ FailedParseChunk OutOfMemory)) }
     {
-        if bytes.len() < MIN_PACKET_SIZE {
-            return Some(FirstFault {
-                fault: PacketParseError::InvalidPacketSize,
-                offset: bytes.len(),
-            });
-        }
-        if bytes.len() > MAX_PACKET_SIZE {
-            return Some(FirstFault {
-                fault: PacketParseError::InvalidPacketSize,
-                offset: MAX_PACKET_SIZE,
-            });
-        }
-        if !accepts(policy, read_u32_be(&bytes[CHECKSUM_OFFSET..]), checksum) {
-            return Some(FirstFault {
-                fault: PacketParseError::InvalidChecksum,
-                offset: CHECKSUM_OFFSET,
-            });
-        }
-        match list_first_fault::<Chunk>(policy.strict_padding, &bytes[COMMON_HEADER_SIZE..]) {
-            None => None,
-            Some((fault, within)) => Some(FirstFault {
-                fault: PacketParseError::FailedParseChunk(fault),
-                offset: COMMON_HEADER_SIZE + within,
-            }),
-        }
+        check_packet(bytes, checksum, policy).err()
     }
 }

@@ -1,15 +1,15 @@
 //! What INIT and INIT ACK have in common.
 
-ghost use Rattle.std.specs.Prelude.{◌≡◌, ◌≤◌, ◌+◌, ◌*◌, [], length, drop, vec_len, vec_capacity, IsOk, IfOk, IfSome};
+ghost use Rattle.std.specs.Prelude.{◌≡◌, ◌≤◌, ◌+◌, ◌*◌, [], length, drop, vec_len, vec_capacity, IsOk, IfOk, IfErr};
 ghost use Rattle.dcsctp_tlv.specs.Frame.{lenient};
 ghost use Rattle.dcsctp_tlv.specs.Level.{HasMeaning, MeansParts, FaultsAt};
-ghost use Rattle.dcsctp_tlv.specs.Reading.{Finds, Locates};
+ghost use Rattle.dcsctp_tlv.specs.Reading.{FindsAt};
 ghost use Rattle.dcsctp_wire.specs.InitFields.{row as init_row, parts as init_parts, leading as init_numbers, tree_of, view as init_fields_view};
 
-use dcsctp_tlv::error::ChunkParseError;
+use dcsctp_tlv::error::{ChunkParseError, Located};
 use dcsctp_tlv::number::{put_u16, put_u32, read_u16_be, read_u32_be};
-use dcsctp_tlv::parameter::{Parameter, parameters_check, parameters_fill};
-use dcsctp_tlv::reader::listed_first_fault;
+use dcsctp_tlv::parameter::{Parameter, parameters_fill};
+use dcsctp_tlv::reader::listed_check;
 use dcsctp_types::types::Tsn;
 use std::alloc::{AllocError, Global};
 
@@ -29,29 +29,19 @@ pub(crate) struct InitFields {
 
 /// The number of parts: the chunk and its parameters. `InvalidLength` where the value has fewer
 /// than 16 bytes; else the first fault of the parameters from the left. It takes no memory.
-pub(crate) fn init_check(value: &[u8], strict: bool) -> Result<usize, ChunkParseError>
-    ensures found { Finds result (MeansParts init_parts (init_row strict) value.now)
-        ((init_row strict).faults value.now) }
-    ensures few { IfOk result (λ n. 4 * n ≤ 4 + length value.now) }
-{
-    if value.len() < FIXED_SIZE {
-        return Err(ChunkParseError::InvalidLength);
-    }
-    let count = parameters_check(&value[FIXED_SIZE..], strict)?;
-    Ok(1 + count)
-}
-
-/// The same fault, and how many bytes stand between the chunk's first byte and it: none, where the
+///
+/// With a fault comes how many bytes stand between the chunk's first byte and it: none, where the
 /// value has fewer than 16 bytes.
-pub(crate) fn init_first_fault(value: &[u8], strict: bool) -> Option<(ChunkParseError, usize)>
-    ensures located { Locates result (HasMeaning (init_row strict) value.now)
+pub(crate) fn init_check(value: &[u8], strict: bool) -> Result<usize, Located>
+    ensures found { FindsAt result (MeansParts init_parts (init_row strict) value.now)
         (FaultsAt (init_row strict) value.now) }
-    ensures within { IfSome result (λ found. found.1 ≤ 4 + length value.now) }
+    ensures few { IfOk result (λ n. 4 * n ≤ 4 + length value.now) }
+    ensures within { IfErr result (λ found. found.offset ≤ 4 + length value.now) }
 {
     if value.len() < FIXED_SIZE {
-        return Some((ChunkParseError::InvalidLength, 0));
+        return Err(Located::at_front(ChunkParseError::InvalidLength));
     }
-    listed_first_fault::<Parameter>(strict, value, FIXED_SIZE)
+    listed_check::<Parameter>(strict, value, FIXED_SIZE)
 }
 
 /// The numbers of the value, and no parameters. It takes no memory.

@@ -14,11 +14,12 @@
 //! +-+-+-+-+-+-+-+-+-+-+-+-+-+-+-+-+-+-+-+-+-+-+-+-+-+-+-+-+-+-+-+-+
 //! ```
 
-ghost use Rattle.std.specs.Prelude.{◌≡◌, ◌↔◌, ◌≤◌, ◌+◌, ◌-◌, ◌/◌, ℕ, [], false, length, replicate, vec_len, vec_capacity, IsTrue, IfOk, IsErrOf};
+ghost use Rattle.std.specs.Prelude.{◌≡◌, ◌↔◌, ◌≤◌, ◌+◌, ◌-◌, ◌/◌, ℕ, [], false, length, replicate, vec_len, vec_capacity, IsTrue, IfOk, IfErr, IsErrOf};
 ghost use Rattle.dcsctp_wire.specs.Chunk.{views};
 ghost use Rattle.dcsctp_wire.specs.Packet.{Meaning, Answer, Reads, IsAccepted, meaning_view, packet_view};
 ghost use Rattle.dcsctp_wire.specs.Account.{KeepsTexts, KeepsSize, node_count};
-ghost use Rattle.dcsctp_wire.specs.Exact.{IsPacket, ChecksPacket, ReadsPacket, FindsPacket};
+ghost use Rattle.dcsctp_wire.specs.Exact.{IsPacket, ChecksPacket, ReadsPacket};
+ghost use Rattle.dcsctp_wire.specs.Place.{FindsPacket};
 ghost use Rattle.dcsctp_wire.specs.Canonical.{canonical, padded_size, Fits};
 ghost use Rattle.dcsctp_wire.specs.WellFormed.{IsInWidth, IsWellFormed};
 ghost use Rattle.dcsctp_wire.specs.declared.packet.sctp_packet.ChecksumPolicy.{ChecksumPolicy};
@@ -41,8 +42,11 @@ use thiserror::Error;
 /// The bytes of the common header.
 pub const COMMON_HEADER_SIZE: usize = 12;
 
+/// The bytes ahead of the checksum field.
+const CHECKSUM_OFFSET: usize = 8;
+
 /// The fewest bytes of a packet: the common header and one chunk without value.
-pub(crate) const MIN_PACKET_SIZE: usize = 16;
+const MIN_PACKET_SIZE: usize = 16;
 
 /// The most bytes of a packet.
 pub(crate) const MAX_PACKET_SIZE: usize = 65535;
@@ -134,7 +138,7 @@ impl Default for ChecksumPolicy {
 }
 
 /// The policy accepts the checksum field, where `word` is expected.
-pub(crate) fn accepts(policy: &ChecksumPolicy, field: u32, word: u32) -> bool
+fn accepts(policy: &ChecksumPolicy, field: u32, word: u32) -> bool
     ensures { IsTrue result ↔ IsAccepted policy.now field word }
 {
     policy.disable_checksum_verification
@@ -266,23 +270,37 @@ pub fn has_widths(packet: &SctpPacket)
     ensures { IsInWidth (meaning_view packet.now) }
 {}
 
-/// The numbers of chunks and of all parts, or the fault: what it finds, and no law of it.
-// A part of both callers, also where a program has both.
+/// The numbers of chunks and of all parts; or the first fault, and where it lies: what it finds, and
+/// no law of it.
+// A part of its callers, also where a program has more than one.
 #[inline(always)]
-fn check_packet(
+pub(crate) fn check_packet(
     bytes: &[u8],
     checksum: u32,
     policy: &ChecksumPolicy,
-) -> Result<(usize, usize), PacketParseError>
-    ensures { FindsPacket bytes.now checksum policy.now result }
+) -> Result<(usize, usize), FirstFault>
+    ensures found { FindsPacket bytes.now checksum policy.now result }
+    ensures within { IfErr result (λ found. found.offset ≤ length bytes.now) }
 {
     if bytes.len() < MIN_PACKET_SIZE || bytes.len() > MAX_PACKET_SIZE {
-        return Err(PacketParseError::InvalidPacketSize);
+        return Err(FirstFault {
+            fault: PacketParseError::InvalidPacketSize,
+            offset: bytes.len().min(MAX_PACKET_SIZE),
+        });
     }
-    if !accepts(policy, read_u32_be(&bytes[8..]), checksum) {
-        return Err(PacketParseError::InvalidChecksum);
+    if !accepts(policy, read_u32_be(&bytes[CHECKSUM_OFFSET..]), checksum) {
+        return Err(FirstFault {
+            fault: PacketParseError::InvalidChecksum,
+            offset: CHECKSUM_OFFSET,
+        });
     }
-    Ok(list_check::<Chunk>(policy.strict_padding, &bytes[COMMON_HEADER_SIZE..])?)
+    match list_check::<Chunk>(policy.strict_padding, &bytes[COMMON_HEADER_SIZE..]) {
+        Ok(counts) => Ok(counts),
+        Err(found) => Err(FirstFault {
+            fault: PacketParseError::FailedParseChunk(found.fault),
+            offset: COMMON_HEADER_SIZE + found.offset,
+        }),
+    }
 }
 
 /// Reads a packet: what it answers, and no law of it.

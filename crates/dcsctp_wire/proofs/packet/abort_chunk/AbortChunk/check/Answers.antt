@@ -1,6 +1,9 @@
-use Rattle.std.proofs.Common.{ℕ, ◌+◌, refl, ap}
-use Rattle.dcsctp_chunk.specs.Flags.{is_set}
+use Rattle.std.proofs.Common.{◌+◌, length, true, refl}
+use Rattle.dcsctp_tlv.proofs.Places.{finds_listed}
+use Rattle.dcsctp_cause.specs.Cause.{causes}
+use Rattle.dcsctp_wire.specs.Abort.{tree_of as abort_of}
 use Rattle.dcsctp_wire.proofs.packet.abort_chunk.AbortChunk.check.Goals as goal
 
 pub returns-clause-found : goal.returns-clause-found
-returns-clause-found c = λ flags. (let found = c.in_ok-count.ensures.found in (record { tag_reflected = is_set flags 0; causes = found.0 }, (refl, (found.0, found.1, refl)), ap (λ (k : ℕ). 1 + k) found.2))
+returns-clause-found c = λ flags.
+    finds_listed (λ value. true) 0 (causes c.args.strict) (λ value cs. abort_of flags cs) (λ a. 1 + length a.causes) (λ v cs. refl) c.args.value.now c.listed_check.result refl c.listed_check.ensures.found

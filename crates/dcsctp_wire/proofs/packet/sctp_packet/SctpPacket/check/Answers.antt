@@ -7,14 +7,15 @@ use Rattle.dcsctp_wire.proofs.packet.sctp_packet.SctpPacket.check.Goals as goal
 
 pub returns-in_err-counts-clause-answer : goal.returns-in_err-counts-clause-answer
 returns-in_err-counts-clause-answer c =
+    let told = c.in_err-counts.ensures.found in
     let p = err_from_is_err_and c.from_residual.result c.from_residual.ensures.1 in
-    rw (p.1, p.2) (check_fault c.args.bytes.now c.args.checksum c.args.policy.now (λ i. (c.type_inv.bytes i).fits) c.in_err-counts.field-0.0 c.in_err-counts.ensures)
+    rw (p.1, p.2) (check_fault c.args.bytes.now c.args.checksum c.args.policy.now (λ i. (c.type_inv.bytes i).fits) told.0 told.2.0 _ told.1)
 
 pub returns-clause-answer : goal.returns-clause-answer
-returns-clause-answer c = check_good c.args.bytes.now c.args.checksum c.args.policy.now (λ i. (c.type_inv.bytes i).fits) c.in_ok-counts.counts.0 c.in_ok-counts.counts.1 c.in_ok-counts.ensures
+returns-clause-answer c = check_good c.args.bytes.now c.args.checksum c.args.policy.now (λ i. (c.type_inv.bytes i).fits) c.in_ok-counts.counts.0 c.in_ok-counts.counts.1 c.in_ok-counts.ensures.found.0 c.in_ok-counts.ensures.found.1
 
 pub returns-clause-few : goal.returns-clause-few
 returns-clause-few c =
     let bytes = c.args.bytes.now in
-    let found = c.in_ok-counts.ensures in
+    let found = c.in_ok-counts.ensures.found in
     rw found.1.part_count (packet_parts bytes (packet_with bytes found.1.trees) (lenient_packet c.args.policy.now.strict_padding bytes (packet_with bytes found.1.trees) (packet_is bytes c.args.checksum c.args.policy.now found.1.trees found.0 found.1.mean).1))

@@ -1,0 +1,9 @@
+use Rattle.dcsctp_tlv.proofs.Places.{fault_at_front}
+use Rattle.dcsctp_cause.specs.Cause.{row}
+use Rattle.dcsctp_cause.proofs.CauseLaws.{row_at_front}
+use Rattle.dcsctp_cause.proofs.error_causes.ErrorCauseReadableTlv.check.Goals as goal
+
+pub returns-in-Err-clause-found : goal.returns-in-Err-clause-found
+returns-in-Err-clause-found c =
+    let code = c.from_be_bytes.result in
+    rw (c.at_front.ensures, ← c.from_be_bytes.ensures) (fault_at_front (row code) (row_at_front code) c.args.value.now c.in-Err.fault c.in-Err.ensures)

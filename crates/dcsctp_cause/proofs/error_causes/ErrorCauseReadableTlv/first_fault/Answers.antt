@@ -1,9 +1,0 @@
-use Rattle.dcsctp_tlv.proofs.Places.{fault_at_front}
-use Rattle.dcsctp_cause.specs.Cause.{row}
-use Rattle.dcsctp_cause.proofs.CauseLaws.{row_at_front}
-use Rattle.dcsctp_cause.proofs.error_causes.ErrorCauseReadableTlv.first_fault.Goals as goal
-
-pub returns-in-Err-clause-located : goal.returns-in-Err-clause-located
-returns-in-Err-clause-located c =
-    let code = c.from_be_bytes.result in
-    rw (← c.from_be_bytes.ensures) (fault_at_front (row code) (row_at_front code) c.args.value.now c.in-Err.fault c.in-Err.ensures)
