@@ -9,7 +9,7 @@
 //! ```
 
 ghost use Rattle.std.specs.Prelude.{◌≡◌, ◌≢◌, ◌↔◌, Some, IsErrOf};
-ghost use Rattle.dcsctp_tlv.specs.Reading.{Gives, Never, Passes};
+ghost use Rattle.dcsctp_tlv.specs.Reading.{Answers, Exactly, reading, checking, Tested};
 ghost use Rattle.dcsctp_cause.specs.CookieReceivedWhileShuttingDown as kind;
 
 use dcsctp_tlv::error::ChunkParseError;
@@ -32,8 +32,9 @@ impl CookieReceivedWhileShuttingDownErrorCause {
     /// `InvalidType` exactly for another code; `InvalidLength` exactly where the value isn't empty.
     pub fn try_from(raw: RawParameter) -> Result<Self, ChunkParseError>
         ensures other { IsErrOf result ChunkParseError.InvalidType ↔ (raw.entry.typ ≢ CAUSE_CODE) }
-        ensures own { raw.entry.typ ≡ CAUSE_CODE →
-            Gives Never kind.view result (kind.read raw.entry.value.now) }
+        ensures answer { raw.entry.typ ≡ CAUSE_CODE →
+            Exactly reading kind.view (λ a. kind.read raw.entry.value.now ≡ a) result }
+        ensures memory { ¬ IsErrOf result ChunkParseError.OutOfMemory }
     {
         if raw.typ != CAUSE_CODE {
             return Err(ChunkParseError::InvalidType);
@@ -44,7 +45,7 @@ impl CookieReceivedWhileShuttingDownErrorCause {
 
     /// `InvalidLength` exactly where the value isn't empty.
     pub(crate) fn check(value: &[u8]) -> Result<(), ChunkParseError>
-        ensures { Passes result (kind.read value.now) }
+        ensures { Answers checking (λ u. u) (Tested (kind.read value.now)) result }
     {
         if !value.is_empty() {
             return Err(ChunkParseError::InvalidLength);

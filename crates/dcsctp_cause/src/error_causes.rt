@@ -13,7 +13,7 @@
 ghost use Rattle.std.specs.Prelude.{◌≡◌, ◌≢◌, ◌≤◌, ◌*◌, [], length, vec_len, vec_capacity, Some, IsOk, IfOk, IsErrOf, refl};
 ghost use Rattle.dcsctp_tlv.specs.Frame.{lenient};
 ghost use Rattle.dcsctp_tlv.specs.Level.{HasMeaning, MeansTrees, MeansSome, MeansMany, HasFault};
-ghost use Rattle.dcsctp_tlv.specs.Reading.{Answers, Finds, ChecksExactly, ReadsExactly};
+ghost use Rattle.dcsctp_tlv.specs.Reading.{Answers, Exactly, reading, checking, RowTested, RowAnswer, ListAnswer, Counted};
 ghost use Rattle.dcsctp_cause.specs.Cause as cause;
 ghost use Rattle.dcsctp_cause.specs.Cause.{CauseTree, causes, TakesNoMemory, view, views};
 
@@ -74,28 +74,20 @@ impl ErrorCause {
     /// `OutOfMemory` only where it has a meaning, and what it holds can't be copied; never where it
     /// holds nothing on the heap. No other error is answered.
     pub fn try_from(alloc: Global, raw: RawParameter) -> Result<Self, ChunkParseError>
-        ensures answer { Answers result
-            (λ c. (cause.row raw.entry.typ).means raw.entry.value.now (view c))
-            ((cause.row raw.entry.typ).faults raw.entry.value.now) }
+        ensures answer { Exactly reading view
+            (RowAnswer (cause.row raw.entry.typ) raw.entry.value.now) result }
         ensures memory { IsErrOf result ChunkParseError.OutOfMemory →
-            HasMeaning (cause.row raw.entry.typ) raw.entry.value.now }
-        ensures exact { ReadsExactly result view
-            ((cause.row raw.entry.typ).means raw.entry.value.now)
-            ((cause.row raw.entry.typ).faults raw.entry.value.now) }
-        ensures heap { TakesNoMemory raw.entry.typ → ¬ IsErrOf result ChunkParseError.OutOfMemory }
+            HasMeaning (cause.row raw.entry.typ) raw.entry.value.now
+            × ¬ TakesNoMemory raw.entry.typ }
     {
         ErrorCause::read(alloc, raw.typ, raw.value)
     }
 
     /// Checks a cause's value, and builds what it means.
     fn read(alloc: Global, code: u16, value: &[u8]) -> Result<Self, ChunkParseError>
-        ensures answer { Answers result (λ c. (cause.row code).means value.now (view c))
-            ((cause.row code).faults value.now) }
+        ensures answer { Exactly reading view (RowAnswer (cause.row code) value.now) result }
         ensures memory { IsErrOf result ChunkParseError.OutOfMemory
-            → HasMeaning (cause.row code) value.now }
-        ensures exact { ReadsExactly result view ((cause.row code).means value.now)
-            ((cause.row code).faults value.now) }
-        ensures heap { TakesNoMemory code → ¬ IsErrOf result ChunkParseError.OutOfMemory }
+            → HasMeaning (cause.row code) value.now × ¬ TakesNoMemory code }
     {
         ErrorCause::check_value(code, value)?;
         Ok(ErrorCause::build(alloc, code, value)?)
@@ -103,8 +95,7 @@ impl ErrorCause {
 
     /// Passes exactly where the value has a meaning; else its fault. It takes no memory.
     fn check_value(code: u16, value: &[u8]) -> Result<(), ChunkParseError>
-        ensures { Finds result (λ _. HasMeaning (cause.row code) value.now)
-            ((cause.row code).faults value.now) }
+        ensures { Answers checking (λ u. u) (RowTested (cause.row code) value.now) result }
     {
         match code {
             missing_mandatory_parameter_error_cause::CAUSE_CODE =>
@@ -274,13 +265,10 @@ pub fn error_cause_from_bytes(
     alloc: Global,
     bytes: &[u8],
 ) -> Result<Vec<ErrorCause>, ChunkParseError>
-    ensures answer { Answers result
-        (λ list. MeansTrees (causes lenient) bytes.now (views list.items))
-        (HasFault (causes lenient) bytes.now) }
+    ensures answer { Exactly reading (λ list. views list.items)
+        (ListAnswer (causes lenient) bytes.now) result }
     ensures memory { IsErrOf result ChunkParseError.OutOfMemory →
         MeansSome (causes lenient) bytes.now × (bytes.now ≢ []) }
-    ensures exact { ReadsExactly result (λ list. views list.items)
-        (MeansTrees (causes lenient) bytes.now) (HasFault (causes lenient) bytes.now) }
     ensures reserved { IfOk result (λ list. vec_capacity list ≡ vec_len list) }
 {
     list_from_bytes(alloc, bytes)
@@ -291,9 +279,9 @@ pub fn error_cause_from_bytes(
 /// Where it is strict, `InvalidPadding` is the fault of a cause that has a meaning, and padding that
 /// isn't zero; the last may lack some or all of it.
 pub fn error_cause_check(bytes: &[u8], strict: bool) -> Result<usize, ChunkParseError>
-    ensures found { Finds result (MeansMany (causes strict) bytes.now)
-        (HasFault (causes strict) bytes.now) }
-    ensures exact { ChecksExactly result (causes strict) bytes.now }
+    ensures answer { Exactly checking (λ n. n)
+        (Counted length (ListAnswer (causes strict) bytes.now)) result }
+    ensures memory { ¬ IsErrOf result ChunkParseError.OutOfMemory }
     ensures few { IfOk result (λ n. 4 * n ≤ length bytes.now) }
 {
     let (count, _) = list_check::<ErrorCause>(strict, bytes)?;

@@ -12,10 +12,10 @@
 //! +-+-+-+-+-+-+-+-+-+-+-+-+-+-+-+-+-+-+-+-+-+-+-+-+-+-+-+-+-+-+-+-+
 //! ```
 
-ghost use Rattle.std.specs.Prelude.{◌≡◌, ◌≢◌, ◌↔◌, ℕ, Some, IsOk, IfOk, IsErrOf, refl};
+ghost use Rattle.std.specs.Prelude.{◌≡◌, ◌≢◌, ◌↔◌, ℕ, Some, IsOk, IfOk, IsErrOf, refl, Ok};
 ghost use Rattle.std.specs.Int.{w16, to_be_bytes};
 ghost use Rattle.dcsctp_tlv.specs.Number.{number16};
-ghost use Rattle.dcsctp_tlv.specs.Reading.{Gives, IfMeant, Passes, Builds};
+ghost use Rattle.dcsctp_tlv.specs.Reading.{Answers, Exactly, reading, checking, Tested};
 ghost use Rattle.dcsctp_cause.specs.MissingMandatoryParameter as kind;
 
 use dcsctp_tlv::error::ChunkParseError;
@@ -98,8 +98,9 @@ impl MissingMandatoryParameterErrorCause {
     /// where the types can't be copied.
     pub fn try_from(alloc: Global, raw: RawParameter) -> Result<Self, ChunkParseError>
         ensures other { IsErrOf result ChunkParseError.InvalidType ↔ (raw.entry.typ ≢ CAUSE_CODE) }
-        ensures own { raw.entry.typ ≡ CAUSE_CODE →
-            Gives IfMeant kind.view result (kind.read raw.entry.value.now) }
+        ensures answer { raw.entry.typ ≡ CAUSE_CODE →
+            Exactly reading kind.view (λ a. kind.read raw.entry.value.now ≡ a) result }
+        ensures memory { IsErrOf result ChunkParseError.OutOfMemory → IsOk (kind.read raw.entry.value.now) }
     {
         if raw.typ != CAUSE_CODE {
             return Err(ChunkParseError::InvalidType);
@@ -111,7 +112,7 @@ impl MissingMandatoryParameterErrorCause {
     /// `InvalidLength` exactly where the value has fewer than 4 bytes, or other than 4 and 2 more
     /// for each type that it counts.
     pub(crate) fn check(value: &[u8]) -> Result<(), ChunkParseError>
-        ensures { Passes result (kind.read value.now) }
+        ensures { Answers checking (λ u. u) (Tested (kind.read value.now)) result }
     {
         if value.len() < FIXED_SIZE {
             return Err(ChunkParseError::InvalidLength);
@@ -126,7 +127,7 @@ impl MissingMandatoryParameterErrorCause {
     /// What the value means.
     pub(crate) fn build(alloc: Global, value: &[u8]) -> Result<Self, AllocError>
         requires { IsOk (kind.read value.now) }
-        ensures { Builds kind.view result (kind.read value.now) }
+        ensures { IfOk result (λ x. kind.read value.now ≡ Ok (kind.view x)) }
     {
         let count = read_u32_be(value) as usize;
         let types = &value[FIXED_SIZE..];

@@ -10,8 +10,8 @@
 //! +-+-+-+-+-+-+-+-+-+-+-+-+-+-+-+-+-+-+-+-+-+-+-+-+-+-+-+-+-+-+-+-+
 //! ```
 
-ghost use Rattle.std.specs.Prelude.{◌≡◌, ◌≢◌, ◌↔◌, Some, IsErrOf};
-ghost use Rattle.dcsctp_tlv.specs.Reading.{Gives, IfMeant, Builds};
+ghost use Rattle.std.specs.Prelude.{◌≡◌, ◌≢◌, ◌↔◌, Some, IsErrOf, IfOk, IsOk, Ok};
+ghost use Rattle.dcsctp_tlv.specs.Reading.{Exactly, reading};
 ghost use Rattle.dcsctp_cause.specs.ProtocolViolation as kind;
 
 use crate::text::text_or;
@@ -42,8 +42,9 @@ impl ProtocolViolationErrorCause {
     /// `InvalidType` exactly for another code; `OutOfMemory` only where the text can't be copied.
     pub fn try_from(alloc: Global, raw: RawParameter) -> Result<Self, ChunkParseError>
         ensures other { IsErrOf result ChunkParseError.InvalidType ↔ (raw.entry.typ ≢ CAUSE_CODE) }
-        ensures own { raw.entry.typ ≡ CAUSE_CODE →
-            Gives IfMeant kind.view result (kind.read raw.entry.value.now) }
+        ensures answer { raw.entry.typ ≡ CAUSE_CODE →
+            Exactly reading kind.view (λ a. kind.read raw.entry.value.now ≡ a) result }
+        ensures memory { IsErrOf result ChunkParseError.OutOfMemory → IsOk (kind.read raw.entry.value.now) }
     {
         if raw.typ != CAUSE_CODE {
             return Err(ChunkParseError::InvalidType);
@@ -53,7 +54,7 @@ impl ProtocolViolationErrorCause {
 
     /// Copies the text, or says that the value isn't UTF-8.
     pub(crate) fn build(alloc: Global, value: &[u8]) -> Result<Self, AllocError>
-        ensures { Builds kind.view result (kind.read value.now) }
+        ensures { IfOk result (λ x. kind.read value.now ≡ Ok (kind.view x)) }
     {
         Ok(ProtocolViolationErrorCause {
             information: String::from_str(alloc, text_or(UNREADABLE, value))?,

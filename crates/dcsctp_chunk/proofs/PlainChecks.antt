@@ -1,16 +1,16 @@
 -- A check of one kind, in the table of the kinds without a list.
-use Rattle.std.proofs.Common.{Result, Ok, Err, ap}
+use Rattle.std.proofs.Common.{◌≡◌, true, false, Result, Ok, Err, inl, inr, refl, ap}
 use Rattle.dcsctp_tlv.specs.declared.error.ChunkParseError.{ChunkParseError}
-use Rattle.dcsctp_tlv.specs.declared.error.ChunkParseError.TheVariants.{InvalidLength, InvalidType, InvalidPadding, InvalidValue, OutOfMemory}
 use Rattle.dcsctp_tlv.specs.Fault.{Fault}
-use Rattle.dcsctp_tlv.specs.Reading.{Passes}
+use Rattle.dcsctp_tlv.specs.Reading.{Answers, Exactly, checking, Tested}
+use Rattle.dcsctp_tlv.proofs.Exact.{exactly, read_single}
 use Rattle.dcsctp_chunk.specs.PlainCheck.{outcome}
 
-pub passes_outcome : {X T : Type 0} (read : Result T Fault) (r : Result X ChunkParseError) → Passes r read → Passes r (outcome read)
-passes_outcome (Ok t) (Ok x) p = p
-passes_outcome (Err d) (Ok x) p = p
-passes_outcome read (Err InvalidLength) p = ap outcome p
-passes_outcome read (Err InvalidPadding) p = ap outcome p
-passes_outcome read (Err InvalidValue) p = ap outcome p
-passes_outcome read (Err InvalidType) p = p
-passes_outcome read (Err OutOfMemory) p = p
+passes_answers : {T : Type 0} (read : Result T Fault) (r : Result (Unit {0}) ChunkParseError) → Answers checking (λ (u : Unit {0}). u) (Tested read) r → Answers checking (λ (u : Unit {0}). u) (λ a. outcome read ≡ a) r
+passes_answers (Ok t) (Ok x) p = refl
+passes_answers (Err d) (Ok x) p = absurd (let e : false ≡ true = p in cc)
+passes_answers read (Err e) (inl found) = inl (found.0, found.1, ap outcome found.2)
+passes_answers read (Err e) (inr none) = absurd none
+
+pub passes_outcome : {T : Type 0} (read : Result T Fault) (r : Result (Unit {0}) ChunkParseError) → Answers checking (λ (u : Unit {0}). u) (Tested read) r → Exactly checking (λ (u : Unit {0}). u) (λ a. outcome read ≡ a) r
+passes_outcome read r p = exactly checking (λ u. u) (λ a. outcome read ≡ a) (read_single (outcome read)) r (passes_answers read r p) (λ e is none. absurd none)

@@ -12,8 +12,8 @@
 //! +-+-+-+-+-+-+-+-+-+-+-+-+-+-+-+-+-+-+-+-+-+-+-+-+-+-+-+-+-+-+-+-+
 //! ```
 
-ghost use Rattle.std.specs.Prelude.{◌≡◌, ◌≢◌, ◌↔◌, false, Some, IsOk, IsErrOf};
-ghost use Rattle.dcsctp_tlv.specs.Reading.{Gives, IfMeant, Passes, Builds};
+ghost use Rattle.std.specs.Prelude.{◌≡◌, ◌≢◌, ◌↔◌, false, Some, IsOk, IsErrOf, IfOk, Ok};
+ghost use Rattle.dcsctp_tlv.specs.Reading.{Answers, Exactly, reading, checking, Tested};
 ghost use Rattle.dcsctp_chunk.specs.SkippedStreams.{SkippedStreamTree, is_by_mid, skipped_stream_view};
 ghost use Rattle.dcsctp_chunk.specs.ForwardTsn as kind;
 
@@ -94,8 +94,9 @@ impl ForwardTsnChunk {
     /// than 4 bytes, or no multiple of 4; `OutOfMemory` only where the streams can't be copied.
     pub fn try_from(alloc: Global, raw: RawChunk) -> Result<Self, ChunkParseError>
         ensures other { IsErrOf result ChunkParseError.InvalidType ↔ (raw.entry.typ ≢ CHUNK_TYPE) }
-        ensures own { raw.entry.typ ≡ CHUNK_TYPE →
-            Gives IfMeant kind.view result (kind.read raw.entry.value.now) }
+        ensures answer { raw.entry.typ ≡ CHUNK_TYPE →
+            Exactly reading kind.view (λ a. kind.read raw.entry.value.now ≡ a) result }
+        ensures memory { IsErrOf result ChunkParseError.OutOfMemory → IsOk (kind.read raw.entry.value.now) }
     {
         if raw.typ != CHUNK_TYPE {
             return Err(ChunkParseError::InvalidType);
@@ -106,7 +107,7 @@ impl ForwardTsnChunk {
 
     /// `InvalidLength` exactly where the value has fewer than 4 bytes, or no multiple of 4.
     pub(crate) fn check(value: &[u8]) -> Result<(), ChunkParseError>
-        ensures { Passes result (kind.read value.now) }
+        ensures { Answers checking (λ u. u) (Tested (kind.read value.now)) result }
     {
         if value.len() < FIXED_SIZE {
             return Err(ChunkParseError::InvalidLength);
@@ -120,7 +121,7 @@ impl ForwardTsnChunk {
     /// What the value means.
     pub fn build(alloc: Global, value: &[u8]) -> Result<Self, AllocError>
         requires { IsOk (kind.read value.now) }
-        ensures { Builds kind.view result (kind.read value.now) }
+        ensures { IfOk result (λ x. kind.read value.now ≡ Ok (kind.view x)) }
     {
         let count = (value.len() - FIXED_SIZE) / 4;
         let skipped_streams = fields_from_bytes::<SsnStreamField>(

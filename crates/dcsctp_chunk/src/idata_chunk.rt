@@ -18,8 +18,8 @@
 //! +-+-+-+-+-+-+-+-+-+-+-+-+-+-+-+-+-+-+-+-+-+-+-+-+-+-+-+-+-+-+-+-+
 //! ```
 
-ghost use Rattle.std.specs.Prelude.{◌≡◌, ◌≢◌, ◌↔◌, ℕ, Some, IsOk, IsErrOf, if◌then◌else◌};
-ghost use Rattle.dcsctp_tlv.specs.Reading.{Gives, IfMeant, Passes, Builds};
+ghost use Rattle.std.specs.Prelude.{◌≡◌, ◌≢◌, ◌↔◌, ℕ, Some, IsOk, IsErrOf, if◌then◌else◌, IfOk, Ok};
+ghost use Rattle.dcsctp_tlv.specs.Reading.{Answers, Exactly, reading, checking, Tested};
 ghost use Rattle.dcsctp_chunk.specs.Data.{user_data_view};
 ghost use Rattle.dcsctp_chunk.specs.IDataChunk as kind;
 
@@ -91,8 +91,9 @@ impl IDataChunk {
     /// than 16 bytes; `OutOfMemory` only where the payload can't be copied.
     pub fn try_from(alloc: Global, raw: RawChunk) -> Result<Self, ChunkParseError>
         ensures other { IsErrOf result ChunkParseError.InvalidType ↔ (raw.entry.typ ≢ CHUNK_TYPE) }
-        ensures own { raw.entry.typ ≡ CHUNK_TYPE →
-            Gives IfMeant kind.view result (kind.read raw.entry.flags raw.entry.value.now) }
+        ensures answer { raw.entry.typ ≡ CHUNK_TYPE →
+            Exactly reading kind.view (λ a. kind.read raw.entry.flags raw.entry.value.now ≡ a) result }
+        ensures memory { IsErrOf result ChunkParseError.OutOfMemory → IsOk (kind.read raw.entry.flags raw.entry.value.now) }
     {
         if raw.typ != CHUNK_TYPE {
             return Err(ChunkParseError::InvalidType);
@@ -103,7 +104,7 @@ impl IDataChunk {
 
     /// `InvalidLength` exactly where the value has fewer than 16 bytes.
     pub(crate) fn check(value: &[u8]) -> Result<(), ChunkParseError>
-        ensures { (flags : ℕ) → Passes result (kind.read flags value.now) }
+        ensures { (flags : ℕ) → Answers checking (λ u. u) (Tested (kind.read flags value.now)) result }
     {
         if value.len() < FIXED_SIZE {
             return Err(ChunkParseError::InvalidLength);
@@ -114,7 +115,7 @@ impl IDataChunk {
     /// What the value means, under these flags.
     pub fn build(alloc: Global, flags: u8, value: &[u8]) -> Result<Self, AllocError>
         requires { IsOk (kind.read flags value.now) }
-        ensures { Builds kind.view result (kind.read flags value.now) }
+        ensures { IfOk result (λ x. kind.read flags value.now ≡ Ok (kind.view x)) }
     {
         let is_beginning = is_set(flags, 1);
         let stream = StreamId(read_u16_be(&value[4..]));

@@ -16,8 +16,8 @@
 //!
 //! U says that the stream's unordered messages are skipped.
 
-ghost use Rattle.std.specs.Prelude.{◌≡◌, ◌≢◌, ◌↔◌, true, Some, IsOk, IsErrOf};
-ghost use Rattle.dcsctp_tlv.specs.Reading.{Gives, IfMeant, Passes, Builds};
+ghost use Rattle.std.specs.Prelude.{◌≡◌, ◌≢◌, ◌↔◌, true, Some, IsOk, IsErrOf, IfOk, Ok};
+ghost use Rattle.dcsctp_tlv.specs.Reading.{Answers, Exactly, reading, checking, Tested};
 ghost use Rattle.dcsctp_chunk.specs.SkippedStreams.{SkippedStreamTree, is_by_mid, skipped_stream_view};
 ghost use Rattle.dcsctp_chunk.specs.IForwardTsn as kind;
 
@@ -102,8 +102,9 @@ impl IForwardTsnChunk {
     /// can't be copied.
     pub fn try_from(alloc: Global, raw: RawChunk) -> Result<Self, ChunkParseError>
         ensures other { IsErrOf result ChunkParseError.InvalidType ↔ (raw.entry.typ ≢ CHUNK_TYPE) }
-        ensures own { raw.entry.typ ≡ CHUNK_TYPE →
-            Gives IfMeant kind.view result (kind.read raw.entry.value.now) }
+        ensures answer { raw.entry.typ ≡ CHUNK_TYPE →
+            Exactly reading kind.view (λ a. kind.read raw.entry.value.now ≡ a) result }
+        ensures memory { IsErrOf result ChunkParseError.OutOfMemory → IsOk (kind.read raw.entry.value.now) }
     {
         if raw.typ != CHUNK_TYPE {
             return Err(ChunkParseError::InvalidType);
@@ -115,7 +116,7 @@ impl IForwardTsnChunk {
     /// `InvalidLength` exactly where the value has fewer than 4 bytes, or no multiple of 8 after
     /// the first 4.
     pub(crate) fn check(value: &[u8]) -> Result<(), ChunkParseError>
-        ensures { Passes result (kind.read value.now) }
+        ensures { Answers checking (λ u. u) (Tested (kind.read value.now)) result }
     {
         if value.len() < FIXED_SIZE {
             return Err(ChunkParseError::InvalidLength);
@@ -129,7 +130,7 @@ impl IForwardTsnChunk {
     /// What the value means.
     pub fn build(alloc: Global, value: &[u8]) -> Result<Self, AllocError>
         requires { IsOk (kind.read value.now) }
-        ensures { Builds kind.view result (kind.read value.now) }
+        ensures { IfOk result (λ x. kind.read value.now ≡ Ok (kind.view x)) }
     {
         let count = (value.len() - FIXED_SIZE) / 8;
         let skipped_streams = fields_from_bytes::<MidStreamField>(

@@ -1,6 +1,7 @@
 //! The check of a chunk without a list, ahead of building it.
 
-ghost use Rattle.dcsctp_tlv.specs.Reading.{Passes};
+ghost use Rattle.std.specs.Prelude.{◌≡◌, IsErrOf};
+ghost use Rattle.dcsctp_tlv.specs.Reading.{Exactly, checking};
 ghost use Rattle.dcsctp_chunk.specs.PlainCheck.{plain_outcome};
 
 use crate::cookie_ack_chunk::{self, CookieAckChunk};
@@ -21,7 +22,9 @@ use dcsctp_tlv::error::ChunkParseError;
 /// `InvalidLength` exactly where the value has a size that its kind doesn't allow. Each value
 /// passes whose type has no kind of its own, or a kind with a list of parameters or error causes.
 pub fn plain_check(raw: RawChunk) -> Result<(), ChunkParseError>
-    ensures { Passes result (plain_outcome raw.entry.typ raw.entry.flags raw.entry.value.now) }
+    ensures answer { Exactly checking (λ u. u)
+        (λ a. plain_outcome raw.entry.typ raw.entry.flags raw.entry.value.now ≡ a) result }
+    ensures memory { ¬ IsErrOf result ChunkParseError.OutOfMemory }
 {
     match raw.typ {
         data_chunk::CHUNK_TYPE => DataChunk::check(raw.value),

@@ -12,7 +12,7 @@
 
 ghost use Rattle.std.specs.Prelude.{◌≡◌, ◌≢◌, ◌↔◌, Some, Ok, IsOk, IsErrOf};
 ghost use Rattle.std.specs.Int.{w32, to_be_bytes};
-ghost use Rattle.dcsctp_tlv.specs.Reading.{Gives, Never, Passes};
+ghost use Rattle.dcsctp_tlv.specs.Reading.{Answers, Exactly, reading, checking, Tested};
 ghost use Rattle.dcsctp_chunk.specs.Shutdown as kind;
 
 use crate::raw_chunk::RawChunk;
@@ -41,8 +41,9 @@ impl ShutdownChunk {
     /// bytes.
     pub fn try_from(raw: RawChunk) -> Result<Self, ChunkParseError>
         ensures other { IsErrOf result ChunkParseError.InvalidType ↔ (raw.entry.typ ≢ CHUNK_TYPE) }
-        ensures own { raw.entry.typ ≡ CHUNK_TYPE →
-            Gives Never kind.view result (kind.read raw.entry.value.now) }
+        ensures answer { raw.entry.typ ≡ CHUNK_TYPE →
+            Exactly reading kind.view (λ a. kind.read raw.entry.value.now ≡ a) result }
+        ensures memory { ¬ IsErrOf result ChunkParseError.OutOfMemory }
     {
         if raw.typ != CHUNK_TYPE {
             return Err(ChunkParseError::InvalidType);
@@ -53,7 +54,7 @@ impl ShutdownChunk {
 
     /// `InvalidLength` exactly where the value hasn't 4 bytes.
     pub(crate) fn check(value: &[u8]) -> Result<(), ChunkParseError>
-        ensures { Passes result (kind.read value.now) }
+        ensures { Answers checking (λ u. u) (Tested (kind.read value.now)) result }
     {
         if value.len() != 4 {
             return Err(ChunkParseError::InvalidLength);

@@ -9,7 +9,7 @@
 //! ```
 
 ghost use Rattle.std.specs.Prelude.{◌≡◌, ◌≢◌, ◌↔◌, ℕ, List, [], ◌∷◌, Some, Ok, IsOk, IsErrOf};
-ghost use Rattle.dcsctp_tlv.specs.Reading.{Gives, Never, Passes};
+ghost use Rattle.dcsctp_tlv.specs.Reading.{Answers, Exactly, reading, checking, Tested};
 ghost use Rattle.dcsctp_chunk.specs.Flags.{flag_byte};
 ghost use Rattle.dcsctp_chunk.specs.ShutdownComplete as kind;
 
@@ -38,8 +38,9 @@ impl ShutdownCompleteChunk {
     /// `InvalidType` exactly for another type; `InvalidLength` exactly where the value isn't empty.
     pub fn try_from(raw: RawChunk) -> Result<Self, ChunkParseError>
         ensures other { IsErrOf result ChunkParseError.InvalidType ↔ (raw.entry.typ ≢ CHUNK_TYPE) }
-        ensures own { raw.entry.typ ≡ CHUNK_TYPE →
-            Gives Never kind.view result (kind.read raw.entry.flags raw.entry.value.now) }
+        ensures answer { raw.entry.typ ≡ CHUNK_TYPE →
+            Exactly reading kind.view (λ a. kind.read raw.entry.flags raw.entry.value.now ≡ a) result }
+        ensures memory { ¬ IsErrOf result ChunkParseError.OutOfMemory }
     {
         if raw.typ != CHUNK_TYPE {
             return Err(ChunkParseError::InvalidType);
@@ -50,7 +51,7 @@ impl ShutdownCompleteChunk {
 
     /// `InvalidLength` exactly where the value isn't empty.
     pub(crate) fn check(value: &[u8]) -> Result<(), ChunkParseError>
-        ensures { (flags : ℕ) → Passes result (kind.read flags value.now) }
+        ensures { (flags : ℕ) → Answers checking (λ u. u) (Tested (kind.read flags value.now)) result }
     {
         if !value.is_empty() {
             return Err(ChunkParseError::InvalidLength);

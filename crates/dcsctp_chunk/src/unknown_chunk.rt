@@ -10,8 +10,8 @@
 //! +-+-+-+-+-+-+-+-+-+-+-+-+-+-+-+-+-+-+-+-+-+-+-+-+-+-+-+-+-+-+-+-+
 //! ```
 
-ghost use Rattle.std.specs.Prelude.{◌≡◌, Some};
-ghost use Rattle.dcsctp_tlv.specs.Reading.{Gives, IfMeant, Builds};
+ghost use Rattle.std.specs.Prelude.{◌≡◌, Some, IfOk, IsOk, IsErrOf, Ok};
+ghost use Rattle.dcsctp_tlv.specs.Reading.{Exactly, reading};
 ghost use Rattle.dcsctp_chunk.specs.Unknown as kind;
 
 use crate::raw_chunk::RawChunk;
@@ -36,15 +36,16 @@ pub struct UnknownChunk {
 impl UnknownChunk {
     /// Keeps a chunk of any type, and copies its value; `OutOfMemory` is its only error.
     pub fn try_from(alloc: Global, raw: RawChunk) -> Result<Self, ChunkParseError>
-        ensures { Gives IfMeant kind.view result
-            (kind.read raw.entry.typ raw.entry.flags raw.entry.value.now) }
+        ensures answer { Exactly reading kind.view
+            (λ a. kind.read raw.entry.typ raw.entry.flags raw.entry.value.now ≡ a) result }
+        ensures memory { IsErrOf result ChunkParseError.OutOfMemory → IsOk (kind.read raw.entry.typ raw.entry.flags raw.entry.value.now) }
     {
         Ok(UnknownChunk::build(alloc, raw.typ, raw.flags, raw.value)?)
     }
 
     /// Copies the value.
     pub fn build(alloc: Global, typ: u8, flags: u8, value: &[u8]) -> Result<Self, AllocError>
-        ensures { Builds kind.view result (kind.read typ flags value.now) }
+        ensures { IfOk result (λ x. kind.read typ flags value.now ≡ Ok (kind.view x)) }
     {
         Ok(UnknownChunk {
             typ,

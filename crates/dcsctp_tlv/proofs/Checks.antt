@@ -1,20 +1,14 @@
 -- A check of a list, and the build after it: what both have gone over, and what is left.
 use Rattle.std.proofs.Common.{◌≡◌, ◌≢◌, ℕ, suc, ◌+◌, ◌*◌, ◌≤◌, true, false, Result, Ok, Err, ◌⊎◌, inl, inr, List, [], ◌∷◌, ◌++◌, length, refl, sym, ap, subst, ◌∙◌, arith, get_or, Fits}
-use Rattle.std.specs.Prelude.{◌↔◌, IsOk, IsErrOf}
 use Rattle.std.specs.List.{flat_map}
-use Rattle.std.specs.Int.{w8}
 use Rattle.std.proofs.lemmas.List.{append-nil, get_or-drop, length-append, length-drop}
-use Rattle.dcsctp_tlv.specs.declared.error.ChunkParseError.{ChunkParseError}
-use Rattle.dcsctp_tlv.specs.declared.error.ChunkParseError.TheVariants.{InvalidLength, InvalidType, InvalidPadding, InvalidValue, OutOfMemory}
-use Rattle.dcsctp_tlv.specs.Fault.{Fault, Length, Padding, Value}
 use Rattle.dcsctp_tlv.specs.Number.{AreBytes}
 use Rattle.dcsctp_tlv.specs.Count.{total}
 use Rattle.dcsctp_tlv.specs.Frame.{padding_size, round_up_to_4, Item, item_bytes, PaddingRule, AreFormed, AreItems, frame_length, BeginsWithFrame, frame_value, frame_padding, frame_rest}
-use Rattle.dcsctp_tlv.specs.Level.{Row, Level, HasMeaning, ItemsMean, MeansTrees, MeansMany, MeansCounted, HasFault, front_row}
-use Rattle.dcsctp_tlv.specs.Reading.{Answers, IsFault, Finds, error_of, ChecksExactly, ReadsExactly}
+use Rattle.dcsctp_tlv.specs.Level.{Level, ItemsMean, MeansTrees, MeansCounted, front_row}
 use Rattle.dcsctp_tlv.proofs.Items.{front_item, front_length, items_before}
 use Rattle.dcsctp_tlv.proofs.Lists.{Progress, step, finish}
-use Rattle.dcsctp_tlv.proofs.Laws.{LawfulRow, Lawful, front_is, rest_is, list_one, list_apart, list_same}
+use Rattle.dcsctp_tlv.proofs.Laws.{front_is, rest_is}
 
 -- ---- the check
 
@@ -162,119 +156,3 @@ as_many level [] [] m = refl
 as_many level [] (t ∷ ts) m = absurd m
 as_many level (i ∷ is) [] m = absurd m
 as_many level (i ∷ is) (t ∷ ts) m = ap suc (as_many level is ts m.1)
-
--- ---- both ways, where each list of bytes has one answer
-
--- one answer at most
-pub record Single {T : Type 0} (means : T → Type 0) (faults : Fault → Type 0) : Type 0 where
-  pub one : (s t : T) → means s → means t → s ≡ t
-  pub apart : (t : T) (e : Fault) → means t → faults e → ⊥
-  pub same : (d e : Fault) → faults d → faults e → d ≡ e
-
-pub row_single : {T : Type 0} (row : Row T) → LawfulRow row → (v : List ℕ) → AreBytes v → Single (row.means v) (row.faults v)
-row_single row law v fits = record {
-  one = law.one v;
-  apart = λ t e m f. law.apart v t e fits m f;
-  same = λ d e f g. law.same v d e fits f g;
-}
-
-pub list_single : {T : Type 0} (level : Level T) → Lawful level → (bytes : List ℕ) → AreBytes bytes → Single (MeansTrees level bytes) (HasFault level bytes)
-list_single level law bytes fits = record {
-  one = list_one level law bytes;
-  apart = λ t e m f. list_apart level law bytes t e fits m f;
-  same = λ d e f g. list_same level law bytes d e fits f g;
-}
-
--- an error that tells a fault is a fault's
-fault_told : (faults : Fault → Type 0) (d : ChunkParseError) → IsFault faults d → (e : Fault) × (d ≡ error_of e) × faults e
-fault_told faults InvalidLength f = (Length, refl, f)
-fault_told faults InvalidPadding f = (Padding, refl, f)
-fault_told faults InvalidValue f = (Value, refl, f)
-fault_told faults InvalidType f = absurd f
-fault_told faults OutOfMemory f = absurd f
-
-pub error_one : (d e : Fault) → error_of d ≡ error_of e → d ≡ e
-error_one Length Length h = refl
-error_one Length Padding h = absurd cc
-error_one Length Value h = absurd cc
-error_one Padding Length h = absurd cc
-error_one Padding Padding h = refl
-error_one Padding Value h = absurd cc
-error_one Value Length h = absurd cc
-error_one Value Padding h = absurd cc
-error_one Value Value h = refl
-
-no_memory : (e : Fault) → error_of e ≡ OutOfMemory → ⊥
-no_memory Length h = cc
-no_memory Padding h = cc
-no_memory Value h = cc
-
--- the fault that is told is the one that there is
-faulty_both : {X T : Type 0} (means : T → Type 0) (faults : Fault → Type 0) → Single means faults → (d : Fault) → faults d → (r : Result X ChunkParseError) → r ≡ Err (error_of d)
-    → (e : Fault) → IsErrOf r (error_of e) ↔ faults e
-faulty_both means faults single d f r is e = (
-  (λ h. subst faults (error_one d e (let p : Err (error_of d) ≡ Err (error_of e) = sym is ∙ h in cc)) f),
-  (λ g. is ∙ ap (λ (x : Fault). Err (error_of x)) (single.same d e f g)),
-)
-
--- where something is meant, no fault is told, and there is none
-no_fault : {X T : Type 0} (means : T → Type 0) (faults : Fault → Type 0) → Single means faults → (t : T) → means t → (r : Result X ChunkParseError) → ((e : Fault) → r ≡ Err (error_of e) → ⊥)
-    → (e : Fault) → IsErrOf r (error_of e) ↔ faults e
-no_fault means faults single t m r none e = ((λ h. absurd (none e h)), (λ f. absurd (single.apart t e m f)))
-
-pub checks_exactly : {T : Type 0} (level : Level T) → Lawful level → (bytes : List ℕ) → AreBytes bytes → (r : Result ℕ ChunkParseError) → Finds r (MeansMany level bytes) (HasFault level bytes) → ChecksExactly r level bytes
-checks_exactly level law bytes fits (Ok n) f = record {
-  good = ((λ _. (f.0, f.1)), (λ _. refl));
-  counted = λ trees m. f.2 ∙ ap length (list_one level law bytes f.0 trees f.1 m);
-  faulty = no_fault (MeansTrees level bytes) (HasFault level bytes) (list_single level law bytes fits) f.0 f.1 (Ok n) (λ e h. cc);
-}
-checks_exactly level law bytes fits (Err d) f =
-    let told = fault_told (HasFault level bytes) d f in
-    record {
-      good = ((λ h. absurd (let e : false ≡ true = h in cc)), (λ m. absurd (list_apart level law bytes m.0 told.0 fits m.1 told.2)));
-      counted = λ trees m. tt;
-      faulty = faulty_both (MeansTrees level bytes) (HasFault level bytes) (list_single level law bytes fits) told.0 told.2 (Err d) (ap (λ (x : ChunkParseError). Err x) told.1);
-    }
-
-neither : {X : Type 0} (d : ChunkParseError) (r : Result X ChunkParseError) → r ≡ Err d → (d ≡ OutOfMemory → ⊥) → IsOk r ⊎ IsErrOf r OutOfMemory → ⊥
-neither d (Ok x) is none h = cc
-neither d (Err e) is none (inl h) = let p : false ≡ true = h in cc
-neither d (Err e) is none (inr h) = none cc
-
-told_exactly : {X T : Type 0} (view : X → T) (means : T → Type 0) (faults : Fault → Type 0) → Single means faults → (d : ChunkParseError) → IsFault faults d → (r : Result X ChunkParseError) → r ≡ Err d → ReadsExactly r view means faults
-told_exactly view means faults single d f (Ok x) is = absurd cc
-told_exactly view means faults single d f (Err x) is =
-    let told = fault_told faults d f in
-    record {
-      good = ((λ h. absurd (neither d (Err x) is (λ e. no_memory told.0 (sym told.1 ∙ e)) h)), (λ m. absurd (single.apart m.0 told.0 m.1 told.2)));
-      one = λ t m. tt;
-      faulty = faulty_both means faults single told.0 told.2 (Err x) (is ∙ ap (λ (y : ChunkParseError). Err y) told.1);
-    }
-
--- what is answered is exact, where memory runs out only where something is meant
-pub reads_exactly : {X T : Type 0} (view : X → T) (means : T → Type 0) (faults : Fault → Type 0) → Single means faults → (r : Result X ChunkParseError)
-    → Answers r (λ x. means (view x)) faults → (IsErrOf r OutOfMemory → (t : T) × means t) → ReadsExactly r view means faults
-reads_exactly view means faults single (Ok x) a memory = record {
-  good = ((λ _. (view x, a)), (λ _. inl refl));
-  one = λ t m. single.one (view x) t a m;
-  faulty = no_fault means faults single (view x) a (Ok x) (λ e h. cc);
-}
-reads_exactly {X} view means faults single (Err OutOfMemory) a memory = record {
-  good = ((λ _. memory refl), (λ _. inr refl));
-  one = λ t m. tt;
-  faulty = (let r : Result X ChunkParseError = Err OutOfMemory in no_fault means faults single (memory refl).0 (memory refl).1 r (λ e h. no_memory e cc));
-}
-reads_exactly view means faults single (Err InvalidLength) a memory = told_exactly view means faults single InvalidLength a (Err InvalidLength) refl
-reads_exactly view means faults single (Err InvalidPadding) a memory = told_exactly view means faults single InvalidPadding a (Err InvalidPadding) refl
-reads_exactly view means faults single (Err InvalidValue) a memory = told_exactly view means faults single InvalidValue a (Err InvalidValue) refl
-reads_exactly view means faults single (Err InvalidType) a memory = absurd a
-
--- a value has one answer under a lawful row
-pub row_exactly : {X T : Type 0} {row : Row T} → LawfulRow row → (v : List ℕ)
-    → ((i : ℕ) → Fits w8 (get_or v i 0)) → {view : X → T} {r : Result X ChunkParseError}
-    → Answers r (λ x. row.means v (view x)) (row.faults v)
-    × (IsErrOf r OutOfMemory → HasMeaning row v)
-    → ReadsExactly r view (row.means v) (row.faults v)
-row_exactly {X} {T} {row} law v fits {view} {r} a =
-    let single = row_single row law v (λ i. (fits i).fits) in
-    reads_exactly view (row.means v) (row.faults v) single r a.0 a.1

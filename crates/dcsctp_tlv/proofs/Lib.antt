@@ -22,6 +22,7 @@ pub mod ParameterKinds
 pub mod ParameterLaws
 pub mod Local
 pub mod Checks
+pub mod Exact
 pub mod Places
 pub mod Tables
 pub mod FormatLaws

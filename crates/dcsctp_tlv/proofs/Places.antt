@@ -1,28 +1,30 @@
 -- Where a fault lies, and what a check finds.
-use Rattle.std.proofs.Common.{◌≡◌, ◌≢◌, ℕ, ◌+◌, ◌-◌, ◌≤◌, true, false, Bool, cond, Result, Ok, Err, List, [], ◌∷◌, length, drop, refl, sym, ap, ◌∙◌, arith, inr}
+use Rattle.std.proofs.Common.{◌≡◌, ◌≢◌, ℕ, ◌+◌, ◌-◌, ◌≤◌, true, false, Bool, cond, Result, Ok, Err, List, [], ◌∷◌, length, drop, refl, sym, ap, ◌∙◌, arith, inl, inr}
 use Rattle.std.specs.Prelude.{◌==◌}
 use Rattle.std.proofs.lemmas.List.{length-take, length-drop}
 use Rattle.dcsctp_tlv.specs.declared.error.ChunkParseError.{ChunkParseError}
-use Rattle.dcsctp_tlv.specs.declared.error.ChunkParseError.TheVariants.{InvalidLength, InvalidType, InvalidPadding, InvalidValue, OutOfMemory}
+use Rattle.dcsctp_tlv.specs.declared.error.ChunkParseError.TheVariants.{InvalidLength}
 use Rattle.dcsctp_tlv.specs.declared.error.Located.{Located}
-use Rattle.dcsctp_tlv.specs.Fault.{Fault, Length, Padding, Value}
+use Rattle.dcsctp_tlv.specs.Fault.{Fault, Length, Padding}
 use Rattle.dcsctp_tlv.specs.Frame.{round_up_to_4, padding_size, first_nonzero, BeginsWithFrame, frame_length, frame_value, frame_padding}
-use Rattle.dcsctp_tlv.specs.Level.{Row, plain, FaultsAt, MeansParts, Level, front_row, no_frame, value, padding, front_offset, HasFaultAt, MeansMany, listed}
-use Rattle.dcsctp_tlv.specs.Reading.{IsFault, FindsAt}
+use Rattle.dcsctp_tlv.specs.Level.{Row, plain, FaultsAt, Level, front_row, no_frame, value, padding, front_offset, HasFaultAt, listed}
+use Rattle.dcsctp_tlv.specs.Reading.{Answers, error_of, checking, locating, ListAnswer, Counted, RowLocated, ListLocated, ListedLocated}
 use Rattle.dcsctp_tlv.proofs.Lists.{Progress, fault_at}
 use Rattle.dcsctp_tlv.proofs.Laws.{LawfulRow, plain_lawful}
 
--- what a fault of one thing is of another
-pub fault_as : {P Q : Fault → Type 0} → ((e : Fault) → P e → Q e) → (x : ChunkParseError) → IsFault P x → IsFault Q x
-fault_as move InvalidLength f = move Length f
-fault_as move InvalidType f = absurd f
-fault_as move InvalidPadding f = move Padding f
-fault_as move InvalidValue f = move Value f
-fault_as move OutOfMemory f = absurd f
+-- what is a fault of a part at one place is a fault of the whole at another
+pub moved : {T U : Type 0} (move : ℕ → ℕ) (P : Result T (Fault × ℕ) → Type 0) (Q : Result U (Fault × ℕ) → Type 0) → ((f : Fault × ℕ) → P (Err f) → Q (Err (f.0, move f.1)))
+    → (l : Located) → Answers locating (λ (t : T). t) P (Err l) → Answers locating (λ (u : U). u) Q (Err (record { offset = move l.offset; fault = l.fault }))
+moved move P Q grows l (inl found) =
+    let place : Located → Located = λ x. record { offset = move x.offset; fault = x.fault } in
+    inl ((found.0.0, move found.0.1), ap place found.1, grows found.0 found.2)
+moved move P Q grows l (inr none) = absurd none
 
--- a fault, wherever it lies
-pub fault_only : (faults : Fault → Type 0) (at : (e : Fault) → ℕ → faults e → Type 0) (n : ℕ) (x : ChunkParseError) → IsFault (λ e. (f : faults e) × at e n f) x → IsFault faults x
-fault_only faults at n x f = fault_as {P = λ e. (f : faults e) × at e n f} {Q = faults} (λ e g. g.0) x f
+-- a list's fault, wherever it lies
+pub fault_only : {T : Type 0} (level : Level T) (parts : T → ℕ) (bytes : List ℕ) (l : Located) → Answers locating (λ (n : ℕ × ℕ). n) (ListLocated level parts bytes) (Err l)
+    → Answers checking (λ (n : ℕ). n) (Counted length (ListAnswer level bytes)) (Err l.fault)
+fault_only level parts bytes l (inl found) = inl (found.0.0, ap (λ (x : Located). x.fault) found.1, found.2.0)
+fault_only level parts bytes l (inr none) = absurd none
 
 -- ---- rows
 
@@ -30,8 +32,12 @@ fault_only faults at n x f = fault_as {P = λ e. (f : faults e) × at e n f} {Q 
 abbrev pub AtFront : {T : Type 0} → Row T → Type 0
 AtFront row = (value : List ℕ) (e : Fault) (f : row.faults value e) → 0 ≡ row.offset value e f
 
-pub fault_at_front : {T : Type 0} (row : Row T) → AtFront row → (v : List ℕ) (x : ChunkParseError) → IsFault (row.faults v) x → IsFault (λ e. FaultsAt row v e 0) x
-fault_at_front row front v x f = fault_as {P = row.faults v} {Q = λ e. FaultsAt row v e 0} (λ e g. (g, front v e g)) x f
+pub fault_at_front : {T U : Type 0} (row : Row T) (parts : T → ℕ) (v : List ℕ) (answer : Result U Fault → Type 0) → ((e : Fault) → answer (Err e) → FaultsAt row v e 0)
+    → (x : ChunkParseError) → Answers checking (λ (u : U). u) answer (Err x) → Answers locating (λ (n : ℕ). n) (RowLocated parts row v) (Err (record { offset = 0; fault = x }))
+fault_at_front row parts v answer front x (inl found) =
+    let place : ChunkParseError → Located = λ y. record { offset = 0; fault = y } in
+    inl ((found.0, 0), ap place found.1, front found.0 found.2)
+fault_at_front row parts v answer front x (inr none) = absurd none
 
 -- a value is read at fixed places: so it has one answer, and its fault is the item's as a whole
 abbrev pub IsPlain : {T : Type 0} → Row T → Type 0
@@ -42,17 +48,27 @@ is_plain read = (plain_lawful read, λ v e f. refl)
 
 -- what a check finds of a list in a value
 pub finds_listed : {T U : Type 0} (rule : List ℕ → Bool) (place : ℕ) (level : Level U) (tree_of : List ℕ → List U → T) (parts : T → ℕ) → ((v : List ℕ) (ts : List U) → parts (tree_of v ts) ≡ 1 + length ts)
-    → (v : List ℕ) (r : Result ℕ Located) → rule v ≡ true
-    → FindsAt r (λ n. (k : ℕ) × MeansMany level (drop place v) k × (n ≡ 1 + k)) (λ e n. (k : ℕ) × HasFaultAt level (drop place v) e k × (n ≡ 4 + (place + k)))
-    → FindsAt r (MeansParts parts (listed rule place level tree_of) v) (FaultsAt (listed rule place level tree_of) v)
+    → (v : List ℕ) (r : Result ℕ Located) → rule v ≡ true → Answers locating (λ (n : ℕ). n) (ListedLocated level place v) r
+    → Answers locating (λ (n : ℕ). n) (RowLocated parts (listed rule place level tree_of) v) r
 finds_listed rule place level tree_of parts same v (Ok n) h f =
     let m = f.1 in
     (tree_of v m.0, (h, (m.0, m.1, refl)), f.2 ∙ ap (λ (k : ℕ). 1 + k) m.2 ∙ sym (same v m.0))
-finds_listed rule place level tree_of parts same v (Err l) h f =
-    fault_as {P = λ e. (k : ℕ) × HasFaultAt level (drop place v) e k × (l.offset ≡ 4 + (place + k))} {Q = λ e. FaultsAt (listed rule place level tree_of) v e l.offset}
-    (λ e g. (inr (h, g.1.0), g.2 ∙ ap (λ (k : ℕ). 4 + (place + k)) g.1.1)) l.fault f
+finds_listed rule place level tree_of parts same v (Err l) h (inl found) =
+    let g = found.2 in
+    inl (found.0, found.1, (inr (h, g.1.0), g.2 ∙ ap (λ (k : ℕ). 4 + (place + k)) g.1.1))
+finds_listed rule place level tree_of parts same v (Err l) h (inr none) = absurd none
+
+-- where the rule is broken, it is the item's fault as a whole
+pub rule_broken : {T U : Type 0} (rule : List ℕ → Bool) (place : ℕ) (level : Level U) (tree_of : List ℕ → List U → T) (parts : T → ℕ) (v : List ℕ) → rule v ≡ false
+    → Answers locating (λ (n : ℕ). n) (RowLocated parts (listed rule place level tree_of) v) (Err (record { offset = 0; fault = InvalidLength }))
+rule_broken rule place level tree_of parts v h = inl ((Length, 0), refl, (inl (h, refl), refl))
 
 -- ---- lists
+
+-- a fault and its place are what a check gives
+pub at_place : {T : Type 0} (level : Level T) (parts : T → ℕ) (bytes : List ℕ) (e : Fault) (n : ℕ) → HasFaultAt level bytes e n
+    → Answers locating (λ (k : ℕ × ℕ). k) (ListLocated level parts bytes) (Err (record { offset = n; fault = error_of e }))
+at_place level parts bytes e n f = inl ((e, n), refl, f)
 
 -- what is wrong at the front of what is left is the list's fault: there is no frame,
 pub frame_fault : {T : Type 0} (level : Level T) (bytes : List ℕ) (trees : List T) (rest : List ℕ) (ahead : ℕ) → Progress level bytes trees rest → ahead ≡ length bytes - length rest → rest ≢ [] → ¬ BeginsWithFrame rest
@@ -60,11 +76,12 @@ pub frame_fault : {T : Type 0} (level : Level T) (bytes : List ℕ) (trees : Lis
 frame_fault level bytes trees rest ahead p is h none = fault_at level bytes trees rest Length ahead p (no_frame h none refl) (omega (arith, is))
 
 -- or its value is at fault,
-pub value_fault : {T : Type 0} (level : Level T) (bytes : List ℕ) (trees : List T) (rest : List ℕ) (x : ChunkParseError) (ahead within : ℕ) → Progress level bytes trees rest → ahead ≡ length bytes - length rest → BeginsWithFrame rest
-    → IsFault (λ e. FaultsAt (front_row level rest) (frame_value rest) e within) x → IsFault (λ e. HasFaultAt level bytes e (ahead + within)) x
-value_fault level bytes trees rest x ahead within p is frame f =
-    fault_as {P = λ e. FaultsAt (front_row level rest) (frame_value rest) e within} {Q = λ e. HasFaultAt level bytes e (ahead + within)}
-    (λ e g. fault_at level bytes trees rest e (ahead + within) p (value frame g.0) (ap (λ (k : ℕ). ahead + k) g.1 ∙ ap (λ (k : ℕ). k + front_offset level rest e (value frame g.0)) is)) x f
+pub value_fault : {T : Type 0} (level : Level T) (parts : T → ℕ) (bytes : List ℕ) (trees : List T) (rest : List ℕ) (l : Located) (ahead : ℕ) → Progress level bytes trees rest → ahead ≡ length bytes - length rest → BeginsWithFrame rest
+    → Answers locating (λ (n : ℕ). n) (RowLocated parts (front_row level rest) (frame_value rest)) (Err l)
+    → Answers locating (λ (n : ℕ × ℕ). n) (ListLocated level parts bytes) (Err (record { offset = ahead + l.offset; fault = l.fault }))
+value_fault level parts bytes trees rest l ahead p is frame f =
+    moved (λ k. ahead + k) (RowLocated parts (front_row level rest) (frame_value rest)) (ListLocated level parts bytes)
+    (λ (e, within) g. fault_at level bytes trees rest e (ahead + within) p (value frame g.0) (ap (λ (k : ℕ). ahead + k) g.1 ∙ ap (λ (k : ℕ). k + front_offset level rest e (value frame g.0)) is)) l f
 
 -- or its padding isn't accepted
 pub padding_fault : {T : Type 0} (level : Level T) (bytes : List ℕ) (trees : List T) (rest : List ℕ) (t : T) (ahead within : ℕ) → Progress level bytes trees rest → ahead ≡ length bytes - length rest → BeginsWithFrame rest

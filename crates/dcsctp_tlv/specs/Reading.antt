@@ -1,101 +1,102 @@
--- What a reader answers, beside what a table of RFC 9260 section 3.2, 3.2.1 or 3.3.10 says of the
--- bytes.
-use Rattle.std.specs.Prelude.{◌≡◌, ◌↔◌, ◌⊎◌, ℕ, List, Result, Ok, Err, IsOk, IfOk, IsErrOf, length}
+-- What a call answers, beside what the grammar says of the bytes: the same of a value, of a list and
+-- of a packet (RFC 9260 sections 3, 3.2, 3.2.1 and 3.3.10).
+--
+-- The grammar's answer is what `Result` has two cases for: a tree that the bytes mean, or a fault
+-- that they have. Two notions say how a call's result stands to it: `Answers` and `Exactly`.
+use Rattle.std.specs.Prelude.{◌≡◌, ◌⊎◌, ℕ, List, Result, Ok, Err, IsOk, MatchResult, ◌+◌, drop}
 use Rattle.dcsctp_tlv.specs.declared.error.ChunkParseError.{ChunkParseError}
 use Rattle.dcsctp_tlv.specs.declared.error.Located.{Located}
-use Rattle.dcsctp_tlv.specs.declared.error.ChunkParseError.TheVariants.{InvalidLength, InvalidType, InvalidPadding, InvalidValue, OutOfMemory}
-use Rattle.dcsctp_tlv.specs.Level.{Level, MeansTrees, MeansSome, HasFault}
+use Rattle.dcsctp_tlv.specs.declared.error.ChunkParseError.TheVariants.{InvalidLength, InvalidPadding, InvalidValue, OutOfMemory}
+use Rattle.dcsctp_tlv.specs.Level.{Row, Level, HasMeaning, FaultsAt, MeansParts, MeansTrees, MeansMany, MeansCounted, HasFault, HasFaultAt}
 use Rattle.dcsctp_tlv.specs.Fault.{Fault, Length, Padding, Value}
 
--- The error is a fault of the bytes, running out of memory aside.
-abbrev pub TellsFault : (Fault → Type 0) → ChunkParseError → Type 0
-TellsFault faults InvalidLength = faults Length
-TellsFault faults InvalidPadding = faults Padding
-TellsFault faults InvalidValue = faults Value
-TellsFault faults InvalidType = ⊥
-TellsFault faults OutOfMemory = Unit {0}
+-- ---- what a call answers
 
--- what the value was read as is what it means, and an error is its fault
-abbrev pub Answers : {X : Type 0} → Result X ChunkParseError → (X → Type 0)
-    → (Fault → Type 0) → Type 0
-Answers (Ok x) means faults = means x
-Answers (Err e) means faults = TellsFault faults e
+-- The errors of a call: that of each fault, and those that say that memory ran out.
+pub record Errors (F E : Type 0) : Type 1 where
+  pub of : F → E
+  pub lack : E → Type 0
 
--- ---- where the table is a function of the value
+-- What the call gives, the grammar gives: the value that was read, or a fault whose error is told;
+-- or memory ran out.
+abbrev pub Answers : {X T E F : Type 0} → Errors F E → (X → T) → (Result T F → Type 0)
+    → Result X E → Type 0
+Answers errors view answer (Ok x) = answer (Ok (view x))
+Answers errors view answer (Err e) =
+    ((f : _) × (e ≡ errors.of f) × answer (Err f)) ⊎ errors.lack e
 
--- Running out of memory may be the answer where a tree is meant, or never.
-pub data Memory : Type 0 where
-  Never : Memory
-  IfMeant : Memory
+-- The same both ways: what the grammar gives, the call gives too, unless memory ran out. It never
+-- does in place of a fault.
+pub record Exactly {X T E F : Type 0} (errors : Errors F E) (view : X → T)
+    (answer : Result T F → Type 0) (result : Result X E) : Type 0 where
+  pub answers : Answers errors view answer result
+  pub value : (t : T) → answer (Ok t) → MatchResult result (λ x. view x ≡ t) errors.lack
+  pub fault : (f : F) → answer (Err f) → result ≡ Err (errors.of f)
 
-abbrev pub MayLackMemory : {T : Type 0} → Memory → Result T Fault → Type 0
-MayLackMemory Never read = ⊥
-MayLackMemory IfMeant read = IsOk read
+-- ---- errors of the readers and the checks of items
 
--- A reader of one kind gives the tree exactly where the table reads one, the fault exactly where
--- it reads a fault, and nothing else but running out of memory.
-abbrev pub Gives : {X T : Type 0} → Memory → (X → T) → Result X ChunkParseError
-    → Result T Fault → Type 0
-Gives memory view (Ok x) read = read ≡ Ok (view x)
-Gives memory view (Err InvalidLength) read = read ≡ Err Length
-Gives memory view (Err InvalidPadding) read = read ≡ Err Padding
-Gives memory view (Err InvalidValue) read = read ≡ Err Value
-Gives memory view (Err InvalidType) read = ⊥
-Gives memory view (Err OutOfMemory) read = MayLackMemory memory read
-
--- ---- checks, which take no memory
-
--- the error is a fault of the bytes, and never that memory ran out
-abbrev pub IsFault : (Fault → Type 0) → ChunkParseError → Type 0
-IsFault faults InvalidLength = faults Length
-IsFault faults InvalidPadding = faults Padding
-IsFault faults InvalidValue = faults Value
-IsFault faults InvalidType = ⊥
-IsFault faults OutOfMemory = ⊥
-
--- a check answers what it found, or the fault
-abbrev pub Finds : {X : Type 0} → Result X ChunkParseError → (X → Type 0)
-    → (Fault → Type 0) → Type 0
-Finds (Ok x) found faults = found x
-Finds (Err e) found faults = IsFault faults e
-
--- the same where the fault has a place
-abbrev pub FindsAt : {X : Type 0} → Result X Located → (X → Type 0)
-    → (Fault → ℕ → Type 0) → Type 0
-FindsAt (Ok x) found faults_at = found x
-FindsAt (Err l) found faults_at = IsFault (λ e. faults_at e l.offset) l.fault
-
--- the check of a kind whose value is read at fixed places passes exactly where the table reads a
--- tree
-abbrev pub Passes : {X T : Type 0} → Result X ChunkParseError → Result T Fault → Type 0
-Passes result read = Finds result (λ _. IsOk read) (λ e. read ≡ Err e)
-
--- what a build gave is what the table reads
-abbrev pub Builds : {X T E : Type 0} → (X → T) → Result X E → Result T Fault → Type 0
-Builds view (Ok x) read = read ≡ Ok (view x)
-Builds view (Err e) read = Unit {0}
-
--- ---- both ways, which the laws of the tables give: no bytes have two answers
-
--- the error that tells a fault
 abbrev pub error_of : Fault → ChunkParseError
 error_of Length = InvalidLength
 error_of Padding = InvalidPadding
 error_of Value = InvalidValue
 
--- a good check, and its count, exactly where the bytes mean trees; the fault exactly where they
--- have one
-pub record ChecksExactly {T : Type 0} (result : Result ℕ ChunkParseError) (level : Level T)
-    (bytes : List ℕ) : Type 0 where
-  pub good : IsOk result ↔ MeansSome level bytes
-  pub counted : (trees : List T) → MeansTrees level bytes trees
-      → IfOk result (λ n. n ≡ length trees)
-  pub faulty : (e : Fault) → IsErrOf result (error_of e) ↔ HasFault level bytes e
+-- of a reader
+abbrev pub reading : Errors Fault ChunkParseError
+reading = record { of = error_of; lack = λ e. e ≡ OutOfMemory }
 
--- Something was read, or memory ran out, exactly where something is meant, and what was read is
--- that; the fault exactly where there is one.
-pub record ReadsExactly {X T : Type 0} (result : Result X ChunkParseError) (view : X → T)
-    (means : T → Type 0) (faults : Fault → Type 0) : Type 0 where
-  pub good : (IsOk result ⊎ IsErrOf result OutOfMemory) ↔ ((t : T) × means t)
-  pub one : (t : T) → means t → IfOk result (λ x. view x ≡ t)
-  pub faulty : (e : Fault) → IsErrOf result (error_of e) ↔ faults e
+-- of a check, which takes no memory
+abbrev pub checking : Errors Fault ChunkParseError
+checking = record { of = error_of; lack = λ e. ⊥ }
+
+-- of a check that says where the fault lies
+abbrev pub locating : Errors (Fault × ℕ) Located
+locating = record {
+  of = λ f. record { offset = f.1; fault = error_of f.0 };
+  lack = λ e. ⊥;
+}
+
+-- ---- the grammar's answers
+
+-- to a value, by its kind's row
+abbrev pub RowAnswer : {T : Type 0} → Row T → List ℕ → Result T Fault → Type 0
+RowAnswer row value (Ok tree) = row.means value tree
+RowAnswer row value (Err e) = row.faults value e
+
+-- to a list of bytes, by its level
+abbrev pub ListAnswer : {T : Type 0} → Level T → List ℕ → Result (List T) Fault → Type 0
+ListAnswer level bytes (Ok trees) = MeansTrees level bytes trees
+ListAnswer level bytes (Err e) = HasFault level bytes e
+
+-- the same answer, with a number in place of the value
+abbrev pub Counted : {T F : Type 0} → (T → ℕ) → (Result T F → Type 0) → Result ℕ F → Type 0
+Counted count answer (Ok n) = (t : _) × answer (Ok t) × (n ≡ count t)
+Counted count answer (Err f) = answer (Err f)
+
+-- the same answer, without the value
+abbrev pub Tested : {T F : Type 0} → Result T F → Result (Unit {0}) F → Type 0
+Tested read (Ok _) = IsOk read
+Tested read (Err f) = read ≡ Err f
+
+-- to a value, without the tree
+abbrev pub RowTested : {T : Type 0} → Row T → List ℕ → Result (Unit {0}) Fault → Type 0
+RowTested row value (Ok _) = HasMeaning row value
+RowTested row value (Err e) = row.faults value e
+
+-- to a value: the number of parts of the tree that it means; or its fault, and where it lies
+abbrev pub RowLocated : {T : Type 0} → (T → ℕ) → Row T → List ℕ → Result ℕ (Fault × ℕ) → Type 0
+RowLocated parts row value (Ok n) = MeansParts parts row value n
+RowLocated parts row value (Err f) = FaultsAt row value f.0 f.1
+
+-- to a list: the numbers of trees and of their parts; or its fault, and where it lies
+abbrev pub ListLocated : {T : Type 0} → Level T → (T → ℕ) → List ℕ
+    → Result (ℕ × ℕ) (Fault × ℕ) → Type 0
+ListLocated level parts bytes (Ok n) = MeansCounted level parts bytes n.0 n.1
+ListLocated level parts bytes (Err f) = HasFaultAt level bytes f.0 f.1
+
+-- to a list in a value, after so many bytes: the item and the items of the list, counted; or the
+-- list's fault, and where it lies, from the item's first byte on
+abbrev pub ListedLocated : {T : Type 0} → Level T → ℕ → List ℕ → Result ℕ (Fault × ℕ) → Type 0
+ListedLocated level place value (Ok n) =
+    (k : ℕ) × MeansMany level (drop place value) k × (n ≡ 1 + k)
+ListedLocated level place value (Err f) =
+    (k : ℕ) × HasFaultAt level (drop place value) f.0 k × (f.1 ≡ 4 + (place + k))

@@ -28,7 +28,7 @@ pub mod zero_checksum_acceptable_parameter;
 ghost use Rattle.std.specs.Prelude.{◌≡◌, ◌≢◌, ◌≤◌, ◌*◌, [], length, vec_len, vec_capacity, IsOk, IfOk, IsErrOf, refl};
 ghost use Rattle.dcsctp_tlv.specs.Frame.{lenient};
 ghost use Rattle.dcsctp_tlv.specs.Level.{HasMeaning, MeansTrees, MeansSome, MeansMany, HasFault};
-ghost use Rattle.dcsctp_tlv.specs.Reading.{Answers, Finds, ChecksExactly, ReadsExactly};
+ghost use Rattle.dcsctp_tlv.specs.Reading.{Answers, Exactly, reading, checking, RowTested, RowAnswer, ListAnswer, Counted};
 ghost use Rattle.dcsctp_tlv.specs.Parameter as parameter;
 ghost use Rattle.dcsctp_tlv.specs.Parameter.{ParameterTree, parameters, TakesNoMemory, view, views};
 
@@ -126,28 +126,20 @@ impl Parameter {
     /// `OutOfMemory` only where it has a meaning, and what it holds can't be copied; never where it
     /// holds nothing on the heap. `InvalidType` is never answered.
     pub fn try_from(alloc: Global, raw: RawParameter) -> Result<Self, ChunkParseError>
-        ensures answer { Answers result
-            (λ p. (parameter.row raw.entry.typ).means raw.entry.value.now (view p))
-            ((parameter.row raw.entry.typ).faults raw.entry.value.now) }
+        ensures answer { Exactly reading view
+            (RowAnswer (parameter.row raw.entry.typ) raw.entry.value.now) result }
         ensures memory { IsErrOf result ChunkParseError.OutOfMemory →
-            HasMeaning (parameter.row raw.entry.typ) raw.entry.value.now }
-        ensures exact { ReadsExactly result view
-            ((parameter.row raw.entry.typ).means raw.entry.value.now)
-            ((parameter.row raw.entry.typ).faults raw.entry.value.now) }
-        ensures heap { TakesNoMemory raw.entry.typ → ¬ IsErrOf result ChunkParseError.OutOfMemory }
+            HasMeaning (parameter.row raw.entry.typ) raw.entry.value.now
+            × ¬ TakesNoMemory raw.entry.typ }
     {
         Parameter::read(alloc, raw.typ, raw.value)
     }
 
     /// Checks a parameter's value, and builds what it means.
     fn read(alloc: Global, typ: u16, value: &[u8]) -> Result<Self, ChunkParseError>
-        ensures answer { Answers result (λ p. (parameter.row typ).means value.now (view p))
-            ((parameter.row typ).faults value.now) }
+        ensures answer { Exactly reading view (RowAnswer (parameter.row typ) value.now) result }
         ensures memory { IsErrOf result ChunkParseError.OutOfMemory
-            → HasMeaning (parameter.row typ) value.now }
-        ensures exact { ReadsExactly result view ((parameter.row typ).means value.now)
-            ((parameter.row typ).faults value.now) }
-        ensures heap { TakesNoMemory typ → ¬ IsErrOf result ChunkParseError.OutOfMemory }
+            → HasMeaning (parameter.row typ) value.now × ¬ TakesNoMemory typ }
     {
         Parameter::check_value(typ, value)?;
         Ok(Parameter::build(alloc, typ, value)?)
@@ -155,8 +147,7 @@ impl Parameter {
 
     /// Passes exactly where the value has a meaning; else its fault. It takes no memory.
     fn check_value(typ: u16, value: &[u8]) -> Result<(), ChunkParseError>
-        ensures { Finds result (λ _. HasMeaning (parameter.row typ) value.now)
-            ((parameter.row typ).faults value.now) }
+        ensures { Answers checking (λ u. u) (RowTested (parameter.row typ) value.now) result }
     {
         match typ {
             outgoing_ssn_reset_request_parameter::PARAMETER_TYPE =>
@@ -373,13 +364,10 @@ impl ListedTlv for Parameter {
 /// or `InvalidValue`; `OutOfMemory` only where there is none. Bytes mean one list or have one fault,
 /// which is a law of the level (`IsDecided`, in `laws::one_answer` of `dcsctp_wire`).
 pub fn parameters_from_bytes(alloc: Global, bytes: &[u8]) -> Result<Vec<Parameter>, ChunkParseError>
-    ensures answer { Answers result
-        (λ list. MeansTrees (parameters lenient) bytes.now (views list.items))
-        (HasFault (parameters lenient) bytes.now) }
+    ensures answer { Exactly reading (λ list. views list.items)
+        (ListAnswer (parameters lenient) bytes.now) result }
     ensures memory { IsErrOf result ChunkParseError.OutOfMemory →
         MeansSome (parameters lenient) bytes.now × (bytes.now ≢ []) }
-    ensures exact { ReadsExactly result (λ list. views list.items)
-        (MeansTrees (parameters lenient) bytes.now) (HasFault (parameters lenient) bytes.now) }
     ensures reserved { IfOk result (λ list. vec_capacity list ≡ vec_len list) }
 {
     list_from_bytes(alloc, bytes)
@@ -390,9 +378,9 @@ pub fn parameters_from_bytes(alloc: Global, bytes: &[u8]) -> Result<Vec<Paramete
 /// Where it is strict, `InvalidPadding` is the fault of a parameter that has a meaning, and padding
 /// that isn't zero; the last may lack some or all of it.
 pub fn parameters_check(bytes: &[u8], strict: bool) -> Result<usize, ChunkParseError>
-    ensures found { Finds result (MeansMany (parameters strict) bytes.now)
-        (HasFault (parameters strict) bytes.now) }
-    ensures exact { ChecksExactly result (parameters strict) bytes.now }
+    ensures answer { Exactly checking (λ n. n)
+        (Counted length (ListAnswer (parameters strict) bytes.now)) result }
+    ensures memory { ¬ IsErrOf result ChunkParseError.OutOfMemory }
     ensures few { IfOk result (λ n. 4 * n ≤ length bytes.now) }
 {
     let (count, _) = list_check::<Parameter>(strict, bytes)?;

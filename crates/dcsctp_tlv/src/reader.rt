@@ -4,7 +4,7 @@
 ghost use Rattle.std.specs.Prelude.{◌≡◌, ◌≢◌, ◌≤◌, ◌<◌, ◌+◌, ◌*◌, ℕ, Bool, List, [], length, drop, map, IsOk, IfOk, IfErr, IsErrOf, vec_len, vec_capacity};
 ghost use Rattle.dcsctp_tlv.specs.Frame.{PaddingRule, lenient, Item, AreItems};
 ghost use Rattle.dcsctp_tlv.specs.Level.{Level, HasMeaning, MeansParts, Grows, FaultsAt, MeansTrees, MeansSome, MeansMany, MeansCounted, HasFault, HasFaultAt};
-ghost use Rattle.dcsctp_tlv.specs.Reading.{Answers, FindsAt};
+ghost use Rattle.dcsctp_tlv.specs.Reading.{Answers, reading, locating, ListedLocated, ListAnswer, RowLocated, ListLocated};
 
 use crate::error::{ChunkParseError, Located};
 use crate::frame::{TLV_HEADER_SIZE, frame_parts, padding_fault, padding_parts, split_frame};
@@ -28,9 +28,8 @@ pub trait ReadableTlv: Sized + Drop {
     /// or its fault, and how many bytes stand between the item's first byte and the fault. It takes
     /// no memory.
     fn check(strict: bool, first: u8, second: u8, value: &[u8]) -> Result<usize, Located>
-        ensures found { FindsAt result
-            (MeansParts parts ((level strict).row first second) value.now)
-            (FaultsAt ((level strict).row first second) value.now) }
+        ensures found { Answers locating (λ n. n)
+            (RowLocated parts ((level strict).row first second) value.now) result }
         ensures few { IfOk result (λ n. 4 * n ≤ 4 + length value.now) }
         ensures within { IfErr result (λ found. found.offset ≤ 4 + length value.now) };
 
@@ -63,9 +62,8 @@ pub trait ReadableTlv: Sized + Drop {
 /// is an item of a list in a value. Of padding the first byte that isn't zero is told, or the place
 /// of the first that is missing.
 pub fn list_check<T: ReadableTlv>(strict: bool, bytes: &[u8]) -> Result<(usize, usize), Located>
-    ensures found { FindsAt result
-        (λ n. MeansCounted (T.level strict) T.parts bytes.now n.0 n.1)
-        (HasFaultAt (T.level strict) bytes.now) }
+    ensures found { Answers locating (λ n. n)
+        (ListLocated (T.level strict) T.parts bytes.now) result }
     ensures few { IfOk result (λ n. (4 * n.0 ≤ length bytes.now) × (4 * n.1 ≤ length bytes.now)) }
     ensures within { IfErr result (λ found. found.offset ≤ length bytes.now) }
 {
@@ -111,10 +109,8 @@ pub fn listed_check<T: ReadableTlv>(
     place: usize,
 ) -> Result<usize, Located>
     requires { place ≤ length value.now }
-    ensures found { FindsAt result
-        (λ n. (k : ℕ) × MeansMany (T.level strict) (drop place value.now) k × (n ≡ 1 + k))
-        (λ e n. (k : ℕ) × HasFaultAt (T.level strict) (drop place value.now) e k
-        × (n ≡ 4 + (place + k))) }
+    ensures found { Answers locating (λ n. n)
+        (ListedLocated (T.level strict) place value.now) result }
     ensures few { IfOk result (λ n. 4 * n ≤ 4 + length value.now) }
     ensures within { IfErr result (λ found. found.offset ≤ 4 + length value.now) }
 {
@@ -209,9 +205,8 @@ pub fn list_from_bytes<T: ReadableTlv>(
     alloc: Global,
     bytes: &[u8],
 ) -> Result<Vec<T>, ChunkParseError>
-    ensures answer { Answers result
-        (λ list. MeansTrees (T.level lenient) bytes.now (map T.view list.items))
-        (HasFault (T.level lenient) bytes.now) }
+    ensures answer { Answers reading (λ list. map T.view list.items)
+        (ListAnswer (T.level lenient) bytes.now) result }
     ensures memory { IsErrOf result ChunkParseError.OutOfMemory
         → MeansSome (T.level lenient) bytes.now × (bytes.now ≢ []) }
     ensures reserved { IfOk result (λ list. vec_capacity list ≡ vec_len list) }

@@ -16,7 +16,8 @@ use Rattle.dcsctp_wire.specs.declared.packet.sctp_packet.ChecksumPolicy.{Checksu
 use Rattle.dcsctp_wire.specs.declared.packet.sctp_packet.PacketParseError.{PacketParseError}
 use Rattle.dcsctp_wire.specs.declared.packet.sctp_packet.SctpPacket.{SctpPacket}
 use Rattle.dcsctp_wire.specs.Chunk.{ChunkTree, ForwardTsn, IForwardTsn, chunks, tlv as chunk_tlv, IsPlaced, IsChunkEncodable, IsWellFormed as IsChunkWellFormed, parts as chunk_parts}
-use Rattle.dcsctp_wire.specs.Packet.{PacketTree, HasPacketSize, body, IsOpened, MeansPacket, Chunk, packet_with, Answer, Reads, packet_view}
+use Rattle.dcsctp_wire.specs.Packet.{PacketTree, HasPacketSize, body, IsOpened, MeansPacket, Chunk, packet_with, Answer, packet_view, packet_reading}
+use Rattle.dcsctp_tlv.specs.Reading.{Answers}
 use Rattle.dcsctp_wire.specs.Canonical.{padded_size}
 use Rattle.dcsctp_wire.specs.WellFormed.{IsWellFormed}
 use Rattle.dcsctp_wire.specs.Account.{AreTextsKept, KeepsTexts, KeepsSize, node_count}
@@ -73,7 +74,7 @@ packet_parts bytes p m =
 
 -- what holds of each packet that the bytes mean holds of the one that was read
 pub reads_only : (Q : PacketTree → Type 0) (bytes : List ℕ) (word : ℕ) (policy : ChecksumPolicy) (result : Result SctpPacket PacketParseError)
-    → ((p : PacketTree) → HasPacketSize bytes → MeansPacket lenient bytes p → Q p) → Reads packet_view bytes word policy result → IfOk result (λ p. Q (packet_view p))
+    → ((p : PacketTree) → HasPacketSize bytes → MeansPacket lenient bytes p → Q p) → Answers packet_reading packet_view (Answer bytes word policy) result → IfOk result (λ p. Q (packet_view p))
 reads_only Q bytes word policy (Ok p) law reads = law (packet_view p) reads.0.size (lenient_packet policy.strict_padding bytes (packet_view p) reads.1)
 reads_only Q bytes word policy (Err e) law reads = tt
 

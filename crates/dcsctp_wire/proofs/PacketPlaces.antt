@@ -1,24 +1,20 @@
 -- The first fault of a packet and its place, both ways: from what a check finds, since each input has one answer.
-use Rattle.std.proofs.Common.{◌≡◌, ℕ, ◌+◌, true, false, List, Some, Result, Ok, Err, refl, sym, ap, subst, ◌∙◌}
+use Rattle.std.proofs.Common.{◌≡◌, ℕ, ◌+◌, List, Result, Ok, Err, inl, inr, refl, sym, ap, ◌∙◌}
 use Rattle.std.specs.Result.{result_err}
-use Rattle.dcsctp_tlv.specs.declared.error.ChunkParseError.{ChunkParseError}
-use Rattle.dcsctp_tlv.specs.declared.error.ChunkParseError.TheVariants.{InvalidLength, InvalidType, InvalidPadding, InvalidValue, OutOfMemory}
-use Rattle.dcsctp_tlv.specs.Fault.{Length, Padding, Value}
+use Rattle.dcsctp_tlv.specs.declared.error.Located.{Located}
 use Rattle.dcsctp_tlv.specs.Number.{AreBytes}
-use Rattle.dcsctp_tlv.specs.Level.{HasFaultAt}
-use Rattle.dcsctp_tlv.specs.Reading.{IsFault}
+use Rattle.dcsctp_tlv.specs.Reading.{Answers, Exactly, locating, ListLocated}
 use Rattle.dcsctp_tlv.proofs.Laws.{list_place}
-use Rattle.dcsctp_wire.specs.declared.packet.sctp_packet.PacketParseError.{PacketParseError}
+use Rattle.dcsctp_tlv.proofs.Exact.{Single, exactly}
 use Rattle.dcsctp_wire.specs.declared.packet.sctp_packet.PacketParseError.TheVariants.{FailedParseChunk}
 use Rattle.dcsctp_wire.specs.declared.packet.sctp_packet.ChecksumPolicy.{ChecksumPolicy}
 use Rattle.dcsctp_wire.specs.declared.packet.first_fault.FirstFault.{FirstFault}
-use Rattle.dcsctp_wire.specs.Chunk.{chunks}
-use Rattle.dcsctp_wire.specs.Packet.{PacketFault, Size, Checksum, Chunk, IsOpened, body, packet_with, Answer}
-use Rattle.dcsctp_wire.specs.Exact.{packet_error_of, IsPacket}
-use Rattle.dcsctp_wire.specs.Place.{offset_of, HasPacketFaultAt, LocatesFault, FindsPacket}
+use Rattle.dcsctp_wire.specs.Chunk.{chunks, parts as chunk_parts}
+use Rattle.dcsctp_wire.specs.Packet.{PacketFault, Size, Checksum, Chunk, IsOpened, body, packet_with, Answer, packet_error_of}
+use Rattle.dcsctp_wire.specs.Place.{offset_of, HasPacketFaultAt, packet_locating, PacketLocated, PacketCounts, refused}
 use Rattle.dcsctp_wire.proofs.Packets.{body_fits}
 use Rattle.dcsctp_wire.proofs.ChunkRows.{chunks_lawful}
-use Rattle.dcsctp_wire.proofs.PacketChecks.{packet_error_one, packet_is, not_both, one_fault}
+use Rattle.dcsctp_wire.proofs.PacketChecks.{packet_single, packet_is}
 
 -- ---- a fault lies at one place
 
@@ -40,46 +36,36 @@ place_one bytes word policy d e m n fits f g = f.1 ∙ offsets_same bytes word p
 
 -- ---- what a check finds
 
--- a fault of the chunks was found, so far from the first
-pub chunk_told : (bytes : List ℕ) (word : ℕ) (policy : ChecksumPolicy) (x : ChunkParseError) (n : ℕ) → IsOpened bytes word policy → IsFault (λ e. HasFaultAt (chunks policy.strict_padding) (body bytes) e n) x
-    → (e : PacketFault) × (FailedParseChunk x ≡ packet_error_of e) × HasPacketFaultAt bytes word policy e (12 + n)
-chunk_told bytes word policy InvalidLength n opened f = (Chunk Length, refl, ((opened, f.0), ap (λ (k : ℕ). 12 + k) f.1))
-chunk_told bytes word policy InvalidType n opened f = absurd f
-chunk_told bytes word policy InvalidPadding n opened f = (Chunk Padding, refl, ((opened, f.0), ap (λ (k : ℕ). 12 + k) f.1))
-chunk_told bytes word policy InvalidValue n opened f = (Chunk Value, refl, ((opened, f.0), ap (λ (k : ℕ). 12 + k) f.1))
-chunk_told bytes word policy OutOfMemory n opened f = absurd f
+-- a fault and its place
+pub fault_there : (bytes : List ℕ) (word : ℕ) (policy : ChecksumPolicy) (e : PacketFault) (n : ℕ) → HasPacketFaultAt bytes word policy e n
+    → Answers packet_locating (λ (k : ℕ × ℕ). k) (PacketCounts bytes word policy) (Err (record { fault = packet_error_of e; offset = n }))
+fault_there bytes word policy e n f = inl ((e, n), refl, f)
+
+-- a fault of the chunks, so far from the first
+pub chunk_fault : (bytes : List ℕ) (word : ℕ) (policy : ChecksumPolicy) (l : Located) → IsOpened bytes word policy
+    → Answers locating (λ (n : ℕ × ℕ). n) (ListLocated (chunks policy.strict_padding) chunk_parts (body bytes)) (Err l)
+    → Answers packet_locating (λ (n : ℕ × ℕ). n) (PacketCounts bytes word policy) (Err (record { fault = FailedParseChunk l.fault; offset = 12 + l.offset }))
+chunk_fault bytes word policy l opened (inl f) =
+    let place : Located → FirstFault = λ x. record { fault = FailedParseChunk x.fault; offset = 12 + x.offset } in
+    inl ((Chunk f.0.0, 12 + f.0.1), ap place f.1, ((opened, f.2.0), ap (λ (k : ℕ). 12 + k) f.2.1))
+chunk_fault bytes word policy l opened (inr none) = absurd none
 
 -- ---- both ways
 
 module _ (bytes : List ℕ) (word : ℕ) (policy : ChecksumPolicy) (fits : AreBytes bytes) where
-  -- this fault was found there
-  fault_located : (d : PacketFault) (m : ℕ) → HasPacketFaultAt bytes word policy d m → LocatesFault bytes word policy (Some (record { fault = packet_error_of d; offset = m }))
-  fault_located d m f = record {
-    none = ((λ h. absurd (let p : true ≡ false = h in cc)), (λ p. absurd (not_both bytes word policy fits p.0 d p.1 f.0)));
-    some = λ e n. (
-      (λ h. (
-          let both : (packet_error_of d ≡ packet_error_of e) × (m ≡ n) = parts d e m n h in
-          let same : d ≡ e = packet_error_one d e both.0 in
-          subst (λ (x : PacketFault). HasPacketFaultAt bytes word policy x n) same (subst (HasPacketFaultAt bytes word policy d) both.1 f))),
-      (λ g. joined (one_fault bytes word policy fits d e f.0 g.0) (place_one bytes word policy d e m n fits f g)),
-    );
-  } where
-    parts : (d e : PacketFault) (m n : ℕ) → (let x : FirstFault = record { fault = packet_error_of d; offset = m } in let y : FirstFault = record { fault = packet_error_of e; offset = n } in Some x ≡ Some y) → (packet_error_of d ≡ packet_error_of e) × (m ≡ n)
-    parts d e m n h =
-        let x : FirstFault = record { fault = packet_error_of d; offset = m } in
-        let y : FirstFault = record { fault = packet_error_of e; offset = n } in
-        let s : x ≡ y = cc in
-        (ap (λ (r : FirstFault). r.fault) s, ap (λ (r : FirstFault). r.offset) s)
+  located_single : Single (PacketLocated bytes word policy)
+  located_single (Ok x) (Ok y) m n = refl
+  located_single (Ok x) (Err f) m g = absurd (let h : Ok m.0 ≡ Err f.0 = packet_single bytes word policy fits (Ok m.0) (Err f.0) m.1 g.0 in cc)
+  located_single (Err f) (Ok y) g m = absurd (let h : Ok m.0 ≡ Err f.0 = packet_single bytes word policy fits (Ok m.0) (Err f.0) m.1 g.0 in cc)
+  located_single (Err f) (Err g) p q =
+      let h : Err f.0 ≡ Err g.0 = packet_single bytes word policy fits (Err f.0) (Err g.0) p.0 q.0 in
+      let same : f.0 ≡ g.0 = cc in
+      let there : f.1 ≡ g.1 = place_one bytes word policy f.0 g.0 f.1 g.1 fits p q in
+      λ k. Err (same k, there k)
 
-    joined : {d e : PacketFault} {m n : ℕ} → d ≡ e → m ≡ n → (let x : FirstFault = record { fault = packet_error_of d; offset = m } in let y : FirstFault = record { fault = packet_error_of e; offset = n } in Some x ≡ Some y)
-    joined p q = λ k. Some (record { fault = packet_error_of (p k); offset = q k })
+  located_answers : (r : Result (ℕ × ℕ) FirstFault) → Answers packet_locating (λ (n : ℕ × ℕ). n) (PacketCounts bytes word policy) r → Answers packet_locating (λ (u : Unit {0}). u) (PacketLocated bytes word policy) (refused (result_err r))
+  located_answers (Ok n) a = (packet_with bytes a.1.trees, packet_is bytes word policy a.1.trees a.0 a.1.mean)
+  located_answers (Err x) a = a
 
-  pub located : (r : Result (ℕ × ℕ) FirstFault) → FindsPacket bytes word policy r → LocatesFault bytes word policy (result_err r)
-  located (Ok n) f =
-      let p : IsPacket bytes word policy = (packet_with bytes f.1.trees, packet_is bytes word policy f.1.trees f.0 f.1.mean) in
-      record {
-        none = ((λ _. p), (λ _. refl));
-        some = λ e n. ((λ h. absurd cc), (λ g. absurd (not_both bytes word policy fits p.0 e p.1 g.0)));
-      }
-  located (Err x) f =
-      subst (λ (y : PacketParseError). LocatesFault bytes word policy (Some (record { fault = y; offset = x.offset }))) (sym f.1) (fault_located f.0 x.offset f.2)
+  pub located_exactly : (r : Result (ℕ × ℕ) FirstFault) → Answers packet_locating (λ (n : ℕ × ℕ). n) (PacketCounts bytes word policy) r → Exactly packet_locating (λ (u : Unit {0}). u) (PacketLocated bytes word policy) (refused (result_err r))
+  located_exactly r a = exactly packet_locating (λ u. u) (PacketLocated bytes word policy) located_single (refused (result_err r)) (located_answers r a) (λ e is none. absurd none)

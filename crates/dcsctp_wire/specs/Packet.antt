@@ -6,9 +6,10 @@ use Rattle.std.specs.Prelude.{◌≡◌, ◌≢◌, ℕ, ◌≤◌, Bool, List, 
 use Rattle.dcsctp_tlv.specs.Fault.{Fault}
 use Rattle.dcsctp_tlv.specs.Number.{number16, number32}
 use Rattle.dcsctp_tlv.specs.Level.{MeansTrees, HasFault}
-use Rattle.dcsctp_tlv.specs.Reading.{TellsFault}
+use Rattle.dcsctp_tlv.specs.Reading.{Errors, error_of}
+use Rattle.dcsctp_tlv.specs.declared.error.ChunkParseError.TheVariants.{OutOfMemory}
 use Rattle.dcsctp_wire.specs.declared.packet.sctp_packet.PacketParseError.{PacketParseError}
-use Rattle.dcsctp_wire.specs.declared.packet.sctp_packet.PacketParseError.TheVariants.{InvalidPacketSize, InvalidChecksum, InvalidChunkSize, FailedParseChunk}
+use Rattle.dcsctp_wire.specs.declared.packet.sctp_packet.PacketParseError.TheVariants.{InvalidPacketSize, InvalidChecksum, FailedParseChunk}
 use Rattle.dcsctp_wire.specs.declared.packet.sctp_packet.ChecksumPolicy.{ChecksumPolicy}
 use Rattle.dcsctp_wire.specs.declared.packet.sctp_packet.SctpPacket.{SctpPacket}
 use Rattle.dcsctp_wire.specs.Chunk.{ChunkTree, chunks, views}
@@ -92,19 +93,26 @@ Answer bytes word policy (Err Checksum) =
 Answer bytes word policy (Err (Chunk e)) =
     IsOpened bytes word policy × HasFault (chunks policy.strict_padding) (body bytes) e
 
--- ---- what the code answers
+-- the bytes are a packet
+abbrev pub IsPacket : List ℕ → ℕ → ChecksumPolicy → Type 0
+IsPacket bytes word policy = (p : PacketTree) × Answer bytes word policy (Ok p)
 
--- Want of memory aside, what was read is the answer. It comes only once size and checksum are
--- accepted.
-abbrev pub Reads : {X : Type 0} → (X → PacketTree) → List ℕ → ℕ → ChecksumPolicy
-    → Result X PacketParseError → Type 0
-Reads view bytes word policy (Ok x) = Answer bytes word policy (Ok (view x))
-Reads view bytes word policy (Err InvalidPacketSize) = Answer bytes word policy (Err Size)
-Reads view bytes word policy (Err InvalidChecksum) = Answer bytes word policy (Err Checksum)
-Reads view bytes word policy (Err InvalidChunkSize) = ⊥
-Reads view bytes word policy (Err (FailedParseChunk e)) =
-    IsOpened bytes word policy
-    × TellsFault (HasFault (chunks policy.strict_padding) (body bytes)) e
+-- ---- errors of the readers and the checks of packets
+
+abbrev pub packet_error_of : PacketFault → PacketParseError
+packet_error_of Size = InvalidPacketSize
+packet_error_of Checksum = InvalidChecksum
+packet_error_of (Chunk e) = FailedParseChunk (error_of e)
+
+-- of a reader
+abbrev pub packet_reading : Errors PacketFault PacketParseError
+packet_reading = record { of = packet_error_of; lack = λ e. e ≡ FailedParseChunk OutOfMemory }
+
+-- of a check, which takes no memory
+abbrev pub packet_checking : Errors PacketFault PacketParseError
+packet_checking = record { of = packet_error_of; lack = λ e. ⊥ }
+
+-- ---- packets of the code
 
 -- a packet of the code, without where it lies in memory
 abbrev pub meaning_view : SctpPacket → Meaning

@@ -1,11 +1,11 @@
 -- Where the fault of a packet lies (RFC 9260 section 3): how many bytes stand ahead of it.
-use Rattle.std.specs.Prelude.{◌≡◌, ◌↔◌, ℕ, ◌+◌, List, Option, Some, Result, Ok, Err, IsNone, length, nat_lt, if◌then◌else◌}
+use Rattle.std.specs.Prelude.{◌≡◌, ℕ, ◌+◌, List, Option, None, Some, Result, Ok, Err, length, nat_lt, if◌then◌else◌}
 use Rattle.dcsctp_tlv.specs.Level.{MeansCounted, fault_offset}
+use Rattle.dcsctp_tlv.specs.Reading.{Errors}
 use Rattle.dcsctp_wire.specs.declared.packet.sctp_packet.ChecksumPolicy.{ChecksumPolicy}
 use Rattle.dcsctp_wire.specs.declared.packet.first_fault.FirstFault.{FirstFault}
 use Rattle.dcsctp_wire.specs.Chunk.{chunks, parts as chunk_parts}
-use Rattle.dcsctp_wire.specs.Packet.{PacketFault, Size, Checksum, Chunk, IsOpened, body, Answer}
-use Rattle.dcsctp_wire.specs.Exact.{packet_error_of, IsPacket}
+use Rattle.dcsctp_wire.specs.Packet.{PacketFault, Size, Checksum, Chunk, IsOpened, body, Answer, IsPacket, packet_error_of}
 
 -- Of a size, the first byte that is missing or too many; of a checksum, its field; of a chunk,
 -- where the list of chunks has its fault, which begins after the header.
@@ -21,21 +21,29 @@ abbrev pub HasPacketFaultAt : List ℕ → ℕ → ChecksumPolicy → PacketFaul
 HasPacketFaultAt bytes word policy e n =
     (fault : Answer bytes word policy (Err e)) × (n ≡ offset_of bytes word policy e fault)
 
--- Nothing exactly where the bytes are a packet; a fault and an offset exactly where they have this
--- fault there.
-pub record LocatesFault (bytes : List ℕ) (word : ℕ) (policy : ChecksumPolicy)
-    (result : Option FirstFault) : Type 0 where
-  pub none : IsNone result ↔ IsPacket bytes word policy
-  pub some : (e : PacketFault) (n : ℕ)
-      → (result ≡ Some (record { fault = packet_error_of e; offset = n }))
-      ↔ HasPacketFaultAt bytes word policy e n
+-- ---- what a check answers that says where the fault lies
 
--- What a check finds, without a law of it: the numbers of the chunks and of all parts, or the fault
--- and its place.
-abbrev pub FindsPacket : List ℕ → ℕ → ChecksumPolicy → Result (ℕ × ℕ) FirstFault → Type 0
-FindsPacket bytes word policy (Ok n) =
+abbrev pub packet_locating : Errors (PacketFault × ℕ) FirstFault
+packet_locating = record {
+  of = λ f. record { fault = packet_error_of f.0; offset = f.1 };
+  lack = λ e. ⊥;
+}
+
+-- The bytes are a packet; or their fault, and where it lies.
+abbrev pub PacketLocated : List ℕ → ℕ → ChecksumPolicy
+    → Result (Unit {0}) (PacketFault × ℕ) → Type 0
+PacketLocated bytes word policy (Ok _) = IsPacket bytes word policy
+PacketLocated bytes word policy (Err f) = HasPacketFaultAt bytes word policy f.0 f.1
+
+-- no fault is a good result
+abbrev pub refused : {E : Type 0} → Option E → Result (Unit {0}) E
+refused None = Ok tt
+refused (Some e) = Err e
+
+-- The numbers of the chunks and of all parts; or the fault, and where it lies.
+abbrev pub PacketCounts : List ℕ → ℕ → ChecksumPolicy
+    → Result (ℕ × ℕ) (PacketFault × ℕ) → Type 0
+PacketCounts bytes word policy (Ok n) =
     IsOpened bytes word policy
     × MeansCounted (chunks policy.strict_padding) chunk_parts (body bytes) n.0 n.1
-FindsPacket bytes word policy (Err found) =
-    (e : PacketFault) × (found.fault ≡ packet_error_of e)
-    × HasPacketFaultAt bytes word policy e found.offset
+PacketCounts bytes word policy (Err f) = HasPacketFaultAt bytes word policy f.0 f.1

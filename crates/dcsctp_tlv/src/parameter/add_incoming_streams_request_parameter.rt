@@ -13,7 +13,7 @@
 //! ```
 
 ghost use Rattle.std.specs.Prelude.{◌≡◌, ◌≢◌, ◌↔◌, Some, Ok, IsOk, IsErrOf};
-ghost use Rattle.dcsctp_tlv.specs.Reading.{Gives, Never};
+ghost use Rattle.dcsctp_tlv.specs.Reading.{Exactly, reading};
 ghost use Rattle.dcsctp_tlv.specs.AddStreamsRequest as request;
 ghost use Rattle.dcsctp_tlv.specs.AddIncomingStreamsRequest as kind;
 
@@ -46,8 +46,9 @@ impl AddIncomingStreamsRequestParameter {
     pub fn try_from(raw: RawParameter) -> Result<Self, ChunkParseError>
         ensures other { IsErrOf result ChunkParseError.InvalidType ↔
             (raw.entry.typ ≢ PARAMETER_TYPE) }
-        ensures own { raw.entry.typ ≡ PARAMETER_TYPE →
-            Gives Never kind.view result (request.read raw.entry.value.now) }
+        ensures answer { raw.entry.typ ≡ PARAMETER_TYPE →
+            Exactly reading kind.view (λ a. request.read raw.entry.value.now ≡ a) result }
+        ensures memory { ¬ IsErrOf result ChunkParseError.OutOfMemory }
     {
         if raw.typ != PARAMETER_TYPE {
             return Err(ChunkParseError::InvalidType);

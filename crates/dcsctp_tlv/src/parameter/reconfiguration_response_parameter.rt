@@ -17,7 +17,7 @@
 //! ```
 
 ghost use Rattle.std.specs.Prelude.{◌≡◌, ◌≢◌, ◌↔◌, ◌≤◌, Some, Ok, IsOk, IsErrOf};
-ghost use Rattle.dcsctp_tlv.specs.Reading.{Gives, Never, Passes};
+ghost use Rattle.dcsctp_tlv.specs.Reading.{Answers, Exactly, reading, checking, Tested};
 ghost use Rattle.dcsctp_tlv.specs.ReconfigurationResponse as kind;
 ghost use Rattle.dcsctp_tlv.specs.ReconfigurationResponse.{result_of, result_number};
 
@@ -50,7 +50,7 @@ pub enum ReconfigurationResponseResult {
 impl TryFrom<u32> for ReconfigurationResponseResult {
     type Error = ChunkParseError;
 
-    ghost try_from_gives = { λ n r. Gives Never (λ x. x) r (result_of n) };
+    ghost try_from_gives = { λ n r. Exactly checking (λ x. x) (λ a. result_of n ≡ a) r };
 
     /// The result of a number; `InvalidValue` exactly above 6.
     fn try_from(value: u32) -> Result<Self, ChunkParseError> {
@@ -110,8 +110,9 @@ impl ReconfigurationResponseParameter {
     pub fn try_from(raw: RawParameter) -> Result<Self, ChunkParseError>
         ensures other { IsErrOf result ChunkParseError.InvalidType ↔
             (raw.entry.typ ≢ PARAMETER_TYPE) }
-        ensures own { raw.entry.typ ≡ PARAMETER_TYPE →
-            Gives Never kind.view result (kind.read raw.entry.value.now) }
+        ensures answer { raw.entry.typ ≡ PARAMETER_TYPE →
+            Exactly reading kind.view (λ a. kind.read raw.entry.value.now ≡ a) result }
+        ensures memory { ¬ IsErrOf result ChunkParseError.OutOfMemory }
     {
         if raw.typ != PARAMETER_TYPE {
             return Err(ChunkParseError::InvalidType);
@@ -123,7 +124,7 @@ impl ReconfigurationResponseParameter {
     /// `InvalidLength` exactly where the value hasn't 8 or 16 bytes; `InvalidValue` exactly where
     /// it has, and its result is above 6.
     pub(crate) fn check(value: &[u8]) -> Result<(), ChunkParseError>
-        ensures { Passes result (kind.read value.now) }
+        ensures { Answers checking (λ u. u) (Tested (kind.read value.now)) result }
     {
         if value.len() != 8 && value.len() != 16 {
             return Err(ChunkParseError::InvalidLength);

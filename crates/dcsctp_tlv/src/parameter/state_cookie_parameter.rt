@@ -10,8 +10,8 @@
 //! +-+-+-+-+-+-+-+-+-+-+-+-+-+-+-+-+-+-+-+-+-+-+-+-+-+-+-+-+-+-+-+-+
 //! ```
 
-ghost use Rattle.std.specs.Prelude.{◌≡◌, ◌≢◌, ◌↔◌, Some, IsErrOf};
-ghost use Rattle.dcsctp_tlv.specs.Reading.{Gives, IfMeant, Builds};
+ghost use Rattle.std.specs.Prelude.{◌≡◌, ◌≢◌, ◌↔◌, Some, IsErrOf, IfOk, IsOk, Ok};
+ghost use Rattle.dcsctp_tlv.specs.Reading.{Exactly, reading};
 ghost use Rattle.dcsctp_tlv.specs.StateCookie as kind;
 
 use crate::error::ChunkParseError;
@@ -39,8 +39,9 @@ impl StateCookieParameter {
     pub fn try_from(alloc: Global, raw: RawParameter) -> Result<Self, ChunkParseError>
         ensures other { IsErrOf result ChunkParseError.InvalidType ↔
             (raw.entry.typ ≢ PARAMETER_TYPE) }
-        ensures own { raw.entry.typ ≡ PARAMETER_TYPE →
-            Gives IfMeant kind.view result (kind.read raw.entry.value.now) }
+        ensures answer { raw.entry.typ ≡ PARAMETER_TYPE →
+            Exactly reading kind.view (λ a. kind.read raw.entry.value.now ≡ a) result }
+        ensures memory { IsErrOf result ChunkParseError.OutOfMemory → IsOk (kind.read raw.entry.value.now) }
     {
         if raw.typ != PARAMETER_TYPE {
             return Err(ChunkParseError::InvalidType);
@@ -50,7 +51,7 @@ impl StateCookieParameter {
 
     /// Copies the value.
     pub(crate) fn build(alloc: Global, value: &[u8]) -> Result<Self, AllocError>
-        ensures { Builds kind.view result (kind.read value.now) }
+        ensures { IfOk result (λ x. kind.read value.now ≡ Ok (kind.view x)) }
     {
         Ok(StateCookieParameter {
             cookie: Vec::from_slice(alloc, value)?,

@@ -10,8 +10,8 @@
 //! +-+-+-+-+-+-+-+-+-+-+-+-+-+-+-+-+-+-+-+-+-+-+-+-+-+-+-+-+-+-+-+-+
 //! ```
 
-ghost use Rattle.std.specs.Prelude.{◌≡◌, Some};
-ghost use Rattle.dcsctp_tlv.specs.Reading.{Gives, IfMeant, Builds};
+ghost use Rattle.std.specs.Prelude.{◌≡◌, Some, IfOk, IsOk, IsErrOf, Ok};
+ghost use Rattle.dcsctp_tlv.specs.Reading.{Exactly, reading};
 ghost use Rattle.dcsctp_tlv.specs.UnknownParameter as kind;
 
 use crate::error::ChunkParseError;
@@ -43,14 +43,16 @@ impl UnknownParameter {
 
     /// Keeps a parameter of any type, and copies its value; `OutOfMemory` is its only error.
     pub fn try_from(alloc: Global, raw: RawParameter) -> Result<Self, ChunkParseError>
-        ensures { Gives IfMeant kind.view result (kind.read raw.entry.typ raw.entry.value.now) }
+        ensures answer { Exactly reading kind.view
+            (λ a. kind.read raw.entry.typ raw.entry.value.now ≡ a) result }
+        ensures memory { IsErrOf result ChunkParseError.OutOfMemory → IsOk (kind.read raw.entry.typ raw.entry.value.now) }
     {
         Ok(UnknownParameter::build(alloc, raw.typ, raw.value)?)
     }
 
     /// Copies the value.
     pub fn build(alloc: Global, typ: u16, value: &[u8]) -> Result<Self, AllocError>
-        ensures { Builds kind.view result (kind.read typ value.now) }
+        ensures { IfOk result (λ x. kind.read typ value.now ≡ Ok (kind.view x)) }
     {
         Ok(UnknownParameter {
             typ,

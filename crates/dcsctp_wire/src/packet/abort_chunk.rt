@@ -13,7 +13,7 @@
 ghost use Rattle.std.specs.Prelude.{◌≡◌, ◌≢◌, ◌↔◌, ◌≤◌, ◌+◌, ◌*◌, ℕ, [], ◌∷◌, false, length, Some, IsOk, IfOk, IfErr, IsErrOf, vec_capacity};
 ghost use Rattle.dcsctp_tlv.specs.Frame.{lenient};
 ghost use Rattle.dcsctp_tlv.specs.Level.{HasMeaning, MeansParts, FaultsAt};
-ghost use Rattle.dcsctp_tlv.specs.Reading.{Answers, FindsAt, ReadsExactly};
+ghost use Rattle.dcsctp_tlv.specs.Reading.{Answers, Exactly, reading, locating, RowAnswer, RowLocated};
 ghost use Rattle.dcsctp_wire.specs.Abort as kind;
 
 use dcsctp_cause::error_causes::{ErrorCause, error_cause_build};
@@ -58,15 +58,11 @@ impl AbortChunk {
     /// `OutOfMemory` only where there is none, and there are causes.
     pub fn try_from(alloc: Global, raw: RawChunk) -> Result<Self, ChunkParseError>
         ensures other { IsErrOf result ChunkParseError.InvalidType ↔ (raw.entry.typ ≢ CHUNK_TYPE) }
-        ensures own { raw.entry.typ ≡ CHUNK_TYPE
-            → Answers result (λ c. (kind.row lenient raw.entry.flags).means raw.entry.value.now
-            (kind.view c)) ((kind.row lenient raw.entry.flags).faults raw.entry.value.now) }
+        ensures answer { raw.entry.typ ≡ CHUNK_TYPE →
+            Exactly reading kind.view (RowAnswer (kind.row lenient raw.entry.flags) raw.entry.value.now) result }
         ensures memory { IsErrOf result ChunkParseError.OutOfMemory
             → HasMeaning (kind.row lenient raw.entry.flags) raw.entry.value.now
             × (raw.entry.value.now ≢ []) }
-        ensures exact { raw.entry.typ ≡ CHUNK_TYPE → ReadsExactly result kind.view
-            ((kind.row lenient raw.entry.flags).means raw.entry.value.now)
-            ((kind.row lenient raw.entry.flags).faults raw.entry.value.now) }
     {
         if raw.typ != CHUNK_TYPE {
             return Err(ChunkParseError::InvalidType);
@@ -76,13 +72,9 @@ impl AbortChunk {
 
     /// Checks the value, and builds what it means.
     fn read(alloc: Global, flags: u8, value: &[u8]) -> Result<Self, ChunkParseError>
-        ensures answer { Answers result (λ c. (kind.row lenient flags).means value.now
-            (kind.view c))
-            ((kind.row lenient flags).faults value.now) }
+        ensures answer { Exactly reading kind.view (RowAnswer (kind.row lenient flags) value.now) result }
         ensures memory { IsErrOf result ChunkParseError.OutOfMemory →
             HasMeaning (kind.row lenient flags) value.now × (value.now ≢ []) }
-        ensures exact { ReadsExactly result kind.view
-            ((kind.row lenient flags).means value.now) ((kind.row lenient flags).faults value.now) }
     {
         AbortChunk::check(value, false)?;
         Ok(AbortChunk::build(alloc, flags, value)?)
@@ -91,9 +83,8 @@ impl AbortChunk {
     /// The number of parts: the chunk and its causes; or the first fault of these from the left, and
     /// how many bytes stand between the chunk's first byte and it. It takes no memory.
     pub(crate) fn check(value: &[u8], strict: bool) -> Result<usize, Located>
-        ensures found { (flags : ℕ) → FindsAt result
-            (MeansParts (λ a. 1 + length a.causes) (kind.row strict flags) value.now)
-            (FaultsAt (kind.row strict flags) value.now) }
+        ensures found { (flags : ℕ) → Answers locating (λ n. n)
+            (RowLocated (λ a. 1 + length a.causes) (kind.row strict flags) value.now) result }
         ensures few { IfOk result (λ n. 4 * n ≤ 4 + length value.now) }
         ensures within { IfErr result (λ found. found.offset ≤ 4 + length value.now) }
     {

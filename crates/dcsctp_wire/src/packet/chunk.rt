@@ -3,7 +3,7 @@
 ghost use Rattle.std.specs.Prelude.{◌≡◌, ◌≢◌, ◌<◌, ◌+◌, [], Some, IsOk, IfOk, IsErrOf, vec_len, vec_capacity};
 ghost use Rattle.dcsctp_tlv.specs.Frame.{lenient};
 ghost use Rattle.dcsctp_tlv.specs.Level.{HasMeaning, Grows};
-ghost use Rattle.dcsctp_tlv.specs.Reading.{Answers, ReadsExactly};
+ghost use Rattle.dcsctp_tlv.specs.Reading.{Exactly, reading, RowAnswer};
 ghost use Rattle.dcsctp_wire.specs.Chunk as chunk;
 ghost use Rattle.dcsctp_wire.specs.Chunk.{parts as chunk_parts, ChunkTree, chunk_row, chunks, TakesNoMemory, IsPlaced, text as chunk_text, view};
 
@@ -115,31 +115,23 @@ impl Chunk {
     /// `InvalidType` is never answered. Its bytes mean one chunk or have one fault
     /// (`laws::one_answer`), so this is the chunk exactly where they mean one.
     pub fn try_from(alloc: Global, raw: RawChunk) -> Result<Self, ChunkParseError>
-        ensures answer { Answers result
-            (λ c. (chunk_row lenient raw.entry.typ raw.entry.flags).means raw.entry.value.now
-            (view c))
-            ((chunk_row lenient raw.entry.typ raw.entry.flags).faults raw.entry.value.now) }
+        ensures answer { Exactly reading view
+            (RowAnswer (chunk_row lenient raw.entry.typ raw.entry.flags) raw.entry.value.now)
+            result }
         ensures memory { IsErrOf result ChunkParseError.OutOfMemory →
-            HasMeaning (chunk_row lenient raw.entry.typ raw.entry.flags) raw.entry.value.now }
-        ensures exact { ReadsExactly result view
-            ((chunk_row lenient raw.entry.typ raw.entry.flags).means raw.entry.value.now)
-            ((chunk_row lenient raw.entry.typ raw.entry.flags).faults raw.entry.value.now) }
-        ensures heap { TakesNoMemory raw.entry.typ raw.entry.value.now
-            → ¬ IsErrOf result ChunkParseError.OutOfMemory }
+            HasMeaning (chunk_row lenient raw.entry.typ raw.entry.flags) raw.entry.value.now
+            × ¬ TakesNoMemory raw.entry.typ raw.entry.value.now }
     {
         Chunk::read(alloc, raw.typ, raw.flags, raw.value)
     }
 
     /// Checks a chunk's value, and builds what it means.
     fn read(alloc: Global, typ: u8, flags: u8, value: &[u8]) -> Result<Self, ChunkParseError>
-        ensures answer { Answers result
-            (λ c. (chunk_row lenient typ flags).means value.now (view c))
-            ((chunk_row lenient typ flags).faults value.now) }
+        ensures answer { Exactly reading view
+            (RowAnswer (chunk_row lenient typ flags) value.now) result }
         ensures memory { IsErrOf result ChunkParseError.OutOfMemory
-            → HasMeaning (chunk_row lenient typ flags) value.now }
-        ensures exact { ReadsExactly result view ((chunk_row lenient typ flags).means value.now)
-            ((chunk_row lenient typ flags).faults value.now) }
-        ensures heap { TakesNoMemory typ value.now → ¬ IsErrOf result ChunkParseError.OutOfMemory }
+            → HasMeaning (chunk_row lenient typ flags) value.now
+            × ¬ TakesNoMemory typ value.now }
     {
         Chunk::check(false, typ, flags, value)?;
         Ok(Chunk::build(alloc, typ, flags, value)?)

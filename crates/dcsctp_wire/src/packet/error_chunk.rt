@@ -13,7 +13,7 @@
 ghost use Rattle.std.specs.Prelude.{◌≡◌, ◌≢◌, ◌↔◌, ◌≤◌, ◌+◌, ◌*◌, [], length, Some, IfOk, IfErr, IsErrOf, vec_capacity};
 ghost use Rattle.dcsctp_tlv.specs.Frame.{lenient};
 ghost use Rattle.dcsctp_tlv.specs.Level.{HasMeaning, MeansParts, FaultsAt};
-ghost use Rattle.dcsctp_tlv.specs.Reading.{Answers, FindsAt, ReadsExactly};
+ghost use Rattle.dcsctp_tlv.specs.Reading.{Answers, Exactly, reading, locating, RowAnswer, RowLocated};
 ghost use Rattle.dcsctp_wire.specs.Error as kind;
 
 use dcsctp_cause::error_causes::{ErrorCause, error_cause_build};
@@ -57,14 +57,10 @@ impl ErrorChunk {
     /// first fault of the causes from the left; `OutOfMemory` only where there is none.
     pub fn try_from(alloc: Global, raw: RawChunk) -> Result<Self, ChunkParseError>
         ensures other { IsErrOf result ChunkParseError.InvalidType ↔ (raw.entry.typ ≢ CHUNK_TYPE) }
-        ensures own { raw.entry.typ ≡ CHUNK_TYPE
-            → Answers result (λ c. (kind.row lenient).means raw.entry.value.now (kind.view c))
-            ((kind.row lenient).faults raw.entry.value.now) }
+        ensures answer { raw.entry.typ ≡ CHUNK_TYPE →
+            Exactly reading kind.view (RowAnswer (kind.row lenient) raw.entry.value.now) result }
         ensures memory { IsErrOf result ChunkParseError.OutOfMemory
             → HasMeaning (kind.row lenient) raw.entry.value.now }
-        ensures exact { raw.entry.typ ≡ CHUNK_TYPE → ReadsExactly result kind.view
-            ((kind.row lenient).means raw.entry.value.now)
-            ((kind.row lenient).faults raw.entry.value.now) }
     {
         if raw.typ != CHUNK_TYPE {
             return Err(ChunkParseError::InvalidType);
@@ -74,12 +70,9 @@ impl ErrorChunk {
 
     /// Checks the value, and builds what it means.
     fn read(alloc: Global, value: &[u8]) -> Result<Self, ChunkParseError>
-        ensures answer { Answers result (λ c. (kind.row lenient).means value.now (kind.view c))
-            ((kind.row lenient).faults value.now) }
+        ensures answer { Exactly reading kind.view (RowAnswer (kind.row lenient) value.now) result }
         ensures memory { IsErrOf result ChunkParseError.OutOfMemory →
             HasMeaning (kind.row lenient) value.now }
-        ensures exact { ReadsExactly result kind.view
-            ((kind.row lenient).means value.now) ((kind.row lenient).faults value.now) }
     {
         ErrorChunk::check(value, false)?;
         Ok(ErrorChunk::build(alloc, value)?)
@@ -91,9 +84,8 @@ impl ErrorChunk {
     /// With a fault comes how many bytes stand between the chunk's first byte and it: none, where
     /// there are no causes.
     pub(crate) fn check(value: &[u8], strict: bool) -> Result<usize, Located>
-        ensures found { FindsAt result
-            (MeansParts (λ cs. 1 + length cs) (kind.row strict) value.now)
-            (FaultsAt (kind.row strict) value.now) }
+        ensures found { Answers locating (λ n. n)
+            (RowLocated (λ cs. 1 + length cs) (kind.row strict) value.now) result }
         ensures few { IfOk result (λ n. 4 * n ≤ 4 + length value.now) }
         ensures within { IfErr result (λ found. found.offset ≤ 4 + length value.now) }
     {

@@ -1,7 +1,8 @@
 //! The first fault of a packet, and where it lies.
 
 ghost use Rattle.std.specs.Prelude.{◌≡◌, ◌≤◌, length, IfSome};
-ghost use Rattle.dcsctp_wire.specs.Place.{LocatesFault};
+ghost use Rattle.dcsctp_tlv.specs.Reading.{Exactly};
+ghost use Rattle.dcsctp_wire.specs.Place.{PacketLocated, packet_locating, refused};
 ghost use Rattle.dcsctp_tlv.specs.declared.error.ChunkParseError.TheVariants.{OutOfMemory};
 ghost use Rattle.dcsctp_wire.specs.declared.packet.sctp_packet.PacketParseError.TheVariants.{FailedParseChunk};
 
@@ -38,7 +39,8 @@ impl SctpPacket {
     /// `from_bytes` and `check` answer under the same word and policy, and its place, of which there
     /// is one (`laws::one_answer`). `OutOfMemory` is never answered.
     pub fn first_fault(bytes: &[u8], checksum: u32, policy: &ChecksumPolicy) -> Option<FirstFault>
-        ensures answer { LocatesFault bytes.now checksum policy.now result }
+        ensures answer { Exactly packet_locating (λ u. u)
+            (PacketLocated bytes.now checksum policy.now) (refused result) }
         ensures within { IfSome result (λ found. found.offset ≤ length bytes.now) }
         ensures memory { IfSome result
             (λ found. ¬ (found.fault ≡ FailedParseChunk OutOfMemory)) }

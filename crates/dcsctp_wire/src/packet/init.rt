@@ -2,8 +2,8 @@
 
 ghost use Rattle.std.specs.Prelude.{◌≡◌, ◌≤◌, ◌+◌, ◌*◌, [], length, drop, vec_len, vec_capacity, IsOk, IfOk, IfErr};
 ghost use Rattle.dcsctp_tlv.specs.Frame.{lenient};
-ghost use Rattle.dcsctp_tlv.specs.Level.{HasMeaning, MeansParts, FaultsAt};
-ghost use Rattle.dcsctp_tlv.specs.Reading.{FindsAt};
+ghost use Rattle.dcsctp_tlv.specs.Level.{HasMeaning};
+ghost use Rattle.dcsctp_tlv.specs.Reading.{Answers, locating, RowLocated};
 ghost use Rattle.dcsctp_wire.specs.InitFields.{row as init_row, parts as init_parts, leading as init_numbers, tree_of, view as init_fields_view};
 
 use dcsctp_tlv::error::{ChunkParseError, Located};
@@ -33,8 +33,8 @@ pub(crate) struct InitFields {
 /// With a fault comes how many bytes stand between the chunk's first byte and it: none, where the
 /// value has fewer than 16 bytes.
 pub(crate) fn init_check(value: &[u8], strict: bool) -> Result<usize, Located>
-    ensures found { FindsAt result (MeansParts init_parts (init_row strict) value.now)
-        (FaultsAt (init_row strict) value.now) }
+    ensures found { Answers locating (λ n. n)
+        (RowLocated init_parts (init_row strict) value.now) result }
     ensures few { IfOk result (λ n. 4 * n ≤ 4 + length value.now) }
     ensures within { IfErr result (λ found. found.offset ≤ 4 + length value.now) }
 {

@@ -21,7 +21,7 @@
 ghost use Rattle.std.specs.Prelude.{◌≡◌, ◌≢◌, ◌↔◌, [], drop, Some, IsOk, IfOk, IsErrOf};
 ghost use Rattle.dcsctp_tlv.specs.Frame.{lenient};
 ghost use Rattle.dcsctp_tlv.specs.Level.{HasMeaning};
-ghost use Rattle.dcsctp_tlv.specs.Reading.{Answers, ReadsExactly};
+ghost use Rattle.dcsctp_tlv.specs.Reading.{Exactly, reading, RowAnswer};
 ghost use Rattle.dcsctp_wire.specs.InitAck as kind;
 ghost use Rattle.dcsctp_wire.specs.InitFields as init_fields;
 
@@ -63,16 +63,11 @@ impl InitAckChunk {
     /// is none, and there are parameters.
     pub fn try_from(alloc: Global, raw: RawChunk) -> Result<Self, ChunkParseError>
         ensures other { IsErrOf result ChunkParseError.InvalidType ↔ (raw.entry.typ ≢ CHUNK_TYPE) }
-        ensures own { raw.entry.typ ≡ CHUNK_TYPE
-            → Answers result (λ c. (init_fields.row lenient).means raw.entry.value.now
-            (kind.view c))
-            ((init_fields.row lenient).faults raw.entry.value.now) }
+        ensures answer { raw.entry.typ ≡ CHUNK_TYPE →
+            Exactly reading kind.view (RowAnswer (init_fields.row lenient) raw.entry.value.now) result }
         ensures memory { IsErrOf result ChunkParseError.OutOfMemory
             → HasMeaning (init_fields.row lenient) raw.entry.value.now
             × (drop 16 raw.entry.value.now ≢ []) }
-        ensures exact { raw.entry.typ ≡ CHUNK_TYPE → ReadsExactly result kind.view
-            ((init_fields.row lenient).means raw.entry.value.now)
-            ((init_fields.row lenient).faults raw.entry.value.now) }
     {
         if raw.typ != CHUNK_TYPE {
             return Err(ChunkParseError::InvalidType);
@@ -82,14 +77,9 @@ impl InitAckChunk {
 
     /// Checks the value, and builds what it means.
     fn read(alloc: Global, value: &[u8]) -> Result<Self, ChunkParseError>
-        ensures answer { Answers result (λ c. (init_fields.row lenient).means value.now
-            (kind.view c))
-            ((init_fields.row lenient).faults value.now) }
+        ensures answer { Exactly reading kind.view (RowAnswer (init_fields.row lenient) value.now) result }
         ensures memory { IsErrOf result ChunkParseError.OutOfMemory →
             HasMeaning (init_fields.row lenient) value.now × (drop 16 value.now ≢ []) }
-        ensures exact { ReadsExactly result kind.view
-            ((init_fields.row lenient).means value.now)
-            ((init_fields.row lenient).faults value.now) }
     {
         init_check(value, false)?;
         Ok(InitAckChunk::build(alloc, value)?)

@@ -1,8 +1,7 @@
 //! What the chunks have in common whose value is a list of parameters, and nothing else.
 
 ghost use Rattle.std.specs.Prelude.{◌≤◌, ◌+◌, ◌*◌, length, IfOk, IfErr};
-ghost use Rattle.dcsctp_tlv.specs.Level.{MeansParts, FaultsAt};
-ghost use Rattle.dcsctp_tlv.specs.Reading.{FindsAt};
+ghost use Rattle.dcsctp_tlv.specs.Reading.{Answers, locating, RowLocated};
 ghost use Rattle.dcsctp_wire.specs.ParameterList.{row as parameter_list_row};
 
 use dcsctp_tlv::error::Located;
@@ -12,9 +11,8 @@ use dcsctp_tlv::reader::listed_check;
 /// The number of parts: the chunk and its parameters; or the first fault of these from the left, and
 /// how many bytes stand between the chunk's first byte and it. It takes no memory.
 pub(crate) fn parameter_list_check(value: &[u8], strict: bool) -> Result<usize, Located>
-    ensures found { FindsAt result
-        (MeansParts (λ ps. 1 + length ps) (parameter_list_row strict) value.now)
-        (FaultsAt (parameter_list_row strict) value.now) }
+    ensures found { Answers locating (λ n. n)
+        (RowLocated (λ ps. 1 + length ps) (parameter_list_row strict) value.now) result }
     ensures few { IfOk result (λ n. 4 * n ≤ 4 + length value.now) }
     ensures within { IfErr result (λ found. found.offset ≤ 4 + length value.now) }
 {

@@ -13,7 +13,7 @@
 ghost use Rattle.std.specs.Prelude.{◌≡◌, ◌≢◌, ◌↔◌, [], Some, IsOk, IfOk, IsErrOf, vec_capacity};
 ghost use Rattle.dcsctp_tlv.specs.Frame.{lenient};
 ghost use Rattle.dcsctp_tlv.specs.Level.{HasMeaning};
-ghost use Rattle.dcsctp_tlv.specs.Reading.{Answers, ReadsExactly};
+ghost use Rattle.dcsctp_tlv.specs.Reading.{Exactly, reading, RowAnswer};
 ghost use Rattle.dcsctp_wire.specs.ReConfig as kind;
 ghost use Rattle.dcsctp_wire.specs.ParameterList as parameter_list;
 
@@ -53,16 +53,11 @@ impl ReConfigChunk {
     /// left; `OutOfMemory` only where there is none, and there are parameters.
     pub fn try_from(alloc: Global, raw: RawChunk) -> Result<Self, ChunkParseError>
         ensures other { IsErrOf result ChunkParseError.InvalidType ↔ (raw.entry.typ ≢ CHUNK_TYPE) }
-        ensures own { raw.entry.typ ≡ CHUNK_TYPE
-            → Answers result (λ c. (parameter_list.row lenient).means raw.entry.value.now
-            (kind.view c))
-            ((parameter_list.row lenient).faults raw.entry.value.now) }
+        ensures answer { raw.entry.typ ≡ CHUNK_TYPE →
+            Exactly reading kind.view (RowAnswer (parameter_list.row lenient) raw.entry.value.now) result }
         ensures memory { IsErrOf result ChunkParseError.OutOfMemory
             → HasMeaning (parameter_list.row lenient) raw.entry.value.now
             × (raw.entry.value.now ≢ []) }
-        ensures exact { raw.entry.typ ≡ CHUNK_TYPE → ReadsExactly result kind.view
-            ((parameter_list.row lenient).means raw.entry.value.now)
-            ((parameter_list.row lenient).faults raw.entry.value.now) }
     {
         if raw.typ != CHUNK_TYPE {
             return Err(ChunkParseError::InvalidType);
@@ -72,14 +67,9 @@ impl ReConfigChunk {
 
     /// Checks the value, and builds what it means.
     fn read(alloc: Global, value: &[u8]) -> Result<Self, ChunkParseError>
-        ensures answer { Answers result (λ c. (parameter_list.row lenient).means value.now
-            (kind.view c))
-            ((parameter_list.row lenient).faults value.now) }
+        ensures answer { Exactly reading kind.view (RowAnswer (parameter_list.row lenient) value.now) result }
         ensures memory { IsErrOf result ChunkParseError.OutOfMemory →
             HasMeaning (parameter_list.row lenient) value.now × (value.now ≢ []) }
-        ensures exact { ReadsExactly result kind.view
-            ((parameter_list.row lenient).means value.now)
-            ((parameter_list.row lenient).faults value.now) }
     {
         parameter_list_check(value, false)?;
         Ok(ReConfigChunk::build(alloc, value)?)

@@ -16,10 +16,10 @@
 
 ghost use Rattle.std.specs.Prelude.{◌≡◌, ◌↔◌, ◌≤◌, ◌+◌, ◌-◌, ◌/◌, ℕ, [], false, length, replicate, vec_len, vec_capacity, IsTrue, IfOk, IfErr, IsErrOf};
 ghost use Rattle.dcsctp_wire.specs.Chunk.{views};
-ghost use Rattle.dcsctp_wire.specs.Packet.{Meaning, Answer, Reads, IsAccepted, meaning_view, packet_view};
+ghost use Rattle.dcsctp_tlv.specs.Reading.{Answers, Exactly, Counted};
+ghost use Rattle.dcsctp_wire.specs.Packet.{Meaning, Answer, IsPacket, IsAccepted, meaning_view, packet_view, packet_reading, packet_checking};
 ghost use Rattle.dcsctp_wire.specs.Account.{KeepsTexts, KeepsSize, node_count};
-ghost use Rattle.dcsctp_wire.specs.Exact.{IsPacket, ChecksPacket, ReadsPacket};
-ghost use Rattle.dcsctp_wire.specs.Place.{FindsPacket};
+ghost use Rattle.dcsctp_wire.specs.Place.{PacketCounts, packet_locating};
 ghost use Rattle.dcsctp_wire.specs.Canonical.{canonical, padded_size, Fits};
 ghost use Rattle.dcsctp_wire.specs.WellFormed.{IsInWidth, IsWellFormed};
 ghost use Rattle.dcsctp_wire.specs.declared.packet.sctp_packet.ChecksumPolicy.{ChecksumPolicy};
@@ -170,7 +170,8 @@ impl SctpPacket {
         checksum: u32,
         policy: &ChecksumPolicy,
     ) -> Result<SctpPacket, PacketParseError>
-        ensures answer { Reads packet_view bytes.now checksum policy.now result }
+        ensures answer { Exactly packet_reading packet_view
+            (Answer bytes.now checksum policy.now) result }
         ensures formed { IfOk result (λ p. IsWellFormed (meaning_view p)) }
 
         // Where no text of an error cause is replaced, the packet is as large as the input.
@@ -184,7 +185,6 @@ impl SctpPacket {
         // A fault is told wherever there is one, and `OutOfMemory` only where there is none.
         ensures memory { IsErrOf result (FailedParseChunk OutOfMemory)
             → IsPacket bytes.now checksum policy.now }
-        ensures exact { ReadsPacket packet_view bytes.now checksum policy.now result }
 
         // The memory for the list of chunks is taken at once.
         ensures reserved { IfOk result (λ p. vec_capacity p.chunks ≡ vec_len p.chunks) }
@@ -202,7 +202,8 @@ impl SctpPacket {
         checksum: u32,
         policy: &ChecksumPolicy,
     ) -> Result<usize, PacketParseError>
-        ensures answer { ChecksPacket bytes.now checksum policy.now result }
+        ensures answer { Exactly packet_checking (λ n. n)
+            (Counted (λ p. node_count p.meaning) (Answer bytes.now checksum policy.now)) result }
         ensures few { IfOk result (λ n. n ≤ (length bytes.now - 12) / 4) }
         ensures memory { ¬ IsErrOf result (FailedParseChunk OutOfMemory) }
     {
@@ -279,7 +280,8 @@ pub(crate) fn check_packet(
     checksum: u32,
     policy: &ChecksumPolicy,
 ) -> Result<(usize, usize), FirstFault>
-    ensures found { FindsPacket bytes.now checksum policy.now result }
+    ensures found { Answers packet_locating (λ n. n)
+        (PacketCounts bytes.now checksum policy.now) result }
     ensures within { IfErr result (λ found. found.offset ≤ length bytes.now) }
 {
     if bytes.len() < MIN_PACKET_SIZE || bytes.len() > MAX_PACKET_SIZE {
@@ -310,7 +312,8 @@ fn read_packet(
     checksum: u32,
     policy: &ChecksumPolicy,
 ) -> Result<SctpPacket, PacketParseError>
-    ensures answer { Reads packet_view bytes.now checksum policy.now result }
+    ensures answer { Answers packet_reading packet_view
+        (Answer bytes.now checksum policy.now) result }
     ensures memory { IsErrOf result (FailedParseChunk OutOfMemory)
         → IsPacket bytes.now checksum policy.now }
     ensures reserved { IfOk result (λ p. vec_capacity p.chunks ≡ vec_len p.chunks) }

@@ -1,12 +1,10 @@
 use Rattle.dcsctp_tlv.specs.Frame.{lenient}
-use Rattle.dcsctp_tlv.specs.Level.{MeansTrees, HasFault}
 use Rattle.dcsctp_cause.specs.Cause.{causes, views}
 use Rattle.dcsctp_cause.proofs.CauseLaws.{causes_lawful}
-use Rattle.dcsctp_tlv.proofs.Checks.{list_single, reads_exactly}
+use Rattle.dcsctp_tlv.proofs.Exact.{list_exactly}
 use Rattle.dcsctp_cause.proofs.error_causes.error_cause_from_bytes.Goals as goal
 
-pub returns-clause-exact : goal.returns-clause-exact
-returns-clause-exact c =
-    let bytes = c.args.bytes.now in
-    reads_exactly (λ list. views list.items) (MeansTrees (causes lenient) bytes) (HasFault (causes lenient) bytes) (list_single (causes lenient) (causes_lawful lenient) bytes (λ i. (c.type_inv.bytes i).fits)) c.list_from_bytes.result
+pub returns-clause-answer : goal.returns-clause-answer
+returns-clause-answer c =
+    list_exactly (causes lenient) (causes_lawful lenient) c.args.bytes.now (λ i. (c.type_inv.bytes i).fits) (λ list. views list.items) c.list_from_bytes.result
     c.list_from_bytes.ensures.answer (λ lacks. (c.list_from_bytes.ensures.memory lacks).0)

@@ -1,23 +1,21 @@
-use Rattle.std.proofs.Common.{◌≡◌, ℕ, Result, Ok, Err}
+use Rattle.std.proofs.Common.{◌≡◌, ℕ, Result, Ok, Err, length}
 use Rattle.std.proofs.lemmas.Result.{err_from_is_err_and}
 use Rattle.dcsctp_tlv.specs.declared.error.ChunkParseError.{ChunkParseError}
-use Rattle.dcsctp_tlv.specs.Level.{HasFault, fault_offset}
 use Rattle.dcsctp_tlv.specs.Parameter.{parameters}
 use Rattle.dcsctp_tlv.proofs.ParameterLaws.{parameters_lawful}
-use Rattle.dcsctp_tlv.proofs.Checks.{checks_exactly}
+use Rattle.dcsctp_tlv.proofs.Exact.{count_exactly}
 use Rattle.dcsctp_tlv.proofs.Places.{fault_only}
 use Rattle.dcsctp_tlv.proofs.parameter.parameters_check.Goals as goal
 
-pub returns-in_err-count-clause-exact : goal.returns-in_err-count-clause-exact
-returns-in_err-count-clause-exact c =
+pub returns-in_err-count-clause-answer : goal.returns-in_err-count-clause-answer
+returns-in_err-count-clause-answer c =
     let level = parameters c.args.strict in
     let bytes = c.args.bytes.now in
     let found = c.in_err-count.field-0.0 in
     let p = err_from_is_err_and c.from_residual.result c.from_residual.ensures.1 in
-    let fault : Result ℕ ChunkParseError = Err found.fault in
-    rw (p.1, p.2) (checks_exactly level (parameters_lawful c.args.strict) bytes (λ i. (c.type_inv.bytes i).fits) fault (fault_only (HasFault level bytes) (λ e n f. n ≡ fault_offset level bytes e f) found.offset found.fault c.in_err-count.ensures.found))
+    rw (p.1, p.2) (count_exactly level (parameters_lawful c.args.strict) bytes (λ i. (c.type_inv.bytes i).fits) (Err found.fault) (fault_only level (λ t. 1) bytes found c.in_err-count.ensures.found))
 
-pub returns-clause-exact : goal.returns-clause-exact
-returns-clause-exact c =
+pub returns-clause-answer : goal.returns-clause-answer
+returns-clause-answer c =
     let f = c.in_ok-count.ensures.found in
-    checks_exactly (parameters c.args.strict) (parameters_lawful c.args.strict) c.args.bytes.now (λ i. (c.type_inv.bytes i).fits) (Ok c.in_ok-count.count) (f.trees, f.mean, f.item_count)
+    count_exactly (parameters c.args.strict) (parameters_lawful c.args.strict) c.args.bytes.now (λ i. (c.type_inv.bytes i).fits) (Ok c.in_ok-count.count) (f.trees, f.mean, f.item_count)

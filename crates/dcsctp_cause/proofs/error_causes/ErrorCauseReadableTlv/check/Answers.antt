@@ -1,3 +1,4 @@
+use Rattle.dcsctp_tlv.specs.Reading.{RowTested}
 use Rattle.dcsctp_tlv.proofs.Places.{fault_at_front}
 use Rattle.dcsctp_cause.specs.Cause.{row}
 use Rattle.dcsctp_cause.proofs.CauseLaws.{row_at_front}
@@ -6,4 +7,4 @@ use Rattle.dcsctp_cause.proofs.error_causes.ErrorCauseReadableTlv.check.Goals as
 pub returns-in-Err-clause-found : goal.returns-in-Err-clause-found
 returns-in-Err-clause-found c =
     let code = c.from_be_bytes.result in
-    rw (c.at_front.ensures, ← c.from_be_bytes.ensures) (fault_at_front (row code) (row_at_front code) c.args.value.now c.in-Err.fault c.in-Err.ensures)
+    rw (c.at_front.ensures, ← c.from_be_bytes.ensures) (fault_at_front (row code) (λ t. 1) c.args.value.now (RowTested (row code) c.args.value.now) (λ e f. (f, row_at_front code c.args.value.now e f)) c.in-Err.fault c.in-Err.ensures)

@@ -1,8 +1,8 @@
-use Rattle.std.proofs.Common.{arith, refl, length}
+use Rattle.std.proofs.Common.{arith, rules, refl, length}
 use Rattle.std.specs.Prelude.{nat_le}
 use Rattle.std.proofs.lemmas.Bool.{le-leb}
 use Rattle.dcsctp_tlv.specs.Parameter.{parameters}
-use Rattle.dcsctp_tlv.proofs.Places.{finds_listed}
+use Rattle.dcsctp_tlv.proofs.Places.{finds_listed, rule_broken}
 use Rattle.dcsctp_wire.specs.InitFields.{tree_of as init_of, parts as init_parts}
 use Rattle.dcsctp_wire.proofs.packet.init.init_check.Goals as goal
 
@@ -10,3 +10,7 @@ pub returns-clause-found : goal.returns-clause-found
 returns-clause-found c =
     let v = c.args.value.now in
     finds_listed (λ value. nat_le 16 (length value)) 16 (parameters c.args.strict) init_of init_parts (λ v ps. refl) v c.listed_check.result (le-leb 16 (length v) (omega arith)) c.listed_check.ensures.found
+
+pub returns-then-value-lt-FIXED_SIZE-clause-found : goal.returns-then-value-lt-FIXED_SIZE-clause-found
+returns-then-value-lt-FIXED_SIZE-clause-found c =
+    rw c.at_front.ensures (rule_broken (λ value. nat_le 16 (length value)) 16 (parameters c.args.strict) init_of init_parts c.args.value.now (search rules))

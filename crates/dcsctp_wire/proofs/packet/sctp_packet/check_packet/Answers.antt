@@ -1,20 +1,23 @@
-use Rattle.std.proofs.Common.{arith, rules, List, ℕ, subst}
+use Rattle.std.proofs.Common.{arith, rules, Err, List, ℕ, subst}
 use Rattle.std.specs.Prelude.{IsTrue}
 use Rattle.std.proofs.lemmas.List.{take_rest}
-use Rattle.dcsctp_tlv.specs.Level.{HasFaultAt}
-use Rattle.dcsctp_tlv.specs.Reading.{IsFault}
-use Rattle.dcsctp_wire.specs.Chunk.{chunks}
-use Rattle.dcsctp_wire.specs.Packet.{IsAccepted}
-use Rattle.dcsctp_wire.proofs.PacketPlaces.{chunk_told}
+use Rattle.dcsctp_tlv.specs.Reading.{Answers, locating, ListLocated}
+use Rattle.dcsctp_wire.specs.Chunk.{chunks, parts as chunk_parts}
+use Rattle.dcsctp_wire.specs.Packet.{IsAccepted, Size, Checksum}
+use Rattle.dcsctp_wire.proofs.PacketPlaces.{chunk_fault, fault_there}
 use Rattle.dcsctp_wire.proofs.packet.sctp_packet.check_packet.Goals as goal
 
 pub returns-in-Err-clause-found : goal.returns-in-Err-clause-found
 returns-in-Err-clause-found c =
     let bytes = c.args.bytes.now in
     let policy = c.args.policy.now in
-    let x = c.in-Err.found.fault in
-    let n = c.in-Err.found.offset in
     let yes : IsTrue c.accepts.result = search rules in
     let accepted = subst (λ (k : ℕ). IsAccepted policy k c.args.checksum) (rw (take_rest bytes 8) at c.read_u32_be.ensures) (c.accepts.ensures.0 yes) in
-    chunk_told bytes c.args.checksum policy x n (record { size = record { low = omega arith; high = omega arith }; accepted = accepted })
-    (subst (λ (b : List ℕ). IsFault (λ e. HasFaultAt (chunks policy.strict_padding) b e n) x) (take_rest bytes 12) c.in-Err.ensures.found)
+    chunk_fault bytes c.args.checksum policy c.in-Err.found (record { size = record { low = omega arith; high = omega arith }; accepted = accepted })
+    (subst (λ (b : List ℕ). Answers locating (λ (n : ℕ × ℕ). n) (ListLocated (chunks policy.strict_padding) chunk_parts b) (Err c.in-Err.found)) (take_rest bytes 12) c.in-Err.ensures.found)
+
+pub returns-then-bytes-lt-MIN_PACKET_SIZE-clause-found : goal.returns-then-bytes-lt-MIN_PACKET_SIZE-clause-found
+returns-then-bytes-lt-MIN_PACKET_SIZE-clause-found c = fault_there c.args.bytes.now c.args.checksum c.args.policy.now Size _ (search rules)
+
+pub returns-then-not-accepts-clause-found : goal.returns-then-not-accepts-clause-found
+returns-then-not-accepts-clause-found c = fault_there c.args.bytes.now c.args.checksum c.args.policy.now Checksum _ (search rules)

@@ -1,17 +1,17 @@
 use Rattle.std.proofs.Common.{rules}
 use Rattle.dcsctp_tlv.specs.Frame.{lenient}
-use Rattle.dcsctp_tlv.proofs.Checks.{row_exactly}
+use Rattle.dcsctp_tlv.proofs.Exact.{row_exactly}
 use Rattle.dcsctp_wire.proofs.ChunkRows.{chunks_lawful}
 use Rattle.dcsctp_wire.proofs.packet.chunk.Chunk.read.Goals as goal
 
-pub returns-in_err-check-clause-exact : goal.returns-in_err-check-clause-exact
-returns-in_err-check-clause-exact c =
+pub returns-in_err-check-clause-answer : goal.returns-in_err-check-clause-answer
+returns-in_err-check-clause-answer c =
     row_exactly (chunks_lawful lenient c.args.typ c.args.flags) _ c.type_inv.value (search rules)
 
-pub returns-in_err-build-clause-exact : goal.returns-in_err-build-clause-exact
-returns-in_err-build-clause-exact c =
+pub returns-in_err-build-clause-answer : goal.returns-in_err-build-clause-answer
+returns-in_err-build-clause-answer c =
     row_exactly (chunks_lawful lenient c.args.typ c.args.flags) _ c.type_inv.value (search rules)
 
-pub returns-clause-exact : goal.returns-clause-exact
-returns-clause-exact c =
+pub returns-clause-answer : goal.returns-clause-answer
+returns-clause-answer c =
     row_exactly (chunks_lawful lenient c.args.typ c.args.flags) _ c.type_inv.value (search rules)

@@ -1,7 +1,6 @@
-use Rattle.std.proofs.Common.{◌≡◌, Err, rules, ◌+◌, length, refl}
-use Rattle.dcsctp_tlv.specs.Level.{FaultsAt}
+use Rattle.std.proofs.Common.{◌≡◌, rules, ◌+◌, length, refl}
 use Rattle.dcsctp_tlv.proofs.Readings.{finds_as}
-use Rattle.dcsctp_tlv.proofs.Places.{fault_as}
+use Rattle.dcsctp_tlv.proofs.Places.{fault_at_front}
 use Rattle.dcsctp_chunk.specs.PlainCheck.{plain_outcome}
 use Rattle.dcsctp_wire.specs.InitFields.{row as init_row, parts as init_parts}
 use Rattle.dcsctp_wire.specs.ParameterList.{row as parameter_list_row}
@@ -34,7 +33,8 @@ returns-in-130-clause-found c = rw c.in-130.is (finds_as ReConfig (parameter_lis
 
 pub returns-in-Ok-clause-found : goal.returns-in-Ok-clause-found
 returns-in-Ok-clause-found c =
-    (plain_stands c.args.strict c.args.first c.args.second c.args.value.now (search rules) (search rules) (search rules) (search rules) (search rules) (search rules) (search rules)).0 c.in-Ok.ensures
+    let stands = plain_stands c.args.strict c.args.first c.args.second c.args.value.now (search rules) (search rules) (search rules) (search rules) (search rules) (search rules) (search rules) in
+    stands.0 (rw c.in-Ok.ensures.answer.answers refl)
 
 pub returns-in-Err-clause-found : goal.returns-in-Err-clause-found
 returns-in-Err-clause-found c =
@@ -42,4 +42,4 @@ returns-in-Err-clause-found c =
     let flags = c.args.second in
     let v = c.args.value.now in
     let stands = plain_stands c.args.strict typ flags v (search rules) (search rules) (search rules) (search rules) (search rules) (search rules) (search rules) in
-    rw c.at_front.ensures (fault_as {P = λ e. plain_outcome typ flags v ≡ Err e} {Q = λ e. FaultsAt (chunk_row c.args.strict typ flags) v e 0} stands.1 c.in-Err.fault c.in-Err.ensures)
+    rw c.at_front.ensures (fault_at_front (chunk_row c.args.strict typ flags) chunk_parts v (λ a. plain_outcome typ flags v ≡ a) stands.1 c.in-Err.fault c.in-Err.ensures.answer.answers)

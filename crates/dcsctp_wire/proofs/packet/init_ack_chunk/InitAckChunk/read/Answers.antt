@@ -1,14 +1,14 @@
 use Rattle.std.proofs.Common.{rules}
 use Rattle.dcsctp_tlv.specs.Frame.{lenient}
-use Rattle.dcsctp_tlv.proofs.Checks.{row_exactly}
+use Rattle.dcsctp_tlv.proofs.Exact.{row_exactly}
 use Rattle.dcsctp_wire.proofs.ListRows.{init_lawful}
 use Rattle.dcsctp_wire.proofs.packet.init_ack_chunk.InitAckChunk.read.Goals as goal
 
-pub returns-in_err-init_check-clause-exact : goal.returns-in_err-init_check-clause-exact
-returns-in_err-init_check-clause-exact c = row_exactly (init_lawful lenient) _ c.type_inv.value (search rules)
+pub returns-in_err-init_check-clause-answer : goal.returns-in_err-init_check-clause-answer
+returns-in_err-init_check-clause-answer c = row_exactly (init_lawful lenient) _ c.type_inv.value (search rules)
 
-pub returns-in_err-build-clause-exact : goal.returns-in_err-build-clause-exact
-returns-in_err-build-clause-exact c = row_exactly (init_lawful lenient) _ c.type_inv.value (search rules)
+pub returns-in_err-build-clause-answer : goal.returns-in_err-build-clause-answer
+returns-in_err-build-clause-answer c = row_exactly (init_lawful lenient) _ c.type_inv.value (search rules)
 
-pub returns-clause-exact : goal.returns-clause-exact
-returns-clause-exact c = row_exactly (init_lawful lenient) _ c.type_inv.value (search rules)
+pub returns-clause-answer : goal.returns-clause-answer
+returns-clause-answer c = row_exactly (init_lawful lenient) _ c.type_inv.value (search rules)

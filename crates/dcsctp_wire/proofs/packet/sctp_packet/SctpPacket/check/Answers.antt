@@ -1,18 +1,27 @@
+use Rattle.std.proofs.Common.{Ok, Err}
 use Rattle.std.proofs.lemmas.Result.{err_from_is_err_and}
 use Rattle.dcsctp_wire.specs.Packet.{packet_with}
 use Rattle.dcsctp_wire.proofs.PacketLaws.{packet_parts}
 use Rattle.dcsctp_wire.proofs.Lenient.{lenient_packet}
-use Rattle.dcsctp_wire.proofs.PacketChecks.{check_good, check_fault, packet_is}
+use Rattle.dcsctp_wire.proofs.PacketChecks.{check_answers, check_exactly, packet_is}
 use Rattle.dcsctp_wire.proofs.packet.sctp_packet.SctpPacket.check.Goals as goal
 
 pub returns-in_err-counts-clause-answer : goal.returns-in_err-counts-clause-answer
 returns-in_err-counts-clause-answer c =
-    let told = c.in_err-counts.ensures.found in
+    let bytes = c.args.bytes.now in
+    let word = c.args.checksum in
+    let policy = c.args.policy.now in
+    let found = c.in_err-counts.field-0.0 in
     let p = err_from_is_err_and c.from_residual.result c.from_residual.ensures.1 in
-    rw (p.1, p.2) (check_fault c.args.bytes.now c.args.checksum c.args.policy.now (λ i. (c.type_inv.bytes i).fits) told.0 told.2.0 _ told.1)
+    rw (p.1, p.2) (check_exactly bytes word policy (λ i. (c.type_inv.bytes i).fits) (Err found.fault) (check_answers bytes word policy found c.in_err-counts.ensures.found))
 
 pub returns-clause-answer : goal.returns-clause-answer
-returns-clause-answer c = check_good c.args.bytes.now c.args.checksum c.args.policy.now (λ i. (c.type_inv.bytes i).fits) c.in_ok-counts.counts.0 c.in_ok-counts.counts.1 c.in_ok-counts.ensures.found.0 c.in_ok-counts.ensures.found.1
+returns-clause-answer c =
+    let bytes = c.args.bytes.now in
+    let word = c.args.checksum in
+    let policy = c.args.policy.now in
+    let found = c.in_ok-counts.ensures.found in
+    check_exactly bytes word policy (λ i. (c.type_inv.bytes i).fits) (Ok c.in_ok-counts.counts.1) (packet_with bytes found.1.trees, packet_is bytes word policy found.1.trees found.0 found.1.mean, found.1.part_count)
 
 pub returns-clause-few : goal.returns-clause-few
 returns-clause-few c =

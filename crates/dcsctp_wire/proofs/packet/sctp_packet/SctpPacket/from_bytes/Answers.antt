@@ -21,5 +21,5 @@ returns-clause-nodes c =
     let bytes = c.args.bytes.now in
     reads_only (λ p. node_count p.meaning ≤ (length bytes - 12) / 4) bytes c.args.checksum c.args.policy.now c.read_packet.result (λ p size m. packet_parts bytes p m) c.read_packet.ensures.answer
 
-pub returns-clause-exact : goal.returns-clause-exact
-returns-clause-exact c = read_exactly c.args.bytes.now c.args.checksum c.args.policy.now (λ i. (c.type_inv.bytes i).fits) packet_view c.read_packet.result c.read_packet.ensures.answer c.read_packet.ensures.memory
+pub returns-clause-answer : goal.returns-clause-answer
+returns-clause-answer c = read_exactly c.args.bytes.now c.args.checksum c.args.policy.now (λ i. (c.type_inv.bytes i).fits) packet_view c.read_packet.result c.read_packet.ensures.answer c.read_packet.ensures.memory
