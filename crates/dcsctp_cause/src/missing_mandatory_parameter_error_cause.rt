@@ -72,7 +72,7 @@ pub struct MissingMandatoryParameterErrorCause {
     pub missing_parameters: Vec<u16>,
 }
 
-#[tactic(auto, unfolding(crate::specs::MissingMandatoryParameter::read))]
+#[tactic(auto, using(dcsctp_tlv::proofs::Exact::read_exactly), unfolding(crate::specs::MissingMandatoryParameter::read))]
 impl MissingMandatoryParameterErrorCause {
     /// The cause with these types.
     pub fn new(missing_parameters: Vec<u16>) -> MissingMandatoryParameterErrorCause

@@ -35,7 +35,7 @@ pub struct ProtocolViolationErrorCause {
     pub information: String,
 }
 
-#[tactic(auto, unfolding(crate::specs::ProtocolViolation::read))]
+#[tactic(auto, using(dcsctp_tlv::proofs::Exact::read_exactly), unfolding(crate::specs::ProtocolViolation::read))]
 impl ProtocolViolationErrorCause {
     /// Reads the cause, and copies the text; where the value isn't UTF-8, the text says so.
     ///

@@ -32,7 +32,7 @@ pub struct UnrecognizedChunkErrorCause {
     pub chunk: Vec<u8>,
 }
 
-#[tactic(auto, unfolding(crate::specs::UnrecognizedChunk::read))]
+#[tactic(auto, using(dcsctp_tlv::proofs::Exact::read_exactly), unfolding(crate::specs::UnrecognizedChunk::read))]
 impl UnrecognizedChunkErrorCause {
     /// Reads the cause, and copies the chunk.
     ///

@@ -33,7 +33,7 @@ pub struct CookieEchoChunk {
     pub cookie: Vec<u8>,
 }
 
-#[tactic(auto, unfolding(crate::specs::CookieEcho::read))]
+#[tactic(auto, using(dcsctp_tlv::proofs::Exact::read_exactly), unfolding(crate::specs::CookieEcho::read))]
 impl CookieEchoChunk {
     /// The chunk with an empty cookie. It takes no memory.
     pub fn new(alloc: Global) -> CookieEchoChunk

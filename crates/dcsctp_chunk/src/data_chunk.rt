@@ -54,7 +54,7 @@ pub struct DataChunk {
     pub immediate_ack: bool,
 }
 
-#[tactic(auto, unfolding(crate::specs::DataChunk::read))]
+#[tactic(auto, using(dcsctp_tlv::proofs::Exact::read_exactly), unfolding(crate::specs::DataChunk::read))]
 impl DataChunk {
     /// Reads the chunk, and copies its payload; flags but the four lowest are ignored.
     ///

@@ -85,7 +85,7 @@ pub struct ForwardTsnChunk {
     pub skipped_streams: Vec<SkippedStream>,
 }
 
-#[tactic(auto, unfolding(crate::specs::ForwardTsn::read))]
+#[tactic(auto, using(dcsctp_tlv::proofs::Exact::read_exactly), unfolding(crate::specs::ForwardTsn::read))]
 impl ForwardTsnChunk {
     /// Reads the chunk, and copies its skipped streams, each as `SkippedStream::ForwardTsn`; flags
     /// are ignored.

@@ -82,7 +82,7 @@ fn ppid_or_fsn(content: &Data) -> u32
     }
 }
 
-#[tactic(auto, unfolding(crate::specs::IDataChunk::read))]
+#[tactic(auto, using(dcsctp_tlv::proofs::Exact::read_exactly), unfolding(crate::specs::IDataChunk::read))]
 impl IDataChunk {
     /// Reads the chunk, and copies its payload; flags but the four lowest and the reserved bytes
     /// are ignored.

@@ -92,7 +92,7 @@ pub struct IForwardTsnChunk {
     pub skipped_streams: Vec<SkippedStream>,
 }
 
-#[tactic(auto, unfolding(crate::specs::IForwardTsn::read))]
+#[tactic(auto, using(dcsctp_tlv::proofs::Exact::read_exactly), unfolding(crate::specs::IForwardTsn::read))]
 impl IForwardTsnChunk {
     /// Reads the chunk, and copies its skipped streams, each as `SkippedStream::IForwardTsn`;
     /// flags are ignored.

@@ -106,7 +106,7 @@ pub struct SackChunk {
     pub duplicate_tsns: Vec<Tsn>,
 }
 
-#[tactic(auto, unfolding(crate::specs::Sack::read))]
+#[tactic(auto, using(dcsctp_tlv::proofs::Exact::read_exactly), unfolding(crate::specs::Sack::read))]
 impl SackChunk {
     /// Reads the chunk, and copies its blocks and its duplicate TSNs; flags are ignored.
     ///

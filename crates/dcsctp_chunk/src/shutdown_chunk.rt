@@ -33,7 +33,7 @@ pub struct ShutdownChunk {
     pub cumulative_tsn_ack: Tsn,
 }
 
-#[tactic(auto, unfolding(crate::specs::Shutdown::read))]
+#[tactic(auto, using(dcsctp_tlv::proofs::Exact::read_exactly), unfolding(crate::specs::Shutdown::read))]
 impl ShutdownChunk {
     /// Reads the chunk; flags are ignored, and no memory is taken.
     ///

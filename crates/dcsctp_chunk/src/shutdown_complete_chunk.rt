@@ -31,7 +31,7 @@ pub struct ShutdownCompleteChunk {
     pub tag_reflected: bool,
 }
 
-#[tactic(auto, unfolding(crate::specs::ShutdownComplete::read))]
+#[tactic(auto, using(dcsctp_tlv::proofs::Exact::read_exactly), unfolding(crate::specs::ShutdownComplete::read))]
 impl ShutdownCompleteChunk {
     /// Reads the chunk; flags but the T bit are ignored, and no memory is taken.
     ///

@@ -1,5 +1,5 @@
 -- From what a call answers to what it answers exactly, wherever the grammar gives one answer at most.
-use Rattle.std.proofs.Common.{◌≡◌, ℕ, true, false, List, Result, Ok, Err, inl, inr, refl, sym, ap, ◌∙◌, length, get_or, Fits}
+use Rattle.std.proofs.Common.{◌≡◌, ℕ, true, false, List, Result, Ok, Err, inl, inr, refl, sym, ap, subst, ◌∙◌, length, get_or, Fits}
 use Rattle.std.specs.Prelude.{IsOk, IsErrOf}
 use Rattle.std.specs.Int.{w8}
 use Rattle.dcsctp_tlv.specs.declared.error.ChunkParseError.{ChunkParseError}
@@ -14,24 +14,59 @@ use Rattle.dcsctp_tlv.proofs.Laws.{LawfulRow, Lawful, list_one, list_apart, list
 abbrev pub Single : {T F : Type 0} → (Result T F → Type 0) → Type 0
 Single {T} {F} answer = (a b : Result T F) → answer a → answer b → a ≡ b
 
+-- each fault has an error of its own, and none is that memory ran out
+pub record Distinct {F E : Type 0} (errors : Errors F E) : Type 0 where
+  pub one : (d e : F) → errors.of d ≡ errors.of e → d ≡ e
+  pub apart : (f : F) → errors.lack (errors.of f) → ⊥
+
 -- where there is one answer at most, and memory runs out only where it is a value
-pub exactly : {X T E F : Type 0} (errors : Errors F E) (view : X → T) (answer : Result T F → Type 0) → Single answer → (r : Result X E) → Answers errors view answer r
+pub exactly : {X T E F : Type 0} (errors : Errors F E) → Distinct errors → (view : X → T) (answer : Result T F → Type 0) → Single answer → (r : Result X E) → Answers errors view answer r
     → ((e : E) → r ≡ Err e → errors.lack e → (t : T) × answer (Ok t)) → Exactly errors view answer r
-exactly errors view answer single (Ok x) a memory = record {
+exactly errors distinct view answer single (Ok x) a memory = record {
   answers = a;
   value = λ t m. (let h : Ok (view x) ≡ Ok t = single (Ok (view x)) (Ok t) a m in cc);
-  fault = λ f g. absurd (let h : Ok (view x) ≡ Err f = single (Ok (view x)) (Err f) a g in cc);
+  fault = λ f. ((λ h. absurd cc), (λ g. absurd (let h : Ok (view x) ≡ Err f = single (Ok (view x)) (Err f) a g in cc)));
 }
-exactly errors view answer single (Err e) (inl told) memory = record {
-  answers = inl told;
-  value = λ t m. absurd (let h : Ok t ≡ Err told.0 = single (Ok t) (Err told.0) m told.2 in cc);
-  fault = λ f g. (let h : Err told.0 ≡ Err f = single (Err told.0) (Err f) told.2 g in let same : told.0 ≡ f = cc in ap Err (told.1 ∙ ap errors.of same));
+exactly errors distinct view answer single (Err e) (inl found) memory = record {
+  answers = inl found;
+  value = λ t m. absurd (let h : Ok t ≡ Err found.0 = single (Ok t) (Err found.0) m found.2 in cc);
+  fault = λ f. (
+    (λ h. (let is : e ≡ errors.of f = cc in subst (λ y. answer (Err y)) (distinct.one found.0 f (sym found.1 ∙ is)) found.2)),
+    (λ g. (let h : Err found.0 ≡ Err f = single (Err found.0) (Err f) found.2 g in let same : found.0 ≡ f = cc in ap Err (found.1 ∙ ap errors.of same))),
+  );
 }
-exactly errors view answer single (Err e) (inr lacks) memory = record {
+exactly errors distinct view answer single (Err e) (inr lacks) memory = record {
   answers = inr lacks;
   value = λ t m. lacks;
-  fault = λ f g. absurd (let m = memory e refl lacks in let h : Ok m.0 ≡ Err f = single (Ok m.0) (Err f) m.1 g in cc);
+  fault = λ f. (
+    (λ h. absurd (let is : e ≡ errors.of f = cc in distinct.apart f (subst errors.lack is lacks))),
+    (λ g. absurd (let m = memory e refl lacks in let h : Ok m.0 ≡ Err f = single (Ok m.0) (Err f) m.1 g in cc)),
+  );
 }
+
+-- ---- errors of items
+
+pub error_one : (d e : Fault) → error_of d ≡ error_of e → d ≡ e
+error_one Length Length h = refl
+error_one Length Padding h = absurd cc
+error_one Length Value h = absurd cc
+error_one Padding Length h = absurd cc
+error_one Padding Padding h = refl
+error_one Padding Value h = absurd cc
+error_one Value Length h = absurd cc
+error_one Value Padding h = absurd cc
+error_one Value Value h = refl
+
+pub no_memory : (e : Fault) → error_of e ≡ OutOfMemory → ⊥
+no_memory Length h = cc
+no_memory Padding h = cc
+no_memory Value h = cc
+
+pub reading_distinct : Distinct reading
+reading_distinct = record { one = error_one; apart = no_memory }
+
+pub checking_distinct : Distinct checking
+checking_distinct = record { one = error_one; apart = λ f none. none }
 
 -- ---- one answer at most
 
@@ -58,16 +93,6 @@ counted_single count answer single (Err f) (Err g) p q = (let h : Err f ≡ Err 
 
 -- ---- of a reader of items
 
-pub no_memory : (e : Fault) → error_of e ≡ OutOfMemory → ⊥
-no_memory Length h = cc
-no_memory Padding h = cc
-no_memory Value h = cc
-
--- a fault that was told isn't that memory ran out
-pub fault_no_lack : {T : Type 0} (answer : Result T Fault → Type 0) (e : ChunkParseError) → Answers checking (λ (t : T). t) answer (Err e) → e ≡ OutOfMemory → ⊥
-fault_no_lack answer e (inl told) h = no_memory told.0 (sym told.1 ∙ h)
-fault_no_lack answer e (inr none) h = none
-
 -- the answer where memory ran out
 pub lacks : {X T : Type 0} (r : Result X ChunkParseError) (view : X → T) (answer : Result T Fault → Type 0) → (IsErrOf r OutOfMemory → (t : T) × answer (Ok t)) → (e : ChunkParseError) → r ≡ Err e → e ≡ OutOfMemory → (t : T) × answer (Ok t)
 lacks r view answer memory e is h = memory (is ∙ ap Err h)
@@ -79,20 +104,20 @@ ok_value (Err e) h = absurd (let n : false ≡ true = h in cc)
 -- a kind whose value is read at fixed places
 pub read_exactly : {X T : Type 0} (view : X → T) (read : Result T Fault) (r : Result X ChunkParseError) → Answers reading view (λ a. read ≡ a) r → (IsErrOf r OutOfMemory → IsOk read)
     → Exactly reading view (λ a. read ≡ a) r
-read_exactly view read r a memory = exactly reading view (λ a. read ≡ a) (read_single read) r a (lacks r view (λ a. read ≡ a) (λ h. ok_value read (memory h)))
+read_exactly view read r a memory = exactly reading reading_distinct view (λ a. read ≡ a) (read_single read) r a (lacks r view (λ a. read ≡ a) (λ h. ok_value read (memory h)))
 
 -- a value has one answer under a lawful row
 pub row_exactly : {X T : Type 0} {row : Row T} → LawfulRow row → (v : List ℕ) → ((i : ℕ) → Fits w8 (get_or v i 0)) → {view : X → T} {r : Result X ChunkParseError}
     → Answers reading view (RowAnswer row v) r × (IsErrOf r OutOfMemory → (t : T) × row.means v t) → Exactly reading view (RowAnswer row v) r
-row_exactly {X} {T} {row} law v fits {view} {r} a = exactly reading view (RowAnswer row v) (row_single row law v (λ i. (fits i).fits)) r a.0 (lacks r view (RowAnswer row v) a.1)
+row_exactly {X} {T} {row} law v fits {view} {r} a = exactly reading reading_distinct view (RowAnswer row v) (row_single row law v (λ i. (fits i).fits)) r a.0 (lacks r view (RowAnswer row v) a.1)
 
 -- the same of a list,
 pub list_exactly : {X T : Type 0} (level : Level T) → Lawful level → (bytes : List ℕ) → AreBytes bytes → (view : X → List T) (r : Result X ChunkParseError)
     → Answers reading view (ListAnswer level bytes) r → (IsErrOf r OutOfMemory → (ts : List T) × MeansTrees level bytes ts) → Exactly reading view (ListAnswer level bytes) r
-list_exactly level law bytes fits view r a memory = exactly reading view (ListAnswer level bytes) (list_single level law bytes fits) r a (lacks r view (ListAnswer level bytes) memory)
+list_exactly level law bytes fits view r a memory = exactly reading reading_distinct view (ListAnswer level bytes) (list_single level law bytes fits) r a (lacks r view (ListAnswer level bytes) memory)
 
 -- and of its check
 pub count_exactly : {T : Type 0} (level : Level T) → Lawful level → (bytes : List ℕ) → AreBytes bytes → (r : Result ℕ ChunkParseError)
     → Answers checking (λ (n : ℕ). n) (Counted length (ListAnswer level bytes)) r → Exactly checking (λ (n : ℕ). n) (Counted length (ListAnswer level bytes)) r
 count_exactly level law bytes fits r a =
-    exactly checking (λ n. n) (Counted length (ListAnswer level bytes)) (counted_single length (ListAnswer level bytes) (list_single level law bytes fits)) r a (λ e is none. absurd none)
+    exactly checking checking_distinct (λ n. n) (Counted length (ListAnswer level bytes)) (counted_single length (ListAnswer level bytes) (list_single level law bytes fits)) r a (λ e is none. absurd none)

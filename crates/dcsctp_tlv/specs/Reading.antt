@@ -3,7 +3,7 @@
 --
 -- The grammar's answer is what `Result` has two cases for: a tree that the bytes mean, or a fault
 -- that they have. Two notions say how a call's result stands to it: `Answers` and `Exactly`.
-use Rattle.std.specs.Prelude.{◌≡◌, ◌⊎◌, ℕ, List, Result, Ok, Err, IsOk, MatchResult, ◌+◌, drop}
+use Rattle.std.specs.Prelude.{◌≡◌, ◌↔◌, ◌⊎◌, ℕ, List, Result, Ok, Err, IsOk, IsErrOf, MatchResult, ◌+◌, drop}
 use Rattle.dcsctp_tlv.specs.declared.error.ChunkParseError.{ChunkParseError}
 use Rattle.dcsctp_tlv.specs.declared.error.Located.{Located}
 use Rattle.dcsctp_tlv.specs.declared.error.ChunkParseError.TheVariants.{InvalidLength, InvalidPadding, InvalidValue, OutOfMemory}
@@ -25,13 +25,13 @@ Answers errors view answer (Ok x) = answer (Ok (view x))
 Answers errors view answer (Err e) =
     ((f : _) × (e ≡ errors.of f) × answer (Err f)) ⊎ errors.lack e
 
--- The same both ways: what the grammar gives, the call gives too, unless memory ran out. It never
--- does in place of a fault.
+-- The same both ways: a value that the grammar gives, the call gives too, unless memory ran out; and
+-- it gives a fault's error exactly where the grammar gives that fault.
 pub record Exactly {X T E F : Type 0} (errors : Errors F E) (view : X → T)
     (answer : Result T F → Type 0) (result : Result X E) : Type 0 where
   pub answers : Answers errors view answer result
   pub value : (t : T) → answer (Ok t) → MatchResult result (λ x. view x ≡ t) errors.lack
-  pub fault : (f : F) → answer (Err f) → result ≡ Err (errors.of f)
+  pub fault : (f : F) → IsErrOf result (errors.of f) ↔ answer (Err f)
 
 -- ---- errors of the readers and the checks of items
 

@@ -9,9 +9,8 @@ ghost use Rattle.dcsctp_chunk.specs.Data.{user_data_view};
 ghost use Rattle.dcsctp_wire.specs.Builder.{Holds, built};
 ghost use Rattle.dcsctp_wire.specs.Canonical.{canonical, padded_size, Fits};
 ghost use Rattle.dcsctp_wire.specs.Chunk.{InitAck, IsChunkEncodable, view};
-ghost use Rattle.dcsctp_wire.specs.Exact.{IsPacket, packet_error_of};
 ghost use Rattle.dcsctp_wire.specs.InitAck as init_ack;
-ghost use Rattle.dcsctp_wire.specs.Packet.{PacketTree, PacketFault, Answer};
+ghost use Rattle.dcsctp_wire.specs.Packet.{PacketTree, PacketFault, Answer, IsPacket, packet_error_of};
 ghost use Rattle.dcsctp_uses.specs.UserData.{user_data_of};
 
 use dcsctp_wire::packet::chunk::Chunk;

@@ -5,16 +5,42 @@ use Rattle.dcsctp_tlv.specs.declared.error.ChunkParseError.TheVariants.{OutOfMem
 use Rattle.dcsctp_tlv.specs.Number.{AreBytes}
 use Rattle.dcsctp_tlv.specs.Level.{MeansTrees, MeansCounted}
 use Rattle.dcsctp_tlv.specs.Reading.{Answers, Exactly, Counted}
-use Rattle.dcsctp_tlv.proofs.Exact.{Single, exactly, counted_single}
+use Rattle.dcsctp_tlv.proofs.Exact.{Single, Distinct, exactly, error_one, no_memory, counted_single}
 use Rattle.dcsctp_wire.specs.declared.packet.sctp_packet.PacketParseError.{PacketParseError}
 use Rattle.dcsctp_wire.specs.declared.packet.sctp_packet.PacketParseError.TheVariants.{FailedParseChunk}
 use Rattle.dcsctp_wire.specs.declared.packet.sctp_packet.ChecksumPolicy.{ChecksumPolicy}
 use Rattle.dcsctp_wire.specs.declared.packet.first_fault.FirstFault.{FirstFault}
 use Rattle.dcsctp_wire.specs.Chunk.{ChunkTree, chunks}
-use Rattle.dcsctp_wire.specs.Packet.{PacketTree, PacketFault, IsOpened, body, packet_with, Answer, IsPacket, packet_reading, packet_checking}
+use Rattle.dcsctp_wire.specs.Packet.{PacketTree, PacketFault, Size, Checksum, Chunk, packet_error_of, IsOpened, body, packet_with, Answer, IsPacket, packet_reading, packet_checking}
 use Rattle.dcsctp_wire.specs.Account.{node_count}
 use Rattle.dcsctp_wire.specs.Place.{PacketCounts, packet_locating}
 use Rattle.dcsctp_wire.proofs.Packets.{answer_one}
+
+-- ---- errors of packets
+
+pub packet_error_one : (d e : PacketFault) → packet_error_of d ≡ packet_error_of e → d ≡ e
+packet_error_one Size Size h = refl
+packet_error_one Size Checksum h = absurd cc
+packet_error_one Size (Chunk y) h = absurd cc
+packet_error_one Checksum Size h = absurd cc
+packet_error_one Checksum Checksum h = refl
+packet_error_one Checksum (Chunk y) h = absurd cc
+packet_error_one (Chunk x) Size h = absurd cc
+packet_error_one (Chunk x) Checksum h = absurd cc
+packet_error_one (Chunk x) (Chunk y) h = ap Chunk (error_one x y cc)
+
+packet_no_memory : (e : PacketFault) → packet_error_of e ≡ FailedParseChunk OutOfMemory → ⊥
+packet_no_memory Size h = cc
+packet_no_memory Checksum h = cc
+packet_no_memory (Chunk e) h = no_memory e cc
+
+packet_reading_distinct : Distinct packet_reading
+packet_reading_distinct = record { one = packet_error_one; apart = packet_no_memory }
+
+packet_checking_distinct : Distinct packet_checking
+packet_checking_distinct = record { one = packet_error_one; apart = λ f none. none }
+
+-- ---- both ways
 
 -- the packet of these chunks
 pub packet_is : (bytes : List ℕ) (word : ℕ) (policy : ChecksumPolicy) (ts : List ChunkTree) → IsOpened bytes word policy → MeansTrees (chunks policy.strict_padding) (body bytes) ts → Answer bytes word policy (Ok (packet_with bytes ts))
@@ -35,8 +61,8 @@ module _ (bytes : List ℕ) (word : ℕ) (policy : ChecksumPolicy) (fits : AreBy
   packet_single a b m n = answer_one bytes word policy a b fits m n
 
   pub check_exactly : (r : Result ℕ PacketParseError) → Answers packet_checking (λ (n : ℕ). n) (CountedParts bytes word policy) r → Exactly packet_checking (λ (n : ℕ). n) (CountedParts bytes word policy) r
-  check_exactly r a = exactly packet_checking (λ n. n) (CountedParts bytes word policy) (counted_single (λ p. node_count p.meaning) (Answer bytes word policy) packet_single) r a (λ e is none. absurd none)
+  check_exactly r a = exactly packet_checking packet_checking_distinct (λ n. n) (CountedParts bytes word policy) (counted_single (λ p. node_count p.meaning) (Answer bytes word policy) packet_single) r a (λ e is none. absurd none)
 
   pub read_exactly : {X : Type 0} (view : X → PacketTree) (r : Result X PacketParseError) → Answers packet_reading view (Answer bytes word policy) r → (IsErrOf r (FailedParseChunk OutOfMemory) → IsPacket bytes word policy)
       → Exactly packet_reading view (Answer bytes word policy) r
-  read_exactly view r a memory = exactly packet_reading view (Answer bytes word policy) packet_single r a (λ e is lacks. memory (is ∙ ap Err lacks))
+  read_exactly view r a memory = exactly packet_reading packet_reading_distinct view (Answer bytes word policy) packet_single r a (λ e is lacks. memory (is ∙ ap Err lacks))

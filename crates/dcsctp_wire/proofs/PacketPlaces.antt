@@ -5,7 +5,7 @@ use Rattle.dcsctp_tlv.specs.declared.error.Located.{Located}
 use Rattle.dcsctp_tlv.specs.Number.{AreBytes}
 use Rattle.dcsctp_tlv.specs.Reading.{Answers, Exactly, locating, ListLocated}
 use Rattle.dcsctp_tlv.proofs.Laws.{list_place}
-use Rattle.dcsctp_tlv.proofs.Exact.{Single, exactly}
+use Rattle.dcsctp_tlv.proofs.Exact.{Single, Distinct, exactly}
 use Rattle.dcsctp_wire.specs.declared.packet.sctp_packet.PacketParseError.TheVariants.{FailedParseChunk}
 use Rattle.dcsctp_wire.specs.declared.packet.sctp_packet.ChecksumPolicy.{ChecksumPolicy}
 use Rattle.dcsctp_wire.specs.declared.packet.first_fault.FirstFault.{FirstFault}
@@ -14,7 +14,7 @@ use Rattle.dcsctp_wire.specs.Packet.{PacketFault, Size, Checksum, Chunk, IsOpene
 use Rattle.dcsctp_wire.specs.Place.{offset_of, HasPacketFaultAt, packet_locating, PacketLocated, PacketCounts, refused}
 use Rattle.dcsctp_wire.proofs.Packets.{body_fits}
 use Rattle.dcsctp_wire.proofs.ChunkRows.{chunks_lawful}
-use Rattle.dcsctp_wire.proofs.PacketChecks.{packet_single, packet_is}
+use Rattle.dcsctp_wire.proofs.PacketChecks.{packet_error_one, packet_single, packet_is}
 
 -- ---- a fault lies at one place
 
@@ -52,6 +52,15 @@ chunk_fault bytes word policy l opened (inr none) = absurd none
 
 -- ---- both ways
 
+packet_locating_distinct : Distinct packet_locating
+packet_locating_distinct = record {
+  one = λ d e h. (
+      let same : d.0 ≡ e.0 = packet_error_one d.0 e.0 (ap (λ (x : FirstFault). x.fault) h) in
+      let there : d.1 ≡ e.1 = ap (λ (x : FirstFault). x.offset) h in
+      λ k. (same k, there k));
+  apart = λ f none. none;
+}
+
 module _ (bytes : List ℕ) (word : ℕ) (policy : ChecksumPolicy) (fits : AreBytes bytes) where
   located_single : Single (PacketLocated bytes word policy)
   located_single (Ok x) (Ok y) m n = refl
@@ -68,4 +77,4 @@ module _ (bytes : List ℕ) (word : ℕ) (policy : ChecksumPolicy) (fits : AreBy
   located_answers (Err x) a = a
 
   pub located_exactly : (r : Result (ℕ × ℕ) FirstFault) → Answers packet_locating (λ (n : ℕ × ℕ). n) (PacketCounts bytes word policy) r → Exactly packet_locating (λ (u : Unit {0}). u) (PacketLocated bytes word policy) (refused (result_err r))
-  located_exactly r a = exactly packet_locating (λ u. u) (PacketLocated bytes word policy) located_single (refused (result_err r)) (located_answers r a) (λ e is none. absurd none)
+  located_exactly r a = exactly packet_locating packet_locating_distinct (λ u. u) (PacketLocated bytes word policy) located_single (refused (result_err r)) (located_answers r a) (λ e is none. absurd none)

@@ -6,11 +6,10 @@ use Rattle.std.specs.Io.KnownBytes.{Consumes, Appends, IsAtEnd}
 use Rattle.hex.specs.Hex.{decode_of}
 use Rattle.sctp_show.specs.declared.failure.Failure.{Failure}
 use Rattle.sctp_show.specs.declared.failure.Failure.TheVariants.{OutOfMemory, Read, NotHexadecimal}
-use Rattle.dcsctp_wire.specs.ChunkParseError.TheVariants as chunk_errors
 use Rattle.dcsctp_wire.specs.declared.packet.sctp_packet.PacketParseError.{PacketParseError}
-use Rattle.dcsctp_wire.specs.declared.packet.sctp_packet.PacketParseError.TheVariants as packet_errors
 use Rattle.dcsctp_wire.specs.declared.packet.sctp_packet.SctpPacket.{SctpPacket}
-use Rattle.dcsctp_wire.specs.Packet.{PacketTree, PacketFault, Size, Checksum, Chunk, Reads, packet_view}
+use Rattle.dcsctp_wire.specs.Packet.{PacketTree, PacketFault, Size, Checksum, Chunk, Answer, packet_view, packet_error_of, packet_reading}
+use Rattle.dcsctp_wire.specs.Reading.{Answers}
 use Rattle.dcsctp_wire.specs.Fault.{Length, Padding, Value}
 use Rattle.sctp_show.specs.Reply.{line_of, reply_of, packet_error_line}
 use Rattle.sctp_show.specs.Show.{Writes, Shows, too_long, not_hexadecimal, packet, PacketText, Tells, fault, fault_line, unverified, without_blanks, MayShow, MayAnswer, read_failed, out_of_memory}
@@ -28,22 +27,25 @@ pub MayShow-no_bytes : (strict : Bool) (input : List ℕ) (e : Failure) → leng
 MayShow-no_bytes strict input e short (inl memory) = inr (ap (λ (f : Failure). fault (line_of f)) memory)
 MayShow-no_bytes strict input e short (inr (other, bad)) = inl (not_hexadecimal short bad (ap (λ (f : Failure). fault (line_of f)) other))
 
+-- the line of a fault's error is the fault's
+line_of-fault : (e : PacketFault) → fault (packet_error_line (packet_error_of e)) ≡ fault (fault_line e)
+line_of-fault Size = refl
+line_of-fault Checksum = refl
+line_of-fault (Chunk Length) = refl
+line_of-fault (Chunk Padding) = refl
+line_of-fault (Chunk Value) = refl
+
 -- a packet that isn't read
 pub MayShow-no_packet : (strict : Bool) (input bytes : List ℕ) (e : PacketParseError) → length input ≤ 200000 → decode_of (without_blanks input) ≡ Ok bytes
-    → Reads {X = SctpPacket} packet_view bytes 0 (unverified strict) (Err e) → MayShow strict input (fault (packet_error_line e))
-MayShow-no_packet strict input bytes packet_errors.InvalidPacketSize short is reads = inl (packet short bytes is (Err Size) reads refl)
-MayShow-no_packet strict input bytes packet_errors.InvalidChecksum short is reads = inl (packet short bytes is (Err Checksum) reads refl)
-MayShow-no_packet strict input bytes packet_errors.InvalidChunkSize short is reads = absurd reads
-MayShow-no_packet strict input bytes (packet_errors.FailedParseChunk chunk_errors.InvalidLength) short is reads = inl (packet short bytes is (Err (Chunk Length)) reads refl)
-MayShow-no_packet strict input bytes (packet_errors.FailedParseChunk chunk_errors.InvalidType) short is reads = absurd reads.1
-MayShow-no_packet strict input bytes (packet_errors.FailedParseChunk chunk_errors.InvalidPadding) short is reads = inl (packet short bytes is (Err (Chunk Padding)) reads refl)
-MayShow-no_packet strict input bytes (packet_errors.FailedParseChunk chunk_errors.InvalidValue) short is reads = inl (packet short bytes is (Err (Chunk Value)) reads refl)
-MayShow-no_packet strict input bytes (packet_errors.FailedParseChunk chunk_errors.OutOfMemory) short is reads = inr refl
+    → Answers {X = SctpPacket} packet_reading packet_view (Answer bytes 0 (unverified strict)) (Err e) → MayShow strict input (fault (packet_error_line e))
+MayShow-no_packet strict input bytes e short is (inl f) =
+    inl (packet short bytes is (Err f.0) f.2 (ap (λ (x : PacketParseError). fault (packet_error_line x)) f.1 ∙ line_of-fault f.0))
+MayShow-no_packet strict input bytes e short is (inr lacks) = inr (ap (λ (x : PacketParseError). fault (packet_error_line x)) lacks)
 
 -- a packet and its text
 pub MayShow-packet : (strict : Bool) (input bytes : List ℕ) (p : SctpPacket) (text : List ℕ) → length input ≤ 200000 → decode_of (without_blanks input) ≡ Ok bytes
-    → Reads packet_view bytes 0 (unverified strict) (Ok p) → PacketText (packet_view p) text → MayShow strict input (text, 0)
-MayShow-packet strict input bytes p text short is reads told = inl (packet short bytes is (Ok (packet_view p)) reads (text, told, refl))
+    → Answer bytes 0 (unverified strict) (Ok (packet_view p)) → PacketText (packet_view p) text → MayShow strict input (text, 0)
+MayShow-packet strict input bytes p text short is read shown = inl (packet short bytes is (Ok (packet_view p)) read (text, shown, refl))
 
 ---- from the first bytes to the input
 

@@ -7,8 +7,7 @@
 
 ghost use Rattle.std.specs.Prelude.{◌≡◌, ◌≢◌, ◌⊎◌, [], Ok, IfOk};
 ghost use Rattle.dcsctp_wire.specs.Account.{node_count};
-ghost use Rattle.dcsctp_wire.specs.Exact.{IsPacket};
-ghost use Rattle.dcsctp_wire.specs.Packet.{PacketTree, Answer, meaning_view};
+ghost use Rattle.dcsctp_wire.specs.Packet.{PacketTree, Answer, IsPacket, meaning_view};
 ghost use Rattle.speed_probes.specs.Probe.{IsZeroOr, IsChunkCount, IsCanonicalSize, BeginsCanonical, IsRunCount};
 
 use dcsctp_wire::api::ZERO_CHECKSUM_ALTERNATE_ERROR_DETECTION_METHOD_NONE;

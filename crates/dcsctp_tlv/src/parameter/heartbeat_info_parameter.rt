@@ -31,7 +31,7 @@ pub struct HeartbeatInfoParameter {
     pub info: Vec<u8>,
 }
 
-#[tactic(auto, unfolding(crate::specs::HeartbeatInfo::read))]
+#[tactic(auto, using(crate::proofs::Exact::read_exactly), unfolding(crate::specs::HeartbeatInfo::read))]
 impl HeartbeatInfoParameter {
     /// Reads the parameter, and copies the info.
     ///

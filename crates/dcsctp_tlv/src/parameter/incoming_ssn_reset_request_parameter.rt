@@ -41,7 +41,7 @@ pub struct IncomingSsnResetRequestParameter {
     pub streams: Vec<StreamId>,
 }
 
-#[tactic(auto, unfolding(crate::specs::IncomingSsnResetRequest::read))]
+#[tactic(auto, using(crate::proofs::Exact::read_exactly), unfolding(crate::specs::IncomingSsnResetRequest::read))]
 impl IncomingSsnResetRequestParameter {
     /// Reads the parameter, and copies its stream ids.
     ///

@@ -31,7 +31,7 @@ pub struct StateCookieParameter {
     pub cookie: Vec<u8>,
 }
 
-#[tactic(auto, unfolding(crate::specs::StateCookie::read))]
+#[tactic(auto, using(crate::proofs::Exact::read_exactly), unfolding(crate::specs::StateCookie::read))]
 impl StateCookieParameter {
     /// Reads the parameter, and copies the cookie.
     ///

@@ -32,7 +32,7 @@ pub struct SupportedExtensionsParameter {
     pub chunk_types: Vec<u8>,
 }
 
-#[tactic(auto, unfolding(crate::specs::SupportedExtensions::read))]
+#[tactic(auto, using(crate::proofs::Exact::read_exactly), unfolding(crate::specs::SupportedExtensions::read))]
 impl SupportedExtensionsParameter {
     /// Reads the parameter, and copies the list.
     ///

@@ -31,7 +31,7 @@ pub struct UnknownParameter {
     pub value: Vec<u8>,
 }
 
-#[tactic(auto, unfolding(crate::specs::UnknownParameter::read))]
+#[tactic(auto, using(crate::proofs::Exact::read_exactly), unfolding(crate::specs::UnknownParameter::read))]
 impl UnknownParameter {
     /// A parameter or cause of this type that holds these bytes. It takes no memory.
     pub fn new(typ: u16, value: Vec<u8>) -> UnknownParameter

@@ -12,7 +12,7 @@ returns-in-Some-Sack c =
     let split = rw c.in-Some-Sack.field-0-is at c.in-Some-Sack.ensures.items in
     inr (
       packet_view c.in-Ok.packet,
-      c.in-Ok.ensures.answer,
+      c.in-Ok.ensures.answer.answers,
       (
         views rest,
         sack.view c.in-Some-Sack.sack,
