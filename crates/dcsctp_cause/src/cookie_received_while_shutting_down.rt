@@ -25,7 +25,7 @@ pub const CAUSE_CODE: u16 = 10;
 #[derive(Debug, Drop)]
 pub struct CookieReceivedWhileShuttingDownErrorCause {}
 
-#[tactic(auto, using(dcsctp_tlv::proofs::Exact::read_exactly), unfolding(crate::specs::CookieReceivedWhileShuttingDown::read))]
+#[tactic(auto, unfolding(crate::specs::CookieReceivedWhileShuttingDown::read))]
 impl CookieReceivedWhileShuttingDownErrorCause {
     /// Reads the cause; no memory is taken.
     ///

@@ -12,7 +12,7 @@
 
 ghost use Rattle.std.specs.Prelude.{◌≡◌, ◌≢◌, ◌≤◌, ◌*◌, [], length, vec_len, vec_capacity, Some, IsOk, IfOk, IsErrOf, refl};
 ghost use Rattle.dcsctp_tlv.specs.Frame.{lenient};
-ghost use Rattle.dcsctp_tlv.specs.Level.{HasMeaning, MeansTrees, MeansSome, MeansMany, HasFault};
+ghost use Rattle.dcsctp_tlv.specs.Level.{HasMeaning, MeansTrees, MeansSome};
 ghost use Rattle.dcsctp_tlv.specs.Reading.{Answers, Exactly, reading, checking, RowTested, RowAnswer, ListAnswer, Counted};
 ghost use Rattle.dcsctp_cause.specs.Cause as cause;
 ghost use Rattle.dcsctp_cause.specs.Cause.{CauseTree, causes, TakesNoMemory, view, views};
@@ -23,7 +23,7 @@ use crate::no_user_data_error_cause::{self, NoUserDataErrorCause};
 use crate::protocol_violation_error_cause::{self, ProtocolViolationErrorCause};
 use crate::unrecognized_chunk_error_cause::{self, UnrecognizedChunkErrorCause};
 use crate::user_initiated_abort_error_cause::{self, UserInitiatedAbortErrorCause};
-use dcsctp_tlv::error::{ChunkParseError, Located};
+use dcsctp_tlv::error::{ChunkParseError, LocatedFault};
 use dcsctp_tlv::frame::are_zeros;
 use dcsctp_tlv::parameter::raw_parameter::RawParameter;
 use dcsctp_tlv::parameter::unknown_parameter::UnknownParameter;
@@ -149,10 +149,10 @@ impl ReadableTlv for ErrorCause {
 
     ghost parts = { λ t. 1 };
 
-    fn check(_strict: bool, first: u8, second: u8, value: &[u8]) -> Result<usize, Located> {
+    fn check(_strict: bool, first: u8, second: u8, value: &[u8]) -> Result<usize, LocatedFault> {
         match ErrorCause::check_value(u16::from_be_bytes([first, second]), value) {
             Ok(()) => Ok(1),
-            Err(fault) => Err(Located::at_front(fault)),
+            Err(fault) => Err(LocatedFault::at_front(fault)),
         }
     }
 

@@ -72,7 +72,7 @@ pub struct MissingMandatoryParameterErrorCause {
     pub missing_parameters: Vec<u16>,
 }
 
-#[tactic(auto, using(dcsctp_tlv::proofs::Exact::read_exactly), unfolding(crate::specs::MissingMandatoryParameter::read))]
+#[tactic(auto, unfolding(crate::specs::MissingMandatoryParameter::read))]
 impl MissingMandatoryParameterErrorCause {
     /// The cause with these types.
     pub fn new(missing_parameters: Vec<u16>) -> MissingMandatoryParameterErrorCause
@@ -100,7 +100,8 @@ impl MissingMandatoryParameterErrorCause {
         ensures other { IsErrOf result ChunkParseError.InvalidType ↔ (raw.entry.typ ≢ CAUSE_CODE) }
         ensures answer { raw.entry.typ ≡ CAUSE_CODE →
             Exactly reading kind.view (λ a. kind.read raw.entry.value.now ≡ a) result }
-        ensures memory { IsErrOf result ChunkParseError.OutOfMemory → IsOk (kind.read raw.entry.value.now) }
+        ensures memory { IsErrOf result ChunkParseError.OutOfMemory →
+            IsOk (kind.read raw.entry.value.now) }
     {
         if raw.typ != CAUSE_CODE {
             return Err(ChunkParseError::InvalidType);

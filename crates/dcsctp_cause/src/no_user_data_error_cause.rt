@@ -32,7 +32,7 @@ pub struct NoUserDataErrorCause {
     pub tsn: Tsn,
 }
 
-#[tactic(auto, using(dcsctp_tlv::proofs::Exact::read_exactly), unfolding(crate::specs::NoUserData::read))]
+#[tactic(auto, unfolding(crate::specs::NoUserData::read))]
 impl NoUserDataErrorCause {
     /// Reads the cause; no memory is taken.
     ///

@@ -32,7 +32,7 @@ pub struct UnrecognizedChunkErrorCause {
     pub chunk: Vec<u8>,
 }
 
-#[tactic(auto, using(dcsctp_tlv::proofs::Exact::read_exactly), unfolding(crate::specs::UnrecognizedChunk::read))]
+#[tactic(auto, unfolding(crate::specs::UnrecognizedChunk::read))]
 impl UnrecognizedChunkErrorCause {
     /// Reads the cause, and copies the chunk.
     ///
@@ -41,7 +41,8 @@ impl UnrecognizedChunkErrorCause {
         ensures other { IsErrOf result ChunkParseError.InvalidType ↔ (raw.entry.typ ≢ CAUSE_CODE) }
         ensures answer { raw.entry.typ ≡ CAUSE_CODE →
             Exactly reading kind.view (λ a. kind.read raw.entry.value.now ≡ a) result }
-        ensures memory { IsErrOf result ChunkParseError.OutOfMemory → IsOk (kind.read raw.entry.value.now) }
+        ensures memory { IsErrOf result ChunkParseError.OutOfMemory →
+            IsOk (kind.read raw.entry.value.now) }
     {
         if raw.typ != CAUSE_CODE {
             return Err(ChunkParseError::InvalidType);

@@ -35,7 +35,7 @@ pub struct UserInitiatedAbortErrorCause {
     pub reason: String,
 }
 
-#[tactic(auto, using(dcsctp_tlv::proofs::Exact::read_exactly), unfolding(crate::specs::UserInitiatedAbort::read))]
+#[tactic(auto, unfolding(crate::specs::UserInitiatedAbort::read))]
 impl UserInitiatedAbortErrorCause {
     /// Reads the cause, and copies the text; where the value isn't UTF-8, the text says so.
     ///
@@ -44,7 +44,8 @@ impl UserInitiatedAbortErrorCause {
         ensures other { IsErrOf result ChunkParseError.InvalidType ↔ (raw.entry.typ ≢ CAUSE_CODE) }
         ensures answer { raw.entry.typ ≡ CAUSE_CODE →
             Exactly reading kind.view (λ a. kind.read raw.entry.value.now ≡ a) result }
-        ensures memory { IsErrOf result ChunkParseError.OutOfMemory → IsOk (kind.read raw.entry.value.now) }
+        ensures memory { IsErrOf result ChunkParseError.OutOfMemory →
+            IsOk (kind.read raw.entry.value.now) }
     {
         if raw.typ != CAUSE_CODE {
             return Err(ChunkParseError::InvalidType);

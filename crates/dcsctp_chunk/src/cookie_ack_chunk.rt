@@ -25,7 +25,7 @@ pub const CHUNK_TYPE: u8 = 11;
 #[derive(Debug, Drop)]
 pub struct CookieAckChunk;
 
-#[tactic(auto, using(dcsctp_tlv::proofs::Exact::read_exactly), unfolding(crate::specs::CookieAck::read))]
+#[tactic(auto, unfolding(crate::specs::CookieAck::read))]
 impl CookieAckChunk {
     /// Reads the chunk; flags are ignored, and no memory is taken.
     ///

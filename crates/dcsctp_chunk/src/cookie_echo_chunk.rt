@@ -33,7 +33,7 @@ pub struct CookieEchoChunk {
     pub cookie: Vec<u8>,
 }
 
-#[tactic(auto, using(dcsctp_tlv::proofs::Exact::read_exactly), unfolding(crate::specs::CookieEcho::read))]
+#[tactic(auto, unfolding(crate::specs::CookieEcho::read))]
 impl CookieEchoChunk {
     /// The chunk with an empty cookie. It takes no memory.
     pub fn new(alloc: Global) -> CookieEchoChunk
@@ -62,7 +62,8 @@ impl CookieEchoChunk {
         ensures other { IsErrOf result ChunkParseError.InvalidType ↔ (raw.entry.typ ≢ CHUNK_TYPE) }
         ensures answer { raw.entry.typ ≡ CHUNK_TYPE →
             Exactly reading kind.view (λ a. kind.read raw.entry.value.now ≡ a) result }
-        ensures memory { IsErrOf result ChunkParseError.OutOfMemory → IsOk (kind.read raw.entry.value.now) }
+        ensures memory { IsErrOf result ChunkParseError.OutOfMemory →
+            IsOk (kind.read raw.entry.value.now) }
     {
         if raw.typ != CHUNK_TYPE {
             return Err(ChunkParseError::InvalidType);

@@ -54,7 +54,7 @@ pub struct DataChunk {
     pub immediate_ack: bool,
 }
 
-#[tactic(auto, using(dcsctp_tlv::proofs::Exact::read_exactly), unfolding(crate::specs::DataChunk::read))]
+#[tactic(auto, unfolding(crate::specs::DataChunk::read))]
 impl DataChunk {
     /// Reads the chunk, and copies its payload; flags but the four lowest are ignored.
     ///
@@ -63,8 +63,10 @@ impl DataChunk {
     pub fn try_from(alloc: Global, raw: RawChunk) -> Result<Self, ChunkParseError>
         ensures other { IsErrOf result ChunkParseError.InvalidType ↔ (raw.entry.typ ≢ CHUNK_TYPE) }
         ensures answer { raw.entry.typ ≡ CHUNK_TYPE →
-            Exactly reading kind.view (λ a. kind.read raw.entry.flags raw.entry.value.now ≡ a) result }
-        ensures memory { IsErrOf result ChunkParseError.OutOfMemory → IsOk (kind.read raw.entry.flags raw.entry.value.now) }
+            Exactly reading kind.view
+            (λ a. kind.read raw.entry.flags raw.entry.value.now ≡ a) result }
+        ensures memory { IsErrOf result ChunkParseError.OutOfMemory →
+            IsOk (kind.read raw.entry.flags raw.entry.value.now) }
     {
         if raw.typ != CHUNK_TYPE {
             return Err(ChunkParseError::InvalidType);
@@ -75,7 +77,8 @@ impl DataChunk {
 
     /// `InvalidLength` exactly where the value has fewer than 12 bytes.
     pub(crate) fn check(value: &[u8]) -> Result<(), ChunkParseError>
-        ensures { (flags : ℕ) → Answers checking (λ u. u) (Tested (kind.read flags value.now)) result }
+        ensures { (flags : ℕ) → Answers checking (λ u. u)
+            (Tested (kind.read flags value.now)) result }
     {
         if value.len() < FIXED_SIZE {
             return Err(ChunkParseError::InvalidLength);

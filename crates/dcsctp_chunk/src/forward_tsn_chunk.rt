@@ -85,7 +85,7 @@ pub struct ForwardTsnChunk {
     pub skipped_streams: Vec<SkippedStream>,
 }
 
-#[tactic(auto, using(dcsctp_tlv::proofs::Exact::read_exactly), unfolding(crate::specs::ForwardTsn::read))]
+#[tactic(auto, unfolding(crate::specs::ForwardTsn::read))]
 impl ForwardTsnChunk {
     /// Reads the chunk, and copies its skipped streams, each as `SkippedStream::ForwardTsn`; flags
     /// are ignored.
@@ -96,7 +96,8 @@ impl ForwardTsnChunk {
         ensures other { IsErrOf result ChunkParseError.InvalidType ↔ (raw.entry.typ ≢ CHUNK_TYPE) }
         ensures answer { raw.entry.typ ≡ CHUNK_TYPE →
             Exactly reading kind.view (λ a. kind.read raw.entry.value.now ≡ a) result }
-        ensures memory { IsErrOf result ChunkParseError.OutOfMemory → IsOk (kind.read raw.entry.value.now) }
+        ensures memory { IsErrOf result ChunkParseError.OutOfMemory →
+            IsOk (kind.read raw.entry.value.now) }
     {
         if raw.typ != CHUNK_TYPE {
             return Err(ChunkParseError::InvalidType);

@@ -82,7 +82,7 @@ fn ppid_or_fsn(content: &Data) -> u32
     }
 }
 
-#[tactic(auto, using(dcsctp_tlv::proofs::Exact::read_exactly), unfolding(crate::specs::IDataChunk::read))]
+#[tactic(auto, unfolding(crate::specs::IDataChunk::read))]
 impl IDataChunk {
     /// Reads the chunk, and copies its payload; flags but the four lowest and the reserved bytes
     /// are ignored.
@@ -92,8 +92,10 @@ impl IDataChunk {
     pub fn try_from(alloc: Global, raw: RawChunk) -> Result<Self, ChunkParseError>
         ensures other { IsErrOf result ChunkParseError.InvalidType ↔ (raw.entry.typ ≢ CHUNK_TYPE) }
         ensures answer { raw.entry.typ ≡ CHUNK_TYPE →
-            Exactly reading kind.view (λ a. kind.read raw.entry.flags raw.entry.value.now ≡ a) result }
-        ensures memory { IsErrOf result ChunkParseError.OutOfMemory → IsOk (kind.read raw.entry.flags raw.entry.value.now) }
+            Exactly reading kind.view
+            (λ a. kind.read raw.entry.flags raw.entry.value.now ≡ a) result }
+        ensures memory { IsErrOf result ChunkParseError.OutOfMemory →
+            IsOk (kind.read raw.entry.flags raw.entry.value.now) }
     {
         if raw.typ != CHUNK_TYPE {
             return Err(ChunkParseError::InvalidType);
@@ -104,7 +106,8 @@ impl IDataChunk {
 
     /// `InvalidLength` exactly where the value has fewer than 16 bytes.
     pub(crate) fn check(value: &[u8]) -> Result<(), ChunkParseError>
-        ensures { (flags : ℕ) → Answers checking (λ u. u) (Tested (kind.read flags value.now)) result }
+        ensures { (flags : ℕ) → Answers checking (λ u. u)
+            (Tested (kind.read flags value.now)) result }
     {
         if value.len() < FIXED_SIZE {
             return Err(ChunkParseError::InvalidLength);

@@ -92,7 +92,7 @@ pub struct IForwardTsnChunk {
     pub skipped_streams: Vec<SkippedStream>,
 }
 
-#[tactic(auto, using(dcsctp_tlv::proofs::Exact::read_exactly), unfolding(crate::specs::IForwardTsn::read))]
+#[tactic(auto, unfolding(crate::specs::IForwardTsn::read))]
 impl IForwardTsnChunk {
     /// Reads the chunk, and copies its skipped streams, each as `SkippedStream::IForwardTsn`;
     /// flags are ignored.
@@ -104,7 +104,8 @@ impl IForwardTsnChunk {
         ensures other { IsErrOf result ChunkParseError.InvalidType ↔ (raw.entry.typ ≢ CHUNK_TYPE) }
         ensures answer { raw.entry.typ ≡ CHUNK_TYPE →
             Exactly reading kind.view (λ a. kind.read raw.entry.value.now ≡ a) result }
-        ensures memory { IsErrOf result ChunkParseError.OutOfMemory → IsOk (kind.read raw.entry.value.now) }
+        ensures memory { IsErrOf result ChunkParseError.OutOfMemory →
+            IsOk (kind.read raw.entry.value.now) }
     {
         if raw.typ != CHUNK_TYPE {
             return Err(ChunkParseError::InvalidType);

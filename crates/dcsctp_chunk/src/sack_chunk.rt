@@ -106,7 +106,7 @@ pub struct SackChunk {
     pub duplicate_tsns: Vec<Tsn>,
 }
 
-#[tactic(auto, using(dcsctp_tlv::proofs::Exact::read_exactly), unfolding(crate::specs::Sack::read))]
+#[tactic(auto, unfolding(crate::specs::Sack::read))]
 impl SackChunk {
     /// Reads the chunk, and copies its blocks and its duplicate TSNs; flags are ignored.
     ///
@@ -117,7 +117,8 @@ impl SackChunk {
         ensures other { IsErrOf result ChunkParseError.InvalidType ↔ (raw.entry.typ ≢ CHUNK_TYPE) }
         ensures answer { raw.entry.typ ≡ CHUNK_TYPE →
             Exactly reading kind.view (λ a. kind.read raw.entry.value.now ≡ a) result }
-        ensures memory { IsErrOf result ChunkParseError.OutOfMemory → IsOk (kind.read raw.entry.value.now) }
+        ensures memory { IsErrOf result ChunkParseError.OutOfMemory →
+            IsOk (kind.read raw.entry.value.now) }
     {
         if raw.typ != CHUNK_TYPE {
             return Err(ChunkParseError::InvalidType);

@@ -25,7 +25,7 @@ pub const CHUNK_TYPE: u8 = 8;
 #[derive(Debug, Drop)]
 pub struct ShutdownAckChunk;
 
-#[tactic(auto, using(dcsctp_tlv::proofs::Exact::read_exactly), unfolding(crate::specs::ShutdownAck::read))]
+#[tactic(auto, unfolding(crate::specs::ShutdownAck::read))]
 impl ShutdownAckChunk {
     /// Reads the chunk; flags are ignored, and no memory is taken.
     ///

@@ -8,9 +8,8 @@
 //! +-+-+-+-+-+-+-+-+-+-+-+-+-+-+-+-+-+-+-+-+-+-+-+-+-+-+-+-+-+-+-+-+
 //! ```
 
-ghost use Rattle.std.specs.Prelude.{◌≡◌, ◌≢◌, ◌↔◌, ℕ, List, [], ◌∷◌, Some, Ok, IsOk, IsErrOf};
+ghost use Rattle.std.specs.Prelude.{◌≡◌, ◌≢◌, ◌↔◌, ℕ, List, [], Some, Ok, IsOk, IsErrOf};
 ghost use Rattle.dcsctp_tlv.specs.Reading.{Answers, Exactly, reading, checking, Tested};
-ghost use Rattle.dcsctp_chunk.specs.Flags.{flag_byte};
 ghost use Rattle.dcsctp_chunk.specs.ShutdownComplete as kind;
 
 use crate::flags::{is_set, one_flag};
@@ -31,7 +30,7 @@ pub struct ShutdownCompleteChunk {
     pub tag_reflected: bool,
 }
 
-#[tactic(auto, using(dcsctp_tlv::proofs::Exact::read_exactly), unfolding(crate::specs::ShutdownComplete::read))]
+#[tactic(auto, unfolding(crate::specs::ShutdownComplete::read))]
 impl ShutdownCompleteChunk {
     /// Reads the chunk; flags but the T bit are ignored, and no memory is taken.
     ///
@@ -39,7 +38,8 @@ impl ShutdownCompleteChunk {
     pub fn try_from(raw: RawChunk) -> Result<Self, ChunkParseError>
         ensures other { IsErrOf result ChunkParseError.InvalidType ↔ (raw.entry.typ ≢ CHUNK_TYPE) }
         ensures answer { raw.entry.typ ≡ CHUNK_TYPE →
-            Exactly reading kind.view (λ a. kind.read raw.entry.flags raw.entry.value.now ≡ a) result }
+            Exactly reading kind.view
+            (λ a. kind.read raw.entry.flags raw.entry.value.now ≡ a) result }
         ensures memory { ¬ IsErrOf result ChunkParseError.OutOfMemory }
     {
         if raw.typ != CHUNK_TYPE {
@@ -51,7 +51,8 @@ impl ShutdownCompleteChunk {
 
     /// `InvalidLength` exactly where the value isn't empty.
     pub(crate) fn check(value: &[u8]) -> Result<(), ChunkParseError>
-        ensures { (flags : ℕ) → Answers checking (λ u. u) (Tested (kind.read flags value.now)) result }
+        ensures { (flags : ℕ) → Answers checking (λ u. u)
+            (Tested (kind.read flags value.now)) result }
     {
         if !value.is_empty() {
             return Err(ChunkParseError::InvalidLength);

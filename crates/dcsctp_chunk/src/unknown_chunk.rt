@@ -32,13 +32,14 @@ pub struct UnknownChunk {
     pub value: Vec<u8>,
 }
 
-#[tactic(auto, using(dcsctp_tlv::proofs::Exact::read_exactly), unfolding(crate::specs::Unknown::read))]
+#[tactic(auto, unfolding(crate::specs::Unknown::read))]
 impl UnknownChunk {
     /// Keeps a chunk of any type, and copies its value; `OutOfMemory` is its only error.
     pub fn try_from(alloc: Global, raw: RawChunk) -> Result<Self, ChunkParseError>
         ensures answer { Exactly reading kind.view
             (λ a. kind.read raw.entry.typ raw.entry.flags raw.entry.value.now ≡ a) result }
-        ensures memory { IsErrOf result ChunkParseError.OutOfMemory → IsOk (kind.read raw.entry.typ raw.entry.flags raw.entry.value.now) }
+        ensures memory { IsErrOf result ChunkParseError.OutOfMemory →
+            IsOk (kind.read raw.entry.typ raw.entry.flags raw.entry.value.now) }
     {
         Ok(UnknownChunk::build(alloc, raw.typ, raw.flags, raw.value)?)
     }

@@ -7,7 +7,7 @@ use Rattle.dcsctp_tlv.specs.declared.error.ChunkParseError.TheVariants.{OutOfMem
 use Rattle.dcsctp_tlv.specs.Fault.{Fault, Length, Padding, Value}
 use Rattle.dcsctp_tlv.specs.Number.{AreBytes}
 use Rattle.dcsctp_tlv.specs.Level.{Row, Level, MeansTrees}
-use Rattle.dcsctp_tlv.specs.Reading.{Errors, Answers, Exactly, error_of, reading, checking, RowAnswer, ListAnswer, Counted, Tested}
+use Rattle.dcsctp_tlv.specs.Reading.{Errors, Answers, Exactly, error_of, reading, checking, RowAnswer, ListAnswer, Counted}
 use Rattle.dcsctp_tlv.proofs.Laws.{LawfulRow, Lawful, list_one, list_apart, list_same}
 
 -- one answer at most
@@ -96,15 +96,6 @@ counted_single count answer single (Err f) (Err g) p q = (let h : Err f ≡ Err 
 -- the answer where memory ran out
 pub lacks : {X T : Type 0} (r : Result X ChunkParseError) (view : X → T) (answer : Result T Fault → Type 0) → (IsErrOf r OutOfMemory → (t : T) × answer (Ok t)) → (e : ChunkParseError) → r ≡ Err e → e ≡ OutOfMemory → (t : T) × answer (Ok t)
 lacks r view answer memory e is h = memory (is ∙ ap Err h)
-
-ok_value : {T F : Type 0} (r : Result T F) → IsOk r → (t : T) × (r ≡ Ok t)
-ok_value (Ok t) h = (t, refl)
-ok_value (Err e) h = absurd (let n : false ≡ true = h in cc)
-
--- a kind whose value is read at fixed places
-pub read_exactly : {X T : Type 0} (view : X → T) (read : Result T Fault) (r : Result X ChunkParseError) → Answers reading view (λ a. read ≡ a) r → (IsErrOf r OutOfMemory → IsOk read)
-    → Exactly reading view (λ a. read ≡ a) r
-read_exactly view read r a memory = exactly reading reading_distinct view (λ a. read ≡ a) (read_single read) r a (lacks r view (λ a. read ≡ a) (λ h. ok_value read (memory h)))
 
 -- a value has one answer under a lawful row
 pub row_exactly : {X T : Type 0} {row : Row T} → LawfulRow row → (v : List ℕ) → ((i : ℕ) → Fits w8 (get_or v i 0)) → {view : X → T} {r : Result X ChunkParseError}

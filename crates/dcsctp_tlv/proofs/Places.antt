@@ -4,7 +4,7 @@ use Rattle.std.specs.Prelude.{◌==◌}
 use Rattle.std.proofs.lemmas.List.{length-take, length-drop}
 use Rattle.dcsctp_tlv.specs.declared.error.ChunkParseError.{ChunkParseError}
 use Rattle.dcsctp_tlv.specs.declared.error.ChunkParseError.TheVariants.{InvalidLength}
-use Rattle.dcsctp_tlv.specs.declared.error.Located.{Located}
+use Rattle.dcsctp_tlv.specs.declared.error.LocatedFault.{LocatedFault}
 use Rattle.dcsctp_tlv.specs.Fault.{Fault, Length, Padding}
 use Rattle.dcsctp_tlv.specs.Frame.{round_up_to_4, padding_size, first_nonzero, BeginsWithFrame, frame_length, frame_value, frame_padding}
 use Rattle.dcsctp_tlv.specs.Level.{Row, plain, FaultsAt, Level, front_row, no_frame, value, padding, front_offset, HasFaultAt, listed}
@@ -14,16 +14,16 @@ use Rattle.dcsctp_tlv.proofs.Laws.{LawfulRow, plain_lawful}
 
 -- what is a fault of a part at one place is a fault of the whole at another
 pub moved : {T U : Type 0} (move : ℕ → ℕ) (P : Result T (Fault × ℕ) → Type 0) (Q : Result U (Fault × ℕ) → Type 0) → ((f : Fault × ℕ) → P (Err f) → Q (Err (f.0, move f.1)))
-    → (l : Located) → Answers locating (λ (t : T). t) P (Err l) → Answers locating (λ (u : U). u) Q (Err (record { offset = move l.offset; fault = l.fault }))
+    → (l : LocatedFault) → Answers locating (λ (t : T). t) P (Err l) → Answers locating (λ (u : U). u) Q (Err (record { offset = move l.offset; fault = l.fault }))
 moved move P Q grows l (inl found) =
-    let place : Located → Located = λ x. record { offset = move x.offset; fault = x.fault } in
+    let place : LocatedFault → LocatedFault = λ x. record { offset = move x.offset; fault = x.fault } in
     inl ((found.0.0, move found.0.1), ap place found.1, grows found.0 found.2)
 moved move P Q grows l (inr none) = absurd none
 
 -- a list's fault, wherever it lies
-pub fault_only : {T : Type 0} (level : Level T) (parts : T → ℕ) (bytes : List ℕ) (l : Located) → Answers locating (λ (n : ℕ × ℕ). n) (ListLocated level parts bytes) (Err l)
+pub fault_only : {T : Type 0} (level : Level T) (parts : T → ℕ) (bytes : List ℕ) (l : LocatedFault) → Answers locating (λ (n : ℕ × ℕ). n) (ListLocated level parts bytes) (Err l)
     → Answers checking (λ (n : ℕ). n) (Counted length (ListAnswer level bytes)) (Err l.fault)
-fault_only level parts bytes l (inl found) = inl (found.0.0, ap (λ (x : Located). x.fault) found.1, found.2.0)
+fault_only level parts bytes l (inl found) = inl (found.0.0, ap (λ (x : LocatedFault). x.fault) found.1, found.2.0)
 fault_only level parts bytes l (inr none) = absurd none
 
 -- ---- rows
@@ -35,7 +35,7 @@ AtFront row = (value : List ℕ) (e : Fault) (f : row.faults value e) → 0 ≡ 
 pub fault_at_front : {T U : Type 0} (row : Row T) (parts : T → ℕ) (v : List ℕ) (answer : Result U Fault → Type 0) → ((e : Fault) → answer (Err e) → FaultsAt row v e 0)
     → (x : ChunkParseError) → Answers checking (λ (u : U). u) answer (Err x) → Answers locating (λ (n : ℕ). n) (RowLocated parts row v) (Err (record { offset = 0; fault = x }))
 fault_at_front row parts v answer front x (inl found) =
-    let place : ChunkParseError → Located = λ y. record { offset = 0; fault = y } in
+    let place : ChunkParseError → LocatedFault = λ y. record { offset = 0; fault = y } in
     inl ((found.0, 0), ap place found.1, front found.0 found.2)
 fault_at_front row parts v answer front x (inr none) = absurd none
 
@@ -48,7 +48,7 @@ is_plain read = (plain_lawful read, λ v e f. refl)
 
 -- what a check finds of a list in a value
 pub finds_listed : {T U : Type 0} (rule : List ℕ → Bool) (place : ℕ) (level : Level U) (tree_of : List ℕ → List U → T) (parts : T → ℕ) → ((v : List ℕ) (ts : List U) → parts (tree_of v ts) ≡ 1 + length ts)
-    → (v : List ℕ) (r : Result ℕ Located) → rule v ≡ true → Answers locating (λ (n : ℕ). n) (ListedLocated level place v) r
+    → (v : List ℕ) (r : Result ℕ LocatedFault) → rule v ≡ true → Answers locating (λ (n : ℕ). n) (ListedLocated level place v) r
     → Answers locating (λ (n : ℕ). n) (RowLocated parts (listed rule place level tree_of) v) r
 finds_listed rule place level tree_of parts same v (Ok n) h f =
     let m = f.1 in
@@ -76,7 +76,7 @@ pub frame_fault : {T : Type 0} (level : Level T) (bytes : List ℕ) (trees : Lis
 frame_fault level bytes trees rest ahead p is h none = fault_at level bytes trees rest Length ahead p (no_frame h none refl) (omega (arith, is))
 
 -- or its value is at fault,
-pub value_fault : {T : Type 0} (level : Level T) (parts : T → ℕ) (bytes : List ℕ) (trees : List T) (rest : List ℕ) (l : Located) (ahead : ℕ) → Progress level bytes trees rest → ahead ≡ length bytes - length rest → BeginsWithFrame rest
+pub value_fault : {T : Type 0} (level : Level T) (parts : T → ℕ) (bytes : List ℕ) (trees : List T) (rest : List ℕ) (l : LocatedFault) (ahead : ℕ) → Progress level bytes trees rest → ahead ≡ length bytes - length rest → BeginsWithFrame rest
     → Answers locating (λ (n : ℕ). n) (RowLocated parts (front_row level rest) (frame_value rest)) (Err l)
     → Answers locating (λ (n : ℕ × ℕ). n) (ListLocated level parts bytes) (Err (record { offset = ahead + l.offset; fault = l.fault }))
 value_fault level parts bytes trees rest l ahead p is frame f =

@@ -2,7 +2,7 @@
 use Rattle.std.proofs.Common.{◌≡◌, Bool, true, false, cond, ℕ, List, [], Result, Ok, Err, inl, inr, refl, ap, sym, ◌∙◌}
 use Rattle.std.specs.Prelude.{IsOk}
 use Rattle.dcsctp_tlv.specs.declared.error.ChunkParseError.{ChunkParseError}
-use Rattle.dcsctp_tlv.specs.declared.error.Located.{Located}
+use Rattle.dcsctp_tlv.specs.declared.error.LocatedFault.{LocatedFault}
 use Rattle.dcsctp_tlv.specs.Fault.{Fault}
 use Rattle.dcsctp_tlv.specs.Level.{Row, plain, map_ok, as_row}
 use Rattle.dcsctp_tlv.specs.Reading.{Answers, checking, locating, Tested, RowTested, RowLocated}
@@ -30,7 +30,7 @@ ok_not_refused true r e ok = absurd (let h : false ≡ true = ok in cc)
 
 -- ---- a check of a kind with a list, at the level of its table
 
-pub finds_as : {A B : Type 0} (f : A → B) (row : Row A) (parts : A → ℕ) (all : B → ℕ) → ((x : A) → all (f x) ≡ parts x) → (v : List ℕ) (r : Result ℕ Located)
+pub finds_as : {A B : Type 0} (f : A → B) (row : Row A) (parts : A → ℕ) (all : B → ℕ) → ((x : A) → all (f x) ≡ parts x) → (v : List ℕ) (r : Result ℕ LocatedFault)
     → Answers locating (λ (n : ℕ). n) (RowLocated parts row v) r → Answers locating (λ (n : ℕ). n) (RowLocated all (as_row f row) v) r
 finds_as f row parts all same v (Ok n) p = (f p.0, (p.0, p.1, refl), p.2 ∙ sym (same p.0))
 finds_as f row parts all same v (Err l) p = p

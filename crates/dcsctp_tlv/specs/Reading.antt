@@ -5,7 +5,7 @@
 -- that they have. Two notions say how a call's result stands to it: `Answers` and `Exactly`.
 use Rattle.std.specs.Prelude.{◌≡◌, ◌↔◌, ◌⊎◌, ℕ, List, Result, Ok, Err, IsOk, IsErrOf, MatchResult, ◌+◌, drop}
 use Rattle.dcsctp_tlv.specs.declared.error.ChunkParseError.{ChunkParseError}
-use Rattle.dcsctp_tlv.specs.declared.error.Located.{Located}
+use Rattle.dcsctp_tlv.specs.declared.error.LocatedFault.{LocatedFault}
 use Rattle.dcsctp_tlv.specs.declared.error.ChunkParseError.TheVariants.{InvalidLength, InvalidPadding, InvalidValue, OutOfMemory}
 use Rattle.dcsctp_tlv.specs.Level.{Row, Level, HasMeaning, FaultsAt, MeansParts, MeansTrees, MeansMany, MeansCounted, HasFault, HasFaultAt}
 use Rattle.dcsctp_tlv.specs.Fault.{Fault, Length, Padding, Value}
@@ -49,7 +49,7 @@ abbrev pub checking : Errors Fault ChunkParseError
 checking = record { of = error_of; lack = λ e. ⊥ }
 
 -- of a check that says where the fault lies
-abbrev pub locating : Errors (Fault × ℕ) Located
+abbrev pub locating : Errors (Fault × ℕ) LocatedFault
 locating = record {
   of = λ f. record { offset = f.1; fault = error_of f.0 };
   lack = λ e. ⊥;

@@ -31,7 +31,7 @@ pub enum ChunkParseError {
 
 /// The first fault of the bytes, and where it lies.
 #[derive(Drop)]
-pub struct Located {
+pub struct LocatedFault {
     // A number first: it then shares its place in a `Result` with the number of a good answer.
     /// How many bytes stand ahead of it.
     pub offset: usize,
@@ -39,22 +39,22 @@ pub struct Located {
     pub fault: ChunkParseError,
 }
 
-impl Located {
+impl LocatedFault {
     /// A fault of an item as a whole, which is told by the item's first byte.
     // A call on the way of a fault alone, so that no good item pays for it.
     #[cold]
     #[inline(never)]
-    pub fn at_front(fault: ChunkParseError) -> Located
+    pub fn at_front(fault: ChunkParseError) -> LocatedFault
         ensures { result ≡ record { fault = fault; offset = 0 } }
     {
-        Located { fault, offset: 0 }
+        LocatedFault { fault, offset: 0 }
     }
 }
 
-impl From<Located> for ChunkParseError {
+impl From<LocatedFault> for ChunkParseError {
     ghost from_gives = { λ found e. e ≡ found.fault };
 
-    fn from(found: Located) -> ChunkParseError {
+    fn from(found: LocatedFault) -> ChunkParseError {
         found.fault
     }
 }

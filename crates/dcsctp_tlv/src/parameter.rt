@@ -27,12 +27,12 @@ pub mod zero_checksum_acceptable_parameter;
 
 ghost use Rattle.std.specs.Prelude.{◌≡◌, ◌≢◌, ◌≤◌, ◌*◌, [], length, vec_len, vec_capacity, IsOk, IfOk, IsErrOf, refl};
 ghost use Rattle.dcsctp_tlv.specs.Frame.{lenient};
-ghost use Rattle.dcsctp_tlv.specs.Level.{HasMeaning, MeansTrees, MeansSome, MeansMany, HasFault};
+ghost use Rattle.dcsctp_tlv.specs.Level.{HasMeaning, MeansTrees, MeansSome};
 ghost use Rattle.dcsctp_tlv.specs.Reading.{Answers, Exactly, reading, checking, RowTested, RowAnswer, ListAnswer, Counted};
 ghost use Rattle.dcsctp_tlv.specs.Parameter as parameter;
 ghost use Rattle.dcsctp_tlv.specs.Parameter.{ParameterTree, parameters, TakesNoMemory, view, views};
 
-use crate::error::{ChunkParseError, Located};
+use crate::error::{ChunkParseError, LocatedFault};
 use crate::frame::are_zeros;
 pub use crate::list::{
     list_encodable as parameters_encodable, list_size as parameters_serialized_size,
@@ -228,10 +228,10 @@ impl ReadableTlv for Parameter {
 
     ghost parts = { λ t. 1 };
 
-    fn check(_strict: bool, first: u8, second: u8, value: &[u8]) -> Result<usize, Located> {
+    fn check(_strict: bool, first: u8, second: u8, value: &[u8]) -> Result<usize, LocatedFault> {
         match Parameter::check_value(u16::from_be_bytes([first, second]), value) {
             Ok(()) => Ok(1),
-            Err(fault) => Err(Located::at_front(fault)),
+            Err(fault) => Err(LocatedFault::at_front(fault)),
         }
     }
 

@@ -1,12 +1,12 @@
 //! Reading a list of items in two passes: a check that takes no memory, and a build that tests
 //! nothing again. For every level.
 
-ghost use Rattle.std.specs.Prelude.{◌≡◌, ◌≢◌, ◌≤◌, ◌<◌, ◌+◌, ◌*◌, ℕ, Bool, List, [], length, drop, map, IsOk, IfOk, IfErr, IsErrOf, vec_len, vec_capacity};
+ghost use Rattle.std.specs.Prelude.{◌≡◌, ◌≢◌, ◌≤◌, ◌<◌, ◌+◌, ◌*◌, ℕ, Bool, List, [], length, map, IsOk, IfOk, IfErr, IsErrOf, vec_len, vec_capacity};
 ghost use Rattle.dcsctp_tlv.specs.Frame.{PaddingRule, lenient, Item, AreItems};
-ghost use Rattle.dcsctp_tlv.specs.Level.{Level, HasMeaning, MeansParts, Grows, FaultsAt, MeansTrees, MeansSome, MeansMany, MeansCounted, HasFault, HasFaultAt};
+ghost use Rattle.dcsctp_tlv.specs.Level.{Level, HasMeaning, Grows, MeansTrees, MeansSome, MeansMany};
 ghost use Rattle.dcsctp_tlv.specs.Reading.{Answers, reading, locating, ListedLocated, ListAnswer, RowLocated, ListLocated};
 
-use crate::error::{ChunkParseError, Located};
+use crate::error::{ChunkParseError, LocatedFault};
 use crate::frame::{TLV_HEADER_SIZE, frame_parts, padding_fault, padding_parts, split_frame};
 use std::alloc::{AllocError, Global};
 
@@ -27,7 +27,7 @@ pub trait ReadableTlv: Sized + Drop {
     /// The number of parts of what an item's value means, each of which has four bytes of its own;
     /// or its fault, and how many bytes stand between the item's first byte and the fault. It takes
     /// no memory.
-    fn check(strict: bool, first: u8, second: u8, value: &[u8]) -> Result<usize, Located>
+    fn check(strict: bool, first: u8, second: u8, value: &[u8]) -> Result<usize, LocatedFault>
         ensures found { Answers locating (λ n. n)
             (RowLocated parts ((level strict).row first second) value.now) result }
         ensures few { IfOk result (λ n. 4 * n ≤ 4 + length value.now) }
@@ -61,7 +61,10 @@ pub trait ReadableTlv: Sized + Drop {
 /// An item whose frame or value is at fault is told by its first byte; the innermost item, where it
 /// is an item of a list in a value. Of padding the first byte that isn't zero is told, or the place
 /// of the first that is missing.
-pub fn list_check<T: ReadableTlv>(strict: bool, bytes: &[u8]) -> Result<(usize, usize), Located>
+pub fn list_check<T: ReadableTlv>(
+    strict: bool,
+    bytes: &[u8],
+) -> Result<(usize, usize), LocatedFault>
     ensures found { Answers locating (λ n. n)
         (ListLocated (T.level strict) T.parts bytes.now) result }
     ensures few { IfOk result (λ n. (4 * n.0 ≤ length bytes.now) × (4 * n.1 ≤ length bytes.now)) }
@@ -73,7 +76,7 @@ pub fn list_check<T: ReadableTlv>(strict: bool, bytes: &[u8]) -> Result<(usize, 
     while !rest.is_empty() {
         let ahead = bytes.len() - rest.len();
         let Ok((value, after)) = split_frame(rest) else {
-            return Err(Located {
+            return Err(LocatedFault {
                 fault: ChunkParseError::InvalidLength,
                 offset: ahead,
             });
@@ -81,7 +84,7 @@ pub fn list_check<T: ReadableTlv>(strict: bool, bytes: &[u8]) -> Result<(usize, 
         match T::check(strict, rest[0], rest[1], value) {
             Ok(found) => parts += found,
             Err(found) => {
-                return Err(Located {
+                return Err(LocatedFault {
                     fault: found.fault,
                     offset: ahead + found.offset,
                 });
@@ -89,7 +92,7 @@ pub fn list_check<T: ReadableTlv>(strict: bool, bytes: &[u8]) -> Result<(usize, 
         }
         let (size, there) = padding_parts(rest);
         if !T::accepts_padding(strict, size, there) {
-            return Err(Located {
+            return Err(LocatedFault {
                 fault: ChunkParseError::InvalidPadding,
                 offset: ahead + padding_fault(rest),
             });
@@ -107,7 +110,7 @@ pub fn listed_check<T: ReadableTlv>(
     strict: bool,
     value: &[u8],
     place: usize,
-) -> Result<usize, Located>
+) -> Result<usize, LocatedFault>
     requires { place ≤ length value.now }
     ensures found { Answers locating (λ n. n)
         (ListedLocated (T.level strict) place value.now) result }
@@ -116,7 +119,7 @@ pub fn listed_check<T: ReadableTlv>(
 {
     match list_check::<T>(strict, &value[place..]) {
         Ok((count, _)) => Ok(1 + count),
-        Err(found) => Err(Located {
+        Err(found) => Err(LocatedFault {
             fault: found.fault,
             offset: TLV_HEADER_SIZE + (place + found.offset),
         }),

@@ -1,5 +1,5 @@
 -- What a check of packets says.
-use Rattle.std.proofs.Common.{◌≡◌, ◌↔◌, ℕ, List, Result, Ok, Err, true, false, IsTrue, inl, inr, refl}
+use Rattle.std.proofs.Common.{◌≡◌, ◌↔◌, ℕ, List, Result, Ok, Err, true, false, IsTrue, refl}
 use Rattle.std.specs.Result.{is_ok}
 use Rattle.dcsctp_wire.specs.Reading.{Exactly, Counted}
 use Rattle.dcsctp_wire.specs.Account.{node_count}

@@ -6,7 +6,7 @@ ghost use Rattle.std.specs.Prelude.{◌≡◌, ◌↔◌, ◌≤◌, ◌+◌, �
 ghost use Rattle.std.specs.Int.{w32, to_be_bytes, to_le_bytes};
 ghost use Rattle.dcsctp_chunk.specs.Cover.{Covers, IsRuns};
 ghost use Rattle.dcsctp_chunk.specs.Data.{user_data_view};
-ghost use Rattle.dcsctp_wire.specs.Builder.{Holds, built};
+ghost use Rattle.dcsctp_wire.specs.Builder.{Holds};
 ghost use Rattle.dcsctp_wire.specs.Canonical.{canonical, padded_size, Fits};
 ghost use Rattle.dcsctp_wire.specs.Chunk.{InitAck, IsChunkEncodable, view};
 ghost use Rattle.dcsctp_wire.specs.InitAck as init_ack;

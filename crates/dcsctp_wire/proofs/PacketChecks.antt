@@ -3,7 +3,7 @@ use Rattle.std.proofs.Common.{◌≡◌, ℕ, List, Result, Ok, Err, inl, inr, r
 use Rattle.std.specs.Prelude.{IsErrOf}
 use Rattle.dcsctp_tlv.specs.declared.error.ChunkParseError.TheVariants.{OutOfMemory}
 use Rattle.dcsctp_tlv.specs.Number.{AreBytes}
-use Rattle.dcsctp_tlv.specs.Level.{MeansTrees, MeansCounted}
+use Rattle.dcsctp_tlv.specs.Level.{MeansTrees}
 use Rattle.dcsctp_tlv.specs.Reading.{Answers, Exactly, Counted}
 use Rattle.dcsctp_tlv.proofs.Exact.{Single, Distinct, exactly, error_one, no_memory, counted_single}
 use Rattle.dcsctp_wire.specs.declared.packet.sctp_packet.PacketParseError.{PacketParseError}

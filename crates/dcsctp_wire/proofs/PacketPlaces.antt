@@ -1,7 +1,7 @@
 -- The first fault of a packet and its place, both ways: from what a check finds, since each input has one answer.
 use Rattle.std.proofs.Common.{◌≡◌, ℕ, ◌+◌, List, Result, Ok, Err, inl, inr, refl, sym, ap, ◌∙◌}
 use Rattle.std.specs.Result.{result_err}
-use Rattle.dcsctp_tlv.specs.declared.error.Located.{Located}
+use Rattle.dcsctp_tlv.specs.declared.error.LocatedFault.{LocatedFault}
 use Rattle.dcsctp_tlv.specs.Number.{AreBytes}
 use Rattle.dcsctp_tlv.specs.Reading.{Answers, Exactly, locating, ListLocated}
 use Rattle.dcsctp_tlv.proofs.Laws.{list_place}
@@ -42,11 +42,11 @@ pub fault_there : (bytes : List ℕ) (word : ℕ) (policy : ChecksumPolicy) (e :
 fault_there bytes word policy e n f = inl ((e, n), refl, f)
 
 -- a fault of the chunks, so far from the first
-pub chunk_fault : (bytes : List ℕ) (word : ℕ) (policy : ChecksumPolicy) (l : Located) → IsOpened bytes word policy
+pub chunk_fault : (bytes : List ℕ) (word : ℕ) (policy : ChecksumPolicy) (l : LocatedFault) → IsOpened bytes word policy
     → Answers locating (λ (n : ℕ × ℕ). n) (ListLocated (chunks policy.strict_padding) chunk_parts (body bytes)) (Err l)
     → Answers packet_locating (λ (n : ℕ × ℕ). n) (PacketCounts bytes word policy) (Err (record { fault = FailedParseChunk l.fault; offset = 12 + l.offset }))
 chunk_fault bytes word policy l opened (inl f) =
-    let place : Located → FirstFault = λ x. record { fault = FailedParseChunk x.fault; offset = 12 + x.offset } in
+    let place : LocatedFault → FirstFault = λ x. record { fault = FailedParseChunk x.fault; offset = 12 + x.offset } in
     inl ((Chunk f.0.0, 12 + f.0.1), ap place f.1, ((opened, f.2.0), ap (λ (k : ℕ). 12 + k) f.2.1))
 chunk_fault bytes word policy l opened (inr none) = absurd none
 

@@ -37,7 +37,7 @@ pub struct AddIncomingStreamsRequestParameter {
     pub nbr_new_streams: u16,
 }
 
-#[tactic(auto, using(crate::proofs::Exact::read_exactly), unfolding(crate::specs::AddStreamsRequest::read))]
+#[tactic(auto, unfolding(crate::specs::AddStreamsRequest::read))]
 impl AddIncomingStreamsRequestParameter {
     /// Reads the parameter; no memory is taken, and the reserved bytes are ignored.
     ///

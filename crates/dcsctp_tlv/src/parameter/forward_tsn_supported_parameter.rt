@@ -25,7 +25,7 @@ pub const PARAMETER_TYPE: u16 = 0xC000;
 #[derive(Debug, Drop)]
 pub struct ForwardTsnSupportedParameter;
 
-#[tactic(auto, using(crate::proofs::Exact::read_exactly), unfolding(crate::specs::ForwardTsnSupported::read))]
+#[tactic(auto, unfolding(crate::specs::ForwardTsnSupported::read))]
 impl ForwardTsnSupportedParameter {
     /// Reads the parameter; no memory is taken.
     ///

@@ -31,7 +31,7 @@ pub struct HeartbeatInfoParameter {
     pub info: Vec<u8>,
 }
 
-#[tactic(auto, using(crate::proofs::Exact::read_exactly), unfolding(crate::specs::HeartbeatInfo::read))]
+#[tactic(auto, unfolding(crate::specs::HeartbeatInfo::read))]
 impl HeartbeatInfoParameter {
     /// Reads the parameter, and copies the info.
     ///
@@ -41,7 +41,8 @@ impl HeartbeatInfoParameter {
             (raw.entry.typ ≢ PARAMETER_TYPE) }
         ensures answer { raw.entry.typ ≡ PARAMETER_TYPE →
             Exactly reading kind.view (λ a. kind.read raw.entry.value.now ≡ a) result }
-        ensures memory { IsErrOf result ChunkParseError.OutOfMemory → IsOk (kind.read raw.entry.value.now) }
+        ensures memory { IsErrOf result ChunkParseError.OutOfMemory →
+            IsOk (kind.read raw.entry.value.now) }
     {
         if raw.typ != PARAMETER_TYPE {
             return Err(ChunkParseError::InvalidType);

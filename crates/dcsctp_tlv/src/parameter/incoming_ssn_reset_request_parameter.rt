@@ -41,7 +41,7 @@ pub struct IncomingSsnResetRequestParameter {
     pub streams: Vec<StreamId>,
 }
 
-#[tactic(auto, using(crate::proofs::Exact::read_exactly), unfolding(crate::specs::IncomingSsnResetRequest::read))]
+#[tactic(auto, unfolding(crate::specs::IncomingSsnResetRequest::read))]
 impl IncomingSsnResetRequestParameter {
     /// Reads the parameter, and copies its stream ids.
     ///
@@ -52,7 +52,8 @@ impl IncomingSsnResetRequestParameter {
             (raw.entry.typ ≢ PARAMETER_TYPE) }
         ensures answer { raw.entry.typ ≡ PARAMETER_TYPE →
             Exactly reading kind.view (λ a. kind.read raw.entry.value.now ≡ a) result }
-        ensures memory { IsErrOf result ChunkParseError.OutOfMemory → IsOk (kind.read raw.entry.value.now) }
+        ensures memory { IsErrOf result ChunkParseError.OutOfMemory →
+            IsOk (kind.read raw.entry.value.now) }
     {
         if raw.typ != PARAMETER_TYPE {
             return Err(ChunkParseError::InvalidType);

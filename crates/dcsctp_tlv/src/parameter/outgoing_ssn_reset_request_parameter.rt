@@ -50,7 +50,7 @@ pub struct OutgoingSsnResetRequestParameter {
     pub streams: Vec<StreamId>,
 }
 
-#[tactic(auto, using(crate::proofs::Exact::read_exactly), unfolding(crate::specs::OutgoingSsnResetRequest::read))]
+#[tactic(auto, unfolding(crate::specs::OutgoingSsnResetRequest::read))]
 impl OutgoingSsnResetRequestParameter {
     /// Reads the parameter, and copies its stream ids.
     ///
@@ -61,7 +61,8 @@ impl OutgoingSsnResetRequestParameter {
             (raw.entry.typ ≢ PARAMETER_TYPE) }
         ensures answer { raw.entry.typ ≡ PARAMETER_TYPE →
             Exactly reading kind.view (λ a. kind.read raw.entry.value.now ≡ a) result }
-        ensures memory { IsErrOf result ChunkParseError.OutOfMemory → IsOk (kind.read raw.entry.value.now) }
+        ensures memory { IsErrOf result ChunkParseError.OutOfMemory →
+            IsOk (kind.read raw.entry.value.now) }
     {
         if raw.typ != PARAMETER_TYPE {
             return Err(ChunkParseError::InvalidType);

@@ -101,7 +101,7 @@ pub struct ReconfigurationResponseParameter {
     pub receiver_next_tsn: Option<Tsn>,
 }
 
-#[tactic(auto, using(crate::proofs::Exact::read_exactly), unfolding(crate::specs::ReconfigurationResponse::read))]
+#[tactic(auto, unfolding(crate::specs::ReconfigurationResponse::read))]
 impl ReconfigurationResponseParameter {
     /// Reads the parameter; no memory is taken.
     ///

@@ -31,7 +31,7 @@ pub struct SsnTsnResetRequestParameter {
     pub request_seq_nbr: u32,
 }
 
-#[tactic(auto, using(crate::proofs::Exact::read_exactly), unfolding(crate::specs::SsnTsnResetRequest::read))]
+#[tactic(auto, unfolding(crate::specs::SsnTsnResetRequest::read))]
 impl SsnTsnResetRequestParameter {
     /// Reads the parameter; no memory is taken.
     ///

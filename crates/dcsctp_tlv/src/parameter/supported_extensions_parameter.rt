@@ -32,7 +32,7 @@ pub struct SupportedExtensionsParameter {
     pub chunk_types: Vec<u8>,
 }
 
-#[tactic(auto, using(crate::proofs::Exact::read_exactly), unfolding(crate::specs::SupportedExtensions::read))]
+#[tactic(auto, unfolding(crate::specs::SupportedExtensions::read))]
 impl SupportedExtensionsParameter {
     /// Reads the parameter, and copies the list.
     ///
@@ -42,7 +42,8 @@ impl SupportedExtensionsParameter {
             (raw.entry.typ ≢ PARAMETER_TYPE) }
         ensures answer { raw.entry.typ ≡ PARAMETER_TYPE →
             Exactly reading kind.view (λ a. kind.read raw.entry.value.now ≡ a) result }
-        ensures memory { IsErrOf result ChunkParseError.OutOfMemory → IsOk (kind.read raw.entry.value.now) }
+        ensures memory { IsErrOf result ChunkParseError.OutOfMemory →
+            IsOk (kind.read raw.entry.value.now) }
     {
         if raw.typ != PARAMETER_TYPE {
             return Err(ChunkParseError::InvalidType);

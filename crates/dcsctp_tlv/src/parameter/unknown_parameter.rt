@@ -31,7 +31,7 @@ pub struct UnknownParameter {
     pub value: Vec<u8>,
 }
 
-#[tactic(auto, using(crate::proofs::Exact::read_exactly), unfolding(crate::specs::UnknownParameter::read))]
+#[tactic(auto, unfolding(crate::specs::UnknownParameter::read))]
 impl UnknownParameter {
     /// A parameter or cause of this type that holds these bytes. It takes no memory.
     pub fn new(typ: u16, value: Vec<u8>) -> UnknownParameter
@@ -45,7 +45,8 @@ impl UnknownParameter {
     pub fn try_from(alloc: Global, raw: RawParameter) -> Result<Self, ChunkParseError>
         ensures answer { Exactly reading kind.view
             (λ a. kind.read raw.entry.typ raw.entry.value.now ≡ a) result }
-        ensures memory { IsErrOf result ChunkParseError.OutOfMemory → IsOk (kind.read raw.entry.typ raw.entry.value.now) }
+        ensures memory { IsErrOf result ChunkParseError.OutOfMemory →
+            IsOk (kind.read raw.entry.typ raw.entry.value.now) }
     {
         Ok(UnknownParameter::build(alloc, raw.typ, raw.value)?)
     }

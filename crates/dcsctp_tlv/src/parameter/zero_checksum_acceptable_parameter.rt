@@ -32,7 +32,7 @@ pub struct ZeroChecksumAcceptableParameter {
     pub method: ZeroChecksumAlternateErrorDetectionMethod,
 }
 
-#[tactic(auto, using(crate::proofs::Exact::read_exactly), unfolding(crate::specs::ZeroChecksumAcceptable::read))]
+#[tactic(auto, unfolding(crate::specs::ZeroChecksumAcceptable::read))]
 impl ZeroChecksumAcceptableParameter {
     /// Reads the parameter; no memory is taken, and every method is accepted.
     ///

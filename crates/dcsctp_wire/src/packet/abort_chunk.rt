@@ -10,16 +10,16 @@
 //! +-+-+-+-+-+-+-+-+-+-+-+-+-+-+-+-+-+-+-+-+-+-+-+-+-+-+-+-+-+-+-+-+
 //! ```
 
-ghost use Rattle.std.specs.Prelude.{◌≡◌, ◌≢◌, ◌↔◌, ◌≤◌, ◌+◌, ◌*◌, ℕ, [], ◌∷◌, false, length, Some, IsOk, IfOk, IfErr, IsErrOf, vec_capacity};
+ghost use Rattle.std.specs.Prelude.{◌≡◌, ◌≢◌, ◌↔◌, ◌≤◌, ◌+◌, ◌*◌, ℕ, [], false, length, Some, IsOk, IfOk, IfErr, IsErrOf, vec_capacity};
 ghost use Rattle.dcsctp_tlv.specs.Frame.{lenient};
-ghost use Rattle.dcsctp_tlv.specs.Level.{HasMeaning, MeansParts, FaultsAt};
+ghost use Rattle.dcsctp_tlv.specs.Level.{HasMeaning};
 ghost use Rattle.dcsctp_tlv.specs.Reading.{Answers, Exactly, reading, locating, RowAnswer, RowLocated};
 ghost use Rattle.dcsctp_wire.specs.Abort as kind;
 
 use dcsctp_cause::error_causes::{ErrorCause, error_cause_build};
 use dcsctp_chunk::flags::{is_set, one_flag};
 use dcsctp_chunk::raw_chunk::RawChunk;
-use dcsctp_tlv::error::{ChunkParseError, Located};
+use dcsctp_tlv::error::{ChunkParseError, LocatedFault};
 use dcsctp_tlv::list::{listed_encodable, listed_encoded_size, listed_size, put_listed};
 use dcsctp_tlv::reader::listed_check;
 use dcsctp_tlv::tlv::SerializableTlv;
@@ -59,7 +59,8 @@ impl AbortChunk {
     pub fn try_from(alloc: Global, raw: RawChunk) -> Result<Self, ChunkParseError>
         ensures other { IsErrOf result ChunkParseError.InvalidType ↔ (raw.entry.typ ≢ CHUNK_TYPE) }
         ensures answer { raw.entry.typ ≡ CHUNK_TYPE →
-            Exactly reading kind.view (RowAnswer (kind.row lenient raw.entry.flags) raw.entry.value.now) result }
+            Exactly reading kind.view
+            (RowAnswer (kind.row lenient raw.entry.flags) raw.entry.value.now) result }
         ensures memory { IsErrOf result ChunkParseError.OutOfMemory
             → HasMeaning (kind.row lenient raw.entry.flags) raw.entry.value.now
             × (raw.entry.value.now ≢ []) }
@@ -72,7 +73,8 @@ impl AbortChunk {
 
     /// Checks the value, and builds what it means.
     fn read(alloc: Global, flags: u8, value: &[u8]) -> Result<Self, ChunkParseError>
-        ensures answer { Exactly reading kind.view (RowAnswer (kind.row lenient flags) value.now) result }
+        ensures answer { Exactly reading kind.view
+            (RowAnswer (kind.row lenient flags) value.now) result }
         ensures memory { IsErrOf result ChunkParseError.OutOfMemory →
             HasMeaning (kind.row lenient flags) value.now × (value.now ≢ []) }
     {
@@ -82,7 +84,7 @@ impl AbortChunk {
 
     /// The number of parts: the chunk and its causes; or the first fault of these from the left, and
     /// how many bytes stand between the chunk's first byte and it. It takes no memory.
-    pub(crate) fn check(value: &[u8], strict: bool) -> Result<usize, Located>
+    pub(crate) fn check(value: &[u8], strict: bool) -> Result<usize, LocatedFault>
         ensures found { (flags : ℕ) → Answers locating (λ n. n)
             (RowLocated (λ a. 1 + length a.causes) (kind.row strict flags) value.now) result }
         ensures few { IfOk result (λ n. 4 * n ≤ 4 + length value.now) }

@@ -1,6 +1,6 @@
 //! A chunk of any kind.
 
-ghost use Rattle.std.specs.Prelude.{◌≡◌, ◌≢◌, ◌<◌, ◌+◌, [], Some, IsOk, IfOk, IsErrOf, vec_len, vec_capacity};
+ghost use Rattle.std.specs.Prelude.{◌≡◌, ◌≢◌, ◌<◌, ◌+◌, Some, IsOk, IfOk, IsErrOf, vec_len, vec_capacity};
 ghost use Rattle.dcsctp_tlv.specs.Frame.{lenient};
 ghost use Rattle.dcsctp_tlv.specs.Level.{HasMeaning, Grows};
 ghost use Rattle.dcsctp_tlv.specs.Reading.{Exactly, reading, RowAnswer};
@@ -31,7 +31,7 @@ use dcsctp_cause::error_causes::error_cause_fill;
 use dcsctp_chunk::flags::is_set;
 pub use dcsctp_chunk::plain_check::plain_check;
 pub use dcsctp_chunk::raw_chunk::{RawChunk, write_chunk_header};
-use dcsctp_tlv::error::{ChunkParseError, Located};
+use dcsctp_tlv::error::{ChunkParseError, LocatedFault};
 use dcsctp_tlv::frame::are_zeros;
 use dcsctp_tlv::parameter::parameters_fill;
 use dcsctp_tlv::reader::ReadableTlv;
@@ -278,7 +278,7 @@ impl ReadableTlv for Chunk {
 
     ghost parts = { chunk_parts };
 
-    fn check(strict: bool, first: u8, second: u8, value: &[u8]) -> Result<usize, Located> {
+    fn check(strict: bool, first: u8, second: u8, value: &[u8]) -> Result<usize, LocatedFault> {
         match first {
             init_chunk::CHUNK_TYPE => init_check(value, strict),
             init_ack_chunk::CHUNK_TYPE => init_check(value, strict),
@@ -293,7 +293,7 @@ impl ReadableTlv for Chunk {
                 value,
             }) {
                 Ok(()) => Ok(1),
-                Err(fault) => Err(Located::at_front(fault)),
+                Err(fault) => Err(LocatedFault::at_front(fault)),
             },
         }
     }

@@ -12,13 +12,13 @@
 
 ghost use Rattle.std.specs.Prelude.{◌≡◌, ◌≢◌, ◌↔◌, ◌≤◌, ◌+◌, ◌*◌, [], length, Some, IfOk, IfErr, IsErrOf, vec_capacity};
 ghost use Rattle.dcsctp_tlv.specs.Frame.{lenient};
-ghost use Rattle.dcsctp_tlv.specs.Level.{HasMeaning, MeansParts, FaultsAt};
+ghost use Rattle.dcsctp_tlv.specs.Level.{HasMeaning};
 ghost use Rattle.dcsctp_tlv.specs.Reading.{Answers, Exactly, reading, locating, RowAnswer, RowLocated};
 ghost use Rattle.dcsctp_wire.specs.Error as kind;
 
 use dcsctp_cause::error_causes::{ErrorCause, error_cause_build};
 use dcsctp_chunk::raw_chunk::RawChunk;
-use dcsctp_tlv::error::{ChunkParseError, Located};
+use dcsctp_tlv::error::{ChunkParseError, LocatedFault};
 use dcsctp_tlv::list::{listed_encodable, listed_encoded_size, listed_size, put_listed};
 use dcsctp_tlv::reader::listed_check;
 use dcsctp_tlv::tlv::SerializableTlv;
@@ -83,7 +83,7 @@ impl ErrorChunk {
     ///
     /// With a fault comes how many bytes stand between the chunk's first byte and it: none, where
     /// there are no causes.
-    pub(crate) fn check(value: &[u8], strict: bool) -> Result<usize, Located>
+    pub(crate) fn check(value: &[u8], strict: bool) -> Result<usize, LocatedFault>
         ensures found { Answers locating (λ n. n)
             (RowLocated (λ cs. 1 + length cs) (kind.row strict) value.now) result }
         ensures few { IfOk result (λ n. 4 * n ≤ 4 + length value.now) }
@@ -91,7 +91,7 @@ impl ErrorChunk {
     {
         let lacks_causes = value.is_empty();
         if lacks_causes {
-            return Err(Located::at_front(ChunkParseError::InvalidLength));
+            return Err(LocatedFault::at_front(ChunkParseError::InvalidLength));
         }
         listed_check::<ErrorCause>(strict, value, 0)
     }

@@ -6,7 +6,7 @@ ghost use Rattle.dcsctp_tlv.specs.Level.{HasMeaning};
 ghost use Rattle.dcsctp_tlv.specs.Reading.{Answers, locating, RowLocated};
 ghost use Rattle.dcsctp_wire.specs.InitFields.{row as init_row, parts as init_parts, leading as init_numbers, tree_of, view as init_fields_view};
 
-use dcsctp_tlv::error::{ChunkParseError, Located};
+use dcsctp_tlv::error::{ChunkParseError, LocatedFault};
 use dcsctp_tlv::number::{put_u16, put_u32, read_u16_be, read_u32_be};
 use dcsctp_tlv::parameter::{Parameter, parameters_fill};
 use dcsctp_tlv::reader::listed_check;
@@ -32,14 +32,14 @@ pub(crate) struct InitFields {
 ///
 /// With a fault comes how many bytes stand between the chunk's first byte and it: none, where the
 /// value has fewer than 16 bytes.
-pub(crate) fn init_check(value: &[u8], strict: bool) -> Result<usize, Located>
+pub(crate) fn init_check(value: &[u8], strict: bool) -> Result<usize, LocatedFault>
     ensures found { Answers locating (λ n. n)
         (RowLocated init_parts (init_row strict) value.now) result }
     ensures few { IfOk result (λ n. 4 * n ≤ 4 + length value.now) }
     ensures within { IfErr result (λ found. found.offset ≤ 4 + length value.now) }
 {
     if value.len() < FIXED_SIZE {
-        return Err(Located::at_front(ChunkParseError::InvalidLength));
+        return Err(LocatedFault::at_front(ChunkParseError::InvalidLength));
     }
     listed_check::<Parameter>(strict, value, FIXED_SIZE)
 }

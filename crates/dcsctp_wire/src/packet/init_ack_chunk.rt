@@ -64,7 +64,8 @@ impl InitAckChunk {
     pub fn try_from(alloc: Global, raw: RawChunk) -> Result<Self, ChunkParseError>
         ensures other { IsErrOf result ChunkParseError.InvalidType ↔ (raw.entry.typ ≢ CHUNK_TYPE) }
         ensures answer { raw.entry.typ ≡ CHUNK_TYPE →
-            Exactly reading kind.view (RowAnswer (init_fields.row lenient) raw.entry.value.now) result }
+            Exactly reading kind.view
+            (RowAnswer (init_fields.row lenient) raw.entry.value.now) result }
         ensures memory { IsErrOf result ChunkParseError.OutOfMemory
             → HasMeaning (init_fields.row lenient) raw.entry.value.now
             × (drop 16 raw.entry.value.now ≢ []) }
@@ -77,7 +78,8 @@ impl InitAckChunk {
 
     /// Checks the value, and builds what it means.
     fn read(alloc: Global, value: &[u8]) -> Result<Self, ChunkParseError>
-        ensures answer { Exactly reading kind.view (RowAnswer (init_fields.row lenient) value.now) result }
+        ensures answer { Exactly reading kind.view
+            (RowAnswer (init_fields.row lenient) value.now) result }
         ensures memory { IsErrOf result ChunkParseError.OutOfMemory →
             HasMeaning (init_fields.row lenient) value.now × (drop 16 value.now ≢ []) }
     {

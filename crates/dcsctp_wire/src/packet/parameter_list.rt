@@ -4,13 +4,13 @@ ghost use Rattle.std.specs.Prelude.{◌≤◌, ◌+◌, ◌*◌, length, IfOk, I
 ghost use Rattle.dcsctp_tlv.specs.Reading.{Answers, locating, RowLocated};
 ghost use Rattle.dcsctp_wire.specs.ParameterList.{row as parameter_list_row};
 
-use dcsctp_tlv::error::Located;
+use dcsctp_tlv::error::LocatedFault;
 use dcsctp_tlv::parameter::Parameter;
 use dcsctp_tlv::reader::listed_check;
 
 /// The number of parts: the chunk and its parameters; or the first fault of these from the left, and
 /// how many bytes stand between the chunk's first byte and it. It takes no memory.
-pub(crate) fn parameter_list_check(value: &[u8], strict: bool) -> Result<usize, Located>
+pub(crate) fn parameter_list_check(value: &[u8], strict: bool) -> Result<usize, LocatedFault>
     ensures found { Answers locating (λ n. n)
         (RowLocated (λ ps. 1 + length ps) (parameter_list_row strict) value.now) result }
     ensures few { IfOk result (λ n. 4 * n ≤ 4 + length value.now) }

@@ -54,7 +54,8 @@ impl ReConfigChunk {
     pub fn try_from(alloc: Global, raw: RawChunk) -> Result<Self, ChunkParseError>
         ensures other { IsErrOf result ChunkParseError.InvalidType ↔ (raw.entry.typ ≢ CHUNK_TYPE) }
         ensures answer { raw.entry.typ ≡ CHUNK_TYPE →
-            Exactly reading kind.view (RowAnswer (parameter_list.row lenient) raw.entry.value.now) result }
+            Exactly reading kind.view
+            (RowAnswer (parameter_list.row lenient) raw.entry.value.now) result }
         ensures memory { IsErrOf result ChunkParseError.OutOfMemory
             → HasMeaning (parameter_list.row lenient) raw.entry.value.now
             × (raw.entry.value.now ≢ []) }
@@ -67,7 +68,8 @@ impl ReConfigChunk {
 
     /// Checks the value, and builds what it means.
     fn read(alloc: Global, value: &[u8]) -> Result<Self, ChunkParseError>
-        ensures answer { Exactly reading kind.view (RowAnswer (parameter_list.row lenient) value.now) result }
+        ensures answer { Exactly reading kind.view
+            (RowAnswer (parameter_list.row lenient) value.now) result }
         ensures memory { IsErrOf result ChunkParseError.OutOfMemory →
             HasMeaning (parameter_list.row lenient) value.now × (value.now ≢ []) }
     {

@@ -1,6 +1,5 @@
-use Rattle.std.proofs.Common.{◌≡◌, ℕ, Result, Ok, Err, length}
+use Rattle.std.proofs.Common.{Ok, Err}
 use Rattle.std.proofs.lemmas.Result.{err_from_is_err_and}
-use Rattle.dcsctp_tlv.specs.declared.error.ChunkParseError.{ChunkParseError}
 use Rattle.dcsctp_tlv.specs.Parameter.{parameters}
 use Rattle.dcsctp_tlv.proofs.ParameterLaws.{parameters_lawful}
 use Rattle.dcsctp_tlv.proofs.Exact.{count_exactly}
