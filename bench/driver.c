@@ -1,10 +1,14 @@
 /* Times the calls of crates/speed_probes over traffic files, and counts their requests for memory.
 
    usage: driver ROUNDS MILLIS FILE..
+          driver --count CALL FILE
 
    A file holds one packet a line, in hexadecimal. In each round every call goes over the whole file again and again
    for so many milliseconds, one call after the other, so that a slow spell of the machine hits them all; the best
-   round counts. Prints a line a file and call, tab separated, after a line of names. */
+   round counts. Prints a line a file and call, tab separated, after a line of names.
+
+   With --count one call goes over the file twice: once to warm up, and once in counted_round, for a tool that counts
+   the instructions of that function. Prints the number of packets. */
 #define _GNU_SOURCE
 #include <stdio.h>
 #include <stdlib.h>
@@ -133,14 +137,39 @@ static void once(size_t (*call)(const unsigned char *, size_t), const struct pac
     sink += sum;
 }
 
+/* Its own function, whose name bench/instructions.sh gives to callgrind. */
+__attribute__((noinline, noclone)) void counted_round(size_t (*call)(const unsigned char *, size_t),
+                                                      const struct packets *all)
+{
+    once(call, all);
+}
+
+static int count_call(const char *name, const char *file)
+{
+    int k = 0;
+    while (k < CALLS && strcmp(calls[k].name, name))
+        k++;
+    if (k == CALLS)
+        fail("no call has this name", name);
+    struct packets all = load(file);
+    once(calls[k].call, &all);
+    counted_round(calls[k].call, &all);
+    printf("%zu\n", all.count);
+    return 0;
+}
+
 int main(int count, char **words)
 {
-    if (count < 4)
-        fail("usage: driver ROUNDS MILLIS FILE..", "");
-    int rounds = atoi(words[1]);
-    double least = atoi(words[2]) * 1e-3;
     /* The C library then keeps large blocks, and doesn't ask the system for each of them. */
     free(__real_malloc(16 << 20));
+    if (count == 4 && !strcmp(words[1], "--count"))
+        return count_call(words[2], words[3]);
+    if (count < 4 || words[1][0] == '-') {
+        fputs("usage: driver ROUNDS MILLIS FILE..\n       driver --count CALL FILE\n", stderr);
+        return 2;
+    }
+    int rounds = atoi(words[1]);
+    double least = atoi(words[2]) * 1e-3;
     printf("file\tcall\tpackets\tbytes\tzero\tgreatest\trequests\n");
     for (int word = 3; word < count; word++) {
         struct packets all = load(words[word]);

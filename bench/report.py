@@ -162,14 +162,15 @@ def caption(folder):
         + (' **The machine was busy, so these figures say little**: run it again in a quiet hour.' if is_busy else ''))
 
 
-def record_in(document, text):
+def record_in(document, text, begin, end):
+    """Puts the text between two marker lines of a document."""
     with open(document, encoding='utf-8') as file:
-        before, _, rest = file.read().partition(BEGIN + '\n')
-    _, found, after = rest.partition(END + '\n')
+        before, _, rest = file.read().partition(begin + '\n')
+    _, found, after = rest.partition(end + '\n')
     if not found:
-        sys.exit('report.py: %s lacks its two marker lines' % document)
+        sys.exit('%s lacks the two marker lines of %s' % (document, begin))
     with open(document, 'w', encoding='utf-8') as file:
-        file.write(before + BEGIN + '\n\n' + text + '\n' + END + '\n' + after)
+        file.write(before + begin + '\n\n' + text + '\n' + end + '\n' + after)
 
 
 def main():
@@ -181,7 +182,7 @@ def main():
     text = '\n'.join([caption(folder), '', *beside(records), *alone(records)]) + '\n'
     print(text, end='')
     if len(sys.argv) == 3:
-        record_in(sys.argv[2], text)
+        record_in(sys.argv[2], text, BEGIN, END)
 
 
 if __name__ == '__main__':
