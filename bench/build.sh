@@ -2,7 +2,7 @@
 # the folder $out.
 
 export PYTHONDONTWRITEBYTECODE=1
-archive=crates/speed_probes/out/libspeed_probes.a
+archives='crates/speed_probes/out/libspeed_probes.a crates/strict_probes/out/libstrict_probes.a'
 
 give_up() {
     echo "${0##*/}: $1" >&2
@@ -11,12 +11,15 @@ give_up() {
 
 # Builds the library, proved, and links the driver with it: $out/driver.
 build_driver() {
+    local crate kit
     mkdir -p "$out"
     echo 'building the library: minutes the first time, since it is proved first' >&2
-    (cd crates/speed_probes && rt lib) >"$out/library.log" 2>&1 || { tail -n 5 "$out/library.log" >&2; give_up 'no library'; }
-    local kit
+    for crate in speed_probes strict_probes; do
+        (cd "crates/$crate" && rt lib) >"$out/library.log" 2>&1 || { tail -n 5 "$out/library.log" >&2; give_up "no $crate"; }
+    done
     kit=$(dirname "$(rt doc)")
-    gcc -O2 -Wall -Wextra -o "$out/driver" bench/driver.c "$archive" "$kit/c/liblibc_c.a" \
+    # shellcheck disable=SC2086 # a list of paths without blanks
+    gcc -O2 -Wall -Wextra -o "$out/driver" bench/driver.c $archives "$kit/c/liblibc_c.a" \
         -Wl,--wrap=malloc,--wrap=realloc
 }
 

@@ -1,4 +1,5 @@
-/* Times the calls of crates/speed_probes over traffic files, and counts their requests for memory.
+/* Times the calls of crates/speed_probes over traffic files, and counts their requests for memory. Those of
+   crates/strict_probes can be counted alone.
 
    usage: driver ROUNDS MILLIS FILE..
           driver --count CALL FILE
@@ -10,6 +11,7 @@
    With --count one call goes over the file twice: once to warm up, and once in counted_round, for a tool that counts
    the instructions of that function. Prints the number of packets. */
 #define _GNU_SOURCE
+#include <stdbool.h>
 #include <stdio.h>
 #include <stdlib.h>
 #include <string.h>
@@ -22,6 +24,7 @@ extern size_t speed_probes_read_and_write(const unsigned char *bytes, size_t len
 extern size_t speed_probes_write_over(const unsigned char *bytes, size_t length, unsigned char *output, size_t room);
 extern size_t speed_probes_build(const unsigned char *bytes, size_t length);
 extern size_t speed_probes_clean(const unsigned char *bytes, size_t length);
+extern size_t strict_probes_check(const unsigned char *bytes, size_t length, bool strict);
 
 static unsigned char output[1 << 16];
 
@@ -30,6 +33,17 @@ static size_t write_over(const unsigned char *bytes, size_t length)
     return speed_probes_write_over(bytes, length, output, sizeof output);
 }
 
+static size_t check_lenient(const unsigned char *bytes, size_t length)
+{
+    return strict_probes_check(bytes, length, false);
+}
+
+static size_t check_strict(const unsigned char *bytes, size_t length)
+{
+    return strict_probes_check(bytes, length, true);
+}
+
+/* Those that are timed, and then those that are only counted. */
 static const struct {
     const char *name;
     size_t (*call)(const unsigned char *bytes, size_t length);
@@ -40,8 +54,10 @@ static const struct {
     {"write_over", write_over},
     {"build", speed_probes_build},
     {"clean", speed_probes_clean},
+    {"check_lenient", check_lenient},
+    {"check_strict", check_strict},
 };
-enum { CALLS = sizeof calls / sizeof calls[0] };
+enum { CALLS = sizeof calls / sizeof calls[0], TIMED = CALLS - 2 };
 
 /* The linker sends the library's requests here (--wrap). */
 static unsigned long requests;
@@ -173,9 +189,9 @@ int main(int count, char **words)
     printf("file\tcall\tpackets\tbytes\tzero\tgreatest\trequests\n");
     for (int word = 3; word < count; word++) {
         struct packets all = load(words[word]);
-        double best[CALLS], asked[CALLS];
-        size_t zero[CALLS];
-        for (int k = 0; k < CALLS; k++) {
+        double best[TIMED], asked[TIMED];
+        size_t zero[TIMED];
+        for (int k = 0; k < TIMED; k++) {
             unsigned long before = requests;
             zero[k] = 0;
             for (size_t i = 0; i < all.count; i++)
@@ -184,7 +200,7 @@ int main(int count, char **words)
             best[k] = 1e9;
         }
         for (int round = 0; round < rounds; round++)
-            for (int k = 0; k < CALLS; k++) {
+            for (int k = 0; k < TIMED; k++) {
                 double start = seconds(), took;
                 size_t done = 0;
                 do {
@@ -197,7 +213,7 @@ int main(int count, char **words)
             }
         const char *slash = strrchr(words[word], '/'), *name = slash ? slash + 1 : words[word];
         int size = (int)strcspn(name, ".");
-        for (int k = 0; k < CALLS; k++)
+        for (int k = 0; k < TIMED; k++)
             printf("%.*s\t%s\t%zu\t%.1f\t%zu\t%.0f\t%.2f\n", size, name, calls[k].name, all.count,
                    (double)all.bytes / (double)all.count, zero[k], 1 / best[k], asked[k]);
         fflush(stdout);

@@ -38,11 +38,12 @@ counts=$out/counts
 rm -rf "$counts"
 mkdir -p "$counts"
 rt version >"$counts/toolchain.txt"
-# What is counted: the functions of the library's archive, and neither the driver's nor the C library's.
-nm --defined-only "$archive" | sed -n 's/^[0-9a-f]* [tT] //p' >"$counts/functions.txt"
+# What is counted: the functions of the library's archives, and neither the driver's nor the C library's.
+# shellcheck disable=SC2086 # a list of paths without blanks
+nm --defined-only $archives | sed -n 's/^[0-9a-f]* [tT] //p' >"$counts/functions.txt"
 
 for file in data_small sack4 init hostile_params hostile_acks; do
-    for call in check read read_and_write write_over build; do
+    for call in check check_lenient check_strict read read_and_write write_over build; do
         valgrind --tool=callgrind --toggle-collect=counted_round --demangle=no --compress-strings=no --compress-pos=no \
             --callgrind-out-file="$counts/$file.$call.callgrind" "$out/driver" --count "$call" "$out/traffic/$file.hex" \
             >"$counts/$file.$call.packets" 2>"$out/valgrind.log" || { cat "$out/valgrind.log" >&2; give_up "$call of $file"; }
