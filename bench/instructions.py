@@ -89,9 +89,10 @@ def compared(found, known):
     lines, above = [], []
     for key in ordered(found):
         own, others = found[key]
+        # as a record has it
+        own = round(own, 1)
         was = known.get(key)
-        # a record has one digit after the point
-        if was is None or round(own, 1) > MOST * was:
+        if was is None or own > MOST * was:
             above.append('%s of %s' % (key[1], key[0]))
         lines.append([key[0], '`%s`' % key[1], '-' if was is None else figure(was), figure(own),
                       '-' if was is None else '%+.1f %%' % (100 * (own / was - 1)), figure(others)])

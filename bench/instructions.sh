@@ -1,6 +1,7 @@
 #!/usr/bin/env bash
 # Counts the library's instructions a packet, and compares them with bench/instructions.tsv (docs/SPEED.md).
 set -eu
+. "$(dirname "$0")/build.sh"
 
 usage='usage: bench/instructions.sh [--record]
 
@@ -29,7 +30,6 @@ done
 
 cd "$(dirname "$0")/.."
 out=bench/out/instructions
-. bench/build.sh
 command -v valgrind >/dev/null || give_up 'valgrind is needed, whose tool callgrind counts'
 
 build_driver
