@@ -1,6 +1,7 @@
 #!/usr/bin/env bash
 # Times the library, and the Rust crate beside it where a program that times that is given (docs/SPEED.md).
 set -eu
+. "$(dirname "$0")/build.sh"
 
 usage='usage: bench/run.sh [OPTION]..
 
@@ -46,12 +47,11 @@ while [ $# -gt 0 ]; do
     esac
     shift 2
 done
+[ -z "$original" ] || [ -x "$original" ] || give_up "$original is not a program"
 [ -z "$original" ] || original=$(realpath "$original")
 
 cd "$(dirname "$0")/.."
 out=bench/out
-. bench/build.sh
-[ -z "$original" ] || [ -x "$original" ] || give_up "$original is not a program"
 # before the load of its own work
 load=$(cut -d' ' -f1 /proc/loadavg)
 
@@ -84,5 +84,5 @@ for ((turn = 1; turn <= turns; turn++)); do
 done
 
 python3 bench/report.py "$out" ${record:+docs/SPEED.md}
-python3 bench/plot.py "$out/results.tsv" "$out/speed.svg"
+python3 bench/plot.py "$out" "$out/speed.svg"
 [ -z "$record" ] || cp "$out/speed.svg" docs/speed.svg
