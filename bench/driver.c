@@ -1,11 +1,17 @@
-/* Times the calls of crates/speed_probes over traffic files, and counts their requests for memory.
+/* Times the calls of crates/speed_probes over traffic files, and counts their requests for memory. Those of
+   crates/strict_probes can be counted alone.
 
    usage: driver ROUNDS MILLIS FILE..
+          driver --count CALL FILE
 
    A file holds one packet a line, in hexadecimal. In each round every call goes over the whole file again and again
    for so many milliseconds, one call after the other, so that a slow spell of the machine hits them all; the best
-   round counts. Prints a line a file and call, tab separated, after a line of names. */
+   round counts. Prints a line a file and call, tab separated, after a line of names.
+
+   With --count one call goes over the file twice: once to warm up, and once in counted_round, for a tool that counts
+   the instructions of that function. Prints the number of packets. */
 #define _GNU_SOURCE
+#include <stdbool.h>
 #include <stdio.h>
 #include <stdlib.h>
 #include <string.h>
@@ -18,6 +24,7 @@ extern size_t speed_probes_read_and_write(const unsigned char *bytes, size_t len
 extern size_t speed_probes_write_over(const unsigned char *bytes, size_t length, unsigned char *output, size_t room);
 extern size_t speed_probes_build(const unsigned char *bytes, size_t length);
 extern size_t speed_probes_clean(const unsigned char *bytes, size_t length);
+extern size_t strict_probes_check(const unsigned char *bytes, size_t length, bool strict);
 
 static unsigned char output[1 << 16];
 
@@ -26,6 +33,17 @@ static size_t write_over(const unsigned char *bytes, size_t length)
     return speed_probes_write_over(bytes, length, output, sizeof output);
 }
 
+static size_t check_lenient(const unsigned char *bytes, size_t length)
+{
+    return strict_probes_check(bytes, length, false);
+}
+
+static size_t check_strict(const unsigned char *bytes, size_t length)
+{
+    return strict_probes_check(bytes, length, true);
+}
+
+/* Those that are timed, and then those that are only counted. */
 static const struct {
     const char *name;
     size_t (*call)(const unsigned char *bytes, size_t length);
@@ -36,8 +54,10 @@ static const struct {
     {"write_over", write_over},
     {"build", speed_probes_build},
     {"clean", speed_probes_clean},
+    {"check_lenient", check_lenient},
+    {"check_strict", check_strict},
 };
-enum { CALLS = sizeof calls / sizeof calls[0] };
+enum { CALLS = sizeof calls / sizeof calls[0], TIMED = CALLS - 2 };
 
 /* The linker sends the library's requests here (--wrap). */
 static unsigned long requests;
@@ -133,20 +153,45 @@ static void once(size_t (*call)(const unsigned char *, size_t), const struct pac
     sink += sum;
 }
 
+/* Its own function, whose name bench/instructions.sh gives to callgrind. */
+__attribute__((noinline, noclone)) void counted_round(size_t (*call)(const unsigned char *, size_t),
+                                                      const struct packets *all)
+{
+    once(call, all);
+}
+
+static int count_call(const char *name, const char *file)
+{
+    int k = 0;
+    while (k < CALLS && strcmp(calls[k].name, name))
+        k++;
+    if (k == CALLS)
+        fail("no call has this name", name);
+    struct packets all = load(file);
+    once(calls[k].call, &all);
+    counted_round(calls[k].call, &all);
+    printf("%zu\n", all.count);
+    return 0;
+}
+
 int main(int count, char **words)
 {
-    if (count < 4)
-        fail("usage: driver ROUNDS MILLIS FILE..", "");
-    int rounds = atoi(words[1]);
-    double least = atoi(words[2]) * 1e-3;
     /* The C library then keeps large blocks, and doesn't ask the system for each of them. */
     free(__real_malloc(16 << 20));
+    if (count == 4 && !strcmp(words[1], "--count"))
+        return count_call(words[2], words[3]);
+    if (count < 4 || words[1][0] == '-') {
+        fputs("usage: driver ROUNDS MILLIS FILE..\n       driver --count CALL FILE\n", stderr);
+        return 2;
+    }
+    int rounds = atoi(words[1]);
+    double least = atoi(words[2]) * 1e-3;
     printf("file\tcall\tpackets\tbytes\tzero\tgreatest\trequests\n");
     for (int word = 3; word < count; word++) {
         struct packets all = load(words[word]);
-        double best[CALLS], asked[CALLS];
-        size_t zero[CALLS];
-        for (int k = 0; k < CALLS; k++) {
+        double best[TIMED], asked[TIMED];
+        size_t zero[TIMED];
+        for (int k = 0; k < TIMED; k++) {
             unsigned long before = requests;
             zero[k] = 0;
             for (size_t i = 0; i < all.count; i++)
@@ -155,7 +200,7 @@ int main(int count, char **words)
             best[k] = 1e9;
         }
         for (int round = 0; round < rounds; round++)
-            for (int k = 0; k < CALLS; k++) {
+            for (int k = 0; k < TIMED; k++) {
                 double start = seconds(), took;
                 size_t done = 0;
                 do {
@@ -168,7 +213,7 @@ int main(int count, char **words)
             }
         const char *slash = strrchr(words[word], '/'), *name = slash ? slash + 1 : words[word];
         int size = (int)strcspn(name, ".");
-        for (int k = 0; k < CALLS; k++)
+        for (int k = 0; k < TIMED; k++)
             printf("%.*s\t%s\t%zu\t%.1f\t%zu\t%.0f\t%.2f\n", size, name, calls[k].name, all.count,
                    (double)all.bytes / (double)all.count, zero[k], 1 / best[k], asked[k]);
         fflush(stdout);

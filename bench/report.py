@@ -70,17 +70,17 @@ def joined(folder):
     return records
 
 
-def shown(value):
-    if not isinstance(value, float):
-        return str(value)
-    return '%.4g' % value if value < 1000 else '%.0f' % value
-
-
 def write_results(records, file):
+    """With all digits of each figure, so that whatever reads the file rounds once."""
     with open(file, 'w', encoding='utf-8') as out:
         out.write('\t'.join(COLUMNS) + '\n')
         for record in records:
-            out.write('\t'.join(shown(record.get(name, '')) for name in COLUMNS) + '\n')
+            out.write('\t'.join(str(record.get(name, '')) for name in COLUMNS) + '\n')
+
+
+def ratio(value):
+    """A ratio as the table and the plot show it."""
+    return '%.2f' % value
 
 
 def thousands(rate):
@@ -113,7 +113,7 @@ def beside(records):
                 cells += ['-'] * 3
                 continue
             rates = '%s / %s' % (thousands(it['rate']), thousands(it['original_rate']))
-            cells += [rates, '**%.2f**' % it['ratio'], asked]
+            cells += [rates, '**%s**' % ratio(it['ratio']), asked]
             logs.setdefault(call, []).append(math.log(it['ratio']))
         else:
             lines.append(cells)
@@ -121,8 +121,8 @@ def beside(records):
         return []
     heads = ['file'] + [word for call in COUNTERPARTS
                         for word in ('`%s`' % call, 'ratio', 'requests')]
-    means = ['`%s` %.2f over %d files, least %.2f' % (
-        call, math.exp(sum(logs[call]) / len(logs[call])), len(logs[call]), math.exp(min(logs[call])))
+    means = ['`%s` %s over %d files, least %s' % (
+        call, ratio(math.exp(sum(logs[call]) / len(logs[call]))), len(logs[call]), ratio(math.exp(min(logs[call]))))
         for call in COUNTERPARTS]
     spreads = sorted(it['greatest_ratio'] / it['least_ratio'] for it in records if 'ratio' in it)
     spread = ('Of the ratios of single turns the greatest of a row is {:.2f} times the least in the median, and {:.2f} '
@@ -151,9 +151,14 @@ def filled(text):
     return textwrap.fill(text, 128, break_long_words=False, break_on_hyphens=False)
 
 
-def caption(folder):
+def circumstances(folder):
+    """What the figures were measured with, by name."""
     with open(os.path.join(folder, 'circumstances.tsv'), encoding='utf-8') as lines:
-        said = dict(line.rstrip('\n').split('\t', 1) for line in lines)
+        return dict(line.rstrip('\n').split('\t', 1) for line in lines)
+
+
+def caption(folder):
+    said = circumstances(folder)
     is_busy = float(said['load']) > float(said['processors']) / 2
     return filled((
         'Measured on {date}, with the crates of commit `{commit}`: {processor}, {processors} processors, load {load} as it '
@@ -162,14 +167,15 @@ def caption(folder):
         + (' **The machine was busy, so these figures say little**: run it again in a quiet hour.' if is_busy else ''))
 
 
-def record_in(document, text):
+def record_in(document, text, begin, end):
+    """Puts the text between two marker lines of a document."""
     with open(document, encoding='utf-8') as file:
-        before, _, rest = file.read().partition(BEGIN + '\n')
-    _, found, after = rest.partition(END + '\n')
+        before, _, rest = file.read().partition(begin + '\n')
+    _, found, after = rest.partition(end + '\n')
     if not found:
-        sys.exit('report.py: %s lacks its two marker lines' % document)
+        sys.exit('%s lacks the two marker lines of %s' % (document, begin))
     with open(document, 'w', encoding='utf-8') as file:
-        file.write(before + BEGIN + '\n\n' + text + '\n' + END + '\n' + after)
+        file.write(before + begin + '\n\n' + text + '\n' + end + '\n' + after)
 
 
 def main():
@@ -181,7 +187,7 @@ def main():
     text = '\n'.join([caption(folder), '', *beside(records), *alone(records)]) + '\n'
     print(text, end='')
     if len(sys.argv) == 3:
-        record_in(sys.argv[2], text)
+        record_in(sys.argv[2], text, BEGIN, END)
 
 
 if __name__ == '__main__':

@@ -1,51 +1,62 @@
 #!/usr/bin/env bash
-# Times the library, and the Rust crate beside it where a program that times that is given (docs/SPEED.md):
-#   bench/run.sh [--original PROGRAM] [--turns N] [--rounds N] [--millis N] [--seed N] [--record]
-# It writes bench/out/ and prints Markdown tables; with --record it puts the tables and the plot into docs/ too.
+# Times the library, and the Rust crate beside it where a program that times that is given (docs/SPEED.md).
 set -eu
+. "$(dirname "$0")/build.sh"
 
-give_up() {
-    echo "run.sh: $1" >&2
+usage='usage: bench/run.sh [OPTION]..
+
+Times each call over each traffic file, and prints Markdown tables. Everything it makes goes to bench/out/.
+
+  --original PROGRAM  times the Rust crate beside the library; the variable ORIGINAL does too
+  --turns 3           how often each file has its turn
+  --rounds 30         how many rounds a call has in a turn
+  --millis 3          how long a round is at least
+  --seed 1            the seed of the traffic files
+  --record            writes the tables into docs/SPEED.md, and the plot beside it
+  --help              prints this
+
+Needed are the toolchain, gcc and Python.'
+
+misused() {
+    echo "$usage" >&2
     exit 2
 }
 
 original=${ORIGINAL:-}
 turns=3 rounds=30 millis=3 seed=1 record=
 while [ $# -gt 0 ]; do
-    if [ "$1" = --record ]; then
-        record=yes
-        shift
-        continue
-    fi
-    [ $# -gt 1 ] || give_up "$1 is no option, or wants a value"
+    case $1 in
+        --help)
+            echo "$usage"
+            exit
+            ;;
+        --record)
+            record=yes
+            shift
+            continue
+            ;;
+    esac
+    [ $# -gt 1 ] || misused
     case $1 in
         --original) original=$2 ;;
         --turns) turns=$2 ;;
         --rounds) rounds=$2 ;;
         --millis) millis=$2 ;;
         --seed) seed=$2 ;;
-        *) give_up "$1 is no option" ;;
+        *) misused ;;
     esac
     shift 2
 done
-[ -z "$original" ] || [ -x "$original" ] || give_up "$original is no program"
+[ -z "$original" ] || [ -x "$original" ] || give_up "$original is not a program"
 [ -z "$original" ] || original=$(realpath "$original")
 
 cd "$(dirname "$0")/.."
-export PYTHONDONTWRITEBYTECODE=1
 out=bench/out
-mkdir -p "$out"
-# ahead of what it computes itself
+# before the load of its own work
 load=$(cut -d' ' -f1 /proc/loadavg)
 
-echo 'building the library: minutes the first time, since it is proved first' >&2
-(cd crates/speed_probes && rt lib) >"$out/library.log" 2>&1 || { tail -n 5 "$out/library.log" >&2; give_up 'no library'; }
-kit=$(dirname "$(rt doc)")
-gcc -O2 -Wall -Wextra -o "$out/driver" bench/driver.c crates/speed_probes/out/libspeed_probes.a "$kit/c/liblibc_c.a" \
-    -Wl,--wrap=malloc,--wrap=realloc
-
-rm -rf "$out/traffic"
-python3 bench/traffic.py "$seed" "$out/traffic"
+build_driver
+make_traffic "$seed"
 
 # What the figures were measured with, for the table's caption.
 {
@@ -73,5 +84,5 @@ for ((turn = 1; turn <= turns; turn++)); do
 done
 
 python3 bench/report.py "$out" ${record:+docs/SPEED.md}
-python3 bench/plot.py "$out/results.tsv" "$out/speed.svg"
+python3 bench/plot.py "$out" "$out/speed.svg"
 [ -z "$record" ] || cp "$out/speed.svg" docs/speed.svg

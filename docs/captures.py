@@ -1,9 +1,12 @@
 #!/usr/bin/env python3
-"""The page of captures, made by running the program.
+"""usage: docs/captures.py --write | --compare | --help
 
-  docs/captures.py            runs sctp_show (`rt try`) over the packets of docs/captures.txt, and writes
-                              docs/CAPTURES.md and the table of crates/sctp_show/src/tests/captures.rt
-  docs/captures.py --compare  runs nothing: fails where the page isn't what the table and captures.txt give
+Makes the page of captures, docs/CAPTURES.md, by running the program.
+
+  --write    runs sctp_show (`rt try`) over the packets of docs/captures.txt, and writes docs/CAPTURES.md and
+             the table of crates/sctp_show/src/tests/captures.rt
+  --compare  runs nothing; fails if the page isn't what the table and docs/captures.txt give
+  --help     prints this
 
 The table is a test of the program, so that the page can't go stale unseen.
 """
@@ -25,12 +28,12 @@ HEADER = '1388138801020304' + '00000000'
 PAGE_HEAD = '''# Packets of real peers
 
 Their chunks were captured; the header is the same in all: both ports 5000, tag 16909060, checksum 0. Each can be given to
-the program: `(cd crates/sctp_show && echo HEX | rt try)`. `docs/captures.py` makes this page of `docs/captures.txt` and of
-what the program prints, which a test holds too (`crates/sctp_show/src/tests/captures.rt`).
+the program: `(cd crates/sctp_show && echo HEX | rt try)`. `docs/captures.py --write` makes this page of `docs/captures.txt`
+and of what the program prints, which a test holds too (`crates/sctp_show/src/tests/captures.rt`).
 '''
 
 TABLE_HEAD = '''//! Packets of real peers, and what is printed of them: the rows of docs/CAPTURES.md. Written by
-//! docs/captures.py.
+//! `docs/captures.py --write`.
 
 use crate::tests::captured;
 
@@ -94,21 +97,38 @@ def table_of(rows):
     return TABLE_HEAD + ''.join(parts) + TABLE_END
 
 
-def main():
+def pages(rows):
+    """Each file that is made of the rows, and its text."""
+    return (PAGE, page_of(rows)), (TABLE, table_of(rows))
+
+
+def compare():
+    known = in_table()
+    for path, wanted in pages([(words, text, known.get(text, '')) for words, text in packets()]):
+        with open(path, encoding='utf-8') as file:
+            if file.read() != wanted:
+                sys.exit(f'captures: {os.path.relpath(path, ROOT)} is stale: run docs/captures.py --write')
+
+
+def write():
     entries = list(packets())
-    texts = [text for _, text in entries]
-    if sys.argv[1:] == ['--compare']:
-        known = in_table()
-        rows = [(words, text, known.get(text, '')) for words, text in entries]
-        for path, wanted in ((PAGE, page_of(rows)), (TABLE, table_of(rows))):
-            with open(path, encoding='utf-8') as file:
-                if file.read() != wanted:
-                    sys.exit(f'captures: {os.path.relpath(path, ROOT)} is stale: run docs/captures.py')
-        return
-    rows = [(words, text, answer) for (words, text), answer in zip(entries, printed(texts), strict=True)]
-    for path, wanted in ((PAGE, page_of(rows)), (TABLE, table_of(rows))):
+    answers = printed([text for _, text in entries])
+    for path, wanted in pages([(*entry, answer) for entry, answer in zip(entries, answers, strict=True)]):
         with open(path, 'w', encoding='utf-8') as file:
             file.write(wanted)
+
+
+def main():
+    words = sys.argv[1:]
+    if words == ['--compare']:
+        compare()
+    elif words == ['--write']:
+        write()
+    elif words in ([], ['--help']):
+        print(__doc__, end='')
+    else:
+        print(__doc__, end='', file=sys.stderr)
+        sys.exit(2)
 
 
 main()

@@ -106,6 +106,8 @@ pub fn list_check<T: ReadableTlv>(
 /// The number of parts of an item whose value is a list after so many bytes: the item and the items
 /// of the list; or the first fault of these, and how many bytes stand between the item's first byte
 /// and the fault. It takes no memory.
+// A part of its callers: as a call it would also copy the unused bytes of a fault that isn't there.
+#[inline(always)]
 pub fn listed_check<T: ReadableTlv>(
     strict: bool,
     value: &[u8],

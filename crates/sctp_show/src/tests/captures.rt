@@ -1,5 +1,5 @@
 //! Packets of real peers, and what is printed of them: the rows of docs/CAPTURES.md. Written by
-//! docs/captures.py.
+//! `docs/captures.py --write`.
 
 use crate::tests::captured;
 

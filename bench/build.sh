@@ -1,0 +1,30 @@
+# What bench/run.sh and bench/instructions.sh do first; they source it. Its functions run at the root of the
+# repository, and what they make goes to the folder $out.
+
+export PYTHONDONTWRITEBYTECODE=1
+archives='crates/speed_probes/out/libspeed_probes.a crates/strict_probes/out/libstrict_probes.a'
+
+give_up() {
+    echo "${0##*/}: $1" >&2
+    exit 2
+}
+
+# Builds the library, proved, and links the driver with it: $out/driver.
+build_driver() {
+    local crate kit
+    mkdir -p "$out"
+    echo 'building the library: minutes the first time, since it is proved first' >&2
+    for crate in speed_probes strict_probes; do
+        (cd "crates/$crate" && rt lib) >"$out/library.log" 2>&1 || { tail -n 5 "$out/library.log" >&2; give_up "no $crate"; }
+    done
+    kit=$(dirname "$(rt doc)")
+    # shellcheck disable=SC2086 # a list of paths without blanks
+    gcc -O2 -Wall -Wextra -o "$out/driver" bench/driver.c $archives "$kit/c/liblibc_c.a" \
+        -Wl,--wrap=malloc,--wrap=realloc
+}
+
+# Makes the traffic files of a seed: $out/traffic.
+make_traffic() {
+    rm -rf "$out/traffic"
+    python3 bench/traffic.py "$1" "$out/traffic"
+}
