@@ -41,9 +41,6 @@ pub struct LocatedFault {
 
 impl LocatedFault {
     /// A fault of an item as a whole, which is told by the item's first byte.
-    // A call on the way of a fault alone, so that no good item pays for it.
-    #[cold]
-    #[inline(never)]
     pub fn at_front(fault: ChunkParseError) -> LocatedFault
         ensures { result ≡ record { fault = fault; offset = 0 } }
     {

@@ -55,18 +55,22 @@ each_held : (b : BuilderState) (ts : List ChunkTree) → Holds b ts → AllByRec
 each_held b [] h = tt
 each_held b (t ∷ ts) h = h.each
 
-each-push : (ts : List ChunkTree) (t : ChunkTree) → AllByRecursion IsChunkEncodable ts → IsChunkEncodable t → AllByRecursion IsChunkEncodable (ts ++ t ∷ [])
-each-push [] t each last = (last, tt)
-each-push (u ∷ ts) t each last = (each.0, each-push ts t each.1 last)
+widths_held : (b : BuilderState) (ts : List ChunkTree) → Holds b ts → AllByRecursion IsChunkInWidth ts
+widths_held b [] h = tt
+widths_held b (t ∷ ts) h = h.widths
+
+each-push : (P : ChunkTree → Type 0) (ts : List ChunkTree) (t : ChunkTree) → AllByRecursion P ts → P t → AllByRecursion P (ts ++ t ∷ [])
+each-push P [] t each last = (last, tt)
+each-push P (u ∷ ts) t each last = (each.0, each-push P ts t each.1 last)
 
 holds_packet : (b : BuilderState) (ts : List ChunkTree) (t : ChunkTree) → HoldsPacket b (ts ++ t ∷ []) → Holds b (ts ++ t ∷ [])
 holds_packet b [] t h = h
 holds_packet b (u ∷ ts) t h = h
 
 -- the same settings, and the chunk's bytes after those that were there
-pub adds : (b after : BuilderState) (t : ChunkTree) → IsChunkEncodable t → round_up_to_4 (size_of (chunk_tlv t)) ≤ room b
+pub adds : (b after : BuilderState) (t : ChunkTree) → IsChunkEncodable t → IsChunkInWidth t → round_up_to_4 (size_of (chunk_tlv t)) ≤ room b
     → after ≡ record b { bytes = begun b b.bytes ++ padded_chunk t } → (ts : List ChunkTree) → Holds b ts → Holds after (ts ++ t ∷ [])
-adds b after t encodable fits is ts h =
+adds b after t encodable width fits is ts h =
     let new = record b { bytes = begun b b.bytes ++ padded_chunk t } in
     let bytes : new.bytes ≡ canonical (meaning_with b (ts ++ t ∷ [])) = ap (λ (xs : List ℕ). xs ++ padded_chunk t) (begun_held b ts h) ∙ canonical-push (meaning_with b ts) t in
     let len = ap length bytes ∙ length-canonical (meaning_with b (ts ++ t ∷ [])) in
@@ -74,7 +78,8 @@ adds b after t encodable fits is ts h =
     let left = room_after b ts h in
     subst (λ (s : BuilderState). Holds s (ts ++ t ∷ [])) (sym is) (
     holds_packet new ts t (record {
-      each = each-push ts t (each_held b ts h) encodable;
+      each = each-push IsChunkEncodable ts t (each_held b ts h) encodable;
+      widths = each-push IsChunkInWidth ts t (widths_held b ts h) width;
       bytes = bytes;
       within = omega (arith, len, more, left, fits);
     }))
@@ -108,11 +113,11 @@ in_words : (ts : List ChunkTree) (limit : ℕ) → 12 + padded_size ts ≤ limit
 in_words ts limit h le = let e = padded_size-is ts in omega (arith, e, h, le)
 
 pub built_reads_back : (b : BuilderState) (field word : ℕ) (policy : ChecksumPolicy) (ts : List ChunkTree) → field < 2 ^ 32 → b.source < 2 ^ 16 → b.destination < 2 ^ 16 → b.tag < 2 ^ 32 → b.limit ≤ 65535
-    → Holds b ts → ts ≢ [] → AllByRecursion IsChunkInWidth ts
+    → Holds b ts → ts ≢ []
     → AllByRecursion IsChunkWellFormed (kept_chunks ts)
     → IsAccepted policy (checksum_field (built b field)) word
     → Answer (built b field) word policy (Ok (record { meaning = meaning_with b (kept_chunks ts); checksum = checksum_field (built b field) }))
-built_reads_back b field word policy ts field_ok source destination tag short h some width readable accepted =
+built_reads_back b field word policy ts field_ok source destination tag short h some readable accepted =
     let p = held b ts some h in
     let m = meaning_with b (kept_chunks ts) in
     let n = field_of b.writes_checksum field in
@@ -129,7 +134,7 @@ built_reads_back b field word policy ts field_ok source destination tag short h 
       source = source;
       destination = destination;
       tag = tag;
-      each = all_map IsChunkInWidth IsChunkInWidth kept_chunk kept_width ts width;
+      each = all_map IsChunkInWidth IsChunkInWidth kept_chunk kept_width ts p.widths;
     } in
     subst (λ (bytes : List ℕ). Answer bytes word policy (Ok (record { meaning = m; checksum = checksum_field bytes }))) (sym is)
     (subst (λ (f : ℕ). Answer (with_field m n) word policy (Ok (record { meaning = m; checksum = f }))) (sym (field_back m n n_fits))

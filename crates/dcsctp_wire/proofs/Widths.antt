@@ -256,7 +256,7 @@ skipped_streams_width ss f = each skipped_stream.Fact IsSkippedStreamInWidth ski
 abbrev block : Known GapAckBlock.the_row
 block = declared_known GapAckBlock.the_type (uint_known w16 & uint_known w16 & tt)
 
-abbrev chunk : Known Chunk.the_row
+abbrev pub chunk : Known Chunk.the_row
 chunk = declared_enum_known Chunk.the_type (
     one (fields DataChunk.the_type (user_data & tsn & nothing_known _ & tt)) &
     one (fields InitChunk.the_type (uint_known w32 & uint_known w32 & uint_known w16 & uint_known w16 & tsn & parameter_list & tt)) &
@@ -280,7 +280,7 @@ chunk = declared_enum_known Chunk.the_type (
 user_data_width : (n : ℕ) → n < 2 ^ 32 → (d : (Data.the_row).Denot) (at_once : Bool) → user_data.Fact ((Data.the_type).to d) → IsUserDataInWidth (record { tsn = n; user_data = user_data_view d; immediate_ack = at_once })
 user_data_width n low d at_once f = record { tsn = low; stream = stream_width d.stream_key f.1.1.1.1.0; ssn = f.1.1.1.1.1.0.0; mid = f.1.0.0; fsn = f.1.1.0.0; ppid = f.1.1.1.0.0; payload = bytes_width d.payload.items f.0 }
 
-chunk_width : (c : (Chunk.the_row).Denot) → chunk.Fact c → IsChunkInWidth (view c)
+pub chunk_width : (c : (Chunk.the_row).Denot) → chunk.Fact c → IsChunkInWidth (view c)
 chunk_width (kinds.Data c) f = user_data_width c.tsn.0 f.0.1.0.0 c.user_data c.immediate_ack f.0.0
 chunk_width (kinds.Init c) f = record { tag = f.0.0; window = f.0.1.0; outbound = f.0.1.1.0; inbound = f.0.1.1.1.0; tsn = f.0.1.1.1.1.0.0; each = parameters_width c.parameters.items f.0.1.1.1.1.1.0 }
 chunk_width (kinds.InitAck c) f = record { tag = f.0.0; window = f.0.1.0; outbound = f.0.1.1.0; inbound = f.0.1.1.1.0; tsn = f.0.1.1.1.1.0.0; each = parameters_width c.parameters.items f.0.1.1.1.1.1.0 }

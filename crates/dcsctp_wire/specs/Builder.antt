@@ -3,7 +3,7 @@ use Rattle.std.specs.Prelude.{◌≡◌, ◌≢◌, ℕ, ◌-◌, ◌^◌, ◌<�
 use Rattle.std.specs.List.{AllByRecursion}
 use Rattle.std.specs.Int.{w32, to_be_bytes}
 use Rattle.dcsctp_tlv.specs.Image.{put}
-use Rattle.dcsctp_wire.specs.Chunk.{ChunkTree, IsChunkEncodable}
+use Rattle.dcsctp_wire.specs.Chunk.{ChunkTree, IsChunkEncodable, IsInWidth as IsChunkInWidth}
 use Rattle.dcsctp_wire.specs.Packet.{Meaning}
 use Rattle.dcsctp_wire.specs.Canonical.{canonical}
 
@@ -24,9 +24,10 @@ abbrev pub meaning_with : BuilderState → List ChunkTree → Meaning
 meaning_with b chunks =
     record { source = b.source; destination = b.destination; tag = b.tag; chunks = chunks }
 
--- the bytes are these chunks' canonical packet, within the limit
+-- the bytes are these chunks' canonical packet, within the limit; the chunks are values of the code
 pub record HoldsPacket (b : BuilderState) (chunks : List ChunkTree) : Type 0 where
   pub each : AllByRecursion IsChunkEncodable chunks
+  pub widths : AllByRecursion IsChunkInWidth chunks
   pub bytes : b.bytes ≡ canonical (meaning_with b chunks)
   pub within : length b.bytes ≤ b.limit
 

@@ -49,6 +49,7 @@ use crate::packet::reconfiguration_response_parameter::{
     PARAMETER_TYPE as RECONFIGURATION_RESPONSE, ReconfigurationResponseResult,
 };
 use crate::packet::sack_chunk::{CHUNK_TYPE as SACK, GapAckBlock};
+pub use crate::packet::chunk::chunk_has_widths;
 pub use crate::packet::sctp_packet::has_widths;
 use crate::packet::sctp_packet::{COMMON_HEADER_SIZE, FirstFault, PacketParseError};
 use crate::packet::shutdown_ack_chunk::CHUNK_TYPE as SHUTDOWN_ACK;

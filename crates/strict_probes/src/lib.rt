@@ -7,8 +7,7 @@
 
 ghost use Rattle.std.specs.Prelude.{◌≡◌, Ok};
 ghost use Rattle.dcsctp_wire.specs.Account.{node_count};
-ghost use Rattle.dcsctp_wire.specs.Exact.{IsPacket};
-ghost use Rattle.dcsctp_wire.specs.Packet.{PacketTree, Answer};
+ghost use Rattle.dcsctp_wire.specs.Packet.{PacketTree, Answer, IsPacket};
 ghost use Rattle.strict_probes.specs.Policy.{any_checksum};
 
 use dcsctp_wire::api::ZERO_CHECKSUM_ALTERNATE_ERROR_DETECTION_METHOD_NONE;

@@ -4,14 +4,14 @@
 ghost use Rattle.std.specs.Prelude.{◌≡◌, ◌≢◌, ◌≤◌, ◌+◌, ◌-◌, ◌*◌, ◌/◌, ◌++◌, ◌∷◌, [], ◌↔◌, ℕ, List, true, max, length, take, drop, vec_len, vec_capacity, IsTrue, IsOk, OnOk, OnErr};
 ghost use Rattle.dcsctp_tlv.specs.Frame.{round_up_to_4};
 ghost use Rattle.dcsctp_tlv.specs.Image.{size_of, image_of, written};
-ghost use Rattle.dcsctp_wire.specs.Chunk.{ChunkTree, tlv as chunk_tlv, IsChunkEncodable, view, all_kept as kept_chunks, IsInWidth as IsChunkInWidth, IsWellFormed as IsChunkWellFormed};
+ghost use Rattle.dcsctp_wire.specs.Chunk.{ChunkTree, tlv as chunk_tlv, IsChunkEncodable, view, all_kept as kept_chunks, IsWellFormed as IsChunkWellFormed};
 ghost use Rattle.dcsctp_wire.specs.Canonical.{padded_chunk, padded_size};
 ghost use Rattle.dcsctp_wire.specs.Builder.{Holds, IsHeaderInWidth, meaning_with, room, begun, built};
 ghost use Rattle.dcsctp_wire.specs.Packet.{IsAccepted, checksum_field, Answer};
 ghost use Rattle.dcsctp_wire.specs.declared.packet.sctp_packet.ChecksumPolicy.{ChecksumPolicy};
 ghost use Rattle.std.specs.List.{AllByRecursion};
 
-use crate::packet::chunk::Chunk;
+use crate::packet::chunk::{Chunk, chunk_has_widths};
 use crate::packet::sctp_packet::{COMMON_HEADER_SIZE, header_bytes};
 use dcsctp_tlv::number::{put_u32, round_up_to_4};
 use dcsctp_tlv::tlv::SerializableTlv;
@@ -111,6 +111,7 @@ impl SctpPacketBuilder {
         ensures succeeds { self.old.bytes ≢ [] → IsOk result }
     {
         self.begin()?;
+        chunk_has_widths(chunk);
         append_chunk(&mut self.bytes, chunk);
         Ok(())
     }
@@ -169,7 +170,6 @@ impl SctpPacketBuilder {
         ensures empty { self.new ≡ record self.old { bytes = [] } }
         ensures reads_back { self.old.limit ≤ 65535 → (chunks : List ChunkTree)
             → Holds self.old chunks → chunks ≢ []
-            → AllByRecursion IsChunkInWidth chunks
             → AllByRecursion IsChunkWellFormed (kept_chunks chunks)
             → (word : ℕ) (policy : ChecksumPolicy)
             → IsAccepted policy (checksum_field result.items) word

@@ -5,7 +5,7 @@ ghost use Rattle.dcsctp_tlv.specs.Frame.{lenient};
 ghost use Rattle.dcsctp_tlv.specs.Level.{HasMeaning, Grows};
 ghost use Rattle.dcsctp_tlv.specs.Reading.{Exactly, reading, RowAnswer};
 ghost use Rattle.dcsctp_wire.specs.Chunk as chunk;
-ghost use Rattle.dcsctp_wire.specs.Chunk.{parts as chunk_parts, ChunkTree, chunk_row, chunks, TakesNoMemory, IsPlaced, text as chunk_text, view};
+ghost use Rattle.dcsctp_wire.specs.Chunk.{parts as chunk_parts, ChunkTree, chunk_row, chunks, TakesNoMemory, IsPlaced, text as chunk_text, view, IsInWidth};
 
 use crate::packet::abort_chunk::{self, AbortChunk};
 use crate::packet::cookie_ack_chunk::{self, CookieAckChunk};
@@ -268,6 +268,12 @@ impl Chunk {
         }
     }
 }
+
+/// A law of chunks: every number of a chunk lies in its field's width, and every text is one, by
+/// their types. It does nothing.
+pub fn chunk_has_widths(chunk: &Chunk)
+    ensures { IsInWidth (view chunk.now) }
+{}
 
 impl ReadableTlv for Chunk {
     ghost Tree = { ChunkTree };
