@@ -1,7 +1,7 @@
 //! Packets that are built chunk by chunk: the common header, and after it each chunk with its
 //! padding. A packet's bytes are reserved once, and written in place.
 
-ghost use Rattle.std.specs.Prelude.{◌≡◌, ◌≢◌, ◌≤◌, ◌+◌, ◌-◌, ◌*◌, ◌/◌, ◌++◌, ◌∷◌, [], ◌↔◌, ℕ, List, true, max, length, take, drop, vec_len, vec_capacity, IsTrue, IsOk, OnOk, OnErr};
+ghost use Rattle.std.specs.Prelude.{◌≡◌, ◌≢◌, ◌≤◌, ◌+◌, ◌-◌, ◌*◌, ◌/◌, ◌++◌, ◌∷◌, [], ◌↔◌, ℕ, List, true, false, max, length, take, drop, vec_len, vec_capacity, IsTrue, IsOk, IfOk, OnOk, OnErr};
 ghost use Rattle.dcsctp_tlv.specs.Frame.{round_up_to_4};
 ghost use Rattle.dcsctp_tlv.specs.Image.{size_of, image_of, written};
 ghost use Rattle.dcsctp_wire.specs.Chunk.{ChunkTree, tlv as chunk_tlv, IsChunkEncodable, view, all_kept as kept_chunks, IsWellFormed as IsChunkWellFormed};
@@ -114,6 +114,29 @@ impl SctpPacketBuilder {
         chunk_has_widths(chunk);
         append_chunk(&mut self.bytes, chunk);
         Ok(())
+    }
+
+    /// Adds the chunk where `add` may be called: it is `encodable`, and `bytes_remaining` has room
+    /// for it. Else the answer is false, and nothing is changed.
+    ///
+    /// For callers that don't prove the conditions of `add`. Memory can run out only where the chunk
+    /// has room, and nothing was added before; then nothing is changed.
+    pub fn try_add(&mut self, chunk: &Chunk) -> Result<bool, AllocError>
+        ensures fits { IfOk result (λ added. IsTrue added ↔ (IsChunkEncodable (view chunk.now)
+            × (round_up_to_4 (size_of (chunk_tlv (view chunk.now))) ≤ room self.old))) }
+        ensures added { IfOk result (λ added. added ≡ true → (chunks : List ChunkTree)
+            → Holds self.old chunks → Holds self.new (chunks ++ view chunk.now ∷ [])) }
+        ensures not_empty { IfOk result (λ added. added ≡ true → self.new.bytes ≢ []) }
+        ensures settings { self.new ≡ record self.old { bytes = self.new.bytes } }
+        ensures declined { IfOk result (λ added. added ≡ false → self.new ≡ self.old) }
+        ensures refused { OnErr result (self.new ≡ self.old) }
+        ensures succeeds { self.old.bytes ≢ [] → IsOk result }
+    {
+        if !chunk.encodable() || round_up_to_4(chunk.serialized_size()) > self.bytes_remaining() {
+            return Ok(false);
+        }
+        self.add(chunk)?;
+        Ok(true)
     }
 
     /// Reserves the packet and writes its header, unless they are there.
