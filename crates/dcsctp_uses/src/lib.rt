@@ -2,20 +2,24 @@
 //! from the library's clauses alone.
 #![tactic(auto)]
 
-ghost use Rattle.std.specs.Prelude.{◌≡◌, ◌↔◌, ◌≤◌, ◌+◌, ◌*◌, ◌/◌, ◌∷◌, [], true, Ok, IsTrue, IfOk, IsErrOf, IfSome, IfNone, option_map, vec_capacity};
+ghost use Rattle.std.specs.Prelude.{ℕ, ◌≡◌, ◌↔◌, ◌≤◌, ◌+◌, ◌*◌, ◌/◌, ◌∷◌, [], true, Ok, IsTrue, IfOk, IsErrOf, IfSome, IfNone, option_map, vec_capacity};
 ghost use Rattle.std.specs.Int.{w32, to_be_bytes, to_le_bytes};
 ghost use Rattle.dcsctp_chunk.specs.Cover.{Covers, IsRuns};
 ghost use Rattle.dcsctp_chunk.specs.Data.{user_data_view};
 ghost use Rattle.dcsctp_wire.specs.Builder.{Holds};
 ghost use Rattle.dcsctp_wire.specs.Canonical.{canonical, padded_size, Fits};
-ghost use Rattle.dcsctp_wire.specs.Chunk.{InitAck, IsChunkEncodable, view};
+ghost use Rattle.dcsctp_wire.specs.Chunk.{InitAck, Sack, Data as DataOf, IsChunkEncodable, view};
 ghost use Rattle.dcsctp_wire.specs.InitAck as init_ack;
-ghost use Rattle.dcsctp_wire.specs.Packet.{PacketTree, PacketFault, Answer, IsPacket, packet_error_of};
+ghost use Rattle.dcsctp_wire.specs.Packet.{PacketTree, PacketFault, Answer, IsPacket, IsAccepted, checksum_field, packet_error_of};
+ghost use Rattle.dcsctp_wire.specs.declared.packet.sctp_packet.ChecksumPolicy.{ChecksumPolicy};
+ghost use Rattle.dcsctp_chunk.specs.Sack as sack_chunk;
+ghost use Rattle.dcsctp_chunk.specs.DataChunk as data_chunk;
 ghost use Rattle.dcsctp_uses.specs.UserData.{user_data_of};
 
 use dcsctp_wire::packet::chunk::Chunk;
 use dcsctp_wire::packet::chunk_validators::clean_sack;
 use dcsctp_wire::packet::data::Data;
+use dcsctp_wire::packet::data_chunk::DataChunk;
 use dcsctp_wire::packet::init_ack_chunk::InitAckChunk;
 use dcsctp_wire::packet::init_chunk::InitChunk;
 use dcsctp_wire::packet::sack_chunk::{GapAckBlock, SackChunk};
@@ -114,6 +118,56 @@ pub fn init_answer(
     }
     builder.add(&chunk)?;
     Ok(Some(builder))
+}
+
+/// A packet of a SACK and DATA, from the receiver of a packet back to its sender. Nothing where the
+/// two have no room within the limit.
+///
+/// `word` is written into the checksum field. A sender computes it over `as_bytes` of the builder
+/// (`checksum_word`).
+pub fn acknowledgment_with_data(
+    alloc: Global,
+    header: &CommonHeader,
+    sack: SackChunk,
+    message: DataChunk,
+    limit: u16,
+    word: u32,
+) -> Result<Option<Vec<u8>>, AllocError>
+    // What `from_bytes` gives for the bytes, under each word and policy that accept their checksum:
+    // the SACK and the DATA, but for fields that DATA doesn't carry.
+    ensures reads { IfOk result (λ made. IfSome made (λ bytes.
+        (expected : ℕ) (policy : ChecksumPolicy)
+        → IsAccepted policy (checksum_field bytes.items) expected
+        → Answer bytes.items expected policy (Ok (record {
+          meaning = record {
+            source = header.now.destination_port;
+            destination = header.now.source_port;
+            tag = header.now.verification_tag;
+            chunks = Sack (sack_chunk.view sack) ∷ DataOf (data_chunk.kept (data_chunk.view message)) ∷ [];
+          };
+          checksum = checksum_field bytes.items;
+        })))) }
+{
+    let (source, destination) = (header.destination_port, header.source_port);
+    let tag = header.verification_tag;
+    let mut builder = SctpPacketBuilder::new(alloc, tag, source, destination, limit as usize);
+    if !add_both(&mut builder, &Chunk::Sack(sack), &Chunk::Data(message))? {
+        return Ok(None);
+    }
+    Ok(Some(builder.build(word)))
+}
+
+/// Adds two chunks; the answer is false where one of them has no room.
+fn add_both(
+    builder: &mut SctpPacketBuilder,
+    first: &Chunk,
+    second: &Chunk,
+) -> Result<bool, AllocError>
+    ensures holds { IfOk result (λ added. added ≡ true → Holds builder.old []
+        → Holds builder.new (view first.now ∷ view second.now ∷ [])) }
+    ensures settings { builder.new ≡ record builder.old { bytes = builder.new.bytes } }
+{
+    Ok(builder.try_add(first)? && builder.try_add(second)?)
 }
 
 /// The offsets that a SACK acknowledges beyond its cumulative TSN, in as few blocks as there can
