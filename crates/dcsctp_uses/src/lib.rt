@@ -2,6 +2,9 @@
 //! from the library's clauses alone.
 #![tactic(auto)]
 
+#[cfg(test)]
+mod tests;
+
 ghost use Rattle.std.specs.Prelude.{ℕ, ◌≡◌, ◌↔◌, ◌≤◌, ◌+◌, ◌*◌, ◌/◌, ◌∷◌, [], true, Ok, IsTrue, IfOk, IsErrOf, IfSome, IfNone, option_map, vec_capacity};
 ghost use Rattle.std.specs.Int.{w32, to_be_bytes, to_le_bytes};
 ghost use Rattle.dcsctp_chunk.specs.Cover.{Covers, IsRuns};

@@ -165,11 +165,21 @@ fn built(rt: HostRuntime) -> Result<(), Fail> {
     Ok(())
 }
 
+/// Adds the chunk that the bytes are, by the call that asks for the room itself.
+fn try_add(
+    alloc: Global,
+    builder: &mut SctpPacketBuilder,
+    bytes: &[u8],
+) -> Result<bool, ChunkParseError> {
+    let chunk = chunk_of(alloc, bytes)?;
+    Ok(builder.try_add(&chunk)?)
+}
+
 /// The room of a limit, whether a chunk without value fits, and the room after it.
 fn rooms_of(alloc: Global, limit: usize) -> Result<(usize, bool, usize), ChunkParseError> {
     let mut builder = SctpPacketBuilder::new(alloc, 7, 1, 2, limit);
     let room = builder.bytes_remaining();
-    let fits = add(alloc, &mut builder, COOKIE_ACK)?;
+    let fits = try_add(alloc, &mut builder, COOKIE_ACK)?;
     Ok((room, fits, builder.bytes_remaining()))
 }
 
