@@ -17,8 +17,8 @@ pub record Errors (F E : Type 0) : Type 1 where
   pub of : F → E
   pub lack : E → Type 0
 
--- What the call gives, the grammar gives: the value that was read, or a fault whose error is told;
--- or memory ran out.
+-- What the call gives, the grammar gives: the value that was read, or a fault whose error this is; or
+-- memory ran out.
 abbrev pub Answers : {X T E F : Type 0} → Errors F E → (X → T) → (Result T F → Type 0)
     → Result X E → Type 0
 Answers errors view answer (Ok x) = answer (Ok (view x))
@@ -93,7 +93,7 @@ abbrev pub ListLocated : {T : Type 0} → Level T → (T → ℕ) → List ℕ
 ListLocated level parts bytes (Ok n) = MeansCounted level parts bytes n.0 n.1
 ListLocated level parts bytes (Err f) = HasFaultAt level bytes f.0 f.1
 
--- to a list in a value, after so many bytes: the item and the items of the list, counted; or the
+-- to a list in a value, from a place on: the number of the item and of the list's items; or the
 -- list's fault, and where it lies, from the item's first byte on
 abbrev pub ListedLocated : {T : Type 0} → Level T → ℕ → List ℕ → Result ℕ (Fault × ℕ) → Type 0
 ListedLocated level place value (Ok n) =

@@ -32,15 +32,15 @@ pub enum ChunkParseError {
 /// The first fault of the bytes, and where it lies.
 #[derive(Drop)]
 pub struct LocatedFault {
-    // A number first: it then shares its place in a `Result` with the number of a good answer.
-    /// How many bytes stand ahead of it.
+    // A number first: in a `Result` it then shares its place with the number of a good answer.
+    /// The fault's offset in bytes, from the first byte that was checked.
     pub offset: usize,
     /// What is wrong; never that memory ran out.
     pub fault: ChunkParseError,
 }
 
 impl LocatedFault {
-    /// A fault of an item as a whole, which is told by the item's first byte.
+    /// Locates a fault of an item as a whole, which is at the item's first byte.
     pub fn at_front(fault: ChunkParseError) -> LocatedFault
         ensures { result ≡ record { fault = fault; offset = 0 } }
     {

@@ -81,9 +81,9 @@ pub fn first_nonzero(bytes: &[u8]) -> usize
     bytes.iter().take_while(|byte| **byte == 0).count()
 }
 
-/// How many bytes of the frame at the front stand ahead of the first byte of its padding that isn't
-/// zero, or else of the first that is missing.
-// Counted on the way of a fault alone, so that no good item pays for it.
+/// Returns the offset of the first padding byte that isn't zero in the frame at the front, or else
+/// of the first padding byte that is missing.
+// A cold call, so that no valid item pays for it.
 #[cold]
 #[inline(never)]
 pub fn padding_fault(bytes: &[u8]) -> usize

@@ -24,9 +24,8 @@ pub trait ReadableTlv: Sized + Drop {
     /// It and the items within it, counted.
     ghost parts: { Tree → ℕ };
 
-    /// The number of parts of what an item's value means, each of which has four bytes of its own;
-    /// or its fault, and how many bytes stand between the item's first byte and the fault. It takes
-    /// no memory.
+    /// Counts the parts of what an item's value means, each of which has four bytes of its own; or
+    /// returns its fault, with the offset from the item's first byte. Does not allocate.
     fn check(strict: bool, first: u8, second: u8, value: &[u8]) -> Result<usize, LocatedFault>
         ensures found { Answers locating (λ n. n)
             (RowLocated parts ((level strict).row first second) value.now) result }
@@ -53,14 +52,14 @@ pub trait ReadableTlv: Sized + Drop {
         ensures { result ≡ (level strict).padding size there.now };
 }
 
-/// The number of items, and that of all parts; or the first fault from the left, and how many bytes
-/// stand ahead of it. It takes no memory.
+/// Counts the items and all their parts; or returns the first fault from the left, with its offset.
+/// Does not allocate.
 ///
-/// Where it is strict it also looks at the padding of each item, after its value.
+/// A strict check also looks at the padding of each item, after its value.
 ///
-/// An item whose frame or value is at fault is told by its first byte; the innermost item, where it
-/// is an item of a list in a value. Of padding the first byte that isn't zero is told, or the place
-/// of the first that is missing.
+/// A fault of a frame or of a value is at the item's first byte: of the innermost item, if that is in
+/// a list in a value. A fault of padding is at the first byte that isn't zero, or else where the
+/// first missing byte would be.
 pub fn list_check<T: ReadableTlv>(
     strict: bool,
     bytes: &[u8],
@@ -103,9 +102,9 @@ pub fn list_check<T: ReadableTlv>(
     Ok((items, parts))
 }
 
-/// The number of parts of an item whose value is a list after so many bytes: the item and the items
-/// of the list; or the first fault of these, and how many bytes stand between the item's first byte
-/// and the fault. It takes no memory.
+/// Counts the parts of an item whose value is a list from byte `place` on: the item and the items of
+/// the list; or returns the list's first fault, with the offset from the item's first byte. Does not
+/// allocate.
 // A part of its callers: as a call it would also copy the unused bytes of a fault that isn't there.
 #[inline(always)]
 pub fn listed_check<T: ReadableTlv>(

@@ -269,8 +269,8 @@ impl Chunk {
     }
 }
 
-/// A law of chunks: every number of a chunk lies in its field's width, and every text is one, by
-/// their types. It does nothing.
+/// A law of chunks: every number of a chunk lies in its field's width, and every text is UTF-8, by
+/// their types. A proof-only function: calling it costs nothing.
 pub fn chunk_has_widths(chunk: &Chunk)
     ensures { IsInWidth (view chunk.now) }
 {}

@@ -78,11 +78,10 @@ impl ErrorChunk {
         Ok(ErrorChunk::build(alloc, value)?)
     }
 
-    /// The number of parts: the chunk and its causes. `InvalidLength` where there are no causes;
-    /// else the first fault of these from the left. It takes no memory.
+    /// Counts the parts: the chunk and its causes. `InvalidLength` where there are no causes; else
+    /// the first fault of these from the left. Does not allocate.
     ///
-    /// With a fault comes how many bytes stand between the chunk's first byte and it: none, where
-    /// there are no causes.
+    /// A fault's offset counts from the chunk's first byte; it is 0 where there are no causes.
     pub(crate) fn check(value: &[u8], strict: bool) -> Result<usize, LocatedFault>
         ensures found { Answers locating (λ n. n)
             (RowLocated (λ cs. 1 + length cs) (kind.row strict) value.now) result }

@@ -27,11 +27,11 @@ pub(crate) struct InitFields {
     pub parameters: Vec<Parameter>,
 }
 
-/// The number of parts: the chunk and its parameters. `InvalidLength` where the value has fewer
-/// than 16 bytes; else the first fault of the parameters from the left. It takes no memory.
+/// Counts the parts: the chunk and its parameters. `InvalidLength` where the value has fewer than 16
+/// bytes; else the first fault of the parameters from the left. Does not allocate.
 ///
-/// With a fault comes how many bytes stand between the chunk's first byte and it: none, where the
-/// value has fewer than 16 bytes.
+/// A fault's offset counts from the chunk's first byte; it is 0 where the value has fewer than 16
+/// bytes.
 pub(crate) fn init_check(value: &[u8], strict: bool) -> Result<usize, LocatedFault>
     ensures found { Answers locating (λ n. n)
         (RowLocated init_parts (init_row strict) value.now) result }

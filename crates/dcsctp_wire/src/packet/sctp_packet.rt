@@ -42,7 +42,7 @@ use thiserror::Error;
 /// The bytes of the common header.
 pub const COMMON_HEADER_SIZE: usize = 12;
 
-/// The bytes ahead of the checksum field.
+/// The offset of the checksum field.
 const CHECKSUM_OFFSET: usize = 8;
 
 /// The fewest bytes of a packet: the common header and one chunk without value.
@@ -271,8 +271,8 @@ pub fn has_widths(packet: &SctpPacket)
     ensures { IsInWidth (meaning_view packet.now) }
 {}
 
-/// The numbers of chunks and of all parts; or the first fault, and where it lies: what it finds, and
-/// no law of it.
+/// Counts the chunks, and all parts; or returns the first fault with its offset. Shared by `check`,
+/// `first_fault` and `from_bytes`; proves only that this is the grammar's answer.
 // A part of its callers, also where a program has more than one.
 #[inline(always)]
 pub(crate) fn check_packet(
