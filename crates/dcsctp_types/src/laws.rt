@@ -36,11 +36,12 @@ pub fn window<S: SerialNumber>()
         × (¬ IsGreater S.space (S.position y) (S.position x)) }
 {}
 
-/// The orders of ids, keys and times: stream ids and lifecycle ids stand by their numbers, times by
-/// their durations; every ordered key is less than every unordered one, and keys of one kind stand
-/// by their stream ids.
+/// The orders of ids, keys and times: stream ids, payload protocol ids and lifecycle ids stand by
+/// their numbers, times by their durations; every ordered key is less than every unordered one, and
+/// keys of one kind stand by their stream ids.
 pub fn orders()
     ensures stream_ids { (a b : StreamId) → ⟦<StreamId as Ord>⟧.cmp a b ≡ nat_cmp a.0 b.0 }
+    ensures ppids { (a b : PpId) → ⟦<PpId as Ord>⟧.cmp a b ≡ nat_cmp a.0 b.0 }
     ensures ordered_keys { (a b : StreamId)
         → ⟦<StreamKey as Ord>⟧.cmp (StreamKey.Ordered a) (StreamKey.Ordered b) ≡ nat_cmp a.0 b.0 }
     ensures unordered_keys { (a b : StreamId)
