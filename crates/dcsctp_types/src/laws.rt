@@ -75,3 +75,14 @@ pub fn methods()
     ensures none { NONE.0 ≡ 0 }
     ensures dtls { DTLS.0 ≡ 1 }
 {}
+
+/// The payload protocol identifiers of WebRTC data channels have these numbers (RFC 8831 section 8).
+pub fn webrtc_ppids()
+    ensures dcep { PpId.WEBRTC_DCEP.0 ≡ 50 }
+    ensures string { PpId.WEBRTC_STRING.0 ≡ 51 }
+    ensures binary_partial { PpId.WEBRTC_BINARY_PARTIAL.0 ≡ 52 }
+    ensures binary { PpId.WEBRTC_BINARY.0 ≡ 53 }
+    ensures string_partial { PpId.WEBRTC_STRING_PARTIAL.0 ≡ 54 }
+    ensures string_empty { PpId.WEBRTC_STRING_EMPTY.0 ≡ 56 }
+    ensures binary_empty { PpId.WEBRTC_BINARY_EMPTY.0 ≡ 57 }
+{}

@@ -5,6 +5,7 @@ use dcsctp_types::api::{
     ZERO_CHECKSUM_ALTERNATE_ERROR_DETECTION_METHOD_LOWER_LAYER_DTLS,
     ZERO_CHECKSUM_ALTERNATE_ERROR_DETECTION_METHOD_NONE, ZeroChecksumAlternateErrorDetectionMethod,
 };
+use dcsctp_types::laws;
 use dcsctp_types::types::{Fsn, Mid, OutgoingMessageId, Ssn, StreamKey, Tsn};
 use std::alloc::{AllocError, Global};
 use std::fmt::{Debug, Display};
@@ -134,6 +135,14 @@ fn numbers_convert(rt: HostRuntime) {
         made_of::<u32, ZeroChecksumAlternateErrorDetectionMethod>(1),
         ZERO_CHECKSUM_ALTERNATE_ERROR_DETECTION_METHOD_LOWER_LAYER_DTLS
     );
+}
+
+#[test]
+fn webrtc_ppids(rt: HostRuntime) {
+    assert_eq!(rt; PpId::WEBRTC_DCEP, PpId(50));
+    assert_eq!(rt; PpId::WEBRTC_STRING, PpId(51));
+    assert_eq!(rt; PpId::WEBRTC_BINARY, PpId(53));
+    laws::webrtc_ppids();
 }
 
 /// What a number prints, plainly and for a developer.

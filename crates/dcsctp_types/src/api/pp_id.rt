@@ -10,6 +10,30 @@ use std::fmt;
 #[derive(Clone, Copy, PartialEq, Eq, PartialOrd, Ord, Hash)]
 pub struct PpId(pub u32);
 
+/// The identifiers of WebRTC data channels (RFC 8831 section 8).
+impl PpId {
+    /// Messages of the data channel establishment protocol (RFC 8832): 50.
+    pub const WEBRTC_DCEP: PpId = PpId(50);
+
+    /// A string in UTF-8: 51.
+    pub const WEBRTC_STRING: PpId = PpId(51);
+
+    /// A part of a binary message; deprecated: 52.
+    pub const WEBRTC_BINARY_PARTIAL: PpId = PpId(52);
+
+    /// A binary message: 53.
+    pub const WEBRTC_BINARY: PpId = PpId(53);
+
+    /// A part of a string; deprecated: 54.
+    pub const WEBRTC_STRING_PARTIAL: PpId = PpId(54);
+
+    /// An empty string, sent as one byte that is ignored: 56.
+    pub const WEBRTC_STRING_EMPTY: PpId = PpId(56);
+
+    /// An empty binary message, sent as one byte that is ignored: 57.
+    pub const WEBRTC_BINARY_EMPTY: PpId = PpId(57);
+}
+
 /// The payload protocol identifier of number `n`.
 impl From<u32> for PpId {
     ghost from_gives = { λ n ppid. ppid.0 ≡ n };
