@@ -1,5 +1,7 @@
 //! Ids, times, messages and settings, which an application hands over or is handed.
 
+ghost use Rattle.std.specs.Prelude.{◌≡◌};
+
 mod lifecycle_id;
 mod message;
 mod pp_id;
@@ -15,6 +17,15 @@ pub use stream_id::StreamId;
 /// How packets are protected where they carry no checksum (RFC 9653 section 4).
 #[derive(Clone, Copy, Debug, PartialEq, Eq)]
 pub struct ZeroChecksumAlternateErrorDetectionMethod(pub u32);
+
+/// The method of number `n`.
+impl From<u32> for ZeroChecksumAlternateErrorDetectionMethod {
+    ghost from_gives = { λ n method. method.0 ≡ n };
+
+    fn from(n: u32) -> ZeroChecksumAlternateErrorDetectionMethod {
+        ZeroChecksumAlternateErrorDetectionMethod(n)
+    }
+}
 
 /// No other method: a checksum of zero isn't special.
 pub const ZERO_CHECKSUM_ALTERNATE_ERROR_DETECTION_METHOD_NONE: ZeroChecksumAlternateErrorDetectionMethod =

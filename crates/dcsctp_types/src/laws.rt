@@ -36,11 +36,12 @@ pub fn window<S: SerialNumber>()
         × (¬ IsGreater S.space (S.position y) (S.position x)) }
 {}
 
-/// The orders of ids, keys and times: stream ids and lifecycle ids stand by their numbers, times by
-/// their durations; every ordered key is less than every unordered one, and keys of one kind stand
-/// by their stream ids.
+/// The orders of ids, keys and times: stream ids, payload protocol ids and lifecycle ids stand by
+/// their numbers, times by their durations; every ordered key is less than every unordered one, and
+/// keys of one kind stand by their stream ids.
 pub fn orders()
     ensures stream_ids { (a b : StreamId) → ⟦<StreamId as Ord>⟧.cmp a b ≡ nat_cmp a.0 b.0 }
+    ensures ppids { (a b : PpId) → ⟦<PpId as Ord>⟧.cmp a b ≡ nat_cmp a.0 b.0 }
     ensures ordered_keys { (a b : StreamId)
         → ⟦<StreamKey as Ord>⟧.cmp (StreamKey.Ordered a) (StreamKey.Ordered b) ≡ nat_cmp a.0 b.0 }
     ensures unordered_keys { (a b : StreamId)
@@ -73,4 +74,15 @@ pub fn equality()
 pub fn methods()
     ensures none { NONE.0 ≡ 0 }
     ensures dtls { DTLS.0 ≡ 1 }
+{}
+
+/// The payload protocol identifiers of WebRTC data channels have these numbers (RFC 8831 section 8).
+pub fn webrtc_ppids()
+    ensures dcep { PpId.WEBRTC_DCEP.0 ≡ 50 }
+    ensures string { PpId.WEBRTC_STRING.0 ≡ 51 }
+    ensures binary_partial { PpId.WEBRTC_BINARY_PARTIAL.0 ≡ 52 }
+    ensures binary { PpId.WEBRTC_BINARY.0 ≡ 53 }
+    ensures string_partial { PpId.WEBRTC_STRING_PARTIAL.0 ≡ 54 }
+    ensures string_empty { PpId.WEBRTC_STRING_EMPTY.0 ≡ 56 }
+    ensures binary_empty { PpId.WEBRTC_BINARY_EMPTY.0 ≡ 57 }
 {}

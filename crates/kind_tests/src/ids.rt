@@ -3,8 +3,9 @@
 use dcsctp_types::api::{
     LifecycleId, Message, PpId, SocketTime, StreamId,
     ZERO_CHECKSUM_ALTERNATE_ERROR_DETECTION_METHOD_LOWER_LAYER_DTLS,
-    ZERO_CHECKSUM_ALTERNATE_ERROR_DETECTION_METHOD_NONE,
+    ZERO_CHECKSUM_ALTERNATE_ERROR_DETECTION_METHOD_NONE, ZeroChecksumAlternateErrorDetectionMethod,
 };
+use dcsctp_types::laws;
 use dcsctp_types::types::{Fsn, Mid, OutgoingMessageId, Ssn, StreamKey, Tsn};
 use std::alloc::{AllocError, Global};
 use std::fmt::{Debug, Display};
@@ -109,10 +110,39 @@ fn traits(rt: HostRuntime) {
     assert!(rt; agree(ordered, StreamKey::new(false, StreamId(1)), unordered));
 
     assert!(rt; precedes(StreamId(1), StreamId(2)));
+    assert!(rt; precedes(PpId(51), PpId(53)));
     assert!(rt; precedes(ordered, unordered));
     assert!(rt; precedes(unordered, StreamKey::Unordered(StreamId(2))));
     assert!(rt; precedes(LifecycleId::from(1), LifecycleId::from(2)));
     assert!(rt; precedes(SocketTime::zero(), SocketTime::infinite_future()));
+}
+
+/// What a number converts to.
+fn made_of<N, T: From<N>>(number: N) -> T {
+    T::from(number)
+}
+
+#[test]
+fn numbers_convert(rt: HostRuntime) {
+    assert_eq!(rt; made_of::<u16, Ssn>(65_535), Ssn(65_535));
+    assert_eq!(rt; made_of::<u16, StreamId>(300), StreamId(300));
+    assert_eq!(rt; made_of::<u32, Tsn>(u32::MAX), Tsn(u32::MAX));
+    assert_eq!(rt; made_of::<u32, Mid>(70_000), Mid(70_000));
+    assert_eq!(rt; made_of::<u32, Fsn>(5), Fsn(5));
+    assert_eq!(rt; made_of::<u32, OutgoingMessageId>(8), OutgoingMessageId(8));
+    assert_eq!(rt; made_of::<u32, PpId>(53), PpId(53));
+    assert_eq!(rt;
+        made_of::<u32, ZeroChecksumAlternateErrorDetectionMethod>(1),
+        ZERO_CHECKSUM_ALTERNATE_ERROR_DETECTION_METHOD_LOWER_LAYER_DTLS
+    );
+}
+
+#[test]
+fn webrtc_ppids(rt: HostRuntime) {
+    assert_eq!(rt; PpId::WEBRTC_DCEP, PpId(50));
+    assert_eq!(rt; PpId::WEBRTC_STRING, PpId(51));
+    assert_eq!(rt; PpId::WEBRTC_BINARY, PpId(53));
+    laws::webrtc_ppids();
 }
 
 /// What a number prints, plainly and for a developer.

@@ -80,6 +80,15 @@ impl SubAssign<u32> for Fsn {
     }
 }
 
+/// The FSN of number `n`.
+impl From<u32> for Fsn {
+    ghost from_gives = { λ n fsn. fsn.0 ≡ n };
+
+    fn from(n: u32) -> Fsn {
+        Fsn(n)
+    }
+}
+
 impl fmt::Display for Fsn {
     ghost output = { λ fsn. Some (decimal fsn.0) };
 

@@ -80,6 +80,15 @@ impl SubAssign<u32> for Mid {
     }
 }
 
+/// The MID of number `n`.
+impl From<u32> for Mid {
+    ghost from_gives = { λ n mid. mid.0 ≡ n };
+
+    fn from(n: u32) -> Mid {
+        Mid(n)
+    }
+}
+
 impl fmt::Display for Mid {
     ghost output = { λ mid. Some (decimal mid.0) };
 

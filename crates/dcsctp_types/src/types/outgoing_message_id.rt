@@ -20,6 +20,15 @@ impl AddAssign<u32> for OutgoingMessageId {
     }
 }
 
+/// The id of number `n`.
+impl From<u32> for OutgoingMessageId {
+    ghost from_gives = { λ n id. id.0 ≡ n };
+
+    fn from(n: u32) -> OutgoingMessageId {
+        OutgoingMessageId(n)
+    }
+}
+
 impl fmt::Display for OutgoingMessageId {
     ghost output = { λ id. Some (decimal id.0) };
 

@@ -80,6 +80,15 @@ impl SubAssign<u16> for Ssn {
     }
 }
 
+/// The SSN of number `n`.
+impl From<u16> for Ssn {
+    ghost from_gives = { λ n ssn. ssn.0 ≡ n };
+
+    fn from(n: u16) -> Ssn {
+        Ssn(n)
+    }
+}
+
 impl fmt::Display for Ssn {
     ghost output = { λ ssn. Some (decimal ssn.0) };
 

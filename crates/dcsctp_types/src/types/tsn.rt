@@ -80,6 +80,15 @@ impl SubAssign<u32> for Tsn {
     }
 }
 
+/// The TSN of number `n`.
+impl From<u32> for Tsn {
+    ghost from_gives = { λ n tsn. tsn.0 ≡ n };
+
+    fn from(n: u32) -> Tsn {
+        Tsn(n)
+    }
+}
+
 impl fmt::Display for Tsn {
     ghost output = { λ tsn. Some (decimal tsn.0) };
 
