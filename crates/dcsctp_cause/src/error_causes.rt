@@ -16,6 +16,7 @@ ghost use Rattle.dcsctp_tlv.specs.Level.{HasMeaning, MeansTrees, MeansSome};
 ghost use Rattle.dcsctp_tlv.specs.Reading.{Answers, Exactly, reading, checking, RowTested, RowAnswer, ListAnswer, Counted};
 ghost use Rattle.dcsctp_cause.specs.Cause as cause;
 ghost use Rattle.dcsctp_cause.specs.Cause.{CauseTree, causes, TakesNoMemory, view, views};
+ghost use Rattle.dcsctp_cause.specs.declared.error_causes.ErrorCause.TheVariants as variant;
 
 use crate::cookie_received_while_shutting_down::{self, CookieReceivedWhileShuttingDownErrorCause};
 use crate::missing_mandatory_parameter_error_cause::{self, MissingMandatoryParameterErrorCause};
@@ -254,6 +255,69 @@ impl ListedTlv for ErrorCause {
     ghost same_tlv = { λ c. refl };
 
     ghost all_placed = { λ c. tt };
+}
+
+/// The error cause of this kind, with this value.
+impl From<UnrecognizedChunkErrorCause> for ErrorCause {
+    ghost from_gives = { λ kind cause. cause ≡ variant.UnrecognizedChunk kind };
+
+    fn from(kind: UnrecognizedChunkErrorCause) -> ErrorCause {
+        ErrorCause::UnrecognizedChunk(kind)
+    }
+}
+
+/// The error cause of this kind, with this value.
+impl From<NoUserDataErrorCause> for ErrorCause {
+    ghost from_gives = { λ kind cause. cause ≡ variant.NoUserData kind };
+
+    fn from(kind: NoUserDataErrorCause) -> ErrorCause {
+        ErrorCause::NoUserData(kind)
+    }
+}
+
+/// The error cause of this kind, with this value.
+impl From<CookieReceivedWhileShuttingDownErrorCause> for ErrorCause {
+    ghost from_gives = { λ kind cause. cause ≡ variant.CookieReceivedWhileShuttingDown kind };
+
+    fn from(kind: CookieReceivedWhileShuttingDownErrorCause) -> ErrorCause {
+        ErrorCause::CookieReceivedWhileShuttingDown(kind)
+    }
+}
+
+/// The error cause of this kind, with this value.
+impl From<UserInitiatedAbortErrorCause> for ErrorCause {
+    ghost from_gives = { λ kind cause. cause ≡ variant.UserInitiatedAbort kind };
+
+    fn from(kind: UserInitiatedAbortErrorCause) -> ErrorCause {
+        ErrorCause::UserInitiatedAbort(kind)
+    }
+}
+
+/// The error cause of this kind, with this value.
+impl From<ProtocolViolationErrorCause> for ErrorCause {
+    ghost from_gives = { λ kind cause. cause ≡ variant.ProtocolViolation kind };
+
+    fn from(kind: ProtocolViolationErrorCause) -> ErrorCause {
+        ErrorCause::ProtocolViolation(kind)
+    }
+}
+
+/// The error cause of this kind, with this value.
+impl From<MissingMandatoryParameterErrorCause> for ErrorCause {
+    ghost from_gives = { λ kind cause. cause ≡ variant.MissingMandatoryParameter kind };
+
+    fn from(kind: MissingMandatoryParameterErrorCause) -> ErrorCause {
+        ErrorCause::MissingMandatoryParameter(kind)
+    }
+}
+
+/// The error cause of this kind, with this value.
+impl From<UnknownParameter> for ErrorCause {
+    ghost from_gives = { λ kind cause. cause ≡ variant.Unknown kind };
+
+    fn from(kind: UnknownParameter) -> ErrorCause {
+        ErrorCause::Unknown(kind)
+    }
 }
 
 /// Reads all the bytes as a list of error causes; no bytes are the empty list. Padding is ignored.

@@ -31,6 +31,7 @@ ghost use Rattle.dcsctp_tlv.specs.Level.{HasMeaning, MeansTrees, MeansSome};
 ghost use Rattle.dcsctp_tlv.specs.Reading.{Answers, Exactly, reading, checking, RowTested, RowAnswer, ListAnswer, Counted};
 ghost use Rattle.dcsctp_tlv.specs.Parameter as parameter;
 ghost use Rattle.dcsctp_tlv.specs.Parameter.{ParameterTree, parameters, TakesNoMemory, view, views};
+ghost use Rattle.dcsctp_tlv.specs.declared.parameter.Parameter.TheVariants as variant;
 
 use crate::error::{ChunkParseError, LocatedFault};
 use crate::frame::are_zeros;
@@ -356,6 +357,114 @@ impl ListedTlv for Parameter {
     ghost same_tlv = { λ p. refl };
 
     ghost all_placed = { λ p. tt };
+}
+
+/// The parameter of this kind, with this value.
+impl From<HeartbeatInfoParameter> for Parameter {
+    ghost from_gives = { λ kind parameter. parameter ≡ variant.HeartbeatInfo kind };
+
+    fn from(kind: HeartbeatInfoParameter) -> Parameter {
+        Parameter::HeartbeatInfo(kind)
+    }
+}
+
+/// The parameter of this kind, with this value.
+impl From<StateCookieParameter> for Parameter {
+    ghost from_gives = { λ kind parameter. parameter ≡ variant.StateCookie kind };
+
+    fn from(kind: StateCookieParameter) -> Parameter {
+        Parameter::StateCookie(kind)
+    }
+}
+
+/// The parameter of this kind, with this value.
+impl From<OutgoingSsnResetRequestParameter> for Parameter {
+    ghost from_gives = { λ kind parameter. parameter ≡ variant.OutgoingSsnResetRequest kind };
+
+    fn from(kind: OutgoingSsnResetRequestParameter) -> Parameter {
+        Parameter::OutgoingSsnResetRequest(kind)
+    }
+}
+
+/// The parameter of this kind, with this value.
+impl From<IncomingSsnResetRequestParameter> for Parameter {
+    ghost from_gives = { λ kind parameter. parameter ≡ variant.IncomingSsnResetRequest kind };
+
+    fn from(kind: IncomingSsnResetRequestParameter) -> Parameter {
+        Parameter::IncomingSsnResetRequest(kind)
+    }
+}
+
+/// The parameter of this kind, with this value.
+impl From<SsnTsnResetRequestParameter> for Parameter {
+    ghost from_gives = { λ kind parameter. parameter ≡ variant.SsnTsnResetRequest kind };
+
+    fn from(kind: SsnTsnResetRequestParameter) -> Parameter {
+        Parameter::SsnTsnResetRequest(kind)
+    }
+}
+
+/// The parameter of this kind, with this value.
+impl From<ReconfigurationResponseParameter> for Parameter {
+    ghost from_gives = { λ kind parameter. parameter ≡ variant.ReconfigurationResponse kind };
+
+    fn from(kind: ReconfigurationResponseParameter) -> Parameter {
+        Parameter::ReconfigurationResponse(kind)
+    }
+}
+
+/// The parameter of this kind, with this value.
+impl From<AddOutgoingStreamsRequestParameter> for Parameter {
+    ghost from_gives = { λ kind parameter. parameter ≡ variant.AddOutgoingStreamsRequest kind };
+
+    fn from(kind: AddOutgoingStreamsRequestParameter) -> Parameter {
+        Parameter::AddOutgoingStreamsRequest(kind)
+    }
+}
+
+/// The parameter of this kind, with this value.
+impl From<AddIncomingStreamsRequestParameter> for Parameter {
+    ghost from_gives = { λ kind parameter. parameter ≡ variant.AddIncomingStreamsRequest kind };
+
+    fn from(kind: AddIncomingStreamsRequestParameter) -> Parameter {
+        Parameter::AddIncomingStreamsRequest(kind)
+    }
+}
+
+/// The parameter of this kind, with this value.
+impl From<SupportedExtensionsParameter> for Parameter {
+    ghost from_gives = { λ kind parameter. parameter ≡ variant.SupportedExtensions kind };
+
+    fn from(kind: SupportedExtensionsParameter) -> Parameter {
+        Parameter::SupportedExtensions(kind)
+    }
+}
+
+/// The parameter of this kind, with this value.
+impl From<ForwardTsnSupportedParameter> for Parameter {
+    ghost from_gives = { λ kind parameter. parameter ≡ variant.ForwardTsnSupported kind };
+
+    fn from(kind: ForwardTsnSupportedParameter) -> Parameter {
+        Parameter::ForwardTsnSupported(kind)
+    }
+}
+
+/// The parameter of this kind, with this value.
+impl From<ZeroChecksumAcceptableParameter> for Parameter {
+    ghost from_gives = { λ kind parameter. parameter ≡ variant.ZeroChecksumAcceptable kind };
+
+    fn from(kind: ZeroChecksumAcceptableParameter) -> Parameter {
+        Parameter::ZeroChecksumAcceptable(kind)
+    }
+}
+
+/// The parameter of this kind, with this value.
+impl From<UnknownParameter> for Parameter {
+    ghost from_gives = { λ kind parameter. parameter ≡ variant.Unknown kind };
+
+    fn from(kind: UnknownParameter) -> Parameter {
+        Parameter::Unknown(kind)
+    }
 }
 
 /// Reads all the bytes as a list of parameters; no bytes are the empty list. Padding is ignored.

@@ -322,3 +322,21 @@ fn missing_parameters(rt: HostRuntime) -> Result<(), Fail> {
     assert!(rt; !are_others_equal(rt.alloc())?);
     Ok(())
 }
+
+/// A kind converts to the error cause of that kind.
+fn converted<K>(alloc: Global, kind: K) -> Result<String, AllocError>
+where
+    ErrorCause: From<K>,
+{
+    let cause = ErrorCause::from(kind);
+    format!(in alloc; "{cause:?}")
+}
+
+#[test]
+fn kinds_convert(rt: HostRuntime) -> Result<(), Fail> {
+    assert_eq!(rt;
+        converted(rt.alloc(), CookieReceivedWhileShuttingDownErrorCause {})?.as_str(),
+        "CookieReceivedWhileShuttingDown(CookieReceivedWhileShuttingDownErrorCause)"
+    );
+    Ok(())
+}

@@ -615,3 +615,26 @@ fn lists_of_other_types(rt: HostRuntime) -> Result<(), Fail> {
     );
     Ok(())
 }
+
+/// A kind converts to the parameter of that kind, with all that it holds.
+fn converted<K>(alloc: Global, kind: K) -> Result<String, AllocError>
+where
+    Parameter: From<K>,
+{
+    let parameter = Parameter::from(kind);
+    format!(in alloc; "{parameter:?}")
+}
+
+#[test]
+fn kinds_convert(rt: HostRuntime) -> Result<(), Fail> {
+    assert_eq!(rt;
+        converted(rt.alloc(), ForwardTsnSupportedParameter)?.as_str(),
+        "ForwardTsnSupported(ForwardTsnSupportedParameter)"
+    );
+    let kind = SsnTsnResetRequestParameter { request_seq_nbr: 7 };
+    assert_eq!(rt;
+        converted(rt.alloc(), kind)?.as_str(),
+        "SsnTsnResetRequest(SsnTsnResetRequestParameter { request_seq_nbr: 7 })"
+    );
+    Ok(())
+}

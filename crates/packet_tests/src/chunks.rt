@@ -3,9 +3,11 @@
 use crate::help::{has_text, is_kept, is_shown};
 use dcsctp_wire::api::{PpId, StreamId};
 use dcsctp_wire::packet::chunk::Chunk;
+use dcsctp_wire::packet::cookie_ack_chunk::CookieAckChunk;
 use dcsctp_wire::packet::data::Data;
 use dcsctp_wire::packet::data_chunk::DataChunk;
 use dcsctp_wire::packet::idata_chunk::IDataChunk;
+use dcsctp_wire::packet::shutdown_chunk::ShutdownChunk;
 use dcsctp_wire::packet::unknown_chunk::UnknownChunk;
 use dcsctp_wire::packet::{
     PARAMETER_HEADER_SIZE, TLV_HEADER_SIZE, error_chunk, heartbeat_ack_chunk,
@@ -358,4 +360,23 @@ fn header_sizes(rt: HostRuntime) {
     assert_eq!(rt; PARAMETER_HEADER_SIZE, 4);
     assert_eq!(rt; error_chunk::HEADER_SIZE, 4);
     assert_eq!(rt; heartbeat_ack_chunk::HEADER_SIZE, 4);
+}
+
+/// The types of chunks that kinds convert to, and of one whose kind isn't known.
+fn types(alloc: Global) -> [u8; 4] {
+    let tsn = Tsn(5);
+    [
+        Chunk::from(CookieAckChunk).chunk_type(),
+        Chunk::from(ShutdownChunk {
+            cumulative_tsn_ack: tsn,
+        })
+        .chunk_type(),
+        idata(alloc).chunk_type(),
+        unknown(alloc).chunk_type(),
+    ]
+}
+
+#[test]
+fn chunk_types(rt: HostRuntime) {
+    assert_eq!(rt; types(rt.alloc()), [11, 7, 64, 11]);
 }

@@ -6,6 +6,7 @@ ghost use Rattle.dcsctp_tlv.specs.Level.{HasMeaning, Grows};
 ghost use Rattle.dcsctp_tlv.specs.Reading.{Exactly, reading, RowAnswer};
 ghost use Rattle.dcsctp_wire.specs.Chunk as chunk;
 ghost use Rattle.dcsctp_wire.specs.Chunk.{parts as chunk_parts, ChunkTree, chunk_row, chunks, TakesNoMemory, IsPlaced, text as chunk_text, view, IsInWidth};
+ghost use Rattle.dcsctp_wire.specs.declared.packet.chunk.Chunk.TheVariants as variant;
 
 use crate::packet::abort_chunk::{self, AbortChunk};
 use crate::packet::cookie_ack_chunk::{self, CookieAckChunk};
@@ -123,6 +124,32 @@ impl Chunk {
             × ¬ TakesNoMemory raw.entry.typ raw.entry.value.now }
     {
         Chunk::read(alloc, raw.typ, raw.flags, raw.value)
+    }
+
+    /// The type field of the chunk: the number of its kind, and of an `Unknown` chunk its own.
+    pub fn chunk_type(&self) -> u8
+        ensures { result ≡ (chunk.tlv (view self.now)).first }
+    {
+        match self {
+            Chunk::Data(_) => data_chunk::CHUNK_TYPE,
+            Chunk::Init(_) => init_chunk::CHUNK_TYPE,
+            Chunk::InitAck(_) => init_ack_chunk::CHUNK_TYPE,
+            Chunk::Sack(_) => sack_chunk::CHUNK_TYPE,
+            Chunk::HeartbeatRequest(_) => heartbeat_request_chunk::CHUNK_TYPE,
+            Chunk::HeartbeatAck(_) => heartbeat_ack_chunk::CHUNK_TYPE,
+            Chunk::Abort(_) => abort_chunk::CHUNK_TYPE,
+            Chunk::Shutdown(_) => shutdown_chunk::CHUNK_TYPE,
+            Chunk::ShutdownAck(_) => shutdown_ack_chunk::CHUNK_TYPE,
+            Chunk::Error(_) => error_chunk::CHUNK_TYPE,
+            Chunk::CookieEcho(_) => cookie_echo_chunk::CHUNK_TYPE,
+            Chunk::CookieAck(_) => cookie_ack_chunk::CHUNK_TYPE,
+            Chunk::ShutdownComplete(_) => shutdown_complete_chunk::CHUNK_TYPE,
+            Chunk::ReConfig(_) => re_config_chunk::CHUNK_TYPE,
+            Chunk::ForwardTsn(_) => forward_tsn_chunk::CHUNK_TYPE,
+            Chunk::IData(_) => idata_chunk::CHUNK_TYPE,
+            Chunk::IForwardTsn(_) => iforward_tsn_chunk::CHUNK_TYPE,
+            Chunk::Unknown(unknown) => unknown.typ,
+        }
     }
 
     /// Checks a chunk's value, and builds what it means.
@@ -391,5 +418,167 @@ impl fmt::Display for Chunk {
 
     fn fmt<W: fmt::Write>(&self, f: &mut fmt::Formatter<W>) -> fmt::Result {
         each_kind!(self, c => c.fmt(f))
+    }
+}
+
+/// The chunk of this kind, with this value.
+impl From<DataChunk> for Chunk {
+    ghost from_gives = { λ kind chunk. chunk ≡ variant.Data kind };
+
+    fn from(kind: DataChunk) -> Chunk {
+        Chunk::Data(kind)
+    }
+}
+
+/// The chunk of this kind, with this value.
+impl From<InitChunk> for Chunk {
+    ghost from_gives = { λ kind chunk. chunk ≡ variant.Init kind };
+
+    fn from(kind: InitChunk) -> Chunk {
+        Chunk::Init(kind)
+    }
+}
+
+/// The chunk of this kind, with this value.
+impl From<InitAckChunk> for Chunk {
+    ghost from_gives = { λ kind chunk. chunk ≡ variant.InitAck kind };
+
+    fn from(kind: InitAckChunk) -> Chunk {
+        Chunk::InitAck(kind)
+    }
+}
+
+/// The chunk of this kind, with this value.
+impl From<SackChunk> for Chunk {
+    ghost from_gives = { λ kind chunk. chunk ≡ variant.Sack kind };
+
+    fn from(kind: SackChunk) -> Chunk {
+        Chunk::Sack(kind)
+    }
+}
+
+/// The chunk of this kind, with this value.
+impl From<HeartbeatRequestChunk> for Chunk {
+    ghost from_gives = { λ kind chunk. chunk ≡ variant.HeartbeatRequest kind };
+
+    fn from(kind: HeartbeatRequestChunk) -> Chunk {
+        Chunk::HeartbeatRequest(kind)
+    }
+}
+
+/// The chunk of this kind, with this value.
+impl From<HeartbeatAckChunk> for Chunk {
+    ghost from_gives = { λ kind chunk. chunk ≡ variant.HeartbeatAck kind };
+
+    fn from(kind: HeartbeatAckChunk) -> Chunk {
+        Chunk::HeartbeatAck(kind)
+    }
+}
+
+/// The chunk of this kind, with this value.
+impl From<AbortChunk> for Chunk {
+    ghost from_gives = { λ kind chunk. chunk ≡ variant.Abort kind };
+
+    fn from(kind: AbortChunk) -> Chunk {
+        Chunk::Abort(kind)
+    }
+}
+
+/// The chunk of this kind, with this value.
+impl From<ShutdownChunk> for Chunk {
+    ghost from_gives = { λ kind chunk. chunk ≡ variant.Shutdown kind };
+
+    fn from(kind: ShutdownChunk) -> Chunk {
+        Chunk::Shutdown(kind)
+    }
+}
+
+/// The chunk of this kind, with this value.
+impl From<ShutdownAckChunk> for Chunk {
+    ghost from_gives = { λ kind chunk. chunk ≡ variant.ShutdownAck kind };
+
+    fn from(kind: ShutdownAckChunk) -> Chunk {
+        Chunk::ShutdownAck(kind)
+    }
+}
+
+/// The chunk of this kind, with this value.
+impl From<ErrorChunk> for Chunk {
+    ghost from_gives = { λ kind chunk. chunk ≡ variant.Error kind };
+
+    fn from(kind: ErrorChunk) -> Chunk {
+        Chunk::Error(kind)
+    }
+}
+
+/// The chunk of this kind, with this value.
+impl From<CookieEchoChunk> for Chunk {
+    ghost from_gives = { λ kind chunk. chunk ≡ variant.CookieEcho kind };
+
+    fn from(kind: CookieEchoChunk) -> Chunk {
+        Chunk::CookieEcho(kind)
+    }
+}
+
+/// The chunk of this kind, with this value.
+impl From<CookieAckChunk> for Chunk {
+    ghost from_gives = { λ kind chunk. chunk ≡ variant.CookieAck kind };
+
+    fn from(kind: CookieAckChunk) -> Chunk {
+        Chunk::CookieAck(kind)
+    }
+}
+
+/// The chunk of this kind, with this value.
+impl From<ShutdownCompleteChunk> for Chunk {
+    ghost from_gives = { λ kind chunk. chunk ≡ variant.ShutdownComplete kind };
+
+    fn from(kind: ShutdownCompleteChunk) -> Chunk {
+        Chunk::ShutdownComplete(kind)
+    }
+}
+
+/// The chunk of this kind, with this value.
+impl From<ReConfigChunk> for Chunk {
+    ghost from_gives = { λ kind chunk. chunk ≡ variant.ReConfig kind };
+
+    fn from(kind: ReConfigChunk) -> Chunk {
+        Chunk::ReConfig(kind)
+    }
+}
+
+/// The chunk of this kind, with this value.
+impl From<ForwardTsnChunk> for Chunk {
+    ghost from_gives = { λ kind chunk. chunk ≡ variant.ForwardTsn kind };
+
+    fn from(kind: ForwardTsnChunk) -> Chunk {
+        Chunk::ForwardTsn(kind)
+    }
+}
+
+/// The chunk of this kind, with this value.
+impl From<IDataChunk> for Chunk {
+    ghost from_gives = { λ kind chunk. chunk ≡ variant.IData kind };
+
+    fn from(kind: IDataChunk) -> Chunk {
+        Chunk::IData(kind)
+    }
+}
+
+/// The chunk of this kind, with this value.
+impl From<IForwardTsnChunk> for Chunk {
+    ghost from_gives = { λ kind chunk. chunk ≡ variant.IForwardTsn kind };
+
+    fn from(kind: IForwardTsnChunk) -> Chunk {
+        Chunk::IForwardTsn(kind)
+    }
+}
+
+/// The chunk of this kind, with this value.
+impl From<UnknownChunk> for Chunk {
+    ghost from_gives = { λ kind chunk. chunk ≡ variant.Unknown kind };
+
+    fn from(kind: UnknownChunk) -> Chunk {
+        Chunk::Unknown(kind)
     }
 }
