@@ -16,6 +16,7 @@ ghost use Rattle.dcsctp_wire.specs.Place.{HasPacketFaultAt};
 ghost use Rattle.dcsctp_wire.specs.declared.packet.sctp_packet.ChecksumPolicy.{ChecksumPolicy};
 
 use crate::packet::abort_chunk::CHUNK_TYPE as ABORT;
+pub use crate::packet::chunk::chunk_has_widths;
 use crate::packet::cookie_ack_chunk::CHUNK_TYPE as COOKIE_ACK;
 use crate::packet::cookie_echo_chunk::CHUNK_TYPE as COOKIE_ECHO;
 use crate::packet::cookie_received_while_shutting_down::CAUSE_CODE as COOKIE_RECEIVED_WHILE_SHUTTING_DOWN;
@@ -49,7 +50,6 @@ use crate::packet::reconfiguration_response_parameter::{
     PARAMETER_TYPE as RECONFIGURATION_RESPONSE, ReconfigurationResponseResult,
 };
 use crate::packet::sack_chunk::{CHUNK_TYPE as SACK, GapAckBlock};
-pub use crate::packet::chunk::chunk_has_widths;
 pub use crate::packet::sctp_packet::has_widths;
 use crate::packet::sctp_packet::{COMMON_HEADER_SIZE, FirstFault, PacketParseError};
 use crate::packet::shutdown_ack_chunk::CHUNK_TYPE as SHUTDOWN_ACK;
