@@ -1,4 +1,4 @@
-# What bench/run.sh and bench/instructions.sh do first; they source it. Its functions run at the root of the
+# What bench/run.sh, bench/crc.sh and bench/instructions.sh do first; they source it. Its functions run at the root of the
 # repository, and what they make goes to the folder $out.
 
 export PYTHONDONTWRITEBYTECODE=1
@@ -27,4 +27,11 @@ build_driver() {
 make_traffic() {
     rm -rf "$out/traffic"
     python3 bench/traffic.py "$1" "$out/traffic"
+}
+
+# Builds the CRC32c, proved, and links its program with it: $out/crc.
+build_crc() {
+    mkdir -p "$out"
+    (cd crates/crc_probes && rt lib) >"$out/library.log" 2>&1 || { tail -n 5 "$out/library.log" >&2; give_up 'no crc_probes'; }
+    gcc -O2 -Wall -Wextra -o "$out/crc" bench/crc.c crates/crc_probes/out/libcrc_probes.a
 }

@@ -56,6 +56,7 @@ out=bench/out
 load=$(cut -d' ' -f1 /proc/loadavg)
 
 build_driver
+build_crc
 make_traffic "$seed"
 
 # What the figures were measured with, for the table's caption.
@@ -86,3 +87,6 @@ done
 python3 bench/report.py "$out" ${record:+docs/SPEED.md}
 python3 bench/plot.py "$out" "$out/speed.svg"
 [ -z "$record" ] || cp "$out/speed.svg" docs/speed.svg
+
+printf '\nThe CRC32c, gigabytes a second:\n\n'
+"$out/crc" "$rounds" "$millis"

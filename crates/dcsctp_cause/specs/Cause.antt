@@ -1,5 +1,6 @@
 -- The table of error causes (RFC 9260 section 3.3.10).
-use Rattle.std.specs.Prelude.{◌≡◌, ◌⊎◌, ℕ, Bool, List, [], ◌∷◌, map}
+use Rattle.std.specs.Prelude.{◌≡◌, ◌⊎◌, ℕ, Bool, List, [], ◌∷◌, map, vec_len, vec_capacity}
+use Rattle.std.specs.String.{string_len, string_capacity}
 use Rattle.std.specs.Int.{w16, from_be_bytes}
 use Rattle.dcsctp_tlv.specs.Frame.{zero_padding}
 use Rattle.dcsctp_tlv.specs.Image.{Tlv}
@@ -67,6 +68,16 @@ IsInWidth t = (format t).IsInWidth
 
 abbrev pub IsWellFormed : CauseTree → Type 0
 IsWellFormed t = (format t).IsWellFormed
+
+-- its list or its text, if it has one, has room for its items alone
+abbrev pub IsTight : ErrorCause → Type 0
+IsTight (variant.MissingMandatoryParameter c) =
+    vec_capacity c.missing_parameters ≡ vec_len c.missing_parameters
+IsTight (variant.UnrecognizedChunk c) = vec_capacity c.chunk ≡ vec_len c.chunk
+IsTight (variant.UserInitiatedAbort c) = string_capacity c.reason ≡ string_len c.reason
+IsTight (variant.ProtocolViolation c) = string_capacity c.information ≡ string_len c.information
+IsTight (variant.Unknown u) = vec_capacity u.value ≡ vec_len u.value
+IsTight c = Unit {0}
 
 -- a cause of the code, without where it lies in memory
 abbrev pub view : ErrorCause → CauseTree

@@ -10,12 +10,12 @@
 //! +-+-+-+-+-+-+-+-+-+-+-+-+-+-+-+-+-+-+-+-+-+-+-+-+-+-+-+-+-+-+-+-+
 //! ```
 
-ghost use Rattle.std.specs.Prelude.{◌≡◌, ◌≢◌, ◌≤◌, ◌*◌, [], length, vec_len, vec_capacity, Some, IsOk, IfOk, IsErrOf, refl};
+ghost use Rattle.std.specs.Prelude.{◌≡◌, ◌≢◌, ◌≤◌, ◌*◌, [], length, vec_len, vec_capacity, Some, IsOk, IfOk, IsErrOf, refl, All};
 ghost use Rattle.dcsctp_tlv.specs.Frame.{lenient};
 ghost use Rattle.dcsctp_tlv.specs.Level.{HasMeaning, MeansTrees, MeansSome};
 ghost use Rattle.dcsctp_tlv.specs.Reading.{Answers, Exactly, reading, checking, RowTested, RowAnswer, ListAnswer, Counted};
 ghost use Rattle.dcsctp_cause.specs.Cause as cause;
-ghost use Rattle.dcsctp_cause.specs.Cause.{CauseTree, causes, TakesNoMemory, view, views};
+ghost use Rattle.dcsctp_cause.specs.Cause.{CauseTree, causes, TakesNoMemory, IsTight, view, views};
 ghost use Rattle.dcsctp_cause.specs.declared.error_causes.ErrorCause.TheVariants as variant;
 
 use crate::cookie_received_while_shutting_down::{self, CookieReceivedWhileShuttingDownErrorCause};
@@ -24,6 +24,7 @@ use crate::no_user_data_error_cause::{self, NoUserDataErrorCause};
 use crate::protocol_violation_error_cause::{self, ProtocolViolationErrorCause};
 use crate::unrecognized_chunk_error_cause::{self, UnrecognizedChunkErrorCause};
 use crate::user_initiated_abort_error_cause::{self, UserInitiatedAbortErrorCause};
+use dcsctp_tlv::copy::copied;
 use dcsctp_tlv::error::{ChunkParseError, LocatedFault};
 use dcsctp_tlv::frame::are_zeros;
 use dcsctp_tlv::parameter::raw_parameter::RawParameter;
@@ -80,6 +81,7 @@ impl ErrorCause {
         ensures memory { IsErrOf result ChunkParseError.OutOfMemory →
             HasMeaning (cause.row raw.entry.typ) raw.entry.value.now
             × ¬ TakesNoMemory raw.entry.typ }
+        ensures tight { IfOk result IsTight }
     {
         ErrorCause::read(alloc, raw.typ, raw.value)
     }
@@ -89,6 +91,7 @@ impl ErrorCause {
         ensures answer { Exactly reading view (RowAnswer (cause.row code) value.now) result }
         ensures memory { IsErrOf result ChunkParseError.OutOfMemory
             → HasMeaning (cause.row code) value.now × ¬ TakesNoMemory code }
+        ensures tight { IfOk result IsTight }
     {
         ErrorCause::check_value(code, value)?;
         Ok(ErrorCause::build(alloc, code, value)?)
@@ -113,6 +116,7 @@ impl ErrorCause {
         requires { HasMeaning (cause.row code) value.now }
         ensures meant { IfOk result (λ c. (cause.row code).means value.now (view c)) }
         ensures heap { TakesNoMemory code → IsOk result }
+        ensures tight { IfOk result IsTight }
     {
         Ok(match code {
             missing_mandatory_parameter_error_cause::CAUSE_CODE =>
@@ -147,6 +151,8 @@ impl ReadableTlv for ErrorCause {
     ghost level = { causes };
 
     ghost view = { view };
+
+    ghost is_tight = { IsTight };
 
     ghost parts = { λ t. 1 };
 
@@ -196,7 +202,7 @@ impl ReadableTlv for ErrorCause {
             }
             _ => {
                 // one copy for both kinds that keep their value, so that an item costs one result
-                let bytes = Vec::from_slice(alloc, value)?;
+                let bytes = copied(alloc, value)?;
                 if code == unrecognized_chunk_error_cause::CAUSE_CODE {
                     list.push_reserved(ErrorCause::UnrecognizedChunk(UnrecognizedChunkErrorCause {
                         chunk: bytes,
@@ -334,6 +340,7 @@ pub fn error_cause_from_bytes(
     ensures memory { IsErrOf result ChunkParseError.OutOfMemory →
         MeansSome (causes lenient) bytes.now × (bytes.now ≢ []) }
     ensures reserved { IfOk result (λ list. vec_capacity list ≡ vec_len list) }
+    ensures tight { IfOk result (λ list. All IsTight list.items) }
 {
     list_from_bytes(alloc, bytes)
 }
@@ -358,6 +365,7 @@ pub fn error_cause_build(alloc: Global, bytes: &[u8]) -> Result<Vec<ErrorCause>,
     ensures meant { IfOk result
         (λ list. MeansTrees (causes lenient) bytes.now (views list.items)) }
     ensures reserved { IfOk result (λ list. vec_capacity list ≡ vec_len list) }
+    ensures tight { IfOk result (λ list. All IsTight list.items) }
     ensures empty { bytes.now ≡ [] → IsOk result }
 {
     let mut list = Vec::new(alloc);
@@ -377,6 +385,7 @@ pub fn error_cause_fill(
     ensures meant { IfOk result
         (λ _. MeansTrees (causes lenient) bytes.now (views list.new.items)) }
     ensures reserved { IfOk result (λ _. vec_capacity list.new ≡ vec_len list.new) }
+    ensures tight { IfOk result (λ _. All IsTight list.new.items) }
     ensures empty { bytes.now ≡ [] → IsOk result }
 {
     list_fill_counted(list, alloc, bytes)

@@ -12,12 +12,13 @@
 //! +-+-+-+-+-+-+-+-+-+-+-+-+-+-+-+-+-+-+-+-+-+-+-+-+-+-+-+-+-+-+-+-+
 //! ```
 
-ghost use Rattle.std.specs.Prelude.{◌≡◌, ◌≢◌, ◌↔◌, ℕ, Some, IsOk, IfOk, IsErrOf, refl, Ok};
+ghost use Rattle.std.specs.Prelude.{◌≡◌, ◌≢◌, ◌↔◌, ℕ, Some, IsOk, IfOk, IsErrOf, refl, Ok, vec_len, vec_capacity};
 ghost use Rattle.std.specs.Int.{w16, to_be_bytes};
 ghost use Rattle.dcsctp_tlv.specs.Number.{number16};
 ghost use Rattle.dcsctp_tlv.specs.Reading.{Answers, Exactly, reading, checking, Tested};
 ghost use Rattle.dcsctp_cause.specs.MissingMandatoryParameter as kind;
 
+use dcsctp_tlv::copy::copied;
 use dcsctp_tlv::error::ChunkParseError;
 use dcsctp_tlv::fields::{Field, fields_from_bytes, put_parameter_fields};
 use dcsctp_tlv::frame::MAX_VALUE_SIZE;
@@ -83,11 +84,16 @@ impl MissingMandatoryParameterErrorCause {
 
     /// A cause with the same types; refused only where memory runs out.
     pub fn clone(&self) -> Result<MissingMandatoryParameterErrorCause, AllocError>
-        ensures { IfOk result
+        ensures same { IfOk result
             (λ c. c.missing_parameters.items ≡ self.now.missing_parameters.items) }
+        ensures tight { IfOk result
+            (λ c. vec_capacity c.missing_parameters ≡ vec_len c.missing_parameters) }
     {
         Ok(MissingMandatoryParameterErrorCause {
-            missing_parameters: self.missing_parameters.clone()?,
+            missing_parameters: copied(
+                *self.missing_parameters.allocator(),
+                &self.missing_parameters,
+            )?,
         })
     }
 
@@ -102,6 +108,8 @@ impl MissingMandatoryParameterErrorCause {
             Exactly reading kind.view (λ a. kind.read raw.entry.value.now ≡ a) result }
         ensures memory { IsErrOf result ChunkParseError.OutOfMemory →
             IsOk (kind.read raw.entry.value.now) }
+        ensures tight { IfOk result
+            (λ x. vec_capacity x.missing_parameters ≡ vec_len x.missing_parameters) }
     {
         if raw.typ != CAUSE_CODE {
             return Err(ChunkParseError::InvalidType);
@@ -128,7 +136,9 @@ impl MissingMandatoryParameterErrorCause {
     /// What the value means.
     pub(crate) fn build(alloc: Global, value: &[u8]) -> Result<Self, AllocError>
         requires { IsOk (kind.read value.now) }
-        ensures { IfOk result (λ x. kind.read value.now ≡ Ok (kind.view x)) }
+        ensures meant { IfOk result (λ x. kind.read value.now ≡ Ok (kind.view x)) }
+        ensures tight { IfOk result
+            (λ x. vec_capacity x.missing_parameters ≡ vec_len x.missing_parameters) }
     {
         let count = read_u32_be(value) as usize;
         let types = &value[FIXED_SIZE..];

@@ -11,10 +11,11 @@
 //! +-+-+-+-+-+-+-+-+-+-+-+-+-+-+-+-+-+-+-+-+-+-+-+-+-+-+-+-+-+-+-+-+
 //! ```
 
-ghost use Rattle.std.specs.Prelude.{◌≡◌, ◌≢◌, ◌↔◌, Some, IsErrOf, IfOk, IsOk, Ok};
+ghost use Rattle.std.specs.Prelude.{◌≡◌, ◌≢◌, ◌↔◌, Some, IsErrOf, IfOk, IsOk, Ok, vec_len, vec_capacity};
 ghost use Rattle.dcsctp_tlv.specs.Reading.{Exactly, reading};
 ghost use Rattle.dcsctp_cause.specs.UnrecognizedChunk as kind;
 
+use dcsctp_tlv::copy::copied;
 use dcsctp_tlv::error::ChunkParseError;
 use dcsctp_tlv::frame::{MAX_VALUE_SIZE, put_parameter};
 use dcsctp_tlv::parameter::raw_parameter::RawParameter;
@@ -43,6 +44,7 @@ impl UnrecognizedChunkErrorCause {
             Exactly reading kind.view (λ a. kind.read raw.entry.value.now ≡ a) result }
         ensures memory { IsErrOf result ChunkParseError.OutOfMemory →
             IsOk (kind.read raw.entry.value.now) }
+        ensures tight { IfOk result (λ x. vec_capacity x.chunk ≡ vec_len x.chunk) }
     {
         if raw.typ != CAUSE_CODE {
             return Err(ChunkParseError::InvalidType);
@@ -52,10 +54,11 @@ impl UnrecognizedChunkErrorCause {
 
     /// Copies the value.
     pub(crate) fn build(alloc: Global, value: &[u8]) -> Result<Self, AllocError>
-        ensures { IfOk result (λ x. kind.read value.now ≡ Ok (kind.view x)) }
+        ensures meant { IfOk result (λ x. kind.read value.now ≡ Ok (kind.view x)) }
+        ensures tight { IfOk result (λ x. vec_capacity x.chunk ≡ vec_len x.chunk) }
     {
         Ok(UnrecognizedChunkErrorCause {
-            chunk: Vec::from_slice(alloc, value)?,
+            chunk: copied(alloc, value)?,
         })
     }
 }

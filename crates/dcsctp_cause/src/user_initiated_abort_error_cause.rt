@@ -11,10 +11,12 @@
 //! ```
 
 ghost use Rattle.std.specs.Prelude.{◌≡◌, ◌≢◌, ◌↔◌, Some, IsErrOf, IfOk, IsOk, Ok};
+ghost use Rattle.std.specs.String.{string_len, string_capacity};
 ghost use Rattle.dcsctp_tlv.specs.Reading.{Exactly, reading};
 ghost use Rattle.dcsctp_cause.specs.UserInitiatedAbort as kind;
 
 use crate::text::text_or;
+use dcsctp_tlv::copy::copied_text;
 use dcsctp_tlv::error::ChunkParseError;
 use dcsctp_tlv::frame::{MAX_VALUE_SIZE, put_parameter};
 use dcsctp_tlv::parameter::raw_parameter::RawParameter;
@@ -46,6 +48,7 @@ impl UserInitiatedAbortErrorCause {
             Exactly reading kind.view (λ a. kind.read raw.entry.value.now ≡ a) result }
         ensures memory { IsErrOf result ChunkParseError.OutOfMemory →
             IsOk (kind.read raw.entry.value.now) }
+        ensures tight { IfOk result (λ x. string_capacity x.reason ≡ string_len x.reason) }
     {
         if raw.typ != CAUSE_CODE {
             return Err(ChunkParseError::InvalidType);
@@ -55,10 +58,11 @@ impl UserInitiatedAbortErrorCause {
 
     /// Copies the text, or says that the value isn't UTF-8.
     pub(crate) fn build(alloc: Global, value: &[u8]) -> Result<Self, AllocError>
-        ensures { IfOk result (λ x. kind.read value.now ≡ Ok (kind.view x)) }
+        ensures meant { IfOk result (λ x. kind.read value.now ≡ Ok (kind.view x)) }
+        ensures tight { IfOk result (λ x. string_capacity x.reason ≡ string_len x.reason) }
     {
         Ok(UserInitiatedAbortErrorCause {
-            reason: String::from_str(alloc, text_or(UNREADABLE, value))?,
+            reason: copied_text(alloc, text_or(UNREADABLE, value))?,
         })
     }
 }

@@ -6,7 +6,7 @@ use Rattle.std.specs.List.{All}
 use Rattle.std.specs.List.Sorted.{IsPermutation}
 use Rattle.std.proofs.lemmas.List.Elements.{All-contains}
 use Rattle.std.proofs.lemmas.List.Sorted.{Contains-permutation, IsPermutation-sym}
-use Rattle.dcsctp_chunk.specs.Cover.{IsWithin, Covers, SameCover, IsRuns, HasBlockInEach, AreValid}
+use Rattle.dcsctp_chunk.specs.Cover.{IsWithin, Covers, SameCover, IsRuns, HasBlockInEach, IsCleaned, AreValid}
 use Rattle.dcsctp_chunk.specs.Apart.{IsApart}
 use Rattle.dcsctp_chunk.proofs.Runs.{covers_head, covers_tail, covers_cases, apart_weaker, runs_from_apart, runs_of_same, runs_unique, apart_past_one, past_one_apart, fewest, block_in_each}
 
@@ -193,3 +193,15 @@ offsets_from_ends bs h o c =
     let k = All-contains P bs c.0 h c.1 in
     let w = c.2.1 in
     omega arith
+
+-- all that is said of cleaned blocks follows from this
+pub cleaned_from_cover : (bs rs : List GapAckBlock) → All (λ b. b.end ≤ 65535) bs → IsApart 0 rs → SameCover rs bs → IsCleaned bs rs
+cleaned_from_cover bs rs ends apart cover = record {
+  runs = runs_from_cover rs bs apart cover;
+  cover = cover;
+  offsets = offsets_from_ends bs ends;
+  fewest = fewest_runs rs bs apart cover;
+  own = own_in_runs rs bs apart cover;
+  unique = unique_runs rs bs apart cover;
+  once = runs_once rs apart;
+}

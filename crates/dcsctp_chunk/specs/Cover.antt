@@ -50,3 +50,18 @@ StartsPast n (b ∷ bs) = n < b.start
 pub record AreValid (blocks : List GapAckBlock) : Type 0 where
   pub runs : IsRuns blocks (Covers blocks)
   pub first : StartsPast 1 blocks
+
+-- What a list of blocks becomes when it is cleaned: the runs of the offsets that it covers. The
+-- other fields follow from the first.
+pub record IsCleaned (blocks cleaned : List GapAckBlock) : Type 0 where
+  pub runs : IsRuns cleaned (Covers blocks)
+  pub cover : SameCover cleaned blocks
+  pub offsets : (o : ℕ) → Covers blocks o → o ≤ 65535
+  -- No list with the same cover is shorter, and each run holds a block of its own of any such list.
+  pub fewest : (others : List GapAckBlock) → SameCover others blocks → length cleaned ≤ length others
+  pub own : (others : List GapAckBlock) → SameCover others blocks → HasBlockInEach cleaned others
+  -- Exactly the lists with the same cover have the same runs.
+  pub unique : (others runs : List GapAckBlock) → IsRuns runs (Covers others)
+      → SameCover others blocks ↔ (runs ≡ cleaned)
+  -- Cleaned again they stay as they are.
+  pub once : (again : List GapAckBlock) → IsRuns again (Covers cleaned) → again ≡ cleaned

@@ -9,7 +9,7 @@ ghost use Rattle.std.specs.List.{All, SameFrom, copy_within};
 ghost use Rattle.dcsctp_types.specs.Serial.{wrapped_sum, IsGreater};
 ghost use Rattle.dcsctp_chunk.specs.declared.sack_chunk.GapAckBlock.{GapAckBlock};
 ghost use Rattle.dcsctp_chunk.specs.Apart.{IsApart, AreFree, LastStartsBy, IsReachedAt, both, around, placed};
-ghost use Rattle.dcsctp_chunk.specs.Cover.{Covers, SameCover, IsRuns, HasBlockInEach, AreValid};
+ghost use Rattle.dcsctp_chunk.specs.Cover.{Covers, SameCover, IsCleaned, AreValid};
 
 use crate::sack_chunk::{GapAckBlock, SackChunk};
 
@@ -26,36 +26,41 @@ pub fn validate_sack(sack: &SackChunk) -> bool
     are_apart(&sack.gap_ack_blocks)
 }
 
-/// Puts the runs of the offsets that the blocks cover, by rising start, in the place of the
-/// blocks, and keeps all else.
+/// Replaces the blocks of the SACK by the runs of the offsets that they cover, as `clean_blocks`
+/// does, and keeps all else.
 ///
-/// It works in the vector that it was handed, and takes no memory. A SACK that `validate_sack`
-/// accepts stays as it is. Runs that start at 0 or 1 are kept, so `validate_sack` can refuse the
-/// result.
+/// A SACK that `validate_sack` accepts stays as it is. Runs that start at 0 or 1 are kept, so
+/// `validate_sack` can refuse the result. It does not allocate.
 pub fn clean_sack(mut sack: SackChunk) -> SackChunk
     ensures cumulative_tsn_ack { result.cumulative_tsn_ack ≡ sack.cumulative_tsn_ack }
     ensures a_rwnd { result.a_rwnd ≡ sack.a_rwnd }
     ensures duplicate_tsns { result.duplicate_tsns ≡ sack.duplicate_tsns }
+    ensures cleaned { IsCleaned sack.gap_ack_blocks.items result.gap_ack_blocks.items }
     ensures same { AreValid sack.gap_ack_blocks.items → result ≡ sack }
-    ensures runs { IsRuns result.gap_ack_blocks.items (Covers sack.gap_ack_blocks.items) }
-    ensures cover { SameCover result.gap_ack_blocks.items sack.gap_ack_blocks.items }
-    ensures offsets { (o : ℕ) → Covers sack.gap_ack_blocks.items o → o ≤ 65535 }
-    ensures fewest { (others : List GapAckBlock) → SameCover others sack.gap_ack_blocks.items
-        → length result.gap_ack_blocks.items ≤ length others }
-    ensures own { (others : List GapAckBlock) → SameCover others sack.gap_ack_blocks.items
-        → HasBlockInEach result.gap_ack_blocks.items others }
-    ensures unique { (others runs : List GapAckBlock) → IsRuns runs (Covers others)
-        → SameCover others sack.gap_ack_blocks.items ↔ (runs ≡ result.gap_ack_blocks.items) }
-    ensures once { (again : List GapAckBlock) → IsRuns again (Covers result.gap_ack_blocks.items)
-        → again ≡ result.gap_ack_blocks.items }
     ensures memory { vec_capacity result.gap_ack_blocks ≡ vec_capacity sack.gap_ack_blocks }
 {
-    ends_fit(&sack.gap_ack_blocks);
-    if validate_sack(&sack) {
-        return sack;
-    }
-    sack.gap_ack_blocks = clean_blocks(sack.gap_ack_blocks);
+    clean_blocks(&mut sack.gap_ack_blocks);
     sack
+}
+
+/// Replaces the blocks by the runs of the offsets that they cover, by rising start: as few blocks
+/// as there can be.
+///
+/// It works in the vector itself and does not allocate. Blocks that `validate_sack` accepts stay as
+/// they are.
+// Not inlined, so that `clean_sack` of a valid SACK moves nothing.
+#[inline(never)]
+pub fn clean_blocks(blocks: &mut Vec<GapAckBlock>)
+    ensures cleaned { IsCleaned blocks.old.items blocks.new.items }
+    ensures same { AreValid blocks.old.items → blocks.new ≡ blocks.old }
+    ensures memory { vec_capacity blocks.new ≡ vec_capacity blocks.old }
+{
+    ends_fit(blocks);
+    if are_apart(blocks) {
+        return;
+    }
+    let kept = gather(blocks);
+    blocks.truncate(kept);
 }
 
 /// Whether no block ends before its start, and each starts at least 2 past the end of the one
@@ -73,20 +78,6 @@ fn are_apart(blocks: &[GapAckBlock]) -> bool
         least = block.end as u32 + 2;
     }
     apart
-}
-
-/// Puts the runs of the offsets that the blocks cover in the place of the blocks.
-///
-/// It takes the vector alone and isn't inlined, so that a valid SACK needs no move.
-#[inline(never)]
-fn clean_blocks(mut blocks: Vec<GapAckBlock>) -> Vec<GapAckBlock>
-    ensures apart { IsApart 0 result.items }
-    ensures cover { SameCover result.items blocks.items }
-    ensures memory { vec_capacity result ≡ vec_capacity blocks }
-{
-    let kept = gather(&mut blocks);
-    blocks.truncate(kept);
-    blocks
 }
 
 /// What stands in a free place: no block ends later.

@@ -10,11 +10,12 @@
 //! +-+-+-+-+-+-+-+-+-+-+-+-+-+-+-+-+-+-+-+-+-+-+-+-+-+-+-+-+-+-+-+-+
 //! ```
 
-ghost use Rattle.std.specs.Prelude.{◌≡◌, ◌≢◌, ◌↔◌, [], Some, IsOk, IfOk, IsErrOf, vec_capacity, Ok};
+ghost use Rattle.std.specs.Prelude.{◌≡◌, ◌≢◌, ◌↔◌, [], Some, IsOk, IfOk, IsErrOf, vec_capacity, Ok, vec_len};
 ghost use Rattle.dcsctp_tlv.specs.Reading.{Answers, Exactly, reading, checking, Tested};
 ghost use Rattle.dcsctp_chunk.specs.CookieEcho as kind;
 
 use crate::raw_chunk::RawChunk;
+use dcsctp_tlv::copy::copied;
 use dcsctp_tlv::error::ChunkParseError;
 use dcsctp_tlv::frame::{MAX_VALUE_SIZE, put_solid};
 use dcsctp_tlv::tlv::SerializableTlv;
@@ -47,10 +48,11 @@ impl CookieEchoChunk {
 
     /// A chunk with the same cookie; refused only where memory runs out.
     pub fn clone(&self) -> Result<CookieEchoChunk, AllocError>
-        ensures { IfOk result (λ c. c.cookie.items ≡ self.now.cookie.items) }
+        ensures same { IfOk result (λ c. c.cookie.items ≡ self.now.cookie.items) }
+        ensures tight { IfOk result (λ c. vec_capacity c.cookie ≡ vec_len c.cookie) }
     {
         Ok(CookieEchoChunk {
-            cookie: self.cookie.clone()?,
+            cookie: copied(*self.cookie.allocator(), &self.cookie)?,
         })
     }
 
@@ -64,6 +66,7 @@ impl CookieEchoChunk {
             Exactly reading kind.view (λ a. kind.read raw.entry.value.now ≡ a) result }
         ensures memory { IsErrOf result ChunkParseError.OutOfMemory →
             IsOk (kind.read raw.entry.value.now) }
+        ensures tight { IfOk result (λ x. vec_capacity x.cookie ≡ vec_len x.cookie) }
     {
         if raw.typ != CHUNK_TYPE {
             return Err(ChunkParseError::InvalidType);
@@ -85,10 +88,11 @@ impl CookieEchoChunk {
     /// Copies the value.
     pub fn build(alloc: Global, value: &[u8]) -> Result<Self, AllocError>
         requires { IsOk (kind.read value.now) }
-        ensures { IfOk result (λ x. kind.read value.now ≡ Ok (kind.view x)) }
+        ensures meant { IfOk result (λ x. kind.read value.now ≡ Ok (kind.view x)) }
+        ensures tight { IfOk result (λ x. vec_capacity x.cookie ≡ vec_len x.cookie) }
     {
         Ok(CookieEchoChunk {
-            cookie: Vec::from_slice(alloc, value)?,
+            cookie: copied(alloc, value)?,
         })
     }
 }

@@ -1,9 +1,10 @@
 //! User data, as DATA and I-DATA chunks hold it.
 
-ghost use Rattle.std.specs.Prelude.{◌≡◌, IfOk, vec_capacity};
+ghost use Rattle.std.specs.Prelude.{◌≡◌, IfOk, vec_capacity, vec_len};
 ghost use Rattle.dcsctp_chunk.specs.Data.{user_data_view, no_data, user_data_flags, order_text, part_text};
 
 use crate::flags::four_flags;
+use dcsctp_tlv::copy::copied;
 use dcsctp_types::api::{PpId, StreamId};
 use dcsctp_types::types::{Fsn, Mid, Ssn, StreamKey};
 use std::alloc::{AllocError, Global};
@@ -54,7 +55,8 @@ impl Data {
 
     /// The same, with a payload of its own; refused only where memory runs out.
     pub fn clone(&self) -> Result<Data, AllocError>
-        ensures { IfOk result (λ d. user_data_view d ≡ user_data_view self.now) }
+        ensures same { IfOk result (λ d. user_data_view d ≡ user_data_view self.now) }
+        ensures tight { IfOk result (λ d. vec_capacity d.payload ≡ vec_len d.payload) }
     {
         Ok(Data {
             stream_key: self.stream_key,
@@ -62,7 +64,7 @@ impl Data {
             mid: self.mid,
             fsn: self.fsn,
             ppid: self.ppid,
-            payload: self.payload.clone()?,
+            payload: copied(*self.payload.allocator(), &self.payload)?,
             is_beginning: self.is_beginning,
             is_end: self.is_end,
         })

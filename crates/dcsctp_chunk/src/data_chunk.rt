@@ -16,13 +16,14 @@
 //! +-+-+-+-+-+-+-+-+-+-+-+-+-+-+-+-+-+-+-+-+-+-+-+-+-+-+-+-+-+-+-+-+
 //! ```
 
-ghost use Rattle.std.specs.Prelude.{◌≡◌, ◌≢◌, ◌↔◌, ℕ, Some, IsOk, IsErrOf, IfOk, Ok};
+ghost use Rattle.std.specs.Prelude.{◌≡◌, ◌≢◌, ◌↔◌, ℕ, Some, IsOk, IsErrOf, IfOk, Ok, vec_len, vec_capacity};
 ghost use Rattle.dcsctp_tlv.specs.Reading.{Answers, Exactly, reading, checking, Tested};
 ghost use Rattle.dcsctp_chunk.specs.DataChunk as kind;
 
 use crate::data::Data;
 use crate::flags::is_set;
 use crate::raw_chunk::RawChunk;
+use dcsctp_tlv::copy::copied;
 use dcsctp_tlv::error::ChunkParseError;
 use dcsctp_tlv::frame::{MAX_VALUE_SIZE, TLV_HEADER_SIZE, put_fixed_and_rest};
 use dcsctp_tlv::number::{put_u16, put_u32, read_u16_be, read_u32_be};
@@ -67,6 +68,8 @@ impl DataChunk {
             (λ a. kind.read raw.entry.flags raw.entry.value.now ≡ a) result }
         ensures memory { IsErrOf result ChunkParseError.OutOfMemory →
             IsOk (kind.read raw.entry.flags raw.entry.value.now) }
+        ensures tight { IfOk result
+            (λ x. vec_capacity x.user_data.payload ≡ vec_len x.user_data.payload) }
     {
         if raw.typ != CHUNK_TYPE {
             return Err(ChunkParseError::InvalidType);
@@ -89,7 +92,9 @@ impl DataChunk {
     /// What the value means, under these flags.
     pub fn build(alloc: Global, flags: u8, value: &[u8]) -> Result<Self, AllocError>
         requires { IsOk (kind.read flags value.now) }
-        ensures { IfOk result (λ x. kind.read flags value.now ≡ Ok (kind.view x)) }
+        ensures meant { IfOk result (λ x. kind.read flags value.now ≡ Ok (kind.view x)) }
+        ensures tight { IfOk result
+            (λ x. vec_capacity x.user_data.payload ≡ vec_len x.user_data.payload) }
     {
         let stream = StreamId(read_u16_be(&value[4..]));
         Ok(DataChunk {
@@ -100,7 +105,7 @@ impl DataChunk {
                 mid: Mid(0),
                 fsn: Fsn(0),
                 ppid: PpId(read_u32_be(&value[8..])),
-                payload: Vec::from_slice(alloc, &value[FIXED_SIZE..])?,
+                payload: copied(alloc, &value[FIXED_SIZE..])?,
                 is_beginning: is_set(flags, 1),
                 is_end: is_set(flags, 0),
             },

@@ -18,7 +18,7 @@
 //! +-+-+-+-+-+-+-+-+-+-+-+-+-+-+-+-+-+-+-+-+-+-+-+-+-+-+-+-+-+-+-+-+
 //! ```
 
-ghost use Rattle.std.specs.Prelude.{◌≡◌, ◌≢◌, ◌↔◌, ℕ, Some, IsOk, IsErrOf, if◌then◌else◌, IfOk, Ok};
+ghost use Rattle.std.specs.Prelude.{◌≡◌, ◌≢◌, ◌↔◌, ℕ, Some, IsOk, IsErrOf, if◌then◌else◌, IfOk, Ok, vec_len, vec_capacity};
 ghost use Rattle.dcsctp_tlv.specs.Reading.{Answers, Exactly, reading, checking, Tested};
 ghost use Rattle.dcsctp_chunk.specs.Data.{user_data_view};
 ghost use Rattle.dcsctp_chunk.specs.IDataChunk as kind;
@@ -26,6 +26,7 @@ ghost use Rattle.dcsctp_chunk.specs.IDataChunk as kind;
 use crate::data::Data;
 use crate::flags::is_set;
 use crate::raw_chunk::RawChunk;
+use dcsctp_tlv::copy::copied;
 use dcsctp_tlv::error::ChunkParseError;
 use dcsctp_tlv::frame::{MAX_VALUE_SIZE, TLV_HEADER_SIZE, put_fixed_and_rest};
 use dcsctp_tlv::number::{put_u16, put_u32, read_u16_be, read_u32_be};
@@ -96,6 +97,8 @@ impl IDataChunk {
             (λ a. kind.read raw.entry.flags raw.entry.value.now ≡ a) result }
         ensures memory { IsErrOf result ChunkParseError.OutOfMemory →
             IsOk (kind.read raw.entry.flags raw.entry.value.now) }
+        ensures tight { IfOk result
+            (λ x. vec_capacity x.user_data.payload ≡ vec_len x.user_data.payload) }
     {
         if raw.typ != CHUNK_TYPE {
             return Err(ChunkParseError::InvalidType);
@@ -118,7 +121,9 @@ impl IDataChunk {
     /// What the value means, under these flags.
     pub fn build(alloc: Global, flags: u8, value: &[u8]) -> Result<Self, AllocError>
         requires { IsOk (kind.read flags value.now) }
-        ensures { IfOk result (λ x. kind.read flags value.now ≡ Ok (kind.view x)) }
+        ensures meant { IfOk result (λ x. kind.read flags value.now ≡ Ok (kind.view x)) }
+        ensures tight { IfOk result
+            (λ x. vec_capacity x.user_data.payload ≡ vec_len x.user_data.payload) }
     {
         let is_beginning = is_set(flags, 1);
         let stream = StreamId(read_u16_be(&value[4..]));
@@ -131,7 +136,7 @@ impl IDataChunk {
                 mid: Mid(read_u32_be(&value[8..])),
                 fsn,
                 ppid,
-                payload: Vec::from_slice(alloc, &value[FIXED_SIZE..])?,
+                payload: copied(alloc, &value[FIXED_SIZE..])?,
                 is_beginning,
                 is_end: is_set(flags, 0),
             },

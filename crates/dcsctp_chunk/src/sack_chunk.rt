@@ -18,7 +18,7 @@
 //! +-+-+-+-+-+-+-+-+-+-+-+-+-+-+-+-+-+-+-+-+-+-+-+-+-+-+-+-+-+-+-+-+
 //! ```
 
-ghost use Rattle.std.specs.Prelude.{◌≡◌, ◌≢◌, ◌↔◌, ◌<◌, ◌^◌, Some, IsOk, IsErrOf, length, refl, IfOk, Ok};
+ghost use Rattle.std.specs.Prelude.{◌≡◌, ◌≢◌, ◌↔◌, ◌<◌, ◌^◌, Some, IsOk, IsErrOf, length, refl, IfOk, Ok, vec_len, vec_capacity};
 ghost use Rattle.dcsctp_tlv.specs.Reading.{Answers, Exactly, reading, checking, Tested};
 ghost use Rattle.dcsctp_chunk.specs.Sack as kind;
 
@@ -119,6 +119,8 @@ impl SackChunk {
             Exactly reading kind.view (λ a. kind.read raw.entry.value.now ≡ a) result }
         ensures memory { IsErrOf result ChunkParseError.OutOfMemory →
             IsOk (kind.read raw.entry.value.now) }
+        ensures tight { IfOk result (λ x. (vec_capacity x.gap_ack_blocks ≡ vec_len x.gap_ack_blocks)
+            × (vec_capacity x.duplicate_tsns ≡ vec_len x.duplicate_tsns)) }
     {
         if raw.typ != CHUNK_TYPE {
             return Err(ChunkParseError::InvalidType);
@@ -146,7 +148,9 @@ impl SackChunk {
     /// What the value means.
     pub fn build(alloc: Global, value: &[u8]) -> Result<Self, AllocError>
         requires { IsOk (kind.read value.now) }
-        ensures { IfOk result (λ x. kind.read value.now ≡ Ok (kind.view x)) }
+        ensures meant { IfOk result (λ x. kind.read value.now ≡ Ok (kind.view x)) }
+        ensures tight { IfOk result (λ x. (vec_capacity x.gap_ack_blocks ≡ vec_len x.gap_ack_blocks)
+            × (vec_capacity x.duplicate_tsns ≡ vec_len x.duplicate_tsns)) }
     {
         let blocks = read_u16_be(&value[8..]) as usize;
         let duplicates = read_u16_be(&value[10..]) as usize;

@@ -10,11 +10,12 @@
 //! +-+-+-+-+-+-+-+-+-+-+-+-+-+-+-+-+-+-+-+-+-+-+-+-+-+-+-+-+-+-+-+-+
 //! ```
 
-ghost use Rattle.std.specs.Prelude.{◌≡◌, Some, IfOk, IsOk, IsErrOf, Ok};
+ghost use Rattle.std.specs.Prelude.{◌≡◌, Some, IfOk, IsOk, IsErrOf, Ok, vec_len, vec_capacity};
 ghost use Rattle.dcsctp_tlv.specs.Reading.{Exactly, reading};
 ghost use Rattle.dcsctp_chunk.specs.Unknown as kind;
 
 use crate::raw_chunk::RawChunk;
+use dcsctp_tlv::copy::copied;
 use dcsctp_tlv::error::ChunkParseError;
 use dcsctp_tlv::frame::{MAX_VALUE_SIZE, put_solid};
 use dcsctp_tlv::tlv::SerializableTlv;
@@ -40,18 +41,20 @@ impl UnknownChunk {
             (λ a. kind.read raw.entry.typ raw.entry.flags raw.entry.value.now ≡ a) result }
         ensures memory { IsErrOf result ChunkParseError.OutOfMemory →
             IsOk (kind.read raw.entry.typ raw.entry.flags raw.entry.value.now) }
+        ensures tight { IfOk result (λ x. vec_capacity x.value ≡ vec_len x.value) }
     {
         Ok(UnknownChunk::build(alloc, raw.typ, raw.flags, raw.value)?)
     }
 
     /// Copies the value.
     pub fn build(alloc: Global, typ: u8, flags: u8, value: &[u8]) -> Result<Self, AllocError>
-        ensures { IfOk result (λ x. kind.read typ flags value.now ≡ Ok (kind.view x)) }
+        ensures meant { IfOk result (λ x. kind.read typ flags value.now ≡ Ok (kind.view x)) }
+        ensures tight { IfOk result (λ x. vec_capacity x.value ≡ vec_len x.value) }
     {
         Ok(UnknownChunk {
             typ,
             flags,
-            value: Vec::from_slice(alloc, value)?,
+            value: copied(alloc, value)?,
         })
     }
 }

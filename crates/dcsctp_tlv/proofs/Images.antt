@@ -15,7 +15,7 @@ written-append (c ∷ p) [] [] = refl
 written-append (c ∷ p) (d ∷ q) [] = refl
 written-append (c ∷ p) q (x ∷ old) = ap (λ (ys : List ℕ). unwrap_or c x ∷ ys) (written-append p q old)
 
-drop-written : (p : List (Option ℕ)) (old : List ℕ) → drop (length p) (written p old) ≡ drop (length p) old
+pub drop-written : (p : List (Option ℕ)) (old : List ℕ) → drop (length p) (written p old) ≡ drop (length p) old
 drop-written [] old = refl
 drop-written (c ∷ p) [] = refl
 drop-written (c ∷ p) (x ∷ old) = drop-written p old

@@ -58,12 +58,13 @@ HasMeaning row value = (tree : _) × row.means value tree
 abbrev pub MeansParts : {T : Type 0} → (T → ℕ) → Row T → List ℕ → ℕ → Type 0
 MeansParts parts row value n = (tree : _) × row.means value tree × (n ≡ parts tree)
 
--- one item more, which the value means, in the same memory
-pub record Grows {X T : Type 0} (view : X → T) (row : Row T) (value : List ℕ)
-    (old new : List X) : Type 0 where
+-- one item more, which the value means, and which has no memory to spare
+pub record Grows {X T : Type 0} (view : X → T) (IsTight : X → Type 0) (row : Row T)
+    (value : List ℕ) (old new : List X) : Type 0 where
   pub last : X
   pub items : new ≡ old ++ last ∷ []
   pub means : row.means value (view last)
+  pub tight : IsTight last
 
 -- ---- levels
 

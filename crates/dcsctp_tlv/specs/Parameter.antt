@@ -1,5 +1,5 @@
 -- The table of parameters (RFC 9260 section 3.2.1).
-use Rattle.std.specs.Prelude.{◌≡◌, ◌⊎◌, ℕ, Bool, List, [], ◌∷◌, map}
+use Rattle.std.specs.Prelude.{◌≡◌, ◌⊎◌, ℕ, Bool, List, [], ◌∷◌, map, vec_len, vec_capacity}
 use Rattle.std.specs.Int.{w16, from_be_bytes}
 use Rattle.dcsctp_tlv.specs.Frame.{zero_padding}
 use Rattle.dcsctp_tlv.specs.Image.{Tlv}
@@ -75,9 +75,6 @@ format (Unknown u) = record (unknown.format u) { IsWellFormed = IsUnnamed table 
 abbrev pub tlv : ParameterTree → Tlv
 tlv t = (format t).tlv
 
-abbrev pub text : ParameterTree → List ℕ
-text t = (format t).text
-
 abbrev pub IsInWidth : ParameterTree → Type 0
 IsInWidth t = (format t).IsInWidth
 
@@ -91,6 +88,16 @@ kept t = t
 
 abbrev pub all_kept : List ParameterTree → List ParameterTree
 all_kept ts = map kept ts
+
+-- its list, if it has one, has room for its items alone
+abbrev pub IsTight : Parameter → Type 0
+IsTight (variant.HeartbeatInfo p) = vec_capacity p.info ≡ vec_len p.info
+IsTight (variant.StateCookie p) = vec_capacity p.cookie ≡ vec_len p.cookie
+IsTight (variant.OutgoingSsnResetRequest p) = vec_capacity p.streams ≡ vec_len p.streams
+IsTight (variant.IncomingSsnResetRequest p) = vec_capacity p.streams ≡ vec_len p.streams
+IsTight (variant.SupportedExtensions p) = vec_capacity p.chunk_types ≡ vec_len p.chunk_types
+IsTight (variant.Unknown p) = vec_capacity p.value ≡ vec_len p.value
+IsTight p = Unit {0}
 
 -- a parameter of the code, without where it lies in memory
 abbrev pub view : Parameter → ParameterTree

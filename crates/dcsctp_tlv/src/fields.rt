@@ -1,6 +1,6 @@
 //! Fields of one size in a row: stream ids, and whatever else a value lists.
 
-ghost use Rattle.std.specs.Prelude.{◌≡◌, ◌≤◌, ◌+◌, ◌*◌, ◌++◌, ℕ, List, All, IfOk, length, drop, map, vec_capacity, refl};
+ghost use Rattle.std.specs.Prelude.{◌≡◌, ◌≤◌, ◌+◌, ◌*◌, ◌++◌, ℕ, List, All, IfOk, length, drop, map, vec_capacity, refl, vec_len};
 ghost use Rattle.std.specs.Int.{w16, w32, to_be_bytes};
 ghost use Rattle.std.specs.List.{flat_map};
 ghost use Rattle.dcsctp_tlv.specs.Fields.{fields, numbers_and_fields_tlv, fields_tlv};
@@ -146,6 +146,7 @@ pub fn fields_from_bytes<F: Field>(
     ensures fields { IfOk result (λ list. map F.view list.items
         ≡ fields F.field_at F.SIZE count bytes.now) }
     ensures reserved { IfOk result (λ list. vec_capacity list ≡ count) }
+    ensures tight { IfOk result (λ list. vec_capacity list ≡ vec_len list) }
 {
     let mut list = Vec::with_capacity(alloc, count)?;
     for i in 0..count {

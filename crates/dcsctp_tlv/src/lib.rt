@@ -2,6 +2,7 @@
 //! parameters.
 #![tactic(auto)]
 
+pub mod copy;
 pub mod error;
 pub mod fields;
 pub mod frame;

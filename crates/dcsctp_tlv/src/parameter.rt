@@ -25,14 +25,15 @@ pub mod supported_extensions_parameter;
 pub mod unknown_parameter;
 pub mod zero_checksum_acceptable_parameter;
 
-ghost use Rattle.std.specs.Prelude.{◌≡◌, ◌≢◌, ◌≤◌, ◌*◌, [], length, vec_len, vec_capacity, IsOk, IfOk, IsErrOf, refl};
+ghost use Rattle.std.specs.Prelude.{◌≡◌, ◌≢◌, ◌≤◌, ◌*◌, [], length, vec_len, vec_capacity, IsOk, IfOk, IsErrOf, refl, All};
 ghost use Rattle.dcsctp_tlv.specs.Frame.{lenient};
 ghost use Rattle.dcsctp_tlv.specs.Level.{HasMeaning, MeansTrees, MeansSome};
 ghost use Rattle.dcsctp_tlv.specs.Reading.{Answers, Exactly, reading, checking, RowTested, RowAnswer, ListAnswer, Counted};
 ghost use Rattle.dcsctp_tlv.specs.Parameter as parameter;
-ghost use Rattle.dcsctp_tlv.specs.Parameter.{ParameterTree, parameters, TakesNoMemory, view, views};
+ghost use Rattle.dcsctp_tlv.specs.Parameter.{ParameterTree, parameters, TakesNoMemory, IsTight, view, views};
 ghost use Rattle.dcsctp_tlv.specs.declared.parameter.Parameter.TheVariants as variant;
 
+use crate::copy::copied;
 use crate::error::{ChunkParseError, LocatedFault};
 use crate::frame::are_zeros;
 pub use crate::list::{
@@ -132,6 +133,7 @@ impl Parameter {
         ensures memory { IsErrOf result ChunkParseError.OutOfMemory →
             HasMeaning (parameter.row raw.entry.typ) raw.entry.value.now
             × ¬ TakesNoMemory raw.entry.typ }
+        ensures tight { IfOk result IsTight }
     {
         Parameter::read(alloc, raw.typ, raw.value)
     }
@@ -141,6 +143,7 @@ impl Parameter {
         ensures answer { Exactly reading view (RowAnswer (parameter.row typ) value.now) result }
         ensures memory { IsErrOf result ChunkParseError.OutOfMemory
             → HasMeaning (parameter.row typ) value.now × ¬ TakesNoMemory typ }
+        ensures tight { IfOk result IsTight }
     {
         Parameter::check_value(typ, value)?;
         Ok(Parameter::build(alloc, typ, value)?)
@@ -176,6 +179,7 @@ impl Parameter {
         requires { HasMeaning (parameter.row typ) value.now }
         ensures meant { IfOk result (λ p. (parameter.row typ).means value.now (view p)) }
         ensures heap { TakesNoMemory typ → IsOk result }
+        ensures tight { IfOk result IsTight }
     {
         Ok(match typ {
             heartbeat_info_parameter::PARAMETER_TYPE => Parameter::HeartbeatInfo(
@@ -226,6 +230,8 @@ impl ReadableTlv for Parameter {
     ghost level = { parameters };
 
     ghost view = { view };
+
+    ghost is_tight = { IsTight };
 
     ghost parts = { λ t. 1 };
 
@@ -293,7 +299,7 @@ impl ReadableTlv for Parameter {
             }
             _ => {
                 // one copy for all kinds that keep their value, so that each item costs one result
-                let bytes = Vec::from_slice(alloc, value)?;
+                let bytes = copied(alloc, value)?;
                 match typ {
                     heartbeat_info_parameter::PARAMETER_TYPE => {
                         list.push_reserved(Parameter::HeartbeatInfo(HeartbeatInfoParameter {
@@ -478,6 +484,7 @@ pub fn parameters_from_bytes(alloc: Global, bytes: &[u8]) -> Result<Vec<Paramete
     ensures memory { IsErrOf result ChunkParseError.OutOfMemory →
         MeansSome (parameters lenient) bytes.now × (bytes.now ≢ []) }
     ensures reserved { IfOk result (λ list. vec_capacity list ≡ vec_len list) }
+    ensures tight { IfOk result (λ list. All IsTight list.items) }
 {
     list_from_bytes(alloc, bytes)
 }
@@ -502,6 +509,7 @@ pub fn parameters_build(alloc: Global, bytes: &[u8]) -> Result<Vec<Parameter>, A
     ensures meant { IfOk result
         (λ list. MeansTrees (parameters lenient) bytes.now (views list.items)) }
     ensures reserved { IfOk result (λ list. vec_capacity list ≡ vec_len list) }
+    ensures tight { IfOk result (λ list. All IsTight list.items) }
     ensures empty { bytes.now ≡ [] → IsOk result }
 {
     let mut list = Vec::new(alloc);
@@ -521,6 +529,7 @@ pub fn parameters_fill(
     ensures meant { IfOk result
         (λ _. MeansTrees (parameters lenient) bytes.now (views list.new.items)) }
     ensures reserved { IfOk result (λ _. vec_capacity list.new ≡ vec_len list.new) }
+    ensures tight { IfOk result (λ _. All IsTight list.new.items) }
     ensures empty { bytes.now ≡ [] → IsOk result }
 {
     list_fill_counted(list, alloc, bytes)

@@ -1,7 +1,7 @@
 //! Reading a list of items in two passes: a check that takes no memory, and a build that tests
 //! nothing again. For every level.
 
-ghost use Rattle.std.specs.Prelude.{◌≡◌, ◌≢◌, ◌≤◌, ◌<◌, ◌+◌, ◌*◌, ℕ, Bool, List, [], length, map, IsOk, IfOk, IfErr, IsErrOf, vec_len, vec_capacity};
+ghost use Rattle.std.specs.Prelude.{◌≡◌, ◌≢◌, ◌≤◌, ◌<◌, ◌+◌, ◌*◌, ℕ, Bool, List, [], length, map, IsOk, IfOk, IfErr, IsErrOf, vec_len, vec_capacity, All};
 ghost use Rattle.dcsctp_tlv.specs.Frame.{PaddingRule, lenient, Item, AreItems};
 ghost use Rattle.dcsctp_tlv.specs.Level.{Level, HasMeaning, Grows, MeansTrees, MeansSome, MeansMany};
 ghost use Rattle.dcsctp_tlv.specs.Reading.{Answers, reading, locating, ListedLocated, ListAnswer, RowLocated, ListLocated};
@@ -20,6 +20,9 @@ pub trait ReadableTlv: Sized + Drop {
 
     /// What it means, without where it lies in memory.
     ghost view: { Self → Tree };
+
+    /// Its memory has room for what it holds, and no more.
+    ghost is_tight: { Self → Type 0 };
 
     /// It and the items within it, counted.
     ghost parts: { Tree → ℕ };
@@ -42,7 +45,7 @@ pub trait ReadableTlv: Sized + Drop {
     ) -> Result<(), AllocError>
         requires meant { HasMeaning ((level lenient).row first second) value.now }
         requires room { vec_len list.old < vec_capacity list.old }
-        ensures grows { IfOk result (λ _. Grows view
+        ensures grows { IfOk result (λ _. Grows view is_tight
             ((level lenient).row first second) value.now list.old.items list.new.items) }
         ensures len { IfOk result (λ _. vec_len list.new ≡ vec_len list.old + 1) }
         ensures capacity { IfOk result (λ _. vec_capacity list.new ≡ vec_capacity list.old) };
@@ -154,6 +157,7 @@ pub fn list_build<T: ReadableTlv>(
     ensures meant { IfOk result
         (λ list. MeansTrees (T.level lenient) bytes.now (map T.view list.items)) }
     ensures reserved { IfOk result (λ list. vec_capacity list ≡ vec_len list) }
+    ensures tight { IfOk result (λ list. All T.is_tight list.items) }
     ensures empty { bytes.now ≡ [] → IsOk result }
 {
     let mut list = Vec::new(alloc);
@@ -173,6 +177,7 @@ pub fn list_fill<T: ReadableTlv>(
     ensures meant { IfOk result
         (λ _. MeansTrees (T.level lenient) bytes.now (map T.view list.new.items)) }
     ensures reserved { IfOk result (λ _. vec_capacity list.new ≡ vec_len list.new) }
+    ensures tight { IfOk result (λ _. All T.is_tight list.new.items) }
     ensures empty { bytes.now ≡ [] → IsOk result }
 {
     list.reserve_exact(count)?;
@@ -196,6 +201,7 @@ pub fn list_fill_counted<T: ReadableTlv>(
     ensures meant { IfOk result
         (λ _. MeansTrees (T.level lenient) bytes.now (map T.view list.new.items)) }
     ensures reserved { IfOk result (λ _. vec_capacity list.new ≡ vec_len list.new) }
+    ensures tight { IfOk result (λ _. All T.is_tight list.new.items) }
     ensures empty { bytes.now ≡ [] → IsOk result }
 {
     list_fill(list, alloc, bytes, count_items(bytes))
@@ -214,6 +220,7 @@ pub fn list_from_bytes<T: ReadableTlv>(
     ensures memory { IsErrOf result ChunkParseError.OutOfMemory
         → MeansSome (T.level lenient) bytes.now × (bytes.now ≢ []) }
     ensures reserved { IfOk result (λ list. vec_capacity list ≡ vec_len list) }
+    ensures tight { IfOk result (λ list. All T.is_tight list.items) }
 {
     let (count, _) = list_check::<T>(false, bytes)?;
     Ok(list_build(alloc, bytes, count)?)

@@ -2,7 +2,7 @@
 
 ghost use Rattle.std.specs.Prelude.{◌≡◌, ℕ, ◌/◌, ◌<◌, ◌↔◌};
 ghost use Rattle.std.specs.Ordering.{nat_cmp};
-ghost use Rattle.dcsctp_types.specs.Equality.{TellsSame};
+ghost use Rattle.dcsctp_types.specs.Equality.{TellsSame, IsItself};
 ghost use Rattle.dcsctp_types.specs.Serial.{wrapped_sum, wrapped_difference, IsGreater};
 
 use crate::api::{
@@ -68,6 +68,21 @@ pub fn equality()
     ensures lifecycle_ids { TellsSame ⟦<LifecycleId as PartialEq>⟧.eq }
     ensures times { TellsSame ⟦<SocketTime as PartialEq>⟧.eq }
     ensures methods { TellsSame ⟦<ZeroChecksumAlternateErrorDetectionMethod as PartialEq>⟧.eq }
+{}
+
+/// A clone is the value itself: of serial numbers, keys, ids, times and methods.
+pub fn clones()
+    ensures tsns { IsItself ⟦<Tsn as Clone>⟧.is_clone }
+    ensures ssns { IsItself ⟦<Ssn as Clone>⟧.is_clone }
+    ensures mids { IsItself ⟦<Mid as Clone>⟧.is_clone }
+    ensures fsns { IsItself ⟦<Fsn as Clone>⟧.is_clone }
+    ensures message_ids { IsItself ⟦<OutgoingMessageId as Clone>⟧.is_clone }
+    ensures stream_keys { IsItself ⟦<StreamKey as Clone>⟧.is_clone }
+    ensures stream_ids { IsItself ⟦<StreamId as Clone>⟧.is_clone }
+    ensures ppids { IsItself ⟦<PpId as Clone>⟧.is_clone }
+    ensures lifecycle_ids { IsItself ⟦<LifecycleId as Clone>⟧.is_clone }
+    ensures times { IsItself ⟦<SocketTime as Clone>⟧.is_clone }
+    ensures methods { IsItself ⟦<ZeroChecksumAlternateErrorDetectionMethod as Clone>⟧.is_clone }
 {}
 
 /// The methods of error detection have these numbers.

@@ -1,1 +1,3 @@
 pub mod Checks
+pub mod Sealing
+pub mod Chunks

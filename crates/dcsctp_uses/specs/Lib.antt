@@ -1,1 +1,2 @@
-pub mod UserData
+pub mod Sealed
+pub mod Payload

@@ -1,14 +1,21 @@
 //! The programs that take memory, once each: what they answer is compared with bytes worked by hand
 //! from RFC 9260.
 
-use crate::{acknowledgment_with_data, fingerprint, init_answer};
+use crate::acknowledge::acknowledgment_with_data;
+use crate::handshake::init_answer;
+use crate::replay::fingerprint;
+use crate::sealed::{read_verified, seal};
 use dcsctp_wire::api::{PpId, StreamId};
+use dcsctp_wire::packet::chunk::Chunk;
+use dcsctp_wire::packet::cookie_ack_chunk::CookieAckChunk;
 use dcsctp_wire::packet::data::Data;
 use dcsctp_wire::packet::data_chunk::DataChunk;
 use dcsctp_wire::packet::init_ack_chunk::InitAckChunk;
 use dcsctp_wire::packet::init_chunk::InitChunk;
 use dcsctp_wire::packet::sack_chunk::SackChunk;
-use dcsctp_wire::packet::sctp_packet::{ChecksumPolicy, CommonHeader, PacketParseError};
+use dcsctp_wire::packet::sctp_packet::{
+    ChecksumPolicy, CommonHeader, PacketParseError, SctpPacketBuilder,
+};
 use dcsctp_wire::types::{Fsn, Mid, Ssn, StreamKey, Tsn};
 use std::alloc::{AllocError, Global};
 use std::test::Fail;
@@ -119,5 +126,42 @@ fn of_an_init(rt: HostRuntime) -> Result<(), Fail> {
         0, 4,
     ];
     assert!(rt; answers(rt.alloc(), &packet)?);
+    Ok(())
+}
+
+/// The word of a COOKIE ACK, whose CRC32c is 0xa5515aee as another program computes it.
+const WORD: u32 = 0xee5a51a5;
+
+/// The COOKIE ACK with a number in its checksum field.
+fn with_field(word: u32) -> [u8; 16] {
+    let [a, b, c, d] = word.to_be_bytes();
+    [
+        0x13, 0x88, 0x13, 0x88, 1, 2, 3, 4, a, b, c, d, 0x0b, 0, 0, 4,
+    ]
+}
+
+fn seals(alloc: Global, wanted: &[u8]) -> Result<bool, AllocError> {
+    let mut builder = SctpPacketBuilder::new(alloc, 0x01020304, 5000, 5000, 16);
+    let added = builder.try_add(&Chunk::CookieAck(CookieAckChunk))?;
+    Ok(added && seal(&mut builder).as_slice() == wanted)
+}
+
+/// How many chunks are read.
+fn chunks_of(alloc: Global, bytes: &[u8]) -> Result<usize, PacketParseError> {
+    let packet = read_verified(alloc, bytes)?;
+    Ok(packet.chunks.len())
+}
+
+#[test]
+fn of_a_sealed_packet(rt: HostRuntime) -> Result<(), Fail> {
+    assert!(rt; seals(rt.alloc(), &with_field(WORD))?);
+    assert_eq!(rt; chunks_of(rt.alloc(), &with_field(WORD)), Ok(1));
+    for bit in 0..32 {
+        let other = with_field(WORD ^ 1u32.rotate_left(bit));
+        assert_eq!(rt;
+            chunks_of(rt.alloc(), &other),
+            Err(PacketParseError::InvalidChecksum)
+        );
+    }
     Ok(())
 }

@@ -69,9 +69,9 @@ holds_packet b (u ∷ ts) t h = h
 
 -- the same settings, and the chunk's bytes after those that were there
 pub adds : (b after : BuilderState) (t : ChunkTree) → IsChunkEncodable t → IsChunkInWidth t → round_up_to_4 (size_of (chunk_tlv t)) ≤ room b
-    → after ≡ record b { bytes = begun b b.bytes ++ padded_chunk t } → (ts : List ChunkTree) → Holds b ts → Holds after (ts ++ t ∷ [])
+    → after ≡ record b { bytes = begun b b.bytes ++ padded_chunk t; reserved = after.reserved } → (ts : List ChunkTree) → Holds b ts → Holds after (ts ++ t ∷ [])
 adds b after t encodable width fits is ts h =
-    let new = record b { bytes = begun b b.bytes ++ padded_chunk t } in
+    let new = record b { bytes = begun b b.bytes ++ padded_chunk t; reserved = after.reserved } in
     let bytes : new.bytes ≡ canonical (meaning_with b (ts ++ t ∷ [])) = ap (λ (xs : List ℕ). xs ++ padded_chunk t) (begun_held b ts h) ∙ canonical-push (meaning_with b ts) t in
     let len = ap length bytes ∙ length-canonical (meaning_with b (ts ++ t ∷ [])) in
     let more = padded_size-push ts t in

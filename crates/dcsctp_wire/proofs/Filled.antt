@@ -13,9 +13,9 @@ use Rattle.dcsctp_wire.specs.declared.packet.init_ack_chunk.InitAckChunk.{InitAc
 use Rattle.dcsctp_wire.specs.declared.packet.chunk.Chunk.{Chunk}
 use Rattle.dcsctp_wire.specs.declared.packet.chunk.Chunk.TheVariants as variant
 
-pub filled : {X T : Type 0} (view : X → T) (row : Row T) (v : List ℕ) (old pushed : List X) (n : ℕ) (x y : X) → pushed ≡ old ++ x ∷ [] → n ≡ length old → row.means v (view y)
-    → Grows view row v old (slice_set pushed n y)
-filled view row v old pushed n x y is e means = record { last = y; items = rw (is, e) (set-append_seam old x [] y); means = means }
+pub filled : {X T : Type 0} (view : X → T) (IsTight : X → Type 0) (row : Row T) (v : List ℕ) (old pushed : List X) (n : ℕ) (x y : X) → pushed ≡ old ++ x ∷ [] → n ≡ length old → row.means v (view y) → IsTight y
+    → Grows view IsTight row v old (slice_set pushed n y)
+filled view IsTight row v old pushed n x y is e means tight = record { last = y; items = rw (is, e) (set-append_seam old x [] y); means = means; tight = tight }
 
 -- what was pushed stands at the end
 pub last_is : {X : Type 0} (old pushed : List X) (n : ℕ) (x d : X) → pushed ≡ old ++ x ∷ [] → n ≡ length old → slice_index_or pushed n d ≡ x

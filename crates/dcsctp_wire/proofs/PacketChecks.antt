@@ -37,7 +37,7 @@ packet_no_memory (Chunk e) h = no_memory e cc
 packet_reading_distinct : Distinct packet_reading
 packet_reading_distinct = record { one = packet_error_one; apart = packet_no_memory }
 
-packet_checking_distinct : Distinct packet_checking
+pub packet_checking_distinct : Distinct packet_checking
 packet_checking_distinct = record { one = packet_error_one; apart = λ f none. none }
 
 -- ---- both ways

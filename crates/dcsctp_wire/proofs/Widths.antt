@@ -84,7 +84,7 @@ use Rattle.dcsctp_wire.specs.contracts.packet.abort_chunk.AbortChunk as AbortChu
 use Rattle.dcsctp_wire.specs.contracts.packet.error_chunk.ErrorChunk as ErrorChunk
 use Rattle.dcsctp_wire.specs.contracts.packet.re_config_chunk.ReConfigChunk as ReConfigChunk
 use Rattle.dcsctp_wire.specs.contracts.packet.chunk.Chunk as Chunk
-use Rattle.dcsctp_wire.specs.contracts.packet.sctp_packet.CommonHeader as CommonHeader
+use Rattle.dcsctp_wire.specs.contracts.packet.common_header.CommonHeader as CommonHeader
 use Rattle.dcsctp_wire.specs.contracts.packet.sctp_packet.SctpPacket as SctpPacket
 
 -- ---- what a type says, from what its fields' or its variants' types do

@@ -16,6 +16,8 @@ pub record BuilderState : Type 0 where
   pub writes_checksum : Bool
   -- the packet so far
   pub bytes : List ℕ
+  -- how many bytes its memory has room for
+  pub reserved : ℕ
 
 -- ---- what it holds
 
@@ -70,7 +72,8 @@ pub record IsHeaderInWidth (b : BuilderState) : Type 0 where
   pub destination : b.destination < 2 ^ 16
   pub tag : b.tag < 2 ^ 32
 
--- Where there are bytes, the header is whole, and the limit was reserved.
+-- Where there are bytes, the header is whole, and the limit was reserved; else nothing was.
 pub record IsReserved (limit capacity : ℕ) (bytes : List ℕ) : Type 0 where
+  pub none : bytes ≡ [] → capacity ≡ 0
   pub header : bytes ≢ [] → 12 ≤ length bytes
   pub room : bytes ≢ [] → limit ≤ capacity

@@ -1,12 +1,12 @@
 -- The table of chunks (RFC 9260 section 3.2).
-use Rattle.std.specs.Prelude.{◌≡◌, ◌⊎◌, ℕ, ◌+◌, Bool, List, [], ◌∷◌, length, drop, map}
+use Rattle.std.specs.Prelude.{◌≡◌, ◌⊎◌, ℕ, ◌+◌, Bool, List, [], ◌∷◌, All, length, drop, map, vec_len, vec_capacity}
 use Rattle.dcsctp_tlv.specs.Frame.{lenient, full_padding}
 use Rattle.dcsctp_tlv.specs.Level.{Row, plain, as_row, Level, map_ok}
 use Rattle.dcsctp_tlv.specs.Table.{Named, named, row_of, IsUnnamed}
 use Rattle.dcsctp_tlv.specs.Image.{Tlv, IsEncodable}
 use Rattle.dcsctp_tlv.specs.Format.{Format}
-use Rattle.dcsctp_tlv.specs.Parameter.{ParameterTree, all_kept as kept_parameters}
-use Rattle.dcsctp_cause.specs.Cause.{CauseTree}
+use Rattle.dcsctp_tlv.specs.Parameter.{ParameterTree, all_kept as kept_parameters, IsTight as IsTightParameter}
+use Rattle.dcsctp_cause.specs.Cause.{CauseTree, IsTight as IsTightCause}
 use Rattle.dcsctp_chunk.specs as plain_kind
 use Rattle.dcsctp_chunk.specs.SkippedStreams as skipped_streams
 use Rattle.dcsctp_wire.specs as kind
@@ -145,6 +145,33 @@ parts (Abort a) = 1 + length a.causes
 parts (Error cs) = 1 + length cs
 parts (ReConfig ps) = 1 + length ps
 parts t = 1
+
+-- its lists have room for their items alone, and so has each item
+abbrev pub IsTight : Chunk → Type 0
+IsTight (variant.Data c) = vec_capacity c.user_data.payload ≡ vec_len c.user_data.payload
+IsTight (variant.Init c) =
+    (vec_capacity c.parameters ≡ vec_len c.parameters) × All IsTightParameter c.parameters.items
+IsTight (variant.InitAck c) =
+    (vec_capacity c.parameters ≡ vec_len c.parameters) × All IsTightParameter c.parameters.items
+IsTight (variant.Sack c) =
+    (vec_capacity c.gap_ack_blocks ≡ vec_len c.gap_ack_blocks)
+    × (vec_capacity c.duplicate_tsns ≡ vec_len c.duplicate_tsns)
+IsTight (variant.HeartbeatRequest c) =
+    (vec_capacity c.parameters ≡ vec_len c.parameters) × All IsTightParameter c.parameters.items
+IsTight (variant.HeartbeatAck c) =
+    (vec_capacity c.parameters ≡ vec_len c.parameters) × All IsTightParameter c.parameters.items
+IsTight (variant.Abort c) =
+    (vec_capacity c.error_causes ≡ vec_len c.error_causes) × All IsTightCause c.error_causes.items
+IsTight (variant.Error c) =
+    (vec_capacity c.error_causes ≡ vec_len c.error_causes) × All IsTightCause c.error_causes.items
+IsTight (variant.CookieEcho c) = vec_capacity c.cookie ≡ vec_len c.cookie
+IsTight (variant.IData c) = vec_capacity c.user_data.payload ≡ vec_len c.user_data.payload
+IsTight (variant.ReConfig c) =
+    (vec_capacity c.parameters ≡ vec_len c.parameters) × All IsTightParameter c.parameters.items
+IsTight (variant.ForwardTsn c) = vec_capacity c.skipped_streams ≡ vec_len c.skipped_streams
+IsTight (variant.IForwardTsn c) = vec_capacity c.skipped_streams ≡ vec_len c.skipped_streams
+IsTight (variant.Unknown c) = vec_capacity c.value ≡ vec_len c.value
+IsTight c = Unit {0}
 
 -- a chunk of the code, without where it lies in memory
 abbrev pub view : Chunk → ChunkTree

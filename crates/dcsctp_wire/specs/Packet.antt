@@ -11,6 +11,7 @@ use Rattle.dcsctp_tlv.specs.declared.error.ChunkParseError.TheVariants.{OutOfMem
 use Rattle.dcsctp_wire.specs.declared.packet.sctp_packet.PacketParseError.{PacketParseError}
 use Rattle.dcsctp_wire.specs.declared.packet.sctp_packet.PacketParseError.TheVariants.{InvalidPacketSize, InvalidChecksum, FailedParseChunk}
 use Rattle.dcsctp_wire.specs.declared.packet.sctp_packet.ChecksumPolicy.{ChecksumPolicy}
+use Rattle.dcsctp_wire.specs.declared.packet.common_header.CommonHeader.{CommonHeader}
 use Rattle.dcsctp_wire.specs.declared.packet.sctp_packet.SctpPacket.{SctpPacket}
 use Rattle.dcsctp_wire.specs.Chunk.{ChunkTree, chunks, views}
 
@@ -69,6 +70,15 @@ pub record MeansPacket (strict : Bool) (bytes : List ℕ) (p : PacketTree) : Typ
   pub tag : p.meaning.tag ≡ number32 (drop 4 bytes)
   pub checksum : p.checksum ≡ checksum_field bytes
   pub chunks : MeansTrees (chunks strict) (body bytes) p.meaning.chunks
+
+-- the header that these bytes begin with
+abbrev pub header_of : List ℕ → CommonHeader
+header_of bytes = record {
+  source_port = number16 bytes;
+  destination_port = number16 (drop 2 bytes);
+  verification_tag = number32 (drop 4 bytes);
+  checksum = checksum_field bytes;
+}
 
 -- the packet with the header of these bytes, and these chunks
 abbrev pub packet_with : List ℕ → List ChunkTree → PacketTree

@@ -1,66 +1,50 @@
 //! What holds of the definitions alone, as contracts of functions that do nothing; and of the
 //! constants and of equality. `types` has the laws of serial numbers, ids, keys and times.
 
-ghost use Rattle.std.specs.Prelude.{◌≡◌, ◌≤◌, ◌++◌, ◌%◌, ◌↔◌, ℕ, Bool, false, IsTrue, List, Result, length};
-ghost use Rattle.dcsctp_types.specs.Equality.{TellsSame};
+ghost use Rattle.std.specs.Prelude.{◌≡◌, ◌≤◌, ◌+◌, ◌++◌, ◌%◌, ◌↔◌, ℕ, Bool, true, false, IsTrue, List, Result, length, drop};
+ghost use Rattle.dcsctp_types.specs.Equality.{TellsSame, IsItself};
 ghost use Rattle.dcsctp_tlv.specs.Fault.{Fault};
 ghost use Rattle.dcsctp_tlv.specs.Frame.{PaddingRule, lenient};
 ghost use Rattle.dcsctp_tlv.specs.Level.{MeansTrees, HasFault};
 ghost use Rattle.dcsctp_tlv.specs.Decided.{SplitsOneWay, IsDecided, IgnoresPadding};
+ghost use Rattle.dcsctp_tlv.specs.Image.{size_of, image_of, list_size, written};
 ghost use Rattle.dcsctp_tlv.specs.Number.{AreBytes};
-ghost use Rattle.dcsctp_tlv.specs.Parameter.{parameters};
+ghost use Rattle.dcsctp_tlv.specs.Parameter.{parameters, tlv as parameter_tlv};
 ghost use Rattle.dcsctp_cause.specs.Cause.{causes};
-ghost use Rattle.dcsctp_wire.specs.Chunk.{ChunkTree, chunks};
+ghost use Rattle.dcsctp_wire.specs.Chunk.{ChunkTree, Init, InitAck, chunks, tlv};
+ghost use Rattle.dcsctp_wire.specs.InitFields.{Tree as InitTree};
 ghost use Rattle.dcsctp_wire.specs.Packet.{PacketTree, PacketFault, Chunk, IsOpened, body, packet_with, Answer};
 ghost use Rattle.dcsctp_wire.specs.Place.{HasPacketFaultAt};
-ghost use Rattle.dcsctp_wire.specs.declared.packet.sctp_packet.ChecksumPolicy.{ChecksumPolicy};
 
-use crate::packet::abort_chunk::CHUNK_TYPE as ABORT;
+use crate::packet::cause_codes::{
+    COOKIE_RECEIVED_WHILE_SHUTTING_DOWN, MISSING_MANDATORY_PARAMETER, NO_USER_DATA,
+    PROTOCOL_VIOLATION, UNRECOGNIZED_CHUNK, USER_INITIATED_ABORT,
+};
 pub use crate::packet::chunk::chunk_has_widths;
-use crate::packet::cookie_ack_chunk::CHUNK_TYPE as COOKIE_ACK;
-use crate::packet::cookie_echo_chunk::CHUNK_TYPE as COOKIE_ECHO;
-use crate::packet::cookie_received_while_shutting_down::CAUSE_CODE as COOKIE_RECEIVED_WHILE_SHUTTING_DOWN;
-use crate::packet::data_chunk::{CHUNK_TYPE as DATA, HEADER_SIZE as DATA_SIZE};
-use crate::packet::error_chunk::{CHUNK_TYPE as ERROR, HEADER_SIZE as ERROR_SIZE};
-use crate::packet::forward_tsn_chunk::CHUNK_TYPE as FORWARD_TSN;
-use crate::packet::forward_tsn_supported_parameter::PARAMETER_TYPE as FORWARD_TSN_SUPPORTED;
-use crate::packet::heartbeat_ack_chunk::{
-    CHUNK_TYPE as HEARTBEAT_ACK, HEADER_SIZE as HEARTBEAT_ACK_SIZE,
+use crate::packet::chunk_types::{
+    ABORT, COOKIE_ACK, COOKIE_ECHO, DATA, ERROR, FORWARD_TSN, HEARTBEAT, HEARTBEAT_ACK, I_DATA,
+    I_FORWARD_TSN, INIT, INIT_ACK, RE_CONFIG, SACK, SHUTDOWN, SHUTDOWN_ACK, SHUTDOWN_COMPLETE,
 };
-use crate::packet::heartbeat_info_parameter::PARAMETER_TYPE as HEARTBEAT_INFO;
-use crate::packet::heartbeat_request_chunk::CHUNK_TYPE as HEARTBEAT;
-use crate::packet::idata_chunk::{CHUNK_TYPE as I_DATA, HEADER_SIZE as I_DATA_SIZE};
-use crate::packet::iforward_tsn_chunk::CHUNK_TYPE as I_FORWARD_TSN;
-use crate::packet::incoming_ssn_reset_request_parameter::PARAMETER_TYPE as INCOMING_SSN_RESET;
-use crate::packet::init_ack_chunk::CHUNK_TYPE as INIT_ACK;
-use crate::packet::init_chunk::CHUNK_TYPE as INIT;
-use crate::packet::missing_mandatory_parameter_error_cause::{
-    CAUSE_CODE as MISSING_MANDATORY_PARAMETER, MissingMandatoryParameterErrorCause,
+use crate::packet::data_chunk::HEADER_SIZE as DATA_SIZE;
+use crate::packet::error_chunk::HEADER_SIZE as ERROR_SIZE;
+use crate::packet::heartbeat_ack_chunk::HEADER_SIZE as HEARTBEAT_ACK_SIZE;
+use crate::packet::idata_chunk::HEADER_SIZE as I_DATA_SIZE;
+use crate::packet::missing_mandatory_parameter_error_cause::MissingMandatoryParameterErrorCause;
+use crate::packet::parameter_types::{
+    ADD_INCOMING_STREAMS, ADD_OUTGOING_STREAMS, FORWARD_TSN_SUPPORTED, HEARTBEAT_INFO,
+    INCOMING_SSN_RESET, OUTGOING_SSN_RESET, RECONFIGURATION_RESPONSE, SSN_TSN_RESET, STATE_COOKIE,
+    SUPPORTED_EXTENSIONS, ZERO_CHECKSUM_ACCEPTABLE,
 };
-use crate::packet::no_user_data_error_cause::CAUSE_CODE as NO_USER_DATA;
-use crate::packet::outgoing_ssn_reset_request_parameter::PARAMETER_TYPE as OUTGOING_SSN_RESET;
-use crate::packet::parameter::{
-    PARAMETER_TYPE_ADD_INCOMING_STREAMS_REQUEST as ADD_INCOMING_STREAMS,
-    PARAMETER_TYPE_ADD_OUTGOING_STREAMS_REQUEST as ADD_OUTGOING_STREAMS,
-    PARAMETER_TYPE_SSN_TSN_RESET_REQUEST as SSN_TSN_RESET,
-};
-use crate::packet::protocol_violation_error_cause::CAUSE_CODE as PROTOCOL_VIOLATION;
-use crate::packet::re_config_chunk::CHUNK_TYPE as RE_CONFIG;
-use crate::packet::reconfiguration_response_parameter::{
-    PARAMETER_TYPE as RECONFIGURATION_RESPONSE, ReconfigurationResponseResult,
-};
-use crate::packet::sack_chunk::{CHUNK_TYPE as SACK, GapAckBlock};
+use crate::packet::reconfiguration_response_parameter::ReconfigurationResponseResult;
+use crate::packet::sack_chunk::GapAckBlock;
 pub use crate::packet::sctp_packet::has_widths;
-use crate::packet::sctp_packet::{COMMON_HEADER_SIZE, FirstFault, PacketParseError};
-use crate::packet::shutdown_ack_chunk::CHUNK_TYPE as SHUTDOWN_ACK;
-use crate::packet::shutdown_chunk::CHUNK_TYPE as SHUTDOWN;
-use crate::packet::shutdown_complete_chunk::CHUNK_TYPE as SHUTDOWN_COMPLETE;
-use crate::packet::state_cookie_parameter::PARAMETER_TYPE as STATE_COOKIE;
-use crate::packet::supported_extensions_parameter::PARAMETER_TYPE as SUPPORTED_EXTENSIONS;
-use crate::packet::unrecognized_chunk_error_cause::CAUSE_CODE as UNRECOGNIZED_CHUNK;
-use crate::packet::user_initiated_abort_error_cause::CAUSE_CODE as USER_INITIATED_ABORT;
-use crate::packet::zero_checksum_acceptable_parameter::PARAMETER_TYPE as ZERO_CHECKSUM_ACCEPTABLE;
-use crate::packet::{ChunkParseError, PARAMETER_HEADER_SIZE, SkippedStream, TLV_HEADER_SIZE};
+use crate::packet::sctp_packet::{
+    COMMON_HEADER_SIZE, ChecksumPolicy, FirstFault, PacketParseError,
+};
+use crate::packet::{
+    ChunkParseError, PARAMETER_HEADER_SIZE, SerializableTlv, SkippedStream, TLV_HEADER_SIZE,
+};
+use dcsctp_tlv::frame::MAX_VALUE_SIZE;
 pub use dcsctp_types::laws as types;
 
 /// Each input has exactly one answer, under each checksum word and each policy.
@@ -112,6 +96,24 @@ pub fn strict_is_lenient()
         → Answer bytes word (record policy { strict_padding = false }) (Ok p) }
 {}
 
+/// A chunk, a parameter or an error cause is written as just `serialized_size` bytes, wherever it can
+/// be written; so is a caller's own type. `serialize_to` leaves the bytes after them as they were.
+pub fn image_size<T: SerializableTlv>()
+    ensures size { (item : T) → length (image_of (T.format item).tlv) ≡ size_of (T.format item).tlv }
+    ensures after { (item : T) (output : List ℕ)
+        → drop (size_of (T.format item).tlv) (written (image_of (T.format item).tlv) output)
+        ≡ drop (size_of (T.format item).tlv) output }
+{}
+
+/// The value of an INIT or an INIT ACK is sixteen bytes of numbers, and its parameters after them
+/// (RFC 9260 sections 3.3.2 and 3.3.3).
+pub fn init_size()
+    ensures init { (i : InitTree)
+        → (tlv (Init i)).value_size ≡ 16 + list_size parameter_tlv i.parameters }
+    ensures init_ack { (i : InitTree)
+        → (tlv (InitAck i)).value_size ≡ 16 + list_size parameter_tlv i.parameters }
+{}
+
 /// Two values are equal exactly where they are the same: errors, first faults, results, gap ack
 /// blocks and skipped streams; and causes of missing parameters exactly where they name the same ones.
 /// (`types::equality` has the serial numbers, ids, keys, times and methods.)
@@ -127,7 +129,16 @@ pub fn equality()
         ↔ (a.missing_parameters.items ≡ b.missing_parameters.items) }
 {}
 
-/// The types of chunks and parameters, the codes of error causes, and the sizes of headers.
+/// A clone is the value itself: of results, gap ack blocks and policies. (`types::clones` has the
+/// serial numbers, ids, keys, times and methods.)
+pub fn clones()
+    ensures results { IsItself ⟦<ReconfigurationResponseResult as Clone>⟧.is_clone }
+    ensures blocks { IsItself ⟦<GapAckBlock as Clone>⟧.is_clone }
+    ensures policies { IsItself ⟦<ChecksumPolicy as Clone>⟧.is_clone }
+{}
+
+/// The types of chunks and parameters, the codes of error causes, the sizes of headers, the most bytes
+/// of a value, and the policy that accepts every checksum.
 /// (`types::methods` has the methods of error detection.)
 pub fn constants()
     ensures data { DATA ≡ 0 }
@@ -171,4 +182,8 @@ pub fn constants()
     ensures tlv_header_size { TLV_HEADER_SIZE ≡ 4 }
     ensures parameter_header_size { PARAMETER_HEADER_SIZE ≡ 4 }
     ensures common_header_size { COMMON_HEADER_SIZE ≡ 12 }
+    ensures max_value_size { MAX_VALUE_SIZE ≡ 65531 }
+    ensures any_checksum { ChecksumPolicy.ANY_CHECKSUM.disable_checksum_verification ≡ true }
+    ensures no_other_method { ChecksumPolicy.ANY_CHECKSUM.zero_checksum_alternate_error_detection_method.0 ≡ 0 }
+    ensures any_padding { ChecksumPolicy.ANY_CHECKSUM.strict_padding ≡ false }
 {}

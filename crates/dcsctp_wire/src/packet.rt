@@ -2,17 +2,25 @@
 
 pub mod abort_chunk;
 mod builder;
+pub mod cause_codes;
 pub mod chunk;
+pub mod chunk_types;
+mod common_header;
 pub mod error_chunk;
 mod first_fault;
 pub mod heartbeat_ack_chunk;
 pub mod heartbeat_request_chunk;
+pub mod in_place;
 mod init;
 pub mod init_ack_chunk;
 pub mod init_chunk;
+pub mod packet_ref;
 mod parameter_list;
+pub mod parameter_types;
+pub mod raw_chunks;
 pub mod re_config_chunk;
 pub mod sctp_packet;
+pub mod user_data;
 
 pub use dcsctp_cause::{
     cookie_received_while_shutting_down, error_causes, missing_mandatory_parameter_error_cause,
@@ -21,8 +29,8 @@ pub use dcsctp_cause::{
 };
 pub use dcsctp_chunk::{
     chunk_validators, cookie_ack_chunk, cookie_echo_chunk, data, data_chunk, forward_tsn_chunk,
-    idata_chunk, iforward_tsn_chunk, sack_chunk, shutdown_ack_chunk, shutdown_chunk,
-    shutdown_complete_chunk, unknown_chunk,
+    idata_chunk, iforward_tsn_chunk, plain_check, raw_chunk, sack_chunk, shutdown_ack_chunk,
+    shutdown_chunk, shutdown_complete_chunk, unknown_chunk,
 };
 pub use dcsctp_tlv::error::ChunkParseError;
 pub use dcsctp_tlv::frame::TLV_HEADER_SIZE;

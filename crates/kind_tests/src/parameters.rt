@@ -5,7 +5,7 @@ ghost use Rattle.dcsctp_tlv.specs.UnknownParameter as unknown;
 
 use crate::help::{
     Kind, Listed, first_printed, is_kept, is_list_told, is_told, list_rewritten, list_told,
-    list_written, raw_parameter, size_of, told, told_of,
+    list_written, raw_parameter, size_of, told, told_of, written,
 };
 use dcsctp_tlv::error::ChunkParseError;
 use dcsctp_tlv::frame::put_parameter;
@@ -523,6 +523,44 @@ fn made(rt: HostRuntime) -> Result<(), Fail> {
         list_told::<Parameter>(rt.alloc(), &[0xc0, 0, 0, 5, 1])?.as_str(),
         "InvalidLength"
     );
+    Ok(())
+}
+
+/// A request is written as these bytes, and these are read as this.
+fn is_made_as<T: Kind>(
+    alloc: Global,
+    request: T,
+    bytes: &[u8],
+    wanted: &str,
+) -> Result<bool, AllocError> {
+    let output = written(alloc, &request)?;
+    Ok(output.as_slice() == bytes && is_told::<T>(alloc, &output, wanted)?)
+}
+
+// The typed requests of RFC 6525 (sections 4.3, 4.5 and 4.6), built and read back.
+#[test]
+fn requests_made(rt: HostRuntime) -> Result<(), Fail> {
+    let reset = SsnTsnResetRequestParameter { request_seq_nbr: 7 };
+    let bytes = [0, 15, 0, 8, 0, 0, 0, 7];
+    let wanted =
+        "SsnTsnResetRequestParameter { request_seq_nbr: 7 }; SSN/TSN Reset Request, req_seq_nbr=7";
+    assert!(rt; is_made_as(rt.alloc(), reset, &bytes, wanted)?);
+    let outgoing = AddOutgoingStreamsRequestParameter {
+        request_seq_nbr: 7,
+        nbr_new_streams: 16,
+    };
+    let bytes = [0, 17, 0, 12, 0, 0, 0, 7, 0, 16, 0, 0];
+    let wanted =
+        "AddOutgoingStreamsRequestParameter { request_seq_nbr: 7, nbr_new_streams: 16 }; Add Outgoing Streams Request, req_seq_nbr=7, new_streams=16";
+    assert!(rt; is_made_as(rt.alloc(), outgoing, &bytes, wanted)?);
+    let incoming = AddIncomingStreamsRequestParameter {
+        request_seq_nbr: 16909060,
+        nbr_new_streams: 256,
+    };
+    let bytes = [0, 18, 0, 12, 1, 2, 3, 4, 1, 0, 0, 0];
+    let wanted =
+        "AddIncomingStreamsRequestParameter { request_seq_nbr: 16909060, nbr_new_streams: 256 }; Add Incoming Streams Request, req_seq_nbr=16909060, new_streams=256";
+    assert!(rt; is_made_as(rt.alloc(), incoming, &bytes, wanted)?);
     Ok(())
 }
 

@@ -3,7 +3,7 @@
 ghost use Rattle.std.specs.Prelude.{◌<◌, ◌≤◌};
 
 use crate::help::{Kind, is_kept, is_rewritten, is_told, raw_chunk, size_of, told};
-use dcsctp_chunk::chunk_validators::{clean_sack, validate_sack};
+use dcsctp_chunk::chunk_validators::{clean_blocks, clean_sack, validate_sack};
 use dcsctp_chunk::sack_chunk::{GapAckBlock, SackChunk};
 use dcsctp_tlv::error::ChunkParseError;
 use dcsctp_types::types::{SerialNumber, Tsn};
@@ -142,7 +142,12 @@ fn is_cleaned(
     valid: bool,
 ) -> Result<bool, AllocError> {
     let wanted = blocks_of(alloc, wanted)?;
-    Ok(cleans_to(alloc, blocks_of(alloc, pairs)?, &wanted, valid))
+    let mut alone = blocks_of(alloc, pairs)?;
+    clean_blocks(&mut alone);
+    Ok(
+        alone.as_slice() == wanted.as_slice()
+            && cleans_to(alloc, blocks_of(alloc, pairs)?, &wanted, valid),
+    )
 }
 
 /// Blocks, whether they are valid, what they are cleaned to, and whether that is valid.

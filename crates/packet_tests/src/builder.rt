@@ -2,10 +2,17 @@
 
 use crate::help::{chunk_of, has_chunks, header_of, is_answered};
 use dcsctp_wire::api::{PpId, StreamId};
+use dcsctp_wire::packet::add_incoming_streams_request_parameter::AddIncomingStreamsRequestParameter;
+use dcsctp_wire::packet::add_outgoing_streams_request_parameter::AddOutgoingStreamsRequestParameter;
 use dcsctp_wire::packet::chunk::Chunk;
 use dcsctp_wire::packet::data::Data;
 use dcsctp_wire::packet::data_chunk::DataChunk;
+use dcsctp_wire::packet::incoming_ssn_reset_request_parameter::IncomingSsnResetRequestParameter;
+use dcsctp_wire::packet::outgoing_ssn_reset_request_parameter::OutgoingSsnResetRequestParameter;
+use dcsctp_wire::packet::parameter::Parameter;
+use dcsctp_wire::packet::re_config_chunk::ReConfigChunk;
 use dcsctp_wire::packet::sctp_packet::{ChecksumPolicy, SctpPacketBuilder};
+use dcsctp_wire::packet::ssn_tsn_reset_request_parameter::SsnTsnResetRequestParameter;
 use dcsctp_wire::packet::{ChunkParseError, SerializableTlv, round_up_to_4};
 use dcsctp_wire::types::{Fsn, Mid, Ssn, StreamKey, Tsn};
 use std::alloc::{AllocError, Global};
@@ -302,5 +309,85 @@ fn not_carried(rt: HostRuntime) -> Result<(), Fail> {
     assert!(rt; has_chunks(rt.alloc(), WITH_DATA, 9, &policy, wanted)?);
     // another word is expected
     assert!(rt; is_answered(rt.alloc(), WITH_DATA, 8, &policy, "InvalidChecksum")?);
+    Ok(())
+}
+
+/// A RE-CONFIG that asks for a reset of all TSNs, and for more streams both ways.
+fn requests(alloc: Global) -> Result<Chunk, AllocError> {
+    let mut chunk = ReConfigChunk::new(alloc);
+    chunk.parameters = vec![in alloc;
+        Parameter::SsnTsnResetRequest(SsnTsnResetRequestParameter { request_seq_nbr: 7 }),
+        Parameter::AddOutgoingStreamsRequest(AddOutgoingStreamsRequestParameter {
+            request_seq_nbr: 8,
+            nbr_new_streams: 16,
+        }),
+        Parameter::AddIncomingStreamsRequest(AddIncomingStreamsRequestParameter {
+            request_seq_nbr: 0x01020304,
+            nbr_new_streams: 0x0100,
+        }),
+    ]?;
+    Ok(Chunk::ReConfig(chunk))
+}
+
+/// A RE-CONFIG that asks for a reset of streams both ways.
+fn resets(alloc: Global) -> Result<Chunk, AllocError> {
+    let (outgoing, incoming) = (
+        Vec::from_slice(alloc, &[StreamId(4), StreamId(256)])?,
+        Vec::from_slice(alloc, &[StreamId(3)])?,
+    );
+    let mut chunk = ReConfigChunk::new(alloc);
+    chunk.parameters = vec![in alloc;
+        Parameter::OutgoingSsnResetRequest(OutgoingSsnResetRequestParameter {
+            request_seq_nbr: 1,
+            response_seq_nbr: 2,
+            sender_last_assigned_tsn: Tsn(3),
+            streams: outgoing,
+        }),
+        Parameter::IncomingSsnResetRequest(IncomingSsnResetRequestParameter {
+            request_seq_nbr: 7,
+            streams: incoming,
+        }),
+    ]?;
+    Ok(Chunk::ReConfig(chunk))
+}
+
+/// Whether a packet of this chunk alone is built as these bytes.
+fn is_built(alloc: Global, chunk: &Chunk, bytes: &[u8]) -> Result<bool, AllocError> {
+    let mut builder = SctpPacketBuilder::new(alloc, 7, 1, 2, 100);
+    let is_added = builder.try_add(chunk)?;
+    Ok(is_added && builds(&mut builder, 9, bytes))
+}
+
+fn are_requests_built(alloc: Global) -> Result<bool, AllocError> {
+    is_built(alloc, &requests(alloc)?, WITH_REQUESTS)
+}
+
+fn are_resets_built(alloc: Global) -> Result<bool, AllocError> {
+    is_built(alloc, &resets(alloc)?, WITH_RESETS)
+}
+
+const WITH_REQUESTS: &[u8] = &[
+    0, 1, 0, 2, 0, 0, 0, 7, 0, 0, 0, 9, 0x82, 0, 0, 36, 0, 15, 0, 8, 0, 0, 0, 7, 0, 17, 0, 12, 0,
+    0, 0, 8, 0, 16, 0, 0, 0, 18, 0, 12, 1, 2, 3, 4, 1, 0, 0, 0,
+];
+
+// The chunk's length leaves out the padding of the last parameter.
+const WITH_RESETS: &[u8] = &[
+    0, 1, 0, 2, 0, 0, 0, 7, 0, 0, 0, 9, 0x82, 0, 0, 34, 0, 13, 0, 20, 0, 0, 0, 1, 0, 0, 0, 2, 0, 0,
+    0, 3, 0, 4, 1, 0, 0, 14, 0, 10, 0, 0, 0, 7, 0, 3, 0, 0,
+];
+
+// Requests of RFC 6525 are built, and read back with all that they hold.
+#[test]
+fn typed_requests(rt: HostRuntime) -> Result<(), Fail> {
+    let policy = ChecksumPolicy::default();
+    assert!(rt; are_requests_built(rt.alloc())?);
+    let wanted =
+        "[ReConfig(ReConfigChunk { parameters: [SsnTsnResetRequest(SsnTsnResetRequestParameter { request_seq_nbr: 7 }), AddOutgoingStreamsRequest(AddOutgoingStreamsRequestParameter { request_seq_nbr: 8, nbr_new_streams: 16 }), AddIncomingStreamsRequest(AddIncomingStreamsRequestParameter { request_seq_nbr: 16909060, nbr_new_streams: 256 })] })]";
+    assert!(rt; has_chunks(rt.alloc(), WITH_REQUESTS, 9, &policy, wanted)?);
+    assert!(rt; are_resets_built(rt.alloc())?);
+    let wanted =
+        "[ReConfig(ReConfigChunk { parameters: [OutgoingSsnResetRequest(OutgoingSsnResetRequestParameter { request_seq_nbr: 1, response_seq_nbr: 2, sender_last_assigned_tsn: 3, streams: [4, 256] }), IncomingSsnResetRequest(IncomingSsnResetRequestParameter { request_seq_nbr: 7, streams: [3] })] })]";
+    assert!(rt; has_chunks(rt.alloc(), WITH_RESETS, 9, &policy, wanted)?);
     Ok(())
 }

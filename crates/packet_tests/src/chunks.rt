@@ -17,7 +17,7 @@ use std::alloc::{AllocError, Global};
 use std::test::Fail;
 
 /// The bytes, what the chunk prints, all that it holds, and the chunk as it is written again.
-const ROWS: &[(&[u8], &str, &str, &[u8])] = &[
+pub(crate) const ROWS: &[(&[u8], &str, &str, &[u8])] = &[
     // DATA in mid-message, which asks for an immediate ack; it carries no MID and no FSN
     (
         &[

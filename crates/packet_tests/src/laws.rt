@@ -2,6 +2,8 @@
 
 use crate::help::{HEADER, UNVERIFIED, packet_of};
 use dcsctp_wire::laws;
+use dcsctp_wire::packet::chunk::Chunk;
+use dcsctp_wire::packet::parameter::Parameter;
 use dcsctp_wire::packet::sctp_packet::{PacketParseError, SctpPacket};
 use dcsctp_wire::types::Tsn;
 use std::alloc::Global;
@@ -11,12 +13,17 @@ use std::test::Fail;
 fn hold() {
     laws::one_answer();
     laws::reading_is_local();
+    laws::strict_is_lenient();
+    laws::image_size::<Chunk>();
+    laws::image_size::<Parameter>();
+    laws::init_size();
     laws::equality();
     laws::constants();
     laws::types::window::<Tsn>();
     laws::types::orders();
     laws::types::equality();
     laws::types::methods();
+    laws::types::webrtc_ppids();
 }
 
 /// Asks the law of a packet that is read.

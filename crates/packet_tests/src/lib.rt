@@ -20,9 +20,13 @@ mod chunks;
 #[cfg(test)]
 mod counts;
 #[cfg(test)]
+mod facade;
+#[cfg(test)]
 mod faults;
 #[cfg(test)]
 mod help;
+#[cfg(test)]
+mod in_place;
 #[cfg(test)]
 mod largest;
 #[cfg(test)]

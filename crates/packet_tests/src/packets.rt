@@ -226,8 +226,37 @@ fn accepted(rt: HostRuntime) -> Result<(), Fail> {
     Ok(())
 }
 
+/// The canonical packet has the size of the wanted one, and is written as it over bytes `ee`.
+fn is_written_over(alloc: Global, bytes: &[u8], wanted: &[u8]) -> Result<bool, Fail> {
+    let packet = SctpPacket::from_bytes(alloc, bytes, 0, &UNVERIFIED)?;
+    if !packet.fits() || packet.canonical_size() != wanted.len() {
+        return Ok(false);
+    }
+    let mut output = vec![in alloc; 0xee; packet.canonical_size()]?;
+    packet.write_canonical(&mut output);
+    Ok(output.as_slice() == wanted)
+}
+
+/// The same of the header and these chunks.
+fn is_written_as(alloc: Global, chunks: &[u8], wanted: &[u8]) -> Result<bool, Fail> {
+    let bytes = packet_of(alloc, chunks)?;
+    let wanted = packet_of(alloc, wanted)?;
+    is_written_over(alloc, &bytes, &wanted)
+}
+
+// Into the caller's bytes: no byte of the canonical packet stays as it stood.
+#[test]
+fn written(rt: HostRuntime) -> Result<(), Fail> {
+    for rows in [ACCEPTED, ACCEPTED_WITH_LISTS] {
+        for (i, (chunks, _, canonical)) in rows.iter().enumerate() {
+            assert!(rt; is_written_as(rt.alloc(), chunks, canonical)?, "row {i}");
+        }
+    }
+    Ok(())
+}
+
 /// The chunks of the input, and the answer.
-const REFUSED: &[(&[u8], &str)] = &[
+pub(crate) const REFUSED: &[(&[u8], &str)] = &[
     // no chunk at all
     (&[], "InvalidPacketSize"),
     // fewer bytes than a chunk's header

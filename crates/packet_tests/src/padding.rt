@@ -134,6 +134,14 @@ const ROWS: &[(&[u8], Answer, Answer)] = &[
     // a parameter of a HEARTBEAT ACK, and a cause of an ERROR
     (&[5, 0, 0, 12, 0, 1, 0, 5, 7, 0, 0, 1], Ok(2), PADDING),
     (&[9, 0, 0, 12, 0, 0x63, 0, 5, 7, 0, 0, 1], Ok(2), PADDING),
+    // reserved bytes that aren't zero are no padding
+    (
+        &[
+            0x82, 0, 0, 0x10, 0, 0x11, 0, 0x0c, 0, 0, 0, 7, 0, 0x10, 0xab, 0xcd,
+        ],
+        Ok(2),
+        Ok(2),
+    ),
     // a byte is left over
     (&[0x0b, 0, 0, 4, 0], LENGTH, LENGTH),
     // a captured INIT: with its padding, and without
@@ -207,8 +215,8 @@ fn is_written_as(alloc: Global, chunks: &[u8], canonical: &[u8]) -> Result<bool,
     is_canonical(alloc, &bytes, 0, &STRICT, &wanted)
 }
 
-// What is read strictly needn't be as it is written: a length may count padding, and flags that
-// have no meaning may be set.
+// What is read strictly needn't be as it is written: a length may count padding, and flags and
+// reserved bytes that have no meaning may be set.
 #[test]
 fn not_canonical(rt: HostRuntime) -> Result<(), Fail> {
     let abort = [6, 0, 0, 10, 0, 0x63, 0, 5, 0, 0, 0, 0];
@@ -217,5 +225,12 @@ fn not_canonical(rt: HostRuntime) -> Result<(), Fail> {
     let ack = [0x0b, 7, 0, 4];
     let wanted = [0x0b, 0, 0, 4];
     assert!(rt; is_written_as(rt.alloc(), &ack, &wanted)?);
+    let request = [
+        0x82, 0, 0, 0x10, 0, 0x11, 0, 0x0c, 0, 0, 0, 7, 0, 0x10, 0xab, 0xcd,
+    ];
+    let wanted = [
+        0x82, 0, 0, 0x10, 0, 0x11, 0, 0x0c, 0, 0, 0, 7, 0, 0x10, 0, 0,
+    ];
+    assert!(rt; is_written_as(rt.alloc(), &request, &wanted)?);
     Ok(())
 }

@@ -1,10 +1,10 @@
 -- An input has one answer.
-use Rattle.std.proofs.Common.{◌≡◌, ℕ, Bool, List, ◌++◌, Result, Ok, Err, IsErr, sym, subst, ap, ◌∙◌, arith}
-use Rattle.std.specs.List.{flat_map}
+use Rattle.std.proofs.Common.{◌≡◌, ℕ, Bool, List, ◌++◌, codes, Result, Ok, Err, IsErr, sym, subst, ap, ◌∙◌, arith}
 use Rattle.hex.specs.declared.error.FromHexError.{FromHexError}
 use Rattle.hex.proofs.HexLemmas.{decode_of-ok, decode_of-same}
 use Rattle.dcsctp_wire.specs.Packet.{Meaning, PacketTree, PacketFault, Answer}
-use Rattle.sctp_show.specs.Show.{CanonicalLine, fits, unfit, PacketText, header_line, chunk_line, Tells, Shows, too_long, not_hexadecimal, packet, unverified, without_blanks}
+use Rattle.dcsctp_wire.specs.PacketText.{packet_text}
+use Rattle.sctp_show.specs.Show.{CanonicalLine, fits, unfit, PacketText, Tells, Shows, too_long, not_hexadecimal, packet, unverified, without_blanks}
 use Rattle.dcsctp_wire.proofs.Packets.{answer_one}
 
 same_line : (m : Meaning) (a b : List ℕ) → CanonicalLine m a → CanonicalLine m b → a ≡ b
@@ -15,7 +15,7 @@ same_line m a b (unfit h is) (unfit k also) = is ∙ sym also
 
 same_text : (p : PacketTree) (a b : List ℕ) → PacketText p a → PacketText p b → a ≡ b
 same_text p a b (last, line, is) (also_last, also_line, also) =
-    is ∙ ap (λ l. header_line p ++ flat_map chunk_line p.meaning.chunks ++ l) (same_line p.meaning last also_last line also_line) ∙ sym also
+    is ∙ ap (λ l. packet_text p ++ codes "\n" ++ l) (same_line p.meaning last also_last line also_line) ∙ sym also
 
 same_told : (read : Result PacketTree PacketFault) (a b : List ℕ × ℕ) → Tells read a → Tells read b → a ≡ b
 same_told (Ok p) a b (text, told, is) (also_text, also_told, also) =

@@ -1,29 +1,16 @@
 -- What the program answers an input with: a text and a status.
 use Rattle.std.specs.Prelude.{◌≡◌, ◌↔◌, ◌≤◌, ◌<◌, ◌⊎◌, ℕ, ◌||◌, ◌==◌, Bool, true, false, not, List, ◌++◌, length, take, codes, Option, Some, Result, Ok, Err, IsErr, IfSome}
-use Rattle.std.specs.List.{filter, flat_map}
-use Rattle.std.specs.Fmt.{decimal}
+use Rattle.std.specs.List.{filter}
 use Rattle.std.specs.Io.{StartsWith}
 use Rattle.std.specs.Io.KnownBytes.{Consumes, Appends}
 use Rattle.hex.specs.Hex.{decode_of, encode_lower}
 use Rattle.dcsctp_wire.specs.declared.packet.sctp_packet.ChecksumPolicy.{ChecksumPolicy}
-use Rattle.dcsctp_wire.specs.Chunk.{ChunkTree, text as chunk_text}
 use Rattle.dcsctp_wire.specs.Packet.{Meaning, PacketTree, PacketFault, Size, Checksum, Chunk, Answer}
 use Rattle.dcsctp_wire.specs.Fault.{Length, Padding, Value}
 use Rattle.dcsctp_wire.specs.Canonical.{canonical, Fits}
+use Rattle.dcsctp_wire.specs.PacketText.{packet_text}
 
 ---- the text of a packet
-
--- the four numbers in front, in decimal
-abbrev pub header_line : PacketTree → List ℕ
-header_line p =
-    codes "source=" ++ decimal p.meaning.source
-    ++ codes " destination=" ++ decimal p.meaning.destination
-    ++ codes " tag=" ++ decimal p.meaning.tag
-    ++ codes " checksum=" ++ decimal p.checksum ++ codes "\n"
-
--- a chunk's printed text, on a line of its own
-abbrev pub chunk_line : ChunkTree → List ℕ
-chunk_line chunk = chunk_text chunk ++ codes "\n"
 
 -- the canonical packet in hexadecimal, or that it doesn't fit
 pub data CanonicalLine (m : Meaning) (line : List ℕ) : Type 0 where
@@ -35,7 +22,7 @@ pub data CanonicalLine (m : Meaning) (line : List ℕ) : Type 0 where
 abbrev pub PacketText : PacketTree → List ℕ → Type 0
 PacketText p text =
     (last : List ℕ) × CanonicalLine p.meaning last
-    × (text ≡ header_line p ++ flat_map chunk_line p.meaning.chunks ++ last)
+    × (text ≡ packet_text p ++ codes "\n" ++ last)
 
 ---- the answer to an input
 

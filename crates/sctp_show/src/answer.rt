@@ -6,7 +6,6 @@ ghost use Rattle.sctp_show.specs.Reply.{reply_of};
 
 use crate::failure::Failure;
 use crate::text::text_of;
-use dcsctp_wire::api::ZERO_CHECKSUM_ALTERNATE_ERROR_DETECTION_METHOD_NONE;
 use dcsctp_wire::packet::sctp_packet::{ChecksumPolicy, SctpPacket};
 use hex::FromHexError;
 use std::alloc::Global;
@@ -24,9 +23,8 @@ pub fn answer_to(alloc: Global, strict: bool, input: Vec<u8>) -> Result<String, 
     }
     let bytes = bytes_of(alloc, input)?;
     let policy = ChecksumPolicy {
-        disable_checksum_verification: true,
-        zero_checksum_alternate_error_detection_method: ZERO_CHECKSUM_ALTERNATE_ERROR_DETECTION_METHOD_NONE,
         strict_padding: strict,
+        ..ChecksumPolicy::ANY_CHECKSUM
     };
     let packet = SctpPacket::from_bytes(alloc, &bytes, 0, &policy)?;
     Ok(text_of(alloc, &packet)?)

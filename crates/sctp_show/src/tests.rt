@@ -5,7 +5,6 @@ ghost use Rattle.std.specs.Prelude.{◌≡◌, IfOk};
 mod answers;
 mod captures;
 mod devices;
-mod memory;
 mod original;
 mod pasted;
 mod sizes;

@@ -1,11 +1,8 @@
-//! The text of a packet.
+//! The text of a packet, and its canonical line.
 ghost use Rattle.std.specs.Prelude.{◌≡◌, ◌++◌, List, ℕ, IfOk, OnOk, string_bytes};
-ghost use Rattle.std.specs.List.{flat_map};
-ghost use Rattle.dcsctp_wire.specs.Chunk.{views};
 ghost use Rattle.dcsctp_wire.specs.Packet.{packet_view, meaning_view};
-ghost use Rattle.sctp_show.specs.Show.{PacketText, CanonicalLine, header_line, chunk_line};
+ghost use Rattle.sctp_show.specs.Show.{PacketText, CanonicalLine};
 
-use dcsctp_wire::packet::chunk::Chunk;
 use dcsctp_wire::packet::sctp_packet::SctpPacket;
 use std::alloc::{AllocError, Global};
 
@@ -14,37 +11,9 @@ pub fn text_of(alloc: Global, packet: &SctpPacket) -> Result<String, AllocError>
     ensures { IfOk result (λ text. PacketText (packet_view packet.now) (string_bytes text)) }
 {
     let mut text = String::new(alloc);
-    write_header(&mut text, packet)?;
-    write_chunks(&mut text, &packet.chunks)?;
+    writeln!(&mut text, "{packet}")?;
     write_canonical(alloc, &mut text, packet)?;
     Ok(text)
-}
-
-/// The four numbers in front, in decimal.
-fn write_header(text: &mut String, packet: &SctpPacket) -> Result<(), AllocError>
-    ensures { OnOk result (string_bytes text.new
-        ≡ string_bytes text.old ++ header_line (packet_view packet.now)) }
-{
-    let header = &packet.common_header;
-    let source = header.source_port;
-    let destination = header.destination_port;
-    let tag = header.verification_tag;
-    let checksum = header.checksum;
-    writeln!(
-        text,
-        "source={source} destination={destination} tag={tag} checksum={checksum}"
-    )
-}
-
-/// A line for each chunk: its printed text.
-fn write_chunks(text: &mut String, chunks: &[Chunk]) -> Result<(), AllocError>
-    ensures { OnOk result (string_bytes text.new
-        ≡ string_bytes text.old ++ flat_map chunk_line (views chunks.now)) }
-{
-    for chunk in chunks {
-        writeln!(text, "{chunk}")?;
-    }
-    Ok(())
 }
 
 /// The canonical packet in hexadecimal, or that it does not fit.

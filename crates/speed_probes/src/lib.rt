@@ -5,9 +5,9 @@
 //! comes from the C program's `malloc` and `realloc`. The checksum field may hold any number.
 #![tactic(auto)]
 
-ghost use Rattle.std.specs.Prelude.{◌≡◌, ◌≢◌, ◌⊎◌, [], Ok, IfOk};
+ghost use Rattle.std.specs.Prelude.{◌≡◌, ◌≢◌, ◌⊎◌, ℕ, [], false, Ok, IfOk, drop};
 ghost use Rattle.dcsctp_wire.specs.Account.{node_count};
-ghost use Rattle.dcsctp_wire.specs.Packet.{PacketTree, Answer, IsPacket, meaning_view};
+ghost use Rattle.dcsctp_wire.specs.Packet.{PacketTree, Answer, IsPacket, IsAccepted, meaning_view};
 ghost use Rattle.speed_probes.specs.Probe.{IsZeroOr, IsChunkCount, IsCanonicalSize, BeginsCanonical, IsRunCount};
 
 use dcsctp_wire::api::ZERO_CHECKSUM_ALTERNATE_ERROR_DETECTION_METHOD_NONE;
@@ -17,12 +17,18 @@ use dcsctp_wire::packet::sctp_packet::{ChecksumPolicy, SctpPacket, SctpPacketBui
 use dcsctp_wire::packet::{SerializableTlv, round_up_to_4};
 use std::alloc::{AllocError, Global};
 
-/// Every checksum field is accepted, and any padding.
+/// Every checksum field is accepted, and any padding (`any_checksum`).
 pub const ANY_CHECKSUM: ChecksumPolicy = ChecksumPolicy {
     disable_checksum_verification: true,
     zero_checksum_alternate_error_detection_method: ZERO_CHECKSUM_ALTERNATE_ERROR_DETECTION_METHOD_NONE,
     strict_padding: false,
 };
+
+/// A law of the policy: it accepts every checksum field, and looks at no padding. It does nothing.
+pub fn any_checksum()
+    ensures accepts { (field word : ℕ) → IsAccepted ANY_CHECKSUM field word }
+    ensures padding { ANY_CHECKSUM.strict_padding ≡ false }
+{}
 
 /// Checks a packet: the number of its parts, which are chunks, parameters and error causes; 0 where
 /// the bytes are none.
@@ -70,10 +76,12 @@ pub extern "C" fn speed_probes_read_and_write(alloc: Global, bytes: &[u8]) -> us
 }
 
 /// Reads a packet and writes the canonical one over the front of `output`, with no memory for the
-/// writing: the number of its bytes; 0 where there is none, or no room, or memory runs out.
+/// writing: the number of its bytes; 0 where there is none, or no room, or memory runs out, and then
+/// nothing is written. What stands after the packet stays.
 #[unsafe(no_mangle)]
 pub extern "C" fn speed_probes_write_over(alloc: Global, bytes: &[u8], output: &mut [u8]) -> usize
-    ensures { IsZeroOr (BeginsCanonical output.new) bytes.now result }
+    ensures written { IsZeroOr (BeginsCanonical output.new) bytes.now result }
+    ensures rest { drop result output.new ≡ drop result output.old }
 {
     match SctpPacket::from_bytes(alloc, bytes, 0, &ANY_CHECKSUM) {
         Ok(packet) => {

@@ -10,10 +10,11 @@
 //! +-+-+-+-+-+-+-+-+-+-+-+-+-+-+-+-+-+-+-+-+-+-+-+-+-+-+-+-+-+-+-+-+
 //! ```
 
-ghost use Rattle.std.specs.Prelude.{◌≡◌, ◌≢◌, ◌↔◌, Some, IsErrOf, IfOk, IsOk, Ok};
+ghost use Rattle.std.specs.Prelude.{◌≡◌, ◌≢◌, ◌↔◌, Some, IsErrOf, IfOk, IsOk, Ok, vec_len, vec_capacity};
 ghost use Rattle.dcsctp_tlv.specs.Reading.{Exactly, reading};
 ghost use Rattle.dcsctp_tlv.specs.StateCookie as kind;
 
+use crate::copy::copied;
 use crate::error::ChunkParseError;
 use crate::frame::{MAX_VALUE_SIZE, put_parameter};
 use crate::parameter::raw_parameter::RawParameter;
@@ -43,6 +44,7 @@ impl StateCookieParameter {
             Exactly reading kind.view (λ a. kind.read raw.entry.value.now ≡ a) result }
         ensures memory { IsErrOf result ChunkParseError.OutOfMemory →
             IsOk (kind.read raw.entry.value.now) }
+        ensures tight { IfOk result (λ x. vec_capacity x.cookie ≡ vec_len x.cookie) }
     {
         if raw.typ != PARAMETER_TYPE {
             return Err(ChunkParseError::InvalidType);
@@ -52,10 +54,11 @@ impl StateCookieParameter {
 
     /// Copies the value.
     pub(crate) fn build(alloc: Global, value: &[u8]) -> Result<Self, AllocError>
-        ensures { IfOk result (λ x. kind.read value.now ≡ Ok (kind.view x)) }
+        ensures meant { IfOk result (λ x. kind.read value.now ≡ Ok (kind.view x)) }
+        ensures tight { IfOk result (λ x. vec_capacity x.cookie ≡ vec_len x.cookie) }
     {
         Ok(StateCookieParameter {
-            cookie: Vec::from_slice(alloc, value)?,
+            cookie: copied(alloc, value)?,
         })
     }
 }

@@ -10,10 +10,11 @@
 //! +-+-+-+-+-+-+-+-+-+-+-+-+-+-+-+-+-+-+-+-+-+-+-+-+-+-+-+-+-+-+-+-+
 //! ```
 
-ghost use Rattle.std.specs.Prelude.{◌≡◌, ◌≢◌, ◌↔◌, Some, IsErrOf, IfOk, IsOk, Ok};
+ghost use Rattle.std.specs.Prelude.{◌≡◌, ◌≢◌, ◌↔◌, Some, IsErrOf, IfOk, IsOk, Ok, vec_len, vec_capacity};
 ghost use Rattle.dcsctp_tlv.specs.Reading.{Exactly, reading};
 ghost use Rattle.dcsctp_tlv.specs.SupportedExtensions as kind;
 
+use crate::copy::copied;
 use crate::error::ChunkParseError;
 use crate::frame::{MAX_VALUE_SIZE, put_parameter};
 use crate::parameter::raw_parameter::RawParameter;
@@ -44,6 +45,7 @@ impl SupportedExtensionsParameter {
             Exactly reading kind.view (λ a. kind.read raw.entry.value.now ≡ a) result }
         ensures memory { IsErrOf result ChunkParseError.OutOfMemory →
             IsOk (kind.read raw.entry.value.now) }
+        ensures tight { IfOk result (λ x. vec_capacity x.chunk_types ≡ vec_len x.chunk_types) }
     {
         if raw.typ != PARAMETER_TYPE {
             return Err(ChunkParseError::InvalidType);
@@ -53,10 +55,11 @@ impl SupportedExtensionsParameter {
 
     /// Copies the value.
     pub(crate) fn build(alloc: Global, value: &[u8]) -> Result<Self, AllocError>
-        ensures { IfOk result (λ x. kind.read value.now ≡ Ok (kind.view x)) }
+        ensures meant { IfOk result (λ x. kind.read value.now ≡ Ok (kind.view x)) }
+        ensures tight { IfOk result (λ x. vec_capacity x.chunk_types ≡ vec_len x.chunk_types) }
     {
         Ok(SupportedExtensionsParameter {
-            chunk_types: Vec::from_slice(alloc, value)?,
+            chunk_types: copied(alloc, value)?,
         })
     }
 }

@@ -10,10 +10,11 @@
 //! +-+-+-+-+-+-+-+-+-+-+-+-+-+-+-+-+-+-+-+-+-+-+-+-+-+-+-+-+-+-+-+-+
 //! ```
 
-ghost use Rattle.std.specs.Prelude.{◌≡◌, Some, IfOk, IsOk, IsErrOf, Ok};
+ghost use Rattle.std.specs.Prelude.{◌≡◌, Some, IfOk, IsOk, IsErrOf, Ok, vec_len, vec_capacity};
 ghost use Rattle.dcsctp_tlv.specs.Reading.{Exactly, reading};
 ghost use Rattle.dcsctp_tlv.specs.UnknownParameter as kind;
 
+use crate::copy::copied;
 use crate::error::ChunkParseError;
 use crate::frame::{MAX_VALUE_SIZE, put_parameter};
 use crate::parameter::raw_parameter::RawParameter;
@@ -47,17 +48,19 @@ impl UnknownParameter {
             (λ a. kind.read raw.entry.typ raw.entry.value.now ≡ a) result }
         ensures memory { IsErrOf result ChunkParseError.OutOfMemory →
             IsOk (kind.read raw.entry.typ raw.entry.value.now) }
+        ensures tight { IfOk result (λ x. vec_capacity x.value ≡ vec_len x.value) }
     {
         Ok(UnknownParameter::build(alloc, raw.typ, raw.value)?)
     }
 
     /// Copies the value.
     pub fn build(alloc: Global, typ: u16, value: &[u8]) -> Result<Self, AllocError>
-        ensures { IfOk result (λ x. kind.read typ value.now ≡ Ok (kind.view x)) }
+        ensures meant { IfOk result (λ x. kind.read typ value.now ≡ Ok (kind.view x)) }
+        ensures tight { IfOk result (λ x. vec_capacity x.value ≡ vec_len x.value) }
     {
         Ok(UnknownParameter {
             typ,
-            value: Vec::from_slice(alloc, value)?,
+            value: copied(alloc, value)?,
         })
     }
 }

@@ -10,10 +10,11 @@
 //! +-+-+-+-+-+-+-+-+-+-+-+-+-+-+-+-+-+-+-+-+-+-+-+-+-+-+-+-+-+-+-+-+
 //! ```
 
-ghost use Rattle.std.specs.Prelude.{◌≡◌, ◌≢◌, ◌↔◌, ◌≤◌, ◌+◌, ◌*◌, ℕ, [], false, length, Some, IsOk, IfOk, IfErr, IsErrOf, vec_capacity};
+ghost use Rattle.std.specs.Prelude.{◌≡◌, ◌≢◌, ◌↔◌, ◌≤◌, ◌+◌, ◌*◌, ℕ, [], false, length, Some, IsOk, IfOk, IfErr, IsErrOf, vec_capacity, All, vec_len};
 ghost use Rattle.dcsctp_tlv.specs.Frame.{lenient};
 ghost use Rattle.dcsctp_tlv.specs.Level.{HasMeaning};
 ghost use Rattle.dcsctp_tlv.specs.Reading.{Answers, Exactly, reading, locating, RowAnswer, RowLocated};
+ghost use Rattle.dcsctp_cause.specs.Cause.{IsTight as IsTightCause};
 ghost use Rattle.dcsctp_wire.specs.Abort as kind;
 
 use dcsctp_cause::error_causes::{ErrorCause, error_cause_build};
@@ -64,6 +65,8 @@ impl AbortChunk {
         ensures memory { IsErrOf result ChunkParseError.OutOfMemory
             → HasMeaning (kind.row lenient raw.entry.flags) raw.entry.value.now
             × (raw.entry.value.now ≢ []) }
+        ensures reserved { IfOk result (λ c. vec_capacity c.error_causes ≡ vec_len c.error_causes) }
+        ensures tight { IfOk result (λ c. All IsTightCause c.error_causes.items) }
     {
         if raw.typ != CHUNK_TYPE {
             return Err(ChunkParseError::InvalidType);
@@ -77,6 +80,8 @@ impl AbortChunk {
             (RowAnswer (kind.row lenient flags) value.now) result }
         ensures memory { IsErrOf result ChunkParseError.OutOfMemory →
             HasMeaning (kind.row lenient flags) value.now × (value.now ≢ []) }
+        ensures reserved { IfOk result (λ c. vec_capacity c.error_causes ≡ vec_len c.error_causes) }
+        ensures tight { IfOk result (λ c. All IsTightCause c.error_causes.items) }
     {
         AbortChunk::check(value, false)?;
         Ok(AbortChunk::build(alloc, flags, value)?)
@@ -98,6 +103,8 @@ impl AbortChunk {
         requires { HasMeaning (kind.row lenient flags) value.now }
         ensures meant { IfOk result (λ c. (kind.row lenient flags).means value.now (kind.view c)) }
         ensures empty { value.now ≡ [] → IsOk result }
+        ensures reserved { IfOk result (λ c. vec_capacity c.error_causes ≡ vec_len c.error_causes) }
+        ensures tight { IfOk result (λ c. All IsTightCause c.error_causes.items) }
     {
         Ok(AbortChunk {
             tag_reflected: is_set(flags, 0),

@@ -12,7 +12,8 @@ ghost use Rattle.dcsctp_wire.specs.declared.packet.sctp_packet.ChecksumPolicy.{C
 ghost use Rattle.std.specs.List.{AllByRecursion};
 
 use crate::packet::chunk::{Chunk, chunk_has_widths};
-use crate::packet::sctp_packet::{COMMON_HEADER_SIZE, header_bytes};
+use crate::packet::common_header::{COMMON_HEADER_SIZE, header_bytes};
+use dcsctp_tlv::copy::copied_with_room;
 use dcsctp_tlv::number::{put_u32, round_up_to_4};
 use dcsctp_tlv::tlv::SerializableTlv;
 use std::alloc::{AllocError, Global};
@@ -43,6 +44,7 @@ impl Model for SctpPacketBuilder {
       limit = b.max_packet_size;
       writes_checksum = b.write_checksum;
       bytes = b.bytes.items;
+      reserved = vec_capacity b.bytes;
     } };
 
     ghost invariant = { λ b. IsReserved b.max_packet_size (vec_capacity b.bytes) b.bytes.items };
@@ -67,6 +69,7 @@ impl SctpPacketBuilder {
           limit = max_packet_size / 4 * 4;
           writes_checksum = true;
           bytes = [];
+          reserved = 0;
         } }
     {
         SctpPacketBuilder {
@@ -104,7 +107,11 @@ impl SctpPacketBuilder {
         ensures room_left { OnOk result
             (room self.new + round_up_to_4 (size_of (chunk_tlv (view chunk.now))) ≡ room self.old) }
         ensures not_empty { OnOk result (self.new.bytes ≢ []) }
-        ensures settings { OnOk result (self.new ≡ record self.old { bytes = self.new.bytes }) }
+        ensures settings { OnOk result (self.new ≡ record self.old {
+          bytes = self.new.bytes;
+          reserved = self.new.reserved;
+        }) }
+        ensures reserves { OnOk result (self.old.limit ≤ self.new.reserved) }
 
         // A refusal changes nothing, and never comes where something was added before.
         ensures refused { OnErr result (self.new ≡ self.old) }
@@ -127,7 +134,10 @@ impl SctpPacketBuilder {
         ensures added { IfOk result (λ added. added ≡ true → (chunks : List ChunkTree)
             → Holds self.old chunks → Holds self.new (chunks ++ view chunk.now ∷ [])) }
         ensures not_empty { IfOk result (λ added. added ≡ true → self.new.bytes ≢ []) }
-        ensures settings { self.new ≡ record self.old { bytes = self.new.bytes } }
+        ensures settings { self.new ≡ record self.old {
+          bytes = self.new.bytes;
+          reserved = self.new.reserved;
+        } }
         ensures declined { IfOk result (λ added. added ≡ false → self.new ≡ self.old) }
         ensures refused { OnErr result (self.new ≡ self.old) }
         ensures succeeds { self.old.bytes ≢ [] → IsOk result }
@@ -143,15 +153,19 @@ impl SctpPacketBuilder {
     fn begin(&mut self) -> Result<(), AllocError>
         requires { self.old.bytes ≡ [] → 12 ≤ self.old.limit }
         ensures size { OnOk result (length self.new.bytes ≡ max 12 (length self.old.bytes)) }
-        ensures begun { OnOk result
-            (self.new ≡ record self.old { bytes = begun self.old self.old.bytes }) }
+        ensures begun { OnOk result (self.new ≡ record self.old {
+          bytes = begun self.old self.old.bytes;
+          reserved = self.new.reserved;
+        }) }
+        ensures reserves { OnOk result
+            (self.old.bytes ≡ [] → self.new.reserved ≡ self.old.limit) }
         ensures refused { OnErr result (self.new ≡ self.old) }
         ensures succeeds { self.old.bytes ≢ [] → IsOk result }
     {
         if self.bytes.is_empty() {
-            self.bytes.reserve_exact(self.max_packet_size)?;
             let header = header_bytes(self.source_port, self.dest_port, self.verification_tag);
-            self.bytes.extend_from_slice(&header)?;
+            let alloc = *self.bytes.allocator();
+            self.bytes = copied_with_room(alloc, &header, self.max_packet_size)?;
         }
         Ok(())
     }
@@ -181,7 +195,7 @@ impl SctpPacketBuilder {
     }
 
     /// Hands out the packet, and begins the next: the builder then holds no chunk, with the same
-    /// ports, tag, limit and switch.
+    /// ports, tag, limit and switch. The packet's memory goes with it.
     ///
     /// If the switch is on, the number `checksum` stands big-endian at bytes 8 to 11; else they
     /// are zero. Without chunks there are no bytes. No memory is taken.
@@ -190,7 +204,8 @@ impl SctpPacketBuilder {
     /// read: but for fields that a kind of chunk doesn't carry, which are zero then.
     pub fn build(&mut self, checksum: u32) -> Vec<u8>
         ensures bytes { result.items ≡ built self.old checksum }
-        ensures empty { self.new ≡ record self.old { bytes = [] } }
+        ensures empty { self.new ≡ record self.old { bytes = []; reserved = 0 } }
+        ensures reserved { vec_capacity result ≡ self.old.reserved }
         ensures reads_back { self.old.limit ≤ 65535 → (chunks : List ChunkTree)
             → Holds self.old chunks → chunks ≢ []
             → AllByRecursion IsChunkWellFormed (kept_chunks chunks)
@@ -209,7 +224,8 @@ impl SctpPacketBuilder {
     fn hand_out(&mut self, checksum: u32) -> Vec<u8>
         ensures width { IsHeaderInWidth self.old }
         ensures bytes { result.items ≡ built self.old checksum }
-        ensures empty { self.new ≡ record self.old { bytes = [] } }
+        ensures empty { self.new ≡ record self.old { bytes = []; reserved = 0 } }
+        ensures reserved { vec_capacity result ≡ self.old.reserved }
     {
         let next = Vec::new(*self.bytes.allocator());
         let mut packet = std::mem::replace(&mut self.bytes, next);

@@ -5,7 +5,7 @@ ghost use Rattle.dcsctp_tlv.specs.Frame.{lenient};
 ghost use Rattle.dcsctp_tlv.specs.Level.{HasMeaning, Grows};
 ghost use Rattle.dcsctp_tlv.specs.Reading.{Exactly, reading, RowAnswer};
 ghost use Rattle.dcsctp_wire.specs.Chunk as chunk;
-ghost use Rattle.dcsctp_wire.specs.Chunk.{parts as chunk_parts, ChunkTree, chunk_row, chunks, TakesNoMemory, IsPlaced, text as chunk_text, view, IsInWidth};
+ghost use Rattle.dcsctp_wire.specs.Chunk.{parts as chunk_parts, ChunkTree, chunk_row, chunks, TakesNoMemory, IsPlaced, text as chunk_text, view, IsInWidth, IsTight};
 ghost use Rattle.dcsctp_wire.specs.declared.packet.chunk.Chunk.TheVariants as variant;
 
 use crate::packet::abort_chunk::{self, AbortChunk};
@@ -122,6 +122,7 @@ impl Chunk {
         ensures memory { IsErrOf result ChunkParseError.OutOfMemory →
             HasMeaning (chunk_row lenient raw.entry.typ raw.entry.flags) raw.entry.value.now
             × ¬ TakesNoMemory raw.entry.typ raw.entry.value.now }
+        ensures tight { IfOk result IsTight }
     {
         Chunk::read(alloc, raw.typ, raw.flags, raw.value)
     }
@@ -159,6 +160,7 @@ impl Chunk {
         ensures memory { IsErrOf result ChunkParseError.OutOfMemory
             → HasMeaning (chunk_row lenient typ flags) value.now
             × ¬ TakesNoMemory typ value.now }
+        ensures tight { IfOk result IsTight }
     {
         Chunk::check(false, typ, flags, value)?;
         Ok(Chunk::build(alloc, typ, flags, value)?)
@@ -169,6 +171,7 @@ impl Chunk {
         requires { HasMeaning (chunk_row lenient typ flags) value.now }
         ensures meant { IfOk result (λ c. (chunk_row lenient typ flags).means value.now (view c)) }
         ensures heap { TakesNoMemory typ value.now → IsOk result }
+        ensures tight { IfOk result IsTight }
     {
         Ok(match typ {
             data_chunk::CHUNK_TYPE => Chunk::Data(DataChunk::build(alloc, flags, value)?),
@@ -217,7 +220,7 @@ impl Chunk {
             × (first ≢ 11) × (first ≢ 14) × (first ≢ 64) × (first ≢ 192) × (first ≢ 194) }
         requires meant { HasMeaning (chunk_row lenient first second) value.now }
         requires room { vec_len list.old < vec_capacity list.old }
-        ensures grows { IfOk result (λ _. Grows view
+        ensures grows { IfOk result (λ _. Grows view IsTight
             (chunk_row lenient first second) value.now list.old.items list.new.items) }
         ensures len { IfOk result (λ _. vec_len list.new ≡ vec_len list.old + 1) }
         ensures capacity { IfOk result (λ _. vec_capacity list.new ≡ vec_capacity list.old) }
@@ -308,6 +311,8 @@ impl ReadableTlv for Chunk {
     ghost level = { chunks };
 
     ghost view = { view };
+
+    ghost is_tight = { IsTight };
 
     ghost parts = { chunk_parts };
 

@@ -10,10 +10,11 @@
 //! +-+-+-+-+-+-+-+-+-+-+-+-+-+-+-+-+-+-+-+-+-+-+-+-+-+-+-+-+-+-+-+-+
 //! ```
 
-ghost use Rattle.std.specs.Prelude.{◌≡◌, ◌≢◌, ◌↔◌, ◌≤◌, ◌+◌, ◌*◌, [], length, Some, IfOk, IfErr, IsErrOf, vec_capacity};
+ghost use Rattle.std.specs.Prelude.{◌≡◌, ◌≢◌, ◌↔◌, ◌≤◌, ◌+◌, ◌*◌, [], length, Some, IfOk, IfErr, IsErrOf, vec_capacity, All, vec_len};
 ghost use Rattle.dcsctp_tlv.specs.Frame.{lenient};
 ghost use Rattle.dcsctp_tlv.specs.Level.{HasMeaning};
 ghost use Rattle.dcsctp_tlv.specs.Reading.{Answers, Exactly, reading, locating, RowAnswer, RowLocated};
+ghost use Rattle.dcsctp_cause.specs.Cause.{IsTight as IsTightCause};
 ghost use Rattle.dcsctp_wire.specs.Error as kind;
 
 use dcsctp_cause::error_causes::{ErrorCause, error_cause_build};
@@ -61,6 +62,8 @@ impl ErrorChunk {
             Exactly reading kind.view (RowAnswer (kind.row lenient) raw.entry.value.now) result }
         ensures memory { IsErrOf result ChunkParseError.OutOfMemory
             → HasMeaning (kind.row lenient) raw.entry.value.now }
+        ensures reserved { IfOk result (λ c. vec_capacity c.error_causes ≡ vec_len c.error_causes) }
+        ensures tight { IfOk result (λ c. All IsTightCause c.error_causes.items) }
     {
         if raw.typ != CHUNK_TYPE {
             return Err(ChunkParseError::InvalidType);
@@ -73,6 +76,8 @@ impl ErrorChunk {
         ensures answer { Exactly reading kind.view (RowAnswer (kind.row lenient) value.now) result }
         ensures memory { IsErrOf result ChunkParseError.OutOfMemory →
             HasMeaning (kind.row lenient) value.now }
+        ensures reserved { IfOk result (λ c. vec_capacity c.error_causes ≡ vec_len c.error_causes) }
+        ensures tight { IfOk result (λ c. All IsTightCause c.error_causes.items) }
     {
         ErrorChunk::check(value, false)?;
         Ok(ErrorChunk::build(alloc, value)?)
@@ -98,7 +103,9 @@ impl ErrorChunk {
     /// What the value means.
     pub(crate) fn build(alloc: Global, value: &[u8]) -> Result<Self, AllocError>
         requires { HasMeaning (kind.row lenient) value.now }
-        ensures { IfOk result (λ c. (kind.row lenient).means value.now (kind.view c)) }
+        ensures meant { IfOk result (λ c. (kind.row lenient).means value.now (kind.view c)) }
+        ensures reserved { IfOk result (λ c. vec_capacity c.error_causes ≡ vec_len c.error_causes) }
+        ensures tight { IfOk result (λ c. All IsTightCause c.error_causes.items) }
     {
         Ok(ErrorChunk {
             error_causes: error_cause_build(alloc, value)?,

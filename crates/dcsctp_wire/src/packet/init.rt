@@ -1,9 +1,10 @@
 //! What INIT and INIT ACK have in common.
 
-ghost use Rattle.std.specs.Prelude.{◌≡◌, ◌≤◌, ◌+◌, ◌*◌, [], length, drop, vec_len, vec_capacity, IsOk, IfOk, IfErr};
+ghost use Rattle.std.specs.Prelude.{◌≡◌, ◌≤◌, ◌+◌, ◌*◌, [], length, drop, vec_len, vec_capacity, IsOk, IfOk, IfErr, All};
 ghost use Rattle.dcsctp_tlv.specs.Frame.{lenient};
 ghost use Rattle.dcsctp_tlv.specs.Level.{HasMeaning};
 ghost use Rattle.dcsctp_tlv.specs.Reading.{Answers, locating, RowLocated};
+ghost use Rattle.dcsctp_tlv.specs.Parameter.{IsTight as IsTightParameter};
 ghost use Rattle.dcsctp_wire.specs.InitFields.{row as init_row, parts as init_parts, leading as init_numbers, tree_of, view as init_fields_view};
 
 use dcsctp_tlv::error::{ChunkParseError, LocatedFault};
@@ -66,6 +67,8 @@ pub(crate) fn init_build(alloc: Global, value: &[u8]) -> Result<InitFields, Allo
     requires { HasMeaning (init_row lenient) value.now }
     ensures meant { IfOk result
         (λ fields. (init_row lenient).means value.now (init_fields_view fields)) }
+    ensures reserved { IfOk result (λ f. vec_capacity f.parameters ≡ vec_len f.parameters) }
+    ensures tight { IfOk result (λ f. All IsTightParameter f.parameters.items) }
     ensures empty { drop 16 value.now ≡ [] → IsOk result }
 {
     let mut fields = init_numbers(alloc, value);

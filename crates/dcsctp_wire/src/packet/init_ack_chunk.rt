@@ -18,10 +18,11 @@
 //! +-+-+-+-+-+-+-+-+-+-+-+-+-+-+-+-+-+-+-+-+-+-+-+-+-+-+-+-+-+-+-+-+
 //! ```
 
-ghost use Rattle.std.specs.Prelude.{◌≡◌, ◌≢◌, ◌↔◌, [], drop, Some, IsOk, IfOk, IsErrOf};
+ghost use Rattle.std.specs.Prelude.{◌≡◌, ◌≢◌, ◌↔◌, [], drop, Some, IsOk, IfOk, IsErrOf, All, vec_len, vec_capacity};
 ghost use Rattle.dcsctp_tlv.specs.Frame.{lenient};
 ghost use Rattle.dcsctp_tlv.specs.Level.{HasMeaning};
 ghost use Rattle.dcsctp_tlv.specs.Reading.{Exactly, reading, RowAnswer};
+ghost use Rattle.dcsctp_tlv.specs.Parameter.{IsTight as IsTightParameter};
 ghost use Rattle.dcsctp_wire.specs.InitAck as kind;
 ghost use Rattle.dcsctp_wire.specs.InitFields as init_fields;
 
@@ -69,6 +70,8 @@ impl InitAckChunk {
         ensures memory { IsErrOf result ChunkParseError.OutOfMemory
             → HasMeaning (init_fields.row lenient) raw.entry.value.now
             × (drop 16 raw.entry.value.now ≢ []) }
+        ensures reserved { IfOk result (λ c. vec_capacity c.parameters ≡ vec_len c.parameters) }
+        ensures tight { IfOk result (λ c. All IsTightParameter c.parameters.items) }
     {
         if raw.typ != CHUNK_TYPE {
             return Err(ChunkParseError::InvalidType);
@@ -82,6 +85,8 @@ impl InitAckChunk {
             (RowAnswer (init_fields.row lenient) value.now) result }
         ensures memory { IsErrOf result ChunkParseError.OutOfMemory →
             HasMeaning (init_fields.row lenient) value.now × (drop 16 value.now ≢ []) }
+        ensures reserved { IfOk result (λ c. vec_capacity c.parameters ≡ vec_len c.parameters) }
+        ensures tight { IfOk result (λ c. All IsTightParameter c.parameters.items) }
     {
         init_check(value, false)?;
         Ok(InitAckChunk::build(alloc, value)?)
@@ -92,6 +97,8 @@ impl InitAckChunk {
         requires { HasMeaning (init_fields.row lenient) value.now }
         ensures meant { IfOk result (λ c. (init_fields.row lenient).means value.now (kind.view c)) }
         ensures empty { drop 16 value.now ≡ [] → IsOk result }
+        ensures reserved { IfOk result (λ c. vec_capacity c.parameters ≡ vec_len c.parameters) }
+        ensures tight { IfOk result (λ c. All IsTightParameter c.parameters.items) }
     {
         Ok(InitAckChunk::of_fields(init_build(alloc, value)?))
     }

@@ -10,10 +10,11 @@
 //! +-+-+-+-+-+-+-+-+-+-+-+-+-+-+-+-+-+-+-+-+-+-+-+-+-+-+-+-+-+-+-+-+
 //! ```
 
-ghost use Rattle.std.specs.Prelude.{◌≡◌, ◌≢◌, ◌↔◌, [], Some, IsOk, IfOk, IsErrOf, vec_capacity};
+ghost use Rattle.std.specs.Prelude.{◌≡◌, ◌≢◌, ◌↔◌, [], Some, IsOk, IfOk, IsErrOf, vec_capacity, All, vec_len};
 ghost use Rattle.dcsctp_tlv.specs.Frame.{lenient};
 ghost use Rattle.dcsctp_tlv.specs.Level.{HasMeaning};
 ghost use Rattle.dcsctp_tlv.specs.Reading.{Exactly, reading, RowAnswer};
+ghost use Rattle.dcsctp_tlv.specs.Parameter.{IsTight as IsTightParameter};
 ghost use Rattle.dcsctp_wire.specs.ReConfig as kind;
 ghost use Rattle.dcsctp_wire.specs.ParameterList as parameter_list;
 
@@ -59,6 +60,8 @@ impl ReConfigChunk {
         ensures memory { IsErrOf result ChunkParseError.OutOfMemory
             → HasMeaning (parameter_list.row lenient) raw.entry.value.now
             × (raw.entry.value.now ≢ []) }
+        ensures reserved { IfOk result (λ c. vec_capacity c.parameters ≡ vec_len c.parameters) }
+        ensures tight { IfOk result (λ c. All IsTightParameter c.parameters.items) }
     {
         if raw.typ != CHUNK_TYPE {
             return Err(ChunkParseError::InvalidType);
@@ -72,6 +75,8 @@ impl ReConfigChunk {
             (RowAnswer (parameter_list.row lenient) value.now) result }
         ensures memory { IsErrOf result ChunkParseError.OutOfMemory →
             HasMeaning (parameter_list.row lenient) value.now × (value.now ≢ []) }
+        ensures reserved { IfOk result (λ c. vec_capacity c.parameters ≡ vec_len c.parameters) }
+        ensures tight { IfOk result (λ c. All IsTightParameter c.parameters.items) }
     {
         parameter_list_check(value, false)?;
         Ok(ReConfigChunk::build(alloc, value)?)
@@ -83,6 +88,8 @@ impl ReConfigChunk {
         ensures meant { IfOk result (λ c. (parameter_list.row lenient).means value.now
             (kind.view c)) }
         ensures empty { value.now ≡ [] → IsOk result }
+        ensures reserved { IfOk result (λ c. vec_capacity c.parameters ≡ vec_len c.parameters) }
+        ensures tight { IfOk result (λ c. All IsTightParameter c.parameters.items) }
     {
         Ok(ReConfigChunk {
             parameters: parameters_build(alloc, value)?,

@@ -14,13 +14,15 @@
 //! +-+-+-+-+-+-+-+-+-+-+-+-+-+-+-+-+-+-+-+-+-+-+-+-+-+-+-+-+-+-+-+-+
 //! ```
 
-ghost use Rattle.std.specs.Prelude.{◌≡◌, ◌↔◌, ◌≤◌, ◌+◌, ◌-◌, ◌/◌, ℕ, [], false, length, replicate, vec_len, vec_capacity, IsTrue, IfOk, IfErr, IsErrOf};
-ghost use Rattle.dcsctp_wire.specs.Chunk.{views};
+ghost use Rattle.std.specs.Prelude.{◌≡◌, ◌↔◌, ◌≤◌, ◌+◌, ◌-◌, ◌/◌, ℕ, [], false, true, Some, length, replicate, vec_len, vec_capacity, IsTrue, IfOk, IfErr, IsErrOf, All};
+ghost use Rattle.dcsctp_wire.specs.Chunk.{views, IsTight};
 ghost use Rattle.dcsctp_tlv.specs.Reading.{Answers, Exactly, Counted};
 ghost use Rattle.dcsctp_wire.specs.Packet.{Meaning, Answer, IsPacket, IsAccepted, meaning_view, packet_view, packet_reading, packet_checking};
 ghost use Rattle.dcsctp_wire.specs.Account.{KeepsTexts, KeepsSize, node_count};
 ghost use Rattle.dcsctp_wire.specs.Place.{PacketCounts, packet_locating};
 ghost use Rattle.dcsctp_wire.specs.Canonical.{canonical, padded_size, Fits};
+ghost use Rattle.dcsctp_wire.specs.PacketText.{packet_text, next_lines};
+ghost use Rattle.std.specs.Fmt.{WritesOnOk};
 ghost use Rattle.dcsctp_wire.specs.WellFormed.{IsInWidth, IsWellFormed};
 ghost use Rattle.dcsctp_wire.specs.declared.packet.sctp_packet.ChecksumPolicy.{ChecksumPolicy};
 ghost use Rattle.dcsctp_tlv.specs.declared.error.ChunkParseError.TheVariants.{OutOfMemory};
@@ -28,19 +30,20 @@ ghost use Rattle.dcsctp_wire.specs.declared.packet.sctp_packet.PacketParseError.
 
 pub use crate::packet::builder::SctpPacketBuilder;
 use crate::packet::chunk::Chunk;
+pub use crate::packet::common_header::{COMMON_HEADER_SIZE, CommonHeader};
+use crate::packet::common_header::{header_bytes, read_header};
 pub use crate::packet::first_fault::FirstFault;
+use dcsctp_tlv::copy::zeros;
 use dcsctp_tlv::error::ChunkParseError;
 use dcsctp_tlv::list::{encoded_list_size, list_size, put_list};
-use dcsctp_tlv::number::{put_u32, read_u16_be, read_u32_be, round_up_to_4};
+use dcsctp_tlv::number::{read_u32_be, round_up_to_4};
 use dcsctp_tlv::reader::{list_build, list_check};
 use dcsctp_types::api::{
     ZERO_CHECKSUM_ALTERNATE_ERROR_DETECTION_METHOD_NONE, ZeroChecksumAlternateErrorDetectionMethod,
 };
 use std::alloc::{AllocError, Global};
+use std::fmt;
 use thiserror::Error;
-
-/// The bytes of the common header.
-pub const COMMON_HEADER_SIZE: usize = 12;
 
 /// The offset of the checksum field.
 const CHECKSUM_OFFSET: usize = 8;
@@ -87,21 +90,8 @@ impl From<AllocError> for PacketParseError {
     }
 }
 
-/// What stands before the chunks of a packet (RFC 9260 section 3.1).
-#[derive(Drop)]
-pub struct CommonHeader {
-    /// The sender's port, as the sender sees it.
-    pub source_port: u16,
-    /// The port that the packet is for.
-    pub destination_port: u16,
-    /// The initiate tag that the receiver chose; 0 where the packet holds an INIT.
-    pub verification_tag: u32,
-    /// The number at bytes 8 to 11, most significant byte first.
-    pub checksum: u32,
-}
-
 /// A packet (RFC 9260 section 3).
-#[derive(Drop)]
+#[derive(Debug, Drop)]
 pub struct SctpPacket {
     /// In the order in which they stand; a packet that was read has at least one.
     pub chunks: Vec<Chunk>,
@@ -110,7 +100,7 @@ pub struct SctpPacket {
 }
 
 /// Which checksum fields are accepted, and whether padding is looked at.
-#[derive(Clone, Copy)]
+#[derive(Clone, Copy, Debug)]
 pub struct ChecksumPolicy {
     /// Every field is.
     pub disable_checksum_verification: bool,
@@ -120,6 +110,30 @@ pub struct ChecksumPolicy {
     /// zero, that of chunks, parameters and error causes; and the last chunk lacks none. The last
     /// parameter or cause of a list may lack some or all of its own.
     pub strict_padding: bool,
+}
+
+impl ChecksumPolicy {
+    /// Every checksum field is accepted, and any padding: for packets whose checksum was verified
+    /// already, or doesn't matter. (`default()` accepts the expected checksum alone.)
+    pub const ANY_CHECKSUM: ChecksumPolicy = ChecksumPolicy {
+        disable_checksum_verification: true,
+        zero_checksum_alternate_error_detection_method: ZERO_CHECKSUM_ALTERNATE_ERROR_DETECTION_METHOD_NONE,
+        strict_padding: false,
+    };
+
+    /// The policy with the same checksums that also looks at padding.
+    pub fn strict(self) -> ChecksumPolicy
+        ensures disable { result.disable_checksum_verification
+            ≡ self.disable_checksum_verification }
+        ensures method { result.zero_checksum_alternate_error_detection_method
+            ≡ self.zero_checksum_alternate_error_detection_method }
+        ensures strict { result.strict_padding ≡ true }
+    {
+        ChecksumPolicy {
+            strict_padding: true,
+            ..self
+        }
+    }
 }
 
 impl Default for ChecksumPolicy {
@@ -186,8 +200,9 @@ impl SctpPacket {
         ensures memory { IsErrOf result (FailedParseChunk OutOfMemory)
             → IsPacket bytes.now checksum policy.now }
 
-        // The memory for the list of chunks is taken at once.
+        // The memory for each list is taken at once, and none of it is to spare.
         ensures reserved { IfOk result (λ p. vec_capacity p.chunks ≡ vec_len p.chunks) }
+        ensures tight { IfOk result (λ p. All IsTight p.chunks.items) }
     {
         read_packet(alloc, bytes, checksum, policy)
     }
@@ -230,6 +245,7 @@ impl SctpPacket {
     pub fn canonical_bytes(&self, alloc: Global) -> Result<Vec<u8>, AllocError>
         requires { Fits (meaning_view self.now) }
         ensures bytes { IfOk result (λ bytes. bytes.items ≡ canonical (meaning_view self.now)) }
+        ensures tight { IfOk result (λ bytes. vec_capacity bytes ≡ vec_len bytes) }
         ensures reads_back { IsWellFormed (meaning_view self.now)
             → (word : ℕ) (policy : ChecksumPolicy) → IsAccepted policy 0 word
             → IfOk result (λ bytes. Answer bytes.items word policy
@@ -263,6 +279,26 @@ impl SctpPacket {
         output.fill(0);
         write_over_zeros(self, output);
     }
+}
+
+/// The header's line, and a line for each chunk; no line break comes last.
+impl fmt::Display for SctpPacket {
+    ghost output = { λ p. Some (packet_text (packet_view p)) };
+
+    fn fmt<W: fmt::Write>(&self, f: &mut fmt::Formatter<W>) -> fmt::Result {
+        self.common_header.fmt(f)?;
+        write_lines(&self.chunks, f)
+    }
+}
+
+/// Prints each chunk on a line of its own, after a line break.
+fn write_lines<W: fmt::Write>(chunks: &[Chunk], f: &mut fmt::Formatter<W>) -> fmt::Result
+    ensures { WritesOnOk W.write_str_gives f.old result (next_lines (views chunks.now)) f.new }
+{
+    for chunk in chunks {
+        write!(f, "\n{chunk}")?;
+    }
+    Ok(())
 }
 
 /// A law of packets: every number of a packet lies in its field's width, and every text is one, by
@@ -317,16 +353,12 @@ fn read_packet(
     ensures memory { IsErrOf result (FailedParseChunk OutOfMemory)
         → IsPacket bytes.now checksum policy.now }
     ensures reserved { IfOk result (λ p. vec_capacity p.chunks ≡ vec_len p.chunks) }
+    ensures tight { IfOk result (λ p. All IsTight p.chunks.items) }
 {
     let (count, _) = check_packet(bytes, checksum, policy)?;
     let chunks = list_build(alloc, &bytes[COMMON_HEADER_SIZE..], count)?;
     Ok(SctpPacket {
-        common_header: CommonHeader {
-            source_port: read_u16_be(bytes),
-            destination_port: read_u16_be(&bytes[2..]),
-            verification_tag: read_u32_be(&bytes[4..]),
-            checksum: read_u32_be(&bytes[8..]),
-        },
+        common_header: read_header(bytes),
         chunks,
     })
 }
@@ -334,34 +366,12 @@ fn read_packet(
 /// The canonical packet: what it is, and no law of it.
 fn canonical_of(packet: &SctpPacket, alloc: Global) -> Result<Vec<u8>, AllocError>
     requires { Fits (meaning_view packet.now) }
-    ensures { IfOk result (λ bytes. bytes.items ≡ canonical (meaning_view packet.now)) }
+    ensures bytes { IfOk result (λ bytes. bytes.items ≡ canonical (meaning_view packet.now)) }
+    ensures tight { IfOk result (λ bytes. vec_capacity bytes ≡ vec_len bytes) }
 {
-    let mut bytes = vec![in alloc; 0; packet.canonical_size()]?;
+    let mut bytes = zeros(alloc, packet.canonical_size())?;
     write_over_zeros(packet, &mut bytes);
     Ok(bytes)
-}
-
-/// The common header with a checksum of 0: the canonical packet of no chunks.
-#[tactic(auto, unfolding(crate::specs::Canonical::canonical))]
-pub(crate) fn header_bytes(
-    source_port: u16,
-    destination_port: u16,
-    verification_tag: u32,
-) -> [u8; COMMON_HEADER_SIZE]
-    ensures { result ≡ canonical (record {
-      source = source_port;
-      destination = destination_port;
-      tag = verification_tag;
-      chunks = [];
-    }) }
-{
-    let mut header = [0; COMMON_HEADER_SIZE];
-    // As one number: two side by side are fetched by one wide load, which waits where the packet has
-    // only just been stored.
-    let ports = source_port as u32 * 65536 + destination_port as u32;
-    put_u32(&mut header, 0, ports);
-    put_u32(&mut header, 4, verification_tag);
-    header
 }
 
 /// Writes the canonical packet over zeros.

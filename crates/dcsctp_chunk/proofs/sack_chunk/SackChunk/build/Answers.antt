@@ -8,9 +8,9 @@ use Rattle.dcsctp_tlv.specs.Number.{number16, number32}
 use Rattle.dcsctp_chunk.specs.Sack.{block_at, block_count, duplicate_count, duplicate_numbers, read}
 use Rattle.dcsctp_chunk.proofs.sack_chunk.SackChunk.build.Goals as goal
 
-pub returns : goal.returns
+pub returns-clause-meant : goal.returns-clause-meant
 unfolding read
-returns c =
+returns-clause-meant c =
     let value = c.args.value.now in
     let just = ok_passed (length value == 12 + 4 * block_count value + 4 * duplicate_count value) _ Length c.requires in
     let n = c.read_u16_be-blocks.result in

@@ -1,8 +1,10 @@
+use Rattle.std.proofs.Common.{ap}
 use Rattle.std.proofs.lemmas.List.{take_rest}
 use Rattle.dcsctp_tlv.specs.Frame.{lenient}
 use Rattle.dcsctp_tlv.proofs.Lenient.{list_looser}
 use Rattle.dcsctp_wire.specs.Chunk.{chunks, views}
 use Rattle.dcsctp_wire.specs.Packet.{body, packet_with}
+use Rattle.dcsctp_wire.specs.declared.packet.common_header.CommonHeader.{CommonHeader}
 use Rattle.dcsctp_wire.proofs.ChunkRows.{chunks_looser}
 use Rattle.dcsctp_wire.proofs.Lenient.{built_means}
 use Rattle.dcsctp_wire.proofs.PacketChecks.{packet_is}
@@ -25,10 +27,10 @@ returns-clause-answer c =
     let built = rw (take_rest bytes 12) at c.in_ok-chunks.ensures.meant in (
       found.0,
       record {
-        source = c.read_u16_be.ensures;
-        destination = rw (take_rest bytes 2) at c.read_u16_be-2.ensures;
-        tag = rw (take_rest bytes 4) at c.read_u32_be.ensures;
-        checksum = rw (take_rest bytes 8) at c.read_u32_be-2.ensures;
+        source = ap (λ (h : CommonHeader). h.source_port) c.read_header.ensures;
+        destination = ap (λ (h : CommonHeader). h.destination_port) c.read_header.ensures;
+        tag = ap (λ (h : CommonHeader). h.verification_tag) c.read_header.ensures;
+        checksum = ap (λ (h : CommonHeader). h.checksum) c.read_header.ensures;
         chunks = built_means c.args.policy.now.strict_padding (body bytes) found.1.trees (views c.in_ok-chunks.chunks.items) found.1.mean built;
       },
     )

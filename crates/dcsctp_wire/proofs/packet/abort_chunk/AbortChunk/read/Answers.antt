@@ -9,6 +9,8 @@ returns-in_err-check c =
     let p = c.in_err-check.ensures.found c.args.flags in record {
       answer = row_exactly (abort_lawful lenient c.args.flags) _ c.type_inv.value (search (rules, p));
       memory = search (rules, p);
+      reserved = search rules;
+      tight = search rules;
     }
 
 pub build-requires : goal.build-requires

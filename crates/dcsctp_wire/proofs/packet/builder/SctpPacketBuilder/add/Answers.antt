@@ -1,4 +1,4 @@
-use Rattle.std.proofs.Common.{◌∙◌, ◌++◌, ap}
+use Rattle.std.proofs.Common.{◌∙◌, ◌++◌, ap, vec_capacity}
 use Rattle.dcsctp_wire.specs.Chunk.{view}
 use Rattle.dcsctp_wire.specs.Canonical.{padded_chunk}
 use Rattle.dcsctp_wire.specs.Builder.{BuilderState}
@@ -11,5 +11,6 @@ returns-clause-added c =
     let t = view c.args.chunk.now in
     let begun = c.self.view_is ∙ c.in_ok-begin.ensures.begun in
     let items = c.append_chunk.ensures.items ∙ ap (λ (s : BuilderState). s.bytes ++ padded_chunk t) begun in
+    let room = vec_capacity c.append_chunk.new.bytes in
     adds b _ t c.requires.encodable c.chunk_has_widths.ensures c.requires.room
-    (ap (λ (s : BuilderState). record s { bytes = c.append_chunk.new.bytes.items }) begun ∙ ap (λ xs. record b { bytes = xs }) items)
+    (ap (λ (s : BuilderState). record s { bytes = c.append_chunk.new.bytes.items; reserved = room }) begun ∙ ap (λ xs. record b { bytes = xs; reserved = room }) items)

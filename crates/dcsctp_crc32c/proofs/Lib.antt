@@ -1,0 +1,4 @@
+pub mod Blocks
+pub mod Linear
+pub mod Pieces
+pub mod Rows

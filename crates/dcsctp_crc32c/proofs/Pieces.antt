@@ -1,0 +1,32 @@
+-- Bytes in pieces.
+use Rattle.std.proofs.Common.{◌≡◌, ◌∙◌, ℕ, ◌+◌, List, ◌++◌, bit_xor, take, drop, ap, sym}
+use Rattle.std.proofs.Math.Seq.{take-add}
+use Rattle.std.proofs.lemmas.List.{take-append-drop}
+use Rattle.std.proofs.lemmas.List.Sums.{fold-append}
+use lib.Bits.{xor_assoc, xor_self, xor_zero_r}
+use Rattle.dcsctp_crc32c.specs.Checksum.{after_byte, after_bytes, extended}
+
+pub after_bytes-append : (register : ℕ) (xs ys : List ℕ)
+    → after_bytes register (xs ++ ys) ≡ after_bytes (after_bytes register xs) ys
+after_bytes-append register xs ys = fold-append after_byte register xs ys
+
+-- the next n bytes
+pub after_bytes-take : (register i n : ℕ) (bytes : List ℕ)
+    → after_bytes (after_bytes register (take i bytes)) (take n (drop i bytes)) ≡ after_bytes register (take (i + n) bytes)
+after_bytes-take register i n bytes =
+    sym (after_bytes-append register (take i bytes) (take n (drop i bytes)))
+    ∙ ap (after_bytes register) (sym (take-add i n bytes))
+
+-- all bytes that are left
+pub after_bytes-drop : (register i : ℕ) (bytes : List ℕ)
+    → after_bytes (after_bytes register (take i bytes)) (drop i bytes) ≡ after_bytes register bytes
+after_bytes-drop register i bytes =
+    sym (after_bytes-append register (take i bytes) (drop i bytes)) ∙ ap (after_bytes register) (take-append-drop i bytes)
+
+pub extended-append : (crc : ℕ) (xs ys : List ℕ) → extended (extended crc xs) ys ≡ extended crc (xs ++ ys)
+extended-append crc xs ys =
+    let register = after_bytes (bit_xor crc 0xFFFFFFFF) xs in
+    let turned : bit_xor (bit_xor register 0xFFFFFFFF) 0xFFFFFFFF ≡ register =
+    xor_assoc register 0xFFFFFFFF 0xFFFFFFFF ∙ ap (bit_xor register) (xor_self 0xFFFFFFFF) ∙ xor_zero_r register in
+    ap (λ r. bit_xor r 0xFFFFFFFF)
+    (ap (λ r. after_bytes r ys) turned ∙ sym (after_bytes-append (bit_xor crc 0xFFFFFFFF) xs ys))

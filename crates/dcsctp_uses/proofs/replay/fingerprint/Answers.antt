@@ -1,0 +1,17 @@
+use Rattle.dcsctp_wire.specs.Canonical.{canonical, Fits}
+use Rattle.dcsctp_wire.specs.Packet.{PacketTree, meaning_view, packet_view}
+use Rattle.std.proofs.Common.{◌≡◌, ◌∙◌, true, ap, subst, sym}
+use Rattle.dcsctp_uses.proofs.replay.fingerprint.Goals as goal
+
+pub returns-then-not-fits-clause-nothing : goal.returns-then-not-fits-clause-nothing
+returns-then-not-fits-clause-nothing c p ans fits =
+    let same : packet_view c.in_ok-packet.packet ≡ p = c.in_ok-packet.ensures.answer.value p ans in
+    let held : Fits (meaning_view c.in_ok-packet.packet) =
+    subst (λ (q : PacketTree). Fits q.meaning) (sym same) fits in
+    let yes : c.fits.result ≡ true = c.fits.ensures.1 held in
+    cc
+
+pub returns-clause-key : goal.returns-clause-key
+returns-clause-key c p ans =
+    c.in_ok-canonical_bytes.ensures.bytes
+    ∙ ap (λ (p : PacketTree). canonical p.meaning) (c.in_ok-packet.ensures.answer.value p ans)

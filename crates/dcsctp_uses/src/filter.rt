@@ -1,0 +1,12 @@
+//! A filter that lets packets alone pass.
+
+ghost use Rattle.dcsctp_wire.specs.Caller.{◌↔◌, IsTrue, IsPacket};
+
+use dcsctp_wire::packet::sctp_packet::{ChecksumPolicy, SctpPacket};
+
+/// Whether the bytes are a packet. It takes no memory, so that a flood of bad packets costs none.
+pub fn is_packet(bytes: &[u8], word: u32, policy: &ChecksumPolicy) -> bool
+    ensures { IsTrue result ↔ IsPacket bytes.now word policy.now }
+{
+    SctpPacket::check(bytes, word, policy).is_ok()
+}

@@ -1,0 +1,29 @@
+//! The key of a replay cache.
+
+ghost use Rattle.dcsctp_wire.specs.Caller.{◌≡◌, ◌↔◌, Ok, Err, IfOk, IsErrOf, IfSome, IfNone, PacketTree, PacketFault, Answer, canonical, Fits, packet_error_of};
+
+use dcsctp_wire::packet::sctp_packet::{ChecksumPolicy, PacketParseError, SctpPacket};
+use std::alloc::Global;
+
+/// The canonical packet, which two packets share exactly where they mean the same: the key of a
+/// replay cache. Nothing where it has more bytes than a packet may have; the fault exactly where
+/// the bytes have one.
+pub fn fingerprint(
+    alloc: Global,
+    bytes: &[u8],
+    word: u32,
+    policy: &ChecksumPolicy,
+) -> Result<Option<Vec<u8>>, PacketParseError>
+    ensures key { IfOk result (λ key. IfSome key (λ key. (p : PacketTree)
+        → Answer bytes.now word policy.now (Ok p) → key.items ≡ canonical p.meaning)) }
+    ensures nothing { IfOk result (λ key. IfNone key ((p : PacketTree)
+        → Answer bytes.now word policy.now (Ok p) → ¬ Fits p.meaning)) }
+    ensures faulty { (e : PacketFault) → IsErrOf result (packet_error_of e)
+        ↔ Answer bytes.now word policy.now (Err e) }
+{
+    let packet = SctpPacket::from_bytes(alloc, bytes, word, policy)?;
+    if !packet.fits() {
+        return Ok(None);
+    }
+    Ok(Some(packet.canonical_bytes(alloc)?))
+}

@@ -1,0 +1,249 @@
+//! A packet that is read in its bytes agrees with the packet that is built, field by field; and what
+//! a packet is in whose bytes a number was written.
+
+use crate::captures::{
+    ABORT, COOKIE_ECHO, DATA, ERROR, HEARTBEAT, HEARTBEAT_ACK, IDATA_FIRST, IDATA_LAST, INIT, SACK,
+    SHUTDOWN_COMPLETE, TWO_CHUNKS,
+};
+use crate::chunks::ROWS;
+use crate::help::{STRICT, UNVERIFIED, header_of, packet_of, raw_of};
+use crate::packets::{ACCEPTED, ACCEPTED_WITH_LISTS, REFUSED};
+use dcsctp_wire::packet::ChunkParseError;
+use dcsctp_wire::packet::chunk::{Chunk, RawChunk};
+use dcsctp_wire::packet::data::Data;
+use dcsctp_wire::packet::in_place::{set_checksum_word, set_verification_tag};
+use dcsctp_wire::packet::packet_ref::SctpPacketRef;
+use dcsctp_wire::packet::raw_chunks::RawChunks;
+use dcsctp_wire::packet::sctp_packet::{ChecksumPolicy, CommonHeader, SctpPacket};
+use dcsctp_wire::packet::user_data::UserData;
+use dcsctp_wire::types::Tsn;
+use std::alloc::{AllocError, Global};
+use std::test::Fail;
+
+/// The header's numbers, and the chunks.
+fn packet_text(
+    alloc: Global,
+    header: &CommonHeader,
+    chunks: &[Chunk],
+) -> Result<String, AllocError> {
+    let (source, destination) = (header.source_port, header.destination_port);
+    let (tag, checksum) = (header.verification_tag, header.checksum);
+    format!(in alloc; "{source} {destination} {tag} {checksum} {chunks:?}")
+}
+
+/// All that the packet holds, once it is built; or its fault.
+fn built_text(alloc: Global, bytes: &[u8], policy: &ChecksumPolicy) -> Result<String, AllocError> {
+    match SctpPacket::from_bytes(alloc, bytes, 0, policy) {
+        Ok(packet) => packet_text(alloc, &packet.common_header, &packet.chunks),
+        Err(error) => format!(in alloc; "{error:?}"),
+    }
+}
+
+/// The chunks, each built where it lies.
+fn owned(alloc: Global, raws: RawChunks) -> Result<Vec<Chunk>, ChunkParseError> {
+    let mut chunks = Vec::new(alloc);
+    for raw in raws {
+        chunks.push(Chunk::try_from(alloc, raw)?)?;
+    }
+    Ok(chunks)
+}
+
+/// The same of a packet in its bytes.
+fn lent_text(alloc: Global, bytes: &[u8], policy: &ChecksumPolicy) -> Result<String, Fail> {
+    match SctpPacketRef::from_bytes(bytes, 0, policy) {
+        Ok(packet) => {
+            let chunks = owned(alloc, packet.chunks)?;
+            Ok(packet_text(alloc, &packet.common_header, &chunks)?)
+        }
+        Err(error) => Ok(format!(in alloc; "{error:?}")?),
+    }
+}
+
+/// Whether both readings of the header and these chunks hold the same, or have the same fault.
+fn agree(alloc: Global, chunks: &[u8], policy: &ChecksumPolicy) -> Result<bool, Fail> {
+    let bytes = packet_of(alloc, chunks)?;
+    let built = built_text(alloc, &bytes, policy)?;
+    Ok(lent_text(alloc, &bytes, policy)?.as_str() == built.as_str())
+}
+
+/// What `UserData` would print of a chunk that was built.
+fn built_data(
+    alloc: Global,
+    tsn: Tsn,
+    content: &Data,
+    immediate: bool,
+) -> Result<String, AllocError> {
+    let (key, ssn, mid, fsn) = (content.stream_key, content.ssn, content.mid, content.fsn);
+    let (ppid, payload) = (content.ppid, &content.payload);
+    let (beginning, end) = (content.is_beginning, content.is_end);
+    format!(in alloc;
+        "Some(UserData {{ tsn: {tsn:?}, stream_key: {key:?}, ssn: {ssn:?}, mid: {mid:?}, fsn: {fsn:?}, ppid: {ppid:?}, payload: {payload:?}, is_beginning: {beginning}, is_end: {end}, immediate_ack: {immediate} }})"
+    )
+}
+
+/// The same, or nothing where it has none.
+fn built_data_text(alloc: Global, chunk: &Chunk) -> Result<String, AllocError> {
+    match chunk {
+        Chunk::Data(c) => built_data(alloc, c.tsn, &c.user_data, c.immediate_ack),
+        Chunk::IData(c) => built_data(alloc, c.tsn, &c.user_data, c.immediate_ack),
+        _ => format!(in alloc; "None"),
+    }
+}
+
+/// Whether the user data of the chunk is the same where it lies and where it was built.
+fn has_same_data(alloc: Global, raw: RawChunk) -> Result<bool, Fail> {
+    let lent = UserData::from_raw(&raw);
+    let text = format!(in alloc; "{lent:?}")?;
+    let chunk = Chunk::try_from(alloc, raw)?;
+    Ok(built_data_text(alloc, &chunk)?.as_str() == text.as_str())
+}
+
+/// How many chunks the header and these have, each with the same user data in both readings.
+fn count_same_data(alloc: Global, chunks: &[u8]) -> Result<usize, Fail> {
+    let bytes = packet_of(alloc, chunks)?;
+    let mut count: usize = 0;
+    for raw in SctpPacketRef::from_bytes(&bytes, 0, &UNVERIFIED)?.chunks {
+        if has_same_data(alloc, raw)? {
+            count = count.saturating_add(1);
+        }
+    }
+    Ok(count)
+}
+
+/// How many chunks the packet has.
+fn count_built(alloc: Global, chunks: &[u8]) -> Result<usize, Fail> {
+    let bytes = packet_of(alloc, chunks)?;
+    Ok(
+        SctpPacket::from_bytes(alloc, &bytes, 0, &UNVERIFIED)?
+            .chunks
+            .len(),
+    )
+}
+
+const CAPTURES: &[&[u8]] = &[
+    DATA,
+    INIT,
+    HEARTBEAT,
+    HEARTBEAT_ACK,
+    ABORT,
+    ERROR,
+    COOKIE_ECHO,
+    SHUTDOWN_COMPLETE,
+    IDATA_FIRST,
+    IDATA_LAST,
+    TWO_CHUNKS,
+];
+
+#[test]
+fn of_accepted(rt: HostRuntime) -> Result<(), Fail> {
+    for rows in [ACCEPTED, ACCEPTED_WITH_LISTS] {
+        for (i, (chunks, _, _)) in rows.iter().enumerate() {
+            assert!(rt; agree(rt.alloc(), chunks, &UNVERIFIED)?, "row {i}");
+            assert!(rt; agree(rt.alloc(), chunks, &STRICT)?, "row {i}, strict");
+        }
+    }
+    Ok(())
+}
+
+#[test]
+fn of_refused(rt: HostRuntime) -> Result<(), Fail> {
+    for (i, (chunks, _)) in REFUSED.iter().enumerate() {
+        assert!(rt; agree(rt.alloc(), chunks, &UNVERIFIED)?, "row {i}");
+    }
+    Ok(())
+}
+
+#[test]
+fn of_captures(rt: HostRuntime) -> Result<(), Fail> {
+    for (i, chunks) in CAPTURES.iter().enumerate() {
+        assert!(rt; agree(rt.alloc(), chunks, &UNVERIFIED)?, "row {i}");
+        let count = count_built(rt.alloc(), chunks)?;
+        assert_eq!(rt; count_same_data(rt.alloc(), chunks)?, count, "row {i}");
+    }
+    Ok(())
+}
+
+#[test]
+fn of_chunks(rt: HostRuntime) -> Result<(), Fail> {
+    for (i, (chunk, _, _, _)) in ROWS.iter().enumerate() {
+        assert!(rt; agree(rt.alloc(), chunk, &UNVERIFIED)?, "row {i}");
+        let count = count_built(rt.alloc(), chunk)?;
+        assert_eq!(rt; count_same_data(rt.alloc(), chunk)?, count, "row {i}");
+    }
+    Ok(())
+}
+
+/// The bytes of a chunk, and its user data as text; by hand from RFC 9260 section 3.3.1 and RFC 8260
+/// section 2.1.
+const USER_DATA: &[(&[u8], &str)] = &[
+    // DATA in mid-message, which asks for an immediate ack
+    (
+        &[
+            0, 8, 0, 0x15, 0, 0, 0, 0x7b, 1, 0xc8, 3, 0x15, 0, 0, 0x23, 0x82, 1, 2, 3, 4, 5,
+        ],
+        "Some(UserData { tsn: 123, stream_key: Ordered(456), ssn: 789, mid: 0, fsn: 0, ppid: 9090, payload: [1, 2, 3, 4, 5], is_beginning: false, is_end: false, immediate_ack: true })",
+    ),
+    // no payload, with all that a flag can say
+    (
+        &[0, 0xff, 0, 0x10, 0, 0, 0, 1, 0, 2, 0, 3, 0, 0, 0, 4],
+        "Some(UserData { tsn: 1, stream_key: Unordered(2), ssn: 3, mid: 0, fsn: 0, ppid: 4, payload: [], is_beginning: true, is_end: true, immediate_ack: true })",
+    ),
+    // I-DATA: a beginning has a payload protocol id, and what isn't one an FSN
+    (
+        &[
+            64, 2, 0, 21, 0, 0, 0, 1, 0, 2, 9, 9, 0, 0, 0, 3, 0, 0, 0, 4, 5,
+        ],
+        "Some(UserData { tsn: 1, stream_key: Ordered(2), ssn: 0, mid: 3, fsn: 0, ppid: 4, payload: [5], is_beginning: true, is_end: false, immediate_ack: false })",
+    ),
+    (
+        &[
+            64, 1, 0, 21, 0, 0, 0, 1, 0, 2, 9, 9, 0, 0, 0, 3, 0, 0, 0, 4, 5,
+        ],
+        "Some(UserData { tsn: 1, stream_key: Ordered(2), ssn: 0, mid: 3, fsn: 4, ppid: 0, payload: [5], is_beginning: false, is_end: true, immediate_ack: false })",
+    ),
+    // a byte too few: of DATA, and of I-DATA
+    (&[0, 3, 0, 15, 0, 0, 0, 1, 0, 2, 0, 3, 0, 0, 0], "None"),
+    (
+        &[64, 3, 0, 19, 0, 0, 0, 1, 0, 2, 0, 0, 0, 0, 0, 3, 0, 0, 0],
+        "None",
+    ),
+    // SACK and COOKIE ACK
+    (SACK, "None"),
+    (&[0x0b, 0, 0, 4], "None"),
+];
+
+/// The user data of the chunk at the front has this text.
+fn has_data(alloc: Global, bytes: &[u8], wanted: &str) -> Result<bool, ChunkParseError> {
+    let raw = raw_of(bytes)?;
+    let lent = UserData::from_raw(&raw);
+    Ok(format!(in alloc; "{lent:?}")?.as_str() == wanted)
+}
+
+#[test]
+fn of_user_data(rt: HostRuntime) -> Result<(), Fail> {
+    for (i, (bytes, wanted)) in USER_DATA.iter().enumerate() {
+        assert!(rt; has_data(rt.alloc(), bytes, wanted)?, "row {i}");
+    }
+    Ok(())
+}
+
+// The tag and the checksum field of a packet with a COOKIE ACK, one after the other.
+#[test]
+fn of_changes(rt: HostRuntime) -> Result<(), Fail> {
+    let mut bytes = [
+        0x13, 0x88, 0x13, 0x88, 1, 2, 3, 4, 0, 0, 0, 0, 0x0b, 0, 0, 4,
+    ];
+    set_verification_tag(&mut bytes, 0x05060708);
+    let tagged = [
+        0x13, 0x88, 0x13, 0x88, 5, 6, 7, 8, 0, 0, 0, 0, 0x0b, 0, 0, 4,
+    ];
+    assert_eq!(rt; bytes, tagged);
+    set_checksum_word(&mut bytes, 0x090a0b0c);
+    let sealed = [
+        0x13, 0x88, 0x13, 0x88, 5, 6, 7, 8, 9, 10, 11, 12, 0x0b, 0, 0, 4,
+    ];
+    assert_eq!(rt; bytes, sealed);
+    let header = header_of(rt.alloc(), &bytes, 0x090a0b0c, &ChecksumPolicy::default())?;
+    assert_eq!(rt; header, (5000, 5000, 0x05060708, 0x090a0b0c));
+    Ok(())
+}
