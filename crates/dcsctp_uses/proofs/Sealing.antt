@@ -1,6 +1,7 @@
 -- A packet that carries its checksum: which one is read, and which one is refused.
 use Rattle.std.proofs.Common.{◌≡◌, ◌≢◌, ◌∙◌, ℕ, ◌<◌, ◌^◌, ◌++◌, true, false, List, [], ◌∷◌, Result, Ok, Err, IfOk, length, take, drop, refl, sym, ap, arith}
 use Rattle.std.proofs.lemmas.List.{length-drop}
+use Rattle.std.proofs.lemmas.Nat.{from_be_bytes-to_be_bytes_4}
 use Rattle.std.specs.Int.{w32, to_le_bytes, from_be_bytes}
 use Rattle.dcsctp_crc32c.specs.Checksum.{crc32c, packet_word}
 use Rattle.dcsctp_wire.specs.Builder.{BuilderState, Holds, built, meaning_with, checksummed, with_checksum}
@@ -11,7 +12,6 @@ use Rattle.dcsctp_wire.specs.Reading.{Exactly}
 use Rattle.dcsctp_wire.specs.declared.packet.sctp_packet.PacketParseError.{PacketParseError}
 use Rattle.dcsctp_wire.specs.declared.packet.sctp_packet.SctpPacket.{SctpPacket}
 use Rattle.dcsctp_wire.specs.declared.packet.sctp_packet.ChecksumPolicy.{ChecksumPolicy}
-use Rattle.dcsctp_wire.proofs.Canonicals.{with_field, field_back}
 use Rattle.dcsctp_uses.specs.Sealed.{verifying, Verified, HasOtherField}
 
 pub default_is : (p : ChecksumPolicy) → p.disable_checksum_verification ≡ false
@@ -48,12 +48,15 @@ other_refused bytes others p read other =
 
 -- ---- what is sealed
 
-canonical_sealed : (m : Meaning) (bytes : List ℕ) (word : ℕ) → bytes ≡ canonical m → with_checksum word bytes ≡ with_field m word
+-- the field of the canonical packet, where the word was written into it
+field_of_canonical : (m : Meaning) (word : ℕ) → word < 2 ^ 32
+    → checksum_field (with_checksum word (canonical m)) ≡ word
 unfolding canonical
-canonical_sealed m bytes word e = rw e refl
+field_of_canonical m word fits = from_be_bytes-to_be_bytes_4 word fits
 
 -- in place of the word the canonical packet has zeros
-word_of_canonical : (m : Meaning) (word : ℕ) → packet_word (with_field m word) ≡ packet_word (canonical m)
+word_of_canonical : (m : Meaning) (word : ℕ)
+    → packet_word (with_checksum word (canonical m)) ≡ packet_word (canonical m)
 unfolding canonical
 word_of_canonical m word = refl
 
@@ -64,9 +67,9 @@ pub field_sealed : (b : BuilderState) (word : ℕ) (chunks : List ChunkTree) →
 field_sealed b word [] some held on is fits = absurd (some refl)
 field_sealed b word (chunk ∷ chunks) some held on is fits =
     let m = meaning_with b (chunk ∷ chunks) in
-    let bytes : built b word ≡ with_field m word =
-    ap (λ writes. checksummed writes word b.bytes) on ∙ canonical_sealed m b.bytes word held.bytes in
-    ap checksum_field bytes ∙ field_back m word fits ∙ is ∙ ap packet_word held.bytes
+    let bytes : built b word ≡ with_checksum word (canonical m) =
+    ap (λ writes. checksummed writes word b.bytes) on ∙ ap (with_checksum word) held.bytes in
+    ap checksum_field bytes ∙ field_of_canonical m word fits ∙ is ∙ ap packet_word held.bytes
     ∙ sym (word_of_canonical m word) ∙ ap packet_word (sym bytes)
 
 -- ---- what is read

@@ -1,6 +1,7 @@
 //! A packet with an acknowledgment and a message.
 
-ghost use Rattle.dcsctp_wire.specs.Caller.{ℕ, ◌≡◌, ◌∷◌, [], true, Ok, IfOk, IfSome, Holds, Answer, IsAccepted, checksum_field, SackTree, DataTree, chunk_view, sack_view, data_view, kept_data};
+ghost use Rattle.std.specs.Prelude.{ℕ, ◌≡◌, ◌∷◌, [], true, Ok, IfOk, IfSome};
+ghost use Rattle.dcsctp_wire.specs.Caller.{Holds, Answer, IsAccepted, checksum_field, SackTree, DataTree, chunk_view, sack_view, data_view, kept_data};
 
 use dcsctp_wire::packet::chunk::Chunk;
 use dcsctp_wire::packet::data_chunk::DataChunk;

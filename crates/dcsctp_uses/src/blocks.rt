@@ -1,6 +1,7 @@
 //! The blocks of a SACK, as few as there can be.
 
-ghost use Rattle.dcsctp_wire.specs.Caller.{◌≡◌, vec_capacity, Covers, IsRuns};
+ghost use Rattle.std.specs.Prelude.{◌≡◌, vec_capacity};
+ghost use Rattle.dcsctp_wire.specs.Caller.{Covers, IsRuns};
 
 use dcsctp_wire::packet::chunk_validators::clean_sack;
 use dcsctp_wire::packet::sack_chunk::{GapAckBlock, SackChunk};

@@ -1,6 +1,7 @@
 //! The checksum word of a packet.
 
-ghost use Rattle.dcsctp_wire.specs.Caller.{◌≡◌, w32, to_be_bytes, to_le_bytes};
+ghost use Rattle.std.specs.Prelude.{◌≡◌};
+ghost use Rattle.std.specs.Int.{w32, to_be_bytes, to_le_bytes};
 
 /// The word that `from_bytes`, `check` and `build` take, of a CRC32c: a packet holds the CRC least
 /// significant byte first (RFC 9260 appendix A), and the word is what bytes 8 to 11 are most

@@ -1,6 +1,7 @@
 //! A filter that lets packets alone pass.
 
-ghost use Rattle.dcsctp_wire.specs.Caller.{◌↔◌, IsTrue, IsPacket};
+ghost use Rattle.std.specs.Prelude.{◌↔◌, IsTrue};
+ghost use Rattle.dcsctp_wire.specs.Caller.{IsPacket};
 
 use dcsctp_wire::packet::sctp_packet::{ChecksumPolicy, SctpPacket};
 

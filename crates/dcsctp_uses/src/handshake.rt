@@ -1,6 +1,7 @@
 //! The answer to an INIT.
 
-ghost use Rattle.dcsctp_wire.specs.Caller.{◌≡◌, ◌≤◌, ◌+◌, ◌*◌, ◌/◌, ◌∷◌, [], true, IfOk, IfSome, IfNone, Holds, padded_size, InitAckTree, IsChunkEncodable, init_ack_view};
+ghost use Rattle.std.specs.Prelude.{◌≡◌, ◌≤◌, ◌+◌, ◌*◌, ◌/◌, ◌∷◌, [], true, IfOk, IfSome, IfNone};
+ghost use Rattle.dcsctp_wire.specs.Caller.{Holds, padded_size, InitAckTree, IsChunkEncodable, init_ack_view};
 
 use dcsctp_wire::packet::chunk::Chunk;
 use dcsctp_wire::packet::init_ack_chunk::InitAckChunk;

@@ -1,6 +1,7 @@
 //! Programs over a packet in its bytes.
 
-ghost use Rattle.dcsctp_wire.specs.Caller.{◌≡◌, ◌↔◌, Ok, Err, IsErrOf, MatchResult, PacketTree, PacketFault, Answer, chunk_views, packet_error_of, packet_reading};
+ghost use Rattle.std.specs.Prelude.{◌≡◌, ◌↔◌, Ok, Err, IsErrOf, MatchResult};
+ghost use Rattle.dcsctp_wire.specs.Caller.{PacketTree, PacketFault, Answer, chunk_views, packet_error_of, packet_reading};
 ghost use Rattle.dcsctp_uses.specs.Payload.{payload_sizes};
 
 use dcsctp_wire::packet::chunk::Chunk;

@@ -1,6 +1,7 @@
 //! The user data of a chunk.
 
-ghost use Rattle.dcsctp_wire.specs.Caller.{◌≡◌, option_map, chunk_view, user_data_view, user_data_of};
+ghost use Rattle.std.specs.Prelude.{◌≡◌, option_map};
+ghost use Rattle.dcsctp_wire.specs.Caller.{chunk_view, user_data_view, user_data_of};
 
 use dcsctp_wire::packet::chunk::Chunk;
 use dcsctp_wire::packet::data::Data;

@@ -1,6 +1,7 @@
 //! The key of a replay cache.
 
-ghost use Rattle.dcsctp_wire.specs.Caller.{◌≡◌, ◌↔◌, Ok, Err, IfOk, IsErrOf, IfSome, IfNone, PacketTree, PacketFault, Answer, canonical, Fits, packet_error_of};
+ghost use Rattle.std.specs.Prelude.{◌≡◌, ◌↔◌, Ok, Err, IfOk, IsErrOf, IfSome, IfNone};
+ghost use Rattle.dcsctp_wire.specs.Caller.{PacketTree, PacketFault, Answer, canonical, Fits, packet_error_of};
 
 use dcsctp_wire::packet::sctp_packet::{ChecksumPolicy, PacketParseError, SctpPacket};
 use std::alloc::Global;

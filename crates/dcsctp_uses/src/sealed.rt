@@ -1,6 +1,8 @@
 //! Packets with a CRC32c in their checksum field: to be sent, and as they are received.
 
-ghost use Rattle.dcsctp_wire.specs.Caller.{◌≡◌, ◌≢◌, ◌≤◌, ◌↔◌, [], ℕ, List, AllByRecursion, true, Ok, Err, IfOk, IsErrOf, Exactly, ChecksumFault, HasPacketSize, checksum_field, packet_reading, packet_view, ChunkTree, IsChunkWellFormed, all_kept, Holds, built, meaning_with};
+ghost use Rattle.std.specs.Prelude.{◌≡◌, ◌≢◌, ◌≤◌, ◌↔◌, [], ℕ, List, true, Ok, Err, IfOk, IsErrOf};
+ghost use Rattle.std.specs.List.{AllByRecursion};
+ghost use Rattle.dcsctp_wire.specs.Caller.{Exactly, ChecksumFault, HasPacketSize, checksum_field, packet_reading, packet_view, ChunkTree, IsChunkWellFormed, all_kept, Holds, built, meaning_with};
 ghost use Rattle.dcsctp_crc32c.specs.Checksum.{packet_word};
 ghost use Rattle.dcsctp_uses.specs.Sealed.{Verified, HasOtherField};
 

@@ -1,13 +1,6 @@
--- What contracts of callers speak of, in one place: a caller's file begins with one `ghost use`
--- line of this module, and names in it what its clauses need.
-
--- of the standard library: equations, numbers, lists, options and results
-pub use Rattle.std.specs.Prelude.{◌≡◌, ◌≢◌, ◌↔◌, ◌⊎◌, ◌<◌, ◌≤◌, ◌+◌, ◌-◌, ◌*◌, ◌/◌, ◌∷◌, ◌++◌, []}
-pub use Rattle.std.specs.Prelude.{ℕ, List, Bool, true, false, length, take, drop, vec_capacity}
-pub use Rattle.std.specs.Prelude.{Option, Some, None, IfSome, IfNone, option_map}
-pub use Rattle.std.specs.Prelude.{Result, Ok, Err, IsTrue, IsOk, IsErrOf, IfOk, IfErr, MatchResult}
-pub use Rattle.std.specs.List.{AllByRecursion}
-pub use Rattle.std.specs.Int.{w32, to_be_bytes, to_le_bytes}
+-- What contracts of callers speak of, in one place: a caller's file begins with a `ghost use` line of
+-- this module, beside that of `Rattle.std.specs.Prelude` for operators, numbers, lists and results.
+use Rattle.std.specs.Prelude.{Option, Some, None}
 -- packets as plain data, and what the grammar answers
 pub use Rattle.dcsctp_wire.specs.Packet.{Meaning, PacketTree, PacketFault, Answer, IsPacket, IsAccepted}
 pub use Rattle.dcsctp_wire.specs.Packet.{header_of, checksum_field, packet_view, meaning_view}
