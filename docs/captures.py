@@ -4,11 +4,13 @@
 Makes the page of captures, docs/CAPTURES.md, by running the program.
 
   --write    runs sctp_show (`rt try`) over the packets of docs/captures.txt, and writes docs/CAPTURES.md and
-             the table of crates/sctp_show/src/tests/captures.rt
-  --compare  runs nothing; fails if the page isn't what the table and docs/captures.txt give
+             two tables: crates/sctp_show/src/tests/captures.rt of what the program prints, and
+             crates/dcsctp_uses/src/tests/association.rt of the packets that carry their checksums
+  --compare  runs nothing; fails if the page isn't what the tables and docs/captures.txt give, or if a packet
+             doesn't carry its CRC32c
   --help     prints this
 
-The table is a test of the program, so that the page can't go stale unseen.
+The tables are tests, so that the page can't go stale unseen.
 """
 import os
 import re
@@ -21,16 +23,30 @@ SOURCE = os.path.join(ROOT, 'docs', 'captures.txt')
 PAGE = os.path.join(ROOT, 'docs', 'CAPTURES.md')
 PROGRAM = os.path.join(ROOT, 'crates', 'sctp_show')
 TABLE = os.path.join(PROGRAM, 'src', 'tests', 'captures.rt')
+SEALED = os.path.join(ROOT, 'crates', 'dcsctp_uses', 'src', 'tests', 'association.rt')
 
 # Both ports 5000, tag 16909060, checksum 0.
 HEADER = '1388138801020304' + '00000000'
 
 PAGE_HEAD = '''# Packets of real peers
 
-Their chunks were captured; the header is the same in all: both ports 5000, tag 16909060, checksum 0. Each can be given to
-the program: `(cd crates/sctp_show && echo HEX | rt try)`. `docs/captures.py --write` makes this page of `docs/captures.txt`
-and of what the program prints, which a test holds too (`crates/sctp_show/src/tests/captures.rt`).
+Each can be given to the program: `(cd crates/sctp_show && echo HEX | rt try)`. `docs/captures.py --write` makes this page of
+`docs/captures.txt` and of what the program prints; tests hold it too (`crates/sctp_show/src/tests/captures.rt`,
+`crates/dcsctp_uses/src/tests/association.rt`).
 '''
+
+# What is said below each heading.
+SECTIONS = {
+    'Chunks': '''The chunks were captured; the header is the same in all: both ports 5000, tag 16909060, checksum 0.
+''',
+    'An association, with its checksums': '''Two sockets of usrsctp 0.9.5.0 (Debian's `libusrsctp2`) in one process, `bench/association.c`: all packets from INIT to SHUTDOWN
+COMPLETE, as they were sent. Each carries its CRC32c: `read_verified` (docs/CALLING.md) reads it, and refuses it after each
+single changed bit of the checksum field.
+''',
+    'Refused packets, with their faults': '''Packets of this association, changed by hand; their checksums were computed anew, but for the first. The fault and its offset
+in bytes are those of `SctpPacket::first_fault`, with the word of `packet_word` and the default policy.
+''',
+}
 
 TABLE_HEAD = '''//! Packets of real peers, and what is printed of them: the rows of docs/CAPTURES.md. Written by
 //! `docs/captures.py --write`.
@@ -52,15 +68,55 @@ fn captures(rt: HostRuntime) {
 '''
 
 
-def packets():
-    """The words and the hexadecimal of each packet."""
+SEALED_HEAD = '''//! An association between two sockets of usrsctp, and packets of it that were changed by hand: the rows of
+//! docs/CAPTURES.md with their checksums. Written by `docs/captures.py --write`.
+
+use dcsctp_wire::packet::ChunkParseError::{InvalidLength, InvalidValue};
+use dcsctp_wire::packet::sctp_packet::PacketParseError::{
+    self, FailedParseChunk, InvalidChecksum, InvalidPacketSize,
+};
+
+'''
+
+
+class Packet:
+    """A packet of docs/captures.txt: its words, its bytes, and where it is refused, by which fault."""
+
+    def __init__(self, words, line):
+        self.words, self.fault, self.offset = words, None, None
+        self.is_whole = line.startswith(('packet ', 'refused '))
+        if line.startswith('refused '):
+            _, offset, self.fault, line = line.split(' ', 3)
+            self.offset = int(offset)
+        line = re.sub(r'(\w\w)\*(\d+)', lambda m: m[1] * int(m[2]), line.removeprefix('packet '))
+        self.text = ('' if self.is_whole else HEADER) + line.replace(' ', '')
+
+    def has_crc32c(self):
+        """Whether the checksum field holds the CRC32c (RFC 9260 appendix A), least significant byte first."""
+        packet = bytes.fromhex(self.text)
+        register = 0xffffffff
+        for byte in packet[:8] + bytes(4) + packet[12:]:
+            register ^= byte
+            for _ in range(8):
+                register = register >> 1 ^ (0x82f63b78 if register & 1 else 0)
+        return packet[8:12] == (register ^ 0xffffffff).to_bytes(4, 'little')
+
+
+def entries():
+    """The headings, as texts, and the packets, in their order."""
     with open(SOURCE, encoding='utf-8') as source:
         blocks = source.read().split('\n\n')
     for block in blocks:
         lines = [line for line in block.splitlines() if line and not line.startswith('#')]
-        if lines:
-            chunks = re.sub(r'(\w\w)\*(\d+)', lambda m: m[1] * int(m[2]), lines[-1])
-            yield lines[:-1], HEADER + chunks.replace(' ', '')
+        if lines and lines[0].startswith('== '):
+            yield lines[0].removeprefix('== ')
+        elif lines:
+            yield Packet(lines[:-1], lines[-1])
+
+
+def is_shown(entry):
+    """Whether the program is run over it: over a packet that isn't refused."""
+    return isinstance(entry, Packet) and entry.fault is None
 
 
 def printed(texts):
@@ -83,37 +139,69 @@ def in_table():
 
 def page_of(rows):
     parts = [PAGE_HEAD]
-    for words, text, answer in rows:
-        block = [text, '', *answer.splitlines()]
-        parts.append('\n'.join(words) + '\n\n' + '\n'.join('    ' + line if line else '' for line in block) + '\n')
+    for entry, answer in rows:
+        if isinstance(entry, str):
+            parts.append(f'## {entry}\n\n{SECTIONS[entry]}')
+            continue
+        told = answer if entry.fault is None else f'refused: {entry.fault}, at byte {entry.offset}'
+        block = [entry.text, '', *told.splitlines()]
+        parts.append('\n'.join(entry.words) + '\n\n' + '\n'.join('    ' + line if line else '' for line in block) + '\n')
     return '\n'.join(parts)
 
 
 def table_of(rows):
     parts = []
-    for _, text, answer in rows:
-        line = answer.replace('\n', '\\n')
-        parts.append(f'    (\n        "{text}",\n        "{line}",\n    ),\n')
+    for entry, answer in rows:
+        if is_shown(entry):
+            line = answer.replace('\n', '\\n')
+            parts.append(f'    (\n        "{entry.text}",\n        "{line}",\n    ),\n')
     return TABLE_HEAD + ''.join(parts) + TABLE_END
+
+
+def byte_string(text):
+    return 'b"' + ''.join(f'\\x{text[at:at + 2]}' for at in range(0, len(text), 2)) + '"'
+
+
+def sealed_of(rows):
+    packets, refused = [], []
+    for entry, answer in rows:
+        if is_shown(entry) and entry.is_whole:
+            # all but the canonical line
+            line = answer.strip('\n').rpartition('\n')[0].replace('\n', '\\n')
+            packets.append(f'    (\n        {byte_string(entry.text)},\n        "{line}",\n    ),\n')
+        elif isinstance(entry, Packet) and entry.fault is not None:
+            refused.append(f'    (\n        {byte_string(entry.text)},\n        {entry.fault},\n        {entry.offset},\n    ),\n')
+    return (
+        SEALED_HEAD
+        + '/// A packet, and what is printed of it.\npub const PACKETS: &[(&[u8], &str)] = &[\n' + ''.join(packets) + '];\n\n'
+        + '/// A packet, the fault that refuses it, and where that lies.\n'
+        + 'pub const REFUSED: &[(&[u8], PacketParseError, usize)] = &[\n' + ''.join(refused) + '];\n'
+    )
 
 
 def pages(rows):
     """Each file that is made of the rows, and its text."""
-    return (PAGE, page_of(rows)), (TABLE, table_of(rows))
+    return (PAGE, page_of(rows)), (TABLE, table_of(rows)), (SEALED, sealed_of(rows))
 
 
 def compare():
     known = in_table()
-    for path, wanted in pages([(words, text, known.get(text, '')) for words, text in packets()]):
+    rows = [(entry, known.get(entry.text, '') if is_shown(entry) else '') for entry in entries()]
+    for entry, _ in rows:
+        if is_shown(entry) and entry.is_whole and not entry.has_crc32c():
+            sys.exit(f'captures: a packet of the association has another checksum: {entry.text}')
+    for path, wanted in pages(rows):
         with open(path, encoding='utf-8') as file:
             if file.read() != wanted:
                 sys.exit(f'captures: {os.path.relpath(path, ROOT)} is stale: run docs/captures.py --write')
 
 
 def write():
-    entries = list(packets())
-    answers = printed([text for _, text in entries])
-    for path, wanted in pages([(*entry, answer) for entry, answer in zip(entries, answers, strict=True)]):
+    all_entries = list(entries())
+    answers = iter(printed([entry.text for entry in all_entries if is_shown(entry)]))
+    rows = [(entry, next(answers) if is_shown(entry) else '') for entry in all_entries]
+    for path, wanted in pages(rows):
+        os.makedirs(os.path.dirname(path), exist_ok=True)
         with open(path, 'w', encoding='utf-8') as file:
             file.write(wanted)
 

@@ -1,5 +1,5 @@
 -- A packet that carries its checksum: which one is read, and which one is refused.
-use Rattle.std.proofs.Common.{◌≡◌, ◌≢◌, ◌∙◌, ℕ, ◌<◌, ◌^◌, ◌++◌, true, false, List, [], ◌∷◌, Result, Ok, Err, IfOk, length, take, drop, refl, sym, ap, arith}
+use Rattle.std.proofs.Common.{◌≡◌, ◌≢◌, ◌∙◌, ℕ, ◌<◌, ◌^◌, ◌++◌, true, false, List, [], ◌∷◌, Result, Ok, Err, IfOk, length, take, drop, refl, sym, ap, subst, arith}
 use Rattle.std.proofs.lemmas.List.{length-drop}
 use Rattle.std.proofs.lemmas.Nat.{from_be_bytes-to_be_bytes_4}
 use Rattle.std.specs.Int.{w32, to_le_bytes, from_be_bytes}
@@ -7,7 +7,7 @@ use Rattle.dcsctp_crc32c.specs.Checksum.{crc32c, packet_word}
 use Rattle.dcsctp_wire.specs.Builder.{BuilderState, Holds, built, meaning_with, checksummed, with_checksum}
 use Rattle.dcsctp_wire.specs.Canonical.{canonical}
 use Rattle.dcsctp_wire.specs.Chunk.{ChunkTree}
-use Rattle.dcsctp_wire.specs.Packet.{PacketTree, Checksum, Meaning, IsAccepted, disabled, alternate, equal, HasPacketSize, checksum_field, packet_reading, packet_view}
+use Rattle.dcsctp_wire.specs.Packet.{PacketTree, Checksum, Meaning, Answer, IsAccepted, disabled, alternate, equal, HasPacketSize, checksum_field, packet_reading, packet_view}
 use Rattle.dcsctp_wire.specs.Reading.{Exactly}
 use Rattle.dcsctp_wire.specs.declared.packet.sctp_packet.PacketParseError.{PacketParseError}
 use Rattle.dcsctp_wire.specs.declared.packet.sctp_packet.SctpPacket.{SctpPacket}
@@ -21,6 +21,15 @@ default_is p verifies none lenient = λ i. record {
   zero_checksum_alternate_error_detection_method = record { 0 = none i };
   strict_padding = lenient i;
 }
+
+-- what `from_bytes` answers under the default policy, with the word of the bytes
+pub verified : (bytes : List ℕ) (word : ℕ) (policy : ChecksumPolicy) (result : Result SctpPacket PacketParseError)
+    → Exactly packet_reading packet_view (Answer bytes word policy) result
+    → word ≡ packet_word bytes → policy ≡ verifying
+    → Exactly packet_reading packet_view (Verified bytes) result
+verified bytes word policy result h is default =
+    subst (λ (p : ChecksumPolicy). Exactly packet_reading packet_view (Answer bytes (packet_word bytes) p) result) default
+    (subst (λ (w : ℕ). Exactly packet_reading packet_view (Answer bytes w policy) result) is h)
 
 accepts_word : (field word : ℕ) → IsAccepted verifying field word → field ≡ word
 accepts_word field word (disabled off) = absurd (let no : false ≡ true = off in cc)

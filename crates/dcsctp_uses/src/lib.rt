@@ -9,6 +9,7 @@ pub mod filter;
 pub mod handshake;
 pub mod in_place;
 pub mod payload;
+pub mod print;
 pub mod replay;
 pub mod sealed;
 #[cfg(test)]

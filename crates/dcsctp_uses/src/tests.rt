@@ -1,10 +1,15 @@
 //! The programs that take memory, once each: what they answer is compared with bytes worked by hand
 //! from RFC 9260.
 
+mod association;
+
 use crate::acknowledge::acknowledgment_with_data;
 use crate::handshake::init_answer;
+use crate::print::packet_to_text;
 use crate::replay::fingerprint;
 use crate::sealed::{read_verified, seal};
+use crate::tests::association::{PACKETS, REFUSED};
+use dcsctp_crc32c::packet_word;
 use dcsctp_wire::api::{PpId, StreamId};
 use dcsctp_wire::packet::chunk::Chunk;
 use dcsctp_wire::packet::cookie_ack_chunk::CookieAckChunk;
@@ -14,7 +19,7 @@ use dcsctp_wire::packet::init_ack_chunk::InitAckChunk;
 use dcsctp_wire::packet::init_chunk::InitChunk;
 use dcsctp_wire::packet::sack_chunk::SackChunk;
 use dcsctp_wire::packet::sctp_packet::{
-    ChecksumPolicy, CommonHeader, PacketParseError, SctpPacketBuilder,
+    ChecksumPolicy, CommonHeader, PacketParseError, SctpPacket, SctpPacketBuilder,
 };
 use dcsctp_wire::types::{Fsn, Mid, Ssn, StreamKey, Tsn};
 use std::alloc::{AllocError, Global};
@@ -164,4 +169,59 @@ fn of_a_sealed_packet(rt: HostRuntime) -> Result<(), Fail> {
         );
     }
     Ok(())
+}
+
+fn has_text(alloc: Global, bytes: &[u8], wanted: &str) -> Result<bool, PacketParseError> {
+    let text = packet_to_text(alloc, bytes)?;
+    Ok(text.as_str() == wanted)
+}
+
+#[test]
+fn of_an_association(rt: HostRuntime) {
+    for (bytes, text) in PACKETS {
+        assert_eq!(rt; has_text(rt.alloc(), bytes, text), Ok(true), "{text}");
+    }
+}
+
+/// Whether the packet is refused after each single changed bit of its checksum field.
+fn is_refused_after_changes(alloc: Global, bytes: &[u8]) -> Result<bool, AllocError> {
+    let mut changed = Vec::from_slice(alloc, bytes)?;
+    let mut refused = true;
+    for place in 8..12 {
+        for bit in 0..8 {
+            let mask = 1u8.rotate_left(bit);
+            if let Some(byte) = changed.get_mut(place) {
+                *byte ^= mask;
+            }
+            let answer = chunks_of(alloc, &changed);
+            refused = refused && answer == Err(PacketParseError::InvalidChecksum);
+            if let Some(byte) = changed.get_mut(place) {
+                *byte ^= mask;
+            }
+        }
+    }
+    Ok(refused)
+}
+
+#[test]
+fn of_changed_checksums(rt: HostRuntime) -> Result<(), Fail> {
+    for (bytes, text) in PACKETS {
+        assert!(rt; is_refused_after_changes(rt.alloc(), bytes)?, "{text}");
+    }
+    Ok(())
+}
+
+fn has_fault(bytes: &[u8], fault: &PacketParseError, offset: usize) -> bool {
+    let found = SctpPacket::first_fault(bytes, packet_word(bytes), &ChecksumPolicy::default());
+    match found {
+        Some(found) => found.fault == *fault && found.offset == offset,
+        None => false,
+    }
+}
+
+#[test]
+fn of_refused_packets(rt: HostRuntime) {
+    for (bytes, fault, offset) in REFUSED {
+        assert!(rt; has_fault(bytes, fault, *offset), "{fault:?}");
+    }
 }

@@ -5,6 +5,7 @@ use Rattle.std.specs.Prelude.{Option, Some, None}
 pub use Rattle.dcsctp_wire.specs.Packet.{Meaning, PacketTree, PacketFault, Answer, IsPacket, IsAccepted}
 pub use Rattle.dcsctp_wire.specs.Packet.{header_of, checksum_field, packet_view, meaning_view}
 pub use Rattle.dcsctp_wire.specs.Packet.{HasPacketSize, Checksum as ChecksumFault, packet_error_of, packet_reading, packet_checking}
+pub use Rattle.dcsctp_wire.specs.PacketText.{packet_text}
 -- what the clauses of readers and checks are made of
 pub use Rattle.dcsctp_tlv.specs.Reading.{Answers, Exactly, Counted}
 -- chunks as plain data, a constructor a kind: `SackTree ..` is a SACK
