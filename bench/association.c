@@ -1,10 +1,9 @@
 /* An association between two sockets of usrsctp, in one process: each packet is printed as it is sent.
  *
- *     cc association.c -lusrsctp -lpthread && ./a.out
+ *     cc bench/association.c -o association -lusrsctp -lpthread && ./association
  *
  * A line a packet: who sends it (client or server), and its bytes in hexadecimal. */
 #include <pthread.h>
-#include <stdarg.h>
 #include <stdint.h>
 #include <stdio.h>
 #include <stdlib.h>
@@ -15,7 +14,6 @@
 #include <usrsctp.h>
 
 static char client_end, server_end;
-static volatile int closed;
 
 /* Packets wait here, so that none is delivered by the call that sends it. */
 struct packet { void *to; size_t size; struct packet *next; uint8_t bytes[2048]; };
