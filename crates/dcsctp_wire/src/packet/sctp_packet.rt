@@ -14,11 +14,12 @@
 //! +-+-+-+-+-+-+-+-+-+-+-+-+-+-+-+-+-+-+-+-+-+-+-+-+-+-+-+-+-+-+-+-+
 //! ```
 
-ghost use Rattle.std.specs.Prelude.{◌≡◌, ◌↔◌, ◌≤◌, ◌+◌, ◌-◌, ◌/◌, ℕ, [], false, true, Some, length, replicate, vec_len, vec_capacity, IsTrue, IfOk, IfErr, IsErrOf, All};
+ghost use Rattle.std.specs.Prelude.{◌≡◌, ◌↔◌, ◌≤◌, ◌+◌, ◌-◌, ◌*◌, ◌/◌, ℕ, [], false, true, Some, length, replicate, vec_len, vec_capacity, IsTrue, IfOk, IfErr, IsErrOf, All};
 ghost use Rattle.dcsctp_wire.specs.Chunk.{views, IsTight};
 ghost use Rattle.dcsctp_tlv.specs.Reading.{Answers, Exactly, Counted};
 ghost use Rattle.dcsctp_wire.specs.Packet.{Meaning, Answer, IsPacket, IsAccepted, meaning_view, packet_view, packet_reading, packet_checking};
 ghost use Rattle.dcsctp_wire.specs.Account.{KeepsTexts, KeepsSize, node_count};
+ghost use Rattle.dcsctp_wire.specs.Reserved.{reserved_bytes};
 ghost use Rattle.dcsctp_wire.specs.Place.{PacketCounts, packet_locating};
 ghost use Rattle.dcsctp_wire.specs.Canonical.{canonical, padded_size, Fits};
 ghost use Rattle.dcsctp_wire.specs.PacketText.{packet_text, next_lines};
@@ -178,6 +179,12 @@ impl SctpPacket {
     /// Padding isn't looked at, unless the policy is strict. Then `InvalidPadding` is the fault of
     /// a chunk, a parameter or an error cause that has a meaning, and padding that isn't accepted;
     /// what a strict policy accepts, the lenient one accepts with the same packet.
+    ///
+    /// A packet of n bytes makes it reserve room for at most 6 (n - 12) bytes, in all its lists and
+    /// texts together. Each item counts as the bytes that it takes in a packet, and a chunk, a
+    /// parameter or an error cause as the four bytes of its header, however large they are in
+    /// memory. (The factor is 6, and not 1, since a text that isn't UTF-8 is replaced by a fixed
+    /// one of up to 38 bytes; only ABORT and ERROR have texts.)
     pub fn from_bytes(
         alloc: Global,
         bytes: &[u8],
@@ -203,6 +210,9 @@ impl SctpPacket {
         // The memory for each list is taken at once, and none of it is to spare.
         ensures reserved { IfOk result (λ p. vec_capacity p.chunks ≡ vec_len p.chunks) }
         ensures tight { IfOk result (λ p. All IsTight p.chunks.items) }
+
+        // All of it together, whatever the bytes are.
+        ensures room { IfOk result (λ p. reserved_bytes p ≤ 6 * (length bytes.now - 12)) }
     {
         read_packet(alloc, bytes, checksum, policy)
     }

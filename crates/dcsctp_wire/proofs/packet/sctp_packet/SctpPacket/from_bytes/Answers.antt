@@ -3,6 +3,7 @@ use Rattle.dcsctp_wire.specs.WellFormed.{IsWellFormed}
 use Rattle.dcsctp_wire.specs.Account.{KeepsSize, node_count}
 use Rattle.dcsctp_wire.proofs.PacketLaws.{packet_formed, packet_size, packet_parts, reads_only}
 use Rattle.dcsctp_wire.specs.Packet.{packet_view}
+use Rattle.dcsctp_wire.proofs.ReservedLaws.{read_bound}
 use Rattle.dcsctp_wire.proofs.PacketChecks.{read_exactly}
 use Rattle.dcsctp_wire.proofs.packet.sctp_packet.SctpPacket.from_bytes.Goals as goal
 
@@ -20,6 +21,10 @@ pub returns-clause-nodes : goal.returns-clause-nodes
 returns-clause-nodes c =
     let bytes = c.args.bytes.now in
     reads_only (λ p. node_count p.meaning ≤ (length bytes - 12) / 4) bytes c.args.checksum c.args.policy.now c.read_packet.result (λ p size m. packet_parts bytes p m) c.read_packet.ensures.answer
+
+pub returns-clause-room : goal.returns-clause-room
+returns-clause-room c =
+    read_bound c.args.bytes.now c.args.checksum c.args.policy.now c.read_packet.result c.read_packet.ensures.answer c.read_packet.ensures.reserved c.read_packet.ensures.tight
 
 pub returns-clause-answer : goal.returns-clause-answer
 returns-clause-answer c = read_exactly c.args.bytes.now c.args.checksum c.args.policy.now (λ i. (c.type_inv.bytes i).fits) packet_view c.read_packet.result c.read_packet.ensures.answer c.read_packet.ensures.memory

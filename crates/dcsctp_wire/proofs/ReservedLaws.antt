@@ -1,0 +1,387 @@
+-- What a packet that was read is reserved is bounded by the length of its bytes.
+use Rattle.std.proofs.Common.{◌≡◌, ℕ, ◌+◌, ◌-◌, ◌*◌, ◌≤◌, Bool, true, false, List, [], ◌∷◌, ◌++◌, length, drop, map, refl, sym, ap, subst, ◌∙◌, arith, ◌⊎◌, inl, inr, Result, Ok, Err}
+use Rattle.std.specs.Prelude.{◌==◌, IfOk, All, codes, vec_len, vec_capacity}
+use Rattle.std.specs.List.{flat_map}
+use Rattle.std.specs.Int.{w16, from_be_bytes}
+use Rattle.std.specs.Str.{is_utf8, IsUtf8}
+use Rattle.std.proofs.lemmas.Bool.{eqb-true}
+use Rattle.std.proofs.lemmas.List.{append-nil, length-append, length-drop, length-map}
+use Rattle.std.proofs.lemmas.List.Elements.{All-head, All-tail}
+use Rattle.std.proofs.lemmas.Str.{IsUtf8-from_is_utf8, is_utf8-from_IsUtf8, IsUtf8-nil}
+use Rattle.std.specs.declared.vec.Vec.{Vec}
+use Rattle.dcsctp_tlv.specs.Count.{total}
+use Rattle.dcsctp_tlv.specs.Fault.{Fault}
+use Rattle.dcsctp_tlv.specs.Frame.{Item, item_bytes, AreFormed, lenient, padding_size, round_up_to_4}
+use Rattle.dcsctp_tlv.specs.Image.{Tlv, size_of, list_size}
+use Rattle.dcsctp_tlv.specs.Level.{Level, ItemsMean, MeansTrees, map_ok}
+use Rattle.dcsctp_tlv.specs.Parameter as parameter
+use Rattle.dcsctp_tlv.specs.Parameter.{ParameterTree, parameters}
+use Rattle.dcsctp_tlv.specs.declared.parameter.Parameter.{Parameter}
+use Rattle.dcsctp_tlv.specs.declared.parameter.Parameter.TheVariants as parameter_kind
+use Rattle.dcsctp_tlv.proofs.Accounts.{SameSpace, length-item}
+use Rattle.dcsctp_tlv.proofs.KindLaws.{of_map_ok, of_ok}
+use Rattle.dcsctp_tlv.proofs.ParameterLaws.{parameters_account}
+use Rattle.dcsctp_cause.specs.Cause as cause
+use Rattle.dcsctp_cause.specs.Cause.{CauseTree, causes}
+use Rattle.dcsctp_cause.specs.Text.{text_or, item_code}
+use Rattle.dcsctp_cause.specs.UserInitiatedAbort as user_abort
+use Rattle.dcsctp_cause.specs.ProtocolViolation as violation
+use Rattle.dcsctp_cause.specs.declared.error_causes.ErrorCause.{ErrorCause}
+use Rattle.dcsctp_cause.specs.declared.error_causes.ErrorCause.TheVariants as cause_kind
+use Rattle.dcsctp_cause.proofs.CauseLaws.{causes_account}
+use Rattle.dcsctp_wire.specs.Abort.{Tree as AbortTree}
+use Rattle.dcsctp_wire.specs.Chunk.{ChunkTree, Data, Init, InitAck, Sack, HeartbeatRequest, HeartbeatAck, Abort, Error, CookieEcho, IData, ReConfig, ForwardTsn, IForwardTsn, Unknown, chunks, chunk_row, tlv as chunk_tlv, IsTight, view, views}
+use Rattle.dcsctp_wire.specs.declared.packet.chunk.Chunk.{Chunk}
+use Rattle.dcsctp_wire.specs.declared.packet.chunk.Chunk.TheVariants as variant
+use Rattle.dcsctp_wire.specs.declared.packet.sctp_packet.SctpPacket.{SctpPacket}
+use Rattle.dcsctp_wire.specs.declared.packet.sctp_packet.ChecksumPolicy.{ChecksumPolicy}
+use Rattle.dcsctp_wire.specs.declared.packet.sctp_packet.PacketParseError.{PacketParseError}
+use Rattle.dcsctp_tlv.specs.Reading.{Answers}
+use Rattle.dcsctp_wire.specs.Packet.{PacketTree, MeansPacket, body, Answer, packet_view, packet_reading}
+use Rattle.dcsctp_wire.specs.Reserved.{parameter_reserved, cause_reserved, chunk_reserved, reserved_bytes}
+use Rattle.dcsctp_wire.proofs.ChunkRows.{chunks_account}
+use Rattle.dcsctp_wire.proofs.PacketLaws.{reads_only}
+
+-- ---- what trees hold, counted as what is reserved is
+
+abbrev parameter_held : ParameterTree → ℕ
+parameter_held (parameter.HeartbeatInfo info) = length info
+parameter_held (parameter.StateCookie cookie) = length cookie
+parameter_held (parameter.OutgoingSsnResetRequest r) = 2 * length r.streams
+parameter_held (parameter.IncomingSsnResetRequest r) = 2 * length r.streams
+parameter_held (parameter.SupportedExtensions types) = length types
+parameter_held (parameter.Unknown u) = length u.value
+parameter_held t = 0
+
+abbrev cause_held : CauseTree → ℕ
+cause_held (cause.MissingMandatoryParameter types) = 2 * length types
+cause_held (cause.UnrecognizedChunk chunk) = length chunk
+cause_held (cause.UserInitiatedAbort reason) = length reason
+cause_held (cause.ProtocolViolation information) = length information
+cause_held (cause.Unknown u) = length u.value
+cause_held t = 0
+
+-- a list, with the headers of its items
+abbrev list_held : {T : Type 0} → (T → ℕ) → List T → ℕ
+list_held held ts = 4 * length ts + total held ts
+
+abbrev chunk_held : ChunkTree → ℕ
+chunk_held (Data c) = length c.user_data.payload
+chunk_held (Init i) = list_held parameter_held i.parameters
+chunk_held (InitAck i) = list_held parameter_held i.parameters
+chunk_held (Sack s) = 4 * length s.blocks + 4 * length s.duplicates
+chunk_held (HeartbeatRequest ps) = list_held parameter_held ps
+chunk_held (HeartbeatAck ps) = list_held parameter_held ps
+chunk_held (Abort a) = list_held cause_held a.causes
+chunk_held (Error cs) = list_held cause_held cs
+chunk_held (CookieEcho cookie) = length cookie
+chunk_held (IData c) = length c.user_data.payload
+chunk_held (ReConfig ps) = list_held parameter_held ps
+chunk_held (ForwardTsn f) = 4 * length f.streams
+chunk_held (IForwardTsn f) = 8 * length f.streams
+chunk_held (Unknown u) = length u.value
+chunk_held t = 0
+
+-- ---- a tree holds no more than it is written in
+
+parameter_fits : (t : ParameterTree) → 4 + parameter_held t ≤ size_of (parameter.tlv t)
+parameter_fits (parameter.HeartbeatInfo info) = omega arith
+parameter_fits (parameter.StateCookie cookie) = omega arith
+parameter_fits (parameter.OutgoingSsnResetRequest r) = omega arith
+parameter_fits (parameter.IncomingSsnResetRequest r) = omega arith
+parameter_fits (parameter.SsnTsnResetRequest n) = omega arith
+parameter_fits (parameter.ReconfigurationResponse r) = omega arith
+parameter_fits (parameter.AddOutgoingStreamsRequest r) = omega arith
+parameter_fits (parameter.AddIncomingStreamsRequest r) = omega arith
+parameter_fits (parameter.ZeroChecksumAcceptable n) = omega arith
+parameter_fits (parameter.SupportedExtensions types) = omega arith
+parameter_fits parameter.ForwardTsnSupported = omega arith
+parameter_fits (parameter.Unknown u) = omega arith
+
+cause_fits : (t : CauseTree) → 4 + cause_held t ≤ size_of (cause.tlv t)
+cause_fits (cause.MissingMandatoryParameter types) = omega arith
+cause_fits (cause.UnrecognizedChunk chunk) = omega arith
+cause_fits (cause.NoUserData tsn) = omega arith
+cause_fits cause.CookieReceivedWhileShuttingDown = omega arith
+cause_fits (cause.UserInitiatedAbort reason) = omega arith
+cause_fits (cause.ProtocolViolation information) = omega arith
+cause_fits (cause.Unknown u) = omega arith
+
+list_fits : {T : Type 0} (held : T → ℕ) (tlv : T → Tlv) → ((t : T) → 4 + held t ≤ size_of (tlv t))
+    → (ts : List T) → list_held held ts ≤ list_size tlv ts
+list_fits held tlv law [] = omega arith
+list_fits held tlv law (t ∷ []) = let h = law t in omega (arith, h)
+list_fits held tlv law (t ∷ u ∷ ts) =
+    let h = law t in let rest = list_fits held tlv law (u ∷ ts) in
+    two (held t) (total held (u ∷ ts)) (length (u ∷ ts)) (length (t ∷ u ∷ ts)) (size_of (tlv t)) (list_size tlv (u ∷ ts)) (omega arith) h rest where
+      two : (h r n k s l : ℕ) → k ≡ 1 + n → 4 + h ≤ s → 4 * n + r ≤ l → 4 * k + (h + r) ≤ round_up_to_4 s + l
+      two h r n k s l e p q = omega (arith, e, p, q)
+
+chunk_fits : (t : ChunkTree) → 4 + chunk_held t ≤ size_of (chunk_tlv t)
+chunk_fits (Data c) = omega arith
+chunk_fits (Init i) = let h = list_fits parameter_held parameter.tlv parameter_fits i.parameters in omega (arith, h)
+chunk_fits (InitAck i) = let h = list_fits parameter_held parameter.tlv parameter_fits i.parameters in omega (arith, h)
+chunk_fits (Sack s) = omega arith
+chunk_fits (HeartbeatRequest ps) = let h = list_fits parameter_held parameter.tlv parameter_fits ps in omega (arith, h)
+chunk_fits (HeartbeatAck ps) = let h = list_fits parameter_held parameter.tlv parameter_fits ps in omega (arith, h)
+chunk_fits (Abort a) = let h = list_fits cause_held cause.tlv cause_fits a.causes in omega (arith, h)
+chunk_fits (Error cs) = let h = list_fits cause_held cause.tlv cause_fits cs in omega (arith, h)
+chunk_fits (CookieEcho cookie) = omega arith
+chunk_fits (IData c) = omega arith
+chunk_fits (ReConfig ps) = let h = list_fits parameter_held parameter.tlv parameter_fits ps in omega (arith, h)
+chunk_fits (ForwardTsn f) = omega arith
+chunk_fits (IForwardTsn f) = omega arith
+chunk_fits (Unknown u) = omega arith
+chunk_fits t = omega arith
+
+-- ---- lists: what is held is at most six times the bytes, and some more where the last item lacks
+-- its padding
+
+record Bounds {T : Type 0} (level : Level T) (held : T → ℕ) (more : ℕ) : Type 0 where
+  pub padded : (i : Item) (t : T) → (level.row i.first i.second).means i.value t
+      → 4 + held t ≤ 6 * round_up_to_4 (4 + length i.value)
+  pub alone : (i : Item) (t : T) → (level.row i.first i.second).means i.value t
+      → 4 + held t ≤ 6 * (4 + length i.value) + more
+
+items_bound : {T : Type 0} (level : Level T) (held : T → ℕ) (more : ℕ) → Bounds level held more
+    → (is : List Item) (ts : List T) → AreFormed level.padding is → ItemsMean level is ts
+    → list_held held ts ≤ 6 * length (flat_map item_bytes is) + more
+items_bound level held more law [] [] p m = omega arith
+items_bound level held more law [] (t ∷ ts) p m = absurd m
+items_bound level held more law (i ∷ is) [] p m = absurd m
+items_bound level held more law (i ∷ []) (t ∷ []) p m =
+    let e : length (item_bytes i ++ []) ≡ 4 + (length i.value + length i.padding) =
+    ap length (append-nil (item_bytes i)) ∙ length-item i in
+    last (held t) (length i.value) (length i.padding) more (length (item_bytes i ++ []))
+    (law.alone i t m.0) e where
+      last : (h n p more all : ℕ) → 4 + h ≤ 6 * (4 + n) + more → all ≡ 4 + (n + p)
+          → 4 * 1 + (h + 0) ≤ 6 * all + more
+      last h n p more all a e = omega (arith, a, e)
+items_bound level held more law (i ∷ []) (t ∷ u ∷ ts) p m = absurd m.1
+items_bound level held more law (i ∷ j ∷ is) (t ∷ []) p m = absurd m.1
+items_bound level held more law (i ∷ j ∷ is) (t ∷ u ∷ ts) p m =
+    let rest = flat_map item_bytes (j ∷ is) in
+    let e = length-append (item_bytes i) rest ∙ ap (λ (n : ℕ). n + length rest) (length-item i) in
+    front (held t) (total held (u ∷ ts)) (length (u ∷ ts)) (length (t ∷ u ∷ ts)) (omega arith) (length i.value) (length i.padding) more
+    (length rest) (length (item_bytes i ++ rest)) (law.padded i t m.0) p.0.padded
+    (items_bound level held more law (j ∷ is) (u ∷ ts) p.1 m.1) e where
+      front : (h d k j : ℕ) → j ≡ 1 + k → (n p more r all : ℕ) → 4 + h ≤ 6 * round_up_to_4 (4 + n) → p ≡ padding_size n
+          → 4 * k + d ≤ 6 * r + more → all ≡ 4 + (n + p) + r
+          → 4 * j + (h + d) ≤ 6 * all + more
+      front h d k j one n p more r all a b c e = omega (arith, one, a, b, c, e)
+
+list_bound : {T : Type 0} (level : Level T) (held : T → ℕ) (more : ℕ) → Bounds level held more
+    → (bytes : List ℕ) (ts : List T) → MeansTrees level bytes ts
+    → list_held held ts ≤ 6 * length bytes + more
+list_bound level held more law bytes ts m =
+    subst (λ (n : ℕ). list_held held ts ≤ 6 * n + more) (ap length (sym m.are.split))
+    (items_bound level held more law m.items ts m.are.formed m.mean)
+
+-- ---- causes: a text that isn't UTF-8 has at least one byte, and is replaced by at most 38
+
+-- what is held for a value of n bytes
+abbrev IsBounded : ℕ → ℕ → Type 0
+IsBounded held n = (4 + held ≤ 4 + n) ⊎ ((1 ≤ n) × (held ≤ 38))
+
+abbrev CauseBounded : ℕ → List ℕ → CauseTree → Type 0
+CauseBounded code value t = (cause.row code).means value t → IsBounded (cause_held t) (length value)
+
+broken_abort : (value : List ℕ) (t : CauseTree) → is_utf8 value ≡ false → (cause.row 12).means value t → cause_held t ≤ 38
+unfolding user_abort.read
+broken_abort value t broken m =
+    let x = of_map_ok cause.UserInitiatedAbort (user_abort.read value) t m in
+    let is = of_ok (text_or (codes "Failed to parse abort reason") value) x.0 x.1.0 in
+    let e : cause_held t ≡ length (text_or (codes "Failed to parse abort reason") value) =
+    ap cause_held x.1.1 ∙ ap length (sym is) in
+    subst (λ (n : ℕ). n ≤ 38) (sym e) (rw broken (omega arith))
+
+broken_violation : (value : List ℕ) (t : CauseTree) → is_utf8 value ≡ false → (cause.row 13).means value t → cause_held t ≤ 38
+unfolding violation.read
+broken_violation value t broken m =
+    let x = of_map_ok cause.ProtocolViolation (violation.read value) t m in
+    let is = of_ok (text_or (codes "Failed to parse additional information") value) x.0 x.1.0 in
+    let e : cause_held t ≡ length (text_or (codes "Failed to parse additional information") value) =
+    ap cause_held x.1.1 ∙ ap length (sym is) in
+    subst (λ (n : ℕ). n ≤ 38) (sym e) (rw broken (omega arith))
+
+some_byte : (value : List ℕ) → is_utf8 value ≡ false → 1 ≤ length value
+some_byte [] e = absurd (let p : true ≡ false = sym (is_utf8-from_IsUtf8 [] IsUtf8-nil) ∙ e in cc)
+some_byte (x ∷ xs) e = omega arith
+
+cause_bounded : (i : Item) (t : CauseTree) → (cause.row (item_code i)).means i.value t
+    → IsBounded (cause_held t) (length i.value)
+cause_bounded i t m = by_text (is_utf8 i.value) refl where
+  kept : ((item_code i ≡ 12) ⊎ (item_code i ≡ 13) → IsUtf8 i.value)
+      → IsBounded (cause_held t) (length i.value)
+  kept k =
+      let a = (causes_account.sized i t k m).at_most in let b = cause_fits t in
+      inl (omega (arith, a, b))
+  by_code : (a b : Bool) → is_utf8 i.value ≡ false → (item_code i == 12) ≡ a → (item_code i == 13) ≡ b
+      → IsBounded (cause_held t) (length i.value)
+  by_code true b broken p q =
+      inr (some_byte i.value broken, broken_abort i.value t broken
+      (subst (λ (c : ℕ). (cause.row c).means i.value t) (eqb-true (item_code i) 12 p) m))
+  by_code false true broken p q =
+      inr (some_byte i.value broken, broken_violation i.value t broken
+      (subst (λ (c : ℕ). (cause.row c).means i.value t) (eqb-true (item_code i) 13 q) m))
+  by_code false false broken p q = kept (λ is. elim is [
+    | inl e ↦ absurd (let h : false ≡ true = sym p ∙ ap (λ (n : ℕ). n == 12) e in cc)
+    | inr e ↦ absurd (let h : false ≡ true = sym q ∙ ap (λ (n : ℕ). n == 13) e in cc)
+  ])
+  by_text : (b : Bool) → is_utf8 i.value ≡ b → IsBounded (cause_held t) (length i.value)
+  by_text true e = kept (λ _. IsUtf8-from_is_utf8 i.value e)
+  by_text false e = by_code (item_code i == 12) (item_code i == 13) e refl refl
+
+-- 42 bytes for the 8 that an item with a broken byte takes, or the 5 where it lacks its padding
+causes_bound : Bounds (causes lenient) cause_held 12
+causes_bound = record {
+  padded = λ i t m. in_words (cause_held t) (length i.value) (cause_bounded i t m);
+  alone = λ i t m. in_bytes (cause_held t) (length i.value) (cause_bounded i t m);
+} where
+  in_words : (h n : ℕ) → IsBounded h n → 4 + h ≤ 6 * round_up_to_4 (4 + n)
+  in_words h n (inl le) = omega (arith, le)
+  in_words h n (inr p) = let a = p.0 in let b = p.1 in omega (arith, a, b)
+  in_bytes : (h n : ℕ) → IsBounded h n → 4 + h ≤ 6 * (4 + n) + 12
+  in_bytes h n (inl le) = omega (arith, le)
+  in_bytes h n (inr p) = let a = p.0 in let b = p.1 in omega (arith, a, b)
+
+-- ---- chunks: the chunk's own header makes up for the padding that its last cause lacks
+
+listed : (held value : ℕ) → held ≤ 6 * value + 12 → 4 + held ≤ 6 * (4 + value)
+listed held value h = omega (arith, h)
+
+abort_bound : (flags : ℕ) (value : List ℕ) (t : ChunkTree) → (chunk_row lenient 6 flags).means value t
+    → 4 + chunk_held t ≤ 6 * (4 + length value)
+abort_bound flags value t m =
+    let e : chunk_held t ≡ list_held cause_held m.1.1.0 = ap chunk_held m.2
+    ∙ ap (λ (a : AbortTree). list_held cause_held a.causes) m.1.1.2 in
+    subst (λ (n : ℕ). 4 + n ≤ 6 * (4 + length value)) (sym e)
+    (listed (list_held cause_held m.1.1.0) (length value)
+    (list_bound (causes lenient) cause_held 12 causes_bound value m.1.1.0 m.1.1.1))
+
+error_bound : (flags : ℕ) (value : List ℕ) (t : ChunkTree) → (chunk_row lenient 9 flags).means value t
+    → 4 + chunk_held t ≤ 6 * (4 + length value)
+error_bound flags value t m =
+    let e : chunk_held t ≡ list_held cause_held m.1.1.0 = ap chunk_held m.2
+    ∙ ap (list_held cause_held) m.1.1.2 in
+    subst (λ (n : ℕ). 4 + n ≤ 6 * (4 + length value)) (sym e)
+    (listed (list_held cause_held m.1.1.0) (length value)
+    (list_bound (causes lenient) cause_held 12 causes_bound value m.1.1.0 m.1.1.1))
+
+chunk_bound : (i : Item) (t : ChunkTree) → (chunk_row lenient i.first i.second).means i.value t
+    → 4 + chunk_held t ≤ 6 * (4 + length i.value)
+chunk_bound i t m = by_type (i.first == 6) (i.first == 9) refl refl where
+  by_type : (a b : Bool) → (i.first == 6) ≡ a → (i.first == 9) ≡ b
+      → 4 + chunk_held t ≤ 6 * (4 + length i.value)
+  by_type true b p q =
+      abort_bound i.second i.value t
+      (subst (λ (c : ℕ). (chunk_row lenient c i.second).means i.value t) (eqb-true i.first 6 p) m)
+  by_type false true p q =
+      error_bound i.second i.value t
+      (subst (λ (c : ℕ). (chunk_row lenient c i.second).means i.value t) (eqb-true i.first 9 q) m)
+  by_type false false p q =
+      let a = (chunks_account.sized i t (λ is. elim is [
+        | inl e ↦ absurd (let h : false ≡ true = sym p ∙ ap (λ (n : ℕ). n == 6) e in cc)
+        | inr e ↦ absurd (let h : false ≡ true = sym q ∙ ap (λ (n : ℕ). n == 9) e in cc)
+      ]) m).at_most in let b = chunk_fits t in
+      omega (arith, a, b)
+
+chunks_bound : Bounds (chunks lenient) chunk_held 0
+chunks_bound = record {
+  padded = λ i t m. (let h = chunk_bound i t m in omega (arith, h));
+  alone = λ i t m. (let h = chunk_bound i t m in omega (arith, h));
+}
+
+packet_bound : (bytes : List ℕ) (p : PacketTree) → MeansPacket lenient bytes p
+    → list_held chunk_held p.meaning.chunks ≤ 6 * (length bytes - 12)
+packet_bound bytes p m =
+    let h = list_bound (chunks lenient) chunk_held 0 chunks_bound (body bytes) p.meaning.chunks m.chunks in
+    let len = length-drop 12 bytes in
+    omega (arith, h, len)
+
+-- ---- where nothing is to spare, what is reserved is what is held
+
+vec_tight : {X Z : Type 0} (v : Vec X Z) → vec_capacity v ≡ vec_len v → vec_capacity v ≡ length v.items
+vec_tight v e = e ∙ v.ok.0
+
+mapped_tight : {X Y Z : Type 0} (f : X → Y) (v : Vec X Z) → vec_capacity v ≡ vec_len v
+    → vec_capacity v ≡ length (map f v.items)
+mapped_tight f v e = vec_tight v e ∙ sym (length-map v.items f)
+
+total_is : {X T : Type 0} (IsSo : X → Type 0) (view : X → T) (reserved : X → ℕ) (held : T → ℕ)
+    → ((x : X) → IsSo x → reserved x ≡ held (view x)) → (xs : List X) → All IsSo xs
+    → total reserved xs ≡ total held (map view xs)
+total_is IsSo view reserved held law [] all = refl
+total_is IsSo view reserved held law (x ∷ xs) all =
+    let here = law x (All-head IsSo x xs all) in
+    let rest = total_is IsSo view reserved held law xs (All-tail IsSo x xs all) in
+    omega (arith, here, rest)
+
+list_is : {X T Z : Type 0} (IsSo : X → Type 0) (view : X → T) (reserved : X → ℕ) (held : T → ℕ)
+    → ((x : X) → IsSo x → reserved x ≡ held (view x)) → (v : Vec X Z)
+    → (vec_capacity v ≡ vec_len v) × All IsSo v.items
+    → 4 * vec_capacity v + total reserved v.items ≡ list_held held (map view v.items)
+list_is IsSo view reserved held law v tight =
+    let a = mapped_tight view v tight.0 in
+    let b = total_is IsSo view reserved held law v.items tight.1 in
+    omega (arith, a, b)
+
+parameter_is : (p : Parameter) → parameter.IsTight p → parameter_reserved p ≡ parameter_held (parameter.view p)
+parameter_is (parameter_kind.HeartbeatInfo p) h = vec_tight p.info h
+parameter_is (parameter_kind.StateCookie p) h = vec_tight p.cookie h
+parameter_is (parameter_kind.OutgoingSsnResetRequest p) h = ap (λ (n : ℕ). 2 * n) (mapped_tight (λ id. id.0) p.streams h)
+parameter_is (parameter_kind.IncomingSsnResetRequest p) h = ap (λ (n : ℕ). 2 * n) (mapped_tight (λ id. id.0) p.streams h)
+parameter_is (parameter_kind.SsnTsnResetRequest p) h = refl
+parameter_is (parameter_kind.ReconfigurationResponse p) h = refl
+parameter_is (parameter_kind.AddOutgoingStreamsRequest p) h = refl
+parameter_is (parameter_kind.AddIncomingStreamsRequest p) h = refl
+parameter_is (parameter_kind.ZeroChecksumAcceptable p) h = refl
+parameter_is (parameter_kind.SupportedExtensions p) h = vec_tight p.chunk_types h
+parameter_is (parameter_kind.ForwardTsnSupported p) h = refl
+parameter_is (parameter_kind.Unknown p) h = vec_tight p.value h
+
+cause_is : (c : ErrorCause) → cause.IsTight c → cause_reserved c ≡ cause_held (cause.view c)
+cause_is (cause_kind.MissingMandatoryParameter c) h = ap (λ (n : ℕ). 2 * n) (vec_tight c.missing_parameters h)
+cause_is (cause_kind.UnrecognizedChunk c) h = vec_tight c.chunk h
+cause_is (cause_kind.NoUserData c) h = refl
+cause_is (cause_kind.CookieReceivedWhileShuttingDown c) h = refl
+cause_is (cause_kind.UserInitiatedAbort c) h = vec_tight c.reason.bytes h
+cause_is (cause_kind.ProtocolViolation c) h = vec_tight c.information.bytes h
+cause_is (cause_kind.Unknown c) h = vec_tight c.value h
+
+chunk_is : (c : Chunk) → IsTight c → chunk_reserved c ≡ chunk_held (view c)
+chunk_is (variant.Data c) h = vec_tight c.user_data.payload h
+chunk_is (variant.Init c) h = list_is parameter.IsTight parameter.view parameter_reserved parameter_held parameter_is c.parameters h
+chunk_is (variant.InitAck c) h = list_is parameter.IsTight parameter.view parameter_reserved parameter_held parameter_is c.parameters h
+chunk_is (variant.Sack c) h =
+    let a = vec_tight c.gap_ack_blocks h.0 in
+    let b = mapped_tight (λ tsn. tsn.0) c.duplicate_tsns h.1 in
+    omega (arith, a, b)
+chunk_is (variant.HeartbeatRequest c) h = list_is parameter.IsTight parameter.view parameter_reserved parameter_held parameter_is c.parameters h
+chunk_is (variant.HeartbeatAck c) h = list_is parameter.IsTight parameter.view parameter_reserved parameter_held parameter_is c.parameters h
+chunk_is (variant.Abort c) h = list_is cause.IsTight cause.view cause_reserved cause_held cause_is c.error_causes h
+chunk_is (variant.Shutdown c) h = refl
+chunk_is (variant.ShutdownAck c) h = refl
+chunk_is (variant.Error c) h = list_is cause.IsTight cause.view cause_reserved cause_held cause_is c.error_causes h
+chunk_is (variant.CookieEcho c) h = vec_tight c.cookie h
+chunk_is (variant.CookieAck c) h = refl
+chunk_is (variant.ShutdownComplete c) h = refl
+chunk_is (variant.IData c) h = vec_tight c.user_data.payload h
+chunk_is (variant.ReConfig c) h = list_is parameter.IsTight parameter.view parameter_reserved parameter_held parameter_is c.parameters h
+chunk_is (variant.ForwardTsn c) h = ap (λ (n : ℕ). 4 * n) (mapped_tight _ c.skipped_streams h)
+chunk_is (variant.IForwardTsn c) h = ap (λ (n : ℕ). 8 * n) (mapped_tight _ c.skipped_streams h)
+chunk_is (variant.Unknown c) h = vec_tight c.value h
+
+reserved_is : (p : SctpPacket) → vec_capacity p.chunks ≡ vec_len p.chunks → All IsTight p.chunks.items
+    → reserved_bytes p ≡ list_held chunk_held (views p.chunks.items)
+reserved_is p reserved tight = list_is IsTight view chunk_reserved chunk_held chunk_is p.chunks (reserved, tight)
+
+pub read_bound : (bytes : List ℕ) (word : ℕ) (policy : ChecksumPolicy) (result : Result SctpPacket PacketParseError)
+    → Answers packet_reading packet_view (Answer bytes word policy) result
+    → IfOk result (λ p. vec_capacity p.chunks ≡ vec_len p.chunks)
+    → IfOk result (λ p. All IsTight p.chunks.items)
+    → IfOk result (λ p. reserved_bytes p ≤ 6 * (length bytes - 12))
+read_bound bytes word policy (Ok p) reads reserved tight =
+    subst (λ (n : ℕ). n ≤ 6 * (length bytes - 12)) (sym (reserved_is p reserved tight))
+    (reads_only (λ p. list_held chunk_held p.meaning.chunks ≤ 6 * (length bytes - 12)) bytes word policy (Ok p) (λ p size m. packet_bound bytes p m) reads)
+read_bound bytes word policy (Err e) reads reserved tight = tt
