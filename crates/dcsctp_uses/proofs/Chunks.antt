@@ -8,8 +8,8 @@ use Rattle.dcsctp_wire.specs.Chunk.{ChunkTree, view, views}
 use Rattle.dcsctp_wire.specs.Packet.{PacketFault, Size, Checksum, Chunk as ChunkFault, packet_error_of}
 use Rattle.dcsctp_wire.specs.declared.packet.chunk.Chunk.{Chunk}
 use Rattle.dcsctp_wire.specs.declared.packet.sctp_packet.PacketParseError.TheVariants.{FailedParseChunk}
-use Rattle.dcsctp_wire.specs.RawChunks.{RawMeans, MeanChunks, MeansFirst}
-use Rattle.dcsctp_wire.specs.UserData.{data_of}
+use Rattle.dcsctp_borrowed.specs.RawChunks.{RawMeans, MeanChunks, MeansFirst}
+use Rattle.dcsctp_borrowed.specs.UserData.{data_of}
 use Rattle.dcsctp_uses.specs.Payload.{size_of, payload_sizes}
 
 -- ---- sizes

@@ -1,6 +1,7 @@
 -- How much user data (RFC 9260 section 3.3.1, RFC 8260 section 2.1) the chunks of a packet carry.
 use Rattle.std.specs.Prelude.{ℕ, ◌+◌, List, [], ◌∷◌, Option, Some, None, length}
-use Rattle.dcsctp_wire.specs.Caller.{ChunkTree, DataChunkTree, data_of}
+use Rattle.dcsctp_wire.specs.Caller.{ChunkTree, DataChunkTree}
+use Rattle.dcsctp_borrowed.specs.UserData.{data_of}
 
 abbrev pub size_of : Option DataChunkTree → ℕ
 size_of None = 0

@@ -4,10 +4,10 @@ ghost use Rattle.std.specs.Prelude.{◌≡◌, ◌↔◌, Ok, Err, IsErrOf, Matc
 ghost use Rattle.dcsctp_wire.specs.Caller.{PacketTree, PacketFault, Answer, chunk_views, packet_error_of, packet_reading};
 ghost use Rattle.dcsctp_uses.specs.Payload.{payload_sizes};
 
+use dcsctp_borrowed::packet_ref::SctpPacketRef;
+use dcsctp_borrowed::user_data::UserData;
 use dcsctp_wire::packet::chunk::Chunk;
-use dcsctp_wire::packet::packet_ref::SctpPacketRef;
 use dcsctp_wire::packet::sctp_packet::{ChecksumPolicy, PacketParseError};
-use dcsctp_wire::packet::user_data::UserData;
 use std::alloc::Global;
 
 /// How many bytes of user data a packet carries, or why it is none. It takes no memory.

@@ -24,9 +24,6 @@ pub use Rattle.dcsctp_chunk.specs.ForwardTsn.{view as forward_tsn_view}
 pub use Rattle.dcsctp_chunk.specs.IForwardTsn.{view as i_forward_tsn_view}
 pub use Rattle.dcsctp_wire.specs.Init.{view as init_view}
 pub use Rattle.dcsctp_wire.specs.InitAck.{view as init_ack_view}
--- packets that are read in their bytes
-pub use Rattle.dcsctp_wire.specs.PacketRef.{reference, RefersTo}
-pub use Rattle.dcsctp_wire.specs.UserData.{data_of}
 -- packets that are written, and the builder
 pub use Rattle.dcsctp_wire.specs.Canonical.{canonical, padded_size, Fits}
 pub use Rattle.dcsctp_wire.specs.WellFormed.{IsInWidth, IsWellFormed}

@@ -10,17 +10,13 @@ pub mod error_chunk;
 mod first_fault;
 pub mod heartbeat_ack_chunk;
 pub mod heartbeat_request_chunk;
-pub mod in_place;
 mod init;
 pub mod init_ack_chunk;
 pub mod init_chunk;
-pub mod packet_ref;
 mod parameter_list;
 pub mod parameter_types;
-pub mod raw_chunks;
 pub mod re_config_chunk;
 pub mod sctp_packet;
-pub mod user_data;
 
 pub use dcsctp_cause::{
     cookie_received_while_shutting_down, error_causes, missing_mandatory_parameter_error_cause,

@@ -8,14 +8,14 @@ use crate::captures::{
 use crate::chunks::ROWS;
 use crate::help::{STRICT, UNVERIFIED, header_of, packet_of, raw_of};
 use crate::packets::{ACCEPTED, ACCEPTED_WITH_LISTS, REFUSED};
+use dcsctp_borrowed::in_place::{set_checksum_word, set_verification_tag};
+use dcsctp_borrowed::packet_ref::SctpPacketRef;
+use dcsctp_borrowed::raw_chunks::RawChunks;
+use dcsctp_borrowed::user_data::UserData;
 use dcsctp_wire::packet::ChunkParseError;
 use dcsctp_wire::packet::chunk::{Chunk, RawChunk};
 use dcsctp_wire::packet::data::Data;
-use dcsctp_wire::packet::in_place::{set_checksum_word, set_verification_tag};
-use dcsctp_wire::packet::packet_ref::SctpPacketRef;
-use dcsctp_wire::packet::raw_chunks::RawChunks;
 use dcsctp_wire::packet::sctp_packet::{ChecksumPolicy, CommonHeader, SctpPacket};
-use dcsctp_wire::packet::user_data::UserData;
 use dcsctp_wire::types::Tsn;
 use std::alloc::{AllocError, Global};
 use std::test::Fail;

@@ -3,7 +3,7 @@ use Rattle.std.proofs.lemmas.List.{append-nil}
 use Rattle.std.proofs.lemmas.Result.{err_from_is_err_and}
 use Rattle.dcsctp_wire.specs.Chunk.{ChunkTree, views}
 use Rattle.dcsctp_wire.specs.ChunkParseError.TheVariants.{OutOfMemory}
-use Rattle.dcsctp_wire.specs.PacketRef.{reference}
+use Rattle.dcsctp_borrowed.specs.PacketRef.{reference}
 use Rattle.dcsctp_wire.specs.declared.packet.chunk.Chunk.{Chunk}
 use Rattle.dcsctp_wire.specs.declared.packet.sctp_packet.PacketParseError.TheVariants.{FailedParseChunk}
 use Rattle.dcsctp_uses.proofs.Chunks.{next_built, no_memory}

@@ -1,8 +1,8 @@
 use Rattle.std.proofs.Common.{◌≡◌, [], Some, None, length, length-drop, refl, ap, ◌∙◌, arith}
 use Rattle.dcsctp_wire.specs.Packet.{body}
-use Rattle.dcsctp_wire.specs.PacketRef.{reference}
-use Rattle.dcsctp_wire.specs.UserData.{user_data_view}
-use Rattle.dcsctp_wire.specs.declared.packet.packet_ref.SctpPacketRef.{SctpPacketRef}
+use Rattle.dcsctp_borrowed.specs.PacketRef.{reference}
+use Rattle.dcsctp_borrowed.specs.UserData.{user_data_view}
+use Rattle.dcsctp_borrowed.specs.declared.packet_ref.SctpPacketRef.{SctpPacketRef}
 use Rattle.dcsctp_uses.specs.Payload.{payload_sizes}
 use Rattle.dcsctp_uses.proofs.Chunks.{next_sized}
 use Rattle.dcsctp_uses.proofs.in_place.payload_size.Goals as goal

@@ -1,0 +1,4 @@
+pub mod Fronts
+pub mod PacketRefs
+pub mod DataRows
+pub mod Changes

@@ -1,0 +1,56 @@
+-- A packet that is read in its bytes: the chunk at the front of them, and what refers to the packet.
+use Rattle.std.proofs.Common.{◌≡◌, ◌≢◌, ℕ, List, [], ◌∷◌, Result, Ok, Err, get_or, refl, sym, ap, ◌∙◌}
+use Rattle.dcsctp_tlv.specs.Number.{AreBytes}
+use Rattle.dcsctp_tlv.specs.Frame.{lenient, frame_value, frame_rest}
+use Rattle.dcsctp_tlv.specs.Level.{MeansTrees}
+use Rattle.dcsctp_tlv.specs.Reading.{Answers, Exactly}
+use Rattle.dcsctp_tlv.proofs.Exact.{Single, exactly}
+use Rattle.dcsctp_chunk.specs.declared.raw_chunk.RawChunk.{RawChunk}
+use Rattle.dcsctp_wire.specs.Chunk.{ChunkTree, chunks}
+use Rattle.dcsctp_wire.specs.Packet.{PacketTree, Answer, body, packet_checking}
+use Rattle.dcsctp_borrowed.specs.PacketRef.{reference, Referred, RefersTo}
+use Rattle.dcsctp_borrowed.specs.RawChunks.{MeansFirst}
+use Rattle.dcsctp_borrowed.specs.declared.packet_ref.SctpPacketRef.{SctpPacketRef}
+use Rattle.dcsctp_wire.specs.declared.packet.sctp_packet.ChecksumPolicy.{ChecksumPolicy}
+use Rattle.dcsctp_wire.specs.declared.packet.sctp_packet.PacketParseError.{PacketParseError}
+use Rattle.dcsctp_borrowed.proofs.Fronts.{front_means, means_none}
+use Rattle.dcsctp_wire.proofs.Lenient.{lenient_packet}
+use Rattle.dcsctp_wire.proofs.PacketChecks.{packet_checking_distinct, packet_single}
+
+-- ---- the chunk at the front
+
+pub first_means : (bytes : List ℕ) (raw : RawChunk) → raw.typ ≡ get_or bytes 0 0 → raw.flags ≡ get_or bytes 1 0 → raw.value.now ≡ frame_value bytes → AreBytes bytes → bytes ≢ []
+    → (all : List ChunkTree) → MeansTrees (chunks lenient) bytes all → MeansFirst raw (frame_rest bytes) all
+first_means bytes raw typ flags value fits some [] m = absurd (means_none (chunks lenient) bytes fits some m)
+first_means bytes raw typ flags value fits some (t ∷ ts) m =
+    let here = front_means (chunks lenient) bytes t ts fits some m in
+    record { first = t; others = ts; split = refl; means = rw (typ, flags, value) here.0; mean = here.1 }
+
+-- ---- what refers to a packet
+
+-- what a packet means, it means to a lenient reader
+pub chunks_lent : (bytes : List ℕ) (word : ℕ) (policy : ChecksumPolicy) (p : PacketTree) → Answer bytes word policy (Ok p) → MeansTrees (chunks lenient) (body bytes) p.meaning.chunks
+chunks_lent bytes word policy p answer = (lenient_packet policy.strict_padding bytes p answer.1).chunks
+
+pub refers : (bytes : List ℕ) (word : ℕ) (policy : ChecksumPolicy) (p : PacketTree) → Answer bytes word policy (Ok p) → RefersTo (reference bytes) p
+refers bytes word policy p answer = record {
+  source = sym answer.1.source;
+  destination = sym answer.1.destination;
+  tag = sym answer.1.tag;
+  checksum = sym answer.1.checksum;
+  chunks = chunks_lent bytes word policy p answer;
+}
+
+module _ (bytes : List ℕ) (word : ℕ) (policy : ChecksumPolicy) (fits : AreBytes bytes) where
+  single : Single (Answer bytes word policy)
+  single = packet_single bytes word policy fits
+
+  referred_single : Single (Referred bytes word policy)
+  referred_single (Ok r) (Ok s) m n = ap Ok (m.1 ∙ sym n.1)
+  referred_single (Ok r) (Err e) m f = absurd (let h : Ok m.0.0 ≡ Err e = single (Ok m.0.0) (Err e) m.0.1 f in cc)
+  referred_single (Err e) (Ok r) f m = absurd (let h : Ok m.0.0 ≡ Err e = single (Ok m.0.0) (Err e) m.0.1 f in cc)
+  referred_single (Err d) (Err e) f g = (let h : Err d ≡ Err e = single (Err d) (Err e) f g in let same : d ≡ e = cc in ap Err same)
+
+  pub referred_exactly : (r : Result SctpPacketRef PacketParseError) → Answers packet_checking (λ (r : SctpPacketRef). r) (Referred bytes word policy) r
+      → Exactly packet_checking (λ (r : SctpPacketRef). r) (Referred bytes word policy) r
+  referred_exactly r a = exactly packet_checking packet_checking_distinct (λ r. r) (Referred bytes word policy) referred_single r a (λ e is none. absurd none)

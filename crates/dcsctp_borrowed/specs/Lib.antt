@@ -1,0 +1,3 @@
+pub mod RawChunks
+pub mod UserData
+pub mod PacketRef

@@ -1,0 +1,10 @@
+//! SCTP packets in their own bytes: read without memory, and changed in place.
+//!
+//! A packet that was checked is a header and an iterator over its chunks, which can't fail; user data
+//! is read where it lies. What is read here is what `dcsctp_wire` builds, by the same clauses.
+#![tactic(auto)]
+
+pub mod in_place;
+pub mod packet_ref;
+pub mod raw_chunks;
+pub mod user_data;

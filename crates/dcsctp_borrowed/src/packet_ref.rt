@@ -1,0 +1,70 @@
+//! A packet in its bytes: checked, and neither copied nor built.
+
+ghost use Rattle.std.specs.Prelude.{◌≡◌, ◌≤◌, Ok, IfOk, IsErrOf, length};
+ghost use Rattle.dcsctp_tlv.specs.Frame.{lenient};
+ghost use Rattle.dcsctp_tlv.specs.Level.{MeansSome};
+ghost use Rattle.dcsctp_tlv.specs.Reading.{Answers, Exactly};
+ghost use Rattle.dcsctp_tlv.specs.declared.error.ChunkParseError.TheVariants.{OutOfMemory};
+ghost use Rattle.dcsctp_wire.specs.Chunk.{chunks};
+ghost use Rattle.dcsctp_wire.specs.Packet.{PacketTree, Answer, body, packet_checking};
+ghost use Rattle.dcsctp_borrowed.specs.PacketRef.{reference, Referred, RefersTo};
+ghost use Rattle.dcsctp_wire.specs.declared.packet.sctp_packet.PacketParseError.TheVariants.{FailedParseChunk};
+
+use crate::raw_chunks::RawChunks;
+use dcsctp_tlv::number::{read_u16_be, read_u32_be};
+use dcsctp_wire::packet::sctp_packet::{
+    COMMON_HEADER_SIZE, ChecksumPolicy, CommonHeader, PacketParseError, SctpPacket,
+};
+
+/// A packet in its bytes (RFC 9260 section 3): its header, and its chunks where they lie.
+#[derive(Drop)]
+pub struct SctpPacketRef<'a> {
+    /// The ports, the tag and the checksum field.
+    pub common_header: CommonHeader,
+    /// The chunks, in their order.
+    pub chunks: RawChunks<'a>,
+}
+
+impl<'a> SctpPacketRef<'a> {
+    /// Checks a packet as `SctpPacket::check` does, and returns its parts as they lie in `bytes`.
+    /// Does not allocate.
+    ///
+    /// Returns the fault that `SctpPacket::from_bytes` returns: `InvalidPacketSize` unless there are
+    /// 16 to 65,535 bytes; then `InvalidChecksum` unless the policy accepts the field; then
+    /// `FailedParseChunk` with the first fault of the chunks from the left, and never
+    /// `OutOfMemory`. `Chunk::try_from` of each of `chunks` gives the chunks of `from_bytes`.
+    // A part of its callers, so that it costs them the check's call alone.
+    #[inline(always)]
+    pub fn from_bytes(
+        bytes: &'a [u8],
+        checksum: u32,
+        policy: &ChecksumPolicy,
+    ) -> Result<SctpPacketRef<'a>, PacketParseError>
+        ensures answer { Exactly packet_checking (λ r. r)
+            (Referred bytes.now checksum policy.now) result }
+        ensures refers { IfOk result (λ r. (p : PacketTree)
+            → Answer bytes.now checksum policy.now (Ok p) → RefersTo r p) }
+        ensures memory { ¬ IsErrOf result (FailedParseChunk OutOfMemory) }
+    {
+        SctpPacket::check(bytes, checksum, policy)?;
+        Ok(SctpPacketRef::of_packet(bytes))
+    }
+
+    /// The parts of bytes that are known to be a packet.
+    #[inline(always)]
+    fn of_packet(bytes: &'a [u8]) -> SctpPacketRef<'a>
+        requires size { 12 ≤ length bytes.now }
+        requires meant { MeansSome (chunks lenient) (body bytes.now) }
+        ensures { result ≡ reference bytes.now }
+    {
+        SctpPacketRef {
+            common_header: CommonHeader {
+                source_port: read_u16_be(bytes),
+                destination_port: read_u16_be(&bytes[2..]),
+                verification_tag: read_u32_be(&bytes[4..]),
+                checksum: read_u32_be(&bytes[8..]),
+            },
+            chunks: RawChunks::new(&bytes[COMMON_HEADER_SIZE..]),
+        }
+    }
+}

@@ -1,0 +1,145 @@
+//! The user data of DATA and I-DATA, in a packet's bytes.
+
+ghost use Rattle.std.specs.Prelude.{◌≡◌, ◌≤◌, IfSome, option_map, if◌then◌else◌, length};
+ghost use Rattle.std.specs.Result.{result_ok};
+ghost use Rattle.dcsctp_chunk.specs.DataChunk as data_kind;
+ghost use Rattle.dcsctp_chunk.specs.IDataChunk as idata_kind;
+ghost use Rattle.dcsctp_wire.specs.Chunk.{ChunkTree};
+ghost use Rattle.dcsctp_borrowed.specs.RawChunks.{RawMeans};
+ghost use Rattle.dcsctp_borrowed.specs.UserData.{user_data_view, data_of, read_user_data};
+
+use dcsctp_chunk::flags::is_set;
+use dcsctp_tlv::frame::TLV_HEADER_SIZE;
+use dcsctp_tlv::number::{read_u16_be, read_u32_be};
+use dcsctp_types::api::{PpId, StreamId};
+use dcsctp_types::types::{Fsn, Mid, Ssn, StreamKey, Tsn};
+use dcsctp_wire::packet::chunk::RawChunk;
+use dcsctp_wire::packet::{data_chunk, idata_chunk};
+
+/// Bytes of a DATA chunk's value before the payload.
+const DATA_SIZE: usize = data_chunk::HEADER_SIZE - TLV_HEADER_SIZE;
+
+/// Bytes of an I-DATA chunk's value before the payload.
+const IDATA_SIZE: usize = idata_chunk::HEADER_SIZE - TLV_HEADER_SIZE;
+
+/// What a DATA (RFC 9260 section 3.3.1) or an I-DATA chunk (RFC 8260 section 2.1) holds. The payload
+/// stays where it lies in the packet.
+///
+/// What the chunk doesn't carry is 0, as in `DataChunk` and `IDataChunk`.
+#[derive(Clone, Copy, Debug)]
+pub struct UserData<'a> {
+    /// The chunk's place in its association.
+    pub tsn: Tsn,
+    /// The stream, and whether the message is delivered in sequence.
+    pub stream_key: StreamKey,
+    /// The message's place in its stream; 0 in I-DATA.
+    pub ssn: Ssn,
+    /// The message's id in its stream; 0 in DATA.
+    pub mid: Mid,
+    /// The fragment's place in its message; 0 in DATA, and at the beginning of a message.
+    pub fsn: Fsn,
+    /// What the payload is for; 0 in I-DATA, but at the beginning of a message.
+    pub ppid: PpId,
+    /// The fragment's bytes.
+    pub payload: &'a [u8],
+    /// Whether the message begins with it: the B bit.
+    pub is_beginning: bool,
+    /// Whether the message ends with it: the E bit.
+    pub is_end: bool,
+    /// Whether the sender asks for a SACK without delay (RFC 7053): the I bit.
+    pub immediate_ack: bool,
+}
+
+impl<'a> UserData<'a> {
+    /// Reads DATA or I-DATA, without a copy; nothing exactly where the chunk has another type, or a
+    /// value that is too short for its kind.
+    ///
+    /// Of a chunk of a packet this is the user data that `SctpPacket::from_bytes` gives, and nothing
+    /// exactly where the chunk has another type.
+    #[inline(always)]
+    pub fn from_raw(raw: &RawChunk<'a>) -> Option<UserData<'a>>
+        ensures read { option_map user_data_view result
+            ≡ read_user_data raw.now.typ raw.now.flags raw.now.value.now }
+        ensures means { (tree : ChunkTree) → RawMeans raw.now tree
+            → option_map user_data_view result ≡ data_of tree }
+        ensures size { IfSome result (λ d. length d.payload.now ≤ length raw.now.value.now) }
+    {
+        UserData::read(raw.typ, raw.flags, raw.value)
+    }
+
+    /// What a value means, and no law of it.
+    #[inline(always)]
+    fn read(typ: u8, flags: u8, value: &'a [u8]) -> Option<UserData<'a>>
+        ensures read { option_map user_data_view result ≡ read_user_data typ flags value.now }
+        ensures size { IfSome result (λ d. length d.payload.now ≤ length value.now) }
+    {
+        match typ {
+            data_chunk::CHUNK_TYPE => UserData::of_data(flags, value),
+            idata_chunk::CHUNK_TYPE => UserData::of_idata(flags, value),
+            _ => None,
+        }
+    }
+
+    /// What a DATA chunk's value means, under these flags.
+    #[inline(always)]
+    #[tactic(auto, unfolding(dcsctp_chunk::specs::DataChunk::read))]
+    fn of_data(flags: u8, value: &'a [u8]) -> Option<UserData<'a>>
+        ensures read { option_map user_data_view result ≡ result_ok (data_kind.read flags value.now) }
+        ensures size { IfSome result (λ d. length d.payload.now ≤ length value.now) }
+    {
+        if value.len() < DATA_SIZE {
+            return None;
+        }
+        Some(UserData {
+            tsn: Tsn(read_u32_be(value)),
+            stream_key: StreamKey::new(is_set(flags, 2), StreamId(read_u16_be(&value[4..]))),
+            ssn: Ssn(read_u16_be(&value[6..])),
+            mid: Mid(0),
+            fsn: Fsn(0),
+            ppid: PpId(read_u32_be(&value[8..])),
+            payload: &value[DATA_SIZE..],
+            is_beginning: is_set(flags, 1),
+            is_end: is_set(flags, 0),
+            immediate_ack: is_set(flags, 3),
+        })
+    }
+
+    /// What an I-DATA chunk's value means, under these flags.
+    #[inline(always)]
+    #[tactic(auto, unfolding(dcsctp_chunk::specs::IDataChunk::read))]
+    fn of_idata(flags: u8, value: &'a [u8]) -> Option<UserData<'a>>
+        ensures read { option_map user_data_view result ≡ result_ok (idata_kind.read flags value.now) }
+        ensures size { IfSome result (λ d. length d.payload.now ≤ length value.now) }
+    {
+        if value.len() < IDATA_SIZE {
+            return None;
+        }
+        let is_beginning = is_set(flags, 1);
+        let (ppid, fsn) = ppid_and_fsn(is_beginning, read_u32_be(&value[12..]));
+        Some(UserData {
+            tsn: Tsn(read_u32_be(value)),
+            stream_key: StreamKey::new(is_set(flags, 2), StreamId(read_u16_be(&value[4..]))),
+            ssn: Ssn(0),
+            mid: Mid(read_u32_be(&value[8..])),
+            fsn,
+            ppid,
+            payload: &value[IDATA_SIZE..],
+            is_beginning,
+            is_end: is_set(flags, 0),
+            immediate_ack: is_set(flags, 3),
+        })
+    }
+}
+
+/// What the number before an I-DATA chunk's payload says; what it doesn't say is 0.
+#[inline(always)]
+fn ppid_and_fsn(is_beginning: bool, number: u32) -> (PpId, Fsn)
+    ensures ppid { result.0.0 ≡ (if is_beginning then number else 0) }
+    ensures fsn { result.1.0 ≡ (if is_beginning then 0 else number) }
+{
+    if is_beginning {
+        (PpId(number), Fsn(0))
+    } else {
+        (PpId(0), Fsn(number))
+    }
+}
