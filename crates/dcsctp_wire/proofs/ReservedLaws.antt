@@ -1,8 +1,7 @@
 -- What a packet that was read is reserved is bounded by the length of its bytes.
-use Rattle.std.proofs.Common.{◌≡◌, ℕ, ◌+◌, ◌-◌, ◌*◌, ◌≤◌, Bool, true, false, List, [], ◌∷◌, ◌++◌, length, drop, map, refl, sym, ap, subst, ◌∙◌, arith, ◌⊎◌, inl, inr, Result, Ok, Err}
+use Rattle.std.proofs.Common.{◌≡◌, ℕ, ◌+◌, ◌-◌, ◌*◌, ◌≤◌, Bool, true, false, List, [], ◌∷◌, ◌++◌, length, map, refl, sym, ap, subst, ◌∙◌, arith, ◌⊎◌, inl, inr, Result, Ok, Err}
 use Rattle.std.specs.Prelude.{◌==◌, IfOk, All, codes, vec_len, vec_capacity}
 use Rattle.std.specs.List.{flat_map}
-use Rattle.std.specs.Int.{w16, from_be_bytes}
 use Rattle.std.specs.Str.{is_utf8, IsUtf8}
 use Rattle.std.proofs.lemmas.Bool.{eqb-true}
 use Rattle.std.proofs.lemmas.List.{append-nil, length-append, length-drop, length-map}
@@ -10,17 +9,15 @@ use Rattle.std.proofs.lemmas.List.Elements.{All-head, All-tail}
 use Rattle.std.proofs.lemmas.Str.{IsUtf8-from_is_utf8, is_utf8-from_IsUtf8, IsUtf8-nil}
 use Rattle.std.specs.declared.vec.Vec.{Vec}
 use Rattle.dcsctp_tlv.specs.Count.{total}
-use Rattle.dcsctp_tlv.specs.Fault.{Fault}
 use Rattle.dcsctp_tlv.specs.Frame.{Item, item_bytes, AreFormed, lenient, padding_size, round_up_to_4}
 use Rattle.dcsctp_tlv.specs.Image.{Tlv, size_of, list_size}
-use Rattle.dcsctp_tlv.specs.Level.{Level, ItemsMean, MeansTrees, map_ok}
+use Rattle.dcsctp_tlv.specs.Level.{Level, ItemsMean, MeansTrees}
 use Rattle.dcsctp_tlv.specs.Parameter as parameter
 use Rattle.dcsctp_tlv.specs.Parameter.{ParameterTree, parameters}
 use Rattle.dcsctp_tlv.specs.declared.parameter.Parameter.{Parameter}
 use Rattle.dcsctp_tlv.specs.declared.parameter.Parameter.TheVariants as parameter_kind
-use Rattle.dcsctp_tlv.proofs.Accounts.{SameSpace, length-item}
+use Rattle.dcsctp_tlv.proofs.Accounts.{length-item}
 use Rattle.dcsctp_tlv.proofs.KindLaws.{of_map_ok, of_ok}
-use Rattle.dcsctp_tlv.proofs.ParameterLaws.{parameters_account}
 use Rattle.dcsctp_cause.specs.Cause as cause
 use Rattle.dcsctp_cause.specs.Cause.{CauseTree, causes}
 use Rattle.dcsctp_cause.specs.Text.{text_or, item_code}
@@ -216,18 +213,26 @@ cause_bounded i t m = by_text (is_utf8 i.value) refl where
   kept k =
       let a = (causes_account.sized i t k m).at_most in let b = cause_fits t in
       inl (omega (arith, a, b))
+
   by_code : (a b : Bool) → is_utf8 i.value ≡ false → (item_code i == 12) ≡ a → (item_code i == 13) ≡ b
       → IsBounded (cause_held t) (length i.value)
   by_code true b broken p q =
-      inr (some_byte i.value broken, broken_abort i.value t broken
-      (subst (λ (c : ℕ). (cause.row c).means i.value t) (eqb-true (item_code i) 12 p) m))
+      inr (
+        some_byte i.value broken,
+        broken_abort i.value t broken
+            (subst (λ (c : ℕ). (cause.row c).means i.value t) (eqb-true (item_code i) 12 p) m),
+      )
   by_code false true broken p q =
-      inr (some_byte i.value broken, broken_violation i.value t broken
-      (subst (λ (c : ℕ). (cause.row c).means i.value t) (eqb-true (item_code i) 13 q) m))
+      inr (
+        some_byte i.value broken,
+        broken_violation i.value t broken
+            (subst (λ (c : ℕ). (cause.row c).means i.value t) (eqb-true (item_code i) 13 q) m),
+      )
   by_code false false broken p q = kept (λ is. elim is [
     | inl e ↦ absurd (let h : false ≡ true = sym p ∙ ap (λ (n : ℕ). n == 12) e in cc)
     | inr e ↦ absurd (let h : false ≡ true = sym q ∙ ap (λ (n : ℕ). n == 13) e in cc)
   ])
+
   by_text : (b : Bool) → is_utf8 i.value ≡ b → IsBounded (cause_held t) (length i.value)
   by_text true e = kept (λ _. IsUtf8-from_is_utf8 i.value e)
   by_text false e = by_code (item_code i == 12) (item_code i == 13) e refl refl
@@ -241,6 +246,7 @@ causes_bound = record {
   in_words : (h n : ℕ) → IsBounded h n → 4 + h ≤ 6 * round_up_to_4 (4 + n)
   in_words h n (inl le) = omega (arith, le)
   in_words h n (inr p) = let a = p.0 in let b = p.1 in omega (arith, a, b)
+
   in_bytes : (h n : ℕ) → IsBounded h n → 4 + h ≤ 6 * (4 + n) + 12
   in_bytes h n (inl le) = omega (arith, le)
   in_bytes h n (inr p) = let a = p.0 in let b = p.1 in omega (arith, a, b)

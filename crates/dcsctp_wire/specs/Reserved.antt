@@ -2,7 +2,7 @@
 -- room for, counted in the bytes that it takes in a packet. A chunk, a parameter and an error cause
 -- count as the four bytes of their header (sections 3.2, 3.2.1 and 3.3.10); what they hold is
 -- counted beside.
-use Rattle.std.specs.Prelude.{ℕ, ◌+◌, ◌*◌, List, vec_capacity}
+use Rattle.std.specs.Prelude.{ℕ, ◌+◌, ◌*◌, vec_capacity}
 use Rattle.std.specs.String.{string_capacity}
 use Rattle.dcsctp_tlv.specs.Count.{total}
 use Rattle.dcsctp_tlv.specs.declared.parameter.Parameter.{Parameter}
