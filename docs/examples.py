@@ -17,7 +17,7 @@ import sys
 ROOT = os.path.dirname(os.path.dirname(os.path.abspath(__file__)))
 PAGE = os.path.join(ROOT, 'docs', 'CALLING.md')
 USES = os.path.join(ROOT, 'crates', 'dcsctp_uses')
-LIBRARIES = ['dcsctp_types', 'dcsctp_tlv', 'dcsctp_cause', 'dcsctp_chunk', 'dcsctp_wire', 'dcsctp_crc32c']
+LIBRARIES = ['dcsctp_types', 'dcsctp_tlv', 'dcsctp_cause', 'dcsctp_chunk', 'dcsctp_wire', 'dcsctp_borrowed', 'dcsctp_crc32c']
 EXAMPLE = re.compile(r'<!-- (\w+)\.rt -->\n```rust\n(.*?)```\n', re.S)
 
 
@@ -59,7 +59,7 @@ def paste(directory):
     with open(os.path.join(ROOT, 'crates.txt'), encoding='utf-8') as file:
         lines = [line for line in file.read().splitlines() if line.split(':')[0] in LIBRARIES]
     with open(os.path.join(directory, 'crates.txt'), 'w', encoding='utf-8') as file:
-        file.write('\n'.join(lines + ['your_crate: dcsctp_wire dcsctp_crc32c']) + '\n')
+        file.write('\n'.join(lines + ['your_crate: dcsctp_wire dcsctp_borrowed dcsctp_crc32c']) + '\n')
     crate = os.path.join(directory, 'crates', 'your_crate')
     os.makedirs(os.path.join(crate, 'src'))
     names = []
