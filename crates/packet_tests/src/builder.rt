@@ -1,6 +1,5 @@
 //! Packets that are built chunk by chunk.
 
-use crate::help::{chunk_of, has_chunks, header_of, is_answered};
 use dcsctp_wire::api::{PpId, StreamId};
 use dcsctp_wire::packet::add_incoming_streams_request_parameter::AddIncomingStreamsRequestParameter;
 use dcsctp_wire::packet::add_outgoing_streams_request_parameter::AddOutgoingStreamsRequestParameter;
@@ -15,6 +14,7 @@ use dcsctp_wire::packet::sctp_packet::{ChecksumPolicy, SctpPacketBuilder};
 use dcsctp_wire::packet::ssn_tsn_reset_request_parameter::SsnTsnResetRequestParameter;
 use dcsctp_wire::packet::{ChunkParseError, SerializableTlv, round_up_to_4};
 use dcsctp_wire::types::{Fsn, Mid, Ssn, StreamKey, Tsn};
+use samples::help::{chunk_of, has_chunks, header_of, is_answered};
 use std::alloc::{AllocError, Global};
 use std::test::Fail;
 

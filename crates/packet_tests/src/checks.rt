@@ -1,12 +1,12 @@
 //! Packets that are checked and not read: how many parts they have, or their fault.
 
-use crate::captures::INIT;
-use crate::help::{HEADER, UNVERIFIED, packet_of};
-use crate::packets::INIT_WITHOUT_PADDING;
 use dcsctp_wire::api::ZERO_CHECKSUM_ALTERNATE_ERROR_DETECTION_METHOD_LOWER_LAYER_DTLS;
 use dcsctp_wire::packet::ChunkParseError;
 use dcsctp_wire::packet::chunk::Chunk;
 use dcsctp_wire::packet::sctp_packet::{ChecksumPolicy, PacketParseError, SctpPacket};
+use samples::captures::INIT;
+use samples::help::{HEADER, UNVERIFIED, packet_of};
+use samples::packets::INIT_WITHOUT_PADDING;
 use std::alloc::{AllocError, Global};
 use std::test::Fail;
 

@@ -1,8 +1,8 @@
 //! Checksum words: which of them are accepted, with verification on.
 
-use crate::help::{header_of, is_answered, is_canonical};
 use dcsctp_wire::api::ZERO_CHECKSUM_ALTERNATE_ERROR_DETECTION_METHOD_LOWER_LAYER_DTLS;
 use dcsctp_wire::packet::sctp_packet::ChecksumPolicy;
+use samples::help::{header_of, is_answered, is_canonical};
 use std::test::Fail;
 
 /// A packet whose checksum field is zero.

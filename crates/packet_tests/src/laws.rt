@@ -1,11 +1,11 @@
 //! The laws of the definitions, which are proved and do nothing.
 
-use crate::help::{HEADER, UNVERIFIED, packet_of};
 use dcsctp_wire::laws;
 use dcsctp_wire::packet::chunk::Chunk;
 use dcsctp_wire::packet::parameter::Parameter;
 use dcsctp_wire::packet::sctp_packet::{PacketParseError, SctpPacket};
 use dcsctp_wire::types::Tsn;
+use samples::help::{HEADER, UNVERIFIED, packet_of};
 use std::alloc::Global;
 use std::test::Fail;
 

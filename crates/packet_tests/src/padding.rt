@@ -1,10 +1,10 @@
 //! Padding under a policy that looks at it, and under one that doesn't.
 
-use crate::captures::{INIT, RE_CONFIG};
-use crate::help::{STRICT, UNVERIFIED, is_answered, is_canonical, packet_of};
-use crate::packets::{ACCEPTED, ACCEPTED_WITH_LISTS, INIT_WITHOUT_PADDING};
 use dcsctp_wire::packet::ChunkParseError;
 use dcsctp_wire::packet::sctp_packet::{PacketParseError, SctpPacket};
+use samples::captures::{INIT, RE_CONFIG};
+use samples::help::{STRICT, UNVERIFIED, is_answered, is_canonical, packet_of};
+use samples::packets::{ACCEPTED, ACCEPTED_WITH_LISTS, INIT_WITHOUT_PADDING};
 use std::alloc::{AllocError, Global};
 use std::test::Fail;
 

@@ -1,9 +1,9 @@
 //! Where the first fault of a packet lies: bytes ahead of it, counted from the packet's first.
 
-use crate::captures::{INIT, RE_CONFIG};
-use crate::help::{HEADER, STRICT, UNVERIFIED, packet_of};
 use dcsctp_wire::packet::ChunkParseError;
 use dcsctp_wire::packet::sctp_packet::{ChecksumPolicy, FirstFault, PacketParseError, SctpPacket};
+use samples::captures::{INIT, RE_CONFIG};
+use samples::help::{HEADER, STRICT, UNVERIFIED, packet_of};
 use std::alloc::{AllocError, Global};
 use std::test::Fail;
 

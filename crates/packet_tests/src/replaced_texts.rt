@@ -1,7 +1,7 @@
 //! Texts that aren't UTF-8: another text is read in their place, and the chunk as it would be
 //! written is longer or shorter than the one that was read.
 
-use crate::help::{UNVERIFIED, has_fields, is_canonical, packet_of, sizes_of};
+use samples::help::{UNVERIFIED, has_fields, is_canonical, packet_of, sizes_of};
 use std::alloc::{AllocError, Global};
 use std::test::Fail;
 

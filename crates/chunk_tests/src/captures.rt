@@ -1,99 +1,14 @@
 //! Chunks that were captured: read, printed, and written again.
 
-use crate::help::{fields_of, has_text, is_kept, is_rewritten, rest_of};
 use dcsctp_wire::packet::ChunkParseError;
+use samples::captures::{
+    ABORT, COOKIE_ACK, COOKIE_ECHO, DATA, DATA_OF_TWO, ERROR, FORWARD_TSN, HEARTBEAT,
+    HEARTBEAT_ACK, IDATA_FIRST, IDATA_LAST, IFORWARD_TSN, INIT, RE_CONFIG, SACK, SHUTDOWN,
+    SHUTDOWN_ACK, SHUTDOWN_COMPLETE, TWO_CHUNKS, init_ack_bytes,
+};
+use samples::help::{fields_of, has_text, is_kept, is_rewritten, rest_of};
 use std::alloc::{AllocError, Global};
 use std::test::Fail;
-
-pub(crate) const DATA: &[u8] = &[
-    0, 3, 0, 0x14, 0x55, 8, 0x36, 0x3c, 0, 2, 0, 1, 0, 0, 0, 0x35, 0, 1, 2, 3,
-];
-
-/// An INIT with six parameters, and two bytes of padding.
-pub(crate) const INIT: &[u8] = &[
-    1, 0, 0, 0x5a, 0xde, 0x7a, 0x16, 0x90, 0, 2, 0, 0, 3, 0xe8, 3, 0xe8, 0x25, 0x0d, 0x37, 0xe8,
-    0x80, 0, 0, 4, 0xc0, 0, 0, 4, 0x80, 8, 0, 9, 0xc0, 0x0f, 0xc1, 0x80, 0x82, 0, 0, 0, 0x80, 2, 0,
-    0x24, 0xab, 0x31, 0x44, 0x62, 0x12, 0x1a, 0x15, 0x13, 0xfd, 0x5a, 0x5f, 0x69, 0xef, 0xaa, 6,
-    0xe9, 0xab, 0xd7, 0x48, 0xcc, 0x3b, 0xd1, 0x4b, 0x60, 0xed, 0x7f, 0xa6, 0x44, 0xce, 0x4d, 0xd2,
-    0xad, 0x80, 4, 0, 6, 0, 1, 0, 0, 0x80, 3, 0, 6, 0x80, 0xc1, 0, 0,
-];
-
-/// How an INIT ACK begins, before a cookie of 256 bytes: two parameters, and the cookie's header.
-const INIT_ACK_FRONT: &[u8] = &[
-    2, 0, 1, 0x24, 0x57, 0x9c, 0x2f, 0x98, 0, 2, 0, 0, 3, 0xe8, 8, 0, 0x63, 0x96, 0x8e, 0xc7, 0xc0,
-    0, 0, 4, 0x80, 8, 0, 6, 0xc0, 0x82, 0, 0, 0, 7, 1, 4,
-];
-
-/// A SACK with two blocks and one duplicate.
-pub(crate) const SACK: &[u8] = &[
-    3, 0, 0, 0x1c, 0x36, 0x9d, 0xd0, 0x0b, 0, 1, 0xed, 0x73, 0, 2, 0, 1, 0, 2, 0, 6, 0, 8, 0, 8,
-    0x36, 0x9d, 0xd0, 0x11,
-];
-
-pub(crate) const HEARTBEAT: &[u8] = &[
-    4, 0, 0, 0x2c, 0, 1, 0, 0x28, 0xad, 0x24, 0x36, 0x60, 0x37, 0x26, 7, 0, 0, 0, 0, 0, 0, 0, 0, 0,
-    0x7b, 0x10, 0, 0, 1, 0, 0, 0, 0, 0, 0, 0, 0, 0, 0, 0, 0, 0, 0, 0,
-];
-
-pub(crate) const HEARTBEAT_ACK: &[u8] = &[
-    5, 0, 0, 0x2c, 0, 1, 0, 0x28, 0xad, 0x24, 0x36, 0x60, 0x37, 0x26, 7, 0, 0, 0, 0, 0, 0, 0, 0, 0,
-    0x7b, 0x10, 0, 0, 1, 0, 0, 0, 0, 0, 0, 0, 0, 0, 0, 0, 0, 0, 0, 0,
-];
-
-/// An ABORT with one cause: the user's, without a reason.
-pub(crate) const ABORT: &[u8] = &[6, 0, 0, 8, 0, 0x0c, 0, 4];
-
-pub(crate) const SHUTDOWN: &[u8] = &[7, 0, 0, 8, 6, 0x11, 0xd1, 0xbd];
-
-pub(crate) const SHUTDOWN_ACK: &[u8] = &[8, 0, 0, 4];
-
-/// An ERROR with one cause: a chunk that wasn't recognized.
-pub(crate) const ERROR: &[u8] = &[9, 0, 0, 0x0c, 0, 6, 0, 8, 0x49, 0, 0, 4];
-
-pub(crate) const COOKIE_ECHO: &[u8] = &[0x0a, 0, 0, 8, 0x12, 0x34, 0x56, 0x78];
-
-pub(crate) const COOKIE_ACK: &[u8] = &[0x0b, 0, 0, 4];
-
-pub(crate) const SHUTDOWN_COMPLETE: &[u8] = &[0x0e, 0, 0, 4];
-
-/// The first fragment of a message.
-pub(crate) const IDATA_FIRST: &[u8] = &[
-    0x40, 2, 0, 0x15, 0x94, 0x4a, 0x5d, 0xd5, 0, 1, 0, 0, 0, 0, 0, 0, 0, 0, 0, 0x35, 1, 0, 0, 0,
-];
-
-/// The last fragment of a message.
-pub(crate) const IDATA_LAST: &[u8] = &[
-    0x40, 1, 0, 0x15, 0x94, 0x4a, 0x5e, 0x0a, 0, 3, 0, 0, 0, 0, 0, 1, 0, 0, 0, 8, 1, 0, 0, 0,
-];
-
-/// A RE-CONFIG that asks to reset one stream, and two bytes of padding.
-pub(crate) const RE_CONFIG: &[u8] = &[
-    0x82, 0, 0, 0x16, 0, 0x0d, 0, 0x12, 0x87, 0x55, 0xd8, 0x23, 0x71, 0x97, 0x6a, 0x9e, 0x87, 0x55,
-    0xd8, 0x32, 0, 6, 0, 0,
-];
-
-pub(crate) const FORWARD_TSN: &[u8] = &[0xc0, 0, 0, 8, 0x71, 0x97, 0x6b, 0x2a];
-
-/// An I-FORWARD-TSN that skips messages of one stream.
-pub(crate) const IFORWARD_TSN: &[u8] = &[
-    0xc2, 0, 0, 0x10, 0xb8, 0x74, 0x52, 0xec, 0, 1, 0, 0, 0, 0, 0, 2,
-];
-
-/// Two chunks of one packet: COOKIE ACK, and DATA with three bytes of padding.
-pub(crate) const TWO_CHUNKS: &[u8] = &[
-    0x0b, 0, 0, 4, 0, 3, 0, 0x39, 0xcf, 0x5f, 0x90, 0xe3, 0, 0x6f, 0, 0, 0, 0, 0, 0x32, 3, 0x82, 0,
-    0, 0, 0, 0x9c, 0x40, 0, 0x0b, 0, 0x12, 0x63, 0x6f, 0x6c, 0x6c, 0x65, 0x63, 0x74, 0x69, 0x6f,
-    0x6e, 0x73, 0x77, 0x65, 0x62, 0x72, 0x74, 0x63, 0x2d, 0x64, 0x61, 0x74, 0x61, 0x63, 0x68, 0x61,
-    0x6e, 0x6e, 0x65, 0x6c, 0, 0, 0,
-];
-
-/// The second of them, without its padding.
-const DATA_OF_TWO: &[u8] = &[
-    0, 3, 0, 0x39, 0xcf, 0x5f, 0x90, 0xe3, 0, 0x6f, 0, 0, 0, 0, 0, 0x32, 3, 0x82, 0, 0, 0, 0, 0x9c,
-    0x40, 0, 0x0b, 0, 0x12, 0x63, 0x6f, 0x6c, 0x6c, 0x65, 0x63, 0x74, 0x69, 0x6f, 0x6e, 0x73, 0x77,
-    0x65, 0x62, 0x72, 0x74, 0x63, 0x2d, 0x64, 0x61, 0x74, 0x61, 0x63, 0x68, 0x61, 0x6e, 0x6e, 0x65,
-    0x6c,
-];
 
 /// The bytes, how many of them are the chunk without padding after it, what it prints, and all
 /// that it holds.
@@ -233,13 +148,6 @@ fn two_chunks(rt: HostRuntime) -> Result<(), Fail> {
     )?;
     assert_eq!(rt; data, (true, true, true));
     Ok(())
-}
-
-/// An INIT ACK of 292 bytes.
-pub(crate) fn init_ack_bytes(alloc: Global) -> Result<Vec<u8>, AllocError> {
-    let mut bytes = Vec::from_slice(alloc, INIT_ACK_FRONT)?;
-    bytes.resize(292, 0x4b)?;
-    Ok(bytes)
 }
 
 /// All that the INIT ACK holds.

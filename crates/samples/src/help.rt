@@ -9,35 +9,35 @@ use std::fmt;
 use std::test::Fail;
 
 /// Both ports 5000, tag 16909060, checksum 0.
-pub(crate) const HEADER: [u8; 12] = [0x13, 0x88, 0x13, 0x88, 1, 2, 3, 4, 0, 0, 0, 0];
+pub const HEADER: [u8; 12] = [0x13, 0x88, 0x13, 0x88, 1, 2, 3, 4, 0, 0, 0, 0];
 
-pub(crate) const UNVERIFIED: ChecksumPolicy = ChecksumPolicy {
+pub const UNVERIFIED: ChecksumPolicy = ChecksumPolicy {
     disable_checksum_verification: true,
     zero_checksum_alternate_error_detection_method: ZERO_CHECKSUM_ALTERNATE_ERROR_DETECTION_METHOD_NONE,
     strict_padding: false,
 };
 
 /// The same, but that padding is looked at.
-pub(crate) const STRICT: ChecksumPolicy = ChecksumPolicy {
+pub const STRICT: ChecksumPolicy = ChecksumPolicy {
     disable_checksum_verification: true,
     zero_checksum_alternate_error_detection_method: ZERO_CHECKSUM_ALTERNATE_ERROR_DETECTION_METHOD_NONE,
     strict_padding: true,
 };
 
 /// The frame at the front of the bytes.
-pub(crate) fn raw_of(bytes: &[u8]) -> Result<RawChunk, ChunkParseError> {
+pub fn raw_of(bytes: &[u8]) -> Result<RawChunk, ChunkParseError> {
     let (raw, _) = RawChunk::from_bytes(bytes)?;
     Ok(raw)
 }
 
 /// What stands after the frame at the front, and its padding.
-pub(crate) fn rest_of(bytes: &[u8]) -> Result<&[u8], ChunkParseError> {
+pub fn rest_of(bytes: &[u8]) -> Result<&[u8], ChunkParseError> {
     let (_, rest) = RawChunk::from_bytes(bytes)?;
     Ok(rest)
 }
 
 /// The chunk at the front of the bytes.
-pub(crate) fn chunk_of(alloc: Global, bytes: &[u8]) -> Result<Chunk, ChunkParseError> {
+pub fn chunk_of(alloc: Global, bytes: &[u8]) -> Result<Chunk, ChunkParseError> {
     Chunk::try_from(alloc, raw_of(bytes)?)
 }
 
@@ -48,13 +48,13 @@ fn text_of(alloc: Global, bytes: &[u8]) -> Result<String, ChunkParseError> {
 }
 
 /// All that the chunk at the front holds.
-pub(crate) fn fields_of(alloc: Global, bytes: &[u8]) -> Result<String, ChunkParseError> {
+pub fn fields_of(alloc: Global, bytes: &[u8]) -> Result<String, ChunkParseError> {
     let chunk = chunk_of(alloc, bytes)?;
     Ok(format!(in alloc; "{chunk:?}")?)
 }
 
 /// What a reader answered, as `Ok` of all that the chunk holds, or as `Err` of its fault.
-pub(crate) fn told<T: fmt::Debug + Drop>(
+pub fn told<T: fmt::Debug + Drop>(
     alloc: Global,
     answer: Result<T, ChunkParseError>,
 ) -> Result<String, AllocError> {
@@ -62,22 +62,18 @@ pub(crate) fn told<T: fmt::Debug + Drop>(
 }
 
 /// The chunk at the front prints this text.
-pub(crate) fn has_text(alloc: Global, bytes: &[u8], text: &str) -> Result<bool, ChunkParseError> {
+pub fn has_text(alloc: Global, bytes: &[u8], text: &str) -> Result<bool, ChunkParseError> {
     Ok(text_of(alloc, bytes)?.as_str() == text)
 }
 
 /// The chunk at the front holds this, and nothing else.
-pub(crate) fn has_fields(
-    alloc: Global,
-    bytes: &[u8],
-    fields: &str,
-) -> Result<bool, ChunkParseError> {
+pub fn has_fields(alloc: Global, bytes: &[u8], fields: &str) -> Result<bool, ChunkParseError> {
     Ok(fields_of(alloc, bytes)?.as_str() == fields)
 }
 
 /// Whether the chunk at the front prints this text, holds these fields, and is written as these
 /// bytes.
-pub(crate) fn is_kept(
+pub fn is_kept(
     alloc: Global,
     bytes: &[u8],
     text: &str,
@@ -90,11 +86,7 @@ pub(crate) fn is_kept(
 }
 
 /// The chunk at the front is written as these bytes.
-pub(crate) fn is_rewritten(
-    alloc: Global,
-    bytes: &[u8],
-    wanted: &[u8],
-) -> Result<bool, ChunkParseError> {
+pub fn is_rewritten(alloc: Global, bytes: &[u8], wanted: &[u8]) -> Result<bool, ChunkParseError> {
     let chunk = chunk_of(alloc, bytes)?;
     Ok(is_image(alloc, &chunk, wanted)?)
 }
@@ -114,7 +106,7 @@ fn is_image<T: SerializableTlv>(
 }
 
 /// The chunk prints this text, and is written as these bytes.
-pub(crate) fn is_shown<T: SerializableTlv + fmt::Display + Drop>(
+pub fn is_shown<T: SerializableTlv + fmt::Display + Drop>(
     alloc: Global,
     chunk: T,
     text: &str,
@@ -127,17 +119,14 @@ pub(crate) fn is_shown<T: SerializableTlv + fmt::Display + Drop>(
 }
 
 /// The header, and these chunks.
-pub(crate) fn packet_of(alloc: Global, chunks: &[u8]) -> Result<Vec<u8>, AllocError> {
+pub fn packet_of(alloc: Global, chunks: &[u8]) -> Result<Vec<u8>, AllocError> {
     let mut bytes = Vec::from_slice(alloc, &HEADER)?;
     bytes.extend_from_slice(chunks)?;
     Ok(bytes)
 }
 
 /// The canonical packet, or nothing where it doesn't fit.
-pub(crate) fn canonical_of(
-    alloc: Global,
-    packet: &SctpPacket,
-) -> Result<Option<Vec<u8>>, AllocError> {
+pub fn canonical_of(alloc: Global, packet: &SctpPacket) -> Result<Option<Vec<u8>>, AllocError> {
     if packet.fits() {
         Ok(Some(packet.canonical_bytes(alloc)?))
     } else {
@@ -168,7 +157,7 @@ fn answer_of(
 }
 
 /// The packet's answer is this.
-pub(crate) fn is_answered(
+pub fn is_answered(
     alloc: Global,
     bytes: &[u8],
     word: u32,
@@ -179,7 +168,7 @@ pub(crate) fn is_answered(
 }
 
 /// The packet's chunks hold this, and nothing else.
-pub(crate) fn has_chunks(
+pub fn has_chunks(
     alloc: Global,
     bytes: &[u8],
     word: u32,
@@ -192,7 +181,7 @@ pub(crate) fn has_chunks(
 }
 
 /// The ports, the tag and the checksum field.
-pub(crate) fn header_of(
+pub fn header_of(
     alloc: Global,
     bytes: &[u8],
     word: u32,
@@ -209,7 +198,7 @@ pub(crate) fn header_of(
 
 /// How many chunks the packet has, whether each can be written, and the size of the canonical
 /// packet, or nothing where that doesn't fit.
-pub(crate) fn sizes_of(alloc: Global, bytes: &[u8]) -> Result<(usize, bool, Option<usize>), Fail> {
+pub fn sizes_of(alloc: Global, bytes: &[u8]) -> Result<(usize, bool, Option<usize>), Fail> {
     let packet = SctpPacket::from_bytes(alloc, bytes, 0, &UNVERIFIED)?;
     let encodable = packet.chunks.iter().all(|chunk| chunk.encodable());
     let size = canonical_of(alloc, &packet)?.map(|bytes| bytes.len());
@@ -217,7 +206,7 @@ pub(crate) fn sizes_of(alloc: Global, bytes: &[u8]) -> Result<(usize, bool, Opti
 }
 
 /// The packet's canonical bytes are these.
-pub(crate) fn is_canonical(
+pub fn is_canonical(
     alloc: Global,
     bytes: &[u8],
     word: u32,

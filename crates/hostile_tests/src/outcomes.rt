@@ -1,8 +1,8 @@
 //! What a packet is answered with, when it may be hostile.
 
-use crate::help::{UNVERIFIED, packet_of};
 use dcsctp_wire::packet::ChunkParseError;
 use dcsctp_wire::packet::sctp_packet::{PacketParseError, SctpPacket};
+use samples::help::{UNVERIFIED, packet_of};
 use std::alloc::{AllocError, Global};
 use std::test::Fail;
 

@@ -1,6 +1,5 @@
 //! Chunks that hold a list of parameters or of error causes.
 
-use crate::help::{chunk_of, has_fields, is_rewritten, is_shown, raw_of, told};
 use dcsctp_wire::api::{StreamId, ZERO_CHECKSUM_ALTERNATE_ERROR_DETECTION_METHOD_LOWER_LAYER_DTLS};
 use dcsctp_wire::packet::abort_chunk::AbortChunk;
 use dcsctp_wire::packet::cookie_received_while_shutting_down::CookieReceivedWhileShuttingDownErrorCause;
@@ -26,6 +25,7 @@ use dcsctp_wire::packet::user_initiated_abort_error_cause::UserInitiatedAbortErr
 use dcsctp_wire::packet::zero_checksum_acceptable_parameter::ZeroChecksumAcceptableParameter;
 use dcsctp_wire::packet::{ChunkParseError, SerializableTlv};
 use dcsctp_wire::types::Tsn;
+use samples::help::{chunk_of, has_fields, is_rewritten, is_shown, raw_of, told};
 use std::alloc::{AllocError, Global};
 use std::test::Fail;
 

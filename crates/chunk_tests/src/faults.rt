@@ -1,6 +1,5 @@
 //! Chunks that are refused for what is in them, and the order in which faults are told.
 
-use crate::help::{chunk_of, told};
 use dcsctp_wire::packet::ChunkParseError;
 use dcsctp_wire::packet::abort_chunk::AbortChunk;
 use dcsctp_wire::packet::chunk::RawChunk;
@@ -21,6 +20,7 @@ use dcsctp_wire::packet::shutdown_ack_chunk::ShutdownAckChunk;
 use dcsctp_wire::packet::shutdown_chunk::ShutdownChunk;
 use dcsctp_wire::packet::shutdown_complete_chunk::ShutdownCompleteChunk;
 use dcsctp_wire::packet::unknown_chunk::UnknownChunk;
+use samples::help::{chunk_of, told};
 use std::alloc::{AllocError, Global};
 use std::test::Fail;
 

@@ -1,12 +1,12 @@
 //! Captured packets, each byte of which is changed to each other value.
 
-use crate::captures::{
+use crate::outcomes::{Outcome, outcome_of};
+use samples::captures::{
     ABORT, COOKIE_ACK, COOKIE_ECHO, DATA, ERROR, FORWARD_TSN, HEARTBEAT, HEARTBEAT_ACK,
     IDATA_FIRST, IDATA_LAST, IFORWARD_TSN, INIT, RE_CONFIG, SACK, SHUTDOWN, SHUTDOWN_ACK,
     SHUTDOWN_COMPLETE, TWO_CHUNKS,
 };
-use crate::help::packet_of;
-use crate::outcomes::{Outcome, outcome_of};
+use samples::help::packet_of;
 use std::alloc::Global;
 use std::test::Fail;
 

@@ -1,13 +1,6 @@
 //! A packet that is read in its bytes agrees with the packet that is built, field by field; and what
 //! a packet is in whose bytes a number was written.
 
-use crate::captures::{
-    ABORT, COOKIE_ECHO, DATA, ERROR, HEARTBEAT, HEARTBEAT_ACK, IDATA_FIRST, IDATA_LAST, INIT, SACK,
-    SHUTDOWN_COMPLETE, TWO_CHUNKS,
-};
-use crate::chunks::ROWS;
-use crate::help::{STRICT, UNVERIFIED, header_of, packet_of, raw_of};
-use crate::packets::{ACCEPTED, ACCEPTED_WITH_LISTS, REFUSED};
 use dcsctp_borrowed::in_place::{set_checksum_word, set_verification_tag};
 use dcsctp_borrowed::packet_ref::SctpPacketRef;
 use dcsctp_borrowed::raw_chunks::RawChunks;
@@ -17,6 +10,13 @@ use dcsctp_wire::packet::chunk::{Chunk, RawChunk};
 use dcsctp_wire::packet::data::Data;
 use dcsctp_wire::packet::sctp_packet::{ChecksumPolicy, CommonHeader, SctpPacket};
 use dcsctp_wire::types::Tsn;
+use samples::captures::{
+    ABORT, COOKIE_ECHO, DATA, ERROR, HEARTBEAT, HEARTBEAT_ACK, IDATA_FIRST, IDATA_LAST, INIT, SACK,
+    SHUTDOWN_COMPLETE, TWO_CHUNKS,
+};
+use samples::chunks::ROWS;
+use samples::help::{STRICT, UNVERIFIED, header_of, packet_of, raw_of};
+use samples::packets::{ACCEPTED, ACCEPTED_WITH_LISTS, REFUSED};
 use std::alloc::{AllocError, Global};
 use std::test::Fail;
 

@@ -1,12 +1,12 @@
 //! Packets that were cut off.
 
-use crate::captures::{
+use crate::outcomes::{Outcome, outcome_of};
+use samples::captures::{
     ABORT, COOKIE_ACK, COOKIE_ECHO, DATA, ERROR, FORWARD_TSN, HEARTBEAT, HEARTBEAT_ACK,
     IDATA_FIRST, IDATA_LAST, IFORWARD_TSN, INIT, RE_CONFIG, SACK, SHUTDOWN, SHUTDOWN_ACK,
     SHUTDOWN_COMPLETE, TWO_CHUNKS, init_ack_bytes,
 };
-use crate::help::{UNVERIFIED, is_canonical, packet_of};
-use crate::outcomes::{Outcome, outcome_of};
+use samples::help::{UNVERIFIED, is_canonical, packet_of};
 use std::alloc::{AllocError, Global};
 use std::test::Fail;
 

@@ -1,0 +1,16 @@
+//! Tests of `dcsctp_wire` with packets that may be hostile: cut off, changed byte by byte, with
+//! lengths that don't say what is there, and as large as a packet can be.
+#![tactic(auto)]
+
+#[cfg(test)]
+mod changes;
+#[cfg(test)]
+mod counts;
+#[cfg(test)]
+mod largest;
+#[cfg(test)]
+mod lengths;
+#[cfg(test)]
+mod outcomes;
+#[cfg(test)]
+mod prefixes;
