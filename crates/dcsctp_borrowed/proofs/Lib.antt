@@ -1,4 +1,5 @@
 pub mod Fronts
 pub mod PacketRefs
 pub mod DataRows
+pub mod FieldLists
 pub mod Changes

@@ -1,3 +1,4 @@
 pub mod RawChunks
 pub mod UserData
+pub mod Sack
 pub mod PacketRef

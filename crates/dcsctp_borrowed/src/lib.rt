@@ -7,4 +7,5 @@
 pub mod in_place;
 pub mod packet_ref;
 pub mod raw_chunks;
+pub mod sack_ref;
 pub mod user_data;

@@ -32,7 +32,7 @@ later read size bytes a (suc n) =
     ∙ ap (λ (xs : List _). read (drop (size * a) (drop size bytes)) ∷ xs) (later read size bytes (a + 1) n)
 
 -- the first, and those after it
-fields-first : {A : Type 0} (read : List ℕ → A) (size n : ℕ) (bytes : List ℕ) → fields read size (suc n) bytes ≡ read bytes ∷ fields read size n (drop size bytes)
+pub fields-first : {A : Type 0} (read : List ℕ → A) (size n : ℕ) (bytes : List ℕ) → fields read size (suc n) bytes ≡ read bytes ∷ fields read size n (drop size bytes)
 fields-first read size n bytes =
     ap (λ (k : ℕ). read (drop k bytes) ∷ map (λ i. read (drop (size * i) bytes)) (range_with_len 1 n)) (mul-zero size)
     ∙ ap (λ (xs : List _). read bytes ∷ xs) (later read size bytes 0 n)

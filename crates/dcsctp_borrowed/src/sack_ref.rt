@@ -1,0 +1,131 @@
+//! A SACK, in a packet's bytes.
+
+ghost use Rattle.std.specs.Prelude.{◌≡◌, ◌<◌, ◌+◌, ◌*◌, ℕ, Some, length, drop, slice_get};
+ghost use Rattle.std.specs.Result.{result_ok};
+ghost use Rattle.dcsctp_tlv.specs.Fields.{fields};
+ghost use Rattle.dcsctp_tlv.specs.Number.{number32};
+ghost use Rattle.dcsctp_chunk.specs.Sack.{Tree, block_at, read};
+ghost use Rattle.dcsctp_wire.specs.Chunk.{ChunkTree};
+ghost use Rattle.dcsctp_borrowed.specs.RawChunks.{RawMeans};
+ghost use Rattle.dcsctp_borrowed.specs.Sack.{sack_of, read_sack};
+
+use dcsctp_chunk::sack_chunk::{self, GapAckBlock};
+use dcsctp_tlv::fields::Field;
+use dcsctp_tlv::number::{read_u16_be, read_u32_be};
+use dcsctp_types::types::Tsn;
+use dcsctp_wire::packet::chunk::RawChunk;
+use std::marker::Model;
+
+/// Bytes of the value before the gap ack blocks.
+const FIXED_SIZE: usize = 12;
+
+/// A SACK (RFC 9260 section 3.3.4) whose gap ack blocks and duplicate TSNs stay where they lie in the
+/// packet.
+///
+/// A contract sees its numbers and its two lists, as of a `SackChunk`.
+#[derive(Drop)]
+pub struct SackRef<'a> {
+    cumulative_tsn_ack: Tsn,
+    a_rwnd: u32,
+    block_count: usize,
+    duplicate_count: usize,
+    /// The blocks, and after them the duplicates.
+    lists: &'a [u8],
+}
+
+impl<'a> Model for SackRef<'a> {
+    ghost Value = { Tree };
+
+    ghost view = { λ s. record {
+      tsn = s.cumulative_tsn_ack.0;
+      a_rwnd = s.a_rwnd;
+      blocks = fields block_at 4 s.block_count s.lists.now;
+      duplicates = fields number32 4 s.duplicate_count (drop (4 * s.block_count) s.lists.now);
+    } };
+
+    ghost invariant = { λ s. length s.lists.now ≡ 4 * s.block_count + 4 * s.duplicate_count };
+}
+
+#[tactic(auto, using(crate::proofs::FieldLists::field_count))]
+impl<'a> SackRef<'a> {
+    /// Reads a SACK, without a copy; flags are ignored. Nothing exactly where the chunk has another
+    /// type, or a value that isn't just as long as its two counts say.
+    ///
+    /// Of a chunk of a packet this is the SACK that `SctpPacket::from_bytes` gives, and nothing
+    /// exactly where the chunk has another type.
+    pub fn from_raw(raw: &RawChunk<'a>) -> Option<SackRef<'a>>
+        ensures read { result ≡ read_sack raw.now.typ raw.now.value.now }
+        ensures means { (tree : ChunkTree) → RawMeans raw.now tree → result ≡ sack_of tree }
+    {
+        if raw.typ != sack_chunk::CHUNK_TYPE {
+            return None;
+        }
+        SackRef::of_value(raw.value)
+    }
+
+    /// What a SACK's value means.
+    #[tactic(auto, unfolding(dcsctp_chunk::specs::Sack::read))]
+    fn of_value(value: &'a [u8]) -> Option<SackRef<'a>>
+        ensures { result ≡ result_ok (read value.now) }
+    {
+        if value.len() < FIXED_SIZE {
+            return None;
+        }
+        let block_count = read_u16_be(&value[8..]) as usize;
+        let duplicate_count = read_u16_be(&value[10..]) as usize;
+        if value.len() != FIXED_SIZE + 4 * block_count + 4 * duplicate_count {
+            return None;
+        }
+        Some(SackRef {
+            cumulative_tsn_ack: Tsn(read_u32_be(value)),
+            a_rwnd: read_u32_be(&value[4..]),
+            block_count,
+            duplicate_count,
+            lists: &value[FIXED_SIZE..],
+        })
+    }
+
+    /// The last TSN that was received in sequence.
+    pub fn cumulative_tsn_ack(&self) -> Tsn
+        ensures { result.0 ≡ self.now.tsn }
+    {
+        self.cumulative_tsn_ack
+    }
+
+    /// Bytes that the receiver has room for.
+    pub fn a_rwnd(&self) -> u32
+        ensures { result ≡ self.now.a_rwnd }
+    {
+        self.a_rwnd
+    }
+
+    /// How many gap ack blocks it has.
+    pub fn gap_ack_block_count(&self) -> usize
+        ensures { result ≡ length self.now.blocks }
+    {
+        self.block_count
+    }
+
+    /// The gap ack block at this place, from 0 on.
+    pub fn gap_ack_block(&self, index: usize) -> GapAckBlock
+        requires { index < length self.now.blocks }
+        ensures { slice_get self.now.blocks index ≡ Some result }
+    {
+        GapAckBlock::read(&self.lists[4 * index..])
+    }
+
+    /// How many duplicate TSNs it has.
+    pub fn duplicate_tsn_count(&self) -> usize
+        ensures { result ≡ length self.now.duplicates }
+    {
+        self.duplicate_count
+    }
+
+    /// The duplicate TSN at this place, from 0 on.
+    pub fn duplicate_tsn(&self, index: usize) -> Tsn
+        requires { index < length self.now.duplicates }
+        ensures { slice_get self.now.duplicates index ≡ Some result.0 }
+    {
+        Tsn(read_u32_be(&self.lists[4 * self.block_count + 4 * index..]))
+    }
+}
