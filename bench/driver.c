@@ -12,6 +12,7 @@
    the instructions of that function. Prints the number of packets. */
 #define _GNU_SOURCE
 #include <stdbool.h>
+#include <stdint.h>
 #include <stdio.h>
 #include <stdlib.h>
 #include <string.h>
@@ -19,6 +20,7 @@
 
 /* A slice is a pointer and a length; the allocator takes no place. */
 extern size_t speed_probes_check(const unsigned char *bytes, size_t length);
+extern uint64_t speed_probes_walk(const unsigned char *bytes, size_t length);
 extern size_t speed_probes_read(const unsigned char *bytes, size_t length);
 extern size_t speed_probes_read_and_write(const unsigned char *bytes, size_t length);
 extern size_t speed_probes_write_over(const unsigned char *bytes, size_t length, unsigned char *output, size_t room);
@@ -49,6 +51,7 @@ static const struct {
     size_t (*call)(const unsigned char *bytes, size_t length);
 } calls[] = {
     {"check", speed_probes_check},
+    {"borrowed", speed_probes_walk},
     {"read", speed_probes_read},
     {"read_and_write", speed_probes_read_and_write},
     {"write_over", write_over},

@@ -13,7 +13,7 @@ import sys
 from report import record_in, rows, table
 from traffic import FILES
 
-CALLS = ('check', 'check_lenient', 'check_strict', 'read', 'read_and_write', 'write_over', 'build')
+CALLS = ('check', 'check_lenient', 'check_strict', 'borrowed', 'read', 'read_and_write', 'write_over', 'build')
 # How much of its record a count may be.
 MOST = 1.01
 BEGIN = '<!-- counted: bench/instructions.sh --record writes this part -->'

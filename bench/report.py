@@ -13,9 +13,9 @@ import textwrap
 
 from traffic import FILES
 
-# Which call of the Rust crate does the same. Its writing is done by its builder, so it stands beside both.
-COUNTERPARTS = {'read': 'parse', 'read_and_write': 'write', 'build': 'write'}
-CALLS = ('check', 'read', 'read_and_write', 'write_over', 'build', 'clean')
+# Which call of the Rust crate does the same. It has no borrowed reading, and writes by its builder alone.
+COUNTERPARTS = {'borrowed': 'parse', 'read': 'parse', 'read_and_write': 'write', 'build': 'write'}
+CALLS = ('check', 'borrowed', 'read', 'read_and_write', 'write_over', 'build', 'clean')
 COLUMNS = ('file', 'call', 'packets', 'bytes', 'zero', 'rate', 'requests', 'original_rate', 'original_requests',
            'ratio', 'least_ratio', 'greatest_ratio')
 BEGIN, END = '<!-- measured: bench/run.sh --record writes this part -->', '<!-- end of the measured part -->'

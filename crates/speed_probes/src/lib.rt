@@ -5,6 +5,8 @@
 //! comes from the C program's `malloc` and `realloc`. The checksum field may hold any number.
 #![tactic(auto)]
 
+mod walk;
+
 ghost use Rattle.std.specs.Prelude.{◌≡◌, ◌≢◌, ◌⊎◌, ℕ, [], false, Ok, IfOk, drop};
 ghost use Rattle.dcsctp_wire.specs.Account.{node_count};
 ghost use Rattle.dcsctp_wire.specs.Packet.{PacketTree, Answer, IsPacket, IsAccepted, meaning_view};

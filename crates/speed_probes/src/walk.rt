@@ -1,0 +1,78 @@
+//! A packet that is read in its bytes, without memory.
+
+ghost use Rattle.std.specs.Prelude.{◌≡◌, ℕ, List, Ok};
+ghost use Rattle.dcsctp_wire.specs.Chunk.{ChunkTree};
+ghost use Rattle.dcsctp_wire.specs.Packet.{PacketTree, Answer, IsPacket};
+ghost use Rattle.dcsctp_borrowed.specs.RawChunks.{RawMeans};
+ghost use Rattle.dcsctp_borrowed.specs.UserData.{user_data_view};
+ghost use Rattle.speed_probes.specs.Walk as spec;
+
+use crate::ANY_CHECKSUM;
+use dcsctp_borrowed::packet_ref::SctpPacketRef;
+use dcsctp_borrowed::sack_ref::SackRef;
+use dcsctp_borrowed::user_data::UserData;
+use dcsctp_wire::packet::chunk::RawChunk;
+
+/// Reads a packet in its bytes, and adds up every number of its DATA, I-DATA and SACK, and 1 for each
+/// other chunk, modulo 2^64; 0 where the bytes are no packet. It takes no memory.
+#[unsafe(no_mangle)]
+pub extern "C" fn speed_probes_walk(bytes: &[u8]) -> u64
+    ensures packet { (p : PacketTree) → Answer bytes.now 0 ANY_CHECKSUM (Ok p)
+        → result ≡ spec.with_chunks 0 p.meaning.chunks }
+    ensures none { ¬ IsPacket bytes.now 0 ANY_CHECKSUM → result ≡ 0 }
+{
+    match SctpPacketRef::from_bytes(bytes, 0, &ANY_CHECKSUM) {
+        Ok(packet) => {
+            let mut sum = 0;
+            for raw in packet.chunks {
+                sum = with_chunk(sum, &raw);
+            }
+            sum
+        }
+        Err(_) => 0,
+    }
+}
+
+/// Adds the numbers of a chunk, or 1 where it is of another kind.
+#[inline(always)]
+fn with_chunk(sum: u64, raw: &RawChunk) -> u64
+    ensures { (tree : ChunkTree) → RawMeans raw.now tree → result ≡ spec.with_chunk sum tree }
+{
+    if let Some(data) = UserData::from_raw(raw) {
+        return with_data(sum, &data);
+    }
+    match SackRef::from_raw(raw) {
+        Some(sack) => with_sack(sum, &sack),
+        None => sum.wrapping_add(1),
+    }
+}
+
+/// Adds the numbers of user data, and its payload's length.
+#[inline(always)]
+fn with_data(sum: u64, user_data: &UserData) -> u64
+    ensures { result ≡ spec.with_data sum (user_data_view user_data.now) }
+{
+    let places = user_data.tsn.0 as u64 + user_data.stream_key.id().0 as u64 + user_data.ssn.0 as u64;
+    let numbers = places + user_data.mid.0 as u64 + user_data.fsn.0 as u64 + user_data.ppid.0 as u64;
+    let unordered = user_data.stream_key.is_unordered() as u64;
+    let ends = user_data.is_beginning as u64 + user_data.is_end as u64;
+    let all = numbers + unordered + ends + user_data.immediate_ack as u64;
+    sum.wrapping_add(all)
+        .wrapping_add(user_data.payload.len() as u64)
+}
+
+/// Adds the numbers of a SACK, its blocks and its duplicate TSNs.
+#[inline(always)]
+fn with_sack(sum: u64, sack: &SackRef) -> u64
+    ensures { result ≡ spec.with_sack sum sack.now }
+{
+    let numbers = sack.cumulative_tsn_ack().0 as u64 + sack.a_rwnd() as u64;
+    let mut sum = sum.wrapping_add(numbers);
+    for block in sack.gap_ack_blocks() {
+        sum = sum.wrapping_add(block.start as u64 + block.end as u64);
+    }
+    for tsn in sack.duplicate_tsns() {
+        sum = sum.wrapping_add(tsn.0 as u64);
+    }
+    sum
+}
