@@ -1,4 +1,4 @@
-use Rattle.std.proofs.Common.{◌≡◌, ◌-◌, List, ◌∷◌, length, drop, sym, ap, ◌∙◌, arith}
+use Rattle.std.proofs.Common.{◌-◌, drop, arith}
 use Rattle.std.proofs.lemmas.List.{take_rest}
 use Rattle.dcsctp_tlv.specs.Number.{number32}
 use Rattle.dcsctp_borrowed.proofs.FieldLists.{field_count, first_field}

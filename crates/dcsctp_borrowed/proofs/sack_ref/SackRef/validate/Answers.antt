@@ -1,4 +1,4 @@
-use Rattle.std.proofs.Common.{◌≡◌, List, [], ◌∷◌, true, false, refl, subst, sym, arith}
+use Rattle.std.proofs.Common.{◌≡◌, List, ◌∷◌, true, false, refl, subst, sym, arith}
 use Rattle.dcsctp_chunk.specs.Apart.{IsApart}
 use Rattle.dcsctp_chunk.specs.Cover.{AreValid}
 use Rattle.dcsctp_chunk.specs.declared.sack_chunk.GapAckBlock.{GapAckBlock}
