@@ -48,4 +48,6 @@ mod prefixes;
 #[cfg(test)]
 mod replaced_texts;
 #[cfg(test)]
+mod sack_in_place;
+#[cfg(test)]
 mod sizes;
