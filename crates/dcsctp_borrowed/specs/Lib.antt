@@ -1,4 +1,5 @@
 pub mod RawChunks
 pub mod UserData
 pub mod Sack
+pub mod SkippedStreams
 pub mod PacketRef

@@ -1,10 +1,14 @@
 //! A SACK, in a packet's bytes.
 
-ghost use Rattle.std.specs.Prelude.{◌≡◌, ◌<◌, ◌+◌, ◌*◌, ℕ, Some, length, drop, slice_get};
+ghost use Rattle.std.specs.Prelude.{◌≡◌, ◌↔◌, ◌<◌, ◌≤◌, ◌+◌, ◌*◌, ◌^◌, ℕ, List, Some, IsTrue, length, drop, slice_get};
+ghost use Rattle.std.specs.Iterator.{YieldsFirst, YieldsFirstBy, item_count};
 ghost use Rattle.std.specs.Result.{result_ok};
+ghost use Rattle.dcsctp_types.specs.Serial.{wrapped_sum, IsGreater};
 ghost use Rattle.dcsctp_tlv.specs.Fields.{fields};
 ghost use Rattle.dcsctp_tlv.specs.Number.{number32};
+ghost use Rattle.dcsctp_chunk.specs.Cover.{Covers, AreValid};
 ghost use Rattle.dcsctp_chunk.specs.Sack.{Tree, block_at, read};
+ghost use Rattle.dcsctp_chunk.specs.declared.sack_chunk.GapAckBlock.{GapAckBlock};
 ghost use Rattle.dcsctp_wire.specs.Chunk.{ChunkTree};
 ghost use Rattle.dcsctp_borrowed.specs.RawChunks.{RawMeans};
 ghost use Rattle.dcsctp_borrowed.specs.Sack.{sack_of, read_sack};
@@ -19,8 +23,8 @@ use std::marker::Model;
 /// Bytes of the value before the gap ack blocks.
 const FIXED_SIZE: usize = 12;
 
-/// A SACK (RFC 9260 section 3.3.4) whose gap ack blocks and duplicate TSNs stay where they lie in the
-/// packet.
+/// A SACK (RFC 9260 section 3.3.4) whose gap ack blocks and duplicate TSNs stay where they lie in
+/// the packet.
 ///
 /// A contract sees its numbers and its two lists, as of a `SackChunk`.
 #[derive(Drop)]
@@ -127,5 +131,111 @@ impl<'a> SackRef<'a> {
         ensures { slice_get self.now.duplicates index ≡ Some result.0 }
     {
         Tsn(read_u32_be(&self.lists[4 * self.block_count + 4 * index..]))
+    }
+    /// Its gap ack blocks, one after the other.
+    pub fn gap_ack_blocks(&self) -> GapAckBlocks<'a>
+        ensures { result ≡ self.now.blocks }
+    {
+        GapAckBlocks {
+            count: self.block_count,
+            rest: self.lists,
+        }
+    }
+
+    /// Its duplicate TSNs, one after the other.
+    pub fn duplicate_tsns(&self) -> DuplicateTsns<'a>
+        ensures { result ≡ self.now.duplicates }
+    {
+        DuplicateTsns {
+            count: self.duplicate_count,
+            rest: &self.lists[4 * self.block_count..],
+        }
+    }
+
+    /// Whether the gap ack blocks are the runs of the offsets that they cover, by rising start, and
+    /// the first, if any, starts at 2 or later: what `validate_sack` says of the `SackChunk`.
+    ///
+    /// Each TSN at a covered offset of 1 to 65,535 is greater than the cumulative TSN.
+    pub fn validate(&self) -> bool
+        ensures valid { IsTrue result ↔ AreValid self.now.blocks }
+        ensures greater { (o : ℕ) → Covers self.now.blocks o → 1 ≤ o → o ≤ 65535
+            → IsGreater (2 ^ 32) (wrapped_sum (2 ^ 32) self.now.tsn o) self.now.tsn }
+    {
+        // what a block may start at
+        let mut least: u32 = 2;
+        for block in self.gap_ack_blocks() {
+            if block.end < block.start || (block.start as u32) < least {
+                return false;
+            }
+            // an end can be 65,535
+            least = block.end as u32 + 2;
+        }
+        true
+    }
+}
+
+/// The gap ack blocks of a SACK that are left; a contract sees their list.
+#[derive(Drop)]
+pub struct GapAckBlocks<'a> {
+    count: usize,
+    rest: &'a [u8],
+}
+
+impl<'a> Model for GapAckBlocks<'a> {
+    ghost Value = { List GapAckBlock };
+
+    ghost view = { λ b. fields block_at 4 b.count b.rest.now };
+
+    ghost invariant = { λ b. 4 * b.count ≤ length b.rest.now };
+}
+
+impl<'a> Iterator for GapAckBlocks<'a> {
+    type Item = GapAckBlock;
+
+    ghost next_gives = { YieldsFirst (λ left. left) };
+
+    ghost remaining = { item_count (λ left. left) };
+
+    fn next(&mut self) -> Option<GapAckBlock> {
+        if self.count == 0 {
+            return None;
+        }
+        let block = GapAckBlock::read(self.rest);
+        self.count -= 1;
+        self.rest = &self.rest[4..];
+        Some(block)
+    }
+}
+
+/// The duplicate TSNs of a SACK that are left; a contract sees the list of their numbers.
+#[derive(Drop)]
+pub struct DuplicateTsns<'a> {
+    count: usize,
+    rest: &'a [u8],
+}
+
+impl<'a> Model for DuplicateTsns<'a> {
+    ghost Value = { List ℕ };
+
+    ghost view = { λ d. fields number32 4 d.count d.rest.now };
+
+    ghost invariant = { λ d. 4 * d.count ≤ length d.rest.now };
+}
+
+impl<'a> Iterator for DuplicateTsns<'a> {
+    type Item = Tsn;
+
+    ghost next_gives = { YieldsFirstBy (λ tsn. tsn.0) (λ left. left) };
+
+    ghost remaining = { item_count (λ left. left) };
+
+    fn next(&mut self) -> Option<Tsn> {
+        if self.count == 0 {
+            return None;
+        }
+        let tsn = Tsn(read_u32_be(self.rest));
+        self.count -= 1;
+        self.rest = &self.rest[4..];
+        Some(tsn)
     }
 }

@@ -1,0 +1,209 @@
+//! FORWARD-TSN and I-FORWARD-TSN, in a packet's bytes.
+
+ghost use Rattle.std.specs.Prelude.{◌≡◌, ◌<◌, ◌≤◌, ◌*◌, ℕ, Bool, List, if◌then◌else◌, Some, option_map, length, slice_get};
+ghost use Rattle.std.specs.Iterator.{YieldsFirstBy, item_count};
+ghost use Rattle.std.specs.Result.{result_ok};
+ghost use Rattle.dcsctp_chunk.specs.ForwardTsn as forward_kind;
+ghost use Rattle.dcsctp_chunk.specs.IForwardTsn as iforward_kind;
+ghost use Rattle.dcsctp_chunk.specs.SkippedStreams.{SkippedStreamTree, Tree, skipped_stream_view};
+ghost use Rattle.dcsctp_wire.specs.Chunk.{ChunkTree};
+ghost use Rattle.dcsctp_borrowed.specs.RawChunks.{RawMeans};
+ghost use Rattle.dcsctp_borrowed.specs.SkippedStreams.{streams_at, forward_of, read_forward};
+
+use dcsctp_chunk::{forward_tsn_chunk, iforward_tsn_chunk};
+use dcsctp_tlv::number::{read_u16_be, read_u32_be};
+use dcsctp_tlv::skipped_stream::SkippedStream;
+use dcsctp_types::api::StreamId;
+use dcsctp_types::types::{Mid, Ssn, StreamKey, Tsn};
+use dcsctp_wire::packet::chunk::RawChunk;
+use std::marker::Model;
+
+/// Bytes of the value before the skipped streams.
+const FIXED_SIZE: usize = 4;
+
+/// Bytes of a stream of FORWARD-TSN.
+const SSN_STREAM_SIZE: usize = 4;
+
+/// Bytes of a stream of I-FORWARD-TSN.
+const MID_STREAM_SIZE: usize = 8;
+
+/// A FORWARD-TSN (RFC 3758 section 3.2) or an I-FORWARD-TSN (RFC 8260 section 2.3.1) whose skipped
+/// streams stay where they lie in the packet.
+///
+/// A contract sees its TSN and its streams, as of a `ForwardTsnChunk` or an `IForwardTsnChunk`.
+#[derive(Drop)]
+pub struct ForwardTsnRef<'a> {
+    new_cumulative_tsn: Tsn,
+    /// Whether it is an I-FORWARD-TSN, whose streams are skipped by a message id.
+    by_mid: bool,
+    count: usize,
+    streams: &'a [u8],
+}
+
+impl<'a> Model for ForwardTsnRef<'a> {
+    ghost Value = { Tree };
+
+    ghost view = { λ f. record {
+      tsn = f.new_cumulative_tsn.0;
+      streams = streams_at f.by_mid f.count f.streams.now;
+    } };
+
+    ghost invariant = { λ f. (if f.by_mid then 8 else 4) * f.count ≤ length f.streams.now };
+}
+
+#[tactic(auto, using(crate::proofs::FieldLists::stream_count))]
+impl<'a> ForwardTsnRef<'a> {
+    /// Reads FORWARD-TSN or I-FORWARD-TSN, without a copy; flags are ignored. Nothing exactly where
+    /// the chunk has another type, or a value that isn't 4 bytes and whole streams.
+    ///
+    /// Of a chunk of a packet this is the chunk that `SctpPacket::from_bytes` gives, and nothing
+    /// exactly where the chunk has another type.
+    pub fn from_raw(raw: &RawChunk<'a>) -> Option<ForwardTsnRef<'a>>
+        ensures read { result ≡ read_forward raw.now.typ raw.now.value.now }
+        ensures means { (tree : ChunkTree) → RawMeans raw.now tree → result ≡ forward_of tree }
+    {
+        match raw.typ {
+            forward_tsn_chunk::CHUNK_TYPE => ForwardTsnRef::of_forward(raw.value),
+            iforward_tsn_chunk::CHUNK_TYPE => ForwardTsnRef::of_iforward(raw.value),
+            _ => None,
+        }
+    }
+
+    /// What a FORWARD-TSN's value means.
+    #[tactic(auto, unfolding(dcsctp_chunk::specs::ForwardTsn::read))]
+    fn of_forward(value: &'a [u8]) -> Option<ForwardTsnRef<'a>>
+        ensures { result ≡ result_ok (forward_kind.read value.now) }
+    {
+        if value.len() < FIXED_SIZE {
+            return None;
+        }
+        if !(value.len() - FIXED_SIZE).is_multiple_of(SSN_STREAM_SIZE) {
+            return None;
+        }
+        Some(ForwardTsnRef {
+            new_cumulative_tsn: Tsn(read_u32_be(value)),
+            by_mid: false,
+            count: (value.len() - FIXED_SIZE) / SSN_STREAM_SIZE,
+            streams: &value[FIXED_SIZE..],
+        })
+    }
+
+    /// What an I-FORWARD-TSN's value means.
+    #[tactic(auto, unfolding(dcsctp_chunk::specs::IForwardTsn::read))]
+    fn of_iforward(value: &'a [u8]) -> Option<ForwardTsnRef<'a>>
+        ensures { result ≡ result_ok (iforward_kind.read value.now) }
+    {
+        if value.len() < FIXED_SIZE {
+            return None;
+        }
+        if !(value.len() - FIXED_SIZE).is_multiple_of(MID_STREAM_SIZE) {
+            return None;
+        }
+        Some(ForwardTsnRef {
+            new_cumulative_tsn: Tsn(read_u32_be(value)),
+            by_mid: true,
+            count: (value.len() - FIXED_SIZE) / MID_STREAM_SIZE,
+            streams: &value[FIXED_SIZE..],
+        })
+    }
+
+    /// The TSN up to which all is to be taken as received.
+    pub fn new_cumulative_tsn(&self) -> Tsn
+        ensures { result.0 ≡ self.now.tsn }
+    {
+        self.new_cumulative_tsn
+    }
+
+    /// How many streams it skips messages of.
+    pub fn skipped_stream_count(&self) -> usize
+        ensures { result ≡ length self.now.streams }
+    {
+        self.count
+    }
+
+    /// The skipped stream at this place, from 0 on.
+    pub fn skipped_stream(&self, index: usize) -> SkippedStream
+        requires { index < length self.now.streams }
+        ensures { slice_get self.now.streams index ≡ Some (skipped_stream_view result) }
+    {
+        if self.by_mid {
+            mid_stream(&self.streams[MID_STREAM_SIZE * index..])
+        } else {
+            ssn_stream(&self.streams[SSN_STREAM_SIZE * index..])
+        }
+    }
+
+    /// Its skipped streams, one after the other.
+    pub fn skipped_streams(&self) -> SkippedStreams<'a>
+        ensures { result ≡ self.now.streams }
+    {
+        SkippedStreams {
+            by_mid: self.by_mid,
+            count: self.count,
+            rest: self.streams,
+        }
+    }
+}
+
+/// The stream at the front, skipped by a sequence number: two bytes of stream id, and two of the
+/// number.
+fn ssn_stream(bytes: &[u8]) -> SkippedStream
+    requires { 4 ≤ length bytes.now }
+    ensures { skipped_stream_view result ≡ forward_kind.stream_at bytes.now }
+{
+    SkippedStream::ForwardTsn(StreamId(read_u16_be(bytes)), Ssn(read_u16_be(&bytes[2..])))
+}
+
+/// The stream at the front, skipped by a message id: two bytes of stream id, two whose lowest bit
+/// says unordered, and four of message id.
+fn mid_stream(bytes: &[u8]) -> SkippedStream
+    requires { 8 ≤ length bytes.now }
+    ensures { skipped_stream_view result ≡ iforward_kind.stream_at bytes.now }
+{
+    let id = StreamId(read_u16_be(bytes));
+    let is_unordered = read_u16_be(&bytes[2..]) % 2 == 1;
+    SkippedStream::IForwardTsn(
+        StreamKey::new(is_unordered, id),
+        Mid(read_u32_be(&bytes[4..])),
+    )
+}
+
+/// The skipped streams that are left; a contract sees their list.
+#[derive(Drop)]
+pub struct SkippedStreams<'a> {
+    by_mid: bool,
+    count: usize,
+    rest: &'a [u8],
+}
+
+impl<'a> Model for SkippedStreams<'a> {
+    ghost Value = { List SkippedStreamTree };
+
+    ghost view = { λ s. streams_at s.by_mid s.count s.rest.now };
+
+    ghost invariant = { λ s. (if s.by_mid then 8 else 4) * s.count ≤ length s.rest.now };
+}
+
+impl<'a> Iterator for SkippedStreams<'a> {
+    type Item = SkippedStream;
+
+    ghost next_gives = { YieldsFirstBy skipped_stream_view (λ left. left) };
+
+    ghost remaining = { item_count (λ left. left) };
+
+    fn next(&mut self) -> Option<SkippedStream> {
+        if self.count == 0 {
+            return None;
+        }
+        self.count -= 1;
+        if self.by_mid {
+            let stream = mid_stream(self.rest);
+            self.rest = &self.rest[MID_STREAM_SIZE..];
+            Some(stream)
+        } else {
+            let stream = ssn_stream(self.rest);
+            self.rest = &self.rest[SSN_STREAM_SIZE..];
+            Some(stream)
+        }
+    }
+}
