@@ -57,16 +57,10 @@ fn reply_to(
     let tag = packet.common_header.verification_tag;
     let (first, others) = packet.chunks.split_first()?;
     match first {
-        Chunk::Init(init) => {
-            if tag != 0 || !others.is_empty() {
-                return None;
-            }
+        Chunk::Init(init) if tag == 0 && others.is_empty() => {
             Some((init.initiate_tag, Chunk::InitAck(own)))
         }
-        Chunk::Data(data) => {
-            if tag != own.initiate_tag {
-                return None;
-            }
+        Chunk::Data(data) if tag == own.initiate_tag => {
             let sack = SackChunk {
                 cumulative_tsn_ack: data.tsn,
                 a_rwnd: own.a_rwnd,
