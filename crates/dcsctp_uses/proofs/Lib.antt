@@ -1,3 +1,4 @@
 pub mod Checks
 pub mod Sealing
 pub mod Chunks
+pub mod Replies

@@ -1,2 +1,3 @@
 pub mod Sealed
 pub mod Payload
+pub mod Reply

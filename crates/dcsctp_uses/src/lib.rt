@@ -3,6 +3,7 @@
 #![tactic(auto)]
 
 pub mod acknowledge;
+pub mod answer;
 pub mod blocks;
 pub mod checksum;
 pub mod filter;

@@ -2,6 +2,7 @@
 //! from RFC 9260.
 
 mod association;
+mod replies;
 
 use crate::acknowledge::acknowledgment_with_data;
 use crate::handshake::init_answer;

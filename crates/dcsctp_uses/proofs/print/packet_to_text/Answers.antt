@@ -1,4 +1,4 @@
-use Rattle.std.proofs.Common.{◌≡◌, ◌∙◌, Ok, ap}
+use Rattle.std.proofs.Common.{◌∙◌, Ok, ap}
 use Rattle.dcsctp_wire.specs.Caller.{packet_text}
 use Rattle.dcsctp_uses.proofs.Sealing.{default_is, verified}
 use Rattle.dcsctp_uses.proofs.print.packet_to_text.Goals as goal
