@@ -58,6 +58,7 @@ impl<'a> ForwardTsnRef<'a> {
     ///
     /// Of a chunk of a packet this is the chunk that `SctpPacket::from_bytes` gives, and nothing
     /// exactly where the chunk has another type.
+    #[inline(always)]
     pub fn from_raw(raw: &RawChunk<'a>) -> Option<ForwardTsnRef<'a>>
         ensures read { result ≡ read_forward raw.now.typ raw.now.value.now }
         ensures means { (tree : ChunkTree) → RawMeans raw.now tree → result ≡ forward_of tree }
@@ -71,6 +72,7 @@ impl<'a> ForwardTsnRef<'a> {
 
     /// What a FORWARD-TSN's value means.
     #[tactic(auto, unfolding(dcsctp_chunk::specs::ForwardTsn::read))]
+    #[inline(always)]
     fn of_forward(value: &'a [u8]) -> Option<ForwardTsnRef<'a>>
         ensures { result ≡ result_ok (forward_kind.read value.now) }
     {
@@ -90,6 +92,7 @@ impl<'a> ForwardTsnRef<'a> {
 
     /// What an I-FORWARD-TSN's value means.
     #[tactic(auto, unfolding(dcsctp_chunk::specs::IForwardTsn::read))]
+    #[inline(always)]
     fn of_iforward(value: &'a [u8]) -> Option<ForwardTsnRef<'a>>
         ensures { result ≡ result_ok (iforward_kind.read value.now) }
     {
@@ -108,6 +111,7 @@ impl<'a> ForwardTsnRef<'a> {
     }
 
     /// The TSN up to which all is to be taken as received.
+    #[inline(always)]
     pub fn new_cumulative_tsn(&self) -> Tsn
         ensures { result.0 ≡ self.now.tsn }
     {
@@ -115,6 +119,7 @@ impl<'a> ForwardTsnRef<'a> {
     }
 
     /// How many streams it skips messages of.
+    #[inline(always)]
     pub fn skipped_stream_count(&self) -> usize
         ensures { result ≡ length self.now.streams }
     {
@@ -122,6 +127,7 @@ impl<'a> ForwardTsnRef<'a> {
     }
 
     /// The skipped stream at this place, from 0 on.
+    #[inline(always)]
     pub fn skipped_stream(&self, index: usize) -> SkippedStream
         requires { index < length self.now.streams }
         ensures { slice_get self.now.streams index ≡ Some (skipped_stream_view result) }
@@ -134,6 +140,7 @@ impl<'a> ForwardTsnRef<'a> {
     }
 
     /// Its skipped streams, one after the other.
+    #[inline(always)]
     pub fn skipped_streams(&self) -> SkippedStreams<'a>
         ensures { result ≡ self.now.streams }
     {
@@ -147,6 +154,7 @@ impl<'a> ForwardTsnRef<'a> {
 
 /// The stream at the front, skipped by a sequence number: two bytes of stream id, and two of the
 /// number.
+#[inline(always)]
 fn ssn_stream(bytes: &[u8]) -> SkippedStream
     requires { 4 ≤ length bytes.now }
     ensures { skipped_stream_view result ≡ forward_kind.stream_at bytes.now }
@@ -156,6 +164,7 @@ fn ssn_stream(bytes: &[u8]) -> SkippedStream
 
 /// The stream at the front, skipped by a message id: two bytes of stream id, two whose lowest bit
 /// says unordered, and four of message id.
+#[inline(always)]
 fn mid_stream(bytes: &[u8]) -> SkippedStream
     requires { 8 ≤ length bytes.now }
     ensures { skipped_stream_view result ≡ iforward_kind.stream_at bytes.now }
@@ -191,6 +200,7 @@ impl<'a> Iterator for SkippedStreams<'a> {
 
     ghost remaining = { item_count (λ left. left) };
 
+    #[inline(always)]
     fn next(&mut self) -> Option<SkippedStream> {
         if self.count == 0 {
             return None;

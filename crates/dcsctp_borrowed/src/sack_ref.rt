@@ -57,6 +57,7 @@ impl<'a> SackRef<'a> {
     ///
     /// Of a chunk of a packet this is the SACK that `SctpPacket::from_bytes` gives, and nothing
     /// exactly where the chunk has another type.
+    #[inline(always)]
     pub fn from_raw(raw: &RawChunk<'a>) -> Option<SackRef<'a>>
         ensures read { result ≡ read_sack raw.now.typ raw.now.value.now }
         ensures means { (tree : ChunkTree) → RawMeans raw.now tree → result ≡ sack_of tree }
@@ -69,6 +70,7 @@ impl<'a> SackRef<'a> {
 
     /// What a SACK's value means.
     #[tactic(auto, unfolding(dcsctp_chunk::specs::Sack::read))]
+    #[inline(always)]
     fn of_value(value: &'a [u8]) -> Option<SackRef<'a>>
         ensures { result ≡ result_ok (read value.now) }
     {
@@ -90,6 +92,7 @@ impl<'a> SackRef<'a> {
     }
 
     /// The last TSN that was received in sequence.
+    #[inline(always)]
     pub fn cumulative_tsn_ack(&self) -> Tsn
         ensures { result.0 ≡ self.now.tsn }
     {
@@ -97,6 +100,7 @@ impl<'a> SackRef<'a> {
     }
 
     /// Bytes that the receiver has room for.
+    #[inline(always)]
     pub fn a_rwnd(&self) -> u32
         ensures { result ≡ self.now.a_rwnd }
     {
@@ -104,6 +108,7 @@ impl<'a> SackRef<'a> {
     }
 
     /// How many gap ack blocks it has.
+    #[inline(always)]
     pub fn gap_ack_block_count(&self) -> usize
         ensures { result ≡ length self.now.blocks }
     {
@@ -111,6 +116,7 @@ impl<'a> SackRef<'a> {
     }
 
     /// The gap ack block at this place, from 0 on.
+    #[inline(always)]
     pub fn gap_ack_block(&self, index: usize) -> GapAckBlock
         requires { index < length self.now.blocks }
         ensures { slice_get self.now.blocks index ≡ Some result }
@@ -119,6 +125,7 @@ impl<'a> SackRef<'a> {
     }
 
     /// How many duplicate TSNs it has.
+    #[inline(always)]
     pub fn duplicate_tsn_count(&self) -> usize
         ensures { result ≡ length self.now.duplicates }
     {
@@ -126,6 +133,7 @@ impl<'a> SackRef<'a> {
     }
 
     /// The duplicate TSN at this place, from 0 on.
+    #[inline(always)]
     pub fn duplicate_tsn(&self, index: usize) -> Tsn
         requires { index < length self.now.duplicates }
         ensures { slice_get self.now.duplicates index ≡ Some result.0 }
@@ -133,6 +141,7 @@ impl<'a> SackRef<'a> {
         Tsn(read_u32_be(&self.lists[4 * self.block_count + 4 * index..]))
     }
     /// Its gap ack blocks, one after the other.
+    #[inline(always)]
     pub fn gap_ack_blocks(&self) -> GapAckBlocks<'a>
         ensures { result ≡ self.now.blocks }
     {
@@ -143,6 +152,7 @@ impl<'a> SackRef<'a> {
     }
 
     /// Its duplicate TSNs, one after the other.
+    #[inline(always)]
     pub fn duplicate_tsns(&self) -> DuplicateTsns<'a>
         ensures { result ≡ self.now.duplicates }
     {
@@ -156,6 +166,7 @@ impl<'a> SackRef<'a> {
     /// the first, if any, starts at 2 or later: what `validate_sack` says of the `SackChunk`.
     ///
     /// Each TSN at a covered offset of 1 to 65,535 is greater than the cumulative TSN.
+    #[inline(always)]
     pub fn validate(&self) -> bool
         ensures valid { IsTrue result ↔ AreValid self.now.blocks }
         ensures greater { (o : ℕ) → Covers self.now.blocks o → 1 ≤ o → o ≤ 65535
@@ -196,6 +207,7 @@ impl<'a> Iterator for GapAckBlocks<'a> {
 
     ghost remaining = { item_count (λ left. left) };
 
+    #[inline(always)]
     fn next(&mut self) -> Option<GapAckBlock> {
         if self.count == 0 {
             return None;
@@ -229,6 +241,7 @@ impl<'a> Iterator for DuplicateTsns<'a> {
 
     ghost remaining = { item_count (λ left. left) };
 
+    #[inline(always)]
     fn next(&mut self) -> Option<Tsn> {
         if self.count == 0 {
             return None;
