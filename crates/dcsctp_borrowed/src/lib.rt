@@ -1,7 +1,8 @@
 //! SCTP packets in their own bytes: read without memory, and changed in place.
 //!
-//! A packet that was checked is a header and an iterator over its chunks, which can't fail; user data
-//! is read where it lies. What is read here is what `dcsctp_wire` builds, by the same clauses.
+//! A packet that was checked is a header and an iterator over its chunks, which can't fail; user
+//! data, a SACK and skipped streams are read where they lie. What is read here is what `dcsctp_wire`
+//! builds, by the same clauses.
 #![tactic(auto)]
 
 pub mod forward_tsn_ref;
