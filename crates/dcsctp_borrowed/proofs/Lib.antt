@@ -2,3 +2,4 @@ pub mod Fronts
 pub mod PacketRefs
 pub mod DataRows
 pub mod Changes
+pub mod ListPlaces

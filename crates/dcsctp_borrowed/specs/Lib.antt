@@ -1,3 +1,6 @@
 pub mod RawChunks
 pub mod UserData
 pub mod PacketRef
+pub mod Front
+pub mod RawParameters
+pub mod RawCauses

@@ -6,5 +6,7 @@
 
 pub mod in_place;
 pub mod packet_ref;
+pub mod raw_causes;
 pub mod raw_chunks;
+pub mod raw_parameters;
 pub mod user_data;
