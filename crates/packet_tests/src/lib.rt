@@ -36,6 +36,8 @@ mod lengths;
 #[cfg(test)]
 mod lists;
 #[cfg(test)]
+mod lists_in_place;
+#[cfg(test)]
 mod outcomes;
 #[cfg(test)]
 mod packets;
