@@ -23,7 +23,7 @@ use std::marker::Model;
 /// A contract sees the bytes of these causes. They are known to mean causes, so `next` tests
 /// nothing and has no error, and `ErrorCause::try_from` of what it returns fails only where an
 /// allocation fails.
-#[derive(Clone, Drop)]
+#[derive(Clone, Debug, Drop)]
 pub struct RawCauses<'a> {
     rest: &'a [u8],
 }

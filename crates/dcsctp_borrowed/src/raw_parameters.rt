@@ -27,7 +27,7 @@ const INIT_SIZE: usize = 16;
 /// A contract sees the bytes of these parameters. They are known to mean parameters, so `next`
 /// tests nothing and has no error, and `Parameter::try_from` of what it returns fails only where
 /// an allocation fails.
-#[derive(Clone, Drop)]
+#[derive(Clone, Debug, Drop)]
 pub struct RawParameters<'a> {
     rest: &'a [u8],
 }
