@@ -59,17 +59,17 @@ pub is_front : {T : Type 0} (level : Level T) (row : Row T) (bytes value left : 
 is_front {T} level row bytes value left same value_e left_e known some =
     let f = front level bytes known some in
     record { frame = f.frame; value_is = value_e; rest = left_e; size = rw (value_e, left_e) f.smaller; means = first } where
-  first : (all : List T) → MeansTrees level bytes all → MeansFirst level row value left all
-  first [] m = absurd (means_none level bytes known.1 some m)
-  first (t ∷ ts) m =
-      let here = front_means level bytes t ts known.1 some m in
-      record {
-        first = t;
-        others = ts;
-        split = refl;
-        means = subst (λ (v : List ℕ). row.means v t) (sym value_e) (same t here.0);
-        mean = subst (λ (l : List ℕ). MeansTrees level l ts) (sym left_e) here.1;
-      }
+      first : (all : List T) → MeansTrees level bytes all → MeansFirst level row value left all
+      first [] m = absurd (means_none level bytes known.1 some m)
+      first (t ∷ ts) m =
+          let here = front_means level bytes t ts known.1 some m in
+          record {
+            first = t;
+            others = ts;
+            split = refl;
+            means = subst (λ (v : List ℕ). row.means v t) (sym value_e) (same t here.0);
+            mean = subst (λ (l : List ℕ). MeansTrees level l ts) (sym left_e) here.1;
+          }
 
 pub at_end : {T : Type 0} (level : Level T) (bytes : List ℕ) → bytes ≡ [] → IsAtEnd level bytes bytes
 at_end level bytes none = record { none = none; stays = none; means = none_left level bytes none }

@@ -3,3 +3,4 @@ pub mod PacketRefs
 pub mod DataRows
 pub mod Changes
 pub mod ListPlaces
+pub mod CookieRows

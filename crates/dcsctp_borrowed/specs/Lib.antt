@@ -4,3 +4,4 @@ pub mod PacketRef
 pub mod Front
 pub mod RawParameters
 pub mod RawCauses
+pub mod CookieEcho

@@ -4,6 +4,7 @@
 //! is read where it lies. What is read here is what `dcsctp_wire` builds, by the same clauses.
 #![tactic(auto)]
 
+pub mod cookie_echo;
 pub mod in_place;
 pub mod packet_ref;
 pub mod raw_causes;
