@@ -1,4 +1,4 @@
-use Rattle.std.proofs.Common.{List, Option, Some, None, length, refl}
+use Rattle.std.proofs.Common.{None, length, refl}
 use Rattle.dcsctp_tlv.specs.Frame.{lenient}
 use Rattle.dcsctp_tlv.specs.Parameter.{parameters}
 use Rattle.dcsctp_borrowed.specs.RawParameters.{parameter_bytes, parameters_of}
