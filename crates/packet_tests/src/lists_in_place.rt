@@ -1,7 +1,8 @@
-//! The parameters and the error causes of a chunk, each read where it lies.
+//! The parameters and the error causes of a chunk, and its cookie, each read where it lies.
 
-use crate::captures::{ABORT, ERROR, RE_CONFIG, SACK};
+use crate::captures::{ABORT, COOKIE_ECHO, ERROR, RE_CONFIG, SACK};
 use crate::help::raw_of;
+use dcsctp_borrowed::cookie_echo::cookie;
 use dcsctp_borrowed::raw_causes::RawCauses;
 use dcsctp_borrowed::raw_parameters::RawParameters;
 use dcsctp_wire::packet::ChunkParseError;
@@ -130,6 +131,26 @@ fn of_chunks(rt: HostRuntime) -> Result<(), Fail> {
             has_lists(rt.alloc(), bytes, parameters, causes)?,
             "row {i}"
         );
+    }
+    Ok(())
+}
+
+/// The chunk at the front has this cookie.
+fn has_cookie(bytes: &[u8], wanted: Option<&[u8]>) -> Result<bool, ChunkParseError> {
+    Ok(cookie(&raw_of(bytes)?) == wanted)
+}
+
+#[test]
+fn of_cookies(rt: HostRuntime) -> Result<(), Fail> {
+    let rows: [(&[u8], Option<&[u8]>); 4] = [
+        (COOKIE_ECHO, Some(&COOKIE_ECHO[4..])),
+        // one byte, and three of padding; no byte; a COOKIE ACK
+        (&[10, 0xff, 0, 5, 7, 0, 0, 0], Some(&[7])),
+        (&[10, 0, 0, 4], None),
+        (&[11, 0, 0, 4], None),
+    ];
+    for (bytes, wanted) in rows {
+        assert!(rt; has_cookie(bytes, wanted)?, "{bytes:?}");
     }
     Ok(())
 }
