@@ -3,3 +3,7 @@
 
 #[cfg(test)]
 mod in_place;
+#[cfg(test)]
+mod lists_in_place;
+#[cfg(test)]
+mod sack_in_place;

@@ -3,3 +3,5 @@ pub mod PacketRefs
 pub mod DataRows
 pub mod FieldLists
 pub mod Changes
+pub mod ListPlaces
+pub mod CookieRows

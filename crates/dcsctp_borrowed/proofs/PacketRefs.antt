@@ -1,30 +1,18 @@
--- A packet that is read in its bytes: the chunk at the front of them, and what refers to the packet.
-use Rattle.std.proofs.Common.{◌≡◌, ◌≢◌, ℕ, List, [], ◌∷◌, Result, Ok, Err, get_or, refl, sym, ap, ◌∙◌}
+-- A packet that is read in its bytes: what refers to it.
+use Rattle.std.proofs.Common.{◌≡◌, ℕ, List, Result, Ok, Err, sym, ap, ◌∙◌}
 use Rattle.dcsctp_tlv.specs.Number.{AreBytes}
-use Rattle.dcsctp_tlv.specs.Frame.{lenient, frame_value, frame_rest}
+use Rattle.dcsctp_tlv.specs.Frame.{lenient}
 use Rattle.dcsctp_tlv.specs.Level.{MeansTrees}
 use Rattle.dcsctp_tlv.specs.Reading.{Answers, Exactly}
 use Rattle.dcsctp_tlv.proofs.Exact.{Single, exactly}
-use Rattle.dcsctp_chunk.specs.declared.raw_chunk.RawChunk.{RawChunk}
-use Rattle.dcsctp_wire.specs.Chunk.{ChunkTree, chunks}
+use Rattle.dcsctp_wire.specs.Chunk.{chunks}
 use Rattle.dcsctp_wire.specs.Packet.{PacketTree, Answer, body, packet_checking}
 use Rattle.dcsctp_borrowed.specs.PacketRef.{reference, Referred, RefersTo}
-use Rattle.dcsctp_borrowed.specs.RawChunks.{MeansFirst}
 use Rattle.dcsctp_borrowed.specs.declared.packet_ref.SctpPacketRef.{SctpPacketRef}
 use Rattle.dcsctp_wire.specs.declared.packet.sctp_packet.ChecksumPolicy.{ChecksumPolicy}
 use Rattle.dcsctp_wire.specs.declared.packet.sctp_packet.PacketParseError.{PacketParseError}
-use Rattle.dcsctp_borrowed.proofs.Fronts.{front_means, means_none}
 use Rattle.dcsctp_wire.proofs.Lenient.{lenient_packet}
 use Rattle.dcsctp_wire.proofs.PacketChecks.{packet_checking_distinct, packet_single}
-
--- ---- the chunk at the front
-
-pub first_means : (bytes : List ℕ) (raw : RawChunk) → raw.typ ≡ get_or bytes 0 0 → raw.flags ≡ get_or bytes 1 0 → raw.value.now ≡ frame_value bytes → AreBytes bytes → bytes ≢ []
-    → (all : List ChunkTree) → MeansTrees (chunks lenient) bytes all → MeansFirst raw (frame_rest bytes) all
-first_means bytes raw typ flags value fits some [] m = absurd (means_none (chunks lenient) bytes fits some m)
-first_means bytes raw typ flags value fits some (t ∷ ts) m =
-    let here = front_means (chunks lenient) bytes t ts fits some m in
-    record { first = t; others = ts; split = refl; means = rw (typ, flags, value) here.0; mean = here.1 }
 
 -- ---- what refers to a packet
 

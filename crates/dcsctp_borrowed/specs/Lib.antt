@@ -3,3 +3,7 @@ pub mod UserData
 pub mod Sack
 pub mod SkippedStreams
 pub mod PacketRef
+pub mod Front
+pub mod RawParameters
+pub mod RawCauses
+pub mod CookieEcho

@@ -17,7 +17,7 @@ use dcsctp_wire::packet::sctp_packet::{
 };
 
 /// A packet in its bytes (RFC 9260 section 3): its header, and its chunks where they lie.
-#[derive(Drop)]
+#[derive(Debug, Drop)]
 pub struct SctpPacketRef<'a> {
     /// The ports, the tag and the checksum field.
     pub common_header: CommonHeader,

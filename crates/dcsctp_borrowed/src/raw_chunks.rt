@@ -15,7 +15,7 @@ use std::marker::Model;
 /// A contract sees the bytes of these chunks. They are known to mean chunks, so `next` tests
 /// nothing and has no error, and `Chunk::try_from` of what it returns fails only where an
 /// allocation fails.
-#[derive(Drop)]
+#[derive(Clone, Debug, Drop)]
 pub struct RawChunks<'a> {
     rest: &'a [u8],
 }

@@ -8,7 +8,7 @@ use Rattle.dcsctp_wire.specs.Chunk.{ChunkTree, view, views}
 use Rattle.dcsctp_wire.specs.Packet.{PacketFault, Size, Checksum, Chunk as ChunkFault, packet_error_of}
 use Rattle.dcsctp_wire.specs.declared.packet.chunk.Chunk.{Chunk}
 use Rattle.dcsctp_wire.specs.declared.packet.sctp_packet.PacketParseError.TheVariants.{FailedParseChunk}
-use Rattle.dcsctp_borrowed.specs.RawChunks.{RawMeans, MeanChunks, MeansFirst}
+use Rattle.dcsctp_borrowed.specs.RawChunks.{RawMeans, MeanChunks, MeansFirstChunk}
 use Rattle.dcsctp_borrowed.specs.UserData.{data_of}
 use Rattle.dcsctp_uses.specs.Payload.{size_of, payload_sizes}
 
@@ -18,7 +18,7 @@ use Rattle.dcsctp_uses.specs.Payload.{size_of, payload_sizes}
 abbrev pub IsSized : ℕ → List ℕ → ℕ → Type 0
 IsSized size bytes sum = (left : List ChunkTree) × MeanChunks bytes left × (size + payload_sizes left ≡ sum)
 
-pub next_sized : (raw : RawChunk) (bytes left : List ℕ) (n m sum : ℕ) (o : Option Tree) → ((all : List ChunkTree) → MeanChunks bytes all → MeansFirst raw left all)
+pub next_sized : (raw : RawChunk) (bytes left : List ℕ) (n m sum : ℕ) (o : Option Tree) → ((all : List ChunkTree) → MeanChunks bytes all → MeansFirstChunk raw left all)
     → ((t : ChunkTree) → RawMeans raw t → o ≡ data_of t) → size_of o ≡ m → IsSized n bytes sum → IsSized (n + m) left sum
 next_sized raw bytes left n m sum o means reads size h =
     let f = means h.0 h.1 in
@@ -37,7 +37,7 @@ one_more : (built : List Chunk) (chunk : Chunk) (ts : List ChunkTree) → views 
 one_more [] chunk ts = refl
 one_more (c ∷ cs) chunk ts = ap (λ (x : List ChunkTree). view c ∷ x) (one_more cs chunk ts)
 
-pub next_built : (raw : RawChunk) (bytes left : List ℕ) (built : List Chunk) (chunk : Chunk) (all : List ChunkTree) → ((all : List ChunkTree) → MeanChunks bytes all → MeansFirst raw left all)
+pub next_built : (raw : RawChunk) (bytes left : List ℕ) (built : List Chunk) (chunk : Chunk) (all : List ChunkTree) → ((all : List ChunkTree) → MeanChunks bytes all → MeansFirstChunk raw left all)
     → ((t : ChunkTree) → RawMeans raw t → view chunk ≡ t) → IsBuilt built bytes all → IsBuilt (built ++ chunk ∷ []) left all
 next_built raw bytes left built chunk all means reads h =
     let f = means h.0 h.1 in

@@ -20,6 +20,4 @@ mod places;
 #[cfg(test)]
 mod replaced_texts;
 #[cfg(test)]
-mod sack_in_place;
-#[cfg(test)]
 mod sizes;

@@ -21,16 +21,16 @@ loop-raw-init c =
 
 pub loop-raw-preserved-in-Some-from_raw : goal.loop-raw-preserved-in-Some-from_raw
 loop-raw-preserved-in-Some-from_raw c = record {
-  small = omega (arith, c.loop-raw.invariant.small, c.in-Some.ensures.steps.size, c.in-Some-from_raw.ensures.size);
+  small = omega (arith, c.loop-raw.invariant.small, c.in-Some.ensures.steps.2.size, c.in-Some-from_raw.ensures.size);
   sized = λ p answer. next_sized c.in-Some.raw c.loop-raw.raw-iterator c.next.new.self c.loop-raw.size (length c.in-Some-from_raw.data.payload.now) (payload_sizes p.meaning.chunks)
-      (Some (user_data_view c.in-Some-from_raw.data)) c.in-Some.ensures.steps.means c.in-Some-from_raw.ensures.means refl (c.loop-raw.invariant.sized p answer);
+      (Some (user_data_view c.in-Some-from_raw.data)) c.in-Some.ensures.steps.2.means c.in-Some-from_raw.ensures.means refl (c.loop-raw.invariant.sized p answer);
 }
 
 pub loop-raw-preserved : goal.loop-raw-preserved
 loop-raw-preserved c = record {
-  small = omega (arith, c.loop-raw.invariant.small, c.in-Some.ensures.steps.size);
+  small = omega (arith, c.loop-raw.invariant.small, c.in-Some.ensures.steps.2.size);
   sized = λ p answer. (let next = next_sized c.in-Some.raw c.loop-raw.raw-iterator c.next.new.self c.loop-raw.size 0 (payload_sizes p.meaning.chunks)
-      None c.in-Some.ensures.steps.means c.in_default.ensures.means refl (c.loop-raw.invariant.sized p answer) in
+      None c.in-Some.ensures.steps.2.means c.in_default.ensures.means refl (c.loop-raw.invariant.sized p answer) in
       (next.0, next.1, omega (arith, next.2)));
 }
 

@@ -7,7 +7,7 @@ use Rattle.speed_probes.proofs.walk.speed_probes_walk.Goals as goal
 pub loop-raw-preserved : goal.loop-raw-preserved
 loop-raw-preserved c = λ p answer.
     let old = c.loop-raw.invariant p answer in
-    let f = c.in-Some.ensures.steps.means old.0 old.1 in
+    let f = c.in-Some.ensures.steps.2.means old.0 old.1 in
     let added : c.with_chunk-sum.result ≡ with_chunk c.loop-raw.sum f.first = c.with_chunk-sum.ensures f.first f.means in
     (f.others, f.mean, ap (λ n. with_chunks n f.others) added ∙ sym (ap (with_chunks c.loop-raw.sum) f.split) ∙ old.2)
 

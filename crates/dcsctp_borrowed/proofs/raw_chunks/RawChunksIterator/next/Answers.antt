@@ -2,15 +2,13 @@ use Rattle.std.proofs.Common.{refl, arith}
 use Rattle.dcsctp_tlv.specs.Frame.{lenient}
 use Rattle.dcsctp_tlv.proofs.Lists.{is_nil, is_cons}
 use Rattle.dcsctp_wire.specs.Chunk.{chunks}
-use Rattle.dcsctp_borrowed.proofs.Fronts.{front, none_left}
-use Rattle.dcsctp_borrowed.proofs.PacketRefs.{first_means}
+use Rattle.dcsctp_borrowed.proofs.Fronts.{front, is_front, at_end}
 use Rattle.dcsctp_borrowed.proofs.raw_chunks.RawChunksIterator.next.Goals as goal
 
 pub returns-then-is_empty-clause-steps : goal.returns-then-is_empty-clause-steps
 returns-then-is_empty-clause-steps c =
     let bytes = c.self.inside.rest.now in
-    let none = is_nil bytes c.is_empty.result c.is_empty.ensures c.if-is_empty.true in
-    rw (← c.self.view_is) record { none = none; stays = none; means = none_left (chunks lenient) bytes none }
+    rw (← c.self.view_is) (at_end (chunks lenient) bytes (is_nil bytes c.is_empty.result c.is_empty.ensures c.if-is_empty.true))
 
 pub frame_parts-requires : goal.frame_parts-requires
 frame_parts-requires c =
@@ -33,17 +31,7 @@ pub returns-clause-steps : goal.returns-clause-steps
 returns-clause-steps c =
     let bytes = c.self.inside.rest.now in
     let some = is_cons bytes c.is_empty.result c.is_empty.ensures c.if-is_empty.false in
-    let f = front (chunks lenient) bytes c.self.invariant some in
-    let value = c.frame_parts.ensures.value in
-    rw (← c.self.view_is) record {
-      frame = f.frame;
-      typ = refl;
-      flags = refl;
-      value = value;
-      rest = c.frame_parts.ensures.rest;
-      size = rw (value, c.frame_parts.ensures.rest) f.smaller;
-      means = rw c.frame_parts.ensures.rest (first_means bytes _ refl refl value c.self.invariant.1 some);
-    }
+    rw (← c.self.view_is) (refl, refl, is_front (chunks lenient) _ bytes _ _ (λ t m. m) c.frame_parts.ensures.value c.frame_parts.ensures.rest c.self.invariant some)
 
 pub returns-clause-goes : goal.returns-clause-goes
 returns-clause-goes c =

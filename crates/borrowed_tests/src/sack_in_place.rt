@@ -1,13 +1,12 @@
 //! SACK, FORWARD-TSN and I-FORWARD-TSN that are read in their bytes.
 
-use crate::captures::SACK;
-use crate::help::raw_of;
 use dcsctp_borrowed::forward_tsn_ref::ForwardTsnRef;
 use dcsctp_borrowed::sack_ref::SackRef;
-use dcsctp_wire::packet::ChunkParseError;
-use dcsctp_wire::packet::SkippedStream;
 use dcsctp_wire::packet::sack_chunk::GapAckBlock;
+use dcsctp_wire::packet::{ChunkParseError, SkippedStream};
 use dcsctp_wire::types::Tsn;
+use samples::captures::SACK;
+use samples::help::raw_of;
 use std::alloc::{AllocError, Global};
 use std::test::Fail;
 

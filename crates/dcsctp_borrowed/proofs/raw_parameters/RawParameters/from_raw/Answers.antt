@@ -1,0 +1,19 @@
+use Rattle.std.proofs.Common.{None, length, refl}
+use Rattle.dcsctp_tlv.specs.Frame.{lenient}
+use Rattle.dcsctp_tlv.specs.Parameter.{parameters}
+use Rattle.dcsctp_borrowed.specs.RawParameters.{parameter_bytes, parameters_of}
+use Rattle.dcsctp_borrowed.proofs.ListPlaces.{given, not_given, parameters_there}
+use Rattle.dcsctp_borrowed.proofs.raw_parameters.RawParameters.from_raw.Goals as goal
+
+pub returns-in-Err-clause-read : goal.returns-in-Err-clause-read
+returns-in-Err-clause-read c =
+    not_given (parameters lenient) (parameter_bytes c.args.raw.now.typ c.args.raw.now.value.now) c.in_ok-rest.rest.now c.in_ok-rest.ensures
+    (λ m. c.in-Err.ensures.answer.value (length m.0) (m.0, m.1, refl))
+
+pub returns-in-Err-clause-means : goal.returns-in-Err-clause-means
+returns-in-Err-clause-means c tree means =
+    let raw = c.args.raw.now in
+    let place = parameter_bytes raw.typ raw.value.now in
+    given (parameters lenient) place None (parameters_of tree)
+    (not_given (parameters lenient) place c.in_ok-rest.rest.now c.in_ok-rest.ensures (λ m. c.in-Err.ensures.answer.value (length m.0) (m.0, m.1, refl)))
+    (parameters_there raw.typ raw.flags raw.value.now tree means)

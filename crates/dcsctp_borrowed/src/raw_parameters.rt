@@ -1,0 +1,127 @@
+//! The parameters of a chunk in its bytes, one after the other.
+
+ghost use Rattle.std.specs.Prelude.{◌≡◌, ℕ, List, option_map};
+ghost use Rattle.dcsctp_tlv.specs.Frame.{lenient, BeginsWithFrame, frame_value, frame_rest};
+ghost use Rattle.dcsctp_tlv.specs.Level.{MeansSome};
+ghost use Rattle.dcsctp_tlv.specs.Number.{AreBytes, number16};
+ghost use Rattle.dcsctp_tlv.specs.Parameter.{parameters};
+ghost use Rattle.dcsctp_wire.specs.Chunk.{ChunkTree};
+ghost use Rattle.dcsctp_borrowed.specs.Front.{GivesList, MeansList};
+ghost use Rattle.dcsctp_borrowed.specs.RawChunks.{RawMeans};
+ghost use Rattle.dcsctp_borrowed.specs.RawParameters.{parameter_bytes, parameters_of};
+
+use dcsctp_tlv::frame::frame_parts;
+use dcsctp_tlv::number::read_u16_be;
+use dcsctp_tlv::parameter::{RawParameter, parameters_check};
+use dcsctp_wire::packet::chunk::RawChunk;
+use dcsctp_wire::packet::{
+    heartbeat_ack_chunk, heartbeat_request_chunk, init_ack_chunk, init_chunk, re_config_chunk,
+};
+use std::marker::Model;
+
+/// Bytes of the value of INIT and INIT ACK before the parameters.
+const INIT_SIZE: usize = 16;
+
+/// The parameters that are left of a chunk, each as its type and its value (RFC 9260 section 3.2.1).
+///
+/// A contract sees the bytes of these parameters. They are known to mean parameters, so `next`
+/// tests nothing and has no error, and `Parameter::try_from` of what it returns fails only where
+/// an allocation fails.
+#[derive(Clone, Debug, Drop)]
+pub struct RawParameters<'a> {
+    rest: &'a [u8],
+}
+
+impl<'a> Model for RawParameters<'a> {
+    ghost Value = { List ℕ };
+
+    ghost view = { λ p. p.rest.now };
+
+    ghost invariant = { λ p. MeansSome (parameters lenient) p.rest.now × AreBytes p.rest.now };
+}
+
+impl<'a> RawParameters<'a> {
+    /// The parameters of INIT, INIT ACK, HEARTBEAT, HEARTBEAT ACK and RE-CONFIG; nothing exactly
+    /// where the chunk has another type, or a value that its type doesn't allow. Does not allocate.
+    ///
+    /// Of a chunk of a packet these are the parameters that `SctpPacket::from_bytes` gives, and
+    /// nothing exactly where the chunk has another type.
+    // It checks the value, so that any chunk will do, and no caller has to prove that it was checked.
+    pub fn from_raw(raw: &RawChunk<'a>) -> Option<RawParameters<'a>>
+        ensures read { GivesList (parameters lenient)
+            (parameter_bytes raw.now.typ raw.now.value.now) result }
+        ensures means { (tree : ChunkTree) → RawMeans raw.now tree
+            → MeansList (parameters lenient) result (parameters_of tree) }
+    {
+        let rest = parameter_bytes(raw.typ, raw.value)?;
+        match parameters_check(rest, false) {
+            Ok(_) => Some(RawParameters::new(rest)),
+            Err(_) => None,
+        }
+    }
+
+    /// The parameters that these bytes mean.
+    fn new(rest: &'a [u8]) -> RawParameters<'a>
+        requires { MeansSome (parameters lenient) rest.now }
+        ensures { result ≡ rest.now }
+    {
+        RawParameters { rest }
+    }
+}
+
+/// Where a chunk of this type has its parameters.
+fn parameter_bytes(typ: u8, value: &[u8]) -> Option<&[u8]>
+    ensures { option_map (λ bytes. bytes.now) result ≡ parameter_bytes typ value.now }
+{
+    match typ {
+        init_chunk::CHUNK_TYPE | init_ack_chunk::CHUNK_TYPE => {
+            if value.len() < INIT_SIZE {
+                return None;
+            }
+            Some(&value[INIT_SIZE..])
+        }
+        heartbeat_request_chunk::CHUNK_TYPE
+        | heartbeat_ack_chunk::CHUNK_TYPE
+        | re_config_chunk::CHUNK_TYPE => Some(value),
+        _ => None,
+    }
+}
+
+/// The parameter or cause at the front of bytes that are known to begin with one, and the bytes after
+/// it and its padding.
+#[inline(always)]
+pub(crate) fn front_parts(bytes: &[u8]) -> (RawParameter, &[u8])
+    requires { BeginsWithFrame bytes.now }
+    ensures typ { result.0.typ ≡ number16 bytes.now }
+    ensures value { result.0.value.now ≡ frame_value bytes.now }
+    ensures rest { result.1.now ≡ frame_rest bytes.now }
+{
+    let (value, rest) = frame_parts(bytes);
+    let typ = read_u16_be(bytes);
+    (RawParameter { typ, value }, rest)
+}
+
+impl<'a> Iterator for RawParameters<'a> {
+    ghost use Rattle.std.specs.Iterator.{at_most};
+    ghost use Rattle.std.specs.Prelude.{length};
+    ghost use Rattle.dcsctp_tlv.specs.Parameter.{row};
+    ghost use Rattle.dcsctp_borrowed.specs.Front.{GivesNextTyped};
+
+    type Item = RawParameter<'a>;
+
+    ghost next_gives = { GivesNextTyped (parameters lenient) row };
+
+    ghost remaining = { λ bytes. at_most (length bytes) };
+
+    /// Returns the next parameter, whose value is a part of the bytes; nothing once all were returned.
+    #[inline(always)]
+    fn next(&mut self) -> Option<RawParameter<'a>> {
+        let bytes = self.rest;
+        if bytes.is_empty() {
+            return None;
+        }
+        let (raw, rest) = front_parts(bytes);
+        self.rest = rest;
+        Some(raw)
+    }
+}
