@@ -52,8 +52,13 @@ fn with_chunk(sum: u64, raw: &RawChunk) -> u64
 fn with_data(sum: u64, user_data: &UserData) -> u64
     ensures { result ≡ spec.with_data sum (user_data_view user_data.now) }
 {
-    let places = user_data.tsn.0 as u64 + user_data.stream_key.id().0 as u64 + user_data.ssn.0 as u64;
-    let numbers = places + user_data.mid.0 as u64 + user_data.fsn.0 as u64 + user_data.ppid.0 as u64;
+    let places = user_data.tsn.0 as u64
+        + user_data.stream_key.id().0 as u64
+        + user_data.ssn.0 as u64;
+    let numbers = places
+        + user_data.mid.0 as u64
+        + user_data.fsn.0 as u64
+        + user_data.ppid.0 as u64;
     let unordered = user_data.stream_key.is_unordered() as u64;
     let ends = user_data.is_beginning as u64 + user_data.is_end as u64;
     let all = numbers + unordered + ends + user_data.immediate_ack as u64;
