@@ -1,6 +1,7 @@
 #!/usr/bin/env bash
 # The README's test command, from the root of the repository: the pages of captures and of programs are compared with the files
-# that they show; then the gate runs, and beside it each request for memory is refused in turn. The last line is the gate's.
+# that they show; then the gate runs, and beside it each request for memory is refused in turn; then the library is tried from C.
+# The last line is the gate's.
 set -u
 cd "$(dirname "$0")"
 
@@ -115,5 +116,7 @@ wait "$refusals"
 refused=$?
 cat "$results/refusals"
 [ "$refused" -eq 0 ] || exit 1
+# `rt lib` begins with what the gate kept.
+[ "$gate" -ne 0 ] || c/test.sh || exit 1
 cat "$results/last"
 exit "$gate"
