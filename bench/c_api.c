@@ -112,7 +112,7 @@ static double rate(int which, double least)
         uint64_t sum = 0;
         for (size_t i = 0; i < count; i++)
             sum += calls[which].call(packets[i].bytes, packets[i].length);
-        sink = sum;
+        sink = sink + sum;
         done += count;
         took = seconds() - begin;
     } while (took < least);
