@@ -11,8 +11,8 @@ Proves and builds the C library, and puts it into the folder PREFIX:
   lib/libdcsctp.so             for dynamic linking; it needs libc and nothing else
   lib/pkgconfig/dcsctp.pc
 
-The first time proves everything below it, which takes minutes; after that it takes seconds. Needed are the toolchain
-and a C compiler with binutils; the variables CC, LD, OBJCOPY and AR name others than cc, ld, objcopy and ar.'
+The first time proves everything below it: some 12 minutes on four processors, and 4 GB of disk for what is kept. After
+that it takes seconds. Needed are the toolchain and a C compiler with binutils; the variables CC, LD, OBJCOPY and AR name others than cc, ld, objcopy and ar.'
 
 give_up() {
     echo "c/build.sh: $1" >&2
@@ -50,9 +50,10 @@ heap=$kit/c/liblibc_c.a
 [ -f "$archive" ] || give_up "rt lib made no $archive"
 [ -f "$heap" ] || give_up "the toolchain has no $heap"
 
-# One object, in which the library's functions alone are visible to a linker.
+# One object, in which the functions of the header alone are visible to a linker.
+grep -o 'dcsctp_[a-z_]*(' include/dcsctp.h | tr -d '(' | sort -u >"$work/functions"
 "$ld" -r -o "$work/dcsctp.o" --whole-archive "$archive" "$heap"
-"$objcopy" --wildcard --keep-global-symbol='dcsctp_*' "$work/dcsctp.o"
+"$objcopy" --keep-global-symbols="$work/functions" "$work/dcsctp.o"
 "$ar" rcsD "$work/libdcsctp.a" "$work/dcsctp.o"
 "$cc" -shared -o "$work/libdcsctp.so" "$work/dcsctp.o" -Wl,-soname,libdcsctp.so -Wl,-z,text -Wl,-z,noexecstack \
     -Wl,--no-undefined
@@ -68,7 +69,7 @@ includedir=\${prefix}/include
 
 Name: dcsctp
 Description: The wire layer of SCTP (RFC 9260), proved
-Version: 0.1
+Version: $(sed -n 's/^#define DCSCTP_VERSION "\(.*\)"$/\1/p' include/dcsctp.h)
 Cflags: -I\${includedir}
 Libs: -L\${libdir} -ldcsctp
 PC

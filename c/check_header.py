@@ -2,7 +2,8 @@
 """usage: c/check_header.py [--must-fail | --help]
 
 Compares include/dcsctp.h with the library that it declares, crates/dcsctp_c: the names of the functions, their arguments
-and results, the fields of the structs, and the values of the constants. Prints each difference, and fails if there is one.
+and results, the fields of the structs, and the values of the constants; and its version with CHANGELOG.md's newest one.
+Prints each difference, and fails if there is one.
 
   --must-fail  changes a copy of the header in one place after the other, and fails if a change isn't noticed
   --help       prints this
@@ -44,12 +45,15 @@ def listed(text, separator):
     return [part.strip() for part in text.split(separator) if part.strip()]
 
 
-# What is compared: functions as {name: (result, [(type, names)])}, structs as {name: [(type, field)]}, and constants as
-# {name: value}. A type is as C writes it; of the names of an argument each would do.
+# What is compared: functions as {name: (result, [(type, names)])}, structs as {name: [(type, field)]}, constants as
+# {name: value}, and the version. A type is as C writes it; of the names of an argument each would do.
 
 def header_side(text):
     """What the header declares."""
     text = re.sub(r'/\*.*?\*/', '', text, flags=re.S)
+    version = re.search(r'^#define DCSCTP_VERSION "(.*)"$', text, flags=re.M)
+    if not version:
+        raise Unreadable('no version')
     text = re.sub(r'^#ifdef __cplusplus\n.*?\n#endif$', '', text, flags=re.M | re.S)
     text = re.sub(r'^#.*$', '', text, flags=re.M)
     functions, structs, constants = {}, {}, {}
@@ -80,7 +84,7 @@ def header_side(text):
     text = re.sub(r'(\w+) (\w+)\(([^()]*)\);', function, text)
     if text.strip():
         raise Unreadable(text.strip().splitlines()[0])
-    return functions, structs, constants
+    return functions, structs, constants, version[1]
 
 
 def c_type(kind):
@@ -127,7 +131,11 @@ def library_side():
     for name, fields in re.findall(r'#\[repr\(C\)\]\s*(?:#\[[^\]]*\]\s*)*pub struct (\w+) \{(.*?)\}', text, flags=re.S):
         both = [listed(field.strip().removeprefix('pub '), ':') for field in listed(fields, ',')]
         structs[c_type(name)] = [(c_type(kind), RENAMED.get(field, field)) for field, kind in both]
-    return functions, structs, constants_of_library()
+    return functions, structs, constants_of_library(), newest_version()
+
+
+def newest_version():
+    return re.search(r'^## (\d+\.\d+\.\d+)', read('CHANGELOG.md'), flags=re.M)[1]
 
 
 def constants_of_library():
@@ -180,6 +188,8 @@ def differences(header, library):
     for name in sorted(set(header[2]) & set(library[2])):
         if header[2][name] != library[2][name]:
             yield f'DCSCTP_{name}: {header[2][name]} in the header, {library[2][name]} in the library'
+    if header[3] != library[3]:
+        yield f'DCSCTP_VERSION: {header[3]} in the header, {library[3]} in CHANGELOG.md'
 
 
 # What is changed, and into what; each has to be noticed.
@@ -203,6 +213,7 @@ CHANGES = [
     ('two codes are swapped', 'DCSCTP_LENGTH = 3', 'DCSCTP_LENGTH = 4'),
     ('a code of the writing is another', 'DCSCTP_NO_ROOM = 7', 'DCSCTP_NO_ROOM = 8'),
     ('a type of chunk is another', 'DCSCTP_I_FORWARD_TSN = 194', 'DCSCTP_I_FORWARD_TSN = 193'),
+    ('the version is another', 'DCSCTP_VERSION "0.', 'DCSCTP_VERSION "9.'),
     ('the first chunk lies elsewhere', 'DCSCTP_FIRST_CHUNK = 12', 'DCSCTP_FIRST_CHUNK = 16'),
 ]
 

@@ -17,7 +17,7 @@
 static const uint8_t *current;
 static size_t current_length;
 
-static void fail(const char *condition, int line)
+_Noreturn static void fail(const char *condition, int line)
 {
     fprintf(stderr, "c/fuzz.c:%d: fails: %s\nbytes: ", line, condition);
     for (size_t i = 0; i < current_length; i++)
@@ -463,12 +463,10 @@ static void try_walk(const uint8_t *bytes, size_t length)
 
 typedef uint32_t writer(const uint8_t *, size_t, uint32_t, const struct dcsctp_policy *, uint8_t *, size_t, size_t *);
 
+/* Whether all are the byte that outputs are filled with: the first is, and each other is as the one before it. */
 static bool is_filled(const uint8_t *bytes, size_t size)
 {
-    for (size_t i = 0; i < size; i++)
-        if (bytes[i] != 0xa5)
-            return false;
-    return true;
+    return size == 0 || (bytes[0] == 0xa5 && !memcmp(bytes, bytes + 1, size - 1));
 }
 
 /* Writes to outputs that are large enough, one byte too small, and empty. The block is empty unless the call succeeds. */

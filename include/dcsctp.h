@@ -3,7 +3,7 @@
    Every function is total and proved: whatever the bytes, the offsets and the sizes are, it returns, and reads and
    writes only the memory that it is given. docs/C.md has examples, and what is proved.
 
-   What the caller owes:
+   What the caller has to ensure:
    - No pointer is null, also where its length is 0, and each leads to as many bytes or items as its length says.
    - An output overlaps no input and no other output. `packet` of the writing functions is both, and is one buffer.
    - A bool is 0 or 1.
@@ -16,6 +16,8 @@
 #include <stdbool.h>
 #include <stddef.h>
 #include <stdint.h>
+
+#define DCSCTP_VERSION "0.1.0"
 
 #ifdef __cplusplus
 extern "C" {

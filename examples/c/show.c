@@ -9,7 +9,8 @@
 
 static const struct dcsctp_policy policy = {false, false, false};
 
-/* This side of the association, and the tag that the other side's INIT asked for. */
+/* This side of an association, and the tag of the other side, which its INIT asks for. A SACK goes under that tag
+   (RFC 9260 section 8.5), so this program takes it that there is one association, whose INIT comes before its DATA. */
 static const struct dcsctp_init own = {0x0da73798, 0x20000, 4, 4, 0x66e387ab};
 static const uint8_t cookie[] = {'a', 'b', 'c', 'd'};
 static uint32_t peer_tag;

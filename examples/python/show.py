@@ -27,7 +27,11 @@ def print_chunk(packet, chunk):
 
 
 class Server:
-    """Answers an INIT with INIT ACK, and DATA with a SACK."""
+    """Answers an INIT with INIT ACK, and DATA with a SACK.
+
+    The tag of the other side is the one that its INIT asks for. A SACK goes under that tag (RFC 9260 section 8.5), so it is
+    taken that there is one association, whose INIT comes before its DATA.
+    """
 
     def __init__(self, library):
         self.library, self.peer_tag = library, 0

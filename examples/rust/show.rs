@@ -44,8 +44,9 @@ fn print_chunk(packet: Packet, chunk: &Chunk) {
     }
 }
 
-/// The answer to a packet: INIT ACK to an INIT, a SACK to DATA. `peer_tag` is the tag that the other side's INIT asked
-/// for.
+/// The answer to a packet: INIT ACK to an INIT, a SACK to DATA. `peer_tag` is the tag of the other side, which its INIT
+/// asks for. A SACK goes under that tag (RFC 9260 section 8.5), so this program takes it that there is one association,
+/// whose INIT comes before its DATA.
 fn answer<'a>(packet: Packet, peer_tag: &mut u32, reply: &'a mut [u8]) -> Option<&'a [u8]> {
     let (header, chunk) = (packet.header()?, packet.chunks().next()?);
     let (source, destination) = (header.destination_port, header.source_port);
