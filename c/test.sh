@@ -144,8 +144,11 @@ show_in_python() {
     expected python3 examples/python/show.py "$prefix/lib/libdcsctp.so"
 }
 
-# The program of docs/C.md: the first packet is an INIT, whose answer is the first of examples/expected.txt.
+# The program of docs/C.md: it prints what the page says; the first packet is an INIT, whose answer is the first of
+# examples/expected.txt, and a SACK has none.
 answers_an_init() {
+    sed -n 's/^    \$ echo \(.*\) | \.\/answer$/\1/p' docs/C.md | "$work/answer" |
+        diff - <(sed -n '/^    \$ echo .* | \.\/answer$/{n;s/^    //p}' docs/C.md) || return 1
     grep -m 1 '^1388' examples/packets.txt | "$work/answer" | diff - <(sed -n 's/^  answer //p;T;q' examples/expected.txt) &&
         ! grep -m 1 '^138813884d2df52dc604d62e' examples/packets.txt | "$work/answer"
 }
