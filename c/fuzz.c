@@ -518,7 +518,7 @@ static void try_outputs(const uint8_t *bytes, size_t length, uint32_t word, enum
     struct block text = copy_of(&output_pages, block.bytes, block.size, ALLOCATED);
     release(block);
     if (code == DCSCTP_OK) {
-        REQUIRE(is_utf8(text.bytes, text.size) && !memcmp(text.bytes, "source=", 7) && text.bytes[text.size - 1] == '\n');
+        REQUIRE(is_utf8(text.bytes, text.size) && !memcmp(text.bytes, "source=", 7) && text.bytes[text.size - 1] != '\n');
         block = written(dcsctp_canonical, bytes, length, word, any, placing, &code);
         if (code == DCSCTP_OK) {
             struct block canonical = copy_of(&output_pages, block.bytes, block.size, ALLOCATED);

@@ -141,8 +141,9 @@ uint32_t dcsctp_first_fault(const uint8_t *bytes, size_t length, uint32_t word, 
 uint32_t dcsctp_canonical(const uint8_t *bytes, size_t length, uint32_t word, const struct dcsctp_policy *policy,
                           uint8_t *output, size_t room, size_t *size);
 
-/* Writes the packet's text, in UTF-8 without a zero at the end: a line for the header, and one for each chunk. The
-   codes and what they change are those of dcsctp_canonical; DCSCTP_TOO_LONG is never returned. */
+/* Writes the packet's text, in UTF-8: a line for the header, and one for each chunk. There is a line feed between lines,
+   and none at the end, nor a zero. The codes and what they change are those of dcsctp_canonical; DCSCTP_TOO_LONG is
+   never returned. */
 uint32_t dcsctp_print(const uint8_t *bytes, size_t length, uint32_t word, const struct dcsctp_policy *policy,
                       uint8_t *output, size_t room, size_t *size);
 

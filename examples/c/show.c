@@ -56,6 +56,7 @@ static void print_text(const uint8_t *bytes, size_t length, uint32_t word)
         return;
     if (dcsctp_print(bytes, length, word, &policy, text, size, &size) == DCSCTP_OK)
         fwrite(text, 1, size, stdout);
+    putchar('\n');
     free(text);
 }
 

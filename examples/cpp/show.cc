@@ -74,7 +74,7 @@ static void show(const Packet &packet)
     }
     for (auto chunk = packet.chunk_at(DCSCTP_FIRST_CHUNK); chunk; chunk = packet.chunk_at(chunk->next))
         print_chunk(packet, *chunk);
-    std::cout << packet.text().value_or("");
+    std::cout << packet.text().value_or("") << "\n";
     uint8_t reply[1200];
     Bytes written = answer(packet, reply);
     if (written.size() > 0)

@@ -72,7 +72,7 @@ def main():
             continue
         for chunk in packet.chunks():
             print_chunk(packet, chunk)
-        print(packet.text(), end='')
+        print(packet.text())
         if reply := server.answer(packet):
             print(f'  answer {reply.hex()}')
 

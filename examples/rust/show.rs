@@ -72,7 +72,7 @@ fn show(packet: Packet, peer_tag: &mut u32) {
     for chunk in packet.chunks() {
         print_chunk(packet, &chunk);
     }
-    print!("{}", packet.text().unwrap_or_default());
+    println!("{}", packet.text().unwrap_or_default());
     if let Some(reply) = answer(packet, peer_tag, &mut [0; 1200]) {
         println!("  answer {}", hex(reply));
     }
