@@ -282,8 +282,8 @@ static void rooms(void)
         CHECK(!add(which, needed - 1, &size) && size == 12 && stays(0));
         CHECK(!add(which, 12, &size) && !add(which, 11, &size) && !add(which, 0, &size) && size == 12 && stays(0));
         /* sizes that no call wrote */
-        const size_t wild[] = {ROOM + 1, SIZE_MAX - 3, SIZE_MAX};
-        for (size_t i = 0; i < 3; i++) {
+        const size_t wild[] = {0, 8, 11, 13, 14, 15, ROOM + 4, SIZE_MAX - 3, SIZE_MAX};
+        for (size_t i = 0; i < sizeof wild / sizeof *wild; i++) {
             size_t other = wild[i];
             CHECK(!add(which, sizeof output, &other) && other == wild[i] && stays(0));
         }
