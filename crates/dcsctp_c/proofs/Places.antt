@@ -145,8 +145,8 @@ idata_payload flags value tree h =
 
 payload_end : (typ flags : ℕ) (value : List ℕ) (tree : data_kind.Tree) → read_user_data typ flags value ≡ Some tree → IsEnd value tree.user_data.payload
 payload_end typ flags value tree h = by_type (typ == 0) (typ == 64) h where
-  by_type : (data idata : Bool) → (if data then result_ok (data_chunk.read flags value) else (if idata then result_ok (idata_chunk.read flags value) else None)) ≡ Some tree → IsEnd value tree.user_data.payload
-  by_type true idata e = data_payload flags value tree e
+  by_type : (first second : Bool) → (if first then result_ok (data_chunk.read flags value) else (if second then result_ok (idata_chunk.read flags value) else None)) ≡ Some tree → IsEnd value tree.user_data.payload
+  by_type true second e = data_payload flags value tree e
   by_type false true e = idata_payload flags value tree e
   by_type false false e = absurd (let no : None ≡ Some tree = e in cc)
 
