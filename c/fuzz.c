@@ -799,6 +799,48 @@ static uint8_t telling(void)
     return below(4) ? values[below(sizeof values)] : (uint8_t)draw();
 }
 
+/* Writes an item or a chunk: two bytes, its length, and a value that is zeros for the most part. Returns its size. */
+static size_t put_item(uint8_t *bytes, uint32_t type, size_t size)
+{
+    bytes[0] = (uint8_t)(type >> 8);
+    bytes[1] = (uint8_t)type;
+    bytes[2] = 0;
+    bytes[3] = (uint8_t)(4 + size);
+    for (size_t i = 0; i < size; i++)
+        bytes[4 + i] = below(8) ? 0 : telling();
+    return 4 + size;
+}
+
+/* Makes a packet of chunks that have a meaning, with parameters and error causes in them, whose sizes are right more
+   often than not. Returns its size. */
+static size_t compose(uint8_t *packet)
+{
+    static const uint8_t types[] = {0, 1, 2, 3, 4, 5, 6, 6, 6, 7, 8, 9, 9, 9, 10, 11, 14, 15, 64, 130, 130, 130, 192, 194, 255};
+    static const uint8_t sizes[] = {0, 0, 0, 1, 4, 4, 4, 8, 8, 11, 12, 12, 14, 16, 16, 18, 20};
+    static const uint16_t items[] = {1, 2, 2, 6, 7, 9, 10, 12, 13, 14, 15, 16, 17, 18, 99, 0x8001, 0x8008, 0xc000};
+    size_t length = 12;
+    for (size_t i = 0; i < length; i++)
+        packet[i] = (uint8_t)draw();
+    for (size_t chunks = 1 + below(4); chunks > 0; chunks--) {
+        uint8_t *chunk = packet + length, type = types[below(sizeof types)];
+        bool has_list = type == 1 || type == 2 || type == 4 || type == 5 || type == 6 || type == 9 || type == 130;
+        size_t size = put_item(chunk, (uint32_t)type << 8 | telling(), has_list ? (type <= 2) * 16 : sizes[below(sizeof sizes)]);
+        for (size_t count = has_list ? below(4) : 0; count > 0; count--) {
+            size_t value = sizes[below(sizeof sizes)], item = put_item(chunk + size, items[below(18)], value);
+            if (chunk[size + 1] == 2 && value >= 4) /* missing parameters, and how many */
+                memcpy(chunk + size + 4, (uint8_t[4]){0, 0, 0, (uint8_t)(value / 2 - 2)}, 4);
+            for (; item % 4 && count > 1; item++)
+                chunk[size + item] = below(20) ? 0 : 7;
+            size += item;
+        }
+        chunk[3] = (uint8_t)size;
+        for (; size % 4; size++)
+            chunk[size] = below(20) ? 0 : 7;
+        length += size;
+    }
+    return length - below(20) / 19;
+}
+
 /* Changes bytes at random; returns their new size. */
 static size_t changed(uint8_t *bytes, size_t length)
 {
@@ -864,12 +906,14 @@ int main(int count, char **words)
         if (i % 4 == 0 || !base_count) {
             length = try_building(placing);
             memcpy(mutant, built, length);
+        } else if (i % 4 == 1) {
+            length = compose(mutant);
         } else {
             struct block base = bases[below(base_count)];
             length = base.size;
             memcpy(mutant, base.bytes, length);
         }
-        if (below(8))
+        if (below(i % 4 == 1 ? 2 : 8))
             length = changed(mutant, length);
         try_bytes(mutant, length, placing);
         accepted += dcsctp_check(mutant, length, 0, any) == DCSCTP_OK;
