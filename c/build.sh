@@ -12,7 +12,7 @@ Proves and builds the C library, and puts it into the folder PREFIX:
   lib/pkgconfig/dcsctp.pc
 
 The first time proves everything below it: some 12 minutes on four processors, and 4 GB of disk for what is kept. After
-that it takes seconds. Needed are the toolchain and a C compiler with binutils; the variables CC, LD, OBJCOPY and AR name others than cc, ld, objcopy and ar.'
+that it takes half a minute. Needed are the toolchain and a C compiler with binutils; the variables CC, LD, OBJCOPY and AR name others than cc, ld, objcopy and ar.'
 
 give_up() {
     echo "c/build.sh: $1" >&2

@@ -188,7 +188,6 @@ fuzz() {
 
 try 'the library is built' c/build.sh "$prefix"
 [ "$failed" -eq 0 ] || finish
-try 'it is built again' c/build.sh "$prefix"
 try 'the header declares the library' c/check_header.py
 try 'a wrong header is noticed' c/check_header.py --must-fail
 try 'the header is C99' header_is_c99
