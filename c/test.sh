@@ -144,6 +144,11 @@ show_in_python() {
     expected python3 examples/python/show.py "$prefix/lib/libdcsctp.so"
 }
 
+page_has_the_codes() {
+    diff <(sed -n 's/^| `\(DCSCTP_[A-Z_]*\)` \([0-9]*\) |.*/\1 = \2/p' docs/C.md) \
+        <(sed -n 's/^    \(DCSCTP_[A-Z_]* = [0-9]*\),\{0,1\} *\/\*.*/\1/p' include/dcsctp.h)
+}
+
 # The program of docs/C.md: it prints what the page says; the first packet is an INIT, whose answer is the first of
 # examples/expected.txt, and a SACK has none.
 answers_an_init() {
@@ -196,6 +201,7 @@ try 'the archive has these functions alone' archive_has_the_functions_alone
 try 'the archive needs libc alone' archive_needs_libc_alone
 try 'the shared library has these functions alone' shared_library_has_the_functions_alone
 try 'the shared library needs libc alone' shared_library_needs_libc_alone
+try 'the codes of docs/C.md' page_has_the_codes
 try 'the program of docs/C.md' answer_by_hand
 if has pkg-config; then
     try 'the same by pkg-config' answer_by_pkg_config
