@@ -15,7 +15,7 @@ module _ (old : List ℕ) (n : ℕ) (room : 12 ≤ length old) where
   front = let l = length-take 8 old in omega (arith, l, room)
 
   seal_before : take 8 sealed ≡ take 8 old
-  seal_before = take_at (take 8 old) (to_be_bytes w32 n ++ drop 12 old) 8 (sym front)
+  seal_before = take_at (take 8 old) (to_be_bytes w32 n ++ drop 12 old) 8 front
 
   seal_after : drop 12 sealed ≡ drop 12 old
   seal_after =
@@ -24,7 +24,7 @@ module _ (old : List ℕ) (n : ℕ) (room : 12 ≤ length old) where
 
   seal_field : n < 2 ^ 32 → checksum_field sealed ≡ n
   seal_field fits =
-      ap (λ (bytes : List ℕ). from_be_bytes w32 (take 4 bytes)) (drop_at (take 8 old) (to_be_bytes w32 n ++ drop 12 old) 8 (sym front))
+      ap (λ (bytes : List ℕ). from_be_bytes w32 (take 4 bytes)) (drop_at (take 8 old) (to_be_bytes w32 n ++ drop 12 old) 8 front)
       ∙ from_be_bytes-to_be_bytes_4 n fits
 
 -- ---- what was written is the packet's own word, which doesn't look at the field
