@@ -11,8 +11,9 @@ Proves and builds the C library, and puts it into the folder PREFIX:
   lib/libdcsctp.so             for dynamic linking; it needs libc and nothing else
   lib/pkgconfig/dcsctp.pc
 
-The first time proves everything below it: some 12 minutes on four processors, and 4 GB of disk for what is kept. After
-that it takes half a minute. Needed are the toolchain and a C compiler with binutils; the variables CC, LD, OBJCOPY and AR name others than cc, ld, objcopy and ar.'
+The first run proves everything below it: that takes some 12 minutes on four processors, and 4 GB of disk for what is
+kept. Later runs take half a minute. Needed are the toolchain and a C compiler with binutils; the variables CC, LD, OBJCOPY
+and AR name others than cc, ld, objcopy and ar.'
 
 give_up() {
     echo "c/build.sh: $1" >&2
@@ -41,7 +42,7 @@ trap 'rm -rf "$work"' EXIT
 
 # The archive of the crate, and the toolchain's three functions that call malloc, realloc and free.
 (cd crates/dcsctp_c && rt lib) >"$work/log" 2>&1 || {
-    tail -n 20 "$work/log" >&2
+    { grep -E 'error|not proved|^rt:' "$work/log" || cat "$work/log"; } | tail -n 10 | cut -c1-300 >&2
     give_up 'crates/dcsctp_c was not built'
 }
 kit=$(dirname "$(rt doc)")
