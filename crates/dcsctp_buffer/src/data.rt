@@ -6,6 +6,7 @@ ghost use Rattle.dcsctp_chunk.specs.DataChunk.{fixed as fixed_bytes};
 ghost use Rattle.dcsctp_wire.specs.Chunk.{Data as DataTree};
 ghost use Rattle.dcsctp_buffer.specs.Data.{view};
 
+use crate::widths::bytes_in_width;
 use crate::writable_chunk::WritableChunk;
 use dcsctp_chunk::flags::four_flags;
 use dcsctp_tlv::frame::{MAX_VALUE_SIZE, TLV_HEADER_SIZE, put_fixed_and_rest};
@@ -44,7 +45,7 @@ impl BorrowedData<'_> {
         ensures bytes { result ≡ fixed_bytes (view self.now) }
         ensures width { IsInWidth (view self.now) }
     {
-        let _payload = self.payload;
+        bytes_in_width(self.payload);
         let mut bytes = [0; FIXED_SIZE];
         put_u32(&mut bytes, 0, self.tsn.0);
         put_u16(&mut bytes, 4, self.stream_key.id().0);

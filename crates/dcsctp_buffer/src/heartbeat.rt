@@ -3,6 +3,7 @@
 ghost use Rattle.dcsctp_buffer.specs.Heartbeat.{view};
 
 use crate::one_item::{one_item_size, put_one_item};
+use crate::widths::bytes_in_width;
 use crate::writable_chunk::WritableChunk;
 use dcsctp_wire::packet::heartbeat_info_parameter::PARAMETER_TYPE;
 use dcsctp_wire::packet::{heartbeat_ack_chunk, heartbeat_request_chunk};
@@ -25,12 +26,12 @@ impl WritableChunk for BorrowedHeartbeat<'_> {
     }
 
     fn write_to(&self, output: &mut [u8]) {
-        let info = self.info;
+        bytes_in_width(self.info);
         let typ = if self.is_ack {
             heartbeat_ack_chunk::CHUNK_TYPE
         } else {
             heartbeat_request_chunk::CHUNK_TYPE
         };
-        put_one_item(typ, 0, &[], PARAMETER_TYPE, info, output);
+        put_one_item(typ, 0, &[], PARAMETER_TYPE, self.info, output);
     }
 }

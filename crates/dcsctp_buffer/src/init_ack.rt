@@ -6,6 +6,7 @@ ghost use Rattle.dcsctp_wire.specs.InitFields.{leading, IsInWidth};
 ghost use Rattle.dcsctp_buffer.specs.InitAck.{view};
 
 use crate::one_item::{one_item_size, put_one_item};
+use crate::widths::bytes_in_width;
 use crate::writable_chunk::WritableChunk;
 use dcsctp_tlv::number::{put_u16, put_u32};
 use dcsctp_types::types::Tsn;
@@ -39,7 +40,7 @@ impl BorrowedInitAck<'_> {
         ensures bytes { result ≡ leading (view self.now) }
         ensures width { IsInWidth (view self.now) }
     {
-        let _cookie = self.cookie;
+        bytes_in_width(self.cookie);
         let mut bytes = [0; FIXED_SIZE];
         put_u32(&mut bytes, 0, self.initiate_tag);
         put_u32(&mut bytes, 4, self.a_rwnd);

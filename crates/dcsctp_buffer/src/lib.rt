@@ -14,6 +14,7 @@ pub mod heartbeat;
 pub mod init_ack;
 mod one_item;
 pub mod sack;
+mod widths;
 pub mod writable_chunk;
 
 ghost use Rattle.std.specs.Prelude.{◌≡◌, ◌↔◌, ◌≤◌, ◌+◌, [], true, false, Ok, length, take, drop, IsTrue};

@@ -8,6 +8,7 @@ ghost use Rattle.dcsctp_wire.specs.Chunk.{Sack as SackTree};
 ghost use Rattle.dcsctp_chunk.specs.declared.sack_chunk.GapAckBlock.{GapAckBlock};
 ghost use Rattle.dcsctp_buffer.specs.Sack.{view};
 
+use crate::widths::words_in_width;
 use crate::writable_chunk::WritableChunk;
 use dcsctp_tlv::fields::put_fields;
 use dcsctp_tlv::frame::{MAX_VALUE_SIZE, TLV_HEADER_SIZE, put_bytes, put_header};
@@ -64,6 +65,7 @@ impl<B: AsGapAckBlock> BorrowedSack<'_, B> {
         ensures a_rwnd { self.now.a_rwnd < 2 ^ 32 }
         ensures duplicates { AllByRecursion (λ tsn. tsn < 2 ^ 32) self.now.duplicate_tsns.now }
     {
+        words_in_width(self.duplicate_tsns);
         let mut bytes = [0; FIXED_SIZE];
         put_u32(&mut bytes, 0, self.cumulative_tsn_ack.0);
         put_u32(&mut bytes, 4, self.a_rwnd);
