@@ -1,9 +1,9 @@
 -- A packet at the front of a buffer, to which chunks are added (RFC 9260 section 3).
 use Rattle.std.specs.Prelude.{◌≡◌, ℕ, ◌+◌, ◌%◌, ◌≤◌, List, [], ◌∷◌, ◌++◌, length, take, drop}
 use Rattle.dcsctp_tlv.specs.Frame.{round_up_to_4}
-use Rattle.dcsctp_tlv.specs.Image.{Tlv, zeroed, size_of, image_of}
+use Rattle.dcsctp_tlv.specs.Image.{Tlv, zeroed, put, size_of, image_of}
 use Rattle.dcsctp_wire.specs.Chunk.{ChunkTree, tlv as chunk_tlv, IsChunkEncodable, all_kept}
-use Rattle.dcsctp_wire.specs.Canonical.{canonical, Fits}
+use Rattle.dcsctp_wire.specs.Canonical.{canonical, padded_chunk, Fits}
 use Rattle.dcsctp_wire.specs.Packet.{Meaning}
 use Rattle.dcsctp_wire.specs.WellFormed.{IsInWidth}
 
@@ -28,6 +28,15 @@ pub record HasRoom (room size : ℕ) (t : ChunkTree) : Type 0 where
 -- the packet with one more chunk, the last
 abbrev pub with_chunk : Meaning → ChunkTree → Meaning
 with_chunk m t = record m { chunks = m.chunks ++ t ∷ [] }
+
+-- The chunk was added after the first `start` bytes, with zeros up to a multiple of 4; all other
+-- bytes stay, and the packet ends after these. Whatever was held is held still, with the chunk after
+-- its own.
+pub record IsAdded (t : ChunkTree) (old : List ℕ) (start : ℕ) (new : List ℕ)
+    (end : ℕ) : Type 0 where
+  pub size : end ≡ start + round_up_to_4 (size_of (chunk_tlv t))
+  pub bytes : new ≡ put old start (padded_chunk t)
+  pub held : (m : Meaning) → HoldsPacket old start m → HoldsPacket new end (with_chunk m t)
 
 -- the packet without the fields that its kinds of chunk don't carry
 abbrev pub kept : Meaning → Meaning

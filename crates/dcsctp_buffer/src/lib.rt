@@ -27,7 +27,7 @@ ghost use Rattle.dcsctp_wire.specs.Chunk.{tlv as chunk_tlv, IsChunkEncodable, Is
 ghost use Rattle.dcsctp_wire.specs.Packet.{Meaning, Answer};
 ghost use Rattle.dcsctp_wire.specs.WellFormed.{IsWellFormed};
 ghost use Rattle.dcsctp_wire.specs.declared.packet.sctp_packet.ChecksumPolicy.{ChecksumPolicy};
-ghost use Rattle.dcsctp_buffer.specs.Buffer.{HoldsPacket, HasRoom, with_chunk, kept};
+ghost use Rattle.dcsctp_buffer.specs.Buffer.{HoldsPacket, HasRoom, IsAdded, kept};
 
 use crate::writable_chunk::WritableChunk;
 use dcsctp_crc32c::packet_word;
@@ -81,13 +81,8 @@ pub fn begin(
 /// chunk and after its padding stay.
 pub fn add<C: WritableChunk>(buffer: &mut [u8], size: &mut usize, chunk: &C) -> bool
     ensures room { IsTrue result ↔ HasRoom (length buffer.old) size.old (C.tree chunk.now) }
-    // Whatever packet was held is held still, with the chunk after its own.
-    ensures added { result ≡ true → (m : Meaning) → HoldsPacket buffer.old size.old m
-        → HoldsPacket buffer.new size.new (with_chunk m (C.tree chunk.now)) }
-    ensures bytes { result ≡ true
-        → buffer.new ≡ put buffer.old size.old (padded_chunk (C.tree chunk.now)) }
-    ensures size { result ≡ true
-        → size.new ≡ size.old + round_up_to_4 (size_of (chunk_tlv (C.tree chunk.now))) }
+    ensures added { result ≡ true
+        → IsAdded (C.tree chunk.now) buffer.old size.old buffer.new size.new }
     ensures declined { result ≡ false → (buffer.new ≡ buffer.old) × (size.new ≡ size.old) }
 {
     let Some(chunk_size) = chunk.written_size() else {

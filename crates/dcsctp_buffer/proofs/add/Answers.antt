@@ -8,7 +8,7 @@ use Rattle.dcsctp_buffer.proofs.Buffers.{adds}
 use Rattle.dcsctp_buffer.proofs.add.Goals as goal
 
 pub returns-clause-added : goal.returns-clause-added
-returns-clause-added g c added m held =
+returns-clause-added g c added =
     let t = g.C.WritableChunk.tree c.args.chunk.now in
     let size = c.args.size.now in
     let padded : c.round_up_to_4-padded_size.result ≡ round_up_to_4 (size_of (chunk_tlv t)) =
@@ -20,5 +20,10 @@ returns-clause-added g c added m held =
       within = omega (arith, padded, c.min-limit.ensures);
       whole = omega (arith, padded, c.min-limit.ensures);
     } in
-    adds c.args.buffer.now c.put_padded.new.output size (size + c.round_up_to_4-padded_size.result) m t room c.put_padded.ensures.width c.put_padded.ensures.bytes
-    (ap (λ (n : ℕ). size + n) padded) held
+    let end = ap (λ (n : ℕ). size + n) padded in
+    record {
+      size = end;
+      bytes = c.put_padded.ensures.bytes;
+      held = λ m held. adds c.args.buffer.now c.put_padded.new.output size (size + c.round_up_to_4-padded_size.result) m t room c.put_padded.ensures.width
+          c.put_padded.ensures.bytes end held;
+    }
