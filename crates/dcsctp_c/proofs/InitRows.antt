@@ -1,6 +1,6 @@
 -- The numbers that are read of INIT and INIT ACK are those of what the chunk's row of the table means.
 use Rattle.std.proofs.Common.{◌≡◌, ℕ, Bool, List, [], Option, Some, None, Result, Ok, Err, refl, sym, ap, subst, ◌∙◌}
-use Rattle.std.specs.Prelude.{option_map, nat_le, length, if◌then◌else◌, true}
+use Rattle.std.specs.Prelude.{option_map, nat_le, length, if◌then◌else◌, true, false}
 use Rattle.std.specs.Option.{option_and_then}
 use Rattle.std.proofs.lemmas.Bool.{ne_eqb}
 use Rattle.dcsctp_tlv.specs.Fault.{Fault}
@@ -11,7 +11,7 @@ use Rattle.dcsctp_tlv.proofs.Tables.{EachNamed, of_table, ◌&◌}
 use Rattle.dcsctp_chunk.specs as kind
 use Rattle.dcsctp_wire.specs.Chunk.{ChunkTree, Data, Init, InitAck, Sack, HeartbeatRequest, HeartbeatAck, Abort, Shutdown, ShutdownAck, Error, CookieEcho, CookieAck, ShutdownComplete, ReConfig, ForwardTsn, IData, IForwardTsn, Unknown, table, chunk_row}
 use Rattle.dcsctp_wire.specs.InitFields.{Tree, tree_of, row}
-use Rattle.dcsctp_c.specs.Part.{ReadsInto, ChunkMeans, read_init, init_of, init_at, HoldsInit}
+use Rattle.dcsctp_c.specs.Part.{Reads, ReadsInto, ChunkMeans, read_init, init_of, init_at, HoldsInit}
 use Rattle.dcsctp_c.specs.declared.structs.DcsctpChunk.{DcsctpChunk}
 use Rattle.dcsctp_c.specs.declared.structs.DcsctpInit.{DcsctpInit}
 
@@ -77,3 +77,8 @@ pub init_alike : (bytes : List ℕ) (c : DcsctpChunk) (tree : ChunkTree) (old ne
 init_alike bytes c tree old new done m h =
     let same : init_at bytes c ≡ option_map bare (init_of tree) = ap (option_and_then (read_init c.typ)) m.1 ∙ reads_alike c.typ c.flags m.0 tree m.2 in
     with_parameters (init_of tree) old new done (subst (λ (o : Option Tree). ReadsInto HoldsInit o old new done) same h)
+
+-- nothing was read
+pub nothing_read : {T S : Type 0} (Holds : T → S → Type 0) (o : Option T) (old : S) → Reads Holds o None → ReadsInto Holds o old old false
+nothing_read Holds (Some t) old h = absurd h
+nothing_read Holds None old h = (refl, refl)

@@ -145,8 +145,8 @@ idata_payload flags value tree h =
 
 payload_end : (typ flags : ℕ) (value : List ℕ) (tree : data_kind.Tree) → read_user_data typ flags value ≡ Some tree → IsEnd value tree.user_data.payload
 payload_end typ flags value tree h = by_type (typ == 0) (typ == 64) h where
-  by_type : (data idata : Bool) → (if data then result_ok (data_chunk.read flags value) else (if idata then result_ok (idata_chunk.read flags value) else None)) ≡ Some tree → IsEnd value tree.user_data.payload
-  by_type true idata e = data_payload flags value tree e
+  by_type : (first second : Bool) → (if first then result_ok (data_chunk.read flags value) else (if second then result_ok (idata_chunk.read flags value) else None)) ≡ Some tree → IsEnd value tree.user_data.payload
+  by_type true second e = data_payload flags value tree e
   by_type false true e = idata_payload flags value tree e
   by_type false false e = absurd (let no : None ≡ Some tree = e in cc)
 
@@ -162,10 +162,10 @@ end_part bytes offset size payload within e =
     let all : k + (size - k) ≡ size = omega (arith, from, whole, within, low) in
     let place : offset + (size - length payload) ≡ offset + k = omega (arith, left, all) in
     let to : part bytes (offset + k) (size - k) ≡ payload =
-        ap (take (size - k)) (sym (drop-drop k offset bytes))
-        ∙ sym (drop-take k (size - k) (drop offset bytes))
-        ∙ ap (λ (n : ℕ). drop k (take n (drop offset bytes))) all
-        ∙ sym e.2 in
+    ap (take (size - k)) (sym (drop-drop k offset bytes))
+    ∙ sym (drop-take k (size - k) (drop offset bytes))
+    ∙ ap (λ (n : ℕ). drop k (take n (drop offset bytes))) all
+    ∙ sym e.2 in
     (omega (arith, left), rw (place, left) to)
 
 pub data_there : (bytes : List ℕ) (c : DcsctpChunk) (value : List ℕ) (tree : data_kind.Tree) (d : DcsctpData) → Some value ≡ value_at bytes c → Some tree ≡ read_user_data c.typ c.flags value
@@ -178,17 +178,17 @@ data_there bytes c value tree d is read same offset size =
       size = size;
       ends = omega (arith, offset, size, value_size, ended.0);
     } where
-    there : (c.value_offset + c.value_size ≤ length bytes) × (part bytes c.value_offset c.value_size ≡ value)
-    there = value_there bytes c value (sym is)
+      there : (c.value_offset + c.value_size ≤ length bytes) × (part bytes c.value_offset c.value_size ≡ value)
+      there = value_there bytes c value (sym is)
 
-    data_is : data_at bytes c ≡ Some tree
-    data_is = ap (option_and_then (read_user_data c.typ c.flags)) (sym is) ∙ sym read
+      data_is : data_at bytes c ≡ Some tree
+      data_is = ap (option_and_then (read_user_data c.typ c.flags)) (sym is) ∙ sym read
 
-    value_size : length value ≡ c.value_size
-    value_size = sym (ap length there.1) ∙ (let from = length-drop c.value_offset bytes in let whole = length-take c.value_size (drop c.value_offset bytes) in omega (arith, from, whole, there.0))
+      value_size : length value ≡ c.value_size
+      value_size = sym (ap length there.1) ∙ (let from = length-drop c.value_offset bytes in let whole = length-take c.value_size (drop c.value_offset bytes) in omega (arith, from, whole, there.0))
 
-    ended : (length tree.user_data.payload ≤ c.value_size) × (part bytes (c.value_offset + (c.value_size - length tree.user_data.payload)) (length tree.user_data.payload) ≡ tree.user_data.payload)
-    ended = end_part bytes c.value_offset c.value_size tree.user_data.payload there.0 (subst (λ (v : List ℕ). IsEnd v tree.user_data.payload) (sym there.1) (payload_end c.typ c.flags value tree (sym read)))
+      ended : (length tree.user_data.payload ≤ c.value_size) × (part bytes (c.value_offset + (c.value_size - length tree.user_data.payload)) (length tree.user_data.payload) ≡ tree.user_data.payload)
+      ended = end_part bytes c.value_offset c.value_size tree.user_data.payload there.0 (subst (λ (v : List ℕ). IsEnd v tree.user_data.payload) (sym there.1) (payload_end c.typ c.flags value tree (sym read)))
 
-    payload_is : part bytes d.payload_offset d.payload_size ≡ tree.user_data.payload
-    payload_is = rw (offset, size, value_size) ended.1
+      payload_is : part bytes d.payload_offset d.payload_size ≡ tree.user_data.payload
+      payload_is = rw (offset, size, value_size) ended.1

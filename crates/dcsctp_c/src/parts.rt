@@ -76,11 +76,7 @@ pub extern "C" fn dcsctp_chunk_at(bytes: &[u8], offset: usize, chunk: &mut Dcsct
 /// Returns false, and `user_data` stays, exactly where the chunk has another type, its value is too
 /// short for its kind, or it does not lie within the bytes.
 #[unsafe(no_mangle)]
-pub extern "C" fn dcsctp_data(
-    bytes: &[u8],
-    chunk: &DcsctpChunk,
-    user_data: &mut DcsctpData,
-) -> bool
+pub extern "C" fn dcsctp_data(bytes: &[u8], chunk: &DcsctpChunk, user_data: &mut DcsctpData) -> bool
     ensures read { ReadsInto (HoldsData bytes.now chunk.now) (data_at bytes.now chunk.now)
         user_data.old user_data.new result }
     ensures means { (tree : ChunkTree) → ChunkMeans bytes.now chunk.now tree
