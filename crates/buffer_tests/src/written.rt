@@ -38,10 +38,12 @@ fn is_written<C: WritableChunk>(chunk: &C, wanted: &[u8]) -> bool {
 
 /// The tags of two sockets of usrsctp, from docs/CAPTURES.md.
 const SERVER: u32 = 0x0da7_3798;
+
 const CLIENT: u32 = 0x4d2d_f52d;
 
 /// What both sent in a HEARTBEAT and its answer, from docs/CAPTURES.md.
-const INFO: &[u8] = b"\x99\x5c\x05\x6b\xd8\x40\x05\0\0\0\0\0\0\0\0\0\x7b\x10\0\0\x35\xb1\x42\x8a\x22\x56\0\0\0\0\0\0\0\0\0\0";
+const INFO: &[u8] =
+    b"\x99\x5c\x05\x6b\xd8\x40\x05\0\0\0\0\0\0\0\0\0\x7b\x10\0\0\x35\xb1\x42\x8a\x22\x56\0\0\0\0\0\0\0\0\0\0";
 
 /// DATA as usrsctp sends a whole message: stream 1, payload protocol 51.
 fn message(tsn: u32, is_unordered: bool, payload: &[u8]) -> BorrowedData {
@@ -62,36 +64,86 @@ fn message(tsn: u32, is_unordered: bool, payload: &[u8]) -> BorrowedData {
 fn captured(rt: HostRuntime) -> Result<(), Fail> {
     // "hello", with three bytes of padding
     let hello = message(0x7906_b4b0, false, b"hello");
-    assert!(rt; is_packet(SERVER, &hello, b"\x13\x88\x13\x88\x0d\xa7\x37\x98\x11\x48\xa1\xf6\0\x03\0\x15\x79\x06\xb4\xb0\0\x01\0\0\0\0\0\x33hello\0\0\0"));
+    assert!(rt;
+        is_packet(
+            SERVER,
+            &hello,
+            b"\x13\x88\x13\x88\x0d\xa7\x37\x98\x11\x48\xa1\xf6\0\x03\0\x15\x79\x06\xb4\xb0\0\x01\0\0\0\0\0\x33hello\0\0\0"
+        )
+    );
     // out of order, without padding
     let to_you = message(0x66e3_87ab, true, b"hello to you");
-    assert!(rt; is_packet(CLIENT, &to_you, b"\x13\x88\x13\x88\x4d\x2d\xf5\x2d\xa3\xd0\x56\xd9\0\x07\0\x1c\x66\xe3\x87\xab\0\x01\0\0\0\0\0\x33hello to you"));
-    assert!(rt; is_packet(CLIENT, &CookieAckChunk, b"\x13\x88\x13\x88\x4d\x2d\xf5\x2d\x67\xdb\x78\xb5\x0b\0\0\x04"));
-    let request = BorrowedHeartbeat { is_ack: false, info: INFO };
-    assert!(rt; is_packet(SERVER, &request, b"\x13\x88\x13\x88\x0d\xa7\x37\x98\xf2\xa3\x85\x19\x04\0\0\x2c\0\x01\0\x28\x99\x5c\x05\x6b\xd8\x40\x05\0\0\0\0\0\0\0\0\0\x7b\x10\0\0\x35\xb1\x42\x8a\x22\x56\0\0\0\0\0\0\0\0\0\0"));
-    let ack = BorrowedHeartbeat { is_ack: true, info: INFO };
-    assert!(rt; is_packet(CLIENT, &ack, b"\x13\x88\x13\x88\x4d\x2d\xf5\x2d\x30\xb3\x2a\xb7\x05\0\0\x2c\0\x01\0\x28\x99\x5c\x05\x6b\xd8\x40\x05\0\0\0\0\0\0\0\0\0\x7b\x10\0\0\x35\xb1\x42\x8a\x22\x56\0\0\0\0\0\0\0\0\0\0"));
+    assert!(rt;
+        is_packet(
+            CLIENT,
+            &to_you,
+            b"\x13\x88\x13\x88\x4d\x2d\xf5\x2d\xa3\xd0\x56\xd9\0\x07\0\x1c\x66\xe3\x87\xab\0\x01\0\0\0\0\0\x33hello to you"
+        )
+    );
+    assert!(rt;
+        is_packet(
+            CLIENT,
+            &CookieAckChunk,
+            b"\x13\x88\x13\x88\x4d\x2d\xf5\x2d\x67\xdb\x78\xb5\x0b\0\0\x04"
+        )
+    );
+    let request = BorrowedHeartbeat {
+        is_ack: false,
+        info: INFO,
+    };
+    assert!(rt;
+        is_packet(
+            SERVER,
+            &request,
+            b"\x13\x88\x13\x88\x0d\xa7\x37\x98\xf2\xa3\x85\x19\x04\0\0\x2c\0\x01\0\x28\x99\x5c\x05\x6b\xd8\x40\x05\0\0\0\0\0\0\0\0\0\x7b\x10\0\0\x35\xb1\x42\x8a\x22\x56\0\0\0\0\0\0\0\0\0\0"
+        )
+    );
+    let ack = BorrowedHeartbeat {
+        is_ack: true,
+        info: INFO,
+    };
+    assert!(rt;
+        is_packet(
+            CLIENT,
+            &ack,
+            b"\x13\x88\x13\x88\x4d\x2d\xf5\x2d\x30\xb3\x2a\xb7\x05\0\0\x2c\0\x01\0\x28\x99\x5c\x05\x6b\xd8\x40\x05\0\0\0\0\0\0\0\0\0\x7b\x10\0\0\x35\xb1\x42\x8a\x22\x56\0\0\0\0\0\0\0\0\0\0"
+        )
+    );
     let sack: BorrowedSack<GapAckBlock> = BorrowedSack {
         cumulative_tsn_ack: Tsn(0x7906_b4b0),
         a_rwnd: 0x0002_0000,
         gap_ack_blocks: &[],
         duplicate_tsns: &[],
     };
-    assert!(rt; is_packet(CLIENT, &sack, b"\x13\x88\x13\x88\x4d\x2d\xf5\x2d\xc6\x04\xd6\x2e\x03\0\0\x10\x79\x06\xb4\xb0\0\x02\0\0\0\0\0\0"));
+    assert!(rt;
+        is_packet(
+            CLIENT,
+            &sack,
+            b"\x13\x88\x13\x88\x4d\x2d\xf5\x2d\xc6\x04\xd6\x2e\x03\0\0\x10\x79\x06\xb4\xb0\0\x02\0\0\0\0\0\0"
+        )
+    );
     Ok(())
 }
 
 /// The captured SACK of docs/CAPTURES.md: blocks at 2 to 6 and at 8, and one TSN that came twice.
 #[test]
 fn lists(rt: HostRuntime) -> Result<(), Fail> {
-    let blocks = [GapAckBlock { start: 2, end: 6 }, GapAckBlock { start: 8, end: 8 }];
+    let blocks = [
+        GapAckBlock { start: 2, end: 6 },
+        GapAckBlock { start: 8, end: 8 },
+    ];
     let sack = BorrowedSack {
         cumulative_tsn_ack: Tsn(0x369d_d00b),
         a_rwnd: 0x0001_ed73,
         gap_ack_blocks: &blocks,
         duplicate_tsns: &[0x369d_d011],
     };
-    assert!(rt; is_written(&sack, b"\x03\0\0\x1c\x36\x9d\xd0\x0b\0\x01\xed\x73\0\x02\0\x01\0\x02\0\x06\0\x08\0\x08\x36\x9d\xd0\x11"));
+    assert!(rt;
+        is_written(
+            &sack,
+            b"\x03\0\0\x1c\x36\x9d\xd0\x0b\0\x01\xed\x73\0\x02\0\x01\0\x02\0\x06\0\x08\0\x08\x36\x9d\xd0\x11"
+        )
+    );
     Ok(())
 }
 
@@ -107,11 +159,22 @@ fn by_hand(rt: HostRuntime) -> Result<(), Fail> {
         initial_tsn: Tsn(0x6396_8ec7),
         cookie: b"spice",
     };
-    assert!(rt; is_written(&init_ack, b"\x02\0\0\x1d\x57\x9c\x2f\x98\0\x02\0\0\x03\xe8\x08\0\x63\x96\x8e\xc7\0\x07\0\x09spice\0\0\0"));
+    assert!(rt;
+        is_written(
+            &init_ack,
+            b"\x02\0\0\x1d\x57\x9c\x2f\x98\0\x02\0\0\x03\xe8\x08\0\x63\x96\x8e\xc7\0\x07\0\x09spice\0\0\0"
+        )
+    );
     // code 12, flag T, and one byte of padding
-    let abort = BorrowedAbort { tag_reflected: true, reason: "bye" };
+    let abort = BorrowedAbort {
+        tag_reflected: true,
+        reason: "bye",
+    };
     assert!(rt; is_written(&abort, b"\x06\x01\0\x0b\0\x0c\0\x07bye\0"));
-    let without_reason = BorrowedAbort { tag_reflected: false, reason: "" };
+    let without_reason = BorrowedAbort {
+        tag_reflected: false,
+        reason: "",
+    };
     assert!(rt; is_written(&without_reason, b"\x06\0\0\x08\0\x0c\0\x04"));
     // the last fragment of a message, to be acknowledged at once: bits I and E
     let last = BorrowedData {
@@ -126,7 +189,9 @@ fn by_hand(rt: HostRuntime) -> Result<(), Fail> {
     };
     assert!(rt; is_written(&last, b"\0\x09\0\x10\0\0\0\x01\0\x02\0\x03\0\0\0\x04"));
     // a chunk that is owned
-    let shutdown = Chunk::Shutdown(ShutdownChunk { cumulative_tsn_ack: Tsn(0x0611_d1bd) });
+    let shutdown = Chunk::Shutdown(ShutdownChunk {
+        cumulative_tsn_ack: Tsn(0x0611_d1bd),
+    });
     assert!(rt; is_written(&shutdown, b"\x07\0\0\x08\x06\x11\xd1\xbd"));
     Ok(())
 }
@@ -139,6 +204,11 @@ fn bundled(rt: HostRuntime) -> Result<(), Fail> {
     assert!(rt; begin(&mut buffer, &mut size, 1, 2, 3));
     assert!(rt; add(&mut buffer, &mut size, &CookieAckChunk));
     assert!(rt; add(&mut buffer, &mut size, &message(1, false, b"x")));
-    assert!(rt; buffer.get(..size) == Some(b"\0\x01\0\x02\0\0\0\x03\0\0\0\0\x0b\0\0\x04\0\x03\0\x11\0\0\0\x01\0\x01\0\0\0\0\0\x33x\0\0\0".as_slice()));
+    assert!(rt;
+        buffer.get(..size)
+            == Some(
+                b"\0\x01\0\x02\0\0\0\x03\0\0\0\0\x0b\0\0\x04\0\x03\0\x11\0\0\0\x01\0\x01\0\0\0\0\0\x33x\0\0\0".as_slice()
+            )
+    );
     Ok(())
 }

@@ -71,9 +71,9 @@ one_item_written first second typ n place leading value old headed led front res
     ∙ written_value first second n all old headed (omega (arith, size, all_len)) (omega (arith, room, all_len)) h
     ∙ ap (λ (i : List _). written i old) (same_image first second all t.value t.value_size all_len value_is)
     ∙ solid_item t all old value_is all_len (omega (arith, room)) where
-  same_image : (first second : ℕ) (bytes : List ℕ) (value : List _) (size : ℕ) → length bytes ≡ size → value ≡ solid bytes
-      → image_of (solid_tlv first second bytes) ≡ image_of (record { first = first; second = second; value = value; value_size = size })
-  same_image first second bytes value size e is = λ k. image_of (record { first = first; second = second; value = sym is k; value_size = e k })
+      same_image : (first second : ℕ) (bytes : List ℕ) (value : List _) (size : ℕ) → length bytes ≡ size → value ≡ solid bytes
+          → image_of (solid_tlv first second bytes) ≡ image_of (record { first = first; second = second; value = value; value_size = size })
+      same_image first second bytes value size e is = λ k. image_of (record { first = first; second = second; value = sym is k; value_size = e k })
 
 -- an item written over zeros
 pub zeroed_item : (t : Tlv) (size : ℕ) (old front filled out rest : List ℕ) → size ≡ size_of t → length (image_of t) ≡ size_of t

@@ -59,6 +59,13 @@ impl WritableChunk for BorrowedInitAck<'_> {
     }
 
     fn write_to(&self, output: &mut [u8]) {
-        put_one_item(CHUNK_TYPE, 0, &self.fixed(), PARAMETER_TYPE, self.cookie, output);
+        put_one_item(
+            CHUNK_TYPE,
+            0,
+            &self.fixed(),
+            PARAMETER_TYPE,
+            self.cookie,
+            output,
+        );
     }
 }

@@ -67,7 +67,11 @@ pub fn begin(
     if buffer.len() < COMMON_HEADER_SIZE {
         return false;
     }
-    put_bytes(buffer, 0, &header(source_port, destination_port, verification_tag));
+    put_bytes(
+        buffer,
+        0,
+        &header(source_port, destination_port, verification_tag),
+    );
     *size = COMMON_HEADER_SIZE;
     true
 }

@@ -36,7 +36,12 @@ pub(crate) fn put_one_item(
         (listed_tlv first second leading.now (typed_tlv typ) (item_value.now ∷ [])) output.old }
 {
     let place = TLV_HEADER_SIZE + leading.len();
-    put_header(first, second, leading.len() + TLV_HEADER_SIZE + item_value.len(), output);
+    put_header(
+        first,
+        second,
+        leading.len() + TLV_HEADER_SIZE + item_value.len(),
+        output,
+    );
     put_bytes(output, TLV_HEADER_SIZE, leading);
     let (_, rest) = output.split_at_mut(place);
     put_parameter(typ, item_value, rest);

@@ -57,7 +57,13 @@ pub extern "C" fn dcsctp_begin(
     ensures after { drop 12 packet.new ≡ drop 12 packet.old }
     ensures declined { result ≡ false → (packet.new ≡ packet.old) × (size.new ≡ size.old) }
 {
-    begin(packet, size, source_port, destination_port, verification_tag)
+    begin(
+        packet,
+        size,
+        source_port,
+        destination_port,
+        verification_tag,
+    )
 }
 
 /// Adds DATA (RFC 9260 section 3.3.1) with this payload; the MID, the FSN, and the payload's offset
@@ -161,10 +167,14 @@ pub extern "C" fn dcsctp_add_abort(
     ensures declined { result ≡ false → (packet.new ≡ packet.old) × (size.new ≡ size.old) }
 {
     match str::from_utf8(reason) {
-        Ok(reason) => add(packet, size, &BorrowedAbort {
-            tag_reflected,
-            reason,
-        }),
+        Ok(reason) => add(
+            packet,
+            size,
+            &BorrowedAbort {
+                tag_reflected,
+                reason,
+            },
+        ),
         Err(_) => false,
     }
 }
