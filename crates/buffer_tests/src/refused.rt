@@ -47,7 +47,7 @@ fn rows(rt: HostRuntime) -> Result<(), Fail> {
     Ok(())
 }
 
-/// Whether DATA with as many bytes of payload is added to a packet in a buffer that has room for all.
+/// Whether DATA with this payload is added to a packet in a buffer that has room for all.
 fn adds_data(payload: &[u8]) -> bool {
     let mut buffer = [0; 65600];
     let mut size = 0;

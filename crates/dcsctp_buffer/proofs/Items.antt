@@ -13,7 +13,8 @@ zeroed-solid [] = refl
 zeroed-solid (b ∷ bytes) = ap (λ (xs : List ℕ). b ∷ xs) (zeroed-solid bytes)
 
 -- an item whose value is these bytes, of the size that is counted
-pub solid_item : (t : Tlv) (bytes old : List ℕ) → t.value ≡ solid bytes → length bytes ≡ t.value_size
+pub solid_item : (t : Tlv) (bytes old : List ℕ) → t.value ≡ solid bytes
+    → length bytes ≡ t.value_size
     → size_of t ≤ length old → written (image_of t) old ≡ with_item t old
 unfolding image_of
 solid_item t bytes old is size room =
@@ -31,7 +32,8 @@ solid_item t bytes old is size room =
 item_bytes : ℕ → List ℕ → List ℕ
 item_bytes typ value = typed_header typ (length value) ++ value
 
-item_image : (typ : ℕ) (value : List ℕ) → image_of (typed_tlv typ value) ≡ solid (item_bytes typ value)
+item_image : (typ : ℕ) (value : List ℕ) → image_of (typed_tlv typ value) ≡ solid
+    (item_bytes typ value)
 unfolding image_of item_bytes
 item_image typ value = sym (map-append Some (typed_header typ (length value)) value)
 
@@ -40,15 +42,18 @@ unfolding item_bytes
 length-item_bytes typ value = omega arith
 
 -- header, leading bytes and one item, each written after what was written
-pub one_item_written : (first second typ n place : ℕ) (leading value old headed led front rest out : List ℕ)
+pub one_item_written : (first second typ n place : ℕ)
+    (leading value old headed led front rest out : List ℕ)
     → n ≡ length leading + 4 + length value → place ≡ 4 + length leading
-    → 4 + (length leading + (4 + length value)) ≤ length old → length headed ≡ length old → length led ≡ length old
+    → 4 + (length leading + (4 + length value)) ≤ length old → length headed ≡ length old
+    → length led ≡ length old
     → headed ≡ header first second n ++ drop 4 old
     → led ≡ put headed 4 leading
     → front ≡ take place led → rest ≡ drop place led
     → out ≡ written (image_of (typed_tlv typ value)) rest
     → front ++ out ≡ with_item (listed_tlv first second leading (typed_tlv typ) (value ∷ [])) old
-one_item_written first second typ n place leading value old headed led front rest out size at room headed_len led_len h p before after q =
+one_item_written first second typ n place leading value old headed led front rest out size at room
+    headed_len led_len h p before after q =
     let item = item_bytes typ value in
     let len = length-item_bytes typ value in
     let all : List ℕ = leading ++ item in
@@ -61,27 +66,38 @@ one_item_written first second typ n place leading value old headed led front res
     let is_put : front ++ out ≡ put led place item =
     ap (λ (xs : List ℕ). xs ++ out) before
     ∙ ap (λ (xs : List ℕ). take place led ++ xs) is_out
-    ∙ ap (λ (xs : List ℕ). take place led ++ (item ++ xs)) (ap (drop (length item)) after ∙ drop-drop (length item) place led) in
+    ∙ ap (λ (xs : List ℕ). take place led ++ (item ++ xs))
+    (ap (drop (length item)) after ∙ drop-drop (length item) place led) in
     let t = listed_tlv first second leading (typed_tlv typ) (value ∷ []) in
     let value_is : t.value ≡ solid all =
-    ap (λ (i : List _). solid leading ++ i) (item_image typ value) ∙ sym (map-append Some leading item) in
+    ap (λ (i : List _). solid leading ++ i) (item_image typ value)
+    ∙ sym (map-append Some leading item) in
     is_put
     ∙ ap (λ (xs : List ℕ). put xs place item) p
     ∙ put-put headed 4 place leading item (omega (arith, headed_len, room)) at
-    ∙ written_value first second n all old headed (omega (arith, size, all_len)) (omega (arith, room, all_len)) h
-    ∙ ap (λ (i : List _). written i old) (same_image first second all t.value t.value_size all_len value_is)
+    ∙ written_value first second n all old headed (omega (arith, size, all_len))
+    (omega (arith, room, all_len)) h
+    ∙ ap (λ (i : List _). written i old)
+    (same_image first second all t.value t.value_size all_len value_is)
     ∙ solid_item t all old value_is all_len (omega (arith, room)) where
-      same_image : (first second : ℕ) (bytes : List ℕ) (value : List _) (size : ℕ) → length bytes ≡ size → value ≡ solid bytes
-          → image_of (solid_tlv first second bytes) ≡ image_of (record { first = first; second = second; value = value; value_size = size })
-      same_image first second bytes value size e is = λ k. image_of (record { first = first; second = second; value = sym is k; value_size = e k })
+      same_image : (first second : ℕ) (bytes : List ℕ) (value : List _) (size : ℕ)
+          → length bytes ≡ size → value ≡ solid bytes → image_of (solid_tlv first second bytes)
+          ≡ image_of (record { first = first; second = second; value = value; value_size = size })
+      same_image first second bytes value size e is = λ k.
+          image_of (record { first = first; second = second; value = sym is k; value_size = e k })
 
 -- an item written over zeros
-pub zeroed_item : (t : Tlv) (size : ℕ) (old front filled out rest : List ℕ) → size ≡ size_of t → length (image_of t) ≡ size_of t
-    → length front ≡ size → filled ≡ replicate (length front) 0 → out ≡ written (image_of t) filled → rest ≡ drop size old
+pub zeroed_item : (t : Tlv) (size : ℕ) (old front filled out rest : List ℕ) → size ≡ size_of t
+    → length (image_of t) ≡ size_of t
+    → length front ≡ size → filled ≡ replicate (length front) 0 → out ≡ written (image_of t) filled
+    → rest ≡ drop size old
     → out ++ rest ≡ with_item t old
 zeroed_item t size old front filled out rest is len room zeros e after =
     let none : length front - length (image_of t) ≡ 0 = omega (arith, is, len, room) in
     let out_is : out ≡ zeroed (image_of t) =
-    e ∙ ap (written (image_of t)) zeros ∙ written-zeros (image_of t) (length front) (omega (arith, is, len, room))
-    ∙ ap (λ (n : ℕ). zeroed (image_of t) ++ replicate n 0) none ∙ append-nil (zeroed (image_of t)) in
-    ap (λ (xs : List ℕ). xs ++ rest) out_is ∙ ap (λ (xs : List ℕ). zeroed (image_of t) ++ xs) (after ∙ ap (λ (n : ℕ). drop n old) is)
+    e ∙ ap (written (image_of t)) zeros ∙ written-zeros (image_of t) (length front)
+    (omega (arith, is, len, room))
+    ∙ ap (λ (n : ℕ). zeroed (image_of t) ++ replicate n 0) none
+    ∙ append-nil (zeroed (image_of t)) in
+    ap (λ (xs : List ℕ). xs ++ rest) out_is ∙ ap (λ (xs : List ℕ). zeroed (image_of t) ++ xs)
+    (after ∙ ap (λ (n : ℕ). drop n old) is)

@@ -30,8 +30,8 @@ abbrev pub with_chunk : Meaning → ChunkTree → Meaning
 with_chunk m t = record m { chunks = m.chunks ++ t ∷ [] }
 
 -- The chunk was added after the first `start` bytes, with zeros up to a multiple of 4; all other
--- bytes stay, and the packet ends after these. Whatever was held is held still, with the chunk after
--- its own.
+-- bytes stay, and the packet ends after these. Whatever was held is held still, with the chunk
+-- after its own.
 pub record IsAdded (t : ChunkTree) (old : List ℕ) (start : ℕ) (new : List ℕ)
     (end : ℕ) : Type 0 where
   pub size : end ≡ start + round_up_to_4 (size_of (chunk_tlv t))

@@ -6,7 +6,8 @@ use Rattle.dcsctp_buffer.specs.declared.heartbeat.BorrowedHeartbeat.{BorrowedHea
 
 abbrev pub heartbeat : Bool → List ℕ → ChunkTree
 heartbeat is_ack info =
-    if is_ack then HeartbeatAck (HeartbeatInfo info ∷ []) else HeartbeatRequest (HeartbeatInfo info ∷ [])
+    if is_ack then HeartbeatAck (HeartbeatInfo info ∷ []) else HeartbeatRequest
+    (HeartbeatInfo info ∷ [])
 
 abbrev pub view : BorrowedHeartbeat → ChunkTree
 view h = heartbeat h.is_ack h.info.now

@@ -35,7 +35,7 @@ use dcsctp_tlv::frame::put_bytes;
 use dcsctp_tlv::number::{is_divisible_by_4, put_u16, put_u32, round_up_to_4};
 use dcsctp_wire::packet::sctp_packet::COMMON_HEADER_SIZE;
 
-/// The most bytes of a packet that is written: the largest multiple of 4 that a packet's size can be.
+/// The most bytes of a packet that is written: the largest multiple of 4 that a packet can have.
 pub const MAX_SIZE: usize = 65532;
 
 /// The offset of the checksum field.
@@ -80,7 +80,7 @@ pub fn begin(
 /// to the size.
 ///
 /// Returns true exactly where the size is that of a packet that was begun (at least 12 bytes, and a
-/// multiple of 4), the chunk can be written, and with it and its padding the packet has room: in the
+/// multiple of 4), the chunk can be written, and the packet has room for it and its padding: in the
 /// buffer, and in the 65,532 bytes that a packet can have. False changes nothing. Bytes before the
 /// chunk and after its padding stay.
 pub fn add<C: WritableChunk>(buffer: &mut [u8], size: &mut usize, chunk: &C) -> bool
@@ -109,9 +109,9 @@ pub fn add<C: WritableChunk>(buffer: &mut [u8], size: &mut usize, chunk: &C) -> 
 /// Writes the packet's CRC32c (RFC 9260 section 6.8) into its checksum field, bytes 8 to 11. All
 /// other bytes stay.
 ///
-/// Returns false, and changes nothing, exactly where the size is below 12 or above the buffer's. The
-/// first `size` bytes then read back as the packet that was written, with its checksum verified and
-/// under every policy, where it has a chunk and each chunk can be read; only fields that a kind of
+/// Returns false, and changes nothing, exactly where the size is below 12 or above the buffer's.
+/// Otherwise the first `size` bytes read back as the packet that was written, under their own word
+/// and every policy, where it has a chunk and each chunk can be read; only fields that a kind of
 /// chunk doesn't carry are zero.
 pub fn seal(buffer: &mut [u8], size: usize) -> bool
     ensures room { IsTrue result ↔ (12 ≤ size) × (size ≤ length buffer.old) }

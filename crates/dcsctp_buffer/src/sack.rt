@@ -41,8 +41,8 @@ impl AsGapAckBlock for GapAckBlock {
     }
 }
 
-/// A SACK (RFC 9260 section 3.3.4) to be written. Its blocks and duplicates are written as they are,
-/// in any order.
+/// A SACK (RFC 9260 section 3.3.4) to be written. Its blocks and duplicates are written as they
+/// are, in any order.
 #[derive(Drop)]
 pub struct BorrowedSack<'a, B> {
     /// The last TSN that was received in sequence.

@@ -1,5 +1,5 @@
--- The chunks that a C program adds to a packet (RFC 9260 section 3.3): as plain data, of the structs,
--- the bytes and the lists that it passes.
+-- The chunks that a C program adds to a packet (RFC 9260 section 3.3), as plain data: made of the
+-- structs, the bytes and the lists that it passes.
 use Rattle.std.specs.Prelude.{ℕ, Bool, List, [], ◌∷◌, map}
 use Rattle.dcsctp_tlv.specs.Parameter.{StateCookie}
 use Rattle.dcsctp_cause.specs.Cause.{UserInitiatedAbort}

@@ -1,6 +1,6 @@
 //! Packets that are written into the caller's buffer, chunk by chunk.
 //!
-//! A packet is begun, each chunk is added to it, and `dcsctp_seal` of its first `size` bytes ends it.
+//! A packet is begun, each chunk is added to it, and `dcsctp_seal` of its `size` bytes ends it.
 
 ghost use Rattle.std.specs.Prelude.{◌≡◌, ◌↔◌, ◌≤◌, [], true, false, length, drop, IsTrue};
 ghost use Rattle.std.specs.Str.{IsUtf8};
@@ -127,8 +127,8 @@ pub extern "C" fn dcsctp_add_sack(
     add(packet, size, &chunk)
 }
 
-/// Adds HEARTBEAT (RFC 9260 section 3.3.5), or HEARTBEAT ACK (section 3.3.6) where `is_ack` is true,
-/// with this Heartbeat Info as its one parameter.
+/// Adds HEARTBEAT (RFC 9260 section 3.3.5), or HEARTBEAT ACK (section 3.3.6) where `is_ack` is
+/// true, with this Heartbeat Info as its one parameter.
 ///
 /// Returns true exactly where the chunk can be written and the packet has room for it, as
 /// `dcsctp_buffer::add` does; false changes nothing.
@@ -210,8 +210,8 @@ pub extern "C" fn dcsctp_add_init_ack(
 
 /// Adds COOKIE ACK (RFC 9260 section 3.3.12).
 ///
-/// Returns true exactly where the packet has room for it, as `dcsctp_buffer::add` does; false changes
-/// nothing.
+/// Returns true exactly where the packet has room for it, as `dcsctp_buffer::add` does; false
+/// changes nothing.
 #[unsafe(no_mangle)]
 pub extern "C" fn dcsctp_add_cookie_ack(packet: &mut [u8], size: &mut usize) -> bool
     ensures room { IsTrue result ↔ HasRoom (length packet.old) size.old CookieAck }

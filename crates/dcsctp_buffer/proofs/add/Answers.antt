@@ -24,6 +24,7 @@ returns-clause-added g c added =
     record {
       size = end;
       bytes = c.put_padded.ensures.bytes;
-      held = λ m held. adds c.args.buffer.now c.put_padded.new.output size (size + c.round_up_to_4-padded_size.result) m t room c.put_padded.ensures.width
+      held = λ m held. adds c.args.buffer.now c.put_padded.new.output size
+          (size + c.round_up_to_4-padded_size.result) m t room c.put_padded.ensures.width
           c.put_padded.ensures.bytes end held;
     }
