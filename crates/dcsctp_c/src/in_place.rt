@@ -4,8 +4,10 @@ ghost use Rattle.std.specs.Prelude.{◌≡◌, ◌↔◌, ◌≤◌, ◌<◌, �
 ghost use Rattle.std.specs.Int.{w32, to_be_bytes};
 ghost use Rattle.dcsctp_crc32c.specs.Checksum.{packet_word};
 ghost use Rattle.dcsctp_tlv.specs.Image.{put};
-ghost use Rattle.dcsctp_wire.specs.Packet.{PacketTree, PacketFault, Answer, checksum_field};
+ghost use Rattle.dcsctp_wire.specs.Packet.{Meaning, PacketTree, PacketFault, Answer, checksum_field};
+ghost use Rattle.dcsctp_wire.specs.WellFormed.{IsWellFormed};
 ghost use Rattle.dcsctp_wire.specs.declared.packet.sctp_packet.ChecksumPolicy.{ChecksumPolicy};
+ghost use Rattle.dcsctp_buffer.specs.Buffer.{HoldsPacket, kept};
 
 use dcsctp_borrowed::in_place::{set_checksum_word, set_verification_tag};
 use dcsctp_crc32c::packet_word;
@@ -27,6 +29,11 @@ pub extern "C" fn dcsctp_seal(packet: &mut [u8]) -> bool
         → Answer packet.old word first (Ok p) → later.strict_padding ≡ first.strict_padding
         → Answer packet.new (packet_word packet.new) later
         (Ok (record p { checksum = packet_word packet.new })) }
+    // What was begun by `dcsctp_begin`, and got its chunks by `dcsctp_add_..`, reads back.
+    ensures reads { 12 ≤ length packet.old → (m : Meaning) (policy : ChecksumPolicy)
+        → HoldsPacket packet.old (length packet.old) m → IsWellFormed (kept m)
+        → Answer packet.new (packet_word packet.new) policy
+        (Ok (record { meaning = kept m; checksum = packet_word packet.new })) }
 {
     if packet.len() < COMMON_HEADER_SIZE {
         return false;

@@ -10,3 +10,4 @@ mod in_place;
 mod packet;
 mod parts;
 mod structs;
+mod writing;
