@@ -1,6 +1,7 @@
 #!/usr/bin/env bash
 # The README's test command, from the root of the repository: the pages of captures and of programs are compared with the files
-# that they show; then the gate runs, and beside it each request for memory is refused in turn. The last line is the gate's.
+# that they show; then the gate runs, and beside it each request for memory is refused in turn, and the library is tried from C.
+# The last line is the gate's.
 set -u
 cd "$(dirname "$0")"
 
@@ -107,13 +108,20 @@ docs/examples.py --compare || exit 1
 ) >"$results/refusals" &
 refusals=$!
 
-# All that the gate prints but its last line, which waits for the refusals.
+# It proves the libraries once more, unless they were proved in their folders before: `rt lib` doesn't take what the gate proves.
+c/test.sh >"$results/c" 2>&1 &
+from_c=$!
+
+# All that the gate prints but its last line, which waits for the refusals and for C.
 rt ci | awk -v last="$results/last" 'NR > 1 { print line; fflush() } { line = $0 } END { print line > last }'
 gate=${PIPESTATUS[0]}
 
 wait "$refusals"
 refused=$?
 cat "$results/refusals"
-[ "$refused" -eq 0 ] || exit 1
+wait "$from_c"
+tried=$?
+cat "$results/c"
+[ "$refused" -eq 0 ] && [ "$tried" -eq 0 ] || exit 1
 cat "$results/last"
 exit "$gate"

@@ -1,5 +1,5 @@
-# What bench/run.sh, bench/crc.sh and bench/instructions.sh do first; they source it. Its functions run at the root of the
-# repository, and what they make goes to the folder $out.
+# What bench/run.sh, bench/crc.sh, bench/c.sh and bench/instructions.sh do first; they source it. Its functions run at the
+# root of the repository, and what they make goes to the folder $out.
 
 export PYTHONDONTWRITEBYTECODE=1
 archives='crates/speed_probes/out/libspeed_probes.a crates/strict_probes/out/libstrict_probes.a'
@@ -34,4 +34,11 @@ build_crc() {
     mkdir -p "$out"
     (cd crates/crc_probes && rt lib) >"$out/library.log" 2>&1 || { tail -n 5 "$out/library.log" >&2; give_up 'no crc_probes'; }
     gcc -O2 -Wall -Wextra -o "$out/crc" bench/crc.c crates/crc_probes/out/libcrc_probes.a
+}
+
+# Builds the C library, proved, and links its program with it: $out/c_api.
+build_c_api() {
+    mkdir -p "$out"
+    CC=gcc c/build.sh "$out/c" >"$out/library.log" 2>&1 || { tail -n 5 "$out/library.log" >&2; give_up 'no C library'; }
+    gcc -O2 -Wall -Wextra -I"$out/c/include" -o "$out/c_api" bench/c_api.c "$out/c/lib/libdcsctp.a"
 }

@@ -1,12 +1,13 @@
 #!/usr/bin/env python3
 """usage: docs/examples.py --write | --compare | --paste DIR | --help
 
-The programs of docs/CALLING.md are the files of crates/dcsctp_uses/src, which the gate proves.
+The programs of docs/CALLING.md are the files of crates/dcsctp_uses/src, which the gate proves. The program of docs/C.md
+is a file of examples/c, which c/test.sh runs.
 
-  --write      puts each file into the page, after the line `<!-- NAME.rt -->`
-  --compare    fails if a program of the page isn't its file
+  --write      puts each file into its page, after the line `<!-- NAME.rt -->` or `<!-- NAME.c -->`
+  --compare    fails if a program of a page isn't its file
   --paste DIR  makes a repository in DIR as a new user would: the libraries, with what is proved of them, and a
-               crate `your_crate` with the programs of the page, and with the files of proofs/ and specs/ that they need
+               crate `your_crate` with the programs of docs/CALLING.md, and with the files of proofs/ and specs/ that they need
   --help       prints this
 """
 import os
@@ -15,40 +16,45 @@ import shutil
 import sys
 
 ROOT = os.path.dirname(os.path.dirname(os.path.abspath(__file__)))
-PAGE = os.path.join(ROOT, 'docs', 'CALLING.md')
 USES = os.path.join(ROOT, 'crates', 'dcsctp_uses')
+# A page, the folder of its programs, and what they are written in: the ending of their names, and markdown's word.
+PAGES = [
+    ('docs/CALLING.md', 'crates/dcsctp_uses/src', 'rt', 'rust'),
+    ('docs/C.md', 'examples/c', 'c', 'c'),
+]
 LIBRARIES = ['dcsctp_types', 'dcsctp_tlv', 'dcsctp_cause', 'dcsctp_chunk', 'dcsctp_wire', 'dcsctp_borrowed', 'dcsctp_crc32c']
-EXAMPLE = re.compile(r'<!-- (\w+)\.rt -->\n```rust\n(.*?)```\n', re.S)
 
 
-def source(name):
-    with open(os.path.join(USES, 'src', name + '.rt'), encoding='utf-8') as file:
+def read(path):
+    with open(os.path.join(ROOT, path), encoding='utf-8') as file:
         return file.read()
 
 
-def page():
-    with open(PAGE, encoding='utf-8') as file:
-        return file.read()
+def marker(ending, word):
+    return re.compile(rf'<!-- (\w+)\.{ending} -->\n```{word}\n(.*?)```\n', re.S)
 
 
-def examples():
+def examples(page, _, ending, word):
     """The name and the text of each program of the page."""
-    found = EXAMPLE.findall(page())
+    found = marker(ending, word).findall(read(page))
     if not found:
-        sys.exit('docs/CALLING.md has no programs')
+        sys.exit(f'{page} has no programs')
     return found
 
 
 def write():
-    text = EXAMPLE.sub(lambda m: f'<!-- {m[1]}.rt -->\n```rust\n{source(m[1])}```\n', page())
-    with open(PAGE, 'w', encoding='utf-8') as file:
-        file.write(text)
+    for page, folder, ending, word in PAGES:
+        text = marker(ending, word).sub(
+            lambda m: f'<!-- {m[1]}.{ending} -->\n```{word}\n{read(f"{folder}/{m[1]}.{ending}")}```\n', read(page))
+        with open(os.path.join(ROOT, page), 'w', encoding='utf-8') as file:
+            file.write(text)
 
 
 def compare():
-    stale = [name for name, text in examples() if text != source(name)]
-    if stale:
-        sys.exit(f'docs/CALLING.md: not as in crates/dcsctp_uses/src: {", ".join(stale)}')
+    for page, folder, ending, word in PAGES:
+        stale = [name for name, text in examples(page, folder, ending, word) if text != read(f'{folder}/{name}.{ending}')]
+        if stale:
+            sys.exit(f'{page}: not as in {folder}: {", ".join(stale)}')
 
 
 def paste(directory):
@@ -63,7 +69,7 @@ def paste(directory):
     crate = os.path.join(directory, 'crates', 'your_crate')
     os.makedirs(os.path.join(crate, 'src'))
     names = []
-    for name, text in examples():
+    for name, text in examples(*PAGES[0]):
         names.append(name)
         with open(os.path.join(crate, 'src', name + '.rt'), 'w', encoding='utf-8') as file:
             file.write(text.replace('Rattle.dcsctp_uses.', 'Rattle.your_crate.'))

@@ -1,0 +1,158 @@
+/* Times the C library over traffic files.
+
+   usage: c_api ROUNDS MILLIS FILE..
+
+   A file holds one packet a line, in hexadecimal. In each round every call goes over the whole file again and again
+   for MILLIS milliseconds, one call after the other, so that a slow spell of the machine hits them all; the best round
+   counts. Prints a Markdown table: thousands of packets a second, a row a file. */
+#define _GNU_SOURCE
+#include <dcsctp.h>
+#include <stdio.h>
+#include <stdlib.h>
+#include <string.h>
+#include <time.h>
+
+/* The checksum fields of the traffic are random. */
+static const struct dcsctp_policy any = {true, false, false};
+static uint8_t output[1 << 20];
+
+static uint64_t check(const uint8_t *bytes, size_t length)
+{
+    return dcsctp_check(bytes, length, 0, &any) == DCSCTP_OK;
+}
+
+/* The sum of all numbers of DATA and I-DATA, and of each payload's first byte. */
+static uint64_t walk(const uint8_t *bytes, size_t length)
+{
+    struct dcsctp_chunk chunk;
+    struct dcsctp_data data;
+    uint64_t sum = 1;
+    if (dcsctp_check(bytes, length, 0, &any) != DCSCTP_OK)
+        return 0;
+    for (size_t at = DCSCTP_FIRST_CHUNK; dcsctp_chunk_at(bytes, length, at, &chunk); at = chunk.next)
+        if (dcsctp_data(bytes, length, &chunk, &data)) {
+            sum += data.tsn + data.mid + data.fsn + data.ppid + data.stream + data.ssn;
+            sum += data.is_unordered + data.is_beginning + data.is_end + data.immediate_ack;
+            sum += data.payload_size ? bytes[data.payload_offset] : 0;
+        }
+    return sum;
+}
+
+static uint64_t canonical(const uint8_t *bytes, size_t length)
+{
+    size_t size;
+    return dcsctp_canonical(bytes, length, 0, &any, output, sizeof output, &size) == DCSCTP_OK ? size : 0;
+}
+
+static uint64_t print(const uint8_t *bytes, size_t length)
+{
+    size_t size;
+    return dcsctp_print(bytes, length, 0, &any, output, sizeof output, &size) == DCSCTP_OK ? size : 0;
+}
+
+static const struct {
+    const char *name;
+    uint64_t (*call)(const uint8_t *bytes, size_t length);
+} calls[] = {{"check", check}, {"check and walk", walk}, {"canonical", canonical}, {"print", print}};
+enum { CALLS = sizeof calls / sizeof calls[0] };
+
+static void fail(const char *what, const char *file)
+{
+    fprintf(stderr, "c_api: %s: %s\n", file, what);
+    exit(1);
+}
+
+static double seconds(void)
+{
+    struct timespec now;
+    clock_gettime(CLOCK_MONOTONIC, &now);
+    return (double)now.tv_sec + (double)now.tv_nsec * 1e-9;
+}
+
+enum { MOST = 2000 };
+static struct {
+    uint8_t *bytes;
+    size_t length;
+} packets[MOST];
+static size_t count;
+
+static void load(const char *name)
+{
+    static char line[2 * 65536 + 2];
+    FILE *file = fopen(name, "r");
+    if (!file)
+        fail("can't be read", name);
+    for (count = 0; count < MOST && fgets(line, sizeof line, file); count++) {
+        size_t length = strcspn(line, "\n") / 2;
+        uint8_t *bytes = malloc(length + 1);
+        if (!bytes)
+            fail("there is no memory left", name);
+        for (size_t i = 0; i < length; i++) {
+            char digits[] = {line[2 * i], line[2 * i + 1], 0};
+            bytes[i] = (uint8_t)strtoul(digits, NULL, 16);
+        }
+        packets[count].bytes = bytes;
+        packets[count].length = length;
+        for (int which = 0; which < CALLS; which++)
+            if (calls[which].call(bytes, length) == 0)
+                fail("a packet is refused", name);
+    }
+    fclose(file);
+    if (count == 0)
+        fail("has no packets", name);
+}
+
+/* Packets a second. */
+static double rate(int which, double least)
+{
+    static volatile uint64_t sink;
+    double begin = seconds(), took;
+    unsigned long done = 0;
+    do {
+        uint64_t sum = 0;
+        for (size_t i = 0; i < count; i++)
+            sum += calls[which].call(packets[i].bytes, packets[i].length);
+        sink = sink + sum;
+        done += count;
+        took = seconds() - begin;
+    } while (took < least);
+    return (double)done / took;
+}
+
+int main(int words_count, char **words)
+{
+    if (words_count < 4) {
+        fprintf(stderr, "usage: c_api ROUNDS MILLIS FILE..\n");
+        return 2;
+    }
+    /* The C library then keeps large blocks, and doesn't ask the system for each of them. */
+    free(malloc(16 << 20));
+    int rounds = atoi(words[1]);
+    double least = atoi(words[2]) / 1000.0;
+    printf("| file |");
+    for (int which = 0; which < CALLS; which++)
+        printf(" %s |", calls[which].name);
+    printf("\n| --- |");
+    for (int which = 0; which < CALLS; which++)
+        printf(" --: |");
+    printf("\n");
+    for (int word = 3; word < words_count; word++) {
+        double best[CALLS] = {0};
+        load(words[word]);
+        for (int round = 0; round < rounds; round++)
+            for (int which = 0; which < CALLS; which++) {
+                double one = rate(which, least);
+                if (one > best[which])
+                    best[which] = one;
+            }
+        const char *slash = strrchr(words[word], '/'), *name = slash ? slash + 1 : words[word];
+        printf("| %.*s |", (int)strcspn(name, "."), name);
+        for (int which = 0; which < CALLS; which++)
+            printf(" %.0f |", best[which] / 1000);
+        printf("\n");
+        fflush(stdout);
+        for (size_t i = 0; i < count; i++)
+            free(packets[i].bytes);
+    }
+    return 0;
+}

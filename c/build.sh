@@ -1,0 +1,77 @@
+#!/usr/bin/env bash
+# Builds the C library, proved, and puts it into a folder (docs/C.md).
+set -eu
+
+usage='usage: c/build.sh PREFIX
+
+Proves and builds the C library, and puts it into the folder PREFIX:
+
+  include/dcsctp.h
+  lib/libdcsctp.a              for static linking; it needs libc and nothing else
+  lib/libdcsctp.so             for dynamic linking; it needs libc and nothing else
+  lib/pkgconfig/dcsctp.pc
+
+The first run proves everything below it: that takes some 12 minutes on four processors, and 4 GB of disk for what is
+kept. Later runs take half a minute. Needed are the toolchain and a C compiler with binutils; the variables CC, LD, OBJCOPY
+and AR name others than cc, ld, objcopy and ar.'
+
+give_up() {
+    echo "c/build.sh: $1" >&2
+    exit 1
+}
+
+if [ $# -ne 1 ] || [ "${1#-}" != "$1" ] || [ -z "$1" ]; then
+    if [ "${1:-}" = --help ]; then
+        echo "$usage"
+        exit
+    fi
+    echo "$usage" >&2
+    exit 2
+fi
+
+cc=${CC:-cc} ld=${LD:-ld} objcopy=${OBJCOPY:-objcopy} ar=${AR:-ar}
+for tool in rt "$cc" "$ld" "$objcopy" "$ar"; do
+    command -v "$tool" >/dev/null || give_up "the program $tool is needed, and isn't there"
+done
+mkdir -p "$1" || give_up "the folder $1 can't be made"
+prefix=$(cd "$1" && pwd)
+cd "$(dirname "$0")/.."
+
+work=$(mktemp -d)
+trap 'rm -rf "$work"' EXIT
+
+# The archive of the crate, and the toolchain's three functions that call malloc, realloc and free.
+(cd crates/dcsctp_c && rt lib) >"$work/log" 2>&1 || {
+    { grep -E 'error|not proved|^rt:' "$work/log" || cat "$work/log"; } | tail -n 10 | cut -c1-300 >&2
+    give_up 'crates/dcsctp_c was not built'
+}
+kit=$(dirname "$(rt doc)")
+archive=crates/dcsctp_c/out/libdcsctp_c.a
+heap=$kit/c/liblibc_c.a
+[ -f "$archive" ] || give_up "rt lib made no $archive"
+[ -f "$heap" ] || give_up "the toolchain has no $heap"
+
+# One object, in which the functions of the header alone are visible to a linker.
+grep -o 'dcsctp_[a-z_]*(' include/dcsctp.h | tr -d '(' | sort -u >"$work/functions"
+"$ld" -r -o "$work/dcsctp.o" --whole-archive "$archive" "$heap"
+"$objcopy" --keep-global-symbols="$work/functions" "$work/dcsctp.o"
+"$ar" rcsD "$work/libdcsctp.a" "$work/dcsctp.o"
+"$cc" -shared -o "$work/libdcsctp.so" "$work/dcsctp.o" -Wl,-soname,libdcsctp.so -Wl,-z,text -Wl,-z,noexecstack \
+    -Wl,--no-undefined
+
+mkdir -p "$prefix/include" "$prefix/lib/pkgconfig"
+install -m 644 include/dcsctp.h "$prefix/include/dcsctp.h"
+install -m 644 "$work/libdcsctp.a" "$prefix/lib/libdcsctp.a"
+install -m 755 "$work/libdcsctp.so" "$prefix/lib/libdcsctp.so"
+cat >"$prefix/lib/pkgconfig/dcsctp.pc" <<PC
+prefix=$prefix
+libdir=\${prefix}/lib
+includedir=\${prefix}/include
+
+Name: dcsctp
+Description: The wire layer of SCTP (RFC 9260), proved
+Version: $(sed -n 's/^#define DCSCTP_VERSION "\(.*\)"$/\1/p' include/dcsctp.h)
+Cflags: -I\${includedir}
+Libs: -L\${libdir} -ldcsctp
+PC
+echo "the library is in $prefix/lib, and its header in $prefix/include"

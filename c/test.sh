@@ -1,0 +1,226 @@
+#!/usr/bin/env bash
+# Builds the C library into a folder of its own, and tries it from C and other languages (docs/C.md).
+set -u
+
+usage='usage: c/test.sh [PACKETS]
+
+Builds the C library, and tries it: the header against the library, the examples against what they have to print, calls
+at the edges, and a million packets that are made at random, or PACKETS. The last line is: c: N passed, M failed.
+
+Needed are what c/build.sh needs, and Python. C++, Rust and pkg-config are used where they are there.'
+
+case ${1:-1000000} in
+    *[!0-9]*)
+        if [ "$1" = --help ]; then
+            echo "$usage"
+            exit
+        fi
+        echo "$usage" >&2
+        exit 2
+        ;;
+esac
+packets=${1:-1000000}
+cd "$(dirname "$0")/.."
+export PYTHONDONTWRITEBYTECODE=1
+
+work=$(mktemp -d)
+trap 'rm -rf "$work"' EXIT
+prefix=$work/prefix
+cc=${CC:-cc} cxx=${CXX:-c++}
+passed=0 failed=0
+
+# Runs a command whose name is given, and counts it; prints its output if it fails.
+try() {
+    local name=$1
+    shift
+    if "$@" >"$work/log" 2>&1; then
+        passed=$((passed + 1))
+        printf 'c: %s: passed\n' "$name"
+    else
+        failed=$((failed + 1))
+        printf 'c: %s: failed\n' "$name"
+        tail -n 20 "$work/log"
+    fi
+}
+
+left_out() {
+    printf 'c: left out, since there is no %s: %s\n' "$1" "$2"
+}
+
+has() {
+    command -v "$1" >/dev/null
+}
+
+finish() {
+    printf 'c: %s passed, %s failed\n' "$passed" "$failed"
+    [ "$failed" -eq 0 ]
+    exit
+}
+
+# ---- what is visible
+
+functions() {
+    grep -o 'dcsctp_[a-z_]*(' include/dcsctp.h | tr -d '(' | sort -u
+}
+
+archive_has_the_functions_alone() {
+    diff <(functions) <(nm -g --defined-only "$prefix/lib/libdcsctp.a" | sed -n 's/.* T //p' | sort) &&
+        [ "$(nm -g --defined-only "$prefix/lib/libdcsctp.a" | grep -c ' [A-SU-Z] ')" -eq 0 ]
+}
+
+shared_library_has_the_functions_alone() {
+    diff <(functions) <(nm -D --defined-only "$prefix/lib/libdcsctp.so" | sed 's/.* //' | sort)
+}
+
+# What the archive takes from elsewhere: five functions of libc at most, and the linker's own symbol.
+archive_needs_libc_alone() {
+    ! nm -u "$prefix/lib/libdcsctp.a" | sed -n 's/.* U //p' |
+        grep -vxE 'malloc|realloc|free|memcpy|memmove|memset|memcmp|bcmp|_GLOBAL_OFFSET_TABLE_'
+}
+
+shared_library_needs_libc_alone() {
+    readelf -d "$prefix/lib/libdcsctp.so" >"$work/dynamic" &&
+        ! grep TEXTREL "$work/dynamic" &&
+        ! grep NEEDED "$work/dynamic" | grep -v 'libc\.'
+}
+
+# ---- compiling and running
+
+compile() {
+    "$cc" -std=c11 -O2 -Wall -Wextra -I"$prefix/include" "$@"
+}
+
+# Compiles with the sanitizers, if the compiler has them.
+sanitizers=
+if echo 'int main(void) { return 0; }' >"$work/probe.c" &&
+    "$cc" -fsanitize=address,undefined -o "$work/probe" "$work/probe.c" 2>"$work/log" && "$work/probe" 2>"$work/log"; then
+    sanitizers='-g -O1 -fsanitize=address,undefined -fno-sanitize-recover=all'
+else
+    left_out sanitizer 'c/edge and c/fuzz run without'
+fi
+
+compile_sanitized() {
+    # shellcheck disable=SC2086 # a list of options
+    compile $sanitizers "$@"
+}
+
+header_is_c99() {
+    "$cc" -std=c99 -pedantic -Wall -Wextra -Werror -fsyntax-only -x c include/dcsctp.h
+}
+
+assertions_hold() {
+    compile -pedantic -Werror -c -o "$work/assertions.o" c/assertions.c
+}
+
+header_is_cxx() {
+    echo '#include <dcsctp.h>
+static_assert(sizeof(struct dcsctp_data) == 40, "its size");' >"$work/header.cc" &&
+        "$cxx" -std=c++11 -pedantic -Wall -Wextra -Werror -I"$prefix/include" -c -o "$work/header.o" "$work/header.cc"
+}
+
+expected() {
+    "$@" examples/packets.txt >"$work/printed" && diff "$work/printed" examples/expected.txt
+}
+
+show_in_c() {
+    compile -o "$work/show_c" examples/c/show.c "$prefix/lib/libdcsctp.a" && expected "$work/show_c"
+}
+
+# With the shared library; the others take the static one.
+show_in_cxx() {
+    "$cxx" -std=c++17 -O2 -Wall -Wextra -I"$prefix/include" -o "$work/show_cxx" examples/cpp/show.cc \
+        -L"$prefix/lib" -ldcsctp -Wl,-rpath,"$prefix/lib" && expected "$work/show_cxx"
+}
+
+rust_has_edition_2024() {
+    has rustc && rustc --edition 2024 --crate-type lib --emit metadata -o "$work/probe.rmeta" - </dev/null 2>"$work/log"
+}
+
+show_in_rust() {
+    rustc --edition 2024 -O -L "native=$prefix/lib" -o "$work/show_rust" examples/rust/show.rs && expected "$work/show_rust"
+}
+
+show_in_python() {
+    expected python3 examples/python/show.py "$prefix/lib/libdcsctp.so"
+}
+
+page_has_the_codes() {
+    diff <(sed -n 's/^| `\(DCSCTP_[A-Z_]*\)` \([0-9]*\) |.*/\1 = \2/p' docs/C.md) \
+        <(sed -n 's/^    \(DCSCTP_[A-Z_]* = [0-9]*\),\{0,1\} *\/\*.*/\1/p' include/dcsctp.h)
+}
+
+# The program of docs/C.md: it prints what the page says; the first packet is an INIT, whose answer is the first of
+# examples/expected.txt, and a SACK has none.
+answers_an_init() {
+    sed -n 's/^    \$ echo \(.*\) | \.\/answer$/\1/p' docs/C.md | "$work/answer" |
+        diff - <(sed -n '/^    \$ echo .* | \.\/answer$/{n;s/^    //p}' docs/C.md) || return 1
+    grep -m 1 '^1388' examples/packets.txt | "$work/answer" | diff - <(sed -n 's/^  answer //p;T;q' examples/expected.txt) &&
+        ! grep -m 1 '^138813884d2df52dc604d62e' examples/packets.txt | "$work/answer"
+}
+
+answer_by_hand() {
+    compile -o "$work/answer" examples/c/answer.c "$prefix/lib/libdcsctp.a" && answers_an_init
+}
+
+answer_by_pkg_config() {
+    local flags
+    flags=$(PKG_CONFIG_PATH=$prefix/lib/pkgconfig pkg-config --cflags --libs dcsctp) &&
+        # shellcheck disable=SC2086 # a list of options
+        "$cc" -o "$work/answer" examples/c/answer.c $flags && LD_LIBRARY_PATH=$prefix/lib answers_an_init
+}
+
+# ---- edges, and packets at random
+
+edge() {
+    compile_sanitized -o "$work/edge" c/edge.c "$prefix/lib/libdcsctp.a" -Wl,--wrap=malloc,--wrap=realloc,--wrap=free &&
+        "$work/edge"
+}
+
+# As many processes as there are processors, each with a seed of its own.
+fuzz() {
+    local seed seeds jobs=() job status=0
+    seeds=$(nproc)
+    compile_sanitized -o "$work/fuzz" c/fuzz.c "$prefix/lib/libdcsctp.a" || return 1
+    for ((seed = 1; seed <= seeds; seed++)); do
+        "$work/fuzz" $((packets / seeds + 1)) "$seed" examples/packets.txt &
+        jobs+=($!)
+    done
+    for job in "${jobs[@]}"; do
+        wait "$job" || status=1
+    done
+    return $status
+}
+
+try 'the library is built' c/build.sh "$prefix"
+[ "$failed" -eq 0 ] || finish
+try 'the header declares the library' c/check_header.py
+try 'a wrong header is noticed' c/check_header.py --must-fail
+try 'the header is C99' header_is_c99
+try 'sizes, offsets and values' assertions_hold
+try 'the archive has these functions alone' archive_has_the_functions_alone
+try 'the archive needs libc alone' archive_needs_libc_alone
+try 'the shared library has these functions alone' shared_library_has_the_functions_alone
+try 'the shared library needs libc alone' shared_library_needs_libc_alone
+try 'the codes of docs/C.md' page_has_the_codes
+try 'the program of docs/C.md' answer_by_hand
+if has pkg-config; then
+    try 'the same by pkg-config' answer_by_pkg_config
+else
+    left_out pkg-config 'the program of docs/C.md with its flags'
+fi
+try 'the example in C' show_in_c
+try 'the example in Python' show_in_python
+if has "$cxx"; then
+    try 'the header is C++11' header_is_cxx
+    try 'the example in C++' show_in_cxx
+else
+    left_out "$cxx" 'the header and the example in C++'
+fi
+if rust_has_edition_2024; then
+    try 'the example in Rust' show_in_rust
+else
+    left_out 'rustc from 1.85 on' 'the example in Rust'
+fi
+try 'calls at the edges, and each allocation refused' edge
+try "$packets packets at random" fuzz
+finish

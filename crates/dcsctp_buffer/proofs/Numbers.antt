@@ -1,0 +1,16 @@
+-- Numbers that lie in their widths.
+use Rattle.std.proofs.Common.{ℕ, suc, ◌<◌, Bool, true, false, List, [], ◌∷◌, get_or}
+use Rattle.std.specs.List.{AllByRecursion}
+use Rattle.dcsctp_tlv.specs.Number.{AreBytes}
+use Rattle.dcsctp_wire.specs.Chunk.{IsInWidth as IsChunkInWidth}
+use Rattle.dcsctp_buffer.specs.Heartbeat.{heartbeat}
+
+pub all_below : (m : ℕ) (ns : List ℕ) → ((i : ℕ) → get_or ns i 0 < m)
+    → AllByRecursion (λ n. n < m) ns
+all_below m [] h = tt
+all_below m (n ∷ ns) h = (h 0, all_below m ns (λ i. h (suc i)))
+
+pub heartbeat_width : (is_ack : Bool) (info : List ℕ) → AreBytes info
+    → IsChunkInWidth (heartbeat is_ack info)
+heartbeat_width true info h = (h, tt)
+heartbeat_width false info h = (h, tt)

@@ -1,0 +1,77 @@
+//! DATA, whose payload lies anywhere.
+
+ghost use Rattle.std.specs.Prelude.{◌≡◌, ◌<◌, ◌^◌};
+ghost use Rattle.dcsctp_chunk.specs.Data.{IsInWidth};
+ghost use Rattle.dcsctp_chunk.specs.DataChunk.{fixed as fixed_bytes};
+ghost use Rattle.dcsctp_wire.specs.Chunk.{Data as DataTree};
+ghost use Rattle.dcsctp_buffer.specs.Data.{view};
+
+use crate::widths::bytes_in_width;
+use crate::writable_chunk::WritableChunk;
+use dcsctp_chunk::flags::four_flags;
+use dcsctp_tlv::frame::{MAX_VALUE_SIZE, TLV_HEADER_SIZE, put_fixed_and_rest};
+use dcsctp_tlv::number::{put_u16, put_u32};
+use dcsctp_types::api::PpId;
+use dcsctp_types::types::{Ssn, StreamKey, Tsn};
+use dcsctp_wire::packet::data_chunk::{CHUNK_TYPE, HEADER_SIZE};
+
+/// Bytes of the value before the payload.
+const FIXED_SIZE: usize = HEADER_SIZE - TLV_HEADER_SIZE;
+
+/// DATA (RFC 9260 section 3.3.1) to be written: a message, or a fragment of one.
+#[derive(Clone, Copy, Debug)]
+pub struct BorrowedData<'a> {
+    /// The chunk's place in its association.
+    pub tsn: Tsn,
+    /// The stream, and whether the message is delivered in sequence: the U bit is set where not.
+    pub stream_key: StreamKey,
+    /// The message's place in its stream.
+    pub ssn: Ssn,
+    /// What the payload is for.
+    pub ppid: PpId,
+    /// The fragment's bytes.
+    pub payload: &'a [u8],
+    /// Whether the message begins with it: the B bit.
+    pub is_beginning: bool,
+    /// Whether the message ends with it: the E bit.
+    pub is_end: bool,
+    /// Whether the sender asks for a SACK without delay (RFC 7053): the I bit.
+    pub immediate_ack: bool,
+}
+
+impl BorrowedData<'_> {
+    /// The value before the payload, as it is written.
+    fn fixed(&self) -> [u8; FIXED_SIZE]
+        ensures bytes { result ≡ fixed_bytes (view self.now) }
+        ensures width { IsInWidth (view self.now) }
+    {
+        bytes_in_width(self.payload);
+        let mut bytes = [0; FIXED_SIZE];
+        put_u32(&mut bytes, 0, self.tsn.0);
+        put_u16(&mut bytes, 4, self.stream_key.id().0);
+        put_u16(&mut bytes, 6, self.ssn.0);
+        put_u32(&mut bytes, 8, self.ppid.0);
+        bytes
+    }
+}
+
+impl WritableChunk for BorrowedData<'_> {
+    ghost tree = { λ d. DataTree (view d) };
+
+    fn written_size(&self) -> Option<usize> {
+        if self.payload.len() > MAX_VALUE_SIZE - FIXED_SIZE {
+            return None;
+        }
+        Some(HEADER_SIZE + self.payload.len())
+    }
+
+    fn write_to(&self, output: &mut [u8]) {
+        let flags = four_flags(
+            self.is_end,
+            self.is_beginning,
+            self.stream_key.is_unordered(),
+            self.immediate_ack,
+        );
+        put_fixed_and_rest(CHUNK_TYPE, flags, &self.fixed(), self.payload, output);
+    }
+}

@@ -1,0 +1,167 @@
+//! SCTP packets written into the caller's buffer, without memory.
+//!
+//! A packet is begun, chunk after chunk is added to it, and it is sealed: plain calls over a buffer
+//! and a size. Chunks to be written hold their payload, their lists and their cookie as slices
+//! ([`chunk::Chunk`] of `dcsctp_wire` can be added as well). Every call can be made at any time: it
+//! returns false, and changes nothing, where it can't do its work.
+#![tactic(auto)]
+
+pub mod abort;
+pub mod chunk;
+pub mod cookie_ack;
+pub mod data;
+pub mod heartbeat;
+pub mod init_ack;
+mod one_item;
+pub mod sack;
+mod widths;
+pub mod writable_chunk;
+
+ghost use Rattle.std.specs.Prelude.{◌≡◌, ◌↔◌, ◌≤◌, ◌+◌, [], true, false, Ok, length, take, drop, IsTrue};
+ghost use Rattle.std.specs.Int.{w32, to_be_bytes};
+ghost use Rattle.dcsctp_crc32c.specs.Checksum.{packet_word};
+ghost use Rattle.dcsctp_tlv.specs.Frame.{round_up_to_4};
+ghost use Rattle.dcsctp_tlv.specs.Image.{put, size_of};
+ghost use Rattle.dcsctp_wire.specs.Canonical.{canonical, padded_chunk};
+ghost use Rattle.dcsctp_wire.specs.Chunk.{tlv as chunk_tlv, IsChunkEncodable, IsInWidth as IsChunkInWidth};
+ghost use Rattle.dcsctp_wire.specs.Packet.{Meaning, Answer};
+ghost use Rattle.dcsctp_wire.specs.WellFormed.{IsWellFormed};
+ghost use Rattle.dcsctp_wire.specs.declared.packet.sctp_packet.ChecksumPolicy.{ChecksumPolicy};
+ghost use Rattle.dcsctp_buffer.specs.Buffer.{HoldsPacket, HasRoom, IsAdded, kept};
+
+use crate::writable_chunk::WritableChunk;
+use dcsctp_crc32c::packet_word;
+use dcsctp_tlv::frame::put_bytes;
+use dcsctp_tlv::number::{is_divisible_by_4, put_u16, put_u32, round_up_to_4};
+use dcsctp_wire::packet::sctp_packet::COMMON_HEADER_SIZE;
+
+/// The most bytes of a packet that is written: the largest multiple of 4 that a packet can have.
+pub const MAX_SIZE: usize = 65532;
+
+/// The offset of the checksum field.
+const CHECKSUM_OFFSET: usize = 8;
+
+/// Begins a packet (RFC 9260 section 3.1) with these ports and this tag, a checksum field of zero
+/// and no chunk: writes 12 bytes at the front of the buffer, and sets the size to 12.
+///
+/// Returns false, and changes nothing, exactly where the buffer has fewer than 12 bytes. All bytes
+/// after the header stay.
+pub fn begin(
+    buffer: &mut [u8],
+    size: &mut usize,
+    source_port: u16,
+    destination_port: u16,
+    verification_tag: u32,
+) -> bool
+    ensures room { IsTrue result ↔ (12 ≤ length buffer.old) }
+    ensures size { result ≡ true → size.new ≡ 12 }
+    ensures begun { result ≡ true → HoldsPacket buffer.new size.new (record {
+      source = source_port;
+      destination = destination_port;
+      tag = verification_tag;
+      chunks = [];
+    }) }
+    ensures after { drop 12 buffer.new ≡ drop 12 buffer.old }
+    ensures declined { result ≡ false → (buffer.new ≡ buffer.old) × (size.new ≡ size.old) }
+{
+    if buffer.len() < COMMON_HEADER_SIZE {
+        return false;
+    }
+    put_bytes(
+        buffer,
+        0,
+        &header(source_port, destination_port, verification_tag),
+    );
+    *size = COMMON_HEADER_SIZE;
+    true
+}
+
+/// Adds a chunk after the first `size` bytes, with zeros up to a multiple of 4, and adds its bytes
+/// to the size.
+///
+/// Returns true exactly where the size is that of a packet that was begun (at least 12 bytes, and a
+/// multiple of 4), the chunk can be written, and the packet has room for it and its padding: in the
+/// buffer, and in the 65,532 bytes that a packet can have. False changes nothing. Bytes before the
+/// chunk and after its padding stay.
+pub fn add<C: WritableChunk>(buffer: &mut [u8], size: &mut usize, chunk: &C) -> bool
+    ensures room { IsTrue result ↔ HasRoom (length buffer.old) size.old (C.tree chunk.now) }
+    ensures added { result ≡ true
+        → IsAdded (C.tree chunk.now) buffer.old size.old buffer.new size.new }
+    ensures declined { result ≡ false → (buffer.new ≡ buffer.old) × (size.new ≡ size.old) }
+{
+    let Some(chunk_size) = chunk.written_size() else {
+        return false;
+    };
+    let start = *size;
+    let limit = buffer.len().min(MAX_SIZE);
+    if start < COMMON_HEADER_SIZE || !is_divisible_by_4(start) || start > limit {
+        return false;
+    }
+    let padded_size = round_up_to_4(chunk_size);
+    if padded_size > limit - start {
+        return false;
+    }
+    put_padded(buffer, start, chunk, chunk_size);
+    *size = start + padded_size;
+    true
+}
+
+/// Writes the packet's CRC32c (RFC 9260 section 6.8) into its checksum field, bytes 8 to 11. All
+/// other bytes stay.
+///
+/// Returns false, and changes nothing, exactly where the size is below 12 or above the buffer's.
+/// Otherwise the first `size` bytes read back as the packet that was written, under their own word
+/// and every policy, where it has a chunk and each chunk can be read; only fields that a kind of
+/// chunk doesn't carry are zero.
+pub fn seal(buffer: &mut [u8], size: usize) -> bool
+    ensures room { IsTrue result ↔ (12 ≤ size) × (size ≤ length buffer.old) }
+    ensures bytes { result ≡ true → buffer.new
+        ≡ put buffer.old 8 (to_be_bytes w32 (packet_word (take size buffer.old))) }
+    ensures reads { result ≡ true → (m : Meaning) (policy : ChecksumPolicy)
+        → HoldsPacket buffer.old size m → IsWellFormed (kept m)
+        → Answer (take size buffer.new) (packet_word (take size buffer.new)) policy
+        (Ok (record { meaning = kept m; checksum = packet_word (take size buffer.new) })) }
+    ensures declined { result ≡ false → buffer.new ≡ buffer.old }
+{
+    if size < COMMON_HEADER_SIZE || size > buffer.len() {
+        return false;
+    }
+    let word = packet_word(&buffer[..size]);
+    put_u32(buffer, CHECKSUM_OFFSET, word);
+    true
+}
+
+/// The common header with a checksum of 0: the canonical packet of no chunks.
+#[tactic(auto, unfolding(dcsctp_wire::specs::Canonical::canonical))]
+fn header(
+    source_port: u16,
+    destination_port: u16,
+    verification_tag: u32,
+) -> [u8; COMMON_HEADER_SIZE]
+    ensures { result ≡ canonical (record {
+      source = source_port;
+      destination = destination_port;
+      tag = verification_tag;
+      chunks = [];
+    }) }
+{
+    let mut header = [0; COMMON_HEADER_SIZE];
+    put_u16(&mut header, 0, source_port);
+    put_u16(&mut header, 2, destination_port);
+    put_u32(&mut header, 4, verification_tag);
+    header
+}
+
+/// Writes the chunk at a place, and zeros after it up to a multiple of 4; all other bytes stay.
+fn put_padded<C: WritableChunk>(output: &mut [u8], place: usize, chunk: &C, chunk_size: usize)
+    requires encodable { IsChunkEncodable (C.tree chunk.now) }
+    requires size { chunk_size ≡ size_of (chunk_tlv (C.tree chunk.now)) }
+    requires room { place + round_up_to_4 chunk_size ≤ length output.old }
+    ensures bytes { output.new ≡ put output.old place (padded_chunk (C.tree chunk.now)) }
+    ensures width { IsChunkInWidth (C.tree chunk.now) }
+{
+    let (_, rest) = output.split_at_mut(place);
+    let (front, _) = rest.split_at_mut(round_up_to_4(chunk_size));
+    chunk.write_to(front);
+    front[chunk_size..].fill(0);
+}

@@ -1,0 +1,4 @@
+pub mod AnswerCodes
+pub mod Sealing
+pub mod Places
+pub mod InitRows

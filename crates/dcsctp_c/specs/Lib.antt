@@ -1,0 +1,4 @@
+pub mod Code
+pub mod Output
+pub mod Part
+pub mod Writing

@@ -1,0 +1,52 @@
+//! The codes of `dcsctp.h`, which say what became of a whole packet.
+
+ghost use Rattle.std.specs.Prelude.{◌≡◌};
+ghost use Rattle.dcsctp_c.specs.Code.{fault_code, no_memory_code};
+ghost use Rattle.dcsctp_tlv.specs.declared.error.ChunkParseError.TheVariants.{OutOfMemory};
+ghost use Rattle.dcsctp_wire.specs.Packet.{PacketFault, packet_error_of};
+ghost use Rattle.dcsctp_wire.specs.declared.packet.sctp_packet.PacketParseError.TheVariants.{FailedParseChunk};
+
+use dcsctp_wire::packet::ChunkParseError;
+use dcsctp_wire::packet::sctp_packet::PacketParseError;
+
+/// The bytes are a packet.
+pub const OK: u32 = 0;
+
+/// Fewer than 16 bytes, or more than 65,535.
+pub const SIZE: u32 = 1;
+
+/// The policy does not accept the checksum field.
+pub const CHECKSUM: u32 = 2;
+
+/// A chunk, a parameter or an error cause has a wrong length.
+pub const LENGTH: u32 = 3;
+
+/// A RE-CONFIG response has an unknown result.
+pub const VALUE: u32 = 4;
+
+/// Padding is missing or not zero.
+pub const PADDING: u32 = 5;
+
+/// An allocation failed.
+pub const NO_MEMORY: u32 = 6;
+
+/// The output is too small.
+pub const NO_ROOM: u32 = 7;
+
+/// The canonical packet would be too long.
+pub const TOO_LONG: u32 = 8;
+
+/// Returns the code of an error: of each fault its own, and `NO_MEMORY` where an allocation failed.
+pub fn code_of(error: PacketParseError) -> u32
+    ensures fault { (e : PacketFault) → error ≡ packet_error_of e → result ≡ fault_code e }
+    ensures memory { error ≡ FailedParseChunk OutOfMemory → result ≡ no_memory_code }
+{
+    match error {
+        PacketParseError::InvalidPacketSize => SIZE,
+        PacketParseError::InvalidChecksum => CHECKSUM,
+        PacketParseError::FailedParseChunk(ChunkParseError::InvalidLength) => LENGTH,
+        PacketParseError::FailedParseChunk(ChunkParseError::InvalidValue) => VALUE,
+        PacketParseError::FailedParseChunk(ChunkParseError::InvalidPadding) => PADDING,
+        _ => NO_MEMORY,
+    }
+}

@@ -1,0 +1,173 @@
+//! Whole packets: checked, located, canonical, printed.
+
+ghost use Rattle.std.specs.Prelude.{◌≡◌, ◌≤◌, ◌<◌, ◌∷◌, ◌↔◌, ℕ, List, length, take, drop};
+ghost use Rattle.dcsctp_crc32c.specs.Checksum.{packet_word};
+ghost use Rattle.dcsctp_wire.specs.Canonical.{canonical, Fits};
+ghost use Rattle.dcsctp_wire.specs.Packet.{PacketFault, IsPacket, packet_view};
+ghost use Rattle.dcsctp_wire.specs.Place.{HasPacketFaultAt};
+ghost use Rattle.dcsctp_c.specs.Code.{policy_of, IsAnswerCode};
+ghost use Rattle.dcsctp_c.specs.Output.{IsCanonical, IsText, Writes, WritesPacket};
+
+use crate::codes::{NO_MEMORY, NO_ROOM, OK, TOO_LONG, code_of};
+use crate::structs::DcsctpPolicy;
+use dcsctp_crc32c::packet_word;
+use dcsctp_wire::api::ZeroChecksumAlternateErrorDetectionMethod;
+use dcsctp_wire::packet::sctp_packet::{ChecksumPolicy, SctpPacket};
+use std::alloc::Global;
+
+/// Returns the library's policy.
+fn checksum_policy(policy: &DcsctpPolicy) -> ChecksumPolicy
+    ensures { result ≡ policy_of policy.now }
+{
+    ChecksumPolicy {
+        disable_checksum_verification: policy.any_checksum,
+        zero_checksum_alternate_error_detection_method: ZeroChecksumAlternateErrorDetectionMethod(
+            if policy.zero_checksum { 1 } else { 0 },
+        ),
+        strict_padding: policy.strict_padding,
+    }
+}
+
+/// Returns 0 for a packet, or the code of its first fault. Does not allocate.
+#[unsafe(no_mangle)]
+pub extern "C" fn dcsctp_check(bytes: &[u8], word: u32, policy: &DcsctpPolicy) -> u32
+    ensures { IsAnswerCode bytes.now word (policy_of policy.now) result }
+{
+    match SctpPacket::check(bytes, word, &checksum_policy(policy)) {
+        Ok(_) => OK,
+        Err(error) => code_of(error),
+    }
+}
+
+/// Returns what `dcsctp_check` returns, and writes the offset of the first fault in bytes; the length
+/// of the bytes where there is none. Does not allocate.
+#[unsafe(no_mangle)]
+pub extern "C" fn dcsctp_first_fault(
+    bytes: &[u8],
+    word: u32,
+    policy: &DcsctpPolicy,
+    offset: &mut usize,
+) -> u32
+    ensures code { IsAnswerCode bytes.now word (policy_of policy.now) result }
+    ensures none { IsPacket bytes.now word (policy_of policy.now) → offset.new ≡ length bytes.now }
+    ensures place { (e : PacketFault) (n : ℕ)
+        → HasPacketFaultAt bytes.now word (policy_of policy.now) e n → offset.new ≡ n }
+    ensures within { offset.new ≤ length bytes.now }
+{
+    match SctpPacket::first_fault(bytes, word, &checksum_policy(policy)) {
+        None => {
+            *offset = bytes.len();
+            OK
+        }
+        Some(found) => {
+            *offset = found.offset;
+            code_of(found.fault)
+        }
+    }
+}
+
+/// Writes the canonical packet to the front of `output`, and its size in bytes to `size`. Two packets
+/// have the same one exactly where they mean the same.
+///
+/// Returns 0, or the code of the first fault; `NO_MEMORY` where an allocation failed; `NO_ROOM` where
+/// `output` is too small; `TOO_LONG` where the canonical packet would have more than 65,532 bytes.
+/// Only 0 changes `output`, and its bytes after the canonical packet stay; `NO_ROOM` writes the size
+/// that is needed.
+#[unsafe(no_mangle)]
+pub extern "C" fn dcsctp_canonical(
+    alloc: Global,
+    bytes: &[u8],
+    word: u32,
+    policy: &DcsctpPolicy,
+    output: &mut [u8],
+    size: &mut usize,
+) -> u32
+    ensures { WritesPacket IsCanonical bytes.now word (policy_of policy.now)
+        (record { bytes = output.old; size = size.old })
+        (record { bytes = output.new; size = size.new }) result }
+{
+    match SctpPacket::from_bytes(alloc, bytes, word, &checksum_policy(policy)) {
+        Ok(packet) => write_canonical(&packet, output, size),
+        Err(error) => code_of(error),
+    }
+}
+
+/// Writes the canonical packet, where it fits and has room.
+fn write_canonical(packet: &SctpPacket, output: &mut [u8], size: &mut usize) -> u32
+    ensures { Writes (IsCanonical (packet_view packet.now))
+        (record { bytes = output.old; size = size.old })
+        (record { bytes = output.new; size = size.new }) result }
+{
+    if !packet.fits() {
+        return TOO_LONG;
+    }
+    let needed = packet.canonical_size();
+    *size = needed;
+    if needed > output.len() {
+        return NO_ROOM;
+    }
+    let (front, _) = output.split_at_mut(needed);
+    packet.write_canonical(front);
+    OK
+}
+
+/// Writes the packet's text to the front of `output`, and its size in bytes to `size`: a line for the
+/// header, and one for each chunk, in UTF-8.
+///
+/// Returns what `dcsctp_canonical` returns, but never `TOO_LONG`, and changes what that changes.
+#[unsafe(no_mangle)]
+pub extern "C" fn dcsctp_print(
+    alloc: Global,
+    bytes: &[u8],
+    word: u32,
+    policy: &DcsctpPolicy,
+    output: &mut [u8],
+    size: &mut usize,
+) -> u32
+    ensures { WritesPacket IsText bytes.now word (policy_of policy.now)
+        (record { bytes = output.old; size = size.old })
+        (record { bytes = output.new; size = size.new }) result }
+{
+    match SctpPacket::from_bytes(alloc, bytes, word, &checksum_policy(policy)) {
+        Ok(packet) => print(alloc, &packet, output, size),
+        Err(error) => code_of(error),
+    }
+}
+
+/// Writes the packet's text, where it has room.
+fn print(alloc: Global, packet: &SctpPacket, output: &mut [u8], size: &mut usize) -> u32
+    ensures { Writes (IsText (packet_view packet.now))
+        (record { bytes = output.old; size = size.old })
+        (record { bytes = output.new; size = size.new }) result }
+{
+    match format!(in alloc; "{packet}") {
+        Ok(text) => write_text(text.as_bytes(), output, size),
+        Err(_) => NO_MEMORY,
+    }
+}
+
+/// Writes a text, where it has room.
+fn write_text(text: &[u8], output: &mut [u8], size: &mut usize) -> u32
+    ensures { Writes (λ form. form ≡ text.now)
+        (record { bytes = output.old; size = size.old })
+        (record { bytes = output.new; size = size.new }) result }
+{
+    *size = text.len();
+    if text.len() > output.len() {
+        return NO_ROOM;
+    }
+    let (front, _) = output.split_at_mut(text.len());
+    front.copy_from_slice(text);
+    OK
+}
+
+/// Returns the word of a packet: its CRC32c (RFC 9260 section 6.8) as the number that its checksum
+/// field has to be, most significant byte first. The field itself doesn't matter. Does not allocate.
+#[unsafe(no_mangle)]
+pub extern "C" fn dcsctp_word(bytes: &[u8]) -> u32
+    ensures value { result ≡ packet_word bytes.now }
+    ensures field_apart { (others : List ℕ) → take 8 others ≡ take 8 bytes.now
+        → drop 12 others ≡ drop 12 bytes.now → result ≡ packet_word others }
+{
+    packet_word(bytes)
+}
