@@ -1,7 +1,6 @@
 #!/usr/bin/env bash
-# The README's test command, from the root of the repository: the pages of captures and of programs are compared with the files
-# that they show; then the gate runs, and beside it each request for memory is refused in turn, and the library is tried from C.
-# The last line is the gate's.
+# The README's test command, from the root of the repository. The pages that scripts make are compared with their sources; then the
+# gate runs. Beside it each request for memory is refused in turn, and the library is tried from C. The last line is the gate's.
 set -u
 cd "$(dirname "$0")"
 
@@ -100,6 +99,7 @@ sweep_program() {
 
 docs/captures.py --compare || exit 1
 docs/examples.py --compare || exit 1
+docs/api.py --compare || exit 1
 
 # `rt try` compiles anew for each run, which takes minutes in all: the gate leaves processors free for them.
 (
@@ -108,8 +108,13 @@ docs/examples.py --compare || exit 1
 ) >"$results/refusals" &
 refusals=$!
 
-# It proves the libraries once more, unless they were proved in their folders before: `rt lib` doesn't take what the gate proves.
-c/test.sh >"$results/c" 2>&1 &
+# In a copy, since the gate locks the crates of this one. `rt lib` proves the libraries there once more, unless it finds them proved
+# by an earlier `rt check` on this machine: it doesn't take what the gate proves.
+(
+    mkdir "$results/copy"
+    git ls-files -z | xargs -0 cp --parents -t "$results/copy"
+    "$results/copy/c/test.sh"
+) >"$results/c" 2>&1 &
 from_c=$!
 
 # All that the gate prints but its last line, which waits for the refusals and for C.
