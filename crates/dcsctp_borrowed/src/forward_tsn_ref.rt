@@ -31,7 +31,7 @@ const MID_STREAM_SIZE: usize = 8;
 /// streams stay where they lie in the packet.
 ///
 /// A contract sees its TSN and its streams, as of a `ForwardTsnChunk` or an `IForwardTsnChunk`.
-#[derive(Drop)]
+#[derive(Clone, Debug, Drop)]
 pub struct ForwardTsnRef<'a> {
     new_cumulative_tsn: Tsn,
     /// Whether it is an I-FORWARD-TSN, whose streams are skipped by a message id.
@@ -178,7 +178,7 @@ fn mid_stream(bytes: &[u8]) -> SkippedStream
 }
 
 /// The skipped streams that are left; a contract sees their list.
-#[derive(Drop)]
+#[derive(Clone, Debug, Drop)]
 pub struct SkippedStreams<'a> {
     by_mid: bool,
     count: usize,

@@ -27,7 +27,7 @@ const FIXED_SIZE: usize = 12;
 /// the packet.
 ///
 /// A contract sees its numbers and its two lists, as of a `SackChunk`.
-#[derive(Drop)]
+#[derive(Clone, Debug, Drop)]
 pub struct SackRef<'a> {
     cumulative_tsn_ack: Tsn,
     a_rwnd: u32,
@@ -140,6 +140,7 @@ impl<'a> SackRef<'a> {
     {
         Tsn(read_u32_be(&self.lists[4 * self.block_count + 4 * index..]))
     }
+
     /// Its gap ack blocks, one after the other.
     #[inline(always)]
     pub fn gap_ack_blocks(&self) -> GapAckBlocks<'a>
@@ -186,7 +187,7 @@ impl<'a> SackRef<'a> {
 }
 
 /// The gap ack blocks of a SACK that are left; a contract sees their list.
-#[derive(Drop)]
+#[derive(Clone, Debug, Drop)]
 pub struct GapAckBlocks<'a> {
     count: usize,
     rest: &'a [u8],
@@ -220,7 +221,7 @@ impl<'a> Iterator for GapAckBlocks<'a> {
 }
 
 /// The duplicate TSNs of a SACK that are left; a contract sees the list of their numbers.
-#[derive(Drop)]
+#[derive(Clone, Debug, Drop)]
 pub struct DuplicateTsns<'a> {
     count: usize,
     rest: &'a [u8],
