@@ -54,10 +54,10 @@ pub struct UserData<'a> {
 }
 
 impl<'a> UserData<'a> {
-    /// Reads DATA or I-DATA, without a copy; nothing exactly where the chunk has another type, or a
-    /// value that is too short for its kind.
+    /// Reads DATA or I-DATA, without a copy; `None` exactly where the chunk has another type, or a
+    /// value that is too short for its kind: of less than 12 bytes, or of less than 16.
     ///
-    /// Of a chunk of a packet this is the user data that `SctpPacket::from_bytes` gives, and nothing
+    /// Of a chunk of a packet this is the user data that `SctpPacket::from_bytes` gives, and `None`
     /// exactly where the chunk has another type.
     #[inline(always)]
     pub fn from_raw(raw: &RawChunk<'a>) -> Option<UserData<'a>>
@@ -70,7 +70,7 @@ impl<'a> UserData<'a> {
         UserData::read(raw.typ, raw.flags, raw.value)
     }
 
-    /// What a value means, and no law of it.
+    /// What a value of this type means. Proves only the kinds' readings.
     #[inline(always)]
     fn read(typ: u8, flags: u8, value: &'a [u8]) -> Option<UserData<'a>>
         ensures read { option_map user_data_view result ≡ read_user_data typ flags value.now }
