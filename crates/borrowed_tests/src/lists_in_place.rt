@@ -1,12 +1,14 @@
-//! The parameters and the error causes of a chunk, and its cookie, each read where it lies.
+//! The parameters and the error causes of a chunk, its cookie and its heartbeat info, each read where
+//! it lies.
 
 use dcsctp_borrowed::cookie_echo::cookie;
+use dcsctp_borrowed::heartbeat_info::heartbeat_info;
 use dcsctp_borrowed::raw_causes::RawCauses;
 use dcsctp_borrowed::raw_parameters::RawParameters;
 use dcsctp_wire::packet::ChunkParseError;
 use dcsctp_wire::packet::error_causes::ErrorCause;
 use dcsctp_wire::packet::parameter::{Parameter, RawParameter};
-use samples::captures::{ABORT, COOKIE_ECHO, ERROR, RE_CONFIG, SACK};
+use samples::captures::{ABORT, COOKIE_ECHO, ERROR, HEARTBEAT, HEARTBEAT_ACK, RE_CONFIG, SACK};
 use samples::help::raw_of;
 use std::alloc::Global;
 use std::test::Fail;
@@ -151,6 +153,47 @@ fn of_cookies(rt: HostRuntime) -> Result<(), Fail> {
     ];
     for (bytes, wanted) in rows {
         assert!(rt; has_cookie(bytes, wanted)?, "{bytes:?}");
+    }
+    Ok(())
+}
+
+/// The Heartbeat Info parameters of the chunk at the front have these infos.
+fn has_infos(bytes: &[u8], wanted: &[&[u8]]) -> Result<bool, ChunkParseError> {
+    let Some(raws) = RawParameters::from_raw(&raw_of(bytes)?) else {
+        return Ok(wanted.is_empty());
+    };
+    let mut left = wanted;
+    for raw in raws {
+        if let Some(info) = heartbeat_info(&raw) {
+            if left.is_empty() || left[0] != info {
+                return Ok(false);
+            }
+            left = &left[1..];
+        }
+    }
+    Ok(left.is_empty())
+}
+
+// By hand from RFC 9260 sections 3.3.5 and 3.3.6.
+#[test]
+fn of_infos(rt: HostRuntime) -> Result<(), Fail> {
+    let rows: [(&[u8], &[&[u8]]); 7] = [
+        (HEARTBEAT, &[&HEARTBEAT[8..]]),
+        (HEARTBEAT_ACK, &[&HEARTBEAT_ACK[8..]]),
+        // two in one HEARTBEAT: without a byte, and three bytes before one of padding
+        (
+            &[4, 0xff, 0, 16, 0, 1, 0, 4, 0, 1, 0, 7, 7, 8, 9, 1],
+            &[&[], &[7, 8, 9]],
+        ),
+        // a state cookie; the types 0, 2 and 257
+        (&[5, 0, 0, 9, 0, 7, 0, 5, 7], &[]),
+        (&[4, 0, 0, 16, 0, 0, 0, 4, 0, 2, 0, 4, 1, 1, 0, 4], &[]),
+        // no parameter; COOKIE ACK
+        (&[4, 0, 0, 4], &[]),
+        (&[11, 0, 0, 4], &[]),
+    ];
+    for (i, (bytes, wanted)) in rows.into_iter().enumerate() {
+        assert!(rt; has_infos(bytes, wanted)?, "row {i}");
     }
     Ok(())
 }

@@ -4,4 +4,3 @@ pub mod DataRows
 pub mod FieldLists
 pub mod Changes
 pub mod ListPlaces
-pub mod CookieRows

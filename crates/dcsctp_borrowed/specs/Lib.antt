@@ -7,3 +7,4 @@ pub mod Front
 pub mod RawParameters
 pub mod RawCauses
 pub mod CookieEcho
+pub mod HeartbeatInfo

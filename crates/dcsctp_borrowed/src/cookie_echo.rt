@@ -8,10 +8,10 @@ ghost use Rattle.dcsctp_borrowed.specs.RawChunks.{RawMeans};
 use dcsctp_wire::packet::chunk::RawChunk;
 use dcsctp_wire::packet::cookie_echo_chunk;
 
-/// The cookie of COOKIE ECHO (RFC 9260 section 3.3.11), without a copy; nothing exactly where the
-/// chunk has another type, or no value.
+/// Returns the cookie of COOKIE ECHO (RFC 9260 section 3.3.11), without a copy; `None` exactly where
+/// the chunk has another type, or no value.
 ///
-/// Of a chunk of a packet this is the cookie that `SctpPacket::from_bytes` gives, and nothing exactly
+/// Of a chunk of a packet this is the cookie that `SctpPacket::from_bytes` gives, and `None` exactly
 /// where the chunk has another type.
 #[inline(always)]
 pub fn cookie<'a>(raw: &RawChunk<'a>) -> Option<&'a [u8]>
@@ -23,7 +23,7 @@ pub fn cookie<'a>(raw: &RawChunk<'a>) -> Option<&'a [u8]>
     cookie_in(raw.typ, raw.value)
 }
 
-/// What a value of this type means, and no law of it.
+/// What a value of this type means. Proves only the kind's reading.
 #[inline(always)]
 #[tactic(auto, unfolding(dcsctp_chunk::specs::CookieEcho::read))]
 fn cookie_in(typ: u8, value: &[u8]) -> Option<&[u8]>

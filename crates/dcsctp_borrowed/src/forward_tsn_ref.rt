@@ -31,7 +31,7 @@ const MID_STREAM_SIZE: usize = 8;
 /// streams stay where they lie in the packet.
 ///
 /// A contract sees its TSN and its streams, as of a `ForwardTsnChunk` or an `IForwardTsnChunk`.
-#[derive(Drop)]
+#[derive(Clone, Debug, Drop)]
 pub struct ForwardTsnRef<'a> {
     new_cumulative_tsn: Tsn,
     /// Whether it is an I-FORWARD-TSN, whose streams are skipped by a message id.
@@ -53,10 +53,11 @@ impl<'a> Model for ForwardTsnRef<'a> {
 
 #[tactic(auto, using(crate::proofs::FieldLists::stream_count))]
 impl<'a> ForwardTsnRef<'a> {
-    /// Reads FORWARD-TSN or I-FORWARD-TSN, without a copy; flags are ignored. Nothing exactly where
-    /// the chunk has another type, or a value that isn't 4 bytes and whole streams.
+    /// Reads FORWARD-TSN or I-FORWARD-TSN, without a copy; flags are ignored. `None` exactly where
+    /// the chunk has another type, or a value that isn't 4 bytes and whole streams: of 4 bytes each
+    /// (RFC 3758 section 3.2), or of 8 (RFC 8260 section 2.3.1).
     ///
-    /// Of a chunk of a packet this is the chunk that `SctpPacket::from_bytes` gives, and nothing
+    /// Of a chunk of a packet this is the chunk that `SctpPacket::from_bytes` gives, and `None`
     /// exactly where the chunk has another type.
     #[inline(always)]
     pub fn from_raw(raw: &RawChunk<'a>) -> Option<ForwardTsnRef<'a>>
@@ -110,7 +111,7 @@ impl<'a> ForwardTsnRef<'a> {
         })
     }
 
-    /// The TSN up to which all is to be taken as received.
+    /// Returns the TSN up to which all is to be taken as received.
     #[inline(always)]
     pub fn new_cumulative_tsn(&self) -> Tsn
         ensures { result.0 ≡ self.now.tsn }
@@ -118,7 +119,7 @@ impl<'a> ForwardTsnRef<'a> {
         self.new_cumulative_tsn
     }
 
-    /// How many streams it skips messages of.
+    /// Returns the number of skipped streams.
     #[inline(always)]
     pub fn skipped_stream_count(&self) -> usize
         ensures { result ≡ length self.now.streams }
@@ -126,7 +127,7 @@ impl<'a> ForwardTsnRef<'a> {
         self.count
     }
 
-    /// The skipped stream at this place, from 0 on.
+    /// Returns the skipped stream at this index, which has to be less than `skipped_stream_count()`.
     #[inline(always)]
     pub fn skipped_stream(&self, index: usize) -> SkippedStream
         requires { index < length self.now.streams }
@@ -139,7 +140,7 @@ impl<'a> ForwardTsnRef<'a> {
         }
     }
 
-    /// Its skipped streams, one after the other.
+    /// Returns an iterator over the skipped streams, in their order.
     #[inline(always)]
     pub fn skipped_streams(&self) -> SkippedStreams<'a>
         ensures { result ≡ self.now.streams }
@@ -177,8 +178,9 @@ fn mid_stream(bytes: &[u8]) -> SkippedStream
     )
 }
 
-/// The skipped streams that are left; a contract sees their list.
-#[derive(Drop)]
+/// An iterator over the skipped streams of a FORWARD-TSN or I-FORWARD-TSN. A contract sees the list of
+/// those that are left.
+#[derive(Clone, Debug, Drop)]
 pub struct SkippedStreams<'a> {
     by_mid: bool,
     count: usize,
@@ -200,6 +202,7 @@ impl<'a> Iterator for SkippedStreams<'a> {
 
     ghost remaining = { item_count (λ left. left) };
 
+    /// Returns the next skipped stream; `None` once all were returned.
     #[inline(always)]
     fn next(&mut self) -> Option<SkippedStream> {
         if self.count == 0 {

@@ -26,8 +26,8 @@ pub fn set_verification_tag(packet: &mut [u8], verification_tag: u32)
     put_u32(packet, 4, verification_tag);
 }
 
-/// Writes the checksum field, bytes 8 to 11 of a packet, most significant byte first: of a CRC32c,
-/// `swap_bytes()`. All other bytes stay.
+/// Writes the checksum field (RFC 9260 section 3.1), bytes 8 to 11 of a packet, most significant byte
+/// first: of a CRC32c, `swap_bytes()`. All other bytes stay.
 ///
 /// A packet then has this field, and all else as it had, under each word and policy that accept the
 /// field and are as strict.

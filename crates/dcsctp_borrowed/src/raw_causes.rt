@@ -37,10 +37,10 @@ impl<'a> Model for RawCauses<'a> {
 }
 
 impl<'a> RawCauses<'a> {
-    /// The error causes of ABORT and ERROR; nothing exactly where the chunk has another type, or a
-    /// value that its type doesn't allow. Does not allocate.
+    /// Returns the error causes of ABORT and ERROR (RFC 9260 sections 3.3.7 and 3.3.10); `None` exactly
+    /// where the chunk has another type, or a value that its type doesn't allow. Does not allocate.
     ///
-    /// Of a chunk of a packet these are the causes that `SctpPacket::from_bytes` gives, and nothing
+    /// Of a chunk of a packet these are the causes that `SctpPacket::from_bytes` gives, and `None`
     /// exactly where the chunk has another type.
     // It checks the value, as `RawParameters::from_raw` does.
     pub fn from_raw(raw: &RawChunk<'a>) -> Option<RawCauses<'a>>
@@ -93,7 +93,7 @@ impl<'a> Iterator for RawCauses<'a> {
 
     ghost remaining = { λ bytes. at_most (length bytes) };
 
-    /// Returns the next cause, whose value is a part of the bytes; nothing once all were returned.
+    /// Returns the next cause, whose value is a part of the bytes; `None` once all were returned.
     #[inline(always)]
     fn next(&mut self) -> Option<RawParameter<'a>> {
         let bytes = self.rest;

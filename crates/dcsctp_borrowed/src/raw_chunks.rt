@@ -10,7 +10,8 @@ use dcsctp_tlv::frame::frame_parts;
 use dcsctp_wire::packet::chunk::RawChunk;
 use std::marker::Model;
 
-/// The chunks that are left of a packet that was checked, each as its type, its flags and its value.
+/// The chunks that are left of a packet that was checked, each as its type, its flags and its value
+/// (RFC 9260 section 3.2).
 ///
 /// A contract sees the bytes of these chunks. They are known to mean chunks, so `next` tests
 /// nothing and has no error, and `Chunk::try_from` of what it returns fails only where an
@@ -48,7 +49,7 @@ impl<'a> Iterator for RawChunks<'a> {
 
     ghost remaining = { λ bytes. at_most (length bytes) };
 
-    /// Returns the next chunk, whose value is a part of the bytes; nothing once all were returned.
+    /// Returns the next chunk, whose value is a part of the bytes; `None` once all were returned.
     #[inline(always)]
     fn next(&mut self) -> Option<RawChunk<'a>> {
         let bytes = self.rest;

@@ -27,7 +27,7 @@ const FIXED_SIZE: usize = 12;
 /// the packet.
 ///
 /// A contract sees its numbers and its two lists, as of a `SackChunk`.
-#[derive(Drop)]
+#[derive(Clone, Debug, Drop)]
 pub struct SackRef<'a> {
     cumulative_tsn_ack: Tsn,
     a_rwnd: u32,
@@ -52,11 +52,11 @@ impl<'a> Model for SackRef<'a> {
 
 #[tactic(auto, using(crate::proofs::FieldLists::field_count))]
 impl<'a> SackRef<'a> {
-    /// Reads a SACK, without a copy; flags are ignored. Nothing exactly where the chunk has another
-    /// type, or a value that isn't just as long as its two counts say.
+    /// Reads a SACK, without a copy; flags are ignored. `None` exactly where the chunk has another
+    /// type, or a value of another size than its two counts say.
     ///
-    /// Of a chunk of a packet this is the SACK that `SctpPacket::from_bytes` gives, and nothing
-    /// exactly where the chunk has another type.
+    /// Of a chunk of a packet this is the SACK that `SctpPacket::from_bytes` gives, and `None` exactly
+    /// where the chunk has another type.
     #[inline(always)]
     pub fn from_raw(raw: &RawChunk<'a>) -> Option<SackRef<'a>>
         ensures read { result ≡ read_sack raw.now.typ raw.now.value.now }
@@ -91,7 +91,7 @@ impl<'a> SackRef<'a> {
         })
     }
 
-    /// The last TSN that was received in sequence.
+    /// Returns the last TSN that was received in sequence.
     #[inline(always)]
     pub fn cumulative_tsn_ack(&self) -> Tsn
         ensures { result.0 ≡ self.now.tsn }
@@ -99,7 +99,7 @@ impl<'a> SackRef<'a> {
         self.cumulative_tsn_ack
     }
 
-    /// Bytes that the receiver has room for.
+    /// Returns the bytes that the receiver has room for.
     #[inline(always)]
     pub fn a_rwnd(&self) -> u32
         ensures { result ≡ self.now.a_rwnd }
@@ -107,7 +107,7 @@ impl<'a> SackRef<'a> {
         self.a_rwnd
     }
 
-    /// How many gap ack blocks it has.
+    /// Returns the number of gap ack blocks.
     #[inline(always)]
     pub fn gap_ack_block_count(&self) -> usize
         ensures { result ≡ length self.now.blocks }
@@ -115,7 +115,8 @@ impl<'a> SackRef<'a> {
         self.block_count
     }
 
-    /// The gap ack block at this place, from 0 on.
+    /// Returns the gap ack block at this index, which has to be less than `gap_ack_block_count()`. Its
+    /// start and its end are offsets from the cumulative TSN.
     #[inline(always)]
     pub fn gap_ack_block(&self, index: usize) -> GapAckBlock
         requires { index < length self.now.blocks }
@@ -124,7 +125,7 @@ impl<'a> SackRef<'a> {
         GapAckBlock::read(&self.lists[4 * index..])
     }
 
-    /// How many duplicate TSNs it has.
+    /// Returns the number of duplicate TSNs.
     #[inline(always)]
     pub fn duplicate_tsn_count(&self) -> usize
         ensures { result ≡ length self.now.duplicates }
@@ -132,7 +133,7 @@ impl<'a> SackRef<'a> {
         self.duplicate_count
     }
 
-    /// The duplicate TSN at this place, from 0 on.
+    /// Returns the duplicate TSN at this index, which has to be less than `duplicate_tsn_count()`.
     #[inline(always)]
     pub fn duplicate_tsn(&self, index: usize) -> Tsn
         requires { index < length self.now.duplicates }
@@ -140,7 +141,8 @@ impl<'a> SackRef<'a> {
     {
         Tsn(read_u32_be(&self.lists[4 * self.block_count + 4 * index..]))
     }
-    /// Its gap ack blocks, one after the other.
+
+    /// Returns an iterator over the gap ack blocks, in their order.
     #[inline(always)]
     pub fn gap_ack_blocks(&self) -> GapAckBlocks<'a>
         ensures { result ≡ self.now.blocks }
@@ -151,7 +153,7 @@ impl<'a> SackRef<'a> {
         }
     }
 
-    /// Its duplicate TSNs, one after the other.
+    /// Returns an iterator over the duplicate TSNs, in their order.
     #[inline(always)]
     pub fn duplicate_tsns(&self) -> DuplicateTsns<'a>
         ensures { result ≡ self.now.duplicates }
@@ -162,8 +164,8 @@ impl<'a> SackRef<'a> {
         }
     }
 
-    /// Whether the gap ack blocks are the runs of the offsets that they cover, by rising start, and
-    /// the first, if any, starts at 2 or later: what `validate_sack` says of the `SackChunk`.
+    /// Returns whether the gap ack blocks are the runs of the offsets that they cover, by rising start,
+    /// and the first, if any, starts at 2 or later: what `validate_sack` says of the `SackChunk`.
     ///
     /// Each TSN at a covered offset of 1 to 65,535 is greater than the cumulative TSN.
     #[inline(always)]
@@ -185,8 +187,8 @@ impl<'a> SackRef<'a> {
     }
 }
 
-/// The gap ack blocks of a SACK that are left; a contract sees their list.
-#[derive(Drop)]
+/// An iterator over the gap ack blocks of a SACK. A contract sees the list of those that are left.
+#[derive(Clone, Debug, Drop)]
 pub struct GapAckBlocks<'a> {
     count: usize,
     rest: &'a [u8],
@@ -207,6 +209,7 @@ impl<'a> Iterator for GapAckBlocks<'a> {
 
     ghost remaining = { item_count (λ left. left) };
 
+    /// Returns the next gap ack block; `None` once all were returned.
     #[inline(always)]
     fn next(&mut self) -> Option<GapAckBlock> {
         if self.count == 0 {
@@ -219,8 +222,9 @@ impl<'a> Iterator for GapAckBlocks<'a> {
     }
 }
 
-/// The duplicate TSNs of a SACK that are left; a contract sees the list of their numbers.
-#[derive(Drop)]
+/// An iterator over the duplicate TSNs of a SACK. A contract sees the list of the numbers of those that
+/// are left.
+#[derive(Clone, Debug, Drop)]
 pub struct DuplicateTsns<'a> {
     count: usize,
     rest: &'a [u8],
@@ -241,6 +245,7 @@ impl<'a> Iterator for DuplicateTsns<'a> {
 
     ghost remaining = { item_count (λ left. left) };
 
+    /// Returns the next duplicate TSN; `None` once all were returned.
     #[inline(always)]
     fn next(&mut self) -> Option<Tsn> {
         if self.count == 0 {

@@ -1,7 +1,10 @@
 //! The user data of DATA and I-DATA, in a packet's bytes.
 
-ghost use Rattle.std.specs.Prelude.{◌≡◌, ◌≤◌, IfSome, option_map, if◌then◌else◌, length};
+ghost use Rattle.std.specs.Prelude.{◌≡◌, ◌≤◌, IfSome, not, option_map, if◌then◌else◌, length, drop};
 ghost use Rattle.std.specs.Result.{result_ok};
+ghost use Rattle.dcsctp_types.specs.StreamKey.{is_ordered_key, stream_of};
+ghost use Rattle.dcsctp_tlv.specs.Number.{number16};
+ghost use Rattle.dcsctp_chunk.specs.Flags as bits;
 ghost use Rattle.dcsctp_chunk.specs.DataChunk as data_kind;
 ghost use Rattle.dcsctp_chunk.specs.IDataChunk as idata_kind;
 ghost use Rattle.dcsctp_wire.specs.Chunk.{ChunkTree};
@@ -51,10 +54,10 @@ pub struct UserData<'a> {
 }
 
 impl<'a> UserData<'a> {
-    /// Reads DATA or I-DATA, without a copy; nothing exactly where the chunk has another type, or a
-    /// value that is too short for its kind.
+    /// Reads DATA or I-DATA, without a copy; `None` exactly where the chunk has another type, or a
+    /// value that is too short for its kind: of less than 12 bytes, or of less than 16.
     ///
-    /// Of a chunk of a packet this is the user data that `SctpPacket::from_bytes` gives, and nothing
+    /// Of a chunk of a packet this is the user data that `SctpPacket::from_bytes` gives, and `None`
     /// exactly where the chunk has another type.
     #[inline(always)]
     pub fn from_raw(raw: &RawChunk<'a>) -> Option<UserData<'a>>
@@ -67,7 +70,7 @@ impl<'a> UserData<'a> {
         UserData::read(raw.typ, raw.flags, raw.value)
     }
 
-    /// What a value means, and no law of it.
+    /// What a value of this type means. Proves only the kinds' readings.
     #[inline(always)]
     fn read(typ: u8, flags: u8, value: &'a [u8]) -> Option<UserData<'a>>
         ensures read { option_map user_data_view result ≡ read_user_data typ flags value.now }
@@ -92,7 +95,7 @@ impl<'a> UserData<'a> {
         }
         Some(UserData {
             tsn: Tsn(read_u32_be(value)),
-            stream_key: StreamKey::new(is_set(flags, 2), StreamId(read_u16_be(&value[4..]))),
+            stream_key: stream_key_of(flags, value),
             ssn: Ssn(read_u16_be(&value[6..])),
             mid: Mid(0),
             fsn: Fsn(0),
@@ -118,7 +121,7 @@ impl<'a> UserData<'a> {
         let (ppid, fsn) = ppid_and_fsn(is_beginning, read_u32_be(&value[12..]));
         Some(UserData {
             tsn: Tsn(read_u32_be(value)),
-            stream_key: StreamKey::new(is_set(flags, 2), StreamId(read_u16_be(&value[4..]))),
+            stream_key: stream_key_of(flags, value),
             ssn: Ssn(0),
             mid: Mid(read_u32_be(&value[8..])),
             fsn,
@@ -129,6 +132,16 @@ impl<'a> UserData<'a> {
             immediate_ack: is_set(flags, 3),
         })
     }
+}
+
+/// The stream of a chunk with these flags and this value, and whether its U bit is set.
+#[inline(always)]
+fn stream_key_of(flags: u8, value: &[u8]) -> StreamKey
+    requires { 6 ≤ length value.now }
+    ensures unordered { not (is_ordered_key result) ≡ bits.is_set flags 2 }
+    ensures stream { (stream_of result).0 ≡ number16 (drop 4 value.now) }
+{
+    StreamKey::new(is_set(flags, 2), StreamId(read_u16_be(&value[4..])))
 }
 
 /// What the number before an I-DATA chunk's payload says; what it doesn't say is 0.
