@@ -22,28 +22,35 @@ abbrev GivesFaults : PacketParseError → ℕ → Type 0
 GivesFaults error code = (e : PacketFault) → error ≡ packet_error_of e → code ≡ fault_code e
 
 module _ (bytes : List ℕ) (word : ℕ) (asked policy : ChecksumPolicy) (same : asked ≡ policy) where
-  asked_for : (a : Result PacketTree PacketFault) → Answer bytes word asked a → Answer bytes word policy a
+  asked_for : (a : Result PacketTree PacketFault) → Answer bytes word asked a
+      → Answer bytes word policy a
   asked_for a m = subst (λ (p : ChecksumPolicy). Answer bytes word p a) same m
 
-  pub answered : (a : Result PacketTree PacketFault) (code : ℕ) → AreBytes bytes → Answer bytes word asked a → code ≡ answer_code a → IsAnswerCode bytes word policy code
+  pub answered : (a : Result PacketTree PacketFault) (code : ℕ) → AreBytes bytes
+      → Answer bytes word asked a → code ≡ answer_code a → IsAnswerCode bytes word policy code
   answered a code fits m is = record {
     some = (a, asked_for a m, is);
     each = λ b n. is ∙ ap answer_code (packet_single bytes word policy fits a b (asked_for a m) n);
   }
 
-  pub checked_code : (error : PacketParseError) (code : ℕ) → AreBytes bytes → Answers packet_checking (λ (n : ℕ). n) (Counted (λ p. node_count p.meaning) (Answer bytes word asked)) (Err error)
+  pub checked_code : (error : PacketParseError) (code : ℕ) → AreBytes bytes
+      → Answers packet_checking (λ (n : ℕ). n)
+      (Counted (λ p. node_count p.meaning) (Answer bytes word asked)) (Err error)
       → GivesFaults error code → IsAnswerCode bytes word policy code
   checked_code error code fits (inl f) of = answered (Err f.0) code fits f.2 (of f.0 f.1)
   checked_code error code fits (inr none) of = absurd none
 
-  pub located_code : (found : FirstFault) (code : ℕ) → AreBytes bytes → Answers packet_locating (λ (u : Unit {0}). u) (PacketLocated bytes word asked) (Err found)
+  pub located_code : (found : FirstFault) (code : ℕ) → AreBytes bytes
+      → Answers packet_locating (λ (u : Unit {0}). u) (PacketLocated bytes word asked) (Err found)
       → GivesFaults found.fault code → IsAnswerCode bytes word policy code
-  located_code found code fits (inl f) of = answered (Err f.0.0) code fits f.2.0 (of f.0.0 (ap (λ (x : FirstFault). x.fault) f.1))
+  located_code found code fits (inl f) of =
+      answered (Err f.0.0) code fits f.2.0 (of f.0.0 (ap (λ (x : FirstFault). x.fault) f.1))
   located_code found code fits (inr none) of = absurd none
 
   -- ---- the place of the fault
 
-  pub located_place : (found : FirstFault) (e : PacketFault) (n : ℕ) → Exactly packet_locating (λ (u : Unit {0}). u) (PacketLocated bytes word asked) (Err found)
+  pub located_place : (found : FirstFault) (e : PacketFault) (n : ℕ)
+      → Exactly packet_locating (λ (u : Unit {0}). u) (PacketLocated bytes word asked) (Err found)
       → HasPacketFaultAt bytes word policy e n → found.offset ≡ n
   located_place found e n h at =
       let here = subst (λ (p : ChecksumPolicy). HasPacketFaultAt bytes word p e n) (sym same) at in
@@ -53,32 +60,51 @@ module _ (bytes : List ℕ) (word : ℕ) (asked policy : ChecksumPolicy) (same :
       let both : found ≡ there = cc in
       ap (λ (x : FirstFault). x.offset) both
 
-  pub not_both : (p : PacketTree) (e : PacketFault) → AreBytes bytes → Answer bytes word asked (Ok p) → Answer bytes word policy (Err e) → ⊥
-  not_both p e fits m f = let h : Ok p ≡ Err e = packet_single bytes word policy fits (Ok p) (Err e) (asked_for (Ok p) m) f in cc
+  pub not_both : (p : PacketTree) (e : PacketFault) → AreBytes bytes
+      → Answer bytes word asked (Ok p) → Answer bytes word policy (Err e) → ⊥
+  not_both p e fits m f =
+      let h : Ok p ≡ Err e =
+      packet_single bytes word policy fits (Ok p) (Err e) (asked_for (Ok p) m) f in
+      cc
 
-  pub no_packet : (found : FirstFault) → AreBytes bytes → Answers packet_locating (λ (u : Unit {0}). u) (PacketLocated bytes word asked) (Err found) → IsPacket bytes word policy → ⊥
-  no_packet found fits (inl f) p = let h : Ok p.0 ≡ Err f.0.0 = packet_single bytes word policy fits (Ok p.0) (Err f.0.0) p.1 (asked_for (Err f.0.0) f.2.0) in cc
+  pub no_packet : (found : FirstFault) → AreBytes bytes
+      → Answers packet_locating (λ (u : Unit {0}). u) (PacketLocated bytes word asked) (Err found)
+      → IsPacket bytes word policy → ⊥
+  no_packet found fits (inl f) p =
+      let m = asked_for (Err f.0.0) f.2.0 in
+      let h : Ok p.0 ≡ Err f.0.0 =
+      packet_single bytes word policy fits (Ok p.0) (Err f.0.0) p.1 m in
+      cc
   no_packet found fits (inr none) p = none
 
   -- ---- what is written
 
-  pub of_packet : (IsForm : PacketTree → List ℕ → Type 0) (p : PacketTree) (old new : Output) (code : ℕ) → Answer bytes word asked (Ok p) → Writes (IsForm p) old new code
+  pub of_packet : (IsForm : PacketTree → List ℕ → Type 0) (p : PacketTree) (old new : Output)
+      (code : ℕ) → Answer bytes word asked (Ok p) → Writes (IsForm p) old new code
       → WritesPacket IsForm bytes word policy old new code
   of_packet IsForm p old new code m h = packet p (asked_for (Ok p) m) h
 
-  pub refused : (IsForm : PacketTree → List ℕ → Type 0) (error : PacketParseError) (old : Output) (code : ℕ) → Answers packet_reading packet_view (Answer bytes word asked) (Err error)
-      → (error ≡ FailedParseChunk OutOfMemory → IsPacket bytes word asked) → GivesFaults error code → (error ≡ FailedParseChunk OutOfMemory → code ≡ no_memory_code)
+  pub refused : (IsForm : PacketTree → List ℕ → Type 0) (error : PacketParseError) (old : Output)
+      (code : ℕ) → Answers packet_reading packet_view (Answer bytes word asked) (Err error)
+      → (error ≡ FailedParseChunk OutOfMemory → IsPacket bytes word asked) → GivesFaults error code
+      → (error ≡ FailedParseChunk OutOfMemory → code ≡ no_memory_code)
       → WritesPacket IsForm bytes word policy old old code
-  refused IsForm error old code (inl f) memory of lack = faulty f.0 (asked_for (Err f.0) f.2) (of f.0 f.1) refl
-  refused IsForm error old code (inr lacks) memory of lack = (let p = memory lacks in packet p.0 (asked_for (Ok p.0) p.1) (no_memory (lack lacks) refl))
+  refused IsForm error old code (inl f) memory of lack =
+      faulty f.0 (asked_for (Err f.0) f.2) (of f.0 f.1) refl
+  refused IsForm error old code (inr lacks) memory of lack =
+      let p = memory lacks in
+      packet p.0 (asked_for (Ok p.0) p.1) (no_memory (lack lacks) refl)
 
 -- ---- one form
 
 pub resized : (old : Output) (n m : ℕ) → n ≡ m → record old { size = n } ≡ record old { size = m }
 resized old n m e = ap (λ (k : ℕ). record old { size = k }) e
 
-pub one_form : (IsForm : List ℕ → Type 0) (text : List ℕ) (old new : Output) (code : ℕ) → IsForm text → Writes (λ form. form ≡ text) old new code → Writes IsForm old new code
-one_form IsForm text old new code h (written form is a b c) = written form (subst IsForm (sym is) h) a b c
+pub one_form : (IsForm : List ℕ → Type 0) (text : List ℕ) (old new : Output) (code : ℕ)
+    → IsForm text → Writes (λ form. form ≡ text) old new code → Writes IsForm old new code
+one_form IsForm text old new code h (written form is a b c) =
+    written form (subst IsForm (sym is) h) a b c
 one_form IsForm text old new code h (no_memory a b) = no_memory a b
-one_form IsForm text old new code h (no_room form is a b c) = no_room form (subst IsForm (sym is) h) a b c
+one_form IsForm text old new code h (no_room form is a b c) =
+    no_room form (subst IsForm (sym is) h) a b c
 one_form IsForm text old new code h (no_form never a b) = absurd (never text refl)

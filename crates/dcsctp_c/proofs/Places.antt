@@ -35,22 +35,31 @@ suffix k xs = elim (cases_lt k (length xs)) [
 ]
 
 -- the value of a frame is a part
-value_part : (bytes : List ℕ) (offset : ℕ) → BeginsWithFrame (drop offset bytes) → part bytes (offset + 4) (length (frame_value (drop offset bytes))) ≡ frame_value (drop offset bytes)
+value_part : (bytes : List ℕ) (offset : ℕ) → BeginsWithFrame (drop offset bytes)
+    → part bytes (offset + 4) (length (frame_value (drop offset bytes)))
+    ≡ frame_value (drop offset bytes)
 value_part bytes offset frame =
     let len = front_length (drop offset bytes) frame in
     let low = frame.low in
-    let n : length (frame_value (drop offset bytes)) ≡ frame_length (drop offset bytes) - 4 = omega (arith, len, low) in
+    let n : length (frame_value (drop offset bytes)) ≡ frame_length (drop offset bytes) - 4 =
+    omega (arith, len, low) in
     ap (λ (k : ℕ). take k (drop (offset + 4) bytes)) n
     ∙ ap (take (frame_length (drop offset bytes) - 4)) (sym (drop-drop 4 offset bytes))
 
-pub chunk_there : (bytes : List ℕ) (offset : ℕ) (value rest : List ℕ) → AreBytes bytes → BeginsWithFrame (drop offset bytes) → value ≡ frame_value (drop offset bytes) → rest ≡ frame_rest (drop offset bytes)
-    → IsChunkAt bytes offset (record {
-      typ = get_or (drop offset bytes) 0 0;
-      flags = get_or (drop offset bytes) 1 0;
-      value_offset = offset + 4;
-      value_size = length value;
-      next = length bytes - length rest;
-    })
+-- what a call writes of a chunk with this value, and this rest after it
+abbrev pub chunk_of : (bytes : List ℕ) (offset : ℕ) (value rest : List ℕ) → DcsctpChunk
+chunk_of bytes offset value rest = record {
+  typ = get_or (drop offset bytes) 0 0;
+  flags = get_or (drop offset bytes) 1 0;
+  value_offset = offset + 4;
+  value_size = length value;
+  next = length bytes - length rest;
+}
+
+pub chunk_there : (bytes : List ℕ) (offset : ℕ) (value rest : List ℕ) → AreBytes bytes
+    → BeginsWithFrame (drop offset bytes) → value ≡ frame_value (drop offset bytes)
+    → rest ≡ frame_rest (drop offset bytes)
+    → IsChunkAt bytes offset (chunk_of bytes offset value rest)
 chunk_there bytes offset value rest fits frame is_value is_rest = record {
   typ = refl;
   flags = refl;
@@ -64,7 +73,8 @@ chunk_there bytes offset value rest fits frame is_value is_rest = record {
   size : length (drop offset bytes) ≡ length bytes - offset
   size = length-drop offset bytes
 
-  shrinks : length (frame_rest (drop offset bytes)) + frame_length (drop offset bytes) ≤ length (drop offset bytes)
+  shrinks : length (frame_rest (drop offset bytes)) + frame_length (drop offset bytes)
+      ≤ length (drop offset bytes)
   shrinks = frame_shrinks (drop offset bytes) frame
 
   low : 4 ≤ frame_length (drop offset bytes)
@@ -77,12 +87,20 @@ chunk_there bytes offset value rest fits frame is_value is_rest = record {
   value_size = ap length is_value
 
   within : nat_le (offset + 4 + length value) (length bytes) ≡ true
-  within = le-leb _ _ (omega (arith, size, low, value_size, front_length (drop offset bytes) frame, frame.high))
+  within =
+      let len = front_length (drop offset bytes) frame in
+      le-leb _ _ (omega (arith, size, low, value_size, len, frame.high))
 
-  at_value : (if nat_le (offset + 4 + length value) (length bytes) then Some (part bytes (offset + 4) (length value)) else None) ≡ Some (frame_value (drop offset bytes))
-  at_value = rw within (ap Some (ap (λ (n : ℕ). part bytes (offset + 4) n) value_size ∙ value_part bytes offset frame))
+  is_part : part bytes (offset + 4) (length value) ≡ frame_value (drop offset bytes)
+  is_part =
+      ap (λ (n : ℕ). part bytes (offset + 4) n) value_size ∙ value_part bytes offset frame
 
-  at : frame_rest (drop offset bytes) ≡ drop (offset + round_up_to_4 (frame_length (drop offset bytes))) bytes
+  at_value : value_at bytes (chunk_of bytes offset value rest)
+      ≡ Some (frame_value (drop offset bytes))
+  at_value = rw within (ap Some is_part)
+
+  at : frame_rest (drop offset bytes)
+      ≡ drop (offset + round_up_to_4 (frame_length (drop offset bytes))) bytes
   at = drop-drop (round_up_to_4 (frame_length (drop offset bytes))) offset bytes
 
   at_next : drop (length bytes - length rest) bytes ≡ frame_rest (drop offset bytes)
@@ -91,74 +109,99 @@ chunk_there bytes offset value rest fits frame is_value is_rest = record {
       ∙ suffix (offset + round_up_to_4 (frame_length (drop offset bytes))) bytes ∙ sym at
 
   some : drop offset bytes ≢ []
-  some e = let none : length (drop offset bytes) ≡ 0 = ap length e in omega (arith, none, frame.header)
+  some e =
+      let none : length (drop offset bytes) ≡ 0 = ap length e in
+      omega (arith, none, frame.header)
 
   fits_from : AreBytes (drop offset bytes)
   fits_from i = rw get_or-drop (fits (offset + i))
 
   means : (all : List ChunkTree) → MeansTrees (chunks lenient) (drop offset bytes) all
       → (first : ChunkTree) × (others : List ChunkTree) × (all ≡ first ∷ others)
-      × ((v : List ℕ) × ((if nat_le (offset + 4 + length value) (length bytes) then Some (part bytes (offset + 4) (length value)) else None) ≡ Some v) × (chunk_row lenient (get_or (drop offset bytes) 0 0) (get_or (drop offset bytes) 1 0)).means v first)
+      × ChunkMeans bytes (chunk_of bytes offset value rest) first
       × MeansTrees (chunks lenient) (drop (length bytes - length rest) bytes) others
   means [] m = absurd (means_none (chunks lenient) (drop offset bytes) fits_from some m)
   means (t ∷ ts) m =
       let here = front_means (chunks lenient) (drop offset bytes) t ts fits_from some m in
-      (t, ts, refl, (frame_value (drop offset bytes), at_value, here.0), subst (λ (left : List ℕ). MeansTrees (chunks lenient) left ts) (sym at_next) here.1)
+      let left = subst (λ (l : List ℕ). MeansTrees (chunks lenient) l ts) (sym at_next) here.1 in
+      (t, ts, refl, (frame_value (drop offset bytes), at_value, here.0), left)
 
 -- ---- what lies in a chunk's value
 
-chosen : {A : Type 0} (test : Bool) (a b : A) → (if test then Some a else None) ≡ Some b → (test ≡ true) × (a ≡ b)
+chosen : {A : Type 0} (test : Bool) (a b : A) → (if test then Some a else None) ≡ Some b
+    → (test ≡ true) × (a ≡ b)
 chosen true a b h = (refl, cc)
 chosen false a b h = absurd (let no : None ≡ Some b = h in cc)
 
-pub value_there : (bytes : List ℕ) (c : DcsctpChunk) (value : List ℕ) → value_at bytes c ≡ Some value
-    → (c.value_offset + c.value_size ≤ length bytes) × (part bytes c.value_offset c.value_size ≡ value)
+pub value_there : (bytes : List ℕ) (c : DcsctpChunk) (value : List ℕ)
+    → value_at bytes c ≡ Some value
+    → (c.value_offset + c.value_size ≤ length bytes)
+    × (part bytes c.value_offset c.value_size ≡ value)
 value_there bytes c value h =
-    let found = chosen (nat_le (c.value_offset + c.value_size) (length bytes)) (part bytes c.value_offset c.value_size) value h in
-    (leb-true (c.value_offset + c.value_size) (length bytes) found.0, found.1)
+    let ends = c.value_offset + c.value_size in
+    let here = part bytes c.value_offset c.value_size in
+    let found = chosen (nat_le ends (length bytes)) here value h in
+    (leb-true ends (length bytes) found.0, found.1)
 
 -- ---- user data
 
 -- what the chunk means, it reads as
-pub data_alike : (bytes : List ℕ) (c : DcsctpChunk) (tree : ChunkTree) → ChunkMeans bytes c tree → data_at bytes c ≡ data_of tree
-data_alike bytes c tree m = ap (option_and_then (read_user_data c.typ c.flags)) m.1 ∙ reads_alike c.typ c.flags m.0 tree m.2
+pub data_alike : (bytes : List ℕ) (c : DcsctpChunk) (tree : ChunkTree) → ChunkMeans bytes c tree
+    → data_at bytes c ≡ data_of tree
+data_alike bytes c tree m =
+    ap (option_and_then (read_user_data c.typ c.flags)) m.1
+    ∙ reads_alike c.typ c.flags m.0 tree m.2
 
 -- the payload is the end of the value
 abbrev IsEnd : List ℕ → List ℕ → Type 0
 IsEnd value payload = (k : ℕ) × (k ≤ length value) × (payload ≡ drop k value)
 
-read_else : {E : Type 0} (test : Bool) (e : E) (a b : data_kind.Tree) → result_ok (if test then Err e else Ok a) ≡ Some b → (test ≡ false) × (a ≡ b)
+read_else : {E : Type 0} (test : Bool) (e : E) (a b : data_kind.Tree)
+    → result_ok (if test then Err e else Ok a) ≡ Some b → (test ≡ false) × (a ≡ b)
 read_else true e a b h = absurd (let no : None ≡ Some b = h in cc)
 read_else false e a b h = (refl, cc)
 
-data_payload : (flags : ℕ) (value : List ℕ) (tree : data_kind.Tree) → result_ok (data_chunk.read flags value) ≡ Some tree → IsEnd value tree.user_data.payload
+abbrev payload_of : data_kind.Tree → List ℕ
+payload_of tree = tree.user_data.payload
+
+data_payload : (flags : ℕ) (value : List ℕ) (tree : data_kind.Tree)
+    → result_ok (data_chunk.read flags value) ≡ Some tree → IsEnd value tree.user_data.payload
 unfolding data_chunk.read
 data_payload flags value tree h =
     let found = read_else (nat_lt (length value) 12) _ _ tree h in
-    (12, ltb-false (length value) 12 found.0, sym (ap (λ (t : data_kind.Tree). t.user_data.payload) found.1))
+    (12, ltb-false (length value) 12 found.0, sym (ap payload_of found.1))
 
-idata_payload : (flags : ℕ) (value : List ℕ) (tree : data_kind.Tree) → result_ok (idata_chunk.read flags value) ≡ Some tree → IsEnd value tree.user_data.payload
+idata_payload : (flags : ℕ) (value : List ℕ) (tree : data_kind.Tree)
+    → result_ok (idata_chunk.read flags value) ≡ Some tree → IsEnd value tree.user_data.payload
 unfolding idata_chunk.read
 idata_payload flags value tree h =
     let found = read_else (nat_lt (length value) 16) _ _ tree h in
-    (16, ltb-false (length value) 16 found.0, sym (ap (λ (t : data_kind.Tree). t.user_data.payload) found.1))
+    (16, ltb-false (length value) 16 found.0, sym (ap payload_of found.1))
 
-payload_end : (typ flags : ℕ) (value : List ℕ) (tree : data_kind.Tree) → read_user_data typ flags value ≡ Some tree → IsEnd value tree.user_data.payload
+payload_end : (typ flags : ℕ) (value : List ℕ) (tree : data_kind.Tree)
+    → read_user_data typ flags value ≡ Some tree → IsEnd value tree.user_data.payload
 payload_end typ flags value tree h = by_type (typ == 0) (typ == 64) h where
-  by_type : (first second : Bool) → (if first then result_ok (data_chunk.read flags value) else (if second then result_ok (idata_chunk.read flags value) else None)) ≡ Some tree → IsEnd value tree.user_data.payload
+  by_type : (first second : Bool)
+      → (if first then result_ok (data_chunk.read flags value) else
+      (if second then result_ok (idata_chunk.read flags value) else None)) ≡ Some tree
+      → IsEnd value tree.user_data.payload
   by_type true second e = data_payload flags value tree e
   by_type false true e = idata_payload flags value tree e
   by_type false false e = absurd (let no : None ≡ Some tree = e in cc)
 
 -- the end of a part is a part
-end_part : (bytes : List ℕ) (offset size : ℕ) (payload : List ℕ) → offset + size ≤ length bytes → IsEnd (part bytes offset size) payload
-    → (length payload ≤ size) × (part bytes (offset + (size - length payload)) (length payload) ≡ payload)
+end_part : (bytes : List ℕ) (offset size : ℕ) (payload : List ℕ) → offset + size ≤ length bytes
+    → IsEnd (part bytes offset size) payload
+    → (length payload ≤ size)
+    × (part bytes (offset + (size - length payload)) (length payload) ≡ payload)
 end_part bytes offset size payload within e =
     let k = e.0 in
     let from = length-drop offset bytes in
     let whole = length-take size (drop offset bytes) in
     let low = e.1 in
-    let left : length payload ≡ size - k = omega (arith, ap length e.2, length-drop k (part bytes offset size), from, whole, within, low) in
+    let rest = length-drop k (part bytes offset size) in
+    let left : length payload ≡ size - k =
+    omega (arith, ap length e.2, rest, from, whole, within, low) in
     let all : k + (size - k) ≡ size = omega (arith, from, whole, within, low) in
     let place : offset + (size - length payload) ≡ offset + k = omega (arith, left, all) in
     let to : part bytes (offset + k) (size - k) ≡ payload =
@@ -168,27 +211,46 @@ end_part bytes offset size payload within e =
     ∙ sym e.2 in
     (omega (arith, left), rw (place, left) to)
 
-pub data_there : (bytes : List ℕ) (c : DcsctpChunk) (value : List ℕ) (tree : data_kind.Tree) (d : DcsctpData) → Some value ≡ value_at bytes c → Some tree ≡ read_user_data c.typ c.flags value
-    → data_view bytes d ≡ record tree { user_data = record tree.user_data { payload = part bytes d.payload_offset d.payload_size } }
-    → d.payload_offset ≡ c.value_offset + (length value - length tree.user_data.payload) → d.payload_size ≡ length tree.user_data.payload
+-- the tree with another payload
+abbrev with_payload : data_kind.Tree → List ℕ → data_kind.Tree
+with_payload tree payload = record tree { user_data = record tree.user_data { payload = payload } }
+
+pub data_there : (bytes : List ℕ) (c : DcsctpChunk) (value : List ℕ) (tree : data_kind.Tree)
+    (d : DcsctpData) → Some value ≡ value_at bytes c
+    → Some tree ≡ read_user_data c.typ c.flags value
+    → data_view bytes d ≡ with_payload tree (part bytes d.payload_offset d.payload_size)
+    → d.payload_offset ≡ c.value_offset + (length value - length tree.user_data.payload)
+    → d.payload_size ≡ length tree.user_data.payload
     → Reads (HoldsData bytes c) (data_at bytes c) (Some d)
 data_there bytes c value tree d is read same offset size =
-    subst (λ (o : Option data_kind.Tree). Reads (HoldsData bytes c) o (Some d)) (sym data_is) record {
-      view = same ∙ ap (λ (p : List ℕ). record tree { user_data = record tree.user_data { payload = p } }) payload_is;
+    let holds : HoldsData bytes c tree d = record {
+      view = same ∙ ap (with_payload tree) payload_is;
       size = size;
       ends = omega (arith, offset, size, value_size, ended.0);
-    } where
-      there : (c.value_offset + c.value_size ≤ length bytes) × (part bytes c.value_offset c.value_size ≡ value)
-      there = value_there bytes c value (sym is)
+    } in
+    subst (λ (o : Option data_kind.Tree). Reads (HoldsData bytes c) o (Some d)) (sym data_is) holds
+  where
+    there : (c.value_offset + c.value_size ≤ length bytes)
+        × (part bytes c.value_offset c.value_size ≡ value)
+    there = value_there bytes c value (sym is)
 
-      data_is : data_at bytes c ≡ Some tree
-      data_is = ap (option_and_then (read_user_data c.typ c.flags)) (sym is) ∙ sym read
+    data_is : data_at bytes c ≡ Some tree
+    data_is = ap (option_and_then (read_user_data c.typ c.flags)) (sym is) ∙ sym read
 
-      value_size : length value ≡ c.value_size
-      value_size = sym (ap length there.1) ∙ (let from = length-drop c.value_offset bytes in let whole = length-take c.value_size (drop c.value_offset bytes) in omega (arith, from, whole, there.0))
+    value_size : length value ≡ c.value_size
+    value_size =
+        let from = length-drop c.value_offset bytes in
+        let whole = length-take c.value_size (drop c.value_offset bytes) in
+        let is = ap length there.1 in
+        omega (arith, from, whole, is, there.0)
 
-      ended : (length tree.user_data.payload ≤ c.value_size) × (part bytes (c.value_offset + (c.value_size - length tree.user_data.payload)) (length tree.user_data.payload) ≡ tree.user_data.payload)
-      ended = end_part bytes c.value_offset c.value_size tree.user_data.payload there.0 (subst (λ (v : List ℕ). IsEnd v tree.user_data.payload) (sym there.1) (payload_end c.typ c.flags value tree (sym read)))
+    ended : (length tree.user_data.payload ≤ c.value_size)
+        × (part bytes (c.value_offset + (c.value_size - length tree.user_data.payload))
+        (length tree.user_data.payload) ≡ tree.user_data.payload)
+    ended =
+        let end = payload_end c.typ c.flags value tree (sym read) in
+        end_part bytes c.value_offset c.value_size tree.user_data.payload there.0
+        (subst (λ (v : List ℕ). IsEnd v tree.user_data.payload) (sym there.1) end)
 
-      payload_is : part bytes d.payload_offset d.payload_size ≡ tree.user_data.payload
-      payload_is = rw (offset, size, value_size) ended.1
+    payload_is : part bytes d.payload_offset d.payload_size ≡ tree.user_data.payload
+    payload_is = rw (offset, size, value_size) ended.1

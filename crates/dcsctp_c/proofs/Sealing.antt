@@ -19,19 +19,25 @@ module _ (old : List ℕ) (n : ℕ) (room : 12 ≤ length old) where
 
   seal_after : drop 12 sealed ≡ drop 12 old
   seal_after =
+      let both = length-append (take 8 old) (to_be_bytes w32 n) in
+      let ends : length (take 8 old ++ to_be_bytes w32 n) ≡ 12 = omega (arith, front, both) in
       ap (drop 12) (sym (append_assoc (take 8 old) (to_be_bytes w32 n) (drop 12 old)))
-      ∙ drop_at (take 8 old ++ to_be_bytes w32 n) (drop 12 old) 12 (let k = length-append (take 8 old) (to_be_bytes w32 n) in omega (arith, front, k))
+      ∙ drop_at (take 8 old ++ to_be_bytes w32 n) (drop 12 old) 12 ends
 
   seal_field : n < 2 ^ 32 → checksum_field sealed ≡ n
   seal_field fits =
-      ap (λ (bytes : List ℕ). from_be_bytes w32 (take 4 bytes)) (drop_at (take 8 old) (to_be_bytes w32 n ++ drop 12 old) 8 front)
+      ap (λ (bytes : List ℕ). from_be_bytes w32 (take 4 bytes))
+      (drop_at (take 8 old) (to_be_bytes w32 n ++ drop 12 old) 8 front)
       ∙ from_be_bytes-to_be_bytes_4 n fits
 
 -- ---- what was written is the packet's own word, which doesn't look at the field
 
 pub own_word : (old new : List ℕ) (n : ℕ) → 12 ≤ length old → new ≡ put old 8 (to_be_bytes w32 n)
-    → ((others : List ℕ) → take 8 others ≡ take 8 old → drop 12 others ≡ drop 12 old → n ≡ packet_word others) → n ≡ packet_word new
-own_word old new n room is apart = apart new (ap (take 8) is ∙ seal_before old n room) (ap (drop 12) is ∙ seal_after old n room)
+    → ((others : List ℕ) → take 8 others ≡ take 8 old → drop 12 others ≡ drop 12 old
+    → n ≡ packet_word others) → n ≡ packet_word new
+own_word old new n room is apart =
+    apart new (ap (take 8) is ∙ seal_before old n room) (ap (drop 12) is ∙ seal_after old n room)
 
-pub own_field : (old new : List ℕ) (n : ℕ) → 12 ≤ length old → new ≡ put old 8 (to_be_bytes w32 n) → n < 2 ^ 32 → checksum_field new ≡ n
+pub own_field : (old new : List ℕ) (n : ℕ) → 12 ≤ length old → new ≡ put old 8 (to_be_bytes w32 n)
+    → n < 2 ^ 32 → checksum_field new ≡ n
 own_field old new n room is fits = ap checksum_field is ∙ seal_field old n room fits

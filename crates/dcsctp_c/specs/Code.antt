@@ -1,5 +1,5 @@
--- The codes that C programs get for whole packets (RFC 9260 section 3), and the policy that they ask
--- for. No standard has these numbers.
+-- The codes that C programs get for whole packets (RFC 9260 section 3), and the policy that they
+-- ask for. No standard has these numbers.
 use Rattle.std.specs.Prelude.{◌≡◌, ℕ, List, if◌then◌else◌, Result, Ok, Err}
 use Rattle.dcsctp_wire.specs.Fault.{Length, Padding, Value}
 use Rattle.dcsctp_wire.specs.Packet.{PacketTree, PacketFault, Size, Checksum, Chunk, Answer}

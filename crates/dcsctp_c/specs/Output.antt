@@ -20,8 +20,8 @@ pub record Output : Type 0 where
   pub bytes : List ℕ
   pub size : ℕ
 
--- The form is written, and what follows it stays. Or nothing is: an allocation failed; or the form has
--- no room, and only the size is written; or there is no form.
+-- The form and its size are written, and what follows the form stays. Or the output stays: an
+-- allocation failed; or the form has no room, and only its size is written; or there is no form.
 pub data Writes (IsForm : List ℕ → Type 0) (old new : Output) (code : ℕ) : Type 0 where
   written : (form : List ℕ) → IsForm form → code ≡ 0 → new.size ≡ length form
       → new.bytes ≡ form ++ drop (length form) old.bytes → Writes IsForm old new code

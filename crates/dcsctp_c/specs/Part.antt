@@ -70,8 +70,8 @@ ChunkMeans bytes c tree =
     (value : List ℕ) × (value_at bytes c ≡ Some value)
     × (chunk_row lenient c.typ c.flags).means value tree
 
--- The chunk that begins at an offset. Whatever trees the bytes mean from there on, it means the first
--- of them, and the bytes from the next chunk on mean the others.
+-- The chunk that begins at an offset. Whatever trees the bytes mean from there on, it means the
+-- first of them, and the bytes from the next chunk on mean the others.
 pub record IsChunkAt (bytes : List ℕ) (offset : ℕ) (c : DcsctpChunk) : Type 0 where
   pub typ : c.typ ≡ slice_index (drop offset bytes) 0
   pub flags : c.flags ≡ slice_index (drop offset bytes) 1

@@ -16,8 +16,8 @@ use dcsctp_wire::packet::sctp_packet::COMMON_HEADER_SIZE;
 /// Writes the CRC32c of a packet (RFC 9260 section 6.8) into its checksum field, bytes 8 to 11; all
 /// other bytes stay. Returns false, and changes nothing, for fewer than 12 bytes.
 ///
-/// What was a packet under any word and policy then is one under its own word and each policy that is
-/// as strict, with this checksum field and all else as it had.
+/// What was a packet under any word and policy then is one under its own word and each policy that
+/// is as strict, with this checksum field and all else as it had.
 #[unsafe(no_mangle)]
 pub extern "C" fn dcsctp_seal(packet: &mut [u8]) -> bool
     ensures there { IsTrue result ↔ 12 ≤ length packet.old }
@@ -43,8 +43,8 @@ pub extern "C" fn dcsctp_seal(packet: &mut [u8]) -> bool
     true
 }
 
-/// Writes the verification tag (RFC 9260 section 3.1) into bytes 4 to 7 of a packet; all other bytes
-/// stay. Returns false, and changes nothing, for fewer than 12 bytes.
+/// Writes the verification tag (RFC 9260 section 3.1) into bytes 4 to 7 of a packet; all other
+/// bytes stay. Returns false, and changes nothing, for fewer than 12 bytes.
 ///
 /// What the bytes are stays too, under each word and policy: a packet, which now has this tag, or
 /// their fault. A CRC32c is computed over the tag as well: `dcsctp_seal` writes it anew.

@@ -1,5 +1,6 @@
-//! Reads, checks, prints and writes SCTP packets (RFC 9260) for programs in C, and in whatever calls
-//! C; `include/dcsctp.h` declares each exported function, and says what its caller has to keep to.
+//! Reads, checks, prints and writes SCTP packets (RFC 9260) for programs in C, and in whatever
+//! calls C; `include/dcsctp.h` declares each exported function, and says what its caller has to
+//! keep to.
 //!
 //! No exported function has a `requires`, since nothing checks a caller in C: each takes any bytes,
 //! offsets and sizes. An output changes only where the contract says so.
@@ -10,4 +11,6 @@ mod in_place;
 mod packet;
 mod parts;
 mod structs;
+#[cfg(test)]
+mod tests;
 mod writing;

@@ -39,8 +39,8 @@ pub extern "C" fn dcsctp_check(bytes: &[u8], word: u32, policy: &DcsctpPolicy) -
     }
 }
 
-/// Returns what `dcsctp_check` returns, and writes the offset of the first fault in bytes; the length
-/// of the bytes where there is none. Does not allocate.
+/// Returns what `dcsctp_check` returns, and writes the offset of the first fault in bytes; the
+/// length of the bytes where there is none. Does not allocate.
 #[unsafe(no_mangle)]
 pub extern "C" fn dcsctp_first_fault(
     bytes: &[u8],
@@ -66,13 +66,13 @@ pub extern "C" fn dcsctp_first_fault(
     }
 }
 
-/// Writes the canonical packet to the front of `output`, and its size in bytes to `size`. Two packets
-/// have the same one exactly where they mean the same.
+/// Writes the canonical packet to the front of `output`, and its size in bytes to `size`. Two
+/// packets have the same one exactly where they mean the same.
 ///
-/// Returns 0, or the code of the first fault; `NO_MEMORY` where an allocation failed; `NO_ROOM` where
-/// `output` is too small; `TOO_LONG` where the canonical packet would have more than 65,532 bytes.
-/// Only 0 changes `output`, and its bytes after the canonical packet stay; `NO_ROOM` writes the size
-/// that is needed.
+/// Returns 0, or the code of the first fault; `NO_MEMORY` where an allocation failed; `NO_ROOM`
+/// where `output` is too small; `TOO_LONG` where the canonical packet would have more than 65,532
+/// bytes. Only 0 changes `output`, and its bytes after the canonical packet stay; `NO_ROOM` writes
+/// the size that is needed.
 #[unsafe(no_mangle)]
 pub extern "C" fn dcsctp_canonical(
     alloc: Global,
@@ -111,8 +111,8 @@ fn write_canonical(packet: &SctpPacket, output: &mut [u8], size: &mut usize) -> 
     OK
 }
 
-/// Writes the packet's text to the front of `output`, and its size in bytes to `size`: a line for the
-/// header, and one for each chunk, in UTF-8.
+/// Writes the packet's text to the front of `output`, and its size in bytes to `size`: a line for
+/// the header, and one for each chunk, in UTF-8.
 ///
 /// Returns what `dcsctp_canonical` returns, but never `TOO_LONG`, and changes what that changes.
 #[unsafe(no_mangle)]
@@ -162,7 +162,8 @@ fn write_text(text: &[u8], output: &mut [u8], size: &mut usize) -> u32
 }
 
 /// Returns the word of a packet: its CRC32c (RFC 9260 section 6.8) as the number that its checksum
-/// field has to be, most significant byte first. The field itself doesn't matter. Does not allocate.
+/// field has to be, most significant byte first. The field itself doesn't matter. Does not
+/// allocate.
 #[unsafe(no_mangle)]
 pub extern "C" fn dcsctp_word(bytes: &[u8]) -> u32
     ensures value { result ≡ packet_word bytes.now }

@@ -22,8 +22,8 @@ use dcsctp_wire::packet::{TLV_HEADER_SIZE, init_ack_chunk, init_chunk, read_u16_
 /// Bytes of the value of INIT and INIT ACK before the parameters.
 const INIT_SIZE: usize = 16;
 
-/// Reads the common header (RFC 9260 section 3.1). Returns false, and `header` stays, for fewer than
-/// 12 bytes.
+/// Reads the common header (RFC 9260 section 3.1). Returns false, and `header` stays, for fewer
+/// than 12 bytes.
 #[unsafe(no_mangle)]
 pub extern "C" fn dcsctp_header(bytes: &[u8], header: &mut DcsctpHeader) -> bool
     ensures read { ReadsInto HoldsHeader (header_at bytes.now) header.old header.new result }
@@ -42,11 +42,11 @@ pub extern "C" fn dcsctp_header(bytes: &[u8], header: &mut DcsctpHeader) -> bool
     true
 }
 
-/// Reads the chunk at an offset (RFC 9260 section 3.2), and writes where its value and the next chunk
-/// are. The first chunk of a packet is at 12.
+/// Reads the chunk at an offset (RFC 9260 section 3.2), and writes where its value and the next
+/// chunk are. The first chunk of a packet is at 12.
 ///
-/// Returns false, and `chunk` stays, exactly where no header with a whole value is there: at the end
-/// of a packet, and after it.
+/// Returns false, and `chunk` stays, exactly where no header with a whole value is there: at the
+/// end of a packet, and after it.
 #[unsafe(no_mangle)]
 pub extern "C" fn dcsctp_chunk_at(bytes: &[u8], offset: usize, chunk: &mut DcsctpChunk) -> bool
     ensures there { IsTrue result ↔ BeginsWithFrame (drop offset bytes.now) }
@@ -70,8 +70,8 @@ pub extern "C" fn dcsctp_chunk_at(bytes: &[u8], offset: usize, chunk: &mut Dcsct
     true
 }
 
-/// Reads the user data of DATA (RFC 9260 section 3.3.1) or I-DATA (RFC 8260 section 2.1), and writes
-/// where its payload is.
+/// Reads the user data of DATA (RFC 9260 section 3.3.1) or I-DATA (RFC 8260 section 2.1), and
+/// writes where its payload is.
 ///
 /// Returns false, and `user_data` stays, exactly where the chunk has another type, its value is too
 /// short for its kind, or it does not lie within the bytes.
@@ -92,8 +92,8 @@ pub extern "C" fn dcsctp_data(bytes: &[u8], chunk: &DcsctpChunk, user_data: &mut
 
 /// Reads the numbers of a SACK (RFC 9260 section 3.3.4).
 ///
-/// Returns false, and `sack` stays, exactly where the chunk has another type, its value isn't as long
-/// as its counts say, or it does not lie within the bytes.
+/// Returns false, and `sack` stays, exactly where the chunk has another type, its value isn't as
+/// long as its counts say, or it does not lie within the bytes.
 #[unsafe(no_mangle)]
 pub extern "C" fn dcsctp_sack(bytes: &[u8], chunk: &DcsctpChunk, sack: &mut DcsctpSack) -> bool
     ensures read { ReadsInto HoldsSack (sack_at bytes.now chunk.now) sack.old sack.new result }
@@ -172,8 +172,8 @@ pub extern "C" fn dcsctp_validate_sack(bytes: &[u8], chunk: &DcsctpChunk) -> boo
     }
 }
 
-/// Reads the numbers of INIT (RFC 9260 section 3.3.2) or INIT ACK (section 3.3.3). The parameters are
-/// not looked at.
+/// Reads the numbers of INIT (RFC 9260 section 3.3.2) or INIT ACK (section 3.3.3). The parameters
+/// are not looked at.
 ///
 /// Returns false, and `init` stays, exactly where the chunk has another type, its value has fewer
 /// than 16 bytes, or it does not lie within the bytes.

@@ -1,5 +1,5 @@
-//! The structs of `dcsctp.h`, field for field: numbers and bools, with offsets into the bytes that a
-//! call was passed in place of pointers.
+//! The structs of `dcsctp.h`, field for field: numbers and bools, with offsets into the bytes that
+//! a call was passed in place of pointers.
 
 /// Which checksum fields are accepted, and whether padding is checked.
 #[repr(C)]

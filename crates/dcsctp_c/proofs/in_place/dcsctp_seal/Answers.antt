@@ -9,17 +9,21 @@ use Rattle.dcsctp_c.proofs.in_place.dcsctp_seal.Goals as goal
 
 pub returns-clause-sealed : goal.returns-clause-sealed
 returns-clause-sealed c room =
-    own_field c.args.packet.now c.set_checksum_word.new.packet c.packet_word-word.result room c.set_checksum_word.ensures.bytes c.packet_word-word.type_inv
-    ∙ own_word c.args.packet.now c.set_checksum_word.new.packet c.packet_word-word.result room c.set_checksum_word.ensures.bytes c.packet_word-word.ensures.field_apart
+    own_field c.args.packet.now c.set_checksum_word.new.packet c.packet_word-word.result room
+    c.set_checksum_word.ensures.bytes c.packet_word-word.type_inv
+    ∙ own_word c.args.packet.now c.set_checksum_word.new.packet c.packet_word-word.result room
+    c.set_checksum_word.ensures.bytes c.packet_word-word.ensures.field_apart
 
 pub returns-clause-means : goal.returns-clause-means
 returns-clause-means c word first later p answer strict =
     let room : 12 ≤ length c.args.packet.now = omega arith in
     let bytes = c.set_checksum_word.new.packet in
     let own : c.packet_word-word.result ≡ packet_word bytes =
-    own_word c.args.packet.now bytes c.packet_word-word.result room c.set_checksum_word.ensures.bytes c.packet_word-word.ensures.field_apart in
+    own_word c.args.packet.now bytes c.packet_word-word.result room
+    c.set_checksum_word.ensures.bytes c.packet_word-word.ensures.field_apart in
     subst (λ (n : ℕ). Answer bytes (packet_word bytes) later (Ok (record p { checksum = n }))) own
-    (c.set_checksum_word.ensures.means p word (packet_word bytes) first later answer (equal own) strict)
+    (c.set_checksum_word.ensures.means p word (packet_word bytes) first later answer
+    (equal own) strict)
 
 pub returns-clause-reads : goal.returns-clause-reads
 returns-clause-reads c room m policy held formed =

@@ -7,10 +7,15 @@ use Rattle.dcsctp_c.proofs.packet.dcsctp_canonical.Goals as goal
 
 pub returns-in-Ok : goal.returns-in-Ok
 returns-in-Ok c =
-    of_packet c.args.bytes.now c.args.word c.checksum_policy.result (policy_of c.args.policy.now) c.checksum_policy.ensures IsCanonical (packet_view c.in-Ok.packet) _ _ _
+    of_packet c.args.bytes.now c.args.word c.checksum_policy.result
+    (policy_of c.args.policy.now) c.checksum_policy.ensures IsCanonical
+    (packet_view c.in-Ok.packet) _ _ _
     c.in-Ok.ensures.answer.answers c.write_canonical.ensures
 
 pub returns-in-Err : goal.returns-in-Err
 returns-in-Err c =
-    refused c.args.bytes.now c.args.word c.checksum_policy.result (policy_of c.args.policy.now) c.checksum_policy.ensures IsCanonical c.in-Err.error _ _
-    c.in-Err.ensures.answer.answers (λ lacks. c.in-Err.ensures.memory (ap Err lacks)) c.code_of.ensures.fault c.code_of.ensures.memory
+    refused c.args.bytes.now c.args.word c.checksum_policy.result
+    (policy_of c.args.policy.now) c.checksum_policy.ensures IsCanonical c.in-Err.error _ _
+    c.in-Err.ensures.answer.answers
+    (λ lacks. c.in-Err.ensures.memory (ap Err lacks))
+    c.code_of.ensures.fault c.code_of.ensures.memory

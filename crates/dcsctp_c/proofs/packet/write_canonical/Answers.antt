@@ -10,8 +10,11 @@ returns-then-needed-output c =
     let yes : c.fits.result ≡ true = search rules in
     let needed = c.canonical_size-needed.ensures in
     let over = c.if-needed-output.true in
-    let small : length c.args.output.now < length (canonical (meaning_view c.args.packet.now)) = omega (arith, needed, over) in
-    no_room (canonical (meaning_view c.args.packet.now)) (c.fits.ensures.0 yes, refl) small refl (resized (record { bytes = c.args.output.now; size = c.args.size.now }) c.canonical_size-needed.result (length (canonical (meaning_view c.args.packet.now))) needed)
+    let small : length c.args.output.now < length (canonical (meaning_view c.args.packet.now)) =
+    omega (arith, needed, over) in
+    no_room (canonical (meaning_view c.args.packet.now)) (c.fits.ensures.0 yes, refl) small refl
+    (resized (record { bytes = c.args.output.now; size = c.args.size.now })
+    c.canonical_size-needed.result (length (canonical (meaning_view c.args.packet.now))) needed)
 
 pub returns : goal.returns
 returns c =
