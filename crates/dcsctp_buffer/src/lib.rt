@@ -114,7 +114,7 @@ pub fn add<C: WritableChunk>(buffer: &mut [u8], size: &mut usize, chunk: &C) -> 
 /// and every policy, where it has a chunk and each chunk can be read; only fields that a kind of
 /// chunk doesn't carry are zero.
 pub fn seal(buffer: &mut [u8], size: usize) -> bool
-    ensures room { IsTrue result ↔ (12 ≤ size) × (size ≤ length buffer.old) }
+    ensures room { IsTrue result ↔ ((12 ≤ size) × (size ≤ length buffer.old)) }
     ensures bytes { result ≡ true → buffer.new
         ≡ put buffer.old 8 (to_be_bytes w32 (packet_word (take size buffer.old))) }
     ensures reads { result ≡ true → (m : Meaning) (policy : ChecksumPolicy)

@@ -9,7 +9,7 @@ use dcsctp_tlv::frame::{MAX_VALUE_SIZE, TLV_HEADER_SIZE, put_bytes, put_header, 
 /// The bytes of a chunk, with header, that has one item in its value after `leading` bytes; nothing
 /// where two bytes can't hold this number.
 pub(crate) fn one_item_size(leading: usize, item_value: &[u8]) -> Option<usize>
-    requires { leading ≤ 100 }
+    requires { 4 + leading ≤ MAX_VALUE_SIZE }
     ensures { Sizes result (4 + (leading + (4 + length item_value.now)) < 2 ^ 16)
         (4 + (leading + (4 + length item_value.now))) }
 {
