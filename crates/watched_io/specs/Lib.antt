@@ -1,0 +1,2 @@
+pub mod Transfer
+pub mod Watched

@@ -1,0 +1,9 @@
+//! Readers and writers that remember whether they failed, and the loops over them whose contracts
+//! name every byte, also where a device fails midway.
+#![tactic(auto)]
+
+pub mod faulty;
+#[cfg(test)]
+mod tests;
+pub mod transfer;
+pub mod watched;
