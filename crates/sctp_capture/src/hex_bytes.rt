@@ -1,0 +1,122 @@
+//! Bytes that a text says in hexadecimal digits.
+
+ghost use Rattle.std.specs.Prelude.{◌≡◌, ◌<◌, ◌++◌, ℕ, List, [], IsTrue, IsSome, OnOk, OnErr, is_some, unwrap_or};
+ghost use Rattle.std.specs.Iterator.{YieldsFirst, item_count};
+ghost use Rattle.std.specs.Char.{is_ascii_hexdigit, digit_value};
+ghost use Rattle.sctp_capture.specs.HexBytes.{is_blank, without_blanks_before, hex_bytes};
+
+use std::alloc::AllocError;
+use std::marker::Model;
+
+/// The bytes that a text says, two digits a byte, of either case, with blanks anywhere but in a byte.
+///
+/// The text was checked, so `next` has no error. A contract sees the list of bytes that are left.
+#[derive(Clone, Debug, Drop)]
+pub struct HexBytes<'a> {
+    text: &'a [u8],
+}
+
+impl<'a> Model for HexBytes<'a> {
+    ghost Value = { List ℕ };
+
+    ghost view = { λ h. unwrap_or (hex_bytes h.text.now) [] };
+
+    ghost invariant = { λ h. IsSome (hex_bytes h.text.now) };
+}
+
+impl<'a> HexBytes<'a> {
+    /// Returns the bytes that a text says; nothing if it has another byte than a digit, a space, a tab
+    /// or a carriage return, or half a byte.
+    pub fn from_text(text: &'a [u8]) -> Option<HexBytes<'a>>
+        ensures { result ≡ hex_bytes text.now }
+    {
+        if says_bytes(text) {
+            Some(HexBytes { text })
+        } else {
+            None
+        }
+    }
+
+    /// Appends the bytes that are left. If an allocation fails, `output` keeps its items.
+    pub fn append_to(self, output: &mut Vec<u8>) -> Result<(), AllocError>
+        ensures ok { OnOk result (output.new.items ≡ output.old.items ++ self.entry) }
+        ensures err { OnErr result (output.new.items ≡ output.old.items) }
+    {
+        let held = output.len();
+        for byte in self {
+            if output.push(byte).is_err() {
+                output.truncate(held);
+                return Err(AllocError);
+            }
+        }
+        Ok(())
+    }
+}
+
+impl<'a> Iterator for HexBytes<'a> {
+    type Item = u8;
+
+    ghost next_gives = { YieldsFirst (λ left. left) };
+
+    ghost remaining = { item_count (λ left. left) };
+
+    /// Returns the next byte; nothing once all were returned.
+    fn next(&mut self) -> Option<u8> {
+        let text = without_blanks_before(self.text);
+        if text.is_empty() {
+            self.text = text;
+            return None;
+        }
+        self.text = &text[2..];
+        Some(16 * digit(text[0]) + digit(text[1]))
+    }
+}
+
+/// Returns the value of a digit of either case.
+pub(crate) fn digit(byte: u8) -> u8
+    requires { IsTrue (is_ascii_hexdigit byte) }
+    ensures value { result ≡ digit_value byte }
+    ensures bound { result < 16 }
+{
+    match byte {
+        b'0'..=b'9' => byte - b'0',
+        b'A'..=b'F' => byte - b'A' + 10,
+        b'a'..=b'f' => byte - b'a' + 10,
+        _ => unreachable!(),
+    }
+}
+
+/// Returns the text from its first byte on that isn't blank.
+pub(crate) fn without_blanks_before(text: &[u8]) -> &[u8]
+    ensures { result.now ≡ without_blanks_before text.now }
+{
+    let blanks = text
+        .iter()
+        .position(|byte| !is_blank(*byte))
+        .unwrap_or(text.len());
+    &text[blanks..]
+}
+
+/// Returns whether the text says bytes.
+fn says_bytes(text: &[u8]) -> bool
+    ensures { result ≡ is_some (hex_bytes text.now) }
+{
+    let mut rest = text;
+    while !rest.is_empty() {
+        if is_blank(rest[0]) {
+            rest = &rest[1..];
+        } else if rest.len() > 1 && rest[0].is_ascii_hexdigit() && rest[1].is_ascii_hexdigit() {
+            rest = &rest[2..];
+        } else {
+            return false;
+        }
+    }
+    true
+}
+
+/// Returns whether the byte is a space, a tab or a carriage return.
+pub(crate) fn is_blank(byte: u8) -> bool
+    ensures { result ≡ is_blank byte }
+{
+    matches!(byte, b' ' | b'\t' | b'\r')
+}
