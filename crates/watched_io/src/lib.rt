@@ -3,7 +3,9 @@
 #![tactic(auto)]
 
 pub mod faulty;
+pub mod output;
 #[cfg(test)]
 mod tests;
 pub mod transfer;
 pub mod watched;
+pub mod window;
