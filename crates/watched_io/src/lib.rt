@@ -4,6 +4,7 @@
 
 pub mod faulty;
 pub mod output;
+pub mod stream;
 #[cfg(test)]
 mod tests;
 pub mod transfer;
