@@ -85,7 +85,6 @@ pub fn skip<R: Read, W: Write>(
     output: &mut Output<W>,
     count: usize,
 ) -> Result<bool, StreamError>
-    requires { length (held window.old) ≤ MOST_KEPT + 16 }
     ensures skipped { IfOk result (λ b. b ≡ true
         → DropsBytes count (left window.old (R.remaining (device_of input.old)))
         (left window.new (R.remaining (device_of input.new)))) }

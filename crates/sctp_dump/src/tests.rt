@@ -1,0 +1,1 @@
+//! The program over captures in memory.
