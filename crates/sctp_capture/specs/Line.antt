@@ -1,7 +1,7 @@
 -- What a line of text says, without its line break: a packet in hexadecimal, a packet of a log, or a
 -- part of a dump with offsets.
 use Rattle.std.specs.Prelude.{◌+◌, ◌*◌, ◌==◌, ℕ, Bool, ◌||◌, ◌&&◌, not, nat_lt, nat_le, nat_eq, List, [], ◌∷◌, if◌then◌else◌, Option, Some, None, codes, length, take, drop, fold}
-use Rattle.std.specs.List.{starts_with, list_all, prefix_len}
+use Rattle.std.specs.List.{starts_with, list_all, position_or_len}
 use Rattle.std.specs.Char.{is_ascii_digit, is_ascii_hexdigit, digit_value}
 use Rattle.sctp_capture.specs.Number.{byte_at}
 use Rattle.sctp_capture.specs.HexBytes.{is_blank, without_blanks_before, hex_bytes}
@@ -20,7 +20,7 @@ use Rattle.sctp_capture.specs.declared.line.Place.TheVariants.{Begins, Continues
 
 -- how many bytes come before the first blank
 abbrev pub word_length : List ℕ → ℕ
-word_length text = prefix_len (λ byte. not (is_blank byte)) text
+word_length text = position_or_len is_blank text
 
 abbrev pub word : List ℕ → List ℕ
 word text = take (word_length text) text
@@ -50,7 +50,7 @@ mark = codes "# SCTP_PACKET"
 
 -- how many bytes come before the first `#`
 abbrev pub mark_offset : List ℕ → ℕ
-mark_offset text = prefix_len (λ byte. not (byte == 35)) text
+mark_offset text = position_or_len (λ byte. byte == 35) text
 
 -- the bytes before the mark
 abbrev pub marked_bytes : List ℕ → Option (List ℕ)
@@ -78,7 +78,7 @@ abbrev pub hex_number : List ℕ → ℕ
 hex_number digits = fold (λ n digit. 16 * n + digit_value digit) 0 digits
 
 abbrev pub offset_length : List ℕ → ℕ
-offset_length text = prefix_len is_ascii_hexdigit text
+offset_length text = position_or_len (λ byte. not (is_ascii_hexdigit byte)) text
 
 -- an offset, of one to eight digits, and a colon
 abbrev pub has_offset : List ℕ → Bool

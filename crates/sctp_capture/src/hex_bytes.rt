@@ -1,9 +1,9 @@
 //! Bytes that a text says in hexadecimal digits.
 
-ghost use Rattle.std.specs.Prelude.{◌≡◌, ◌<◌, ◌++◌, ℕ, List, [], IsTrue, IsSome, OnOk, OnErr, is_some, unwrap_or};
+ghost use Rattle.std.specs.Prelude.{◌≡◌, ◌<◌, ◌++◌, ℕ, List, [], IsTrue, IsSome, OnOk, OnErr, is_some, not, position, unwrap_or};
 ghost use Rattle.std.specs.Iterator.{YieldsFirst, item_count};
 ghost use Rattle.std.specs.Char.{is_ascii_hexdigit, digit_value};
-ghost use Rattle.sctp_capture.specs.HexBytes.{is_blank, without_blanks_before, hex_bytes};
+ghost use Rattle.sctp_capture.specs.HexBytes.{is_blank, without_blanks_before, begins_with_byte, hex_bytes};
 
 use std::alloc::AllocError;
 use std::marker::Model;
@@ -87,31 +87,40 @@ pub(crate) fn digit(byte: u8) -> u8
 }
 
 /// Returns the text from its first byte on that isn't blank.
+#[tactic(auto, using(crate::proofs::Places::first_place, crate::proofs::Places::place_within))]
 pub(crate) fn without_blanks_before(text: &[u8]) -> &[u8]
     ensures { result.now ≡ without_blanks_before text.now }
 {
-    let blanks = text
-        .iter()
-        .position(|byte| !is_blank(*byte))
-        .unwrap_or(text.len());
+    let blanks = first_nonblank(text).unwrap_or(text.len());
     &text[blanks..]
+}
+
+/// Returns the offset of the first byte that isn't blank.
+fn first_nonblank(text: &[u8]) -> Option<usize>
+    ensures { result ≡ position (λ byte. not (is_blank byte)) text.now }
+{
+    text.iter().position(|byte| !is_blank(*byte))
 }
 
 /// Returns whether the text says bytes.
 fn says_bytes(text: &[u8]) -> bool
     ensures { result ≡ is_some (hex_bytes text.now) }
 {
-    let mut rest = text;
+    let mut rest = without_blanks_before(text);
     while !rest.is_empty() {
-        if is_blank(rest[0]) {
-            rest = &rest[1..];
-        } else if rest.len() > 1 && rest[0].is_ascii_hexdigit() && rest[1].is_ascii_hexdigit() {
-            rest = &rest[2..];
-        } else {
+        if !begins_with_byte(rest) {
             return false;
         }
+        rest = without_blanks_before(&rest[2..]);
     }
     true
+}
+
+/// Returns whether two digits are at the front.
+fn begins_with_byte(text: &[u8]) -> bool
+    ensures { result ≡ begins_with_byte text.now }
+{
+    text.len() > 1 && text[0].is_ascii_hexdigit() && text[1].is_ascii_hexdigit()
 }
 
 /// Returns whether the byte is a space, a tab or a carriage return.

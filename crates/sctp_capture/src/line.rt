@@ -1,8 +1,8 @@
 //! Lines of text that hold packets: in hexadecimal, of a log, or of a dump with offsets.
 
-ghost use Rattle.std.specs.Prelude.{◌≡◌, ◌≤◌, ◌<◌, All, IsTrue, length};
+ghost use Rattle.std.specs.Prelude.{◌≡◌, ◌≤◌, ◌<◌, ◌==◌, not, All, IsTrue, length, position};
 ghost use Rattle.std.specs.Char.{is_ascii_hexdigit};
-ghost use Rattle.sctp_capture.specs.HexBytes.{hex_bytes};
+ghost use Rattle.sctp_capture.specs.HexBytes.{is_blank, hex_bytes};
 ghost use Rattle.sctp_capture.specs.Line.{line_of, text_line, packet_line, log_line, dump_line, place_of, is_in_time, is_time, word, after_word, marked_bytes, dumped_bytes, groups_length, hex_number, offset_length, has_offset, is_printable};
 
 use crate::hex_bytes::{HexBytes, digit, is_blank, without_blanks_before};
@@ -162,15 +162,20 @@ fn log_line(direction: Direction, text: &[u8]) -> Line<'_>
 }
 
 /// Returns the first word, and what follows the blanks behind it.
+#[tactic(auto, using(crate::proofs::Places::first_place, crate::proofs::Places::place_within))]
 fn first_word(text: &[u8]) -> (&[u8], &[u8])
     ensures word { result.0.now ≡ word text.now }
     ensures rest { result.1.now ≡ after_word text.now }
 {
-    let length = text
-        .iter()
-        .position(|byte| is_blank(*byte))
-        .unwrap_or(text.len());
+    let length = first_blank(text).unwrap_or(text.len());
     (&text[..length], without_blanks_before(&text[length..]))
+}
+
+/// Returns the offset of the first blank.
+fn first_blank(text: &[u8]) -> Option<usize>
+    ensures { result ≡ position is_blank text.now }
+{
+    text.iter().position(|byte| is_blank(*byte))
 }
 
 /// Returns whether a word can be a time of day.
@@ -188,18 +193,23 @@ fn is_in_time(byte: u8) -> bool
 }
 
 /// Returns the bytes before the mark of a log.
+#[tactic(auto, using(crate::proofs::Places::first_place, crate::proofs::Places::place_within))]
 fn marked_bytes(text: &[u8]) -> Option<HexBytes<'_>>
     ensures { result ≡ marked_bytes text.now }
 {
-    let offset = text
-        .iter()
-        .position(|byte| *byte == b'#')
-        .unwrap_or(text.len());
+    let offset = first_number_sign(text).unwrap_or(text.len());
     if text[offset..].starts_with(b"# SCTP_PACKET") {
         HexBytes::from_text(&text[..offset])
     } else {
         None
     }
+}
+
+/// Returns the offset of the first `#`.
+fn first_number_sign(text: &[u8]) -> Option<usize>
+    ensures { result ≡ position (λ byte. byte == 35) text.now }
+{
+    text.iter().position(|byte| *byte == b'#')
 }
 
 /// Reads a line of a dump that begins with its offset.
@@ -232,13 +242,19 @@ fn has_offset(text: &[u8]) -> bool
 }
 
 /// Returns how many digits the text begins with.
+#[tactic(auto, using(crate::proofs::Places::first_place, crate::proofs::Places::place_within))]
 fn offset_length(text: &[u8]) -> usize
     ensures value { result ≡ offset_length text.now }
     ensures within { result ≤ length text.now }
 {
-    text.iter()
-        .position(|byte| !byte.is_ascii_hexdigit())
-        .unwrap_or(text.len())
+    first_nondigit(text).unwrap_or(text.len())
+}
+
+/// Returns the offset of the first byte that isn't a digit.
+fn first_nondigit(text: &[u8]) -> Option<usize>
+    ensures { result ≡ position (λ byte. not (is_ascii_hexdigit byte)) text.now }
+{
+    text.iter().position(|byte| !byte.is_ascii_hexdigit())
 }
 
 /// Returns the number that at most eight digits say.
