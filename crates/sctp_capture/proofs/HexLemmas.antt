@@ -1,5 +1,5 @@
 -- What the front of a text in hexadecimal says.
-use Rattle.std.proofs.Common.{◌≡◌, ◌+◌, ◌<◌, ℕ, Bool, true, false, not, cond, nat_lt, List, [], ◌∷◌, Option, Some, None, IsTrue, IsSome, is_some, option_map, unwrap_or, length, get_or, drop, refl, sym, ap, ◌∙◌, arith, add-zero}
+use Rattle.std.proofs.Common.{◌≡◌, ◌+◌, ◌<◌, ℕ, Bool, true, false, not, cond, nat_lt, List, [], ◌∷◌, Option, Some, None, IsTrue, IsSome, is_some, option_map, unwrap_or, length, get_or, drop, refl, sym, ap, subst, ◌∙◌, arith, add-zero}
 use Rattle.std.specs.Char.{is_ascii_hexdigit}
 use Rattle.std.specs.List.{position_or_len}
 use Rattle.std.proofs.Math.Numerals.{one-add}
@@ -7,7 +7,7 @@ use Rattle.std.proofs.lemmas.Bool.{and_parts}
 use Rattle.std.proofs.lemmas.Bool.Decides.{nat_tests}
 use Rattle.std.proofs.lemmas.List.{length-drop, get_or-drop}
 use Rattle.std.proofs.lemmas.List.Sums.{passes_at_first}
-use Rattle.sctp_capture.specs.HexBytes.{is_blank, are_digits, byte_of, begins_with_byte, without_blanks_before, hex_bytes}
+use Rattle.sctp_capture.specs.HexBytes.{is_blank, are_digits, byte_of, begins_with_byte, without_blanks_before, hex_bytes, bytes_said}
 
 some_map : (b : ℕ) (o : Option (List ℕ)) → is_some (option_map (λ bytes. b ∷ bytes) o) ≡ is_some o
 some_map b None = refl
@@ -77,7 +77,7 @@ pub record BeginsWithByte (text : List ℕ) : Type 0 where
   pub high : is_ascii_hexdigit (get_or text 0 0) ≡ true
   pub low : is_ascii_hexdigit (get_or text 1 0) ≡ true
   pub says : IsSome (hex_bytes (drop 2 text))
-  pub said : unwrap_or (hex_bytes text) [] ≡ byte_of (get_or text 0 0) (get_or text 1 0) ∷ unwrap_or (hex_bytes (drop 2 text)) []
+  pub said : bytes_said text ≡ byte_of (get_or text 0 0) (get_or text 1 0) ∷ bytes_said (drop 2 text)
 
 pub begins : (text : List ℕ) → IsSome (hex_bytes text) → 0 < length text → is_blank (get_or text 0 0) ≡ false
     → BeginsWithByte text
@@ -98,6 +98,22 @@ begins text says some solid = by_byte (begins_with_byte text) refl where
       let none = said_by_other text some solid e in
       let no : is_some (hex_bytes text) ≡ false = rw none refl in
       absurd (cc (no, says))
+
+-- so a text that says bytes begins with one behind its blanks, unless nothing is left
+pub front : (text rest : List ℕ) → rest ≡ without_blanks_before text → IsSome (hex_bytes text) → 0 < length rest
+    → BeginsWithByte rest
+front text rest is says some =
+    begins rest (ap (λ (t : List ℕ). is_some (hex_bytes t)) is ∙ ap (λ (o : Option (List ℕ)). is_some o) (sym (said_after_blanks text)) ∙ says) some
+    (ap (λ (t : List ℕ). is_blank (get_or t 0 0)) is ∙ solid_front text (subst (λ (t : List ℕ). 0 < length t) is some))
+
+-- and it says what it says behind its blanks
+pub said_behind : (text rest : List ℕ) → rest ≡ without_blanks_before text → bytes_said text ≡ bytes_said rest
+said_behind text rest is =
+    ap (λ (o : Option (List ℕ)). unwrap_or o []) (said_after_blanks text) ∙ ap bytes_said (sym is)
+
+pub says_nothing : (rest : List ℕ) → rest ≡ [] → bytes_said rest ≡ []
+unfolding hex_bytes
+says_nothing rest none = ap bytes_said none
 
 -- what a loop over a text has left: it says bytes exactly if the text does
 pub record Rest (text rest : List ℕ) : Type 0 where

@@ -1,5 +1,5 @@
 -- Bytes written in hexadecimal digits.
-use Rattle.std.specs.Prelude.{◌+◌, ◌*◌, ◌==◌, ℕ, Bool, ◌||◌, ◌&&◌, not, List, [], ◌∷◌, if◌then◌else◌, Option, Some, None, option_map, nat_lt, length, slice_index, drop}
+use Rattle.std.specs.Prelude.{◌+◌, ◌*◌, ◌==◌, ℕ, Bool, ◌||◌, ◌&&◌, not, List, [], ◌∷◌, if◌then◌else◌, Option, Some, None, option_map, unwrap_or, nat_lt, length, slice_index, drop}
 use Rattle.std.specs.List.{position_or_len}
 use Rattle.std.specs.Char.{is_ascii_hexdigit, digit_value}
 
@@ -31,3 +31,7 @@ hex_bytes (high ∷ low ∷ text) =
     if are_digits high low
         then option_map (λ bytes. byte_of high low ∷ bytes) (hex_bytes text) else
     None
+
+-- the bytes of a text that says bytes
+abbrev pub bytes_said : List ℕ → List ℕ
+bytes_said text = unwrap_or (hex_bytes text) []

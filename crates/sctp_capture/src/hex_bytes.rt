@@ -1,9 +1,9 @@
 //! Bytes that a text says in hexadecimal digits.
 
-ghost use Rattle.std.specs.Prelude.{◌≡◌, ◌<◌, ◌++◌, ℕ, List, [], IsTrue, IsSome, OnOk, OnErr, is_some, not, position, unwrap_or};
+ghost use Rattle.std.specs.Prelude.{◌≡◌, ◌<◌, ◌++◌, ℕ, List, [], ◌∷◌, IsTrue, MatchOption, IsSome, OnOk, OnErr, is_some, not, position};
 ghost use Rattle.std.specs.Iterator.{YieldsFirst, item_count};
 ghost use Rattle.std.specs.Char.{is_ascii_hexdigit, digit_value};
-ghost use Rattle.sctp_capture.specs.HexBytes.{is_blank, without_blanks_before, begins_with_byte, hex_bytes};
+ghost use Rattle.sctp_capture.specs.HexBytes.{is_blank, without_blanks_before, begins_with_byte, hex_bytes, bytes_said};
 
 use std::alloc::AllocError;
 use std::marker::Model;
@@ -19,7 +19,7 @@ pub struct HexBytes<'a> {
 impl<'a> Model for HexBytes<'a> {
     ghost Value = { List ℕ };
 
-    ghost view = { λ h. unwrap_or (hex_bytes h.text.now) [] };
+    ghost view = { λ h. bytes_said h.text.now };
 
     ghost invariant = { λ h. IsSome (hex_bytes h.text.now) };
 }
@@ -62,14 +62,27 @@ impl<'a> Iterator for HexBytes<'a> {
 
     /// Returns the next byte; nothing once all were returned.
     fn next(&mut self) -> Option<u8> {
-        let text = without_blanks_before(self.text);
-        if text.is_empty() {
-            self.text = text;
-            return None;
+        match front_byte(self.text) {
+            Some((byte, rest)) => {
+                self.text = rest;
+                Some(byte)
+            }
+            None => None,
         }
-        self.text = &text[2..];
-        Some(16 * digit(text[0]) + digit(text[1]))
     }
+}
+
+/// Returns the first byte that a text says, and the text after it; nothing if it says none.
+fn front_byte(text: &[u8]) -> Option<(u8, &[u8])>
+    requires { IsSome (hex_bytes text.now) }
+    ensures { MatchOption result (bytes_said text.now ≡ [])
+        (λ p. (bytes_said text.now ≡ p.0 ∷ bytes_said p.1.now) × IsSome (hex_bytes p.1.now)) }
+{
+    let text = without_blanks_before(text);
+    if text.is_empty() {
+        return None;
+    }
+    Some((16 * digit(text[0]) + digit(text[1]), &text[2..]))
 }
 
 /// Returns the value of a digit of either case.

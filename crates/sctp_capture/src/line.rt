@@ -2,6 +2,7 @@
 
 ghost use Rattle.std.specs.Prelude.{◌≡◌, ◌≤◌, ◌<◌, ◌==◌, not, All, IsTrue, length, position};
 ghost use Rattle.std.specs.Char.{is_ascii_hexdigit};
+ghost use Rattle.std.specs.List.{list_all};
 ghost use Rattle.sctp_capture.specs.HexBytes.{is_blank, hex_bytes};
 ghost use Rattle.sctp_capture.specs.Line.{line_of, text_line, packet_line, log_line, dump_line, place_of, is_in_time, is_time, word, after_word, marked_bytes, dumped_bytes, groups_length, hex_number, offset_length, has_offset, is_printable};
 
@@ -182,7 +183,17 @@ fn first_blank(text: &[u8]) -> Option<usize>
 fn is_time(text: &[u8]) -> bool
     ensures { result ≡ is_time text.now }
 {
-    !text.is_empty() && text.iter().all(|byte| is_in_time(*byte))
+    if text.is_empty() {
+        return false;
+    }
+    are_in_time(text)
+}
+
+/// Returns whether each byte is a digit, a colon or a point.
+fn are_in_time(text: &[u8]) -> bool
+    ensures { result ≡ list_all is_in_time text.now }
+{
+    text.iter().all(|byte| is_in_time(*byte))
 }
 
 /// Returns whether the byte is a digit, a colon or a point.
@@ -275,7 +286,7 @@ fn dumped_bytes(text: &[u8]) -> Option<HexBytes<'_>>
     ensures { result ≡ dumped_bytes text.now }
 {
     let length = groups_length(text);
-    if text[length..].iter().all(|byte| is_printable(*byte)) {
+    if are_printable(&text[length..]) {
         HexBytes::from_text(&text[..length])
     } else {
         None
@@ -295,6 +306,13 @@ fn groups_length(text: &[u8]) -> usize
         length += 1;
     }
     length
+}
+
+/// Returns whether each byte is blank or can be printed.
+fn are_printable(text: &[u8]) -> bool
+    ensures { result ≡ list_all is_printable text.now }
+{
+    text.iter().all(|byte| is_printable(*byte))
 }
 
 /// Returns whether a byte is blank or can be printed.
