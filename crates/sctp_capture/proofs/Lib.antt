@@ -1,3 +1,5 @@
 pub mod Places
 pub mod HexLemmas
 pub mod Groups
+pub mod Extensions
+pub mod Records

@@ -121,8 +121,8 @@ without_extension p =
 unfoldable pub without_extensions : ℕ → Payload → Result Payload NoPacket
 without_extensions zero p = Ok p
 without_extensions (suc n) p =
-    if is_extension p.protocol then without_extension p >>= without_extensions n else
     if p.protocol == 44 then Err Fragment else
+    if is_extension p.protocol then without_extension p >>= without_extensions n else
     Ok p
 
 abbrev pub ipv6_addresses : List ℕ → Addresses

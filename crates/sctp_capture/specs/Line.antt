@@ -86,6 +86,11 @@ has_offset text =
     nat_lt 0 (offset_length text) && nat_le (offset_length text) 8
     && byte_at (offset_length text) text == 58
 
+-- two blanks are at this offset
+abbrev pub is_gap : List ℕ → ℕ → Bool
+is_gap text at =
+    nat_lt (at + 1) (length text) && (is_blank (byte_at at text) && is_blank (byte_at (at + 1) text))
+
 -- how many bytes come before the first two blanks in a row
 unfoldable pub groups_length : List ℕ → ℕ
 groups_length [] = 0

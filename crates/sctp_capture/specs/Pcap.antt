@@ -6,9 +6,8 @@
 --   record, 16 bytes and the captured bytes:
 --   | seconds, 4 | fraction, 4 | captured length, 4 | original length, 4 | captured bytes .. |
 use Rattle.std.specs.Prelude.{◌≡◌, ◌<◌, ◌≤◌, ◌+◌, ◌%◌, ◌^◌, ℕ, List, [], ◌∷◌, ◌++◌, if◌then◌else◌, Option, Some, None, option_map, nat_eq, length, take, drop}
-use Rattle.std.specs.List.{starts_with, flat_map}
+use Rattle.std.specs.List.{starts_with, flat_map, AllByRecursion}
 use Rattle.std.specs.Int.{w16, w32}
-use Rattle.std.specs.Prelude.{All}
 use Rattle.sctp_capture.specs.Number.{number_in, number_bytes}
 use Rattle.sctp_capture.specs.declared.pcap.ByteOrder.{ByteOrder}
 use Rattle.sctp_capture.specs.declared.pcap.ByteOrder.TheVariants.{BigEndian, LittleEndian}
@@ -107,7 +106,7 @@ pub record BeginsWithRecord (order : ByteOrder) (bytes : List ℕ) : Type 0 wher
 pub record AreRecords (order : ByteOrder) (bytes : List ℕ) (records : List Record) (cut : List ℕ)
     : Type 0 where
   pub split : bytes ≡ flat_map (record_bytes order) records ++ cut
-  pub fit : All Fits records
+  pub fit : AllByRecursion Fits records
   pub end : BeginsWithRecord order cut → ⊥
 
 -- the numbers of the header at the front

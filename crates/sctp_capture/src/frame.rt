@@ -1,9 +1,11 @@
 //! The SCTP packet in a frame, by its link type.
 
-ghost use Rattle.std.specs.Prelude.{◌≡◌, ◌≤◌, length, take, drop};
+ghost use Rattle.std.specs.Prelude.{◌≡◌, ◌≤◌, length};
 ghost use Rattle.sctp_capture.specs.Number.{number16};
 ghost use Rattle.sctp_capture.specs.Frame.{packet_in, is_known_link, is_extension, may_carry_sctp, carried, in_udp, whole, ipv4, ipv6, ip, ipv4_addresses, ipv6_addresses, of_type, typed, ethernet, on_link, without_extension, without_extensions};
 ghost use Rattle.sctp_capture.specs.Found.{found, payload_of, payload_result};
+
+use crate::parts::after;
 
 /// Link types of pcap files (the registry of draft-ietf-opsawg-pcaplinktype).
 pub mod link_type {
@@ -323,14 +325,14 @@ fn without_extensions(most: u8, payload: Payload<'_>) -> Result<Payload<'_>, NoP
     ensures { payload_result result ≡ without_extensions most (payload_of payload.entry) }
 {
     let mut rest = payload;
-    for _ in 0..most {
-        if is_extension(rest.protocol) {
-            rest = without_extension(rest)?;
-        } else if rest.protocol == FRAGMENT_HEADER {
+    for _k in 0..most {
+        if rest.protocol == FRAGMENT_HEADER {
             return Err(NoPacket::Fragment);
-        } else {
+        }
+        if !is_extension(rest.protocol) {
             return Ok(rest);
         }
+        rest = without_extension(rest)?;
     }
     Ok(rest)
 }
@@ -370,13 +372,6 @@ fn may_carry_sctp(protocol: u8) -> bool
     ensures { result ≡ may_carry_sctp protocol }
 {
     matches!(protocol, SCTP_PROTOCOL | UDP_PROTOCOL)
-}
-
-/// Returns the bytes after the first `count`; none if there are fewer.
-fn after(bytes: &[u8], count: usize) -> &[u8]
-    ensures { result.now ≡ drop count bytes.now }
-{
-    &bytes[count.min(bytes.len())..]
 }
 
 /// Returns the number of the first two bytes, most significant byte first.

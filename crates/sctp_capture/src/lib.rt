@@ -6,6 +6,8 @@
 
 pub mod frame;
 pub mod hex_bytes;
+pub mod laws;
 pub mod line;
 pub mod log_time;
+mod parts;
 pub mod pcap;

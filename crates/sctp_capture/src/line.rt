@@ -4,10 +4,11 @@ ghost use Rattle.std.specs.Prelude.{◌≡◌, ◌≤◌, ◌<◌, ◌==◌, not
 ghost use Rattle.std.specs.Char.{is_ascii_hexdigit};
 ghost use Rattle.std.specs.List.{list_all};
 ghost use Rattle.sctp_capture.specs.HexBytes.{is_blank, hex_bytes};
-ghost use Rattle.sctp_capture.specs.Line.{line_of, text_line, packet_line, log_line, dump_line, place_of, is_in_time, is_time, word, after_word, marked_bytes, dumped_bytes, groups_length, hex_number, offset_length, has_offset, is_printable};
+ghost use Rattle.sctp_capture.specs.Line.{line_of, text_line, packet_line, log_line, dump_line, place_of, is_in_time, is_time, word, after_word, marked_bytes, dumped_bytes, is_gap, groups_length, hex_number, offset_length, has_offset, is_printable};
 
 use crate::hex_bytes::{HexBytes, digit, is_blank, without_blanks_before};
 use crate::log_time::LogTime;
+use crate::parts::after;
 
 /// Where a logged packet went.
 #[derive(Clone, Copy, Debug, PartialEq, Eq)]
@@ -119,11 +120,11 @@ fn read_text(text: &[u8]) -> Line<'_>
     } else if text[0] == b'#' {
         Line::Comment
     } else if text.starts_with(b"I ") {
-        log_line(Direction::Incoming, without_blanks_before(&text[2..]))
+        log_line(Direction::Incoming, without_blanks_before(after(text, 2)))
     } else if text.starts_with(b"O ") {
-        log_line(Direction::Outgoing, without_blanks_before(&text[2..]))
+        log_line(Direction::Outgoing, without_blanks_before(after(text, 2)))
     } else if text.starts_with(b"0x") {
-        dump_line(DumpForm::Tcpdump, &text[2..])
+        dump_line(DumpForm::Tcpdump, after(text, 2))
     } else if has_offset(text) {
         dump_line(DumpForm::Xxd, text)
     } else {
@@ -294,18 +295,27 @@ fn dumped_bytes(text: &[u8]) -> Option<HexBytes<'_>>
 }
 
 /// Returns how many bytes come before the first two blanks in a row.
+#[tactic(auto, using(crate::proofs::Groups::groups_end, crate::proofs::Groups::groups_at_gap, crate::proofs::Groups::groups_past))]
 fn groups_length(text: &[u8]) -> usize
     ensures value { result ≡ groups_length text.now }
     ensures within { result ≤ length text.now }
 {
     let mut length = 0;
     while length < text.len() {
-        if length + 1 < text.len() && is_blank(text[length]) && is_blank(text[length + 1]) {
+        if is_gap(text, length) {
             return length;
         }
         length += 1;
     }
     length
+}
+
+/// Returns whether two blanks are at this offset.
+fn is_gap(text: &[u8], offset: usize) -> bool
+    requires { offset < length text.now }
+    ensures { result ≡ is_gap text.now offset }
+{
+    offset + 1 < text.len() && is_blank(text[offset]) && is_blank(text[offset + 1])
 }
 
 /// Returns whether each byte is blank or can be printed.
