@@ -52,7 +52,7 @@ abbrev pub udp_length : List ℕ → ℕ
 udp_length bytes = number16 (drop 4 bytes)
 
 -- SCTP in UDP: one of the ports is 9899 (RFC 6951 section 5.1)
-abbrev pub in_udp : Payload → Result Packet NoPacket
+unfoldable pub in_udp : Payload → Result Packet NoPacket
 in_udp p =
     if nat_lt p.size 8 then Err Malformed else
     if nat_lt (length p.bytes) 8 then Err Cut else
@@ -85,7 +85,7 @@ is_ipv4_fragment bytes = not (number16 (drop 6 bytes) % 2 ^ 14 == 0)
 abbrev pub ipv4_addresses : List ℕ → Addresses
 ipv4_addresses bytes = V4 (take 4 (drop 12 bytes)) (take 4 (drop 16 bytes))
 
-abbrev pub ipv4 : List ℕ → Result Payload NoPacket
+unfoldable pub ipv4 : List ℕ → Result Payload NoPacket
 ipv4 bytes =
     if nat_lt (length bytes) 20 then Err Cut else
     if not (ip_version bytes == 4) then Err Malformed else
@@ -105,7 +105,7 @@ abbrev pub extension_size : List ℕ → ℕ
 extension_size bytes = 8 * (byte_at 1 bytes + 1)
 
 -- the payload without the extension header at its front, whose first byte is the next protocol
-abbrev pub without_extension : Payload → Result Payload NoPacket
+unfoldable pub without_extension : Payload → Result Payload NoPacket
 without_extension p =
     if nat_lt p.size 8 then Err Malformed else
     if nat_lt (length p.bytes) 8 then Err Cut else
@@ -137,14 +137,14 @@ ipv6_payload bytes = record {
   bytes = drop 40 bytes;
 }
 
-abbrev pub ipv6 : List ℕ → Result Payload NoPacket
+unfoldable pub ipv6 : List ℕ → Result Payload NoPacket
 ipv6 bytes =
     if nat_lt (length bytes) 40 then Err Cut else
     if not (ip_version bytes == 6) then Err Malformed else
     without_extensions 8 (ipv6_payload bytes)
 
 -- the version says which
-abbrev pub ip : List ℕ → Result Payload NoPacket
+unfoldable pub ip : List ℕ → Result Payload NoPacket
 ip bytes =
     if length bytes == 0 then Err Cut else
     if ip_version bytes == 4 then ipv4 bytes else
@@ -154,20 +154,20 @@ ip bytes =
 -- ---- links
 
 -- by the type of what a frame carries (IEEE 802.3)
-abbrev pub of_type : ℕ → List ℕ → Result Payload NoPacket
+unfoldable pub of_type : ℕ → List ℕ → Result Payload NoPacket
 of_type type bytes =
     if type == 0x0800 then ipv4 bytes else
     if type == 0x86dd then ipv6 bytes else
     Err Other
 
 -- a type behind other bytes of a header, so many, and then what the frame carries
-abbrev pub typed : ℕ → List ℕ → Result Payload NoPacket
+unfoldable pub typed : ℕ → List ℕ → Result Payload NoPacket
 typed offset frame =
     if nat_lt (length frame) (offset + 2) then Err Cut else
     of_type (number16 (drop offset frame)) (drop (offset + 2) frame)
 
 -- two addresses of six bytes and a type; of a tagged frame (IEEE 802.1Q) the type is behind the tag
-abbrev pub ethernet : List ℕ → Result Payload NoPacket
+unfoldable pub ethernet : List ℕ → Result Payload NoPacket
 ethernet frame =
     if nat_lt (length frame) 14 then Err Cut else
     if number16 (drop 12 frame) == 0x8100 then typed 16 frame else
@@ -175,7 +175,7 @@ ethernet frame =
 
 -- What a frame of this link type carries (the registry of draft-ietf-opsawg-pcaplinktype): Ethernet,
 -- IP without a header of the link, and Linux's cooked header of 16 bytes, whose last two are the type.
-abbrev pub on_link : ℕ → List ℕ → Result Payload NoPacket
+unfoldable pub on_link : ℕ → List ℕ → Result Payload NoPacket
 on_link link frame =
     if link == 1 then ethernet frame else
     if link == 101 then ip frame else
@@ -184,7 +184,7 @@ on_link link frame =
 
 -- The packet in a frame of this link type that had so many bytes on the link. Of link type 248 a frame
 -- is a packet.
-abbrev pub packet_in : ℕ → ℕ → List ℕ → Result Packet NoPacket
+unfoldable pub packet_in : ℕ → ℕ → List ℕ → Result Packet NoPacket
 packet_in link original_length frame =
     if link == 248 then whole None None original_length frame else
     on_link link frame >>= carried

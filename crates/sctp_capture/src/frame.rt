@@ -101,6 +101,7 @@ pub fn is_known_link(link_type: u16) -> bool
 /// Otherwise returns the first of these from the link's header inward: `Cut`, if fewer bytes were
 /// captured than a header has or than its lengths say; `Malformed`, if a version, a header's length or
 /// a total length can't be; `Fragment`; `Other`, of an unknown link type too.
+#[tactic(auto, unfolding(crate::specs::Frame::packet_in))]
 pub fn packet_in(
     link_type: u16,
     original_length: u32,
@@ -155,6 +156,7 @@ fn carried(payload: Payload<'_>) -> Result<FoundPacket<'_>, NoPacket>
 }
 
 /// Returns the packet in a UDP datagram.
+#[tactic(auto, unfolding(crate::specs::Frame::in_udp))]
 fn in_udp(payload: Payload<'_>) -> Result<FoundPacket<'_>, NoPacket>
     ensures { found result ≡ in_udp (payload_of payload.entry) }
 {
@@ -182,6 +184,7 @@ fn in_udp(payload: Payload<'_>) -> Result<FoundPacket<'_>, NoPacket>
 }
 
 /// Returns what a frame of this link type carries.
+#[tactic(auto, unfolding(crate::specs::Frame::on_link))]
 fn on_link(link_type: u16, frame: &[u8]) -> Result<Payload<'_>, NoPacket>
     ensures { payload_result result ≡ on_link link_type frame.now }
 {
@@ -194,6 +197,7 @@ fn on_link(link_type: u16, frame: &[u8]) -> Result<Payload<'_>, NoPacket>
 }
 
 /// Returns what an Ethernet frame carries.
+#[tactic(auto, unfolding(crate::specs::Frame::ethernet))]
 fn ethernet(frame: &[u8]) -> Result<Payload<'_>, NoPacket>
     ensures { payload_result result ≡ ethernet frame.now }
 {
@@ -208,6 +212,7 @@ fn ethernet(frame: &[u8]) -> Result<Payload<'_>, NoPacket>
 }
 
 /// Returns what follows the type at this offset.
+#[tactic(auto, unfolding(crate::specs::Frame::typed, crate::specs::Frame::of_type))]
 fn typed(offset: usize, frame: &[u8]) -> Result<Payload<'_>, NoPacket>
     requires { offset ≤ 16 }
     ensures { payload_result result ≡ typed offset frame.now }
@@ -223,6 +228,7 @@ fn typed(offset: usize, frame: &[u8]) -> Result<Payload<'_>, NoPacket>
 }
 
 /// Returns what an IP packet of either version carries.
+#[tactic(auto, unfolding(crate::specs::Frame::ip))]
 fn ip(bytes: &[u8]) -> Result<Payload<'_>, NoPacket>
     ensures { payload_result result ≡ ip bytes.now }
 {
@@ -237,6 +243,7 @@ fn ip(bytes: &[u8]) -> Result<Payload<'_>, NoPacket>
 }
 
 /// Returns what an IPv4 packet carries.
+#[tactic(auto, unfolding(crate::specs::Frame::ipv4))]
 fn ipv4(bytes: &[u8]) -> Result<Payload<'_>, NoPacket>
     ensures { payload_result result ≡ ipv4 bytes.now }
 {
@@ -285,6 +292,7 @@ fn ipv4_addresses(bytes: &[u8]) -> Addresses
 }
 
 /// Returns what an IPv6 packet carries, behind its extension headers.
+#[tactic(auto, unfolding(crate::specs::Frame::ipv6))]
 fn ipv6(bytes: &[u8]) -> Result<Payload<'_>, NoPacket>
     ensures { payload_result result ≡ ipv6 bytes.now }
 {
@@ -338,6 +346,7 @@ fn without_extensions(most: u8, payload: Payload<'_>) -> Result<Payload<'_>, NoP
 }
 
 /// Returns the payload behind the extension header at its front.
+#[tactic(auto, unfolding(crate::specs::Frame::without_extension))]
 fn without_extension(payload: Payload<'_>) -> Result<Payload<'_>, NoPacket>
     ensures { payload_result result ≡ without_extension (payload_of payload.entry) }
 {
