@@ -39,9 +39,9 @@ solid_front text some =
     let inside : place < length text = omega (arith, length-drop place text) in
     let passes = passes_at_first (λ byte. not (is_blank byte)) text 0 inside in
     rw (get_or-drop place text 0 0) (not_true (is_blank (get_or text (place + 0) 0)) (rw add-zero passes)) where
-  not_true : (b : Bool) → not b ≡ true → b ≡ false
-  not_true true e = cc
-  not_true false e = refl
+      not_true : (b : Bool) → not b ≡ true → b ≡ false
+      not_true true e = cc
+      not_true false e = refl
 
 -- two digits at the front say a byte
 pub said_after_byte : (text : List ℕ) → is_blank (get_or text 0 0) ≡ false → begins_with_byte text ≡ true

@@ -23,6 +23,6 @@ digits_before text n is k d below =
     let within : k < n = omega (arith, length-take n text) in
     let before = fails_before_first (λ (byte : ℕ). not (is_ascii_hexdigit byte)) text k d (subst (λ (m : ℕ). k < m) is within) in
     rw (get_or-take n text k d within) (not_false (is_ascii_hexdigit (get_or text k d)) before) where
-  not_false : (b : Bool) → not b ≡ false → b ≡ true
-  not_false true e = refl
-  not_false false e = cc
+      not_false : (b : Bool) → not b ≡ false → b ≡ true
+      not_false true e = refl
+      not_false false e = cc

@@ -48,13 +48,14 @@ record_one order r s x y p q e =
     let tails : r.frame ++ x ≡ s.frame ++ y = sym a.rest ∙ b.rest in
     let frames = same_front r.frame s.frame x y sizes tails in
     (made r s (sym a.seconds ∙ b.seconds) (sym a.fraction ∙ b.fraction) (sym a.original ∙ b.original) frames.0, frames.1) where
-  made : (r s : Record) → r.seconds ≡ s.seconds → r.fraction ≡ s.fraction → r.original_length ≡ s.original_length → r.frame ≡ s.frame → r ≡ s
-  made r s a b c d = λ k. record { seconds = a k; fraction = b k; original_length = c k; frame = d k }
+      made : (r s : Record) → r.seconds ≡ s.seconds → r.fraction ≡ s.fraction → r.original_length ≡ s.original_length → r.frame ≡ s.frame → r ≡ s
+      made r s a b c d = λ k. record { seconds = a k; fraction = b k; original_length = c k; frame = d k }
 
-  same_front : (a b x y : List ℕ) → length a ≡ length b → a ++ x ≡ b ++ y → (a ≡ b) × (x ≡ y)
-  same_front a b x y size e =
-      (sym (take_at a x (length b) size) ∙ ap (take (length b)) e ∙ take_at b y (length b) refl,
-       sym (drop_at a x (length b) size) ∙ ap (drop (length b)) e ∙ drop_at b y (length b) refl)
+      same_front : (a b x y : List ℕ) → length a ≡ length b → a ++ x ≡ b ++ y → (a ≡ b) × (x ≡ y)
+      same_front a b x y size e = (
+        sym (take_at a x (length b) size) ∙ ap (take (length b)) e ∙ take_at b y (length b) refl,
+        sym (drop_at a x (length b) size) ∙ ap (drop (length b)) e ∙ drop_at b y (length b) refl,
+      )
 
 -- and a record is at the front of its bytes
 pub record_front : (order : ByteOrder) (r : Record) (more : List ℕ) → Fits r → BeginsWithRecord order (record_bytes order r ++ more)
@@ -94,11 +95,11 @@ reading_one order bytes cut left (r ∷ rs) (s ∷ ss) p q =
     let e = sym (tail_split order r rs cut) ∙ sym p.split ∙ q.split ∙ tail_split order s ss left in
     let one = record_one order r s (flat_map (record_bytes order) rs ++ cut) (flat_map (record_bytes order) ss ++ left) p.fit.0 q.fit.0 e in
     let rest = reading_one order (flat_map (record_bytes order) rs ++ cut) cut left rs ss
-        record { split = refl; fit = p.fit.1; end = p.end }
-        record { split = one.1; fit = q.fit.1; end = q.end } in
+    record { split = refl; fit = p.fit.1; end = p.end }
+    record { split = one.1; fit = q.fit.1; end = q.end } in
     (joined r s rs ss one.0 rest.0, rest.1) where
-  joined : (r s : Record) (rs ss : List Record) → r ≡ s → rs ≡ ss → r ∷ rs ≡ s ∷ ss
-  joined r s rs ss a b = cc
+      joined : (r s : Record) (rs ss : List Record) → r ≡ s → rs ≡ ss → r ∷ rs ≡ s ∷ ss
+      joined r s rs ss a b = cc
 
 -- ---- a header
 

@@ -29,7 +29,7 @@ hex_bytes (high ∷ []) = if is_blank high then Some [] else None
 hex_bytes (high ∷ low ∷ text) =
     if is_blank high then hex_bytes (low ∷ text) else
     if are_digits high low
-        then option_map (λ bytes. byte_of high low ∷ bytes) (hex_bytes text) else
+    then option_map (λ bytes. byte_of high low ∷ bytes) (hex_bytes text) else
     None
 
 -- the bytes of a text that says bytes

@@ -56,7 +56,7 @@ mark_offset text = position_or_len (λ byte. byte == 35) text
 abbrev pub marked_bytes : List ℕ → Option (List ℕ)
 marked_bytes text =
     if starts_with nat_eq (drop (mark_offset text) text) mark
-        then hex_bytes (take (mark_offset text) text) else
+    then hex_bytes (take (mark_offset text) text) else
     None
 
 abbrev pub logged : Direction → List ℕ → Option (List ℕ) → Line
@@ -105,7 +105,7 @@ is_printable byte = is_blank byte || (nat_le 32 byte && nat_le byte 126)
 abbrev pub dumped_bytes : List ℕ → Option (List ℕ)
 dumped_bytes text =
     if list_all is_printable (drop (groups_length text) text)
-        then hex_bytes (take (groups_length text) text) else
+    then hex_bytes (take (groups_length text) text) else
     None
 
 abbrev pub dumped : DumpForm → ℕ → Option (List ℕ) → Line
@@ -117,7 +117,7 @@ abbrev pub dump_line : DumpForm → List ℕ → Line
 dump_line form text =
     if not (has_offset text) then Unknown else
     dumped form (hex_number (take (offset_length text) text))
-      (dumped_bytes (without_blanks_before (drop (offset_length text + 1) text)))
+    (dumped_bytes (without_blanks_before (drop (offset_length text + 1) text)))
 
 -- ---- a line
 

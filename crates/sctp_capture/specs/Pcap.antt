@@ -28,13 +28,13 @@ format order resolution = record { order = order; resolution = resolution }
 abbrev pub magic_format : List ℕ → Option PcapFormat
 magic_format bytes =
     if starts_with nat_eq bytes (0xa1 ∷ 0xb2 ∷ 0xc3 ∷ 0xd4 ∷ [])
-        then Some (format BigEndian Microseconds) else
+    then Some (format BigEndian Microseconds) else
     if starts_with nat_eq bytes (0xd4 ∷ 0xc3 ∷ 0xb2 ∷ 0xa1 ∷ [])
-        then Some (format LittleEndian Microseconds) else
+    then Some (format LittleEndian Microseconds) else
     if starts_with nat_eq bytes (0xa1 ∷ 0xb2 ∷ 0x3c ∷ 0x4d ∷ [])
-        then Some (format BigEndian Nanoseconds) else
+    then Some (format BigEndian Nanoseconds) else
     if starts_with nat_eq bytes (0x4d ∷ 0x3c ∷ 0xb2 ∷ 0xa1 ∷ [])
-        then Some (format LittleEndian Nanoseconds) else
+    then Some (format LittleEndian Nanoseconds) else
     None
 
 -- what pcapng begins with (draft-ietf-opsawg-pcapng section 4.1), the same in both byte orders

@@ -9,21 +9,18 @@ pub fn one_reading()
     ensures { (order : ByteOrder) (bytes cut left : List ℕ) (records others : List Record)
         → AreRecords order bytes records cut → AreRecords order bytes others left
         → (records ≡ others) × (cut ≡ left) }
-{
-}
+{}
 
 /// A record that comes before records is the first of them.
 pub fn next_record()
     ensures { (order : ByteOrder) (r : Record) (bytes cut : List ℕ) (records : List Record)
         → Fits r → AreRecords order bytes records cut
         → AreRecords order (record_bytes order r ++ bytes) (r ∷ records) cut }
-{
-}
+{}
 
 /// Bytes that don't begin with a record are no records, and all of them are cut off; they are none at
 /// the end of a file that is whole.
 pub fn no_record()
     ensures { (order : ByteOrder) (bytes : List ℕ)
         → (BeginsWithRecord order bytes → ⊥) → AreRecords order bytes [] bytes }
-{
-}
+{}
