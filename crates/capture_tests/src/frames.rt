@@ -2,388 +2,379 @@
 //! them are `de ad be ef`: what a packet's bytes are doesn't matter here.
 
 use sctp_capture::frame::{is_known_link, packet_in};
+use sctp_capture::hex_bytes::HexBytes;
 use std::alloc::{AllocError, Global};
+
+/// The bytes that a text says in hexadecimal.
+fn bytes_of(alloc: Global, text: &str) -> Result<Vec<u8>, AllocError> {
+    let mut bytes = Vec::new(alloc);
+    if let Some(said) = HexBytes::from_text(text.as_bytes()) {
+        said.append_to(&mut bytes)?;
+    }
+    Ok(bytes)
+}
 
 /// What is found in a frame, as a text.
 fn found(alloc: Global, row: &Row) -> Result<String, AllocError> {
-    match packet_in(row.0, row.1, row.2) {
+    let frame = bytes_of(alloc, row.2)?;
+    match packet_in(row.0, row.1, &frame) {
         Ok(packet) => format!(in alloc; "{packet:?}"),
         Err(none) => format!(in alloc; "{none:?}"),
     }
 }
 
-/// A link type, how long the frame was, its bytes, and what is found in it.
-type Row = (u16, u32, &'static [u8], &'static str);
+/// A link type, how long the frame was, its bytes in hexadecimal, and what is found in it.
+type Row = (u16, u32, &'static str, &'static str);
 
 const ROWS: &[Row] = &[
     // raw IPv4
     (
         101,
         24,
-        b"\x45\x00\x00\x18\x00\x01\x00\x00\x40\x84\x00\x00\x0a\x00\x00\x01\x0a\x00\x00\x02\xde\xad\xbe\xef",
+        "45000018 00010000 40840000 0a000001 0a000002 deadbeef",
         "FoundPacket { addresses: Some(V4 { source: [10, 0, 0, 1], destination: [10, 0, 0, 2] }), udp_ports: None, packet: [222, 173, 190, 239] }",
     ),
     // what follows the total length isn't part of the packet
     (
         101,
         30,
-        b"\x45\x00\x00\x18\x00\x01\x00\x00\x40\x84\x00\x00\x0a\x00\x00\x01\x0a\x00\x00\x02\xde\xad\xbe\xef\x00\x00\x00\x00\x00\x00",
+        "45000018 00010000 40840000 0a000001 0a000002 deadbeef00000000 0000",
         "FoundPacket { addresses: Some(V4 { source: [10, 0, 0, 1], destination: [10, 0, 0, 2] }), udp_ports: None, packet: [222, 173, 190, 239] }",
     ),
     // don't fragment is no fragment
     (
         101,
         24,
-        b"\x45\x00\x00\x18\x00\x01\x40\x00\x40\x84\x00\x00\x0a\x00\x00\x01\x0a\x00\x00\x02\xde\xad\xbe\xef",
+        "45000018 00014000 40840000 0a000001 0a000002 deadbeef",
         "FoundPacket { addresses: Some(V4 { source: [10, 0, 0, 1], destination: [10, 0, 0, 2] }), udp_ports: None, packet: [222, 173, 190, 239] }",
     ),
     // four bytes of options
     (
         101,
         28,
-        b"\x46\x00\x00\x1c\x00\x01\x00\x00\x40\x84\x00\x00\x0a\x00\x00\x01\x0a\x00\x00\x02\x01\x01\x01\x01\xde\xad\xbe\xef",
+        "4600001c 00010000 40840000 0a000001 0a000002 01010101deadbeef",
         "FoundPacket { addresses: Some(V4 { source: [10, 0, 0, 1], destination: [10, 0, 0, 2] }), udp_ports: None, packet: [222, 173, 190, 239] }",
     ),
     // a packet of no bytes
     (
         101,
         20,
-        b"\x45\x00\x00\x14\x00\x01\x00\x00\x40\x84\x00\x00\x0a\x00\x00\x01\x0a\x00\x00\x02",
+        "45000014 00010000 40840000 0a000001 0a000002",
         "FoundPacket { addresses: Some(V4 { source: [10, 0, 0, 1], destination: [10, 0, 0, 2] }), udp_ports: None, packet: [] }",
     ),
     // the first fragment: more follow
     (
         101,
         24,
-        b"\x45\x00\x00\x18\x00\x01\x20\x00\x40\x84\x00\x00\x0a\x00\x00\x01\x0a\x00\x00\x02\xde\xad\xbe\xef",
+        "45000018 00012000 40840000 0a000001 0a000002 deadbeef",
         "Fragment",
     ),
     // a later fragment: an offset of 8 bytes
     (
         101,
         24,
-        b"\x45\x00\x00\x18\x00\x01\x00\x01\x40\x84\x00\x00\x0a\x00\x00\x01\x0a\x00\x00\x02\xde\xad\xbe\xef",
+        "45000018 00010001 40840000 0a000001 0a000002 deadbeef",
         "Fragment",
     ),
     // a fragment of UDP may hold SCTP
     (
         101,
         24,
-        b"\x45\x00\x00\x18\x00\x01\x20\x00\x40\x11\x00\x00\x0a\x00\x00\x01\x0a\x00\x00\x02\xde\xad\xbe\xef",
+        "45000018 00012000 40110000 0a000001 0a000002 deadbeef",
         "Fragment",
     ),
     // a fragment of TCP doesn't
     (
         101,
         24,
-        b"\x45\x00\x00\x18\x00\x01\x20\x00\x40\x06\x00\x00\x0a\x00\x00\x01\x0a\x00\x00\x02\xde\xad\xbe\xef",
+        "45000018 00012000 40060000 0a000001 0a000002 deadbeef",
         "Other",
     ),
     // TCP
     (
         101,
         24,
-        b"\x45\x00\x00\x18\x00\x01\x00\x00\x40\x06\x00\x00\x0a\x00\x00\x01\x0a\x00\x00\x02\xde\xad\xbe\xef",
+        "45000018 00010000 40060000 0a000001 0a000002 deadbeef",
         "Other",
     ),
     // one byte fewer than the total length
     (
         101,
         24,
-        b"\x45\x00\x00\x18\x00\x01\x00\x00\x40\x84\x00\x00\x0a\x00\x00\x01\x0a\x00\x00\x02\xde\xad\xbe",
+        "45000018 00010000 40840000 0a000001 0a000002 deadbe",
         "Cut",
     ),
     // less than a header
-    (
-        101,
-        24,
-        b"\x45\x00\x00\x18\x00\x01\x00\x00\x40\x84\x00\x00\x0a\x00\x00\x01\x0a\x00\x00",
-        "Cut",
-    ),
+    (101, 24, "45000018 00010000 40840000 0a000001 0a0000", "Cut"),
     // nothing
-    (101, 0, b"", "Cut"),
+    (101, 0, "", "Cut"),
     // a header of 16 bytes
     (
         101,
         24,
-        b"\x44\x00\x00\x18\x00\x01\x00\x00\x40\x84\x00\x00\x0a\x00\x00\x01\x0a\x00\x00\x02\xde\xad\xbe\xef",
+        "44000018 00010000 40840000 0a000001 0a000002 deadbeef",
         "Malformed",
     ),
     // a total length below the header
     (
         101,
         24,
-        b"\x45\x00\x00\x13\x00\x01\x00\x00\x40\x84\x00\x00\x0a\x00\x00\x01\x0a\x00\x00\x02\xde\xad\xbe\xef",
+        "45000013 00010000 40840000 0a000001 0a000002 deadbeef",
         "Malformed",
     ),
     // a total length of 65,535
     (
         101,
         24,
-        b"\x45\x00\xff\xff\x00\x01\x00\x00\x40\x84\x00\x00\x0a\x00\x00\x01\x0a\x00\x00\x02\xde\xad\xbe\xef",
+        "4500ffff 00010000 40840000 0a000001 0a000002 deadbeef",
         "Cut",
     ),
     // version 5
     (
         101,
         24,
-        b"\x55\x00\x00\x18\x00\x01\x00\x00\x40\x84\x00\x00\x0a\x00\x00\x01\x0a\x00\x00\x02\xde\xad\xbe\xef",
+        "55000018 00010000 40840000 0a000001 0a000002 deadbeef",
         "Other",
     ),
     // Ethernet, padded to 60 bytes
     (
         1,
         60,
-        b"\x02\x00\x00\x00\x00\x02\x02\x00\x00\x00\x00\x01\x08\x00\x45\x00\x00\x18\x00\x01\x00\x00\x40\x84\x00\x00\x0a\x00\x00\x01\x0a\x00\x00\x02\xde\xad\xbe\xef\x00\x00\x00\x00\x00\x00\x00\x00\x00\x00\x00\x00\x00\x00\x00\x00\x00\x00\x00\x00\x00\x00",
+        "020000000002020000000001 0800 45000018 00010000 40840000 0a000001 0a000002 deadbeef00000000 0000000000000000 0000000000000000 0000",
         "FoundPacket { addresses: Some(V4 { source: [10, 0, 0, 1], destination: [10, 0, 0, 2] }), udp_ports: None, packet: [222, 173, 190, 239] }",
     ),
     // Ethernet with a tag
     (
         1,
         42,
-        b"\x02\x00\x00\x00\x00\x02\x02\x00\x00\x00\x00\x01\x81\x00\x00\x05\x08\x00\x45\x00\x00\x18\x00\x01\x00\x00\x40\x84\x00\x00\x0a\x00\x00\x01\x0a\x00\x00\x02\xde\xad\xbe\xef",
+        "020000000002020000000001 81000005 0800 45000018 00010000 40840000 0a000001 0a000002 deadbeef",
         "FoundPacket { addresses: Some(V4 { source: [10, 0, 0, 1], destination: [10, 0, 0, 2] }), udp_ports: None, packet: [222, 173, 190, 239] }",
     ),
     // two tags
     (
         1,
         46,
-        b"\x02\x00\x00\x00\x00\x02\x02\x00\x00\x00\x00\x01\x81\x00\x00\x05\x81\x00\x00\x06\x08\x00\x45\x00\x00\x18\x00\x01\x00\x00\x40\x84\x00\x00\x0a\x00\x00\x01\x0a\x00\x00\x02\xde\xad\xbe\xef",
+        "020000000002020000000001 81000005 81000006 0800 45000018 00010000 40840000 0a000001 0a000002 deadbeef",
         "Other",
     ),
     // a tag of a provider
     (
         1,
         42,
-        b"\x02\x00\x00\x00\x00\x02\x02\x00\x00\x00\x00\x01\x88\xa8\x00\x05\x08\x00\x45\x00\x00\x18\x00\x01\x00\x00\x40\x84\x00\x00\x0a\x00\x00\x01\x0a\x00\x00\x02\xde\xad\xbe\xef",
+        "020000000002020000000001 88a80005 0800 45000018 00010000 40840000 0a000001 0a000002 deadbeef",
         "Other",
     ),
     // ARP
     (
         1,
         60,
-        b"\x02\x00\x00\x00\x00\x02\x02\x00\x00\x00\x00\x01\x08\x06\x00\x00\x00\x00\x00\x00\x00\x00\x00\x00\x00\x00\x00\x00\x00\x00\x00\x00\x00\x00\x00\x00\x00\x00\x00\x00\x00\x00\x00\x00\x00\x00\x00\x00\x00\x00\x00\x00\x00\x00\x00\x00\x00\x00\x00\x00",
+        "020000000002020000000001 0806 0000000000000000 0000000000000000 0000000000000000 0000000000000000 0000000000000000 000000000000",
         "Other",
     ),
     // less than an Ethernet header
-    (
-        1,
-        60,
-        b"\x02\x00\x00\x00\x00\x02\x02\x00\x00\x00\x00\x01\x08",
-        "Cut",
-    ),
+    (1, 60, "020000000002020000000001 08", "Cut"),
     // less than a tag
-    (
-        1,
-        60,
-        b"\x02\x00\x00\x00\x00\x02\x02\x00\x00\x00\x00\x01\x81\x00\x00\x05\x08",
-        "Cut",
-    ),
+    (1, 60, "020000000002020000000001 81000005 08", "Cut"),
     // the type says IPv4, and the version 6
     (
         1,
         38,
-        b"\x02\x00\x00\x00\x00\x02\x02\x00\x00\x00\x00\x01\x08\x00\x65\x00\x00\x18\x00\x01\x00\x00\x40\x84\x00\x00\x0a\x00\x00\x01\x0a\x00\x00\x02\xde\xad\xbe\xef",
+        "020000000002020000000001 0800 65000018 00010000 40840000 0a000001 0a000002 deadbeef",
         "Malformed",
     ),
     // Linux cooked
     (
         113,
         40,
-        b"\x00\x00\x00\x01\x00\x06\x02\x00\x00\x00\x00\x02\x00\x00\x08\x00\x45\x00\x00\x18\x00\x01\x00\x00\x40\x84\x00\x00\x0a\x00\x00\x01\x0a\x00\x00\x02\xde\xad\xbe\xef",
+        "00000001000602000000000200000800 45000018 00010000 40840000 0a000001 0a000002 deadbeef",
         "FoundPacket { addresses: Some(V4 { source: [10, 0, 0, 1], destination: [10, 0, 0, 2] }), udp_ports: None, packet: [222, 173, 190, 239] }",
     ),
     // less than a cooked header
-    (
-        113,
-        40,
-        b"\x00\x00\x00\x01\x00\x06\x02\x00\x00\x00\x00\x02\x00\x00\x08",
-        "Cut",
-    ),
+    (113, 40, "000000010006020000000002000008", "Cut"),
     // SCTP as the link
     (
         248,
         4,
-        b"\xde\xad\xbe\xef",
+        "deadbeef",
         "FoundPacket { addresses: None, udp_ports: None, packet: [222, 173, 190, 239] }",
     ),
     // SCTP as the link, cut
-    (248, 5, b"\xde\xad\xbe\xef", "Cut"),
+    (248, 5, "deadbeef", "Cut"),
     // SCTP as the link, of 4 GiB
-    (248, 4294967295, b"\xde\xad\xbe\xef", "Cut"),
+    (248, 4294967295, "deadbeef", "Cut"),
     // an unknown link
     (
         147,
         24,
-        b"\x45\x00\x00\x18\x00\x01\x00\x00\x40\x84\x00\x00\x0a\x00\x00\x01\x0a\x00\x00\x02\xde\xad\xbe\xef",
+        "45000018 00010000 40840000 0a000001 0a000002 deadbeef",
         "Other",
     ),
     // IPv6
     (
         101,
         44,
-        b"\x60\x00\x00\x00\x00\x04\x84\x40\x20\x01\x0d\xb8\x00\x00\x00\x00\x00\x00\x00\x00\x00\x00\x00\x01\x20\x01\x0d\xb8\x00\x00\x00\x00\x00\x00\x00\x00\x00\x00\x00\x02\xde\xad\xbe\xef",
+        "6000000000048440 20010db8000000000000000000000001 20010db8000000000000000000000002 deadbeef",
         "FoundPacket { addresses: Some(V6 { source: [32, 1, 13, 184, 0, 0, 0, 0, 0, 0, 0, 0, 0, 0, 0, 1], destination: [32, 1, 13, 184, 0, 0, 0, 0, 0, 0, 0, 0, 0, 0, 0, 2] }), udp_ports: None, packet: [222, 173, 190, 239] }",
     ),
     // IPv6 over Ethernet
     (
         1,
         58,
-        b"\x02\x00\x00\x00\x00\x02\x02\x00\x00\x00\x00\x01\x86\xdd\x60\x00\x00\x00\x00\x04\x84\x40\x20\x01\x0d\xb8\x00\x00\x00\x00\x00\x00\x00\x00\x00\x00\x00\x01\x20\x01\x0d\xb8\x00\x00\x00\x00\x00\x00\x00\x00\x00\x00\x00\x02\xde\xad\xbe\xef",
+        "020000000002020000000001 86dd 6000000000048440 20010db8000000000000000000000001 20010db8000000000000000000000002 deadbeef",
         "FoundPacket { addresses: Some(V6 { source: [32, 1, 13, 184, 0, 0, 0, 0, 0, 0, 0, 0, 0, 0, 0, 1], destination: [32, 1, 13, 184, 0, 0, 0, 0, 0, 0, 0, 0, 0, 0, 0, 2] }), udp_ports: None, packet: [222, 173, 190, 239] }",
     ),
     // hop-by-hop options, a routing header of 16 bytes, destination options
     (
         101,
         76,
-        b"\x60\x00\x00\x00\x00\x24\x00\x40\x20\x01\x0d\xb8\x00\x00\x00\x00\x00\x00\x00\x00\x00\x00\x00\x01\x20\x01\x0d\xb8\x00\x00\x00\x00\x00\x00\x00\x00\x00\x00\x00\x02\x2b\x00\x01\x04\x00\x00\x00\x00\x3c\x01\x00\x00\x00\x00\x00\x00\x00\x00\x00\x00\x00\x00\x00\x00\x84\x00\x01\x04\x00\x00\x00\x00\xde\xad\xbe\xef",
+        "6000000000240040 20010db8000000000000000000000001 20010db8000000000000000000000002 2b00010400000000 3c01000000000000 0000000000000000 8400010400000000 deadbeef",
         "FoundPacket { addresses: Some(V6 { source: [32, 1, 13, 184, 0, 0, 0, 0, 0, 0, 0, 0, 0, 0, 0, 1], destination: [32, 1, 13, 184, 0, 0, 0, 0, 0, 0, 0, 0, 0, 0, 0, 2] }), udp_ports: None, packet: [222, 173, 190, 239] }",
     ),
     // eight extension headers
     (
         101,
         108,
-        b"\x60\x00\x00\x00\x00\x44\x3c\x40\x20\x01\x0d\xb8\x00\x00\x00\x00\x00\x00\x00\x00\x00\x00\x00\x01\x20\x01\x0d\xb8\x00\x00\x00\x00\x00\x00\x00\x00\x00\x00\x00\x02\x3c\x00\x01\x04\x00\x00\x00\x00\x3c\x00\x01\x04\x00\x00\x00\x00\x3c\x00\x01\x04\x00\x00\x00\x00\x3c\x00\x01\x04\x00\x00\x00\x00\x3c\x00\x01\x04\x00\x00\x00\x00\x3c\x00\x01\x04\x00\x00\x00\x00\x3c\x00\x01\x04\x00\x00\x00\x00\x84\x00\x01\x04\x00\x00\x00\x00\xde\xad\xbe\xef",
+        "6000000000443c40 20010db8000000000000000000000001 20010db8000000000000000000000002 3c00010400000000 3c00010400000000 3c00010400000000 3c00010400000000 3c00010400000000 3c00010400000000 3c00010400000000 8400010400000000 deadbeef",
         "FoundPacket { addresses: Some(V6 { source: [32, 1, 13, 184, 0, 0, 0, 0, 0, 0, 0, 0, 0, 0, 0, 1], destination: [32, 1, 13, 184, 0, 0, 0, 0, 0, 0, 0, 0, 0, 0, 0, 2] }), udp_ports: None, packet: [222, 173, 190, 239] }",
     ),
     // nine extension headers
     (
         101,
         116,
-        b"\x60\x00\x00\x00\x00\x4c\x3c\x40\x20\x01\x0d\xb8\x00\x00\x00\x00\x00\x00\x00\x00\x00\x00\x00\x01\x20\x01\x0d\xb8\x00\x00\x00\x00\x00\x00\x00\x00\x00\x00\x00\x02\x3c\x00\x01\x04\x00\x00\x00\x00\x3c\x00\x01\x04\x00\x00\x00\x00\x3c\x00\x01\x04\x00\x00\x00\x00\x3c\x00\x01\x04\x00\x00\x00\x00\x3c\x00\x01\x04\x00\x00\x00\x00\x3c\x00\x01\x04\x00\x00\x00\x00\x3c\x00\x01\x04\x00\x00\x00\x00\x3c\x00\x01\x04\x00\x00\x00\x00\x84\x00\x01\x04\x00\x00\x00\x00\xde\xad\xbe\xef",
+        "60000000004c3c40 20010db8000000000000000000000001 20010db8000000000000000000000002 3c00010400000000 3c00010400000000 3c00010400000000 3c00010400000000 3c00010400000000 3c00010400000000 3c00010400000000 3c00010400000000 8400010400000000 deadbeef",
         "Other",
     ),
     // a fragment header
     (
         101,
         52,
-        b"\x60\x00\x00\x00\x00\x0c\x2c\x40\x20\x01\x0d\xb8\x00\x00\x00\x00\x00\x00\x00\x00\x00\x00\x00\x01\x20\x01\x0d\xb8\x00\x00\x00\x00\x00\x00\x00\x00\x00\x00\x00\x02\x84\x00\x00\x00\x00\x00\x00\x01\xde\xad\xbe\xef",
+        "60000000000c2c40 20010db8000000000000000000000001 20010db8000000000000000000000002 8400000000000001 deadbeef",
         "Fragment",
     ),
     // a fragment header behind options
     (
         101,
         60,
-        b"\x60\x00\x00\x00\x00\x14\x3c\x40\x20\x01\x0d\xb8\x00\x00\x00\x00\x00\x00\x00\x00\x00\x00\x00\x01\x20\x01\x0d\xb8\x00\x00\x00\x00\x00\x00\x00\x00\x00\x00\x00\x02\x2c\x00\x01\x04\x00\x00\x00\x00\x84\x00\x00\x00\x00\x00\x00\x01\xde\xad\xbe\xef",
+        "6000000000143c40 20010db8000000000000000000000001 20010db8000000000000000000000002 2c00010400000000 8400000000000001 deadbeef",
         "Fragment",
     ),
     // an extension header longer than the payload
     (
         101,
         52,
-        b"\x60\x00\x00\x00\x00\x0c\x3c\x40\x20\x01\x0d\xb8\x00\x00\x00\x00\x00\x00\x00\x00\x00\x00\x00\x01\x20\x01\x0d\xb8\x00\x00\x00\x00\x00\x00\x00\x00\x00\x00\x00\x02\x84\x01\x01\x04\x00\x00\x00\x00\xde\xad\xbe\xef",
+        "60000000000c3c40 20010db8000000000000000000000001 20010db8000000000000000000000002 8401010400000000 deadbeef",
         "Malformed",
     ),
     // a payload shorter than an extension header
     (
         101,
         44,
-        b"\x60\x00\x00\x00\x00\x04\x3c\x40\x20\x01\x0d\xb8\x00\x00\x00\x00\x00\x00\x00\x00\x00\x00\x00\x01\x20\x01\x0d\xb8\x00\x00\x00\x00\x00\x00\x00\x00\x00\x00\x00\x02\x84\x00\x01\x04",
+        "6000000000043c40 20010db8000000000000000000000001 20010db8000000000000000000000002 84000104",
         "Malformed",
     ),
     // an extension header that is cut
     (
         101,
         52,
-        b"\x60\x00\x00\x00\x00\x0c\x3c\x40\x20\x01\x0d\xb8\x00\x00\x00\x00\x00\x00\x00\x00\x00\x00\x00\x01\x20\x01\x0d\xb8\x00\x00\x00\x00\x00\x00\x00\x00\x00\x00\x00\x02\x84\x00\x01\x04",
+        "60000000000c3c40 20010db8000000000000000000000001 20010db8000000000000000000000002 84000104",
         "Cut",
     ),
     // a payload length of 65,535
     (
         101,
         44,
-        b"\x60\x00\x00\x00\xff\xff\x84\x40\x20\x01\x0d\xb8\x00\x00\x00\x00\x00\x00\x00\x00\x00\x00\x00\x01\x20\x01\x0d\xb8\x00\x00\x00\x00\x00\x00\x00\x00\x00\x00\x00\x02\xde\xad\xbe\xef",
+        "60000000ffff8440 20010db8000000000000000000000001 20010db8000000000000000000000002 deadbeef",
         "Cut",
     ),
     // ICMPv6
     (
         101,
         44,
-        b"\x60\x00\x00\x00\x00\x04\x3a\x40\x20\x01\x0d\xb8\x00\x00\x00\x00\x00\x00\x00\x00\x00\x00\x00\x01\x20\x01\x0d\xb8\x00\x00\x00\x00\x00\x00\x00\x00\x00\x00\x00\x02\xde\xad\xbe\xef",
+        "6000000000043a40 20010db8000000000000000000000001 20010db8000000000000000000000002 deadbeef",
         "Other",
     ),
     // less than an IPv6 header
     (
         101,
         44,
-        b"\x60\x00\x00\x00\x00\x04\x84\x40\x20\x01\x0d\xb8\x00\x00\x00\x00\x00\x00\x00\x00\x00\x00\x00\x01\x20\x01\x0d\xb8\x00\x00\x00\x00\x00\x00\x00\x00\x00\x00\x00",
+        "60000000 00048440 20010db8 00000000 00000000 0000000120010db8 0000000000000000 000000",
         "Cut",
     ),
     // the type says IPv6, and the version 4
     (
         1,
         58,
-        b"\x02\x00\x00\x00\x00\x02\x02\x00\x00\x00\x00\x01\x86\xdd\x40\x00\x00\x00\x00\x04\x84\x40\x20\x01\x0d\xb8\x00\x00\x00\x00\x00\x00\x00\x00\x00\x00\x00\x01\x20\x01\x0d\xb8\x00\x00\x00\x00\x00\x00\x00\x00\x00\x00\x00\x02\xde\xad\xbe\xef",
+        "020000000002020000000001 86dd 4000000000048440 20010db8000000000000000000000001 20010db8000000000000000000000002 deadbeef",
         "Malformed",
     ),
     // UDP, from port 9899
     (
         101,
         32,
-        b"\x45\x00\x00\x20\x00\x01\x00\x00\x40\x11\x00\x00\x0a\x00\x00\x01\x0a\x00\x00\x02\x26\xab\x13\x88\x00\x0c\x00\x00\xde\xad\xbe\xef",
+        "45000020 00010000 40110000 0a000001 0a000002 26ab1388000c0000 deadbeef",
         "FoundPacket { addresses: Some(V4 { source: [10, 0, 0, 1], destination: [10, 0, 0, 2] }), udp_ports: Some(UdpPorts { source: 9899, destination: 5000 }), packet: [222, 173, 190, 239] }",
     ),
     // UDP, to port 9899
     (
         101,
         32,
-        b"\x45\x00\x00\x20\x00\x01\x00\x00\x40\x11\x00\x00\x0a\x00\x00\x01\x0a\x00\x00\x02\x13\x88\x26\xab\x00\x0c\x00\x00\xde\xad\xbe\xef",
+        "45000020 00010000 40110000 0a000001 0a000002 138826ab000c0000 deadbeef",
         "FoundPacket { addresses: Some(V4 { source: [10, 0, 0, 1], destination: [10, 0, 0, 2] }), udp_ports: Some(UdpPorts { source: 5000, destination: 9899 }), packet: [222, 173, 190, 239] }",
     ),
     // UDP in IPv6
     (
         101,
         52,
-        b"\x60\x00\x00\x00\x00\x0c\x11\x40\x20\x01\x0d\xb8\x00\x00\x00\x00\x00\x00\x00\x00\x00\x00\x00\x01\x20\x01\x0d\xb8\x00\x00\x00\x00\x00\x00\x00\x00\x00\x00\x00\x02\x26\xab\x26\xab\x00\x0c\x00\x00\xde\xad\xbe\xef",
+        "60000000000c1140 20010db8000000000000000000000001 20010db8000000000000000000000002 26ab26ab000c0000 deadbeef",
         "FoundPacket { addresses: Some(V6 { source: [32, 1, 13, 184, 0, 0, 0, 0, 0, 0, 0, 0, 0, 0, 0, 1], destination: [32, 1, 13, 184, 0, 0, 0, 0, 0, 0, 0, 0, 0, 0, 0, 2] }), udp_ports: Some(UdpPorts { source: 9899, destination: 9899 }), packet: [222, 173, 190, 239] }",
     ),
     // UDP of other ports
     (
         101,
         32,
-        b"\x45\x00\x00\x20\x00\x01\x00\x00\x40\x11\x00\x00\x0a\x00\x00\x01\x0a\x00\x00\x02\x13\x88\x13\x88\x00\x0c\x00\x00\xde\xad\xbe\xef",
+        "45000020 00010000 40110000 0a000001 0a000002 13881388000c0000 deadbeef",
         "Other",
     ),
     // a UDP length that leaves bytes of the IP packet
     (
         101,
         34,
-        b"\x45\x00\x00\x22\x00\x01\x00\x00\x40\x11\x00\x00\x0a\x00\x00\x01\x0a\x00\x00\x02\x26\xab\x13\x88\x00\x0c\x00\x00\xde\xad\xbe\xef\x00\x00",
+        "45000022 00010000 40110000 0a000001 0a000002 26ab1388000c0000 deadbeef0000",
         "FoundPacket { addresses: Some(V4 { source: [10, 0, 0, 1], destination: [10, 0, 0, 2] }), udp_ports: Some(UdpPorts { source: 9899, destination: 5000 }), packet: [222, 173, 190, 239] }",
     ),
     // a UDP length of 7
     (
         101,
         32,
-        b"\x45\x00\x00\x20\x00\x01\x00\x00\x40\x11\x00\x00\x0a\x00\x00\x01\x0a\x00\x00\x02\x26\xab\x13\x88\x00\x07\x00\x00\xde\xad\xbe\xef",
+        "45000020 00010000 40110000 0a000001 0a000002 26ab138800070000 deadbeef",
         "Malformed",
     ),
     // a UDP length above the payload
     (
         101,
         32,
-        b"\x45\x00\x00\x20\x00\x01\x00\x00\x40\x11\x00\x00\x0a\x00\x00\x01\x0a\x00\x00\x02\x26\xab\x13\x88\x00\x0d\x00\x00\xde\xad\xbe\xef",
+        "45000020 00010000 40110000 0a000001 0a000002 26ab1388000d0000 deadbeef",
         "Malformed",
     ),
     // less than a UDP header in the IP packet
     (
         101,
         27,
-        b"\x45\x00\x00\x1b\x00\x01\x00\x00\x40\x11\x00\x00\x0a\x00\x00\x01\x0a\x00\x00\x02\x26\xab\x13\x88\x00\x0c\x00",
+        "4500001b 00010000 40110000 0a000001 0a000002 26ab1388000c00",
         "Malformed",
     ),
     // less than a UDP header captured
     (
         101,
         32,
-        b"\x45\x00\x00\x20\x00\x01\x00\x00\x40\x11\x00\x00\x0a\x00\x00\x01\x0a\x00\x00\x02\x26\xab\x13\x88\x00\x0c\x00",
+        "45000020 00010000 40110000 0a000001 0a000002 26ab1388000c00",
         "Cut",
     ),
     // UDP that is cut
     (
         101,
         32,
-        b"\x45\x00\x00\x20\x00\x01\x00\x00\x40\x11\x00\x00\x0a\x00\x00\x01\x0a\x00\x00\x02\x26\xab\x13\x88\x00\x0c\x00\x00\xde\xad\xbe",
+        "45000020 00010000 40110000 0a000001 0a000002 26ab1388000c0000 deadbe",
         "Cut",
     ),
 ];

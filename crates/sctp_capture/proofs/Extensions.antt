@@ -1,5 +1,5 @@
 -- The extension headers of IPv6, one after the other.
-use Rattle.std.proofs.Common.{◌≡◌, ◌+◌, ◌-◌, ◌<◌, ◌≤◌, ◌==◌, ℕ, suc, Bool, true, false, cond, Result, Ok, Err, refl, ◌∙◌, arith}
+use Rattle.std.proofs.Common.{◌≡◌, ◌+◌, ◌-◌, ◌<◌, ◌≤◌, ◌==◌, ℕ, suc, true, false, cond, Ok, Err, refl, ◌∙◌, arith}
 use Rattle.std.proofs.lemmas.Bool.Decides.{nat_tests}
 use Rattle.sctp_capture.specs.Frame.{Payload, ◌>>=◌, is_extension, without_extension, without_extensions}
 use Rattle.sctp_capture.specs.declared.frame.NoPacket.TheVariants.{Fragment}

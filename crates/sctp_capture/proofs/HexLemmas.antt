@@ -1,5 +1,5 @@
 -- What the front of a text in hexadecimal says.
-use Rattle.std.proofs.Common.{◌≡◌, ◌+◌, ◌<◌, ℕ, Bool, true, false, not, cond, nat_lt, List, [], ◌∷◌, Option, Some, None, IsTrue, IsSome, is_some, option_map, unwrap_or, length, get_or, drop, refl, sym, ap, subst, ◌∙◌, arith, add-zero}
+use Rattle.std.proofs.Common.{◌≡◌, ◌+◌, ◌<◌, ℕ, Bool, true, false, not, nat_lt, List, [], ◌∷◌, Option, Some, None, IsSome, is_some, option_map, unwrap_or, length, get_or, drop, refl, sym, ap, subst, ◌∙◌, arith, add-zero}
 use Rattle.std.specs.Char.{is_ascii_hexdigit}
 use Rattle.std.specs.List.{position_or_len}
 use Rattle.std.proofs.Math.Numerals.{one-add}

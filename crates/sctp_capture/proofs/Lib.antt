@@ -3,3 +3,4 @@ pub mod HexLemmas
 pub mod Groups
 pub mod Extensions
 pub mod Records
+pub mod Sent

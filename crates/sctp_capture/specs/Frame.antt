@@ -1,5 +1,5 @@
--- The SCTP packet in a frame: under Ethernet, under Linux's cooked header, in an IP packet, or by itself;
--- in IP as protocol 132, or in UDP (RFC 6951).
+-- The SCTP packet in a frame: behind an Ethernet header, behind Linux's cooked header, in an IP
+-- packet, or by itself; in IP as protocol 132, or in UDP (RFC 6951).
 use Rattle.std.specs.Prelude.{◌+◌, ◌-◌, ◌*◌, ◌/◌, ◌%◌, ◌^◌, ◌==◌, ℕ, zero, suc, Bool, ◌||◌, not, nat_lt, if◌then◌else◌, List, Option, Some, None, Result, Ok, Err, length, take, drop}
 use Rattle.sctp_capture.specs.Number.{byte_at, number16}
 use Rattle.sctp_capture.specs.declared.frame.Addresses.{Addresses}
@@ -27,7 +27,7 @@ abbrev pub ◌>>=◌ : {A B : Type 0} → Result A NoPacket → (A → Result B 
 (Ok x) >>= f = f x
 (Err e) >>= f = Err e
 
--- a packet of this size at the front, if so many bytes were captured
+-- a packet of this size at the front, if that many bytes were captured
 abbrev pub whole : Option Addresses → Option UdpPorts → ℕ → List ℕ → Result Packet NoPacket
 whole addresses ports size bytes =
     if nat_lt (length bytes) size then Err Cut else
@@ -116,8 +116,8 @@ without_extension p =
       bytes = drop (extension_size p.bytes) p.bytes;
     })
 
--- The payload behind n extension headers at most; a fragment header (RFC 8200 section 4.5) is that of
--- a fragment.
+-- The payload behind n extension headers at most; a fragment header (RFC 8200 section 4.5) is that
+-- of a fragment.
 unfoldable pub without_extensions : ℕ → Payload → Result Payload NoPacket
 without_extensions zero p = Ok p
 without_extensions (suc n) p =
@@ -160,7 +160,7 @@ of_type type bytes =
     if type == 0x86dd then ipv6 bytes else
     Err Other
 
--- a type behind other bytes of a header, so many, and then what the frame carries
+-- a type at this offset of the link's header, which it ends, and then what the frame carries
 unfoldable pub typed : ℕ → List ℕ → Result Payload NoPacket
 typed offset frame =
     if nat_lt (length frame) (offset + 2) then Err Cut else
@@ -173,8 +173,9 @@ ethernet frame =
     if number16 (drop 12 frame) == 0x8100 then typed 16 frame else
     typed 12 frame
 
--- What a frame of this link type carries (the registry of draft-ietf-opsawg-pcaplinktype): Ethernet,
--- IP without a header of the link, and Linux's cooked header of 16 bytes, whose last two are the type.
+-- What a frame of this link type carries (the registry of draft-ietf-opsawg-pcaplinktype):
+-- Ethernet, IP without a header of the link, and Linux's cooked header of 16 bytes, whose last two
+-- are the type.
 unfoldable pub on_link : ℕ → List ℕ → Result Payload NoPacket
 on_link link frame =
     if link == 1 then ethernet frame else
@@ -182,8 +183,8 @@ on_link link frame =
     if link == 113 then typed 14 frame else
     Err Other
 
--- The packet in a frame of this link type that had so many bytes on the link. Of link type 248 a frame
--- is a packet.
+-- The packet in a frame of this link type, with the frame's length on the link. A frame of link
+-- type 248 is a packet.
 unfoldable pub packet_in : ℕ → ℕ → List ℕ → Result Packet NoPacket
 packet_in link original_length frame =
     if link == 248 then whole None None original_length frame else

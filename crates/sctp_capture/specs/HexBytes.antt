@@ -22,7 +22,8 @@ abbrev pub begins_with_byte : List ℕ → Bool
 begins_with_byte text =
     nat_lt 1 (length text) && are_digits (slice_index text 0) (slice_index text 1)
 
--- The bytes that a text says: two digits a byte, of either case, with blanks anywhere but in a byte.
+-- The bytes that a text says: two digits a byte, of either case, with blanks anywhere but in a
+-- byte.
 unfoldable pub hex_bytes : List ℕ → Option (List ℕ)
 hex_bytes [] = Some []
 hex_bytes (high ∷ []) = if is_blank high then Some [] else None

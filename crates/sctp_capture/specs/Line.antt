@@ -1,5 +1,5 @@
--- What a line of text says, without its line break: a packet in hexadecimal, a packet of a log, or a
--- part of a dump with offsets.
+-- What a line of text says, without its line break: a packet in hexadecimal, a packet of a log, or
+-- a part of a dump with offsets.
 use Rattle.std.specs.Prelude.{◌+◌, ◌*◌, ◌==◌, ℕ, Bool, ◌||◌, ◌&&◌, not, nat_lt, nat_le, nat_eq, List, [], ◌∷◌, if◌then◌else◌, Option, Some, None, codes, length, take, drop, fold}
 use Rattle.std.specs.List.{starts_with, list_all, position_or_len}
 use Rattle.std.specs.Char.{is_ascii_digit, is_ascii_hexdigit, digit_value}
@@ -9,8 +9,6 @@ use Rattle.sctp_capture.specs.declared.line.Direction.{Direction}
 use Rattle.sctp_capture.specs.declared.line.Direction.TheVariants.{Incoming, Outgoing}
 use Rattle.sctp_capture.specs.declared.line.DumpForm.{DumpForm}
 use Rattle.sctp_capture.specs.declared.line.DumpForm.TheVariants.{Xxd, Tcpdump}
-use Rattle.sctp_capture.specs.declared.line.LoggedPacket.{LoggedPacket}
-use Rattle.sctp_capture.specs.declared.line.DumpedBytes.{DumpedBytes}
 use Rattle.sctp_capture.specs.declared.line.Line.{Line}
 use Rattle.sctp_capture.specs.declared.line.Line.TheVariants.{Blank, Comment, Packet, Logged, Dumped, Unknown}
 use Rattle.sctp_capture.specs.declared.line.Place.{Place}
@@ -89,7 +87,8 @@ has_offset text =
 -- two blanks are at this offset
 abbrev pub is_gap : List ℕ → ℕ → Bool
 is_gap text at =
-    nat_lt (at + 1) (length text) && (is_blank (byte_at at text) && is_blank (byte_at (at + 1) text))
+    nat_lt (at + 1) (length text)
+    && (is_blank (byte_at at text) && is_blank (byte_at (at + 1) text))
 
 -- how many bytes come before the first two blanks in a row
 unfoldable pub groups_length : List ℕ → ℕ
@@ -126,8 +125,10 @@ abbrev pub text_line : List ℕ → Line
 text_line text =
     if length text == 0 then Blank else
     if byte_at 0 text == 35 then Comment else
-    if starts_with nat_eq text (codes "I ") then log_line Incoming (without_blanks_before (drop 2 text)) else
-    if starts_with nat_eq text (codes "O ") then log_line Outgoing (without_blanks_before (drop 2 text)) else
+    if starts_with nat_eq text (codes "I ")
+    then log_line Incoming (without_blanks_before (drop 2 text)) else
+    if starts_with nat_eq text (codes "O ")
+    then log_line Outgoing (without_blanks_before (drop 2 text)) else
     if starts_with nat_eq text (codes "0x") then dump_line Tcpdump (drop 2 text) else
     if has_offset text then dump_line Xxd text else
     packet_line (hex_bytes text)

@@ -5,7 +5,7 @@
 --   | magic, 4 | major, 2 | minor, 2 | reserved, 8 | snapshot length, 4 | link type, 4 |
 --   record, 16 bytes and the captured bytes:
 --   | seconds, 4 | fraction, 4 | captured length, 4 | original length, 4 | captured bytes .. |
-use Rattle.std.specs.Prelude.{◌≡◌, ◌<◌, ◌≤◌, ◌+◌, ◌%◌, ◌^◌, ℕ, List, [], ◌∷◌, ◌++◌, if◌then◌else◌, Option, Some, None, option_map, nat_eq, length, take, drop}
+use Rattle.std.specs.Prelude.{◌≡◌, ◌<◌, ◌≤◌, ◌+◌, ◌%◌, ◌^◌, ℕ, List, [], ◌∷◌, ◌++◌, if◌then◌else◌, Option, Some, None, option_map, nat_eq, length, drop}
 use Rattle.std.specs.List.{starts_with, flat_map, AllByRecursion}
 use Rattle.std.specs.Int.{w16, w32}
 use Rattle.sctp_capture.specs.Number.{number_in, number_bytes}
@@ -24,7 +24,7 @@ use Rattle.sctp_capture.specs.declared.pcap.RecordHeader.{RecordHeader}
 abbrev pub format : ByteOrder → Resolution → PcapFormat
 format order resolution = record { order = order; resolution = resolution }
 
--- the format whose magic is at the front: a1b2c3d4 or a1b23c4d, as a number in the file's byte order
+-- the format whose magic is at the front: a1b2c3d4 or a1b23c4d, a number in the file's byte order
 abbrev pub magic_format : List ℕ → Option PcapFormat
 magic_format bytes =
     if starts_with nat_eq bytes (0xa1 ∷ 0xb2 ∷ 0xc3 ∷ 0xd4 ∷ [])

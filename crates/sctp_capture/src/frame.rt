@@ -70,7 +70,7 @@ pub struct FoundPacket<'a> {
 /// Why a frame has no packet that can be read.
 #[derive(Clone, Copy, Debug, PartialEq, Eq)]
 pub enum NoPacket {
-    /// It has a fragment of an IP packet, which carries SCTP, or UDP, or in IPv6 anything.
+    /// It is a fragment of an IP packet that carries SCTP or UDP, or in IPv6 anything.
     Fragment,
     /// Fewer bytes were captured than the headers say.
     Cut,
@@ -90,17 +90,18 @@ pub fn is_known_link(link_type: u16) -> bool
     )
 }
 
-/// Returns the SCTP packet in a frame of this link type: Ethernet II (1) with at most one 802.1Q tag,
-/// raw IP (101), Linux cooked (113), or SCTP (248). `original_length` is the number of bytes that the
-/// frame had on the link; it matters for link type 248 alone.
+/// Returns the SCTP packet in a frame of this link type: Ethernet II (1) with at most one 802.1Q
+/// tag, raw IP (101), Linux cooked (113), or SCTP (248). `original_length` is the number of bytes
+/// that the frame had on the link; it matters for link type 248 alone.
 ///
-/// The packet is protocol 132 of IPv4, or of IPv6 behind at most eight extension headers, or it is in
-/// UDP with port 9899 on either side. It ends where the innermost header says; what follows in the
-/// frame is left out.
+/// The packet is protocol 132 of IPv4, or of IPv6 behind at most eight extension headers, or it is
+/// in UDP with port 9899 on either side. It ends where the innermost header says; what follows in
+/// the frame is left out.
 ///
-/// Otherwise returns the first of these from the link's header inward: `Cut`, if fewer bytes were
-/// captured than a header has or than its lengths say; `Malformed`, if a version, a header's length or
-/// a total length can't be; `Fragment`; `Other`, of an unknown link type too.
+/// Otherwise returns the first of these from the link's header inward: `Cut` if fewer bytes were
+/// captured than a header has or than its lengths say; `Malformed` if a header has another version
+/// than its type says, or a length that is less than a header or more than the header around it
+/// allows; `Fragment`; `Other`, also for an unknown link type.
 #[tactic(auto, unfolding(crate::specs::Frame::packet_in))]
 pub fn packet_in(
     link_type: u16,
@@ -115,8 +116,8 @@ pub fn packet_in(
     carried(on_link(link_type, frame)?)
 }
 
-/// What an IP packet carries: `size` bytes as its header says, of which `bytes` are those from the
-/// first on, with what follows the IP packet.
+/// What an IP packet carries: `size` bytes as its header says. `bytes` begin with them, but may be
+/// fewer, or more by what follows the IP packet.
 #[derive(Clone, Copy)]
 struct Payload<'a> {
     addresses: Addresses,

@@ -8,7 +8,8 @@ ghost use Rattle.sctp_capture.specs.HexBytes.{is_blank, without_blanks_before, b
 use std::alloc::AllocError;
 use std::marker::Model;
 
-/// The bytes that a text says, two digits a byte, of either case, with blanks anywhere but in a byte.
+/// The bytes that a text says: two digits a byte, of either case, with blanks anywhere but in a
+/// byte.
 ///
 /// The text was checked, so `next` has no error. A contract sees the list of bytes that are left.
 #[derive(Clone, Debug, Drop)]
@@ -25,8 +26,8 @@ impl<'a> Model for HexBytes<'a> {
 }
 
 impl<'a> HexBytes<'a> {
-    /// Returns the bytes that a text says; nothing if it has another byte than a digit, a space, a tab
-    /// or a carriage return, or half a byte.
+    /// Returns the bytes that a text says; nothing if it has another byte than a digit, a space, a
+    /// tab or a carriage return, or half a byte.
     pub fn from_text(text: &'a [u8]) -> Option<HexBytes<'a>>
         ensures { result ≡ hex_bytes text.now }
     {
@@ -37,7 +38,7 @@ impl<'a> HexBytes<'a> {
         }
     }
 
-    /// Appends the bytes that are left. If an allocation fails, `output` keeps its items.
+    /// Appends the bytes that are left. If an allocation fails, `output` has its old items.
     pub fn append_to(self, output: &mut Vec<u8>) -> Result<(), AllocError>
         ensures ok { OnOk result (output.new.items ≡ output.old.items ++ self.entry) }
         ensures err { OnErr result (output.new.items ≡ output.old.items) }

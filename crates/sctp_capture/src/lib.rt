@@ -1,7 +1,7 @@
 //! Finds SCTP packets in captures: in pcap files, in frames of a link, and in lines of text.
 //!
-//! Every function takes bytes in memory, allocates nothing, and returns what a definition of `specs/`
-//! says of these bytes.
+//! Every function takes bytes in memory and returns what a definition of `specs/` says of them.
+//! Only `HexBytes::append_to` allocates.
 #![tactic(auto)]
 
 pub mod frame;

@@ -78,8 +78,8 @@ pub enum Place {
     Apart,
 }
 
-/// Returns where bytes at this offset belong, behind `held` bytes of a packet: at offset 0 they begin
-/// the next packet, and at offset `held` they continue this one.
+/// Returns where bytes at this offset belong, behind `held` bytes of a packet: at offset 0 they
+/// begin the next packet, and at offset `held` they continue this one.
 pub fn place_of(offset: u32, held: usize) -> Place
     ensures { result ≡ place_of offset held }
 {
@@ -92,19 +92,22 @@ pub fn place_of(offset: u32, held: usize) -> Place
     }
 }
 
-/// Reads a line of text, without its line feed. Blanks (spaces, tabs, carriage returns) before it and
-/// behind it don't matter. It is the first of these forms that it begins as:
+/// Reads a line of text, without its line feed. Blanks (spaces, tabs and carriage returns) at its
+/// beginning and its end are ignored. The forms, in the order in which they are tried, each by the
+/// line's beginning:
 ///
-/// - empty: `Blank`; `#`: `Comment`;
+/// - nothing: `Blank`; `#`: `Comment`;
 /// - `I ` or `O `: `Logged`, as WebRTC logs packets for `text2pcap`:
-///   `I 12:34:56.789 0000 13 88 .. # SCTP_PACKET`, where anything may follow the mark; a line with
-///   other text before the direction isn't known;
-/// - `0x`, an offset of one to eight digits and a colon: `Dumped`, as `tcpdump -x` writes it, or `-X`;
-/// - an offset of one to eight digits and a colon: `Dumped`, as `xxd` writes it; in both, from two
-///   blanks in a row on any text that can be printed may follow the bytes;
-/// - digits, two a byte, of either case, with blanks between bytes: `Packet`.
+///   `I 12:34:56.789 0000 13 88 .. # SCTP_PACKET`; anything may follow the mark, but no other text
+///   may come before the direction;
+/// - `0x`: `Dumped`, as `tcpdump -x` and `-X` write it: an offset of one to eight digits, a colon,
+///   and groups of digits;
+/// - one to eight digits and a colon: `Dumped`, as `xxd` writes it; in both forms of dump, two
+///   blanks in a row end the bytes, and only printable ASCII may follow;
+/// - anything else: `Packet`, if it is digits, two a byte, of either case, with blanks between
+///   bytes.
 ///
-/// What begins as one form, and isn't of that form, is `Unknown`.
+/// A line that begins as one form and isn't of that form is `Unknown`.
 pub fn read_line(line: &[u8]) -> Line<'_>
     ensures { result ≡ line_of line.now }
 {

@@ -1,8 +1,8 @@
-use Rattle.std.proofs.Common.{◌≡◌, ◌<◌, ◌-◌, length, take, drop, arith, ap, sym, ◌∙◌}
+use Rattle.std.proofs.Common.{◌≡◌, ◌<◌, ◌-◌, length, take, drop, arith, ◌∙◌}
 use Rattle.std.proofs.lemmas.Bool.Decides.{nat_tests}
 use Rattle.std.proofs.lemmas.Grind.{common_steps}
 use Rattle.std.proofs.lemmas.List.{nil_from_length}
-use Rattle.sctp_capture.proofs.HexLemmas.{BeginsWithByte, front, said_behind, says_nothing}
+use Rattle.sctp_capture.proofs.HexLemmas.{front, said_behind, says_nothing}
 use Rattle.sctp_capture.proofs.hex_bytes.front_byte.Goals as goal
 
 pub returns-then-is_empty : goal.returns-then-is_empty
