@@ -1,5 +1,5 @@
--- The SCTP packet in a frame: under Ethernet, under Linux's cooked header, in an IP packet, or by itself;
--- in IP as protocol 132, or in UDP (RFC 6951).
+-- The SCTP packet in a frame: behind an Ethernet header, behind Linux's cooked header, in an IP
+-- packet, or by itself; in IP as protocol 132, or in UDP (RFC 6951).
 use Rattle.std.specs.Prelude.{◌+◌, ◌-◌, ◌*◌, ◌/◌, ◌%◌, ◌^◌, ◌==◌, ℕ, zero, suc, Bool, ◌||◌, not, nat_lt, if◌then◌else◌, List, Option, Some, None, Result, Ok, Err, length, take, drop}
 use Rattle.sctp_capture.specs.Number.{byte_at, number16}
 use Rattle.sctp_capture.specs.declared.frame.Addresses.{Addresses}
@@ -27,7 +27,7 @@ abbrev pub ◌>>=◌ : {A B : Type 0} → Result A NoPacket → (A → Result B 
 (Ok x) >>= f = f x
 (Err e) >>= f = Err e
 
--- a packet of this size at the front, if so many bytes were captured
+-- a packet of this size at the front, if that many bytes were captured
 abbrev pub whole : Option Addresses → Option UdpPorts → ℕ → List ℕ → Result Packet NoPacket
 whole addresses ports size bytes =
     if nat_lt (length bytes) size then Err Cut else
@@ -52,7 +52,7 @@ abbrev pub udp_length : List ℕ → ℕ
 udp_length bytes = number16 (drop 4 bytes)
 
 -- SCTP in UDP: one of the ports is 9899 (RFC 6951 section 5.1)
-abbrev pub in_udp : Payload → Result Packet NoPacket
+unfoldable pub in_udp : Payload → Result Packet NoPacket
 in_udp p =
     if nat_lt p.size 8 then Err Malformed else
     if nat_lt (length p.bytes) 8 then Err Cut else
@@ -85,7 +85,7 @@ is_ipv4_fragment bytes = not (number16 (drop 6 bytes) % 2 ^ 14 == 0)
 abbrev pub ipv4_addresses : List ℕ → Addresses
 ipv4_addresses bytes = V4 (take 4 (drop 12 bytes)) (take 4 (drop 16 bytes))
 
-abbrev pub ipv4 : List ℕ → Result Payload NoPacket
+unfoldable pub ipv4 : List ℕ → Result Payload NoPacket
 ipv4 bytes =
     if nat_lt (length bytes) 20 then Err Cut else
     if not (ip_version bytes == 4) then Err Malformed else
@@ -105,7 +105,7 @@ abbrev pub extension_size : List ℕ → ℕ
 extension_size bytes = 8 * (byte_at 1 bytes + 1)
 
 -- the payload without the extension header at its front, whose first byte is the next protocol
-abbrev pub without_extension : Payload → Result Payload NoPacket
+unfoldable pub without_extension : Payload → Result Payload NoPacket
 without_extension p =
     if nat_lt p.size 8 then Err Malformed else
     if nat_lt (length p.bytes) 8 then Err Cut else
@@ -116,13 +116,13 @@ without_extension p =
       bytes = drop (extension_size p.bytes) p.bytes;
     })
 
--- The payload behind n extension headers at most; a fragment header (RFC 8200 section 4.5) is that of
--- a fragment.
+-- The payload behind n extension headers at most; a fragment header (RFC 8200 section 4.5) is that
+-- of a fragment.
 unfoldable pub without_extensions : ℕ → Payload → Result Payload NoPacket
 without_extensions zero p = Ok p
 without_extensions (suc n) p =
-    if is_extension p.protocol then without_extension p >>= without_extensions n else
     if p.protocol == 44 then Err Fragment else
+    if is_extension p.protocol then without_extension p >>= without_extensions n else
     Ok p
 
 abbrev pub ipv6_addresses : List ℕ → Addresses
@@ -137,14 +137,14 @@ ipv6_payload bytes = record {
   bytes = drop 40 bytes;
 }
 
-abbrev pub ipv6 : List ℕ → Result Payload NoPacket
+unfoldable pub ipv6 : List ℕ → Result Payload NoPacket
 ipv6 bytes =
     if nat_lt (length bytes) 40 then Err Cut else
     if not (ip_version bytes == 6) then Err Malformed else
     without_extensions 8 (ipv6_payload bytes)
 
 -- the version says which
-abbrev pub ip : List ℕ → Result Payload NoPacket
+unfoldable pub ip : List ℕ → Result Payload NoPacket
 ip bytes =
     if length bytes == 0 then Err Cut else
     if ip_version bytes == 4 then ipv4 bytes else
@@ -154,37 +154,38 @@ ip bytes =
 -- ---- links
 
 -- by the type of what a frame carries (IEEE 802.3)
-abbrev pub of_type : ℕ → List ℕ → Result Payload NoPacket
+unfoldable pub of_type : ℕ → List ℕ → Result Payload NoPacket
 of_type type bytes =
     if type == 0x0800 then ipv4 bytes else
     if type == 0x86dd then ipv6 bytes else
     Err Other
 
--- a type behind other bytes of a header, so many, and then what the frame carries
-abbrev pub typed : ℕ → List ℕ → Result Payload NoPacket
+-- a type at this offset of the link's header, which it ends, and then what the frame carries
+unfoldable pub typed : ℕ → List ℕ → Result Payload NoPacket
 typed offset frame =
     if nat_lt (length frame) (offset + 2) then Err Cut else
     of_type (number16 (drop offset frame)) (drop (offset + 2) frame)
 
 -- two addresses of six bytes and a type; of a tagged frame (IEEE 802.1Q) the type is behind the tag
-abbrev pub ethernet : List ℕ → Result Payload NoPacket
+unfoldable pub ethernet : List ℕ → Result Payload NoPacket
 ethernet frame =
     if nat_lt (length frame) 14 then Err Cut else
     if number16 (drop 12 frame) == 0x8100 then typed 16 frame else
     typed 12 frame
 
--- What a frame of this link type carries (the registry of draft-ietf-opsawg-pcaplinktype): Ethernet,
--- IP without a header of the link, and Linux's cooked header of 16 bytes, whose last two are the type.
-abbrev pub on_link : ℕ → List ℕ → Result Payload NoPacket
+-- What a frame of this link type carries (the registry of draft-ietf-opsawg-pcaplinktype):
+-- Ethernet, IP without a header of the link, and Linux's cooked header of 16 bytes, whose last two
+-- are the type.
+unfoldable pub on_link : ℕ → List ℕ → Result Payload NoPacket
 on_link link frame =
     if link == 1 then ethernet frame else
     if link == 101 then ip frame else
     if link == 113 then typed 14 frame else
     Err Other
 
--- The packet in a frame of this link type that had so many bytes on the link. Of link type 248 a frame
--- is a packet.
-abbrev pub packet_in : ℕ → ℕ → List ℕ → Result Packet NoPacket
+-- The packet in a frame of this link type, with the frame's length on the link. A frame of link
+-- type 248 is a packet.
+unfoldable pub packet_in : ℕ → ℕ → List ℕ → Result Packet NoPacket
 packet_in link original_length frame =
     if link == 248 then whole None None original_length frame else
     on_link link frame >>= carried

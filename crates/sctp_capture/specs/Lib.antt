@@ -4,3 +4,4 @@ pub mod Frame
 pub mod Found
 pub mod HexBytes
 pub mod Line
+pub mod Sent

@@ -1,7 +1,7 @@
--- What a line of text says, without its line break: a packet in hexadecimal, a packet of a log, or a
--- part of a dump with offsets.
+-- What a line of text says, without its line break: a packet in hexadecimal, a packet of a log, or
+-- a part of a dump with offsets.
 use Rattle.std.specs.Prelude.{◌+◌, ◌*◌, ◌==◌, ℕ, Bool, ◌||◌, ◌&&◌, not, nat_lt, nat_le, nat_eq, List, [], ◌∷◌, if◌then◌else◌, Option, Some, None, codes, length, take, drop, fold}
-use Rattle.std.specs.List.{starts_with, list_all, prefix_len}
+use Rattle.std.specs.List.{starts_with, list_all, position_or_len}
 use Rattle.std.specs.Char.{is_ascii_digit, is_ascii_hexdigit, digit_value}
 use Rattle.sctp_capture.specs.Number.{byte_at}
 use Rattle.sctp_capture.specs.HexBytes.{is_blank, without_blanks_before, hex_bytes}
@@ -9,8 +9,6 @@ use Rattle.sctp_capture.specs.declared.line.Direction.{Direction}
 use Rattle.sctp_capture.specs.declared.line.Direction.TheVariants.{Incoming, Outgoing}
 use Rattle.sctp_capture.specs.declared.line.DumpForm.{DumpForm}
 use Rattle.sctp_capture.specs.declared.line.DumpForm.TheVariants.{Xxd, Tcpdump}
-use Rattle.sctp_capture.specs.declared.line.LoggedPacket.{LoggedPacket}
-use Rattle.sctp_capture.specs.declared.line.DumpedBytes.{DumpedBytes}
 use Rattle.sctp_capture.specs.declared.line.Line.{Line}
 use Rattle.sctp_capture.specs.declared.line.Line.TheVariants.{Blank, Comment, Packet, Logged, Dumped, Unknown}
 use Rattle.sctp_capture.specs.declared.line.Place.{Place}
@@ -20,7 +18,7 @@ use Rattle.sctp_capture.specs.declared.line.Place.TheVariants.{Begins, Continues
 
 -- how many bytes come before the first blank
 abbrev pub word_length : List ℕ → ℕ
-word_length text = prefix_len (λ byte. not (is_blank byte)) text
+word_length text = position_or_len is_blank text
 
 abbrev pub word : List ℕ → List ℕ
 word text = take (word_length text) text
@@ -50,13 +48,13 @@ mark = codes "# SCTP_PACKET"
 
 -- how many bytes come before the first `#`
 abbrev pub mark_offset : List ℕ → ℕ
-mark_offset text = prefix_len (λ byte. not (byte == 35)) text
+mark_offset text = position_or_len (λ byte. byte == 35) text
 
 -- the bytes before the mark
 abbrev pub marked_bytes : List ℕ → Option (List ℕ)
 marked_bytes text =
     if starts_with nat_eq (drop (mark_offset text) text) mark
-        then hex_bytes (take (mark_offset text) text) else
+    then hex_bytes (take (mark_offset text) text) else
     None
 
 abbrev pub logged : Direction → List ℕ → Option (List ℕ) → Line
@@ -78,13 +76,19 @@ abbrev pub hex_number : List ℕ → ℕ
 hex_number digits = fold (λ n digit. 16 * n + digit_value digit) 0 digits
 
 abbrev pub offset_length : List ℕ → ℕ
-offset_length text = prefix_len is_ascii_hexdigit text
+offset_length text = position_or_len (λ byte. not (is_ascii_hexdigit byte)) text
 
 -- an offset, of one to eight digits, and a colon
 abbrev pub has_offset : List ℕ → Bool
 has_offset text =
     nat_lt 0 (offset_length text) && nat_le (offset_length text) 8
     && byte_at (offset_length text) text == 58
+
+-- two blanks are at this offset
+abbrev pub is_gap : List ℕ → ℕ → Bool
+is_gap text at =
+    nat_lt (at + 1) (length text)
+    && (is_blank (byte_at at text) && is_blank (byte_at (at + 1) text))
 
 -- how many bytes come before the first two blanks in a row
 unfoldable pub groups_length : List ℕ → ℕ
@@ -100,7 +104,7 @@ is_printable byte = is_blank byte || (nat_le 32 byte && nat_le byte 126)
 abbrev pub dumped_bytes : List ℕ → Option (List ℕ)
 dumped_bytes text =
     if list_all is_printable (drop (groups_length text) text)
-        then hex_bytes (take (groups_length text) text) else
+    then hex_bytes (take (groups_length text) text) else
     None
 
 abbrev pub dumped : DumpForm → ℕ → Option (List ℕ) → Line
@@ -112,7 +116,7 @@ abbrev pub dump_line : DumpForm → List ℕ → Line
 dump_line form text =
     if not (has_offset text) then Unknown else
     dumped form (hex_number (take (offset_length text) text))
-      (dumped_bytes (without_blanks_before (drop (offset_length text + 1) text)))
+    (dumped_bytes (without_blanks_before (drop (offset_length text + 1) text)))
 
 -- ---- a line
 
@@ -121,8 +125,10 @@ abbrev pub text_line : List ℕ → Line
 text_line text =
     if length text == 0 then Blank else
     if byte_at 0 text == 35 then Comment else
-    if starts_with nat_eq text (codes "I ") then log_line Incoming (without_blanks_before (drop 2 text)) else
-    if starts_with nat_eq text (codes "O ") then log_line Outgoing (without_blanks_before (drop 2 text)) else
+    if starts_with nat_eq text (codes "I ")
+    then log_line Incoming (without_blanks_before (drop 2 text)) else
+    if starts_with nat_eq text (codes "O ")
+    then log_line Outgoing (without_blanks_before (drop 2 text)) else
     if starts_with nat_eq text (codes "0x") then dump_line Tcpdump (drop 2 text) else
     if has_offset text then dump_line Xxd text else
     packet_line (hex_bytes text)

@@ -5,10 +5,9 @@
 --   | magic, 4 | major, 2 | minor, 2 | reserved, 8 | snapshot length, 4 | link type, 4 |
 --   record, 16 bytes and the captured bytes:
 --   | seconds, 4 | fraction, 4 | captured length, 4 | original length, 4 | captured bytes .. |
-use Rattle.std.specs.Prelude.{◌≡◌, ◌<◌, ◌≤◌, ◌+◌, ◌%◌, ◌^◌, ℕ, List, [], ◌∷◌, ◌++◌, if◌then◌else◌, Option, Some, None, option_map, nat_eq, length, take, drop}
-use Rattle.std.specs.List.{starts_with, flat_map}
+use Rattle.std.specs.Prelude.{◌≡◌, ◌<◌, ◌≤◌, ◌+◌, ◌%◌, ◌^◌, ℕ, List, [], ◌∷◌, ◌++◌, if◌then◌else◌, Option, Some, None, option_map, nat_eq, length, drop}
+use Rattle.std.specs.List.{starts_with, flat_map, AllByRecursion}
 use Rattle.std.specs.Int.{w16, w32}
-use Rattle.std.specs.Prelude.{All}
 use Rattle.sctp_capture.specs.Number.{number_in, number_bytes}
 use Rattle.sctp_capture.specs.declared.pcap.ByteOrder.{ByteOrder}
 use Rattle.sctp_capture.specs.declared.pcap.ByteOrder.TheVariants.{BigEndian, LittleEndian}
@@ -25,17 +24,17 @@ use Rattle.sctp_capture.specs.declared.pcap.RecordHeader.{RecordHeader}
 abbrev pub format : ByteOrder → Resolution → PcapFormat
 format order resolution = record { order = order; resolution = resolution }
 
--- the format whose magic is at the front: a1b2c3d4 or a1b23c4d, as a number in the file's byte order
+-- the format whose magic is at the front: a1b2c3d4 or a1b23c4d, a number in the file's byte order
 abbrev pub magic_format : List ℕ → Option PcapFormat
 magic_format bytes =
     if starts_with nat_eq bytes (0xa1 ∷ 0xb2 ∷ 0xc3 ∷ 0xd4 ∷ [])
-        then Some (format BigEndian Microseconds) else
+    then Some (format BigEndian Microseconds) else
     if starts_with nat_eq bytes (0xd4 ∷ 0xc3 ∷ 0xb2 ∷ 0xa1 ∷ [])
-        then Some (format LittleEndian Microseconds) else
+    then Some (format LittleEndian Microseconds) else
     if starts_with nat_eq bytes (0xa1 ∷ 0xb2 ∷ 0x3c ∷ 0x4d ∷ [])
-        then Some (format BigEndian Nanoseconds) else
+    then Some (format BigEndian Nanoseconds) else
     if starts_with nat_eq bytes (0x4d ∷ 0x3c ∷ 0xb2 ∷ 0xa1 ∷ [])
-        then Some (format LittleEndian Nanoseconds) else
+    then Some (format LittleEndian Nanoseconds) else
     None
 
 -- what pcapng begins with (draft-ietf-opsawg-pcapng section 4.1), the same in both byte orders
@@ -107,7 +106,7 @@ pub record BeginsWithRecord (order : ByteOrder) (bytes : List ℕ) : Type 0 wher
 pub record AreRecords (order : ByteOrder) (bytes : List ℕ) (records : List Record) (cut : List ℕ)
     : Type 0 where
   pub split : bytes ≡ flat_map (record_bytes order) records ++ cut
-  pub fit : All Fits records
+  pub fit : AllByRecursion Fits records
   pub end : BeginsWithRecord order cut → ⊥
 
 -- the numbers of the header at the front

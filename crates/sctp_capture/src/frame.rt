@@ -1,9 +1,11 @@
 //! The SCTP packet in a frame, by its link type.
 
-ghost use Rattle.std.specs.Prelude.{◌≡◌, ◌≤◌, length, take, drop};
+ghost use Rattle.std.specs.Prelude.{◌≡◌, ◌≤◌, length};
 ghost use Rattle.sctp_capture.specs.Number.{number16};
 ghost use Rattle.sctp_capture.specs.Frame.{packet_in, is_known_link, is_extension, may_carry_sctp, carried, in_udp, whole, ipv4, ipv6, ip, ipv4_addresses, ipv6_addresses, of_type, typed, ethernet, on_link, without_extension, without_extensions};
 ghost use Rattle.sctp_capture.specs.Found.{found, payload_of, payload_result};
+
+use crate::parts::after;
 
 /// Link types of pcap files (the registry of draft-ietf-opsawg-pcaplinktype).
 pub mod link_type {
@@ -68,7 +70,7 @@ pub struct FoundPacket<'a> {
 /// Why a frame has no packet that can be read.
 #[derive(Clone, Copy, Debug, PartialEq, Eq)]
 pub enum NoPacket {
-    /// It has a fragment of an IP packet, which carries SCTP, or UDP, or in IPv6 anything.
+    /// It is a fragment of an IP packet that carries SCTP or UDP, or in IPv6 anything.
     Fragment,
     /// Fewer bytes were captured than the headers say.
     Cut,
@@ -88,17 +90,19 @@ pub fn is_known_link(link_type: u16) -> bool
     )
 }
 
-/// Returns the SCTP packet in a frame of this link type: Ethernet II (1) with at most one 802.1Q tag,
-/// raw IP (101), Linux cooked (113), or SCTP (248). `original_length` is the number of bytes that the
-/// frame had on the link; it matters for link type 248 alone.
+/// Returns the SCTP packet in a frame of this link type: Ethernet II (1) with at most one 802.1Q
+/// tag, raw IP (101), Linux cooked (113), or SCTP (248). `original_length` is the number of bytes
+/// that the frame had on the link; it matters for link type 248 alone.
 ///
-/// The packet is protocol 132 of IPv4, or of IPv6 behind at most eight extension headers, or it is in
-/// UDP with port 9899 on either side. It ends where the innermost header says; what follows in the
-/// frame is left out.
+/// The packet is protocol 132 of IPv4, or of IPv6 behind at most eight extension headers, or it is
+/// in UDP with port 9899 on either side. It ends where the innermost header says; what follows in
+/// the frame is left out.
 ///
-/// Otherwise returns the first of these from the link's header inward: `Cut`, if fewer bytes were
-/// captured than a header has or than its lengths say; `Malformed`, if a version, a header's length or
-/// a total length can't be; `Fragment`; `Other`, of an unknown link type too.
+/// Otherwise returns the first of these from the link's header inward: `Cut` if fewer bytes were
+/// captured than a header has or than its lengths say; `Malformed` if a header has another version
+/// than its type says, or a length that is less than a header or more than the header around it
+/// allows; `Fragment`; `Other`, also for an unknown link type.
+#[tactic(auto, unfolding(crate::specs::Frame::packet_in))]
 pub fn packet_in(
     link_type: u16,
     original_length: u32,
@@ -112,8 +116,8 @@ pub fn packet_in(
     carried(on_link(link_type, frame)?)
 }
 
-/// What an IP packet carries: `size` bytes as its header says, of which `bytes` are those from the
-/// first on, with what follows the IP packet.
+/// What an IP packet carries: `size` bytes as its header says. `bytes` begin with them, but may be
+/// fewer, or more by what follows the IP packet.
 #[derive(Clone, Copy)]
 struct Payload<'a> {
     addresses: Addresses,
@@ -153,6 +157,7 @@ fn carried(payload: Payload<'_>) -> Result<FoundPacket<'_>, NoPacket>
 }
 
 /// Returns the packet in a UDP datagram.
+#[tactic(auto, unfolding(crate::specs::Frame::in_udp))]
 fn in_udp(payload: Payload<'_>) -> Result<FoundPacket<'_>, NoPacket>
     ensures { found result ≡ in_udp (payload_of payload.entry) }
 {
@@ -180,6 +185,7 @@ fn in_udp(payload: Payload<'_>) -> Result<FoundPacket<'_>, NoPacket>
 }
 
 /// Returns what a frame of this link type carries.
+#[tactic(auto, unfolding(crate::specs::Frame::on_link))]
 fn on_link(link_type: u16, frame: &[u8]) -> Result<Payload<'_>, NoPacket>
     ensures { payload_result result ≡ on_link link_type frame.now }
 {
@@ -192,6 +198,7 @@ fn on_link(link_type: u16, frame: &[u8]) -> Result<Payload<'_>, NoPacket>
 }
 
 /// Returns what an Ethernet frame carries.
+#[tactic(auto, unfolding(crate::specs::Frame::ethernet))]
 fn ethernet(frame: &[u8]) -> Result<Payload<'_>, NoPacket>
     ensures { payload_result result ≡ ethernet frame.now }
 {
@@ -206,6 +213,7 @@ fn ethernet(frame: &[u8]) -> Result<Payload<'_>, NoPacket>
 }
 
 /// Returns what follows the type at this offset.
+#[tactic(auto, unfolding(crate::specs::Frame::typed, crate::specs::Frame::of_type))]
 fn typed(offset: usize, frame: &[u8]) -> Result<Payload<'_>, NoPacket>
     requires { offset ≤ 16 }
     ensures { payload_result result ≡ typed offset frame.now }
@@ -221,6 +229,7 @@ fn typed(offset: usize, frame: &[u8]) -> Result<Payload<'_>, NoPacket>
 }
 
 /// Returns what an IP packet of either version carries.
+#[tactic(auto, unfolding(crate::specs::Frame::ip))]
 fn ip(bytes: &[u8]) -> Result<Payload<'_>, NoPacket>
     ensures { payload_result result ≡ ip bytes.now }
 {
@@ -235,6 +244,7 @@ fn ip(bytes: &[u8]) -> Result<Payload<'_>, NoPacket>
 }
 
 /// Returns what an IPv4 packet carries.
+#[tactic(auto, unfolding(crate::specs::Frame::ipv4))]
 fn ipv4(bytes: &[u8]) -> Result<Payload<'_>, NoPacket>
     ensures { payload_result result ≡ ipv4 bytes.now }
 {
@@ -283,6 +293,7 @@ fn ipv4_addresses(bytes: &[u8]) -> Addresses
 }
 
 /// Returns what an IPv6 packet carries, behind its extension headers.
+#[tactic(auto, unfolding(crate::specs::Frame::ipv6))]
 fn ipv6(bytes: &[u8]) -> Result<Payload<'_>, NoPacket>
     ensures { payload_result result ≡ ipv6 bytes.now }
 {
@@ -323,19 +334,20 @@ fn without_extensions(most: u8, payload: Payload<'_>) -> Result<Payload<'_>, NoP
     ensures { payload_result result ≡ without_extensions most (payload_of payload.entry) }
 {
     let mut rest = payload;
-    for _ in 0..most {
-        if is_extension(rest.protocol) {
-            rest = without_extension(rest)?;
-        } else if rest.protocol == FRAGMENT_HEADER {
+    for _k in 0..most {
+        if rest.protocol == FRAGMENT_HEADER {
             return Err(NoPacket::Fragment);
-        } else {
+        }
+        if !is_extension(rest.protocol) {
             return Ok(rest);
         }
+        rest = without_extension(rest)?;
     }
     Ok(rest)
 }
 
 /// Returns the payload behind the extension header at its front.
+#[tactic(auto, unfolding(crate::specs::Frame::without_extension))]
 fn without_extension(payload: Payload<'_>) -> Result<Payload<'_>, NoPacket>
     ensures { payload_result result ≡ without_extension (payload_of payload.entry) }
 {
@@ -370,13 +382,6 @@ fn may_carry_sctp(protocol: u8) -> bool
     ensures { result ≡ may_carry_sctp protocol }
 {
     matches!(protocol, SCTP_PROTOCOL | UDP_PROTOCOL)
-}
-
-/// Returns the bytes after the first `count`; none if there are fewer.
-fn after(bytes: &[u8], count: usize) -> &[u8]
-    ensures { result.now ≡ drop count bytes.now }
-{
-    &bytes[count.min(bytes.len())..]
 }
 
 /// Returns the number of the first two bytes, most significant byte first.

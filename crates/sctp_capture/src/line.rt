@@ -1,12 +1,14 @@
 //! Lines of text that hold packets: in hexadecimal, of a log, or of a dump with offsets.
 
-ghost use Rattle.std.specs.Prelude.{◌≡◌, ◌≤◌, ◌<◌, All, IsTrue, length};
+ghost use Rattle.std.specs.Prelude.{◌≡◌, ◌≤◌, ◌<◌, ◌==◌, not, All, IsTrue, length, position};
 ghost use Rattle.std.specs.Char.{is_ascii_hexdigit};
-ghost use Rattle.sctp_capture.specs.HexBytes.{hex_bytes};
-ghost use Rattle.sctp_capture.specs.Line.{line_of, text_line, packet_line, log_line, dump_line, place_of, is_in_time, is_time, word, after_word, marked_bytes, dumped_bytes, groups_length, hex_number, offset_length, has_offset, is_printable};
+ghost use Rattle.std.specs.List.{list_all};
+ghost use Rattle.sctp_capture.specs.HexBytes.{is_blank, hex_bytes};
+ghost use Rattle.sctp_capture.specs.Line.{line_of, text_line, packet_line, log_line, dump_line, place_of, is_in_time, is_time, word, after_word, marked_bytes, dumped_bytes, is_gap, groups_length, hex_number, offset_length, has_offset, is_printable};
 
 use crate::hex_bytes::{HexBytes, digit, is_blank, without_blanks_before};
 use crate::log_time::LogTime;
+use crate::parts::after;
 
 /// Where a logged packet went.
 #[derive(Clone, Copy, Debug, PartialEq, Eq)]
@@ -76,8 +78,8 @@ pub enum Place {
     Apart,
 }
 
-/// Returns where bytes at this offset belong, behind `held` bytes of a packet: at offset 0 they begin
-/// the next packet, and at offset `held` they continue this one.
+/// Returns where bytes at this offset belong, behind `held` bytes of a packet: at offset 0 they
+/// begin the next packet, and at offset `held` they continue this one.
 pub fn place_of(offset: u32, held: usize) -> Place
     ensures { result ≡ place_of offset held }
 {
@@ -90,19 +92,22 @@ pub fn place_of(offset: u32, held: usize) -> Place
     }
 }
 
-/// Reads a line of text, without its line feed. Blanks (spaces, tabs, carriage returns) before it and
-/// behind it don't matter. It is the first of these forms that it begins as:
+/// Reads a line of text, without its line feed. Blanks (spaces, tabs and carriage returns) at its
+/// beginning and its end are ignored. The forms, in the order in which they are tried, each by the
+/// line's beginning:
 ///
-/// - empty: `Blank`; `#`: `Comment`;
+/// - nothing: `Blank`; `#`: `Comment`;
 /// - `I ` or `O `: `Logged`, as WebRTC logs packets for `text2pcap`:
-///   `I 12:34:56.789 0000 13 88 .. # SCTP_PACKET`, where anything may follow the mark; a line with
-///   other text before the direction isn't known;
-/// - `0x`, an offset of one to eight digits and a colon: `Dumped`, as `tcpdump -x` writes it, or `-X`;
-/// - an offset of one to eight digits and a colon: `Dumped`, as `xxd` writes it; in both, from two
-///   blanks in a row on any text that can be printed may follow the bytes;
-/// - digits, two a byte, of either case, with blanks between bytes: `Packet`.
+///   `I 12:34:56.789 0000 13 88 .. # SCTP_PACKET`; anything may follow the mark, but no other text
+///   may come before the direction;
+/// - `0x`: `Dumped`, as `tcpdump -x` and `-X` write it: an offset of one to eight digits, a colon,
+///   and groups of digits;
+/// - one to eight digits and a colon: `Dumped`, as `xxd` writes it; in both forms of dump, two
+///   blanks in a row end the bytes, and only printable ASCII may follow;
+/// - anything else: `Packet`, if it is digits, two a byte, of either case, with blanks between
+///   bytes.
 ///
-/// What begins as one form, and isn't of that form, is `Unknown`.
+/// A line that begins as one form and isn't of that form is `Unknown`.
 pub fn read_line(line: &[u8]) -> Line<'_>
     ensures { result ≡ line_of line.now }
 {
@@ -118,11 +123,11 @@ fn read_text(text: &[u8]) -> Line<'_>
     } else if text[0] == b'#' {
         Line::Comment
     } else if text.starts_with(b"I ") {
-        log_line(Direction::Incoming, without_blanks_before(&text[2..]))
+        log_line(Direction::Incoming, without_blanks_before(after(text, 2)))
     } else if text.starts_with(b"O ") {
-        log_line(Direction::Outgoing, without_blanks_before(&text[2..]))
+        log_line(Direction::Outgoing, without_blanks_before(after(text, 2)))
     } else if text.starts_with(b"0x") {
-        dump_line(DumpForm::Tcpdump, &text[2..])
+        dump_line(DumpForm::Tcpdump, after(text, 2))
     } else if has_offset(text) {
         dump_line(DumpForm::Xxd, text)
     } else {
@@ -162,22 +167,37 @@ fn log_line(direction: Direction, text: &[u8]) -> Line<'_>
 }
 
 /// Returns the first word, and what follows the blanks behind it.
+#[tactic(auto, using(crate::proofs::Places::first_place, crate::proofs::Places::place_within))]
 fn first_word(text: &[u8]) -> (&[u8], &[u8])
     ensures word { result.0.now ≡ word text.now }
     ensures rest { result.1.now ≡ after_word text.now }
 {
-    let length = text
-        .iter()
-        .position(|byte| is_blank(*byte))
-        .unwrap_or(text.len());
+    let length = first_blank(text).unwrap_or(text.len());
     (&text[..length], without_blanks_before(&text[length..]))
+}
+
+/// Returns the offset of the first blank.
+fn first_blank(text: &[u8]) -> Option<usize>
+    ensures { result ≡ position is_blank text.now }
+{
+    text.iter().position(|byte| is_blank(*byte))
 }
 
 /// Returns whether a word can be a time of day.
 fn is_time(text: &[u8]) -> bool
     ensures { result ≡ is_time text.now }
 {
-    !text.is_empty() && text.iter().all(|byte| is_in_time(*byte))
+    if text.is_empty() {
+        return false;
+    }
+    are_in_time(text)
+}
+
+/// Returns whether each byte is a digit, a colon or a point.
+fn are_in_time(text: &[u8]) -> bool
+    ensures { result ≡ list_all is_in_time text.now }
+{
+    text.iter().all(|byte| is_in_time(*byte))
 }
 
 /// Returns whether the byte is a digit, a colon or a point.
@@ -188,18 +208,23 @@ fn is_in_time(byte: u8) -> bool
 }
 
 /// Returns the bytes before the mark of a log.
+#[tactic(auto, using(crate::proofs::Places::first_place, crate::proofs::Places::place_within))]
 fn marked_bytes(text: &[u8]) -> Option<HexBytes<'_>>
     ensures { result ≡ marked_bytes text.now }
 {
-    let offset = text
-        .iter()
-        .position(|byte| *byte == b'#')
-        .unwrap_or(text.len());
+    let offset = first_number_sign(text).unwrap_or(text.len());
     if text[offset..].starts_with(b"# SCTP_PACKET") {
         HexBytes::from_text(&text[..offset])
     } else {
         None
     }
+}
+
+/// Returns the offset of the first `#`.
+fn first_number_sign(text: &[u8]) -> Option<usize>
+    ensures { result ≡ position (λ byte. byte == 35) text.now }
+{
+    text.iter().position(|byte| *byte == b'#')
 }
 
 /// Reads a line of a dump that begins with its offset.
@@ -232,13 +257,19 @@ fn has_offset(text: &[u8]) -> bool
 }
 
 /// Returns how many digits the text begins with.
+#[tactic(auto, using(crate::proofs::Places::first_place, crate::proofs::Places::place_within))]
 fn offset_length(text: &[u8]) -> usize
     ensures value { result ≡ offset_length text.now }
     ensures within { result ≤ length text.now }
 {
-    text.iter()
-        .position(|byte| !byte.is_ascii_hexdigit())
-        .unwrap_or(text.len())
+    first_nondigit(text).unwrap_or(text.len())
+}
+
+/// Returns the offset of the first byte that isn't a digit.
+fn first_nondigit(text: &[u8]) -> Option<usize>
+    ensures { result ≡ position (λ byte. not (is_ascii_hexdigit byte)) text.now }
+{
+    text.iter().position(|byte| !byte.is_ascii_hexdigit())
 }
 
 /// Returns the number that at most eight digits say.
@@ -259,7 +290,7 @@ fn dumped_bytes(text: &[u8]) -> Option<HexBytes<'_>>
     ensures { result ≡ dumped_bytes text.now }
 {
     let length = groups_length(text);
-    if text[length..].iter().all(|byte| is_printable(*byte)) {
+    if are_printable(&text[length..]) {
         HexBytes::from_text(&text[..length])
     } else {
         None
@@ -267,18 +298,34 @@ fn dumped_bytes(text: &[u8]) -> Option<HexBytes<'_>>
 }
 
 /// Returns how many bytes come before the first two blanks in a row.
+#[tactic(auto, using(crate::proofs::Groups::groups_end, crate::proofs::Groups::groups_at_gap, crate::proofs::Groups::groups_past))]
 fn groups_length(text: &[u8]) -> usize
     ensures value { result ≡ groups_length text.now }
     ensures within { result ≤ length text.now }
 {
     let mut length = 0;
     while length < text.len() {
-        if length + 1 < text.len() && is_blank(text[length]) && is_blank(text[length + 1]) {
+        if is_gap(text, length) {
             return length;
         }
         length += 1;
     }
     length
+}
+
+/// Returns whether two blanks are at this offset.
+fn is_gap(text: &[u8], offset: usize) -> bool
+    requires { offset < length text.now }
+    ensures { result ≡ is_gap text.now offset }
+{
+    offset + 1 < text.len() && is_blank(text[offset]) && is_blank(text[offset + 1])
+}
+
+/// Returns whether each byte is blank or can be printed.
+fn are_printable(text: &[u8]) -> bool
+    ensures { result ≡ list_all is_printable text.now }
+{
+    text.iter().all(|byte| is_printable(*byte))
 }
 
 /// Returns whether a byte is blank or can be printed.
