@@ -1,13 +1,17 @@
 //! What is printed of a chunk.
 
-ghost use Rattle.std.specs.Prelude.{◌≡◌, ℕ, if◌then◌else◌, codes};
+ghost use Rattle.std.specs.Prelude.{◌≡◌, ℕ, codes};
 ghost use Rattle.std.specs.Fmt.{WritesOnOk};
 ghost use Rattle.dcsctp_chunk.specs.DataChunk.{view as data_view};
 ghost use Rattle.dcsctp_chunk.specs.IDataChunk.{view as i_data_view};
 ghost use Rattle.dcsctp_chunk.specs.Data.{user_data_view};
-ghost use Rattle.dcsctp_chunk.specs.SkippedStreams.{skipped_stream_view};
-ghost use Rattle.dcsctp_wire.specs.Chunk.{view};
-ghost use Rattle.sctp_report.specs.Chunks.{word_if, ppid_name, order_word, data_lines, i_data_lines, bits_text, payload_lines, ppid_or_fsn_text, block_line, duplicate_line, skipped_line, chunk_lines};
+ghost use Rattle.dcsctp_chunk.specs.SkippedStreams.{SkippedStreamTree, skipped_stream_view};
+ghost use Rattle.dcsctp_chunk.specs.Sack.{view as sack_view};
+ghost use Rattle.dcsctp_chunk.specs.declared.sack_chunk.GapAckBlock.{GapAckBlock};
+ghost use Rattle.dcsctp_wire.specs.Init.{view as init_view};
+ghost use Rattle.dcsctp_wire.specs.InitAck.{view as init_ack_view};
+ghost use Rattle.dcsctp_wire.specs.Chunk.{ChunkTree, view};
+ghost use Rattle.sctp_report.specs.Chunks.{word_if, ppid_name, order_word, data_lines, i_data_lines, init_lines, bits_text, payload_lines, ppid_or_fsn_text, sack_lines, block_line, duplicate_line, skipped_line, chunk_lines};
 
 use crate::bytes::Bytes;
 use crate::hexadecimal::{Hex8, Hex32};
@@ -19,41 +23,24 @@ use dcsctp_wire::packet::chunk::Chunk;
 use dcsctp_wire::packet::data::Data;
 use dcsctp_wire::packet::data_chunk::DataChunk;
 use dcsctp_wire::packet::idata_chunk::IDataChunk;
-use dcsctp_wire::packet::sack_chunk::GapAckBlock;
+use dcsctp_wire::packet::init_ack_chunk::InitAckChunk;
+use dcsctp_wire::packet::init_chunk::InitChunk;
+use dcsctp_wire::packet::sack_chunk::{GapAckBlock, SackChunk};
 use std::fmt;
 
 impl Lines for Chunk {
-    ghost lines = { λ most c. chunk_lines most (view c) };
+    ghost Tree = { ChunkTree };
+
+    ghost view = { view };
+
+    ghost lines = { chunk_lines };
 
     fn write_lines<W: fmt::Write>(&self, most: usize, f: &mut fmt::Formatter<W>) -> fmt::Result {
         match self {
             Chunk::Data(c) => write_data(c, most, f),
-            Chunk::Init(c) => {
-                let (tag, tsn) = (Hex32(c.initiate_tag), c.initial_tsn);
-                let (outbound, inbound) = (c.nbr_outbound_streams, c.nbr_inbound_streams);
-                let a_rwnd = c.a_rwnd;
-                writeln!(
-                    f,
-                    "INIT: tag {tag}, a_rwnd {a_rwnd}, outbound streams {outbound}, inbound streams {inbound}, initial tsn {tsn}"
-                )?;
-                write_each(&c.parameters, most, f)
-            }
-            Chunk::InitAck(c) => {
-                let (tag, tsn) = (Hex32(c.initiate_tag), c.initial_tsn);
-                let (outbound, inbound) = (c.nbr_outbound_streams, c.nbr_inbound_streams);
-                let a_rwnd = c.a_rwnd;
-                writeln!(
-                    f,
-                    "INIT ACK: tag {tag}, a_rwnd {a_rwnd}, outbound streams {outbound}, inbound streams {inbound}, initial tsn {tsn}"
-                )?;
-                write_each(&c.parameters, most, f)
-            }
-            Chunk::Sack(c) => {
-                let (tsn, a_rwnd) = (c.cumulative_tsn_ack, c.a_rwnd);
-                writeln!(f, "SACK: cumulative tsn {tsn}, a_rwnd {a_rwnd}")?;
-                write_each(&c.gap_ack_blocks, most, f)?;
-                write_each(&c.duplicate_tsns, most, f)
-            }
+            Chunk::Init(c) => write_init(c, most, f),
+            Chunk::InitAck(c) => write_init_ack(c, most, f),
+            Chunk::Sack(c) => write_sack(c, most, f),
             Chunk::HeartbeatRequest(c) => {
                 f.write_str("HEARTBEAT\n")?;
                 write_each(&c.parameters, most, f)
@@ -107,6 +94,58 @@ impl Lines for Chunk {
             }
         }
     }
+}
+
+/// Writes the lines of an INIT.
+fn write_init<W: fmt::Write>(
+    c: &InitChunk,
+    most: usize,
+    f: &mut fmt::Formatter<W>,
+) -> fmt::Result
+    ensures { WritesOnOk W.write_str_gives f.old result
+        (init_lines (codes "INIT") most (init_view c.now)) f.new }
+{
+    let (tag, tsn) = (Hex32(c.initiate_tag), c.initial_tsn);
+    let (outbound, inbound) = (c.nbr_outbound_streams, c.nbr_inbound_streams);
+    let a_rwnd = c.a_rwnd;
+    writeln!(
+        f,
+        "INIT: tag {tag}, a_rwnd {a_rwnd}, outbound streams {outbound}, inbound streams {inbound}, initial tsn {tsn}"
+    )?;
+    write_each(&c.parameters, most, f)
+}
+
+/// Writes the lines of an INIT ACK.
+fn write_init_ack<W: fmt::Write>(
+    c: &InitAckChunk,
+    most: usize,
+    f: &mut fmt::Formatter<W>,
+) -> fmt::Result
+    ensures { WritesOnOk W.write_str_gives f.old result
+        (init_lines (codes "INIT ACK") most (init_ack_view c.now)) f.new }
+{
+    let (tag, tsn) = (Hex32(c.initiate_tag), c.initial_tsn);
+    let (outbound, inbound) = (c.nbr_outbound_streams, c.nbr_inbound_streams);
+    let a_rwnd = c.a_rwnd;
+    writeln!(
+        f,
+        "INIT ACK: tag {tag}, a_rwnd {a_rwnd}, outbound streams {outbound}, inbound streams {inbound}, initial tsn {tsn}"
+    )?;
+    write_each(&c.parameters, most, f)
+}
+
+/// Writes the lines of a SACK.
+fn write_sack<W: fmt::Write>(
+    c: &SackChunk,
+    most: usize,
+    f: &mut fmt::Formatter<W>,
+) -> fmt::Result
+    ensures { WritesOnOk W.write_str_gives f.old result (sack_lines (sack_view c.now)) f.new }
+{
+    let (tsn, a_rwnd) = (c.cumulative_tsn_ack, c.a_rwnd);
+    writeln!(f, "SACK: cumulative tsn {tsn}, a_rwnd {a_rwnd}")?;
+    write_each(&c.gap_ack_blocks, most, f)?;
+    write_each(&c.duplicate_tsns, most, f)
 }
 
 /// Writes the lines of a DATA.
@@ -218,6 +257,10 @@ fn ppid_name(ppid: PpId) -> &'static str
 
 /// A gap ack block of a SACK.
 impl Lines for GapAckBlock {
+    ghost Tree = { GapAckBlock };
+
+    ghost view = { λ b. b };
+
     ghost lines = { λ most b. block_line b };
 
     fn write_lines<W: fmt::Write>(&self, _most: usize, f: &mut fmt::Formatter<W>) -> fmt::Result {
@@ -228,7 +271,11 @@ impl Lines for GapAckBlock {
 
 /// A duplicate TSN of a SACK.
 impl Lines for Tsn {
-    ghost lines = { λ most tsn. duplicate_line tsn.0 };
+    ghost Tree = { ℕ };
+
+    ghost view = { λ tsn. tsn.0 };
+
+    ghost lines = { λ most tsn. duplicate_line tsn };
 
     fn write_lines<W: fmt::Write>(&self, _most: usize, f: &mut fmt::Formatter<W>) -> fmt::Result {
         let tsn = self.0;
@@ -238,7 +285,11 @@ impl Lines for Tsn {
 
 /// A stream that is skipped.
 impl Lines for SkippedStream {
-    ghost lines = { λ most s. skipped_line (skipped_stream_view s) };
+    ghost Tree = { SkippedStreamTree };
+
+    ghost view = { skipped_stream_view };
+
+    ghost lines = { λ most s. skipped_line s };
 
     fn write_lines<W: fmt::Write>(&self, _most: usize, f: &mut fmt::Formatter<W>) -> fmt::Result {
         match self {
