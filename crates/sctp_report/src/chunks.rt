@@ -2,6 +2,7 @@
 
 ghost use Rattle.std.specs.Prelude.{◌≡◌, ℕ, codes};
 ghost use Rattle.std.specs.Fmt.{WritesOnOk};
+ghost use Rattle.std.specs.List.{flat_map};
 ghost use Rattle.dcsctp_chunk.specs.DataChunk.{view as data_view};
 ghost use Rattle.dcsctp_chunk.specs.IDataChunk.{view as i_data_view};
 ghost use Rattle.dcsctp_chunk.specs.Data.{user_data_view};
@@ -144,8 +145,19 @@ fn write_sack<W: fmt::Write>(
 {
     let (tsn, a_rwnd) = (c.cumulative_tsn_ack, c.a_rwnd);
     writeln!(f, "SACK: cumulative tsn {tsn}, a_rwnd {a_rwnd}")?;
-    write_each(&c.gap_ack_blocks, most, f)?;
+    write_blocks(&c.gap_ack_blocks, most, f)?;
     write_each(&c.duplicate_tsns, most, f)
+}
+
+/// Writes the lines of gap ack blocks.
+fn write_blocks<W: fmt::Write>(
+    blocks: &[GapAckBlock],
+    most: usize,
+    f: &mut fmt::Formatter<W>,
+) -> fmt::Result
+    ensures { WritesOnOk W.write_str_gives f.old result (flat_map block_line blocks.now) f.new }
+{
+    write_each(blocks, most, f)
 }
 
 /// Writes the lines of a DATA.
