@@ -19,12 +19,9 @@ stream_line stream = codes "    stream " ++ decimal stream ++ codes "\n"
 -- the numbers of Outgoing SSN Reset Request (RFC 6525 section 4.1)
 abbrev pub outgoing_reset_line : outgoing.Tree → List ℕ
 outgoing_reset_line r =
-    codes "  parameter 0x000d Outgoing SSN Reset Request: request " ++ decimal r.request
+    (codes "  parameter 0x000d Outgoing SSN Reset Request: request " ++ decimal r.request
     ++ codes ", response " ++ decimal r.response
-    ++ codes ", last tsn " ++ decimal r.last_tsn ++ codes "\n"
-
-abbrev pub outgoing_reset_lines : outgoing.Tree → List ℕ
-outgoing_reset_lines r = outgoing_reset_line r ++ flat_map stream_line r.streams
+    ++ codes ", last tsn " ++ decimal r.last_tsn) ++ codes "\n"
 
 -- a chunk type that the sender supports (RFC 5061 section 4.2.7)
 abbrev pub chunk_type_line : ℕ → List ℕ
@@ -55,7 +52,8 @@ parameter_lines most (parameter.HeartbeatInfo info) =
     codes "  parameter 0x0001 Heartbeat Info: " ++ bytes_text most info ++ codes "\n"
 parameter_lines most (parameter.StateCookie cookie) =
     codes "  parameter 0x0007 State Cookie: " ++ bytes_text most cookie ++ codes "\n"
-parameter_lines most (parameter.OutgoingSsnResetRequest r) = outgoing_reset_lines r
+parameter_lines most (parameter.OutgoingSsnResetRequest r) =
+    outgoing_reset_line r ++ flat_map stream_line r.streams
 parameter_lines most (parameter.IncomingSsnResetRequest r) =
     codes "  parameter 0x000e Incoming SSN Reset Request: request " ++ decimal r.request
     ++ codes "\n" ++ flat_map stream_line r.streams

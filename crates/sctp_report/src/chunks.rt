@@ -1,6 +1,6 @@
 //! What is printed of a chunk.
 
-ghost use Rattle.std.specs.Prelude.{◌≡◌, ℕ, codes};
+ghost use Rattle.std.specs.Prelude.{◌≡◌, ℕ};
 ghost use Rattle.std.specs.Fmt.{WritesOnOk};
 ghost use Rattle.std.specs.List.{flat_map};
 ghost use Rattle.dcsctp_chunk.specs.DataChunk.{view as data_view};
@@ -9,10 +9,8 @@ ghost use Rattle.dcsctp_chunk.specs.Data.{user_data_view};
 ghost use Rattle.dcsctp_chunk.specs.SkippedStreams.{SkippedStreamTree, skipped_stream_view};
 ghost use Rattle.dcsctp_chunk.specs.Sack.{view as sack_view};
 ghost use Rattle.dcsctp_chunk.specs.declared.sack_chunk.GapAckBlock.{GapAckBlock};
-ghost use Rattle.dcsctp_wire.specs.Init.{view as init_view};
-ghost use Rattle.dcsctp_wire.specs.InitAck.{view as init_ack_view};
 ghost use Rattle.dcsctp_wire.specs.Chunk.{ChunkTree, view};
-ghost use Rattle.sctp_report.specs.Chunks.{word_if, ppid_name, order_word, data_lines, i_data_lines, init_lines, bits_text, payload_lines, ppid_or_fsn_text, sack_lines, block_line, duplicate_line, skipped_line, chunk_lines};
+ghost use Rattle.sctp_report.specs.Chunks.{word_if, ppid_name, order_word, data_lines, i_data_lines, init_line, bits_text, payload_lines, ppid_or_fsn_text, sack_lines, block_line, duplicate_line, skipped_line, chunk_lines};
 
 use crate::bytes::Bytes;
 use crate::hexadecimal::{Hex8, Hex32};
@@ -24,8 +22,6 @@ use dcsctp_wire::packet::chunk::Chunk;
 use dcsctp_wire::packet::data::Data;
 use dcsctp_wire::packet::data_chunk::DataChunk;
 use dcsctp_wire::packet::idata_chunk::IDataChunk;
-use dcsctp_wire::packet::init_ack_chunk::InitAckChunk;
-use dcsctp_wire::packet::init_chunk::InitChunk;
 use dcsctp_wire::packet::sack_chunk::{GapAckBlock, SackChunk};
 use std::fmt;
 
@@ -39,8 +35,30 @@ impl Lines for Chunk {
     fn write_lines<W: fmt::Write>(&self, most: usize, f: &mut fmt::Formatter<W>) -> fmt::Result {
         match self {
             Chunk::Data(c) => write_data(c, most, f),
-            Chunk::Init(c) => write_init(c, most, f),
-            Chunk::InitAck(c) => write_init_ack(c, most, f),
+            Chunk::Init(c) => {
+                write_init_line(
+                    "INIT",
+                    c.initiate_tag,
+                    c.a_rwnd,
+                    c.nbr_outbound_streams,
+                    c.nbr_inbound_streams,
+                    c.initial_tsn,
+                    f,
+                )?;
+                write_each(&c.parameters, most, f)
+            }
+            Chunk::InitAck(c) => {
+                write_init_line(
+                    "INIT ACK",
+                    c.initiate_tag,
+                    c.a_rwnd,
+                    c.nbr_outbound_streams,
+                    c.nbr_inbound_streams,
+                    c.initial_tsn,
+                    f,
+                )?;
+                write_each(&c.parameters, most, f)
+            }
             Chunk::Sack(c) => write_sack(c, most, f),
             Chunk::HeartbeatRequest(c) => {
                 f.write_str("HEARTBEAT\n")?;
@@ -97,42 +115,24 @@ impl Lines for Chunk {
     }
 }
 
-/// Writes the lines of an INIT.
-fn write_init<W: fmt::Write>(
-    c: &InitChunk,
-    most: usize,
+/// Writes the line of an INIT or an INIT ACK.
+fn write_init_line<W: fmt::Write>(
+    name: &str,
+    tag: u32,
+    a_rwnd: u32,
+    outbound: u16,
+    inbound: u16,
+    tsn: Tsn,
     f: &mut fmt::Formatter<W>,
 ) -> fmt::Result
     ensures { WritesOnOk W.write_str_gives f.old result
-        (init_lines (codes "INIT") most (init_view c.now)) f.new }
+        (init_line name.now tag a_rwnd outbound inbound tsn.0) f.new }
 {
-    let (tag, tsn) = (Hex32(c.initiate_tag), c.initial_tsn);
-    let (outbound, inbound) = (c.nbr_outbound_streams, c.nbr_inbound_streams);
-    let a_rwnd = c.a_rwnd;
+    let tag = Hex32(tag);
     writeln!(
         f,
-        "INIT: tag {tag}, a_rwnd {a_rwnd}, outbound streams {outbound}, inbound streams {inbound}, initial tsn {tsn}"
-    )?;
-    write_each(&c.parameters, most, f)
-}
-
-/// Writes the lines of an INIT ACK.
-fn write_init_ack<W: fmt::Write>(
-    c: &InitAckChunk,
-    most: usize,
-    f: &mut fmt::Formatter<W>,
-) -> fmt::Result
-    ensures { WritesOnOk W.write_str_gives f.old result
-        (init_lines (codes "INIT ACK") most (init_ack_view c.now)) f.new }
-{
-    let (tag, tsn) = (Hex32(c.initiate_tag), c.initial_tsn);
-    let (outbound, inbound) = (c.nbr_outbound_streams, c.nbr_inbound_streams);
-    let a_rwnd = c.a_rwnd;
-    writeln!(
-        f,
-        "INIT ACK: tag {tag}, a_rwnd {a_rwnd}, outbound streams {outbound}, inbound streams {inbound}, initial tsn {tsn}"
-    )?;
-    write_each(&c.parameters, most, f)
+        "{name}: tag {tag}, a_rwnd {a_rwnd}, outbound streams {outbound}, inbound streams {inbound}, initial tsn {tsn}"
+    )
 }
 
 /// Writes the lines of a SACK.

@@ -5,7 +5,7 @@ ghost use Rattle.std.specs.Fmt.{WritesOnOk};
 ghost use Rattle.dcsctp_tlv.specs.Parameter.{ParameterTree, view};
 ghost use Rattle.dcsctp_tlv.specs.OutgoingSsnResetRequest.{view as outgoing_reset_view};
 ghost use Rattle.dcsctp_tlv.specs.ReconfigurationResponse.{tsn_number};
-ghost use Rattle.sctp_report.specs.Parameters.{stream_line, chunk_type_line, result_name, next_tsn_line, extensions_lines, outgoing_reset_lines, parameter_lines};
+ghost use Rattle.sctp_report.specs.Parameters.{stream_line, chunk_type_line, result_name, next_tsn_line, extensions_lines, outgoing_reset_line, parameter_lines};
 
 use crate::bytes::Bytes;
 use crate::hexadecimal::{Hex8, Hex16};
@@ -34,7 +34,10 @@ impl Lines for Parameter {
                 let cookie = Bytes { bytes: &p.cookie, most };
                 writeln!(f, "  parameter 0x0007 State Cookie: {cookie}")
             }
-            Parameter::OutgoingSsnResetRequest(p) => write_outgoing_reset(p, most, f),
+            Parameter::OutgoingSsnResetRequest(p) => {
+                write_outgoing_reset(p, f)?;
+                write_each(&p.streams, most, f)
+            }
             Parameter::IncomingSsnResetRequest(p) => {
                 let request = p.request_seq_nbr;
                 writeln!(f, "  parameter 0x000e Incoming SSN Reset Request: request {request}")?;
@@ -112,22 +115,20 @@ impl Lines for u8 {
     }
 }
 
-/// Writes the lines of Outgoing SSN Reset Request.
+/// Writes the line of Outgoing SSN Reset Request.
 fn write_outgoing_reset<W: fmt::Write>(
     p: &OutgoingSsnResetRequestParameter,
-    most: usize,
     f: &mut fmt::Formatter<W>,
 ) -> fmt::Result
     ensures { WritesOnOk W.write_str_gives f.old result
-        (outgoing_reset_lines (outgoing_reset_view p.now)) f.new }
+        (outgoing_reset_line (outgoing_reset_view p.now)) f.new }
 {
     let (request, response) = (p.request_seq_nbr, p.response_seq_nbr);
     let tsn = p.sender_last_assigned_tsn;
     writeln!(
         f,
         "  parameter 0x000d Outgoing SSN Reset Request: request {request}, response {response}, last tsn {tsn}"
-    )?;
-    write_each(&p.streams, most, f)
+    )
 }
 
 /// Writes the lines of Supported Extensions.
