@@ -92,10 +92,10 @@ sack_lines s =
 
 abbrev pub init_line : List ℕ → ℕ → ℕ → ℕ → ℕ → ℕ → List ℕ
 init_line name tag a_rwnd outbound inbound tsn =
-    (name ++ codes ": tag " ++ hex32 tag ++ codes ", a_rwnd " ++ decimal a_rwnd
-    ++ codes ", outbound streams " ++ decimal outbound
-    ++ codes ", inbound streams " ++ decimal inbound
-    ++ codes ", initial tsn " ++ decimal tsn) ++ codes "\n"
+    name ++ (codes ": tag " ++ (hex32 tag ++ (codes ", a_rwnd " ++ (decimal a_rwnd
+    ++ (codes ", outbound streams " ++ (decimal outbound
+    ++ (codes ", inbound streams " ++ (decimal inbound
+    ++ (codes ", initial tsn " ++ (decimal tsn ++ codes "\n"))))))))))
 
 abbrev pub init_lines : List ℕ → ℕ → init.Tree → List ℕ
 init_lines name most i =

@@ -19,9 +19,9 @@ stream_line stream = codes "    stream " ++ decimal stream ++ codes "\n"
 -- the numbers of Outgoing SSN Reset Request (RFC 6525 section 4.1)
 abbrev pub outgoing_reset_line : outgoing.Tree → List ℕ
 outgoing_reset_line r =
-    (codes "  parameter 0x000d Outgoing SSN Reset Request: request " ++ decimal r.request
-    ++ codes ", response " ++ decimal r.response
-    ++ codes ", last tsn " ++ decimal r.last_tsn) ++ codes "\n"
+    codes "  parameter 0x000d Outgoing SSN Reset Request: request " ++ (decimal r.request
+    ++ (codes ", response " ++ (decimal r.response
+    ++ (codes ", last tsn " ++ (decimal r.last_tsn ++ codes "\n")))))
 
 -- a chunk type that the sender supports (RFC 5061 section 4.2.7)
 abbrev pub chunk_type_line : ℕ → List ℕ
