@@ -12,6 +12,10 @@ use Rattle.sctp_report.specs.Bytes.{bytes_text, quoted_text}
 abbrev pub parameter_type_line : ℕ → List ℕ
 parameter_type_line typ = codes "    parameter type " ++ hex16 typ ++ codes "\n"
 
+abbrev pub missing_lines : List ℕ → List ℕ
+missing_lines types =
+    codes "  cause 0x0002 Missing Mandatory Parameter\n" ++ flat_map parameter_type_line types
+
 -- the causes of RFC 9260 section 3.3.10 that are kept as bytes, by their names
 unfoldable pub cause_name : ℕ → List ℕ
 cause_name code =
@@ -26,8 +30,7 @@ cause_name code =
 
 -- `most` bounds how many bytes of a value are shown
 abbrev pub cause_lines : ℕ → CauseTree → List ℕ
-cause_lines most (cause.MissingMandatoryParameter types) =
-    codes "  cause 0x0002 Missing Mandatory Parameter\n" ++ flat_map parameter_type_line types
+cause_lines most (cause.MissingMandatoryParameter types) = missing_lines types
 cause_lines most (cause.UnrecognizedChunk chunk) =
     codes "  cause 0x0006 Unrecognized Chunk Type: " ++ bytes_text most chunk ++ codes "\n"
 cause_lines most (cause.NoUserData tsn) =

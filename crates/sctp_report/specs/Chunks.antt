@@ -79,19 +79,27 @@ block_line b = codes "  block " ++ decimal b.start ++ codes " to " ++ decimal b.
 abbrev pub duplicate_line : ℕ → List ℕ
 duplicate_line tsn = codes "  duplicate tsn " ++ decimal tsn ++ codes "\n"
 
+abbrev pub sack_line : sack.Tree → List ℕ
+sack_line s =
+    codes "SACK: cumulative tsn " ++ decimal s.tsn ++ codes ", a_rwnd " ++ decimal s.a_rwnd
+    ++ codes "\n"
+
 abbrev pub sack_lines : sack.Tree → List ℕ
 sack_lines s =
-    codes "SACK: cumulative tsn " ++ decimal s.tsn ++ codes ", a_rwnd " ++ decimal s.a_rwnd
-    ++ codes "\n" ++ flat_map block_line s.blocks ++ flat_map duplicate_line s.duplicates
+    sack_line s ++ flat_map block_line s.blocks ++ flat_map duplicate_line s.duplicates
 
 -- ---- INIT and INIT ACK (RFC 9260 sections 3.3.2 and 3.3.3)
 
+abbrev pub init_line : List ℕ → ℕ → ℕ → ℕ → ℕ → ℕ → List ℕ
+init_line name tag a_rwnd outbound inbound tsn =
+    name ++ (codes ": tag " ++ (hex32 tag ++ (codes ", a_rwnd " ++ (decimal a_rwnd
+    ++ (codes ", outbound streams " ++ (decimal outbound
+    ++ (codes ", inbound streams " ++ (decimal inbound
+    ++ (codes ", initial tsn " ++ (decimal tsn ++ codes "\n"))))))))))
+
 abbrev pub init_lines : List ℕ → ℕ → init.Tree → List ℕ
 init_lines name most i =
-    name ++ codes ": tag " ++ hex32 i.tag ++ codes ", a_rwnd " ++ decimal i.window
-    ++ codes ", outbound streams " ++ decimal i.outbound
-    ++ codes ", inbound streams " ++ decimal i.inbound
-    ++ codes ", initial tsn " ++ decimal i.tsn ++ codes "\n"
+    init_line name i.tag i.window i.outbound i.inbound i.tsn
     ++ flat_map (parameter_lines most) i.parameters
 
 -- ---- FORWARD-TSN (RFC 3758 section 3.2) and I-FORWARD-TSN (RFC 8260 section 2.3.1)

@@ -19,13 +19,14 @@ abbrev pub checksum_line : ℕ → ℕ → List ℕ
 checksum_line field word =
     codes "checksum " ++ hex32 field ++ codes ": " ++ verdict field word ++ codes "\n"
 
-abbrev pub header_lines : ℕ → PacketTree → List ℕ
-header_lines word p =
-    codes "source " ++ decimal p.meaning.source
-    ++ codes ", destination " ++ decimal p.meaning.destination
-    ++ codes ", tag " ++ hex32 p.meaning.tag ++ codes "\n"
-    ++ checksum_line p.checksum word
+-- both ports and the tag
+abbrev pub header_line : ℕ → ℕ → ℕ → List ℕ
+header_line source destination tag =
+    codes "source " ++ decimal source ++ codes ", destination " ++ decimal destination
+    ++ codes ", tag " ++ hex32 tag ++ codes "\n"
 
 -- `word` is the expected checksum field, and `most` bounds how many bytes of a value are shown
 abbrev pub packet_lines : ℕ → ℕ → PacketTree → List ℕ
-packet_lines word most p = header_lines word p ++ flat_map (chunk_lines most) p.meaning.chunks
+packet_lines word most p =
+    header_line p.meaning.source p.meaning.destination p.meaning.tag
+    ++ checksum_line p.checksum word ++ flat_map (chunk_lines most) p.meaning.chunks

@@ -5,6 +5,7 @@ use Rattle.std.specs.Fmt.{decimal}
 use Rattle.std.specs.List.{flat_map}
 use Rattle.dcsctp_tlv.specs.Parameter as parameter
 use Rattle.dcsctp_tlv.specs.Parameter.{ParameterTree}
+use Rattle.dcsctp_tlv.specs.OutgoingSsnResetRequest as outgoing
 use Rattle.dcsctp_tlv.specs.ReconfigurationResponse.{result_number}
 use Rattle.dcsctp_tlv.specs.declared.parameter.reconfiguration_response_parameter.ReconfigurationResponseResult.{ReconfigurationResponseResult}
 use Rattle.dcsctp_tlv.specs.declared.parameter.reconfiguration_response_parameter.ReconfigurationResponseResult.TheVariants.{SuccessNothingToDo, SuccessPerformed, Denied, ErrorWrongSSN, ErrorRequestAlreadyInProgress, ErrorBadSequenceNumber, InProgress}
@@ -15,9 +16,20 @@ use Rattle.sctp_report.specs.Bytes.{bytes_text}
 abbrev pub stream_line : ℕ → List ℕ
 stream_line stream = codes "    stream " ++ decimal stream ++ codes "\n"
 
+-- the numbers of Outgoing SSN Reset Request (RFC 6525 section 4.1)
+abbrev pub outgoing_reset_line : outgoing.Tree → List ℕ
+outgoing_reset_line r =
+    codes "  parameter 0x000d Outgoing SSN Reset Request: request " ++ (decimal r.request
+    ++ (codes ", response " ++ (decimal r.response
+    ++ (codes ", last tsn " ++ (decimal r.last_tsn ++ codes "\n")))))
+
 -- a chunk type that the sender supports (RFC 5061 section 4.2.7)
 abbrev pub chunk_type_line : ℕ → List ℕ
 chunk_type_line typ = codes "    chunk type " ++ hex8 typ ++ codes "\n"
+
+abbrev pub extensions_lines : List ℕ → List ℕ
+extensions_lines types =
+    codes "  parameter 0x8008 Supported Extensions\n" ++ flat_map chunk_type_line types
 
 -- the results by their names (RFC 6525 section 4.4)
 abbrev pub result_name : ReconfigurationResponseResult → List ℕ
@@ -41,10 +53,7 @@ parameter_lines most (parameter.HeartbeatInfo info) =
 parameter_lines most (parameter.StateCookie cookie) =
     codes "  parameter 0x0007 State Cookie: " ++ bytes_text most cookie ++ codes "\n"
 parameter_lines most (parameter.OutgoingSsnResetRequest r) =
-    codes "  parameter 0x000d Outgoing SSN Reset Request: request " ++ decimal r.request
-    ++ codes ", response " ++ decimal r.response
-    ++ codes ", last tsn " ++ decimal r.last_tsn ++ codes "\n"
-    ++ flat_map stream_line r.streams
+    outgoing_reset_line r ++ flat_map stream_line r.streams
 parameter_lines most (parameter.IncomingSsnResetRequest r) =
     codes "  parameter 0x000e Incoming SSN Reset Request: request " ++ decimal r.request
     ++ codes "\n" ++ flat_map stream_line r.streams
@@ -64,8 +73,7 @@ parameter_lines most (parameter.AddIncomingStreamsRequest r) =
     ++ codes ", new streams " ++ decimal r.new_streams ++ codes "\n"
 parameter_lines most (parameter.ZeroChecksumAcceptable method) =
     codes "  parameter 0x8001 Zero Checksum Acceptable: method " ++ decimal method ++ codes "\n"
-parameter_lines most (parameter.SupportedExtensions types) =
-    codes "  parameter 0x8008 Supported Extensions\n" ++ flat_map chunk_type_line types
+parameter_lines most (parameter.SupportedExtensions types) = extensions_lines types
 parameter_lines most parameter.ForwardTsnSupported =
     codes "  parameter 0xc000 Forward TSN Supported\n"
 parameter_lines most (parameter.Unknown u) =

@@ -38,6 +38,7 @@ impl<'a> fmt::Display for Bytes<'a> {
 #[derive(Clone, Copy)]
 pub struct Quoted<'a>(pub &'a str);
 
+#[tactic(auto, unfolding(crate::specs::Bytes::quoted_text))]
 impl<'a> fmt::Display for Quoted<'a> {
     ghost output = { λ q. Some (quoted_text q.0.now) };
 

@@ -1,8 +1,9 @@
 //! What is printed of an error cause.
 
-ghost use Rattle.std.specs.Prelude.{◌≡◌};
-ghost use Rattle.dcsctp_cause.specs.Cause.{view};
-ghost use Rattle.sctp_report.specs.Causes.{parameter_type_line, cause_name, cause_lines};
+ghost use Rattle.std.specs.Prelude.{◌≡◌, ℕ};
+ghost use Rattle.std.specs.Fmt.{WritesOnOk};
+ghost use Rattle.dcsctp_cause.specs.Cause.{CauseTree, view};
+ghost use Rattle.sctp_report.specs.Causes.{parameter_type_line, missing_lines, cause_name, cause_lines};
 
 use crate::bytes::{Bytes, Quoted};
 use crate::hexadecimal::Hex16;
@@ -11,13 +12,16 @@ use dcsctp_wire::packet::error_causes::ErrorCause;
 use std::fmt;
 
 impl Lines for ErrorCause {
-    ghost lines = { λ most c. cause_lines most (view c) };
+    ghost Tree = { CauseTree };
+
+    ghost view = { view };
+
+    ghost lines = { cause_lines };
 
     fn write_lines<W: fmt::Write>(&self, most: usize, f: &mut fmt::Formatter<W>) -> fmt::Result {
         match self {
             ErrorCause::MissingMandatoryParameter(c) => {
-                f.write_str("  cause 0x0002 Missing Mandatory Parameter\n")?;
-                write_each(&c.missing_parameters, most, f)
+                write_missing(&c.missing_parameters, most, f)
             }
             ErrorCause::UnrecognizedChunk(c) => {
                 let chunk = Bytes { bytes: &c.chunk, most };
@@ -49,12 +53,28 @@ impl Lines for ErrorCause {
 
 /// The type of a parameter that is missing.
 impl Lines for u16 {
+    ghost Tree = { ℕ };
+
+    ghost view = { λ n. n };
+
     ghost lines = { λ most typ. parameter_type_line typ };
 
     fn write_lines<W: fmt::Write>(&self, _most: usize, f: &mut fmt::Formatter<W>) -> fmt::Result {
         let typ = Hex16(*self);
         writeln!(f, "    parameter type {typ}")
     }
+}
+
+/// Writes the lines of Missing Mandatory Parameter.
+fn write_missing<W: fmt::Write>(
+    types: &[u16],
+    most: usize,
+    f: &mut fmt::Formatter<W>,
+) -> fmt::Result
+    ensures { WritesOnOk W.write_str_gives f.old result (missing_lines types.now) f.new }
+{
+    f.write_str("  cause 0x0002 Missing Mandatory Parameter\n")?;
+    write_each(types, most, f)
 }
 
 /// The name of a cause that is kept as bytes.

@@ -1,13 +1,16 @@
 //! What is printed of a chunk.
 
-ghost use Rattle.std.specs.Prelude.{◌≡◌, ℕ, if◌then◌else◌, codes};
+ghost use Rattle.std.specs.Prelude.{◌≡◌, ℕ};
 ghost use Rattle.std.specs.Fmt.{WritesOnOk};
+ghost use Rattle.std.specs.List.{flat_map};
 ghost use Rattle.dcsctp_chunk.specs.DataChunk.{view as data_view};
 ghost use Rattle.dcsctp_chunk.specs.IDataChunk.{view as i_data_view};
 ghost use Rattle.dcsctp_chunk.specs.Data.{user_data_view};
-ghost use Rattle.dcsctp_chunk.specs.SkippedStreams.{skipped_stream_view};
-ghost use Rattle.dcsctp_wire.specs.Chunk.{view};
-ghost use Rattle.sctp_report.specs.Chunks.{word_if, ppid_name, order_word, data_lines, i_data_lines, bits_text, payload_lines, ppid_or_fsn_text, block_line, duplicate_line, skipped_line, chunk_lines};
+ghost use Rattle.dcsctp_chunk.specs.SkippedStreams.{SkippedStreamTree, skipped_stream_view};
+ghost use Rattle.dcsctp_chunk.specs.Sack.{view as sack_view};
+ghost use Rattle.dcsctp_chunk.specs.declared.sack_chunk.GapAckBlock.{GapAckBlock};
+ghost use Rattle.dcsctp_wire.specs.Chunk.{ChunkTree, view};
+ghost use Rattle.sctp_report.specs.Chunks.{word_if, ppid_name, order_word, data_lines, i_data_lines, init_line, bits_text, payload_lines, ppid_or_fsn_text, sack_lines, block_line, duplicate_line, skipped_line, chunk_lines};
 
 use crate::bytes::Bytes;
 use crate::hexadecimal::{Hex8, Hex32};
@@ -19,41 +22,44 @@ use dcsctp_wire::packet::chunk::Chunk;
 use dcsctp_wire::packet::data::Data;
 use dcsctp_wire::packet::data_chunk::DataChunk;
 use dcsctp_wire::packet::idata_chunk::IDataChunk;
-use dcsctp_wire::packet::sack_chunk::GapAckBlock;
+use dcsctp_wire::packet::sack_chunk::{GapAckBlock, SackChunk};
 use std::fmt;
 
 impl Lines for Chunk {
-    ghost lines = { λ most c. chunk_lines most (view c) };
+    ghost Tree = { ChunkTree };
+
+    ghost view = { view };
+
+    ghost lines = { chunk_lines };
 
     fn write_lines<W: fmt::Write>(&self, most: usize, f: &mut fmt::Formatter<W>) -> fmt::Result {
         match self {
             Chunk::Data(c) => write_data(c, most, f),
             Chunk::Init(c) => {
-                let (tag, tsn) = (Hex32(c.initiate_tag), c.initial_tsn);
-                let (outbound, inbound) = (c.nbr_outbound_streams, c.nbr_inbound_streams);
-                let a_rwnd = c.a_rwnd;
-                writeln!(
+                write_init_line(
+                    "INIT",
+                    c.initiate_tag,
+                    c.a_rwnd,
+                    c.nbr_outbound_streams,
+                    c.nbr_inbound_streams,
+                    c.initial_tsn,
                     f,
-                    "INIT: tag {tag}, a_rwnd {a_rwnd}, outbound streams {outbound}, inbound streams {inbound}, initial tsn {tsn}"
                 )?;
                 write_each(&c.parameters, most, f)
             }
             Chunk::InitAck(c) => {
-                let (tag, tsn) = (Hex32(c.initiate_tag), c.initial_tsn);
-                let (outbound, inbound) = (c.nbr_outbound_streams, c.nbr_inbound_streams);
-                let a_rwnd = c.a_rwnd;
-                writeln!(
+                write_init_line(
+                    "INIT ACK",
+                    c.initiate_tag,
+                    c.a_rwnd,
+                    c.nbr_outbound_streams,
+                    c.nbr_inbound_streams,
+                    c.initial_tsn,
                     f,
-                    "INIT ACK: tag {tag}, a_rwnd {a_rwnd}, outbound streams {outbound}, inbound streams {inbound}, initial tsn {tsn}"
                 )?;
                 write_each(&c.parameters, most, f)
             }
-            Chunk::Sack(c) => {
-                let (tsn, a_rwnd) = (c.cumulative_tsn_ack, c.a_rwnd);
-                writeln!(f, "SACK: cumulative tsn {tsn}, a_rwnd {a_rwnd}")?;
-                write_each(&c.gap_ack_blocks, most, f)?;
-                write_each(&c.duplicate_tsns, most, f)
-            }
+            Chunk::Sack(c) => write_sack(c, most, f),
             Chunk::HeartbeatRequest(c) => {
                 f.write_str("HEARTBEAT\n")?;
                 write_each(&c.parameters, most, f)
@@ -107,6 +113,51 @@ impl Lines for Chunk {
             }
         }
     }
+}
+
+/// Writes the line of an INIT or an INIT ACK.
+fn write_init_line<W: fmt::Write>(
+    name: &str,
+    tag: u32,
+    a_rwnd: u32,
+    outbound: u16,
+    inbound: u16,
+    tsn: Tsn,
+    f: &mut fmt::Formatter<W>,
+) -> fmt::Result
+    ensures { WritesOnOk W.write_str_gives f.old result
+        (init_line name.now tag a_rwnd outbound inbound tsn.0) f.new }
+{
+    let tag = Hex32(tag);
+    writeln!(
+        f,
+        "{name}: tag {tag}, a_rwnd {a_rwnd}, outbound streams {outbound}, inbound streams {inbound}, initial tsn {tsn}"
+    )
+}
+
+/// Writes the lines of a SACK.
+fn write_sack<W: fmt::Write>(
+    c: &SackChunk,
+    most: usize,
+    f: &mut fmt::Formatter<W>,
+) -> fmt::Result
+    ensures { WritesOnOk W.write_str_gives f.old result (sack_lines (sack_view c.now)) f.new }
+{
+    let (tsn, a_rwnd) = (c.cumulative_tsn_ack, c.a_rwnd);
+    writeln!(f, "SACK: cumulative tsn {tsn}, a_rwnd {a_rwnd}")?;
+    write_blocks(&c.gap_ack_blocks, most, f)?;
+    write_each(&c.duplicate_tsns, most, f)
+}
+
+/// Writes the lines of gap ack blocks.
+fn write_blocks<W: fmt::Write>(
+    blocks: &[GapAckBlock],
+    most: usize,
+    f: &mut fmt::Formatter<W>,
+) -> fmt::Result
+    ensures { WritesOnOk W.write_str_gives f.old result (flat_map block_line blocks.now) f.new }
+{
+    write_each(blocks, most, f)
 }
 
 /// Writes the lines of a DATA.
@@ -218,6 +269,10 @@ fn ppid_name(ppid: PpId) -> &'static str
 
 /// A gap ack block of a SACK.
 impl Lines for GapAckBlock {
+    ghost Tree = { GapAckBlock };
+
+    ghost view = { λ b. b };
+
     ghost lines = { λ most b. block_line b };
 
     fn write_lines<W: fmt::Write>(&self, _most: usize, f: &mut fmt::Formatter<W>) -> fmt::Result {
@@ -228,7 +283,11 @@ impl Lines for GapAckBlock {
 
 /// A duplicate TSN of a SACK.
 impl Lines for Tsn {
-    ghost lines = { λ most tsn. duplicate_line tsn.0 };
+    ghost Tree = { ℕ };
+
+    ghost view = { λ tsn. tsn.0 };
+
+    ghost lines = { λ most tsn. duplicate_line tsn };
 
     fn write_lines<W: fmt::Write>(&self, _most: usize, f: &mut fmt::Formatter<W>) -> fmt::Result {
         let tsn = self.0;
@@ -238,7 +297,11 @@ impl Lines for Tsn {
 
 /// A stream that is skipped.
 impl Lines for SkippedStream {
-    ghost lines = { λ most s. skipped_line (skipped_stream_view s) };
+    ghost Tree = { SkippedStreamTree };
+
+    ghost view = { skipped_stream_view };
+
+    ghost lines = { λ most s. skipped_line s };
 
     fn write_lines<W: fmt::Write>(&self, _most: usize, f: &mut fmt::Formatter<W>) -> fmt::Result {
         match self {

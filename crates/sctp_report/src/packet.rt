@@ -1,15 +1,16 @@
 //! A packet, its checksum field, and a chunk, as text.
 
 ghost use Rattle.std.specs.Prelude.{Some};
+ghost use Rattle.std.specs.Fmt.{WritesOnOk};
 ghost use Rattle.dcsctp_wire.specs.Chunk.{view};
 ghost use Rattle.dcsctp_wire.specs.Packet.{packet_view};
 ghost use Rattle.sctp_report.specs.Chunks.{chunk_lines};
-ghost use Rattle.sctp_report.specs.Packet.{verdict, packet_lines};
+ghost use Rattle.sctp_report.specs.Packet.{verdict, checksum_line, header_line, packet_lines};
 
 use crate::hexadecimal::Hex32;
 use crate::lines::{Lines, write_each};
 use dcsctp_wire::packet::chunk::Chunk;
-use dcsctp_wire::packet::sctp_packet::SctpPacket;
+use dcsctp_wire::packet::sctp_packet::{CommonHeader, SctpPacket};
 use std::fmt;
 
 /// All that a packet holds, as lines that end with a line break (RFC 9260 section 3).
@@ -28,14 +29,32 @@ impl<'a> fmt::Display for PacketReport<'a> {
 
     fn fmt<W: fmt::Write>(&self, f: &mut fmt::Formatter<W>) -> fmt::Result {
         let header = &self.packet.common_header;
-        let (source, destination) = (header.source_port, header.destination_port);
-        let tag = Hex32(header.verification_tag);
-        writeln!(f, "source {source}, destination {destination}, tag {tag}")?;
-        let field = header.checksum;
-        let (shown, verdict) = (Hex32(field), ChecksumReport { field, word: self.word });
-        writeln!(f, "checksum {shown}: {verdict}")?;
+        write_header(header, f)?;
+        write_checksum(header.checksum, self.word, f)?;
         write_each(&self.packet.chunks, self.most, f)
     }
+}
+
+/// Writes the line of both ports and the tag.
+fn write_header<W: fmt::Write>(header: &CommonHeader, f: &mut fmt::Formatter<W>) -> fmt::Result
+    ensures { WritesOnOk W.write_str_gives f.old result (header_line header.now.source_port
+        header.now.destination_port header.now.verification_tag) f.new }
+{
+    let (source, destination) = (header.source_port, header.destination_port);
+    let tag = Hex32(header.verification_tag);
+    writeln!(f, "source {source}, destination {destination}, tag {tag}")
+}
+
+/// Writes the line of a checksum field.
+fn write_checksum<W: fmt::Write>(
+    field: u32,
+    word: u32,
+    f: &mut fmt::Formatter<W>,
+) -> fmt::Result
+    ensures { WritesOnOk W.write_str_gives f.old result (checksum_line field word) f.new }
+{
+    let (shown, verdict) = (Hex32(field), ChecksumReport { field, word });
+    writeln!(f, "checksum {shown}: {verdict}")
 }
 
 /// What is said of a checksum field: that it is right, zero, or wrong, and then what was expected.

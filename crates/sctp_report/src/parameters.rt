@@ -1,22 +1,28 @@
 //! What is printed of a parameter.
 
-ghost use Rattle.std.specs.Prelude.{◌≡◌, Some};
+ghost use Rattle.std.specs.Prelude.{◌≡◌, ℕ};
 ghost use Rattle.std.specs.Fmt.{WritesOnOk};
-ghost use Rattle.dcsctp_tlv.specs.Parameter.{view};
+ghost use Rattle.dcsctp_tlv.specs.Parameter.{ParameterTree, view};
+ghost use Rattle.dcsctp_tlv.specs.OutgoingSsnResetRequest.{view as outgoing_reset_view};
 ghost use Rattle.dcsctp_tlv.specs.ReconfigurationResponse.{tsn_number};
-ghost use Rattle.sctp_report.specs.Parameters.{stream_line, chunk_type_line, result_name, next_tsn_line, parameter_lines};
+ghost use Rattle.sctp_report.specs.Parameters.{stream_line, chunk_type_line, result_name, next_tsn_line, extensions_lines, outgoing_reset_line, parameter_lines};
 
 use crate::bytes::Bytes;
 use crate::hexadecimal::{Hex8, Hex16};
 use crate::lines::{Lines, write_each};
 use dcsctp_types::api::StreamId;
 use dcsctp_types::types::Tsn;
+use dcsctp_wire::packet::outgoing_ssn_reset_request_parameter::OutgoingSsnResetRequestParameter;
 use dcsctp_wire::packet::parameter::Parameter;
 use dcsctp_wire::packet::reconfiguration_response_parameter::ReconfigurationResponseResult;
 use std::fmt;
 
 impl Lines for Parameter {
-    ghost lines = { λ most p. parameter_lines most (view p) };
+    ghost Tree = { ParameterTree };
+
+    ghost view = { view };
+
+    ghost lines = { parameter_lines };
 
     fn write_lines<W: fmt::Write>(&self, most: usize, f: &mut fmt::Formatter<W>) -> fmt::Result {
         match self {
@@ -29,12 +35,7 @@ impl Lines for Parameter {
                 writeln!(f, "  parameter 0x0007 State Cookie: {cookie}")
             }
             Parameter::OutgoingSsnResetRequest(p) => {
-                let (request, response) = (p.request_seq_nbr, p.response_seq_nbr);
-                let tsn = p.sender_last_assigned_tsn;
-                writeln!(
-                    f,
-                    "  parameter 0x000d Outgoing SSN Reset Request: request {request}, response {response}, last tsn {tsn}"
-                )?;
+                write_outgoing_reset(p, f)?;
                 write_each(&p.streams, most, f)
             }
             Parameter::IncomingSsnResetRequest(p) => {
@@ -74,10 +75,7 @@ impl Lines for Parameter {
                 let method = p.method.0;
                 writeln!(f, "  parameter 0x8001 Zero Checksum Acceptable: method {method}")
             }
-            Parameter::SupportedExtensions(p) => {
-                f.write_str("  parameter 0x8008 Supported Extensions\n")?;
-                write_each(&p.chunk_types, most, f)
-            }
+            Parameter::SupportedExtensions(p) => write_extensions(&p.chunk_types, most, f),
             Parameter::ForwardTsnSupported(_) => {
                 f.write_str("  parameter 0xc000 Forward TSN Supported\n")
             }
@@ -91,7 +89,11 @@ impl Lines for Parameter {
 
 /// A stream of a reset request.
 impl Lines for StreamId {
-    ghost lines = { λ most id. stream_line id.0 };
+    ghost Tree = { ℕ };
+
+    ghost view = { λ id. id.0 };
+
+    ghost lines = { λ most stream. stream_line stream };
 
     fn write_lines<W: fmt::Write>(&self, _most: usize, f: &mut fmt::Formatter<W>) -> fmt::Result {
         let stream = self.0;
@@ -101,12 +103,44 @@ impl Lines for StreamId {
 
 /// A chunk type that the sender supports.
 impl Lines for u8 {
+    ghost Tree = { ℕ };
+
+    ghost view = { λ n. n };
+
     ghost lines = { λ most typ. chunk_type_line typ };
 
     fn write_lines<W: fmt::Write>(&self, _most: usize, f: &mut fmt::Formatter<W>) -> fmt::Result {
         let typ = Hex8(*self);
         writeln!(f, "    chunk type {typ}")
     }
+}
+
+/// Writes the line of Outgoing SSN Reset Request.
+fn write_outgoing_reset<W: fmt::Write>(
+    p: &OutgoingSsnResetRequestParameter,
+    f: &mut fmt::Formatter<W>,
+) -> fmt::Result
+    ensures { WritesOnOk W.write_str_gives f.old result
+        (outgoing_reset_line (outgoing_reset_view p.now)) f.new }
+{
+    let (request, response) = (p.request_seq_nbr, p.response_seq_nbr);
+    let tsn = p.sender_last_assigned_tsn;
+    writeln!(
+        f,
+        "  parameter 0x000d Outgoing SSN Reset Request: request {request}, response {response}, last tsn {tsn}"
+    )
+}
+
+/// Writes the lines of Supported Extensions.
+fn write_extensions<W: fmt::Write>(
+    types: &[u8],
+    most: usize,
+    f: &mut fmt::Formatter<W>,
+) -> fmt::Result
+    ensures { WritesOnOk W.write_str_gives f.old result (extensions_lines types.now) f.new }
+{
+    f.write_str("  parameter 0x8008 Supported Extensions\n")?;
+    write_each(types, most, f)
 }
 
 /// Writes a next TSN, where there is one.

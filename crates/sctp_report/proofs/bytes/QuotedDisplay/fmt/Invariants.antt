@@ -6,5 +6,5 @@ use Rattle.sctp_report.specs.Bytes.{printed_byte}
 use Rattle.sctp_report.proofs.bytes.QuotedDisplay.fmt.Given as goal
 
 abbrev pub invariant-loop-byte : goal.invariant-loop-byte
-invariant-loop-byte g l = IsPlainFormatter l.fn.f.now
-    → HasWritten g.W.Write.write_str_gives l.fn.f.now (34 ∷ flat_map printed_byte (take l.byte-index l.byte-items)) l.f
+invariant-loop-byte g l = IsPlainFormatter l.fn.f
+    → HasWritten g.W.Write.write_str_gives l.fn.f (34 ∷ flat_map printed_byte (take l.byte-index l.byte-items)) l.f
