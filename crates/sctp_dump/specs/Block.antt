@@ -31,10 +31,10 @@ unless hidden text = if hidden then [] else text
 pub data Block (o : Options) (seen : Seen) (bytes : List ℕ) (text : List ℕ) : Type 0 where
   accepted : (p : PacketTree) → Answer bytes (packet_word bytes) (policy_of o) (Ok p)
       → text ≡ unless (o.summary || o.faults)
-          (seen_lines seen ++ packet_lines (packet_word bytes) (most_shown o) p ++ codes "\n")
+      (seen_lines seen ++ packet_lines (packet_word bytes) (most_shown o) p ++ codes "\n")
       → Block o seen bytes text
   refused : (e : PacketFault) (offset : ℕ)
       → HasPacketFaultAt bytes (packet_word bytes) (policy_of o) e offset
       → text ≡ unless o.summary
-          (seen_lines seen ++ fault_lines bytes (packet_error_of e) offset ++ codes "\n")
+      (seen_lines seen ++ fault_lines bytes (packet_error_of e) offset ++ codes "\n")
       → Block o seen bytes text

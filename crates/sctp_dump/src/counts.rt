@@ -69,7 +69,7 @@ impl Counts {
     }
 
     /// Returns the number of packets.
-    pub fn packets(&self) -> u64 {
+    fn packets(&self) -> u64 {
         self.accepted.saturating_add(self.refused())
     }
 
@@ -139,7 +139,11 @@ impl Counts {
 }
 
 /// Adds the last line, and before it a line for each kind of chunk where counts alone are printed.
-pub fn push_counts(options: &Options, counts: &Counts, text: &mut String) -> Result<(), AllocError> {
+pub fn push_counts(
+    options: &Options,
+    counts: &Counts,
+    text: &mut String,
+) -> Result<(), AllocError> {
     if options.summary {
         counts.push_kinds(text)?;
     }
@@ -152,14 +156,14 @@ impl fmt::Display for Counts {
         let (size, length, padding, value) = (self.size, self.length, self.padding, self.value);
         write!(
             f,
-            "{packets} packets: {accepted} accepted, {refused} refused (size {size}, length {length}, padding {padding}, value {value})"
+            "packets {packets}: accepted {accepted}, refused {refused} (size {size}, length {length}, padding {padding}, value {value})"
         )?;
         let skipped = self.skipped();
         let (others, fragments, cut) = (self.others, self.fragments, self.cut);
         let (malformed, long, unknown) = (self.malformed, self.long, self.unknown);
         write!(
             f,
-            "; {skipped} skipped (not SCTP {others}, fragment {fragments}, cut {cut}, malformed {malformed}, too long {long}, unknown {unknown})"
+            "; skipped {skipped} (not SCTP {others}, fragment {fragments}, cut {cut}, malformed {malformed}, too long {long}, unknown {unknown})"
         )
     }
 }

@@ -46,7 +46,10 @@ impl fmt::Display for Failure {
             Failure::NotPcap => "not a pcap file",
             Failure::ShortHeader => "ends in the file header",
             Failure::LinkType(link_type) => {
-                return write!(f, "link type {link_type} isn't read (1, 101, 113 and 248 are)");
+                return write!(
+                    f,
+                    "link type {link_type} isn't read (1, 101, 113 and 248 are)"
+                );
             }
         };
         f.write_str(text)

@@ -26,7 +26,9 @@ use watched_io::window::Window;
 
 /// The statuses: all packets were accepted; some were refused; the program couldn't do its work.
 const ACCEPTED: u8 = 0;
+
 const REFUSED: u8 = 1;
+
 const FAILED: u8 = 2;
 
 fn main(rt: HostRuntime) -> ExitCode {
@@ -96,7 +98,11 @@ fn dump_all(rt: &HostRuntime, request: &Request<'_>) -> Result<u8, Failure> {
         );
         failed = is_over(rt, None, outcome)?;
     }
+    let names_files = request.files.len() > 1 && !request.options.summary;
     for name in &request.files {
+        if names_files {
+            writeln!(&mut output.text, "file {name}")?;
+        }
         let outcome = dump_file(rt, name, request, &mut window, &mut output, &mut counts);
         failed |= is_over(rt, Some(name), outcome)?;
     }

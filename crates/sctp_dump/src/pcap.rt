@@ -114,14 +114,7 @@ fn skip_record<W: Write>(
     output: &mut Output<W>,
     counts: &mut Counts,
 ) -> Result<(), AllocError> {
-    push_skipped(
-        options,
-        Part::Record,
-        number,
-        why,
-        &mut output.text,
-        counts,
-    )
+    push_skipped(options, Part::Record, number, why, &mut output.text, counts)
 }
 
 /// Adds the text of a record.

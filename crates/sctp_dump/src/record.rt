@@ -87,17 +87,21 @@ impl fmt::Display for AddressLines {
     fn fmt<W: fmt::Write>(&self, f: &mut fmt::Formatter<W>) -> fmt::Result {
         match self.0 {
             None => Ok(()),
-            Some(Addresses::V4 {
-                source,
-                destination,
-            }) => {
+            Some(
+                Addresses::V4 {
+                    source,
+                    destination,
+                },
+            ) => {
                 let (source, destination) = (Ipv4Addr::from(source), Ipv4Addr::from(destination));
                 writeln!(f, "from {source} to {destination}")
             }
-            Some(Addresses::V6 {
-                source,
-                destination,
-            }) => {
+            Some(
+                Addresses::V6 {
+                    source,
+                    destination,
+                },
+            ) => {
                 let (source, destination) = (Ipv6Addr::from(source), Ipv6Addr::from(destination));
                 writeln!(f, "from {source} to {destination}")
             }

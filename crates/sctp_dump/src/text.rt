@@ -14,9 +14,7 @@ use crate::record::{Seen, Time};
 use crate::skipped::{Part, Skipped};
 use sctp_capture::frame::{link_type, packet_in};
 use sctp_capture::hex_bytes::HexBytes;
-use sctp_capture::line::{
-    DumpForm, DumpedBytes, Line, LoggedPacket, Place, place_of, read_line,
-};
+use sctp_capture::line::{DumpForm, DumpedBytes, Line, LoggedPacket, Place, place_of, read_line};
 use std::alloc::{AllocError, Global};
 use std::io::{Read, Write};
 use std::str;
@@ -36,6 +34,8 @@ struct Dump {
     form: Option<DumpForm>,
     /// The number of its first line.
     first_line: u64,
+    /// The number of packets of this text so far.
+    packets: u64,
 }
 
 /// Prints the packets of a text.
@@ -51,6 +51,7 @@ pub fn dump_text<R: Read, W: Write>(
         bytes: Vec::new(alloc),
         form: None,
         first_line: 0,
+        packets: 0,
     };
     for number in 1..u64::MAX {
         match find_line(window, input, output)? {
@@ -61,14 +62,7 @@ pub fn dump_text<R: Read, W: Write>(
             Found::TooLong => {
                 push_dump(alloc, options, &mut dump, &mut output.text, counts)?;
                 let text = &mut output.text;
-                push_skipped(
-                    options,
-                    Part::Line,
-                    number,
-                    Skipped::TooLong,
-                    text,
-                    counts,
-                )?;
+                push_skipped(options, Part::Line, number, Skipped::TooLong, text, counts)?;
                 skip_line(window, input, output)?;
             }
             Found::Line { size, feeds } => {
@@ -187,11 +181,11 @@ fn push_line(
         Line::Packet(bytes) => {
             push_dump(alloc, options, dump, text, counts)?;
             let time = Time::Unknown;
-            push_bytes(alloc, options, time, bytes, &mut dump.bytes, text, counts)
+            push_bytes(alloc, options, time, bytes, dump, text, counts)
         }
         Line::Logged(logged) => {
             push_dump(alloc, options, dump, text, counts)?;
-            push_logged(alloc, options, logged, &mut dump.bytes, text, counts)
+            push_logged(alloc, options, logged, dump, text, counts)
         }
         Line::Unknown => {
             push_dump(alloc, options, dump, text, counts)?;
@@ -205,7 +199,7 @@ fn push_logged(
     alloc: Global,
     options: &Options,
     logged: LoggedPacket<'_>,
-    room: &mut Vec<u8>,
+    dump: &mut Dump,
     text: &mut String,
     counts: &mut Counts,
 ) -> Result<(), AllocError> {
@@ -216,28 +210,29 @@ fn push_logged(
         },
         Err(_) => Time::Unknown,
     };
-    push_bytes(alloc, options, time, logged.packet, room, text, counts)
+    push_bytes(alloc, options, time, logged.packet, dump, text, counts)
 }
 
-/// Adds the text of a packet in hexadecimal, for whose bytes there is room that is left empty.
+/// Adds the text of a packet in hexadecimal. `dump` is empty before and after it.
 fn push_bytes(
     alloc: Global,
     options: &Options,
     time: Time<'_>,
     bytes: HexBytes<'_>,
-    room: &mut Vec<u8>,
+    dump: &mut Dump,
     text: &mut String,
     counts: &mut Counts,
 ) -> Result<(), AllocError> {
-    bytes.append_to(room)?;
+    bytes.append_to(&mut dump.bytes)?;
+    dump.packets = dump.packets.saturating_add(1);
     let seen = Seen {
-        number: counts.packets().saturating_add(1),
+        number: dump.packets,
         time,
         addresses: None,
         udp_ports: None,
     };
-    push_packet(alloc, options, &seen, room.as_slice(), text, counts)?;
-    room.clear();
+    push_packet(alloc, options, &seen, dump.bytes.as_slice(), text, counts)?;
+    dump.bytes.clear();
     Ok(())
 }
 
@@ -280,8 +275,8 @@ fn push_dump(
     let Some(form) = dump.form else {
         return Ok(());
     };
-    let bytes = dump.bytes.as_slice();
-    let number = counts.packets().saturating_add(1);
+    dump.packets = dump.packets.saturating_add(1);
+    let (number, bytes) = (dump.packets, dump.bytes.as_slice());
     match form {
         DumpForm::Xxd => {
             let seen = Seen {
