@@ -1,8 +1,9 @@
 -- What the program answers an input with: a text and a status.
 use Rattle.std.specs.Prelude.{◌≡◌, ◌↔◌, ◌≤◌, ◌<◌, ◌⊎◌, ℕ, ◌||◌, ◌==◌, Bool, true, false, not, List, ◌++◌, length, take, codes, Option, Some, Result, Ok, Err, IsErr, IfSome}
 use Rattle.std.specs.List.{filter}
-use Rattle.std.specs.Io.{StartsWith}
 use Rattle.std.specs.Io.KnownBytes.{Consumes, Appends}
+use Rattle.watched_io.specs.Watched.{Change}
+use Rattle.watched_io.specs.Transfer.{TakesAtMost, AppendsBeginning}
 use Rattle.hex.specs.Hex.{decode_of, encode_lower}
 use Rattle.dcsctp_wire.specs.declared.packet.sctp_packet.ChecksumPolicy.{ChecksumPolicy}
 use Rattle.dcsctp_wire.specs.Packet.{Meaning, PacketTree, PacketFault, Size, Checksum, Chunk, Answer}
@@ -91,10 +92,6 @@ MayAnswer strict false known left answer =
     ⊎ ((input : List ℕ) × IfSome known (λ all. input ≡ all)
     × Consumes known left (take 200001 input) × Shows strict input answer)
 
--- at most `most` bytes were taken from the reader
-abbrev pub TakesAtMost : ℕ → Option (List ℕ) → Option (List ℕ) → Type 0
-TakesAtMost most old new = (taken : List ℕ) × (length taken ≤ most) × Consumes old new taken
-
 -- the run wrote the whole answer after what the writer held, and has its status
 abbrev pub Writes : List ℕ × ℕ → ℕ → Option (List ℕ) → Option (List ℕ) → Type 0
 Writes answer status old new = (status ≡ answer.1) × Appends old new answer.0
@@ -102,16 +99,7 @@ Writes answer status old new = (status ≡ answer.1) × Appends old new answer.0
 -- the run wrote a beginning of the answer after what the writer held, and has status 2
 abbrev pub WritesBeginning : List ℕ × ℕ → ℕ → Option (List ℕ) → Option (List ℕ) → Type 0
 WritesBeginning answer status old new =
-    (status ≡ 2) × (written : List ℕ) × StartsWith answer.0 written × Appends old new written
-
--- a device before and after a run: whether it had failed, whether all that was written to it is
--- flushed, and what is known of its bytes
-pub record Change : Type 0 where
-  pub began_failed : Bool
-  pub failed : Bool
-  pub flushed : Bool
-  pub old : Option (List ℕ)
-  pub new : Option (List ℕ)
+    (status ≡ 2) × AppendsBeginning old new answer.0
 
 -- what a run did, of either program: to its reader, its writer, and its status
 pub record Runs (strict : Bool) (input output : Change) (result : ℕ) : Type 0 where

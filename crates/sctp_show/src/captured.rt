@@ -5,8 +5,8 @@ ghost use Rattle.sctp_show.specs.Show.{MayShow, Shows, out_of_memory};
 ghost use Rattle.sctp_show.specs.Captured.{captured};
 
 use crate::engine::show;
-use crate::watched::Watched;
 use std::alloc::{AllocError, Global};
+use watched_io::watched::Watched;
 
 /// What a run wrote, and its status.
 #[derive(Drop)]

@@ -1,16 +1,18 @@
 //! The program over a reader and a writer, either of which may fail.
-ghost use Rattle.std.specs.Prelude.{◌≡◌, ◌||◌, ◌⊎◌, ◌↔◌, ◌<◌, ◌≤◌, true, false, is_err, take, length, IfOk, IfErr, IfSome, OnErr};
-ghost use Rattle.std.specs.Io.KnownBytes.{Consumes, IsAtEnd};
+ghost use Rattle.std.specs.Prelude.{◌≡◌, ◌⊎◌, ◌↔◌, ◌<◌, ◌≤◌, true, false, take, length, IfOk, IfErr, IfSome, OnErr};
+ghost use Rattle.std.specs.Io.KnownBytes.{Consumes};
 ghost use Rattle.dcsctp_wire.specs.Frame.{lenient};
-ghost use Rattle.sctp_show.specs.Watched.{device_of, has_failed, is_flushed, change};
-ghost use Rattle.sctp_show.specs.Show.{TakesAtMost, MayAnswer, Writes, WritesBeginning, Runs};
+ghost use Rattle.watched_io.specs.Watched.{device_of, has_failed, is_flushed, change};
+ghost use Rattle.watched_io.specs.Transfer.{TakesAtMost};
+ghost use Rattle.sctp_show.specs.Show.{MayAnswer, Writes, WritesBeginning, Runs};
 ghost use Rattle.sctp_show.specs.Reply.{reply_of};
 
 use crate::answer::{MOST_BYTES, answer_to};
 use crate::failure::Failure;
-use crate::watched::Watched;
 use std::alloc::Global;
 use std::io::{Read, Write};
+use watched_io::transfer::{fill, write_bytes};
+use watched_io::watched::Watched;
 
 // A longer input is known by one byte too many.
 const MOST_READ: usize = MOST_BYTES + 1;
@@ -78,32 +80,13 @@ fn read_input<R: Read>(alloc: Global, input: &mut Watched<R>) -> Result<Vec<u8>,
     ensures memory { IfErr result (λ e. (e ≡ Failure.Read) ⊎ (e ≡ Failure.OutOfMemory)) }
 {
     let mut bytes = vec![in alloc; 0; MOST_READ]?;
-    let filled = fill(input, bytes.as_mut_slice())?;
-    bytes.truncate(filled);
-    Ok(bytes)
-}
-
-/// Reads into `room` from its front on, until it is full or the input at its end.
-fn fill<R: Read>(input: &mut Watched<R>, room: &mut [u8]) -> Result<usize, Failure>
-    ensures within { IfOk result (λ n. n ≤ length room.new) }
-    ensures read { IfOk result (λ n. Consumes (R.remaining (device_of input.old))
-        (R.remaining (device_of input.new)) (take n room.new)) }
-    ensures end { IfOk result (λ n. n < length room.new
-        → IsAtEnd (R.remaining (device_of input.new))) }
-    ensures none_lost { OnErr result (TakesAtMost (length room.old)
-        (R.remaining (device_of input.old)) (R.remaining (device_of input.new))) }
-    ensures failed { has_failed input.new ≡ (has_failed input.old || is_err result) }
-    ensures fault { IfErr result (λ e. e ≡ Failure.Read) }
-{
-    let mut filled = 0;
-    while filled < room.len() {
-        match input.read(&mut room[filled..]) {
-            Ok(0) => break,
-            Ok(count) => filled += count,
-            Err(_) => return Err(Failure::Read),
+    match fill(input, bytes.as_mut_slice()) {
+        Ok(filled) => {
+            bytes.truncate(filled);
+            Ok(bytes)
         }
+        Err(_) => Err(Failure::Read),
     }
-    Ok(filled)
 }
 
 /// Writes the reply and answers its status, or 2 where the output failed.
@@ -135,13 +118,8 @@ fn print<W: Write>(output: &mut Watched<W>, text: &[u8], status: u8) -> u8
         (W.contents (device_of output.old)) (W.contents (device_of output.new)) }
     ensures flushed { has_failed output.new ≡ false → is_flushed output.new ≡ true }
 {
-    let mut written = 0;
-    while written < text.len() {
-        match output.write(&text[written..]) {
-            Ok(0) => return 2,
-            Ok(count) => written += count,
-            Err(_) => return 2,
-        }
+    if write_bytes(output, text).is_err() {
+        return 2;
     }
     match output.flush() {
         Ok(()) => status,

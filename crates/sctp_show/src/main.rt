@@ -8,12 +8,11 @@ mod failure;
 #[cfg(test)]
 mod tests;
 mod text;
-mod watched;
 
 use crate::engine::show;
-use crate::watched::Watched;
 use std::io;
 use std::process::ExitCode;
+use watched_io::watched::Watched;
 
 fn main(rt: HostRuntime) -> ExitCode {
     let mut input = Watched::new(rt.reader());

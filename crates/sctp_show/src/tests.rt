@@ -1,7 +1,5 @@
 //! The program over texts, and over devices in memory, each of whose calls can be made to give out.
 
-ghost use Rattle.std.specs.Prelude.{◌≡◌, IfOk};
-
 mod answers;
 mod captures;
 mod devices;
@@ -12,10 +10,9 @@ mod strict;
 
 use crate::captured::show_captured;
 use crate::engine::{show, show_strict};
-use crate::watched::Watched;
 use std::alloc::Global;
-use std::io;
-use std::io::{ErrorKind, Read, Write};
+use watched_io::faulty::{Plan, Sink, Source, steps};
+use watched_io::watched::Watched;
 
 /// A SACK that was captured, after a common header.
 const SACK: &str =
@@ -31,134 +28,6 @@ const SMALL_TEXT: &str =
     "source=5000 destination=5000 tag=16909060 checksum=0\nCOOKIE-ACK\ncanonical=1388138801020304000000000b000004\n";
 
 const READ_FAILED: &str = "error: read failed\n";
-
-/// What a device does at the call at which it gives out.
-#[derive(Clone, Copy)]
-enum Fault {
-    Error(ErrorKind),
-    Nothing,
-}
-
-/// An error after which std's own loops would call again.
-const INTERRUPTED: Fault = Fault::Error(ErrorKind::Interrupted);
-
-/// A device moves at most `step` bytes a call, and gives out at one call alone.
-#[derive(Clone, Copy)]
-struct Plan {
-    step: usize,
-    /// Calls are counted from 1, so that 0 never comes.
-    fails_at: usize,
-    fault: Fault,
-}
-
-fn fails(step: usize, fails_at: usize, fault: Fault) -> Plan {
-    Plan {
-        step,
-        fails_at,
-        fault,
-    }
-}
-
-/// A device that never gives out.
-fn steps(step: usize) -> Plan {
-    fails(step, 0, Fault::Nothing)
-}
-
-/// A read or a write that gives out.
-fn give_out(fault: Fault) -> io::Result<usize>
-    ensures { IfOk result (λ n. n ≡ 0) }
-{
-    match fault {
-        Fault::Error(kind) => Err(io::Error::from(kind)),
-        Fault::Nothing => Ok(0),
-    }
-}
-
-/// A reader of a text.
-#[derive(Drop)]
-struct Source<'a> {
-    text: &'a [u8],
-    plan: Plan,
-    reads: usize,
-    given: usize,
-}
-
-fn make_source(text: &[u8], plan: Plan) -> Source<'_> {
-    Source {
-        text,
-        plan,
-        reads: 0,
-        given: 0,
-    }
-}
-
-impl<'a> Read for Source<'a> {
-    fn read(&mut self, buf: &mut [u8]) -> io::Result<usize> {
-        self.reads = self.reads.saturating_add(1);
-        if self.reads == self.plan.fails_at {
-            return give_out(self.plan.fault);
-        }
-        let len = self.plan.step.min(buf.len());
-        let count = self.text.read(&mut buf[..len])?;
-        self.given = self.given.saturating_add(count);
-        Ok(count)
-    }
-}
-
-/// A writer that keeps no bytes, but compares them with those that are wanted.
-#[derive(Drop)]
-struct Sink<'a> {
-    /// What is still to come of the wanted bytes.
-    wanted: &'a [u8],
-    plan: Plan,
-    writes: usize,
-    flushes: usize,
-    taken: usize,
-    /// It took no other bytes than are wanted.
-    as_wanted: bool,
-}
-
-fn make_sink(wanted: &[u8], plan: Plan) -> Sink<'_> {
-    Sink {
-        wanted,
-        plan,
-        writes: 0,
-        flushes: 0,
-        taken: 0,
-        as_wanted: true,
-    }
-}
-
-impl<'a> Sink<'a> {
-    /// This call is the one that gives out.
-    fn gives_out(&self) -> bool {
-        self.writes.saturating_add(self.flushes) == self.plan.fails_at
-    }
-}
-
-impl<'a> Write for Sink<'a> {
-    fn write(&mut self, buf: &[u8]) -> io::Result<usize> {
-        self.writes = self.writes.saturating_add(1);
-        if self.gives_out() {
-            return give_out(self.plan.fault);
-        }
-        let len = self.plan.step.min(buf.len());
-        match self.wanted.strip_prefix(&buf[..len]) {
-            Some(rest) => self.wanted = rest,
-            None => self.as_wanted = false,
-        }
-        self.taken = self.taken.saturating_add(len);
-        Ok(len)
-    }
-
-    fn flush(&mut self) -> io::Result<()> {
-        self.flushes = self.flushes.saturating_add(1);
-        if self.gives_out() {
-            give_out(self.plan.fault)?;
-        }
-        Ok(())
-    }
-}
 
 /// What a run did to its devices.
 #[derive(Clone, Copy)]
@@ -177,16 +46,16 @@ struct Outcome {
 
 /// Runs the program on a text, of which these bytes are wanted.
 fn run(alloc: Global, text: &[u8], reads: Plan, wanted: &str, writes: Plan) -> Outcome {
-    let mut input = Watched::new(make_source(text, reads));
-    let mut output = Watched::new(make_sink(wanted.as_bytes(), writes));
+    let mut input = Watched::new(Source::new(text, reads));
+    let mut output = Watched::new(Sink::new(wanted.as_bytes(), writes));
     let status = show(alloc, &mut input, &mut output);
     outcome_of(status, input, output)
 }
 
 /// The same, and it looks at padding.
 fn run_strict(alloc: Global, text: &[u8], wanted: &str) -> Outcome {
-    let mut input = Watched::new(make_source(text, steps(7)));
-    let mut output = Watched::new(make_sink(wanted.as_bytes(), steps(7)));
+    let mut input = Watched::new(Source::new(text, steps(7)));
+    let mut output = Watched::new(Sink::new(wanted.as_bytes(), steps(7)));
     let status = show_strict(alloc, &mut input, &mut output);
     outcome_of(status, input, output)
 }

@@ -1,0 +1,6 @@
+//! What is printed of packets: each text is worked by hand from the layouts of the standards.
+#![tactic(auto)]
+
+mod chunks;
+mod faults;
+mod packets;

@@ -1,0 +1,143 @@
+-- What a line of text says, without its line break: a packet in hexadecimal, a packet of a log, or
+-- a part of a dump with offsets.
+use Rattle.std.specs.Prelude.{◌+◌, ◌*◌, ◌==◌, ℕ, Bool, ◌||◌, ◌&&◌, not, nat_lt, nat_le, nat_eq, List, [], ◌∷◌, if◌then◌else◌, Option, Some, None, codes, length, take, drop, fold}
+use Rattle.std.specs.List.{starts_with, list_all, position_or_len}
+use Rattle.std.specs.Char.{is_ascii_digit, is_ascii_hexdigit, digit_value}
+use Rattle.sctp_capture.specs.Number.{byte_at}
+use Rattle.sctp_capture.specs.HexBytes.{is_blank, without_blanks_before, hex_bytes}
+use Rattle.sctp_capture.specs.declared.line.Direction.{Direction}
+use Rattle.sctp_capture.specs.declared.line.Direction.TheVariants.{Incoming, Outgoing}
+use Rattle.sctp_capture.specs.declared.line.DumpForm.{DumpForm}
+use Rattle.sctp_capture.specs.declared.line.DumpForm.TheVariants.{Xxd, Tcpdump}
+use Rattle.sctp_capture.specs.declared.line.Line.{Line}
+use Rattle.sctp_capture.specs.declared.line.Line.TheVariants.{Blank, Comment, Packet, Logged, Dumped, Unknown}
+use Rattle.sctp_capture.specs.declared.line.Place.{Place}
+use Rattle.sctp_capture.specs.declared.line.Place.TheVariants.{Begins, Continues, Apart}
+
+-- ---- words
+
+-- how many bytes come before the first blank
+abbrev pub word_length : List ℕ → ℕ
+word_length text = position_or_len is_blank text
+
+abbrev pub word : List ℕ → List ℕ
+word text = take (word_length text) text
+
+-- what follows the first word and the blanks behind it
+abbrev pub after_word : List ℕ → List ℕ
+after_word text = without_blanks_before (drop (word_length text) text)
+
+-- ---- a packet
+
+abbrev pub packet_line : Option (List ℕ) → Line
+packet_line (Some bytes) = Packet bytes
+packet_line None = Unknown
+
+-- ---- a log
+
+-- a time of day is digits, colons and points
+abbrev pub is_in_time : ℕ → Bool
+is_in_time byte = is_ascii_digit byte || byte == 58 || byte == 46
+
+abbrev pub is_time : List ℕ → Bool
+is_time text = nat_lt 0 (length text) && list_all is_in_time text
+
+-- what the bytes of a log's packet end with
+abbrev pub mark : List ℕ
+mark = codes "# SCTP_PACKET"
+
+-- how many bytes come before the first `#`
+abbrev pub mark_offset : List ℕ → ℕ
+mark_offset text = position_or_len (λ byte. byte == 35) text
+
+-- the bytes before the mark
+abbrev pub marked_bytes : List ℕ → Option (List ℕ)
+marked_bytes text =
+    if starts_with nat_eq (drop (mark_offset text) text) mark
+    then hex_bytes (take (mark_offset text) text) else
+    None
+
+abbrev pub logged : Direction → List ℕ → Option (List ℕ) → Line
+logged direction time (Some bytes) =
+    Logged (record { direction = direction; time = time; packet = bytes })
+logged direction time None = Unknown
+
+-- A time, the offset 0000, and the bytes. What follows the mark is of no matter.
+abbrev pub log_line : Direction → List ℕ → Line
+log_line direction text =
+    if not (is_time (word text)) then Unknown else
+    if not (starts_with nat_eq (after_word text) (codes "0000 ")) then Unknown else
+    logged direction (word text) (marked_bytes (drop 5 (after_word text)))
+
+-- ---- a dump
+
+-- The number that digits say, the first of them the highest.
+abbrev pub hex_number : List ℕ → ℕ
+hex_number digits = fold (λ n digit. 16 * n + digit_value digit) 0 digits
+
+abbrev pub offset_length : List ℕ → ℕ
+offset_length text = position_or_len (λ byte. not (is_ascii_hexdigit byte)) text
+
+-- an offset, of one to eight digits, and a colon
+abbrev pub has_offset : List ℕ → Bool
+has_offset text =
+    nat_lt 0 (offset_length text) && nat_le (offset_length text) 8
+    && byte_at (offset_length text) text == 58
+
+-- two blanks are at this offset
+abbrev pub is_gap : List ℕ → ℕ → Bool
+is_gap text at =
+    nat_lt (at + 1) (length text)
+    && (is_blank (byte_at at text) && is_blank (byte_at (at + 1) text))
+
+-- how many bytes come before the first two blanks in a row
+unfoldable pub groups_length : List ℕ → ℕ
+groups_length [] = 0
+groups_length (a ∷ []) = 1
+groups_length (a ∷ b ∷ text) =
+    if is_blank a && is_blank b then 0 else 1 + groups_length (b ∷ text)
+
+abbrev pub is_printable : ℕ → Bool
+is_printable byte = is_blank byte || (nat_le 32 byte && nat_le byte 126)
+
+-- Groups of digits, and from the first two blanks in a row on a text that can be printed.
+abbrev pub dumped_bytes : List ℕ → Option (List ℕ)
+dumped_bytes text =
+    if list_all is_printable (drop (groups_length text) text)
+    then hex_bytes (take (groups_length text) text) else
+    None
+
+abbrev pub dumped : DumpForm → ℕ → Option (List ℕ) → Line
+dumped form offset (Some bytes) =
+    Dumped (record { form = form; offset = offset; bytes = bytes })
+dumped form offset None = Unknown
+
+abbrev pub dump_line : DumpForm → List ℕ → Line
+dump_line form text =
+    if not (has_offset text) then Unknown else
+    dumped form (hex_number (take (offset_length text) text))
+    (dumped_bytes (without_blanks_before (drop (offset_length text + 1) text)))
+
+-- ---- a line
+
+-- The forms in the order that they are tried in: each is known by its beginning.
+abbrev pub text_line : List ℕ → Line
+text_line text =
+    if length text == 0 then Blank else
+    if byte_at 0 text == 35 then Comment else
+    if starts_with nat_eq text (codes "I ")
+    then log_line Incoming (without_blanks_before (drop 2 text)) else
+    if starts_with nat_eq text (codes "O ")
+    then log_line Outgoing (without_blanks_before (drop 2 text)) else
+    if starts_with nat_eq text (codes "0x") then dump_line Tcpdump (drop 2 text) else
+    if has_offset text then dump_line Xxd text else
+    packet_line (hex_bytes text)
+
+-- blanks before a line are of no matter
+abbrev pub line_of : List ℕ → Line
+line_of line = text_line (without_blanks_before line)
+
+-- where bytes at an offset belong, behind so many bytes of a packet
+abbrev pub place_of : ℕ → ℕ → Place
+place_of offset held =
+    if offset == 0 then Begins else if offset == held then Continues else Apart

@@ -1,0 +1,336 @@
+//! Lines of text that hold packets: in hexadecimal, of a log, or of a dump with offsets.
+
+ghost use Rattle.std.specs.Prelude.{◌≡◌, ◌≤◌, ◌<◌, ◌==◌, not, All, IsTrue, length, position};
+ghost use Rattle.std.specs.Char.{is_ascii_hexdigit};
+ghost use Rattle.std.specs.List.{list_all};
+ghost use Rattle.sctp_capture.specs.HexBytes.{is_blank, hex_bytes};
+ghost use Rattle.sctp_capture.specs.Line.{line_of, text_line, packet_line, log_line, dump_line, place_of, is_in_time, is_time, word, after_word, marked_bytes, dumped_bytes, is_gap, groups_length, hex_number, offset_length, has_offset, is_printable};
+
+use crate::hex_bytes::{HexBytes, digit, is_blank, without_blanks_before};
+use crate::log_time::LogTime;
+use crate::parts::after;
+
+/// Where a logged packet went.
+#[derive(Clone, Copy, Debug, PartialEq, Eq)]
+pub enum Direction {
+    /// Received, `I`.
+    Incoming,
+    /// Sent, `O`.
+    Outgoing,
+}
+
+/// A packet of a log.
+#[derive(Clone, Debug, Drop)]
+pub struct LoggedPacket<'a> {
+    /// Whether it was received or sent.
+    pub direction: Direction,
+    /// When.
+    pub time: LogTime<'a>,
+    /// Its bytes.
+    pub packet: HexBytes<'a>,
+}
+
+/// A form of dump.
+#[derive(Clone, Copy, Debug, PartialEq, Eq)]
+pub enum DumpForm {
+    /// Of `xxd`: `00000010: 1388 1388 ..`. The bytes are those of an SCTP packet.
+    Xxd,
+    /// Of `tcpdump -x`: `0x0010:  1388 1388 ..`. The bytes are those of an IP packet.
+    Tcpdump,
+}
+
+/// A line of a dump.
+#[derive(Clone, Debug, Drop)]
+pub struct DumpedBytes<'a> {
+    /// What wrote it.
+    pub form: DumpForm,
+    /// The offset of its first byte in the packet.
+    pub offset: u32,
+    /// Its bytes.
+    pub bytes: HexBytes<'a>,
+}
+
+/// What a line says.
+#[derive(Clone, Debug, Drop)]
+pub enum Line<'a> {
+    /// Nothing, or blanks.
+    Blank,
+    /// A line that begins with `#`.
+    Comment,
+    /// A packet in hexadecimal.
+    Packet(HexBytes<'a>),
+    /// A packet of a log.
+    Logged(LoggedPacket<'a>),
+    /// A part of a dump.
+    Dumped(DumpedBytes<'a>),
+    /// Anything else.
+    Unknown,
+}
+
+/// Where the bytes of a line of a dump belong.
+#[derive(Clone, Copy, Debug, PartialEq, Eq)]
+pub enum Place {
+    /// They begin a packet.
+    Begins,
+    /// They continue the packet.
+    Continues,
+    /// They do neither.
+    Apart,
+}
+
+/// Returns where bytes at this offset belong, behind `held` bytes of a packet: at offset 0 they
+/// begin the next packet, and at offset `held` they continue this one.
+pub fn place_of(offset: u32, held: usize) -> Place
+    ensures { result ≡ place_of offset held }
+{
+    if offset == 0 {
+        Place::Begins
+    } else if offset as usize == held {
+        Place::Continues
+    } else {
+        Place::Apart
+    }
+}
+
+/// Reads a line of text, without its line feed. Blanks (spaces, tabs and carriage returns) at its
+/// beginning and its end are ignored. The forms, in the order in which they are tried, each by the
+/// line's beginning:
+///
+/// - nothing: `Blank`; `#`: `Comment`;
+/// - `I ` or `O `: `Logged`, as WebRTC logs packets for `text2pcap`:
+///   `I 12:34:56.789 0000 13 88 .. # SCTP_PACKET`; anything may follow the mark, but no other text
+///   may come before the direction;
+/// - `0x`: `Dumped`, as `tcpdump -x` and `-X` write it: an offset of one to eight digits, a colon,
+///   and groups of digits;
+/// - one to eight digits and a colon: `Dumped`, as `xxd` writes it; in both forms of dump, two
+///   blanks in a row end the bytes, and only printable ASCII may follow;
+/// - anything else: `Packet`, if it is digits, two a byte, of either case, with blanks between
+///   bytes.
+///
+/// A line that begins as one form and isn't of that form is `Unknown`.
+pub fn read_line(line: &[u8]) -> Line<'_>
+    ensures { result ≡ line_of line.now }
+{
+    read_text(without_blanks_before(line))
+}
+
+/// Reads a line that doesn't begin with a blank.
+fn read_text(text: &[u8]) -> Line<'_>
+    ensures { result ≡ text_line text.now }
+{
+    if text.is_empty() {
+        Line::Blank
+    } else if text[0] == b'#' {
+        Line::Comment
+    } else if text.starts_with(b"I ") {
+        log_line(Direction::Incoming, without_blanks_before(after(text, 2)))
+    } else if text.starts_with(b"O ") {
+        log_line(Direction::Outgoing, without_blanks_before(after(text, 2)))
+    } else if text.starts_with(b"0x") {
+        dump_line(DumpForm::Tcpdump, after(text, 2))
+    } else if has_offset(text) {
+        dump_line(DumpForm::Xxd, text)
+    } else {
+        packet_line(text)
+    }
+}
+
+/// Reads a line of digits.
+fn packet_line(text: &[u8]) -> Line<'_>
+    ensures { result ≡ packet_line (hex_bytes text.now) }
+{
+    match HexBytes::from_text(text) {
+        Some(bytes) => Line::Packet(bytes),
+        None => Line::Unknown,
+    }
+}
+
+/// Reads a line of a log behind its direction.
+fn log_line(direction: Direction, text: &[u8]) -> Line<'_>
+    ensures { result ≡ log_line direction text.now }
+{
+    let (time, rest) = first_word(text);
+    if !is_time(time) {
+        return Line::Unknown;
+    }
+    if !rest.starts_with(b"0000 ") {
+        return Line::Unknown;
+    }
+    match marked_bytes(&rest[5..]) {
+        Some(packet) => Line::Logged(LoggedPacket {
+            direction,
+            time: LogTime::new(time),
+            packet,
+        }),
+        None => Line::Unknown,
+    }
+}
+
+/// Returns the first word, and what follows the blanks behind it.
+#[tactic(auto, using(crate::proofs::Places::first_place, crate::proofs::Places::place_within))]
+fn first_word(text: &[u8]) -> (&[u8], &[u8])
+    ensures word { result.0.now ≡ word text.now }
+    ensures rest { result.1.now ≡ after_word text.now }
+{
+    let length = first_blank(text).unwrap_or(text.len());
+    (&text[..length], without_blanks_before(&text[length..]))
+}
+
+/// Returns the offset of the first blank.
+fn first_blank(text: &[u8]) -> Option<usize>
+    ensures { result ≡ position is_blank text.now }
+{
+    text.iter().position(|byte| is_blank(*byte))
+}
+
+/// Returns whether a word can be a time of day.
+fn is_time(text: &[u8]) -> bool
+    ensures { result ≡ is_time text.now }
+{
+    if text.is_empty() {
+        return false;
+    }
+    are_in_time(text)
+}
+
+/// Returns whether each byte is a digit, a colon or a point.
+fn are_in_time(text: &[u8]) -> bool
+    ensures { result ≡ list_all is_in_time text.now }
+{
+    text.iter().all(|byte| is_in_time(*byte))
+}
+
+/// Returns whether the byte is a digit, a colon or a point.
+fn is_in_time(byte: u8) -> bool
+    ensures { result ≡ is_in_time byte }
+{
+    byte.is_ascii_digit() || byte == b':' || byte == b'.'
+}
+
+/// Returns the bytes before the mark of a log.
+#[tactic(auto, using(crate::proofs::Places::first_place, crate::proofs::Places::place_within))]
+fn marked_bytes(text: &[u8]) -> Option<HexBytes<'_>>
+    ensures { result ≡ marked_bytes text.now }
+{
+    let offset = first_number_sign(text).unwrap_or(text.len());
+    if text[offset..].starts_with(b"# SCTP_PACKET") {
+        HexBytes::from_text(&text[..offset])
+    } else {
+        None
+    }
+}
+
+/// Returns the offset of the first `#`.
+fn first_number_sign(text: &[u8]) -> Option<usize>
+    ensures { result ≡ position (λ byte. byte == 35) text.now }
+{
+    text.iter().position(|byte| *byte == b'#')
+}
+
+/// Reads a line of a dump that begins with its offset.
+fn dump_line(form: DumpForm, text: &[u8]) -> Line<'_>
+    ensures { result ≡ dump_line form text.now }
+{
+    if !has_offset(text) {
+        return Line::Unknown;
+    }
+    let length = offset_length(text);
+    let offset = hex_number(&text[..length]);
+    match dumped_bytes(without_blanks_before(&text[length + 1..])) {
+        Some(bytes) => Line::Dumped(DumpedBytes {
+            form,
+            offset,
+            bytes,
+        }),
+        None => Line::Unknown,
+    }
+}
+
+/// Returns whether the text begins with one to eight digits and a colon.
+fn has_offset(text: &[u8]) -> bool
+    ensures value { result ≡ has_offset text.now }
+    ensures inside { IsTrue result → offset_length text.now < length text.now }
+    ensures short { IsTrue result → offset_length text.now ≤ 8 }
+{
+    let length = offset_length(text);
+    length > 0 && length <= 8 && length < text.len() && text[length] == b':'
+}
+
+/// Returns how many digits the text begins with.
+#[tactic(auto, using(crate::proofs::Places::first_place, crate::proofs::Places::place_within))]
+fn offset_length(text: &[u8]) -> usize
+    ensures value { result ≡ offset_length text.now }
+    ensures within { result ≤ length text.now }
+{
+    first_nondigit(text).unwrap_or(text.len())
+}
+
+/// Returns the offset of the first byte that isn't a digit.
+fn first_nondigit(text: &[u8]) -> Option<usize>
+    ensures { result ≡ position (λ byte. not (is_ascii_hexdigit byte)) text.now }
+{
+    text.iter().position(|byte| !byte.is_ascii_hexdigit())
+}
+
+/// Returns the number that at most eight digits say.
+fn hex_number(digits: &[u8]) -> u32
+    requires short { length digits.now ≤ 8 }
+    requires digits { All (λ digit. IsTrue (is_ascii_hexdigit digit)) digits.now }
+    ensures { result ≡ hex_number digits.now }
+{
+    let mut number = 0;
+    for byte in digits {
+        number = 16 * number + digit(*byte) as u32;
+    }
+    number
+}
+
+/// Returns the bytes of a line of a dump behind its offset.
+fn dumped_bytes(text: &[u8]) -> Option<HexBytes<'_>>
+    ensures { result ≡ dumped_bytes text.now }
+{
+    let length = groups_length(text);
+    if are_printable(&text[length..]) {
+        HexBytes::from_text(&text[..length])
+    } else {
+        None
+    }
+}
+
+/// Returns how many bytes come before the first two blanks in a row.
+#[tactic(auto, using(crate::proofs::Groups::groups_end, crate::proofs::Groups::groups_at_gap, crate::proofs::Groups::groups_past))]
+fn groups_length(text: &[u8]) -> usize
+    ensures value { result ≡ groups_length text.now }
+    ensures within { result ≤ length text.now }
+{
+    let mut length = 0;
+    while length < text.len() {
+        if is_gap(text, length) {
+            return length;
+        }
+        length += 1;
+    }
+    length
+}
+
+/// Returns whether two blanks are at this offset.
+fn is_gap(text: &[u8], offset: usize) -> bool
+    requires { offset < length text.now }
+    ensures { result ≡ is_gap text.now offset }
+{
+    offset + 1 < text.len() && is_blank(text[offset]) && is_blank(text[offset + 1])
+}
+
+/// Returns whether each byte is blank or can be printed.
+fn are_printable(text: &[u8]) -> bool
+    ensures { result ≡ list_all is_printable text.now }
+{
+    text.iter().all(|byte| is_printable(*byte))
+}
+
+/// Returns whether a byte is blank or can be printed.
+fn is_printable(byte: u8) -> bool
+    ensures { result ≡ is_printable byte }
+{
+    is_blank(byte) || (b' '..=b'~').contains(&byte)
+}

@@ -1,0 +1,5 @@
+pub mod Block
+pub mod Failed
+pub mod Found
+pub mod Seen
+pub mod Skip

@@ -1,0 +1,195 @@
+//! How many packets there were.
+
+ghost use Rattle.std.specs.Prelude.{◌<◌};
+
+use crate::arguments::Options;
+use crate::skipped::Skipped;
+use dcsctp_wire::packet::ChunkParseError;
+use dcsctp_wire::packet::chunk::Chunk;
+use dcsctp_wire::packet::sctp_packet::PacketParseError;
+use std::alloc::AllocError;
+use std::fmt;
+
+/// The names of the kinds of chunk, in the order of their types.
+const KINDS: [&str; 18] = [
+    "DATA",
+    "INIT",
+    "INIT ACK",
+    "SACK",
+    "HEARTBEAT",
+    "HEARTBEAT ACK",
+    "ABORT",
+    "SHUTDOWN",
+    "SHUTDOWN ACK",
+    "ERROR",
+    "COOKIE ECHO",
+    "COOKIE ACK",
+    "SHUTDOWN COMPLETE",
+    "I-DATA",
+    "RE-CONFIG",
+    "FORWARD-TSN",
+    "I-FORWARD-TSN",
+    "unknown",
+];
+
+/// How many packets, chunks and other records there were, up to 2^64 - 1 each.
+#[derive(Drop)]
+pub struct Counts {
+    accepted: u64,
+    size: u64,
+    length: u64,
+    padding: u64,
+    value: u64,
+    fragments: u64,
+    cut: u64,
+    malformed: u64,
+    long: u64,
+    unknown: u64,
+    others: u64,
+    kinds: [u64; 18],
+}
+
+impl Counts {
+    /// Returns counts of nothing.
+    pub fn new() -> Counts {
+        Counts {
+            accepted: 0,
+            size: 0,
+            length: 0,
+            padding: 0,
+            value: 0,
+            fragments: 0,
+            cut: 0,
+            malformed: 0,
+            long: 0,
+            unknown: 0,
+            others: 0,
+            kinds: [0; 18],
+        }
+    }
+
+    /// Returns the number of packets.
+    fn packets(&self) -> u64 {
+        self.accepted.saturating_add(self.refused())
+    }
+
+    /// Returns the number of packets that were refused.
+    pub fn refused(&self) -> u64 {
+        self.size
+            .saturating_add(self.length)
+            .saturating_add(self.padding)
+            .saturating_add(self.value)
+    }
+
+    /// Returns the number of records and lines that were skipped.
+    fn skipped(&self) -> u64 {
+        self.fragments
+            .saturating_add(self.cut)
+            .saturating_add(self.malformed)
+            .saturating_add(self.long)
+            .saturating_add(self.unknown)
+            .saturating_add(self.others)
+    }
+
+    /// Counts a packet with these chunks.
+    pub fn count_accepted(&mut self, chunks: &[Chunk]) {
+        self.accepted = self.accepted.saturating_add(1);
+        for chunk in chunks {
+            let kind = kind_of(chunk);
+            self.kinds[kind] = self.kinds[kind].saturating_add(1);
+        }
+    }
+
+    /// Counts a packet that was refused.
+    pub fn count_refused(&mut self, error: &PacketParseError) {
+        let count = match error {
+            PacketParseError::FailedParseChunk(ChunkParseError::InvalidPadding) => {
+                &mut self.padding
+            }
+            PacketParseError::FailedParseChunk(ChunkParseError::InvalidValue) => &mut self.value,
+            PacketParseError::FailedParseChunk(_) => &mut self.length,
+            _ => &mut self.size,
+        };
+        *count = count.saturating_add(1);
+    }
+
+    /// Counts what was skipped.
+    pub fn count_skipped(&mut self, why: Skipped) {
+        let count = match why {
+            Skipped::Fragment => &mut self.fragments,
+            Skipped::Cut | Skipped::EndsIn => &mut self.cut,
+            Skipped::Malformed => &mut self.malformed,
+            Skipped::TooLong => &mut self.long,
+            Skipped::Unknown | Skipped::Apart => &mut self.unknown,
+            Skipped::Other => &mut self.others,
+        };
+        *count = count.saturating_add(1);
+    }
+
+    /// Adds a line for each kind of chunk that there was.
+    fn push_kinds(&self, text: &mut String) -> Result<(), AllocError> {
+        for (kind, count) in self.kinds.iter().enumerate() {
+            let (name, count) = (KINDS[kind], *count);
+            if count > 0 {
+                writeln!(text, "{name}: {count}")?;
+            }
+        }
+        Ok(())
+    }
+}
+
+/// Adds the last line, and before it a line for each kind of chunk where counts alone are printed.
+pub fn push_counts(
+    options: &Options,
+    counts: &Counts,
+    text: &mut String,
+) -> Result<(), AllocError> {
+    if options.summary {
+        counts.push_kinds(text)?;
+    }
+    writeln!(text, "{counts}")
+}
+
+impl fmt::Display for Counts {
+    fn fmt<W: fmt::Write>(&self, f: &mut fmt::Formatter<W>) -> fmt::Result {
+        let (packets, accepted, refused) = (self.packets(), self.accepted, self.refused());
+        let (size, length, padding, value) = (self.size, self.length, self.padding, self.value);
+        write!(
+            f,
+            "packets {packets}: accepted {accepted}, refused {refused} (size {size}, length {length}, padding {padding}, value {value})"
+        )?;
+        let skipped = self.skipped();
+        let (others, fragments, cut) = (self.others, self.fragments, self.cut);
+        let (malformed, long, unknown) = (self.malformed, self.long, self.unknown);
+        write!(
+            f,
+            "; skipped {skipped} (not SCTP {others}, fragment {fragments}, cut {cut}, malformed {malformed}, too long {long}, unknown {unknown})"
+        )
+    }
+}
+
+/// The place of a chunk's kind in `KINDS`.
+fn kind_of(chunk: &Chunk) -> usize
+    ensures { result < 18 }
+{
+    match chunk {
+        Chunk::Data(_) => 0,
+        Chunk::Init(_) => 1,
+        Chunk::InitAck(_) => 2,
+        Chunk::Sack(_) => 3,
+        Chunk::HeartbeatRequest(_) => 4,
+        Chunk::HeartbeatAck(_) => 5,
+        Chunk::Abort(_) => 6,
+        Chunk::Shutdown(_) => 7,
+        Chunk::ShutdownAck(_) => 8,
+        Chunk::Error(_) => 9,
+        Chunk::CookieEcho(_) => 10,
+        Chunk::CookieAck(_) => 11,
+        Chunk::ShutdownComplete(_) => 12,
+        Chunk::IData(_) => 13,
+        Chunk::ReConfig(_) => 14,
+        Chunk::ForwardTsn(_) => 15,
+        Chunk::IForwardTsn(_) => 16,
+        Chunk::Unknown(_) => 17,
+    }
+}

@@ -1,0 +1,56 @@
+//! The program over a reader and a writer, either of which may fail.
+
+use crate::arguments::{Form, Options};
+use crate::counts::Counts;
+use crate::failure::Failure;
+use crate::pcap::dump_pcap;
+use crate::text::dump_text;
+use sctp_capture::pcap::{InputKind, input_kind};
+use std::alloc::Global;
+use std::io::{Read, Write};
+use watched_io::output::Output;
+use watched_io::stream::need;
+use watched_io::watched::Watched;
+use watched_io::window::Window;
+
+/// Prints the packets of an input, and counts them.
+pub fn dump<R: Read, W: Write>(
+    alloc: Global,
+    options: &Options,
+    window: &mut Window,
+    input: &mut Watched<R>,
+    output: &mut Output<W>,
+    counts: &mut Counts,
+) -> Result<(), Failure> {
+    window.clear();
+    let _ = need(window, input, output, 4)?;
+    match form_of(options.form, window.held()) {
+        Ok(true) => dump_pcap(alloc, options, window, input, output, counts),
+        Ok(false) => dump_text(alloc, options, window, input, output, counts),
+        Err(failure) => Err(failure),
+    }
+}
+
+/// Whether an input that begins with these bytes is a pcap file, or else a text.
+fn form_of(form: Form, bytes: &[u8]) -> Result<bool, Failure> {
+    match form {
+        Form::Pcap => Ok(true),
+        Form::Text => Ok(false),
+        Form::Detected => match input_kind(bytes) {
+            InputKind::Pcap(_) => Ok(true),
+            InputKind::Text => Ok(false),
+            InputKind::Pcapng => Err(Failure::Pcapng),
+        },
+    }
+}
+
+/// A text of so many bytes is written before more is added.
+const LONG: usize = 65_536;
+
+/// Writes the text if it is long.
+pub fn write_if_long<W: Write>(output: &mut Output<W>) -> Result<(), Failure> {
+    match output.write_from(LONG) {
+        Ok(()) => Ok(()),
+        Err(_) => Err(Failure::Write),
+    }
+}

@@ -1,0 +1,10 @@
+-- A quotation mark and the bytes so far are written.
+use Rattle.std.proofs.Common.{take, ◌∷◌}
+use Rattle.std.specs.Fmt.{HasWritten, IsPlainFormatter}
+use Rattle.std.specs.List.{flat_map}
+use Rattle.sctp_report.specs.Bytes.{printed_byte}
+use Rattle.sctp_report.proofs.bytes.QuotedDisplay.fmt.Given as goal
+
+abbrev pub invariant-loop-byte : goal.invariant-loop-byte
+invariant-loop-byte g l = IsPlainFormatter l.fn.f
+    → HasWritten g.W.Write.write_str_gives l.fn.f (34 ∷ flat_map printed_byte (take l.byte-index l.byte-items)) l.f

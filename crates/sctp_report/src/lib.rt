@@ -1,0 +1,16 @@
+//! All that a packet holds, as text: plain lines, a fact a line, two blanks deeper for what is inside.
+//!
+//! Each text is defined in specs/ over the packet's tree. Nothing here allocates.
+#![tactic(auto)]
+
+mod bytes;
+mod causes;
+mod chunks;
+mod fault;
+mod hexadecimal;
+mod lines;
+mod packet;
+mod parameters;
+
+pub use crate::fault::FaultReport;
+pub use crate::packet::{ChecksumReport, ChunkReport, PacketReport};

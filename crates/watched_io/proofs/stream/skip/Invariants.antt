@@ -1,0 +1,16 @@
+-- The bytes that were to be dropped are those that were, and those that are ahead.
+use Rattle.std.proofs.Common.{◌≡◌, ℕ, List, ◌+◌, ◌-◌, ◌≤◌, length}
+use Rattle.std.specs.Io.KnownBytes.{Keeps, Consumes}
+use Rattle.watched_io.specs.Watched.{device_of}
+use Rattle.watched_io.specs.Window.{held, left}
+use Rattle.watched_io.specs.Output.{total}
+use Rattle.watched_io.proofs.stream.skip.Given as goal
+
+abbrev pub invariant-loop-ahead : goal.invariant-loop-ahead
+invariant-loop-ahead g l =
+    ((dropped : List ℕ) × (length dropped + l.ahead ≡ l.count)
+    × Consumes (left l.initial.window (g.R.Read.remaining (device_of l.initial.input))) (left l.window (g.R.Read.remaining (device_of l.input))) dropped)
+    × Keeps (total g.W.Write.contents l.initial.output) (total g.W.Write.contents l.output)
+
+abbrev pub decreases-loop-ahead : goal.decreases-loop-ahead
+decreases-loop-ahead g l = l.ahead - length (held l.window)

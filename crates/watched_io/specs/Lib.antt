@@ -1,0 +1,4 @@
+pub mod Output
+pub mod Transfer
+pub mod Watched
+pub mod Window

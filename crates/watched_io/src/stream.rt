@@ -1,0 +1,106 @@
+//! Reads an input piece by piece, where what is written about it must not wait for it.
+
+ghost use Rattle.std.specs.Prelude.{◌≡◌, ◌+◌, ◌≤◌, ◌<◌, true, false, length, IfOk, OnOk, IsErrOf};
+ghost use Rattle.std.specs.Io.KnownBytes.{Keeps, IsAtEnd};
+ghost use Rattle.watched_io.specs.Transfer.{AppendsBeginning, DropsBytes};
+ghost use Rattle.watched_io.specs.Watched.{device_of};
+ghost use Rattle.watched_io.specs.Window.{held, left};
+ghost use Rattle.watched_io.specs.Output.{writer_of, pending, total};
+ghost use Rattle.watched_io.specs.declared.stream.StreamError.TheVariants.{Write};
+
+use crate::output::Output;
+use crate::watched::Watched;
+use crate::window::{MOST_KEPT, Window};
+use std::io::{Read, Write};
+
+/// The device that failed.
+#[derive(Clone, Copy, Debug, PartialEq, Eq)]
+pub enum StreamError {
+    /// A read failed.
+    Read,
+    /// A write failed, or took no byte.
+    Write,
+}
+
+/// Writes all text, since the input may be waited for, and reads once. Returns the number of bytes
+/// read, 0 at the end of the input.
+pub fn read_more<R: Read, W: Write>(
+    window: &mut Window,
+    input: &mut Watched<R>,
+    output: &mut Output<W>,
+) -> Result<usize, StreamError>
+    requires { length (held window.old) ≤ MOST_KEPT + 16 }
+    ensures size { IfOk result (λ n. length (held window.new) ≡ length (held window.old) + n) }
+    ensures end { IfOk result (λ n. n ≡ 0 → IsAtEnd (R.remaining (device_of input.new))) }
+
+    // Nothing of the input is lost, also where a device fails.
+    ensures stream { Keeps (left window.old (R.remaining (device_of input.old)))
+        (left window.new (R.remaining (device_of input.new))) }
+
+    // Nor is any text, unless a write fails: then the writer has a beginning of it.
+    ensures text { OnOk result (Keeps (total W.contents output.old) (total W.contents output.new)) }
+    ensures cut { IsErrOf result Write
+        → AppendsBeginning (W.contents (device_of (writer_of output.old)))
+        (W.contents (device_of (writer_of output.new))) (pending output.old) }
+{
+    if output.write().is_err() {
+        return Err(StreamError::Write);
+    }
+    match window.refill(input) {
+        Ok(count) => Ok(count),
+        Err(_) => Err(StreamError::Read),
+    }
+}
+
+/// Reads until the window has `count` bytes, or the input is at its end; returns whether it has.
+pub fn need<R: Read, W: Write>(
+    window: &mut Window,
+    input: &mut Watched<R>,
+    output: &mut Output<W>,
+    count: usize,
+) -> Result<bool, StreamError>
+    requires { count ≤ MOST_KEPT + 16 }
+    ensures enough { IfOk result (λ b. b ≡ true → count ≤ length (held window.new)) }
+    ensures end { IfOk result (λ b. b ≡ false
+        → (length (held window.new) < count) × IsAtEnd (R.remaining (device_of input.new))) }
+    ensures stream { Keeps (left window.old (R.remaining (device_of input.old)))
+        (left window.new (R.remaining (device_of input.new))) }
+    ensures text { OnOk result (Keeps (total W.contents output.old) (total W.contents output.new)) }
+{
+    while window.len() < count {
+        match read_more(window, input, output) {
+            Ok(0) => return Ok(false),
+            Ok(_) => {}
+            Err(error) => return Err(error),
+        }
+    }
+    Ok(true)
+}
+
+/// Drops the next `count` bytes of the input, however many they are, and returns whether it had as
+/// many.
+pub fn skip<R: Read, W: Write>(
+    window: &mut Window,
+    input: &mut Watched<R>,
+    output: &mut Output<W>,
+    count: usize,
+) -> Result<bool, StreamError>
+    ensures skipped { IfOk result (λ b. b ≡ true
+        → DropsBytes count (left window.old (R.remaining (device_of input.old)))
+        (left window.new (R.remaining (device_of input.new)))) }
+    ensures end { IfOk result (λ b. b ≡ false → IsAtEnd (R.remaining (device_of input.new))) }
+    ensures text { OnOk result (Keeps (total W.contents output.old) (total W.contents output.new)) }
+{
+    let mut ahead = count;
+    while ahead > window.len() {
+        ahead -= window.len();
+        window.clear();
+        match read_more(window, input, output) {
+            Ok(0) => return Ok(false),
+            Ok(_) => {}
+            Err(error) => return Err(error),
+        }
+    }
+    window.consume(ahead);
+    Ok(true)
+}
