@@ -1,6 +1,5 @@
 -- The code is that of the grammar's answer, and what is written is a form of the packet.
-use Rattle.std.proofs.Common.{◌≡◌, ◌∙◌, ◌<◌, ◌++◌, ◌⊎◌, ℕ, List, Option, Some, None, Result, Ok, Err, length, inl, inr, refl, sym, subst, ap}
-use Rattle.std.specs.Prelude.{IsErrOf}
+use Rattle.std.proofs.Common.{◌≡◌, ◌∙◌, ℕ, List, Result, Ok, Err, inl, inr, refl, sym, subst, ap}
 use Rattle.dcsctp_tlv.specs.Number.{AreBytes}
 use Rattle.dcsctp_tlv.specs.Reading.{Answers, Exactly, Counted}
 use Rattle.dcsctp_tlv.specs.declared.error.ChunkParseError.TheVariants.{OutOfMemory}
@@ -11,7 +10,6 @@ use Rattle.dcsctp_wire.specs.declared.packet.first_fault.FirstFault.{FirstFault}
 use Rattle.dcsctp_wire.specs.declared.packet.sctp_packet.ChecksumPolicy.{ChecksumPolicy}
 use Rattle.dcsctp_wire.specs.declared.packet.sctp_packet.PacketParseError.{PacketParseError}
 use Rattle.dcsctp_wire.specs.declared.packet.sctp_packet.PacketParseError.TheVariants.{FailedParseChunk}
-use Rattle.dcsctp_wire.specs.declared.packet.sctp_packet.SctpPacket.{SctpPacket}
 use Rattle.dcsctp_wire.proofs.PacketChecks.{packet_single}
 use Rattle.dcsctp_c.specs.Code.{fault_code, answer_code, no_memory_code, IsAnswerCode}
 use Rattle.dcsctp_c.specs.Output.{Output, Writes, written, no_memory, no_room, no_form, WritesPacket, packet, faulty}

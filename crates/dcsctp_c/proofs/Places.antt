@@ -1,6 +1,6 @@
 -- Where a chunk and what it holds lie in the bytes.
-use Rattle.std.proofs.Common.{Ok, Err, ◌≡◌, ◌≢◌, ◌+◌, ◌-◌, ◌≤◌, ◌<◌, ℕ, Bool, true, false, List, [], ◌∷◌, Option, Some, None, length, take, drop, get_or, ◌∙◌, refl, sym, ap, subst, inl, inr, arith, length-drop, length-take}
-use Rattle.std.specs.Prelude.{◌==◌, nat_le, nat_lt, if◌then◌else◌, option_map}
+use Rattle.std.proofs.Common.{Ok, Err, ◌≡◌, ◌≢◌, ◌+◌, ◌-◌, ◌≤◌, ℕ, Bool, true, false, List, [], ◌∷◌, Option, Some, None, length, take, drop, get_or, ◌∙◌, refl, sym, ap, subst, inl, inr, arith, length-drop, length-take}
+use Rattle.std.specs.Prelude.{◌==◌, nat_le, nat_lt, if◌then◌else◌}
 use Rattle.std.specs.Option.{option_and_then}
 use Rattle.std.specs.Result.{result_ok}
 use Rattle.std.proofs.lemmas.Bool.{cases_lt, le-leb, leb-true, ltb-false}
@@ -13,7 +13,7 @@ use Rattle.dcsctp_tlv.proofs.Checks.{frame_shrinks}
 use Rattle.dcsctp_chunk.specs.Data as data_kind
 use Rattle.dcsctp_chunk.specs.DataChunk as data_chunk
 use Rattle.dcsctp_chunk.specs.IDataChunk as idata_chunk
-use Rattle.dcsctp_wire.specs.Chunk.{ChunkTree, chunks, chunk_row}
+use Rattle.dcsctp_wire.specs.Chunk.{ChunkTree, chunks}
 use Rattle.dcsctp_borrowed.specs.UserData.{read_user_data, data_of}
 use Rattle.dcsctp_borrowed.proofs.DataRows.{reads_alike}
 use Rattle.dcsctp_borrowed.proofs.Fronts.{front_means, means_none}
