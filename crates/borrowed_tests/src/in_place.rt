@@ -120,7 +120,7 @@ fn count_built(alloc: Global, chunks: &[u8]) -> Result<usize, Fail> {
     )
 }
 
-const CAPTURES: &[&[u8]] = &[
+pub(crate) const CAPTURES: &[&[u8]] = &[
     DATA,
     INIT,
     HEARTBEAT,

@@ -6,4 +6,6 @@ mod in_place;
 #[cfg(test)]
 mod lists_in_place;
 #[cfg(test)]
+mod parts_in_place;
+#[cfg(test)]
 mod sack_in_place;

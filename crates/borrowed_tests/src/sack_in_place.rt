@@ -75,7 +75,7 @@ fn has_forward(alloc: Global, bytes: &[u8], wanted: &str) -> Result<bool, ChunkP
 
 /// By hand from RFC 9260 section 3.3.4: the cumulative TSN, the window, whether the blocks are in
 /// order, the blocks and the duplicates.
-const SACKS: &[(&[u8], &str)] = &[
+pub(crate) const SACKS: &[(&[u8], &str)] = &[
     // captured: two blocks that are in order, and a duplicate
     (
         SACK,
@@ -132,7 +132,7 @@ const SACKS: &[(&[u8], &str)] = &[
 
 /// By hand from RFC 3758 section 3.2 and RFC 8260 section 2.3.1: the new cumulative TSN, and the
 /// streams.
-const FORWARDS: &[(&[u8], &str)] = &[
+pub(crate) const FORWARDS: &[(&[u8], &str)] = &[
     // FORWARD-TSN: a stream id and a sequence number each
     (
         &[192, 0, 0, 16, 0, 0, 0, 5, 0, 1, 0, 2, 1, 0, 0xff, 0xff],
