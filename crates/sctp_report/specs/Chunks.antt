@@ -108,7 +108,8 @@ abbrev pub skipped_line : SkippedStreamTree → List ℕ
 skipped_line (BySsn stream ssn) =
     codes "  stream " ++ decimal stream ++ codes ", ssn " ++ decimal ssn ++ codes "\n"
 skipped_line (ByMid stream is_unordered mid) =
-    codes "  stream " ++ decimal stream ++ order_word is_unordered ++ codes ", mid " ++ decimal mid ++ codes "\n"
+    codes "  stream " ++ decimal stream ++ order_word is_unordered
+    ++ codes ", mid " ++ decimal mid ++ codes "\n"
 
 abbrev pub forward_tsn_lines : List ℕ → skipped.Tree → List ℕ
 forward_tsn_lines name t =

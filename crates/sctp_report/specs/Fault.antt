@@ -1,5 +1,5 @@
--- What is printed of bytes that are no packet: the error, and where it lies. A line ends with a line
--- break.
+-- What is printed of bytes that are no packet: the error, and where it lies. A line ends with a
+-- line break.
 use Rattle.std.specs.Prelude.{ℕ, ◌+◌, ◌*◌, ◌/◌, ◌%◌, List, ◌++◌, take, drop, replicate, codes}
 use Rattle.std.specs.Fmt.{decimal}
 use Rattle.std.specs.List.{flat_map}

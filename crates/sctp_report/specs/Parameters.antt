@@ -43,7 +43,8 @@ result_name InProgress = codes "In progress"
 
 -- a next TSN, where the response holds it
 abbrev pub next_tsn_line : List ℕ → Option ℕ → List ℕ
-next_tsn_line name (Some tsn) = codes "    " ++ name ++ codes " next tsn " ++ decimal tsn ++ codes "\n"
+next_tsn_line name (Some tsn) =
+    codes "    " ++ name ++ codes " next tsn " ++ decimal tsn ++ codes "\n"
 next_tsn_line name None = codes ""
 
 -- `most` bounds how many bytes of a value are shown

@@ -24,7 +24,10 @@ impl Lines for ErrorCause {
                 write_missing(&c.missing_parameters, most, f)
             }
             ErrorCause::UnrecognizedChunk(c) => {
-                let chunk = Bytes { bytes: &c.chunk, most };
+                let chunk = Bytes {
+                    bytes: &c.chunk,
+                    most,
+                };
                 writeln!(f, "  cause 0x0006 Unrecognized Chunk Type: {chunk}")
             }
             ErrorCause::NoUserData(c) => {
@@ -43,7 +46,13 @@ impl Lines for ErrorCause {
                 writeln!(f, "  cause 0x000d Protocol Violation: {information}")
             }
             ErrorCause::Unknown(c) => {
-                let (code, value) = (Hex16(c.typ), Bytes { bytes: &c.value, most });
+                let (code, value) = (
+                    Hex16(c.typ),
+                    Bytes {
+                        bytes: &c.value,
+                        most,
+                    },
+                );
                 let name = cause_name(c.typ);
                 writeln!(f, "  cause {code} {name}: {value}")
             }

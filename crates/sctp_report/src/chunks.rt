@@ -83,7 +83,10 @@ impl Lines for Chunk {
                 write_each(&c.error_causes, most, f)
             }
             Chunk::CookieEcho(c) => {
-                let cookie = Bytes { bytes: &c.cookie, most };
+                let cookie = Bytes {
+                    bytes: &c.cookie,
+                    most,
+                };
                 writeln!(f, "COOKIE ECHO: {cookie}")
             }
             Chunk::CookieAck(_) => f.write_str("COOKIE ACK\n"),
@@ -108,7 +111,10 @@ impl Lines for Chunk {
             }
             Chunk::Unknown(c) => {
                 let (typ, flags) = (Hex8(c.typ), Hex8(c.flags));
-                let value = Bytes { bytes: &c.value, most };
+                let value = Bytes {
+                    bytes: &c.value,
+                    most,
+                };
                 writeln!(f, "unknown chunk: type {typ}, flags {flags}, {value}")
             }
         }
@@ -136,11 +142,7 @@ fn write_init_line<W: fmt::Write>(
 }
 
 /// Writes the lines of a SACK.
-fn write_sack<W: fmt::Write>(
-    c: &SackChunk,
-    most: usize,
-    f: &mut fmt::Formatter<W>,
-) -> fmt::Result
+fn write_sack<W: fmt::Write>(c: &SackChunk, most: usize, f: &mut fmt::Formatter<W>) -> fmt::Result
     ensures { WritesOnOk W.write_str_gives f.old result (sack_lines (sack_view c.now)) f.new }
 {
     let (tsn, a_rwnd) = (c.cumulative_tsn_ack, c.a_rwnd);
@@ -161,17 +163,16 @@ fn write_blocks<W: fmt::Write>(
 }
 
 /// Writes the lines of a DATA.
-fn write_data<W: fmt::Write>(
-    c: &DataChunk,
-    most: usize,
-    f: &mut fmt::Formatter<W>,
-) -> fmt::Result
+fn write_data<W: fmt::Write>(c: &DataChunk, most: usize, f: &mut fmt::Formatter<W>) -> fmt::Result
     ensures { WritesOnOk W.write_str_gives f.old result (data_lines most (data_view c.now)) f.new }
 {
     let data = &c.user_data;
     let (tsn, stream, ssn) = (c.tsn, data.stream_key.id(), data.ssn);
     let (ppid, name) = (data.ppid, ppid_name(data.ppid));
-    write!(f, "DATA: tsn {tsn}, stream {stream}, ssn {ssn}, ppid {ppid}{name}")?;
+    write!(
+        f,
+        "DATA: tsn {tsn}, stream {stream}, ssn {ssn}, ppid {ppid}{name}"
+    )?;
     write_bits(data, c.immediate_ack, f)?;
     write_payload(data, most, f)
 }
@@ -232,7 +233,10 @@ fn write_payload<W: fmt::Write>(
     ensures { WritesOnOk W.write_str_gives f.old result
         (payload_lines most user_data.now.payload.items) f.new }
 {
-    let payload = Bytes { bytes: &user_data.payload, most };
+    let payload = Bytes {
+        bytes: &user_data.payload,
+        most,
+    };
     writeln!(f, "\n  payload: {payload}")
 }
 
@@ -240,7 +244,11 @@ fn write_payload<W: fmt::Write>(
 fn order_word(unordered: bool) -> &'static str
     ensures { result.now ≡ order_word unordered }
 {
-    if unordered { ", unordered" } else { ", ordered" }
+    if unordered {
+        ", unordered"
+    } else {
+        ", ordered"
+    }
 }
 
 /// A word where it applies.

@@ -38,11 +38,7 @@ impl<'a> fmt::Display for FaultReport<'a> {
 }
 
 /// Writes the row at an offset.
-fn write_row<W: fmt::Write>(
-    bytes: &[u8],
-    row: usize,
-    f: &mut fmt::Formatter<W>,
-) -> fmt::Result
+fn write_row<W: fmt::Write>(bytes: &[u8], row: usize, f: &mut fmt::Formatter<W>) -> fmt::Result
     ensures { WritesOnOk W.write_str_gives f.old result (row_line bytes.now row) f.new }
 {
     let offset = Offset(row);

@@ -1,4 +1,5 @@
-//! All that a packet holds, as text: plain lines, a fact a line, two blanks deeper for what is inside.
+//! All that a packet holds, as text: plain lines, one fact a line, and two blanks deeper what is
+//! inside.
 //!
 //! Each text is defined in specs/ over the packet's tree. Nothing here allocates.
 #![tactic(auto)]

@@ -46,11 +46,7 @@ fn write_header<W: fmt::Write>(header: &CommonHeader, f: &mut fmt::Formatter<W>)
 }
 
 /// Writes the line of a checksum field.
-fn write_checksum<W: fmt::Write>(
-    field: u32,
-    word: u32,
-    f: &mut fmt::Formatter<W>,
-) -> fmt::Result
+fn write_checksum<W: fmt::Write>(field: u32, word: u32, f: &mut fmt::Formatter<W>) -> fmt::Result
     ensures { WritesOnOk W.write_str_gives f.old result (checksum_line field word) f.new }
 {
     let (shown, verdict) = (Hex32(field), ChecksumReport { field, word });

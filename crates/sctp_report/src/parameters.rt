@@ -27,11 +27,17 @@ impl Lines for Parameter {
     fn write_lines<W: fmt::Write>(&self, most: usize, f: &mut fmt::Formatter<W>) -> fmt::Result {
         match self {
             Parameter::HeartbeatInfo(p) => {
-                let info = Bytes { bytes: &p.info, most };
+                let info = Bytes {
+                    bytes: &p.info,
+                    most,
+                };
                 writeln!(f, "  parameter 0x0001 Heartbeat Info: {info}")
             }
             Parameter::StateCookie(p) => {
-                let cookie = Bytes { bytes: &p.cookie, most };
+                let cookie = Bytes {
+                    bytes: &p.cookie,
+                    most,
+                };
                 writeln!(f, "  parameter 0x0007 State Cookie: {cookie}")
             }
             Parameter::OutgoingSsnResetRequest(p) => {
@@ -40,12 +46,18 @@ impl Lines for Parameter {
             }
             Parameter::IncomingSsnResetRequest(p) => {
                 let request = p.request_seq_nbr;
-                writeln!(f, "  parameter 0x000e Incoming SSN Reset Request: request {request}")?;
+                writeln!(
+                    f,
+                    "  parameter 0x000e Incoming SSN Reset Request: request {request}"
+                )?;
                 write_each(&p.streams, most, f)
             }
             Parameter::SsnTsnResetRequest(p) => {
                 let request = p.request_seq_nbr;
-                writeln!(f, "  parameter 0x000f SSN/TSN Reset Request: request {request}")
+                writeln!(
+                    f,
+                    "  parameter 0x000f SSN/TSN Reset Request: request {request}"
+                )
             }
             Parameter::ReconfigurationResponse(p) => {
                 let (response, result) = (p.response_seq_nbr, p.result as u32);
@@ -73,14 +85,23 @@ impl Lines for Parameter {
             }
             Parameter::ZeroChecksumAcceptable(p) => {
                 let method = p.method.0;
-                writeln!(f, "  parameter 0x8001 Zero Checksum Acceptable: method {method}")
+                writeln!(
+                    f,
+                    "  parameter 0x8001 Zero Checksum Acceptable: method {method}"
+                )
             }
             Parameter::SupportedExtensions(p) => write_extensions(&p.chunk_types, most, f),
             Parameter::ForwardTsnSupported(_) => {
                 f.write_str("  parameter 0xc000 Forward TSN Supported\n")
             }
             Parameter::Unknown(p) => {
-                let (typ, value) = (Hex16(p.typ), Bytes { bytes: &p.value, most });
+                let (typ, value) = (
+                    Hex16(p.typ),
+                    Bytes {
+                        bytes: &p.value,
+                        most,
+                    },
+                );
                 writeln!(f, "  parameter {typ} unknown: {value}")
             }
         }
