@@ -1,6 +1,6 @@
 -- What an output is after a chunk was written at its front, whose bytes have no place left out.
-use Rattle.std.proofs.Common.{◌≡◌, ℕ, ◌+◌, ◌-◌, ◌≤◌, List, [], ◌∷◌, ◌++◌, length, take, drop, replicate, refl, sym, ap, ◌∙◌, append_assoc, arith}
-use Rattle.std.specs.Prelude.{Some, map}
+use Rattle.std.proofs.Common.{◌≡◌, ℕ, ◌+◌, ◌-◌, ◌≤◌, List, [], ◌∷◌, ◌++◌, length, take, drop, replicate, refl, sym, ap, ◌∙◌, arith}
+use Rattle.std.specs.Prelude.{Some}
 use Rattle.std.proofs.lemmas.List.{append-nil, length-append, length-drop, map-append, drop-drop}
 use Rattle.dcsctp_tlv.specs.Frame.{header, typed_header}
 use Rattle.dcsctp_tlv.specs.Image.{Tlv, put, solid, zeroed, size_of, image_of, written, solid_tlv, typed_tlv, listed_tlv}

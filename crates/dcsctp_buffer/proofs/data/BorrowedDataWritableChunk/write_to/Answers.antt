@@ -1,4 +1,4 @@
-use Rattle.std.proofs.Common.{◌∙◌, ◌+◌, ◌++◌, length, refl, arith}
+use Rattle.std.proofs.Common.{◌∙◌, refl, arith}
 use Rattle.dcsctp_chunk.specs.DataChunk.{format, bytes}
 use Rattle.dcsctp_buffer.specs.Data.{view}
 use Rattle.dcsctp_buffer.proofs.Items.{solid_item}

@@ -4,7 +4,7 @@ use Rattle.std.specs.List.{flat_map}
 use Rattle.std.proofs.lemmas.List.{length-map, map-id}
 use Rattle.dcsctp_tlv.specs.Image.{put}
 use Rattle.dcsctp_tlv.specs.Number.{numbers}
-use Rattle.dcsctp_chunk.specs.Sack.{block_bytes, format, bytes}
+use Rattle.dcsctp_chunk.specs.Sack.{format, bytes}
 use Rattle.dcsctp_chunk.proofs.Sacks.{sack_written, length-lists}
 use Rattle.dcsctp_buffer.specs.Sack.{view}
 use Rattle.dcsctp_buffer.proofs.Items.{solid_item}
