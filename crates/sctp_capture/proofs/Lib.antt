@@ -4,3 +4,4 @@ pub mod Groups
 pub mod Extensions
 pub mod Records
 pub mod Sent
+pub mod Readings

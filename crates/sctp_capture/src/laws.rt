@@ -1,15 +1,17 @@
 //! What holds of the definitions alone, as contracts of functions that do nothing.
 
-ghost use Rattle.std.specs.Prelude.{◌≡◌, ◌<◌, ◌+◌, ◌^◌, ◌++◌, ℕ, List, [], ◌∷◌, Some, None, Ok, length};
+ghost use Rattle.std.specs.Prelude.{◌≡◌, ◌<◌, ◌+◌, ◌^◌, ◌++◌, ℕ, List, [], ◌∷◌, Some, None, Ok, length, slice_index};
 ghost use Rattle.sctp_capture.specs.Frame.{packet_in};
 ghost use Rattle.sctp_capture.specs.Sent.{Ipv4Fields, ipv4_packet, ipv6_packet};
 ghost use Rattle.sctp_capture.specs.declared.frame.Addresses.TheVariants.{V4, V6};
 ghost use Rattle.sctp_capture.specs.declared.pcap.ByteOrder.{ByteOrder};
 ghost use Rattle.sctp_capture.specs.Pcap.{Record, Fits, record_bytes, BeginsWithRecord, AreRecords};
 
-/// The bytes after a file header are at most one list of records, and what is cut off after them.
+/// The bytes after a file header are exactly one list of records, and what is cut off after them.
 pub fn one_reading()
-    ensures { (order : ByteOrder) (bytes cut left : List ℕ) (records others : List Record)
+    ensures some { (order : ByteOrder) (bytes : List ℕ) → ((k : ℕ) → slice_index bytes k < 256)
+        → (records : List Record) × (cut : List ℕ) × AreRecords order bytes records cut }
+    ensures one { (order : ByteOrder) (bytes cut left : List ℕ) (records others : List Record)
         → AreRecords order bytes records cut → AreRecords order bytes others left
         → (records ≡ others) × (cut ≡ left) }
 {}
