@@ -137,7 +137,7 @@ text_line text =
 abbrev pub line_of : List ℕ → Line
 line_of line = text_line (without_blanks_before line)
 
--- where bytes at an offset belong, behind so many bytes of a packet
+-- where bytes at an offset belong, after the bytes of a packet that are held
 abbrev pub place_of : ℕ → ℕ → Place
 place_of offset held =
     if offset == 0 then Begins else if offset == held then Continues else Apart

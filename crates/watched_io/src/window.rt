@@ -4,10 +4,10 @@ ghost use Rattle.std.specs.Io.KnownBytes.{Keeps, IsAtEnd};
 ghost use Rattle.watched_io.specs.Watched.{device_of, has_failed};
 ghost use Rattle.watched_io.specs.Transfer.{AddsBehind};
 
+use crate::watched::Watched;
 use std::alloc::{AllocError, Global};
 use std::io;
 use std::io::Read;
-use crate::watched::Watched;
 
 /// The most bytes of a record or of a line that are kept.
 pub const MOST_KEPT: usize = 262_144;
@@ -119,11 +119,7 @@ fn move_to_front(bytes: &mut [u8], start: usize, end: usize)
 }
 
 /// Reads once, behind the first `end` bytes.
-fn read_behind<R: Read>(
-    input: &mut Watched<R>,
-    bytes: &mut [u8],
-    end: usize,
-) -> io::Result<usize>
+fn read_behind<R: Read>(input: &mut Watched<R>, bytes: &mut [u8], end: usize) -> io::Result<usize>
     requires { end < length bytes.old }
     ensures bound { IfOk result (λ n. end + n ≤ length bytes.new) }
     ensures read { IfOk result (λ n. AddsBehind end n bytes.old (R.remaining (device_of input.old))

@@ -18,7 +18,8 @@ returns-clause-skipped g c = λ skipped.
     let before = c.loop-ahead.invariant.0 in
     let old = held c.loop-ahead.window in
     let fits : c.loop-ahead.ahead ≤ length old = grind (arith, common_steps) in
-    let size = length-append before.0 (take c.loop-ahead.ahead old) in
-    (before.0 ++ take c.loop-ahead.ahead old,
+    let size = length-append before.0 (take c.loop-ahead.ahead old) in (
+      before.0 ++ take c.loop-ahead.ahead old,
       omega (arith, size, before.1, length-take-le c.loop-ahead.ahead old fits),
-      Consumes-front_dropped _ _ old _ before.0 c.loop-ahead.ahead c.consume.ensures before.2)
+      Consumes-front_dropped _ _ old _ before.0 c.loop-ahead.ahead c.consume.ensures before.2,
+    )
