@@ -59,7 +59,7 @@ impl<W: Write> Output<W> {
         }
     }
 
-    /// Writes the text if it has at least so many bytes. Nothing changes if it is shorter.
+    /// Writes the text if it has at least `least` bytes. Nothing changes if it is shorter.
     pub fn write_from(&mut self, least: usize) -> io::Result<()>
         ensures kept { OnOk result (Keeps (total W.contents self.old) (total W.contents self.new)) }
         ensures cut { OnErr result (AppendsBeginning (W.contents (device_of (writer_of self.old)))
