@@ -44,7 +44,7 @@ fn form_of(form: Form, bytes: &[u8]) -> Result<bool, Failure> {
     }
 }
 
-/// A text of at least this many bytes is written before more is added.
+/// Text of at least this many bytes is written before more is added.
 const LONG: usize = 65_536;
 
 /// Writes the text if it is long.

@@ -62,8 +62,8 @@ fn run(
 
 /// Whether the whole text is written, and the run ends well.
 fn is_printed(alloc: Global, bytes: &[u8], step: usize, wanted: &str) -> bool {
-    let seen = run(alloc, PLAIN, (bytes, steps(step)), (wanted, steps(step)));
-    seen == (Ok(()), wanted.len(), true)
+    let ended = run(alloc, PLAIN, (bytes, steps(step)), (wanted, steps(step)));
+    ended == (Ok(()), wanted.len(), true)
 }
 
 // All at once, and a byte a call.
@@ -79,26 +79,26 @@ fn lines(rt: HostRuntime) {
 #[test]
 fn failed_read(rt: HostRuntime) {
     let reads = fails(33, 2, BROKEN);
-    let seen = run(
+    let ended = run(
         rt.alloc(),
         PLAIN,
         (TWO_LINES.as_bytes(), reads),
         (BOTH, steps(100_000)),
     );
-    assert!(rt; seen == (Err(Failure::Read), FIRST.len(), true));
+    assert!(rt; ended == (Err(Failure::Read), FIRST.len(), true));
 }
 
 // The writer fails at its second call, after ten bytes: nothing is written twice.
 #[test]
 fn failed_write(rt: HostRuntime) {
     let writes = fails(10, 2, BROKEN);
-    let seen = run(
+    let ended = run(
         rt.alloc(),
         PLAIN,
         (TWO_LINES.as_bytes(), steps(33)),
         (BOTH, writes),
     );
-    assert!(rt; seen == (Err(Failure::Write), 10, true));
+    assert!(rt; ended == (Err(Failure::Write), 10, true));
 }
 
 /// Inputs that begin as captures, and what they end with.
@@ -136,12 +136,12 @@ const HOSTILE: &[(&[u8], &str, Result<(), Failure>)] = &[
 #[test]
 fn hostile(rt: HostRuntime) {
     for (i, (bytes, wanted, outcome)) in HOSTILE.iter().enumerate() {
-        let seen = run(
+        let ended = run(
             rt.alloc(),
             PLAIN,
             (bytes, steps(5)),
             (wanted, steps(100_000)),
         );
-        assert!(rt; seen == (*outcome, wanted.len(), true), "row {i}");
+        assert!(rt; ended == (*outcome, wanted.len(), true), "row {i}");
     }
 }
