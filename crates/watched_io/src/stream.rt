@@ -1,12 +1,12 @@
 //! Reads an input piece by piece, where what is written about it must not wait for it.
 
-ghost use Rattle.std.specs.Prelude.{◌≡◌, ◌+◌, ◌≤◌, ◌<◌, true, false, length, IfOk, OnOk, IsErrOf};
+ghost use Rattle.std.specs.Prelude.{◌≡◌, ◌+◌, ◌≤◌, ◌<◌, ◌↔◌, true, false, length, IfOk, OnOk, IsErrOf};
 ghost use Rattle.std.specs.Io.KnownBytes.{Keeps, IsAtEnd};
 ghost use Rattle.watched_io.specs.Transfer.{AppendsBeginning, DropsBytes};
-ghost use Rattle.watched_io.specs.Watched.{device_of};
+ghost use Rattle.watched_io.specs.Watched.{device_of, has_failed};
 ghost use Rattle.watched_io.specs.Window.{held, left};
 ghost use Rattle.watched_io.specs.Output.{writer_of, pending, total};
-ghost use Rattle.watched_io.specs.declared.stream.StreamError.TheVariants.{Write};
+ghost use Rattle.watched_io.specs.declared.stream.StreamError.TheVariants.{Read, Write};
 
 use crate::output::Output;
 use crate::watched::Watched;
@@ -42,6 +42,12 @@ pub fn read_more<R: Read, W: Write>(
     ensures cut { IsErrOf result Write
         → AppendsBeginning (W.contents (device_of (writer_of output.old)))
         (W.contents (device_of (writer_of output.new))) (pending output.old) }
+
+    // The error names the device that failed.
+    ensures failed_read { has_failed input.old ≡ false
+        → IsErrOf result Read ↔ (has_failed input.new ≡ true) }
+    ensures failed_write { has_failed (writer_of output.old) ≡ false
+        → IsErrOf result Write ↔ (has_failed (writer_of output.new) ≡ true) }
 {
     if output.write().is_err() {
         return Err(StreamError::Write);
