@@ -3,16 +3,17 @@
 
 usage: bench/dump.py [PROGRAM]
 
-Makes bench/out/bulk10.pcap and bulk100.pcap: one side of a bulk transfer over Ethernet and IPv4, two DATA that fill 1,200
-bytes and then a SACK of the peer, all with their CRC32c. A thousand such packets come again and again, with rising
-times. Runs each command twice over each file, its output thrown away, and prints a Markdown table of seconds and of
-the greatest resident memory. PROGRAM is crates/sctp_dump/out/sctp_dump unless named (docs/DUMP.md builds it)."""
+Makes bench/out/bulk10.pcap and bulk100.pcap: a bulk transfer over Ethernet and IPv4, two DATA that fill 1,200 bytes
+and then a SACK of the peer, all with their CRC32c. A thousand such packets come again and again, with rising times.
+Runs each command twice over each file, its output thrown away, and prints a Markdown table of what /usr/bin/time says:
+seconds, and the greatest resident memory. PROGRAM is crates/sctp_dump/out/sctp_dump unless it is named (docs/DUMP.md
+says how to build it)."""
 import itertools
 import os
 import shutil
 import struct
+import subprocess
 import sys
-import time
 
 from traffic import Draw, Peer
 
@@ -63,18 +64,18 @@ def write(path, size, contents):
         for at, content in enumerate(itertools.cycle(contents)):
             if file.tell() >= size:
                 return at
-            file.write(struct.pack('<IIII', 1700000000 + at // 10000, at % 10000 * 100, len(content), len(content)) + content)
+            header = 1700000000 + at // 10000, at % 10000 * 100, len(content), len(content)
+            file.write(struct.pack('<IIII', *header) + content)
 
 
-def measured(command):
-    """The seconds of a run and those of its process, and its greatest resident memory in KiB."""
-    begin = time.monotonic()
-    process = os.posix_spawnp(command[0], command, os.environ, file_actions=[
-        (os.POSIX_SPAWN_OPEN, 1, os.devnull, os.O_WRONLY, 0), (os.POSIX_SPAWN_OPEN, 2, os.devnull, os.O_WRONLY, 0)])
-    _, status, usage = os.wait4(process, 0)
-    if status:
+def measured(command, note):
+    """The seconds of user, system and wall, and the greatest resident memory in KiB, of a run."""
+    run = subprocess.run(['/usr/bin/time', '-o', note, '-f', '%U %S %e %M'] + command, check=False,
+                         stdout=subprocess.DEVNULL, stderr=subprocess.DEVNULL)
+    if run.returncode:
         sys.exit('dump.py: %s failed' % ' '.join(command))
-    return time.monotonic() - begin, usage.ru_utime, usage.ru_stime, usage.ru_maxrss
+    with open(note, encoding='ascii') as file:
+        return file.read().split()
 
 
 def main():
@@ -87,16 +88,15 @@ def main():
     folder = os.path.join(ROOT, 'bench', 'out')
     os.makedirs(folder, exist_ok=True)
     contents = list(frames())
-    print('| command | packets | MB | user s | system s | wall s | resident MiB |\n| --- ' + '| --: ' * 6 + '|')
+    print('| command | MB | packets | user s | system s | wall s | resident KiB |\n| --- ' + '| --: ' * 6 + '|')
     for megabytes in (10, 100):
         path = os.path.join(folder, 'bulk%d.pcap' % megabytes)
         packets = write(path, megabytes * 10 ** 6, contents)
         for command in commands:
-            runs = [measured(command + [path]) for _ in range(TURNS)]
-            wall, user, system, memory = (', '.join('%.2f' % (it / 1024 if kind == 3 else it) for it in figures)
-                                          for kind, figures in enumerate(zip(*runs)))
+            runs = [measured(command + [path], os.path.join(folder, 'time')) for _ in range(TURNS)]
             shown = ' '.join([os.path.basename(command[0])] + command[1:])
-            print('| `%s` | %s | %d | %s | %s | %s | %s |' % (shown, format(packets, ','), megabytes, user, system, wall, memory))
+            figures = ' | '.join(map(', '.join, zip(*runs)))
+            print('| `%s` | %d | %s | %s |' % (shown, megabytes, format(packets, ','), figures))
             sys.stdout.flush()
 
 

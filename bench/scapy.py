@@ -34,8 +34,8 @@ try:
     from scapy.layers.sctp import SCTP, SCTP_PAYLOAD_PROTOCOL_INDENTIFIERS, ChunkParamField, crc32c
     from scapy.packet import Padding, Raw, bind_layers
     from scapy.utils import PcapReader
-except ImportError as missing:
-    print('scapy.py: %s' % missing, file=sys.stderr)
+except ImportError:
+    print("scapy.py: this Python hasn't scapy: apt-get install python3-scapy, for /usr/bin/python3", file=sys.stderr)
     sys.exit(2)
 
 ROOT = os.path.dirname(os.path.dirname(os.path.abspath(__file__)))
@@ -67,6 +67,8 @@ SCAPY, LAYOUT = "scapy's", 'by the layout'
 # The fields of a form that may be empty.
 OPTIONAL = {'protocol': r'(?: \([^)]*\))?', 'order': ', (?:un)?ordered', 'beginning': '(?:, beginning)?',
             'end': '(?:, end)?', 'immediate': '(?:, immediate)?', 'reflected': '(?:, tag reflected)?'}
+# The last fields of the lines of DATA and I-DATA.
+BITS = '{order}{beginning}{end}{immediate}'
 
 
 def scapys(form, *values):
@@ -151,7 +153,7 @@ class Expected:
     def chunk(self, c):
         name = CHUNKS.get(c.type)
         if c.type == 0:
-            yield scapys('{chunk}: tsn {tsn}, stream {stream}, ssn {ssn}, ppid {ppid}{protocol}{order}{beginning}{end}{immediate}',
+            yield scapys('{chunk}: tsn {tsn}, stream {stream}, ssn {ssn}, ppid {ppid}{protocol}' + BITS,
                          name, c.tsn, c.stream_id, c.stream_seq, c.proto_id, protocol(c.proto_id),
                          *bits(c.unordered, c.beginning, c.ending, c.delay_sack))
             yield scapys('  payload: {payload}', c.data or b'')
@@ -162,7 +164,7 @@ class Expected:
         elif c.type == 3:
             yield scapys('{chunk}: cumulative tsn {tsn}, a_rwnd {a_rwnd}', name, c.cumul_tsn_ack, c.a_rwnd)
             for block in c.gap_ack_list:
-                yield scapys('  block {start} to {end_}', *map(int, block.split(':')))
+                yield scapys('  block {start} to {last}', *map(int, block.split(':')))
             for tsn in c.dup_tsn_list:
                 yield scapys('  duplicate tsn {tsn}', tsn)
         elif c.type in (4, 5):
@@ -193,10 +195,10 @@ class Expected:
             of = bits(flags & 4, flags & 2, flags & 1, flags & 8)
             line = self.layout('I-DATA')
             if flags & 2:
-                yield line('{chunk}: tsn {tsn}, stream {stream}, mid {mid}, ppid {ppid}{protocol}{order}{beginning}{end}{immediate}',
+                yield line('{chunk}: tsn {tsn}, stream {stream}, mid {mid}, ppid {ppid}{protocol}' + BITS,
                            name, tsn, stream, mid, last, protocol(last), *of)
             else:
-                yield line('{chunk}: tsn {tsn}, stream {stream}, mid {mid}, fsn {fsn}{order}{beginning}{end}{immediate}',
+                yield line('{chunk}: tsn {tsn}, stream {stream}, mid {mid}, fsn {fsn}' + BITS,
                            name, tsn, stream, mid, last, *of)
             yield line('  payload: {payload}', value[16:])
         elif typ == 192:  # RFC 3758 section 3.2
@@ -214,7 +216,8 @@ class Expected:
             for item in items(value):
                 yield from self.parameter_by_layout(*item)
         else:
-            yield self.layout('a chunk of an unknown type')('unknown chunk: type {type}, flags {flags}, {value}', typ, flags, value)
+            line = self.layout('a chunk of an unknown type')
+            yield line('unknown chunk: type {type}, flags {flags}, {value}', typ, flags, value)
 
     def parameters(self, found):
         found = list(found)
@@ -321,15 +324,17 @@ def meant(text, value):
     if isinstance(value, int):
         return int(text, 0) if re.fullmatch(r'\d+|0x[0-9a-f]+', text) else text
     if isinstance(value, bytes):
-        found = re.fullmatch(r'(\d+) bytes?(?:: ((?:[0-9a-f]{2})+))?', text)
+        found = re.fullmatch(r'(1 byte|(?!1 )\d+ bytes)(?:: ((?:[0-9a-f]{2})+))?', text)
         shown = bytes.fromhex(found[2] or '') if found else b''
-        return shown if found and len(shown) == int(found[1]) else text
+        return shown if found and len(shown) == int(found[1].split()[0]) else text
     return text
 
 
 def compared(lines, expected):
-    """How many fields agree, by source, and the disagreements."""
+    """How many fields agree, by source, and what doesn't."""
     agreed, wrong = collections.Counter(), []
+    if not lines:
+        return agreed, ["it isn't printed"]
     for text, line in itertools.zip_longest(lines, expected):
         if text is None or line is None:
             wrong.append('the program: %r; expected %r' % (text, line))
@@ -366,12 +371,13 @@ def association():
     yield [chunk(10, 0, cookie), chunk(0, 3, u32(1) + u16(2) + u16(3) + u32(50) + payload)]
     yield [chunk(11, 0, b''), chunk(0, 3, u32(4) + u16(5) + u16(6) + u32(53))]
     for flags, ppid in zip(range(16), itertools.cycle([0, 46, 51, 52, 53, 54, 56, 57, 58, 0xFFFFFFFF])):
-        yield [chunk(0, flags, u32(0xFFFFFFF0 + flags) + u16(1000 + flags) + u16(65535 - flags) + u32(ppid) + payload[flags:])]
+        yield [chunk(0, flags, u32(0xFFFFFFF0 + flags) + u16(1000 + flags) + u16(65535 - flags) + u32(ppid)
+                     + payload[flags:])]
         yield [chunk(64, flags, u32(0xFFFFFFF0 + flags) + u16(1000 + flags) + u16(0) + u32(70000 + flags) + u32(ppid)
                      + payload[flags:])]
     yield [chunk(3, 0, u32(0xFFFFFFFF) + u32(9000) + u16(0) + u16(0))]
     yield [chunk(3, 0, u32(7) + u32(0) + u16(2) + u16(3) + u16(2) + u16(3) + u16(5) + u16(65535)
-                 + u32(4) + u32(5) + u32(0xFFFFFFFD)), chunk(0, 3, u32(8) + u16(0) + u16(1) + u32(51) + b'hi')]
+                 + u32(4) + u32(5) + u32(0xFFFFFFFD)), chunk(0, 3, u32(8) + u16(0) + u16(1) + u32(51) + b'h')]
     yield [chunk(4, 0, parameter(1, b'twelve bytes')), chunk(5, 0, parameter(1, b'twelve bytes'))]
     yield [chunk(4, 0, in_list([parameter(0x9234, b'odd'), parameter(1, b'thirteen byte')])), chunk(11, 0, b'')]
     yield [chunk(5, 0, parameter(1, b''))]
@@ -385,10 +391,10 @@ def association():
         yield [chunk(130, 0, parameter(16, u32(44) + u32(result)))]
     yield [chunk(130, 0, parameter(16, u32(45) + u32(1) + u32(46) + u32(47)))]
     yield [chunk(130, 0, in_list([parameter(17, u32(48) + u16(49) + u16(0)), parameter(18, u32(50) + u16(51) + u16(0))]))]
+    values = {2: u32(2) + u16(7) + u16(13), 6: chunk(73, 1, b'eight by'), 9: u32(61), 10: b'',
+              12: 'closed: "r\u00e9sum\u00e9" \\'.encode(), 13: b'not UTF-8: \xff\xe2\x82'}
     for code in range(16):
-        known = {2: u32(2) + u16(7) + u16(13), 6: chunk(73, 1, b'eight by'), 9: u32(61), 10: b'',
-                 12: 'closed: "r\u00e9sum\u00e9" \\'.encode(), 13: b'bad \xff\xe2\x82 text'}
-        yield [chunk(9, 0, parameter(code, known.get(code, b'%4d' % code)))]
+        yield [chunk(9, 0, parameter(code, values.get(code, b'%4d' % code)))]
     yield [chunk(9, 0, in_list([parameter(1, u16(62) + u16(0)), parameter(12, b'odd'), parameter(9, u32(63)),
                                 parameter(0x0105, u16(64))]))]
     yield [chunk(6, 0, b'')]
@@ -400,16 +406,15 @@ def association():
     yield [chunk(14, 0, b'')]
     yield [chunk(14, 1, b'')]
     yield [chunk(15, 0, u16(1) + u16(3) + bytes(range(32))), chunk(11, 0, b'')]
-    yield [chunk(193, 0, u32(72) + parameter(5, bytes([192, 0, 2, 2])) + parameter(0xC001, u32(73) + parameter(5, bytes(4))))]
+    yield [chunk(193, 0, u32(72) + parameter(5, bytes(4)) + parameter(0xC001, u32(73) + parameter(5, bytes(4))))]
     yield [chunk(128, 0, u32(72) + parameter(0xC005, u32(73)))]
     yield [chunk(73, 0xA5, b'five.'), chunk(0, 3, u32(80) + u16(81) + u16(82) + u32(53) + payload), chunk(255, 0, b'')]
 
 
 def packets(seed, link):
     """Packets whose checksums are right, but for one in eleven that is wrong and one that is zero."""
-    made = [chunks for chunks in association()]
-    plain = [b'\x13\x88\x0b\x59' + u32(0x01020304 + at) + b'made' + b''.join(it + padding(it) for it in chunks)
-             for at, chunks in enumerate(made)]
+    plain = [u16(5000) + u16(2905) + u32(0x01020304 + at) + bytes(4) + b''.join(it + padding(it) for it in chunks)
+             for at, chunks in enumerate(association())]
     for name, _, count, make in FILES:
         peer = Peer(Draw(seed, link, name))
         plain += [make(peer) for _ in range(5)] if count > HOSTILE_PACKETS else []
@@ -472,6 +477,9 @@ def main():
         print(__doc__, file=sys.stderr)
         return 2
     options.update(zip(words[::2], words[1::2]))
+    if not os.access(options['--program'], os.X_OK):
+        print('scapy.py: no program %s (docs/DUMP.md builds it)' % options['--program'], file=sys.stderr)
+        return 2
     folder = os.path.join(ROOT, 'bench', 'out', 'scapy')
     os.makedirs(folder, exist_ok=True)
     bind()
@@ -490,8 +498,8 @@ def main():
         for number, (frame, packet) in enumerate(zip(PcapReader(path), contents, strict=True), 1):
             agreed, wrong = compared(printed.get(number, []), list(expected.packet(number, frame, digits)))
             count, bad, total = count + 1, bad + bool(wrong), total + agreed
-            print('packet %d: %d fields agree%s' % (number, sum(agreed.values()), ', %d lines or fields don\'t: %s' % (
-                len(wrong), packet.hex()) if wrong else ''))
+            print('packet %d: %d fields agree%s' % (
+                number, sum(agreed.values()), ", %d don't: %s" % (len(wrong), packet.hex()) if wrong else ''))
             for line in wrong:
                 print('  ' + line)
     print("scapy %s doesn't dissect: %s" % (scapy.VERSION, ', '.join(sorted(expected.undissected))))
