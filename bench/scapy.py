@@ -1,0 +1,515 @@
+#!/usr/bin/python3
+"""Compares all that sctp_dump prints of packets with scapy's dissection of the same bytes.
+
+usage: bench/scapy.py [OPTION]..
+
+  --program PATH  the program, in place of crates/sctp_dump/out/sctp_dump
+  --seed 1        the seed of the packets that bench/traffic.py draws
+  --help          prints this
+
+Makes four captures in bench/out/scapy: Ethernet, raw IP, Linux cooked and SCTP links, in all forms of pcap. Each holds
+every kind of chunk, parameter and error cause, and packets of each traffic file. What scapy doesn't dissect is compared
+with a reading of the bytes by the RFC's layout, below. Status: 0 if all fields agree, 1 if not, 2 if it can't run.
+
+Needed are scapy (apt-get install python3-scapy) and the program, built (docs/DUMP.md)."""
+import collections
+import itertools
+import os
+import re
+import string
+import struct
+import subprocess
+import sys
+
+from traffic import Draw, FILES, HOSTILE_PACKETS, Peer, chunk, in_list, padding, parameter, u16, u32
+
+# This file has scapy's name: look here last.
+sys.path.append(sys.path.pop(0))
+try:
+    import scapy
+    from scapy.config import conf
+    from scapy.layers.inet import IP, UDP, IPOption_NOP
+    from scapy.layers.inet6 import IPv6, IPv6ExtHdrDestOpt, IPv6ExtHdrHopByHop
+    from scapy.layers.l2 import CookedLinux, Dot1Q, Ether
+    from scapy.layers.sctp import SCTP, SCTP_PAYLOAD_PROTOCOL_INDENTIFIERS, ChunkParamField, crc32c
+    from scapy.packet import Padding, Raw, bind_layers
+    from scapy.utils import PcapReader
+except ImportError:
+    print("scapy.py: this Python hasn't scapy: apt-get install python3-scapy, for /usr/bin/python3", file=sys.stderr)
+    sys.exit(2)
+
+ROOT = os.path.dirname(os.path.dirname(os.path.abspath(__file__)))
+
+# RFC 9260 section 3.2, RFC 8260 sections 2.1 and 2.3.1, RFC 6525 section 3.1, RFC 3758 section 3.2.
+CHUNKS = {0: 'DATA', 1: 'INIT', 2: 'INIT ACK', 3: 'SACK', 4: 'HEARTBEAT', 5: 'HEARTBEAT ACK', 6: 'ABORT', 7: 'SHUTDOWN',
+          8: 'SHUTDOWN ACK', 9: 'ERROR', 10: 'COOKIE ECHO', 11: 'COOKIE ACK', 14: 'SHUTDOWN COMPLETE', 64: 'I-DATA',
+          130: 'RE-CONFIG', 192: 'FORWARD-TSN', 194: 'I-FORWARD-TSN'}
+# The parameters that the library reads: RFC 9260 section 3.3, RFC 6525 section 4, RFC 9653, RFC 5061, RFC 3758. The
+# others are shown as their bytes.
+PARAMETERS = {1: 'Heartbeat Info', 7: 'State Cookie', 13: 'Outgoing SSN Reset Request', 14: 'Incoming SSN Reset Request',
+              15: 'SSN/TSN Reset Request', 16: 'Re-configuration Response', 17: 'Add Outgoing Streams Request',
+              18: 'Add Incoming Streams Request', 0x8001: 'Zero Checksum Acceptable', 0x8008: 'Supported Extensions',
+              0xC000: 'Forward TSN Supported'}
+# RFC 9260 section 3.3.10.
+CAUSES = {1: 'Invalid Stream Identifier', 2: 'Missing Mandatory Parameter', 3: 'Stale Cookie', 4: 'Out of Resource',
+          5: 'Unresolvable Address', 6: 'Unrecognized Chunk Type', 7: 'Invalid Mandatory Parameter',
+          8: 'Unrecognized Parameters', 9: 'No User Data', 10: 'Cookie Received While Shutting Down',
+          11: 'Restart of an Association with New Addresses', 12: 'User-Initiated Abort', 13: 'Protocol Violation'}
+# RFC 6525 section 4.4.
+RESULTS = ('Success - Nothing to do', 'Success - Performed', 'Denied', 'Error - Wrong SSN',
+           'Error - Request already in progress', 'Error - Bad Sequence Number', 'In progress')
+# What the library reads a text as that isn't UTF-8.
+UNREADABLE = {12: b'Failed to parse abort reason', 13: b'Failed to parse additional information'}
+
+# A line that is expected: its form, the values of its fields, and whether they are scapy's or read by the layout.
+Line = collections.namedtuple('Line', 'form values source')
+SCAPY, LAYOUT = "scapy's", 'by the layout'
+# The fields of a form that may be empty.
+OPTIONAL = {'protocol': r'(?: \([^)]*\))?', 'order': ', (?:un)?ordered', 'beginning': '(?:, beginning)?',
+            'end': '(?:, end)?', 'immediate': '(?:, immediate)?', 'reflected': '(?:, tag reflected)?'}
+# The last fields of the lines of DATA and I-DATA.
+BITS = '{order}{beginning}{end}{immediate}'
+
+
+def scapys(form, *values):
+    return Line(form, values, SCAPY)
+
+
+def by_layout(form, *values):
+    return Line(form, values, LAYOUT)
+
+
+# What is expected.
+
+def bits(unordered, beginning, end, immediate):
+    return (', unordered' if unordered else ', ordered', ', beginning' if beginning else '', ', end' if end else '',
+            ', immediate' if immediate else '')
+
+
+def protocol(ppid):
+    """The program names the protocols of WebRTC alone."""
+    name = SCTP_PAYLOAD_PROTOCOL_INDENTIFIERS.get(ppid, '')
+    return ' (%s)' % name if name.startswith('WebRTC') else ''
+
+
+def quoted(text):
+    """A text between quotation marks, in which bytes that aren't printable ASCII are escaped."""
+    return '"%s"' % ''.join(chr(it) if 32 <= it < 127 and it not in b'"\\' else '\\x%02x' % it for it in text)
+
+
+def items(value):
+    """The type and the value of each parameter or cause (RFC 9260 section 3.2.1)."""
+    while len(value) >= 4:
+        typ, length = struct.unpack('>HH', value[:4])
+        yield typ, value[4:length]
+        value = value[(length + 3) // 4 * 4:]
+
+
+class Expected:
+    """The lines of a packet, by scapy's dissection, and the names of what it leaves as bytes."""
+
+    def __init__(self):
+        self.undissected = set()
+        self.corrected, self.replaced = collections.Counter(), 0
+
+    def layout(self, name):
+        self.undissected.add(name)
+        return by_layout
+
+    def packet(self, number, frame, digits):
+        yield scapys('packet {number}, time {time}', number, format(frame.time, '.%df' % digits))
+        ip = frame.getlayer(IP) or frame.getlayer(IPv6)
+        if ip:
+            yield scapys('from {source} to {destination}', ip.src, ip.dst)
+        if UDP in frame:
+            yield scapys('udp source {source}, destination {destination}', frame[UDP].sport, frame[UDP].dport)
+        sctp = frame[SCTP]
+        yield scapys('source {source}, destination {destination}, tag {tag}', sctp.sport, sctp.dport, sctp.tag)
+        word = crc32c(sctp.original[:8] + bytes(4) + sctp.original[12:])
+        verdict = 'right' if sctp.chksum == word else 'zero' if sctp.chksum == 0 else 'wrong, expected 0x%08x' % word
+        yield scapys('checksum {checksum}: {verdict}', sctp.chksum, verdict)
+        yield from self.chunks(sctp)
+
+    def chunks(self, sctp):
+        found = sctp.payload
+        while found and not isinstance(found, Padding):
+            if isinstance(found, Raw):
+                # scapy doesn't know the type, and takes all that follows
+                typ, flags, length = struct.unpack('>BBH', found.load[:4])
+                yield from self.unknown_to_scapy(typ, flags, found.load[4:length])
+                rest = found.load[(length + 3) // 4 * 4:]
+                found = sctp.default_payload_class(rest)(rest) if rest else None
+            else:
+                yield from self.chunk(found)
+                # the chunk's length leaves out the last parameter's padding (RFC 9260 section 3.2)
+                pad = -found.len % 4 if hasattr(found, 'params') else 0
+                if pad:
+                    self.corrected["a last parameter's padding read as a chunk"] += 1
+                    rest = found.payload.original[pad:]
+                    found = sctp.default_payload_class(rest)(rest) if rest else None
+                else:
+                    found = found.payload
+
+    def chunk(self, c):
+        name = CHUNKS.get(c.type)
+        if c.type == 0:
+            yield scapys('{chunk}: tsn {tsn}, stream {stream}, ssn {ssn}, ppid {ppid}{protocol}' + BITS,
+                         name, c.tsn, c.stream_id, c.stream_seq, c.proto_id, protocol(c.proto_id),
+                         *bits(c.unordered, c.beginning, c.ending, c.delay_sack))
+            yield scapys('  payload: {payload}', c.data or b'')
+        elif c.type in (1, 2):
+            yield scapys('{chunk}: tag {tag}, a_rwnd {a_rwnd}, outbound streams {outbound}, inbound streams {inbound}, '
+                         'initial tsn {tsn}', name, c.init_tag, c.a_rwnd, c.n_out_streams, c.n_in_streams, c.init_tsn)
+            yield from self.parameters(c.params)
+        elif c.type == 3:
+            yield scapys('{chunk}: cumulative tsn {tsn}, a_rwnd {a_rwnd}', name, c.cumul_tsn_ack, c.a_rwnd)
+            for block in c.gap_ack_list:
+                yield scapys('  block {start} to {last}', *map(int, block.split(':')))
+            for tsn in c.dup_tsn_list:
+                yield scapys('  duplicate tsn {tsn}', tsn)
+        elif c.type in (4, 5):
+            yield scapys('{chunk}', name)
+            yield from self.parameters(c.params)
+        elif c.type == 6:
+            yield scapys('{chunk}{reflected}', name, ', tag reflected' if c.TCB else '')
+            yield from self.causes(c.error_causes)
+        elif c.type == 7:
+            yield scapys('{chunk}: cumulative tsn {tsn}', name, c.cumul_tsn_ack)
+        elif c.type in (8, 11):
+            yield scapys('{chunk}', name)
+        elif c.type == 9:
+            yield scapys('{chunk}', name)
+            yield from self.causes(c.error_causes)
+        elif c.type == 10:
+            yield scapys('{chunk}: {cookie}', name, c.cookie)
+        elif c.type == 14:
+            yield scapys('{chunk}{reflected}', name, ', tag reflected' if c.TCB else '')
+        else:
+            # AUTH, ASCONF and ASCONF ACK, which the library keeps as their bytes
+            yield scapys('unknown chunk: type {type}, flags {flags}, {value}', c.type, c.flags, bytes(c)[4:c.len])
+
+    def unknown_to_scapy(self, typ, flags, value):
+        name = CHUNKS.get(typ)
+        if typ == 64:  # RFC 8260 section 2.1
+            tsn, stream, _, mid, last = struct.unpack('>IHHII', value[:16])
+            of = bits(flags & 4, flags & 2, flags & 1, flags & 8)
+            line = self.layout('I-DATA')
+            if flags & 2:
+                yield line('{chunk}: tsn {tsn}, stream {stream}, mid {mid}, ppid {ppid}{protocol}' + BITS,
+                           name, tsn, stream, mid, last, protocol(last), *of)
+            else:
+                yield line('{chunk}: tsn {tsn}, stream {stream}, mid {mid}, fsn {fsn}' + BITS,
+                           name, tsn, stream, mid, last, *of)
+            yield line('  payload: {payload}', value[16:])
+        elif typ == 192:  # RFC 3758 section 3.2
+            line = self.layout('FORWARD-TSN')
+            yield line('{chunk}: new cumulative tsn {tsn}', name, *struct.unpack('>I', value[:4]))
+            for numbers in struct.iter_unpack('>HH', value[4:]):
+                yield line('  stream {stream}, ssn {ssn}', *numbers)
+        elif typ == 194:  # RFC 8260 section 2.3.1
+            line = self.layout('I-FORWARD-TSN')
+            yield line('{chunk}: new cumulative tsn {tsn}', name, *struct.unpack('>I', value[:4]))
+            for stream, low, mid in struct.iter_unpack('>HHI', value[4:]):
+                yield line('  stream {stream}{order}, mid {mid}', stream, bits(low & 1, 0, 0, 0)[0], mid)
+        elif typ == 130:  # RFC 6525 section 3.1
+            yield self.layout('RE-CONFIG')('{chunk}', name)
+            for item in items(value):
+                yield from self.parameter_by_layout(*item)
+        else:
+            line = self.layout('a chunk of an unknown type')
+            yield line('unknown chunk: type {type}, flags {flags}, {value}', typ, flags, value)
+
+    def parameters(self, found):
+        found = list(found)
+        while found:
+            p = found.pop(0)
+            if isinstance(p, Raw):
+                # scapy doesn't know the type, and takes all that follows
+                typ, length = struct.unpack('>HH', p.load[:4])
+                yield from self.parameter_by_layout(typ, p.load[4:length])
+                rest = p.load[(length + 3) // 4 * 4:]
+                found = ChunkParamField('', [], length_from=lambda _: len(rest)).getfield(p, rest)[1]
+            else:
+                yield from self.parameter(p)
+
+    def parameter(self, p):
+        name = PARAMETERS.get(p.type, 'unknown')
+        if p.type == 1:
+            yield scapys('  parameter {type} {name}: {info}', p.type, name, p.data)
+        elif p.type == 7:
+            yield scapys('  parameter {type} {name}: {cookie}', p.type, name, p.cookie)
+        elif p.type == 0x8008:
+            yield scapys('  parameter {type} {name}', p.type, name)
+            if p.len == 4:
+                self.corrected["a default in place of Supported Extensions that are none"] += 1
+            for typ in p.supported_extensions if p.len > 4 else ():
+                yield scapys('    chunk type {type}', typ)
+        elif p.type == 0xC000:
+            yield scapys('  parameter {type} {name}', p.type, name)
+        else:
+            yield scapys('  parameter {type} {name}: {value}', p.type, name, bytes(p)[4:p.len])
+
+    def parameter_by_layout(self, typ, value):
+        name = PARAMETERS.get(typ, 'unknown')
+        line = self.layout('a parameter of an unknown type' if name == 'unknown' else name)
+        if typ == 13:  # RFC 6525 section 4.1
+            yield line('  parameter {type} {name}: request {request}, response {response}, last tsn {tsn}',
+                       typ, name, *struct.unpack('>III', value[:12]))
+            yield from self.streams(line, value[12:])
+        elif typ == 14:  # section 4.2
+            yield line('  parameter {type} {name}: request {request}', typ, name, *struct.unpack('>I', value[:4]))
+            yield from self.streams(line, value[4:])
+        elif typ == 15:  # section 4.3
+            yield line('  parameter {type} {name}: request {request}', typ, name, *struct.unpack('>I', value))
+        elif typ == 16:  # section 4.4
+            response, result = struct.unpack('>II', value[:8])
+            yield line('  parameter {type} {name}: response {response}, result {result} ({meaning})',
+                       typ, name, response, result, RESULTS[result])
+            for whose, tsn in zip(("sender's", "receiver's"), struct.iter_unpack('>I', value[8:])):
+                yield line('    {whose} next tsn {tsn}', whose, *tsn)
+        elif typ in (17, 18):  # sections 4.5 and 4.6
+            request, streams, _ = struct.unpack('>IHH', value)
+            yield line('  parameter {type} {name}: request {request}, new streams {streams}', typ, name, request, streams)
+        elif typ == 0x8001:  # RFC 9653 section 4
+            yield line('  parameter {type} {name}: method {method}', typ, name, *struct.unpack('>I', value))
+        else:
+            yield line('  parameter {type} {name}: {value}', typ, name, value)
+
+    def streams(self, line, value):
+        for stream in struct.iter_unpack('>H', value):
+            yield line('    stream {stream}', *stream)
+
+    def causes(self, value):
+        """scapy gives the causes of an ERROR or an ABORT as bytes (RFC 9260 section 3.3.10)."""
+        for code, value in items(value):
+            name = CAUSES.get(code, 'unknown')
+            line = self.layout('an error cause of an unknown code' if name == 'unknown' else 'error cause ' + name)
+            if code == 2:
+                yield line('  cause {code} {name}', code, name)
+                count = struct.unpack('>I', value[:4])[0]
+                for typ in struct.unpack('>%dH' % count, value[4:]):
+                    yield line('    parameter type {type}', typ)
+            elif code == 9:
+                yield line('  cause {code} {name}: tsn {tsn}', code, name, *struct.unpack('>I', value))
+            elif code == 10:
+                yield line('  cause {code} {name}', code, name)
+            elif code in (12, 13):
+                yield line('  cause {code} {name}: {text}', code, name, self.text(code, value))
+            else:
+                yield line('  cause {code} {name}: {value}', code, name, value)
+
+    def text(self, code, value):
+        """The RFC names no encoding; the library replaces what isn't UTF-8 (docs/DECISIONS.md)."""
+        try:
+            value.decode()
+            return quoted(value)
+        except UnicodeDecodeError:
+            self.replaced += 1
+            return quoted(UNREADABLE[code])
+
+
+# The comparison.
+
+def names_of(form):
+    return [it[1] for it in string.Formatter().parse(form) if it[1]]
+
+
+def expression(form):
+    parts = string.Formatter().parse(form)
+    return ''.join(re.escape(text) + ('(%s)' % OPTIONAL.get(name, '.*?') if name else '') for text, name, _, _ in parts)
+
+
+def meant(text, value):
+    """What the program's text means, if it can be of the value's type."""
+    if isinstance(value, int):
+        return int(text, 0) if re.fullmatch(r'\d+|0x[0-9a-f]+', text) else text
+    if isinstance(value, bytes):
+        found = re.fullmatch(r'(1 byte|(?!1 )\d+ bytes)(?:: ((?:[0-9a-f]{2})+))?', text)
+        shown = bytes.fromhex(found[2] or '') if found else b''
+        return shown if found and len(shown) == int(found[1].split()[0]) else text
+    return text
+
+
+def compared(lines, expected):
+    """How many fields agree, by source, and what doesn't."""
+    agreed, wrong = collections.Counter(), []
+    if not lines:
+        return agreed, ["it isn't printed"]
+    for text, line in itertools.zip_longest(lines, expected):
+        if text is None or line is None:
+            wrong.append('the program: %r; expected %r' % (text, line))
+            continue
+        found = re.fullmatch(expression(line.form), text)
+        if not found:
+            wrong.append('the program: %r; expected (%s) %r with %r' % (text, line.source, line.form, line.values))
+            continue
+        for name, text_of, value in zip(names_of(line.form), found.groups(), line.values, strict=True):
+            if meant(text_of, value) == value:
+                agreed[line.source] += 1
+            else:
+                wrong.append('%s: the program %r, %s %r, in %r' % (name, text_of, line.source, value, text))
+    return agreed, wrong
+
+
+# The captures.
+
+def association():
+    """The chunks of each packet of an association; each number occurs once, where it can."""
+    numbers = u32(0xA1B2C3D4) + u32(131072) + u16(10) + u16(2048) + u32(0xFFFFFFFE)
+    cookie = bytes(range(60))
+    payload = b'message of 21 bytes..'
+    yield [chunk(1, 0, numbers)]
+    yield [chunk(1, 0, numbers + in_list([
+        parameter(5, bytes([192, 0, 2, 1])), parameter(6, bytes(range(16))), parameter(9, u32(60000)),
+        parameter(11, b'host.example\0'), parameter(12, u16(5) + u16(6)), parameter(0x8000, b''),
+        parameter(0x8001, u32(1)), parameter(0x8002, bytes(range(32))), parameter(0x8003, bytes([0, 192, 193])),
+        parameter(0x8004, u16(3) + u16(1)), parameter(0x8008, bytes([64, 130, 192, 194, 193])),
+        parameter(0xC000, b''), parameter(0xC006, u32(77)), parameter(0x9234, b'seven..')]))]
+    yield [chunk(2, 0, numbers[::-1] + in_list([
+        parameter(0x8008, bytes([64, 130])), parameter(8, parameter(0x9234, b'seven..') + b'\0'), parameter(0x8001, u32(2)),
+        parameter(0xC000, b''), parameter(7, cookie), parameter(0x8008, b'')]))]
+    yield [chunk(10, 0, cookie), chunk(0, 3, u32(1) + u16(2) + u16(3) + u32(50) + payload)]
+    yield [chunk(11, 0, b''), chunk(0, 3, u32(4) + u16(5) + u16(6) + u32(53))]
+    for flags, ppid in zip(range(16), itertools.cycle([0, 46, 51, 52, 53, 54, 56, 57, 58, 0xFFFFFFFF])):
+        yield [chunk(0, flags, u32(0xFFFFFFF0 + flags) + u16(1000 + flags) + u16(65535 - flags) + u32(ppid)
+                     + payload[flags:])]
+        yield [chunk(64, flags, u32(0xFFFFFFF0 + flags) + u16(1000 + flags) + u16(0) + u32(70000 + flags) + u32(ppid)
+                     + payload[flags:])]
+    yield [chunk(3, 0, u32(0xFFFFFFFF) + u32(9000) + u16(0) + u16(0))]
+    yield [chunk(3, 0, u32(7) + u32(0) + u16(2) + u16(3) + u16(2) + u16(3) + u16(5) + u16(65535)
+                 + u32(4) + u32(5) + u32(0xFFFFFFFD)), chunk(0, 3, u32(8) + u16(0) + u16(1) + u32(51) + b'h')]
+    yield [chunk(4, 0, parameter(1, b'twelve bytes')), chunk(5, 0, parameter(1, b'twelve bytes'))]
+    yield [chunk(4, 0, in_list([parameter(0x9234, b'odd'), parameter(1, b'thirteen byte')])), chunk(11, 0, b'')]
+    yield [chunk(5, 0, parameter(1, b''))]
+    yield [chunk(192, 0, u32(20) + u16(1) + u16(2) + u16(3) + u16(4)), chunk(192, 0, u32(21))]
+    yield [chunk(194, 0, u32(22) + u16(5) + u16(0) + u32(0x12345678) + u16(6) + u16(1) + u32(7)), chunk(194, 0, u32(23))]
+    yield [chunk(130, 0, in_list([parameter(13, u32(31) + u32(32) + u32(33) + u16(34) + u16(35) + u16(36))]))]
+    yield [chunk(130, 0, in_list([parameter(13, u32(37) + u32(38) + u32(39))])), chunk(11, 0, b'')]
+    yield [chunk(130, 0, in_list([parameter(14, u32(40) + u16(41)), parameter(16, u32(42) + u32(1))]))]
+    yield [chunk(130, 0, parameter(15, u32(43)))]
+    for result in range(7):
+        yield [chunk(130, 0, parameter(16, u32(44) + u32(result)))]
+    yield [chunk(130, 0, parameter(16, u32(45) + u32(1) + u32(46) + u32(47)))]
+    yield [chunk(130, 0, in_list([parameter(17, u32(48) + u16(49) + u16(0)), parameter(18, u32(50) + u16(51) + u16(0))]))]
+    values = {2: u32(2) + u16(7) + u16(13), 6: chunk(73, 1, b'eight by'), 9: u32(61), 10: b'',
+              12: 'closed: "r\u00e9sum\u00e9" \\'.encode(), 13: b'not UTF-8: \xff\xe2\x82'}
+    for code in range(16):
+        yield [chunk(9, 0, parameter(code, values.get(code, b'%4d' % code)))]
+    yield [chunk(9, 0, in_list([parameter(1, u16(62) + u16(0)), parameter(12, b'odd'), parameter(9, u32(63)),
+                                parameter(0x0105, u16(64))]))]
+    yield [chunk(6, 0, b'')]
+    yield [chunk(6, 1, b'')]
+    yield [chunk(6, 0, in_list([parameter(12, b'User called close'), parameter(13, b'')]))]
+    yield [chunk(6, 1, in_list([parameter(12, b'\xc3(\xa9'), parameter(12, b'')]))]
+    yield [chunk(7, 0, u32(71))]
+    yield [chunk(8, 0, b'')]
+    yield [chunk(14, 0, b'')]
+    yield [chunk(14, 1, b'')]
+    yield [chunk(15, 0, u16(1) + u16(3) + bytes(range(32))), chunk(11, 0, b'')]
+    yield [chunk(193, 0, u32(72) + parameter(5, bytes(4)) + parameter(0xC001, u32(73) + parameter(5, bytes(4))))]
+    yield [chunk(128, 0, u32(72) + parameter(0xC005, u32(73)))]
+    yield [chunk(73, 0xA5, b'five.'), chunk(0, 3, u32(80) + u16(81) + u16(82) + u32(53) + payload), chunk(255, 0, b'')]
+
+
+def packets(seed, link):
+    """Packets whose checksums are right, but for one in eleven that is wrong and one that is zero."""
+    plain = [u16(5000) + u16(2905) + u32(0x01020304 + at) + bytes(4) + b''.join(it + padding(it) for it in chunks)
+             for at, chunks in enumerate(association())]
+    for name, _, count, make in FILES:
+        peer = Peer(Draw(seed, link, name))
+        plain += [make(peer) for _ in range(5)] if count > HOSTILE_PACKETS else []
+    for at, packet in enumerate(plain):
+        word = crc32c(packet[:8] + bytes(4) + packet[12:])
+        checksum = u32(word ^ 1 << at % 32) if at % 11 == 3 else bytes(4) if at % 11 == 7 else u32(word)
+        yield packet[:8] + checksum + packet[12:]
+
+
+V4 = dict(src='192.0.2.1', dst='255.10.0.254')
+V6 = (dict(src='2001:db8::1:0:0:1', dst='::'), dict(src='2001:db8:0:1:1:1:1:1', dst='::ffff:192.0.2.1'),
+      dict(src='fe80::1', dst='2001:0:0:1::'))
+ETHER, IN_UDP = Ether(src='02:00:00:00:00:01', dst='02:00:00:00:00:02'), UDP(sport=9899, dport=9899)
+IPV4 = IP(proto=132, **V4)
+IPV4_OPTIONS = IP(proto=132, options=[IPOption_NOP()] * 4, **V4)
+IPV6 = IPv6(nh=132, **V6[0])
+# A capture's name, its byte order, the digits of its times, its link type, and the headers of its packets in turns.
+CAPTURES = (
+    ('ethernet', '<', 6, 1, (ETHER / IPV4, ETHER / IPV6, ETHER / Dot1Q(vlan=5) / IPV4_OPTIONS, ETHER / IP(**V4) / IN_UDP,
+                             ETHER / IPv6(**V6[1]) / IN_UDP, ETHER / Dot1Q(vlan=6) / IPV6)),
+    ('raw', '>', 9, 101, (IPV4, IPv6(nh=132, **V6[2]), IPv6(**V6[1]) / IPv6ExtHdrHopByHop(nh=60) / IPv6ExtHdrDestOpt(nh=132),
+                          IP(**V4) / UDP(sport=40000, dport=9899), IPv6(**V6[0]) / UDP(sport=9899, dport=40000))),
+    ('cooked', '<', 9, 113, (CookedLinux(proto=0x800) / IPV4, CookedLinux(proto=0x86DD) / IPV6)),
+    ('sctp', '>', 6, 248, (None,)),
+)
+MAGIC = {6: 0xA1B2C3D4, 9: 0xA1B23C4D}
+
+
+def capture(order, digits, link, headers, contents):
+    file = struct.pack(order + 'IHHiIII', MAGIC[digits], 2, 4, 0, 0, 262144, link)
+    for at, (packet, header) in enumerate(zip(contents, itertools.cycle(headers))):
+        frame = bytes(header / Raw(packet)) if header else packet
+        if link == 1:
+            frame += bytes(max(0, 60 - len(frame)))
+        file += struct.pack(order + 'IIII', 1700000000 + at, at * 1001, len(frame), len(frame)) + frame
+    return file
+
+
+def bind():
+    """What scapy leaves unbound: SCTP in UDP (RFC 6951), after IPv6's extension headers, and alone."""
+    bind_layers(UDP, SCTP, dport=9899)
+    bind_layers(UDP, SCTP, sport=9899)
+    bind_layers(IPv6ExtHdrDestOpt, SCTP, nh=132)
+    conf.l2types.register(248, SCTP)
+
+
+def blocks(output):
+    """The program's lines by the packet's number, and its last line."""
+    *found, last = output.split('\n\n')
+    return {int(re.search(r'\d+', it)[0]): it.split('\n') for it in found}, last.strip()
+
+
+def main():
+    options = {'--program': os.path.join(ROOT, 'crates', 'sctp_dump', 'out', 'sctp_dump'), '--seed': '1'}
+    words = sys.argv[1:]
+    if words == ['--help']:
+        print(__doc__)
+        return 0
+    if len(words) % 2 or not set(words[::2]) <= set(options):
+        print(__doc__, file=sys.stderr)
+        return 2
+    options.update(zip(words[::2], words[1::2]))
+    if not os.access(options['--program'], os.X_OK):
+        print('scapy.py: no program %s (docs/DUMP.md builds it)' % options['--program'], file=sys.stderr)
+        return 2
+    folder = os.path.join(ROOT, 'bench', 'out', 'scapy')
+    os.makedirs(folder, exist_ok=True)
+    bind()
+    expected, total, count, bad = Expected(), collections.Counter(), 0, 0
+    for name, order, digits, link, headers in CAPTURES:
+        path = os.path.join(folder, name + '.pcap')
+        contents = list(packets(options['--seed'], name))
+        with open(path, 'wb') as file:
+            file.write(capture(order, digits, link, headers, contents))
+        run = subprocess.run([options['--program'], '--payload', path], capture_output=True, text=True, check=False)
+        if run.returncode > 1:
+            print('scapy.py: the program failed: %s' % run.stderr, file=sys.stderr)
+            return 2
+        printed, last = blocks(run.stdout)
+        print('%s: %s' % (name, last))
+        for number, (frame, packet) in enumerate(zip(PcapReader(path), contents, strict=True), 1):
+            agreed, wrong = compared(printed.get(number, []), list(expected.packet(number, frame, digits)))
+            count, bad, total = count + 1, bad + bool(wrong), total + agreed
+            print('packet %d: %d fields agree%s' % (
+                number, sum(agreed.values()), ", %d don't: %s" % (len(wrong), packet.hex()) if wrong else ''))
+            for line in wrong:
+                print('  ' + line)
+    print("scapy %s doesn't dissect: %s" % (scapy.VERSION, ', '.join(sorted(expected.undissected))))
+    for fault, times in expected.corrected.items():
+        print("scapy's fault, corrected %d times: %s" % (times, fault))
+    print("the program prints the library's replacement of texts that aren't UTF-8, not their bytes: %d" % expected.replaced)
+    print('%d packets, %d with a disagreement; %d fields agree, %d with scapy and %d with the RFC\'s layout' % (
+        count, bad, sum(total.values()), total[SCAPY], total[LAYOUT]))
+    return 1 if bad else 0
+
+
+if __name__ == '__main__':
+    sys.exit(main())
