@@ -9,7 +9,8 @@ usage: bench/scapy.py [OPTION]..
 
 Makes four captures in bench/out/scapy: Ethernet, raw IP, Linux cooked and SCTP links, in all forms of pcap. Each holds
 every kind of chunk, parameter and error cause, and packets of each traffic file. What scapy doesn't dissect is compared
-with a reading of the bytes by the RFC's layout, below. Status: 0 if all fields agree, 1 if not, 2 if it can't run.
+with a reading of the bytes by the RFC's layout, below. The golden run of crates/sctp_dump is compared in the same way, and
+its lines without a packet with those written by hand, below. Status: 0 if all fields agree, 1 if not, 2 if it can't run.
 
 Needed are scapy (apt-get install python3-scapy) and the program, built (docs/DUMP.md)."""
 import collections
@@ -63,7 +64,7 @@ UNREADABLE = {12: b'Failed to parse abort reason', 13: b'Failed to parse additio
 
 # A line that is expected: its form, the values of its fields, and whether they are scapy's or read by the layout.
 Line = collections.namedtuple('Line', 'form values source')
-SCAPY, LAYOUT = "scapy's", 'by the layout'
+SCAPY, LAYOUT, HAND = "scapy's", 'by the layout', 'by hand'
 # The fields of a form that may be empty.
 OPTIONAL = {'protocol': r'(?: \([^)]*\))?', 'order': ', (?:un)?ordered', 'beginning': '(?:, beginning)?',
             'end': '(?:, end)?', 'immediate': '(?:, immediate)?', 'reflected': '(?:, tag reflected)?'}
@@ -118,12 +119,17 @@ class Expected:
 
     def packet(self, number, frame, digits):
         yield scapys('packet {number}, time {time}', number, format(frame.time, '.%df' % digits))
+        yield from self.addresses(frame)
+        yield from self.sctp(frame[SCTP])
+
+    def addresses(self, frame):
         ip = frame.getlayer(IP) or frame.getlayer(IPv6)
         if ip:
             yield scapys('from {source} to {destination}', ip.src, ip.dst)
         if UDP in frame:
             yield scapys('udp source {source}, destination {destination}', frame[UDP].sport, frame[UDP].dport)
-        sctp = frame[SCTP]
+
+    def sctp(self, sctp):
         yield scapys('source {source}, destination {destination}, tag {tag}', sctp.sport, sctp.dport, sctp.tag)
         word = crc32c(sctp.original[:8] + bytes(4) + sctp.original[12:])
         verdict = 'right' if sctp.chksum == word else 'zero' if sctp.chksum == 0 else 'wrong, expected 0x%08x' % word
@@ -351,6 +357,81 @@ def compared(lines, expected):
     return agreed, wrong
 
 
+# The golden run.
+
+def by_hand(text):
+    """A line of no packet's field; a bad chunk's bytes and place by the layout of RFC 9260 section 3.2."""
+    return Line(text.replace('{', '{{').replace('}', '}}'), (), HAND)
+
+
+# A file, and for each of its records or lines what is expected: a packet, or lines by hand. Record 2 carries TCP. In record
+# 8 the chunk at byte 12 says a length of 3, which is less than its header.
+PACKET, ADDRESSES = object(), object()
+GOLDEN = (
+    ('ethernet.pcap', 6, (
+        PACKET, (), PACKET, ('record 4 skipped: a fragment',), PACKET, ('record 6 skipped: cut off',), PACKET,
+        (ADDRESSES, 'error: invalid chunk: length', 'at byte 12', '0000: 13 88 13 89 00 00 00 03 27 7f 41 c4 0b 00 00 03',
+         6 * ' ' + 12 * '   ' + '^^', ''),
+        ('record 9 skipped: the file ends in it',))),
+    ('cooked.pcap', 9, (PACKET,)),
+    ('lines.txt', 0, (
+        (), 'packet 1', 'packet 2, time 17:39:54.123, incoming', 'packet 3, time 17:39:54.124, outgoing', 'packet 4',
+        ('line 8 skipped: not a packet',), 'packet 5')),
+)
+GOLDEN_COUNTS = ('packets 11: accepted 10, refused 1 (size 0, length 1, padding 0, value 0); skipped 5 (not SCTP 1, '
+                 'fragment 1, cut 2, malformed 0, too long 0, unknown 1)')
+
+
+def golden_texts(lines):
+    """The packets of a text: the bytes of each line, or of the lines of a dump."""
+    for number, line in enumerate(lines):
+        if line[:2] in ('I ', 'O '):
+            yield SCTP(bytes.fromhex(''.join(line.split('#')[0].split()[3:])))
+        elif re.match(r'[0-9a-f]{8}: ', line) and int(line[:8], 16) == 0:
+            groups = [it[10:].split('  ')[0] for it in itertools.takewhile(lambda it: ': ' in it[:10], lines[number:])]
+            yield SCTP(bytes.fromhex(''.join(groups)))
+        elif line.startswith('\t0x0000:'):
+            yield IP(bytes.fromhex(''.join(it.split(':')[1] for it in lines[number:] if it.startswith('\t0x'))))
+        elif re.fullmatch('[0-9a-f ]+', line):
+            yield SCTP(bytes.fromhex(line))
+
+
+def golden_lines(expected, folder):
+    for name, digits, records in GOLDEN:
+        yield by_hand('file ' + name)
+        path = os.path.join(folder, 'data', name)
+        if digits:
+            frames = itertools.chain(PcapReader(path), itertools.repeat(None))
+        else:
+            with open(path, encoding='ascii') as file:
+                frames = golden_texts(file.read().split('\n'))
+        for number, said in enumerate(records, 1):
+            frame = next(frames) if digits or isinstance(said, str) else None
+            if said is PACKET:
+                yield from expected.packet(number, frame, digits)
+                yield by_hand('')
+            elif isinstance(said, str):
+                yield by_hand(said)
+                yield from expected.addresses(frame)
+                yield from expected.sctp(frame[SCTP])
+                yield by_hand('')
+            else:
+                for line in said:
+                    if line is ADDRESSES:
+                        yield scapys('packet {number}, time {time}', number, format(frame.time, '.%df' % digits))
+                        yield from expected.addresses(frame)
+                    else:
+                        yield by_hand(line)
+    yield by_hand(GOLDEN_COUNTS)
+
+
+def golden(expected):
+    folder = os.path.join(ROOT, 'crates', 'sctp_dump')
+    with open(os.path.join(folder, 'stdout'), encoding='utf-8') as file:
+        lines = file.read().removesuffix('\n').split('\n')
+    return compared(lines, list(golden_lines(expected, folder)))
+
+
 # The captures.
 
 def association():
@@ -484,6 +565,11 @@ def main():
     os.makedirs(folder, exist_ok=True)
     bind()
     expected, total, count, bad = Expected(), collections.Counter(), 0, 0
+    agreed, wrong = golden(expected)
+    print('golden run: %d fields agree, %d lines are wrong' % (sum(agreed.values()), len(wrong)))
+    for line in wrong:
+        print('  ' + line)
+    bad += bool(wrong)
     for name, order, digits, link, headers in CAPTURES:
         path = os.path.join(folder, name + '.pcap')
         contents = list(packets(options['--seed'], name))
