@@ -10,7 +10,7 @@ int main(void)
         length++;
 
     /* Is it a packet, and is its checksum its CRC32c? */
-    const struct dcsctp_policy policy = {false, false, false};
+    const struct dcsctp_policy policy = {.any_checksum = false, .zero_checksum = false, .strict_padding = false};
     size_t offset;
     uint32_t fault = dcsctp_first_fault(bytes, length, dcsctp_word(bytes, length), &policy, &offset);
     if (fault != DCSCTP_OK) {
@@ -24,11 +24,12 @@ int main(void)
     struct dcsctp_init init;
     if (!dcsctp_header(bytes, length, &header) || !dcsctp_chunk_at(bytes, length, DCSCTP_FIRST_CHUNK, &chunk)
         || !dcsctp_init(bytes, length, &chunk, &init) || chunk.type != DCSCTP_INIT || chunk.next < length
-        || header.verification_tag != 0)
+        || header.verification_tag != 0 || init.initiate_tag == 0)
         return 1;
 
     /* The answer goes back under the tag that the INIT asks for. */
-    const struct dcsctp_init own = {0x0da73798, 0x20000, 4, 4, 0x66e387ab};
+    const struct dcsctp_init own = {.initiate_tag = 0x0da73798, .a_rwnd = 0x20000, .outbound_streams = 4,
+                                    .inbound_streams = 4, .initial_tsn = 0x66e387ab};
     const uint8_t cookie[] = {'a', 'b', 'c', 'd'};
     uint8_t packet[1200];
     size_t size;

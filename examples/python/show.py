@@ -42,6 +42,8 @@ class Server:
         is_alone = chunk.next == len(packet.bytes)
         if chunk.type == INIT and header.verification_tag == 0 and is_alone:
             self.peer_tag = packet.init(chunk).initiate_tag
+            if self.peer_tag == 0:
+                return None
             writer = self.reply_to(header)
             writer.init_ack(OWN, b'abcd')
             return writer.seal()

@@ -52,6 +52,9 @@ fn answer<'a>(packet: Packet, peer_tag: &mut u32, reply: &'a mut [u8]) -> Option
     let (source, destination) = (header.destination_port, header.source_port);
     if chunk.typ == INIT && header.verification_tag == 0 && chunk.next == packet.bytes.len() {
         *peer_tag = packet.init(&chunk)?.initiate_tag;
+        if *peer_tag == 0 {
+            return None;
+        }
         let writer = Writer::begin(reply, source, destination, *peer_tag)?;
         return Some(writer.init_ack(&OWN, b"abcd")?.seal());
     }
