@@ -325,18 +325,22 @@ def expression(form):
     return ''.join(re.escape(text) + ('(%s)' % OPTIONAL.get(name, '.*?') if name else '') for text, name, _, _ in parts)
 
 
-def meant(text, value):
-    """What the program's text means, if it can be of the value's type."""
+def meant(text, value, most):
+    """What the program's text means, if it can be of the value's type; of more bytes than `most` it prints the first."""
     if isinstance(value, int):
         return int(text, 0) if re.fullmatch(r'\d+|0x[0-9a-f]+', text) else text
     if isinstance(value, bytes):
-        found = re.fullmatch(r'(1 byte|(?!1 )\d+ bytes)(?:: ((?:[0-9a-f]{2})+))?', text)
-        shown = bytes.fromhex(found[2] or '') if found else b''
-        return shown if found and len(shown) == int(found[1].split()[0]) else text
+        found = re.fullmatch(r'(1 byte|(?!1 )\d+ bytes)(?:: ((?:[0-9a-f]{2})+)( \.\.)?)?', text)
+        if not found:
+            return text
+        shown, size = bytes.fromhex(found[2] or ''), int(found[1].split()[0])
+        if found[3]:
+            return value if size == len(value) > most == len(shown) and value.startswith(shown) else text
+        return shown if len(shown) == size <= most else text
     return text
 
 
-def compared(lines, expected):
+def compared(lines, expected, most):
     """How many fields agree, by source, and what doesn't."""
     agreed, wrong = collections.Counter(), []
     if not lines:
@@ -350,7 +354,7 @@ def compared(lines, expected):
             wrong.append('the program: %r; expected (%s) %r with %r' % (text, line.source, line.form, line.values))
             continue
         for name, text_of, value in zip(names_of(line.form), found.groups(), line.values, strict=True):
-            if meant(text_of, value) == value:
+            if meant(text_of, value, most) == value:
                 agreed[line.source] += 1
             else:
                 wrong.append('%s: the program %r, %s %r, in %r' % (name, text_of, line.source, value, text))
@@ -374,11 +378,21 @@ GOLDEN = (
          6 * ' ' + 12 * '   ' + '^^', ''),
         ('record 9 skipped: the file ends in it',))),
     ('cooked.pcap', 9, (PACKET,)),
+    ('association.txt', 0, (
+        *('packet %d' % number for number in range(1, 17)),
+        ('packet 17', 'error: invalid chunk: length', 'at byte 12', '0000: 13 88 13 88 4d 2d f5 2d 52 e5 9e ed 03 00 00 14',
+         6 * ' ' + 12 * '   ' + '^^', ''),
+        ('packet 18', 'error: invalid chunk: length', 'at byte 16', '0010: 00 01 00 2c 99 5c 05 6b d8 40 05 00 00 00 00 00',
+         6 * ' ' + '^^', ''),
+        ('packet 19', 'error: invalid chunk: value', 'at byte 16', '0010: 00 10 00 0c 79 06 b4 b0 00 00 00 07',
+         6 * ' ' + '^^', ''),
+        ('packet 20', 'error: invalid packet size', 'at byte 15', '0000: 13 88 13 88 0d a7 37 98 89 20 01 d0 0e 00 00',
+         6 * ' ' + 15 * '   ' + '^^', ''))),
     ('lines.txt', 0, (
         (), 'packet 1', 'packet 2, time 17:39:54.123, incoming', 'packet 3, time 17:39:54.124, outgoing', 'packet 4',
         ('line 8 skipped: not a packet',), 'packet 5')),
 )
-GOLDEN_COUNTS = ('packets 11: accepted 10, refused 1 (size 0, length 1, padding 0, value 0); skipped 5 (not SCTP 1, '
+GOLDEN_COUNTS = ('packets 31: accepted 26, refused 5 (size 1, length 3, padding 0, value 1); skipped 5 (not SCTP 1, '
                  'fragment 1, cut 2, malformed 0, too long 0, unknown 1)')
 
 
@@ -429,7 +443,7 @@ def golden(expected):
     folder = os.path.join(ROOT, 'crates', 'sctp_dump')
     with open(os.path.join(folder, 'stdout'), encoding='utf-8') as file:
         lines = file.read().removesuffix('\n').split('\n')
-    return compared(lines, list(golden_lines(expected, folder)))
+    return compared(lines, list(golden_lines(expected, folder)), 16)
 
 
 # The captures.
@@ -582,7 +596,7 @@ def main():
         printed, last = blocks(run.stdout)
         print('%s: %s' % (name, last))
         for number, (frame, packet) in enumerate(zip(PcapReader(path), contents, strict=True), 1):
-            agreed, wrong = compared(printed.get(number, []), list(expected.packet(number, frame, digits)))
+            agreed, wrong = compared(printed.get(number, []), list(expected.packet(number, frame, digits)), 2 ** 16)
             count, bad, total = count + 1, bad + bool(wrong), total + agreed
             print('packet %d: %d fields agree%s' % (
                 number, sum(agreed.values()), ", %d don't: %s" % (len(wrong), packet.hex()) if wrong else ''))

@@ -3,9 +3,10 @@
 
 Makes the page of captures, docs/CAPTURES.md, by running the program.
 
-  --write    runs sctp_show (`rt try`) over the packets of docs/captures.txt, and writes docs/CAPTURES.md and
-             two tables: crates/sctp_show/src/tests/captures.rt of what the program prints, and
-             crates/dcsctp_uses/src/tests/association.rt of the packets that carry their checksums
+  --write    runs sctp_show (`rt try`) over the packets of docs/captures.txt, and writes docs/CAPTURES.md, two
+             tables, crates/sctp_show/src/tests/captures.rt of what the program prints and
+             crates/dcsctp_uses/src/tests/association.rt of the packets that carry their checksums, and these
+             packets for the golden run of sctp_dump, whose output the page quotes
   --compare  runs nothing; fails if the page isn't what the tables and docs/captures.txt give, or if a packet
              doesn't carry its CRC32c
   --help     prints this
@@ -24,6 +25,8 @@ PAGE = os.path.join(ROOT, 'docs', 'CAPTURES.md')
 PROGRAM = os.path.join(ROOT, 'crates', 'sctp_show')
 TABLE = os.path.join(PROGRAM, 'src', 'tests', 'captures.rt')
 SEALED = os.path.join(ROOT, 'crates', 'dcsctp_uses', 'src', 'tests', 'association.rt')
+GOLDEN = os.path.join(ROOT, 'crates', 'sctp_dump')
+DUMPED = os.path.join(GOLDEN, 'data', 'association.txt')
 
 # Both ports 5000, tag 16909060, checksum 0.
 HEADER = '1388138801020304' + '00000000'
@@ -32,7 +35,7 @@ PAGE_HEAD = '''# Packets of real peers
 
 Each can be given to the program: `(cd crates/sctp_show && echo HEX | rt try)`. `docs/captures.py --write` makes this page of
 `docs/captures.txt` and of what the program prints; tests hold it too (`crates/sctp_show/src/tests/captures.rt`,
-`crates/dcsctp_uses/src/tests/association.rt`).
+`crates/dcsctp_uses/src/tests/association.rt`, the golden run of `crates/sctp_dump`).
 '''
 
 # What is said below each heading.
@@ -41,10 +44,11 @@ SECTIONS = {
 ''',
     'An association, with its checksums': '''Two sockets of usrsctp 0.9.5.0 (Debian's `libusrsctp2`) in one process, `bench/association.c`: all packets from INIT to SHUTDOWN
 COMPLETE, as they were sent. Each carries its CRC32c: `read_verified` (docs/CALLING.md) reads it, and refuses it after each
-single changed bit of the checksum field.
+single changed bit of the checksum field. Below each is what `sctp_show` prints, and then what `sctp_dump` does.
 ''',
     'Refused packets, with their faults': '''Packets of this association, changed by hand; their checksums were computed anew, but for the first. The fault and its offset
-in bytes are those of `SctpPacket::first_fault`, with the word of `packet_word` and the default policy.
+in bytes are those of `SctpPacket::first_fault`, with the word of `packet_word` and the default policy. Below is what `sctp_dump`
+prints, which reads a packet whose checksum is wrong.
 ''',
 }
 
@@ -137,14 +141,24 @@ def in_table():
     return {text: answer.replace('\\n', '\n') for text, answer in rows}
 
 
+def dumped():
+    """What sctp_dump prints of each packet with a checksum field, by its golden run."""
+    with open(os.path.join(GOLDEN, 'stdout'), encoding='utf-8') as file:
+        text = file.read().partition('file association.txt\n')[2]
+    return iter(text.partition('file ')[0].split('\n\n'))
+
+
 def page_of(rows):
     parts = [PAGE_HEAD]
+    blocks = dumped()
     for entry, answer in rows:
         if isinstance(entry, str):
             parts.append(f'## {entry}\n\n{SECTIONS[entry]}')
             continue
         told = answer if entry.fault is None else f'refused: {entry.fault}, at byte {entry.offset}'
         block = [entry.text, '', *told.splitlines()]
+        if entry.is_whole:
+            block += ['', *next(blocks, '').splitlines()]
         parts.append('\n'.join(entry.words) + '\n\n' + '\n'.join('    ' + line if line else '' for line in block) + '\n')
     return '\n'.join(parts)
 
@@ -181,7 +195,8 @@ def sealed_of(rows):
 
 def pages(rows):
     """Each file that is made of the rows, and its text."""
-    return (PAGE, page_of(rows)), (TABLE, table_of(rows)), (SEALED, sealed_of(rows))
+    whole = ''.join(entry.text + '\n' for entry, _ in rows if isinstance(entry, Packet) and entry.is_whole)
+    return (PAGE, page_of(rows)), (TABLE, table_of(rows)), (SEALED, sealed_of(rows)), (DUMPED, whole)
 
 
 def compare():
