@@ -369,7 +369,7 @@ def by_hand(text):
 
 
 # A file, and for each of its records or lines what is expected: a packet, or lines by hand. Record 2 carries TCP. In record
-# 8 the chunk at byte 12 says a length of 3, which is less than its header.
+# 8 the chunk at byte 12 says a length of 3, which is less than its header. The last record of sctp.pcap says 2^32 - 1 bytes.
 PACKET, ADDRESSES = object(), object()
 GOLDEN = (
     ('ethernet.pcap', 6, (
@@ -378,6 +378,8 @@ GOLDEN = (
          6 * ' ' + 12 * '   ' + '^^', ''),
         ('record 9 skipped: the file ends in it',))),
     ('cooked.pcap', 9, (PACKET,)),
+    ('raw.pcap', 6, (PACKET, PACKET)),
+    ('sctp.pcap', 9, (PACKET, ('record 2 skipped: more than 262144 bytes',))),
     ('association.txt', 0, (
         *('packet %d' % number for number in range(1, 17)),
         ('packet 17', 'error: invalid chunk: length', 'at byte 12', '0000: 13 88 13 88 4d 2d f5 2d 52 e5 9e ed 03 00 00 14',
@@ -392,8 +394,8 @@ GOLDEN = (
         (), 'packet 1', 'packet 2, time 17:39:54.123, incoming', 'packet 3, time 17:39:54.124, outgoing', 'packet 4',
         ('line 8 skipped: not a packet',), 'packet 5')),
 )
-GOLDEN_COUNTS = ('packets 31: accepted 26, refused 5 (size 1, length 3, padding 0, value 1); skipped 5 (not SCTP 1, '
-                 'fragment 1, cut 2, malformed 0, too long 0, unknown 1)')
+GOLDEN_COUNTS = ('packets 34: accepted 29, refused 5 (size 1, length 3, padding 0, value 1); skipped 6 (not SCTP 1, '
+                 'fragment 1, cut 2, malformed 0, too long 1, unknown 1)')
 
 
 def golden_texts(lines):
