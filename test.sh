@@ -103,14 +103,16 @@ docs/api.py --compare || exit 1
 
 # `rt try` compiles anew for each run, which takes minutes in all: the gate leaves processors free for them.
 (
+    renice -n 10 "$BASHPID" >/dev/null
     sweep_tests
     sweep_program
 ) >"$results/refusals" &
 refusals=$!
 
 # In a copy, since the gate locks the crates of this one. `rt lib` proves the libraries there once more, unless it finds them proved
-# by an earlier `rt check` on this machine: it doesn't take what the gate proves.
+# by an earlier `rt check` on this machine: it doesn't take what the gate proves. The gate goes first, since it takes longer.
 (
+    renice -n 10 "$BASHPID" >/dev/null
     mkdir "$results/copy"
     git ls-files -z | xargs -0 cp --parents -t "$results/copy"
     "$results/copy/c/test.sh"
