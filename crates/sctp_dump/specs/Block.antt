@@ -1,5 +1,5 @@
 -- The text of a record: of a packet, of bytes that are refused, or of what is skipped.
-use Rattle.std.specs.Prelude.{◌≡◌, ℕ, ◌||◌, ◌-◌, ◌^◌, Bool, true, false, List, [], ◌++◌, if◌then◌else◌, codes, Ok, Err}
+use Rattle.std.specs.Prelude.{◌≡◌, ℕ, ◌||◌, ◌-◌, ◌^◌, Bool, true, List, [], ◌++◌, if◌then◌else◌, codes, Ok}
 use Rattle.dcsctp_wire.specs.declared.packet.sctp_packet.ChecksumPolicy.{ChecksumPolicy}
 use Rattle.dcsctp_wire.specs.Packet.{PacketTree, PacketFault, Answer, packet_error_of}
 use Rattle.dcsctp_wire.specs.Place.{HasPacketFaultAt}

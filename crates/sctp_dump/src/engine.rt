@@ -1,5 +1,11 @@
 //! The program over a reader and a writer, either of which may fail.
 
+ghost use Rattle.std.specs.Prelude.{[], OnOk, IfErr};
+ghost use Rattle.std.specs.Io.KnownBytes.{Keeps};
+ghost use Rattle.watched_io.specs.Watched.{device_of};
+ghost use Rattle.watched_io.specs.Output.{writer_of, total};
+ghost use Rattle.sctp_dump.specs.Prints.{Grows};
+
 use crate::arguments::{Form, Options};
 use crate::counts::Counts;
 use crate::failure::Failure;
@@ -48,7 +54,12 @@ fn form_of(form: Form, bytes: &[u8]) -> Result<bool, Failure> {
 const LONG: usize = 65_536;
 
 /// Writes the text if it is long.
-pub fn write_if_long<W: Write>(output: &mut Output<W>) -> Result<(), Failure> {
+pub fn write_if_long<W: Write>(output: &mut Output<W>) -> Result<(), Failure>
+    ensures text { OnOk result (Keeps (total W.contents output.old) (total W.contents output.new)) }
+    ensures stopped { IfErr result (λ failure. Grows failure
+        (total W.contents output.old) (total W.contents output.new)
+        (W.contents (device_of (writer_of output.new))) []) }
+{
     match output.write_from(LONG) {
         Ok(()) => Ok(()),
         Err(_) => Err(Failure::Write),

@@ -1,11 +1,11 @@
 //! Reads an input piece by piece, where what is written about it must not wait for it.
 
-ghost use Rattle.std.specs.Prelude.{◌≡◌, ◌+◌, ◌≤◌, ◌<◌, ◌↔◌, true, false, length, IfOk, OnOk, IsErrOf};
+ghost use Rattle.std.specs.Prelude.{◌≡◌, ◌+◌, ◌≤◌, ◌<◌, ◌↔◌, true, false, length, IfOk, IfSome, OnOk, IsErrOf};
 ghost use Rattle.std.specs.Io.KnownBytes.{Keeps, IsAtEnd};
 ghost use Rattle.watched_io.specs.Transfer.{AppendsBeginning, DropsBytes};
 ghost use Rattle.watched_io.specs.Watched.{device_of, has_failed};
 ghost use Rattle.watched_io.specs.Window.{held, left};
-ghost use Rattle.watched_io.specs.Output.{writer_of, pending, total};
+ghost use Rattle.watched_io.specs.Output.{writer_of, pending, total, HasBeginning};
 ghost use Rattle.watched_io.specs.declared.stream.StreamError.TheVariants.{Read, Write};
 
 use crate::output::Output;
@@ -39,6 +39,8 @@ pub fn read_more<R: Read, W: Write>(
 
     // Nor is any text, unless a write fails: then the writer has a beginning of it.
     ensures text { OnOk result (Keeps (total W.contents output.old) (total W.contents output.new)) }
+    ensures unread { IsErrOf result Read
+        → Keeps (total W.contents output.old) (total W.contents output.new) }
     ensures cut { IsErrOf result Write
         → AppendsBeginning (W.contents (device_of (writer_of output.old)))
         (W.contents (device_of (writer_of output.new))) (pending output.old) }
@@ -72,6 +74,14 @@ pub fn need<R: Read, W: Write>(
     ensures stream { Keeps (left window.old (R.remaining (device_of input.old)))
         (left window.new (R.remaining (device_of input.new))) }
     ensures text { OnOk result (Keeps (total W.contents output.old) (total W.contents output.new)) }
+    ensures unread { IsErrOf result Read
+        → Keeps (total W.contents output.old) (total W.contents output.new) }
+    ensures cut { IsErrOf result Write → HasBeginning (total W.contents output.old)
+        (W.contents (device_of (writer_of output.new))) }
+    ensures failed_read { has_failed input.old ≡ false
+        → IsErrOf result Read ↔ (has_failed input.new ≡ true) }
+    ensures failed_write { has_failed (writer_of output.old) ≡ false
+        → IsErrOf result Write ↔ (has_failed (writer_of output.new) ≡ true) }
 {
     while window.len() < count {
         match read_more(window, input, output) {
@@ -95,7 +105,17 @@ pub fn skip<R: Read, W: Write>(
         → DropsBytes count (left window.old (R.remaining (device_of input.old)))
         (left window.new (R.remaining (device_of input.new)))) }
     ensures end { IfOk result (λ b. b ≡ false → IsAtEnd (R.remaining (device_of input.new))) }
+    ensures short { IfOk result (λ b. b ≡ false
+        → IfSome (left window.old (R.remaining (device_of input.old))) (λ all. length all < count)) }
     ensures text { OnOk result (Keeps (total W.contents output.old) (total W.contents output.new)) }
+    ensures unread { IsErrOf result Read
+        → Keeps (total W.contents output.old) (total W.contents output.new) }
+    ensures cut { IsErrOf result Write → HasBeginning (total W.contents output.old)
+        (W.contents (device_of (writer_of output.new))) }
+    ensures failed_read { has_failed input.old ≡ false
+        → IsErrOf result Read ↔ (has_failed input.new ≡ true) }
+    ensures failed_write { has_failed (writer_of output.old) ≡ false
+        → IsErrOf result Write ↔ (has_failed (writer_of output.new) ≡ true) }
 {
     let mut ahead = count;
     while ahead > window.len() {

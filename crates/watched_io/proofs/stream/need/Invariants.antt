@@ -1,15 +1,17 @@
 -- Nothing was lost so far.
-use Rattle.std.proofs.Common.{◌-◌, length}
+use Rattle.std.proofs.Common.{◌≡◌, ◌-◌, false, length}
 use Rattle.std.specs.Io.KnownBytes.{Keeps}
-use Rattle.watched_io.specs.Watched.{device_of}
+use Rattle.watched_io.specs.Watched.{device_of, has_failed}
 use Rattle.watched_io.specs.Window.{held, left}
-use Rattle.watched_io.specs.Output.{total}
+use Rattle.watched_io.specs.Output.{writer_of, total}
 use Rattle.watched_io.proofs.stream.need.Given as goal
 
 abbrev pub invariant-loop-window : goal.invariant-loop-window
 invariant-loop-window g l =
     Keeps (left l.initial.window (g.R.Read.remaining (device_of l.initial.input))) (left l.window (g.R.Read.remaining (device_of l.input)))
     × Keeps (total g.W.Write.contents l.initial.output) (total g.W.Write.contents l.output)
+    × (has_failed l.initial.input ≡ false → has_failed l.input ≡ false)
+    × (has_failed (writer_of l.initial.output) ≡ false → has_failed (writer_of l.output) ≡ false)
 
 abbrev pub decreases-loop-window : goal.decreases-loop-window
 decreases-loop-window g l = l.count - length (held l.window)
