@@ -4,9 +4,9 @@ use Rattle.std.specs.Prelude.{◌≡◌, ℕ, ◌+◌, ◌-◌, ◌<◌, ◌≤�
 use Rattle.std.specs.List.{All}
 use Rattle.std.specs.List.Sorted.{IsPartitionPoint}
 use Rattle.dcsctp_chunk.specs.declared.sack_chunk.GapAckBlock.{GapAckBlock}
-use Rattle.dcsctp_chunk.specs.declared.chunk_validators.Counts.{Counts}
-use Rattle.dcsctp_chunk.specs.declared.chunk_validators.Gap.{Gap}
-use Rattle.dcsctp_chunk.specs.declared.chunk_validators.Place.{Place}
+use Rattle.dcsctp_chunk.specs.declared.chunk_validators.clean.Counts.{Counts}
+use Rattle.dcsctp_chunk.specs.declared.chunk_validators.runs.Gap.{Gap}
+use Rattle.dcsctp_chunk.specs.declared.chunk_validators.runs.Place.{Place}
 
 -- no block ends before its start, the first starts at low or later, and each later one at least 2
 -- past the end before it

@@ -1,7 +1,0 @@
--- The blocks so far are apart, and so are those that are left, exactly where all are.
-use Rattle.std.proofs.Common.{◌↔◌, IsTrue, drop}
-use Rattle.dcsctp_chunk.specs.Apart.{IsApart}
-use Rattle.dcsctp_chunk.proofs.chunk_validators.are_apart.Given as goal
-
-abbrev pub invariant-loop-block : goal.invariant-loop-block
-invariant-loop-block l = IsApart 2 l.blocks ↔ (IsTrue l.apart × IsApart l.least (drop l.block-index l.blocks))

@@ -1,0 +1,137 @@
+//! The cleaning of the gap ack blocks of a SACK.
+
+ghost use Rattle.std.specs.Prelude.{◌≡◌, ◌+◌, ◌<◌, ◌≤◌, ◌∷◌, length, take, drop, vec_capacity};
+ghost use Rattle.std.specs.List.{SameFrom};
+ghost use Rattle.dcsctp_chunk.specs.Apart.{IsApart, AreFree, both};
+ghost use Rattle.dcsctp_chunk.specs.Cover.{SameCover, IsCleaned, AreValid};
+
+use crate::chunk_validators::runs::{FREE, first_reaching, follows, insert, join_runs, make_free};
+use crate::chunk_validators::validate::are_apart;
+use crate::sack_chunk::{GapAckBlock, SackChunk};
+
+/// Replaces the blocks of the SACK by the runs of the offsets that they cover, as `clean_blocks`
+/// does, and keeps all else.
+///
+/// A SACK that `validate_sack` accepts stays as it is. Runs that start at 0 or 1 are kept, so
+/// `validate_sack` can refuse the result. It does not allocate.
+pub fn clean_sack(mut sack: SackChunk) -> SackChunk
+    ensures cumulative_tsn_ack { result.cumulative_tsn_ack ≡ sack.cumulative_tsn_ack }
+    ensures a_rwnd { result.a_rwnd ≡ sack.a_rwnd }
+    ensures duplicate_tsns { result.duplicate_tsns ≡ sack.duplicate_tsns }
+    ensures cleaned { IsCleaned sack.gap_ack_blocks.items result.gap_ack_blocks.items }
+    ensures same { AreValid sack.gap_ack_blocks.items → result ≡ sack }
+    ensures memory { vec_capacity result.gap_ack_blocks ≡ vec_capacity sack.gap_ack_blocks }
+{
+    clean_blocks(&mut sack.gap_ack_blocks);
+    sack
+}
+
+/// Replaces the blocks by the runs of the offsets that they cover, by rising start: as few blocks
+/// as there can be.
+///
+/// It works in the vector itself and does not allocate. Blocks that `validate_sack` accepts stay as
+/// they are.
+// Not inlined, so that `clean_sack` of a valid SACK moves nothing.
+#[inline(never)]
+pub fn clean_blocks(blocks: &mut Vec<GapAckBlock>)
+    ensures cleaned { IsCleaned blocks.old.items blocks.new.items }
+    ensures same { AreValid blocks.old.items → blocks.new ≡ blocks.old }
+    ensures memory { vec_capacity blocks.new ≡ vec_capacity blocks.old }
+{
+    if are_apart(blocks) {
+        return;
+    }
+    let kept = gather(blocks);
+    blocks.truncate(kept);
+}
+
+/// Puts block after block in among the runs of those before it: the first so many are then the
+/// runs of what the blocks covered.
+///
+/// A packet holds 16,379 blocks, and a run that is put in before others moves them all. So a block
+/// that does not follow the runs in front goes among a few recent ones, and these go among those in
+/// front all at once, when they are 256 and at the end.
+///
+/// The array of the recent ones is searched as a whole, since a search of a length that the
+/// compiler knows has no jumps. So a free place holds a block that ends last.
+fn gather(blocks: &mut [GapAckBlock]) -> usize
+    ensures len { result ≤ length blocks.old }
+    ensures apart { IsApart 0 (take result blocks.new) }
+    ensures cover { SameCover (take result blocks.new) blocks.old }
+{
+    turn_falling(blocks);
+    let mut recent = [FREE; 256];
+    let mut counts = Counts {
+        front: 0,
+        recent: 0,
+    };
+    for i in 0..blocks.len() {
+        let block = blocks[i];
+        if block.start <= block.end {
+            counts = add_block(blocks, &mut recent, counts, block);
+        }
+    }
+    let both = counts.front + counts.recent;
+    join_runs(&mut blocks[..both], counts.front, &recent[..counts.recent])
+}
+
+/// Turns the blocks round where the first starts after the last: of falling blocks each then
+/// starts after the one before it.
+fn turn_falling(blocks: &mut [GapAckBlock])
+    ensures { SameCover blocks.new blocks.old }
+{
+    let len = blocks.len();
+    if len > 0 && blocks[0].start > blocks[len - 1].start {
+        blocks.reverse();
+    }
+}
+
+/// How many runs stand in front, and how many recent ones beside them.
+#[derive(Clone, Copy)]
+struct Counts {
+    front: usize,
+    recent: usize,
+}
+
+/// Puts the block in after the runs in front or among the recent ones, which may overlap those.
+fn add_block(
+    blocks: &mut [GapAckBlock],
+    recent: &mut [GapAckBlock],
+    counts: Counts,
+    block: GapAckBlock,
+) -> Counts
+    requires room { counts.front + counts.recent < length blocks.old }
+    requires recent_room { counts.recent < length recent.old }
+    requires nonempty { block.start ≤ block.end }
+    requires apart { IsApart 0 (take counts.front blocks.old) }
+    requires recent_apart { IsApart 0 (take counts.recent recent.old) }
+    requires free { AreFree (drop counts.recent recent.old) }
+    ensures bound { result.front + result.recent ≤ counts.front + counts.recent + 1 }
+    ensures recent_bound { result.recent < length recent.old }
+    ensures apart { IsApart 0 (take result.front blocks.new) }
+    ensures recent_apart { IsApart 0 (take result.recent recent.new) }
+    ensures free { AreFree (drop result.recent recent.new) }
+    ensures cover { SameCover (both result recent.new blocks.new)
+        (block ∷ both counts recent.old blocks.old) }
+    ensures rest { SameFrom blocks.old blocks.new (counts.front + counts.recent + 1) }
+{
+    if follows(&blocks[..counts.front], block) {
+        blocks[counts.front] = block;
+        return Counts {
+            front: counts.front + 1,
+            recent: counts.recent,
+        };
+    }
+    let first = first_reaching(recent, counts.recent, block);
+    let count = insert(recent, counts.recent, first, block);
+    if count < recent.len() {
+        return Counts {
+            front: counts.front,
+            recent: count,
+        };
+    }
+    let both = counts.front + count;
+    let front = join_runs(&mut blocks[..both], counts.front, recent);
+    make_free(recent);
+    Counts { front, recent: 0 }
+}
