@@ -4,6 +4,7 @@ use Rattle.std.specs.Prelude.{◌≡◌, ℕ, ◌+◌, ◌-◌, ◌<◌, ◌≤�
 use Rattle.std.specs.List.{All}
 use Rattle.std.specs.List.Sorted.{IsPartitionPoint}
 use Rattle.dcsctp_chunk.specs.declared.sack_chunk.GapAckBlock.{GapAckBlock}
+use Rattle.dcsctp_chunk.specs.Cover.{SameCover}
 use Rattle.dcsctp_chunk.specs.declared.chunk_validators.clean.Counts.{Counts}
 use Rattle.dcsctp_chunk.specs.declared.chunk_validators.runs.Gap.{Gap}
 use Rattle.dcsctp_chunk.specs.declared.chunk_validators.runs.Place.{Place}
@@ -13,6 +14,11 @@ use Rattle.dcsctp_chunk.specs.declared.chunk_validators.runs.Place.{Place}
 abbrev pub IsApart : ℕ → List GapAckBlock → Type 0
 IsApart low [] = Unit {0}
 IsApart low (b ∷ bs) = (low ≤ b.start) × (b.start ≤ b.end) × IsApart (b.end + 2) bs
+
+-- the runs of what the blocks cover: they lie apart, and cover the same
+pub record AreRunsOf (runs blocks : List GapAckBlock) : Type 0 where
+  pub apart : IsApart 0 runs
+  pub cover : SameCover runs blocks
 
 -- the recent runs and those in front
 abbrev pub both : Counts → List GapAckBlock → List GapAckBlock → List GapAckBlock

@@ -2,7 +2,7 @@
 
 ghost use Rattle.std.specs.Prelude.{◌≡◌, ◌+◌, ◌<◌, ◌≤◌, ◌∷◌, length, take, drop, vec_capacity};
 ghost use Rattle.std.specs.List.{SameFrom};
-ghost use Rattle.dcsctp_chunk.specs.Apart.{IsApart, AreFree, both};
+ghost use Rattle.dcsctp_chunk.specs.Apart.{IsApart, AreRunsOf, AreFree, both};
 ghost use Rattle.dcsctp_chunk.specs.Cover.{SameCover, IsCleaned, AreValid};
 
 use crate::chunk_validators::runs::{FREE, first_reaching, follows, insert, join_runs, make_free};
@@ -56,8 +56,7 @@ pub fn clean_blocks(blocks: &mut Vec<GapAckBlock>)
 /// compiler knows has no jumps. So a free place holds a block that ends last.
 fn gather(blocks: &mut [GapAckBlock]) -> usize
     ensures len { result ≤ length blocks.old }
-    ensures apart { IsApart 0 (take result blocks.new) }
-    ensures cover { SameCover (take result blocks.new) blocks.old }
+    ensures runs { AreRunsOf (take result blocks.new) blocks.old }
 {
     turn_falling(blocks);
     let mut recent = [FREE; 256];

@@ -3,8 +3,7 @@
 
 ghost use Rattle.std.specs.Prelude.{◌≡◌, ◌↔◌, ◌+◌, ◌-◌, ◌<◌, ◌≤◌, [], ◌∷◌, ◌++◌, length, IsTrue, take, drop};
 ghost use Rattle.std.specs.List.{copy_within};
-ghost use Rattle.dcsctp_chunk.specs.Apart.{IsApart, AreFree, LastStartsBy, IsReachedAt, around, placed};
-ghost use Rattle.dcsctp_chunk.specs.Cover.{SameCover};
+ghost use Rattle.dcsctp_chunk.specs.Apart.{IsApart, AreRunsOf, AreFree, LastStartsBy, IsReachedAt, around, placed};
 
 use crate::sack_chunk::GapAckBlock;
 
@@ -53,9 +52,8 @@ pub(crate) fn insert(
     requires point { IsReachedAt block.start first (take kept runs.old) }
     requires free { AreFree (drop kept runs.old) }
     ensures len { result ≤ kept + 1 }
-    ensures apart { IsApart 0 (take result runs.new) }
+    ensures runs { AreRunsOf (take result runs.new) (block ∷ take kept runs.old) }
     ensures free { AreFree (drop result runs.new) }
-    ensures cover { SameCover (take result runs.new) (block ∷ take kept runs.old) }
 {
     let place = find_place(&runs[..kept], first, block);
     // whole eights where there is room, with free places after the runs: that makes fewer jumps
@@ -108,8 +106,7 @@ fn find_place(runs: &[GapAckBlock], first: usize, block: GapAckBlock) -> Place
     ensures order { result.first ≤ result.last }
     ensures bound { result.last ≤ length runs.now }
     ensures within { block.end ≤ result.run.end }
-    ensures apart { IsApart 0 (placed result runs.now) }
-    ensures cover { SameCover (placed result runs.now) (block ∷ runs.now) }
+    ensures runs { AreRunsOf (placed result runs.now) (block ∷ runs.now) }
 {
     let mut last = first;
     let mut run = block;
@@ -129,8 +126,7 @@ pub(crate) fn join_runs(runs: &mut [GapAckBlock], kept: usize, others: &[GapAckB
     requires apart { IsApart 0 (take kept runs.old) }
     requires others_apart { IsApart 0 others.now }
     ensures len { result ≤ kept + length others.now }
-    ensures apart { IsApart 0 (take result runs.new) }
-    ensures cover { SameCover (take result runs.new) (others.now ++ take kept runs.old) }
+    ensures runs { AreRunsOf (take result runs.new) (others.now ++ take kept runs.old) }
 {
     let mut gap = Gap {
         low: kept,
@@ -168,14 +164,12 @@ fn close_gap(runs: &mut [GapAckBlock], gap: Gap) -> usize
 fn put_by_walk(runs: &mut [GapAckBlock], gap: Gap, block: GapAckBlock) -> Gap
     requires order { gap.low < gap.high }
     requires bound { gap.high ≤ length runs.old }
-    requires nonempty { block.start ≤ block.end }
     requires apart { IsApart 0 (around gap runs.old) }
     requires below { IsApart 0 (block ∷ drop gap.high runs.old) }
     ensures order { result.low + gap.high ≤ gap.low + 1 + result.high }
     ensures bound { result.high ≤ length runs.old }
-    ensures apart { IsApart 0 (around result runs.new) }
+    ensures runs { AreRunsOf (around result runs.new) (block ∷ around gap runs.old) }
     ensures below { IsApart (block.end + 2) (drop result.high runs.new) }
-    ensures cover { SameCover (around result runs.new) (block ∷ around gap runs.old) }
 {
     let past = lift_past(runs, gap, block);
     let place = last_place(&runs[..past.low], block);
@@ -260,8 +254,7 @@ fn last_place(runs: &[GapAckBlock], block: GapAckBlock) -> Last
     requires near { LastStartsBy (block.end + 1) (length runs.now) runs.now }
     ensures bound { result.first ≤ length runs.now }
     ensures within { block.end ≤ result.run.end }
-    ensures apart { IsApart 0 (take result.first runs.now ++ (result.run ∷ [])) }
-    ensures cover { SameCover (take result.first runs.now ++ (result.run ∷ [])) (block ∷ runs.now) }
+    ensures runs { AreRunsOf (take result.first runs.now ++ (result.run ∷ [])) (block ∷ runs.now) }
 {
     let mut first = runs.len();
     let mut run = block;

@@ -3,7 +3,7 @@ use Rattle.std.proofs.Common.{◌≡◌, ◌+◌, ◌++◌, take, drop, get_or, 
 use Rattle.std.proofs.lemmas.List.{length-take-le, take_all}
 use Rattle.dcsctp_chunk.specs.declared.sack_chunk.GapAckBlock.{GapAckBlock}
 use Rattle.dcsctp_chunk.specs.Cover.{SameCover}
-use Rattle.dcsctp_chunk.proofs.RunsOf.{same_trans}
+use Rattle.dcsctp_chunk.proofs.Covers.{same_trans}
 use Rattle.dcsctp_chunk.proofs.Joined.{more_blocks, no_more_blocks, front_cover}
 use Rattle.dcsctp_chunk.proofs.chunk_validators.clean.gather.Goals as goal
 use Rattle.dcsctp_chunk.proofs.chunk_validators.clean.gather.Goals.{then-block, else-block}
@@ -45,13 +45,20 @@ loop-i-preserved c =
           }
     ]
 
-pub returns-clause-cover : goal.returns-clause-cover
-returns-clause-cover c =
+pub returns-clause-runs : goal.returns-clause-runs
+returns-clause-runs c =
     let front = c.loop-i.counts.front in
     let count = c.loop-i.counts.recent in
     let blocks = c.loop-i.blocks in
+    let recent = c.loop-i.recent in
     let turned = c.turn_falling.new.blocks in
+    let old = c.args.blocks.now in
     let over = c.loop-i-test.false in
-    let runs = take count c.loop-i.recent ++ take front blocks in
-    let cover : SameCover runs turned = subst (λ x. SameCover runs x) (take_all c.loop-i.i turned (omega arith)) c.loop-i.invariant.cover in
-    front_cover c.join_runs.new.runs (drop (front + count) blocks) c.loop-i.recent blocks c.args.blocks.now count front (front + count) c.join_runs.result (omega (arith, length-take-le (front + count) blocks (omega arith), length-take-le count c.loop-i.recent (omega arith))) (omega arith) c.join_runs.ensures.cover (same_trans runs turned c.args.blocks.now cover c.turn_falling.ensures)
+    let runs = take count recent ++ take front blocks in
+    let every : take c.loop-i.i turned ≡ turned = take_all c.loop-i.i turned (omega arith) in
+    let cover = subst (λ x. SameCover runs x) every c.loop-i.invariant.cover in
+    let long = length-take-le (front + count) blocks (omega arith) in
+    let recent_long = length-take-le count recent (omega arith) in
+    front_cover c.join_runs.new.runs (drop (front + count) blocks) recent blocks old count front
+    (front + count) c.join_runs.result (omega arith) (omega arith) c.join_runs.ensures.runs
+    (same_trans runs turned old cover c.turn_falling.ensures)

@@ -1,4 +1,4 @@
--- Those of the others that are left lie ahead of the gap's far side, and with the runs on both sides they cover what is covered.
+-- Those of the others that are left lie before the far side of the gap, and with the runs on both sides they cover what is covered.
 use Rattle.std.proofs.Common.{◌+◌, ◌≤◌, ◌++◌, length, take, drop}
 use Rattle.dcsctp_chunk.specs.Cover.{SameCover}
 use Rattle.dcsctp_chunk.specs.Apart.{IsApart}

@@ -1,6 +1,6 @@
--- The run covers what the block and the runs that it touches do.
-use Rattle.std.proofs.Common.{◌≤◌, [], ◌∷◌, length, drop}
-use Rattle.dcsctp_chunk.specs.Cover.{SameCover}
+-- The run put in among the runs that are left is the block put in among all.
+use Rattle.std.proofs.Common.{◌≡◌, ◌≤◌, length, take}
+use Rattle.dcsctp_chunk.proofs.RunsOf.{put_in}
 use Rattle.dcsctp_chunk.proofs.chunk_validators.runs.last_place.Given as goal
 
 abbrev pub invariant-loop-first : goal.invariant-loop-first
@@ -8,7 +8,7 @@ invariant-loop-first l = record {
   bound : l.first ≤ length l.runs;
   start : l.run.start ≤ l.fn.block.start;
   within : l.fn.block.end ≤ l.run.end;
-  cover : SameCover (l.run ∷ []) (l.fn.block ∷ drop l.first l.runs);
+  same : put_in l.run (take l.first l.runs) ≡ put_in l.fn.block l.runs;
 }
 
 abbrev pub decreases-loop-first : goal.decreases-loop-first

@@ -1,6 +1,6 @@
 use Rattle.std.proofs.Common.{◌≡◌, subst}
 use Rattle.std.specs.List.{copy_within}
-use Rattle.dcsctp_chunk.proofs.Placed.{copy_nowhere}
+use Rattle.dcsctp_chunk.proofs.Joined.{copy_nowhere}
 use Rattle.dcsctp_chunk.proofs.chunk_validators.runs.move_within.Goals as goal
 
 pub returns-else-start-dest : goal.returns-else-start-dest
