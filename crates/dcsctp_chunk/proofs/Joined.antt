@@ -1,17 +1,18 @@
 -- Runs put in among others, from the last on: those below a gap, and those past it.
 use Rattle.std.proofs.Common.{◌≡◌, inl, inr, ℕ, ◌+◌, ◌-◌, ◌<◌, ◌≤◌, List, [], ◌∷◌, ◌++◌, length, get_or, set, take, drop, sym, ap, subst, ◌∙◌, arith}
 use Rattle.std.specs.List.{copy_within}
-use Rattle.std.proofs.lemmas.List.{append_assoc, take_more, drop_at, take_more_set, take-append-le, take-append-drop, drop-set-lt, length-take-le, length-drop, drop-drop, drop-append-le, take-take, drop-take, get_or-take, get_or-drop, get_or_append_left}
+use Rattle.std.proofs.lemmas.List.{append_assoc, length-append, take_more, take-set, drop-set, take_at, drop_at, take_more_set, take-append-le, take-append-drop, drop-set-lt, length-take-le, length-drop, drop-drop, drop-append-le, take-take, drop-take, get_or-take, get_or-drop, get_or_append_left}
 use Rattle.std.proofs.Math.Seq.{take-add}
+use Rattle.std.proofs.lemmas.List.Edits.{length-paste}
 use Rattle.std.proofs.lemmas.List.Elements.{All-append, All-drop, All-take}
 use Rattle.dcsctp_chunk.specs.declared.sack_chunk.GapAckBlock.{GapAckBlock}
 use Rattle.dcsctp_chunk.specs.Cover.{SameCover}
 use Rattle.dcsctp_chunk.specs.Apart.{IsApart, AreFree, AreRunsOf}
-use Rattle.dcsctp_chunk.proofs.Covers.{covers_cases, same_refl, same_trans, same_append, same_cons, same_turned, same_reversed}
+use Rattle.dcsctp_chunk.proofs.Covers.{Blocks, covers_cases, same_refl, same_trans, same_append, same_cons, same_turned, same_reversed}
 use Rattle.dcsctp_chunk.proofs.Runs.{Split, split, apart_weaker, apart_append}
 
 -- a block put in among the runs below the gap
-pub below : (low high placed : List GapAckBlock) (b : GapAckBlock) → IsApart 0 (low ++ high)
+pub below : (low high placed : Blocks) (b : GapAckBlock) → IsApart 0 (low ++ high)
     → IsApart (b.end + 2) high → AreRunsOf placed (b ∷ low)
     → AreRunsOf (placed ++ high) (b ∷ (low ++ high))
 below low high placed b a d p =
@@ -26,8 +27,7 @@ below low high placed b a d p =
     }
 
 -- the last of the others that are left
-next_left : (others after : List GapAckBlock) (left : ℕ) (d : GapAckBlock) → 0 < left
-    → left ≤ length others
+next_left : (others after : Blocks) (left : ℕ) (d : GapAckBlock) → 0 < left → left ≤ length others
     → take left others ++ after ≡ take (left - 1) others ++ (get_or others (left - 1) d ∷ after)
 next_left others after left d l m =
     let back : left ≡ left - 1 + 1 = omega arith in
@@ -35,14 +35,14 @@ next_left others after left d l m =
     ap (λ x. take x others) back ∙ take_more others (left - 1) d (omega arith) in
     ap (λ x. x ++ after) more ∙ simp append_assoc
 
-pub next_apart : (others high : List GapAckBlock) (left : ℕ) (d : GapAckBlock) → 0 < left
+pub next_apart : (others high : Blocks) (left : ℕ) (d : GapAckBlock) → 0 < left
     → left ≤ length others → IsApart 0 (take left others ++ high)
     → Split 0 (take (left - 1) others) (get_or others (left - 1) d ∷ high)
 next_apart others high left d l m a =
     split 0 (take (left - 1) others) (get_or others (left - 1) d ∷ high)
     (subst (λ x. IsApart 0 x) (next_left others high left d l m) a)
 
-pub left_apart : (rest high after : List GapAckBlock) (b : GapAckBlock) → Split 0 rest (b ∷ high)
+pub left_apart : (rest high after : Blocks) (b : GapAckBlock) → Split 0 rest (b ∷ high)
     → IsApart (b.end + 2) after → IsApart 0 (rest ++ after)
 left_apart rest high after b s d =
     apart_append 0 rest after s.left (apart_weaker 0 (b.end + 2) after (omega arith) d) (λ o c.
@@ -51,8 +51,8 @@ left_apart rest high after b s d =
     let k1 = k.1 in
     apart_weaker (o + 2) (b.end + 2) after (omega arith) d)
 
-pub left_cover : (others runs after every : List GapAckBlock) (left : ℕ) (d : GapAckBlock)
-    → 0 < left → left ≤ length others → SameCover after (get_or others (left - 1) d ∷ runs)
+pub left_cover : (others runs after every : Blocks) (left : ℕ) (d : GapAckBlock) → 0 < left
+    → left ≤ length others → SameCover after (get_or others (left - 1) d ∷ runs)
     → SameCover (take left others ++ runs) every → SameCover (take (left - 1) others ++ after) every
 left_cover others runs after every left d l m e f =
     let rest = take (left - 1) others in
@@ -62,7 +62,7 @@ left_cover others runs after every left d l m e f =
     (subst (λ x. SameCover x every) (next_left others runs left d l m) f)
 
 -- what lies before the place that blocks were moved to, and from it on
-pub copied_front : (xs : List GapAckBlock) (i j k dest : ℕ) → k ≤ dest → dest ≤ length xs
+pub copied_front : (xs : Blocks) (i j k dest : ℕ) → k ≤ dest → dest ≤ length xs
     → take k (copy_within xs i j dest) ≡ take k xs
 copied_front xs i j k dest l m =
     let front = take dest xs in
@@ -72,7 +72,7 @@ copied_front xs i j k dest l m =
     ∙ take-append-le k front others (omega (arith, length-take-le dest xs m))
     ∙ take-take k dest xs l
 
-pub copied_back : (xs : List GapAckBlock) (i j dest : ℕ) → dest ≤ length xs
+pub copied_back : (xs : Blocks) (i j dest : ℕ) → dest ≤ length xs
     → drop dest (copy_within xs i j dest) ≡ take (j - i) (drop i xs) ++ drop (dest + (j - i)) xs
 copied_back xs i j dest m =
     let front = take dest xs in
@@ -87,77 +87,70 @@ copy_nowhere xs i j l =
     ∙ ap (λ x. take i xs ++ x) (take-append-drop (j - i) (drop i xs))
     ∙ take-append-drop i xs)
 
--- the runs with one in the place of those that it takes in, where free places after them are moved with them
-pub put_run : (xs : List GapAckBlock) (run : GapAckBlock) (first last kept end : ℕ)
-    → first ≤ last → last ≤ kept → kept ≤ end → end < length xs
-    → length (copy_within xs last end (first + 1)) ≡ length xs
-    → take (first + 1 + (kept - last)) (set (copy_within xs last end (first + 1)) first run)
-    ≡ take first (take kept xs) ++ (run ∷ drop last (take kept xs))
-put_run xs run first last kept end k l o m n =
-    let after = copy_within xs last end (first + 1) in
-    let mid = take (end - last) (drop last xs) in
-    let rest = drop (first + 1 + (end - last)) xs in
-    let back : last + (kept - last) ≡ kept = omega arith in
-    let long : length mid ≡ end - last =
-    length-take-le (end - last) (drop last xs) (omega (arith, length-drop last xs)) in
-    let front : take (first + 1) (set after first run) ≡ take first (take kept xs) ++ (run ∷ []) =
-    take_more_set after first run (omega arith)
-    ∙ ap (λ x. x ++ (run ∷ []))
-    (copied_front xs last end first (first + 1) (omega arith) (omega arith)
-    ∙ sym (take-take first kept xs (omega arith))) in
-    let past : take (kept - last) (drop (first + 1) (set after first run))
-    ≡ drop last (take kept xs) =
-    ap (λ x. take (kept - last) x)
-    (drop-set-lt (first + 1) after first run (omega arith)
-    ∙ copied_back xs last end (first + 1) (omega arith))
-    ∙ take-append-le (kept - last) mid rest (omega arith)
-    ∙ take-take (kept - last) (end - last) (drop last xs) (omega arith)
-    ∙ sym (drop-take last (kept - last) xs)
-    ∙ ap (λ x. drop last (take x xs)) back in
-    take-add (first + 1) (kept - last) (set after first run)
-    ∙ ap (λ x. x ++ take (kept - last) (drop (first + 1) (set after first run))) front
-    ∙ ap (λ x. (take first (take kept xs) ++ (run ∷ [])) ++ x) past ∙ simp append_assoc
-
-free_later : (xs : List GapAckBlock) (kept n : ℕ) → kept ≤ n → AreFree (drop kept xs)
-    → AreFree (drop n xs)
+free_later : (xs : Blocks) (kept n : ℕ) → kept ≤ n → AreFree (drop kept xs) → AreFree (drop n xs)
 free_later xs kept n l f =
     let P : GapAckBlock → Type 0 = λ b. b.end ≡ 65535 in
     let some : kept + (n - kept) ≡ n = omega arith in
-    subst (λ k. AreFree (drop k xs)) some
-    (subst (λ x. AreFree x) (drop-drop (n - kept) kept xs) (All-drop P (n - kept) (drop kept xs) f))
+    subst (λ x. AreFree x) (drop-drop (n - kept) kept xs ∙ ap (λ k. drop k xs) some)
+    (All-drop P (n - kept) (drop kept xs) f)
 
--- after them all is free
-pub put_free : (xs : List GapAckBlock) (run : GapAckBlock) (first last kept end : ℕ)
-    → first ≤ last → last ≤ kept → kept ≤ end → end < length xs → AreFree (drop kept xs)
-    → kept ≤ first + 1 + (kept - last)
-    → AreFree (drop (first + 1 + (kept - last)) (set (copy_within xs last end (first + 1)) first run))
-put_free xs run first last kept end k l o m f g =
+-- the first places hold the runs, and those after them are free if they were
+pub record Places (xs runs : Blocks) (kept count : ℕ) : Type 0 where
+  pub front : take count xs ≡ runs
+  pub free : kept ≤ count → AreFree (drop count xs)
+
+-- a run is written over those that it takes in; free places after the runs are moved with them
+pub put_run : (xs : Blocks) (run : GapAckBlock) (first last kept end : ℕ)
+    → first ≤ last → last ≤ kept → kept ≤ end → end < length xs
+    → AreFree (drop kept xs)
+    → Places (set (copy_within xs last end (first + 1)) first run)
+    (take first (take kept xs) ++ (run ∷ drop last (take kept xs))) kept
+    (first + 1 + (kept - last))
+put_run xs run first last kept end k l o m f =
     let P : GapAckBlock → Type 0 = λ b. b.end ≡ 65535 in
+    let count = first + 1 + (kept - last) in
     let after = copy_within xs last end (first + 1) in
-    let mid = take (end - last) (drop last xs) in
+    let all = set after first run in
+    let low = take first (take kept xs) in
+    let high = drop last (take kept xs) in
+    let spare = take (end - kept) (drop kept xs) in
     let rest = drop (first + 1 + (end - last)) xs in
-    let long : length mid ≡ end - last =
-    length-take-le (end - last) (drop last xs) (omega (arith, length-drop last xs)) in
-    let upto : end - last ≡ (kept - last) + (end - kept) = omega arith in
-    let back : last + (kept - last) ≡ kept = omega arith in
-    let whole : drop (first + 1 + (kept - last)) (set after first run)
-    ≡ drop (kept - last) mid ++ rest =
-    drop-set-lt (first + 1 + (kept - last)) after first run (omega arith)
-    ∙ sym (drop-drop (kept - last) (first + 1) after)
-    ∙ ap (λ x. drop (kept - last) x) (copied_back xs last end (first + 1) (omega arith))
-    ∙ drop-append-le (kept - last) mid rest (omega arith) in
-    let moved : drop (kept - last) mid ≡ take (end - kept) (drop kept xs) =
-    ap (λ x. drop (kept - last) (take x (drop last xs))) upto
-    ∙ drop-take (kept - last) (end - kept) (drop last xs)
-    ∙ ap (λ x. take (end - kept) x)
-    (drop-drop (kept - last) last xs ∙ ap (λ x. drop x xs) back) in
-    let near : AreFree (drop (kept - last) mid) =
-    subst (λ x. AreFree x) (sym moved) (All-take P (end - kept) (drop kept xs) f) in
-    let later = free_later xs kept (first + 1 + (end - last)) (omega arith) f in
-    subst (λ x. AreFree x) (sym whole) (All-append P (drop (kept - last) mid) rest near later)
+    let same =
+    length-paste xs (first + 1) (drop last xs) (end - last) (omega arith)
+    (omega (arith, length-drop last xs)) in
+    let front : take first all ≡ low =
+    take-set after first run
+    ∙ copied_front xs last end first (first + 1) (omega arith) (omega arith)
+    ∙ sym (take-take first kept xs (omega arith)) in
+    let kept_long = length-take-le kept xs (omega arith) in
+    let ends : last + (end - last) ≡ kept + (end - kept) = omega arith in
+    let moved : take (end - last) (drop last xs) ≡ high ++ spare =
+    sym (drop-take last (end - last) xs) ∙ ap (λ i. drop last (take i xs)) ends
+    ∙ ap (λ x. drop last x) (take-add kept (end - kept) xs)
+    ∙ drop-append-le last (take kept xs) spare (omega arith) in
+    let back : drop first all ≡ run ∷ ((high ++ spare) ++ rest) =
+    drop-set after first run (omega arith)
+    ∙ ap (λ x. run ∷ x) (copied_back xs last end (first + 1) (omega arith)
+    ∙ ap (λ x. x ++ rest) moved) in
+    let whole : all ≡ (low ++ (run ∷ high)) ++ (spare ++ rest) =
+    sym (take-append-drop first all) ∙ ap (λ x. x ++ drop first all) front
+    ∙ ap (λ x. low ++ x) back ∙ simp append_assoc in
+    let low_long = length-take-le first (take kept xs) (omega arith) in
+    let long : length (low ++ (run ∷ high)) ≡ count =
+    omega (arith, length-append low (run ∷ high), length-drop last (take kept xs)) in
+    record {
+      front =
+          ap (λ x. take count x) whole ∙ take_at (low ++ (run ∷ high)) (spare ++ rest) count long;
+      free = (λ g.
+          let later = free_later xs kept (first + 1 + (end - last)) (omega arith) f in
+          subst (λ x. AreFree x)
+          (sym (ap (λ x. drop count x) whole
+          ∙ drop_at (low ++ (run ∷ high)) (spare ++ rest) count long))
+          (All-append P spare rest (All-take P (end - kept) (drop kept xs) f) later));
+    }
 
 -- the block after the runs in front, with the recent ones beside them
-pub follows_cover : (recent blocks : List GapAckBlock) (b : GapAckBlock) (front : ℕ)
+pub follows_cover : (recent blocks : Blocks) (b : GapAckBlock) (front : ℕ)
     → front < length blocks
     → SameCover (recent ++ take (front + 1) (set blocks front b)) (b ∷ (recent ++ take front blocks))
 follows_cover recent blocks b front l =
@@ -167,12 +160,8 @@ follows_cover recent blocks b front l =
     ∙ ap (λ x. recent ++ x) (sym (take_more_set blocks front b l)) in
     subst (λ x. SameCover x (b ∷ runs)) e (same_turned runs (b ∷ []))
 
--- the block put in among the recent runs, and these among those in front
-pub recent_cover : (after recent front : List GapAckBlock) (b : GapAckBlock)
-    → SameCover after (b ∷ recent) → SameCover (after ++ front) (b ∷ (recent ++ front))
-recent_cover after recent front b e = same_append after front (b ∷ recent) front e (same_refl front)
-
-pub front_cover : (after rest recent blocks every : List GapAckBlock) (count front both n : ℕ)
+-- the recent runs put in among those in front
+pub front_cover : (after rest recent blocks every : Blocks) (count front both n : ℕ)
     → n ≤ length after → front ≤ both
     → AreRunsOf (take n after) (take count recent ++ take front (take both blocks))
     → SameCover (take count recent ++ take front blocks) every
@@ -187,8 +176,8 @@ front_cover after rest recent blocks every count front both n l m e f =
     }
 
 -- the step of the loop over the blocks
-pub more_blocks : (xs runs old : List GapAckBlock) (b : GapAckBlock) (i : ℕ) (d : GapAckBlock)
-    → i < length xs → b ≡ get_or xs i d → SameCover old (take i xs) → SameCover runs (b ∷ old)
+pub more_blocks : (xs runs old : Blocks) (b : GapAckBlock) (i : ℕ) (d : GapAckBlock) → i < length xs
+    → b ≡ get_or xs i d → SameCover old (take i xs) → SameCover runs (b ∷ old)
     → SameCover runs (take (i + 1) xs)
 more_blocks xs runs old b i d l e h k =
     let front = take i xs in
@@ -199,14 +188,14 @@ more_blocks xs runs old b i d l e h k =
     (same_trans runs (b ∷ old) (front ++ (b ∷ [])) k
     (same_trans (b ∷ old) (b ∷ front) (front ++ (b ∷ [])) (same_cons b old front h) turned))
 
-pub no_more_blocks : (xs runs : List GapAckBlock) (b : GapAckBlock) (i : ℕ) (d : GapAckBlock)
-    → i < length xs → b ≡ get_or xs i d → b.end < b.start → SameCover runs (take i xs)
+pub no_more_blocks : (xs runs : Blocks) (b : GapAckBlock) (i : ℕ) (d : GapAckBlock) → i < length xs
+    → b ≡ get_or xs i d → b.end < b.start → SameCover runs (take i xs)
     → SameCover runs (take (i + 1) xs)
 no_more_blocks xs runs b i d l e r h = more_blocks xs runs runs b i d l e h (same_reversed b runs r)
 
 -- runs moved over the gap
-pub lifted : (xs after : List GapAckBlock) (i j count low high : ℕ) → i + count ≡ low
-    → take i after ≡ take i xs → drop j after ≡ take count (drop i xs) ++ drop high xs
+pub lifted : (xs after : Blocks) (i j count low high : ℕ) → i + count ≡ low → take i after
+    ≡ take i xs → drop j after ≡ take count (drop i xs) ++ drop high xs
     → take i after ++ drop j after ≡ take low xs ++ drop high xs
 lifted xs after i j count low high e f g =
     let split : take i xs ++ take count (drop i xs) ≡ take low xs =
@@ -215,13 +204,13 @@ lifted xs after i j count low high e f g =
     ∙ sym (append_assoc (take i xs) (take count (drop i xs)) (drop high xs))
     ∙ ap (λ x. x ++ drop high xs) split
 
-apart_from : (n : ℕ) (xs : List GapAckBlock) (d : GapAckBlock) → IsApart 0 xs
-    → n ≤ (get_or xs 0 d).start → IsApart n xs
+apart_from : (n : ℕ) (xs : Blocks) (d : GapAckBlock) → IsApart 0 xs → n ≤ (get_or xs 0 d).start
+    → IsApart n xs
 apart_from n [] d a l = tt
 apart_from n (x ∷ xs) d a l = (l, a.1, a.2)
 
-pub lifted_apart : (xs : List GapAckBlock) (d : GapAckBlock) (i count low high n : ℕ)
-    → i + count ≡ low → 0 < count → low ≤ length xs → IsApart 0 (take low xs ++ drop high xs)
+pub lifted_apart : (xs : Blocks) (d : GapAckBlock) (i count low high n : ℕ) → i + count ≡ low
+    → 0 < count → low ≤ length xs → IsApart 0 (take low xs ++ drop high xs)
     → n ≤ (get_or xs i d).start → IsApart n (take count (drop i xs) ++ drop high xs)
 lifted_apart xs d i count low high n e k l a f =
     let mid = take count (drop i xs) in
@@ -239,9 +228,8 @@ lifted_apart xs d i count low high n e k l a f =
     apart_from n (mid ++ back) d apart.right (subst (λ (b : GapAckBlock). n ≤ b.start) same f)
 
 -- the runs after the write below the gap
-pub written : (xs : List GapAckBlock) (run : GapAckBlock) (first low high : ℕ) → first ≤ low
-    → low < high → high ≤ length xs
-    → (take first (take low xs) ++ (run ∷ [])) ++ drop high xs
+pub written : (xs : Blocks) (run : GapAckBlock) (first low high : ℕ) → first ≤ low → low < high
+    → high ≤ length xs → (take first (take low xs) ++ (run ∷ [])) ++ drop high xs
     ≡ take (first + 1) (set xs first run) ++ drop high (set xs first run)
 written xs run first low high l m n =
     let front : take first (take low xs) ++ (run ∷ []) ≡ take (first + 1) (set xs first run) =

@@ -1,5 +1,5 @@
 -- Blocks that lie apart are the runs of what they cover, and the only ones.
-use Rattle.std.proofs.Common.{◌≡◌, ◌↔◌, inl, inr, ℕ, zero, suc, ◌+◌, ◌<◌, ◌≤◌, List, [], ◌∷◌, ◌++◌, length, get_or, take, drop, refl, sym, ap, subst, ◌∙◌, arith}
+use Rattle.std.proofs.Common.{◌≡◌, ◌↔◌, inl, inr, ℕ, zero, suc, ◌+◌, ◌<◌, ◌≤◌, [], ◌∷◌, ◌++◌, length, get_or, take, drop, refl, sym, ap, subst, ◌∙◌, arith}
 use Rattle.std.specs.List.{Contains}
 use Rattle.std.proofs.lemmas.Bool.{cases_lt}
 use Rattle.std.proofs.lemmas.List.{take-append-drop}
@@ -7,7 +7,7 @@ use Rattle.std.proofs.lemmas.List.Elements.{Contains-get_or}
 use Rattle.dcsctp_chunk.specs.declared.sack_chunk.GapAckBlock.{GapAckBlock}
 use Rattle.dcsctp_chunk.specs.Cover.{Covers, SameCover, IsInside, IsRun, IsRuns, HasBlockInEach, StartsPast}
 use Rattle.dcsctp_chunk.specs.Apart.{IsApart}
-use Rattle.dcsctp_chunk.proofs.Covers.{contains_head, contains_tail, contains_cases, contains_none, covers_head, covers_tail, covers_cases}
+use Rattle.dcsctp_chunk.proofs.Covers.{Blocks, contains_head, contains_tail, contains_cases, contains_none, covers_head, covers_tail, covers_cases}
 
 pub block_ext : (r s : GapAckBlock) → r.start ≡ s.start → r.end ≡ s.end → r ≡ s
 block_ext r s p q =
@@ -15,12 +15,12 @@ block_ext r s p q =
     let g : ℕ → GapAckBlock = λ y. record { start = s.start; end = y } in
     ap f p ∙ ap g q
 
-pub apart_weaker : (m n : ℕ) (bs : List GapAckBlock) → m ≤ n → IsApart n bs → IsApart m bs
+pub apart_weaker : (m n : ℕ) (bs : Blocks) → m ≤ n → IsApart n bs → IsApart m bs
 apart_weaker m n [] l h = tt
 apart_weaker m n (b ∷ bs) l h = let k = h.0 in (omega arith, h.1, h.2)
 
 -- each of them starts at n or later, and does not end before its start
-pub apart_low : (n : ℕ) (bs : List GapAckBlock) (r : GapAckBlock) → IsApart n bs → Contains bs r
+pub apart_low : (n : ℕ) (bs : Blocks) (r : GapAckBlock) → IsApart n bs → Contains bs r
     → (n ≤ r.start) × (r.start ≤ r.end)
 apart_low n [] r h t = absurd (contains_none r t)
 apart_low n (b ∷ bs) r h t =
@@ -35,8 +35,8 @@ apart_low n (b ∷ bs) r h t =
     ]
 
 -- each starts at least 2 past the end of each one before it
-apart_far : (n : ℕ) (bs : List GapAckBlock) → IsApart n bs → (i j : ℕ) (d : GapAckBlock)
-    → i < j → j < length bs → (get_or bs i d).end + 2 ≤ (get_or bs j d).start
+apart_far : (n : ℕ) (bs : Blocks) → IsApart n bs → (i j : ℕ) (d : GapAckBlock) → i < j
+    → j < length bs → (get_or bs i d).end + 2 ≤ (get_or bs j d).start
 apart_far n [] a i j d l m = absurd (omega arith)
 apart_far n (b ∷ bs) a i zero d l m = absurd (omega arith)
 apart_far n (b ∷ bs) a zero (suc j) d l m =
@@ -45,20 +45,20 @@ apart_far n (b ∷ bs) a zero (suc j) d l m =
 apart_far n (b ∷ bs) a (suc i) (suc j) d l m =
     apart_far (b.end + 2) bs a.2 i j d (omega arith) (omega arith)
 
-apart_some : (n : ℕ) (bs : List GapAckBlock) → IsApart n bs → (i : ℕ) (d : GapAckBlock)
-    → i < length bs → (get_or bs i d).start ≤ (get_or bs i d).end
+apart_some : (n : ℕ) (bs : Blocks) → IsApart n bs → (i : ℕ) (d : GapAckBlock) → i < length bs
+    → (get_or bs i d).start ≤ (get_or bs i d).end
 apart_some n bs a i d l = (apart_low n bs (get_or bs i d) a (Contains-get_or bs i d l)).1
 
-apart_rising : (n : ℕ) (bs : List GapAckBlock) → IsApart n bs → (i j : ℕ) (d : GapAckBlock)
-    → i < j → j < length bs → (get_or bs i d).start < (get_or bs j d).start
+apart_rising : (n : ℕ) (bs : Blocks) → IsApart n bs → (i j : ℕ) (d : GapAckBlock) → i < j
+    → j < length bs → (get_or bs i d).start < (get_or bs j d).start
 apart_rising n bs a i j d l m =
     let p = apart_far n bs a i j d l m in
     let q = apart_some n bs a i d (omega arith) in
     omega arith
 
 -- starts rise, and so do ends
-pub apart_order : (n : ℕ) (bs : List GapAckBlock) → IsApart n bs → (i j : ℕ) (d : GapAckBlock)
-    → i ≤ j → j < length bs
+pub apart_order : (n : ℕ) (bs : Blocks) → IsApart n bs → (i j : ℕ) (d : GapAckBlock) → i ≤ j
+    → j < length bs
     → ((get_or bs i d).start ≤ (get_or bs j d).start) × ((get_or bs i d).end ≤ (get_or bs j d).end)
 apart_order n bs a i j d l m =
     elim (cases_lt i j) [
@@ -75,12 +75,12 @@ apart_order n bs a i j d l m =
     ]
 
 -- runs one list after the other: what comes later starts at least 2 past each offset before
-pub record Split (n : ℕ) (xs ys : List GapAckBlock) : Type 0 where
+pub record Split (n : ℕ) (xs ys : Blocks) : Type 0 where
   pub left : IsApart n xs
   pub right : IsApart n ys
   pub past : (o : ℕ) → Covers xs o → IsApart (o + 2) ys
 
-pub split : (n : ℕ) (xs ys : List GapAckBlock) → IsApart n (xs ++ ys) → Split n xs ys
+pub split : (n : ℕ) (xs ys : Blocks) → IsApart n (xs ++ ys) → Split n xs ys
 split n [] ys a =
     record { left = tt; right = a; past = (λ o c. absurd (contains_none c.0 c.1)) }
 split n (x ∷ xs) ys a =
@@ -96,7 +96,7 @@ split n (x ∷ xs) ys a =
       ]);
     }
 
-pub apart_append : (n : ℕ) (xs ys : List GapAckBlock) → IsApart n xs → IsApart n ys
+pub apart_append : (n : ℕ) (xs ys : Blocks) → IsApart n xs → IsApart n ys
     → ((o : ℕ) → Covers xs o → IsApart (o + 2) ys) → IsApart n (xs ++ ys)
 apart_append n [] ys a b f = b
 apart_append n (x ∷ xs) ys a b f =
@@ -104,13 +104,13 @@ apart_append n (x ∷ xs) ys a b f =
     let next = f x.end (covers_head x xs x.end (a1, omega arith)) in
     (a.0, a1, apart_append (x.end + 2) xs ys a.2 next (λ o c. f o (covers_tail x xs o c)))
 
-pub apart_take : (n k : ℕ) (bs : List GapAckBlock) → IsApart n bs → IsApart n (take k bs)
+pub apart_take : (n k : ℕ) (bs : Blocks) → IsApart n bs → IsApart n (take k bs)
 apart_take n k bs a =
     let parts = subst (λ x. IsApart n x) (sym (take-append-drop k bs)) a in
     (split n (take k bs) (drop k bs) parts).left
 
 -- two of them that overlap or touch are one
-apart_near : (n : ℕ) (bs : List GapAckBlock) (r s : GapAckBlock) → IsApart n bs → Contains bs r
+apart_near : (n : ℕ) (bs : Blocks) (r s : GapAckBlock) → IsApart n bs → Contains bs r
     → Contains bs s → s.start ≤ r.end + 1 → r.start ≤ s.end + 1 → r ≡ s
 apart_near n [] r s h t u l m = absurd (contains_none r t)
 apart_near n (b ∷ bs) r s h t u l m =
@@ -132,7 +132,7 @@ apart_near n (b ∷ bs) r s h t u l m =
     ]
 
 -- an interval of covered offsets lies in one of them
-interval_in_one : (n : ℕ) (bs : List GapAckBlock) (low high : ℕ) → IsApart n bs → low ≤ high
+interval_in_one : (n : ℕ) (bs : Blocks) (low high : ℕ) → IsApart n bs → low ≤ high
     → IsInside (Covers bs) low high
     → (r : GapAckBlock) × Contains bs r × (r.start ≤ low) × (high ≤ r.end)
 interval_in_one n bs low high a l h =
@@ -150,8 +150,8 @@ interval_in_one n bs low high a l h =
       | inr ge ↦ (c.0, c.1, c0, ge)
     ]
 
-pub apart_is_run : (n : ℕ) (bs : List GapAckBlock) → IsApart n bs → (r : GapAckBlock)
-    → Contains bs r → IsRun (Covers bs) r
+pub apart_is_run : (n : ℕ) (bs : Blocks) → IsApart n bs → (r : GapAckBlock) → Contains bs r
+    → IsRun (Covers bs) r
 apart_is_run n bs a r t =
     let p = (apart_low n bs r a t).1 in
     record {
@@ -167,15 +167,15 @@ apart_is_run n bs a r t =
           (omega arith, omega arith));
     }
 
-apart_has_run : (n : ℕ) (bs : List GapAckBlock) → IsApart n bs → (r : GapAckBlock)
-    → IsRun (Covers bs) r → Contains bs r
+apart_has_run : (n : ℕ) (bs : Blocks) → IsApart n bs → (r : GapAckBlock) → IsRun (Covers bs) r
+    → Contains bs r
 apart_has_run n bs a r h =
     let s = interval_in_one n bs r.start r.end a h.some h.inside in
     let e = h.longest s.0.start s.0.end s.2 s.3 (λ o l m. (s.0, s.1, (l, m))) in
     let P : GapAckBlock → Type 0 = λ x. Contains bs x in
     subst P (block_ext s.0 r e.0 e.1) s.1
 
-pub runs_from_apart : (n : ℕ) (bs : List GapAckBlock) → IsApart n bs → IsRuns bs (Covers bs)
+pub runs_from_apart : (n : ℕ) (bs : Blocks) → IsApart n bs → IsRuns bs (Covers bs)
 runs_from_apart n bs a =
     record { rising = apart_rising n bs a; each = apart_is_run n bs a; all = apart_has_run n bs a }
 
@@ -190,32 +190,32 @@ run_of_same P Q e r h = record {
 same_back : (P Q : ℕ → Type 0) → ((o : ℕ) → P o ↔ Q o) → (o : ℕ) → Q o ↔ P o
 same_back P Q e o = ((e o).1, (e o).0)
 
-pub runs_of_same : (P Q : ℕ → Type 0) (rs : List GapAckBlock) → ((o : ℕ) → P o ↔ Q o)
-    → IsRuns rs P → IsRuns rs Q
+pub runs_of_same : (P Q : ℕ → Type 0) (rs : Blocks) → ((o : ℕ) → P o ↔ Q o) → IsRuns rs P
+    → IsRuns rs Q
 runs_of_same P Q rs e h = record {
   rising = h.rising;
   each = (λ r t. run_of_same P Q e r (h.each r t));
   all = (λ r t. h.all r (run_of_same Q P (same_back P Q e) r t));
 }
 
-abbrev IsRising : List GapAckBlock → Type 0
+abbrev IsRising : Blocks → Type 0
 IsRising rs =
     (i j : ℕ) (d : GapAckBlock) → i < j → j < length rs
     → (get_or rs i d).start < (get_or rs j d).start
 
-rising_head : (b : GapAckBlock) (bs : List GapAckBlock) (r : GapAckBlock) → IsRising (b ∷ bs)
-    → Contains bs r → b.start < r.start
+rising_head : (b : GapAckBlock) (bs : Blocks) (r : GapAckBlock) → IsRising (b ∷ bs) → Contains bs r
+    → b.start < r.start
 rising_head b bs r h t =
     let k = t.1 in
     let l = h 0 (suc t.0) r (omega arith) (omega arith) in
     let e = ap (λ (x : GapAckBlock). x.start) t.2 in
     omega arith
 
-rising_tail : (b : GapAckBlock) (bs : List GapAckBlock) → IsRising (b ∷ bs) → IsRising bs
+rising_tail : (b : GapAckBlock) (bs : Blocks) → IsRising (b ∷ bs) → IsRising bs
 rising_tail b bs h i j d l m = h (suc i) (suc j) d (omega arith) (omega arith)
 
-same_heads : (r s : GapAckBlock) (rs ss : List GapAckBlock) → IsRising (r ∷ rs)
-    → IsRising (s ∷ ss) → Contains (s ∷ ss) r → Contains (r ∷ rs) s → r ≡ s
+same_heads : (r s : GapAckBlock) (rs ss : Blocks) → IsRising (r ∷ rs) → IsRising (s ∷ ss)
+    → Contains (s ∷ ss) r → Contains (r ∷ rs) s → r ≡ s
 same_heads r s rs ss h k t u =
     elim (contains_cases s r ss t) [
       | inl e ↦ sym e
@@ -228,7 +228,7 @@ same_heads r s rs ss h k t u =
       ]
     ]
 
-tail_within : (r s : GapAckBlock) (rs ss : List GapAckBlock) → r ≡ s → IsRising (r ∷ rs)
+tail_within : (r s : GapAckBlock) (rs ss : Blocks) → r ≡ s → IsRising (r ∷ rs)
     → ((x : GapAckBlock) → Contains (r ∷ rs) x → Contains (s ∷ ss) x) → (x : GapAckBlock)
     → Contains rs x → Contains ss x
 tail_within r s rs ss e h f x t =
@@ -240,7 +240,7 @@ tail_within r s rs ss e h f x t =
       | inr u ↦ u
     ]
 
-same_from_rising : (rs ss : List GapAckBlock) → IsRising rs → IsRising ss
+same_from_rising : (rs ss : Blocks) → IsRising rs → IsRising ss
     → ((x : GapAckBlock) → Contains rs x → Contains ss x)
     → ((x : GapAckBlock) → Contains ss x → Contains rs x) → rs ≡ ss
 same_from_rising [] [] h k f g = refl
@@ -254,16 +254,15 @@ same_from_rising (r ∷ rs) (s ∷ ss) h k f g =
     cc
 
 -- a set has one list of runs
-pub runs_unique : (P Q : ℕ → Type 0) (rs ss : List GapAckBlock) → ((o : ℕ) → P o ↔ Q o)
-    → IsRuns rs P → IsRuns ss Q → rs ≡ ss
+pub runs_unique : (P Q : ℕ → Type 0) (rs ss : Blocks) → ((o : ℕ) → P o ↔ Q o) → IsRuns rs P
+    → IsRuns ss Q → rs ≡ ss
 runs_unique P Q rs ss e h k =
     same_from_rising rs ss h.rising k.rising
     (λ x t. k.all x (run_of_same P Q e x (h.each x t)))
     (λ x t. h.all x (run_of_same Q P (same_back P Q e) x (k.each x t)))
 
 -- in each run lies a block of any list with the same cover
-pub block_in_each : (n : ℕ) (rs bs : List GapAckBlock) → IsApart n rs → SameCover rs bs
-    → HasBlockInEach rs bs
+pub block_in_each : (n : ℕ) (rs bs : Blocks) → IsApart n rs → SameCover rs bs → HasBlockInEach rs bs
 block_in_each n rs bs a e r t =
     let p = (apart_low n rs r a t).1 in
     let c = (e r.start).0 (r, t, (omega arith, p)) in
@@ -278,11 +277,10 @@ block_in_each n rs bs a e r t =
     let g = ap (λ (x : GapAckBlock). x.end) same in
     (c.0, c.1, omega arith, omega arith, omega arith)
 
-pub apart_past_one : (bs : List GapAckBlock) → IsApart 2 bs → StartsPast 1 bs
+pub apart_past_one : (bs : Blocks) → IsApart 2 bs → StartsPast 1 bs
 apart_past_one [] a = tt
 apart_past_one (b ∷ bs) a = let k = a.0 in omega arith
 
-pub past_one_apart : (n : ℕ) (bs : List GapAckBlock) → IsApart n bs → StartsPast 1 bs
-    → IsApart 2 bs
+pub past_one_apart : (n : ℕ) (bs : Blocks) → IsApart n bs → StartsPast 1 bs → IsApart 2 bs
 past_one_apart n [] a h = tt
 past_one_apart n (b ∷ bs) a h = (omega arith, a.1, a.2)

@@ -1,15 +1,15 @@
 -- A block put in among runs, and so the runs of every list of blocks.
-use Rattle.std.proofs.Common.{◌≡◌, ◌↔◌, inl, inr, ℕ, ◌+◌, ◌<◌, ◌≤◌, List, [], ◌∷◌, length, cond, ltb, refl, sym, ap, subst, ◌∙◌, arith}
+use Rattle.std.proofs.Common.{◌≡◌, ◌↔◌, inl, inr, ℕ, ◌+◌, ◌<◌, ◌≤◌, [], ◌∷◌, length, cond, ltb, refl, sym, ap, subst, arith}
 use Rattle.std.specs.List.{All}
-use Rattle.std.proofs.lemmas.Bool.{cases_lt, lt-ltb, le-ltb, cond-true, cond-false}
+use Rattle.std.proofs.lemmas.Bool.{cases_lt, lt-ltb, le-ltb}
 use Rattle.dcsctp_chunk.specs.declared.sack_chunk.GapAckBlock.{GapAckBlock}
 use Rattle.dcsctp_chunk.specs.Apart.{IsApart, AreRunsOf}
 use Rattle.dcsctp_chunk.specs.Cover.{Covers, SameCover, IsRuns, IsCleaned, AreValid}
-use Rattle.dcsctp_chunk.proofs.Covers.{same_refl, same_sym, same_trans, same_cons, same_swap, same_reversed, same_join, join, offsets_from_ends}
-use Rattle.dcsctp_chunk.proofs.Runs.{apart_weaker, apart_is_run, runs_from_apart, run_of_same, runs_of_same, runs_unique, block_in_each, apart_past_one, past_one_apart}
+use Rattle.dcsctp_chunk.proofs.Covers.{Blocks, same_refl, same_sym, same_trans, same_cons, same_swap, same_reversed, same_join, join, offsets_from_ends}
+use Rattle.dcsctp_chunk.proofs.Runs.{apart_weaker, runs_from_apart, runs_of_same, runs_unique, block_in_each, apart_past_one, past_one_apart}
 
 -- runs that lie apart with one more block
-unfoldable pub put_in : GapAckBlock → List GapAckBlock → List GapAckBlock
+unfoldable pub put_in : GapAckBlock → Blocks → Blocks
 put_in b [] = b ∷ []
 put_in b (r ∷ rs) =
     cond (ltb (r.end + 1) b.start) (r ∷ put_in b rs)
@@ -19,42 +19,29 @@ pub put_none : (b : GapAckBlock) → put_in b [] ≡ b ∷ []
 unfolding put_in
 put_none b = refl
 
-pub put_after : (b r : GapAckBlock) (rs : List GapAckBlock) → r.end + 1 < b.start
+pub put_after : (b r : GapAckBlock) (rs : Blocks) → r.end + 1 < b.start
     → put_in b (r ∷ rs) ≡ r ∷ put_in b rs
 unfolding put_in
-put_after b r rs k =
-    cond-true (ltb (r.end + 1) b.start) (r ∷ put_in b rs)
-    (cond (ltb (b.end + 1) r.start) (b ∷ r ∷ rs) (put_in (join b r) rs))
-    (lt-ltb (r.end + 1) b.start k)
+put_after b r rs k = rw (lt-ltb (r.end + 1) b.start k)
 
-pub put_before : (b r : GapAckBlock) (rs : List GapAckBlock) → b.start ≤ r.end + 1
-    → b.end + 1 < r.start → put_in b (r ∷ rs) ≡ b ∷ r ∷ rs
+pub put_before : (b r : GapAckBlock) (rs : Blocks) → b.start ≤ r.end + 1 → b.end + 1 < r.start
+    → put_in b (r ∷ rs) ≡ b ∷ r ∷ rs
 unfolding put_in
-put_before b r rs k l =
-    cond-false (ltb (r.end + 1) b.start) (r ∷ put_in b rs)
-    (cond (ltb (b.end + 1) r.start) (b ∷ r ∷ rs) (put_in (join b r) rs))
-    (le-ltb (r.end + 1) b.start k)
-    ∙ cond-true (ltb (b.end + 1) r.start) (b ∷ r ∷ rs) (put_in (join b r) rs)
-    (lt-ltb (b.end + 1) r.start l)
+put_before b r rs k l = rw (le-ltb (r.end + 1) b.start k, lt-ltb (b.end + 1) r.start l)
 
-pub put_join : (b r : GapAckBlock) (rs : List GapAckBlock) → b.start ≤ r.end + 1
-    → r.start ≤ b.end + 1 → put_in b (r ∷ rs) ≡ put_in (join b r) rs
+pub put_join : (b r : GapAckBlock) (rs : Blocks) → b.start ≤ r.end + 1 → r.start ≤ b.end + 1
+    → put_in b (r ∷ rs) ≡ put_in (join b r) rs
 unfolding put_in
-put_join b r rs k l =
-    cond-false (ltb (r.end + 1) b.start) (r ∷ put_in b rs)
-    (cond (ltb (b.end + 1) r.start) (b ∷ r ∷ rs) (put_in (join b r) rs))
-    (le-ltb (r.end + 1) b.start k)
-    ∙ cond-false (ltb (b.end + 1) r.start) (b ∷ r ∷ rs) (put_in (join b r) rs)
-    (le-ltb (b.end + 1) r.start l)
+put_join b r rs k l = rw (le-ltb (r.end + 1) b.start k, le-ltb (b.end + 1) r.start l)
 
 -- the block is in, among runs that start at n or later
-record IsPutIn (n : ℕ) (b : GapAckBlock) (rs out : List GapAckBlock) : Type 0 where
+record IsPutIn (n : ℕ) (b : GapAckBlock) (rs out : Blocks) : Type 0 where
   apart : IsApart n out
   cover : SameCover out (b ∷ rs)
   count : length out ≤ length rs + 1
 
-is_put_in : (n : ℕ) (b : GapAckBlock) (rs : List GapAckBlock) → b.start ≤ b.end → n ≤ b.start
-    → IsApart n rs → IsPutIn n b rs (put_in b rs)
+is_put_in : (n : ℕ) (b : GapAckBlock) (rs : Blocks) → b.start ≤ b.end → n ≤ b.start → IsApart n rs
+    → IsPutIn n b rs (put_in b rs)
 is_put_in n b [] ne l a =
     rw put_none record { apart = (l, ne, tt); cover = same_refl (b ∷ []); count = omega arith }
 is_put_in n b (r ∷ rs) ne l a =
@@ -91,18 +78,18 @@ is_put_in n b (r ∷ rs) ne l a =
       ]
     ]
 
-pub put_in_runs : (b : GapAckBlock) (rs : List GapAckBlock) → b.start ≤ b.end → IsApart 0 rs
+pub put_in_runs : (b : GapAckBlock) (rs : Blocks) → b.start ≤ b.end → IsApart 0 rs
     → AreRunsOf (put_in b rs) (b ∷ rs)
 put_in_runs b rs ne a =
     let p = is_put_in 0 b rs ne (omega arith) a in
     record { apart = p.apart; cover = p.cover }
 
-record HasRuns (bs : List GapAckBlock) : Type 0 where
-  runs : List GapAckBlock
+record HasRuns (bs : Blocks) : Type 0 where
+  runs : Blocks
   are : AreRunsOf runs bs
   count : length runs ≤ length bs
 
-runs_of : (bs : List GapAckBlock) → HasRuns bs
+runs_of : (bs : Blocks) → HasRuns bs
 runs_of [] = record {
   runs = [];
   are = record { apart = tt; cover = same_refl [] };
@@ -135,28 +122,28 @@ runs_of (b ∷ bs) =
           }
     ]
 
-pub runs_from_cover : (rs bs : List GapAckBlock) → AreRunsOf rs bs → IsRuns rs (Covers bs)
+pub runs_from_cover : (rs bs : Blocks) → AreRunsOf rs bs → IsRuns rs (Covers bs)
 runs_from_cover rs bs are =
     runs_of_same (Covers rs) (Covers bs) rs are.cover (runs_from_apart 0 rs are.apart)
 
-runs_are : (rs bs : List GapAckBlock) → IsRuns rs (Covers bs) → (runs_of bs).runs ≡ rs
+runs_are : (rs bs : Blocks) → IsRuns rs (Covers bs) → (runs_of bs).runs ≡ rs
 runs_are rs bs h =
     let t = runs_of bs in
     runs_unique (Covers bs) (Covers bs) t.runs rs (same_refl bs) (runs_from_cover t.runs bs t.are) h
 
 -- and back
-pub are_runs_of : (rs bs : List GapAckBlock) → IsRuns rs (Covers bs) → AreRunsOf rs bs
+pub are_runs_of : (rs bs : Blocks) → IsRuns rs (Covers bs) → AreRunsOf rs bs
 are_runs_of rs bs h = subst (λ x. AreRunsOf x bs) (runs_are rs bs h) (runs_of bs).are
 
 -- runs are the fewest blocks with their cover
-fewest : (rs bs : List GapAckBlock) → IsRuns rs (Covers bs) → length rs ≤ length bs
+fewest : (rs bs : Blocks) → IsRuns rs (Covers bs) → length rs ≤ length bs
 fewest rs bs h =
     let e = ap length (runs_are rs bs h) in
     let count = (runs_of bs).count in
     omega arith
 
 -- equal covers have equal runs, and equal runs come from equal covers
-same_runs : (xs bs rs ss : List GapAckBlock) → IsRuns rs (Covers xs) → IsRuns ss (Covers bs)
+same_runs : (xs bs rs ss : Blocks) → IsRuns rs (Covers xs) → IsRuns ss (Covers bs)
     → SameCover xs bs ↔ (rs ≡ ss)
 same_runs xs bs rs ss h k = (
   (λ e. runs_unique (Covers xs) (Covers bs) rs ss e h k),
@@ -167,18 +154,18 @@ same_runs xs bs rs ss h k = (
 )
 
 -- the blocks that `validate_sack` wants
-pub validated_runs : (bs : List GapAckBlock) → IsApart 2 bs → AreValid bs
+pub validated_runs : (bs : Blocks) → IsApart 2 bs → AreValid bs
 validated_runs bs a = record { runs = runs_from_apart 2 bs a; first = apart_past_one bs a }
 
-pub runs_validated : (bs : List GapAckBlock) → AreValid bs → IsApart 2 bs
+pub runs_validated : (bs : Blocks) → AreValid bs → IsApart 2 bs
 runs_validated bs h = past_one_apart 0 bs (are_runs_of bs bs h.runs).apart h.first
 
 -- all that is said of cleaned blocks follows from this
-pub cleaned_from_cover : (bs rs : List GapAckBlock) → All (λ b. b.end ≤ 65535) bs
-    → AreRunsOf rs bs → IsCleaned bs rs
+pub cleaned_from_cover : (bs rs : Blocks) → All (λ b. b.end ≤ 65535) bs → AreRunsOf rs bs
+    → IsCleaned bs rs
 cleaned_from_cover bs rs ends are =
     let runs = runs_from_cover rs bs are in
-    let same = λ (others : List GapAckBlock) (f : SameCover others bs).
+    let same = λ (others : Blocks) (f : SameCover others bs).
     same_trans rs bs others are.cover (same_sym others bs f) in
     record {
       runs = runs;

@@ -2,7 +2,8 @@
 use Rattle.std.proofs.Common.{◌≡◌, ◌+◌, ◌∷◌, ◌++◌, take, drop, arith, subst, sym}
 use Rattle.std.proofs.lemmas.List.{length-take-le, take_all}
 use Rattle.dcsctp_chunk.specs.Apart.{AreRunsOf, both}
-use Rattle.dcsctp_chunk.proofs.Joined.{follows_cover, recent_cover, front_cover}
+use Rattle.dcsctp_chunk.proofs.Covers.{same_append, same_refl}
+use Rattle.dcsctp_chunk.proofs.Joined.{follows_cover, front_cover}
 use Rattle.dcsctp_chunk.proofs.chunk_validators.clean.add_block.Goals as goal
 
 pub returns-then-follows-clause-cover : goal.returns-then-follows-clause-cover
@@ -14,9 +15,10 @@ returns-then-follows-clause-cover c =
 pub returns-then-count-recent-clause-cover : goal.returns-then-count-recent-clause-cover
 returns-then-count-recent-clause-cover c =
     let counts = c.args.counts in
-    recent_cover (take c.insert-count.result c.insert-count.new.runs)
-    (take counts.recent c.args.recent.now) (take counts.front c.args.blocks.now) c.args.block
-    c.insert-count.ensures.runs.cover
+    let front = take counts.front c.args.blocks.now in
+    same_append (take c.insert-count.result c.insert-count.new.runs) front
+    (c.args.block ∷ take counts.recent c.args.recent.now) front c.insert-count.ensures.runs.cover
+    (same_refl front)
 
 pub returns-clause-cover : goal.returns-clause-cover
 returns-clause-cover c =
@@ -29,8 +31,8 @@ returns-clause-cover c =
     let after = c.insert-count.new.runs in
     let all : take count after ≡ after = take_all count after c.if-count-recent.false in
     let put =
-    recent_cover (take count after) (take counts.recent old) (take front blocks) c.args.block
-    c.insert-count.ensures.runs.cover in
+    same_append (take count after) (take front blocks) (c.args.block ∷ take counts.recent old)
+    (take front blocks) c.insert-count.ensures.runs.cover (same_refl (take front blocks)) in
     let kept = take c.join_runs-front.result c.join_runs-front.new.runs in
     let joined =
     subst (λ x. AreRunsOf kept (x ++ take front (take (front + count) blocks))) (sym all)

@@ -3,14 +3,13 @@ use Rattle.std.proofs.Common.{◌≡◌, ◌+◌, ◌++◌, take, drop, get_or, 
 use Rattle.std.proofs.lemmas.List.{length-take-le, take_all}
 use Rattle.dcsctp_chunk.specs.declared.sack_chunk.GapAckBlock.{GapAckBlock}
 use Rattle.dcsctp_chunk.specs.Cover.{SameCover}
-use Rattle.dcsctp_chunk.proofs.Covers.{same_trans}
+use Rattle.dcsctp_chunk.proofs.Covers.{zero_block, same_trans}
 use Rattle.dcsctp_chunk.proofs.Joined.{more_blocks, no_more_blocks, front_cover}
 use Rattle.dcsctp_chunk.proofs.chunk_validators.clean.gather.Goals as goal
 use Rattle.dcsctp_chunk.proofs.chunk_validators.clean.gather.Goals.{then-block, else-block}
 
 pub loop-i-preserved : goal.loop-i-preserved
 loop-i-preserved c =
-    let zero_block : GapAckBlock = record { start = 0; end = 0 } in
     let old = c.turn_falling.new.blocks in
     let i = c.loop-i.i in
     let inv = c.loop-i.invariant in

@@ -1,12 +1,10 @@
 -- Each step of the walk up takes in a run; the one after them starts too late, or there is none.
 use Rattle.std.proofs.Common.{drop, arith}
 use Rattle.dcsctp_chunk.specs.declared.sack_chunk.GapAckBlock.{GapAckBlock}
+use Rattle.dcsctp_chunk.proofs.Covers.{zero_block}
 use Rattle.dcsctp_chunk.proofs.RunsOf.{put_in}
 use Rattle.dcsctp_chunk.proofs.Placed.{walk_up, walked_up}
 use Rattle.dcsctp_chunk.proofs.chunk_validators.runs.find_place.Goals as goal
-
-abbrev zero_block : GapAckBlock
-zero_block = record { start = 0; end = 0 }
 
 pub loop-last-preserved : goal.loop-last-preserved
 loop-last-preserved c =

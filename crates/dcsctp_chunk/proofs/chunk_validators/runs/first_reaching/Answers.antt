@@ -4,12 +4,12 @@ use Rattle.std.proofs.lemmas.Bool.{cases_lt, ltb-true, ltb-false}
 use Rattle.std.proofs.lemmas.List.{length-take-le, get_or-take}
 use Rattle.std.proofs.lemmas.List.Sorted.{IsPartitionPoint-from_clause}
 use Rattle.dcsctp_chunk.specs.declared.sack_chunk.GapAckBlock.{GapAckBlock}
+use Rattle.dcsctp_chunk.proofs.Covers.{zero_block}
 use Rattle.dcsctp_chunk.proofs.Placed.{free_end, parted_kept}
 use Rattle.dcsctp_chunk.proofs.chunk_validators.runs.first_reaching.Goals as goal
 
 pub returns-clause-bound : goal.returns-clause-bound
 returns-clause-bound c =
-    let zero_block : GapAckBlock = record { start = 0; end = 0 } in
     let runs = c.args.runs.now in
     let kept = c.args.kept in
     let offset = c.saturating_sub-offset.result in

@@ -1,13 +1,10 @@
 -- Each step puts in the last of the others that are left; the move at the end closes the gap.
-use Rattle.std.proofs.Common.{◌≡◌, ◌-◌, ◌∷◌, ◌++◌, take, drop, get_or, arith, subst, sym}
-use Rattle.dcsctp_chunk.specs.declared.sack_chunk.GapAckBlock.{GapAckBlock}
+use Rattle.std.proofs.Common.{◌≡◌, ◌-◌, ◌++◌, take, drop, get_or, arith, subst, sym}
 use Rattle.dcsctp_chunk.specs.Apart.{AreRunsOf, around}
 use Rattle.dcsctp_chunk.specs.Cover.{SameCover}
+use Rattle.dcsctp_chunk.proofs.Covers.{zero_block}
 use Rattle.dcsctp_chunk.proofs.Joined.{next_apart, left_apart, left_cover}
 use Rattle.dcsctp_chunk.proofs.chunk_validators.runs.join_runs.Goals as goal
-
-abbrev zero_block : GapAckBlock
-zero_block = record { start = 0; end = 0 }
 
 pub put_by_walk-gap-requires-clause-below : goal.put_by_walk-gap-requires-clause-below
 put_by_walk-gap-requires-clause-below c =

@@ -1,14 +1,11 @@
 -- Each step of the walk down takes in a run, which starts early enough, since the last one does.
-use Rattle.std.proofs.Common.{◌≡◌, inl, inr, ℕ, ◌+◌, ◌-◌, ◌<◌, ◌≤◌, length, get_or, arith, ap}
-use Rattle.std.proofs.lemmas.Bool.{cases_lt}
+use Rattle.std.proofs.Common.{◌-◌, ◌<◌, length, arith}
 use Rattle.dcsctp_chunk.specs.declared.sack_chunk.GapAckBlock.{GapAckBlock}
+use Rattle.dcsctp_chunk.proofs.Covers.{zero_block}
 use Rattle.dcsctp_chunk.proofs.Runs.{apart_order}
 use Rattle.dcsctp_chunk.proofs.RunsOf.{put_in}
 use Rattle.dcsctp_chunk.proofs.Placed.{walk_down, walked_down}
 use Rattle.dcsctp_chunk.proofs.chunk_validators.runs.last_place.Goals as goal
-
-abbrev zero_block : GapAckBlock
-zero_block = record { start = 0; end = 0 }
 
 pub loop-first-preserved : goal.loop-first-preserved
 loop-first-preserved c =

@@ -3,6 +3,7 @@ use Rattle.std.proofs.Common.{◌≡◌, ℕ, ◌+◌, ◌-◌, ◌<◌, ◌≤�
 use Rattle.dcsctp_chunk.specs.declared.sack_chunk.GapAckBlock.{GapAckBlock}
 use Rattle.dcsctp_chunk.specs.declared.chunk_validators.runs.Gap.{Gap}
 use Rattle.dcsctp_chunk.specs.Apart.{IsApart, around}
+use Rattle.dcsctp_chunk.proofs.Covers.{zero_block}
 use Rattle.dcsctp_chunk.proofs.Joined.{lifted, lifted_apart}
 use Rattle.dcsctp_chunk.proofs.chunk_validators.runs.lift_past.Invariants.{IsLifted}
 use Rattle.dcsctp_chunk.proofs.chunk_validators.runs.lift_past.Goals as goal
@@ -22,7 +23,6 @@ lift_more block d gap left next old runs after count some low high room front ba
 
 pub loop-left-preserved : goal.loop-left-preserved
 loop-left-preserved c =
-    let zero_block : GapAckBlock = record { start = 0; end = 0 } in
     let inv = c.loop-left.invariant in
     let order = inv.order in
     let bound = inv.bound in
@@ -34,7 +34,6 @@ loop-left-preserved c =
 
 pub loop-left-2-preserved : goal.loop-left-2-preserved
 loop-left-2-preserved c =
-    let zero_block : GapAckBlock = record { start = 0; end = 0 } in
     let inv = c.loop-left-2.invariant in
     let order = inv.order in
     let bound = inv.bound in
