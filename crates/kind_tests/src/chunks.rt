@@ -1,331 +1,207 @@
 //! COOKIE ECHO, COOKIE ACK, the three chunks of a shutdown, and chunks without a kind.
 
-use crate::help::{Kind, is_kept, raw_chunk, rewritten, size_of, told, told_of, written};
+use crate::help::{chunk, chunk_as, made, size_of, told_of};
 use dcsctp_chunk::cookie_ack_chunk::CookieAckChunk;
 use dcsctp_chunk::cookie_echo_chunk::CookieEchoChunk;
 use dcsctp_chunk::shutdown_ack_chunk::ShutdownAckChunk;
 use dcsctp_chunk::shutdown_chunk::ShutdownChunk;
 use dcsctp_chunk::shutdown_complete_chunk::ShutdownCompleteChunk;
 use dcsctp_chunk::unknown_chunk::UnknownChunk;
-use dcsctp_tlv::error::ChunkParseError;
 use dcsctp_tlv::tlv::SerializableTlv;
 use dcsctp_types::types::Tsn;
+use hex_rows::are_answered;
 use std::alloc::{AllocError, Global};
 use std::test::Fail;
 
-impl Kind for CookieEchoChunk {
-    fn read(alloc: Global, bytes: &[u8]) -> Result<Self, ChunkParseError> {
-        CookieEchoChunk::try_from(alloc, raw_chunk(bytes)?)
-    }
+const ROWS: &str = r"# captured
+0a000008 12345678
+= CookieEchoChunk { cookie: [18, 52, 86, 120] }; COOKIE-ECHO, cookie=4 bytes
+# three bytes, which lack their padding
+0a000007 010203
+= CookieEchoChunk { cookie: [1, 2, 3] }; COOKIE-ECHO, cookie=3 bytes
+# without a cookie
+0a000004 = InvalidLength
+# captured
+0b000004
+= CookieAckChunk; COOKIE-ACK
+# a value where there is none
+0b000005 00 = InvalidLength
+# what is written with a named type is read as its kind
+0b030004
+= CookieAckChunk; COOKIE-ACK -> 0b000004
+# captured
+07000008 0611d1bd
+= ShutdownChunk { cumulative_tsn_ack: 101831101 }; SHUTDOWN cumulative_tsn_ack=101831101
+07000008 01020304
+= ShutdownChunk { cumulative_tsn_ack: 16909060 }; SHUTDOWN cumulative_tsn_ack=16909060
+# captured
+08000004
+= ShutdownAckChunk; SHUTDOWN-ACK
+# all flags are ignored
+08ff0004
+= ShutdownAckChunk; SHUTDOWN-ACK -> 08000004
+# a value where there is none
+08000005 00 = InvalidLength
+# captured
+0e000004
+= ShutdownCompleteChunk { tag_reflected: false }; SHUTDOWN-COMPLETE, tag_reflected=false
+# of a sender without an association
+0e010004
+= ShutdownCompleteChunk { tag_reflected: true }; SHUTDOWN-COMPLETE, tag_reflected=true
+# all flags but the lowest
+0efe0004
+= ShutdownCompleteChunk { tag_reflected: false }; SHUTDOWN-COMPLETE, tag_reflected=false -> 0e000004
+# a value where there is none
+0e010005 00 = InvalidLength";
+
+#[test]
+fn rows(rt: HostRuntime) -> Result<(), Fail> {
+    are_answered(rt.alloc(), ROWS, |alloc, bytes| chunk(alloc, bytes))
 }
 
-impl Kind for CookieAckChunk {
-    fn read(_alloc: Global, bytes: &[u8]) -> Result<Self, ChunkParseError> {
-        CookieAckChunk::try_from(raw_chunk(bytes)?)
-    }
+const UNKNOWN: &str = r"49f20004
+= UnknownChunk { typ: 73, flags: 242, value: [] }; Unknown chunk, type=73
+63000006 0102
+= UnknownChunk { typ: 99, flags: 0, value: [1, 2] }; Unknown chunk, type=99
+ff010004
+= UnknownChunk { typ: 255, flags: 1, value: [] }; Unknown chunk, type=255
+c8810005 09
+= UnknownChunk { typ: 200, flags: 129, value: [9] }; Unknown chunk, type=200
+# the type of COOKIE ACK
+0b030004
+= UnknownChunk { typ: 11, flags: 3, value: [] }; Unknown chunk, type=11";
+
+// A chunk of any type, a named one too, keeps its flags and its value.
+#[test]
+fn unknown(rt: HostRuntime) -> Result<(), Fail> {
+    are_answered(
+        rt.alloc(),
+        UNKNOWN,
+        |alloc, bytes| chunk_as(alloc, 255, bytes),
+    )
 }
 
-impl Kind for ShutdownChunk {
-    fn read(_alloc: Global, bytes: &[u8]) -> Result<Self, ChunkParseError> {
-        ShutdownChunk::try_from(raw_chunk(bytes)?)
+// Another type, which is looked at before a value's size.
+#[test]
+fn other_types(rt: HostRuntime) -> Result<(), Fail> {
+    let init = "01000005 00 = InvalidType\n01000004 = InvalidType";
+    for typ in [0, 3, 7, 8, 10, 11, 14, 64, 192, 194] {
+        are_answered(rt.alloc(), init, |alloc, bytes| chunk_as(alloc, typ, bytes))?;
     }
+    let ack = "0b000004 = InvalidType";
+    for typ in [3, 192, 194] {
+        are_answered(rt.alloc(), ack, |alloc, bytes| chunk_as(alloc, typ, bytes))?;
+    }
+    let data = "00030004 = InvalidType";
+    are_answered(rt.alloc(), data, |alloc, bytes| chunk_as(alloc, 64, bytes))
 }
 
-impl Kind for ShutdownAckChunk {
-    fn read(_alloc: Global, bytes: &[u8]) -> Result<Self, ChunkParseError> {
-        ShutdownAckChunk::try_from(raw_chunk(bytes)?)
-    }
-}
-
-impl Kind for ShutdownCompleteChunk {
-    fn read(_alloc: Global, bytes: &[u8]) -> Result<Self, ChunkParseError> {
-        ShutdownCompleteChunk::try_from(raw_chunk(bytes)?)
-    }
-}
-
-impl Kind for UnknownChunk {
-    fn read(alloc: Global, bytes: &[u8]) -> Result<Self, ChunkParseError> {
-        UnknownChunk::try_from(alloc, raw_chunk(bytes)?)
-    }
-}
-
-fn is_echo_kept(alloc: Global, cookie: &[u8]) -> Result<bool, AllocError> {
-    let chunk = CookieEchoChunk {
+fn echo(alloc: Global, cookie: &[u8]) -> Result<CookieEchoChunk, AllocError> {
+    Ok(CookieEchoChunk {
         cookie: Vec::from_slice(alloc, cookie)?,
-    };
-    is_kept(alloc, &chunk)
+    })
+}
+
+fn echo_made(alloc: Global, cookie: &[u8]) -> Result<String, AllocError> {
+    made(alloc, &echo(alloc, cookie)?)
 }
 
 fn echo_cloned(alloc: Global, cookie: &[u8]) -> Result<String, AllocError> {
-    let chunk = CookieEchoChunk {
-        cookie: Vec::from_slice(alloc, cookie)?,
-    };
-    let copy = chunk.clone()?;
+    let copy = echo(alloc, cookie)?.clone()?;
     told_of(alloc, &copy)
 }
 
-fn echo_written(alloc: Global, cookie: &[u8]) -> Result<Vec<u8>, AllocError> {
-    let chunk = CookieEchoChunk {
-        cookie: Vec::from_slice(alloc, cookie)?,
-    };
-    written(alloc, &chunk)
-}
-
 fn new_echo(alloc: Global) -> Result<String, AllocError> {
-    let chunk = CookieEchoChunk::new(alloc);
-    told_of(alloc, &chunk)
-}
-
-#[test]
-fn cookie_echo(rt: HostRuntime) -> Result<(), Fail> {
-    let rows: [(&[u8], &str); 5] = [
-        // captured
-        (
-            &[0x0a, 0, 0, 8, 0x12, 0x34, 0x56, 0x78],
-            "CookieEchoChunk { cookie: [18, 52, 86, 120] }; COOKIE-ECHO, cookie=4 bytes",
-        ),
-        // three bytes, which lack their padding
-        (
-            &[10, 0, 0, 7, 1, 2, 3],
-            "CookieEchoChunk { cookie: [1, 2, 3] }; COOKIE-ECHO, cookie=3 bytes",
-        ),
-        // another type, which is told before a value's size
-        (&[1, 0, 0, 5, 0], "InvalidType"),
-        (&[1, 0, 0, 4], "InvalidType"),
-        // without a cookie
-        (&[0x0a, 0, 0, 4], "InvalidLength"),
-    ];
-    for (bytes, wanted) in rows {
-        assert_eq!(rt;
-            told::<CookieEchoChunk>(rt.alloc(), bytes)?.as_str(),
-            wanted
-        );
-    }
-    let captured = [0x0a, 0, 0, 8, 0x12, 0x34, 0x56, 0x78];
-    let again = rewritten::<CookieEchoChunk>(rt.alloc(), &captured)?;
-    assert_eq!(rt; again.as_slice(), captured.as_slice());
-    Ok(())
+    told_of(alloc, &CookieEchoChunk::new(alloc))
 }
 
 #[test]
 fn made_cookie_echo(rt: HostRuntime) -> Result<(), Fail> {
     assert_eq!(rt;
-        echo_written(rt.alloc(), &[1, 2, 3])?.as_slice(),
-        [10, 0, 0, 7, 1, 2, 3].as_slice()
+        echo_made(rt.alloc(), &[1, 2, 3])?.as_str(),
+        "CookieEchoChunk { cookie: [1, 2, 3] }; COOKIE-ECHO, cookie=3 bytes -> 0a000007 010203"
     );
-    assert!(rt; is_echo_kept(rt.alloc(), &[1, 2, 3])?);
     assert_eq!(rt;
         echo_cloned(rt.alloc(), &[1, 2, 3])?.as_str(),
         "CookieEchoChunk { cookie: [1, 2, 3] }; COOKIE-ECHO, cookie=3 bytes"
     );
-    assert_eq!(rt;
-        new_echo(rt.alloc())?.as_str(),
-        "CookieEchoChunk { cookie: [] }; COOKIE-ECHO, cookie=0 bytes"
-    );
+    let empty = "CookieEchoChunk { cookie: [] }; COOKIE-ECHO, cookie=0 bytes";
+    assert_eq!(rt; new_echo(rt.alloc())?.as_str(), empty);
     // an empty cookie can be written
     assert_eq!(rt;
-        echo_written(rt.alloc(), &[])?.as_slice(),
-        [10, 0, 0, 4].as_slice()
+        echo_made(rt.alloc(), &[])?.as_str(),
+        "CookieEchoChunk { cookie: [] }; COOKIE-ECHO, cookie=0 bytes -> 0a000004"
     );
     Ok(())
 }
 
+fn shutdown_made(alloc: Global) -> Result<String, AllocError> {
+    let cumulative_tsn_ack = Tsn(0x01020304);
+    made(alloc, &ShutdownChunk { cumulative_tsn_ack })
+}
+
+fn complete_made(alloc: Global, tag_reflected: bool) -> Result<String, AllocError> {
+    made(alloc, &ShutdownCompleteChunk { tag_reflected })
+}
+
 #[test]
-fn cookie_ack(rt: HostRuntime) -> Result<(), Fail> {
-    let rows: [(&[u8], &str); 3] = [
-        // captured
-        (&[0x0b, 0, 0, 4], "CookieAckChunk; COOKIE-ACK"),
-        // another type, which is told before a value's size
-        (&[1, 0, 0, 5, 0], "InvalidType"),
-        // a value where there is none
-        (&[0x0b, 0, 0, 5, 0], "InvalidLength"),
-    ];
-    for (bytes, wanted) in rows {
-        assert_eq!(rt; told::<CookieAckChunk>(rt.alloc(), bytes)?.as_str(), wanted);
-    }
+fn made_without_memory(rt: HostRuntime) -> Result<(), Fail> {
     assert_eq!(rt;
-        rewritten::<CookieAckChunk>(rt.alloc(), &[0x0b, 0, 0, 4])?.as_slice(),
-        [0x0b, 0, 0, 4].as_slice()
-    );
-    assert_eq!(rt;
-        written(rt.alloc(), &CookieAckChunk)?.as_slice(),
-        [11, 0, 0, 4].as_slice()
+        made(rt.alloc(), &CookieAckChunk)?.as_str(),
+        "CookieAckChunk; COOKIE-ACK -> 0b000004"
     );
     assert_eq!(rt; CookieAckChunk.value_size(), 0);
     assert_eq!(rt; CookieAckChunk.serialized_size(), 4);
+    assert_eq!(rt;
+        shutdown_made(rt.alloc())?.as_str(),
+        "ShutdownChunk { cumulative_tsn_ack: 16909060 }; SHUTDOWN cumulative_tsn_ack=16909060 -> 07000008 01020304"
+    );
+    assert_eq!(rt;
+        made(rt.alloc(), &ShutdownAckChunk)?.as_str(),
+        "ShutdownAckChunk; SHUTDOWN-ACK -> 08000004"
+    );
+    assert_eq!(rt;
+        complete_made(rt.alloc(), false)?.as_str(),
+        "ShutdownCompleteChunk { tag_reflected: false }; SHUTDOWN-COMPLETE, tag_reflected=false -> 0e000004"
+    );
+    assert_eq!(rt;
+        complete_made(rt.alloc(), true)?.as_str(),
+        "ShutdownCompleteChunk { tag_reflected: true }; SHUTDOWN-COMPLETE, tag_reflected=true -> 0e010004"
+    );
     Ok(())
+}
+
+fn unknown_made(alloc: Global, typ: u8, flags: u8, value: &[u8]) -> Result<String, AllocError> {
+    let value = Vec::from_slice(alloc, value)?;
+    made(alloc, &UnknownChunk { typ, flags, value })
 }
 
 #[test]
-fn shutdown(rt: HostRuntime) -> Result<(), Fail> {
-    let rows: [(&[u8], &str); 3] = [
-        // captured
-        (
-            &[7, 0, 0, 8, 6, 0x11, 0xd1, 0xbd],
-            "ShutdownChunk { cumulative_tsn_ack: 101831101 }; SHUTDOWN cumulative_tsn_ack=101831101",
-        ),
-        (
-            &[7, 0, 0, 8, 1, 2, 3, 4],
-            "ShutdownChunk { cumulative_tsn_ack: 16909060 }; SHUTDOWN cumulative_tsn_ack=16909060",
-        ),
-        // another type, which is told before a value's size
-        (&[1, 0, 0, 5, 0], "InvalidType"),
-    ];
-    for (bytes, wanted) in rows {
-        assert_eq!(rt; told::<ShutdownChunk>(rt.alloc(), bytes)?.as_str(), wanted);
-    }
-    let made = ShutdownChunk {
-        cumulative_tsn_ack: Tsn(0x01020304),
-    };
+fn made_unknown(rt: HostRuntime) -> Result<(), Fail> {
     assert_eq!(rt;
-        written(rt.alloc(), &made)?.as_slice(),
-        [7, 0, 0, 8, 1, 2, 3, 4].as_slice()
+        unknown_made(rt.alloc(), 200, 0x81, &[9])?.as_str(),
+        "UnknownChunk { typ: 200, flags: 129, value: [9] }; Unknown chunk, type=200 -> c8810005 09"
+    );
+    // a named type, whose bytes are read as its kind
+    assert_eq!(rt;
+        unknown_made(rt.alloc(), 11, 3, &[])?.as_str(),
+        "UnknownChunk { typ: 11, flags: 3, value: [] }; Unknown chunk, type=11 -> 0b030004"
     );
     Ok(())
 }
 
-#[test]
-fn shutdown_ack(rt: HostRuntime) -> Result<(), Fail> {
-    let rows: [(&[u8], &str); 3] = [
-        // captured
-        (&[8, 0, 0, 4], "ShutdownAckChunk; SHUTDOWN-ACK"),
-        // all flags are ignored
-        (&[8, 0xff, 0, 4], "ShutdownAckChunk; SHUTDOWN-ACK"),
-        // a value where there is none
-        (&[8, 0, 0, 5, 0], "InvalidLength"),
-    ];
-    for (bytes, wanted) in rows {
-        assert_eq!(rt;
-            told::<ShutdownAckChunk>(rt.alloc(), bytes)?.as_str(),
-            wanted
-        );
-    }
-    // and written as zeros
-    for flags in [0, 0xff] {
-        assert_eq!(rt;
-            rewritten::<ShutdownAckChunk>(rt.alloc(), &[8, flags, 0, 4])?.as_slice(),
-            [8, 0, 0, 4].as_slice()
-        );
-    }
-    assert_eq!(rt;
-        written(rt.alloc(), &ShutdownAckChunk)?.as_slice(),
-        [8, 0, 0, 4].as_slice()
-    );
-    Ok(())
-}
-
-fn complete_written(alloc: Global, tag_reflected: bool) -> Result<Vec<u8>, AllocError> {
-    written(alloc, &ShutdownCompleteChunk { tag_reflected })
-}
-
-#[test]
-fn shutdown_complete(rt: HostRuntime) -> Result<(), Fail> {
-    let rows: [(&[u8], &str); 4] = [
-        // captured
-        (
-            &[0x0e, 0, 0, 4],
-            "ShutdownCompleteChunk { tag_reflected: false }; SHUTDOWN-COMPLETE, tag_reflected=false",
-        ),
-        // of a sender without an association
-        (
-            &[0x0e, 1, 0, 4],
-            "ShutdownCompleteChunk { tag_reflected: true }; SHUTDOWN-COMPLETE, tag_reflected=true",
-        ),
-        // all flags but the lowest
-        (
-            &[0x0e, 0xfe, 0, 4],
-            "ShutdownCompleteChunk { tag_reflected: false }; SHUTDOWN-COMPLETE, tag_reflected=false",
-        ),
-        // a value where there is none
-        (&[0x0e, 1, 0, 5, 0], "InvalidLength"),
-    ];
-    for (bytes, wanted) in rows {
-        assert_eq!(rt;
-            told::<ShutdownCompleteChunk>(rt.alloc(), bytes)?.as_str(),
-            wanted
-        );
-    }
-    for (tag_reflected, flags) in [(false, 0), (true, 1)] {
-        assert_eq!(rt;
-            complete_written(rt.alloc(), tag_reflected)?.as_slice(),
-            [14, flags, 0, 4].as_slice()
-        );
-    }
-    Ok(())
-}
-
-fn unknown_written(alloc: Global, typ: u8, flags: u8, value: &[u8]) -> Result<Vec<u8>, AllocError> {
-    let chunk = UnknownChunk {
-        typ,
-        flags,
-        value: Vec::from_slice(alloc, value)?,
-    };
-    written(alloc, &chunk)
-}
-
-// A chunk of any type, a named one too, keeps its flags and its value.
-#[test]
-fn unknown(rt: HostRuntime) -> Result<(), Fail> {
-    let rows: [(&[u8], &str); 5] = [
-        (
-            &[0x49, 0xf2, 0, 4],
-            "UnknownChunk { typ: 73, flags: 242, value: [] }; Unknown chunk, type=73",
-        ),
-        (
-            &[99, 0, 0, 6, 1, 2],
-            "UnknownChunk { typ: 99, flags: 0, value: [1, 2] }; Unknown chunk, type=99",
-        ),
-        (
-            &[0xff, 1, 0, 4],
-            "UnknownChunk { typ: 255, flags: 1, value: [] }; Unknown chunk, type=255",
-        ),
-        (
-            &[200, 0x81, 0, 5, 9],
-            "UnknownChunk { typ: 200, flags: 129, value: [9] }; Unknown chunk, type=200",
-        ),
-        // the type of COOKIE ACK
-        (
-            &[11, 3, 0, 4],
-            "UnknownChunk { typ: 11, flags: 3, value: [] }; Unknown chunk, type=11",
-        ),
-    ];
-    for (bytes, wanted) in rows {
-        assert_eq!(rt; told::<UnknownChunk>(rt.alloc(), bytes)?.as_str(), wanted);
-        assert_eq!(rt;
-            rewritten::<UnknownChunk>(rt.alloc(), bytes)?.as_slice(),
-            bytes
-        );
-    }
-    assert_eq!(rt;
-        unknown_written(rt.alloc(), 200, 0x81, &[9])?.as_slice(),
-        [200, 0x81, 0, 5, 9].as_slice()
-    );
-    // what is written with a named type is read as its kind
-    assert_eq!(rt;
-        unknown_written(rt.alloc(), 11, 3, &[])?.as_slice(),
-        [11, 3, 0, 4].as_slice()
-    );
-    assert_eq!(rt;
-        told::<CookieAckChunk>(rt.alloc(), &[11, 3, 0, 4])?.as_str(),
-        "CookieAckChunk; COOKIE-ACK"
-    );
-    Ok(())
-}
-
-fn unknown_size(alloc: Global, value: usize) -> Result<Option<usize>, AllocError> {
-    let chunk = UnknownChunk {
+fn unknown_size(alloc: Global, size: usize) -> Result<Option<usize>, AllocError> {
+    let value = vec![in alloc; 1; size]?;
+    Ok(size_of(&UnknownChunk {
         typ: 1,
         flags: 0,
-        value: vec![in alloc; 1; value]?,
-    };
-    Ok(size_of(&chunk))
+        value,
+    }))
 }
 
-fn echo_size(alloc: Global, cookie: usize) -> Result<Option<usize>, AllocError> {
-    let chunk = CookieEchoChunk {
-        cookie: vec![in alloc; 1; cookie]?,
-    };
-    Ok(size_of(&chunk))
+fn echo_size(alloc: Global, size: usize) -> Result<Option<usize>, AllocError> {
+    let cookie = vec![in alloc; 1; size]?;
+    Ok(size_of(&CookieEchoChunk { cookie }))
 }
 
 #[test]

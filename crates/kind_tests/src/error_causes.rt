@@ -1,262 +1,121 @@
 //! Each kind of error cause, and lists of them.
 
-use crate::help::{
-    Kind, Listed, first_printed, is_kept, is_list_told, list_rewritten, list_told, list_written,
-    raw_parameter, size_of, told,
-};
+use crate::help::{cause_as, in_list, is_kept, list_shown, raw_parameter, size_of};
 use dcsctp_cause::cookie_received_while_shutting_down::CookieReceivedWhileShuttingDownErrorCause;
 use dcsctp_cause::error_causes::{ErrorCause, error_cause_from_bytes};
 use dcsctp_cause::missing_mandatory_parameter_error_cause::MissingMandatoryParameterErrorCause;
-use dcsctp_cause::no_user_data_error_cause::NoUserDataErrorCause;
 use dcsctp_cause::protocol_violation_error_cause::ProtocolViolationErrorCause;
 use dcsctp_cause::unrecognized_chunk_error_cause::UnrecognizedChunkErrorCause;
-use dcsctp_cause::user_initiated_abort_error_cause::UserInitiatedAbortErrorCause;
 use dcsctp_tlv::error::ChunkParseError;
+use hex_rows::are_answered;
 use std::alloc::{AllocError, Global};
 use std::test::Fail;
 
-impl Kind for MissingMandatoryParameterErrorCause {
-    fn read(alloc: Global, bytes: &[u8]) -> Result<Self, ChunkParseError> {
-        MissingMandatoryParameterErrorCause::try_from(alloc, raw_parameter(bytes)?)
+const CAUSES: &str = r#"0002000c 00000002 0007000d
+= MissingMandatoryParameterErrorCause { missing_parameters: [7, 13] }; Missing Mandatory Parameter, missing_parameters=[7, 13]
+# no parameter is missing
+00020008 00000000
+= MissingMandatoryParameterErrorCause { missing_parameters: [] }; Missing Mandatory Parameter, missing_parameters=[]
+# the cause of a captured ERROR
+00060008 49000004
+= UnrecognizedChunkErrorCause { chunk: [73, 0, 0, 4] }; Unrecognized Chunk Type
+00090008 00010002
+= NoUserDataErrorCause { tsn: 65538 }; No User Data, tsn=65538
+000a0004
+= CookieReceivedWhileShuttingDownErrorCause; Cookie Received While Shutting Down
+000c0007 627965
+= UserInitiatedAbortErrorCause { reason: "bye" }; User-Initiated Abort, reason=bye
+000c000f 61627261 63616461 627261
+= UserInitiatedAbortErrorCause { reason: "abracadabra" }; User-Initiated Abort, reason=abracadabra
+# an empty reason
+000c0004
+= UserInitiatedAbortErrorCause { reason: "" }; User-Initiated Abort, reason=
+# a letter of two bytes
+000c0006 c3a9
+= UserInitiatedAbortErrorCause { reason: "é" }; User-Initiated Abort, reason=é
+000d0006 6e6f
+= ProtocolViolationErrorCause { information: "no" }; Protocol Violation, additional_information=no
+# codes without a kind
+00050005 aa
+= UnknownParameter { typ: 5, value: [170] }; Unknown parameter, type=5
+00630004
+= UnknownParameter { typ: 99, value: [] }; Unknown parameter, type=99"#;
+
+/// Texts that aren't UTF-8, what is printed of them, and what is written in their place.
+const BROKEN: &str = r#"# a byte that UTF-8 never has
+000c0005 ff
+= UserInitiatedAbortErrorCause { reason: "Failed to parse abort reason" }; User-Initiated Abort, reason=Failed to parse abort reason -> 000c0020 4661696c 65642074 6f207061 72736520 61626f72 74207265 61736f6e
+# the first byte of two
+000c0006 61c3
+= UserInitiatedAbortErrorCause { reason: "Failed to parse abort reason" }; User-Initiated Abort, reason=Failed to parse abort reason -> 000c0020 4661696c 65642074 6f207061 72736520 61626f72 74207265 61736f6e
+000d0005 ff
+= ProtocolViolationErrorCause { information: "Failed to parse additional information" }; Protocol Violation, additional_information=Failed to parse additional information -> 000d002a 4661696c 65642074 6f207061 72736520 61646469 74696f6e 616c2069 6e666f72 6d617469 6f6e"#;
+
+/// All fields of a list of one cause, and what that prints.
+fn list_of_one(alloc: Global, bytes: &[u8]) -> Result<String, ChunkParseError> {
+    let list = error_cause_from_bytes(alloc, bytes)?;
+    match list.first() {
+        Some(cause) => Ok(format!(in alloc; "{list:?}; {cause}")?),
+        None => Ok(String::new(alloc)),
     }
 }
 
-impl Kind for UnrecognizedChunkErrorCause {
-    fn read(alloc: Global, bytes: &[u8]) -> Result<Self, ChunkParseError> {
-        UnrecognizedChunkErrorCause::try_from(alloc, raw_parameter(bytes)?)
+/// What the bytes are as an error cause of their own code. Where a list of it alone would be read
+/// or printed otherwise, that.
+fn cause(alloc: Global, bytes: &[u8]) -> Result<String, Fail> {
+    let told = cause_as(alloc, raw_parameter(bytes)?.typ, bytes)?;
+    let (_, text) = told.split_once("; ").unwrap_or(("", ""));
+    let (text, _) = text.split_once(" -> ").unwrap_or((text, ""));
+    let end = if told.starts_with("Unknown") {
+        "Parameter"
+    } else {
+        "ErrorCause"
+    };
+    let fields = in_list(alloc, &told, end)?;
+    let wanted = format!(in alloc; "{fields}; {text}")?;
+    let list = list_of_one(alloc, bytes)?;
+    if list.as_str() == wanted.as_str() {
+        Ok(told)
+    } else {
+        Ok(list)
     }
 }
-
-impl Kind for NoUserDataErrorCause {
-    fn read(_alloc: Global, bytes: &[u8]) -> Result<Self, ChunkParseError> {
-        NoUserDataErrorCause::try_from(raw_parameter(bytes)?)
-    }
-}
-
-impl Kind for CookieReceivedWhileShuttingDownErrorCause {
-    fn read(_alloc: Global, bytes: &[u8]) -> Result<Self, ChunkParseError> {
-        CookieReceivedWhileShuttingDownErrorCause::try_from(raw_parameter(bytes)?)
-    }
-}
-
-impl Kind for UserInitiatedAbortErrorCause {
-    fn read(alloc: Global, bytes: &[u8]) -> Result<Self, ChunkParseError> {
-        UserInitiatedAbortErrorCause::try_from(alloc, raw_parameter(bytes)?)
-    }
-}
-
-impl Kind for ProtocolViolationErrorCause {
-    fn read(alloc: Global, bytes: &[u8]) -> Result<Self, ChunkParseError> {
-        ProtocolViolationErrorCause::try_from(alloc, raw_parameter(bytes)?)
-    }
-}
-
-impl Listed for ErrorCause {
-    fn read_list(alloc: Global, bytes: &[u8]) -> Result<Vec<Self>, ChunkParseError> {
-        error_cause_from_bytes(alloc, bytes)
-    }
-
-    fn print(&self, alloc: Global) -> Result<String, AllocError> {
-        self.to_string(alloc)
-    }
-}
-
-/// The bytes of a list of one cause, its fields and its text.
-const CAUSES: &[(&[u8], &str, &str)] = &[
-    (
-        &[0, 2, 0, 12, 0, 0, 0, 2, 0, 7, 0, 13],
-        "[MissingMandatoryParameter(MissingMandatoryParameterErrorCause { missing_parameters: [7, 13] })]",
-        "Missing Mandatory Parameter, missing_parameters=[7, 13]",
-    ),
-    // no parameter is missing
-    (
-        &[0, 2, 0, 8, 0, 0, 0, 0],
-        "[MissingMandatoryParameter(MissingMandatoryParameterErrorCause { missing_parameters: [] })]",
-        "Missing Mandatory Parameter, missing_parameters=[]",
-    ),
-    // the cause of a captured ERROR
-    (
-        &[0, 6, 0, 8, 0x49, 0, 0, 4],
-        "[UnrecognizedChunk(UnrecognizedChunkErrorCause { chunk: [73, 0, 0, 4] })]",
-        "Unrecognized Chunk Type",
-    ),
-    (
-        &[0, 9, 0, 8, 0, 1, 0, 2],
-        "[NoUserData(NoUserDataErrorCause { tsn: 65538 })]",
-        "No User Data, tsn=65538",
-    ),
-    (
-        &[0, 10, 0, 4],
-        "[CookieReceivedWhileShuttingDown(CookieReceivedWhileShuttingDownErrorCause)]",
-        "Cookie Received While Shutting Down",
-    ),
-    (
-        &[0, 12, 0, 7, b'b', b'y', b'e'],
-        "[UserInitiatedAbort(UserInitiatedAbortErrorCause { reason: \"bye\" })]",
-        "User-Initiated Abort, reason=bye",
-    ),
-    (
-        &[
-            0, 12, 0, 15, b'a', b'b', b'r', b'a', b'c', b'a', b'd', b'a', b'b', b'r', b'a',
-        ],
-        "[UserInitiatedAbort(UserInitiatedAbortErrorCause { reason: \"abracadabra\" })]",
-        "User-Initiated Abort, reason=abracadabra",
-    ),
-    // an empty reason
-    (
-        &[0, 12, 0, 4],
-        "[UserInitiatedAbort(UserInitiatedAbortErrorCause { reason: \"\" })]",
-        "User-Initiated Abort, reason=",
-    ),
-    // a letter of two bytes
-    (
-        &[0, 12, 0, 6, 0xc3, 0xa9],
-        "[UserInitiatedAbort(UserInitiatedAbortErrorCause { reason: \"é\" })]",
-        "User-Initiated Abort, reason=é",
-    ),
-    (
-        &[0, 13, 0, 6, b'n', b'o'],
-        "[ProtocolViolation(ProtocolViolationErrorCause { information: \"no\" })]",
-        "Protocol Violation, additional_information=no",
-    ),
-    // codes without a kind
-    (
-        &[0, 5, 0, 5, 0xaa],
-        "[Unknown(UnknownParameter { typ: 5, value: [170] })]",
-        "Unknown parameter, type=5",
-    ),
-    (
-        &[0, 99, 0, 4],
-        "[Unknown(UnknownParameter { typ: 99, value: [] })]",
-        "Unknown parameter, type=99",
-    ),
-];
 
 #[test]
 fn causes(rt: HostRuntime) -> Result<(), Fail> {
-    for (i, (bytes, fields, text)) in CAUSES.iter().enumerate() {
-        assert_eq!(rt;
-            list_told::<ErrorCause>(rt.alloc(), bytes)?.as_str(),
-            *fields,
-            "row {i}"
-        );
-        assert_eq!(rt;
-            first_printed::<ErrorCause>(rt.alloc(), bytes)?.as_str(),
-            *text,
-            "row {i}"
-        );
-        let again = list_rewritten::<ErrorCause>(rt.alloc(), bytes)?;
-        assert_eq!(rt; again.as_slice(), *bytes, "row {i}");
-    }
-    Ok(())
+    are_answered(rt.alloc(), CAUSES, |alloc, bytes| cause(alloc, bytes))?;
+    are_answered(rt.alloc(), BROKEN, |alloc, bytes| cause(alloc, bytes))?;
+    // another code than the reader's
+    let rows = "000a0004 = InvalidType";
+    are_answered(rt.alloc(), rows, |alloc, bytes| cause_as(alloc, 9, bytes))
 }
 
-/// Bytes, and the fields of the list that they are, or why they are refused.
-const LISTS: &[(&[u8], &str)] = &[
-    (&[], "[]"),
-    // three causes
-    (
-        &[
-            0, 6, 0, 8, 0x49, 0, 0, 4, 0, 2, 0, 12, 0, 0, 0, 2, 0, 7, 0, 13, 0, 9, 0, 8, 1, 2, 3, 4,
-        ],
-        "[UnrecognizedChunk(UnrecognizedChunkErrorCause { chunk: [73, 0, 0, 4] }), MissingMandatoryParameter(MissingMandatoryParameterErrorCause { missing_parameters: [7, 13] }), NoUserData(NoUserDataErrorCause { tsn: 16909060 })]",
-    ),
-    // a count of 2^31 types, for which a value of 4 bytes would serve if it wrapped
-    (&[0, 2, 0, 10, 0x80, 0, 0, 0, 0, 7], "InvalidLength"),
-    // one more: these 6 bytes would serve if it wrapped
-    (&[0, 2, 0, 10, 0x80, 0, 0, 1, 0, 7], "InvalidLength"),
-    // the greatest count
-    (
-        &[0, 2, 0, 10, 0xff, 0xff, 0xff, 0xff, 0, 7],
-        "InvalidLength",
-    ),
-    // no room for the count
-    (&[0, 2, 0, 7, 0, 0, 0], "InvalidLength"),
-    // a type more than the count says
-    (&[0, 2, 0, 10, 0, 0, 0, 0, 0, 7], "InvalidLength"),
-    // five bytes of TSN
-    (&[0, 9, 0, 9, 0, 0, 0, 1, 2], "InvalidLength"),
-    // a value where there is none
-    (&[0, 10, 0, 5, 0], "InvalidLength"),
-    // a byte is left over
-    (&[0, 10, 0, 4, 0], "InvalidLength"),
-];
+const LISTS: &str = r"= []
+# three causes
+00060008 49000004 0002000c 00000002 0007000d 00090008 01020304
+= [UnrecognizedChunk(UnrecognizedChunkErrorCause { chunk: [73, 0, 0, 4] }), MissingMandatoryParameter(MissingMandatoryParameterErrorCause { missing_parameters: [7, 13] }), NoUserData(NoUserDataErrorCause { tsn: 16909060 })]
+# a count of 2^31 types, for which a value of 4 bytes would serve if it wrapped
+0002000a 80000000 0007 = InvalidLength
+# one more: these 6 bytes would serve if it wrapped
+0002000a 80000001 0007 = InvalidLength
+# the greatest count
+0002000a ffffffff 0007 = InvalidLength
+# no room for the count
+00020007 000000 = InvalidLength
+# a type more than the count says
+0002000a 00000000 0007 = InvalidLength
+# five bytes of TSN
+00090009 00000001 02 = InvalidLength
+# a value where there is none
+000a0005 00 = InvalidLength
+# a byte is left over
+000a0004 00 = InvalidLength";
 
 #[test]
 fn lists(rt: HostRuntime) -> Result<(), Fail> {
-    for (i, (bytes, wanted)) in LISTS.iter().enumerate() {
-        assert!(rt;
-            is_list_told::<ErrorCause>(rt.alloc(), bytes, wanted)?,
-            "row {i}"
-        );
-    }
-    Ok(())
-}
-
-/// A text that isn't UTF-8, and what is printed of it.
-const BROKEN: &[(&[u8], &str)] = &[
-    // a byte that UTF-8 never has
-    (
-        &[0, 12, 0, 5, 0xff],
-        "User-Initiated Abort, reason=Failed to parse abort reason",
-    ),
-    // the first byte of two
-    (
-        &[0, 12, 0, 6, b'a', 0xc3],
-        "User-Initiated Abort, reason=Failed to parse abort reason",
-    ),
-    (
-        &[0, 13, 0, 5, 0xff],
-        "Protocol Violation, additional_information=Failed to parse additional information",
-    ),
-];
-
-#[test]
-fn broken_texts(rt: HostRuntime) -> Result<(), Fail> {
-    for (i, (bytes, text)) in BROKEN.iter().enumerate() {
-        assert_eq!(rt;
-            first_printed::<ErrorCause>(rt.alloc(), bytes)?.as_str(),
-            *text,
-            "row {i}"
-        );
-    }
-    assert_eq!(rt;
-        told::<UserInitiatedAbortErrorCause>(rt.alloc(), &[0, 12, 0, 5, 0xff])?.as_str(),
-        "UserInitiatedAbortErrorCause { reason: \"Failed to parse abort reason\" }; User-Initiated Abort, reason=Failed to parse abort reason"
-    );
-    Ok(())
-}
-
-// Each kind is read by itself, too.
-#[test]
-fn kinds(rt: HostRuntime) -> Result<(), Fail> {
-    let missing = [0, 2, 0, 12, 0, 0, 0, 2, 0, 7, 0, 13];
-    assert_eq!(rt;
-        told::<MissingMandatoryParameterErrorCause>(rt.alloc(), &missing)?.as_str(),
-        "MissingMandatoryParameterErrorCause { missing_parameters: [7, 13] }; Missing Mandatory Parameter, missing_parameters=[7, 13]"
-    );
-    assert_eq!(rt;
-        told::<UnrecognizedChunkErrorCause>(rt.alloc(), &[0, 6, 0, 8, 0x49, 0, 0, 4])?.as_str(),
-        "UnrecognizedChunkErrorCause { chunk: [73, 0, 0, 4] }; Unrecognized Chunk Type"
-    );
-    assert_eq!(rt;
-        told::<NoUserDataErrorCause>(rt.alloc(), &[0, 9, 0, 8, 0, 1, 0, 2])?.as_str(),
-        "NoUserDataErrorCause { tsn: 65538 }; No User Data, tsn=65538"
-    );
-    // another code than the reader's
-    assert_eq!(rt;
-        told::<NoUserDataErrorCause>(rt.alloc(), &[0, 10, 0, 4])?.as_str(),
-        "InvalidType"
-    );
-    assert_eq!(rt;
-        told::<CookieReceivedWhileShuttingDownErrorCause>(rt.alloc(), &[0, 10, 0, 4])?.as_str(),
-        "CookieReceivedWhileShuttingDownErrorCause; Cookie Received While Shutting Down"
-    );
-    assert_eq!(rt;
-        told::<ProtocolViolationErrorCause>(rt.alloc(), &[0, 13, 0, 6, b'n', b'o'])?.as_str(),
-        "ProtocolViolationErrorCause { information: \"no\" }; Protocol Violation, additional_information=no"
-    );
-    Ok(())
+    are_answered(rt.alloc(), LISTS, |alloc, bytes| {
+        list_shown(alloc, bytes, error_cause_from_bytes(alloc, bytes))
+    })
 }
 
 fn missing(
@@ -267,23 +126,23 @@ fn missing(
     Ok(MissingMandatoryParameterErrorCause::new(types))
 }
 
-fn is_missing_kept(alloc: Global) -> Result<bool, AllocError> {
+fn is_missing_kept(alloc: Global) -> Result<bool, Fail> {
     let cause = missing(alloc, &[65535, 0, 65535])?;
-    is_kept(alloc, &cause)
+    is_kept(alloc, &cause, |alloc, bytes| cause_as(alloc, 2, bytes))
 }
 
-fn is_unrecognized_kept(alloc: Global) -> Result<bool, AllocError> {
+fn is_unrecognized_kept(alloc: Global) -> Result<bool, Fail> {
     let cause = UnrecognizedChunkErrorCause {
         chunk: Vec::from_slice(alloc, &[255, 1, 0, 5, 9])?,
     };
-    is_kept(alloc, &cause)
+    is_kept(alloc, &cause, |alloc, bytes| cause_as(alloc, 6, bytes))
 }
 
-fn is_violation_kept(alloc: Global) -> Result<bool, AllocError> {
+fn is_violation_kept(alloc: Global) -> Result<bool, Fail> {
     let cause = ProtocolViolationErrorCause {
         information: String::from_str(alloc, "no cookie")?,
     };
-    is_kept(alloc, &cause)
+    is_kept(alloc, &cause, |alloc, bytes| cause_as(alloc, 13, bytes))
 }
 
 #[test]

@@ -11,6 +11,9 @@ use dcsctp_tlv::number::{
 use dcsctp_tlv::parameter::raw_parameter::{
     PARAMETER_HEADER_SIZE, RawParameter, write_parameter_header,
 };
+use hex_rows::{are_answered, digits_of};
+use std::alloc::{AllocError, Global};
+use std::test::Fail;
 
 #[test]
 fn numbers(rt: HostRuntime) {
@@ -74,173 +77,114 @@ fn headers(rt: HostRuntime) {
     assert_eq!(rt; output.as_slice(), wanted.as_slice());
 }
 
-/// A chunk at the front of some bytes: its type, flags and value, and the bytes after its padding.
-struct Frame {
-    typ: u8,
-    flags: u8,
-    value: &'static [u8],
-    rest: &'static [u8],
+/// Why there is no frame at the front of the bytes.
+fn refused(alloc: Global, fault: ChunkParseError) -> Result<String, AllocError> {
+    format!(in alloc; "{fault:?}")
 }
 
-fn is_frame(bytes: &[u8], wanted: &Frame) -> bool {
+/// The parts of some bytes, in hexadecimal. One without bytes is a dash.
+fn parts<const N: usize>(alloc: Global, parts: [&[u8]; N]) -> Result<String, AllocError> {
+    let mut text = String::new(alloc);
+    for (i, part) in parts.iter().enumerate() {
+        text.push_str(if i > 0 { " | " } else { "" })?;
+        text.push_str(if part.is_empty() { "-" } else { "" })?;
+        text.push_str(&digits_of(alloc, part)?)?;
+    }
+    Ok(text)
+}
+
+/// The chunk at the front: its type, flags and value, and the bytes after its padding.
+fn frame(alloc: Global, bytes: &[u8]) -> Result<String, AllocError> {
     match RawChunk::from_bytes(bytes) {
         Ok((raw, rest)) => {
-            let is_head = raw.typ == wanted.typ && raw.flags == wanted.flags;
-            is_head && raw.value == wanted.value && rest == wanted.rest
+            let parts = parts(alloc, [raw.value, rest])?;
+            format!(in alloc; "{}, {}, {parts}", raw.typ, raw.flags)
         }
-        Err(_) => false,
+        Err(fault) => refused(alloc, fault),
     }
 }
 
-const FRAMES: &[(&[u8], Frame)] = &[
-    // a value with all its padding, and a byte after it
-    (
-        &[0x42, 1, 0, 6, 2, 3, 4, 5, 6],
-        Frame {
-            typ: 0x42,
-            flags: 1,
-            value: &[2, 3],
-            rest: &[6],
-        },
-    ),
-    // a value with half its padding
-    (
-        &[0x42, 1, 0, 6, 2, 3, 4],
-        Frame {
-            typ: 0x42,
-            flags: 1,
-            value: &[2, 3],
-            rest: &[],
-        },
-    ),
-    // two chunks of a captured packet: a COOKIE ACK, and after it DATA that opens a channel
-    (
-        &[
-            0x0b, 0, 0, 4, 0, 3, 0, 0x39, 0xcf, 0x5f, 0x90, 0xe3, 0, 0x6f, 0, 0, 0, 0, 0, 0x32, 3,
-            0x82, 0, 0, 0, 0, 0x9c, 0x40, 0, 0x0b, 0, 0x12, 0x63, 0x6f, 0x6c, 0x6c, 0x65, 0x63,
-            0x74, 0x69, 0x6f, 0x6e, 0x73, 0x77, 0x65, 0x62, 0x72, 0x74, 0x63, 0x2d, 0x64, 0x61,
-            0x74, 0x61, 0x63, 0x68, 0x61, 0x6e, 0x6e, 0x65, 0x6c, 0, 0, 0,
-        ],
-        Frame {
-            typ: 11,
-            flags: 0,
-            value: &[],
-            rest: &[
-                0, 3, 0, 0x39, 0xcf, 0x5f, 0x90, 0xe3, 0, 0x6f, 0, 0, 0, 0, 0, 0x32, 3, 0x82, 0, 0,
-                0, 0, 0x9c, 0x40, 0, 0x0b, 0, 0x12, 0x63, 0x6f, 0x6c, 0x6c, 0x65, 0x63, 0x74, 0x69,
-                0x6f, 0x6e, 0x73, 0x77, 0x65, 0x62, 0x72, 0x74, 0x63, 0x2d, 0x64, 0x61, 0x74, 0x61,
-                0x63, 0x68, 0x61, 0x6e, 0x6e, 0x65, 0x6c, 0, 0, 0,
-            ],
-        },
-    ),
-    // the second of them: its padding ends the packet
-    (
-        &[
-            0, 3, 0, 0x39, 0xcf, 0x5f, 0x90, 0xe3, 0, 0x6f, 0, 0, 0, 0, 0, 0x32, 3, 0x82, 0, 0, 0,
-            0, 0x9c, 0x40, 0, 0x0b, 0, 0x12, 0x63, 0x6f, 0x6c, 0x6c, 0x65, 0x63, 0x74, 0x69, 0x6f,
-            0x6e, 0x73, 0x77, 0x65, 0x62, 0x72, 0x74, 0x63, 0x2d, 0x64, 0x61, 0x74, 0x61, 0x63,
-            0x68, 0x61, 0x6e, 0x6e, 0x65, 0x6c, 0, 0, 0,
-        ],
-        Frame {
-            typ: 0,
-            flags: 3,
-            value: &[
-                0xcf, 0x5f, 0x90, 0xe3, 0, 0x6f, 0, 0, 0, 0, 0, 0x32, 3, 0x82, 0, 0, 0, 0, 0x9c,
-                0x40, 0, 0x0b, 0, 0x12, 0x63, 0x6f, 0x6c, 0x6c, 0x65, 0x63, 0x74, 0x69, 0x6f, 0x6e,
-                0x73, 0x77, 0x65, 0x62, 0x72, 0x74, 0x63, 0x2d, 0x64, 0x61, 0x74, 0x61, 0x63, 0x68,
-                0x61, 0x6e, 0x6e, 0x65, 0x6c,
-            ],
-            rest: &[],
-        },
-    ),
-];
+const FRAMES: &str = r"# a value with all its padding, and a byte after it
+42010006 02030405 06 = 66, 1, 0203 | 06
+# a value with half its padding
+42010006 020304 = 66, 1, 0203 | -
+# two chunks of a captured packet: a COOKIE ACK, and after it DATA that opens a channel
+0b000004 00030039 cf5f90e3 006f0000 00000032 03820000 00009c40 000b0012 636f6c6c 65637469 6f6e7377 65627274 632d6461 74616368 616e6e65 6c000000
+= 11, 0, - | 00030039 cf5f90e3 006f0000 00000032 03820000 00009c40 000b0012 636f6c6c 65637469 6f6e7377 65627274 632d6461 74616368 616e6e65 6c000000
+# the second of them: its padding ends the packet
+00030039 cf5f90e3 006f0000 00000032 03820000 00009c40 000b0012 636f6c6c 65637469 6f6e7377 65627274 632d6461 74616368 616e6e65 6c000000
+= 0, 3, cf5f90e3 006f0000 00000032 03820000 00009c40 000b0012 636f6c6c 65637469 6f6e7377 65627274 632d6461 74616368 616e6e65 6c | -";
 
-/// Why the bytes don't begin with a chunk, or nothing where they do.
-fn fault(bytes: &[u8]) -> Option<ChunkParseError> {
-    RawChunk::from_bytes(bytes).err()
-}
-
-const NO_FRAMES: &[&[u8]] = &[
-    // nothing
-    &[],
-    // fewer bytes than a header
-    &[0x42, 0, 0],
-    // a length below the header's
-    &[0x42, 0, 0, 3],
-    // a length beyond the bytes
-    &[0x42, 0, 0, 5],
-    // a length of which only one byte was read
-    &[0x42, 0, 1, 4],
-];
+const NO_FRAMES: &str = r"# nothing
+= InvalidLength
+# fewer bytes than a header
+420000 = InvalidLength
+# a length below the header's
+42000003 = InvalidLength
+# a length beyond the bytes
+42000005 = InvalidLength
+# a length of which only one byte was read
+42000104 = InvalidLength";
 
 #[test]
-fn frames(rt: HostRuntime) {
-    for (i, (bytes, wanted)) in FRAMES.iter().enumerate() {
-        assert!(rt; is_frame(bytes, wanted), "row {i}");
-    }
-    for (i, bytes) in NO_FRAMES.iter().enumerate() {
-        assert!(rt;
-            fault(bytes) == Some(ChunkParseError::InvalidLength),
-            "row {i}"
-        );
-    }
+fn frames(rt: HostRuntime) -> Result<(), Fail> {
+    are_answered(rt.alloc(), FRAMES, |alloc, bytes| Ok(frame(alloc, bytes)?))?;
+    are_answered(
+        rt.alloc(),
+        NO_FRAMES,
+        |alloc, bytes| Ok(frame(alloc, bytes)?),
+    )
 }
 
-/// The value, the padding that is there, and the bytes after it.
-type Parts = (&'static [u8], &'static [u8], &'static [u8]);
-
-/// The parts of the chunk at the front, if there is one.
-fn chunk_parts(bytes: &'static [u8]) -> Option<Parts> {
+/// The chunk at the front: its value, the padding that is there, and the bytes after it.
+fn chunk_parts(alloc: Global, bytes: &[u8]) -> Result<String, AllocError> {
     match RawChunk::from_bytes_padded(bytes) {
-        Ok((raw, padding, rest)) => Some((raw.value, padding, rest)),
-        Err(_) => None,
+        Ok((raw, padding, rest)) => parts(alloc, [raw.value, padding, rest]),
+        Err(fault) => refused(alloc, fault),
     }
 }
 
-/// The parts of the parameter at the front, if there is one.
-fn parameter_parts(bytes: &'static [u8]) -> Option<Parts> {
+/// The same of the parameter at the front.
+fn parameter_parts(alloc: Global, bytes: &[u8]) -> Result<String, AllocError> {
     match RawParameter::from_bytes_padded(bytes) {
-        Ok((raw, padding, rest)) => Some((raw.value, padding, rest)),
-        Err(_) => None,
+        Ok((raw, padding, rest)) => parts(alloc, [raw.value, padding, rest]),
+        Err(fault) => refused(alloc, fault),
     }
 }
 
-const PADDED: &[(&[u8], Option<Parts>)] = &[
-    // a value that needs no padding, at the end and ahead of other bytes
-    (&[0x42, 1, 0, 4], Some((&[], &[], &[]))),
-    (&[0x42, 1, 0, 4, 7], Some((&[], &[], &[7]))),
-    // three bytes of padding, and a byte after them
-    (
-        &[0x42, 1, 0, 5, 2, 7, 8, 9, 6],
-        Some((&[2], &[7, 8, 9], &[6])),
-    ),
-    // one byte of padding, and nothing after it
-    (&[0x42, 1, 0, 7, 2, 3, 4, 0], Some((&[2, 3, 4], &[0], &[]))),
-    // some of the padding, and none of it
-    (&[0x42, 1, 0, 5, 2, 7, 8], Some((&[2], &[7, 8], &[]))),
-    (&[0x42, 1, 0, 5, 2], Some((&[2], &[], &[]))),
-    // no frame: fewer bytes than a header, a length below it, and one beyond the bytes
-    (&[0x42, 0, 0], None),
-    (&[0x42, 0, 0, 3], None),
-    (&[0x42, 0, 0, 5], None),
-];
+const PADDED: &str = r"# a value that needs no padding, at the end and ahead of other bytes
+42010004 = - | - | -
+42010004 07 = - | - | 07
+# three bytes of padding, and a byte after them
+42010005 02070809 06 = 02 | 070809 | 06
+# one byte of padding, and nothing after it
+42010007 02030400 = 020304 | 00 | -
+# some of the padding, and none of it
+42010005 020708 = 02 | 0708 | -
+42010005 02 = 02 | - | -
+# no frame: fewer bytes than a header, a length below it, and one beyond the bytes
+420000 = InvalidLength
+42000003 = InvalidLength
+42000005 = InvalidLength";
 
 #[test]
-fn padded(rt: HostRuntime) {
-    for (i, (bytes, wanted)) in PADDED.iter().enumerate() {
-        assert!(rt; chunk_parts(bytes) == *wanted, "row {i}");
-        assert!(rt; parameter_parts(bytes) == *wanted, "row {i}");
+fn padded(rt: HostRuntime) -> Result<(), Fail> {
+    for rows in [PADDED, NO_FRAMES] {
+        are_answered(
+            rt.alloc(),
+            rows,
+            |alloc, bytes| Ok(chunk_parts(alloc, bytes)?),
+        )?;
+        are_answered(
+            rt.alloc(),
+            rows,
+            |alloc, bytes| Ok(parameter_parts(alloc, bytes)?),
+        )?;
     }
+    Ok(())
 }
 
-/// The bytes begin with no chunk and no parameter, since a length is at fault.
-fn is_fault_of_length(bytes: &[u8]) -> bool {
-    let length = Some(ChunkParseError::InvalidLength);
-    RawChunk::from_bytes_padded(bytes).err() == length
-        && RawParameter::from_bytes_padded(bytes).err() == length
-}
-
-// Type and flags are those of the header, and a fault is one of the length.
+// Type and flags are those of the header.
 #[test]
 fn padded_headers(rt: HostRuntime) -> Result<(), ChunkParseError> {
     let bytes = [0x42, 1, 0, 5, 2, 0, 0, 0];
@@ -248,8 +192,5 @@ fn padded_headers(rt: HostRuntime) -> Result<(), ChunkParseError> {
     assert_eq!(rt; (chunk.typ, chunk.flags), (0x42, 1));
     let (parameter, _, _) = RawParameter::from_bytes_padded(&bytes)?;
     assert_eq!(rt; parameter.typ, 0x4201);
-    for (i, bytes) in NO_FRAMES.iter().enumerate() {
-        assert!(rt; is_fault_of_length(bytes), "row {i}");
-    }
     Ok(())
 }

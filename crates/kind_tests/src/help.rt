@@ -1,20 +1,45 @@
 //! What the tests ask of bytes and values: the answers are texts, bytes and bools.
 
+use dcsctp_cause::cookie_received_while_shutting_down::CookieReceivedWhileShuttingDownErrorCause as LateCookie;
+use dcsctp_cause::missing_mandatory_parameter_error_cause::MissingMandatoryParameterErrorCause as Missing;
+use dcsctp_cause::no_user_data_error_cause::NoUserDataErrorCause as NoUserData;
+use dcsctp_cause::protocol_violation_error_cause::ProtocolViolationErrorCause as Violation;
+use dcsctp_cause::unrecognized_chunk_error_cause::UnrecognizedChunkErrorCause as Unrecognized;
+use dcsctp_cause::user_initiated_abort_error_cause::UserInitiatedAbortErrorCause as UserAbort;
+use dcsctp_chunk::cookie_ack_chunk::CookieAckChunk;
+use dcsctp_chunk::cookie_echo_chunk::CookieEchoChunk;
+use dcsctp_chunk::data_chunk::DataChunk;
+use dcsctp_chunk::forward_tsn_chunk::ForwardTsnChunk;
+use dcsctp_chunk::idata_chunk::IDataChunk;
+use dcsctp_chunk::iforward_tsn_chunk::IForwardTsnChunk;
 use dcsctp_chunk::raw_chunk::RawChunk;
+use dcsctp_chunk::sack_chunk::SackChunk;
+use dcsctp_chunk::shutdown_ack_chunk::ShutdownAckChunk;
+use dcsctp_chunk::shutdown_chunk::ShutdownChunk;
+use dcsctp_chunk::shutdown_complete_chunk::ShutdownCompleteChunk;
+use dcsctp_chunk::unknown_chunk::UnknownChunk;
 use dcsctp_tlv::error::ChunkParseError;
+use dcsctp_tlv::parameter::add_incoming_streams_request_parameter::AddIncomingStreamsRequestParameter as AddIncoming;
+use dcsctp_tlv::parameter::add_outgoing_streams_request_parameter::AddOutgoingStreamsRequestParameter as AddOutgoing;
+use dcsctp_tlv::parameter::forward_tsn_supported_parameter::ForwardTsnSupportedParameter as ForwardTsnSupported;
+use dcsctp_tlv::parameter::heartbeat_info_parameter::HeartbeatInfoParameter as HeartbeatInfo;
+use dcsctp_tlv::parameter::incoming_ssn_reset_request_parameter::IncomingSsnResetRequestParameter as IncomingReset;
+use dcsctp_tlv::parameter::outgoing_ssn_reset_request_parameter::OutgoingSsnResetRequestParameter as OutgoingReset;
 use dcsctp_tlv::parameter::raw_parameter::RawParameter;
+use dcsctp_tlv::parameter::reconfiguration_response_parameter::ReconfigurationResponseParameter as Response;
+use dcsctp_tlv::parameter::ssn_tsn_reset_request_parameter::SsnTsnResetRequestParameter as SsnTsnReset;
+use dcsctp_tlv::parameter::state_cookie_parameter::StateCookieParameter as StateCookie;
+use dcsctp_tlv::parameter::supported_extensions_parameter::SupportedExtensionsParameter as Extensions;
+use dcsctp_tlv::parameter::unknown_parameter::UnknownParameter;
+use dcsctp_tlv::parameter::zero_checksum_acceptable_parameter::ZeroChecksumAcceptableParameter as ZeroChecksum;
 use dcsctp_tlv::parameter::{
     parameters_encodable, parameters_serialize_to, parameters_serialized_size,
 };
 use dcsctp_tlv::tlv::SerializableTlv;
+use hex_rows::digits_of;
 use std::alloc::{AllocError, Global};
 use std::fmt::{Debug, Display};
-
-/// A kind of chunk, parameter or error cause.
-pub(crate) trait Kind: SerializableTlv + Debug + Display + Drop + Sized {
-    /// Reads the frame that the bytes are.
-    fn read(alloc: Global, bytes: &[u8]) -> Result<Self, ChunkParseError>;
-}
+use std::test::Fail;
 
 /// The chunk that the bytes are, with nothing after it and its padding, before its value is looked
 /// at.
@@ -33,29 +58,31 @@ pub(crate) fn raw_parameter(bytes: &[u8]) -> Result<RawParameter, ChunkParseErro
     Ok(raw)
 }
 
+/// Why bytes are refused. Memory is no such reason: without it there is no answer.
+fn refusal(alloc: Global, fault: ChunkParseError) -> Result<String, Fail> {
+    if fault == ChunkParseError::OutOfMemory {
+        return Err(Fail::new("out of memory"));
+    }
+    Ok(format!(in alloc; "{fault:?}")?)
+}
+
 /// All fields of a value, and what it prints.
-pub(crate) fn told_of<T: Kind>(alloc: Global, value: &T) -> Result<String, AllocError> {
+pub(crate) fn told_of<T: Debug + Display>(alloc: Global, value: &T) -> Result<String, AllocError> {
     format!(in alloc; "{value:?}; {value}")
 }
 
-/// All fields of what the bytes are as a value of the kind, and what it prints; or why they are
-/// refused.
-pub(crate) fn told<T: Kind>(alloc: Global, bytes: &[u8]) -> Result<String, AllocError> {
-    match T::read(alloc, bytes) {
-        Ok(value) => told_of(alloc, &value),
-        Err(ChunkParseError::OutOfMemory) => Err(AllocError),
-        Err(error) => format!(in alloc; "{error:?}"),
-    }
-}
-
-/// What is told of the bytes is this text.
-pub(crate) fn is_told<T: Kind>(
+/// The text, and after an arrow the bytes that were written where they aren't those that were read.
+fn with_change(
     alloc: Global,
+    text: String,
     bytes: &[u8],
-    wanted: &str,
-) -> Result<bool, AllocError> {
-    let text = told::<T>(alloc, bytes)?;
-    Ok(text.as_str() == wanted)
+    again: &[u8],
+) -> Result<String, AllocError> {
+    if again == bytes {
+        return Ok(text);
+    }
+    let digits = digits_of(alloc, again)?;
+    format!(in alloc; "{text} -> {digits}")
 }
 
 /// A value as it is written over zeros.
@@ -68,82 +95,90 @@ pub(crate) fn written<T: SerializableTlv>(alloc: Global, value: &T) -> Result<Ve
     Ok(output)
 }
 
-/// What is written of a value that was read.
-pub(crate) fn rewritten<T: Kind>(alloc: Global, bytes: &[u8]) -> Result<Vec<u8>, ChunkParseError> {
-    let value = T::read(alloc, bytes)?;
-    Ok(written(alloc, &value)?)
-}
-
-/// What is written of a value that was read is these bytes.
-pub(crate) fn is_rewritten<T: Kind>(
+/// A value's fields and text, and what is written of it where that isn't what was read.
+fn value_shown<T: SerializableTlv + Debug + Display>(
     alloc: Global,
     bytes: &[u8],
-    wanted: &[u8],
-) -> Result<bool, ChunkParseError> {
-    let again = rewritten::<T>(alloc, bytes)?;
-    Ok(again.as_slice() == wanted)
+    value: &T,
+) -> Result<String, AllocError> {
+    let again = written(alloc, value)?;
+    with_change(alloc, told_of(alloc, value)?, bytes, &again)
 }
 
-/// What is read of a value that was written.
-pub(crate) fn read_back<T: Kind>(alloc: Global, value: &T) -> Result<String, AllocError> {
-    let bytes = written(alloc, value)?;
-    told::<T>(alloc, &bytes)
-}
-
-/// Whether a value that was written is read as it was.
-pub(crate) fn is_kept<T: Kind>(alloc: Global, value: &T) -> Result<bool, AllocError> {
-    let again = read_back(alloc, value)?;
-    let before = told_of(alloc, value)?;
-    Ok(again.as_str() == before.as_str())
-}
-
-/// How many bytes a value has, or nothing where it can't be written.
-pub(crate) fn size_of<T: SerializableTlv>(value: &T) -> Option<usize> {
-    if value.encodable() {
-        Some(value.serialized_size())
-    } else {
-        None
+/// The same of what a reader answered, or why it refuses the bytes.
+fn shown<T: SerializableTlv + Debug + Display + Drop>(
+    alloc: Global,
+    bytes: &[u8],
+    answer: Result<T, ChunkParseError>,
+) -> Result<String, Fail> {
+    match answer {
+        Ok(value) => Ok(value_shown(alloc, bytes, &value)?),
+        Err(fault) => refusal(alloc, fault),
     }
 }
 
-/// What a list of parameters or of error causes holds.
-pub(crate) trait Listed: SerializableTlv + Debug + Drop + Sized {
-    /// Reads all the bytes as a list.
-    fn read_list(alloc: Global, bytes: &[u8]) -> Result<Vec<Self>, ChunkParseError>;
-
-    /// What it prints.
-    fn print(&self, alloc: Global) -> Result<String, AllocError>;
-}
-
-/// All fields of the items that the bytes are, or why they are refused.
-pub(crate) fn list_told<T: Listed>(alloc: Global, bytes: &[u8]) -> Result<String, AllocError> {
-    match T::read_list(alloc, bytes) {
-        Ok(list) => format!(in alloc; "{list:?}"),
-        Err(ChunkParseError::OutOfMemory) => Err(AllocError),
-        Err(error) => format!(in alloc; "{error:?}"),
+/// What the bytes are as a chunk of the kind that has this type.
+pub(crate) fn chunk_as(alloc: Global, typ: u8, bytes: &[u8]) -> Result<String, Fail> {
+    let raw = raw_chunk(bytes)?;
+    match typ {
+        0 => shown(alloc, bytes, DataChunk::try_from(alloc, raw)),
+        3 => shown(alloc, bytes, SackChunk::try_from(alloc, raw)),
+        7 => shown(alloc, bytes, ShutdownChunk::try_from(raw)),
+        8 => shown(alloc, bytes, ShutdownAckChunk::try_from(raw)),
+        10 => shown(alloc, bytes, CookieEchoChunk::try_from(alloc, raw)),
+        11 => shown(alloc, bytes, CookieAckChunk::try_from(raw)),
+        14 => shown(alloc, bytes, ShutdownCompleteChunk::try_from(raw)),
+        64 => shown(alloc, bytes, IDataChunk::try_from(alloc, raw)),
+        192 => shown(alloc, bytes, ForwardTsnChunk::try_from(alloc, raw)),
+        194 => shown(alloc, bytes, IForwardTsnChunk::try_from(alloc, raw)),
+        _ => shown(alloc, bytes, UnknownChunk::try_from(alloc, raw)),
     }
 }
 
-/// What is told of the bytes as a list is this text.
-pub(crate) fn is_list_told<T: Listed>(
-    alloc: Global,
-    bytes: &[u8],
-    wanted: &str,
-) -> Result<bool, AllocError> {
-    let text = list_told::<T>(alloc, bytes)?;
-    Ok(text.as_str() == wanted)
+/// What the bytes are as a chunk of their own type.
+pub(crate) fn chunk(alloc: Global, bytes: &[u8]) -> Result<String, Fail> {
+    chunk_as(alloc, raw_chunk(bytes)?.typ, bytes)
 }
 
-/// What the first item that was read prints.
-pub(crate) fn first_printed<T: Listed>(
-    alloc: Global,
-    bytes: &[u8],
-) -> Result<String, ChunkParseError> {
-    let list = T::read_list(alloc, bytes)?;
-    match list.first() {
-        Some(item) => Ok(item.print(alloc)?),
-        None => Ok(String::new(alloc)),
+/// What the bytes are as a parameter of the kind that has this type.
+pub(crate) fn parameter_as(alloc: Global, typ: u16, bytes: &[u8]) -> Result<String, Fail> {
+    let raw = raw_parameter(bytes)?;
+    match typ {
+        1 => shown(alloc, bytes, HeartbeatInfo::try_from(alloc, raw)),
+        7 => shown(alloc, bytes, StateCookie::try_from(alloc, raw)),
+        13 => shown(alloc, bytes, OutgoingReset::try_from(alloc, raw)),
+        14 => shown(alloc, bytes, IncomingReset::try_from(alloc, raw)),
+        15 => shown(alloc, bytes, SsnTsnReset::try_from(raw)),
+        16 => shown(alloc, bytes, Response::try_from(raw)),
+        17 => shown(alloc, bytes, AddOutgoing::try_from(raw)),
+        18 => shown(alloc, bytes, AddIncoming::try_from(raw)),
+        0x8001 => shown(alloc, bytes, ZeroChecksum::try_from(raw)),
+        0x8008 => shown(alloc, bytes, Extensions::try_from(alloc, raw)),
+        0xc000 => shown(alloc, bytes, ForwardTsnSupported::try_from(raw)),
+        _ => shown(alloc, bytes, UnknownParameter::try_from(alloc, raw)),
     }
+}
+
+/// What the bytes are as an error cause of the kind that has this code.
+pub(crate) fn cause_as(alloc: Global, code: u16, bytes: &[u8]) -> Result<String, Fail> {
+    let raw = raw_parameter(bytes)?;
+    match code {
+        2 => shown(alloc, bytes, Missing::try_from(alloc, raw)),
+        6 => shown(alloc, bytes, Unrecognized::try_from(alloc, raw)),
+        9 => shown(alloc, bytes, NoUserData::try_from(raw)),
+        10 => shown(alloc, bytes, LateCookie::try_from(raw)),
+        12 => shown(alloc, bytes, UserAbort::try_from(alloc, raw)),
+        13 => shown(alloc, bytes, Violation::try_from(alloc, raw)),
+        _ => shown(alloc, bytes, UnknownParameter::try_from(alloc, raw)),
+    }
+}
+
+/// What a list is in which the kind's value alone is, by what is told of that: the variant has the
+/// kind's name without its end.
+pub(crate) fn in_list(alloc: Global, told: &str, end: &str) -> Result<String, AllocError> {
+    let (fields, _) = told.split_once("; ").unwrap_or((told, ""));
+    let (variant, _) = fields.split_once(end).unwrap_or((fields, ""));
+    format!(in alloc; "[{variant}({fields})]")
 }
 
 /// A list as written over bytes `ee`.
@@ -159,11 +194,53 @@ pub(crate) fn list_written<T: SerializableTlv>(
     Ok(output)
 }
 
-/// What is written of a list that was read.
-pub(crate) fn list_rewritten<T: Listed>(
+/// All fields of a list's items, and what is written of them where that isn't what was read.
+fn items_shown<T: SerializableTlv + Debug>(
     alloc: Global,
     bytes: &[u8],
-) -> Result<Vec<u8>, ChunkParseError> {
-    let list = T::read_list(alloc, bytes)?;
-    Ok(list_written(alloc, &list)?)
+    list: &[T],
+) -> Result<String, AllocError> {
+    let again = list_written(alloc, list)?;
+    with_change(alloc, format!(in alloc; "{list:?}")?, bytes, &again)
+}
+
+/// The same of what a reader of lists answered, or why it refuses the bytes.
+pub(crate) fn list_shown<T: SerializableTlv + Debug + Drop>(
+    alloc: Global,
+    bytes: &[u8],
+    answer: Result<Vec<T>, ChunkParseError>,
+) -> Result<String, Fail> {
+    match answer {
+        Ok(list) => Ok(items_shown(alloc, bytes, &list)?),
+        Err(fault) => refusal(alloc, fault),
+    }
+}
+
+/// A value's fields and text, and the bytes that are written of it.
+pub(crate) fn made<T: SerializableTlv + Debug + Display>(
+    alloc: Global,
+    value: &T,
+) -> Result<String, AllocError> {
+    value_shown(alloc, &[], value)
+}
+
+/// How many bytes a value has, or nothing where it can't be written.
+pub(crate) fn size_of<T: SerializableTlv>(value: &T) -> Option<usize> {
+    if value.encodable() {
+        Some(value.serialized_size())
+    } else {
+        None
+    }
+}
+
+/// Whether a value that was written is read as it was.
+pub(crate) fn is_kept<
+    T: SerializableTlv + Debug + Display,
+    F: Fn(Global, &[u8]) -> Result<String, Fail>,
+>(alloc: Global, value: &T, read: F) -> Result<bool, Fail>
+    requires { F.IsAlwaysCallable read }
+{
+    let again = read(alloc, &written(alloc, value)?)?;
+    let before = told_of(alloc, value)?;
+    Ok(again.as_str() == before.as_str())
 }

@@ -4,16 +4,13 @@ ghost use Rattle.std.specs.Int.{w32, to_be_bytes};
 ghost use Rattle.dcsctp_tlv.specs.UnknownParameter as unknown;
 
 use crate::help::{
-    Kind, Listed, first_printed, is_kept, is_list_told, is_told, list_rewritten, list_told,
-    list_written, raw_parameter, size_of, told, told_of, written,
+    in_list, is_kept, list_shown, list_written, made, parameter_as, raw_parameter, size_of, told_of,
 };
 use dcsctp_tlv::error::ChunkParseError;
 use dcsctp_tlv::frame::put_parameter;
 use dcsctp_tlv::parameter::add_incoming_streams_request_parameter::AddIncomingStreamsRequestParameter;
 use dcsctp_tlv::parameter::add_outgoing_streams_request_parameter::AddOutgoingStreamsRequestParameter;
 use dcsctp_tlv::parameter::forward_tsn_supported_parameter::ForwardTsnSupportedParameter;
-use dcsctp_tlv::parameter::heartbeat_info_parameter::HeartbeatInfoParameter;
-use dcsctp_tlv::parameter::incoming_ssn_reset_request_parameter::IncomingSsnResetRequestParameter;
 use dcsctp_tlv::parameter::outgoing_ssn_reset_request_parameter::OutgoingSsnResetRequestParameter;
 use dcsctp_tlv::parameter::reconfiguration_response_parameter::{
     ReconfigurationResponseParameter, ReconfigurationResponseResult,
@@ -22,393 +19,195 @@ use dcsctp_tlv::parameter::ssn_tsn_reset_request_parameter::SsnTsnResetRequestPa
 use dcsctp_tlv::parameter::state_cookie_parameter::StateCookieParameter;
 use dcsctp_tlv::parameter::supported_extensions_parameter::SupportedExtensionsParameter;
 use dcsctp_tlv::parameter::unknown_parameter::UnknownParameter;
-use dcsctp_tlv::parameter::zero_checksum_acceptable_parameter::ZeroChecksumAcceptableParameter;
 use dcsctp_tlv::parameter::{Parameter, parameters_encodable, parameters_from_bytes};
 use dcsctp_tlv::tlv::SerializableTlv;
 use dcsctp_types::api::StreamId;
 use dcsctp_types::types::Tsn;
+use hex_rows::are_answered;
 use std::alloc::{AllocError, Global};
 use std::test::Fail;
 
-impl Kind for HeartbeatInfoParameter {
-    fn read(alloc: Global, bytes: &[u8]) -> Result<Self, ChunkParseError> {
-        HeartbeatInfoParameter::try_from(alloc, raw_parameter(bytes)?)
-    }
+const PARAMETERS: &str = r"00010007 010203
+= HeartbeatInfoParameter { info: [1, 2, 3] }; Heartbeat Info parameter, info_length=3
+00070006 1234
+= StateCookieParameter { cookie: [18, 52] }; State cookie, cookie_length=2
+# the parameter of a captured RE-CONFIG
+000d0012 8755d823 71976a9e 8755d832 0006
+= OutgoingSsnResetRequestParameter { request_seq_nbr: 2270550051, response_seq_nbr: 1905748638, sender_last_assigned_tsn: 2270550066, streams: [6] }; Incoming SSN Reset Request, req_seq_nbr=2270550051, resp_seq_nbr=1905748638, slatsn=2270550066
+000e000c 00000007 00030102
+= IncomingSsnResetRequestParameter { request_seq_nbr: 7, streams: [3, 258] }; Incoming SSN Reset Request, req_seq_nbr=7
+000f0008 00000007
+= SsnTsnResetRequestParameter { request_seq_nbr: 7 }; SSN/TSN Reset Request, req_seq_nbr=7
+0011000c 00000007 00100000
+= AddOutgoingStreamsRequestParameter { request_seq_nbr: 7, nbr_new_streams: 16 }; Add Outgoing Streams Request, req_seq_nbr=7, new_streams=16
+0012000c 01020304 01000000
+= AddIncomingStreamsRequestParameter { request_seq_nbr: 16909060, nbr_new_streams: 256 }; Add Incoming Streams Request, req_seq_nbr=16909060, new_streams=256
+0010000c 00000009 00000006
+= ReconfigurationResponseParameter { response_seq_nbr: 9, result: InProgress, sender_next_tsn: None, receiver_next_tsn: None }; Reconfig Response, seq=9
+00100014 00000009 00000001 00000002 00000003
+= ReconfigurationResponseParameter { response_seq_nbr: 9, result: SuccessPerformed, sender_next_tsn: Some(2), receiver_next_tsn: Some(3) }; Reconfig Response, seq=9
+# three parameters of a captured INIT
+80080009 c00fc180 82
+= SupportedExtensionsParameter { chunk_types: [192, 15, 193, 128, 130] }; Supported extensions, chunks=192,15,193,128,130
+c0000004
+= ForwardTsnSupportedParameter; Forward-TSN supported
+80000004
+= UnknownParameter { typ: 32768, value: [] }; Unknown parameter, type=32768
+80010008 00000001
+= ZeroChecksumAcceptableParameter { method: ZeroChecksumAlternateErrorDetectionMethod(1) }; Zero Checksum Acceptable, method=1
+00010006 0102
+= HeartbeatInfoParameter { info: [1, 2] }; Heartbeat Info parameter, info_length=2
+00070005 03
+= StateCookieParameter { cookie: [3] }; State cookie, cookie_length=1
+80080006 c082
+= SupportedExtensionsParameter { chunk_types: [192, 130] }; Supported extensions, chunks=192,130
+80010008 01020304
+= ZeroChecksumAcceptableParameter { method: ZeroChecksumAlternateErrorDetectionMethod(16909060) }; Zero Checksum Acceptable, method=16909060
+000f0008 01020304
+= SsnTsnResetRequestParameter { request_seq_nbr: 16909060 }; SSN/TSN Reset Request, req_seq_nbr=16909060
+# the reserved bytes are ignored
+0011000c 00000007 0102abcd
+= AddOutgoingStreamsRequestParameter { request_seq_nbr: 7, nbr_new_streams: 258 }; Add Outgoing Streams Request, req_seq_nbr=7, new_streams=258 -> 0011000c 00000007 01020000
+0012000c 00000007 0010ffff
+= AddIncomingStreamsRequestParameter { request_seq_nbr: 7, nbr_new_streams: 16 }; Add Incoming Streams Request, req_seq_nbr=7, new_streams=16 -> 0012000c 00000007 00100000
+000d0014 00000001 00000002 00000003 00040100
+= OutgoingSsnResetRequestParameter { request_seq_nbr: 1, response_seq_nbr: 2, sender_last_assigned_tsn: 3, streams: [4, 256] }; Incoming SSN Reset Request, req_seq_nbr=1, resp_seq_nbr=2, slatsn=3
+# without streams
+000d0010 00000001 00000002 00000003
+= OutgoingSsnResetRequestParameter { request_seq_nbr: 1, response_seq_nbr: 2, sender_last_assigned_tsn: 3, streams: [] }; Incoming SSN Reset Request, req_seq_nbr=1, resp_seq_nbr=2, slatsn=3
+000e000a 00000007 0003
+= IncomingSsnResetRequestParameter { request_seq_nbr: 7, streams: [3] }; Incoming SSN Reset Request, req_seq_nbr=7
+00100014 00000001 00000002 00000003 00000004
+= ReconfigurationResponseParameter { response_seq_nbr: 1, result: Denied, sender_next_tsn: Some(3), receiver_next_tsn: Some(4) }; Reconfig Response, seq=1
+# the types beside those of requests have no kind of their own
+000c0005 aa
+= UnknownParameter { typ: 12, value: [170] }; Unknown parameter, type=12
+00130005 aa
+= UnknownParameter { typ: 19, value: [170] }; Unknown parameter, type=19";
+
+/// All fields of a list that is read.
+fn list_fields(alloc: Global, bytes: &[u8]) -> Result<String, ChunkParseError> {
+    let list = parameters_from_bytes(alloc, bytes)?;
+    Ok(format!(in alloc; "{list:?}")?)
 }
 
-impl Kind for StateCookieParameter {
-    fn read(alloc: Global, bytes: &[u8]) -> Result<Self, ChunkParseError> {
-        StateCookieParameter::try_from(alloc, raw_parameter(bytes)?)
-    }
+/// All fields of one parameter, as in a list of it alone.
+fn variant_fields(alloc: Global, bytes: &[u8]) -> Result<String, ChunkParseError> {
+    let parameter = Parameter::try_from(alloc, raw_parameter(bytes)?)?;
+    Ok(format!(in alloc; "[{parameter:?}]")?)
 }
 
-impl Kind for OutgoingSsnResetRequestParameter {
-    fn read(alloc: Global, bytes: &[u8]) -> Result<Self, ChunkParseError> {
-        OutgoingSsnResetRequestParameter::try_from(alloc, raw_parameter(bytes)?)
+/// What the bytes are as a parameter of their own type. Where a list or the variant of that type
+/// would be read otherwise, its fields.
+fn parameter(alloc: Global, bytes: &[u8]) -> Result<String, Fail> {
+    let told = parameter_as(alloc, raw_parameter(bytes)?.typ, bytes)?;
+    let wanted = in_list(alloc, &told, "Parameter")?;
+    let list = list_fields(alloc, bytes)?;
+    let variant = variant_fields(alloc, bytes)?;
+    if list.as_str() != wanted.as_str() {
+        return Ok(list);
     }
+    if variant.as_str() != wanted.as_str() {
+        return Ok(variant);
+    }
+    Ok(told)
 }
-
-impl Kind for IncomingSsnResetRequestParameter {
-    fn read(alloc: Global, bytes: &[u8]) -> Result<Self, ChunkParseError> {
-        IncomingSsnResetRequestParameter::try_from(alloc, raw_parameter(bytes)?)
-    }
-}
-
-impl Kind for SsnTsnResetRequestParameter {
-    fn read(_alloc: Global, bytes: &[u8]) -> Result<Self, ChunkParseError> {
-        SsnTsnResetRequestParameter::try_from(raw_parameter(bytes)?)
-    }
-}
-
-impl Kind for AddOutgoingStreamsRequestParameter {
-    fn read(_alloc: Global, bytes: &[u8]) -> Result<Self, ChunkParseError> {
-        AddOutgoingStreamsRequestParameter::try_from(raw_parameter(bytes)?)
-    }
-}
-
-impl Kind for AddIncomingStreamsRequestParameter {
-    fn read(_alloc: Global, bytes: &[u8]) -> Result<Self, ChunkParseError> {
-        AddIncomingStreamsRequestParameter::try_from(raw_parameter(bytes)?)
-    }
-}
-
-impl Kind for ReconfigurationResponseParameter {
-    fn read(_alloc: Global, bytes: &[u8]) -> Result<Self, ChunkParseError> {
-        ReconfigurationResponseParameter::try_from(raw_parameter(bytes)?)
-    }
-}
-
-impl Kind for SupportedExtensionsParameter {
-    fn read(alloc: Global, bytes: &[u8]) -> Result<Self, ChunkParseError> {
-        SupportedExtensionsParameter::try_from(alloc, raw_parameter(bytes)?)
-    }
-}
-
-impl Kind for ForwardTsnSupportedParameter {
-    fn read(_alloc: Global, bytes: &[u8]) -> Result<Self, ChunkParseError> {
-        ForwardTsnSupportedParameter::try_from(raw_parameter(bytes)?)
-    }
-}
-
-impl Kind for ZeroChecksumAcceptableParameter {
-    fn read(_alloc: Global, bytes: &[u8]) -> Result<Self, ChunkParseError> {
-        ZeroChecksumAcceptableParameter::try_from(raw_parameter(bytes)?)
-    }
-}
-
-impl Kind for UnknownParameter {
-    fn read(alloc: Global, bytes: &[u8]) -> Result<Self, ChunkParseError> {
-        UnknownParameter::try_from(alloc, raw_parameter(bytes)?)
-    }
-}
-
-impl Listed for Parameter {
-    fn read_list(alloc: Global, bytes: &[u8]) -> Result<Vec<Self>, ChunkParseError> {
-        parameters_from_bytes(alloc, bytes)
-    }
-
-    fn print(&self, alloc: Global) -> Result<String, AllocError> {
-        match self {
-            Parameter::HeartbeatInfo(p) => p.to_string(alloc),
-            Parameter::StateCookie(p) => p.to_string(alloc),
-            Parameter::OutgoingSsnResetRequest(p) => p.to_string(alloc),
-            Parameter::IncomingSsnResetRequest(p) => p.to_string(alloc),
-            Parameter::ReconfigurationResponse(p) => p.to_string(alloc),
-            Parameter::SupportedExtensions(p) => p.to_string(alloc),
-            Parameter::ForwardTsnSupported(p) => p.to_string(alloc),
-            Parameter::ZeroChecksumAcceptable(p) => p.to_string(alloc),
-            Parameter::SsnTsnResetRequest(p) => p.to_string(alloc),
-            Parameter::AddOutgoingStreamsRequest(p) => p.to_string(alloc),
-            Parameter::AddIncomingStreamsRequest(p) => p.to_string(alloc),
-            Parameter::Unknown(p) => p.to_string(alloc),
-        }
-    }
-}
-
-/// The bytes of a list of one parameter, its fields and its text.
-const PARAMETERS: &[(&[u8], &str, &str)] = &[
-    (
-        &[0, 1, 0, 7, 1, 2, 3],
-        "[HeartbeatInfo(HeartbeatInfoParameter { info: [1, 2, 3] })]",
-        "Heartbeat Info parameter, info_length=3",
-    ),
-    (
-        &[0, 7, 0, 6, 0x12, 0x34],
-        "[StateCookie(StateCookieParameter { cookie: [18, 52] })]",
-        "State cookie, cookie_length=2",
-    ),
-    // the parameter of a captured RE-CONFIG
-    (
-        &[
-            0, 0x0d, 0, 0x12, 0x87, 0x55, 0xd8, 0x23, 0x71, 0x97, 0x6a, 0x9e, 0x87, 0x55, 0xd8,
-            0x32, 0, 6,
-        ],
-        "[OutgoingSsnResetRequest(OutgoingSsnResetRequestParameter { request_seq_nbr: 2270550051, response_seq_nbr: 1905748638, sender_last_assigned_tsn: 2270550066, streams: [6] })]",
-        "Incoming SSN Reset Request, req_seq_nbr=2270550051, resp_seq_nbr=1905748638, slatsn=2270550066",
-    ),
-    (
-        &[0, 0x0e, 0, 0x0c, 0, 0, 0, 7, 0, 3, 1, 2],
-        "[IncomingSsnResetRequest(IncomingSsnResetRequestParameter { request_seq_nbr: 7, streams: [3, 258] })]",
-        "Incoming SSN Reset Request, req_seq_nbr=7",
-    ),
-    (
-        &[0, 0x0f, 0, 8, 0, 0, 0, 7],
-        "[SsnTsnResetRequest(SsnTsnResetRequestParameter { request_seq_nbr: 7 })]",
-        "SSN/TSN Reset Request, req_seq_nbr=7",
-    ),
-    (
-        &[0, 0x11, 0, 0x0c, 0, 0, 0, 7, 0, 0x10, 0, 0],
-        "[AddOutgoingStreamsRequest(AddOutgoingStreamsRequestParameter { request_seq_nbr: 7, nbr_new_streams: 16 })]",
-        "Add Outgoing Streams Request, req_seq_nbr=7, new_streams=16",
-    ),
-    (
-        &[0, 0x12, 0, 0x0c, 1, 2, 3, 4, 1, 0, 0, 0],
-        "[AddIncomingStreamsRequest(AddIncomingStreamsRequestParameter { request_seq_nbr: 16909060, nbr_new_streams: 256 })]",
-        "Add Incoming Streams Request, req_seq_nbr=16909060, new_streams=256",
-    ),
-    (
-        &[0, 0x10, 0, 0x0c, 0, 0, 0, 9, 0, 0, 0, 6],
-        "[ReconfigurationResponse(ReconfigurationResponseParameter { response_seq_nbr: 9, result: InProgress, sender_next_tsn: None, receiver_next_tsn: None })]",
-        "Reconfig Response, seq=9",
-    ),
-    (
-        &[
-            0, 0x10, 0, 0x14, 0, 0, 0, 9, 0, 0, 0, 1, 0, 0, 0, 2, 0, 0, 0, 3,
-        ],
-        "[ReconfigurationResponse(ReconfigurationResponseParameter { response_seq_nbr: 9, result: SuccessPerformed, sender_next_tsn: Some(2), receiver_next_tsn: Some(3) })]",
-        "Reconfig Response, seq=9",
-    ),
-    // three parameters of a captured INIT
-    (
-        &[0x80, 8, 0, 9, 0xc0, 0x0f, 0xc1, 0x80, 0x82],
-        "[SupportedExtensions(SupportedExtensionsParameter { chunk_types: [192, 15, 193, 128, 130] })]",
-        "Supported extensions, chunks=192,15,193,128,130",
-    ),
-    (
-        &[0xc0, 0, 0, 4],
-        "[ForwardTsnSupported(ForwardTsnSupportedParameter)]",
-        "Forward-TSN supported",
-    ),
-    (
-        &[0x80, 0, 0, 4],
-        "[Unknown(UnknownParameter { typ: 32768, value: [] })]",
-        "Unknown parameter, type=32768",
-    ),
-    (
-        &[0x80, 1, 0, 8, 0, 0, 0, 1],
-        "[ZeroChecksumAcceptable(ZeroChecksumAcceptableParameter { method: ZeroChecksumAlternateErrorDetectionMethod(1) })]",
-        "Zero Checksum Acceptable, method=1",
-    ),
-];
 
 #[test]
 fn parameters(rt: HostRuntime) -> Result<(), Fail> {
-    for (i, (bytes, fields, text)) in PARAMETERS.iter().enumerate() {
-        assert_eq!(rt;
-            list_told::<Parameter>(rt.alloc(), bytes)?.as_str(),
-            *fields,
-            "row {i}"
-        );
-        assert_eq!(rt;
-            first_printed::<Parameter>(rt.alloc(), bytes)?.as_str(),
-            *text,
-            "row {i}"
-        );
-        let again = list_rewritten::<Parameter>(rt.alloc(), bytes)?;
-        assert_eq!(rt; again.as_slice(), *bytes, "row {i}");
-    }
-    Ok(())
+    are_answered(
+        rt.alloc(),
+        PARAMETERS,
+        |alloc, bytes| parameter(alloc, bytes),
+    )
 }
 
-/// Bytes, and the fields of the list that they are, or why they are refused.
-const LISTS: &[(&[u8], &str)] = &[
-    (&[], "[]"),
-    // the last item without padding, and with some
-    (
-        &[0xc0, 0, 0, 4, 0x80, 8, 0, 5, 1],
-        "[ForwardTsnSupported(ForwardTsnSupportedParameter), SupportedExtensions(SupportedExtensionsParameter { chunk_types: [1] })]",
-    ),
-    (
-        &[0xc0, 0, 0, 4, 0x80, 8, 0, 5, 1, 0],
-        "[ForwardTsnSupported(ForwardTsnSupportedParameter), SupportedExtensions(SupportedExtensionsParameter { chunk_types: [1] })]",
-    ),
-    // one byte is left over
-    (
-        &[0xc0, 0, 0, 4, 0x80, 8, 0, 5, 1, 0, 0, 0, 0],
-        "InvalidLength",
-    ),
-    // 13 bytes of an outgoing request, and fewer than its fixed part
-    (
-        &[0, 13, 0, 17, 0, 0, 0, 1, 0, 0, 0, 2, 0, 0, 0, 3, 0],
-        "InvalidLength",
-    ),
-    (
-        &[0, 13, 0, 14, 0, 0, 0, 1, 0, 0, 0, 2, 0, 0],
-        "InvalidLength",
-    ),
-    // half a stream id
-    (&[0, 14, 0, 9, 0, 0, 0, 1, 0], "InvalidLength"),
-    // a result without a meaning, and the same in a value of another length
-    (&[0, 16, 0, 12, 0, 0, 0, 1, 0, 0, 0, 7], "InvalidValue"),
-    (
-        &[0, 16, 0, 16, 0, 0, 0, 1, 0, 0, 0, 7, 0, 0, 0, 2],
-        "InvalidLength",
-    ),
-    // a reset request of one byte, of three and of five
-    (&[0, 15, 0, 5, 0xaa], "InvalidLength"),
-    (&[0, 15, 0, 7, 0, 0, 7], "InvalidLength"),
-    (&[0, 15, 0, 9, 0, 0, 0, 7, 0], "InvalidLength"),
-    // a request for streams without its reserved bytes, and one without their number
-    (&[0, 17, 0, 10, 0, 0, 0, 7, 0, 16], "InvalidLength"),
-    (&[0, 18, 0, 8, 0, 0, 0, 7], "InvalidLength"),
-    // one byte beyond the reserved ones
-    (&[0, 18, 0, 13, 0, 0, 0, 7, 0, 16, 0, 0, 0], "InvalidLength"),
-    // a value where none may be
-    (&[0xc0, 0, 0, 5, 1], "InvalidLength"),
-    // a method of three bytes
-    (&[0x80, 1, 0, 7, 0, 0, 1], "InvalidLength"),
-    // the first of two faults
-    (
-        &[0, 16, 0, 12, 0, 0, 0, 1, 0, 0, 0, 7, 0, 1, 0, 3],
-        "InvalidValue",
-    ),
-];
+/// Lists: their fields, and what is written of them over bytes `ee` where that isn't what was read.
+const LISTS: &str = r"# no item
+= []
+# the last item without padding, and with some
+c0000004 80080005 01
+= [ForwardTsnSupported(ForwardTsnSupportedParameter), SupportedExtensions(SupportedExtensionsParameter { chunk_types: [1] })]
+c0000004 80080005 0100
+= [ForwardTsnSupported(ForwardTsnSupportedParameter), SupportedExtensions(SupportedExtensionsParameter { chunk_types: [1] })] -> c0000004 80080005 01
+# one byte is left over
+c0000004 80080005 01000000 00 = InvalidLength
+# 13 bytes of an outgoing request, and fewer than its fixed part
+000d0011 00000001 00000002 00000003 00 = InvalidLength
+000d000e 00000001 00000002 0000 = InvalidLength
+# half a stream id
+000e0009 00000001 00 = InvalidLength
+# a result without a meaning, and the same in a value of another length
+0010000c 00000001 00000007 = InvalidValue
+00100010 00000001 00000007 00000002 = InvalidLength
+# a reset request of one byte, of three and of five
+000f0005 aa = InvalidLength
+000f0007 000007 = InvalidLength
+000f0009 00000007 00 = InvalidLength
+# a request for streams without its reserved bytes, and one without their number
+0011000a 00000007 0010 = InvalidLength
+00120008 00000007 = InvalidLength
+# one byte beyond the reserved ones
+0012000d 00000007 00100000 00 = InvalidLength
+# a value where none may be
+c0000005 01 = InvalidLength
+# a method of three bytes
+80010007 000001 = InvalidLength
+# the first of two faults
+0010000c 00000001 00000007 00010003 = InvalidValue
+# written over `ee`
+# one, which has no padding
+80080006 0102
+= [SupportedExtensions(SupportedExtensionsParameter { chunk_types: [1, 2] })]
+# the bytes between two stay
+80080006 01020000 c0000004
+= [SupportedExtensions(SupportedExtensionsParameter { chunk_types: [1, 2] }), ForwardTsnSupported(ForwardTsnSupportedParameter)] -> 80080006 0102eeee c0000004
+# reserved bytes that were ignored are written as zeros
+0011000c 00000007 0010abcd
+= [AddOutgoingStreamsRequest(AddOutgoingStreamsRequestParameter { request_seq_nbr: 7, nbr_new_streams: 16 })] -> 0011000c 00000007 00100000";
 
 #[test]
 fn lists(rt: HostRuntime) -> Result<(), Fail> {
-    for (i, (bytes, wanted)) in LISTS.iter().enumerate() {
-        assert!(rt;
-            is_list_told::<Parameter>(rt.alloc(), bytes, wanted)?,
-            "row {i}"
-        );
-    }
-    Ok(())
-}
-
-// Each kind is read by itself, too.
-#[test]
-fn kinds(rt: HostRuntime) -> Result<(), Fail> {
-    assert_eq!(rt;
-        told::<HeartbeatInfoParameter>(rt.alloc(), &[0, 1, 0, 6, 1, 2])?.as_str(),
-        "HeartbeatInfoParameter { info: [1, 2] }; Heartbeat Info parameter, info_length=2"
-    );
-    assert_eq!(rt;
-        told::<StateCookieParameter>(rt.alloc(), &[0, 7, 0, 5, 3])?.as_str(),
-        "StateCookieParameter { cookie: [3] }; State cookie, cookie_length=1"
-    );
-    assert_eq!(rt;
-        told::<SupportedExtensionsParameter>(rt.alloc(), &[0x80, 8, 0, 6, 0xc0, 0x82])?.as_str(),
-        "SupportedExtensionsParameter { chunk_types: [192, 130] }; Supported extensions, chunks=192,130"
-    );
-    assert_eq!(rt;
-        told::<ForwardTsnSupportedParameter>(rt.alloc(), &[0xc0, 0, 0, 4])?.as_str(),
-        "ForwardTsnSupportedParameter; Forward-TSN supported"
-    );
-    assert_eq!(rt;
-        told::<ZeroChecksumAcceptableParameter>(rt.alloc(), &[0x80, 1, 0, 8, 1, 2, 3, 4])?.as_str(),
-        "ZeroChecksumAcceptableParameter { method: ZeroChecksumAlternateErrorDetectionMethod(16909060) }; Zero Checksum Acceptable, method=16909060"
-    );
-    assert_eq!(rt;
-        told::<SsnTsnResetRequestParameter>(rt.alloc(), &[0, 15, 0, 8, 1, 2, 3, 4])?.as_str(),
-        "SsnTsnResetRequestParameter { request_seq_nbr: 16909060 }; SSN/TSN Reset Request, req_seq_nbr=16909060"
-    );
-    // the reserved bytes are ignored
-    assert_eq!(rt;
-        told::<AddOutgoingStreamsRequestParameter>(
-            rt.alloc(),
-            &[0, 17, 0, 12, 0, 0, 0, 7, 1, 2, 0xab, 0xcd]
-        )?.as_str(),
-        "AddOutgoingStreamsRequestParameter { request_seq_nbr: 7, nbr_new_streams: 258 }; Add Outgoing Streams Request, req_seq_nbr=7, new_streams=258"
-    );
-    assert_eq!(rt;
-        told::<AddIncomingStreamsRequestParameter>(
-            rt.alloc(),
-            &[0, 18, 0, 12, 0, 0, 0, 7, 0, 16, 0xff, 0xff]
-        )?.as_str(),
-        "AddIncomingStreamsRequestParameter { request_seq_nbr: 7, nbr_new_streams: 16 }; Add Incoming Streams Request, req_seq_nbr=7, new_streams=16"
-    );
-    // an unknown parameter may have any type, a named one too
-    assert_eq!(rt;
-        told::<UnknownParameter>(rt.alloc(), &[0xc0, 0, 0, 5, 6])?.as_str(),
-        "UnknownParameter { typ: 49152, value: [6] }; Unknown parameter, type=49152"
-    );
-    Ok(())
+    are_answered(rt.alloc(), LISTS, |alloc, bytes| {
+        list_shown(alloc, bytes, parameters_from_bytes(alloc, bytes))
+    })
 }
 
 #[test]
-fn requests(rt: HostRuntime) -> Result<(), Fail> {
-    let rows: [(&[u8], &str); 2] = [
-        (
-            &[0, 13, 0, 20, 0, 0, 0, 1, 0, 0, 0, 2, 0, 0, 0, 3, 0, 4, 1, 0],
-            "OutgoingSsnResetRequestParameter { request_seq_nbr: 1, response_seq_nbr: 2, sender_last_assigned_tsn: 3, streams: [4, 256] }; Incoming SSN Reset Request, req_seq_nbr=1, resp_seq_nbr=2, slatsn=3",
-        ),
-        // without streams
-        (
-            &[0, 13, 0, 16, 0, 0, 0, 1, 0, 0, 0, 2, 0, 0, 0, 3],
-            "OutgoingSsnResetRequestParameter { request_seq_nbr: 1, response_seq_nbr: 2, sender_last_assigned_tsn: 3, streams: [] }; Incoming SSN Reset Request, req_seq_nbr=1, resp_seq_nbr=2, slatsn=3",
-        ),
-    ];
-    for (bytes, wanted) in rows {
-        assert!(rt;
-            is_told::<OutgoingSsnResetRequestParameter>(rt.alloc(), bytes, wanted)?,
-            "{wanted}"
-        );
-    }
-    assert!(rt;
-        is_told::<IncomingSsnResetRequestParameter>(
-            rt.alloc(),
-            &[0, 14, 0, 10, 0, 0, 0, 7, 0, 3],
-            "IncomingSsnResetRequestParameter { request_seq_nbr: 7, streams: [3] }; Incoming SSN Reset Request, req_seq_nbr=7"
-        )?
-    );
-    Ok(())
+fn unknown(rt: HostRuntime) -> Result<(), Fail> {
+    let rows = r"# an unknown parameter may have any type, a named one too
+c0000005 06
+= UnknownParameter { typ: 49152, value: [6] }; Unknown parameter, type=49152";
+    are_answered(
+        rt.alloc(),
+        rows,
+        |alloc, bytes| parameter_as(alloc, 0, bytes),
+    )
 }
 
-// A kind refuses another type ahead of any other fault.
+// A kind refuses another type before any other fault.
 #[test]
 fn other_types(rt: HostRuntime) -> Result<(), Fail> {
-    let rows: [(u8, bool, bool, bool); 4] = [
-        (15, false, true, true),
-        (16, true, true, true),
-        (17, true, false, true),
-        (18, true, true, false),
+    let rows: [(u16, &str); 3] = [
+        (
+            15,
+            "00100005 aa = InvalidType\n00110005 aa = InvalidType\n00120005 aa = InvalidType\n000f0005 aa = InvalidLength",
+        ),
+        (
+            17,
+            "000f0005 aa = InvalidType\n00100005 aa = InvalidType\n00120005 aa = InvalidType\n00110005 aa = InvalidLength",
+        ),
+        (
+            18,
+            "000f0005 aa = InvalidType\n00100005 aa = InvalidType\n00110005 aa = InvalidType\n00120005 aa = InvalidLength",
+        ),
     ];
-    for (typ, ssn_tsn, outgoing, incoming) in rows {
-        let bytes = [0, typ, 0, 5, 0xaa];
-        let refused = "InvalidType";
-        let alloc = rt.alloc();
-        assert_eq!(rt;
-            is_told::<SsnTsnResetRequestParameter>(alloc, &bytes, refused)?,
-            ssn_tsn
-        );
-        assert_eq!(rt;
-            is_told::<AddOutgoingStreamsRequestParameter>(alloc, &bytes, refused)?,
-            outgoing
-        );
-        assert_eq!(rt;
-            is_told::<AddIncomingStreamsRequestParameter>(alloc, &bytes, refused)?,
-            incoming
-        );
-    }
-    Ok(())
-}
-
-/// All fields of one parameter.
-fn parameter_told(alloc: Global, bytes: &[u8]) -> Result<String, ChunkParseError> {
-    let parameter = Parameter::try_from(alloc, raw_parameter(bytes)?)?;
-    Ok(format!(in alloc; "{parameter:?}")?)
-}
-
-#[test]
-fn variants(rt: HostRuntime) -> Result<(), Fail> {
-    // the types beside those of requests have no kind of their own
-    let rows = [
-        (12, "Unknown(UnknownParameter { typ: 12, value: [170] })"),
-        (19, "Unknown(UnknownParameter { typ: 19, value: [170] })"),
-    ];
-    for (typ, wanted) in rows {
-        let told = parameter_told(rt.alloc(), &[0, typ, 0, 5, 0xaa])?;
-        assert_eq!(rt; told.as_str(), wanted);
+    for (typ, rows) in rows {
+        are_answered(
+            rt.alloc(),
+            rows,
+            |alloc, bytes| parameter_as(alloc, typ, bytes),
+        )?;
     }
     Ok(())
 }
@@ -444,11 +243,6 @@ fn responses(rt: HostRuntime) -> Result<(), Fail> {
         list_written(rt.alloc(), &[response])?.as_slice(),
         [0, 16, 0, 12, 0, 0, 0, 1, 0, 0, 0, 1].as_slice()
     );
-    let bytes = [0, 16, 0, 20, 0, 0, 0, 1, 0, 0, 0, 2, 0, 0, 0, 3, 0, 0, 0, 4];
-    assert_eq!(rt;
-        told::<ReconfigurationResponseParameter>(rt.alloc(), &bytes)?.as_str(),
-        "ReconfigurationResponseParameter { response_seq_nbr: 1, result: Denied, sender_next_tsn: Some(3), receiver_next_tsn: Some(4) }; Reconfig Response, seq=1"
-    );
     for (number, result) in (0..7).zip(RESULTS) {
         assert_eq!(rt; result as u32, number);
         assert_eq!(rt; result_of(number), Some(result));
@@ -457,15 +251,10 @@ fn responses(rt: HostRuntime) -> Result<(), Fail> {
     Ok(())
 }
 
-fn extensions(alloc: Global, types: &[u8]) -> Result<SupportedExtensionsParameter, AllocError> {
-    Ok(SupportedExtensionsParameter {
-        chunk_types: Vec::from_slice(alloc, types)?,
-    })
-}
-
+/// What supported extensions print.
 fn extensions_told(alloc: Global, types: &[u8]) -> Result<String, AllocError> {
-    let parameter = extensions(alloc, types)?;
-    parameter.to_string(alloc)
+    let chunk_types = Vec::from_slice(alloc, types)?;
+    SupportedExtensionsParameter { chunk_types }.to_string(alloc)
 }
 
 /// An outgoing request 1, 2, 3 for stream 4, so many times.
@@ -479,18 +268,21 @@ fn outgoing(alloc: Global, count: usize) -> Result<OutgoingSsnResetRequestParame
 }
 
 fn outgoing_told(alloc: Global) -> Result<String, AllocError> {
-    let request = outgoing(alloc, 2)?;
-    told_of(alloc, &request)
+    told_of(alloc, &outgoing(alloc, 2)?)
 }
 
-fn is_outgoing_kept(alloc: Global) -> Result<bool, AllocError> {
+fn is_outgoing_kept(alloc: Global) -> Result<bool, Fail> {
     let request = OutgoingSsnResetRequestParameter {
         request_seq_nbr: 4294967295,
         response_seq_nbr: 4294967294,
         sender_last_assigned_tsn: Tsn(4294967293),
         streams: Vec::from_slice(alloc, &[StreamId(65535), StreamId(0), StreamId(65535)])?,
     };
-    is_kept(alloc, &request)
+    is_kept(
+        alloc,
+        &request,
+        |alloc, bytes| parameter_as(alloc, 13, bytes),
+    )
 }
 
 /// A parameter without a kind, written with the type of Forward-TSN Supported.
@@ -500,99 +292,50 @@ fn unknown_written(alloc: Global) -> Result<Vec<u8>, AllocError> {
 }
 
 #[test]
-fn made(rt: HostRuntime) -> Result<(), Fail> {
+fn built(rt: HostRuntime) -> Result<(), Fail> {
     assert_eq!(rt;
         outgoing_told(rt.alloc())?.as_str(),
         "OutgoingSsnResetRequestParameter { request_seq_nbr: 1, response_seq_nbr: 2, sender_last_assigned_tsn: 3, streams: [4, 4] }; Incoming SSN Reset Request, req_seq_nbr=1, resp_seq_nbr=2, slatsn=3"
     );
     assert!(rt; is_outgoing_kept(rt.alloc())?);
-    assert_eq!(rt;
-        extensions_told(rt.alloc(), &[192, 15])?.as_str(),
-        "Supported extensions, chunks=192,15"
-    );
-    assert_eq!(rt;
-        extensions_told(rt.alloc(), &[])?.as_str(),
-        "Supported extensions, chunks="
-    );
-    // what is written with a named type is read as its kind
+    for (types, text) in [
+        ([192, 15].as_slice(), "Supported extensions, chunks=192,15"),
+        ([].as_slice(), "Supported extensions, chunks="),
+    ] {
+        assert_eq!(rt; extensions_told(rt.alloc(), types)?.as_str(), text);
+    }
+    // what is written with a named type is read as its kind: `lists` has these bytes
     assert_eq!(rt;
         unknown_written(rt.alloc())?.as_slice(),
         [0xc0, 0, 0, 5, 1].as_slice()
     );
-    assert_eq!(rt;
-        list_told::<Parameter>(rt.alloc(), &[0xc0, 0, 0, 5, 1])?.as_str(),
-        "InvalidLength"
-    );
     Ok(())
 }
 
-/// A request is written as these bytes, and these are read as this.
-fn is_made_as<T: Kind>(
-    alloc: Global,
-    request: T,
-    bytes: &[u8],
-    wanted: &str,
-) -> Result<bool, AllocError> {
-    let output = written(alloc, &request)?;
-    Ok(output.as_slice() == bytes && is_told::<T>(alloc, &output, wanted)?)
-}
-
-// The typed requests of RFC 6525 (sections 4.3, 4.5 and 4.6), built and read back.
+// The typed requests of RFC 6525 (sections 4.3, 4.5 and 4.6), built; `PARAMETERS` has these bytes.
 #[test]
-fn requests_made(rt: HostRuntime) -> Result<(), Fail> {
+fn requests_built(rt: HostRuntime) -> Result<(), Fail> {
     let reset = SsnTsnResetRequestParameter { request_seq_nbr: 7 };
-    let bytes = [0, 15, 0, 8, 0, 0, 0, 7];
-    let wanted =
-        "SsnTsnResetRequestParameter { request_seq_nbr: 7 }; SSN/TSN Reset Request, req_seq_nbr=7";
-    assert!(rt; is_made_as(rt.alloc(), reset, &bytes, wanted)?);
+    assert_eq!(rt;
+        made(rt.alloc(), &reset)?.as_str(),
+        "SsnTsnResetRequestParameter { request_seq_nbr: 7 }; SSN/TSN Reset Request, req_seq_nbr=7 -> 000f0008 00000007"
+    );
     let outgoing = AddOutgoingStreamsRequestParameter {
         request_seq_nbr: 7,
         nbr_new_streams: 16,
     };
-    let bytes = [0, 17, 0, 12, 0, 0, 0, 7, 0, 16, 0, 0];
-    let wanted =
-        "AddOutgoingStreamsRequestParameter { request_seq_nbr: 7, nbr_new_streams: 16 }; Add Outgoing Streams Request, req_seq_nbr=7, new_streams=16";
-    assert!(rt; is_made_as(rt.alloc(), outgoing, &bytes, wanted)?);
+    assert_eq!(rt;
+        made(rt.alloc(), &outgoing)?.as_str(),
+        "AddOutgoingStreamsRequestParameter { request_seq_nbr: 7, nbr_new_streams: 16 }; Add Outgoing Streams Request, req_seq_nbr=7, new_streams=16 -> 0011000c 00000007 00100000"
+    );
     let incoming = AddIncomingStreamsRequestParameter {
         request_seq_nbr: 16909060,
         nbr_new_streams: 256,
     };
-    let bytes = [0, 18, 0, 12, 1, 2, 3, 4, 1, 0, 0, 0];
-    let wanted =
-        "AddIncomingStreamsRequestParameter { request_seq_nbr: 16909060, nbr_new_streams: 256 }; Add Incoming Streams Request, req_seq_nbr=16909060, new_streams=256";
-    assert!(rt; is_made_as(rt.alloc(), incoming, &bytes, wanted)?);
-    Ok(())
-}
-
-/// A list, and the bytes that are written of it over `ee`.
-const WRITTEN: &[(&[u8], &[u8])] = &[
-    // no item
-    (&[], &[]),
-    // one, which has no padding
-    (&[0x80, 8, 0, 6, 1, 2], &[0x80, 8, 0, 6, 1, 2]),
-    // the bytes between two stay
-    (
-        &[0x80, 8, 0, 6, 1, 2, 0, 0, 0xc0, 0, 0, 4],
-        &[0x80, 8, 0, 6, 1, 2, 0xee, 0xee, 0xc0, 0, 0, 4],
-    ),
-    // reserved bytes that were ignored are written as zeros
-    (
-        &[0, 17, 0, 12, 0, 0, 0, 7, 0, 16, 0xab, 0xcd],
-        &[0, 17, 0, 12, 0, 0, 0, 7, 0, 16, 0, 0],
-    ),
-];
-
-/// The list is read, and written as these bytes.
-fn is_list_written(alloc: Global, bytes: &[u8], wanted: &[u8]) -> Result<bool, ChunkParseError> {
-    let again = list_rewritten::<Parameter>(alloc, bytes)?;
-    Ok(again.as_slice() == wanted)
-}
-
-#[test]
-fn lists_written(rt: HostRuntime) -> Result<(), Fail> {
-    for (i, (bytes, wanted)) in WRITTEN.iter().enumerate() {
-        assert!(rt; is_list_written(rt.alloc(), bytes, wanted)?, "row {i}");
-    }
+    assert_eq!(rt;
+        made(rt.alloc(), &incoming)?.as_str(),
+        "AddIncomingStreamsRequestParameter { request_seq_nbr: 16909060, nbr_new_streams: 256 }; Add Incoming Streams Request, req_seq_nbr=16909060, new_streams=256 -> 0012000c 01020304 01000000"
+    );
     Ok(())
 }
 
@@ -609,8 +352,7 @@ fn are_cookies_encodable(alloc: Global, first: usize, second: usize) -> Result<b
 
 /// The bytes of a request for so many streams, or nothing where it can't be written.
 fn outgoing_size(alloc: Global, count: usize) -> Result<Option<usize>, AllocError> {
-    let request = outgoing(alloc, count)?;
-    Ok(size_of(&request))
+    Ok(size_of(&outgoing(alloc, count)?))
 }
 
 #[test]

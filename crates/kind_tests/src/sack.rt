@@ -2,77 +2,30 @@
 
 ghost use Rattle.std.specs.Prelude.{◌<◌, ◌≤◌};
 
-use crate::help::{Kind, is_kept, is_rewritten, is_told, raw_chunk, size_of, told};
+use crate::help::{chunk, is_kept, size_of};
 use dcsctp_chunk::chunk_validators::{clean_blocks, clean_sack, validate_sack};
 use dcsctp_chunk::sack_chunk::{GapAckBlock, SackChunk};
-use dcsctp_tlv::error::ChunkParseError;
 use dcsctp_types::types::{SerialNumber, Tsn};
+use hex_rows::are_answered;
 use std::alloc::{AllocError, Global};
 use std::test::Fail;
 
-impl Kind for SackChunk {
-    fn read(alloc: Global, bytes: &[u8]) -> Result<Self, ChunkParseError> {
-        SackChunk::try_from(alloc, raw_chunk(bytes)?)
-    }
-}
-
-/// A captured SACK.
-const SACK: &[u8] = &[
-    0x03, 0x00, 0x00, 0x1c, 0x36, 0x9d, 0xd0, 0x0b, 0x00, 0x01, 0xed, 0x73, 0x00, 0x02, 0x00, 0x01,
-    0x00, 0x02, 0x00, 0x06, 0x00, 0x08, 0x00, 0x08, 0x36, 0x9d, 0xd0, 0x11,
-];
-
-fn is_valid_sack(alloc: Global, bytes: &[u8]) -> Result<bool, ChunkParseError> {
-    let sack = SackChunk::read(alloc, bytes)?;
-    Ok(validate_sack(&sack))
-}
+const ROWS: &str = r"# a captured SACK
+0300001c 369dd00b 0001ed73 00020001 00020006 00080008 369dd011
+= SackChunk { cumulative_tsn_ack: 916312075, a_rwnd: 126323, gap_ack_blocks: [GapAckBlock { start: 2, end: 6 }, GapAckBlock { start: 8, end: 8 }], duplicate_tsns: [916312081] }; SACK, cum_ack_tsn=916312075, a_rwnd=126323
+# one duplicate is counted, and none is there
+03000010 00000001 00000000 00010000 = InvalidLength
+# fewer bytes than the fixed part
+0300000f 00000001 00000000 000000 = InvalidLength
+# both counts at their most
+03000010 00000001 00000000 ffffffff = InvalidLength
+# the captured one, with four bytes more than the counts say
+03000020 369dd00b 0001ed73 00020001 00020006 00080008 369dd011 00000000
+= InvalidLength";
 
 #[test]
-fn captured(rt: HostRuntime) -> Result<(), Fail> {
-    let wanted =
-        "SackChunk { cumulative_tsn_ack: 916312075, a_rwnd: 126323, gap_ack_blocks: [GapAckBlock { start: 2, end: 6 }, GapAckBlock { start: 8, end: 8 }], duplicate_tsns: [916312081] }; SACK, cum_ack_tsn=916312075, a_rwnd=126323";
-    assert!(rt; is_told::<SackChunk>(rt.alloc(), SACK, wanted)?);
-    assert!(rt; is_rewritten::<SackChunk>(rt.alloc(), SACK, SACK)?);
-    assert!(rt; is_valid_sack(rt.alloc(), SACK)?);
-    Ok(())
-}
-
-#[test]
-fn refused(rt: HostRuntime) -> Result<(), Fail> {
-    let rows: [(&[u8], &str); 5] = [
-        // one duplicate is counted, and none is there
-        (
-            &[3, 0, 0, 0x10, 0, 0, 0, 1, 0, 0, 0, 0, 0, 1, 0, 0],
-            "InvalidLength",
-        ),
-        // fewer bytes than the fixed part
-        (
-            &[3, 0, 0, 0x0f, 0, 0, 0, 1, 0, 0, 0, 0, 0, 0, 0],
-            "InvalidLength",
-        ),
-        // both counts at their most
-        (
-            &[
-                3, 0, 0, 0x10, 0, 0, 0, 1, 0, 0, 0, 0, 0xff, 0xff, 0xff, 0xff,
-            ],
-            "InvalidLength",
-        ),
-        // the captured one, with four bytes more than the counts say
-        (
-            &[
-                0x03, 0x00, 0x00, 0x20, 0x36, 0x9d, 0xd0, 0x0b, 0x00, 0x01, 0xed, 0x73, 0x00, 0x02,
-                0x00, 0x01, 0x00, 0x02, 0x00, 0x06, 0x00, 0x08, 0x00, 0x08, 0x36, 0x9d, 0xd0, 0x11,
-                0x00, 0x00, 0x00, 0x00,
-            ],
-            "InvalidLength",
-        ),
-        // another kind
-        (&[0x0b, 0, 0, 4], "InvalidType"),
-    ];
-    for (bytes, wanted) in rows {
-        assert_eq!(rt; told::<SackChunk>(rt.alloc(), bytes)?.as_str(), wanted);
-    }
-    Ok(())
+fn rows(rt: HostRuntime) -> Result<(), Fail> {
+    are_answered(rt.alloc(), ROWS, |alloc, bytes| chunk(alloc, bytes))
 }
 
 fn size_with(alloc: Global, blocks: usize, tsns: usize) -> Result<Option<usize>, AllocError> {
@@ -160,6 +113,8 @@ const CLEANED: &[(&[(u16, u16)], bool, &[(u16, u16)], bool)] = &[
     (&[(1, 2)], false, &[(1, 2)], false),
     (&[(1, 6)], false, &[(1, 6)], false),
     (&[(0, 0), (0, 0)], false, &[(0, 0)], false),
+    // captured
+    (&[(2, 6), (8, 8)], true, &[(2, 6), (8, 8)], true),
     // reversed
     (&[(2, 3), (6, 4)], false, &[(2, 3)], true),
     (&[(6, 4)], false, &[], true),
@@ -224,14 +179,14 @@ fn is_valid_from(alloc: Global, cumulative_tsn_ack: Tsn) -> Result<bool, AllocEr
     Ok(validate_sack(&sack))
 }
 
-fn is_sack_kept(alloc: Global) -> Result<bool, AllocError> {
+fn is_sack_kept(alloc: Global) -> Result<bool, Fail> {
     let sack = SackChunk {
         cumulative_tsn_ack: Tsn(4294967295),
         a_rwnd: 4294967294,
         gap_ack_blocks: blocks_of(alloc, &[(65535, 1), (0, 0)])?,
         duplicate_tsns: Vec::from_slice(alloc, &[Tsn(3), Tsn(4294967293), Tsn(3)])?,
     };
-    is_kept(alloc, &sack)
+    is_kept(alloc, &sack, |alloc, bytes| chunk(alloc, bytes))
 }
 
 #[test]
@@ -345,39 +300,42 @@ fn cleaned_as_by_a_table(rt: HostRuntime) -> Result<(), Fail> {
     Ok(())
 }
 
-/// Blocks of one offset each: the even ones from 2 on, so many, by rising start.
-fn rising(alloc: Global, count: u16) -> Result<Vec<GapAckBlock>, AllocError> {
+/// Blocks of one offset each, so many: the offset by the block's place.
+fn singles<F: Fn(u16) -> u16>(
+    alloc: Global,
+    count: u16,
+    offset: F,
+) -> Result<Vec<GapAckBlock>, AllocError>
+    requires { F.IsAlwaysCallable offset }
+{
     let mut blocks = Vec::new(alloc);
     for i in 0..count {
-        let offset = i.wrapping_mul(2).wrapping_add(2);
+        let offset = offset(i);
         blocks.push(GapAckBlock::new(offset, offset))?;
     }
     Ok(blocks)
+}
+
+/// The even offsets from 2 on, by rising start.
+fn rising(alloc: Global, count: u16) -> Result<Vec<GapAckBlock>, AllocError> {
+    singles(alloc, count, |i| i.wrapping_mul(2).wrapping_add(2))
 }
 
 /// The same by falling start.
 fn falling(alloc: Global, count: u16) -> Result<Vec<GapAckBlock>, AllocError> {
-    let mut blocks = Vec::new(alloc);
-    for i in 0..count {
-        let offset = count.wrapping_sub(i).wrapping_mul(2);
-        blocks.push(GapAckBlock::new(offset, offset))?;
-    }
-    Ok(blocks)
+    singles(alloc, count, |i| count.wrapping_sub(i).wrapping_mul(2))
 }
 
-/// Blocks of one even offset each, by turns from the front and from the end.
+/// Even offsets, by turns from the front and from the end.
 fn alternating(alloc: Global, count: u16) -> Result<Vec<GapAckBlock>, AllocError> {
-    let mut blocks = Vec::new(alloc);
-    for i in 0..count {
+    singles(alloc, count, |i| {
         let place = (i / 2).wrapping_mul(2);
-        let offset = if i % 2 == 0 {
+        if i % 2 == 0 {
             place.wrapping_add(2)
         } else {
             65534u16.wrapping_sub(place)
-        };
-        blocks.push(GapAckBlock::new(offset, offset))?;
-    }
-    Ok(blocks)
+        }
+    })
 }
 
 fn falling_are_sorted(alloc: Global, count: u16) -> Result<bool, AllocError> {
