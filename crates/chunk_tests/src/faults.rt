@@ -20,119 +20,56 @@ use dcsctp_wire::packet::shutdown_ack_chunk::ShutdownAckChunk;
 use dcsctp_wire::packet::shutdown_chunk::ShutdownChunk;
 use dcsctp_wire::packet::shutdown_complete_chunk::ShutdownCompleteChunk;
 use dcsctp_wire::packet::unknown_chunk::UnknownChunk;
-use samples::help::{chunk_of, told};
-use std::alloc::{AllocError, Global};
+use hex_rows::are_answered;
+use samples::help::{shown, told};
 use std::test::Fail;
 
-/// The bytes, and what is answered for the chunk that they are.
-const ROWS: &[(&[u8], &str)] = &[
-    // INIT and INIT ACK with a byte less than their numbers have
-    (
-        &[1, 0, 0, 19, 0, 0, 0, 1, 0, 0, 0, 2, 0, 3, 0, 4, 0, 0, 0],
-        "Err(InvalidLength)",
-    ),
-    (
-        &[2, 0, 0, 19, 0, 0, 0, 1, 0, 0, 0, 2, 0, 3, 0, 4, 0, 0, 0],
-        "Err(InvalidLength)",
-    ),
-    // DATA and I-DATA with a byte less than their numbers have
-    (
-        &[0, 3, 0, 15, 0, 0, 0, 1, 0, 2, 0, 3, 0, 0, 0],
-        "Err(InvalidLength)",
-    ),
-    (
-        &[0x40, 3, 0, 19, 0, 0, 0, 1, 0, 2, 0, 0, 0, 0, 0, 3, 0, 0, 0],
-        "Err(InvalidLength)",
-    ),
-    // a SACK that counts one duplicate, and has none
-    (
-        &[3, 0, 0, 0x10, 0, 0, 0, 1, 0, 0, 0, 0, 0, 1, 0, 0],
-        "Err(InvalidLength)",
-    ),
-    // FORWARD-TSN and I-FORWARD-TSN with half a stream
-    (&[0xc0, 0, 0, 0x0a, 0, 0, 0, 1, 0, 1], "Err(InvalidLength)"),
-    (
-        &[0xc2, 0, 0, 0x0c, 0, 0, 0, 1, 0, 1, 0, 0],
-        "Err(InvalidLength)",
-    ),
-    // COOKIE ECHO without a cookie
-    (&[0x0a, 0, 0, 4], "Err(InvalidLength)"),
-    // one byte after a parameter without value
-    (&[4, 0, 0, 9, 0xc0, 0, 0, 4, 0], "Err(InvalidLength)"),
-    // two bytes, and three
-    (&[5, 0, 0, 10, 0xc0, 0, 0, 4, 0, 0], "Err(InvalidLength)"),
-    (
-        &[0x82, 0, 0, 11, 0xc0, 0, 0, 4, 0, 0, 0],
-        "Err(InvalidLength)",
-    ),
-    // one byte after a cause
-    (&[6, 0, 0, 9, 0, 10, 0, 4, 0], "Err(InvalidLength)"),
-    // one byte after the numbers of an INIT
-    (
-        &[
-            1, 0, 0, 21, 0, 0, 0, 1, 0, 0, 0, 2, 0, 3, 0, 4, 0, 0, 0, 5, 0,
-        ],
-        "Err(InvalidLength)",
-    ),
-    // a cause longer than its chunk, which has room for its header alone
-    (
-        &[6, 0, 0, 8, 0, 12, 0, 5, b'a', 0, 0, 0],
-        "Err(InvalidLength)",
-    ),
-    // a parameter whose length doesn't count its header
-    (&[4, 0, 0, 8, 0, 1, 0, 3], "Err(InvalidLength)"),
-    // ERROR without a cause, and with half a header of one
-    (&[9, 0, 0, 4], "Err(InvalidLength)"),
-    (&[9, 0, 0, 6, 0, 0], "Err(InvalidLength)"),
-    // SHUTDOWN ACK and SHUTDOWN COMPLETE with a value
-    (&[8, 0, 0, 5, 0], "Err(InvalidLength)"),
-    (&[14, 0, 0, 5, 0], "Err(InvalidLength)"),
-    // a result without a meaning
-    (
-        &[0x82, 0, 0, 16, 0, 16, 0, 12, 0, 0, 0, 1, 0, 0, 0, 7],
-        "Err(InvalidValue)",
-    ),
-    // the same in a value of another length
-    (
-        &[
-            0x82, 0, 0, 20, 0, 16, 0, 16, 0, 0, 0, 1, 0, 0, 0, 7, 0, 0, 0, 2,
-        ],
-        "Err(InvalidLength)",
-    ),
-    // ahead of a parameter that is longer than the chunk
-    (
-        &[
-            0x82, 0, 0, 20, 0, 16, 0, 12, 0, 0, 0, 1, 0, 0, 0, 7, 0, 1, 0, 5,
-        ],
-        "Err(InvalidValue)",
-    ),
-    // after one with a value that it may not have
-    (
-        &[
-            0x82, 0, 0, 24, 0xc0, 0, 0, 5, 1, 0, 0, 0, 0, 16, 0, 12, 0, 0, 0, 1, 0, 0, 0, 7,
-        ],
-        "Err(InvalidLength)",
-    ),
-    // after one that is sound
-    (
-        &[
-            0x82, 0, 0, 20, 0xc0, 0, 0, 4, 0, 16, 0, 12, 0, 0, 0, 1, 0, 0, 0, 7,
-        ],
-        "Err(InvalidValue)",
-    ),
-];
-
-/// This is answered for the chunk that the bytes are.
-fn is_told(alloc: Global, bytes: &[u8], wanted: &str) -> Result<bool, AllocError> {
-    Ok(told(alloc, chunk_of(alloc, bytes))?.as_str() == wanted)
-}
+const ROWS: &str = r"# INIT and INIT ACK with a byte less than their numbers have
+01000013 00000001 00000002 00030004 000000 = InvalidLength
+02000013 00000001 00000002 00030004 000000 = InvalidLength
+# DATA and I-DATA with a byte less than their numbers have
+0003000f 00000001 00020003 000000 = InvalidLength
+40030013 00000001 00020000 00000003 000000 = InvalidLength
+# a SACK that counts one duplicate, and has none
+03000010 00000001 00000000 00010000 = InvalidLength
+# FORWARD-TSN and I-FORWARD-TSN with half a stream
+c000000a 00000001 0001 = InvalidLength
+c200000c 00000001 00010000 = InvalidLength
+# COOKIE ECHO without a cookie
+0a000004 = InvalidLength
+# one byte after a parameter without value
+04000009 c0000004 00 = InvalidLength
+# two bytes, and three
+0500000a c0000004 0000 = InvalidLength
+8200000b c0000004 000000 = InvalidLength
+# one byte after a cause
+06000009 000a0004 00 = InvalidLength
+# one byte after the numbers of an INIT
+01000015 00000001 00000002 00030004 00000005 00 = InvalidLength
+# a cause longer than its chunk, which has room for its header alone
+06000008 000c0005 61000000 = InvalidLength
+# a parameter whose length doesn't count its header
+04000008 00010003 = InvalidLength
+# ERROR without a cause, and with half a header of one
+09000004 = InvalidLength
+09000006 0000 = InvalidLength
+# SHUTDOWN ACK and SHUTDOWN COMPLETE with a value
+08000005 00 = InvalidLength
+0e000005 00 = InvalidLength
+# a result without a meaning
+82000010 0010000c 00000001 00000007 = InvalidValue
+# the same in a value of another length
+82000014 00100010 00000001 00000007 00000002 = InvalidLength
+# ahead of a parameter that is longer than the chunk
+82000014 0010000c 00000001 00000007 00010005 = InvalidValue
+# after one with a value that it may not have
+82000018 c0000005 01000000 0010000c 00000001 00000007 = InvalidLength
+# after one that is sound
+82000014 c0000004 0010000c 00000001 00000007 = InvalidValue";
 
 #[test]
 fn of_a_value(rt: HostRuntime) -> Result<(), Fail> {
-    for (i, (bytes, wanted)) in ROWS.iter().enumerate() {
-        assert!(rt; is_told(rt.alloc(), bytes, wanted)?, "row {i}");
-    }
-    Ok(())
+    are_answered(rt.alloc(), ROWS, |alloc, bytes| shown(alloc, bytes))
 }
 
 /// An INIT that is too short.

@@ -25,15 +25,51 @@ use dcsctp_wire::packet::user_initiated_abort_error_cause::UserInitiatedAbortErr
 use dcsctp_wire::packet::zero_checksum_acceptable_parameter::ZeroChecksumAcceptableParameter;
 use dcsctp_wire::packet::{ChunkParseError, SerializableTlv};
 use dcsctp_wire::types::Tsn;
-use samples::help::{chunk_of, has_fields, is_rewritten, is_shown, raw_of, told};
+use hex_rows::{are_answered, digits_of, has_row};
+use samples::help::{chunk_of, fields_of, image_of, is_shown, kind_shown, raw_of};
 use std::alloc::{AllocError, Global};
+use std::fmt;
 use std::test::Fail;
 
-/// An INIT with a number in each field, and two parameters.
-const INIT: &[u8] = &[
-    1, 0, 0, 36, 1, 2, 3, 4, 5, 6, 7, 8, 9, 10, 11, 12, 13, 14, 15, 16, 0x80, 8, 0, 7, 130, 64,
-    192, 0, 0x80, 1, 0, 8, 0, 0, 0, 1,
-];
+/// Chunks with a number in each field and a list of two, each read as its kind.
+const KINDS: &str = r#"# An INIT with a number in each field, and two parameters.
+01000024 01020304 05060708 090a0b0c 0d0e0f10 80080007 8240c000 80010008 00000001
+= InitChunk { initiate_tag: 16909060, a_rwnd: 84281096, nbr_outbound_streams: 2314, nbr_inbound_streams: 2828, initial_tsn: 219025168, parameters: [SupportedExtensions(SupportedExtensionsParameter { chunk_types: [130, 64, 192] }), ZeroChecksumAcceptable(ZeroChecksumAcceptableParameter { method: ZeroChecksumAlternateErrorDetectionMethod(1) })] }; INIT, initiate_tag=16909060, initial_tsn=219025168
+# An INIT ACK with a cookie, and a parameter without value.
+02000020 00000001 00000002 00030004 00000005 00070007 07080900 c0000004
+= InitAckChunk { initiate_tag: 1, a_rwnd: 2, nbr_outbound_streams: 3, nbr_inbound_streams: 4, initial_tsn: 5, parameters: [StateCookie(StateCookieParameter { cookie: [7, 8, 9] }), ForwardTsnSupported(ForwardTsnSupportedParameter)] }; INIT-ACK, initiate_tag=1, initial_tsn=5
+0400000b 00010007 010203
+= HeartbeatRequestChunk { parameters: [HeartbeatInfo(HeartbeatInfoParameter { info: [1, 2, 3] })] }; HEARTBEAT-REQ
+# A HEARTBEAT ACK with a parameter of an unknown type, and one without value.
+05000010 00630005 09000000 c0000004
+= HeartbeatAckChunk { parameters: [Unknown(UnknownParameter { typ: 99, value: [9] }), ForwardTsnSupported(ForwardTsnSupportedParameter)] }; HEARTBEAT-ACK
+# An ABORT whose tag is the receiver's own, with a reason and another cause.
+06010014 000c0008 6f766572 00090008 00000009
+= AbortChunk { tag_reflected: true, error_causes: [UserInitiatedAbort(UserInitiatedAbortErrorCause { reason: "over" }), NoUserData(NoUserDataErrorCause { tsn: 9 })] }; ABORT, tag_reflected=true
+09000010 000a0004 00090008 00000008
+= ErrorChunk { error_causes: [CookieReceivedWhileShuttingDown(CookieReceivedWhileShuttingDownErrorCause), NoUserData(NoUserDataErrorCause { tsn: 8 })] }; ERROR
+# A RE-CONFIG with a response without next TSNs, and a request for one stream.
+8200001a 0010000c 00000001 00000006 000e000a 00000002 0003
+= ReConfigChunk { parameters: [ReconfigurationResponse(ReconfigurationResponseParameter { response_seq_nbr: 1, result: InProgress, sender_next_tsn: None, receiver_next_tsn: None }), IncomingSsnResetRequest(IncomingSsnResetRequestParameter { request_seq_nbr: 2, streams: [3] })] }; RE-CONFIG"#;
+
+/// What the bytes are as a chunk of the kind that has their type.
+fn kind(alloc: Global, bytes: &[u8]) -> Result<String, Fail> {
+    let raw = raw_of(bytes)?;
+    match raw.typ {
+        1 => kind_shown(alloc, bytes, InitChunk::try_from(alloc, raw)),
+        2 => kind_shown(alloc, bytes, InitAckChunk::try_from(alloc, raw)),
+        4 => kind_shown(alloc, bytes, HeartbeatRequestChunk::try_from(alloc, raw)),
+        5 => kind_shown(alloc, bytes, HeartbeatAckChunk::try_from(alloc, raw)),
+        6 => kind_shown(alloc, bytes, AbortChunk::try_from(alloc, raw)),
+        9 => kind_shown(alloc, bytes, ErrorChunk::try_from(alloc, raw)),
+        _ => kind_shown(alloc, bytes, ReConfigChunk::try_from(alloc, raw)),
+    }
+}
+
+#[test]
+fn read_as_kinds(rt: HostRuntime) -> Result<(), Fail> {
+    are_answered(rt.alloc(), KINDS, |alloc, bytes| kind(alloc, bytes))
+}
 
 fn init(alloc: Global) -> Result<InitChunk, AllocError> {
     let chunk_types = Vec::from_slice(alloc, &[130, 64, 192])?;
@@ -52,12 +88,6 @@ fn init(alloc: Global) -> Result<InitChunk, AllocError> {
     })
 }
 
-/// An INIT ACK with a cookie, and a parameter without value.
-const INIT_ACK: &[u8] = &[
-    2, 0, 0, 32, 0, 0, 0, 1, 0, 0, 0, 2, 0, 3, 0, 4, 0, 0, 0, 5, 0, 7, 0, 7, 7, 8, 9, 0, 0xc0, 0,
-    0, 4,
-];
-
 fn init_ack(alloc: Global) -> Result<InitAckChunk, AllocError> {
     let cookie = Vec::from_slice(alloc, &[7, 8, 9])?;
     Ok(InitAckChunk {
@@ -73,8 +103,6 @@ fn init_ack(alloc: Global) -> Result<InitAckChunk, AllocError> {
     })
 }
 
-const HEARTBEAT: &[u8] = &[4, 0, 0, 11, 0, 1, 0, 7, 1, 2, 3];
-
 fn heartbeat(alloc: Global) -> Result<HeartbeatRequestChunk, AllocError> {
     let info = Vec::from_slice(alloc, &[1, 2, 3])?;
     let mut request = HeartbeatRequestChunk::new(alloc);
@@ -83,9 +111,6 @@ fn heartbeat(alloc: Global) -> Result<HeartbeatRequestChunk, AllocError> {
         .push(Parameter::HeartbeatInfo(HeartbeatInfoParameter { info }))?;
     Ok(request)
 }
-
-/// A HEARTBEAT ACK with a parameter of an unknown type, and one without value.
-const HEARTBEAT_ACK: &[u8] = &[5, 0, 0, 16, 0, 99, 0, 5, 9, 0, 0, 0, 0xc0, 0, 0, 4];
 
 fn heartbeat_ack(alloc: Global) -> Result<HeartbeatAckChunk, AllocError> {
     let value = Vec::from_slice(alloc, &[9])?;
@@ -96,11 +121,6 @@ fn heartbeat_ack(alloc: Global) -> Result<HeartbeatAckChunk, AllocError> {
     ]?;
     Ok(ack)
 }
-
-/// An ABORT whose tag is the receiver's own, with a reason and another cause.
-const ABORT: &[u8] = &[
-    6, 1, 0, 20, 0, 12, 0, 8, b'o', b'v', b'e', b'r', 0, 9, 0, 8, 0, 0, 0, 9,
-];
 
 fn abort(alloc: Global) -> Result<AbortChunk, AllocError> {
     let reason = String::from_str(alloc, "over")?;
@@ -113,8 +133,6 @@ fn abort(alloc: Global) -> Result<AbortChunk, AllocError> {
     })
 }
 
-const ERROR: &[u8] = &[9, 0, 0, 16, 0, 10, 0, 4, 0, 9, 0, 8, 0, 0, 0, 8];
-
 fn error(alloc: Global) -> Result<ErrorChunk, AllocError> {
     let mut error = ErrorChunk::new(alloc);
     error.error_causes = vec![in alloc;
@@ -123,11 +141,6 @@ fn error(alloc: Global) -> Result<ErrorChunk, AllocError> {
     ]?;
     Ok(error)
 }
-
-/// A RE-CONFIG with a response without next TSNs, and a request for one stream.
-const RE_CONFIG: &[u8] = &[
-    0x82, 0, 0, 26, 0, 16, 0, 12, 0, 0, 0, 1, 0, 0, 0, 6, 0, 14, 0, 10, 0, 0, 0, 2, 0, 3,
-];
 
 fn re_config(alloc: Global) -> Result<ReConfigChunk, AllocError> {
     let streams = Vec::from_slice(alloc, &[StreamId(3)])?;
@@ -147,238 +160,85 @@ fn re_config(alloc: Global) -> Result<ReConfigChunk, AllocError> {
     Ok(re_config)
 }
 
-/// The chunk that was made prints this text, and is written as its bytes.
-fn is_init_shown(alloc: Global, text: &str) -> Result<bool, AllocError> {
-    is_shown(alloc, init(alloc)?, text, INIT)
-}
-
-fn is_init_ack_shown(alloc: Global, text: &str) -> Result<bool, AllocError> {
-    is_shown(alloc, init_ack(alloc)?, text, INIT_ACK)
-}
-
-fn is_heartbeat_shown(alloc: Global, text: &str) -> Result<bool, AllocError> {
-    is_shown(alloc, heartbeat(alloc)?, text, HEARTBEAT)
-}
-
-fn is_heartbeat_ack_shown(alloc: Global, text: &str) -> Result<bool, AllocError> {
-    is_shown(alloc, heartbeat_ack(alloc)?, text, HEARTBEAT_ACK)
-}
-
-fn is_abort_shown(alloc: Global, text: &str) -> Result<bool, AllocError> {
-    is_shown(alloc, abort(alloc)?, text, ABORT)
-}
-
-fn is_error_shown(alloc: Global, text: &str) -> Result<bool, AllocError> {
-    is_shown(alloc, error(alloc)?, text, ERROR)
-}
-
-fn is_re_config_shown(alloc: Global, text: &str) -> Result<bool, AllocError> {
-    is_shown(alloc, re_config(alloc)?, text, RE_CONFIG)
+/// The chunk is written as the bytes of a row of `KINDS`, and that row has its fields and text.
+fn is_row<T: SerializableTlv + fmt::Debug + fmt::Display + Drop>(
+    alloc: Global,
+    chunk: T,
+) -> Result<bool, AllocError> {
+    let answer = format!(in alloc; "{chunk:?}; {chunk}")?;
+    has_row(alloc, KINDS, &image_of(alloc, &chunk)?, &answer)
 }
 
 #[test]
 fn made(rt: HostRuntime) -> Result<(), Fail> {
     let alloc = rt.alloc();
-    assert!(rt; is_init_shown(alloc, "INIT, initiate_tag=16909060, initial_tsn=219025168")?);
-    assert!(rt; is_init_ack_shown(alloc, "INIT-ACK, initiate_tag=1, initial_tsn=5")?);
-    assert!(rt; is_heartbeat_shown(alloc, "HEARTBEAT-REQ")?);
-    assert!(rt; is_heartbeat_ack_shown(alloc, "HEARTBEAT-ACK")?);
-    assert!(rt; is_abort_shown(alloc, "ABORT, tag_reflected=true")?);
-    assert!(rt; is_error_shown(alloc, "ERROR")?);
-    assert!(rt; is_re_config_shown(alloc, "RE-CONFIG")?);
+    assert!(rt; is_row(alloc, init(alloc)?)?);
+    assert!(rt; is_row(alloc, init_ack(alloc)?)?);
+    assert!(rt; is_row(alloc, heartbeat(alloc)?)?);
+    assert!(rt; is_row(alloc, heartbeat_ack(alloc)?)?);
+    assert!(rt; is_row(alloc, abort(alloc)?)?);
+    assert!(rt; is_row(alloc, error(alloc)?)?);
+    assert!(rt; is_row(alloc, re_config(alloc)?)?);
     Ok(())
 }
 
-/// Read as its kind, the chunk is told as this.
-fn is_init_read(alloc: Global, wanted: &str) -> Result<bool, ChunkParseError> {
-    let answer = InitChunk::try_from(alloc, raw_of(INIT)?);
-    Ok(told(alloc, answer)?.as_str() == wanted)
-}
-
-fn is_init_ack_read(alloc: Global, wanted: &str) -> Result<bool, ChunkParseError> {
-    let answer = InitAckChunk::try_from(alloc, raw_of(INIT_ACK)?);
-    Ok(told(alloc, answer)?.as_str() == wanted)
-}
-
-fn is_heartbeat_read(alloc: Global, wanted: &str) -> Result<bool, ChunkParseError> {
-    let answer = HeartbeatRequestChunk::try_from(alloc, raw_of(HEARTBEAT)?);
-    Ok(told(alloc, answer)?.as_str() == wanted)
-}
-
-fn is_heartbeat_ack_read(alloc: Global, wanted: &str) -> Result<bool, ChunkParseError> {
-    let answer = HeartbeatAckChunk::try_from(alloc, raw_of(HEARTBEAT_ACK)?);
-    Ok(told(alloc, answer)?.as_str() == wanted)
-}
-
-fn is_abort_read(alloc: Global, wanted: &str) -> Result<bool, ChunkParseError> {
-    let answer = AbortChunk::try_from(alloc, raw_of(ABORT)?);
-    Ok(told(alloc, answer)?.as_str() == wanted)
-}
-
-fn is_error_read(alloc: Global, wanted: &str) -> Result<bool, ChunkParseError> {
-    let answer = ErrorChunk::try_from(alloc, raw_of(ERROR)?);
-    Ok(told(alloc, answer)?.as_str() == wanted)
-}
-
-fn is_re_config_read(alloc: Global, wanted: &str) -> Result<bool, ChunkParseError> {
-    let answer = ReConfigChunk::try_from(alloc, raw_of(RE_CONFIG)?);
-    Ok(told(alloc, answer)?.as_str() == wanted)
-}
-
-// The same, each read as its kind.
-#[test]
-fn read_as_kinds(rt: HostRuntime) -> Result<(), Fail> {
-    let alloc = rt.alloc();
-    let wanted =
-        "Ok(InitChunk { initiate_tag: 16909060, a_rwnd: 84281096, nbr_outbound_streams: 2314, nbr_inbound_streams: 2828, initial_tsn: 219025168, parameters: [SupportedExtensions(SupportedExtensionsParameter { chunk_types: [130, 64, 192] }), ZeroChecksumAcceptable(ZeroChecksumAcceptableParameter { method: ZeroChecksumAlternateErrorDetectionMethod(1) })] })";
-    assert!(rt; is_init_read(alloc, wanted)?);
-    let wanted =
-        "Ok(InitAckChunk { initiate_tag: 1, a_rwnd: 2, nbr_outbound_streams: 3, nbr_inbound_streams: 4, initial_tsn: 5, parameters: [StateCookie(StateCookieParameter { cookie: [7, 8, 9] }), ForwardTsnSupported(ForwardTsnSupportedParameter)] })";
-    assert!(rt; is_init_ack_read(alloc, wanted)?);
-    let wanted =
-        "Ok(HeartbeatRequestChunk { parameters: [HeartbeatInfo(HeartbeatInfoParameter { info: [1, 2, 3] })] })";
-    assert!(rt; is_heartbeat_read(alloc, wanted)?);
-    let wanted =
-        "Ok(HeartbeatAckChunk { parameters: [Unknown(UnknownParameter { typ: 99, value: [9] }), ForwardTsnSupported(ForwardTsnSupportedParameter)] })";
-    assert!(rt; is_heartbeat_ack_read(alloc, wanted)?);
-    let wanted =
-        "Ok(AbortChunk { tag_reflected: true, error_causes: [UserInitiatedAbort(UserInitiatedAbortErrorCause { reason: \"over\" }), NoUserData(NoUserDataErrorCause { tsn: 9 })] })";
-    assert!(rt; is_abort_read(alloc, wanted)?);
-    let wanted =
-        "Ok(ErrorChunk { error_causes: [CookieReceivedWhileShuttingDown(CookieReceivedWhileShuttingDownErrorCause), NoUserData(NoUserDataErrorCause { tsn: 8 })] })";
-    assert!(rt; is_error_read(alloc, wanted)?);
-    let wanted =
-        "Ok(ReConfigChunk { parameters: [ReconfigurationResponse(ReconfigurationResponseParameter { response_seq_nbr: 1, result: InProgress, sender_next_tsn: None, receiver_next_tsn: None }), IncomingSsnResetRequest(IncomingSsnResetRequestParameter { request_seq_nbr: 2, streams: [3] })] })";
-    assert!(rt; is_re_config_read(alloc, wanted)?);
-    Ok(())
-}
-
-/// The bytes of a chunk, and all that it holds.
-const FIELDS: &[(&[u8], &str)] = &[
-    // a request for two streams, a response without next TSNs, and one with both
-    (
-        &[
-            0x82, 0, 0, 48, 0, 14, 0, 12, 0, 0, 0, 7, 0, 3, 1, 2, 0, 16, 0, 12, 0, 0, 0, 9, 0, 0,
-            0, 6, 0, 16, 0, 20, 0, 0, 0, 1, 0, 0, 0, 2, 0, 0, 0, 3, 0, 0, 0, 4,
-        ],
-        "ReConfig(ReConfigChunk { parameters: [IncomingSsnResetRequest(IncomingSsnResetRequestParameter { request_seq_nbr: 7, streams: [3, 258] }), ReconfigurationResponse(ReconfigurationResponseParameter { response_seq_nbr: 9, result: InProgress, sender_next_tsn: None, receiver_next_tsn: None }), ReconfigurationResponse(ReconfigurationResponseParameter { response_seq_nbr: 1, result: Denied, sender_next_tsn: Some(3), receiver_next_tsn: Some(4) })] })",
-    ),
-    // an INIT whose sender needs no checksum over DTLS
-    (
-        &[
-            1, 0, 0, 28, 0, 0, 0, 1, 0, 0, 0, 2, 0, 3, 0, 4, 0, 0, 0, 5, 0x80, 1, 0, 8, 0, 0, 0, 1,
-        ],
-        "Init(InitChunk { initiate_tag: 1, a_rwnd: 2, nbr_outbound_streams: 3, nbr_inbound_streams: 4, initial_tsn: 5, parameters: [ZeroChecksumAcceptable(ZeroChecksumAcceptableParameter { method: ZeroChecksumAlternateErrorDetectionMethod(1) })] })",
-    ),
-    // two missing parameters, DATA without a payload, a cookie that came too late
-    (
-        &[
-            9, 0, 0, 28, 0, 2, 0, 12, 0, 0, 0, 2, 0, 7, 0, 13, 0, 9, 0, 8, 1, 2, 3, 4, 0, 10, 0, 4,
-        ],
-        "Error(ErrorChunk { error_causes: [MissingMandatoryParameter(MissingMandatoryParameterErrorCause { missing_parameters: [7, 13] }), NoUserData(NoUserDataErrorCause { tsn: 16909060 }), CookieReceivedWhileShuttingDown(CookieReceivedWhileShuttingDownErrorCause)] })",
-    ),
-    // empty lists
-    (
-        &[4, 0, 0, 4],
-        "HeartbeatRequest(HeartbeatRequestChunk { parameters: [] })",
-    ),
-    (
-        &[5, 0, 0, 4],
-        "HeartbeatAck(HeartbeatAckChunk { parameters: [] })",
-    ),
-    (
-        &[6, 0, 0, 4],
-        "Abort(AbortChunk { tag_reflected: false, error_causes: [] })",
-    ),
-    (
-        &[130, 0, 0, 4],
-        "ReConfig(ReConfigChunk { parameters: [] })",
-    ),
-];
+const FIELDS: &str = r"# a request for two streams, a response without next TSNs, and one with both
+82000030 000e000c 00000007 00030102 0010000c 00000009 00000006 00100014 00000001 00000002 00000003 00000004
+= ReConfig(ReConfigChunk { parameters: [IncomingSsnResetRequest(IncomingSsnResetRequestParameter { request_seq_nbr: 7, streams: [3, 258] }), ReconfigurationResponse(ReconfigurationResponseParameter { response_seq_nbr: 9, result: InProgress, sender_next_tsn: None, receiver_next_tsn: None }), ReconfigurationResponse(ReconfigurationResponseParameter { response_seq_nbr: 1, result: Denied, sender_next_tsn: Some(3), receiver_next_tsn: Some(4) })] })
+# an INIT whose sender needs no checksum over DTLS
+0100001c 00000001 00000002 00030004 00000005 80010008 00000001
+= Init(InitChunk { initiate_tag: 1, a_rwnd: 2, nbr_outbound_streams: 3, nbr_inbound_streams: 4, initial_tsn: 5, parameters: [ZeroChecksumAcceptable(ZeroChecksumAcceptableParameter { method: ZeroChecksumAlternateErrorDetectionMethod(1) })] })
+# two missing parameters, DATA without a payload, a cookie that came too late
+0900001c 0002000c 00000002 0007000d 00090008 01020304 000a0004
+= Error(ErrorChunk { error_causes: [MissingMandatoryParameter(MissingMandatoryParameterErrorCause { missing_parameters: [7, 13] }), NoUserData(NoUserDataErrorCause { tsn: 16909060 }), CookieReceivedWhileShuttingDown(CookieReceivedWhileShuttingDownErrorCause)] })
+# empty lists
+04000004
+= HeartbeatRequest(HeartbeatRequestChunk { parameters: [] })
+05000004
+= HeartbeatAck(HeartbeatAckChunk { parameters: [] })
+06000004
+= Abort(AbortChunk { tag_reflected: false, error_causes: [] })
+82000004
+= ReConfig(ReConfigChunk { parameters: [] })";
 
 #[test]
 fn fields(rt: HostRuntime) -> Result<(), Fail> {
-    for (i, (bytes, wanted)) in FIELDS.iter().enumerate() {
-        assert!(rt; has_fields(rt.alloc(), bytes, wanted)?, "row {i}");
-    }
-    Ok(())
+    are_answered(
+        rt.alloc(),
+        FIELDS,
+        |alloc, bytes| Ok(fields_of(alloc, bytes)?),
+    )
 }
 
-/// The bytes of a chunk, and the chunk as it is written again.
-const PADDED: &[(&[u8], &[u8])] = &[
-    (&[4, 0, 0, 9, 0, 1, 0, 5, 1], &[4, 0, 0, 9, 0, 1, 0, 5, 1]),
-    (
-        &[4, 0, 0, 9, 0, 1, 0, 5, 1, 7, 7, 7],
-        &[4, 0, 0, 9, 0, 1, 0, 5, 1],
-    ),
-    (
-        &[4, 0, 0, 10, 0, 1, 0, 5, 1, 7],
-        &[4, 0, 0, 9, 0, 1, 0, 5, 1],
-    ),
-    (
-        &[4, 0, 0, 12, 0, 1, 0, 5, 1, 7, 7, 7],
-        &[4, 0, 0, 9, 0, 1, 0, 5, 1],
-    ),
-    (
-        &[6, 0, 0, 10, 0, 12, 0, 6, b'n', b'o'],
-        &[6, 0, 0, 10, 0, 12, 0, 6, b'n', b'o'],
-    ),
-    (
-        &[6, 0, 0, 10, 0, 12, 0, 6, b'n', b'o', 0, 0],
-        &[6, 0, 0, 10, 0, 12, 0, 6, b'n', b'o'],
-    ),
-    (
-        &[6, 0, 0, 11, 0, 12, 0, 6, b'n', b'o', 0],
-        &[6, 0, 0, 10, 0, 12, 0, 6, b'n', b'o'],
-    ),
-    (
-        &[6, 0, 0, 12, 0, 12, 0, 6, b'n', b'o', 0, 0],
-        &[6, 0, 0, 10, 0, 12, 0, 6, b'n', b'o'],
-    ),
-    // the padding between two parameters is counted in any case
-    (
-        &[0x82, 0, 0, 17, 0, 99, 0, 5, 1, 0, 0, 0, 0, 98, 0, 5, 2],
-        &[0x82, 0, 0, 17, 0, 99, 0, 5, 1, 0, 0, 0, 0, 98, 0, 5, 2],
-    ),
-    (
-        &[
-            0x82, 0, 0, 17, 0, 99, 0, 5, 1, 7, 7, 7, 0, 98, 0, 5, 2, 7, 7, 7,
-        ],
-        &[0x82, 0, 0, 17, 0, 99, 0, 5, 1, 0, 0, 0, 0, 98, 0, 5, 2],
-    ),
-    (
-        &[
-            0x82, 0, 0, 20, 0, 99, 0, 5, 1, 0, 0, 0, 0, 98, 0, 5, 2, 7, 7, 7,
-        ],
-        &[0x82, 0, 0, 17, 0, 99, 0, 5, 1, 0, 0, 0, 0, 98, 0, 5, 2],
-    ),
-    (
-        &[
-            1, 0, 0, 25, 0, 0, 0, 1, 0, 0, 0, 2, 0, 3, 0, 4, 0, 0, 0, 5, 0x80, 8, 0, 5, 130,
-        ],
-        &[
-            1, 0, 0, 25, 0, 0, 0, 1, 0, 0, 0, 2, 0, 3, 0, 4, 0, 0, 0, 5, 0x80, 8, 0, 5, 130,
-        ],
-    ),
-    (
-        &[
-            1, 0, 0, 28, 0, 0, 0, 1, 0, 0, 0, 2, 0, 3, 0, 4, 0, 0, 0, 5, 0x80, 8, 0, 5, 130, 0, 0,
-            0,
-        ],
-        &[
-            1, 0, 0, 25, 0, 0, 0, 1, 0, 0, 0, 2, 0, 3, 0, 4, 0, 0, 0, 5, 0x80, 8, 0, 5, 130,
-        ],
-    ),
-];
+/// A chunk, and how it is written again.
+const PADDED: &str = r"04000009 00010005 01 = 04000009 00010005 01
+04000009 00010005 01070707 = 04000009 00010005 01
+0400000a 00010005 0107 = 04000009 00010005 01
+0400000c 00010005 01070707 = 04000009 00010005 01
+0600000a 000c0006 6e6f = 0600000a 000c0006 6e6f
+0600000a 000c0006 6e6f0000 = 0600000a 000c0006 6e6f
+0600000b 000c0006 6e6f00 = 0600000a 000c0006 6e6f
+0600000c 000c0006 6e6f0000 = 0600000a 000c0006 6e6f
+# the padding between two parameters is counted in any case
+82000011 00630005 01000000 00620005 02 = 82000011 00630005 01000000 00620005 02
+82000011 00630005 01070707 00620005 02070707 = 82000011 00630005 01000000 00620005 02
+82000014 00630005 01000000 00620005 02070707 = 82000011 00630005 01000000 00620005 02
+01000019 00000001 00000002 00030004 00000005 80080005 82
+= 01000019 00000001 00000002 00030004 00000005 80080005 82
+0100001c 00000001 00000002 00030004 00000005 80080005 82000000
+= 01000019 00000001 00000002 00030004 00000005 80080005 82";
+
+/// What is written of the chunk.
+fn rewritten(alloc: Global, bytes: &[u8]) -> Result<String, Fail> {
+    let chunk = chunk_of(alloc, bytes)?;
+    Ok(digits_of(alloc, &image_of(alloc, &chunk)?)?)
+}
 
 // A list's last item may be followed by padding that the chunk's length counts, by padding that it
 // doesn't count, or by none. It is written without.
 #[test]
 fn padding_of_the_last_item(rt: HostRuntime) -> Result<(), Fail> {
-    for (i, (bytes, wanted)) in PADDED.iter().enumerate() {
-        assert!(rt; is_rewritten(rt.alloc(), bytes, wanted)?, "row {i}");
-    }
-    Ok(())
+    are_answered(rt.alloc(), PADDED, |alloc, bytes| rewritten(alloc, bytes))
 }
 
 /// The chunk's size, and what stands in 18 bytes `ee` once it is written over them; or nothing

@@ -4,6 +4,7 @@ use dcsctp_wire::api::ZERO_CHECKSUM_ALTERNATE_ERROR_DETECTION_METHOD_NONE;
 use dcsctp_wire::packet::chunk::{Chunk, RawChunk};
 use dcsctp_wire::packet::sctp_packet::{ChecksumPolicy, PacketParseError, SctpPacket};
 use dcsctp_wire::packet::{ChunkParseError, SerializableTlv};
+use hex_rows::digits_of;
 use std::alloc::{AllocError, Global};
 use std::fmt;
 use std::test::Fail;
@@ -91,18 +92,66 @@ pub fn is_rewritten(alloc: Global, bytes: &[u8], wanted: &[u8]) -> Result<bool, 
     Ok(is_image(alloc, &chunk, wanted)?)
 }
 
+/// The chunk as it is written over zeros, or nothing where it can't be written.
+pub fn image_of<T: SerializableTlv>(alloc: Global, chunk: &T) -> Result<Vec<u8>, AllocError> {
+    if !chunk.encodable() {
+        return Ok(Vec::new(alloc));
+    }
+    let mut output = vec![in alloc; 0; chunk.serialized_size()]?;
+    chunk.serialize_to(&mut output);
+    Ok(output)
+}
+
 /// As written over zeros, the chunk is these bytes.
 fn is_image<T: SerializableTlv>(
     alloc: Global,
     chunk: &T,
     wanted: &[u8],
 ) -> Result<bool, AllocError> {
-    if !chunk.encodable() {
-        return Ok(false);
+    Ok(image_of(alloc, chunk)?.as_slice() == wanted)
+}
+
+/// The frame at the front of the bytes, without its padding.
+fn frame_of(bytes: &[u8]) -> &[u8] {
+    match RawChunk::from_bytes(bytes) {
+        Ok((raw, _)) => bytes
+            .get(..raw.value.len().wrapping_add(4))
+            .unwrap_or(bytes),
+        Err(_) => bytes,
     }
-    let mut output = vec![in alloc; 0; chunk.serialized_size()]?;
-    chunk.serialize_to(&mut output);
-    Ok(output.as_slice() == wanted)
+}
+
+/// All that a chunk holds and what it prints; and after an arrow the bytes that are written of it,
+/// where these aren't the frame at the front of the bytes.
+fn value_shown<T: SerializableTlv + fmt::Debug + fmt::Display>(
+    alloc: Global,
+    bytes: &[u8],
+    chunk: &T,
+) -> Result<String, AllocError> {
+    let again = image_of(alloc, chunk)?;
+    if again.as_slice() == frame_of(bytes) {
+        return format!(in alloc; "{chunk:?}; {chunk}");
+    }
+    let digits = digits_of(alloc, &again)?;
+    format!(in alloc; "{chunk:?}; {chunk} -> {digits}")
+}
+
+/// The same of what a reader answered for the bytes, or its fault.
+pub fn kind_shown<T: SerializableTlv + fmt::Debug + fmt::Display + Drop>(
+    alloc: Global,
+    bytes: &[u8],
+    answer: Result<T, ChunkParseError>,
+) -> Result<String, Fail> {
+    match answer {
+        Ok(chunk) => Ok(value_shown(alloc, bytes, &chunk)?),
+        Err(ChunkParseError::OutOfMemory) => Err(Fail::new("out of memory")),
+        Err(fault) => Ok(format!(in alloc; "{fault:?}")?),
+    }
+}
+
+/// The same of the chunk at the front of the bytes.
+pub fn shown(alloc: Global, bytes: &[u8]) -> Result<String, Fail> {
+    kind_shown(alloc, bytes, chunk_of(alloc, bytes))
 }
 
 /// The chunk prints this text, and is written as these bytes.
