@@ -82,23 +82,30 @@ fn refused(alloc: Global, fault: ChunkParseError) -> Result<String, AllocError> 
     format!(in alloc; "{fault:?}")
 }
 
-/// The parts of some bytes, in hexadecimal. One without bytes is a dash.
-fn parts<const N: usize>(alloc: Global, parts: [&[u8]; N]) -> Result<String, AllocError> {
-    let mut text = String::new(alloc);
-    for (i, part) in parts.iter().enumerate() {
-        text.push_str(if i > 0 { " | " } else { "" })?;
-        text.push_str(if part.is_empty() { "-" } else { "" })?;
-        text.push_str(&digits_of(alloc, part)?)?;
+/// A part of some bytes in hexadecimal; one without bytes is a dash.
+fn part(alloc: Global, bytes: &[u8]) -> Result<String, AllocError> {
+    if bytes.is_empty() {
+        return String::from_str(alloc, "-");
     }
-    Ok(text)
+    digits_of(alloc, bytes)
+}
+
+/// The parts, with a stroke after each but the last.
+fn parts(alloc: Global, value: &[u8], padding: &[u8], rest: &[u8]) -> Result<String, AllocError> {
+    let value = part(alloc, value)?;
+    let padding = part(alloc, padding)?;
+    let rest = part(alloc, rest)?;
+    format!(in alloc; "{value} | {padding} | {rest}")
 }
 
 /// The chunk at the front: its type, flags and value, and the bytes after its padding.
 fn frame(alloc: Global, bytes: &[u8]) -> Result<String, AllocError> {
     match RawChunk::from_bytes(bytes) {
         Ok((raw, rest)) => {
-            let parts = parts(alloc, [raw.value, rest])?;
-            format!(in alloc; "{}, {}, {parts}", raw.typ, raw.flags)
+            let (typ, flags) = (raw.typ, raw.flags);
+            let value = part(alloc, raw.value)?;
+            let rest = part(alloc, rest)?;
+            format!(in alloc; "{typ}, {flags}, {value} | {rest}")
         }
         Err(fault) => refused(alloc, fault),
     }
@@ -139,7 +146,7 @@ fn frames(rt: HostRuntime) -> Result<(), Fail> {
 /// The chunk at the front: its value, the padding that is there, and the bytes after it.
 fn chunk_parts(alloc: Global, bytes: &[u8]) -> Result<String, AllocError> {
     match RawChunk::from_bytes_padded(bytes) {
-        Ok((raw, padding, rest)) => parts(alloc, [raw.value, padding, rest]),
+        Ok((raw, padding, rest)) => parts(alloc, raw.value, padding, rest),
         Err(fault) => refused(alloc, fault),
     }
 }
@@ -147,7 +154,7 @@ fn chunk_parts(alloc: Global, bytes: &[u8]) -> Result<String, AllocError> {
 /// The same of the parameter at the front.
 fn parameter_parts(alloc: Global, bytes: &[u8]) -> Result<String, AllocError> {
     match RawParameter::from_bytes_padded(bytes) {
-        Ok((raw, padding, rest)) => parts(alloc, [raw.value, padding, rest]),
+        Ok((raw, padding, rest)) => parts(alloc, raw.value, padding, rest),
         Err(fault) => refused(alloc, fault),
     }
 }

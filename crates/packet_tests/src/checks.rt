@@ -1,9 +1,9 @@
 //! Packets that are checked and not read: how many parts they have, or their fault.
 
 use dcsctp_wire::api::ZERO_CHECKSUM_ALTERNATE_ERROR_DETECTION_METHOD_LOWER_LAYER_DTLS;
-use dcsctp_wire::packet::ChunkParseError;
 use dcsctp_wire::packet::chunk::Chunk;
 use dcsctp_wire::packet::sctp_packet::{ChecksumPolicy, PacketParseError, SctpPacket};
+use hex_rows::are_answered;
 use samples::captures::INIT;
 use samples::help::{HEADER, UNVERIFIED, packet_of};
 use samples::packets::INIT_WITHOUT_PADDING;
@@ -12,90 +12,38 @@ use std::test::Fail;
 
 type Answer = Result<usize, PacketParseError>;
 
-const LENGTH: Answer = Err(PacketParseError::FailedParseChunk(ChunkParseError::InvalidLength));
-
-const VALUE: Answer = Err(PacketParseError::FailedParseChunk(ChunkParseError::InvalidValue));
-
 /// The chunks, and the answer to the packet of them.
-const ROWS: &[(&[u8], Answer)] = &[
-    // one chunk without value
-    (&[0x0b, 0, 0, 4], Ok(1)),
-    // a byte after it
-    (&[0x0b, 0, 0, 4, 0], LENGTH),
-    // a length that doesn't count the header, and one beyond the packet
-    (&[0x0b, 0, 0, 3], LENGTH),
-    (&[0x0b, 0, 0, 5], LENGTH),
-    // chunks with a list of nothing
-    (&[6, 0, 0, 4], Ok(1)),
-    (&[4, 0, 0, 4, 0x82, 0, 0, 4], Ok(2)),
-    // three causes of a code without a kind
-    (
-        &[6, 0, 0, 0x10, 0, 0x63, 0, 4, 0, 0x63, 0, 4, 0, 0x63, 0, 4],
-        Ok(4),
-    ),
-    // a captured INIT with six parameters: with its padding, and without
-    (INIT, Ok(7)),
-    (INIT_WITHOUT_PADDING, Ok(7)),
-    // a list's last item lacks its padding, and the chunk after it is counted too
-    (
-        &[4, 0, 0, 9, 0, 1, 0, 5, 7, 0, 0, 0, 0x0a, 0, 0, 5, 7],
-        Ok(3),
-    ),
-    // padding between the items of a list: where it is left out, what follows has no frame
-    (&[4, 0, 0, 16, 0, 1, 0, 5, 7, 0, 0, 0, 0xc0, 0, 0, 4], Ok(3)),
-    (&[4, 0, 0, 13, 0, 1, 0, 5, 7, 0xc0, 0, 0, 4], LENGTH),
-    // a request for streams, and one without its number of streams
-    (
-        &[
-            0x82, 0, 0, 0x10, 0, 0x11, 0, 0x0c, 0, 0, 0, 7, 0, 0x10, 0xab, 0xcd,
-        ],
-        Ok(2),
-    ),
-    (&[0x82, 0, 0, 12, 0, 0x12, 0, 8, 0, 0, 0, 7], LENGTH),
-    // a response whose result has no meaning
-    (
-        &[0x82, 0, 0, 16, 0, 16, 0, 12, 0, 0, 0, 1, 0, 0, 0, 7],
-        VALUE,
-    ),
-    // the same ahead of a chunk that has no frame
-    (
-        &[
-            0x82, 0, 0, 16, 0, 16, 0, 12, 0, 0, 0, 1, 0, 0, 0, 7, 0x0b, 0, 0, 3,
-        ],
-        VALUE,
-    ),
-    // the same after a chunk that has a value and may have none
-    (
-        &[
-            0x0b, 0, 0, 5, 1, 0, 0, 0, 0x82, 0, 0, 16, 0, 16, 0, 12, 0, 0, 0, 1, 0, 0, 0, 7,
-        ],
-        LENGTH,
-    ),
-    // such a result in a value of a length that none has
-    (
-        &[
-            0x82, 0, 0, 20, 0, 16, 0, 16, 0, 0, 0, 1, 0, 0, 0, 7, 0, 0, 0, 2,
-        ],
-        LENGTH,
-    ),
-    // no chunk: fewer bytes than a packet has
-    (&[], Err(PacketParseError::InvalidPacketSize)),
-    (&[0x0b, 0, 0], Err(PacketParseError::InvalidPacketSize)),
-];
-
-/// The check of the header and these chunks.
-fn checked(alloc: Global, chunks: &[u8]) -> Result<Answer, AllocError> {
-    let bytes = packet_of(alloc, chunks)?;
-    Ok(SctpPacket::check(&bytes, 0, &UNVERIFIED))
-}
-
-#[test]
-fn counted_or_refused(rt: HostRuntime) -> Result<(), Fail> {
-    for (i, (chunks, wanted)) in ROWS.iter().enumerate() {
-        assert!(rt; checked(rt.alloc(), chunks)? == *wanted, "row {i}");
-    }
-    Ok(())
-}
+const ROWS: &str = r"# no chunk: fewer bytes than a packet has
+= Err(InvalidPacketSize)
+# one chunk without value
+0b000004 = Ok(1)
+# a byte after it
+0b000004 00 = Err(FailedParseChunk(InvalidLength))
+# a length that doesn't count the header, and one beyond the packet
+0b000003 = Err(FailedParseChunk(InvalidLength))
+0b000005 = Err(FailedParseChunk(InvalidLength))
+# chunks with a list of nothing
+06000004 = Ok(1)
+04000004 82000004 = Ok(2)
+# three causes of a code without a kind
+06000010 00630004 00630004 00630004 = Ok(4)
+# a list's last item lacks its padding, and the chunk after it is counted too
+04000009 00010005 07000000 0a000005 07 = Ok(3)
+# padding between the items of a list: where it is left out, what follows has no frame
+04000010 00010005 07000000 c0000004 = Ok(3)
+0400000d 00010005 07c00000 04 = Err(FailedParseChunk(InvalidLength))
+# a request for streams, and one without its number of streams
+82000010 0011000c 00000007 0010abcd = Ok(2)
+8200000c 00120008 00000007 = Err(FailedParseChunk(InvalidLength))
+# a response whose result has no meaning
+82000010 0010000c 00000001 00000007 = Err(FailedParseChunk(InvalidValue))
+# the same ahead of a chunk that has no frame
+82000010 0010000c 00000001 00000007 0b000003 = Err(FailedParseChunk(InvalidValue))
+# the same after a chunk that has a value and may have none
+0b000005 01000000 82000010 0010000c 00000001 00000007 = Err(FailedParseChunk(InvalidLength))
+# such a result in a value of a length that none has
+82000014 00100010 00000001 00000007 00000002 = Err(FailedParseChunk(InvalidLength))
+0b0000 = Err(InvalidPacketSize)";
 
 /// The number of items in a chunk's list, if it has one.
 fn listed(chunk: &Chunk) -> usize {
@@ -120,23 +68,31 @@ fn parts_of(chunks: &[Chunk]) -> usize {
     parts
 }
 
-/// The check tells the number of parts of the packet that is read, or the fault that is told in
-/// its place.
-fn agrees(alloc: Global, chunks: &[u8]) -> Result<bool, AllocError> {
-    let bytes = packet_of(alloc, chunks)?;
-    let answer = match SctpPacket::from_bytes(alloc, &bytes, 0, &UNVERIFIED) {
+/// The number of parts of the packet that is read, or the fault that is told in its place.
+fn read_parts(alloc: Global, bytes: &[u8]) -> Answer {
+    match SctpPacket::from_bytes(alloc, bytes, 0, &UNVERIFIED) {
         Ok(packet) => Ok(parts_of(&packet.chunks)),
         Err(error) => Err(error),
-    };
-    Ok(SctpPacket::check(&bytes, 0, &UNVERIFIED) == answer)
+    }
+}
+
+/// The check of the header and these chunks. A packet is read as it is checked.
+fn checked(alloc: Global, chunks: &[u8]) -> Result<String, Fail> {
+    let bytes = packet_of(alloc, chunks)?;
+    let answer = SctpPacket::check(&bytes, 0, &UNVERIFIED);
+    if answer != read_parts(alloc, &bytes) {
+        return Err(Fail::new("the reader answers otherwise"));
+    }
+    Ok(format!(in alloc; "{answer:?}")?)
 }
 
 #[test]
-fn as_read(rt: HostRuntime) -> Result<(), Fail> {
-    for (i, (chunks, _)) in ROWS.iter().enumerate() {
-        assert!(rt; agrees(rt.alloc(), chunks)?, "row {i}");
+fn counted_or_refused(rt: HostRuntime) -> Result<(), Fail> {
+    // a captured INIT with six parameters: with its padding, and without
+    for chunks in [INIT, INIT_WITHOUT_PADDING] {
+        assert_eq!(rt; checked(rt.alloc(), chunks)?.as_str(), "Ok(7)");
     }
-    Ok(())
+    are_answered(rt.alloc(), ROWS, |alloc, chunks| checked(alloc, chunks))
 }
 
 /// The check of a packet that begins so and has the same bytes so often after that.

@@ -1,195 +1,115 @@
 //! Padding under a policy that looks at it, and under one that doesn't.
 
-use dcsctp_wire::packet::ChunkParseError;
-use dcsctp_wire::packet::sctp_packet::{PacketParseError, SctpPacket};
+use dcsctp_wire::packet::sctp_packet::SctpPacket;
+use hex_rows::are_answered;
 use samples::captures::{INIT, RE_CONFIG};
 use samples::help::{STRICT, UNVERIFIED, is_answered, is_canonical, packet_of};
 use samples::packets::{ACCEPTED, ACCEPTED_WITH_LISTS, INIT_WITHOUT_PADDING};
 use std::alloc::{AllocError, Global};
 use std::test::Fail;
 
-type Answer = Result<usize, PacketParseError>;
-
-const LENGTH: Answer = Err(PacketParseError::FailedParseChunk(ChunkParseError::InvalidLength));
-
-const PADDING: Answer = Err(PacketParseError::FailedParseChunk(ChunkParseError::InvalidPadding));
-
-const VALUE: Answer = Err(PacketParseError::FailedParseChunk(ChunkParseError::InvalidValue));
-
 /// The chunks, the answer where padding isn't looked at, and the answer where it is.
-const ROWS: &[(&[u8], Answer, Answer)] = &[
-    // the last chunk lacks its padding, and some of it
-    (&[0x0a, 0, 0, 5, 0x7f], Ok(1), PADDING),
-    (&[0x0a, 0, 0, 5, 0x7f, 0, 0], Ok(1), PADDING),
-    // its padding isn't zero; nor is the first byte of it alone, the second, and the last
-    (&[0x0a, 0, 0, 5, 0x7f, 9, 9, 9], Ok(1), PADDING),
-    (&[0x0a, 0, 0, 5, 0x7f, 1, 0, 0], Ok(1), PADDING),
-    (&[0x0a, 0, 0, 5, 0x7f, 0, 1, 0], Ok(1), PADDING),
-    (&[0x0a, 0, 0, 5, 0x7f, 0, 0, 1], Ok(1), PADDING),
-    // zeros, and all of them
-    (&[0x0a, 0, 0, 5, 0x7f, 0, 0, 0], Ok(1), Ok(1)),
-    // padding between two chunks that isn't zero, and that is
-    (
-        &[0x0a, 0, 0, 6, 0x7f, 0x7f, 0, 2, 0x0b, 0, 0, 4],
-        Ok(2),
-        PADDING,
-    ),
-    (
-        &[0x0a, 0, 0, 6, 0x7f, 0x7f, 0, 0, 0x0b, 0, 0, 4],
-        Ok(2),
-        Ok(2),
-    ),
+const ROWS: &str = r"# no chunk: fewer bytes than a packet has
+= Err(InvalidPacketSize); Err(InvalidPacketSize)
+# the last chunk lacks its padding, and some of it
+0a000005 7f = Ok(1); Err(FailedParseChunk(InvalidPadding))
+0a000005 7f0000 = Ok(1); Err(FailedParseChunk(InvalidPadding))
+# its padding isn't zero; nor is the first byte of it alone, the second, and the last
+0a000005 7f090909 = Ok(1); Err(FailedParseChunk(InvalidPadding))
+0a000005 7f010000 = Ok(1); Err(FailedParseChunk(InvalidPadding))
+0a000005 7f000100 = Ok(1); Err(FailedParseChunk(InvalidPadding))
+0a000005 7f000001 = Ok(1); Err(FailedParseChunk(InvalidPadding))
+# zeros, and all of them
+0a000005 7f000000 = Ok(1); Ok(1)
+# padding between two chunks that isn't zero, and that is
+0a000006 7f7f0002 0b000004 = Ok(2); Err(FailedParseChunk(InvalidPadding))
+0a000006 7f7f0000 0b000004 = Ok(2); Ok(2)
+# a captured RE-CONFIG, whose length counts its parameter's padding
+82000018 000d0012 8755d823 71976a9e 8755d832 00060000 = Ok(2); Ok(2)
+# both with a last byte that isn't zero: it pads the chunk, and the parameter
+82000016 000d0012 8755d823 71976a9e 8755d832 00060001
+= Ok(2); Err(FailedParseChunk(InvalidPadding))
+82000018 000d0012 8755d823 71976a9e 8755d832 00060001
+= Ok(2); Err(FailedParseChunk(InvalidPadding))
+# the chunk lacks its padding, as its last cause does, which may
+06000009 000c0005 ff = Ok(2); Err(FailedParseChunk(InvalidPadding))
+06000009 000c0005 ff000000 = Ok(2); Ok(2)
+# a value that is at fault, and padding too: the value is told
+0b000005 00090909 = Err(FailedParseChunk(InvalidLength)); Err(FailedParseChunk(InvalidLength))
+# padding that isn't zero ahead of a chunk without a frame: the padding is told
+0a000005 7f090909 0b000003
+= Err(FailedParseChunk(InvalidLength)); Err(FailedParseChunk(InvalidPadding))
+# a chunk whose value is at fault ahead of padding that isn't zero
+0b000005 00000000 0a000005 7f090909
+= Err(FailedParseChunk(InvalidLength)); Err(FailedParseChunk(InvalidLength))
+# the last cause has all its padding, of which the first byte isn't zero
+0600000c 00630005 00010000 = Ok(2); Err(FailedParseChunk(InvalidPadding))
+# the last cause has some of its padding, which is zero; the chunk has all of its own
+0600000a 00630005 00000000 = Ok(2); Ok(2)
+# the padding of a parameter that isn't the last: zero, and not
+04000010 00010005 07000000 c0000004 = Ok(3); Ok(3)
+04000010 00010005 07000009 c0000004 = Ok(3); Err(FailedParseChunk(InvalidPadding))
+# the same ahead of a parameter whose value is at fault
+04000011 00010005 07000009 c0000005 01000000
+= Err(FailedParseChunk(InvalidLength)); Err(FailedParseChunk(InvalidPadding))
+# a result without a meaning in a chunk whose padding isn't zero: the list is told
+82000011 0010000c 00000001 00000007 00090909
+= Err(FailedParseChunk(InvalidValue)); Err(FailedParseChunk(InvalidValue))
+# a cause that may have no value has one, and padding that isn't zero
+0900000c 000a0005 01090909
+= Err(FailedParseChunk(InvalidLength)); Err(FailedParseChunk(InvalidLength))
+# a parameter of an INIT that isn't padded with zeros, and of an INIT ACK
+0100001c 00000001 00000002 00030004 00000005 80080005 01000900
+= Ok(2); Err(FailedParseChunk(InvalidPadding))
+0200001c 00000001 00000002 00030004 00000005 80080005 01000900
+= Ok(2); Err(FailedParseChunk(InvalidPadding))
+# a parameter of a HEARTBEAT ACK, and a cause of an ERROR
+0500000c 00010005 07000001 = Ok(2); Err(FailedParseChunk(InvalidPadding))
+0900000c 00630005 07000001 = Ok(2); Err(FailedParseChunk(InvalidPadding))
+# reserved bytes that aren't zero are no padding
+82000010 0011000c 00000007 0010abcd = Ok(2); Ok(2)
+# a byte is left over
+0b000004 00 = Err(FailedParseChunk(InvalidLength)); Err(FailedParseChunk(InvalidLength))";
+
+/// The same of captured chunks.
+const CAPTURED: &[(&[u8], &str)] = &[
     // a captured RE-CONFIG, whose length leaves out its parameter's padding, and counts it
-    (RE_CONFIG, Ok(2), Ok(2)),
-    (
-        &[
-            0x82, 0, 0, 0x18, 0, 0x0d, 0, 0x12, 0x87, 0x55, 0xd8, 0x23, 0x71, 0x97, 0x6a, 0x9e,
-            0x87, 0x55, 0xd8, 0x32, 0, 6, 0, 0,
-        ],
-        Ok(2),
-        Ok(2),
-    ),
-    // both with a last byte that isn't zero: it pads the chunk, and the parameter
-    (
-        &[
-            0x82, 0, 0, 0x16, 0, 0x0d, 0, 0x12, 0x87, 0x55, 0xd8, 0x23, 0x71, 0x97, 0x6a, 0x9e,
-            0x87, 0x55, 0xd8, 0x32, 0, 6, 0, 1,
-        ],
-        Ok(2),
-        PADDING,
-    ),
-    (
-        &[
-            0x82, 0, 0, 0x18, 0, 0x0d, 0, 0x12, 0x87, 0x55, 0xd8, 0x23, 0x71, 0x97, 0x6a, 0x9e,
-            0x87, 0x55, 0xd8, 0x32, 0, 6, 0, 1,
-        ],
-        Ok(2),
-        PADDING,
-    ),
-    // the chunk lacks its padding, as its last cause does, which may
-    (&[6, 0, 0, 9, 0, 0x0c, 0, 5, 0xff], Ok(2), PADDING),
-    (&[6, 0, 0, 9, 0, 0x0c, 0, 5, 0xff, 0, 0, 0], Ok(2), Ok(2)),
-    // a value that is at fault, and padding too: the value is told
-    (&[0x0b, 0, 0, 5, 0, 9, 9, 9], LENGTH, LENGTH),
-    // padding that isn't zero ahead of a chunk without a frame: the padding is told
-    (
-        &[0x0a, 0, 0, 5, 0x7f, 9, 9, 9, 0x0b, 0, 0, 3],
-        LENGTH,
-        PADDING,
-    ),
-    // a chunk whose value is at fault ahead of padding that isn't zero
-    (
-        &[0x0b, 0, 0, 5, 0, 0, 0, 0, 0x0a, 0, 0, 5, 0x7f, 9, 9, 9],
-        LENGTH,
-        LENGTH,
-    ),
-    // the last cause has all its padding, of which the first byte isn't zero
-    (&[6, 0, 0, 12, 0, 0x63, 0, 5, 0, 1, 0, 0], Ok(2), PADDING),
-    // the last cause has some of its padding, which is zero; the chunk has all of its own
-    (&[6, 0, 0, 10, 0, 0x63, 0, 5, 0, 0, 0, 0], Ok(2), Ok(2)),
-    // the padding of a parameter that isn't the last: zero, and not
-    (
-        &[4, 0, 0, 16, 0, 1, 0, 5, 7, 0, 0, 0, 0xc0, 0, 0, 4],
-        Ok(3),
-        Ok(3),
-    ),
-    (
-        &[4, 0, 0, 16, 0, 1, 0, 5, 7, 0, 0, 9, 0xc0, 0, 0, 4],
-        Ok(3),
-        PADDING,
-    ),
-    // the same ahead of a parameter whose value is at fault
-    (
-        &[
-            4, 0, 0, 17, 0, 1, 0, 5, 7, 0, 0, 9, 0xc0, 0, 0, 5, 1, 0, 0, 0,
-        ],
-        LENGTH,
-        PADDING,
-    ),
-    // a result without a meaning in a chunk whose padding isn't zero: the list is told
-    (
-        &[
-            0x82, 0, 0, 17, 0, 16, 0, 12, 0, 0, 0, 1, 0, 0, 0, 7, 0, 9, 9, 9,
-        ],
-        VALUE,
-        VALUE,
-    ),
-    // a cause that may have no value has one, and padding that isn't zero
-    (&[9, 0, 0, 12, 0, 10, 0, 5, 1, 9, 9, 9], LENGTH, LENGTH),
-    // a parameter of an INIT that isn't padded with zeros, and of an INIT ACK
-    (
-        &[
-            1, 0, 0, 28, 0, 0, 0, 1, 0, 0, 0, 2, 0, 3, 0, 4, 0, 0, 0, 5, 0x80, 8, 0, 5, 1, 0, 9, 0,
-        ],
-        Ok(2),
-        PADDING,
-    ),
-    (
-        &[
-            2, 0, 0, 28, 0, 0, 0, 1, 0, 0, 0, 2, 0, 3, 0, 4, 0, 0, 0, 5, 0x80, 8, 0, 5, 1, 0, 9, 0,
-        ],
-        Ok(2),
-        PADDING,
-    ),
-    // a parameter of a HEARTBEAT ACK, and a cause of an ERROR
-    (&[5, 0, 0, 12, 0, 1, 0, 5, 7, 0, 0, 1], Ok(2), PADDING),
-    (&[9, 0, 0, 12, 0, 0x63, 0, 5, 7, 0, 0, 1], Ok(2), PADDING),
-    // reserved bytes that aren't zero are no padding
-    (
-        &[
-            0x82, 0, 0, 0x10, 0, 0x11, 0, 0x0c, 0, 0, 0, 7, 0, 0x10, 0xab, 0xcd,
-        ],
-        Ok(2),
-        Ok(2),
-    ),
-    // a byte is left over
-    (&[0x0b, 0, 0, 4, 0], LENGTH, LENGTH),
+    (RE_CONFIG, "Ok(2); Ok(2)"),
     // a captured INIT: with its padding, and without
-    (INIT, Ok(7), Ok(7)),
-    (INIT_WITHOUT_PADDING, Ok(7), PADDING),
-    // no chunk: fewer bytes than a packet has
+    (INIT, "Ok(7); Ok(7)"),
     (
-        &[],
-        Err(PacketParseError::InvalidPacketSize),
-        Err(PacketParseError::InvalidPacketSize),
+        INIT_WITHOUT_PADDING,
+        "Ok(7); Err(FailedParseChunk(InvalidPadding))",
     ),
 ];
 
-/// The checks of the header and these chunks under both policies.
-fn checked(alloc: Global, chunks: &[u8]) -> Result<(Answer, Answer), AllocError> {
-    let bytes = packet_of(alloc, chunks)?;
-    Ok((
-        SctpPacket::check(&bytes, 0, &UNVERIFIED),
-        SctpPacket::check(&bytes, 0, &STRICT),
-    ))
-}
-
-/// A strict reader refuses the packet for this fault.
-fn is_refused(alloc: Global, bytes: &[u8], fault: &PacketParseError) -> bool {
+/// Whether a strict reader answers the packet as the strict check does.
+fn is_read_so(alloc: Global, bytes: &[u8]) -> bool {
+    let checked = SctpPacket::check(bytes, 0, &STRICT);
     match SctpPacket::from_bytes(alloc, bytes, 0, &STRICT) {
-        Ok(_) => false,
-        Err(error) => error == *fault,
+        Ok(_) => checked.is_ok(),
+        Err(error) => checked == Err(error),
     }
 }
 
-/// A packet with these chunks is read under the strict policy exactly where this is no fault, and
-/// else this is told.
-fn is_read(alloc: Global, chunks: &[u8], wanted: &Answer) -> Result<bool, AllocError> {
+/// The checks of the header and these chunks under both policies. A packet is read under the strict
+/// one as it is checked.
+fn looked_at(alloc: Global, chunks: &[u8]) -> Result<String, Fail> {
     let bytes = packet_of(alloc, chunks)?;
-    match wanted {
-        Ok(_) => Ok(SctpPacket::from_bytes(alloc, &bytes, 0, &STRICT).is_ok()),
-        Err(fault) => Ok(is_refused(alloc, &bytes, fault)),
+    if !is_read_so(alloc, &bytes) {
+        return Err(Fail::new("the strict reader answers otherwise"));
     }
+    let lenient = SctpPacket::check(&bytes, 0, &UNVERIFIED);
+    let strict = SctpPacket::check(&bytes, 0, &STRICT);
+    Ok(format!(in alloc; "{lenient:?}; {strict:?}")?)
 }
 
 #[test]
-fn looked_at(rt: HostRuntime) -> Result<(), Fail> {
-    for (i, (chunks, lenient, strict)) in ROWS.iter().enumerate() {
-        let answers = checked(rt.alloc(), chunks)?;
-        assert!(rt; answers.0 == *lenient && answers.1 == *strict, "row {i}");
-        assert!(rt; is_read(rt.alloc(), chunks, strict)?, "row {i}");
+fn rows(rt: HostRuntime) -> Result<(), Fail> {
+    for (chunks, wanted) in CAPTURED {
+        assert_eq!(rt; looked_at(rt.alloc(), chunks)?.as_str(), *wanted);
     }
-    Ok(())
+    are_answered(rt.alloc(), ROWS, |alloc, chunks| looked_at(alloc, chunks))
 }
 
 /// The header and these chunks are read as this under the strict policy.
