@@ -1,0 +1,35 @@
+#!/usr/bin/env python3
+"""Has `rt lib` take the libraries that `rt ci` proved. usage: c/take_libraries.py, at once after `rt ci`.
+
+`rt ci` leaves each library that it proved in crates/NAME/out/rlib. `rt lib` takes what is there if a file `stamp` beside it has the
+sum of the sources, and `rt ci` writes no such file: these libraries fit only each other. So this writes the stamps if all libraries
+below crates/dcsctp_c are there and none has a stamp, as in a fresh clone. Otherwise, or with another toolchain, it does nothing: then
+`rt lib` proves them again, which takes some minutes.
+"""
+
+import os
+import shutil
+import sys
+
+ROOT = os.path.dirname(os.path.dirname(os.path.abspath(__file__)))
+
+
+def main():
+    rt = shutil.which("rt")
+    sys.path.insert(0, os.path.dirname(os.path.realpath(rt)))
+    sys.dont_write_bytecode = True
+    try:
+        import rtlib
+
+        crate = next(it for it in rtlib.crates_below(ROOT) if it.name == "dcsctp_c")
+        stamps = {f"{os.path.dirname(it.rlib)}/stamp": it for it in crate.below()}
+        if any(os.path.exists(it) for it in stamps) or not all(os.path.isdir(it.rlib) for it in stamps.values()):
+            return
+        for path, library in stamps.items():
+            with open(path, "w", encoding="utf-8") as file:
+                file.write(library.stamp())
+    except (AttributeError, ImportError, StopIteration) as error:
+        print(f"c/take_libraries.py: this toolchain's libraries can't be taken: {error}")
+
+
+main()
