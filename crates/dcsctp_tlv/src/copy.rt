@@ -6,8 +6,8 @@ ghost use Rattle.std.specs.String.{string_bytes, string_len, string_capacity};
 use std::alloc::{AllocError, Global};
 
 /// Hands a list on, where its memory has room for its items alone; else it is refused.
-// std's clauses leave open how much a copy reserves, so it is looked at: `Vec::from_slice` and `vec!`
-// reserve as much as they fill, and none of theirs is refused.
+// std's clauses leave open how much a copy reserves, so it is looked at: `Vec::from_slice` and
+// `vec!` reserve as much as they fill, and none of theirs is refused.
 #[inline(always)]
 fn without_spare<T: Drop>(list: Vec<T>) -> Result<Vec<T>, AllocError>
     ensures same { IfOk result (λ same. same ≡ list) }

@@ -91,7 +91,8 @@ pub fn methods()
     ensures dtls { DTLS.0 ≡ 1 }
 {}
 
-/// The payload protocol identifiers of WebRTC data channels have these numbers (RFC 8831 section 8).
+/// The payload protocol identifiers of WebRTC data channels have these numbers (RFC 8831 section
+/// 8).
 pub fn webrtc_ppids()
     ensures dcep { PpId.WEBRTC_DCEP.0 ≡ 50 }
     ensures string { PpId.WEBRTC_STRING.0 ≡ 51 }
