@@ -2,7 +2,7 @@
 -- and of a packet (RFC 9260 sections 3, 3.2, 3.2.1 and 3.3.10).
 --
 -- The grammar's answer is what `Result` has two cases for: a tree that the bytes mean, or a fault
--- that they have. Two notions say how a call's result stands to it: `Answers` and `Exactly`.
+-- that they have. Two notions relate a call's result to it: `Answers` and `Exactly`.
 use Rattle.std.specs.Prelude.{◌≡◌, ◌↔◌, ◌⊎◌, ℕ, List, Result, Ok, Err, IsOk, IsErrOf, MatchResult, ◌+◌, drop}
 use Rattle.dcsctp_tlv.specs.declared.error.ChunkParseError.{ChunkParseError}
 use Rattle.dcsctp_tlv.specs.declared.error.LocatedFault.{LocatedFault}

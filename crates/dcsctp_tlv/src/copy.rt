@@ -28,8 +28,8 @@ pub fn copied<T: Copy>(alloc: Global, items: &[T]) -> Result<Vec<T>, AllocError>
     without_spare(Vec::from_slice(alloc, items)?)
 }
 
-/// Copies the items into memory with room for so many, which are as many at least; refused only
-/// where memory runs out.
+/// Copies the items into memory with room for `room` items, which are as many at least; fails only
+/// if the allocation does.
 #[inline(always)]
 pub fn copied_with_room<T: Copy>(
     alloc: Global,

@@ -50,7 +50,7 @@ pub trait ReadableTlv: Sized + Drop {
         ensures len { IfOk result (λ _. vec_len list.new ≡ vec_len list.old + 1) }
         ensures capacity { IfOk result (λ _. vec_capacity list.new ≡ vec_capacity list.old) };
 
-    /// Whether an item that should have so many bytes of padding may have these.
+    /// Returns whether an item that should have `size` bytes of padding may have these.
     fn accepts_padding(strict: bool, size: usize, there: &[u8]) -> bool
         ensures { result ≡ (level strict).padding size there.now };
 }
@@ -146,7 +146,7 @@ fn count_items(bytes: &[u8]) -> usize
     count
 }
 
-/// Builds the list that the bytes mean, where they are known to mean so many items. The memory for
+/// Builds the list that the bytes mean, where they are known to mean `count` items. The memory for
 /// the list is taken at once.
 pub fn list_build<T: ReadableTlv>(
     alloc: Global,
