@@ -347,8 +347,8 @@ pub fn error_cause_from_bytes(
 
 /// The number of error causes, or the first fault from the left. It takes no memory.
 ///
-/// Where it is strict, `InvalidPadding` is the fault of a cause that has a meaning, and padding that
-/// isn't zero; the last may lack some or all of it.
+/// Where it is strict, `InvalidPadding` is the fault of a cause that has a meaning, and padding
+/// that isn't zero; the last may lack some or all of it.
 pub fn error_cause_check(bytes: &[u8], strict: bool) -> Result<usize, ChunkParseError>
     ensures answer { Exactly checking (λ n. n)
         (Counted length (ListAnswer (causes strict) bytes.now)) result }

@@ -1,4 +1,4 @@
-//! Protocol Violation: the peer broke the protocol, in a way that no other cause tells.
+//! Protocol Violation: the peer broke the protocol, in a way that no other cause names.
 //!
 //! ```txt
 //!  0                   1                   2                   3

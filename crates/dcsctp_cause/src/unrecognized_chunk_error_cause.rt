@@ -1,5 +1,5 @@
-//! Unrecognized Chunk Type: the receiver doesn't know a chunk's type, and its sender asked to be
-//! told.
+//! Unrecognized Chunk Type: the receiver doesn't know a chunk's type, and its sender asked for a
+//! report.
 //!
 //! ```txt
 //!  0                   1                   2                   3

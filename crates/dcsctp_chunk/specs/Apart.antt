@@ -32,7 +32,7 @@ around gap runs = take gap.low runs ++ drop gap.high runs
 abbrev pub placed : Place → List GapAckBlock → List GapAckBlock
 placed place runs = take place.first runs ++ (place.run ∷ drop place.last runs)
 
--- each ends last, as what stands in a place that is free
+-- each ends last, as what a free place holds
 abbrev pub AreFree : List GapAckBlock → Type 0
 AreFree blocks = All (λ b. b.end ≡ 65535) blocks
 

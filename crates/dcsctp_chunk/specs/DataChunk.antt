@@ -16,7 +16,7 @@ read flags value =
       payload = drop 12 value;
     }))
 
--- the value as it is written: what stands before the payload, and the payload
+-- the value as it is written: what is before the payload, and the payload
 abbrev pub fixed : Tree → List ℕ
 fixed c =
     to_be_bytes w32 c.tsn ++ (to_be_bytes w16 c.user_data.stream

@@ -10,7 +10,7 @@ use Rattle.dcsctp_chunk.specs.declared.forward_tsn_chunk.ForwardTsnChunk.{Forwar
 abbrev pub stream_at : List ℕ → SkippedStreamTree
 stream_at bytes = BySsn (number16 bytes) (number16 (drop 2 bytes))
 
--- zeros stand for a message id, which has no place: it isn't well-formed here, and isn't written
+-- zeros replace a message id, which has no place: it isn't well-formed here, and isn't written
 abbrev pub stream_bytes : SkippedStreamTree → List ℕ
 stream_bytes (BySsn stream ssn) = numbers w16 (stream ∷ ssn ∷ [])
 stream_bytes (ByMid stream is_unordered mid) = numbers w32 (0 ∷ [])

@@ -20,11 +20,11 @@ read flags value =
       payload = drop 16 value;
     }))
 
--- the number that stands before the payload
+-- the number before the payload
 abbrev pub ppid_or_fsn : DataTree → ℕ
 ppid_or_fsn d = if d.beginning then d.ppid else d.fsn
 
--- the value as it is written: what stands before the payload, and the payload
+-- the value as it is written: what is before the payload, and the payload
 abbrev pub fixed : Tree → List ℕ
 fixed c =
     to_be_bytes w32 c.tsn ++ (to_be_bytes w16 c.user_data.stream ++ (to_be_bytes w16 0

@@ -13,7 +13,7 @@ abbrev pub stream_at : List ℕ → SkippedStreamTree
 stream_at bytes =
     ByMid (number16 bytes) (number16 (drop 2 bytes) % 2 == 1) (number32 (drop 4 bytes))
 
--- zeros stand for a sequence number, which has no place: it isn't well-formed here, and isn't
+-- zeros replace a sequence number, which has no place: it isn't well-formed here, and isn't
 -- written
 abbrev pub stream_bytes : SkippedStreamTree → List ℕ
 stream_bytes (BySsn stream ssn) = numbers w32 (0 ∷ 0 ∷ [])

@@ -42,7 +42,7 @@ read value =
     }) else
     Err Length
 
--- the value as it is written: what stands before the lists, and the lists
+-- the value as it is written: what is before the lists, and the lists
 abbrev pub fixed : Tree → List ℕ
 fixed s =
     numbers w32 (s.tsn ∷ s.a_rwnd ∷ []) ++ numbers w16 (length s.blocks ∷ length s.duplicates ∷ [])

@@ -144,7 +144,7 @@ impl IDataChunk {
         })
     }
 
-    /// The value ahead of its payload, as it is written.
+    /// The value before its payload, as it is written.
     fn fixed(&self) -> [u8; FIXED_SIZE]
         ensures { result ≡ kind.fixed (kind.view self.now) }
     {

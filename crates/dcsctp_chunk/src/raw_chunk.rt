@@ -26,7 +26,7 @@ pub struct RawChunk<'a> {
     pub typ: u8,
     /// What they mean depends on the type.
     pub flags: u8,
-    /// What stands after the header, without padding.
+    /// The bytes after the header, without padding.
     pub value: &'a [u8],
 }
 

@@ -163,7 +163,7 @@ impl SackChunk {
         })
     }
 
-    /// The value ahead of its lists, as it is written.
+    /// The value before its lists, as it is written.
     fn fixed(&self) -> [u8; FIXED_SIZE]
         requires blocks { length self.now.gap_ack_blocks.items < 2 ^ 16 }
         requires duplicates { length self.now.duplicate_tsns.items < 2 ^ 16 }

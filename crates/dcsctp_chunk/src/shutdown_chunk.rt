@@ -1,4 +1,4 @@
-//! SHUTDOWN: the sender has no more data, and tells what it has received.
+//! SHUTDOWN: the sender has no more data, and reports what it has received.
 //!
 //! ```txt
 //!  0                   1                   2                   3

@@ -12,7 +12,8 @@ after_bytes-append register xs ys = fold-append after_byte register xs ys
 
 -- the next n bytes
 pub after_bytes-take : (register i n : ℕ) (bytes : List ℕ)
-    → after_bytes (after_bytes register (take i bytes)) (take n (drop i bytes)) ≡ after_bytes register (take (i + n) bytes)
+    → after_bytes (after_bytes register (take i bytes)) (take n (drop i bytes))
+    ≡ after_bytes register (take (i + n) bytes)
 after_bytes-take register i n bytes =
     sym (after_bytes-append register (take i bytes) (take n (drop i bytes)))
     ∙ ap (after_bytes register) (sym (take-add i n bytes))
@@ -21,12 +22,15 @@ after_bytes-take register i n bytes =
 pub after_bytes-drop : (register i : ℕ) (bytes : List ℕ)
     → after_bytes (after_bytes register (take i bytes)) (drop i bytes) ≡ after_bytes register bytes
 after_bytes-drop register i bytes =
-    sym (after_bytes-append register (take i bytes) (drop i bytes)) ∙ ap (after_bytes register) (take-append-drop i bytes)
+    sym (after_bytes-append register (take i bytes) (drop i bytes)) ∙ ap (after_bytes register)
+    (take-append-drop i bytes)
 
-pub extended-append : (crc : ℕ) (xs ys : List ℕ) → extended (extended crc xs) ys ≡ extended crc (xs ++ ys)
+pub extended-append : (crc : ℕ) (xs ys : List ℕ) → extended (extended crc xs) ys
+    ≡ extended crc (xs ++ ys)
 extended-append crc xs ys =
     let register = after_bytes (bit_xor crc 0xFFFFFFFF) xs in
     let turned : bit_xor (bit_xor register 0xFFFFFFFF) 0xFFFFFFFF ≡ register =
-    xor_assoc register 0xFFFFFFFF 0xFFFFFFFF ∙ ap (bit_xor register) (xor_self 0xFFFFFFFF) ∙ xor_zero_r register in
+    xor_assoc register 0xFFFFFFFF 0xFFFFFFFF ∙ ap (bit_xor register) (xor_self 0xFFFFFFFF)
+    ∙ xor_zero_r register in
     ap (λ r. bit_xor r 0xFFFFFFFF)
     (ap (λ r. after_bytes r ys) turned ∙ sym (after_bytes-append (bit_xor crc 0xFFFFFFFF) xs ys))

@@ -24,10 +24,12 @@ get_or-row n i (suc count) (suc j) below =
     let e : suc i + j ≡ i + suc j = omega arith in
     get_or-row n (suc i) count j (omega arith) ∙ ap (after_bits n) e
 
-get_or-rows : (n count k : ℕ) (none : List ℕ) → k < count → get_or (rows n count) k none ≡ row (n + 8 * k) 0 256
+get_or-rows : (n count k : ℕ) (none : List ℕ) → k < count → get_or (rows n count) k none
+    ≡ row (n + 8 * k) 0 256
 unfolding rows
 get_or-rows n zero k none below = absurd (omega arith)
-get_or-rows n (suc count) zero none below = let e : n ≡ n + 8 * zero = omega arith in ap (λ m. row m 0 256) e
+get_or-rows n (suc count) zero none below = let e : n ≡ n + 8 * zero =
+    omega arith in ap (λ m. row m 0 256) e
 get_or-rows n (suc count) (suc k) none below =
     let e : n + 8 + 8 * k ≡ n + 8 * suc k = omega arith in
     get_or-rows (n + 8) count k none (omega arith) ∙ ap (λ m. row m 0 256) e

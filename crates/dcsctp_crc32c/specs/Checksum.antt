@@ -1,5 +1,5 @@
--- CRC32c, the checksum of SCTP (RFC 9260 appendix A). Its register is a number of 32 bits. Bits enter
--- and leave at the register's low end, the lowest bit of each byte first.
+-- CRC32c, the checksum of SCTP (RFC 9260 appendix A). Its register is a number of 32 bits. Bits
+-- enter and leave at the register's low end, the lowest bit of each byte first.
 use Rattle.std.specs.Prelude.{ℕ, zero, suc, ◌*◌, ◌/◌, ◌%◌, List, ◌∷◌, ◌++◌, take, drop, fold, bit_xor}
 use Rattle.std.specs.Int.{w32, to_le_bytes, from_be_bytes}
 
@@ -7,7 +7,8 @@ use Rattle.std.specs.Int.{w32, to_le_bytes, from_be_bytes}
 abbrev pub polynomial : ℕ
 polynomial = 0x82F63B78
 
--- A bit leaves the register; if it is a 1, the polynomial is subtracted, bit by bit without carries.
+-- A bit leaves the register; if it is a 1, the polynomial is subtracted, bit by bit without
+-- carries.
 abbrev pub shifted : ℕ → ℕ
 shifted register = bit_xor (register / 2) (register % 2 * polynomial)
 
@@ -23,7 +24,8 @@ after_byte register byte = after_bits 8 (bit_xor register byte)
 abbrev pub after_bytes : ℕ → List ℕ → ℕ
 after_bytes register bytes = fold after_byte register bytes
 
--- The CRC32c of bytes and of those before them, whose CRC32c is crc. It is the register's complement.
+-- The CRC32c of bytes and of those before them, whose CRC32c is crc. It is the register's
+-- complement.
 abbrev pub extended : ℕ → List ℕ → ℕ
 extended crc bytes = bit_xor (after_bytes (bit_xor crc 0xFFFFFFFF) bytes) 0xFFFFFFFF
 

@@ -22,8 +22,8 @@ pub fn crc32c(bytes: &[u8]) -> u32
     update(0, bytes)
 }
 
-/// Returns the CRC32c of bytes that come in pieces, up to and with this piece: `crc` is the CRC32c of
-/// all pieces before it, and 0 before the first.
+/// Returns the CRC32c of bytes that come in pieces, up to and with this piece: `crc` is the CRC32c
+/// of all pieces before it, and 0 before the first.
 pub fn update(crc: u32, bytes: &[u8]) -> u32
     ensures pieces { (before : List ℕ) → crc ≡ crc32c before
         → result ≡ crc32c (before ++ bytes.now) }
@@ -32,13 +32,15 @@ pub fn update(crc: u32, bytes: &[u8]) -> u32
     after_bytes(crc ^ u32::MAX, bytes) ^ u32::MAX
 }
 
-/// Returns the word of a packet, which `from_bytes` and `check` of a packet and `build` of a builder
-/// take: the number that its checksum field, bytes 8 to 11, has to be, most significant byte first.
+/// Returns the word of a packet, which `from_bytes` and `check` of a packet and `build` of a
+/// builder take: the number that its checksum field, bytes 8 to 11, has to be, most significant
+/// byte first.
 ///
-/// It is the CRC32c of the packet with zeros in the field, with its bytes in reverse order, since the
-/// field holds the CRC32c least significant byte first. The field itself doesn't matter: the word of
-/// a packet that is to be sent is that of its bytes without a checksum. Fewer than 12 bytes are not
-/// a packet; their word is that of the first eight, or fewer if there are fewer, and four zeros.
+/// It is the CRC32c of the packet with zeros in the field, with its bytes in reverse order, since
+/// the field holds the CRC32c least significant byte first. The field itself doesn't matter: the
+/// word of a packet that is to be sent is that of its bytes without a checksum. Fewer than 12 bytes
+/// are not a packet; their word is that of the first eight, or fewer if there are fewer, and four
+/// zeros.
 pub fn packet_word(bytes: &[u8]) -> u32
     ensures value { result ≡ packet_word bytes.now }
     ensures field_apart { (others : List ℕ) → take 8 others ≡ take 8 bytes.now

@@ -13,7 +13,8 @@ use Rattle.dcsctp_tlv.proofs.Laws.{front_is, rest_is}
 -- ---- the check
 
 -- what a check has gone over
-pub record Checked {T : Type 0} (level : Level T) (parts : T → ℕ) (bytes rest : List ℕ) (n all : ℕ) : Type 0 where
+pub record Checked {T : Type 0} (level : Level T) (parts : T → ℕ) (bytes rest : List ℕ)
+    (n all : ℕ) : Type 0 where
   pub trees : List T
   pub progress : Progress level bytes trees rest
   pub item_count : n ≡ length trees
@@ -21,7 +22,8 @@ pub record Checked {T : Type 0} (level : Level T) (parts : T → ℕ) (bytes res
   pub few_items : 4 * n + length rest ≤ length bytes
   pub few_parts : 4 * all + length rest ≤ length bytes
 
-total-append : {T : Type 0} (parts : T → ℕ) (ts : List T) (t : T) → total parts (ts ++ t ∷ []) ≡ total parts ts + parts t
+total-append : {T : Type 0} (parts : T → ℕ) (ts : List T) (t : T) → total parts (ts ++ t ∷ [])
+    ≡ total parts ts + parts t
 total-append parts [] t = omega arith
 total-append parts (u ∷ ts) t = let h = total-append parts ts t in omega (arith, h)
 
@@ -29,11 +31,22 @@ pub rest_bytes : (rest : List ℕ) → AreBytes rest → AreBytes (frame_rest re
 rest_bytes rest fits = λ k. rw get_or-drop (fits (round_up_to_4 (frame_length rest) + k))
 
 -- a frame takes its length from what is left
-pub frame_shrinks : (rest : List ℕ) → BeginsWithFrame rest → length (frame_rest rest) + frame_length rest ≤ length rest
-frame_shrinks rest frame = omega (arith, frame.header, frame.low, frame.high, length-drop (round_up_to_4 (frame_length rest)) rest)
+pub frame_shrinks : (rest : List ℕ) → BeginsWithFrame rest → length (frame_rest rest)
+    + frame_length rest ≤ length rest
+frame_shrinks rest frame = omega (
+  arith,
+  frame.header,
+  frame.low,
+  frame.high,
+  length-drop
+      (round_up_to_4 (frame_length rest)) rest,
+)
 
-pub check_step : {T : Type 0} (level : Level T) (parts : T → ℕ) (bytes rest : List ℕ) (n all : ℕ) (t : T) → Checked level parts bytes rest n all → BeginsWithFrame rest
-    → (front_row level rest).means (frame_value rest) t → level.padding (padding_size (length (frame_value rest))) (frame_padding rest) ≡ true → 4 * parts t ≤ 4 + length (frame_value rest)
+pub check_step : {T : Type 0} (level : Level T) (parts : T → ℕ) (bytes rest : List ℕ) (n all : ℕ)
+    (t : T) → Checked level parts bytes rest n all → BeginsWithFrame rest
+    → (front_row level rest).means (frame_value rest) t
+    → level.padding (padding_size (length (frame_value rest))) (frame_padding rest) ≡ true
+    → 4 * parts t ≤ 4 + length (frame_value rest)
     → Checked level parts bytes (frame_rest rest) (n + 1) (all + parts t)
 check_step level parts bytes rest n all t c frame means accepted few =
     let shrinks = frame_shrinks rest frame in
@@ -48,21 +61,32 @@ check_step level parts bytes rest n all t c frame means accepted few =
       few_parts = omega (arith, c.few_parts, shrinks, len, few);
     }
 
-pub check_finish : {T : Type 0} (level : Level T) (parts : T → ℕ) (bytes rest : List ℕ) (n all : ℕ) → Checked level parts bytes rest n all → rest ≡ [] → MeansCounted level parts bytes n all
-check_finish level parts bytes rest n all c e = record { trees = c.trees; mean = finish level bytes c.trees rest c.progress e; item_count = c.item_count; part_count = c.part_count }
+pub check_finish : {T : Type 0} (level : Level T) (parts : T → ℕ) (bytes rest : List ℕ) (n all : ℕ)
+    → Checked level parts bytes rest n all → rest ≡ [] → MeansCounted level parts bytes n all
+check_finish level parts bytes rest n all c e = record {
+  trees = c.trees;
+  mean = finish level bytes c.trees rest c.progress e;
+  item_count = c.item_count;
+  part_count =
+      c.part_count;
+}
 
 -- ---- the build
 
-head_accepted : (rule : PaddingRule) (i : Item) (is : List Item) → AreFormed rule (i ∷ is) → rule (padding_size (length i.value)) i.padding ≡ true
+head_accepted : (rule : PaddingRule) (i : Item) (is : List Item) → AreFormed rule (i ∷ is)
+    → rule (padding_size (length i.value)) i.padding ≡ true
 head_accepted rule i [] p = p.accepted
 head_accepted rule i (j ∷ is) p = p.0.accepted
 
-tail_formed : (rule : PaddingRule) (i : Item) (is : List Item) → AreFormed rule (i ∷ is) → AreFormed rule is
+tail_formed : (rule : PaddingRule) (i : Item) (is : List Item) → AreFormed rule (i ∷ is)
+    → AreFormed rule is
 tail_formed rule i [] p = tt
 tail_formed rule i (j ∷ is) p = p.1
 
-at_first : (bytes : List ℕ) (i : Item) (is : List Item) → bytes ≡ flat_map item_bytes (i ∷ is) → bytes ≡ item_bytes i ++ (flat_map item_bytes is ++ [])
-at_first bytes i is e = e ∙ ap (λ (x : List ℕ). item_bytes i ++ x) (sym (append-nil (flat_map item_bytes is)))
+at_first : (bytes : List ℕ) (i : Item) (is : List Item) → bytes ≡ flat_map item_bytes (i ∷ is)
+    → bytes ≡ item_bytes i ++ (flat_map item_bytes is ++ [])
+at_first bytes i is e =
+    e ∙ ap (λ (x : List ℕ). item_bytes i ++ x) (sym (append-nil (flat_map item_bytes is)))
 
 -- items begin with a frame, and after it are the others
 pub record FirstItem (rule : PaddingRule) (bytes : List ℕ) (items : List Item) : Type 0 where
@@ -72,7 +96,8 @@ pub record FirstItem (rule : PaddingRule) (bytes : List ℕ) (items : List Item)
   pub split : items ≡ front_item bytes ∷ others
   pub are : AreItems rule (frame_rest bytes) others
 
-pub first_item : (rule : PaddingRule) (bytes : List ℕ) (items : List Item) → AreBytes bytes → bytes ≢ [] → AreItems rule bytes items → FirstItem rule bytes items
+pub first_item : (rule : PaddingRule) (bytes : List ℕ) (items : List Item) → AreBytes bytes
+    → bytes ≢ [] → AreItems rule bytes items → FirstItem rule bytes items
 first_item rule bytes [] fits h are = absurd (h are.split)
 first_item rule bytes (i ∷ is) fits h are =
     let e = at_first bytes i is are.split in
@@ -81,42 +106,64 @@ first_item rule bytes (i ∷ is) fits h are =
     let rest = rest_is rule i (flat_map item_bytes is ++ []) bytes fits e next in
     record {
       frame = front.0;
-      accepted = subst (λ (j : Item). rule (padding_size (length j.value)) j.padding ≡ true) front.1 (head_accepted rule i is are.formed);
+      accepted = subst (λ (j : Item). rule (padding_size (length j.value)) j.padding ≡ true) front.1
+          (head_accepted rule i is are.formed);
       others = is;
       split = ap (λ (j : Item). j ∷ is) front.1;
-      are = record { split = sym rest ∙ append-nil (flat_map item_bytes is); formed = tail_formed rule i is are.formed };
+      are = record {
+        split = sym rest ∙ append-nil (flat_map item_bytes is);
+        formed = tail_formed rule i is are.formed;
+      };
     }
 
 -- the front means the first tree, and what is after it the others
 pub record FirstTree {T : Type 0} (level : Level T) (bytes : List ℕ) (trees : List T) : Type 0 where
   pub frame : BeginsWithFrame bytes
-  pub accepted : level.padding (padding_size (length (frame_value bytes))) (frame_padding bytes) ≡ true
+  pub accepted : level.padding (padding_size (length (frame_value bytes))) (frame_padding bytes)
+      ≡ true
   pub first : T
   pub others : List T
   pub count : length trees ≡ suc (length others)
   pub means : (front_row level bytes).means (frame_value bytes) first
   pub mean : MeansTrees level (frame_rest bytes) others
 
-first_means : {T : Type 0} (level : Level T) (bytes : List ℕ) (items others : List Item) (trees : List T) → items ≡ front_item bytes ∷ others → BeginsWithFrame bytes
-    → level.padding (padding_size (length (frame_value bytes))) (frame_padding bytes) ≡ true → AreItems level.padding (frame_rest bytes) others → ItemsMean level (front_item bytes ∷ others) trees → FirstTree level bytes trees
+first_means : {T : Type 0} (level : Level T) (bytes : List ℕ) (items others : List Item)
+    (trees : List T) → items ≡ front_item bytes ∷ others → BeginsWithFrame bytes
+    → level.padding (padding_size (length (frame_value bytes))) (frame_padding bytes) ≡ true
+    → AreItems level.padding (frame_rest bytes) others
+    → ItemsMean level (front_item bytes ∷ others) trees → FirstTree level bytes trees
 first_means level bytes items others [] e frame accepted are mean = absurd mean
 first_means level bytes items others (t ∷ ts) e frame accepted are mean =
-    record { frame = frame; accepted = accepted; first = t; others = ts; count = refl; means = mean.0; mean = record { items = others; are = are; mean = mean.1 } }
+    record {
+      frame = frame;
+      accepted = accepted;
+      first = t;
+      others = ts;
+      count = refl;
+      means = mean.0;
+      mean = record { items = others; are = are; mean = mean.1 };
+    }
 
-pub first_tree : {T : Type 0} (level : Level T) (bytes : List ℕ) (trees : List T) → AreBytes bytes → bytes ≢ [] → MeansTrees level bytes trees → FirstTree level bytes trees
+pub first_tree : {T : Type 0} (level : Level T) (bytes : List ℕ) (trees : List T) → AreBytes bytes
+    → bytes ≢ [] → MeansTrees level bytes trees → FirstTree level bytes trees
 first_tree level bytes trees fits h m =
     let f = first_item level.padding bytes m.items fits h m.are in
-    first_means level bytes m.items f.others trees f.split f.frame f.accepted f.are (subst (λ (is : List Item). ItemsMean level is trees) f.split m.mean)
+    first_means level bytes m.items f.others trees f.split f.frame f.accepted f.are
+    (subst (λ (is : List Item). ItemsMean level is trees) f.split m.mean)
 
 -- what is built, and what is left
-pub record Building {T : Type 0} (level : Level T) (bytes rest : List ℕ) (built : List T) (len capacity : ℕ) : Type 0 where
+pub record Building {T : Type 0} (level : Level T) (bytes rest : List ℕ) (built : List T)
+    (len capacity : ℕ) : Type 0 where
   pub progress : Progress level bytes built rest
   pub left : List T
   pub mean : MeansTrees level rest left
   pub room : len + length left ≡ capacity
 
-pub build_step : {T : Type 0} (level : Level T) (bytes rest : List ℕ) (built : List T) (t : T) (len capacity : ℕ) (b : Building level bytes rest built len capacity) → (f : FirstTree level rest b.left)
-    → (front_row level rest).means (frame_value rest) t → Building level bytes (frame_rest rest) (built ++ t ∷ []) (len + 1) capacity
+pub build_step : {T : Type 0} (level : Level T) (bytes rest : List ℕ) (built : List T) (t : T)
+    (len capacity : ℕ) (b : Building level bytes rest built len capacity)
+    → (f : FirstTree level rest b.left)
+    → (front_row level rest).means (frame_value rest) t → Building level bytes (frame_rest rest)
+    (built ++ t ∷ []) (len + 1) capacity
 build_step level bytes rest built t len capacity b f means = record {
   progress = step level bytes built rest t b.progress f.frame means f.accepted;
   left = f.others;
@@ -126,7 +173,8 @@ build_step level bytes rest built t len capacity b f means = record {
 
 -- ---- the count
 
-pub one_counted : (rule : PaddingRule) (rest : List ℕ) (items : List Item) (count all : ℕ) → AreBytes rest → rest ≢ [] → AreItems rule rest items → count + length items ≡ all
+pub one_counted : (rule : PaddingRule) (rest : List ℕ) (items : List Item) (count all : ℕ)
+    → AreBytes rest → rest ≢ [] → AreItems rule rest items → count + length items ≡ all
     → (left : List Item) × (AreItems rule (frame_rest rest) left × (count + 1 + length left ≡ all))
 one_counted rule rest items count all fits h are e =
     let f = first_item rule rest items fits h are in
@@ -137,21 +185,26 @@ nothing_left : (rule : PaddingRule) (items : List Item) → AreItems rule [] ite
 nothing_left rule [] are = refl
 nothing_left rule (i ∷ is) are = absurd (let e = are.split in cc)
 
-pub none_left : (rule : PaddingRule) (rest : List ℕ) (items : List Item) (count all : ℕ) → rest ≡ [] → AreItems rule rest items → count + length items ≡ all → count ≡ all
+pub none_left : (rule : PaddingRule) (rest : List ℕ) (items : List Item) (count all : ℕ) → rest ≡ []
+    → AreItems rule rest items → count + length items ≡ all → count ≡ all
 none_left rule rest items count all e are h =
     let none = nothing_left rule items (subst (λ (r : List ℕ). AreItems rule r items) e are) in
     omega (arith, none, h)
 
 -- no bytes mean no trees
-pub no_trees : {T : Type 0} (level : Level T) (bytes : List ℕ) (trees : List T) → bytes ≡ [] → MeansTrees level bytes trees → length trees ≡ 0
-no_trees level bytes trees e m = none level m.items trees (nothing_left level.padding m.items (subst (λ (r : List ℕ). AreItems level.padding r m.items) e m.are)) m.mean where
-  none : {T : Type 0} (level : Level T) (items : List Item) (trees : List T) → length items ≡ 0 → ItemsMean level items trees → length trees ≡ 0
-  none level [] [] h m = refl
-  none level [] (t ∷ ts) h m = absurd m
-  none level (i ∷ is) ts h m = absurd (omega (arith, h))
+pub no_trees : {T : Type 0} (level : Level T) (bytes : List ℕ) (trees : List T) → bytes ≡ []
+    → MeansTrees level bytes trees → length trees ≡ 0
+no_trees level bytes trees e m = none level m.items trees (nothing_left level.padding m.items
+    (subst (λ (r : List ℕ). AreItems level.padding r m.items) e m.are)) m.mean where
+      none : {T : Type 0} (level : Level T) (items : List Item) (trees : List T) → length items ≡ 0
+          → ItemsMean level items trees → length trees ≡ 0
+      none level [] [] h m = refl
+      none level [] (t ∷ ts) h m = absurd m
+      none level (i ∷ is) ts h m = absurd (omega (arith, h))
 
 -- as many items as trees
-pub as_many : {T : Type 0} (level : Level T) (items : List Item) (trees : List T) → ItemsMean level items trees → length items ≡ length trees
+pub as_many : {T : Type 0} (level : Level T) (items : List Item) (trees : List T)
+    → ItemsMean level items trees → length items ≡ length trees
 as_many level [] [] m = refl
 as_many level [] (t ∷ ts) m = absurd m
 as_many level (i ∷ is) [] m = absurd m

@@ -9,13 +9,16 @@ use Rattle.dcsctp_tlv.proofs.Accounts.{length-item}
 
 -- each item has four bytes, without its padding, for each tree in what it means
 pub record Counts {T : Type 0} (level : Level T) (count : T → ℕ) : Type 0 where
-  pub bound : (i : Item) (t : T) → (level.row i.first i.second).means i.value t → 4 * count t ≤ 4 + length i.value
+  pub bound : (i : Item) (t : T) → (level.row i.first i.second).means i.value t
+      → 4 * count t ≤ 4 + length i.value
 
 -- one tree for each item
 pub one_each : {T : Type 0} (level : Level T) → Counts level (λ t. 1)
 one_each level = record { bound = λ i t m. omega arith }
 
-items_count : {T : Type 0} (level : Level T) (count : T → ℕ) → Counts level count → (is : List Item) (ts : List T) → ItemsMean level is ts → 4 * total count ts ≤ length (flat_map item_bytes is)
+items_count : {T : Type 0} (level : Level T) (count : T → ℕ) → Counts level count
+    → (is : List Item) (ts : List T) → ItemsMean level is ts
+    → 4 * total count ts ≤ length (flat_map item_bytes is)
 items_count level count law [] [] m = omega arith
 items_count level count law [] (t ∷ ts) m = absurd m
 items_count level count law (i ∷ is) [] m = absurd m
@@ -24,12 +27,17 @@ items_count level count law (i ∷ is) (t ∷ ts) m =
     let item = length-item i in
     let here = law.bound i t m.0 in
     let rest = items_count level count law is ts m.1 in
-    sum_bound (count t) (total count ts) (length i.value) (length i.padding) (length (flat_map item_bytes is)) (length (flat_map item_bytes (i ∷ is))) here rest (whole ∙ ap (λ (n : ℕ). n + length (flat_map item_bytes is)) item) where
-      sum_bound : (c d n p r all : ℕ) → 4 * c ≤ 4 + n → 4 * d ≤ r → all ≡ 4 + (n + p) + r → 4 * (c + d) ≤ all
+    sum_bound (count t) (total count ts) (length i.value) (length i.padding)
+    (length (flat_map item_bytes is)) (length (flat_map item_bytes (i ∷ is))) here rest
+    (whole ∙ ap (λ (n : ℕ). n + length (flat_map item_bytes is)) item) where
+      sum_bound : (c d n p r all : ℕ) → 4 * c ≤ 4 + n → 4 * d ≤ r → all ≡ 4 + (n + p) + r
+          → 4 * (c + d) ≤ all
       sum_bound c d n p r all h k e = omega (arith, h, e, k)
 
-pub list_count : {T : Type 0} (level : Level T) (count : T → ℕ) → Counts level count → (bytes : List ℕ) (ts : List T) → MeansTrees level bytes ts → 4 * total count ts ≤ length bytes
-list_count level count law bytes ts m = subst (λ (n : ℕ). 4 * total count ts ≤ n) (ap length (sym m.are.split)) (items_count level count law m.items ts m.mean)
+pub list_count : {T : Type 0} (level : Level T) (count : T → ℕ) → Counts level count
+    → (bytes : List ℕ) (ts : List T) → MeansTrees level bytes ts → 4 * total count ts ≤ length bytes
+list_count level count law bytes ts m = subst (λ (n : ℕ). 4 * total count ts ≤ n)
+    (ap length (sym m.are.split)) (items_count level count law m.items ts m.mean)
 
 -- as many as the list is long, where each counts as one
 pub total-one : {T : Type 0} (ts : List T) → total (λ (t : T). 1) ts ≡ length ts

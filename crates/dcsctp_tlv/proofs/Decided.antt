@@ -7,7 +7,8 @@ use Rattle.dcsctp_tlv.specs.Decided.{SplitsOneWay, IsRowDecided, IsDecided}
 use Rattle.dcsctp_tlv.proofs.Items.{AreBefore, items_before}
 use Rattle.dcsctp_tlv.proofs.Laws.{LawfulRow, Lawful, after, list_one, list_apart, list_same, list_place, list_some}
 
-items_one : (rule : PaddingRule) (is js : List Item) → flat_map item_bytes is ++ [] ≡ flat_map item_bytes js ++ [] → AreBefore rule is [] → AreBefore rule js [] → is ≡ js
+items_one : (rule : PaddingRule) (is js : List Item) → flat_map item_bytes is ++ []
+    ≡ flat_map item_bytes js ++ [] → AreBefore rule is [] → AreBefore rule js [] → is ≡ js
 items_one rule [] [] e p q = refl
 items_one rule [] (j ∷ js) e p q = absurd cc
 items_one rule (i ∷ is) [] e p q = absurd cc
@@ -18,7 +19,8 @@ items_one rule (i ∷ is) (j ∷ js) e p q =
     cc
 
 pub splits_one_way : (rule : PaddingRule) → SplitsOneWay rule
-splits_one_way rule bytes is js p q = items_one rule is js (ap (λ (x : List ℕ). x ++ []) (sym p.split ∙ q.split)) (items_before rule is p.formed) (items_before rule js q.formed)
+splits_one_way rule bytes is js p q = items_one rule is js (ap (λ (x : List ℕ). x ++ [])
+    (sym p.split ∙ q.split)) (items_before rule is p.formed) (items_before rule js q.formed)
 
 row_decided : {T : Type 0} {row : Row T} → LawfulRow row → IsRowDecided row
 row_decided law = record {

@@ -1,4 +1,5 @@
--- From what a call answers to what it answers exactly, wherever the grammar gives one answer at most.
+-- From what a call answers to what it answers exactly, wherever the grammar gives one answer at
+-- most.
 use Rattle.std.proofs.Common.{◌≡◌, ℕ, true, false, List, Result, Ok, Err, inl, inr, refl, sym, ap, subst, ◌∙◌, length, get_or, Fits}
 use Rattle.std.specs.Prelude.{IsOk, IsErrOf}
 use Rattle.std.specs.Int.{w8}
@@ -20,19 +21,27 @@ pub record Distinct {F E : Type 0} (errors : Errors F E) : Type 0 where
   pub apart : (f : F) → errors.lack (errors.of f) → ⊥
 
 -- where there is one answer at most, and memory runs out only where it is a value
-pub exactly : {X T E F : Type 0} (errors : Errors F E) → Distinct errors → (view : X → T) (answer : Result T F → Type 0) → Single answer → (r : Result X E) → Answers errors view answer r
+pub exactly : {X T E F : Type 0} (errors : Errors F E) → Distinct errors
+    → (view : X → T) (answer : Result T F → Type 0) → Single answer → (r : Result X E)
+    → Answers errors view answer r
     → ((e : E) → r ≡ Err e → errors.lack e → (t : T) × answer (Ok t)) → Exactly errors view answer r
 exactly errors distinct view answer single (Ok x) a memory = record {
   answers = a;
   value = λ t m. (let h : Ok (view x) ≡ Ok t = single (Ok (view x)) (Ok t) a m in cc);
-  fault = λ f. ((λ h. absurd cc), (λ g. absurd (let h : Ok (view x) ≡ Err f = single (Ok (view x)) (Err f) a g in cc)));
+  fault = λ f. (
+    (λ h. absurd cc),
+    (λ g. absurd (let h : Ok (view x) ≡ Err f = single (Ok (view x)) (Err f) a
+        g in cc)),
+  );
 }
 exactly errors distinct view answer single (Err e) (inl found) memory = record {
   answers = inl found;
   value = λ t m. absurd (let h : Ok t ≡ Err found.0 = single (Ok t) (Err found.0) m found.2 in cc);
   fault = λ f. (
-    (λ h. (let is : e ≡ errors.of f = cc in subst (λ y. answer (Err y)) (distinct.one found.0 f (sym found.1 ∙ is)) found.2)),
-    (λ g. (let h : Err found.0 ≡ Err f = single (Err found.0) (Err f) found.2 g in let same : found.0 ≡ f = cc in ap Err (found.1 ∙ ap errors.of same))),
+    (λ h. (let is : e ≡ errors.of f = cc in
+        subst (λ y. answer (Err y)) (distinct.one found.0 f (sym found.1 ∙ is)) found.2)),
+    (λ g. (let h : Err found.0 ≡ Err f = single (Err found.0) (Err f) found.2 g in
+        let same : found.0 ≡ f = cc in ap Err (found.1 ∙ ap errors.of same))),
   );
 }
 exactly errors distinct view answer single (Err e) (inr lacks) memory = record {
@@ -40,7 +49,8 @@ exactly errors distinct view answer single (Err e) (inr lacks) memory = record {
   value = λ t m. lacks;
   fault = λ f. (
     (λ h. absurd (let is : e ≡ errors.of f = cc in distinct.apart f (subst errors.lack is lacks))),
-    (λ g. absurd (let m = memory e refl lacks in let h : Ok m.0 ≡ Err f = single (Ok m.0) (Err f) m.1 g in cc)),
+    (λ g. absurd (let m = memory e refl lacks in let h : Ok m.0 ≡ Err f = single (Ok m.0) (Err f)
+        m.1 g in cc)),
   );
 }
 
@@ -73,42 +83,66 @@ checking_distinct = record { one = error_one; apart = λ f none. none }
 pub read_single : {T F : Type 0} (read : Result T F) → Single (λ a. read ≡ a)
 read_single read a b p q = sym p ∙ q
 
-pub row_single : {T : Type 0} (row : Row T) → LawfulRow row → (v : List ℕ) → AreBytes v → Single (RowAnswer row v)
+pub row_single : {T : Type 0} (row : Row T) → LawfulRow row → (v : List ℕ) → AreBytes v
+    → Single (RowAnswer row v)
 row_single row law v fits (Ok s) (Ok t) m n = ap Ok (law.one v s t m n)
 row_single row law v fits (Ok t) (Err e) m f = absurd (law.apart v t e fits m f)
 row_single row law v fits (Err e) (Ok t) f m = absurd (law.apart v t e fits m f)
 row_single row law v fits (Err d) (Err e) f g = ap Err (law.same v d e fits f g)
 
-pub list_single : {T : Type 0} (level : Level T) → Lawful level → (bytes : List ℕ) → AreBytes bytes → Single (ListAnswer level bytes)
+pub list_single : {T : Type 0} (level : Level T) → Lawful level → (bytes : List ℕ) → AreBytes bytes
+    → Single (ListAnswer level bytes)
 list_single level law bytes fits (Ok s) (Ok t) m n = ap Ok (list_one level law bytes s t m n)
-list_single level law bytes fits (Ok t) (Err e) m f = absurd (list_apart level law bytes t e fits m f)
-list_single level law bytes fits (Err e) (Ok t) f m = absurd (list_apart level law bytes t e fits m f)
-list_single level law bytes fits (Err d) (Err e) f g = ap Err (list_same level law bytes d e fits f g)
+list_single level law bytes fits (Ok t) (Err e) m f =
+    absurd (list_apart level law bytes t e fits m f)
+list_single level law bytes fits (Err e) (Ok t) f m =
+    absurd (list_apart level law bytes t e fits m f)
+list_single level law bytes fits (Err d) (Err e) f g =
+    ap Err (list_same level law bytes d e fits f g)
 
-pub counted_single : {T F : Type 0} (count : T → ℕ) (answer : Result T F → Type 0) → Single answer → Single (Counted count answer)
-counted_single count answer single (Ok m) (Ok n) p q = (let h : Ok p.0 ≡ Ok q.0 = single (Ok p.0) (Ok q.0) p.1 q.1 in let same : p.0 ≡ q.0 = cc in ap Ok (p.2 ∙ ap count same ∙ sym q.2))
-counted_single count answer single (Ok m) (Err f) p g = absurd (let h : Ok p.0 ≡ Err f = single (Ok p.0) (Err f) p.1 g in cc)
-counted_single count answer single (Err f) (Ok n) g q = absurd (let h : Ok q.0 ≡ Err f = single (Ok q.0) (Err f) q.1 g in cc)
-counted_single count answer single (Err f) (Err g) p q = (let h : Err f ≡ Err g = single (Err f) (Err g) p q in let same : f ≡ g = cc in ap Err same)
+pub counted_single : {T F : Type 0} (count : T → ℕ) (answer : Result T F → Type 0) → Single answer
+    → Single (Counted count answer)
+counted_single count answer single (Ok m) (Ok n) p q = (let h : Ok p.0 ≡ Ok q.0 = single (Ok p.0)
+    (Ok q.0) p.1 q.1 in let same : p.0 ≡ q.0 = cc in ap Ok (p.2 ∙ ap count same ∙ sym q.2))
+counted_single count answer single (Ok m) (Err f) p g =
+    absurd (let h : Ok p.0 ≡ Err f = single (Ok p.0) (Err f) p.1 g in cc)
+counted_single count answer single (Err f) (Ok n) g q =
+    absurd (let h : Ok q.0 ≡ Err f = single (Ok q.0) (Err f) q.1 g in cc)
+counted_single count answer single (Err f) (Err g) p q =
+    (let h : Err f ≡ Err g = single (Err f) (Err g) p q in let same : f ≡ g = cc in ap Err same)
 
 -- ---- of a reader of items
 
 -- the answer where memory ran out
-pub lacks : {X T : Type 0} (r : Result X ChunkParseError) (view : X → T) (answer : Result T Fault → Type 0) → (IsErrOf r OutOfMemory → (t : T) × answer (Ok t)) → (e : ChunkParseError) → r ≡ Err e → e ≡ OutOfMemory → (t : T) × answer (Ok t)
+pub lacks : {X T : Type 0} (r : Result X ChunkParseError) (view : X → T) (answer : Result T Fault
+    → Type 0) → (IsErrOf r OutOfMemory → (t : T) × answer (Ok t)) → (e : ChunkParseError)
+    → r ≡ Err e → e ≡ OutOfMemory → (t : T) × answer (Ok t)
 lacks r view answer memory e is h = memory (is ∙ ap Err h)
 
 -- a value has one answer under a lawful row
-pub row_exactly : {X T : Type 0} {row : Row T} → LawfulRow row → (v : List ℕ) → ((i : ℕ) → Fits w8 (get_or v i 0)) → {view : X → T} {r : Result X ChunkParseError}
-    → Answers reading view (RowAnswer row v) r × (IsErrOf r OutOfMemory → (t : T) × row.means v t) → Exactly reading view (RowAnswer row v) r
-row_exactly {X} {T} {row} law v fits {view} {r} a = exactly reading reading_distinct view (RowAnswer row v) (row_single row law v (λ i. (fits i).fits)) r a.0 (lacks r view (RowAnswer row v) a.1)
+pub row_exactly : {X T : Type 0} {row : Row T} → LawfulRow row → (v : List ℕ)
+    → ((i : ℕ) → Fits w8 (get_or v i 0)) → {view : X → T} {r : Result X ChunkParseError}
+    → Answers reading view (RowAnswer row v) r × (IsErrOf r OutOfMemory → (t : T) × row.means v t)
+    → Exactly reading view (RowAnswer row v) r
+row_exactly {X} {T} {row} law v fits {view} {r} a = exactly reading reading_distinct view
+    (RowAnswer row v) (row_single row law v (λ i. (fits i).fits)) r a.0
+    (lacks r view (RowAnswer row v) a.1)
 
 -- the same of a list,
-pub list_exactly : {X T : Type 0} (level : Level T) → Lawful level → (bytes : List ℕ) → AreBytes bytes → (view : X → List T) (r : Result X ChunkParseError)
-    → Answers reading view (ListAnswer level bytes) r → (IsErrOf r OutOfMemory → (ts : List T) × MeansTrees level bytes ts) → Exactly reading view (ListAnswer level bytes) r
-list_exactly level law bytes fits view r a memory = exactly reading reading_distinct view (ListAnswer level bytes) (list_single level law bytes fits) r a (lacks r view (ListAnswer level bytes) memory)
+pub list_exactly : {X T : Type 0} (level : Level T) → Lawful level → (bytes : List ℕ)
+    → AreBytes bytes → (view : X → List T) (r : Result X ChunkParseError)
+    → Answers reading view (ListAnswer level bytes) r → (IsErrOf r OutOfMemory → (ts : List T)
+    × MeansTrees level bytes ts) → Exactly reading view (ListAnswer level bytes) r
+list_exactly level law bytes fits view r a memory = exactly reading reading_distinct view
+    (ListAnswer level bytes) (list_single level law bytes fits) r a
+    (lacks r view (ListAnswer level bytes) memory)
 
 -- and of its check
-pub count_exactly : {T : Type 0} (level : Level T) → Lawful level → (bytes : List ℕ) → AreBytes bytes → (r : Result ℕ ChunkParseError)
-    → Answers checking (λ (n : ℕ). n) (Counted length (ListAnswer level bytes)) r → Exactly checking (λ (n : ℕ). n) (Counted length (ListAnswer level bytes)) r
+pub count_exactly : {T : Type 0} (level : Level T) → Lawful level → (bytes : List ℕ)
+    → AreBytes bytes → (r : Result ℕ ChunkParseError)
+    → Answers checking (λ (n : ℕ). n) (Counted length (ListAnswer level bytes)) r
+    → Exactly checking (λ (n : ℕ). n) (Counted length (ListAnswer level bytes)) r
 count_exactly level law bytes fits r a =
-    exactly checking checking_distinct (λ n. n) (Counted length (ListAnswer level bytes)) (counted_single length (ListAnswer level bytes) (list_single level law bytes fits)) r a (λ e is none. absurd none)
+    exactly checking checking_distinct (λ n. n) (Counted length (ListAnswer level bytes))
+    (counted_single length (ListAnswer level bytes) (list_single level law bytes fits)) r a
+    (λ e is none. absurd none)

@@ -9,12 +9,14 @@ use Rattle.dcsctp_tlv.proofs.KindLaws.{KindLaws, of_map_ok}
 
 -- each tree that a row means is well-formed
 pub record FormsTrees {T : Type 0} (level : Level T) (IsFormed : T → Type 0) : Type 0 where
-  pub formed : (first second : ℕ) (value : List ℕ) (t : T) → (level.row first second).means value t → IsFormed t
+  pub formed : (first second : ℕ) (value : List ℕ) (t : T) → (level.row first second).means value t
+      → IsFormed t
 
 -- ---- rows
 
 -- what holds of the row that is picked: of each, where the test says so
-pub picked : {T : Type 0} (Holds : Row T → Type 0) (b : Bool) (row others : Row T) → (b ≡ true → Holds row) → (b ≡ false → Holds others) → Holds (pick b row others)
+pub picked : {T : Type 0} (Holds : Row T → Type 0) (b : Bool) (row others : Row T)
+    → (b ≡ true → Holds row) → (b ≡ false → Holds others) → Holds (pick b row others)
 picked Holds true row others p q = p refl
 picked Holds false row others p q = q refl
 
@@ -22,34 +24,43 @@ abbrev pub FormsRow : {T : Type 0} → (T → Type 0) → Row T → Type 0
 FormsRow {T} IsFormed row = (value : List ℕ) (t : T) → row.means value t → IsFormed t
 
 -- a kind whose value is read at fixed places
-pub plain_forms : {X T : Type 0} {read : ℕ → ℕ → List ℕ → Result X Fault} {tlv : X → Tlv} {IsInWidth IsWellFormed : X → Type 0} → KindLaws read tlv IsInWidth IsWellFormed
-    → (tree : X → T) (IsFormed : T → Type 0) (first second : ℕ) → ((x : X) → IsWellFormed x → IsFormed (tree x)) → FormsRow IsFormed (plain (λ value. map_ok tree (read first second value)))
+pub plain_forms : {X T : Type 0} {read : ℕ → ℕ → List ℕ → Result X Fault} {tlv : X
+    → Tlv} {IsInWidth IsWellFormed : X → Type 0} → KindLaws read tlv IsInWidth IsWellFormed
+    → (tree : X → T) (IsFormed : T → Type 0) (first second : ℕ)
+    → ((x : X) → IsWellFormed x → IsFormed (tree x))
+    → FormsRow IsFormed (plain (λ value. map_ok tree (read first second value)))
 plain_forms {X} {T} {read} laws tree IsFormed first second law value t e =
     let x = of_map_ok tree (read first second value) t e in
     subst IsFormed (sym x.1.1) (law x.0 (laws.formed first second value x.0 x.1.0))
 
 -- ---- lists
 
-items_form : {T : Type 0} (level : Level T) (IsFormed : T → Type 0) → FormsTrees level IsFormed → (is : List Item) (ts : List T) → ItemsMean level is ts → AllByRecursion IsFormed ts
+items_form : {T : Type 0} (level : Level T) (IsFormed : T → Type 0) → FormsTrees level IsFormed
+    → (is : List Item) (ts : List T) → ItemsMean level is ts → AllByRecursion IsFormed ts
 items_form level IsFormed forms [] [] m = tt
 items_form level IsFormed forms [] (t ∷ ts) m = absurd m
 items_form level IsFormed forms (i ∷ is) [] m = absurd m
-items_form level IsFormed forms (i ∷ is) (t ∷ ts) m = (forms.formed i.first i.second i.value t m.0, items_form level IsFormed forms is ts m.1)
+items_form level IsFormed forms (i ∷ is) (t ∷ ts) m =
+    (forms.formed i.first i.second i.value t m.0, items_form level IsFormed forms is ts m.1)
 
-pub list_formed : {T : Type 0} (level : Level T) (IsFormed : T → Type 0) → FormsTrees level IsFormed → (bytes : List ℕ) (ts : List T) → MeansTrees level bytes ts → AllByRecursion IsFormed ts
+pub list_formed : {T : Type 0} (level : Level T) (IsFormed : T → Type 0) → FormsTrees level IsFormed
+    → (bytes : List ℕ) (ts : List T) → MeansTrees level bytes ts → AllByRecursion IsFormed ts
 list_formed level IsFormed forms bytes ts m = items_form level IsFormed forms m.items ts m.mean
 
 -- ---- no items
 
-no_items : {T : Type 0} (level : Level T) (is : List Item) → ItemsMean level is [] → flat_map item_bytes is ≡ []
+no_items : {T : Type 0} (level : Level T) (is : List Item) → ItemsMean level is []
+    → flat_map item_bytes is ≡ []
 no_items level [] m = refl
 no_items level (i ∷ is) m = absurd m
 
 -- no trees are meant by an empty list of bytes, and by no other
-pub nil_means : {T : Type 0} (level : Level T) (bytes : List ℕ) → MeansTrees level bytes [] → bytes ≡ []
+pub nil_means : {T : Type 0} (level : Level T) (bytes : List ℕ) → MeansTrees level bytes []
+    → bytes ≡ []
 nil_means level bytes m = m.are.split ∙ no_items level m.items m.mean
 
-no_trees : {T : Type 0} (level : Level T) (is : List Item) (ts : List T) → [] ≡ flat_map item_bytes is → ItemsMean level is ts → ts ≡ []
+no_trees : {T : Type 0} (level : Level T) (is : List Item) (ts : List T)
+    → [] ≡ flat_map item_bytes is → ItemsMean level is ts → ts ≡ []
 no_trees level [] [] e m = refl
 no_trees level [] (t ∷ ts) e m = absurd m
 no_trees level (i ∷ is) ts e m = absurd cc

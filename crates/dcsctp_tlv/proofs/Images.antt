@@ -9,13 +9,16 @@ use Rattle.dcsctp_tlv.specs.Image.{solid, holes, written, zeroed, gap, Tlv, size
 
 -- ---- writing
 
-written-append : (p q : List (Option ℕ)) (old : List ℕ) → written (p ++ q) old ≡ take (length p) (written p old) ++ written q (drop (length p) old)
+written-append : (p q : List (Option ℕ)) (old : List ℕ) → written (p ++ q) old ≡ take (length p)
+    (written p old) ++ written q (drop (length p) old)
 written-append [] q old = refl
 written-append (c ∷ p) [] [] = refl
 written-append (c ∷ p) (d ∷ q) [] = refl
-written-append (c ∷ p) q (x ∷ old) = ap (λ (ys : List ℕ). unwrap_or c x ∷ ys) (written-append p q old)
+written-append (c ∷ p) q (x ∷ old) =
+    ap (λ (ys : List ℕ). unwrap_or c x ∷ ys) (written-append p q old)
 
-pub drop-written : (p : List (Option ℕ)) (old : List ℕ) → drop (length p) (written p old) ≡ drop (length p) old
+pub drop-written : (p : List (Option ℕ)) (old : List ℕ) → drop (length p) (written p old)
+    ≡ drop (length p) old
 drop-written [] old = refl
 drop-written (c ∷ p) [] = refl
 drop-written (c ∷ p) (x ∷ old) = drop-written p old
@@ -25,18 +28,23 @@ written-holes zero old = refl
 written-holes (suc n) [] = refl
 written-holes (suc n) (x ∷ old) = ap (λ (ys : List ℕ). x ∷ ys) (written-holes n old)
 
-pub written-solid : (bytes old : List ℕ) → length bytes ≤ length old → written (solid bytes) old ≡ bytes ++ drop (length bytes) old
+pub written-solid : (bytes old : List ℕ) → length bytes ≤ length old → written (solid bytes) old
+    ≡ bytes ++ drop (length bytes) old
 written-solid [] old le = refl
 written-solid (b ∷ bytes) [] le = absurd (omega arith)
-written-solid (b ∷ bytes) (x ∷ old) le = ap (λ (ys : List ℕ). b ∷ ys) (written-solid bytes old (omega arith))
+written-solid (b ∷ bytes) (x ∷ old) le =
+    ap (λ (ys : List ℕ). b ∷ ys) (written-solid bytes old (omega arith))
 
 -- bytes at the front, and after them an image
-written_after : (front : List ℕ) (image : List (Option ℕ)) (old out : List ℕ) → out ≡ front ++ drop (length front) old → length front ≤ length old
-    → take (length front) out ++ written image (drop (length front) out) ≡ written (solid front ++ image) old
+written_after : (front : List ℕ) (image : List (Option ℕ)) (old out : List ℕ)
+    → out ≡ front ++ drop (length front) old → length front ≤ length old
+    → take (length front) out ++ written image (drop (length front) out)
+    ≡ written (solid front ++ image) old
 written_after front image old out e room =
     let len : length (solid front) ≡ length front = length-map front Some in
     let is : out ≡ written (solid front) old = e ∙ sym (written-solid front old room) in
-    let after : drop (length front) out ≡ drop (length front) old = ap (drop (length front)) e ∙ drop_at front (drop (length front) old) (length front) refl in
+    let after : drop (length front) out ≡ drop (length front) old =
+    ap (drop (length front)) e ∙ drop_at front (drop (length front) old) (length front) refl in
     ap (λ (xs : List ℕ). take (length front) out ++ written image xs) after
     ∙ ap (λ (xs : List ℕ). take (length front) xs ++ written image (drop (length front) old)) is
     ∙ ap (λ (n : ℕ). take n (written (solid front) old) ++ written image (drop n old)) (sym len)
@@ -45,22 +53,28 @@ written_after front image old out e room =
 -- ---- items
 
 -- a header at the front, and after it a value
-pub written_item : (t : Tlv) (old out : List ℕ) → out ≡ header t.first t.second t.value_size ++ drop 4 old → 4 ≤ length old
+pub written_item : (t : Tlv) (old out : List ℕ) → out ≡ header t.first t.second t.value_size
+    ++ drop 4 old → 4 ≤ length old
     → take 4 out ++ written t.value (drop 4 out) ≡ written (image_of t) old
 unfolding image_of
-written_item t old out e room = written_after (header t.first t.second t.value_size) t.value old out e room
+written_item t old out e room =
+    written_after (header t.first t.second t.value_size) t.value old out e room
 
 -- ---- lists of items
 
 -- an item after an image and its gap
-written_next : (p i : List (Option ℕ)) (n start : ℕ) (old out : List ℕ) → out ≡ written p old → start ≡ length p + n → take start out ++ written i (drop start out) ≡ written (p ++ (holes n ++ i)) old
+written_next : (p i : List (Option ℕ)) (n start : ℕ) (old out : List ℕ) → out ≡ written p old
+    → start ≡ length p + n → take start out ++ written i (drop start out)
+    ≡ written (p ++ (holes n ++ i)) old
 written_next p i n start old out e s =
     let q : List (Option ℕ) = p ++ holes n in
     let same : written q old ≡ written p old =
     written-append p (holes n) old
-    ∙ ap (λ (ys : List ℕ). take (length p) (written p old) ++ ys) (written-holes n (drop (length p) old) ∙ sym (drop-written p old))
+    ∙ ap (λ (ys : List ℕ). take (length p) (written p old) ++ ys)
+    (written-holes n (drop (length p) old) ∙ sym (drop-written p old))
     ∙ take-append-drop (length p) (written p old) in
-    let len : length q ≡ start = length-append p (holes n) ∙ ap (λ (k : ℕ). length p + k) (length-replicate n None) ∙ sym s in
+    let len : length q ≡ start = length-append p (holes n) ∙ ap (λ (k : ℕ). length p + k)
+    (length-replicate n None) ∙ sym s in
     let after : drop start out ≡ drop start old = rw (← len, e, ← same) (drop-written q old) in
     sym (ap (λ (image : List (Option ℕ)). written image old) (sym (append_assoc p (holes n) i))
     ∙ written-append q i old
@@ -74,13 +88,21 @@ round_up-add a b = omega arith
 gap-add : (a b : ℕ) → gap (a + (gap a + b)) ≡ gap b
 gap-add a b = omega arith
 
-list_size-push : {T : Type 0} (tlv : T → Tlv) (ts : List T) (t : T) → list_size tlv (ts ++ t ∷ []) ≡ round_up_to_4 (list_size tlv ts) + size_of (tlv t)
+list_size-push : {T : Type 0} (tlv : T → Tlv) (ts : List T) (t : T) → list_size tlv (ts ++ t ∷ [])
+    ≡ round_up_to_4 (list_size tlv ts) + size_of (tlv t)
 list_size-push tlv [] t = omega arith
 list_size-push tlv (u ∷ []) t = refl
-list_size-push tlv (u ∷ v ∷ ts) t = ap (λ (n : ℕ). round_up_to_4 (size_of (tlv u)) + n) (list_size-push tlv (v ∷ ts) t) ∙ omega (arith, round_up-add (size_of (tlv u)) (list_size tlv (v ∷ ts)))
+list_size-push tlv (u ∷ v ∷ ts) t = ap (λ (n : ℕ). round_up_to_4 (size_of (tlv u)) + n)
+    (list_size-push tlv (v ∷ ts) t) ∙ omega (
+      arith,
+      round_up-add (size_of (tlv u))
+          (list_size tlv (v ∷ ts)),
+    )
 
 -- the image of a list is as long as its size
-pub length-list_image : {T : Type 0} (tlv : T → Tlv) → ((t : T) → length (image_of (tlv t)) ≡ size_of (tlv t)) → (ts : List T) → length (list_image tlv ts) ≡ list_size tlv ts
+pub length-list_image : {T : Type 0} (tlv : T → Tlv)
+    → ((t : T) → length (image_of (tlv t)) ≡ size_of (tlv t)) → (ts : List T)
+    → length (list_image tlv ts) ≡ list_size tlv ts
 length-list_image tlv law [] = refl
 length-list_image tlv law (t ∷ []) = law t
 length-list_image tlv law (t ∷ u ∷ ts) =
@@ -93,86 +115,112 @@ length-list_image tlv law (t ∷ u ∷ ts) =
     let e = law t in
     a ∙ omega (arith, b, c, rest, e)
 
-list_image-push : {T : Type 0} (tlv : T → Tlv) (ts : List T) (t : T) → list_image tlv (ts ++ t ∷ []) ≡ list_image tlv ts ++ (holes (gap (list_size tlv ts)) ++ image_of (tlv t))
+list_image-push : {T : Type 0} (tlv : T → Tlv) (ts : List T) (t : T) → list_image tlv (ts ++ t ∷ [])
+    ≡ list_image tlv ts ++ (holes (gap (list_size tlv ts)) ++ image_of (tlv t))
 list_image-push tlv [] t = refl
 list_image-push tlv (u ∷ []) t = refl
 list_image-push tlv (u ∷ v ∷ ts) t =
     let h = holes (gap (size_of (tlv u))) in
     let l = list_image tlv (v ∷ ts) in
     let n = list_size tlv (v ∷ ts) in
-    let k : gap n ≡ gap (list_size tlv (u ∷ v ∷ ts)) = sym (gap-add (size_of (tlv u)) n) ∙ ap gap (omega arith) in
+    let k : gap n ≡ gap (list_size tlv (u ∷ v ∷ ts)) =
+    sym (gap-add (size_of (tlv u)) n) ∙ ap gap (omega arith) in
     ap (λ (x : List (Option ℕ)). image_of (tlv u) ++ (h ++ x)) (list_image-push tlv (v ∷ ts) t)
-    ∙ ap (λ (x : List (Option ℕ)). image_of (tlv u) ++ x) (sym (append_assoc h l (holes (gap n) ++ image_of (tlv t))))
+    ∙ ap (λ (x : List (Option ℕ)). image_of (tlv u) ++ x)
+    (sym (append_assoc h l (holes (gap n) ++ image_of (tlv t))))
     ∙ sym (append_assoc (image_of (tlv u)) (h ++ l) (holes (gap n) ++ image_of (tlv t)))
     ∙ ap (λ (m : ℕ). (image_of (tlv u) ++ (h ++ l)) ++ (holes m ++ image_of (tlv t))) k
 
-size_front : {T : Type 0} (tlv : T → Tlv) (ts us : List T) → list_size tlv ts ≤ list_size tlv (ts ++ us)
+size_front : {T : Type 0} (tlv : T → Tlv) (ts us : List T)
+    → list_size tlv ts ≤ list_size tlv (ts ++ us)
 size_front tlv [] us = omega arith
 size_front tlv (t ∷ []) [] = omega arith
 size_front tlv (t ∷ []) (u ∷ us) = omega arith
 size_front tlv (t ∷ u ∷ ts) us = let h = size_front tlv (u ∷ ts) us in omega (arith, h)
 
 -- the next item fits after those before it
-next_size : {T : Type 0} (tlv : T → Tlv) (ts : List T) (i : ℕ) (t : T) → i < length ts → t ≡ get_or ts i t
-    → (list_size tlv (take (i + 1) ts) ≡ round_up_to_4 (list_size tlv (take i ts)) + size_of (tlv t)) × (list_size tlv (take (i + 1) ts) ≤ list_size tlv ts)
+next_size : {T : Type 0} (tlv : T → Tlv) (ts : List T) (i : ℕ) (t : T) → i < length ts
+    → t ≡ get_or ts i t
+    → (list_size tlv (take (i + 1) ts) ≡ round_up_to_4 (list_size tlv (take i ts))
+    + size_of (tlv t)) × (list_size tlv (take (i + 1) ts) ≤ list_size tlv ts)
 next_size tlv ts i t lt e =
-    let more : take (i + 1) ts ≡ take i ts ++ t ∷ [] = take_more ts i t lt ∙ ap (λ (x : _). take i ts ++ x ∷ []) (sym e) in (
+    let more : take (i + 1) ts ≡ take i ts ++ t ∷ [] =
+    take_more ts i t lt ∙ ap (λ (x : _). take i ts ++ x ∷ []) (sym e) in (
       ap (list_size tlv) more ∙ list_size-push tlv (take i ts) t,
-      subst (λ (all : List _). list_size tlv (take (i + 1) ts) ≤ list_size tlv all) (take-append-drop (i + 1) ts) (size_front tlv (take (i + 1) ts) (drop (i + 1) ts)),
+      subst (λ (all : List _). list_size tlv (take (i + 1) ts) ≤ list_size tlv all)
+          (take-append-drop (i + 1) ts) (size_front tlv (take (i + 1) ts) (drop (i + 1) ts)),
     )
 
 -- the same for a list that can be written
-pub room_for : {T : Type 0} (tlv : T → Tlv) (placed : T → Type 0) (ts : List T) (i : ℕ) (t : T) → IsListEncodable tlv placed ts → i < length ts → t ≡ get_or ts i t
-    → placed t × (list_size tlv (take (i + 1) ts) ≡ round_up_to_4 (list_size tlv (take i ts)) + size_of (tlv t)) × (list_size tlv (take (i + 1) ts) ≤ list_size tlv ts)
+pub room_for : {T : Type 0} (tlv : T → Tlv) (placed : T → Type 0) (ts : List T) (i : ℕ) (t : T)
+    → IsListEncodable tlv placed ts → i < length ts → t ≡ get_or ts i t
+    → placed t × (list_size tlv (take (i + 1) ts) ≡ round_up_to_4 (list_size tlv (take i ts))
+    + size_of (tlv t)) × (list_size tlv (take (i + 1) ts) ≤ list_size tlv ts)
 room_for tlv placed ts i t h lt e =
     let n = next_size tlv ts i t lt e in
     (subst placed (sym e) (h.each i t lt), n.0, n.1)
 
 -- what follows for each item
-pub all_from : {T : Type 0} (P Q : T → Type 0) (ts : List T) → ((t : T) → P t → Q t) → AllByRecursion P ts → AllByRecursion Q ts
+pub all_from : {T : Type 0} (P Q : T → Type 0) (ts : List T) → ((t : T) → P t → Q t)
+    → AllByRecursion P ts → AllByRecursion Q ts
 all_from P Q [] law h = tt
 all_from P Q (t ∷ ts) law h = (law t h.0, all_from P Q ts law h.1)
 
-pub all_take : {T : Type 0} (P : T → Type 0) (i : ℕ) (ts : List T) → AllByRecursion P ts → AllByRecursion P (take i ts)
+pub all_take : {T : Type 0} (P : T → Type 0) (i : ℕ) (ts : List T) → AllByRecursion P ts
+    → AllByRecursion P (take i ts)
 all_take P zero ts h = tt
 all_take P (suc i) [] h = tt
 all_take P (suc i) (t ∷ ts) h = (h.0, all_take P i ts h.1)
 
 -- one item more of a list is written
-pub written_more : {T : Type 0} (tlv : T → Tlv) (ts : List T) (i : ℕ) (t : T) (old out : List ℕ) (start : ℕ)
+pub written_more : {T : Type 0} (tlv : T → Tlv) (ts : List T) (i : ℕ) (t : T) (old out : List ℕ)
+    (start : ℕ)
     → ((x : T) → length (image_of (tlv x)) ≡ size_of (tlv x)) → i < length ts → t ≡ get_or ts i t
-    → out ≡ written (list_image tlv (take i ts)) old → start ≡ round_up_to_4 (list_size tlv (take i ts))
-    → take start out ++ written (image_of (tlv t)) (drop start out) ≡ written (list_image tlv (take (i + 1) ts)) old
+    → out ≡ written (list_image tlv (take i ts)) old
+    → start ≡ round_up_to_4 (list_size tlv (take i ts))
+    → take start out ++ written (image_of (tlv t)) (drop start out)
+    ≡ written (list_image tlv (take (i + 1) ts)) old
 written_more tlv ts i t old out start law lt e so_far here =
     let before = list_image tlv (take i ts) in
     let size = list_size tlv (take i ts) in
     let len : length before ≡ size = length-list_image tlv law (take i ts) in
-    let more : take (i + 1) ts ≡ take i ts ++ t ∷ [] = take_more ts i t lt ∙ ap (λ (x : _). take i ts ++ x ∷ []) (sym e) in
+    let more : take (i + 1) ts ≡ take i ts ++ t ∷ [] =
+    take_more ts i t lt ∙ ap (λ (x : _). take i ts ++ x ∷ []) (sym e) in
     let place : start ≡ length before + gap size = here ∙ omega (arith, len) in
     written_next before (image_of (tlv t)) (gap size) start old out so_far place
-    ∙ ap (λ (p : List (Option ℕ)). written p old) (sym (list_image-push tlv (take i ts) t) ∙ ap (list_image tlv) (sym more))
+    ∙ ap (λ (p : List (Option ℕ)). written p old) (sym (list_image-push tlv (take i ts) t)
+    ∙ ap (list_image tlv) (sym more))
 
 -- ---- the test of a list
 
-pub not_total : {T : Type 0} (tlv : T → Tlv) (placed : T → Type 0) (ts : List T) (i : ℕ) (t : T) (total : ℕ) → i < length ts → t ≡ get_or ts i t
-    → total ≡ list_size tlv (take i ts) → 65535 < round_up_to_4 total + size_of (tlv t) → IsListEncodable tlv placed ts → ⊥
+pub not_total : {T : Type 0} (tlv : T → Tlv) (placed : T → Type 0) (ts : List T) (i : ℕ) (t : T)
+    (total : ℕ) → i < length ts → t ≡ get_or ts i t
+    → total ≡ list_size tlv (take i ts) → 65535 < round_up_to_4 total + size_of (tlv t)
+    → IsListEncodable tlv placed ts → ⊥
 not_total tlv placed ts i t total lt e so_far big h =
     let n = room_for tlv placed ts i t h lt e in
     let k = ap round_up_to_4 so_far in
     omega (arith, n.1, n.2, h.total, k, big)
 
-pub total_more : {T : Type 0} (tlv : T → Tlv) (ts : List T) (i : ℕ) (t : T) (total next : ℕ) → i < length ts → t ≡ get_or ts i t
-    → total ≡ list_size tlv (take i ts) → next ≡ round_up_to_4 total + size_of (tlv t) → next ≡ list_size tlv (take (i + 1) ts)
-total_more tlv ts i t total next lt e so_far is = is ∙ ap (λ (n : ℕ). round_up_to_4 n + size_of (tlv t)) so_far ∙ sym (next_size tlv ts i t lt e).0
+pub total_more : {T : Type 0} (tlv : T → Tlv) (ts : List T) (i : ℕ) (t : T) (total next : ℕ)
+    → i < length ts → t ≡ get_or ts i t
+    → total ≡ list_size tlv (take i ts) → next ≡ round_up_to_4 total + size_of (tlv t)
+    → next ≡ list_size tlv (take (i + 1) ts)
+total_more tlv ts i t total next lt e so_far is = is ∙ ap (λ (n : ℕ). round_up_to_4 n
+    + size_of (tlv t)) so_far ∙ sym (next_size tlv ts i t lt e).0
 
-pub all_more : {T : Type 0} (P : T → Type 0) (ts : List T) (i : ℕ) (t : T) → i < length ts → t ≡ get_or ts i t → P t
-    → ((k : ℕ) (d : T) → k < i → P (get_or ts k d)) → (k : ℕ) (d : T) → k < i + 1 → P (get_or ts k d)
+pub all_more : {T : Type 0} (P : T → Type 0) (ts : List T) (i : ℕ) (t : T) → i < length ts
+    → t ≡ get_or ts i t → P t
+    → ((k : ℕ) (d : T) → k < i → P (get_or ts k d)) → (k : ℕ) (d : T) → k < i + 1
+    → P (get_or ts k d)
 all_more P ts i t lt e here before k d below = elim (cases_lt k i) [
   | inl less ↦ before k d less
-  | inr le ↦ (let same : i ≡ k = omega arith in subst P (get_or_read ts i t lt e d ∙ ap (λ (j : ℕ). get_or ts j d) same) here)
+  | inr le ↦ (let same : i ≡ k = omega arith in
+      subst P (get_or_read ts i t lt e d ∙ ap (λ (j : ℕ). get_or ts j d) same) here)
 ]
 
-pub all_done : {T : Type 0} (tlv : T → Tlv) (placed : T → Type 0) (ts : List T) (i total : ℕ) → length ts ≤ i → total ≡ list_size tlv (take i ts) → total < 2 ^ 16
+pub all_done : {T : Type 0} (tlv : T → Tlv) (placed : T → Type 0) (ts : List T) (i total : ℕ)
+    → length ts ≤ i → total ≡ list_size tlv (take i ts) → total < 2 ^ 16
     → ((k : ℕ) (d : T) → k < i → placed (get_or ts k d)) → IsListEncodable tlv placed ts
 all_done tlv placed ts i total le so_far small each =
     let whole : total ≡ list_size tlv ts = so_far ∙ ap (list_size tlv) (take_all i ts le) in
@@ -180,24 +228,30 @@ all_done tlv placed ts i total le so_far small each =
 
 -- ---- lists of the code's values, seen by view
 
-pub list_size-map : {A B : Type 0} (tlv : B → Tlv) (view : A → B) (xs : List A) → list_size (λ x. tlv (view x)) xs ≡ list_size tlv (map view xs)
+pub list_size-map : {A B : Type 0} (tlv : B → Tlv) (view : A → B) (xs : List A)
+    → list_size (λ x. tlv (view x)) xs ≡ list_size tlv (map view xs)
 list_size-map tlv view [] = refl
 list_size-map tlv view (x ∷ []) = refl
-list_size-map tlv view (x ∷ y ∷ xs) = ap (λ (n : ℕ). round_up_to_4 (size_of (tlv (view x))) + n) (list_size-map tlv view (y ∷ xs))
+list_size-map tlv view (x ∷ y ∷ xs) =
+    ap (λ (n : ℕ). round_up_to_4 (size_of (tlv (view x))) + n) (list_size-map tlv view (y ∷ xs))
 
-pub list_image-map : {A B : Type 0} (tlv : B → Tlv) (view : A → B) (xs : List A) → list_image (λ x. tlv (view x)) xs ≡ list_image tlv (map view xs)
+pub list_image-map : {A B : Type 0} (tlv : B → Tlv) (view : A → B) (xs : List A)
+    → list_image (λ x. tlv (view x)) xs ≡ list_image tlv (map view xs)
 list_image-map tlv view [] = refl
 list_image-map tlv view (x ∷ []) = refl
-list_image-map tlv view (x ∷ y ∷ xs) = ap (λ (p : List (Option ℕ)). image_of (tlv (view x)) ++ (holes (gap (size_of (tlv (view x)))) ++ p)) (list_image-map tlv view (y ∷ xs))
+list_image-map tlv view (x ∷ y ∷ xs) = ap (λ (p : List (Option ℕ)). image_of (tlv (view x))
+    ++ (holes (gap (size_of (tlv (view x)))) ++ p)) (list_image-map tlv view (y ∷ xs))
 
 -- ---- images over zeros
 
-pub written-zeros : (image : List (Option ℕ)) (n : ℕ) → length image ≤ n → written image (replicate n 0) ≡ zeroed image ++ replicate (n - length image) 0
+pub written-zeros : (image : List (Option ℕ)) (n : ℕ) → length image ≤ n
+    → written image (replicate n 0) ≡ zeroed image ++ replicate (n - length image) 0
 written-zeros [] n le = ap (λ (k : ℕ). replicate k 0) (let e : n ≡ n - 0 = omega arith in e)
 written-zeros (c ∷ image) zero le = absurd (omega arith)
 written-zeros (c ∷ image) (suc n) le =
     let k : n - length image ≡ suc n - suc (length image) = omega arith in
-    ap (λ (xs : List ℕ). unwrap_or c 0 ∷ xs) (written-zeros image n (omega arith) ∙ ap (λ (m : ℕ). zeroed image ++ replicate m 0) k)
+    ap (λ (xs : List ℕ). unwrap_or c 0 ∷ xs) (written-zeros image n (omega arith)
+    ∙ ap (λ (m : ℕ). zeroed image ++ replicate m 0) k)
 
 pub zeroed-append : (a b : List (Option ℕ)) → zeroed (a ++ b) ≡ zeroed a ++ zeroed b
 zeroed-append a b = map-append (λ cell. unwrap_or cell 0) a b

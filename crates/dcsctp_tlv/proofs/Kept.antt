@@ -8,14 +8,18 @@ use Rattle.dcsctp_tlv.specs.Image.{solid, holes, gap, Tlv, size_of, image_of, li
 abbrev pub KeepsTlv : {T : Type 0} → (T → Tlv) → (T → T) → Type 0
 KeepsTlv {T} tlv f = (t : T) → tlv (f t) ≡ tlv t
 
-pub list_image-kept : {T : Type 0} (tlv : T → Tlv) (f : T → T) → KeepsTlv tlv f → (ts : List T) → list_image tlv (map f ts) ≡ list_image tlv ts
+pub list_image-kept : {T : Type 0} (tlv : T → Tlv) (f : T → T) → KeepsTlv tlv f → (ts : List T)
+    → list_image tlv (map f ts) ≡ list_image tlv ts
 list_image-kept tlv f law [] = refl
 list_image-kept tlv f law (t ∷ []) = ap image_of (law t)
 list_image-kept tlv f law (t ∷ u ∷ ts) =
-    ap (λ (x : Tlv). image_of x ++ (holes (gap (size_of x)) ++ list_image tlv (map f (u ∷ ts)))) (law t)
-    ∙ ap (λ (image : List (Option ℕ)). image_of (tlv t) ++ (holes (gap (size_of (tlv t))) ++ image)) (list_image-kept tlv f law (u ∷ ts))
+    ap (λ (x : Tlv). image_of x ++ (holes (gap (size_of x)) ++ list_image tlv (map f (u ∷ ts))))
+    (law t)
+    ∙ ap (λ (image : List (Option ℕ)). image_of (tlv t) ++ (holes (gap (size_of (tlv t))) ++ image))
+    (list_image-kept tlv f law (u ∷ ts))
 
-pub list_size-kept : {T : Type 0} (tlv : T → Tlv) (f : T → T) → KeepsTlv tlv f → (ts : List T) → list_size tlv (map f ts) ≡ list_size tlv ts
+pub list_size-kept : {T : Type 0} (tlv : T → Tlv) (f : T → T) → KeepsTlv tlv f → (ts : List T)
+    → list_size tlv (map f ts) ≡ list_size tlv ts
 list_size-kept tlv f law [] = refl
 list_size-kept tlv f law (t ∷ []) = ap size_of (law t)
 list_size-kept tlv f law (t ∷ u ∷ ts) =
@@ -23,7 +27,9 @@ list_size-kept tlv f law (t ∷ u ∷ ts) =
     ∙ ap (λ (n : ℕ). round_up_to_4 (size_of (tlv t)) + n) (list_size-kept tlv f law (u ∷ ts))
 
 -- so is an item whose value ends in such a list
-pub listed_tlv-kept : {T : Type 0} (tlv : T → Tlv) (f : T → T) → KeepsTlv tlv f → (first second : ℕ) (leading : List ℕ) (ts : List T) → listed_tlv first second leading tlv (map f ts) ≡ listed_tlv first second leading tlv ts
+pub listed_tlv-kept : {T : Type 0} (tlv : T → Tlv) (f : T → T) → KeepsTlv tlv f
+    → (first second : ℕ) (leading : List ℕ) (ts : List T)
+    → listed_tlv first second leading tlv (map f ts) ≡ listed_tlv first second leading tlv ts
 listed_tlv-kept tlv f law first second leading ts = λ k. record {
   first = first;
   second = second;
@@ -32,6 +38,7 @@ listed_tlv-kept tlv f law first second leading ts = λ k. record {
 }
 
 -- what each is made to have
-pub all_map : {A B : Type 0} (P : A → Type 0) (Q : B → Type 0) (f : A → B) → ((x : A) → P x → Q (f x)) → (xs : List A) → AllByRecursion P xs → AllByRecursion Q (map f xs)
+pub all_map : {A B : Type 0} (P : A → Type 0) (Q : B → Type 0) (f : A → B)
+    → ((x : A) → P x → Q (f x)) → (xs : List A) → AllByRecursion P xs → AllByRecursion Q (map f xs)
 all_map P Q f law [] h = tt
 all_map P Q f law (x ∷ xs) h = (law x h.0, all_map P Q f law xs h.1)

@@ -6,19 +6,23 @@ use Rattle.dcsctp_tlv.specs.Image.{zeroed, Tlv, size_of, IsEncodable}
 use Rattle.dcsctp_tlv.proofs.Unpadded.{NotPadding}
 
 -- A value as it is read, after the item's first two bytes; and its tree as it is written.
-pub record KindLaws {T : Type 0} (read : ℕ → ℕ → List ℕ → Result T Fault) (tlv : T → Tlv) (IsInWidth IsWellFormed : T → Type 0) : Type 0 where
+pub record KindLaws {T : Type 0} (read : ℕ → ℕ → List ℕ → Result T Fault) (tlv : T
+    → Tlv) (IsInWidth IsWellFormed : T → Type 0) : Type 0 where
   -- the value has the size that is counted
   pub sized : (t : T) → length (tlv t).value ≡ (tlv t).value_size
   -- what is written is read again
-  pub back : (t : T) → IsInWidth t → IsWellFormed t → IsEncodable (tlv t) → read (tlv t).first (tlv t).second (zeroed (tlv t).value) ≡ Ok t
+  pub back : (t : T) → IsInWidth t → IsWellFormed t → IsEncodable (tlv t)
+      → read (tlv t).first (tlv t).second (zeroed (tlv t).value) ≡ Ok t
   -- what is read is well-formed
-  pub formed : (first second : ℕ) (value : List ℕ) (t : T) → read first second value ≡ Ok t → IsWellFormed t
+  pub formed : (first second : ℕ) (value : List ℕ) (t : T) → read first second value ≡ Ok t
+      → IsWellFormed t
   -- its fault, if any, isn't that of padding
   pub unpadded : (first second : ℕ) (value : List ℕ) → NotPadding (read first second value)
 
 -- what is read is written with the size that it was read from
 abbrev pub KeepsSize : {T : Type 0} → (ℕ → ℕ → List ℕ → Result T Fault) → (T → Tlv) → Type 0
-KeepsSize read tlv = (first second : ℕ) (value : List ℕ) (t : _) → read first second value ≡ Ok t → size_of (tlv t) ≡ 4 + length value
+KeepsSize read tlv = (first second : ℕ) (value : List ℕ) (t : _) → read first second value ≡ Ok t
+    → size_of (tlv t) ≡ 4 + length value
 
 -- ---- a kind of parameter or cause, which has one type: its value alone is read
 
@@ -34,21 +38,25 @@ pub of_ok : {T : Type 0} (x y : T) → ok_of x ≡ Ok y → x ≡ y
 of_ok x y e = cc
 
 -- the tree under a tree of the level
-pub of_map_ok : {A B : Type 0} (f : A → B) (r : Result A Fault) (y : B) → map_ok f r ≡ Ok y → (x : A) × ((r ≡ Ok x) × (y ≡ f x))
+pub of_map_ok : {A B : Type 0} (f : A → B) (r : Result A Fault) (y : B) → map_ok f r ≡ Ok y
+    → (x : A) × ((r ≡ Ok x) × (y ≡ f x))
 of_map_ok f (Ok x) y e = (x, (refl, cc))
 of_map_ok f (Err d) y e = absurd cc
 
 -- the side that a test took
-pub chosen : {A : Type 0} (b : Bool) (x y z : A) → cond b x y ≡ z → ((b ≡ true) × (x ≡ z)) ⊎ ((b ≡ false) × (y ≡ z))
+pub chosen : {A : Type 0} (b : Bool) (x y z : A) → cond b x y ≡ z → ((b ≡ true) × (x ≡ z))
+    ⊎ ((b ≡ false) × (y ≡ z))
 chosen true x y z e = inl (refl, e)
 chosen false x y z e = inr (refl, e)
 
 -- a test, and a fault where it fails: what was read passed it
-pub passed : {T : Type 0} (b : Bool) (r : Result T Fault) (e : Fault) (t : T) → cond b r (Err e) ≡ Ok t → (b ≡ true) × (r ≡ Ok t)
+pub passed : {T : Type 0} (b : Bool) (r : Result T Fault) (e : Fault) (t : T)
+    → cond b r (Err e) ≡ Ok t → (b ≡ true) × (r ≡ Ok t)
 passed true r e t h = (refl, h)
 passed false r e t h = absurd cc
 
 -- a test, and a fault where it holds: what was read failed it
-pub not_refused : {T : Type 0} (b : Bool) (r : Result T Fault) (e : Fault) (t : T) → cond b (Err e) r ≡ Ok t → (b ≡ false) × (r ≡ Ok t)
+pub not_refused : {T : Type 0} (b : Bool) (r : Result T Fault) (e : Fault) (t : T)
+    → cond b (Err e) r ≡ Ok t → (b ≡ false) × (r ≡ Ok t)
 not_refused false r e t h = (refl, h)
 not_refused true r e t h = absurd cc

@@ -15,7 +15,8 @@ pub record LawfulRow {T : Type 0} (row : Row T) : Type 0 where
   pub one : (v : List ℕ) (s t : T) → row.means v s → row.means v t → s ≡ t
   pub apart : (v : List ℕ) (t : T) (e : Fault) → AreBytes v → row.means v t → row.faults v e → ⊥
   pub same : (v : List ℕ) (d e : Fault) → AreBytes v → row.faults v d → row.faults v e → d ≡ e
-  pub place : (v : List ℕ) (d e : Fault) → AreBytes v → (f : row.faults v d) (g : row.faults v e) → row.offset v d f ≡ row.offset v e g
+  pub place : (v : List ℕ) (d e : Fault) → AreBytes v → (f : row.faults v d) (g : row.faults v e)
+      → row.offset v d f ≡ row.offset v e g
   pub some : (v : List ℕ) → AreBytes v → ((t : T) × row.means v t) ⊎ ((e : Fault) × row.faults v e)
 
 abbrev pub Lawful : {T : Type 0} → Level T → Type 0
@@ -38,11 +39,13 @@ plain_lawful {T} read = record {
   place = λ v d e fits p q. refl;
   some = λ v fits. go v (read v) refl;
 } where
-  go : (v : List ℕ) (r : Result T Fault) → read v ≡ r → ((t : T) × (read v ≡ Ok t)) ⊎ ((e : Fault) × (read v ≡ Err e))
+  go : (v : List ℕ) (r : Result T Fault) → read v ≡ r → ((t : T) × (read v ≡ Ok t))
+      ⊎ ((e : Fault) × (read v ≡ Err e))
   go v (Ok t) h = inl (t, h)
   go v (Err e) h = inr (e, h)
 
-pub pick_lawful : {T : Type 0} (b : Bool) (row others : Row T) → LawfulRow row → LawfulRow others → LawfulRow (pick b row others)
+pub pick_lawful : {T : Type 0} (b : Bool) (row others : Row T) → LawfulRow row → LawfulRow others
+    → LawfulRow (pick b row others)
 pick_lawful true row others p q = p
 pick_lawful false row others p q = q
 
@@ -64,37 +67,55 @@ nil_not_item : (i : Item) (r s : List ℕ) → [] ≡ (item_bytes i ++ r) ++ s �
 nil_not_item i r s e = cc
 
 loosened : (rule : PaddingRule) (i : Item) (r : List ℕ) → IsNext rule i r → IsNext any_padding i r
-loosened rule i r p = record { fits = p.fits; at_most = p.at_most; whole = p.whole; accepted = refl }
+loosened rule i r p =
+    record { fits = p.fits; at_most = p.at_most; whole = p.whole; accepted = refl }
 
 -- the front of an item's bytes is the item
-pub front_is : (rule : PaddingRule) (i : Item) (r bytes : List ℕ) → AreBytes bytes → bytes ≡ item_bytes i ++ r → IsNext rule i r → BeginsWithFrame bytes × (i ≡ front_item bytes)
+pub front_is : (rule : PaddingRule) (i : Item) (r bytes : List ℕ) → AreBytes bytes
+    → bytes ≡ item_bytes i ++ r → IsNext rule i r → BeginsWithFrame bytes × (i ≡ front_item bytes)
 front_is rule i r bytes fits e p =
     let frame : BeginsWithFrame bytes = subst BeginsWithFrame (sym e) (item_frame rule i r p) in
-    let same = next_one any_padding i (front_item bytes) r (frame_rest bytes) (sym e ∙ front_split bytes fits frame) (loosened rule i r p) (front_next any_padding bytes fits frame refl) in
+    let same = next_one any_padding i (front_item bytes) r (frame_rest bytes)
+    (sym e ∙ front_split bytes fits frame) (loosened rule i r p) (front_next any_padding bytes
+    fits frame refl) in
     (frame, same.0)
 
 -- and so is what follows it
-pub rest_is : (rule : PaddingRule) (i : Item) (r bytes : List ℕ) → AreBytes bytes → bytes ≡ item_bytes i ++ r → IsNext rule i r → r ≡ frame_rest bytes
+pub rest_is : (rule : PaddingRule) (i : Item) (r bytes : List ℕ) → AreBytes bytes
+    → bytes ≡ item_bytes i ++ r → IsNext rule i r → r ≡ frame_rest bytes
 rest_is rule i r bytes fits e p =
     let frame = (front_is rule i r bytes fits e p).0 in
-    (next_one any_padding i (front_item bytes) r (frame_rest bytes) (sym e ∙ front_split bytes fits frame) (loosened rule i r p) (front_next any_padding bytes fits frame refl)).1
+    (next_one any_padding i (front_item bytes) r (frame_rest bytes) (sym e ∙ front_split bytes fits
+    frame) (loosened rule i r p) (front_next any_padding bytes fits frame refl)).1
 
 value_fits : (bytes : List ℕ) → AreBytes bytes → AreBytes (frame_value bytes)
 value_fits bytes fits i = elim (cases_lt i (frame_length bytes - 4)) [
-  | inl lt ↦ rw (get_or-take (frame_length bytes - 4) (drop 4 bytes) i 0 lt, get_or-drop 4 bytes i 0) (fits (4 + i))
-  | inr le ↦ rw (get_or_past (frame_value bytes) i 0 (omega (arith, length-take (frame_length bytes - 4) (drop 4 bytes)))) (omega arith)
+  | inl lt ↦ rw (
+    get_or-take (frame_length bytes - 4) (drop 4 bytes) i 0 lt,
+    get_or-drop 4 bytes i
+        0,
+  ) (fits (4 + i))
+  | inr le ↦ rw (get_or_past (frame_value bytes) i 0
+      (omega (arith, length-take (frame_length bytes - 4) (drop 4 bytes)))) (omega arith)
 ]
 
 -- an item that means a tree isn't at fault
-front_apart : {T : Type 0} (level : Level T) → Lawful level → (i : Item) (t : T) (r bytes : List ℕ) (e : Fault) → AreBytes bytes → bytes ≡ item_bytes i ++ r → IsNext level.padding i r
+front_apart : {T : Type 0} (level : Level T) → Lawful level
+    → (i : Item) (t : T) (r bytes : List ℕ) (e : Fault) → AreBytes bytes → bytes ≡ item_bytes i ++ r
+    → IsNext level.padding i r
     → (level.row i.first i.second).means i.value t → BeginsWithFault level bytes e → ⊥
-front_apart level law i t r bytes e fits is p means (no_frame _ h _) = h (front_is level.padding i r bytes fits is p).0
+front_apart level law i t r bytes e fits is p means (no_frame _ h _) =
+    h (front_is level.padding i r bytes fits is p).0
 front_apart level law i t r bytes e fits is p means (value _ h) =
     let same = (front_is level.padding i r bytes fits is p).1 in
-    (law i.first i.second).apart i.value t e (subst (λ (j : Item). AreBytes j.value) (sym same) (value_fits bytes fits)) means (subst (λ (j : Item). (level.row j.first j.second).faults j.value e) (sym same) h)
+    (law i.first i.second).apart i.value t e (subst (λ (j : Item). AreBytes j.value) (sym same)
+    (value_fits bytes fits)) means (subst (λ (j : Item). (level.row j.first j.second).faults
+    j.value e) (sym same) h)
 front_apart level law i t r bytes e fits is p means (padding _ _ _ h _) =
     let same = (front_is level.padding i r bytes fits is p).1 in
-    let refused : level.padding (padding_size (length i.value)) i.padding ≡ false = subst (λ (j : Item). level.padding (padding_size (length j.value)) j.padding ≡ false) (sym same) h in
+    let refused : level.padding (padding_size (length i.value)) i.padding
+    ≡ false = subst (λ (j : Item). level.padding (padding_size (length j.value)) j.padding
+    ≡ false) (sym same) h in
     let both : true ≡ false = sym p.accepted ∙ refused in absurd cc
 
 rest_fits : (xs ys bytes : List ℕ) → AreBytes bytes → bytes ≡ xs ++ ys → AreBytes ys
@@ -103,16 +124,23 @@ rest_fits (x ∷ xs) ys [] fits e = absurd cc
 rest_fits (x ∷ xs) ys (b ∷ bytes) fits e = rest_fits xs ys bytes (λ i. fits (suc i)) cc
 
 -- the rest after a first item
-pub after : (rule : PaddingRule) (i j : Item) (is js : List Item) (r s : List ℕ) → flat_map item_bytes (i ∷ is) ++ r ≡ flat_map item_bytes (j ∷ js) ++ s → AreBefore rule (i ∷ is) r → AreBefore rule (j ∷ js) s
+pub after : (rule : PaddingRule) (i j : Item) (is js : List Item) (r s : List ℕ)
+    → flat_map item_bytes (i ∷ is) ++ r ≡ flat_map item_bytes (j ∷ js) ++ s
+    → AreBefore rule (i ∷ is) r → AreBefore rule (j ∷ js) s
     → (i ≡ j) × (flat_map item_bytes is ++ r ≡ flat_map item_bytes js ++ s)
-after rule i j is js r s e p q = next_one rule i j (flat_map item_bytes is ++ r) (flat_map item_bytes js ++ s)
-    (sym (append_assoc (item_bytes i) (flat_map item_bytes is) r) ∙ e ∙ append_assoc (item_bytes j) (flat_map item_bytes js) s) p.0 q.0
+after rule i j is js r s e p q =
+    next_one rule i j (flat_map item_bytes is ++ r) (flat_map item_bytes js ++ s)
+    (sym (append_assoc (item_bytes i) (flat_map item_bytes is) r) ∙ e ∙ append_assoc (item_bytes j)
+    (flat_map item_bytes js) s) p.0 q.0
 
-at_item : (i : Item) (is : List Item) (r : List ℕ) → flat_map item_bytes (i ∷ is) ++ r ≡ item_bytes i ++ (flat_map item_bytes is ++ r)
+at_item : (i : Item) (is : List Item) (r : List ℕ) → flat_map item_bytes (i ∷ is) ++ r
+    ≡ item_bytes i ++ (flat_map item_bytes is ++ r)
 at_item i is r = append_assoc (item_bytes i) (flat_map item_bytes is) r
 
-all_one : {T : Type 0} (level : Level T) → Lawful level → (is js : List Item) (ts us : List T) → flat_map item_bytes is ++ [] ≡ flat_map item_bytes js ++ []
-    → AreBefore level.padding is [] → AreBefore level.padding js [] → ItemsMean level is ts → ItemsMean level js us → ts ≡ us
+all_one : {T : Type 0} (level : Level T) → Lawful level → (is js : List Item) (ts us : List T)
+    → flat_map item_bytes is ++ [] ≡ flat_map item_bytes js ++ []
+    → AreBefore level.padding is [] → AreBefore level.padding js [] → ItemsMean level is ts
+    → ItemsMean level js us → ts ≡ us
 all_one level law [] [] [] [] e p q m n = refl
 all_one level law [] [] [] (u ∷ us) e p q m n = absurd n
 all_one level law [] [] (t ∷ ts) us e p q m n = absurd m
@@ -122,97 +150,152 @@ all_one level law (i ∷ is) (j ∷ js) [] us e p q m n = absurd m
 all_one level law (i ∷ is) (j ∷ js) (t ∷ ts) [] e p q m n = absurd n
 all_one level law (i ∷ is) (j ∷ js) (t ∷ ts) (u ∷ us) e p q m n =
     let b = after level.padding i j is js [] [] e p q in
-    let head : t ≡ u = (law i.first i.second).one i.value t u m.0 (subst (λ (k : Item). (level.row k.first k.second).means k.value u) (sym b.0) n.0) in
+    let head : t ≡ u = (law i.first i.second).one i.value t u m.0
+    (subst (λ (k : Item). (level.row k.first k.second).means k.value u) (sym b.0) n.0) in
     let tail : ts ≡ us = all_one level law is js ts us b.1 p.1 q.1 m.1 n.1 in
     cc
 
-all_apart : {T : Type 0} (level : Level T) → Lawful level → (is js : List Item) (ts us : List T) (rest : List ℕ) (e : Fault) → AreBytes (flat_map item_bytes js ++ rest) → flat_map item_bytes is ++ [] ≡ flat_map item_bytes js ++ rest
-    → AreBefore level.padding is [] → AreBefore level.padding js rest → ItemsMean level is ts → ItemsMean level js us → BeginsWithFault level rest e → rest ≢ [] → ⊥
+all_apart : {T : Type 0} (level : Level T) → Lawful level
+    → (is js : List Item) (ts us : List T) (rest : List ℕ) (e : Fault)
+    → AreBytes (flat_map item_bytes js ++ rest) → flat_map item_bytes is ++ [] ≡ flat_map item_bytes
+    js ++ rest
+    → AreBefore level.padding is [] → AreBefore level.padding js rest → ItemsMean level is ts
+    → ItemsMean level js us → BeginsWithFault level rest e → rest ≢ [] → ⊥
 all_apart level law [] [] ts us rest x fits e p q m n f h = h (sym e)
 all_apart level law [] (j ∷ js) ts us rest x fits e p q m n f h = cc
 all_apart level law (i ∷ is) [] [] us rest x fits e p q m n f h = m
-all_apart level law (i ∷ is) [] (t ∷ ts) us rest x fits e p q m n f h = front_apart level law i t (flat_map item_bytes is ++ []) rest x fits (sym e ∙ at_item i is []) p.0 m.0 f
+all_apart level law (i ∷ is) [] (t ∷ ts) us rest x fits e p q m n f h = front_apart level law i t
+    (flat_map item_bytes is ++ []) rest x fits (sym e ∙ at_item i is []) p.0 m.0 f
 all_apart level law (i ∷ is) (j ∷ js) [] us rest x fits e p q m n f h = m
 all_apart level law (i ∷ is) (j ∷ js) (t ∷ ts) [] rest x fits e p q m n f h = n
 all_apart level law (i ∷ is) (j ∷ js) (t ∷ ts) (u ∷ us) rest x fits e p q m n f h =
     let b = after level.padding i j is js [] rest e p q in
-    all_apart level law is js ts us rest x (rest_fits (item_bytes j) (flat_map item_bytes js ++ rest) _ fits (at_item j js rest)) b.1 p.1 q.1 m.1 n.1 f h
+    all_apart level law is js ts us rest x (rest_fits (item_bytes j) (flat_map item_bytes js
+    ++ rest) _ fits (at_item j js rest)) b.1 p.1 q.1 m.1 n.1 f h
 
-front_same : {T : Type 0} (level : Level T) → Lawful level → (rest : List ℕ) (d e : Fault) → AreBytes rest → BeginsWithFault level rest d → BeginsWithFault level rest e → d ≡ e
+front_same : {T : Type 0} (level : Level T) → Lawful level → (rest : List ℕ) (d e : Fault)
+    → AreBytes rest → BeginsWithFault level rest d → BeginsWithFault level rest e → d ≡ e
 front_same level law rest d e fits (no_frame _ _ p) (no_frame _ _ q) = p ∙ sym q
 front_same level law rest d e fits (no_frame _ h _) (value k _) = absurd (h k)
 front_same level law rest d e fits (no_frame _ h _) (padding _ k _ _ _) = absurd (h k)
 front_same level law rest d e fits (value k _) (no_frame _ h _) = absurd (h k)
-front_same level law rest d e fits (value _ p) (value _ q) = (law (get_or rest 0 0) (get_or rest 1 0)).same (frame_value rest) d e (value_fits rest fits) p q
-front_same level law rest d e fits (value _ p) (padding t _ m _ _) = absurd ((law (get_or rest 0 0) (get_or rest 1 0)).apart (frame_value rest) t d (value_fits rest fits) m p)
+front_same level law rest d e fits (value _ p) (value _ q) =
+    (law (get_or rest 0 0) (get_or rest 1 0)).same (frame_value rest) d e (value_fits rest fits) p q
+front_same level law rest d e fits (value _ p) (padding t _ m _ _) = absurd
+    ((law (get_or rest 0 0) (get_or rest 1 0)).apart (frame_value rest) t d (value_fits rest fits) m
+    p)
 front_same level law rest d e fits (padding _ k _ _ _) (no_frame _ h _) = absurd (h k)
-front_same level law rest d e fits (padding t _ m _ _) (value _ p) = absurd ((law (get_or rest 0 0) (get_or rest 1 0)).apart (frame_value rest) t e (value_fits rest fits) m p)
+front_same level law rest d e fits (padding t _ m _ _) (value _ p) = absurd
+    ((law (get_or rest 0 0) (get_or rest 1 0)).apart (frame_value rest) t e (value_fits rest fits) m
+    p)
 front_same level law rest d e fits (padding _ _ _ _ p) (padding _ _ _ _ q) = p ∙ sym q
 
-all_same : {T : Type 0} (level : Level T) → Lawful level → (is js : List Item) (ts us : List T) (rest more : List ℕ) (d e : Fault) → AreBytes (flat_map item_bytes js ++ more) → flat_map item_bytes is ++ rest ≡ flat_map item_bytes js ++ more
-    → AreBefore level.padding is rest → AreBefore level.padding js more → ItemsMean level is ts → ItemsMean level js us → BeginsWithFault level rest d → BeginsWithFault level more e → d ≡ e
-all_same level law [] [] ts us rest more d x fits e p q m n f g = front_same level law more d x fits (subst (λ (r : List ℕ). BeginsWithFault level r d) e f) g
+all_same : {T : Type 0} (level : Level T) → Lawful level
+    → (is js : List Item) (ts us : List T) (rest more : List ℕ) (d e : Fault)
+    → AreBytes (flat_map item_bytes js ++ more) → flat_map item_bytes is ++ rest
+    ≡ flat_map item_bytes js ++ more
+    → AreBefore level.padding is rest → AreBefore level.padding js more → ItemsMean level is ts
+    → ItemsMean level js us → BeginsWithFault level rest d → BeginsWithFault level more e
+    → d ≡ e
+all_same level law [] [] ts us rest more d x fits e p q m n f g =
+    front_same level law more d x fits (subst (λ (r : List ℕ). BeginsWithFault level r d) e f) g
 all_same level law [] (j ∷ js) ts [] rest more d x fits e p q m n f g = absurd n
-all_same level law [] (j ∷ js) ts (u ∷ us) rest more d x fits e p q m n f g = absurd (front_apart level law j u (flat_map item_bytes js ++ more) rest d (subst AreBytes (sym e) fits) (e ∙ at_item j js more) q.0 n.0 f)
+all_same level law [] (j ∷ js) ts (u ∷ us) rest more d x fits e p q m n f g = absurd
+    (front_apart level law j u (flat_map item_bytes js ++ more) rest d (subst AreBytes (sym e) fits)
+    (e ∙ at_item j js more) q.0 n.0 f)
 all_same level law (i ∷ is) [] [] us rest more d x fits e p q m n f g = absurd m
-all_same level law (i ∷ is) [] (t ∷ ts) us rest more d x fits e p q m n f g = absurd (front_apart level law i t (flat_map item_bytes is ++ rest) more x fits (sym e ∙ at_item i is rest) p.0 m.0 g)
+all_same level law (i ∷ is) [] (t ∷ ts) us rest more d x fits e p q m n f g = absurd
+    (front_apart level law i t (flat_map item_bytes is ++ rest) more x fits
+    (sym e ∙ at_item i is rest) p.0 m.0 g)
 all_same level law (i ∷ is) (j ∷ js) [] us rest more d x fits e p q m n f g = absurd m
 all_same level law (i ∷ is) (j ∷ js) (t ∷ ts) [] rest more d x fits e p q m n f g = absurd n
 all_same level law (i ∷ is) (j ∷ js) (t ∷ ts) (u ∷ us) rest more d x fits e p q m n f g =
     let b = after level.padding i j is js rest more e p q in
-    all_same level law is js ts us rest more d x (rest_fits (item_bytes j) (flat_map item_bytes js ++ more) _ fits (at_item j js more)) b.1 p.1 q.1 m.1 n.1 f g
+    all_same level law is js ts us rest more d x (rest_fits (item_bytes j) (flat_map item_bytes js
+    ++ more) _ fits (at_item j js more)) b.1 p.1 q.1 m.1 n.1 f g
 
 -- ---- a fault lies at one place
 
-front_place : {T : Type 0} (level : Level T) → Lawful level → (rest : List ℕ) (d e : Fault) → AreBytes rest → (f : BeginsWithFault level rest d) (g : BeginsWithFault level rest e) → front_offset level rest d f ≡ front_offset level rest e g
+front_place : {T : Type 0} (level : Level T) → Lawful level → (rest : List ℕ) (d e : Fault)
+    → AreBytes rest → (f : BeginsWithFault level rest d) (g : BeginsWithFault level rest e)
+    → front_offset level rest d f ≡ front_offset level rest e g
 front_place level law rest d e fits (no_frame _ _ _) (no_frame _ _ _) = refl
 front_place level law rest d e fits (no_frame _ h _) (value k _) = absurd (h k)
 front_place level law rest d e fits (no_frame _ h _) (padding _ k _ _ _) = absurd (h k)
 front_place level law rest d e fits (value k _) (no_frame _ h _) = absurd (h k)
-front_place level law rest d e fits (value _ p) (value _ q) = (law (get_or rest 0 0) (get_or rest 1 0)).place (frame_value rest) d e (value_fits rest fits) p q
-front_place level law rest d e fits (value _ p) (padding t _ m _ _) = absurd ((law (get_or rest 0 0) (get_or rest 1 0)).apart (frame_value rest) t d (value_fits rest fits) m p)
+front_place level law rest d e fits (value _ p) (value _ q) =
+    (law (get_or rest 0 0) (get_or rest 1 0)).place (frame_value rest) d e (value_fits rest fits) p
+    q
+front_place level law rest d e fits (value _ p) (padding t _ m _ _) = absurd
+    ((law (get_or rest 0 0) (get_or rest 1 0)).apart (frame_value rest) t d (value_fits rest fits) m
+    p)
 front_place level law rest d e fits (padding _ k _ _ _) (no_frame _ h _) = absurd (h k)
-front_place level law rest d e fits (padding t _ m _ _) (value _ p) = absurd ((law (get_or rest 0 0) (get_or rest 1 0)).apart (frame_value rest) t e (value_fits rest fits) m p)
+front_place level law rest d e fits (padding t _ m _ _) (value _ p) = absurd
+    ((law (get_or rest 0 0) (get_or rest 1 0)).apart (frame_value rest) t e (value_fits rest fits) m
+    p)
 front_place level law rest d e fits (padding _ _ _ _ _) (padding _ _ _ _ _) = refl
 
 -- the same at bytes that are equal
-moved_place : {T : Type 0} (level : Level T) → Lawful level → (rest more : List ℕ) (d e : Fault) → AreBytes more → rest ≡ more → (f : BeginsWithFault level rest d) (g : BeginsWithFault level more e)
+moved_place : {T : Type 0} (level : Level T) → Lawful level → (rest more : List ℕ) (d e : Fault)
+    → AreBytes more → rest ≡ more
+    → (f : BeginsWithFault level rest d) (g : BeginsWithFault level more e)
     → front_offset level rest d f ≡ front_offset level more e g
 moved_place level law rest more d e fits is f =
-    let P : List ℕ → Type 0 = λ r. (g : BeginsWithFault level r e) → front_offset level rest d f ≡ front_offset level r e g in
+    let P : List ℕ → Type 0 = λ r. (g : BeginsWithFault level r e) → front_offset level rest d f
+    ≡ front_offset level r e g in
     subst P is (λ g. front_place level law rest d e (subst AreBytes (sym is) fits) f g)
 
 -- after one item that both have
-one_further : (i j : Item) (xs ys : List ℕ) (m n : ℕ) → i ≡ j → length xs + m ≡ length ys + n → length (item_bytes i ++ xs) + m ≡ length (item_bytes j ++ ys) + n
+one_further : (i j : Item) (xs ys : List ℕ) (m n : ℕ) → i ≡ j → length xs + m ≡ length ys + n
+    → length (item_bytes i ++ xs) + m ≡ length (item_bytes j ++ ys) + n
 one_further i j xs ys m n is h =
-    let same : length (item_bytes i) ≡ length (item_bytes j) = ap (λ (k : Item). length (item_bytes k)) is in
+    let same : length (item_bytes i) ≡ length (item_bytes j) =
+    ap (λ (k : Item). length (item_bytes k)) is in
     let left = length-append (item_bytes i) xs in
     let right = length-append (item_bytes j) ys in
     omega (arith, same, left, right, h)
 
-all_place : {T : Type 0} (level : Level T) → Lawful level → (is js : List Item) (ts us : List T) (rest more : List ℕ) (d e : Fault) → AreBytes (flat_map item_bytes js ++ more) → flat_map item_bytes is ++ rest ≡ flat_map item_bytes js ++ more
-    → AreBefore level.padding is rest → AreBefore level.padding js more → ItemsMean level is ts → ItemsMean level js us → (f : BeginsWithFault level rest d) (g : BeginsWithFault level more e)
-    → length (flat_map item_bytes is) + front_offset level rest d f ≡ length (flat_map item_bytes js) + front_offset level more e g
-all_place level law [] [] ts us rest more d x fits e p q m n f g = ap (λ (k : ℕ). 0 + k) (moved_place level law rest more d x fits e f g)
+all_place : {T : Type 0} (level : Level T) → Lawful level
+    → (is js : List Item) (ts us : List T) (rest more : List ℕ) (d e : Fault)
+    → AreBytes (flat_map item_bytes js ++ more) → flat_map item_bytes is ++ rest
+    ≡ flat_map item_bytes js ++ more
+    → AreBefore level.padding is rest → AreBefore level.padding js more → ItemsMean level is ts
+    → ItemsMean level js us → (f : BeginsWithFault level rest d) (g : BeginsWithFault level more
+    e)
+    → length (flat_map item_bytes is) + front_offset level rest d f
+    ≡ length (flat_map item_bytes js) + front_offset level more e g
+all_place level law [] [] ts us rest more d x fits e p q m n f g =
+    ap (λ (k : ℕ). 0 + k) (moved_place level law rest more d x fits e f g)
 all_place level law [] (j ∷ js) ts [] rest more d x fits e p q m n f g = absurd n
-all_place level law [] (j ∷ js) ts (u ∷ us) rest more d x fits e p q m n f g = absurd (front_apart level law j u (flat_map item_bytes js ++ more) rest d (subst AreBytes (sym e) fits) (e ∙ at_item j js more) q.0 n.0 f)
+all_place level law [] (j ∷ js) ts (u ∷ us) rest more d x fits e p q m n f g = absurd
+    (front_apart level law j u (flat_map item_bytes js ++ more) rest d (subst AreBytes (sym e) fits)
+    (e ∙ at_item j js more) q.0 n.0 f)
 all_place level law (i ∷ is) [] [] us rest more d x fits e p q m n f g = absurd m
-all_place level law (i ∷ is) [] (t ∷ ts) us rest more d x fits e p q m n f g = absurd (front_apart level law i t (flat_map item_bytes is ++ rest) more x fits (sym e ∙ at_item i is rest) p.0 m.0 g)
+all_place level law (i ∷ is) [] (t ∷ ts) us rest more d x fits e p q m n f g = absurd
+    (front_apart level law i t (flat_map item_bytes is ++ rest) more x fits
+    (sym e ∙ at_item i is rest) p.0 m.0 g)
 all_place level law (i ∷ is) (j ∷ js) [] us rest more d x fits e p q m n f g = absurd m
 all_place level law (i ∷ is) (j ∷ js) (t ∷ ts) [] rest more d x fits e p q m n f g = absurd n
 all_place level law (i ∷ is) (j ∷ js) (t ∷ ts) (u ∷ us) rest more d x fits e p q m n f g =
     let b = after level.padding i j is js rest more e p q in
-    one_further i j (flat_map item_bytes is) (flat_map item_bytes js) (front_offset level rest d f) (front_offset level more x g) b.0
-    (all_place level law is js ts us rest more d x (rest_fits (item_bytes j) (flat_map item_bytes js ++ more) _ fits (at_item j js more)) b.1 p.1 q.1 m.1 n.1 f g)
+    one_further i j (flat_map item_bytes is) (flat_map item_bytes js) (front_offset level rest d f)
+    (front_offset level more x g) b.0
+    (all_place level law is js ts us rest more d x (rest_fits (item_bytes j) (flat_map item_bytes js
+    ++ more) _ fits (at_item j js more)) b.1 p.1 q.1 m.1 n.1 f g)
 
-pub list_place : {T : Type 0} (level : Level T) → Lawful level → (bytes : List ℕ) (d e : Fault) → AreBytes bytes → (f : HasFault level bytes d) (g : HasFault level bytes e) → fault_offset level bytes d f ≡ fault_offset level bytes e g
-list_place level law bytes d e fits f g = all_place level law f.items g.items f.trees g.trees f.rest g.rest d e (subst AreBytes g.split fits) (sym f.split ∙ g.split)
-    (whole_before level.padding f.items f.rest f.whole) (whole_before level.padding g.items g.rest g.whole) f.mean g.mean f.fault g.fault
+pub list_place : {T : Type 0} (level : Level T) → Lawful level → (bytes : List ℕ) (d e : Fault)
+    → AreBytes bytes → (f : HasFault level bytes d) (g : HasFault level bytes e)
+    → fault_offset level bytes d f ≡ fault_offset level bytes e g
+list_place level law bytes d e fits f g = all_place level law f.items g.items f.trees g.trees f.rest
+    g.rest d e (subst AreBytes g.split fits) (sym f.split ∙ g.split)
+    (whole_before level.padding f.items f.rest f.whole) (whole_before level.padding g.items g.rest
+    g.whole) f.mean g.mean f.fault g.fault
 
 -- ---- each list of bytes has an answer
 
 abbrev pub ListAnswer : {T : Type 0} → Level T → List ℕ → Type 0
-ListAnswer {T} level bytes = ((ts : List T) × MeansTrees level bytes ts) ⊎ ((e : Fault) × HasFault level bytes e)
+ListAnswer {T} level bytes =
+    ((ts : List T) × MeansTrees level bytes ts) ⊎ ((e : Fault) × HasFault level bytes e)
 
 frame_tells : (bytes : List ℕ) → BeginsWithFrame bytes ⊎ (¬ BeginsWithFrame bytes)
 frame_tells bytes = elim (cases_lt (length bytes) 4) [
@@ -228,52 +311,84 @@ frame_tells bytes = elim (cases_lt (length bytes) 4) [
 
 -- the answer for what is shorter than n
 abbrev Answered : {T : Type 0} → Level T → List ℕ → ℕ → Type 0
-Answered {T} level bytes n = (trees : List T) (rest : List ℕ) → length rest < n → Progress level bytes trees rest → ListAnswer level bytes
+Answered {T} level bytes n = (trees : List T) (rest : List ℕ) → length rest < n
+    → Progress level bytes trees rest → ListAnswer level bytes
 
-padded : {T : Type 0} (level : Level T) (n : ℕ) (bytes : List ℕ) (trees : List T) (rest : List ℕ) (t : T) → length rest < suc n → Progress level bytes trees rest → BeginsWithFrame rest
-    → (front_row level rest).means (frame_value rest) t → (b : Bool) → level.padding (padding_size (length (frame_value rest))) (frame_padding rest) ≡ b → Answered level bytes n → ListAnswer level bytes
-padded level n bytes trees rest t lt p frame m true e go = go (trees ++ t ∷ []) (frame_rest rest) (let h = frame.low in let k = frame.header in omega (arith, length-drop (round_up_to_4 (frame_length rest)) rest)) (step level bytes trees rest t p frame m e)
-padded level n bytes trees rest t lt p frame m false e go = inr (Padding, fault level bytes trees rest Padding p (padding t frame m e refl))
+padded : {T : Type 0} (level : Level T) (n : ℕ) (bytes : List ℕ) (trees : List T) (rest : List ℕ)
+    (t : T) → length rest < suc n → Progress level bytes trees rest → BeginsWithFrame rest
+    → (front_row level rest).means (frame_value rest) t → (b : Bool)
+    → level.padding (padding_size (length (frame_value rest))) (frame_padding rest) ≡ b
+    → Answered level bytes n → ListAnswer level bytes
+padded level n bytes trees rest t lt p frame m true e go = go (trees ++ t ∷ []) (frame_rest rest)
+    (let h = frame.low in let k = frame.header in
+    omega (arith, length-drop (round_up_to_4 (frame_length rest)) rest))
+    (step level bytes trees rest t p frame m e)
+padded level n bytes trees rest t lt p frame m false e go =
+    inr (Padding, fault level bytes trees rest Padding p (padding t frame m e refl))
 
-goes : {T : Type 0} (level : Level T) → Lawful level → (n : ℕ) (bytes : List ℕ) → Answered level bytes n
+goes : {T : Type 0} (level : Level T) → Lawful level → (n : ℕ) (bytes : List ℕ)
+    → Answered level bytes n
 goes level law zero bytes trees rest lt p = absurd (omega arith)
 goes level law (suc n) bytes trees [] lt p = inl (trees, finish level bytes trees [] p refl)
 goes level law (suc n) bytes trees (b ∷ rest) lt p = elim (frame_tells (b ∷ rest)) [
-  | inr none ↦ inr (Length, fault level bytes trees (b ∷ rest) Length p (no_frame (λ c. cc) none refl))
-  | inl frame ↦ elim ((law b (get_or rest 0 0)).some (frame_value (b ∷ rest)) (value_fits (b ∷ rest) p.fits)) [
-    | inr f ↦ inr (f.0, fault level bytes trees (b ∷ rest) f.0 p (value frame f.1))
-    | inl m ↦ padded level n bytes trees (b ∷ rest) m.0 lt p frame m.1 (level.padding (padding_size (length (frame_value (b ∷ rest)))) (frame_padding (b ∷ rest))) refl (goes level law n bytes)
-  ]
+  | inr none ↦ inr (
+    Length,
+    fault level bytes trees (b ∷ rest) Length p
+        (no_frame (λ c. cc) none refl),
+  )
+  | inl frame ↦ elim ((law b (get_or rest 0 0)).some (frame_value (b ∷ rest))
+      (value_fits (b ∷ rest) p.fits)) [
+        | inr f ↦ inr (f.0, fault level bytes trees (b ∷ rest) f.0 p (value frame f.1))
+        | inl m ↦ padded level n bytes trees (b ∷ rest) m.0 lt p frame m.1
+            (level.padding (padding_size (length (frame_value (b ∷ rest)))) (frame_padding (b ∷ rest)))
+            refl (goes level law n bytes)
+      ]
 ]
 
-pub list_some : {T : Type 0} (level : Level T) → Lawful level → (bytes : List ℕ) → AreBytes bytes → ListAnswer level bytes
-list_some level law bytes fits = goes level law (suc (length bytes)) bytes [] bytes (omega arith) (begin level bytes fits)
+pub list_some : {T : Type 0} (level : Level T) → Lawful level → (bytes : List ℕ) → AreBytes bytes
+    → ListAnswer level bytes
+list_some level law bytes fits =
+    goes level law (suc (length bytes)) bytes [] bytes (omega arith) (begin level bytes fits)
 
-pub list_one : {T : Type 0} (level : Level T) → Lawful level → (bytes : List ℕ) (ts us : List T) → MeansTrees level bytes ts → MeansTrees level bytes us → ts ≡ us
-list_one level law bytes ts us m n = all_one level law m.items n.items ts us (ap (λ (x : List ℕ). x ++ []) (sym m.are.split ∙ n.are.split)) (items_before level.padding m.items m.are.formed) (items_before level.padding n.items n.are.formed) m.mean n.mean
+pub list_one : {T : Type 0} (level : Level T) → Lawful level → (bytes : List ℕ) (ts us : List T)
+    → MeansTrees level bytes ts → MeansTrees level bytes us → ts ≡ us
+list_one level law bytes ts us m n = all_one level law m.items n.items ts us
+    (ap (λ (x : List ℕ). x ++ []) (sym m.are.split ∙ n.are.split))
+    (items_before level.padding m.items m.are.formed) (items_before level.padding n.items
+    n.are.formed) m.mean n.mean
 
-rest_not_nil : {T : Type 0} (level : Level T) (rest : List ℕ) (e : Fault) → BeginsWithFault level rest e → rest ≢ []
+rest_not_nil : {T : Type 0} (level : Level T) (rest : List ℕ) (e : Fault)
+    → BeginsWithFault level rest e → rest ≢ []
 rest_not_nil level [] e (no_frame h _ _) = h
 rest_not_nil level [] e (value h _) = absurd (omega (arith, h.header))
 rest_not_nil level [] e (padding _ h _ _ _) = absurd (omega (arith, h.header))
 rest_not_nil level (b ∷ rest) e f = λ c. cc
 
-pub list_apart : {T : Type 0} (level : Level T) → Lawful level → (bytes : List ℕ) (ts : List T) (e : Fault) → AreBytes bytes → MeansTrees level bytes ts → HasFault level bytes e → ⊥
-list_apart level law bytes ts e fits m f = all_apart level law m.items f.items ts f.trees f.rest e (subst AreBytes f.split fits) (append-nil _ ∙ sym m.are.split ∙ f.split)
-    (items_before level.padding m.items m.are.formed) (whole_before level.padding f.items f.rest f.whole) m.mean f.mean f.fault (rest_not_nil level f.rest e f.fault)
+pub list_apart : {T : Type 0} (level : Level T) → Lawful level
+    → (bytes : List ℕ) (ts : List T) (e : Fault) → AreBytes bytes → MeansTrees level bytes ts
+    → HasFault level bytes e → ⊥
+list_apart level law bytes ts e fits m f = all_apart level law m.items f.items ts f.trees f.rest e
+    (subst AreBytes f.split fits) (append-nil _ ∙ sym m.are.split ∙ f.split)
+    (items_before level.padding m.items m.are.formed) (whole_before level.padding f.items f.rest
+    f.whole) m.mean f.mean f.fault (rest_not_nil level f.rest e f.fault)
 
-pub list_same : {T : Type 0} (level : Level T) → Lawful level → (bytes : List ℕ) (d e : Fault) → AreBytes bytes → HasFault level bytes d → HasFault level bytes e → d ≡ e
-list_same level law bytes d e fits f g = all_same level law f.items g.items f.trees g.trees f.rest g.rest d e (subst AreBytes g.split fits) (sym f.split ∙ g.split)
-    (whole_before level.padding f.items f.rest f.whole) (whole_before level.padding g.items g.rest g.whole) f.mean g.mean f.fault g.fault
+pub list_same : {T : Type 0} (level : Level T) → Lawful level → (bytes : List ℕ) (d e : Fault)
+    → AreBytes bytes → HasFault level bytes d → HasFault level bytes e → d ≡ e
+list_same level law bytes d e fits f g = all_same level law f.items g.items f.trees g.trees f.rest
+    g.rest d e (subst AreBytes g.split fits) (sym f.split ∙ g.split)
+    (whole_before level.padding f.items f.rest f.whole) (whole_before level.padding g.items g.rest
+    g.whole) f.mean g.mean f.fault g.fault
 
 -- ---- a row whose value ends in a list
 
 drop_fits : (n : ℕ) (v : List ℕ) → AreBytes v → AreBytes (drop n v)
 drop_fits n v fits i = rw get_or-drop (fits (n + i))
 
-pub listed_lawful : {T U : Type 0} (rule : List ℕ → Bool) (at : ℕ) (level : Level U) (tree_of : List ℕ → List U → T) → Lawful level → LawfulRow (listed rule at level tree_of)
+pub listed_lawful : {T U : Type 0} (rule : List ℕ → Bool) (at : ℕ) (level : Level U)
+    (tree_of : List ℕ → List U → T) → Lawful level → LawfulRow (listed rule at level tree_of)
 listed_lawful {T} {U} rule at level tree_of law = record {
-  one = λ v s t p q. p.1.2 ∙ ap (tree_of v) (list_one level law (drop at v) p.1.0 q.1.0 p.1.1 q.1.1) ∙ sym q.1.2;
+  one = λ v s t p q. p.1.2 ∙ ap (tree_of v) (list_one level law (drop at v) p.1.0 q.1.0 p.1.1 q.1.1)
+      ∙ sym q.1.2;
   apart = λ v t e fits p f. elim f [
     | inl g ↦ (let h : true ≡ false = sym p.0 ∙ g.0 in cc)
     | inr g ↦ list_apart level law (drop at v) p.1.0 e (drop_fits at v fits) p.1.1 g.1
@@ -282,20 +397,27 @@ listed_lawful {T} {U} rule at level tree_of law = record {
   place = λ v d e fits f g. offsets_same v d e fits f g;
   some = λ v fits. answered v fits (rule v) refl;
 } where
-  offsets_same : (v : List ℕ) (d e : Fault) → AreBytes v → (f : (listed rule at level tree_of).faults v d) (g : (listed rule at level tree_of).faults v e)
+  offsets_same : (v : List ℕ) (d e : Fault) → AreBytes v
+      → (f : (listed rule at level tree_of).faults v d) (g : (listed rule at level tree_of).faults v
+      e)
       → listed_offset rule at level v d f ≡ listed_offset rule at level v e g
   offsets_same v d e fits (inl f) (inl g) = refl
   offsets_same v d e fits (inl f) (inr g) = absurd (let h : false ≡ true = sym f.0 ∙ g.0 in cc)
   offsets_same v d e fits (inr f) (inl g) = absurd (let h : true ≡ false = sym f.0 ∙ g.0 in cc)
-  offsets_same v d e fits (inr f) (inr g) = ap (λ (n : ℕ). 4 + (at + n)) (list_place level law (drop at v) d e (drop_fits at v fits) f.1 g.1)
+  offsets_same v d e fits (inr f) (inr g) = ap (λ (n : ℕ). 4 + (at + n))
+      (list_place level law (drop at v) d e (drop_fits at v fits) f.1 g.1)
 
-  faults_same : (v : List ℕ) (d e : Fault) → AreBytes v → (listed rule at level tree_of).faults v d → (listed rule at level tree_of).faults v e → d ≡ e
+  faults_same : (v : List ℕ) (d e : Fault) → AreBytes v → (listed rule at level tree_of).faults v d
+      → (listed rule at level tree_of).faults v e → d ≡ e
   faults_same v d e fits (inl f) (inl g) = f.1 ∙ sym g.1
   faults_same v d e fits (inl f) (inr g) = let h : false ≡ true = sym f.0 ∙ g.0 in cc
   faults_same v d e fits (inr f) (inl g) = let h : true ≡ false = sym f.0 ∙ g.0 in cc
-  faults_same v d e fits (inr f) (inr g) = list_same level law (drop at v) d e (drop_fits at v fits) f.1 g.1
+  faults_same v d e fits (inr f) (inr g) =
+      list_same level law (drop at v) d e (drop_fits at v fits) f.1 g.1
 
-  answered : (v : List ℕ) → AreBytes v → (b : Bool) → rule v ≡ b → ((t : T) × (listed rule at level tree_of).means v t) ⊎ ((e : Fault) × (listed rule at level tree_of).faults v e)
+  answered : (v : List ℕ) → AreBytes v → (b : Bool) → rule v ≡ b
+      → ((t : T) × (listed rule at level tree_of).means v t)
+      ⊎ ((e : Fault) × (listed rule at level tree_of).faults v e)
   answered v fits false h = inr (Length, inl (h, refl))
   answered v fits true h = elim (list_some level law (drop at v) (drop_fits at v fits)) [
     | inl m ↦ inl (tree_of v m.0, (h, (m.0, m.1, refl)))

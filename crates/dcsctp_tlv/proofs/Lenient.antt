@@ -14,7 +14,8 @@ pub record Loosens {T : Type 0} (level loose : Level T) : Type 0 where
 
 -- ---- rows
 
-pub as_looser : {A B : Type 0} (f : A → B) (row loose : Row A) → LoosensRow row loose → LoosensRow (as_row f row) (as_row f loose)
+pub as_looser : {A B : Type 0} (f : A → B) (row loose : Row A) → LoosensRow row loose
+    → LoosensRow (as_row f row) (as_row f loose)
 as_looser f row loose law value t m = (m.0, law value m.0 m.1, m.2)
 
 -- ---- lists
@@ -37,8 +38,19 @@ module _ {T : Type 0} (level loose : Level T) (law : Loosens level loose) where
   mean (i ∷ is) [] m = absurd m
   mean (i ∷ is) (t ∷ ts) m = (law.row i.first i.second i.value t m.0, mean is ts m.1)
 
-  pub list_looser : (bytes : List ℕ) (ts : List T) → MeansTrees level bytes ts → MeansTrees loose bytes ts
-  list_looser bytes ts m = record { items = m.items; are = record { split = m.are.split; formed = formed m.items m.are.formed }; mean = mean m.items ts m.mean }
+  pub list_looser : (bytes : List ℕ) (ts : List T) → MeansTrees level bytes ts
+      → MeansTrees loose bytes ts
+  list_looser bytes ts m = record {
+    items = m.items;
+    are = record {
+      split = m.are.split;
+      formed = formed m.items m.are.formed;
+    };
+    mean = mean m.items ts m.mean;
+  }
 
-pub listed_looser : {T U : Type 0} (rule : List ℕ → Bool) (place : ℕ) (level loose : Level U) (tree_of : List ℕ → List U → T) → Loosens level loose → LoosensRow (listed rule place level tree_of) (listed rule place loose tree_of)
-listed_looser rule place level loose tree_of law value t m = (m.0, (m.1.0, list_looser level loose law _ m.1.0 m.1.1, m.1.2))
+pub listed_looser : {T U : Type 0} (rule : List ℕ → Bool) (place : ℕ) (level loose : Level U)
+    (tree_of : List ℕ → List U → T) → Loosens level loose
+    → LoosensRow (listed rule place level tree_of) (listed rule place loose tree_of)
+listed_looser rule place level loose tree_of law value t m =
+    (m.0, (m.1.0, list_looser level loose law _ m.1.0 m.1.1, m.1.2))

@@ -12,24 +12,30 @@ use Rattle.dcsctp_tlv.specs.Level.{Level, ItemsMean, MeansTrees, HasFault, HasFa
 use Rattle.dcsctp_tlv.proofs.Items.{AreBefore, front_item, front_split, front_next, before_push, before_end, before_rest}
 
 -- what a loop over the frames has read
-pub record Progress {T : Type 0} (level : Level T) (bytes : List ℕ) (trees : List T) (rest : List ℕ) : Type 0 where
+pub record Progress {T : Type 0} (level : Level T) (bytes : List ℕ) (trees : List T)
+    (rest : List ℕ) : Type 0 where
   pub items : List Item
   pub split : bytes ≡ flat_map item_bytes items ++ rest
   pub before : AreBefore level.padding items rest
   pub mean : ItemsMean level items trees
   pub fits : AreBytes rest
 
-pub begin : {T : Type 0} (level : Level T) (bytes : List ℕ) → AreBytes bytes → Progress level bytes [] bytes
+pub begin : {T : Type 0} (level : Level T) (bytes : List ℕ) → AreBytes bytes
+    → Progress level bytes [] bytes
 begin level bytes fits = record { items = []; split = refl; before = tt; mean = tt; fits = fits }
 
-mean_push : {T : Type 0} (level : Level T) (is : List Item) (ts : List T) (i : Item) (t : T) → ItemsMean level is ts → (level.row i.first i.second).means i.value t → ItemsMean level (is ++ i ∷ []) (ts ++ t ∷ [])
+mean_push : {T : Type 0} (level : Level T) (is : List Item) (ts : List T) (i : Item) (t : T)
+    → ItemsMean level is ts → (level.row i.first i.second).means i.value t
+    → ItemsMean level (is ++ i ∷ []) (ts ++ t ∷ [])
 mean_push level [] [] i t p q = (q, tt)
 mean_push level [] (u ∷ ts) i t p q = absurd p
 mean_push level (j ∷ is) [] i t p q = absurd p
 mean_push level (j ∷ is) (u ∷ ts) i t p q = (p.0, mean_push level is ts i t p.1 q)
 
-pub step : {T : Type 0} (level : Level T) (bytes : List ℕ) (trees : List T) (rest : List ℕ) (t : T) → Progress level bytes trees rest → BeginsWithFrame rest
-    → (front_row level rest).means (frame_value rest) t → level.padding (padding_size (length (frame_value rest))) (frame_padding rest) ≡ true
+pub step : {T : Type 0} (level : Level T) (bytes : List ℕ) (trees : List T) (rest : List ℕ) (t : T)
+    → Progress level bytes trees rest → BeginsWithFrame rest
+    → (front_row level rest).means (frame_value rest) t
+    → level.padding (padding_size (length (frame_value rest))) (frame_padding rest) ≡ true
     → Progress level bytes (trees ++ t ∷ []) (frame_rest rest)
 step level bytes trees rest t p frame means accepted =
     let i = front_item rest in
@@ -39,35 +45,43 @@ step level bytes trees rest t p frame means accepted =
       items = p.items ++ i ∷ [];
       split = p.split ∙ ap (λ (x : List ℕ). flat_map item_bytes p.items ++ x) cut
           ∙ sym (append_assoc (flat_map item_bytes p.items) (item_bytes i) (frame_rest rest))
-          ∙ ap (λ (x : List ℕ). (flat_map item_bytes p.items ++ x) ++ frame_rest rest) (sym (append-nil (item_bytes i)))
-          ∙ ap (λ (x : List ℕ). x ++ frame_rest rest) (sym (flat_map-append item_bytes p.items (i ∷ [])));
-      before = before_push level.padding p.items i (frame_rest rest) (subst (AreBefore level.padding p.items) cut p.before) next;
+          ∙ ap (λ (x : List ℕ). (flat_map item_bytes p.items ++ x) ++ frame_rest rest)
+          (sym (append-nil (item_bytes i)))
+          ∙ ap (λ (x : List ℕ). x ++ frame_rest rest)
+          (sym (flat_map-append item_bytes p.items (i ∷ [])));
+      before = before_push level.padding p.items i (frame_rest rest)
+          (subst (AreBefore level.padding p.items) cut p.before) next;
       mean = mean_push level p.items trees i t p.mean means;
       fits = λ k. rw get_or-drop (p.fits (round_up_to_4 (frame_length rest) + k));
     }
 
-pub finish : {T : Type 0} (level : Level T) (bytes : List ℕ) (trees : List T) (rest : List ℕ) → Progress level bytes trees rest → rest ≡ [] → MeansTrees level bytes trees
+pub finish : {T : Type 0} (level : Level T) (bytes : List ℕ) (trees : List T) (rest : List ℕ)
+    → Progress level bytes trees rest → rest ≡ [] → MeansTrees level bytes trees
 finish level bytes trees rest p e = record {
   items = p.items;
   are = record {
-    split = p.split ∙ ap (λ (x : List ℕ). flat_map item_bytes p.items ++ x) e ∙ append-nil (flat_map item_bytes p.items);
+    split = p.split ∙ ap (λ (x : List ℕ). flat_map item_bytes p.items ++ x) e
+        ∙ append-nil (flat_map item_bytes p.items);
     formed = before_end level.padding p.items (subst (AreBefore level.padding p.items) e p.before);
   };
   mean = p.mean;
 }
 
-not_nil : {T : Type 0} (level : Level T) (rest : List ℕ) (e : Fault) → BeginsWithFault level rest e → rest ≢ []
+not_nil : {T : Type 0} (level : Level T) (rest : List ℕ) (e : Fault) → BeginsWithFault level rest e
+    → rest ≢ []
 not_nil level [] e (no_frame h _ _) = h
 not_nil level [] e (value h _) = absurd (omega (arith, h.header))
 not_nil level [] e (padding _ h _ _ _) = absurd (omega (arith, h.header))
 not_nil level (b ∷ rest) e f = λ c. cc
 
 -- at the front of what is left, after the bytes that were gone over
-after_front : (all before left n k : ℕ) → all ≡ before + left → n ≡ (all - left) + k → n ≡ before + k
+after_front : (all before left n k : ℕ) → all ≡ before + left → n ≡ (all - left) + k
+    → n ≡ before + k
 after_front all before left n k e h = omega (arith, e, h)
 
 -- what is wrong at the front of what is left is the fault, and where it lies
-pub fault_at : {T : Type 0} (level : Level T) (bytes : List ℕ) (trees : List T) (rest : List ℕ) (e : Fault) (n : ℕ) → Progress level bytes trees rest → (f : BeginsWithFault level rest e)
+pub fault_at : {T : Type 0} (level : Level T) (bytes : List ℕ) (trees : List T) (rest : List ℕ)
+    (e : Fault) (n : ℕ) → Progress level bytes trees rest → (f : BeginsWithFault level rest e)
     → n ≡ (length bytes - length rest) + front_offset level rest e f → HasFaultAt level bytes e n
 fault_at level bytes trees rest e n p f h = (
   record {
@@ -79,10 +93,14 @@ fault_at level bytes trees rest e n p f h = (
     mean = p.mean;
     fault = f;
   },
-  after_front (length bytes) (length (flat_map item_bytes p.items)) (length rest) n (front_offset level rest e f) (ap length p.split ∙ length-append (flat_map item_bytes p.items) rest) h,
+  after_front (length bytes) (length (flat_map item_bytes p.items)) (length rest) n
+      (front_offset level rest e f) (ap length p.split ∙ length-append (flat_map item_bytes p.items)
+      rest) h,
 )
 
-pub fault : {T : Type 0} (level : Level T) (bytes : List ℕ) (trees : List T) (rest : List ℕ) (e : Fault) → Progress level bytes trees rest → BeginsWithFault level rest e → HasFault level bytes e
+pub fault : {T : Type 0} (level : Level T) (bytes : List ℕ) (trees : List T) (rest : List ℕ)
+    (e : Fault) → Progress level bytes trees rest → BeginsWithFault level rest e
+    → HasFault level bytes e
 fault level bytes trees rest e p f = (fault_at level bytes trees rest e _ p f refl).0
 
 -- what is_empty says

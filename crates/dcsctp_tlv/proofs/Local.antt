@@ -10,7 +10,8 @@ use Rattle.dcsctp_tlv.proofs.Accounts.{length-item}
 
 -- ---- items that fill words are whole, the last too
 
-whole_last : (rule : PaddingRule) (i : Item) → IsLastForm rule i → length (item_bytes i) % 4 ≡ 0 → IsWhole rule i
+whole_last : (rule : PaddingRule) (i : Item) → IsLastForm rule i → length (item_bytes i) % 4 ≡ 0
+    → IsWhole rule i
 whole_last rule i p words =
     let len = length-item i in
     record { fits = p.fits; padded = omega (arith, p.padded, words, len); accepted = p.accepted }
@@ -21,54 +22,76 @@ after_words m n h k = omega (arith, h, k)
 whole_words : (rule : PaddingRule) (i : Item) → IsWhole rule i → length (item_bytes i) % 4 ≡ 0
 whole_words rule i p = let len = length-item i in omega (arith, p.padded, len)
 
-pub all_whole : (rule : PaddingRule) (is : List Item) → AreFormed rule is → length (flat_map item_bytes is) % 4 ≡ 0 → AllByRecursion (IsWhole rule) is
+pub all_whole : (rule : PaddingRule) (is : List Item) → AreFormed rule is
+    → length (flat_map item_bytes is) % 4 ≡ 0 → AllByRecursion (IsWhole rule) is
 all_whole rule [] p words = tt
-all_whole rule (i ∷ []) p words = (whole_last rule i p (subst (λ (xs : List ℕ). length xs % 4 ≡ 0) (append-nil (item_bytes i)) words), tt)
+all_whole rule (i ∷ []) p words = (
+  whole_last rule i p (subst (λ (xs : List ℕ). length xs % 4 ≡ 0)
+      (append-nil (item_bytes i)) words),
+  tt,
+)
 all_whole rule (i ∷ j ∷ is) p words =
-    let len = length-append (item_bytes i) (flat_map item_bytes (j ∷ is)) in
-    (p.0, all_whole rule (j ∷ is) p.1 (after_words (length (item_bytes i)) (length (flat_map item_bytes (j ∷ is))) (whole_words rule i p.0) (ap (λ (n : ℕ). n % 4) (sym len) ∙ words)))
+    let len = length-append (item_bytes i) (flat_map item_bytes (j ∷ is)) in (
+      p.0,
+      all_whole rule (j ∷ is) p.1 (after_words (length (item_bytes i))
+          (length (flat_map item_bytes (j ∷ is))) (whole_words rule i p.0)
+          (ap (λ (n : ℕ). n % 4) (sym len) ∙ words)),
+    )
 
 -- ---- one list after another
 
-formed_after : (rule : PaddingRule) (is js : List Item) → AllByRecursion (IsWhole rule) is → AreFormed rule is → AreFormed rule js → AreFormed rule (is ++ js)
+formed_after : (rule : PaddingRule) (is js : List Item) → AllByRecursion (IsWhole rule) is
+    → AreFormed rule is → AreFormed rule js → AreFormed rule (is ++ js)
 formed_after rule [] js whole p q = q
 formed_after rule (i ∷ []) [] whole p q = p
 formed_after rule (i ∷ []) (j ∷ js) whole p q = (whole.0, q)
 formed_after rule (i ∷ k ∷ is) js whole p q = (whole.0, formed_after rule (k ∷ is) js whole.1 p.1 q)
 
-whole_after : (rule : PaddingRule) (is js : List Item) → AllByRecursion (IsWhole rule) is → AllByRecursion (IsWhole rule) js → AllByRecursion (IsWhole rule) (is ++ js)
+whole_after : (rule : PaddingRule) (is js : List Item) → AllByRecursion (IsWhole rule) is
+    → AllByRecursion (IsWhole rule) js → AllByRecursion (IsWhole rule) (is ++ js)
 whole_after rule [] js p q = q
 whole_after rule (i ∷ is) js p q = (p.0, whole_after rule is js p.1 q)
 
 module _ {T : Type 0} (level : Level T) where
-  mean_after : (is js : List Item) (ts us : List T) → ItemsMean level is ts → ItemsMean level js us → ItemsMean level (is ++ js) (ts ++ us)
+  mean_after : (is js : List Item) (ts us : List T) → ItemsMean level is ts → ItemsMean level js us
+      → ItemsMean level (is ++ js) (ts ++ us)
   mean_after [] js [] us m n = n
   mean_after [] js (t ∷ ts) us m n = absurd m
   mean_after (i ∷ is) js [] us m n = absurd m
   mean_after (i ∷ is) js (t ∷ ts) us m n = (m.0, mean_after is js ts us m.1 n)
 
-  whole_items : (front : List ℕ) (ts : List T) (m : MeansTrees level front ts) → length front % 4 ≡ 0 → AllByRecursion (IsWhole level.padding) m.items
-  whole_items front ts m words = all_whole level.padding m.items m.are.formed (subst (λ (xs : List ℕ). length xs % 4 ≡ 0) m.are.split words)
+  whole_items : (front : List ℕ) (ts : List T) (m : MeansTrees level front ts)
+      → length front % 4 ≡ 0 → AllByRecursion (IsWhole level.padding) m.items
+  whole_items front ts m words = all_whole level.padding m.items m.are.formed
+      (subst (λ (xs : List ℕ). length xs % 4 ≡ 0) m.are.split words)
 
   -- the trees of both, one list after the other
-  pub local_means : (front end : List ℕ) (ts us : List T) → length front % 4 ≡ 0 → MeansTrees level front ts → MeansTrees level end us → MeansTrees level (front ++ end) (ts ++ us)
+  pub local_means : (front end : List ℕ) (ts us : List T) → length front % 4 ≡ 0
+      → MeansTrees level front ts → MeansTrees level end us
+      → MeansTrees level (front ++ end) (ts ++ us)
   local_means front end ts us words m n = record {
     items = m.items ++ n.items;
     are = record {
-      split = ap (λ (xs : List ℕ). xs ++ end) m.are.split ∙ ap (λ (xs : List ℕ). flat_map item_bytes m.items ++ xs) n.are.split ∙ sym (flat_map-append item_bytes m.items n.items);
-      formed = formed_after level.padding m.items n.items (whole_items front ts m words) m.are.formed n.are.formed;
+      split = ap (λ (xs : List ℕ). xs ++ end) m.are.split
+          ∙ ap (λ (xs : List ℕ). flat_map item_bytes m.items ++ xs) n.are.split
+          ∙ sym (flat_map-append item_bytes m.items n.items);
+      formed = formed_after level.padding m.items n.items (whole_items front ts m words)
+          m.are.formed n.are.formed;
     };
     mean = mean_after m.items n.items ts us m.mean n.mean;
   }
 
   -- the fault of the second
-  pub local_fault : (front end : List ℕ) (ts : List T) (e : Fault) → length front % 4 ≡ 0 → MeansTrees level front ts → HasFault level end e → HasFault level (front ++ end) e
+  pub local_fault : (front end : List ℕ) (ts : List T) (e : Fault) → length front % 4 ≡ 0
+      → MeansTrees level front ts → HasFault level end e → HasFault level (front ++ end) e
   local_fault front end ts e words m f = record {
     items = m.items ++ f.items;
     trees = ts ++ f.trees;
     rest = f.rest;
-    split = ap (λ (xs : List ℕ). xs ++ end) m.are.split ∙ ap (λ (xs : List ℕ). flat_map item_bytes m.items ++ xs) f.split
-        ∙ sym (append_assoc (flat_map item_bytes m.items) (flat_map item_bytes f.items) f.rest) ∙ ap (λ (xs : List ℕ). xs ++ f.rest) (sym (flat_map-append item_bytes m.items f.items));
+    split = ap (λ (xs : List ℕ). xs ++ end) m.are.split
+        ∙ ap (λ (xs : List ℕ). flat_map item_bytes m.items ++ xs) f.split
+        ∙ sym (append_assoc (flat_map item_bytes m.items) (flat_map item_bytes f.items) f.rest)
+        ∙ ap (λ (xs : List ℕ). xs ++ f.rest) (sym (flat_map-append item_bytes m.items f.items));
     whole = whole_after level.padding m.items f.items (whole_items front ts m words) f.whole;
     mean = mean_after m.items f.items ts f.trees m.mean f.mean;
     fault = f.fault;

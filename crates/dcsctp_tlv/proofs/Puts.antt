@@ -22,7 +22,8 @@ use Rattle.dcsctp_tlv.specs.Fields.{fields}
 pub inside : (size i count : ℕ) → i < count → size * i + size ≤ size * count
 inside size i zero lt = absurd (omega arith)
 inside size zero (suc count) lt = omega (arith, mul-suc size count, mul-zero size)
-inside size (suc i) (suc count) lt = omega (arith, mul-suc size i, mul-suc size count, inside size i count (omega arith))
+inside size (suc i) (suc count) lt =
+    omega (arith, mul-suc size i, mul-suc size count, inside size i count (omega arith))
 
 pub next_place : (size i : ℕ) → size * (i + 1) ≡ size * i + size
 next_place size i = omega (arith, mul-suc size i, ap (λ (n : ℕ). size * n) (add-one i))
@@ -30,27 +31,39 @@ next_place size i = omega (arith, mul-suc size i, ap (λ (n : ℕ). size * n) (a
 -- ---- reading
 
 -- one field more
-pub fields-push : {A : Type 0} (read : List ℕ → A) (size count : ℕ) (bytes : List ℕ) → fields read size (count + 1) bytes ≡ fields read size count bytes ++ read (drop (size * count) bytes) ∷ []
-fields-push read size count bytes = map-range_with_len_more (λ i. read (drop (size * i) bytes)) 0 count count (omega arith)
+pub fields-push : {A : Type 0} (read : List ℕ → A) (size count : ℕ) (bytes : List ℕ)
+    → fields read size (count + 1) bytes ≡ fields read size count bytes
+    ++ read (drop (size * count) bytes) ∷ []
+fields-push read size count bytes =
+    map-range_with_len_more (λ i. read (drop (size * i) bytes)) 0 count count (omega arith)
 
 -- ---- writing
 
 -- what is written after what was written
-pub put-put : (old : List ℕ) (place next : ℕ) (a b : List ℕ) → place ≤ length old → next ≡ place + length a → put (put old place a) next b ≡ put old place (a ++ b)
+pub put-put : (old : List ℕ) (place next : ℕ) (a b : List ℕ) → place ≤ length old
+    → next ≡ place + length a → put (put old place a) next b ≡ put old place (a ++ b)
 put-put old place next a b le e =
     let front : List ℕ = take place old ++ a in
     let back : List ℕ = drop (place + length a) old in
     let so_far : put old place a ≡ front ++ back = sym (append_assoc (take place old) a back) in
-    let len : length front ≡ next = (let l = length-append (take place old) a in let k = length-take place old in omega (arith, l, k)) in
-    let end : place + length a + length b ≡ place + length (a ++ b) = (let l = length-append a b in omega (arith, l)) in
+    let len : length front ≡ next = (let l = length-append (take place old) a in
+    let k = length-take place old in omega (arith, l, k)) in
+    let end : place + length a + length b ≡ place + length (a ++ b) =
+    (let l = length-append a b in omega (arith, l)) in
     ap (λ (xs : List ℕ). take next xs ++ (b ++ drop (next + length b) xs)) so_far
-    ∙ ap (λ (xs : List ℕ). xs ++ (b ++ drop (next + length b) (front ++ back))) (take_at front back next len)
-    ∙ ap (λ (xs : List ℕ). front ++ (b ++ xs)) (sym (drop-drop (length b) next (front ++ back)) ∙ ap (drop (length b)) (drop_at front back next len) ∙ drop-drop (length b) (place + length a) old ∙ ap (λ (n : ℕ). drop n old) end)
+    ∙ ap (λ (xs : List ℕ). xs ++ (b ++ drop (next + length b) (front ++ back)))
+    (take_at front back next len)
+    ∙ ap (λ (xs : List ℕ). front ++ (b ++ xs)) (sym (drop-drop (length b) next (front ++ back))
+    ∙ ap (drop (length b)) (drop_at front back next len) ∙ drop-drop (length b)
+    (place + length a) old ∙ ap (λ (n : ℕ). drop n old) end)
     ∙ append_assoc (take place old) a (b ++ drop (place + length (a ++ b)) old)
-    ∙ ap (λ (xs : List ℕ). take place old ++ xs) (sym (append_assoc a b (drop (place + length (a ++ b)) old)))
+    ∙ ap (λ (xs : List ℕ). take place old ++ xs)
+    (sym (append_assoc a b (drop (place + length (a ++ b)) old)))
 
 -- so many fields of a size
-pub length-written : {X : Type 0} (write : X → List ℕ) (size : ℕ) (xs : List X) → AllByRecursion (λ x. length (write x) ≡ size) xs → length (flat_map write xs) ≡ size * length xs
+pub length-written : {X : Type 0} (write : X → List ℕ) (size : ℕ) (xs : List X)
+    → AllByRecursion (λ x. length (write x) ≡ size) xs → length (flat_map write xs)
+    ≡ size * length xs
 length-written write size [] p = sym (mul-zero size)
 length-written write size (x ∷ xs) p =
     let l = length-append (write x) (flat_map write xs) in
@@ -58,24 +71,34 @@ length-written write size (x ∷ xs) p =
     omega (arith, l, more, p.0, mul-suc size (length xs))
 
 -- one field more
-pub put_more : {X : Type 0} (write : X → List ℕ) (size : ℕ) (is_writable : X → Type 0) (xs : List X) (i : ℕ) (x : X) (old out : List ℕ) (place end : ℕ)
-    → ((y : X) → is_writable y → length (write y) ≡ size) → All is_writable xs → i < length xs → x ≡ get_or xs i x → place ≤ length old
-    → end ≡ place + size * i → out ≡ put old place (flat_map write (take i xs)) → put out end (write x) ≡ put old place (flat_map write (take (i + 1) xs))
+pub put_more : {X : Type 0} (write : X → List ℕ) (size : ℕ) (is_writable : X → Type 0) (xs : List X)
+    (i : ℕ) (x : X) (old out : List ℕ) (place end : ℕ)
+    → ((y : X) → is_writable y → length (write y) ≡ size) → All is_writable xs → i < length xs
+    → x ≡ get_or xs i x → place ≤ length old
+    → end ≡ place + size * i → out ≡ put old place (flat_map write (take i xs))
+    → put out end (write x) ≡ put old place (flat_map write (take (i + 1) xs))
 put_more write size is_writable xs i x old out place end law each lt e le at so_far =
     let before = flat_map write (take i xs) in
     let count : length (take i xs) ≡ i = (let k = length-take i xs in omega (arith, k)) in
     let len : length before ≡ size * i =
-    length-written write size (take i xs) (all_from is_writable _ (take i xs) law (all_take is_writable i xs (recursion_from_All is_writable xs each))) ∙ ap (λ (n : ℕ). size * n) count in
+    length-written write size (take i xs) (all_from is_writable _ (take i xs) law
+    (all_take is_writable i xs (recursion_from_All is_writable xs each)))
+    ∙ ap (λ (n : ℕ). size * n) count in
     let more : flat_map write (take (i + 1) xs) ≡ before ++ write x =
-    ap (flat_map write) (take_more xs i x lt ∙ ap (λ (y : _). take i xs ++ y ∷ []) (sym e)) ∙ flat_map-append write (take i xs) (x ∷ []) ∙ ap (λ (ys : List ℕ). before ++ ys) (append-nil (write x)) in
-    ap (λ (ys : List ℕ). put ys end (write x)) so_far ∙ put-put old place end before (write x) le (at ∙ ap (λ (n : ℕ). place + n) (sym len)) ∙ ap (put old place) (sym more)
+    ap (flat_map write) (take_more xs i x lt ∙ ap (λ (y : _). take i xs ++ y ∷ []) (sym e))
+    ∙ flat_map-append write (take i xs) (x ∷ []) ∙ ap (λ (ys : List ℕ). before ++ ys)
+    (append-nil (write x)) in
+    ap (λ (ys : List ℕ). put ys end (write x)) so_far ∙ put-put old place end before (write x) le
+    (at ∙ ap (λ (n : ℕ). place + n) (sym len)) ∙ ap (put old place) (sym more)
 
 -- ---- lengths
 
-pub length-fields : {X T : Type 0} (view : X → T) (write : T → List ℕ) (size : ℕ) (is_writable : X → Type 0) (xs : List X) → ((x : X) → is_writable x → length (write (view x)) ≡ size)
+pub length-fields : {X T : Type 0} (view : X → T) (write : T → List ℕ) (size : ℕ) (is_writable : X
+    → Type 0) (xs : List X) → ((x : X) → is_writable x → length (write (view x)) ≡ size)
     → All is_writable xs → length (flat_map write (map view xs)) ≡ size * length xs
 length-fields view write size is_writable xs law each =
-    ap length (flat_map-map write view xs) ∙ length-written (λ x. write (view x)) size xs (all_from is_writable _ xs law (recursion_from_All is_writable xs each))
+    ap length (flat_map-map write view xs) ∙ length-written (λ x. write (view x)) size xs
+    (all_from is_writable _ xs law (recursion_from_All is_writable xs each))
 
 -- numbers of four bytes, and after them fields
 pub length-value : {X T : Type 0} (view : X → T) (write : T → List ℕ) (size : ℕ)
@@ -92,12 +115,17 @@ length-value view write size is_writable ns xs law each =
 -- ---- items
 
 -- a value after its header
-pub written_value : (first second n : ℕ) (bytes old headed : List ℕ) → n ≡ length bytes → 4 + length bytes ≤ length old
-    → headed ≡ header first second n ++ drop 4 old → put headed 4 bytes ≡ written (image_of (solid_tlv first second bytes)) old
+pub written_value : (first second n : ℕ) (bytes old headed : List ℕ) → n ≡ length bytes
+    → 4 + length bytes ≤ length old
+    → headed ≡ header first second n ++ drop 4 old
+    → put headed 4 bytes ≡ written (image_of (solid_tlv first second bytes)) old
 written_value first second n bytes old headed e room is =
-    let all : length headed ≡ 4 + length (drop 4 old) = ap length is ∙ length-append (header first second n) (drop 4 old) in
+    let all : length headed ≡ 4 + length (drop 4 old) =
+    ap length is ∙ length-append (header first second n) (drop 4 old) in
     let left = length-drop 4 old in
     let left_headed = length-drop 4 headed in
     ap (λ (xs : List ℕ). take 4 headed ++ (bytes ++ xs)) (sym (drop-drop (length bytes) 4 headed))
-    ∙ ap (λ (xs : List ℕ). take 4 headed ++ xs) (sym (written-solid bytes (drop 4 headed) (omega (arith, all, left, left_headed))))
-    ∙ written_item (solid_tlv first second bytes) old headed (is ∙ ap (λ (k : ℕ). header first second k ++ drop 4 old) e) (omega arith)
+    ∙ ap (λ (xs : List ℕ). take 4 headed ++ xs)
+    (sym (written-solid bytes (drop 4 headed) (omega (arith, all, left, left_headed))))
+    ∙ written_item (solid_tlv first second bytes) old headed
+    (is ∙ ap (λ (k : ℕ). header first second k ++ drop 4 old) e) (omega arith)

@@ -9,7 +9,8 @@ use Rattle.dcsctp_tlv.specs.Reading.{Answers, checking, locating, Tested, RowTes
 
 -- ---- a check of one kind, at the level of its table
 
-pub passes_row : {T U : Type 0} (f : T → U) (read : Result T Fault) (r : Result (Unit {0}) ChunkParseError) → Answers checking (λ (u : Unit {0}). u) (Tested read) r
+pub passes_row : {T U : Type 0} (f : T → U) (read : Result T Fault)
+    (r : Result (Unit {0}) ChunkParseError) → Answers checking (λ (u : Unit {0}). u) (Tested read) r
     → Answers checking (λ (u : Unit {0}). u) (RowTested (plain (λ v. map_ok f read)) []) r
 passes_row f (Ok t) (Ok x) p = (f t, refl)
 passes_row f (Err d) (Ok x) p = absurd (let e : false ≡ true = p in cc)
@@ -19,18 +20,22 @@ passes_row f read (Err e) (inr none) = absurd none
 -- ---- what is known where a value has a meaning
 
 -- a test, and a fault where it fails
-pub ok_passed : {T : Type 0} (b : Bool) (r : Result T Fault) (e : Fault) → IsOk (cond b r (Err e)) → b ≡ true
+pub ok_passed : {T : Type 0} (b : Bool) (r : Result T Fault) (e : Fault) → IsOk (cond b r (Err e))
+    → b ≡ true
 ok_passed true r e ok = refl
 ok_passed false r e ok = absurd (let h : false ≡ true = ok in cc)
 
 -- a test, and a fault where it holds
-pub ok_not_refused : {T : Type 0} (b : Bool) (r : Result T Fault) (e : Fault) → IsOk (cond b (Err e) r) → (b ≡ false) × IsOk r
+pub ok_not_refused : {T : Type 0} (b : Bool) (r : Result T Fault) (e : Fault)
+    → IsOk (cond b (Err e) r) → (b ≡ false) × IsOk r
 ok_not_refused false r e ok = (refl, ok)
 ok_not_refused true r e ok = absurd (let h : false ≡ true = ok in cc)
 
 -- ---- a check of a kind with a list, at the level of its table
 
-pub finds_as : {A B : Type 0} (f : A → B) (row : Row A) (parts : A → ℕ) (all : B → ℕ) → ((x : A) → all (f x) ≡ parts x) → (v : List ℕ) (r : Result ℕ LocatedFault)
-    → Answers locating (λ (n : ℕ). n) (RowLocated parts row v) r → Answers locating (λ (n : ℕ). n) (RowLocated all (as_row f row) v) r
+pub finds_as : {A B : Type 0} (f : A → B) (row : Row A) (parts : A → ℕ) (all : B → ℕ)
+    → ((x : A) → all (f x) ≡ parts x) → (v : List ℕ) (r : Result ℕ LocatedFault)
+    → Answers locating (λ (n : ℕ). n) (RowLocated parts row v) r
+    → Answers locating (λ (n : ℕ). n) (RowLocated all (as_row f row) v) r
 finds_as f row parts all same v (Ok n) p = (f p.0, (p.0, p.1, refl), p.2 ∙ sym (same p.0))
 finds_as f row parts all same v (Err l) p = p

@@ -1,4 +1,5 @@
--- What is written reads back, at every level whose kinds do; and what was read has the size of its bytes.
+-- What is written reads back, at every level whose kinds do; and what was read has the size of its
+-- bytes.
 use Rattle.std.proofs.Common.{◌≡◌, ℕ, suc, zero, ◌^◌, ◌<◌, Bool, true, false, List, [], ◌∷◌, ◌++◌, length, refl, sym, ap, ◌∙◌, append_assoc, arith, Option}
 use Rattle.std.specs.Prelude.{replicate, unwrap_or}
 use Rattle.std.specs.List.{flat_map, AllByRecursion}
@@ -10,10 +11,12 @@ use Rattle.dcsctp_tlv.specs.Image.{solid, holes, zeroed, gap, Tlv, size_of, IsEn
 use Rattle.dcsctp_tlv.proofs.Images.{zeroed-append, zeroed-holes}
 
 -- Which trees of a level read back: what each is written as means it.
-pub record ReadsBack {T : Type 0} (level : Level T) (tlv : T → Tlv) (IsGood : T → Type 0) : Type 0 where
+pub record ReadsBack {T : Type 0} (level : Level T) (tlv : T → Tlv) (IsGood : T
+    → Type 0) : Type 0 where
   pub sized : (t : T) → length (tlv t).value ≡ (tlv t).value_size
   pub fits : (t : T) → IsGood t → size_of (tlv t) < 2 ^ 16
-  pub means : (t : T) → IsGood t → (level.row (tlv t).first (tlv t).second).means (zeroed (tlv t).value) t
+  pub means : (t : T) → IsGood t → (level.row (tlv t).first (tlv t).second).means
+      (zeroed (tlv t).value) t
 
 -- padding of zeros is accepted; none may be wanted of the last item
 abbrev pub AcceptsZeros : PaddingRule → Type 0
@@ -47,38 +50,48 @@ length-zeroed : (image : List (Option ℕ)) → length (zeroed image) ≡ length
 length-zeroed image = length-map image (λ cell. unwrap_or cell 0)
 
 -- each item of a list that two bytes can hold the size of can be written
-pub each_encodable : {T : Type 0} (tlv : T → Tlv) (ts : List T) → list_size tlv ts < 2 ^ 16 → AllByRecursion (λ t. IsEncodable (tlv t)) ts
+pub each_encodable : {T : Type 0} (tlv : T → Tlv) (ts : List T) → list_size tlv ts < 2 ^ 16
+    → AllByRecursion (λ t. IsEncodable (tlv t)) ts
 each_encodable tlv [] fits = tt
 each_encodable tlv (t ∷ []) fits = (fits, tt)
-each_encodable tlv (t ∷ u ∷ ts) fits = (omega (arith, fits), each_encodable tlv (u ∷ ts) (omega (arith, fits)))
+each_encodable tlv (t ∷ u ∷ ts) fits =
+    (omega (arith, fits), each_encodable tlv (u ∷ ts) (omega (arith, fits)))
 
 -- ---- one item
 
 -- the item that a tree is written as, with so many bytes of padding
 abbrev pub item_of : Tlv → ℕ → Item
-item_of t n = record { first = t.first; second = t.second; value = zeroed t.value; padding = replicate n 0 }
+item_of t n =
+    record { first = t.first; second = t.second; value = zeroed t.value; padding = replicate n 0 }
 
 -- an image over zeros, and some zeros, are that item
-item_bytes_of : (t : Tlv) (n : ℕ) → length t.value ≡ t.value_size → zeroed (image_of t) ++ replicate n 0 ≡ item_bytes (item_of t n)
+item_bytes_of : (t : Tlv) (n : ℕ) → length t.value ≡ t.value_size
+    → zeroed (image_of t) ++ replicate n 0 ≡ item_bytes (item_of t n)
 unfolding image_of
 item_bytes_of t n sized =
     let front : List ℕ = header t.first t.second t.value_size in
-    ap (λ (xs : List ℕ). xs ++ replicate n 0) (zeroed-append (solid front) t.value ∙ ap (λ (xs : List ℕ). xs ++ zeroed t.value) (zeroed-solid front))
+    ap (λ (xs : List ℕ). xs ++ replicate n 0) (zeroed-append (solid front) t.value
+    ∙ ap (λ (xs : List ℕ). xs ++ zeroed t.value) (zeroed-solid front))
     ∙ append_assoc front (zeroed t.value) (replicate n 0)
-    ∙ ap (λ (m : ℕ). header t.first t.second m ++ (zeroed t.value ++ replicate n 0)) (sym sized ∙ sym (length-zeroed t.value))
+    ∙ ap (λ (m : ℕ). header t.first t.second m ++ (zeroed t.value ++ replicate n 0))
+    (sym sized ∙ sym (length-zeroed t.value))
 
-whole_item : (rule : PaddingRule) (t : Tlv) → length t.value ≡ t.value_size → size_of t < 2 ^ 16 → AcceptsZeros rule → IsWhole rule (item_of t (gap (size_of t)))
+whole_item : (rule : PaddingRule) (t : Tlv) → length t.value ≡ t.value_size → size_of t < 2 ^ 16
+    → AcceptsZeros rule → IsWhole rule (item_of t (gap (size_of t)))
 whole_item rule t sized fits accepts =
     let same = length-zeroed t.value in
     record {
       fits = omega (arith, same, sized, fits);
       padded = length-replicate (gap (size_of t)) 0 ∙ omega (arith, same, sized);
-      accepted = (let same_padding : padding_size (length (zeroed t.value)) ≡ gap (size_of t) = omega (arith, same, sized) in rw same_padding (accepts (gap (size_of t))));
+      accepted = (let same_padding : padding_size (length (zeroed t.value))
+          ≡ gap (size_of t) =
+          omega (arith, same, sized) in rw same_padding (accepts (gap (size_of t))));
     }
 
 -- ---- a nested list: its last item has no padding
 
-module _ {T : Type 0} (level : Level T) (tlv : T → Tlv) (IsGood : T → Type 0) (back : ReadsBack level tlv IsGood) where
+module _ {T : Type 0} (level : Level T) (tlv : T → Tlv) (IsGood : T
+    → Type 0) (back : ReadsBack level tlv IsGood) where
   abbrev nested_items : List T → List Item
   nested_items [] = []
   nested_items (t ∷ []) = item_of (tlv t) 0 ∷ []
@@ -86,25 +99,36 @@ module _ {T : Type 0} (level : Level T) (tlv : T → Tlv) (IsGood : T → Type 0
 
   nested_split : (ts : List T) → zeroed (list_image tlv ts) ≡ flat_map item_bytes (nested_items ts)
   nested_split [] = refl
-  nested_split (t ∷ []) = sym (append-nil (zeroed (image_of (tlv t)))) ∙ item_bytes_of (tlv t) 0 (back.sized t) ∙ sym (append-nil (item_bytes (item_of (tlv t) 0)))
+  nested_split (t ∷ []) = sym (append-nil (zeroed (image_of (tlv t)))) ∙ item_bytes_of (tlv t) 0
+      (back.sized t) ∙ sym (append-nil (item_bytes (item_of (tlv t) 0)))
   nested_split (t ∷ u ∷ ts) =
       let g = gap (size_of (tlv t)) in
       let l = list_image tlv (u ∷ ts) in
       zeroed-append (image_of (tlv t)) (holes g ++ l)
-      ∙ ap (λ (xs : List ℕ). zeroed (image_of (tlv t)) ++ xs) (zeroed-append (holes g) l ∙ ap (λ (xs : List ℕ). xs ++ zeroed l) (zeroed-holes g))
+      ∙ ap (λ (xs : List ℕ). zeroed (image_of (tlv t)) ++ xs) (zeroed-append (holes g) l
+      ∙ ap (λ (xs : List ℕ). xs ++ zeroed l) (zeroed-holes g))
       ∙ sym (append_assoc (zeroed (image_of (tlv t))) (replicate g 0) (zeroed l))
       ∙ ap (λ (xs : List ℕ). xs ++ zeroed l) (item_bytes_of (tlv t) g (back.sized t))
       ∙ ap (λ (xs : List ℕ). item_bytes (item_of (tlv t) g) ++ xs) (nested_split (u ∷ ts))
 
-  nested_formed : (ts : List T) → AllByRecursion IsGood ts → AcceptsZeros level.padding → AcceptsNone level.padding → AreFormed level.padding (nested_items ts)
+  nested_formed : (ts : List T) → AllByRecursion IsGood ts → AcceptsZeros level.padding
+      → AcceptsNone level.padding → AreFormed level.padding (nested_items ts)
   nested_formed [] good zeros none = tt
   nested_formed (t ∷ []) good zeros none = record {
     fits = omega (arith, back.fits t good.0, back.sized t, length-zeroed (tlv t).value);
     padded = omega arith;
     accepted = none (padding_size (length (zeroed (tlv t).value)));
   }
-  nested_formed (t ∷ u ∷ []) good zeros none = (whole_item level.padding (tlv t) (back.sized t) (back.fits t good.0) zeros, nested_formed (u ∷ []) good.1 zeros none)
-  nested_formed (t ∷ u ∷ v ∷ ts) good zeros none = (whole_item level.padding (tlv t) (back.sized t) (back.fits t good.0) zeros, nested_formed (u ∷ v ∷ ts) good.1 zeros none)
+  nested_formed (t ∷ u ∷ []) good zeros none = (
+    whole_item level.padding (tlv t) (back.sized t)
+        (back.fits t good.0) zeros,
+    nested_formed (u ∷ []) good.1 zeros none,
+  )
+  nested_formed (t ∷ u ∷ v ∷ ts) good zeros none = (
+    whole_item level.padding (tlv t) (back.sized t)
+        (back.fits t good.0) zeros,
+    nested_formed (u ∷ v ∷ ts) good.1 zeros none,
+  )
 
   nested_mean : (ts : List T) → AllByRecursion IsGood ts → ItemsMean level (nested_items ts) ts
   nested_mean [] good = tt
@@ -112,7 +136,8 @@ module _ {T : Type 0} (level : Level T) (tlv : T → Tlv) (IsGood : T → Type 0
   nested_mean (t ∷ u ∷ ts) good = (back.means t good.0, nested_mean (u ∷ ts) good.1)
 
   -- the image of a list, over zeros, means the list
-  pub nested_reads_back : (ts : List T) → AllByRecursion IsGood ts → AcceptsZeros level.padding → AcceptsNone level.padding → MeansTrees level (zeroed (list_image tlv ts)) ts
+  pub nested_reads_back : (ts : List T) → AllByRecursion IsGood ts → AcceptsZeros level.padding
+      → AcceptsNone level.padding → MeansTrees level (zeroed (list_image tlv ts)) ts
   nested_reads_back ts good zeros none = record {
     items = nested_items ts;
     are = record { split = nested_split ts; formed = nested_formed ts good zeros none };
@@ -131,23 +156,32 @@ module _ {T : Type 0} (level : Level T) (tlv : T → Tlv) (IsGood : T → Type 0
   body_split : (ts : List T) → flat_map padded_image ts ≡ flat_map item_bytes (body_items ts)
   body_split [] = refl
   body_split (t ∷ ts) =
-      ap (λ (xs : List ℕ). xs ++ flat_map padded_image ts) (item_bytes_of (tlv t) (gap (size_of (tlv t))) (back.sized t))
-      ∙ ap (λ (xs : List ℕ). item_bytes (item_of (tlv t) (gap (size_of (tlv t)))) ++ xs) (body_split ts)
+      ap (λ (xs : List ℕ). xs ++ flat_map padded_image ts)
+      (item_bytes_of (tlv t) (gap (size_of (tlv t))) (back.sized t))
+      ∙ ap (λ (xs : List ℕ). item_bytes (item_of (tlv t) (gap (size_of (tlv t)))) ++ xs)
+      (body_split ts)
 
   whole_last : (i : Item) → IsWhole level.padding i → IsLastForm level.padding i
   whole_last i p = record { fits = p.fits; padded = omega (arith, p.padded); accepted = p.accepted }
 
-  body_formed : (ts : List T) → AllByRecursion IsGood ts → AcceptsZeros level.padding → AreFormed level.padding (body_items ts)
+  body_formed : (ts : List T) → AllByRecursion IsGood ts → AcceptsZeros level.padding
+      → AreFormed level.padding (body_items ts)
   body_formed [] good zeros = tt
-  body_formed (t ∷ []) good zeros = whole_last _ (whole_item level.padding (tlv t) (back.sized t) (back.fits t good.0) zeros)
-  body_formed (t ∷ u ∷ ts) good zeros = (whole_item level.padding (tlv t) (back.sized t) (back.fits t good.0) zeros, body_formed (u ∷ ts) good.1 zeros)
+  body_formed (t ∷ []) good zeros =
+      whole_last _ (whole_item level.padding (tlv t) (back.sized t) (back.fits t good.0) zeros)
+  body_formed (t ∷ u ∷ ts) good zeros = (
+    whole_item level.padding (tlv t) (back.sized t)
+        (back.fits t good.0) zeros,
+    body_formed (u ∷ ts) good.1 zeros,
+  )
 
   body_mean : (ts : List T) → AllByRecursion IsGood ts → ItemsMean level (body_items ts) ts
   body_mean [] good = tt
   body_mean (t ∷ ts) good = (back.means t good.0, body_mean ts good.1)
 
   -- the padded images mean the trees
-  pub body_reads_back : (ts : List T) → AllByRecursion IsGood ts → AcceptsZeros level.padding → MeansTrees level (flat_map padded_image ts) ts
+  pub body_reads_back : (ts : List T) → AllByRecursion IsGood ts → AcceptsZeros level.padding
+      → MeansTrees level (flat_map padded_image ts) ts
   body_reads_back ts good zeros = record {
     items = body_items ts;
     are = record { split = body_split ts; formed = body_formed ts good zeros };

@@ -3,26 +3,36 @@ use Rattle.std.proofs.Common.{◌≡◌, ℕ, suc, zero, ◌+◌, ◌<◌, List,
 use Rattle.std.proofs.lemmas.List.{take_more, map_push}
 use Rattle.dcsctp_tlv.specs.Text.{joined}
 
-joined-push : (separator : List ℕ) (u : List ℕ) (ts : List (List ℕ)) (t : List ℕ) → joined separator ((u ∷ ts) ++ t ∷ []) ≡ joined separator (u ∷ ts) ++ (separator ++ t)
+joined-push : (separator : List ℕ) (u : List ℕ) (ts : List (List ℕ)) (t : List ℕ)
+    → joined separator ((u ∷ ts) ++ t ∷ []) ≡ joined separator (u ∷ ts) ++ (separator ++ t)
 joined-push separator u [] t = refl
 joined-push separator u (v ∷ ts) t =
     ap (λ (x : List ℕ). u ++ (separator ++ x)) (joined-push separator v ts t)
-    ∙ ap (λ (x : List ℕ). u ++ x) (sym (append_assoc separator (joined separator (v ∷ ts)) (separator ++ t)))
+    ∙ ap (λ (x : List ℕ). u ++ x) (sym (append_assoc separator (joined separator (v ∷ ts))
+    (separator ++ t)))
     ∙ sym (append_assoc u (separator ++ joined separator (v ∷ ts)) (separator ++ t))
 
-one_more : {X : Type 0} (text : X → List ℕ) (xs : List X) (i : ℕ) (x : X) → i < length xs → x ≡ get_or xs i x → map text (take (i + 1) xs) ≡ map text (take i xs) ++ text x ∷ []
-one_more text xs i x lt e = ap (map text) (take_more xs i x lt ∙ ap (λ (y : _). take i xs ++ y ∷ []) (sym e)) ∙ map_push text (take i xs) x
+one_more : {X : Type 0} (text : X → List ℕ) (xs : List X) (i : ℕ) (x : X) → i < length xs
+    → x ≡ get_or xs i x → map text (take (i + 1) xs) ≡ map text (take i xs) ++ text x ∷ []
+one_more text xs i x lt e = ap (map text) (take_more xs i x lt ∙ ap (λ (y : _). take i xs ++ y ∷ [])
+    (sym e)) ∙ map_push text (take i xs) x
 
 -- the first item stands alone
-pub joined_first : {X : Type 0} (separator : List ℕ) (text : X → List ℕ) (xs : List X) (i : ℕ) (x : X) → i ≡ 0 → i < length xs → x ≡ get_or xs i x
-    → joined separator (map text (take i xs)) ++ text x ≡ joined separator (map text (take (i + 1) xs))
-joined_first separator text xs zero x none lt e = sym (ap (joined separator) (one_more text xs zero x lt e))
+pub joined_first : {X : Type 0} (separator : List ℕ) (text : X → List ℕ) (xs : List X) (i : ℕ)
+    (x : X) → i ≡ 0 → i < length xs → x ≡ get_or xs i x
+    → joined separator (map text (take i xs)) ++ text x ≡ joined separator
+    (map text (take (i + 1) xs))
+joined_first separator text xs zero x none lt e =
+    sym (ap (joined separator) (one_more text xs zero x lt e))
 joined_first separator text xs (suc i) x none lt e = absurd (omega arith)
 
 -- each other stands after a separator
-pub joined_next : {X : Type 0} (separator : List ℕ) (text : X → List ℕ) (xs : List X) (i : ℕ) (x : X) → 0 < i → i < length xs → x ≡ get_or xs i x
-    → joined separator (map text (take i xs)) ++ (separator ++ text x) ≡ joined separator (map text (take (i + 1) xs))
+pub joined_next : {X : Type 0} (separator : List ℕ) (text : X → List ℕ) (xs : List X) (i : ℕ)
+    (x : X) → 0 < i → i < length xs → x ≡ get_or xs i x
+    → joined separator (map text (take i xs)) ++ (separator ++ text x) ≡ joined separator
+    (map text (take (i + 1) xs))
 joined_next separator text [] i x some lt e = absurd (omega arith)
 joined_next separator text (y ∷ xs) zero x some lt e = absurd (omega arith)
 joined_next separator text (y ∷ xs) (suc i) x some lt e =
-    sym (ap (joined separator) (one_more text (y ∷ xs) (suc i) x lt e) ∙ joined-push separator (text y) (map text (take i xs)) (text x))
+    sym (ap (joined separator) (one_more text (y ∷ xs) (suc i) x lt e) ∙ joined-push separator
+    (text y) (map text (take i xs)) (text x))

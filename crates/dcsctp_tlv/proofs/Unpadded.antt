@@ -31,31 +31,38 @@ pub either : {T : Type 0} (b : Bool) (r s : Result T Fault) → NotPadding r →
 either true r s p q = p
 either false r s p q = q
 
-pub mapped : {A B : Type 0} (f : A → B) (r : Result A Fault) → NotPadding r → NotPadding (map_ok f r)
+pub mapped : {A B : Type 0} (f : A → B) (r : Result A Fault) → NotPadding r
+    → NotPadding (map_ok f r)
 mapped f (Ok x) h = tt
 mapped f (Err Length) h = tt
 mapped f (Err Padding) h = absurd h
 mapped f (Err Value) h = tt
 
-pub plain_unpadded : {A T : Type 0} (tree : A → T) (read : List ℕ → Result A Fault) → ((v : List ℕ) → NotPadding (read v)) → Unpadded (plain (λ v. map_ok tree (read v)))
-plain_unpadded {A} {T} tree read each v e = let P : Result T Fault → Type 0 = NotPadding in subst P e (mapped tree (read v) (each v))
+pub plain_unpadded : {A T : Type 0} (tree : A → T) (read : List ℕ → Result A Fault)
+    → ((v : List ℕ) → NotPadding (read v)) → Unpadded (plain (λ v. map_ok tree (read v)))
+plain_unpadded {A} {T} tree read each v e = let P : Result T Fault → Type 0 =
+    NotPadding in subst P e (mapped tree (read v) (each v))
 
 -- any value has a meaning
 pub ok_unpadded : {T : Type 0} (tree : List ℕ → T) → Unpadded (plain (λ v. Ok (tree v)))
 ok_unpadded tree v e = cc
 
-pub listed_unpadded : {T U : Type 0} (rule : List ℕ → Bool) (at : ℕ) (level : Level U) (tree_of : List ℕ → List U → T) → IgnoresPadding level → Unpadded (listed rule at level tree_of)
+pub listed_unpadded : {T U : Type 0} (rule : List ℕ → Bool) (at : ℕ) (level : Level U)
+    (tree_of : List ℕ → List U → T) → IgnoresPadding level → Unpadded (listed rule at level tree_of)
 listed_unpadded rule at level tree_of ignores v (inl f) = absurd cc
 listed_unpadded rule at level tree_of ignores v (inr f) = ignores _ f.1
 
 -- ---- lists
 
-front_unpadded : {T : Type 0} (level : Level T) → ((size : ℕ) (there : List ℕ) → level.padding size there ≡ true) → ((first second : ℕ) → Unpadded (level.row first second))
+front_unpadded : {T : Type 0} (level : Level T) → ((size : ℕ) (there : List ℕ)
+    → level.padding size there ≡ true) → ((first second : ℕ) → Unpadded (level.row first second))
     → (rest : List ℕ) → BeginsWithFault level rest Padding → ⊥
 front_unpadded level accepts rows rest (no_frame _ _ e) = absurd cc
 front_unpadded level accepts rows rest (value _ f) = rows _ _ _ f
-front_unpadded level accepts rows rest (padding _ _ _ refused _) = let both : true ≡ false = sym (accepts _ _) ∙ refused in absurd cc
+front_unpadded level accepts rows rest (padding _ _ _ refused _) = let both : true ≡ false =
+    sym (accepts _ _) ∙ refused in absurd cc
 
-pub list_unpadded : {T : Type 0} (level : Level T) → ((size : ℕ) (there : List ℕ) → level.padding size there ≡ true) → ((first second : ℕ) → Unpadded (level.row first second))
+pub list_unpadded : {T : Type 0} (level : Level T) → ((size : ℕ) (there : List ℕ)
+    → level.padding size there ≡ true) → ((first second : ℕ) → Unpadded (level.row first second))
     → IgnoresPadding level
 list_unpadded level accepts rows bytes f = front_unpadded level accepts rows f.rest f.fault

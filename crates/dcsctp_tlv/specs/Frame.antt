@@ -26,7 +26,7 @@ padding_size n = round_up_to_4 (4 + n) - (4 + n)
 abbrev pub header : ℕ → ℕ → ℕ → List ℕ
 header first second n = first ∷ second ∷ to_be_bytes w16 (4 + n)
 
--- the same for a parameter or a cause, whose type stands in the first two bytes
+-- the same for a parameter or a cause, whose type is in the first two bytes
 abbrev pub typed_header : ℕ → ℕ → List ℕ
 typed_header typ n = header (typ / 256) (typ % 256) n
 
@@ -59,7 +59,7 @@ lenient = false
 abbrev pub are_zeros : List ℕ → Bool
 are_zeros bytes = list_all (λ byte. byte == 0) bytes
 
--- where the first byte stands that isn't zero, or the end
+-- the offset of the first byte that isn't zero, or the end
 abbrev pub first_nonzero : List ℕ → ℕ
 first_nonzero bytes = prefix_len (λ byte. byte == 0) bytes
 

@@ -37,7 +37,7 @@ abbrev pub solid_tlv : ℕ → ℕ → List ℕ → Tlv
 solid_tlv first second bytes =
     record { first = first; second = second; value = solid bytes; value_size = length bytes }
 
--- the same of a parameter or a cause, whose type stands in the first two bytes
+-- the same of a parameter or a cause, whose type is in the first two bytes
 abbrev pub typed_tlv : ℕ → List ℕ → Tlv
 typed_tlv typ bytes = solid_tlv (typ / 256) (typ % 256) bytes
 
@@ -85,7 +85,7 @@ pub record IsListEncodable {T : Type 0} (tlv : T → Tlv) (placed : T → Type 0
   pub each : All placed ts
   pub total : list_size tlv ts < 2 ^ 16
 
--- a size is told of what can be written, and of nothing else
+-- what can be written has a size, and nothing else has
 abbrev pub Sizes : Option ℕ → Type 0 → ℕ → Type 0
 Sizes (Some n) encodable size = encodable × (n ≡ size)
 Sizes None encodable size = ¬ encodable

@@ -1,4 +1,4 @@
--- A value has the size that is counted: the lemmas that formats cite for this. They stand here and
+-- A value has the size that is counted: the lemmas that formats cite for this. They are here and
 -- not in proofs/, which a definition of the same crate can't cite; none of them has to be believed.
 use Rattle.std.specs.Prelude.{◌≡◌, ℕ, ◌+◌, ◌*◌, List, [], ◌∷◌, ◌++◌, Some, length}
 use Rattle.std.specs.Int.{Width, w32, to_be_bytes}

@@ -13,8 +13,8 @@ use Rattle.dcsctp_tlv.specs.Frame.{Item, item_bytes, PaddingRule, IsWhole, AreIt
 
 -- ---- rows
 
--- A row of a table: which tree a value means; which fault it has, and how many bytes stand
--- between the item's first byte and the fault.
+-- A row of a table: which tree a value means; which fault it has, and the fault's offset from the
+-- item's first byte.
 pub record Row (T : Type 0) : Type 1 where
   pub means : List ℕ → T → Type 0
   pub faults : List ℕ → Fault → Type 0
@@ -46,7 +46,7 @@ as_row f row = record {
   offset = row.offset;
 }
 
--- the value has this fault, so many bytes from the item's first
+-- the value has this fault, at this offset from the item's first byte
 abbrev pub FaultsAt : {T : Type 0} → Row T → List ℕ → Fault → ℕ → Type 0
 FaultsAt row value e n = (fault : row.faults value e) × (n ≡ row.offset value e fault)
 
@@ -54,7 +54,7 @@ FaultsAt row value e n = (fault : row.faults value e) × (n ≡ row.offset value
 abbrev pub HasMeaning : {T : Type 0} → Row T → List ℕ → Type 0
 HasMeaning row value = (tree : _) × row.means value tree
 
--- the value means a tree of so many parts
+-- the value means a tree of `n` parts
 abbrev pub MeansParts : {T : Type 0} → (T → ℕ) → Row T → List ℕ → ℕ → Type 0
 MeansParts parts row value n = (tree : _) × row.means value tree × (n ≡ parts tree)
 
@@ -92,11 +92,11 @@ pub record MeansTrees {T : Type 0} (level : Level T) (bytes : List ℕ)
 abbrev pub MeansSome : {T : Type 0} → Level T → List ℕ → Type 0
 MeansSome level bytes = (trees : List _) × MeansTrees level bytes trees
 
--- all the bytes mean so many trees
+-- all the bytes mean `n` trees
 abbrev pub MeansMany : {T : Type 0} → Level T → List ℕ → ℕ → Type 0
 MeansMany level bytes n = (trees : List _) × MeansTrees level bytes trees × (n ≡ length trees)
 
--- all the bytes mean so many trees, with so many parts
+-- all the bytes mean this number of trees, with this number of parts
 pub record MeansCounted {T : Type 0} (level : Level T) (parts : T → ℕ) (bytes : List ℕ)
     (n all : ℕ) : Type 0 where
   pub trees : List T
@@ -104,7 +104,7 @@ pub record MeansCounted {T : Type 0} (level : Level T) (parts : T → ℕ) (byte
   pub item_count : n ≡ length trees
   pub part_count : all ≡ total parts trees
 
--- the row for what stands at the front
+-- the row for the item at the front
 abbrev pub front_row : {T : Type 0} → Level T → List ℕ → Row T
 front_row level bytes = level.row (slice_index bytes 0) (slice_index bytes 1)
 
@@ -130,9 +130,8 @@ pub record HasFault {T : Type 0} (level : Level T) (bytes : List ℕ) (e : Fault
 
 -- ---- where a fault lies
 
--- How many bytes stand ahead of the fault, from the front on: none, where there is no frame; of a
--- value, what its row says; of padding, those ahead of the first byte that isn't zero, or else of
--- the first that is missing.
+-- The fault's offset, from the front on: none, where there is no frame; of a value, what its row
+-- says; of padding, the first byte that isn't zero, or else the first that is missing.
 abbrev pub front_offset : {T : Type 0} (level : Level T) (rest : List ℕ) (e : Fault)
     → BeginsWithFault level rest e → ℕ
 front_offset level rest e (no_frame _ _ _) = 0
@@ -146,15 +145,15 @@ abbrev pub fault_offset : {T : Type 0} (level : Level T) (bytes : List ℕ) (e :
 fault_offset level bytes e f =
     length (flat_map item_bytes f.items) + front_offset level f.rest e f.fault
 
--- the bytes have this fault, and so many stand ahead of it
+-- the bytes have this fault, at this offset
 abbrev pub HasFaultAt : {T : Type 0} → Level T → List ℕ → Fault → ℕ → Type 0
 HasFaultAt level bytes e n =
     (fault : HasFault level bytes e) × (n ≡ fault_offset level bytes e fault)
 
 -- ---- a kind with a list of another level in its value
 
--- How many bytes stand between the item's first byte and its fault: none, where the rule is broken;
--- else its header, the bytes ahead of the list, and those of the list ahead of its fault.
+-- The offset of a fault from the item's first byte: none, where the rule is broken; else its header,
+-- the bytes before the list, and those of the list before its fault.
 abbrev pub listed_offset : {U : Type 0} (rule : List ℕ → Bool) (place : ℕ) (level : Level U)
     (bytes : List ℕ) (e : Fault)
     → ((rule bytes ≡ false) × (e ≡ Length))

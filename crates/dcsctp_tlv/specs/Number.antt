@@ -7,7 +7,7 @@ use Rattle.std.specs.Int.{Width, w16, w32, w64, byte_len, from_be_bytes, to_be_b
 abbrev pub AreBytes : List ℕ → Type 0
 AreBytes bytes = (i : ℕ) → slice_index bytes i < 256
 
--- the number that the first bytes stand for, as many as its width has
+-- the big-endian number in the first bytes, as many as its width has
 abbrev pub number : Width → List ℕ → ℕ
 number width bytes = from_be_bytes width (take (byte_len width) bytes)
 

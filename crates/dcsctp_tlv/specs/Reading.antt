@@ -1,8 +1,8 @@
--- What a call answers, beside what the grammar says of the bytes: the same of a value, of a list and
--- of a packet (RFC 9260 sections 3, 3.2, 3.2.1 and 3.3.10).
+-- What a call answers, beside what the grammar says of the bytes: the same of a value, of a list
+-- and of a packet (RFC 9260 sections 3, 3.2, 3.2.1 and 3.3.10).
 --
 -- The grammar's answer is what `Result` has two cases for: a tree that the bytes mean, or a fault
--- that they have. Two notions say how a call's result stands to it: `Answers` and `Exactly`.
+-- that they have. Two notions relate a call's result to it: `Answers` and `Exactly`.
 use Rattle.std.specs.Prelude.{◌≡◌, ◌↔◌, ◌⊎◌, ℕ, List, Result, Ok, Err, IsOk, IsErrOf, MatchResult, ◌+◌, drop}
 use Rattle.dcsctp_tlv.specs.declared.error.ChunkParseError.{ChunkParseError}
 use Rattle.dcsctp_tlv.specs.declared.error.LocatedFault.{LocatedFault}
@@ -17,16 +17,16 @@ pub record Errors (F E : Type 0) : Type 1 where
   pub of : F → E
   pub lack : E → Type 0
 
--- What the call gives, the grammar gives: the value that was read, or a fault whose error this is; or
--- memory ran out.
+-- What the call gives, the grammar gives: the value that was read, or a fault whose error this is;
+-- or memory ran out.
 abbrev pub Answers : {X T E F : Type 0} → Errors F E → (X → T) → (Result T F → Type 0)
     → Result X E → Type 0
 Answers errors view answer (Ok x) = answer (Ok (view x))
 Answers errors view answer (Err e) =
     ((f : _) × (e ≡ errors.of f) × answer (Err f)) ⊎ errors.lack e
 
--- The same both ways: a value that the grammar gives, the call gives too, unless memory ran out; and
--- it gives a fault's error exactly where the grammar gives that fault.
+-- The same both ways: a value that the grammar gives, the call gives too, unless memory ran out;
+-- and it gives a fault's error exactly where the grammar gives that fault.
 pub record Exactly {X T E F : Type 0} (errors : Errors F E) (view : X → T)
     (answer : Result T F → Type 0) (result : Result X E) : Type 0 where
   pub answers : Answers errors view answer result

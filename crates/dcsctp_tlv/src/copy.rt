@@ -6,8 +6,8 @@ ghost use Rattle.std.specs.String.{string_bytes, string_len, string_capacity};
 use std::alloc::{AllocError, Global};
 
 /// Hands a list on, where its memory has room for its items alone; else it is refused.
-// std's clauses leave open how much a copy reserves, so it is looked at: `Vec::from_slice` and `vec!`
-// reserve as much as they fill, and none of theirs is refused.
+// std's clauses leave open how much a copy reserves, so it is looked at: `Vec::from_slice` and
+// `vec!` reserve as much as they fill, and none of theirs is refused.
 #[inline(always)]
 fn without_spare<T: Drop>(list: Vec<T>) -> Result<Vec<T>, AllocError>
     ensures same { IfOk result (λ same. same ≡ list) }
@@ -28,8 +28,8 @@ pub fn copied<T: Copy>(alloc: Global, items: &[T]) -> Result<Vec<T>, AllocError>
     without_spare(Vec::from_slice(alloc, items)?)
 }
 
-/// Copies the items into memory with room for so many, which are as many at least; refused only
-/// where memory runs out.
+/// Copies the items into memory with room for `room` items, which are as many at least; fails only
+/// if the allocation does.
 #[inline(always)]
 pub fn copied_with_room<T: Copy>(
     alloc: Global,

@@ -74,7 +74,7 @@ pub fn are_zeros(bytes: &[u8]) -> bool
     bytes.iter().all(|byte| *byte == 0)
 }
 
-/// Where the first byte stands that isn't zero, or the end.
+/// Returns the offset of the first byte that isn't zero, or the number of bytes.
 pub fn first_nonzero(bytes: &[u8]) -> usize
     ensures { result ≡ first_nonzero_byte bytes.now }
 {

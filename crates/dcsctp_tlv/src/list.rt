@@ -67,7 +67,7 @@ pub fn put_list<T: SerializableTlv>(list: &[T], output: &mut [u8]) -> usize
     end
 }
 
-/// The list can be written in one value after so many bytes.
+/// Returns whether the list can be written in one value after `leading` bytes.
 pub fn listed_encodable<T: ListedTlv>(leading: usize, list: &[T]) -> bool
     requires { leading ≤ MAX_VALUE_SIZE }
     ensures { IsTrue result ↔ 4 + (leading + list_size T.tree_tlv (map T.view list.now)) < 2 ^ 16 }
@@ -75,7 +75,7 @@ pub fn listed_encodable<T: ListedTlv>(leading: usize, list: &[T]) -> bool
     listed_encoded_size(leading, list).is_some()
 }
 
-/// The bytes of a value with the list after so many bytes.
+/// Returns the size in bytes of a value with the list after `leading` bytes.
 pub fn listed_size<T: ListedTlv>(leading: usize, list: &[T]) -> usize
     requires { 4 + (leading + list_size T.tree_tlv (map T.view list.now)) < 2 ^ 16 }
     ensures { result ≡ leading + list_size T.tree_tlv (map T.view list.now) }
@@ -83,8 +83,8 @@ pub fn listed_size<T: ListedTlv>(leading: usize, list: &[T]) -> usize
     leading + list_size(list)
 }
 
-/// The bytes of an item whose value is the list after so many bytes; nothing where it can't be
-/// written.
+/// Returns the size in bytes of an item whose value is the list after `leading` bytes; `None` if it
+/// can't be written.
 pub fn listed_encoded_size<T: ListedTlv>(leading: usize, list: &[T]) -> Option<usize>
     requires { leading ≤ MAX_VALUE_SIZE }
     ensures { Sizes result (4 + (leading + list_size T.tree_tlv (map T.view list.now)) < 2 ^ 16)

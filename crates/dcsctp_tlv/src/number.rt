@@ -6,7 +6,7 @@ ghost use Rattle.dcsctp_tlv.specs.Frame.{round_up_to_4, round_down_to_4};
 ghost use Rattle.dcsctp_tlv.specs.Image.{put};
 ghost use Rattle.dcsctp_tlv.specs.Number.{number16, number32, number64};
 
-/// The number that the first two bytes stand for.
+/// Returns the number in the first two bytes, big-endian.
 pub fn read_u16_be(bytes: &[u8]) -> u16
     requires { 2 ≤ length bytes.now }
     ensures { result ≡ number16 bytes.now }
@@ -14,7 +14,7 @@ pub fn read_u16_be(bytes: &[u8]) -> u16
     u16::from_be_bytes([bytes[0], bytes[1]])
 }
 
-/// The number that the first four bytes stand for.
+/// Returns the number in the first four bytes, big-endian.
 pub fn read_u32_be(bytes: &[u8]) -> u32
     requires { 4 ≤ length bytes.now }
     ensures { result ≡ number32 bytes.now }
@@ -22,7 +22,7 @@ pub fn read_u32_be(bytes: &[u8]) -> u32
     u32::from_be_bytes([bytes[0], bytes[1], bytes[2], bytes[3]])
 }
 
-/// The number that the first eight bytes stand for.
+/// Returns the number in the first eight bytes, big-endian.
 pub fn read_u64_be(bytes: &[u8]) -> u64
     requires { 8 ≤ length bytes.now }
     ensures { result ≡ number64 bytes.now }

@@ -476,8 +476,8 @@ impl From<UnknownParameter> for Parameter {
 /// Reads all the bytes as a list of parameters; no bytes are the empty list. Padding is ignored.
 ///
 /// The first item that has no frame, or whose value is at fault, decides the error: `InvalidLength`
-/// or `InvalidValue`; `OutOfMemory` only where there is none. Bytes mean one list or have one fault,
-/// which is a law of the level (`IsDecided`, in `laws::one_answer` of `dcsctp_wire`).
+/// or `InvalidValue`; `OutOfMemory` only where there is none. Bytes mean one list or have one
+/// fault, which is a law of the level (`IsDecided`, in `laws::one_answer` of `dcsctp_wire`).
 pub fn parameters_from_bytes(alloc: Global, bytes: &[u8]) -> Result<Vec<Parameter>, ChunkParseError>
     ensures answer { Exactly reading (λ list. views list.items)
         (ListAnswer (parameters lenient) bytes.now) result }

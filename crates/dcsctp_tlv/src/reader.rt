@@ -50,7 +50,7 @@ pub trait ReadableTlv: Sized + Drop {
         ensures len { IfOk result (λ _. vec_len list.new ≡ vec_len list.old + 1) }
         ensures capacity { IfOk result (λ _. vec_capacity list.new ≡ vec_capacity list.old) };
 
-    /// Whether an item that should have so many bytes of padding may have these.
+    /// Returns whether an item that should have `size` bytes of padding may have these.
     fn accepts_padding(strict: bool, size: usize, there: &[u8]) -> bool
         ensures { result ≡ (level strict).padding size there.now };
 }
@@ -60,8 +60,8 @@ pub trait ReadableTlv: Sized + Drop {
 ///
 /// A strict check also looks at the padding of each item, after its value.
 ///
-/// A fault of a frame or of a value is at the item's first byte: of the innermost item, if that is in
-/// a list in a value. A fault of padding is at the first byte that isn't zero, or else where the
+/// A fault of a frame or of a value is at the item's first byte: of the innermost item, if that is
+/// in a list in a value. A fault of padding is at the first byte that isn't zero, or else where the
 /// first missing byte would be.
 pub fn list_check<T: ReadableTlv>(
     strict: bool,
@@ -105,9 +105,9 @@ pub fn list_check<T: ReadableTlv>(
     Ok((items, parts))
 }
 
-/// Counts the parts of an item whose value is a list from byte `place` on: the item and the items of
-/// the list; or returns the list's first fault, with the offset from the item's first byte. Does not
-/// allocate.
+/// Counts the parts of an item whose value is a list from byte `place` on: the item and the items
+/// of the list; or returns the list's first fault, with the offset from the item's first byte. Does
+/// not allocate.
 // A part of its callers: as a call it would also copy the unused bytes of a fault that isn't there.
 #[inline(always)]
 pub fn listed_check<T: ReadableTlv>(
@@ -146,7 +146,7 @@ fn count_items(bytes: &[u8]) -> usize
     count
 }
 
-/// Builds the list that the bytes mean, where they are known to mean so many items. The memory for
+/// Builds the list that the bytes mean, where they are known to mean `count` items. The memory for
 /// the list is taken at once.
 pub fn list_build<T: ReadableTlv>(
     alloc: Global,

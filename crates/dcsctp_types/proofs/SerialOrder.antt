@@ -16,7 +16,8 @@ wraps_once m n small =
       | inl below ↦ (inside, inl (sym (mod-eq_of_lt below)))
       | inr above ↦
           let once : (n - m) + m ≡ n = omega arith in
-          let left : n % m ≡ n - m = ap (λ k. k % m) (sym once) ∙ add-mod_right (n - m) m ∙ mod-eq_of_lt (omega arith) in
+          let left : n % m ≡ n - m =
+          ap (λ k. k % m) (sym once) ∙ add-mod_right (n - m) m ∙ mod-eq_of_lt (omega arith) in
           (inside, inr (omega arith))
     ]
 
@@ -31,7 +32,8 @@ difference_wraps_once : (m a b p q : ℕ) → 0 < m → p ≡ a % m → q ≡ b 
 difference_wraps_once m a b p q some at_a at_b =
     let inside_a : a % m < m = mod-lt a some in
     let inside_b : b % m < m = mod-lt b some in
-    let once : WrapsOnce m (a % m + (m - b % m)) ((a % m + (m - b % m)) % m) = wraps_once m (a % m + (m - b % m)) (omega arith) in
+    let once : WrapsOnce m (a % m + (m - b % m)) ((a % m + (m - b % m)) % m) =
+    wraps_once m (a % m + (m - b % m)) (omega arith) in
     rw (at_a, at_b, ← mod-add-mod a m (m - b % m)) once
 
 -- the order of x and y, i and j places ahead of c, where d is their difference
@@ -49,7 +51,8 @@ ordered_in_window m base x y i j near_x near_y at_x at_y =
     let ahead_y : WrapsOnce m (base % m + j) y = rw at_y (sum_wraps_once m base j (omega arith)) in
     let same_x : x ≡ x % m = sym (mod-eq_of_lt ahead_x.0) in
     let same_y : y ≡ y % m = sym (mod-eq_of_lt ahead_y.0) in
-    further_is_greater m (base % m) i j x y (wrapped_difference m x y) (mod-lt base some) near_x near_y ahead_x ahead_y
+    further_is_greater m (base % m) i j x y (wrapped_difference m x y) (mod-lt base some) near_x
+    near_y ahead_x ahead_y
     (difference_wraps_once m x y x y some same_x same_y)
 
 -- where b is greater than a, a stands ahead of b by more than half of the space
@@ -58,6 +61,8 @@ greater_one_way m a b greater =
     let some : 0 < m = omega arith in
     let inside_a : a % m < m = mod-lt a some in
     let inside_b : b % m < m = mod-lt b some in
-    let one_way : WrapsOnce m (a % m + (m - b % m)) (wrapped_difference m a b) = difference_wraps_once m a b _ _ some refl refl in
-    let other_way : WrapsOnce m (b % m + (m - a % m)) (wrapped_difference m b a) = difference_wraps_once m b a _ _ some refl refl in
+    let one_way : WrapsOnce m (a % m + (m - b % m)) (wrapped_difference m a b) =
+    difference_wraps_once m a b _ _ some refl refl in
+    let other_way : WrapsOnce m (b % m + (m - a % m)) (wrapped_difference m b a) =
+    difference_wraps_once m b a _ _ some refl refl in
     omega arith

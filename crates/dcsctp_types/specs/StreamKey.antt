@@ -1,4 +1,4 @@
--- What a stream key tells: a stream (RFC 9260 section 3.3.1), and whether its messages are ordered.
+-- What a stream key holds: a stream (RFC 9260 section 3.3.1), and whether its messages are ordered.
 use Rattle.std.specs.Prelude.{Bool, true, false}
 use Rattle.dcsctp_types.specs.declared.api.stream_id.StreamId.{StreamId}
 use Rattle.dcsctp_types.specs.declared.types.stream_key.StreamKey.{StreamKey}

@@ -16,13 +16,13 @@ use std::cmp::Ordering;
 use std::time::Duration;
 
 #[tactic(auto, using(crate::proofs::SerialOrder::ordered_in_window, crate::proofs::SerialOrder::greater_one_way))]
-/// The order of serial numbers, seen from a base: of two numbers that stand ahead of the base by
-/// less than half of the space, the greater one stands further ahead of it (RFC 1982 section 3.2).
+/// The order of serial numbers, seen from a base: of two numbers that are after the base by less
+/// than half of the space, the greater one is further after it (RFC 1982 section 3.2).
 ///
 /// Without such a base the order isn't transitive. But no number is greater than itself, no two are
 /// greater than each other, and at a difference of half of the space neither is greater.
 pub fn window<S: SerialNumber>()
-    // x and y stand i and j places ahead of the base
+    // x and y are i and j places after the base
     ensures window { (base x y : S) (i j : ℕ) → i < S.space / 2 → j < S.space / 2
         → S.position x ≡ wrapped_sum S.space (S.position base) i
         → S.position y ≡ wrapped_sum S.space (S.position base) j
@@ -36,9 +36,9 @@ pub fn window<S: SerialNumber>()
         × (¬ IsGreater S.space (S.position y) (S.position x)) }
 {}
 
-/// The orders of ids, keys and times: stream ids, payload protocol ids and lifecycle ids stand by
-/// their numbers, times by their durations; every ordered key is less than every unordered one, and
-/// keys of one kind stand by their stream ids.
+/// The orders of ids, keys and times: stream ids, payload protocol ids and lifecycle ids are ordered
+/// by their numbers, times by their durations; every ordered key is less than every unordered one,
+/// and keys of one kind are ordered by their stream ids.
 pub fn orders()
     ensures stream_ids { (a b : StreamId) → ⟦<StreamId as Ord>⟧.cmp a b ≡ nat_cmp a.0 b.0 }
     ensures ppids { (a b : PpId) → ⟦<PpId as Ord>⟧.cmp a b ≡ nat_cmp a.0 b.0 }
@@ -91,7 +91,8 @@ pub fn methods()
     ensures dtls { DTLS.0 ≡ 1 }
 {}
 
-/// The payload protocol identifiers of WebRTC data channels have these numbers (RFC 8831 section 8).
+/// The payload protocol identifiers of WebRTC data channels have these numbers (RFC 8831 section
+/// 8).
 pub fn webrtc_ppids()
     ensures dcep { PpId.WEBRTC_DCEP.0 ≡ 50 }
     ensures string { PpId.WEBRTC_STRING.0 ≡ 51 }

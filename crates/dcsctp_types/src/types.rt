@@ -19,9 +19,9 @@ pub use tsn::Tsn;
 
 /// A number of a space that wraps round (RFC 1982): after the last number comes the first.
 ///
-/// One number is greater than another if it stands ahead of it by less than half of the space. At
-/// exactly half neither is greater. So this is no order of all numbers: it is one of those that
-/// stand ahead of one base by less than half of the space (`laws::window`).
+/// One number is greater than another if it is after it by less than half of the space. At exactly
+/// half neither is greater. So this is no order of all numbers: it is one of those that are after
+/// one base by less than half of the space (`laws::window`).
 pub trait SerialNumber: Sized + Copy + Eq {
     /// A count of places.
     type DistanceType;
@@ -29,7 +29,7 @@ pub trait SerialNumber: Sized + Copy + Eq {
     // how many numbers there are
     ghost space: { ℕ };
 
-    // where a number stands among them
+    // where a number is among them
     ghost position: { Self → ℕ };
 
     // the count that a distance is
@@ -37,7 +37,7 @@ pub trait SerialNumber: Sized + Copy + Eq {
 
     /// How many places both are apart, the shorter way round.
     fn distance_to(self, other: Self) -> Self::DistanceType
-        // every number stands at a position of the space
+        // every number is at a position of the space
         ensures in_space { (position self < space) × (position other < space) }
         ensures value { places result ≡ distance space (position self) (position other) }
         ensures symmetric { places result ≡ distance space (position other) (position self) }
@@ -68,6 +68,6 @@ pub trait SerialNumber: Sized + Copy + Eq {
         *self == other || self.greater_than(other)
     }
 
-    // equal numbers are those that stand at one place
+    // equal numbers are those at one place
     ghost equal_at_position: { (a b : Self) → IsTrue (Self.eq a b) ↔ (position a ≡ position b) };
 }

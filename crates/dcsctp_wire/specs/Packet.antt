@@ -45,7 +45,7 @@ pub record HasPacketSize (bytes : List ℕ) : Type 0 where
 abbrev pub checksum_field : List ℕ → ℕ
 checksum_field bytes = number32 (drop 8 bytes)
 
--- Verification is off; or another method stands in, and the field is zero; or the field is the
+-- Verification is off; or another method replaces it, and the field is zero; or the field is the
 -- word.
 pub data IsAccepted (policy : ChecksumPolicy) (field word : ℕ) : Type 0 where
   disabled : policy.disable_checksum_verification ≡ true → IsAccepted policy field word

@@ -1,4 +1,4 @@
--- Where the fault of a packet lies (RFC 9260 section 3): how many bytes stand ahead of it.
+-- Where the fault of a packet lies (RFC 9260 section 3): its offset in bytes.
 use Rattle.std.specs.Prelude.{◌≡◌, ℕ, ◌+◌, List, Option, None, Some, Result, Ok, Err, length, nat_lt, if◌then◌else◌}
 use Rattle.dcsctp_tlv.specs.Level.{MeansCounted, fault_offset}
 use Rattle.dcsctp_tlv.specs.Reading.{Errors}
@@ -16,7 +16,7 @@ offset_of bytes word policy Checksum fault = 8
 offset_of bytes word policy (Chunk e) fault =
     12 + fault_offset (chunks policy.strict_padding) (body bytes) e fault.1
 
--- the packet has this fault, and so many bytes stand ahead of it
+-- the packet has this fault, at this offset
 abbrev pub HasPacketFaultAt : List ℕ → ℕ → ChecksumPolicy → PacketFault → ℕ → Type 0
 HasPacketFaultAt bytes word policy e n =
     (fault : Answer bytes word policy (Err e)) × (n ≡ offset_of bytes word policy e fault)

@@ -16,12 +16,15 @@ told : (read : Result PacketTree PacketFault) → (answer : List ℕ × ℕ) × 
 told (Ok p) = let last = last_line p.meaning in (_, (_, (last.0, last.1, refl), refl))
 told (Err e) = (_, refl)
 
-pub Shows-some : (strict : Bool) (input : List ℕ) → (answer : List ℕ × ℕ) × Shows strict input answer
+pub Shows-some : (strict : Bool) (input : List ℕ) → (answer : List ℕ × ℕ)
+    × Shows strict input answer
 Shows-some strict input = elim (cases_lt 200000 (length input)) [
   | inl long ↦ (_, too_long long refl)
   | inr short ↦ decoded short (decode_of (without_blanks input)) refl
 ] where
-  decoded : length input ≤ 200000 → (result : Result (List ℕ) FromHexError) → decode_of (without_blanks input) ≡ result → (answer : List ℕ × ℕ) × Shows strict input answer
+  decoded : length input ≤ 200000 → (result : Result (List ℕ) FromHexError)
+      → decode_of (without_blanks input) ≡ result → (answer : List ℕ × ℕ)
+      × Shows strict input answer
   decoded short (Err e) is = (_, not_hexadecimal short (rw is refl) refl)
   decoded short (Ok bytes) is =
       let read = answer_some bytes 0 (unverified strict) (decode_of-ok _ bytes is).3 in

@@ -38,7 +38,7 @@ fault_line (Chunk Length) = codes "error: invalid chunk: length\n"
 fault_line (Chunk Padding) = codes "error: invalid chunk: padding\n"
 fault_line (Chunk Value) = codes "error: invalid chunk: value\n"
 
--- what the library's answer is told as: a packet by its text and status 0
+-- what is printed of the library's answer: of a packet its text, with status 0
 abbrev pub Tells : Result PacketTree PacketFault → List ℕ × ℕ → Type 0
 Tells (Ok p) answer = (text : List ℕ) × PacketText p text × (answer ≡ (text, 0))
 Tells (Err e) answer = answer ≡ fault (fault_line e)
@@ -103,7 +103,7 @@ WritesBeginning answer status old new =
 
 -- what a run did, of either program: to its reader, its writer, and its status
 pub record Runs (strict : Bool) (input output : Change) (result : ℕ) : Type 0 where
-  -- The input is read once, from its front on, and no further than tells that it is too long.
+  -- The input is read once, from its front on, and no further than shows that it is too long.
   pub at_most : TakesAtMost 200001 input.old input.new
   -- Where no device fails, the output and the status are those of the input, or memory ran out.
   pub shown : input.began_failed ≡ false → output.began_failed ≡ false → input.failed ≡ false
@@ -113,11 +113,11 @@ pub record Runs (strict : Bool) (input output : Change) (result : ℕ) : Type 0 
   pub some_answer : (all : List ℕ) → (answer : List ℕ × ℕ) × Shows strict all answer
   pub one_answer : (all : List ℕ) (a b : List ℕ × ℕ) → Shows strict all a → Shows strict all b
       → a ≡ b
-  -- A failed read is told by its line alone, and no other run has that line alone and status 1.
+  -- A failed read is reported by its line alone, and no other run has that line alone and status 1.
   pub read_failed : input.began_failed ≡ false → output.began_failed ≡ false
       → output.failed ≡ false → IfSome output.old (λ held. ((result ≡ 1)
       × (output.new ≡ Some (held ++ codes "error: read failed\n"))) ↔ (input.failed ≡ true))
-  -- Status 2 tells that the output failed: what was written is then a beginning of an answer that
+  -- Status 2 says that the output failed: what was written is then a beginning of an answer that
   -- the run could have had, and else the whole of one.
   pub status : output.began_failed ≡ false → (result ≡ 2) ↔ (output.failed ≡ true)
   pub whole : input.began_failed ≡ false → output.began_failed ≡ false → output.failed ≡ false

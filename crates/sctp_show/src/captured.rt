@@ -20,7 +20,7 @@ pub struct Captured {
 /// Runs the program on a text, and keeps what it writes; refused only where there is no memory for
 /// that.
 pub fn show_captured(alloc: Global, text: &[u8]) -> Result<Captured, AllocError>
-    // Bytes and status are the text's answer, or tell that memory ran out.
+    // Bytes and status are the text's answer, or report that memory ran out.
     ensures shown { IfOk result (λ c. MayShow lenient text.now (captured c)) }
 
     // So they are any answer that is known of the text beforehand, that line aside.

@@ -17,9 +17,9 @@ use watched_io::watched::Watched;
 // A longer input is known by one byte too many.
 const MOST_READ: usize = MOST_BYTES + 1;
 
-/// Reads the input, writes its answer, and answers the status: 0 for a packet, 1 for a fault, and
-/// 2 where the output failed. Of a device that had failed before it tells no more than that at most
-/// 200,001 bytes were read. Padding isn't looked at.
+/// Reads the input, writes its answer, and returns the status: 0 for a packet, 1 for a fault, and 2
+/// if the output failed. Of a device that had failed before, the contract says no more than that at
+/// most 200,001 bytes were read. Padding isn't looked at.
 pub fn show<R: Read, W: Write>(alloc: Global, input: &mut Watched<R>, output: &mut Watched<W>) -> u8
     ensures { Runs lenient (change R.remaining input.old input.new)
         (change W.contents output.old output.new) result }

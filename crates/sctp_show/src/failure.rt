@@ -6,7 +6,7 @@ use dcsctp_wire::packet::ChunkParseError;
 use dcsctp_wire::packet::sctp_packet::PacketParseError;
 use std::alloc::AllocError;
 
-/// Why an input has no text: each failure is told by a line.
+/// Why an input has no text: each failure is reported in a line.
 #[derive(Debug, Drop)]
 pub enum Failure {
     /// Memory ran out.
@@ -24,7 +24,7 @@ pub enum Failure {
 impl Failure {
     ghost use Rattle.sctp_show.specs.Reply.{line_of};
 
-    /// The line that tells the failure, with its line feed.
+    /// Returns the line that reports the failure, with its line feed.
     pub fn line(&self) -> &'static str
         ensures { result.now ≡ line_of self.now }
     {

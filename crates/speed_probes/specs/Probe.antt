@@ -1,5 +1,5 @@
--- What the probes answer: numbers of the packet that bytes are, whatever stands in its checksum
--- field (RFC 9260 section 3).
+-- What the probes answer: numbers of the packet that bytes are, whatever its checksum
+-- field holds (RFC 9260 section 3).
 use Rattle.std.specs.Prelude.{◌≡◌, ◌⊎◌, ℕ, List, [], ◌∷◌, ◌++◌, Ok, length, take}
 use Rattle.dcsctp_chunk.specs.Cover.{Covers, IsRuns}
 use Rattle.dcsctp_chunk.specs.Sack as sack
@@ -22,7 +22,7 @@ IsChunkCount m n = n ≡ length m.chunks
 abbrev pub IsCanonicalSize : Meaning → ℕ → Type 0
 IsCanonicalSize m n = n ≡ length (canonical m)
 
--- the first so many of these bytes are its canonical packet
+-- the first `n` of these bytes are its canonical packet
 abbrev pub BeginsCanonical : List ℕ → Meaning → ℕ → Type 0
 BeginsCanonical output m n = take n output ≡ canonical m
 

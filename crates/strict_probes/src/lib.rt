@@ -1,5 +1,5 @@
-//! What `bench/instructions.sh` calls from C beside `speed_probes`: a check whose caller says whether
-//! it is strict.
+//! What `bench/instructions.sh` calls from C beside `speed_probes`: a check whose caller says
+//! whether it is strict.
 //!
 //! No call of `speed_probes` is strict, and the compiler knows that: it leaves out all that only a
 //! strict reader does. Here it can't. So the two are separate libraries.

@@ -45,8 +45,8 @@ pub fn clean_blocks(blocks: &mut Vec<GapAckBlock>)
     blocks.truncate(kept);
 }
 
-/// Puts block after block in among the runs of those before it: the first so many are then the
-/// runs of what the blocks covered.
+/// Puts block after block in among the runs of those before it. Returns `n`: the first `n` are then
+/// the runs of what the blocks covered.
 ///
 /// A packet holds 16,379 blocks, and a run that is put in before others moves them all. So a block
 /// that does not follow the runs in front goes among a few recent ones, and these go among those in
@@ -85,7 +85,7 @@ fn turn_falling(blocks: &mut [GapAckBlock])
     }
 }
 
-/// How many runs stand in front, and how many recent ones beside them.
+/// How many runs are in front, and how many recent ones beside them.
 #[derive(Clone, Copy)]
 struct Counts {
     front: usize,

@@ -7,7 +7,7 @@ ghost use Rattle.dcsctp_chunk.specs.Apart.{IsApart, AreRunsOf, AreFree, LastStar
 
 use crate::sack_chunk::GapAckBlock;
 
-/// What stands in a free place: no block ends later.
+/// What a free place holds: no block ends later.
 pub(crate) const FREE: GapAckBlock = GapAckBlock {
     start: 65535,
     end: 65535,
@@ -38,7 +38,7 @@ pub(crate) fn first_reaching(runs: &[GapAckBlock], kept: usize, block: GapAckBlo
 }
 
 /// Puts the block in among the first `kept` runs, of which the one at `first` is the first that it
-/// can touch: the first so many are then the runs of both.
+/// can touch. Returns `n`: the first `n` are then the runs of both.
 pub(crate) fn insert(
     runs: &mut [GapAckBlock],
     kept: usize,
@@ -119,8 +119,8 @@ fn find_place(runs: &[GapAckBlock], first: usize, block: GapAckBlock) -> Place
     Place { first, last, run }
 }
 
-/// Puts the others in among the first `kept` runs, from the last on: the first so many are then
-/// the runs of both.
+/// Puts the others in among the first `kept` runs, from the last on. Returns `n`: the first `n` are
+/// then the runs of both.
 pub(crate) fn join_runs(runs: &mut [GapAckBlock], kept: usize, others: &[GapAckBlock]) -> usize
     requires room { length runs.old ≡ kept + length others.now }
     requires apart { IsApart 0 (take kept runs.old) }
@@ -211,7 +211,7 @@ fn is_past(run: GapAckBlock, block: GapAckBlock) -> bool
     run.start as u32 > block.end as u32 + 1
 }
 
-/// Moves so many runs to the gap's other side.
+/// Moves `count` runs to the gap's other side.
 fn lift(runs: &mut [GapAckBlock], gap: Gap, count: usize) -> Gap
     requires count { count ≤ gap.low }
     requires order { gap.low ≤ gap.high }

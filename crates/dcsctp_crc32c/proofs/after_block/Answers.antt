@@ -21,5 +21,6 @@ returns c =
     let p7 = c.entry-4.ensures ∙ part_by r bytes 7 0 size (omega (arith, fits)) in
     xor_four _ c.entry.result c.entry-2.result c.entry-3.result c.entry-4.result
     ∙ (λ i. bit_xor
-    (bit_xor (bit_xor (bit_xor (bit_xor (bit_xor (bit_xor (p0 i) (p1 i)) (p2 i)) (p3 i)) (p4 i)) (p5 i)) (p6 i)) (p7 i))
+    (bit_xor (bit_xor (bit_xor (bit_xor (bit_xor (bit_xor (p0 i) (p1 i)) (p2 i)) (p3 i)) (p4 i))
+    (p5 i)) (p6 i)) (p7 i))
     ∙ sym (after_block-parts 7 r bytes (λ i. (c.type_inv.block i).fits) size (omega (arith, fits)))

@@ -12,7 +12,8 @@ word c =
     let front : take c.min.result bytes ≡ take 8 bytes =
     ap (λ n. take n bytes) (c.min.ensures ∙ min_comm (length bytes) 8) ∙ take_min 8 bytes in
     let back : take (length bytes - c.min-2.result) (drop c.min-2.result bytes) ≡ drop 12 bytes =
-    take_rest bytes c.min-2.result ∙ ap (λ n. drop n bytes) (c.min-2.ensures ∙ min_comm (length bytes) 12) ∙ drop_min 12 bytes in
+    take_rest bytes c.min-2.result ∙ ap (λ n. drop n bytes) (c.min-2.ensures
+    ∙ min_comm (length bytes) 12) ∙ drop_min 12 bytes in
     let crc : c.update-2.result ≡ crc32c (with_zero_field bytes) =
     c.update-2.ensures.pieces (take c.min.result bytes ++ zeros)
     (c.update.ensures.pieces (take c.min.result bytes) c.crc32c.ensures)
@@ -25,4 +26,6 @@ returns-clause-value c = word c
 
 pub returns-clause-field_apart : goal.returns-clause-field_apart
 returns-clause-field_apart c others front back =
-    word c ∙ sym (λ i. from_be_bytes w32 (to_le_bytes w32 (crc32c (front i ++ 0 ∷ 0 ∷ 0 ∷ 0 ∷ back i))))
+    word c
+    ∙ sym
+    (λ i. from_be_bytes w32 (to_le_bytes w32 (crc32c (front i ++ 0 ∷ 0 ∷ 0 ∷ 0 ∷ back i))))

@@ -37,7 +37,7 @@ const FIXED_SIZE: usize = 4;
 pub struct IncomingSsnResetRequestParameter {
     /// The sequence number of this request.
     pub request_seq_nbr: u32,
-    /// The streams to be reset; none stands for all.
+    /// The streams to be reset; an empty list means all.
     pub streams: Vec<StreamId>,
 }
 

@@ -46,7 +46,7 @@ pub struct OutgoingSsnResetRequestParameter {
     pub response_seq_nbr: u32,
     /// The last TSN that was assigned before the reset.
     pub sender_last_assigned_tsn: Tsn,
-    /// The streams to be reset; none stands for all.
+    /// The streams to be reset; an empty list means all.
     pub streams: Vec<StreamId>,
 }
 

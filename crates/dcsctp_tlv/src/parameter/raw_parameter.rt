@@ -20,7 +20,7 @@ pub const PARAMETER_HEADER_SIZE: usize = 4;
 pub struct RawParameter<'a> {
     /// The type of the parameter, or the code of the cause.
     pub typ: u16,
-    /// What stands after the header, without padding.
+    /// The bytes after the header, without padding.
     pub value: &'a [u8],
 }
 

@@ -7,7 +7,7 @@ use std::fmt;
 use std::marker::Model;
 
 /// An application's own number for a message whose fate it wants to learn: any number but 0. Ids
-/// stand by their numbers, and print as decimal ones.
+/// are ordered by their numbers, and print as decimal ones.
 #[derive(Clone, Copy, PartialEq, Eq, PartialOrd, Ord, Hash)]
 pub struct LifecycleId(u64);
 

@@ -10,7 +10,7 @@ use std::time::Duration;
 
 /// A point in time, as the time that has passed since a start that the application picks.
 ///
-/// Times stand by their durations. They have a resolution of one nanosecond.
+/// Times are ordered by their durations. They have a resolution of one nanosecond.
 #[derive(Clone, Copy, Debug, PartialEq, Eq, PartialOrd, Ord, Hash)]
 pub struct SocketTime(Duration);
 

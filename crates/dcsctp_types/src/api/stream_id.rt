@@ -5,7 +5,7 @@ ghost use Rattle.std.specs.Fmt.{decimal};
 
 use std::fmt;
 
-/// A stream (RFC 9260 section 3.3.1). Ids stand by their numbers, and print as decimal ones.
+/// A stream (RFC 9260 section 3.3.1). Ids are ordered by their numbers, and print as decimal ones.
 #[derive(Clone, Copy, PartialEq, Eq, PartialOrd, Ord, Hash)]
 pub struct StreamId(pub u16);
 

@@ -15,7 +15,7 @@ use std::ops::{Add, AddAssign, Sub, SubAssign};
 pub struct Mid(pub u32);
 
 impl Mid {
-    /// The number `n` places ahead of this one, the same as `self + n`.
+    /// Returns the number `n` places after this one, the same as `self + n`.
     pub fn add_to(self, n: u32) -> Self
         ensures { result.0 ≡ wrapped_sum (2 ^ 32) self.0 n }
     {

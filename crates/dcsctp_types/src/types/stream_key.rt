@@ -8,7 +8,7 @@ use crate::api::StreamId;
 /// The ordered or the unordered half of a stream. The two number their messages apart (RFC 8260
 /// section 2.1), so they are kept apart wherever messages are.
 ///
-/// Every ordered key is less than every unordered one; keys of one kind stand by their stream ids.
+/// Every ordered key is less than every unordered one; keys of one kind are ordered by stream id.
 #[derive(Clone, Copy, Debug, PartialEq, Eq, PartialOrd, Ord, Hash)]
 pub enum StreamKey {
     /// The messages that are delivered in sequence.

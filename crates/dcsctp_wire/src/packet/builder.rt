@@ -197,7 +197,7 @@ impl SctpPacketBuilder {
     /// Hands out the packet, and begins the next: the builder then holds no chunk, with the same
     /// ports, tag, limit and switch. The packet's memory goes with it.
     ///
-    /// If the switch is on, the number `checksum` stands big-endian at bytes 8 to 11; else they
+    /// If the switch is on, the number `checksum` is big-endian at bytes 8 to 11; else they
     /// are zero. Without chunks there are no bytes. No memory is taken.
     ///
     /// What is built reads back, where the limit is at most 65,535 bytes and what was added can be

@@ -1,4 +1,4 @@
-//! ERROR: tells what was wrong, and ends nothing by itself.
+//! ERROR: reports what was wrong, and ends nothing by itself.
 //!
 //! ```txt
 //!  0                   1                   2                   3

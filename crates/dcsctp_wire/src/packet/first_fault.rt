@@ -13,7 +13,7 @@ use crate::packet::sctp_packet::{ChecksumPolicy, PacketParseError, SctpPacket, c
 pub struct FirstFault {
     /// What `from_bytes` and `check` answer; never that memory ran out.
     pub fault: PacketParseError,
-    /// How many bytes stand ahead of the fault: at most as many as the input has.
+    /// The fault's offset in bytes: at most the number of bytes of the input.
     ///
     /// For `InvalidPacketSize`, the place of the first byte that is missing, which is the input's
     /// length, or of the first too many, 65,535. For `InvalidChecksum`, 8, where the field begins.

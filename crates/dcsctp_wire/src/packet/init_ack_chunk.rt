@@ -52,7 +52,7 @@ pub struct InitAckChunk {
     pub nbr_inbound_streams: u16,
     /// The TSN that the sender begins with.
     pub initial_tsn: Tsn,
-    /// The State Cookie, and what the sender offers, in the order in which it stands.
+    /// The State Cookie, and what the sender offers, in their order in the chunk.
     pub parameters: Vec<Parameter>,
 }
 

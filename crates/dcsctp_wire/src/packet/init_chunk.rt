@@ -52,7 +52,7 @@ pub struct InitChunk {
     pub nbr_inbound_streams: u16,
     /// The TSN that the sender begins with.
     pub initial_tsn: Tsn,
-    /// What the sender offers beyond the numbers, in the order in which it stands.
+    /// What the sender offers beyond the numbers, in its order in the chunk.
     pub parameters: Vec<Parameter>,
 }
 

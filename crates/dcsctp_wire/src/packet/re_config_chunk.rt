@@ -33,7 +33,7 @@ pub const CHUNK_TYPE: u8 = 130;
 /// RE-CONFIG (RFC 6525 section 3.1).
 #[derive(Debug, Drop)]
 pub struct ReConfigChunk {
-    /// The requests and responses, in the order in which they stand.
+    /// The requests and responses, in their order in the chunk.
     pub parameters: Vec<Parameter>,
 }
 

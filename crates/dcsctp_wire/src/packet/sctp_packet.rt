@@ -94,9 +94,9 @@ impl From<AllocError> for PacketParseError {
 /// A packet (RFC 9260 section 3).
 #[derive(Debug, Drop)]
 pub struct SctpPacket {
-    /// In the order in which they stand; a packet that was read has at least one.
+    /// In their order in the packet; a packet that was read has at least one.
     pub chunks: Vec<Chunk>,
-    /// What stands before them.
+    /// The ports, the tag and the checksum field before them.
     pub common_header: CommonHeader,
 }
 
@@ -163,7 +163,7 @@ fn accepts(policy: &ChecksumPolicy, field: u32, word: u32) -> bool
 
 impl SctpPacket {
     /// Reads a packet. `checksum` is the number whose big-endian bytes are expected at bytes 8
-    /// to 11: of a CRC32c, which stands there least significant byte first, `swap_bytes()`.
+    /// to 11: of a CRC32c, which is there least significant byte first, `swap_bytes()`.
     ///
     /// Want of memory aside, for every byte list, checksum word and policy, `from_bytes` answers
     /// the one packet that the grammar gives these bytes, or the fault of the first offending
@@ -203,7 +203,7 @@ impl SctpPacket {
         ensures nodes { IfOk result (λ p. node_count
             (meaning_view p) ≤ (length bytes.now - 12) / 4) }
 
-        // A fault is told wherever there is one, and `OutOfMemory` only where there is none.
+        // A fault is reported wherever there is one, and `OutOfMemory` only where there is none.
         ensures memory { IsErrOf result (FailedParseChunk OutOfMemory)
             → IsPacket bytes.now checksum policy.now }
 
@@ -221,7 +221,7 @@ impl SctpPacket {
     /// or its fault. It takes no memory.
     ///
     /// The number exactly where the grammar gives these bytes a packet, and the same faults as
-    /// `from_bytes` exactly where this tells them. `OutOfMemory` is never answered.
+    /// `from_bytes` exactly where this reports them. `OutOfMemory` is never returned.
     pub fn check(
         bytes: &[u8],
         checksum: u32,

@@ -12,9 +12,12 @@ returns-in_err-count-clause-answer c =
     let bytes = c.args.bytes.now in
     let found = c.in_err-count.field-0.0 in
     let p = err_from_is_err_and c.from_residual.result c.from_residual.ensures.1 in
-    rw (p.1, p.2) (count_exactly level (causes_lawful c.args.strict) bytes (λ i. (c.type_inv.bytes i).fits) (Err found.fault) (fault_only level (λ t. 1) bytes found c.in_err-count.ensures.found))
+    rw (p.1, p.2) (count_exactly level (causes_lawful c.args.strict) bytes
+    (λ i. (c.type_inv.bytes i).fits) (Err found.fault) (fault_only level (λ t. 1) bytes found
+    c.in_err-count.ensures.found))
 
 pub returns-clause-answer : goal.returns-clause-answer
 returns-clause-answer c =
     let f = c.in_ok-count.ensures.found in
-    count_exactly (causes c.args.strict) (causes_lawful c.args.strict) c.args.bytes.now (λ i. (c.type_inv.bytes i).fits) (Ok c.in_ok-count.count) (f.trees, f.mean, f.item_count)
+    count_exactly (causes c.args.strict) (causes_lawful c.args.strict) c.args.bytes.now
+    (λ i. (c.type_inv.bytes i).fits) (Ok c.in_ok-count.count) (f.trees, f.mean, f.item_count)

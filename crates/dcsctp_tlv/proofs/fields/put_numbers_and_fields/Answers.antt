@@ -17,12 +17,14 @@ counted g size xs e = rw (e, length-map xs g.F.Field.view) refl
 
 pub overflow_mul-value_size : goal.overflow_mul-value_size
 overflow_mul-value_size g c = record {
-  fits = omega (arith, counted g c.SIZE.result c.args.list.now c.SIZE.ensures, c.requires.encodable);
+  fits =
+      omega (arith, counted g c.SIZE.result c.args.list.now c.SIZE.ensures, c.requires.encodable);
 }
 
 pub overflow_add-value_size : goal.overflow_add-value_size
 overflow_add-value_size g c = record {
-  fits = omega (arith, counted g c.SIZE.result c.args.list.now c.SIZE.ensures, c.requires.encodable);
+  fits =
+      omega (arith, counted g c.SIZE.result c.args.list.now c.SIZE.ensures, c.requires.encodable);
 }
 
 pub put_header-requires-clause-encodable : goal.put_header-requires-clause-encodable
@@ -61,5 +63,6 @@ returns g c =
     ∙ written_value c.args.first c.args.second (4 * length ns + c.SIZE.result * length xs)
     (front ++ back) old headed (omega (arith, size, fields)) (omega (arith, size, c.requires.room))
     c.put_header.ensures
-    ∙ ap (λ (n : ℕ). written (image_of (flagged_tlv c.args.first c.args.second n (front ++ back))) old)
+    ∙ ap (λ (n : ℕ). written (image_of (flagged_tlv c.args.first c.args.second n (front ++ back)))
+    old)
     size

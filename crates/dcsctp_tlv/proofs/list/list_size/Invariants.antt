@@ -4,4 +4,5 @@ use Rattle.dcsctp_tlv.specs.Image.{list_size}
 use Rattle.dcsctp_tlv.proofs.list.list_size.Given as goal
 
 abbrev pub invariant-loop-item : goal.invariant-loop-item
-invariant-loop-item g l = l.size ≡ list_size (tlv_by g.T.SerializableTlv.format) (take l.item-index l.list)
+invariant-loop-item g l =
+    l.size ≡ list_size (tlv_by g.T.SerializableTlv.format) (take l.item-index l.list)

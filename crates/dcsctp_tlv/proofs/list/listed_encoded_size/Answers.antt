@@ -9,14 +9,20 @@ returns-in_default g c = λ h.
     let l = g.T.ListedTlv in
     let law = g.met.T.ListedTlv in
     let size = list_size-view (tlv_by s.format) l.view l.tree_tlv law.same_tlv c.args.list.now in
-    c.in_default.ensures (list_encodable (tlv_by s.format) s.placed law.all_placed c.args.list.now (omega (arith, size, h)))
+    c.in_default.ensures (list_encodable (tlv_by s.format) s.placed law.all_placed c.args.list.now
+    (omega (arith, size, h)))
 
 pub returns-then-size-leading : goal.returns-then-size-leading
 returns-then-size-leading g c = λ h.
-    let size = list_size-view (tlv_by g.T.SerializableTlv.format) g.T.ListedTlv.view g.T.ListedTlv.tree_tlv g.met.T.ListedTlv.same_tlv c.args.list.now in
+    let size = list_size-view (tlv_by g.T.SerializableTlv.format) g.T.ListedTlv.view
+    g.T.ListedTlv.tree_tlv g.met.T.ListedTlv.same_tlv c.args.list.now in
     omega (arith, size, h, c.in-Some.ensures.1, c.if-size-leading.true)
 
 pub returns : goal.returns
 returns g c =
-    let size = list_size-view (tlv_by g.T.SerializableTlv.format) g.T.ListedTlv.view g.T.ListedTlv.tree_tlv g.met.T.ListedTlv.same_tlv c.args.list.now in
-    (omega (arith, size, c.in-Some.ensures.1, c.if-size-leading.false, c.requires), omega (arith, size, c.in-Some.ensures.1))
+    let size = list_size-view (tlv_by g.T.SerializableTlv.format) g.T.ListedTlv.view
+    g.T.ListedTlv.tree_tlv g.met.T.ListedTlv.same_tlv c.args.list.now in (
+      omega (arith, size, c.in-Some.ensures.1, c.if-size-leading.false, c.requires),
+      omega
+          (arith, size, c.in-Some.ensures.1),
+    )

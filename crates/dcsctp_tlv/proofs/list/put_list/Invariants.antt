@@ -6,5 +6,6 @@ use Rattle.dcsctp_tlv.proofs.list.put_list.Given as goal
 abbrev pub invariant-loop-item : goal.invariant-loop-item
 invariant-loop-item g l = record {
   total : l.end ≡ list_size (tlv_by g.T.SerializableTlv.format) (take l.item-index l.list);
-  done : l.output ≡ written (list_image (tlv_by g.T.SerializableTlv.format) (take l.item-index l.list)) l.fn.output;
+  done : l.output ≡ written (list_image (tlv_by g.T.SerializableTlv.format)
+      (take l.item-index l.list)) l.fn.output;
 }

@@ -17,47 +17,79 @@ returns-in_err-reserve_exact-clause-empty g c = λ e. (
 
 pub frame_parts-requires : goal.frame_parts-requires
 frame_parts-requires g c =
-    (first_tree (g.T.ReadableTlv.level lenient) c.loop-rest.rest.now c.loop-rest.invariant.building.left c.loop-rest.invariant.building.progress.fits (is_cons c.loop-rest.rest.now c.is_empty.result c.is_empty.ensures c.loop-rest-test.true) c.loop-rest.invariant.building.mean).frame
+    (first_tree (g.T.ReadableTlv.level lenient) c.loop-rest.rest.now
+    c.loop-rest.invariant.building.left c.loop-rest.invariant.building.progress.fits
+    (is_cons c.loop-rest.rest.now c.is_empty.result c.is_empty.ensures c.loop-rest-test.true)
+    c.loop-rest.invariant.building.mean).frame
 
 pub bounds-rest-1 : goal.bounds-rest-1
 bounds-rest-1 g c =
-    let f = first_tree (g.T.ReadableTlv.level lenient) c.loop-rest.rest.now c.loop-rest.invariant.building.left c.loop-rest.invariant.building.progress.fits (is_cons c.loop-rest.rest.now c.is_empty.result c.is_empty.ensures c.loop-rest-test.true) c.loop-rest.invariant.building.mean in
+    let f = first_tree (g.T.ReadableTlv.level lenient) c.loop-rest.rest.now
+    c.loop-rest.invariant.building.left c.loop-rest.invariant.building.progress.fits
+    (is_cons c.loop-rest.rest.now c.is_empty.result c.is_empty.ensures c.loop-rest-test.true)
+    c.loop-rest.invariant.building.mean in
     omega (arith, f.frame.header)
 
 pub read_onto-requires-clause-meant : goal.read_onto-requires-clause-meant
 read_onto-requires-clause-meant g c =
-    let f = first_tree (g.T.ReadableTlv.level lenient) c.loop-rest.rest.now c.loop-rest.invariant.building.left c.loop-rest.invariant.building.progress.fits (is_cons c.loop-rest.rest.now c.is_empty.result c.is_empty.ensures c.loop-rest-test.true) c.loop-rest.invariant.building.mean in
+    let f = first_tree (g.T.ReadableTlv.level lenient) c.loop-rest.rest.now
+    c.loop-rest.invariant.building.left c.loop-rest.invariant.building.progress.fits
+    (is_cons c.loop-rest.rest.now c.is_empty.result c.is_empty.ensures c.loop-rest-test.true)
+    c.loop-rest.invariant.building.mean in
     (f.first, rw c.frame_parts.ensures.value f.means)
 
 pub read_onto-requires-clause-room : goal.read_onto-requires-clause-room
 read_onto-requires-clause-room g c =
-    let f = first_tree (g.T.ReadableTlv.level lenient) c.loop-rest.rest.now c.loop-rest.invariant.building.left c.loop-rest.invariant.building.progress.fits (is_cons c.loop-rest.rest.now c.is_empty.result c.is_empty.ensures c.loop-rest-test.true) c.loop-rest.invariant.building.mean in
+    let f = first_tree (g.T.ReadableTlv.level lenient) c.loop-rest.rest.now
+    c.loop-rest.invariant.building.left c.loop-rest.invariant.building.progress.fits
+    (is_cons c.loop-rest.rest.now c.is_empty.result c.is_empty.ensures c.loop-rest-test.true)
+    c.loop-rest.invariant.building.mean in
     omega (arith, f.count, c.loop-rest.invariant.building.room)
 
 pub loop-rest-smaller : goal.loop-rest-smaller
 loop-rest-smaller g c =
-    let f = first_tree (g.T.ReadableTlv.level lenient) c.loop-rest.rest.now c.loop-rest.invariant.building.left c.loop-rest.invariant.building.progress.fits (is_cons c.loop-rest.rest.now c.is_empty.result c.is_empty.ensures c.loop-rest-test.true) c.loop-rest.invariant.building.mean in
+    let f = first_tree (g.T.ReadableTlv.level lenient) c.loop-rest.rest.now
+    c.loop-rest.invariant.building.left c.loop-rest.invariant.building.progress.fits
+    (is_cons c.loop-rest.rest.now c.is_empty.result c.is_empty.ensures c.loop-rest-test.true)
+    c.loop-rest.invariant.building.mean in
     let shrinks = frame_shrinks c.loop-rest.rest.now f.frame in
     rw c.frame_parts.ensures.rest (omega (arith, shrinks, f.frame.low))
 
 pub loop-rest-preserved : goal.loop-rest-preserved
 loop-rest-preserved g c =
     let view = g.T.ReadableTlv.view in
-    let f = first_tree (g.T.ReadableTlv.level lenient) c.loop-rest.rest.now c.loop-rest.invariant.building.left c.loop-rest.invariant.building.progress.fits (is_cons c.loop-rest.rest.now c.is_empty.result c.is_empty.ensures c.loop-rest-test.true) c.loop-rest.invariant.building.mean in
+    let f = first_tree (g.T.ReadableTlv.level lenient) c.loop-rest.rest.now
+    c.loop-rest.invariant.building.left c.loop-rest.invariant.building.progress.fits
+    (is_cons c.loop-rest.rest.now c.is_empty.result c.is_empty.ensures c.loop-rest-test.true)
+    c.loop-rest.invariant.building.mean in
     let grows = c.in_ok-read_onto.ensures.grows in
-    let e : map view c.read_onto.new.list.items ≡ map view c.loop-rest.list.items ++ view grows.last ∷ [] = ap (map view) grows.items ∙ map_push view c.loop-rest.list.items grows.last in
+    let e : map view c.read_onto.new.list.items ≡ map view c.loop-rest.list.items ++ view grows.last
+    ∷ [] = ap (map view) grows.items ∙ map_push view c.loop-rest.list.items grows.last in
     record {
-      building = rw (e, c.frame_parts.ensures.rest, c.in_ok-read_onto.ensures.len, c.in_ok-read_onto.ensures.capacity)
-          (build_step (g.T.ReadableTlv.level lenient) c.args.bytes.now c.loop-rest.rest.now (map view c.loop-rest.list.items) (view grows.last) (vec_len c.loop-rest.list) (vec_capacity c.loop-rest.list)
+      building = rw (
+        e,
+        c.frame_parts.ensures.rest,
+        c.in_ok-read_onto.ensures.len,
+        c.in_ok-read_onto.ensures.capacity,
+      )
+          (build_step (g.T.ReadableTlv.level lenient) c.args.bytes.now c.loop-rest.rest.now
+          (map view c.loop-rest.list.items) (view grows.last) (vec_len c.loop-rest.list)
+          (vec_capacity c.loop-rest.list)
           c.loop-rest.invariant.building f (rw (← c.frame_parts.ensures.value) grows.means));
-      tight = rw grows.items (All-push g.T.ReadableTlv.is_tight c.loop-rest.list.items grows.last c.loop-rest.invariant.tight grows.tight);
+      tight = rw grows.items (All-push g.T.ReadableTlv.is_tight c.loop-rest.list.items grows.last
+          c.loop-rest.invariant.tight grows.tight);
     }
 
 pub returns-clause-meant : goal.returns-clause-meant
-returns-clause-meant g c = finish (g.T.ReadableTlv.level lenient) c.args.bytes.now (map g.T.ReadableTlv.view c.loop-rest.list.items) c.loop-rest.rest.now c.loop-rest.invariant.building.progress (is_nil c.loop-rest.rest.now c.is_empty.result c.is_empty.ensures c.loop-rest-test.false)
+returns-clause-meant g c = finish (g.T.ReadableTlv.level lenient) c.args.bytes.now
+    (map g.T.ReadableTlv.view c.loop-rest.list.items) c.loop-rest.rest.now
+    c.loop-rest.invariant.building.progress (is_nil c.loop-rest.rest.now c.is_empty.result
+    c.is_empty.ensures c.loop-rest-test.false)
 
 pub returns-clause-reserved : goal.returns-clause-reserved
 returns-clause-reserved g c =
     let b = c.loop-rest.invariant.building in
-    let none = no_trees (g.T.ReadableTlv.level lenient) c.loop-rest.rest.now b.left (is_nil c.loop-rest.rest.now c.is_empty.result c.is_empty.ensures c.loop-rest-test.false) b.mean in
+    let none = no_trees (g.T.ReadableTlv.level lenient) c.loop-rest.rest.now b.left
+    (is_nil c.loop-rest.rest.now c.is_empty.result c.is_empty.ensures c.loop-rest-test.false)
+    b.mean in
     omega (arith, none, b.room)

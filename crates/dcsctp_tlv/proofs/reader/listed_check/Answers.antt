@@ -10,5 +10,8 @@ returns-in-Err-clause-found g c =
     let parts = g.T.ReadableTlv.parts in
     let place = c.args.place in
     let value = c.args.value.now in
-    let found = subst (λ (b : List ℕ). Answers locating (λ (n : ℕ × ℕ). n) (ListLocated level parts b) (Err c.in-Err.found)) (take_rest value place) c.in-Err.ensures.found in
-    moved (λ k. 4 + (place + k)) (ListLocated level parts (drop place value)) (ListedLocated level place value) (λ f h. (f.1, h, refl)) c.in-Err.found found
+    let found = subst (λ (b : List ℕ). Answers locating (λ (n : ℕ × ℕ). n)
+    (ListLocated level parts b) (Err c.in-Err.found)) (take_rest value place)
+    c.in-Err.ensures.found in
+    moved (λ k. 4 + (place + k)) (ListLocated level parts (drop place value))
+    (ListedLocated level place value) (λ f h. (f.1, h, refl)) c.in-Err.found found

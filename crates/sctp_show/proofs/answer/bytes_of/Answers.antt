@@ -8,12 +8,14 @@ use Rattle.sctp_show.proofs.answer.bytes_of.Goals as goal
 pub returns-in-Ok : goal.returns-in-Ok
 returns-in-Ok c =
     let kept : c.retain.new.self.items ≡ without_blanks c.args.text.items =
-    filter_same _ (λ byte. not (is_blank byte)) _ (λ byte b f k. search rules) _ _ c.retain.ensures.filtered in
+    filter_same _ (λ byte. not (is_blank byte)) _ (λ byte b f k. search rules) _ _
+    c.retain.ensures.filtered in
     ap decode_of (sym kept) ∙ c.in-Ok.ensures.ok
 
 pub returns : goal.returns
 returns c =
     let kept : c.retain.new.self.items ≡ without_blanks c.args.text.items =
-    filter_same _ (λ byte. not (is_blank byte)) _ (λ byte b f k. search rules) _ _ c.retain.ensures.filtered in
+    filter_same _ (λ byte. not (is_blank byte)) _ (λ byte b f k. search rules) _ _
+    c.retain.ensures.filtered in
     let bad : IsErr (decode_of c.retain.new.self.items) = grind (arith, common_steps) in
     inr (refl, subst (λ l. IsErr (decode_of l)) kept bad)

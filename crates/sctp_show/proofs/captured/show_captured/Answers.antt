@@ -11,8 +11,10 @@ returns-clause-shown c =
     let empty : (device_of c.new-output.result).items ≡ [] = cc in
     let read : has_failed c.show-status.new.input ≡ false = cc in
     let works : has_failed c.show-status.new.output ≡ false = cc in
-    let shown = c.show-status.ensures.shown c.new-input.ensures.failed c.new-output.ensures.failed read works in
-    subst (λ v. MayShow lenient c.args.text.now (v.items, c.show-status.result)) (sym c.into_device.ensures)
+    let shown = c.show-status.ensures.shown c.new-input.ensures.failed c.new-output.ensures.failed
+    read works in
+    subst (λ v. MayShow lenient c.args.text.now (v.items, c.show-status.result))
+    (sym c.into_device.ensures)
     (MayShow-written _ _ _ _ _ known empty shown)
 
 pub returns-clause-known : goal.returns-clause-known

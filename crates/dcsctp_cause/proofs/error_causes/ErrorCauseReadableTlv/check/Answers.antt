@@ -7,4 +7,6 @@ use Rattle.dcsctp_cause.proofs.error_causes.ErrorCauseReadableTlv.check.Goals as
 pub returns-in-Err-clause-found : goal.returns-in-Err-clause-found
 returns-in-Err-clause-found c =
     let code = c.from_be_bytes.result in
-    rw (c.at_front.ensures, ← c.from_be_bytes.ensures) (fault_at_front (row code) (λ t. 1) c.args.value.now (RowTested (row code) c.args.value.now) (λ e f. (f, row_at_front code c.args.value.now e f)) c.in-Err.fault c.in-Err.ensures)
+    rw (c.at_front.ensures, ← c.from_be_bytes.ensures) (fault_at_front (row code) (λ t. 1)
+    c.args.value.now (RowTested (row code) c.args.value.now)
+    (λ e f. (f, row_at_front code c.args.value.now e f)) c.in-Err.fault c.in-Err.ensures)

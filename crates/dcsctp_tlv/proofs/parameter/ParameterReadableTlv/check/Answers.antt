@@ -7,4 +7,6 @@ use Rattle.dcsctp_tlv.proofs.parameter.ParameterReadableTlv.check.Goals as goal
 pub returns-in-Err-clause-found : goal.returns-in-Err-clause-found
 returns-in-Err-clause-found c =
     let typ = c.from_be_bytes.result in
-    rw (c.at_front.ensures, ← c.from_be_bytes.ensures) (fault_at_front (row typ) (λ t. 1) c.args.value.now (RowTested (row typ) c.args.value.now) (λ e f. (f, row_at_front typ c.args.value.now e f)) c.in-Err.fault c.in-Err.ensures)
+    rw (c.at_front.ensures, ← c.from_be_bytes.ensures) (fault_at_front (row typ) (λ t. 1)
+    c.args.value.now (RowTested (row typ) c.args.value.now)
+    (λ e f. (f, row_at_front typ c.args.value.now e f)) c.in-Err.fault c.in-Err.ensures)

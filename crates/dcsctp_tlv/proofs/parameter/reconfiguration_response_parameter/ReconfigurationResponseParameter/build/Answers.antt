@@ -11,9 +11,16 @@ use Rattle.dcsctp_tlv.specs.declared.parameter.reconfiguration_response_paramete
 use Rattle.dcsctp_tlv.proofs.parameter.reconfiguration_response_parameter.ReconfigurationResponseParameter.build.Goals as goal
 
 -- a value that isn't short is long
-with_tsns : (value : List ℕ) (response sender receiver : ℕ) (result : ReconfigurationResponseResult) → IsOk (kind.read value) → length value ≢ 8
-    → response ≡ number32 value → result_of (number32 (drop 4 value)) ≡ Ok result → sender ≡ number32 (drop 8 value) → receiver ≡ number32 (drop 12 value)
-    → kind.read value ≡ Ok (record { response = response; result = result; sender_next_tsn = Some sender; receiver_next_tsn = Some receiver })
+with_tsns : (value : List ℕ) (response sender receiver : ℕ) (result : ReconfigurationResponseResult)
+    → IsOk (kind.read value) → length value ≢ 8
+    → response ≡ number32 value → result_of (number32 (drop 4 value)) ≡ Ok result
+    → sender ≡ number32 (drop 8 value) → receiver ≡ number32 (drop 12 value)
+    → kind.read value ≡ Ok (record {
+      response = response;
+      result = result;
+      sender_next_tsn = Some sender;
+      receiver_next_tsn = Some receiver;
+    })
 unfolding kind.read
 with_tsns value response sender receiver result ok short a b c d =
     let long = ok_passed (length value == 16) _ Length (rw (ne_eqb (length value) 8 short) at ok) in
@@ -23,5 +30,7 @@ pub returns : goal.returns
 returns c =
     let value = c.args.value.now in
     with_tsns value _ _ _ _ c.requires c.if-value-eq8.false c.read_u32_be-response_seq_nbr.ensures
-    (ap (λ (n : ℕ). result_of n) (sym (c.read_u32_be.ensures ∙ ap number32 (take_rest value 4))) ∙ c.of-result.ensures)
-    (c.read_u32_be-2.ensures ∙ ap number32 (take_rest value 8)) (c.read_u32_be-3.ensures ∙ ap number32 (take_rest value 12))
+    (ap (λ (n : ℕ). result_of n) (sym (c.read_u32_be.ensures ∙ ap number32 (take_rest value 4)))
+    ∙ c.of-result.ensures)
+    (c.read_u32_be-2.ensures ∙ ap number32 (take_rest value 8)) (c.read_u32_be-3.ensures
+    ∙ ap number32 (take_rest value 12))
