@@ -30,29 +30,29 @@ listed f isnt x t e = sym (ap data_of e ∙ isnt x)
 
 each : (flags : ℕ) → EachNamed (ReadsAlike flags) (table lenient flags)
 each flags =
-    (λ value t m. own Data (λ c. refl) (kind.DataChunk.read flags value) t m)
-    & (λ value t m. listed Init (λ x. refl) m.0 t m.2)
+    (λ value t m. listed Init (λ x. refl) m.0 t m.2)
     & (λ value t m. listed InitAck (λ x. refl) m.0 t m.2)
-    & (λ value t m. other Sack (λ x. refl) (kind.Sack.read value) t m)
     & (λ value t m. listed HeartbeatRequest (λ x. refl) m.0 t m.2)
     & (λ value t m. listed HeartbeatAck (λ x. refl) m.0 t m.2)
     & (λ value t m. listed Abort (λ x. refl) m.0 t m.2)
+    & (λ value t m. listed Error (λ x. refl) m.0 t m.2)
+    & (λ value t m. listed ReConfig (λ x. refl) m.0 t m.2)
+    & (λ value t m. own Data (λ c. refl) (kind.DataChunk.read flags value) t m)
+    & (λ value t m. other Sack (λ x. refl) (kind.Sack.read value) t m)
     & (λ value t m. other Shutdown (λ x. refl) (kind.Shutdown.read value) t m)
     & (λ value t m. other (λ _. ShutdownAck) (λ x. refl) (kind.ShutdownAck.read value) t m)
-    & (λ value t m. listed Error (λ x. refl) m.0 t m.2)
     & (λ value t m. other CookieEcho (λ x. refl) (kind.CookieEcho.read value) t m)
     & (λ value t m. other (λ _. CookieAck) (λ x. refl) (kind.CookieAck.read value) t m)
     & (λ value t m. other ShutdownComplete (λ x. refl) (kind.ShutdownComplete.read flags value) t m)
     & (λ value t m. own IData (λ c. refl) (kind.IDataChunk.read flags value) t m)
-    & (λ value t m. listed ReConfig (λ x. refl) m.0 t m.2)
     & (λ value t m. other ForwardTsn (λ x. refl) (kind.ForwardTsn.read value) t m)
     & (λ value t m. other IForwardTsn (λ x. refl) (kind.IForwardTsn.read value) t m)
     & tt
 
 unnamed_reads : (flags typ : ℕ) → IsUnnamed (table lenient flags) typ → ReadsAlike flags typ (plain (λ value. map_ok Unknown (kind.Unknown.read typ flags value)))
 unnamed_reads flags typ unnamed value t m =
-    let isnt_idata = unnamed.1.1.1.1.1.1.1.1.1.1.1.1.1.0 in
-    rw (ne_eqb typ 0 unnamed.0, ne_eqb typ 64 isnt_idata) (other Unknown (λ x. refl) (kind.Unknown.read typ flags value) t m)
+    let isnt_idata = unnamed.1.1.1.1.1.1.1.1.1.1.1.1.1.1.0 in
+    rw (ne_eqb typ 0 unnamed.1.1.1.1.1.1.1.0, ne_eqb typ 64 isnt_idata) (other Unknown (λ x. refl) (kind.Unknown.read typ flags value) t m)
 
 pub reads_alike : (typ flags : ℕ) (value : List ℕ) (t : ChunkTree) → (chunk_row lenient typ flags).means value t → read_user_data typ flags value ≡ data_of t
 reads_alike typ flags = of_table (ReadsAlike flags) (table lenient flags) typ _ (each flags) (unnamed_reads flags typ)

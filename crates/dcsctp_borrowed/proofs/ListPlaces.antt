@@ -66,28 +66,28 @@ listed f is value t m =
 
 each_parameters : (flags : ℕ) → EachNamed (Placed (parameters lenient) parameter_bytes parameters_of) (table lenient flags)
 each_parameters flags =
-    (λ value t m. unlisted (parameters lenient) parameters_of Data (λ x. refl) (kind.DataChunk.read flags value) t m)
-    & (λ value t m. init Init (λ x. refl) value t m)
+    (λ value t m. init Init (λ x. refl) value t m)
     & (λ value t m. init InitAck (λ x. refl) value t m)
-    & (λ value t m. unlisted (parameters lenient) parameters_of Sack (λ x. refl) (kind.Sack.read value) t m)
     & (λ value t m. listed HeartbeatRequest (λ x. refl) value t m)
     & (λ value t m. listed HeartbeatAck (λ x. refl) value t m)
     & (λ value t m. other (parameters lenient) parameters_of Abort (λ x. refl) m.0 t m.2)
+    & (λ value t m. other (parameters lenient) parameters_of Error (λ x. refl) m.0 t m.2)
+    & (λ value t m. listed ReConfig (λ x. refl) value t m)
+    & (λ value t m. unlisted (parameters lenient) parameters_of Data (λ x. refl) (kind.DataChunk.read flags value) t m)
+    & (λ value t m. unlisted (parameters lenient) parameters_of Sack (λ x. refl) (kind.Sack.read value) t m)
     & (λ value t m. unlisted (parameters lenient) parameters_of Shutdown (λ x. refl) (kind.Shutdown.read value) t m)
     & (λ value t m. unlisted (parameters lenient) parameters_of (λ _. ShutdownAck) (λ x. refl) (kind.ShutdownAck.read value) t m)
-    & (λ value t m. other (parameters lenient) parameters_of Error (λ x. refl) m.0 t m.2)
     & (λ value t m. unlisted (parameters lenient) parameters_of CookieEcho (λ x. refl) (kind.CookieEcho.read value) t m)
     & (λ value t m. unlisted (parameters lenient) parameters_of (λ _. CookieAck) (λ x. refl) (kind.CookieAck.read value) t m)
     & (λ value t m. unlisted (parameters lenient) parameters_of ShutdownComplete (λ x. refl) (kind.ShutdownComplete.read flags value) t m)
     & (λ value t m. unlisted (parameters lenient) parameters_of IData (λ x. refl) (kind.IDataChunk.read flags value) t m)
-    & (λ value t m. listed ReConfig (λ x. refl) value t m)
     & (λ value t m. unlisted (parameters lenient) parameters_of ForwardTsn (λ x. refl) (kind.ForwardTsn.read value) t m)
     & (λ value t m. unlisted (parameters lenient) parameters_of IForwardTsn (λ x. refl) (kind.IForwardTsn.read value) t m)
     & tt
 
 unnamed_parameters : (flags typ : ℕ) → IsUnnamed (table lenient flags) typ → Placed (parameters lenient) parameter_bytes parameters_of typ (plain (λ value. map_ok Unknown (kind.Unknown.read typ flags value)))
 unnamed_parameters flags typ u value t m =
-    rw (ne_eqb typ 1 u.1.0, ne_eqb typ 2 u.1.1.0, ne_eqb typ 4 u.1.1.1.1.0, ne_eqb typ 5 u.1.1.1.1.1.0, ne_eqb typ 130 u.1.1.1.1.1.1.1.1.1.1.1.1.1.1.0)
+    rw (ne_eqb typ 1 u.0, ne_eqb typ 2 u.1.0, ne_eqb typ 4 u.1.1.0, ne_eqb typ 5 u.1.1.1.0, ne_eqb typ 130 u.1.1.1.1.1.1.0)
     (unlisted (parameters lenient) parameters_of Unknown (λ x. refl) (kind.Unknown.read typ flags value) t m)
 
 -- of what a chunk means, its parameters lie there
@@ -108,28 +108,28 @@ error value t m =
 
 each_causes : (flags : ℕ) → EachNamed (Placed (causes lenient) cause_bytes causes_of) (table lenient flags)
 each_causes flags =
-    (λ value t m. unlisted (causes lenient) causes_of Data (λ x. refl) (kind.DataChunk.read flags value) t m)
-    & (λ value t m. other (causes lenient) causes_of Init (λ x. refl) m.0 t m.2)
+    (λ value t m. other (causes lenient) causes_of Init (λ x. refl) m.0 t m.2)
     & (λ value t m. other (causes lenient) causes_of InitAck (λ x. refl) m.0 t m.2)
-    & (λ value t m. unlisted (causes lenient) causes_of Sack (λ x. refl) (kind.Sack.read value) t m)
     & (λ value t m. other (causes lenient) causes_of HeartbeatRequest (λ x. refl) m.0 t m.2)
     & (λ value t m. other (causes lenient) causes_of HeartbeatAck (λ x. refl) m.0 t m.2)
     & (λ value t m. abort flags value t m)
+    & (λ value t m. error value t m)
+    & (λ value t m. other (causes lenient) causes_of ReConfig (λ x. refl) m.0 t m.2)
+    & (λ value t m. unlisted (causes lenient) causes_of Data (λ x. refl) (kind.DataChunk.read flags value) t m)
+    & (λ value t m. unlisted (causes lenient) causes_of Sack (λ x. refl) (kind.Sack.read value) t m)
     & (λ value t m. unlisted (causes lenient) causes_of Shutdown (λ x. refl) (kind.Shutdown.read value) t m)
     & (λ value t m. unlisted (causes lenient) causes_of (λ _. ShutdownAck) (λ x. refl) (kind.ShutdownAck.read value) t m)
-    & (λ value t m. error value t m)
     & (λ value t m. unlisted (causes lenient) causes_of CookieEcho (λ x. refl) (kind.CookieEcho.read value) t m)
     & (λ value t m. unlisted (causes lenient) causes_of (λ _. CookieAck) (λ x. refl) (kind.CookieAck.read value) t m)
     & (λ value t m. unlisted (causes lenient) causes_of ShutdownComplete (λ x. refl) (kind.ShutdownComplete.read flags value) t m)
     & (λ value t m. unlisted (causes lenient) causes_of IData (λ x. refl) (kind.IDataChunk.read flags value) t m)
-    & (λ value t m. other (causes lenient) causes_of ReConfig (λ x. refl) m.0 t m.2)
     & (λ value t m. unlisted (causes lenient) causes_of ForwardTsn (λ x. refl) (kind.ForwardTsn.read value) t m)
     & (λ value t m. unlisted (causes lenient) causes_of IForwardTsn (λ x. refl) (kind.IForwardTsn.read value) t m)
     & tt
 
 unnamed_causes : (flags typ : ℕ) → IsUnnamed (table lenient flags) typ → Placed (causes lenient) cause_bytes causes_of typ (plain (λ value. map_ok Unknown (kind.Unknown.read typ flags value)))
 unnamed_causes flags typ u value t m =
-    rw (ne_eqb typ 6 u.1.1.1.1.1.1.0, ne_eqb typ 9 u.1.1.1.1.1.1.1.1.1.0)
+    rw (ne_eqb typ 6 u.1.1.1.1.0, ne_eqb typ 9 u.1.1.1.1.1.0)
     (unlisted (causes lenient) causes_of Unknown (λ x. refl) (kind.Unknown.read typ flags value) t m)
 
 -- of what a chunk means, its causes lie there

@@ -1,16 +1,51 @@
--- A check of one kind, in the table of the kinds without a list.
-use Rattle.std.proofs.Common.{◌≡◌, true, false, Result, Ok, Err, inl, inr, refl, ap}
+-- The check of a kind without a list, at the level of a table that has the kinds' rows.
+use Rattle.std.proofs.Common.{◌≡◌, ℕ, Bool, cond, true, false, List, [], ◌∷◌, Result, Ok, Err, ap, refl, sym}
+use Rattle.std.specs.Prelude.{◌==◌, IsOk}
 use Rattle.dcsctp_tlv.specs.declared.error.ChunkParseError.{ChunkParseError}
+use Rattle.dcsctp_tlv.specs.declared.error.LocatedFault.{LocatedFault}
 use Rattle.dcsctp_tlv.specs.Fault.{Fault}
-use Rattle.dcsctp_tlv.specs.Reading.{Answers, Exactly, checking, Tested}
-use Rattle.dcsctp_tlv.proofs.Exact.{exactly, read_single, checking_distinct}
-use Rattle.dcsctp_chunk.specs.PlainCheck.{outcome}
+use Rattle.dcsctp_tlv.specs.Level.{Row, plain, pick, map_ok, MeansParts}
+use Rattle.dcsctp_tlv.specs.Reading.{Answers, checking, locating, Tested, RowLocated}
+use Rattle.dcsctp_tlv.specs.Table.{row_of}
+use Rattle.dcsctp_tlv.proofs.Places.{fault_at_front}
+use Rattle.dcsctp_chunk.specs.PlainKinds.{PlainKind, ChecksKind, TreesOf, plain_rows}
 
-passes_answers : {T : Type 0} (read : Result T Fault) (r : Result (Unit {0}) ChunkParseError) → Answers checking (λ (u : Unit {0}). u) (Tested read) r → Answers checking (λ (u : Unit {0}). u) (λ a. outcome read ≡ a) r
-passes_answers (Ok t) (Ok x) p = refl
-passes_answers (Err d) (Ok x) p = absurd (let e : false ≡ true = p in cc)
-passes_answers read (Err e) (inl found) = inl (found.0, found.1, ap outcome found.2)
-passes_answers read (Err e) (inr none) = absurd none
+-- what the check of a whole item answers, where its value is checked first
+abbrev pub whole : Result (Unit {0}) ChunkParseError → Result ℕ LocatedFault
+whole (Ok u) = Ok 1
+whole (Err e) = Err (record { offset = 0; fault = e })
 
-pub passes_outcome : {T : Type 0} (read : Result T Fault) (r : Result (Unit {0}) ChunkParseError) → Answers checking (λ (u : Unit {0}). u) (Tested read) r → Exactly checking (λ (u : Unit {0}). u) (λ a. outcome read ≡ a) r
-passes_outcome read r p = exactly checking checking_distinct (λ u. u) (λ a. outcome read ≡ a) (read_single (outcome read)) r (passes_answers read r p) (λ e is none. absurd none)
+-- that is one part, or the fault of the item as a whole
+abbrev pub Finds : {T : Type 0} → (T → ℕ) → Row T → List ℕ → Result (Unit {0}) ChunkParseError → Type 0
+Finds parts row value r = Answers locating (λ (n : ℕ). n) (RowLocated parts row value) (whole r)
+
+-- a tree of each kind has one part
+abbrev pub AreSingle : {T : Type 0} → (T → ℕ) → (ks : List PlainKind) → TreesOf ks T → Type 0
+AreSingle parts [] trees = Unit {0}
+AreSingle parts (k ∷ ks) trees = ((x : k.Tree) → parts (trees.0 x) ≡ 1) × AreSingle parts ks trees.1
+
+kind_finds : {A T : Type 0} (parts : T → ℕ) (tree : A → T) → ((x : A) → parts (tree x) ≡ 1) → (read : List ℕ → Result A Fault) (value : List ℕ) (r : Result (Unit {0}) ChunkParseError)
+    → Answers checking (λ (u : Unit {0}). u) (Tested (read value)) r → Finds parts (plain (λ v. map_ok tree (read v))) value r
+kind_finds {A} {T} parts tree one read value (Ok x) p = found (read value) p where
+  found : (a : Result A Fault) → IsOk a → (t : T) × (map_ok tree a ≡ Ok t) × (1 ≡ parts t)
+  found (Ok x) h = (tree x, refl, sym (one x))
+  found (Err d) h = absurd (let e : false ≡ true = h in cc)
+kind_finds parts tree one read value (Err e) p =
+    fault_at_front (plain (λ v. map_ok tree (read v))) parts value (Tested (read value)) (λ f is. (ap (map_ok tree) is, refl)) e p
+
+-- any value of a type that has none of the kinds passes
+other_finds : {T : Type 0} (parts : T → ℕ) (row : Row T) (value : List ℕ) (r : Result (Unit {0}) ChunkParseError) → MeansParts parts row value 1 → IsOk r → Finds parts row value r
+other_finds parts row value (Ok x) means p = means
+other_finds parts row value (Err e) means p = absurd (let e : false ≡ true = p in cc)
+
+choice : {T : Type 0} (parts : T → ℕ) (value : List ℕ) (r : Result (Unit {0}) ChunkParseError) (b : Bool) (row others : Row T) (P Q : Type 0) → (P → Finds parts row value r) → (Q → Finds parts others value r)
+    → cond b P Q → Finds parts (pick b row others) value r
+choice parts value r true row others P Q own rest p = own p
+choice parts value r false row others P Q own rest p = rest p
+
+-- so the check of the value says what the level's table does
+pub table_finds : {T : Type 0} (parts : T → ℕ) (ks : List PlainKind) (trees : TreesOf ks T) (typ : ℕ) (others : Row T) (value : List ℕ) (r : Result (Unit {0}) ChunkParseError) → AreSingle parts ks trees → MeansParts parts others value 1
+    → ChecksKind ks typ value r → Finds parts (row_of (plain_rows ks trees) typ others) value r
+table_finds parts [] trees typ others value r one means p = other_finds parts others value r means p
+table_finds parts (k ∷ ks) trees typ others value r one means p =
+    choice parts value r (typ == k.typ) _ _ _ _ (λ q. kind_finds parts trees.0 one.0 k.read value r q.answers) (table_finds parts ks trees.1 typ others value r one.1 means) p

@@ -8,7 +8,7 @@ pub mod CookieEcho
 pub mod Cover
 pub mod ForwardTsn
 pub mod IForwardTsn
-pub mod PlainCheck
+pub mod PlainKinds
 pub mod Sack
 pub mod Shutdown
 pub mod ShutdownAck

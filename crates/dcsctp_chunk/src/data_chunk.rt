@@ -17,7 +17,7 @@
 //! ```
 
 ghost use Rattle.std.specs.Prelude.{◌≡◌, ◌≢◌, ◌↔◌, ℕ, Some, IsOk, IsErrOf, IfOk, Ok, vec_len, vec_capacity};
-ghost use Rattle.dcsctp_tlv.specs.Reading.{Answers, Exactly, reading, checking, Tested};
+ghost use Rattle.dcsctp_tlv.specs.Reading.{Exactly, reading, checking, Tested};
 ghost use Rattle.dcsctp_chunk.specs.DataChunk as kind;
 
 use crate::data::Data;
@@ -80,7 +80,7 @@ impl DataChunk {
 
     /// `InvalidLength` exactly where the value has fewer than 12 bytes.
     pub(crate) fn check(value: &[u8]) -> Result<(), ChunkParseError>
-        ensures { (flags : ℕ) → Answers checking (λ u. u)
+        ensures { (flags : ℕ) → Exactly checking (λ u. u)
             (Tested (kind.read flags value.now)) result }
     {
         if value.len() < FIXED_SIZE {

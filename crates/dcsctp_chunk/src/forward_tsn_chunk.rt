@@ -13,7 +13,7 @@
 //! ```
 
 ghost use Rattle.std.specs.Prelude.{◌≡◌, ◌≢◌, ◌↔◌, false, Some, IsOk, IsErrOf, IfOk, Ok, vec_len, vec_capacity};
-ghost use Rattle.dcsctp_tlv.specs.Reading.{Answers, Exactly, reading, checking, Tested};
+ghost use Rattle.dcsctp_tlv.specs.Reading.{Exactly, reading, checking, Tested};
 ghost use Rattle.dcsctp_chunk.specs.SkippedStreams.{SkippedStreamTree, is_by_mid, skipped_stream_view};
 ghost use Rattle.dcsctp_chunk.specs.ForwardTsn as kind;
 
@@ -110,7 +110,7 @@ impl ForwardTsnChunk {
 
     /// `InvalidLength` exactly where the value has fewer than 4 bytes, or no multiple of 4.
     pub(crate) fn check(value: &[u8]) -> Result<(), ChunkParseError>
-        ensures { Answers checking (λ u. u) (Tested (kind.read value.now)) result }
+        ensures { Exactly checking (λ u. u) (Tested (kind.read value.now)) result }
     {
         if value.len() < FIXED_SIZE {
             return Err(ChunkParseError::InvalidLength);

@@ -19,7 +19,7 @@
 //! ```
 
 ghost use Rattle.std.specs.Prelude.{◌≡◌, ◌≢◌, ◌↔◌, ℕ, Some, IsOk, IsErrOf, if◌then◌else◌, IfOk, Ok, vec_len, vec_capacity};
-ghost use Rattle.dcsctp_tlv.specs.Reading.{Answers, Exactly, reading, checking, Tested};
+ghost use Rattle.dcsctp_tlv.specs.Reading.{Exactly, reading, checking, Tested};
 ghost use Rattle.dcsctp_chunk.specs.Data.{user_data_view};
 ghost use Rattle.dcsctp_chunk.specs.IDataChunk as kind;
 
@@ -109,7 +109,7 @@ impl IDataChunk {
 
     /// `InvalidLength` exactly where the value has fewer than 16 bytes.
     pub(crate) fn check(value: &[u8]) -> Result<(), ChunkParseError>
-        ensures { (flags : ℕ) → Answers checking (λ u. u)
+        ensures { (flags : ℕ) → Exactly checking (λ u. u)
             (Tested (kind.read flags value.now)) result }
     {
         if value.len() < FIXED_SIZE {

@@ -17,7 +17,7 @@
 //! U says that the stream's unordered messages are skipped.
 
 ghost use Rattle.std.specs.Prelude.{◌≡◌, ◌≢◌, ◌↔◌, true, Some, IsOk, IsErrOf, IfOk, Ok, vec_len, vec_capacity};
-ghost use Rattle.dcsctp_tlv.specs.Reading.{Answers, Exactly, reading, checking, Tested};
+ghost use Rattle.dcsctp_tlv.specs.Reading.{Exactly, reading, checking, Tested};
 ghost use Rattle.dcsctp_chunk.specs.SkippedStreams.{SkippedStreamTree, is_by_mid, skipped_stream_view};
 ghost use Rattle.dcsctp_chunk.specs.IForwardTsn as kind;
 
@@ -119,7 +119,7 @@ impl IForwardTsnChunk {
     /// `InvalidLength` exactly where the value has fewer than 4 bytes, or no multiple of 8 after
     /// the first 4.
     pub(crate) fn check(value: &[u8]) -> Result<(), ChunkParseError>
-        ensures { Answers checking (λ u. u) (Tested (kind.read value.now)) result }
+        ensures { Exactly checking (λ u. u) (Tested (kind.read value.now)) result }
     {
         if value.len() < FIXED_SIZE {
             return Err(ChunkParseError::InvalidLength);

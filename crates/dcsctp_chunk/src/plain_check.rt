@@ -1,8 +1,7 @@
 //! The check of a chunk without a list, before it is built.
 
-ghost use Rattle.std.specs.Prelude.{◌≡◌, IsErrOf};
-ghost use Rattle.dcsctp_tlv.specs.Reading.{Exactly, checking};
-ghost use Rattle.dcsctp_chunk.specs.PlainCheck.{plain_outcome};
+ghost use Rattle.std.specs.Prelude.{IsErrOf};
+ghost use Rattle.dcsctp_chunk.specs.PlainKinds.{plain_kinds, ChecksKind};
 
 use crate::cookie_ack_chunk::{self, CookieAckChunk};
 use crate::cookie_echo_chunk::{self, CookieEchoChunk};
@@ -22,8 +21,7 @@ use dcsctp_tlv::error::ChunkParseError;
 /// `InvalidLength` exactly where the value has a size that its kind doesn't allow. Each value
 /// passes whose type has no kind of its own, or a kind with a list of parameters or error causes.
 pub fn plain_check(raw: RawChunk) -> Result<(), ChunkParseError>
-    ensures answer { Exactly checking (λ u. u)
-        (λ a. plain_outcome raw.entry.typ raw.entry.flags raw.entry.value.now ≡ a) result }
+    ensures answer { ChecksKind (plain_kinds raw.entry.flags) raw.entry.typ raw.entry.value.now result }
     ensures memory { ¬ IsErrOf result ChunkParseError.OutOfMemory }
 {
     match raw.typ {

@@ -9,7 +9,7 @@
 //! ```
 
 ghost use Rattle.std.specs.Prelude.{◌≡◌, ◌≢◌, ◌↔◌, [], Some, IsErrOf};
-ghost use Rattle.dcsctp_tlv.specs.Reading.{Answers, Exactly, reading, checking, Tested};
+ghost use Rattle.dcsctp_tlv.specs.Reading.{Exactly, reading, checking, Tested};
 ghost use Rattle.dcsctp_chunk.specs.ShutdownAck as kind;
 
 use crate::raw_chunk::RawChunk;
@@ -45,7 +45,7 @@ impl ShutdownAckChunk {
 
     /// `InvalidLength` exactly where the value isn't empty.
     pub(crate) fn check(value: &[u8]) -> Result<(), ChunkParseError>
-        ensures { Answers checking (λ u. u) (Tested (kind.read value.now)) result }
+        ensures { Exactly checking (λ u. u) (Tested (kind.read value.now)) result }
     {
         if !value.is_empty() {
             return Err(ChunkParseError::InvalidLength);

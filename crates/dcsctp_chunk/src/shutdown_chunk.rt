@@ -12,7 +12,7 @@
 
 ghost use Rattle.std.specs.Prelude.{◌≡◌, ◌≢◌, ◌↔◌, Some, Ok, IsOk, IsErrOf};
 ghost use Rattle.std.specs.Int.{to_be_bytes};
-ghost use Rattle.dcsctp_tlv.specs.Reading.{Answers, Exactly, reading, checking, Tested};
+ghost use Rattle.dcsctp_tlv.specs.Reading.{Exactly, reading, checking, Tested};
 ghost use Rattle.dcsctp_chunk.specs.Shutdown as kind;
 
 use crate::raw_chunk::RawChunk;
@@ -54,7 +54,7 @@ impl ShutdownChunk {
 
     /// `InvalidLength` exactly where the value hasn't 4 bytes.
     pub(crate) fn check(value: &[u8]) -> Result<(), ChunkParseError>
-        ensures { Answers checking (λ u. u) (Tested (kind.read value.now)) result }
+        ensures { Exactly checking (λ u. u) (Tested (kind.read value.now)) result }
     {
         if value.len() != 4 {
             return Err(ChunkParseError::InvalidLength);

@@ -9,7 +9,7 @@
 //! ```
 
 ghost use Rattle.std.specs.Prelude.{◌≡◌, ◌≢◌, ◌↔◌, ℕ, List, [], Some, Ok, IsOk, IsErrOf};
-ghost use Rattle.dcsctp_tlv.specs.Reading.{Answers, Exactly, reading, checking, Tested};
+ghost use Rattle.dcsctp_tlv.specs.Reading.{Exactly, reading, checking, Tested};
 ghost use Rattle.dcsctp_chunk.specs.ShutdownComplete as kind;
 
 use crate::flags::{is_set, one_flag};
@@ -51,7 +51,7 @@ impl ShutdownCompleteChunk {
 
     /// `InvalidLength` exactly where the value isn't empty.
     pub(crate) fn check(value: &[u8]) -> Result<(), ChunkParseError>
-        ensures { (flags : ℕ) → Answers checking (λ u. u)
+        ensures { (flags : ℕ) → Exactly checking (λ u. u)
             (Tested (kind.read flags value.now)) result }
     {
         if !value.is_empty() {

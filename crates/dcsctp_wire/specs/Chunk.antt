@@ -1,13 +1,15 @@
 -- The table of chunks (RFC 9260 section 3.2).
-use Rattle.std.specs.Prelude.{◌≡◌, ◌⊎◌, ℕ, ◌+◌, Bool, List, [], ◌∷◌, All, length, drop, map, vec_len, vec_capacity}
+use Rattle.std.specs.Prelude.{◌≡◌, ◌⊎◌, ℕ, ◌+◌, Bool, List, [], ◌∷◌, ◌++◌, All, length, drop, map, vec_len, vec_capacity}
 use Rattle.dcsctp_tlv.specs.Frame.{lenient, full_padding}
 use Rattle.dcsctp_tlv.specs.Level.{Row, plain, as_row, Level, map_ok}
-use Rattle.dcsctp_tlv.specs.Table.{Named, named, row_of, IsUnnamed}
+use Rattle.dcsctp_tlv.specs.Table.{Named, row_of, IsUnnamed}
 use Rattle.dcsctp_tlv.specs.Image.{Tlv, IsEncodable}
 use Rattle.dcsctp_tlv.specs.Format.{Format}
 use Rattle.dcsctp_tlv.specs.Parameter.{ParameterTree, all_kept as kept_parameters, IsTight as IsTightParameter}
+use Rattle.dcsctp_tlv.proofs.Tables.{◌&◌}
 use Rattle.dcsctp_cause.specs.Cause.{CauseTree, IsTight as IsTightCause}
 use Rattle.dcsctp_chunk.specs as plain_kind
+use Rattle.dcsctp_chunk.specs.PlainKinds.{plain_kinds, TreesOf, plain_rows}
 use Rattle.dcsctp_chunk.specs.SkippedStreams as skipped_streams
 use Rattle.dcsctp_wire.specs as kind
 use Rattle.dcsctp_wire.specs.declared.packet.chunk.Chunk.{Chunk}
@@ -38,26 +40,26 @@ pub data ChunkTree : Type 0 where
 abbrev nested : {X : Type 0} → ℕ → (X → ChunkTree) → Row X → Named ChunkTree
 nested typ tree row = record { typ = typ; row = as_row tree row }
 
--- the types that are named, and how the value of each is read, by a strict reader or a lenient one
-abbrev pub table : Bool → ℕ → List (Named ChunkTree)
-table strict flags =
-    named 0 Data (plain_kind.DataChunk.read flags) ∷
+-- the rows of these kinds, for a strict reader or a lenient one
+abbrev pub list_rows : Bool → ℕ → List (Named ChunkTree)
+list_rows strict flags =
     nested 1 Init (kind.InitFields.row strict) ∷
     nested 2 InitAck (kind.InitFields.row strict) ∷
-    named 3 Sack plain_kind.Sack.read ∷
     nested 4 HeartbeatRequest (kind.ParameterList.row strict) ∷
     nested 5 HeartbeatAck (kind.ParameterList.row strict) ∷
     nested 6 Abort (kind.Abort.row strict flags) ∷
-    named 7 Shutdown plain_kind.Shutdown.read ∷
-    named 8 (λ _. ShutdownAck) plain_kind.ShutdownAck.read ∷
     nested 9 Error (kind.Error.row strict) ∷
-    named 10 CookieEcho plain_kind.CookieEcho.read ∷
-    named 11 (λ _. CookieAck) plain_kind.CookieAck.read ∷
-    named 14 ShutdownComplete (plain_kind.ShutdownComplete.read flags) ∷
-    named 64 IData (plain_kind.IDataChunk.read flags) ∷
-    nested 130 ReConfig (kind.ParameterList.row strict) ∷
-    named 192 ForwardTsn plain_kind.ForwardTsn.read ∷
-    named 194 IForwardTsn plain_kind.IForwardTsn.read ∷ []
+    nested 130 ReConfig (kind.ParameterList.row strict) ∷ []
+
+-- the trees of the kinds without a list, in their order
+abbrev pub plain_trees : (flags : ℕ) → TreesOf (plain_kinds flags) ChunkTree
+plain_trees flags =
+    Data & Sack & Shutdown & (λ _. ShutdownAck) & CookieEcho & (λ _. CookieAck) & ShutdownComplete
+    & IData & ForwardTsn & IForwardTsn & tt
+
+-- the types that are named, and how the value of each is read
+abbrev pub table : Bool → ℕ → List (Named ChunkTree)
+table strict flags = list_rows strict flags ++ plain_rows (plain_kinds flags) (plain_trees flags)
 
 -- what the value of a type means, and its faults
 abbrev pub chunk_row : Bool → ℕ → ℕ → Row ChunkTree

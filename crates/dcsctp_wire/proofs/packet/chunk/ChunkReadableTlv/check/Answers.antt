@@ -1,13 +1,11 @@
-use Rattle.std.proofs.Common.{◌≡◌, rules, ◌+◌, length, refl}
+use Rattle.std.proofs.Common.{Ok, Err, rules, ◌+◌, length, refl}
 use Rattle.dcsctp_tlv.proofs.Readings.{finds_as}
-use Rattle.dcsctp_tlv.proofs.Places.{fault_at_front}
-use Rattle.dcsctp_chunk.specs.PlainCheck.{plain_outcome}
 use Rattle.dcsctp_wire.specs.InitFields.{row as init_row, parts as init_parts}
 use Rattle.dcsctp_wire.specs.ParameterList.{row as parameter_list_row}
 use Rattle.dcsctp_wire.specs.Abort.{row as abort_row}
 use Rattle.dcsctp_wire.specs.Error.{row as error_row}
-use Rattle.dcsctp_wire.specs.Chunk.{parts as chunk_parts, Init, InitAck, HeartbeatRequest, HeartbeatAck, Abort, Error, ReConfig, chunk_row}
-use Rattle.dcsctp_wire.proofs.ChunkRows.{plain_stands}
+use Rattle.dcsctp_wire.specs.Chunk.{parts as chunk_parts, Init, InitAck, HeartbeatRequest, HeartbeatAck, Abort, Error, ReConfig}
+use Rattle.dcsctp_wire.proofs.ChunkRows.{plain_finds}
 use Rattle.dcsctp_wire.proofs.packet.chunk.ChunkReadableTlv.check.Goals as goal
 
 pub returns-in-1-clause-found : goal.returns-in-1-clause-found
@@ -32,14 +30,7 @@ pub returns-in-130-clause-found : goal.returns-in-130-clause-found
 returns-in-130-clause-found c = rw c.in-130.is (finds_as ReConfig (parameter_list_row c.args.strict) (λ ps. 1 + length ps) chunk_parts (λ x. refl) c.args.value.now c.parameter_list_check-in-130.result c.parameter_list_check-in-130.ensures.found)
 
 pub returns-in-Ok-clause-found : goal.returns-in-Ok-clause-found
-returns-in-Ok-clause-found c =
-    let stands = plain_stands c.args.strict c.args.first c.args.second c.args.value.now (search rules) (search rules) (search rules) (search rules) (search rules) (search rules) (search rules) in
-    stands.0 (rw c.in-Ok.ensures.answer.answers refl)
+returns-in-Ok-clause-found c = plain_finds c.args.strict c.args.first c.args.second c.args.value.now (Ok (tt {0})) (search rules) c.in-Ok.ensures.answer
 
 pub returns-in-Err-clause-found : goal.returns-in-Err-clause-found
-returns-in-Err-clause-found c =
-    let typ = c.args.first in
-    let flags = c.args.second in
-    let v = c.args.value.now in
-    let stands = plain_stands c.args.strict typ flags v (search rules) (search rules) (search rules) (search rules) (search rules) (search rules) (search rules) in
-    rw c.at_front.ensures (fault_at_front (chunk_row c.args.strict typ flags) chunk_parts v (λ a. plain_outcome typ flags v ≡ a) stands.1 c.in-Err.fault c.in-Err.ensures.answer.answers)
+returns-in-Err-clause-found c = rw c.at_front.ensures (plain_finds c.args.strict c.args.first c.args.second c.args.value.now (Err c.in-Err.fault) (search rules) c.in-Err.ensures.answer)
