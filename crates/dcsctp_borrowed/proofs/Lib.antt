@@ -4,3 +4,4 @@ pub mod DataRows
 pub mod FieldLists
 pub mod Changes
 pub mod ListPlaces
+pub mod NumberPairs

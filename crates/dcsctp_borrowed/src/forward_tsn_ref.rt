@@ -155,6 +155,7 @@ impl<'a> ForwardTsnRef<'a> {
 
 /// The stream at the front, skipped by a sequence number: two bytes of stream id, and two of the
 /// number.
+// As `dcsctp_chunk` reads it for itself: to share it, a function of that crate would have to be public.
 #[inline(always)]
 fn ssn_stream(bytes: &[u8]) -> SkippedStream
     requires { 4 ≤ length bytes.now }
@@ -165,6 +166,7 @@ fn ssn_stream(bytes: &[u8]) -> SkippedStream
 
 /// The stream at the front, skipped by a message id: two bytes of stream id, two whose lowest bit
 /// says unordered, and four of message id.
+// Not shared with `dcsctp_chunk`, for the same reason.
 #[inline(always)]
 fn mid_stream(bytes: &[u8]) -> SkippedStream
     requires { 8 ≤ length bytes.now }

@@ -5,7 +5,7 @@ ghost use Rattle.std.specs.Iterator.{YieldsFirst, YieldsFirstBy, item_count};
 ghost use Rattle.std.specs.Result.{result_ok};
 ghost use Rattle.dcsctp_types.specs.Serial.{wrapped_sum, IsGreater};
 ghost use Rattle.dcsctp_tlv.specs.Fields.{fields};
-ghost use Rattle.dcsctp_tlv.specs.Number.{number32};
+ghost use Rattle.dcsctp_tlv.specs.Number.{number16, number32};
 ghost use Rattle.dcsctp_chunk.specs.Cover.{Covers, AreValid};
 ghost use Rattle.dcsctp_chunk.specs.Sack.{Tree, block_at, read};
 ghost use Rattle.dcsctp_chunk.specs.declared.sack_chunk.GapAckBlock.{GapAckBlock};
@@ -15,7 +15,7 @@ ghost use Rattle.dcsctp_borrowed.specs.Sack.{sack_of, read_sack};
 
 use dcsctp_chunk::sack_chunk::{self, GapAckBlock};
 use dcsctp_tlv::fields::Field;
-use dcsctp_tlv::number::{read_u16_be, read_u32_be};
+use dcsctp_tlv::number::read_u32_be;
 use dcsctp_types::types::Tsn;
 use dcsctp_wire::packet::chunk::RawChunk;
 use std::marker::Model;
@@ -31,8 +31,8 @@ const FIXED_SIZE: usize = 12;
 pub struct SackRef<'a> {
     cumulative_tsn_ack: Tsn,
     a_rwnd: u32,
-    block_count: usize,
-    duplicate_count: usize,
+    block_count: u16,
+    duplicate_count: u16,
     /// The blocks, and after them the duplicates.
     lists: &'a [u8],
 }
@@ -77,9 +77,8 @@ impl<'a> SackRef<'a> {
         if value.len() < FIXED_SIZE {
             return None;
         }
-        let block_count = read_u16_be(&value[8..]) as usize;
-        let duplicate_count = read_u16_be(&value[10..]) as usize;
-        if value.len() != FIXED_SIZE + 4 * block_count + 4 * duplicate_count {
+        let (block_count, duplicate_count) = counts(&value[8..]);
+        if value.len() != FIXED_SIZE + 4 * block_count as usize + 4 * duplicate_count as usize {
             return None;
         }
         Some(SackRef {
@@ -112,7 +111,7 @@ impl<'a> SackRef<'a> {
     pub fn gap_ack_block_count(&self) -> usize
         ensures { result ≡ length self.now.blocks }
     {
-        self.block_count
+        self.block_count as usize
     }
 
     /// Returns the gap ack block at this index, which has to be less than `gap_ack_block_count()`. Its
@@ -130,7 +129,7 @@ impl<'a> SackRef<'a> {
     pub fn duplicate_tsn_count(&self) -> usize
         ensures { result ≡ length self.now.duplicates }
     {
-        self.duplicate_count
+        self.duplicate_count as usize
     }
 
     /// Returns the duplicate TSN at this index, which has to be less than `duplicate_tsn_count()`.
@@ -139,16 +138,17 @@ impl<'a> SackRef<'a> {
         requires { index < length self.now.duplicates }
         ensures { slice_get self.now.duplicates index ≡ Some result.0 }
     {
-        Tsn(read_u32_be(&self.lists[4 * self.block_count + 4 * index..]))
+        Tsn(read_u32_be(&self.lists[4 * self.block_count as usize + 4 * index..]))
     }
 
-    /// Returns an iterator over the gap ack blocks, in their order.
+    /// Returns an iterator over the gap ack blocks, in their order: at most 65,535.
     #[inline(always)]
     pub fn gap_ack_blocks(&self) -> GapAckBlocks<'a>
-        ensures { result ≡ self.now.blocks }
+        ensures blocks { result ≡ self.now.blocks }
+        ensures few { length result < 2 ^ 16 }
     {
         GapAckBlocks {
-            count: self.block_count,
+            count: self.block_count as usize,
             rest: self.lists,
         }
     }
@@ -159,8 +159,8 @@ impl<'a> SackRef<'a> {
         ensures { result ≡ self.now.duplicates }
     {
         DuplicateTsns {
-            count: self.duplicate_count,
-            rest: &self.lists[4 * self.block_count..],
+            count: self.duplicate_count as usize,
+            rest: &self.lists[4 * self.block_count as usize..],
         }
     }
 
@@ -185,6 +185,18 @@ impl<'a> SackRef<'a> {
         }
         true
     }
+}
+
+/// The two numbers at the front, of two bytes each: how many blocks there are, and how many duplicates.
+// One load serves both.
+#[inline(always)]
+fn counts(bytes: &[u8]) -> (u16, u16)
+    requires { 4 ≤ length bytes.now }
+    ensures blocks { result.0 ≡ number16 bytes.now }
+    ensures duplicates { result.1 ≡ number16 (drop 2 bytes.now) }
+{
+    let both = read_u32_be(bytes);
+    ((both / 65536) as u16, (both % 65536) as u16)
 }
 
 /// An iterator over the gap ack blocks of a SACK. A contract sees the list of those that are left.
