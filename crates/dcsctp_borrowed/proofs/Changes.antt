@@ -12,20 +12,29 @@ use Rattle.dcsctp_wire.specs.declared.packet.sctp_packet.ChecksumPolicy.{Checksu
 
 -- ---- bytes at a place
 
-before : (old : List ℕ) (place : ℕ) (bytes : List ℕ) → place ≤ length old → take place (put old place bytes) ≡ take place old
-before old place bytes le = take_at (take place old) (bytes ++ drop (place + length bytes) old) place (let l = length-take place old in omega (arith, l))
+before : (old : List ℕ) (place : ℕ) (bytes : List ℕ) → place ≤ length old
+    → take place (put old place bytes) ≡ take place old
+before old place bytes le = take_at (take place old) (bytes ++ drop (place + length bytes) old)
+    place (let l = length-take place old in omega (arith, l))
 
-after : (old : List ℕ) (place : ℕ) (bytes : List ℕ) → place ≤ length old → drop (place + length bytes) (put old place bytes) ≡ drop (place + length bytes) old
+after : (old : List ℕ) (place : ℕ) (bytes : List ℕ) → place ≤ length old
+    → drop (place + length bytes) (put old place bytes) ≡ drop (place + length bytes) old
 after old place bytes le =
-    ap (drop (place + length bytes)) (sym (append_assoc (take place old) bytes (drop (place + length bytes) old)))
-    ∙ drop_at (take place old ++ bytes) (drop (place + length bytes) old) (place + length bytes) (let l = length-take place old in let k = length-append (take place old) bytes in omega (arith, l, k))
+    ap (drop (place + length bytes))
+    (sym (append_assoc (take place old) bytes (drop (place + length bytes) old)))
+    ∙ drop_at (take place old ++ bytes) (drop (place + length bytes) old) (place + length bytes)
+    (let l = length-take place old in let k = length-append (take place old) bytes in
+    omega (arith, l, k))
 
-there : (old : List ℕ) (place : ℕ) (bytes : List ℕ) → place ≤ length old → take (length bytes) (drop place (put old place bytes)) ≡ bytes
+there : (old : List ℕ) (place : ℕ) (bytes : List ℕ) → place ≤ length old
+    → take (length bytes) (drop place (put old place bytes)) ≡ bytes
 there old place bytes le =
-    ap (take (length bytes)) (drop_at (take place old) (bytes ++ drop (place + length bytes) old) place (let l = length-take place old in omega (arith, l)))
+    ap (take (length bytes)) (drop_at (take place old) (bytes ++ drop (place + length bytes) old)
+    place (let l = length-take place old in omega (arith, l)))
     ∙ take_at bytes (drop (place + length bytes) old) (length bytes) refl
 
-length-put : (old : List ℕ) (place : ℕ) (bytes : List ℕ) → place + length bytes ≤ length old → length (put old place bytes) ≡ length old
+length-put : (old : List ℕ) (place : ℕ) (bytes : List ℕ) → place + length bytes ≤ length old
+    → length (put old place bytes) ≡ length old
 length-put old place bytes le =
     let l = length-take place old in
     let d = length-drop (place + length bytes) old in
@@ -34,9 +43,11 @@ length-put old place bytes le =
     omega (arith, l, d, a, b)
 
 -- what lies within the bytes that are the same is the same
-within : (n m k : ℕ) (xs ys : List ℕ) → take k xs ≡ take k ys → n + m ≤ k → take m (drop n xs) ≡ take m (drop n ys)
+within : (n m k : ℕ) (xs ys : List ℕ) → take k xs ≡ take k ys → n + m ≤ k
+    → take m (drop n xs) ≡ take m (drop n ys)
 within n m k xs ys e le =
-    sym (drop-take n m xs) ∙ ap (drop n) (sym (take-take (n + m) k xs le) ∙ ap (take (n + m)) e ∙ take-take (n + m) k ys le) ∙ drop-take n m ys
+    sym (drop-take n m xs) ∙ ap (drop n) (sym (take-take (n + m) k xs le) ∙ ap (take (n + m)) e
+    ∙ take-take (n + m) k ys le) ∙ drop-take n m ys
 
 -- ---- the tag
 
@@ -57,36 +68,61 @@ module _ (old : List ℕ) (n : ℕ) (room : 12 ≤ length old) (fits : n < 2 ^ 3
   tag_length = length-put old 4 (to_be_bytes w32 n) (omega (arith, room))
 
   tag_is : number32 (drop 4 tagged) ≡ n
-  tag_is = ap (from_be_bytes w32) (there old 4 (to_be_bytes w32 n) (omega (arith, room))) ∙ from_be_bytes-to_be_bytes_4 n fits
+  tag_is = ap (from_be_bytes w32) (there old 4 (to_be_bytes w32 n) (omega (arith, room)))
+      ∙ from_be_bytes-to_be_bytes_4 n fits
 
   tag_size : HasPacketSize old → HasPacketSize tagged
-  tag_size size = record { low = omega (arith, tag_length, size.low); high = omega (arith, tag_length, size.high) }
+  tag_size size = record {
+    low = omega (arith, tag_length, size.low);
+    high = omega (arith, tag_length, size.high);
+  }
 
   tag_unsized : HasPacketSize tagged → HasPacketSize old
-  tag_unsized size = record { low = omega (arith, tag_length, size.low); high = omega (arith, tag_length, size.high) }
+  tag_unsized size = record {
+    low = omega (arith, tag_length, size.low);
+    high = omega (arith, tag_length, size.high);
+  }
 
   tag_field : checksum_field tagged ≡ checksum_field old
   tag_field = ap number32 tag_after
 
-  tag_opened : (word : ℕ) (policy : ChecksumPolicy) → IsOpened old word policy → IsOpened tagged word policy
-  tag_opened word policy o = record { size = tag_size o.size; accepted = subst (λ (field : ℕ). IsAccepted policy field word) (sym tag_field) o.accepted }
+  tag_opened : (word : ℕ) (policy : ChecksumPolicy) → IsOpened old word policy
+      → IsOpened tagged word policy
+  tag_opened word policy o = record {
+    size = tag_size o.size;
+    accepted = subst (λ (field : ℕ). IsAccepted policy field word) (sym tag_field) o.accepted;
+  }
 
-  pub with_tag : (word : ℕ) (policy : ChecksumPolicy) (p : PacketTree) → Answer old word policy (Ok p) → Answer tagged word policy (Ok (record p { meaning = record p.meaning { tag = n } }))
+  pub with_tag : (word : ℕ) (policy : ChecksumPolicy) (p : PacketTree)
+      → Answer old word policy (Ok p)
+      → Answer tagged word policy (Ok (record p { meaning = record p.meaning { tag = n } }))
   with_tag word policy p m = (
     tag_opened word policy m.0,
     record {
-      source = m.1.source ∙ ap (from_be_bytes w16) (sym (within 0 2 4 tagged old tag_before (omega arith)));
-      destination = m.1.destination ∙ ap (from_be_bytes w16) (sym (within 2 2 4 tagged old tag_before (omega arith)));
+      source = m.1.source ∙ ap (from_be_bytes w16)
+          (sym (within 0 2 4 tagged old tag_before (omega arith)));
+      destination = m.1.destination ∙ ap (from_be_bytes w16)
+          (sym (within 2 2 4 tagged old tag_before (omega arith)));
       tag = sym tag_is;
       checksum = m.1.checksum ∙ sym tag_field;
-      chunks = subst (λ (bytes : List ℕ). MeansTrees (chunks policy.strict_padding) bytes p.meaning.chunks) (sym tag_body) m.1.chunks;
+      chunks = subst (λ (bytes : List ℕ). MeansTrees (chunks policy.strict_padding) bytes
+          p.meaning.chunks) (sym tag_body) m.1.chunks;
     },
   )
 
-  pub with_tag_fault : (word : ℕ) (policy : ChecksumPolicy) (e : PacketFault) → Answer old word policy (Err e) → Answer tagged word policy (Err e)
+  pub with_tag_fault : (word : ℕ) (policy : ChecksumPolicy) (e : PacketFault)
+      → Answer old word policy (Err e) → Answer tagged word policy (Err e)
   with_tag_fault word policy Size h = λ size. h (tag_unsized size)
-  with_tag_fault word policy Checksum h = (tag_size h.0, λ accepted. h.1 (subst (λ (field : ℕ). IsAccepted policy field word) tag_field accepted))
-  with_tag_fault word policy (Chunk e) h = (tag_opened word policy h.0, subst (λ (bytes : List ℕ). HasFault (chunks policy.strict_padding) bytes e) (sym tag_body) h.1)
+  with_tag_fault word policy Checksum h = (
+    tag_size h.0,
+    λ accepted. h.1
+        (subst (λ (field : ℕ). IsAccepted policy field word) tag_field accepted),
+  )
+  with_tag_fault word policy (Chunk e) h = (
+    tag_opened word policy h.0,
+    subst
+        (λ (bytes : List ℕ). HasFault (chunks policy.strict_padding) bytes e) (sym tag_body) h.1,
+  )
 
 -- ---- the checksum field
 
@@ -101,20 +137,31 @@ module _ (old : List ℕ) (n : ℕ) (room : 12 ≤ length old) (fits : n < 2 ^ 3
   seal_length = length-put old 8 (to_be_bytes w32 n) (omega (arith, room))
 
   seal_is : checksum_field sealed ≡ n
-  seal_is = ap (from_be_bytes w32) (there old 8 (to_be_bytes w32 n) (omega (arith, room))) ∙ from_be_bytes-to_be_bytes_4 n fits
+  seal_is = ap (from_be_bytes w32) (there old 8 (to_be_bytes w32 n) (omega (arith, room)))
+      ∙ from_be_bytes-to_be_bytes_4 n fits
 
-  pub with_checksum_word : (p : PacketTree) (word expected : ℕ) (first later : ChecksumPolicy) → Answer old word first (Ok p) → IsAccepted later n expected → later.strict_padding ≡ first.strict_padding
+  pub with_checksum_word : (p : PacketTree) (word expected : ℕ) (first later : ChecksumPolicy)
+      → Answer old word first (Ok p) → IsAccepted later n expected
+      → later.strict_padding ≡ first.strict_padding
       → Answer sealed expected later (Ok (record p { checksum = n }))
   with_checksum_word p word expected first later m accepted strict = (
     record {
-      size = record { low = omega (arith, seal_length, m.0.size.low); high = omega (arith, seal_length, m.0.size.high) };
+      size = record {
+        low = omega (arith, seal_length, m.0.size.low);
+        high = omega (arith, seal_length, m.0.size.high);
+      };
       accepted = subst (λ (field : ℕ). IsAccepted later field expected) (sym seal_is) accepted;
     },
     record {
-      source = m.1.source ∙ ap (from_be_bytes w16) (sym (within 0 2 8 sealed old seal_before (omega arith)));
-      destination = m.1.destination ∙ ap (from_be_bytes w16) (sym (within 2 2 8 sealed old seal_before (omega arith)));
-      tag = m.1.tag ∙ ap (from_be_bytes w32) (sym (within 4 4 8 sealed old seal_before (omega arith)));
+      source = m.1.source ∙ ap (from_be_bytes w16)
+          (sym (within 0 2 8 sealed old seal_before (omega arith)));
+      destination = m.1.destination ∙ ap (from_be_bytes w16)
+          (sym (within 2 2 8 sealed old seal_before (omega arith)));
+      tag = m.1.tag ∙ ap (from_be_bytes w32)
+          (sym (within 4 4 8 sealed old seal_before (omega arith)));
       checksum = sym seal_is;
-      chunks = rw strict (subst (λ (bytes : List ℕ). MeansTrees (chunks first.strict_padding) bytes p.meaning.chunks) (sym (after old 8 (to_be_bytes w32 n) (omega (arith, room)))) m.1.chunks);
+      chunks = rw strict (subst (λ (bytes : List ℕ). MeansTrees (chunks first.strict_padding) bytes
+          p.meaning.chunks) (sym (after old 8 (to_be_bytes w32 n) (omega (arith, room))))
+          m.1.chunks);
     },
   )

@@ -12,20 +12,25 @@ use Rattle.dcsctp_wire.specs.Chunk.{ChunkTree, Data, Init, InitAck, Sack, Heartb
 use Rattle.dcsctp_borrowed.specs.UserData.{data_of, read_user_data}
 
 abbrev ReadsAlike : ℕ → ℕ → Row ChunkTree → Type 0
-ReadsAlike flags typ row = (value : List ℕ) (t : ChunkTree) → row.means value t → read_user_data typ flags value ≡ data_of t
+ReadsAlike flags typ row = (value : List ℕ) (t : ChunkTree) → row.means value t
+    → read_user_data typ flags value ≡ data_of t
 
 -- a row of user data
-own : (f : kind.Data.Tree → ChunkTree) → ((c : kind.Data.Tree) → data_of (f c) ≡ Some c) → (r : Result kind.Data.Tree Fault) (t : ChunkTree) → map_ok f r ≡ Ok t → result_ok r ≡ data_of t
+own : (f : kind.Data.Tree → ChunkTree) → ((c : kind.Data.Tree) → data_of (f c) ≡ Some c)
+    → (r : Result kind.Data.Tree Fault) (t : ChunkTree) → map_ok f r ≡ Ok t
+    → result_ok r ≡ data_of t
 own f is (Ok c) t e = let same : f c ≡ t = cc in sym (is c) ∙ ap data_of same
 own f is (Err d) t e = absurd cc
 
 -- a row of another kind, without a list
-other : {X : Type 0} (f : X → ChunkTree) → ((x : X) → data_of (f x) ≡ None) → (r : Result X Fault) (t : ChunkTree) → map_ok f r ≡ Ok t → None ≡ data_of t
+other : {X : Type 0} (f : X → ChunkTree) → ((x : X) → data_of (f x) ≡ None)
+    → (r : Result X Fault) (t : ChunkTree) → map_ok f r ≡ Ok t → None ≡ data_of t
 other f isnt (Ok x) t e = let same : f x ≡ t = cc in sym (isnt x) ∙ ap data_of same
 other f isnt (Err d) t e = absurd cc
 
 -- and with one
-listed : {X : Type 0} (f : X → ChunkTree) → ((x : X) → data_of (f x) ≡ None) → (x : X) (t : ChunkTree) → t ≡ f x → None ≡ data_of t
+listed : {X : Type 0} (f : X → ChunkTree) → ((x : X) → data_of (f x) ≡ None)
+    → (x : X) (t : ChunkTree) → t ≡ f x → None ≡ data_of t
 listed f isnt x t e = sym (ap data_of e ∙ isnt x)
 
 each : (flags : ℕ) → EachNamed (ReadsAlike flags) (table lenient flags)
@@ -49,10 +54,14 @@ each flags =
     & (λ value t m. other IForwardTsn (λ x. refl) (kind.IForwardTsn.read value) t m)
     & tt
 
-unnamed_reads : (flags typ : ℕ) → IsUnnamed (table lenient flags) typ → ReadsAlike flags typ (plain (λ value. map_ok Unknown (kind.Unknown.read typ flags value)))
+unnamed_reads : (flags typ : ℕ) → IsUnnamed (table lenient flags) typ
+    → ReadsAlike flags typ (plain (λ value. map_ok Unknown (kind.Unknown.read typ flags value)))
 unnamed_reads flags typ unnamed value t m =
     let isnt_idata = unnamed.1.1.1.1.1.1.1.1.1.1.1.1.1.1.0 in
-    rw (ne_eqb typ 0 unnamed.1.1.1.1.1.1.1.0, ne_eqb typ 64 isnt_idata) (other Unknown (λ x. refl) (kind.Unknown.read typ flags value) t m)
+    rw (ne_eqb typ 0 unnamed.1.1.1.1.1.1.1.0, ne_eqb typ 64 isnt_idata)
+    (other Unknown (λ x. refl) (kind.Unknown.read typ flags value) t m)
 
-pub reads_alike : (typ flags : ℕ) (value : List ℕ) (t : ChunkTree) → (chunk_row lenient typ flags).means value t → read_user_data typ flags value ≡ data_of t
-reads_alike typ flags = of_table (ReadsAlike flags) (table lenient flags) typ _ (each flags) (unnamed_reads flags typ)
+pub reads_alike : (typ flags : ℕ) (value : List ℕ) (t : ChunkTree)
+    → (chunk_row lenient typ flags).means value t → read_user_data typ flags value ≡ data_of t
+reads_alike typ flags =
+    of_table (ReadsAlike flags) (table lenient flags) typ _ (each flags) (unnamed_reads flags typ)

@@ -3,7 +3,8 @@ use Rattle.std.proofs.Common.{◌≡◌, ◌≤◌, ◌<◌, ◌+◌, ◌*◌, �
 use Rattle.std.specs.List.{slice_index}
 use Rattle.dcsctp_tlv.specs.Number.{AreBytes, number16, number32}
 
-pub two_in_one : (bytes : List ℕ) → 4 ≤ length bytes → number32 bytes ≡ number16 bytes * 65536 + number16 (drop 2 bytes)
+pub two_in_one : (bytes : List ℕ) → 4 ≤ length bytes → number32 bytes ≡ number16 bytes * 65536
+    + number16 (drop 2 bytes)
 two_in_one [] size = absurd (omega (arith, size))
 two_in_one (a ∷ []) size = absurd (omega (arith, size))
 two_in_one (a ∷ b ∷ []) size = absurd (omega (arith, size))
@@ -20,13 +21,15 @@ low_fits (a ∷ b ∷ c ∷ d ∷ more) size fits =
     let low : d < 256 = fits 3 in
     omega (arith, high, low)
 
-pub pair_first : (bytes : List ℕ) → 4 ≤ length bytes → AreBytes bytes → number32 bytes / 65536 ≡ number16 bytes
+pub pair_first : (bytes : List ℕ) → 4 ≤ length bytes → AreBytes bytes → number32 bytes / 65536
+    ≡ number16 bytes
 pair_first bytes size fits =
     let whole = two_in_one bytes size in
     let low = low_fits bytes size fits in
     omega (arith, whole, low)
 
-pub pair_second : (bytes : List ℕ) → 4 ≤ length bytes → AreBytes bytes → number32 bytes % 65536 ≡ number16 (drop 2 bytes)
+pub pair_second : (bytes : List ℕ) → 4 ≤ length bytes → AreBytes bytes → number32 bytes % 65536
+    ≡ number16 (drop 2 bytes)
 pair_second bytes size fits =
     let whole = two_in_one bytes size in
     let low = low_fits bytes size fits in

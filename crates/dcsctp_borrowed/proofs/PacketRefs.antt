@@ -17,10 +17,13 @@ use Rattle.dcsctp_wire.proofs.PacketChecks.{packet_checking_distinct, packet_sin
 -- ---- what refers to a packet
 
 -- what a packet means, it means to a lenient reader
-pub chunks_lent : (bytes : List ℕ) (word : ℕ) (policy : ChecksumPolicy) (p : PacketTree) → Answer bytes word policy (Ok p) → MeansTrees (chunks lenient) (body bytes) p.meaning.chunks
-chunks_lent bytes word policy p answer = (lenient_packet policy.strict_padding bytes p answer.1).chunks
+pub chunks_lent : (bytes : List ℕ) (word : ℕ) (policy : ChecksumPolicy) (p : PacketTree)
+    → Answer bytes word policy (Ok p) → MeansTrees (chunks lenient) (body bytes) p.meaning.chunks
+chunks_lent bytes word policy p answer =
+    (lenient_packet policy.strict_padding bytes p answer.1).chunks
 
-pub refers : (bytes : List ℕ) (word : ℕ) (policy : ChecksumPolicy) (p : PacketTree) → Answer bytes word policy (Ok p) → RefersTo (reference bytes) p
+pub refers : (bytes : List ℕ) (word : ℕ) (policy : ChecksumPolicy) (p : PacketTree)
+    → Answer bytes word policy (Ok p) → RefersTo (reference bytes) p
 refers bytes word policy p answer = record {
   source = sym answer.1.source;
   destination = sym answer.1.destination;
@@ -35,10 +38,15 @@ module _ (bytes : List ℕ) (word : ℕ) (policy : ChecksumPolicy) (fits : AreBy
 
   referred_single : Single (Referred bytes word policy)
   referred_single (Ok r) (Ok s) m n = ap Ok (m.1 ∙ sym n.1)
-  referred_single (Ok r) (Err e) m f = absurd (let h : Ok m.0.0 ≡ Err e = single (Ok m.0.0) (Err e) m.0.1 f in cc)
-  referred_single (Err e) (Ok r) f m = absurd (let h : Ok m.0.0 ≡ Err e = single (Ok m.0.0) (Err e) m.0.1 f in cc)
-  referred_single (Err d) (Err e) f g = (let h : Err d ≡ Err e = single (Err d) (Err e) f g in let same : d ≡ e = cc in ap Err same)
+  referred_single (Ok r) (Err e) m f =
+      absurd (let h : Ok m.0.0 ≡ Err e = single (Ok m.0.0) (Err e) m.0.1 f in cc)
+  referred_single (Err e) (Ok r) f m =
+      absurd (let h : Ok m.0.0 ≡ Err e = single (Ok m.0.0) (Err e) m.0.1 f in cc)
+  referred_single (Err d) (Err e) f g =
+      (let h : Err d ≡ Err e = single (Err d) (Err e) f g in let same : d ≡ e = cc in ap Err same)
 
-  pub referred_exactly : (r : Result SctpPacketRef PacketParseError) → Answers packet_checking (λ (r : SctpPacketRef). r) (Referred bytes word policy) r
+  pub referred_exactly : (r : Result SctpPacketRef PacketParseError)
+      → Answers packet_checking (λ (r : SctpPacketRef). r) (Referred bytes word policy) r
       → Exactly packet_checking (λ (r : SctpPacketRef). r) (Referred bytes word policy) r
-  referred_exactly r a = exactly packet_checking packet_checking_distinct (λ r. r) (Referred bytes word policy) referred_single r a (λ e is none. absurd none)
+  referred_exactly r a = exactly packet_checking packet_checking_distinct (λ r. r)
+      (Referred bytes word policy) referred_single r a (λ e is none. absurd none)

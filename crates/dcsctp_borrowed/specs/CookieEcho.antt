@@ -9,6 +9,7 @@ abbrev pub cookie_of : ChunkTree → Option (List ℕ)
 cookie_of (CookieEcho cookie) = Some cookie
 cookie_of t = None
 
--- What a chunk of this type with this value reads as; nothing where it has another type, or no cookie.
+-- What a chunk of this type with this value reads as; nothing where it has another type, or no
+-- cookie.
 abbrev pub read_cookie : ℕ → List ℕ → Option (List ℕ)
 read_cookie typ value = if typ == 10 then result_ok (cookie_kind.read value) else None

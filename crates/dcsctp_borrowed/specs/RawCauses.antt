@@ -3,8 +3,8 @@ use Rattle.std.specs.Prelude.{◌==◌, ℕ, List, if◌then◌else◌, nat_lt, 
 use Rattle.dcsctp_cause.specs.Cause.{CauseTree}
 use Rattle.dcsctp_wire.specs.Chunk.{ChunkTree, Abort, Error}
 
--- Where a chunk of this type has its causes: ABORT (RFC 9260 section 3.3.7) in all of the value, and
--- so ERROR (section 3.3.10), which has one at least; no other.
+-- Where a chunk of this type has its causes: ABORT (RFC 9260 section 3.3.7) in all of the value,
+-- and so ERROR (section 3.3.10), which has one at least; no other.
 abbrev pub cause_bytes : ℕ → List ℕ → Option (List ℕ)
 cause_bytes typ value =
     if typ == 6 then Some value else

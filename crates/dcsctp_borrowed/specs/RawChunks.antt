@@ -1,5 +1,5 @@
--- Chunks that are read in their bytes (RFC 9260 section 3.2): what each means there, and which chunk
--- is the next.
+-- Chunks that are read in their bytes (RFC 9260 section 3.2): what each means there, and which
+-- chunk is the next.
 use Rattle.std.specs.Prelude.{◌≡◌, ℕ, List, Option, Some, None, slice_index}
 use Rattle.dcsctp_tlv.specs.Frame.{lenient}
 use Rattle.dcsctp_tlv.specs.Level.{MeansTrees}

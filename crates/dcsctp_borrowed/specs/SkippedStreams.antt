@@ -20,8 +20,8 @@ forward_of (ForwardTsn f) = Some f
 forward_of (IForwardTsn f) = Some f
 forward_of t = None
 
--- What a chunk of this type and this value reads as; nothing where it has another type, or its value
--- isn't the TSN and whole streams.
+-- What a chunk of this type and this value reads as; nothing where it has another type, or its
+-- value isn't the TSN and whole streams.
 abbrev pub read_forward : ℕ → List ℕ → Option Tree
 read_forward typ value =
     if typ == 192 then result_ok (forward_kind.read value) else

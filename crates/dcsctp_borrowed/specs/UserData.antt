@@ -33,8 +33,8 @@ data_of (Data c) = Some c
 data_of (IData c) = Some c
 data_of t = None
 
--- What a chunk of this type, with these flags and this value, reads as; nothing where it has another
--- type, or its value is too short.
+-- What a chunk of this type, with these flags and this value, reads as; nothing where it has
+-- another type, or its value is too short.
 abbrev pub read_user_data : ℕ → ℕ → List ℕ → Option Tree
 read_user_data typ flags value =
     if typ == 0 then result_ok (data_kind.read flags value) else

@@ -127,7 +127,8 @@ impl<'a> ForwardTsnRef<'a> {
         self.count
     }
 
-    /// Returns the skipped stream at this index, which has to be less than `skipped_stream_count()`.
+    /// Returns the skipped stream at this index, which has to be less than
+    /// `skipped_stream_count()`.
     #[inline(always)]
     pub fn skipped_stream(&self, index: usize) -> SkippedStream
         requires { index < length self.now.streams }
@@ -155,7 +156,8 @@ impl<'a> ForwardTsnRef<'a> {
 
 /// The stream at the front, skipped by a sequence number: two bytes of stream id, and two of the
 /// number.
-// As `dcsctp_chunk` reads it for itself: to share it, a function of that crate would have to be public.
+// As `dcsctp_chunk` reads it for itself: to share it, a function of that crate would have to be
+// public.
 #[inline(always)]
 fn ssn_stream(bytes: &[u8]) -> SkippedStream
     requires { 4 ≤ length bytes.now }
@@ -180,8 +182,8 @@ fn mid_stream(bytes: &[u8]) -> SkippedStream
     )
 }
 
-/// An iterator over the skipped streams of a FORWARD-TSN or I-FORWARD-TSN. A contract sees the list of
-/// those that are left.
+/// An iterator over the skipped streams of a FORWARD-TSN or I-FORWARD-TSN. A contract sees the list
+/// of those that are left.
 #[derive(Clone, Debug, Drop)]
 pub struct SkippedStreams<'a> {
     by_mid: bool,

@@ -8,8 +8,8 @@ ghost use Rattle.dcsctp_wire.specs.declared.packet.sctp_packet.ChecksumPolicy.{C
 
 use dcsctp_tlv::number::put_u32;
 
-/// Writes the verification tag (RFC 9260 section 3.1) into bytes 4 to 7 of a packet; all other bytes
-/// stay.
+/// Writes the verification tag (RFC 9260 section 3.1) into bytes 4 to 7 of a packet; all other
+/// bytes stay.
 ///
 /// What the bytes are stays too, under each word and policy: a packet, which now has this tag, or
 /// their fault. A CRC32c is computed over the tag as well, so the checksum field has to follow
@@ -26,8 +26,8 @@ pub fn set_verification_tag(packet: &mut [u8], verification_tag: u32)
     put_u32(packet, 4, verification_tag);
 }
 
-/// Writes the checksum field (RFC 9260 section 3.1), bytes 8 to 11 of a packet, most significant byte
-/// first: of a CRC32c, `swap_bytes()`. All other bytes stay.
+/// Writes the checksum field (RFC 9260 section 3.1), bytes 8 to 11 of a packet, most significant
+/// byte first: of a CRC32c, `swap_bytes()`. All other bytes stay.
 ///
 /// A packet then has this field, and all else as it had, under each word and policy that accept the
 /// field and are as strict.

@@ -1,8 +1,8 @@
 //! SCTP packets in their own bytes: read without memory, and changed in place.
 //!
 //! A packet that was checked is a header and an iterator over its chunks, which can't fail; user
-//! data, a SACK, skipped streams, parameters, error causes, a cookie and a heartbeat's info are read
-//! where they lie. What is read here is what `dcsctp_wire` builds, by the same clauses.
+//! data, a SACK, skipped streams, parameters, error causes, a cookie and a heartbeat's info are
+//! read where they lie. What is read here is what `dcsctp_wire` builds, by the same clauses.
 #![tactic(auto)]
 
 pub mod cookie_echo;

@@ -37,8 +37,9 @@ impl<'a> Model for RawCauses<'a> {
 }
 
 impl<'a> RawCauses<'a> {
-    /// Returns the error causes of ABORT and ERROR (RFC 9260 sections 3.3.7 and 3.3.10); `None` exactly
-    /// where the chunk has another type, or a value that its type doesn't allow. Does not allocate.
+    /// Returns the error causes of ABORT and ERROR (RFC 9260 sections 3.3.7 and 3.3.10); `None`
+    /// exactly where the chunk has another type, or a value that its type doesn't allow. Does not
+    /// allocate.
     ///
     /// Of a chunk of a packet these are the causes that `SctpPacket::from_bytes` gives, and `None`
     /// exactly where the chunk has another type.

@@ -22,7 +22,8 @@ use std::marker::Model;
 /// Bytes of the value of INIT and INIT ACK before the parameters.
 const INIT_SIZE: usize = 16;
 
-/// The parameters that are left of a chunk, each as its type and its value (RFC 9260 section 3.2.1).
+/// The parameters that are left of a chunk, each as its type and its value (RFC 9260 section
+/// 3.2.1).
 ///
 /// A contract sees the bytes of these parameters. They are known to mean parameters, so `next`
 /// tests nothing and has no error, and `Parameter::try_from` of what it returns fails only where
@@ -45,9 +46,10 @@ impl<'a> RawParameters<'a> {
     /// 3.3.3, 3.3.5 and 3.3.6) and RE-CONFIG (RFC 6525 section 3.1); `None` exactly where the chunk has
     /// another type, or a value that its type doesn't allow. Does not allocate.
     ///
-    /// Of a chunk of a packet these are the parameters that `SctpPacket::from_bytes` gives, and `None`
-    /// exactly where the chunk has another type.
-    // It checks the value, so that any chunk will do, and no caller has to prove that it was checked.
+    /// Of a chunk of a packet these are the parameters that `SctpPacket::from_bytes` gives, and
+    /// `None` exactly where the chunk has another type.
+    // It checks the value, so that any chunk will do, and no caller has to prove that it was
+    // checked.
     pub fn from_raw(raw: &RawChunk<'a>) -> Option<RawParameters<'a>>
         ensures read { GivesList (parameters lenient)
             (parameter_bytes raw.now.typ raw.now.value.now) result }
@@ -88,8 +90,8 @@ fn parameter_bytes(typ: u8, value: &[u8]) -> Option<&[u8]>
     }
 }
 
-/// The parameter or cause at the front of bytes that are known to begin with one, and the bytes after
-/// it and its padding.
+/// The parameter or cause at the front of bytes that are known to begin with one, and the bytes
+/// after it and its padding.
 #[inline(always)]
 pub(crate) fn front_parts(bytes: &[u8]) -> (RawParameter, &[u8])
     requires { BeginsWithFrame bytes.now }
@@ -114,7 +116,8 @@ impl<'a> Iterator for RawParameters<'a> {
 
     ghost remaining = { λ bytes. at_most (length bytes) };
 
-    /// Returns the next parameter, whose value is a part of the bytes; `None` once all were returned.
+    /// Returns the next parameter, whose value is a part of the bytes; `None` once all were
+    /// returned.
     #[inline(always)]
     fn next(&mut self) -> Option<RawParameter<'a>> {
         let bytes = self.rest;

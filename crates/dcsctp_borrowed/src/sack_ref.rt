@@ -55,8 +55,8 @@ impl<'a> SackRef<'a> {
     /// Reads a SACK, without a copy; flags are ignored. `None` exactly where the chunk has another
     /// type, or a value of another size than its two counts say.
     ///
-    /// Of a chunk of a packet this is the SACK that `SctpPacket::from_bytes` gives, and `None` exactly
-    /// where the chunk has another type.
+    /// Of a chunk of a packet this is the SACK that `SctpPacket::from_bytes` gives, and `None`
+    /// exactly where the chunk has another type.
     #[inline(always)]
     pub fn from_raw(raw: &RawChunk<'a>) -> Option<SackRef<'a>>
         ensures read { result ≡ read_sack raw.now.typ raw.now.value.now }
@@ -114,8 +114,8 @@ impl<'a> SackRef<'a> {
         self.block_count as usize
     }
 
-    /// Returns the gap ack block at this index, which has to be less than `gap_ack_block_count()`. Its
-    /// start and its end are offsets from the cumulative TSN.
+    /// Returns the gap ack block at this index, which has to be less than `gap_ack_block_count()`.
+    /// Its start and its end are offsets from the cumulative TSN.
     #[inline(always)]
     pub fn gap_ack_block(&self, index: usize) -> GapAckBlock
         requires { index < length self.now.blocks }
@@ -164,8 +164,9 @@ impl<'a> SackRef<'a> {
         }
     }
 
-    /// Returns whether the gap ack blocks are the runs of the offsets that they cover, by rising start,
-    /// and the first, if any, starts at 2 or later: what `validate_sack` says of the `SackChunk`.
+    /// Returns whether the gap ack blocks are the runs of the offsets that they cover, by rising
+    /// start, and the first, if any, starts at 2 or later: what `validate_sack` says of the
+    /// `SackChunk`.
     ///
     /// Each TSN at a covered offset of 1 to 65,535 is greater than the cumulative TSN.
     #[inline(always)]
@@ -187,7 +188,8 @@ impl<'a> SackRef<'a> {
     }
 }
 
-/// The two numbers at the front, of two bytes each: how many blocks there are, and how many duplicates.
+/// The two numbers at the front, of two bytes each: how many blocks there are, and how many
+/// duplicates.
 // One load serves both.
 #[inline(always)]
 fn counts(bytes: &[u8]) -> (u16, u16)
@@ -234,8 +236,8 @@ impl<'a> Iterator for GapAckBlocks<'a> {
     }
 }
 
-/// An iterator over the duplicate TSNs of a SACK. A contract sees the list of the numbers of those that
-/// are left.
+/// An iterator over the duplicate TSNs of a SACK. A contract sees the list of the numbers of those
+/// that are left.
 #[derive(Clone, Debug, Drop)]
 pub struct DuplicateTsns<'a> {
     count: usize,

@@ -25,8 +25,8 @@ const DATA_SIZE: usize = data_chunk::HEADER_SIZE - TLV_HEADER_SIZE;
 /// Bytes of an I-DATA chunk's value before the payload.
 const IDATA_SIZE: usize = idata_chunk::HEADER_SIZE - TLV_HEADER_SIZE;
 
-/// What a DATA (RFC 9260 section 3.3.1) or an I-DATA chunk (RFC 8260 section 2.1) holds. The payload
-/// stays where it lies in the packet.
+/// What a DATA (RFC 9260 section 3.3.1) or an I-DATA chunk (RFC 8260 section 2.1) holds. The
+/// payload stays where it lies in the packet.
 ///
 /// What the chunk doesn't carry is 0, as in `DataChunk` and `IDataChunk`.
 #[derive(Clone, Copy, Debug)]

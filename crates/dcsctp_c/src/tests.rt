@@ -1,5 +1,5 @@
-//! Each exported function on packets of real peers (docs/CAPTURES.md), whose numbers are read by hand
-//! by RFC 9260.
+//! Each exported function on packets of real peers (docs/CAPTURES.md), whose numbers are read by
+//! hand by RFC 9260.
 
 use crate::codes::{NO_MEMORY, NO_ROOM, OK};
 use crate::in_place::{dcsctp_seal, dcsctp_set_tag};

@@ -152,7 +152,8 @@ put_run xs run first last kept end k l o m f =
 -- the block after the runs in front, with the recent ones beside them
 pub follows_cover : (recent blocks : Blocks) (b : GapAckBlock) (front : ℕ)
     → front < length blocks
-    → SameCover (recent ++ take (front + 1) (set blocks front b)) (b ∷ (recent ++ take front blocks))
+    → SameCover (recent ++ take (front + 1) (set blocks front b))
+    (b ∷ (recent ++ take front blocks))
 follows_cover recent blocks b front l =
     let runs = recent ++ take front blocks in
     let e : runs ++ (b ∷ []) ≡ recent ++ take (front + 1) (set blocks front b) =

@@ -58,7 +58,8 @@ pub record IsCleaned (blocks cleaned : List GapAckBlock) : Type 0 where
   pub cover : SameCover cleaned blocks
   pub offsets : (o : ℕ) → Covers blocks o → o ≤ 65535
   -- No list with the same cover is shorter, and each run holds a block of its own of any such list.
-  pub fewest : (others : List GapAckBlock) → SameCover others blocks → length cleaned ≤ length others
+  pub fewest : (others : List GapAckBlock) → SameCover others blocks
+      → length cleaned ≤ length others
   pub own : (others : List GapAckBlock) → SameCover others blocks → HasBlockInEach cleaned others
   -- Exactly the lists with the same cover have the same runs.
   pub unique : (others runs : List GapAckBlock) → IsRuns runs (Covers others)

@@ -40,8 +40,8 @@ plain_kinds flags =
     kind 192 forward_tsn.read ∷
     kind 194 iforward_tsn.read ∷ []
 
--- The result is exactly what the kind of the type says of the value, without the tree. A value of any
--- other type passes.
+-- The result is exactly what the kind of the type says of the value, without the tree. A value of
+-- any other type passes.
 abbrev pub ChecksKind : List PlainKind → ℕ → List ℕ → Result (Unit {0}) ChunkParseError → Type 0
 ChecksKind [] typ value result = IsOk result
 ChecksKind (k ∷ ks) typ value result =

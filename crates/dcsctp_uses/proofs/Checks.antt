@@ -8,9 +8,13 @@ use Rattle.dcsctp_wire.specs.declared.packet.sctp_packet.ChecksumPolicy.{Checksu
 use Rattle.dcsctp_wire.specs.declared.packet.sctp_packet.PacketParseError.{PacketParseError}
 
 -- it is good exactly where the bytes are a packet
-pub is_good : (bytes : List ℕ) (word : ℕ) (policy : ChecksumPolicy) (result : Result ℕ PacketParseError)
-    → Exactly packet_checking (λ (n : ℕ). n) (Counted (λ p. node_count p.meaning) (Answer bytes word policy)) result
+pub is_good : (bytes : List ℕ) (word : ℕ) (policy : ChecksumPolicy)
+    (result : Result ℕ PacketParseError)
+    → Exactly packet_checking (λ (n : ℕ). n) (Counted (λ p. node_count p.meaning)
+    (Answer bytes word policy)) result
     → IsTrue (is_ok result) ↔ IsPacket bytes word policy
 is_good bytes word policy (Ok n) h = ((λ _. (h.answers.0, h.answers.1)), (λ _. refl))
-is_good bytes word policy (Err e) h =
-    ((λ good. absurd (let no : false ≡ true = good in cc)), (λ p. absurd (h.value (node_count p.0.meaning) (p.0, p.1, refl))))
+is_good bytes word policy (Err e) h = (
+  (λ good. absurd (let no : false ≡ true = good in cc)),
+  (λ p. absurd (h.value (node_count p.0.meaning) (p.0, p.1, refl))),
+)

@@ -8,7 +8,8 @@ use Rattle.dcsctp_uses.specs.Reply.{IsReply, to_init, to_data, IsSealed, HasRoom
 
 -- ---- one reply
 
-pub one_reply : (own : InitFieldsTree) (peer_tag : ℕ) (m a b : Meaning) → IsReply own peer_tag m a → IsReply own peer_tag m b → a ≡ b
+pub one_reply : (own : InitFieldsTree) (peer_tag : ℕ) (m a b : Meaning) → IsReply own peer_tag m a
+    → IsReply own peer_tag m b → a ≡ b
 one_reply own peer_tag m a b (to_init i zero only is) (to_init j zero2 only2 is2) =
     let same : InitTree i ∷ [] ≡ InitTree j ∷ [] = sym only ∙ only2 in
     let inits : i ≡ j = cc in
@@ -24,19 +25,31 @@ one_reply own peer_tag m a b (to_data c others tag some is) (to_data d others2 t
 
 -- ---- what the program hands out, where it has a reply
 
-pub replied : (made : Option (Vec ℕ Global)) (bytes : List ℕ) (own : InitFieldsTree) (peer_tag : ℕ) (packet : PacketTree) (m : Meaning)
-    → ((p : PacketTree) → Verified bytes (Ok p) → packet ≡ p) → IsReply own peer_tag packet.meaning m
+pub replied : (made : Option (Vec ℕ Global)) (bytes : List ℕ) (own : InitFieldsTree) (peer_tag : ℕ)
+    (packet : PacketTree) (m : Meaning)
+    → ((p : PacketTree) → Verified bytes (Ok p) → packet ≡ p)
+    → IsReply own peer_tag packet.meaning m
     → IfSome made (λ reply. IsSealed m reply.items)
-    → IfSome made (λ reply. (p : PacketTree) → Verified bytes (Ok p) → (x : Meaning) × IsReply own peer_tag p.meaning x × IsSealed x reply.items)
+    → IfSome made (λ reply. (p : PacketTree) → Verified bytes (Ok p) → (x : Meaning)
+    × IsReply own peer_tag p.meaning x × IsSealed x reply.items)
 replied (Some v) bytes own peer_tag packet m same is sealed =
-    λ p read. (m, subst (λ (q : PacketTree). IsReply own peer_tag q.meaning m) (same p read) is, sealed)
+    λ p read. (
+      m,
+      subst (λ (q : PacketTree). IsReply own peer_tag q.meaning m) (same p read) is,
+      sealed,
+    )
 replied None bytes own peer_tag packet m same is sealed = tt
 
-pub without_room : (made : Option (Vec ℕ Global)) (bytes : List ℕ) (own : InitFieldsTree) (peer_tag limit : ℕ) (packet : PacketTree) (m : Meaning)
-    → ((p : PacketTree) → Verified bytes (Ok p) → packet ≡ p) → IsReply own peer_tag packet.meaning m
+pub without_room : (made : Option (Vec ℕ Global)) (bytes : List ℕ) (own : InitFieldsTree)
+    (peer_tag limit : ℕ) (packet : PacketTree) (m : Meaning)
+    → ((p : PacketTree) → Verified bytes (Ok p) → packet ≡ p)
+    → IsReply own peer_tag packet.meaning m
     → IfNone made (¬ HasRoom limit m)
-    → IfNone made ((p : PacketTree) (x : Meaning) → Verified bytes (Ok p) → IsReply own peer_tag p.meaning x → ¬ HasRoom limit x)
+    → IfNone made ((p : PacketTree) (x : Meaning) → Verified bytes (Ok p)
+    → IsReply own peer_tag p.meaning x → ¬ HasRoom limit x)
 without_room (Some v) bytes own peer_tag limit packet m same is none = tt
 without_room None bytes own peer_tag limit packet m same is none =
     λ p x read other room. none (subst (λ (y : Meaning). HasRoom limit y)
-    (one_reply own peer_tag packet.meaning x m (subst (λ (q : PacketTree). IsReply own peer_tag q.meaning x) (sym (same p read)) other) is) room)
+    (one_reply own peer_tag packet.meaning x m
+    (subst (λ (q : PacketTree). IsReply own peer_tag q.meaning x) (sym (same p read)) other) is)
+    room)

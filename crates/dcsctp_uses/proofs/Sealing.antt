@@ -15,7 +15,8 @@ use Rattle.dcsctp_wire.specs.declared.packet.sctp_packet.ChecksumPolicy.{Checksu
 use Rattle.dcsctp_uses.specs.Sealed.{verifying, Verified, HasOtherField}
 
 pub default_is : (p : ChecksumPolicy) → p.disable_checksum_verification ≡ false
-    → p.zero_checksum_alternate_error_detection_method.0 ≡ 0 → p.strict_padding ≡ false → p ≡ verifying
+    → p.zero_checksum_alternate_error_detection_method.0 ≡ 0 → p.strict_padding ≡ false
+    → p ≡ verifying
 default_is p verifies none lenient = λ i. record {
   disable_checksum_verification = verifies i;
   zero_checksum_alternate_error_detection_method = record { 0 = none i };
@@ -23,12 +24,14 @@ default_is p verifies none lenient = λ i. record {
 }
 
 -- what `from_bytes` answers under the default policy, with the word of the bytes
-pub verified : (bytes : List ℕ) (word : ℕ) (policy : ChecksumPolicy) (result : Result SctpPacket PacketParseError)
+pub verified : (bytes : List ℕ) (word : ℕ) (policy : ChecksumPolicy)
+    (result : Result SctpPacket PacketParseError)
     → Exactly packet_reading packet_view (Answer bytes word policy) result
     → word ≡ packet_word bytes → policy ≡ verifying
     → Exactly packet_reading packet_view (Verified bytes) result
 verified bytes word policy result h is default =
-    subst (λ (p : ChecksumPolicy). Exactly packet_reading packet_view (Answer bytes (packet_word bytes) p) result) default
+    subst (λ (p : ChecksumPolicy). Exactly packet_reading packet_view
+    (Answer bytes (packet_word bytes) p) result) default
     (subst (λ (w : ℕ). Exactly packet_reading packet_view (Answer bytes w policy) result) is h)
 
 accepts_word : (field word : ℕ) → IsAccepted verifying field word → field ≡ word
@@ -38,7 +41,8 @@ accepts_word field word (equal e) = e
 
 -- the word doesn't look at the field
 word_apart : (bytes others : List ℕ)
-    → take 8 others ≡ take 8 bytes → drop 12 others ≡ drop 12 bytes → packet_word others ≡ packet_word bytes
+    → take 8 others ≡ take 8 bytes → drop 12 others ≡ drop 12 bytes
+    → packet_word others ≡ packet_word bytes
 word_apart bytes others before after =
     λ i. from_be_bytes w32 (to_le_bytes w32 (crc32c (before i ++ 0 ∷ 0 ∷ 0 ∷ 0 ∷ after i)))
 
@@ -50,10 +54,16 @@ other_refused bytes others p read other =
     let rest = ap length other.after in
     let sizes : HasPacketSize others =
     (let a = length-drop 12 others in let b = length-drop 12 bytes in
-    record { low = omega (arith, rest, a, b, size.low); high = omega (arith, rest, a, b, size.low, size.high) }) in
+    record {
+      low = omega (arith, rest, a, b, size.low);
+      high = omega (arith, rest, a, b, size.low, size.high);
+    }) in
     let word = word_apart bytes others other.before other.after in
-    let field = accepts_word (checksum_field bytes) (packet_word bytes) read.0.accepted in
-    (sizes, λ accepted. other.field (accepts_word (checksum_field others) (packet_word others) accepted ∙ word ∙ sym field))
+    let field = accepts_word (checksum_field bytes) (packet_word bytes) read.0.accepted in (
+      sizes,
+      λ accepted. other.field (accepts_word (checksum_field others) (packet_word others)
+          accepted ∙ word ∙ sym field),
+    )
 
 -- ---- what is sealed
 
@@ -70,9 +80,11 @@ unfolding canonical
 word_of_canonical m word = refl
 
 -- the field of what is built with the word holds the word of what is built
-pub field_sealed : (b : BuilderState) (word : ℕ) (chunks : List ChunkTree) → chunks ≢ [] → Holds b chunks
+pub field_sealed : (b : BuilderState) (word : ℕ) (chunks : List ChunkTree) → chunks ≢ []
+    → Holds b chunks
     → b.writes_checksum ≡ true
-    → word ≡ packet_word b.bytes → word < 2 ^ 32 → checksum_field (built b word) ≡ packet_word (built b word)
+    → word ≡ packet_word b.bytes → word < 2 ^ 32 → checksum_field (built b word)
+    ≡ packet_word (built b word)
 field_sealed b word [] some held on is fits = absurd (some refl)
 field_sealed b word (chunk ∷ chunks) some held on is fits =
     let m = meaning_with b (chunk ∷ chunks) in
@@ -85,6 +97,8 @@ field_sealed b word (chunk ∷ chunks) some held on is fits =
 
 pub changed_refused : (bytes : List ℕ) (result : Result SctpPacket PacketParseError)
     → Exactly packet_reading packet_view (Verified bytes) result
-    → IfOk result (λ _. (others : List ℕ) → HasOtherField bytes others → Verified others (Err Checksum))
-changed_refused bytes (Ok p) h = λ others other. other_refused bytes others (packet_view p) h.answers other
+    → IfOk result (λ _. (others : List ℕ) → HasOtherField bytes others
+    → Verified others (Err Checksum))
+changed_refused bytes (Ok p) h =
+    λ others other. other_refused bytes others (packet_view p) h.answers other
 changed_refused bytes (Err e) h = tt

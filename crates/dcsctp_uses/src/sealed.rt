@@ -14,8 +14,8 @@ use std::alloc::Global;
 
 /// Reads a packet and verifies its checksum (RFC 9260 section 6.8). Padding is ignored.
 ///
-/// Returns `InvalidChecksum` exactly where there are 16 to 65,535 bytes and the checksum field isn't
-/// the CRC32c; otherwise what `SctpPacket::from_bytes` returns for the word of the bytes.
+/// Returns `InvalidChecksum` exactly where there are 16 to 65,535 bytes and the checksum field
+/// isn't the CRC32c; otherwise what `SctpPacket::from_bytes` returns for the word of the bytes.
 pub fn read_verified(alloc: Global, bytes: &[u8]) -> Result<SctpPacket, PacketParseError>
     ensures answer { Exactly packet_reading packet_view (Verified bytes.now) result }
     ensures checksum { IsErrOf result PacketParseError.InvalidChecksum ↔ (HasPacketSize bytes.now
@@ -28,8 +28,9 @@ pub fn read_verified(alloc: Global, bytes: &[u8]) -> Result<SctpPacket, PacketPa
     SctpPacket::from_bytes(alloc, bytes, packet_word(bytes), &policy)
 }
 
-/// Returns the packet with its CRC32c in the checksum field, or no bytes if there are no chunks. The
-/// builder then holds no chunk, and has the same ports, tag, limit and switch. Does not allocate.
+/// Returns the packet with its CRC32c in the checksum field, or no bytes if there are no chunks.
+/// The builder then holds no chunk, and has the same ports, tag, limit and switch. Does not
+/// allocate.
 ///
 /// If the switch is on, the limit is at most 65,535 bytes and what was added can be read,
 /// `read_verified` reads the packet as the chunks that were added; only fields that a kind of chunk

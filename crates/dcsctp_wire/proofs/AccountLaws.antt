@@ -47,7 +47,8 @@ tree_size t u n e h = subst (λ (x : ChunkTree). SameSpace (size_of (chunk_tlv x
 
 pub init_account : (typ : ℕ) (tree : InitTree → ChunkTree)
     → ((i : InitTree) → size_of (chunk_tlv (tree i))
-    ≡ 4 + (16 + list_size parameter_tlv i.parameters)) → Accounted typ (as_row tree (init_row lenient))
+    ≡ 4 + (16 + list_size parameter_tlv i.parameters))
+    → Accounted typ (as_row tree (init_row lenient))
 init_account typ tree size value t kept m =
     let list = all_account (parameters lenient) parameter_tlv parameters_account
     (drop 16 value) m.1.1.0 m.1.1.1 in
@@ -59,21 +60,25 @@ init_account typ tree size value t kept m =
 
 pub parameter_list_account : (typ : ℕ) (tree : List ParameterTree → ChunkTree)
     → ((ps : List ParameterTree) → size_of (chunk_tlv (tree ps))
-    ≡ 4 + (0 + list_size parameter_tlv ps)) → Accounted typ (as_row tree (parameter_list_row lenient))
+    ≡ 4 + (0 + list_size parameter_tlv ps))
+    → Accounted typ (as_row tree (parameter_list_row lenient))
 parameter_list_account typ tree size value t kept m =
-    let list = all_account (parameters lenient) parameter_tlv parameters_account value m.1.1.0 m.1.1.1 in
+    let list =
+    all_account (parameters lenient) parameter_tlv parameters_account value m.1.1.0 m.1.1.1 in
     tree_size t (tree m.0) _ m.2 (subst (λ (n : ℕ). SameSpace n (4 + length value))
     (sym (size m.0
     ∙ ap (λ (xs : List ParameterTree). 4 + (0 + list_size parameter_tlv xs)) m.1.1.2))
     (after 0 (list_size parameter_tlv m.1.1.0) (length value) (length value) list (omega arith)
     (omega arith)))
 
-cause_list_account : (value : List ℕ) (cs : List CauseTree) (m : MeansTrees (causes lenient) value cs)
+cause_list_account : (value : List ℕ) (cs : List CauseTree) (m : MeansTrees (causes lenient) value
+    cs)
     → ((items : List Item) → AreItems any_padding value items → AllByRecursion IsTextKept items)
     → SameSpace (4 + (0 + list_size cause_tlv cs)) (4 + length value)
 cause_list_account value cs m kept =
     after 0 (list_size cause_tlv cs) (length value) (length value)
-    (list_account (causes lenient) cause_tlv IsTextKept causes_account value cs m (kept m.items m.are))
+    (list_account (causes lenient) cause_tlv IsTextKept causes_account value cs m
+    (kept m.items m.are))
     (omega arith) (omega arith)
 
 pub abort_account : (flags : ℕ) → Accounted 6 (as_row Abort (abort_row lenient flags))
@@ -114,7 +119,8 @@ plain_counted tree read one value t e =
 list_parts : (n value list : ℕ) → 4 * n ≤ list → list ≤ value → 4 * (1 + n) ≤ 4 + value
 list_parts n value list h le = omega (arith, h, le)
 
-parameters_parts : (bytes : List ℕ) (ps : List ParameterTree) → MeansTrees (parameters lenient) bytes ps
+parameters_parts : (bytes : List ℕ) (ps : List ParameterTree)
+    → MeansTrees (parameters lenient) bytes ps
     → 4 * length ps ≤ length bytes
 parameters_parts bytes ps m =
     subst (λ (n : ℕ). 4 * n ≤ length bytes) (total-one ps)

@@ -18,8 +18,10 @@ use Rattle.dcsctp_wire.proofs.Canonicals.{length-chunk, length-canonical, canoni
 -- ---- one chunk's bytes
 
 -- a chunk written over the zeros after some bytes
-pub padded_after : (bytes output : List ℕ) (t : ChunkTree) → output ≡ bytes ++ replicate (round_up_to_4 (size_of (chunk_tlv t))) 0
-    → take (length bytes) output ++ written (image_of (chunk_tlv t)) (drop (length bytes) output) ≡ bytes ++ padded_chunk t
+pub padded_after : (bytes output : List ℕ) (t : ChunkTree)
+    → output ≡ bytes ++ replicate (round_up_to_4 (size_of (chunk_tlv t))) 0
+    → take (length bytes) output ++ written (image_of (chunk_tlv t)) (drop (length bytes) output)
+    ≡ bytes ++ padded_chunk t
 padded_after bytes output t e =
     let size = size_of (chunk_tlv t) in
     let image = image_of (chunk_tlv t) in
@@ -27,16 +29,20 @@ padded_after bytes output t e =
     let len = length-chunk t in
     let rest : round_up_to_4 size - length image ≡ gap size = omega (arith, len) in
     rw (e, take-append_seam bytes zeros, drop-append_seam bytes zeros) (
-    ap (λ (chunk : List ℕ). bytes ++ chunk) (written-zeros image (round_up_to_4 size) (omega (arith, len)) ∙ ap (λ (n : ℕ). zeroed image ++ replicate n 0) rest))
+    ap (λ (chunk : List ℕ). bytes ++ chunk) (written-zeros image (round_up_to_4 size)
+    (omega (arith, len)) ∙ ap (λ (n : ℕ). zeroed image ++ replicate n 0) rest))
 
 -- ---- the room
 
 -- what is held is the bytes after the header
-size_held : (b : BuilderState) (ts : List ChunkTree) → Holds b ts → length b.bytes - 12 ≡ padded_size ts
+size_held : (b : BuilderState) (ts : List ChunkTree) → Holds b ts
+    → length b.bytes - 12 ≡ padded_size ts
 size_held b [] h = let none = ap length h in omega (arith, none)
-size_held b (t ∷ ts) h = let len = ap length h.bytes ∙ length-canonical (meaning_with b (t ∷ ts)) in omega (arith, len)
+size_held b (t ∷ ts) h = let len =
+    ap length h.bytes ∙ length-canonical (meaning_with b (t ∷ ts)) in omega (arith, len)
 
-pub room_after : (b : BuilderState) (ts : List ChunkTree) → Holds b ts → room b ≡ b.limit - 12 - padded_size ts
+pub room_after : (b : BuilderState) (ts : List ChunkTree) → Holds b ts
+    → room b ≡ b.limit - 12 - padded_size ts
 room_after b ts h = let size = size_held b ts h in omega (arith, size)
 
 -- ---- one more chunk
@@ -45,34 +51,42 @@ begun_some : (b : BuilderState) (bytes : List ℕ) → 0 < length bytes → begu
 begun_some b [] some = absurd (omega (arith, some))
 begun_some b (byte ∷ bytes) some = refl
 
-begun_held : (b : BuilderState) (ts : List ChunkTree) → Holds b ts → begun b b.bytes ≡ canonical (meaning_with b ts)
+begun_held : (b : BuilderState) (ts : List ChunkTree) → Holds b ts
+    → begun b b.bytes ≡ canonical (meaning_with b ts)
 begun_held b [] h = ap (begun b) h
 begun_held b (t ∷ ts) h =
     let len = ap length h.bytes ∙ length-canonical (meaning_with b (t ∷ ts)) in
     begun_some b b.bytes (omega (arith, len)) ∙ h.bytes
 
-each_held : (b : BuilderState) (ts : List ChunkTree) → Holds b ts → AllByRecursion IsChunkEncodable ts
+each_held : (b : BuilderState) (ts : List ChunkTree) → Holds b ts
+    → AllByRecursion IsChunkEncodable ts
 each_held b [] h = tt
 each_held b (t ∷ ts) h = h.each
 
-widths_held : (b : BuilderState) (ts : List ChunkTree) → Holds b ts → AllByRecursion IsChunkInWidth ts
+widths_held : (b : BuilderState) (ts : List ChunkTree) → Holds b ts
+    → AllByRecursion IsChunkInWidth ts
 widths_held b [] h = tt
 widths_held b (t ∷ ts) h = h.widths
 
-each-push : (P : ChunkTree → Type 0) (ts : List ChunkTree) (t : ChunkTree) → AllByRecursion P ts → P t → AllByRecursion P (ts ++ t ∷ [])
+each-push : (P : ChunkTree → Type 0) (ts : List ChunkTree) (t : ChunkTree) → AllByRecursion P ts
+    → P t → AllByRecursion P (ts ++ t ∷ [])
 each-push P [] t each last = (last, tt)
 each-push P (u ∷ ts) t each last = (each.0, each-push P ts t each.1 last)
 
-holds_packet : (b : BuilderState) (ts : List ChunkTree) (t : ChunkTree) → HoldsPacket b (ts ++ t ∷ []) → Holds b (ts ++ t ∷ [])
+holds_packet : (b : BuilderState) (ts : List ChunkTree) (t : ChunkTree)
+    → HoldsPacket b (ts ++ t ∷ []) → Holds b (ts ++ t ∷ [])
 holds_packet b [] t h = h
 holds_packet b (u ∷ ts) t h = h
 
 -- the same settings, and the chunk's bytes after those that were there
-pub adds : (b after : BuilderState) (t : ChunkTree) → IsChunkEncodable t → IsChunkInWidth t → round_up_to_4 (size_of (chunk_tlv t)) ≤ room b
-    → after ≡ record b { bytes = begun b b.bytes ++ padded_chunk t; reserved = after.reserved } → (ts : List ChunkTree) → Holds b ts → Holds after (ts ++ t ∷ [])
+pub adds : (b after : BuilderState) (t : ChunkTree) → IsChunkEncodable t → IsChunkInWidth t
+    → round_up_to_4 (size_of (chunk_tlv t)) ≤ room b
+    → after ≡ record b { bytes = begun b b.bytes ++ padded_chunk t; reserved = after.reserved }
+    → (ts : List ChunkTree) → Holds b ts → Holds after (ts ++ t ∷ [])
 adds b after t encodable width fits is ts h =
     let new = record b { bytes = begun b b.bytes ++ padded_chunk t; reserved = after.reserved } in
-    let bytes : new.bytes ≡ canonical (meaning_with b (ts ++ t ∷ [])) = ap (λ (xs : List ℕ). xs ++ padded_chunk t) (begun_held b ts h) ∙ canonical-push (meaning_with b ts) t in
+    let bytes : new.bytes ≡ canonical (meaning_with b (ts ++ t ∷ [])) = ap (λ (xs : List ℕ). xs
+    ++ padded_chunk t) (begun_held b ts h) ∙ canonical-push (meaning_with b ts) t in
     let len = ap length bytes ∙ length-canonical (meaning_with b (ts ++ t ∷ [])) in
     let more = padded_size-push ts t in
     let left = room_after b ts h in
@@ -91,7 +105,8 @@ abbrev field_of : Bool → ℕ → ℕ
 field_of true word = word
 field_of false word = 0
 
-built_is : (m : Meaning) (b : Bool) (word : ℕ) (bytes : List ℕ) → bytes ≡ canonical m → checksummed b word bytes ≡ with_field m (field_of b word)
+built_is : (m : Meaning) (b : Bool) (word : ℕ) (bytes : List ℕ) → bytes ≡ canonical m
+    → checksummed b word bytes ≡ with_field m (field_of b word)
 unfolding canonical
 built_is m true word bytes e = rw e refl
 built_is m false word bytes e = e
@@ -109,22 +124,32 @@ held b [] some h = absurd (some refl)
 held b (t ∷ ts) some h = h
 
 -- a size that is a multiple of 4
-in_words : (ts : List ChunkTree) (limit : ℕ) → 12 + padded_size ts ≤ limit → limit ≤ 65535 → 12 + padded_size ts ≤ 65532
+in_words : (ts : List ChunkTree) (limit : ℕ) → 12 + padded_size ts ≤ limit → limit ≤ 65535
+    → 12 + padded_size ts ≤ 65532
 in_words ts limit h le = let e = padded_size-is ts in omega (arith, e, h, le)
 
-pub built_reads_back : (b : BuilderState) (field word : ℕ) (policy : ChecksumPolicy) (ts : List ChunkTree) → field < 2 ^ 32 → b.source < 2 ^ 16 → b.destination < 2 ^ 16 → b.tag < 2 ^ 32 → b.limit ≤ 65535
+pub built_reads_back : (b : BuilderState) (field word : ℕ) (policy : ChecksumPolicy)
+    (ts : List ChunkTree) → field < 2 ^ 32 → b.source < 2 ^ 16 → b.destination < 2 ^ 16
+    → b.tag < 2 ^ 32 → b.limit ≤ 65535
     → Holds b ts → ts ≢ []
     → AllByRecursion IsChunkWellFormed (kept_chunks ts)
     → IsAccepted policy (checksum_field (built b field)) word
-    → Answer (built b field) word policy (Ok (record { meaning = meaning_with b (kept_chunks ts); checksum = checksum_field (built b field) }))
-built_reads_back b field word policy ts field_ok source destination tag short h some readable accepted =
+    → Answer (built b field) word policy (Ok (record {
+      meaning = meaning_with b (kept_chunks ts);
+      checksum = checksum_field (built b field);
+    }))
+built_reads_back b field word policy ts field_ok source destination tag short h some readable
+    accepted =
     let p = held b ts some h in
     let m = meaning_with b (kept_chunks ts) in
     let n = field_of b.writes_checksum field in
     let n_fits = field_fits b.writes_checksum field field_ok in
-    let is : built b field ≡ with_field m n = built_is m b.writes_checksum field b.bytes (p.bytes ∙ sym (canonical_kept (meaning_with b ts))) in
-    let field_is : checksum_field (built b field) ≡ n = ap checksum_field is ∙ field_back m n n_fits in
-    let len : length b.bytes ≡ 12 + padded_size (kept_chunks ts) = ap length (p.bytes ∙ sym (canonical_kept (meaning_with b ts))) ∙ length-canonical m in
+    let is : built b field ≡ with_field m n = built_is m b.writes_checksum field b.bytes
+    (p.bytes ∙ sym (canonical_kept (meaning_with b ts))) in
+    let field_is : checksum_field (built b field) ≡ n =
+    ap checksum_field is ∙ field_back m n n_fits in
+    let len : length b.bytes ≡ 12 + padded_size (kept_chunks ts) =
+    ap length (p.bytes ∙ sym (canonical_kept (meaning_with b ts))) ∙ length-canonical m in
     let fits : Fits m = record {
       each = all_map IsChunkEncodable IsChunkEncodable kept_chunk kept_encodable ts p.each;
       whole = in_words (kept_chunks ts) b.limit (omega (arith, len, p.within)) short;
@@ -136,7 +161,9 @@ built_reads_back b field word policy ts field_ok source destination tag short h 
       tag = tag;
       each = all_map IsChunkInWidth IsChunkInWidth kept_chunk kept_width ts p.widths;
     } in
-    subst (λ (bytes : List ℕ). Answer bytes word policy (Ok (record { meaning = m; checksum = checksum_field bytes }))) (sym is)
-    (subst (λ (f : ℕ). Answer (with_field m n) word policy (Ok (record { meaning = m; checksum = f }))) (sym (field_back m n n_fits))
+    subst (λ (bytes : List ℕ). Answer bytes word policy
+    (Ok (record { meaning = m; checksum = checksum_field bytes }))) (sym is)
+    (subst (λ (f : ℕ). Answer (with_field m n) word policy
+    (Ok (record { meaning = m; checksum = f }))) (sym (field_back m n n_fits))
     (reads_back_with m n word policy n_fits in_width formed fits
     (subst (λ (f : ℕ). IsAccepted policy f word) field_is accepted)))

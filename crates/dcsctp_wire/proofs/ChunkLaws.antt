@@ -57,7 +57,8 @@ init_means strict typ i width formed fits = (
   ),
 )
 
-parameter_list_means : (strict : Bool) (typ : ℕ) (ps : List ParameterTree) → AllByRecursion IsParameterInWidth ps
+parameter_list_means : (strict : Bool) (typ : ℕ) (ps : List ParameterTree)
+    → AllByRecursion IsParameterInWidth ps
     → AllByRecursion IsParameterWellFormed ps → IsEncodable (parameter_list_tlv typ ps)
     → (parameter_list_row strict).means (zeroed (parameter_list_tlv typ ps).value) ps
 parameter_list_means strict typ ps width formed fits = (
@@ -125,10 +126,13 @@ unknown_means strict u h =
     (table strict u.flags) u.typ _ h (rw (zeroed-solid u.value) refl)
 
 means : (strict : Bool) (t : ChunkTree) → IsGood t
-    → (chunk_row strict (chunk_tlv t).first (chunk_tlv t).second).means (zeroed (chunk_tlv t).value) t
-means strict (Data c) good = ap (map_ok Data) (data_laws.back c good.width good.formed good.encodable)
+    → (chunk_row strict (chunk_tlv t).first (chunk_tlv t).second).means (zeroed (chunk_tlv t).value)
+    t
+means strict (Data c) good =
+    ap (map_ok Data) (data_laws.back c good.width good.formed good.encodable)
 means strict (Init i) good = (i, init_means strict 1 i good.width good.formed good.encodable, refl)
-means strict (InitAck i) good = (i, init_means strict 2 i good.width good.formed good.encodable, refl)
+means strict (InitAck i) good =
+    (i, init_means strict 2 i good.width good.formed good.encodable, refl)
 means strict (Sack s) good = ap (map_ok Sack) (sack_laws.back s good.width tt good.encodable)
 means strict (HeartbeatRequest ps) good =
     (ps, parameter_list_means strict 4 ps good.width good.formed good.encodable, refl)
@@ -139,13 +143,16 @@ means strict (Shutdown tsn) good =
     ap (map_ok Shutdown) (shutdown_laws.back tsn good.width tt good.encodable)
 means strict ShutdownAck good =
     ap (map_ok (λ _. ShutdownAck)) (shutdown_ack_laws.back tt tt tt good.encodable)
-means strict (Error cs) good = (cs, error_means strict cs good.width good.formed good.encodable, refl)
+means strict (Error cs) good =
+    (cs, error_means strict cs good.width good.formed good.encodable, refl)
 means strict (CookieEcho cookie) good =
     ap (map_ok CookieEcho) (cookie_echo_laws.back cookie good.width good.formed good.encodable)
-means strict CookieAck good = ap (map_ok (λ _. CookieAck)) (cookie_ack_laws.back tt tt tt good.encodable)
+means strict CookieAck good =
+    ap (map_ok (λ _. CookieAck)) (cookie_ack_laws.back tt tt tt good.encodable)
 means strict (ShutdownComplete reflected) good =
     ap (map_ok ShutdownComplete) (shutdown_complete_laws.back reflected tt tt good.encodable)
-means strict (IData c) good = ap (map_ok IData) (idata_laws.back c good.width good.formed good.encodable)
+means strict (IData c) good =
+    ap (map_ok IData) (idata_laws.back c good.width good.formed good.encodable)
 means strict (ReConfig ps) good =
     (ps, parameter_list_means strict 130 ps good.width good.formed good.encodable, refl)
 means strict (ForwardTsn f) good =
@@ -170,11 +177,13 @@ init_forms tree law value t m =
     let is = m.1.1.2 in
     subst IsChunkWellFormed (sym m.2)
     (law m.0 (subst (λ (i : InitTree). AllByRecursion IsParameterWellFormed i.parameters) (sym is)
-    (list_formed (parameters lenient) IsParameterWellFormed parameters_form (drop 16 value) m.1.1.0 m.1.1.1)))
+    (list_formed (parameters lenient) IsParameterWellFormed parameters_form (drop 16 value) m.1.1.0
+    m.1.1.1)))
 
 pub parameter_list_forms : (tree : List ParameterTree → ChunkTree)
     → ((ps : List ParameterTree) → AllByRecursion IsParameterWellFormed ps
-    → IsChunkWellFormed (tree ps)) → FormsRow IsChunkWellFormed (as_row tree (parameter_list_row lenient))
+    → IsChunkWellFormed (tree ps))
+    → FormsRow IsChunkWellFormed (as_row tree (parameter_list_row lenient))
 parameter_list_forms tree law value t m =
     subst IsChunkWellFormed (sym m.2)
     (law m.0 (subst (AllByRecursion IsParameterWellFormed) (sym m.1.1.2)
@@ -190,7 +199,8 @@ abort_forms flags value t m =
 some_causes : (value : List ℕ) (cs : List CauseTree) → (error_row lenient).means value cs → cs ≢ []
 some_causes value cs m none =
     let nil : value ≡ [] = nil_means (causes lenient) value
-    (subst (λ (ds : List CauseTree). MeansTrees (causes lenient) value ds) (sym m.1.2 ∙ none) m.1.1) in
+    (subst (λ (ds : List CauseTree). MeansTrees (causes lenient) value ds) (sym m.1.2 ∙ none) m.1.1)
+    in
     let refused : false ≡ true = rw nil at m.0 in
     cc
 

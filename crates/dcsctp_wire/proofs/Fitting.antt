@@ -17,15 +17,22 @@ bool_tells true false = inr (λ e. cc)
 bool_tells false true = inr (λ e. cc)
 bool_tells false false = inl refl
 
-all_tells : {T : Type 0} (P : T → Type 0) → ((x : T) → P x ⊎ (¬ P x)) → (xs : List T) → AllByRecursion P xs ⊎ (¬ AllByRecursion P xs)
+all_tells : {T : Type 0} (P : T → Type 0) → ((x : T) → P x ⊎ (¬ P x)) → (xs : List T)
+    → AllByRecursion P xs ⊎ (¬ AllByRecursion P xs)
 all_tells P each [] = inl tt
 all_tells P each (x ∷ xs) = elim (each x) [
   | inr fails ↦ inr (λ h. fails h.0)
-  | inl holds ↦ elim (all_tells P each xs) [ inl all ↦ inl (holds, all) | inr fails ↦ inr (λ h. fails h.1) ]
+  | inl holds ↦ elim (all_tells P each xs) [
+    | inl all ↦ inl (holds, all)
+    | inr fails ↦ inr
+        (λ h. fails h.1)
+  ]
 ]
 
-by_mid_tells : (by_mid : Bool) (streams : List SkippedStreamTree) → AreByMid by_mid streams ⊎ (¬ AreByMid by_mid streams)
-by_mid_tells by_mid streams = all_tells (λ s. is_by_mid s ≡ by_mid) (λ s. bool_tells (is_by_mid s) by_mid) streams
+by_mid_tells : (by_mid : Bool) (streams : List SkippedStreamTree) → AreByMid by_mid streams
+    ⊎ (¬ AreByMid by_mid streams)
+by_mid_tells by_mid streams =
+    all_tells (λ s. is_by_mid s ≡ by_mid) (λ s. bool_tells (is_by_mid s) by_mid) streams
 
 placed_tells : (t : ChunkTree) → IsPlaced t ⊎ (¬ IsPlaced t)
 placed_tells (ForwardTsn f) = by_mid_tells false f.streams

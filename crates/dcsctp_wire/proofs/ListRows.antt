@@ -20,10 +20,12 @@ pub init_lawful : (strict : Bool) → LawfulRow (init_row strict)
 init_lawful strict = listed_lawful _ 16 (parameters strict) init_of (parameters_lawful strict)
 
 pub parameter_list_lawful : (strict : Bool) → LawfulRow (parameter_list_row strict)
-parameter_list_lawful strict = listed_lawful _ 0 (parameters strict) (λ value ps. ps) (parameters_lawful strict)
+parameter_list_lawful strict =
+    listed_lawful _ 0 (parameters strict) (λ value ps. ps) (parameters_lawful strict)
 
 pub abort_lawful : (strict : Bool) (flags : ℕ) → LawfulRow (abort_row strict flags)
-abort_lawful strict flags = listed_lawful _ 0 (causes strict) (λ value cs. abort_of flags cs) (causes_lawful strict)
+abort_lawful strict flags =
+    listed_lawful _ 0 (causes strict) (λ value cs. abort_of flags cs) (causes_lawful strict)
 
 pub error_lawful : (strict : Bool) → LawfulRow (error_row strict)
 error_lawful strict = listed_lawful _ 0 (causes strict) (λ value cs. cs) (causes_lawful strict)
@@ -56,10 +58,12 @@ pub init_unpadded : Unpadded (init_row lenient)
 init_unpadded = listed_unpadded _ 16 (parameters lenient) init_of parameters_unpadded
 
 pub parameter_list_unpadded : Unpadded (parameter_list_row lenient)
-parameter_list_unpadded = listed_unpadded _ 0 (parameters lenient) (λ value ps. ps) parameters_unpadded
+parameter_list_unpadded =
+    listed_unpadded _ 0 (parameters lenient) (λ value ps. ps) parameters_unpadded
 
 pub abort_unpadded : (flags : ℕ) → Unpadded (abort_row lenient flags)
-abort_unpadded flags = listed_unpadded _ 0 (causes lenient) (λ value cs. abort_of flags cs) causes_unpadded
+abort_unpadded flags =
+    listed_unpadded _ 0 (causes lenient) (λ value cs. abort_of flags cs) causes_unpadded
 
 pub error_unpadded : Unpadded (error_row lenient)
 error_unpadded = listed_unpadded _ 0 (causes lenient) (λ value cs. cs) causes_unpadded

@@ -1,4 +1,5 @@
--- A check and a reader of packets, both ways: from what they answer, since each input has one answer.
+-- A check and a reader of packets, both ways: from what they answer, since each input has one
+-- answer.
 use Rattle.std.proofs.Common.{◌≡◌, ℕ, List, Result, Ok, Err, inl, inr, refl, ap, ◌∙◌}
 use Rattle.std.specs.Prelude.{IsErrOf}
 use Rattle.dcsctp_tlv.specs.declared.error.ChunkParseError.TheVariants.{OutOfMemory}
@@ -43,26 +44,38 @@ packet_checking_distinct = record { one = packet_error_one; apart = λ f none. n
 -- ---- both ways
 
 -- the packet of these chunks
-pub packet_is : (bytes : List ℕ) (word : ℕ) (policy : ChecksumPolicy) (ts : List ChunkTree) → IsOpened bytes word policy → MeansTrees (chunks policy.strict_padding) (body bytes) ts → Answer bytes word policy (Ok (packet_with bytes ts))
-packet_is bytes word policy ts opened m = (opened, record { source = refl; destination = refl; tag = refl; checksum = refl; chunks = m })
+pub packet_is : (bytes : List ℕ) (word : ℕ) (policy : ChecksumPolicy) (ts : List ChunkTree)
+    → IsOpened bytes word policy → MeansTrees (chunks policy.strict_padding) (body bytes) ts
+    → Answer bytes word policy (Ok (packet_with bytes ts))
+packet_is bytes word policy ts opened m =
+    (opened, record { source = refl; destination = refl; tag = refl; checksum = refl; chunks = m })
 
 -- the answer, with the packet's parts counted
 abbrev pub CountedParts : List ℕ → ℕ → ChecksumPolicy → Result ℕ PacketFault → Type 0
 CountedParts bytes word policy = Counted (λ p. node_count p.meaning) (Answer bytes word policy)
 
 -- what a check that says the place answers, without the place and the number of chunks
-pub check_answers : (bytes : List ℕ) (word : ℕ) (policy : ChecksumPolicy) (found : FirstFault) → Answers packet_locating (λ (n : ℕ × ℕ). n) (PacketCounts bytes word policy) (Err found)
+pub check_answers : (bytes : List ℕ) (word : ℕ) (policy : ChecksumPolicy) (found : FirstFault)
+    → Answers packet_locating (λ (n : ℕ × ℕ). n) (PacketCounts bytes word policy) (Err found)
     → Answers packet_checking (λ (n : ℕ). n) (CountedParts bytes word policy) (Err found.fault)
-check_answers bytes word policy found (inl f) = inl (f.0.0, ap (λ (x : FirstFault). x.fault) f.1, f.2.0)
+check_answers bytes word policy found (inl f) =
+    inl (f.0.0, ap (λ (x : FirstFault). x.fault) f.1, f.2.0)
 check_answers bytes word policy found (inr none) = absurd none
 
 module _ (bytes : List ℕ) (word : ℕ) (policy : ChecksumPolicy) (fits : AreBytes bytes) where
   pub packet_single : Single (Answer bytes word policy)
   packet_single a b m n = answer_one bytes word policy a b fits m n
 
-  pub check_exactly : (r : Result ℕ PacketParseError) → Answers packet_checking (λ (n : ℕ). n) (CountedParts bytes word policy) r → Exactly packet_checking (λ (n : ℕ). n) (CountedParts bytes word policy) r
-  check_exactly r a = exactly packet_checking packet_checking_distinct (λ n. n) (CountedParts bytes word policy) (counted_single (λ p. node_count p.meaning) (Answer bytes word policy) packet_single) r a (λ e is none. absurd none)
+  pub check_exactly : (r : Result ℕ PacketParseError) → Answers packet_checking (λ (n : ℕ). n)
+      (CountedParts bytes word policy) r → Exactly packet_checking (λ (n : ℕ). n)
+      (CountedParts bytes word policy) r
+  check_exactly r a = exactly packet_checking packet_checking_distinct (λ n. n)
+      (CountedParts bytes word policy) (counted_single (λ p. node_count p.meaning)
+      (Answer bytes word policy) packet_single) r a (λ e is none. absurd none)
 
-  pub read_exactly : {X : Type 0} (view : X → PacketTree) (r : Result X PacketParseError) → Answers packet_reading view (Answer bytes word policy) r → (IsErrOf r (FailedParseChunk OutOfMemory) → IsPacket bytes word policy)
+  pub read_exactly : {X : Type 0} (view : X → PacketTree) (r : Result X PacketParseError)
+      → Answers packet_reading view (Answer bytes word policy) r
+      → (IsErrOf r (FailedParseChunk OutOfMemory) → IsPacket bytes word policy)
       → Exactly packet_reading view (Answer bytes word policy) r
-  read_exactly view r a memory = exactly packet_reading packet_reading_distinct view (Answer bytes word policy) packet_single r a (λ e is lacks. memory (is ∙ ap Err lacks))
+  read_exactly view r a memory = exactly packet_reading packet_reading_distinct view
+      (Answer bytes word policy) packet_single r a (λ e is lacks. memory (is ∙ ap Err lacks))

@@ -30,11 +30,14 @@ length-body bytes = length-drop 12 bytes
 
 -- ---- what was read is well-formed
 
-pub packet_formed : (bytes : List ℕ) (p : PacketTree) → HasPacketSize bytes → MeansPacket lenient bytes p → IsWellFormed p.meaning
+pub packet_formed : (bytes : List ℕ) (p : PacketTree) → HasPacketSize bytes
+    → MeansPacket lenient bytes p → IsWellFormed p.meaning
 packet_formed bytes p size m = record {
-  each = list_formed (chunks lenient) IsChunkWellFormed chunks_form (body bytes) p.meaning.chunks m.chunks;
+  each = list_formed (chunks lenient) IsChunkWellFormed chunks_form (body bytes) p.meaning.chunks
+      m.chunks;
   some = λ none.
-      (let nil = ap length (nil_means (chunks lenient) (body bytes) (subst (MeansTrees (chunks lenient) (body bytes)) none m.chunks)) in
+      (let nil = ap length (nil_means (chunks lenient) (body bytes)
+      (subst (MeansTrees (chunks lenient) (body bytes)) none m.chunks)) in
       let len = length-body bytes in
       omega (arith, nil, len, size.low));
 }
@@ -46,36 +49,57 @@ placed (ForwardTsn f) formed = formed
 placed (IForwardTsn f) formed = formed
 placed t formed = tt
 
-each_chunk : (ts : List ChunkTree) → AllByRecursion IsChunkWellFormed ts → AllByRecursion (λ t. IsEncodable (chunk_tlv t)) ts → AllByRecursion IsChunkEncodable ts
+each_chunk : (ts : List ChunkTree) → AllByRecursion IsChunkWellFormed ts
+    → AllByRecursion (λ t. IsEncodable (chunk_tlv t)) ts → AllByRecursion IsChunkEncodable ts
 each_chunk [] formed fits = tt
 each_chunk (t ∷ ts) formed fits = ((placed t formed.0, fits.0), each_chunk ts formed.1 fits.1)
 
-whole_size : (written read all : ℕ) → SameSpace written read → read ≡ all - 12 → 16 ≤ all → 12 + round_up_to_4 written ≡ round_up_to_4 all
+whole_size : (written read all : ℕ) → SameSpace written read → read ≡ all - 12 → 16 ≤ all
+    → 12 + round_up_to_4 written ≡ round_up_to_4 all
 whole_size written read all same e low = omega (arith, same.up, e, low)
 
-pub packet_size : (bytes : List ℕ) (p : PacketTree) → HasPacketSize bytes → MeansPacket lenient bytes p → KeepsTexts bytes → KeepsSize bytes p.meaning
+pub packet_size : (bytes : List ℕ) (p : PacketTree) → HasPacketSize bytes
+    → MeansPacket lenient bytes p → KeepsTexts bytes → KeepsSize bytes p.meaning
 packet_size bytes p size m kept =
     let ts = p.meaning.chunks in
-    let same = list_account (chunks lenient) chunk_tlv AreTextsKept chunks_account (body bytes) ts m.chunks (kept m.chunks.items m.chunks.are) in
+    let same = list_account (chunks lenient) chunk_tlv AreTextsKept chunks_account (body bytes) ts
+    m.chunks (kept m.chunks.items m.chunks.are) in
     let len = length-body bytes in
-    let whole : 12 + padded_size ts ≡ round_up_to_4 (length bytes) = ap (λ (n : ℕ). 12 + n) (padded_size-is ts) ∙ whole_size (list_size chunk_tlv ts) (length (body bytes)) (length bytes) same len size.low in
-    let each : AllByRecursion IsChunkEncodable ts = each_chunk ts (packet_formed bytes p size m).each (each_encodable chunk_tlv ts (omega (arith, same.at_most, len, size.high))) in
-    record { whole = whole; each = each; fits = λ short. record { each = each; whole = omega (arith, whole, short) } }
+    let whole : 12 + padded_size ts ≡ round_up_to_4 (length bytes) = ap (λ (n : ℕ). 12 + n)
+    (padded_size-is ts) ∙ whole_size (list_size chunk_tlv ts) (length (body bytes))
+    (length bytes) same len size.low in
+    let each : AllByRecursion IsChunkEncodable ts = each_chunk ts
+    (packet_formed bytes p size m).each (each_encodable chunk_tlv ts
+    (omega (arith, same.at_most, len, size.high))) in
+    record {
+      whole = whole;
+      each = each;
+      fits = λ short. record {
+        each = each;
+        whole = omega (arith, whole, short);
+      };
+    }
 
 -- ---- the number of its parts
 
-pub packet_parts : (bytes : List ℕ) (p : PacketTree) → MeansPacket lenient bytes p → node_count p.meaning ≤ (length bytes - 12) / 4
+pub packet_parts : (bytes : List ℕ) (p : PacketTree) → MeansPacket lenient bytes p
+    → node_count p.meaning ≤ (length bytes - 12) / 4
 packet_parts bytes p m =
-    let count = list_count (chunks lenient) chunk_parts chunks_count (body bytes) p.meaning.chunks m.chunks in
+    let count = list_count (chunks lenient) chunk_parts chunks_count (body bytes) p.meaning.chunks
+    m.chunks in
     let len = length-body bytes in
     omega (arith, count, len)
 
 -- ---- what the code reads
 
 -- what holds of each packet that the bytes mean holds of the one that was read
-pub reads_only : (Q : PacketTree → Type 0) (bytes : List ℕ) (word : ℕ) (policy : ChecksumPolicy) (result : Result SctpPacket PacketParseError)
-    → ((p : PacketTree) → HasPacketSize bytes → MeansPacket lenient bytes p → Q p) → Answers packet_reading packet_view (Answer bytes word policy) result → IfOk result (λ p. Q (packet_view p))
-reads_only Q bytes word policy (Ok p) law reads = law (packet_view p) reads.0.size (lenient_packet policy.strict_padding bytes (packet_view p) reads.1)
+pub reads_only : (Q : PacketTree → Type 0) (bytes : List ℕ) (word : ℕ) (policy : ChecksumPolicy)
+    (result : Result SctpPacket PacketParseError)
+    → ((p : PacketTree) → HasPacketSize bytes → MeansPacket lenient bytes p → Q p)
+    → Answers packet_reading packet_view (Answer bytes word policy) result
+    → IfOk result (λ p. Q (packet_view p))
+reads_only Q bytes word policy (Ok p) law reads = law (packet_view p) reads.0.size
+    (lenient_packet policy.strict_padding bytes (packet_view p) reads.1)
 reads_only Q bytes word policy (Err e) law reads = tt
 
 -- ---- reading is local
@@ -83,11 +107,16 @@ reads_only Q bytes word policy (Err e) law reads = tt
 body_after : (front end : List ℕ) → 16 ≤ length front → body (front ++ end) ≡ body front ++ end
 body_after front end low = drop-append-le 12 front end (omega (arith, low))
 
-body_words : (front : List ℕ) → 16 ≤ length front → length front % 4 ≡ 0 → length (body front) % 4 ≡ 0
+body_words : (front : List ℕ) → 16 ≤ length front → length front % 4 ≡ 0 → length (body front) % 4
+    ≡ 0
 body_words front low words = let len = length-body front in omega (arith, len, low, words)
 
-pub packet_after : (front end : List ℕ) (word : ℕ) (policy : ChecksumPolicy) (ts us : List ChunkTree) → 16 ≤ length front → length front % 4 ≡ 0 → IsOpened (front ++ end) word policy
-    → MeansTrees (chunks policy.strict_padding) (body front) ts → MeansTrees (chunks policy.strict_padding) end us → Answer (front ++ end) word policy (Ok (packet_with (front ++ end) (ts ++ us)))
+pub packet_after : (front end : List ℕ) (word : ℕ) (policy : ChecksumPolicy)
+    (ts us : List ChunkTree) → 16 ≤ length front → length front % 4 ≡ 0
+    → IsOpened (front ++ end) word policy
+    → MeansTrees (chunks policy.strict_padding) (body front) ts
+    → MeansTrees (chunks policy.strict_padding) end us
+    → Answer (front ++ end) word policy (Ok (packet_with (front ++ end) (ts ++ us)))
 packet_after front end word policy ts us low words opened m n = (
   opened,
   record {
@@ -95,11 +124,20 @@ packet_after front end word policy ts us low words opened m n = (
     destination = refl;
     tag = refl;
     checksum = refl;
-    chunks = subst (λ (bytes : List ℕ). MeansTrees (chunks policy.strict_padding) bytes (ts ++ us)) (sym (body_after front end low)) (local_means (chunks policy.strict_padding) (body front) end ts us (body_words front low words) m n);
+    chunks = subst (λ (bytes : List ℕ). MeansTrees (chunks policy.strict_padding) bytes (ts ++ us))
+        (sym (body_after front end low)) (local_means (chunks policy.strict_padding) (body front)
+        end ts us (body_words front low words) m n);
   },
 )
 
-pub fault_after : (front end : List ℕ) (word : ℕ) (policy : ChecksumPolicy) (ts : List ChunkTree) (e : Fault) → 16 ≤ length front → length front % 4 ≡ 0 → IsOpened (front ++ end) word policy
-    → MeansTrees (chunks policy.strict_padding) (body front) ts → HasFault (chunks policy.strict_padding) end e → Answer (front ++ end) word policy (Err (Chunk e))
-fault_after front end word policy ts e low words opened m f =
-    (opened, subst (λ (bytes : List ℕ). HasFault (chunks policy.strict_padding) bytes e) (sym (body_after front end low)) (local_fault (chunks policy.strict_padding) (body front) end ts e (body_words front low words) m f))
+pub fault_after : (front end : List ℕ) (word : ℕ) (policy : ChecksumPolicy) (ts : List ChunkTree)
+    (e : Fault) → 16 ≤ length front → length front % 4 ≡ 0 → IsOpened (front ++ end) word policy
+    → MeansTrees (chunks policy.strict_padding) (body front) ts
+    → HasFault (chunks policy.strict_padding) end e
+    → Answer (front ++ end) word policy (Err (Chunk e))
+fault_after front end word policy ts e low words opened m f = (
+  opened,
+  subst (λ (bytes : List ℕ). HasFault (chunks policy.strict_padding) bytes e)
+      (sym (body_after front end low)) (local_fault (chunks policy.strict_padding) (body front)
+      end ts e (body_words front low words) m f),
+)

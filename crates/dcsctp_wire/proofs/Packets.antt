@@ -16,18 +16,36 @@ use Rattle.dcsctp_wire.proofs.ChunkRows.{chunks_lawful}
 pub body_fits : (bytes : List ℕ) → AreBytes bytes → AreBytes (body bytes)
 body_fits bytes fits i = rw get_or-drop (fits (12 + i))
 
-made : (p q : PacketTree) → p.meaning.source ≡ q.meaning.source → p.meaning.destination ≡ q.meaning.destination → p.meaning.tag ≡ q.meaning.tag → p.meaning.chunks ≡ q.meaning.chunks → p.checksum ≡ q.checksum → p ≡ q
-made p q a b c d e = λ k. record { meaning = record { source = a k; destination = b k; tag = c k; chunks = d k }; checksum = e k }
+made : (p q : PacketTree) → p.meaning.source ≡ q.meaning.source
+    → p.meaning.destination ≡ q.meaning.destination → p.meaning.tag ≡ q.meaning.tag
+    → p.meaning.chunks ≡ q.meaning.chunks → p.checksum ≡ q.checksum → p ≡ q
+made p q a b c d e = λ k. record {
+  meaning = record {
+    source = a k;
+    destination = b k;
+    tag = c k;
+    chunks = d k;
+  };
+  checksum = e k;
+}
 
-pub packet_one : (strict : Bool) (bytes : List ℕ) (p q : PacketTree) → MeansPacket strict bytes p → MeansPacket strict bytes q → p ≡ q
-packet_one strict bytes p q m n = made p q (m.source ∙ sym n.source) (m.destination ∙ sym n.destination) (m.tag ∙ sym n.tag)
-    (list_one (chunks strict) (chunks_lawful strict) (body bytes) p.meaning.chunks q.meaning.chunks m.chunks n.chunks) (m.checksum ∙ sym n.checksum)
+pub packet_one : (strict : Bool) (bytes : List ℕ) (p q : PacketTree) → MeansPacket strict bytes p
+    → MeansPacket strict bytes q → p ≡ q
+packet_one strict bytes p q m n =
+    made p q (m.source ∙ sym n.source) (m.destination ∙ sym n.destination) (m.tag ∙ sym n.tag)
+    (list_one (chunks strict) (chunks_lawful strict) (body bytes) p.meaning.chunks q.meaning.chunks
+    m.chunks n.chunks) (m.checksum ∙ sym n.checksum)
 
-pub answer_one : (bytes : List ℕ) (word : ℕ) (policy : ChecksumPolicy) (a b : Result PacketTree PacketFault) → AreBytes bytes → Answer bytes word policy a → Answer bytes word policy b → a ≡ b
-answer_one bytes word policy (Ok p) (Ok q) fits m n = ap Ok (packet_one policy.strict_padding bytes p q m.1 n.1)
+pub answer_one : (bytes : List ℕ) (word : ℕ) (policy : ChecksumPolicy)
+    (a b : Result PacketTree PacketFault) → AreBytes bytes → Answer bytes word policy a
+    → Answer bytes word policy b → a ≡ b
+answer_one bytes word policy (Ok p) (Ok q) fits m n =
+    ap Ok (packet_one policy.strict_padding bytes p q m.1 n.1)
 answer_one bytes word policy (Ok p) (Err Size) fits m n = absurd (n m.0.size)
 answer_one bytes word policy (Ok p) (Err Checksum) fits m n = absurd (n.1 m.0.accepted)
-answer_one bytes word policy (Ok p) (Err (Chunk e)) fits m n = absurd (list_apart (chunks policy.strict_padding) (chunks_lawful policy.strict_padding) (body bytes) p.meaning.chunks e (body_fits bytes fits) m.1.chunks n.1)
+answer_one bytes word policy (Ok p) (Err (Chunk e)) fits m n = absurd
+    (list_apart (chunks policy.strict_padding) (chunks_lawful policy.strict_padding) (body bytes)
+    p.meaning.chunks e (body_fits bytes fits) m.1.chunks n.1)
 answer_one bytes word policy (Err Size) (Ok q) fits m n = absurd (m n.0.size)
 answer_one bytes word policy (Err Size) (Err Size) fits m n = refl
 answer_one bytes word policy (Err Size) (Err Checksum) fits m n = absurd (m n.0)
@@ -36,10 +54,14 @@ answer_one bytes word policy (Err Checksum) (Ok q) fits m n = absurd (m.1 n.0.ac
 answer_one bytes word policy (Err Checksum) (Err Size) fits m n = absurd (n m.0)
 answer_one bytes word policy (Err Checksum) (Err Checksum) fits m n = refl
 answer_one bytes word policy (Err Checksum) (Err (Chunk e)) fits m n = absurd (m.1 n.0.accepted)
-answer_one bytes word policy (Err (Chunk d)) (Ok q) fits m n = absurd (list_apart (chunks policy.strict_padding) (chunks_lawful policy.strict_padding) (body bytes) q.meaning.chunks d (body_fits bytes fits) n.1.chunks m.1)
+answer_one bytes word policy (Err (Chunk d)) (Ok q) fits m n = absurd
+    (list_apart (chunks policy.strict_padding) (chunks_lawful policy.strict_padding) (body bytes)
+    q.meaning.chunks d (body_fits bytes fits) n.1.chunks m.1)
 answer_one bytes word policy (Err (Chunk d)) (Err Size) fits m n = absurd (n m.0.size)
 answer_one bytes word policy (Err (Chunk d)) (Err Checksum) fits m n = absurd (n.1 m.0.accepted)
-answer_one bytes word policy (Err (Chunk d)) (Err (Chunk e)) fits m n = ap (λ (x : Fault). Err (Chunk x)) (list_same (chunks policy.strict_padding) (chunks_lawful policy.strict_padding) (body bytes) d e (body_fits bytes fits) m.1 n.1)
+answer_one bytes word policy (Err (Chunk d)) (Err (Chunk e)) fits m n = ap
+    (λ (x : Fault). Err (Chunk x)) (list_same (chunks policy.strict_padding)
+    (chunks_lawful policy.strict_padding) (body bytes) d e (body_fits bytes fits) m.1 n.1)
 
 size_tells : (bytes : List ℕ) → HasPacketSize bytes ⊎ (¬ HasPacketSize bytes)
 size_tells bytes = elim (cases_lt (length bytes) 16) [
@@ -53,15 +75,19 @@ size_tells bytes = elim (cases_lt (length bytes) 16) [
 nat_tells : (m n : ℕ) → (m ≡ n) ⊎ (m ≢ n)
 nat_tells m n = elim (eqb_tells m n) [ inl p ↦ inl p.1 | inr p ↦ inr p.1 ]
 
-accepted_tells : (policy : ChecksumPolicy) (field word : ℕ) → IsAccepted policy field word ⊎ (¬ IsAccepted policy field word)
+accepted_tells : (policy : ChecksumPolicy) (field word : ℕ) → IsAccepted policy field word
+    ⊎ (¬ IsAccepted policy field word)
 accepted_tells policy field word = off (policy.disable_checksum_verification) refl where
-  refused : policy.disable_checksum_verification ≡ false → (policy.zero_checksum_alternate_error_detection_method.0 ≡ 0) ⊎ (field ≢ 0) → field ≢ word → IsAccepted policy field word → ⊥
+  refused : policy.disable_checksum_verification ≡ false
+      → (policy.zero_checksum_alternate_error_detection_method.0 ≡ 0) ⊎ (field ≢ 0) → field ≢ word
+      → IsAccepted policy field word → ⊥
   refused e f g (disabled h) = let p : false ≡ true = sym e ∙ h in cc
   refused e (inl f) g (alternate h k) = h f
   refused e (inr f) g (alternate h k) = f k
   refused e f g (equal h) = g h
 
-  off : (b : Bool) → policy.disable_checksum_verification ≡ b → IsAccepted policy field word ⊎ (¬ IsAccepted policy field word)
+  off : (b : Bool) → policy.disable_checksum_verification ≡ b → IsAccepted policy field word
+      ⊎ (¬ IsAccepted policy field word)
   off true e = inl (disabled e)
   off false e = elim (nat_tells field word) [
     | inl h ↦ inl (equal h)
@@ -74,14 +100,23 @@ accepted_tells policy field word = off (policy.disable_checksum_verification) re
     ]
   ]
 
-pub answer_some : (bytes : List ℕ) (word : ℕ) (policy : ChecksumPolicy) → AreBytes bytes → (a : Result PacketTree PacketFault) × Answer bytes word policy a
+pub answer_some : (bytes : List ℕ) (word : ℕ) (policy : ChecksumPolicy) → AreBytes bytes
+    → (a : Result PacketTree PacketFault) × Answer bytes word policy a
 answer_some bytes word policy fits = elim (size_tells bytes) [
   | inr no_size ↦ (Err Size, no_size)
   | inl size ↦ elim (accepted_tells policy (checksum_field bytes) word) [
     | inr refused ↦ (Err Checksum, (size, refused))
-    | inl accepted ↦ elim (list_some (chunks policy.strict_padding) (chunks_lawful policy.strict_padding) (body bytes) (body_fits bytes fits)) [
-      | inl m ↦ (Ok (packet_with bytes m.0), (record { size = size; accepted = accepted }, record { source = refl; destination = refl; tag = refl; checksum = refl; chunks = m.1 }))
-      | inr f ↦ (Err (Chunk f.0), (record { size = size; accepted = accepted }, f.1))
-    ]
+    | inl accepted ↦ elim (list_some (chunks policy.strict_padding)
+        (chunks_lawful policy.strict_padding) (body bytes) (body_fits bytes fits)) [
+          | inl m ↦ (
+            Ok (packet_with bytes m.0),
+            (
+              record { size = size; accepted = accepted },
+              record
+                  { source = refl; destination = refl; tag = refl; checksum = refl; chunks = m.1 },
+            ),
+          )
+          | inr f ↦ (Err (Chunk f.0), (record { size = size; accepted = accepted }, f.1))
+        ]
   ]
 ]

@@ -110,22 +110,30 @@ list_fits held tlv law [] = omega arith
 list_fits held tlv law (t ∷ []) = let h = law t in omega (arith, h)
 list_fits held tlv law (t ∷ u ∷ ts) =
     let h = law t in let rest = list_fits held tlv law (u ∷ ts) in
-    two (held t) (total held (u ∷ ts)) (length (u ∷ ts)) (length (t ∷ u ∷ ts)) (size_of (tlv t)) (list_size tlv (u ∷ ts)) (omega arith) h rest where
-      two : (h r n k s l : ℕ) → k ≡ 1 + n → 4 + h ≤ s → 4 * n + r ≤ l → 4 * k + (h + r) ≤ round_up_to_4 s + l
+    two (held t) (total held (u ∷ ts)) (length (u ∷ ts)) (length (t ∷ u ∷ ts)) (size_of (tlv t))
+    (list_size tlv (u ∷ ts)) (omega arith) h rest where
+      two : (h r n k s l : ℕ) → k ≡ 1 + n → 4 + h ≤ s → 4 * n + r ≤ l
+          → 4 * k + (h + r) ≤ round_up_to_4 s + l
       two h r n k s l e p q = omega (arith, e, p, q)
 
 chunk_fits : (t : ChunkTree) → 4 + chunk_held t ≤ size_of (chunk_tlv t)
 chunk_fits (Data c) = omega arith
-chunk_fits (Init i) = let h = list_fits parameter_held parameter.tlv parameter_fits i.parameters in omega (arith, h)
-chunk_fits (InitAck i) = let h = list_fits parameter_held parameter.tlv parameter_fits i.parameters in omega (arith, h)
+chunk_fits (Init i) = let h =
+    list_fits parameter_held parameter.tlv parameter_fits i.parameters in omega (arith, h)
+chunk_fits (InitAck i) = let h =
+    list_fits parameter_held parameter.tlv parameter_fits i.parameters in omega (arith, h)
 chunk_fits (Sack s) = omega arith
-chunk_fits (HeartbeatRequest ps) = let h = list_fits parameter_held parameter.tlv parameter_fits ps in omega (arith, h)
-chunk_fits (HeartbeatAck ps) = let h = list_fits parameter_held parameter.tlv parameter_fits ps in omega (arith, h)
-chunk_fits (Abort a) = let h = list_fits cause_held cause.tlv cause_fits a.causes in omega (arith, h)
+chunk_fits (HeartbeatRequest ps) = let h =
+    list_fits parameter_held parameter.tlv parameter_fits ps in omega (arith, h)
+chunk_fits (HeartbeatAck ps) = let h =
+    list_fits parameter_held parameter.tlv parameter_fits ps in omega (arith, h)
+chunk_fits (Abort a) = let h =
+    list_fits cause_held cause.tlv cause_fits a.causes in omega (arith, h)
 chunk_fits (Error cs) = let h = list_fits cause_held cause.tlv cause_fits cs in omega (arith, h)
 chunk_fits (CookieEcho cookie) = omega arith
 chunk_fits (IData c) = omega arith
-chunk_fits (ReConfig ps) = let h = list_fits parameter_held parameter.tlv parameter_fits ps in omega (arith, h)
+chunk_fits (ReConfig ps) = let h =
+    list_fits parameter_held parameter.tlv parameter_fits ps in omega (arith, h)
 chunk_fits (ForwardTsn f) = omega arith
 chunk_fits (IForwardTsn f) = omega arith
 chunk_fits (Unknown u) = omega arith
@@ -159,10 +167,12 @@ items_bound level held more law (i ∷ j ∷ is) (t ∷ []) p m = absurd m.1
 items_bound level held more law (i ∷ j ∷ is) (t ∷ u ∷ ts) p m =
     let rest = flat_map item_bytes (j ∷ is) in
     let e = length-append (item_bytes i) rest ∙ ap (λ (n : ℕ). n + length rest) (length-item i) in
-    front (held t) (total held (u ∷ ts)) (length (u ∷ ts)) (length (t ∷ u ∷ ts)) (omega arith) (length i.value) (length i.padding) more
+    front (held t) (total held (u ∷ ts)) (length (u ∷ ts)) (length (t ∷ u ∷ ts)) (omega arith)
+    (length i.value) (length i.padding) more
     (length rest) (length (item_bytes i ++ rest)) (law.padded i t m.0) p.0.padded
     (items_bound level held more law (j ∷ is) (u ∷ ts) p.1 m.1) e where
-      front : (h d k j : ℕ) → j ≡ 1 + k → (n p more r all : ℕ) → 4 + h ≤ 6 * round_up_to_4 (4 + n) → p ≡ padding_size n
+      front : (h d k j : ℕ) → j ≡ 1 + k → (n p more r all : ℕ) → 4 + h ≤ 6 * round_up_to_4 (4 + n)
+          → p ≡ padding_size n
           → 4 * k + d ≤ 6 * r + more → all ≡ 4 + (n + p) + r
           → 4 * j + (h + d) ≤ 6 * all + more
       front h d k j one n p more r all a b c e = omega (arith, one, a, b, c, e)
@@ -183,7 +193,8 @@ IsBounded held n = (4 + held ≤ 4 + n) ⊎ ((1 ≤ n) × (held ≤ 38))
 abbrev CauseBounded : ℕ → List ℕ → CauseTree → Type 0
 CauseBounded code value t = (cause.row code).means value t → IsBounded (cause_held t) (length value)
 
-broken_abort : (value : List ℕ) (t : CauseTree) → is_utf8 value ≡ false → (cause.row 12).means value t → cause_held t ≤ 38
+broken_abort : (value : List ℕ) (t : CauseTree) → is_utf8 value ≡ false
+    → (cause.row 12).means value t → cause_held t ≤ 38
 unfolding user_abort.read
 broken_abort value t broken m =
     let x = of_map_ok cause.UserInitiatedAbort (user_abort.read value) t m in
@@ -192,7 +203,8 @@ broken_abort value t broken m =
     ap cause_held x.1.1 ∙ ap length (sym is) in
     subst (λ (n : ℕ). n ≤ 38) (sym e) (rw broken (omega arith))
 
-broken_violation : (value : List ℕ) (t : CauseTree) → is_utf8 value ≡ false → (cause.row 13).means value t → cause_held t ≤ 38
+broken_violation : (value : List ℕ) (t : CauseTree) → is_utf8 value ≡ false
+    → (cause.row 13).means value t → cause_held t ≤ 38
 unfolding violation.read
 broken_violation value t broken m =
     let x = of_map_ok cause.ProtocolViolation (violation.read value) t m in
@@ -214,7 +226,8 @@ cause_bounded i t m = by_text (is_utf8 i.value) refl where
       let a = (causes_account.sized i t k m).at_most in let b = cause_fits t in
       inl (omega (arith, a, b))
 
-  by_code : (a b : Bool) → is_utf8 i.value ≡ false → (item_code i == 12) ≡ a → (item_code i == 13) ≡ b
+  by_code : (a b : Bool) → is_utf8 i.value ≡ false → (item_code i == 12) ≡ a
+      → (item_code i == 13) ≡ b
       → IsBounded (cause_held t) (length i.value)
   by_code true b broken p q =
       inr (
@@ -256,7 +269,8 @@ causes_bound = record {
 listed : (held value : ℕ) → held ≤ 6 * value + 12 → 4 + held ≤ 6 * (4 + value)
 listed held value h = omega (arith, h)
 
-abort_bound : (flags : ℕ) (value : List ℕ) (t : ChunkTree) → (chunk_row lenient 6 flags).means value t
+abort_bound : (flags : ℕ) (value : List ℕ) (t : ChunkTree) → (chunk_row lenient 6 flags).means value
+    t
     → 4 + chunk_held t ≤ 6 * (4 + length value)
 abort_bound flags value t m =
     let e : chunk_held t ≡ list_held cause_held m.1.1.0 = ap chunk_held m.2
@@ -265,7 +279,8 @@ abort_bound flags value t m =
     (listed (list_held cause_held m.1.1.0) (length value)
     (list_bound (causes lenient) cause_held 12 causes_bound value m.1.1.0 m.1.1.1))
 
-error_bound : (flags : ℕ) (value : List ℕ) (t : ChunkTree) → (chunk_row lenient 9 flags).means value t
+error_bound : (flags : ℕ) (value : List ℕ) (t : ChunkTree) → (chunk_row lenient 9 flags).means value
+    t
     → 4 + chunk_held t ≤ 6 * (4 + length value)
 error_bound flags value t m =
     let e : chunk_held t ≡ list_held cause_held m.1.1.0 = ap chunk_held m.2
@@ -301,13 +316,15 @@ chunks_bound = record {
 packet_bound : (bytes : List ℕ) (p : PacketTree) → MeansPacket lenient bytes p
     → list_held chunk_held p.meaning.chunks ≤ 6 * (length bytes - 12)
 packet_bound bytes p m =
-    let h = list_bound (chunks lenient) chunk_held 0 chunks_bound (body bytes) p.meaning.chunks m.chunks in
+    let h = list_bound (chunks lenient) chunk_held 0 chunks_bound (body bytes) p.meaning.chunks
+    m.chunks in
     let len = length-drop 12 bytes in
     omega (arith, h, len)
 
 -- ---- where nothing is to spare, what is reserved is what is held
 
-vec_tight : {X Z : Type 0} (v : Vec X Z) → vec_capacity v ≡ vec_len v → vec_capacity v ≡ length v.items
+vec_tight : {X Z : Type 0} (v : Vec X Z) → vec_capacity v ≡ vec_len v
+    → vec_capacity v ≡ length v.items
 vec_tight v e = e ∙ v.ok.0
 
 mapped_tight : {X Y Z : Type 0} (f : X → Y) (v : Vec X Z) → vec_capacity v ≡ vec_len v
@@ -332,11 +349,14 @@ list_is IsSo view reserved held law v tight =
     let b = total_is IsSo view reserved held law v.items tight.1 in
     omega (arith, a, b)
 
-parameter_is : (p : Parameter) → parameter.IsTight p → parameter_reserved p ≡ parameter_held (parameter.view p)
+parameter_is : (p : Parameter) → parameter.IsTight p
+    → parameter_reserved p ≡ parameter_held (parameter.view p)
 parameter_is (parameter_kind.HeartbeatInfo p) h = vec_tight p.info h
 parameter_is (parameter_kind.StateCookie p) h = vec_tight p.cookie h
-parameter_is (parameter_kind.OutgoingSsnResetRequest p) h = ap (λ (n : ℕ). 2 * n) (mapped_tight (λ id. id.0) p.streams h)
-parameter_is (parameter_kind.IncomingSsnResetRequest p) h = ap (λ (n : ℕ). 2 * n) (mapped_tight (λ id. id.0) p.streams h)
+parameter_is (parameter_kind.OutgoingSsnResetRequest p) h =
+    ap (λ (n : ℕ). 2 * n) (mapped_tight (λ id. id.0) p.streams h)
+parameter_is (parameter_kind.IncomingSsnResetRequest p) h =
+    ap (λ (n : ℕ). 2 * n) (mapped_tight (λ id. id.0) p.streams h)
 parameter_is (parameter_kind.SsnTsnResetRequest p) h = refl
 parameter_is (parameter_kind.ReconfigurationResponse p) h = refl
 parameter_is (parameter_kind.AddOutgoingStreamsRequest p) h = refl
@@ -347,7 +367,8 @@ parameter_is (parameter_kind.ForwardTsnSupported p) h = refl
 parameter_is (parameter_kind.Unknown p) h = vec_tight p.value h
 
 cause_is : (c : ErrorCause) → cause.IsTight c → cause_reserved c ≡ cause_held (cause.view c)
-cause_is (cause_kind.MissingMandatoryParameter c) h = ap (λ (n : ℕ). 2 * n) (vec_tight c.missing_parameters h)
+cause_is (cause_kind.MissingMandatoryParameter c) h =
+    ap (λ (n : ℕ). 2 * n) (vec_tight c.missing_parameters h)
 cause_is (cause_kind.UnrecognizedChunk c) h = vec_tight c.chunk h
 cause_is (cause_kind.NoUserData c) h = refl
 cause_is (cause_kind.CookieReceivedWhileShuttingDown c) h = refl
@@ -357,37 +378,48 @@ cause_is (cause_kind.Unknown c) h = vec_tight c.value h
 
 chunk_is : (c : Chunk) → IsTight c → chunk_reserved c ≡ chunk_held (view c)
 chunk_is (variant.Data c) h = vec_tight c.user_data.payload h
-chunk_is (variant.Init c) h = list_is parameter.IsTight parameter.view parameter_reserved parameter_held parameter_is c.parameters h
-chunk_is (variant.InitAck c) h = list_is parameter.IsTight parameter.view parameter_reserved parameter_held parameter_is c.parameters h
+chunk_is (variant.Init c) h = list_is parameter.IsTight parameter.view parameter_reserved
+    parameter_held parameter_is c.parameters h
+chunk_is (variant.InitAck c) h = list_is parameter.IsTight parameter.view parameter_reserved
+    parameter_held parameter_is c.parameters h
 chunk_is (variant.Sack c) h =
     let a = vec_tight c.gap_ack_blocks h.0 in
     let b = mapped_tight (λ tsn. tsn.0) c.duplicate_tsns h.1 in
     omega (arith, a, b)
-chunk_is (variant.HeartbeatRequest c) h = list_is parameter.IsTight parameter.view parameter_reserved parameter_held parameter_is c.parameters h
-chunk_is (variant.HeartbeatAck c) h = list_is parameter.IsTight parameter.view parameter_reserved parameter_held parameter_is c.parameters h
-chunk_is (variant.Abort c) h = list_is cause.IsTight cause.view cause_reserved cause_held cause_is c.error_causes h
+chunk_is (variant.HeartbeatRequest c) h = list_is parameter.IsTight parameter.view
+    parameter_reserved parameter_held parameter_is c.parameters h
+chunk_is (variant.HeartbeatAck c) h = list_is parameter.IsTight parameter.view parameter_reserved
+    parameter_held parameter_is c.parameters h
+chunk_is (variant.Abort c) h =
+    list_is cause.IsTight cause.view cause_reserved cause_held cause_is c.error_causes h
 chunk_is (variant.Shutdown c) h = refl
 chunk_is (variant.ShutdownAck c) h = refl
-chunk_is (variant.Error c) h = list_is cause.IsTight cause.view cause_reserved cause_held cause_is c.error_causes h
+chunk_is (variant.Error c) h =
+    list_is cause.IsTight cause.view cause_reserved cause_held cause_is c.error_causes h
 chunk_is (variant.CookieEcho c) h = vec_tight c.cookie h
 chunk_is (variant.CookieAck c) h = refl
 chunk_is (variant.ShutdownComplete c) h = refl
 chunk_is (variant.IData c) h = vec_tight c.user_data.payload h
-chunk_is (variant.ReConfig c) h = list_is parameter.IsTight parameter.view parameter_reserved parameter_held parameter_is c.parameters h
+chunk_is (variant.ReConfig c) h = list_is parameter.IsTight parameter.view parameter_reserved
+    parameter_held parameter_is c.parameters h
 chunk_is (variant.ForwardTsn c) h = ap (λ (n : ℕ). 4 * n) (mapped_tight _ c.skipped_streams h)
 chunk_is (variant.IForwardTsn c) h = ap (λ (n : ℕ). 8 * n) (mapped_tight _ c.skipped_streams h)
 chunk_is (variant.Unknown c) h = vec_tight c.value h
 
-reserved_is : (p : SctpPacket) → vec_capacity p.chunks ≡ vec_len p.chunks → All IsTight p.chunks.items
+reserved_is : (p : SctpPacket) → vec_capacity p.chunks ≡ vec_len p.chunks
+    → All IsTight p.chunks.items
     → reserved_bytes p ≡ list_held chunk_held (views p.chunks.items)
-reserved_is p reserved tight = list_is IsTight view chunk_reserved chunk_held chunk_is p.chunks (reserved, tight)
+reserved_is p reserved tight =
+    list_is IsTight view chunk_reserved chunk_held chunk_is p.chunks (reserved, tight)
 
-pub read_bound : (bytes : List ℕ) (word : ℕ) (policy : ChecksumPolicy) (result : Result SctpPacket PacketParseError)
+pub read_bound : (bytes : List ℕ) (word : ℕ) (policy : ChecksumPolicy)
+    (result : Result SctpPacket PacketParseError)
     → Answers packet_reading packet_view (Answer bytes word policy) result
     → IfOk result (λ p. vec_capacity p.chunks ≡ vec_len p.chunks)
     → IfOk result (λ p. All IsTight p.chunks.items)
     → IfOk result (λ p. reserved_bytes p ≤ 6 * (length bytes - 12))
 read_bound bytes word policy (Ok p) reads reserved tight =
     subst (λ (n : ℕ). n ≤ 6 * (length bytes - 12)) (sym (reserved_is p reserved tight))
-    (reads_only (λ p. list_held chunk_held p.meaning.chunks ≤ 6 * (length bytes - 12)) bytes word policy (Ok p) (λ p size m. packet_bound bytes p m) reads)
+    (reads_only (λ p. list_held chunk_held p.meaning.chunks ≤ 6 * (length bytes - 12)) bytes word
+    policy (Ok p) (λ p size m. packet_bound bytes p m) reads)
 read_bound bytes word policy (Err e) reads reserved tight = tt

@@ -96,10 +96,12 @@ abbrev ◌&◌ : {A B : Type 2} → A → B → A × B
 a & b = (a, b)
 
 infixr 20 ◌&◌
-abbrev fields : (T : struct.Declared) → Knowns (struct.shape T).fields → Known (Struct (struct.shape T))
+abbrev fields : (T : struct.Declared) → Knowns (struct.shape T).fields
+    → Known (Struct (struct.shape T))
 fields T ks = struct_known (struct.shape T) ks
 
-abbrev variants : (T : enum.Declared) → Knownss (enum.shape T).variants → Known (Enum (enum.shape T))
+abbrev variants : (T : enum.Declared) → Knownss (enum.shape T).variants
+    → Known (Enum (enum.shape T))
 variants T kss = enum_known (enum.shape T) kss
 
 abbrev vec : {R : RattleType} → Known R → Known (Vec.the_row R Global.the_row TheImpl.ghosts)
@@ -115,13 +117,17 @@ bytes_width (x ∷ xs) h zero = h 0 0 (omega arith)
 bytes_width (x ∷ xs) h (suc i) = bytes_width xs (λ j d lt. h (suc j) d (omega (arith, lt))) i
 
 -- what each element says gives P of each element, or of each view
-every : {X : Type 0} (K P : X → Type 0) → ((x : X) → K x → P x) → (xs : List X) → All K xs → AllByRecursion P xs
+every : {X : Type 0} (K P : X → Type 0) → ((x : X) → K x → P x) → (xs : List X) → All K xs
+    → AllByRecursion P xs
 every K P f [] h = tt
-every K P f (x ∷ xs) h = (f x (h 0 x (omega arith)), every K P f xs (λ i d lt. h (suc i) d (omega (arith, lt))))
+every K P f (x ∷ xs) h =
+    (f x (h 0 x (omega arith)), every K P f xs (λ i d lt. h (suc i) d (omega (arith, lt))))
 
-each : {X Y : Type 0} (K : X → Type 0) (P : Y → Type 0) (v : X → Y) → ((x : X) → K x → P (v x)) → (xs : List X) → All K xs → AllByRecursion P (map v xs)
+each : {X Y : Type 0} (K : X → Type 0) (P : Y → Type 0) (v : X → Y) → ((x : X) → K x → P (v x))
+    → (xs : List X) → All K xs → AllByRecursion P (map v xs)
 each K P v f [] h = tt
-each K P v f (x ∷ xs) h = (f x (h 0 x (omega arith)), each K P v f xs (λ i d lt. h (suc i) d (omega (arith, lt))))
+each K P v f (x ∷ xs) h =
+    (f x (h 0 x (omega arith)), each K P v f xs (λ i d lt. h (suc i) d (omega (arith, lt))))
 
 -- ---- numbers
 abbrev tsn : Known (Struct (struct.shape Tsn.the_type))
@@ -130,13 +136,16 @@ tsn = fields Tsn.the_type (uint_known w32 & tt)
 abbrev tsn_item : Known Tsn.the_row
 tsn_item = declared_known Tsn.the_type (uint_known w32 & tt)
 
-tsns_width : (ts : List (Tsn.the_row).Denot) → All tsn_item.Fact ts → AllByRecursion (λ n. n < 2 ^ 32) (duplicate_numbers ts)
+tsns_width : (ts : List (Tsn.the_row).Denot) → All tsn_item.Fact ts
+    → AllByRecursion (λ n. n < 2 ^ 32) (duplicate_numbers ts)
 tsns_width ts f = each tsn_item.Fact (λ n. n < 2 ^ 32) (λ t. t.0) (λ t w. w.0) ts f
 
 abbrev optional_tsn : Known (Enum (enum.shape (option.the_type Tsn.the_row)))
 optional_tsn = variants (option.the_type Tsn.the_row) (tt & one tsn_item & tt)
 
-optional_tsn_width : (t : Option (Tsn.the_row).Denot) → optional_tsn.Fact ((option.the_type Tsn.the_row).to t) → IfSome (tsn_number t) (λ n. n < 2 ^ 32)
+optional_tsn_width : (t : Option (Tsn.the_row).Denot)
+    → optional_tsn.Fact ((option.the_type Tsn.the_row).to t)
+    → IfSome (tsn_number t) (λ n. n < 2 ^ 32)
 optional_tsn_width (Some t) f = f.0.0
 optional_tsn_width None f = tt
 
@@ -146,8 +155,10 @@ stream_id = fields StreamId.the_type (uint_known w16 & tt)
 abbrev stream_id_item : Known StreamId.the_row
 stream_id_item = declared_known StreamId.the_type (uint_known w16 & tt)
 
-stream_ids_width : (ids : List (StreamId.the_row).Denot) → All stream_id_item.Fact ids → AllByRecursion (λ id. id < 2 ^ 16) (stream_numbers ids)
-stream_ids_width ids f = each stream_id_item.Fact (λ id. id < 2 ^ 16) (λ id. id.0) (λ id w. w.0) ids f
+stream_ids_width : (ids : List (StreamId.the_row).Denot) → All stream_id_item.Fact ids
+    → AllByRecursion (λ id. id < 2 ^ 16) (stream_numbers ids)
+stream_ids_width ids f =
+    each stream_id_item.Fact (λ id. id < 2 ^ 16) (λ id. id.0) (λ id w. w.0) ids f
 
 abbrev ssn : Known (Struct (struct.shape Ssn.the_type))
 ssn = fields Ssn.the_type (uint_known w16 & tt)
@@ -158,7 +169,8 @@ mid = fields Mid.the_type (uint_known w32 & tt)
 abbrev stream_key : Known (Enum (enum.shape StreamKey.the_type))
 stream_key = variants StreamKey.the_type (one stream_id & one stream_id & tt)
 
-stream_width : (k : (StreamKey.the_row).Denot) → stream_key.Fact ((StreamKey.the_type).to k) → (stream_of k).0 < 2 ^ 16
+stream_width : (k : (StreamKey.the_row).Denot) → stream_key.Fact ((StreamKey.the_type).to k)
+    → (stream_of k).0 < 2 ^ 16
 stream_width (keys.Ordered id) f = f.0.0
 stream_width (keys.Unordered id) f = f.0.0
 
@@ -166,33 +178,56 @@ stream_width (keys.Unordered id) f = f.0.0
 abbrev unknown_parameter : Known (Struct (struct.shape UnknownParameter.the_type))
 unknown_parameter = fields UnknownParameter.the_type (uint_known w16 & bytes & tt)
 
-unknown_parameter_width : (u : (UnknownParameter.the_row).Denot) → unknown_parameter.Fact ((UnknownParameter.the_type).to u) → IsUnknownParameterInWidth (unknown_parameter_view u)
+unknown_parameter_width : (u : (UnknownParameter.the_row).Denot)
+    → unknown_parameter.Fact ((UnknownParameter.the_type).to u)
+    → IsUnknownParameterInWidth (unknown_parameter_view u)
 unknown_parameter_width u f = record { typ = f.0; value = bytes_width u.value.items f.1.0 }
 
 abbrev parameter : Known Parameter.the_row
 parameter = declared_enum_known Parameter.the_type (
     one (fields HeartbeatInfoParameter.the_type (bytes & tt)) &
     one (fields StateCookieParameter.the_type (bytes & tt)) &
-    one (fields OutgoingSsnResetRequestParameter.the_type (uint_known w32 & uint_known w32 & tsn & vec stream_id_item & tt)) &
-    one (fields IncomingSsnResetRequestParameter.the_type (uint_known w32 & vec stream_id_item & tt)) &
+    one (fields OutgoingSsnResetRequestParameter.the_type (uint_known w32 & uint_known w32 & tsn
+    & vec stream_id_item & tt)) &
+    one (fields IncomingSsnResetRequestParameter.the_type (uint_known w32 & vec stream_id_item
+    & tt)) &
     one (fields SsnTsnResetRequestParameter.the_type (uint_known w32 & tt)) &
-    one (fields ReconfigurationResponseParameter.the_type (uint_known w32 & nothing_known _ & optional_tsn & optional_tsn & tt)) &
-    one (fields AddOutgoingStreamsRequestParameter.the_type (uint_known w32 & uint_known w16 & tt)) &
-    one (fields AddIncomingStreamsRequestParameter.the_type (uint_known w32 & uint_known w16 & tt)) &
+    one (fields ReconfigurationResponseParameter.the_type (uint_known w32 & nothing_known _
+    & optional_tsn & optional_tsn & tt)) &
+    one (fields AddOutgoingStreamsRequestParameter.the_type (uint_known w32 & uint_known w16 & tt))
+    &
+    one (fields AddIncomingStreamsRequestParameter.the_type (uint_known w32 & uint_known w16 & tt))
+    &
     one (fields SupportedExtensionsParameter.the_type (bytes & tt)) &
     one (nothing_known _) &
-    one (fields ZeroChecksumAcceptableParameter.the_type (fields Method.the_type (uint_known w32 & tt) & tt)) &
+    one (fields ZeroChecksumAcceptableParameter.the_type
+    (fields Method.the_type (uint_known w32 & tt) & tt)) &
     one unknown_parameter & tt)
 
-parameter_width : (p : (Parameter.the_row).Denot) → parameter.Fact p → IsParameterInWidth (parameters.view p)
+parameter_width : (p : (Parameter.the_row).Denot) → parameter.Fact p
+    → IsParameterInWidth (parameters.view p)
 parameter_width (parameter_kinds.HeartbeatInfo p) f = bytes_width p.info.items f.0.0
 parameter_width (parameter_kinds.StateCookie p) f = bytes_width p.cookie.items f.0.0
-parameter_width (parameter_kinds.OutgoingSsnResetRequest p) f = record { request = f.0.0; response = f.0.1.0; last_tsn = f.0.1.1.0.0; streams = stream_ids_width p.streams.items f.0.1.1.1.0 }
-parameter_width (parameter_kinds.IncomingSsnResetRequest p) f = record { request = f.0.0; streams = stream_ids_width p.streams.items f.0.1.0 }
+parameter_width (parameter_kinds.OutgoingSsnResetRequest p) f = record {
+  request = f.0.0;
+  response = f.0.1.0;
+  last_tsn = f.0.1.1.0.0;
+  streams =
+      stream_ids_width p.streams.items f.0.1.1.1.0;
+}
+parameter_width (parameter_kinds.IncomingSsnResetRequest p) f =
+    record { request = f.0.0; streams = stream_ids_width p.streams.items f.0.1.0 }
 parameter_width (parameter_kinds.SsnTsnResetRequest p) f = f.0.0
-parameter_width (parameter_kinds.ReconfigurationResponse p) f = record { response = f.0.0; sender_next_tsn = optional_tsn_width p.sender_next_tsn f.0.1.1.0; receiver_next_tsn = optional_tsn_width p.receiver_next_tsn f.0.1.1.1.0 }
-parameter_width (parameter_kinds.AddOutgoingStreamsRequest p) f = record { request = f.0.0; new_streams = f.0.1.0 }
-parameter_width (parameter_kinds.AddIncomingStreamsRequest p) f = record { request = f.0.0; new_streams = f.0.1.0 }
+parameter_width (parameter_kinds.ReconfigurationResponse p) f = record {
+  response = f.0.0;
+  sender_next_tsn = optional_tsn_width p.sender_next_tsn f.0.1.1.0;
+  receiver_next_tsn =
+      optional_tsn_width p.receiver_next_tsn f.0.1.1.1.0;
+}
+parameter_width (parameter_kinds.AddOutgoingStreamsRequest p) f =
+    record { request = f.0.0; new_streams = f.0.1.0 }
+parameter_width (parameter_kinds.AddIncomingStreamsRequest p) f =
+    record { request = f.0.0; new_streams = f.0.1.0 }
 parameter_width (parameter_kinds.SupportedExtensions p) f = bytes_width p.chunk_types.items f.0.0
 parameter_width (parameter_kinds.ForwardTsnSupported p) f = tt
 parameter_width (parameter_kinds.ZeroChecksumAcceptable p) f = f.0.0.0
@@ -201,14 +236,16 @@ parameter_width (parameter_kinds.Unknown u) f = unknown_parameter_width u f.0
 abbrev parameter_list : Known (Vec.the_row Parameter.the_row Global.the_row TheImpl.ghosts)
 parameter_list = vec parameter
 
-parameters_width : (ps : List (Parameter.the_row).Denot) → All parameter.Fact ps → AllByRecursion IsParameterInWidth (parameters.views ps)
+parameters_width : (ps : List (Parameter.the_row).Denot) → All parameter.Fact ps
+    → AllByRecursion IsParameterInWidth (parameters.views ps)
 parameters_width ps f = each parameter.Fact IsParameterInWidth parameters.view parameter_width ps f
 
 -- ---- error causes
 abbrev text : Known (Struct (struct.shape (String.the_type Global.the_row TheImpl.ghosts)))
 text = fields (String.the_type Global.the_row TheImpl.ghosts) (bytes & tt)
 
-text_width : (s : (String.the_row Global.the_row TheImpl.ghosts).Denot) → text.Fact ((String.the_type Global.the_row TheImpl.ghosts).to s) → IsText (string_bytes s)
+text_width : (s : (String.the_row Global.the_row TheImpl.ghosts).Denot)
+    → text.Fact ((String.the_type Global.the_row TheImpl.ghosts).to s) → IsText (string_bytes s)
 text_width s f = record { fits = bytes_width (string_bytes s) f.0; utf8 = IsUtf8-string_bytes s }
 
 abbrev error_cause : Known ErrorCause.the_row
@@ -221,37 +258,46 @@ error_cause = declared_enum_known ErrorCause.the_type (
     one (fields MissingMandatoryParameterErrorCause.the_type (vec (uint_known w16) & tt)) &
     one unknown_parameter & tt)
 
-error_cause_width : (c : (ErrorCause.the_row).Denot) → error_cause.Fact c → IsCauseInWidth (causes.view c)
+error_cause_width : (c : (ErrorCause.the_row).Denot) → error_cause.Fact c
+    → IsCauseInWidth (causes.view c)
 error_cause_width (cause_kinds.UnrecognizedChunk c) f = bytes_width c.chunk.items f.0.0
 error_cause_width (cause_kinds.NoUserData c) f = f.0.0.0
 error_cause_width (cause_kinds.CookieReceivedWhileShuttingDown c) f = tt
 error_cause_width (cause_kinds.UserInitiatedAbort c) f = text_width c.reason f.0.0
 error_cause_width (cause_kinds.ProtocolViolation c) f = text_width c.information f.0.0
-error_cause_width (cause_kinds.MissingMandatoryParameter c) f = every _ _ (λ typ w. w) c.missing_parameters.items f.0.0
+error_cause_width (cause_kinds.MissingMandatoryParameter c) f =
+    every _ _ (λ typ w. w) c.missing_parameters.items f.0.0
 error_cause_width (cause_kinds.Unknown u) f = unknown_parameter_width u f.0
 
 abbrev error_causes : Known (Vec.the_row ErrorCause.the_row Global.the_row TheImpl.ghosts)
 error_causes = vec error_cause
 
-error_causes_width : (cs : List (ErrorCause.the_row).Denot) → All error_cause.Fact cs → AllByRecursion IsCauseInWidth (causes.views cs)
+error_causes_width : (cs : List (ErrorCause.the_row).Denot) → All error_cause.Fact cs
+    → AllByRecursion IsCauseInWidth (causes.views cs)
 error_causes_width cs f = each error_cause.Fact IsCauseInWidth causes.view error_cause_width cs f
 
 -- ---- chunks
 abbrev user_data : Known (Struct (struct.shape Data.the_type))
-user_data = fields Data.the_type (bytes & mid & fields Fsn.the_type (uint_known w32 & tt) & fields PpId.the_type (uint_known w32 & tt) & stream_key & ssn & nothing_known _ & nothing_known _ & tt)
+user_data = fields Data.the_type (bytes & mid & fields Fsn.the_type (uint_known w32 & tt)
+    & fields PpId.the_type (uint_known w32 & tt) & stream_key & ssn & nothing_known _
+    & nothing_known _ & tt)
 
 abbrev skipped_stream : Known SkippedStream.the_row
-skipped_stream = declared_enum_known SkippedStream.the_type ((stream_id & ssn & tt) & (stream_key & mid & tt) & tt)
+skipped_stream = declared_enum_known SkippedStream.the_type ((stream_id & ssn & tt)
+    & (stream_key & mid & tt) & tt)
 
-skipped_stream_width : (s : (SkippedStream.the_row).Denot) → skipped_stream.Fact s → IsSkippedStreamInWidth (skipped_stream_view s)
+skipped_stream_width : (s : (SkippedStream.the_row).Denot) → skipped_stream.Fact s
+    → IsSkippedStreamInWidth (skipped_stream_view s)
 skipped_stream_width (skipped.ForwardTsn id n) f = (f.0.0, f.1.0.0)
 skipped_stream_width (skipped.IForwardTsn key n) f = (stream_width key f.0, f.1.0.0)
 
 abbrev skipped_streams : Known (Vec.the_row SkippedStream.the_row Global.the_row TheImpl.ghosts)
 skipped_streams = vec skipped_stream
 
-skipped_streams_width : (ss : List (SkippedStream.the_row).Denot) → All skipped_stream.Fact ss → AllByRecursion IsSkippedStreamInWidth (skipped_stream_views ss)
-skipped_streams_width ss f = each skipped_stream.Fact IsSkippedStreamInWidth skipped_stream_view skipped_stream_width ss f
+skipped_streams_width : (ss : List (SkippedStream.the_row).Denot) → All skipped_stream.Fact ss
+    → AllByRecursion IsSkippedStreamInWidth (skipped_stream_views ss)
+skipped_streams_width ss f =
+    each skipped_stream.Fact IsSkippedStreamInWidth skipped_stream_view skipped_stream_width ss f
 
 abbrev block : Known GapAckBlock.the_row
 block = declared_known GapAckBlock.the_type (uint_known w16 & uint_known w16 & tt)
@@ -259,8 +305,10 @@ block = declared_known GapAckBlock.the_type (uint_known w16 & uint_known w16 & t
 abbrev pub chunk : Known Chunk.the_row
 chunk = declared_enum_known Chunk.the_type (
     one (fields DataChunk.the_type (user_data & tsn & nothing_known _ & tt)) &
-    one (fields InitChunk.the_type (uint_known w32 & uint_known w32 & uint_known w16 & uint_known w16 & tsn & parameter_list & tt)) &
-    one (fields InitAckChunk.the_type (uint_known w32 & uint_known w32 & uint_known w16 & uint_known w16 & tsn & parameter_list & tt)) &
+    one (fields InitChunk.the_type (uint_known w32 & uint_known w32 & uint_known w16
+    & uint_known w16 & tsn & parameter_list & tt)) &
+    one (fields InitAckChunk.the_type (uint_known w32 & uint_known w32 & uint_known w16
+    & uint_known w16 & tsn & parameter_list & tt)) &
     one (fields SackChunk.the_type (tsn & uint_known w32 & vec block & vec tsn_item & tt)) &
     one (fields HeartbeatRequestChunk.the_type (parameter_list & tt)) &
     one (fields HeartbeatAckChunk.the_type (parameter_list & tt)) &
@@ -277,14 +325,48 @@ chunk = declared_enum_known Chunk.the_type (
     one (fields IForwardTsnChunk.the_type (tsn & skipped_streams & tt)) &
     one (fields UnknownChunk.the_type (uint_known w8 & uint_known w8 & bytes & tt)) & tt)
 
-user_data_width : (n : ℕ) → n < 2 ^ 32 → (d : (Data.the_row).Denot) (at_once : Bool) → user_data.Fact ((Data.the_type).to d) → IsUserDataInWidth (record { tsn = n; user_data = user_data_view d; immediate_ack = at_once })
-user_data_width n low d at_once f = record { tsn = low; stream = stream_width d.stream_key f.1.1.1.1.0; ssn = f.1.1.1.1.1.0.0; mid = f.1.0.0; fsn = f.1.1.0.0; ppid = f.1.1.1.0.0; payload = bytes_width d.payload.items f.0 }
+user_data_width : (n : ℕ) → n < 2 ^ 32 → (d : (Data.the_row).Denot) (at_once : Bool)
+    → user_data.Fact ((Data.the_type).to d)
+    → IsUserDataInWidth (record { tsn = n; user_data = user_data_view d; immediate_ack = at_once })
+user_data_width n low d at_once f = record {
+  tsn = low;
+  stream = stream_width d.stream_key
+      f.1.1.1.1.0;
+  ssn = f.1.1.1.1.1.0.0;
+  mid = f.1.0.0;
+  fsn = f.1.1.0.0;
+  ppid =
+      f.1.1.1.0.0;
+  payload = bytes_width d.payload.items f.0;
+}
 
 pub chunk_width : (c : (Chunk.the_row).Denot) → chunk.Fact c → IsChunkInWidth (view c)
 chunk_width (kinds.Data c) f = user_data_width c.tsn.0 f.0.1.0.0 c.user_data c.immediate_ack f.0.0
-chunk_width (kinds.Init c) f = record { tag = f.0.0; window = f.0.1.0; outbound = f.0.1.1.0; inbound = f.0.1.1.1.0; tsn = f.0.1.1.1.1.0.0; each = parameters_width c.parameters.items f.0.1.1.1.1.1.0 }
-chunk_width (kinds.InitAck c) f = record { tag = f.0.0; window = f.0.1.0; outbound = f.0.1.1.0; inbound = f.0.1.1.1.0; tsn = f.0.1.1.1.1.0.0; each = parameters_width c.parameters.items f.0.1.1.1.1.1.0 }
-chunk_width (kinds.Sack c) f = record { tsn = f.0.0.0; a_rwnd = f.0.1.0; blocks = every block.Fact IsBlockInWidth (λ b w. record { start = w.0; end = w.1.0 }) c.gap_ack_blocks.items f.0.1.1.0; duplicates = tsns_width c.duplicate_tsns.items f.0.1.1.1.0 }
+chunk_width (kinds.Init c) f = record {
+  tag = f.0.0;
+  window = f.0.1.0;
+  outbound = f.0.1.1.0;
+  inbound = f.0.1.1.1.0;
+  tsn = f.0.1.1.1.1.0.0;
+  each =
+      parameters_width c.parameters.items f.0.1.1.1.1.1.0;
+}
+chunk_width (kinds.InitAck c) f = record {
+  tag = f.0.0;
+  window = f.0.1.0;
+  outbound = f.0.1.1.0;
+  inbound = f.0.1.1.1.0;
+  tsn = f.0.1.1.1.1.0.0;
+  each =
+      parameters_width c.parameters.items f.0.1.1.1.1.1.0;
+}
+chunk_width (kinds.Sack c) f = record {
+  tsn = f.0.0.0;
+  a_rwnd = f.0.1.0;
+  blocks = every block.Fact IsBlockInWidth (λ b w. record { start = w.0; end = w.1.0 })
+      c.gap_ack_blocks.items f.0.1.1.0;
+  duplicates = tsns_width c.duplicate_tsns.items f.0.1.1.1.0;
+}
 chunk_width (kinds.HeartbeatRequest c) f = parameters_width c.parameters.items f.0.0
 chunk_width (kinds.HeartbeatAck c) f = parameters_width c.parameters.items f.0.0
 chunk_width (kinds.Abort c) f = error_causes_width c.error_causes.items f.0.1.0
@@ -295,14 +377,22 @@ chunk_width (kinds.CookieEcho c) f = bytes_width c.cookie.items f.0.0
 chunk_width (kinds.CookieAck c) f = tt
 chunk_width (kinds.ShutdownComplete c) f = tt
 chunk_width (kinds.ReConfig c) f = parameters_width c.parameters.items f.0.0
-chunk_width (kinds.ForwardTsn c) f = record { tsn = f.0.0.0; streams = skipped_streams_width c.skipped_streams.items f.0.1.0 }
+chunk_width (kinds.ForwardTsn c) f =
+    record { tsn = f.0.0.0; streams = skipped_streams_width c.skipped_streams.items f.0.1.0 }
 chunk_width (kinds.IData c) f = user_data_width c.tsn.0 f.0.1.0.0 c.user_data c.immediate_ack f.0.0
-chunk_width (kinds.IForwardTsn c) f = record { tsn = f.0.0.0; streams = skipped_streams_width c.skipped_streams.items f.0.1.0 }
+chunk_width (kinds.IForwardTsn c) f =
+    record { tsn = f.0.0.0; streams = skipped_streams_width c.skipped_streams.items f.0.1.0 }
 chunk_width (kinds.Unknown c) f = (f.0.0, f.0.1.0, bytes_width c.value.items f.0.1.1.0)
 
 -- ---- the packet
 abbrev pub packet : Known SctpPacket.the_row
-packet = declared_known SctpPacket.the_type (vec chunk & fields CommonHeader.the_type (uint_known w16 & uint_known w16 & uint_known w32 & uint_known w32 & tt) & tt)
+packet = declared_known SctpPacket.the_type (vec chunk & fields CommonHeader.the_type
+    (uint_known w16 & uint_known w16 & uint_known w32 & uint_known w32 & tt) & tt)
 
 pub packet_width : (p : (SctpPacket.the_row).Denot) → packet.Fact p → IsInWidth (meaning_view p)
-packet_width p f = record { source = f.1.0.0; destination = f.1.0.1.0; tag = f.1.0.1.1.0; each = each chunk.Fact IsChunkInWidth view chunk_width p.chunks.items f.0 }
+packet_width p f = record {
+  source = f.1.0.0;
+  destination = f.1.0.1.0;
+  tag = f.1.0.1.1.0;
+  each = each chunk.Fact IsChunkInWidth view chunk_width p.chunks.items f.0;
+}

@@ -1,5 +1,6 @@
--- What contracts of callers speak of, in one place: a caller's file begins with a `ghost use` line of
--- this module, beside that of `Rattle.std.specs.Prelude` for operators, numbers, lists and results.
+-- What contracts of callers speak of, in one place: a caller's file begins with a `ghost use` line
+-- of this module, beside that of `Rattle.std.specs.Prelude` for operators, numbers, lists and
+-- results.
 use Rattle.std.specs.Prelude.{Option, Some, None}
 -- packets as plain data, and what the grammar answers
 pub use Rattle.dcsctp_wire.specs.Packet.{Meaning, PacketTree, PacketFault, Answer, IsPacket, IsAccepted}

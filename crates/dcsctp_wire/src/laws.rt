@@ -96,8 +96,9 @@ pub fn strict_is_lenient()
         → Answer bytes word (record policy { strict_padding = false }) (Ok p) }
 {}
 
-/// A chunk, a parameter or an error cause is written as just `serialized_size` bytes, wherever it can
-/// be written; so is a caller's own type. `serialize_to` leaves the bytes after them as they were.
+/// A chunk, a parameter or an error cause is written as just `serialized_size` bytes, wherever it
+/// can be written; so is a caller's own type. `serialize_to` leaves the bytes after them as they
+/// were.
 pub fn image_size<T: SerializableTlv>()
     ensures size { (item : T) → length (image_of (T.format item).tlv) ≡ size_of (T.format item).tlv }
     ensures after { (item : T) (output : List ℕ)
@@ -115,8 +116,8 @@ pub fn init_size()
 {}
 
 /// Two values are equal exactly where they are the same: errors, first faults, results, gap ack
-/// blocks and skipped streams; and causes of missing parameters exactly where they name the same ones.
-/// (`types::equality` has the serial numbers, ids, keys, times and methods.)
+/// blocks and skipped streams; and causes of missing parameters exactly where they name the same
+/// ones. (`types::equality` has the serial numbers, ids, keys, times and methods.)
 pub fn equality()
     ensures packet_errors { TellsSame ⟦<PacketParseError as PartialEq>⟧.eq }
     ensures first_faults { TellsSame ⟦<FirstFault as PartialEq>⟧.eq }
@@ -137,9 +138,9 @@ pub fn clones()
     ensures policies { IsItself ⟦<ChecksumPolicy as Clone>⟧.is_clone }
 {}
 
-/// The types of chunks and parameters, the codes of error causes, the sizes of headers, the most bytes
-/// of a value, and the policy that accepts every checksum.
-/// (`types::methods` has the methods of error detection.)
+/// The types of chunks and parameters, the codes of error causes, the sizes of headers, the most
+/// bytes of a value, and the policy that accepts every checksum. (`types::methods` has the methods
+/// of error detection.)
 pub fn constants()
     ensures data { DATA ≡ 0 }
     ensures init { INIT ≡ 1 }

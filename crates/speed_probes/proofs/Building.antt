@@ -13,7 +13,8 @@ pub record IsFor (m : Meaning) (b : BuilderState) : Type 0 where
   pub same : (cs : List ChunkTree) → meaning_with b cs ≡ record m { chunks = cs }
   pub switch : b.writes_checksum ≡ false
 
-pub stays-for : (m : Meaning) (b next : BuilderState) → next ≡ record b { bytes = next.bytes; reserved = next.reserved }
+pub stays-for : (m : Meaning) (b next : BuilderState)
+    → next ≡ record b { bytes = next.bytes; reserved = next.reserved }
     → IsFor m b → IsFor m next
 stays-for m b next e h = record {
   same = λ cs. ap (λ (s : BuilderState). meaning_with s cs) e ∙ h.same cs;

@@ -16,19 +16,30 @@ plus-plus n a b =
     let same : n + a + b ≡ n + (a + b) = omega arith in
     mod-add-mod (n + a) (2 ^ 64) b ∙ ap (λ k. k % 2 ^ 64) same
 
-pub nothing_gathered : (n : ℕ) (all : List GapAckBlock) → n < 2 ^ 64 → length all < 2 ^ 16 → IsGathered n 0 0 all all
+pub nothing_gathered : (n : ℕ) (all : List GapAckBlock) → n < 2 ^ 64 → length all < 2 ^ 16
+    → IsGathered n 0 0 all all
 nothing_gathered n all small few =
-    let same : plus n (0 + 0) ≡ n = (let none : n + (0 + 0) ≡ n = omega arith in ap (λ k. k % 2 ^ 64) none) ∙ mod-eq_of_lt small in
-    record { sum = ap (λ k. with_blocks k all) same; starts_room = omega (arith, few); ends_room = omega (arith, few) }
+    let same : plus n (0 + 0) ≡ n = (let none : n + (0 + 0) ≡ n = omega arith in
+    ap (λ k. k % 2 ^ 64) none) ∙ mod-eq_of_lt small in
+    record {
+      sum = ap (λ k. with_blocks k all) same;
+      starts_room = omega (arith, few);
+      ends_room = omega (arith, few);
+    }
 
-pub one_gathered : (n starts ends : ℕ) (block : GapAckBlock) (left all : List GapAckBlock) → block.start < 2 ^ 16 → block.end < 2 ^ 16
-    → IsGathered n starts ends (block ∷ left) all → IsGathered n (starts + block.start) (ends + block.end) left all
+pub one_gathered : (n starts ends : ℕ) (block : GapAckBlock) (left all : List GapAckBlock)
+    → block.start < 2 ^ 16 → block.end < 2 ^ 16
+    → IsGathered n starts ends (block ∷ left) all
+    → IsGathered n (starts + block.start) (ends + block.end) left all
 one_gathered n starts ends block left all start end h =
     let start_room = h.starts_room in
     let end_room = h.ends_room in
-    let same : (starts + block.start) + (ends + block.end) ≡ (starts + ends) + (block.start + block.end) = omega arith in
+    let same : (starts + block.start) + (ends + block.end) ≡ (starts + ends)
+    + (block.start + block.end) = omega arith in
     record {
-      sum = ap (λ k. with_blocks (plus n k) left) same ∙ sym (ap (λ k. with_blocks k left) (plus-plus n (starts + ends) (block.start + block.end))) ∙ h.sum;
+      sum = ap (λ k. with_blocks (plus n k) left) same
+          ∙ sym (ap (λ k. with_blocks k left) (plus-plus n (starts + ends) (block.start
+          + block.end))) ∙ h.sum;
       starts_room = omega (arith, start_room, start);
       ends_room = omega (arith, end_room, end);
     }

@@ -17,7 +17,8 @@ bit b = if b then 1 else 0
 abbrev pub with_data : ℕ → data_kind.Tree → ℕ
 with_data n c =
     let d = c.user_data in
-    plus (plus n (c.tsn + d.stream + d.ssn + d.mid + d.fsn + d.ppid + bit d.unordered + bit d.beginning + bit d.ending + bit c.immediate_ack)) (length d.payload)
+    plus (plus n (c.tsn + d.stream + d.ssn + d.mid + d.fsn + d.ppid + bit d.unordered
+    + bit d.beginning + bit d.ending + bit c.immediate_ack)) (length d.payload)
 
 abbrev pub with_blocks : ℕ → List GapAckBlock → ℕ
 with_blocks n [] = n

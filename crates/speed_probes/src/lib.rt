@@ -78,8 +78,8 @@ pub extern "C" fn speed_probes_read_and_write(alloc: Global, bytes: &[u8]) -> us
 }
 
 /// Reads a packet and writes the canonical one over the front of `output`, with no memory for the
-/// writing: the number of its bytes; 0 where there is none, or no room, or memory runs out, and then
-/// nothing is written. The bytes after the packet stay.
+/// writing: the number of its bytes; 0 where there is none, or no room, or memory runs out, and
+/// then nothing is written. The bytes after the packet stay.
 #[unsafe(no_mangle)]
 pub extern "C" fn speed_probes_write_over(alloc: Global, bytes: &[u8], output: &mut [u8]) -> usize
     ensures written { IsZeroOr (BeginsCanonical output.new) bytes.now result }

@@ -1,5 +1,5 @@
-//! Runs of offsets in a slice of blocks: a list by rising start, each at least 2 past the end of the
-//! one before it. A block is put in among them, and two such lists are joined.
+//! Runs of offsets in a slice of blocks: a list by rising start, each at least 2 past the end of
+//! the one before it. A block is put in among them, and two such lists are joined.
 
 ghost use Rattle.std.specs.Prelude.{◌≡◌, ◌↔◌, ◌+◌, ◌-◌, ◌<◌, ◌≤◌, [], ◌∷◌, ◌++◌, length, IsTrue, take, drop};
 ghost use Rattle.std.specs.List.{copy_within};

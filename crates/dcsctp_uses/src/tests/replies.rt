@@ -1,5 +1,5 @@
-//! What packets are answered with: bytes laid out by hand after RFC 9260, and their CRC32c as another
-//! program computes it.
+//! What packets are answered with: bytes laid out by hand after RFC 9260, and their CRC32c as
+//! another program computes it.
 
 use crate::answer::answer;
 use crate::in_place::owned_chunks;
@@ -43,8 +43,8 @@ fn is_answered(
     Ok(are(made, wanted))
 }
 
-/// The association's INIT, and its answer: ports, the tag that the INIT asks for, CRC32c; INIT ACK of
-/// 28 bytes, own tag, window, streams, first TSN; State Cookie of 8 bytes.
+/// The association's INIT, and its answer: ports, the tag that the INIT asks for, CRC32c; INIT ACK
+/// of 28 bytes, own tag, window, streams, first TSN; State Cookie of 8 bytes.
 const INIT: &[u8] =
     b"\x13\x88\x13\x88\x00\x00\x00\x00\x8d\xa5\x42\x1e\x01\x00\x00\x56\x4d\x2d\xf5\x2d\x00\x02\x00\x00\x00\x04\x00\x04\x79\x06\xb4\xb0\xc0\x00\x00\x04\x80\x08\x00\x09\xc0\x0f\xc1\x80\x82\x00\x00\x00\x80\x02\x00\x24\x0a\x30\x34\x7d\xfd\x1e\x9b\x4f\xb3\xf9\x7f\x8d\x9b\xaf\xc8\x71\xa3\xc5\x34\x5c\x24\xb8\xd8\xd4\x4b\xc9\x80\xe8\xef\x05\x3b\x4c\x80\x04\x00\x06\x00\x01\x00\x00\x80\x03\x00\x06\x80\xc1\x00\x00";
 

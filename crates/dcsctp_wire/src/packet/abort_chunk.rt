@@ -87,8 +87,8 @@ impl AbortChunk {
         Ok(AbortChunk::build(alloc, flags, value)?)
     }
 
-    /// Counts the parts: the chunk and its causes; or returns the first fault of these from the left,
-    /// with the offset from the chunk's first byte. Does not allocate.
+    /// Counts the parts: the chunk and its causes; or returns the first fault of these from the
+    /// left, with the offset from the chunk's first byte. Does not allocate.
     pub(crate) fn check(value: &[u8], strict: bool) -> Result<usize, LocatedFault>
         ensures found { (flags : ℕ) → Answers locating (λ n. n)
             (RowLocated (λ a. 1 + length a.causes) (kind.row strict flags) value.now) result }

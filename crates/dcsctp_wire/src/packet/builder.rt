@@ -126,8 +126,8 @@ impl SctpPacketBuilder {
     /// Adds the chunk where `add` may be called: it is `encodable`, and `bytes_remaining` has room
     /// for it. Else the answer is false, and nothing is changed.
     ///
-    /// For callers that don't prove the conditions of `add`. Memory can run out only where the chunk
-    /// has room, and nothing was added before; then nothing is changed.
+    /// For callers that don't prove the conditions of `add`. Memory can run out only where the
+    /// chunk has room, and nothing was added before; then nothing is changed.
     pub fn try_add(&mut self, chunk: &Chunk) -> Result<bool, AllocError>
         ensures fits { IfOk result (λ added. IsTrue added ↔ (IsChunkEncodable (view chunk.now)
             × (round_up_to_4 (size_of (chunk_tlv (view chunk.now))) ≤ room self.old))) }

@@ -207,8 +207,8 @@ impl Chunk {
         })
     }
 
-    /// Does what `read_onto` does for a kind with a list, and for a type without a kind. The list is
-    /// filled where the chunk lies, so that neither it nor the chunk is moved.
+    /// Does what `read_onto` does for a kind with a list, and for a type without a kind. The list
+    /// is filled where the chunk lies, so that neither it nor the chunk is moved.
     fn other_onto(
         list: &mut Vec<Self>,
         alloc: Global,

@@ -93,8 +93,8 @@ pub(crate) fn header_bytes(
     }) }
 {
     let mut header = [0; COMMON_HEADER_SIZE];
-    // As one number: two side by side are fetched by one wide load, which waits where the packet has
-    // only just been stored.
+    // As one number: two side by side are fetched by one wide load, which waits where the packet
+    // has only just been stored.
     let ports = source_port as u32 * 65536 + destination_port as u32;
     put_u32(&mut header, 0, ports);
     put_u32(&mut header, 4, verification_tag);

@@ -18,8 +18,8 @@ pub struct FirstFault {
     /// For `InvalidPacketSize`, the place of the first byte that is missing, which is the input's
     /// length, or of the first too many, 65,535. For `InvalidChecksum`, 8, where the field begins.
     /// For `FailedParseChunk` the first byte of the item whose length or value is at fault: of the
-    /// parameter or error cause, where it is one in a chunk, and else of the chunk. For padding, the
-    /// first byte of it that isn't zero, or the place of the first that is missing.
+    /// parameter or error cause, where it is one in a chunk, and else of the chunk. For padding,
+    /// the first byte of it that isn't zero, or the place of the first that is missing.
     pub offset: usize,
 }
 

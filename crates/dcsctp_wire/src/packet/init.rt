@@ -28,8 +28,8 @@ pub(crate) struct InitFields {
     pub parameters: Vec<Parameter>,
 }
 
-/// Counts the parts: the chunk and its parameters. `InvalidLength` where the value has fewer than 16
-/// bytes; else the first fault of the parameters from the left. Does not allocate.
+/// Counts the parts: the chunk and its parameters. `InvalidLength` where the value has fewer than
+/// 16 bytes; else the first fault of the parameters from the left. Does not allocate.
 ///
 /// A fault's offset counts from the chunk's first byte; it is 0 where the value has fewer than 16
 /// bytes.

@@ -8,8 +8,8 @@ use dcsctp_tlv::error::LocatedFault;
 use dcsctp_tlv::parameter::Parameter;
 use dcsctp_tlv::reader::listed_check;
 
-/// Counts the parts: the chunk and its parameters; or returns the first fault of these from the left,
-/// with the offset from the chunk's first byte. Does not allocate.
+/// Counts the parts: the chunk and its parameters; or returns the first fault of these from the
+/// left, with the offset from the chunk's first byte. Does not allocate.
 pub(crate) fn parameter_list_check(value: &[u8], strict: bool) -> Result<usize, LocatedFault>
     ensures found { Answers locating (λ n. n)
         (RowLocated (λ ps. 1 + length ps) (parameter_list_row strict) value.now) result }

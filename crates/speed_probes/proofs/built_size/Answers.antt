@@ -25,7 +25,8 @@ returns c =
     let packet = c.args.packet.now in
     let all : length packet.chunks.items ≤ c.loop-chunk.chunk-index =
     rw c.deref-chunk-items.ensures.value at c.loop-chunk-test.false in
-    let held = rw (take_all c.loop-chunk.chunk-index packet.chunks.items all) at c.loop-chunk.invariant.held in
+    let held = rw (take_all c.loop-chunk.chunk-index packet.chunks.items all) at
+    c.loop-chunk.invariant.held in
     inr (c.len.ensures ∙ c.build.result.ok.0 ∙ ap length (c.build.ensures.bytes
     ∙ built-is (meaning_view packet) c.loop-chunk.builder c.loop-chunk.invariant.settings c.requires
     held))

@@ -30,7 +30,11 @@ returns-clause-reads c room m policy held formed =
     let old = c.args.packet.now in
     let new = c.set_checksum_word.new.packet in
     let whole : take (length old) old ≡ old = take_all (length old) old (omega arith) in
-    let sealed : take (length old) new ≡ new = take_all (length old) new (omega (arith, c.set_checksum_word.auto.packet)) in
-    subst (λ (bytes : List ℕ). Answer bytes (packet_word bytes) policy (Ok (record { meaning = kept m; checksum = packet_word bytes }))) sealed
-    (sealed_reads old new (length old) c.packet_word-word.result m policy c.packet_word-word.type_inv room
-    (c.packet_word-word.ensures.value ∙ ap packet_word (sym whole)) c.set_checksum_word.ensures.bytes held formed)
+    let sealed : take (length old) new ≡ new =
+    take_all (length old) new (omega (arith, c.set_checksum_word.auto.packet)) in
+    subst (λ (bytes : List ℕ). Answer bytes (packet_word bytes) policy
+    (Ok (record { meaning = kept m; checksum = packet_word bytes }))) sealed
+    (sealed_reads old new (length old) c.packet_word-word.result m policy
+    c.packet_word-word.type_inv room
+    (c.packet_word-word.ensures.value ∙ ap packet_word (sym whole))
+    c.set_checksum_word.ensures.bytes held formed)

@@ -9,7 +9,8 @@ pub returns : goal.returns
 returns c = record {
   reads = λ expected policy accepted. (
       let b = c.add_both.new.builder in
-      let chunks : List ChunkTree = Sack (sack_view c.args.sack) ∷ Data (data_view c.args.message) ∷ [] in
+      let chunks : List ChunkTree =
+      Sack (sack_view c.args.sack) ∷ Data (data_view c.args.message) ∷ [] in
       let bytes = c.build.result.items in
       let is : b ≡ record {
         source = c.args.header.now.destination_port;
@@ -19,11 +20,19 @@ returns c = record {
         writes_checksum = true;
         bytes = b.bytes;
         reserved = b.reserved;
-      } = c.in_ok-add_both.ensures.settings ∙ ap (λ (s : BuilderState). record s { bytes = b.bytes; reserved = b.reserved }) c.new-builder.ensures in
+      } = c.in_ok-add_both.ensures.settings ∙ ap (λ (s : BuilderState). record s {
+        bytes = b.bytes;
+        reserved = b.reserved;
+      }) c.new-builder.ensures in
       let most = ap (λ (s : BuilderState). s.limit) is in
       let none = ap (λ (s : BuilderState). s.bytes) c.new-builder.ensures in
       let holds = c.in_ok-add_both.ensures.holds (search rules) none in
       let some : chunks ≢ [] = λ e. cc in
-      let read = c.build.ensures.reads_back (omega (arith, most)) chunks holds some (tt, (record { mid = refl; fsn = refl }, tt)) expected policy accepted in
-      subst (λ (s : BuilderState). Answer bytes expected policy (Ok (record { meaning = meaning_with s (all_kept chunks); checksum = checksum_field bytes }))) is read);
+      let read = c.build.ensures.reads_back (omega (arith, most)) chunks holds some
+      (tt, (record { mid = refl; fsn = refl }, tt)) expected policy accepted in
+      subst (λ (s : BuilderState). Answer bytes expected policy
+      (Ok (record {
+        meaning = meaning_with s (all_kept chunks);
+        checksum = checksum_field bytes;
+      }))) is read);
 }

@@ -18,11 +18,16 @@ returns-clause-sealed c = λ readable. (
       writes_checksum = true;
       bytes = b.bytes;
       reserved = b.reserved;
-    } = c.in_ok-try_add.ensures.settings ∙ ap (λ (s : BuilderState). record s { bytes = b.bytes; reserved = b.reserved }) c.new-builder.ensures in
+    } = c.in_ok-try_add.ensures.settings ∙ ap (λ (s : BuilderState). record s {
+      bytes = b.bytes;
+      reserved = b.reserved;
+    }) c.new-builder.ensures in
     let on = ap (λ (s : BuilderState). s.writes_checksum) is in
     let most = ap (λ (s : BuilderState). s.limit) is in
     let none = ap (λ (s : BuilderState). s.bytes) c.new-builder.ensures in
     let holds = c.in_ok-try_add.ensures.added (search rules) [] none in
     let some : chunks ≢ [] = λ e. cc in
-    subst (λ (s : BuilderState). Verified bytes (Ok (record { meaning = meaning_with s (all_kept chunks); checksum = packet_word bytes }))) is
+    subst (λ (s : BuilderState). Verified bytes
+    (Ok (record { meaning = meaning_with s (all_kept chunks); checksum = packet_word bytes })))
+    is
     (c.seal.ensures.reads on (omega (arith, most, c.ranges.limit.fits)) chunks holds some readable))

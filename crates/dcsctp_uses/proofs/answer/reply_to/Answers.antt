@@ -10,7 +10,8 @@ use Rattle.dcsctp_uses.proofs.answer.reply_to.Goals as goal
 pub returns-in-Init-clause-reply : goal.returns-in-Init-clause-reply
 returns-in-Init-clause-reply c =
     let others = c.in_ok-first.others.now in
-    let none : others ≡ [] = nil_from_length others (eqb-true (length others) 0 (sym c.if-is_empty.ensures)) in
+    let none : others ≡ [] =
+    nil_from_length others (eqb-true (length others) 0 (sym c.if-is_empty.ensures)) in
     to_init (init_view c.in-Init.init) c.if-tag-eq0.true
     (ap chunk_views (sym c.deref.ensures.value ∙ c.in_ok-first.ensures.cases.0
     ∙ ap (λ (first : Chunk). first ∷ others) c.in-Init.is

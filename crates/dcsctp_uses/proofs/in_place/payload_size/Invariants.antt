@@ -7,5 +7,6 @@ use Rattle.dcsctp_uses.proofs.in_place.payload_size.Given as goal
 abbrev pub invariant-loop-raw : goal.invariant-loop-raw
 invariant-loop-raw l = record {
   small : l.size + length l.raw-iterator ≤ length l.bytes;
-  sized : (p : PacketTree) → Answer l.bytes l.word l.policy (Ok p) → IsSized l.size l.raw-iterator (payload_sizes p.meaning.chunks);
+  sized : (p : PacketTree) → Answer l.bytes l.word l.policy (Ok p)
+      → IsSized l.size l.raw-iterator (payload_sizes p.meaning.chunks);
 }

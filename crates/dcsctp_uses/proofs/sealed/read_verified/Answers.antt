@@ -4,11 +4,13 @@ use Rattle.dcsctp_uses.specs.Sealed.{Verified}
 use Rattle.dcsctp_uses.proofs.Sealing.{default_is, verified, changed_refused}
 use Rattle.dcsctp_uses.proofs.sealed.read_verified.Goals as goal
 
-answered : (c : goal.After-from_bytes) → Exactly packet_reading packet_view (Verified c.args.bytes.now) c.from_bytes.result
+answered : (c : goal.After-from_bytes)
+    → Exactly packet_reading packet_view (Verified c.args.bytes.now) c.from_bytes.result
 answered c =
     let default = c.default-policy.ensures in
     let policy = c.default-policy.result in
-    verified c.args.bytes.now c.packet_word.result policy c.from_bytes.result c.from_bytes.ensures.answer
+    verified c.args.bytes.now c.packet_word.result policy c.from_bytes.result
+    c.from_bytes.ensures.answer
     c.packet_word.ensures.value (default_is policy default.0 default.1 default.2)
 
 pub returns-clause-answer : goal.returns-clause-answer

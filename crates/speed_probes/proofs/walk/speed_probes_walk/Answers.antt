@@ -8,8 +8,13 @@ pub loop-raw-preserved : goal.loop-raw-preserved
 loop-raw-preserved c = λ p answer.
     let old = c.loop-raw.invariant p answer in
     let f = c.in-Some.ensures.steps.2.means old.0 old.1 in
-    let added : c.with_chunk-sum.result ≡ with_chunk c.loop-raw.sum f.first = c.with_chunk-sum.ensures f.first f.means in
-    (f.others, f.mean, ap (λ n. with_chunks n f.others) added ∙ sym (ap (with_chunks c.loop-raw.sum) f.split) ∙ old.2)
+    let added : c.with_chunk-sum.result ≡ with_chunk c.loop-raw.sum f.first =
+    c.with_chunk-sum.ensures f.first f.means in (
+      f.others,
+      f.mean,
+      ap (λ n. with_chunks n f.others) added
+          ∙ sym (ap (with_chunks c.loop-raw.sum) f.split) ∙ old.2,
+    )
 
 pub returns-in-None-clause-packet : goal.returns-in-None-clause-packet
 returns-in-None-clause-packet c p answer =
@@ -18,4 +23,5 @@ returns-in-None-clause-packet c p answer =
     sym (ap (with_chunks c.loop-raw.sum) none) ∙ old.2
 
 pub returns-in-Err-clause-packet : goal.returns-in-Err-clause-packet
-returns-in-Err-clause-packet c p answer = absurd (c.in-Err.ensures.answer.value (reference c.args.bytes.now) ((p, answer), refl))
+returns-in-Err-clause-packet c p answer =
+    absurd (c.in-Err.ensures.answer.value (reference c.args.bytes.now) ((p, answer), refl))

@@ -12,9 +12,11 @@ returns-then-self c =
     let bytes = f.streams.now in
     let i = c.args.index in
     let streams = ap (λ (t : Tree). length t.streams) c.self.view_is in
-    let here : i < f.count = omega (arith, stream_count f.by_mid f.count bytes, streams, c.requires) in
+    let here : i < f.count =
+    omega (arith, stream_count f.by_mid f.count bytes, streams, c.requires) in
     let read = c.mid_stream.ensures ∙ ap iforward_kind.stream_at (take_rest bytes (8 * i)) in
-    rw (← c.self.view_is, c.if-self.true) (field_at_place iforward_kind.stream_at 8 f.count bytes i here ∙ ap Some (sym read))
+    rw (← c.self.view_is, c.if-self.true) (field_at_place iforward_kind.stream_at 8 f.count bytes i
+    here ∙ ap Some (sym read))
 
 pub returns-else-self : goal.returns-else-self
 returns-else-self c =
@@ -22,6 +24,8 @@ returns-else-self c =
     let bytes = f.streams.now in
     let i = c.args.index in
     let streams = ap (λ (t : Tree). length t.streams) c.self.view_is in
-    let here : i < f.count = omega (arith, stream_count f.by_mid f.count bytes, streams, c.requires) in
+    let here : i < f.count =
+    omega (arith, stream_count f.by_mid f.count bytes, streams, c.requires) in
     let read = c.ssn_stream.ensures ∙ ap forward_kind.stream_at (take_rest bytes (4 * i)) in
-    rw (← c.self.view_is, c.if-self.false) (field_at_place forward_kind.stream_at 4 f.count bytes i here ∙ ap Some (sym read))
+    rw (← c.self.view_is, c.if-self.false) (field_at_place forward_kind.stream_at 4 f.count bytes i
+    here ∙ ap Some (sym read))

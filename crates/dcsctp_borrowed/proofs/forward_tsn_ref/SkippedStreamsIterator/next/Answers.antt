@@ -8,7 +8,8 @@ use Rattle.dcsctp_borrowed.proofs.forward_tsn_ref.SkippedStreamsIterator.next.Go
 pub returns-then-self-clause-steps : goal.returns-then-self-clause-steps
 returns-then-self-clause-steps c =
     let bytes = c.self.inside.rest.now in
-    rw (← c.self.view_is, take_rest bytes 8, c.mid_stream-stream.ensures, c.if-self.true) (first_field iforward_kind.stream_at 8 c.self.inside.count bytes c.if-self-eq0.false)
+    rw (← c.self.view_is, take_rest bytes 8, c.mid_stream-stream.ensures, c.if-self.true)
+    (first_field iforward_kind.stream_at 8 c.self.inside.count bytes c.if-self-eq0.false)
 
 pub returns-then-self-clause-goes : goal.returns-then-self-clause-goes
 returns-then-self-clause-goes c =
@@ -17,12 +18,14 @@ returns-then-self-clause-goes c =
     let some = c.if-self-eq0.false in
     let before = stream_count s.by_mid s.count bytes in
     let after = stream_count s.by_mid (s.count - 1) (drop 8 bytes) in
-    rw (← c.self.view_is, take_rest bytes 8) record { on = λ _. (tt, tt, omega (arith, before, after, some)); keeps = tt; rests = λ _. tt }
+    rw (← c.self.view_is, take_rest bytes 8) record
+    { on = λ _. (tt, tt, omega (arith, before, after, some)); keeps = tt; rests = λ _. tt }
 
 pub returns-else-self-clause-steps : goal.returns-else-self-clause-steps
 returns-else-self-clause-steps c =
     let bytes = c.self.inside.rest.now in
-    rw (← c.self.view_is, take_rest bytes 4, c.ssn_stream-stream.ensures, c.if-self.false) (first_field forward_kind.stream_at 4 c.self.inside.count bytes c.if-self-eq0.false)
+    rw (← c.self.view_is, take_rest bytes 4, c.ssn_stream-stream.ensures, c.if-self.false)
+    (first_field forward_kind.stream_at 4 c.self.inside.count bytes c.if-self-eq0.false)
 
 pub returns-else-self-clause-goes : goal.returns-else-self-clause-goes
 returns-else-self-clause-goes c =
@@ -31,4 +34,5 @@ returns-else-self-clause-goes c =
     let some = c.if-self-eq0.false in
     let before = stream_count s.by_mid s.count bytes in
     let after = stream_count s.by_mid (s.count - 1) (drop 4 bytes) in
-    rw (← c.self.view_is, take_rest bytes 4) record { on = λ _. (tt, tt, omega (arith, before, after, some)); keeps = tt; rests = λ _. tt }
+    rw (← c.self.view_is, take_rest bytes 4) record
+    { on = λ _. (tt, tt, omega (arith, before, after, some)); keeps = tt; rests = λ _. tt }

@@ -8,16 +8,19 @@ use Rattle.dcsctp_borrowed.proofs.raw_parameters.RawParametersIterator.next.Goal
 pub returns-then-is_empty-clause-steps : goal.returns-then-is_empty-clause-steps
 returns-then-is_empty-clause-steps c =
     let bytes = c.self.inside.rest.now in
-    rw (← c.self.view_is) (at_end (parameters lenient) bytes (is_nil bytes c.is_empty.result c.is_empty.ensures c.if-is_empty.true))
+    rw (← c.self.view_is) (at_end (parameters lenient) bytes (is_nil bytes c.is_empty.result
+    c.is_empty.ensures c.if-is_empty.true))
 
 pub front_parts-requires : goal.front_parts-requires
 front_parts-requires c =
-    let some = is_cons c.self.inside.rest.now c.is_empty.result c.is_empty.ensures c.if-is_empty.false in
+    let some =
+    is_cons c.self.inside.rest.now c.is_empty.result c.is_empty.ensures c.if-is_empty.false in
     (front (parameters lenient) c.self.inside.rest.now c.self.invariant some).frame
 
 pub invariant_of-self : goal.invariant_of-self
 invariant_of-self c =
-    let some = is_cons c.self.inside.rest.now c.is_empty.result c.is_empty.ensures c.if-is_empty.false in
+    let some =
+    is_cons c.self.inside.rest.now c.is_empty.result c.is_empty.ensures c.if-is_empty.false in
     let f = front (parameters lenient) c.self.inside.rest.now c.self.invariant some in
     rw c.front_parts.ensures.rest f.left
 
@@ -27,7 +30,12 @@ returns-clause-steps c =
     let some = is_cons bytes c.is_empty.result c.is_empty.ensures c.if-is_empty.false in
     let is = c.front_parts.ensures in
     let raw = c.front_parts.result.0 in
-    rw (← c.self.view_is) (is.typ, typed_front (parameters lenient) row (λ a b value t m. m) bytes raw.typ raw.value.now c.front_parts.result.1.now is.typ is.value is.rest c.self.invariant some)
+    rw (← c.self.view_is) (
+      is.typ,
+      typed_front (parameters lenient) row (λ a b value t m. m) bytes
+          raw.typ raw.value.now c.front_parts.result.1.now is.typ is.value is.rest c.self.invariant
+          some,
+    )
 
 pub returns-clause-goes : goal.returns-clause-goes
 returns-clause-goes c =

@@ -7,7 +7,8 @@ use Rattle.dcsctp_borrowed.proofs.sack_ref.DuplicateTsnsIterator.next.Goals as g
 pub returns-clause-steps : goal.returns-clause-steps
 returns-clause-steps c =
     let bytes = c.self.inside.rest.now in
-    rw (← c.self.view_is, take_rest bytes 4, c.read_u32_be.ensures) (first_field number32 4 c.self.inside.count bytes c.if-self-eq0.false)
+    rw (← c.self.view_is, take_rest bytes 4, c.read_u32_be.ensures)
+    (first_field number32 4 c.self.inside.count bytes c.if-self-eq0.false)
 
 pub returns-clause-goes : goal.returns-clause-goes
 returns-clause-goes c =
@@ -16,4 +17,5 @@ returns-clause-goes c =
     let some = c.if-self-eq0.false in
     let before = field_count number32 4 n bytes in
     let after = field_count number32 4 (n - 1) (drop 4 bytes) in
-    rw (← c.self.view_is, take_rest bytes 4) record { on = λ _. (tt, tt, omega (arith, before, after, some)); keeps = tt; rests = λ _. tt }
+    rw (← c.self.view_is, take_rest bytes 4) record
+    { on = λ _. (tt, tt, omega (arith, before, after, some)); keeps = tt; rests = λ _. tt }

@@ -12,9 +12,14 @@ returns c =
     let value = c.args.value.now in
     let n = c.counts-block_count.result.0 in
     let m = c.counts-block_count.result.1 in
-    let count : block_count value ≡ n = sym (c.counts-block_count.ensures.blocks ∙ ap number16 (take_rest value 8)) in
-    let more : duplicate_count value ≡ m = sym (c.counts-block_count.ensures.duplicates ∙ ap (λ bytes. number16 (drop 2 bytes)) (take_rest value 8) ∙ ap number16 (drop-drop 2 8 value)) in
-    let whole : (length value == 12 + 4 * n + 4 * m) ≡ true = eq-eqb (length value) (12 + 4 * n + 4 * m) c.if-value-block_count.false in
+    let count : block_count value ≡ n =
+    sym (c.counts-block_count.ensures.blocks ∙ ap number16 (take_rest value 8)) in
+    let more : duplicate_count value ≡ m = sym (c.counts-block_count.ensures.duplicates
+    ∙ ap (λ bytes. number16 (drop 2 bytes)) (take_rest value 8)
+    ∙ ap number16 (drop-drop 2 8 value)) in
+    let whole : (length value == 12 + 4 * n + 4 * m) ≡ true =
+    eq-eqb (length value) (12 + 4 * n + 4 * m) c.if-value-block_count.false in
     let tsn : number32 value ≡ c.read_u32_be.result = sym c.read_u32_be.ensures in
-    let a_rwnd : number32 (drop 4 value) ≡ c.read_u32_be-2.result = sym (c.read_u32_be-2.ensures ∙ ap number32 (take_rest value 4)) in
+    let a_rwnd : number32 (drop 4 value) ≡ c.read_u32_be-2.result =
+    sym (c.read_u32_be-2.ensures ∙ ap number32 (take_rest value 4)) in
     rw (take_rest value 12, drop-drop (4 * n) 12 value, count, more, whole, tsn, a_rwnd) refl

@@ -9,10 +9,25 @@ pub returns-clause-read : goal.returns-clause-read
 unfolding read
 returns-clause-read c =
     let value = c.args.value.now in
-    let number : number32 (drop 12 value) ≡ c.read_u32_be.result = sym (c.read_u32_be.ensures ∙ ap number32 (take_rest value 12)) in
+    let number : number32 (drop 12 value) ≡ c.read_u32_be.result =
+    sym (c.read_u32_be.ensures ∙ ap number32 (take_rest value 12)) in
     let tsn : number32 value ≡ c.read_u32_be-2.result = sym c.read_u32_be-2.ensures in
-    let mid : number32 (drop 8 value) ≡ c.read_u32_be-3.result = sym (c.read_u32_be-3.ensures ∙ ap number32 (take_rest value 8)) in
+    let mid : number32 (drop 8 value) ≡ c.read_u32_be-3.result =
+    sym (c.read_u32_be-3.ensures ∙ ap number32 (take_rest value 8)) in
     let key = c.stream_key_of.ensures in
     let last = c.ppid_and_fsn.ensures in
     let long = le-ltb (length value) 16 (omega (arith, c.if-value-lt-IDATA_SIZE.false)) in
-    rw (take_rest value 16, long, tsn, mid, number, key.unordered, key.stream, last.ppid, last.fsn, c.is_set-is_beginning.ensures, c.is_set.ensures, c.is_set-2.ensures) refl
+    rw (
+      take_rest value 16,
+      long,
+      tsn,
+      mid,
+      number,
+      key.unordered,
+      key.stream,
+      last.ppid,
+      last.fsn,
+      c.is_set-is_beginning.ensures,
+      c.is_set.ensures,
+      c.is_set-2.ensures,
+    ) refl

@@ -1,4 +1,5 @@
--- The block follows the runs in front, or it goes among the recent ones, and these, once they are many, among those in front.
+-- The block follows the runs in front, or it goes among the recent ones, and these, once they are
+-- many, among those in front.
 use Rattle.std.proofs.Common.{◌≡◌, ◌+◌, ◌∷◌, ◌++◌, take, drop, arith, subst, sym}
 use Rattle.std.proofs.lemmas.List.{length-take-le, take_all}
 use Rattle.dcsctp_chunk.specs.Apart.{AreRunsOf, both}

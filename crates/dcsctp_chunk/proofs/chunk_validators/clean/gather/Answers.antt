@@ -17,19 +17,23 @@ loop-i-preserved c =
     let block : GapAckBlock = get_or c.loop-i.blocks i zero_block in
     let within = c.loop-i-test.true in
     let same : block ≡ get_or old i zero_block = inv.rest i zero_block (omega arith) in
-    let before = take c.loop-i.counts.recent c.loop-i.recent ++ take c.loop-i.counts.front c.loop-i.blocks in
+    let before = take c.loop-i.counts.recent c.loop-i.recent ++ take c.loop-i.counts.front
+    c.loop-i.blocks in
     elim c.if-block.branch [
       | then-block w ↦
           let counts = w.add_block-counts.result in
-          let after = take counts.recent w.add_block-counts.new.recent ++ take counts.front w.add_block-counts.new.blocks in
+          let after = take counts.recent w.add_block-counts.new.recent ++ take counts.front
+          w.add_block-counts.new.blocks in
           rw (w.blocks-is, w.recent-is, w.counts-is) record {
             room = omega arith;
             recent_room = omega arith;
             apart = w.add_block-counts.ensures.apart;
             recent_apart = w.add_block-counts.ensures.recent_apart;
             free = w.add_block-counts.ensures.free;
-            cover = more_blocks old after before block i zero_block within same inv.cover w.add_block-counts.ensures.cover;
-            rest = (λ k d m. w.add_block-counts.ensures.rest k d (omega arith) ∙ inv.rest k d (omega arith));
+            cover = more_blocks old after before block i zero_block within same inv.cover
+                w.add_block-counts.ensures.cover;
+            rest = (λ k d m. w.add_block-counts.ensures.rest k d (omega arith)
+                ∙ inv.rest k d (omega arith));
           }
       | else-block w ↦
           let reversed = w.if-block.false in

@@ -13,13 +13,17 @@ returns-clause-bound c =
     let runs = c.args.runs.now in
     let kept = c.args.kept in
     let offset = c.saturating_sub-offset.result in
-    let parted = parted_kept runs kept offset (omega arith) c.requires.room c.requires.apart c.requires.free in
-    let point = IsPartitionPoint-from_clause (λ (b : GapAckBlock). ltb b.end offset) _ _ c.partition_point.ensures.partitioned parted (λ a r q k. search rules) in
+    let parted = parted_kept runs kept offset (omega arith) c.requires.room c.requires.apart
+    c.requires.free in
+    let point = IsPartitionPoint-from_clause (λ (b : GapAckBlock). ltb b.end offset) _ _
+    c.partition_point.ensures.partitioned parted (λ a r q k. search rules) in
     elim (cases_lt kept c.partition_point.result) [
       | inl lt ↦
           let bound = c.partition_point.ensures.bound in
-          let early = ltb-true (get_or runs kept zero_block).end offset (point.0 kept zero_block (omega arith) lt) in
-          let last = free_end runs kept kept zero_block (omega arith) (omega arith) c.requires.free in
+          let early = ltb-true (get_or runs kept zero_block).end offset
+          (point.0 kept zero_block (omega arith) lt) in
+          let last =
+          free_end runs kept kept zero_block (omega arith) (omega arith) c.requires.free in
           absurd (omega arith)
       | inr ge ↦ ge
     ]
@@ -29,8 +33,10 @@ returns-clause-point c =
     let runs = c.args.runs.now in
     let kept = c.args.kept in
     let offset = c.saturating_sub-offset.result in
-    let parted = parted_kept runs kept offset (omega arith) c.requires.room c.requires.apart c.requires.free in
-    let point = IsPartitionPoint-from_clause (λ (b : GapAckBlock). ltb b.end offset) _ _ c.partition_point.ensures.partitioned parted (λ a r q k. search rules) in
+    let parted = parted_kept runs kept offset (omega arith) c.requires.room c.requires.apart
+    c.requires.free in
+    let point = IsPartitionPoint-from_clause (λ (b : GapAckBlock). ltb b.end offset) _ _
+    c.partition_point.ensures.partitioned parted (λ a r q k. search rules) in
     let bound = returns-clause-bound c in
     let long = length-take-le kept runs c.requires.room in (
       (λ k d l m.

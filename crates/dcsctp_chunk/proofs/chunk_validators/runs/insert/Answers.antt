@@ -30,4 +30,5 @@ returns-clause-runs c =
     let front =
     c.make_free_from.ensures.front
     ∙ ap (λ x. take count (set x p.first p.run)) c.move_within.ensures ∙ put.front in
-    subst (λ x. AreRunsOf x (c.args.block ∷ take kept xs)) (sym front) c.find_place-place.ensures.runs
+    subst (λ x. AreRunsOf x (c.args.block ∷ take kept xs)) (sym front)
+    c.find_place-place.ensures.runs

@@ -24,14 +24,16 @@ loop-left-preserved c =
     let block = get_or others (left - 1) zero_block in
     let inv = c.loop-left.invariant in
     let high = drop c.loop-left.gap.high runs in
-    let parts = next_apart others high left zero_block (omega arith) inv.left_bound inv.left_apart in
+    let parts =
+    next_apart others high left zero_block (omega arith) inv.left_bound inv.left_apart in
     let put = c.put_by_walk-gap.ensures in
     record {
       room = omega arith;
       bound = omega arith;
       left_bound = omega arith;
       apart = put.runs.apart;
-      left_apart = left_apart (take (left - 1) others) high (drop gap.high after) block parts put.below;
+      left_apart =
+          left_apart (take (left - 1) others) high (drop gap.high after) block parts put.below;
       cover =
           left_cover others (around c.loop-left.gap runs) (around gap after) every left zero_block
           (omega arith) inv.left_bound put.runs.cover inv.cover;

@@ -1,4 +1,5 @@
--- Those of the others that are left lie before the far side of the gap, and with the runs on both sides they cover what is covered.
+-- Those of the others that are left lie before the far side of the gap, and with the runs on both
+-- sides they cover what is covered.
 use Rattle.std.proofs.Common.{◌+◌, ◌≤◌, ◌++◌, length, take, drop}
 use Rattle.dcsctp_chunk.specs.Cover.{SameCover}
 use Rattle.dcsctp_chunk.specs.Apart.{IsApart}
@@ -11,7 +12,8 @@ invariant-loop-left l = record {
   left_bound : l.left ≤ length l.others;
   apart : IsApart 0 (take l.gap.low l.runs ++ drop l.gap.high l.runs);
   left_apart : IsApart 0 (take l.left l.others ++ drop l.gap.high l.runs);
-  cover : SameCover (take l.left l.others ++ (take l.gap.low l.runs ++ drop l.gap.high l.runs)) (l.others ++ take l.kept l.initial.runs);
+  cover : SameCover (take l.left l.others ++ (take l.gap.low l.runs ++ drop l.gap.high l.runs))
+      (l.others ++ take l.kept l.initial.runs);
 }
 
 abbrev pub decreases-loop-left : goal.decreases-loop-left

@@ -8,17 +8,24 @@ use Rattle.dcsctp_chunk.proofs.Joined.{lifted, lifted_apart}
 use Rattle.dcsctp_chunk.proofs.chunk_validators.runs.lift_past.Invariants.{IsLifted}
 use Rattle.dcsctp_chunk.proofs.chunk_validators.runs.lift_past.Goals as goal
 
-lift_more : (block d : GapAckBlock) (gap left next : Gap) (old runs after : List GapAckBlock) (count : ℕ) → 0 < count → next.low + count ≡ left.low → next.high + count ≡ left.high → left.low ≤ length runs → take next.low after ≡ take next.low runs → drop next.high after ≡ take count (drop next.low runs) ++ drop left.high runs → IsApart 0 (around gap old) → block.end + 2 ≤ (get_or runs next.low d).start → IsLifted block gap old left runs → IsLifted block gap old next after
+lift_more : (block d : GapAckBlock) (gap left next : Gap) (old runs after : List GapAckBlock)
+    (count : ℕ) → 0 < count → next.low + count ≡ left.low → next.high + count ≡ left.high
+    → left.low ≤ length runs → take next.low after ≡ take next.low runs
+    → drop next.high after ≡ take count (drop next.low runs) ++ drop left.high runs
+    → IsApart 0 (around gap old) → block.end + 2 ≤ (get_or runs next.low d).start
+    → IsLifted block gap old left runs → IsLifted block gap old next after
 lift_more block d gap left next old runs after count some low high room front back apart past inv =
     let order = inv.order in
     let bound = inv.bound in
-    let same : around next after ≡ around left runs = lifted runs after next.low next.high count left.low left.high low front back in
+    let same : around next after ≡ around left runs =
+    lifted runs after next.low next.high count left.low left.high low front back in
     let here : IsApart 0 (around left runs) = subst (λ x. IsApart 0 x) (sym inv.same) apart in
     record {
       order = omega arith;
       bound = omega arith;
       same = same ∙ inv.same;
-      below = subst (λ x. IsApart (block.end + 2) x) (sym back) (lifted_apart runs d next.low count left.low left.high (block.end + 2) low some room here past);
+      below = subst (λ x. IsApart (block.end + 2) x) (sym back) (lifted_apart runs d next.low count
+          left.low left.high (block.end + 2) low some room here past);
     }
 
 pub loop-left-preserved : goal.loop-left-preserved
@@ -30,7 +37,10 @@ loop-left-preserved c =
     let next = c.lift-left.result in
     let e : next.low ≡ c.loop-left.left.low - 8 = omega arith in
     let there = ap (λ n. (get_or c.loop-left.runs n zero_block).start) e in
-    lift_more c.args.block zero_block c.args.gap c.loop-left.left next c.args.runs.now c.loop-left.runs c.lift-left.new.runs 8 (omega arith) c.lift-left.ensures.low c.lift-left.ensures.high (omega arith) c.lift-left.ensures.front c.lift-left.ensures.back c.requires.apart (omega arith) inv
+    lift_more c.args.block zero_block c.args.gap c.loop-left.left next c.args.runs.now
+    c.loop-left.runs c.lift-left.new.runs 8 (omega arith) c.lift-left.ensures.low
+    c.lift-left.ensures.high (omega arith) c.lift-left.ensures.front c.lift-left.ensures.back
+    c.requires.apart (omega arith) inv
 
 pub loop-left-2-preserved : goal.loop-left-2-preserved
 loop-left-2-preserved c =
@@ -41,4 +51,8 @@ loop-left-2-preserved c =
     let next = c.lift-left-in-loop-left-2.result in
     let e : next.low ≡ c.loop-left-2.left.low - 1 = omega arith in
     let there = ap (λ n. (get_or c.loop-left-2.runs n zero_block).start) e in
-    lift_more c.args.block zero_block c.args.gap c.loop-left-2.left next c.args.runs.now c.loop-left-2.runs c.lift-left-in-loop-left-2.new.runs 1 (omega arith) c.lift-left-in-loop-left-2.ensures.low c.lift-left-in-loop-left-2.ensures.high (omega arith) c.lift-left-in-loop-left-2.ensures.front c.lift-left-in-loop-left-2.ensures.back c.requires.apart (omega arith) inv
+    lift_more c.args.block zero_block c.args.gap c.loop-left-2.left next c.args.runs.now
+    c.loop-left-2.runs c.lift-left-in-loop-left-2.new.runs 1 (omega arith)
+    c.lift-left-in-loop-left-2.ensures.low c.lift-left-in-loop-left-2.ensures.high (omega arith)
+    c.lift-left-in-loop-left-2.ensures.front c.lift-left-in-loop-left-2.ensures.back
+    c.requires.apart (omega arith) inv

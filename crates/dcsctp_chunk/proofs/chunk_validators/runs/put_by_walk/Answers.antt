@@ -25,7 +25,8 @@ returns-clause-runs c =
     let long : p.first ≤ past.low = omega (arith, length-take-le past.low xs (omega arith)) in
     let same = c.lift_past-past.ensures.runs in
     let apart : IsApart 0 (low ++ high) = subst (λ x. IsApart 0 x) (sym same) c.requires.apart in
-    let runs = below low high placed c.args.block apart c.lift_past-past.ensures.below c.last_place-place.ensures.runs in
+    let runs = below low high placed c.args.block apart c.lift_past-past.ensures.below
+    c.last_place-place.ensures.runs in
     subst (λ x. AreRunsOf x every)
     (written xs p.run p.first past.low past.high long (omega arith) (omega arith))
     (subst (λ x. AreRunsOf (placed ++ high) (c.args.block ∷ x)) same runs)

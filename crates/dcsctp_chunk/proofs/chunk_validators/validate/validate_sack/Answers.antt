@@ -8,5 +8,7 @@ pub returns-clause-valid : goal.returns-clause-valid
 returns-clause-valid c =
     let bs = c.args.sack.now.gap_ack_blocks.items in
     let e = c.are_apart.ensures.apart in
-    let v = c.deref.ensures.value in
-    ((λ t. validated_runs bs (subst (λ x. IsApart 2 x) v (e.0 t))), (λ h. e.1 (subst (λ x. IsApart 2 x) (sym v) (runs_validated bs h))))
+    let v = c.deref.ensures.value in (
+      (λ t. validated_runs bs (subst (λ x. IsApart 2 x) v (e.0 t))),
+      (λ h. e.1 (subst (λ x. IsApart 2 x) (sym v) (runs_validated bs h))),
+    )

@@ -12,12 +12,18 @@ returns-in-Err-clause-found c =
     let bytes = c.args.bytes.now in
     let policy = c.args.policy.now in
     let yes : IsTrue c.accepts.result = search rules in
-    let accepted = subst (λ (k : ℕ). IsAccepted policy k c.args.checksum) (rw (take_rest bytes 8) at c.read_u32_be.ensures) (c.accepts.ensures.0 yes) in
-    chunk_fault bytes c.args.checksum policy c.in-Err.found (record { size = record { low = omega arith; high = omega arith }; accepted = accepted })
-    (subst (λ (b : List ℕ). Answers locating (λ (n : ℕ × ℕ). n) (ListLocated (chunks policy.strict_padding) chunk_parts b) (Err c.in-Err.found)) (take_rest bytes 12) c.in-Err.ensures.found)
+    let accepted = subst (λ (k : ℕ). IsAccepted policy k c.args.checksum)
+    (rw (take_rest bytes 8) at c.read_u32_be.ensures) (c.accepts.ensures.0 yes) in
+    chunk_fault bytes c.args.checksum policy c.in-Err.found
+    (record { size = record { low = omega arith; high = omega arith }; accepted = accepted })
+    (subst (λ (b : List ℕ). Answers locating (λ (n : ℕ × ℕ). n)
+    (ListLocated (chunks policy.strict_padding) chunk_parts b) (Err c.in-Err.found))
+    (take_rest bytes 12) c.in-Err.ensures.found)
 
 pub returns-then-bytes-lt-MIN_PACKET_SIZE-clause-found : goal.returns-then-bytes-lt-MIN_PACKET_SIZE-clause-found
-returns-then-bytes-lt-MIN_PACKET_SIZE-clause-found c = fault_there c.args.bytes.now c.args.checksum c.args.policy.now Size _ (search rules)
+returns-then-bytes-lt-MIN_PACKET_SIZE-clause-found c =
+    fault_there c.args.bytes.now c.args.checksum c.args.policy.now Size _ (search rules)
 
 pub returns-then-not-accepts-clause-found : goal.returns-then-not-accepts-clause-found
-returns-then-not-accepts-clause-found c = fault_there c.args.bytes.now c.args.checksum c.args.policy.now Checksum _ (search rules)
+returns-then-not-accepts-clause-found c =
+    fault_there c.args.bytes.now c.args.checksum c.args.policy.now Checksum _ (search rules)

@@ -28,17 +28,26 @@ stayed = (stay_dropped _ yes, tt)
 pub has_widths_spec : {M : Type 1} → statement M
 has_widths_spec 𝓤 𝓛 𝓜 𝓡 wired =
     let c = f.clauses 𝓛 𝓜.mem 𝓡.returns in let W = walk_of 𝓛 f.ended stayed c in
-    proved 𝓛 f.ended stayed c 𝓜 𝓡 (Goes-dropped 𝓛 1 (RefOf (0 ∷ []) tt (plain (λ _. SctpPacket.the_row)) (λ _. tt)) yes (λ κs x w. refl), tt)
+    proved 𝓛 f.ended stayed c 𝓜 𝓡 (
+      Goes-dropped 𝓛 1 (RefOf (0 ∷ []) tt (plain (λ _. SctpPacket.the_row)) (λ _. tt)) yes
+          (λ κs x w. refl),
+      tt,
+    )
     f.Key.name code.function (code.unfolded 𝓤 𝓛.H 𝓜 𝓡 wired)
-    (λ κs. (shr_vals, tt)) (λ κs. (shr_Tells (named 0) κs.0 SctpPacket.the_row, tt)) (λ κs qs bounds a _ are.
+    (λ κs. (shr_vals, tt)) (λ κs. (shr_Tells (named 0) κs.0 SctpPacket.the_row, tt))
+    (λ κs qs bounds a _ are.
     let p = a.0 in let vs = shr_vals p in
     let y : W.Ghost = ((κs, qs, bounds, a, (vs, tt)), tt) in
     let Ref = ShrRef (named 0) κs.0 SctpPacket.the_row in
     qed 𝓛 (((‵ (flft κs.0 qs.0) ⊛ ‵ ftrue) ⊛ ‵ (Ref.own_val p vs) ⊛ ‵ ftrue) ∷ ‵ ftrue ∷ []) ∵
     split ! $ split ! $ move ! (2 ∷ []) $ split ! $ keep ! (0 ∷ 2 ∷ []) $
-    use1 𝓛 (raw (fact 𝓤 (packet.Fact p.now))) (((shr_known SctpPacket.the_row packet (named 0) κs.0).owned p vs).go _ 𝓤 𝓛) $ heard ! _ (λ says_type.
+    use1 𝓛 (raw (fact 𝓤 (packet.Fact p.now)))
+    (((shr_known SctpPacket.the_row packet (named 0) κs.0).owned p vs).go _ 𝓤 𝓛) $ heard ! _
+    (λ says_type.
     enter ! _ _ _ _ _ $ alloc_all ! (λ l. pass_all ! refl ((tt, tt), tt) $
     sets ! (of_opd ! (unit_lit !)) refl (tt, tt) $
     returns ! (look_at ! 0 refl) $ free_all ! refl $
-    suffices ! _ (ends_at 𝓛 f.ended stayed c y vunit tt (tt, tt) (tt, tt)) $ says ! (packet_width p.now says_type) $
-    feq_i ! _ (vunit ∷ []) _ refl $ nothing ! $ nothing ! $ join ! $ nothing ! $ move ! (3 ∷ 0 ∷ []) $ join ! $ group ! 3 $ done !)))
+    suffices ! _ (ends_at 𝓛 f.ended stayed c y vunit tt (tt, tt) (tt, tt)) $ says !
+    (packet_width p.now says_type) $
+    feq_i ! _ (vunit ∷ []) _ refl $ nothing ! $ nothing ! $ join ! $ nothing ! $ move ! (3 ∷ 0 ∷ [])
+    $ join ! $ group ! 3 $ done !)))

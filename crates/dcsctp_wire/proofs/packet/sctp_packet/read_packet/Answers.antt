@@ -15,10 +15,19 @@ list_build-requires c =
     let bytes = c.args.bytes.now in
     let strict = c.args.policy.now.strict_padding in
     let found = c.in_ok-count.ensures.found.1 in
-    rw (take_rest bytes 12) (found.trees, list_looser (chunks strict) (chunks lenient) (chunks_looser strict) (body bytes) found.trees found.mean, found.item_count)
+    rw (take_rest bytes 12) (
+      found.trees,
+      list_looser (chunks strict) (chunks lenient)
+          (chunks_looser strict) (body bytes) found.trees found.mean,
+      found.item_count,
+    )
 
 pub returns-in_err-chunks-clause-memory : goal.returns-in_err-chunks-clause-memory
-returns-in_err-chunks-clause-memory c = λ lacks. (let found = c.in_ok-count.ensures.found in (packet_with c.args.bytes.now found.1.trees, packet_is c.args.bytes.now c.args.checksum c.args.policy.now found.1.trees found.0 found.1.mean))
+returns-in_err-chunks-clause-memory c = λ lacks. (let found = c.in_ok-count.ensures.found in (
+  packet_with c.args.bytes.now found.1.trees,
+  packet_is c.args.bytes.now c.args.checksum
+      c.args.policy.now found.1.trees found.0 found.1.mean,
+))
 
 pub returns-clause-answer : goal.returns-clause-answer
 returns-clause-answer c =
@@ -31,6 +40,7 @@ returns-clause-answer c =
         destination = ap (λ (h : CommonHeader). h.destination_port) c.read_header.ensures;
         tag = ap (λ (h : CommonHeader). h.verification_tag) c.read_header.ensures;
         checksum = ap (λ (h : CommonHeader). h.checksum) c.read_header.ensures;
-        chunks = built_means c.args.policy.now.strict_padding (body bytes) found.1.trees (views c.in_ok-chunks.chunks.items) found.1.mean built;
+        chunks = built_means c.args.policy.now.strict_padding (body bytes) found.1.trees
+            (views c.in_ok-chunks.chunks.items) found.1.mean built;
       },
     )

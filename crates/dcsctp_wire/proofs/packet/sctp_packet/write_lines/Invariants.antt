@@ -7,4 +7,5 @@ use Rattle.dcsctp_wire.proofs.packet.sctp_packet.write_lines.Given as goal
 
 abbrev pub invariant-loop-chunk : goal.invariant-loop-chunk
 invariant-loop-chunk g l = IsPlainFormatter l.initial.f
-    → HasWritten g.W.Write.write_str_gives l.initial.f (next_lines (views (take l.chunk-index l.chunks))) l.f
+    → HasWritten g.W.Write.write_str_gives l.initial.f
+    (next_lines (views (take l.chunk-index l.chunks))) l.f

@@ -6,4 +6,6 @@ use Rattle.dcsctp_wire.proofs.packet.abort_chunk.AbortChunk.check.Goals as goal
 
 pub returns-clause-found : goal.returns-clause-found
 returns-clause-found c = λ flags.
-    finds_listed (λ value. true) 0 (causes c.args.strict) (λ value cs. abort_of flags cs) (λ a. 1 + length a.causes) (λ v cs. refl) c.args.value.now c.listed_check.result refl c.listed_check.ensures.found
+    finds_listed (λ value. true) 0 (causes c.args.strict) (λ value cs. abort_of flags cs)
+    (λ a. 1 + length a.causes) (λ v cs. refl) c.args.value.now c.listed_check.result refl
+    c.listed_check.ensures.found

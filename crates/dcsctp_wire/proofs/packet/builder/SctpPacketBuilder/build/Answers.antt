@@ -10,6 +10,11 @@ returns-clause-reads_back c = λ short chunks holds some readable word policy ac
     (let b = c.args.self.now in
     let header = c.hand_out.ensures.width in
     let is = c.hand_out.ensures.bytes in
-    subst (λ (bytes : List ℕ). Answer bytes word policy (Ok (record { meaning = meaning_with b (kept_chunks chunks); checksum = checksum_field bytes }))) (sym is)
-    (built_reads_back b c.args.checksum word policy chunks c.ranges.checksum.fits header.source header.destination header.tag short holds some readable
+    subst (λ (bytes : List ℕ). Answer bytes word policy
+    (Ok (record {
+      meaning = meaning_with b (kept_chunks chunks);
+      checksum = checksum_field bytes;
+    }))) (sym is)
+    (built_reads_back b c.args.checksum word policy chunks c.ranges.checksum.fits header.source
+    header.destination header.tag short holds some readable
     (subst (λ (bytes : List ℕ). IsAccepted policy (checksum_field bytes) word) is accepted)))

@@ -5,10 +5,12 @@ use Rattle.dcsctp_wire.proofs.ListRows.{init_lawful}
 use Rattle.dcsctp_wire.proofs.packet.init_chunk.InitChunk.read.Goals as goal
 
 pub returns-in_err-init_check-clause-answer : goal.returns-in_err-init_check-clause-answer
-returns-in_err-init_check-clause-answer c = row_exactly (init_lawful lenient) _ c.type_inv.value (search rules)
+returns-in_err-init_check-clause-answer c =
+    row_exactly (init_lawful lenient) _ c.type_inv.value (search rules)
 
 pub returns-in_err-build-clause-answer : goal.returns-in_err-build-clause-answer
-returns-in_err-build-clause-answer c = row_exactly (init_lawful lenient) _ c.type_inv.value (search rules)
+returns-in_err-build-clause-answer c =
+    row_exactly (init_lawful lenient) _ c.type_inv.value (search rules)
 
 pub returns-clause-answer : goal.returns-clause-answer
 returns-clause-answer c = row_exactly (init_lawful lenient) _ c.type_inv.value (search rules)

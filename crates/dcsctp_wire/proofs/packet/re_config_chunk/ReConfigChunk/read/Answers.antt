@@ -14,4 +14,5 @@ returns-in_err-build-clause-answer c =
     row_exactly (parameter_list_lawful lenient) _ c.type_inv.value (search rules)
 
 pub returns-clause-answer : goal.returns-clause-answer
-returns-clause-answer c = row_exactly (parameter_list_lawful lenient) _ c.type_inv.value (search rules)
+returns-clause-answer c =
+    row_exactly (parameter_list_lawful lenient) _ c.type_inv.value (search rules)

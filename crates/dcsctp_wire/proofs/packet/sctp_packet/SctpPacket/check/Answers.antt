@@ -13,7 +13,8 @@ returns-in_err-counts-clause-answer c =
     let policy = c.args.policy.now in
     let found = c.in_err-counts.field-0.0 in
     let p = err_from_is_err_and c.from_residual.result c.from_residual.ensures.1 in
-    rw (p.1, p.2) (check_exactly bytes word policy (λ i. (c.type_inv.bytes i).fits) (Err found.fault) (check_answers bytes word policy found c.in_err-counts.ensures.found))
+    rw (p.1, p.2) (check_exactly bytes word policy (λ i. (c.type_inv.bytes i).fits)
+    (Err found.fault) (check_answers bytes word policy found c.in_err-counts.ensures.found))
 
 pub returns-clause-answer : goal.returns-clause-answer
 returns-clause-answer c =
@@ -21,10 +22,17 @@ returns-clause-answer c =
     let word = c.args.checksum in
     let policy = c.args.policy.now in
     let found = c.in_ok-counts.ensures.found in
-    check_exactly bytes word policy (λ i. (c.type_inv.bytes i).fits) (Ok c.in_ok-counts.counts.1) (packet_with bytes found.1.trees, packet_is bytes word policy found.1.trees found.0 found.1.mean, found.1.part_count)
+    check_exactly bytes word policy (λ i. (c.type_inv.bytes i).fits) (Ok c.in_ok-counts.counts.1) (
+      packet_with bytes found.1.trees,
+      packet_is bytes word policy found.1.trees found.0
+          found.1.mean,
+      found.1.part_count,
+    )
 
 pub returns-clause-few : goal.returns-clause-few
 returns-clause-few c =
     let bytes = c.args.bytes.now in
     let found = c.in_ok-counts.ensures.found in
-    rw found.1.part_count (packet_parts bytes (packet_with bytes found.1.trees) (lenient_packet c.args.policy.now.strict_padding bytes (packet_with bytes found.1.trees) (packet_is bytes c.args.checksum c.args.policy.now found.1.trees found.0 found.1.mean).1))
+    rw found.1.part_count (packet_parts bytes (packet_with bytes found.1.trees)
+    (lenient_packet c.args.policy.now.strict_padding bytes (packet_with bytes found.1.trees)
+    (packet_is bytes c.args.checksum c.args.policy.now found.1.trees found.0 found.1.mean).1))

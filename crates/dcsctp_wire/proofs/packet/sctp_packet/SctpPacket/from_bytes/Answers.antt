@@ -10,21 +10,29 @@ use Rattle.dcsctp_wire.proofs.packet.sctp_packet.SctpPacket.from_bytes.Goals as 
 pub returns-clause-formed : goal.returns-clause-formed
 returns-clause-formed c =
     let bytes = c.args.bytes.now in
-    reads_only (λ p. IsWellFormed p.meaning) bytes c.args.checksum c.args.policy.now c.read_packet.result (packet_formed bytes) c.read_packet.ensures.answer
+    reads_only (λ p. IsWellFormed p.meaning) bytes c.args.checksum c.args.policy.now
+    c.read_packet.result (packet_formed bytes) c.read_packet.ensures.answer
 
 pub returns-clause-size : goal.returns-clause-size
 returns-clause-size c = λ kept.
     (let bytes = c.args.bytes.now in
-    reads_only (λ p. KeepsSize bytes p.meaning) bytes c.args.checksum c.args.policy.now c.read_packet.result (λ p size m. packet_size bytes p size m kept) c.read_packet.ensures.answer)
+    reads_only (λ p. KeepsSize bytes p.meaning) bytes c.args.checksum c.args.policy.now
+    c.read_packet.result (λ p size m. packet_size bytes p size m kept)
+    c.read_packet.ensures.answer)
 
 pub returns-clause-nodes : goal.returns-clause-nodes
 returns-clause-nodes c =
     let bytes = c.args.bytes.now in
-    reads_only (λ p. node_count p.meaning ≤ (length bytes - 12) / 4) bytes c.args.checksum c.args.policy.now c.read_packet.result (λ p size m. packet_parts bytes p m) c.read_packet.ensures.answer
+    reads_only (λ p. node_count p.meaning ≤ (length bytes - 12) / 4) bytes c.args.checksum
+    c.args.policy.now c.read_packet.result (λ p size m. packet_parts bytes p m)
+    c.read_packet.ensures.answer
 
 pub returns-clause-room : goal.returns-clause-room
 returns-clause-room c =
-    read_bound c.args.bytes.now c.args.checksum c.args.policy.now c.read_packet.result c.read_packet.ensures.answer c.read_packet.ensures.reserved c.read_packet.ensures.tight
+    read_bound c.args.bytes.now c.args.checksum c.args.policy.now c.read_packet.result
+    c.read_packet.ensures.answer c.read_packet.ensures.reserved c.read_packet.ensures.tight
 
 pub returns-clause-answer : goal.returns-clause-answer
-returns-clause-answer c = read_exactly c.args.bytes.now c.args.checksum c.args.policy.now (λ i. (c.type_inv.bytes i).fits) packet_view c.read_packet.result c.read_packet.ensures.answer c.read_packet.ensures.memory
+returns-clause-answer c = read_exactly c.args.bytes.now c.args.checksum c.args.policy.now
+    (λ i. (c.type_inv.bytes i).fits) packet_view c.read_packet.result c.read_packet.ensures.answer
+    c.read_packet.ensures.memory
