@@ -1,7 +1,7 @@
 //! Numbers and bytes in hexadecimal.
 
-ghost use Rattle.std.specs.Prelude.{◌≡◌, Some};
-ghost use Rattle.std.specs.Fmt.{WritesOnOk};
+ghost use Rattle.std.specs.Prelude.{◌≡◌, ◌<◌, Some, false};
+ghost use Rattle.std.specs.Fmt.{WritesOnOk, digit_glyph};
 ghost use Rattle.sctp_report.specs.Hexadecimal.{byte_digits, bytes_digits, hex8, hex16, hex32, offset_digits};
 
 use std::fmt;
@@ -11,13 +11,27 @@ use std::fmt::Display;
 #[derive(Clone, Copy)]
 pub struct Digits(pub u8);
 
+#[tactic(auto, unfolding(crate::specs::Hexadecimal::byte_digits))]
 impl Display for Digits {
     ghost output = { λ d. Some (byte_digits d.0) };
 
     fn fmt<W: fmt::Write>(&self, f: &mut fmt::Formatter<W>) -> fmt::Result {
-        let byte = self.0;
-        write!(f, "{byte:02x}")
+        f.write_char(digit(self.0 / 16))?;
+        f.write_char(digit(self.0 % 16))
     }
+}
+
+/// Returns the digit of a value.
+fn digit(value: u8) -> char
+    requires { value < 16 }
+    ensures { result ≡ digit_glyph false value }
+{
+    let glyph = if value < 10 {
+        b'0' + value
+    } else {
+        b'a' + (value - 10)
+    };
+    glyph as char
 }
 
 /// Writes two digits for each byte.

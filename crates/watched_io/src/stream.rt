@@ -4,7 +4,7 @@ ghost use Rattle.std.specs.Prelude.{◌≡◌, ◌+◌, ◌≤◌, ◌<◌, ◌�
 ghost use Rattle.std.specs.Io.KnownBytes.{Keeps, IsAtEnd};
 ghost use Rattle.watched_io.specs.Transfer.{AppendsBeginning, DropsBytes};
 ghost use Rattle.watched_io.specs.Watched.{device_of, has_failed};
-ghost use Rattle.watched_io.specs.Window.{held, left};
+ghost use Rattle.watched_io.specs.Window.{held, left, AddsRead};
 ghost use Rattle.watched_io.specs.Output.{writer_of, pending, total, HasBeginning};
 ghost use Rattle.watched_io.specs.declared.stream.StreamError.TheVariants.{Read, Write};
 
@@ -31,6 +31,8 @@ pub fn read_more<R: Read, W: Write>(
 ) -> Result<usize, StreamError>
     requires { length (held window.old) ≤ MOST_KEPT + 16 }
     ensures size { IfOk result (λ n. length (held window.new) ≡ length (held window.old) + n) }
+    ensures read { IfOk result (λ n. AddsRead n window.old (R.remaining (device_of input.old))
+        window.new (R.remaining (device_of input.new))) }
     ensures end { IfOk result (λ n. n ≡ 0 → IsAtEnd (R.remaining (device_of input.new))) }
 
     // Nothing of the input is lost, also where a device fails.
