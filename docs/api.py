@@ -8,7 +8,7 @@ Makes docs/API.md, the list of the libraries' public items, from their sources.
   --help     prints this
 
 Listed are the public items of the public modules of each library: the signature, the first sentence of
-the doc comment, fields, variants and methods. A function that has conditions is marked, with the names
+the doc comment, fields, variants, methods, and the traits that are derived or have an `impl` in the same file. A function that has conditions is marked, with the names
 of its `requires`.
 """
 import os
@@ -88,9 +88,9 @@ def signature_of(lines, at):
                 continue
             break
         text.append(bare)
-        if bare.endswith(('{', ';')):
+        if bare.endswith(('{', ';', '{}')):
             break
-    joined = re.sub(r'\s+', ' ', ' '.join(text)).rstrip('{; ').strip()
+    joined = re.sub(r'\s+', ' ', ' '.join(text)).rstrip('{}; ').strip()
     joined = re.sub(r'\( ', '(', re.sub(r',? \)', ')', joined))
     return joined, conditions
 
@@ -120,15 +120,36 @@ def entry(depth, signature, sentence, conditions=()):
     return f'{"  " * depth}- `{signature}`{marks}' + (f': {sentence}' if sentence else '')
 
 
-def passed_on(crate, path, public):
-    """The items of private modules that a public module passes on by `pub use crate::..`."""
+def passed_on(crate, name, path, public):
+    """The items of private modules that a public module passes on by `pub use`."""
     page = []
     text = re.sub(r'\s+', ' ', '\n'.join(lines_of(path)))
-    for place, names in re.findall(r'pub use crate((?:::\w+)+)::(\w+|\{[^}]*\});', text):
-        if crate + place not in public:
-            wanted = set(re.findall(r'\w+', names))
-            page += items_of(os.path.join(ROOT, 'crates', crate, 'src', *place.split('::')) + '.rt', wanted)
+    for place, names in re.findall(r'pub use (\w+(?:::\w+)*)::(\w+|\{[^}]*\});', text):
+        place = re.sub('^crate', crate, place) if place.startswith('crate') else f'{name}::{place}'
+        source = os.path.join(ROOT, 'crates', crate, 'src', *place.split('::')[1:]) + '.rt'
+        if place not in public and os.path.isfile(source):
+            page += items_of(source, set(re.findall(r'\w+', names)))
     return page
+
+
+def is_defined(owner, lines):
+    return any(re.match(rf'(pub(\([^)]*\))? )?(struct|enum) {owner}\b', line) for line in lines)
+
+
+def traits_of(lines, at, name):
+    """The traits that a type has: derived at its item, or by an `impl` in its file."""
+    text, found = '', []
+    for line in reversed(lines[:at]):
+        if not line.startswith(('#[', ' ', ')', '///', '//')):
+            break
+        text = line + text
+    for names in re.findall(r'derive\(([^)]*)\)', text):
+        found += [it.split('::')[-1].strip() for it in names.split(',') if it.strip()]
+    for line in lines:
+        made = re.match(rf'impl(?:<[^>]*>)? ([\w:]+(?:<.*>)?) for {name}\b', line)
+        if made:
+            found.append(re.sub(r'^(?:\w+::)+', '', made[1]))
+    return sorted(set(found))
 
 
 def items_of(path, wanted=None):
@@ -137,12 +158,12 @@ def items_of(path, wanted=None):
     lines = lines_of(path)
     for at, line in enumerate(lines):
         bare = line.strip()
-        if bare == '#[cfg(test)]':
+        if bare == '#[cfg(test)]' and lines[at + 1].endswith('{'):
             outside_tests = False
         if bare.startswith('///'):
             doc.append(bare[3:].strip())
             continue
-        if bare.startswith('#['):
+        if bare.startswith(('#[', '// ')):
             continue
         if line.startswith('impl'):
             inside = line
@@ -151,7 +172,9 @@ def items_of(path, wanted=None):
         found = ITEM.match(line)
         if found and wanted is not None:
             owner = re.match(r'impl(?:<[^>]*>)? (\w+)', inside)[1] if inside else found['name']
-            found = found if owner in wanted else None
+            # a public type can have methods in the file of another, which is private
+            elsewhere = inside and not is_defined(owner, lines)
+            found = found if owner in wanted or elsewhere else None
         if found and outside_tests:
             signature, conditions = signature_of(lines, at)
             if inside and found['indent']:
@@ -160,6 +183,8 @@ def items_of(path, wanted=None):
             page.append(entry(1 if inside and found['indent'] else 0, signature, first_sentence(doc), conditions))
             if found['kind'] in ('struct', 'enum'):
                 page += [entry(1, member, sentence) for member, sentence in members_of(lines, at)]
+                traits = traits_of(lines, at, found['name'])
+                page += [f'  - traits: {", ".join(f"`{it}`" for it in traits)}'] if traits else []
             if found['kind'] == 'trait':
                 page += methods_of(lines, at)
         if bare:
@@ -203,7 +228,7 @@ def page():
         modules = modules_of(crate)
         public = {name for name, _ in modules}
         for name, path in modules:
-            items = items_of(path) + passed_on(crate, path, public)
+            items = items_of(path) + passed_on(crate, name, path, public)
             if items:
                 text += [f'\n### {name}\n', module_doc(path), ''] + items
     return '\n'.join(text).replace('\n\n\n', '\n\n') + '\n'
