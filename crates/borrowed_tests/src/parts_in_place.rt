@@ -1,7 +1,5 @@
 //! Each part of each chunk is the same where it lies in the packet and where the packet was built.
 
-use crate::in_place::CAPTURES;
-use crate::sack_in_place::{FORWARDS, SACKS};
 use dcsctp_borrowed::cookie_echo::cookie;
 use dcsctp_borrowed::forward_tsn_ref::ForwardTsnRef;
 use dcsctp_borrowed::heartbeat_info::heartbeat_info;
@@ -17,10 +15,10 @@ use dcsctp_wire::packet::sack_chunk::SackChunk;
 use dcsctp_wire::packet::sctp_packet::SctpPacket;
 use dcsctp_wire::packet::{ChunkParseError, SkippedStream};
 use dcsctp_wire::types::Tsn;
-use samples::captures::init_ack_bytes;
-use samples::chunks::ROWS;
-use samples::help::{UNVERIFIED, packet_of};
-use samples::packets::{ACCEPTED, ACCEPTED_WITH_LISTS, REFUSED};
+use hex_rows::are_answered;
+use samples::captures::{TWO_CHUNKS, init_ack_bytes};
+use samples::help::{UNVERIFIED, packet_of, packet_shown, shown};
+use samples::{captures, chunks, packets};
 use std::alloc::{AllocError, Global};
 use std::test::Fail;
 
@@ -103,12 +101,12 @@ fn add_built(text: &mut String, chunk: &Chunk) -> Result<(), AllocError> {
 fn add_built_chunks(text: &mut String, chunks: &[Chunk]) -> Result<(), AllocError> {
     for chunk in chunks {
         add_built(text, chunk)?;
-        writeln!(text)?;
+        text.push(';')?;
     }
     Ok(())
 }
 
-/// A line for each chunk; or the packet's fault.
+/// The parts of each chunk; or the packet's fault.
 fn built_text(alloc: Global, bytes: &[u8]) -> Result<String, AllocError> {
     let mut text = String::new(alloc);
     match SctpPacket::from_bytes(alloc, bytes, 0, &UNVERIFIED) {
@@ -184,10 +182,10 @@ fn add_lent(text: &mut String, alloc: Global, raw: &RawChunk) -> Result<(), Chun
     if let Some(cookie) = cookie(raw) {
         write!(text, "COOKIE {cookie:?}")?;
     }
-    Ok(writeln!(text)?)
+    Ok(text.push(';')?)
 }
 
-/// A line for each chunk; or the packet's fault.
+/// The parts of each chunk; or the packet's fault.
 fn lent_text(alloc: Global, bytes: &[u8]) -> Result<String, ChunkParseError> {
     let mut text = String::new(alloc);
     match SctpPacketRef::from_bytes(bytes, 0, &UNVERIFIED) {
@@ -204,7 +202,7 @@ fn lent_text(alloc: Global, bytes: &[u8]) -> Result<String, ChunkParseError> {
 // ---- both
 
 /// Whether both readings of the header and these chunks have the same parts.
-fn agree(alloc: Global, chunks: &[u8]) -> Result<bool, ChunkParseError> {
+pub(crate) fn agree(alloc: Global, chunks: &[u8]) -> Result<bool, ChunkParseError> {
     let bytes = packet_of(alloc, chunks)?;
     let built = built_text(alloc, &bytes)?;
     Ok(lent_text(alloc, &bytes)?.as_str() == built.as_str())
@@ -214,63 +212,60 @@ fn agree_on_init_ack(alloc: Global) -> Result<bool, ChunkParseError> {
     agree(alloc, &init_ack_bytes(alloc)?)
 }
 
-/// Whether the header and these chunks have these parts, in both readings.
-fn has_parts(alloc: Global, chunks: &[u8], wanted: &str) -> Result<bool, ChunkParseError> {
-    let bytes = packet_of(alloc, chunks)?;
-    let is_built = built_text(alloc, &bytes)?.as_str() == wanted;
-    Ok(is_built && lent_text(alloc, &bytes)?.as_str() == wanted)
+/// What the packet of these chunks prints, if both readings have the same parts.
+fn packet_agreed(alloc: Global, chunks: &[u8]) -> Result<String, Fail> {
+    if !agree(alloc, chunks)? {
+        return Err(Fail::new("the readings differ"));
+    }
+    Ok(packet_shown(alloc, chunks, &UNVERIFIED)?)
+}
+
+/// The same of a chunk alone.
+fn chunk_agreed(alloc: Global, chunk: &[u8]) -> Result<String, Fail> {
+    if !agree(alloc, chunk)? {
+        return Err(Fail::new("the readings differ"));
+    }
+    shown(alloc, chunk)
 }
 
 #[test]
-fn of_packets(rt: HostRuntime) -> Result<(), Fail> {
-    for rows in [ACCEPTED, ACCEPTED_WITH_LISTS] {
-        for (i, (chunks, _, _)) in rows.iter().enumerate() {
-            assert!(rt; agree(rt.alloc(), chunks)?, "row {i}");
-        }
+fn of_packets_and_chunks(rt: HostRuntime) -> Result<(), Fail> {
+    are_answered(
+        rt.alloc(),
+        packets::ROWS,
+        |alloc, chunks| packet_agreed(alloc, chunks),
+    )?;
+    are_answered(
+        rt.alloc(),
+        chunks::ROWS,
+        |alloc, chunk| chunk_agreed(alloc, chunk),
+    )?;
+    for (i, (chunk, _)) in captures::ROWS.iter().enumerate() {
+        assert!(rt; agree(rt.alloc(), chunk)?, "row {i}");
     }
-    for (i, (chunks, _)) in REFUSED.iter().enumerate() {
-        assert!(rt; agree(rt.alloc(), chunks)?, "row {i}, refused");
-    }
-    for (i, chunks) in CAPTURES.iter().enumerate() {
-        assert!(rt; agree(rt.alloc(), chunks)?, "row {i}, captured");
-    }
+    assert!(rt; agree(rt.alloc(), TWO_CHUNKS)?);
+    // the INIT without its padding
+    assert!(rt; agree(rt.alloc(), &captures::INIT[..90])?);
     assert!(rt; agree_on_init_ack(rt.alloc())?);
     Ok(())
 }
 
-#[test]
-fn of_chunks(rt: HostRuntime) -> Result<(), Fail> {
-    for (i, (chunk, _, _, _)) in ROWS.iter().enumerate() {
-        assert!(rt; agree(rt.alloc(), chunk)?, "row {i}");
+/// The parts of the header and these chunks, if both readings have them.
+fn parts(alloc: Global, chunks: &[u8]) -> Result<String, Fail> {
+    if !agree(alloc, chunks)? {
+        return Err(Fail::new("the readings differ"));
     }
-    for (i, (chunk, _)) in SACKS.iter().enumerate() {
-        assert!(rt; agree(rt.alloc(), chunk)?, "row {i}, a SACK");
-    }
-    for (i, (chunk, _)) in FORWARDS.iter().enumerate() {
-        assert!(rt; agree(rt.alloc(), chunk)?, "row {i}, a FORWARD-TSN");
-    }
-    Ok(())
+    Ok(lent_text(alloc, &packet_of(alloc, chunks)?)?)
 }
 
 /// A chunk with each part, and one with none; by hand from RFC 9260 section 3.3 and RFC 3758 section
-/// 3.2.
-const EACH_PART: &[u8] = &[
-    // SACK: a block that ends before its start, and a duplicate
-    3, 0, 0, 24, 0, 0, 0, 1, 0, 0, 0, 2, 0, 1, 0, 1, 0, 4, 0, 3, 0, 0, 0, 5, //
-    // FORWARD-TSN
-    192, 0, 0, 12, 0, 0, 0, 6, 0, 7, 0, 8, //
-    // HEARTBEAT
-    4, 0, 0, 10, 0, 1, 0, 6, 9, 10, 0, 0, //
-    // ERROR: a cookie that came while shutting down
-    9, 0, 0, 8, 0, 10, 0, 4, //
-    // COOKIE ECHO and COOKIE ACK
-    10, 0, 0, 6, 11, 12, 0, 0, 11, 0, 0, 4,
-];
+/// 3.2: a SACK whose block ends before its start, FORWARD-TSN, HEARTBEAT, an ERROR with a cookie that
+/// came while shutting down, COOKIE ECHO, COOKIE ACK.
+const EACH_PART: &str =
+    "03000018 00000001 00000002 00010001 00040003 00000005 c000000c 00000006 00070008 0400000a 00010006 090a0000 09000008 000a0004 0a000006 0b0c0000 0b000004
+= SACK 1 2 false GapAckBlock { start: 4, end: 3 } 5;FORWARD 6 ForwardTsn(7, 8);PARAMETERS HeartbeatInfo(HeartbeatInfoParameter { info: [9, 10] }) Some([9, 10]);CAUSES CookieReceivedWhileShuttingDown(CookieReceivedWhileShuttingDownErrorCause);COOKIE [11, 12];;";
 
 #[test]
 fn of_each(rt: HostRuntime) -> Result<(), Fail> {
-    let wanted =
-        "SACK 1 2 false GapAckBlock { start: 4, end: 3 } 5\nFORWARD 6 ForwardTsn(7, 8)\nPARAMETERS HeartbeatInfo(HeartbeatInfoParameter { info: [9, 10] }) Some([9, 10])\nCAUSES CookieReceivedWhileShuttingDown(CookieReceivedWhileShuttingDownErrorCause)\nCOOKIE [11, 12]\n\n";
-    assert!(rt; has_parts(rt.alloc(), EACH_PART, wanted)?);
-    Ok(())
+    are_answered(rt.alloc(), EACH_PART, |alloc, chunks| parts(alloc, chunks))
 }

@@ -233,7 +233,7 @@ fn read_back(rt: HostRuntime) -> Result<(), Fail> {
     // the word is in its field
     let header = header_of(rt.alloc(), TWO_CHUNKS, 9, &policy)?;
     assert_eq!(rt; header, (1, 2, 7, 9));
-    let text = "COOKIE-ECHO, cookie=1 bytes\nSHUTDOWN cumulative_tsn_ack=101831101\n";
+    let text = "COOKIE-ECHO, cookie=1 bytes; SHUTDOWN cumulative_tsn_ack=101831101";
     assert!(rt; is_answered(rt.alloc(), TWO_CHUNKS, 9, &policy, text)?);
     // another word isn't
     assert!(rt; is_answered(rt.alloc(), TWO_CHUNKS, 8, &policy, "InvalidChecksum")?);

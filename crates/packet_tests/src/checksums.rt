@@ -28,13 +28,13 @@ const ROWS: &[(&[u8], u32, bool, &str)] = &[
     // a zero field is wrong without another method
     (ZERO, 5, false, "InvalidChecksum"),
     // a zero field is accepted under another method
-    (ZERO, 5, true, "COOKIE-ACK\n"),
+    (ZERO, 5, true, "COOKIE-ACK"),
     // a zero field is accepted where zero is expected
-    (ZERO, 0, false, "COOKIE-ACK\n"),
+    (ZERO, 0, false, "COOKIE-ACK"),
     // a field that is the expected word
-    (FIVE, 5, false, "COOKIE-ACK\n"),
+    (FIVE, 5, false, "COOKIE-ACK"),
     // another method accepts the word too, and no other number but zero
-    (FIVE, 5, true, "COOKIE-ACK\n"),
+    (FIVE, 5, true, "COOKIE-ACK"),
     (FIVE, 6, true, "InvalidChecksum"),
     // the size is told ahead of the checksum
     (
@@ -85,7 +85,7 @@ fn verified(rt: HostRuntime) -> Result<(), Fail> {
 fn of_a_real_packet(rt: HostRuntime) -> Result<(), Fail> {
     let policy = ChecksumPolicy::default();
     let word = CRC32C.swap_bytes();
-    assert!(rt; is_answered(rt.alloc(), TRUE, word, &policy, "COOKIE-ACK\n")?);
+    assert!(rt; is_answered(rt.alloc(), TRUE, word, &policy, "COOKIE-ACK")?);
     assert!(rt; is_answered(rt.alloc(), TRUE, CRC32C, &policy, "InvalidChecksum")?);
     Ok(())
 }
