@@ -1,13 +1,14 @@
 //! Whole packets. Each begins with the same header: both ports 5000, tag 16909060, checksum 0.
 
+use crate::checks::checked;
 use dcsctp_wire::packet::ChunkParseError;
 use dcsctp_wire::packet::sctp_packet::{
-    COMMON_HEADER_SIZE, ChecksumPolicy, PacketParseError, SctpPacket,
+    COMMON_HEADER_SIZE, ChecksumPolicy, PacketParseError, SctpPacket, SctpPacketBuilder,
 };
 use hex_rows::{are_answered, digits_of};
 use samples::help::{
-    HEADER, STRICT, UNVERIFIED, canonical_of, header_of, is_answered, is_canonical, packet_of,
-    packet_shown, sizes_of, value_shown,
+    HEADER, STRICT, UNVERIFIED, canonical_of, chunk_of, header_of, is_answered, is_canonical,
+    packet_of, packet_shown, sizes_of, value_shown,
 };
 use samples::packets::ROWS;
 use samples::{captures, chunks};
@@ -69,14 +70,42 @@ fn accepted_and_refused(rt: HostRuntime) -> Result<(), Fail> {
     )
 }
 
-/// What the first chunk of the packet is, as the bytes of a chunk alone are shown.
-fn first_shown(alloc: Global, chunk: &[u8]) -> Result<String, Fail> {
-    let bytes = packet_of(alloc, chunk)?;
-    let packet = SctpPacket::from_bytes(alloc, &bytes, 0, &UNVERIFIED)?;
+/// What the packet's first chunk is, as a chunk of these bytes is shown.
+fn first_shown(alloc: Global, bytes: &[u8], chunk: &[u8]) -> Result<String, Fail> {
+    let packet = SctpPacket::from_bytes(alloc, bytes, 0, &UNVERIFIED)?;
     match packet.chunks.first() {
         Some(first) => Ok(value_shown(alloc, chunk, first)?),
         None => Err(Fail::new("no chunk")),
     }
+}
+
+/// The same of the header and the chunk, which have no fault, and as many parts as are read.
+fn packed(alloc: Global, chunk: &[u8]) -> Result<String, Fail> {
+    let bytes = packet_of(alloc, chunk)?;
+    if SctpPacket::first_fault(&bytes, 0, &UNVERIFIED).is_some() {
+        return Err(Fail::new("a fault"));
+    }
+    checked(alloc, chunk)?;
+    first_shown(alloc, &bytes, chunk)
+}
+
+/// The packet that is built of the chunk alone.
+fn built_of(alloc: Global, chunk: &[u8]) -> Result<Vec<u8>, Fail> {
+    let mut builder = SctpPacketBuilder::new(alloc, 0x01020304, 5000, 5000, 1200);
+    if builder.try_add(&chunk_of(alloc, chunk)?)? {
+        Ok(builder.build(0))
+    } else {
+        Err(Fail::new("no room"))
+    }
+}
+
+/// The same of that packet, in which the strict policy finds no fault.
+fn built(alloc: Global, chunk: &[u8]) -> Result<String, Fail> {
+    let bytes = built_of(alloc, chunk)?;
+    if SctpPacket::first_fault(&bytes, 0, &STRICT).is_some() {
+        return Err(Fail::new("a fault"));
+    }
+    first_shown(alloc, &bytes, chunk)
 }
 
 /// The packet prints the end of this text, and is its own canonical packet.
@@ -92,14 +121,12 @@ fn of_one_chunk(rt: HostRuntime) -> Result<(), Fail> {
     are_answered(
         rt.alloc(),
         chunks::ROWS,
-        |alloc, chunk| first_shown(alloc, chunk),
+        |alloc, chunk| packed(alloc, chunk),
     )?;
+    are_answered(rt.alloc(), chunks::ROWS, |alloc, chunk| built(alloc, chunk))?;
     for (i, (chunk, wanted)) in captures::ROWS.iter().enumerate() {
-        assert_eq!(rt;
-            first_shown(rt.alloc(), chunk)?.as_str(),
-            *wanted,
-            "row {i}"
-        );
+        assert_eq!(rt; packed(rt.alloc(), chunk)?.as_str(), *wanted, "row {i}");
+        assert_eq!(rt; built(rt.alloc(), chunk)?.as_str(), *wanted, "row {i}");
         assert!(rt; is_canonical_end(rt.alloc(), chunk, wanted)?, "row {i}");
     }
     Ok(())

@@ -176,7 +176,7 @@ fn texts_of(alloc: Global, chunks: &[Chunk]) -> Result<String, AllocError> {
 }
 
 /// What the packet's chunks print; or the packet's fault.
-fn answer_of(
+pub fn answer_of(
     alloc: Global,
     bytes: &[u8],
     word: u32,
