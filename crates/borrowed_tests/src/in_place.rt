@@ -57,7 +57,7 @@ fn lent_text(alloc: Global, bytes: &[u8], policy: &ChecksumPolicy) -> Result<Str
 }
 
 /// Whether both readings of the header and these chunks hold the same, or have the same fault.
-fn agree(alloc: Global, chunks: &[u8], policy: &ChecksumPolicy) -> Result<bool, Fail> {
+pub(crate) fn agree(alloc: Global, chunks: &[u8], policy: &ChecksumPolicy) -> Result<bool, Fail> {
     let bytes = packet_of(alloc, chunks)?;
     let built = built_text(alloc, &bytes, policy)?;
     Ok(lent_text(alloc, &bytes, policy)?.as_str() == built.as_str())

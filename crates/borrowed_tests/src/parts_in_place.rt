@@ -1,5 +1,6 @@
 //! Each part of each chunk is the same where it lies in the packet and where the packet was built.
 
+use crate::in_place;
 use dcsctp_borrowed::cookie_echo::cookie;
 use dcsctp_borrowed::forward_tsn_ref::ForwardTsnRef;
 use dcsctp_borrowed::heartbeat_info::heartbeat_info;
@@ -11,8 +12,7 @@ use dcsctp_wire::packet::chunk::{Chunk, RawChunk};
 use dcsctp_wire::packet::chunk_validators::validate_sack;
 use dcsctp_wire::packet::error_causes::ErrorCause;
 use dcsctp_wire::packet::parameter::Parameter;
-use dcsctp_wire::packet::sack_chunk::SackChunk;
-use dcsctp_wire::packet::sctp_packet::SctpPacket;
+use dcsctp_wire::packet::sack_chunk::GapAckBlock;
 use dcsctp_wire::packet::{ChunkParseError, SkippedStream};
 use dcsctp_wire::types::Tsn;
 use hex_rows::are_answered;
@@ -22,193 +22,120 @@ use samples::{captures, chunks, packets};
 use std::alloc::{AllocError, Global};
 use std::test::Fail;
 
-// ---- of a chunk that was built
+// ---- a chunk's part where it lies: the last fields of the chunk that is built of it
 
-fn add_built_sack(text: &mut String, sack: &SackChunk) -> Result<(), AllocError> {
-    let (tsn, a_rwnd, valid) = (sack.cumulative_tsn_ack, sack.a_rwnd, validate_sack(sack));
-    write!(text, "SACK {tsn} {a_rwnd} {valid}")?;
-    for block in &sack.gap_ack_blocks {
-        write!(text, " {block:?}")?;
-    }
-    for tsn in &sack.duplicate_tsns {
-        write!(text, " {tsn}")?;
-    }
-    Ok(())
+fn sack_fields(alloc: Global, sack: &SackRef) -> Result<String, AllocError> {
+    let (tsn, a_rwnd) = (sack.cumulative_tsn_ack(), sack.a_rwnd());
+    let blocks: Vec<GapAckBlock> = sack.gap_ack_blocks().collect(alloc)?;
+    let duplicates: Vec<Tsn> = sack.duplicate_tsns().collect(alloc)?;
+    format!(in alloc;
+        "cumulative_tsn_ack: {tsn}, a_rwnd: {a_rwnd}, gap_ack_blocks: {blocks:?}, duplicate_tsns: {duplicates:?}"
+    )
 }
 
-fn add_built_streams(
-    text: &mut String,
-    tsn: Tsn,
-    streams: &[SkippedStream],
-) -> Result<(), AllocError> {
-    write!(text, "FORWARD {tsn}")?;
-    for stream in streams {
-        write!(text, " {stream:?}")?;
-    }
-    Ok(())
-}
-
-/// A parameter, and its info if it is a Heartbeat Info.
-fn add_parameter(
-    text: &mut String,
-    parameter: &Parameter,
-    info: Option<&[u8]>,
-) -> Result<(), AllocError> {
-    write!(text, " {parameter:?} {info:?}")
-}
-
-fn built_info(parameter: &Parameter) -> Option<&[u8]> {
-    match parameter {
-        Parameter::HeartbeatInfo(p) => Some(&p.info),
-        _ => None,
-    }
-}
-
-fn add_built_parameters(text: &mut String, parameters: &[Parameter]) -> Result<(), AllocError> {
-    write!(text, "PARAMETERS")?;
-    for parameter in parameters {
-        add_parameter(text, parameter, built_info(parameter))?;
-    }
-    Ok(())
-}
-
-fn add_built_causes(text: &mut String, causes: &[ErrorCause]) -> Result<(), AllocError> {
-    write!(text, "CAUSES")?;
-    for cause in causes {
-        write!(text, " {cause:?}")?;
-    }
-    Ok(())
-}
-
-/// The one part that a chunk of its kind has, if any.
-fn add_built(text: &mut String, chunk: &Chunk) -> Result<(), AllocError> {
-    match chunk {
-        Chunk::Sack(c) => add_built_sack(text, c),
-        Chunk::ForwardTsn(c) => add_built_streams(text, c.new_cumulative_tsn, &c.skipped_streams),
-        Chunk::IForwardTsn(c) => add_built_streams(text, c.new_cumulative_tsn, &c.skipped_streams),
-        Chunk::Init(c) => add_built_parameters(text, &c.parameters),
-        Chunk::InitAck(c) => add_built_parameters(text, &c.parameters),
-        Chunk::HeartbeatRequest(c) => add_built_parameters(text, &c.parameters),
-        Chunk::HeartbeatAck(c) => add_built_parameters(text, &c.parameters),
-        Chunk::ReConfig(c) => add_built_parameters(text, &c.parameters),
-        Chunk::Abort(c) => add_built_causes(text, &c.error_causes),
-        Chunk::Error(c) => add_built_causes(text, &c.error_causes),
-        Chunk::CookieEcho(c) => write!(text, "COOKIE {:?}", c.cookie),
-        _ => Ok(()),
-    }
-}
-
-fn add_built_chunks(text: &mut String, chunks: &[Chunk]) -> Result<(), AllocError> {
-    for chunk in chunks {
-        add_built(text, chunk)?;
-        text.push(';')?;
-    }
-    Ok(())
-}
-
-/// The parts of each chunk; or the packet's fault.
-fn built_text(alloc: Global, bytes: &[u8]) -> Result<String, AllocError> {
-    let mut text = String::new(alloc);
-    match SctpPacket::from_bytes(alloc, bytes, 0, &UNVERIFIED) {
-        Ok(packet) => add_built_chunks(&mut text, &packet.chunks)?,
-        Err(error) => write!(text, "{error:?}")?,
-    }
-    Ok(text)
-}
-
-// ---- of a chunk where it lies
-
-fn add_lent_sack(text: &mut String, sack: &SackRef) -> Result<(), AllocError> {
-    let (tsn, a_rwnd, valid) = (sack.cumulative_tsn_ack(), sack.a_rwnd(), sack.validate());
-    write!(text, "SACK {tsn} {a_rwnd} {valid}")?;
-    for block in sack.gap_ack_blocks() {
-        write!(text, " {block:?}")?;
-    }
-    for tsn in sack.duplicate_tsns() {
-        write!(text, " {tsn}")?;
-    }
-    Ok(())
-}
-
-fn add_lent_streams(text: &mut String, forward: &ForwardTsnRef) -> Result<(), AllocError> {
+fn forward_fields(alloc: Global, forward: &ForwardTsnRef) -> Result<String, AllocError> {
     let tsn = forward.new_cumulative_tsn();
-    write!(text, "FORWARD {tsn}")?;
-    for stream in forward.skipped_streams() {
-        write!(text, " {stream:?}")?;
-    }
-    Ok(())
+    let streams: Vec<SkippedStream> = forward.skipped_streams().collect(alloc)?;
+    format!(in alloc; "new_cumulative_tsn: {tsn}, skipped_streams: {streams:?}")
 }
 
-fn add_lent_parameters(
-    text: &mut String,
-    alloc: Global,
-    parameters: RawParameters,
-) -> Result<(), ChunkParseError> {
-    write!(text, "PARAMETERS")?;
-    for raw in parameters {
+/// A parameter has this info if it is a Heartbeat Info, and else none.
+fn has_info(parameter: &Parameter, info: Option<&[u8]>) -> bool {
+    match parameter {
+        Parameter::HeartbeatInfo(p) => info == Some(p.info.as_slice()),
+        _ => info.is_none(),
+    }
+}
+
+fn parameters_fields(alloc: Global, raws: RawParameters) -> Result<String, ChunkParseError> {
+    let mut list = Vec::new(alloc);
+    let mut has_infos = true;
+    for raw in raws {
         let info = heartbeat_info(&raw);
-        add_parameter(text, &Parameter::try_from(alloc, raw)?, info)?;
+        let parameter = Parameter::try_from(alloc, raw)?;
+        has_infos &= has_info(&parameter, info);
+        list.push(parameter)?;
     }
-    Ok(())
+    let infos = if has_infos { "" } else { "other infos" };
+    Ok(format!(in alloc; "parameters: {list:?}{infos}")?)
 }
 
-fn add_lent_causes(
-    text: &mut String,
-    alloc: Global,
-    causes: RawCauses,
-) -> Result<(), ChunkParseError> {
-    write!(text, "CAUSES")?;
-    for raw in causes {
-        let cause = ErrorCause::try_from(alloc, raw)?;
-        write!(text, " {cause:?}")?;
+fn causes_fields(alloc: Global, raws: RawCauses) -> Result<String, ChunkParseError> {
+    let mut list = Vec::new(alloc);
+    for raw in raws {
+        list.push(ErrorCause::try_from(alloc, raw)?)?;
     }
-    Ok(())
+    Ok(format!(in alloc; "error_causes: {list:?}")?)
 }
 
-/// Each part that a reader finds.
-fn add_lent(text: &mut String, alloc: Global, raw: &RawChunk) -> Result<(), ChunkParseError> {
+/// Each part that a reader finds: a chunk has one, if any.
+fn part_fields(alloc: Global, raw: &RawChunk) -> Result<String, ChunkParseError> {
+    let mut text = String::new(alloc);
     if let Some(sack) = SackRef::from_raw(raw) {
-        add_lent_sack(text, &sack)?;
+        text.push_str(&sack_fields(alloc, &sack)?)?;
     }
     if let Some(forward) = ForwardTsnRef::from_raw(raw) {
-        add_lent_streams(text, &forward)?;
+        text.push_str(&forward_fields(alloc, &forward)?)?;
     }
     if let Some(parameters) = RawParameters::from_raw(raw) {
-        add_lent_parameters(text, alloc, parameters)?;
+        text.push_str(&parameters_fields(alloc, parameters)?)?;
     }
     if let Some(causes) = RawCauses::from_raw(raw) {
-        add_lent_causes(text, alloc, causes)?;
+        text.push_str(&causes_fields(alloc, causes)?)?;
     }
     if let Some(cookie) = cookie(raw) {
-        write!(text, "COOKIE {cookie:?}")?;
-    }
-    Ok(text.push(';')?)
-}
-
-/// The parts of each chunk; or the packet's fault.
-fn lent_text(alloc: Global, bytes: &[u8]) -> Result<String, ChunkParseError> {
-    let mut text = String::new(alloc);
-    match SctpPacketRef::from_bytes(bytes, 0, &UNVERIFIED) {
-        Ok(packet) => {
-            for raw in packet.chunks {
-                add_lent(&mut text, alloc, &raw)?;
-            }
-        }
-        Err(error) => write!(text, "{error:?}")?,
+        write!(text, "cookie: {cookie:?}")?;
     }
     Ok(text)
 }
 
-// ---- both
+// ---- beside the chunk that is built
 
-/// Whether both readings of the header and these chunks have the same parts.
-pub(crate) fn agree(alloc: Global, chunks: &[u8]) -> Result<bool, ChunkParseError> {
-    let bytes = packet_of(alloc, chunks)?;
-    let built = built_text(alloc, &bytes)?;
-    Ok(lent_text(alloc, &bytes)?.as_str() == built.as_str())
+/// A chunk of a kind without a part.
+fn is_plain(chunk: &Chunk) -> bool {
+    match chunk {
+        Chunk::Data(_) | Chunk::IData(_) | Chunk::Unknown(_) | Chunk::Shutdown(_) => true,
+        Chunk::ShutdownAck(_) | Chunk::CookieAck(_) | Chunk::ShutdownComplete(_) => true,
+        _ => false,
+    }
 }
 
-fn agree_on_init_ack(alloc: Global) -> Result<bool, ChunkParseError> {
+/// Whether a SACK is valid is the same in both readings; nothing else is read as a SACK.
+fn is_as_valid(chunk: &Chunk, lent: Option<bool>) -> bool {
+    match chunk {
+        Chunk::Sack(sack) => lent == Some(validate_sack(sack)),
+        _ => lent.is_none(),
+    }
+}
+
+/// Whether the chunk's part is the same where it lies and where it was built.
+fn has_same_part(alloc: Global, raw: RawChunk) -> Result<bool, ChunkParseError> {
+    let valid = SackRef::from_raw(&raw).map(|sack| sack.validate());
+    let part = part_fields(alloc, &raw)?;
+    let chunk = Chunk::try_from(alloc, raw)?;
+    if !is_as_valid(&chunk, valid) {
+        return Ok(false);
+    }
+    if part.is_empty() {
+        return Ok(is_plain(&chunk));
+    }
+    let end = format!(in alloc; "{part} }})")?;
+    Ok(format!(in alloc; "{chunk:?}")?.ends_with(end.as_str()))
+}
+
+/// Whether both readings of the header and these chunks have the same parts.
+pub(crate) fn agree(alloc: Global, chunks: &[u8]) -> Result<bool, Fail> {
+    let bytes = packet_of(alloc, chunks)?;
+    let mut is_same = in_place::agree(alloc, chunks, &UNVERIFIED)?;
+    if let Ok(packet) = SctpPacketRef::from_bytes(&bytes, 0, &UNVERIFIED) {
+        for raw in packet.chunks {
+            is_same &= has_same_part(alloc, raw)?;
+        }
+    }
+    Ok(is_same)
+}
+
+fn agree_on_init_ack(alloc: Global) -> Result<bool, Fail> {
     agree(alloc, &init_ack_bytes(alloc)?)
 }
 
@@ -250,12 +177,22 @@ fn of_packets_and_chunks(rt: HostRuntime) -> Result<(), Fail> {
     Ok(())
 }
 
-/// The parts of the header and these chunks, if both readings have them.
+/// The parts of the header and these chunks, and whether a SACK is valid, if both readings agree.
 fn parts(alloc: Global, chunks: &[u8]) -> Result<String, Fail> {
     if !agree(alloc, chunks)? {
         return Err(Fail::new("the readings differ"));
     }
-    Ok(lent_text(alloc, &packet_of(alloc, chunks)?)?)
+    let bytes = packet_of(alloc, chunks)?;
+    let mut text = String::new(alloc);
+    for raw in SctpPacketRef::from_bytes(&bytes, 0, &UNVERIFIED)?.chunks {
+        if let Some(sack) = SackRef::from_raw(&raw) {
+            let valid = sack.validate();
+            write!(text, "valid: {valid}, ")?;
+        }
+        let part = part_fields(alloc, &raw)?;
+        write!(text, "{part}; ")?;
+    }
+    Ok(text)
 }
 
 /// A chunk with each part, and one with none; by hand from RFC 9260 section 3.3 and RFC 3758 section
@@ -263,7 +200,7 @@ fn parts(alloc: Global, chunks: &[u8]) -> Result<String, Fail> {
 /// came while shutting down, COOKIE ECHO, COOKIE ACK.
 const EACH_PART: &str =
     "03000018 00000001 00000002 00010001 00040003 00000005 c000000c 00000006 00070008 0400000a 00010006 090a0000 09000008 000a0004 0a000006 0b0c0000 0b000004
-= SACK 1 2 false GapAckBlock { start: 4, end: 3 } 5;FORWARD 6 ForwardTsn(7, 8);PARAMETERS HeartbeatInfo(HeartbeatInfoParameter { info: [9, 10] }) Some([9, 10]);CAUSES CookieReceivedWhileShuttingDown(CookieReceivedWhileShuttingDownErrorCause);COOKIE [11, 12];;";
+= valid: false, cumulative_tsn_ack: 1, a_rwnd: 2, gap_ack_blocks: [GapAckBlock { start: 4, end: 3 }], duplicate_tsns: [5]; new_cumulative_tsn: 6, skipped_streams: [ForwardTsn(7, 8)]; parameters: [HeartbeatInfo(HeartbeatInfoParameter { info: [9, 10] })]; error_causes: [CookieReceivedWhileShuttingDown(CookieReceivedWhileShuttingDownErrorCause)]; cookie: [11, 12]; ; ";
 
 #[test]
 fn of_each(rt: HostRuntime) -> Result<(), Fail> {
