@@ -55,19 +55,29 @@ prints, which reads a packet whose checksum is wrong.
 TABLE_HEAD = '''//! Packets of real peers, and what is printed of them: the rows of docs/CAPTURES.md. Written by
 //! `docs/captures.py --write`.
 
-use crate::tests::captured;
+use crate::tests::{captured, first_wrong};
+use std::alloc::Global;
+use std::test::Fail;
 
-/// A packet in hexadecimal, and what is printed of it.
-const CAPTURES: &[(&str, &str)] = &[
+const CAPTURES: &str = r"# a packet, and what is printed of it, of which each line ends in ` | `
 '''
 
-TABLE_END = '''];
+TABLE_END = '''";
+
+/// Whether the packet is answered so in memory.
+fn is_captured(alloc: Global, text: &str, answer: (&str, u8)) -> bool {
+    captured(alloc, text, answer.0) == (answer.1, true)
+}
 
 #[test]
-fn captures(rt: HostRuntime) {
-    for (text, wanted) in CAPTURES {
-        assert_eq!(rt; captured(rt.alloc(), text, wanted), (0, true), "{text}");
-    }
+fn captures(rt: HostRuntime) -> Result<(), Fail> {
+    let wrong = first_wrong(
+        rt.alloc(),
+        CAPTURES,
+        |alloc, text, answer| is_captured(alloc, text, answer),
+    )?;
+    assert_eq!(rt; wrong, None);
+    Ok(())
 }
 '''
 
@@ -137,8 +147,8 @@ def printed(texts):
 def in_table():
     """What the table says of each packet, in its order."""
     with open(TABLE, encoding='utf-8') as table:
-        rows = re.findall(r'^        "(.*)",\n        "(.*)",$', table.read(), flags=re.M)
-    return {text: answer.replace('\\n', '\n') for text, answer in rows}
+        rows = re.findall(r'^([0-9a-f]+)\n= (.*?)(?:";)?$', table.read(), flags=re.M)
+    return {text: answer.replace(' | ', '\n') + '\n' for text, answer in rows}
 
 
 def dumped():
@@ -167,9 +177,9 @@ def table_of(rows):
     parts = []
     for entry, answer in rows:
         if is_shown(entry):
-            line = answer.replace('\n', '\\n')
-            parts.append(f'    (\n        "{entry.text}",\n        "{line}",\n    ),\n')
-    return TABLE_HEAD + ''.join(parts) + TABLE_END
+            line = answer.strip('\n').replace('\n', ' | ')
+            parts.append(f'{entry.text}\n= {line}')
+    return TABLE_HEAD + '\n'.join(parts) + TABLE_END
 
 
 def byte_string(text):

@@ -10,13 +10,10 @@ use dcsctp_wire::packet::chunk::{Chunk, RawChunk};
 use dcsctp_wire::packet::data::Data;
 use dcsctp_wire::packet::sctp_packet::{ChecksumPolicy, CommonHeader, SctpPacket};
 use dcsctp_wire::types::Tsn;
-use samples::captures::{
-    ABORT, COOKIE_ECHO, DATA, ERROR, HEARTBEAT, HEARTBEAT_ACK, IDATA_FIRST, IDATA_LAST, INIT, SACK,
-    SHUTDOWN_COMPLETE, TWO_CHUNKS,
-};
-use samples::chunks::ROWS;
-use samples::help::{STRICT, UNVERIFIED, header_of, packet_of, raw_of};
-use samples::packets::{ACCEPTED, ACCEPTED_WITH_LISTS, REFUSED};
+use hex_rows::are_answered;
+use samples::captures::TWO_CHUNKS;
+use samples::help::{STRICT, UNVERIFIED, header_of, packet_of, packet_shown, raw_of, shown};
+use samples::{captures, chunks, packets};
 use std::alloc::{AllocError, Global};
 use std::test::Fail;
 
@@ -60,7 +57,7 @@ fn lent_text(alloc: Global, bytes: &[u8], policy: &ChecksumPolicy) -> Result<Str
 }
 
 /// Whether both readings of the header and these chunks hold the same, or have the same fault.
-fn agree(alloc: Global, chunks: &[u8], policy: &ChecksumPolicy) -> Result<bool, Fail> {
+pub(crate) fn agree(alloc: Global, chunks: &[u8], policy: &ChecksumPolicy) -> Result<bool, Fail> {
     let bytes = packet_of(alloc, chunks)?;
     let built = built_text(alloc, &bytes, policy)?;
     Ok(lent_text(alloc, &bytes, policy)?.as_str() == built.as_str())
@@ -120,111 +117,87 @@ fn count_built(alloc: Global, chunks: &[u8]) -> Result<usize, Fail> {
     )
 }
 
-pub(crate) const CAPTURES: &[&[u8]] = &[
-    DATA,
-    INIT,
-    HEARTBEAT,
-    HEARTBEAT_ACK,
-    ABORT,
-    ERROR,
-    COOKIE_ECHO,
-    SHUTDOWN_COMPLETE,
-    IDATA_FIRST,
-    IDATA_LAST,
-    TWO_CHUNKS,
-];
-
-#[test]
-fn of_accepted(rt: HostRuntime) -> Result<(), Fail> {
-    for rows in [ACCEPTED, ACCEPTED_WITH_LISTS] {
-        for (i, (chunks, _, _)) in rows.iter().enumerate() {
-            assert!(rt; agree(rt.alloc(), chunks, &UNVERIFIED)?, "row {i}");
-            assert!(rt; agree(rt.alloc(), chunks, &STRICT)?, "row {i}, strict");
-        }
+/// What the packet of these chunks prints, if both readings hold the same under both policies.
+fn packet_agreed(alloc: Global, chunks: &[u8]) -> Result<String, Fail> {
+    if !agree(alloc, chunks, &UNVERIFIED)? || !agree(alloc, chunks, &STRICT)? {
+        return Err(Fail::new("the readings differ"));
     }
-    Ok(())
+    Ok(packet_shown(alloc, chunks, &UNVERIFIED)?)
 }
 
 #[test]
-fn of_refused(rt: HostRuntime) -> Result<(), Fail> {
-    for (i, (chunks, _)) in REFUSED.iter().enumerate() {
-        assert!(rt; agree(rt.alloc(), chunks, &UNVERIFIED)?, "row {i}");
-    }
-    Ok(())
+fn of_packets(rt: HostRuntime) -> Result<(), Fail> {
+    are_answered(
+        rt.alloc(),
+        packets::ROWS,
+        |alloc, chunks| packet_agreed(alloc, chunks),
+    )
 }
 
-#[test]
-fn of_captures(rt: HostRuntime) -> Result<(), Fail> {
-    for (i, chunks) in CAPTURES.iter().enumerate() {
-        assert!(rt; agree(rt.alloc(), chunks, &UNVERIFIED)?, "row {i}");
-        let count = count_built(rt.alloc(), chunks)?;
-        assert_eq!(rt; count_same_data(rt.alloc(), chunks)?, count, "row {i}");
+/// Both readings hold the same, and each chunk has the same user data in both.
+fn has_same(alloc: Global, chunks: &[u8]) -> Result<bool, Fail> {
+    let count = count_built(alloc, chunks)?;
+    Ok(agree(alloc, chunks, &UNVERIFIED)? && count_same_data(alloc, chunks)? == count)
+}
+
+/// All that the chunk is, if it is the same in both readings.
+fn chunk_agreed(alloc: Global, chunk: &[u8]) -> Result<String, Fail> {
+    if !has_same(alloc, chunk)? {
+        return Err(Fail::new("the readings differ"));
     }
-    Ok(())
+    shown(alloc, chunk)
 }
 
 #[test]
 fn of_chunks(rt: HostRuntime) -> Result<(), Fail> {
-    for (i, (chunk, _, _, _)) in ROWS.iter().enumerate() {
-        assert!(rt; agree(rt.alloc(), chunk, &UNVERIFIED)?, "row {i}");
-        let count = count_built(rt.alloc(), chunk)?;
-        assert_eq!(rt; count_same_data(rt.alloc(), chunk)?, count, "row {i}");
+    are_answered(
+        rt.alloc(),
+        chunks::ROWS,
+        |alloc, chunk| chunk_agreed(alloc, chunk),
+    )?;
+    for (i, (chunk, _)) in captures::ROWS.iter().enumerate() {
+        assert!(rt; has_same(rt.alloc(), chunk)?, "row {i}");
     }
+    assert!(rt; has_same(rt.alloc(), TWO_CHUNKS)?);
+    // the INIT without its padding
+    assert!(rt; agree(rt.alloc(), &captures::INIT[..90], &UNVERIFIED)?);
+    assert!(rt; agree(rt.alloc(), &captures::INIT[..90], &STRICT)?);
     Ok(())
 }
 
 /// The bytes of a chunk, and its user data as text; by hand from RFC 9260 section 3.3.1 and RFC 8260
 /// section 2.1.
-const USER_DATA: &[(&[u8], &str)] = &[
-    // DATA in mid-message, which asks for an immediate ack
-    (
-        &[
-            0, 8, 0, 0x15, 0, 0, 0, 0x7b, 1, 0xc8, 3, 0x15, 0, 0, 0x23, 0x82, 1, 2, 3, 4, 5,
-        ],
-        "Some(UserData { tsn: 123, stream_key: Ordered(456), ssn: 789, mid: 0, fsn: 0, ppid: 9090, payload: [1, 2, 3, 4, 5], is_beginning: false, is_end: false, immediate_ack: true })",
-    ),
-    // no payload, with all that a flag can say
-    (
-        &[0, 0xff, 0, 0x10, 0, 0, 0, 1, 0, 2, 0, 3, 0, 0, 0, 4],
-        "Some(UserData { tsn: 1, stream_key: Unordered(2), ssn: 3, mid: 0, fsn: 0, ppid: 4, payload: [], is_beginning: true, is_end: true, immediate_ack: true })",
-    ),
-    // I-DATA: a beginning has a payload protocol id, and what isn't one an FSN
-    (
-        &[
-            64, 2, 0, 21, 0, 0, 0, 1, 0, 2, 9, 9, 0, 0, 0, 3, 0, 0, 0, 4, 5,
-        ],
-        "Some(UserData { tsn: 1, stream_key: Ordered(2), ssn: 0, mid: 3, fsn: 0, ppid: 4, payload: [5], is_beginning: true, is_end: false, immediate_ack: false })",
-    ),
-    (
-        &[
-            64, 1, 0, 21, 0, 0, 0, 1, 0, 2, 9, 9, 0, 0, 0, 3, 0, 0, 0, 4, 5,
-        ],
-        "Some(UserData { tsn: 1, stream_key: Ordered(2), ssn: 0, mid: 3, fsn: 4, ppid: 0, payload: [5], is_beginning: false, is_end: true, immediate_ack: false })",
-    ),
-    // a byte too few: of DATA, and of I-DATA
-    (&[0, 3, 0, 15, 0, 0, 0, 1, 0, 2, 0, 3, 0, 0, 0], "None"),
-    (
-        &[64, 3, 0, 19, 0, 0, 0, 1, 0, 2, 0, 0, 0, 0, 0, 3, 0, 0, 0],
-        "None",
-    ),
-    // SACK and COOKIE ACK
-    (SACK, "None"),
-    (&[0x0b, 0, 0, 4], "None"),
-];
+const USER_DATA: &str = r"# DATA in mid-message, which asks for an immediate ack
+00080015 0000007b 01c80315 00002382 01020304 05
+= Some(UserData { tsn: 123, stream_key: Ordered(456), ssn: 789, mid: 0, fsn: 0, ppid: 9090, payload: [1, 2, 3, 4, 5], is_beginning: false, is_end: false, immediate_ack: true })
+# no payload, with all that a flag can say
+00ff0010 00000001 00020003 00000004
+= Some(UserData { tsn: 1, stream_key: Unordered(2), ssn: 3, mid: 0, fsn: 0, ppid: 4, payload: [], is_beginning: true, is_end: true, immediate_ack: true })
+# I-DATA: a beginning has a payload protocol id, and what isn't one an FSN
+40020015 00000001 00020909 00000003 00000004 05
+= Some(UserData { tsn: 1, stream_key: Ordered(2), ssn: 0, mid: 3, fsn: 0, ppid: 4, payload: [5], is_beginning: true, is_end: false, immediate_ack: false })
+40010015 00000001 00020909 00000003 00000004 05
+= Some(UserData { tsn: 1, stream_key: Ordered(2), ssn: 0, mid: 3, fsn: 4, ppid: 0, payload: [5], is_beginning: false, is_end: true, immediate_ack: false })
+# a byte too few: of DATA, and of I-DATA
+0003000f 00000001 00020003 000000 = None
+40030013 00000001 00020000 00000003 000000 = None
+# SACK and COOKIE ACK
+0300001c 369dd00b 0001ed73 00020001 00020006 00080008 369dd011 = None
+0b000004 = None";
 
-/// The user data of the chunk at the front has this text.
-fn has_data(alloc: Global, bytes: &[u8], wanted: &str) -> Result<bool, ChunkParseError> {
-    let raw = raw_of(bytes)?;
-    let lent = UserData::from_raw(&raw);
-    Ok(format!(in alloc; "{lent:?}")?.as_str() == wanted)
+/// The user data of the chunk at the front.
+fn data_shown(alloc: Global, bytes: &[u8]) -> Result<String, Fail> {
+    let lent = UserData::from_raw(&raw_of(bytes)?);
+    Ok(format!(in alloc; "{lent:?}")?)
 }
 
 #[test]
 fn of_user_data(rt: HostRuntime) -> Result<(), Fail> {
-    for (i, (bytes, wanted)) in USER_DATA.iter().enumerate() {
-        assert!(rt; has_data(rt.alloc(), bytes, wanted)?, "row {i}");
-    }
-    Ok(())
+    are_answered(
+        rt.alloc(),
+        USER_DATA,
+        |alloc, bytes| data_shown(alloc, bytes),
+    )
 }
 
 // The tag and the checksum field of a packet with a COOKIE ACK, one after the other.

@@ -7,193 +7,122 @@ use dcsctp_borrowed::raw_causes::RawCauses;
 use dcsctp_borrowed::raw_parameters::RawParameters;
 use dcsctp_wire::packet::ChunkParseError;
 use dcsctp_wire::packet::error_causes::ErrorCause;
-use dcsctp_wire::packet::parameter::{Parameter, RawParameter};
-use samples::captures::{ABORT, COOKIE_ECHO, ERROR, HEARTBEAT, HEARTBEAT_ACK, RE_CONFIG, SACK};
+use dcsctp_wire::packet::parameter::Parameter;
+use hex_rows::are_answered;
+use samples::captures::{HEARTBEAT, HEARTBEAT_ACK};
 use samples::help::raw_of;
 use std::alloc::Global;
 use std::test::Fail;
 
-/// A parameter or a cause: its number, its bytes, and what is built of it.
-fn parameter_text(alloc: Global, raw: RawParameter) -> Result<String, ChunkParseError> {
-    let (typ, value) = (raw.typ, raw.value);
-    let parameter = Parameter::try_from(alloc, raw)?;
-    Ok(format!(in alloc; "{typ} {value:?} {parameter:?}; ")?)
-}
-
-fn cause_text(alloc: Global, raw: RawParameter) -> Result<String, ChunkParseError> {
-    let (code, value) = (raw.typ, raw.value);
-    let cause = ErrorCause::try_from(alloc, raw)?;
-    Ok(format!(in alloc; "{code} {value:?} {cause:?}; ")?)
-}
-
-/// The parameters of the chunk at the front, or that it has no place for any.
-fn parameters_text(alloc: Global, bytes: &[u8]) -> Result<String, ChunkParseError> {
-    let Some(raws) = RawParameters::from_raw(&raw_of(bytes)?) else {
-        return Ok(String::from_str(alloc, "none")?);
-    };
-    let mut text = String::new(alloc);
+/// The numbers, the bytes and what is built of a chunk's parameters.
+fn parameters_text(alloc: Global, raws: RawParameters) -> Result<String, ChunkParseError> {
+    let mut text = String::from_str(alloc, "PARAMETERS")?;
     for raw in raws {
-        text.push_str(&parameter_text(alloc, raw)?)?;
+        let (typ, value) = (raw.typ, raw.value);
+        let parameter = Parameter::try_from(alloc, raw)?;
+        write!(text, " {typ} {value:?} {parameter:?}")?;
     }
     Ok(text)
 }
 
 /// The same of its error causes.
-fn causes_text(alloc: Global, bytes: &[u8]) -> Result<String, ChunkParseError> {
-    let Some(raws) = RawCauses::from_raw(&raw_of(bytes)?) else {
-        return Ok(String::from_str(alloc, "none")?);
-    };
-    let mut text = String::new(alloc);
+fn causes_text(alloc: Global, raws: RawCauses) -> Result<String, ChunkParseError> {
+    let mut text = String::from_str(alloc, "CAUSES")?;
     for raw in raws {
-        text.push_str(&cause_text(alloc, raw)?)?;
+        let (code, value) = (raw.typ, raw.value);
+        let cause = ErrorCause::try_from(alloc, raw)?;
+        write!(text, " {code} {value:?} {cause:?}")?;
     }
     Ok(text)
 }
 
-/// The chunk at the front has these parameters and these causes.
-fn has_lists(
-    alloc: Global,
-    bytes: &[u8],
-    parameters: &str,
-    causes: &str,
-) -> Result<bool, ChunkParseError> {
-    let has_parameters = parameters_text(alloc, bytes)?.as_str() == parameters;
-    Ok(has_parameters && causes_text(alloc, bytes)?.as_str() == causes)
+/// The list of the chunk at the front, where it has a place for one.
+fn list_text(alloc: Global, bytes: &[u8]) -> Result<String, Fail> {
+    let raw = raw_of(bytes)?;
+    match (RawParameters::from_raw(&raw), RawCauses::from_raw(&raw)) {
+        (Some(raws), None) => Ok(parameters_text(alloc, raws)?),
+        (None, Some(raws)) => Ok(causes_text(alloc, raws)?),
+        (None, None) => Ok(String::from_str(alloc, "none")?),
+        (Some(_), Some(_)) => Err(Fail::new("both lists")),
+    }
 }
 
-/// The bytes of a chunk, its parameters and its causes; by hand from RFC 9260 sections 3.3.2 to
+/// The bytes of a chunk, and its parameters or its causes; by hand from RFC 9260 sections 3.3.2 to
 /// 3.3.10.
-const ROWS: &[(&[u8], &str, &str)] = &[
-    // an INIT with two parameters, the first with a byte of padding that isn't zero
-    (
-        &[
-            1, 0, 0, 32, 0, 0, 0, 1, 0, 0, 0, 2, 0, 3, 0, 4, 0, 0, 0, 5, 0, 7, 0, 7, 7, 8, 9, 1,
-            0xc0, 0, 0, 4,
-        ],
-        "7 [7, 8, 9] StateCookie(StateCookieParameter { cookie: [7, 8, 9] }); 49152 [] ForwardTsnSupported(ForwardTsnSupportedParameter); ",
-        "none",
-    ),
-    // an INIT ACK with none, and one that is too short for its numbers
-    (
-        &[2, 0, 0, 20, 0, 0, 0, 1, 0, 0, 0, 2, 0, 3, 0, 4, 0, 0, 0, 5],
-        "",
-        "none",
-    ),
-    (
-        &[2, 0, 0, 19, 0, 0, 0, 1, 0, 0, 0, 2, 0, 3, 0, 4, 0, 0, 0],
-        "none",
-        "none",
-    ),
-    // a HEARTBEAT and its answer
-    (
-        &[4, 0, 0, 10, 0, 1, 0, 6, 1, 2],
-        "1 [1, 2] HeartbeatInfo(HeartbeatInfoParameter { info: [1, 2] }); ",
-        "none",
-    ),
-    (
-        &[5, 0, 0, 10, 0, 1, 0, 6, 1, 2],
-        "1 [1, 2] HeartbeatInfo(HeartbeatInfoParameter { info: [1, 2] }); ",
-        "none",
-    ),
-    // the second parameter of a HEARTBEAT is longer than the chunk
-    (&[4, 0, 0, 12, 0, 1, 0, 4, 0, 1, 0, 5], "none", "none"),
-    (
-        RE_CONFIG,
-        "13 [135, 85, 216, 35, 113, 151, 106, 158, 135, 85, 216, 50, 0, 6] OutgoingSsnResetRequest(OutgoingSsnResetRequestParameter { request_seq_nbr: 2270550051, response_seq_nbr: 1905748638, sender_last_assigned_tsn: 2270550066, streams: [6] }); ",
-        "none",
-    ),
-    // ABORT, without causes too
-    (
-        ABORT,
-        "none",
-        "12 [] UserInitiatedAbort(UserInitiatedAbortErrorCause { reason: \"\" }); ",
-    ),
-    (&[6, 1, 0, 4], "none", ""),
-    // ERROR with one cause, with two, and with none, which it may not have
-    (
-        ERROR,
-        "none",
-        "6 [73, 0, 0, 4] UnrecognizedChunk(UnrecognizedChunkErrorCause { chunk: [73, 0, 0, 4] }); ",
-    ),
-    (
-        &[9, 0, 0, 16, 0, 10, 0, 4, 0, 9, 0, 8, 0, 0, 0, 1],
-        "none",
-        "10 [] CookieReceivedWhileShuttingDown(CookieReceivedWhileShuttingDownErrorCause); 9 [0, 0, 0, 1] NoUserData(NoUserDataErrorCause { tsn: 1 }); ",
-    ),
-    (&[9, 0, 0, 4], "none", "none"),
-    // No User Data without its TSN
-    (&[9, 0, 0, 8, 0, 9, 0, 4], "none", "none"),
-    (SACK, "none", "none"),
-];
+const ROWS: &str =
+    r#"# an INIT with two parameters, the first with a byte of padding that isn't zero
+01000020 00000001 00000002 00030004 00000005 00070007 07080901 c0000004
+= PARAMETERS 7 [7, 8, 9] StateCookie(StateCookieParameter { cookie: [7, 8, 9] }) 49152 [] ForwardTsnSupported(ForwardTsnSupportedParameter)
+# an INIT ACK with none, and one that is too short for its numbers
+02000014 00000001 00000002 00030004 00000005 = PARAMETERS
+02000013 00000001 00000002 00030004 000000 = none
+# a HEARTBEAT and its answer
+0400000a 00010006 0102
+= PARAMETERS 1 [1, 2] HeartbeatInfo(HeartbeatInfoParameter { info: [1, 2] })
+0500000a 00010006 0102
+= PARAMETERS 1 [1, 2] HeartbeatInfo(HeartbeatInfoParameter { info: [1, 2] })
+# the second parameter of a HEARTBEAT is longer than the chunk
+0400000c 00010004 00010005 = none
+82000016 000d0012 8755d823 71976a9e 8755d832 00060000
+= PARAMETERS 13 [135, 85, 216, 35, 113, 151, 106, 158, 135, 85, 216, 50, 0, 6] OutgoingSsnResetRequest(OutgoingSsnResetRequestParameter { request_seq_nbr: 2270550051, response_seq_nbr: 1905748638, sender_last_assigned_tsn: 2270550066, streams: [6] })
+# ABORT, without causes too
+06000008 000c0004 = CAUSES 12 [] UserInitiatedAbort(UserInitiatedAbortErrorCause { reason: "" })
+06010004 = CAUSES
+# ERROR with one cause, with two, and with none, which it may not have
+0900000c 00060008 49000004
+= CAUSES 6 [73, 0, 0, 4] UnrecognizedChunk(UnrecognizedChunkErrorCause { chunk: [73, 0, 0, 4] })
+09000010 000a0004 00090008 00000001
+= CAUSES 10 [] CookieReceivedWhileShuttingDown(CookieReceivedWhileShuttingDownErrorCause) 9 [0, 0, 0, 1] NoUserData(NoUserDataErrorCause { tsn: 1 })
+09000004 = none
+# No User Data without its TSN
+09000008 00090004 = none
+0300001c 369dd00b 0001ed73 00020001 00020006 00080008 369dd011 = none"#;
 
 #[test]
 fn of_chunks(rt: HostRuntime) -> Result<(), Fail> {
-    for (i, (bytes, parameters, causes)) in ROWS.iter().enumerate() {
-        assert!(rt;
-            has_lists(rt.alloc(), bytes, parameters, causes)?,
-            "row {i}"
-        );
-    }
-    Ok(())
+    are_answered(rt.alloc(), ROWS, |alloc, bytes| list_text(alloc, bytes))
 }
 
-/// The chunk at the front has this cookie.
-fn has_cookie(bytes: &[u8], wanted: Option<&[u8]>) -> Result<bool, ChunkParseError> {
-    Ok(cookie(&raw_of(bytes)?) == wanted)
-}
-
-#[test]
-fn of_cookies(rt: HostRuntime) -> Result<(), Fail> {
-    let rows: [(&[u8], Option<&[u8]>); 4] = [
-        (COOKIE_ECHO, Some(&COOKIE_ECHO[4..])),
-        // one byte, and three of padding; no byte; a COOKIE ACK
-        (&[10, 0xff, 0, 5, 7, 0, 0, 0], Some(&[7])),
-        (&[10, 0, 0, 4], None),
-        (&[11, 0, 0, 4], None),
-    ];
-    for (bytes, wanted) in rows {
-        assert!(rt; has_cookie(bytes, wanted)?, "{bytes:?}");
-    }
-    Ok(())
-}
-
-/// The Heartbeat Info parameters of the chunk at the front have these infos.
-fn has_infos(bytes: &[u8], wanted: &[&[u8]]) -> Result<bool, ChunkParseError> {
-    let Some(raws) = RawParameters::from_raw(&raw_of(bytes)?) else {
-        return Ok(wanted.is_empty());
-    };
-    let mut left = wanted;
-    for raw in raws {
-        if let Some(info) = heartbeat_info(&raw) {
-            if left.is_empty() || left[0] != info {
-                return Ok(false);
-            }
-            left = &left[1..];
+/// The cookie of the chunk at the front, and the Heartbeat Info parameters that it has.
+fn cookie_and_infos(alloc: Global, bytes: &[u8]) -> Result<String, Fail> {
+    let raw = raw_of(bytes)?;
+    let cookie = cookie(&raw);
+    let mut text = format!(in alloc; "{cookie:?}")?;
+    if let Some(raws) = RawParameters::from_raw(&raw) {
+        for raw in raws {
+            let info = heartbeat_info(&raw);
+            write!(text, "; {info:?}")?;
         }
     }
-    Ok(left.is_empty())
+    Ok(text)
 }
 
-// By hand from RFC 9260 sections 3.3.5 and 3.3.6.
+/// By hand from RFC 9260 sections 3.3.5, 3.3.6 and 3.3.11.
+const COOKIES_AND_INFOS: &str =
+    r"# COOKIE ECHO: captured; one byte, and three of padding; no byte; a COOKIE ACK
+0a000008 12345678 = Some([18, 52, 86, 120])
+0aff0005 07000000 = Some([7])
+0a000004 = None
+0b000004 = None
+# two infos in one HEARTBEAT: without a byte, and three bytes before one of padding
+04ff0010 00010004 00010007 07080901 = None; Some([]); Some([7, 8, 9])
+# a state cookie; the types 0, 2 and 257; no parameter
+05000009 00070005 07 = None; None
+04000010 00000004 00020004 01010004 = None; None; None; None
+04000004 = None";
+
 #[test]
-fn of_infos(rt: HostRuntime) -> Result<(), Fail> {
-    let rows: [(&[u8], &[&[u8]]); 7] = [
-        (HEARTBEAT, &[&HEARTBEAT[8..]]),
-        (HEARTBEAT_ACK, &[&HEARTBEAT_ACK[8..]]),
-        // two in one HEARTBEAT: without a byte, and three bytes before one of padding
-        (
-            &[4, 0xff, 0, 16, 0, 1, 0, 4, 0, 1, 0, 7, 7, 8, 9, 1],
-            &[&[], &[7, 8, 9]],
-        ),
-        // a state cookie; the types 0, 2 and 257
-        (&[5, 0, 0, 9, 0, 7, 0, 5, 7], &[]),
-        (&[4, 0, 0, 16, 0, 0, 0, 4, 0, 2, 0, 4, 1, 1, 0, 4], &[]),
-        // no parameter; COOKIE ACK
-        (&[4, 0, 0, 4], &[]),
-        (&[11, 0, 0, 4], &[]),
-    ];
-    for (i, (bytes, wanted)) in rows.into_iter().enumerate() {
-        assert!(rt; has_infos(bytes, wanted)?, "row {i}");
+fn of_cookies_and_infos(rt: HostRuntime) -> Result<(), Fail> {
+    are_answered(
+        rt.alloc(),
+        COOKIES_AND_INFOS,
+        |alloc, bytes| cookie_and_infos(alloc, bytes),
+    )?;
+    for bytes in [HEARTBEAT, HEARTBEAT_ACK] {
+        let text = cookie_and_infos(rt.alloc(), bytes)?;
+        let wanted =
+            "None; Some([173, 36, 54, 96, 55, 38, 7, 0, 0, 0, 0, 0, 0, 0, 0, 0, 123, 16, 0, 0, 1, 0, 0, 0, 0, 0, 0, 0, 0, 0, 0, 0, 0, 0, 0, 0])";
+        assert_eq!(rt; text.as_str(), wanted);
     }
     Ok(())
 }

@@ -12,18 +12,15 @@ use dcsctp_wire::packet::{
     PARAMETER_HEADER_SIZE, TLV_HEADER_SIZE, error_chunk, heartbeat_ack_chunk,
 };
 use dcsctp_wire::types::{Fsn, Mid, Ssn, StreamKey, Tsn};
+use hex_rows::are_answered;
 use samples::chunks::ROWS;
-use samples::help::{has_text, is_kept, is_shown};
+use samples::help::{has_text, is_shown, shown};
 use std::alloc::{AllocError, Global};
 use std::test::Fail;
 
 #[test]
 fn read_and_written_again(rt: HostRuntime) -> Result<(), Fail> {
-    for (i, (bytes, text, fields, again)) in ROWS.iter().enumerate() {
-        let is_kept = is_kept(rt.alloc(), bytes, text, fields, again)?;
-        assert_eq!(rt; is_kept, (true, true, true), "row {i}");
-    }
-    Ok(())
+    are_answered(rt.alloc(), ROWS, |alloc, bytes| shown(alloc, bytes))
 }
 
 /// Five bytes on stream 456, with a number in each field.

@@ -70,77 +70,71 @@ fn counts_of(alloc: Global, chunks: &[u8]) -> Result<Counts, Fail> {
     Ok(counts)
 }
 
-/// Whether the header and these chunks, each byte of which has each other value, are read in so many
-/// packets, with so many parts together, refused in so many, and never answered otherwise.
-fn are_counted(
-    alloc: Global,
-    (chunks, kept, parts, refused): (&[u8], usize, usize, usize),
-) -> Result<bool, Fail> {
-    let wanted = Counts {
-        kept,
-        parts,
-        refused,
-        others: 0,
-    };
-    Ok(counts_of(alloc, chunks)? == wanted)
-}
-
-// A captured INIT, 104 bytes with the header: 26,520 packets, 22,990 of which the Rust crate reads, with
-// 159,400 chunks and parameters.
-#[test]
-fn of_init(rt: HostRuntime) -> Result<(), Fail> {
-    assert!(rt; are_counted(rt.alloc(), (INIT, 22990, 159400, 3530))?);
-    Ok(())
-}
-
 /// Captured chunks; how many of the changed packets the Rust crate reads, how many parts these have, and
 /// how many it refuses: together 255 for each byte.
-const ROWS: &[(&[u8], usize, usize, usize)] = &[
-    (DATA, 7642, 7642, 518),
-    (SACK, 8660, 8662, 1540),
-    (COOKIE_ECHO, 4580, 4580, 520),
-    (COOKIE_ACK, 3560, 3560, 520),
-    (SHUTDOWN_COMPLETE, 3560, 3560, 520),
-];
+type Row = (&'static [u8], usize, usize, usize);
+
+/// The first row that is counted otherwise, or in which a packet is answered otherwise.
+fn first_miscounted(alloc: Global, rows: &[Row]) -> Result<Option<usize>, Fail> {
+    for (i, (chunks, kept, parts, refused)) in rows.iter().enumerate() {
+        let wanted = Counts {
+            kept: *kept,
+            parts: *parts,
+            refused: *refused,
+            others: 0,
+        };
+        if counts_of(alloc, chunks)? != wanted {
+            return Ok(Some(i));
+        }
+    }
+    Ok(None)
+}
+
+// 104 bytes with the header: 26,520 packets.
+#[test]
+fn of_init(rt: HostRuntime) -> Result<(), Fail> {
+    let rows = [(INIT, 22990, 159400, 3530)];
+    assert_eq!(rt; first_miscounted(rt.alloc(), &rows)?, None);
+    Ok(())
+}
 
 #[test]
 fn of_plain_chunks(rt: HostRuntime) -> Result<(), Fail> {
-    for (i, row) in ROWS.iter().enumerate() {
-        assert!(rt; are_counted(rt.alloc(), *row)?, "row {i}");
-    }
+    let rows = [
+        (DATA, 7642, 7642, 518),
+        (SACK, 8660, 8662, 1540),
+        (COOKIE_ECHO, 4580, 4580, 520),
+        (COOKIE_ACK, 3560, 3560, 520),
+        (SHUTDOWN_COMPLETE, 3560, 3560, 520),
+    ];
+    assert_eq!(rt; first_miscounted(rt.alloc(), &rows)?, None);
     Ok(())
 }
 
-/// The same of other chunks, among them such with a list of causes.
-const MORE_ROWS: &[(&[u8], usize, usize, usize)] = &[
-    (ABORT, 4070, 7897, 1030),
-    (ERROR, 5092, 9944, 1028),
-    (SHUTDOWN, 4577, 4577, 523),
-    (SHUTDOWN_ACK, 3560, 3560, 520),
-    (FORWARD_TSN, 4577, 4577, 523),
-    (IFORWARD_TSN, 6617, 6617, 523),
-];
-
+// Others, among them such with a list of causes.
 #[test]
 fn of_more_chunks(rt: HostRuntime) -> Result<(), Fail> {
-    for (i, row) in MORE_ROWS.iter().enumerate() {
-        assert!(rt; are_counted(rt.alloc(), *row)?, "row {i}");
-    }
+    let rows = [
+        (ABORT, 4070, 7897, 1030),
+        (ERROR, 5092, 9944, 1028),
+        (SHUTDOWN, 4577, 4577, 523),
+        (SHUTDOWN_ACK, 3560, 3560, 520),
+        (FORWARD_TSN, 4577, 4577, 523),
+        (IFORWARD_TSN, 6617, 6617, 523),
+    ];
+    assert_eq!(rt; first_miscounted(rt.alloc(), &rows)?, None);
     Ok(())
 }
 
-/// The same of user data, alone and after another chunk.
-const DATA_ROWS: &[(&[u8], usize, usize, usize)] = &[
-    (IDATA_FIRST, 8659, 8659, 521),
-    (IDATA_LAST, 8659, 8659, 521),
-    (TWO_CHUNKS, 18339, 36678, 1041),
-];
-
+// User data, alone and after another chunk.
 #[test]
 fn of_user_data(rt: HostRuntime) -> Result<(), Fail> {
-    for (i, row) in DATA_ROWS.iter().enumerate() {
-        assert!(rt; are_counted(rt.alloc(), *row)?, "row {i}");
-    }
+    let rows = [
+        (IDATA_FIRST, 8659, 8659, 521),
+        (IDATA_LAST, 8659, 8659, 521),
+        (TWO_CHUNKS, 18339, 36678, 1041),
+    ];
+    assert_eq!(rt; first_miscounted(rt.alloc(), &rows)?, None);
     Ok(())
 }
 

@@ -8,19 +8,8 @@ use std::test::Fail;
 /// An ABORT with a cause that counts missing parameters, and has so many types.
 fn missing(alloc: Global, count: u32, types: u8) -> Result<Vec<u8>, AllocError> {
     let size = types.saturating_mul(2);
-    let mut bytes = Vec::from_slice(
-        alloc,
-        &[
-            6,
-            0,
-            0,
-            size.saturating_add(12),
-            0,
-            2,
-            0,
-            size.saturating_add(8),
-        ],
-    )?;
+    let (chunk, cause) = (size.saturating_add(12), size.saturating_add(8));
+    let mut bytes = Vec::from_slice(alloc, &[6, 0, 0, chunk, 0, 2, 0, cause])?;
     bytes.extend_from_slice(&count.to_be_bytes())?;
     for _ in 0..types {
         bytes.extend_from_slice(&[0, 7])?;
@@ -35,30 +24,9 @@ fn outcome_of_missing(alloc: Global, count: u32, types: u8) -> Result<Outcome, F
 
 /// Counts that are those of 0 to 4 types modulo 2^8, 2^15, 2^16, 2^30 or 2^31, and others.
 const COUNTS: &[u32] = &[
-    0x0000_0005,
-    0x0000_0100,
-    0x0000_0101,
-    0x0000_7fff,
-    0x0000_8000,
-    0x0000_8001,
-    0x0000_8002,
-    0x0001_0000,
-    0x0001_0001,
-    0x0001_0002,
-    0x3fff_ffff,
-    0x4000_0000,
-    0x4000_0001,
-    0x4000_0002,
-    0x7fff_fffe,
-    0x7fff_ffff,
-    0x8000_0000,
-    0x8000_0001,
-    0x8000_0002,
-    0x8000_0003,
-    0x8000_0004,
-    0xc000_0001,
-    0xffff_fffe,
-    0xffff_ffff,
+    5, 0x100, 0x101, 0x7fff, 0x8000, 0x8001, 0x8002, 0x10000, 0x10001, 0x10002, 0x3fffffff,
+    0x40000000, 0x40000001, 0x40000002, 0x7ffffffe, 0x7fffffff, 0x80000000, 0x80000001, 0x80000002,
+    0x80000003, 0x80000004, 0xc0000001, 0xfffffffe, 0xffffffff,
 ];
 
 // No count but the number of types that are there is accepted.

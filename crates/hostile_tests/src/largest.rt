@@ -1,202 +1,101 @@
 //! The largest packets, with as many parts as they have room for.
 
-use crate::outcomes::{Outcome, outcome_of_ended, outcome_of_repeated};
+use crate::outcomes::Outcome::{Kept, Length, Size, TooLong, Value};
+use crate::outcomes::{Outcome, outcome_of_chunks};
+use hex_rows::bytes_of;
+use std::alloc::Global;
 use std::test::Fail;
 
-/// How the chunks begin, what follows, how often, and the outcome.
-const ROWS: &[(&[u8], &[u8], usize, Outcome)] = &[
+/// In hexadecimal, how the chunks begin, and what follows; how often, and the outcome.
+const ROWS: &[(&str, &str, usize, Outcome)] = &[
     // as many chunks as there can be
-    (&[], &[0x0b, 0, 0, 4], 16380, Outcome::Kept(16380)),
+    ("", "0b000004", 16380, Kept(16380)),
     // a HEARTBEAT, a HEARTBEAT ACK and a RE-CONFIG with as many parameters
-    (
-        &[4, 0, 0xff, 0xf0],
-        &[0xc0, 0, 0, 4],
-        16379,
-        Outcome::Kept(16380),
-    ),
-    (
-        &[5, 0, 0xff, 0xf0],
-        &[0x80, 8, 0, 4],
-        16379,
-        Outcome::Kept(16380),
-    ),
-    (
-        &[130, 0, 0xff, 0xf0],
-        &[0, 99, 0, 4],
-        16379,
-        Outcome::Kept(16380),
-    ),
+    ("0400fff0", "c0000004", 16379, Kept(16380)),
+    ("0500fff0", "80080004", 16379, Kept(16380)),
+    ("8200fff0", "00630004", 16379, Kept(16380)),
     // an INIT and an INIT ACK, whose numbers take the place of four
     (
-        &[
-            1, 0, 0xff, 0xf0, 0, 0, 0, 1, 0, 0, 0, 2, 0, 3, 0, 4, 0, 0, 0, 5,
-        ],
-        &[0xc0, 0, 0, 4],
+        "0100fff0 00000001 00000002 00030004 00000005",
+        "c0000004",
         16375,
-        Outcome::Kept(16376),
+        Kept(16376),
     ),
     (
-        &[
-            2, 0, 0xff, 0xf0, 0, 0, 0, 1, 0, 0, 0, 2, 0, 3, 0, 4, 0, 0, 0, 5,
-        ],
-        &[0, 7, 0, 4],
+        "0200fff0 00000001 00000002 00030004 00000005",
+        "00070004",
         16375,
-        Outcome::Kept(16376),
+        Kept(16376),
     ),
     // an ABORT and an ERROR with as many causes, and with texts of one letter
-    (
-        &[6, 0, 0xff, 0xf0],
-        &[0, 10, 0, 4],
-        16379,
-        Outcome::Kept(16380),
-    ),
-    (
-        &[9, 0, 0xff, 0xf0],
-        &[0, 12, 0, 4],
-        16379,
-        Outcome::Kept(16380),
-    ),
-    (
-        &[6, 0, 0xff, 0xec],
-        &[0, 12, 0, 5, b'a', 0, 0, 0],
-        8189,
-        Outcome::Kept(8190),
-    ),
+    ("0600fff0", "000a0004", 16379, Kept(16380)),
+    ("0900fff0", "000c0004", 16379, Kept(16380)),
+    ("0600ffec", "000c0005 61000000", 8189, Kept(8190)),
     // texts that aren't UTF-8: each is replaced by a longer one, so that the chunk can't be written
-    (
-        &[6, 0, 0xff, 0xec],
-        &[0, 12, 0, 5, 0xff, 0, 0, 0],
-        8189,
-        Outcome::TooLong(8190),
-    ),
-    (
-        &[9, 0, 0xff, 0xec],
-        &[0, 13, 0, 5, 0xff, 0, 0, 0],
-        8189,
-        Outcome::TooLong(8190),
-    ),
+    ("0600ffec", "000c0005 ff000000", 8189, TooLong(8190)),
+    ("0900ffec", "000d0005 ff000000", 8189, TooLong(8190)),
     // FORWARD-TSN and I-FORWARD-TSN with as many streams
-    (
-        &[0xc0, 0, 0xff, 0xf0, 0, 0, 0, 1],
-        &[0, 1, 0, 2],
-        16378,
-        Outcome::Kept(1),
-    ),
-    (
-        &[0xc2, 0, 0xff, 0xf0, 0, 0, 0, 1],
-        &[0, 1, 0, 0, 0, 0, 0, 2],
-        8189,
-        Outcome::Kept(1),
-    ),
+    ("c000fff0 00000001", "00010002", 16378, Kept(1)),
+    ("c200fff0 00000001", "00010000 00000002", 8189, Kept(1)),
     // chunks with a list, and nothing in it
-    (&[], &[6, 0, 0, 4], 16380, Outcome::Kept(16380)),
-    (
-        &[],
-        &[4, 0, 0, 8, 0xc0, 0, 0, 4],
-        8190,
-        Outcome::Kept(16380),
-    ),
+    ("", "06000004", 16380, Kept(16380)),
+    ("", "04000008 c0000004", 8190, Kept(16380)),
     // a chunk that wasn't recognized, and that holds such chunks again: bytes, and no list
-    (
-        &[9, 0, 0xff, 0xf0, 0, 6, 0xff, 0xec],
-        &[9, 0, 0xff, 0xe8],
-        16378,
-        Outcome::Kept(2),
-    ),
+    ("0900fff0 0006ffec", "0900ffe8", 16378, Kept(2)),
     // the same in a single chunk without a kind
-    (
-        &[99, 0, 0xff, 0xf0],
-        &[99, 0, 0xff, 0xf0],
-        16379,
-        Outcome::Kept(1),
-    ),
-];
-
-#[test]
-fn read(rt: HostRuntime) -> Result<(), Fail> {
-    for (i, (front, item, count, wanted)) in ROWS.iter().enumerate() {
-        let outcome = outcome_of_repeated(rt.alloc(), front, item, *count)?;
-        assert_eq!(rt; outcome, *wanted, "row {i}");
-    }
-    Ok(())
-}
-
-/// The same of what has one byte too many or too few, or a fault at its end.
-const FAULTS: &[(&[u8], &[u8], usize, Outcome)] = &[
+    ("6300fff0", "6300fff0", 16379, Kept(1)),
+    // the same of what has one byte too many or too few, or a fault at its end
     // a COOKIE ECHO of one byte with all its padding, ahead of chunks of four bytes
-    (
-        &[0x0a, 0, 0, 5, 1, 0, 0, 0],
-        &[0x0b, 0, 0, 4],
-        16378,
-        Outcome::Kept(16379),
-    ),
+    ("0a000005 01000000", "0b000004", 16378, Kept(16379)),
     // the same without the padding: each chunk begins three bytes early
-    (
-        &[0x0a, 0, 0, 5, 1],
-        &[0x0b, 0, 0, 4],
-        16378,
-        Outcome::Length,
-    ),
+    ("0a000005 01", "0b000004", 16378, Length),
     // one byte in place of each chunk's length
-    (&[], &[0x0b, 0, 0, 3], 16380, Outcome::Length),
-    (&[], &[0x0b, 0, 0, 5], 16380, Outcome::Length),
+    ("", "0b000003", 16380, Length),
+    ("", "0b000005", 16380, Length),
     // more parameters than the chunk's length counts: four bytes are left over after it
-    (
-        &[4, 0, 0xff, 0xec],
-        &[0xc0, 0, 0, 4],
-        16379,
-        Outcome::Length,
-    ),
+    ("0400ffec", "c0000004", 16379, Length),
     // fewer
-    (
-        &[4, 0, 0xff, 0xf0],
-        &[0xc0, 0, 0, 4],
-        16378,
-        Outcome::Length,
-    ),
+    ("0400fff0", "c0000004", 16378, Length),
     // a length that counts a byte of an item less, and three bytes
-    (
-        &[4, 0, 0xff, 0xef],
-        &[0xc0, 0, 0, 4],
-        16379,
-        Outcome::Length,
-    ),
-    (
-        &[4, 0, 0xff, 0xed],
-        &[0xc0, 0, 0, 4],
-        16379,
-        Outcome::Length,
-    ),
+    ("0400ffef", "c0000004", 16379, Length),
+    ("0400ffed", "c0000004", 16379, Length),
     // the first item counts all that a length can say
-    (
-        &[4, 0, 0xff, 0xf0, 0, 1, 0xff, 0xff],
-        &[0xc0, 0, 0, 4],
-        16378,
-        Outcome::Length,
-    ),
+    ("0400fff0 0001ffff", "c0000004", 16378, Length),
     // a result without a meaning ahead of all others
     (
-        &[130, 0, 0xff, 0xf0, 0, 16, 0, 12, 0, 0, 0, 1, 0, 0, 0, 7],
-        &[0xc0, 0, 0, 4],
+        "8200fff0 0010000c 00000001 00000007",
+        "c0000004",
         16376,
-        Outcome::Value,
+        Value,
     ),
     // the greatest packet, and one byte more, in a cookie
-    (&[0x0a, 0, 0xff, 0xf3], &[7], 65519, Outcome::TooLong(1)),
-    (&[0x0a, 0, 0xff, 0xf4], &[7], 65520, Outcome::Size),
+    ("0a00fff3", "07", 65519, TooLong(1)),
+    ("0a00fff4", "07", 65520, Size),
     // the greatest packet with a list whose only item lacks its padding
-    (
-        &[4, 0, 0xff, 0xf3, 0, 1, 0xff, 0xef],
-        &[7],
-        65515,
-        Outcome::TooLong(2),
-    ),
+    ("0400fff3 0001ffef", "07", 65515, TooLong(2)),
 ];
 
+/// The outcome of the header, chunks that begin so, then one item so often, and this end.
+fn outcome_of_repeated(
+    alloc: Global,
+    front: &str,
+    item: &str,
+    count: usize,
+    end: &[u8],
+) -> Result<Outcome, Fail> {
+    let item = bytes_of(alloc, item)?;
+    let mut bytes = bytes_of(alloc, front)?;
+    for _ in 0..count {
+        bytes.extend_from_slice(&item)?;
+    }
+    bytes.extend_from_slice(end)?;
+    outcome_of_chunks(alloc, &bytes)
+}
+
 #[test]
-fn refused(rt: HostRuntime) -> Result<(), Fail> {
-    for (i, (front, item, count, wanted)) in FAULTS.iter().enumerate() {
-        let outcome = outcome_of_repeated(rt.alloc(), front, item, *count)?;
+fn read_or_refused(rt: HostRuntime) -> Result<(), Fail> {
+    for (i, (front, item, count, wanted)) in ROWS.iter().enumerate() {
+        let outcome = outcome_of_repeated(rt.alloc(), front, item, *count, &[])?;
         assert_eq!(rt; outcome, *wanted, "row {i}");
     }
     Ok(())
@@ -207,8 +106,8 @@ fn refused(rt: HostRuntime) -> Result<(), Fail> {
 fn bytes_left(rt: HostRuntime) -> Result<(), Fail> {
     let ends: [&[u8]; 3] = [&[0], &[0, 0], &[0, 0, 0]];
     for end in ends {
-        let outcome = outcome_of_ended(rt.alloc(), &[], &[0x0b, 0, 0, 4], 16380, end)?;
-        assert_eq!(rt; outcome, Outcome::Length);
+        let outcome = outcome_of_repeated(rt.alloc(), "", "0b000004", 16380, end)?;
+        assert_eq!(rt; outcome, Length);
     }
     Ok(())
 }

@@ -1,6 +1,8 @@
 //! Length fields that don't say what is there.
 
 use crate::outcomes::{Outcome, outcome_of_chunks};
+use dcsctp_wire::packet::round_up_to_4;
+use hex_rows::are_answered;
 use std::alloc::{AllocError, Global};
 use std::test::Fail;
 
@@ -66,36 +68,29 @@ fn beyond_the_packet(rt: HostRuntime) -> Result<(), Fail> {
     Ok(())
 }
 
-/// A length, and how many bytes an item of this length may have at least and at most: with none of
-/// its padding, and with all of it.
-const SIZES: &[(u16, usize, usize)] = &[
-    (5, 5, 8),
-    (6, 6, 8),
-    (7, 7, 8),
-    (8, 8, 8),
-    (9, 9, 12),
-    (10, 10, 12),
-    (11, 11, 12),
-    (12, 12, 12),
-    (13, 13, 16),
-    (14, 14, 16),
-    (15, 15, 16),
-    (16, 16, 16),
-];
+/// What an item of this length in so many bytes is answered with: it is kept with none of its padding,
+/// with some, and with all of it.
+fn wanted_of(length: u16, size: usize, parts: usize) -> Outcome {
+    let least = usize::from(length);
+    if least <= size && size <= round_up_to_4(least) {
+        Outcome::Kept(parts)
+    } else {
+        Outcome::Length
+    }
+}
 
 // A COOKIE ECHO of each length in each size: one byte too few, or too many, is a fault, as are two
 // or three, and as is what comes after it as a chunk of zeros.
 #[test]
 fn around_padding(rt: HostRuntime) -> Result<(), Fail> {
-    for (length, least, most) in SIZES {
+    for length in 5..=16 {
         for size in 4..=20usize {
-            let wanted = if *least <= size && size <= *most {
-                Outcome::Kept(1)
-            } else {
-                Outcome::Length
-            };
-            let outcome = outcome_of_length(rt.alloc(), 10, *length, size - 4)?;
-            assert_eq!(rt; outcome, wanted, "length {length}, {size} bytes");
+            let outcome = outcome_of_length(rt.alloc(), 10, length, size - 4)?;
+            assert_eq!(rt;
+                outcome,
+                wanted_of(length, size, 1),
+                "length {length}, {size} bytes"
+            );
         }
     }
     Ok(())
@@ -153,15 +148,11 @@ fn wrong_item(
     alloc: Global,
     (typ, numbers, item): (u8, usize, [u8; 2]),
 ) -> Result<Option<(u16, usize)>, Fail> {
-    for (length, least, most) in SIZES {
+    for length in 5..=16 {
         for size in 4..=20usize {
-            let wanted = if *least <= size && size <= *most {
-                Outcome::Kept(2)
-            } else {
-                Outcome::Length
-            };
-            if outcome_of_listed(alloc, (typ, numbers), item, *length, size)? != wanted {
-                return Ok(Some((*length, size)));
+            let outcome = outcome_of_listed(alloc, (typ, numbers), item, length, size)?;
+            if outcome != wanted_of(length, size, 2) {
+                return Ok(Some((length, size)));
             }
         }
     }
@@ -198,22 +189,26 @@ fn below_the_header_of_items(rt: HostRuntime) -> Result<(), Fail> {
 }
 
 /// Causes whose length is below a header's, and above it in a chunk without room.
-const CAUSES: &[&[u8]] = &[
-    &[6, 0, 0, 8, 0, 12, 0, 0],
-    &[6, 0, 0, 8, 0, 12, 0, 1],
-    &[6, 0, 0, 8, 0, 12, 0, 2],
-    &[6, 0, 0, 8, 0, 12, 0, 3],
-    &[6, 0, 0, 8, 0, 12, 0, 5],
-    &[6, 0, 0, 8, 0, 12, 0xff, 0xff],
-    // the byte that the cause counts is there, after the chunk
-    &[6, 0, 0, 8, 0, 12, 0, 5, b'a', 0, 0, 0],
-];
+const CAUSES: &str = r"06000008 000c0000 = Length
+06000008 000c0001 = Length
+06000008 000c0002 = Length
+06000008 000c0003 = Length
+06000008 000c0005 = Length
+06000008 000cffff = Length
+# the byte that the cause counts is there, after the chunk
+06000008 000c0005 61000000 = Length";
+
+/// The outcome of these chunks, as a text.
+fn outcome_text(alloc: Global, chunks: &[u8]) -> Result<String, Fail> {
+    let outcome = outcome_of_chunks(alloc, chunks)?;
+    Ok(format!(in alloc; "{outcome:?}")?)
+}
 
 #[test]
 fn of_causes(rt: HostRuntime) -> Result<(), Fail> {
-    for (i, chunks) in CAUSES.iter().enumerate() {
-        let outcome = outcome_of_chunks(rt.alloc(), chunks)?;
-        assert_eq!(rt; outcome, Outcome::Length, "row {i}");
-    }
-    Ok(())
+    are_answered(
+        rt.alloc(),
+        CAUSES,
+        |alloc, chunks| outcome_text(alloc, chunks),
+    )
 }

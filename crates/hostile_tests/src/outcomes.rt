@@ -92,29 +92,3 @@ pub(crate) fn outcome_of_chunks(alloc: Global, chunks: &[u8]) -> Result<Outcome,
     let bytes = packet_of(alloc, chunks)?;
     outcome_of(alloc, &bytes)
 }
-
-/// The same of the header, chunks that begin so, and then one item so often.
-pub(crate) fn outcome_of_repeated(
-    alloc: Global,
-    front: &[u8],
-    item: &[u8],
-    count: usize,
-) -> Result<Outcome, Fail> {
-    outcome_of_ended(alloc, front, item, count, &[])
-}
-
-/// The same, with these bytes at the end.
-pub(crate) fn outcome_of_ended(
-    alloc: Global,
-    front: &[u8],
-    item: &[u8],
-    count: usize,
-    end: &[u8],
-) -> Result<Outcome, Fail> {
-    let mut bytes = packet_of(alloc, front)?;
-    for _ in 0..count {
-        bytes.extend_from_slice(item)?;
-    }
-    bytes.extend_from_slice(end)?;
-    outcome_of(alloc, &bytes)
-}

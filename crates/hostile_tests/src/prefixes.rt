@@ -130,36 +130,20 @@ fn outcome_of_shortened(alloc: Global, length: usize) -> Result<Outcome, Fail> {
     outcome_of(alloc, &bytes)
 }
 
-/// The lengths at which the captured INIT is a chunk, and how many parts it has there: after its
-/// numbers, and after each parameter, with all, some or none of its padding.
-const SOUND_LENGTHS: &[(usize, usize)] = &[
-    (20, 1),
-    (24, 2),
-    (28, 3),
-    (37, 4),
-    (38, 4),
-    (39, 4),
-    (40, 4),
-    (76, 5),
-    (82, 6),
-    (83, 6),
-    (84, 6),
-    (90, 7),
-    (91, 7),
-    (92, 7),
-];
-
-/// What the captured INIT of this length is to be answered with.
+/// What the captured INIT of this length is to be answered with: it is a chunk after its numbers, and
+/// after each parameter, with all, some or none of its padding.
 fn wanted_of_shortened(length: usize) -> Outcome {
-    if length < 4 {
-        return Outcome::Size;
+    match length {
+        0..=3 => Outcome::Size,
+        20 => Outcome::Kept(1),
+        24 => Outcome::Kept(2),
+        28 => Outcome::Kept(3),
+        37..=40 => Outcome::Kept(4),
+        76 => Outcome::Kept(5),
+        82..=84 => Outcome::Kept(6),
+        90..=92 => Outcome::Kept(7),
+        _ => Outcome::Length,
     }
-    for (sound, parts) in SOUND_LENGTHS {
-        if *sound == length {
-            return Outcome::Kept(*parts);
-        }
-    }
-    Outcome::Length
 }
 
 #[test]

@@ -1,7 +1,6 @@
 //! What a call may answer where a request for memory is refused, and how that is told.
 
 use dcsctp_wire::packet::ChunkParseError;
-use dcsctp_wire::packet::chunk::RawChunk;
 use dcsctp_wire::packet::parameter::RawParameter;
 use std::alloc::Global;
 use std::fmt;
@@ -48,7 +47,7 @@ pub(crate) fn has_fields<T: fmt::Debug>(value: &T, wanted: &str) -> bool {
     write!(compared, "{value:?}").is_ok() && compared.is_so && compared.wanted.is_empty()
 }
 
-/// Whether a value with these fields was answered.
+/// Whether a value with these fields was answered, or this fault.
 pub(crate) fn met_value<T: fmt::Debug + Drop>(
     answer: Result<T, ChunkParseError>,
     wanted: &str,
@@ -56,7 +55,7 @@ pub(crate) fn met_value<T: fmt::Debug + Drop>(
     match answer {
         Ok(value) => met_fields(&value, wanted),
         Err(ChunkParseError::OutOfMemory) => Met::OutOfMemory,
-        Err(_) => Met::Other,
+        Err(fault) => met_fields(&fault, wanted),
     }
 }
 
@@ -69,14 +68,11 @@ pub(crate) fn met_fields<T: fmt::Debug>(value: &T, wanted: &str) -> Met {
     }
 }
 
-/// Whether this fault was told: it never gives way to memory.
-pub(crate) fn met_fault<T: Drop>(
-    answer: Result<T, ChunkParseError>,
-    wanted: &ChunkParseError,
-) -> Met {
-    match answer {
-        Err(error) if error == *wanted => Met::Answer,
-        _ => Met::Other,
+/// The fields of the one kind, of a text that names it first as one of several; or a fault.
+pub(crate) fn own(wanted: &str) -> &str {
+    match wanted.split_once('(') {
+        Some((_, fields)) => fields.strip_suffix(')').unwrap_or(fields),
+        None => wanted,
     }
 }
 
@@ -117,9 +113,43 @@ pub(crate) fn tell<R: Print + Abort, F: Fn(Global) -> Met>(
     Ok(())
 }
 
-/// A chunk before its value is looked at.
-pub(crate) fn chunk(typ: u8, flags: u8, value: &[u8]) -> RawChunk<'_> {
-    RawChunk { typ, flags, value }
+/// The bytes of hexadecimal digits, in the front of a buffer: no memory is asked for.
+fn decoded<'a>(digits: &str, buffer: &'a mut [u8]) -> &'a [u8] {
+    let mut size = 0usize;
+    for word in digits.split_whitespace() {
+        let end = size.saturating_add(word.len() / 2);
+        if let Some(part) = buffer.get_mut(size..end) {
+            if hex::decode_to_slice(word, part).is_ok() {
+                size = end;
+            }
+        }
+    }
+    buffer.get(..size).unwrap_or(&[])
+}
+
+/// What the rows' bytes are read as, one after the other. A row is a line of hexadecimal digits, and
+/// after `= ` what is wanted of them, in the same line or the next; `#` begins a comment.
+pub(crate) fn met_rows<F: Fn(Global, &[u8], &str) -> Met>(alloc: Global, rows: &str, read: F) -> Met
+    requires { F.IsAlwaysCallable read }
+{
+    let mut met = Met::Answer;
+    let mut digits = "";
+    for line in rows.lines() {
+        if line.starts_with('#') {
+            continue;
+        }
+        match line.split_once("= ") {
+            None => digits = line,
+            Some((before, wanted)) => {
+                if !before.is_empty() {
+                    digits = before;
+                }
+                let mut buffer = [0; 128];
+                met = all(&[met, read(alloc, decoded(digits, &mut buffer), wanted)]);
+            }
+        }
+    }
+    met
 }
 
 /// A parameter or error cause before its value is looked at.

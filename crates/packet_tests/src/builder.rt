@@ -14,25 +14,10 @@ use dcsctp_wire::packet::sctp_packet::{ChecksumPolicy, SctpPacketBuilder};
 use dcsctp_wire::packet::ssn_tsn_reset_request_parameter::SsnTsnResetRequestParameter;
 use dcsctp_wire::packet::{ChunkParseError, SerializableTlv, round_up_to_4};
 use dcsctp_wire::types::{Fsn, Mid, Ssn, StreamKey, Tsn};
+use hex_rows::digits_of;
 use samples::help::{chunk_of, has_chunks, header_of, is_answered};
 use std::alloc::{AllocError, Global};
 use std::test::Fail;
-
-/// A packet that is built twice with one builder.
-struct Row {
-    tag: u32,
-    ports: (u16, u16),
-    limit: usize,
-    switch: bool,
-    /// The room ahead of each chunk, and the chunk.
-    chunks: &'static [(usize, &'static [u8])],
-    /// The room after the last.
-    room: usize,
-    word: u32,
-    packet: &'static [u8],
-    /// The same with a checksum field of zero.
-    unsigned: &'static [u8],
-}
 
 const COOKIE_ACK: &[u8] = &[0x0b, 0, 0, 4];
 
@@ -40,65 +25,7 @@ const COOKIE_ECHO: &[u8] = &[0x0a, 0, 0, 5, 0x7f];
 
 const SHUTDOWN: &[u8] = &[7, 0, 0, 8, 6, 0x11, 0xd1, 0xbd];
 
-const ROWS: &[Row] = &[
-    // one chunk, with the switch off: the word is left out
-    Row {
-        tag: 16909060,
-        ports: (5000, 5000),
-        limit: 1191,
-        switch: false,
-        chunks: &[(1176, COOKIE_ACK)],
-        room: 1172,
-        word: 7,
-        packet: &[
-            0x13, 0x88, 0x13, 0x88, 1, 2, 3, 4, 0, 0, 0, 0, 0x0b, 0, 0, 4,
-        ],
-        unsigned: &[
-            0x13, 0x88, 0x13, 0x88, 1, 2, 3, 4, 0, 0, 0, 0, 0x0b, 0, 0, 4,
-        ],
-    },
-    // a chunk with padding, another after it, and room that is left
-    Row {
-        tag: 7,
-        ports: (1, 2),
-        limit: 40,
-        switch: true,
-        chunks: &[(28, COOKIE_ECHO), (20, SHUTDOWN)],
-        room: 12,
-        word: 9,
-        packet: TWO_CHUNKS,
-        unsigned: &[
-            0, 1, 0, 2, 0, 0, 0, 7, 0, 0, 0, 0, 0x0a, 0, 0, 5, 0x7f, 0, 0, 0, 7, 0, 0, 8, 6, 0x11,
-            0xd1, 0xbd,
-        ],
-    },
-    // the least limit for a chunk, used up; the word's first byte stands first
-    Row {
-        tag: 7,
-        ports: (1, 2),
-        limit: 16,
-        switch: true,
-        chunks: &[(4, COOKIE_ACK)],
-        room: 0,
-        word: 0x01020304,
-        packet: &[0, 1, 0, 2, 0, 0, 0, 7, 1, 2, 3, 4, 0x0b, 0, 0, 4],
-        unsigned: &[0, 1, 0, 2, 0, 0, 0, 7, 0, 0, 0, 0, 0x0b, 0, 0, 4],
-    },
-    // no chunk: no bytes, and no word
-    Row {
-        tag: 7,
-        ports: (1, 2),
-        limit: 40,
-        switch: true,
-        chunks: &[],
-        room: 28,
-        word: 9,
-        packet: &[],
-        unsigned: &[],
-    },
-];
-
-/// What the second row builds.
+/// Ports 1 and 2, tag 7 and word 9, and both chunks.
 const TWO_CHUNKS: &[u8] = &[
     0, 1, 0, 2, 0, 0, 0, 7, 0, 0, 0, 9, 0x0a, 0, 0, 5, 0x7f, 0, 0, 0, 7, 0, 0, 8, 6, 0x11, 0xd1,
     0xbd,
@@ -126,48 +53,89 @@ fn add(
     Ok(add_if_room(builder, &chunk)?)
 }
 
-/// Adds the row's chunks, and tells whether there was the room that the row has, each time.
-fn is_filled(
-    alloc: Global,
-    builder: &mut SctpPacketBuilder,
-    row: &Row,
-) -> Result<bool, ChunkParseError> {
-    let mut is_filled = builder.is_empty();
-    for (room, bytes) in row.chunks {
-        is_filled &= builder.bytes_remaining() == *room;
-        is_filled &= add(alloc, builder, bytes)?;
-        is_filled &= !builder.is_empty();
-    }
-    Ok(is_filled && builder.bytes_remaining() == row.room)
-}
-
-/// The packet so far is these bytes.
-fn holds(builder: &SctpPacketBuilder, bytes: &[u8]) -> bool {
-    builder.as_bytes() == bytes
-}
-
 /// With this word, the packet is these bytes.
 fn builds(builder: &mut SctpPacketBuilder, word: u32, bytes: &[u8]) -> bool {
     builder.build(word).as_slice() == bytes
 }
 
-/// Whether the row was built, and built again.
-fn is_built_twice(alloc: Global, row: &Row) -> Result<bool, ChunkParseError> {
-    let mut builder = SctpPacketBuilder::new(alloc, row.tag, row.ports.0, row.ports.1, row.limit);
-    builder.write_checksum(row.switch);
-    let mut is_built = true;
-    for _ in 0..2 {
-        is_built &= is_filled(alloc, &mut builder, row)?;
-        is_built &= holds(&builder, row.unsigned);
-        is_built &= builds(&mut builder, row.word, row.packet);
+/// The room of a builder, after each chunk that is added the room that is left, what it holds then,
+/// and what it builds with this word.
+fn filled(
+    alloc: Global,
+    builder: &mut SctpPacketBuilder,
+    chunks: &[&[u8]],
+    word: u32,
+) -> Result<String, Fail> {
+    let mut text = String::new(alloc);
+    write!(text, "{} {}", builder.is_empty(), builder.bytes_remaining())?;
+    for bytes in chunks {
+        let is_added = add(alloc, builder, bytes)?;
+        let is_filled = is_added && !builder.is_empty();
+        write!(text, ", {is_filled} {}", builder.bytes_remaining())?;
     }
-    Ok(is_built)
+    write!(text, "; {}", digits_of(alloc, builder.as_bytes())?)?;
+    write!(text, "; {}", digits_of(alloc, &builder.build(word))?)?;
+    Ok(text)
 }
+
+/// The same of a builder of this tag, these ports, this limit and this switch; and of it again, once
+/// it built a packet.
+fn filled_twice(
+    alloc: Global,
+    (tag, source, destination, limit, switch): (u32, u16, u16, usize, bool),
+    chunks: &[&[u8]],
+    word: u32,
+) -> Result<String, Fail> {
+    let mut builder = SctpPacketBuilder::new(alloc, tag, source, destination, limit);
+    builder.write_checksum(switch);
+    let first = filled(alloc, &mut builder, chunks, word)?;
+    let second = filled(alloc, &mut builder, chunks, word)?;
+    if second.as_str() == first.as_str() {
+        Ok(first)
+    } else {
+        Err(Fail::new("another packet the second time"))
+    }
+}
+
+/// The builder, its chunks, the word; and the rooms and the packets.
+type Row = (
+    (u32, u16, u16, usize, bool),
+    &'static [&'static [u8]],
+    u32,
+    &'static str,
+);
+
+const ROWS: &[Row] = &[
+    // one chunk, with the switch off: the word is left out
+    (
+        (16909060, 5000, 5000, 1191, false),
+        &[COOKIE_ACK],
+        7,
+        "true 1176, true 1172; 13881388 01020304 00000000 0b000004; 13881388 01020304 00000000 0b000004",
+    ),
+    // a chunk with padding, another after it, and room that is left
+    (
+        (7, 1, 2, 40, true),
+        &[COOKIE_ECHO, SHUTDOWN],
+        9,
+        "true 28, true 20, true 12; 00010002 00000007 00000000 0a000005 7f000000 07000008 0611d1bd; 00010002 00000007 00000009 0a000005 7f000000 07000008 0611d1bd",
+    ),
+    // the least limit for a chunk, used up; the word's first byte stands first
+    (
+        (7, 1, 2, 16, true),
+        &[COOKIE_ACK],
+        0x01020304,
+        "true 4, true 0; 00010002 00000007 00000000 0b000004; 00010002 00000007 01020304 0b000004",
+    ),
+    // no chunk: no bytes, and no word
+    ((7, 1, 2, 40, true), &[], 9, "true 28; ; "),
+];
 
 #[test]
 fn built(rt: HostRuntime) -> Result<(), Fail> {
-    for (i, row) in ROWS.iter().enumerate() {
-        assert!(rt; is_built_twice(rt.alloc(), row)?, "row {i}");
+    for (i, (builder, chunks, word, wanted)) in ROWS.iter().enumerate() {
+        let text = filled_twice(rt.alloc(), *builder, chunks, *word)?;
+        assert_eq!(rt; text.as_str(), *wanted, "row {i}");
     }
     Ok(())
 }
@@ -233,7 +201,7 @@ fn read_back(rt: HostRuntime) -> Result<(), Fail> {
     // the word is in its field
     let header = header_of(rt.alloc(), TWO_CHUNKS, 9, &policy)?;
     assert_eq!(rt; header, (1, 2, 7, 9));
-    let text = "COOKIE-ECHO, cookie=1 bytes\nSHUTDOWN cumulative_tsn_ack=101831101\n";
+    let text = "COOKIE-ECHO, cookie=1 bytes; SHUTDOWN cumulative_tsn_ack=101831101";
     assert!(rt; is_answered(rt.alloc(), TWO_CHUNKS, 9, &policy, text)?);
     // another word isn't
     assert!(rt; is_answered(rt.alloc(), TWO_CHUNKS, 8, &policy, "InvalidChecksum")?);

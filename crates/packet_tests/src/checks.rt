@@ -1,13 +1,11 @@
 //! Packets that are checked and not read: how many parts they have, or their fault.
 
-use dcsctp_wire::api::ZERO_CHECKSUM_ALTERNATE_ERROR_DETECTION_METHOD_LOWER_LAYER_DTLS;
 use dcsctp_wire::packet::chunk::Chunk;
-use dcsctp_wire::packet::sctp_packet::{ChecksumPolicy, PacketParseError, SctpPacket};
+use dcsctp_wire::packet::sctp_packet::{PacketParseError, SctpPacket};
 use hex_rows::are_answered;
 use samples::captures::INIT;
-use samples::help::{HEADER, UNVERIFIED, packet_of};
-use samples::packets::INIT_WITHOUT_PADDING;
-use std::alloc::{AllocError, Global};
+use samples::help::{UNVERIFIED, packet_of};
+use std::alloc::Global;
 use std::test::Fail;
 
 type Answer = Result<usize, PacketParseError>;
@@ -77,7 +75,7 @@ fn read_parts(alloc: Global, bytes: &[u8]) -> Answer {
 }
 
 /// The check of the header and these chunks. A packet is read as it is checked.
-fn checked(alloc: Global, chunks: &[u8]) -> Result<String, Fail> {
+pub(crate) fn checked(alloc: Global, chunks: &[u8]) -> Result<String, Fail> {
     let bytes = packet_of(alloc, chunks)?;
     let answer = SctpPacket::check(&bytes, 0, &UNVERIFIED);
     if answer != read_parts(alloc, &bytes) {
@@ -89,78 +87,8 @@ fn checked(alloc: Global, chunks: &[u8]) -> Result<String, Fail> {
 #[test]
 fn counted_or_refused(rt: HostRuntime) -> Result<(), Fail> {
     // a captured INIT with six parameters: with its padding, and without
-    for chunks in [INIT, INIT_WITHOUT_PADDING] {
+    for chunks in [INIT, &INIT[..90]] {
         assert_eq!(rt; checked(rt.alloc(), chunks)?.as_str(), "Ok(7)");
     }
     are_answered(rt.alloc(), ROWS, |alloc, chunks| checked(alloc, chunks))
-}
-
-/// The check of a packet that begins so and has the same bytes so often after that.
-fn repeated(alloc: Global, front: &[u8], item: &[u8], count: usize) -> Result<Answer, AllocError> {
-    let mut bytes = packet_of(alloc, front)?;
-    for _ in 0..count {
-        bytes.extend_from_slice(item)?;
-    }
-    Ok(SctpPacket::check(&bytes, 0, &UNVERIFIED))
-}
-
-#[test]
-fn most_parts(rt: HostRuntime) -> Result<(), Fail> {
-    // How the chunks begin, what follows, how often, the answer.
-    let rows: [(&[u8], &[u8], usize, Answer); 5] = [
-        // an ABORT with as many causes as there is room for, each with a text that is replaced
-        (
-            &[6, 0, 0xff, 0xec],
-            &[0, 0x0c, 0, 5, 0xff, 0, 0, 0],
-            8189,
-            Ok(8190),
-        ),
-        // as many chunks as a packet can have
-        (&[], &[0x0b, 0, 0, 4], 16380, Ok(16380)),
-        // as many parameters as a packet has room for
-        (&[4, 0, 0xff, 0xf0], &[0xc0, 0, 0, 4], 16379, Ok(16380)),
-        // the greatest packet, and one byte more, in a COOKIE ECHO
-        (&[0x0a, 0, 0xff, 0xf3], &[7], 65519, Ok(1)),
-        (
-            &[0x0a, 0, 0xff, 0xf4],
-            &[7],
-            65520,
-            Err(PacketParseError::InvalidPacketSize),
-        ),
-    ];
-    for (i, (front, item, count, wanted)) in rows.iter().enumerate() {
-        assert!(rt;
-            repeated(rt.alloc(), front, item, *count)? == *wanted,
-            "row {i}"
-        );
-    }
-    Ok(())
-}
-
-// The size is told ahead of the checksum, and the checksum ahead of the chunks.
-#[test]
-fn verified(rt: HostRuntime) {
-    let none = ChecksumPolicy::default();
-    let dtls = ChecksumPolicy {
-        disable_checksum_verification: false,
-        zero_checksum_alternate_error_detection_method: ZERO_CHECKSUM_ALTERNATE_ERROR_DETECTION_METHOD_LOWER_LAYER_DTLS,
-        strict_padding: false,
-    };
-    // a header alone, and all of it but a byte of a chunk's header
-    assert!(rt; SctpPacket::check(&HEADER, 5, &none) == Err(PacketParseError::InvalidPacketSize));
-    assert!(rt; SctpPacket::check(&[0; 15], 5, &none) == Err(PacketParseError::InvalidPacketSize));
-    let ack = [
-        0x13, 0x88, 0x13, 0x88, 1, 2, 3, 4, 0, 0, 0, 0, 0x0b, 0, 0, 4,
-    ];
-    // a zero field where another word is expected: refused, but under another method
-    assert!(rt; SctpPacket::check(&ack, 5, &none) == Err(PacketParseError::InvalidChecksum));
-    assert!(rt; SctpPacket::check(&ack, 5, &dtls) == Ok(1));
-    assert!(rt; SctpPacket::check(&ack, 0, &none) == Ok(1));
-    // a length that doesn't count the header, and one beyond the packet, under a wrong checksum
-    for length in [3, 5] {
-        let bytes = [
-            0x13, 0x88, 0x13, 0x88, 1, 2, 3, 4, 0, 0, 0, 0, 0x0b, 0, 0, length,
-        ];
-        assert!(rt; SctpPacket::check(&bytes, 5, &none) == Err(PacketParseError::InvalidChecksum));
-    }
 }

@@ -1,96 +1,149 @@
 //! Whole packets. Each begins with the same header: both ports 5000, tag 16909060, checksum 0.
 
+use crate::checks::checked;
 use dcsctp_wire::packet::ChunkParseError;
-use dcsctp_wire::packet::sctp_packet::{COMMON_HEADER_SIZE, PacketParseError, SctpPacket};
-use samples::help::{
-    HEADER, UNVERIFIED, canonical_of, header_of, is_answered, is_canonical, packet_of, sizes_of,
+use dcsctp_wire::packet::sctp_packet::{
+    COMMON_HEADER_SIZE, ChecksumPolicy, PacketParseError, SctpPacket, SctpPacketBuilder,
 };
-use samples::packets::{ACCEPTED, ACCEPTED_WITH_LISTS, REFUSED};
+use hex_rows::{are_answered, digits_of};
+use samples::help::{
+    HEADER, STRICT, UNVERIFIED, canonical_of, chunk_of, header_of, is_answered, is_canonical,
+    packet_of, packet_shown, sizes_of, value_shown,
+};
+use samples::packets::ROWS;
+use samples::{captures, chunks};
 use std::alloc::{AllocError, Global};
 use std::fmt;
 use std::test::Fail;
 
-/// The header, and these chunks: its numbers, as they are read.
-fn header_before(alloc: Global, chunks: &[u8]) -> Result<(u16, u16, u32, u32), Fail> {
-    let bytes = packet_of(alloc, chunks)?;
-    Ok(header_of(alloc, &bytes, 0, &UNVERIFIED)?)
-}
-
-/// The header, and these chunks: this is answered.
-fn is_answer(alloc: Global, chunks: &[u8], wanted: &str) -> Result<bool, AllocError> {
-    let bytes = packet_of(alloc, chunks)?;
-    is_answered(alloc, &bytes, 0, &UNVERIFIED, wanted)
-}
-
-/// The header, and these chunks: the canonical packet has these.
-fn is_kept_as(alloc: Global, chunks: &[u8], wanted: &[u8]) -> Result<bool, Fail> {
-    let bytes = packet_of(alloc, chunks)?;
-    let wanted = packet_of(alloc, wanted)?;
-    is_canonical(alloc, &bytes, 0, &UNVERIFIED, &wanted)
-}
-
-/// The packet's header numbers, whether it prints this text, and whether the canonical packet has
-/// these chunks.
-fn kept_as(
+/// What the packet of these chunks is to print and to be written as, by way of its canonical packet:
+/// this prints the same, and is written as itself.
+pub(crate) fn shown_again(
     alloc: Global,
     chunks: &[u8],
-    text: &str,
-    canonical: &[u8],
-) -> Result<((u16, u16, u32, u32), bool, bool), Fail> {
-    let header = header_before(alloc, chunks)?;
-    let has_text = is_answer(alloc, chunks, text)?;
-    Ok((header, has_text, is_kept_as(alloc, chunks, canonical)?))
-}
-
-#[test]
-fn accepted(rt: HostRuntime) -> Result<(), Fail> {
-    let wanted = ((5000, 5000, 16909060, 0), true, true);
-    for rows in [ACCEPTED, ACCEPTED_WITH_LISTS] {
-        for (i, (chunks, text, canonical)) in rows.iter().enumerate() {
-            let input = kept_as(rt.alloc(), chunks, text, canonical)?;
-            assert_eq!(rt; input, wanted, "row {i}");
-            // the canonical packet is read as the same packet again
-            let again = kept_as(rt.alloc(), canonical, text, canonical)?;
-            assert_eq!(rt; again, wanted, "row {i}");
-        }
-    }
-    Ok(())
-}
-
-/// The canonical packet has the size of the wanted one, and is written as it over bytes `ee`.
-fn is_written_over(alloc: Global, bytes: &[u8], wanted: &[u8]) -> Result<bool, Fail> {
-    let packet = SctpPacket::from_bytes(alloc, bytes, 0, &UNVERIFIED)?;
-    if !packet.fits() || packet.canonical_size() != wanted.len() {
-        return Ok(false);
-    }
-    let mut output = vec![in alloc; 0xee; packet.canonical_size()]?;
-    packet.write_canonical(&mut output);
-    Ok(output.as_slice() == wanted)
-}
-
-/// The same of the header and these chunks.
-fn is_written_as(alloc: Global, chunks: &[u8], wanted: &[u8]) -> Result<bool, Fail> {
+    policy: &ChecksumPolicy,
+) -> Result<String, Fail> {
     let bytes = packet_of(alloc, chunks)?;
-    let wanted = packet_of(alloc, wanted)?;
-    is_written_over(alloc, &bytes, &wanted)
+    let Some(canonical) = written_over(alloc, &bytes)? else {
+        return Ok(packet_shown(alloc, chunks, &UNVERIFIED)?);
+    };
+    let again = canonical.get(HEADER.len()..).unwrap_or(&[]);
+    let mut text = packet_shown(alloc, again, policy)?;
+    if again != chunks {
+        let digits = digits_of(alloc, again)?;
+        write!(text, " -> {digits}")?;
+    }
+    Ok(text)
 }
 
-// Into the caller's bytes: no byte of the canonical packet stays as it stood.
-#[test]
-fn written(rt: HostRuntime) -> Result<(), Fail> {
-    for rows in [ACCEPTED, ACCEPTED_WITH_LISTS] {
-        for (i, (chunks, _, canonical)) in rows.iter().enumerate() {
-            assert!(rt; is_written_as(rt.alloc(), chunks, canonical)?, "row {i}");
+/// The canonical packet, written over bytes `ee`; or nothing where the packet isn't read, or doesn't
+/// fit.
+fn written_over(alloc: Global, bytes: &[u8]) -> Result<Option<Vec<u8>>, AllocError> {
+    match SctpPacket::from_bytes(alloc, bytes, 0, &UNVERIFIED) {
+        Ok(packet) if packet.fits() => {
+            let mut output = vec![in alloc; 0xee; packet.canonical_size()]?;
+            packet.write_canonical(&mut output);
+            Ok(Some(output))
         }
+        _ => Ok(None),
+    }
+}
+
+// As it is read, and as its canonical packet is, which is read leniently and strictly.
+#[test]
+fn accepted_and_refused(rt: HostRuntime) -> Result<(), Fail> {
+    let alloc = rt.alloc();
+    are_answered(
+        alloc,
+        ROWS,
+        |alloc, chunks| Ok(packet_shown(alloc, chunks, &UNVERIFIED)?),
+    )?;
+    are_answered(
+        alloc,
+        ROWS,
+        |alloc, chunks| shown_again(alloc, chunks, &UNVERIFIED),
+    )?;
+    are_answered(
+        alloc,
+        ROWS,
+        |alloc, chunks| shown_again(alloc, chunks, &STRICT),
+    )
+}
+
+/// What the packet's first chunk is, as a chunk of these bytes is shown.
+fn first_shown(alloc: Global, bytes: &[u8], chunk: &[u8]) -> Result<String, Fail> {
+    let packet = SctpPacket::from_bytes(alloc, bytes, 0, &UNVERIFIED)?;
+    match packet.chunks.first() {
+        Some(first) => Ok(value_shown(alloc, chunk, first)?),
+        None => Err(Fail::new("no chunk")),
+    }
+}
+
+/// The same of the header and the chunk, which have no fault, and as many parts as are read.
+fn packed(alloc: Global, chunk: &[u8]) -> Result<String, Fail> {
+    let bytes = packet_of(alloc, chunk)?;
+    if SctpPacket::first_fault(&bytes, 0, &UNVERIFIED).is_some() {
+        return Err(Fail::new("a fault"));
+    }
+    checked(alloc, chunk)?;
+    first_shown(alloc, &bytes, chunk)
+}
+
+/// The packet that is built of the chunk alone.
+fn built_of(alloc: Global, chunk: &[u8]) -> Result<Vec<u8>, Fail> {
+    let mut builder = SctpPacketBuilder::new(alloc, 0x01020304, 5000, 5000, 1200);
+    if builder.try_add(&chunk_of(alloc, chunk)?)? {
+        Ok(builder.build(0))
+    } else {
+        Err(Fail::new("no room"))
+    }
+}
+
+/// The same of that packet, in which the strict policy finds no fault.
+fn built(alloc: Global, chunk: &[u8]) -> Result<String, Fail> {
+    let bytes = built_of(alloc, chunk)?;
+    if SctpPacket::first_fault(&bytes, 0, &STRICT).is_some() {
+        return Err(Fail::new("a fault"));
+    }
+    first_shown(alloc, &bytes, chunk)
+}
+
+/// The packet prints the end of this text, and is its own canonical packet.
+fn is_canonical_end(alloc: Global, chunk: &[u8], wanted: &str) -> Result<bool, Fail> {
+    let text = packet_shown(alloc, chunk, &UNVERIFIED)?;
+    let again = shown_again(alloc, chunk, &STRICT)?;
+    Ok(wanted.ends_with(text.as_str()) && again.as_str() == text.as_str())
+}
+
+// Each chunk alone in a packet. Those that were captured are their own canonical packets.
+#[test]
+fn of_one_chunk(rt: HostRuntime) -> Result<(), Fail> {
+    are_answered(
+        rt.alloc(),
+        chunks::ROWS,
+        |alloc, chunk| packed(alloc, chunk),
+    )?;
+    are_answered(rt.alloc(), chunks::ROWS, |alloc, chunk| built(alloc, chunk))?;
+    for (i, (chunk, wanted)) in captures::ROWS.iter().enumerate() {
+        assert_eq!(rt; packed(rt.alloc(), chunk)?.as_str(), *wanted, "row {i}");
+        assert_eq!(rt; built(rt.alloc(), chunk)?.as_str(), *wanted, "row {i}");
+        assert!(rt; is_canonical_end(rt.alloc(), chunk, wanted)?, "row {i}");
     }
     Ok(())
 }
 
+/// What a chunk prints, and how its canonical packet begins: as it is read, and by way of that.
+fn begins_so(alloc: Global, chunk: &[u8], wanted: &str) -> Result<bool, Fail> {
+    let text = packet_shown(alloc, chunk, &UNVERIFIED)?;
+    let again = shown_again(alloc, chunk, &STRICT)?;
+    Ok(text.starts_with(wanted) && again.as_str() == text.as_str())
+}
+
+// The captured INIT without its padding.
 #[test]
-fn refused(rt: HostRuntime) -> Result<(), Fail> {
-    for (i, (chunks, wanted)) in REFUSED.iter().enumerate() {
-        assert!(rt; is_answer(rt.alloc(), chunks, wanted)?, "row {i}");
-    }
+fn without_padding(rt: HostRuntime) -> Result<(), Fail> {
+    let wanted = "INIT, initiate_tag=3732543120, initial_tsn=621623272 -> 0100005a de7a1690 ";
+    assert!(rt; begins_so(rt.alloc(), &captures::INIT[..90], wanted)?);
     Ok(())
 }
 
@@ -150,11 +203,11 @@ fn largest(rt: HostRuntime) -> Result<(), Fail> {
     // The chunk's length, the packet's size, the answer.
     let rows = [
         // the largest packet whose canonical form has the same size
-        ([0xff, 0xf0], 65532, "COOKIE-ECHO, cookie=65516 bytes\n"),
+        ([0xff, 0xf0], 65532, "COOKIE-ECHO, cookie=65516 bytes"),
         // a byte more: the canonical packet would have 65,536
-        ([0xff, 0xf1], 65533, "COOKIE-ECHO, cookie=65517 bytes\n"),
+        ([0xff, 0xf1], 65533, "COOKIE-ECHO, cookie=65517 bytes"),
         // the largest packet of all, and one byte more
-        ([0xff, 0xf3], 65535, "COOKIE-ECHO, cookie=65519 bytes\n"),
+        ([0xff, 0xf3], 65535, "COOKIE-ECHO, cookie=65519 bytes"),
         ([0xff, 0xf4], 65536, "InvalidPacketSize"),
     ];
     for (length, size, wanted) in rows {

@@ -2,125 +2,63 @@
 
 use dcsctp_wire::packet::ChunkParseError;
 use dcsctp_wire::packet::chunk::Chunk;
+use hex_rows::are_answered;
 use samples::help::chunk_of;
 use sctp_report::ChunkReport;
 use std::alloc::Global;
 use std::test::Fail;
 
 /// The bytes, and what is printed of the chunk.
-const ROWS: &[(&[u8], &str)] = &[
-    // DATA with all four bits
-    (
-        &[
-            0, 0x0f, 0, 21, 0, 0, 0, 1, 0, 2, 0, 3, 0, 0, 0, 51, 0x68, 0x65, 0x6c, 0x6c, 0x6f,
-        ],
-        "DATA: tsn 1, stream 2, ssn 3, ppid 51 (WebRTC String), unordered, beginning, end, immediate\n  payload: 5 bytes: 68656c6c6f\n",
-    ),
-    // none of them, and a payload protocol identifier of no WebRTC kind
-    (
-        &[0, 0, 0, 17, 0, 0, 0, 1, 0, 2, 0, 3, 0, 0, 0x23, 0x82, 0xff],
-        "DATA: tsn 1, stream 2, ssn 3, ppid 9090, ordered\n  payload: 1 byte: ff\n",
-    ),
-    // I-DATA: a beginning, with one byte more than is shown
-    (
-        &[
-            0x40, 2, 0, 37, 0, 0, 0, 1, 0, 2, 0, 0, 0, 0, 0, 3, 0, 0, 0, 53, 0, 1, 2, 3, 4, 5, 6,
-            7, 8, 9, 10, 11, 12, 13, 14, 15, 16,
-        ],
-        "I-DATA: tsn 1, stream 2, mid 3, ppid 53 (WebRTC Binary), ordered, beginning\n  payload: 17 bytes: 000102030405060708090a0b0c0d0e0f ..\n",
-    ),
-    // an end, without a payload
-    (
-        &[
-            0x40, 1, 0, 20, 0, 0, 0, 1, 0, 2, 0, 0, 0, 0, 0, 3, 0, 0, 0, 4,
-        ],
-        "I-DATA: tsn 1, stream 2, mid 3, fsn 4, ordered, end\n  payload: 0 bytes\n",
-    ),
-    // SACK with two blocks and two duplicates
-    (
-        &[
-            3, 0, 0, 32, 0, 0, 0, 1, 0, 0, 0, 2, 0, 2, 0, 2, 0, 2, 0, 3, 0, 5, 0, 5, 0, 0, 0, 17,
-            0, 0, 0, 18,
-        ],
-        "SACK: cumulative tsn 1, a_rwnd 2\n  block 2 to 3\n  block 5 to 5\n  duplicate tsn 17\n  duplicate tsn 18\n",
-    ),
-    // INIT with four parameters, the last an IPv4 address
-    (
-        &[
-            1, 0, 0, 48, 1, 2, 3, 4, 0, 2, 0, 0, 0, 10, 8, 0, 0, 0, 0, 7, 0x80, 8, 0, 6, 0x82,
-            0xc0, 0, 0, 0xc0, 0, 0, 4, 0x80, 1, 0, 8, 0, 0, 0, 1, 0, 5, 0, 8, 10, 0, 0, 1,
-        ],
-        "INIT: tag 0x01020304, a_rwnd 131072, outbound streams 10, inbound streams 2048, initial tsn 7\n  parameter 0x8008 Supported Extensions\n    chunk type 0x82\n    chunk type 0xc0\n  parameter 0xc000 Forward TSN Supported\n  parameter 0x8001 Zero Checksum Acceptable: method 1\n  parameter 0x0005 unknown: 4 bytes: 0a000001\n",
-    ),
-    // INIT ACK with a State Cookie
-    (
-        &[
-            2, 0, 0, 28, 0xff, 0xfe, 0xfd, 0xfc, 0, 0, 0, 2, 0, 3, 0, 4, 0, 0, 0, 5, 0, 7, 0, 8, 7,
-            8, 9, 10,
-        ],
-        "INIT ACK: tag 0xfffefdfc, a_rwnd 2, outbound streams 3, inbound streams 4, initial tsn 5\n  parameter 0x0007 State Cookie: 4 bytes: 0708090a\n",
-    ),
-    // HEARTBEAT and HEARTBEAT ACK
-    (
-        &[4, 0, 0, 11, 0, 1, 0, 7, 1, 2, 3],
-        "HEARTBEAT\n  parameter 0x0001 Heartbeat Info: 3 bytes: 010203\n",
-    ),
-    (
-        &[5, 0, 0, 8, 0, 1, 0, 4],
-        "HEARTBEAT ACK\n  parameter 0x0001 Heartbeat Info: 0 bytes\n",
-    ),
-    // ABORT with a line feed and a quotation mark in its reason, and ABORT alone
-    (
-        &[6, 1, 0, 13, 0, 12, 0, 9, 0x62, 0x79, 0x65, 10, 0x22],
-        "ABORT, tag reflected\n  cause 0x000c User-Initiated Abort: \"bye\\x0a\\x22\"\n",
-    ),
-    (&[6, 0, 0, 4], "ABORT\n"),
-    // SHUTDOWN and SHUTDOWN ACK
-    (&[7, 0, 0, 8, 0, 0, 0, 5], "SHUTDOWN: cumulative tsn 5\n"),
-    (&[8, 0, 0, 4], "SHUTDOWN ACK\n"),
-    // ERROR with a cause of each other kind, of a stale cookie of 3,000 microseconds, and of a code
-    // that no standard has
-    (
-        &[
-            9, 0, 0, 56, 0, 2, 0, 12, 0, 0, 0, 2, 0, 7, 0x80, 8, 0, 6, 0, 8, 0x49, 0, 0, 4, 0, 3,
-            0, 8, 0, 0, 0x0b, 0xb8, 0, 9, 0, 8, 0, 0, 0, 1, 0, 10, 0, 4, 0, 13, 0, 6, 0x6e, 0x6f,
-            0, 0, 0, 99, 0, 4,
-        ],
-        "ERROR\n  cause 0x0002 Missing Mandatory Parameter\n    parameter type 0x0007\n    parameter type 0x8008\n  cause 0x0006 Unrecognized Chunk Type: 4 bytes: 49000004\n  cause 0x0003 Stale Cookie: 4 bytes: 00000bb8\n  cause 0x0009 No User Data: tsn 1\n  cause 0x000a Cookie Received While Shutting Down\n  cause 0x000d Protocol Violation: \"no\"\n  cause 0x0063 unknown: 0 bytes\n",
-    ),
-    // COOKIE ECHO and COOKIE ACK
-    (&[10, 0, 0, 7, 1, 2, 3], "COOKIE ECHO: 3 bytes: 010203\n"),
-    (&[11, 0, 0, 4], "COOKIE ACK\n"),
-    // SHUTDOWN COMPLETE, both ways
-    (&[14, 1, 0, 4], "SHUTDOWN COMPLETE, tag reflected\n"),
-    (&[14, 0, 0, 4], "SHUTDOWN COMPLETE\n"),
-    // RE-CONFIG with each request, and with a response of either length
-    (
-        &[
-            0x82, 0, 0, 100, 0, 13, 0, 20, 0, 0, 0, 1, 0, 0, 0, 2, 0, 0, 0, 3, 0, 4, 0, 5, 0, 14,
-            0, 10, 0, 0, 0, 6, 0, 7, 0, 0, 0, 15, 0, 8, 0, 0, 0, 8, 0, 16, 0, 20, 0, 0, 0, 9, 0, 0,
-            0, 1, 0, 0, 0, 10, 0, 0, 0, 11, 0, 16, 0, 12, 0, 0, 0, 9, 0, 0, 0, 6, 0, 17, 0, 12, 0,
-            0, 0, 12, 0, 13, 0, 0, 0, 18, 0, 12, 0, 0, 0, 14, 0, 15, 0, 0,
-        ],
-        "RE-CONFIG\n  parameter 0x000d Outgoing SSN Reset Request: request 1, response 2, last tsn 3\n    stream 4\n    stream 5\n  parameter 0x000e Incoming SSN Reset Request: request 6\n    stream 7\n  parameter 0x000f SSN/TSN Reset Request: request 8\n  parameter 0x0010 Re-configuration Response: response 9, result 1 (Success - Performed)\n    sender's next tsn 10\n    receiver's next tsn 11\n  parameter 0x0010 Re-configuration Response: response 9, result 6 (In progress)\n  parameter 0x0011 Add Outgoing Streams Request: request 12, new streams 13\n  parameter 0x0012 Add Incoming Streams Request: request 14, new streams 15\n",
-    ),
-    // FORWARD-TSN and I-FORWARD-TSN
-    (
-        &[0xc0, 0, 0, 12, 0, 0, 0, 123, 0, 1, 0, 23],
-        "FORWARD-TSN: new cumulative tsn 123\n  stream 1, ssn 23\n",
-    ),
-    (
-        &[
-            0xc2, 0, 0, 24, 0, 0, 0, 123, 0, 1, 0, 1, 0, 0, 0, 23, 0, 2, 0, 0, 0, 0, 0, 24,
-        ],
-        "I-FORWARD-TSN: new cumulative tsn 123\n  stream 1, unordered, mid 23\n  stream 2, ordered, mid 24\n",
-    ),
-    // a type without a kind of its own
-    (
-        &[99, 5, 0, 6, 1, 2],
-        "unknown chunk: type 0x63, flags 0x05, 2 bytes: 0102\n",
-    ),
-];
+const ROWS: &str = r#"# DATA with all four bits
+000f0015 00000001 00020003 00000033 68656c6c 6f
+= DATA: tsn 1, stream 2, ssn 3, ppid 51 (WebRTC String), unordered, beginning, end, immediate|  payload: 5 bytes: 68656c6c6f|
+# none of them, and a payload protocol identifier of no WebRTC kind
+00000011 00000001 00020003 00002382 ff
+= DATA: tsn 1, stream 2, ssn 3, ppid 9090, ordered|  payload: 1 byte: ff|
+# I-DATA: a beginning, with one byte more than is shown
+40020025 00000001 00020000 00000003 00000035 00010203 04050607 08090a0b 0c0d0e0f 10
+= I-DATA: tsn 1, stream 2, mid 3, ppid 53 (WebRTC Binary), ordered, beginning|  payload: 17 bytes: 000102030405060708090a0b0c0d0e0f ..|
+# an end, without a payload
+40010014 00000001 00020000 00000003 00000004
+= I-DATA: tsn 1, stream 2, mid 3, fsn 4, ordered, end|  payload: 0 bytes|
+# SACK with two blocks and two duplicates
+03000020 00000001 00000002 00020002 00020003 00050005 00000011 00000012
+= SACK: cumulative tsn 1, a_rwnd 2|  block 2 to 3|  block 5 to 5|  duplicate tsn 17|  duplicate tsn 18|
+# INIT with four parameters, the last an IPv4 address
+01000030 01020304 00020000 000a0800 00000007 80080006 82c00000 c0000004 80010008 00000001 00050008 0a000001
+= INIT: tag 0x01020304, a_rwnd 131072, outbound streams 10, inbound streams 2048, initial tsn 7|  parameter 0x8008 Supported Extensions|    chunk type 0x82|    chunk type 0xc0|  parameter 0xc000 Forward TSN Supported|  parameter 0x8001 Zero Checksum Acceptable: method 1|  parameter 0x0005 unknown: 4 bytes: 0a000001|
+# INIT ACK with a State Cookie
+0200001c fffefdfc 00000002 00030004 00000005 00070008 0708090a
+= INIT ACK: tag 0xfffefdfc, a_rwnd 2, outbound streams 3, inbound streams 4, initial tsn 5|  parameter 0x0007 State Cookie: 4 bytes: 0708090a|
+# HEARTBEAT and HEARTBEAT ACK
+0400000b 00010007 010203 = HEARTBEAT|  parameter 0x0001 Heartbeat Info: 3 bytes: 010203|
+05000008 00010004 = HEARTBEAT ACK|  parameter 0x0001 Heartbeat Info: 0 bytes|
+# ABORT with a line feed and a quotation mark in its reason, and ABORT alone
+0601000d 000c0009 6279650a 22
+= ABORT, tag reflected|  cause 0x000c User-Initiated Abort: "bye\x0a\x22"|
+06000004 = ABORT|
+# SHUTDOWN and SHUTDOWN ACK
+07000008 00000005 = SHUTDOWN: cumulative tsn 5|
+08000004 = SHUTDOWN ACK|
+# ERROR with a cause of each other kind, of a stale cookie of 3,000 microseconds, and of a code
+# that no standard has
+09000038 0002000c 00000002 00078008 00060008 49000004 00030008 00000bb8 00090008 00000001 000a0004 000d0006 6e6f0000 00630004
+= ERROR|  cause 0x0002 Missing Mandatory Parameter|    parameter type 0x0007|    parameter type 0x8008|  cause 0x0006 Unrecognized Chunk Type: 4 bytes: 49000004|  cause 0x0003 Stale Cookie: 4 bytes: 00000bb8|  cause 0x0009 No User Data: tsn 1|  cause 0x000a Cookie Received While Shutting Down|  cause 0x000d Protocol Violation: "no"|  cause 0x0063 unknown: 0 bytes|
+# COOKIE ECHO and COOKIE ACK
+0a000007 010203 = COOKIE ECHO: 3 bytes: 010203|
+0b000004 = COOKIE ACK|
+# SHUTDOWN COMPLETE, both ways
+0e010004 = SHUTDOWN COMPLETE, tag reflected|
+0e000004 = SHUTDOWN COMPLETE|
+# RE-CONFIG with each request, and with a response of either length
+82000064 000d0014 00000001 00000002 00000003 00040005 000e000a 00000006 00070000 000f0008 00000008 00100014 00000009 00000001 0000000a 0000000b 0010000c 00000009 00000006 0011000c 0000000c 000d0000 0012000c 0000000e 000f0000
+= RE-CONFIG|  parameter 0x000d Outgoing SSN Reset Request: request 1, response 2, last tsn 3|    stream 4|    stream 5|  parameter 0x000e Incoming SSN Reset Request: request 6|    stream 7|  parameter 0x000f SSN/TSN Reset Request: request 8|  parameter 0x0010 Re-configuration Response: response 9, result 1 (Success - Performed)|    sender's next tsn 10|    receiver's next tsn 11|  parameter 0x0010 Re-configuration Response: response 9, result 6 (In progress)|  parameter 0x0011 Add Outgoing Streams Request: request 12, new streams 13|  parameter 0x0012 Add Incoming Streams Request: request 14, new streams 15|
+# FORWARD-TSN and I-FORWARD-TSN
+c000000c 0000007b 00010017 = FORWARD-TSN: new cumulative tsn 123|  stream 1, ssn 23|
+c2000018 0000007b 00010001 00000017 00020000 00000018
+= I-FORWARD-TSN: new cumulative tsn 123|  stream 1, unordered, mid 23|  stream 2, ordered, mid 24|
+# a type without a kind of its own
+63050006 0102 = unknown chunk: type 0x63, flags 0x05, 2 bytes: 0102|"#;
 
 /// What is printed of the chunk at the front, with 16 bytes of each value.
 fn lines_of(alloc: Global, bytes: &[u8]) -> Result<String, ChunkParseError> {
@@ -133,11 +71,13 @@ fn lines(alloc: Global, chunk: &Chunk) -> Result<String, ChunkParseError> {
     Ok(format!(in alloc; "{report}")?)
 }
 
+/// The same in one line: `|` ends each of them.
+fn shown(alloc: Global, bytes: &[u8]) -> Result<String, Fail> {
+    let text = lines_of(alloc, bytes)?;
+    Ok(text.replace(alloc, "\n", "|")?)
+}
+
 #[test]
 fn of_each_kind(rt: HostRuntime) -> Result<(), Fail> {
-    for (i, (bytes, wanted)) in ROWS.iter().enumerate() {
-        let text = lines_of(rt.alloc(), bytes)?;
-        assert!(rt; text.as_str() == *wanted, "row {i}: {text}");
-    }
-    Ok(())
+    are_answered(rt.alloc(), ROWS, |alloc, bytes| shown(alloc, bytes))
 }

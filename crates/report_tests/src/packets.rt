@@ -2,36 +2,21 @@
 
 use dcsctp_crc32c::packet_word;
 use dcsctp_wire::packet::sctp_packet::{ChecksumPolicy, PacketParseError, SctpPacket};
+use hex_rows::are_answered;
 use sctp_report::{ChecksumReport, PacketReport};
 use std::alloc::Global;
 use std::test::Fail;
 
 /// Packets of usrsctp (docs/CAPTURES.md), and what is printed of them.
-const PACKETS: &[(&[u8], &str)] = &[
-    // COOKIE ACK
-    (
-        &[
-            0x13, 0x88, 0x13, 0x88, 0x4d, 0x2d, 0xf5, 0x2d, 0x67, 0xdb, 0x78, 0xb5, 0x0b, 0, 0, 4,
-        ],
-        "source 5000, destination 5000, tag 0x4d2df52d\nchecksum 0x67db78b5: right\nCOOKIE ACK\n",
-    ),
-    // DATA with five bytes
-    (
-        &[
-            0x13, 0x88, 0x13, 0x88, 0x0d, 0xa7, 0x37, 0x98, 0x11, 0x48, 0xa1, 0xf6, 0, 3, 0, 0x15,
-            0x79, 6, 0xb4, 0xb0, 0, 1, 0, 0, 0, 0, 0, 0x33, 0x68, 0x65, 0x6c, 0x6c, 0x6f, 0, 0, 0,
-        ],
-        "source 5000, destination 5000, tag 0x0da73798\nchecksum 0x1148a1f6: right\nDATA: tsn 2030482608, stream 1, ssn 0, ppid 51 (WebRTC String), ordered, beginning, end\n  payload: 5 bytes: 68656c6c6f\n",
-    ),
-    // its SACK, with one bit of the checksum changed
-    (
-        &[
-            0x13, 0x88, 0x13, 0x88, 0x4d, 0x2d, 0xf5, 0x2d, 0xc6, 4, 0xd6, 0x2f, 3, 0, 0, 0x10,
-            0x79, 6, 0xb4, 0xb0, 0, 2, 0, 0, 0, 0, 0, 0,
-        ],
-        "source 5000, destination 5000, tag 0x4d2df52d\nchecksum 0xc604d62f: wrong, expected 0xc604d62e\nSACK: cumulative tsn 2030482608, a_rwnd 131072\n",
-    ),
-];
+const PACKETS: &str = r"# COOKIE ACK
+13881388 4d2df52d 67db78b5 0b000004
+= source 5000, destination 5000, tag 0x4d2df52d|checksum 0x67db78b5: right|COOKIE ACK|
+# DATA with five bytes
+13881388 0da73798 1148a1f6 00030015 7906b4b0 00010000 00000033 68656c6c 6f000000
+= source 5000, destination 5000, tag 0x0da73798|checksum 0x1148a1f6: right|DATA: tsn 2030482608, stream 1, ssn 0, ppid 51 (WebRTC String), ordered, beginning, end|  payload: 5 bytes: 68656c6c6f|
+# its SACK, with one bit of the checksum changed
+13881388 4d2df52d c604d62f 03000010 7906b4b0 00020000 00000000
+= source 5000, destination 5000, tag 0x4d2df52d|checksum 0xc604d62f: wrong, expected 0xc604d62e|SACK: cumulative tsn 2030482608, a_rwnd 131072|";
 
 /// What is printed of a packet, whatever its checksum is.
 fn lines_of(alloc: Global, bytes: &[u8]) -> Result<String, PacketParseError> {
@@ -49,13 +34,15 @@ fn lines(alloc: Global, packet: &SctpPacket, word: u32) -> Result<String, Packet
     Ok(format!(in alloc; "{report}")?)
 }
 
+/// The same in one line: `|` ends each of them.
+fn shown(alloc: Global, bytes: &[u8]) -> Result<String, Fail> {
+    let text = lines_of(alloc, bytes)?;
+    Ok(text.replace(alloc, "\n", "|")?)
+}
+
 #[test]
 fn of_captures(rt: HostRuntime) -> Result<(), Fail> {
-    for (i, (bytes, wanted)) in PACKETS.iter().enumerate() {
-        let text = lines_of(rt.alloc(), bytes)?;
-        assert!(rt; text.as_str() == *wanted, "row {i}: {text}");
-    }
-    Ok(())
+    are_answered(rt.alloc(), PACKETS, |alloc, bytes| shown(alloc, bytes))
 }
 
 #[test]

@@ -72,26 +72,6 @@ pub fn has_fields(alloc: Global, bytes: &[u8], fields: &str) -> Result<bool, Chu
     Ok(fields_of(alloc, bytes)?.as_str() == fields)
 }
 
-/// Whether the chunk at the front prints this text, holds these fields, and is written as these
-/// bytes.
-pub fn is_kept(
-    alloc: Global,
-    bytes: &[u8],
-    text: &str,
-    fields: &str,
-    again: &[u8],
-) -> Result<(bool, bool, bool), ChunkParseError> {
-    let has_text = has_text(alloc, bytes, text)?;
-    let has_fields = has_fields(alloc, bytes, fields)?;
-    Ok((has_text, has_fields, is_rewritten(alloc, bytes, again)?))
-}
-
-/// The chunk at the front is written as these bytes.
-pub fn is_rewritten(alloc: Global, bytes: &[u8], wanted: &[u8]) -> Result<bool, ChunkParseError> {
-    let chunk = chunk_of(alloc, bytes)?;
-    Ok(is_image(alloc, &chunk, wanted)?)
-}
-
 /// The chunk as it is written over zeros, or nothing where it can't be written.
 pub fn image_of<T: SerializableTlv>(alloc: Global, chunk: &T) -> Result<Vec<u8>, AllocError> {
     if !chunk.encodable() {
@@ -123,7 +103,7 @@ fn frame_of(bytes: &[u8]) -> &[u8] {
 
 /// All that a chunk holds and what it prints; and after an arrow the bytes that are written of it,
 /// where these aren't the frame at the front of the bytes.
-fn value_shown<T: SerializableTlv + fmt::Debug + fmt::Display>(
+pub fn value_shown<T: SerializableTlv + fmt::Debug + fmt::Display>(
     alloc: Global,
     bytes: &[u8],
     chunk: &T,
@@ -183,24 +163,27 @@ pub fn canonical_of(alloc: Global, packet: &SctpPacket) -> Result<Option<Vec<u8>
     }
 }
 
-/// What the chunks print, a line each.
-fn lines_of(alloc: Global, chunks: &[Chunk]) -> Result<String, AllocError> {
+/// What the chunks print, one after the other.
+fn texts_of(alloc: Global, chunks: &[Chunk]) -> Result<String, AllocError> {
     let mut text = String::new(alloc);
     for chunk in chunks {
-        writeln!(text, "{chunk}")?;
+        if !text.is_empty() {
+            text.push_str("; ")?;
+        }
+        write!(text, "{chunk}")?;
     }
     Ok(text)
 }
 
-/// What the packet's chunks print, a line each; or the packet's fault.
-fn answer_of(
+/// What the packet's chunks print; or the packet's fault.
+pub fn answer_of(
     alloc: Global,
     bytes: &[u8],
     word: u32,
     policy: &ChecksumPolicy,
 ) -> Result<String, AllocError> {
     match SctpPacket::from_bytes(alloc, bytes, word, policy) {
-        Ok(packet) => lines_of(alloc, &packet.chunks),
+        Ok(packet) => texts_of(alloc, &packet.chunks),
         Err(error) => format!(in alloc; "{error:?}"),
     }
 }
@@ -214,6 +197,37 @@ pub fn is_answered(
     wanted: &str,
 ) -> Result<bool, AllocError> {
     Ok(answer_of(alloc, bytes, word, policy)?.as_str() == wanted)
+}
+
+/// What the canonical packet has after the header, where these aren't the chunks: an arrow, and its
+/// chunks.
+fn arrow_to(alloc: Global, packet: &SctpPacket, chunks: &[u8]) -> Result<String, AllocError> {
+    let canonical = canonical_of(alloc, packet)?.unwrap_or(Vec::new(alloc));
+    match canonical.strip_prefix(&HEADER) {
+        Some(again) if again == chunks => Ok(String::new(alloc)),
+        Some(again) => {
+            let digits = digits_of(alloc, again)?;
+            format!(in alloc; " -> {digits}")
+        }
+        None => format!(in alloc; " -> another header"),
+    }
+}
+
+/// What the packet of these chunks prints, and its arrow; or the packet's fault.
+pub fn packet_shown(
+    alloc: Global,
+    chunks: &[u8],
+    policy: &ChecksumPolicy,
+) -> Result<String, AllocError> {
+    let bytes = packet_of(alloc, chunks)?;
+    match SctpPacket::from_bytes(alloc, &bytes, 0, policy) {
+        Ok(packet) => {
+            let mut text = texts_of(alloc, &packet.chunks)?;
+            text.push_str(&arrow_to(alloc, &packet, chunks)?)?;
+            Ok(text)
+        }
+        Err(error) => format!(in alloc; "{error:?}"),
+    }
 }
 
 /// The packet's chunks hold this, and nothing else.

@@ -10,7 +10,7 @@ mod strict;
 
 use crate::captured::show_captured;
 use crate::engine::{show, show_strict};
-use std::alloc::Global;
+use std::alloc::{AllocError, Global};
 use watched_io::faulty::{Plan, Sink, Source, steps};
 use watched_io::watched::Watched;
 
@@ -105,6 +105,44 @@ fn is_answered(
         && outcome.flushes == 1
         && !outcome.input_failed
         && !outcome.output_failed
+}
+
+/// Whether the text is answered so. In the answer, ` | ` ends a line, and an error's status is 1.
+fn is_row_so<F: Fn(Global, &str, (&str, u8)) -> bool>(
+    alloc: Global,
+    text: &str,
+    answer: &str,
+    is_so: &F,
+) -> Result<bool, AllocError>
+    requires { F.IsAlwaysCallable is_so.now }
+{
+    let mut wanted = answer.replace(alloc, " | ", "\n")?;
+    wanted.push('\n')?;
+    let status = if answer.starts_with("error") { 1 } else { 0 };
+    Ok(is_so(alloc, text, (wanted.as_str(), status)))
+}
+
+/// The answer of the first row that isn't so. A row is a line of text, and a line that begins with
+/// `= `, its answer; `#` begins a comment.
+fn first_wrong<'a, F: Fn(Global, &str, (&str, u8)) -> bool>(
+    alloc: Global,
+    rows: &'a str,
+    is_so: F,
+) -> Result<Option<&'a str>, AllocError>
+    requires { F.IsAlwaysCallable is_so }
+{
+    let mut text = "";
+    for line in rows.lines() {
+        match line.strip_prefix("= ") {
+            None => text = line,
+            Some(answer) => {
+                if !is_row_so(alloc, text, answer, &is_so)? {
+                    return Ok(Some(answer));
+                }
+            }
+        }
+    }
+    Ok(None)
 }
 
 /// Runs the program over bytes in memory: the status, and whether these bytes are written.
