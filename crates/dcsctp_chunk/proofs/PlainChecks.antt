@@ -16,36 +16,48 @@ whole (Ok u) = Ok 1
 whole (Err e) = Err (record { offset = 0; fault = e })
 
 -- that is one part, or the fault of the item as a whole
-abbrev pub Finds : {T : Type 0} → (T → ℕ) → Row T → List ℕ → Result (Unit {0}) ChunkParseError → Type 0
+abbrev pub Finds : {T : Type 0} → (T → ℕ) → Row T → List ℕ → Result (Unit {0}) ChunkParseError
+    → Type 0
 Finds parts row value r = Answers locating (λ (n : ℕ). n) (RowLocated parts row value) (whole r)
 
 -- a tree of each kind has one part
 abbrev pub AreSingle : {T : Type 0} → (T → ℕ) → (ks : List PlainKind) → TreesOf ks T → Type 0
 AreSingle parts [] trees = Unit {0}
-AreSingle parts (k ∷ ks) trees = ((x : k.Tree) → parts (trees.0 x) ≡ 1) × AreSingle parts ks trees.1
+AreSingle parts (k ∷ ks) trees =
+    ((x : k.Tree) → parts (trees.0 x) ≡ 1) × AreSingle parts ks trees.1
 
-kind_finds : {A T : Type 0} (parts : T → ℕ) (tree : A → T) → ((x : A) → parts (tree x) ≡ 1) → (read : List ℕ → Result A Fault) (value : List ℕ) (r : Result (Unit {0}) ChunkParseError)
-    → Answers checking (λ (u : Unit {0}). u) (Tested (read value)) r → Finds parts (plain (λ v. map_ok tree (read v))) value r
+kind_finds : {A T : Type 0} (parts : T → ℕ) (tree : A → T) → ((x : A) → parts (tree x) ≡ 1)
+    → (read : List ℕ → Result A Fault) (value : List ℕ) (r : Result (Unit {0}) ChunkParseError)
+    → Answers checking (λ (u : Unit {0}). u) (Tested (read value)) r
+    → Finds parts (plain (λ v. map_ok tree (read v))) value r
 kind_finds {A} {T} parts tree one read value (Ok x) p = found (read value) p where
   found : (a : Result A Fault) → IsOk a → (t : T) × (map_ok tree a ≡ Ok t) × (1 ≡ parts t)
   found (Ok x) h = (tree x, refl, sym (one x))
   found (Err d) h = absurd (let e : false ≡ true = h in cc)
 kind_finds parts tree one read value (Err e) p =
-    fault_at_front (plain (λ v. map_ok tree (read v))) parts value (Tested (read value)) (λ f is. (ap (map_ok tree) is, refl)) e p
+    fault_at_front (plain (λ v. map_ok tree (read v))) parts value (Tested (read value))
+    (λ f is. (ap (map_ok tree) is, refl)) e p
 
 -- any value of a type that has none of the kinds passes
-other_finds : {T : Type 0} (parts : T → ℕ) (row : Row T) (value : List ℕ) (r : Result (Unit {0}) ChunkParseError) → MeansParts parts row value 1 → IsOk r → Finds parts row value r
+other_finds : {T : Type 0} (parts : T → ℕ) (row : Row T) (value : List ℕ)
+    (r : Result (Unit {0}) ChunkParseError) → MeansParts parts row value 1 → IsOk r
+    → Finds parts row value r
 other_finds parts row value (Ok x) means p = means
 other_finds parts row value (Err e) means p = absurd (let e : false ≡ true = p in cc)
 
-choice : {T : Type 0} (parts : T → ℕ) (value : List ℕ) (r : Result (Unit {0}) ChunkParseError) (b : Bool) (row others : Row T) (P Q : Type 0) → (P → Finds parts row value r) → (Q → Finds parts others value r)
-    → cond b P Q → Finds parts (pick b row others) value r
+choice : {T : Type 0} (parts : T → ℕ) (value : List ℕ) (r : Result (Unit {0}) ChunkParseError)
+    (b : Bool) (row others : Row T) (P Q : Type 0) → (P → Finds parts row value r)
+    → (Q → Finds parts others value r) → cond b P Q → Finds parts (pick b row others) value r
 choice parts value r true row others P Q own rest p = own p
 choice parts value r false row others P Q own rest p = rest p
 
 -- so the check of the value says what the level's table does
-pub table_finds : {T : Type 0} (parts : T → ℕ) (ks : List PlainKind) (trees : TreesOf ks T) (typ : ℕ) (others : Row T) (value : List ℕ) (r : Result (Unit {0}) ChunkParseError) → AreSingle parts ks trees → MeansParts parts others value 1
-    → ChecksKind ks typ value r → Finds parts (row_of (plain_rows ks trees) typ others) value r
+pub table_finds : {T : Type 0} (parts : T → ℕ) (ks : List PlainKind) (trees : TreesOf ks T) (typ : ℕ)
+    (others : Row T) (value : List ℕ) (r : Result (Unit {0}) ChunkParseError)
+    → AreSingle parts ks trees → MeansParts parts others value 1 → ChecksKind ks typ value r
+    → Finds parts (row_of (plain_rows ks trees) typ others) value r
 table_finds parts [] trees typ others value r one means p = other_finds parts others value r means p
 table_finds parts (k ∷ ks) trees typ others value r one means p =
-    choice parts value r (typ == k.typ) _ _ _ _ (λ q. kind_finds parts trees.0 one.0 k.read value r q.answers) (table_finds parts ks trees.1 typ others value r one.1 means) p
+    choice parts value r (typ == k.typ) _ _ _ _
+    (λ q. kind_finds parts trees.0 one.0 k.read value r q.answers)
+    (table_finds parts ks trees.1 typ others value r one.1 means) p

@@ -1,4 +1,4 @@
-//! The check of a chunk without a list, ahead of building it.
+//! The check of a chunk without a list, before it is built.
 
 ghost use Rattle.std.specs.Prelude.{IsErrOf};
 ghost use Rattle.dcsctp_chunk.specs.PlainKinds.{plain_kinds, ChecksKind};
