@@ -155,7 +155,7 @@ impl<'a> ForwardTsnRef<'a> {
 
 /// The stream at the front, skipped by a sequence number: two bytes of stream id, and two of the
 /// number.
-// As `dcsctp_chunk` reads it for itself: to share it, a function of that crate would have to be public.
+// As `dcsctp_chunk` reads it for itself, by a function that it keeps private.
 #[inline(always)]
 fn ssn_stream(bytes: &[u8]) -> SkippedStream
     requires { 4 ≤ length bytes.now }

@@ -187,7 +187,7 @@ impl<'a> SackRef<'a> {
     }
 }
 
-/// The two numbers at the front, of two bytes each: how many blocks there are, and how many duplicates.
+/// The two numbers at the front, of two bytes each: the blocks' count, and the duplicates'.
 // One load serves both.
 #[inline(always)]
 fn counts(bytes: &[u8]) -> (u16, u16)
