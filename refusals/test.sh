@@ -8,8 +8,8 @@ Runs the tests of memory_tests, and sctp_show over seven inputs, as often as the
 run the first request of each is refused, then the second, and so on, until none is refused any more. A test passes
 whichever request is refused; the program prints its answer, or "error: out of memory" with status 1.
 
-The programs are those that `rt ci` proved and built; any that is missing is proved and built first. Needed is a C
-compiler; the variable CC names another than cc.'
+The programs are those that `rt ci` proved and built; one that is missing, or older than a source file, is proved and
+built first. Needed is a C compiler; the variable CC names another than cc.'
 
 case ${1:-} in
     '') ;;
@@ -101,11 +101,15 @@ sweep_program() {
     give_up "sctp_show runs out of memory without a refusal" "$said"
 }
 
+is_built() {
+    [ -x "$1" ] && [ -z "$(find crates/*/src -name '*.rt' -newer "$1" -print -quit)" ]
+}
+
 runner=$(dirname "$(rt doc)")/bin/rattle-test
 "${CC:-cc}" -O2 -shared -fPIC -o "$work/refuse.so" refusals/refuse.c -ldl || give_up 'refuse.c was not compiled' ''
-[ -x crates/memory_tests/out/memory_tests_tests ] || (cd crates/memory_tests && rt test) >"$work/log" 2>&1 ||
+is_built crates/memory_tests/out/memory_tests_tests || (cd crates/memory_tests && rt test) >"$work/log" 2>&1 ||
     give_up 'memory_tests was not built' "$(tail "$work/log")"
-[ -x crates/sctp_show/out/sctp_show ] || (cd crates/sctp_show && rt run -- --help) >"$work/log" 2>&1 </dev/null
+is_built crates/sctp_show/out/sctp_show || (cd crates/sctp_show && rt run -- --help) >"$work/log" 2>&1 </dev/null
 [ -x crates/sctp_show/out/sctp_show ] || give_up 'sctp_show was not built' "$(tail "$work/log")"
 add_inputs
 sweep_tests
