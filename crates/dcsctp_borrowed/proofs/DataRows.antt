@@ -5,8 +5,8 @@ use Rattle.std.proofs.lemmas.Bool.{ne_eqb}
 use Rattle.dcsctp_tlv.specs.Fault.{Fault}
 use Rattle.dcsctp_tlv.specs.Frame.{lenient}
 use Rattle.dcsctp_tlv.specs.Level.{Row, plain, map_ok}
-use Rattle.dcsctp_tlv.specs.Table.{IsUnnamed}
-use Rattle.dcsctp_tlv.proofs.Tables.{EachNamed, of_table, ◌&◌}
+use Rattle.dcsctp_tlv.specs.Table.{IsUnnamed, ◌&◌}
+use Rattle.dcsctp_tlv.proofs.Tables.{EachNamed, of_table}
 use Rattle.dcsctp_chunk.specs as kind
 use Rattle.dcsctp_wire.specs.Chunk.{ChunkTree, Data, Init, InitAck, Sack, HeartbeatRequest, HeartbeatAck, Abort, Shutdown, ShutdownAck, Error, CookieEcho, CookieAck, ShutdownComplete, ReConfig, ForwardTsn, IData, IForwardTsn, Unknown, table, chunk_row}
 use Rattle.dcsctp_borrowed.specs.UserData.{data_of, read_user_data}

@@ -7,8 +7,8 @@ use Rattle.dcsctp_tlv.specs.Fault.{Fault}
 use Rattle.dcsctp_tlv.specs.Frame.{lenient}
 use Rattle.dcsctp_tlv.specs.Level.{Row, Level, MeansSome, plain, as_row, map_ok}
 use Rattle.dcsctp_tlv.specs.Parameter.{ParameterTree, parameters}
-use Rattle.dcsctp_tlv.specs.Table.{IsUnnamed}
-use Rattle.dcsctp_tlv.proofs.Tables.{EachNamed, of_table, ◌&◌}
+use Rattle.dcsctp_tlv.specs.Table.{IsUnnamed, ◌&◌}
+use Rattle.dcsctp_tlv.proofs.Tables.{EachNamed, of_table}
 use Rattle.dcsctp_cause.specs.Cause.{CauseTree, causes}
 use Rattle.dcsctp_chunk.specs as kind
 use Rattle.dcsctp_wire.specs.InitFields.{Tree as InitTree, row as init_row}

@@ -8,13 +8,13 @@ use Rattle.dcsctp_tlv.specs.Frame.{lenient}
 use Rattle.dcsctp_tlv.specs.Level.{Row, plain, map_ok, HasMeaning}
 use Rattle.dcsctp_tlv.specs.Fault.{Fault}
 use Rattle.dcsctp_tlv.specs.Image.{Tlv, zeroed, size_of, image_of, IsEncodable, list_size}
-use Rattle.dcsctp_tlv.specs.Table.{IsUnnamed}
+use Rattle.dcsctp_tlv.specs.Table.{IsUnnamed, ◌&◌}
 use Rattle.dcsctp_tlv.proofs.Lengths.{length-format}
 use Rattle.dcsctp_tlv.specs.UnknownParameter as unknown
 use Rattle.dcsctp_tlv.proofs.Laws.{LawfulRow, Lawful}
 use Rattle.dcsctp_tlv.proofs.Places.{AtFront, IsPlain, is_plain}
 use Rattle.dcsctp_tlv.proofs.Lenient.{Loosens}
-use Rattle.dcsctp_tlv.proofs.Tables.{◌&◌, of_table, of_others}
+use Rattle.dcsctp_tlv.proofs.Tables.{of_table, of_others}
 use Rattle.dcsctp_tlv.proofs.ReadsBack.{ReadsBack, each_encodable, zeroed-solid}
 use Rattle.dcsctp_tlv.proofs.KindLaws.{KindLaws, KeepsSize, of_map_ok}
 use Rattle.dcsctp_tlv.proofs.Unpadded.{Unpadded, plain_unpadded, ok_unpadded, list_unpadded}
@@ -22,8 +22,8 @@ use Rattle.dcsctp_tlv.proofs.ParameterKinds.{type_back, unknown_keeps, unknown_f
 use Rattle.dcsctp_tlv.proofs.Forms.{FormsTrees, FormsRow, plain_forms}
 use Rattle.dcsctp_tlv.proofs.Accounts.{SameSpace, Accounts, plain_account, same_size}
 use Rattle.dcsctp_tlv.proofs.Counts.{Counts, one_each}
-use Rattle.dcsctp_cause.specs.Text.{item_code, IsTextKept}
-use Rattle.dcsctp_cause.specs.Cause.{CauseTree, MissingMandatoryParameter, UnrecognizedChunk, NoUserData, CookieReceivedWhileShuttingDown, UserInitiatedAbort, ProtocolViolation, Unknown, table, row, causes, format, tlv, IsInWidth, IsWellFormed}
+use Rattle.dcsctp_cause.specs.Text.{item_code}
+use Rattle.dcsctp_cause.specs.Cause.{CauseTree, MissingMandatoryParameter, UnrecognizedChunk, NoUserData, CookieReceivedWhileShuttingDown, UserInitiatedAbort, ProtocolViolation, Unknown, table, row, causes, format, tlv, IsInWidth, IsWellFormed, IsTextKept}
 use Rattle.dcsctp_cause.specs.UnrecognizedChunk as chunk
 use Rattle.dcsctp_cause.specs.UserInitiatedAbort as abort
 use Rattle.dcsctp_cause.specs.ProtocolViolation as violation

@@ -1,14 +1,16 @@
 -- The table of error causes (RFC 9260 section 3.3.10).
-use Rattle.std.specs.Prelude.{◌≡◌, ◌⊎◌, ℕ, Bool, List, [], ◌∷◌, map, vec_len, vec_capacity}
+use Rattle.std.specs.Prelude.{◌≡◌, ℕ, Bool, List, [], ◌∷◌, map, vec_len, vec_capacity}
 use Rattle.std.specs.String.{string_len, string_capacity}
+use Rattle.std.specs.Str.{IsUtf8}
 use Rattle.std.specs.Int.{w16, from_be_bytes}
-use Rattle.dcsctp_tlv.specs.Frame.{zero_padding}
+use Rattle.dcsctp_tlv.specs.Frame.{Item, zero_padding}
 use Rattle.dcsctp_tlv.specs.Image.{Tlv}
 use Rattle.dcsctp_tlv.specs.Level.{Row, Level, plain, map_ok}
-use Rattle.dcsctp_tlv.specs.Table.{Named, named, row_of, IsUnnamed}
+use Rattle.dcsctp_tlv.specs.Table.{Named, named, row_of, IsUnnamed, Fixed, Varied, Text, is_fixed, is_text, types_where, IsOneOf}
 use Rattle.dcsctp_tlv.specs.Format.{Format}
 use Rattle.dcsctp_tlv.specs.UnknownParameter as unknown
 use Rattle.dcsctp_cause.specs as kind
+use Rattle.dcsctp_cause.specs.Text.{item_code}
 use Rattle.dcsctp_cause.specs.declared.error_causes.ErrorCause.{ErrorCause}
 use Rattle.dcsctp_cause.specs.declared.error_causes.ErrorCause.TheVariants as variant
 
@@ -22,15 +24,15 @@ pub data CauseTree : Type 0 where
   ProtocolViolation : List ℕ → CauseTree
   Unknown : unknown.Tree → CauseTree
 
--- the codes that are named, and how the value of each is read
+-- the codes that are named, what the values of each hold, and how one is read
 abbrev pub table : List (Named CauseTree)
 table =
-    named 2 MissingMandatoryParameter kind.MissingMandatoryParameter.read ∷
-    named 6 UnrecognizedChunk kind.UnrecognizedChunk.read ∷
-    named 9 NoUserData kind.NoUserData.read ∷
-    named 10 (λ _. CookieReceivedWhileShuttingDown) kind.CookieReceivedWhileShuttingDown.read ∷
-    named 12 UserInitiatedAbort kind.UserInitiatedAbort.read ∷
-    named 13 ProtocolViolation kind.ProtocolViolation.read ∷ []
+    named 2 Varied MissingMandatoryParameter kind.MissingMandatoryParameter.read ∷
+    named 6 Varied UnrecognizedChunk kind.UnrecognizedChunk.read ∷
+    named 9 Fixed NoUserData kind.NoUserData.read ∷
+    named 10 Fixed (λ _. CookieReceivedWhileShuttingDown) kind.CookieReceivedWhileShuttingDown.read ∷
+    named 12 Text UserInitiatedAbort kind.UserInitiatedAbort.read ∷
+    named 13 Text ProtocolViolation kind.ProtocolViolation.read ∷ []
 
 -- what the value of a code means, and its faults
 abbrev pub row : ℕ → Row CauseTree
@@ -45,7 +47,11 @@ causes strict = record {
 
 -- what such a value means holds nothing on the heap
 abbrev pub TakesNoMemory : ℕ → Type 0
-TakesNoMemory code = (code ≡ 9) ⊎ (code ≡ 10)
+TakesNoMemory code = IsOneOf (types_where is_fixed table) code
+
+-- The cause keeps its bytes: if its value is read as a text, then it is UTF-8.
+abbrev pub IsTextKept : Item → Type 0
+IsTextKept i = IsOneOf (types_where is_text table) (item_code i) → IsUtf8 i.value
 
 -- what is said of a cause; an Unknown one has a code that isn't named
 abbrev pub format : CauseTree → Format

@@ -23,7 +23,8 @@ Finds parts row value r = Answers locating (λ (n : ℕ). n) (RowLocated parts r
 -- a tree of each kind has one part
 abbrev pub AreSingle : {T : Type 0} → (T → ℕ) → (ks : List PlainKind) → TreesOf ks T → Type 0
 AreSingle parts [] trees = Unit {0}
-AreSingle parts (k ∷ ks) trees = ((x : k.Tree) → parts (trees.0 x) ≡ 1) × AreSingle parts ks trees.1
+AreSingle parts (k ∷ ks) trees =
+    ((x : k.Tree) → parts (trees.0 x) ≡ 1) × AreSingle parts ks trees.1
 
 kind_finds : {A T : Type 0} (parts : T → ℕ) (tree : A → T) → ((x : A) → parts (tree x) ≡ 1)
     → (read : List ℕ → Result A Fault) (value : List ℕ) (r : Result (Unit {0}) ChunkParseError)
@@ -46,17 +47,17 @@ other_finds parts row value (Err e) means p = absurd (let e : false ≡ true = p
 
 choice : {T : Type 0} (parts : T → ℕ) (value : List ℕ) (r : Result (Unit {0}) ChunkParseError)
     (b : Bool) (row others : Row T) (P Q : Type 0) → (P → Finds parts row value r)
-    → (Q → Finds parts others value r)
-    → cond b P Q → Finds parts (pick b row others) value r
+    → (Q → Finds parts others value r) → cond b P Q → Finds parts (pick b row others) value r
 choice parts value r true row others P Q own rest p = own p
 choice parts value r false row others P Q own rest p = rest p
 
 -- so the check of the value says what the level's table does
-pub table_finds : {T : Type 0} (parts : T → ℕ) (ks : List PlainKind) (trees : TreesOf ks T)
-    (typ : ℕ) (others : Row T) (value : List ℕ) (r : Result (Unit {0}) ChunkParseError)
-    → AreSingle parts ks trees → MeansParts parts others value 1
-    → ChecksKind ks typ value r → Finds parts (row_of (plain_rows ks trees) typ others) value r
+pub table_finds : {T : Type 0} (parts : T → ℕ) (ks : List PlainKind) (trees : TreesOf ks T) (typ : ℕ)
+    (others : Row T) (value : List ℕ) (r : Result (Unit {0}) ChunkParseError)
+    → AreSingle parts ks trees → MeansParts parts others value 1 → ChecksKind ks typ value r
+    → Finds parts (row_of (plain_rows ks trees) typ others) value r
 table_finds parts [] trees typ others value r one means p = other_finds parts others value r means p
 table_finds parts (k ∷ ks) trees typ others value r one means p =
-    choice parts value r (typ == k.typ) _ _ _ _ (λ q. kind_finds parts trees.0 one.0 k.read value r
-    q.answers) (table_finds parts ks trees.1 typ others value r one.1 means) p
+    choice parts value r (typ == k.typ) _ _ _ _
+    (λ q. kind_finds parts trees.0 one.0 k.read value r q.answers)
+    (table_finds parts ks trees.1 typ others value r one.1 means) p

@@ -6,7 +6,6 @@ use Rattle.dcsctp_tlv.specs.Level.{Row}
 use Rattle.dcsctp_tlv.specs.Table.{Named, row_of, IsUnnamed}
 use Rattle.dcsctp_tlv.proofs.Forms.{picked}
 
-infixr 20 ◌&◌
 -- each named row keeps a law at its type
 abbrev pub EachNamed : {T : Type 0} → (ℕ → Row T → Type 0) → List (Named T) → Type 0
 EachNamed Holds [] = Unit {0}
@@ -28,7 +27,3 @@ pub of_others : {T : Type 0} (Holds : Row T → Type 0) (kinds : List (Named T))
 of_others Holds [] typ others unnamed h = h
 of_others Holds (kind ∷ kinds) typ others unnamed h =
     rw (ne_eqb typ kind.typ unnamed.0) (of_others Holds kinds typ others unnamed.1 h)
-
--- the laws of a table's rows, one after the other, with `tt` at the end
-abbrev pub ◌&◌ : {A B : Type 0} → A → B → A × B
-a & b = (a, b)

@@ -1,10 +1,10 @@
 -- The table of parameters (RFC 9260 section 3.2.1).
-use Rattle.std.specs.Prelude.{◌≡◌, ◌⊎◌, ℕ, Bool, List, [], ◌∷◌, map, vec_len, vec_capacity}
+use Rattle.std.specs.Prelude.{◌≡◌, ℕ, Bool, List, [], ◌∷◌, map, vec_len, vec_capacity}
 use Rattle.std.specs.Int.{w16, from_be_bytes}
 use Rattle.dcsctp_tlv.specs.Frame.{zero_padding}
 use Rattle.dcsctp_tlv.specs.Image.{Tlv}
 use Rattle.dcsctp_tlv.specs.Level.{Row, Level, plain, map_ok}
-use Rattle.dcsctp_tlv.specs.Table.{Named, named, row_of, IsUnnamed}
+use Rattle.dcsctp_tlv.specs.Table.{Named, named, row_of, IsUnnamed, Fixed, Varied, is_fixed, types_where, IsOneOf}
 use Rattle.dcsctp_tlv.specs.Format.{Format}
 use Rattle.dcsctp_tlv.specs as kind
 use Rattle.dcsctp_tlv.specs.UnknownParameter as unknown
@@ -26,20 +26,20 @@ pub data ParameterTree : Type 0 where
   ForwardTsnSupported : ParameterTree
   Unknown : unknown.Tree → ParameterTree
 
--- the types that are named, and how the value of each is read
+-- the types that are named, what the values of each hold, and how one is read
 abbrev pub table : List (Named ParameterTree)
 table =
-    named 1 HeartbeatInfo kind.HeartbeatInfo.read ∷
-    named 7 StateCookie kind.StateCookie.read ∷
-    named 13 OutgoingSsnResetRequest kind.OutgoingSsnResetRequest.read ∷
-    named 14 IncomingSsnResetRequest kind.IncomingSsnResetRequest.read ∷
-    named 15 SsnTsnResetRequest kind.SsnTsnResetRequest.read ∷
-    named 16 ReconfigurationResponse kind.ReconfigurationResponse.read ∷
-    named 17 AddOutgoingStreamsRequest kind.AddStreamsRequest.read ∷
-    named 18 AddIncomingStreamsRequest kind.AddStreamsRequest.read ∷
-    named 0x8001 ZeroChecksumAcceptable kind.ZeroChecksumAcceptable.read ∷
-    named 0x8008 SupportedExtensions kind.SupportedExtensions.read ∷
-    named 0xC000 (λ _. ForwardTsnSupported) kind.ForwardTsnSupported.read ∷ []
+    named 1 Varied HeartbeatInfo kind.HeartbeatInfo.read ∷
+    named 7 Varied StateCookie kind.StateCookie.read ∷
+    named 13 Varied OutgoingSsnResetRequest kind.OutgoingSsnResetRequest.read ∷
+    named 14 Varied IncomingSsnResetRequest kind.IncomingSsnResetRequest.read ∷
+    named 15 Fixed SsnTsnResetRequest kind.SsnTsnResetRequest.read ∷
+    named 16 Fixed ReconfigurationResponse kind.ReconfigurationResponse.read ∷
+    named 17 Fixed AddOutgoingStreamsRequest kind.AddStreamsRequest.read ∷
+    named 18 Fixed AddIncomingStreamsRequest kind.AddStreamsRequest.read ∷
+    named 0x8001 Fixed ZeroChecksumAcceptable kind.ZeroChecksumAcceptable.read ∷
+    named 0x8008 Varied SupportedExtensions kind.SupportedExtensions.read ∷
+    named 0xC000 Fixed (λ _. ForwardTsnSupported) kind.ForwardTsnSupported.read ∷ []
 
 -- what the value of a type means, and its faults
 abbrev pub row : ℕ → Row ParameterTree
@@ -54,8 +54,7 @@ parameters strict = record {
 
 -- what such a value means holds nothing on the heap
 abbrev pub TakesNoMemory : ℕ → Type 0
-TakesNoMemory typ =
-    (typ ≡ 15) ⊎ (typ ≡ 16) ⊎ (typ ≡ 17) ⊎ (typ ≡ 18) ⊎ (typ ≡ 0x8001) ⊎ (typ ≡ 0xC000)
+TakesNoMemory typ = IsOneOf (types_where is_fixed table) typ
 
 -- what is said of a parameter
 abbrev pub format : ParameterTree → Format

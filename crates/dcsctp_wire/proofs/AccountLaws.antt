@@ -1,5 +1,5 @@
 -- What was read is written again in the same space, and has no more parts than words.
-use Rattle.std.proofs.Common.{◌≡◌, ℕ, ◌+◌, ◌-◌, ◌*◌, ◌≤◌, List, length, drop, refl, sym, ap, subst, ◌∙◌, arith, ◌⊎◌, inl, inr, Result}
+use Rattle.std.proofs.Common.{◌≡◌, ℕ, ◌+◌, ◌-◌, ◌*◌, ◌≤◌, List, length, drop, refl, sym, ap, subst, ◌∙◌, arith, inl, inr, Result}
 use Rattle.std.specs.List.{AllByRecursion}
 use Rattle.std.proofs.lemmas.Bool.{leb-true}
 use Rattle.std.proofs.lemmas.List.{length-drop}
@@ -12,14 +12,13 @@ use Rattle.dcsctp_tlv.specs.Parameter.{ParameterTree, parameters, tlv as paramet
 use Rattle.dcsctp_tlv.proofs.Accounts.{SameSpace, plain_account, all_account, list_account}
 use Rattle.dcsctp_tlv.proofs.Counts.{list_count, total-one}
 use Rattle.dcsctp_tlv.proofs.ParameterLaws.{parameters_account, parameters_count}
-use Rattle.dcsctp_cause.specs.Cause.{CauseTree, causes, tlv as cause_tlv}
-use Rattle.dcsctp_cause.specs.Text.{IsTextKept}
+use Rattle.dcsctp_cause.specs.Cause.{CauseTree, causes, tlv as cause_tlv, IsTextKept}
 use Rattle.dcsctp_cause.proofs.CauseLaws.{causes_account, causes_count}
 use Rattle.dcsctp_wire.specs.InitFields.{Tree as InitTree, row as init_row}
 use Rattle.dcsctp_wire.specs.ParameterList.{row as parameter_list_row}
 use Rattle.dcsctp_wire.specs.Abort.{Tree as AbortTree, row as abort_row}
 use Rattle.dcsctp_wire.specs.Error.{row as error_row}
-use Rattle.dcsctp_wire.specs.Chunk.{ChunkTree, Abort, Error, tlv as chunk_tlv, parts as chunk_parts}
+use Rattle.dcsctp_wire.specs.Chunk.{ChunkTree, Abort, Error, HoldsCauses, tlv as chunk_tlv, parts as chunk_parts}
 
 -- ---- the size account
 
@@ -32,7 +31,7 @@ after words a b size h e le =
 -- the causes keep their texts
 abbrev KeepsCauses : ℕ → List ℕ → Type 0
 KeepsCauses typ value =
-    (typ ≡ 6) ⊎ (typ ≡ 9) → (items : List Item) → AreItems any_padding value items
+    HoldsCauses typ → (items : List Item) → AreItems any_padding value items
     → AllByRecursion IsTextKept items
 
 -- what a row owes for the chunks of a type

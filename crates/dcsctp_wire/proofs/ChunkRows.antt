@@ -9,14 +9,14 @@ use Rattle.dcsctp_tlv.specs.Frame.{lenient}
 use Rattle.dcsctp_tlv.specs.Level.{Row, plain, as_row, map_ok}
 use Rattle.dcsctp_tlv.specs.Image.{Tlv, size_of, list_size}
 use Rattle.dcsctp_tlv.specs.Parameter.{ParameterTree, tlv as parameter_tlv, IsWellFormed as IsParameterWellFormed}
-use Rattle.dcsctp_tlv.specs.Table.{IsUnnamed}
+use Rattle.dcsctp_tlv.specs.Table.{IsUnnamed, ◌&◌}
 use Rattle.dcsctp_tlv.proofs.Accounts.{Accounts}
 use Rattle.dcsctp_tlv.proofs.Counts.{Counts}
 use Rattle.dcsctp_tlv.proofs.Forms.{FormsTrees, FormsRow, plain_forms}
 use Rattle.dcsctp_tlv.proofs.KindLaws.{KindLaws, KeepsSize}
 use Rattle.dcsctp_tlv.proofs.Laws.{LawfulRow, Lawful, plain_lawful, as_lawful}
 use Rattle.dcsctp_tlv.proofs.Lenient.{LoosensRow, Loosens, as_looser}
-use Rattle.dcsctp_tlv.proofs.Tables.{of_table, of_others, ◌&◌}
+use Rattle.dcsctp_tlv.proofs.Tables.{of_table, of_others}
 use Rattle.dcsctp_tlv.proofs.Unpadded.{Unpadded, plain_unpadded, ok_unpadded, list_unpadded}
 use Rattle.dcsctp_chunk.specs.PlainKinds.{plain_kinds, ChecksKind}
 use Rattle.dcsctp_chunk.specs.Unknown.{read as unknown_at}

@@ -1,11 +1,11 @@
 -- How much a packet (RFC 9260 section 3) holds: its size as it is written again, and the number of
 -- its parts.
-use Rattle.std.specs.Prelude.{◌≡◌, ℕ, ◌+◌, ◌≤◌, ◌⊎◌, List, length}
+use Rattle.std.specs.Prelude.{◌≡◌, ℕ, ◌+◌, ◌≤◌, List, length}
 use Rattle.std.specs.List.{AllByRecursion}
 use Rattle.dcsctp_tlv.specs.Frame.{Item, AreItems, any_padding, round_up_to_4}
 use Rattle.dcsctp_tlv.specs.Count.{total}
-use Rattle.dcsctp_cause.specs.Text.{IsTextKept}
-use Rattle.dcsctp_wire.specs.Chunk.{IsChunkEncodable, parts}
+use Rattle.dcsctp_cause.specs.Cause.{IsTextKept}
+use Rattle.dcsctp_wire.specs.Chunk.{IsChunkEncodable, HoldsCauses, parts}
 use Rattle.dcsctp_wire.specs.Packet.{Meaning, body}
 use Rattle.dcsctp_wire.specs.Canonical.{padded_size, Fits}
 
@@ -14,7 +14,7 @@ use Rattle.dcsctp_wire.specs.Canonical.{padded_size, Fits}
 -- if the chunk holds causes, each of them keeps its bytes
 abbrev pub AreTextsKept : Item → Type 0
 AreTextsKept i =
-    (i.first ≡ 6) ⊎ (i.first ≡ 9) → (causes : List Item) → AreItems any_padding i.value causes
+    HoldsCauses i.first → (causes : List Item) → AreItems any_padding i.value causes
     → AllByRecursion IsTextKept causes
 
 -- no text of the packet is replaced by a fixed one

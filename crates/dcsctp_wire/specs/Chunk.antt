@@ -1,12 +1,11 @@
 -- The table of chunks (RFC 9260 section 3.2).
-use Rattle.std.specs.Prelude.{◌≡◌, ◌⊎◌, ℕ, ◌+◌, Bool, List, [], ◌∷◌, ◌++◌, All, length, drop, map, vec_len, vec_capacity}
+use Rattle.std.specs.Prelude.{◌≡◌, ◌⊎◌, ℕ, ◌+◌, Bool, List, [], ◌∷◌, ◌++◌, All, length, map, vec_len, vec_capacity}
 use Rattle.dcsctp_tlv.specs.Frame.{lenient, full_padding}
 use Rattle.dcsctp_tlv.specs.Level.{Row, plain, as_row, Level, map_ok}
-use Rattle.dcsctp_tlv.specs.Table.{Named, row_of, IsUnnamed}
+use Rattle.dcsctp_tlv.specs.Table.{Named, row_of, IsUnnamed, Content, Parameters, Causes, is_fixed, has_causes, types_where, IsOneOf, HasEmptyList, ◌&◌}
 use Rattle.dcsctp_tlv.specs.Image.{Tlv, IsEncodable}
 use Rattle.dcsctp_tlv.specs.Format.{Format}
 use Rattle.dcsctp_tlv.specs.Parameter.{ParameterTree, all_kept as kept_parameters, IsTight as IsTightParameter}
-use Rattle.dcsctp_tlv.proofs.Tables.{◌&◌}
 use Rattle.dcsctp_cause.specs.Cause.{CauseTree, IsTight as IsTightCause}
 use Rattle.dcsctp_chunk.specs as plain_kind
 use Rattle.dcsctp_chunk.specs.PlainKinds.{plain_kinds, TreesOf, plain_rows}
@@ -36,20 +35,21 @@ pub data ChunkTree : Type 0 where
   IForwardTsn : skipped_streams.Tree → ChunkTree
   Unknown : plain_kind.Unknown.Tree → ChunkTree
 
--- a kind with a list in its value: its type, its trees in the level, and its row
-abbrev nested : {X : Type 0} → ℕ → (X → ChunkTree) → Row X → Named ChunkTree
-nested typ tree row = record { typ = typ; row = as_row tree row }
+-- a kind with a list in its value: its type, where the list begins, its trees in the level, and its
+-- row
+abbrev nested : {X : Type 0} → ℕ → Content → (X → ChunkTree) → Row X → Named ChunkTree
+nested typ content tree row = record { typ = typ; content = content; row = as_row tree row }
 
 -- the rows of these kinds, for a strict reader or a lenient one
 abbrev pub list_rows : Bool → ℕ → List (Named ChunkTree)
 list_rows strict flags =
-    nested 1 Init (kind.InitFields.row strict) ∷
-    nested 2 InitAck (kind.InitFields.row strict) ∷
-    nested 4 HeartbeatRequest (kind.ParameterList.row strict) ∷
-    nested 5 HeartbeatAck (kind.ParameterList.row strict) ∷
-    nested 6 Abort (kind.Abort.row strict flags) ∷
-    nested 9 Error (kind.Error.row strict) ∷
-    nested 130 ReConfig (kind.ParameterList.row strict) ∷ []
+    nested 1 (Parameters 16) Init (kind.InitFields.row strict) ∷
+    nested 2 (Parameters 16) InitAck (kind.InitFields.row strict) ∷
+    nested 4 (Parameters 0) HeartbeatRequest (kind.ParameterList.row strict) ∷
+    nested 5 (Parameters 0) HeartbeatAck (kind.ParameterList.row strict) ∷
+    nested 6 (Causes 0) Abort (kind.Abort.row strict flags) ∷
+    nested 9 (Causes 0) Error (kind.Error.row strict) ∷
+    nested 130 (Parameters 0) ReConfig (kind.ParameterList.row strict) ∷ []
 
 -- the trees of the kinds without a list, in their order
 abbrev pub plain_trees : (flags : ℕ) → TreesOf (plain_kinds flags) ChunkTree
@@ -74,9 +74,11 @@ chunks strict = record { row = chunk_row strict; padding = full_padding strict }
 -- What the value means holds nothing on the heap: a kind of fixed size, or an empty list.
 abbrev pub TakesNoMemory : ℕ → List ℕ → Type 0
 TakesNoMemory typ value =
-    ((typ ≡ 7) ⊎ (typ ≡ 8) ⊎ (typ ≡ 11) ⊎ (typ ≡ 14))
-    ⊎ (((typ ≡ 1) ⊎ (typ ≡ 2)) × (drop 16 value ≡ []))
-    ⊎ (((typ ≡ 4) ⊎ (typ ≡ 5) ⊎ (typ ≡ 6) ⊎ (typ ≡ 130)) × (value ≡ []))
+    IsOneOf (types_where is_fixed (table lenient 0)) typ ⊎ HasEmptyList (list_rows lenient 0) typ value
+
+-- a chunk of the type holds error causes
+abbrev pub HoldsCauses : ℕ → Type 0
+HoldsCauses typ = IsOneOf (types_where has_causes (table lenient 0)) typ
 
 -- what is said of a chunk; an Unknown one has a type that isn't named
 abbrev pub format : ChunkTree → Format
