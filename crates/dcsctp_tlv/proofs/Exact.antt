@@ -1,7 +1,7 @@
 -- From what a call answers to what it answers exactly, wherever the grammar gives one answer at
 -- most.
-use Rattle.std.proofs.Common.{◌≡◌, ℕ, true, false, List, Result, Ok, Err, inl, inr, refl, sym, ap, subst, ◌∙◌, length, get_or, Fits}
-use Rattle.std.specs.Prelude.{IsOk, IsErrOf}
+use Rattle.std.proofs.Common.{◌≡◌, ℕ, List, Result, Ok, Err, inl, inr, refl, sym, ap, subst, ◌∙◌, length, get_or, Fits}
+use Rattle.std.specs.Prelude.{IsErrOf}
 use Rattle.std.specs.Int.{w8}
 use Rattle.dcsctp_tlv.specs.declared.error.ChunkParseError.{ChunkParseError}
 use Rattle.dcsctp_tlv.specs.declared.error.ChunkParseError.TheVariants.{OutOfMemory}
