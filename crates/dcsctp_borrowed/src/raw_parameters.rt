@@ -43,8 +43,8 @@ impl<'a> Model for RawParameters<'a> {
 
 impl<'a> RawParameters<'a> {
     /// Returns the parameters of INIT, INIT ACK, HEARTBEAT, HEARTBEAT ACK (RFC 9260 sections 3.3.2,
-    /// 3.3.3, 3.3.5 and 3.3.6) and RE-CONFIG (RFC 6525 section 3.1); `None` exactly where the chunk has
-    /// another type, or a value that its type doesn't allow. Does not allocate.
+    /// 3.3.3, 3.3.5 and 3.3.6) and RE-CONFIG (RFC 6525 section 3.1); `None` exactly where the chunk
+    /// has another type, or a value that its type doesn't allow. Does not allocate.
     ///
     /// Of a chunk of a packet these are the parameters that `SctpPacket::from_bytes` gives, and
     /// `None` exactly where the chunk has another type.

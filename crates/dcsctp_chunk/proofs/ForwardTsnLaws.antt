@@ -1,16 +1,15 @@
 -- FORWARD-TSN and I-FORWARD-TSN: what is written is read again, and what was read is well-formed
 -- and keeps its size.
-use Rattle.std.proofs.Common.{◌≡◌, ℕ, Bool, true, false, List, [], ◌∷◌, ◌++◌, drop, refl, arith}
+use Rattle.std.proofs.Common.{◌≡◌, ℕ, ◌+◌, ◌-◌, ◌*◌, ◌/◌, Bool, true, false, List, [], ◌∷◌, ◌++◌, length, drop, refl, arith}
 use Rattle.std.specs.Int.{w32}
 use Rattle.std.specs.List.{AllByRecursion}
 use Rattle.std.proofs.lemmas.Bool.{true≢false, false≢true}
 use Rattle.std.proofs.lemmas.Nat.{from_be_bytes-to_be_bytes_2, from_be_bytes-to_be_bytes_4}
-use Rattle.dcsctp_tlv.specs.Fields.{fields}
 use Rattle.dcsctp_tlv.specs.Number.{number32, numbers}
 use Rattle.dcsctp_tlv.proofs.FieldLaws.{FieldLaw, fields_each}
 use Rattle.dcsctp_tlv.proofs.FormatLaws.{FormatLaws, Keeps}
 use Rattle.dcsctp_tlv.proofs.Layouts.{FieldsAfter, fields_laws, fields_keep}
-use Rattle.dcsctp_chunk.specs.SkippedStreams.{SkippedStreamTree, BySsn, ByMid, is_by_mid, AreByMid, IsSkippedStreamInWidth, Tree}
+use Rattle.dcsctp_chunk.specs.SkippedStreams.{SkippedStreamTree, BySsn, ByMid, is_by_mid, AreByMid, IsSkippedStreamInWidth, Tree, format_of}
 use Rattle.dcsctp_chunk.specs.ForwardTsn as by_ssn
 use Rattle.dcsctp_chunk.specs.IForwardTsn as by_mid
 
@@ -54,33 +53,38 @@ mid_stream_law = record { sized = λ s is. by_mid.length-stream s; back = again 
         from_be_bytes-to_be_bytes_4 mid is.0.1,
       ) refl
 
--- what holds of each stream that is read holds of all
-own_streams : (read : List ℕ → SkippedStreamTree) (size : ℕ) (by_mid : Bool)
-    → ((bytes : List ℕ) → is_by_mid (read bytes) ≡ by_mid) → (count : ℕ) (bytes : List ℕ)
-    → AreByMid by_mid (fields read size count bytes)
-own_streams read size by_mid own count bytes =
-    fields_each read size (λ s. is_by_mid s ≡ by_mid) own count bytes
-
 abbrev with : List ℕ → List SkippedStreamTree → Tree
 with value streams = record { tsn = number32 value; streams = streams }
 
--- ---- FORWARD-TSN
+-- ---- chunks with such streams, of either kind
 
-ssn_fields : FieldsAfter 4 4 by_ssn.stream_at with by_ssn.format by_ssn.stream_bytes
-    (IsPlaced false)
-ssn_fields = record {
+skipped_fields : (typ : ℕ) (name : List ℕ) (read : List ℕ → SkippedStreamTree)
+    (write : SkippedStreamTree → List ℕ) (size : ℕ)
+    (sized : (s : SkippedStreamTree) → length (write s) ≡ size) (by_mid : Bool)
+    → FieldLaw read write size (IsPlaced by_mid)
+    → ((n : ℕ) → (4 + size * n - 4) / size ≡ n)
+    → ((bytes : List ℕ) → is_by_mid (read bytes) ≡ by_mid)
+    → FieldsAfter 4 size read with (format_of typ name write size sized by_mid) write
+    (IsPlaced by_mid)
+skipped_fields typ name read write size sized by_mid law counted own = record {
   leading = λ t. numbers w32 (t.tsn ∷ []);
   list = λ t. t.streams;
-  law = ssn_stream_law;
-  counted = λ n. omega arith;
+  law = law;
+  counted = counted;
   same = λ t. refl;
   written = λ t. refl;
   placed = λ t. refl;
   made = λ t rest w. rw (from_be_bytes-to_be_bytes_4 t.tsn w.tsn) refl;
   kept = λ value streams. refl;
-  writable = λ t w own. placed false t.streams w.streams own;
-  formed = λ value n. own_streams by_ssn.stream_at 4 false (λ bytes. refl) n (drop 4 value);
+  writable = λ t w are. placed by_mid t.streams w.streams are;
+  formed = λ value n. fields_each read size (λ s. is_by_mid s ≡ by_mid) own n (drop 4 value);
 }
+
+ssn_fields : FieldsAfter 4 4 by_ssn.stream_at with by_ssn.format by_ssn.stream_bytes
+    (IsPlaced false)
+ssn_fields =
+    skipped_fields 192 _ by_ssn.stream_at by_ssn.stream_bytes 4 by_ssn.length-stream false
+    ssn_stream_law (λ n. omega arith) (λ bytes. refl)
 
 pub forward_tsn_laws : FormatLaws by_ssn.read by_ssn.format
 unfolding by_ssn.read
@@ -90,23 +94,11 @@ pub forward_tsn_keeps_size : Keeps by_ssn.read by_ssn.format
 unfolding by_ssn.read
 forward_tsn_keeps_size = fields_keep 4 4 by_ssn.stream_at with _ _ _ ssn_fields
 
--- ---- I-FORWARD-TSN
-
 mid_fields : FieldsAfter 4 8 by_mid.stream_at with by_mid.format by_mid.stream_bytes
     (IsPlaced true)
-mid_fields = record {
-  leading = λ t. numbers w32 (t.tsn ∷ []);
-  list = λ t. t.streams;
-  law = mid_stream_law;
-  counted = λ n. omega arith;
-  same = λ t. refl;
-  written = λ t. refl;
-  placed = λ t. refl;
-  made = λ t rest w. rw (from_be_bytes-to_be_bytes_4 t.tsn w.tsn) refl;
-  kept = λ value streams. refl;
-  writable = λ t w own. placed true t.streams w.streams own;
-  formed = λ value n. own_streams by_mid.stream_at 8 true (λ bytes. refl) n (drop 4 value);
-}
+mid_fields =
+    skipped_fields 194 _ by_mid.stream_at by_mid.stream_bytes 8 by_mid.length-stream true
+    mid_stream_law (λ n. omega arith) (λ bytes. refl)
 
 pub iforward_tsn_laws : FormatLaws by_mid.read by_mid.format
 unfolding by_mid.read
