@@ -50,9 +50,13 @@ causes strict = record {
 abbrev pub TakesNoMemory : ℕ → Type 0
 TakesNoMemory code = IsOneOf (types_where is_fixed table) code
 
+-- a cause of the code holds a text
+abbrev pub HoldsText : ℕ → Type 0
+HoldsText code = IsOneOf (types_where is_text table) code
+
 -- The cause keeps its bytes: if its value is read as a text, then it is UTF-8.
 abbrev pub IsTextKept : Item → Type 0
-IsTextKept i = IsOneOf (types_where is_text table) (item_code i) → IsUtf8 i.value
+IsTextKept i = HoldsText (item_code i) → IsUtf8 i.value
 
 -- what is said of a cause; an Unknown one has a code that isn't named
 abbrev pub format : CauseTree → Format
@@ -81,10 +85,11 @@ abbrev pub IsTight : ErrorCause → Type 0
 IsTight (variant.MissingMandatoryParameter c) =
     vec_capacity c.missing_parameters ≡ vec_len c.missing_parameters
 IsTight (variant.UnrecognizedChunk c) = vec_capacity c.chunk ≡ vec_len c.chunk
+IsTight (variant.NoUserData c) = Unit {0}
+IsTight (variant.CookieReceivedWhileShuttingDown c) = Unit {0}
 IsTight (variant.UserInitiatedAbort c) = string_capacity c.reason ≡ string_len c.reason
 IsTight (variant.ProtocolViolation c) = string_capacity c.information ≡ string_len c.information
 IsTight (variant.Unknown u) = vec_capacity u.value ≡ vec_len u.value
-IsTight c = Unit {0}
 
 -- a cause of the code, without where it lies in memory
 abbrev pub view : ErrorCause → CauseTree

@@ -82,8 +82,18 @@ IsWellFormed t = (format t).IsWellFormed
 
 -- the parameter that is written for a parameter
 abbrev pub kept : ParameterTree → ParameterTree
+kept (HeartbeatInfo info) = HeartbeatInfo info
+kept (StateCookie cookie) = StateCookie cookie
+kept (OutgoingSsnResetRequest r) = OutgoingSsnResetRequest r
+kept (IncomingSsnResetRequest r) = IncomingSsnResetRequest r
+kept (SsnTsnResetRequest request) = SsnTsnResetRequest request
 kept (ReconfigurationResponse r) = ReconfigurationResponse (kind.ReconfigurationResponse.kept r)
-kept t = t
+kept (AddOutgoingStreamsRequest r) = AddOutgoingStreamsRequest r
+kept (AddIncomingStreamsRequest r) = AddIncomingStreamsRequest r
+kept (ZeroChecksumAcceptable method) = ZeroChecksumAcceptable method
+kept (SupportedExtensions types) = SupportedExtensions types
+kept ForwardTsnSupported = ForwardTsnSupported
+kept (Unknown u) = Unknown u
 
 abbrev pub all_kept : List ParameterTree → List ParameterTree
 all_kept ts = map kept ts
@@ -94,9 +104,14 @@ IsTight (variant.HeartbeatInfo p) = vec_capacity p.info ≡ vec_len p.info
 IsTight (variant.StateCookie p) = vec_capacity p.cookie ≡ vec_len p.cookie
 IsTight (variant.OutgoingSsnResetRequest p) = vec_capacity p.streams ≡ vec_len p.streams
 IsTight (variant.IncomingSsnResetRequest p) = vec_capacity p.streams ≡ vec_len p.streams
+IsTight (variant.SsnTsnResetRequest p) = Unit {0}
+IsTight (variant.ReconfigurationResponse p) = Unit {0}
+IsTight (variant.AddOutgoingStreamsRequest p) = Unit {0}
+IsTight (variant.AddIncomingStreamsRequest p) = Unit {0}
+IsTight (variant.ZeroChecksumAcceptable p) = Unit {0}
 IsTight (variant.SupportedExtensions p) = vec_capacity p.chunk_types ≡ vec_len p.chunk_types
+IsTight (variant.ForwardTsnSupported p) = Unit {0}
 IsTight (variant.Unknown p) = vec_capacity p.value ≡ vec_len p.value
-IsTight p = Unit {0}
 
 -- a parameter of the code, without where it lies in memory
 abbrev pub view : Parameter → ParameterTree

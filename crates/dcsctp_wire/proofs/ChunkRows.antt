@@ -1,5 +1,5 @@
 -- What each row of the table of chunks owes the laws: a line a kind.
-use Rattle.std.proofs.Common.{◌≡◌, ℕ, Bool, false, List, Result, Ok, refl, sym, subst}
+use Rattle.std.proofs.Common.{◌≡◌, ℕ, Bool, false, List, Result, refl, sym, subst}
 use Rattle.std.specs.Prelude.{◌+◌, length}
 use Rattle.std.specs.List.{AllByRecursion}
 use Rattle.dcsctp_tlv.specs.declared.error.ChunkParseError.{ChunkParseError}

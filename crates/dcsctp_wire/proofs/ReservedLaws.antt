@@ -26,7 +26,7 @@ use Rattle.dcsctp_cause.specs.declared.error_causes.ErrorCause.{ErrorCause}
 use Rattle.dcsctp_cause.specs.declared.error_causes.ErrorCause.TheVariants as cause_kind
 use Rattle.dcsctp_cause.proofs.CauseLaws.{causes_account}
 use Rattle.dcsctp_wire.specs.Abort.{Tree as AbortTree}
-use Rattle.dcsctp_wire.specs.Chunk.{ChunkTree, Data, Init, InitAck, Sack, HeartbeatRequest, HeartbeatAck, Abort, Error, CookieEcho, IData, ReConfig, ForwardTsn, IForwardTsn, Unknown, chunks, chunk_row, tlv as chunk_tlv, IsTight, view, views}
+use Rattle.dcsctp_wire.specs.Chunk.{ChunkTree, Data, Init, InitAck, Sack, HeartbeatRequest, HeartbeatAck, Abort, Shutdown, ShutdownAck, Error, CookieEcho, CookieAck, ShutdownComplete, IData, ReConfig, ForwardTsn, IForwardTsn, Unknown, chunks, chunk_row, tlv as chunk_tlv, IsTight, view, views}
 use Rattle.dcsctp_wire.specs.declared.packet.chunk.Chunk.{Chunk}
 use Rattle.dcsctp_wire.specs.declared.packet.chunk.Chunk.TheVariants as variant
 use Rattle.dcsctp_wire.specs.declared.packet.sctp_packet.SctpPacket.{SctpPacket}
@@ -45,17 +45,23 @@ parameter_held (parameter.HeartbeatInfo info) = length info
 parameter_held (parameter.StateCookie cookie) = length cookie
 parameter_held (parameter.OutgoingSsnResetRequest r) = 2 * length r.streams
 parameter_held (parameter.IncomingSsnResetRequest r) = 2 * length r.streams
+parameter_held (parameter.SsnTsnResetRequest n) = 0
+parameter_held (parameter.ReconfigurationResponse r) = 0
+parameter_held (parameter.AddOutgoingStreamsRequest r) = 0
+parameter_held (parameter.AddIncomingStreamsRequest r) = 0
+parameter_held (parameter.ZeroChecksumAcceptable n) = 0
 parameter_held (parameter.SupportedExtensions types) = length types
+parameter_held parameter.ForwardTsnSupported = 0
 parameter_held (parameter.Unknown u) = length u.value
-parameter_held t = 0
 
 abbrev cause_held : CauseTree → ℕ
 cause_held (cause.MissingMandatoryParameter types) = 2 * length types
 cause_held (cause.UnrecognizedChunk chunk) = length chunk
+cause_held (cause.NoUserData tsn) = 0
+cause_held cause.CookieReceivedWhileShuttingDown = 0
 cause_held (cause.UserInitiatedAbort reason) = length reason
 cause_held (cause.ProtocolViolation information) = length information
 cause_held (cause.Unknown u) = length u.value
-cause_held t = 0
 
 abbrev chunk_held : ChunkTree → ℕ
 chunk_held (Data c) = length c.user_data.payload
@@ -65,14 +71,17 @@ chunk_held (Sack s) = 4 * length s.blocks + 4 * length s.duplicates
 chunk_held (HeartbeatRequest ps) = list_held parameter_held ps
 chunk_held (HeartbeatAck ps) = list_held parameter_held ps
 chunk_held (Abort a) = list_held cause_held a.causes
+chunk_held (Shutdown tsn) = 0
+chunk_held ShutdownAck = 0
 chunk_held (Error cs) = list_held cause_held cs
 chunk_held (CookieEcho cookie) = length cookie
+chunk_held CookieAck = 0
+chunk_held (ShutdownComplete reflected) = 0
 chunk_held (IData c) = length c.user_data.payload
 chunk_held (ReConfig ps) = list_held parameter_held ps
 chunk_held (ForwardTsn f) = 4 * length f.streams
 chunk_held (IForwardTsn f) = 8 * length f.streams
 chunk_held (Unknown u) = length u.value
-chunk_held t = 0
 
 -- ---- a tree holds no more than it is written in
 
@@ -149,7 +158,7 @@ cause_bounded : (i : Item) (t : CauseTree) → (cause.row (item_code i)).means i
     → IsBounded (cause_held t) (length i.value)
 unfolding user_abort.read violation.read
 cause_bounded i t m = by_text (is_utf8 i.value) refl where
-  kept : ((item_code i ≡ 12) ⊎ (item_code i ≡ 13) → IsUtf8 i.value)
+  kept : (cause.HoldsText (item_code i) → IsUtf8 i.value)
       → IsBounded (cause_held t) (length i.value)
   kept k =
       let a = (causes_account.sized i t k m).at_most in let b = cause_fits t in

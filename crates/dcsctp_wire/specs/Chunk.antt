@@ -131,25 +131,45 @@ abbrev pub kept : ChunkTree → ChunkTree
 kept (Data c) = Data (plain_kind.DataChunk.kept c)
 kept (Init i) = Init (record i { parameters = kept_parameters i.parameters })
 kept (InitAck i) = InitAck (record i { parameters = kept_parameters i.parameters })
+kept (Sack s) = Sack s
 kept (HeartbeatRequest ps) = HeartbeatRequest (kept_parameters ps)
 kept (HeartbeatAck ps) = HeartbeatAck (kept_parameters ps)
+kept (Abort a) = Abort a
+kept (Shutdown tsn) = Shutdown tsn
+kept ShutdownAck = ShutdownAck
+kept (Error cs) = Error cs
+kept (CookieEcho cookie) = CookieEcho cookie
+kept CookieAck = CookieAck
+kept (ShutdownComplete reflected) = ShutdownComplete reflected
 kept (IData c) = IData (plain_kind.IDataChunk.kept c)
 kept (ReConfig ps) = ReConfig (kept_parameters ps)
-kept t = t
+kept (ForwardTsn t) = ForwardTsn t
+kept (IForwardTsn t) = IForwardTsn t
+kept (Unknown u) = Unknown u
 
 abbrev pub all_kept : List ChunkTree → List ChunkTree
 all_kept ts = map kept ts
 
 -- how many parts it has: itself, and the parameters or causes in it
 abbrev pub parts : ChunkTree → ℕ
+parts (Data c) = 1
 parts (Init i) = kind.InitFields.parts i
 parts (InitAck i) = kind.InitFields.parts i
+parts (Sack s) = 1
 parts (HeartbeatRequest ps) = 1 + length ps
 parts (HeartbeatAck ps) = 1 + length ps
 parts (Abort a) = 1 + length a.causes
+parts (Shutdown tsn) = 1
+parts ShutdownAck = 1
 parts (Error cs) = 1 + length cs
+parts (CookieEcho cookie) = 1
+parts CookieAck = 1
+parts (ShutdownComplete reflected) = 1
+parts (IData c) = 1
 parts (ReConfig ps) = 1 + length ps
-parts t = 1
+parts (ForwardTsn t) = 1
+parts (IForwardTsn t) = 1
+parts (Unknown u) = 1
 
 -- its lists have room for their items alone, and so has each item
 abbrev pub IsTight : Chunk → Type 0
@@ -167,16 +187,19 @@ IsTight (variant.HeartbeatAck c) =
     (vec_capacity c.parameters ≡ vec_len c.parameters) × All IsTightParameter c.parameters.items
 IsTight (variant.Abort c) =
     (vec_capacity c.error_causes ≡ vec_len c.error_causes) × All IsTightCause c.error_causes.items
+IsTight (variant.Shutdown c) = Unit {0}
+IsTight (variant.ShutdownAck c) = Unit {0}
 IsTight (variant.Error c) =
     (vec_capacity c.error_causes ≡ vec_len c.error_causes) × All IsTightCause c.error_causes.items
 IsTight (variant.CookieEcho c) = vec_capacity c.cookie ≡ vec_len c.cookie
+IsTight (variant.CookieAck c) = Unit {0}
+IsTight (variant.ShutdownComplete c) = Unit {0}
 IsTight (variant.IData c) = vec_capacity c.user_data.payload ≡ vec_len c.user_data.payload
 IsTight (variant.ReConfig c) =
     (vec_capacity c.parameters ≡ vec_len c.parameters) × All IsTightParameter c.parameters.items
 IsTight (variant.ForwardTsn c) = vec_capacity c.skipped_streams ≡ vec_len c.skipped_streams
 IsTight (variant.IForwardTsn c) = vec_capacity c.skipped_streams ≡ vec_len c.skipped_streams
 IsTight (variant.Unknown c) = vec_capacity c.value ≡ vec_len c.value
-IsTight c = Unit {0}
 
 -- a chunk of the code, without where it lies in memory
 abbrev pub view : Chunk → ChunkTree
