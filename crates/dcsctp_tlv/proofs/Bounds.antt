@@ -14,7 +14,8 @@ abbrev pub list_held : {T : Type 0} → (T → ℕ) → List T → ℕ
 list_held held ts = 4 * length ts + total held ts
 
 -- it holds no more than it is written in, where each of its trees holds no more
-pub list_fits : {T : Type 0} (held : T → ℕ) (tlv : T → Tlv) → ((t : T) → 4 + held t ≤ size_of (tlv t))
+pub list_fits : {T : Type 0} (held : T → ℕ) (tlv : T → Tlv)
+    → ((t : T) → 4 + held t ≤ size_of (tlv t))
     → (ts : List T) → list_held held ts ≤ list_size tlv ts
 list_fits held tlv law [] = omega arith
 list_fits held tlv law (t ∷ []) = let h = law t in omega (arith, h)

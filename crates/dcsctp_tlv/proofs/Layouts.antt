@@ -1,5 +1,5 @@
--- What a kind owes the laws of its level, by how its value is laid out: any bytes; one size, as of a
--- number or of an empty value; numbers, and after them fields.
+-- What a kind owes the laws of its level, by how its value is laid out: any bytes; one size, as of
+-- a number or of an empty value; numbers, and after them fields.
 use Rattle.std.proofs.Common.{◌≡◌, ℕ, ◌+◌, ◌-◌, ◌*◌, ◌/◌, ◌^◌, ◌<◌, cond, List, [], ◌++◌, length, drop, refl, sym, ap, subst, ◌∙◌, arith, Result, Ok, Err}
 use Rattle.std.specs.Prelude.{◌==◌}
 use Rattle.std.specs.Int.{w32, to_be_bytes}
@@ -104,8 +104,8 @@ abbrev read_fields : {T A : Type 0} → ℕ → ℕ → (List ℕ → A) → (Li
     → Result T Fault
 read_fields place size read make value =
     let n = count_after place size value in
-    cond (length value == place + size * n) (Ok (make value (fields read size n (drop place value))))
-    (Err Length)
+    cond (length value == place + size * n)
+    (Ok (make value (fields read size n (drop place value)))) (Err Length)
 
 -- How a tree is made of such a value and of its fields, and is written: the numbers that come
 -- first, and the fields, each of which can be written.
