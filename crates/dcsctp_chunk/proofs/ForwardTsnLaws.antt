@@ -83,7 +83,7 @@ skipped_fields typ name read write size sized by_mid law counted own = record {
 ssn_fields : FieldsAfter 4 4 by_ssn.stream_at with by_ssn.format by_ssn.stream_bytes
     (IsPlaced false)
 ssn_fields =
-    skipped_fields 192 _ by_ssn.stream_at by_ssn.stream_bytes 4 by_ssn.length-stream false
+    skipped_fields 192 by_ssn.name by_ssn.stream_at by_ssn.stream_bytes 4 by_ssn.length-stream false
     ssn_stream_law (λ n. omega arith) (λ bytes. refl)
 
 pub forward_tsn_laws : FormatLaws by_ssn.read by_ssn.format
@@ -97,7 +97,7 @@ forward_tsn_keeps_size = fields_keep 4 4 by_ssn.stream_at with _ _ _ ssn_fields
 mid_fields : FieldsAfter 4 8 by_mid.stream_at with by_mid.format by_mid.stream_bytes
     (IsPlaced true)
 mid_fields =
-    skipped_fields 194 _ by_mid.stream_at by_mid.stream_bytes 8 by_mid.length-stream true
+    skipped_fields 194 by_mid.name by_mid.stream_at by_mid.stream_bytes 8 by_mid.length-stream true
     mid_stream_law (λ n. omega arith) (λ bytes. refl)
 
 pub iforward_tsn_laws : FormatLaws by_mid.read by_mid.format

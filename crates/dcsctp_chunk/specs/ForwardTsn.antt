@@ -23,9 +23,12 @@ unfoldable pub read : List ℕ → Result Tree Fault
 read value = read_of stream_at 4 value
 
 -- each stream is skipped by a sequence number
+-- the text before the TSN
+abbrev pub name : List ℕ
+name = codes "FORWARD-TSN, new_cumulative_tsn="
+
 abbrev pub format : Tree → Format
-format t =
-    format_of 192 (codes "FORWARD-TSN, new_cumulative_tsn=") stream_bytes 4 length-stream false t
+format t = format_of 192 name stream_bytes 4 length-stream false t
 
 abbrev pub view : ForwardTsnChunk → Tree
 view c = tree_of c.new_cumulative_tsn c.skipped_streams.items

@@ -28,9 +28,12 @@ unfoldable pub read : List ℕ → Result Tree Fault
 read value = read_of stream_at 8 value
 
 -- each stream is skipped by a message id
+-- the text before the TSN
+abbrev pub name : List ℕ
+name = codes "I-FORWARD-TSN, new_cumulative_tsn="
+
 abbrev pub format : Tree → Format
-format t =
-    format_of 194 (codes "I-FORWARD-TSN, new_cumulative_tsn=") stream_bytes 8 length-stream true t
+format t = format_of 194 name stream_bytes 8 length-stream true t
 
 abbrev pub view : IForwardTsnChunk → Tree
 view c = tree_of c.new_cumulative_tsn c.skipped_streams.items

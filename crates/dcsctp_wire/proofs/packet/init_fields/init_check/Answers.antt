@@ -4,7 +4,7 @@ use Rattle.std.proofs.lemmas.Bool.{le-leb}
 use Rattle.dcsctp_tlv.specs.Parameter.{parameters}
 use Rattle.dcsctp_tlv.proofs.Places.{finds_listed, rule_broken}
 use Rattle.dcsctp_wire.specs.InitFields.{tree_of as init_of, parts as init_parts}
-use Rattle.dcsctp_wire.proofs.packet.init.init_check.Goals as goal
+use Rattle.dcsctp_wire.proofs.packet.init_fields.init_check.Goals as goal
 
 pub returns-clause-found : goal.returns-clause-found
 returns-clause-found c =
