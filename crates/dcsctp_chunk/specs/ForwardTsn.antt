@@ -1,6 +1,6 @@
 -- FORWARD-TSN (RFC 3758 section 3.2): type 192, flags ignored; the value is the new cumulative TSN,
 -- four bytes, and then the skipped streams: the stream id and the sequence number, two bytes each.
-use Rattle.std.specs.Prelude.{◌≡◌, ℕ, false, List, [], ◌∷◌, ◌++◌, Result, length, drop, codes, refl}
+use Rattle.std.specs.Prelude.{◌≡◌, ℕ, false, List, [], ◌∷◌, Result, length, drop, codes, refl}
 use Rattle.std.specs.Int.{w16, w32}
 use Rattle.dcsctp_tlv.specs.Kind.{Fault, number16, numbers, Format}
 use Rattle.dcsctp_chunk.specs.SkippedStreams.{SkippedStreamTree, BySsn, ByMid, Tree, tree_of, read_of, format_of}
