@@ -26,14 +26,14 @@ pub struct SctpPacketRef<'a> {
 }
 
 impl<'a> SctpPacketRef<'a> {
+    // A part of its callers, so that it costs them the check's call alone.
     /// Checks a packet as `SctpPacket::check` does, and returns its parts as they lie in `bytes`.
     /// Does not allocate.
     ///
-    /// Returns the fault that `SctpPacket::from_bytes` returns: `InvalidPacketSize` unless there are
-    /// 16 to 65,535 bytes; then `InvalidChecksum` unless the policy accepts the field; then
+    /// Returns the fault that `SctpPacket::from_bytes` returns: `InvalidPacketSize` unless there
+    /// are 16 to 65,535 bytes; then `InvalidChecksum` unless the policy accepts the field; then
     /// `FailedParseChunk` with the first fault of the chunks from the left, and never
     /// `OutOfMemory`. `Chunk::try_from` of each of `chunks` gives the chunks of `from_bytes`.
-    // A part of its callers, so that it costs them the check's call alone.
     #[inline(always)]
     pub fn from_bytes(
         bytes: &'a [u8],

@@ -87,7 +87,8 @@ impl<'a> UserData<'a> {
     #[inline(always)]
     #[tactic(auto, unfolding(dcsctp_chunk::specs::DataChunk::read))]
     fn of_data(flags: u8, value: &'a [u8]) -> Option<UserData<'a>>
-        ensures read { option_map user_data_view result ≡ result_ok (data_kind.read flags value.now) }
+        ensures read { option_map user_data_view result
+            ≡ result_ok (data_kind.read flags value.now) }
         ensures size { IfSome result (λ d. length d.payload.now ≤ length value.now) }
     {
         if value.len() < DATA_SIZE {
@@ -111,7 +112,8 @@ impl<'a> UserData<'a> {
     #[inline(always)]
     #[tactic(auto, unfolding(dcsctp_chunk::specs::IDataChunk::read))]
     fn of_idata(flags: u8, value: &'a [u8]) -> Option<UserData<'a>>
-        ensures read { option_map user_data_view result ≡ result_ok (idata_kind.read flags value.now) }
+        ensures read { option_map user_data_view result
+            ≡ result_ok (idata_kind.read flags value.now) }
         ensures size { IfSome result (λ d. length d.payload.now ≤ length value.now) }
     {
         if value.len() < IDATA_SIZE {

@@ -1,17 +1,18 @@
 -- What each kind of error cause owes the laws of the table.
-use Rattle.std.proofs.Common.{◌≡◌, ℕ, ◌+◌, ◌*◌, true, List, [], length, drop, refl, sym, ap, ◌∙◌, arith, Ok}
+use Rattle.std.proofs.Common.{◌≡◌, ℕ, ◌+◌, ◌*◌, true, List, length, drop, refl, sym, ap, ◌∙◌, arith, Result, Ok}
 use Rattle.std.specs.Prelude.{◌==◌}
-use Rattle.std.specs.Int.{w32, to_be_bytes}
 use Rattle.std.specs.Str.{IsUtf8}
 use Rattle.std.proofs.lemmas.Bool.{eqb-true}
 use Rattle.std.proofs.lemmas.Bool.Decides.{Decides-eqb}
 use Rattle.std.proofs.lemmas.Nat.{from_be_bytes-to_be_bytes_4}
-use Rattle.dcsctp_tlv.specs.Fault.{Length}
-use Rattle.dcsctp_tlv.specs.Image.{IsEncodable}
+use Rattle.dcsctp_tlv.specs.Fault.{Fault, Length}
+use Rattle.dcsctp_tlv.specs.Format.{Format}
+use Rattle.dcsctp_tlv.specs.Image.{solid, IsEncodable}
 use Rattle.dcsctp_tlv.specs.Number.{number16, number32}
 use Rattle.dcsctp_tlv.proofs.FieldLaws.{length-fields, numbers16_back}
 use Rattle.dcsctp_tlv.proofs.FormatLaws.{FormatLaws, Keeps, format_laws}
 use Rattle.dcsctp_tlv.proofs.KindLaws.{of_ok, passed}
+use Rattle.dcsctp_tlv.proofs.Layouts.{any_laws, any_keeps, number_laws, number_keeps, empty_laws, empty_keeps}
 use Rattle.dcsctp_tlv.proofs.Unpadded.{if_passed}
 use Rattle.dcsctp_cause.specs.MissingMandatoryParameter as missing
 use Rattle.dcsctp_cause.specs.UnrecognizedChunk as chunk
@@ -19,6 +20,7 @@ use Rattle.dcsctp_cause.specs.NoUserData as no_user_data
 use Rattle.dcsctp_cause.specs.CookieReceivedWhileShuttingDown as cookie_received
 use Rattle.dcsctp_cause.specs.UserInitiatedAbort as abort
 use Rattle.dcsctp_cause.specs.ProtocolViolation as violation
+use Rattle.dcsctp_cause.specs.Text.{text_or, IsText}
 use Rattle.dcsctp_cause.proofs.Texts.{text_or_utf8}
 use Rattle.dcsctp_cause.proofs.Types.{bytes_of_types, length-bytes_of_types}
 
@@ -57,64 +59,59 @@ missing_keeps first second value types e =
 
 pub chunk_laws : FormatLaws chunk.read chunk.format
 unfolding chunk.read
-chunk_laws =
-    format_laws chunk.read chunk.format (λ x. x) (λ x. refl) (λ x width form fits. refl)
-    (λ value x e. tt) (λ value. tt)
+chunk_laws = any_laws chunk.format (λ x. refl) (λ x. tt)
 
 pub chunk_keeps : Keeps chunk.read chunk.format
 unfolding chunk.read
-chunk_keeps first second value x e =
-    ap (λ (bytes : List ℕ). 4 + length bytes) (sym (of_ok value x e))
+chunk_keeps = any_keeps chunk.format (λ x. refl)
 
 -- ---- one size
 
 pub no_user_data_laws : FormatLaws no_user_data.read no_user_data.format
 unfolding no_user_data.read
-no_user_data_laws =
-    format_laws no_user_data.read no_user_data.format (to_be_bytes w32) (λ tsn. refl)
-    (λ tsn width form fits. ap (λ (n : ℕ). Ok n) (from_be_bytes-to_be_bytes_4 tsn width))
-    (λ value tsn e. tt) (λ value. if_passed (length value == 4) (number32 value))
+no_user_data_laws = number_laws no_user_data.format (λ n. refl) (λ n width. width) (λ n. tt)
 
 pub no_user_data_keeps : Keeps no_user_data.read no_user_data.format
 unfolding no_user_data.read
-no_user_data_keeps first second value tsn e =
-    let whole = passed (length value == 4) (Ok (number32 value)) Length tsn e in
-    let four = eqb-true (length value) 4 whole.0 in
-    omega (arith, four)
+no_user_data_keeps = number_keeps no_user_data.format (λ n. refl)
 
 pub cookie_received_laws : FormatLaws cookie_received.read cookie_received.format
 unfolding cookie_received.read
-cookie_received_laws =
-    format_laws cookie_received.read cookie_received.format (λ t. []) (λ t. refl)
-    (λ t width form fits. refl) (λ value t e. tt)
-    (λ value. if_passed (length value == 0) tt)
+cookie_received_laws = empty_laws cookie_received.format (λ t. refl) (λ t. tt)
 
 pub cookie_received_keeps : Keeps cookie_received.read cookie_received.format
 unfolding cookie_received.read
-cookie_received_keeps first second value t e =
-    let empty = eqb-true (length value) 0 (passed (length value == 0) (Ok tt) Length t e).0 in
-    omega (arith, empty)
+cookie_received_keeps = empty_keeps cookie_received.format (λ t. refl)
 
 -- ---- texts: a value that isn't UTF-8 is read as another text, whose size may be another
 
+abbrev read_text : List ℕ → List ℕ → Result (List ℕ) Fault
+read_text fixed value = Ok (text_or fixed value)
+
+text_laws : (fixed : List ℕ) (format : List ℕ → Format)
+    → ((x : List ℕ) → (format x).tlv.value ≡ solid x)
+    → ((x : List ℕ) → (format x).IsInWidth → IsText x)
+    → ((x : List ℕ) → (format x).IsWellFormed) → FormatLaws (read_text fixed) format
+text_laws fixed format same width formed =
+    format_laws (read_text fixed) format (λ x. x) same
+    (λ x w form fits. ap (λ (text : List ℕ). Ok text) (text_or_utf8 fixed x (width x w).utf8))
+    (λ value x e. formed x) (λ value. tt)
+
+text_kept : (fixed value x : List ℕ) → IsUtf8 value → read_text fixed value ≡ Ok x → x ≡ value
+text_kept fixed value x utf8 e = sym (of_ok _ x e) ∙ text_or_utf8 fixed value utf8
+
 pub abort_laws : FormatLaws abort.read abort.format
 unfolding abort.read
-abort_laws =
-    format_laws abort.read abort.format (λ x. x) (λ x. refl)
-    (λ x width form fits. ap (λ (text : List ℕ). Ok text) (text_or_utf8 _ x width.utf8))
-    (λ value x e. tt) (λ value. tt)
+abort_laws = text_laws _ abort.format (λ x. refl) (λ x width. width) (λ x. tt)
 
 pub abort_kept : (value x : List ℕ) → IsUtf8 value → abort.read value ≡ Ok x → x ≡ value
 unfolding abort.read
-abort_kept value x utf8 e = sym (of_ok _ x e) ∙ text_or_utf8 _ value utf8
+abort_kept value x = text_kept _ value x
 
 pub violation_laws : FormatLaws violation.read violation.format
 unfolding violation.read
-violation_laws =
-    format_laws violation.read violation.format (λ x. x) (λ x. refl)
-    (λ x width form fits. ap (λ (text : List ℕ). Ok text) (text_or_utf8 _ x width.utf8))
-    (λ value x e. tt) (λ value. tt)
+violation_laws = text_laws _ violation.format (λ x. refl) (λ x width. width) (λ x. tt)
 
 pub violation_kept : (value x : List ℕ) → IsUtf8 value → violation.read value ≡ Ok x → x ≡ value
 unfolding violation.read
-violation_kept value x utf8 e = sym (of_ok _ x e) ∙ text_or_utf8 _ value utf8
+violation_kept value x = text_kept _ value x

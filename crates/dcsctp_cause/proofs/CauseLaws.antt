@@ -7,15 +7,16 @@ use Rattle.dcsctp_tlv.specs.Decided.{IgnoresPadding}
 use Rattle.dcsctp_tlv.specs.Frame.{lenient}
 use Rattle.dcsctp_tlv.specs.Level.{Row, plain, map_ok, HasMeaning}
 use Rattle.dcsctp_tlv.specs.Fault.{Fault}
-use Rattle.dcsctp_tlv.specs.Image.{Tlv, zeroed, size_of, image_of, IsEncodable, list_size}
+use Rattle.dcsctp_tlv.specs.Image.{Tlv, zeroed, size_of, image_of, list_size}
 use Rattle.dcsctp_tlv.specs.Table.{IsUnnamed, ◌&◌}
 use Rattle.dcsctp_tlv.proofs.Lengths.{length-format}
 use Rattle.dcsctp_tlv.specs.UnknownParameter as unknown
 use Rattle.dcsctp_tlv.proofs.Laws.{LawfulRow, Lawful}
+use Rattle.dcsctp_tlv.proofs.FormatLaws.{IsGood, good_list}
 use Rattle.dcsctp_tlv.proofs.Places.{AtFront, IsPlain, is_plain}
 use Rattle.dcsctp_tlv.proofs.Lenient.{Loosens}
 use Rattle.dcsctp_tlv.proofs.Tables.{of_table, of_others}
-use Rattle.dcsctp_tlv.proofs.ReadsBack.{ReadsBack, each_encodable, zeroed-solid}
+use Rattle.dcsctp_tlv.proofs.ReadsBack.{ReadsBack, zeroed-solid}
 use Rattle.dcsctp_tlv.proofs.KindLaws.{KindLaws, KeepsSize, of_map_ok}
 use Rattle.dcsctp_tlv.proofs.Unpadded.{Unpadded, plain_unpadded, ok_unpadded, list_unpadded}
 use Rattle.dcsctp_tlv.proofs.ParameterKinds.{type_back, unknown_keeps, unknown_forms}
@@ -138,10 +139,8 @@ any_value code value = of_table (MeansAny value) table code _ (
 -- ---- reading back
 
 -- a cause that can be written and read again
-pub record IsGoodCause (t : CauseTree) : Type 0 where
-  pub width : IsInWidth t
-  pub formed : IsWellFormed t
-  pub encodable : IsEncodable (tlv t)
+abbrev pub IsGoodCause : CauseTree → Type 0
+IsGoodCause t = IsGood format t
 
 -- the row for the two bytes that a code is written as
 abbrev Means : Tlv → CauseTree → Type 0
@@ -183,11 +182,7 @@ causes_read_back strict =
 -- the causes of a list that can be written
 pub good_causes : (ts : List CauseTree) → AllByRecursion IsInWidth ts
     → AllByRecursion IsWellFormed ts → list_size tlv ts < 2 ^ 16 → AllByRecursion IsGoodCause ts
-good_causes ts width formed fits = each ts width formed (each_encodable tlv ts fits) where
-  each : (ts : List CauseTree) → AllByRecursion IsInWidth ts → AllByRecursion IsWellFormed ts
-      → AllByRecursion (λ t. IsEncodable (tlv t)) ts → AllByRecursion IsGoodCause ts
-  each [] w f e = tt
-  each (t ∷ ts) w f e = (record { width = w.0; formed = f.0; encodable = e.0 }, each ts w.1 f.1 e.1)
+good_causes ts width formed fits = good_list format ts width formed fits
 
 -- ---- well-formed
 

@@ -38,6 +38,8 @@ use std::fmt;
 /// `Unknown`.
 #[derive(Debug, Drop)]
 pub enum ErrorCause {
+    /// Missing Mandatory Parameter (RFC 9260 section 3.3.10.2), code 2.
+    MissingMandatoryParameter(MissingMandatoryParameterErrorCause),
     /// Unrecognized Chunk Type (RFC 9260 section 3.3.10.6), code 6.
     UnrecognizedChunk(UnrecognizedChunkErrorCause),
     /// No User Data (RFC 9260 section 3.3.10.9), code 9.
@@ -48,8 +50,6 @@ pub enum ErrorCause {
     UserInitiatedAbort(UserInitiatedAbortErrorCause),
     /// Protocol Violation (RFC 9260 section 3.3.10.13), code 13.
     ProtocolViolation(ProtocolViolationErrorCause),
-    /// Missing Mandatory Parameter (RFC 9260 section 3.3.10.2), code 2.
-    MissingMandatoryParameter(MissingMandatoryParameterErrorCause),
     /// A cause of any other code.
     Unknown(UnknownParameter),
 }
@@ -58,13 +58,61 @@ pub enum ErrorCause {
 macro_rules! each_kind {
     ($cause:expr, $kind:ident => $does:expr) => {
         match $cause {
+            ErrorCause::MissingMandatoryParameter($kind) => $does,
             ErrorCause::UnrecognizedChunk($kind) => $does,
             ErrorCause::NoUserData($kind) => $does,
             ErrorCause::CookieReceivedWhileShuttingDown($kind) => $does,
             ErrorCause::UserInitiatedAbort($kind) => $does,
             ErrorCause::ProtocolViolation($kind) => $does,
-            ErrorCause::MissingMandatoryParameter($kind) => $does,
             ErrorCause::Unknown($kind) => $does,
+        }
+    };
+}
+
+/// What a value of the code means is built, and something is done with it.
+macro_rules! built {
+    ($code:expr, $alloc:expr, $value:expr, $cause:ident => $does:expr) => {
+        match $code {
+            missing_mandatory_parameter_error_cause::CAUSE_CODE => {
+                let $cause = ErrorCause::MissingMandatoryParameter(
+                    MissingMandatoryParameterErrorCause::build($alloc, $value)?,
+                );
+                $does
+            }
+            no_user_data_error_cause::CAUSE_CODE => {
+                let $cause = ErrorCause::NoUserData(NoUserDataErrorCause::build($value));
+                $does
+            }
+            cookie_received_while_shutting_down::CAUSE_CODE => {
+                let $cause = ErrorCause::CookieReceivedWhileShuttingDown(
+                    CookieReceivedWhileShuttingDownErrorCause {},
+                );
+                $does
+            }
+            user_initiated_abort_error_cause::CAUSE_CODE => {
+                let $cause = ErrorCause::UserInitiatedAbort(UserInitiatedAbortErrorCause::build(
+                    $alloc, $value,
+                )?);
+                $does
+            }
+            protocol_violation_error_cause::CAUSE_CODE => {
+                let $cause = ErrorCause::ProtocolViolation(ProtocolViolationErrorCause::build(
+                    $alloc, $value,
+                )?);
+                $does
+            }
+            typ => {
+                // one copy for both kinds that keep their value, so that an item costs one result
+                let bytes = copied($alloc, $value)?;
+                if typ == unrecognized_chunk_error_cause::CAUSE_CODE {
+                    let $cause =
+                        ErrorCause::UnrecognizedChunk(UnrecognizedChunkErrorCause { chunk: bytes });
+                    $does
+                } else {
+                    let $cause = ErrorCause::Unknown(UnknownParameter { typ, value: bytes });
+                    $does
+                }
+            }
         }
     };
 }
@@ -112,35 +160,14 @@ impl ErrorCause {
     }
 
     /// What the value means.
+    #[tactic(auto, unfolding(crate::specs::UnrecognizedChunk::read, dcsctp_tlv::specs::UnknownParameter::read))]
     fn build(alloc: Global, code: u16, value: &[u8]) -> Result<Self, AllocError>
         requires { HasMeaning (cause.row code) value.now }
         ensures meant { IfOk result (λ c. (cause.row code).means value.now (view c)) }
         ensures heap { TakesNoMemory code → IsOk result }
         ensures tight { IfOk result IsTight }
     {
-        Ok(match code {
-            missing_mandatory_parameter_error_cause::CAUSE_CODE =>
-                ErrorCause::MissingMandatoryParameter(MissingMandatoryParameterErrorCause::build(
-                    alloc, value,
-                )?),
-            unrecognized_chunk_error_cause::CAUSE_CODE => ErrorCause::UnrecognizedChunk(
-                UnrecognizedChunkErrorCause::build(alloc, value)?,
-            ),
-            no_user_data_error_cause::CAUSE_CODE => ErrorCause::NoUserData(
-                NoUserDataErrorCause::build(value),
-            ),
-            cookie_received_while_shutting_down::CAUSE_CODE =>
-                ErrorCause::CookieReceivedWhileShuttingDown(
-                    CookieReceivedWhileShuttingDownErrorCause {},
-                ),
-            user_initiated_abort_error_cause::CAUSE_CODE => ErrorCause::UserInitiatedAbort(
-                UserInitiatedAbortErrorCause::build(alloc, value)?,
-            ),
-            protocol_violation_error_cause::CAUSE_CODE => ErrorCause::ProtocolViolation(
-                ProtocolViolationErrorCause::build(alloc, value)?,
-            ),
-            _ => ErrorCause::Unknown(UnknownParameter::build(alloc, code, value)?),
-        })
+        built!(code, alloc, value, cause => Ok(cause))
     }
 }
 
@@ -171,51 +198,10 @@ impl ReadableTlv for ErrorCause {
         value: &[u8],
     ) -> Result<(), AllocError> {
         let code = u16::from_be_bytes([first, second]);
-        match code {
-            missing_mandatory_parameter_error_cause::CAUSE_CODE => {
-                list.push_reserved(ErrorCause::MissingMandatoryParameter(
-                    MissingMandatoryParameterErrorCause::build(alloc, value)?,
-                ));
-                Ok(())
-            }
-            no_user_data_error_cause::CAUSE_CODE => {
-                list.push_reserved(ErrorCause::NoUserData(NoUserDataErrorCause::build(value)));
-                Ok(())
-            }
-            cookie_received_while_shutting_down::CAUSE_CODE => {
-                list.push_reserved(ErrorCause::CookieReceivedWhileShuttingDown(
-                    CookieReceivedWhileShuttingDownErrorCause {},
-                ));
-                Ok(())
-            }
-            user_initiated_abort_error_cause::CAUSE_CODE => {
-                list.push_reserved(ErrorCause::UserInitiatedAbort(
-                    UserInitiatedAbortErrorCause::build(alloc, value)?,
-                ));
-                Ok(())
-            }
-            protocol_violation_error_cause::CAUSE_CODE => {
-                list.push_reserved(ErrorCause::ProtocolViolation(ProtocolViolationErrorCause::build(
-                    alloc, value,
-                )?));
-                Ok(())
-            }
-            _ => {
-                // one copy for both kinds that keep their value, so that an item costs one result
-                let bytes = copied(alloc, value)?;
-                if code == unrecognized_chunk_error_cause::CAUSE_CODE {
-                    list.push_reserved(ErrorCause::UnrecognizedChunk(UnrecognizedChunkErrorCause {
-                        chunk: bytes,
-                    }));
-                } else {
-                    list.push_reserved(ErrorCause::Unknown(UnknownParameter {
-                        typ: code,
-                        value: bytes,
-                    }));
-                }
-                Ok(())
-            }
-        }
+        built!(code, alloc, value, cause => {
+            list.push_reserved(cause);
+            Ok(())
+        })
     }
 
     fn accepts_padding(strict: bool, _size: usize, there: &[u8]) -> bool {
@@ -264,6 +250,15 @@ impl ListedTlv for ErrorCause {
 }
 
 /// The error cause of this kind, with this value.
+impl From<MissingMandatoryParameterErrorCause> for ErrorCause {
+    ghost from_gives = { λ kind cause. cause ≡ variant.MissingMandatoryParameter kind };
+
+    fn from(kind: MissingMandatoryParameterErrorCause) -> ErrorCause {
+        ErrorCause::MissingMandatoryParameter(kind)
+    }
+}
+
+/// The error cause of this kind, with this value.
 impl From<UnrecognizedChunkErrorCause> for ErrorCause {
     ghost from_gives = { λ kind cause. cause ≡ variant.UnrecognizedChunk kind };
 
@@ -305,15 +300,6 @@ impl From<ProtocolViolationErrorCause> for ErrorCause {
 
     fn from(kind: ProtocolViolationErrorCause) -> ErrorCause {
         ErrorCause::ProtocolViolation(kind)
-    }
-}
-
-/// The error cause of this kind, with this value.
-impl From<MissingMandatoryParameterErrorCause> for ErrorCause {
-    ghost from_gives = { λ kind cause. cause ≡ variant.MissingMandatoryParameter kind };
-
-    fn from(kind: MissingMandatoryParameterErrorCause) -> ErrorCause {
-        ErrorCause::MissingMandatoryParameter(kind)
     }
 }
 

@@ -1,20 +1,15 @@
 -- FORWARD-TSN and I-FORWARD-TSN: what is written is read again, and what was read is well-formed
 -- and keeps its size.
-use Rattle.std.proofs.Common.{◌≡◌, ℕ, ◌+◌, ◌-◌, ◌*◌, ◌/◌, Bool, true, false, List, [], ◌∷◌, ◌++◌, length, drop, refl, sym, ap, subst, ◌∙◌, arith, Ok}
-use Rattle.std.specs.Prelude.{◌==◌}
+use Rattle.std.proofs.Common.{◌≡◌, ℕ, ◌+◌, ◌-◌, ◌*◌, ◌/◌, Bool, true, false, List, [], ◌∷◌, ◌++◌, length, drop, refl, arith}
 use Rattle.std.specs.Int.{w32}
-use Rattle.std.specs.List.{flat_map, AllByRecursion}
-use Rattle.std.proofs.lemmas.Bool.{eq-eqb, eqb-true, true≢false, false≢true}
+use Rattle.std.specs.List.{AllByRecursion}
+use Rattle.std.proofs.lemmas.Bool.{true≢false, false≢true}
 use Rattle.std.proofs.lemmas.Nat.{from_be_bytes-to_be_bytes_2, from_be_bytes-to_be_bytes_4}
-use Rattle.dcsctp_tlv.specs.Fault.{Length}
-use Rattle.dcsctp_tlv.specs.Fields.{fields}
-use Rattle.dcsctp_tlv.specs.Length.{length-each}
-use Rattle.dcsctp_tlv.specs.Number.{numbers}
-use Rattle.dcsctp_tlv.proofs.FieldLaws.{FieldLaw, length-fields, fields_each, last_fields_back}
-use Rattle.dcsctp_tlv.proofs.FormatLaws.{FormatLaws, Keeps, format_laws}
-use Rattle.dcsctp_tlv.proofs.KindLaws.{of_ok, passed}
-use Rattle.dcsctp_tlv.proofs.Unpadded.{NotPadding, if_passed}
-use Rattle.dcsctp_chunk.specs.SkippedStreams.{SkippedStreamTree, BySsn, ByMid, is_by_mid, AreByMid, IsSkippedStreamInWidth, Tree, stream_count, read_of, IsInWidth}
+use Rattle.dcsctp_tlv.specs.Number.{number32, numbers}
+use Rattle.dcsctp_tlv.proofs.FieldLaws.{FieldLaw, fields_each}
+use Rattle.dcsctp_tlv.proofs.FormatLaws.{FormatLaws, Keeps}
+use Rattle.dcsctp_tlv.proofs.Layouts.{FieldsAfter, fields_laws, fields_keep}
+use Rattle.dcsctp_chunk.specs.SkippedStreams.{SkippedStreamTree, BySsn, ByMid, is_by_mid, AreByMid, IsSkippedStreamInWidth, Tree, format_of}
 use Rattle.dcsctp_chunk.specs.ForwardTsn as by_ssn
 use Rattle.dcsctp_chunk.specs.IForwardTsn as by_mid
 
@@ -58,109 +53,57 @@ mid_stream_law = record { sized = λ s is. by_mid.length-stream s; back = again 
         from_be_bytes-to_be_bytes_4 mid is.0.1,
       ) refl
 
--- streams that were read have a place each, and are as many as were read
-streams_kept : (read : List ℕ → SkippedStreamTree) (size : ℕ) (by_mid : Bool)
-    → ((bytes : List ℕ) → is_by_mid (read bytes) ≡ by_mid)
-    → (count : ℕ) (bytes : List ℕ) (streams : List SkippedStreamTree)
-    → fields read size count bytes ≡ streams → AreByMid by_mid streams × (length streams ≡ count)
-streams_kept read size by_mid own count bytes streams e = (
-  subst (AreByMid by_mid) e (fields_each read size (λ s. is_by_mid s ≡ by_mid) own count bytes),
-  ap length (sym e) ∙ length-fields read size count bytes,
-)
-
--- the value as it is written
-abbrev bytes_of : (SkippedStreamTree → List ℕ) → Tree → List ℕ
-bytes_of write t = numbers w32 (t.tsn ∷ []) ++ flat_map write t.streams
+abbrev with : List ℕ → List SkippedStreamTree → Tree
+with value streams = record { tsn = number32 value; streams = streams }
 
 -- ---- chunks with such streams, of either kind
 
--- how a stream is read and written, in how many bytes, and by what it is skipped
-record Streams (read : List ℕ → SkippedStreamTree) (write : SkippedStreamTree → List ℕ) (size : ℕ)
-    (by_mid : Bool) : Type 0 where
-  pub law : FieldLaw read write size (IsPlaced by_mid)
-  pub sized : (s : SkippedStreamTree) → length (write s) ≡ size
-  pub own : (bytes : List ℕ) → is_by_mid (read bytes) ≡ by_mid
-  pub counted : (n : ℕ) → (4 + size * n - 4) / size ≡ n
-
-back : {read : List ℕ → SkippedStreamTree} {write : SkippedStreamTree → List ℕ} {size : ℕ}
-    {by_mid : Bool} → Streams read write size by_mid
-    → (t : Tree) → IsInWidth t → AreByMid by_mid t.streams
-    → read_of read size (bytes_of write t) ≡ Ok t
-back {read} {write} {size} {by_mid} laws t width own =
-    let value = bytes_of write t in
-    let n = length t.streams in
-    let sized : length value ≡ 4 + size * n =
-    (let list = length-each write size t.streams laws.sized in omega (arith, list)) in
-    let count : stream_count size value ≡ n =
-    ap (λ (k : ℕ). (k - 4) / size) sized ∙ laws.counted n in
-    let whole : length value ≡ 4 + size * stream_count size value =
-    sized ∙ ap (λ (k : ℕ). 4 + size * k) (sym count) in
-    let streams_are =
-    last_fields_back read write size (IsPlaced by_mid) laws.law t.streams (stream_count size value)
-    count (placed by_mid t.streams width.streams own) in
-    rw (
-      eq-eqb (length value) (4 + size * stream_count size value) whole,
-      from_be_bytes-to_be_bytes_4 t.tsn width.tsn,
-      streams_are,
-    ) refl
-
--- what is read is well-formed, and is written with as many bytes
-kept : {read : List ℕ → SkippedStreamTree} {write : SkippedStreamTree → List ℕ} {size : ℕ}
-    {by_mid : Bool} → Streams read write size by_mid
-    → (value : List ℕ) (t : Tree) → read_of read size value ≡ Ok t
-    → AreByMid by_mid t.streams × (4 + (4 + size * length t.streams) ≡ 4 + length value)
-kept {read} {write} {size} {by_mid} laws value t is =
-    let n = stream_count size value in
-    let whole = passed (length value == 4 + size * n) _ Length t is in
-    let e = ap (λ (u : Tree). u.streams) (of_ok _ t whole.1) in
-    let streams = streams_kept read size by_mid laws.own n (drop 4 value) t.streams e in
-    let sized = eqb-true (length value) (4 + size * n) whole.0 in (
-      streams.0,
-      ap (λ (k : ℕ). 4 + (4 + size * k)) streams.1 ∙ ap (λ (k : ℕ). 4 + k) (sym sized),
-    )
-
-unpadded : (read : List ℕ → SkippedStreamTree) (size : ℕ) (value : List ℕ)
-    → NotPadding (read_of read size value)
-unpadded read size value = if_passed (length value == 4 + size * stream_count size value) _
-
--- ---- FORWARD-TSN
-
-ssn_streams : Streams by_ssn.stream_at by_ssn.stream_bytes 4 false
-ssn_streams = record {
-  law = ssn_stream_law;
-  sized = by_ssn.length-stream;
-  own = λ bytes. refl;
-  counted = λ n. omega arith;
+skipped_fields : (typ : ℕ) (name : List ℕ) (read : List ℕ → SkippedStreamTree)
+    (write : SkippedStreamTree → List ℕ) (size : ℕ)
+    (sized : (s : SkippedStreamTree) → length (write s) ≡ size) (by_mid : Bool)
+    → FieldLaw read write size (IsPlaced by_mid)
+    → ((n : ℕ) → (4 + size * n - 4) / size ≡ n)
+    → ((bytes : List ℕ) → is_by_mid (read bytes) ≡ by_mid)
+    → FieldsAfter 4 size read with (format_of typ name write size sized by_mid) write
+    (IsPlaced by_mid)
+skipped_fields typ name read write size sized by_mid law counted own = record {
+  leading = λ t. numbers w32 (t.tsn ∷ []);
+  list = λ t. t.streams;
+  law = law;
+  counted = counted;
+  same = λ t. refl;
+  written = λ t. refl;
+  placed = λ t. refl;
+  made = λ t rest w. rw (from_be_bytes-to_be_bytes_4 t.tsn w.tsn) refl;
+  kept = λ value streams. refl;
+  writable = λ t w are. placed by_mid t.streams w.streams are;
+  formed = λ value n. fields_each read size (λ s. is_by_mid s ≡ by_mid) own n (drop 4 value);
 }
+
+ssn_fields : FieldsAfter 4 4 by_ssn.stream_at with by_ssn.format by_ssn.stream_bytes
+    (IsPlaced false)
+ssn_fields =
+    skipped_fields 192 by_ssn.name by_ssn.stream_at by_ssn.stream_bytes 4 by_ssn.length-stream false
+    ssn_stream_law (λ n. omega arith) (λ bytes. refl)
 
 pub forward_tsn_laws : FormatLaws by_ssn.read by_ssn.format
 unfolding by_ssn.read
-forward_tsn_laws =
-    format_laws by_ssn.read by_ssn.format (bytes_of by_ssn.stream_bytes) (λ t. refl)
-    (λ t width own fits. back ssn_streams t width own)
-    (λ value t is. (kept ssn_streams value t is).0) (unpadded by_ssn.stream_at 4)
+forward_tsn_laws = fields_laws 4 4 by_ssn.stream_at with _ _ _ ssn_fields
 
 pub forward_tsn_keeps_size : Keeps by_ssn.read by_ssn.format
 unfolding by_ssn.read
-forward_tsn_keeps_size first flags value t is = (kept ssn_streams value t is).1
+forward_tsn_keeps_size = fields_keep 4 4 by_ssn.stream_at with _ _ _ ssn_fields
 
--- ---- I-FORWARD-TSN
-
-mid_streams : Streams by_mid.stream_at by_mid.stream_bytes 8 true
-mid_streams = record {
-  law = mid_stream_law;
-  sized = by_mid.length-stream;
-  own = λ bytes. refl;
-  counted = λ n. omega arith;
-}
+mid_fields : FieldsAfter 4 8 by_mid.stream_at with by_mid.format by_mid.stream_bytes
+    (IsPlaced true)
+mid_fields =
+    skipped_fields 194 by_mid.name by_mid.stream_at by_mid.stream_bytes 8 by_mid.length-stream true
+    mid_stream_law (λ n. omega arith) (λ bytes. refl)
 
 pub iforward_tsn_laws : FormatLaws by_mid.read by_mid.format
 unfolding by_mid.read
-iforward_tsn_laws =
-    format_laws by_mid.read by_mid.format (bytes_of by_mid.stream_bytes) (λ t. refl)
-    (λ t width own fits. back mid_streams t width own)
-    (λ value t is. (kept mid_streams value t is).0) (unpadded by_mid.stream_at 8)
+iforward_tsn_laws = fields_laws 4 8 by_mid.stream_at with _ _ _ mid_fields
 
 pub iforward_tsn_keeps_size : Keeps by_mid.read by_mid.format
 unfolding by_mid.read
-iforward_tsn_keeps_size first flags value t is = (kept mid_streams value t is).1
+iforward_tsn_keeps_size = fields_keep 4 8 by_mid.stream_at with _ _ _ mid_fields

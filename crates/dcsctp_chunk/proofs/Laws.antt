@@ -1,16 +1,16 @@
 -- What each kind owes the laws of its level.
-use Rattle.std.proofs.Common.{◌≡◌, ℕ, ◌+◌, ◌<◌, ◌^◌, Bool, true, false, cond, List, [], length, drop, refl, sym, ap, subst, ◌∙◌, arith, inl, inr, Ok, Err, Result}
+use Rattle.std.proofs.Common.{◌≡◌, ℕ, ◌+◌, ◌<◌, ◌^◌, Bool, true, false, cond, List, [], length, drop, refl, sym, ap, subst, ◌∙◌, arith, inl, inr, Ok}
 use Rattle.std.specs.Prelude.{◌==◌, nat_lt}
-use Rattle.std.specs.Int.{w32, to_be_bytes}
-use Rattle.std.proofs.lemmas.Bool.{eqb-true, ltb-false, le-ltb}
+use Rattle.std.proofs.lemmas.Bool.{ltb-false, le-ltb}
 use Rattle.std.proofs.lemmas.Bool.Decides.{eqb_tells}
 use Rattle.std.proofs.lemmas.List.{length-drop, nil_from_length}
 use Rattle.std.proofs.lemmas.Nat.{from_be_bytes-to_be_bytes_2, from_be_bytes-to_be_bytes_4}
-use Rattle.dcsctp_tlv.specs.Fault.{Fault, Length}
+use Rattle.dcsctp_tlv.specs.Fault.{Length}
 use Rattle.dcsctp_tlv.specs.Number.{number32}
 use Rattle.dcsctp_tlv.proofs.FormatLaws.{FormatLaws, Keeps, format_laws, TypedLaws, TypedKeeps, typed_laws}
-use Rattle.dcsctp_tlv.proofs.KindLaws.{of_ok, passed, not_refused}
-use Rattle.dcsctp_tlv.proofs.Unpadded.{if_passed, if_not_refused}
+use Rattle.dcsctp_tlv.proofs.KindLaws.{of_ok, not_refused}
+use Rattle.dcsctp_tlv.proofs.Layouts.{sized_laws, sized_keeps, number_laws, number_keeps, empty_laws, empty_keeps}
+use Rattle.dcsctp_tlv.proofs.Unpadded.{if_not_refused}
 use Rattle.dcsctp_chunk.specs.CookieAck as cookie_ack
 use Rattle.dcsctp_chunk.specs.CookieEcho as cookie_echo
 use Rattle.dcsctp_chunk.specs.Data.{Tree, IsInWidth, flags_of}
@@ -25,60 +25,40 @@ use Rattle.dcsctp_chunk.proofs.FlagLaws.{one_again, four_again}
 
 -- ---- one size
 
--- a value that is read has the size that it must have
-one_size : {T : Type 0} (value : List ℕ) (n : ℕ) (r : Result T Fault) (t : T)
-    → cond (length value == n) r (Err Length) ≡ Ok t → 4 + n ≡ 4 + length value
-one_size value n r t is =
-    ap (λ (k : ℕ). 4 + k)
-    (sym (eqb-true (length value) n (passed (length value == n) r Length t is).0))
-
 pub shutdown_laws : FormatLaws shutdown.read shutdown.format
 unfolding shutdown.read
-shutdown_laws =
-    format_laws shutdown.read shutdown.format (to_be_bytes w32) (λ tsn. refl)
-    (λ tsn width form fits. ap (λ (n : ℕ). Ok n) (from_be_bytes-to_be_bytes_4 tsn width))
-    (λ value tsn is. tt) (λ value. if_passed (length value == 4) (number32 value))
+shutdown_laws = number_laws shutdown.format (λ n. refl) (λ n width. width) (λ n. tt)
 
 pub shutdown_keeps_size : Keeps shutdown.read shutdown.format
 unfolding shutdown.read
-shutdown_keeps_size first flags value tsn is = one_size value 4 (Ok (number32 value)) tsn is
+shutdown_keeps_size = number_keeps shutdown.format (λ n. refl)
 
 pub shutdown_ack_laws : FormatLaws shutdown_ack.read shutdown_ack.format
 unfolding shutdown_ack.read
-shutdown_ack_laws =
-    format_laws shutdown_ack.read shutdown_ack.format (λ u. []) (λ u. refl)
-    (λ u width form fits. refl) (λ value u is. tt)
-    (λ value. if_passed (length value == 0) tt)
+shutdown_ack_laws = empty_laws shutdown_ack.format (λ u. refl) (λ u. tt)
 
 pub shutdown_ack_keeps_size : Keeps shutdown_ack.read shutdown_ack.format
 unfolding shutdown_ack.read
-shutdown_ack_keeps_size first flags value u is = one_size value 0 (Ok tt) u is
+shutdown_ack_keeps_size = empty_keeps shutdown_ack.format (λ u. refl)
 
 pub cookie_ack_laws : FormatLaws cookie_ack.read cookie_ack.format
 unfolding cookie_ack.read
-cookie_ack_laws =
-    format_laws cookie_ack.read cookie_ack.format (λ u. []) (λ u. refl)
-    (λ u width form fits. refl) (λ value u is. tt)
-    (λ value. if_passed (length value == 0) tt)
+cookie_ack_laws = empty_laws cookie_ack.format (λ u. refl) (λ u. tt)
 
 pub cookie_ack_keeps_size : Keeps cookie_ack.read cookie_ack.format
 unfolding cookie_ack.read
-cookie_ack_keeps_size first flags value u is = one_size value 0 (Ok tt) u is
+cookie_ack_keeps_size = empty_keeps cookie_ack.format (λ u. refl)
 
 pub shutdown_complete_laws : TypedLaws (λ first. shutdown_complete.read) shutdown_complete.format
 unfolding shutdown_complete.read
 shutdown_complete_laws =
-    typed_laws (λ first. shutdown_complete.read) shutdown_complete.format
-    (λ reflected. []) (λ reflected. refl)
-    (λ reflected width form fits. ap (λ (b : Bool). Ok b) (one_again reflected))
-    (λ first flags value reflected is. tt)
-    (λ first flags value. if_passed (length value == 0) (is_set flags 0))
+    sized_laws 0 _ shutdown_complete.format (λ reflected. []) (λ reflected. refl)
+    (λ reflected. refl) (λ reflected width. one_again reflected) (λ reflected. tt)
 
 pub shutdown_complete_keeps_size
     : TypedKeeps (λ first. shutdown_complete.read) shutdown_complete.format
 unfolding shutdown_complete.read
-shutdown_complete_keeps_size first flags value reflected is =
-    one_size value 0 (Ok (is_set flags 0)) reflected is
+shutdown_complete_keeps_size = sized_keeps 0 _ shutdown_complete.format (λ reflected. refl)
 
 -- ---- any bytes
 

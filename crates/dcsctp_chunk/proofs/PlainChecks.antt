@@ -52,7 +52,8 @@ choice parts value r true row others P Q own rest p = own p
 choice parts value r false row others P Q own rest p = rest p
 
 -- so the check of the value says what the level's table does
-pub table_finds : {T : Type 0} (parts : T → ℕ) (ks : List PlainKind) (trees : TreesOf ks T) (typ : ℕ)
+pub table_finds : {T : Type 0} (parts : T → ℕ) (ks : List PlainKind) (trees : TreesOf ks T)
+    (typ : ℕ)
     (others : Row T) (value : List ℕ) (r : Result (Unit {0}) ChunkParseError)
     → AreSingle parts ks trees → MeansParts parts others value 1 → ChecksKind ks typ value r
     → Finds parts (row_of (plain_rows ks trees) typ others) value r

@@ -1,10 +1,9 @@
 -- FORWARD-TSN (RFC 3758 section 3.2): type 192, flags ignored; the value is the new cumulative TSN,
 -- four bytes, and then the skipped streams: the stream id and the sequence number, two bytes each.
-use Rattle.std.specs.Prelude.{◌≡◌, ℕ, false, List, [], ◌∷◌, ◌++◌, Result, length, drop, codes, refl}
-use Rattle.std.specs.Fmt.{decimal}
+use Rattle.std.specs.Prelude.{◌≡◌, ℕ, false, List, [], ◌∷◌, Result, length, drop, codes, refl}
 use Rattle.std.specs.Int.{w16, w32}
-use Rattle.dcsctp_tlv.specs.Kind.{Fault, number16, numbers, Format, length-fields}
-use Rattle.dcsctp_chunk.specs.SkippedStreams.{SkippedStreamTree, BySsn, ByMid, AreByMid, Tree, tree_of, read_of, tlv_of, IsInWidth}
+use Rattle.dcsctp_tlv.specs.Kind.{Fault, number16, numbers, Format}
+use Rattle.dcsctp_chunk.specs.SkippedStreams.{SkippedStreamTree, BySsn, ByMid, Tree, tree_of, read_of, format_of}
 use Rattle.dcsctp_chunk.specs.declared.forward_tsn_chunk.ForwardTsnChunk.{ForwardTsnChunk}
 
 abbrev pub stream_at : List ℕ → SkippedStreamTree
@@ -24,14 +23,12 @@ unfoldable pub read : List ℕ → Result Tree Fault
 read value = read_of stream_at 4 value
 
 -- each stream is skipped by a sequence number
+-- the text before the TSN
+abbrev pub name : List ℕ
+name = codes "FORWARD-TSN, new_cumulative_tsn="
+
 abbrev pub format : Tree → Format
-format t = record {
-  tlv = tlv_of 192 stream_bytes 4 t;
-  sized = length-fields (t.tsn ∷ []) stream_bytes 4 t.streams length-stream;
-  text = codes "FORWARD-TSN, new_cumulative_tsn=" ++ decimal t.tsn;
-  IsInWidth = IsInWidth t;
-  IsWellFormed = AreByMid false t.streams;
-}
+format t = format_of 192 name stream_bytes 4 length-stream false t
 
 abbrev pub view : ForwardTsnChunk → Tree
 view c = tree_of c.new_cumulative_tsn c.skipped_streams.items

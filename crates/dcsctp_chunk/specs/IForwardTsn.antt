@@ -2,10 +2,9 @@
 -- TSN, four bytes, and then the skipped streams: the stream id, two bytes, two more whose lowest
 -- bit says unordered, and the message id, four bytes.
 use Rattle.std.specs.Prelude.{◌≡◌, ℕ, ◌%◌, true, List, [], ◌∷◌, ◌++◌, ◌==◌, Result, if◌then◌else◌, length, drop, codes, refl}
-use Rattle.std.specs.Fmt.{decimal}
 use Rattle.std.specs.Int.{w16, w32}
-use Rattle.dcsctp_tlv.specs.Kind.{Fault, number16, number32, numbers, Format, length-fields}
-use Rattle.dcsctp_chunk.specs.SkippedStreams.{SkippedStreamTree, BySsn, ByMid, AreByMid, Tree, tree_of, read_of, tlv_of, IsInWidth}
+use Rattle.dcsctp_tlv.specs.Kind.{Fault, number16, number32, numbers, Format}
+use Rattle.dcsctp_chunk.specs.SkippedStreams.{SkippedStreamTree, BySsn, ByMid, Tree, tree_of, read_of, format_of}
 use Rattle.dcsctp_chunk.specs.declared.iforward_tsn_chunk.IForwardTsnChunk.{IForwardTsnChunk}
 
 -- all bits but the lowest of the two bytes after the stream id are ignored
@@ -29,14 +28,12 @@ unfoldable pub read : List ℕ → Result Tree Fault
 read value = read_of stream_at 8 value
 
 -- each stream is skipped by a message id
+-- the text before the TSN
+abbrev pub name : List ℕ
+name = codes "I-FORWARD-TSN, new_cumulative_tsn="
+
 abbrev pub format : Tree → Format
-format t = record {
-  tlv = tlv_of 194 stream_bytes 8 t;
-  sized = length-fields (t.tsn ∷ []) stream_bytes 8 t.streams length-stream;
-  text = codes "I-FORWARD-TSN, new_cumulative_tsn=" ++ decimal t.tsn;
-  IsInWidth = IsInWidth t;
-  IsWellFormed = AreByMid true t.streams;
-}
+format t = format_of 194 name stream_bytes 8 length-stream true t
 
 abbrev pub view : IForwardTsnChunk → Tree
 view c = tree_of c.new_cumulative_tsn c.skipped_streams.items

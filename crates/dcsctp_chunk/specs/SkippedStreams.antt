@@ -1,12 +1,12 @@
 -- Streams that are skipped: each by a sequence number (RFC 3758 section 3.2), or by a message id
 -- (RFC 8260 section 2.3.1); and what the chunks that hold them have in common.
-use Rattle.std.specs.Prelude.{◌≡◌, ℕ, ◌+◌, ◌-◌, ◌*◌, ◌/◌, ◌<◌, ◌^◌, Bool, true, false, not, List, ◌∷◌, [], ◌==◌, Result, Ok, Err, if◌then◌else◌, length, drop, map}
+use Rattle.std.specs.Prelude.{◌≡◌, ℕ, ◌+◌, ◌-◌, ◌*◌, ◌/◌, ◌<◌, ◌^◌, Bool, true, false, not, List, ◌∷◌, [], ◌++◌, ◌==◌, Result, Ok, Err, if◌then◌else◌, length, drop, map}
+use Rattle.std.specs.Fmt.{decimal}
 use Rattle.std.specs.List.{AllByRecursion}
 use Rattle.dcsctp_types.specs.StreamKey.{stream_of, is_ordered_key}
 use Rattle.dcsctp_types.specs.declared.types.tsn.Tsn.{Tsn}
-use Rattle.dcsctp_tlv.specs.Kind.{Fault, Length, fields, number32}
+use Rattle.dcsctp_tlv.specs.Kind.{Fault, Length, fields, number32, Format, length-fields}
 use Rattle.dcsctp_tlv.specs.Fields.{numbers_and_fields_tlv}
-use Rattle.dcsctp_tlv.specs.Image.{Tlv}
 use Rattle.dcsctp_tlv.specs.declared.skipped_stream.SkippedStream.{SkippedStream}
 use Rattle.dcsctp_tlv.specs.declared.skipped_stream.SkippedStream.TheVariants.{ForwardTsn, IForwardTsn}
 
@@ -59,11 +59,19 @@ read_of stream_at size value =
     }) else
     Err Length
 
--- its type, and how a stream is written and in how many bytes
-abbrev pub tlv_of : ℕ → (SkippedStreamTree → List ℕ) → ℕ → Tree → Tlv
-tlv_of typ bytes size t = numbers_and_fields_tlv typ 0 (t.tsn ∷ []) bytes size t.streams
-
 -- every number lies in its field's width
 pub record IsInWidth (t : Tree) : Type 0 where
   pub tsn : t.tsn < 2 ^ 32
   pub streams : AllByRecursion IsSkippedStreamInWidth t.streams
+
+-- How such a chunk is written and printed: its type and the text before the TSN, how a stream is
+-- written and in how many bytes, and by what each is skipped.
+abbrev pub format_of : ℕ → List ℕ → (bytes : SkippedStreamTree → List ℕ) (size : ℕ)
+    → ((s : SkippedStreamTree) → length (bytes s) ≡ size) → Bool → Tree → Format
+format_of typ name bytes size sized by_mid t = record {
+  tlv = numbers_and_fields_tlv typ 0 (t.tsn ∷ []) bytes size t.streams;
+  sized = length-fields (t.tsn ∷ []) bytes size t.streams sized;
+  text = name ++ decimal t.tsn;
+  IsInWidth = IsInWidth t;
+  IsWellFormed = AreByMid by_mid t.streams;
+}

@@ -21,7 +21,8 @@ use dcsctp_tlv::error::ChunkParseError;
 /// `InvalidLength` exactly where the value has a size that its kind doesn't allow. Each value
 /// passes whose type has no kind of its own, or a kind with a list of parameters or error causes.
 pub fn plain_check(raw: RawChunk) -> Result<(), ChunkParseError>
-    ensures answer { ChecksKind (plain_kinds raw.entry.flags) raw.entry.typ raw.entry.value.now result }
+    ensures answer { ChecksKind (plain_kinds raw.entry.flags) raw.entry.typ raw.entry.value.now
+        result }
     ensures memory { ¬ IsErrOf result ChunkParseError.OutOfMemory }
 {
     match raw.typ {

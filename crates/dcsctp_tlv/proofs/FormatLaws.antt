@@ -1,10 +1,11 @@
 -- What a kind owes the laws of its level, where one record is all that the tables say of a tree.
-use Rattle.std.proofs.Common.{◌≡◌, ℕ, List, Result, Ok}
+use Rattle.std.proofs.Common.{◌≡◌, ℕ, ◌^◌, ◌<◌, List, [], ◌∷◌, Result, Ok}
+use Rattle.std.specs.List.{AllByRecursion}
 use Rattle.dcsctp_tlv.specs.Fault.{Fault}
-use Rattle.dcsctp_tlv.specs.Format.{Format}
-use Rattle.dcsctp_tlv.specs.Image.{solid, IsEncodable}
+use Rattle.dcsctp_tlv.specs.Format.{Format, tlv_by}
+use Rattle.dcsctp_tlv.specs.Image.{solid, IsEncodable, list_size}
 use Rattle.dcsctp_tlv.proofs.KindLaws.{KindLaws, KeepsSize, by_value}
-use Rattle.dcsctp_tlv.proofs.ReadsBack.{zeroed-solid}
+use Rattle.dcsctp_tlv.proofs.ReadsBack.{zeroed-solid, each_encodable}
 use Rattle.dcsctp_tlv.proofs.Unpadded.{NotPadding}
 
 -- ---- a kind that is read under the item's first two bytes, as a chunk under its flags
@@ -55,3 +56,26 @@ pub format_laws : {T : Type 0} (read : List ℕ → Result T Fault) (format : T 
 format_laws read format bytes same back formed unpadded =
     typed_laws (by_value read) format bytes same back (λ first second value t e. formed value t e)
     (λ first second value. unpadded value)
+
+-- ---- trees that can be written and read again
+
+pub record IsGood {T : Type 0} (format : T → Format) (t : T) : Type 0 where
+  pub width : (format t).IsInWidth
+  pub formed : (format t).IsWellFormed
+  pub encodable : IsEncodable (format t).tlv
+
+pub all_good : {T : Type 0} (format : T → Format) (ts : List T)
+    → AllByRecursion (λ t. (format t).IsInWidth) ts
+    → AllByRecursion (λ t. (format t).IsWellFormed) ts
+    → AllByRecursion (λ t. IsEncodable (format t).tlv) ts → AllByRecursion (IsGood format) ts
+all_good format [] w f e = tt
+all_good format (t ∷ ts) w f e =
+    (record { width = w.0; formed = f.0; encodable = e.0 }, all_good format ts w.1 f.1 e.1)
+
+-- those of a list that two bytes can hold the size of
+pub good_list : {T : Type 0} (format : T → Format) (ts : List T)
+    → AllByRecursion (λ t. (format t).IsInWidth) ts
+    → AllByRecursion (λ t. (format t).IsWellFormed) ts
+    → list_size (tlv_by format) ts < 2 ^ 16 → AllByRecursion (IsGood format) ts
+good_list format ts width formed fits =
+    all_good format ts width formed (each_encodable (tlv_by format) ts fits)

@@ -340,7 +340,8 @@ goes level law (suc n) bytes trees (b ∷ rest) lt p = elim (frame_tells (b ∷ 
       (value_fits (b ∷ rest) p.fits)) [
         | inr f ↦ inr (f.0, fault level bytes trees (b ∷ rest) f.0 p (value frame f.1))
         | inl m ↦ padded level n bytes trees (b ∷ rest) m.0 lt p frame m.1
-            (level.padding (padding_size (length (frame_value (b ∷ rest)))) (frame_padding (b ∷ rest)))
+            (level.padding (padding_size (length (frame_value (b ∷ rest))))
+            (frame_padding (b ∷ rest)))
             refl (goes level law n bytes)
       ]
 ]

@@ -17,6 +17,7 @@ pub mod FieldLaws
 pub mod Forms
 pub mod Accounts
 pub mod Counts
+pub mod Bounds
 pub mod Kept
 pub mod ParameterKinds
 pub mod ParameterLaws
@@ -26,3 +27,4 @@ pub mod Exact
 pub mod Places
 pub mod Tables
 pub mod FormatLaws
+pub mod Layouts

@@ -1,8 +1,8 @@
 -- What each kind of parameter owes the laws of the table.
-use Rattle.std.proofs.Common.{◌≡◌, ℕ, ◌+◌, ◌-◌, ◌*◌, ◌/◌, ◌%◌, ◌^◌, ◌<◌, true, false, List, [], ◌∷◌, ◌++◌, length, drop, refl, sym, ap, subst, ◌∙◌, arith, Option, Some, None, Ok, ◌⊎◌, inl, inr}
+use Rattle.std.proofs.Common.{◌≡◌, ℕ, ◌+◌, ◌/◌, ◌%◌, ◌^◌, ◌<◌, true, false, List, [], ◌∷◌, ◌++◌, length, drop, refl, sym, ap, subst, ◌∙◌, arith, Option, Some, None, Ok, ◌⊎◌, inl, inr}
 use Rattle.std.specs.Prelude.{◌==◌}
 use Rattle.std.specs.Int.{w16, w32, to_be_bytes, from_be_bytes}
-use Rattle.std.proofs.lemmas.Bool.{eqb-true, eq-eqb}
+use Rattle.std.proofs.lemmas.Bool.{eqb-true}
 use Rattle.std.proofs.lemmas.Nat.{from_be_bytes-to_be_bytes_2, from_be_bytes-to_be_bytes_4}
 use Rattle.dcsctp_tlv.specs.Fault.{Length}
 use Rattle.dcsctp_tlv.specs.Level.{plain, map_ok}
@@ -23,108 +23,79 @@ use Rattle.dcsctp_tlv.specs.declared.parameter.reconfiguration_response_paramete
 use Rattle.dcsctp_tlv.specs.declared.parameter.reconfiguration_response_parameter.ReconfigurationResponseResult.TheVariants.{SuccessNothingToDo, SuccessPerformed, Denied, ErrorWrongSSN, ErrorRequestAlreadyInProgress, ErrorBadSequenceNumber, InProgress}
 use Rattle.dcsctp_tlv.proofs.KindLaws.{of_ok, of_map_ok, chosen, passed}
 use Rattle.dcsctp_tlv.proofs.FormatLaws.{FormatLaws, Keeps, format_laws}
-use Rattle.dcsctp_tlv.proofs.FieldLaws.{length-fields, numbers16_back}
+use Rattle.dcsctp_tlv.proofs.FieldLaws.{number16_law}
 use Rattle.dcsctp_tlv.proofs.Forms.{FormsRow}
-use Rattle.dcsctp_tlv.proofs.Puts.{length-numbers}
-use Rattle.dcsctp_tlv.proofs.Unpadded.{NotPadding, if_passed, either, mapped}
+use Rattle.dcsctp_tlv.proofs.Layouts.{any_laws, any_keeps, sized_laws, sized_keeps, number_laws, number_keeps, empty_laws, empty_keeps, FieldsAfter, fields_laws, fields_keep}
+use Rattle.dcsctp_tlv.proofs.Unpadded.{NotPadding, either, mapped}
 
 -- ---- any bytes
 
 pub info_laws : FormatLaws info.read info.format
 unfolding info.read
-info_laws =
-    format_laws info.read info.format (λ x. x) (λ x. refl) (λ x width form fits. refl)
-    (λ value x e. tt) (λ value. tt)
+info_laws = any_laws info.format (λ x. refl) (λ x. tt)
 
 pub info_keeps : Keeps info.read info.format
 unfolding info.read
-info_keeps first second value x e =
-    ap (λ (bytes : List ℕ). 4 + length bytes) (sym (of_ok value x e))
+info_keeps = any_keeps info.format (λ x. refl)
 
 pub cookie_laws : FormatLaws cookie.read cookie.format
 unfolding cookie.read
-cookie_laws =
-    format_laws cookie.read cookie.format (λ x. x) (λ x. refl) (λ x width form fits. refl)
-    (λ value x e. tt) (λ value. tt)
+cookie_laws = any_laws cookie.format (λ x. refl) (λ x. tt)
 
 pub cookie_keeps : Keeps cookie.read cookie.format
 unfolding cookie.read
-cookie_keeps first second value x e =
-    ap (λ (bytes : List ℕ). 4 + length bytes) (sym (of_ok value x e))
+cookie_keeps = any_keeps cookie.format (λ x. refl)
 
 pub extensions_laws : FormatLaws extensions.read extensions.format
 unfolding extensions.read
-extensions_laws =
-    format_laws extensions.read extensions.format (λ x. x) (λ x. refl)
-    (λ x width form fits. refl) (λ value x e. tt) (λ value. tt)
+extensions_laws = any_laws extensions.format (λ x. refl) (λ x. tt)
 
 pub extensions_keeps : Keeps extensions.read extensions.format
 unfolding extensions.read
-extensions_keeps first second value x e =
-    ap (λ (bytes : List ℕ). 4 + length bytes) (sym (of_ok value x e))
+extensions_keeps = any_keeps extensions.format (λ x. refl)
 
 -- ---- one size
 
-pub forward_tsn_laws : FormatLaws forward_tsn.read forward_tsn.format
-unfolding forward_tsn.read
-forward_tsn_laws =
-    format_laws forward_tsn.read forward_tsn.format (λ t. []) (λ t. refl)
-    (λ t width form fits. refl) (λ value t e. tt)
-    (λ value. if_passed (length value == 0) tt)
-
-pub forward_tsn_keeps : Keeps forward_tsn.read forward_tsn.format
-unfolding forward_tsn.read
-forward_tsn_keeps first second value t e =
-    let empty = eqb-true (length value) 0 (passed (length value == 0) (Ok tt) Length t e).0 in
-    omega (arith, empty)
-
-pub zero_checksum_laws : FormatLaws zero_checksum.read zero_checksum.format
-unfolding zero_checksum.read
-zero_checksum_laws =
-    format_laws zero_checksum.read zero_checksum.format (to_be_bytes w32) (λ method. refl)
-    (λ method width form fits. ap (λ (n : ℕ). Ok n) (from_be_bytes-to_be_bytes_4 method width))
-    (λ value method e. tt) (λ value. if_passed (length value == 4) (number32 value))
-
-pub zero_checksum_keeps : Keeps zero_checksum.read zero_checksum.format
-unfolding zero_checksum.read
-zero_checksum_keeps first second value method e =
-    let whole = passed (length value == 4) (Ok (number32 value)) Length method e in
-    let four = eqb-true (length value) 4 whole.0 in
-    omega (arith, four)
-
 pub ssn_tsn_laws : FormatLaws ssn_tsn.read ssn_tsn.format
 unfolding ssn_tsn.read
-ssn_tsn_laws =
-    format_laws ssn_tsn.read ssn_tsn.format (to_be_bytes w32) (λ request. refl)
-    (λ request width form fits. ap (λ (n : ℕ). Ok n) (from_be_bytes-to_be_bytes_4 request width))
-    (λ value request e. tt) (λ value. if_passed (length value == 4) (number32 value))
+ssn_tsn_laws = number_laws ssn_tsn.format (λ n. refl) (λ n width. width) (λ n. tt)
 
 pub ssn_tsn_keeps : Keeps ssn_tsn.read ssn_tsn.format
 unfolding ssn_tsn.read
-ssn_tsn_keeps first second value request e =
-    let whole = passed (length value == 4) (Ok (number32 value)) Length request e in
-    let four = eqb-true (length value) 4 whole.0 in
-    omega (arith, four)
+ssn_tsn_keeps = number_keeps ssn_tsn.format (λ n. refl)
 
 -- both requests for more streams, each of its type and name
 pub add_streams_laws : (typ : ℕ) (name : List ℕ)
     → FormatLaws add_streams.read (add_streams.format typ name)
 unfolding add_streams.read
 add_streams_laws typ name =
-    format_laws add_streams.read (add_streams.format typ name) add_streams.value_of (λ r. refl)
-    (λ r width form fits. rw (
+    sized_laws 8 _ (add_streams.format typ name) add_streams.value_of (λ r. refl) (λ r. refl)
+    (λ r width. rw (
       from_be_bytes-to_be_bytes_4 r.request width.request,
       from_be_bytes-to_be_bytes_2 r.new_streams width.new_streams,
     ) refl)
-    (λ value r e. tt) (λ value. if_passed (length value == 8) _)
+    (λ r. tt)
 
 pub add_streams_keeps : (typ : ℕ) (name : List ℕ)
     → Keeps add_streams.read (add_streams.format typ name)
 unfolding add_streams.read
-add_streams_keeps typ name first second value r e =
-    let whole = passed (length value == 8) _ Length r e in
-    let eight = eqb-true (length value) 8 whole.0 in
-    omega (arith, eight)
+add_streams_keeps typ name = sized_keeps 8 _ (add_streams.format typ name) (λ r. refl)
+
+pub zero_checksum_laws : FormatLaws zero_checksum.read zero_checksum.format
+unfolding zero_checksum.read
+zero_checksum_laws = number_laws zero_checksum.format (λ n. refl) (λ n width. width) (λ n. tt)
+
+pub zero_checksum_keeps : Keeps zero_checksum.read zero_checksum.format
+unfolding zero_checksum.read
+zero_checksum_keeps = number_keeps zero_checksum.format (λ n. refl)
+
+pub forward_tsn_laws : FormatLaws forward_tsn.read forward_tsn.format
+unfolding forward_tsn.read
+forward_tsn_laws = empty_laws forward_tsn.format (λ t. refl) (λ t. tt)
+
+pub forward_tsn_keeps : Keeps forward_tsn.read forward_tsn.format
+unfolding forward_tsn.read
+forward_tsn_keeps = empty_keeps forward_tsn.format (λ t. refl)
 
 -- ---- any type
 
@@ -150,71 +121,68 @@ unknown_forms IsFormed typ tree law value t e =
 
 -- ---- requests: numbers, and after them streams
 
-abbrev outgoing_bytes : outgoing.Tree → List ℕ
-outgoing_bytes r = numbers w32 (outgoing.leading r) ++ numbers w16 r.streams
+abbrev outgoing_with : List ℕ → List ℕ → outgoing.Tree
+outgoing_with value streams = record {
+  request = number32 value;
+  response = number32 (drop 4 value);
+  last_tsn = number32 (drop 8 value);
+  streams = streams;
+}
 
-outgoing_back : (r : outgoing.Tree) → outgoing.IsInWidth r → outgoing.read (outgoing_bytes r) ≡ Ok r
-unfolding outgoing.read
-outgoing_back r w =
-    let n : ℕ = length (outgoing_bytes r) in
-    let twice = length-numbers w16 2 r.streams (λ n. refl) in
-    let whole = eq-eqb n (12 + 2 * ((n - 12) / 2)) (omega (arith, twice)) in
-    let streams = numbers16_back r.streams ((n - 12) / 2) (omega (arith, twice)) w.streams in
-    rw (
-      whole,
-      streams,
-      from_be_bytes-to_be_bytes_4 r.request w.request,
-      from_be_bytes-to_be_bytes_4 r.response w.response,
-      from_be_bytes-to_be_bytes_4 r.last_tsn w.last_tsn,
-    ) refl
+outgoing_fields : FieldsAfter 12 2 number16 outgoing_with outgoing.format (to_be_bytes w16)
+    (λ n. n < 2 ^ 16)
+outgoing_fields = record {
+  leading = λ r. numbers w32 (outgoing.leading r);
+  list = λ r. r.streams;
+  law = number16_law;
+  counted = λ n. omega arith;
+  same = λ r. refl;
+  written = λ r. refl;
+  placed = λ r. refl;
+  made = λ r rest w. rw (
+    from_be_bytes-to_be_bytes_4 r.request w.request,
+    from_be_bytes-to_be_bytes_4 r.response w.response,
+    from_be_bytes-to_be_bytes_4 r.last_tsn w.last_tsn,
+  ) refl;
+  kept = λ value streams. refl;
+  writable = λ r w form. w.streams;
+  formed = λ value n. tt;
+}
 
 pub outgoing_laws : FormatLaws outgoing.read outgoing.format
 unfolding outgoing.read
-outgoing_laws =
-    format_laws outgoing.read outgoing.format outgoing_bytes (λ r. refl)
-    (λ r width form fits. outgoing_back r width) (λ value r e. tt)
-    (λ value. if_passed (length value == 12 + 2 * outgoing.stream_count value) _)
+outgoing_laws = fields_laws 12 2 number16 outgoing_with _ _ _ outgoing_fields
 
 pub outgoing_keeps : Keeps outgoing.read outgoing.format
 unfolding outgoing.read
-outgoing_keeps first second value r e =
-    let n : ℕ = outgoing.stream_count value in
-    let whole = passed (length value == 12 + 2 * n) _ Length r e in
-    let is = of_ok _ r whole.1 in
-    let count : length r.streams ≡ n =
-    ap (λ (x : outgoing.Tree). length x.streams) (sym is)
-    ∙ length-fields number16 2 n (drop 12 value) in
-    omega (arith, eqb-true (length value) (12 + 2 * n) whole.0, count)
+outgoing_keeps = fields_keep 12 2 number16 outgoing_with _ _ _ outgoing_fields
 
-abbrev incoming_bytes : incoming.Tree → List ℕ
-incoming_bytes r = numbers w32 (incoming.leading r) ++ numbers w16 r.streams
+abbrev incoming_with : List ℕ → List ℕ → incoming.Tree
+incoming_with value streams = record { request = number32 value; streams = streams }
 
-incoming_back : (r : incoming.Tree) → incoming.IsInWidth r → incoming.read (incoming_bytes r) ≡ Ok r
-unfolding incoming.read
-incoming_back r w =
-    let n : ℕ = length (incoming_bytes r) in
-    let twice = length-numbers w16 2 r.streams (λ n. refl) in
-    let whole = eq-eqb n (4 + 2 * ((n - 4) / 2)) (omega (arith, twice)) in
-    let streams = numbers16_back r.streams ((n - 4) / 2) (omega (arith, twice)) w.streams in
-    rw (whole, streams, from_be_bytes-to_be_bytes_4 r.request w.request) refl
+incoming_fields : FieldsAfter 4 2 number16 incoming_with incoming.format (to_be_bytes w16)
+    (λ n. n < 2 ^ 16)
+incoming_fields = record {
+  leading = λ r. numbers w32 (incoming.leading r);
+  list = λ r. r.streams;
+  law = number16_law;
+  counted = λ n. omega arith;
+  same = λ r. refl;
+  written = λ r. refl;
+  placed = λ r. refl;
+  made = λ r rest w. rw (from_be_bytes-to_be_bytes_4 r.request w.request) refl;
+  kept = λ value streams. refl;
+  writable = λ r w form. w.streams;
+  formed = λ value n. tt;
+}
 
 pub incoming_laws : FormatLaws incoming.read incoming.format
 unfolding incoming.read
-incoming_laws =
-    format_laws incoming.read incoming.format incoming_bytes (λ r. refl)
-    (λ r width form fits. incoming_back r width) (λ value r e. tt)
-    (λ value. if_passed (length value == 4 + 2 * incoming.stream_count value) _)
+incoming_laws = fields_laws 4 2 number16 incoming_with _ _ _ incoming_fields
 
 pub incoming_keeps : Keeps incoming.read incoming.format
 unfolding incoming.read
-incoming_keeps first second value r e =
-    let n : ℕ = incoming.stream_count value in
-    let whole = passed (length value == 4 + 2 * n) _ Length r e in
-    let is = of_ok _ r whole.1 in
-    let count : length r.streams ≡ n =
-    ap (λ (x : incoming.Tree). length x.streams) (sym is)
-    ∙ length-fields number16 2 n (drop 4 value) in
-    omega (arith, eqb-true (length value) (4 + 2 * n) whole.0, count)
+incoming_keeps = fields_keep 4 2 number16 incoming_with _ _ _ incoming_fields
 
 -- ---- a response
 

@@ -10,7 +10,7 @@ use Rattle.dcsctp_tlv.specs.Frame.{lenient}
 use Rattle.dcsctp_tlv.specs.Number.{numbers}
 use Rattle.dcsctp_tlv.proofs.Lengths.{length-format}
 use Rattle.dcsctp_tlv.specs.Level.{Row, plain, map_ok, HasMeaning}
-use Rattle.dcsctp_tlv.specs.Image.{Tlv, zeroed, image_of, size_of, IsEncodable, list_size}
+use Rattle.dcsctp_tlv.specs.Image.{Tlv, zeroed, image_of, size_of, list_size}
 use Rattle.dcsctp_tlv.specs.Table.{IsUnnamed, ◌&◌}
 use Rattle.dcsctp_tlv.specs.HeartbeatInfo as info
 use Rattle.dcsctp_tlv.specs.StateCookie as cookie
@@ -22,12 +22,13 @@ use Rattle.dcsctp_tlv.specs.ReconfigurationResponse.{next_tsns, kept_tsn}
 use Rattle.dcsctp_tlv.specs.UnknownParameter as unknown
 use Rattle.dcsctp_tlv.specs.Parameter.{ParameterTree, HeartbeatInfo, StateCookie, OutgoingSsnResetRequest, IncomingSsnResetRequest, SsnTsnResetRequest, ReconfigurationResponse, AddOutgoingStreamsRequest, AddIncomingStreamsRequest, ZeroChecksumAcceptable, SupportedExtensions, ForwardTsnSupported, Unknown, table, row, parameters, format, tlv, IsInWidth, IsWellFormed, kept, all_kept}
 use Rattle.dcsctp_tlv.proofs.Laws.{LawfulRow, Lawful}
+use Rattle.dcsctp_tlv.proofs.FormatLaws.{IsGood, good_list}
 use Rattle.dcsctp_tlv.proofs.Places.{AtFront, IsPlain, is_plain}
 use Rattle.dcsctp_tlv.proofs.Lenient.{Loosens}
 use Rattle.dcsctp_tlv.proofs.KindLaws.{KindLaws, KeepsSize}
 use Rattle.dcsctp_tlv.proofs.Unpadded.{Unpadded, plain_unpadded, ok_unpadded, list_unpadded}
 use Rattle.dcsctp_tlv.proofs.Tables.{of_table, of_others}
-use Rattle.dcsctp_tlv.proofs.ReadsBack.{ReadsBack, each_encodable, zeroed-solid}
+use Rattle.dcsctp_tlv.proofs.ReadsBack.{ReadsBack, zeroed-solid}
 use Rattle.dcsctp_tlv.proofs.ParameterKinds.{info_laws, info_keeps, cookie_laws, cookie_keeps, outgoing_laws, outgoing_keeps, incoming_laws, incoming_keeps, response_laws, response_keeps, zero_checksum_laws, zero_checksum_keeps, extensions_laws, extensions_keeps, forward_tsn_laws, forward_tsn_keeps, ssn_tsn_laws, ssn_tsn_keeps, add_streams_laws, add_streams_keeps, type_back, unknown_keeps, unknown_forms}
 use Rattle.dcsctp_tlv.proofs.Forms.{FormsTrees, FormsRow, plain_forms}
 use Rattle.dcsctp_tlv.proofs.Accounts.{Accounts, AccountsRow, plain_account}
@@ -129,10 +130,8 @@ any_value typ value = of_table (MeansAny value) table typ _ (
 -- ---- reading back
 
 -- a parameter that can be written and read again
-pub record IsGoodParameter (t : ParameterTree) : Type 0 where
-  pub width : IsInWidth t
-  pub formed : IsWellFormed t
-  pub encodable : IsEncodable (tlv t)
+abbrev pub IsGoodParameter : ParameterTree → Type 0
+IsGoodParameter t = IsGood format t
 
 -- the row for the two bytes that a type is written as
 abbrev Means : Tlv → ParameterTree → Type 0
@@ -188,11 +187,7 @@ parameters_read_back strict = record {
 -- the parameters of a list that can be written
 pub good_parameters : (ts : List ParameterTree) → AllByRecursion IsInWidth ts
     → AllByRecursion IsWellFormed ts → list_size tlv ts < 2 ^ 16 → AllByRecursion IsGoodParameter ts
-good_parameters ts width formed fits = each ts width formed (each_encodable tlv ts fits) where
-  each : (ts : List ParameterTree) → AllByRecursion IsInWidth ts → AllByRecursion IsWellFormed ts
-      → AllByRecursion (λ t. IsEncodable (tlv t)) ts → AllByRecursion IsGoodParameter ts
-  each [] w f e = tt
-  each (t ∷ ts) w f e = (record { width = w.0; formed = f.0; encodable = e.0 }, each ts w.1 f.1 e.1)
+good_parameters ts width formed fits = good_list format ts width formed fits
 
 -- ---- well-formed
 

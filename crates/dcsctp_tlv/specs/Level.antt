@@ -152,8 +152,8 @@ HasFaultAt level bytes e n =
 
 -- ---- a kind with a list of another level in its value
 
--- The offset of a fault from the item's first byte: none, where the rule is broken; else its header,
--- the bytes before the list, and those of the list before its fault.
+-- The offset of a fault from the item's first byte: none, where the rule is broken; else its
+-- header, the bytes before the list, and those of the list before its fault.
 abbrev pub listed_offset : {U : Type 0} (rule : List ℕ → Bool) (place : ℕ) (level : Level U)
     (bytes : List ℕ) (e : Fault)
     → ((rule bytes ≡ false) × (e ≡ Length))

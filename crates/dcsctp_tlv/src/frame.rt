@@ -81,9 +81,9 @@ pub fn first_nonzero(bytes: &[u8]) -> usize
     bytes.iter().take_while(|byte| **byte == 0).count()
 }
 
+// A cold call, so that no valid item pays for it.
 /// Returns the offset of the first padding byte that isn't zero in the frame at the front, or else
 /// of the first padding byte that is missing.
-// A cold call, so that no valid item pays for it.
 #[cold]
 #[inline(never)]
 pub fn padding_fault(bytes: &[u8]) -> usize

@@ -91,12 +91,12 @@ pub enum Parameter {
     AddOutgoingStreamsRequest(AddOutgoingStreamsRequestParameter),
     /// Add Incoming Streams Request (RFC 6525 section 4.6), type 18.
     AddIncomingStreamsRequest(AddIncomingStreamsRequestParameter),
+    /// Zero Checksum Acceptable (RFC 9653 section 4), type 0x8001.
+    ZeroChecksumAcceptable(ZeroChecksumAcceptableParameter),
     /// Supported Extensions (RFC 5061 section 4.2.7), type 0x8008.
     SupportedExtensions(SupportedExtensionsParameter),
     /// Forward-TSN Supported (RFC 3758 section 3.1), type 0xc000.
     ForwardTsnSupported(ForwardTsnSupportedParameter),
-    /// Zero Checksum Acceptable (RFC 9653 section 4), type 0x8001.
-    ZeroChecksumAcceptable(ZeroChecksumAcceptableParameter),
     /// A parameter of any other type.
     Unknown(UnknownParameter),
 }
@@ -113,10 +113,92 @@ macro_rules! each_kind {
             Parameter::ReconfigurationResponse($kind) => $does,
             Parameter::AddOutgoingStreamsRequest($kind) => $does,
             Parameter::AddIncomingStreamsRequest($kind) => $does,
+            Parameter::ZeroChecksumAcceptable($kind) => $does,
             Parameter::SupportedExtensions($kind) => $does,
             Parameter::ForwardTsnSupported($kind) => $does,
-            Parameter::ZeroChecksumAcceptable($kind) => $does,
             Parameter::Unknown($kind) => $does,
+        }
+    };
+}
+
+/// What a value of the type means is built, and something is done with it.
+macro_rules! built {
+    ($typ:expr, $alloc:expr, $value:expr, $parameter:ident => $does:expr) => {
+        match $typ {
+            outgoing_ssn_reset_request_parameter::PARAMETER_TYPE => {
+                let $parameter = Parameter::OutgoingSsnResetRequest(
+                    OutgoingSsnResetRequestParameter::build($alloc, $value)?,
+                );
+                $does
+            }
+            incoming_ssn_reset_request_parameter::PARAMETER_TYPE => {
+                let $parameter = Parameter::IncomingSsnResetRequest(
+                    IncomingSsnResetRequestParameter::build($alloc, $value)?,
+                );
+                $does
+            }
+            ssn_tsn_reset_request_parameter::PARAMETER_TYPE => {
+                let $parameter = Parameter::SsnTsnResetRequest(
+                    SsnTsnResetRequestParameter::build($value),
+                );
+                $does
+            }
+            reconfiguration_response_parameter::PARAMETER_TYPE => {
+                let $parameter = Parameter::ReconfigurationResponse(
+                    ReconfigurationResponseParameter::build($value),
+                );
+                $does
+            }
+            add_outgoing_streams_request_parameter::PARAMETER_TYPE => {
+                let $parameter = Parameter::AddOutgoingStreamsRequest(
+                    AddOutgoingStreamsRequestParameter::build($value),
+                );
+                $does
+            }
+            add_incoming_streams_request_parameter::PARAMETER_TYPE => {
+                let $parameter = Parameter::AddIncomingStreamsRequest(
+                    AddIncomingStreamsRequestParameter::build($value),
+                );
+                $does
+            }
+            zero_checksum_acceptable_parameter::PARAMETER_TYPE => {
+                let $parameter = Parameter::ZeroChecksumAcceptable(
+                    ZeroChecksumAcceptableParameter::build($value),
+                );
+                $does
+            }
+            forward_tsn_supported_parameter::PARAMETER_TYPE => {
+                let $parameter = Parameter::ForwardTsnSupported(ForwardTsnSupportedParameter);
+                $does
+            }
+            typ => {
+                // one copy for all kinds that keep their value, so that each item costs one result
+                let bytes = copied($alloc, $value)?;
+                match typ {
+                    heartbeat_info_parameter::PARAMETER_TYPE => {
+                        let $parameter = Parameter::HeartbeatInfo(
+                            HeartbeatInfoParameter { info: bytes },
+                        );
+                        $does
+                    }
+                    state_cookie_parameter::PARAMETER_TYPE => {
+                        let $parameter = Parameter::StateCookie(
+                            StateCookieParameter { cookie: bytes },
+                        );
+                        $does
+                    }
+                    supported_extensions_parameter::PARAMETER_TYPE => {
+                        let $parameter = Parameter::SupportedExtensions(
+                            SupportedExtensionsParameter { chunk_types: bytes },
+                        );
+                        $does
+                    }
+                    _ => {
+                        let $parameter = Parameter::Unknown(UnknownParameter { typ, value: bytes });
+                        $does
+                    }
+                }
+            }
         }
     };
 }
@@ -161,10 +243,10 @@ impl Parameter {
             ssn_tsn_reset_request_parameter::PARAMETER_TYPE => SsnTsnResetRequestParameter::check(
                 value,
             ),
-            add_outgoing_streams_request_parameter::PARAMETER_TYPE => add_streams_check(value),
-            add_incoming_streams_request_parameter::PARAMETER_TYPE => add_streams_check(value),
             reconfiguration_response_parameter::PARAMETER_TYPE =>
                 ReconfigurationResponseParameter::check(value),
+            add_outgoing_streams_request_parameter::PARAMETER_TYPE => add_streams_check(value),
+            add_incoming_streams_request_parameter::PARAMETER_TYPE => add_streams_check(value),
             zero_checksum_acceptable_parameter::PARAMETER_TYPE =>
                 ZeroChecksumAcceptableParameter::check(value),
             forward_tsn_supported_parameter::PARAMETER_TYPE => ForwardTsnSupportedParameter::check(
@@ -175,51 +257,14 @@ impl Parameter {
     }
 
     /// What the value means.
+    #[tactic(auto, unfolding(crate::specs::HeartbeatInfo::read, crate::specs::StateCookie::read, crate::specs::SupportedExtensions::read, crate::specs::UnknownParameter::read))]
     fn build(alloc: Global, typ: u16, value: &[u8]) -> Result<Self, AllocError>
         requires { HasMeaning (parameter.row typ) value.now }
         ensures meant { IfOk result (λ p. (parameter.row typ).means value.now (view p)) }
         ensures heap { TakesNoMemory typ → IsOk result }
         ensures tight { IfOk result IsTight }
     {
-        Ok(match typ {
-            heartbeat_info_parameter::PARAMETER_TYPE => Parameter::HeartbeatInfo(
-                HeartbeatInfoParameter::build(alloc, value)?,
-            ),
-            state_cookie_parameter::PARAMETER_TYPE => Parameter::StateCookie(
-                StateCookieParameter::build(alloc, value)?,
-            ),
-            outgoing_ssn_reset_request_parameter::PARAMETER_TYPE =>
-                Parameter::OutgoingSsnResetRequest(OutgoingSsnResetRequestParameter::build(
-                    alloc, value,
-                )?),
-            incoming_ssn_reset_request_parameter::PARAMETER_TYPE =>
-                Parameter::IncomingSsnResetRequest(IncomingSsnResetRequestParameter::build(
-                    alloc, value,
-                )?),
-            ssn_tsn_reset_request_parameter::PARAMETER_TYPE => Parameter::SsnTsnResetRequest(
-                SsnTsnResetRequestParameter::build(value),
-            ),
-            reconfiguration_response_parameter::PARAMETER_TYPE =>
-                Parameter::ReconfigurationResponse(ReconfigurationResponseParameter::build(value)),
-            add_outgoing_streams_request_parameter::PARAMETER_TYPE =>
-                Parameter::AddOutgoingStreamsRequest(AddOutgoingStreamsRequestParameter::build(
-                    value,
-                )),
-            add_incoming_streams_request_parameter::PARAMETER_TYPE =>
-                Parameter::AddIncomingStreamsRequest(AddIncomingStreamsRequestParameter::build(
-                    value,
-                )),
-            zero_checksum_acceptable_parameter::PARAMETER_TYPE => Parameter::ZeroChecksumAcceptable(
-                ZeroChecksumAcceptableParameter::build(value),
-            ),
-            supported_extensions_parameter::PARAMETER_TYPE => Parameter::SupportedExtensions(
-                SupportedExtensionsParameter::build(alloc, value)?,
-            ),
-            forward_tsn_supported_parameter::PARAMETER_TYPE => Parameter::ForwardTsnSupported(
-                ForwardTsnSupportedParameter,
-            ),
-            _ => Parameter::Unknown(UnknownParameter::build(alloc, typ, value)?),
-        })
+        built!(typ, alloc, value, parameter => Ok(parameter))
     }
 }
 
@@ -250,82 +295,10 @@ impl ReadableTlv for Parameter {
         value: &[u8],
     ) -> Result<(), AllocError> {
         let typ = u16::from_be_bytes([first, second]);
-        match typ {
-            outgoing_ssn_reset_request_parameter::PARAMETER_TYPE => {
-                list.push_reserved(Parameter::OutgoingSsnResetRequest(
-                    OutgoingSsnResetRequestParameter::build(alloc, value)?,
-                ));
-                Ok(())
-            }
-            incoming_ssn_reset_request_parameter::PARAMETER_TYPE => {
-                list.push_reserved(Parameter::IncomingSsnResetRequest(
-                    IncomingSsnResetRequestParameter::build(alloc, value)?,
-                ));
-                Ok(())
-            }
-            ssn_tsn_reset_request_parameter::PARAMETER_TYPE => {
-                list.push_reserved(Parameter::SsnTsnResetRequest(SsnTsnResetRequestParameter::build(
-                    value,
-                )));
-                Ok(())
-            }
-            add_outgoing_streams_request_parameter::PARAMETER_TYPE => {
-                list.push_reserved(Parameter::AddOutgoingStreamsRequest(
-                    AddOutgoingStreamsRequestParameter::build(value),
-                ));
-                Ok(())
-            }
-            add_incoming_streams_request_parameter::PARAMETER_TYPE => {
-                list.push_reserved(Parameter::AddIncomingStreamsRequest(
-                    AddIncomingStreamsRequestParameter::build(value),
-                ));
-                Ok(())
-            }
-            reconfiguration_response_parameter::PARAMETER_TYPE => {
-                list.push_reserved(Parameter::ReconfigurationResponse(
-                    ReconfigurationResponseParameter::build(value),
-                ));
-                Ok(())
-            }
-            zero_checksum_acceptable_parameter::PARAMETER_TYPE => {
-                list.push_reserved(Parameter::ZeroChecksumAcceptable(
-                    ZeroChecksumAcceptableParameter::build(value),
-                ));
-                Ok(())
-            }
-            forward_tsn_supported_parameter::PARAMETER_TYPE => {
-                list.push_reserved(Parameter::ForwardTsnSupported(ForwardTsnSupportedParameter));
-                Ok(())
-            }
-            _ => {
-                // one copy for all kinds that keep their value, so that each item costs one result
-                let bytes = copied(alloc, value)?;
-                match typ {
-                    heartbeat_info_parameter::PARAMETER_TYPE => {
-                        list.push_reserved(Parameter::HeartbeatInfo(HeartbeatInfoParameter {
-                            info: bytes,
-                        }));
-                    }
-                    state_cookie_parameter::PARAMETER_TYPE => {
-                        list.push_reserved(Parameter::StateCookie(StateCookieParameter {
-                            cookie: bytes,
-                        }));
-                    }
-                    supported_extensions_parameter::PARAMETER_TYPE => {
-                        list.push_reserved(Parameter::SupportedExtensions(
-                            SupportedExtensionsParameter { chunk_types: bytes },
-                        ));
-                    }
-                    _ => {
-                        list.push_reserved(Parameter::Unknown(UnknownParameter {
-                            typ,
-                            value: bytes,
-                        }));
-                    }
-                }
-                Ok(())
-            }
-        }
+        built!(typ, alloc, value, parameter => {
+            list.push_reserved(parameter);
+            Ok(())
+        })
     }
 
     fn accepts_padding(strict: bool, _size: usize, there: &[u8]) -> bool {
@@ -438,6 +411,15 @@ impl From<AddIncomingStreamsRequestParameter> for Parameter {
 }
 
 /// The parameter of this kind, with this value.
+impl From<ZeroChecksumAcceptableParameter> for Parameter {
+    ghost from_gives = { λ kind parameter. parameter ≡ variant.ZeroChecksumAcceptable kind };
+
+    fn from(kind: ZeroChecksumAcceptableParameter) -> Parameter {
+        Parameter::ZeroChecksumAcceptable(kind)
+    }
+}
+
+/// The parameter of this kind, with this value.
 impl From<SupportedExtensionsParameter> for Parameter {
     ghost from_gives = { λ kind parameter. parameter ≡ variant.SupportedExtensions kind };
 
@@ -452,15 +434,6 @@ impl From<ForwardTsnSupportedParameter> for Parameter {
 
     fn from(kind: ForwardTsnSupportedParameter) -> Parameter {
         Parameter::ForwardTsnSupported(kind)
-    }
-}
-
-/// The parameter of this kind, with this value.
-impl From<ZeroChecksumAcceptableParameter> for Parameter {
-    ghost from_gives = { λ kind parameter. parameter ≡ variant.ZeroChecksumAcceptable kind };
-
-    fn from(kind: ZeroChecksumAcceptableParameter) -> Parameter {
-        Parameter::ZeroChecksumAcceptable(kind)
     }
 }
 

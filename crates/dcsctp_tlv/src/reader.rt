@@ -105,10 +105,10 @@ pub fn list_check<T: ReadableTlv>(
     Ok((items, parts))
 }
 
+// A part of its callers: as a call it would also copy the unused bytes of a fault that isn't there.
 /// Counts the parts of an item whose value is a list from byte `place` on: the item and the items
 /// of the list; or returns the list's first fault, with the offset from the item's first byte. Does
 /// not allocate.
-// A part of its callers: as a call it would also copy the unused bytes of a fault that isn't there.
 #[inline(always)]
 pub fn listed_check<T: ReadableTlv>(
     strict: bool,

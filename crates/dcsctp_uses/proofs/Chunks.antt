@@ -54,7 +54,8 @@ next_built raw bytes left built chunk all means reads h =
       f.others,
       f.mean,
       one_more built chunk f.others ∙ ap (λ (t : ChunkTree). views built
-          ++ t ∷ f.others) same ∙ ap (λ (ts : List ChunkTree). views built ++ ts) (sym f.split) ∙ h.2,
+          ++ t ∷ f.others) same ∙ ap (λ (ts : List ChunkTree). views built ++ ts) (sym f.split)
+          ∙ h.2,
     )
 
 -- no fault is that memory ran out

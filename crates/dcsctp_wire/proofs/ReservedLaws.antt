@@ -1,22 +1,21 @@
 -- What a packet that was read is reserved is bounded by the length of its bytes.
 use Rattle.std.proofs.Common.{◌≡◌, ℕ, ◌+◌, ◌-◌, ◌*◌, ◌≤◌, Bool, true, false, List, [], ◌∷◌, ◌++◌, length, map, refl, sym, ap, subst, ◌∙◌, arith, ◌⊎◌, inl, inr, Result, Ok, Err}
 use Rattle.std.specs.Prelude.{◌==◌, IfOk, All, codes, vec_len, vec_capacity}
-use Rattle.std.specs.List.{flat_map}
 use Rattle.std.specs.Str.{is_utf8, IsUtf8}
 use Rattle.std.proofs.lemmas.Bool.{eqb-true}
-use Rattle.std.proofs.lemmas.List.{append-nil, length-append, length-drop, length-map}
+use Rattle.std.proofs.lemmas.List.{length-drop, length-map}
 use Rattle.std.proofs.lemmas.List.Elements.{All-head, All-tail}
 use Rattle.std.proofs.lemmas.Str.{IsUtf8-from_is_utf8, is_utf8-from_IsUtf8, IsUtf8-nil}
 use Rattle.std.specs.declared.vec.Vec.{Vec}
 use Rattle.dcsctp_tlv.specs.Count.{total}
-use Rattle.dcsctp_tlv.specs.Frame.{Item, item_bytes, AreFormed, lenient, padding_size, round_up_to_4}
-use Rattle.dcsctp_tlv.specs.Image.{Tlv, size_of, list_size}
-use Rattle.dcsctp_tlv.specs.Level.{Level, ItemsMean, MeansTrees}
+use Rattle.dcsctp_tlv.specs.Frame.{Item, lenient, round_up_to_4}
+use Rattle.dcsctp_tlv.specs.Image.{size_of}
+use Rattle.dcsctp_tlv.specs.Level.{map_ok, MeansTrees}
 use Rattle.dcsctp_tlv.specs.Parameter as parameter
 use Rattle.dcsctp_tlv.specs.Parameter.{ParameterTree, parameters}
 use Rattle.dcsctp_tlv.specs.declared.parameter.Parameter.{Parameter}
 use Rattle.dcsctp_tlv.specs.declared.parameter.Parameter.TheVariants as parameter_kind
-use Rattle.dcsctp_tlv.proofs.Accounts.{length-item}
+use Rattle.dcsctp_tlv.proofs.Bounds.{list_held, list_fits, Bounds, list_bound}
 use Rattle.dcsctp_tlv.proofs.KindLaws.{of_map_ok, of_ok}
 use Rattle.dcsctp_cause.specs.Cause as cause
 use Rattle.dcsctp_cause.specs.Cause.{CauseTree, causes}
@@ -64,10 +63,6 @@ cause_held (cause.UserInitiatedAbort reason) = length reason
 cause_held (cause.ProtocolViolation information) = length information
 cause_held (cause.Unknown u) = length u.value
 
--- a list, with the headers of its items
-abbrev list_held : {T : Type 0} → (T → ℕ) → List T → ℕ
-list_held held ts = 4 * length ts + total held ts
-
 abbrev chunk_held : ChunkTree → ℕ
 chunk_held (Data c) = length c.user_data.payload
 chunk_held (Init i) = list_held parameter_held i.parameters
@@ -113,18 +108,6 @@ cause_fits (cause.UserInitiatedAbort reason) = omega arith
 cause_fits (cause.ProtocolViolation information) = omega arith
 cause_fits (cause.Unknown u) = omega arith
 
-list_fits : {T : Type 0} (held : T → ℕ) (tlv : T → Tlv) → ((t : T) → 4 + held t ≤ size_of (tlv t))
-    → (ts : List T) → list_held held ts ≤ list_size tlv ts
-list_fits held tlv law [] = omega arith
-list_fits held tlv law (t ∷ []) = let h = law t in omega (arith, h)
-list_fits held tlv law (t ∷ u ∷ ts) =
-    let h = law t in let rest = list_fits held tlv law (u ∷ ts) in
-    two (held t) (total held (u ∷ ts)) (length (u ∷ ts)) (length (t ∷ u ∷ ts)) (size_of (tlv t))
-    (list_size tlv (u ∷ ts)) (omega arith) h rest where
-      two : (h r n k s l : ℕ) → k ≡ 1 + n → 4 + h ≤ s → 4 * n + r ≤ l
-          → 4 * k + (h + r) ≤ round_up_to_4 s + l
-      two h r n k s l e p q = omega (arith, e, p, q)
-
 chunk_fits : (t : ChunkTree) → 4 + chunk_held t ≤ size_of (chunk_tlv t)
 chunk_fits (Data c) = omega arith
 chunk_fits (Init i) = let h =
@@ -148,51 +131,6 @@ chunk_fits (IForwardTsn f) = omega arith
 chunk_fits (Unknown u) = omega arith
 chunk_fits t = omega arith
 
--- ---- lists: what is held is at most six times the bytes, and some more where the last item lacks
--- its padding
-
-record Bounds {T : Type 0} (level : Level T) (held : T → ℕ) (more : ℕ) : Type 0 where
-  pub padded : (i : Item) (t : T) → (level.row i.first i.second).means i.value t
-      → 4 + held t ≤ 6 * round_up_to_4 (4 + length i.value)
-  pub alone : (i : Item) (t : T) → (level.row i.first i.second).means i.value t
-      → 4 + held t ≤ 6 * (4 + length i.value) + more
-
-items_bound : {T : Type 0} (level : Level T) (held : T → ℕ) (more : ℕ) → Bounds level held more
-    → (is : List Item) (ts : List T) → AreFormed level.padding is → ItemsMean level is ts
-    → list_held held ts ≤ 6 * length (flat_map item_bytes is) + more
-items_bound level held more law [] [] p m = omega arith
-items_bound level held more law [] (t ∷ ts) p m = absurd m
-items_bound level held more law (i ∷ is) [] p m = absurd m
-items_bound level held more law (i ∷ []) (t ∷ []) p m =
-    let e : length (item_bytes i ++ []) ≡ 4 + (length i.value + length i.padding) =
-    ap length (append-nil (item_bytes i)) ∙ length-item i in
-    last (held t) (length i.value) (length i.padding) more (length (item_bytes i ++ []))
-    (law.alone i t m.0) e where
-      last : (h n p more all : ℕ) → 4 + h ≤ 6 * (4 + n) + more → all ≡ 4 + (n + p)
-          → 4 * 1 + (h + 0) ≤ 6 * all + more
-      last h n p more all a e = omega (arith, a, e)
-items_bound level held more law (i ∷ []) (t ∷ u ∷ ts) p m = absurd m.1
-items_bound level held more law (i ∷ j ∷ is) (t ∷ []) p m = absurd m.1
-items_bound level held more law (i ∷ j ∷ is) (t ∷ u ∷ ts) p m =
-    let rest = flat_map item_bytes (j ∷ is) in
-    let e = length-append (item_bytes i) rest ∙ ap (λ (n : ℕ). n + length rest) (length-item i) in
-    front (held t) (total held (u ∷ ts)) (length (u ∷ ts)) (length (t ∷ u ∷ ts)) (omega arith)
-    (length i.value) (length i.padding) more
-    (length rest) (length (item_bytes i ++ rest)) (law.padded i t m.0) p.0.padded
-    (items_bound level held more law (j ∷ is) (u ∷ ts) p.1 m.1) e where
-      front : (h d k j : ℕ) → j ≡ 1 + k → (n p more r all : ℕ) → 4 + h ≤ 6 * round_up_to_4 (4 + n)
-          → p ≡ padding_size n
-          → 4 * k + d ≤ 6 * r + more → all ≡ 4 + (n + p) + r
-          → 4 * j + (h + d) ≤ 6 * all + more
-      front h d k j one n p more r all a b c e = omega (arith, one, a, b, c, e)
-
-list_bound : {T : Type 0} (level : Level T) (held : T → ℕ) (more : ℕ) → Bounds level held more
-    → (bytes : List ℕ) (ts : List T) → MeansTrees level bytes ts
-    → list_held held ts ≤ 6 * length bytes + more
-list_bound level held more law bytes ts m =
-    subst (λ (n : ℕ). list_held held ts ≤ 6 * n + more) (ap length (sym m.are.split))
-    (items_bound level held more law m.items ts m.are.formed m.mean)
-
 -- ---- causes: a text that isn't UTF-8 has at least one byte, and is replaced by at most 38
 
 -- what is held for a value of n bytes
@@ -202,25 +140,15 @@ IsBounded held n = (4 + held ≤ 4 + n) ⊎ ((1 ≤ n) × (held ≤ 38))
 abbrev CauseBounded : ℕ → List ℕ → CauseTree → Type 0
 CauseBounded code value t = (cause.row code).means value t → IsBounded (cause_held t) (length value)
 
-broken_abort : (value : List ℕ) (t : CauseTree) → is_utf8 value ≡ false
-    → (cause.row 12).means value t → cause_held t ≤ 38
-unfolding user_abort.read
-broken_abort value t broken m =
-    let x = of_map_ok cause.UserInitiatedAbort (user_abort.read value) t m in
-    let is = of_ok (text_or (codes "Failed to parse abort reason") value) x.0 x.1.0 in
-    let e : cause_held t ≡ length (text_or (codes "Failed to parse abort reason") value) =
-    ap cause_held x.1.1 ∙ ap length (sym is) in
-    subst (λ (n : ℕ). n ≤ 38) (sym e) (rw broken (omega arith))
-
-broken_violation : (value : List ℕ) (t : CauseTree) → is_utf8 value ≡ false
-    → (cause.row 13).means value t → cause_held t ≤ 38
-unfolding violation.read
-broken_violation value t broken m =
-    let x = of_map_ok cause.ProtocolViolation (violation.read value) t m in
-    let is = of_ok (text_or (codes "Failed to parse additional information") value) x.0 x.1.0 in
-    let e : cause_held t ≡ length (text_or (codes "Failed to parse additional information") value) =
-    ap cause_held x.1.1 ∙ ap length (sym is) in
-    subst (λ (n : ℕ). n ≤ 38) (sym e) (rw broken (omega arith))
+broken_text : (tree : List ℕ → CauseTree) (fixed value : List ℕ) (t : CauseTree)
+    → ((x : List ℕ) → cause_held (tree x) ≡ length x) → length fixed ≤ 38
+    → is_utf8 value ≡ false → map_ok tree (Ok (text_or fixed value)) ≡ Ok t → cause_held t ≤ 38
+broken_text tree fixed value t held few broken m =
+    let x = of_map_ok tree (Ok (text_or fixed value)) t m in
+    let is = of_ok (text_or fixed value) x.0 x.1.0 in
+    let e : cause_held t ≡ length (text_or fixed value) =
+    ap cause_held x.1.1 ∙ held x.0 ∙ ap length (sym is) in
+    subst (λ (n : ℕ). n ≤ 38) (sym e) (rw broken few)
 
 some_byte : (value : List ℕ) → is_utf8 value ≡ false → 1 ≤ length value
 some_byte [] e = absurd (let p : true ≡ false = sym (is_utf8-from_IsUtf8 [] IsUtf8-nil) ∙ e in cc)
@@ -228,6 +156,7 @@ some_byte (x ∷ xs) e = omega arith
 
 cause_bounded : (i : Item) (t : CauseTree) → (cause.row (item_code i)).means i.value t
     → IsBounded (cause_held t) (length i.value)
+unfolding user_abort.read violation.read
 cause_bounded i t m = by_text (is_utf8 i.value) refl where
   kept : (cause.HoldsText (item_code i) → IsUtf8 i.value)
       → IsBounded (cause_held t) (length i.value)
@@ -241,13 +170,13 @@ cause_bounded i t m = by_text (is_utf8 i.value) refl where
   by_code true b broken p q =
       inr (
         some_byte i.value broken,
-        broken_abort i.value t broken
+        broken_text cause.UserInitiatedAbort _ i.value t (λ x. refl) (omega arith) broken
             (subst (λ (c : ℕ). (cause.row c).means i.value t) (eqb-true (item_code i) 12 p) m),
       )
   by_code false true broken p q =
       inr (
         some_byte i.value broken,
-        broken_violation i.value t broken
+        broken_text cause.ProtocolViolation _ i.value t (λ x. refl) (omega arith) broken
             (subst (λ (c : ℕ). (cause.row c).means i.value t) (eqb-true (item_code i) 13 q) m),
       )
   by_code false false broken p q = kept (λ is. elim is [
@@ -275,28 +204,12 @@ causes_bound = record {
 
 -- ---- chunks: the chunk's own header makes up for the padding that its last cause lacks
 
-listed : (held value : ℕ) → held ≤ 6 * value + 12 → 4 + held ≤ 6 * (4 + value)
-listed held value h = omega (arith, h)
-
-abort_bound : (flags : ℕ) (value : List ℕ) (t : ChunkTree) → (chunk_row lenient 6 flags).means value
-    t
+causes_chunk : (value : List ℕ) (t : ChunkTree) (cs : List CauseTree)
+    → chunk_held t ≡ list_held cause_held cs → MeansTrees (causes lenient) value cs
     → 4 + chunk_held t ≤ 6 * (4 + length value)
-abort_bound flags value t m =
-    let e : chunk_held t ≡ list_held cause_held m.1.1.0 = ap chunk_held m.2
-    ∙ ap (λ (a : AbortTree). list_held cause_held a.causes) m.1.1.2 in
-    subst (λ (n : ℕ). 4 + n ≤ 6 * (4 + length value)) (sym e)
-    (listed (list_held cause_held m.1.1.0) (length value)
-    (list_bound (causes lenient) cause_held 12 causes_bound value m.1.1.0 m.1.1.1))
-
-error_bound : (flags : ℕ) (value : List ℕ) (t : ChunkTree) → (chunk_row lenient 9 flags).means value
-    t
-    → 4 + chunk_held t ≤ 6 * (4 + length value)
-error_bound flags value t m =
-    let e : chunk_held t ≡ list_held cause_held m.1.1.0 = ap chunk_held m.2
-    ∙ ap (list_held cause_held) m.1.1.2 in
-    subst (λ (n : ℕ). 4 + n ≤ 6 * (4 + length value)) (sym e)
-    (listed (list_held cause_held m.1.1.0) (length value)
-    (list_bound (causes lenient) cause_held 12 causes_bound value m.1.1.0 m.1.1.1))
+causes_chunk value t cs e m =
+    let h = list_bound (causes lenient) cause_held 12 causes_bound value cs m in
+    omega (arith, e, h)
 
 chunk_bound : (i : Item) (t : ChunkTree) → (chunk_row lenient i.first i.second).means i.value t
     → 4 + chunk_held t ≤ 6 * (4 + length i.value)
@@ -304,11 +217,15 @@ chunk_bound i t m = by_type (i.first == 6) (i.first == 9) refl refl where
   by_type : (a b : Bool) → (i.first == 6) ≡ a → (i.first == 9) ≡ b
       → 4 + chunk_held t ≤ 6 * (4 + length i.value)
   by_type true b p q =
-      abort_bound i.second i.value t
-      (subst (λ (c : ℕ). (chunk_row lenient c i.second).means i.value t) (eqb-true i.first 6 p) m)
+      let n : (chunk_row lenient 6 i.second).means i.value t =
+      subst (λ (c : ℕ). (chunk_row lenient c i.second).means i.value t) (eqb-true i.first 6 p) m in
+      causes_chunk i.value t n.1.1.0 (ap chunk_held n.2
+      ∙ ap (λ (a : AbortTree). list_held cause_held a.causes) n.1.1.2) n.1.1.1
   by_type false true p q =
-      error_bound i.second i.value t
-      (subst (λ (c : ℕ). (chunk_row lenient c i.second).means i.value t) (eqb-true i.first 9 q) m)
+      let n : (chunk_row lenient 9 i.second).means i.value t =
+      subst (λ (c : ℕ). (chunk_row lenient c i.second).means i.value t) (eqb-true i.first 9 q) m in
+      causes_chunk i.value t n.1.1.0 (ap chunk_held n.2 ∙ ap (list_held cause_held) n.1.1.2)
+      n.1.1.1
   by_type false false p q =
       let a = (chunks_account.sized i t (λ is. elim is [
         | inl e ↦ absurd (let h : false ≡ true = sym p ∙ ap (λ (n : ℕ). n == 6) e in cc)

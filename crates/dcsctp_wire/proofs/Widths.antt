@@ -198,10 +198,10 @@ parameter = declared_enum_known Parameter.the_type (
     &
     one (fields AddIncomingStreamsRequestParameter.the_type (uint_known w32 & uint_known w16 & tt))
     &
-    one (fields SupportedExtensionsParameter.the_type (bytes & tt)) &
-    one (nothing_known _) &
     one (fields ZeroChecksumAcceptableParameter.the_type
     (fields Method.the_type (uint_known w32 & tt) & tt)) &
+    one (fields SupportedExtensionsParameter.the_type (bytes & tt)) &
+    one (nothing_known _) &
     one unknown_parameter & tt)
 
 parameter_width : (p : (Parameter.the_row).Denot) → parameter.Fact p
@@ -228,9 +228,9 @@ parameter_width (parameter_kinds.AddOutgoingStreamsRequest p) f =
     record { request = f.0.0; new_streams = f.0.1.0 }
 parameter_width (parameter_kinds.AddIncomingStreamsRequest p) f =
     record { request = f.0.0; new_streams = f.0.1.0 }
+parameter_width (parameter_kinds.ZeroChecksumAcceptable p) f = f.0.0.0
 parameter_width (parameter_kinds.SupportedExtensions p) f = bytes_width p.chunk_types.items f.0.0
 parameter_width (parameter_kinds.ForwardTsnSupported p) f = tt
-parameter_width (parameter_kinds.ZeroChecksumAcceptable p) f = f.0.0.0
 parameter_width (parameter_kinds.Unknown u) f = unknown_parameter_width u f.0
 
 abbrev parameter_list : Known (Vec.the_row Parameter.the_row Global.the_row TheImpl.ghosts)
@@ -250,23 +250,23 @@ text_width s f = record { fits = bytes_width (string_bytes s) f.0; utf8 = IsUtf8
 
 abbrev error_cause : Known ErrorCause.the_row
 error_cause = declared_enum_known ErrorCause.the_type (
+    one (fields MissingMandatoryParameterErrorCause.the_type (vec (uint_known w16) & tt)) &
     one (fields UnrecognizedChunkErrorCause.the_type (bytes & tt)) &
     one (fields NoUserDataErrorCause.the_type (tsn & tt)) &
     one (nothing_known _) &
     one (fields UserInitiatedAbortErrorCause.the_type (text & tt)) &
     one (fields ProtocolViolationErrorCause.the_type (text & tt)) &
-    one (fields MissingMandatoryParameterErrorCause.the_type (vec (uint_known w16) & tt)) &
     one unknown_parameter & tt)
 
 error_cause_width : (c : (ErrorCause.the_row).Denot) → error_cause.Fact c
     → IsCauseInWidth (causes.view c)
+error_cause_width (cause_kinds.MissingMandatoryParameter c) f =
+    every _ _ (λ typ w. w) c.missing_parameters.items f.0.0
 error_cause_width (cause_kinds.UnrecognizedChunk c) f = bytes_width c.chunk.items f.0.0
 error_cause_width (cause_kinds.NoUserData c) f = f.0.0.0
 error_cause_width (cause_kinds.CookieReceivedWhileShuttingDown c) f = tt
 error_cause_width (cause_kinds.UserInitiatedAbort c) f = text_width c.reason f.0.0
 error_cause_width (cause_kinds.ProtocolViolation c) f = text_width c.information f.0.0
-error_cause_width (cause_kinds.MissingMandatoryParameter c) f =
-    every _ _ (λ typ w. w) c.missing_parameters.items f.0.0
 error_cause_width (cause_kinds.Unknown u) f = unknown_parameter_width u f.0
 
 abbrev error_causes : Known (Vec.the_row ErrorCause.the_row Global.the_row TheImpl.ghosts)
@@ -319,9 +319,9 @@ chunk = declared_enum_known Chunk.the_type (
     one (fields CookieEchoChunk.the_type (bytes & tt)) &
     one (nothing_known _) &
     one (nothing_known _) &
+    one (fields IDataChunk.the_type (user_data & tsn & nothing_known _ & tt)) &
     one (fields ReConfigChunk.the_type (parameter_list & tt)) &
     one (fields ForwardTsnChunk.the_type (tsn & skipped_streams & tt)) &
-    one (fields IDataChunk.the_type (user_data & tsn & nothing_known _ & tt)) &
     one (fields IForwardTsnChunk.the_type (tsn & skipped_streams & tt)) &
     one (fields UnknownChunk.the_type (uint_known w8 & uint_known w8 & bytes & tt)) & tt)
 
@@ -376,10 +376,10 @@ chunk_width (kinds.Error c) f = error_causes_width c.error_causes.items f.0.0
 chunk_width (kinds.CookieEcho c) f = bytes_width c.cookie.items f.0.0
 chunk_width (kinds.CookieAck c) f = tt
 chunk_width (kinds.ShutdownComplete c) f = tt
+chunk_width (kinds.IData c) f = user_data_width c.tsn.0 f.0.1.0.0 c.user_data c.immediate_ack f.0.0
 chunk_width (kinds.ReConfig c) f = parameters_width c.parameters.items f.0.0
 chunk_width (kinds.ForwardTsn c) f =
     record { tsn = f.0.0.0; streams = skipped_streams_width c.skipped_streams.items f.0.1.0 }
-chunk_width (kinds.IData c) f = user_data_width c.tsn.0 f.0.1.0.0 c.user_data c.immediate_ack f.0.0
 chunk_width (kinds.IForwardTsn c) f =
     record { tsn = f.0.0.0; streams = skipped_streams_width c.skipped_streams.items f.0.1.0 }
 chunk_width (kinds.Unknown c) f = (f.0.0, f.0.1.0, bytes_width c.value.items f.0.1.1.0)

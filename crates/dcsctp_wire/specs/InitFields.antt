@@ -11,7 +11,7 @@ use Rattle.dcsctp_tlv.specs.Image.{listed_tlv}
 use Rattle.dcsctp_tlv.specs.Parameter as parameter
 use Rattle.dcsctp_tlv.proofs.Listed.{listed_sized}
 use Rattle.dcsctp_tlv.proofs.ParameterLaws.{length-parameter}
-use Rattle.dcsctp_wire.specs.declared.packet.init.InitFields.{InitFields}
+use Rattle.dcsctp_wire.specs.declared.packet.init_fields.InitFields.{InitFields}
 
 pub record Tree : Type 0 where
   pub tag : ℕ

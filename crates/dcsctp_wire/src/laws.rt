@@ -100,7 +100,8 @@ pub fn strict_is_lenient()
 /// can be written; so is a caller's own type. `serialize_to` leaves the bytes after them as they
 /// were.
 pub fn image_size<T: SerializableTlv>()
-    ensures size { (item : T) → length (image_of (T.format item).tlv) ≡ size_of (T.format item).tlv }
+    ensures size { (item : T)
+        → length (image_of (T.format item).tlv) ≡ size_of (T.format item).tlv }
     ensures after { (item : T) (output : List ℕ)
         → drop (size_of (T.format item).tlv) (written (image_of (T.format item).tlv) output)
         ≡ drop (size_of (T.format item).tlv) output }

@@ -6,7 +6,8 @@ use Rattle.std.proofs.lemmas.List.{length-drop, get_or-drop, drop_all, drop-drop
 use Rattle.sctp_capture.specs.HexBytes.{is_blank}
 use Rattle.sctp_capture.specs.Line.{is_gap, groups_length}
 
-gap_front : (a b : ℕ) (text : List ℕ) → is_blank a && is_blank b ≡ true → groups_length (a ∷ b ∷ text) ≡ 0
+gap_front : (a b : ℕ) (text : List ℕ) → is_blank a && is_blank b ≡ true
+    → groups_length (a ∷ b ∷ text) ≡ 0
 unfolding groups_length
 gap_front a b text gap = rw gap refl
 
@@ -27,7 +28,8 @@ from_gap : (text : List ℕ) → is_gap text 0 ≡ true → groups_length text �
 from_gap [] gap = absurd (grind (arith, nat_tests))
 from_gap (a ∷ []) gap = absurd (grind (arith, nat_tests))
 from_gap (a ∷ b ∷ text) gap =
-    gap_front a b text (and_parts (nat_lt 1 (length (a ∷ b ∷ text))) (is_blank a && is_blank b) gap).1
+    gap_front a b text (and_parts (nat_lt 1 (length (a ∷ b ∷ text))) (is_blank a && is_blank b)
+    gap).1
 
 from_no_gap : (text : List ℕ) → 0 < length text → is_gap text 0 ≡ false
     → groups_length text ≡ 1 + groups_length (drop 1 text)
@@ -40,8 +42,10 @@ from_no_gap (a ∷ b ∷ text) some gap =
 -- two blanks at a place are at the front of what is left there
 gap_after : (text : List ℕ) (at : ℕ) → is_gap (drop at text) 0 ≡ is_gap text at
 gap_after text at =
-    let size : nat_lt (0 + 1) (length (drop at text)) ≡ nat_lt (at + 1) (length text) = (let n = length-drop at text in grind (arith, nat_tests)) in
-    let one : get_or (drop at text) 0 0 ≡ get_or text at 0 = get_or-drop at text 0 0 ∙ ap (λ (k : ℕ). get_or text k 0) (add-zero at) in
+    let size : nat_lt (0 + 1) (length (drop at text)) ≡ nat_lt (at + 1) (length text) =
+    (let n = length-drop at text in grind (arith, nat_tests)) in
+    let one : get_or (drop at text) 0 0 ≡ get_or text at 0 = get_or-drop at text 0 0
+    ∙ ap (λ (k : ℕ). get_or text k 0) (add-zero at) in
     let two : get_or (drop at text) (0 + 1) 0 ≡ get_or text (at + 1) 0 = get_or-drop at text 1 0 in
     rw (size, one, two) refl
 
@@ -49,7 +53,8 @@ gap_after text at =
 pub groups_end : (text : List ℕ) (at : ℕ) → length text ≤ at → groups_length (drop at text) ≡ 0
 groups_end text at end = ap groups_length (drop_all at text end) ∙ none_front
 
-pub groups_at_gap : (text : List ℕ) (at : ℕ) → is_gap text at ≡ true → groups_length (drop at text) ≡ 0
+pub groups_at_gap : (text : List ℕ) (at : ℕ) → is_gap text at ≡ true
+    → groups_length (drop at text) ≡ 0
 groups_at_gap text at gap = from_gap (drop at text) (gap_after text at ∙ gap)
 
 pub groups_past : (text : List ℕ) (at : ℕ) → at < length text → is_gap text at ≡ false

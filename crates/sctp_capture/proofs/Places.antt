@@ -17,12 +17,15 @@ pub first_place : {X : Type 0} (p : X → Bool) (xs : List X)
 first_place p xs = let h = place_within p xs in grind (arith, nat_tests)
 
 -- the bytes before the first that isn't a digit are digits
-pub digits_before : (text : List ℕ) (n : ℕ) → n ≡ offset_length text → (k d : ℕ) → k < length (take n text)
+pub digits_before : (text : List ℕ) (n : ℕ) → n ≡ offset_length text → (k d : ℕ)
+    → k < length (take n text)
     → is_ascii_hexdigit (get_or (take n text) k d) ≡ true
 digits_before text n is k d below =
     let within : k < n = omega (arith, length-take n text) in
-    let before = fails_before_first (λ (byte : ℕ). not (is_ascii_hexdigit byte)) text k d (subst (λ (m : ℕ). k < m) is within) in
-    rw (get_or-take n text k d within) (not_false (is_ascii_hexdigit (get_or text k d)) before) where
-      not_false : (b : Bool) → not b ≡ false → b ≡ true
-      not_false true e = refl
-      not_false false e = cc
+    let before = fails_before_first (λ (byte : ℕ). not (is_ascii_hexdigit byte)) text k d
+    (subst (λ (m : ℕ). k < m) is within) in
+    rw (get_or-take n text k d within) (not_false (is_ascii_hexdigit (get_or text k d)) before)
+  where
+    not_false : (b : Bool) → not b ≡ false → b ≡ true
+    not_false true e = refl
+    not_false false e = cc

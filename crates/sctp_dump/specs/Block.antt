@@ -27,7 +27,8 @@ abbrev pub unless : Bool → List ℕ → List ℕ
 unless hidden text = if hidden then [] else text
 
 -- The text of a packet that was seen so: all that it holds, or the fault of its bytes, and an empty
--- line. An accepted packet is left out where faults alone are printed, and both where counts alone are.
+-- line. An accepted packet is left out where faults alone are printed, and both where counts alone
+-- are.
 pub data Block (o : Options) (seen : Seen) (bytes : List ℕ) (text : List ℕ) : Type 0 where
   accepted : (p : PacketTree) → Answer bytes (packet_word bytes) (policy_of o) (Ok p)
       → text ≡ unless (o.summary || o.faults)

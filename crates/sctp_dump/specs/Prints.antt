@@ -8,12 +8,13 @@ use Rattle.sctp_dump.specs.declared.failure.Failure.TheVariants.{OutOfMemory, Wr
 
 -- The output grew by the text of `bytes`, which are all that was left of the input, where that is
 -- known and shorter than 2^64 bytes. `Text` says which text bytes have.
-pub record PrintsAll (Text : List ℕ → List ℕ → Type 0) (left old new : Option (List ℕ)) : Type 0 where
-  pub bytes : List ℕ
-  pub text : List ℕ
-  pub all : IfSome left (λ l. length l < 2 ^ 64 → l ≡ bytes)
-  pub has_text : Text bytes text
-  pub appends : Appends old new text
+pub record PrintsAll (Text : List ℕ → List ℕ → Type 0) (left old new : Option (List ℕ)) : Type 0
+  where
+    pub bytes : List ℕ
+    pub text : List ℕ
+    pub all : IfSome left (λ l. length l < 2 ^ 64 → l ≡ bytes)
+    pub has_text : Text bytes text
+    pub appends : Appends old new text
 
 -- What the output is after a failure, where it was to grow by this text. It did, but for a failure
 -- that ends the program: of the output, or of memory. Then the writer has a beginning of it all.

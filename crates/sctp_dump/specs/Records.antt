@@ -36,7 +36,8 @@ skipped_for frame.Other = Other
 abbrev pub skipped_record : Options → ℕ → Skipped → List ℕ
 skipped_record o number why = skipped_text o part.Record number why
 
--- the text of the packet that is found in the record's frame, or the line that says why there is none
+-- the text of the packet that is found in the record's frame, or the line that says why there is
+-- none
 abbrev pub FrameText : Options → FileHeader → ℕ → Record → Result Packet NoPacket → List ℕ → Type 0
 FrameText o header number r (Ok p) text = Block o (seen_in header number r p) p.bytes text
 FrameText o header number r (Err why) text = text ≡ skipped_record o number (skipped_for why)

@@ -248,8 +248,8 @@ fn front(bytes: &[u8], count: usize) -> &[u8]
     &bytes[..count]
 }
 
-/// Adds the line of a record whose frame is too long, drops the frame, and answers whether the input
-/// had all of it.
+/// Adds the line of a record whose frame is too long, drops the frame, and answers whether the
+/// input had all of it.
 fn skip_long<R: Read, W: Write>(
     options: &Options,
     record_header: &RecordHeader,

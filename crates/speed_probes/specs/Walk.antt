@@ -1,6 +1,6 @@
--- What a walk over a packet in its bytes adds up, modulo 2^64: every number of DATA (RFC 9260 section
--- 3.3.1), of I-DATA (RFC 8260 section 2.1) and of SACK (RFC 9260 section 3.3.4), and 1 for any other
--- chunk.
+-- What a walk over a packet in its bytes adds up, modulo 2^64: every number of DATA (RFC 9260
+-- section 3.3.1), of I-DATA (RFC 8260 section 2.1) and of SACK (RFC 9260 section 3.3.4), and 1 for
+-- any other chunk.
 use Rattle.std.specs.Prelude.{ℕ, ◌+◌, ◌%◌, ◌^◌, Bool, List, [], ◌∷◌, length, if◌then◌else◌}
 use Rattle.dcsctp_chunk.specs.Data as data_kind
 use Rattle.dcsctp_chunk.specs.Sack as sack

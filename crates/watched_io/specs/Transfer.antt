@@ -9,7 +9,8 @@ TakesAtMost most old new = (taken : List ℕ) × (length taken ≤ most) × Cons
 
 -- the writer took a beginning of the bytes
 abbrev pub AppendsBeginning : Option (List ℕ) → Option (List ℕ) → List ℕ → Type 0
-AppendsBeginning old new bytes = (written : List ℕ) × StartsWith bytes written × Appends old new written
+AppendsBeginning old new bytes =
+    (written : List ℕ) × StartsWith bytes written × Appends old new written
 
 -- a read behind the first `end` bytes of the memory added these many bytes
 abbrev pub AddsBehind : ℕ → ℕ → List ℕ → Option (List ℕ) → List ℕ → Option (List ℕ) → Type 0

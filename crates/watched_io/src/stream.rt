@@ -108,7 +108,8 @@ pub fn skip<R: Read, W: Write>(
         (left window.new (R.remaining (device_of input.new)))) }
     ensures end { IfOk result (λ b. b ≡ false → IsAtEnd (R.remaining (device_of input.new))) }
     ensures short { IfOk result (λ b. b ≡ false
-        → IfSome (left window.old (R.remaining (device_of input.old))) (λ all. length all < count)) }
+        → IfSome (left window.old (R.remaining (device_of input.old)))
+        (λ all. length all < count)) }
     ensures text { OnOk result (Keeps (total W.contents output.old) (total W.contents output.new)) }
     ensures unread { IsErrOf result Read
         → Keeps (total W.contents output.old) (total W.contents output.new) }

@@ -26,12 +26,12 @@ pub fn clean_sack(mut sack: SackChunk) -> SackChunk
     sack
 }
 
+// Not inlined, so that `clean_sack` of a valid SACK moves nothing.
 /// Replaces the blocks by the runs of the offsets that they cover, by rising start: as few blocks
 /// as there can be.
 ///
 /// It works in the vector itself and does not allocate. Blocks that `validate_sack` accepts stay as
 /// they are.
-// Not inlined, so that `clean_sack` of a valid SACK moves nothing.
 #[inline(never)]
 pub fn clean_blocks(blocks: &mut Vec<GapAckBlock>)
     ensures cleaned { IsCleaned blocks.old.items blocks.new.items }

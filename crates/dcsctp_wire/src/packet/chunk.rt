@@ -18,9 +18,9 @@ use crate::packet::heartbeat_ack_chunk::{self, HeartbeatAckChunk};
 use crate::packet::heartbeat_request_chunk::{self, HeartbeatRequestChunk};
 use crate::packet::idata_chunk::{self, IDataChunk};
 use crate::packet::iforward_tsn_chunk::{self, IForwardTsnChunk};
-use crate::packet::init::{FIXED_SIZE, init_check, init_numbers};
 use crate::packet::init_ack_chunk::{self, InitAckChunk};
 use crate::packet::init_chunk::{self, InitChunk};
+use crate::packet::init_fields::{FIXED_SIZE, init_check, init_numbers};
 use crate::packet::parameter_list::parameter_list_check;
 use crate::packet::re_config_chunk::{self, ReConfigChunk};
 use crate::packet::sack_chunk::{self, SackChunk};
@@ -69,12 +69,12 @@ pub enum Chunk {
     CookieAck(CookieAckChunk),
     /// SHUTDOWN COMPLETE (RFC 9260 section 3.3.13), type 14.
     ShutdownComplete(ShutdownCompleteChunk),
+    /// I-DATA (RFC 8260 section 2.1), type 64.
+    IData(IDataChunk),
     /// RE-CONFIG (RFC 6525 section 3.1), type 130.
     ReConfig(ReConfigChunk),
     /// FORWARD-TSN (RFC 3758 section 3.2), type 192.
     ForwardTsn(ForwardTsnChunk),
-    /// I-DATA (RFC 8260 section 2.1), type 64.
-    IData(IDataChunk),
     /// I-FORWARD-TSN (RFC 8260 section 2.3.1), type 194.
     IForwardTsn(IForwardTsnChunk),
     /// A chunk of any other type.
@@ -98,11 +98,64 @@ macro_rules! each_kind {
             Chunk::CookieEcho($kind) => $does,
             Chunk::CookieAck($kind) => $does,
             Chunk::ShutdownComplete($kind) => $does,
+            Chunk::IData($kind) => $does,
             Chunk::ReConfig($kind) => $does,
             Chunk::ForwardTsn($kind) => $does,
-            Chunk::IData($kind) => $does,
             Chunk::IForwardTsn($kind) => $does,
             Chunk::Unknown($kind) => $does,
+        }
+    };
+}
+
+/// What a value of a plain type means is built, and something is done with it; the other types have
+/// the arms that follow.
+macro_rules! built {
+    (
+        $typ:expr, $alloc:expr, $flags:expr, $value:expr,
+        $chunk:ident => $does:expr, { $($other:tt)* }
+    ) => {
+        match $typ {
+            data_chunk::CHUNK_TYPE => {
+                let $chunk = Chunk::Data(DataChunk::build($alloc, $flags, $value)?);
+                $does
+            }
+            sack_chunk::CHUNK_TYPE => {
+                let $chunk = Chunk::Sack(SackChunk::build($alloc, $value)?);
+                $does
+            }
+            shutdown_chunk::CHUNK_TYPE => {
+                let $chunk = Chunk::Shutdown(ShutdownChunk::build($value));
+                $does
+            }
+            shutdown_ack_chunk::CHUNK_TYPE => {
+                let $chunk = Chunk::ShutdownAck(ShutdownAckChunk);
+                $does
+            }
+            cookie_echo_chunk::CHUNK_TYPE => {
+                let $chunk = Chunk::CookieEcho(CookieEchoChunk::build($alloc, $value)?);
+                $does
+            }
+            cookie_ack_chunk::CHUNK_TYPE => {
+                let $chunk = Chunk::CookieAck(CookieAckChunk);
+                $does
+            }
+            shutdown_complete_chunk::CHUNK_TYPE => {
+                let $chunk = Chunk::ShutdownComplete(ShutdownCompleteChunk::build($flags));
+                $does
+            }
+            idata_chunk::CHUNK_TYPE => {
+                let $chunk = Chunk::IData(IDataChunk::build($alloc, $flags, $value)?);
+                $does
+            }
+            forward_tsn_chunk::CHUNK_TYPE => {
+                let $chunk = Chunk::ForwardTsn(ForwardTsnChunk::build($alloc, $value)?);
+                $does
+            }
+            iforward_tsn_chunk::CHUNK_TYPE => {
+                let $chunk = Chunk::IForwardTsn(IForwardTsnChunk::build($alloc, $value)?);
+                $does
+            }
+            $($other)*
         }
     };
 }
@@ -145,9 +198,9 @@ impl Chunk {
             Chunk::CookieEcho(_) => cookie_echo_chunk::CHUNK_TYPE,
             Chunk::CookieAck(_) => cookie_ack_chunk::CHUNK_TYPE,
             Chunk::ShutdownComplete(_) => shutdown_complete_chunk::CHUNK_TYPE,
+            Chunk::IData(_) => idata_chunk::CHUNK_TYPE,
             Chunk::ReConfig(_) => re_config_chunk::CHUNK_TYPE,
             Chunk::ForwardTsn(_) => forward_tsn_chunk::CHUNK_TYPE,
-            Chunk::IData(_) => idata_chunk::CHUNK_TYPE,
             Chunk::IForwardTsn(_) => iforward_tsn_chunk::CHUNK_TYPE,
             Chunk::Unknown(unknown) => unknown.typ,
         }
@@ -173,37 +226,19 @@ impl Chunk {
         ensures heap { TakesNoMemory typ value.now → IsOk result }
         ensures tight { IfOk result IsTight }
     {
-        Ok(match typ {
-            data_chunk::CHUNK_TYPE => Chunk::Data(DataChunk::build(alloc, flags, value)?),
-            init_chunk::CHUNK_TYPE => Chunk::Init(InitChunk::build(alloc, value)?),
-            init_ack_chunk::CHUNK_TYPE => Chunk::InitAck(InitAckChunk::build(alloc, value)?),
-            sack_chunk::CHUNK_TYPE => Chunk::Sack(SackChunk::build(alloc, value)?),
-            heartbeat_request_chunk::CHUNK_TYPE => Chunk::HeartbeatRequest(
-                HeartbeatRequestChunk::build(alloc, value)?,
-            ),
-            heartbeat_ack_chunk::CHUNK_TYPE => Chunk::HeartbeatAck(HeartbeatAckChunk::build(
-                alloc, value,
-            )?),
-            abort_chunk::CHUNK_TYPE => Chunk::Abort(AbortChunk::build(alloc, flags, value)?),
-            shutdown_chunk::CHUNK_TYPE => Chunk::Shutdown(ShutdownChunk::build(value)),
-            shutdown_ack_chunk::CHUNK_TYPE => Chunk::ShutdownAck(ShutdownAckChunk),
-            error_chunk::CHUNK_TYPE => Chunk::Error(ErrorChunk::build(alloc, value)?),
-            cookie_echo_chunk::CHUNK_TYPE => Chunk::CookieEcho(CookieEchoChunk::build(
-                alloc, value,
-            )?),
-            cookie_ack_chunk::CHUNK_TYPE => Chunk::CookieAck(CookieAckChunk),
-            shutdown_complete_chunk::CHUNK_TYPE => Chunk::ShutdownComplete(
-                ShutdownCompleteChunk::build(flags),
-            ),
-            re_config_chunk::CHUNK_TYPE => Chunk::ReConfig(ReConfigChunk::build(alloc, value)?),
-            idata_chunk::CHUNK_TYPE => Chunk::IData(IDataChunk::build(alloc, flags, value)?),
-            forward_tsn_chunk::CHUNK_TYPE => Chunk::ForwardTsn(ForwardTsnChunk::build(
-                alloc, value,
-            )?),
-            iforward_tsn_chunk::CHUNK_TYPE => Chunk::IForwardTsn(IForwardTsnChunk::build(
-                alloc, value,
-            )?),
-            _ => Chunk::Unknown(UnknownChunk::build(alloc, typ, flags, value)?),
+        built!(typ, alloc, flags, value, chunk => Ok(chunk), {
+            init_chunk::CHUNK_TYPE => Ok(Chunk::Init(InitChunk::build(alloc, value)?)),
+            init_ack_chunk::CHUNK_TYPE => Ok(Chunk::InitAck(InitAckChunk::build(alloc, value)?)),
+            heartbeat_request_chunk::CHUNK_TYPE => {
+                Ok(Chunk::HeartbeatRequest(HeartbeatRequestChunk::build(alloc, value)?))
+            }
+            heartbeat_ack_chunk::CHUNK_TYPE => {
+                Ok(Chunk::HeartbeatAck(HeartbeatAckChunk::build(alloc, value)?))
+            }
+            abort_chunk::CHUNK_TYPE => Ok(Chunk::Abort(AbortChunk::build(alloc, flags, value)?)),
+            error_chunk::CHUNK_TYPE => Ok(Chunk::Error(ErrorChunk::build(alloc, value)?)),
+            re_config_chunk::CHUNK_TYPE => Ok(Chunk::ReConfig(ReConfigChunk::build(alloc, value)?)),
+            _ => Ok(Chunk::Unknown(UnknownChunk::build(alloc, typ, flags, value)?)),
         })
     }
 
@@ -261,15 +296,6 @@ impl Chunk {
                 }
                 Ok(())
             }
-            re_config_chunk::CHUNK_TYPE => {
-                list.push_reserved(Chunk::ReConfig(ReConfigChunk {
-                    parameters: Vec::new(alloc),
-                }));
-                if let Chunk::ReConfig(chunk) = &mut list[last] {
-                    parameters_fill(&mut chunk.parameters, alloc, value)?;
-                }
-                Ok(())
-            }
             abort_chunk::CHUNK_TYPE => {
                 list.push_reserved(Chunk::Abort(AbortChunk {
                     tag_reflected: is_set(second, 0),
@@ -286,6 +312,15 @@ impl Chunk {
                 }));
                 if let Chunk::Error(chunk) = &mut list[last] {
                     error_cause_fill(&mut chunk.error_causes, alloc, value)?;
+                }
+                Ok(())
+            }
+            re_config_chunk::CHUNK_TYPE => {
+                list.push_reserved(Chunk::ReConfig(ReConfigChunk {
+                    parameters: Vec::new(alloc),
+                }));
+                if let Chunk::ReConfig(chunk) = &mut list[last] {
+                    parameters_fill(&mut chunk.parameters, alloc, value)?;
                 }
                 Ok(())
             }
@@ -343,49 +378,12 @@ impl ReadableTlv for Chunk {
         second: u8,
         value: &[u8],
     ) -> Result<(), AllocError> {
-        match first {
-            data_chunk::CHUNK_TYPE => {
-                list.push_reserved(Chunk::Data(DataChunk::build(alloc, second, value)?));
-                Ok(())
-            }
-            sack_chunk::CHUNK_TYPE => {
-                list.push_reserved(Chunk::Sack(SackChunk::build(alloc, value)?));
-                Ok(())
-            }
-            shutdown_chunk::CHUNK_TYPE => {
-                list.push_reserved(Chunk::Shutdown(ShutdownChunk::build(value)));
-                Ok(())
-            }
-            shutdown_ack_chunk::CHUNK_TYPE => {
-                list.push_reserved(Chunk::ShutdownAck(ShutdownAckChunk));
-                Ok(())
-            }
-            cookie_echo_chunk::CHUNK_TYPE => {
-                list.push_reserved(Chunk::CookieEcho(CookieEchoChunk::build(alloc, value)?));
-                Ok(())
-            }
-            cookie_ack_chunk::CHUNK_TYPE => {
-                list.push_reserved(Chunk::CookieAck(CookieAckChunk));
-                Ok(())
-            }
-            shutdown_complete_chunk::CHUNK_TYPE => {
-                list.push_reserved(Chunk::ShutdownComplete(ShutdownCompleteChunk::build(second)));
-                Ok(())
-            }
-            idata_chunk::CHUNK_TYPE => {
-                list.push_reserved(Chunk::IData(IDataChunk::build(alloc, second, value)?));
-                Ok(())
-            }
-            forward_tsn_chunk::CHUNK_TYPE => {
-                list.push_reserved(Chunk::ForwardTsn(ForwardTsnChunk::build(alloc, value)?));
-                Ok(())
-            }
-            iforward_tsn_chunk::CHUNK_TYPE => {
-                list.push_reserved(Chunk::IForwardTsn(IForwardTsnChunk::build(alloc, value)?));
-                Ok(())
-            }
+        built!(first, alloc, second, value, chunk => {
+            list.push_reserved(chunk);
+            Ok(())
+        }, {
             _ => Chunk::other_onto(list, alloc, first, second, value),
-        }
+        })
     }
 
     fn accepts_padding(strict: bool, size: usize, there: &[u8]) -> bool {
@@ -544,6 +542,15 @@ impl From<ShutdownCompleteChunk> for Chunk {
 }
 
 /// The chunk of this kind, with this value.
+impl From<IDataChunk> for Chunk {
+    ghost from_gives = { λ kind chunk. chunk ≡ variant.IData kind };
+
+    fn from(kind: IDataChunk) -> Chunk {
+        Chunk::IData(kind)
+    }
+}
+
+/// The chunk of this kind, with this value.
 impl From<ReConfigChunk> for Chunk {
     ghost from_gives = { λ kind chunk. chunk ≡ variant.ReConfig kind };
 
@@ -558,15 +565,6 @@ impl From<ForwardTsnChunk> for Chunk {
 
     fn from(kind: ForwardTsnChunk) -> Chunk {
         Chunk::ForwardTsn(kind)
-    }
-}
-
-/// The chunk of this kind, with this value.
-impl From<IDataChunk> for Chunk {
-    ghost from_gives = { λ kind chunk. chunk ≡ variant.IData kind };
-
-    fn from(kind: IDataChunk) -> Chunk {
-        Chunk::IData(kind)
     }
 }
 

@@ -52,7 +52,8 @@ impl CommonHeader {
 }
 
 impl fmt::Display for CommonHeader {
-    ghost output = { λ h. Some (header_text h.source_port h.destination_port h.verification_tag h.checksum) };
+    ghost output = { λ h. Some (header_text
+        h.source_port h.destination_port h.verification_tag h.checksum) };
 
     fn fmt<W: fmt::Write>(&self, f: &mut fmt::Formatter<W>) -> fmt::Result {
         write!(

@@ -36,8 +36,8 @@ impl SctpPacket {
     /// no memory.
     ///
     /// Nothing exactly where the grammar gives these bytes a packet; else the fault that
-    /// `from_bytes` and `check` answer under the same word and policy, and its place, of which there
-    /// is one (`laws::one_answer`). `OutOfMemory` is never answered.
+    /// `from_bytes` and `check` answer under the same word and policy, and its place, of which
+    /// there is one (`laws::one_answer`). `OutOfMemory` is never answered.
     pub fn first_fault(bytes: &[u8], checksum: u32, policy: &ChecksumPolicy) -> Option<FirstFault>
         ensures answer { Exactly packet_locating (λ u. u)
             (PacketLocated bytes.now checksum policy.now) (refused result) }

@@ -26,7 +26,7 @@ ghost use Rattle.dcsctp_tlv.specs.Parameter.{IsTight as IsTightParameter};
 ghost use Rattle.dcsctp_wire.specs.InitAck as kind;
 ghost use Rattle.dcsctp_wire.specs.InitFields as init_fields;
 
-use crate::packet::init::{FIXED_SIZE, InitFields, init_build, init_bytes, init_check};
+use crate::packet::init_fields::{FIXED_SIZE, InitFields, init_build, init_bytes, init_check};
 use dcsctp_chunk::raw_chunk::RawChunk;
 use dcsctp_tlv::error::ChunkParseError;
 use dcsctp_tlv::list::{listed_encodable, listed_encoded_size, listed_size, put_listed};

@@ -1,4 +1,5 @@
--- `write_chunk_header` writes four bytes and lends the part after them: a walk of its MIR by hand. Assumes `Logic`.
+-- `write_chunk_header` writes four bytes and lends the part after them: a walk of its MIR by hand.
+-- Assumes `Logic`.
 use mathlib.Core.Path.{◌≡◌, refl, sym, ap, subst, ◌∙◌}
 use Prim.Native.Nat.{ℕ, ◌+◌, ◌-◌, ◌/◌, ◌%◌, ◌^◌, ◌<◌, ◌≤◌}
 use native.Mathlib.Omega.{arith}

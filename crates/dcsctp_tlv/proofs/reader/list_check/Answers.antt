@@ -20,7 +20,8 @@ returns-in-Err-clause-found g c =
     c.loop-rest.invariant.progress refl
     (c.in-Ok.ensures.frame.0 refl) (rw (← c.in-Ok.ensures.value) c.in-Err.ensures.found)
 
-pub returns-then-not-accepts_padding-clause-found : goal.returns-then-not-accepts_padding-clause-found
+pub returns-then-not-accepts_padding-clause-found
+    : goal.returns-then-not-accepts_padding-clause-found
 returns-then-not-accepts_padding-clause-found g c =
     let found = c.in-Ok-check.ensures.found in
     at_place (g.T.ReadableTlv.level c.args.strict) g.T.ReadableTlv.parts c.args.bytes.now Padding _

@@ -9,23 +9,27 @@ pub returns-then-is_empty : goal.returns-then-is_empty
 returns-then-is_empty c =
     let rest = c.without_blanks_before-text.result.now in
     let none : length rest ≡ 0 = grind (arith, nat_tests) in
-    said_behind c.args.text.now rest c.without_blanks_before-text.ensures ∙ says_nothing rest (nil_from_length rest none)
+    said_behind c.args.text.now rest c.without_blanks_before-text.ensures
+    ∙ says_nothing rest (nil_from_length rest none)
 
 pub digit-requires : goal.digit-requires
 digit-requires c =
     let some : 0 < length c.without_blanks_before-text.result.now = grind (arith, nat_tests) in
-    (front c.args.text.now c.without_blanks_before-text.result.now c.without_blanks_before-text.ensures c.requires some).high
+    (front c.args.text.now c.without_blanks_before-text.result.now
+    c.without_blanks_before-text.ensures c.requires some).high
 
 pub bounds-text-1 : goal.bounds-text-1
 bounds-text-1 c =
     let some : 0 < length c.without_blanks_before-text.result.now = grind (arith, nat_tests) in
-    let two = (front c.args.text.now c.without_blanks_before-text.result.now c.without_blanks_before-text.ensures c.requires some).two in
+    let two = (front c.args.text.now c.without_blanks_before-text.result.now
+    c.without_blanks_before-text.ensures c.requires some).two in
     omega (arith, two)
 
 pub digit-requires-2 : goal.digit-requires-2
 digit-requires-2 c =
     let some : 0 < length c.without_blanks_before-text.result.now = grind (arith, nat_tests) in
-    (front c.args.text.now c.without_blanks_before-text.result.now c.without_blanks_before-text.ensures c.requires some).low
+    (front c.args.text.now c.without_blanks_before-text.result.now
+    c.without_blanks_before-text.ensures c.requires some).low
 
 pub returns : goal.returns
 returns c =
@@ -33,4 +37,8 @@ returns c =
     let some : 0 < length rest = grind (arith, nat_tests) in
     let found = front c.args.text.now rest c.without_blanks_before-text.ensures c.requires some in
     let cut : take (length rest - 2) (drop 2 rest) ≡ drop 2 rest = grind (arith, common_steps) in
-    rw (cut, c.digit.ensures.value, c.digit-2.ensures.value) (said_behind c.args.text.now rest c.without_blanks_before-text.ensures ∙ found.said, found.says)
+    rw (cut, c.digit.ensures.value, c.digit-2.ensures.value) (
+      said_behind c.args.text.now rest c.without_blanks_before-text.ensures
+          ∙ found.said,
+      found.says,
+    )

@@ -8,14 +8,17 @@ use Rattle.sctp_capture.proofs.hex_bytes.says_bytes.Goals as goal
 
 pub loop-rest-init : goal.loop-rest-init
 loop-rest-init c =
-    rest_first c.args.text.now c.without_blanks_before-rest.result.now c.without_blanks_before-rest.ensures
+    rest_first c.args.text.now c.without_blanks_before-rest.result.now
+    c.without_blanks_before-rest.ensures
 
 pub loop-rest-preserved : goal.loop-rest-preserved
 loop-rest-preserved c =
     let some : 0 < length c.loop-rest.rest.now = grind (arith, nat_tests) in
     let byte : begins_with_byte c.loop-rest.rest.now ≡ true = grind arith in
-    let next : c.without_blanks_before-rest-in-loop-rest.result.now ≡ without_blanks_before (drop 2 c.loop-rest.rest.now) = grind (arith, common_steps) in
-    rest_next c.args.text.now c.loop-rest.rest.now c.without_blanks_before-rest-in-loop-rest.result.now c.loop-rest.invariant some byte next
+    let next : c.without_blanks_before-rest-in-loop-rest.result.now ≡ without_blanks_before
+    (drop 2 c.loop-rest.rest.now) = grind (arith, common_steps) in
+    rest_next c.args.text.now c.loop-rest.rest.now
+    c.without_blanks_before-rest-in-loop-rest.result.now c.loop-rest.invariant some byte next
 
 pub returns-then-not-begins_with_byte : goal.returns-then-not-begins_with_byte
 returns-then-not-begins_with_byte c =
@@ -26,4 +29,5 @@ returns-then-not-begins_with_byte c =
 pub returns : goal.returns
 returns c =
     let none : length c.loop-rest.rest.now ≡ 0 = grind (arith, nat_tests) in
-    rest_ends c.args.text.now c.loop-rest.rest.now c.loop-rest.invariant (nil_from_length c.loop-rest.rest.now none)
+    rest_ends c.args.text.now c.loop-rest.rest.now c.loop-rest.invariant
+    (nil_from_length c.loop-rest.rest.now none)

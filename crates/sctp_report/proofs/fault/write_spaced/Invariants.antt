@@ -8,4 +8,5 @@ use Rattle.sctp_report.proofs.fault.write_spaced.Given as goal
 
 abbrev pub invariant-loop-byte : goal.invariant-loop-byte
 invariant-loop-byte g l = IsPlainFormatter l.initial.f
-    → HasWritten g.W.Write.write_str_gives l.initial.f (flat_map (λ byte. codes " " ++ byte_digits byte) (take l.byte-index l.bytes)) l.f
+    → HasWritten g.W.Write.write_str_gives l.initial.f
+    (flat_map (λ byte. codes " " ++ byte_digits byte) (take l.byte-index l.bytes)) l.f

@@ -6,4 +6,5 @@ use Rattle.sctp_report.proofs.hexadecimal.write_digits.Given as goal
 
 abbrev pub invariant-loop-byte : goal.invariant-loop-byte
 invariant-loop-byte g l = IsPlainFormatter l.initial.f
-    → HasWritten g.W.Write.write_str_gives l.initial.f (bytes_digits (take l.byte-index l.bytes)) l.f
+    → HasWritten g.W.Write.write_str_gives l.initial.f (bytes_digits (take l.byte-index l.bytes))
+    l.f

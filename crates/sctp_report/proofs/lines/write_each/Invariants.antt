@@ -6,4 +6,5 @@ use Rattle.sctp_report.proofs.lines.write_each.Given as goal
 
 abbrev pub invariant-loop-item : goal.invariant-loop-item
 invariant-loop-item g l = IsPlainFormatter l.initial.f
-    → HasWritten g.W.Write.write_str_gives l.initial.f (flat_map (g.T.Lines.lines l.most) (map g.T.Lines.view (take l.item-index l.list))) l.f
+    → HasWritten g.W.Write.write_str_gives l.initial.f
+    (flat_map (g.T.Lines.lines l.most) (map g.T.Lines.view (take l.item-index l.list))) l.f

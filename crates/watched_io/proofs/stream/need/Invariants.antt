@@ -8,7 +8,8 @@ use Rattle.watched_io.proofs.stream.need.Given as goal
 
 abbrev pub invariant-loop-window : goal.invariant-loop-window
 invariant-loop-window g l =
-    Keeps (left l.initial.window (g.R.Read.remaining (device_of l.initial.input))) (left l.window (g.R.Read.remaining (device_of l.input)))
+    Keeps (left l.initial.window (g.R.Read.remaining (device_of l.initial.input)))
+    (left l.window (g.R.Read.remaining (device_of l.input)))
     × Keeps (total g.W.Write.contents l.initial.output) (total g.W.Write.contents l.output)
     × (has_failed l.initial.input ≡ false → has_failed l.input ≡ false)
     × (has_failed (writer_of l.initial.output) ≡ false → has_failed (writer_of l.output) ≡ false)

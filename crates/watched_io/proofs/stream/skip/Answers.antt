@@ -10,10 +10,20 @@ pub loop-ahead-preserved : goal.loop-ahead-preserved
 loop-ahead-preserved g c =
     let before = c.loop-ahead.invariant.0 in
     let old = held c.loop-ahead.window in
-    let size : length (before.0 ++ old) ≡ length before.0 + length old = length-append before.0 old in
+    let size : length (before.0 ++ old) ≡ length before.0 + length old =
+    length-append before.0 old in
     let more : length old < c.loop-ahead.ahead = grind (arith, common_steps) in
-    let len : c.len-ahead.result ≡ length old = c.len-ahead.ensures in
-    ((before.0 ++ old, omega (arith, size, before.1, more, len), Consumes-all_dropped _ _ _ old _ _ before.0 c.clear.ensures before.2 c.read_more.ensures.stream), search rules, search rules, search rules)
+    let len : c.len-ahead.result ≡ length old = c.len-ahead.ensures in (
+      (
+        before.0 ++ old,
+        omega (arith, size, before.1, more, len),
+        Consumes-all_dropped _ _ _ old _ _
+            before.0 c.clear.ensures before.2 c.read_more.ensures.stream,
+      ),
+      search rules,
+      search rules,
+      search rules,
+    )
 
 pub returns-clause-skipped : goal.returns-clause-skipped
 returns-clause-skipped g c = λ skipped.
@@ -29,4 +39,5 @@ returns-clause-skipped g c = λ skipped.
 pub returns-in-Err-clause-cut : goal.returns-in-Err-clause-cut
 returns-in-Err-clause-cut g c = λ is.
     let same : c.in-Err.error ≡ Write = cc in
-    HasBeginning-kept _ _ _ c.loop-ahead.invariant.1 (HasBeginning-cut _ _ _ (c.in-Err.ensures.cut (ap Err same)))
+    HasBeginning-kept _ _ _ c.loop-ahead.invariant.1
+    (HasBeginning-cut _ _ _ (c.in-Err.ensures.cut (ap Err same)))

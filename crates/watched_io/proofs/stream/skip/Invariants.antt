@@ -9,7 +9,8 @@ use Rattle.watched_io.proofs.stream.skip.Given as goal
 abbrev pub invariant-loop-ahead : goal.invariant-loop-ahead
 invariant-loop-ahead g l =
     ((dropped : List ℕ) × (length dropped + l.ahead ≡ l.count)
-    × Consumes (left l.initial.window (g.R.Read.remaining (device_of l.initial.input))) (left l.window (g.R.Read.remaining (device_of l.input))) dropped)
+    × Consumes (left l.initial.window (g.R.Read.remaining (device_of l.initial.input)))
+    (left l.window (g.R.Read.remaining (device_of l.input))) dropped)
     × Keeps (total g.W.Write.contents l.initial.output) (total g.W.Write.contents l.output)
     × (has_failed l.initial.input ≡ false → has_failed l.input ≡ false)
     × (has_failed (writer_of l.initial.output) ≡ false → has_failed (writer_of l.output) ≡ false)

@@ -7,7 +7,8 @@ use Rattle.watched_io.proofs.transfer.write_bytes.Given as goal
 abbrev pub invariant-loop-written : goal.invariant-loop-written
 invariant-loop-written g l =
     (l.written ≤ length l.bytes)
-    × Appends (g.W.Write.contents (device_of l.initial.output)) (g.W.Write.contents (device_of l.output)) (take l.written l.bytes)
+    × Appends (g.W.Write.contents (device_of l.initial.output))
+    (g.W.Write.contents (device_of l.output)) (take l.written l.bytes)
     × (has_failed l.output ≡ has_failed l.initial.output)
 
 abbrev pub decreases-loop-written : goal.decreases-loop-written

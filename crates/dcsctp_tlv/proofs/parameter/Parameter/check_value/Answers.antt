@@ -16,6 +16,10 @@ pub returns-in-15 : goal.returns-in-15
 returns-in-15 c =
     rw c.in-15.is (passes_row SsnTsnResetRequest _ c.check-in-15.result c.check-in-15.ensures)
 
+pub returns-in-16 : goal.returns-in-16
+returns-in-16 c =
+    rw c.in-16.is (passes_row ReconfigurationResponse _ c.check-in-16.result c.check-in-16.ensures)
+
 pub returns-in-17 : goal.returns-in-17
 returns-in-17 c = rw c.in-17.is (passes_row AddOutgoingStreamsRequest _ c.add_streams_check.result
     c.add_streams_check.ensures)
@@ -23,10 +27,6 @@ returns-in-17 c = rw c.in-17.is (passes_row AddOutgoingStreamsRequest _ c.add_st
 pub returns-in-18 : goal.returns-in-18
 returns-in-18 c = rw c.in-18.is (passes_row AddIncomingStreamsRequest _
     c.add_streams_check-in-18.result c.add_streams_check-in-18.ensures)
-
-pub returns-in-16 : goal.returns-in-16
-returns-in-16 c =
-    rw c.in-16.is (passes_row ReconfigurationResponse _ c.check-in-16.result c.check-in-16.ensures)
 
 pub returns-in-32769 : goal.returns-in-32769
 returns-in-32769 c = rw c.in-32769.is (passes_row ZeroChecksumAcceptable _ c.check-in-32769.result

@@ -20,7 +20,8 @@ returns-in-Err-clause-found c =
     (ListLocated (chunks policy.strict_padding) chunk_parts b) (Err c.in-Err.found))
     (take_rest bytes 12) c.in-Err.ensures.found)
 
-pub returns-then-bytes-lt-MIN_PACKET_SIZE-clause-found : goal.returns-then-bytes-lt-MIN_PACKET_SIZE-clause-found
+pub returns-then-bytes-lt-MIN_PACKET_SIZE-clause-found
+    : goal.returns-then-bytes-lt-MIN_PACKET_SIZE-clause-found
 returns-then-bytes-lt-MIN_PACKET_SIZE-clause-found c =
     fault_there c.args.bytes.now c.args.checksum c.args.policy.now Size _ (search rules)
 

@@ -7,4 +7,5 @@ use Rattle.sctp_report.proofs.bytes.QuotedDisplay.fmt.Given as goal
 
 abbrev pub invariant-loop-byte : goal.invariant-loop-byte
 invariant-loop-byte g l = IsPlainFormatter l.fn.f
-    → HasWritten g.W.Write.write_str_gives l.fn.f (34 ∷ flat_map printed_byte (take l.byte-index l.byte-items)) l.f
+    → HasWritten g.W.Write.write_str_gives l.fn.f
+    (34 ∷ flat_map printed_byte (take l.byte-index l.byte-items)) l.f

@@ -11,7 +11,8 @@ use Rattle.dcsctp_wire.specs.declared.packet.abort_chunk.AbortChunk.{AbortChunk}
 use Rattle.dcsctp_wire.proofs.Filled.{filled, last_is, same_init, same_init_ack, same_abort, with_parameters, with_causes}
 use Rattle.dcsctp_wire.proofs.packet.chunk.Chunk.other_onto.Goals as goal
 
-pub returns-in_ok-parameters_fill-in-1-clause-grows : goal.returns-in_ok-parameters_fill-in-1-clause-grows
+pub returns-in_ok-parameters_fill-in-1-clause-grows
+    : goal.returns-in_ok-parameters_fill-in-1-clause-grows
 returns-in_ok-parameters_fill-in-1-clause-grows c =
     let v = c.args.value.now in
     let old = c.args.list.now.items in
@@ -35,7 +36,8 @@ returns-in_ok-parameters_fill-in-1-clause-grows c =
     )
     (c.in_ok-parameters_fill-in-1.ensures.reserved, c.in_ok-parameters_fill-in-1.ensures.tight))
 
-pub returns-in_ok-parameters_fill-in-2-clause-grows : goal.returns-in_ok-parameters_fill-in-2-clause-grows
+pub returns-in_ok-parameters_fill-in-2-clause-grows
+    : goal.returns-in_ok-parameters_fill-in-2-clause-grows
 returns-in_ok-parameters_fill-in-2-clause-grows c =
     let v = c.args.value.now in
     let old = c.args.list.now.items in
@@ -61,7 +63,8 @@ returns-in_ok-parameters_fill-in-2-clause-grows c =
       c.in_ok-parameters_fill-in-2.ensures.tight,
     ))
 
-pub returns-in_ok-parameters_fill-in-4-clause-grows : goal.returns-in_ok-parameters_fill-in-4-clause-grows
+pub returns-in_ok-parameters_fill-in-4-clause-grows
+    : goal.returns-in_ok-parameters_fill-in-4-clause-grows
 returns-in_ok-parameters_fill-in-4-clause-grows c =
     let v = c.args.value.now in
     let old = c.args.list.now.items in
@@ -71,7 +74,8 @@ returns-in_ok-parameters_fill-in-4-clause-grows c =
     (_, (refl, (_, c.in_ok-parameters_fill-in-4.ensures.meant, refl)), refl)
     (c.in_ok-parameters_fill-in-4.ensures.reserved, c.in_ok-parameters_fill-in-4.ensures.tight))
 
-pub returns-in_ok-parameters_fill-in-5-clause-grows : goal.returns-in_ok-parameters_fill-in-5-clause-grows
+pub returns-in_ok-parameters_fill-in-5-clause-grows
+    : goal.returns-in_ok-parameters_fill-in-5-clause-grows
 returns-in_ok-parameters_fill-in-5-clause-grows c =
     let v = c.args.value.now in
     let old = c.args.list.now.items in
@@ -81,7 +85,8 @@ returns-in_ok-parameters_fill-in-5-clause-grows c =
     (_, (refl, (_, c.in_ok-parameters_fill-in-5.ensures.meant, refl)), refl)
     (c.in_ok-parameters_fill-in-5.ensures.reserved, c.in_ok-parameters_fill-in-5.ensures.tight))
 
-pub returns-in_ok-parameters_fill-in-130-clause-grows : goal.returns-in_ok-parameters_fill-in-130-clause-grows
+pub returns-in_ok-parameters_fill-in-130-clause-grows
+    : goal.returns-in_ok-parameters_fill-in-130-clause-grows
 returns-in_ok-parameters_fill-in-130-clause-grows c =
     let v = c.args.value.now in
     let old = c.args.list.now.items in
@@ -93,7 +98,8 @@ returns-in_ok-parameters_fill-in-130-clause-grows c =
       c.in_ok-parameters_fill-in-130.ensures.tight,
     ))
 
-pub returns-in_ok-error_cause_fill-in-6-clause-grows : goal.returns-in_ok-error_cause_fill-in-6-clause-grows
+pub returns-in_ok-error_cause_fill-in-6-clause-grows
+    : goal.returns-in_ok-error_cause_fill-in-6-clause-grows
 returns-in_ok-error_cause_fill-in-6-clause-grows c =
     let v = c.args.value.now in
     let old = c.args.list.now.items in
@@ -120,7 +126,8 @@ returns-in_ok-error_cause_fill-in-6-clause-grows c =
       c.in_ok-error_cause_fill-in-6.ensures.tight,
     ))
 
-pub returns-in_ok-error_cause_fill-in-9-clause-grows : goal.returns-in_ok-error_cause_fill-in-9-clause-grows
+pub returns-in_ok-error_cause_fill-in-9-clause-grows
+    : goal.returns-in_ok-error_cause_fill-in-9-clause-grows
 returns-in_ok-error_cause_fill-in-9-clause-grows c =
     let v = c.args.value.now in
     let old = c.args.list.now.items in

@@ -1,6 +1,6 @@
 use Rattle.std.proofs.Common.{refl}
 use Rattle.std.proofs.lemmas.List.{take_rest}
-use Rattle.dcsctp_wire.proofs.packet.init.init_numbers.Goals as goal
+use Rattle.dcsctp_wire.proofs.packet.init_fields.init_numbers.Goals as goal
 
 pub returns-clause-numbers : goal.returns-clause-numbers
 returns-clause-numbers c =

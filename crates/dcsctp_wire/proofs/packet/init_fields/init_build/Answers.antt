@@ -1,5 +1,5 @@
 use Rattle.std.proofs.lemmas.List.{take_rest}
-use Rattle.dcsctp_wire.proofs.packet.init.init_build.Goals as goal
+use Rattle.dcsctp_wire.proofs.packet.init_fields.init_build.Goals as goal
 
 pub parameters_fill-requires-clause-meant : goal.parameters_fill-requires-clause-meant
 parameters_fill-requires-clause-meant c =

@@ -4,7 +4,7 @@ use Rattle.std.proofs.lemmas.Bool.{le-leb}
 use Rattle.dcsctp_tlv.specs.Parameter.{parameters}
 use Rattle.dcsctp_tlv.proofs.Places.{finds_listed, rule_broken}
 use Rattle.dcsctp_wire.specs.InitFields.{tree_of as init_of, parts as init_parts}
-use Rattle.dcsctp_wire.proofs.packet.init.init_check.Goals as goal
+use Rattle.dcsctp_wire.proofs.packet.init_fields.init_check.Goals as goal
 
 pub returns-clause-found : goal.returns-clause-found
 returns-clause-found c =
@@ -13,7 +13,8 @@ returns-clause-found c =
     init_parts (λ v ps. refl) v c.listed_check.result (le-leb 16 (length v) (omega arith))
     c.listed_check.ensures.found
 
-pub returns-then-value-lt-FIXED_SIZE-clause-found : goal.returns-then-value-lt-FIXED_SIZE-clause-found
+pub returns-then-value-lt-FIXED_SIZE-clause-found
+    : goal.returns-then-value-lt-FIXED_SIZE-clause-found
 returns-then-value-lt-FIXED_SIZE-clause-found c =
     rw c.at_front.ensures (rule_broken (λ value. nat_le 16 (length value)) 16
     (parameters c.args.strict) init_of init_parts c.args.value.now (search rules))
