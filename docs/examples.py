@@ -1,13 +1,14 @@
 #!/usr/bin/env python3
-"""usage: docs/examples.py --write | --compare | --paste DIR | --help
+"""usage: docs/examples.py --write | --compare | --paste DIR [NAME ..] | --help
 
 The programs of docs/CALLING.md are the files of crates/dcsctp_uses/src, which the gate proves. The program of docs/C.md
 is a file of examples/c, which c/test.sh runs.
 
   --write      puts each file into its page, after the line `<!-- NAME.rt -->` or `<!-- NAME.c -->`
   --compare    fails if a program of a page isn't its file
-  --paste DIR  makes a repository in DIR as a new user would: the libraries, with what is proved of them, and a
-               crate `your_crate` with the programs of docs/CALLING.md, and with the files of proofs/ and specs/ that they need
+  --paste DIR  makes a repository in DIR as a new user would: the libraries, with what is proved of them, and a crate
+               `your_crate` with the programs of docs/CALLING.md, or the named ones alone and what they call, and with the
+               files of proofs/ and specs/ that they need
   --help       prints this
 """
 import os
@@ -57,7 +58,45 @@ def compare():
             sys.exit(f'{page}: not as in {folder}: {", ".join(stale)}')
 
 
-def paste(directory):
+def text_files(folder):
+    """The files below crates/dcsctp_uses/FOLDER, by their paths there, and their texts."""
+    found = {}
+    for place, _, files in os.walk(os.path.join(USES, folder)):
+        for name in sorted(files):
+            path = os.path.relpath(os.path.join(place, name), USES)
+            found[path] = read(f'crates/dcsctp_uses/{path}')
+    return found
+
+
+def needed(programs, wanted):
+    """The files of the wanted programs: their sources, the programs they call, and the definitions and proofs that these name."""
+    sources = {f'src/{name}.rt': text for name, text in programs}
+    files = {**sources, **text_files('specs'), **text_files('proofs')}
+    taken, left = {}, [f'src/{name}.rt' for name in wanted]
+    while left:
+        path = left.pop()
+        if path in taken or path not in files:
+            continue
+        taken[path] = files[path]
+        name = path.split('/')[1].removesuffix('.rt')
+        if path in sources:
+            left += [it for it in files if it.startswith(f'proofs/{name}/')]
+            left += [f'src/{it}.rt' for it in re.findall(r'\bcrate::(\w+)', files[path])]
+        left += [f'{folder}/{it}.antt' for folder, it in
+                 re.findall(r'\bRattle\.dcsctp_uses\.(specs|proofs)\.(\w+)', files[path])]
+    for folder in ('specs', 'proofs'):
+        lines = [line for line in files[f'{folder}/Lib.antt'].splitlines() if f'{folder}/{line.split()[-1]}.antt' in taken]
+        taken[f'{folder}/Lib.antt'] = ''.join(f'{line}\n' for line in lines)
+    modules = ''.join(sorted(f'pub mod {path[4:-3]};\n' for path in taken if path in sources))
+    taken['src/lib.rt'] = f'//! Programs of the page.\n#![tactic(auto)]\n\n{modules}'
+    return taken
+
+
+def paste(directory, wanted):
+    programs = examples(*PAGES[0])
+    lacking = [name for name in wanted if name not in [it for it, _ in programs]]
+    if lacking:
+        sys.exit(f'{PAGES[0][0]} has no program {lacking[0]}')
     os.makedirs(os.path.join(directory, 'crates'))
     shutil.copy(os.path.join(ROOT, 'HANDLES'), directory)
     for library in LIBRARIES:
@@ -66,25 +105,11 @@ def paste(directory):
         lines = [line for line in file.read().splitlines() if line.split(':')[0] in LIBRARIES]
     with open(os.path.join(directory, 'crates.txt'), 'w', encoding='utf-8') as file:
         file.write('\n'.join(lines + ['your_crate: dcsctp_wire dcsctp_borrowed dcsctp_crc32c']) + '\n')
-    crate = os.path.join(directory, 'crates', 'your_crate')
-    os.makedirs(os.path.join(crate, 'src'))
-    names = []
-    for name, text in examples(*PAGES[0]):
-        names.append(name)
-        with open(os.path.join(crate, 'src', name + '.rt'), 'w', encoding='utf-8') as file:
+    for path, text in needed(programs, wanted or [name for name, _ in programs]).items():
+        path = os.path.join(directory, 'crates', 'your_crate', path)
+        os.makedirs(os.path.dirname(path), exist_ok=True)
+        with open(path, 'w', encoding='utf-8') as file:
             file.write(text.replace('Rattle.dcsctp_uses.', 'Rattle.your_crate.'))
-    with open(os.path.join(crate, 'src', 'lib.rt'), 'w', encoding='utf-8') as file:
-        modules = ''.join(f'pub mod {name};\n' for name in sorted(names))
-        file.write(f'//! The programs of the page.\n#![tactic(auto)]\n\n{modules}')
-    for folder in ('specs', 'proofs'):
-        for place, _, files in os.walk(os.path.join(USES, folder)):
-            inside = os.path.relpath(place, USES)
-            os.makedirs(os.path.join(crate, inside))
-            for name in files:
-                with open(os.path.join(place, name), encoding='utf-8') as file:
-                    text = file.read().replace('Rattle.dcsctp_uses.', 'Rattle.your_crate.')
-                with open(os.path.join(crate, inside, name), 'w', encoding='utf-8') as file:
-                    file.write(text)
 
 
 def main():
@@ -93,8 +118,8 @@ def main():
         compare()
     elif words == ['--write']:
         write()
-    elif len(words) == 2 and words[0] == '--paste':
-        paste(words[1])
+    elif len(words) > 1 and words[0] == '--paste':
+        paste(words[1], words[2:])
     elif words in ([], ['--help']):
         print(__doc__, end='')
     else:

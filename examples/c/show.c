@@ -1,7 +1,8 @@
-/* usage: show FILE. Reads packets in hexadecimal, one a line, and prints the chunks of each, its text, and the packet
-   that answers it. */
+/* usage: show FILE. Reads packets, one a line, in hexadecimal without blanks, and prints the chunks of each, its text,
+   and the packet that answers it. */
 #include <dcsctp.h>
 #include <stdio.h>
+#include <string.h>
 static const struct dcsctp_policy policy = {false, false, false};
 /* This side of the one association, and the tag of the other side, which its INIT asks for (RFC 9260 section 8.5). */
 static const struct dcsctp_init own = {0x0da73798, 0x20000, 4, 4, 0x66e387ab};
@@ -90,11 +91,14 @@ int main(int count, char **words)
     if (count != 2 || !freopen(words[1], "r", stdin))
         return fputs("usage: show FILE\n", stderr), 2;
     while (fgets(line, sizeof line, stdin)) {
-        size_t length = 0;
-        while (sscanf(line + 2 * length, "%2hhx", &bytes[length]) == 1)
-            length++;
-        if (length > 0)
-            show(bytes, length);
+        size_t size = strcspn(line, "\n");
+        if (size == 0 || line[0] == '#')
+            continue;
+        if (strspn(line, "0123456789abcdefABCDEF") != size || size % 2 != 0)
+            return fputs("show: a line isn't at most 69,999 bytes in hexadecimal\n", stderr), 2;
+        for (size_t i = 0; i < size; i += 2)
+            sscanf(line + i, "%2hhx", &bytes[i / 2]);
+        show(bytes, size / 2);
     }
     return 0;
 }

@@ -80,6 +80,10 @@ IsInWidth t = (format t).IsInWidth
 abbrev pub IsWellFormed : ParameterTree → Type 0
 IsWellFormed t = (format t).IsWellFormed
 
+-- the text of a parameter
+abbrev pub text : ParameterTree → List ℕ
+text t = (format t).text
+
 -- the parameter that is written for a parameter
 abbrev pub kept : ParameterTree → ParameterTree
 kept (HeartbeatInfo info) = HeartbeatInfo info

@@ -25,7 +25,7 @@ pub mod supported_extensions_parameter;
 pub mod unknown_parameter;
 pub mod zero_checksum_acceptable_parameter;
 
-ghost use Rattle.std.specs.Prelude.{◌≡◌, ◌≢◌, ◌≤◌, ◌*◌, [], length, vec_len, vec_capacity, IsOk, IfOk, IsErrOf, refl, All};
+ghost use Rattle.std.specs.Prelude.{◌≡◌, ◌≢◌, ◌≤◌, ◌*◌, [], length, vec_len, vec_capacity, Some, IsOk, IfOk, IsErrOf, refl, All};
 ghost use Rattle.dcsctp_tlv.specs.Frame.{lenient};
 ghost use Rattle.dcsctp_tlv.specs.Level.{HasMeaning, MeansTrees, MeansSome};
 ghost use Rattle.dcsctp_tlv.specs.Reading.{Answers, Exactly, reading, checking, RowTested, RowAnswer, ListAnswer, Counted};
@@ -59,6 +59,7 @@ use crate::parameter::zero_checksum_acceptable_parameter::ZeroChecksumAcceptable
 use crate::reader::{ReadableTlv, list_check, list_fill_counted, list_from_bytes};
 use crate::tlv::{ListedTlv, SerializableTlv};
 use std::alloc::{AllocError, Global};
+use std::fmt;
 
 /// The type of SSN/TSN Reset Request (RFC 6525 section 4.3).
 pub const PARAMETER_TYPE_SSN_TSN_RESET_REQUEST: u16 =
@@ -323,6 +324,14 @@ impl SerializableTlv for Parameter {
 
     fn encoded_size(&self) -> Option<usize> {
         each_kind!(self, p => p.encoded_size())
+    }
+}
+
+impl fmt::Display for Parameter {
+    ghost output = { λ p. Some (parameter.text (view p)) };
+
+    fn fmt<W: fmt::Write>(&self, f: &mut fmt::Formatter<W>) -> fmt::Result {
+        each_kind!(self, p => p.fmt(f))
     }
 }
 
