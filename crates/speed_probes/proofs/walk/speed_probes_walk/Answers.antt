@@ -1,5 +1,4 @@
 use Rattle.std.proofs.Common.{◌≡◌, [], refl, sym, ap, ◌∙◌}
-use Rattle.dcsctp_wire.specs.Chunk.{ChunkTree}
 use Rattle.dcsctp_borrowed.specs.PacketRef.{reference}
 use Rattle.speed_probes.specs.Walk.{with_chunk, with_chunks}
 use Rattle.speed_probes.proofs.walk.speed_probes_walk.Goals as goal

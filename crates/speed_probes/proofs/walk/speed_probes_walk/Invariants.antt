@@ -1,4 +1,4 @@
-use Rattle.std.proofs.Common.{◌≡◌, ℕ, List, Ok}
+use Rattle.std.proofs.Common.{◌≡◌, List, Ok}
 use Rattle.dcsctp_wire.specs.Chunk.{ChunkTree}
 use Rattle.dcsctp_wire.specs.Packet.{PacketTree, Answer}
 use Rattle.dcsctp_borrowed.specs.RawChunks.{MeanChunks}
