@@ -1,6 +1,5 @@
 -- Two numbers of two bytes each that are read as one of four.
-use Rattle.std.proofs.Common.{◌≡◌, ◌≤◌, ◌<◌, ◌+◌, ◌*◌, ◌/◌, ◌%◌, ℕ, List, [], ◌∷◌, length, drop, ap, sym, ◌∙◌, arith}
-use Rattle.std.specs.List.{slice_index}
+use Rattle.std.proofs.Common.{◌≡◌, ◌≤◌, ◌<◌, ◌+◌, ◌*◌, ◌/◌, ◌%◌, ℕ, List, [], ◌∷◌, length, drop, arith}
 use Rattle.dcsctp_tlv.specs.Number.{AreBytes, number16, number32}
 
 pub two_in_one : (bytes : List ℕ) → 4 ≤ length bytes → number32 bytes ≡ number16 bytes * 65536
