@@ -1,4 +1,4 @@
-use Rattle.std.proofs.Common.{List, ℕ, Option, None, Some, sym, subst}
+use Rattle.std.proofs.Common.{List, ℕ, Option, Some, sym, subst}
 use Rattle.dcsctp_tlv.specs.Frame.{lenient}
 use Rattle.dcsctp_cause.specs.Cause.{causes}
 use Rattle.dcsctp_chunk.specs.declared.raw_chunk.RawChunk.{RawChunk}
