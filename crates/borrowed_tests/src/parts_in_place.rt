@@ -1,6 +1,7 @@
 //! Each part of each chunk is the same where it lies in the packet and where the packet was built.
 
 use crate::in_place;
+use dcsctp_borrowed::checked_chunks::CheckedChunk;
 use dcsctp_borrowed::cookie_echo::cookie;
 use dcsctp_borrowed::forward_tsn_ref::ForwardTsnRef;
 use dcsctp_borrowed::heartbeat_info::heartbeat_info;
@@ -8,6 +9,7 @@ use dcsctp_borrowed::packet_ref::SctpPacketRef;
 use dcsctp_borrowed::raw_causes::RawCauses;
 use dcsctp_borrowed::raw_parameters::RawParameters;
 use dcsctp_borrowed::sack_ref::SackRef;
+use dcsctp_borrowed::user_data::UserData;
 use dcsctp_wire::packet::chunk::{Chunk, RawChunk};
 use dcsctp_wire::packet::chunk_validators::validate_sack;
 use dcsctp_wire::packet::error_causes::ErrorCause;
@@ -108,6 +110,32 @@ fn is_as_valid(chunk: &Chunk, lent: Option<bool>) -> bool {
     }
 }
 
+/// What a chunk that is known to mean one gives: its type, and each part.
+fn known_text(alloc: Global, known: &CheckedChunk) -> Result<String, AllocError> {
+    let (data, sack, forward) = (known.as_user_data(), known.as_sack(), known.as_forward_tsn());
+    let (parameters, causes) = (known.as_parameters(), known.as_causes());
+    let (typ, cookie) = (known.chunk_type(), known.as_cookie());
+    format!(in alloc; "{typ} {data:?} {sack:?} {forward:?} {parameters:?} {causes:?} {cookie:?}")
+}
+
+/// The same of any chunk.
+fn raw_text(alloc: Global, raw: &RawChunk) -> Result<String, AllocError> {
+    let (data, sack) = (UserData::from_raw(raw), SackRef::from_raw(raw));
+    let forward = ForwardTsnRef::from_raw(raw);
+    let (parameters, causes) = (RawParameters::from_raw(raw), RawCauses::from_raw(raw));
+    let (typ, cookie) = (raw.typ, cookie(raw));
+    format!(in alloc; "{typ} {data:?} {sack:?} {forward:?} {parameters:?} {causes:?} {cookie:?}")
+}
+
+/// Whether the chunk gives the same where it is known to mean one, where any chunk is read, and
+/// where it was built.
+fn is_same_everywhere(alloc: Global, known: CheckedChunk) -> Result<bool, ChunkParseError> {
+    let text = known_text(alloc, &known)?;
+    let raw = known.into_raw();
+    let is_same = raw_text(alloc, &raw)?.as_str() == text.as_str();
+    Ok(has_same_part(alloc, raw)? && is_same)
+}
+
 /// Whether the chunk's part is the same where it lies and where it was built.
 fn has_same_part(alloc: Global, raw: RawChunk) -> Result<bool, ChunkParseError> {
     let valid = SackRef::from_raw(&raw).map(|sack| sack.validate());
@@ -128,8 +156,8 @@ pub(crate) fn agree(alloc: Global, chunks: &[u8]) -> Result<bool, Fail> {
     let bytes = packet_of(alloc, chunks)?;
     let mut is_same = in_place::agree(alloc, chunks, &UNVERIFIED)?;
     if let Ok(packet) = SctpPacketRef::from_bytes(&bytes, 0, &UNVERIFIED) {
-        for raw in packet.chunks {
-            is_same &= has_same_part(alloc, raw)?;
+        for known in packet.chunks.checked() {
+            is_same &= is_same_everywhere(alloc, known)?;
         }
     }
     Ok(is_same)

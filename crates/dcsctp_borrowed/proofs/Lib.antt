@@ -5,3 +5,4 @@ pub mod FieldLists
 pub mod Changes
 pub mod ListPlaces
 pub mod NumberPairs
+pub mod CheckedRows

@@ -1,6 +1,6 @@
 //! FORWARD-TSN and I-FORWARD-TSN, in a packet's bytes.
 
-ghost use Rattle.std.specs.Prelude.{◌≡◌, ◌<◌, ◌≤◌, ◌*◌, ℕ, Bool, List, if◌then◌else◌, Some, option_map, length, slice_get};
+ghost use Rattle.std.specs.Prelude.{◌≡◌, ◌<◌, ◌≤◌, ◌*◌, ℕ, Bool, List, if◌then◌else◌, IsOk, Some, option_map, length, slice_get};
 ghost use Rattle.std.specs.Iterator.{YieldsFirstBy, item_count};
 ghost use Rattle.std.specs.Result.{result_ok};
 ghost use Rattle.dcsctp_chunk.specs.ForwardTsn as forward_kind;
@@ -83,12 +83,22 @@ impl<'a> ForwardTsnRef<'a> {
         if !(value.len() - FIXED_SIZE).is_multiple_of(SSN_STREAM_SIZE) {
             return None;
         }
-        Some(ForwardTsnRef {
+        Some(ForwardTsnRef::of_checked_forward(value))
+    }
+
+    /// What a value means that is known to mean a FORWARD-TSN.
+    #[tactic(auto, unfolding(dcsctp_chunk::specs::ForwardTsn::read))]
+    #[inline(always)]
+    pub(crate) fn of_checked_forward(value: &'a [u8]) -> ForwardTsnRef<'a>
+        requires { IsOk (forward_kind.read value.now) }
+        ensures { Some result ≡ result_ok (forward_kind.read value.now) }
+    {
+        ForwardTsnRef {
             new_cumulative_tsn: Tsn(read_u32_be(value)),
             by_mid: false,
             count: (value.len() - FIXED_SIZE) / SSN_STREAM_SIZE,
             streams: &value[FIXED_SIZE..],
-        })
+        }
     }
 
     /// What an I-FORWARD-TSN's value means.
@@ -103,12 +113,22 @@ impl<'a> ForwardTsnRef<'a> {
         if !(value.len() - FIXED_SIZE).is_multiple_of(MID_STREAM_SIZE) {
             return None;
         }
-        Some(ForwardTsnRef {
+        Some(ForwardTsnRef::of_checked_iforward(value))
+    }
+
+    /// What a value means that is known to mean an I-FORWARD-TSN.
+    #[tactic(auto, unfolding(dcsctp_chunk::specs::IForwardTsn::read))]
+    #[inline(always)]
+    pub(crate) fn of_checked_iforward(value: &'a [u8]) -> ForwardTsnRef<'a>
+        requires { IsOk (iforward_kind.read value.now) }
+        ensures { Some result ≡ result_ok (iforward_kind.read value.now) }
+    {
+        ForwardTsnRef {
             new_cumulative_tsn: Tsn(read_u32_be(value)),
             by_mid: true,
             count: (value.len() - FIXED_SIZE) / MID_STREAM_SIZE,
             streams: &value[FIXED_SIZE..],
-        })
+        }
     }
 
     /// Returns the TSN up to which all is to be taken as received.

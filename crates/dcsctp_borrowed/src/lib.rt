@@ -5,6 +5,7 @@
 //! read where they lie. What is read here is what `dcsctp_wire` builds, by the same clauses.
 #![tactic(auto)]
 
+pub mod checked_chunks;
 pub mod cookie_echo;
 pub mod forward_tsn_ref;
 pub mod heartbeat_info;

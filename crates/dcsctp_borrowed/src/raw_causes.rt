@@ -58,7 +58,7 @@ impl<'a> RawCauses<'a> {
     }
 
     /// The causes that these bytes mean.
-    fn new(rest: &'a [u8]) -> RawCauses<'a>
+    pub(crate) fn new(rest: &'a [u8]) -> RawCauses<'a>
         requires { MeansSome (causes lenient) rest.now }
         ensures { result ≡ rest.now }
     {
@@ -67,7 +67,8 @@ impl<'a> RawCauses<'a> {
 }
 
 /// Where a chunk of this type has its error causes.
-fn cause_bytes(typ: u8, value: &[u8]) -> Option<&[u8]>
+#[inline(always)]
+pub(crate) fn cause_bytes(typ: u8, value: &[u8]) -> Option<&[u8]>
     ensures { option_map (λ bytes. bytes.now) result ≡ cause_bytes typ value.now }
 {
     match typ {

@@ -6,6 +6,7 @@ ghost use Rattle.dcsctp_tlv.specs.Level.{MeansSome};
 ghost use Rattle.dcsctp_tlv.specs.Number.{AreBytes};
 ghost use Rattle.dcsctp_wire.specs.Chunk.{chunks};
 
+use crate::checked_chunks::CheckedChunks;
 use dcsctp_tlv::frame::frame_parts;
 use dcsctp_wire::packet::chunk::RawChunk;
 use std::marker::Model;
@@ -36,6 +37,14 @@ impl<'a> RawChunks<'a> {
         ensures { result ≡ rest.now }
     {
         RawChunks { rest }
+    }
+
+    /// Returns these chunks, each of a type that keeps what is known of it.
+    #[inline(always)]
+    pub fn checked(self) -> CheckedChunks<'a>
+        ensures { result ≡ self.entry }
+    {
+        CheckedChunks::new(self)
     }
 }
 

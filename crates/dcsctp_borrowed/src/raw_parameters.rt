@@ -64,7 +64,7 @@ impl<'a> RawParameters<'a> {
     }
 
     /// The parameters that these bytes mean.
-    fn new(rest: &'a [u8]) -> RawParameters<'a>
+    pub(crate) fn new(rest: &'a [u8]) -> RawParameters<'a>
         requires { MeansSome (parameters lenient) rest.now }
         ensures { result ≡ rest.now }
     {
@@ -73,7 +73,8 @@ impl<'a> RawParameters<'a> {
 }
 
 /// Where a chunk of this type has its parameters.
-fn parameter_bytes(typ: u8, value: &[u8]) -> Option<&[u8]>
+#[inline(always)]
+pub(crate) fn parameter_bytes(typ: u8, value: &[u8]) -> Option<&[u8]>
     ensures { option_map (λ bytes. bytes.now) result ≡ parameter_bytes typ value.now }
 {
     match typ {

@@ -1,6 +1,6 @@
 //! A SACK, in a packet's bytes.
 
-ghost use Rattle.std.specs.Prelude.{◌≡◌, ◌↔◌, ◌<◌, ◌≤◌, ◌+◌, ◌*◌, ◌^◌, ℕ, List, Some, IsTrue, length, drop, slice_get};
+ghost use Rattle.std.specs.Prelude.{◌≡◌, ◌↔◌, ◌<◌, ◌≤◌, ◌+◌, ◌*◌, ◌^◌, ℕ, List, Some, IsOk, IsTrue, length, drop, slice_get};
 ghost use Rattle.std.specs.Iterator.{YieldsFirst, YieldsFirstBy, item_count};
 ghost use Rattle.std.specs.Result.{result_ok};
 ghost use Rattle.dcsctp_types.specs.Serial.{wrapped_sum, IsGreater};
@@ -77,17 +77,28 @@ impl<'a> SackRef<'a> {
         if value.len() < FIXED_SIZE {
             return None;
         }
-        let (block_count, duplicate_count) = counts(&value[8..]);
+        let (block_count, duplicate_count) = two_numbers(&value[8..]);
         if value.len() != FIXED_SIZE + 4 * block_count as usize + 4 * duplicate_count as usize {
             return None;
         }
-        Some(SackRef {
+        Some(SackRef::of_checked(value))
+    }
+
+    /// What a value means that is known to mean a SACK.
+    #[tactic(auto, unfolding(dcsctp_chunk::specs::Sack::read))]
+    #[inline(always)]
+    pub(crate) fn of_checked(value: &'a [u8]) -> SackRef<'a>
+        requires { IsOk (read value.now) }
+        ensures { Some result ≡ result_ok (read value.now) }
+    {
+        let (block_count, duplicate_count) = two_numbers(&value[8..]);
+        SackRef {
             cumulative_tsn_ack: Tsn(read_u32_be(value)),
             a_rwnd: read_u32_be(&value[4..]),
             block_count,
             duplicate_count,
             lists: &value[FIXED_SIZE..],
-        })
+        }
     }
 
     /// Returns the last TSN that was received in sequence.
@@ -188,14 +199,14 @@ impl<'a> SackRef<'a> {
     }
 }
 
-/// The two numbers at the front, of two bytes each: how many blocks there are, and how many
-/// duplicates.
+/// The two numbers at the front, of two bytes each: how many blocks and how many duplicates there
+/// are, or where a block starts and ends.
 // One load serves both.
 #[inline(always)]
-fn counts(bytes: &[u8]) -> (u16, u16)
+fn two_numbers(bytes: &[u8]) -> (u16, u16)
     requires { 4 ≤ length bytes.now }
-    ensures blocks { result.0 ≡ number16 bytes.now }
-    ensures duplicates { result.1 ≡ number16 (drop 2 bytes.now) }
+    ensures first { result.0 ≡ number16 bytes.now }
+    ensures second { result.1 ≡ number16 (drop 2 bytes.now) }
 {
     let both = read_u32_be(bytes);
     ((both / 65536) as u16, (both % 65536) as u16)
@@ -229,10 +240,10 @@ impl<'a> Iterator for GapAckBlocks<'a> {
         if self.count == 0 {
             return None;
         }
-        let block = GapAckBlock::read(self.rest);
+        let (start, end) = two_numbers(self.rest);
         self.count -= 1;
         self.rest = &self.rest[4..];
-        Some(block)
+        Some(GapAckBlock { start, end })
     }
 }
 

@@ -1,6 +1,6 @@
 //! The user data of DATA and I-DATA, in a packet's bytes.
 
-ghost use Rattle.std.specs.Prelude.{◌≡◌, ◌≤◌, IfSome, not, option_map, if◌then◌else◌, length, drop};
+ghost use Rattle.std.specs.Prelude.{◌≡◌, ◌≤◌, IfSome, IsOk, Some, not, option_map, if◌then◌else◌, length, drop};
 ghost use Rattle.std.specs.Result.{result_ok};
 ghost use Rattle.dcsctp_types.specs.StreamKey.{is_ordered_key, stream_of};
 ghost use Rattle.dcsctp_tlv.specs.Number.{number16};
@@ -94,7 +94,18 @@ impl<'a> UserData<'a> {
         if value.len() < DATA_SIZE {
             return None;
         }
-        Some(UserData {
+        Some(UserData::of_checked_data(flags, value))
+    }
+
+    /// What a value means that is known to mean a DATA chunk.
+    #[inline(always)]
+    #[tactic(auto, unfolding(dcsctp_chunk::specs::DataChunk::read))]
+    pub(crate) fn of_checked_data(flags: u8, value: &'a [u8]) -> UserData<'a>
+        requires { IsOk (data_kind.read flags value.now) }
+        ensures read { Some (user_data_view result) ≡ result_ok (data_kind.read flags value.now) }
+        ensures size { length result.payload.now ≤ length value.now }
+    {
+        UserData {
             tsn: Tsn(read_u32_be(value)),
             stream_key: stream_key_of(flags, value),
             ssn: Ssn(read_u16_be(&value[6..])),
@@ -105,7 +116,7 @@ impl<'a> UserData<'a> {
             is_beginning: is_set(flags, 1),
             is_end: is_set(flags, 0),
             immediate_ack: is_set(flags, 3),
-        })
+        }
     }
 
     /// What an I-DATA chunk's value means, under these flags.
@@ -119,9 +130,20 @@ impl<'a> UserData<'a> {
         if value.len() < IDATA_SIZE {
             return None;
         }
+        Some(UserData::of_checked_idata(flags, value))
+    }
+
+    /// What a value means that is known to mean an I-DATA chunk.
+    #[inline(always)]
+    #[tactic(auto, unfolding(dcsctp_chunk::specs::IDataChunk::read))]
+    pub(crate) fn of_checked_idata(flags: u8, value: &'a [u8]) -> UserData<'a>
+        requires { IsOk (idata_kind.read flags value.now) }
+        ensures read { Some (user_data_view result) ≡ result_ok (idata_kind.read flags value.now) }
+        ensures size { length result.payload.now ≤ length value.now }
+    {
         let is_beginning = is_set(flags, 1);
         let (ppid, fsn) = ppid_and_fsn(is_beginning, read_u32_be(&value[12..]));
-        Some(UserData {
+        UserData {
             tsn: Tsn(read_u32_be(value)),
             stream_key: stream_key_of(flags, value),
             ssn: Ssn(0),
@@ -132,7 +154,7 @@ impl<'a> UserData<'a> {
             is_beginning,
             is_end: is_set(flags, 0),
             immediate_ack: is_set(flags, 3),
-        })
+        }
     }
 }
 

@@ -8,10 +8,10 @@ ghost use Rattle.dcsctp_borrowed.specs.UserData.{user_data_view};
 ghost use Rattle.speed_probes.specs.Walk as spec;
 
 use crate::ANY_CHECKSUM;
+use dcsctp_borrowed::checked_chunks::CheckedChunk;
 use dcsctp_borrowed::packet_ref::SctpPacketRef;
 use dcsctp_borrowed::sack_ref::{GapAckBlocks, SackRef};
 use dcsctp_borrowed::user_data::UserData;
-use dcsctp_wire::packet::chunk::RawChunk;
 use dcsctp_wire::packet::data_chunk;
 
 /// Reads a packet in its bytes, and adds up every number of its DATA, I-DATA and SACK, and 1 for
@@ -25,8 +25,8 @@ pub extern "C" fn speed_probes_walk(bytes: &[u8]) -> u64
     match SctpPacketRef::from_bytes(bytes, 0, &ANY_CHECKSUM) {
         Ok(packet) => {
             let mut sum = 0;
-            for raw in packet.chunks {
-                sum = with_chunk(sum, &raw);
+            for chunk in packet.chunks.checked() {
+                sum = with_chunk(sum, &chunk);
             }
             sum
         }
@@ -37,24 +37,24 @@ pub extern "C" fn speed_probes_walk(bytes: &[u8]) -> u64
 /// Adds the numbers of a chunk, or 1 where it is of another kind.
 // DATA is a case of its own, so that its sum leaves out what I-DATA alone carries.
 #[inline(always)]
-fn with_chunk(sum: u64, raw: &RawChunk) -> u64
-    ensures { (tree : ChunkTree) → RawMeans raw.now tree → result ≡ spec.with_chunk sum tree }
+fn with_chunk(sum: u64, chunk: &CheckedChunk) -> u64
+    ensures { (tree : ChunkTree) → RawMeans chunk.now tree → result ≡ spec.with_chunk sum tree }
 {
-    match raw.typ {
-        data_chunk::CHUNK_TYPE => with_user_data_or_sack(sum, raw),
-        _ => with_sack_or_user_data(sum, raw),
+    match chunk.chunk_type() {
+        data_chunk::CHUNK_TYPE => with_user_data_or_sack(sum, chunk),
+        _ => with_sack_or_user_data(sum, chunk),
     }
 }
 
 /// Adds the numbers of a chunk, which is user data more often than a SACK.
 #[inline(always)]
-fn with_user_data_or_sack(sum: u64, raw: &RawChunk) -> u64
-    ensures { (tree : ChunkTree) → RawMeans raw.now tree → result ≡ spec.with_chunk sum tree }
+fn with_user_data_or_sack(sum: u64, chunk: &CheckedChunk) -> u64
+    ensures { (tree : ChunkTree) → RawMeans chunk.now tree → result ≡ spec.with_chunk sum tree }
 {
-    if let Some(data) = UserData::from_raw(raw) {
+    if let Some(data) = chunk.as_user_data() {
         return with_data(sum, &data);
     }
-    match SackRef::from_raw(raw) {
+    match chunk.as_sack() {
         Some(sack) => with_sack(sum, &sack),
         None => sum.wrapping_add(1),
     }
@@ -62,13 +62,13 @@ fn with_user_data_or_sack(sum: u64, raw: &RawChunk) -> u64
 
 /// Adds the numbers of a chunk, which is a SACK more often than user data.
 #[inline(always)]
-fn with_sack_or_user_data(sum: u64, raw: &RawChunk) -> u64
-    ensures { (tree : ChunkTree) → RawMeans raw.now tree → result ≡ spec.with_chunk sum tree }
+fn with_sack_or_user_data(sum: u64, chunk: &CheckedChunk) -> u64
+    ensures { (tree : ChunkTree) → RawMeans chunk.now tree → result ≡ spec.with_chunk sum tree }
 {
-    if let Some(sack) = SackRef::from_raw(raw) {
+    if let Some(sack) = chunk.as_sack() {
         return with_sack(sum, &sack);
     }
-    match UserData::from_raw(raw) {
+    match chunk.as_user_data() {
         Some(data) => with_data(sum, &data),
         None => sum.wrapping_add(1),
     }
@@ -107,17 +107,19 @@ fn with_sack(sum: u64, sack: &SackRef) -> u64
 }
 
 /// Adds the starts and the ends of gap ack blocks.
-// 65,535 numbers of 16 bits have a sum of 32 bits, and an instruction adds four of those.
+// 65,535 numbers of 16 bits have a sum of 32 bits, and an instruction adds four of those. The two
+// numbers of a block are added as one, as they are read: less the starts, that sum is the ends'.
 #[inline(always)]
 fn with_blocks(sum: u64, blocks: GapAckBlocks) -> u64
     requires { length blocks < 2 ^ 16 }
     ensures { result ≡ spec.with_blocks sum blocks.entry }
 {
     let mut starts: u32 = 0;
-    let mut ends: u32 = 0;
+    let mut both: u32 = 0;
     for block in blocks {
         starts += block.start as u32;
-        ends += block.end as u32;
+        both = both.wrapping_add(block.start as u32 * 65536 + block.end as u32);
     }
+    let ends = both.wrapping_sub(starts % 65536 * 65536);
     sum.wrapping_add(starts as u64 + ends as u64)
 }

@@ -7,7 +7,7 @@ use Rattle.speed_probes.specs.declared.TheConstants.{ANY_CHECKSUM}
 use Rattle.speed_probes.proofs.walk.speed_probes_walk.Given as goal
 
 -- what the chunks add that are left, after those that were gone over, is the packet's sum
-abbrev pub invariant-loop-raw : goal.invariant-loop-raw
-invariant-loop-raw l = (p : PacketTree) → Answer l.bytes 0 ANY_CHECKSUM (Ok p)
-    → (left : List ChunkTree) × MeanChunks l.raw-iterator left
+abbrev pub invariant-loop-chunk : goal.invariant-loop-chunk
+invariant-loop-chunk l = (p : PacketTree) → Answer l.bytes 0 ANY_CHECKSUM (Ok p)
+    → (left : List ChunkTree) × MeanChunks l.chunk-iterator left
     × (with_chunks l.sum left ≡ with_chunks 0 p.meaning.chunks)

@@ -2,24 +2,21 @@ use Rattle.std.proofs.Common.{◌≡◌, ◌+◌, ◌*◌, true, length, drop, r
 use Rattle.std.specs.Prelude.{◌==◌}
 use Rattle.std.proofs.lemmas.Bool.{eq-eqb}
 use Rattle.std.proofs.lemmas.List.{take_rest, drop-drop}
-use Rattle.dcsctp_tlv.specs.Number.{number16, number32}
+use Rattle.dcsctp_tlv.specs.Number.{number16}
 use Rattle.dcsctp_chunk.specs.Sack.{block_count, duplicate_count, read}
 use Rattle.dcsctp_borrowed.proofs.sack_ref.SackRef.of_value.Goals as goal
 
-pub returns : goal.returns
+pub of_checked-requires : goal.of_checked-requires
 unfolding read
-returns c =
+of_checked-requires c =
     let value = c.args.value.now in
-    let n = c.counts-block_count.result.0 in
-    let m = c.counts-block_count.result.1 in
+    let n = c.two_numbers-block_count.result.0 in
+    let m = c.two_numbers-block_count.result.1 in
     let count : block_count value ≡ n =
-    sym (c.counts-block_count.ensures.blocks ∙ ap number16 (take_rest value 8)) in
-    let more : duplicate_count value ≡ m = sym (c.counts-block_count.ensures.duplicates
+    sym (c.two_numbers-block_count.ensures.first ∙ ap number16 (take_rest value 8)) in
+    let more : duplicate_count value ≡ m = sym (c.two_numbers-block_count.ensures.second
     ∙ ap (λ bytes. number16 (drop 2 bytes)) (take_rest value 8)
     ∙ ap number16 (drop-drop 2 8 value)) in
     let whole : (length value == 12 + 4 * n + 4 * m) ≡ true =
     eq-eqb (length value) (12 + 4 * n + 4 * m) c.if-value-block_count.false in
-    let tsn : number32 value ≡ c.read_u32_be.result = sym c.read_u32_be.ensures in
-    let a_rwnd : number32 (drop 4 value) ≡ c.read_u32_be-2.result =
-    sym (c.read_u32_be-2.ensures ∙ ap number32 (take_rest value 4)) in
-    rw (take_rest value 12, drop-drop (4 * n) 12 value, count, more, whole, tsn, a_rwnd) refl
+    rw (count, more, whole) refl

@@ -1,15 +1,15 @@
 use Rattle.std.proofs.Common.{◌/◌, ◌%◌, ap, ◌∙◌}
 use Rattle.dcsctp_borrowed.proofs.NumberPairs.{pair_first, pair_second}
-use Rattle.dcsctp_borrowed.proofs.sack_ref.counts.Goals as goal
+use Rattle.dcsctp_borrowed.proofs.sack_ref.two_numbers.Goals as goal
 
-pub returns-clause-blocks : goal.returns-clause-blocks
-returns-clause-blocks c =
+pub returns-clause-first : goal.returns-clause-first
+returns-clause-first c =
     let bytes = c.args.bytes.now in
     ap (λ n. n / 65536) c.read_u32_be-both.ensures ∙ pair_first bytes c.requires
     (λ i. (c.type_inv.bytes i).fits)
 
-pub returns-clause-duplicates : goal.returns-clause-duplicates
-returns-clause-duplicates c =
+pub returns-clause-second : goal.returns-clause-second
+returns-clause-second c =
     let bytes = c.args.bytes.now in
     ap (λ n. n % 65536) c.read_u32_be-both.ensures ∙ pair_second bytes c.requires
     (λ i. (c.type_inv.bytes i).fits)

@@ -1,9 +1,11 @@
-use Rattle.std.proofs.Common.{◌≡◌, length, drop, refl, sym, ap, ◌∙◌, arith}
-use Rattle.std.proofs.lemmas.Bool.{le-ltb}
+use Rattle.std.proofs.Common.{◌≡◌, length, drop, refl, sym, ap, ◌∙◌}
+use Rattle.std.specs.Prelude.{nat_lt}
 use Rattle.std.proofs.lemmas.List.{take_rest}
+use Rattle.dcsctp_tlv.specs.Fault.{Length}
+use Rattle.dcsctp_tlv.proofs.Readings.{ok_not_refused}
 use Rattle.dcsctp_tlv.specs.Number.{number32}
 use Rattle.dcsctp_chunk.specs.IDataChunk.{read}
-use Rattle.dcsctp_borrowed.proofs.user_data.UserData.of_idata.Goals as goal
+use Rattle.dcsctp_borrowed.proofs.user_data.UserData.of_checked_idata.Goals as goal
 
 pub returns-clause-read : goal.returns-clause-read
 unfolding read
@@ -16,7 +18,7 @@ returns-clause-read c =
     sym (c.read_u32_be-3.ensures ∙ ap number32 (take_rest value 8)) in
     let key = c.stream_key_of.ensures in
     let last = c.ppid_and_fsn.ensures in
-    let long = le-ltb (length value) 16 (omega (arith, c.if-value-lt-IDATA_SIZE.false)) in
+    let long = (ok_not_refused (nat_lt (length value) 16) _ Length c.requires).0 in
     rw (
       take_rest value 16,
       long,
