@@ -2,7 +2,7 @@
 
 use crate::outcomes::Outcome::{Kept, Length, Size, TooLong, Value};
 use crate::outcomes::{Outcome, outcome_of_chunks};
-use hex_rows::bytes_of;
+use samples::help::repeated;
 use std::alloc::Global;
 use std::test::Fail;
 
@@ -83,11 +83,7 @@ fn outcome_of_repeated(
     count: usize,
     end: &[u8],
 ) -> Result<Outcome, Fail> {
-    let item = bytes_of(alloc, item)?;
-    let mut bytes = bytes_of(alloc, front)?;
-    for _ in 0..count {
-        bytes.extend_from_slice(&item)?;
-    }
+    let mut bytes = repeated(alloc, front, item, count)?;
     bytes.extend_from_slice(end)?;
     outcome_of_chunks(alloc, &bytes)
 }
