@@ -152,7 +152,10 @@ pub(crate) fn met_rows<F: Fn(Global, &[u8], &str) -> Met>(alloc: Global, rows: &
     met
 }
 
-/// A parameter or error cause before its value is looked at.
-pub(crate) fn parameter(typ: u16, value: &[u8]) -> RawParameter<'_> {
-    RawParameter { typ, value }
+/// The type of the parameter or the code of the error cause at the front.
+pub(crate) fn type_of(bytes: &[u8]) -> u16 {
+    match RawParameter::from_bytes(bytes) {
+        Ok((raw, _)) => raw.typ,
+        Err(_) => 0,
+    }
 }
