@@ -158,7 +158,7 @@ fn parameters_kept(alloc: Global) -> Result<(usize, usize, usize, usize, bool), 
     Ok((checked, list.len(), size, written, is_same))
 }
 
-/// Whether two parameters of so many bytes in all can be written.
+/// Whether two parameters with values of these sizes can be written.
 fn are_encodable(alloc: Global, first: usize, second: usize) -> Result<bool, AllocError> {
     let first = UnknownParameter::new(99, vec![in alloc; 1; first]?);
     let second = UnknownParameter::new(99, vec![in alloc; 1; second]?);

@@ -5,7 +5,7 @@ use crate::outcomes::{Outcome, outcome_of_chunks};
 use std::alloc::Global;
 use std::test::Fail;
 
-/// The outcome of an ABORT with a cause that counts missing parameters, and has so many types.
+/// The outcome of an ABORT with a cause that counts missing parameters, and has `types` types.
 fn outcome_of_missing(alloc: Global, count: u32, types: u8) -> Result<Outcome, Fail> {
     let size = types.saturating_mul(2);
     let (chunk, cause) = (size.saturating_add(12), size.saturating_add(8));
@@ -42,7 +42,7 @@ fn of_missing_parameters(rt: HostRuntime) -> Result<(), Fail> {
     Ok(())
 }
 
-/// The outcome of a SACK that counts so many blocks and duplicates, and has so many words of four
+/// The outcome of a SACK that counts these blocks and duplicates, and has `words` words of four
 /// bytes for them.
 fn outcome_of_sack(
     alloc: Global,

@@ -5,7 +5,7 @@ use dcsctp_wire::packet::round_up_to_4;
 use std::alloc::Global;
 use std::test::Fail;
 
-/// The outcome of a chunk with this length field, and a value of so many zeros.
+/// The outcome of a chunk with this length field, and a value of `zeros` zeros.
 fn outcome_of_length(alloc: Global, typ: u8, length: u16, zeros: usize) -> Result<Outcome, Fail> {
     let [high, low] = length.to_be_bytes();
     let mut bytes = Vec::from_slice(alloc, &[typ, 0, high, low])?;
@@ -13,8 +13,8 @@ fn outcome_of_length(alloc: Global, typ: u8, length: u16, zeros: usize) -> Resul
     outcome_of_chunks(alloc, &bytes)
 }
 
-/// Of how many types a chunk with this length field, and so many zeros after it, is refused for its
-/// length.
+/// The number of types of which a chunk with this length field, and `zeros` zeros after it, is
+/// refused for its length.
 fn types_refused(alloc: Global, length: u16, zeros: usize) -> Result<usize, Fail> {
     let mut refused = 0usize;
     for typ in 0..=255 {
@@ -62,7 +62,7 @@ fn beyond_the_packet(rt: HostRuntime) -> Result<(), Fail> {
     Ok(())
 }
 
-/// What an item of this length in so many bytes is answered with: it is kept with none of its padding,
+/// What an item of this length in `size` bytes is answered with: it is kept with none of its padding,
 /// with some, and with all of it.
 fn wanted_of(length: u16, size: usize, parts: usize) -> Outcome {
     let least = usize::from(length);

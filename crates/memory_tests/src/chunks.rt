@@ -126,7 +126,7 @@ c200000f 0000007b 00010001 000000 = InvalidLength
 # a result without a meaning, after a parameter that asks for memory
 82000018 00010008 01020304 0010000c 00000001 00000007 = InvalidValue";
 
-// Each fault is told, and not memory.
+// Each fault is the answer, and not memory.
 #[test]
 fn faults(rt: HostRuntime) {
     assert_eq!(rt; met_rows(rt.alloc(), FAULTS, kind), Met::Answer);

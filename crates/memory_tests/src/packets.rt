@@ -6,12 +6,12 @@ use dcsctp_wire::packet::sctp_packet::{ChecksumPolicy, PacketParseError, SctpPac
 use std::alloc::{AllocError, Global};
 use std::test::Fail;
 
-/// The fault that tells that memory ran out, and no other.
+/// The fault for which memory ran out, and no other.
 const OUT_OF_MEMORY: PacketParseError = PacketParseError::FailedParseChunk(
     ChunkParseError::OutOfMemory,
 );
 
-/// Whether a packet whose chunks have these fields was read, or this fault was told.
+/// Whether a packet whose chunks have these fields was read, or this is its fault.
 fn read(alloc: Global, bytes: &[u8], wanted: &str) -> Met {
     match SctpPacket::from_bytes(alloc, bytes, 0, &ChecksumPolicy::ANY_CHECKSUM) {
         Ok(packet) => met_fields(&packet.chunks, wanted),
@@ -88,13 +88,13 @@ const FAULTS: &str = r"# a header alone, and all but one byte of a chunk's heade
 13881388 01020304 00000000 0b000005 = FailedParseChunk(InvalidLength)
 # a response whose result has no meaning
 13881388 01020304 00000000 82000010 0010000c 00000001 00000007 = FailedParseChunk(InvalidValue)
-# the same ahead of a chunk that has no frame
+# the same before a chunk that has no frame
 13881388 01020304 00000000 82000010 0010000c 00000001 00000007 0b000003
 = FailedParseChunk(InvalidValue)
 # such a result in a value of a length that none has
 13881388 01020304 00000000 82000014 00100010 00000001 00000007 00000002
 = FailedParseChunk(InvalidLength)
-# chunks that ask for memory, ahead of one that has no frame
+# chunks that ask for memory, before one that has no frame
 13881388 01020304 00000000 0a000005 7f000000 0600000b 000c0007 62796500 0b000003
 = FailedParseChunk(InvalidLength)";
 
@@ -111,7 +111,7 @@ fn faults(rt: HostRuntime) {
 }
 
 /// Whether, with another checksum than its field, the packet is refused for that: or for its size,
-/// which is told ahead of it.
+/// which comes before it.
 fn unsealed(alloc: Global, bytes: &[u8], _wanted: &str) -> Met {
     match SctpPacket::from_bytes(alloc, bytes, 5, &ChecksumPolicy::default()) {
         Err(PacketParseError::InvalidPacketSize) if bytes.len() < 16 => Met::Answer,
