@@ -11,8 +11,7 @@ use dcsctp_wire::packet::data::Data;
 use dcsctp_wire::packet::sctp_packet::{ChecksumPolicy, CommonHeader, SctpPacket};
 use dcsctp_wire::types::Tsn;
 use hex_rows::are_answered;
-use samples::captures::TWO_CHUNKS;
-use samples::help::{STRICT, UNVERIFIED, header_of, packet_of, packet_shown, raw_of, shown};
+use samples::help::{STRICT, UNVERIFIED, answered, packet_of, raw_of, shown};
 use samples::{captures, chunks, packets};
 use std::alloc::{AllocError, Global};
 use std::test::Fail;
@@ -95,52 +94,28 @@ fn has_same_data(alloc: Global, raw: RawChunk) -> Result<bool, Fail> {
     Ok(built_data_text(alloc, &chunk)?.as_str() == text.as_str())
 }
 
-/// How many chunks the header and these have, each with the same user data in both readings.
-fn count_same_data(alloc: Global, chunks: &[u8]) -> Result<usize, Fail> {
+/// Whether both readings of the header and these chunks are the same under both policies, and so is
+/// the user data of each chunk.
+fn has_same(alloc: Global, chunks: &[u8]) -> Result<bool, Fail> {
     let bytes = packet_of(alloc, chunks)?;
-    let mut count: usize = 0;
-    for raw in SctpPacketRef::from_bytes(&bytes, 0, &UNVERIFIED)?.chunks {
-        if has_same_data(alloc, raw)? {
-            count = count.saturating_add(1);
+    let mut is_same = agree(alloc, chunks, &UNVERIFIED)? && agree(alloc, chunks, &STRICT)?;
+    if let Ok(packet) = SctpPacketRef::from_bytes(&bytes, 0, &UNVERIFIED) {
+        for raw in packet.chunks {
+            is_same &= has_same_data(alloc, raw)?;
         }
     }
-    Ok(count)
+    Ok(is_same)
 }
 
-/// How many chunks the packet has.
-fn count_built(alloc: Global, chunks: &[u8]) -> Result<usize, Fail> {
-    let bytes = packet_of(alloc, chunks)?;
-    Ok(
-        SctpPacket::from_bytes(alloc, &bytes, 0, &UNVERIFIED)?
-            .chunks
-            .len(),
-    )
-}
-
-/// What the packet of these chunks prints, if both readings hold the same under both policies.
+/// What the packet of these chunks is answered with, if both readings are the same.
 fn packet_agreed(alloc: Global, chunks: &[u8]) -> Result<String, Fail> {
-    if !agree(alloc, chunks, &UNVERIFIED)? || !agree(alloc, chunks, &STRICT)? {
+    if !has_same(alloc, chunks)? {
         return Err(Fail::new("the readings differ"));
     }
-    Ok(packet_shown(alloc, chunks, &UNVERIFIED)?)
+    answered(alloc, chunks)
 }
 
-#[test]
-fn of_packets(rt: HostRuntime) -> Result<(), Fail> {
-    are_answered(
-        rt.alloc(),
-        packets::ROWS,
-        |alloc, chunks| packet_agreed(alloc, chunks),
-    )
-}
-
-/// Both readings hold the same, and each chunk has the same user data in both.
-fn has_same(alloc: Global, chunks: &[u8]) -> Result<bool, Fail> {
-    let count = count_built(alloc, chunks)?;
-    Ok(agree(alloc, chunks, &UNVERIFIED)? && count_same_data(alloc, chunks)? == count)
-}
-
-/// All that the chunk is, if it is the same in both readings.
+/// All that the chunk is, if both readings are the same.
 fn chunk_agreed(alloc: Global, chunk: &[u8]) -> Result<String, Fail> {
     if !has_same(alloc, chunk)? {
         return Err(Fail::new("the readings differ"));
@@ -149,19 +124,15 @@ fn chunk_agreed(alloc: Global, chunk: &[u8]) -> Result<String, Fail> {
 }
 
 #[test]
-fn of_chunks(rt: HostRuntime) -> Result<(), Fail> {
+fn of_packets_and_chunks(rt: HostRuntime) -> Result<(), Fail> {
     are_answered(
         rt.alloc(),
-        chunks::ROWS,
-        |alloc, chunk| chunk_agreed(alloc, chunk),
+        packets::ROWS,
+        |alloc, chunks| packet_agreed(alloc, chunks),
     )?;
-    for (i, (chunk, _)) in captures::ROWS.iter().enumerate() {
-        assert!(rt; has_same(rt.alloc(), chunk)?, "row {i}");
+    for rows in [chunks::ROWS, captures::ROWS] {
+        are_answered(rt.alloc(), rows, |alloc, chunk| chunk_agreed(alloc, chunk))?;
     }
-    assert!(rt; has_same(rt.alloc(), TWO_CHUNKS)?);
-    // the INIT without its padding
-    assert!(rt; agree(rt.alloc(), &captures::INIT[..90], &UNVERIFIED)?);
-    assert!(rt; agree(rt.alloc(), &captures::INIT[..90], &STRICT)?);
     Ok(())
 }
 
@@ -216,7 +187,10 @@ fn of_changes(rt: HostRuntime) -> Result<(), Fail> {
         0x13, 0x88, 0x13, 0x88, 5, 6, 7, 8, 9, 10, 11, 12, 0x0b, 0, 0, 4,
     ];
     assert_eq!(rt; bytes, sealed);
-    let header = header_of(rt.alloc(), &bytes, 0x090a0b0c, &ChecksumPolicy::default())?;
-    assert_eq!(rt; header, (5000, 5000, 0x05060708, 0x090a0b0c));
+    assert!(rt; SctpPacket::check(&bytes, 0x090a0b0c, &ChecksumPolicy::default()) == Ok(1));
+    assert_eq!(rt;
+        built_text(rt.alloc(), &bytes, &UNVERIFIED)?.as_str(),
+        "5000 5000 84281096 151653132 [CookieAck(CookieAckChunk)]"
+    );
     Ok(())
 }

@@ -9,7 +9,6 @@ use dcsctp_wire::packet::ChunkParseError;
 use dcsctp_wire::packet::error_causes::ErrorCause;
 use dcsctp_wire::packet::parameter::Parameter;
 use hex_rows::are_answered;
-use samples::captures::{HEARTBEAT, HEARTBEAT_ACK};
 use samples::help::raw_of;
 use std::alloc::Global;
 use std::test::Fail;
@@ -106,6 +105,11 @@ const COOKIES_AND_INFOS: &str =
 0b000004 = None
 # two infos in one HEARTBEAT: without a byte, and three bytes before one of padding
 04ff0010 00010004 00010007 07080901 = None; Some([]); Some([7, 8, 9])
+# captured: HEARTBEAT and HEARTBEAT ACK
+0400002c 00010028 ad243660 37260700 00000000 00000000 7b100000 01000000 00000000 00000000 00000000
+= None; Some([173, 36, 54, 96, 55, 38, 7, 0, 0, 0, 0, 0, 0, 0, 0, 0, 123, 16, 0, 0, 1, 0, 0, 0, 0, 0, 0, 0, 0, 0, 0, 0, 0, 0, 0, 0])
+0500002c 00010028 ad243660 37260700 00000000 00000000 7b100000 01000000 00000000 00000000 00000000
+= None; Some([173, 36, 54, 96, 55, 38, 7, 0, 0, 0, 0, 0, 0, 0, 0, 0, 123, 16, 0, 0, 1, 0, 0, 0, 0, 0, 0, 0, 0, 0, 0, 0, 0, 0, 0, 0])
 # a state cookie; the types 0, 2 and 257; no parameter
 05000009 00070005 07 = None; None
 04000010 00000004 00020004 01010004 = None; None; None; None
@@ -117,12 +121,5 @@ fn of_cookies_and_infos(rt: HostRuntime) -> Result<(), Fail> {
         rt.alloc(),
         COOKIES_AND_INFOS,
         |alloc, bytes| cookie_and_infos(alloc, bytes),
-    )?;
-    for bytes in [HEARTBEAT, HEARTBEAT_ACK] {
-        let text = cookie_and_infos(rt.alloc(), bytes)?;
-        let wanted =
-            "None; Some([173, 36, 54, 96, 55, 38, 7, 0, 0, 0, 0, 0, 0, 0, 0, 0, 123, 16, 0, 0, 1, 0, 0, 0, 0, 0, 0, 0, 0, 0, 0, 0, 0, 0, 0, 0])";
-        assert_eq!(rt; text.as_str(), wanted);
-    }
-    Ok(())
+    )
 }

@@ -18,8 +18,7 @@ use dcsctp_wire::packet::sack_chunk::GapAckBlock;
 use dcsctp_wire::packet::{ChunkParseError, SkippedStream};
 use dcsctp_wire::types::Tsn;
 use hex_rows::are_answered;
-use samples::captures::{TWO_CHUNKS, init_ack_bytes};
-use samples::help::{UNVERIFIED, packet_of, packet_shown, shown};
+use samples::help::{UNVERIFIED, answered, packet_of, shown};
 use samples::{captures, chunks, packets};
 use std::alloc::{AllocError, Global};
 use std::test::Fail;
@@ -163,16 +162,12 @@ pub(crate) fn agree(alloc: Global, chunks: &[u8]) -> Result<bool, Fail> {
     Ok(is_same)
 }
 
-fn agree_on_init_ack(alloc: Global) -> Result<bool, Fail> {
-    agree(alloc, &init_ack_bytes(alloc)?)
-}
-
-/// What the packet of these chunks prints, if both readings have the same parts.
+/// What the packet of these chunks is answered with, if both readings have the same parts.
 fn packet_agreed(alloc: Global, chunks: &[u8]) -> Result<String, Fail> {
     if !agree(alloc, chunks)? {
         return Err(Fail::new("the readings differ"));
     }
-    Ok(packet_shown(alloc, chunks, &UNVERIFIED)?)
+    answered(alloc, chunks)
 }
 
 /// The same of a chunk alone.
@@ -190,18 +185,9 @@ fn of_packets_and_chunks(rt: HostRuntime) -> Result<(), Fail> {
         packets::ROWS,
         |alloc, chunks| packet_agreed(alloc, chunks),
     )?;
-    are_answered(
-        rt.alloc(),
-        chunks::ROWS,
-        |alloc, chunk| chunk_agreed(alloc, chunk),
-    )?;
-    for (i, (chunk, _)) in captures::ROWS.iter().enumerate() {
-        assert!(rt; agree(rt.alloc(), chunk)?, "row {i}");
+    for rows in [chunks::ROWS, captures::ROWS] {
+        are_answered(rt.alloc(), rows, |alloc, chunk| chunk_agreed(alloc, chunk))?;
     }
-    assert!(rt; agree(rt.alloc(), TWO_CHUNKS)?);
-    // the INIT without its padding
-    assert!(rt; agree(rt.alloc(), &captures::INIT[..90])?);
-    assert!(rt; agree_on_init_ack(rt.alloc())?);
     Ok(())
 }
 

@@ -1,106 +1,64 @@
 //! Headers of pcap files, worked by hand from draft-ietf-opsawg-pcap.
 
-use sctp_capture::pcap::{
-    ByteOrder, FileHeader, InputKind, PcapFormat, RecordHeader, Resolution, input_kind,
-    read_file_header, read_record_header,
-};
-
-const BIG: PcapFormat = PcapFormat {
-    order: ByteOrder::BigEndian,
-    resolution: Resolution::Microseconds,
-};
-
-const LITTLE: PcapFormat = PcapFormat {
-    order: ByteOrder::LittleEndian,
-    resolution: Resolution::Nanoseconds,
-};
+use hex_rows::are_answered;
+use sctp_capture::pcap::{ByteOrder, input_kind, read_file_header, read_record_header};
+use std::alloc::Global;
+use std::test::Fail;
 
 /// The first bytes of an input, and its kind.
-const KINDS: &[(&[u8], InputKind)] = &[
-    (b"\xa1\xb2\xc3\xd4", InputKind::Pcap(BIG)),
-    (b"\x4d\x3c\xb2\xa1\x02", InputKind::Pcap(LITTLE)),
-    (
-        b"\xd4\xc3\xb2\xa1",
-        InputKind::Pcap(PcapFormat {
-            order: ByteOrder::LittleEndian,
-            resolution: Resolution::Microseconds,
-        }),
-    ),
-    (
-        b"\xa1\xb2\x3c\x4d",
-        InputKind::Pcap(PcapFormat {
-            order: ByteOrder::BigEndian,
-            resolution: Resolution::Nanoseconds,
-        }),
-    ),
-    (b"\x0a\x0d\x0d\x0a", InputKind::Pcapng),
-    // the magic of a modified format
-    (b"\xa1\xb2\xcd\x34", InputKind::Text),
-    (b"\xa1\xb2\xc3", InputKind::Text),
-    (b"", InputKind::Text),
-    (b"1388", InputKind::Text),
-];
+const KINDS: &str = r"a1b2c3d4 = Pcap(PcapFormat { order: BigEndian, resolution: Microseconds })
+4d3cb2a1 02 = Pcap(PcapFormat { order: LittleEndian, resolution: Nanoseconds })
+d4c3b2a1 = Pcap(PcapFormat { order: LittleEndian, resolution: Microseconds })
+a1b23c4d = Pcap(PcapFormat { order: BigEndian, resolution: Nanoseconds })
+0a0d0d0a = Pcapng
+# the magic of a modified format, and one byte too few
+a1b2cd34 = Text
+a1b2c3 = Text
+# nothing, and the digits 1388
+ = Text
+31333838 = Text";
 
-#[test]
-fn kinds(rt: HostRuntime) {
-    for row in KINDS {
-        assert_eq!(rt; input_kind(row.0), row.1);
+fn kind(alloc: Global, bytes: &[u8]) -> Result<String, Fail> {
+    let kind = input_kind(bytes);
+    Ok(format!(in alloc; "{kind:?}")?)
+}
+
+/// The header of a file, and what it says.
+const FILES: &str =
+    r"# version 2.4, and a snapshot length of 65,535 bytes; the link type is 1, below bits that say
+# that frames end with a check sequence of 4 bytes
+a1b2c3d4 00020004 00000000 00000000 0000ffff 24000001
+= Some(FileHeader { format: PcapFormat { order: BigEndian, resolution: Microseconds }, major_version: 2, minor_version: 4, snapshot_length: 65535, link_type: 1 })
+# no limit of a snapshot, and link type 248
+4d3cb2a1 02000400 00000000 00000000 00000000 f8000000
+= Some(FileHeader { format: PcapFormat { order: LittleEndian, resolution: Nanoseconds }, major_version: 2, minor_version: 4, snapshot_length: 0, link_type: 248 })
+# no magic
+00000000 00000000 00000000 00000000 00000000 00000000 = None";
+
+fn file(alloc: Global, bytes: &[u8]) -> Result<String, Fail> {
+    if bytes.len() < 24 {
+        return Err(Fail::new("no header"));
     }
+    let header = read_file_header(bytes);
+    Ok(format!(in alloc; "{header:?}")?)
 }
 
-// Version 2.4, and a snapshot length of 65,535 bytes. The link type is 1, below bits that say that
-// frames end with a check sequence of 4 bytes.
-#[test]
-fn big_file(rt: HostRuntime) {
-    let bytes = [
-        0xa1, 0xb2, 0xc3, 0xd4, 0, 2, 0, 4, 0, 0, 0, 0, 0, 0, 0, 0, 0, 0, 0xff, 0xff, 0x24, 0, 0, 1,
-    ];
-    let wanted = FileHeader {
-        format: BIG,
-        major_version: 2,
-        minor_version: 4,
-        snapshot_length: 65_535,
-        link_type: 1,
-    };
-    assert_eq!(rt; read_file_header(&bytes), Some(wanted));
-}
+/// The header of a record, in both orders.
+const RECORDS: &str = r"01020304 00000005 ffffffff 00000100
+= RecordHeader { seconds: 16909060, fraction: 5, captured_length: 4294967295, original_length: 256 } RecordHeader { seconds: 67305985, fraction: 83886080, captured_length: 4294967295, original_length: 65536 }";
 
-// No limit of a snapshot, and link type 248.
-#[test]
-fn little_file(rt: HostRuntime) {
-    let bytes = [
-        0x4d, 0x3c, 0xb2, 0xa1, 2, 0, 4, 0, 0, 0, 0, 0, 0, 0, 0, 0, 0, 0, 0, 0, 248, 0, 0, 0,
-    ];
-    let wanted = FileHeader {
-        format: LITTLE,
-        major_version: 2,
-        minor_version: 4,
-        snapshot_length: 0,
-        link_type: 248,
-    };
-    assert_eq!(rt; read_file_header(&bytes), Some(wanted));
+fn record(alloc: Global, bytes: &[u8]) -> Result<String, Fail> {
+    if bytes.len() < 16 {
+        return Err(Fail::new("no header"));
+    }
+    let big = read_record_header(ByteOrder::BigEndian, bytes);
+    let little = read_record_header(ByteOrder::LittleEndian, bytes);
+    Ok(format!(in alloc; "{big:?} {little:?}")?)
 }
 
 #[test]
-fn other_file(rt: HostRuntime) {
-    assert_eq!(rt; read_file_header(&[0; 24]), None);
-}
-
-#[test]
-fn records(rt: HostRuntime) {
-    let bytes = [1, 2, 3, 4, 0, 0, 0, 5, 0xff, 0xff, 0xff, 0xff, 0, 0, 1, 0];
-    let wanted = RecordHeader {
-        seconds: 0x01020304,
-        fraction: 5,
-        captured_length: u32::MAX,
-        original_length: 256,
-    };
-    assert_eq!(rt; read_record_header(ByteOrder::BigEndian, &bytes), wanted);
-    let wanted = RecordHeader {
-        seconds: 0x04030201,
-        fraction: 0x0500_0000,
-        captured_length: u32::MAX,
-        original_length: 0x0001_0000,
-    };
-    assert_eq!(rt; read_record_header(ByteOrder::LittleEndian, &bytes), wanted);
+fn headers(rt: HostRuntime) -> Result<(), Fail> {
+    are_answered(rt.alloc(), KINDS, |alloc, bytes| kind(alloc, bytes))?;
+    are_answered(rt.alloc(), FILES, |alloc, bytes| file(alloc, bytes))?;
+    are_answered(rt.alloc(), RECORDS, |alloc, bytes| record(alloc, bytes))
 }

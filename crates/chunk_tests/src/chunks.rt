@@ -1,158 +1,173 @@
-//! Chunks of each kind, worked by hand: read, printed and written again.
+//! Chunks that are read: as of any kind, and as of their own; and chunk after chunk.
 
-use dcsctp_wire::api::{PpId, StreamId};
-use dcsctp_wire::packet::chunk::Chunk;
+use dcsctp_wire::packet::ChunkParseError;
+use dcsctp_wire::packet::abort_chunk::AbortChunk;
+use dcsctp_wire::packet::chunk::{Chunk, RawChunk};
 use dcsctp_wire::packet::cookie_ack_chunk::CookieAckChunk;
-use dcsctp_wire::packet::data::Data;
+use dcsctp_wire::packet::cookie_echo_chunk::CookieEchoChunk;
 use dcsctp_wire::packet::data_chunk::DataChunk;
+use dcsctp_wire::packet::error_chunk::ErrorChunk;
+use dcsctp_wire::packet::forward_tsn_chunk::ForwardTsnChunk;
+use dcsctp_wire::packet::heartbeat_ack_chunk::HeartbeatAckChunk;
+use dcsctp_wire::packet::heartbeat_request_chunk::HeartbeatRequestChunk;
 use dcsctp_wire::packet::idata_chunk::IDataChunk;
+use dcsctp_wire::packet::iforward_tsn_chunk::IForwardTsnChunk;
+use dcsctp_wire::packet::init_ack_chunk::InitAckChunk;
+use dcsctp_wire::packet::init_chunk::InitChunk;
+use dcsctp_wire::packet::re_config_chunk::ReConfigChunk;
+use dcsctp_wire::packet::sack_chunk::SackChunk;
+use dcsctp_wire::packet::shutdown_ack_chunk::ShutdownAckChunk;
 use dcsctp_wire::packet::shutdown_chunk::ShutdownChunk;
+use dcsctp_wire::packet::shutdown_complete_chunk::ShutdownCompleteChunk;
 use dcsctp_wire::packet::unknown_chunk::UnknownChunk;
-use dcsctp_wire::packet::{
-    PARAMETER_HEADER_SIZE, TLV_HEADER_SIZE, error_chunk, heartbeat_ack_chunk,
-};
-use dcsctp_wire::types::{Fsn, Mid, Ssn, StreamKey, Tsn};
-use hex_rows::are_answered;
-use samples::chunks::ROWS;
-use samples::help::{has_text, is_shown, shown};
-use std::alloc::{AllocError, Global};
+use hex_rows::{are_answered, digits_of};
+use samples::help::{answered, image_of, kind_shown, shown};
+use samples::{captures, chunks, packets};
+use std::alloc::Global;
 use std::test::Fail;
+
+/// What the raw chunk is as one of the kind that has this type.
+fn kind(alloc: Global, typ: u8, bytes: &[u8], raw: RawChunk) -> Result<String, Fail> {
+    match typ {
+        0 => kind_shown(alloc, bytes, DataChunk::try_from(alloc, raw)),
+        1 => kind_shown(alloc, bytes, InitChunk::try_from(alloc, raw)),
+        2 => kind_shown(alloc, bytes, InitAckChunk::try_from(alloc, raw)),
+        3 => kind_shown(alloc, bytes, SackChunk::try_from(alloc, raw)),
+        4 => kind_shown(alloc, bytes, HeartbeatRequestChunk::try_from(alloc, raw)),
+        5 => kind_shown(alloc, bytes, HeartbeatAckChunk::try_from(alloc, raw)),
+        6 => kind_shown(alloc, bytes, AbortChunk::try_from(alloc, raw)),
+        7 => kind_shown(alloc, bytes, ShutdownChunk::try_from(raw)),
+        8 => kind_shown(alloc, bytes, ShutdownAckChunk::try_from(raw)),
+        9 => kind_shown(alloc, bytes, ErrorChunk::try_from(alloc, raw)),
+        10 => kind_shown(alloc, bytes, CookieEchoChunk::try_from(alloc, raw)),
+        11 => kind_shown(alloc, bytes, CookieAckChunk::try_from(raw)),
+        14 => kind_shown(alloc, bytes, ShutdownCompleteChunk::try_from(raw)),
+        64 => kind_shown(alloc, bytes, IDataChunk::try_from(alloc, raw)),
+        130 => kind_shown(alloc, bytes, ReConfigChunk::try_from(alloc, raw)),
+        192 => kind_shown(alloc, bytes, ForwardTsnChunk::try_from(alloc, raw)),
+        194 => kind_shown(alloc, bytes, IForwardTsnChunk::try_from(alloc, raw)),
+        _ => kind_shown(alloc, bytes, UnknownChunk::try_from(alloc, raw)),
+    }
+}
+
+/// The same of the chunk that the bytes are.
+fn kind_of(alloc: Global, typ: u8, bytes: &[u8]) -> Result<String, Fail> {
+    let (raw, _) = RawChunk::from_bytes(bytes)?;
+    kind(alloc, typ, bytes, raw)
+}
+
+/// Whether a chunk of any kind is shown as this one of its own: its fields in brackets after the
+/// kind's name, and what it prints.
+fn is_of_kind(alloc: Global, text: &str, own: &str) -> Result<bool, Fail> {
+    let (fields, printed) = own.split_once("; ").unwrap_or((own, ""));
+    let wanted = format!(in alloc; "({fields}); {printed}")?;
+    Ok(text.ends_with(wanted.as_str()))
+}
+
+/// All that the chunk is, of any kind; it is all the bytes, and the same of its own kind.
+fn read(alloc: Global, bytes: &[u8]) -> Result<String, Fail> {
+    let (raw, rest) = RawChunk::from_bytes(bytes)?;
+    let own = kind(alloc, raw.typ, bytes, raw)?;
+    let text = shown(alloc, bytes)?;
+    if rest.is_empty() && is_of_kind(alloc, text.as_str(), own.as_str())? {
+        Ok(text)
+    } else {
+        Err(Fail::new("another chunk of its own kind"))
+    }
+}
 
 #[test]
 fn read_and_written_again(rt: HostRuntime) -> Result<(), Fail> {
-    are_answered(rt.alloc(), ROWS, |alloc, bytes| shown(alloc, bytes))
+    are_answered(rt.alloc(), chunks::ROWS, |alloc, bytes| read(alloc, bytes))?;
+    are_answered(
+        rt.alloc(),
+        captures::ROWS,
+        |alloc, bytes| read(alloc, bytes),
+    )
 }
 
-/// Five bytes on stream 456, with a number in each field.
-fn message(alloc: Global, is_beginning: bool) -> Result<Data, AllocError> {
-    Ok(Data {
-        stream_key: StreamKey::Ordered(StreamId(456)),
-        ssn: Ssn(789),
-        mid: Mid(7),
-        fsn: Fsn(6),
-        ppid: PpId(9090),
-        payload: Vec::from_slice(alloc, &[1, 2, 3, 4, 5])?,
-        is_beginning,
-        is_end: false,
-    })
-}
-
-/// DATA in mid-message, which asks for an immediate ack.
-fn data(alloc: Global) -> Result<Chunk, AllocError> {
-    Ok(Chunk::Data(DataChunk {
-        tsn: Tsn(123),
-        user_data: message(alloc, false)?,
-        immediate_ack: true,
-    }))
-}
-
-/// The first I-DATA of a message, which asks for an immediate ack.
-fn first_idata(alloc: Global) -> Result<Chunk, AllocError> {
-    Ok(Chunk::IData(IDataChunk {
-        tsn: Tsn(123),
-        user_data: message(alloc, true)?,
-        immediate_ack: true,
-    }))
-}
-
-/// An I-DATA in mid-message, without a payload.
-fn idata(alloc: Global) -> Chunk {
-    Chunk::IData(IDataChunk {
-        tsn: Tsn(1),
-        user_data: Data {
-            stream_key: StreamKey::Ordered(StreamId(2)),
-            ssn: Ssn(9),
-            mid: Mid(3),
-            fsn: Fsn(6),
-            ppid: PpId(5),
-            payload: Vec::new(alloc),
-            is_beginning: false,
-            is_end: false,
-        },
-        immediate_ack: false,
-    })
-}
-
-/// An unknown chunk of a type that has a kind.
-fn unknown(alloc: Global) -> Chunk {
-    Chunk::Unknown(UnknownChunk {
-        typ: 11,
-        flags: 3,
-        value: Vec::new(alloc),
-    })
-}
-
-/// The DATA prints this text, and is written as these bytes.
-fn is_data_shown(alloc: Global, text: &str, bytes: &[u8]) -> Result<bool, AllocError> {
-    is_shown(alloc, data(alloc)?, text, bytes)
-}
-
-/// So does the first I-DATA.
-fn is_first_idata_shown(alloc: Global, text: &str, bytes: &[u8]) -> Result<bool, AllocError> {
-    is_shown(alloc, first_idata(alloc)?, text, bytes)
-}
-
-/// So does the I-DATA in mid-message.
-fn is_idata_shown(alloc: Global, text: &str, bytes: &[u8]) -> Result<bool, AllocError> {
-    is_shown(alloc, idata(alloc), text, bytes)
-}
-
-/// So does the unknown chunk.
-fn is_unknown_shown(alloc: Global, text: &str, bytes: &[u8]) -> Result<bool, AllocError> {
-    is_shown(alloc, unknown(alloc), text, bytes)
-}
-
-// What a kind doesn't carry isn't written.
+// Another type comes before the faults of the value; an unknown chunk may have any, a named one too.
 #[test]
-fn made(rt: HostRuntime) -> Result<(), Fail> {
-    let text = "DATA, type=ordered::middle, tsn=123, sid=456, ssn=789, ppid=9090, length=5";
-    let bytes = [
-        0, 8, 0, 0x15, 0, 0, 0, 0x7b, 1, 0xc8, 3, 0x15, 0, 0, 0x23, 0x82, 1, 2, 3, 4, 5,
-    ];
-    assert!(rt; is_data_shown(rt.alloc(), text, &bytes)?);
-    // at the beginning: the protocol is carried, and no number of the fragment
-    let text = "I-DATA, type=ordered::first, tsn=123, mid=456, ssn=7, ppid=9090, length=5";
-    let bytes = [
-        0x40, 10, 0, 0x19, 0, 0, 0, 0x7b, 1, 0xc8, 0, 0, 0, 0, 0, 7, 0, 0, 0x23, 0x82, 1, 2, 3, 4,
-        5,
-    ];
-    assert!(rt; is_first_idata_shown(rt.alloc(), text, &bytes)?);
-    // in mid-message: the fragment's number is carried, and neither the SSN nor the protocol
-    let text = "I-DATA, type=ordered::middle, tsn=1, mid=2, ssn=3, ppid=5, length=0";
-    let bytes = [
-        0x40, 0, 0, 0x14, 0, 0, 0, 1, 0, 2, 0, 0, 0, 0, 0, 3, 0, 0, 0, 6,
-    ];
-    assert!(rt; is_idata_shown(rt.alloc(), text, &bytes)?);
-    // a named type isn't unknown when it is read
-    let bytes = [11, 3, 0, 4];
-    assert!(rt; is_unknown_shown(rt.alloc(), "Unknown chunk, type=11", &bytes)?);
-    assert!(rt; has_text(rt.alloc(), &bytes, "COOKIE-ACK")?);
+fn other_types(rt: HostRuntime) -> Result<(), Fail> {
+    let init = "01000005 00 = InvalidType";
+    for typ in [0, 2, 3, 4, 5, 6, 7, 8, 9, 10, 11, 14, 64, 130, 192, 194] {
+        are_answered(rt.alloc(), init, |alloc, bytes| kind_of(alloc, typ, bytes))?;
+    }
+    let ack = "0b000005 00 = InvalidType";
+    are_answered(rt.alloc(), ack, |alloc, bytes| kind_of(alloc, 1, bytes))?;
+    let ack =
+        "0b000005 00 = UnknownChunk { typ: 11, flags: 0, value: [0] }; Unknown chunk, type=11";
+    are_answered(rt.alloc(), ack, |alloc, bytes| kind_of(alloc, 255, bytes))
+}
+
+/// Adds what the chunk prints to the text, and its image with zeros as padding to the other.
+fn add(
+    alloc: Global,
+    raw: RawChunk,
+    text: &mut String,
+    image: &mut Vec<u8>,
+) -> Result<(), ChunkParseError> {
+    let chunk = Chunk::try_from(alloc, raw)?;
+    let mark = if text.is_empty() { "" } else { "; " };
+    write!(text, "{mark}{chunk}")?;
+    image.extend_from_slice(&image_of(alloc, &chunk)?)?;
+    for _ in 0..3 {
+        if image.len() % 4 != 0 {
+            image.push(0)?;
+        }
+    }
     Ok(())
 }
 
-#[test]
-fn header_sizes(rt: HostRuntime) {
-    assert_eq!(rt; TLV_HEADER_SIZE, 4);
-    assert_eq!(rt; PARAMETER_HEADER_SIZE, 4);
-    assert_eq!(rt; error_chunk::HEADER_SIZE, 4);
-    assert_eq!(rt; heartbeat_ack_chunk::HEADER_SIZE, 4);
+/// What the chunks print, each of which begins after the one before; and an arrow to their images,
+/// where these are other bytes.
+fn one_by_one(alloc: Global, bytes: &[u8]) -> Result<String, ChunkParseError> {
+    let (mut text, mut image) = (String::new(alloc), Vec::new(alloc));
+    let mut rest = bytes;
+    for _ in 0..bytes.len() {
+        if rest.is_empty() {
+            break;
+        }
+        let (raw, after) = RawChunk::from_bytes(rest)?;
+        add(alloc, raw, &mut text, &mut image)?;
+        rest = after;
+    }
+    if image.as_slice() != bytes {
+        write!(text, " -> {}", digits_of(alloc, &image)?)?;
+    }
+    Ok(text)
 }
 
-/// The types of chunks that kinds convert to, and of one whose kind isn't known.
-fn types(alloc: Global) -> [u8; 4] {
-    let tsn = Tsn(5);
-    [
-        Chunk::from(CookieAckChunk).chunk_type(),
-        Chunk::from(ShutdownChunk {
-            cumulative_tsn_ack: tsn,
-        })
-        .chunk_type(),
-        idata(alloc).chunk_type(),
-        unknown(alloc).chunk_type(),
-    ]
+/// Whether the chunks by themselves are so answered; but for too few bytes for one.
+fn is_answered_so(alloc: Global, chunks: &[u8], answer: &str) -> Result<bool, Fail> {
+    let (front, text) = answer.split_once(" | ").unwrap_or((answer, ""));
+    match one_by_one(alloc, chunks) {
+        Ok(again) => match text.strip_prefix(again.as_str()) {
+            Some(rest) => Ok(rest.is_empty() || rest.starts_with(" | ")),
+            None => Ok(chunks.is_empty()),
+        },
+        Err(fault) => {
+            let begin = format!(in alloc; "{fault:?} at ")?;
+            Ok(front.starts_with(begin.as_str()) || chunks.len() < 4)
+        }
+    }
+}
+
+/// What the packet of these chunks is answered with, if the chunks by themselves are.
+fn agreed(alloc: Global, chunks: &[u8]) -> Result<String, Fail> {
+    let answer = answered(alloc, chunks)?;
+    if is_answered_so(alloc, chunks, answer.as_str())? {
+        Ok(answer)
+    } else {
+        Err(Fail::new("the chunks by themselves are answered otherwise"))
+    }
 }
 
 #[test]
-fn chunk_types(rt: HostRuntime) {
-    assert_eq!(rt; types(rt.alloc()), [11, 7, 64, 11]);
+fn of_packets(rt: HostRuntime) -> Result<(), Fail> {
+    are_answered(
+        rt.alloc(),
+        packets::ROWS,
+        |alloc, chunks| agreed(alloc, chunks),
+    )
 }

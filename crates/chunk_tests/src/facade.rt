@@ -82,11 +82,15 @@ fn numbers(rt: HostRuntime) {
     ];
     assert_eq!(rt; bytes_of(numbers), bytes);
     assert_eq!(rt; (TLV_HEADER_SIZE, PARAMETER_HEADER_SIZE), (4, 4));
+    assert_eq!(rt;
+        (error_chunk::HEADER_SIZE, heartbeat_ack_chunk::HEADER_SIZE),
+        (4, 4)
+    );
 }
 
 #[test]
-fn chunk_types(rt: HostRuntime) {
-    let rows = [
+fn types_and_codes(rt: HostRuntime) {
+    let types = [
         (data_chunk::CHUNK_TYPE, 0),
         (init_chunk::CHUNK_TYPE, 1),
         (init_ack_chunk::CHUNK_TYPE, 2),
@@ -105,14 +109,10 @@ fn chunk_types(rt: HostRuntime) {
         (forward_tsn_chunk::CHUNK_TYPE, 192),
         (iforward_tsn_chunk::CHUNK_TYPE, 194),
     ];
-    for (typ, wanted) in rows {
+    for (typ, wanted) in types {
         assert_eq!(rt; typ, wanted);
     }
-}
-
-#[test]
-fn parameter_types(rt: HostRuntime) {
-    let rows = [
+    let types_and_codes = [
         (heartbeat_info_parameter::PARAMETER_TYPE, 1),
         (state_cookie_parameter::PARAMETER_TYPE, 7),
         (outgoing_ssn_reset_request_parameter::PARAMETER_TYPE, 13),
@@ -127,15 +127,6 @@ fn parameter_types(rt: HostRuntime) {
         (parameter::PARAMETER_TYPE_SSN_TSN_RESET_REQUEST, 15),
         (parameter::PARAMETER_TYPE_ADD_OUTGOING_STREAMS_REQUEST, 17),
         (parameter::PARAMETER_TYPE_ADD_INCOMING_STREAMS_REQUEST, 18),
-    ];
-    for (typ, wanted) in rows {
-        assert_eq!(rt; typ, wanted);
-    }
-}
-
-#[test]
-fn cause_codes(rt: HostRuntime) {
-    let rows = [
         (missing_mandatory_parameter_error_cause::CAUSE_CODE, 2),
         (unrecognized_chunk_error_cause::CAUSE_CODE, 6),
         (no_user_data_error_cause::CAUSE_CODE, 9),
@@ -143,8 +134,8 @@ fn cause_codes(rt: HostRuntime) {
         (user_initiated_abort_error_cause::CAUSE_CODE, 12),
         (protocol_violation_error_cause::CAUSE_CODE, 13),
     ];
-    for (code, wanted) in rows {
-        assert_eq!(rt; code, wanted);
+    for (typ, wanted) in types_and_codes {
+        assert_eq!(rt; typ, wanted);
     }
 }
 
@@ -167,7 +158,7 @@ fn parameters_kept(alloc: Global) -> Result<(usize, usize, usize, usize, bool), 
     Ok((checked, list.len(), size, written, is_same))
 }
 
-/// Whether two parameters of so many bytes in all can be written.
+/// Whether two parameters with values of these sizes can be written.
 fn are_encodable(alloc: Global, first: usize, second: usize) -> Result<bool, AllocError> {
     let first = UnknownParameter::new(99, vec![in alloc; 1; first]?);
     let second = UnknownParameter::new(99, vec![in alloc; 1; second]?);

@@ -2,12 +2,8 @@
 #![tactic(auto)]
 
 #[cfg(test)]
-mod captures;
-#[cfg(test)]
 mod chunks;
 #[cfg(test)]
 mod facade;
 #[cfg(test)]
-mod faults;
-#[cfg(test)]
-mod lists;
+mod made;

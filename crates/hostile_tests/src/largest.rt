@@ -2,7 +2,7 @@
 
 use crate::outcomes::Outcome::{Kept, Length, Size, TooLong, Value};
 use crate::outcomes::{Outcome, outcome_of_chunks};
-use hex_rows::bytes_of;
+use samples::help::repeated;
 use std::alloc::Global;
 use std::test::Fail;
 
@@ -45,7 +45,7 @@ const ROWS: &[(&str, &str, usize, Outcome)] = &[
     // the same in a single chunk without a kind
     ("6300fff0", "6300fff0", 16379, Kept(1)),
     // the same of what has one byte too many or too few, or a fault at its end
-    // a COOKIE ECHO of one byte with all its padding, ahead of chunks of four bytes
+    // a COOKIE ECHO of one byte with all its padding, before chunks of four bytes
     ("0a000005 01000000", "0b000004", 16378, Kept(16379)),
     // the same without the padding: each chunk begins three bytes early
     ("0a000005 01", "0b000004", 16378, Length),
@@ -61,7 +61,7 @@ const ROWS: &[(&str, &str, usize, Outcome)] = &[
     ("0400ffed", "c0000004", 16379, Length),
     // the first item counts all that a length can say
     ("0400fff0 0001ffff", "c0000004", 16378, Length),
-    // a result without a meaning ahead of all others
+    // a result without a meaning before all others
     (
         "8200fff0 0010000c 00000001 00000007",
         "c0000004",
@@ -75,7 +75,7 @@ const ROWS: &[(&str, &str, usize, Outcome)] = &[
     ("0400fff3 0001ffef", "07", 65515, TooLong(2)),
 ];
 
-/// The outcome of the header, chunks that begin so, then one item so often, and this end.
+/// The outcome of the header, chunks that begin so, then one item this often, and this end.
 fn outcome_of_repeated(
     alloc: Global,
     front: &str,
@@ -83,11 +83,7 @@ fn outcome_of_repeated(
     count: usize,
     end: &[u8],
 ) -> Result<Outcome, Fail> {
-    let item = bytes_of(alloc, item)?;
-    let mut bytes = bytes_of(alloc, front)?;
-    for _ in 0..count {
-        bytes.extend_from_slice(&item)?;
-    }
+    let mut bytes = repeated(alloc, front, item, count)?;
     bytes.extend_from_slice(end)?;
     outcome_of_chunks(alloc, &bytes)
 }

@@ -2,25 +2,19 @@
 
 use crate::outcomes::{Outcome, outcome_of_chunks};
 use dcsctp_wire::packet::round_up_to_4;
-use hex_rows::are_answered;
-use std::alloc::{AllocError, Global};
+use std::alloc::Global;
 use std::test::Fail;
 
-/// A chunk with this length field, and a value of so many zeros.
-fn chunk_of(alloc: Global, typ: u8, length: u16, zeros: usize) -> Result<Vec<u8>, AllocError> {
+/// The outcome of a chunk with this length field, and a value of `zeros` zeros.
+fn outcome_of_length(alloc: Global, typ: u8, length: u16, zeros: usize) -> Result<Outcome, Fail> {
     let [high, low] = length.to_be_bytes();
     let mut bytes = Vec::from_slice(alloc, &[typ, 0, high, low])?;
     bytes.resize(zeros.saturating_add(4), 0)?;
-    Ok(bytes)
-}
-
-fn outcome_of_length(alloc: Global, typ: u8, length: u16, zeros: usize) -> Result<Outcome, Fail> {
-    let bytes = chunk_of(alloc, typ, length, zeros)?;
     outcome_of_chunks(alloc, &bytes)
 }
 
-/// Of how many types a chunk with this length field, and so many zeros after it, is refused for its
-/// length.
+/// The number of types of which a chunk with this length field, and `zeros` zeros after it, is
+/// refused for its length.
 fn types_refused(alloc: Global, length: u16, zeros: usize) -> Result<usize, Fail> {
     let mut refused = 0usize;
     for typ in 0..=255 {
@@ -68,7 +62,7 @@ fn beyond_the_packet(rt: HostRuntime) -> Result<(), Fail> {
     Ok(())
 }
 
-/// What an item of this length in so many bytes is answered with: it is kept with none of its padding,
+/// What an item of this length in `size` bytes is answered with: it is kept with none of its padding,
 /// with some, and with all of it.
 fn wanted_of(length: u16, size: usize, parts: usize) -> Outcome {
     let least = usize::from(length);
@@ -96,39 +90,11 @@ fn around_padding(rt: HostRuntime) -> Result<(), Fail> {
     Ok(())
 }
 
-/// A chunk with a list of one item in `size` bytes, all zeros but its header; the chunk's own
-/// numbers are before it.
-fn listed(
-    alloc: Global,
-    (typ, numbers): (u8, usize),
-    item: [u8; 2],
-    length: u16,
-    size: usize,
-) -> Result<Vec<u8>, AllocError> {
-    let own = numbers.saturating_add(size).saturating_add(4);
-    let mut bytes = Vec::from_slice(alloc, &[typ, 0])?;
-    bytes.extend_from_slice(&u16::try_from(own).unwrap_or(0).to_be_bytes())?;
-    bytes.resize(numbers.saturating_add(4), 0)?;
-    bytes.extend_from_slice(&item)?;
-    bytes.extend_from_slice(&length.to_be_bytes())?;
-    bytes.resize(own, 0)?;
-    Ok(bytes)
-}
-
-fn outcome_of_listed(
-    alloc: Global,
-    chunk: (u8, usize),
-    item: [u8; 2],
-    length: u16,
-    size: usize,
-) -> Result<Outcome, Fail> {
-    let bytes = listed(alloc, chunk, item, length, size)?;
-    outcome_of_chunks(alloc, &bytes)
-}
-
-/// Types of chunks with a list, how many bytes of numbers are before it, and the type of an item
+/// A type of a chunk with a list, how many bytes of numbers are before it, and the type of an item
 /// that may have any value.
-const LISTS: &[(u8, usize, [u8; 2])] = &[
+type Listed = (u8, usize, [u8; 2]);
+
+const LISTS: &[Listed] = &[
     // INIT and INIT ACK: a parameter without a kind, and a cookie
     (1, 16, [0, 99]),
     (2, 16, [0, 7]),
@@ -143,72 +109,47 @@ const LISTS: &[(u8, usize, [u8; 2])] = &[
     (9, 0, [0, 99]),
 ];
 
-/// The length and the size at which such an item isn't answered as it is to be.
-fn wrong_item(
+/// The outcome of a chunk with a list of one item in `size` bytes, all zeros but its header.
+fn outcome_of_listed(
     alloc: Global,
-    (typ, numbers, item): (u8, usize, [u8; 2]),
-) -> Result<Option<(u16, usize)>, Fail> {
+    (typ, numbers, item): Listed,
+    length: u16,
+    size: usize,
+) -> Result<Outcome, Fail> {
+    let own = numbers.saturating_add(size).saturating_add(4);
+    let mut bytes = Vec::from_slice(alloc, &[typ, 0])?;
+    bytes.extend_from_slice(&u16::try_from(own).unwrap_or(0).to_be_bytes())?;
+    bytes.resize(numbers.saturating_add(4), 0)?;
+    bytes.extend_from_slice(&item)?;
+    bytes.extend_from_slice(&length.to_be_bytes())?;
+    bytes.resize(own, 0)?;
+    outcome_of_chunks(alloc, &bytes)
+}
+
+/// The length and the size at which such an item isn't answered as it is to be.
+fn wrong_item(alloc: Global, list: Listed) -> Result<Option<(u16, usize)>, Fail> {
     for length in 5..=16 {
         for size in 4..=20usize {
-            let outcome = outcome_of_listed(alloc, (typ, numbers), item, length, size)?;
-            if outcome != wanted_of(length, size, 2) {
+            if outcome_of_listed(alloc, list, length, size)? != wanted_of(length, size, 2) {
                 return Ok(Some((length, size)));
             }
+        }
+    }
+    // nor one whose length is below a header's
+    for length in 0..4 {
+        if outcome_of_listed(alloc, list, length, 20)? != Outcome::Length {
+            return Ok(Some((length, 20)));
         }
     }
     Ok(None)
 }
 
 // The same of a parameter or an error cause in each list: where its padding is not counted by the
-// chunk, and where it is.
+// chunk, and where it is. A length that doesn't count all of the header is refused.
 #[test]
 fn around_padding_of_items(rt: HostRuntime) -> Result<(), Fail> {
     for (i, row) in LISTS.iter().enumerate() {
         assert_eq!(rt; wrong_item(rt.alloc(), *row)?, None, "row {i}");
     }
     Ok(())
-}
-
-/// How many of the lengths below a header's are refused, of an item in a list of 20 bytes.
-fn refused_items(alloc: Global, (typ, numbers, item): (u8, usize, [u8; 2])) -> Result<usize, Fail> {
-    let mut refused = 0usize;
-    for length in 0..4 {
-        if outcome_of_listed(alloc, (typ, numbers), item, length, 20)? == Outcome::Length {
-            refused = refused.saturating_add(1);
-        }
-    }
-    Ok(refused)
-}
-
-#[test]
-fn below_the_header_of_items(rt: HostRuntime) -> Result<(), Fail> {
-    for (i, row) in LISTS.iter().enumerate() {
-        assert_eq!(rt; refused_items(rt.alloc(), *row)?, 4, "row {i}");
-    }
-    Ok(())
-}
-
-/// Causes whose length is below a header's, and above it in a chunk without room.
-const CAUSES: &str = r"06000008 000c0000 = Length
-06000008 000c0001 = Length
-06000008 000c0002 = Length
-06000008 000c0003 = Length
-06000008 000c0005 = Length
-06000008 000cffff = Length
-# the byte that the cause counts is there, after the chunk
-06000008 000c0005 61000000 = Length";
-
-/// The outcome of these chunks, as a text.
-fn outcome_text(alloc: Global, chunks: &[u8]) -> Result<String, Fail> {
-    let outcome = outcome_of_chunks(alloc, chunks)?;
-    Ok(format!(in alloc; "{outcome:?}")?)
-}
-
-#[test]
-fn of_causes(rt: HostRuntime) -> Result<(), Fail> {
-    are_answered(
-        rt.alloc(),
-        CAUSES,
-        |alloc, chunks| outcome_text(alloc, chunks),
-    )
 }

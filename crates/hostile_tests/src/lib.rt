@@ -3,7 +3,7 @@
 #![tactic(auto)]
 
 #[cfg(test)]
-mod changes;
+mod captured;
 #[cfg(test)]
 mod counts;
 #[cfg(test)]
@@ -12,5 +12,3 @@ mod largest;
 mod lengths;
 #[cfg(test)]
 mod outcomes;
-#[cfg(test)]
-mod prefixes;

@@ -9,10 +9,10 @@ use std::test::Fail;
 /// What a packet is answered with.
 #[derive(Clone, Copy, Debug, PartialEq, Eq)]
 pub(crate) enum Outcome {
-    /// It has so many chunks, parameters and causes, and reads back: its canonical bytes are read,
+    /// It has this many chunks, parameters and causes, and reads back: its canonical bytes are read,
     /// have as many, and are written as themselves.
     Kept(usize),
-    /// It has so many chunks, parameters and causes, and its canonical packet doesn't fit.
+    /// It has this many chunks, parameters and causes, and its canonical packet doesn't fit.
     TooLong(usize),
     /// Its size is none that a packet has.
     Size,
@@ -34,7 +34,7 @@ fn fault_of(error: &PacketParseError) -> Outcome {
     }
 }
 
-/// Whether bytes that were written are read, have so many parts, and are written as themselves.
+/// Whether bytes that were written are read, have `parts` parts, and are written as themselves.
 fn is_kept(alloc: Global, bytes: &[u8], parts: usize) -> Result<bool, Fail> {
     let packet = SctpPacket::from_bytes(alloc, bytes, 0, &UNVERIFIED)?;
     if !packet.fits() || SctpPacket::check(bytes, 0, &UNVERIFIED)? != parts {
@@ -52,7 +52,7 @@ fn written(alloc: Global, bytes: &[u8]) -> Result<Option<Vec<u8>>, Fail> {
     Ok(Some(packet.canonical_bytes(alloc)?))
 }
 
-/// What a packet of so many parts is, once it was read.
+/// What a packet of `parts` parts is, once it was read.
 fn read_outcome(alloc: Global, bytes: &[u8], parts: usize) -> Result<Outcome, Fail> {
     let Some(canonical) = written(alloc, bytes)? else {
         return Ok(Outcome::TooLong(parts));

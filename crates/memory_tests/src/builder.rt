@@ -8,7 +8,7 @@ use dcsctp_wire::packet::{SerializableTlv, round_up_to_4};
 use std::alloc::Global;
 use std::test::Fail;
 
-/// Adds the chunk, which has to fit, and tells whether there was memory for it.
+/// Adds the chunk, which has to fit, and answers whether there was memory for it.
 fn add(builder: &mut SctpPacketBuilder, chunk: &Chunk) -> Met {
     if !chunk.encodable() || round_up_to_4(chunk.serialized_size()) > builder.bytes_remaining() {
         return Met::Other;

@@ -1,6 +1,6 @@
 //! Error causes that hold bytes, types or a text, and lists of causes.
 
-use crate::help::{Met, all, met_rows, met_value, own, parameter, tell};
+use crate::help::{Met, all, met_rows, met_value, own, tell, type_of};
 use dcsctp_wire::packet::error_causes::{ErrorCause, error_cause_from_bytes};
 use dcsctp_wire::packet::missing_mandatory_parameter_error_cause::MissingMandatoryParameterErrorCause;
 use dcsctp_wire::packet::parameter::RawParameter;
@@ -11,13 +11,13 @@ use dcsctp_wire::packet::user_initiated_abort_error_cause::UserInitiatedAbortErr
 use std::alloc::Global;
 use std::test::Fail;
 
-/// What the bytes are read as, of the kind that their code has.
-fn kind(alloc: Global, bytes: &[u8], wanted: &str) -> Met {
+/// What the bytes are read as, of the kind that has this code.
+fn kind(alloc: Global, code: u16, bytes: &[u8], wanted: &str) -> Met {
     let Ok((raw, _)) = RawParameter::from_bytes(bytes) else {
         return Met::Other;
     };
     let wanted = own(wanted);
-    match raw.typ {
+    match code {
         2 => met_value(
             MissingMandatoryParameterErrorCause::try_from(alloc, raw),
             wanted,
@@ -27,6 +27,11 @@ fn kind(alloc: Global, bytes: &[u8], wanted: &str) -> Met {
         13 => met_value(ProtocolViolationErrorCause::try_from(alloc, raw), wanted),
         _ => met_value(UnknownParameter::try_from(alloc, raw), wanted),
     }
+}
+
+/// The same, of the kind that has the bytes' code.
+fn of_kind(alloc: Global, bytes: &[u8], wanted: &str) -> Met {
+    kind(alloc, type_of(bytes), bytes, wanted)
 }
 
 /// The same, of any kind.
@@ -47,32 +52,21 @@ const ROWS: &str = r#"0002000c 00000002 0007000d
 00060008 49000004 = UnrecognizedChunk(UnrecognizedChunkErrorCause { chunk: [73, 0, 0, 4] })
 000c0007 627965 = UserInitiatedAbort(UserInitiatedAbortErrorCause { reason: "bye" })
 000d0007 626164 = ProtocolViolation(ProtocolViolationErrorCause { information: "bad" })
-00630005 09 = Unknown(UnknownParameter { typ: 99, value: [9] })"#;
-
-#[test]
-fn each(rt: HostRuntime) -> Result<(), Fail> {
-    tell(&rt, rt.alloc(), |alloc| met_rows(alloc, ROWS, kind))
-}
-
-#[test]
-fn any_of_each(rt: HostRuntime) -> Result<(), Fail> {
-    tell(&rt, rt.alloc(), |alloc| met_rows(alloc, ROWS, any))
-}
-
-/// A byte that UTF-8 never has: another text is read in its place, and needs memory too.
-const REPLACED: &str = r#"000c0005 ff
+00630005 09 = Unknown(UnknownParameter { typ: 99, value: [9] })
+# a byte that UTF-8 never has: another text is read in its place, and needs memory too
+000c0005 ff
 = UserInitiatedAbort(UserInitiatedAbortErrorCause { reason: "Failed to parse abort reason" })
 000d0005 ff
 = ProtocolViolation(ProtocolViolationErrorCause { information: "Failed to parse additional information" })"#;
 
 #[test]
-fn replaced(rt: HostRuntime) -> Result<(), Fail> {
-    tell(&rt, rt.alloc(), |alloc| met_rows(alloc, REPLACED, kind))
+fn of_kinds(rt: HostRuntime) -> Result<(), Fail> {
+    tell(&rt, rt.alloc(), |alloc| met_rows(alloc, ROWS, of_kind))
 }
 
 #[test]
-fn any_replaced(rt: HostRuntime) -> Result<(), Fail> {
-    tell(&rt, rt.alloc(), |alloc| met_rows(alloc, REPLACED, any))
+fn of_any(rt: HostRuntime) -> Result<(), Fail> {
+    tell(&rt, rt.alloc(), |alloc| met_rows(alloc, ROWS, any))
 }
 
 /// Six causes, of which five ask for memory.
@@ -85,27 +79,28 @@ fn of_a_list(rt: HostRuntime) -> Result<(), Fail> {
     tell(&rt, rt.alloc(), |alloc| met_rows(alloc, LIST, list))
 }
 
-// A count of types that aren't there, a byte left over, another code: each is told, and not memory.
+/// What the row's bytes are read as, of the kind that has this code.
+fn met_as(alloc: Global, code: u16, row: &str) -> Met {
+    met_rows(
+        alloc,
+        row,
+        |alloc, bytes, wanted| kind(alloc, code, bytes, wanted),
+    )
+}
+
+// A count of types that aren't there, a byte left over, another code: each is the answer, and not
+// memory.
 #[test]
 fn faults(rt: HostRuntime) {
-    let (alloc, wanted) = (rt.alloc(), "InvalidType");
+    let alloc = rt.alloc();
     let count = "0002000a 00000002 0007 = InvalidLength";
     let mets = [
-        met_rows(alloc, count, kind),
+        met_rows(alloc, count, of_kind),
         met_rows(alloc, count, any),
         met_rows(alloc, "0002000c 00000002 0007000d 00 = InvalidLength", list),
-        met_value(
-            UnrecognizedChunkErrorCause::try_from(alloc, parameter(2, &[0, 0, 0, 2, 0, 7, 0, 13])),
-            wanted,
-        ),
-        met_value(
-            UserInitiatedAbortErrorCause::try_from(alloc, parameter(13, b"bad")),
-            wanted,
-        ),
-        met_value(
-            ProtocolViolationErrorCause::try_from(alloc, parameter(12, b"bye")),
-            wanted,
-        ),
+        met_as(alloc, 6, "0002000c 00000002 0007000d = InvalidType"),
+        met_as(alloc, 12, "000d0007 626164 = InvalidType"),
+        met_as(alloc, 13, "000c0007 627965 = InvalidType"),
     ];
     assert_eq!(rt; all(&mets), Met::Answer);
 }

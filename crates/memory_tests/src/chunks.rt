@@ -51,7 +51,7 @@ fn any(alloc: Global, bytes: &[u8], wanted: &str) -> Met {
     }
 }
 
-const BYTES: &str = r"# DATA with five bytes of a message, the first of them, and in mid-message
+const ROWS: &str = r#"# DATA with five bytes of a message, the first of them, and in mid-message
 00020015 00000001 00020003 00000004 01020304 05
 = Data(DataChunk { user_data: Data { payload: [1, 2, 3, 4, 5], mid: 0, fsn: 0, ppid: 4, stream_key: Ordered(2), ssn: 3, is_beginning: true, is_end: false }, tsn: 1, immediate_ack: false })
 00000015 00000001 00020003 00000004 01020304 05
@@ -64,19 +64,8 @@ const BYTES: &str = r"# DATA with five bytes of a message, the first of them, an
 # COOKIE ECHO, and types without a kind
 0a000008 12345678 = CookieEcho(CookieEchoChunk { cookie: [18, 52, 86, 120] })
 63810008 12345678 = Unknown(UnknownChunk { typ: 99, flags: 129, value: [18, 52, 86, 120] })
-63000008 12345678 = Unknown(UnknownChunk { typ: 99, flags: 0, value: [18, 52, 86, 120] })";
-
-#[test]
-fn of_bytes(rt: HostRuntime) -> Result<(), Fail> {
-    tell(&rt, rt.alloc(), |alloc| met_rows(alloc, BYTES, kind))
-}
-
-#[test]
-fn any_of_bytes(rt: HostRuntime) -> Result<(), Fail> {
-    tell(&rt, rt.alloc(), |alloc| met_rows(alloc, BYTES, any))
-}
-
-const FIELDS: &str = r"# a SACK with two blocks and one duplicate
+63000008 12345678 = Unknown(UnknownChunk { typ: 99, flags: 0, value: [18, 52, 86, 120] })
+# a SACK with two blocks and one duplicate
 0300001c 369dd00b 0001ed73 00020001 00020006 00080008 369dd011
 = Sack(SackChunk { cumulative_tsn_ack: 916312075, a_rwnd: 126323, gap_ack_blocks: [GapAckBlock { start: 2, end: 6 }, GapAckBlock { start: 8, end: 8 }], duplicate_tsns: [916312081] })
 # FORWARD-TSN that skips messages of two streams
@@ -84,55 +73,21 @@ c0000010 0000007b 00010017 00020018
 = ForwardTsn(ForwardTsnChunk { new_cumulative_tsn: 123, skipped_streams: [ForwardTsn(1, 23), ForwardTsn(2, 24)] })
 # I-FORWARD-TSN that skips unordered messages of one stream
 c2000010 0000007b 00010001 00000017
-= IForwardTsn(IForwardTsnChunk { new_cumulative_tsn: 123, skipped_streams: [IForwardTsn(Unordered(1), 23)] })";
-
-#[test]
-fn of_fields(rt: HostRuntime) -> Result<(), Fail> {
-    tell(&rt, rt.alloc(), |alloc| met_rows(alloc, FIELDS, kind))
-}
-
-#[test]
-fn any_of_fields(rt: HostRuntime) -> Result<(), Fail> {
-    tell(&rt, rt.alloc(), |alloc| met_rows(alloc, FIELDS, any))
-}
-
-const INITS: &str = r"# INIT and INIT ACK with a cookie of three bytes
+= IForwardTsn(IForwardTsnChunk { new_cumulative_tsn: 123, skipped_streams: [IForwardTsn(Unordered(1), 23)] })
+# INIT and INIT ACK with a cookie of three bytes
 0100001b 00000001 00000002 00030004 00000005 00070007 070809
 = Init(InitChunk { initiate_tag: 1, a_rwnd: 2, nbr_outbound_streams: 3, nbr_inbound_streams: 4, initial_tsn: 5, parameters: [StateCookie(StateCookieParameter { cookie: [7, 8, 9] })] })
 0200001b 00000001 00000002 00030004 00000005 00070007 070809
-= InitAck(InitAckChunk { initiate_tag: 1, a_rwnd: 2, nbr_outbound_streams: 3, nbr_inbound_streams: 4, initial_tsn: 5, parameters: [StateCookie(StateCookieParameter { cookie: [7, 8, 9] })] })";
-
-#[test]
-fn of_inits(rt: HostRuntime) -> Result<(), Fail> {
-    tell(&rt, rt.alloc(), |alloc| met_rows(alloc, INITS, kind))
-}
-
-#[test]
-fn any_of_inits(rt: HostRuntime) -> Result<(), Fail> {
-    tell(&rt, rt.alloc(), |alloc| met_rows(alloc, INITS, any))
-}
-
-const PARAMETERS: &str = r"# an information of three bytes
+= InitAck(InitAckChunk { initiate_tag: 1, a_rwnd: 2, nbr_outbound_streams: 3, nbr_inbound_streams: 4, initial_tsn: 5, parameters: [StateCookie(StateCookieParameter { cookie: [7, 8, 9] })] })
+# an information of three bytes
 0400000b 00010007 010203
 = HeartbeatRequest(HeartbeatRequestChunk { parameters: [HeartbeatInfo(HeartbeatInfoParameter { info: [1, 2, 3] })] })
 0500000b 00010007 010203
 = HeartbeatAck(HeartbeatAckChunk { parameters: [HeartbeatInfo(HeartbeatInfoParameter { info: [1, 2, 3] })] })
 # a request to reset stream 3
 8200000e 000e000a 00000002 0003
-= ReConfig(ReConfigChunk { parameters: [IncomingSsnResetRequest(IncomingSsnResetRequestParameter { request_seq_nbr: 2, streams: [3] })] })";
-
-#[test]
-fn of_parameters(rt: HostRuntime) -> Result<(), Fail> {
-    tell(&rt, rt.alloc(), |alloc| met_rows(alloc, PARAMETERS, kind))
-}
-
-#[test]
-fn any_of_parameters(rt: HostRuntime) -> Result<(), Fail> {
-    tell(&rt, rt.alloc(), |alloc| met_rows(alloc, PARAMETERS, any))
-}
-
-const CAUSES: &str =
-    r#"# a reason, and a cause without value: in an ABORT whose tag is reflected, and whose tag is not
+= ReConfig(ReConfigChunk { parameters: [IncomingSsnResetRequest(IncomingSsnResetRequestParameter { request_seq_nbr: 2, streams: [3] })] })
+# a reason, and a cause without value: in an ABORT whose tag is reflected, and whose tag is not
 06010010 000c0007 62796500 000a0004
 = Abort(AbortChunk { tag_reflected: true, error_causes: [UserInitiatedAbort(UserInitiatedAbortErrorCause { reason: "bye" }), CookieReceivedWhileShuttingDown(CookieReceivedWhileShuttingDownErrorCause)] })
 06000010 000c0007 62796500 000a0004
@@ -141,13 +96,13 @@ const CAUSES: &str =
 = Error(ErrorChunk { error_causes: [UserInitiatedAbort(UserInitiatedAbortErrorCause { reason: "bye" }), CookieReceivedWhileShuttingDown(CookieReceivedWhileShuttingDownErrorCause)] })"#;
 
 #[test]
-fn of_causes(rt: HostRuntime) -> Result<(), Fail> {
-    tell(&rt, rt.alloc(), |alloc| met_rows(alloc, CAUSES, kind))
+fn of_kinds(rt: HostRuntime) -> Result<(), Fail> {
+    tell(&rt, rt.alloc(), |alloc| met_rows(alloc, ROWS, kind))
 }
 
 #[test]
-fn any_of_causes(rt: HostRuntime) -> Result<(), Fail> {
-    tell(&rt, rt.alloc(), |alloc| met_rows(alloc, CAUSES, any))
+fn of_any(rt: HostRuntime) -> Result<(), Fail> {
+    tell(&rt, rt.alloc(), |alloc| met_rows(alloc, ROWS, any))
 }
 
 const FAULTS: &str = r"# values that are too short, a SACK whose duplicate is cut
@@ -171,7 +126,7 @@ c200000f 0000007b 00010001 000000 = InvalidLength
 # a result without a meaning, after a parameter that asks for memory
 82000018 00010008 01020304 0010000c 00000001 00000007 = InvalidValue";
 
-// Each fault is told, and not memory.
+// Each fault is the answer, and not memory.
 #[test]
 fn faults(rt: HostRuntime) {
     assert_eq!(rt; met_rows(rt.alloc(), FAULTS, kind), Met::Answer);

@@ -1,4 +1,4 @@
-//! What a call may answer where a request for memory is refused, and how that is told.
+//! What a call may answer where a request for memory is refused, and how that is printed.
 
 use dcsctp_wire::packet::ChunkParseError;
 use dcsctp_wire::packet::parameter::RawParameter;
@@ -94,7 +94,7 @@ pub(crate) fn all(mets: &[Met]) -> Met {
     all
 }
 
-/// The calls end in their answer, or in running out of memory, which is told; called again, they
+/// The calls end in their answer, or in running out of memory, which is printed; called again, they
 /// then end in their answer, since no more than one request is refused.
 pub(crate) fn tell<R: Print + Abort, F: Fn(Global) -> Met>(
     rt: &R,
@@ -152,7 +152,10 @@ pub(crate) fn met_rows<F: Fn(Global, &[u8], &str) -> Met>(alloc: Global, rows: &
     met
 }
 
-/// A parameter or error cause before its value is looked at.
-pub(crate) fn parameter(typ: u16, value: &[u8]) -> RawParameter<'_> {
-    RawParameter { typ, value }
+/// The type of the parameter or the code of the error cause at the front.
+pub(crate) fn type_of(bytes: &[u8]) -> u16 {
+    match RawParameter::from_bytes(bytes) {
+        Ok((raw, _)) => raw.typ,
+        Err(_) => 0,
+    }
 }

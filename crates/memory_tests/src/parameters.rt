@@ -1,6 +1,6 @@
 //! Parameters that hold bytes or streams, and lists of parameters.
 
-use crate::help::{Met, all, met_rows, met_value, own, parameter, tell};
+use crate::help::{Met, all, met_rows, met_value, own, tell, type_of};
 use dcsctp_wire::packet::heartbeat_info_parameter::HeartbeatInfoParameter;
 use dcsctp_wire::packet::incoming_ssn_reset_request_parameter::IncomingSsnResetRequestParameter;
 use dcsctp_wire::packet::outgoing_ssn_reset_request_parameter::OutgoingSsnResetRequestParameter;
@@ -11,13 +11,13 @@ use dcsctp_wire::packet::unknown_parameter::UnknownParameter;
 use std::alloc::Global;
 use std::test::Fail;
 
-/// What the bytes are read as, of the kind that their type has.
-fn kind(alloc: Global, bytes: &[u8], wanted: &str) -> Met {
+/// What the bytes are read as, of the kind that has this type.
+fn kind(alloc: Global, typ: u16, bytes: &[u8], wanted: &str) -> Met {
     let Ok((raw, _)) = RawParameter::from_bytes(bytes) else {
         return Met::Other;
     };
     let wanted = own(wanted);
-    match raw.typ {
+    match typ {
         1 => met_value(HeartbeatInfoParameter::try_from(alloc, raw), wanted),
         7 => met_value(StateCookieParameter::try_from(alloc, raw), wanted),
         13 => met_value(
@@ -31,6 +31,11 @@ fn kind(alloc: Global, bytes: &[u8], wanted: &str) -> Met {
         0x8008 => met_value(SupportedExtensionsParameter::try_from(alloc, raw), wanted),
         _ => met_value(UnknownParameter::try_from(alloc, raw), wanted),
     }
+}
+
+/// The same, of the kind that has the bytes' type.
+fn of_kind(alloc: Global, bytes: &[u8], wanted: &str) -> Met {
+    kind(alloc, type_of(bytes), bytes, wanted)
 }
 
 /// The same, of any kind.
@@ -56,12 +61,12 @@ const ROWS: &str = r"00010007 010203 = HeartbeatInfo(HeartbeatInfoParameter { in
 00630005 09 = Unknown(UnknownParameter { typ: 99, value: [9] })";
 
 #[test]
-fn each(rt: HostRuntime) -> Result<(), Fail> {
-    tell(&rt, rt.alloc(), |alloc| met_rows(alloc, ROWS, kind))
+fn of_kinds(rt: HostRuntime) -> Result<(), Fail> {
+    tell(&rt, rt.alloc(), |alloc| met_rows(alloc, ROWS, of_kind))
 }
 
 #[test]
-fn any_of_each(rt: HostRuntime) -> Result<(), Fail> {
+fn of_any(rt: HostRuntime) -> Result<(), Fail> {
     tell(&rt, rt.alloc(), |alloc| met_rows(alloc, ROWS, any))
 }
 
@@ -83,31 +88,26 @@ const FAULTS: &str = r"000d0013 00000001 00000002 00000003 000400 = InvalidLengt
 const FAULTS_OF_LISTS: &str = r"00010007 01020300 00070006 07080000 00 = InvalidLength
 00010007 01020300 0010000c 00000001 00000007 = InvalidValue";
 
-// Each fault is told, and not memory.
-#[test]
-fn faults(rt: HostRuntime) {
-    assert_eq!(rt; met_rows(rt.alloc(), FAULTS, kind), Met::Answer);
-    assert_eq!(rt; met_rows(rt.alloc(), FAULTS, any), Met::Answer);
-    assert_eq!(rt; met_rows(rt.alloc(), FAULTS_OF_LISTS, list), Met::Answer);
+/// What the row's bytes are read as, of the kind that has this type.
+fn met_as(alloc: Global, typ: u16, row: &str) -> Met {
+    met_rows(
+        alloc,
+        row,
+        |alloc, bytes, wanted| kind(alloc, typ, bytes, wanted),
+    )
 }
 
-// So is another type.
+// Each fault is the answer, and not memory; so is another type.
 #[test]
-fn other_types(rt: HostRuntime) {
-    let (alloc, wanted) = (rt.alloc(), "InvalidType");
+fn faults(rt: HostRuntime) {
+    let alloc = rt.alloc();
     let mets = [
-        met_value(
-            HeartbeatInfoParameter::try_from(alloc, parameter(7, &[1])),
-            wanted,
-        ),
-        met_value(
-            StateCookieParameter::try_from(alloc, parameter(1, &[1])),
-            wanted,
-        ),
-        met_value(
-            SupportedExtensionsParameter::try_from(alloc, parameter(1, &[1])),
-            wanted,
-        ),
+        met_rows(alloc, FAULTS, of_kind),
+        met_rows(alloc, FAULTS, any),
+        met_rows(alloc, FAULTS_OF_LISTS, list),
+        met_as(alloc, 1, "00070005 01 = InvalidType"),
+        met_as(alloc, 7, "00010005 01 = InvalidType"),
+        met_as(alloc, 0x8008, "00010005 01 = InvalidType"),
     ];
     assert_eq!(rt; all(&mets), Met::Answer);
 }

@@ -6,18 +6,10 @@
 #[cfg(test)]
 mod builder;
 #[cfg(test)]
-mod checks;
-#[cfg(test)]
-mod checksums;
+mod headers;
 #[cfg(test)]
 mod laws;
 #[cfg(test)]
 mod packets;
-#[cfg(test)]
-mod padding;
-#[cfg(test)]
-mod places;
-#[cfg(test)]
-mod replaced_texts;
 #[cfg(test)]
 mod sizes;

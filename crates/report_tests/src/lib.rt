@@ -1,6 +1,5 @@
 //! What is printed of packets: each text is worked by hand from the layouts of the standards.
 #![tactic(auto)]
 
-mod chunks;
-mod faults;
-mod packets;
+#[cfg(test)]
+mod rows;

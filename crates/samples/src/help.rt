@@ -1,10 +1,10 @@
-//! What the tests ask: each takes bytes, and answers a text, numbers or a bool.
+//! What the tests ask: each takes bytes, and answers bytes, a text or a bool.
 
-use dcsctp_wire::api::ZERO_CHECKSUM_ALTERNATE_ERROR_DETECTION_METHOD_NONE;
+use crate::captures::ROWS;
 use dcsctp_wire::packet::chunk::{Chunk, RawChunk};
-use dcsctp_wire::packet::sctp_packet::{ChecksumPolicy, PacketParseError, SctpPacket};
+use dcsctp_wire::packet::sctp_packet::{ChecksumPolicy, FirstFault, PacketParseError, SctpPacket};
 use dcsctp_wire::packet::{ChunkParseError, SerializableTlv};
-use hex_rows::digits_of;
+use hex_rows::{bytes_of, digits_of};
 use std::alloc::{AllocError, Global};
 use std::fmt;
 use std::test::Fail;
@@ -12,17 +12,12 @@ use std::test::Fail;
 /// Both ports 5000, tag 16909060, checksum 0.
 pub const HEADER: [u8; 12] = [0x13, 0x88, 0x13, 0x88, 1, 2, 3, 4, 0, 0, 0, 0];
 
-pub const UNVERIFIED: ChecksumPolicy = ChecksumPolicy {
-    disable_checksum_verification: true,
-    zero_checksum_alternate_error_detection_method: ZERO_CHECKSUM_ALTERNATE_ERROR_DETECTION_METHOD_NONE,
-    strict_padding: false,
-};
+pub const UNVERIFIED: ChecksumPolicy = ChecksumPolicy::ANY_CHECKSUM;
 
 /// The same, but that padding is looked at.
 pub const STRICT: ChecksumPolicy = ChecksumPolicy {
-    disable_checksum_verification: true,
-    zero_checksum_alternate_error_detection_method: ZERO_CHECKSUM_ALTERNATE_ERROR_DETECTION_METHOD_NONE,
     strict_padding: true,
+    ..ChecksumPolicy::ANY_CHECKSUM
 };
 
 /// The frame at the front of the bytes.
@@ -31,45 +26,9 @@ pub fn raw_of(bytes: &[u8]) -> Result<RawChunk, ChunkParseError> {
     Ok(raw)
 }
 
-/// What stands after the frame at the front, and its padding.
-pub fn rest_of(bytes: &[u8]) -> Result<&[u8], ChunkParseError> {
-    let (_, rest) = RawChunk::from_bytes(bytes)?;
-    Ok(rest)
-}
-
 /// The chunk at the front of the bytes.
 pub fn chunk_of(alloc: Global, bytes: &[u8]) -> Result<Chunk, ChunkParseError> {
     Chunk::try_from(alloc, raw_of(bytes)?)
-}
-
-/// What the chunk at the front prints.
-fn text_of(alloc: Global, bytes: &[u8]) -> Result<String, ChunkParseError> {
-    let chunk = chunk_of(alloc, bytes)?;
-    Ok(chunk.to_string(alloc)?)
-}
-
-/// All that the chunk at the front holds.
-pub fn fields_of(alloc: Global, bytes: &[u8]) -> Result<String, ChunkParseError> {
-    let chunk = chunk_of(alloc, bytes)?;
-    Ok(format!(in alloc; "{chunk:?}")?)
-}
-
-/// What a reader answered, as `Ok` of all that the chunk holds, or as `Err` of its fault.
-pub fn told<T: fmt::Debug + Drop>(
-    alloc: Global,
-    answer: Result<T, ChunkParseError>,
-) -> Result<String, AllocError> {
-    format!(in alloc; "{answer:?}")
-}
-
-/// The chunk at the front prints this text.
-pub fn has_text(alloc: Global, bytes: &[u8], text: &str) -> Result<bool, ChunkParseError> {
-    Ok(text_of(alloc, bytes)?.as_str() == text)
-}
-
-/// The chunk at the front holds this, and nothing else.
-pub fn has_fields(alloc: Global, bytes: &[u8], fields: &str) -> Result<bool, ChunkParseError> {
-    Ok(fields_of(alloc, bytes)?.as_str() == fields)
 }
 
 /// The chunk as it is written over zeros, or nothing where it can't be written.
@@ -80,15 +39,6 @@ pub fn image_of<T: SerializableTlv>(alloc: Global, chunk: &T) -> Result<Vec<u8>,
     let mut output = vec![in alloc; 0; chunk.serialized_size()]?;
     chunk.serialize_to(&mut output);
     Ok(output)
-}
-
-/// As written over zeros, the chunk is these bytes.
-fn is_image<T: SerializableTlv>(
-    alloc: Global,
-    chunk: &T,
-    wanted: &[u8],
-) -> Result<bool, AllocError> {
-    Ok(image_of(alloc, chunk)?.as_slice() == wanted)
 }
 
 /// The frame at the front of the bytes, without its padding.
@@ -134,17 +84,33 @@ pub fn shown(alloc: Global, bytes: &[u8]) -> Result<String, Fail> {
     kind_shown(alloc, bytes, chunk_of(alloc, bytes))
 }
 
-/// The chunk prints this text, and is written as these bytes.
-pub fn is_shown<T: SerializableTlv + fmt::Display + Drop>(
-    alloc: Global,
-    chunk: T,
-    text: &str,
-    bytes: &[u8],
-) -> Result<bool, AllocError> {
-    if chunk.to_string(alloc)?.as_str() != text {
-        return Ok(false);
+/// The captured chunks that begin with each of these words, one after the other.
+pub fn captured(alloc: Global, words: &[u8]) -> Result<Vec<u8>, Fail> {
+    let mut chunks = Vec::new(alloc);
+    for word in words.chunks(4) {
+        let first = digits_of(alloc, word)?;
+        let size = chunks.len();
+        for line in ROWS.lines() {
+            if line.starts_with(first.as_str()) {
+                let (digits, _) = line.split_once(" = ").unwrap_or((line, ""));
+                chunks.extend_from_slice(&bytes_of(alloc, digits)?)?;
+            }
+        }
+        if chunks.len() == size {
+            return Err(Fail::new("no such capture"));
+        }
     }
-    is_image(alloc, &chunk, bytes)
+    Ok(chunks)
+}
+
+/// In hexadecimal, how bytes begin, and the item that follows this often.
+pub fn repeated(alloc: Global, front: &str, item: &str, count: usize) -> Result<Vec<u8>, Fail> {
+    let item = bytes_of(alloc, item)?;
+    let mut bytes = bytes_of(alloc, front)?;
+    for _ in 0..count {
+        bytes.extend_from_slice(&item)?;
+    }
+    Ok(bytes)
 }
 
 /// The header, and these chunks.
@@ -163,8 +129,31 @@ pub fn canonical_of(alloc: Global, packet: &SctpPacket) -> Result<Option<Vec<u8>
     }
 }
 
+/// The number of items in a chunk's list, if it has one.
+fn listed(chunk: &Chunk) -> usize {
+    match chunk {
+        Chunk::Init(c) => c.parameters.len(),
+        Chunk::InitAck(c) => c.parameters.len(),
+        Chunk::HeartbeatRequest(c) => c.parameters.len(),
+        Chunk::HeartbeatAck(c) => c.parameters.len(),
+        Chunk::ReConfig(c) => c.parameters.len(),
+        Chunk::Abort(c) => c.error_causes.len(),
+        Chunk::Error(c) => c.error_causes.len(),
+        _ => 0,
+    }
+}
+
+/// The number of chunks, and of the items in them.
+fn parts_of(chunks: &[Chunk]) -> usize {
+    let mut parts = chunks.len();
+    for chunk in chunks {
+        parts = parts.saturating_add(listed(chunk));
+    }
+    parts
+}
+
 /// What the chunks print, one after the other.
-fn texts_of(alloc: Global, chunks: &[Chunk]) -> Result<String, AllocError> {
+pub fn texts_of(alloc: Global, chunks: &[Chunk]) -> Result<String, AllocError> {
     let mut text = String::new(alloc);
     for chunk in chunks {
         if !text.is_empty() {
@@ -173,30 +162,6 @@ fn texts_of(alloc: Global, chunks: &[Chunk]) -> Result<String, AllocError> {
         write!(text, "{chunk}")?;
     }
     Ok(text)
-}
-
-/// What the packet's chunks print; or the packet's fault.
-pub fn answer_of(
-    alloc: Global,
-    bytes: &[u8],
-    word: u32,
-    policy: &ChecksumPolicy,
-) -> Result<String, AllocError> {
-    match SctpPacket::from_bytes(alloc, bytes, word, policy) {
-        Ok(packet) => texts_of(alloc, &packet.chunks),
-        Err(error) => format!(in alloc; "{error:?}"),
-    }
-}
-
-/// The packet's answer is this.
-pub fn is_answered(
-    alloc: Global,
-    bytes: &[u8],
-    word: u32,
-    policy: &ChecksumPolicy,
-    wanted: &str,
-) -> Result<bool, AllocError> {
-    Ok(answer_of(alloc, bytes, word, policy)?.as_str() == wanted)
 }
 
 /// What the canonical packet has after the header, where these aren't the chunks: an arrow, and its
@@ -209,76 +174,79 @@ fn arrow_to(alloc: Global, packet: &SctpPacket, chunks: &[u8]) -> Result<String,
             let digits = digits_of(alloc, again)?;
             format!(in alloc; " -> {digits}")
         }
+        None if canonical.is_empty() => format!(in alloc; " -> none that fits"),
         None => format!(in alloc; " -> another header"),
     }
 }
 
-/// What the packet of these chunks prints, and its arrow; or the packet's fault.
-pub fn packet_shown(
+/// How many parts the packet of these chunks has, what it prints, and its arrow.
+fn packet_shown(alloc: Global, chunks: &[u8], packet: &SctpPacket) -> Result<String, AllocError> {
+    let parts = parts_of(&packet.chunks);
+    let text = texts_of(alloc, &packet.chunks)?;
+    let arrow = arrow_to(alloc, packet, chunks)?;
+    format!(in alloc; "{parts} | {text}{arrow}")
+}
+
+/// The same of the chunks that are read after the header; the check counts as many parts.
+fn read_shown(alloc: Global, bytes: &[u8], policy: &ChecksumPolicy) -> Result<String, Fail> {
+    let packet = SctpPacket::from_bytes(alloc, bytes, 0, policy)?;
+    if SctpPacket::check(bytes, 0, policy) != Ok(parts_of(&packet.chunks)) {
+        return Err(Fail::new("the check counts other parts"));
+    }
+    Ok(packet_shown(alloc, bytes.get(HEADER.len()..).unwrap_or(&[]), &packet)?)
+}
+
+/// Whether the packet is refused for this fault, by the check and by the reader.
+fn is_refused(
     alloc: Global,
-    chunks: &[u8],
+    bytes: &[u8],
+    word: u32,
     policy: &ChecksumPolicy,
-) -> Result<String, AllocError> {
-    let bytes = packet_of(alloc, chunks)?;
-    match SctpPacket::from_bytes(alloc, &bytes, 0, policy) {
-        Ok(packet) => {
-            let mut text = texts_of(alloc, &packet.chunks)?;
-            text.push_str(&arrow_to(alloc, &packet, chunks)?)?;
-            Ok(text)
-        }
-        Err(error) => format!(in alloc; "{error:?}"),
+    fault: &PacketParseError,
+) -> bool {
+    let is_read_so = match SctpPacket::from_bytes(alloc, bytes, word, policy) {
+        Ok(_) => false,
+        Err(error) => error == *fault,
+    };
+    match SctpPacket::check(bytes, word, policy) {
+        Ok(_) => false,
+        Err(error) => is_read_so && error == *fault,
     }
 }
 
-/// The packet's chunks hold this, and nothing else.
-pub fn has_chunks(
+/// The fault of the packet and its place, if check and reader have the same fault.
+pub fn fault_shown(
     alloc: Global,
     bytes: &[u8],
     word: u32,
     policy: &ChecksumPolicy,
-    wanted: &str,
-) -> Result<bool, Fail> {
-    let packet = SctpPacket::from_bytes(alloc, bytes, word, policy)?;
-    let chunks = &packet.chunks;
-    Ok(format!(in alloc; "{chunks:?}")?.as_str() == wanted)
-}
-
-/// The ports, the tag and the checksum field.
-pub fn header_of(
-    alloc: Global,
-    bytes: &[u8],
-    word: u32,
-    policy: &ChecksumPolicy,
-) -> Result<(u16, u16, u32, u32), PacketParseError> {
-    let header = SctpPacket::from_bytes(alloc, bytes, word, policy)?.common_header;
-    Ok((
-        header.source_port,
-        header.destination_port,
-        header.verification_tag,
-        header.checksum,
-    ))
-}
-
-/// How many chunks the packet has, whether each can be written, and the size of the canonical
-/// packet, or nothing where that doesn't fit.
-pub fn sizes_of(alloc: Global, bytes: &[u8]) -> Result<(usize, bool, Option<usize>), Fail> {
-    let packet = SctpPacket::from_bytes(alloc, bytes, 0, &UNVERIFIED)?;
-    let encodable = packet.chunks.iter().all(|chunk| chunk.encodable());
-    let size = canonical_of(alloc, &packet)?.map(|bytes| bytes.len());
-    Ok((packet.chunks.len(), encodable, size))
-}
-
-/// The packet's canonical bytes are these.
-pub fn is_canonical(
-    alloc: Global,
-    bytes: &[u8],
-    word: u32,
-    policy: &ChecksumPolicy,
-    wanted: &[u8],
-) -> Result<bool, Fail> {
-    let packet = SctpPacket::from_bytes(alloc, bytes, word, policy)?;
-    Ok(match canonical_of(alloc, &packet)? {
-        Some(canonical) => canonical.as_slice() == wanted,
-        None => false,
+    found: &FirstFault,
+) -> Result<String, Fail> {
+    let FirstFault { fault, offset } = found;
+    if !is_refused(alloc, bytes, word, policy, fault) {
+        return Err(Fail::new("check or reader answers otherwise"));
+    }
+    Ok(match fault {
+        PacketParseError::FailedParseChunk(fault) => format!(in alloc; "{fault:?} at {offset}")?,
+        fault => format!(in alloc; "{fault:?} at {offset}")?,
     })
+}
+
+/// What the header and chunks are answered with under a policy.
+fn answered_under(alloc: Global, bytes: &[u8], policy: &ChecksumPolicy) -> Result<String, Fail> {
+    match SctpPacket::first_fault(bytes, 0, policy) {
+        Some(found) => fault_shown(alloc, bytes, 0, policy, &found),
+        None => read_shown(alloc, bytes, policy),
+    }
+}
+
+/// What the header and these chunks are answered with, as a row of `packets` says it.
+pub fn answered(alloc: Global, chunks: &[u8]) -> Result<String, Fail> {
+    let bytes = packet_of(alloc, chunks)?;
+    let mut text = answered_under(alloc, &bytes, &UNVERIFIED)?;
+    let strict = answered_under(alloc, &bytes, &STRICT)?;
+    if strict.as_str() != text.as_str() {
+        write!(text, " | {strict}")?;
+    }
+    Ok(text)
 }
