@@ -12,6 +12,7 @@ use dcsctp_chunk::data_chunk::DataChunk;
 use dcsctp_chunk::forward_tsn_chunk::ForwardTsnChunk;
 use dcsctp_chunk::idata_chunk::IDataChunk;
 use dcsctp_chunk::iforward_tsn_chunk::IForwardTsnChunk;
+use dcsctp_chunk::plain_check::plain_check;
 use dcsctp_chunk::raw_chunk::RawChunk;
 use dcsctp_chunk::sack_chunk::SackChunk;
 use dcsctp_chunk::shutdown_ack_chunk::ShutdownAckChunk;
@@ -43,7 +44,7 @@ use std::test::Fail;
 
 /// The chunk that the bytes are, with nothing after it and its padding, before its value is looked
 /// at.
-pub(crate) fn raw_chunk(bytes: &[u8]) -> Result<RawChunk, ChunkParseError> {
+fn raw_chunk(bytes: &[u8]) -> Result<RawChunk, ChunkParseError> {
     let (raw, rest) = RawChunk::from_bytes(bytes)?;
     if rest.is_empty() {
         Ok(raw)
@@ -59,20 +60,23 @@ pub(crate) fn raw_parameter(bytes: &[u8]) -> Result<RawParameter, ChunkParseErro
 }
 
 /// Why bytes are refused. Memory is no such reason: without it there is no answer.
-fn refusal(alloc: Global, fault: ChunkParseError) -> Result<String, Fail> {
+pub(crate) fn refusal(alloc: Global, fault: ChunkParseError) -> Result<String, Fail> {
     if fault == ChunkParseError::OutOfMemory {
         return Err(Fail::new("out of memory"));
     }
     Ok(format!(in alloc; "{fault:?}")?)
 }
 
-/// All fields of a value, and what it prints.
-pub(crate) fn told_of<T: Debug + Display>(alloc: Global, value: &T) -> Result<String, AllocError> {
-    format!(in alloc; "{value:?}; {value}")
+/// Bytes in hexadecimal; a dash where there are none.
+pub(crate) fn part(alloc: Global, bytes: &[u8]) -> Result<String, AllocError> {
+    if bytes.is_empty() {
+        return String::from_str(alloc, "-");
+    }
+    digits_of(alloc, bytes)
 }
 
 /// The text, and after an arrow the bytes that were written where they aren't those that were read.
-fn with_change(
+pub(crate) fn with_change(
     alloc: Global,
     text: String,
     bytes: &[u8],
@@ -81,7 +85,7 @@ fn with_change(
     if again == bytes {
         return Ok(text);
     }
-    let digits = digits_of(alloc, again)?;
+    let digits = part(alloc, again)?;
     format!(in alloc; "{text} -> {digits}")
 }
 
@@ -102,11 +106,16 @@ fn value_shown<T: SerializableTlv + Debug + Display>(
     value: &T,
 ) -> Result<String, AllocError> {
     let again = written(alloc, value)?;
-    with_change(alloc, told_of(alloc, value)?, bytes, &again)
+    with_change(
+        alloc,
+        format!(in alloc; "{value:?}; {value}")?,
+        bytes,
+        &again,
+    )
 }
 
 /// The same of what a reader answered, or why it refuses the bytes.
-fn shown<T: SerializableTlv + Debug + Display + Drop>(
+pub(crate) fn shown<T: SerializableTlv + Debug + Display + Drop>(
     alloc: Global,
     bytes: &[u8],
     answer: Result<T, ChunkParseError>,
@@ -115,6 +124,32 @@ fn shown<T: SerializableTlv + Debug + Display + Drop>(
         Ok(value) => Ok(value_shown(alloc, bytes, &value)?),
         Err(fault) => refusal(alloc, fault),
     }
+}
+
+/// A value's fields and text, and the bytes that are written of it.
+pub(crate) fn made<T: SerializableTlv + Debug + Display + Drop>(
+    alloc: Global,
+    value: T,
+) -> Result<String, AllocError> {
+    value_shown(alloc, &[], &value)
+}
+
+/// How many bytes a value has, or nothing where it can't be written.
+pub(crate) fn size_of<T: SerializableTlv + Drop>(value: T) -> Option<usize> {
+    if value.encodable() {
+        Some(value.serialized_size())
+    } else {
+        None
+    }
+}
+
+/// A kind converts to the parameter or error cause of that kind, with all that it holds.
+pub(crate) fn converted<K, L: From<K> + Debug + Drop>(
+    alloc: Global,
+    kind: K,
+) -> Result<String, AllocError> {
+    let item = L::from(kind);
+    format!(in alloc; "{item:?}")
 }
 
 /// What the bytes are as a chunk of the kind that has this type.
@@ -135,9 +170,19 @@ pub(crate) fn chunk_as(alloc: Global, typ: u8, bytes: &[u8]) -> Result<String, F
     }
 }
 
-/// What the bytes are as a chunk of their own type.
+/// What the bytes are as a chunk of their own type; and what its check by itself says, where that
+/// is something else.
 pub(crate) fn chunk(alloc: Global, bytes: &[u8]) -> Result<String, Fail> {
-    chunk_as(alloc, raw_chunk(bytes)?.typ, bytes)
+    let told = chunk_as(alloc, raw_chunk(bytes)?.typ, bytes)?;
+    let fault = match plain_check(raw_chunk(bytes)?) {
+        Ok(()) => String::new(alloc),
+        Err(fault) => refusal(alloc, fault)?,
+    };
+    let is_passed = fault.is_empty() && told.contains("; ");
+    if is_passed || fault.as_str() == told.as_str() {
+        return Ok(told);
+    }
+    Ok(format!(in alloc; "{told}, checked: {fault}")?)
 }
 
 /// What the bytes are as a parameter of the kind that has this type.
@@ -173,12 +218,26 @@ pub(crate) fn cause_as(alloc: Global, code: u16, bytes: &[u8]) -> Result<String,
     }
 }
 
-/// What a list is in which the kind's value alone is, by what is told of that: the variant has the
-/// kind's name without its end.
-pub(crate) fn in_list(alloc: Global, told: &str, end: &str) -> Result<String, AllocError> {
-    let (fields, _) = told.split_once("; ").unwrap_or((told, ""));
-    let (variant, _) = fields.split_once(end).unwrap_or((fields, ""));
-    format!(in alloc; "[{variant}({fields})]")
+/// What is told of a kind's value, where the variant of its type and a list of it alone are told
+/// alike; else these two. The variant has the kind's name without its end.
+pub(crate) fn told_alike(
+    alloc: Global,
+    told: String,
+    end: &str,
+    variant: &str,
+    list: &str,
+) -> Result<String, AllocError> {
+    let (fields, rest) = told.split_once("; ").unwrap_or((&told, ""));
+    let (name, _) = fields.split_once(end).unwrap_or((fields, ""));
+    let (_, again) = rest.split_once(" -> ").unwrap_or((rest, ""));
+    let arrow = if again.is_empty() { "" } else { " -> " };
+    let wanted = format!(in alloc; "{name}({fields}); {rest}; [{name}({fields})]{arrow}{again}")?;
+    let given = format!(in alloc; "{variant}; {list}")?;
+    if given.as_str() == wanted.as_str() {
+        Ok(told)
+    } else {
+        Ok(given)
+    }
 }
 
 /// A list as written over bytes `ee`.
@@ -204,43 +263,24 @@ fn items_shown<T: SerializableTlv + Debug>(
     with_change(alloc, format!(in alloc; "{list:?}")?, bytes, &again)
 }
 
-/// The same of what a reader of lists answered, or why it refuses the bytes.
+/// The same of what a reader of lists answered, or why it refuses the bytes. After it what two
+/// checks say, where they count otherwise: one that ignores padding, and a strict one.
 pub(crate) fn list_shown<T: SerializableTlv + Debug + Drop>(
     alloc: Global,
     bytes: &[u8],
     answer: Result<Vec<T>, ChunkParseError>,
+    lenient: Result<usize, ChunkParseError>,
+    strict: Result<usize, ChunkParseError>,
 ) -> Result<String, Fail> {
-    match answer {
-        Ok(list) => Ok(items_shown(alloc, bytes, &list)?),
-        Err(fault) => refusal(alloc, fault),
+    let (text, count) = match answer {
+        Ok(list) => (items_shown(alloc, bytes, &list)?, Ok(list.len())),
+        Err(fault) => (format!(in alloc; "{fault:?}")?, Err(fault)),
+    };
+    if lenient != count {
+        return Ok(format!(in alloc; "{text}; checked {lenient:?}")?);
     }
-}
-
-/// A value's fields and text, and the bytes that are written of it.
-pub(crate) fn made<T: SerializableTlv + Debug + Display>(
-    alloc: Global,
-    value: &T,
-) -> Result<String, AllocError> {
-    value_shown(alloc, &[], value)
-}
-
-/// How many bytes a value has, or nothing where it can't be written.
-pub(crate) fn size_of<T: SerializableTlv>(value: &T) -> Option<usize> {
-    if value.encodable() {
-        Some(value.serialized_size())
-    } else {
-        None
+    if strict != count {
+        return Ok(format!(in alloc; "{text}; strictly {strict:?}")?);
     }
-}
-
-/// Whether a value that was written is read as it was.
-pub(crate) fn is_kept<
-    T: SerializableTlv + Debug + Display,
-    F: Fn(Global, &[u8]) -> Result<String, Fail>,
->(alloc: Global, value: &T, read: F) -> Result<bool, Fail>
-    requires { F.IsAlwaysCallable read }
-{
-    let again = read(alloc, &written(alloc, value)?)?;
-    let before = told_of(alloc, value)?;
-    Ok(again.as_str() == before.as_str())
+    Ok(text)
 }

@@ -2,8 +2,9 @@
 
 use dcsctp_types::api::{
     LifecycleId, Message, PpId, SocketTime, StreamId,
-    ZERO_CHECKSUM_ALTERNATE_ERROR_DETECTION_METHOD_LOWER_LAYER_DTLS,
-    ZERO_CHECKSUM_ALTERNATE_ERROR_DETECTION_METHOD_NONE, ZeroChecksumAlternateErrorDetectionMethod,
+    ZERO_CHECKSUM_ALTERNATE_ERROR_DETECTION_METHOD_LOWER_LAYER_DTLS as DTLS,
+    ZERO_CHECKSUM_ALTERNATE_ERROR_DETECTION_METHOD_NONE as NONE,
+    ZeroChecksumAlternateErrorDetectionMethod,
 };
 use dcsctp_types::laws;
 use dcsctp_types::types::{Fsn, Mid, OutgoingMessageId, Ssn, StreamKey, Tsn};
@@ -33,10 +34,8 @@ fn message_told(alloc: Global) -> Result<String, AllocError> {
 
 #[test]
 fn ids_and_keys(rt: HostRuntime) -> Result<(), Fail> {
-    let (ordered, unordered) = (
-        StreamKey::new(false, StreamId(65_535)),
-        StreamKey::new(true, StreamId(0)),
-    );
+    let ordered = StreamKey::new(false, StreamId(65_535));
+    let unordered = StreamKey::new(true, StreamId(0));
     assert_eq!(rt; ordered, StreamKey::Ordered(StreamId(65_535)));
     assert_eq!(rt; unordered, StreamKey::Unordered(StreamId(0)));
     assert!(rt; ordered < unordered);
@@ -49,18 +48,19 @@ fn ids_and_keys(rt: HostRuntime) -> Result<(), Fail> {
     let id = LifecycleId::new(7).ok_or("seven")?;
     assert_eq!(rt; id, LifecycleId::from(7));
     assert_eq!(rt; id.value(), 7);
-    assert!(rt; id < LifecycleId::from(u64::MAX));
+    let last = LifecycleId::from(u64::MAX);
+    assert!(rt; id < last);
+    assert_eq!(rt;
+        format!(in rt.alloc(); "{last} {last:?}")?.as_str(),
+        "18446744073709551615 18446744073709551615"
+    );
 
     assert_eq!(rt;
         message_told(rt.alloc())?.as_str(),
         "Message { stream_id: 3, ppid: 53, payload: [1, 2] }"
     );
-
-    assert_eq!(rt; ZERO_CHECKSUM_ALTERNATE_ERROR_DETECTION_METHOD_NONE.0, 0);
-    assert_eq!(rt;
-        ZERO_CHECKSUM_ALTERNATE_ERROR_DETECTION_METHOD_LOWER_LAYER_DTLS.0,
-        1
-    );
+    assert_eq!(rt; (NONE.0, DTLS.0), (0, 1));
+    assert_eq!(rt; ZeroChecksumAlternateErrorDetectionMethod::from(1), DTLS);
     Ok(())
 }
 
@@ -80,61 +80,66 @@ fn precedes<T: Ord + Copy>(a: T, b: T) -> bool {
     a < b && !(b < a) && a <= a
 }
 
+/// What numbers print that are converted, plainly and for a developer; nothing, where those of 1
+/// and 2 aren't told apart.
+fn texts<N: From<u8> + Copy, T: From<N> + Eq + Hash + Copy + Debug + Display>(
+    alloc: Global,
+    numbers: &[N],
+) -> Result<String, AllocError> {
+    let mut text = String::new(alloc);
+    let (one, same, two) = (
+        T::from(N::from(1)),
+        T::from(N::from(1)),
+        T::from(N::from(2)),
+    );
+    if agree(one, same, two) {
+        for number in numbers {
+            let id = T::from(*number);
+            write!(text, "{id} {id:?} ")?;
+        }
+    }
+    Ok(text)
+}
+
 // The derived traits, through bounds.
 #[test]
-fn traits(rt: HostRuntime) {
-    assert!(rt; agree(Ssn(1), Ssn(1), Ssn(2)));
-    assert!(rt; agree(Mid(1), Mid(1), Mid(2)));
-    assert!(rt; agree(Fsn(1), Fsn(1), Fsn(2)));
-    assert!(rt; agree(Tsn(1), Tsn(1), Tsn(2)));
-    assert!(rt;
-        agree(
-            OutgoingMessageId(1),
-            OutgoingMessageId(1),
-            OutgoingMessageId(2)
-        )
+fn traits(rt: HostRuntime) -> Result<(), Fail> {
+    let alloc = rt.alloc();
+    assert_eq!(rt;
+        texts::<u16, Ssn>(alloc, &[65_535])?.as_str(),
+        "65535 65535 "
     );
-    assert!(rt; agree(StreamId(1), StreamId(1), StreamId(2)));
-    assert!(rt; agree(PpId(1), PpId(1), PpId(2)));
-    assert!(rt;
-        agree(
-            LifecycleId::from(1),
-            LifecycleId::from(1),
-            LifecycleId::from(2)
-        )
+    assert_eq!(rt;
+        texts::<u16, StreamId>(alloc, &[300, 345])?.as_str(),
+        "300 300 345 345 "
     );
+    assert_eq!(rt;
+        texts::<u32, Mid>(alloc, &[70_000, 0])?.as_str(),
+        "70000 70000 0 0 "
+    );
+    assert_eq!(rt; texts::<u32, Fsn>(alloc, &[5, 10])?.as_str(), "5 5 10 10 ");
+    assert_eq!(rt;
+        texts::<u32, Tsn>(alloc, &[u32::MAX])?.as_str(),
+        "4294967295 4294967295 "
+    );
+    assert_eq!(rt;
+        texts::<u32, OutgoingMessageId>(alloc, &[8, 12])?.as_str(),
+        "8 8 12 12 "
+    );
+    assert_eq!(rt; texts::<u32, PpId>(alloc, &[53])?.as_str(), "53 53 ");
     let (ordered, unordered) = (
         StreamKey::Ordered(StreamId(1)),
         StreamKey::Unordered(StreamId(1)),
     );
     assert!(rt; agree(ordered, StreamKey::new(false, StreamId(1)), unordered));
-
+    let (one, two) = (LifecycleId::from(1), LifecycleId::from(2));
+    assert!(rt; agree(one, LifecycleId::from(1), two) && precedes(one, two));
     assert!(rt; precedes(StreamId(1), StreamId(2)));
     assert!(rt; precedes(PpId(51), PpId(53)));
     assert!(rt; precedes(ordered, unordered));
     assert!(rt; precedes(unordered, StreamKey::Unordered(StreamId(2))));
-    assert!(rt; precedes(LifecycleId::from(1), LifecycleId::from(2)));
     assert!(rt; precedes(SocketTime::zero(), SocketTime::infinite_future()));
-}
-
-/// What a number converts to.
-fn made_of<N, T: From<N>>(number: N) -> T {
-    T::from(number)
-}
-
-#[test]
-fn numbers_convert(rt: HostRuntime) {
-    assert_eq!(rt; made_of::<u16, Ssn>(65_535), Ssn(65_535));
-    assert_eq!(rt; made_of::<u16, StreamId>(300), StreamId(300));
-    assert_eq!(rt; made_of::<u32, Tsn>(u32::MAX), Tsn(u32::MAX));
-    assert_eq!(rt; made_of::<u32, Mid>(70_000), Mid(70_000));
-    assert_eq!(rt; made_of::<u32, Fsn>(5), Fsn(5));
-    assert_eq!(rt; made_of::<u32, OutgoingMessageId>(8), OutgoingMessageId(8));
-    assert_eq!(rt; made_of::<u32, PpId>(53), PpId(53));
-    assert_eq!(rt;
-        made_of::<u32, ZeroChecksumAlternateErrorDetectionMethod>(1),
-        ZERO_CHECKSUM_ALTERNATE_ERROR_DETECTION_METHOD_LOWER_LAYER_DTLS
-    );
+    Ok(())
 }
 
 #[test]
@@ -143,31 +148,4 @@ fn webrtc_ppids(rt: HostRuntime) {
     assert_eq!(rt; PpId::WEBRTC_STRING, PpId(51));
     assert_eq!(rt; PpId::WEBRTC_BINARY, PpId(53));
     laws::webrtc_ppids();
-}
-
-/// What a number prints, plainly and for a developer.
-fn texts<T: Debug + Display>(alloc: Global, number: &T) -> Result<String, AllocError> {
-    format!(in alloc; "{number} {number:?}")
-}
-
-#[test]
-fn decimal_texts(rt: HostRuntime) -> Result<(), Fail> {
-    assert_eq!(rt; texts(rt.alloc(), &Ssn(65_535))?.as_str(), "65535 65535");
-    assert_eq!(rt; texts(rt.alloc(), &Mid(0))?.as_str(), "0 0");
-    assert_eq!(rt; texts(rt.alloc(), &Fsn(10))?.as_str(), "10 10");
-    assert_eq!(rt;
-        texts(rt.alloc(), &Tsn(u32::MAX))?.as_str(),
-        "4294967295 4294967295"
-    );
-    assert_eq!(rt;
-        texts(rt.alloc(), &OutgoingMessageId(12))?.as_str(),
-        "12 12"
-    );
-    assert_eq!(rt; texts(rt.alloc(), &StreamId(345))?.as_str(), "345 345");
-    assert_eq!(rt; texts(rt.alloc(), &PpId(53))?.as_str(), "53 53");
-    assert_eq!(rt;
-        texts(rt.alloc(), &LifecycleId::from(u64::MAX))?.as_str(),
-        "18446744073709551615 18446744073709551615"
-    );
-    Ok(())
 }

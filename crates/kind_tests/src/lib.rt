@@ -6,15 +6,9 @@
 #![tactic(auto)]
 
 #[cfg(test)]
-mod checks;
-#[cfg(test)]
 mod chunks;
 #[cfg(test)]
-mod data;
-#[cfg(test)]
 mod error_causes;
-#[cfg(test)]
-mod forward_tsn;
 #[cfg(test)]
 mod frames;
 #[cfg(test)]
