@@ -8,6 +8,7 @@ use Rattle.std.proofs.lemmas.List.Elements.{All-head, All-tail}
 use Rattle.std.proofs.lemmas.Str.{IsUtf8-from_is_utf8, is_utf8-from_IsUtf8, IsUtf8-nil}
 use Rattle.std.specs.declared.vec.Vec.{Vec}
 use Rattle.dcsctp_tlv.specs.Count.{total}
+use Rattle.dcsctp_tlv.specs.Fault.{Fault}
 use Rattle.dcsctp_tlv.specs.Frame.{Item, lenient, round_up_to_4}
 use Rattle.dcsctp_tlv.specs.Image.{size_of}
 use Rattle.dcsctp_tlv.specs.Level.{map_ok, MeansTrees}
@@ -142,7 +143,8 @@ CauseBounded code value t = (cause.row code).means value t → IsBounded (cause_
 
 broken_text : (tree : List ℕ → CauseTree) (fixed value : List ℕ) (t : CauseTree)
     → ((x : List ℕ) → cause_held (tree x) ≡ length x) → length fixed ≤ 38
-    → is_utf8 value ≡ false → map_ok tree (Ok (text_or fixed value)) ≡ Ok t → cause_held t ≤ 38
+    → is_utf8 value ≡ false → map_ok {E = Fault} tree (Ok (text_or fixed value)) ≡ Ok t
+    → cause_held t ≤ 38
 broken_text tree fixed value t held few broken m =
     let x = of_map_ok tree (Ok (text_or fixed value)) t m in
     let is = of_ok (text_or fixed value) x.0 x.1.0 in
@@ -150,13 +152,26 @@ broken_text tree fixed value t held few broken m =
     ap cause_held x.1.1 ∙ held x.0 ∙ ap length (sym is) in
     subst (λ (n : ℕ). n ≤ 38) (sym e) (rw broken few)
 
+broken_abort : (value : List ℕ) (t : CauseTree) → is_utf8 value ≡ false
+    → (cause.row 12).means value t → cause_held t ≤ 38
+unfolding user_abort.read
+broken_abort value t =
+    broken_text cause.UserInitiatedAbort (codes "Failed to parse abort reason") value t (λ x. refl)
+    (omega arith)
+
+broken_violation : (value : List ℕ) (t : CauseTree) → is_utf8 value ≡ false
+    → (cause.row 13).means value t → cause_held t ≤ 38
+unfolding violation.read
+broken_violation value t =
+    broken_text cause.ProtocolViolation (codes "Failed to parse additional information") value t
+    (λ x. refl) (omega arith)
+
 some_byte : (value : List ℕ) → is_utf8 value ≡ false → 1 ≤ length value
 some_byte [] e = absurd (let p : true ≡ false = sym (is_utf8-from_IsUtf8 [] IsUtf8-nil) ∙ e in cc)
 some_byte (x ∷ xs) e = omega arith
 
 cause_bounded : (i : Item) (t : CauseTree) → (cause.row (item_code i)).means i.value t
     → IsBounded (cause_held t) (length i.value)
-unfolding user_abort.read violation.read
 cause_bounded i t m = by_text (is_utf8 i.value) refl where
   kept : (cause.HoldsText (item_code i) → IsUtf8 i.value)
       → IsBounded (cause_held t) (length i.value)
@@ -170,13 +185,13 @@ cause_bounded i t m = by_text (is_utf8 i.value) refl where
   by_code true b broken p q =
       inr (
         some_byte i.value broken,
-        broken_text cause.UserInitiatedAbort _ i.value t (λ x. refl) (omega arith) broken
+        broken_abort i.value t broken
             (subst (λ (c : ℕ). (cause.row c).means i.value t) (eqb-true (item_code i) 12 p) m),
       )
   by_code false true broken p q =
       inr (
         some_byte i.value broken,
-        broken_text cause.ProtocolViolation _ i.value t (λ x. refl) (omega arith) broken
+        broken_violation i.value t broken
             (subst (λ (c : ℕ). (cause.row c).means i.value t) (eqb-true (item_code i) 13 q) m),
       )
   by_code false false broken p q = kept (λ is. elim is [
