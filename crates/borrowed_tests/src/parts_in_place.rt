@@ -111,7 +111,11 @@ fn is_as_valid(chunk: &Chunk, lent: Option<bool>) -> bool {
 
 /// What a chunk that is known to mean one gives: its type, and each part.
 fn known_text(alloc: Global, known: &CheckedChunk) -> Result<String, AllocError> {
-    let (data, sack, forward) = (known.as_user_data(), known.as_sack(), known.as_forward_tsn());
+    let (data, sack, forward) = (
+        known.as_user_data(),
+        known.as_sack(),
+        known.as_forward_tsn(),
+    );
     let (parameters, causes) = (known.as_parameters(), known.as_causes());
     let (typ, cookie) = (known.chunk_type(), known.as_cookie());
     format!(in alloc; "{typ} {data:?} {sack:?} {forward:?} {parameters:?} {causes:?} {cookie:?}")

@@ -1,4 +1,4 @@
--- What is known of a chunk's value where it means a chunk: that its kind reads it.
+-- A chunk that is known to mean one: the list that lies in it, and which chunks come next.
 use Rattle.std.proofs.Common.{◌≡◌, ℕ, List, Option, Some, None, sym, subst, ◌∙◌}
 use Rattle.dcsctp_tlv.specs.Frame.{lenient}
 use Rattle.dcsctp_tlv.specs.Level.{Level, HasMeaning, MeansTrees, MeansSome}

@@ -17,7 +17,6 @@ ghost use Rattle.dcsctp_borrowed.specs.Sack.{sack_of, read_sack};
 ghost use Rattle.dcsctp_borrowed.specs.SkippedStreams.{forward_of, read_forward};
 ghost use Rattle.dcsctp_borrowed.specs.UserData.{user_data_view, data_of, read_user_data};
 
-use crate::cookie_echo;
 use crate::forward_tsn_ref::ForwardTsnRef;
 use crate::raw_causes::{RawCauses, cause_bytes};
 use crate::raw_chunks::RawChunks;
@@ -26,7 +25,7 @@ use crate::sack_ref::SackRef;
 use crate::user_data::UserData;
 use dcsctp_wire::packet::chunk::RawChunk;
 use dcsctp_wire::packet::{
-    data_chunk, forward_tsn_chunk, idata_chunk, iforward_tsn_chunk, sack_chunk,
+    cookie_echo_chunk, data_chunk, forward_tsn_chunk, idata_chunk, iforward_tsn_chunk, sack_chunk,
 };
 use std::marker::Model;
 
@@ -152,13 +151,17 @@ impl<'a> CheckedChunk<'a> {
     /// Returns the cookie of COOKIE ECHO, without a copy: what `cookie_echo::cookie` returns. `None`
     /// exactly where the chunk has another type.
     #[inline(always)]
+    #[tactic(auto, unfolding(dcsctp_chunk::specs::CookieEcho::read))]
     pub fn as_cookie(&self) -> Option<&'a [u8]>
         ensures read { option_map (λ bytes. bytes.now) result
             ≡ read_cookie self.now.typ self.now.value.now }
         ensures means { (tree : ChunkTree) → RawMeans self.now tree
             → option_map (λ bytes. bytes.now) result ≡ cookie_of tree }
     {
-        cookie_echo::cookie(&self.raw)
+        match self.raw.typ {
+            cookie_echo_chunk::CHUNK_TYPE => Some(self.raw.value),
+            _ => None,
+        }
     }
 }
 

@@ -1,5 +1,5 @@
 -- The sum of a SACK's blocks, gathered apart from what it is added to.
-use Rattle.std.proofs.Common.{◌≡◌, ◌≤◌, ◌<◌, ◌+◌, ◌-◌, ◌*◌, ◌%◌, ◌^◌, ℕ, List, [], ◌∷◌, length, sym, ap, ◌∙◌, arith}
+use Rattle.std.proofs.Common.{◌≡◌, ◌≤◌, ◌<◌, ◌+◌, ◌-◌, ◌*◌, ◌%◌, ◌^◌, ℕ, List, [], ◌∷◌, length, refl, sym, ap, ◌∙◌, arith}
 use Rattle.std.proofs.Math.Nat.{mod-add-mod, mod-eq_of_lt}
 use Rattle.dcsctp_chunk.specs.declared.sack_chunk.GapAckBlock.{GapAckBlock}
 use Rattle.speed_probes.specs.Walk.{plus, with_blocks}
@@ -18,6 +18,11 @@ plus-plus : (n a b : ℕ) → plus (plus n a) b ≡ plus n (a + b)
 plus-plus n a b =
     let same : n + a + b ≡ n + (a + b) = omega arith in
     mod-add-mod (n + a) (2 ^ 64) b ∙ ap (λ k. k % 2 ^ 64) same
+
+-- no blocks add nothing
+pub nothing_added : (n : ℕ) (all : List GapAckBlock) → length all ≡ 0 → n ≡ with_blocks n all
+nothing_added n [] none = refl
+nothing_added n (b ∷ bs) none = absurd (omega (arith, none))
 
 pub nothing_gathered : (n : ℕ) (all : List GapAckBlock) → n < 2 ^ 64 → length all < 2 ^ 16
     → IsGathered n 0 0 all all

@@ -1,6 +1,6 @@
 //! A packet that is read in its bytes, without memory.
 
-ghost use Rattle.std.specs.Prelude.{◌≡◌, ◌<◌, ◌^◌, ℕ, List, Ok, length};
+ghost use Rattle.std.specs.Prelude.{◌≡◌, ℕ, List, Ok};
 ghost use Rattle.dcsctp_wire.specs.Chunk.{ChunkTree};
 ghost use Rattle.dcsctp_wire.specs.Packet.{PacketTree, Answer, IsPacket};
 ghost use Rattle.dcsctp_borrowed.specs.RawChunks.{RawMeans};
@@ -10,7 +10,7 @@ ghost use Rattle.speed_probes.specs.Walk as spec;
 use crate::ANY_CHECKSUM;
 use dcsctp_borrowed::checked_chunks::CheckedChunk;
 use dcsctp_borrowed::packet_ref::SctpPacketRef;
-use dcsctp_borrowed::sack_ref::{GapAckBlocks, SackRef};
+use dcsctp_borrowed::sack_ref::SackRef;
 use dcsctp_borrowed::user_data::UserData;
 use dcsctp_wire::packet::data_chunk;
 
@@ -99,24 +99,26 @@ fn with_sack(sum: u64, sack: &SackRef) -> u64
     ensures { result ≡ spec.with_sack sum sack.now }
 {
     let numbers = sack.cumulative_tsn_ack().0 as u64 + sack.a_rwnd() as u64;
-    let mut sum = with_blocks(sum.wrapping_add(numbers), sack.gap_ack_blocks());
+    let mut sum = with_blocks(sum.wrapping_add(numbers), sack);
     for tsn in sack.duplicate_tsns() {
         sum = sum.wrapping_add(tsn.0 as u64);
     }
     sum
 }
 
-/// Adds the starts and the ends of gap ack blocks.
+/// Adds the starts and the ends of a SACK's gap ack blocks.
 // 65,535 numbers of 16 bits have a sum of 32 bits, and an instruction adds four of those. The two
 // numbers of a block are added as one, as they are read: less the starts, that sum is the ends'.
 #[inline(always)]
-fn with_blocks(sum: u64, blocks: GapAckBlocks) -> u64
-    requires { length blocks < 2 ^ 16 }
-    ensures { result ≡ spec.with_blocks sum blocks.entry }
+fn with_blocks(sum: u64, sack: &SackRef) -> u64
+    ensures { result ≡ spec.with_blocks sum sack.now.blocks }
 {
+    if sack.gap_ack_block_count() == 0 {
+        return sum;
+    }
     let mut starts: u32 = 0;
     let mut both: u32 = 0;
-    for block in blocks {
+    for block in sack.gap_ack_blocks() {
         starts += block.start as u32;
         both = both.wrapping_add(block.start as u32 * 65536 + block.end as u32);
     }

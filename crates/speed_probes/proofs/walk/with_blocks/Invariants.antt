@@ -2,4 +2,4 @@ use Rattle.speed_probes.proofs.Sums.{IsGathered}
 use Rattle.speed_probes.proofs.walk.with_blocks.Given as goal
 
 abbrev pub invariant-loop-block : goal.invariant-loop-block
-invariant-loop-block l = IsGathered l.fn.sum l.starts l.both l.block-iterator l.fn.blocks
+invariant-loop-block l = IsGathered l.fn.sum l.starts l.both l.block-iterator l.fn.sack.blocks
