@@ -1,6 +1,11 @@
 pub mod Blocks
 pub mod Headers
 pub mod Inputs
+pub mod LineFeeds
+pub mod LineRuns
+pub mod LineTakes
+pub mod LineTexts
+pub mod LogTimes
 pub mod Outputs
 pub mod RecordRuns
 pub mod RecordSteps
