@@ -1,6 +1,7 @@
 pub mod Blocks
 pub mod Headers
 pub mod Inputs
+pub mod LineEnds
 pub mod LineFeeds
 pub mod LineRuns
 pub mod LineTakes

@@ -66,12 +66,14 @@ begins_after bytes from more within before found =
     let at = position-Some (λ (byte : ℕ). byte == 10) rest more 0 found in
     let size : more < length bytes - from = omega (arith, at.0, length-drop from bytes) in
     let byte : get_or rest more 0 ≡ 10 = let test = at.1 in grind (arith, nat_tests) in
-    let joined : take (from + more) bytes ≡ take from bytes ++ take more rest = take-add from more bytes in record {
+    let joined : take (from + more) bytes ≡ take from bytes ++ take more rest = take-add from more bytes in
+    let next : from + more + 1 ≡ from + (more + 1) = omega arith in
+    let suc_more : more + 1 ≡ suc more = omega arith in record {
       within = omega (arith, within, size);
       line = subst IsLine (sym joined) (IsLine-append (take from bytes) (take more rest) before
           (IsLine-before rest more (λ k d below. (position-Some (λ (b : ℕ). b == 10) rest more d found).2 k below)));
-      feed = ap (λ (n : ℕ). take n bytes) (omega arith) ∙ take-add from (more + 1) bytes
-          ∙ ap (λ (l : List ℕ). take from bytes ++ l) (ap (λ (n : ℕ). take n rest) (omega arith) ∙ take-suc rest more 0 at.0 ∙ ap (λ (b : ℕ). take more rest ++ b ∷ []) byte)
+      feed = ap (λ (n : ℕ). take n bytes) next ∙ take-add from (more + 1) bytes
+          ∙ ap (λ (l : List ℕ). take from bytes ++ l) (ap (λ (n : ℕ). take n rest) suc_more ∙ take-suc rest more 0 at.0 ∙ ap (λ (b : ℕ). take more rest ++ b ∷ []) byte)
           ∙ sym (append_assoc (take from bytes) (take more rest) (10 ∷ []))
           ∙ ap fed (sym joined);
     }

@@ -7,9 +7,9 @@ use Rattle.std.specs.Io.KnownBytes.{Keeps, Consumes, Appends}
 use Rattle.std.proofs.KnownBytes.{Consumes-nil, Consumes-trans, Appends-nil, Appends-trans, Appends-kept, Keeps-refl}
 use Rattle.sctp_dump.specs.declared.arguments.Options.{Options}
 use Rattle.sctp_dump.specs.declared.failure.Failure.{Failure}
-use Rattle.sctp_dump.specs.Prints.{PrintsAll, PrintsBeginning, Grows}
+use Rattle.sctp_dump.specs.Prints.{PrintsBeginning, Grows}
 use Rattle.sctp_dump.specs.Lines.{IsLine, fed, State, closed, LineText, LineTexts, LastText, LinesText, TextBeginning}
-use Rattle.sctp_dump.specs.LineSteps.{TakesLine, LeftText, BeginningText}
+use Rattle.sctp_dump.specs.LineSteps.{TakesLine, PrintsRest, LeftText, BeginningText}
 use Rattle.sctp_dump.proofs.Inputs.{all_taken, front_taken, front_none}
 use Rattle.sctp_dump.proofs.Outputs.{Grows-after}
 
@@ -108,11 +108,12 @@ BeginningText-none o number s = (s, LeftText-none o number s)
 
 -- the input ended
 pub LinesDone-last : (o : Options) (count : ℕ) (s t : State) (before now old mid new : Option (List ℕ))
-    → LinesDone o count s before now old mid → PrintsAll (LeftText o (count + 1) s t) now mid new
-    → PrintsAll (λ bytes text. LinesText o bytes t text) before old new
+    → LinesDone o count s before now old mid → PrintsRest (LeftText o (count + 1) s t) now mid new
+    → PrintsRest (λ bytes text. LinesText o bytes t text) before old new
 LinesDone-last o count s t before now old mid new done last = record {
   bytes = flat_map fed done.lines ++ last.bytes;
   text = done.text ++ last.text;
+  front = front_taken before now _ last.bytes done.consumes last.front;
   all = all_taken before now _ last.bytes done.consumes last.all;
   has_text = lines_text o count s t done.lines last.bytes done.text last.text done.whole done.texts done.counted last.has_text;
   appends = Appends-trans old mid new done.text last.text done.appends last.appends;
@@ -152,10 +153,11 @@ lines_long (line ∷ lines) =
 
 -- a known input that is shorter than 2^64 bytes has no more lines than are counted
 pub LinesDone-all : (o : Options) (count : ℕ) (s : State) (before now old new : Option (List ℕ)) → 2 ^ 64 - 1 ≤ count
-    → LinesDone o count s before now old new → PrintsAll (λ bytes text. LinesText o bytes s text) before old new
+    → LinesDone o count s before now old new → PrintsRest (λ bytes text. LinesText o bytes s text) before old new
 LinesDone-all o count s before now old new enough done = record {
   bytes = flat_map fed done.lines ++ [];
   text = done.text ++ [];
+  front = front_taken before now _ [] done.consumes (front_none now);
   all = few done.lines before now (let counted = done.counted in omega (arith, counted, enough)) done.consumes;
   has_text = lines_text o count s s done.lines [] done.text [] done.whole done.texts done.counted (LeftText-none o (count + 1) s);
   appends = subst (Appends old new) (sym (append-nil done.text)) done.appends;

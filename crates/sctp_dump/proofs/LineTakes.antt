@@ -8,10 +8,10 @@ use Rattle.sctp_capture.specs.Line.{line_of}
 use Rattle.sctp_dump.specs.declared.arguments.Options.{Options}
 use Rattle.sctp_dump.specs.declared.failure.Failure.{Failure}
 use Rattle.sctp_dump.specs.declared.skipped.Skipped.TheVariants.{TooLong}
-use Rattle.sctp_dump.specs.Prints.{PrintsAll, PrintsBeginning, Grows}
+use Rattle.sctp_dump.specs.Prints.{PrintsBeginning, Grows}
 use Rattle.sctp_dump.specs.Lines.{IsLine, fed, State, closed, packets_at_end, EndText, SaidText, LineText, kept, too_long, LastText, skipped_line}
-use Rattle.sctp_dump.specs.LineSteps.{BeginsWithLine, TakesLine, LeftText, BeginningText, DropsLine, IsLastLine}
-use Rattle.sctp_dump.proofs.Inputs.{Consumes-taken, all_held, all_taken, front_none}
+use Rattle.sctp_dump.specs.LineSteps.{BeginsWithLine, TakesLine, PrintsRest, LeftText, BeginningText, DropsLine, IsLastLine}
+use Rattle.sctp_dump.proofs.Inputs.{Consumes-taken, all_held, front_taken, front_none}
 use Rattle.sctp_dump.proofs.LineFeeds.{IsLine-append}
 use Rattle.sctp_dump.proofs.LineRuns.{LeftText-none, BeginningText-none}
 
@@ -27,12 +27,13 @@ PrintsBeginning-none o number s failure before old new written grows = record {
 }
 
 -- the input was at its end
-pub PrintsAll-none : (o : Options) (number : ℕ) (s : State) (before remaining old new : Option (List ℕ)) (bytes : List ℕ)
+pub PrintsRest-none : (o : Options) (number : ℕ) (s : State) (before remaining old new : Option (List ℕ)) (bytes : List ℕ)
     → Keeps before (prepend_known bytes remaining) → bytes ≡ [] → IsAtEnd remaining → Appends old new []
-    → PrintsAll (LeftText o number s s) before old new
-PrintsAll-none o number s before remaining old new bytes stream none end same = record {
+    → PrintsRest (LeftText o number s s) before old new
+PrintsRest-none o number s before remaining old new bytes stream none end same = record {
   bytes = [];
   text = [];
+  front = front_none before;
   all = subst (λ (l : List ℕ). IfSome before (λ x. length x < 2 ^ 64 → x ≡ l)) none (all_held before remaining bytes stream end);
   has_text = LeftText-none o number s;
   appends = same;
@@ -61,13 +62,14 @@ LastText-some o number s t [] text some has = absurd (omega arith)
 LastText-some o number s t (x ∷ bytes) text some has = has
 
 -- a line without a line feed is all that was left
-pub PrintsAll-found : (o : Options) (number : ℕ) (s t : State) (before remaining old new : Option (List ℕ)) (bytes line text : List ℕ)
+pub PrintsRest-found : (o : Options) (number : ℕ) (s t : State) (before remaining old new : Option (List ℕ)) (bytes line text : List ℕ)
     → Keeps before (prepend_known bytes remaining) → 0 < length bytes → length bytes ≤ 262144 → IsLine bytes → IsAtEnd remaining
     → line ≡ bytes → SaidText o number s (line_of line) t text → Appends old new text
-    → PrintsAll (LeftText o number s t) before old new
-PrintsAll-found o number s t before remaining old new bytes line text stream some short is_line end is said appends = record {
+    → PrintsRest (LeftText o number s t) before old new
+PrintsRest-found o number s t before remaining old new bytes line text stream some short is_line end is said appends = record {
   bytes = bytes;
   text = text;
+  front = prepend_known-front before remaining bytes stream;
   all = all_held before remaining bytes stream end;
   has_text = (
     is_line,
@@ -110,18 +112,20 @@ all_long (Some x) (Some y) taken rest some consumes is = λ short.
     consumes ∙ ap (λ (l : List ℕ). taken ++ l) (is (omega (arith, short, some, ap length consumes, length-append taken y)))
 
 -- the input ended in it
-pub PrintsAll-long : (o : Options) (number : ℕ) (s t : State) (before remaining old mid new : Option (List ℕ)) (bytes rest of_dump : List ℕ)
+pub PrintsRest-long : (o : Options) (number : ℕ) (s t : State) (before remaining old mid new : Option (List ℕ)) (bytes rest of_dump : List ℕ)
     → Keeps before (prepend_known bytes remaining) → 262145 ≤ length bytes → IsLine (take 262145 bytes)
     → rest ≡ drop 262145 bytes → EndText o s of_dump → t ≡ closed (packets_at_end s)
     → Appends old mid (of_dump ++ skipped_line o number TooLong) → Keeps mid new
-    → IsLastLine (prepend_known rest remaining) → PrintsAll (LeftText o number s t) before old new
-PrintsAll-long o number s t before remaining old mid new bytes rest of_dump stream long is_line dropped end is appends same last =
+    → IsLastLine (prepend_known rest remaining) → PrintsRest (LeftText o number s t) before old new
+PrintsRest-long o number s t before remaining old mid new bytes rest of_dump stream long is_line dropped end is appends same last =
     let front = take 262145 bytes in
     let size : length front ≡ 262145 = length-take-le 262145 bytes long in record {
       bytes = front ++ last.0;
       text = of_dump ++ skipped_line o number TooLong;
-      all = all_long before (prepend_known rest remaining) front last.0 (omega (arith, size))
+      front = front_taken before (prepend_known rest remaining) front last.0
           (Consumes-taken before remaining bytes rest 262145 stream dropped) last.2;
+      all = all_long before (prepend_known rest remaining) front last.0 (omega (arith, size))
+          (Consumes-taken before remaining bytes rest 262145 stream dropped) last.3;
       has_text = (
         IsLine-append front last.0 is_line last.1,
         LastText-some o number s t (front ++ last.0) _ (omega (arith, size, length-append front last.0))

@@ -1,5 +1,6 @@
 -- What is found of a line in memory, and what a step over lines took and added.
 use Rattle.std.specs.Prelude.{◌≡◌, ◌+◌, ◌-◌, ◌^◌, ◌≤◌, ◌<◌, ℕ, List, [], ◌∷◌, ◌++◌, length, take, Option, None, Some, IfSome}
+use Rattle.std.specs.Io.{StartsWith}
 use Rattle.std.specs.Io.KnownBytes.{Consumes, Appends, IsAtEnd}
 use Rattle.sctp_capture.specs.declared.line.DumpForm.{DumpForm}
 use Rattle.sctp_dump.specs.declared.arguments.Options.{Options}
@@ -45,6 +46,16 @@ pub record TakesLine (o : Options) (number : ℕ) (s t : State) (before after ol
   pub consumes : Consumes before after (fed line)
   pub appends : Appends old new text
 
+-- The output grew by the text of `bytes`, with which what was left of the input begins. They are all
+-- that was left, where that is known and shorter than 2^64 bytes.
+pub record PrintsRest (Text : List ℕ → List ℕ → Type 0) (left old new : Option (List ℕ)) : Type 0 where
+  pub bytes : List ℕ
+  pub text : List ℕ
+  pub front : IfSome left (λ l. StartsWith l bytes)
+  pub all : IfSome left (λ l. length l < 2 ^ 64 → l ≡ bytes)
+  pub has_text : Text bytes text
+  pub appends : Appends old new text
+
 -- the text of what is left, which is no whole line
 abbrev pub LeftText : Options → ℕ → State → State → List ℕ → List ℕ → Type 0
 LeftText o number s t bytes text = IsLine bytes × LastText o number s bytes t text
@@ -60,4 +71,5 @@ DropsLine before after = (line : List ℕ) × IsLine line × Consumes before aft
 -- all that was left is no whole line
 abbrev pub IsLastLine : Option (List ℕ) → Type 0
 IsLastLine left =
-    (line : List ℕ) × IsLine line × IfSome left (λ l. length l < 2 ^ 64 - 1 → l ≡ line)
+    (line : List ℕ) × IsLine line × IfSome left (λ l. StartsWith l line)
+    × IfSome left (λ l. length l < 2 ^ 64 - 1 → l ≡ line)

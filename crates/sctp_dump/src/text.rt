@@ -14,7 +14,7 @@ ghost use Rattle.sctp_dump.specs.Block.{Block};
 ghost use Rattle.sctp_dump.specs.Counts.{one_more};
 ghost use Rattle.sctp_dump.specs.Prints.{PrintsAll, PrintsBeginning, Grows};
 ghost use Rattle.sctp_dump.specs.Lines.{IsLine, numbered, skipped_line, DumpedText, EndText, packets_at_end, closed, Continues, OwnText, after_own, LoggedText, SaidText, LinesText, TextText, TextBeginning};
-ghost use Rattle.sctp_dump.specs.LineSteps.{BeginsWithLine, IsFound, state_of, TakesLine, LeftText, BeginningText, DropsLine, IsLastLine};
+ghost use Rattle.sctp_dump.specs.LineSteps.{BeginsWithLine, IsFound, state_of, TakesLine, PrintsRest, LeftText, BeginningText, DropsLine, IsLastLine};
 
 use crate::arguments::Options;
 use crate::block::{push_packet, push_skipped};
@@ -100,7 +100,7 @@ fn dump_lines<R: Read, W: Write>(
     counts: &mut Counts,
 ) -> Result<(), Failure>
     requires { state_of dump.old ≡ closed 0 }
-    ensures whole { OnOk result (PrintsAll
+    ensures whole { OnOk result (PrintsRest
         (λ bytes text. LinesText options.now bytes (state_of dump.new) text)
         (left window.old (R.remaining (device_of input.old)))
         (total W.contents output.old) (total W.contents output.new)) }
@@ -137,7 +137,7 @@ fn take_line<R: Read, W: Write>(
         (left window.new (R.remaining (device_of input.new)))
         (total W.contents output.old) (total W.contents output.new)) }
     ensures end { IfOk result (λ more. more ≡ false
-        → PrintsAll (LeftText options.now number (state_of dump.old) (state_of dump.new))
+        → PrintsRest (LeftText options.now number (state_of dump.old) (state_of dump.new))
         (left window.old (R.remaining (device_of input.old)))
         (total W.contents output.old) (total W.contents output.new)) }
     ensures stopped { IfErr result (λ failure.
@@ -263,7 +263,7 @@ fn skip_line<R: Read, W: Write>(
         (total W.contents output.old) (total W.contents output.new)
         (W.contents (device_of (writer_of output.new))) []) }
 {
-    for _reads in 0..u64::MAX {
+    for reads in 0..u64::MAX {
         if let Some(rest) = line_feed(window.held(), 0) {
             window.consume(rest + 1);
             return Ok(true);
@@ -340,7 +340,7 @@ fn push_logged(
     requires time { IsTrue (is_time logged.time) }
     requires closed { dump.old.form ≡ None }
     ensures text { OnOk result ((block : List ℕ)
-        × LoggedText options.now (one_more dump.old.packets) logged block
+        × LoggedText options.now (one_more dump.old.packets) logged.entry block
         × (string_bytes text.new ≡ string_bytes text.old ++ block)) }
     ensures form { OnOk result (dump.new.form ≡ None) }
     ensures packets { OnOk result (dump.new.packets ≡ one_more dump.old.packets) }
@@ -377,7 +377,7 @@ fn push_bytes(
 ) -> Result<(), AllocError>
     requires { dump.old.form ≡ None }
     ensures text { OnOk result ((block : List ℕ)
-        × Block options.now (numbered (one_more dump.old.packets) time) bytes block
+        × Block options.now (numbered (one_more dump.old.packets) time.entry) bytes.entry block
         × (string_bytes text.new ≡ string_bytes text.old ++ block)) }
     ensures form { OnOk result (dump.new.form ≡ None) }
     ensures packets { OnOk result (dump.new.packets ≡ one_more dump.old.packets) }
@@ -398,7 +398,7 @@ fn next_number(number: u64) -> u64
 
 /// Returns how a packet of a text was seen: no line names an address.
 fn seen_at<'a>(number: u64, time: Time<'a>) -> Seen<'a>
-    ensures { result ≡ numbered number time }
+    ensures { result ≡ numbered number time.entry }
 {
     Seen {
         number,
@@ -419,7 +419,7 @@ fn push_part(
     counts: &mut Counts,
 ) -> Result<(), AllocError>
     ensures { OnOk result ((more : List ℕ) × SaidText options.now number (state_of dump.old)
-        (Dumped part) (state_of dump.new) more
+        (Dumped part.entry) (state_of dump.new) more
         × (string_bytes text.new ≡ string_bytes text.old ++ more)) }
 {
     if !continues(dump, &part) {
@@ -451,10 +451,10 @@ fn begin_dump(
 ) -> Result<(), AllocError>
     requires { dump.old.form ≡ None }
     ensures text { OnOk result ((own : List ℕ)
-        × OwnText options.now number dump.old.packets (Dumped part) own
+        × OwnText options.now number dump.old.packets (Dumped part.entry) own
         × (string_bytes text.new ≡ string_bytes text.old ++ own)) }
     ensures state { OnOk result
-        (state_of dump.new ≡ after_own number dump.old.packets (Dumped part)) }
+        (state_of dump.new ≡ after_own number dump.old.packets (Dumped part.entry)) }
 {
     if part.offset != 0 {
         return push_skipped(options, Part::Line, number, Skipped::Apart, text, counts);

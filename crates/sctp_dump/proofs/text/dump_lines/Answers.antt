@@ -5,14 +5,8 @@ use Rattle.watched_io.specs.Window.{left}
 use Rattle.watched_io.specs.Output.{writer_of, total}
 use Rattle.sctp_dump.specs.LineSteps.{state_of}
 use Rattle.sctp_dump.proofs.Outputs.{IfErr-residual}
-use Rattle.sctp_dump.proofs.LineRuns.{LinesDone-none, LinesDone-more, LinesDone-last, LinesDone-all, LinesDone-stopped, LinesDone-unwritten}
+use Rattle.sctp_dump.proofs.LineRuns.{LinesDone-more, LinesDone-last, LinesDone-all, LinesDone-stopped, LinesDone-unwritten}
 use Rattle.sctp_dump.proofs.text.dump_lines.Goals as goal
-
-pub loop-lines-initial : goal.loop-lines-initial
-loop-lines-initial g c =
-    LinesDone-none c.args.options.now (state_of c.args.dump.now)
-    (left c.args.window.now (g.R.Read.remaining (device_of c.args.input.now))) (total g.W.Write.contents c.args.output.now)
-    (search rules)
 
 pub returns-in_err-more-clause-begun : goal.returns-in_err-more-clause-begun
 returns-in_err-more-clause-begun g c =

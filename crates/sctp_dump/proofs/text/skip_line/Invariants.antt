@@ -7,8 +7,8 @@ use Rattle.watched_io.specs.Output.{total}
 use Rattle.sctp_dump.specs.Lines.{IsLine}
 use Rattle.sctp_dump.proofs.text.skip_line.Given as goal
 
-abbrev pub invariant-loop-_reads : goal.invariant-loop-_reads
-invariant-loop-_reads g l =
-    ((dropped : List ℕ) × IsLine dropped × (l._reads ≤ length dropped + length (held l.window))
+abbrev pub invariant-loop-reads : goal.invariant-loop-reads
+invariant-loop-reads g l =
+    ((dropped : List ℕ) × IsLine dropped × (l.reads ≤ length dropped + length (held l.window))
     × Consumes (left l.initial.window (g.R.Read.remaining (device_of l.initial.input))) (left l.window (g.R.Read.remaining (device_of l.input))) dropped)
     × Keeps (total g.W.Write.contents l.initial.output) (total g.W.Write.contents l.output)
