@@ -1,9 +1,11 @@
 pub mod Blocks
 pub mod Headers
+pub mod InputRuns
 pub mod Inputs
 pub mod LineEnds
 pub mod LineFeeds
 pub mod LineRuns
+pub mod LineSkips
 pub mod LineTakes
 pub mod LineTexts
 pub mod LogTimes

@@ -1,7 +1,6 @@
 -- A step of a run over lines: what was found in memory, and then pushed.
-use Rattle.std.proofs.Common.{◌≡◌, ◌+◌, ◌-◌, ◌≤◌, ◌<◌, ◌^◌, ℕ, List, [], ◌∷◌, ◌++◌, length, take, drop, Option, None, Some, IfSome, refl, sym, ap, subst, ◌∙◌, append_assoc, take-append-drop, arith}
-use Rattle.std.proofs.lemmas.List.{length-append, length-take-le, take-append-le}
-use Rattle.std.specs.Io.{StartsWith}
+use Rattle.std.proofs.Common.{◌≡◌, ◌+◌, ◌-◌, ◌≤◌, ◌<◌, ◌^◌, ℕ, Bool, true, false, List, [], ◌∷◌, ◌++◌, length, take, drop, Option, None, Some, IfSome, Result, Ok, Err, OnOk, IfOk, IfErr, refl, sym, ap, subst, ◌∙◌, append_assoc, append-nil, arith}
+use Rattle.std.proofs.lemmas.List.{length-append, length-take-le}
 use Rattle.std.specs.Io.KnownBytes.{Keeps, Consumes, Appends, IsAtEnd, prepend_known}
 use Rattle.std.proofs.KnownBytes.{Consumes-trans, Appends-kept, prepend_known-front}
 use Rattle.sctp_capture.specs.Line.{line_of}
@@ -14,6 +13,7 @@ use Rattle.sctp_dump.specs.LineSteps.{BeginsWithLine, TakesLine, PrintsRest, Lef
 use Rattle.sctp_dump.proofs.Inputs.{Consumes-taken, all_held, front_taken, front_none}
 use Rattle.sctp_dump.proofs.LineFeeds.{IsLine-append}
 use Rattle.sctp_dump.proofs.LineRuns.{LeftText-none, BeginningText-none}
+use Rattle.sctp_dump.proofs.Outputs.{Grows-after}
 
 -- nothing of a line was printed before a failure
 pub PrintsBeginning-none : (o : Options) (number : ℕ) (s : State) (failure : Failure) (before old new written : Option (List ℕ))
@@ -80,29 +80,32 @@ PrintsRest-found o number s t before remaining old new bytes line text stream so
 
 -- ---- a line that is too long
 
-long_text : (o : Options) (number : ℕ) (s t : State) (front rest of_dump : List ℕ) → length front ≡ 262145
-    → EndText o s of_dump → t ≡ closed (packets_at_end s)
-    → LineText o number s (front ++ rest) t (of_dump ++ skipped_line o number TooLong)
-long_text o number s t front rest of_dump size end is =
-    too_long of_dump (omega (arith, size, length-append front rest)) end is refl
+-- a front of such a line was dropped, and the line reported
+pub record LongLine (o : Options) (number : ℕ) (s t : State) (before mid old late : Option (List ℕ)) : Type 0 where
+  pub front : List ℕ
+  pub of_dump : List ℕ
+  pub size : length front ≡ 262145
+  pub is_line : IsLine front
+  pub of_open : EndText o s of_dump
+  pub state : t ≡ closed (packets_at_end s)
+  pub consumes : Consumes before mid front
+  pub appends : Appends old late (of_dump ++ skipped_line o number TooLong)
 
--- it was dropped up to its line feed
-pub TakesLine-long : (o : Options) (number : ℕ) (s t : State) (before remaining after old mid new : Option (List ℕ)) (bytes rest of_dump : List ℕ)
+pub long_line : (o : Options) (number : ℕ) (s t : State) (before remaining old late : Option (List ℕ)) (bytes rest of_dump : List ℕ)
     → Keeps before (prepend_known bytes remaining) → 262145 ≤ length bytes → IsLine (take 262145 bytes)
     → rest ≡ drop 262145 bytes → EndText o s of_dump → t ≡ closed (packets_at_end s)
-    → Appends old mid (of_dump ++ skipped_line o number TooLong) → Keeps mid new
-    → DropsLine (prepend_known rest remaining) after → TakesLine o number s t before after old new
-TakesLine-long o number s t before remaining after old mid new bytes rest of_dump stream long is_line dropped end is appends same drops =
-    let front = take 262145 bytes in record {
-      line = front ++ drops.0;
-      text = of_dump ++ skipped_line o number TooLong;
-      is_line = IsLine-append front drops.0 is_line drops.1;
-      has_text = long_text o number s t front drops.0 of_dump (length-take-le 262145 bytes long) end is;
-      consumes = subst (Consumes before after) (sym (append_assoc front drops.0 (10 ∷ [])))
-          (Consumes-trans before (prepend_known rest remaining) after front (fed drops.0)
-          (Consumes-taken before remaining bytes rest 262145 stream dropped) drops.2);
-      appends = Appends-kept old mid new (of_dump ++ skipped_line o number TooLong) appends same;
-    }
+    → Appends old late (of_dump ++ skipped_line o number TooLong)
+    → LongLine o number s t before (prepend_known rest remaining) old late
+long_line o number s t before remaining old late bytes rest of_dump stream long is_line dropped of_open state appends = record {
+  front = take 262145 bytes;
+  of_dump = of_dump;
+  size = length-take-le 262145 bytes long;
+  is_line = is_line;
+  of_open = of_open;
+  state = state;
+  consumes = Consumes-taken before remaining bytes rest 262145 stream dropped;
+  appends = appends;
+}
 
 all_long : (all left : Option (List ℕ)) (taken rest : List ℕ) → 1 ≤ length taken → Consumes all left taken
     → IfSome left (λ l. length l < 2 ^ 64 - 1 → l ≡ rest) → IfSome all (λ l. length l < 2 ^ 64 → l ≡ taken ++ rest)
@@ -111,53 +114,67 @@ all_long (Some x) None taken rest some consumes is = absurd consumes
 all_long (Some x) (Some y) taken rest some consumes is = λ short.
     consumes ∙ ap (λ (l : List ℕ). taken ++ l) (is (omega (arith, short, some, ap length consumes, length-append taken y)))
 
--- the input ended in it
-pub PrintsRest-long : (o : Options) (number : ℕ) (s t : State) (before remaining old mid new : Option (List ℕ)) (bytes rest of_dump : List ℕ)
-    → Keeps before (prepend_known bytes remaining) → 262145 ≤ length bytes → IsLine (take 262145 bytes)
-    → rest ≡ drop 262145 bytes → EndText o s of_dump → t ≡ closed (packets_at_end s)
-    → Appends old mid (of_dump ++ skipped_line o number TooLong) → Keeps mid new
-    → IsLastLine (prepend_known rest remaining) → PrintsRest (LeftText o number s t) before old new
-PrintsRest-long o number s t before remaining old mid new bytes rest of_dump stream long is_line dropped end is appends same last =
-    let front = take 262145 bytes in
-    let size : length front ≡ 262145 = length-take-le 262145 bytes long in record {
-      bytes = front ++ last.0;
-      text = of_dump ++ skipped_line o number TooLong;
-      front = front_taken before (prepend_known rest remaining) front last.0
-          (Consumes-taken before remaining bytes rest 262145 stream dropped) last.2;
-      all = all_long before (prepend_known rest remaining) front last.0 (omega (arith, size))
-          (Consumes-taken before remaining bytes rest 262145 stream dropped) last.3;
-      has_text = (
-        IsLine-append front last.0 is_line last.1,
-        LastText-some o number s t (front ++ last.0) _ (omega (arith, size, length-append front last.0))
-        (long_text o number s t front last.0 of_dump size end is),
-      );
-      appends = Appends-kept old mid new (of_dump ++ skipped_line o number TooLong) appends same;
-    }
+module _ (o : Options) (number : ℕ) (s t : State) (before mid old late : Option (List ℕ)) (h : LongLine o number s t before mid old late) where
+  abbrev said : List ℕ
+  said = h.of_dump ++ skipped_line o number TooLong
 
-front_part : (all remaining : Option (List ℕ)) (bytes : List ℕ) (n : ℕ) → n ≤ length bytes → Keeps all (prepend_known bytes remaining)
-    → IfSome all (λ l. StartsWith l (take n bytes))
-front_part None remaining bytes n within kept = tt
-front_part (Some x) None bytes n within kept = absurd kept
-front_part (Some x) (Some y) bytes n within kept =
-    let size : length (take n bytes) ≡ n = length-take-le n bytes within in
-    ap (λ (m : ℕ). take m x) size ∙ ap (take n) (sym kept) ∙ take-append-le n bytes y within
+  has_text : (rest : List ℕ) → LineText o number s (h.front ++ rest) t said
+  has_text rest = too_long h.of_dump (let size = h.size in omega (arith, size, length-append h.front rest)) h.of_open h.state refl
 
--- a device failed in it
-pub PrintsBeginning-long : (o : Options) (number : ℕ) (s t : State) (failure : Failure) (before remaining old new written : Option (List ℕ))
-    (bytes of_dump : List ℕ) → Keeps before (prepend_known bytes remaining) → 262145 ≤ length bytes → IsLine (take 262145 bytes)
-    → EndText o s of_dump → t ≡ closed (packets_at_end s)
-    → Grows failure old new written (of_dump ++ skipped_line o number TooLong)
-    → PrintsBeginning (BeginningText o number s) failure before old new written
-PrintsBeginning-long o number s t failure before remaining old new written bytes of_dump stream long is_line end is grows =
-    let front = take 262145 bytes in
-    let size : length front ≡ 262145 = length-take-le 262145 bytes long in record {
-      bytes = front;
-      text = of_dump ++ skipped_line o number TooLong;
-      front = front_part before remaining bytes 262145 long stream;
-      has_text = (
-        t,
-        (is_line,
-        LastText-some o number s t front _ (omega (arith, size)) (too_long of_dump (omega (arith, size)) end is refl)),
-      );
-      grows = grows;
-    }
+  left_text : (rest : List ℕ) → IsLine rest → LeftText o number s t (h.front ++ rest) said
+  left_text rest is = (
+    IsLine-append h.front rest h.is_line is,
+    LastText-some o number s t (h.front ++ rest) said (let size = h.size in omega (arith, size, length-append h.front rest)) (has_text rest),
+  )
+
+  -- it was dropped up to its line feed
+  takes_long : (after new : Option (List ℕ)) → Keeps late new → DropsLine mid after → TakesLine o number s t before after old new
+  takes_long after new same drops = record {
+    line = h.front ++ drops.0;
+    text = said;
+    is_line = IsLine-append h.front drops.0 h.is_line drops.1;
+    has_text = has_text drops.0;
+    consumes = subst (Consumes before after) (sym (append_assoc h.front drops.0 (10 ∷ [])))
+        (Consumes-trans before mid after h.front (fed drops.0) h.consumes drops.2);
+    appends = Appends-kept old late new said h.appends same;
+  }
+
+  -- the input ended in it
+  rest_long : (new : Option (List ℕ)) → Keeps late new → IsLastLine mid → PrintsRest (LeftText o number s t) before old new
+  rest_long new same last = record {
+    bytes = h.front ++ last.0;
+    text = said;
+    front = front_taken before mid h.front last.0 h.consumes last.2;
+    all = all_long before mid h.front last.0 (let size = h.size in omega (arith, size)) h.consumes last.3;
+    has_text = left_text last.0 last.1;
+    appends = Appends-kept old late new said h.appends same;
+  }
+
+  -- a device failed in it
+  beginning_long : (failure : Failure) (new written : Option (List ℕ)) → Grows failure late new written []
+      → PrintsBeginning (BeginningText o number s) failure before old new written
+  beginning_long failure new written grows = record {
+    bytes = h.front ++ [];
+    text = said ++ [];
+    front = front_taken before mid h.front [] h.consumes (front_none mid);
+    has_text = (t, subst (λ (x : List ℕ). LeftText o number s t (h.front ++ []) x) (sym (append-nil said)) (left_text [] refl));
+    grows = Grows-after failure old late new written said [] h.appends grows;
+  }
+
+  pub next_long : {E : Type 0} (result : Result Bool E) (after new : Option (List ℕ)) → OnOk result (Keeps late new)
+      → IfOk result (λ more. more ≡ true → DropsLine mid after)
+      → IfOk result (λ more. more ≡ true → TakesLine o number s t before after old new)
+  next_long (Ok more) after new same drops = λ yes. takes_long after new same (drops yes)
+  next_long (Err e) after new same drops = tt
+
+  pub end_long : {E : Type 0} (result : Result Bool E) (new : Option (List ℕ)) → OnOk result (Keeps late new)
+      → IfOk result (λ more. more ≡ false → IsLastLine mid)
+      → IfOk result (λ more. more ≡ false → PrintsRest (LeftText o number s t) before old new)
+  end_long (Ok more) new same last = λ no. rest_long new same (last no)
+  end_long (Err e) new same last = tt
+
+  pub stopped_long : {T : Type 0} (result : Result T Failure) (new written : Option (List ℕ))
+      → IfErr result (λ failure. Grows failure late new written [])
+      → IfErr result (λ failure. PrintsBeginning (BeginningText o number s) failure before old new written)
+  stopped_long (Ok x) new written grows = tt
+  stopped_long (Err failure) new written grows = beginning_long failure new written grows

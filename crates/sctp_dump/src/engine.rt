@@ -4,8 +4,8 @@ ghost use Rattle.std.specs.Prelude.{◌≡◌, [], OnOk, IfErr};
 ghost use Rattle.std.specs.Io.KnownBytes.{Keeps};
 ghost use Rattle.watched_io.specs.Watched.{device_of};
 ghost use Rattle.watched_io.specs.Output.{writer_of, total};
-ghost use Rattle.sctp_dump.specs.Prints.{PrintsBeginning, Grows};
-ghost use Rattle.sctp_dump.specs.Runs.{is_pcap, InputBeginning, PrintsInput};
+ghost use Rattle.sctp_dump.specs.Prints.{Grows};
+ghost use Rattle.sctp_dump.specs.Runs.{is_pcap, PrintsInput, BeginsInput};
 
 use crate::arguments::{Form, Options};
 use crate::counts::Counts;
@@ -33,7 +33,7 @@ pub fn dump<R: Read, W: Write>(
         (total W.contents output.old) (total W.contents output.new)) }
 
     // What was written before a failure is true of the input.
-    ensures begun { IfErr result (λ failure. PrintsBeginning (InputBeginning options.now) failure
+    ensures begun { IfErr result (λ failure. BeginsInput options.now failure
         (R.remaining (device_of input.old))
         (total W.contents output.old) (total W.contents output.new)
         (W.contents (device_of (writer_of output.new)))) }
