@@ -1,11 +1,14 @@
 -- A run over an input, by what its first bytes or the options say.
-use Rattle.std.proofs.Common.{◌≡◌, ◌≤◌, ◌<◌, ℕ, Bool, true, false, List, [], ◌++◌, length, take, Option, None, Some, IfSome, Result, Ok, Err, OnOk, IfErr, refl, sym, ap, subst, ◌∙◌, append-nil, arith}
+use Rattle.std.proofs.Common.{◌≡◌, ◌≤◌, ◌<◌, ℕ, Bool, true, false, nat_eq, if◌then◌else◌, List, [], ◌++◌, length, take, Option, None, Some, IfSome, Result, Ok, Err, OnOk, IfErr, refl, sym, ap, subst, ◌∙◌, append-nil, arith}
 use Rattle.std.proofs.lemmas.List.{take-append-le}
 use Rattle.std.specs.Io.KnownBytes.{Keeps, IsAtEnd, prepend_known, append_known}
 use Rattle.std.proofs.KnownBytes.{prepend_known-nil}
 use Rattle.watched_io.specs.declared.stream.StreamError.{StreamError}
 use Rattle.watched_io.specs.Output.{HasBeginning}
-use Rattle.sctp_capture.specs.Pcap.{input_kind}
+use Rattle.std.specs.List.{starts_with}
+use Rattle.sctp_capture.specs.Pcap.{magic_format, section_header, input_kind, input_kind_by}
+use Rattle.sctp_capture.specs.declared.pcap.PcapFormat.{PcapFormat}
+use Rattle.sctp_capture.specs.declared.pcap.InputKind.TheVariants as kind
 use Rattle.sctp_dump.specs.declared.arguments.Options.{Options}
 use Rattle.sctp_dump.specs.declared.arguments.Form.{Form}
 use Rattle.sctp_dump.specs.declared.arguments.Form.TheVariants as form
@@ -13,12 +16,19 @@ use Rattle.sctp_dump.specs.declared.failure.Failure.{Failure}
 use Rattle.sctp_dump.specs.declared.failure.Failure.TheVariants.{OutOfMemory, Read, Write, Open, Arguments, UnknownOption, UnknownFormat, Pcapng, NotPcap, ShortHeader, LinkType}
 use Rattle.sctp_dump.specs.Prints.{PrintsAll, PrintsBeginning, Grows}
 use Rattle.sctp_dump.specs.Runs.{is_pcap, is_pcap_kind, InputText, InputBeginning, ReadsAs, PrintsInput, BeginsInput, begun}
+use Rattle.sctp_dump.proofs.Headers.{magic_front}
 use Rattle.sctp_dump.proofs.Outputs.{Appends-before, Grows-before, Appends-kept_nil, HasBeginning-same}
 
 -- ---- the first bytes
 
+section_front : (x y : List ℕ) → 4 ≤ length x → starts_with nat_eq (x ++ y) section_header ≡ starts_with nat_eq x section_header
+section_front x y size = let front : take 4 (x ++ y) ≡ take 4 x = take-append-le 4 x y size in rw front refl
+
 kind_front : (x y : List ℕ) → 4 ≤ length x → input_kind (x ++ y) ≡ input_kind x
-kind_front x y size = let front : take 4 (x ++ y) ≡ take 4 x = take-append-le 4 x y size in rw front refl
+kind_front x y size = ap (λ (m : Option PcapFormat). input_kind_by m (x ++ y)) (magic_front x y size) ∙ by_magic (magic_format x) where
+  by_magic : (m : Option PcapFormat) → input_kind_by m (x ++ y) ≡ input_kind_by m x
+  by_magic None = ap (λ (b : Bool). if b then kind.Pcapng else kind.Text) (section_front x y size)
+  by_magic (Some f) = refl
 
 is_pcap_front : (f : Form) (x y : List ℕ) → 4 ≤ length x → is_pcap f (x ++ y) ≡ is_pcap f x
 is_pcap_front form.Detected x y size = ap is_pcap_kind (kind_front x y size)
@@ -29,11 +39,11 @@ is_pcap_front form.Text x y size = refl
 pub reads_as : (o : Options) (kind : Result Bool Failure) (whole : Bool) (left remaining : Option (List ℕ)) (held : List ℕ)
     → Keeps left (prepend_known held remaining) → kind ≡ is_pcap o.form held → (whole ≡ true → 4 ≤ length held)
     → (whole ≡ false → (length held < 4) × IsAtEnd remaining) → ReadsAs o left kind
-reads_as o kind whole None remaining held kept is enough end = tt
-reads_as o kind whole (Some x) None held kept is enough end = absurd kept
-reads_as o kind true (Some x) (Some y) held kept is enough end =
+reads_as o as_kind whole None remaining held kept is enough end = tt
+reads_as o as_kind whole (Some x) None held kept is enough end = absurd kept
+reads_as o as_kind true (Some x) (Some y) held kept is enough end =
     ap (is_pcap o.form) (sym kept) ∙ is_pcap_front o.form held y (enough refl) ∙ sym is
-reads_as o kind false (Some x) (Some y) held kept is enough end =
+reads_as o as_kind false (Some x) (Some y) held kept is enough end =
     ap (is_pcap o.form) (sym kept ∙ ap (λ (l : List ℕ). held ++ l) (end refl).1 ∙ append-nil held) ∙ sym is
 
 -- ---- what was left

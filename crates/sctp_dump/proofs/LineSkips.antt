@@ -44,8 +44,8 @@ Dropped-fed reads before remaining held rest size d begins is = (
   d.dropped ++ take size held,
   IsLine-append d.dropped (take size held) d.is_line begins.line,
   subst (Consumes before (prepend_known rest remaining))
-  (ap (λ (l : List ℕ). d.dropped ++ l) begins.feed ∙ sym (append_assoc d.dropped (take size held) (10 ∷ [])))
-  (Consumes-front_dropped before remaining held rest d.dropped (size + 1) is d.consumes),
+      (ap (λ (l : List ℕ). d.dropped ++ l) begins.feed ∙ sym (append_assoc d.dropped (take size held) (10 ∷ [])))
+      (Consumes-front_dropped before remaining held rest d.dropped (size + 1) is d.consumes),
 )
 
 last_line : (before left : Option (List ℕ)) (line : List ℕ) → IsLine line → Consumes before left line → IsAtEnd left → IsLastLine before
@@ -74,7 +74,7 @@ Dropped-all reads before remaining held enough d = (
   d.dropped,
   d.is_line,
   subst (λ (l : List ℕ). IfSome before (λ x. StartsWith x l)) (append-nil d.dropped)
-  (front_taken before (prepend_known held remaining) d.dropped [] d.consumes (front_none (prepend_known held remaining))),
+      (front_taken before (prepend_known held remaining) d.dropped [] d.consumes (front_none (prepend_known held remaining))),
   few before remaining held d.dropped (let counted = d.counted in omega (arith, counted, enough)) d.consumes,
 ) where
   few : (before remaining : Option (List ℕ)) (held dropped : List ℕ) → 2 ^ 64 - 1 ≤ length dropped + length held

@@ -40,10 +40,11 @@ pub fn dump<R: Read, W: Write>(
 {
     window.clear();
     let _ = need(window, input, output, 4)?;
-    match is_pcap(options.form, window.held()) {
-        Ok(true) => dump_pcap(alloc, options, window, input, output, counts),
-        Ok(false) => dump_text(alloc, options, window, input, output, counts),
-        Err(failure) => Err(failure),
+    let pcap = is_pcap(options.form, window.held())?;
+    if pcap {
+        dump_pcap(alloc, options, window, input, output, counts)
+    } else {
+        dump_text(alloc, options, window, input, output, counts)
     }
 }
 

@@ -485,7 +485,9 @@ fn push_dump(
     dump.packets = next_number(dump.packets);
     let (number, first_line) = (dump.packets, dump.first_line);
     let bytes = dump.bytes.as_slice();
-    push_dumped(alloc, options, number, form, bytes, first_line, text, counts)
+    push_dumped(
+        alloc, options, number, form, bytes, first_line, text, counts,
+    )
 }
 
 /// Adds the text of the packet of a dump.
