@@ -1,6 +1,14 @@
 pub mod Blocks
 pub mod Headers
+pub mod InputRuns
 pub mod Inputs
+pub mod LineEnds
+pub mod LineFeeds
+pub mod LineRuns
+pub mod LineSkips
+pub mod LineTakes
+pub mod LineTexts
+pub mod LogTimes
 pub mod Outputs
 pub mod RecordRuns
 pub mod RecordSteps

@@ -1,8 +1,11 @@
 pub mod Block
+pub mod Counts
 pub mod Failed
-pub mod Found
+pub mod LineSteps
+pub mod Lines
 pub mod Prints
 pub mod Records
+pub mod Runs
 pub mod Seen
 pub mod Skip
 pub mod Steps

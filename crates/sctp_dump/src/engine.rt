@@ -1,10 +1,11 @@
 //! The program over a reader and a writer, either of which may fail.
 
-ghost use Rattle.std.specs.Prelude.{[], OnOk, IfErr};
+ghost use Rattle.std.specs.Prelude.{◌≡◌, [], OnOk, IfErr};
 ghost use Rattle.std.specs.Io.KnownBytes.{Keeps};
 ghost use Rattle.watched_io.specs.Watched.{device_of};
 ghost use Rattle.watched_io.specs.Output.{writer_of, total};
 ghost use Rattle.sctp_dump.specs.Prints.{Grows};
+ghost use Rattle.sctp_dump.specs.Runs.{is_pcap, PrintsInput, BeginsInput};
 
 use crate::arguments::{Form, Options};
 use crate::counts::Counts;
@@ -27,18 +28,30 @@ pub fn dump<R: Read, W: Write>(
     input: &mut Watched<R>,
     output: &mut Output<W>,
     counts: &mut Counts,
-) -> Result<(), Failure> {
+) -> Result<(), Failure>
+    ensures whole { OnOk result (PrintsInput options.now (R.remaining (device_of input.old))
+        (total W.contents output.old) (total W.contents output.new)) }
+
+    // What was written before a failure is true of the input.
+    ensures begun { IfErr result (λ failure. BeginsInput options.now failure
+        (R.remaining (device_of input.old))
+        (total W.contents output.old) (total W.contents output.new)
+        (W.contents (device_of (writer_of output.new)))) }
+{
     window.clear();
     let _ = need(window, input, output, 4)?;
-    match form_of(options.form, window.held()) {
-        Ok(true) => dump_pcap(alloc, options, window, input, output, counts),
-        Ok(false) => dump_text(alloc, options, window, input, output, counts),
-        Err(failure) => Err(failure),
+    let pcap = is_pcap(options.form, window.held())?;
+    if pcap {
+        dump_pcap(alloc, options, window, input, output, counts)
+    } else {
+        dump_text(alloc, options, window, input, output, counts)
     }
 }
 
 /// Whether an input that begins with these bytes is a pcap file, or else a text.
-fn form_of(form: Form, bytes: &[u8]) -> Result<bool, Failure> {
+fn is_pcap(form: Form, bytes: &[u8]) -> Result<bool, Failure>
+    ensures { result ≡ is_pcap form bytes.now }
+{
     match form {
         Form::Pcap => Ok(true),
         Form::Text => Ok(false),

@@ -241,7 +241,7 @@ fn take_frame<R: Read, W: Write>(
 }
 
 /// Returns the first bytes.
-fn front(bytes: &[u8], count: usize) -> &[u8]
+pub fn front(bytes: &[u8], count: usize) -> &[u8]
     requires { count ≤ length bytes.now }
     ensures { result.now ≡ take count bytes.now }
 {

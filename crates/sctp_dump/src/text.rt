@@ -1,15 +1,27 @@
 //! The lines of a text.
 
-ghost use Rattle.std.specs.Prelude.{ℕ, ◌+◌, ◌≤◌, ◌<◌, length, IfOk, IfSome};
-ghost use Rattle.watched_io.specs.Window.{held};
-ghost use Rattle.sctp_dump.specs.Found.{IsHeld};
+ghost use Rattle.std.specs.Prelude.{◌≡◌, ◌↔◌, ◌+◌, ◌≤◌, ◌<◌, ◌++◌, ◌==◌, ℕ, List, [], Some, None, true, false, codes, length, take, Option, IsTrue, IfOk, IfErr, OnOk, MatchOption, string_bytes};
+ghost use Rattle.std.specs.List.{position};
+ghost use Rattle.std.specs.Io.KnownBytes.{Keeps};
+ghost use Rattle.watched_io.specs.Watched.{device_of};
+ghost use Rattle.watched_io.specs.Window.{held, left};
+ghost use Rattle.watched_io.specs.Output.{writer_of, total};
+ghost use Rattle.sctp_capture.specs.Line.{line_of, is_time};
+ghost use Rattle.sctp_capture.specs.declared.line.Line.TheVariants.{Dumped};
+ghost use Rattle.sctp_dump.specs.declared.skipped.Skipped.{Skipped};
+ghost use Rattle.sctp_dump.specs.Seen.{time_text, direction_text};
+ghost use Rattle.sctp_dump.specs.Block.{Block};
+ghost use Rattle.sctp_dump.specs.Counts.{one_more};
+ghost use Rattle.sctp_dump.specs.Prints.{PrintsAll, PrintsBeginning, Grows};
+ghost use Rattle.sctp_dump.specs.Lines.{IsLine, numbered, skipped_line, DumpedText, EndText, packets_at_end, closed, Continues, OwnText, after_own, LoggedText, SaidText, LinesText, TextText, TextBeginning};
+ghost use Rattle.sctp_dump.specs.LineSteps.{BeginsWithLine, IsFound, state_of, TakesLine, PrintsRest, LeftText, BeginningText, DropsLine, IsLastLine};
 
 use crate::arguments::Options;
 use crate::block::{push_packet, push_skipped};
 use crate::counts::Counts;
 use crate::engine::write_if_long;
 use crate::failure::Failure;
-use crate::pcap::skipped_for;
+use crate::pcap::{front, skipped_for};
 use crate::record::{Seen, Time};
 use crate::skipped::{Part, Skipped};
 use sctp_capture::frame::{link_type, packet_in};
@@ -28,7 +40,7 @@ const LINE_FEED: u8 = b'\n';
 /// The packet of a dump, of which more lines may follow.
 #[derive(Drop)]
 struct Dump {
-    /// What its lines said.
+    /// What its lines said, if there is such a packet.
     bytes: Vec<u8>,
     /// How they were written; nothing where there is no packet.
     form: Option<DumpForm>,
@@ -36,6 +48,20 @@ struct Dump {
     first_line: u64,
     /// The number of packets of this text so far.
     packets: u64,
+}
+
+impl Dump {
+    /// Returns what is known before the first line.
+    fn new(alloc: Global) -> Dump
+        ensures { state_of result ≡ closed 0 }
+    {
+        Dump {
+            bytes: Vec::new(alloc),
+            form: None,
+            first_line: 0,
+            packets: 0,
+        }
+    }
 }
 
 /// Prints the packets of a text.
@@ -46,35 +72,99 @@ pub fn dump_text<R: Read, W: Write>(
     input: &mut Watched<R>,
     output: &mut Output<W>,
     counts: &mut Counts,
-) -> Result<(), Failure> {
-    let mut dump = Dump {
-        bytes: Vec::new(alloc),
-        form: None,
-        first_line: 0,
-        packets: 0,
-    };
-    for number in 1..u64::MAX {
-        match find_line(window, input, output)? {
-            Found::End => {
-                push_dump(alloc, options, &mut dump, &mut output.text, counts)?;
-                return Ok(());
-            }
-            Found::TooLong => {
-                push_dump(alloc, options, &mut dump, &mut output.text, counts)?;
-                let text = &mut output.text;
-                push_skipped(options, Part::Line, number, Skipped::TooLong, text, counts)?;
-                skip_line(window, input, output)?;
-            }
-            Found::Line { size, feeds } => {
-                let line = &window.held()[..size];
-                let text = &mut output.text;
-                push_line(alloc, options, line, number, &mut dump, text, counts)?;
-                window.consume(size + feeds);
-            }
+) -> Result<(), Failure>
+    ensures whole { OnOk result (PrintsAll (TextText options.now)
+        (left window.old (R.remaining (device_of input.old)))
+        (total W.contents output.old) (total W.contents output.new)) }
+
+    // What was written before a failure is true of the input.
+    ensures begun { IfErr result (λ failure. PrintsBeginning (TextBeginning options.now) failure
+        (left window.old (R.remaining (device_of input.old)))
+        (total W.contents output.old) (total W.contents output.new)
+        (W.contents (device_of (writer_of output.new)))) }
+{
+    let mut dump = Dump::new(alloc);
+    dump_lines(alloc, options, &mut dump, window, input, output, counts)?;
+    push_dump(alloc, options, &mut dump, &mut output.text, counts)?;
+    Ok(())
+}
+
+/// Prints the packets of all lines, but for the dump that is open after them.
+fn dump_lines<R: Read, W: Write>(
+    alloc: Global,
+    options: &Options,
+    dump: &mut Dump,
+    window: &mut Window,
+    input: &mut Watched<R>,
+    output: &mut Output<W>,
+    counts: &mut Counts,
+) -> Result<(), Failure>
+    requires { state_of dump.old ≡ closed 0 }
+    ensures whole { OnOk result (PrintsRest
+        (λ bytes text. LinesText options.now bytes (state_of dump.new) text)
+        (left window.old (R.remaining (device_of input.old)))
+        (total W.contents output.old) (total W.contents output.new)) }
+    ensures begun { IfErr result (λ failure. PrintsBeginning (TextBeginning options.now) failure
+        (left window.old (R.remaining (device_of input.old)))
+        (total W.contents output.old) (total W.contents output.new)
+        (W.contents (device_of (writer_of output.new)))) }
+{
+    for lines in 0..u64::MAX {
+        let number = lines + 1;
+        let more = take_line(alloc, options, number, dump, window, input, output, counts)?;
+        if !more {
+            return Ok(());
         }
         write_if_long(output)?;
     }
     Ok(())
+}
+
+/// Prints the next line, and returns whether more can follow.
+fn take_line<R: Read, W: Write>(
+    alloc: Global,
+    options: &Options,
+    number: u64,
+    dump: &mut Dump,
+    window: &mut Window,
+    input: &mut Watched<R>,
+    output: &mut Output<W>,
+    counts: &mut Counts,
+) -> Result<bool, Failure>
+    ensures next { IfOk result (λ more. more ≡ true
+        → TakesLine options.now number (state_of dump.old) (state_of dump.new)
+        (left window.old (R.remaining (device_of input.old)))
+        (left window.new (R.remaining (device_of input.new)))
+        (total W.contents output.old) (total W.contents output.new)) }
+    ensures end { IfOk result (λ more. more ≡ false
+        → PrintsRest (LeftText options.now number (state_of dump.old) (state_of dump.new))
+        (left window.old (R.remaining (device_of input.old)))
+        (total W.contents output.old) (total W.contents output.new)) }
+    ensures stopped { IfErr result (λ failure.
+        PrintsBeginning (BeginningText options.now number (state_of dump.old)) failure
+        (left window.old (R.remaining (device_of input.old)))
+        (total W.contents output.old) (total W.contents output.new)
+        (W.contents (device_of (writer_of output.new)))) }
+{
+    match find_line(window, input, output)? {
+        Found::End => Ok(false),
+        Found::Line { size } => {
+            let line = front(window.held(), size);
+            push_line(alloc, options, line, number, dump, &mut output.text, counts)?;
+            window.consume(size + 1);
+            Ok(true)
+        }
+        Found::Last => {
+            let line = window.held();
+            push_line(alloc, options, line, number, dump, &mut output.text, counts)?;
+            Ok(false)
+        }
+        Found::TooLong => {
+            push_long(alloc, options, number, dump, &mut output.text, counts)?;
+            window.consume(MOST_KEPT + 1);
+            skip_line(window, input, output)
+        }
+    }
 }
 
 /// What the input begins with.
@@ -82,21 +172,31 @@ pub fn dump_text<R: Read, W: Write>(
 enum Found {
     /// Nothing: it is at its end.
     End,
-    /// A line of this size, and one line feed behind it or, at the end, none.
-    Line { size: usize, feeds: usize },
+    /// A line of this size, and its line feed.
+    Line { size: usize },
+    /// A line without a line feed: the input ends after it.
+    Last,
     /// A line of more bytes than are kept.
     TooLong,
 }
 
-/// Returns the offset of the first line feed from an offset on.
+/// Returns the offset of the first line feed, of which there is none before an offset.
 fn line_feed(bytes: &[u8], from: usize) -> Option<usize>
-    requires { from ≤ length bytes.now }
-    ensures { IfSome result (λ n. n < length bytes.now) }
+    requires within { from ≤ length bytes.now }
+    requires searched { IsLine (take from bytes.now) }
+    ensures { MatchOption result (IsLine bytes.now) (λ size. BeginsWithLine size bytes.now) }
 {
-    match bytes[from..].iter().position(|byte| *byte == LINE_FEED) {
+    match first_line_feed(&bytes[from..]) {
         Some(more) => Some(from + more),
         None => None,
     }
+}
+
+/// Returns the offset of the first line feed.
+fn first_line_feed(bytes: &[u8]) -> Option<usize>
+    ensures { result ≡ position (λ byte. byte == 10) bytes.now }
+{
+    bytes.iter().position(|byte| *byte == LINE_FEED)
 }
 
 /// Reads up to the end of a line.
@@ -105,64 +205,94 @@ fn find_line<R: Read, W: Write>(
     input: &mut Watched<R>,
     output: &mut Output<W>,
 ) -> Result<Found, Failure>
-    ensures { IfOk result (λ found. IsHeld found (length (held window.new))) }
+    ensures found { IfOk result (λ found. IsFound found (held window.new)
+        (R.remaining (device_of input.new))) }
+    ensures stream { OnOk result (Keeps (left window.old (R.remaining (device_of input.old)))
+        (left window.new (R.remaining (device_of input.new)))) }
+    ensures text { OnOk result (Keeps (total W.contents output.old) (total W.contents output.new)) }
+    ensures stopped { IfErr result (λ failure. Grows failure
+        (total W.contents output.old) (total W.contents output.new)
+        (W.contents (device_of (writer_of output.new))) []) }
 {
     let mut searched = 0;
-    for _ in 0..u64::MAX {
+    while window.len() <= MOST_KEPT {
         let held = window.len();
         if let Some(size) = line_feed(window.held(), searched) {
-            return Ok(line_of(size, 1));
-        }
-        if held > MOST_KEPT {
-            return Ok(Found::TooLong);
+            return Ok(Found::Line { size });
         }
         if read_more(window, input, output)? == 0 {
-            return Ok(last_line_of(held));
+            return Ok(if held == 0 { Found::End } else { Found::Last });
         }
         searched = held;
     }
-    Ok(Found::TooLong)
+    Ok(long_line(window.held(), searched))
 }
 
-/// A line of this size, if that many bytes are kept.
-fn line_of(size: usize, feeds: usize) -> Found
-    ensures { (held : ℕ) → size + feeds ≤ held → IsHeld result held }
+/// Returns what more bytes begin with than are kept of a line.
+fn long_line(bytes: &[u8], searched: usize) -> Found
+    requires long { MOST_KEPT < length bytes.now }
+    requires within { searched ≤ length bytes.now }
+    requires searched { IsLine (take searched bytes.now) }
+    ensures { (remaining : Option (List ℕ)) → IsFound result bytes.now remaining }
 {
-    if size > MOST_KEPT {
-        Found::TooLong
-    } else {
-        Found::Line { size, feeds }
+    match line_feed(bytes, searched) {
+        Some(size) => {
+            if size > MOST_KEPT {
+                Found::TooLong
+            } else {
+                Found::Line { size }
+            }
+        }
+        None => Found::TooLong,
     }
 }
 
-/// What there is at the end of the input.
-fn last_line_of(size: usize) -> Found
-    ensures { (held : ℕ) → size ≤ held → IsHeld result held }
-{
-    if size == 0 {
-        Found::End
-    } else {
-        Found::Line { size, feeds: 0 }
-    }
-}
-
-/// Drops the line that the input begins with.
+/// Drops the line that the input begins with, and returns whether it has a line feed.
 fn skip_line<R: Read, W: Write>(
     window: &mut Window,
     input: &mut Watched<R>,
     output: &mut Output<W>,
-) -> Result<(), Failure> {
-    for _ in 0..u64::MAX {
-        if let Some(size) = line_feed(window.held(), 0) {
-            window.consume(size + 1);
-            return Ok(());
+) -> Result<bool, Failure>
+    ensures next { IfOk result (λ more. more ≡ true
+        → DropsLine (left window.old (R.remaining (device_of input.old)))
+        (left window.new (R.remaining (device_of input.new)))) }
+    ensures end { IfOk result (λ more. more ≡ false
+        → IsLastLine (left window.old (R.remaining (device_of input.old)))) }
+    ensures text { OnOk result (Keeps (total W.contents output.old) (total W.contents output.new)) }
+    ensures stopped { IfErr result (λ failure. Grows failure
+        (total W.contents output.old) (total W.contents output.new)
+        (W.contents (device_of (writer_of output.new))) []) }
+{
+    for reads in 0..u64::MAX {
+        if let Some(rest) = line_feed(window.held(), 0) {
+            window.consume(rest + 1);
+            return Ok(true);
         }
         window.clear();
         if read_more(window, input, output)? == 0 {
-            return Ok(());
+            return Ok(false);
         }
     }
-    Ok(())
+    Ok(false)
+}
+
+/// Adds the text of a line that is too long.
+fn push_long(
+    alloc: Global,
+    options: &Options,
+    number: u64,
+    dump: &mut Dump,
+    text: &mut String,
+    counts: &mut Counts,
+) -> Result<(), AllocError>
+    ensures text { OnOk result ((of_dump : List ℕ) × EndText options.now (state_of dump.old) of_dump
+        × (string_bytes text.new ≡ string_bytes text.old
+        ++ (of_dump ++ skipped_line options.now number Skipped.TooLong))) }
+    ensures form { OnOk result (dump.new.form ≡ None) }
+    ensures packets { OnOk result (dump.new.packets ≡ packets_at_end (state_of dump.old)) }
+{
+    push_dump(alloc, options, dump, text, counts)?;
+    push_skipped(options, Part::Line, number, Skipped::TooLong, text, counts)
 }
 
 /// Adds the text of a line.
@@ -174,7 +304,11 @@ fn push_line(
     dump: &mut Dump,
     text: &mut String,
     counts: &mut Counts,
-) -> Result<(), AllocError> {
+) -> Result<(), AllocError>
+    ensures { OnOk result ((more : List ℕ) × SaidText options.now number (state_of dump.old)
+        (line_of line.now) (state_of dump.new) more
+        × (string_bytes text.new ≡ string_bytes text.old ++ more)) }
+{
     match read_line(line) {
         Line::Dumped(part) => push_part(alloc, options, part, number, dump, text, counts),
         Line::Blank | Line::Comment => push_dump(alloc, options, dump, text, counts),
@@ -194,7 +328,7 @@ fn push_line(
     }
 }
 
-/// Adds the text of a packet of a log.
+/// Adds the text of a packet of a log, where no dump is open.
 fn push_logged(
     alloc: Global,
     options: &Options,
@@ -202,18 +336,36 @@ fn push_logged(
     dump: &mut Dump,
     text: &mut String,
     counts: &mut Counts,
-) -> Result<(), AllocError> {
-    let time = match str::from_utf8(logged.time.as_bytes()) {
+) -> Result<(), AllocError>
+    requires time { IsTrue (is_time logged.time) }
+    requires closed { dump.old.form ≡ None }
+    ensures text { OnOk result ((block : List ℕ)
+        × LoggedText options.now (one_more dump.old.packets) logged.entry block
+        × (string_bytes text.new ≡ string_bytes text.old ++ block)) }
+    ensures form { OnOk result (dump.new.form ≡ None) }
+    ensures packets { OnOk result (dump.new.packets ≡ one_more dump.old.packets) }
+{
+    let time = time_of(&logged);
+    push_bytes(alloc, options, time, logged.packet, dump, text, counts)
+}
+
+/// Returns the time of a packet of a log.
+fn time_of<'a>(logged: &LoggedPacket<'a>) -> Time<'a>
+    requires { IsTrue (is_time logged.now.time) }
+    ensures { time_text result
+        ≡ codes ", time " ++ logged.now.time ++ direction_text logged.now.direction }
+{
+    match str::from_utf8(logged.time.as_bytes()) {
         Ok(time) => Time::Logged {
             time,
             direction: logged.direction,
         },
-        Err(_) => Time::Unknown,
-    };
-    push_bytes(alloc, options, time, logged.packet, dump, text, counts)
+        // Digits, colons and points are ASCII.
+        Err(_) => unreachable!(),
+    }
 }
 
-/// Adds the text of a packet in hexadecimal. `dump` is empty before and after it.
+/// Adds the text of a packet in hexadecimal, where no dump is open.
 fn push_bytes(
     alloc: Global,
     options: &Options,
@@ -222,18 +374,38 @@ fn push_bytes(
     dump: &mut Dump,
     text: &mut String,
     counts: &mut Counts,
-) -> Result<(), AllocError> {
+) -> Result<(), AllocError>
+    requires { dump.old.form ≡ None }
+    ensures text { OnOk result ((block : List ℕ)
+        × Block options.now (numbered (one_more dump.old.packets) time.entry) bytes.entry block
+        × (string_bytes text.new ≡ string_bytes text.old ++ block)) }
+    ensures form { OnOk result (dump.new.form ≡ None) }
+    ensures packets { OnOk result (dump.new.packets ≡ one_more dump.old.packets) }
+{
+    dump.bytes.clear();
     bytes.append_to(&mut dump.bytes)?;
-    dump.packets = dump.packets.saturating_add(1);
-    let seen = Seen {
-        number: dump.packets,
+    dump.packets = next_number(dump.packets);
+    let seen = seen_at(dump.packets, time);
+    push_packet(alloc, options, &seen, dump.bytes.as_slice(), text, counts)
+}
+
+/// Returns the number after this one, if there is one.
+fn next_number(number: u64) -> u64
+    ensures { result ≡ one_more number }
+{
+    number.saturating_add(1)
+}
+
+/// Returns how a packet of a text was seen: no line names an address.
+fn seen_at<'a>(number: u64, time: Time<'a>) -> Seen<'a>
+    ensures { result ≡ numbered number time.entry }
+{
+    Seen {
+        number,
         time,
         addresses: None,
         udp_ports: None,
-    };
-    push_packet(alloc, options, &seen, dump.bytes.as_slice(), text, counts)?;
-    dump.bytes.clear();
-    Ok(())
+    }
 }
 
 /// Takes a line of a dump: it begins a packet, or continues one.
@@ -245,22 +417,51 @@ fn push_part(
     dump: &mut Dump,
     text: &mut String,
     counts: &mut Counts,
-) -> Result<(), AllocError> {
-    let place = place_of(part.offset, dump.bytes.len());
-    let continues = place == Place::Continues && dump.form == Some(part.form);
-    if place == Place::Begins {
+) -> Result<(), AllocError>
+    ensures { OnOk result ((more : List ℕ) × SaidText options.now number (state_of dump.old)
+        (Dumped part.entry) (state_of dump.new) more
+        × (string_bytes text.new ≡ string_bytes text.old ++ more)) }
+{
+    if !continues(dump, &part) {
         push_dump(alloc, options, dump, text, counts)?;
-        dump.form = Some(part.form);
-        dump.first_line = number;
-    } else if !continues {
-        push_dump(alloc, options, dump, text, counts)?;
-        return push_skipped(options, Part::Line, number, Skipped::Apart, text, counts);
+        return begin_dump(options, part, number, dump, text, counts);
     }
     if dump.bytes.len() > MOST_KEPT {
-        dump.bytes.clear();
         dump.form = None;
         return push_skipped(options, Part::Line, number, Skipped::TooLong, text, counts);
     }
+    part.bytes.append_to(&mut dump.bytes)
+}
+
+/// Returns whether a line of a dump continues the open one.
+fn continues(dump: &Dump, part: &DumpedBytes<'_>) -> bool
+    ensures { IsTrue result ↔ Continues (Dumped part.now) (state_of dump.now).dump }
+{
+    place_of(part.offset, dump.bytes.len()) == Place::Continues && dump.form == Some(part.form)
+}
+
+/// Takes a line of a dump that continues none, where none is open: it begins one at offset 0.
+fn begin_dump(
+    options: &Options,
+    part: DumpedBytes<'_>,
+    number: u64,
+    dump: &mut Dump,
+    text: &mut String,
+    counts: &mut Counts,
+) -> Result<(), AllocError>
+    requires { dump.old.form ≡ None }
+    ensures text { OnOk result ((own : List ℕ)
+        × OwnText options.now number dump.old.packets (Dumped part.entry) own
+        × (string_bytes text.new ≡ string_bytes text.old ++ own)) }
+    ensures state { OnOk result
+        (state_of dump.new ≡ after_own number dump.old.packets (Dumped part.entry)) }
+{
+    if part.offset != 0 {
+        return push_skipped(options, Part::Line, number, Skipped::Apart, text, counts);
+    }
+    dump.form = Some(part.form);
+    dump.first_line = number;
+    dump.bytes.clear();
     part.bytes.append_to(&mut dump.bytes)
 }
 
@@ -271,21 +472,43 @@ fn push_dump(
     dump: &mut Dump,
     text: &mut String,
     counts: &mut Counts,
-) -> Result<(), AllocError> {
+) -> Result<(), AllocError>
+    ensures text { OnOk result ((more : List ℕ) × EndText options.now (state_of dump.old) more
+        × (string_bytes text.new ≡ string_bytes text.old ++ more)) }
+    ensures form { OnOk result (dump.new.form ≡ None) }
+    ensures packets { OnOk result (dump.new.packets ≡ packets_at_end (state_of dump.old)) }
+{
     let Some(form) = dump.form else {
         return Ok(());
     };
-    dump.packets = dump.packets.saturating_add(1);
-    let (number, bytes) = (dump.packets, dump.bytes.as_slice());
+    dump.form = None;
+    dump.packets = next_number(dump.packets);
+    let (number, first_line) = (dump.packets, dump.first_line);
+    let bytes = dump.bytes.as_slice();
+    push_dumped(
+        alloc, options, number, form, bytes, first_line, text, counts,
+    )
+}
+
+/// Adds the text of the packet of a dump.
+fn push_dumped(
+    alloc: Global,
+    options: &Options,
+    number: u64,
+    form: DumpForm,
+    bytes: &[u8],
+    first_line: u64,
+    text: &mut String,
+    counts: &mut Counts,
+) -> Result<(), AllocError>
+    ensures { OnOk result ((more : List ℕ)
+        × DumpedText options.now number form bytes.now first_line more
+        × (string_bytes text.new ≡ string_bytes text.old ++ more)) }
+{
     match form {
         DumpForm::Xxd => {
-            let seen = Seen {
-                number,
-                time: Time::Unknown,
-                addresses: None,
-                udp_ports: None,
-            };
-            push_packet(alloc, options, &seen, bytes, text, counts)?;
+            let seen = seen_at(number, Time::Unknown);
+            push_packet(alloc, options, &seen, bytes, text, counts)
         }
         DumpForm::Tcpdump => match packet_in(link_type::RAW_IP, 0, bytes) {
             Ok(found) => {
@@ -295,19 +518,12 @@ fn push_dump(
                     addresses: found.addresses,
                     udp_ports: found.udp_ports,
                 };
-                push_packet(alloc, options, &seen, found.packet, text, counts)?;
+                push_packet(alloc, options, &seen, found.packet, text, counts)
             }
-            Err(why) => push_skipped(
-                options,
-                Part::Line,
-                dump.first_line,
-                skipped_for(why),
-                text,
-                counts,
-            )?,
+            Err(why) => {
+                let why = skipped_for(why);
+                push_skipped(options, Part::Line, first_line, why, text, counts)
+            }
         },
     }
-    dump.bytes.clear();
-    dump.form = None;
-    Ok(())
 }

@@ -1,0 +1,12 @@
+-- What was dropped is a beginning of the line, and nothing was lost of the output.
+use Rattle.std.specs.Io.KnownBytes.{Keeps}
+use Rattle.watched_io.specs.Watched.{device_of}
+use Rattle.watched_io.specs.Window.{held, left}
+use Rattle.watched_io.specs.Output.{total}
+use Rattle.sctp_dump.proofs.LineSkips.{Dropped}
+use Rattle.sctp_dump.proofs.text.skip_line.Given as goal
+
+abbrev pub invariant-loop-reads : goal.invariant-loop-reads
+invariant-loop-reads g l =
+    Dropped l.reads (left l.initial.window (g.R.Read.remaining (device_of l.initial.input))) (held l.window) (g.R.Read.remaining (device_of l.input))
+    × Keeps (total g.W.Write.contents l.initial.output) (total g.W.Write.contents l.output)
