@@ -30,7 +30,8 @@ table =
     named 2 Varied MissingMandatoryParameter kind.MissingMandatoryParameter.read ∷
     named 6 Varied UnrecognizedChunk kind.UnrecognizedChunk.read ∷
     named 9 Fixed NoUserData kind.NoUserData.read ∷
-    named 10 Fixed (λ _. CookieReceivedWhileShuttingDown) kind.CookieReceivedWhileShuttingDown.read ∷
+    named 10 Fixed (λ _. CookieReceivedWhileShuttingDown)
+    kind.CookieReceivedWhileShuttingDown.read ∷
     named 12 Text UserInitiatedAbort kind.UserInitiatedAbort.read ∷
     named 13 Text ProtocolViolation kind.ProtocolViolation.read ∷ []
 

@@ -74,7 +74,8 @@ chunks strict = record { row = chunk_row strict; padding = full_padding strict }
 -- What the value means holds nothing on the heap: a kind of fixed size, or an empty list.
 abbrev pub TakesNoMemory : ℕ → List ℕ → Type 0
 TakesNoMemory typ value =
-    IsOneOf (types_where is_fixed (table lenient 0)) typ ⊎ HasEmptyList (list_rows lenient 0) typ value
+    IsOneOf (types_where is_fixed (table lenient 0)) typ
+    ⊎ HasEmptyList (list_rows lenient 0) typ value
 
 -- a chunk of the type holds error causes
 abbrev pub HoldsCauses : ℕ → Type 0
