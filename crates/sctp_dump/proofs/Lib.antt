@@ -13,3 +13,4 @@ pub mod Outputs
 pub mod RecordRuns
 pub mod RecordSteps
 pub mod RecordTexts
+pub mod Tallies

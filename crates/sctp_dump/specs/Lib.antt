@@ -9,3 +9,5 @@ pub mod Runs
 pub mod Seen
 pub mod Skip
 pub mod Steps
+pub mod Tally
+pub mod Totals

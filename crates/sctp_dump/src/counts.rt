@@ -1,6 +1,10 @@
 //! How many packets there were.
 
-ghost use Rattle.std.specs.Prelude.{◌<◌};
+ghost use Rattle.std.specs.Prelude.{◌≡◌, ◌<◌};
+ghost use Rattle.dcsctp_wire.specs.Chunk.{view, views};
+ghost use Rattle.sctp_dump.specs.Counts.{one_more};
+ghost use Rattle.sctp_dump.specs.Tally.{Accepted, Refused, Skip, kind_of, with_kind, counted};
+ghost use Rattle.sctp_dump.specs.Totals.{packets, refused, skipped};
 
 use crate::arguments::Options;
 use crate::skipped::Skipped;
@@ -69,12 +73,16 @@ impl Counts {
     }
 
     /// Returns the number of packets.
-    fn packets(&self) -> u64 {
+    fn packets(&self) -> u64
+        ensures { result ≡ packets self.now }
+    {
         self.accepted.saturating_add(self.refused())
     }
 
     /// Returns the number of packets that were refused.
-    pub fn refused(&self) -> u64 {
+    pub fn refused(&self) -> u64
+        ensures { result ≡ refused self.now }
+    {
         self.size
             .saturating_add(self.length)
             .saturating_add(self.padding)
@@ -82,7 +90,9 @@ impl Counts {
     }
 
     /// Returns the number of records and lines that were skipped.
-    fn skipped(&self) -> u64 {
+    fn skipped(&self) -> u64
+        ensures { result ≡ skipped self.now }
+    {
         self.fragments
             .saturating_add(self.cut)
             .saturating_add(self.malformed)
@@ -92,38 +102,56 @@ impl Counts {
     }
 
     /// Counts a packet with these chunks.
-    pub fn count_accepted(&mut self, chunks: &[Chunk]) {
-        self.accepted = self.accepted.saturating_add(1);
+    pub fn count_accepted(&mut self, chunks: &[Chunk])
+        ensures { self.new ≡ counted self.old (Accepted (views chunks.now)) }
+    {
+        increase(&mut self.accepted);
         for chunk in chunks {
-            let kind = kind_of(chunk);
-            self.kinds[kind] = self.kinds[kind].saturating_add(1);
+            self.count_kind(chunk);
         }
     }
 
+    /// Counts a chunk.
+    fn count_kind(&mut self, chunk: &Chunk)
+        ensures { self.new ≡ record self.old { kinds = with_kind self.old.kinds (view chunk.now) } }
+    {
+        increase(&mut self.kinds[kind_of(chunk)]);
+    }
+
     /// Counts a packet that was refused.
-    pub fn count_refused(&mut self, error: &PacketParseError) {
-        let count = match error {
+    pub fn count_refused(&mut self, error: &PacketParseError)
+        ensures { self.new ≡ counted self.old (Refused error.now) }
+    {
+        match error {
             PacketParseError::FailedParseChunk(ChunkParseError::InvalidPadding) => {
-                &mut self.padding
+                increase(&mut self.padding);
             }
-            PacketParseError::FailedParseChunk(ChunkParseError::InvalidValue) => &mut self.value,
-            PacketParseError::FailedParseChunk(_) => &mut self.length,
-            _ => &mut self.size,
-        };
-        *count = count.saturating_add(1);
+            PacketParseError::FailedParseChunk(ChunkParseError::InvalidValue) => {
+                increase(&mut self.value);
+            }
+            PacketParseError::FailedParseChunk(
+                ChunkParseError::InvalidLength
+                | ChunkParseError::InvalidType
+                | ChunkParseError::OutOfMemory,
+            ) => increase(&mut self.length),
+            PacketParseError::InvalidPacketSize
+            | PacketParseError::InvalidChecksum
+            | PacketParseError::InvalidChunkSize => increase(&mut self.size),
+        }
     }
 
     /// Counts what was skipped.
-    pub fn count_skipped(&mut self, why: Skipped) {
-        let count = match why {
-            Skipped::Fragment => &mut self.fragments,
-            Skipped::Cut | Skipped::EndsIn => &mut self.cut,
-            Skipped::Malformed => &mut self.malformed,
-            Skipped::TooLong => &mut self.long,
-            Skipped::Unknown | Skipped::Apart => &mut self.unknown,
-            Skipped::Other => &mut self.others,
-        };
-        *count = count.saturating_add(1);
+    pub fn count_skipped(&mut self, why: Skipped)
+        ensures { self.new ≡ counted self.old (Skip why) }
+    {
+        match why {
+            Skipped::Fragment => increase(&mut self.fragments),
+            Skipped::Cut | Skipped::EndsIn => increase(&mut self.cut),
+            Skipped::Malformed => increase(&mut self.malformed),
+            Skipped::TooLong => increase(&mut self.long),
+            Skipped::Unknown | Skipped::Apart => increase(&mut self.unknown),
+            Skipped::Other => increase(&mut self.others),
+        }
     }
 
     /// Adds a line for each kind of chunk that there was.
@@ -168,9 +196,17 @@ impl fmt::Display for Counts {
     }
 }
 
+/// Adds one, up to 2^64 - 1.
+fn increase(count: &mut u64)
+    ensures { count.new ≡ one_more count.old }
+{
+    *count = count.saturating_add(1);
+}
+
 /// The place of a chunk's kind in `KINDS`.
 fn kind_of(chunk: &Chunk) -> usize
-    ensures { result < 18 }
+    ensures place { result ≡ kind_of (view chunk.now) }
+    ensures within { result < 18 }
 {
     match chunk {
         Chunk::Data(_) => 0,

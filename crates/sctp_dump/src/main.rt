@@ -1,6 +1,9 @@
 //! Prints the SCTP packets of a capture: of standard input, or of the files that are named.
 #![tactic(auto)]
 
+ghost use Rattle.std.specs.Prelude.{◌≡◌};
+ghost use Rattle.sctp_dump.specs.Totals.{status};
+
 mod arguments;
 mod block;
 mod counts;
@@ -114,7 +117,9 @@ fn dump_all(rt: &HostRuntime, request: &Request<'_>) -> Result<u8, Failure> {
 }
 
 /// The status of a run: what failed comes before what was refused.
-fn status_of(failed: bool, counts: &Counts) -> u8 {
+fn status_of(failed: bool, counts: &Counts) -> u8
+    ensures { result ≡ status failed counts.now }
+{
     if failed {
         FAILED
     } else if counts.refused() > 0 {
