@@ -142,12 +142,12 @@ fn of_fields(rt: HostRuntime) -> Result<(), Fail> {
 /// The chunk's size, and what is in 18 bytes `ee` once it is written over them.
 fn over_others(alloc: Global, bytes: &[u8]) -> Result<String, Fail> {
     let chunk = chunk_of(alloc, bytes)?;
-    let size = chunk.serialized_size();
-    if !chunk.encodable() || size > 18 {
+    let mut output = [0xee; 18];
+    if !chunk.encodable() || chunk.serialized_size() > 18 {
         return Err(Fail::new("no room"));
     }
-    let mut output = [0xee; 18];
     chunk.serialize_to(&mut output);
+    let size = chunk.serialized_size();
     let digits = digits_of(alloc, &output)?;
     Ok(format!(in alloc; "{size} {digits}")?)
 }
