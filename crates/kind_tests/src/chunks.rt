@@ -351,19 +351,28 @@ fn told_copy(alloc: Global, data: Data) -> Result<String, AllocError> {
     format!(in alloc; "{copy:?}")
 }
 
+/// A copy of data out of sequence.
+fn unordered_told(alloc: Global) -> Result<String, AllocError> {
+    let stream = StreamKey::Unordered(StreamId(1));
+    told_copy(alloc, data_of(alloc, stream, (2, 3, 4, 5), &[6, 7], true)?)
+}
+
 #[test]
-fn new_and_copied(rt: HostRuntime) -> Result<(), Fail> {
-    let alloc = rt.alloc();
+fn copied_data(rt: HostRuntime) -> Result<(), Fail> {
     assert_eq!(rt;
-        told_copy(alloc, Data::new(alloc))?.as_str(),
+        told_copy(rt.alloc(), Data::new(rt.alloc()))?.as_str(),
         "Data { payload: [], mid: 0, fsn: 0, ppid: 0, stream_key: Ordered(0), ssn: 0, is_beginning: false, is_end: false }"
     );
-    let stream = StreamKey::Unordered(StreamId(1));
-    let unordered = data_of(alloc, stream, (2, 3, 4, 5), &[6, 7], true)?;
     assert_eq!(rt;
-        told_copy(alloc, unordered)?.as_str(),
+        unordered_told(rt.alloc())?.as_str(),
         "Data { payload: [6, 7], mid: 3, fsn: 4, ppid: 5, stream_key: Unordered(1), ssn: 2, is_beginning: true, is_end: false }"
     );
+    Ok(())
+}
+
+#[test]
+fn new_and_copied_cookie(rt: HostRuntime) -> Result<(), Fail> {
+    let alloc = rt.alloc();
     // an empty cookie can be written, though none is read
     assert_eq!(rt;
         made(alloc, CookieEchoChunk::new(alloc))?.as_str(),

@@ -29,6 +29,10 @@ fn numbers(rt: HostRuntime) {
     assert!(rt; output == [0xde, 0xad, 0xbe, 0xef, 0, 0, 0, 0, 0]);
     write_u64_be(&mut output, 0xdeadbeefbaadf00d);
     assert!(rt; output == [0xde, 0xad, 0xbe, 0xef, 0xba, 0xad, 0xf0, 0x0d, 0]);
+}
+
+#[test]
+fn multiples(rt: HostRuntime) {
     for (n, rounded) in [(0, 0), (1, 4), (4, 4), (5, 8), (65533, 65536)] {
         assert_eq!(rt; round_up_to_4(n), rounded);
     }

@@ -80,53 +80,42 @@ fn precedes<T: Ord + Copy>(a: T, b: T) -> bool {
     a < b && !(b < a) && a <= a
 }
 
-/// What numbers print that are converted, plainly and for a developer; nothing, where those of 1
-/// and 2 aren't told apart.
-fn texts<N: From<u8> + Copy, T: From<N> + Eq + Hash + Copy + Debug + Display>(
+/// Whether numbers that are converted print so, plainly and for a developer, and those of 1 and 2
+/// are told apart.
+fn are_told<N: From<u8> + Copy, T: From<N> + Eq + Hash + Copy + Debug + Display>(
     alloc: Global,
     numbers: &[N],
-) -> Result<String, AllocError> {
-    let mut text = String::new(alloc);
+    wanted: &str,
+) -> Result<bool, AllocError> {
     let (one, same, two) = (
         T::from(N::from(1)),
         T::from(N::from(1)),
         T::from(N::from(2)),
     );
-    if agree(one, same, two) {
-        for number in numbers {
-            let id = T::from(*number);
-            write!(text, "{id} {id:?} ")?;
-        }
+    let mut text = String::new(alloc);
+    for number in numbers {
+        let id = T::from(*number);
+        write!(text, "{id} {id:?} ")?;
     }
-    Ok(text)
+    Ok(agree(one, same, two) && text.as_str() == wanted)
+}
+
+#[test]
+fn numbers(rt: HostRuntime) -> Result<(), Fail> {
+    let alloc = rt.alloc();
+    assert!(rt; are_told::<u16, Ssn>(alloc, &[65_535], "65535 65535 ")?);
+    assert!(rt; are_told::<u16, StreamId>(alloc, &[300, 345], "300 300 345 345 ")?);
+    assert!(rt; are_told::<u32, Mid>(alloc, &[70_000, 0], "70000 70000 0 0 ")?);
+    assert!(rt; are_told::<u32, Fsn>(alloc, &[5, 10], "5 5 10 10 ")?);
+    assert!(rt; are_told::<u32, Tsn>(alloc, &[u32::MAX], "4294967295 4294967295 ")?);
+    assert!(rt; are_told::<u32, OutgoingMessageId>(alloc, &[8, 12], "8 8 12 12 ")?);
+    assert!(rt; are_told::<u32, PpId>(alloc, &[53], "53 53 ")?);
+    Ok(())
 }
 
 // The derived traits, through bounds.
 #[test]
-fn traits(rt: HostRuntime) -> Result<(), Fail> {
-    let alloc = rt.alloc();
-    assert_eq!(rt;
-        texts::<u16, Ssn>(alloc, &[65_535])?.as_str(),
-        "65535 65535 "
-    );
-    assert_eq!(rt;
-        texts::<u16, StreamId>(alloc, &[300, 345])?.as_str(),
-        "300 300 345 345 "
-    );
-    assert_eq!(rt;
-        texts::<u32, Mid>(alloc, &[70_000, 0])?.as_str(),
-        "70000 70000 0 0 "
-    );
-    assert_eq!(rt; texts::<u32, Fsn>(alloc, &[5, 10])?.as_str(), "5 5 10 10 ");
-    assert_eq!(rt;
-        texts::<u32, Tsn>(alloc, &[u32::MAX])?.as_str(),
-        "4294967295 4294967295 "
-    );
-    assert_eq!(rt;
-        texts::<u32, OutgoingMessageId>(alloc, &[8, 12])?.as_str(),
-        "8 8 12 12 "
-    );
-    assert_eq!(rt; texts::<u32, PpId>(alloc, &[53])?.as_str(), "53 53 ");
+fn traits(rt: HostRuntime) {
     let (ordered, unordered) = (
         StreamKey::Ordered(StreamId(1)),
         StreamKey::Unordered(StreamId(1)),
@@ -139,7 +128,6 @@ fn traits(rt: HostRuntime) -> Result<(), Fail> {
     assert!(rt; precedes(ordered, unordered));
     assert!(rt; precedes(unordered, StreamKey::Unordered(StreamId(2))));
     assert!(rt; precedes(SocketTime::zero(), SocketTime::infinite_future()));
-    Ok(())
 }
 
 #[test]

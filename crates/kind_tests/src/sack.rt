@@ -137,6 +137,11 @@ fn other_fields(rt: HostRuntime) -> Result<(), Fail> {
     let last = cumulative + 8;
     assert_eq!(rt; last, Tsn(2));
     assert!(rt; last.greater_than(cumulative));
+    Ok(())
+}
+
+#[test]
+fn sizes(rt: HostRuntime) -> Result<(), Fail> {
     // the most blocks, one more, and the same with TSNs among them
     let rows = [
         (16379, 0, Some(65532)),
