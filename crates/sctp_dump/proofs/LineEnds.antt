@@ -9,8 +9,10 @@ use Rattle.sctp_dump.specs.Lines.{State, EndText, LinesText, TextText, TextBegin
 use Rattle.sctp_dump.specs.LineSteps.{PrintsRest}
 use Rattle.sctp_dump.proofs.Outputs.{Grows-after}
 
-pub PrintsAll-ended : (o : Options) (after : State) (before old mid new : Option (List ℕ)) (of_dump : List ℕ)
-    → PrintsRest (λ bytes text. LinesText o bytes after text) before old mid → EndText o after of_dump → Appends mid new of_dump
+pub PrintsAll-ended : (o : Options) (after : State) (before old mid new : Option (List ℕ))
+    (of_dump : List ℕ)
+    → PrintsRest (λ bytes text. LinesText o bytes after text) before old mid
+    → EndText o after of_dump → Appends mid new of_dump
     → PrintsAll (TextText o) before old new
 PrintsAll-ended o after before old mid new of_dump lines end appends = record {
   bytes = lines.bytes;
@@ -28,13 +30,19 @@ PrintsAll-ended o after before old mid new of_dump lines end appends = record {
 }
 
 -- memory ran out for that dump
-pub PrintsBeginning-ended : (o : Options) (after : State) (failure : Failure) (before old mid new written : Option (List ℕ))
-    → PrintsRest (λ bytes text. LinesText o bytes after text) before old mid → Grows failure mid new written []
+pub PrintsBeginning-ended : (o : Options) (after : State) (failure : Failure)
+    (before old mid new written : Option (List ℕ))
+    → PrintsRest (λ bytes text. LinesText o bytes after text) before old mid
+    → Grows failure mid new written []
     → PrintsBeginning (TextBeginning o) failure before old new written
 PrintsBeginning-ended o after failure before old mid new written lines grows = record {
   bytes = lines.bytes;
   text = lines.text ++ [];
   front = lines.front;
-  has_text = (after, subst (λ (t : List ℕ). LinesText o lines.bytes after t) (sym (append-nil lines.text)) lines.has_text);
+  has_text = (
+    after,
+    subst (λ (t : List ℕ). LinesText o lines.bytes after t)
+        (sym (append-nil lines.text)) lines.has_text,
+  );
   grows = Grows-after failure old mid new written lines.text [] lines.appends grows;
 }

@@ -25,26 +25,31 @@ either : (b : Bool) (x y : Line) → HasTime x → HasTime y → HasTime (if b t
 either true x y p q = p
 either false x y p q = q
 
-logged_time : (d : Direction) (time : List ℕ) (bytes : Option (List ℕ)) → is_time time ≡ true → HasTime (logged d time bytes)
+logged_time : (d : Direction) (time : List ℕ) (bytes : Option (List ℕ)) → is_time time ≡ true
+    → HasTime (logged d time bytes)
 logged_time d time None is = tt
 logged_time d time (Some bytes) is = is
 
 log_time : (d : Direction) (text : List ℕ) → HasTime (log_line d text)
 log_time d text = by_test (is_time (word text)) refl where
   rest : Line
-  rest = if not (starts_with nat_eq (after_word text) (codes "0000 ")) then Unknown else logged d (word text) (marked_bytes (drop 5 (after_word text)))
+  rest = if not (starts_with nat_eq (after_word text) (codes "0000 ")) then Unknown else logged d
+      (word text) (marked_bytes (drop 5 (after_word text)))
 
   by_test : (b : Bool) → is_time (word text) ≡ b → HasTime (if not b then Unknown else rest)
-  by_test true is = either (not (starts_with nat_eq (after_word text) (codes "0000 "))) Unknown _ tt (logged_time d (word text) _ is)
+  by_test true is = either (not (starts_with nat_eq (after_word text) (codes "0000 "))) Unknown _ tt
+      (logged_time d (word text) _ is)
   by_test false is = tt
 
-dumped_time : (form : DumpForm) (offset : ℕ) (bytes : Option (List ℕ)) → HasTime (dumped form offset bytes)
+dumped_time : (form : DumpForm) (offset : ℕ) (bytes : Option (List ℕ))
+    → HasTime (dumped form offset bytes)
 dumped_time form offset None = tt
 dumped_time form offset (Some bytes) = tt
 
 dump_time : (form : DumpForm) (text : List ℕ) → HasTime (dump_line form text)
 dump_time form text =
-    either (not (has_offset text)) Unknown _ tt (dumped_time form (hex_number (take (offset_length text) text)) _)
+    either (not (has_offset text)) Unknown _ tt
+    (dumped_time form (hex_number (take (offset_length text) text)) _)
 
 packet_time : (bytes : Option (List ℕ)) → HasTime (packet_line bytes)
 packet_time None = tt
@@ -54,8 +59,10 @@ text_time : (text : List ℕ) → HasTime (text_line text)
 text_time text =
     either (length text == 0) Blank _ tt
     (either (byte_at 0 text == 35) Comment _ tt
-    (either (starts_with nat_eq text (codes "I ")) _ _ (log_time Incoming (without_blanks_before (drop 2 text)))
-    (either (starts_with nat_eq text (codes "O ")) _ _ (log_time Outgoing (without_blanks_before (drop 2 text)))
+    (either (starts_with nat_eq text (codes "I ")) _ _
+    (log_time Incoming (without_blanks_before (drop 2 text)))
+    (either (starts_with nat_eq text (codes "O ")) _ _
+    (log_time Outgoing (without_blanks_before (drop 2 text)))
     (either (starts_with nat_eq text (codes "0x")) _ _ (dump_time Tcpdump (drop 2 text))
     (either (has_offset text) _ _ (dump_time Xxd text) (packet_time (hex_bytes text)))))))
 
@@ -76,7 +83,8 @@ time_parts time is = by_test (nat_lt 0 (length time)) is where
 pub time_utf8 : (time : List ℕ) → is_time time ≡ true → IsUtf8 time
 time_utf8 time is = IsUtf8-from_ascii time (λ i. by_test i (nat_lt i (length time)) refl) where
   each : (i : ℕ) → i < length time → slice_index time i < 128
-  each i below = below_128 (get_or time i 0) (AllPass-from_list_all is_in_time time (time_parts time is) i 0 below)
+  each i below = below_128 (get_or time i 0)
+      (AllPass-from_list_all is_in_time time (time_parts time is) i 0 below)
 
   by_test : (i : ℕ) (b : Bool) → nat_lt i (length time) ≡ b → slice_index time i < 128
   by_test i true is = each i (grind (arith, nat_tests))

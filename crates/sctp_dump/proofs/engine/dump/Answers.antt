@@ -14,7 +14,8 @@ returns-in_err-need-clause-begun g c =
     let old = total g.W.Write.contents c.args.output.now in
     let e = c.in_err-need.field-0.0 in
     IfErr-residual _ (failure_of e) _ c.from_residual.ensures.1
-    (unread e refl (Grows-stream e (failure_of e) old old (total g.W.Write.contents c.need.new.output)
+    (unread e refl (Grows-stream e (failure_of e) old old
+    (total g.W.Write.contents c.need.new.output)
     (g.W.Write.contents (device_of (writer_of c.need.new.output))) [] refl (Appends-nil old)
     (λ is. c.in_err-need.ensures.unread (ap Err is)) (λ is. c.in_err-need.ensures.cut (ap Err is))))
 
@@ -26,10 +27,13 @@ returns-in_err-pcap-clause-begun g c =
     let bytes = held c.need.new.window in
     let failure = c.in_err-pcap.field-0.0 in
     let read = c.in_ok-need.ensures in
-    let kept = Keeps-cleared all (left c.need.new.window remaining) (held c.clear.new.self) c.clear.ensures read.stream in
-    let said = reads_as o (Err failure) c.in_ok-need.field-0 all remaining bytes kept (c.in_err-pcap.ensures ∙ ap (is_pcap o.form) c.held.ensures) read.enough read.end in
+    let kept = Keeps-cleared all (left c.need.new.window remaining) (held c.clear.new.self)
+    c.clear.ensures read.stream in
+    let said = reads_as o (Err failure) c.in_ok-need.field-0 all remaining bytes kept
+    (c.in_err-pcap.ensures ∙ ap (is_pcap o.form) c.held.ensures) read.enough read.end in
     IfErr-residual _ failure _ c.from_residual-in_err-pcap.ensures.1
-    (refused said (Grows-none failure (total g.W.Write.contents c.args.output.now) (g.W.Write.contents (device_of (writer_of c.need.new.output)))
+    (refused said (Grows-none failure (total g.W.Write.contents c.args.output.now)
+    (g.W.Write.contents (device_of (writer_of c.need.new.output)))
     (pending c.need.new.output) read.text))
 
 pub returns-then-pcap : goal.returns-then-pcap
@@ -42,12 +46,15 @@ returns-then-pcap g c =
     let read = c.in_ok-need.ensures in
     let kept = Keeps-cleared all after (held c.clear.new.self) c.clear.ensures read.stream in
     let said = subst (λ (b : Bool). ReadsAs o all (Ok b)) c.if-pcap.true
-    (reads_as o (Ok c.in_ok-pcap.pcap) c.in_ok-need.field-0 all remaining bytes kept (c.in_ok-pcap.ensures ∙ ap (is_pcap o.form) c.held.ensures) read.enough read.end) in
+    (reads_as o (Ok c.in_ok-pcap.pcap) c.in_ok-need.field-0 all remaining bytes kept
+    (c.in_ok-pcap.ensures ∙ ap (is_pcap o.form) c.held.ensures) read.enough read.end) in
     let old = total g.W.Write.contents c.args.output.now in
     let mid = total g.W.Write.contents c.need.new.output in
     let new = total g.W.Write.contents c.dump_pcap.new.output in record {
-      whole = whole_run o true all after old mid kept read.text said c.dump_pcap.result new c.dump_pcap.ensures.whole;
-      begun = begun_run o true all after old mid kept read.text said c.dump_pcap.result new (g.W.Write.contents (device_of (writer_of c.dump_pcap.new.output)))
+      whole = whole_run o true all after old mid kept read.text said c.dump_pcap.result new
+          c.dump_pcap.ensures.whole;
+      begun = begun_run o true all after old mid kept read.text said c.dump_pcap.result new
+          (g.W.Write.contents (device_of (writer_of c.dump_pcap.new.output)))
           c.dump_pcap.ensures.begun;
     }
 
@@ -61,11 +68,14 @@ returns-else-pcap g c =
     let read = c.in_ok-need.ensures in
     let kept = Keeps-cleared all after (held c.clear.new.self) c.clear.ensures read.stream in
     let said = subst (λ (b : Bool). ReadsAs o all (Ok b)) c.if-pcap.false
-    (reads_as o (Ok c.in_ok-pcap.pcap) c.in_ok-need.field-0 all remaining bytes kept (c.in_ok-pcap.ensures ∙ ap (is_pcap o.form) c.held.ensures) read.enough read.end) in
+    (reads_as o (Ok c.in_ok-pcap.pcap) c.in_ok-need.field-0 all remaining bytes kept
+    (c.in_ok-pcap.ensures ∙ ap (is_pcap o.form) c.held.ensures) read.enough read.end) in
     let old = total g.W.Write.contents c.args.output.now in
     let mid = total g.W.Write.contents c.need.new.output in
     let new = total g.W.Write.contents c.dump_text.new.output in record {
-      whole = whole_run o false all after old mid kept read.text said c.dump_text.result new c.dump_text.ensures.whole;
-      begun = begun_run o false all after old mid kept read.text said c.dump_text.result new (g.W.Write.contents (device_of (writer_of c.dump_text.new.output)))
+      whole = whole_run o false all after old mid kept read.text said c.dump_text.result new
+          c.dump_text.ensures.whole;
+      begun = begun_run o false all after old mid kept read.text said c.dump_text.result new
+          (g.W.Write.contents (device_of (writer_of c.dump_text.new.output)))
           c.dump_text.ensures.begun;
     }

@@ -6,4 +6,5 @@ use Rattle.sctp_dump.proofs.engine.write_if_long.Goals as goal
 
 pub returns-in-Err-clause-stopped : goal.returns-in-Err-clause-stopped
 returns-in-Err-clause-stopped g c =
-    HasBeginning-kept _ _ _ (Keeps-appended _ _ [] (Appends-nil _)) (HasBeginning-cut _ _ _ c.in-Err.ensures.cut)
+    HasBeginning-kept _ _ _ (Keeps-appended _ _ [] (Appends-nil _))
+    (HasBeginning-cut _ _ _ c.in-Err.ensures.cut)

@@ -22,7 +22,8 @@ returns-clause-whole g c =
     PrintsAll-header c.dump_records.result c.args.options.now c.in_ok-header.header
     (left c.args.window.now (g.R.Read.remaining (device_of c.args.input.now)))
     (left c.read_header.new.window (g.R.Read.remaining (device_of c.read_header.new.input)))
-    (total g.W.Write.contents c.args.output.now) (total g.W.Write.contents c.read_header.new.output) (total g.W.Write.contents c.dump_records.new.output)
+    (total g.W.Write.contents c.args.output.now) (total g.W.Write.contents c.read_header.new.output)
+    (total g.W.Write.contents c.dump_records.new.output)
     c.in_ok-header.ensures.taken c.in_ok-header.ensures.text c.dump_records.ensures.whole
 
 pub returns-clause-begun : goal.returns-clause-begun
@@ -30,6 +31,7 @@ returns-clause-begun g c =
     PrintsBeginning-header c.dump_records.result c.args.options.now c.in_ok-header.header
     (left c.args.window.now (g.R.Read.remaining (device_of c.args.input.now)))
     (left c.read_header.new.window (g.R.Read.remaining (device_of c.read_header.new.input)))
-    (total g.W.Write.contents c.args.output.now) (total g.W.Write.contents c.read_header.new.output) (total g.W.Write.contents c.dump_records.new.output)
+    (total g.W.Write.contents c.args.output.now) (total g.W.Write.contents c.read_header.new.output)
+    (total g.W.Write.contents c.dump_records.new.output)
     (g.W.Write.contents (device_of (writer_of c.dump_records.new.output)))
     c.in_ok-header.ensures.taken c.in_ok-header.ensures.text c.dump_records.ensures.begun

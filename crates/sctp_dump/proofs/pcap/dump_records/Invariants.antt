@@ -8,5 +8,6 @@ use Rattle.sctp_dump.proofs.pcap.dump_records.Given as goal
 abbrev pub invariant-loop-number : goal.invariant-loop-number
 invariant-loop-number g l =
     Done l.options l.header l.number
-    (left l.initial.window (g.R.Read.remaining (device_of l.initial.input))) (left l.window (g.R.Read.remaining (device_of l.input)))
+    (left l.initial.window (g.R.Read.remaining (device_of l.initial.input)))
+    (left l.window (g.R.Read.remaining (device_of l.input)))
     (total g.W.Write.contents l.initial.output) (total g.W.Write.contents l.output)

@@ -13,11 +13,15 @@ pub returns-clause-taken : goal.returns-clause-taken
 returns-clause-taken g c =
     let bytes = held c.need.new.window in
     let enough : 24 ≤ length bytes = first_of (search rules, grind (arith, common_steps)) in
-    let known : is_known_link c.in-Some.header.link_type ≡ true = first_of (cc, search rules, grind (arith, common_steps)) in record {
+    let known : is_known_link c.in-Some.header.link_type
+    ≡ true = first_of (cc, search rules, grind (arith, common_steps)) in record {
       taken = take 24 bytes;
       size = length-take-le 24 bytes enough;
-      read = file_header_taken bytes enough ∙ sym (c.in-Some.ensures ∙ ap file_header c.held-2.ensures);
+      read = file_header_taken bytes enough
+          ∙ sym (c.in-Some.ensures ∙ ap file_header c.held-2.ensures);
       known_link = known;
-      consumes = Consumes-taken (left c.args.window.now (g.R.Read.remaining (device_of c.args.input.now)))
-          (g.R.Read.remaining (device_of c.need.new.input)) bytes (held c.consume.new.self) 24 c.in_ok-whole.ensures.stream c.consume.ensures;
+      consumes = Consumes-taken (left c.args.window.now
+          (g.R.Read.remaining (device_of c.args.input.now)))
+          (g.R.Read.remaining (device_of c.need.new.input)) bytes (held c.consume.new.self) 24
+          c.in_ok-whole.ensures.stream c.consume.ensures;
     }

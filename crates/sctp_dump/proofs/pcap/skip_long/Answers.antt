@@ -17,7 +17,8 @@ returns-in_err-skip_record-clause-stopped g c =
     let written = g.W.Write.contents (device_of (writer_of c.args.output.now)) in
     let after = g.W.Write.contents (device_of (writer_of c.skip_record.new.output)) in
     IfErr-residual _ OutOfMemory _ c.from_residual.ensures.1
-    (HasBeginning-same before written after (pending c.args.output.now) (skipped_record c.args.options.now c.args.number TooLong) (Keeps-refl before)
+    (HasBeginning-same before written after (pending c.args.output.now)
+    (skipped_record c.args.options.now c.args.number TooLong) (Keeps-refl before)
     (ap (λ w. g.W.Write.contents (device_of w)) c.in_err-skip_record.ensures.kept))
 
 pub returns-in_err-whole-clause-stopped : goal.returns-in_err-whole-clause-stopped
@@ -27,12 +28,16 @@ returns-in_err-whole-clause-stopped g c =
     let written = g.W.Write.contents (device_of (writer_of c.args.output.now)) in
     let after = g.W.Write.contents (device_of (writer_of c.skip_record.new.output)) in
     let text = skipped_record c.args.options.now c.args.number TooLong in
-    let added = Appends-text before written after (pending c.args.output.now) (pending c.skip_record.new.output) text (Keeps-refl before)
-    (ap (λ w. g.W.Write.contents (device_of w)) c.in_ok-skip_record.ensures.kept) c.in_ok-skip_record.ensures.text in
+    let added = Appends-text before written after (pending c.args.output.now)
+    (pending c.skip_record.new.output) text (Keeps-refl before)
+    (ap (λ w. g.W.Write.contents (device_of w)) c.in_ok-skip_record.ensures.kept)
+    c.in_ok-skip_record.ensures.text in
     IfErr-residual _ (failure_of c.in_err-whole.field-0.0) _ c.from_residual-in_err-whole.ensures.1
-    (Grows-stream c.in_err-whole.field-0.0 (failure_of c.in_err-whole.field-0.0) before mid (total g.W.Write.contents c.skip.new.output)
+    (Grows-stream c.in_err-whole.field-0.0 (failure_of c.in_err-whole.field-0.0) before mid
+    (total g.W.Write.contents c.skip.new.output)
     (g.W.Write.contents (device_of (writer_of c.skip.new.output))) text refl added
-    (λ is. c.in_err-whole.ensures.unread (ap Err is)) (λ is. c.in_err-whole.ensures.cut (ap Err is)))
+    (λ is. c.in_err-whole.ensures.unread (ap Err is))
+    (λ is. c.in_err-whole.ensures.cut (ap Err is)))
 
 pub returns-clause-end : goal.returns-clause-end
 returns-clause-end g c = λ no.
@@ -41,12 +46,16 @@ returns-clause-end g c = λ no.
     let written = g.W.Write.contents (device_of (writer_of c.args.output.now)) in
     let after = g.W.Write.contents (device_of (writer_of c.skip_record.new.output)) in
     let text = skipped_record c.args.options.now c.args.number TooLong in
-    let added = Appends-text before written after (pending c.args.output.now) (pending c.skip_record.new.output) text (Keeps-refl before)
-    (ap (λ w. g.W.Write.contents (device_of w)) c.in_ok-skip_record.ensures.kept) c.in_ok-skip_record.ensures.text in
-    let some = some_rest (left c.args.window.now (g.R.Read.remaining (device_of c.args.input.now))) c.args.record_header.now.captured_length
+    let added = Appends-text before written after (pending c.args.output.now)
+    (pending c.skip_record.new.output) text (Keeps-refl before)
+    (ap (λ w. g.W.Write.contents (device_of w)) c.in_ok-skip_record.ensures.kept)
+    c.in_ok-skip_record.ensures.text in
+    let some = some_rest (left c.args.window.now (g.R.Read.remaining (device_of c.args.input.now)))
+    c.args.record_header.now.captured_length
     (omega arith) (c.in_ok-whole.ensures.short no) in record {
       rest = some.0;
       short = some.1;
       all = some.2;
-      appends = Appends-kept before mid (total g.W.Write.contents c.skip.new.output) text added c.in_ok-whole.ensures.text;
+      appends = Appends-kept before mid (total g.W.Write.contents c.skip.new.output) text added
+          c.in_ok-whole.ensures.text;
     }

@@ -22,10 +22,13 @@ returns-then-not-whole-clause-end g c = λ e.
     let end = c.in_ok-whole.ensures.end no in record {
       rest = held c.need.new.window;
       short = end.0;
-      all = all_held (left c.args.window.now (g.R.Read.remaining (device_of c.args.input.now))) (g.R.Read.remaining (device_of c.need.new.input))
+      all = all_held (left c.args.window.now (g.R.Read.remaining (device_of c.args.input.now)))
+          (g.R.Read.remaining (device_of c.need.new.input))
           (held c.need.new.window) c.in_ok-whole.ensures.stream end.1;
-      appends = Appends-text before written after (pending c.need.new.output) (pending c.skip_record.new.output) text c.in_ok-whole.ensures.text
-          (ap (λ w. g.W.Write.contents (device_of w)) c.in_ok-skip_record.ensures.kept) c.in_ok-skip_record.ensures.text;
+      appends = Appends-text before written after (pending c.need.new.output)
+          (pending c.skip_record.new.output) text c.in_ok-whole.ensures.text
+          (ap (λ w. g.W.Write.contents (device_of w)) c.in_ok-skip_record.ensures.kept)
+          c.in_ok-skip_record.ensures.text;
     }
 
 pub returns-clause-next : goal.returns-clause-next
@@ -43,7 +46,10 @@ returns-clause-next g c = λ e.
       size_is = ap length is ∙ length-take-le n bytes enough;
       has_text = pushed.1;
       consumes = subst (Consumes before (left c.consume.new.self remaining)) (sym is)
-          (Consumes-taken before remaining bytes (held c.consume.new.self) n c.in_ok-whole.ensures.stream c.consume.ensures);
-      appends = append_known-grown (total g.W.Write.contents c.args.output.now) (g.W.Write.contents (device_of (writer_of c.need.new.output)))
-          (pending c.need.new.output) (string_bytes c.push_frame.new.text) pushed.0 c.in_ok-whole.ensures.text pushed.2;
+          (Consumes-taken before remaining bytes (held c.consume.new.self) n
+          c.in_ok-whole.ensures.stream c.consume.ensures);
+      appends = append_known-grown (total g.W.Write.contents c.args.output.now)
+          (g.W.Write.contents (device_of (writer_of c.need.new.output)))
+          (pending c.need.new.output) (string_bytes c.push_frame.new.text) pushed.0
+          c.in_ok-whole.ensures.text pushed.2;
     }

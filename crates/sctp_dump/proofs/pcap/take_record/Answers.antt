@@ -22,9 +22,12 @@ returns-in_err-whole-clause-stopped g c =
       text = [];
       front = front_none (left c.args.window.now (g.R.Read.remaining (device_of c.args.input.now)));
       has_text = CutText-none c.args.options.now c.args.header.now c.args.number;
-      grows = Grows-stream c.in_err-whole.field-0.0 failure before before (total g.W.Write.contents c.need.new.output)
-          (g.W.Write.contents (device_of (writer_of c.need.new.output))) [] refl (Appends-nil before)
-          (λ is. c.in_err-whole.ensures.unread (ap Err is)) (λ is. c.in_err-whole.ensures.cut (ap Err is));
+      grows = Grows-stream c.in_err-whole.field-0.0 failure before before
+          (total g.W.Write.contents c.need.new.output)
+          (g.W.Write.contents (device_of (writer_of c.need.new.output))) [] refl
+          (Appends-nil before)
+          (λ is. c.in_err-whole.ensures.unread (ap Err is))
+          (λ is. c.in_err-whole.ensures.cut (ap Err is));
     })
 
 pub returns-in_err-skip_rest-clause-stopped : goal.returns-in_err-skip_rest-clause-stopped
@@ -37,7 +40,8 @@ returns-in_err-skip_rest-clause-stopped g c =
       text = [];
       front = front_none (left c.args.window.now (g.R.Read.remaining (device_of c.args.input.now)));
       has_text = CutText-none c.args.options.now c.args.header.now c.args.number;
-      grows = HasBeginning-same before written after (pending c.need.new.output) [] c.in_ok-whole.ensures.text
+      grows = HasBeginning-same before written after (pending c.need.new.output) []
+          c.in_ok-whole.ensures.text
           (ap (λ w. g.W.Write.contents (device_of w)) c.in_err-skip_rest.ensures.kept);
     })
 
@@ -53,11 +57,14 @@ returns-then-not-whole-clause-end g c = λ e.
     let end = c.in_ok-whole.ensures.end no in record {
       bytes = bytes;
       text = text;
-      all = all_held (left c.args.window.now (g.R.Read.remaining (device_of c.args.input.now))) (g.R.Read.remaining (device_of c.need.new.input))
+      all = all_held (left c.args.window.now (g.R.Read.remaining (device_of c.args.input.now)))
+          (g.R.Read.remaining (device_of c.need.new.input))
           bytes c.in_ok-whole.ensures.stream end.1;
       has_text = CutText-short c.args.options.now c.args.header.now c.args.number bytes end.0;
-      appends = Appends-text before written after (pending c.need.new.output) (pending c.skip_rest.new.output) text c.in_ok-whole.ensures.text
-          (ap (λ w. g.W.Write.contents (device_of w)) c.in_ok-skip_rest.ensures.kept) (c.in_ok-skip_rest.ensures.text order);
+      appends = Appends-text before written after (pending c.need.new.output)
+          (pending c.skip_rest.new.output) text c.in_ok-whole.ensures.text
+          (ap (λ w. g.W.Write.contents (device_of w)) c.in_ok-skip_rest.ensures.kept)
+          (c.in_ok-skip_rest.ensures.text order);
     }
 
 pub returns-then-record_header-gt-MOST_KEPT : goal.returns-then-record_header-gt-MOST_KEPT
@@ -74,7 +81,8 @@ returns-then-record_header-gt-MOST_KEPT g c =
     let late = total g.W.Write.contents c.need.new.output in
     let new = total g.W.Write.contents c.skip_long.new.output in
     let written = g.W.Write.contents (device_of (writer_of c.skip_long.new.output)) in
-    let after = left c.skip_long.new.window (g.R.Read.remaining (device_of c.skip_long.new.input)) in
+    let after = left c.skip_long.new.window (g.R.Read.remaining (device_of c.skip_long.new.input))
+    in
     let enough : 16 ≤ length bytes = first_of (search rules, grind (arith, common_steps)) in
     let seconds : r.seconds < 2 ^ 32 = first_of (omega arith, search rules) in
     let fraction : r.fraction < 2 ^ 32 = first_of (omega arith, search rules) in
@@ -82,11 +90,16 @@ returns-then-record_header-gt-MOST_KEPT g c =
     let original : r.original_length < 2 ^ 32 = first_of (omega arith, search rules) in
     let size : 262144 < r.captured_length = first_of (omega arith, search rules) in
     let values = c.read_record_header-record_header.ensures in
-    let h = headed header r c.held.result.now bytes before mid old late c.held.ensures enough values.value values.begins seconds fraction captured original
-    (Consumes-taken before remaining bytes (held c.consume.new.self) 16 c.in_ok-whole.ensures.stream c.consume.ensures) c.in_ok-whole.ensures.text in record {
-      next = next_long o header number r bytes before mid old late h c.skip_long.result after new size c.skip_long.ensures.next;
-      end = end_long o header number r bytes before mid old late h c.skip_long.result new size c.skip_long.ensures.end;
-      stopped = stopped_long o header number r bytes before mid old late h c.skip_long.result new written size c.skip_long.ensures.stopped;
+    let h = headed header r c.held.result.now bytes before mid old late c.held.ensures enough
+    values.value values.begins seconds fraction captured original
+    (Consumes-taken before remaining bytes (held c.consume.new.self) 16 c.in_ok-whole.ensures.stream
+    c.consume.ensures) c.in_ok-whole.ensures.text in record {
+      next = next_long o header number r bytes before mid old late h c.skip_long.result after new
+          size c.skip_long.ensures.next;
+      end = end_long o header number r bytes before mid old late h c.skip_long.result new size
+          c.skip_long.ensures.end;
+      stopped = stopped_long o header number r bytes before mid old late h c.skip_long.result new
+          written size c.skip_long.ensures.stopped;
     }
 
 pub returns-else-record_header-gt-MOST_KEPT : goal.returns-else-record_header-gt-MOST_KEPT
@@ -103,7 +116,8 @@ returns-else-record_header-gt-MOST_KEPT g c =
     let late = total g.W.Write.contents c.need.new.output in
     let new = total g.W.Write.contents c.take_frame.new.output in
     let written = g.W.Write.contents (device_of (writer_of c.take_frame.new.output)) in
-    let after = left c.take_frame.new.window (g.R.Read.remaining (device_of c.take_frame.new.input)) in
+    let after = left c.take_frame.new.window (g.R.Read.remaining (device_of c.take_frame.new.input))
+    in
     let enough : 16 ≤ length bytes = first_of (search rules, grind (arith, common_steps)) in
     let seconds : r.seconds < 2 ^ 32 = first_of (omega arith, search rules) in
     let fraction : r.fraction < 2 ^ 32 = first_of (omega arith, search rules) in
@@ -111,9 +125,14 @@ returns-else-record_header-gt-MOST_KEPT g c =
     let original : r.original_length < 2 ^ 32 = first_of (omega arith, search rules) in
     let size : r.captured_length ≤ 262144 = first_of (omega arith, search rules) in
     let values = c.read_record_header-record_header.ensures in
-    let h = headed header r c.held.result.now bytes before mid old late c.held.ensures enough values.value values.begins seconds fraction captured original
-    (Consumes-taken before remaining bytes (held c.consume.new.self) 16 c.in_ok-whole.ensures.stream c.consume.ensures) c.in_ok-whole.ensures.text in record {
-      next = next_kept o header number r bytes before mid old late h c.take_frame.result after new size c.take_frame.ensures.next;
-      end = end_kept o header number r bytes before mid old late h c.take_frame.result new size c.take_frame.ensures.end;
-      stopped = stopped_kept o header number r bytes before mid old late h c.take_frame.result new written c.take_frame.ensures.stopped;
+    let h = headed header r c.held.result.now bytes before mid old late c.held.ensures enough
+    values.value values.begins seconds fraction captured original
+    (Consumes-taken before remaining bytes (held c.consume.new.self) 16 c.in_ok-whole.ensures.stream
+    c.consume.ensures) c.in_ok-whole.ensures.text in record {
+      next = next_kept o header number r bytes before mid old late h c.take_frame.result after new
+          size c.take_frame.ensures.next;
+      end = end_kept o header number r bytes before mid old late h c.take_frame.result new size
+          c.take_frame.ensures.end;
+      stopped = stopped_kept o header number r bytes before mid old late h c.take_frame.result new
+          written c.take_frame.ensures.stopped;
     }

@@ -9,5 +9,6 @@ use Rattle.sctp_dump.proofs.text.dump_lines.Given as goal
 abbrev pub invariant-loop-lines : goal.invariant-loop-lines
 invariant-loop-lines g l =
     LinesDone l.options l.lines (state_of l.dump)
-    (left l.initial.window (g.R.Read.remaining (device_of l.initial.input))) (left l.window (g.R.Read.remaining (device_of l.input)))
+    (left l.initial.window (g.R.Read.remaining (device_of l.initial.input)))
+    (left l.window (g.R.Read.remaining (device_of l.input)))
     (total g.W.Write.contents l.initial.output) (total g.W.Write.contents l.output)

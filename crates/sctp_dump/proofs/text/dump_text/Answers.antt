@@ -15,9 +15,11 @@ returns-in_err-push_dump-clause-begun g c =
     let written = g.W.Write.contents (device_of (writer_of c.dump_lines.new.output)) in
     IfErr-residual _ OutOfMemory _ c.from_residual-in_err-push_dump.ensures.1
     (PrintsBeginning-ended c.args.options.now (state_of c.dump_lines.new.dump) OutOfMemory
-    (left c.args.window.now (g.R.Read.remaining (device_of c.args.input.now))) (total g.W.Write.contents c.args.output.now) mid _ written
+    (left c.args.window.now (g.R.Read.remaining (device_of c.args.input.now)))
+    (total g.W.Write.contents c.args.output.now) mid _ written
     c.in_ok-dump_lines.ensures.whole
-    (HasBeginning-same mid written written (pending c.dump_lines.new.output) [] (Keeps-refl mid) refl))
+    (HasBeginning-same mid written written (pending c.dump_lines.new.output) [] (Keeps-refl mid)
+    refl))
 
 pub returns-clause-whole : goal.returns-clause-whole
 returns-clause-whole g c =
@@ -25,6 +27,8 @@ returns-clause-whole g c =
     let written = g.W.Write.contents (device_of (writer_of c.dump_lines.new.output)) in
     let pushed = c.in_ok-push_dump.ensures.text in
     PrintsAll-ended c.args.options.now (state_of c.dump_lines.new.dump)
-    (left c.args.window.now (g.R.Read.remaining (device_of c.args.input.now))) (total g.W.Write.contents c.args.output.now) mid _ pushed.0
+    (left c.args.window.now (g.R.Read.remaining (device_of c.args.input.now)))
+    (total g.W.Write.contents c.args.output.now) mid _ pushed.0
     c.in_ok-dump_lines.ensures.whole pushed.1
-    (append_known-grown mid written (pending c.dump_lines.new.output) (string_bytes c.push_dump.new.text) pushed.0 (Keeps-refl mid) pushed.2)
+    (append_known-grown mid written (pending c.dump_lines.new.output)
+    (string_bytes c.push_dump.new.text) pushed.0 (Keeps-refl mid) pushed.2)

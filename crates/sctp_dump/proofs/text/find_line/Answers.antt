@@ -13,5 +13,7 @@ returns-in_err-read_more-clause-stopped g c =
     let e = c.in_err-read_more.field-0.0 in
     IfErr-residual _ (failure_of e) _ c.from_residual.ensures.1
     (Grows-stream e (failure_of e) before mid (total g.W.Write.contents c.read_more.new.output)
-    (g.W.Write.contents (device_of (writer_of c.read_more.new.output))) [] refl (Appends-kept_nil before mid c.loop-window.invariant.3)
-    (λ is. c.in_err-read_more.ensures.unread (ap Err is)) (λ is. HasBeginning-cut _ _ _ (c.in_err-read_more.ensures.cut (ap Err is))))
+    (g.W.Write.contents (device_of (writer_of c.read_more.new.output))) [] refl
+    (Appends-kept_nil before mid c.loop-window.invariant.3)
+    (λ is. c.in_err-read_more.ensures.unread (ap Err is))
+    (λ is. HasBeginning-cut _ _ _ (c.in_err-read_more.ensures.cut (ap Err is))))

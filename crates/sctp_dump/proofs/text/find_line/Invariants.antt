@@ -10,7 +10,8 @@ use Rattle.sctp_dump.proofs.text.find_line.Given as goal
 abbrev pub invariant-loop-window : goal.invariant-loop-window
 invariant-loop-window g l =
     (l.searched ≤ length (held l.window)) × IsLine (take l.searched (held l.window))
-    × Keeps (left l.initial.window (g.R.Read.remaining (device_of l.initial.input))) (left l.window (g.R.Read.remaining (device_of l.input)))
+    × Keeps (left l.initial.window (g.R.Read.remaining (device_of l.initial.input)))
+    (left l.window (g.R.Read.remaining (device_of l.input)))
     × Keeps (total g.W.Write.contents l.initial.output) (total g.W.Write.contents l.output)
 
 abbrev pub decreases-loop-window : goal.decreases-loop-window

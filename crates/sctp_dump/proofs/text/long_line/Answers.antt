@@ -8,4 +8,5 @@ returns-then-size-gt-MOST_KEPT c = λ remaining.
     (omega arith, IsLine-shorter 262145 c.in-Some.size c.args.bytes.now past c.in-Some.ensures.line)
 
 pub returns-in-None : goal.returns-in-None
-returns-in-None c = λ remaining. (omega arith, IsLine-take 262145 c.args.bytes.now c.in-None.ensures)
+returns-in-None c = λ remaining.
+    (omega arith, IsLine-take 262145 c.args.bytes.now c.in-None.ensures)

@@ -8,5 +8,6 @@ use Rattle.sctp_dump.proofs.text.skip_line.Given as goal
 
 abbrev pub invariant-loop-reads : goal.invariant-loop-reads
 invariant-loop-reads g l =
-    Dropped l.reads (left l.initial.window (g.R.Read.remaining (device_of l.initial.input))) (held l.window) (g.R.Read.remaining (device_of l.input))
+    Dropped l.reads (left l.initial.window (g.R.Read.remaining (device_of l.initial.input)))
+    (held l.window) (g.R.Read.remaining (device_of l.input))
     × Keeps (total g.W.Write.contents l.initial.output) (total g.W.Write.contents l.output)

@@ -14,32 +14,38 @@ use Rattle.sctp_dump.proofs.LineTexts.{closed_state}
 use Rattle.sctp_dump.proofs.LineTakes.{PrintsBeginning-none, PrintsRest-none, TakesLine-found, PrintsRest-found, long_line, next_long, end_long, stopped_long}
 use Rattle.sctp_dump.proofs.text.take_line.Goals as goal
 
-pub returns-in_err-push_line-in-Line-clause-stopped : goal.returns-in_err-push_line-in-Line-clause-stopped
+pub returns-in_err-push_line-in-Line-clause-stopped :
+    goal.returns-in_err-push_line-in-Line-clause-stopped
 returns-in_err-push_line-in-Line-clause-stopped g c =
     let old = total g.W.Write.contents c.args.output.now in
     let written = g.W.Write.contents (device_of (writer_of c.find_line.new.output)) in
     IfErr-residual _ OutOfMemory _ c.from_residual-in_err-push_line-in-Line.ensures.1
     (PrintsBeginning-none c.args.options.now c.args.number (state_of c.args.dump.now) OutOfMemory
     (left c.args.window.now (g.R.Read.remaining (device_of c.args.input.now))) old _ written
-    (HasBeginning-same old written written (pending c.find_line.new.output) [] c.in_ok-find_line.ensures.text refl))
+    (HasBeginning-same old written written (pending c.find_line.new.output) []
+    c.in_ok-find_line.ensures.text refl))
 
-pub returns-in_err-push_line-in-Last-clause-stopped : goal.returns-in_err-push_line-in-Last-clause-stopped
+pub returns-in_err-push_line-in-Last-clause-stopped :
+    goal.returns-in_err-push_line-in-Last-clause-stopped
 returns-in_err-push_line-in-Last-clause-stopped g c =
     let old = total g.W.Write.contents c.args.output.now in
     let written = g.W.Write.contents (device_of (writer_of c.find_line.new.output)) in
     IfErr-residual _ OutOfMemory _ c.from_residual-in_err-push_line-in-Last.ensures.1
     (PrintsBeginning-none c.args.options.now c.args.number (state_of c.args.dump.now) OutOfMemory
     (left c.args.window.now (g.R.Read.remaining (device_of c.args.input.now))) old _ written
-    (HasBeginning-same old written written (pending c.find_line.new.output) [] c.in_ok-find_line.ensures.text refl))
+    (HasBeginning-same old written written (pending c.find_line.new.output) []
+    c.in_ok-find_line.ensures.text refl))
 
-pub returns-in_err-push_long-in-TooLong-clause-stopped : goal.returns-in_err-push_long-in-TooLong-clause-stopped
+pub returns-in_err-push_long-in-TooLong-clause-stopped :
+    goal.returns-in_err-push_long-in-TooLong-clause-stopped
 returns-in_err-push_long-in-TooLong-clause-stopped g c =
     let old = total g.W.Write.contents c.args.output.now in
     let written = g.W.Write.contents (device_of (writer_of c.find_line.new.output)) in
     IfErr-residual _ OutOfMemory _ c.from_residual-in_err-push_long-in-TooLong.ensures.1
     (PrintsBeginning-none c.args.options.now c.args.number (state_of c.args.dump.now) OutOfMemory
     (left c.args.window.now (g.R.Read.remaining (device_of c.args.input.now))) old _ written
-    (HasBeginning-same old written written (pending c.find_line.new.output) [] c.in_ok-find_line.ensures.text refl))
+    (HasBeginning-same old written written (pending c.find_line.new.output) []
+    c.in_ok-find_line.ensures.text refl))
 
 pub returns-in-End-clause-end : goal.returns-in-End-clause-end
 returns-in-End-clause-end g c = λ e.
@@ -47,10 +53,13 @@ returns-in-End-clause-end g c = λ e.
     let remaining = g.R.Read.remaining (device_of c.find_line.new.input) in
     let old = total g.W.Write.contents c.args.output.now in
     let new = total g.W.Write.contents c.find_line.new.output in
-    let found = subst (λ (f : Found). IsFound f bytes remaining) c.in-End.is c.in_ok-find_line.ensures.found in
+    let found = subst (λ (f : Found). IsFound f bytes remaining) c.in-End.is
+    c.in_ok-find_line.ensures.found in
     PrintsRest-none c.args.options.now c.args.number (state_of c.args.dump.now)
-    (left c.args.window.now (g.R.Read.remaining (device_of c.args.input.now))) remaining old new bytes
-    c.in_ok-find_line.ensures.stream found.0 found.1 (Appends-kept_nil old new c.in_ok-find_line.ensures.text)
+    (left c.args.window.now (g.R.Read.remaining (device_of c.args.input.now))) remaining old new
+    bytes
+    c.in_ok-find_line.ensures.stream found.0 found.1
+    (Appends-kept_nil old new c.in_ok-find_line.ensures.text)
 
 pub returns-in_ok-push_line-in-Line-clause-next : goal.returns-in_ok-push_line-in-Line-clause-next
 returns-in_ok-push_line-in-Line-clause-next g c = λ e.
@@ -58,13 +67,18 @@ returns-in_ok-push_line-in-Line-clause-next g c = λ e.
     let remaining = g.R.Read.remaining (device_of c.find_line.new.input) in
     let old = total g.W.Write.contents c.args.output.now in
     let written = g.W.Write.contents (device_of (writer_of c.find_line.new.output)) in
-    let found = subst (λ (f : Found). IsFound f bytes remaining) c.in-Line.is c.in_ok-find_line.ensures.found in
+    let found = subst (λ (f : Found). IsFound f bytes remaining) c.in-Line.is
+    c.in_ok-find_line.ensures.found in
     let pushed = c.in_ok-push_line-in-Line.ensures in
-    TakesLine-found c.args.options.now c.args.number (state_of c.args.dump.now) (state_of c.push_line.new.dump)
-    (left c.args.window.now (g.R.Read.remaining (device_of c.args.input.now))) remaining old _ bytes (held c.consume.new.self)
+    TakesLine-found c.args.options.now c.args.number (state_of c.args.dump.now)
+    (state_of c.push_line.new.dump)
+    (left c.args.window.now (g.R.Read.remaining (device_of c.args.input.now))) remaining old _ bytes
+    (held c.consume.new.self)
     c.front-line.result.now pushed.0 c.in-Line.size c.in_ok-find_line.ensures.stream found.0 found.1
-    (c.front-line.ensures ∙ ap (λ l. take c.in-Line.size l) c.held.ensures) c.consume.ensures pushed.1
-    (append_known-grown old written (pending c.find_line.new.output) (string_bytes c.push_line.new.text) pushed.0 c.in_ok-find_line.ensures.text pushed.2)
+    (c.front-line.ensures ∙ ap (λ l. take c.in-Line.size l) c.held.ensures) c.consume.ensures
+    pushed.1
+    (append_known-grown old written (pending c.find_line.new.output)
+    (string_bytes c.push_line.new.text) pushed.0 c.in_ok-find_line.ensures.text pushed.2)
 
 pub returns-in_ok-push_line-in-Last-clause-end : goal.returns-in_ok-push_line-in-Last-clause-end
 returns-in_ok-push_line-in-Last-clause-end g c = λ e.
@@ -72,12 +86,17 @@ returns-in_ok-push_line-in-Last-clause-end g c = λ e.
     let remaining = g.R.Read.remaining (device_of c.find_line.new.input) in
     let old = total g.W.Write.contents c.args.output.now in
     let written = g.W.Write.contents (device_of (writer_of c.find_line.new.output)) in
-    let found = subst (λ (f : Found). IsFound f bytes remaining) c.in-Last.is c.in_ok-find_line.ensures.found in
+    let found = subst (λ (f : Found). IsFound f bytes remaining) c.in-Last.is
+    c.in_ok-find_line.ensures.found in
     let pushed = c.in_ok-push_line-in-Last.ensures in
-    PrintsRest-found c.args.options.now c.args.number (state_of c.args.dump.now) (state_of c.push_line-in-Last.new.dump)
-    (left c.args.window.now (g.R.Read.remaining (device_of c.args.input.now))) remaining old _ bytes c.held-line.result.now pushed.0
+    PrintsRest-found c.args.options.now c.args.number (state_of c.args.dump.now)
+    (state_of c.push_line-in-Last.new.dump)
+    (left c.args.window.now (g.R.Read.remaining (device_of c.args.input.now))) remaining old _ bytes
+    c.held-line.result.now pushed.0
     c.in_ok-find_line.ensures.stream found.0 found.1 found.2 found.3 c.held-line.ensures pushed.1
-    (append_known-grown old written (pending c.find_line.new.output) (string_bytes c.push_line-in-Last.new.text) pushed.0 c.in_ok-find_line.ensures.text pushed.2)
+    (append_known-grown old written (pending c.find_line.new.output)
+    (string_bytes c.push_line-in-Last.new.text) pushed.0 c.in_ok-find_line.ensures.text
+    pushed.2)
 
 pub returns-in_ok-push_long-in-TooLong : goal.returns-in_ok-push_long-in-TooLong
 returns-in_ok-push_long-in-TooLong g c =
@@ -89,7 +108,8 @@ returns-in_ok-push_long-in-TooLong g c =
     let rest = held c.consume-in-TooLong.new.self in
     let remaining = g.R.Read.remaining (device_of c.find_line.new.input) in
     let before = left c.args.window.now (g.R.Read.remaining (device_of c.args.input.now)) in
-    let after = left c.skip_line.new.window (g.R.Read.remaining (device_of c.skip_line.new.input)) in
+    let after = left c.skip_line.new.window (g.R.Read.remaining (device_of c.skip_line.new.input))
+    in
     let old = total g.W.Write.contents c.args.output.now in
     let found = c.in_ok-find_line.ensures in
     let at = subst (λ (f : Found). IsFound f bytes remaining) c.in-TooLong.is found.found in
@@ -99,11 +119,17 @@ returns-in_ok-push_long-in-TooLong g c =
     let writer = g.W.Write.contents (device_of (writer_of c.find_line.new.output)) in
     let late = append_known writer (string_bytes c.push_long.new.text) in
     let new = total g.W.Write.contents c.skip_line.new.output in
-    let h = long_line o number s t before remaining old late bytes rest of_dump found.stream at.0 at.1 c.consume-in-TooLong.ensures pushed.text.1
+    let h = long_line o number s t before remaining old late bytes rest of_dump found.stream at.0
+    at.1 c.consume-in-TooLong.ensures pushed.text.1
     (closed_state c.push_long.new.dump (packets_at_end s) pushed.form pushed.packets)
-    (append_known-grown old writer (pending c.find_line.new.output) (string_bytes c.push_long.new.text) said found.text pushed.text.2) in record {
-      next = next_long o number s t before (left c.consume-in-TooLong.new.self remaining) old late h c.skip_line.result after new c.skip_line.ensures.text c.skip_line.ensures.next;
-      end = end_long o number s t before (left c.consume-in-TooLong.new.self remaining) old late h c.skip_line.result new c.skip_line.ensures.text c.skip_line.ensures.end;
-      stopped = stopped_long o number s t before (left c.consume-in-TooLong.new.self remaining) old late h c.skip_line.result new
-          (g.W.Write.contents (device_of (writer_of c.skip_line.new.output))) c.skip_line.ensures.stopped;
+    (append_known-grown old writer (pending c.find_line.new.output)
+    (string_bytes c.push_long.new.text) said found.text pushed.text.2) in record {
+      next = next_long o number s t before (left c.consume-in-TooLong.new.self remaining) old late h
+          c.skip_line.result after new c.skip_line.ensures.text c.skip_line.ensures.next;
+      end = end_long o number s t before (left c.consume-in-TooLong.new.self remaining) old late h
+          c.skip_line.result new c.skip_line.ensures.text c.skip_line.ensures.end;
+      stopped = stopped_long o number s t before (left c.consume-in-TooLong.new.self remaining) old
+          late h c.skip_line.result new
+          (g.W.Write.contents (device_of (writer_of c.skip_line.new.output)))
+          c.skip_line.ensures.stopped;
     }

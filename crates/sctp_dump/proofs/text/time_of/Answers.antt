@@ -5,4 +5,5 @@ use Rattle.sctp_dump.proofs.text.time_of.Goals as goal
 
 pub unreachable-requires : goal.unreachable-requires
 unreachable-requires c =
-    c.in-Err.ensures.cases.0 (subst IsUtf8 (sym c.as_bytes.ensures) (time_utf8 c.args.logged.now.time c.requires))
+    c.in-Err.ensures.cases.0 (subst IsUtf8 (sym c.as_bytes.ensures)
+    (time_utf8 c.args.logged.now.time c.requires))

@@ -8,7 +8,8 @@ use Rattle.sctp_dump.proofs.counts.Counts.count_accepted.Goals as goal
 pub loop-chunk-preserved : goal.loop-chunk-preserved
 loop-chunk-preserved c =
     let start : Counts = record c.args.self.now { accepted = c.increase.new.count } in
-    with_kinds-next start c.loop-chunk.self c.count_kind.new.self c.args.chunks.now c.loop-chunk.chunk-index c.chunk-item.result
+    with_kinds-next start c.loop-chunk.self c.count_kind.new.self c.args.chunks.now
+    c.loop-chunk.chunk-index c.chunk-item.result
     c.loop-chunk-test.true c.chunk-item.is c.loop-chunk.invariant c.count_kind.ensures
 
 pub returns : goal.returns
@@ -16,5 +17,7 @@ returns c =
     let old = c.args.self.now in
     let cs = c.args.chunks.now in
     let start : Counts = record old { accepted = c.increase.new.count } in
-    with_kinds-all start c.loop-chunk.self cs c.loop-chunk.chunk-index c.loop-chunk-test.false c.loop-chunk.invariant
-    ∙ ap (λ (n : ℕ). record old { accepted = n; kinds = fold with_kind old.kinds (views cs) }) c.increase.ensures
+    with_kinds-all start c.loop-chunk.self cs c.loop-chunk.chunk-index c.loop-chunk-test.false
+    c.loop-chunk.invariant
+    ∙ ap (λ (n : ℕ). record old { accepted = n; kinds = fold with_kind old.kinds (views cs) })
+    c.increase.ensures
