@@ -1,9 +1,8 @@
 -- A run over an input, by what its first bytes or the options say.
-use Rattle.std.proofs.Common.{◌≡◌, ◌≤◌, ◌<◌, ℕ, Bool, true, false, nat_eq, if◌then◌else◌, List, [], ◌++◌, length, take, Option, None, Some, IfSome, Result, Ok, Err, OnOk, IfErr, refl, sym, ap, subst, ◌∙◌, append-nil, arith}
+use Rattle.std.proofs.Common.{◌≡◌, ◌≤◌, ◌<◌, ℕ, Bool, true, false, nat_eq, if◌then◌else◌, List, [], ◌++◌, length, take, Option, None, Some, IfSome, Result, Ok, Err, OnOk, IfErr, refl, sym, ap, subst, ◌∙◌, append-nil}
 use Rattle.std.proofs.lemmas.List.{take-append-le}
 use Rattle.std.specs.Io.KnownBytes.{Keeps, IsAtEnd, prepend_known, append_known}
 use Rattle.std.proofs.KnownBytes.{prepend_known-nil}
-use Rattle.watched_io.specs.declared.stream.StreamError.{StreamError}
 use Rattle.watched_io.specs.Output.{HasBeginning}
 use Rattle.std.specs.List.{starts_with}
 use Rattle.sctp_capture.specs.Pcap.{magic_format, section_header, input_kind, input_kind_by}

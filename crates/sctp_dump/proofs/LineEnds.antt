@@ -1,5 +1,5 @@
 -- The end of a text: after its lines, the dump that is open is printed.
-use Rattle.std.proofs.Common.{◌≡◌, ◌++◌, ℕ, List, Option, Result, Ok, Err, OnOk, IfErr, [], refl, sym, subst, append-nil}
+use Rattle.std.proofs.Common.{◌++◌, ℕ, List, Option, [], refl, sym, subst, append-nil}
 use Rattle.std.specs.Io.KnownBytes.{Appends}
 use Rattle.std.proofs.KnownBytes.{Appends-trans}
 use Rattle.sctp_dump.specs.declared.arguments.Options.{Options}

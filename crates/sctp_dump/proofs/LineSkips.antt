@@ -6,7 +6,7 @@ use Rattle.std.specs.Io.{StartsWith}
 use Rattle.std.specs.Io.KnownBytes.{Keeps, Consumes, IsAtEnd, prepend_known}
 use Rattle.std.proofs.KnownBytes.{Consumes-nil, Consumes-whole, Keeps-refl, prepend_known-end}
 use Rattle.watched_io.proofs.Streams.{Consumes-all_dropped, Consumes-front_dropped}
-use Rattle.sctp_dump.specs.Lines.{IsLine, fed}
+use Rattle.sctp_dump.specs.Lines.{IsLine}
 use Rattle.sctp_dump.specs.LineSteps.{BeginsWithLine, DropsLine, IsLastLine}
 use Rattle.sctp_dump.proofs.Inputs.{front_taken, front_none}
 use Rattle.sctp_dump.proofs.LineFeeds.{IsLine-append}

@@ -1,5 +1,5 @@
 -- The time of a log's packet is digits, colons and points, and so a text.
-use Rattle.std.proofs.Common.{◌≡◌, ◌≤◌, ◌<◌, ◌==◌, ◌&&◌, ◌||◌, ℕ, Bool, true, false, not, nat_lt, nat_eq, List, length, take, drop, Option, None, Some, if◌then◌else◌, codes, get_or, slice_index, refl, sym, subst, ap, ◌∙◌, arith}
+use Rattle.std.proofs.Common.{◌≡◌, ◌≤◌, ◌<◌, ◌==◌, ◌&&◌, ℕ, Bool, true, false, not, nat_lt, nat_eq, List, length, take, drop, Option, None, Some, if◌then◌else◌, codes, get_or, slice_index, refl, sym, subst, arith}
 use Rattle.std.proofs.lemmas.Bool.Decides.{nat_tests}
 use Rattle.std.proofs.lemmas.List.{get_or_past}
 use Rattle.std.proofs.lemmas.List.Sums.{AllPass-from_list_all}
@@ -8,14 +8,14 @@ use Rattle.std.specs.Str.{IsUtf8}
 use Rattle.std.specs.List.{list_all, starts_with}
 use Rattle.sctp_capture.specs.HexBytes.{without_blanks_before, hex_bytes}
 use Rattle.sctp_capture.specs.Number.{byte_at}
-use Rattle.sctp_capture.specs.Line.{line_of, text_line, log_line, logged, dump_line, dumped, dumped_bytes, packet_line, hex_number, offset_length, has_offset, is_time, is_in_time, word, after_word, marked_bytes}
+use Rattle.sctp_capture.specs.Line.{line_of, text_line, log_line, logged, dump_line, dumped, packet_line, hex_number, offset_length, has_offset, is_time, is_in_time, word, after_word, marked_bytes}
 use Rattle.sctp_capture.specs.declared.line.Direction.{Direction}
 use Rattle.sctp_capture.specs.declared.line.Direction.TheVariants.{Incoming, Outgoing}
 use Rattle.sctp_capture.specs.declared.line.DumpForm.{DumpForm}
 use Rattle.sctp_capture.specs.declared.line.DumpForm.TheVariants.{Xxd, Tcpdump}
 use Rattle.sctp_capture.specs.declared.line.LoggedPacket.{LoggedPacket}
 use Rattle.sctp_capture.specs.declared.line.Line.{Line}
-use Rattle.sctp_capture.specs.declared.line.Line.TheVariants.{Blank, Comment, Packet, Logged, Dumped, Unknown}
+use Rattle.sctp_capture.specs.declared.line.Line.TheVariants.{Blank, Comment, Logged, Unknown}
 
 abbrev HasTime : Line → Type 0
 HasTime (Logged l) = is_time l.time ≡ true

@@ -1,4 +1,4 @@
-use Rattle.std.proofs.Common.{◌≡◌, [], true, false, Bool, Ok, Err, ap, refl, subst, ◌∙◌}
+use Rattle.std.proofs.Common.{[], true, false, Bool, Ok, Err, ap, refl, subst, ◌∙◌}
 use Rattle.std.proofs.KnownBytes.{Appends-nil}
 use Rattle.watched_io.specs.Watched.{device_of}
 use Rattle.watched_io.specs.Window.{held, left}

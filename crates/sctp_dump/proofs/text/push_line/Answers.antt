@@ -1,4 +1,4 @@
-use Rattle.std.proofs.Common.{◌≡◌, ℕ, List, [], ◌++◌, OnOk, refl, sym, subst, ◌∙◌, inl, inr, string_bytes}
+use Rattle.std.proofs.Common.{◌≡◌, ℕ, List, ◌++◌, OnOk, refl, sym, subst, ◌∙◌, inl, inr, string_bytes}
 use Rattle.sctp_capture.specs.Line.{line_of}
 use Rattle.sctp_capture.specs.declared.line.Line.{Line}
 use Rattle.sctp_capture.specs.declared.line.Line.TheVariants as said

@@ -1,5 +1,5 @@
-use Rattle.std.proofs.Common.{◌≡◌, [], ◌++◌, length, take, ap, sym, subst, ◌∙◌, refl, append_assoc, string_bytes}
-use Rattle.std.specs.Io.KnownBytes.{Keeps, append_known}
+use Rattle.std.proofs.Common.{[], ◌++◌, take, ap, subst, ◌∙◌, refl, string_bytes}
+use Rattle.std.specs.Io.KnownBytes.{append_known}
 use Rattle.std.proofs.KnownBytes.{append_known-grown}
 use Rattle.watched_io.specs.Watched.{device_of}
 use Rattle.watched_io.specs.Window.{held, left}
