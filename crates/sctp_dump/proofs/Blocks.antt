@@ -1,5 +1,5 @@
--- What was read of a packet's bytes gives its block.
-use Rattle.std.proofs.Common.{◌≡◌, ℕ, ◌||◌, List, ◌++◌, Ok, Err, inl, inr, codes, subst, ap}
+-- What was read of a packet's bytes gives its block, and one entry is pushed.
+use Rattle.std.proofs.Common.{◌≡◌, ℕ, ◌||◌, List, ◌++◌, Ok, Err, inl, inr, codes, subst, ap, sym, ◌∙◌, append-nil}
 use Rattle.dcsctp_wire.specs.declared.packet.sctp_packet.ChecksumPolicy.{ChecksumPolicy}
 use Rattle.dcsctp_wire.specs.declared.packet.first_fault.FirstFault.{FirstFault}
 use Rattle.dcsctp_wire.specs.Reading.{Answers}
@@ -10,23 +10,32 @@ use Rattle.sctp_report.specs.Packet.{packet_lines}
 use Rattle.sctp_report.specs.Fault.{fault_lines}
 use Rattle.sctp_dump.specs.declared.arguments.Options.{Options}
 use Rattle.sctp_dump.specs.declared.record.Seen.{Seen}
+use Rattle.sctp_dump.specs.declared.counts.Counts.{Counts}
+use Rattle.sctp_dump.specs.Counts.{Entry, Accepted, Refused, Tally, one, counted, Pushes}
 use Rattle.sctp_dump.specs.Seen.{seen_lines}
 use Rattle.sctp_dump.specs.Block.{Block, accepted, refused, policy_of, most_shown, unless}
 
 pub Block-accepted : (o : Options) (seen : Seen) (bytes : List ℕ) (word : ℕ) (policy : ChecksumPolicy) (p : PacketTree)
     → word ≡ packet_word bytes → policy ≡ policy_of o → Answer bytes word policy (Ok p)
-    → Block o seen bytes (unless (o.summary || o.faults) (seen_lines seen ++ packet_lines word (most_shown o) p ++ codes "\n"))
+    → Block o seen bytes (one (unless (o.summary || o.faults) (seen_lines seen ++ packet_lines word (most_shown o) p ++ codes "\n")) (Accepted p.meaning.chunks))
 Block-accepted o seen bytes word policy p is_word is_policy read =
     let here : Answer bytes word (policy_of o) (Ok p) = subst (λ (q : ChecksumPolicy). Answer bytes word q (Ok p)) is_policy read in
     accepted p (subst (λ (w : ℕ). Answer bytes w (policy_of o) (Ok p)) is_word here)
-    (ap (λ (w : ℕ). unless (o.summary || o.faults) (seen_lines seen ++ packet_lines w (most_shown o) p ++ codes "\n")) is_word)
+    (ap (λ (w : ℕ). one (unless (o.summary || o.faults) (seen_lines seen ++ packet_lines w (most_shown o) p ++ codes "\n")) (Accepted p.meaning.chunks)) is_word)
 
 pub Block-refused : (o : Options) (seen : Seen) (bytes : List ℕ) (word : ℕ) (policy : ChecksumPolicy) (found : FirstFault)
     → word ≡ packet_word bytes → policy ≡ policy_of o
     → Answers {X = Unit {0}} packet_locating (λ u. u) (PacketLocated bytes word policy) (Err found)
-    → Block o seen bytes (unless o.summary (seen_lines seen ++ fault_lines bytes found.fault found.offset ++ codes "\n"))
+    → Block o seen bytes (one (unless o.summary (seen_lines seen ++ fault_lines bytes found.fault found.offset ++ codes "\n")) (Refused found.fault))
 Block-refused o seen bytes word policy found is_word is_policy (inr never) = absurd never
 Block-refused o seen bytes word policy found is_word is_policy (inl (f, is, at)) =
     let here : HasPacketFaultAt bytes word (policy_of o) f.0 f.1 = subst (λ (q : ChecksumPolicy). HasPacketFaultAt bytes word q f.0 f.1) is_policy at in
     refused f.0 f.1 (subst (λ (w : ℕ). HasPacketFaultAt bytes w (policy_of o) f.0 f.1) is_word here)
-    (ap (λ (x : FirstFault). unless o.summary (seen_lines seen ++ fault_lines bytes x.fault x.offset ++ codes "\n")) is)
+    (ap (λ (x : FirstFault). one (unless o.summary (seen_lines seen ++ fault_lines bytes x.fault x.offset ++ codes "\n")) (Refused x.fault)) is)
+
+-- a text was added, and counted
+pub Pushes-one : (text old new : List ℕ) (tally : Tally) (c d : Counts) → new ≡ old ++ text → d ≡ counted c tally → Pushes (one text tally) old new c d
+Pushes-one text old new tally c d grown is = record {
+  text = grown ∙ ap (λ (t : List ℕ). old ++ t) (sym (append-nil text));
+  counts = is;
+}

@@ -2,7 +2,6 @@
 use Rattle.std.proofs.Common.{◌≡◌, ◌+◌, ◌≤◌, ◌%◌, ◌^◌, ℕ, List, ◌++◌, length, take, drop, Option, None, Some, option_map, Result, Ok, Err, OnOk, IfErr, refl, sym, ap, subst, ◌∙◌, inr, take-append-drop, arith}
 use Rattle.std.proofs.lemmas.List.{take-append-le, length-append, drop_at, length-take-le}
 use Rattle.std.specs.Int.{Width, w16, w32, byte_len, from_be_bytes, from_le_bytes}
-use Rattle.std.specs.Io.KnownBytes.{Keeps}
 use Rattle.sctp_capture.specs.Number.{number_in}
 use Rattle.sctp_capture.specs.Pcap.{magic_format, header_of, file_header}
 use Rattle.sctp_capture.specs.declared.pcap.ByteOrder.{ByteOrder}
@@ -11,10 +10,11 @@ use Rattle.sctp_capture.specs.declared.pcap.PcapFormat.{PcapFormat}
 use Rattle.sctp_capture.specs.declared.pcap.FileHeader.{FileHeader}
 use Rattle.sctp_dump.specs.declared.arguments.Options.{Options}
 use Rattle.sctp_dump.specs.declared.failure.Failure.{Failure}
-use Rattle.sctp_dump.specs.Prints.{PrintsAll, PrintsBeginning}
+use Rattle.sctp_dump.specs.Counts.{Entry}
+use Rattle.sctp_dump.specs.Prints.{Out, PrintsAll, PrintsBeginning}
 use Rattle.sctp_dump.specs.Records.{RecordsText, PcapText, PcapBeginning}
 use Rattle.sctp_dump.specs.Steps.{TakesHeader}
-use Rattle.sctp_dump.proofs.Outputs.{Appends-before, Grows-before}
+use Rattle.sctp_dump.proofs.Outputs.{Stays, Adds-before, Grows-before}
 use Rattle.sctp_dump.proofs.Inputs.{part_front, all_taken, front_taken}
 
 number_front : (order : ByteOrder) (width : Width) (n : ℕ) (x y : List ℕ) → n + byte_len width ≤ length x
@@ -45,38 +45,38 @@ pub file_header_taken : (x : List ℕ) → 24 ≤ length x → file_header (take
 file_header_taken x size =
     sym (file_header_front (take 24 x) (drop 24 x) (omega (arith, length-take-le 24 x size))) ∙ ap file_header (take-append-drop 24 x)
 
--- the header, and then the text of what follows
-pcap_text : (o : Options) (header : FileHeader) (before after : Option (List ℕ)) (bytes text : List ℕ) (takes : TakesHeader header before after)
-    → RecordsText o header bytes text → PcapText o (takes.taken ++ bytes) text
-pcap_text o header before after bytes text takes has = record {
+-- the header, and then the entries of what follows
+pcap_text : (o : Options) (header : FileHeader) (before after : Option (List ℕ)) (bytes : List ℕ) (entries : List Entry) (takes : TakesHeader header before after)
+    → RecordsText o header bytes entries → PcapText o (takes.taken ++ bytes) entries
+pcap_text o header before after bytes entries takes has = record {
   header = header;
   header_size = let size = takes.size in omega (arith, size, length-append takes.taken bytes);
   header_read = file_header_front takes.taken bytes (let size = takes.size in omega (arith, size)) ∙ takes.read;
   known_link = takes.known_link;
-  after_header = subst (λ (b : List ℕ). RecordsText o header b text) (sym (drop_at takes.taken bytes 24 takes.size)) has;
+  after_header = subst (λ (b : List ℕ). RecordsText o header b entries) (sym (drop_at takes.taken bytes 24 takes.size)) has;
 }
 
-pub PrintsAll-header : {T E : Type 0} (result : Result T E) (o : Options) (header : FileHeader) (before after old mid new : Option (List ℕ))
-    → TakesHeader header before after → Keeps old mid → OnOk result (PrintsAll (RecordsText o header) after mid new)
+pub PrintsAll-header : {T E : Type 0} (result : Result T E) (o : Options) (header : FileHeader) (before after : Option (List ℕ)) (old mid new : Out)
+    → TakesHeader header before after → Stays old mid → OnOk result (PrintsAll (RecordsText o header) after mid new)
     → OnOk result (PrintsAll (PcapText o) before old new)
 PrintsAll-header (Ok x) o header before after old mid new takes kept prints = record {
   bytes = takes.taken ++ prints.bytes;
-  text = prints.text;
+  entries = prints.entries;
   all = all_taken before after takes.taken prints.bytes takes.consumes prints.all;
-  has_text = pcap_text o header before after prints.bytes prints.text takes prints.has_text;
-  appends = Appends-before old mid new prints.text kept prints.appends;
+  finds = pcap_text o header before after prints.bytes prints.entries takes prints.finds;
+  adds = Adds-before old mid new prints.entries kept prints.adds;
 }
 PrintsAll-header (Err e) o header before after old mid new takes kept prints = tt
 
-pub PrintsBeginning-header : {T : Type 0} (result : Result T Failure) (o : Options) (header : FileHeader) (before after old mid new written : Option (List ℕ))
-    → TakesHeader header before after → Keeps old mid
+pub PrintsBeginning-header : {T : Type 0} (result : Result T Failure) (o : Options) (header : FileHeader) (before after : Option (List ℕ)) (old mid new : Out) (written : Option (List ℕ))
+    → TakesHeader header before after → Stays old mid
     → IfErr result (λ failure. PrintsBeginning (RecordsText o header) failure after mid new written)
     → IfErr result (λ failure. PrintsBeginning (PcapBeginning o) failure before old new written)
 PrintsBeginning-header (Ok x) o header before after old mid new written takes kept prints = tt
 PrintsBeginning-header (Err failure) o header before after old mid new written takes kept prints = record {
   bytes = takes.taken ++ prints.bytes;
-  text = prints.text;
+  entries = prints.entries;
   front = front_taken before after takes.taken prints.bytes takes.consumes prints.front;
-  has_text = inr (pcap_text o header before after prints.bytes prints.text takes prints.has_text);
-  grows = Grows-before failure old mid new written prints.text kept prints.grows;
+  finds = inr (pcap_text o header before after prints.bytes prints.entries takes prints.finds);
+  grows = Grows-before failure old mid new written prints.entries kept prints.grows;
 }

@@ -1,4 +1,4 @@
--- The texts of records and of what is cut off, from what was read.
+-- What is found in records and in what is cut off, from what was read.
 use Rattle.std.proofs.Common.{◌≡◌, ◌≢◌, ◌+◌, ◌≤◌, ◌<◌, ◌==◌, ◌&&◌, ℕ, Bool, true, false, if◌then◌else◌, List, [], ◌∷◌, ◌++◌, length, take, drop, nat_lt, nat_le, Result, Ok, Err, OnOk, refl, sym, ap, subst, ◌∙◌, append_assoc, append-nil, take-append-drop, arith}
 use Rattle.std.proofs.lemmas.Bool.Decides.{nat_tests}
 use Rattle.std.proofs.lemmas.List.{length-append, length-take-le}
@@ -12,15 +12,18 @@ use Rattle.sctp_capture.specs.declared.frame.NoPacket.{NoPacket}
 use Rattle.sctp_dump.specs.declared.arguments.Options.{Options}
 use Rattle.sctp_dump.specs.declared.skipped.Skipped.{Skipped}
 use Rattle.sctp_dump.specs.declared.skipped.Skipped.TheVariants.{TooLong, EndsIn}
+use Rattle.sctp_dump.specs.declared.counts.Counts.{Counts}
+use Rattle.sctp_dump.specs.Counts.{Entry, Pushes}
 use Rattle.sctp_dump.specs.Block.{Block}
+use Rattle.sctp_dump.proofs.Outputs.{Pushes-none}
 use Rattle.sctp_dump.specs.Records.{seen_in, skipped_for, skipped_record, FrameText, RecordText, RecordTexts, cut_text, CutText}
 use Rattle.sctp_dump.proofs.Inputs.{part_front}
 
 -- ---- records
 
-pub FrameText-found : (o : Options) (header : FileHeader) (number : ℕ) (r : Record) (p : Packet) (found : Result Packet NoPacket) (text : List ℕ)
-    → Ok p ≡ found → Block o (seen_in header number r p) p.bytes text → FrameText o header number r found text
-FrameText-found o header number r p found text is block = subst (λ (f : Result Packet NoPacket). FrameText o header number r f text) is block
+pub FrameText-found : (o : Options) (header : FileHeader) (number : ℕ) (r : Record) (p : Packet) (found : Result Packet NoPacket) (entries : List Entry)
+    → Ok p ≡ found → Block o (seen_in header number r p) p.bytes entries → FrameText o header number r found entries
+FrameText-found o header number r p found entries is block = subst (λ (f : Result Packet NoPacket). FrameText o header number r f entries) is block
 
 pub FrameText-none : (o : Options) (header : FileHeader) (number : ℕ) (r : Record) (why : NoPacket) (found : Result Packet NoPacket)
     → Err why ≡ found → FrameText o header number r found (skipped_record o number (skipped_for why))
@@ -29,40 +32,41 @@ FrameText-none o header number r why found is =
 
 -- what a call added that pushed the packet, or the line
 pub pushed_packet : {T E : Type 0} (result : Result T E) (o : Options) (header : FileHeader) (number : ℕ) (r : Record) (p : Packet) (found : Result Packet NoPacket)
-    (old new : List ℕ) → Ok p ≡ found → OnOk result ((block : List ℕ) × Block o (seen_in header number r p) p.bytes block × (new ≡ old ++ block))
-    → OnOk result ((more : List ℕ) × FrameText o header number r found more × (new ≡ old ++ more))
-pushed_packet (Ok x) o header number r p found old new is (block, has, grown) = (block, FrameText-found o header number r p found block is has, grown)
-pushed_packet (Err e) o header number r p found old new is has = tt
+    (old new : List ℕ) (c d : Counts) → Ok p ≡ found
+    → OnOk result ((block : List Entry) × Block o (seen_in header number r p) p.bytes block × Pushes block old new c d)
+    → OnOk result ((more : List Entry) × FrameText o header number r found more × Pushes more old new c d)
+pushed_packet (Ok x) o header number r p found old new c d is (block, has, pushed) = (block, FrameText-found o header number r p found block is has, pushed)
+pushed_packet (Err e) o header number r p found old new c d is has = tt
 
 pub pushed_line : {T E : Type 0} (result : Result T E) (o : Options) (header : FileHeader) (number : ℕ) (r : Record) (why : NoPacket) (skipped : Skipped)
-    (found : Result Packet NoPacket) (old new : List ℕ) → Err why ≡ found → skipped ≡ skipped_for why
-    → OnOk result (new ≡ old ++ skipped_record o number skipped)
-    → OnOk result ((more : List ℕ) × FrameText o header number r found more × (new ≡ old ++ more))
-pushed_line (Ok x) o header number r why skipped found old new is same grown = (
+    (found : Result Packet NoPacket) (old new : List ℕ) (c d : Counts) → Err why ≡ found → skipped ≡ skipped_for why
+    → OnOk result (Pushes (skipped_record o number skipped) old new c d)
+    → OnOk result ((more : List Entry) × FrameText o header number r found more × Pushes more old new c d)
+pushed_line (Ok x) o header number r why skipped found old new c d is same pushed = (
   skipped_record o number (skipped_for why),
   FrameText-none o header number r why found is,
-  grown ∙ ap (λ (w : Skipped). old ++ skipped_record o number w) same,
+  subst (λ (w : Skipped). Pushes (skipped_record o number w) old new c d) same pushed,
 )
-pushed_line (Err e) o header number r why skipped found old new is same grown = tt
+pushed_line (Err e) o header number r why skipped found old new c d is same pushed = tt
 
 -- one more record
-pub RecordTexts-more : (o : Options) (header : FileHeader) (number next : ℕ) (rs : List Record) (r : Record) (text last : List ℕ)
-    → next ≡ number + length rs → RecordTexts o header number rs text → RecordText o header next r last
-    → RecordTexts o header number (rs ++ r ∷ []) (text ++ last)
-RecordTexts-more o header number next [] r text last is before more =
+pub RecordTexts-more : (o : Options) (header : FileHeader) (number next : ℕ) (rs : List Record) (r : Record) (entries last : List Entry)
+    → next ≡ number + length rs → RecordTexts o header number rs entries → RecordText o header next r last
+    → RecordTexts o header number (rs ++ r ∷ []) (entries ++ last)
+RecordTexts-more o header number next [] r entries last is before more =
     let here : next ≡ number = omega arith in (
       last,
       [],
       subst (λ (n : ℕ). RecordText o header n r last) here more,
       refl,
-      ap (λ (t : List ℕ). t ++ last) before ∙ sym (append-nil last),
+      ap (λ (t : List Entry). t ++ last) before ∙ sym (append-nil last),
     )
-RecordTexts-more o header number next (x ∷ rs) r text last is (first, rest, has, others, joined) more = (
+RecordTexts-more o header number next (x ∷ rs) r entries last is (first, rest, has, others, joined) more = (
   first,
   rest ++ last,
   has,
   RecordTexts-more o header (number + 1) next rs r rest last (omega arith) others more,
-  ap (λ (t : List ℕ). t ++ last) joined ∙ append_assoc first rest last,
+  ap (λ (t : List Entry). t ++ last) joined ∙ append_assoc first rest last,
 )
 
 -- ---- what is cut off
@@ -92,12 +96,12 @@ pub CutText-short : (o : Options) (header : FileHeader) (number : ℕ) (cut : Li
     → CutText o header number cut (cut_text o header.format.order number cut)
 CutText-short o header number cut short = (no_record_short header.format.order cut short, refl)
 
-pub cut_text_none : (o : Options) (order : ByteOrder) (number : ℕ) (cut pending : List ℕ) → length cut ≡ 0
-    → pending ≡ pending ++ cut_text o order number cut
-cut_text_none o order number [] pending none = sym (append-nil pending)
-cut_text_none o order number (x ∷ xs) pending none = absurd (omega arith)
+pub pushed_none : (o : Options) (order : ByteOrder) (number : ℕ) (cut pending : List ℕ) (c : Counts) → length cut ≡ 0
+    → Pushes (cut_text o order number cut) pending pending c c
+pushed_none o order number [] pending c none = Pushes-none pending c
+pushed_none o order number (x ∷ xs) pending c none = absurd (omega arith)
 
-pub cut_text_short : (o : Options) (order : ByteOrder) (number : ℕ) (cut : List ℕ) → length cut < 16 → length cut ≢ 0
+cut_text_short : (o : Options) (order : ByteOrder) (number : ℕ) (cut : List ℕ) → length cut < 16 → length cut ≢ 0
     → cut_text o order number cut ≡ skipped_record o number EndsIn
 cut_text_short o order number cut short some =
     let any : (length cut == 0) ≡ false = grind (arith, nat_tests) in
@@ -109,6 +113,13 @@ cut_text_short o order number cut short some =
       by_tests true has p q = cc
       by_tests false true p q = cc
       by_tests false false p q = refl
+
+pub pushed_short : {T E : Type 0} (result : Result T E) (o : Options) (number : ℕ) (cut old new : List ℕ) (c d : Counts) → length cut < 16 → length cut ≢ 0
+    → OnOk result (Pushes (skipped_record o number EndsIn) old new c d)
+    → OnOk result ((order : ByteOrder) → Pushes (cut_text o order number cut) old new c d)
+pushed_short (Ok x) o number cut old new c d short some pushed = λ order.
+    subst (λ (es : List Entry). Pushes es old new c d) (sym (cut_text_short o order number cut short some)) pushed
+pushed_short (Err e) o number cut old new c d short some pushed = tt
 
 cut_length : (bytes rest : List ℕ) → 16 ≤ length bytes → length (take 16 bytes ++ rest) ≡ 16 + length rest
 cut_length bytes rest size = omega (arith, length-append (take 16 bytes) rest, length-take-le 16 bytes size)

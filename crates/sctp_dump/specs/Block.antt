@@ -1,4 +1,4 @@
--- The text of a record: of a packet, of bytes that are refused, or of what is skipped.
+-- The entry of a packet, or of bytes that are refused.
 use Rattle.std.specs.Prelude.{◌≡◌, ℕ, ◌||◌, ◌-◌, ◌^◌, Bool, true, List, [], ◌++◌, if◌then◌else◌, codes, Ok}
 use Rattle.dcsctp_wire.specs.declared.packet.sctp_packet.ChecksumPolicy.{ChecksumPolicy}
 use Rattle.dcsctp_wire.specs.Packet.{PacketTree, PacketFault, Answer, packet_error_of}
@@ -8,6 +8,7 @@ use Rattle.sctp_report.specs.Packet.{packet_lines}
 use Rattle.sctp_report.specs.Fault.{fault_lines}
 use Rattle.sctp_dump.specs.declared.arguments.Options.{Options}
 use Rattle.sctp_dump.specs.declared.record.Seen.{Seen}
+use Rattle.sctp_dump.specs.Counts.{Entry, Accepted, Refused, one}
 use Rattle.sctp_dump.specs.Seen.{seen_lines}
 
 -- any checksum is accepted, and any padding unless it is looked at
@@ -26,15 +27,16 @@ most_shown o = if o.payload then 2 ^ 64 - 1 else 16
 abbrev pub unless : Bool → List ℕ → List ℕ
 unless hidden text = if hidden then [] else text
 
--- The text of a packet that was seen so: all that it holds, or the fault of its bytes, and an empty
--- line. An accepted packet is left out where faults alone are printed, and both where counts alone are.
-pub data Block (o : Options) (seen : Seen) (bytes : List ℕ) (text : List ℕ) : Type 0 where
+-- The entry of a packet that was seen so. Its text is all that it holds, or the fault of its bytes,
+-- and an empty line. An accepted packet has none where faults alone are printed, nor has any where
+-- counts alone are.
+pub data Block (o : Options) (seen : Seen) (bytes : List ℕ) (entries : List Entry) : Type 0 where
   accepted : (p : PacketTree) → Answer bytes (packet_word bytes) (policy_of o) (Ok p)
-      → text ≡ unless (o.summary || o.faults)
-      (seen_lines seen ++ packet_lines (packet_word bytes) (most_shown o) p ++ codes "\n")
-      → Block o seen bytes text
+      → entries ≡ one (unless (o.summary || o.faults)
+      (seen_lines seen ++ packet_lines (packet_word bytes) (most_shown o) p ++ codes "\n"))
+      (Accepted p.meaning.chunks) → Block o seen bytes entries
   refused : (e : PacketFault) (offset : ℕ)
       → HasPacketFaultAt bytes (packet_word bytes) (policy_of o) e offset
-      → text ≡ unless o.summary
-      (seen_lines seen ++ fault_lines bytes (packet_error_of e) offset ++ codes "\n")
-      → Block o seen bytes text
+      → entries ≡ one (unless o.summary
+      (seen_lines seen ++ fault_lines bytes (packet_error_of e) offset ++ codes "\n"))
+      (Refused (packet_error_of e)) → Block o seen bytes entries

@@ -1,12 +1,14 @@
 -- What is found of a line in memory, and what a step over lines took and added.
 use Rattle.std.specs.Prelude.{◌≡◌, ◌+◌, ◌-◌, ◌^◌, ◌≤◌, ◌<◌, ℕ, List, [], ◌∷◌, ◌++◌, length, take, Option, None, Some, IfSome}
 use Rattle.std.specs.Io.{StartsWith}
-use Rattle.std.specs.Io.KnownBytes.{Consumes, Appends, IsAtEnd}
+use Rattle.std.specs.Io.KnownBytes.{Consumes, IsAtEnd}
 use Rattle.sctp_capture.specs.declared.line.DumpForm.{DumpForm}
 use Rattle.sctp_dump.specs.declared.arguments.Options.{Options}
 use Rattle.sctp_dump.specs.declared.text.Dump.{Dump}
 use Rattle.sctp_dump.specs.declared.text.Found.{Found}
 use Rattle.sctp_dump.specs.declared.text.Found.TheVariants.{End, Line, Last, TooLong}
+use Rattle.sctp_dump.specs.Counts.{Entry}
+use Rattle.sctp_dump.specs.Prints.{Out, Adds}
 use Rattle.sctp_dump.specs.Lines.{IsLine, fed, OpenDump, State, LineText, LastText}
 
 -- ---- in memory
@@ -37,32 +39,33 @@ state_of d = record { dump = open_of d.form d.bytes.items d.first_line; packets 
 -- ---- steps
 
 -- a line was taken
-pub record TakesLine (o : Options) (number : ℕ) (s t : State) (before after old new : Option (List ℕ))
-    : Type 0 where
+pub record TakesLine (o : Options) (number : ℕ) (s t : State) (before after : Option (List ℕ))
+    (old new : Out) : Type 0 where
   pub line : List ℕ
-  pub text : List ℕ
+  pub entries : List Entry
   pub is_line : IsLine line
-  pub has_text : LineText o number s line t text
+  pub finds : LineText o number s line t entries
   pub consumes : Consumes before after (fed line)
-  pub appends : Appends old new text
+  pub adds : Adds old new entries
 
--- The output grew by the text of `bytes`, with which what was left of the input begins. They are all
+-- The output grew by what was found in `bytes`, with which what was left of the input begins. They are all
 -- that was left, where that is known and shorter than 2^64 bytes.
-pub record PrintsRest (Text : List ℕ → List ℕ → Type 0) (left old new : Option (List ℕ)) : Type 0 where
+pub record PrintsRest (Finds : List ℕ → List Entry → Type 0) (left : Option (List ℕ)) (old new : Out)
+    : Type 0 where
   pub bytes : List ℕ
-  pub text : List ℕ
+  pub entries : List Entry
   pub front : IfSome left (λ l. StartsWith l bytes)
   pub all : IfSome left (λ l. length l < 2 ^ 64 → l ≡ bytes)
-  pub has_text : Text bytes text
-  pub appends : Appends old new text
+  pub finds : Finds bytes entries
+  pub adds : Adds old new entries
 
 -- the text of what is left, which is no whole line
-abbrev pub LeftText : Options → ℕ → State → State → List ℕ → List ℕ → Type 0
-LeftText o number s t bytes text = IsLine bytes × LastText o number s bytes t text
+abbrev pub LeftText : Options → ℕ → State → State → List ℕ → List Entry → Type 0
+LeftText o number s t bytes entries = IsLine bytes × LastText o number s bytes t entries
 
 -- the same of a beginning of it
-abbrev pub BeginningText : Options → ℕ → State → List ℕ → List ℕ → Type 0
-BeginningText o number s bytes text = (t : State) × LeftText o number s t bytes text
+abbrev pub BeginningText : Options → ℕ → State → List ℕ → List Entry → Type 0
+BeginningText o number s bytes entries = (t : State) × LeftText o number s t bytes entries
 
 -- a line was dropped up to its line feed
 abbrev pub DropsLine : Option (List ℕ) → Option (List ℕ) → Type 0

@@ -1,4 +1,5 @@
--- The text of lines: of packets in hexadecimal, of logs and of dumps.
+-- What is found in lines of text: packets in hexadecimal, of logs and of dumps. An entry is a text and
+-- what is counted.
 use Rattle.std.specs.Prelude.{◌≡◌, ◌+◌, ◌≤◌, ◌<◌, ◌==◌, ℕ, Bool, true, not, List, [], ◌∷◌, ◌++◌, if◌then◌else◌, Option, None, Some, Result, Ok, Err, length, codes}
 use Rattle.std.specs.List.{flat_map, list_all, AllByRecursion}
 use Rattle.sctp_capture.specs.Frame.{Packet, packet_in}
@@ -19,10 +20,10 @@ use Rattle.sctp_dump.specs.declared.skipped.Skipped.{Skipped}
 use Rattle.sctp_dump.specs.declared.skipped.Skipped.TheVariants as skipped
 use Rattle.sctp_dump.specs.declared.skipped.Part.TheVariants as part
 use Rattle.sctp_dump.specs.Block.{Block}
-use Rattle.sctp_dump.specs.Counts.{one_more}
+use Rattle.sctp_dump.specs.Counts.{one_more, Entry}
 use Rattle.sctp_dump.specs.Records.{skipped_for}
 use Rattle.sctp_dump.specs.Seen.{time_text, direction_text}
-use Rattle.sctp_dump.specs.Skip.{skipped_text}
+use Rattle.sctp_dump.specs.Skip.{skipped_entry}
 
 -- ---- lines
 
@@ -52,8 +53,8 @@ numbered number time = record {
 }
 
 -- the line of a line that is skipped
-abbrev pub skipped_line : Options → ℕ → Skipped → List ℕ
-skipped_line o number why = skipped_text o part.Line number why
+abbrev pub skipped_line : Options → ℕ → Skipped → List Entry
+skipped_line o number why = skipped_entry o part.Line number why
 
 -- ---- dumps
 
@@ -73,25 +74,25 @@ abbrev pub closed : ℕ → State
 closed packets = record { dump = None; packets = packets }
 
 -- the text of the SCTP packet in an IP packet, or the line that says why there is none
-abbrev pub IpText : Options → ℕ → ℕ → Result Packet NoPacket → List ℕ → Type 0
-IpText o number first_line (Ok p) text =
-    Block o (record { number = number; time = Unknown; addresses = p.addresses; udp_ports = p.udp_ports }) p.bytes text
-IpText o number first_line (Err why) text = text ≡ skipped_line o first_line (skipped_for why)
+abbrev pub IpText : Options → ℕ → ℕ → Result Packet NoPacket → List Entry → Type 0
+IpText o number first_line (Ok p) entries =
+    Block o (record { number = number; time = Unknown; addresses = p.addresses; udp_ports = p.udp_ports }) p.bytes entries
+IpText o number first_line (Err why) entries = entries ≡ skipped_line o first_line (skipped_for why)
 
 -- the text of a dump's bytes: of xxd an SCTP packet's, of tcpdump an IP packet's
-abbrev pub DumpedText : Options → ℕ → DumpForm → List ℕ → ℕ → List ℕ → Type 0
-DumpedText o number Xxd bytes first_line text = Block o (numbered number Unknown) bytes text
-DumpedText o number Tcpdump bytes first_line text =
-    IpText o number first_line (packet_in 101 0 bytes) text
+abbrev pub DumpedText : Options → ℕ → DumpForm → List ℕ → ℕ → List Entry → Type 0
+DumpedText o number Xxd bytes first_line entries = Block o (numbered number Unknown) bytes entries
+DumpedText o number Tcpdump bytes first_line entries =
+    IpText o number first_line (packet_in 101 0 bytes) entries
 
 -- the text of the dump that ends, if one is open; it is the next packet
-abbrev pub OpenText : Options → ℕ → Option OpenDump → List ℕ → Type 0
-OpenText o packets None text = text ≡ []
-OpenText o packets (Some d) text =
-    DumpedText o (one_more packets) d.form d.bytes d.first_line text
+abbrev pub OpenText : Options → ℕ → Option OpenDump → List Entry → Type 0
+OpenText o packets None entries = entries ≡ []
+OpenText o packets (Some d) entries =
+    DumpedText o (one_more packets) d.form d.bytes d.first_line entries
 
-abbrev pub EndText : Options → State → List ℕ → Type 0
-EndText o s text = OpenText o s.packets s.dump text
+abbrev pub EndText : Options → State → List Entry → Type 0
+EndText o s entries = OpenText o s.packets s.dump entries
 
 -- how many packets there are with the open dump
 abbrev pub with_open : ℕ → Option OpenDump → ℕ
@@ -122,21 +123,21 @@ abbrev pub begun_by : ℕ → DumpedBytes → OpenDump
 begun_by number part = record { form = part.form; bytes = part.bytes; first_line = number }
 
 -- the text of a packet of a log
-abbrev pub LoggedText : Options → ℕ → LoggedPacket → List ℕ → Type 0
-LoggedText o number l text =
+abbrev pub LoggedText : Options → ℕ → LoggedPacket → List Entry → Type 0
+LoggedText o number l entries =
     (time : Time) × (time_text time ≡ codes ", time " ++ l.time ++ direction_text l.direction)
-    × Block o (numbered number time) l.packet text
+    × Block o (numbered number time) l.packet entries
 
 -- the text of a line that continues no dump, after as many packets
-abbrev pub OwnText : Options → ℕ → ℕ → Line → List ℕ → Type 0
-OwnText o number packets said.Blank text = text ≡ []
-OwnText o number packets said.Comment text = text ≡ []
-OwnText o number packets (said.Packet bytes) text =
-    Block o (numbered (one_more packets) Unknown) bytes text
-OwnText o number packets (said.Logged l) text = LoggedText o (one_more packets) l text
-OwnText o number packets (said.Dumped part) text =
-    text ≡ (if part.offset == 0 then [] else skipped_line o number skipped.Apart)
-OwnText o number packets said.Unknown text = text ≡ skipped_line o number skipped.Unknown
+abbrev pub OwnText : Options → ℕ → ℕ → Line → List Entry → Type 0
+OwnText o number packets said.Blank entries = entries ≡ []
+OwnText o number packets said.Comment entries = entries ≡ []
+OwnText o number packets (said.Packet bytes) entries =
+    Block o (numbered (one_more packets) Unknown) bytes entries
+OwnText o number packets (said.Logged l) entries = LoggedText o (one_more packets) l entries
+OwnText o number packets (said.Dumped part) entries =
+    entries ≡ (if part.offset == 0 then [] else skipped_line o number skipped.Apart)
+OwnText o number packets said.Unknown entries = entries ≡ skipped_line o number skipped.Unknown
 
 -- what is known after it: it may begin a dump
 abbrev pub after_own : ℕ → ℕ → Line → State
@@ -152,64 +153,65 @@ after_own number packets said.Unknown = closed packets
 
 -- The text of a line that says this, and what is known after it. A line that doesn't continue the
 -- open dump ends it. A dump of more than 262,144 bytes isn't continued, and not printed.
-pub data SaidText (o : Options) (number : ℕ) (s : State) (line : Line) (after : State) (text : List ℕ)
-    : Type 0 where
+pub data SaidText (o : Options) (number : ℕ) (s : State) (line : Line) (after : State)
+    (entries : List Entry) : Type 0 where
   continued : (d : OpenDump) (part : DumpedBytes) → s.dump ≡ Some d → line ≡ said.Dumped part
       → Continues line s.dump → length d.bytes ≤ 262144
-      → after ≡ record { dump = Some (continued_by d part); packets = s.packets } → text ≡ []
-      → SaidText o number s line after text
+      → after ≡ record { dump = Some (continued_by d part); packets = s.packets } → entries ≡ []
+      → SaidText o number s line after entries
   dropped : (d : OpenDump) → s.dump ≡ Some d → Continues line s.dump → 262144 < length d.bytes
-      → after ≡ closed s.packets → text ≡ skipped_line o number skipped.TooLong
-      → SaidText o number s line after text
-  ended : (of_dump own : List ℕ) → (Continues line s.dump → ⊥) → EndText o s of_dump
+      → after ≡ closed s.packets → entries ≡ skipped_line o number skipped.TooLong
+      → SaidText o number s line after entries
+  ended : (of_dump own : List Entry) → (Continues line s.dump → ⊥) → EndText o s of_dump
       → OwnText o number (packets_at_end s) line own
-      → after ≡ after_own number (packets_at_end s) line → text ≡ of_dump ++ own
-      → SaidText o number s line after text
+      → after ≡ after_own number (packets_at_end s) line → entries ≡ of_dump ++ own
+      → SaidText o number s line after entries
 
 -- the text of the line of this number; a line of more than 262,144 bytes isn't looked at
-pub data LineText (o : Options) (number : ℕ) (s : State) (line : List ℕ) (after : State) (text : List ℕ)
-    : Type 0 where
-  kept : length line ≤ 262144 → SaidText o number s (line_of line) after text
-      → LineText o number s line after text
-  too_long : (of_dump : List ℕ) → 262144 < length line → EndText o s of_dump
-      → after ≡ closed (packets_at_end s) → text ≡ of_dump ++ skipped_line o number skipped.TooLong
-      → LineText o number s line after text
+pub data LineText (o : Options) (number : ℕ) (s : State) (line : List ℕ) (after : State)
+    (entries : List Entry) : Type 0 where
+  kept : length line ≤ 262144 → SaidText o number s (line_of line) after entries
+      → LineText o number s line after entries
+  too_long : (of_dump : List Entry) → 262144 < length line → EndText o s of_dump
+      → after ≡ closed (packets_at_end s) → entries ≡ of_dump ++ skipped_line o number skipped.TooLong
+      → LineText o number s line after entries
 
 -- the texts of lines, one after the other, the first of which has this number
-abbrev pub LineTexts : Options → ℕ → State → List (List ℕ) → State → List ℕ → Type 0
-LineTexts o number s [] after text = (after ≡ s) × (text ≡ [])
-LineTexts o number s (line ∷ lines) after text =
-    (next : State) × (first rest : List ℕ) × LineText o number s line next first
-    × LineTexts o (number + 1) next lines after rest × (text ≡ first ++ rest)
+abbrev pub LineTexts : Options → ℕ → State → List (List ℕ) → State → List Entry → Type 0
+LineTexts o number s [] after entries = (after ≡ s) × (entries ≡ [])
+LineTexts o number s (line ∷ lines) after entries =
+    (next : State) × (first rest : List Entry) × LineText o number s line next first
+    × LineTexts o (number + 1) next lines after rest × (entries ≡ first ++ rest)
 
 -- the text of what follows the last line feed, if anything does
-abbrev pub LastText : Options → ℕ → State → List ℕ → State → List ℕ → Type 0
-LastText o number s [] after text = (after ≡ s) × (text ≡ [])
-LastText o number s (byte ∷ bytes) after text = LineText o number s (byte ∷ bytes) after text
+abbrev pub LastText : Options → ℕ → State → List ℕ → State → List Entry → Type 0
+LastText o number s [] after entries = (after ≡ s) × (entries ≡ [])
+LastText o number s (byte ∷ bytes) after entries = LineText o number s (byte ∷ bytes) after entries
 
 -- ---- a text
 
 -- The text of all lines, numbered from 1, and what is known after them.
-pub record LinesText (o : Options) (bytes : List ℕ) (after : State) (text : List ℕ) : Type 0 where
+pub record LinesText (o : Options) (bytes : List ℕ) (after : State) (entries : List Entry)
+    : Type 0 where
   pub lines : List (List ℕ)
   pub last : List ℕ
   pub before_last : State
-  pub of_lines : List ℕ
-  pub of_last : List ℕ
+  pub of_lines : List Entry
+  pub of_last : List Entry
   pub are_lines : AreLines bytes lines last
   pub texts : LineTexts o 1 (closed 0) lines before_last of_lines
   pub last_text : LastText o (length lines + 1) before_last last after of_last
-  pub whole : text ≡ of_lines ++ of_last
+  pub whole : entries ≡ of_lines ++ of_last
 
 -- and then that of the dump that is open at the end
-pub record TextText (o : Options) (bytes text : List ℕ) : Type 0 where
+pub record TextText (o : Options) (bytes : List ℕ) (entries : List Entry) : Type 0 where
   pub after : State
-  pub of_lines : List ℕ
-  pub of_dump : List ℕ
+  pub of_lines : List Entry
+  pub of_dump : List Entry
   pub lines_text : LinesText o bytes after of_lines
   pub end_text : EndText o after of_dump
-  pub whole : text ≡ of_lines ++ of_dump
+  pub whole : entries ≡ of_lines ++ of_dump
 
 -- of a beginning of a text: the dump that is open isn't printed
-abbrev pub TextBeginning : Options → List ℕ → List ℕ → Type 0
-TextBeginning o bytes text = (after : State) × LinesText o bytes after text
+abbrev pub TextBeginning : Options → List ℕ → List Entry → Type 0
+TextBeginning o bytes entries = (after : State) × LinesText o bytes after entries

@@ -1,4 +1,5 @@
--- The text of a pcap file: of its records, one after the other, and of what is cut off at its end.
+-- What is found in a pcap file: in its records, one after the other, and in what is cut off at its
+-- end. An entry is a text and what is counted.
 use Rattle.std.specs.Prelude.{◌≡◌, ◌+◌, ◌≤◌, ◌<◌, ◌==◌, ◌&&◌, ◌⊎◌, ℕ, true, List, [], ◌∷◌, ◌++◌, if◌then◌else◌, Some, Result, Ok, Err, nat_lt, nat_le, length, drop}
 use Rattle.sctp_capture.specs.Pcap.{Record, BeginsWithRecord, AreRecords, captured_length, file_header}
 use Rattle.sctp_capture.specs.Frame.{Packet, packet_in, is_known_link}
@@ -13,7 +14,8 @@ use Rattle.sctp_dump.specs.declared.skipped.Skipped.{Skipped}
 use Rattle.sctp_dump.specs.declared.skipped.Skipped.TheVariants.{Fragment, Cut, Malformed, Other, TooLong, EndsIn}
 use Rattle.sctp_dump.specs.declared.skipped.Part.TheVariants as part
 use Rattle.sctp_dump.specs.Block.{Block}
-use Rattle.sctp_dump.specs.Skip.{skipped_text}
+use Rattle.sctp_dump.specs.Counts.{Entry}
+use Rattle.sctp_dump.specs.Skip.{skipped_entry}
 
 -- ---- a record
 
@@ -33,29 +35,29 @@ skipped_for frame.Malformed = Malformed
 skipped_for frame.Other = Other
 
 -- the line of a record that is skipped
-abbrev pub skipped_record : Options → ℕ → Skipped → List ℕ
-skipped_record o number why = skipped_text o part.Record number why
+abbrev pub skipped_record : Options → ℕ → Skipped → List Entry
+skipped_record o number why = skipped_entry o part.Record number why
 
 -- the text of the packet that is found in the record's frame, or the line that says why there is none
-abbrev pub FrameText : Options → FileHeader → ℕ → Record → Result Packet NoPacket → List ℕ → Type 0
-FrameText o header number r (Ok p) text = Block o (seen_in header number r p) p.bytes text
-FrameText o header number r (Err why) text = text ≡ skipped_record o number (skipped_for why)
+abbrev pub FrameText : Options → FileHeader → ℕ → Record → Result Packet NoPacket → List Entry → Type 0
+FrameText o header number r (Ok p) entries = Block o (seen_in header number r p) p.bytes entries
+FrameText o header number r (Err why) entries = entries ≡ skipped_record o number (skipped_for why)
 
 -- the text of the record of this number; a frame of more than 262,144 bytes isn't looked at
-pub data RecordText (o : Options) (header : FileHeader) (number : ℕ) (r : Record) (text : List ℕ)
-    : Type 0 where
+pub data RecordText (o : Options) (header : FileHeader) (number : ℕ) (r : Record)
+    (entries : List Entry) : Type 0 where
   kept : length r.frame ≤ 262144
-      → FrameText o header number r (packet_in header.link_type r.original_length r.frame) text
-      → RecordText o header number r text
-  too_long : 262144 < length r.frame → text ≡ skipped_record o number TooLong
-      → RecordText o header number r text
+      → FrameText o header number r (packet_in header.link_type r.original_length r.frame) entries
+      → RecordText o header number r entries
+  too_long : 262144 < length r.frame → entries ≡ skipped_record o number TooLong
+      → RecordText o header number r entries
 
 -- the texts of records, one after the other, the first of which has this number
-abbrev pub RecordTexts : Options → FileHeader → ℕ → List Record → List ℕ → Type 0
-RecordTexts o header number [] text = text ≡ []
-RecordTexts o header number (r ∷ rs) text =
-    (first rest : List ℕ) × RecordText o header number r first
-    × RecordTexts o header (number + 1) rs rest × (text ≡ first ++ rest)
+abbrev pub RecordTexts : Options → FileHeader → ℕ → List Record → List Entry → Type 0
+RecordTexts o header number [] entries = entries ≡ []
+RecordTexts o header number (r ∷ rs) entries =
+    (first rest : List Entry) × RecordText o header number r first
+    × RecordTexts o header (number + 1) rs rest × (entries ≡ first ++ rest)
 
 -- ---- the end of a file
 
@@ -66,36 +68,37 @@ cut_reason order cut =
     if nat_le 16 (length cut) && nat_lt 262144 (captured_length order cut) then TooLong else EndsIn
 
 -- the line of these bytes, which would be the record of this number; none where there are no bytes
-abbrev pub cut_text : Options → ByteOrder → ℕ → List ℕ → List ℕ
+abbrev pub cut_text : Options → ByteOrder → ℕ → List ℕ → List Entry
 cut_text o order number cut =
     if length cut == 0 then [] else skipped_record o number (cut_reason order cut)
 
 -- the text of bytes that are no whole record
-abbrev pub CutText : Options → FileHeader → ℕ → List ℕ → List ℕ → Type 0
-CutText o header number bytes text =
+abbrev pub CutText : Options → FileHeader → ℕ → List ℕ → List Entry → Type 0
+CutText o header number bytes entries =
     (BeginsWithRecord header.format.order bytes → ⊥)
-    × (text ≡ cut_text o header.format.order number bytes)
+    × (entries ≡ cut_text o header.format.order number bytes)
 
 -- ---- a file
 
 -- The text of the bytes after a file header: of their records, numbered from 1, and of what is cut
 -- off after them.
-pub record RecordsText (o : Options) (header : FileHeader) (bytes text : List ℕ) : Type 0 where
+pub record RecordsText (o : Options) (header : FileHeader) (bytes : List ℕ) (entries : List Entry)
+    : Type 0 where
   pub records : List Record
   pub cut : List ℕ
-  pub of_records : List ℕ
+  pub of_records : List Entry
   pub are_records : AreRecords header.format.order bytes records cut
   pub texts : RecordTexts o header 1 records of_records
-  pub whole : text ≡ of_records ++ cut_text o header.format.order (length records + 1) cut
+  pub whole : entries ≡ of_records ++ cut_text o header.format.order (length records + 1) cut
 
 -- the text of a pcap file whose header has 24 bytes, and a link type whose frames are read
-pub record PcapText (o : Options) (file text : List ℕ) : Type 0 where
+pub record PcapText (o : Options) (file : List ℕ) (entries : List Entry) : Type 0 where
   pub header : FileHeader
   pub header_size : 24 ≤ length file
   pub header_read : file_header file ≡ Some header
   pub known_link : is_known_link header.link_type ≡ true
-  pub after_header : RecordsText o header (drop 24 file) text
+  pub after_header : RecordsText o header (drop 24 file) entries
 
 -- of a beginning of a file: nothing before its header was read
-abbrev pub PcapBeginning : Options → List ℕ → List ℕ → Type 0
-PcapBeginning o bytes text = ((bytes ≡ []) × (text ≡ [])) ⊎ PcapText o bytes text
+abbrev pub PcapBeginning : Options → List ℕ → List Entry → Type 0
+PcapBeginning o bytes entries = ((bytes ≡ []) × (entries ≡ [])) ⊎ PcapText o bytes entries

@@ -1,4 +1,4 @@
--- Which text a run over an input adds: that of a pcap file, or of lines.
+-- Which entries a run over an input adds: those of a pcap file, or of lines.
 use Rattle.std.specs.Prelude.{◌≡◌, ℕ, Bool, true, false, List, [], Option, IfSome, Result, Ok, Err}
 use Rattle.watched_io.specs.declared.stream.StreamError.{StreamError}
 use Rattle.sctp_capture.specs.Pcap.{input_kind}
@@ -10,7 +10,8 @@ use Rattle.sctp_dump.specs.declared.arguments.Form.TheVariants as form
 use Rattle.sctp_dump.specs.declared.failure.Failure.{Failure}
 use Rattle.sctp_dump.specs.declared.failure.Failure.TheVariants as failure
 use Rattle.sctp_dump.specs.Failed.{failure_of}
-use Rattle.sctp_dump.specs.Prints.{PrintsAll, PrintsBeginning, Grows}
+use Rattle.sctp_dump.specs.Counts.{Entry}
+use Rattle.sctp_dump.specs.Prints.{Out, PrintsAll, PrintsBeginning, Grows}
 use Rattle.sctp_dump.specs.Records.{PcapText, PcapBeginning}
 use Rattle.sctp_dump.specs.Lines.{TextText, TextBeginning}
 
@@ -27,29 +28,29 @@ is_pcap form.Pcap bytes = Ok true
 is_pcap form.Text bytes = Ok false
 
 -- the text of an input that is read so
-abbrev pub InputText : Options → Bool → List ℕ → List ℕ → Type 0
-InputText o true bytes text = PcapText o bytes text
-InputText o false bytes text = TextText o bytes text
+abbrev pub InputText : Options → Bool → List ℕ → List Entry → Type 0
+InputText o true bytes entries = PcapText o bytes entries
+InputText o false bytes entries = TextText o bytes entries
 
 -- of a beginning of it
-abbrev pub InputBeginning : Options → Bool → List ℕ → List ℕ → Type 0
-InputBeginning o true bytes text = PcapBeginning o bytes text
-InputBeginning o false bytes text = TextBeginning o bytes text
+abbrev pub InputBeginning : Options → Bool → List ℕ → List Entry → Type 0
+InputBeginning o true bytes entries = PcapBeginning o bytes entries
+InputBeginning o false bytes entries = TextBeginning o bytes entries
 
 -- an input, of which `left` is known, is read so: its first bytes or the options say it
 abbrev pub ReadsAs : Options → Option (List ℕ) → Result Bool Failure → Type 0
 ReadsAs o left kind = IfSome left (λ l. is_pcap o.form l ≡ kind)
 
 -- the output grew by the text of all that was left, read as a pcap file or as lines
-pub record PrintsInput (o : Options) (left old new : Option (List ℕ)) : Type 0 where
+pub record PrintsInput (o : Options) (left : Option (List ℕ)) (old new : Out) : Type 0 where
   pub pcap : Bool
   pub read_as : ReadsAs o left (Ok pcap)
   pub prints : PrintsAll (InputText o pcap) left old new
 
 -- After a failure the output was to grow by the text of a beginning of it, and no more. It wasn't to
 -- grow if the devices failed before the form was known, or an input of that form is refused.
-pub data BeginsInput (o : Options) (failure : Failure) (left old new written : Option (List ℕ))
-    : Type 0 where
+pub data BeginsInput (o : Options) (failure : Failure) (left : Option (List ℕ)) (old new : Out)
+    (written : Option (List ℕ)) : Type 0 where
   unread : (e : StreamError) → failure ≡ failure_of e → Grows failure old new written []
       → BeginsInput o failure left old new written
   refused : ReadsAs o left (Err failure) → Grows failure old new written []

@@ -4,6 +4,7 @@ use Rattle.std.specs.Fmt.{decimal}
 use Rattle.sctp_dump.specs.declared.arguments.Options.{Options}
 use Rattle.sctp_dump.specs.declared.skipped.Skipped.{Skipped}
 use Rattle.sctp_dump.specs.declared.skipped.Skipped.TheVariants.{Other, Fragment, Cut, Malformed, TooLong, EndsIn, Unknown, Apart}
+use Rattle.sctp_dump.specs.Counts.{Entry, Skip, one}
 use Rattle.sctp_dump.specs.declared.skipped.Part.{Part}
 use Rattle.sctp_dump.specs.declared.skipped.Part.TheVariants.{Record, Line}
 
@@ -39,3 +40,6 @@ is_other Apart = false
 abbrev pub skipped_text : Options → Part → ℕ → Skipped → List ℕ
 skipped_text o part number why =
     if o.summary || o.faults || is_other why then [] else skipped_line part number why
+
+abbrev pub skipped_entry : Options → Part → ℕ → Skipped → List Entry
+skipped_entry o part number why = one (skipped_text o part number why) (Skip why)

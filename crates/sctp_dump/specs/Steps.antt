@@ -1,12 +1,14 @@
 -- What a step of a run took from the front of what was left, and what the output grew by.
 use Rattle.std.specs.Prelude.{◌≡◌, ◌<◌, ◌^◌, ℕ, true, List, length, Option, Some, IfSome}
-use Rattle.std.specs.Io.KnownBytes.{Consumes, Appends}
+use Rattle.std.specs.Io.KnownBytes.{Consumes}
 use Rattle.sctp_capture.specs.Pcap.{Record, Fits, record_bytes, record_of, file_header}
 use Rattle.sctp_capture.specs.Frame.{packet_in, is_known_link}
 use Rattle.sctp_capture.specs.declared.pcap.FileHeader.{FileHeader}
 use Rattle.sctp_capture.specs.declared.pcap.RecordHeader.{RecordHeader}
 use Rattle.sctp_dump.specs.declared.arguments.Options.{Options}
 use Rattle.sctp_dump.specs.declared.skipped.Skipped.TheVariants.{TooLong}
+use Rattle.sctp_dump.specs.Counts.{Entry}
+use Rattle.sctp_dump.specs.Prints.{Out, Adds}
 use Rattle.sctp_dump.specs.Records.{FrameText, RecordText, skipped_record}
 
 -- the file header was taken
@@ -19,37 +21,38 @@ pub record TakesHeader (header : FileHeader) (before after : Option (List ℕ)) 
 
 -- a record was taken
 pub record TakesRecord (o : Options) (header : FileHeader) (number : ℕ)
-    (before after old new : Option (List ℕ)) : Type 0 where
+    (before after : Option (List ℕ)) (old new : Out) : Type 0 where
   pub taken : Record
-  pub text : List ℕ
+  pub entries : List Entry
   pub fits : Fits taken
-  pub has_text : RecordText o header number taken text
+  pub finds : RecordText o header number taken entries
   pub consumes : Consumes before after (record_bytes header.format.order taken)
-  pub appends : Appends old new text
+  pub adds : Adds old new entries
 
 -- the text of a frame that is kept, by its record
-abbrev pub KeptText : Options → FileHeader → RecordHeader → ℕ → List ℕ → List ℕ → Type 0
-KeptText o header r number frame text =
+abbrev pub KeptText : Options → FileHeader → RecordHeader → ℕ → List ℕ → List Entry → Type 0
+KeptText o header r number frame entries =
     FrameText o header number (record_of r frame)
-    (packet_in header.link_type r.original_length frame) text
+    (packet_in header.link_type r.original_length frame) entries
 
 -- the text of any frame that is too long
-abbrev pub LongText : Options → ℕ → List ℕ → List ℕ → Type 0
-LongText o number frame text = text ≡ skipped_record o number TooLong
+abbrev pub LongText : Options → ℕ → List ℕ → List Entry → Type 0
+LongText o number frame entries = entries ≡ skipped_record o number TooLong
 
 -- a frame of this size was taken
-pub record TakesFrame (Text : List ℕ → List ℕ → Type 0) (size : ℕ)
-    (before after old new : Option (List ℕ)) : Type 0 where
+pub record TakesFrame (Finds : List ℕ → List Entry → Type 0) (size : ℕ)
+    (before after : Option (List ℕ)) (old new : Out) : Type 0 where
   pub frame : List ℕ
-  pub text : List ℕ
+  pub entries : List Entry
   pub size_is : length frame ≡ size
-  pub has_text : Text frame text
+  pub finds : Finds frame entries
   pub consumes : Consumes before after frame
-  pub appends : Appends old new text
+  pub adds : Adds old new entries
 
 -- all that was left is less than a frame of this size
-pub record LacksFrame (text : List ℕ) (size : ℕ) (before old new : Option (List ℕ)) : Type 0 where
+pub record LacksFrame (entries : List Entry) (size : ℕ) (before : Option (List ℕ)) (old new : Out)
+    : Type 0 where
   pub rest : List ℕ
   pub short : length rest < size
   pub all : IfSome before (λ l. length l < 2 ^ 64 → l ≡ rest)
-  pub appends : Appends old new text
+  pub adds : Adds old new entries

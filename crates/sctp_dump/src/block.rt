@@ -1,11 +1,12 @@
 //! The text of a packet, or of bytes that are refused.
 
-ghost use Rattle.std.specs.Prelude.{◌≡◌, ◌++◌, ◌||◌, ℕ, List, codes, OnOk, string_bytes};
+ghost use Rattle.std.specs.Prelude.{◌≡◌, ◌++◌, ◌||◌, List, codes, OnOk, string_bytes};
 ghost use Rattle.dcsctp_wire.specs.Packet.{packet_view};
 ghost use Rattle.sctp_report.specs.Packet.{packet_lines};
 ghost use Rattle.sctp_report.specs.Fault.{fault_lines};
 ghost use Rattle.sctp_dump.specs.Seen.{seen_lines};
-ghost use Rattle.sctp_dump.specs.Skip.{skipped_text};
+ghost use Rattle.sctp_dump.specs.Counts.{Entry, Pushes};
+ghost use Rattle.sctp_dump.specs.Skip.{skipped_entry};
 ghost use Rattle.sctp_dump.specs.Block.{Block, policy_of, most_shown, unless};
 
 use crate::arguments::Options;
@@ -48,8 +49,9 @@ pub fn push_packet(
     text: &mut String,
     counts: &mut Counts,
 ) -> Result<(), AllocError>
-    ensures { OnOk result ((block : List ℕ) × Block options.now seen.now bytes.now block
-        × (string_bytes text.new ≡ string_bytes text.old ++ block)) }
+    ensures { OnOk result ((block : List Entry) × Block options.now seen.now bytes.now block
+        × Pushes block
+        (string_bytes text.old) (string_bytes text.new) counts.old counts.new) }
 {
     let word = packet_word(bytes);
     let policy = options.policy();
@@ -122,8 +124,8 @@ pub fn push_skipped(
     text: &mut String,
     counts: &mut Counts,
 ) -> Result<(), AllocError>
-    ensures { OnOk result (string_bytes text.new ≡ string_bytes text.old
-        ++ skipped_text options.now part number why) }
+    ensures { OnOk result (Pushes (skipped_entry options.now part number why)
+        (string_bytes text.old) (string_bytes text.new) counts.old counts.new) }
 {
     if !(options.summary || options.faults || why.is_other()) {
         let line = SkippedLine { part, number, why };

@@ -1,6 +1,6 @@
 //! The records of a pcap file.
 
-ghost use Rattle.std.specs.Prelude.{◌≡◌, ◌<◌, ◌≤◌, ◌++◌, ℕ, List, [], true, false, length, take, IfOk, IfErr, OnOk, string_bytes};
+ghost use Rattle.std.specs.Prelude.{◌≡◌, ◌<◌, ◌≤◌, List, [], true, false, length, take, IfOk, IfErr, OnOk, string_bytes};
 ghost use Rattle.std.specs.Io.KnownBytes.{Keeps};
 ghost use Rattle.watched_io.specs.Watched.{device_of};
 ghost use Rattle.watched_io.specs.Window.{held, left};
@@ -9,7 +9,8 @@ ghost use Rattle.sctp_capture.specs.Frame.{packet_in};
 ghost use Rattle.sctp_capture.specs.Pcap.{record_of};
 ghost use Rattle.sctp_capture.specs.declared.pcap.ByteOrder.{ByteOrder};
 ghost use Rattle.sctp_dump.specs.declared.skipped.Skipped.{Skipped};
-ghost use Rattle.sctp_dump.specs.Prints.{PrintsAll, PrintsBeginning, Grows};
+ghost use Rattle.sctp_dump.specs.Counts.{Entry, Pushes};
+ghost use Rattle.sctp_dump.specs.Prints.{out, PrintsAll, PrintsBeginning, Grows, Stops};
 ghost use Rattle.sctp_dump.specs.Records.{FrameText, cut_text, CutText, RecordsText, PcapText, PcapBeginning, skipped_for, skipped_record};
 ghost use Rattle.sctp_dump.specs.Steps.{KeptText, LongText, TakesHeader, TakesRecord, TakesFrame, LacksFrame};
 
@@ -43,12 +44,14 @@ pub fn dump_pcap<R: Read, W: Write>(
 ) -> Result<(), Failure>
     ensures whole { OnOk result (PrintsAll (PcapText options.now)
         (left window.old (R.remaining (device_of input.old)))
-        (total W.contents output.old) (total W.contents output.new)) }
+        (out (total W.contents output.old) counts.old)
+        (out (total W.contents output.new) counts.new)) }
 
     // What was written before a failure is true of the input.
     ensures begun { IfErr result (λ failure. PrintsBeginning (PcapBeginning options.now) failure
         (left window.old (R.remaining (device_of input.old)))
-        (total W.contents output.old) (total W.contents output.new)
+        (out (total W.contents output.old) counts.old)
+        (out (total W.contents output.new) counts.new)
         (W.contents (device_of (writer_of output.new)))) }
 {
     let header = read_header(window, input, output)?;
@@ -67,11 +70,13 @@ fn dump_records<R: Read, W: Write>(
 ) -> Result<(), Failure>
     ensures whole { OnOk result (PrintsAll (RecordsText options.now header.now)
         (left window.old (R.remaining (device_of input.old)))
-        (total W.contents output.old) (total W.contents output.new)) }
+        (out (total W.contents output.old) counts.old)
+        (out (total W.contents output.new) counts.new)) }
     ensures begun { IfErr result (λ failure.
         PrintsBeginning (RecordsText options.now header.now) failure
         (left window.old (R.remaining (device_of input.old)))
-        (total W.contents output.old) (total W.contents output.new)
+        (out (total W.contents output.old) counts.old)
+        (out (total W.contents output.new) counts.new)
         (W.contents (device_of (writer_of output.new)))) }
 {
     for number in 1..u64::MAX {
@@ -96,9 +101,9 @@ fn read_header<R: Read, W: Write>(
         (left window.old (R.remaining (device_of input.old)))
         (left window.new (R.remaining (device_of input.new)))) }
     ensures text { OnOk result (Keeps (total W.contents output.old) (total W.contents output.new)) }
-    ensures stopped { IfErr result (λ failure. Grows failure
+    ensures stopped { IfErr result (λ failure. Stops failure
         (total W.contents output.old) (total W.contents output.new)
-        (W.contents (device_of (writer_of output.new))) []) }
+        (W.contents (device_of (writer_of output.new)))) }
 {
     let whole = need(window, input, output, FILE_HEADER_SIZE)?;
     if !matches!(input_kind(window.held()), InputKind::Pcap(_)) {
@@ -131,15 +136,18 @@ fn take_record<R: Read, W: Write>(
     ensures next { IfOk result (λ more. more ≡ true → TakesRecord options.now header.now number
         (left window.old (R.remaining (device_of input.old)))
         (left window.new (R.remaining (device_of input.new)))
-        (total W.contents output.old) (total W.contents output.new)) }
+        (out (total W.contents output.old) counts.old)
+        (out (total W.contents output.new) counts.new)) }
     ensures end { IfOk result (λ more. more ≡ false
         → PrintsAll (CutText options.now header.now number)
         (left window.old (R.remaining (device_of input.old)))
-        (total W.contents output.old) (total W.contents output.new)) }
+        (out (total W.contents output.old) counts.old)
+        (out (total W.contents output.new) counts.new)) }
     ensures stopped { IfErr result (λ failure.
         PrintsBeginning (CutText options.now header.now number) failure
         (left window.old (R.remaining (device_of input.old)))
-        (total W.contents output.old) (total W.contents output.new)
+        (out (total W.contents output.old) counts.old)
+        (out (total W.contents output.new) counts.new)
         (W.contents (device_of (writer_of output.new)))) }
 {
     let whole = need(window, input, output, RECORD_HEADER_SIZE)?;
@@ -183,8 +191,9 @@ fn skip_rest<W: Write>(
     counts: &mut Counts,
 ) -> Result<(), AllocError>
     requires { length (held window.now) < 16 }
-    ensures text { OnOk result ((order : ByteOrder) → pending output.new ≡ pending output.old
-        ++ cut_text options.now order number (held window.now)) }
+    ensures text { OnOk result ((order : ByteOrder) → Pushes
+        (cut_text options.now order number (held window.now))
+        (pending output.old) (pending output.new) counts.old counts.new) }
     ensures kept { writer_of output.new ≡ writer_of output.old }
 {
     if window.len() == 0 {
@@ -210,13 +219,16 @@ fn take_frame<R: Read, W: Write>(
         → TakesFrame (KeptText options.now header.now record_header.now number)
         record_header.now.captured_length (left window.old (R.remaining (device_of input.old)))
         (left window.new (R.remaining (device_of input.new)))
-        (total W.contents output.old) (total W.contents output.new)) }
+        (out (total W.contents output.old) counts.old)
+        (out (total W.contents output.new) counts.new)) }
     ensures end { IfOk result (λ more. more ≡ false
         → LacksFrame (skipped_record options.now number Skipped.EndsIn)
         record_header.now.captured_length (left window.old (R.remaining (device_of input.old)))
-        (total W.contents output.old) (total W.contents output.new)) }
+        (out (total W.contents output.old) counts.old)
+        (out (total W.contents output.new) counts.new)) }
     ensures stopped { IfErr result (λ failure. Grows failure
-        (total W.contents output.old) (total W.contents output.new)
+        (out (total W.contents output.old) counts.old)
+        (out (total W.contents output.new) counts.new)
         (W.contents (device_of (writer_of output.new))) []) }
 {
     let size = record_header.captured_length as usize;
@@ -263,13 +275,16 @@ fn skip_long<R: Read, W: Write>(
     ensures next { IfOk result (λ more. more ≡ true → TakesFrame (LongText options.now number)
         record_header.now.captured_length (left window.old (R.remaining (device_of input.old)))
         (left window.new (R.remaining (device_of input.new)))
-        (total W.contents output.old) (total W.contents output.new)) }
+        (out (total W.contents output.old) counts.old)
+        (out (total W.contents output.new) counts.new)) }
     ensures end { IfOk result (λ more. more ≡ false
         → LacksFrame (skipped_record options.now number Skipped.TooLong)
         record_header.now.captured_length (left window.old (R.remaining (device_of input.old)))
-        (total W.contents output.old) (total W.contents output.new)) }
+        (out (total W.contents output.old) counts.old)
+        (out (total W.contents output.new) counts.new)) }
     ensures stopped { IfErr result (λ failure. Grows failure
-        (total W.contents output.old) (total W.contents output.new)
+        (out (total W.contents output.old) counts.old)
+        (out (total W.contents output.new) counts.new)
         (W.contents (device_of (writer_of output.new)))
         (skipped_record options.now number Skipped.TooLong)) }
 {
@@ -291,8 +306,8 @@ fn skip_record<W: Write>(
     output: &mut Output<W>,
     counts: &mut Counts,
 ) -> Result<(), AllocError>
-    ensures text { OnOk result (pending output.new ≡ pending output.old
-        ++ skipped_record options.now number why) }
+    ensures text { OnOk result (Pushes (skipped_record options.now number why)
+        (pending output.old) (pending output.new) counts.old counts.new) }
     ensures kept { writer_of output.new ≡ writer_of output.old }
 {
     push_skipped(options, Part::Record, number, why, &mut output.text, counts)
@@ -309,10 +324,11 @@ fn push_frame(
     text: &mut String,
     counts: &mut Counts,
 ) -> Result<(), AllocError>
-    ensures { OnOk result ((more : List ℕ) × FrameText options.now header.now number
+    ensures { OnOk result ((more : List Entry) × FrameText options.now header.now number
         (record_of record_header.now frame.now)
         (packet_in header.now.link_type record_header.now.original_length frame.now) more
-        × (string_bytes text.new ≡ string_bytes text.old ++ more)) }
+        × Pushes more
+        (string_bytes text.old) (string_bytes text.new) counts.old counts.new) }
 {
     match packet_in(header.link_type, record_header.original_length, frame) {
         Ok(found) => {

@@ -11,8 +11,8 @@ ghost use Rattle.sctp_capture.specs.declared.line.Line.TheVariants.{Dumped};
 ghost use Rattle.sctp_dump.specs.declared.skipped.Skipped.{Skipped};
 ghost use Rattle.sctp_dump.specs.Seen.{time_text, direction_text};
 ghost use Rattle.sctp_dump.specs.Block.{Block};
-ghost use Rattle.sctp_dump.specs.Counts.{one_more};
-ghost use Rattle.sctp_dump.specs.Prints.{PrintsAll, PrintsBeginning, Grows};
+ghost use Rattle.sctp_dump.specs.Counts.{one_more, Entry, Pushes};
+ghost use Rattle.sctp_dump.specs.Prints.{out, PrintsAll, PrintsBeginning, Stops};
 ghost use Rattle.sctp_dump.specs.Lines.{IsLine, numbered, skipped_line, DumpedText, EndText, packets_at_end, closed, Continues, OwnText, after_own, LoggedText, SaidText, LinesText, TextText, TextBeginning};
 ghost use Rattle.sctp_dump.specs.LineSteps.{BeginsWithLine, IsFound, state_of, TakesLine, PrintsRest, LeftText, BeginningText, DropsLine, IsLastLine};
 
@@ -75,12 +75,14 @@ pub fn dump_text<R: Read, W: Write>(
 ) -> Result<(), Failure>
     ensures whole { OnOk result (PrintsAll (TextText options.now)
         (left window.old (R.remaining (device_of input.old)))
-        (total W.contents output.old) (total W.contents output.new)) }
+        (out (total W.contents output.old) counts.old)
+        (out (total W.contents output.new) counts.new)) }
 
     // What was written before a failure is true of the input.
     ensures begun { IfErr result (λ failure. PrintsBeginning (TextBeginning options.now) failure
         (left window.old (R.remaining (device_of input.old)))
-        (total W.contents output.old) (total W.contents output.new)
+        (out (total W.contents output.old) counts.old)
+        (out (total W.contents output.new) counts.new)
         (W.contents (device_of (writer_of output.new)))) }
 {
     let mut dump = Dump::new(alloc);
@@ -103,10 +105,12 @@ fn dump_lines<R: Read, W: Write>(
     ensures whole { OnOk result (PrintsRest
         (λ bytes text. LinesText options.now bytes (state_of dump.new) text)
         (left window.old (R.remaining (device_of input.old)))
-        (total W.contents output.old) (total W.contents output.new)) }
+        (out (total W.contents output.old) counts.old)
+        (out (total W.contents output.new) counts.new)) }
     ensures begun { IfErr result (λ failure. PrintsBeginning (TextBeginning options.now) failure
         (left window.old (R.remaining (device_of input.old)))
-        (total W.contents output.old) (total W.contents output.new)
+        (out (total W.contents output.old) counts.old)
+        (out (total W.contents output.new) counts.new)
         (W.contents (device_of (writer_of output.new)))) }
 {
     for lines in 0..u64::MAX {
@@ -135,15 +139,18 @@ fn take_line<R: Read, W: Write>(
         → TakesLine options.now number (state_of dump.old) (state_of dump.new)
         (left window.old (R.remaining (device_of input.old)))
         (left window.new (R.remaining (device_of input.new)))
-        (total W.contents output.old) (total W.contents output.new)) }
+        (out (total W.contents output.old) counts.old)
+        (out (total W.contents output.new) counts.new)) }
     ensures end { IfOk result (λ more. more ≡ false
         → PrintsRest (LeftText options.now number (state_of dump.old) (state_of dump.new))
         (left window.old (R.remaining (device_of input.old)))
-        (total W.contents output.old) (total W.contents output.new)) }
+        (out (total W.contents output.old) counts.old)
+        (out (total W.contents output.new) counts.new)) }
     ensures stopped { IfErr result (λ failure.
         PrintsBeginning (BeginningText options.now number (state_of dump.old)) failure
         (left window.old (R.remaining (device_of input.old)))
-        (total W.contents output.old) (total W.contents output.new)
+        (out (total W.contents output.old) counts.old)
+        (out (total W.contents output.new) counts.new)
         (W.contents (device_of (writer_of output.new)))) }
 {
     match find_line(window, input, output)? {
@@ -210,9 +217,9 @@ fn find_line<R: Read, W: Write>(
     ensures stream { OnOk result (Keeps (left window.old (R.remaining (device_of input.old)))
         (left window.new (R.remaining (device_of input.new)))) }
     ensures text { OnOk result (Keeps (total W.contents output.old) (total W.contents output.new)) }
-    ensures stopped { IfErr result (λ failure. Grows failure
+    ensures stopped { IfErr result (λ failure. Stops failure
         (total W.contents output.old) (total W.contents output.new)
-        (W.contents (device_of (writer_of output.new))) []) }
+        (W.contents (device_of (writer_of output.new)))) }
 {
     let mut searched = 0;
     while window.len() <= MOST_KEPT {
@@ -259,9 +266,9 @@ fn skip_line<R: Read, W: Write>(
     ensures end { IfOk result (λ more. more ≡ false
         → IsLastLine (left window.old (R.remaining (device_of input.old)))) }
     ensures text { OnOk result (Keeps (total W.contents output.old) (total W.contents output.new)) }
-    ensures stopped { IfErr result (λ failure. Grows failure
+    ensures stopped { IfErr result (λ failure. Stops failure
         (total W.contents output.old) (total W.contents output.new)
-        (W.contents (device_of (writer_of output.new))) []) }
+        (W.contents (device_of (writer_of output.new)))) }
 {
     for reads in 0..u64::MAX {
         if let Some(rest) = line_feed(window.held(), 0) {
@@ -285,9 +292,9 @@ fn push_long(
     text: &mut String,
     counts: &mut Counts,
 ) -> Result<(), AllocError>
-    ensures text { OnOk result ((of_dump : List ℕ) × EndText options.now (state_of dump.old) of_dump
-        × (string_bytes text.new ≡ string_bytes text.old
-        ++ (of_dump ++ skipped_line options.now number Skipped.TooLong))) }
+    ensures text { OnOk result ((of_dump : List Entry) × EndText options.now (state_of dump.old) of_dump
+        × Pushes (of_dump ++ skipped_line options.now number Skipped.TooLong)
+        (string_bytes text.old) (string_bytes text.new) counts.old counts.new) }
     ensures form { OnOk result (dump.new.form ≡ None) }
     ensures packets { OnOk result (dump.new.packets ≡ packets_at_end (state_of dump.old)) }
 {
@@ -305,9 +312,10 @@ fn push_line(
     text: &mut String,
     counts: &mut Counts,
 ) -> Result<(), AllocError>
-    ensures { OnOk result ((more : List ℕ) × SaidText options.now number (state_of dump.old)
+    ensures { OnOk result ((more : List Entry) × SaidText options.now number (state_of dump.old)
         (line_of line.now) (state_of dump.new) more
-        × (string_bytes text.new ≡ string_bytes text.old ++ more)) }
+        × Pushes more
+        (string_bytes text.old) (string_bytes text.new) counts.old counts.new) }
 {
     match read_line(line) {
         Line::Dumped(part) => push_part(alloc, options, part, number, dump, text, counts),
@@ -339,9 +347,10 @@ fn push_logged(
 ) -> Result<(), AllocError>
     requires time { IsTrue (is_time logged.time) }
     requires closed { dump.old.form ≡ None }
-    ensures text { OnOk result ((block : List ℕ)
+    ensures text { OnOk result ((block : List Entry)
         × LoggedText options.now (one_more dump.old.packets) logged.entry block
-        × (string_bytes text.new ≡ string_bytes text.old ++ block)) }
+        × Pushes block
+        (string_bytes text.old) (string_bytes text.new) counts.old counts.new) }
     ensures form { OnOk result (dump.new.form ≡ None) }
     ensures packets { OnOk result (dump.new.packets ≡ one_more dump.old.packets) }
 {
@@ -376,9 +385,10 @@ fn push_bytes(
     counts: &mut Counts,
 ) -> Result<(), AllocError>
     requires { dump.old.form ≡ None }
-    ensures text { OnOk result ((block : List ℕ)
+    ensures text { OnOk result ((block : List Entry)
         × Block options.now (numbered (one_more dump.old.packets) time.entry) bytes.entry block
-        × (string_bytes text.new ≡ string_bytes text.old ++ block)) }
+        × Pushes block
+        (string_bytes text.old) (string_bytes text.new) counts.old counts.new) }
     ensures form { OnOk result (dump.new.form ≡ None) }
     ensures packets { OnOk result (dump.new.packets ≡ one_more dump.old.packets) }
 {
@@ -418,9 +428,10 @@ fn push_part(
     text: &mut String,
     counts: &mut Counts,
 ) -> Result<(), AllocError>
-    ensures { OnOk result ((more : List ℕ) × SaidText options.now number (state_of dump.old)
+    ensures { OnOk result ((more : List Entry) × SaidText options.now number (state_of dump.old)
         (Dumped part.entry) (state_of dump.new) more
-        × (string_bytes text.new ≡ string_bytes text.old ++ more)) }
+        × Pushes more
+        (string_bytes text.old) (string_bytes text.new) counts.old counts.new) }
 {
     if !continues(dump, &part) {
         push_dump(alloc, options, dump, text, counts)?;
@@ -450,9 +461,10 @@ fn begin_dump(
     counts: &mut Counts,
 ) -> Result<(), AllocError>
     requires { dump.old.form ≡ None }
-    ensures text { OnOk result ((own : List ℕ)
+    ensures text { OnOk result ((own : List Entry)
         × OwnText options.now number dump.old.packets (Dumped part.entry) own
-        × (string_bytes text.new ≡ string_bytes text.old ++ own)) }
+        × Pushes own
+        (string_bytes text.old) (string_bytes text.new) counts.old counts.new) }
     ensures state { OnOk result
         (state_of dump.new ≡ after_own number dump.old.packets (Dumped part.entry)) }
 {
@@ -473,8 +485,9 @@ fn push_dump(
     text: &mut String,
     counts: &mut Counts,
 ) -> Result<(), AllocError>
-    ensures text { OnOk result ((more : List ℕ) × EndText options.now (state_of dump.old) more
-        × (string_bytes text.new ≡ string_bytes text.old ++ more)) }
+    ensures text { OnOk result ((more : List Entry) × EndText options.now (state_of dump.old) more
+        × Pushes more
+        (string_bytes text.old) (string_bytes text.new) counts.old counts.new) }
     ensures form { OnOk result (dump.new.form ≡ None) }
     ensures packets { OnOk result (dump.new.packets ≡ packets_at_end (state_of dump.old)) }
 {
@@ -485,9 +498,7 @@ fn push_dump(
     dump.packets = next_number(dump.packets);
     let (number, first_line) = (dump.packets, dump.first_line);
     let bytes = dump.bytes.as_slice();
-    push_dumped(
-        alloc, options, number, form, bytes, first_line, text, counts,
-    )
+    push_dumped(alloc, options, number, form, bytes, first_line, text, counts)
 }
 
 /// Adds the text of the packet of a dump.
@@ -501,9 +512,10 @@ fn push_dumped(
     text: &mut String,
     counts: &mut Counts,
 ) -> Result<(), AllocError>
-    ensures { OnOk result ((more : List ℕ)
+    ensures { OnOk result ((more : List Entry)
         × DumpedText options.now number form bytes.now first_line more
-        × (string_bytes text.new ≡ string_bytes text.old ++ more)) }
+        × Pushes more
+        (string_bytes text.old) (string_bytes text.new) counts.old counts.new) }
 {
     match form {
         DumpForm::Xxd => {

@@ -3,7 +3,8 @@ use Rattle.watched_io.specs.Watched.{device_of}
 use Rattle.watched_io.specs.Window.{left}
 use Rattle.watched_io.specs.Output.{writer_of, total}
 use Rattle.sctp_dump.proofs.Inputs.{front_none}
-use Rattle.sctp_dump.proofs.Outputs.{IfErr-residual}
+use Rattle.sctp_dump.specs.Prints.{out}
+use Rattle.sctp_dump.proofs.Outputs.{IfErr-residual, Grows-none, stays}
 use Rattle.sctp_dump.proofs.Headers.{PrintsAll-header, PrintsBeginning-header}
 use Rattle.sctp_dump.proofs.pcap.dump_pcap.Goals as goal
 
@@ -11,10 +12,11 @@ pub returns-in_err-header-clause-begun : goal.returns-in_err-header-clause-begun
 returns-in_err-header-clause-begun g c =
     IfErr-residual _ c.in_err-header.field-0.0 _ c.from_residual.ensures.1 (record {
       bytes = [];
-      text = [];
+      entries = [];
       front = front_none (left c.args.window.now (g.R.Read.remaining (device_of c.args.input.now)));
-      has_text = inl (refl, refl);
-      grows = c.in_err-header.ensures.stopped;
+      finds = inl (refl, refl);
+      grows = Grows-none c.in_err-header.field-0.0 (total g.W.Write.contents c.args.output.now) (total g.W.Write.contents c.read_header.new.output) c.args.counts.now
+          (g.W.Write.contents (device_of (writer_of c.read_header.new.output))) c.in_err-header.ensures.stopped;
     })
 
 pub returns-clause-whole : goal.returns-clause-whole
@@ -22,14 +24,18 @@ returns-clause-whole g c =
     PrintsAll-header c.dump_records.result c.args.options.now c.in_ok-header.header
     (left c.args.window.now (g.R.Read.remaining (device_of c.args.input.now)))
     (left c.read_header.new.window (g.R.Read.remaining (device_of c.read_header.new.input)))
-    (total g.W.Write.contents c.args.output.now) (total g.W.Write.contents c.read_header.new.output) (total g.W.Write.contents c.dump_records.new.output)
-    c.in_ok-header.ensures.taken c.in_ok-header.ensures.text c.dump_records.ensures.whole
+    (out (total g.W.Write.contents c.args.output.now) c.args.counts.now) (out (total g.W.Write.contents c.read_header.new.output) c.args.counts.now)
+    (out (total g.W.Write.contents c.dump_records.new.output) c.dump_records.new.counts)
+    c.in_ok-header.ensures.taken
+    (stays (total g.W.Write.contents c.args.output.now) (total g.W.Write.contents c.read_header.new.output) c.args.counts.now c.in_ok-header.ensures.text) c.dump_records.ensures.whole
 
 pub returns-clause-begun : goal.returns-clause-begun
 returns-clause-begun g c =
     PrintsBeginning-header c.dump_records.result c.args.options.now c.in_ok-header.header
     (left c.args.window.now (g.R.Read.remaining (device_of c.args.input.now)))
     (left c.read_header.new.window (g.R.Read.remaining (device_of c.read_header.new.input)))
-    (total g.W.Write.contents c.args.output.now) (total g.W.Write.contents c.read_header.new.output) (total g.W.Write.contents c.dump_records.new.output)
+    (out (total g.W.Write.contents c.args.output.now) c.args.counts.now) (out (total g.W.Write.contents c.read_header.new.output) c.args.counts.now)
+    (out (total g.W.Write.contents c.dump_records.new.output) c.dump_records.new.counts)
     (g.W.Write.contents (device_of (writer_of c.dump_records.new.output)))
-    c.in_ok-header.ensures.taken c.in_ok-header.ensures.text c.dump_records.ensures.begun
+    c.in_ok-header.ensures.taken
+    (stays (total g.W.Write.contents c.args.output.now) (total g.W.Write.contents c.read_header.new.output) c.args.counts.now c.in_ok-header.ensures.text) c.dump_records.ensures.begun

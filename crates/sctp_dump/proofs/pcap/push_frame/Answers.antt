@@ -11,7 +11,7 @@ returns-in-Ok c =
     let r = c.args.record_header.now in
     let frame = c.args.frame.now in
     pushed_packet c.push_packet.result c.args.options.now header c.args.number (record_of r frame) (packet_of c.in-Ok.found)
-    (packet_in header.link_type r.original_length frame) (string_bytes c.args.text.now) (string_bytes c.push_packet.new.text)
+    (packet_in header.link_type r.original_length frame) (string_bytes c.args.text.now) (string_bytes c.push_packet.new.text) c.args.counts.now c.push_packet.new.counts
     c.in-Ok.ensures c.push_packet.ensures
 
 pub returns-in-Err : goal.returns-in-Err
@@ -20,5 +20,5 @@ returns-in-Err c =
     let r = c.args.record_header.now in
     let frame = c.args.frame.now in
     pushed_line c.push_skipped.result c.args.options.now header c.args.number (record_of r frame) c.in-Err.why c.skipped_for.result
-    (packet_in header.link_type r.original_length frame) (string_bytes c.args.text.now) (string_bytes c.push_skipped.new.text)
+    (packet_in header.link_type r.original_length frame) (string_bytes c.args.text.now) (string_bytes c.push_skipped.new.text) c.args.counts.now c.push_skipped.new.counts
     c.in-Err.ensures c.skipped_for.ensures c.push_skipped.ensures

@@ -2,14 +2,13 @@ use Rattle.std.proofs.Common.{◌≡◌, ◌≤◌, false, length, take, string_
 use Rattle.std.proofs.lemmas.Grind.{common_steps}
 use Rattle.std.proofs.lemmas.List.{length-take-le}
 use Rattle.std.specs.Io.KnownBytes.{Consumes}
-use Rattle.std.proofs.KnownBytes.{append_known-grown}
 use Rattle.watched_io.specs.Watched.{device_of}
 use Rattle.watched_io.specs.Window.{held, left}
 use Rattle.watched_io.specs.Output.{writer_of, pending, total}
 use Rattle.sctp_dump.specs.declared.skipped.Skipped.TheVariants.{EndsIn}
 use Rattle.sctp_dump.specs.Records.{skipped_record}
 use Rattle.sctp_dump.proofs.Inputs.{Consumes-taken, all_held}
-use Rattle.sctp_dump.proofs.Outputs.{Appends-text}
+use Rattle.sctp_dump.proofs.Outputs.{Adds-entries, Adds-pushed}
 use Rattle.sctp_dump.proofs.pcap.take_frame.Goals as goal
 
 pub returns-then-not-whole-clause-end : goal.returns-then-not-whole-clause-end
@@ -18,13 +17,13 @@ returns-then-not-whole-clause-end g c = λ e.
     let before = total g.W.Write.contents c.args.output.now in
     let written = g.W.Write.contents (device_of (writer_of c.need.new.output)) in
     let after = g.W.Write.contents (device_of (writer_of c.skip_record.new.output)) in
-    let text = skipped_record c.args.options.now c.args.number EndsIn in
+    let entries = skipped_record c.args.options.now c.args.number EndsIn in
     let end = c.in_ok-whole.ensures.end no in record {
       rest = held c.need.new.window;
       short = end.0;
       all = all_held (left c.args.window.now (g.R.Read.remaining (device_of c.args.input.now))) (g.R.Read.remaining (device_of c.need.new.input))
           (held c.need.new.window) c.in_ok-whole.ensures.stream end.1;
-      appends = Appends-text before written after (pending c.need.new.output) (pending c.skip_record.new.output) text c.in_ok-whole.ensures.text
+      adds = Adds-entries before written after (pending c.need.new.output) (pending c.skip_record.new.output) c.args.counts.now c.skip_record.new.counts entries c.in_ok-whole.ensures.entries
           (ap (λ w. g.W.Write.contents (device_of w)) c.in_ok-skip_record.ensures.kept) c.in_ok-skip_record.ensures.text;
     }
 
@@ -39,11 +38,11 @@ returns-clause-next g c = λ e.
     let remaining = g.R.Read.remaining (device_of c.need.new.input) in
     let pushed = c.in_ok-push_frame.ensures in record {
       frame = frame;
-      text = pushed.0;
+      entries = pushed.0;
       size_is = ap length is ∙ length-take-le n bytes enough;
-      has_text = pushed.1;
+      finds = pushed.1;
       consumes = subst (Consumes before (left c.consume.new.self remaining)) (sym is)
           (Consumes-taken before remaining bytes (held c.consume.new.self) n c.in_ok-whole.ensures.stream c.consume.ensures);
-      appends = append_known-grown (total g.W.Write.contents c.args.output.now) (g.W.Write.contents (device_of (writer_of c.need.new.output)))
-          (pending c.need.new.output) (string_bytes c.push_frame.new.text) pushed.0 c.in_ok-whole.ensures.text pushed.2;
+      adds = Adds-pushed (total g.W.Write.contents c.args.output.now) (g.W.Write.contents (device_of (writer_of c.need.new.output)))
+          (pending c.need.new.output) (string_bytes c.push_frame.new.text) c.args.counts.now c.push_frame.new.counts pushed.0 c.in_ok-whole.ensures.text pushed.2;
     }

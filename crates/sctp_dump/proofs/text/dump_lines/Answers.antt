@@ -4,7 +4,8 @@ use Rattle.watched_io.specs.Watched.{device_of}
 use Rattle.watched_io.specs.Window.{left}
 use Rattle.watched_io.specs.Output.{writer_of, total}
 use Rattle.sctp_dump.specs.LineSteps.{state_of}
-use Rattle.sctp_dump.proofs.Outputs.{IfErr-residual}
+use Rattle.sctp_dump.specs.Prints.{out}
+use Rattle.sctp_dump.proofs.Outputs.{IfErr-residual, Grows-none, stays}
 use Rattle.sctp_dump.proofs.LineRuns.{LinesDone-more, LinesDone-last, LinesDone-all, LinesDone-stopped, LinesDone-unwritten}
 use Rattle.sctp_dump.proofs.text.dump_lines.Goals as goal
 
@@ -12,11 +13,11 @@ pub returns-in_err-more-clause-begun : goal.returns-in_err-more-clause-begun
 returns-in_err-more-clause-begun g c =
     let before = left c.args.window.now (g.R.Read.remaining (device_of c.args.input.now)) in
     let now = left c.loop-lines.window (g.R.Read.remaining (device_of c.loop-lines.input)) in
-    let old = total g.W.Write.contents c.args.output.now in
-    let mid = total g.W.Write.contents c.loop-lines.output in
+    let old = out (total g.W.Write.contents c.args.output.now) c.args.counts.now in
+    let mid = out (total g.W.Write.contents c.loop-lines.output) c.loop-lines.counts in
     IfErr-residual _ c.in_err-more.field-0.0 _ c.from_residual.ensures.1
     (LinesDone-stopped c.args.options.now c.loop-lines.lines (state_of c.loop-lines.dump) c.in_err-more.field-0.0 before now old mid
-    (total g.W.Write.contents c.take_line.new.output) (g.W.Write.contents (device_of (writer_of c.take_line.new.output)))
+    (out (total g.W.Write.contents c.take_line.new.output) c.take_line.new.counts) (g.W.Write.contents (device_of (writer_of c.take_line.new.output)))
     c.loop-lines.invariant c.in_err-more.ensures.stopped)
 
 pub returns-then-not-more-clause-whole : goal.returns-then-not-more-clause-whole
@@ -24,10 +25,10 @@ returns-then-not-more-clause-whole g c =
     let no : c.in_ok-more.more ≡ false = first_of (search rules, grind (arith, common_steps)) in
     let before = left c.args.window.now (g.R.Read.remaining (device_of c.args.input.now)) in
     let now = left c.loop-lines.window (g.R.Read.remaining (device_of c.loop-lines.input)) in
-    let old = total g.W.Write.contents c.args.output.now in
-    let mid = total g.W.Write.contents c.loop-lines.output in
+    let old = out (total g.W.Write.contents c.args.output.now) c.args.counts.now in
+    let mid = out (total g.W.Write.contents c.loop-lines.output) c.loop-lines.counts in
     LinesDone-last c.args.options.now c.loop-lines.lines (state_of c.loop-lines.dump) (state_of c.take_line.new.dump) before now old mid
-    (total g.W.Write.contents c.take_line.new.output) c.loop-lines.invariant (c.in_ok-more.ensures.end no)
+    (out (total g.W.Write.contents c.take_line.new.output) c.take_line.new.counts) c.loop-lines.invariant (c.in_ok-more.ensures.end no)
 
 pub returns-in_err-write_if_long-clause-begun : goal.returns-in_err-write_if_long-clause-begun
 returns-in_err-write_if_long-clause-begun g c =
@@ -35,13 +36,15 @@ returns-in_err-write_if_long-clause-begun g c =
     let before = left c.args.window.now (g.R.Read.remaining (device_of c.args.input.now)) in
     let now = left c.loop-lines.window (g.R.Read.remaining (device_of c.loop-lines.input)) in
     let after = left c.take_line.new.window (g.R.Read.remaining (device_of c.take_line.new.input)) in
-    let old = total g.W.Write.contents c.args.output.now in
-    let mid = total g.W.Write.contents c.loop-lines.output in
-    let late = total g.W.Write.contents c.take_line.new.output in
+    let old = out (total g.W.Write.contents c.args.output.now) c.args.counts.now in
+    let mid = out (total g.W.Write.contents c.loop-lines.output) c.loop-lines.counts in
+    let late = out (total g.W.Write.contents c.take_line.new.output) c.take_line.new.counts in
     IfErr-residual _ c.in_err-write_if_long.field-0.0 _ c.from_residual-in_err-write_if_long.ensures.1
     (LinesDone-unwritten c.args.options.now c.loop-lines.lines (state_of c.loop-lines.dump) (state_of c.take_line.new.dump) c.in_err-write_if_long.field-0.0
-    before now after old mid late (total g.W.Write.contents c.write_if_long.new.output) (g.W.Write.contents (device_of (writer_of c.write_if_long.new.output)))
-    c.loop-lines.invariant (c.in_ok-more.ensures.next yes) c.in_err-write_if_long.ensures.stopped)
+    before now after old mid late (out (total g.W.Write.contents c.write_if_long.new.output) c.take_line.new.counts) (g.W.Write.contents (device_of (writer_of c.write_if_long.new.output)))
+    c.loop-lines.invariant (c.in_ok-more.ensures.next yes) 
+    (Grows-none c.in_err-write_if_long.field-0.0 (total g.W.Write.contents c.take_line.new.output) (total g.W.Write.contents c.write_if_long.new.output) c.take_line.new.counts
+    (g.W.Write.contents (device_of (writer_of c.write_if_long.new.output))) c.in_err-write_if_long.ensures.stopped))
 
 pub loop-lines-preserved : goal.loop-lines-preserved
 loop-lines-preserved g c =
@@ -49,17 +52,18 @@ loop-lines-preserved g c =
     let before = left c.args.window.now (g.R.Read.remaining (device_of c.args.input.now)) in
     let now = left c.loop-lines.window (g.R.Read.remaining (device_of c.loop-lines.input)) in
     let after = left c.take_line.new.window (g.R.Read.remaining (device_of c.take_line.new.input)) in
-    let old = total g.W.Write.contents c.args.output.now in
-    let mid = total g.W.Write.contents c.loop-lines.output in
-    let late = total g.W.Write.contents c.take_line.new.output in
+    let old = out (total g.W.Write.contents c.args.output.now) c.args.counts.now in
+    let mid = out (total g.W.Write.contents c.loop-lines.output) c.loop-lines.counts in
+    let late = out (total g.W.Write.contents c.take_line.new.output) c.take_line.new.counts in
     LinesDone-more c.args.options.now c.loop-lines.lines (state_of c.loop-lines.dump) (state_of c.take_line.new.dump) before now after old mid late
-    (total g.W.Write.contents c.write_if_long.new.output)
-    c.loop-lines.invariant (c.in_ok-more.ensures.next yes) c.in_ok-write_if_long.ensures.text
+    (out (total g.W.Write.contents c.write_if_long.new.output) c.take_line.new.counts)
+    c.loop-lines.invariant (c.in_ok-more.ensures.next yes) 
+    (stays (total g.W.Write.contents c.take_line.new.output) (total g.W.Write.contents c.write_if_long.new.output) c.take_line.new.counts c.in_ok-write_if_long.ensures.text)
 
 pub returns-clause-whole : goal.returns-clause-whole
 returns-clause-whole g c =
     let before = left c.args.window.now (g.R.Read.remaining (device_of c.args.input.now)) in
     let now = left c.loop-lines.window (g.R.Read.remaining (device_of c.loop-lines.input)) in
     let counted : 2 ^ 64 - 1 ≤ c.loop-lines.lines = first_of (omega arith, search rules) in
-    LinesDone-all c.args.options.now c.loop-lines.lines (state_of c.loop-lines.dump) before now (total g.W.Write.contents c.args.output.now)
-    (total g.W.Write.contents c.loop-lines.output) counted c.loop-lines.invariant
+    LinesDone-all c.args.options.now c.loop-lines.lines (state_of c.loop-lines.dump) before now (out (total g.W.Write.contents c.args.output.now) c.args.counts.now)
+    (out (total g.W.Write.contents c.loop-lines.output) c.loop-lines.counts) counted c.loop-lines.invariant
