@@ -122,8 +122,8 @@ impl<'a> CheckedChunk<'a> {
     }
 
     /// Returns the parameters of INIT, INIT ACK, HEARTBEAT, HEARTBEAT ACK and RE-CONFIG: what
-    /// `RawParameters::from_raw` returns, which goes over all of them once more. `None` exactly where
-    /// the chunk has another type.
+    /// `RawParameters::from_raw` returns, which goes over all of them once more. `None` exactly
+    /// where the chunk has another type.
     #[inline(always)]
     pub fn as_parameters(&self) -> Option<RawParameters<'a>>
         ensures read { GivesList (parameters lenient)
@@ -148,8 +148,8 @@ impl<'a> CheckedChunk<'a> {
         Some(RawCauses::new(rest))
     }
 
-    /// Returns the cookie of COOKIE ECHO, without a copy: what `cookie_echo::cookie` returns. `None`
-    /// exactly where the chunk has another type.
+    /// Returns the cookie of COOKIE ECHO, without a copy: what `cookie_echo::cookie` returns.
+    /// `None` exactly where the chunk has another type.
     #[inline(always)]
     #[tactic(auto, unfolding(dcsctp_chunk::specs::CookieEcho::read))]
     pub fn as_cookie(&self) -> Option<&'a [u8]>

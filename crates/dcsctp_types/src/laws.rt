@@ -37,8 +37,8 @@ pub fn window<S: SerialNumber>()
 {}
 
 /// The orders of ids, keys and times: stream ids, payload protocol ids and lifecycle ids are
-/// ordered by their numbers, times by their durations; every ordered key is less than every unordered one,
-/// and keys of one kind are ordered by their stream ids.
+/// ordered by their numbers, times by their durations; every ordered key is less than every
+/// unordered one, and keys of one kind are ordered by their stream ids.
 pub fn orders()
     ensures stream_ids { (a b : StreamId) → ⟦<StreamId as Ord>⟧.cmp a b ≡ nat_cmp a.0 b.0 }
     ensures ppids { (a b : PpId) → ⟦<PpId as Ord>⟧.cmp a b ≡ nat_cmp a.0 b.0 }

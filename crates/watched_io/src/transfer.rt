@@ -32,7 +32,8 @@ pub fn fill<R: Read>(input: &mut Watched<R>, room: &mut [u8]) -> io::Result<usiz
 }
 
 /// Writes all bytes, and doesn't flush. Where the output fails, it took a beginning of them; a
-/// write that takes none is `WriteZero`. A failed write, also an interrupted one, is not tried again.
+/// write that takes none is `WriteZero`. A failed write, also an interrupted one, is not tried
+/// again.
 pub fn write_bytes<W: Write>(output: &mut Watched<W>, bytes: &[u8]) -> io::Result<()>
     ensures whole { OnOk result (Appends (W.contents (device_of output.old))
         (W.contents (device_of output.new)) bytes.now) }
