@@ -11,9 +11,9 @@ Proves and builds the C library, and puts it into the folder PREFIX:
   lib/libdcsctp.so             for dynamic linking; it needs libc and nothing else
   lib/pkgconfig/dcsctp.pc
 
-The first run proves everything below it, and prints a line for each crate: that takes 8 to 20 minutes on four processors,
-and 4 GB of disk for what is kept. Later runs take half a minute. Needed are the toolchain and a C compiler with binutils; the variables CC, LD, OBJCOPY
-and AR name others than cc, ld, objcopy and ar.'
+The first run proves everything below it, and prints a line as each of nine crates is done: that takes 8 to 20 minutes on
+four processors, and 4 GB of disk for what is kept. Later runs take half a minute. Needed are the toolchain and a C compiler
+with binutils; the variables CC, LD, OBJCOPY and AR name others than cc, ld, objcopy and ar.'
 
 give_up() {
     echo "c/build.sh: $1" >&2
@@ -41,7 +41,7 @@ work=$(mktemp -d)
 trap 'rm -rf "$work"' EXIT
 
 # The archive of the crate, and the toolchain's three functions that call malloc, realloc and free.
-echo 'c/build.sh: proving and building; the first run takes 8 to 20 minutes' >&2
+echo 'c/build.sh: proving and building nine crates; the first run takes 8 to 20 minutes' >&2
 (cd crates/dcsctp_c && rt lib) 2>&1 | tee "$work/log" | sed -n -u 's/^crate \(dcsctp_[a-z0-9_]*\): .*/  \1/p' >&2 || {
     { grep -E 'error|not proved|^rt:' "$work/log" || cat "$work/log"; } | tail -n 10 | cut -c1-300 >&2
     give_up 'crates/dcsctp_c was not built'
