@@ -8,8 +8,9 @@ Makes docs/API.md, the list of the libraries' public items, from their sources.
   --help     prints this
 
 Listed are the public items of the public modules of each library: the signature, the first sentence of
-the doc comment, fields, variants, methods, and the traits that are derived or have an `impl` in the same file. A function that has conditions is marked, with the names
-of its `requires`.
+the doc comment, fields, variants, methods, and the traits that are derived or have an `impl` in the same
+file, of an iterator with its items. A function that has conditions (`requires`) is marked with them, in
+words. Under a module's heading is its path in a program, where `dcsctp_wire` passes it on.
 """
 import os
 import re
@@ -32,10 +33,28 @@ LIBRARIES = [
 
 HEAD = '''# The public items
 
-Made from the sources by `docs/api.py --write`; the gate compares it. A name in *italics* after a signature is a condition
-(`requires`) that the caller proves; its meaning is in the source beside it. `dcsctp_wire::packet` and `dcsctp_wire::types` pass
-on the modules of the libraries below, so that a program needs that one crate.
+Made from the sources by `docs/api.py --write`; the gate compares it. Words in *italics* after a signature are what the caller
+proves (`requires`): *fits*, that `fits()` is true; *encodable*, that `encodable()` is; *room*, that the output is large enough; *meant*,
+that the bytes passed their check. A program needs `dcsctp_wire` alone: it passes on what callers use of the libraries below, each
+under the path that its heading has. What has no such path is for the libraries themselves.
 '''
+
+# What a condition without a name says, in words.
+CONDITIONS = [
+    (r'IsOk \(|HasMeaning|MeansSome|MeansMany|AreItems', 'meant'),
+    (r'Fits', 'fits'),
+    (r'IsListEncodable|< 2 \^ 16', 'encodable'),
+    (r'BeginsWithFrame', 'begins with a frame'),
+    (r'(\d+) ≤ length (?:bytes|value|packet)', 'at least {} bytes'),
+    (r'SIZE.* ≤ length bytes', 'enough bytes'),
+    (r'≤ length output|length items.now ≤ room', 'room'),
+    (r'index < ', 'index below the count'),
+    (r'place ≤ length value', 'place within the value'),
+    (r'leading ≤ MAX_VALUE_SIZE', 'leading at most 65,531'),
+    (r'round_up_to_4', 'n at most 2^64 - 4'),
+    (r'bit < 8', 'bit below 8'),
+    (r'n ≢ 0', 'not 0'),
+]
 
 ITEM = re.compile(r'^(?P<indent> *)pub (?P<kind>const fn|fn|struct|enum|trait|const|static|type) (?P<name>\w+)')
 METHOD = re.compile(r'^    (?:pub )?(?:final )?(?:const )?fn (\w+)')
@@ -71,6 +90,14 @@ def first_sentence(doc):
     return text[:end.end()] if end else text
 
 
+def in_words(clause):
+    for pattern, words in CONDITIONS:
+        found = re.search(pattern, clause)
+        if found:
+            return words.format(*found.groups())
+    return 'condition'
+
+
 def signature_of(lines, at):
     """The signature that begins at a line, on one line, and the names of its conditions."""
     text, conditions = [], []
@@ -78,7 +105,7 @@ def signature_of(lines, at):
         bare = line.strip()
         clause = re.match(r'requires\*? *(\w*) *\{', bare)
         if clause:
-            conditions.append(clause[1] or 'condition')
+            conditions.append(clause[1] or in_words(bare))
         if clause or bare.startswith(('ensures', 'ghost ', '{', '//')) or conditions:
             if bare == '{' or bare.endswith((';', '{}')) and not clause:
                 break
@@ -145,11 +172,38 @@ def traits_of(lines, at, name):
         text = line + text
     for names in re.findall(r'derive\(([^)]*)\)', text):
         found += [it.split('::')[-1].strip() for it in names.split(',') if it.strip()]
-    for line in lines:
+    for number, line in enumerate(lines):
         made = re.match(rf'impl(?:<[^>]*>)? ([\w:]+(?:<.*>)?) for {name}\b', line)
         if made:
-            found.append(re.sub(r'^(?:\w+::)+', '', made[1]))
+            trait = re.sub(r'^(?:\w+::)+', '', made[1])
+            item = trait == 'Iterator' and re.search(r'\n    type Item = (.*);', '\n'.join(lines[number:]))
+            found.append(f'Iterator<Item = {item[1]}>' if item else trait)
     return sorted(set(found))
+
+
+def paths_of():
+    """The paths under `dcsctp_wire` of the modules and items of other libraries, by their own."""
+    found = {}
+    for place in ('lib', 'packet', 'packet/chunk'):
+        source = os.path.join(ROOT, 'crates', 'dcsctp_wire', 'src', place + '.rt')
+        here = '::'.join(['dcsctp_wire'] + (place.split('/') if place != 'lib' else []))
+        text = re.sub(r'\s+', ' ', '\n'.join(lines_of(source)))
+        for path, names in re.findall(r'pub use (dcsctp_\w+(?:::\w+)*)::(\w+|\{[^}]*\});', text):
+            for name in re.findall(r'\w+', names):
+                own, passed = (path, path.split('::')[-1]) if name == 'self' else (f'{path}::{name}', name)
+                found.setdefault(own, f'{here}::{passed}')
+    return found
+
+
+def path_in_program(name, paths):
+    """The line that says under which path a program has a module of another library, or items of it."""
+    parts = name.split('::')
+    for size in range(len(parts), 1, -1):
+        front = '::'.join(parts[:size])
+        if front in paths:
+            return f"In a program: `{'::'.join([paths[front]] + parts[size:])}`."
+    items = [paths[it] for it in paths if it.rpartition('::')[0] == name]
+    return f"In a program: {', '.join(f'`{it}`' for it in items)}." if items else ''
 
 
 def items_of(path, wanted=None):
@@ -220,7 +274,7 @@ def module_doc(path):
 
 
 def page():
-    text = [HEAD]
+    text, paths = [HEAD], paths_of()
     for crate, about in LIBRARIES:
         if not os.path.isdir(os.path.join(ROOT, 'crates', crate)):
             continue
@@ -230,7 +284,8 @@ def page():
         for name, path in modules:
             items = items_of(path) + passed_on(crate, name, path, public)
             if items:
-                text += [f'\n### {name}\n', module_doc(path), ''] + items
+                where = path_in_program(name, paths)
+                text += [f'\n### {name}\n', ' '.join(it for it in (module_doc(path), where) if it), ''] + items
     return '\n'.join(text).replace('\n\n\n', '\n\n') + '\n'
 
 

@@ -103,9 +103,11 @@ def paste(directory, wanted):
         shutil.copytree(os.path.join(ROOT, 'crates', library), os.path.join(directory, 'crates', library))
     with open(os.path.join(ROOT, 'crates.txt'), encoding='utf-8') as file:
         lines = [line for line in file.read().splitlines() if line.split(':')[0] in LIBRARIES]
+    files = needed(programs, wanted or [name for name, _ in programs])
+    used = [it for it in ('dcsctp_wire', 'dcsctp_borrowed', 'dcsctp_crc32c') if any(it in text for text in files.values())]
     with open(os.path.join(directory, 'crates.txt'), 'w', encoding='utf-8') as file:
-        file.write('\n'.join(lines + ['your_crate: dcsctp_wire dcsctp_borrowed dcsctp_crc32c']) + '\n')
-    for path, text in needed(programs, wanted or [name for name, _ in programs]).items():
+        file.write('\n'.join(lines + [f"your_crate: {' '.join(used)}"]) + '\n')
+    for path, text in files.items():
         path = os.path.join(directory, 'crates', 'your_crate', path)
         os.makedirs(os.path.dirname(path), exist_ok=True)
         with open(path, 'w', encoding='utf-8') as file:
