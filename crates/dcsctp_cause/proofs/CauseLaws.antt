@@ -1,11 +1,11 @@
 -- The laws of the table of error causes: a line for each kind.
-use Rattle.std.proofs.Common.{◌≡◌, ◌≢◌, ℕ, Bool, ◌+◌, ◌^◌, ◌<◌, List, [], ◌∷◌, length, refl, sym, ap, subst, ◌∙◌, Result, Ok, inl, inr}
+use Rattle.std.proofs.Common.{rules, ◌≡◌, ℕ, Bool, ◌+◌, ◌^◌, ◌<◌, List, [], ◌∷◌, length, refl, sym, ap, subst, ◌∙◌, Result, Ok, inl, inr}
 use Rattle.std.specs.Int.{w16, from_be_bytes}
 use Rattle.std.specs.Str.{IsUtf8}
 use Rattle.std.specs.List.{AllByRecursion}
 use Rattle.dcsctp_tlv.specs.Decided.{IgnoresPadding}
 use Rattle.dcsctp_tlv.specs.Frame.{lenient}
-use Rattle.dcsctp_tlv.specs.Level.{Row, plain, map_ok, HasMeaning}
+use Rattle.dcsctp_tlv.specs.Level.{Row, plain, map_ok}
 use Rattle.dcsctp_tlv.specs.Fault.{Fault}
 use Rattle.dcsctp_tlv.specs.Image.{Tlv, zeroed, size_of, image_of, list_size}
 use Rattle.dcsctp_tlv.specs.Table.{IsUnnamed, ◌&◌}
@@ -15,7 +15,7 @@ use Rattle.dcsctp_tlv.proofs.Laws.{LawfulRow, Lawful}
 use Rattle.dcsctp_tlv.proofs.FormatLaws.{IsGood, good_list}
 use Rattle.dcsctp_tlv.proofs.Places.{AtFront, IsPlain, is_plain}
 use Rattle.dcsctp_tlv.proofs.Lenient.{Loosens}
-use Rattle.dcsctp_tlv.proofs.Tables.{of_table, of_others}
+use Rattle.dcsctp_tlv.proofs.Tables.{MeansAny, of_table, of_others}
 use Rattle.dcsctp_tlv.proofs.ReadsBack.{ReadsBack, zeroed-solid}
 use Rattle.dcsctp_tlv.proofs.KindLaws.{KindLaws, KeepsSize, of_map_ok}
 use Rattle.dcsctp_tlv.proofs.Unpadded.{Unpadded, plain_unpadded, ok_unpadded, list_unpadded}
@@ -120,21 +120,17 @@ causes_looser strict = record { row = λ first second value t m. m; any = λ siz
 
 -- ---- any value
 
--- what a row owes where its code is none of those whose values can be at fault
-abbrev MeansAny : List ℕ → ℕ → Row CauseTree → Type 0
-MeansAny value code row = code ≢ 2 → code ≢ 9 → code ≢ 10 → HasMeaning row value
+-- the codes that don't allow any value
+abbrev checked : List ℕ
+checked = 2 ∷ 9 ∷ 10 ∷ []
 
--- any value of a code that allows any has a meaning
-pub any_value : (code : ℕ) (value : List ℕ) → MeansAny value code (row code)
+-- any value of another code has a meaning
+pub any_value : (code : ℕ) (value : List ℕ) → MeansAny checked value code (row code)
 unfolding chunk.read abort.read violation.read unknown.read
-any_value code value = of_table (MeansAny value) table code _ (
-    (λ not_2 not_9 not_10. absurd (not_2 refl)) &
-    (λ not_2 not_9 not_10. (_, refl)) &
-    (λ not_2 not_9 not_10. absurd (not_9 refl)) &
-    (λ not_2 not_9 not_10. absurd (not_10 refl)) &
-    (λ not_2 not_9 not_10. (_, refl)) &
-    (λ not_2 not_9 not_10. (_, refl)) & tt)
-    (λ _ not_2 not_9 not_10. (_, refl))
+any_value code value = of_table (MeansAny checked value) table code _ (
+    (search rules) & (λ _. (_, refl)) & (search rules) & (search rules) & (λ _. (_, refl)) &
+    (λ _. (_, refl)) & tt)
+    (λ _ _. (_, refl))
 
 -- ---- reading back
 

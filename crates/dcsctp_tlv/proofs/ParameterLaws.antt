@@ -1,5 +1,5 @@
 -- The laws of the table of parameters: a line for each kind.
-use Rattle.std.proofs.Common.{◌≡◌, ℕ, Bool, ◌+◌, ◌*◌, ◌^◌, ◌<◌, ◌≢◌, List, [], ◌∷◌, ◌++◌, length, refl, sym, ap, subst, ◌∙◌, Option, Some, None, Result}
+use Rattle.std.proofs.Common.{rules, ◌≡◌, ℕ, Bool, ◌+◌, ◌*◌, ◌^◌, ◌<◌, List, [], ◌∷◌, ◌++◌, length, refl, sym, ap, subst, ◌∙◌, Option, Some, None, Result}
 use Rattle.std.specs.Prelude.{IfSome}
 use Rattle.std.specs.Int.{w16, w32, from_be_bytes}
 use Rattle.std.specs.List.{AllByRecursion}
@@ -9,7 +9,7 @@ use Rattle.dcsctp_tlv.specs.Format.{sized_tlv}
 use Rattle.dcsctp_tlv.specs.Frame.{lenient}
 use Rattle.dcsctp_tlv.specs.Number.{numbers}
 use Rattle.dcsctp_tlv.proofs.Lengths.{length-format}
-use Rattle.dcsctp_tlv.specs.Level.{Row, plain, map_ok, HasMeaning}
+use Rattle.dcsctp_tlv.specs.Level.{Row, plain, map_ok}
 use Rattle.dcsctp_tlv.specs.Image.{Tlv, zeroed, image_of, size_of, list_size}
 use Rattle.dcsctp_tlv.specs.Table.{IsUnnamed, ◌&◌}
 use Rattle.dcsctp_tlv.specs.HeartbeatInfo as info
@@ -27,7 +27,7 @@ use Rattle.dcsctp_tlv.proofs.Places.{AtFront, IsPlain, is_plain}
 use Rattle.dcsctp_tlv.proofs.Lenient.{Loosens}
 use Rattle.dcsctp_tlv.proofs.KindLaws.{KindLaws, KeepsSize}
 use Rattle.dcsctp_tlv.proofs.Unpadded.{Unpadded, plain_unpadded, ok_unpadded, list_unpadded}
-use Rattle.dcsctp_tlv.proofs.Tables.{of_table, of_others}
+use Rattle.dcsctp_tlv.proofs.Tables.{MeansAny, of_table, of_others}
 use Rattle.dcsctp_tlv.proofs.ReadsBack.{ReadsBack, zeroed-solid}
 use Rattle.dcsctp_tlv.proofs.ParameterKinds.{info_laws, info_keeps, cookie_laws, cookie_keeps, outgoing_laws, outgoing_keeps, incoming_laws, incoming_keeps, response_laws, response_keeps, zero_checksum_laws, zero_checksum_keeps, extensions_laws, extensions_keeps, forward_tsn_laws, forward_tsn_keeps, ssn_tsn_laws, ssn_tsn_keeps, add_streams_laws, add_streams_keeps, type_back, unknown_keeps, unknown_forms}
 use Rattle.dcsctp_tlv.proofs.Forms.{FormsTrees, FormsRow, plain_forms}
@@ -104,28 +104,18 @@ parameters_looser strict =
 
 -- ---- any value
 
--- what a row owes where its type is none of those whose values can be at fault
-abbrev MeansAny : List ℕ → ℕ → Row ParameterTree → Type 0
-MeansAny value typ row =
-    typ ≢ 13 → typ ≢ 14 → typ ≢ 15 → typ ≢ 16 → typ ≢ 17 → typ ≢ 18 → typ ≢ 0x8001 → typ ≢ 0xC000
-    → HasMeaning row value
+-- the types that don't allow any value
+abbrev checked : List ℕ
+checked = 13 ∷ 14 ∷ 15 ∷ 16 ∷ 17 ∷ 18 ∷ 0x8001 ∷ 0xC000 ∷ []
 
--- any value of a type that allows any has a meaning
-pub any_value : (typ : ℕ) (value : List ℕ) → MeansAny value typ (row typ)
+-- any value of another type has a meaning
+pub any_value : (typ : ℕ) (value : List ℕ) → MeansAny checked value typ (row typ)
 unfolding info.read cookie.read extensions.read unknown.read
-any_value typ value = of_table (MeansAny value) table typ _ (
-    (λ a b c d e f g h. (_, refl)) &
-    (λ a b c d e f g h. (_, refl)) &
-    (λ not_13 b c d e f g h. absurd (not_13 refl)) &
-    (λ a not_14 c d e f g h. absurd (not_14 refl)) &
-    (λ a b not_15 d e f g h. absurd (not_15 refl)) &
-    (λ a b c not_16 e f g h. absurd (not_16 refl)) &
-    (λ a b c d not_17 f g h. absurd (not_17 refl)) &
-    (λ a b c d e not_18 g h. absurd (not_18 refl)) &
-    (λ a b c d e f not_0x8001 h. absurd (not_0x8001 refl)) &
-    (λ a b c d e f g h. (_, refl)) &
-    (λ a b c d e f g not_0xC000. absurd (not_0xC000 refl)) & tt)
-    (λ _ a b c d e f g h. (_, refl))
+any_value typ value = of_table (MeansAny checked value) table typ _ (
+    (λ _. (_, refl)) & (λ _. (_, refl)) & (search rules) & (search rules) & (search rules) &
+    (search rules) & (search rules) & (search rules) & (search rules) & (λ _. (_, refl)) &
+    (search rules) & tt)
+    (λ _ _. (_, refl))
 
 -- ---- reading back
 

@@ -16,5 +16,4 @@ returns-in-10 c = rw c.in-10.is (passes_row (λ _. CookieReceivedWhileShuttingDo
     c.check-in-10.result c.check-in-10.ensures)
 
 pub returns-in_default : goal.returns-in_default
-returns-in_default c =
-    any_value c.args.code c.args.value.now (search rules) (search rules) (search rules)
+returns-in_default c = any_value c.args.code c.args.value.now (search rules)

@@ -37,5 +37,4 @@ returns-in-49152 c = rw c.in-49152.is (passes_row (λ _. ForwardTsnSupported) _
     c.check-in-49152.result c.check-in-49152.ensures)
 
 pub returns-in_default : goal.returns-in_default
-returns-in_default c = any_value c.args.typ c.args.value.now (search rules) (search rules)
-    (search rules) (search rules) (search rules) (search rules) (search rules) (search rules)
+returns-in_default c = any_value c.args.typ c.args.value.now (search rules)
