@@ -343,27 +343,20 @@ listed_lawful {T} {U} rule at level tree_of law = record {
     | inl g ↦ (let h : true ≡ false = sym p.0 ∙ g.0 in cc)
     | inr g ↦ list_apart level law (drop at v) p.1.0 e (drop_fits at v fits) p.1.1 g.1
   ];
-  same = λ v d e fits f g. faults_same v d e fits f g;
-  place = λ v d e fits f g. offsets_same v d e fits f g;
+  same = λ v d e fits f g. (agree v d e fits f g).0;
+  place = λ v d e fits f g. (agree v d e fits f g).1;
   some = λ v fits. answered v fits (rule v) refl;
 } where
-  offsets_same : (v : List ℕ) (d e : Fault) → AreBytes v
+  agree : (v : List ℕ) (d e : Fault) → AreBytes v
       → (f : (listed rule at level tree_of).faults v d) (g : (listed rule at level tree_of).faults v
       e)
-      → listed_offset rule at level v d f ≡ listed_offset rule at level v e g
-  offsets_same v d e fits (inl f) (inl g) = refl
-  offsets_same v d e fits (inl f) (inr g) = absurd (let h : false ≡ true = sym f.0 ∙ g.0 in cc)
-  offsets_same v d e fits (inr f) (inl g) = absurd (let h : true ≡ false = sym f.0 ∙ g.0 in cc)
-  offsets_same v d e fits (inr f) (inr g) = ap (λ (n : ℕ). 4 + (at + n))
-      (list_place level law (drop at v) d e (drop_fits at v fits) f.1 g.1)
-
-  faults_same : (v : List ℕ) (d e : Fault) → AreBytes v → (listed rule at level tree_of).faults v d
-      → (listed rule at level tree_of).faults v e → d ≡ e
-  faults_same v d e fits (inl f) (inl g) = f.1 ∙ sym g.1
-  faults_same v d e fits (inl f) (inr g) = let h : false ≡ true = sym f.0 ∙ g.0 in cc
-  faults_same v d e fits (inr f) (inl g) = let h : true ≡ false = sym f.0 ∙ g.0 in cc
-  faults_same v d e fits (inr f) (inr g) =
-      list_same level law (drop at v) d e (drop_fits at v fits) f.1 g.1
+      → (d ≡ e) × (listed_offset rule at level v d f ≡ listed_offset rule at level v e g)
+  agree v d e fits (inl f) (inl g) = (f.1 ∙ sym g.1, refl)
+  agree v d e fits (inl f) (inr g) = absurd (let h : false ≡ true = sym f.0 ∙ g.0 in cc)
+  agree v d e fits (inr f) (inl g) = absurd (let h : true ≡ false = sym f.0 ∙ g.0 in cc)
+  agree v d e fits (inr f) (inr g) =
+      let same = list_agree level law (drop at v) d e (drop_fits at v fits) f.1 g.1 in
+      (same.0, ap (λ (n : ℕ). 4 + (at + n)) same.1)
 
   answered : (v : List ℕ) → AreBytes v → (b : Bool) → rule v ≡ b
       → ((t : T) × (listed rule at level tree_of).means v t)
