@@ -52,8 +52,8 @@ rows code = of_table Owes table code _ (
     sized missing_laws MissingMandatoryParameter (λ x h. h) missing_keeps (λ x. refl) &
     sized chunk_laws UnrecognizedChunk (λ x h. h) chunk_keeps (λ x. refl) &
     sized no_user_data_laws NoUserData (λ x h. h) no_user_data_keeps (λ x. refl) &
-    sized cookie_received_laws (λ _. CookieReceivedWhileShuttingDown) (λ x h. h) cookie_received_keeps
-    (λ x. refl) &
+    sized cookie_received_laws (λ _. CookieReceivedWhileShuttingDown) (λ x h. h)
+    cookie_received_keeps (λ x. refl) &
     kind abort_laws UserInitiatedAbort (λ x h. h)
     (λ value t kept. text_account abort.read UserInitiatedAbort value t (kept (inl refl))
     (λ x. refl) (abort_kept value)) &

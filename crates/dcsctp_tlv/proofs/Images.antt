@@ -173,8 +173,8 @@ all_take P (suc i) [] h = tt
 all_take P (suc i) (t ∷ ts) h = (h.0, all_take P i ts h.1)
 
 -- one item more of a list is written
-pub written_more : {T : Type 0} (tlv : T → Tlv) (ts : List T) {i : ℕ} {t : T} (old : List ℕ) {out : List ℕ}
-    {start : ℕ}
+pub written_more : {T : Type 0} (tlv : T → Tlv) (ts : List T) {i : ℕ} {t : T} (old : List ℕ)
+    {out : List ℕ} {start : ℕ}
     → ((x : T) → length (image_of (tlv x)) ≡ size_of (tlv x)) → i < length ts → t ≡ get_or ts i t
     → out ≡ written (list_image tlv (take i ts)) old
     → start ≡ round_up_to_4 (list_size tlv (take i ts))

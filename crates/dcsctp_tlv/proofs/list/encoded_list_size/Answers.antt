@@ -21,8 +21,8 @@ returns-then-total-gt65535 g c = λ h.
 
 pub loop-item-preserved : goal.loop-item-preserved
 loop-item-preserved g c = record {
-  total = total_more (tlv_by g.T.SerializableTlv.format) c.args.list.now c.loop-item-test.true c.item-item.is c.loop-item.invariant.total
-      (omega (arith, c.in-Some.ensures.1));
+  total = total_more (tlv_by g.T.SerializableTlv.format) c.args.list.now c.loop-item-test.true
+      c.item-item.is c.loop-item.invariant.total (omega (arith, c.in-Some.ensures.1));
   small = omega arith;
   each = all_more g.T.SerializableTlv.placed c.args.list.now c.loop-item.item-index
       c.item-item.result c.loop-item-test.true c.item-item.is c.in-Some.ensures.0.0

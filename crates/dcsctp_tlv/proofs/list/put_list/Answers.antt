@@ -1,5 +1,4 @@
 use Rattle.std.proofs.Common.{arith, ◌∙◌, ap}
-use Rattle.dcsctp_tlv.specs.Format.{tlv_by}
 use Rattle.dcsctp_tlv.proofs.Lengths.{length-format}
 use Rattle.dcsctp_tlv.specs.Frame.{round_up_to_4}
 use Rattle.dcsctp_tlv.proofs.Images.{room_for, written_more}
@@ -41,16 +40,15 @@ overflow_add-end g c =
 pub loop-item-preserved : goal.loop-item-preserved
 loop-item-preserved g c =
     let n = room_for c.requires.encodable c.loop-item-test.true c.item-item.is in
-    let size = c.frame_length.ensures ∙ written_length (tlv_by g.T.SerializableTlv.format
-    c.item-item.result) c.split_at_mut-rest.result.1.now c.serialize_to.new.output
-    (omega (arith, n.1, n.2)) (omega (arith, n.1, n.2)) c.serialize_to.ensures in
+    let size = c.frame_length.ensures ∙ written_length _ _ _ (omega (arith, n.1, n.2))
+    (omega (arith, n.1, n.2)) c.serialize_to.ensures in
     record {
       total = omega (arith, n.1, size);
       done = rw (
         c.split_at_mut-rest.ensures.front,
         c.serialize_to.ensures,
         c.split_at_mut-rest.ensures.back,
-      ) (written_more _ c.args.list.now _ (λ x. length-format (g.T.SerializableTlv.format x)) c.loop-item-test.true
-          c.item-item.is c.loop-item.invariant.done
+      ) (written_more _ c.args.list.now _ (λ x. length-format (g.T.SerializableTlv.format x))
+          c.loop-item-test.true c.item-item.is c.loop-item.invariant.done
           (c.round_up_to_4-start.ensures ∙ ap round_up_to_4 c.loop-item.invariant.total));
     }
