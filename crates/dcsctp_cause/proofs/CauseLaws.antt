@@ -1,27 +1,27 @@
 -- The laws of the table of error causes: a line for each kind.
-use Rattle.std.proofs.Common.{◌≡◌, ◌≢◌, ℕ, Bool, ◌+◌, ◌^◌, ◌<◌, List, [], ◌∷◌, length, refl, sym, ap, subst, ◌∙◌, Result, Ok, inl, inr}
+use Rattle.std.proofs.Common.{rules, ◌≡◌, ℕ, Bool, ◌+◌, ◌^◌, ◌<◌, List, [], ◌∷◌, length, refl, ap, ◌∙◌, Result, Ok, inl, inr}
 use Rattle.std.specs.Int.{w16, from_be_bytes}
 use Rattle.std.specs.Str.{IsUtf8}
 use Rattle.std.specs.List.{AllByRecursion}
 use Rattle.dcsctp_tlv.specs.Decided.{IgnoresPadding}
 use Rattle.dcsctp_tlv.specs.Frame.{lenient}
-use Rattle.dcsctp_tlv.specs.Level.{Row, plain, map_ok, HasMeaning}
+use Rattle.dcsctp_tlv.specs.Level.{Row, plain, map_ok}
 use Rattle.dcsctp_tlv.specs.Fault.{Fault}
 use Rattle.dcsctp_tlv.specs.Image.{Tlv, zeroed, size_of, image_of, list_size}
-use Rattle.dcsctp_tlv.specs.Table.{IsUnnamed, ◌&◌}
+use Rattle.dcsctp_tlv.specs.Table.{◌&◌}
 use Rattle.dcsctp_tlv.proofs.Lengths.{length-format}
 use Rattle.dcsctp_tlv.specs.UnknownParameter as unknown
 use Rattle.dcsctp_tlv.proofs.Laws.{LawfulRow, Lawful}
 use Rattle.dcsctp_tlv.proofs.FormatLaws.{IsGood, good_list}
-use Rattle.dcsctp_tlv.proofs.Places.{AtFront, IsPlain, is_plain}
+use Rattle.dcsctp_tlv.proofs.Places.{AtFront}
 use Rattle.dcsctp_tlv.proofs.Lenient.{Loosens}
-use Rattle.dcsctp_tlv.proofs.Tables.{of_table, of_others}
-use Rattle.dcsctp_tlv.proofs.ReadsBack.{ReadsBack, zeroed-solid}
-use Rattle.dcsctp_tlv.proofs.KindLaws.{KindLaws, KeepsSize, of_map_ok}
-use Rattle.dcsctp_tlv.proofs.Unpadded.{Unpadded, plain_unpadded, ok_unpadded, list_unpadded}
-use Rattle.dcsctp_tlv.proofs.ParameterKinds.{type_back, unknown_keeps, unknown_forms}
-use Rattle.dcsctp_tlv.proofs.Forms.{FormsTrees, FormsRow, plain_forms}
-use Rattle.dcsctp_tlv.proofs.Accounts.{SameSpace, Accounts, plain_account, same_size}
+use Rattle.dcsctp_tlv.proofs.TableLaws.{RowLaws, kind, sized, unknown_row, unknown_means}
+use Rattle.dcsctp_tlv.proofs.Tables.{MeansAny, of_table}
+use Rattle.dcsctp_tlv.proofs.ReadsBack.{ReadsBack}
+use Rattle.dcsctp_tlv.proofs.KindLaws.{of_map_ok}
+use Rattle.dcsctp_tlv.proofs.Unpadded.{list_unpadded}
+use Rattle.dcsctp_tlv.proofs.Forms.{FormsTrees}
+use Rattle.dcsctp_tlv.proofs.Accounts.{SameSpace, Accounts, same_size}
 use Rattle.dcsctp_tlv.proofs.Counts.{Counts, one_each}
 use Rattle.dcsctp_cause.specs.Text.{item_code}
 use Rattle.dcsctp_cause.specs.Cause.{CauseTree, MissingMandatoryParameter, UnrecognizedChunk, NoUserData, CookieReceivedWhileShuttingDown, UserInitiatedAbort, ProtocolViolation, Unknown, table, row, causes, format, tlv, IsInWidth, IsWellFormed, HoldsText, IsTextKept}
@@ -31,11 +31,6 @@ use Rattle.dcsctp_cause.specs.ProtocolViolation as violation
 use Rattle.dcsctp_cause.proofs.CauseKinds.{missing_laws, missing_keeps, chunk_laws, chunk_keeps, no_user_data_laws, no_user_data_keeps, cookie_received_laws, cookie_received_keeps, abort_laws, abort_kept, violation_laws, violation_kept}
 
 -- ---- what each row owes
-
--- an item whose text is kept is written in the same space
-abbrev Accounted : ℕ → Row CauseTree → Type 0
-Accounted code row = (value : List ℕ) (t : CauseTree) → (HoldsText code → IsUtf8 value)
-    → row.means value t → SameSpace (size_of (tlv t)) (4 + length value)
 
 -- a text that is kept has the size of its value
 text_account : (read : List ℕ → Result (List ℕ) Fault) (tree : List ℕ → CauseTree) (value : List ℕ)
@@ -48,60 +43,24 @@ text_account read tree value t utf8 sized law e =
     same_size _ _ (ap (λ (u : CauseTree). size_of (tlv u)) x.1.1 ∙ sized x.0
     ∙ ap (λ (v : List ℕ). 4 + length v) (law x.0 utf8 x.1.0))
 
-record RowLaws (code : ℕ) (row : Row CauseTree) : Type 0 where
-  -- each value means one tree or has one fault, which is the item's as a whole
-  pub plain : IsPlain row
-  -- what it means is well-formed, and is written in the same space
-  pub forms : FormsRow IsWellFormed row
-  pub account : Accounted code row
-  -- no fault is that of padding
-  pub unpadded : Unpadded row
+-- the laws of a row, where a text is kept
+abbrev Owes : ℕ → Row CauseTree → Type 0
+Owes = RowLaws tlv IsWellFormed (λ code value. HoldsText code → IsUtf8 value)
 
--- A kind, by its laws and its trees in the table: they are well-formed as its own format says.
-kind : {X : Type 0} {read : ℕ → ℕ → List ℕ → Result X Fault} {written : X → Tlv}
-    {HasWidths IsFormed : X → Type 0}
-    → KindLaws read written HasWidths IsFormed → (tree : X → CauseTree) (code : ℕ)
-    → ((x : X) → IsFormed x → IsWellFormed (tree x))
-    → Accounted code (plain (λ value. map_ok tree (read 0 0 value)))
-    → RowLaws code (plain (λ value. map_ok tree (read 0 0 value)))
-kind {X} {read} laws tree code formed account = record {
-  plain = is_plain _;
-  forms = plain_forms laws tree IsWellFormed 0 0 formed;
-  account = account;
-  unpadded = plain_unpadded tree (read 0 0) (laws.unpadded 0 0);
-}
-
--- one that keeps the size of its value
-sized : {X : Type 0} {read : ℕ → ℕ → List ℕ → Result X Fault} {written : X → Tlv}
-    → KeepsSize read written → (tree : X → CauseTree) (code : ℕ)
-    → ((x : X) → tlv (tree x) ≡ written x)
-    → Accounted code (plain (λ value. map_ok tree (read 0 0 value)))
-sized {X} {read} keeps tree code same value t kept =
-    plain_account (read 0 0) tree tlv (λ v x e. ap size_of (same x) ∙ keeps 0 0 v x e) value t
-
-rows : (code : ℕ) → RowLaws code (row code)
-unfolding unknown.read
-rows code = of_table RowLaws table code _ (
-    kind missing_laws MissingMandatoryParameter 2 (λ x h. h)
-    (sized missing_keeps MissingMandatoryParameter 2 (λ x. refl)) &
-    kind chunk_laws UnrecognizedChunk 6 (λ x h. h)
-    (sized chunk_keeps UnrecognizedChunk 6 (λ x. refl)) &
-    kind no_user_data_laws NoUserData 9 (λ x h. h)
-    (sized no_user_data_keeps NoUserData 9 (λ x. refl)) &
-    kind cookie_received_laws (λ _. CookieReceivedWhileShuttingDown) 10 (λ x h. h)
-    (sized cookie_received_keeps (λ _. CookieReceivedWhileShuttingDown) 10 (λ x. refl)) &
-    kind abort_laws UserInitiatedAbort 12 (λ x h. h)
+rows : (code : ℕ) → Owes code (row code)
+rows code = of_table Owes table code _ (
+    sized missing_laws MissingMandatoryParameter (λ x h. h) missing_keeps (λ x. refl) &
+    sized chunk_laws UnrecognizedChunk (λ x h. h) chunk_keeps (λ x. refl) &
+    sized no_user_data_laws NoUserData (λ x h. h) no_user_data_keeps (λ x. refl) &
+    sized cookie_received_laws (λ _. CookieReceivedWhileShuttingDown) (λ x h. h)
+    cookie_received_keeps (λ x. refl) &
+    kind abort_laws UserInitiatedAbort (λ x h. h)
     (λ value t kept. text_account abort.read UserInitiatedAbort value t (kept (inl refl))
     (λ x. refl) (abort_kept value)) &
-    kind violation_laws ProtocolViolation 13 (λ x h. h)
+    kind violation_laws ProtocolViolation (λ x h. h)
     (λ value t kept. text_account violation.read ProtocolViolation value t (kept (inr refl))
     (λ x. refl) (violation_kept value)) & tt)
-    (λ unnamed. record {
-      plain = is_plain _;
-      forms = unknown_forms IsWellFormed code Unknown (λ value. unnamed);
-      account = λ value t kept. plain_account _ Unknown tlv (unknown_keeps code 0 0) value t;
-      unpadded = ok_unpadded _;
-    })
+    (λ unnamed. unknown_row Unknown (λ u. refl) (λ value. unnamed))
 
 pub row_lawful : (code : ℕ) → LawfulRow (row code)
 row_lawful code = (rows code).plain.0
@@ -120,21 +79,17 @@ causes_looser strict = record { row = λ first second value t m. m; any = λ siz
 
 -- ---- any value
 
--- what a row owes where its code is none of those whose values can be at fault
-abbrev MeansAny : List ℕ → ℕ → Row CauseTree → Type 0
-MeansAny value code row = code ≢ 2 → code ≢ 9 → code ≢ 10 → HasMeaning row value
+-- the codes that don't allow any value
+abbrev checked : List ℕ
+checked = 2 ∷ 9 ∷ 10 ∷ []
 
--- any value of a code that allows any has a meaning
-pub any_value : (code : ℕ) (value : List ℕ) → MeansAny value code (row code)
+-- any value of another code has a meaning
+pub any_value : (code : ℕ) (value : List ℕ) → MeansAny checked value code (row code)
 unfolding chunk.read abort.read violation.read unknown.read
-any_value code value = of_table (MeansAny value) table code _ (
-    (λ not_2 not_9 not_10. absurd (not_2 refl)) &
-    (λ not_2 not_9 not_10. (_, refl)) &
-    (λ not_2 not_9 not_10. absurd (not_9 refl)) &
-    (λ not_2 not_9 not_10. absurd (not_10 refl)) &
-    (λ not_2 not_9 not_10. (_, refl)) &
-    (λ not_2 not_9 not_10. (_, refl)) & tt)
-    (λ _ not_2 not_9 not_10. (_, refl))
+any_value code value = of_table (MeansAny checked value) table code _ (
+    (search rules) & (λ _. (_, refl)) & (search rules) & (search rules) & (λ _. (_, refl)) &
+    (λ _. (_, refl)) & tt)
+    (λ _ _. (_, refl))
 
 -- ---- reading back
 
@@ -145,15 +100,6 @@ IsGoodCause t = IsGood format t
 -- the row for the two bytes that a code is written as
 abbrev Means : Tlv → CauseTree → Type 0
 Means tlv t = ((causes lenient).row tlv.first tlv.second).means (zeroed tlv.value) t
-
-unknown_means : (u : unknown.Tree) → IsUnnamed table u.typ
-    → Means (tlv (Unknown u)) (Unknown u)
-unfolding unknown.read
-unknown_means u h =
-    subst (λ (code : ℕ). (row code).means (zeroed (tlv (Unknown u)).value) (Unknown u))
-    (sym (type_back u.typ))
-    (of_others (λ row. row.means (zeroed (tlv (Unknown u)).value) (Unknown u)) table u.typ _ h
-    (rw (zeroed-solid u.value) refl))
 
 cause_means : (t : CauseTree) → IsGoodCause t → Means (tlv t) t
 cause_means (MissingMandatoryParameter types) good =
@@ -169,7 +115,7 @@ cause_means (UserInitiatedAbort reason) good =
     ap (map_ok UserInitiatedAbort) (abort_laws.back reason good.width tt good.encodable)
 cause_means (ProtocolViolation information) good =
     ap (map_ok ProtocolViolation) (violation_laws.back information good.width tt good.encodable)
-cause_means (Unknown u) good = unknown_means u good.formed
+cause_means (Unknown u) good = unknown_means table Unknown u good.formed
 
 -- an image is as long as its size
 pub length-cause : (t : CauseTree) → length (image_of (tlv t)) ≡ size_of (tlv t)

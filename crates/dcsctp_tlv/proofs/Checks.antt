@@ -1,13 +1,14 @@
 -- A check of a list, and the build after it: what both have gone over, and what is left.
-use Rattle.std.proofs.Common.{◌≡◌, ◌≢◌, ℕ, suc, ◌+◌, ◌*◌, ◌≤◌, true, List, [], ◌∷◌, ◌++◌, length, refl, sym, ap, subst, ◌∙◌, arith}
+use Rattle.std.proofs.Common.{◌≡◌, ◌≢◌, ℕ, suc, ◌+◌, ◌*◌, ◌≤◌, Bool, true, false, List, [], ◌∷◌, ◌++◌, length, refl, sym, ap, subst, ◌∙◌, arith}
 use Rattle.std.specs.List.{flat_map}
+use Rattle.std.specs.Prelude.{◌==◌}
 use Rattle.std.proofs.lemmas.List.{append-nil, get_or-drop, length-append, length-drop}
 use Rattle.dcsctp_tlv.specs.Number.{AreBytes}
 use Rattle.dcsctp_tlv.specs.Count.{total}
 use Rattle.dcsctp_tlv.specs.Frame.{padding_size, round_up_to_4, Item, item_bytes, PaddingRule, AreFormed, AreItems, frame_length, BeginsWithFrame, frame_value, frame_padding, frame_rest}
 use Rattle.dcsctp_tlv.specs.Level.{Level, ItemsMean, MeansTrees, MeansCounted, front_row}
 use Rattle.dcsctp_tlv.proofs.Items.{front_item, front_length, items_before}
-use Rattle.dcsctp_tlv.proofs.Lists.{Progress, step, finish}
+use Rattle.dcsctp_tlv.proofs.Lists.{Progress, step, finish, is_cons}
 use Rattle.dcsctp_tlv.proofs.Laws.{front_is, rest_is}
 
 -- ---- the check
@@ -158,6 +159,13 @@ pub record Building {T : Type 0} (level : Level T) (bytes rest : List ℕ) (buil
   pub left : List T
   pub mean : MeansTrees level rest left
   pub room : len + length left ≡ capacity
+
+-- before the end something is left, and so a first tree
+pub left_tree : {T : Type 0} {level : Level T} {bytes rest : List ℕ} {built : List T}
+    {len capacity : ℕ} {none : Bool} (b : Building level bytes rest built len capacity)
+    → none ≡ (length rest == 0) → none ≡ false → FirstTree level rest b.left
+left_tree {T} {level} {bytes} {rest} {built} {len} {capacity} {none} b e h =
+    first_tree level rest b.left b.progress.fits (is_cons rest none e h) b.mean
 
 pub build_step : {T : Type 0} (level : Level T) (bytes rest : List ℕ) (built : List T) (t : T)
     (len capacity : ℕ) (b : Building level bytes rest built len capacity)

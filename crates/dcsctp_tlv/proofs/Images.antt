@@ -139,11 +139,11 @@ size_front tlv (t ∷ []) (u ∷ us) = omega arith
 size_front tlv (t ∷ u ∷ ts) us = let h = size_front tlv (u ∷ ts) us in omega (arith, h)
 
 -- the next item fits after those before it
-next_size : {T : Type 0} (tlv : T → Tlv) (ts : List T) (i : ℕ) (t : T) → i < length ts
+next_size : {T : Type 0} (tlv : T → Tlv) (ts : List T) {i : ℕ} {t : T} → i < length ts
     → t ≡ get_or ts i t
     → (list_size tlv (take (i + 1) ts) ≡ round_up_to_4 (list_size tlv (take i ts))
     + size_of (tlv t)) × (list_size tlv (take (i + 1) ts) ≤ list_size tlv ts)
-next_size tlv ts i t lt e =
+next_size tlv ts {i} {t} lt e =
     let more : take (i + 1) ts ≡ take i ts ++ t ∷ [] =
     take_more ts i t lt ∙ ap (λ (x : _). take i ts ++ x ∷ []) (sym e) in (
       ap (list_size tlv) more ∙ list_size-push tlv (take i ts) t,
@@ -152,12 +152,12 @@ next_size tlv ts i t lt e =
     )
 
 -- the same for a list that can be written
-pub room_for : {T : Type 0} (tlv : T → Tlv) (placed : T → Type 0) (ts : List T) (i : ℕ) (t : T)
+pub room_for : {T : Type 0} {tlv : T → Tlv} {placed : T → Type 0} {ts : List T} {i : ℕ} {t : T}
     → IsListEncodable tlv placed ts → i < length ts → t ≡ get_or ts i t
     → placed t × (list_size tlv (take (i + 1) ts) ≡ round_up_to_4 (list_size tlv (take i ts))
     + size_of (tlv t)) × (list_size tlv (take (i + 1) ts) ≤ list_size tlv ts)
-room_for tlv placed ts i t h lt e =
-    let n = next_size tlv ts i t lt e in
+room_for {T} {tlv} {placed} {ts} {i} {t} h lt e =
+    let n = next_size tlv ts lt e in
     (subst placed (sym e) (h.each i t lt), n.0, n.1)
 
 -- what follows for each item
@@ -173,14 +173,14 @@ all_take P (suc i) [] h = tt
 all_take P (suc i) (t ∷ ts) h = (h.0, all_take P i ts h.1)
 
 -- one item more of a list is written
-pub written_more : {T : Type 0} (tlv : T → Tlv) (ts : List T) (i : ℕ) (t : T) (old out : List ℕ)
-    (start : ℕ)
+pub written_more : {T : Type 0} (tlv : T → Tlv) (ts : List T) {i : ℕ} {t : T} (old : List ℕ)
+    {out : List ℕ} {start : ℕ}
     → ((x : T) → length (image_of (tlv x)) ≡ size_of (tlv x)) → i < length ts → t ≡ get_or ts i t
     → out ≡ written (list_image tlv (take i ts)) old
     → start ≡ round_up_to_4 (list_size tlv (take i ts))
     → take start out ++ written (image_of (tlv t)) (drop start out)
     ≡ written (list_image tlv (take (i + 1) ts)) old
-written_more tlv ts i t old out start law lt e so_far here =
+written_more tlv ts {i} {t} old {out} {start} law lt e so_far here =
     let before = list_image tlv (take i ts) in
     let size = list_size tlv (take i ts) in
     let len : length before ≡ size = length-list_image tlv law (take i ts) in
@@ -193,21 +193,20 @@ written_more tlv ts i t old out start law lt e so_far here =
 
 -- ---- the test of a list
 
-pub not_total : {T : Type 0} (tlv : T → Tlv) (placed : T → Type 0) (ts : List T) (i : ℕ) (t : T)
-    (total : ℕ) → i < length ts → t ≡ get_or ts i t
-    → total ≡ list_size tlv (take i ts) → 65535 < round_up_to_4 total + size_of (tlv t)
-    → IsListEncodable tlv placed ts → ⊥
-not_total tlv placed ts i t total lt e so_far big h =
-    let n = room_for tlv placed ts i t h lt e in
+pub not_total : {T : Type 0} {tlv : T → Tlv} {placed : T → Type 0} {ts : List T} {i : ℕ} {t : T}
+    {total : ℕ} → IsListEncodable tlv placed ts → i < length ts → t ≡ get_or ts i t
+    → total ≡ list_size tlv (take i ts) → 65535 < round_up_to_4 total + size_of (tlv t) → ⊥
+not_total h lt e so_far big =
+    let n = room_for h lt e in
     let k = ap round_up_to_4 so_far in
     omega (arith, n.1, n.2, h.total, k, big)
 
-pub total_more : {T : Type 0} (tlv : T → Tlv) (ts : List T) (i : ℕ) (t : T) (total next : ℕ)
+pub total_more : {T : Type 0} (tlv : T → Tlv) (ts : List T) {i : ℕ} {t : T} {total next : ℕ}
     → i < length ts → t ≡ get_or ts i t
     → total ≡ list_size tlv (take i ts) → next ≡ round_up_to_4 total + size_of (tlv t)
     → next ≡ list_size tlv (take (i + 1) ts)
-total_more tlv ts i t total next lt e so_far is = is ∙ ap (λ (n : ℕ). round_up_to_4 n
-    + size_of (tlv t)) so_far ∙ sym (next_size tlv ts i t lt e).0
+total_more tlv ts {i} {t} lt e so_far is = is ∙ ap (λ (n : ℕ). round_up_to_4 n
+    + size_of (tlv t)) so_far ∙ sym (next_size tlv ts lt e).0
 
 pub all_more : {T : Type 0} (P : T → Type 0) (ts : List T) (i : ℕ) (t : T) → i < length ts
     → t ≡ get_or ts i t → P t
@@ -219,10 +218,10 @@ all_more P ts i t lt e here before k d below = elim (cases_lt k i) [
       subst P (get_or_read ts i t lt e d ∙ ap (λ (j : ℕ). get_or ts j d) same) here)
 ]
 
-pub all_done : {T : Type 0} (tlv : T → Tlv) (placed : T → Type 0) (ts : List T) (i total : ℕ)
+pub all_done : {T : Type 0} {tlv : T → Tlv} {placed : T → Type 0} {ts : List T} {i total : ℕ}
     → length ts ≤ i → total ≡ list_size tlv (take i ts) → total < 2 ^ 16
     → ((k : ℕ) (d : T) → k < i → placed (get_or ts k d)) → IsListEncodable tlv placed ts
-all_done tlv placed ts i total le so_far small each =
+all_done {T} {tlv} {placed} {ts} {i} {total} le so_far small each =
     let whole : total ≡ list_size tlv ts = so_far ∙ ap (list_size tlv) (take_all i ts le) in
     record { each = λ k d lt. each k d (omega arith); total = omega (arith, whole) }
 

@@ -1,14 +1,14 @@
 -- Each list of bytes has one answer, at every level whose rows have one.
-use Rattle.std.proofs.Common.{◌≡◌, ◌≢◌, ℕ, suc, zero, ◌+◌, ◌-◌, ◌<◌, ◌≤◌, Bool, true, false, List, [], ◌∷◌, ◌++◌, length, get_or, drop, refl, sym, ap, subst, ◌∙◌, append_assoc, arith, ◌⊎◌, inl, inr, Result, Ok, Err}
+use Rattle.std.proofs.Common.{◌≡◌, ℕ, suc, zero, ◌+◌, ◌-◌, ◌<◌, ◌≤◌, Bool, true, false, List, [], ◌∷◌, ◌++◌, length, get_or, drop, refl, sym, ap, subst, ◌∙◌, append_assoc, arith, ◌⊎◌, inl, inr, Result, Ok, Err}
 use Rattle.std.specs.List.{flat_map}
 use Rattle.std.proofs.lemmas.Bool.{cases_lt}
-use Rattle.std.proofs.lemmas.List.{append-nil, get_or-drop, get_or-take, get_or_past, length-take, length-drop, length-append}
+use Rattle.std.proofs.lemmas.List.{append-nil, get_or-drop, get_or-take, get_or_past, length-take, length-drop}
 use Rattle.dcsctp_tlv.specs.Fault.{Fault, Length, Padding}
 use Rattle.dcsctp_tlv.specs.Number.{AreBytes}
 use Rattle.dcsctp_tlv.specs.Frame.{round_up_to_4, padding_size, any_padding, Item, item_bytes, PaddingRule, frame_length, BeginsWithFrame, frame_value, frame_padding, frame_rest}
 use Rattle.dcsctp_tlv.specs.Level.{Row, Level, ItemsMean, MeansTrees, HasFault, BeginsWithFault, no_frame, value, padding, front_row, plain, as_row, pick, front_offset, fault_offset, listed, listed_offset}
 use Rattle.dcsctp_tlv.proofs.Items.{IsNext, AreBefore, front_item, front_split, front_next, next_one, item_frame, items_before, whole_before}
-use Rattle.dcsctp_tlv.proofs.Lists.{Progress, begin, step, finish, fault}
+use Rattle.dcsctp_tlv.proofs.Lists.{Progress, begin, step, finish, not_nil, fault}
 
 -- each value means one tree or has one fault, at one place
 pub record LawfulRow {T : Type 0} (row : Row T) : Type 0 where
@@ -62,9 +62,6 @@ as_lawful {A} {B} f row law = record {
 }
 
 -- ---- lists
-
-nil_not_item : (i : Item) (r s : List ℕ) → [] ≡ (item_bytes i ++ r) ++ s → ⊥
-nil_not_item i r s e = cc
 
 loosened : (rule : PaddingRule) (i : Item) (r : List ℕ) → IsNext rule i r → IsNext any_padding i r
 loosened rule i r p =
@@ -137,159 +134,140 @@ at_item : (i : Item) (is : List Item) (r : List ℕ) → flat_map item_bytes (i 
     ≡ item_bytes i ++ (flat_map item_bytes is ++ r)
 at_item i is r = append_assoc (item_bytes i) (flat_map item_bytes is) r
 
+-- no item at the front means a tree
+abbrev EndsAt : {T : Type 0} → Level T → List ℕ → Type 0
+EndsAt {T} level rest = (i : Item) (t : T) (r : List ℕ) → rest ≡ item_bytes i ++ r
+    → IsNext level.padding i r → (level.row i.first i.second).means i.value t → ⊥
+
+nil_ends : {T : Type 0} (level : Level T) → EndsAt level []
+nil_ends level i t r e p m = cc
+
+fault_ends : {T : Type 0} (level : Level T) → Lawful level → (rest : List ℕ) (e : Fault)
+    → AreBytes rest → BeginsWithFault level rest e → EndsAt level rest
+fault_ends level law rest e fits f i t r is p m = front_apart level law i t r rest e fits is p m f
+
+-- the items up to such an end, and what they mean, are the only ones
 all_one : {T : Type 0} (level : Level T) → Lawful level → (is js : List Item) (ts us : List T)
-    → flat_map item_bytes is ++ [] ≡ flat_map item_bytes js ++ []
-    → AreBefore level.padding is [] → AreBefore level.padding js [] → ItemsMean level is ts
-    → ItemsMean level js us → ts ≡ us
-all_one level law [] [] [] [] e p q m n = refl
-all_one level law [] [] [] (u ∷ us) e p q m n = absurd n
-all_one level law [] [] (t ∷ ts) us e p q m n = absurd m
-all_one level law [] (j ∷ js) ts us e p q m n = absurd cc
-all_one level law (i ∷ is) [] ts us e p q m n = absurd cc
-all_one level law (i ∷ is) (j ∷ js) [] us e p q m n = absurd m
-all_one level law (i ∷ is) (j ∷ js) (t ∷ ts) [] e p q m n = absurd n
-all_one level law (i ∷ is) (j ∷ js) (t ∷ ts) (u ∷ us) e p q m n =
-    let b = after level.padding i j is js [] [] e p q in
+    (rest more : List ℕ) → EndsAt level rest → EndsAt level more
+    → flat_map item_bytes is ++ rest ≡ flat_map item_bytes js ++ more
+    → AreBefore level.padding is rest → AreBefore level.padding js more → ItemsMean level is ts
+    → ItemsMean level js us → (is ≡ js) × (ts ≡ us) × (rest ≡ more)
+all_one level law [] [] [] [] rest more f g e p q m n = (refl, refl, e)
+all_one level law [] [] [] (u ∷ us) rest more f g e p q m n = absurd n
+all_one level law [] js (t ∷ ts) us rest more f g e p q m n = absurd m
+all_one level law [] (j ∷ js) [] [] rest more f g e p q m n = absurd n
+all_one level law [] (j ∷ js) [] (u ∷ us) rest more f g e p q m n =
+    absurd (f j u (flat_map item_bytes js ++ more) (e ∙ at_item j js more) q.0 n.0)
+all_one level law (i ∷ is) js [] us rest more f g e p q m n = absurd m
+all_one level law (i ∷ is) [] (t ∷ ts) us rest more f g e p q m n =
+    absurd (g i t (flat_map item_bytes is ++ rest) (sym e ∙ at_item i is rest) p.0 m.0)
+all_one level law (i ∷ is) (j ∷ js) (t ∷ ts) [] rest more f g e p q m n = absurd n
+all_one level law (i ∷ is) (j ∷ js) (t ∷ ts) (u ∷ us) rest more f g e p q m n =
+    let b = after level.padding i j is js rest more e p q in
     let head : t ≡ u = (law i.first i.second).one i.value t u m.0
     (subst (λ (k : Item). (level.row k.first k.second).means k.value u) (sym b.0) n.0) in
-    let tail : ts ≡ us = all_one level law is js ts us b.1 p.1 q.1 m.1 n.1 in
-    cc
+    let tail = all_one level law is js ts us rest more f g b.1 p.1 q.1 m.1 n.1 in
+    let item : i ≡ j = b.0 in
+    let items : is ≡ js = tail.0 in
+    let trees : ts ≡ us = tail.1 in ((cc), (cc), tail.2)
 
-all_apart : {T : Type 0} (level : Level T) → Lawful level
-    → (is js : List Item) (ts us : List T) (rest : List ℕ) (e : Fault)
-    → AreBytes (flat_map item_bytes js ++ rest) → flat_map item_bytes is ++ [] ≡ flat_map item_bytes
-    js ++ rest
-    → AreBefore level.padding is [] → AreBefore level.padding js rest → ItemsMean level is ts
-    → ItemsMean level js us → BeginsWithFault level rest e → rest ≢ [] → ⊥
-all_apart level law [] [] ts us rest x fits e p q m n f h = h (sym e)
-all_apart level law [] (j ∷ js) ts us rest x fits e p q m n f h = cc
-all_apart level law (i ∷ is) [] [] us rest x fits e p q m n f h = m
-all_apart level law (i ∷ is) [] (t ∷ ts) us rest x fits e p q m n f h = front_apart level law i t
-    (flat_map item_bytes is ++ []) rest x fits (sym e ∙ at_item i is []) p.0 m.0 f
-all_apart level law (i ∷ is) (j ∷ js) [] us rest x fits e p q m n f h = m
-all_apart level law (i ∷ is) (j ∷ js) (t ∷ ts) [] rest x fits e p q m n f h = n
-all_apart level law (i ∷ is) (j ∷ js) (t ∷ ts) (u ∷ us) rest x fits e p q m n f h =
-    let b = after level.padding i j is js [] rest e p q in
-    all_apart level law is js ts us rest x (rest_fits (item_bytes j) (flat_map item_bytes js
-    ++ rest) _ fits (at_item j js rest)) b.1 p.1 q.1 m.1 n.1 f h
+one_way : {T : Type 0} (level : Level T) → Lawful level → (bytes : List ℕ) {ts us : List T}
+    {rest more : List ℕ} (p : Progress level bytes ts rest) (q : Progress level bytes us more)
+    → EndsAt level rest → EndsAt level more → (p.items ≡ q.items) × (ts ≡ us) × (rest ≡ more)
+one_way level law bytes {ts} {us} {rest} {more} p q f g = all_one level law p.items q.items ts us
+    rest more f g (sym p.split ∙ q.split) p.before q.before p.mean q.mean
 
-front_same : {T : Type 0} (level : Level T) → Lawful level → (rest : List ℕ) (d e : Fault)
-    → AreBytes rest → BeginsWithFault level rest d → BeginsWithFault level rest e → d ≡ e
-front_same level law rest d e fits (no_frame _ _ p) (no_frame _ _ q) = p ∙ sym q
-front_same level law rest d e fits (no_frame _ h _) (value k _) = absurd (h k)
-front_same level law rest d e fits (no_frame _ h _) (padding _ k _ _ _) = absurd (h k)
-front_same level law rest d e fits (value k _) (no_frame _ h _) = absurd (h k)
-front_same level law rest d e fits (value _ p) (value _ q) =
-    (law (get_or rest 0 0) (get_or rest 1 0)).same (frame_value rest) d e (value_fits rest fits) p q
-front_same level law rest d e fits (value _ p) (padding t _ m _ _) = absurd
-    ((law (get_or rest 0 0) (get_or rest 1 0)).apart (frame_value rest) t d (value_fits rest fits) m
-    p)
-front_same level law rest d e fits (padding _ k _ _ _) (no_frame _ h _) = absurd (h k)
-front_same level law rest d e fits (padding t _ m _ _) (value _ p) = absurd
-    ((law (get_or rest 0 0) (get_or rest 1 0)).apart (frame_value rest) t e (value_fits rest fits) m
-    p)
-front_same level law rest d e fits (padding _ _ _ _ p) (padding _ _ _ _ q) = p ∙ sym q
+of_trees : {T : Type 0} (level : Level T) (bytes : List ℕ) (ts : List T)
+    → MeansTrees level bytes ts → Progress level bytes ts []
+of_trees level bytes ts m = record {
+  items = m.items;
+  split = m.are.split ∙ sym (append-nil (flat_map item_bytes m.items));
+  before = items_before level.padding m.items m.are.formed;
+  mean = m.mean;
+  fits = λ i. omega arith;
+}
 
-all_same : {T : Type 0} (level : Level T) → Lawful level
-    → (is js : List Item) (ts us : List T) (rest more : List ℕ) (d e : Fault)
-    → AreBytes (flat_map item_bytes js ++ more) → flat_map item_bytes is ++ rest
-    ≡ flat_map item_bytes js ++ more
-    → AreBefore level.padding is rest → AreBefore level.padding js more → ItemsMean level is ts
-    → ItemsMean level js us → BeginsWithFault level rest d → BeginsWithFault level more e
-    → d ≡ e
-all_same level law [] [] ts us rest more d x fits e p q m n f g =
-    front_same level law more d x fits (subst (λ (r : List ℕ). BeginsWithFault level r d) e f) g
-all_same level law [] (j ∷ js) ts [] rest more d x fits e p q m n f g = absurd n
-all_same level law [] (j ∷ js) ts (u ∷ us) rest more d x fits e p q m n f g = absurd
-    (front_apart level law j u (flat_map item_bytes js ++ more) rest d (subst AreBytes (sym e) fits)
-    (e ∙ at_item j js more) q.0 n.0 f)
-all_same level law (i ∷ is) [] [] us rest more d x fits e p q m n f g = absurd m
-all_same level law (i ∷ is) [] (t ∷ ts) us rest more d x fits e p q m n f g = absurd
-    (front_apart level law i t (flat_map item_bytes is ++ rest) more x fits
-    (sym e ∙ at_item i is rest) p.0 m.0 g)
-all_same level law (i ∷ is) (j ∷ js) [] us rest more d x fits e p q m n f g = absurd m
-all_same level law (i ∷ is) (j ∷ js) (t ∷ ts) [] rest more d x fits e p q m n f g = absurd n
-all_same level law (i ∷ is) (j ∷ js) (t ∷ ts) (u ∷ us) rest more d x fits e p q m n f g =
-    let b = after level.padding i j is js rest more e p q in
-    all_same level law is js ts us rest more d x (rest_fits (item_bytes j) (flat_map item_bytes js
-    ++ more) _ fits (at_item j js more)) b.1 p.1 q.1 m.1 n.1 f g
+abbrev of_fault : {T : Type 0} (level : Level T) (bytes : List ℕ) (e : Fault) → AreBytes bytes
+    → (f : HasFault level bytes e) → Progress level bytes f.trees f.rest
+of_fault level bytes e fits f = record {
+  items = f.items;
+  split = f.split;
+  before = whole_before level.padding f.items f.rest f.whole;
+  mean = f.mean;
+  fits = rest_fits (flat_map item_bytes f.items) f.rest bytes fits f.split;
+}
 
--- ---- a fault lies at one place
+pub list_one : {T : Type 0} (level : Level T) → Lawful level → (bytes : List ℕ) (ts us : List T)
+    → MeansTrees level bytes ts → MeansTrees level bytes us → ts ≡ us
+list_one level law bytes ts us m n = (one_way level law bytes (of_trees level bytes ts m)
+    (of_trees level bytes us n) (nil_ends level) (nil_ends level)).1
 
-front_place : {T : Type 0} (level : Level T) → Lawful level → (rest : List ℕ) (d e : Fault)
+pub list_apart : {T : Type 0} (level : Level T) → Lawful level
+    → (bytes : List ℕ) (ts : List T) (e : Fault) → AreBytes bytes → MeansTrees level bytes ts
+    → HasFault level bytes e → ⊥
+list_apart level law bytes ts e fits m f =
+    let p = of_fault level bytes e fits f in
+    not_nil level f.rest e f.fault
+    (sym (one_way level law bytes (of_trees level bytes ts m) p (nil_ends level)
+    (fault_ends level law f.rest e p.fits f.fault)).2)
+
+-- ---- one fault, at one place
+
+-- two faults at the front are one
+abbrev Agree : {T : Type 0} (level : Level T) (rest more : List ℕ) (d e : Fault)
+    → BeginsWithFault level rest d → BeginsWithFault level more e → Type 0
+Agree level rest more d e f g =
+    (d ≡ e) × (front_offset level rest d f ≡ front_offset level more e g)
+
+meant : {T : Type 0} (level : Level T) → Lawful level → (rest : List ℕ) (t : T) (e : Fault)
+    → AreBytes rest → (front_row level rest).means (frame_value rest) t
+    → (front_row level rest).faults (frame_value rest) e → ⊥
+meant level law rest t e fits m p = (law (get_or rest 0 0) (get_or rest 1 0)).apart
+    (frame_value rest) t e (value_fits rest fits) m p
+
+front_agree : {T : Type 0} (level : Level T) → Lawful level → (rest : List ℕ) (d e : Fault)
     → AreBytes rest → (f : BeginsWithFault level rest d) (g : BeginsWithFault level rest e)
-    → front_offset level rest d f ≡ front_offset level rest e g
-front_place level law rest d e fits (no_frame _ _ _) (no_frame _ _ _) = refl
-front_place level law rest d e fits (no_frame _ h _) (value k _) = absurd (h k)
-front_place level law rest d e fits (no_frame _ h _) (padding _ k _ _ _) = absurd (h k)
-front_place level law rest d e fits (value k _) (no_frame _ h _) = absurd (h k)
-front_place level law rest d e fits (value _ p) (value _ q) =
-    (law (get_or rest 0 0) (get_or rest 1 0)).place (frame_value rest) d e (value_fits rest fits) p
-    q
-front_place level law rest d e fits (value _ p) (padding t _ m _ _) = absurd
-    ((law (get_or rest 0 0) (get_or rest 1 0)).apart (frame_value rest) t d (value_fits rest fits) m
-    p)
-front_place level law rest d e fits (padding _ k _ _ _) (no_frame _ h _) = absurd (h k)
-front_place level law rest d e fits (padding t _ m _ _) (value _ p) = absurd
-    ((law (get_or rest 0 0) (get_or rest 1 0)).apart (frame_value rest) t e (value_fits rest fits) m
-    p)
-front_place level law rest d e fits (padding _ _ _ _ _) (padding _ _ _ _ _) = refl
+    → Agree level rest rest d e f g
+front_agree level law rest d e fits (no_frame _ _ p) (no_frame _ _ q) = (p ∙ sym q, refl)
+front_agree level law rest d e fits (no_frame _ h _) (value k _) = absurd (h k)
+front_agree level law rest d e fits (no_frame _ h _) (padding _ k _ _ _) = absurd (h k)
+front_agree level law rest d e fits (value k _) (no_frame _ h _) = absurd (h k)
+front_agree level law rest d e fits (value _ p) (value _ q) =
+    let row = law (get_or rest 0 0) (get_or rest 1 0) in
+    let v = frame_value rest in
+    let in_width = value_fits rest fits in
+    (row.same v d e in_width p q, row.place v d e in_width p q)
+front_agree level law rest d e fits (value _ p) (padding t _ m _ _) =
+    absurd (meant level law rest t d fits m p)
+front_agree level law rest d e fits (padding _ k _ _ _) (no_frame _ h _) = absurd (h k)
+front_agree level law rest d e fits (padding t _ m _ _) (value _ p) =
+    absurd (meant level law rest t e fits m p)
+front_agree level law rest d e fits (padding _ _ _ _ p) (padding _ _ _ _ q) = (p ∙ sym q, refl)
 
--- the same at bytes that are equal
-moved_place : {T : Type 0} (level : Level T) → Lawful level → (rest more : List ℕ) (d e : Fault)
-    → AreBytes more → rest ≡ more
-    → (f : BeginsWithFault level rest d) (g : BeginsWithFault level more e)
-    → front_offset level rest d f ≡ front_offset level more e g
-moved_place level law rest more d e fits is f =
-    let P : List ℕ → Type 0 = λ r. (g : BeginsWithFault level r e) → front_offset level rest d f
-    ≡ front_offset level r e g in
-    subst P is (λ g. front_place level law rest d e (subst AreBytes (sym is) fits) f g)
+list_agree : {T : Type 0} (level : Level T) → Lawful level → (bytes : List ℕ) (d e : Fault)
+    → AreBytes bytes → (f : HasFault level bytes d) (g : HasFault level bytes e)
+    → (d ≡ e) × (fault_offset level bytes d f ≡ fault_offset level bytes e g)
+list_agree level law bytes d e fits f g =
+    let p = of_fault level bytes d fits f in
+    let q = of_fault level bytes e fits g in
+    let way = one_way level law bytes p q (fault_ends level law f.rest d p.fits f.fault)
+    (fault_ends level law g.rest e q.fits g.fault) in
+    let P : List ℕ → Type 0 =
+    λ r. (h : BeginsWithFault level r e) → Agree level f.rest r d e f.fault h in
+    let same = subst P way.2 (λ h. front_agree level law f.rest d e p.fits f.fault h) g.fault in (
+      same.0,
+      ap (λ (is : List Item). length (flat_map item_bytes is) + front_offset level f.rest d f.fault)
+          way.0 ∙ ap (λ (n : ℕ). length (flat_map item_bytes g.items) + n) same.1,
+    )
 
--- after one item that both have
-one_further : (i j : Item) (xs ys : List ℕ) (m n : ℕ) → i ≡ j → length xs + m ≡ length ys + n
-    → length (item_bytes i ++ xs) + m ≡ length (item_bytes j ++ ys) + n
-one_further i j xs ys m n is h =
-    let same : length (item_bytes i) ≡ length (item_bytes j) =
-    ap (λ (k : Item). length (item_bytes k)) is in
-    let left = length-append (item_bytes i) xs in
-    let right = length-append (item_bytes j) ys in
-    omega (arith, same, left, right, h)
-
-all_place : {T : Type 0} (level : Level T) → Lawful level
-    → (is js : List Item) (ts us : List T) (rest more : List ℕ) (d e : Fault)
-    → AreBytes (flat_map item_bytes js ++ more) → flat_map item_bytes is ++ rest
-    ≡ flat_map item_bytes js ++ more
-    → AreBefore level.padding is rest → AreBefore level.padding js more → ItemsMean level is ts
-    → ItemsMean level js us → (f : BeginsWithFault level rest d) (g : BeginsWithFault level more
-    e)
-    → length (flat_map item_bytes is) + front_offset level rest d f
-    ≡ length (flat_map item_bytes js) + front_offset level more e g
-all_place level law [] [] ts us rest more d x fits e p q m n f g =
-    ap (λ (k : ℕ). 0 + k) (moved_place level law rest more d x fits e f g)
-all_place level law [] (j ∷ js) ts [] rest more d x fits e p q m n f g = absurd n
-all_place level law [] (j ∷ js) ts (u ∷ us) rest more d x fits e p q m n f g = absurd
-    (front_apart level law j u (flat_map item_bytes js ++ more) rest d (subst AreBytes (sym e) fits)
-    (e ∙ at_item j js more) q.0 n.0 f)
-all_place level law (i ∷ is) [] [] us rest more d x fits e p q m n f g = absurd m
-all_place level law (i ∷ is) [] (t ∷ ts) us rest more d x fits e p q m n f g = absurd
-    (front_apart level law i t (flat_map item_bytes is ++ rest) more x fits
-    (sym e ∙ at_item i is rest) p.0 m.0 g)
-all_place level law (i ∷ is) (j ∷ js) [] us rest more d x fits e p q m n f g = absurd m
-all_place level law (i ∷ is) (j ∷ js) (t ∷ ts) [] rest more d x fits e p q m n f g = absurd n
-all_place level law (i ∷ is) (j ∷ js) (t ∷ ts) (u ∷ us) rest more d x fits e p q m n f g =
-    let b = after level.padding i j is js rest more e p q in
-    one_further i j (flat_map item_bytes is) (flat_map item_bytes js) (front_offset level rest d f)
-    (front_offset level more x g) b.0
-    (all_place level law is js ts us rest more d x (rest_fits (item_bytes j) (flat_map item_bytes js
-    ++ more) _ fits (at_item j js more)) b.1 p.1 q.1 m.1 n.1 f g)
+pub list_same : {T : Type 0} (level : Level T) → Lawful level → (bytes : List ℕ) (d e : Fault)
+    → AreBytes bytes → HasFault level bytes d → HasFault level bytes e → d ≡ e
+list_same level law bytes d e fits f g = (list_agree level law bytes d e fits f g).0
 
 pub list_place : {T : Type 0} (level : Level T) → Lawful level → (bytes : List ℕ) (d e : Fault)
     → AreBytes bytes → (f : HasFault level bytes d) (g : HasFault level bytes e)
     → fault_offset level bytes d f ≡ fault_offset level bytes e g
-list_place level law bytes d e fits f g = all_place level law f.items g.items f.trees g.trees f.rest
-    g.rest d e (subst AreBytes g.split fits) (sym f.split ∙ g.split)
-    (whole_before level.padding f.items f.rest f.whole) (whole_before level.padding g.items g.rest
-    g.whole) f.mean g.mean f.fault g.fault
+list_place level law bytes d e fits f g = (list_agree level law bytes d e fits f g).1
 
 -- ---- each list of bytes has an answer
 
@@ -351,35 +329,6 @@ pub list_some : {T : Type 0} (level : Level T) → Lawful level → (bytes : Lis
 list_some level law bytes fits =
     goes level law (suc (length bytes)) bytes [] bytes (omega arith) (begin level bytes fits)
 
-pub list_one : {T : Type 0} (level : Level T) → Lawful level → (bytes : List ℕ) (ts us : List T)
-    → MeansTrees level bytes ts → MeansTrees level bytes us → ts ≡ us
-list_one level law bytes ts us m n = all_one level law m.items n.items ts us
-    (ap (λ (x : List ℕ). x ++ []) (sym m.are.split ∙ n.are.split))
-    (items_before level.padding m.items m.are.formed) (items_before level.padding n.items
-    n.are.formed) m.mean n.mean
-
-rest_not_nil : {T : Type 0} (level : Level T) (rest : List ℕ) (e : Fault)
-    → BeginsWithFault level rest e → rest ≢ []
-rest_not_nil level [] e (no_frame h _ _) = h
-rest_not_nil level [] e (value h _) = absurd (omega (arith, h.header))
-rest_not_nil level [] e (padding _ h _ _ _) = absurd (omega (arith, h.header))
-rest_not_nil level (b ∷ rest) e f = λ c. cc
-
-pub list_apart : {T : Type 0} (level : Level T) → Lawful level
-    → (bytes : List ℕ) (ts : List T) (e : Fault) → AreBytes bytes → MeansTrees level bytes ts
-    → HasFault level bytes e → ⊥
-list_apart level law bytes ts e fits m f = all_apart level law m.items f.items ts f.trees f.rest e
-    (subst AreBytes f.split fits) (append-nil _ ∙ sym m.are.split ∙ f.split)
-    (items_before level.padding m.items m.are.formed) (whole_before level.padding f.items f.rest
-    f.whole) m.mean f.mean f.fault (rest_not_nil level f.rest e f.fault)
-
-pub list_same : {T : Type 0} (level : Level T) → Lawful level → (bytes : List ℕ) (d e : Fault)
-    → AreBytes bytes → HasFault level bytes d → HasFault level bytes e → d ≡ e
-list_same level law bytes d e fits f g = all_same level law f.items g.items f.trees g.trees f.rest
-    g.rest d e (subst AreBytes g.split fits) (sym f.split ∙ g.split)
-    (whole_before level.padding f.items f.rest f.whole) (whole_before level.padding g.items g.rest
-    g.whole) f.mean g.mean f.fault g.fault
-
 -- ---- a row whose value ends in a list
 
 drop_fits : (n : ℕ) (v : List ℕ) → AreBytes v → AreBytes (drop n v)
@@ -394,27 +343,20 @@ listed_lawful {T} {U} rule at level tree_of law = record {
     | inl g ↦ (let h : true ≡ false = sym p.0 ∙ g.0 in cc)
     | inr g ↦ list_apart level law (drop at v) p.1.0 e (drop_fits at v fits) p.1.1 g.1
   ];
-  same = λ v d e fits f g. faults_same v d e fits f g;
-  place = λ v d e fits f g. offsets_same v d e fits f g;
+  same = λ v d e fits f g. (agree v d e fits f g).0;
+  place = λ v d e fits f g. (agree v d e fits f g).1;
   some = λ v fits. answered v fits (rule v) refl;
 } where
-  offsets_same : (v : List ℕ) (d e : Fault) → AreBytes v
+  agree : (v : List ℕ) (d e : Fault) → AreBytes v
       → (f : (listed rule at level tree_of).faults v d) (g : (listed rule at level tree_of).faults v
       e)
-      → listed_offset rule at level v d f ≡ listed_offset rule at level v e g
-  offsets_same v d e fits (inl f) (inl g) = refl
-  offsets_same v d e fits (inl f) (inr g) = absurd (let h : false ≡ true = sym f.0 ∙ g.0 in cc)
-  offsets_same v d e fits (inr f) (inl g) = absurd (let h : true ≡ false = sym f.0 ∙ g.0 in cc)
-  offsets_same v d e fits (inr f) (inr g) = ap (λ (n : ℕ). 4 + (at + n))
-      (list_place level law (drop at v) d e (drop_fits at v fits) f.1 g.1)
-
-  faults_same : (v : List ℕ) (d e : Fault) → AreBytes v → (listed rule at level tree_of).faults v d
-      → (listed rule at level tree_of).faults v e → d ≡ e
-  faults_same v d e fits (inl f) (inl g) = f.1 ∙ sym g.1
-  faults_same v d e fits (inl f) (inr g) = let h : false ≡ true = sym f.0 ∙ g.0 in cc
-  faults_same v d e fits (inr f) (inl g) = let h : true ≡ false = sym f.0 ∙ g.0 in cc
-  faults_same v d e fits (inr f) (inr g) =
-      list_same level law (drop at v) d e (drop_fits at v fits) f.1 g.1
+      → (d ≡ e) × (listed_offset rule at level v d f ≡ listed_offset rule at level v e g)
+  agree v d e fits (inl f) (inl g) = (f.1 ∙ sym g.1, refl)
+  agree v d e fits (inl f) (inr g) = absurd (let h : false ≡ true = sym f.0 ∙ g.0 in cc)
+  agree v d e fits (inr f) (inl g) = absurd (let h : true ≡ false = sym f.0 ∙ g.0 in cc)
+  agree v d e fits (inr f) (inr g) =
+      let same = list_agree level law (drop at v) d e (drop_fits at v fits) f.1 g.1 in
+      (same.0, ap (λ (n : ℕ). 4 + (at + n)) same.1)
 
   answered : (v : List ℕ) → AreBytes v → (b : Bool) → rule v ≡ b
       → ((t : T) × (listed rule at level tree_of).means v t)

@@ -20,6 +20,7 @@ pub mod Counts
 pub mod Bounds
 pub mod Kept
 pub mod ParameterKinds
+pub mod TableLaws
 pub mod ParameterLaws
 pub mod Local
 pub mod Checks

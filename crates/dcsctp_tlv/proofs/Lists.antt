@@ -67,8 +67,8 @@ finish level bytes trees rest p e = record {
   mean = p.mean;
 }
 
-not_nil : {T : Type 0} (level : Level T) (rest : List ℕ) (e : Fault) → BeginsWithFault level rest e
-    → rest ≢ []
+pub not_nil : {T : Type 0} (level : Level T) (rest : List ℕ) (e : Fault)
+    → BeginsWithFault level rest e → rest ≢ []
 not_nil level [] e (no_frame h _ _) = h
 not_nil level [] e (value h _) = absurd (omega (arith, h.header))
 not_nil level [] e (padding _ h _ _ _) = absurd (omega (arith, h.header))

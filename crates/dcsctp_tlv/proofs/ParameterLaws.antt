@@ -1,17 +1,16 @@
 -- The laws of the table of parameters: a line for each kind.
-use Rattle.std.proofs.Common.{◌≡◌, ℕ, Bool, ◌+◌, ◌*◌, ◌^◌, ◌<◌, ◌≢◌, List, [], ◌∷◌, ◌++◌, length, refl, sym, ap, subst, ◌∙◌, Option, Some, None, Result}
+use Rattle.std.proofs.Common.{rules, ◌≡◌, ℕ, Bool, ◌+◌, ◌*◌, ◌^◌, ◌<◌, List, [], ◌∷◌, ◌++◌, length, refl, ap, Option, Some, None}
 use Rattle.std.specs.Prelude.{IfSome}
 use Rattle.std.specs.Int.{w16, w32, from_be_bytes}
 use Rattle.std.specs.List.{AllByRecursion}
 use Rattle.dcsctp_tlv.specs.Decided.{IgnoresPadding}
-use Rattle.dcsctp_tlv.specs.Fault.{Fault}
 use Rattle.dcsctp_tlv.specs.Format.{sized_tlv}
 use Rattle.dcsctp_tlv.specs.Frame.{lenient}
 use Rattle.dcsctp_tlv.specs.Number.{numbers}
 use Rattle.dcsctp_tlv.proofs.Lengths.{length-format}
-use Rattle.dcsctp_tlv.specs.Level.{Row, plain, map_ok, HasMeaning}
+use Rattle.dcsctp_tlv.specs.Level.{Row, map_ok}
 use Rattle.dcsctp_tlv.specs.Image.{Tlv, zeroed, image_of, size_of, list_size}
-use Rattle.dcsctp_tlv.specs.Table.{IsUnnamed, ◌&◌}
+use Rattle.dcsctp_tlv.specs.Table.{◌&◌}
 use Rattle.dcsctp_tlv.specs.HeartbeatInfo as info
 use Rattle.dcsctp_tlv.specs.StateCookie as cookie
 use Rattle.dcsctp_tlv.specs.SupportedExtensions as extensions
@@ -23,68 +22,40 @@ use Rattle.dcsctp_tlv.specs.UnknownParameter as unknown
 use Rattle.dcsctp_tlv.specs.Parameter.{ParameterTree, HeartbeatInfo, StateCookie, OutgoingSsnResetRequest, IncomingSsnResetRequest, SsnTsnResetRequest, ReconfigurationResponse, AddOutgoingStreamsRequest, AddIncomingStreamsRequest, ZeroChecksumAcceptable, SupportedExtensions, ForwardTsnSupported, Unknown, table, row, parameters, format, tlv, IsInWidth, IsWellFormed, kept, all_kept}
 use Rattle.dcsctp_tlv.proofs.Laws.{LawfulRow, Lawful}
 use Rattle.dcsctp_tlv.proofs.FormatLaws.{IsGood, good_list}
-use Rattle.dcsctp_tlv.proofs.Places.{AtFront, IsPlain, is_plain}
+use Rattle.dcsctp_tlv.proofs.Places.{AtFront}
 use Rattle.dcsctp_tlv.proofs.Lenient.{Loosens}
-use Rattle.dcsctp_tlv.proofs.KindLaws.{KindLaws, KeepsSize}
-use Rattle.dcsctp_tlv.proofs.Unpadded.{Unpadded, plain_unpadded, ok_unpadded, list_unpadded}
-use Rattle.dcsctp_tlv.proofs.Tables.{of_table, of_others}
-use Rattle.dcsctp_tlv.proofs.ReadsBack.{ReadsBack, zeroed-solid}
-use Rattle.dcsctp_tlv.proofs.ParameterKinds.{info_laws, info_keeps, cookie_laws, cookie_keeps, outgoing_laws, outgoing_keeps, incoming_laws, incoming_keeps, response_laws, response_keeps, zero_checksum_laws, zero_checksum_keeps, extensions_laws, extensions_keeps, forward_tsn_laws, forward_tsn_keeps, ssn_tsn_laws, ssn_tsn_keeps, add_streams_laws, add_streams_keeps, type_back, unknown_keeps, unknown_forms}
-use Rattle.dcsctp_tlv.proofs.Forms.{FormsTrees, FormsRow, plain_forms}
-use Rattle.dcsctp_tlv.proofs.Accounts.{Accounts, AccountsRow, plain_account}
+use Rattle.dcsctp_tlv.proofs.Unpadded.{list_unpadded}
+use Rattle.dcsctp_tlv.proofs.TableLaws.{RowLaws, sized, unknown_row, unknown_means}
+use Rattle.dcsctp_tlv.proofs.Tables.{MeansAny, of_table}
+use Rattle.dcsctp_tlv.proofs.ReadsBack.{ReadsBack}
+use Rattle.dcsctp_tlv.proofs.ParameterKinds.{info_laws, info_keeps, cookie_laws, cookie_keeps, outgoing_laws, outgoing_keeps, incoming_laws, incoming_keeps, response_laws, response_keeps, zero_checksum_laws, zero_checksum_keeps, extensions_laws, extensions_keeps, forward_tsn_laws, forward_tsn_keeps, ssn_tsn_laws, ssn_tsn_keeps, add_streams_laws, add_streams_keeps}
+use Rattle.dcsctp_tlv.proofs.Forms.{FormsTrees}
+use Rattle.dcsctp_tlv.proofs.Accounts.{Accounts}
 use Rattle.dcsctp_tlv.proofs.Counts.{Counts, one_each}
 use Rattle.dcsctp_tlv.proofs.Kept.{all_map}
 
 -- ---- what each row owes
 
-record RowLaws (row : Row ParameterTree) : Type 0 where
-  -- each value means one tree or has one fault, which is the item's as a whole
-  pub plain : IsPlain row
-  -- what it means is well-formed, and is written in the same space
-  pub forms : FormsRow IsWellFormed row
-  pub account : AccountsRow tlv row
-  -- no fault is that of padding
-  pub unpadded : Unpadded row
+-- the laws of a row, where each value is kept
+abbrev Owes : ℕ → Row ParameterTree → Type 0
+Owes = RowLaws tlv IsWellFormed (λ typ value. Unit {0})
 
--- A kind, by its laws and its trees in the table: they are written, and well-formed, as its own
--- format says.
-kind : {X : Type 0} {read : ℕ → ℕ → List ℕ → Result X Fault} {written : X → Tlv}
-    {HasWidths IsFormed : X → Type 0}
-    → KindLaws read written HasWidths IsFormed → KeepsSize read written
-    → (tree : X → ParameterTree) → ((x : X) → tlv (tree x) ≡ written x)
-    → ((x : X) → IsFormed x → IsWellFormed (tree x))
-    → RowLaws (plain (λ value. map_ok tree (read 0 0 value)))
-kind {X} {read} laws keeps tree same formed = record {
-  plain = is_plain _;
-  forms = plain_forms laws tree IsWellFormed 0 0 formed;
-  account =
-      plain_account (read 0 0) tree tlv
-      (λ value x e. ap size_of (same x) ∙ keeps 0 0 value x e);
-  unpadded = plain_unpadded tree (read 0 0) (laws.unpadded 0 0);
-}
-
-rows : (typ : ℕ) → RowLaws (row typ)
-unfolding unknown.read
-rows typ = of_table (λ _ row. RowLaws row) table typ _ (
-    kind info_laws info_keeps HeartbeatInfo (λ x. refl) (λ x h. h) &
-    kind cookie_laws cookie_keeps StateCookie (λ x. refl) (λ x h. h) &
-    kind outgoing_laws outgoing_keeps OutgoingSsnResetRequest (λ x. refl) (λ x h. h) &
-    kind incoming_laws incoming_keeps IncomingSsnResetRequest (λ x. refl) (λ x h. h) &
-    kind ssn_tsn_laws ssn_tsn_keeps SsnTsnResetRequest (λ x. refl) (λ x h. h) &
-    kind response_laws response_keeps ReconfigurationResponse (λ x. refl) (λ x h. h) &
-    kind (add_streams_laws 17 add_outgoing.name) (add_streams_keeps 17 add_outgoing.name)
-    AddOutgoingStreamsRequest (λ x. refl) (λ x h. h) &
-    kind (add_streams_laws 18 add_incoming.name) (add_streams_keeps 18 add_incoming.name)
-    AddIncomingStreamsRequest (λ x. refl) (λ x h. h) &
-    kind zero_checksum_laws zero_checksum_keeps ZeroChecksumAcceptable (λ x. refl) (λ x h. h) &
-    kind extensions_laws extensions_keeps SupportedExtensions (λ x. refl) (λ x h. h) &
-    kind forward_tsn_laws forward_tsn_keeps (λ _. ForwardTsnSupported) (λ x. refl) (λ x h. h) & tt)
-    (λ unnamed. record {
-      plain = is_plain _;
-      forms = unknown_forms IsWellFormed typ Unknown (λ value. unnamed);
-      account = plain_account _ Unknown tlv (unknown_keeps typ 0 0);
-      unpadded = ok_unpadded _;
-    })
+rows : (typ : ℕ) → Owes typ (row typ)
+rows typ = of_table Owes table typ _ (
+    sized info_laws HeartbeatInfo (λ x h. h) info_keeps (λ x. refl) &
+    sized cookie_laws StateCookie (λ x h. h) cookie_keeps (λ x. refl) &
+    sized outgoing_laws OutgoingSsnResetRequest (λ x h. h) outgoing_keeps (λ x. refl) &
+    sized incoming_laws IncomingSsnResetRequest (λ x h. h) incoming_keeps (λ x. refl) &
+    sized ssn_tsn_laws SsnTsnResetRequest (λ x h. h) ssn_tsn_keeps (λ x. refl) &
+    sized response_laws ReconfigurationResponse (λ x h. h) response_keeps (λ x. refl) &
+    sized (add_streams_laws 17 add_outgoing.name) AddOutgoingStreamsRequest (λ x h. h)
+    (add_streams_keeps 17 add_outgoing.name) (λ x. refl) &
+    sized (add_streams_laws 18 add_incoming.name) AddIncomingStreamsRequest (λ x h. h)
+    (add_streams_keeps 18 add_incoming.name) (λ x. refl) &
+    sized zero_checksum_laws ZeroChecksumAcceptable (λ x h. h) zero_checksum_keeps (λ x. refl) &
+    sized extensions_laws SupportedExtensions (λ x h. h) extensions_keeps (λ x. refl) &
+    sized forward_tsn_laws (λ _. ForwardTsnSupported) (λ x h. h) forward_tsn_keeps (λ x. refl) & tt)
+    (λ unnamed. unknown_row Unknown (λ u. refl) (λ value. unnamed))
 
 pub row_lawful : (typ : ℕ) → LawfulRow (row typ)
 row_lawful typ = (rows typ).plain.0
@@ -104,28 +75,18 @@ parameters_looser strict =
 
 -- ---- any value
 
--- what a row owes where its type is none of those whose values can be at fault
-abbrev MeansAny : List ℕ → ℕ → Row ParameterTree → Type 0
-MeansAny value typ row =
-    typ ≢ 13 → typ ≢ 14 → typ ≢ 15 → typ ≢ 16 → typ ≢ 17 → typ ≢ 18 → typ ≢ 0x8001 → typ ≢ 0xC000
-    → HasMeaning row value
+-- the types that don't allow any value
+abbrev checked : List ℕ
+checked = 13 ∷ 14 ∷ 15 ∷ 16 ∷ 17 ∷ 18 ∷ 0x8001 ∷ 0xC000 ∷ []
 
--- any value of a type that allows any has a meaning
-pub any_value : (typ : ℕ) (value : List ℕ) → MeansAny value typ (row typ)
+-- any value of another type has a meaning
+pub any_value : (typ : ℕ) (value : List ℕ) → MeansAny checked value typ (row typ)
 unfolding info.read cookie.read extensions.read unknown.read
-any_value typ value = of_table (MeansAny value) table typ _ (
-    (λ a b c d e f g h. (_, refl)) &
-    (λ a b c d e f g h. (_, refl)) &
-    (λ not_13 b c d e f g h. absurd (not_13 refl)) &
-    (λ a not_14 c d e f g h. absurd (not_14 refl)) &
-    (λ a b not_15 d e f g h. absurd (not_15 refl)) &
-    (λ a b c not_16 e f g h. absurd (not_16 refl)) &
-    (λ a b c d not_17 f g h. absurd (not_17 refl)) &
-    (λ a b c d e not_18 g h. absurd (not_18 refl)) &
-    (λ a b c d e f not_0x8001 h. absurd (not_0x8001 refl)) &
-    (λ a b c d e f g h. (_, refl)) &
-    (λ a b c d e f g not_0xC000. absurd (not_0xC000 refl)) & tt)
-    (λ _ a b c d e f g h. (_, refl))
+any_value typ value = of_table (MeansAny checked value) table typ _ (
+    (λ _. (_, refl)) & (λ _. (_, refl)) & (search rules) & (search rules) & (search rules) &
+    (search rules) & (search rules) & (search rules) & (search rules) & (λ _. (_, refl)) &
+    (search rules) & tt)
+    (λ _ _. (_, refl))
 
 -- ---- reading back
 
@@ -136,14 +97,6 @@ IsGoodParameter t = IsGood format t
 -- the row for the two bytes that a type is written as
 abbrev Means : Tlv → ParameterTree → Type 0
 Means tlv t = ((parameters lenient).row tlv.first tlv.second).means (zeroed tlv.value) t
-
-unknown_means : (u : unknown.Tree) → IsUnnamed table u.typ → Means (tlv (Unknown u)) (Unknown u)
-unfolding unknown.read
-unknown_means u h =
-    subst (λ (typ : ℕ). (row typ).means (zeroed (tlv (Unknown u)).value) (Unknown u))
-    (sym (type_back u.typ))
-    (of_others (λ row. row.means (zeroed (tlv (Unknown u)).value) (Unknown u)) table u.typ _ h
-    (rw (zeroed-solid u.value) refl))
 
 parameter_means : (t : ParameterTree) → IsGoodParameter t → Means (tlv t) t
 unfolding unknown.read
@@ -171,7 +124,7 @@ parameter_means (SupportedExtensions types) good =
     ap (map_ok SupportedExtensions) (extensions_laws.back types good.width tt good.encodable)
 parameter_means ForwardTsnSupported good =
     ap (map_ok (λ _. ForwardTsnSupported)) (forward_tsn_laws.back tt tt tt good.encodable)
-parameter_means (Unknown u) good = unknown_means u good.formed
+parameter_means (Unknown u) good = unknown_means table Unknown u good.formed
 
 -- an image is as long as its size
 pub length-parameter : (t : ParameterTree) → length (image_of (tlv t)) ≡ size_of (tlv t)
@@ -199,7 +152,7 @@ parameters_form =
 
 pub parameters_account : Accounts (parameters lenient) tlv (λ i. Unit {0})
 parameters_account = record {
-  sized = λ i t kept. (rows (from_be_bytes w16 (i.first ∷ i.second ∷ []))).account i.value t;
+  sized = λ i t kept. (rows (from_be_bytes w16 (i.first ∷ i.second ∷ []))).account i.value t tt;
 }
 
 -- ---- padding

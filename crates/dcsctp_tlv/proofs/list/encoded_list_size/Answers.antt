@@ -1,4 +1,4 @@
-use Rattle.std.proofs.Common.{arith, refl, ap, ◌∙◌, ◌+◌}
+use Rattle.std.proofs.Common.{arith, refl, ap, ◌∙◌}
 use Rattle.std.proofs.lemmas.List.{take_all}
 use Rattle.dcsctp_tlv.specs.Format.{tlv_by}
 use Rattle.dcsctp_tlv.specs.Image.{list_size}
@@ -11,38 +11,28 @@ loop-item-init g c =
 
 pub returns-in_default : goal.returns-in_default
 returns-in_default g c = λ h.
-    let n = room_for (tlv_by g.T.SerializableTlv.format) g.T.SerializableTlv.placed c.args.list.now
-    c.loop-item.item-index c.item-item.result h c.loop-item-test.true c.item-item.is in
+    let n = room_for h c.loop-item-test.true c.item-item.is in
     c.in_default.ensures (n.0, omega (arith, n.1, n.2, h.total))
 
 pub returns-then-total-gt65535 : goal.returns-then-total-gt65535
 returns-then-total-gt65535 g c = λ h.
-    let big = c.if-total-gt65535.true in
-    not_total (tlv_by g.T.SerializableTlv.format) g.T.SerializableTlv.placed c.args.list.now
-    c.loop-item.item-index c.item-item.result c.loop-item.total c.loop-item-test.true
-    c.item-item.is c.loop-item.invariant.total
-    (omega (arith, big, c.round_up_to_4.ensures, c.in-Some.ensures.1)) h
+    not_total h c.loop-item-test.true c.item-item.is c.loop-item.invariant.total
+    (omega (arith, c.in-Some.ensures.1))
 
 pub loop-item-preserved : goal.loop-item-preserved
-loop-item-preserved g c =
-    let small = c.if-total-gt65535.false in
-    record {
-      total = total_more (tlv_by g.T.SerializableTlv.format) c.args.list.now c.loop-item.item-index
-          c.item-item.result c.loop-item.total (c.round_up_to_4.result + c.in-Some.size)
-          c.loop-item-test.true c.item-item.is c.loop-item.invariant.total
-          (omega (arith, c.round_up_to_4.ensures, c.in-Some.ensures.1));
-      small = omega (arith, small);
-      each = all_more g.T.SerializableTlv.placed c.args.list.now c.loop-item.item-index
-          c.item-item.result c.loop-item-test.true c.item-item.is c.in-Some.ensures.0.0
-          c.loop-item.invariant.each;
-    }
+loop-item-preserved g c = record {
+  total = total_more (tlv_by g.T.SerializableTlv.format) c.args.list.now c.loop-item-test.true
+      c.item-item.is c.loop-item.invariant.total (omega (arith, c.in-Some.ensures.1));
+  small = omega arith;
+  each = all_more g.T.SerializableTlv.placed c.args.list.now c.loop-item.item-index
+      c.item-item.result c.loop-item-test.true c.item-item.is c.in-Some.ensures.0.0
+      c.loop-item.invariant.each;
+}
 
 pub returns : goal.returns
-returns g c =
-    let whole = all_done (tlv_by g.T.SerializableTlv.format) g.T.SerializableTlv.placed
-    c.args.list.now c.loop-item.item-index c.loop-item.total c.loop-item-test.false
-    c.loop-item.invariant.total c.loop-item.invariant.small c.loop-item.invariant.each in (
-      whole,
-      c.loop-item.invariant.total ∙ ap (list_size (tlv_by g.T.SerializableTlv.format))
-          (take_all c.loop-item.item-index c.args.list.now c.loop-item-test.false),
-    )
+returns g c = (
+  all_done c.loop-item-test.false c.loop-item.invariant.total c.loop-item.invariant.small
+      c.loop-item.invariant.each,
+  c.loop-item.invariant.total ∙ ap (list_size (tlv_by g.T.SerializableTlv.format))
+      (take_all c.loop-item.item-index c.args.list.now c.loop-item-test.false),
+)

@@ -1,5 +1,4 @@
 use Rattle.std.proofs.Common.{arith, ◌∙◌, ap}
-use Rattle.dcsctp_tlv.specs.Format.{tlv_by}
 use Rattle.dcsctp_tlv.proofs.Lengths.{length-format}
 use Rattle.dcsctp_tlv.specs.Frame.{round_up_to_4}
 use Rattle.dcsctp_tlv.proofs.Images.{room_for, written_more}
@@ -8,131 +7,48 @@ use Rattle.dcsctp_tlv.proofs.list.put_list.Goals as goal
 
 pub round_up_to_4-start-requires : goal.round_up_to_4-start-requires
 round_up_to_4-start-requires g c =
-    let n = room_for (tlv_by g.T.SerializableTlv.format) g.T.SerializableTlv.placed c.args.list.now
-    c.loop-item.item-index c.item-item.result c.requires.encodable c.loop-item-test.true
-    c.item-item.is in
-    omega (arith, n.1, n.2, c.requires.encodable.total, c.loop-item.invariant.total)
+    let n = room_for c.requires.encodable c.loop-item-test.true c.item-item.is in
+    omega (arith, n.1, n.2)
 
 pub split_at_mut-rest-requires : goal.split_at_mut-rest-requires
 split_at_mut-rest-requires g c =
-    let n = room_for (tlv_by g.T.SerializableTlv.format) g.T.SerializableTlv.placed c.args.list.now
-    c.loop-item.item-index c.item-item.result c.requires.encodable c.loop-item-test.true
-    c.item-item.is in
-    omega (
-      arith,
-      n.1,
-      n.2,
-      c.requires.room,
-      ap round_up_to_4 c.loop-item.invariant.total,
-      c.round_up_to_4-start.ensures,
-      c.loop-item.auto.output,
-    )
+    let n = room_for c.requires.encodable c.loop-item-test.true c.item-item.is in
+    omega (arith, n.1, n.2)
 
 pub serialize_to-requires-clause-room : goal.serialize_to-requires-clause-room
 serialize_to-requires-clause-room g c =
-    let n = room_for (tlv_by g.T.SerializableTlv.format) g.T.SerializableTlv.placed c.args.list.now
-    c.loop-item.item-index c.item-item.result c.requires.encodable c.loop-item-test.true
-    c.item-item.is in
-    omega (
-      arith,
-      n.1,
-      n.2,
-      c.requires.room,
-      ap round_up_to_4 c.loop-item.invariant.total,
-      c.round_up_to_4-start.ensures,
-      c.loop-item.auto.output,
-      c.split_at_mut-rest.ensures.back_len,
-    )
+    let n = room_for c.requires.encodable c.loop-item-test.true c.item-item.is in
+    omega (arith, n.1, n.2)
 
 pub serialize_to-requires-clause-encodable : goal.serialize_to-requires-clause-encodable
 serialize_to-requires-clause-encodable g c =
-    let n = room_for (tlv_by g.T.SerializableTlv.format) g.T.SerializableTlv.placed c.args.list.now
-    c.loop-item.item-index c.item-item.result c.requires.encodable c.loop-item-test.true
-    c.item-item.is in
-    omega (arith, n.1, n.2, c.requires.encodable.total)
+    let n = room_for c.requires.encodable c.loop-item-test.true c.item-item.is in
+    omega (arith, n.1, n.2)
 
 pub frame_length-requires : goal.frame_length-requires
 frame_length-requires g c =
-    let n = room_for (tlv_by g.T.SerializableTlv.format) g.T.SerializableTlv.placed c.args.list.now
-    c.loop-item.item-index c.item-item.result c.requires.encodable c.loop-item-test.true
-    c.item-item.is in
-    omega (
-      arith,
-      n.1,
-      n.2,
-      c.requires.room,
-      ap round_up_to_4 c.loop-item.invariant.total,
-      c.round_up_to_4-start.ensures,
-      c.loop-item.auto.output,
-      c.split_at_mut-rest.ensures.back_len,
-      c.serialize_to.auto.output,
-    )
+    let n = room_for c.requires.encodable c.loop-item-test.true c.item-item.is in
+    omega (arith, n.1, n.2)
 
 pub overflow_add-end : goal.overflow_add-end
 overflow_add-end g c =
-    let n = room_for (tlv_by g.T.SerializableTlv.format) g.T.SerializableTlv.placed c.args.list.now
-    c.loop-item.item-index c.item-item.result c.requires.encodable c.loop-item-test.true
-    c.item-item.is in
-    let size = c.frame_length.ensures ∙ written_length (tlv_by g.T.SerializableTlv.format
-    c.item-item.result) c.split_at_mut-rest.result.1.now c.serialize_to.new.output
-    (omega (arith, n.1, n.2, c.requires.encodable.total))
-    (omega (
-      arith,
-      n.1,
-      n.2,
-      c.requires.room,
-      ap round_up_to_4 c.loop-item.invariant.total,
-      c.round_up_to_4-start.ensures,
-      c.loop-item.auto.output,
-      c.split_at_mut-rest.ensures.back_len,
-    )) c.serialize_to.ensures in
-    record {
-      fits = omega (
-        arith,
-        n.1,
-        n.2,
-        c.requires.encodable.total,
-        ap round_up_to_4
-            c.loop-item.invariant.total,
-        c.round_up_to_4-start.ensures,
-        size,
-      );
-    }
+    let n = room_for c.requires.encodable c.loop-item-test.true c.item-item.is in
+    let size = c.frame_length.ensures ∙ written_length _ _ _ (omega (arith, n.1, n.2))
+    (omega (arith, n.1, n.2)) c.serialize_to.ensures in
+    omega (arith, n.1, n.2, size)
 
 pub loop-item-preserved : goal.loop-item-preserved
 loop-item-preserved g c =
-    let n = room_for (tlv_by g.T.SerializableTlv.format) g.T.SerializableTlv.placed c.args.list.now
-    c.loop-item.item-index c.item-item.result c.requires.encodable c.loop-item-test.true
-    c.item-item.is in
-    let size = c.frame_length.ensures ∙ written_length (tlv_by g.T.SerializableTlv.format
-    c.item-item.result) c.split_at_mut-rest.result.1.now c.serialize_to.new.output
-    (omega (arith, n.1, n.2, c.requires.encodable.total))
-    (omega (
-      arith,
-      n.1,
-      n.2,
-      c.requires.room,
-      ap round_up_to_4 c.loop-item.invariant.total,
-      c.round_up_to_4-start.ensures,
-      c.loop-item.auto.output,
-      c.split_at_mut-rest.ensures.back_len,
-    )) c.serialize_to.ensures in
+    let n = room_for c.requires.encodable c.loop-item-test.true c.item-item.is in
+    let size = c.frame_length.ensures ∙ written_length _ _ _ (omega (arith, n.1, n.2))
+    (omega (arith, n.1, n.2)) c.serialize_to.ensures in
     record {
-      total = omega (
-        arith,
-        n.1,
-        ap round_up_to_4 c.loop-item.invariant.total,
-        c.round_up_to_4-start.ensures,
-        size,
-      );
+      total = omega (arith, n.1, size);
       done = rw (
         c.split_at_mut-rest.ensures.front,
         c.serialize_to.ensures,
         c.split_at_mut-rest.ensures.back,
-      )
-          (written_more (tlv_by g.T.SerializableTlv.format) c.args.list.now c.loop-item.item-index
-          c.item-item.result c.args.output.now c.loop-item.output c.round_up_to_4-start.result
-          (λ x. length-format (g.T.SerializableTlv.format x)) c.loop-item-test.true c.item-item.is
-          c.loop-item.invariant.done (c.round_up_to_4-start.ensures ∙ ap round_up_to_4
-          c.loop-item.invariant.total));
+      ) (written_more _ c.args.list.now _ (λ x. length-format (g.T.SerializableTlv.format x))
+          c.loop-item-test.true c.item-item.is c.loop-item.invariant.done
+          (c.round_up_to_4-start.ensures ∙ ap round_up_to_4 c.loop-item.invariant.total));
     }

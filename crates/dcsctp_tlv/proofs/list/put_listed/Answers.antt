@@ -10,17 +10,13 @@ use Rattle.dcsctp_tlv.proofs.list.put_listed.Goals as goal
 
 pub put_list-size-requires-clause-encodable : goal.put_list-size-requires-clause-encodable
 put_list-size-requires-clause-encodable g c =
-    let s = g.T.SerializableTlv in
-    let l = g.T.ListedTlv in
-    let law = g.met.T.ListedTlv in
-    let size = list_size-view (tlv_by s.format) l.view l.tree_tlv law.same_tlv c.args.list.now in
-    list_encodable (tlv_by s.format) s.placed law.all_placed c.args.list.now
+    let size = list_size-view _ _ g.T.ListedTlv.tree_tlv g.met.T.ListedTlv.same_tlv in
+    list_encodable _ _ g.met.T.ListedTlv.all_placed c.args.list.now
     (omega (arith, size, c.requires.encodable))
 
 pub put_list-size-requires-clause-room : goal.put_list-size-requires-clause-room
 put_list-size-requires-clause-room g c =
-    let size = list_size-view (tlv_by g.T.SerializableTlv.format) g.T.ListedTlv.view
-    g.T.ListedTlv.tree_tlv g.met.T.ListedTlv.same_tlv c.args.list.now in
+    let size = list_size-view _ _ g.T.ListedTlv.tree_tlv g.met.T.ListedTlv.same_tlv in
     omega (
       arith,
       size,
@@ -31,14 +27,12 @@ put_list-size-requires-clause-room g c =
 
 pub overflow_add-leading : goal.overflow_add-leading
 overflow_add-leading g c =
-    let size = list_size-view (tlv_by g.T.SerializableTlv.format) g.T.ListedTlv.view
-    g.T.ListedTlv.tree_tlv g.met.T.ListedTlv.same_tlv c.args.list.now in
+    let size = list_size-view _ _ g.T.ListedTlv.tree_tlv g.met.T.ListedTlv.same_tlv in
     record { fits = omega (arith, size, c.put_list-size.ensures.size, c.requires.encodable) }
 
 pub put_header-requires-clause-encodable : goal.put_header-requires-clause-encodable
 put_header-requires-clause-encodable g c =
-    let size = list_size-view (tlv_by g.T.SerializableTlv.format) g.T.ListedTlv.view
-    g.T.ListedTlv.tree_tlv g.met.T.ListedTlv.same_tlv c.args.list.now in
+    let size = list_size-view _ _ g.T.ListedTlv.tree_tlv g.met.T.ListedTlv.same_tlv in
     omega (arith, size, c.put_list-size.ensures.size, c.requires.encodable)
 
 pub returns : goal.returns

@@ -3,8 +3,8 @@ use Rattle.std.specs.Prelude.{map}
 use Rattle.std.proofs.lemmas.List.{map_push}
 use Rattle.std.proofs.lemmas.List.Elements.{All-push}
 use Rattle.dcsctp_tlv.specs.Frame.{lenient}
-use Rattle.dcsctp_tlv.proofs.Lists.{finish, is_nil, is_cons}
-use Rattle.dcsctp_tlv.proofs.Checks.{first_tree, frame_shrinks, build_step, no_trees}
+use Rattle.dcsctp_tlv.proofs.Lists.{finish, is_nil}
+use Rattle.dcsctp_tlv.proofs.Checks.{left_tree, frame_shrinks, build_step, no_trees}
 use Rattle.dcsctp_tlv.proofs.reader.list_fill.Goals as goal
 
 pub returns-in_err-reserve_exact-clause-empty : goal.returns-in_err-reserve_exact-clause-empty
@@ -17,51 +17,33 @@ returns-in_err-reserve_exact-clause-empty g c = λ e. (
 
 pub frame_parts-requires : goal.frame_parts-requires
 frame_parts-requires g c =
-    (first_tree (g.T.ReadableTlv.level lenient) c.loop-rest.rest.now
-    c.loop-rest.invariant.building.left c.loop-rest.invariant.building.progress.fits
-    (is_cons c.loop-rest.rest.now c.is_empty.result c.is_empty.ensures c.loop-rest-test.true)
-    c.loop-rest.invariant.building.mean).frame
+    (left_tree c.loop-rest.invariant.building c.is_empty.ensures c.loop-rest-test.true).frame
 
 pub bounds-rest-1 : goal.bounds-rest-1
 bounds-rest-1 g c =
-    let f = first_tree (g.T.ReadableTlv.level lenient) c.loop-rest.rest.now
-    c.loop-rest.invariant.building.left c.loop-rest.invariant.building.progress.fits
-    (is_cons c.loop-rest.rest.now c.is_empty.result c.is_empty.ensures c.loop-rest-test.true)
-    c.loop-rest.invariant.building.mean in
+    let f = left_tree c.loop-rest.invariant.building c.is_empty.ensures c.loop-rest-test.true in
     omega (arith, f.frame.header)
 
 pub read_onto-requires-clause-meant : goal.read_onto-requires-clause-meant
 read_onto-requires-clause-meant g c =
-    let f = first_tree (g.T.ReadableTlv.level lenient) c.loop-rest.rest.now
-    c.loop-rest.invariant.building.left c.loop-rest.invariant.building.progress.fits
-    (is_cons c.loop-rest.rest.now c.is_empty.result c.is_empty.ensures c.loop-rest-test.true)
-    c.loop-rest.invariant.building.mean in
+    let f = left_tree c.loop-rest.invariant.building c.is_empty.ensures c.loop-rest-test.true in
     (f.first, rw c.frame_parts.ensures.value f.means)
 
 pub read_onto-requires-clause-room : goal.read_onto-requires-clause-room
 read_onto-requires-clause-room g c =
-    let f = first_tree (g.T.ReadableTlv.level lenient) c.loop-rest.rest.now
-    c.loop-rest.invariant.building.left c.loop-rest.invariant.building.progress.fits
-    (is_cons c.loop-rest.rest.now c.is_empty.result c.is_empty.ensures c.loop-rest-test.true)
-    c.loop-rest.invariant.building.mean in
+    let f = left_tree c.loop-rest.invariant.building c.is_empty.ensures c.loop-rest-test.true in
     omega (arith, f.count, c.loop-rest.invariant.building.room)
 
 pub loop-rest-smaller : goal.loop-rest-smaller
 loop-rest-smaller g c =
-    let f = first_tree (g.T.ReadableTlv.level lenient) c.loop-rest.rest.now
-    c.loop-rest.invariant.building.left c.loop-rest.invariant.building.progress.fits
-    (is_cons c.loop-rest.rest.now c.is_empty.result c.is_empty.ensures c.loop-rest-test.true)
-    c.loop-rest.invariant.building.mean in
+    let f = left_tree c.loop-rest.invariant.building c.is_empty.ensures c.loop-rest-test.true in
     let shrinks = frame_shrinks c.loop-rest.rest.now f.frame in
     rw c.frame_parts.ensures.rest (omega (arith, shrinks, f.frame.low))
 
 pub loop-rest-preserved : goal.loop-rest-preserved
 loop-rest-preserved g c =
     let view = g.T.ReadableTlv.view in
-    let f = first_tree (g.T.ReadableTlv.level lenient) c.loop-rest.rest.now
-    c.loop-rest.invariant.building.left c.loop-rest.invariant.building.progress.fits
-    (is_cons c.loop-rest.rest.now c.is_empty.result c.is_empty.ensures c.loop-rest-test.true)
-    c.loop-rest.invariant.building.mean in
+    let f = left_tree c.loop-rest.invariant.building c.is_empty.ensures c.loop-rest-test.true in
     let grows = c.in_ok-read_onto.ensures.grows in
     let e : map view c.read_onto.new.list.items ≡ map view c.loop-rest.list.items ++ view grows.last
     ∷ [] = ap (map view) grows.items ∙ map_push view c.loop-rest.list.items grows.last in

@@ -1,17 +1,6 @@
 use Rattle.std.proofs.Common.{rules}
-use Rattle.dcsctp_chunk.specs.DataChunk.{read}
 use Rattle.dcsctp_chunk.proofs.data_chunk.DataChunk.try_from.Goals as goal
 
-pub returns-in_err-check-clause-other : goal.returns-in_err-check-clause-other
-unfolding read
-returns-in_err-check-clause-other c = let p =
-    (c.in_err-check.ensures c.args.raw.flags).answers in search (rules, p)
-
-pub returns-in_err-check-clause-answer : goal.returns-in_err-check-clause-answer
-unfolding read
-returns-in_err-check-clause-answer c = let p =
-    (c.in_err-check.ensures c.args.raw.flags).answers in search (rules, p)
-
-pub returns-in_err-check-clause-memory : goal.returns-in_err-check-clause-memory
-returns-in_err-check-clause-memory c = let p =
-    (c.in_err-check.ensures c.args.raw.flags).answers in search (rules, p)
+-- the check holds whatever the flags are
+pub returns-in_err-check : goal.returns-in_err-check
+returns-in_err-check c = let p = c.in_err-check.ensures c.args.raw.flags in search rules
