@@ -1,4 +1,5 @@
--- What the rows of a table owe its level: those of its kinds, and those of all other types.
+-- What the rows of a table have to satisfy at its level: those of its kinds, and those of all other
+-- types.
 use Rattle.std.proofs.Common.{◌≡◌, ℕ, ◌+◌, ◌/◌, ◌%◌, List, [], ◌∷◌, length, refl, sym, ap, subst, ◌∙◌, Result}
 use Rattle.std.specs.Int.{w16, from_be_bytes}
 use Rattle.dcsctp_tlv.specs.Fault.{Fault}
