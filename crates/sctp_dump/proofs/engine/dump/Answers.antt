@@ -75,11 +75,12 @@ returns-then-pcap g c =
       begun = begun_run o true all after old mid kept read.text said c.dump_pcap.result new
           (g.W.Write.contents (device_of (writer_of c.dump_pcap.new.output)))
           c.dump_pcap.ensures.begun;
-      failed_read = FailsWith-after devices.Read c.in_ok-need.field-0 failure.Read c.dump_pcap.result c.args.input.now
-          c.need.new.input c.dump_pcap.new.input read.failed_read
-          c.dump_pcap.ensures.failed_read;
-      failed_write = FailsWith-after devices.Write c.in_ok-need.field-0 failure.Write c.dump_pcap.result
-          (writer_of c.args.output.now) (writer_of c.need.new.output) (writer_of c.dump_pcap.new.output)
+      failed_read = FailsWith-after devices.Read c.in_ok-need.field-0 failure.Read
+          c.dump_pcap.result c.args.input.now c.need.new.input c.dump_pcap.new.input
+          read.failed_read c.dump_pcap.ensures.failed_read;
+      failed_write = FailsWith-after devices.Write c.in_ok-need.field-0 failure.Write
+          c.dump_pcap.result (writer_of c.args.output.now)
+          (writer_of c.need.new.output) (writer_of c.dump_pcap.new.output)
           read.failed_write c.dump_pcap.ensures.failed_write;
       fault = fault_run c.dump_pcap.result o all after kept said c.dump_pcap.ensures.fault;
       no_fault = no_fault_run c.dump_pcap.result o all after kept said c.dump_pcap.ensures.no_fault;
@@ -105,11 +106,12 @@ returns-else-pcap g c =
       begun = begun_run o false all after old mid kept read.text said c.dump_text.result new
           (g.W.Write.contents (device_of (writer_of c.dump_text.new.output)))
           c.dump_text.ensures.begun;
-      failed_read = FailsWith-after devices.Read c.in_ok-need.field-0 failure.Read c.dump_text.result c.args.input.now
-          c.need.new.input c.dump_text.new.input read.failed_read
-          c.dump_text.ensures.failed_read;
-      failed_write = FailsWith-after devices.Write c.in_ok-need.field-0 failure.Write c.dump_text.result
-          (writer_of c.args.output.now) (writer_of c.need.new.output) (writer_of c.dump_text.new.output)
+      failed_read = FailsWith-after devices.Read c.in_ok-need.field-0 failure.Read
+          c.dump_text.result c.args.input.now c.need.new.input c.dump_text.new.input
+          read.failed_read c.dump_text.ensures.failed_read;
+      failed_write = FailsWith-after devices.Write c.in_ok-need.field-0 failure.Write
+          c.dump_text.result (writer_of c.args.output.now)
+          (writer_of c.need.new.output) (writer_of c.dump_text.new.output)
           read.failed_write c.dump_text.ensures.failed_write;
       fault = IfErr-other c.dump_text.result _ c.dump_text.ensures.cause;
       no_fault = OnOk-always c.dump_text.result _ (no_fault_lines o all said);

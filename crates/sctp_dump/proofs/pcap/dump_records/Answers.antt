@@ -47,7 +47,8 @@ returns-in_err-write_if_long-clause-begun g c =
     c.in_err-write_if_long.field-0.0 before now after old mid late
     (total g.W.Write.contents c.write_if_long.new.output)
     (g.W.Write.contents (device_of (writer_of c.write_if_long.new.output)))
-    c.loop-number.invariant.0 (c.in_ok-more.ensures.next yes) c.in_err-write_if_long.ensures.stopped)
+    c.loop-number.invariant.0 (c.in_ok-more.ensures.next yes)
+    c.in_err-write_if_long.ensures.stopped)
 
 pub loop-number-preserved : goal.loop-number-preserved
 loop-number-preserved g c =
@@ -61,7 +62,8 @@ loop-number-preserved g c =
     let late = total g.W.Write.contents c.take_record.new.output in (
       Done-more c.args.options.now c.args.header.now c.loop-number.number before now after old mid
           late (total g.W.Write.contents c.write_if_long.new.output)
-          c.loop-number.invariant.0 (c.in_ok-more.ensures.next yes) c.in_ok-write_if_long.ensures.text,
+          c.loop-number.invariant.0 (c.in_ok-more.ensures.next yes)
+          c.in_ok-write_if_long.ensures.text,
       first_of (search rules, grind (arith, common_steps)),
       first_of (search rules, grind (arith, common_steps)),
     )

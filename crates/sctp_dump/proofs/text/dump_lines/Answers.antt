@@ -64,7 +64,8 @@ loop-lines-preserved g c =
       LinesDone-more c.args.options.now c.loop-lines.lines (state_of c.loop-lines.dump)
           (state_of c.take_line.new.dump) before now after old mid late
           (total g.W.Write.contents c.write_if_long.new.output)
-          c.loop-lines.invariant.0 (c.in_ok-more.ensures.next yes) c.in_ok-write_if_long.ensures.text,
+          c.loop-lines.invariant.0 (c.in_ok-more.ensures.next yes)
+          c.in_ok-write_if_long.ensures.text,
       first_of (search rules, grind (arith, common_steps)),
       first_of (search rules, grind (arith, common_steps)),
     )

@@ -1,4 +1,4 @@
--- What was dropped is a beginning of the line, nothing was lost of the output, and no device failed.
+-- What was dropped is a beginning of the line, nothing of the output was lost, no device failed.
 use Rattle.std.proofs.Common.{◌≡◌, false}
 use Rattle.std.specs.Io.KnownBytes.{Keeps}
 use Rattle.watched_io.specs.Watched.{device_of, has_failed}

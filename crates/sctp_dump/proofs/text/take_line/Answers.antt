@@ -138,10 +138,11 @@ returns-in_ok-push_long-in-TooLong g c =
           c.skip_line.ensures.stopped;
       cause = IfErr-weaker c.skip_line.result IsOfDevice IsOfDeviceOrMemory (λ e is. inl is)
           c.skip_line.ensures.device;
-      failed_read = FailsWith-after failure.Read c.in_ok-find_line.field-0 failure.Read c.skip_line.result c.args.input.now
-          c.find_line.new.input c.skip_line.new.input found.failed_read
-          c.skip_line.ensures.failed_read;
-      failed_write = FailsWith-after failure.Write c.in_ok-find_line.field-0 failure.Write c.skip_line.result
-          (writer_of c.args.output.now) (writer_of c.find_line.new.output) (writer_of c.skip_line.new.output)
+      failed_read = FailsWith-after failure.Read c.in_ok-find_line.field-0 failure.Read
+          c.skip_line.result c.args.input.now c.find_line.new.input c.skip_line.new.input
+          found.failed_read c.skip_line.ensures.failed_read;
+      failed_write = FailsWith-after failure.Write c.in_ok-find_line.field-0 failure.Write
+          c.skip_line.result (writer_of c.args.output.now)
+          (writer_of c.find_line.new.output) (writer_of c.skip_line.new.output)
           found.failed_write c.skip_line.ensures.failed_write;
     }
