@@ -29,7 +29,7 @@ pub magic_front : (x y : List ℕ) → 4 ≤ length x → magic_format (x ++ y) 
 magic_front x y size = let front : take 4 (x ++ y)
     ≡ take 4 x = take-append-le 4 x y size in rw front refl
 
-header_front : (f : PcapFormat) (x y : List ℕ) → 24 ≤ length x → header_of (x ++ y) f
+pub header_front : (f : PcapFormat) (x y : List ℕ) → 24 ≤ length x → header_of (x ++ y) f
     ≡ header_of x f
 header_front f x y size =
     let major = number_front f.order w16 4 x y (omega arith) in

@@ -1,5 +1,8 @@
 pub mod Blocks
+pub mod Failures
+pub mod HeaderFaults
 pub mod Headers
+pub mod InputFaults
 pub mod InputRuns
 pub mod Inputs
 pub mod LineEnds

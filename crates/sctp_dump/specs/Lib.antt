@@ -1,6 +1,7 @@
 pub mod Block
 pub mod Counts
 pub mod Failed
+pub mod Faults
 pub mod LineSteps
 pub mod Lines
 pub mod Prints

@@ -1,9 +1,12 @@
 //! The program over a reader and a writer, either of which may fail.
 
-ghost use Rattle.std.specs.Prelude.{◌≡◌, [], OnOk, IfErr};
+ghost use Rattle.std.specs.Prelude.{◌≡◌, ◌⊎◌, [], Some, None, OnOk, IfErr};
 ghost use Rattle.std.specs.Io.KnownBytes.{Keeps};
 ghost use Rattle.watched_io.specs.Watched.{device_of};
 ghost use Rattle.watched_io.specs.Output.{writer_of, total};
+ghost use Rattle.sctp_dump.specs.declared.failure.Failure.{Failure};
+ghost use Rattle.sctp_dump.specs.Failed.{IsOfDeviceOrMemory, FailsWith};
+ghost use Rattle.sctp_dump.specs.Faults.{HasInputFault};
 ghost use Rattle.sctp_dump.specs.Prints.{Grows};
 ghost use Rattle.sctp_dump.specs.Runs.{is_pcap, PrintsInput, BeginsInput};
 
@@ -37,6 +40,15 @@ pub fn dump<R: Read, W: Write>(
         (R.remaining (device_of input.old))
         (total W.contents output.old) (total W.contents output.new)
         (W.contents (device_of (writer_of output.new)))) }
+
+    // Which failure comes, and when: of a device where it failed, or else the input's fault.
+    ensures failed_read { FailsWith Failure.Read result input.old input.new }
+    ensures failed_write { FailsWith Failure.Write result (writer_of output.old)
+        (writer_of output.new) }
+    ensures fault { IfErr result (λ failure. IsOfDeviceOrMemory failure
+        ⊎ HasInputFault options.now (R.remaining (device_of input.old)) (Some failure)) }
+    ensures no_fault { OnOk result
+        (HasInputFault options.now (R.remaining (device_of input.old)) None) }
 {
     window.clear();
     let _ = need(window, input, output, 4)?;
@@ -72,6 +84,9 @@ pub fn write_if_long<W: Write>(output: &mut Output<W>) -> Result<(), Failure>
     ensures stopped { IfErr result (λ failure. Grows failure
         (total W.contents output.old) (total W.contents output.new)
         (W.contents (device_of (writer_of output.new))) []) }
+    ensures device { IfErr result (λ failure. failure ≡ Failure.Write) }
+    ensures failed_write { FailsWith Failure.Write result (writer_of output.old)
+        (writer_of output.new) }
 {
     match output.write_from(LONG) {
         Ok(()) => Ok(()),

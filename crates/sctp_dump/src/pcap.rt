@@ -1,6 +1,6 @@
 //! The records of a pcap file.
 
-ghost use Rattle.std.specs.Prelude.{◌≡◌, ◌<◌, ◌≤◌, ◌++◌, ℕ, List, [], true, false, length, take, IfOk, IfErr, OnOk, string_bytes};
+ghost use Rattle.std.specs.Prelude.{◌≡◌, ◌⊎◌, ◌<◌, ◌≤◌, ◌++◌, ℕ, List, [], Some, None, true, false, length, take, IfOk, IfErr, OnOk, string_bytes};
 ghost use Rattle.std.specs.Io.KnownBytes.{Keeps};
 ghost use Rattle.watched_io.specs.Watched.{device_of};
 ghost use Rattle.watched_io.specs.Window.{held, left};
@@ -8,7 +8,10 @@ ghost use Rattle.watched_io.specs.Output.{writer_of, pending, total};
 ghost use Rattle.sctp_capture.specs.Frame.{packet_in};
 ghost use Rattle.sctp_capture.specs.Pcap.{record_of};
 ghost use Rattle.sctp_capture.specs.declared.pcap.ByteOrder.{ByteOrder};
+ghost use Rattle.sctp_dump.specs.declared.failure.Failure.{Failure};
 ghost use Rattle.sctp_dump.specs.declared.skipped.Skipped.{Skipped};
+ghost use Rattle.sctp_dump.specs.Failed.{IsOfDevice, IsOfDeviceOrMemory, FailsWith};
+ghost use Rattle.sctp_dump.specs.Faults.{HasHeaderFault};
 ghost use Rattle.sctp_dump.specs.Prints.{PrintsAll, PrintsBeginning, Grows};
 ghost use Rattle.sctp_dump.specs.Records.{FrameText, cut_text, CutText, RecordsText, PcapText, PcapBeginning, skipped_for, skipped_record};
 ghost use Rattle.sctp_dump.specs.Steps.{KeptText, LongText, TakesHeader, TakesRecord, TakesFrame, LacksFrame};
@@ -50,6 +53,15 @@ pub fn dump_pcap<R: Read, W: Write>(
         (left window.old (R.remaining (device_of input.old)))
         (total W.contents output.old) (total W.contents output.new)
         (W.contents (device_of (writer_of output.new)))) }
+
+    // Which failure comes, and when: of a device where it failed, or else the header's fault.
+    ensures failed_read { FailsWith Failure.Read result input.old input.new }
+    ensures failed_write { FailsWith Failure.Write result (writer_of output.old)
+        (writer_of output.new) }
+    ensures fault { IfErr result (λ failure. IsOfDeviceOrMemory failure
+        ⊎ HasHeaderFault (left window.old (R.remaining (device_of input.old))) (Some failure)) }
+    ensures no_fault { OnOk result (HasHeaderFault
+        (left window.old (R.remaining (device_of input.old))) None) }
 {
     let header = read_header(window, input, output)?;
     dump_records(alloc, options, &header, window, input, output, counts)
@@ -73,6 +85,10 @@ fn dump_records<R: Read, W: Write>(
         (left window.old (R.remaining (device_of input.old)))
         (total W.contents output.old) (total W.contents output.new)
         (W.contents (device_of (writer_of output.new)))) }
+    ensures cause { IfErr result IsOfDeviceOrMemory }
+    ensures failed_read { FailsWith Failure.Read result input.old input.new }
+    ensures failed_write { FailsWith Failure.Write result (writer_of output.old)
+        (writer_of output.new) }
 {
     for number in 1..u64::MAX {
         let more = take_record(
@@ -99,6 +115,13 @@ fn read_header<R: Read, W: Write>(
     ensures stopped { IfErr result (λ failure. Grows failure
         (total W.contents output.old) (total W.contents output.new)
         (W.contents (device_of (writer_of output.new))) []) }
+    ensures failed_read { FailsWith Failure.Read result input.old input.new }
+    ensures failed_write { FailsWith Failure.Write result (writer_of output.old)
+        (writer_of output.new) }
+    ensures fault { IfErr result (λ failure. IsOfDevice failure
+        ⊎ HasHeaderFault (left window.old (R.remaining (device_of input.old))) (Some failure)) }
+    ensures no_fault { OnOk result (HasHeaderFault
+        (left window.old (R.remaining (device_of input.old))) None) }
 {
     let whole = need(window, input, output, FILE_HEADER_SIZE)?;
     if !matches!(input_kind(window.held()), InputKind::Pcap(_)) {
@@ -141,6 +164,10 @@ fn take_record<R: Read, W: Write>(
         (left window.old (R.remaining (device_of input.old)))
         (total W.contents output.old) (total W.contents output.new)
         (W.contents (device_of (writer_of output.new)))) }
+    ensures cause { IfErr result IsOfDeviceOrMemory }
+    ensures failed_read { FailsWith Failure.Read result input.old input.new }
+    ensures failed_write { FailsWith Failure.Write result (writer_of output.old)
+        (writer_of output.new) }
 {
     let whole = need(window, input, output, RECORD_HEADER_SIZE)?;
     if !whole {
@@ -218,6 +245,10 @@ fn take_frame<R: Read, W: Write>(
     ensures stopped { IfErr result (λ failure. Grows failure
         (total W.contents output.old) (total W.contents output.new)
         (W.contents (device_of (writer_of output.new))) []) }
+    ensures cause { IfErr result IsOfDeviceOrMemory }
+    ensures failed_read { FailsWith Failure.Read result input.old input.new }
+    ensures failed_write { FailsWith Failure.Write result (writer_of output.old)
+        (writer_of output.new) }
 {
     let size = record_header.captured_length as usize;
     let whole = need(window, input, output, size)?;
@@ -272,6 +303,10 @@ fn skip_long<R: Read, W: Write>(
         (total W.contents output.old) (total W.contents output.new)
         (W.contents (device_of (writer_of output.new)))
         (skipped_record options.now number Skipped.TooLong)) }
+    ensures cause { IfErr result IsOfDeviceOrMemory }
+    ensures failed_read { FailsWith Failure.Read result input.old input.new }
+    ensures failed_write { FailsWith Failure.Write result (writer_of output.old)
+        (writer_of output.new) }
 {
     skip_record(options, number, Skipped::TooLong, output, counts)?;
     let whole = skip(

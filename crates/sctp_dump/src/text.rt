@@ -8,7 +8,9 @@ ghost use Rattle.watched_io.specs.Window.{held, left};
 ghost use Rattle.watched_io.specs.Output.{writer_of, total};
 ghost use Rattle.sctp_capture.specs.Line.{line_of, is_time};
 ghost use Rattle.sctp_capture.specs.declared.line.Line.TheVariants.{Dumped};
+ghost use Rattle.sctp_dump.specs.declared.failure.Failure.{Failure};
 ghost use Rattle.sctp_dump.specs.declared.skipped.Skipped.{Skipped};
+ghost use Rattle.sctp_dump.specs.Failed.{IsOfDevice, IsOfDeviceOrMemory, FailsWith};
 ghost use Rattle.sctp_dump.specs.Seen.{time_text, direction_text};
 ghost use Rattle.sctp_dump.specs.Block.{Block};
 ghost use Rattle.sctp_dump.specs.Counts.{one_more};
@@ -82,6 +84,12 @@ pub fn dump_text<R: Read, W: Write>(
         (left window.old (R.remaining (device_of input.old)))
         (total W.contents output.old) (total W.contents output.new)
         (W.contents (device_of (writer_of output.new)))) }
+
+    // A failure is of a device, where it failed, or of memory.
+    ensures cause { IfErr result IsOfDeviceOrMemory }
+    ensures failed_read { FailsWith Failure.Read result input.old input.new }
+    ensures failed_write { FailsWith Failure.Write result (writer_of output.old)
+        (writer_of output.new) }
 {
     let mut dump = Dump::new(alloc);
     dump_lines(alloc, options, &mut dump, window, input, output, counts)?;
@@ -108,6 +116,10 @@ fn dump_lines<R: Read, W: Write>(
         (left window.old (R.remaining (device_of input.old)))
         (total W.contents output.old) (total W.contents output.new)
         (W.contents (device_of (writer_of output.new)))) }
+    ensures cause { IfErr result IsOfDeviceOrMemory }
+    ensures failed_read { FailsWith Failure.Read result input.old input.new }
+    ensures failed_write { FailsWith Failure.Write result (writer_of output.old)
+        (writer_of output.new) }
 {
     for lines in 0..u64::MAX {
         let number = lines + 1;
@@ -145,6 +157,10 @@ fn take_line<R: Read, W: Write>(
         (left window.old (R.remaining (device_of input.old)))
         (total W.contents output.old) (total W.contents output.new)
         (W.contents (device_of (writer_of output.new)))) }
+    ensures cause { IfErr result IsOfDeviceOrMemory }
+    ensures failed_read { FailsWith Failure.Read result input.old input.new }
+    ensures failed_write { FailsWith Failure.Write result (writer_of output.old)
+        (writer_of output.new) }
 {
     match find_line(window, input, output)? {
         Found::End => Ok(false),
@@ -213,6 +229,10 @@ fn find_line<R: Read, W: Write>(
     ensures stopped { IfErr result (λ failure. Grows failure
         (total W.contents output.old) (total W.contents output.new)
         (W.contents (device_of (writer_of output.new))) []) }
+    ensures device { IfErr result IsOfDevice }
+    ensures failed_read { FailsWith Failure.Read result input.old input.new }
+    ensures failed_write { FailsWith Failure.Write result (writer_of output.old)
+        (writer_of output.new) }
 {
     let mut searched = 0;
     while window.len() <= MOST_KEPT {
@@ -262,6 +282,10 @@ fn skip_line<R: Read, W: Write>(
     ensures stopped { IfErr result (λ failure. Grows failure
         (total W.contents output.old) (total W.contents output.new)
         (W.contents (device_of (writer_of output.new))) []) }
+    ensures device { IfErr result IsOfDevice }
+    ensures failed_read { FailsWith Failure.Read result input.old input.new }
+    ensures failed_write { FailsWith Failure.Write result (writer_of output.old)
+        (writer_of output.new) }
 {
     for reads in 0..u64::MAX {
         if let Some(rest) = line_feed(window.held(), 0) {

@@ -4,6 +4,7 @@ use Rattle.watched_io.specs.Window.{left}
 use Rattle.watched_io.specs.Output.{writer_of, total}
 use Rattle.sctp_dump.proofs.Inputs.{front_none}
 use Rattle.sctp_dump.proofs.Outputs.{IfErr-residual}
+use Rattle.sctp_dump.proofs.InputFaults.{IfErr-other, OnOk-always}
 use Rattle.sctp_dump.proofs.Headers.{PrintsAll-header, PrintsBeginning-header}
 use Rattle.sctp_dump.proofs.pcap.dump_pcap.Goals as goal
 
@@ -35,3 +36,11 @@ returns-clause-begun g c =
     (total g.W.Write.contents c.dump_records.new.output)
     (g.W.Write.contents (device_of (writer_of c.dump_records.new.output)))
     c.in_ok-header.ensures.taken c.in_ok-header.ensures.text c.dump_records.ensures.begun
+
+pub returns-clause-fault : goal.returns-clause-fault
+returns-clause-fault g c =
+    IfErr-other c.dump_records.result _ c.dump_records.ensures.cause
+
+pub returns-clause-no_fault : goal.returns-clause-no_fault
+returns-clause-no_fault g c =
+    OnOk-always c.dump_records.result _ c.in_ok-header.ensures.no_fault

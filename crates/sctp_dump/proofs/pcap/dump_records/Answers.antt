@@ -18,7 +18,7 @@ returns-in_err-more-clause-begun g c =
     before now old mid
     (total g.W.Write.contents c.take_record.new.output)
     (g.W.Write.contents (device_of (writer_of c.take_record.new.output)))
-    c.loop-number.invariant c.in_err-more.ensures.stopped)
+    c.loop-number.invariant.0 c.in_err-more.ensures.stopped)
 
 pub returns-then-not-more-clause-whole : goal.returns-then-not-more-clause-whole
 returns-then-not-more-clause-whole g c =
@@ -29,7 +29,7 @@ returns-then-not-more-clause-whole g c =
     let mid = total g.W.Write.contents c.loop-number.output in
     Done-last c.args.options.now c.args.header.now c.loop-number.number before now old mid
     (total g.W.Write.contents c.take_record.new.output)
-    c.loop-number.invariant (c.in_ok-more.ensures.end no)
+    c.loop-number.invariant.0 (c.in_ok-more.ensures.end no)
 
 pub returns-in_err-write_if_long-clause-begun : goal.returns-in_err-write_if_long-clause-begun
 returns-in_err-write_if_long-clause-begun g c =
@@ -47,7 +47,8 @@ returns-in_err-write_if_long-clause-begun g c =
     c.in_err-write_if_long.field-0.0 before now after old mid late
     (total g.W.Write.contents c.write_if_long.new.output)
     (g.W.Write.contents (device_of (writer_of c.write_if_long.new.output)))
-    c.loop-number.invariant (c.in_ok-more.ensures.next yes) c.in_err-write_if_long.ensures.stopped)
+    c.loop-number.invariant.0 (c.in_ok-more.ensures.next yes)
+    c.in_err-write_if_long.ensures.stopped)
 
 pub loop-number-preserved : goal.loop-number-preserved
 loop-number-preserved g c =
@@ -58,10 +59,14 @@ loop-number-preserved g c =
     (g.R.Read.remaining (device_of c.take_record.new.input)) in
     let old = total g.W.Write.contents c.args.output.now in
     let mid = total g.W.Write.contents c.loop-number.output in
-    let late = total g.W.Write.contents c.take_record.new.output in
-    Done-more c.args.options.now c.args.header.now c.loop-number.number before now after old mid
-    late (total g.W.Write.contents c.write_if_long.new.output)
-    c.loop-number.invariant (c.in_ok-more.ensures.next yes) c.in_ok-write_if_long.ensures.text
+    let late = total g.W.Write.contents c.take_record.new.output in (
+      Done-more c.args.options.now c.args.header.now c.loop-number.number before now after old mid
+          late (total g.W.Write.contents c.write_if_long.new.output)
+          c.loop-number.invariant.0 (c.in_ok-more.ensures.next yes)
+          c.in_ok-write_if_long.ensures.text,
+      first_of (search rules, grind (arith, common_steps)),
+      first_of (search rules, grind (arith, common_steps)),
+    )
 
 pub returns-clause-whole : goal.returns-clause-whole
 returns-clause-whole g c =
@@ -70,4 +75,4 @@ returns-clause-whole g c =
     let counted : 2 ^ 64 - 1 ≤ c.loop-number.number = first_of (omega arith, search rules) in
     Done-all c.args.options.now c.args.header.now c.loop-number.number before now
     (total g.W.Write.contents c.args.output.now)
-    (total g.W.Write.contents c.loop-number.output) counted c.loop-number.invariant
+    (total g.W.Write.contents c.loop-number.output) counted c.loop-number.invariant.0

@@ -4,9 +4,12 @@ use Rattle.std.proofs.KnownBytes.{Appends-nil}
 use Rattle.watched_io.specs.Watched.{device_of}
 use Rattle.watched_io.specs.Window.{held, left}
 use Rattle.watched_io.specs.Output.{writer_of, pending, total}
+use Rattle.watched_io.specs.declared.stream.StreamError.TheVariants as devices
 use Rattle.sctp_dump.specs.declared.failure.Failure.TheVariants.{OutOfMemory}
+use Rattle.sctp_dump.specs.declared.failure.Failure.TheVariants as failure
 use Rattle.sctp_dump.specs.Failed.{failure_of}
 use Rattle.sctp_dump.specs.Records.{cut_text}
+use Rattle.sctp_dump.proofs.Failures.{FailsWith-after}
 use Rattle.sctp_dump.proofs.Inputs.{Consumes-taken, all_held, front_none}
 use Rattle.sctp_dump.proofs.Outputs.{Appends-text, HasBeginning-same, Grows-stream, IfErr-residual}
 use Rattle.sctp_dump.proofs.RecordTexts.{CutText-none, CutText-short}
@@ -100,6 +103,15 @@ returns-then-record_header-gt-MOST_KEPT g c =
           c.skip_long.ensures.end;
       stopped = stopped_long o header number r bytes before mid old late h c.skip_long.result new
           written size c.skip_long.ensures.stopped;
+      cause = c.skip_long.ensures.cause;
+      failed_read = FailsWith-after devices.Read c.in_ok-whole.whole failure.Read
+          c.skip_long.result c.args.input.now c.need.new.input c.skip_long.new.input
+          c.in_ok-whole.ensures.failed_read c.skip_long.ensures.failed_read;
+      failed_write = FailsWith-after devices.Write c.in_ok-whole.whole failure.Write
+          c.skip_long.result
+          (writer_of c.args.output.now) (writer_of c.need.new.output)
+          (writer_of c.skip_long.new.output) c.in_ok-whole.ensures.failed_write
+          c.skip_long.ensures.failed_write;
     }
 
 pub returns-else-record_header-gt-MOST_KEPT : goal.returns-else-record_header-gt-MOST_KEPT
@@ -135,4 +147,13 @@ returns-else-record_header-gt-MOST_KEPT g c =
           c.take_frame.ensures.end;
       stopped = stopped_kept o header number r bytes before mid old late h c.take_frame.result new
           written c.take_frame.ensures.stopped;
+      cause = c.take_frame.ensures.cause;
+      failed_read = FailsWith-after devices.Read c.in_ok-whole.whole failure.Read
+          c.take_frame.result c.args.input.now c.need.new.input c.take_frame.new.input
+          c.in_ok-whole.ensures.failed_read c.take_frame.ensures.failed_read;
+      failed_write = FailsWith-after devices.Write c.in_ok-whole.whole failure.Write
+          c.take_frame.result
+          (writer_of c.args.output.now) (writer_of c.need.new.output)
+          (writer_of c.take_frame.new.output) c.in_ok-whole.ensures.failed_write
+          c.take_frame.ensures.failed_write;
     }

@@ -19,7 +19,7 @@ returns-in_err-more-clause-begun g c =
     c.in_err-more.field-0.0 before now old mid
     (total g.W.Write.contents c.take_line.new.output)
     (g.W.Write.contents (device_of (writer_of c.take_line.new.output)))
-    c.loop-lines.invariant c.in_err-more.ensures.stopped)
+    c.loop-lines.invariant.0 c.in_err-more.ensures.stopped)
 
 pub returns-then-not-more-clause-whole : goal.returns-then-not-more-clause-whole
 returns-then-not-more-clause-whole g c =
@@ -30,7 +30,7 @@ returns-then-not-more-clause-whole g c =
     let mid = total g.W.Write.contents c.loop-lines.output in
     LinesDone-last c.args.options.now c.loop-lines.lines (state_of c.loop-lines.dump)
     (state_of c.take_line.new.dump) before now old mid
-    (total g.W.Write.contents c.take_line.new.output) c.loop-lines.invariant
+    (total g.W.Write.contents c.take_line.new.output) c.loop-lines.invariant.0
     (c.in_ok-more.ensures.end no)
 
 pub returns-in_err-write_if_long-clause-begun : goal.returns-in_err-write_if_long-clause-begun
@@ -49,7 +49,7 @@ returns-in_err-write_if_long-clause-begun g c =
     (state_of c.take_line.new.dump) c.in_err-write_if_long.field-0.0
     before now after old mid late (total g.W.Write.contents c.write_if_long.new.output)
     (g.W.Write.contents (device_of (writer_of c.write_if_long.new.output)))
-    c.loop-lines.invariant (c.in_ok-more.ensures.next yes) c.in_err-write_if_long.ensures.stopped)
+    c.loop-lines.invariant.0 (c.in_ok-more.ensures.next yes) c.in_err-write_if_long.ensures.stopped)
 
 pub loop-lines-preserved : goal.loop-lines-preserved
 loop-lines-preserved g c =
@@ -60,11 +60,15 @@ loop-lines-preserved g c =
     in
     let old = total g.W.Write.contents c.args.output.now in
     let mid = total g.W.Write.contents c.loop-lines.output in
-    let late = total g.W.Write.contents c.take_line.new.output in
-    LinesDone-more c.args.options.now c.loop-lines.lines (state_of c.loop-lines.dump)
-    (state_of c.take_line.new.dump) before now after old mid late
-    (total g.W.Write.contents c.write_if_long.new.output)
-    c.loop-lines.invariant (c.in_ok-more.ensures.next yes) c.in_ok-write_if_long.ensures.text
+    let late = total g.W.Write.contents c.take_line.new.output in (
+      LinesDone-more c.args.options.now c.loop-lines.lines (state_of c.loop-lines.dump)
+          (state_of c.take_line.new.dump) before now after old mid late
+          (total g.W.Write.contents c.write_if_long.new.output)
+          c.loop-lines.invariant.0 (c.in_ok-more.ensures.next yes)
+          c.in_ok-write_if_long.ensures.text,
+      first_of (search rules, grind (arith, common_steps)),
+      first_of (search rules, grind (arith, common_steps)),
+    )
 
 pub returns-clause-whole : goal.returns-clause-whole
 returns-clause-whole g c =
@@ -73,4 +77,4 @@ returns-clause-whole g c =
     let counted : 2 ^ 64 - 1 ≤ c.loop-lines.lines = first_of (omega arith, search rules) in
     LinesDone-all c.args.options.now c.loop-lines.lines (state_of c.loop-lines.dump) before now
     (total g.W.Write.contents c.args.output.now)
-    (total g.W.Write.contents c.loop-lines.output) counted c.loop-lines.invariant
+    (total g.W.Write.contents c.loop-lines.output) counted c.loop-lines.invariant.0

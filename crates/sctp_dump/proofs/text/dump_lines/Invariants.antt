@@ -1,7 +1,8 @@
--- The lines before the next were taken, and the output grew by their texts.
-use Rattle.watched_io.specs.Watched.{device_of}
+-- The lines before the next were taken, and the output grew by their texts. No device failed.
+use Rattle.std.proofs.Common.{◌≡◌, false}
+use Rattle.watched_io.specs.Watched.{device_of, has_failed}
 use Rattle.watched_io.specs.Window.{left}
-use Rattle.watched_io.specs.Output.{total}
+use Rattle.watched_io.specs.Output.{writer_of, total}
 use Rattle.sctp_dump.specs.LineSteps.{state_of}
 use Rattle.sctp_dump.proofs.LineRuns.{LinesDone}
 use Rattle.sctp_dump.proofs.text.dump_lines.Given as goal
@@ -12,3 +13,5 @@ invariant-loop-lines g l =
     (left l.initial.window (g.R.Read.remaining (device_of l.initial.input)))
     (left l.window (g.R.Read.remaining (device_of l.input)))
     (total g.W.Write.contents l.initial.output) (total g.W.Write.contents l.output)
+    × (has_failed l.initial.input ≡ false → has_failed l.input ≡ false)
+    × (has_failed (writer_of l.initial.output) ≡ false → has_failed (writer_of l.output) ≡ false)

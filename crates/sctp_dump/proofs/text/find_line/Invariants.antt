@@ -1,9 +1,9 @@
--- What was searched has no line feed, and nothing was lost.
-use Rattle.std.proofs.Common.{◌≤◌, ◌-◌, length, take}
+-- What was searched has no line feed, nothing was lost, and no device failed.
+use Rattle.std.proofs.Common.{◌≡◌, ◌≤◌, ◌-◌, false, length, take}
 use Rattle.std.specs.Io.KnownBytes.{Keeps}
-use Rattle.watched_io.specs.Watched.{device_of}
+use Rattle.watched_io.specs.Watched.{device_of, has_failed}
 use Rattle.watched_io.specs.Window.{held, left}
-use Rattle.watched_io.specs.Output.{total}
+use Rattle.watched_io.specs.Output.{writer_of, total}
 use Rattle.sctp_dump.specs.Lines.{IsLine}
 use Rattle.sctp_dump.proofs.text.find_line.Given as goal
 
@@ -13,6 +13,8 @@ invariant-loop-window g l =
     × Keeps (left l.initial.window (g.R.Read.remaining (device_of l.initial.input)))
     (left l.window (g.R.Read.remaining (device_of l.input)))
     × Keeps (total g.W.Write.contents l.initial.output) (total g.W.Write.contents l.output)
+    × (has_failed l.initial.input ≡ false → has_failed l.input ≡ false)
+    × (has_failed (writer_of l.initial.output) ≡ false → has_failed (writer_of l.output) ≡ false)
 
 abbrev pub decreases-loop-window : goal.decreases-loop-window
 decreases-loop-window g l = 262145 - length (held l.window)

@@ -68,4 +68,6 @@ loop-reads-preserved g c =
           (total g.W.Write.contents c.loop-reads.output)
           (total g.W.Write.contents c.read_more.new.output)
           c.loop-reads.invariant.1 c.in_ok-read_more.ensures.text,
+      first_of (search rules, grind (arith, common_steps)),
+      first_of (search rules, grind (arith, common_steps)),
     )

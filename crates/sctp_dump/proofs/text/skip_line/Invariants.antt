@@ -1,8 +1,9 @@
--- What was dropped is a beginning of the line, and nothing was lost of the output.
+-- What was dropped is a beginning of the line, nothing of the output was lost, no device failed.
+use Rattle.std.proofs.Common.{◌≡◌, false}
 use Rattle.std.specs.Io.KnownBytes.{Keeps}
-use Rattle.watched_io.specs.Watched.{device_of}
+use Rattle.watched_io.specs.Watched.{device_of, has_failed}
 use Rattle.watched_io.specs.Window.{held, left}
-use Rattle.watched_io.specs.Output.{total}
+use Rattle.watched_io.specs.Output.{writer_of, total}
 use Rattle.sctp_dump.proofs.LineSkips.{Dropped}
 use Rattle.sctp_dump.proofs.text.skip_line.Given as goal
 
@@ -11,3 +12,5 @@ invariant-loop-reads g l =
     Dropped l.reads (left l.initial.window (g.R.Read.remaining (device_of l.initial.input)))
     (held l.window) (g.R.Read.remaining (device_of l.input))
     × Keeps (total g.W.Write.contents l.initial.output) (total g.W.Write.contents l.output)
+    × (has_failed l.initial.input ≡ false → has_failed l.input ≡ false)
+    × (has_failed (writer_of l.initial.output) ≡ false → has_failed (writer_of l.output) ≡ false)

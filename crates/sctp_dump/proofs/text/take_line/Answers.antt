@@ -1,4 +1,5 @@
-use Rattle.std.proofs.Common.{[], ◌++◌, take, ap, subst, ◌∙◌, refl, string_bytes}
+use Rattle.std.proofs.Common.{[], ◌++◌, take, ap, subst, ◌∙◌, refl, string_bytes, inl}
+use Rattle.std.proofs.lemmas.Result.{IfErr-weaker}
 use Rattle.std.specs.Io.KnownBytes.{append_known}
 use Rattle.std.proofs.KnownBytes.{append_known-grown}
 use Rattle.watched_io.specs.Watched.{device_of}
@@ -6,7 +7,10 @@ use Rattle.watched_io.specs.Window.{held, left}
 use Rattle.watched_io.specs.Output.{writer_of, pending, total}
 use Rattle.sctp_dump.specs.declared.text.Found.{Found}
 use Rattle.sctp_dump.specs.declared.failure.Failure.TheVariants.{OutOfMemory}
+use Rattle.sctp_dump.specs.declared.failure.Failure.TheVariants as failure
+use Rattle.sctp_dump.specs.Failed.{IsOfDevice, IsOfDeviceOrMemory}
 use Rattle.sctp_dump.specs.LineSteps.{IsFound, state_of}
+use Rattle.sctp_dump.proofs.Failures.{FailsWith-after}
 use Rattle.sctp_dump.proofs.Outputs.{Appends-kept_nil, HasBeginning-same, IfErr-residual}
 use Rattle.sctp_dump.specs.Lines.{packets_at_end, skipped_line}
 use Rattle.sctp_dump.specs.declared.skipped.Skipped.TheVariants.{TooLong}
@@ -132,4 +136,13 @@ returns-in_ok-push_long-in-TooLong g c =
           late h c.skip_line.result new
           (g.W.Write.contents (device_of (writer_of c.skip_line.new.output)))
           c.skip_line.ensures.stopped;
+      cause = IfErr-weaker c.skip_line.result IsOfDevice IsOfDeviceOrMemory (λ e is. inl is)
+          c.skip_line.ensures.device;
+      failed_read = FailsWith-after failure.Read c.in_ok-find_line.field-0 failure.Read
+          c.skip_line.result c.args.input.now c.find_line.new.input c.skip_line.new.input
+          found.failed_read c.skip_line.ensures.failed_read;
+      failed_write = FailsWith-after failure.Write c.in_ok-find_line.field-0 failure.Write
+          c.skip_line.result (writer_of c.args.output.now)
+          (writer_of c.find_line.new.output) (writer_of c.skip_line.new.output)
+          found.failed_write c.skip_line.ensures.failed_write;
     }
