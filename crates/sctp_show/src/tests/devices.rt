@@ -96,25 +96,27 @@ fn reader_gives_none(rt: HostRuntime) {
 
 const BROKEN_PIPE: Fault = Fault::Error(ErrorKind::BrokenPipe);
 
-/// A text, how many bytes its reader gives a call, the call at which that fails, and what is to be
-/// written.
-type Row = (&'static str, usize, usize, &'static str);
+/// A text, how many bytes its reader gives a call, the call at which that fails and how, and what is
+/// to be written.
+type Row = (&'static str, usize, (usize, Fault), &'static str);
+
+const NEVER: (usize, Fault) = (0, Fault::Nothing);
 
 const WRITES: &[Row] = &[
-    (SACK, 9, 0, SACK_TEXT),
-    (SMALL, 9, 0, SMALL_TEXT),
-    ("138", 9, 0, "error: not hexadecimal\n"),
-    ("0b000004", 9, 0, "error: invalid packet size\n"),
+    (SACK, 9, NEVER, SACK_TEXT),
+    (SMALL, 9, NEVER, SMALL_TEXT),
+    ("138", 9, NEVER, "error: not hexadecimal\n"),
+    ("0b000004", 9, NEVER, "error: invalid packet size\n"),
     // Blanks, digits of both cases, and a checksum.
     (
         "1388138901020304 00000005 0B000004",
         9,
-        0,
+        NEVER,
         "source=5000 destination=5001 tag=16909060 checksum=5\nCOOKIE-ACK\ncanonical=1388138901020304000000000b000004\n",
     ),
     // A reader that failed before, at its first call or later: it's the writer that decides.
-    ("0a0b", 9, 1, READ_FAILED),
-    (SACK, 30, 2, READ_FAILED),
+    ("0a0b", 9, (1, INTERRUPTED), READ_FAILED),
+    (SACK, 30, (2, BROKEN_PIPE), READ_FAILED),
 ];
 
 /// Whether a writer that gives out at this call, the last one after so many writes being the flush,
@@ -122,11 +124,11 @@ const WRITES: &[Row] = &[
 /// stays.
 fn is_write_failure_told(
     alloc: Global,
-    (text, step, fails_at, wanted): Row,
+    (text, step, (fails_at, how), wanted): Row,
     (taken, writes): (usize, usize),
     (call, fault): (usize, Fault),
 ) -> bool {
-    let reads = fails(step, fails_at, INTERRUPTED);
+    let reads = fails(step, fails_at, how);
     let outcome = run(
         alloc,
         text.as_bytes(),
