@@ -11,8 +11,7 @@ use dcsctp_wire::packet::data::Data;
 use dcsctp_wire::packet::sctp_packet::{ChecksumPolicy, CommonHeader, SctpPacket};
 use dcsctp_wire::types::Tsn;
 use hex_rows::are_answered;
-use samples::help::{STRICT, UNVERIFIED, answered, packet_of, raw_of, shown};
-use samples::{captures, chunks, packets};
+use samples::help::{STRICT, UNVERIFIED, packet_of, raw_of};
 use std::alloc::{AllocError, Global};
 use std::test::Fail;
 
@@ -56,7 +55,7 @@ fn lent_text(alloc: Global, bytes: &[u8], policy: &ChecksumPolicy) -> Result<Str
 }
 
 /// Whether both readings of the header and these chunks hold the same, or have the same fault.
-pub(crate) fn agree(alloc: Global, chunks: &[u8], policy: &ChecksumPolicy) -> Result<bool, Fail> {
+fn agree(alloc: Global, chunks: &[u8], policy: &ChecksumPolicy) -> Result<bool, Fail> {
     let bytes = packet_of(alloc, chunks)?;
     let built = built_text(alloc, &bytes, policy)?;
     Ok(lent_text(alloc, &bytes, policy)?.as_str() == built.as_str())
@@ -96,7 +95,7 @@ fn has_same_data(alloc: Global, raw: RawChunk) -> Result<bool, Fail> {
 
 /// Whether both readings of the header and these chunks are the same under both policies, and so is
 /// the user data of each chunk.
-fn has_same(alloc: Global, chunks: &[u8]) -> Result<bool, Fail> {
+pub(crate) fn has_same(alloc: Global, chunks: &[u8]) -> Result<bool, Fail> {
     let bytes = packet_of(alloc, chunks)?;
     let mut is_same = agree(alloc, chunks, &UNVERIFIED)? && agree(alloc, chunks, &STRICT)?;
     if let Ok(packet) = SctpPacketRef::from_bytes(&bytes, 0, &UNVERIFIED) {
@@ -105,35 +104,6 @@ fn has_same(alloc: Global, chunks: &[u8]) -> Result<bool, Fail> {
         }
     }
     Ok(is_same)
-}
-
-/// What the packet of these chunks is answered with, if both readings are the same.
-fn packet_agreed(alloc: Global, chunks: &[u8]) -> Result<String, Fail> {
-    if !has_same(alloc, chunks)? {
-        return Err(Fail::new("the readings differ"));
-    }
-    answered(alloc, chunks)
-}
-
-/// All that the chunk is, if both readings are the same.
-fn chunk_agreed(alloc: Global, chunk: &[u8]) -> Result<String, Fail> {
-    if !has_same(alloc, chunk)? {
-        return Err(Fail::new("the readings differ"));
-    }
-    shown(alloc, chunk)
-}
-
-#[test]
-fn of_packets_and_chunks(rt: HostRuntime) -> Result<(), Fail> {
-    are_answered(
-        rt.alloc(),
-        packets::ROWS,
-        |alloc, chunks| packet_agreed(alloc, chunks),
-    )?;
-    for rows in [chunks::ROWS, captures::ROWS] {
-        are_answered(rt.alloc(), rows, |alloc, chunk| chunk_agreed(alloc, chunk))?;
-    }
-    Ok(())
 }
 
 /// The bytes of a chunk, and its user data as text; by hand from RFC 9260 section 3.3.1 and RFC 8260
@@ -164,11 +134,7 @@ fn data_shown(alloc: Global, bytes: &[u8]) -> Result<String, Fail> {
 
 #[test]
 fn of_user_data(rt: HostRuntime) -> Result<(), Fail> {
-    are_answered(
-        rt.alloc(),
-        USER_DATA,
-        |alloc, bytes| data_shown(alloc, bytes),
-    )
+    are_answered(rt.alloc(), USER_DATA, data_shown)
 }
 
 // The tag and the checksum field of a packet with a COOKIE ACK, one after the other.

@@ -79,7 +79,7 @@ const ROWS: &str =
 
 #[test]
 fn of_chunks(rt: HostRuntime) -> Result<(), Fail> {
-    are_answered(rt.alloc(), ROWS, |alloc, bytes| list_text(alloc, bytes))
+    are_answered(rt.alloc(), ROWS, list_text)
 }
 
 /// The cookie of the chunk at the front, and the Heartbeat Info parameters that it has.
@@ -117,9 +117,5 @@ const COOKIES_AND_INFOS: &str =
 
 #[test]
 fn of_cookies_and_infos(rt: HostRuntime) -> Result<(), Fail> {
-    are_answered(
-        rt.alloc(),
-        COOKIES_AND_INFOS,
-        |alloc, bytes| cookie_and_infos(alloc, bytes),
-    )
+    are_answered(rt.alloc(), COOKIES_AND_INFOS, cookie_and_infos)
 }

@@ -1,6 +1,6 @@
 //! Each part of each chunk is the same where it lies in the packet and where the packet was built.
 
-use crate::in_place;
+use crate::in_place::has_same;
 use dcsctp_borrowed::checked_chunks::CheckedChunk;
 use dcsctp_borrowed::cookie_echo::cookie;
 use dcsctp_borrowed::forward_tsn_ref::ForwardTsnRef;
@@ -154,10 +154,10 @@ fn has_same_part(alloc: Global, raw: RawChunk) -> Result<bool, ChunkParseError> 
     Ok(format!(in alloc; "{chunk:?}")?.ends_with(end.as_str()))
 }
 
-/// Whether both readings of the header and these chunks have the same parts.
+/// Whether both readings of the header and these chunks are the same, and so are the parts of each.
 pub(crate) fn agree(alloc: Global, chunks: &[u8]) -> Result<bool, Fail> {
     let bytes = packet_of(alloc, chunks)?;
-    let mut is_same = in_place::agree(alloc, chunks, &UNVERIFIED)?;
+    let mut is_same = has_same(alloc, chunks)?;
     if let Ok(packet) = SctpPacketRef::from_bytes(&bytes, 0, &UNVERIFIED) {
         for known in packet.chunks.checked() {
             is_same &= is_same_everywhere(alloc, known)?;
@@ -166,7 +166,7 @@ pub(crate) fn agree(alloc: Global, chunks: &[u8]) -> Result<bool, Fail> {
     Ok(is_same)
 }
 
-/// What the packet of these chunks is answered with, if both readings have the same parts.
+/// What the packet of these chunks is answered with, if both readings agree.
 fn packet_agreed(alloc: Global, chunks: &[u8]) -> Result<String, Fail> {
     if !agree(alloc, chunks)? {
         return Err(Fail::new("the readings differ"));
@@ -184,13 +184,9 @@ fn chunk_agreed(alloc: Global, chunk: &[u8]) -> Result<String, Fail> {
 
 #[test]
 fn of_packets_and_chunks(rt: HostRuntime) -> Result<(), Fail> {
-    are_answered(
-        rt.alloc(),
-        packets::ROWS,
-        |alloc, chunks| packet_agreed(alloc, chunks),
-    )?;
+    are_answered(rt.alloc(), packets::ROWS, packet_agreed)?;
     for rows in [chunks::ROWS, captures::ROWS] {
-        are_answered(rt.alloc(), rows, |alloc, chunk| chunk_agreed(alloc, chunk))?;
+        are_answered(rt.alloc(), rows, chunk_agreed)?;
     }
     Ok(())
 }
@@ -222,5 +218,5 @@ const EACH_PART: &str =
 
 #[test]
 fn of_each(rt: HostRuntime) -> Result<(), Fail> {
-    are_answered(rt.alloc(), EACH_PART, |alloc, chunks| parts(alloc, chunks))
+    are_answered(rt.alloc(), EACH_PART, parts)
 }

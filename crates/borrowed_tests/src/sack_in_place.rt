@@ -130,10 +130,6 @@ c200000c 00000005 00010000 = none
 
 #[test]
 fn of_each(rt: HostRuntime) -> Result<(), Fail> {
-    are_answered(rt.alloc(), SACKS, |alloc, bytes| sack_shown(alloc, bytes))?;
-    are_answered(
-        rt.alloc(),
-        FORWARDS,
-        |alloc, bytes| forward_shown(alloc, bytes),
-    )
+    are_answered(rt.alloc(), SACKS, sack_shown)?;
+    are_answered(rt.alloc(), FORWARDS, forward_shown)
 }

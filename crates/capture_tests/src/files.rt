@@ -58,7 +58,7 @@ fn record(alloc: Global, bytes: &[u8]) -> Result<String, Fail> {
 
 #[test]
 fn headers(rt: HostRuntime) -> Result<(), Fail> {
-    are_answered(rt.alloc(), KINDS, |alloc, bytes| kind(alloc, bytes))?;
-    are_answered(rt.alloc(), FILES, |alloc, bytes| file(alloc, bytes))?;
-    are_answered(rt.alloc(), RECORDS, |alloc, bytes| record(alloc, bytes))
+    are_answered(rt.alloc(), KINDS, kind)?;
+    are_answered(rt.alloc(), FILES, file)?;
+    are_answered(rt.alloc(), RECORDS, record)
 }

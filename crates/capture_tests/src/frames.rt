@@ -165,7 +165,7 @@ const ROWS: &str = r"# raw IPv4
 
 #[test]
 fn frames(rt: HostRuntime) -> Result<(), Fail> {
-    are_answered(rt.alloc(), ROWS, |alloc, bytes| found(alloc, bytes))
+    are_answered(rt.alloc(), ROWS, found)
 }
 
 #[test]

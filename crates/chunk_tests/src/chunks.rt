@@ -2,7 +2,7 @@
 
 use dcsctp_wire::packet::ChunkParseError;
 use dcsctp_wire::packet::abort_chunk::AbortChunk;
-use dcsctp_wire::packet::chunk::{Chunk, RawChunk};
+use dcsctp_wire::packet::chunk::{Chunk, RawChunk, plain_check};
 use dcsctp_wire::packet::cookie_ack_chunk::CookieAckChunk;
 use dcsctp_wire::packet::cookie_echo_chunk::CookieEchoChunk;
 use dcsctp_wire::packet::data_chunk::DataChunk;
@@ -21,7 +21,7 @@ use dcsctp_wire::packet::shutdown_chunk::ShutdownChunk;
 use dcsctp_wire::packet::shutdown_complete_chunk::ShutdownCompleteChunk;
 use dcsctp_wire::packet::unknown_chunk::UnknownChunk;
 use hex_rows::{are_answered, digits_of};
-use samples::help::{answered, image_of, kind_shown, shown};
+use samples::help::{answered, image_of, kind_shown, raw_of, shown};
 use samples::{captures, chunks, packets};
 use std::alloc::Global;
 use std::test::Fail;
@@ -50,10 +50,33 @@ fn kind(alloc: Global, typ: u8, bytes: &[u8], raw: RawChunk) -> Result<String, F
     }
 }
 
-/// The same of the chunk that the bytes are.
+/// The same of the chunk that is all the bytes.
 fn kind_of(alloc: Global, typ: u8, bytes: &[u8]) -> Result<String, Fail> {
-    let (raw, _) = RawChunk::from_bytes(bytes)?;
-    kind(alloc, typ, bytes, raw)
+    let (raw, rest) = RawChunk::from_bytes(bytes)?;
+    if rest.is_empty() {
+        kind(alloc, typ, bytes, raw)
+    } else {
+        Err(Fail::new("bytes after the chunk"))
+    }
+}
+
+/// The same; the check of chunks without a list says so too.
+pub(crate) fn checked(alloc: Global, typ: u8, bytes: &[u8]) -> Result<String, Fail> {
+    let text = kind_of(alloc, typ, bytes)?;
+    let is_so = match plain_check(raw_of(bytes)?) {
+        Ok(()) => text.contains("; "),
+        Err(fault) => format!(in alloc; "{fault:?}")?.as_str() == text.as_str(),
+    };
+    if is_so {
+        Ok(text)
+    } else {
+        Err(Fail::new("the check answers otherwise"))
+    }
+}
+
+/// The same of the kind that has the chunk's own type.
+pub(crate) fn own(alloc: Global, bytes: &[u8]) -> Result<String, Fail> {
+    checked(alloc, raw_of(bytes)?.typ, bytes)
 }
 
 /// Whether a chunk of any kind is shown as this one of its own: its fields in brackets after the
@@ -64,12 +87,11 @@ fn is_of_kind(alloc: Global, text: &str, own: &str) -> Result<bool, Fail> {
     Ok(text.ends_with(wanted.as_str()))
 }
 
-/// All that the chunk is, of any kind; it is all the bytes, and the same of its own kind.
+/// All that the chunk is, of any kind, if it is the same of its own kind.
 fn read(alloc: Global, bytes: &[u8]) -> Result<String, Fail> {
-    let (raw, rest) = RawChunk::from_bytes(bytes)?;
-    let own = kind(alloc, raw.typ, bytes, raw)?;
+    let own = own(alloc, bytes)?;
     let text = shown(alloc, bytes)?;
-    if rest.is_empty() && is_of_kind(alloc, text.as_str(), own.as_str())? {
+    if is_of_kind(alloc, text.as_str(), own.as_str())? {
         Ok(text)
     } else {
         Err(Fail::new("another chunk of its own kind"))
@@ -78,23 +100,25 @@ fn read(alloc: Global, bytes: &[u8]) -> Result<String, Fail> {
 
 #[test]
 fn read_and_written_again(rt: HostRuntime) -> Result<(), Fail> {
-    are_answered(rt.alloc(), chunks::ROWS, |alloc, bytes| read(alloc, bytes))?;
-    are_answered(
-        rt.alloc(),
-        captures::ROWS,
-        |alloc, bytes| read(alloc, bytes),
-    )
+    are_answered(rt.alloc(), chunks::ROWS, read)?;
+    are_answered(rt.alloc(), captures::ROWS, read)
 }
 
 // Another type comes before the faults of the value; an unknown chunk may have any, a named one too.
 #[test]
 fn other_types(rt: HostRuntime) -> Result<(), Fail> {
-    let init = "01000005 00 = InvalidType";
+    let init = "01000005 00 = InvalidType\n01000004 = InvalidType";
     for typ in [0, 2, 3, 4, 5, 6, 7, 8, 9, 10, 11, 14, 64, 130, 192, 194] {
         are_answered(rt.alloc(), init, |alloc, bytes| kind_of(alloc, typ, bytes))?;
     }
-    let ack = "0b000005 00 = InvalidType";
-    are_answered(rt.alloc(), ack, |alloc, bytes| kind_of(alloc, 1, bytes))?;
+    let others = "0b000004 = InvalidType\n0b000005 00 = InvalidType\n00030004 = InvalidType";
+    for typ in [1, 3, 64, 192, 194] {
+        are_answered(
+            rt.alloc(),
+            others,
+            |alloc, bytes| kind_of(alloc, typ, bytes),
+        )?;
+    }
     let ack =
         "0b000005 00 = UnknownChunk { typ: 11, flags: 0, value: [0] }; Unknown chunk, type=11";
     are_answered(rt.alloc(), ack, |alloc, bytes| kind_of(alloc, 255, bytes))
@@ -165,9 +189,5 @@ fn agreed(alloc: Global, chunks: &[u8]) -> Result<String, Fail> {
 
 #[test]
 fn of_packets(rt: HostRuntime) -> Result<(), Fail> {
-    are_answered(
-        rt.alloc(),
-        packets::ROWS,
-        |alloc, chunks| agreed(alloc, chunks),
-    )
+    are_answered(rt.alloc(), packets::ROWS, agreed)
 }

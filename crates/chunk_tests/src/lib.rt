@@ -7,3 +7,5 @@ mod chunks;
 mod facade;
 #[cfg(test)]
 mod made;
+#[cfg(test)]
+mod plain;

@@ -76,12 +76,14 @@ fn faults(rt: HostRuntime) {
     assert_eq!(rt; dcsctp_word(DATA), WORD);
 }
 
-/// What `DATA` is written as, and its size.
-fn is_canonical(alloc: Global) -> bool {
+/// Whether `DATA`, of 36 bytes, is written into so many bytes with this code.
+fn is_written(alloc: Global, room: usize, wanted: u32) -> bool {
     let mut output = [0xff; 40];
     let mut size = 0;
-    let code = dcsctp_canonical(alloc, DATA, WORD, &VERIFIED, &mut output, &mut size);
-    code == NO_MEMORY || (code == OK && size == 36 && output.starts_with(CANONICAL))
+    let part = output.get_mut(..room).unwrap_or(&mut []);
+    let code = dcsctp_canonical(alloc, DATA, WORD, &VERIFIED, part, &mut size);
+    let is_so = code == wanted && size == 36;
+    code == NO_MEMORY || (is_so && output.starts_with(CANONICAL) == (wanted == OK))
 }
 
 fn is_printed(alloc: Global) -> bool {
@@ -91,19 +93,12 @@ fn is_printed(alloc: Global) -> bool {
     code == NO_MEMORY || (code == OK && size == TEXT.len() && output.starts_with(TEXT.as_bytes()))
 }
 
-/// A byte less than the canonical packet has.
-fn has_no_room(alloc: Global) -> bool {
-    let mut output = [0; 35];
-    let mut size = 0;
-    let code = dcsctp_canonical(alloc, DATA, WORD, &VERIFIED, &mut output, &mut size);
-    code == NO_MEMORY || (code == NO_ROOM && size == 36)
-}
-
 #[test]
 fn outputs(rt: HostRuntime) {
-    assert!(rt; is_canonical(rt.alloc()));
+    assert!(rt; is_written(rt.alloc(), 40, OK));
+    // a byte less than the packet has
+    assert!(rt; is_written(rt.alloc(), 35, NO_ROOM));
     assert!(rt; is_printed(rt.alloc()));
-    assert!(rt; has_no_room(rt.alloc()));
 }
 
 const NO_CHUNK: DcsctpChunk = DcsctpChunk {
@@ -122,20 +117,15 @@ fn is_header() -> bool {
         checksum: 0,
     };
     dcsctp_header(DATA, &mut header)
-        && header.source_port == 5000
-        && header.destination_port == 5000
-        && header.verification_tag == 229062552
-        && header.checksum == WORD
+        && [header.source_port, header.destination_port] == [5000, 5000]
+        && [header.verification_tag, header.checksum] == [229062552, WORD]
 }
 
 fn is_chunk() -> bool {
     let mut chunk = NO_CHUNK;
     dcsctp_chunk_at(DATA, 12, &mut chunk)
-        && chunk.typ == 0
-        && chunk.flags == 3
-        && chunk.value_offset == 16
-        && chunk.value_size == 17
-        && chunk.next == 36
+        && [chunk.typ, chunk.flags] == [0, 3]
+        && [chunk.value_offset, chunk.value_size, chunk.next] == [16, 17, 36]
         && !dcsctp_chunk_at(DATA, 36, &mut chunk)
 }
 
@@ -157,18 +147,11 @@ fn is_data() -> bool {
     };
     dcsctp_chunk_at(DATA, 12, &mut chunk)
         && dcsctp_data(DATA, &chunk, &mut user_data)
-        && user_data.tsn == 2030482608
-        && user_data.stream == 1
-        && user_data.ssn == 0
-        && user_data.mid == 0
-        && user_data.fsn == 0
-        && user_data.ppid == 51
-        && user_data.is_beginning
-        && user_data.is_end
-        && !user_data.is_unordered
-        && !user_data.immediate_ack
-        && user_data.payload_offset == 28
-        && user_data.payload_size == 5
+        && [user_data.tsn, user_data.mid, user_data.fsn, user_data.ppid] == [2030482608, 0, 0, 51]
+        && [user_data.stream, user_data.ssn] == [1, 0]
+        && [user_data.is_unordered, user_data.immediate_ack] == [false, false]
+        && [user_data.is_beginning, user_data.is_end] == [true, true]
+        && [user_data.payload_offset, user_data.payload_size] == [28, 5]
 }
 
 fn is_sack() -> bool {
@@ -182,10 +165,8 @@ fn is_sack() -> bool {
     dcsctp_chunk_at(SACK, 12, &mut chunk)
         && dcsctp_sack(SACK, &chunk, &mut sack)
         && dcsctp_validate_sack(SACK, &chunk)
-        && sack.cumulative_tsn_ack == 916312075
-        && sack.a_rwnd == 126323
-        && sack.block_count == 2
-        && sack.duplicate_count == 1
+        && [sack.cumulative_tsn_ack, sack.a_rwnd] == [916312075, 126323]
+        && [sack.block_count, sack.duplicate_count] == [2, 1]
 }
 
 fn are_lists() -> bool {
@@ -194,8 +175,7 @@ fn are_lists() -> bool {
     let mut tsn = 0;
     dcsctp_chunk_at(SACK, 12, &mut chunk)
         && dcsctp_gap_ack_block(SACK, &chunk, 0, &mut block)
-        && block.start == 2
-        && block.end == 6
+        && [block.start, block.end] == [2, 6]
         && !dcsctp_gap_ack_block(SACK, &chunk, 2, &mut block)
         && dcsctp_duplicate_tsn(SACK, &chunk, 0, &mut tsn)
         && tsn == 916312081
@@ -213,11 +193,8 @@ fn is_init() -> bool {
     };
     dcsctp_chunk_at(INIT, 12, &mut chunk)
         && dcsctp_init(INIT, &chunk, &mut init)
-        && init.initiate_tag == 1294857517
-        && init.a_rwnd == 131072
-        && init.outbound_streams == 4
-        && init.inbound_streams == 5
-        && init.initial_tsn == 2030482608
+        && [init.initiate_tag, init.a_rwnd, init.initial_tsn] == [1294857517, 131072, 2030482608]
+        && [init.outbound_streams, init.inbound_streams] == [4, 5]
 }
 
 #[test]

@@ -10,6 +10,7 @@ use crate::print::packet_to_text;
 use crate::replay::fingerprint;
 use crate::sealed::{read_verified, seal};
 use crate::tests::association::{PACKETS, REFUSED};
+use crate::tests::replies::readings_agree;
 use dcsctp_crc32c::packet_word;
 use dcsctp_wire::api::{PpId, StreamId};
 use dcsctp_wire::packet::chunk::Chunk;
@@ -72,34 +73,12 @@ fn acknowledges(alloc: Global, limit: u16, wanted: &[u8]) -> Result<bool, AllocE
     Ok(are(made, wanted))
 }
 
-#[test]
-fn of_a_sack_and_data(rt: HostRuntime) -> Result<(), Fail> {
-    // ports the other way round, tag, word; SACK; DATA, both of its bits, with two bytes of padding
-    let packet = [
-        0, 2, 0, 1, 0, 0, 0, 7, 0, 0, 0, 6, 3, 0, 0, 16, 0, 0, 0, 9, 0, 0, 4, 0, 0, 0, 0, 0, 0, 3,
-        0, 18, 0, 0, 0, 5, 0, 3, 0, 4, 0, 0, 0, 51, 0x68, 0x69, 0, 0,
-    ];
-    assert!(rt; acknowledges(rt.alloc(), 48, &packet)?);
-    // a limit of a byte less has no room for the DATA
-    assert!(rt; acknowledges(rt.alloc(), 47, &[])?);
-    Ok(())
-}
-
 fn has_key(alloc: Global, bytes: &[u8], wanted: &[u8]) -> Result<bool, PacketParseError> {
     let key = fingerprint(alloc, bytes, 0, &ChecksumPolicy::default())?;
     Ok(are(key, wanted))
 }
 
-#[test]
-fn of_a_fingerprint(rt: HostRuntime) -> Result<(), Fail> {
-    // COOKIE ACK with a flag bit that isn't read, and so isn't in the key
-    let packet = [0, 1, 0, 2, 0, 0, 0, 7, 0, 0, 0, 0, 11, 0x80, 0, 4];
-    let key = [0, 1, 0, 2, 0, 0, 0, 7, 0, 0, 0, 0, 11, 0, 0, 4];
-    assert!(rt; has_key(rt.alloc(), &packet, &key)?);
-    Ok(())
-}
-
-/// The answer, as it is built with a word of 6.
+/// The answer to an INIT, as it is built with a word of 6.
 fn answers(alloc: Global, wanted: &[u8]) -> Result<bool, AllocError> {
     let init = InitChunk {
         initiate_tag: 8,
@@ -125,7 +104,19 @@ fn answers(alloc: Global, wanted: &[u8]) -> Result<bool, AllocError> {
 }
 
 #[test]
-fn of_an_init(rt: HostRuntime) -> Result<(), Fail> {
+fn of_made_packets(rt: HostRuntime) -> Result<(), Fail> {
+    // ports the other way round, tag, word; SACK; DATA, both of its bits, with two bytes of padding
+    let packet = [
+        0, 2, 0, 1, 0, 0, 0, 7, 0, 0, 0, 6, 3, 0, 0, 16, 0, 0, 0, 9, 0, 0, 4, 0, 0, 0, 0, 0, 0, 3,
+        0, 18, 0, 0, 0, 5, 0, 3, 0, 4, 0, 0, 0, 51, 0x68, 0x69, 0, 0,
+    ];
+    assert!(rt; acknowledges(rt.alloc(), 48, &packet)?);
+    // a limit of a byte less has no room for the DATA
+    assert!(rt; acknowledges(rt.alloc(), 47, &[])?);
+    // COOKIE ACK with a flag bit that isn't read, and so isn't in the key
+    let packet = [0, 1, 0, 2, 0, 0, 0, 7, 0, 0, 0, 0, 11, 0x80, 0, 4];
+    let key = [0, 1, 0, 2, 0, 0, 0, 7, 0, 0, 0, 0, 11, 0, 0, 4];
+    assert!(rt; has_key(rt.alloc(), &packet, &key)?);
     // ports the other way round, the tag that the INIT asks for, the word; INIT ACK
     let packet = [
         0, 2, 0, 1, 0, 0, 0, 8, 0, 0, 0, 6, 2, 0, 0, 20, 0, 0, 0, 5, 0, 0, 8, 0, 0, 2, 0, 1, 0, 0,
@@ -135,16 +126,8 @@ fn of_an_init(rt: HostRuntime) -> Result<(), Fail> {
     Ok(())
 }
 
-/// The word of a COOKIE ACK, whose CRC32c is 0xa5515aee as another program computes it.
-const WORD: u32 = 0xee5a51a5;
-
-/// The COOKIE ACK with a number in its checksum field.
-fn with_field(word: u32) -> [u8; 16] {
-    let [a, b, c, d] = word.to_be_bytes();
-    [
-        0x13, 0x88, 0x13, 0x88, 1, 2, 3, 4, a, b, c, d, 0x0b, 0, 0, 4,
-    ]
-}
+/// A COOKIE ACK, whose CRC32c is 0xa5515aee as another program computes it.
+const SEALED: &[u8] = b"\x13\x88\x13\x88\x01\x02\x03\x04\xee\x5a\x51\xa5\x0b\x00\x00\x04";
 
 fn seals(alloc: Global, wanted: &[u8]) -> Result<bool, AllocError> {
     let mut builder = SctpPacketBuilder::new(alloc, 0x01020304, 5000, 5000, 16);
@@ -156,32 +139,6 @@ fn seals(alloc: Global, wanted: &[u8]) -> Result<bool, AllocError> {
 fn chunks_of(alloc: Global, bytes: &[u8]) -> Result<usize, PacketParseError> {
     let packet = read_verified(alloc, bytes)?;
     Ok(packet.chunks.len())
-}
-
-#[test]
-fn of_a_sealed_packet(rt: HostRuntime) -> Result<(), Fail> {
-    assert!(rt; seals(rt.alloc(), &with_field(WORD))?);
-    assert_eq!(rt; chunks_of(rt.alloc(), &with_field(WORD)), Ok(1));
-    for bit in 0..32 {
-        let other = with_field(WORD ^ 1u32.rotate_left(bit));
-        assert_eq!(rt;
-            chunks_of(rt.alloc(), &other),
-            Err(PacketParseError::InvalidChecksum)
-        );
-    }
-    Ok(())
-}
-
-fn has_text(alloc: Global, bytes: &[u8], wanted: &str) -> Result<bool, PacketParseError> {
-    let text = packet_to_text(alloc, bytes)?;
-    Ok(text.as_str() == wanted)
-}
-
-#[test]
-fn of_an_association(rt: HostRuntime) {
-    for (bytes, text) in PACKETS {
-        assert_eq!(rt; has_text(rt.alloc(), bytes, text), Ok(true), "{text}");
-    }
 }
 
 /// Whether the packet is refused after each single changed bit of its checksum field.
@@ -204,10 +161,20 @@ fn is_refused_after_changes(alloc: Global, bytes: &[u8]) -> Result<bool, AllocEr
     Ok(refused)
 }
 
+fn has_text(alloc: Global, bytes: &[u8], wanted: &str) -> Result<bool, PacketParseError> {
+    let text = packet_to_text(alloc, bytes)?;
+    Ok(text.as_str() == wanted)
+}
+
 #[test]
-fn of_changed_checksums(rt: HostRuntime) -> Result<(), Fail> {
+fn of_sealed_packets(rt: HostRuntime) -> Result<(), Fail> {
+    assert!(rt; seals(rt.alloc(), SEALED)?);
+    assert_eq!(rt; chunks_of(rt.alloc(), SEALED), Ok(1));
+    assert!(rt; is_refused_after_changes(rt.alloc(), SEALED)?);
     for (bytes, text) in PACKETS {
+        assert_eq!(rt; has_text(rt.alloc(), bytes, text), Ok(true), "{text}");
         assert!(rt; is_refused_after_changes(rt.alloc(), bytes)?, "{text}");
+        assert!(rt; readings_agree(rt.alloc(), bytes)?, "{text}");
     }
     Ok(())
 }

@@ -94,19 +94,6 @@ pub fn are_answered<F: Fn(Global, &[u8]) -> Result<String, Fail>>(
     }
 }
 
-/// One of the rows has these bytes, and after their line this answer.
-pub fn has_row(alloc: Global, rows: &str, bytes: &[u8], answer: &str) -> Result<bool, AllocError> {
-    let digits = digits_of(alloc, bytes)?;
-    let row = format!(in alloc; "{digits}\n= {answer}")?;
-    Ok(match rows.split_once(row.as_str()) {
-        Some((before, rest)) => {
-            let is_start = before.is_empty() || before.ends_with('\n');
-            is_start && (rest.is_empty() || rest.starts_with('\n'))
-        }
-        None => false,
-    })
-}
-
 #[cfg(test)]
 mod tests {
     use super::*;
@@ -128,24 +115,6 @@ mod tests {
         ];
         for (rows, wanted) in rows {
             assert_eq!(rt; fault(rt.alloc(), rows)?.as_str(), wanted);
-        }
-        Ok(())
-    }
-
-    #[test]
-    fn has(rt: HostRuntime) -> Result<(), Fail> {
-        let alloc = rt.alloc();
-        assert!(rt; has_row(alloc, "01020304 05\n= a\n06\n= b", &[1, 2, 3, 4, 5], "a")?);
-        assert!(rt; has_row(alloc, "01020304 05\n= a\n06\n= b", &[6], "b")?);
-        for (bytes, answer) in [
-            ([6].as_slice(), "a"),
-            ([5].as_slice(), "a"),
-            ([6].as_slice(), ""),
-        ] {
-            assert!(rt;
-                !has_row(alloc, "01020304 05\n= a\n06\n= b", bytes, answer)?,
-                "{answer}"
-            );
         }
         Ok(())
     }

@@ -66,7 +66,7 @@ c2000010 = 0 Size, 16 Length, 28 Kept(1)
 
 #[test]
 fn of_prefixes(rt: HostRuntime) -> Result<(), Fail> {
-    are_answered(rt.alloc(), CUT_OFF, |alloc, words| cut_off(alloc, words))
+    are_answered(rt.alloc(), CUT_OFF, cut_off)
 }
 
 /// The header, and the first bytes of the captured chunk, whose length counts them.
@@ -98,11 +98,7 @@ const SHORTENED: &str = "0100005a
 
 #[test]
 fn of_lengths(rt: HostRuntime) -> Result<(), Fail> {
-    are_answered(
-        rt.alloc(),
-        SHORTENED,
-        |alloc, words| shortened_each(alloc, words),
-    )
+    are_answered(rt.alloc(), SHORTENED, shortened_each)
 }
 
 /// Counts an answer: packets that are read and read back, the chunks, parameters and causes that
@@ -157,7 +153,7 @@ fn changed(alloc: Global, words: &[u8]) -> Result<String, Fail> {
 #[test]
 fn of_changed_init(rt: HostRuntime) -> Result<(), Fail> {
     let row = "0100005a = 22990 kept with 159400 parts, 3530 refused, 0 others";
-    are_answered(rt.alloc(), row, |alloc, words| changed(alloc, words))
+    are_answered(rt.alloc(), row, changed)
 }
 
 /// DATA, SACK, COOKIE ECHO, COOKIE ACK and SHUTDOWN COMPLETE.
@@ -169,7 +165,7 @@ const PLAIN: &str = r"00030014 = 7642 kept with 7642 parts, 518 refused, 0 other
 
 #[test]
 fn of_changed_plain_chunks(rt: HostRuntime) -> Result<(), Fail> {
-    are_answered(rt.alloc(), PLAIN, |alloc, words| changed(alloc, words))
+    are_answered(rt.alloc(), PLAIN, changed)
 }
 
 /// ABORT and ERROR, SHUTDOWN and SHUTDOWN ACK, FORWARD-TSN and I-FORWARD-TSN.
@@ -182,7 +178,7 @@ c2000010 = 6617 kept with 6617 parts, 523 refused, 0 others";
 
 #[test]
 fn of_more_changed_chunks(rt: HostRuntime) -> Result<(), Fail> {
-    are_answered(rt.alloc(), MORE, |alloc, words| changed(alloc, words))
+    are_answered(rt.alloc(), MORE, changed)
 }
 
 /// I-DATA, first and last; and DATA after a COOKIE ACK.
@@ -192,7 +188,7 @@ const USER_DATA: &str = r"40020015 = 8659 kept with 8659 parts, 521 refused, 0 o
 
 #[test]
 fn of_changed_user_data(rt: HostRuntime) -> Result<(), Fail> {
-    are_answered(rt.alloc(), USER_DATA, |alloc, words| changed(alloc, words))
+    are_answered(rt.alloc(), USER_DATA, changed)
 }
 
 /// How many are kept or refused for a length, and how many are answered otherwise.
@@ -207,9 +203,5 @@ const LISTS: &str = "0400002c = 14280 and 0\n0500002c = 14280 and 0\n82000016 = 
 
 #[test]
 fn of_changed_lists(rt: HostRuntime) -> Result<(), Fail> {
-    are_answered(
-        rt.alloc(),
-        LISTS,
-        |alloc, words| kept_or_refused(alloc, words),
-    )
+    are_answered(rt.alloc(), LISTS, kept_or_refused)
 }

@@ -1,10 +1,11 @@
 //! Each kind of error cause, and lists of them.
 
-use crate::help::{cause_as, converted, list_shown, raw_parameter, shown, size_of, told_alike};
-use dcsctp_cause::cookie_received_while_shutting_down::CookieReceivedWhileShuttingDownErrorCause;
-use dcsctp_cause::error_causes::{ErrorCause, error_cause_check, error_cause_from_bytes};
-use dcsctp_cause::missing_mandatory_parameter_error_cause::MissingMandatoryParameterErrorCause;
+use crate::help::{cause_as, converted, list_shown, raw_parameter, size_of, told_alike};
+use dcsctp_wire::packet::cookie_received_while_shutting_down::CookieReceivedWhileShuttingDownErrorCause;
+use dcsctp_wire::packet::error_causes::{ErrorCause, error_cause_check, error_cause_from_bytes};
+use dcsctp_wire::packet::missing_mandatory_parameter_error_cause::MissingMandatoryParameterErrorCause;
 use hex_rows::are_answered;
+use samples::help::kind_shown;
 use std::alloc::{AllocError, Global};
 use std::test::Fail;
 
@@ -42,6 +43,8 @@ const LISTS: &str = r#"= []
 00060008 49000004 0002000c 00000002 0007000d 00090008 01020304 = [UnrecognizedChunk(UnrecognizedChunkErrorCause { chunk: [73, 0, 0, 4] }), MissingMandatoryParameter(MissingMandatoryParameterErrorCause { missing_parameters: [7, 13] }), NoUserData(NoUserDataErrorCause { tsn: 16909060 })]
 # two missing parameters, DATA without a payload, a cookie that came too late
 0002000c 00000002 0007000d 00090008 01020304 000a0004 = [MissingMandatoryParameter(MissingMandatoryParameterErrorCause { missing_parameters: [7, 13] }), NoUserData(NoUserDataErrorCause { tsn: 16909060 }), CookieReceivedWhileShuttingDown(CookieReceivedWhileShuttingDownErrorCause)]
+# three of a code without a kind
+00630004 00630004 00630004 = [Unknown(UnknownParameter { typ: 99, value: [] }), Unknown(UnknownParameter { typ: 99, value: [] }), Unknown(UnknownParameter { typ: 99, value: [] })]
 # a count of 2^31 types, for which a value of 4 bytes would serve if it wrapped
 0002000a 80000000 0007 = InvalidLength
 # one more: these 6 bytes would serve if it wrapped
@@ -70,7 +73,7 @@ const LISTS: &str = r#"= []
 
 /// What the bytes are as the variant that has their code.
 fn variant(alloc: Global, bytes: &[u8]) -> Result<String, Fail> {
-    shown(
+    kind_shown(
         alloc,
         bytes,
         ErrorCause::try_from(alloc, raw_parameter(bytes)?),

@@ -2,18 +2,24 @@
 
 use crate::help::part;
 use dcsctp_chunk::flags::{four_flags, is_set, one_flag};
-use dcsctp_chunk::raw_chunk::{RawChunk, write_chunk_header};
-use dcsctp_tlv::frame::TLV_HEADER_SIZE;
-use dcsctp_tlv::number::{
-    is_divisible_by_4, read_u16_be, read_u32_be, read_u64_be, round_down_to_4, round_up_to_4,
-    write_u16_be, write_u32_be, write_u64_be,
-};
-use dcsctp_tlv::parameter::raw_parameter::{
-    PARAMETER_HEADER_SIZE, RawParameter, write_parameter_header,
+use dcsctp_wire::packet::chunk::{RawChunk, write_chunk_header};
+use dcsctp_wire::packet::parameter::{RawParameter, write_parameter_header};
+use dcsctp_wire::packet::{
+    PARAMETER_HEADER_SIZE, TLV_HEADER_SIZE, is_divisible_by_4, read_u16_be, read_u32_be,
+    read_u64_be, round_down_to_4, round_up_to_4, write_u16_be, write_u32_be, write_u64_be,
 };
 use hex_rows::are_answered;
 use std::alloc::{AllocError, Global};
 use std::test::Fail;
+
+/// Numbers of 2, 4 and 8 bytes, each written over nine bytes of zeros.
+fn bytes_of(short: u16, word: u32, long: u64) -> [[u8; 9]; 3] {
+    let mut outputs = [[0; 9]; 3];
+    write_u16_be(&mut outputs[0], short);
+    write_u32_be(&mut outputs[1], word);
+    write_u64_be(&mut outputs[2], long);
+    outputs
+}
 
 #[test]
 fn numbers(rt: HostRuntime) {
@@ -22,23 +28,37 @@ fn numbers(rt: HostRuntime) {
     assert_eq!(rt; read_u32_be(&bytes), 0x01020304);
     assert_eq!(rt; read_u64_be(&bytes), 0x0102030405060708);
     // the bytes after the number stay
-    let mut output = [0; 9];
-    write_u16_be(&mut output, 0xcafe);
-    assert!(rt; output == [0xca, 0xfe, 0, 0, 0, 0, 0, 0, 0]);
-    write_u32_be(&mut output, 0xdeadbeef);
-    assert!(rt; output == [0xde, 0xad, 0xbe, 0xef, 0, 0, 0, 0, 0]);
-    write_u64_be(&mut output, 0xdeadbeefbaadf00d);
-    assert!(rt; output == [0xde, 0xad, 0xbe, 0xef, 0xba, 0xad, 0xf0, 0x0d, 0]);
+    let rising = [
+        [1, 2, 0, 0, 0, 0, 0, 0, 0],
+        [1, 2, 3, 4, 0, 0, 0, 0, 0],
+        [1, 2, 3, 4, 5, 6, 7, 8, 0],
+    ];
+    assert_eq!(rt; bytes_of(0x0102, 0x01020304, 0x0102030405060708), rising);
+    let others = [
+        [0xca, 0xfe, 0, 0, 0, 0, 0, 0, 0],
+        [0xde, 0xad, 0xbe, 0xef, 0, 0, 0, 0, 0],
+        [0xde, 0xad, 0xbe, 0xef, 0xba, 0xad, 0xf0, 0x0d, 0],
+    ];
+    assert_eq!(rt; bytes_of(0xcafe, 0xdeadbeef, 0xdeadbeefbaadf00d), others);
 }
+
+/// A number, and the multiples of 4 next to it, upwards and downwards.
+const MULTIPLES: [(usize, usize, usize); 8] = [
+    (0, 0, 0),
+    (1, 4, 0),
+    (3, 4, 0),
+    (4, 4, 4),
+    (5, 8, 4),
+    (7, 8, 4),
+    (8, 8, 8),
+    (65533, 65536, 65532),
+];
 
 #[test]
 fn multiples(rt: HostRuntime) {
-    for (n, rounded) in [(0, 0), (1, 4), (4, 4), (5, 8), (65533, 65536)] {
-        assert_eq!(rt; round_up_to_4(n), rounded);
-    }
-    for (n, rounded) in [(0, 0), (3, 0), (4, 4), (7, 4)] {
-        assert_eq!(rt; round_down_to_4(n), rounded);
-        assert_eq!(rt; is_divisible_by_4(n), n == rounded);
+    for (n, up, down) in MULTIPLES {
+        assert_eq!(rt; (round_up_to_4(n), round_down_to_4(n)), (up, down));
+        assert_eq!(rt; is_divisible_by_4(n), n == down);
     }
 }
 
@@ -54,6 +74,11 @@ fn flags(rt: HostRuntime) {
 #[test]
 fn headers(rt: HostRuntime) {
     assert_eq!(rt; (TLV_HEADER_SIZE, PARAMETER_HEADER_SIZE), (4, 4));
+    let (mut chunk, mut parameter) = ([0xee; 8], [0xee; 8]);
+    write_chunk_header(73, 1, 3, &mut chunk).fill(9);
+    write_parameter_header(0x8008, 3, &mut parameter).fill(9);
+    assert_eq!(rt; chunk, [73, 1, 0, 7, 9, 9, 9, 0xee]);
+    assert_eq!(rt; parameter, [0x80, 8, 0, 7, 9, 9, 9, 0xee]);
     let mut output = [0xee; 12];
     let value = write_chunk_header(13, 7, 6, &mut output);
     assert_eq!(rt; value.len(), 6);
@@ -80,6 +105,8 @@ const FRAMES: &str = r"# a value with all its padding, and a byte after it
 42010005 02000000 = 4201: 02 | 000000 | -
 # one byte of padding, and nothing after it
 42010007 02030400 = 4201: 020304 | 00 | -
+49010007 090909ee = 4901: 090909 | ee | -
+80080007 090909ee = 8008: 090909 | ee | -
 # some of the padding, and none of it
 42010006 020304 = 4201: 0203 | 04 | -
 42010005 020708 = 4201: 02 | 0708 | -

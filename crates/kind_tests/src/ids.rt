@@ -1,13 +1,14 @@
 //! Ids, keys, times, messages and settings, and what numbers and ids print.
 
-use dcsctp_types::api::{
+use dcsctp_wire::api::{
     LifecycleId, Message, PpId, SocketTime, StreamId,
     ZERO_CHECKSUM_ALTERNATE_ERROR_DETECTION_METHOD_LOWER_LAYER_DTLS as DTLS,
     ZERO_CHECKSUM_ALTERNATE_ERROR_DETECTION_METHOD_NONE as NONE,
     ZeroChecksumAlternateErrorDetectionMethod,
 };
-use dcsctp_types::laws;
-use dcsctp_types::types::{Fsn, Mid, OutgoingMessageId, Ssn, StreamKey, Tsn};
+use dcsctp_wire::laws::types as laws;
+use dcsctp_wire::packet::SkippedStream;
+use dcsctp_wire::types::{Fsn, Mid, OutgoingMessageId, Ssn, StreamKey, Tsn};
 use std::alloc::{AllocError, Global};
 use std::fmt::{Debug, Display};
 use std::hash::{DefaultHasher, Hash, Hasher};
@@ -27,8 +28,9 @@ fn times_saturate(rt: HostRuntime) {
     assert!(rt; start < sooner && sooner < later && later < end);
 }
 
-fn message_told(alloc: Global) -> Result<String, AllocError> {
-    let message = Message::new(StreamId(3), PpId(53), [1, 2].to_vec(alloc)?);
+/// All fields of a message on stream 3.
+fn message_told(alloc: Global, ppid: PpId, payload: &[u8]) -> Result<String, AllocError> {
+    let message = Message::new(StreamId(3), ppid, Vec::from_slice(alloc, payload)?);
     format!(in alloc; "{message:?}")
 }
 
@@ -43,6 +45,13 @@ fn ids_and_keys(rt: HostRuntime) -> Result<(), Fail> {
     assert!(rt; ordered.is_ordered() && !ordered.is_unordered());
     assert!(rt; unordered.is_unordered() && !unordered.is_ordered());
     assert_eq!(rt; ordered.id(), StreamId(65_535));
+    let key = StreamKey::new(true, StreamId(3));
+    assert!(rt; key.is_unordered() && key.id() == StreamId(3));
+    let skipped = SkippedStream::ForwardTsn(StreamId(1), Ssn(2));
+    assert_eq!(rt; skipped, SkippedStream::ForwardTsn(StreamId(1), Ssn(2)));
+    assert_ne!(rt; skipped, SkippedStream::IForwardTsn(key, Mid(4)));
+    let unordered = StreamKey::Unordered(StreamId(1));
+    assert_ne!(rt; skipped, SkippedStream::IForwardTsn(unordered, Mid(2)));
 
     assert_eq!(rt; LifecycleId::new(0), None);
     let id = LifecycleId::new(7).ok_or("seven")?;
@@ -56,8 +65,12 @@ fn ids_and_keys(rt: HostRuntime) -> Result<(), Fail> {
     );
 
     assert_eq!(rt;
-        message_told(rt.alloc())?.as_str(),
+        message_told(rt.alloc(), PpId(53), &[1, 2])?.as_str(),
         "Message { stream_id: 3, ppid: 53, payload: [1, 2] }"
+    );
+    assert_eq!(rt;
+        message_told(rt.alloc(), PpId::WEBRTC_STRING, b"hi")?.as_str(),
+        "Message { stream_id: 3, ppid: 51, payload: [104, 105] }"
     );
     assert_eq!(rt; (NONE.0, DTLS.0), (0, 1));
     assert_eq!(rt; ZeroChecksumAlternateErrorDetectionMethod::from(1), DTLS);

@@ -1,12 +1,9 @@
-//! Tests of what stands below a packet: numbers, ids, frames, and each kind of chunk, parameter and
-//! error cause that a packet can hold, but for the chunks that hold a list. There is nothing else
-//! here.
+//! Tests of what is below a chunk: numbers, ids, frames, each kind of parameter and error cause; and of
+//! the cleaning of a SACK's blocks. All is called as `dcsctp_wire` re-exports it.
 //!
 //! Expected values come from captures, or were worked by hand from the standards.
 #![tactic(auto)]
 
-#[cfg(test)]
-mod chunks;
 #[cfg(test)]
 mod error_causes;
 #[cfg(test)]

@@ -4,25 +4,25 @@ ghost use Rattle.std.specs.Int.{w32, to_be_bytes};
 ghost use Rattle.dcsctp_tlv.specs.UnknownParameter as unknown;
 
 use crate::help::{
-    converted, list_shown, list_written, made, parameter_as, raw_parameter, size_of, told_alike,
+    converted, list_shown, list_written, parameter_as, raw_parameter, size_of, told_alike,
 };
-use dcsctp_tlv::error::ChunkParseError;
 use dcsctp_tlv::frame::put_parameter;
-use dcsctp_tlv::parameter::forward_tsn_supported_parameter::ForwardTsnSupportedParameter;
-use dcsctp_tlv::parameter::outgoing_ssn_reset_request_parameter::OutgoingSsnResetRequestParameter;
-use dcsctp_tlv::parameter::reconfiguration_response_parameter::{
-    ReconfigurationResponseParameter, ReconfigurationResponseResult,
-};
-use dcsctp_tlv::parameter::ssn_tsn_reset_request_parameter::SsnTsnResetRequestParameter;
-use dcsctp_tlv::parameter::state_cookie_parameter::StateCookieParameter;
-use dcsctp_tlv::parameter::unknown_parameter::UnknownParameter;
-use dcsctp_tlv::parameter::{
+use dcsctp_wire::api::StreamId;
+use dcsctp_wire::packet::forward_tsn_supported_parameter::ForwardTsnSupportedParameter;
+use dcsctp_wire::packet::outgoing_ssn_reset_request_parameter::OutgoingSsnResetRequestParameter;
+use dcsctp_wire::packet::parameter::{
     Parameter, parameters_check, parameters_encodable, parameters_from_bytes,
 };
-use dcsctp_tlv::tlv::SerializableTlv;
-use dcsctp_types::api::StreamId;
-use dcsctp_types::types::Tsn;
+use dcsctp_wire::packet::reconfiguration_response_parameter::{
+    ReconfigurationResponseParameter, ReconfigurationResponseResult,
+};
+use dcsctp_wire::packet::ssn_tsn_reset_request_parameter::SsnTsnResetRequestParameter;
+use dcsctp_wire::packet::state_cookie_parameter::StateCookieParameter;
+use dcsctp_wire::packet::unknown_parameter::UnknownParameter;
+use dcsctp_wire::packet::{ChunkParseError, SerializableTlv};
+use dcsctp_wire::types::Tsn;
 use hex_rows::are_answered;
+use samples::help::value_shown;
 use std::alloc::{AllocError, Global};
 use std::test::Fail;
 
@@ -212,23 +212,39 @@ fn outgoing(alloc: Global, count: usize) -> Result<OutgoingSsnResetRequestParame
     })
 }
 
+/// A cookie of so many bytes.
+fn cookie(alloc: Global, size: usize) -> Result<StateCookieParameter, AllocError> {
+    let cookie = vec![in alloc; 1; size]?;
+    Ok(StateCookieParameter { cookie })
+}
+
+/// A parameter of a type without a kind, with so many bytes.
+fn unknown_with(alloc: Global, size: usize) -> Result<UnknownParameter, AllocError> {
+    Ok(UnknownParameter::new(99, vec![in alloc; 1; size]?))
+}
+
 /// Whether a list of two cookies with so many bytes can be written.
 fn are_cookies_encodable(alloc: Global, first: usize, second: usize) -> Result<bool, AllocError> {
-    let first = StateCookieParameter {
-        cookie: vec![in alloc; 1; first]?,
-    };
-    let second = StateCookieParameter {
-        cookie: vec![in alloc; 1; second]?,
-    };
+    let first = cookie(alloc, first)?;
+    let second = cookie(alloc, second)?;
+    Ok(parameters_encodable(&[first, second]))
+}
+
+/// The same of two parameters without a kind.
+fn are_unknown_encodable(alloc: Global, first: usize, second: usize) -> Result<bool, AllocError> {
+    let first = unknown_with(alloc, first)?;
+    let second = unknown_with(alloc, second)?;
     Ok(parameters_encodable(&[first, second]))
 }
 
 #[test]
 fn sizes(rt: HostRuntime) -> Result<(), Fail> {
     let alloc = rt.alloc();
-    // two cookies in 65,536 bytes, and in 65,535
-    assert!(rt; !are_cookies_encodable(alloc, 32764, 32764)?);
-    assert!(rt; are_cookies_encodable(alloc, 32764, 32763)?);
+    // two in 65,536 bytes, and in 65,535
+    for (size, wanted) in [(32764, false), (32763, true)] {
+        assert_eq!(rt; are_cookies_encodable(alloc, 32764, size)?, wanted);
+        assert_eq!(rt; are_unknown_encodable(alloc, 32764, size)?, wanted);
+    }
     // the most streams that a request can name, and one more
     assert_eq!(rt; size_of(outgoing(alloc, 32759)?), Some(65534));
     assert_eq!(rt; size_of(outgoing(alloc, 32760)?), None);
@@ -289,7 +305,7 @@ fn converted_and_unknown(rt: HostRuntime) -> Result<(), Fail> {
     );
     let value = Vec::from_slice(alloc, &[1])?;
     assert_eq!(rt;
-        made(alloc, UnknownParameter::new(0xc000, value))?.as_str(),
+        value_shown(alloc, &[], &UnknownParameter::new(0xc000, value))?.as_str(),
         "UnknownParameter { typ: 49152, value: [1] }; Unknown parameter, type=49152 -> c0000005 01"
     );
     Ok(())

@@ -2,11 +2,12 @@
 
 ghost use Rattle.std.specs.Prelude.{◌<◌, ◌≤◌};
 
-use crate::help::{size_of, with_change, written};
-use dcsctp_chunk::chunk_validators::{clean_blocks, clean_sack, validate_sack};
-use dcsctp_chunk::sack_chunk::{GapAckBlock, SackChunk};
-use dcsctp_types::types::{SerialNumber, Tsn};
+use crate::help::{size_of, with_change};
+use dcsctp_wire::packet::chunk_validators::{clean_blocks, clean_sack, validate_sack};
+use dcsctp_wire::packet::sack_chunk::{GapAckBlock, SackChunk};
+use dcsctp_wire::types::{SerialNumber, Tsn};
 use hex_rows::are_answered;
+use samples::help::image_of;
 use std::alloc::{AllocError, Global};
 use std::test::Fail;
 
@@ -40,6 +41,8 @@ fffeffff 00020003 = false, true -> 00020003 fffeffff
 # they touch
 00030004 00050006 = false, true -> 00030006
 00020003 00040005 = false, true -> 00020005
+00040005 00020003 = false, true -> 00020005
+00020005 = true, true
 00050005 00070007 00060006 = false, true -> 00050007
 00050006 00010003 00040004 = false, false -> 00010006
 # the highest offset touches none
@@ -69,7 +72,7 @@ fn sack_of(alloc: Global, gap_ack_blocks: Vec<GapAckBlock>) -> SackChunk {
 
 /// What a SACK with these blocks is as it is written: 16 bytes, and the blocks.
 fn sack_bytes(alloc: Global, blocks: Vec<GapAckBlock>) -> Result<Vec<u8>, AllocError> {
-    written(alloc, &sack_of(alloc, blocks))
+    image_of(alloc, &sack_of(alloc, blocks))
 }
 
 /// The blocks that are cleaned by themselves, in a SACK as it is written.
@@ -84,7 +87,7 @@ fn cleaned_in_sack(alloc: Global, bytes: &[u8]) -> Result<(bool, bool, Vec<u8>),
     let sack = sack_of(alloc, blocks_of(alloc, bytes)?);
     let before = validate_sack(&sack);
     let cleaned = clean_sack(sack);
-    Ok((before, validate_sack(&cleaned), written(alloc, &cleaned)?))
+    Ok((before, validate_sack(&cleaned), image_of(alloc, &cleaned)?))
 }
 
 fn cleaned(alloc: Global, bytes: &[u8]) -> Result<String, Fail> {

@@ -94,7 +94,7 @@ fn answered(alloc: Global, bytes: &[u8]) -> Result<String, Fail> {
 
 #[test]
 fn of_packets(rt: HostRuntime) -> Result<(), Fail> {
-    are_answered(rt.alloc(), ROWS, |alloc, bytes| answered(alloc, bytes))
+    are_answered(rt.alloc(), ROWS, answered)
 }
 
 /// The first fault of so many zeros is their size, at this place.

@@ -57,11 +57,7 @@ fn kept(alloc: Global, chunks: &[u8]) -> Result<String, Fail> {
 
 #[test]
 fn accepted_and_refused(rt: HostRuntime) -> Result<(), Fail> {
-    are_answered(
-        rt.alloc(),
-        packets::ROWS,
-        |alloc, chunks| kept(alloc, chunks),
-    )
+    are_answered(rt.alloc(), packets::ROWS, kept)
 }
 
 /// What the packet's first chunk is, as a chunk of these bytes is shown.
@@ -117,16 +113,8 @@ fn packed_as_itself(alloc: Global, chunk: &[u8]) -> Result<String, Fail> {
 
 #[test]
 fn of_one_chunk(rt: HostRuntime) -> Result<(), Fail> {
-    are_answered(
-        rt.alloc(),
-        chunks::ROWS,
-        |alloc, chunk| packed(alloc, chunk),
-    )?;
-    are_answered(
-        rt.alloc(),
-        captures::ROWS,
-        |alloc, chunk| packed_as_itself(alloc, chunk),
-    )
+    are_answered(rt.alloc(), chunks::ROWS, packed)?;
+    are_answered(rt.alloc(), captures::ROWS, packed_as_itself)
 }
 
 /// Without its chunks, the packet fits, and its canonical packet is the header.

@@ -77,7 +77,7 @@ fn chunk_shown(alloc: Global, bytes: &[u8]) -> Result<String, Fail> {
 
 #[test]
 fn of_each_kind(rt: HostRuntime) -> Result<(), Fail> {
-    are_answered(rt.alloc(), CHUNKS, |alloc, bytes| chunk_shown(alloc, bytes))
+    are_answered(rt.alloc(), CHUNKS, chunk_shown)
 }
 
 /// The bytes, and what is printed of their fault under a strict policy that accepts a checksum of 1.
@@ -118,7 +118,7 @@ fn fault_shown(alloc: Global, bytes: &[u8]) -> Result<String, Fail> {
 
 #[test]
 fn of_faults(rt: HostRuntime) -> Result<(), Fail> {
-    are_answered(rt.alloc(), FAULTS, |alloc, bytes| fault_shown(alloc, bytes))
+    are_answered(rt.alloc(), FAULTS, fault_shown)
 }
 
 /// Packets of usrsctp (docs/CAPTURES.md), and what is printed of them, whatever the checksum is.
@@ -145,11 +145,7 @@ fn packet_shown(alloc: Global, bytes: &[u8]) -> Result<String, Fail> {
 
 #[test]
 fn of_captures(rt: HostRuntime) -> Result<(), Fail> {
-    are_answered(
-        rt.alloc(),
-        PACKETS,
-        |alloc, bytes| packet_shown(alloc, bytes),
-    )
+    are_answered(rt.alloc(), PACKETS, packet_shown)
 }
 
 /// The field, the expected word, and what is said.

@@ -3,7 +3,6 @@
 mod answers;
 mod captures;
 mod devices;
-mod original;
 mod pasted;
 mod sizes;
 mod strict;
@@ -79,25 +78,8 @@ fn outcome_of(status: u8, input: Watched<Source<'_>>, output: Watched<Sink<'_>>)
     }
 }
 
-/// Whether the text is answered so where padding is looked at.
-fn is_answered_strictly(alloc: Global, text: &str, (wanted, status): (&str, u8)) -> bool {
-    let outcome = run_strict(alloc, text.as_bytes(), wanted);
-    outcome.status == status
-        && outcome.as_wanted
-        && outcome.written == wanted.len()
-        && outcome.given == text.len()
-        && !outcome.input_failed
-        && !outcome.output_failed
-}
-
-/// Whether so many bytes of the text are read, in steps, and it is answered so, with one flush.
-fn is_answered(
-    alloc: Global,
-    text: &[u8],
-    (step, given): (usize, usize),
-    (wanted, status): (&str, u8),
-) -> bool {
-    let outcome = run(alloc, text, steps(step), wanted, steps(step));
+/// Whether so many bytes of the text were read, and it was answered so, with one flush.
+fn is_answer(outcome: Outcome, given: usize, (wanted, status): (&str, u8)) -> bool {
     outcome.status == status
         && outcome.as_wanted
         && outcome.written == wanted.len()
@@ -105,6 +87,23 @@ fn is_answered(
         && outcome.flushes == 1
         && !outcome.input_failed
         && !outcome.output_failed
+}
+
+/// Whether the text is answered so where padding is looked at.
+fn is_answered_strictly(alloc: Global, text: &str, answer: (&str, u8)) -> bool {
+    let outcome = run_strict(alloc, text.as_bytes(), answer.0);
+    is_answer(outcome, text.len(), answer)
+}
+
+/// Whether so many bytes of the text are read, in steps, and it is answered so.
+fn is_answered(
+    alloc: Global,
+    text: &[u8],
+    (step, given): (usize, usize),
+    answer: (&str, u8),
+) -> bool {
+    let outcome = run(alloc, text, steps(step), answer.0, steps(step));
+    is_answer(outcome, given, answer)
 }
 
 /// Whether the text is answered so. In the answer, ` | ` ends a line, and an error's status is 1.
@@ -122,8 +121,8 @@ fn is_row_so<F: Fn(Global, &str, (&str, u8)) -> bool>(
     Ok(is_so(alloc, text, (wanted.as_str(), status)))
 }
 
-/// The answer of the first row that isn't so. A row is a line of text, and a line that begins with
-/// `= `, its answer; `#` begins a comment.
+/// The answer of the first row that isn't so. A row is a text and its answer, in one line with ` = `
+/// between them, or in two, of which the second begins with `= `; `#` begins a comment.
 fn first_wrong<'a, F: Fn(Global, &str, (&str, u8)) -> bool>(
     alloc: Global,
     rows: &'a str,
@@ -133,9 +132,12 @@ fn first_wrong<'a, F: Fn(Global, &str, (&str, u8)) -> bool>(
 {
     let mut text = "";
     for line in rows.lines() {
-        match line.strip_prefix("= ") {
+        match line.split_once("= ") {
             None => text = line,
-            Some(answer) => {
+            Some((before, answer)) => {
+                if let Some(before) = before.strip_suffix(" ") {
+                    text = before;
+                }
                 if !is_row_so(alloc, text, answer, &is_so)? {
                     return Ok(Some(answer));
                 }

@@ -4,7 +4,6 @@
 use crate::answer::answer;
 use crate::in_place::owned_chunks;
 use crate::tests::are;
-use crate::tests::association::PACKETS;
 use dcsctp_crc32c::packet_word;
 use dcsctp_wire::packet::init_ack_chunk::InitAckChunk;
 use dcsctp_wire::packet::parameter::Parameter;
@@ -87,21 +86,6 @@ const ANSWERS: &[(&[u8], &[u8])] = &[
     ),
 ];
 
-#[test]
-fn of_packets(rt: HostRuntime) -> Result<(), Fail> {
-    for (bytes, wanted) in ANSWERS {
-        assert!(rt; is_answered(rt.alloc(), bytes, 1200, wanted)?, "{bytes:?}");
-    }
-    Ok(())
-}
-
-#[test]
-fn within_a_limit(rt: HostRuntime) -> Result<(), Fail> {
-    assert!(rt; is_answered(rt.alloc(), INIT, 40, INIT_ACK)?);
-    assert!(rt; is_answered(rt.alloc(), INIT, 39, b"")?);
-    Ok(())
-}
-
 /// Whether the packet with one other bit in its checksum is refused.
 fn is_refused_if_changed(alloc: Global, bytes: &[u8]) -> Result<bool, AllocError> {
     let mut changed = Vec::from_slice(alloc, bytes)?;
@@ -113,27 +97,23 @@ fn is_refused_if_changed(alloc: Global, bytes: &[u8]) -> Result<bool, AllocError
 }
 
 #[test]
-fn of_changed_packets(rt: HostRuntime) -> Result<(), Fail> {
-    for (bytes, _) in ANSWERS {
+fn of_packets(rt: HostRuntime) -> Result<(), Fail> {
+    for (bytes, wanted) in ANSWERS {
+        assert!(rt; is_answered(rt.alloc(), bytes, 1200, wanted)?, "{bytes:?}");
         assert!(rt; is_refused_if_changed(rt.alloc(), bytes)?, "{bytes:?}");
     }
+    // within a limit, and one byte less
+    assert!(rt; is_answered(rt.alloc(), INIT, 40, INIT_ACK)?);
+    assert!(rt; is_answered(rt.alloc(), INIT, 39, b"")?);
     Ok(())
 }
 
 /// Whether the chunks that are built from their places are those of the packet.
-fn readings_agree(alloc: Global, bytes: &[u8]) -> Result<bool, PacketParseError> {
+pub fn readings_agree(alloc: Global, bytes: &[u8]) -> Result<bool, PacketParseError> {
     let (word, policy) = (packet_word(bytes), ChecksumPolicy::default());
     let packet = SctpPacket::from_bytes(alloc, bytes, word, &policy)?;
     let chunks = owned_chunks(alloc, bytes, word, &policy)?;
     let read = format!(in alloc; "{:?}", packet.chunks)?;
     let built = format!(in alloc; "{chunks:?}")?;
     Ok(read.as_str() == built.as_str())
-}
-
-#[test]
-fn of_both_readings(rt: HostRuntime) -> Result<(), Fail> {
-    for (bytes, text) in PACKETS {
-        assert!(rt; readings_agree(rt.alloc(), bytes)?, "{text}");
-    }
-    Ok(())
 }

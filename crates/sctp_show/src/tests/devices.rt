@@ -3,7 +3,7 @@
 use crate::tests::{READ_FAILED, SACK, SACK_TEXT, SMALL, SMALL_TEXT, run};
 use std::alloc::Global;
 use std::io::ErrorKind;
-use watched_io::faulty::{Fault, INTERRUPTED, Plan, fails, steps};
+use watched_io::faulty::{Fault, INTERRUPTED, fails, steps};
 
 /// A text, how many bytes its reader gives a call, and how many its writer takes.
 const READS: &[(&str, usize, usize)] = &[
@@ -96,56 +96,27 @@ fn reader_gives_none(rt: HostRuntime) {
 
 const BROKEN_PIPE: Fault = Fault::Error(ErrorKind::BrokenPipe);
 
-/// A reader of 9 bytes a call.
-const NINE: Plan = Plan {
-    step: 9,
-    fails_at: 0,
-    fault: Fault::Nothing,
-};
+/// A text, how many bytes its reader gives a call, the call at which that fails and how, and what is
+/// to be written.
+type Row = (&'static str, usize, (usize, Fault), &'static str);
 
-/// A text, how its reader gives it, what is to be written, and how many bytes the writer takes a
-/// call.
-const WRITES: &[(&str, Plan, &str, usize)] = &[
-    (SACK, NINE, SACK_TEXT, 1),
-    (SACK, NINE, SACK_TEXT, 10),
-    (SACK, NINE, SACK_TEXT, 1000),
-    (SMALL, NINE, SMALL_TEXT, 1),
-    (SMALL, NINE, SMALL_TEXT, 10),
-    (SMALL, NINE, SMALL_TEXT, 1000),
-    ("138", NINE, "error: not hexadecimal\n", 1),
-    ("138", NINE, "error: not hexadecimal\n", 10),
-    ("138", NINE, "error: not hexadecimal\n", 1000),
-    ("0b000004", NINE, "error: invalid packet size\n", 1),
-    ("0b000004", NINE, "error: invalid packet size\n", 10),
-    ("0b000004", NINE, "error: invalid packet size\n", 1000),
+const NEVER: (usize, Fault) = (0, Fault::Nothing);
+
+const WRITES: &[Row] = &[
+    (SACK, 9, NEVER, SACK_TEXT),
+    (SMALL, 9, NEVER, SMALL_TEXT),
+    ("138", 9, NEVER, "error: not hexadecimal\n"),
+    ("0b000004", 9, NEVER, "error: invalid packet size\n"),
     // Blanks, digits of both cases, and a checksum.
     (
         "1388138901020304 00000005 0B000004",
-        NINE,
+        9,
+        NEVER,
         "source=5000 destination=5001 tag=16909060 checksum=5\nCOOKIE-ACK\ncanonical=1388138901020304000000000b000004\n",
-        1,
     ),
     // A reader that failed before, at its first call or later: it's the writer that decides.
-    (
-        "0a0b",
-        Plan {
-            step: 9,
-            fails_at: 1,
-            fault: INTERRUPTED,
-        },
-        READ_FAILED,
-        5,
-    ),
-    (
-        SACK,
-        Plan {
-            step: 30,
-            fails_at: 2,
-            fault: BROKEN_PIPE,
-        },
-        READ_FAILED,
-        1,
-    ),
+    ("0a0b", 9, (1, INTERRUPTED), READ_FAILED),
+    (SACK, 30, (2, BROKEN_PIPE), READ_FAILED),
 ];
 
 /// Whether a writer that gives out at this call, the last one after so many writes being the flush,
@@ -153,37 +124,51 @@ const WRITES: &[(&str, Plan, &str, usize)] = &[
 /// stays.
 fn is_write_failure_told(
     alloc: Global,
-    (text, reads, wanted, step): (&str, Plan, &str, usize),
-    (call, writes): (usize, usize),
-    fault: Fault,
+    (text, step, (fails_at, how), wanted): Row,
+    (taken, writes): (usize, usize),
+    (call, fault): (usize, Fault),
 ) -> bool {
-    let plan = fails(step, call, fault);
-    let outcome = run(alloc, text.as_bytes(), reads, wanted, plan);
+    let reads = fails(step, fails_at, how);
+    let outcome = run(
+        alloc,
+        text.as_bytes(),
+        reads,
+        wanted,
+        fails(taken, call, fault),
+    );
+    let before = taken.saturating_mul(call.saturating_sub(1));
     outcome.status == 2
-        && outcome.input_failed == (reads.fails_at != 0)
+        && outcome.input_failed == (fails_at != 0)
         && outcome.output_failed
         && outcome.writes == call.min(writes)
         && outcome.writes.saturating_add(outcome.flushes) == call
         && outcome.as_wanted
-        && outcome.written
-            == step
-                .saturating_mul(call.saturating_sub(1))
-                .min(wanted.len())
+        && outcome.written == before.min(wanted.len())
 }
 
-/// The row, and the call of its writer, at which such a fault isn't told.
-fn untold_write(alloc: Global, fault: Fault) -> Option<(usize, usize)> {
-    for (row, told) in WRITES.iter().enumerate() {
-        let writes = told.2.len().div_ceil(told.3.max(1));
-        let calls = match fault {
-            // The last call is the flush.
-            Fault::Error(_) => writes + 1,
-            // A flush takes no bytes anyway.
-            Fault::Nothing => writes,
-        };
-        for call in 1..=calls {
-            if !is_write_failure_told(alloc, *told, (call, writes), fault) {
-                return Some((row, call));
+/// The call of a writer that takes so many bytes a call at which such a fault isn't told.
+fn untold_call(alloc: Global, row: Row, taken: usize, fault: Fault) -> Option<usize> {
+    let writes = row.3.len().div_ceil(taken.max(1));
+    let calls = match fault {
+        // The last call is the flush.
+        Fault::Error(_) => writes + 1,
+        // A flush takes no bytes anyway.
+        Fault::Nothing => writes,
+    };
+    for call in 1..=calls {
+        if !is_write_failure_told(alloc, row, (taken, writes), (call, fault)) {
+            return Some(call);
+        }
+    }
+    None
+}
+
+/// The row, how many bytes its writer takes a call, and the call at which such a fault isn't told.
+fn untold_write(alloc: Global, fault: Fault) -> Option<(usize, usize, usize)> {
+    for (i, row) in WRITES.iter().enumerate() {
+        for taken in [1, 5, 10, 1000] {
+            if let Some(call) = untold_call(alloc, *row, taken, fault) {
+                return Some((i, taken, call));
             }
         }
     }
@@ -230,10 +215,8 @@ fn interrupted_writes(rt: HostRuntime) {
 
 #[test]
 fn writes_that_would_block(rt: HostRuntime) {
-    assert_eq!(rt;
-        untold_write(rt.alloc(), Fault::Error(ErrorKind::WouldBlock)),
-        None
-    );
+    let blocks = Fault::Error(ErrorKind::WouldBlock);
+    assert_eq!(rt; untold_write(rt.alloc(), blocks), None);
 }
 
 #[test]

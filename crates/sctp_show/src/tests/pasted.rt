@@ -18,32 +18,29 @@ const BYTES_ALONE: &[&str] = &[
     "138813880102030400000000\r0300001c369dd00b0001ed73\r000200010002000600080008\r369dd011\r",
 ];
 
-#[test]
-fn bytes_alone(rt: HostRuntime) {
-    for text in BYTES_ALONE {
-        assert_eq!(rt; captured(rt.alloc(), text, SACK_TEXT), (0, true), "{text}");
-    }
-}
-
 /// What a capture tool prints beside the bytes isn't understood.
-const MORE_THAN_BYTES: &[(&str, &str)] = &[
+const MORE_THAN_BYTES: &[&str] = &[
     // The printable letters at the end of a line.
-    ("0b 00 00 04  ....\n", "error: not hexadecimal\n"),
+    "0b 00 00 04  ....\n",
     // An offset with its colon.
-    ("0000: 0b 00 00 04\n", "error: not hexadecimal\n"),
+    "0000: 0b 00 00 04\n",
     // A prefix of each byte.
-    ("0x0b 0x00 0x00 0x04", "error: not hexadecimal\n"),
+    "0x0b 0x00 0x00 0x04",
     // Colons between bytes.
-    ("0b:00:00:04", "error: not hexadecimal\n"),
+    "0b:00:00:04",
     // A blank of two bytes, as copied from a web page.
-    ("0b\u{a0}000004", "error: not hexadecimal\n"),
+    "0b\u{a0}000004",
     // A form feed between pages.
-    ("0b00\u{c}0004", "error: not hexadecimal\n"),
+    "0b00\u{c}0004",
 ];
 
 #[test]
-fn more_than_bytes(rt: HostRuntime) {
-    for (text, wanted) in MORE_THAN_BYTES {
-        assert_eq!(rt; captured(rt.alloc(), text, wanted), (1, true), "{text}");
+fn pasted(rt: HostRuntime) {
+    for text in BYTES_ALONE {
+        assert_eq!(rt; captured(rt.alloc(), text, SACK_TEXT), (0, true), "{text}");
+    }
+    for text in MORE_THAN_BYTES {
+        let answer = captured(rt.alloc(), text, "error: not hexadecimal\n");
+        assert_eq!(rt; answer, (1, true), "{text}");
     }
 }
