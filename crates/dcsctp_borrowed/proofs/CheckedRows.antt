@@ -1,23 +1,31 @@
 -- A chunk that is known to mean one: the list that lies in it, and which chunks come next.
 use Rattle.std.proofs.Common.{◌≡◌, ℕ, List, Option, Some, None, sym, subst, ◌∙◌}
 use Rattle.dcsctp_tlv.specs.Frame.{lenient}
-use Rattle.dcsctp_tlv.specs.Level.{Level, HasMeaning, MeansTrees, MeansSome}
+use Rattle.dcsctp_tlv.specs.Level.{Level, HasMeaning, MeansSome}
 use Rattle.dcsctp_tlv.specs.Number.{AreBytes}
 use Rattle.dcsctp_tlv.proofs.Checks.{rest_bytes}
 use Rattle.dcsctp_chunk.specs.declared.raw_chunk.RawChunk.{RawChunk}
-use Rattle.dcsctp_wire.specs.Chunk.{chunks, chunk_row}
+use Rattle.dcsctp_wire.specs.Chunk.{ChunkTree, chunks, chunk_row}
 use Rattle.dcsctp_borrowed.specs.Front.{MeansList}
-use Rattle.dcsctp_borrowed.specs.RawChunks.{GivesNext}
+use Rattle.dcsctp_borrowed.specs.RawChunks.{GivesNext, RawMeans}
 
 -- the list that lies at this place, where the chunk means one
-pub listed : {T : Type 0} (level : Level T) (place : Option (List ℕ)) (rest : List ℕ)
-    (ts : Option (List T)) → place ≡ Some rest → MeansList level place ts → MeansSome level rest
-listed level (Some bytes) rest (Some trees) e m = (
-  trees,
-  subst (λ (b : List ℕ). MeansTrees level b trees) (let same : bytes ≡ rest = cc in same) m,
-)
-listed level (Some bytes) rest None e m = absurd m
-listed level None rest ts e m = absurd cc
+pub listed : {T : Type 0} (level : Level T) (rest : List ℕ) (ts : Option (List T))
+    → MeansList level (Some rest) ts → MeansSome level rest
+listed level rest (Some trees) m = (trees, m)
+listed level rest None m = absurd m
+
+-- what lies at the place of the list in a chunk that was seen as this one means the tree's list
+pub list_at : {T : Type 0} (level : Level T) (place : ℕ → List ℕ → Option (List ℕ))
+    (list_of : ChunkTree → Option (List T)) → ((typ flags : ℕ) (value : List ℕ) (t : ChunkTree)
+    → (chunk_row lenient typ flags).means value t → MeansList level (place typ value) (list_of t))
+    → (raw seen : RawChunk) → raw ≡ seen → (found : Option (List ℕ))
+    → found ≡ place raw.typ raw.value.now → (t : ChunkTree) → RawMeans seen t
+    → MeansList level found (list_of t)
+list_at level place list_of there raw seen same found e t means =
+    subst (λ (p : Option (List ℕ)). MeansList level p (list_of t)) (sym e)
+    (there raw.typ raw.flags raw.value.now t
+    (subst (λ (r : RawChunk). RawMeans r t) (sym same) means))
 
 -- ---- the next chunk of bytes that mean chunks
 
