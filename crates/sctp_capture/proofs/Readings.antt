@@ -100,20 +100,22 @@ some_reading order zero bytes small fits =
 some_reading order (suc n) bytes small fits =
     by_front (decided order bytes) (λ rest size there. some_reading order n rest size there) where
       by_front : BeginsWithRecord order bytes ⊎ (BeginsWithRecord order bytes → ⊥)
-          → ((rest : List ℕ) → length rest ≤ n → ((k : ℕ) → get_or rest k 0 < 256) → Reading order rest)
+          → ((rest : List ℕ) → length rest ≤ n → ((k : ℕ) → get_or rest k 0 < 256)
+          → Reading order rest)
           → Reading order bytes
-      by_front (inr none) go = record { records = []; cut = bytes; are = reading_none order bytes none }
+      by_front (inr none) go =
+          record { records = []; cut = bytes; are = reading_none order bytes none }
       by_front (inl begins) go =
           let m = 16 + captured_length order bytes in
           let header = begins.header in
           let left = length-drop m bytes in
-          let rest = go (drop m bytes) (omega arith) (λ k. rw (get_or-drop m bytes k 0) (fits (m + k)))
-          in
+          let rest = go (drop m bytes) (omega arith)
+          (λ k. rw (get_or-drop m bytes k 0) (fits (m + k))) in
           record {
             records = front_record order bytes ∷ rest.records;
             cut = rest.cut;
-            are = subst (λ (b : List ℕ). AreRecords order b (front_record order bytes ∷ rest.records)
-                rest.cut) (sym (front_split order bytes begins fits))
+            are = subst (λ (b : List ℕ). AreRecords order b
+                (front_record order bytes ∷ rest.records) rest.cut) (sym (front_split order bytes begins fits))
                 (reading_next order (front_record order bytes) (drop m bytes) rest.cut rest.records
                 (front_fits order bytes begins fits) rest.are);
           }

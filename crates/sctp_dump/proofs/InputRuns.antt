@@ -29,7 +29,8 @@ kind_front : (x y : List ℕ) → 4 ≤ length x → input_kind (x ++ y) ≡ inp
 kind_front x y size = ap (λ (m : Option PcapFormat). input_kind_by m (x ++ y))
     (magic_front x y size) ∙ by_magic (magic_format x) where
       by_magic : (m : Option PcapFormat) → input_kind_by m (x ++ y) ≡ input_kind_by m x
-      by_magic None = ap (λ (b : Bool). if b then kind.Pcapng else kind.Text) (section_front x y size)
+      by_magic None = ap (λ (b : Bool). if b then kind.Pcapng else kind.Text)
+          (section_front x y size)
       by_magic (Some f) = refl
 
 is_pcap_front : (f : Form) (x y : List ℕ) → 4 ≤ length x → is_pcap f (x ++ y) ≡ is_pcap f x

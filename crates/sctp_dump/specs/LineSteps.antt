@@ -21,7 +21,8 @@ pub record BeginsWithLine (size : ℕ) (bytes : List ℕ) : Type 0 where
 abbrev pub IsFound : Found → List ℕ → Option (List ℕ) → Type 0
 IsFound End bytes remaining = (bytes ≡ []) × IsAtEnd remaining
 IsFound (Line size) bytes remaining = (size ≤ 262144) × BeginsWithLine size bytes
-IsFound Last bytes remaining = (0 < length bytes) × (length bytes ≤ 262144) × IsLine bytes × IsAtEnd remaining
+IsFound Last bytes remaining =
+    (0 < length bytes) × (length bytes ≤ 262144) × IsLine bytes × IsAtEnd remaining
 IsFound TooLong bytes remaining = (262145 ≤ length bytes) × IsLine (take 262145 bytes)
 
 -- ---- what is known before a line
@@ -37,8 +38,8 @@ state_of d = record { dump = open_of d.form d.bytes.items d.first_line; packets 
 -- ---- steps
 
 -- a line was taken
-pub record TakesLine (o : Options) (number : ℕ) (s t : State) (before after old new : Option (List ℕ))
-    : Type 0 where
+pub record TakesLine (o : Options) (number : ℕ) (s t : State)
+    (before after old new : Option (List ℕ)) : Type 0 where
   pub line : List ℕ
   pub text : List ℕ
   pub is_line : IsLine line
@@ -46,9 +47,10 @@ pub record TakesLine (o : Options) (number : ℕ) (s t : State) (before after ol
   pub consumes : Consumes before after (fed line)
   pub appends : Appends old new text
 
--- The output grew by the text of `bytes`, with which what was left of the input begins. They are all
--- that was left, where that is known and shorter than 2^64 bytes.
-pub record PrintsRest (Text : List ℕ → List ℕ → Type 0) (left old new : Option (List ℕ)) : Type 0 where
+-- The output grew by the text of `bytes`, with which what was left of the input begins. They are
+-- all that was left, where that is known and shorter than 2^64 bytes.
+pub record PrintsRest (Text : List ℕ → List ℕ → Type 0) (left old new : Option (List ℕ))
+    : Type 0 where
   pub bytes : List ℕ
   pub text : List ℕ
   pub front : IfSome left (λ l. StartsWith l bytes)

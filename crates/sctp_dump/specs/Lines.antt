@@ -75,7 +75,8 @@ closed packets = record { dump = None; packets = packets }
 -- the text of the SCTP packet in an IP packet, or the line that says why there is none
 abbrev pub IpText : Options → ℕ → ℕ → Result Packet NoPacket → List ℕ → Type 0
 IpText o number first_line (Ok p) text =
-    Block o (record { number = number; time = Unknown; addresses = p.addresses; udp_ports = p.udp_ports }) p.bytes text
+    Block o (record { number = number; time = Unknown; addresses = p.addresses;
+    udp_ports = p.udp_ports }) p.bytes text
 IpText o number first_line (Err why) text = text ≡ skipped_line o first_line (skipped_for why)
 
 -- the text of a dump's bytes: of xxd an SCTP packet's, of tcpdump an IP packet's
@@ -152,8 +153,8 @@ after_own number packets said.Unknown = closed packets
 
 -- The text of a line that says this, and what is known after it. A line that doesn't continue the
 -- open dump ends it. A dump of more than 262,144 bytes isn't continued, and not printed.
-pub data SaidText (o : Options) (number : ℕ) (s : State) (line : Line) (after : State) (text : List ℕ)
-    : Type 0 where
+pub data SaidText (o : Options) (number : ℕ) (s : State) (line : Line) (after : State)
+    (text : List ℕ) : Type 0 where
   continued : (d : OpenDump) (part : DumpedBytes) → s.dump ≡ Some d → line ≡ said.Dumped part
       → Continues line s.dump → length d.bytes ≤ 262144
       → after ≡ record { dump = Some (continued_by d part); packets = s.packets } → text ≡ []
@@ -167,8 +168,8 @@ pub data SaidText (o : Options) (number : ℕ) (s : State) (line : Line) (after 
       → SaidText o number s line after text
 
 -- the text of the line of this number; a line of more than 262,144 bytes isn't looked at
-pub data LineText (o : Options) (number : ℕ) (s : State) (line : List ℕ) (after : State) (text : List ℕ)
-    : Type 0 where
+pub data LineText (o : Options) (number : ℕ) (s : State) (line : List ℕ) (after : State)
+    (text : List ℕ) : Type 0 where
   kept : length line ≤ 262144 → SaidText o number s (line_of line) after text
       → LineText o number s line after text
   too_long : (of_dump : List ℕ) → 262144 < length line → EndText o s of_dump

@@ -46,8 +46,8 @@ pub record PrintsInput (o : Options) (left old new : Option (List ℕ)) : Type 0
   pub read_as : ReadsAs o left (Ok pcap)
   pub prints : PrintsAll (InputText o pcap) left old new
 
--- After a failure the output was to grow by the text of a beginning of it, and no more. It wasn't to
--- grow if the devices failed before the form was known, or an input of that form is refused.
+-- After a failure the output was to grow by the text of a beginning of it, and no more. It wasn't
+-- to grow if the devices failed before the form was known, or an input of that form is refused.
 pub data BeginsInput (o : Options) (failure : Failure) (left old new written : Option (List ℕ))
     : Type 0 where
   unread : (e : StreamError) → failure ≡ failure_of e → Grows failure old new written []
