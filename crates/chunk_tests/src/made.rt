@@ -171,7 +171,7 @@ fn forward(alloc: Global, typ: u8, by_mid: &[bool]) -> Result<Chunk, AllocError>
     })
 }
 
-/// User data with a payload of so many bytes.
+/// User data with a payload of `size` bytes.
 fn payload(alloc: Global, size: usize) -> Result<Data, AllocError> {
     Ok(Data {
         payload: vec![in alloc; 1; size]?,
@@ -179,7 +179,7 @@ fn payload(alloc: Global, size: usize) -> Result<Data, AllocError> {
     })
 }
 
-/// A chunk of this type with so many bytes.
+/// A chunk of this type with `size` bytes.
 fn chunk_with(alloc: Global, typ: u8, size: usize) -> Result<Chunk, AllocError> {
     Ok(match typ {
         0 => data(0, payload(alloc, size)?, false),

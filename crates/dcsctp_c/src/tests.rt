@@ -76,7 +76,7 @@ fn faults(rt: HostRuntime) {
     assert_eq!(rt; dcsctp_word(DATA), WORD);
 }
 
-/// Whether `DATA`, of 36 bytes, is written into so many bytes with this code.
+/// Whether `DATA`, of 36 bytes, is written into `room` bytes with this code.
 fn is_written(alloc: Global, room: usize, wanted: u32) -> bool {
     let mut output = [0xff; 40];
     let mut size = 0;

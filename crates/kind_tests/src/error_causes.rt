@@ -131,7 +131,7 @@ fn converted_kind(rt: HostRuntime) -> Result<(), Fail> {
     Ok(())
 }
 
-/// How many bytes a cause has that names so many types, or nothing where it can't be written.
+/// How many bytes a cause has that names `count` types, or nothing where it can't be written.
 fn missing_size(alloc: Global, count: usize) -> Result<Option<usize>, AllocError> {
     let types = vec![in alloc; 7; count]?;
     Ok(size_of(MissingMandatoryParameterErrorCause::new(types)))

@@ -212,18 +212,18 @@ fn outgoing(alloc: Global, count: usize) -> Result<OutgoingSsnResetRequestParame
     })
 }
 
-/// A cookie of so many bytes.
+/// A cookie of `size` bytes.
 fn cookie(alloc: Global, size: usize) -> Result<StateCookieParameter, AllocError> {
     let cookie = vec![in alloc; 1; size]?;
     Ok(StateCookieParameter { cookie })
 }
 
-/// A parameter of a type without a kind, with so many bytes.
+/// A parameter of a type without a kind, with `size` bytes.
 fn unknown_with(alloc: Global, size: usize) -> Result<UnknownParameter, AllocError> {
     Ok(UnknownParameter::new(99, vec![in alloc; 1; size]?))
 }
 
-/// Whether a list of two cookies with so many bytes can be written.
+/// Whether a list of two cookies of these sizes can be written.
 fn are_cookies_encodable(alloc: Global, first: usize, second: usize) -> Result<bool, AllocError> {
     let first = cookie(alloc, first)?;
     let second = cookie(alloc, second)?;

@@ -120,7 +120,7 @@ fn is_valid_from(alloc: Global, cumulative_tsn_ack: Tsn) -> Result<bool, AllocEr
     Ok(validate_sack(&sack))
 }
 
-/// How many bytes a SACK has with so many blocks and duplicates, or nothing where it can't be
+/// How many bytes a SACK has with these numbers of blocks and TSNs, or nothing where it can't be
 /// written.
 fn size_with(alloc: Global, blocks: usize, tsns: usize) -> Result<Option<usize>, AllocError> {
     let mut sack = sack_of(alloc, vec![in alloc; GapAckBlock::new(3, 4); blocks]?);

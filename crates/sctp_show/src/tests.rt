@@ -78,7 +78,7 @@ fn outcome_of(status: u8, input: Watched<Source<'_>>, output: Watched<Sink<'_>>)
     }
 }
 
-/// Whether so many bytes of the text were read, and it was answered so, with one flush.
+/// Whether `given` bytes of the text were read, and it was answered so, with one flush.
 fn is_answer(outcome: Outcome, given: usize, (wanted, status): (&str, u8)) -> bool {
     outcome.status == status
         && outcome.as_wanted
@@ -95,7 +95,7 @@ fn is_answered_strictly(alloc: Global, text: &str, answer: (&str, u8)) -> bool {
     is_answer(outcome, text.len(), answer)
 }
 
-/// Whether so many bytes of the text are read, in steps, and it is answered so.
+/// Whether `given` bytes of the text are read, in steps, and it is answered so.
 fn is_answered(
     alloc: Global,
     text: &[u8],

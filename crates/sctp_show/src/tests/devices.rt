@@ -146,7 +146,7 @@ fn is_write_failure_told(
         && outcome.written == before.min(wanted.len())
 }
 
-/// The call of a writer that takes so many bytes a call at which such a fault isn't told.
+/// The call of a writer that takes `taken` bytes a call at which such a fault isn't reported.
 fn untold_call(alloc: Global, row: Row, taken: usize, fault: Fault) -> Option<usize> {
     let writes = row.3.len().div_ceil(taken.max(1));
     let calls = match fault {

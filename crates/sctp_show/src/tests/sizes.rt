@@ -46,7 +46,7 @@ fn repeated(alloc: Global, front: &str, part: &str, count: usize) -> Result<Stri
     format!(in alloc; "{front}{parts}")
 }
 
-/// Whether so many bytes of the text are read, in steps, and it is answered so, in memory too.
+/// Whether `given` bytes of the text are read, in steps, and it is answered so, in memory too.
 fn is_long_answered(alloc: Global, text: &str, given: usize, answer: (&str, u8)) -> bool {
     let bytes = text.as_bytes();
     is_answered(alloc, bytes, (7000, given), answer)
