@@ -99,6 +99,6 @@ PrintsBeginning-header (Err failure) o header before after old mid new written t
       text = prints.text;
       front = front_taken before after takes.taken prints.bytes takes.consumes prints.front;
       has_text = inr (pcap_text o header before after prints.bytes prints.text takes
-        prints.has_text);
+          prints.has_text);
       grows = Grows-before failure old mid new written prints.text kept prints.grows;
     }

@@ -75,8 +75,12 @@ closed packets = record { dump = None; packets = packets }
 -- the text of the SCTP packet in an IP packet, or the line that says why there is none
 abbrev pub IpText : Options → ℕ → ℕ → Result Packet NoPacket → List ℕ → Type 0
 IpText o number first_line (Ok p) text =
-    Block o (record { number = number; time = Unknown; addresses = p.addresses;
-    udp_ports = p.udp_ports }) p.bytes text
+    Block o (record {
+      number = number;
+      time = Unknown;
+      addresses = p.addresses;
+      udp_ports = p.udp_ports;
+    }) p.bytes text
 IpText o number first_line (Err why) text = text ≡ skipped_line o first_line (skipped_for why)
 
 -- the text of a dump's bytes: of xxd an SCTP packet's, of tcpdump an IP packet's

@@ -7,8 +7,12 @@ use Rattle.dcsctp_borrowed.proofs.sack_ref.GapAckBlocksIterator.next.Goals as go
 pub returns-clause-steps : goal.returns-clause-steps
 returns-clause-steps c =
     let bytes = c.self.inside.rest.now in
-    rw (← c.self.view_is, take_rest bytes 4, c.two_numbers-start.ensures.first,
-    c.two_numbers-start.ensures.second)
+    rw (
+      ← c.self.view_is,
+      take_rest bytes 4,
+      c.two_numbers-start.ensures.first,
+      c.two_numbers-start.ensures.second,
+    )
     (first_field block_at 4 c.self.inside.count bytes c.if-self-eq0.false)
 
 pub returns-clause-goes : goal.returns-clause-goes
