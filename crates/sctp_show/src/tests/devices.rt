@@ -163,7 +163,7 @@ fn untold_call(alloc: Global, row: Row, taken: usize, fault: Fault) -> Option<us
     None
 }
 
-/// The row, how many bytes its writer takes a call, and the call at which such a fault isn't told.
+/// The row, how many bytes its writer takes a call, and the call at which such a fault isn't seen.
 fn untold_write(alloc: Global, fault: Fault) -> Option<(usize, usize, usize)> {
     for (i, row) in WRITES.iter().enumerate() {
         for taken in [1, 5, 10, 1000] {
