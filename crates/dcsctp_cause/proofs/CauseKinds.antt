@@ -1,4 +1,4 @@
--- What each kind of error cause owes the laws of the table.
+-- What each kind of error cause has to satisfy for the laws of the table.
 use Rattle.std.proofs.Common.{◌≡◌, ℕ, ◌+◌, ◌*◌, true, List, length, drop, refl, sym, ap, ◌∙◌, arith, Result, Ok}
 use Rattle.std.specs.Prelude.{◌==◌}
 use Rattle.std.specs.Str.{IsUtf8}

@@ -30,7 +30,7 @@ use Rattle.dcsctp_cause.specs.UserInitiatedAbort as abort
 use Rattle.dcsctp_cause.specs.ProtocolViolation as violation
 use Rattle.dcsctp_cause.proofs.CauseKinds.{missing_laws, missing_keeps, chunk_laws, chunk_keeps, no_user_data_laws, no_user_data_keeps, cookie_received_laws, cookie_received_keeps, abort_laws, abort_kept, violation_laws, violation_kept}
 
--- ---- what each row owes
+-- ---- what each row has to satisfy
 
 -- a text that is kept has the size of its value
 text_account : (read : List ℕ → Result (List ℕ) Fault) (tree : List ℕ → CauseTree) (value : List ℕ)

@@ -145,7 +145,7 @@ impl ErrorCause {
         Ok(ErrorCause::build(alloc, code, value)?)
     }
 
-    /// Passes exactly where the value has a meaning; else its fault. It takes no memory.
+    /// Passes exactly where the value has a meaning; else its fault. Does not allocate.
     fn check_value(code: u16, value: &[u8]) -> Result<(), ChunkParseError>
         ensures { Answers checking (λ u. u) (RowTested (cause.row code) value.now) result }
     {
@@ -331,7 +331,7 @@ pub fn error_cause_from_bytes(
     list_from_bytes(alloc, bytes)
 }
 
-/// The number of error causes, or the first fault from the left. It takes no memory.
+/// The number of error causes, or the first fault from the left. Does not allocate.
 ///
 /// Where it is strict, `InvalidPadding` is the fault of a cause that has a meaning, and padding
 /// that isn't zero; the last may lack some or all of it.

@@ -1,4 +1,4 @@
--- What each kind owes the laws of its level.
+-- What each kind has to satisfy for the laws of its level.
 use Rattle.std.proofs.Common.{◌≡◌, ℕ, ◌+◌, ◌<◌, ◌^◌, Bool, true, false, cond, List, [], length, drop, refl, sym, ap, subst, ◌∙◌, arith, inl, inr, Ok}
 use Rattle.std.specs.Prelude.{◌==◌, nat_lt}
 use Rattle.std.proofs.lemmas.Bool.{ltb-false, le-ltb}

@@ -36,7 +36,7 @@ pub struct CookieEchoChunk {
 
 #[tactic(auto, unfolding(crate::specs::CookieEcho::read))]
 impl CookieEchoChunk {
-    /// The chunk with an empty cookie. It takes no memory.
+    /// The chunk with an empty cookie. Does not allocate.
     pub fn new(alloc: Global) -> CookieEchoChunk
         ensures cookie { result.cookie.items ≡ [] }
         ensures memory { vec_capacity result.cookie ≡ 0 }

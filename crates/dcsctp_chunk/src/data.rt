@@ -35,8 +35,8 @@ pub struct Data {
 }
 
 impl Data {
-    /// No payload, ordered on stream 0, with all numbers 0, neither a beginning nor an end. It
-    /// takes no memory.
+    /// No payload, ordered on stream 0, with all numbers 0, neither a beginning nor an end.
+    /// Does not allocate.
     pub fn new(alloc: Global) -> Data
         ensures fields { user_data_view result ≡ no_data }
         ensures memory { vec_capacity result.payload ≡ 0 }

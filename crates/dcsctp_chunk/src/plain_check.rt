@@ -16,7 +16,7 @@ use crate::shutdown_chunk::{self, ShutdownChunk};
 use crate::shutdown_complete_chunk::{self, ShutdownCompleteChunk};
 use dcsctp_tlv::error::ChunkParseError;
 
-/// Whether the value is one that the chunk's kind reads. It takes no memory.
+/// Whether the value is one that the chunk's kind reads. Does not allocate.
 ///
 /// `InvalidLength` exactly where the value has a size that its kind doesn't allow. Each value
 /// passes whose type has no kind of its own, or a kind with a list of parameters or error causes.

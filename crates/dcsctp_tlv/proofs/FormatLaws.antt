@@ -1,4 +1,5 @@
--- What a kind owes the laws of its level, where one record is all that the tables say of a tree.
+-- What a kind has to satisfy for the laws of its level, where one record is all that the tables say
+-- of a tree.
 use Rattle.std.proofs.Common.{◌≡◌, ℕ, ◌^◌, ◌<◌, List, [], ◌∷◌, Result, Ok}
 use Rattle.std.specs.List.{AllByRecursion}
 use Rattle.dcsctp_tlv.specs.Fault.{Fault}

@@ -1,4 +1,4 @@
--- What a kind owes the laws of its level, where its value is read at fixed places.
+-- What a kind has to satisfy for the laws of its level, where its value is read at fixed places.
 use Rattle.std.proofs.Common.{◌≡◌, ℕ, ◌+◌, Bool, true, false, cond, ◌⊎◌, inl, inr, List, length, Result, Ok, Err, refl}
 use Rattle.dcsctp_tlv.specs.Fault.{Fault}
 use Rattle.dcsctp_tlv.specs.Level.{map_ok}

@@ -1,5 +1,5 @@
--- What a kind owes the laws of its level, by how its value is laid out: any bytes; one size, as of
--- a number or of an empty value; numbers, and after them fields.
+-- What a kind has to satisfy for the laws of its level, by how its value is laid out: any bytes;
+-- one size, as of a number or of an empty value; numbers, and after them fields.
 use Rattle.std.proofs.Common.{◌≡◌, ℕ, ◌+◌, ◌-◌, ◌*◌, ◌/◌, ◌^◌, ◌<◌, cond, List, [], ◌++◌, length, drop, refl, sym, ap, subst, ◌∙◌, arith, Result, Ok, Err}
 use Rattle.std.specs.Prelude.{◌==◌}
 use Rattle.std.specs.Int.{w32, to_be_bytes}

@@ -34,7 +34,7 @@ use Rattle.dcsctp_tlv.proofs.Accounts.{Accounts}
 use Rattle.dcsctp_tlv.proofs.Counts.{Counts, one_each}
 use Rattle.dcsctp_tlv.proofs.Kept.{all_map}
 
--- ---- what each row owes
+-- ---- what each row has to satisfy
 
 -- the laws of a row, where each value is kept
 abbrev Owes : ℕ → Row ParameterTree → Type 0

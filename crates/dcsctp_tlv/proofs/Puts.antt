@@ -60,7 +60,7 @@ put-put old place next a b le e =
     ∙ ap (λ (xs : List ℕ). take place old ++ xs)
     (sym (append_assoc a b (drop (place + length (a ++ b)) old)))
 
--- so many fields of a size
+-- `n` fields of one size
 pub length-written : {X : Type 0} (write : X → List ℕ) (size : ℕ) (xs : List X)
     → AllByRecursion (λ x. length (write x) ≡ size) xs → length (flat_map write xs)
     ≡ size * length xs

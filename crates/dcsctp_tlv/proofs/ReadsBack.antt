@@ -59,7 +59,7 @@ each_encodable tlv (t ∷ u ∷ ts) fits =
 
 -- ---- one item
 
--- the item that a tree is written as, with so many bytes of padding
+-- the item that a tree is written as, with `n` bytes of padding
 abbrev pub item_of : Tlv → ℕ → Item
 item_of t n =
     record { first = t.first; second = t.second; value = zeroed t.value; padding = replicate n 0 }

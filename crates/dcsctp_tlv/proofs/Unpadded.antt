@@ -1,4 +1,4 @@
--- No fault is that of padding, where the rule accepts all padding and no row tells such a fault.
+-- No fault is that of padding, where the rule accepts all padding and no row has such a fault.
 use Rattle.std.proofs.Common.{◌≡◌, ℕ, Bool, true, false, cond, List, sym, subst, ◌∙◌, inl, inr, Result, Ok, Err}
 use Rattle.dcsctp_tlv.specs.Fault.{Fault, Length, Padding, Value}
 use Rattle.dcsctp_tlv.specs.Level.{Row, Level, plain, map_ok, listed, BeginsWithFault, no_frame, value, padding}

@@ -44,7 +44,7 @@ error_of Value = InvalidValue
 abbrev pub reading : Errors Fault ChunkParseError
 reading = record { of = error_of; lack = λ e. e ≡ OutOfMemory }
 
--- of a check, which takes no memory
+-- of a check, which does not allocate
 abbrev pub checking : Errors Fault ChunkParseError
 checking = record { of = error_of; lack = λ e. ⊥ }
 

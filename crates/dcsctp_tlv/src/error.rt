@@ -8,7 +8,7 @@ use thiserror::Error;
 
 /// Why the bytes of a chunk, a parameter or an error cause were refused.
 ///
-/// A refused reader changed nothing: it borrowed its input, and hands out no value.
+/// A reader that returns one changed nothing: it borrowed its input.
 #[derive(Debug, Drop, PartialEq, Eq, Error)]
 pub enum ChunkParseError {
     /// A length field breaks its rule (RFC 9260 section 3.2), or a value has a size that its kind

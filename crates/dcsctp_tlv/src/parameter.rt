@@ -232,7 +232,7 @@ impl Parameter {
         Ok(Parameter::build(alloc, typ, value)?)
     }
 
-    /// Passes exactly where the value has a meaning; else its fault. It takes no memory.
+    /// Passes exactly where the value has a meaning; else its fault. Does not allocate.
     fn check_value(typ: u16, value: &[u8]) -> Result<(), ChunkParseError>
         ensures { Answers checking (λ u. u) (RowTested (parameter.row typ) value.now) result }
     {
@@ -471,7 +471,7 @@ pub fn parameters_from_bytes(alloc: Global, bytes: &[u8]) -> Result<Vec<Paramete
     list_from_bytes(alloc, bytes)
 }
 
-/// The number of parameters, or the first fault from the left. It takes no memory.
+/// The number of parameters, or the first fault from the left. Does not allocate.
 ///
 /// Where it is strict, `InvalidPadding` is the fault of a parameter that has a meaning, and padding
 /// that isn't zero; the last may lack some or all of it.

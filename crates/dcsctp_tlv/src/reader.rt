@@ -1,4 +1,4 @@
-//! Reading a list of items in two passes: a check that takes no memory, and a build that tests
+//! Reading a list of items in two passes: a check that does not allocate, and a build that tests
 //! nothing again. For every level.
 
 ghost use Rattle.std.specs.Prelude.{◌≡◌, ◌≢◌, ◌≤◌, ◌<◌, ◌+◌, ◌*◌, ℕ, Bool, List, [], length, map, IsOk, IfOk, IfErr, IsErrOf, vec_len, vec_capacity, All};

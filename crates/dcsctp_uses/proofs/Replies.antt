@@ -23,7 +23,7 @@ one_reply own peer_tag m a b (to_data c others tag some is) (to_data d others2 t
     let both : c ≡ d = cc in
     is ∙ ap (λ (k : DataChunkTree). back m peer_tag (sack_of k.tsn own.window)) both ∙ sym is2
 
--- ---- what the program hands out, where it has a reply
+-- ---- what the program returns, where it has a reply
 
 pub replied : (made : Option (Vec ℕ Global)) (bytes : List ℕ) (own : InitFieldsTree) (peer_tag : ℕ)
     (packet : PacketTree) (m : Meaning)

@@ -14,7 +14,7 @@ use std::alloc::{AllocError, Global};
 /// where the answer can't be written within the limit.
 ///
 /// `as_bytes` of the builder is what the CRC32c is computed over; `build(checksum_word(crc32c))`
-/// then hands out the packet.
+/// then returns the packet.
 pub fn init_answer(
     alloc: Global,
     header: &CommonHeader,

@@ -10,7 +10,7 @@ use dcsctp_wire::packet::chunk::Chunk;
 use dcsctp_wire::packet::sctp_packet::{ChecksumPolicy, PacketParseError};
 use std::alloc::Global;
 
-/// How many bytes of user data a packet carries, or why it is none. It takes no memory.
+/// How many bytes of user data a packet carries, or why it is none. Does not allocate.
 pub fn payload_size(
     bytes: &[u8],
     word: u32,

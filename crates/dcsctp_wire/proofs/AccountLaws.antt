@@ -22,7 +22,7 @@ use Rattle.dcsctp_wire.specs.Chunk.{ChunkTree, Abort, Error, HoldsCauses, tlv as
 
 -- ---- the size account
 
--- a list after so many bytes of a value
+-- a list after `n` bytes of a value
 after : (words a b size : ℕ) → SameSpace a b → b ≡ size - 4 * words → 4 * words ≤ size
     → SameSpace (4 + (4 * words + a)) (4 + size)
 after words a b size h e le =
@@ -34,7 +34,7 @@ KeepsCauses typ value =
     HoldsCauses typ → (items : List Item) → AreItems any_padding value items
     → AllByRecursion IsTextKept items
 
--- what a row owes for the chunks of a type
+-- what a row has to satisfy for the chunks of a type
 abbrev pub Accounted : ℕ → Row ChunkTree → Type 0
 Accounted typ row =
     (value : List ℕ) (t : ChunkTree) → KeepsCauses typ value → row.means value t

@@ -1,4 +1,4 @@
--- What each row of the table of chunks owes the laws: a line a kind.
+-- What each row of the table of chunks has to satisfy for the laws: a line for each kind.
 use Rattle.std.proofs.Common.{◌≡◌, ℕ, Bool, false, List, Result, refl, sym, subst}
 use Rattle.std.specs.Prelude.{◌+◌, length}
 use Rattle.std.specs.List.{AllByRecursion}
@@ -34,7 +34,7 @@ use Rattle.dcsctp_wire.proofs.AccountLaws.{Accounted, Counted, init_account, par
 use Rattle.dcsctp_wire.proofs.ChunkLaws.{init_forms, parameter_list_forms, abort_forms, error_forms, unknown_forms}
 use Rattle.dcsctp_wire.proofs.ListRows as list
 
--- ---- what a row owes
+-- ---- what a row has to satisfy
 
 -- of the lenient table
 record Sound (typ : ℕ) (row : Row ChunkTree) : Type 0 where

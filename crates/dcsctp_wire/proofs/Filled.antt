@@ -24,7 +24,7 @@ filled view IsTight row v old pushed n x y is e means tight = record {
   tight = tight;
 }
 
--- what was pushed stands at the end
+-- what was pushed is at the end
 pub last_is : {X : Type 0} (old pushed : List X) (n : ℕ) (x d : X) → pushed ≡ old ++ x ∷ []
     → n ≡ length old → slice_index_or pushed n d ≡ x
 last_is [] pushed n x d is e = rw (is, e) refl

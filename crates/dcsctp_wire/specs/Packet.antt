@@ -118,7 +118,7 @@ packet_error_of (Chunk e) = FailedParseChunk (error_of e)
 abbrev pub packet_reading : Errors PacketFault PacketParseError
 packet_reading = record { of = packet_error_of; lack = λ e. e ≡ FailedParseChunk OutOfMemory }
 
--- of a check, which takes no memory
+-- of a check, which does not allocate
 abbrev pub packet_checking : Errors PacketFault PacketParseError
 packet_checking = record { of = packet_error_of; lack = λ e. ⊥ }
 

@@ -107,8 +107,8 @@ pub(crate) fn cause_as(alloc: Global, code: u16, bytes: &[u8]) -> Result<String,
     }
 }
 
-/// What is told of a kind's value, where the variant of its type and a list of it alone are told
-/// alike; else these two. The variant has the kind's name without its end.
+/// The text of a kind's value, if the variant of its type and a list of it alone have the same;
+/// else these two. The variant has the kind's name without its end.
 pub(crate) fn told_alike(
     alloc: Global,
     told: String,

@@ -94,7 +94,7 @@ fn precedes<T: Ord + Copy>(a: T, b: T) -> bool {
 }
 
 /// Whether numbers that are converted print so, plainly and for a developer, and those of 1 and 2
-/// are told apart.
+/// differ.
 fn are_told<N: From<u8> + Copy, T: From<N> + Eq + Hash + Copy + Debug + Display>(
     alloc: Global,
     numbers: &[N],

@@ -202,7 +202,7 @@ fn results(rt: HostRuntime) -> Result<(), Fail> {
     Ok(())
 }
 
-/// An outgoing request 1, 2, 3 for stream 4, so many times.
+/// An outgoing request 1, 2, 3 for stream 4, `count` times.
 fn outgoing(alloc: Global, count: usize) -> Result<OutgoingSsnResetRequestParameter, AllocError> {
     Ok(OutgoingSsnResetRequestParameter {
         request_seq_nbr: 1,

@@ -228,7 +228,7 @@ fn next(seed: u32) -> u32 {
     x
 }
 
-/// Blocks of offsets below a number, so many; and the seed of the next ones.
+/// `count` blocks of offsets below a number, and the seed of the next ones.
 fn any_blocks(
     alloc: Global,
     count: u32,
@@ -277,8 +277,8 @@ fn blocks_by<F: Fn(u16) -> (u16, u16)>(
     Ok(blocks)
 }
 
-/// The even offsets from 2 on by falling start, so many; and after them one that covers 300 of
-/// them, from 1 to 601.
+/// `count` even offsets from 2 on by falling start; and after them one that covers 300 of them,
+/// from 1 to 601.
 fn falling(count: u16, i: u16) -> (u16, u16) {
     if i == count {
         return (1, 601);
@@ -310,7 +310,7 @@ fn alternating(i: u16) -> (u16, u16) {
     (offset, offset)
 }
 
-/// A low block and a high one, and between them so many by falling start: none of these follows
+/// A low block and a high one, and between them `count` by falling start: none of these follows
 /// the last run. And then one that joins the lowest of them to the low block.
 fn between(count: u16, i: u16) -> (u16, u16) {
     let rest = count.wrapping_add(2).wrapping_sub(i);

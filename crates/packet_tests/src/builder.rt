@@ -12,7 +12,7 @@ use samples::help::chunk_of;
 use std::alloc::{AllocError, Global};
 use std::test::Fail;
 
-/// Adds the chunk if there is room for it, and tells whether there was.
+/// Adds the chunk if there is room for it, and returns whether there was.
 fn add_if_room(builder: &mut SctpPacketBuilder, chunk: &Chunk) -> Result<bool, AllocError> {
     if !chunk.encodable() {
         return Ok(false);

@@ -97,7 +97,7 @@ fn of_packets(rt: HostRuntime) -> Result<(), Fail> {
     are_answered(rt.alloc(), ROWS, answered)
 }
 
-/// The first fault of so many zeros is their size, at this place.
+/// The first fault of `size` zeros is their size, at this offset.
 fn is_size_at(alloc: Global, size: usize, offset: usize) -> Result<bool, AllocError> {
     let bytes = vec![in alloc; 0; size]?;
     let wanted = FirstFault {

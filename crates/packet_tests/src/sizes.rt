@@ -44,8 +44,8 @@ fn first_of(alloc: Global, digits: &str) -> Result<Chunk, Fail> {
     Ok(chunk_of(alloc, &bytes_of(alloc, digits)?)?)
 }
 
-/// The size that the chunk is written in with one item more, whose value has so many bytes; or
-/// nothing if it can't be written.
+/// The size that the chunk is written in with one item more, whose value has `value` bytes; `None`
+/// if it can't be written.
 fn size_with(alloc: Global, digits: &str, value: usize) -> Result<Option<usize>, Fail> {
     let value = vec![in alloc; 1; value]?;
     let mut chunk = first_of(alloc, digits)?;

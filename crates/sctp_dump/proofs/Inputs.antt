@@ -62,7 +62,7 @@ pub front_none : (all : Option (List ℕ)) → IfSome all (λ l. StartsWith l []
 front_none None = tt
 front_none (Some x) = refl
 
--- known bytes that are fewer than so many are some bytes that are
+-- known bytes that are fewer than `n` are some bytes that are
 pub some_rest : (left : Option (List ℕ)) (n : ℕ) → 0 < n → IfSome left (λ l. length l < n)
     → (rest : List ℕ) × (length rest < n) × IfSome left (λ l. length l < 2 ^ 64 → l ≡ rest)
 some_rest None n above short = ([], above, tt)

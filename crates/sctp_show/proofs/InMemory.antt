@@ -14,7 +14,7 @@ MayShow-written text known held bytes status is_text empty (answer, may, (is, gr
     subst (λ (input : List ℕ). MayShow lenient input (bytes, status)) is_text
     (subst (MayShow lenient known) same may)
 
--- an answer that the text has is told, that of no memory aside
+-- an answer that the text has is given, that of no memory aside
 pub told_as_known : (text : List ℕ) (told answer : List ℕ × ℕ)
     → ((input : List ℕ) (a b : List ℕ × ℕ) → Shows lenient input a → Shows lenient input b → a ≡ b)
     → MayShow lenient text told → Shows lenient text answer

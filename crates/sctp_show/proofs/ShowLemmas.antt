@@ -126,7 +126,7 @@ MayAnswer-unread strict false known left e reads (inr memory) =
 
 ---- the line of a failed read
 
--- the eighth byte of a line tells it from that of a failed read
+-- the eighth byte of a line differs from that of a failed read
 other_line : (line : List ℕ) (letter : ℕ) → get_or line 7 0 ≡ letter → (letter ≡ 114 → ⊥)
     → line ≡ read_failed.0 → ⊥
 other_line line letter at other same = other (sym at ∙ ap (λ (l : List ℕ). get_or l 7 0) same)

@@ -1,5 +1,5 @@
 //! What a benchmark calls from C (`docs/SPEED.md`): each call takes the bytes of a packet, answers
-//! a number, and lets go of all that it made.
+//! a number, and drops all that it made.
 //!
 //! In C a slice is a pointer and a length, and `alloc` takes no place among the arguments: memory
 //! comes from the C program's `malloc` and `realloc`. The checksum field may hold any number.

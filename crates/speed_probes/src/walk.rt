@@ -15,7 +15,7 @@ use dcsctp_borrowed::user_data::UserData;
 use dcsctp_wire::packet::data_chunk;
 
 /// Reads a packet in its bytes, and adds up every number of its DATA, I-DATA and SACK, and 1 for
-/// each other chunk, modulo 2^64; 0 where the bytes are no packet. It takes no memory.
+/// each other chunk, modulo 2^64; 0 where the bytes are no packet. Does not allocate.
 #[unsafe(no_mangle)]
 pub extern "C" fn speed_probes_walk(bytes: &[u8]) -> u64
     ensures packet { (p : PacketTree) → Answer bytes.now 0 ANY_CHECKSUM (Ok p)

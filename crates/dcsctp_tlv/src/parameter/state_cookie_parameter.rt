@@ -1,4 +1,4 @@
-//! State Cookie: what an INIT ACK hands out, and a COOKIE ECHO brings back.
+//! State Cookie: an INIT ACK carries it, and a COOKIE ECHO brings it back.
 //!
 //! ```txt
 //!  0                   1                   2                   3

@@ -41,7 +41,7 @@ pub struct AbortChunk {
 }
 
 impl AbortChunk {
-    /// The chunk without causes, tag not reflected. It takes no memory.
+    /// The chunk without causes, tag not reflected. Does not allocate.
     pub fn new(alloc: Global) -> AbortChunk
         ensures tag_reflected { result.tag_reflected ≡ false }
         ensures error_causes { result.error_causes.items ≡ [] }

@@ -220,7 +220,7 @@ impl SctpPacketBuilder {
         self.hand_out(checksum)
     }
 
-    /// What `build` hands out and leaves, and no law of it.
+    /// What `build` returns and leaves, without the laws that follow.
     fn hand_out(&mut self, checksum: u32) -> Vec<u8>
         ensures width { IsHeaderInWidth self.old }
         ensures bytes { result.items ≡ built self.old checksum }

@@ -42,7 +42,7 @@ pub struct ErrorChunk {
 }
 
 impl ErrorChunk {
-    /// The chunk without causes. It takes no memory.
+    /// The chunk without causes. Does not allocate.
     pub fn new(alloc: Global) -> ErrorChunk
         ensures error_causes { result.error_causes.items ≡ [] }
         ensures memory { vec_capacity result.error_causes ≡ 0 }

@@ -41,7 +41,7 @@ pub struct HeartbeatAckChunk {
 }
 
 impl HeartbeatAckChunk {
-    /// The chunk without parameters. It takes no memory.
+    /// The chunk without parameters. Does not allocate.
     pub fn new(alloc: Global) -> HeartbeatAckChunk
         ensures parameters { result.parameters.items ≡ [] }
         ensures memory { vec_capacity result.parameters ≡ 0 }

@@ -1,4 +1,4 @@
-//! INIT ACK: answers an INIT, and hands out a cookie.
+//! INIT ACK: answers an INIT, and carries a cookie.
 //!
 //! ```txt
 //!  0                   1                   2                   3

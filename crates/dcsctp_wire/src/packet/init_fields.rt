@@ -45,7 +45,7 @@ pub(crate) fn init_check(value: &[u8], strict: bool) -> Result<usize, LocatedFau
     listed_check::<Parameter>(strict, value, FIXED_SIZE)
 }
 
-/// The numbers of the value, and no parameters. It takes no memory.
+/// The numbers of the value, and no parameters. Does not allocate.
 pub(crate) fn init_numbers(alloc: Global, value: &[u8]) -> InitFields
     requires { 16 ≤ length value.now }
     ensures numbers { init_fields_view result ≡ tree_of value.now [] }

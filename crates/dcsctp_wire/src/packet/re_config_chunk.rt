@@ -38,7 +38,7 @@ pub struct ReConfigChunk {
 }
 
 impl ReConfigChunk {
-    /// The chunk without parameters. It takes no memory.
+    /// The chunk without parameters. Does not allocate.
     pub fn new(alloc: Global) -> ReConfigChunk
         ensures parameters { result.parameters.items ≡ [] }
         ensures memory { vec_capacity result.parameters ≡ 0 }

@@ -218,7 +218,7 @@ impl SctpPacket {
     }
 
     /// The number of parts of a packet: its chunks, and the parameters and error causes in them;
-    /// or its fault. It takes no memory.
+    /// or its fault. Does not allocate.
     ///
     /// The number exactly where the grammar gives these bytes a packet, and the same faults as
     /// `from_bytes` exactly where this reports them. `OutOfMemory` is never returned.
@@ -280,7 +280,7 @@ impl SctpPacket {
     }
 
     /// Writes the canonical packet, which `canonical_bytes` answers, over as many bytes as it has
-    /// (`canonical_size`). It takes no memory.
+    /// (`canonical_size`). Does not allocate.
     pub fn write_canonical(&self, output: &mut [u8])
         requires fits { Fits (meaning_view self.now) }
         requires size { length output.old ≡ length (canonical (meaning_view self.now)) }

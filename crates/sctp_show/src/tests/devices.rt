@@ -1,4 +1,4 @@
-//! Devices that give out at each of their calls, and what is told of them.
+//! Devices that fail at each of their calls, and what the program says then.
 
 use crate::tests::{READ_FAILED, SACK, SACK_TEXT, SMALL, SMALL_TEXT, run};
 use std::alloc::Global;
@@ -17,7 +17,7 @@ const READS: &[(&str, usize, usize)] = &[
     (SMALL, 36, 1000),
 ];
 
-/// Whether a read that fails at this call is told by its line alone, and no call follows.
+/// Whether a read that fails at this call is reported by its line alone, and no call follows.
 fn is_read_failure_told(
     alloc: Global,
     (text, step, taken): (&str, usize, usize),
@@ -35,7 +35,7 @@ fn is_read_failure_told(
         && outcome.written == READ_FAILED.len()
 }
 
-/// The row, and the call of its reader, at which such an error isn't told.
+/// The row, and the call of its reader, at which such an error isn't reported.
 fn untold_read(alloc: Global, kind: ErrorKind) -> Option<(usize, usize)> {
     for (row, told) in READS.iter().enumerate() {
         // The last read is the one that finds the end.
@@ -48,7 +48,7 @@ fn untold_read(alloc: Global, kind: ErrorKind) -> Option<(usize, usize)> {
     None
 }
 
-// An error of any kind at any read is told by one line.
+// An error of any kind at any read is reported by one line.
 #[test]
 fn each_read_fails(rt: HostRuntime) {
     let kinds = [
@@ -119,7 +119,7 @@ const WRITES: &[Row] = &[
     (SACK, 30, (2, BROKEN_PIPE), READ_FAILED),
 ];
 
-/// Whether a writer that gives out at this call, the last one after so many writes being the flush,
+/// Whether a writer that fails at this call, the last one after `writes` writes being the flush,
 /// ends the run with status 2: no call follows, nothing is written twice, and what was taken before
 /// stays.
 fn is_write_failure_told(
