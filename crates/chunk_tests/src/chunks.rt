@@ -124,6 +124,13 @@ fn other_types(rt: HostRuntime) -> Result<(), Fail> {
     are_answered(rt.alloc(), ack, |alloc, bytes| kind_of(alloc, 255, bytes))
 }
 
+/// What a chunk of any kind prints, and its image.
+fn printed_and_written(alloc: Global, raw: RawChunk) -> Result<(String, Vec<u8>), ChunkParseError> {
+    let chunk = Chunk::try_from(alloc, raw)?;
+    let printed = format!(in alloc; "{chunk}")?;
+    Ok((printed, image_of(alloc, &chunk)?))
+}
+
 /// Adds what the chunk prints to the text, and its image with zeros as padding to the other.
 fn add(
     alloc: Global,
@@ -131,15 +138,11 @@ fn add(
     text: &mut String,
     image: &mut Vec<u8>,
 ) -> Result<(), ChunkParseError> {
-    let chunk = Chunk::try_from(alloc, raw)?;
+    let (printed, written) = printed_and_written(alloc, raw)?;
     let mark = if text.is_empty() { "" } else { "; " };
-    write!(text, "{mark}{chunk}")?;
-    image.extend_from_slice(&image_of(alloc, &chunk)?)?;
-    for _ in 0..3 {
-        if image.len() % 4 != 0 {
-            image.push(0)?;
-        }
-    }
+    write!(text, "{mark}{printed}")?;
+    image.extend_from_slice(&written)?;
+    image.resize(image.len().wrapping_add(3) / 4 * 4, 0)?;
     Ok(())
 }
 
@@ -162,18 +165,26 @@ fn one_by_one(alloc: Global, bytes: &[u8]) -> Result<String, ChunkParseError> {
     Ok(text)
 }
 
+/// Whether the text is this part, or goes on with a bar after it.
+fn begins_with_part(text: &str, part: &str) -> bool {
+    match text.strip_prefix(part) {
+        Some(rest) => rest.is_empty() || rest.starts_with(" | "),
+        None => false,
+    }
+}
+
+/// Whether the text begins with this fault and a place.
+fn begins_with_fault(alloc: Global, text: &str, fault: &ChunkParseError) -> Result<bool, Fail> {
+    let begin = format!(in alloc; "{fault:?} at ")?;
+    Ok(text.starts_with(begin.as_str()))
+}
+
 /// Whether the chunks by themselves are so answered; but for too few bytes for one.
 fn is_answered_so(alloc: Global, chunks: &[u8], answer: &str) -> Result<bool, Fail> {
     let (front, text) = answer.split_once(" | ").unwrap_or((answer, ""));
     match one_by_one(alloc, chunks) {
-        Ok(again) => match text.strip_prefix(again.as_str()) {
-            Some(rest) => Ok(rest.is_empty() || rest.starts_with(" | ")),
-            None => Ok(chunks.is_empty()),
-        },
-        Err(fault) => {
-            let begin = format!(in alloc; "{fault:?} at ")?;
-            Ok(front.starts_with(begin.as_str()) || chunks.len() < 4)
-        }
+        Ok(again) => Ok(begins_with_part(text, again.as_str())),
+        Err(fault) => Ok(chunks.len() < 4 || begins_with_fault(alloc, front, &fault)?),
     }
 }
 

@@ -16,7 +16,7 @@ use dcsctp_wire::packet::iforward_tsn_chunk::IForwardTsnChunk;
 use dcsctp_wire::packet::re_config_chunk::ReConfigChunk;
 use dcsctp_wire::packet::shutdown_chunk::ShutdownChunk;
 use dcsctp_wire::packet::unknown_chunk::UnknownChunk;
-use dcsctp_wire::packet::{SerializableTlv, SkippedStream};
+use dcsctp_wire::packet::{ChunkParseError, SerializableTlv, SkippedStream};
 use dcsctp_wire::types::{Fsn, Mid, Ssn, StreamKey, Tsn};
 use hex_rows::{are_answered, digits_of};
 use samples::help::{chunk_of, value_shown};
@@ -237,15 +237,20 @@ fn sizes(rt: HostRuntime) -> Result<(), Fail> {
     Ok(())
 }
 
+/// Writes the chunk over the output, and returns its size; 0 if there is no room.
+fn put(alloc: Global, bytes: &[u8], output: &mut [u8]) -> Result<usize, ChunkParseError> {
+    let chunk = chunk_of(alloc, bytes)?;
+    if !chunk.encodable() || chunk.serialized_size() > output.len() {
+        return Ok(0);
+    }
+    chunk.serialize_to(output);
+    Ok(chunk.serialized_size())
+}
+
 /// The chunk's size, and what is in 18 bytes `ee` once it is written over them.
 fn over_others(alloc: Global, bytes: &[u8]) -> Result<String, Fail> {
-    let chunk = chunk_of(alloc, bytes)?;
     let mut output = [0xee; 18];
-    if !chunk.encodable() || chunk.serialized_size() > 18 {
-        return Err(Fail::new("no room"));
-    }
-    chunk.serialize_to(&mut output);
-    let size = chunk.serialized_size();
+    let size = put(alloc, bytes, &mut output)?;
     let digits = digits_of(alloc, &output)?;
     Ok(format!(in alloc; "{size} {digits}")?)
 }
