@@ -130,13 +130,16 @@ module _ (old : List ℕ) (n : ℕ) (room : 12 ≤ length old) (fits : n < 2 ^ 3
   abbrev pub sealed : List ℕ
   sealed = put old 8 (to_be_bytes w32 n)
 
-  seal_before : take 8 sealed ≡ take 8 old
+  pub seal_before : take 8 sealed ≡ take 8 old
   seal_before = before old 8 (to_be_bytes w32 n) (omega (arith, room))
+
+  pub seal_after : drop 12 sealed ≡ drop 12 old
+  seal_after = after old 8 (to_be_bytes w32 n) (omega (arith, room))
 
   seal_length : length sealed ≡ length old
   seal_length = length-put old 8 (to_be_bytes w32 n) (omega (arith, room))
 
-  seal_is : checksum_field sealed ≡ n
+  pub seal_is : checksum_field sealed ≡ n
   seal_is = ap (from_be_bytes w32) (there old 8 (to_be_bytes w32 n) (omega (arith, room)))
       ∙ from_be_bytes-to_be_bytes_4 n fits
 

@@ -1,9 +1,9 @@
 //! Changes to a packet in its bytes: for a middle box, and to seal a packet that was written.
 
-ghost use Rattle.std.specs.Prelude.{◌≡◌, ◌≤◌, ℕ, Ok, Err, length};
+ghost use Rattle.std.specs.Prelude.{◌≡◌, ◌≤◌, ℕ, Ok, Err, length, take, drop};
 ghost use Rattle.std.specs.Int.{w32, to_be_bytes};
 ghost use Rattle.dcsctp_tlv.specs.Image.{put};
-ghost use Rattle.dcsctp_wire.specs.Packet.{PacketTree, PacketFault, Answer, IsAccepted};
+ghost use Rattle.dcsctp_wire.specs.Packet.{PacketTree, PacketFault, Answer, IsAccepted, checksum_field};
 ghost use Rattle.dcsctp_wire.specs.declared.packet.sctp_packet.ChecksumPolicy.{ChecksumPolicy};
 
 use dcsctp_tlv::number::put_u32;
@@ -34,6 +34,9 @@ pub fn set_verification_tag(packet: &mut [u8], verification_tag: u32)
 pub fn set_checksum_word(packet: &mut [u8], checksum: u32)
     requires { 12 ≤ length packet.old }
     ensures bytes { packet.new ≡ put packet.old 8 (to_be_bytes w32 checksum) }
+    ensures apart { (take 8 packet.new ≡ take 8 packet.old)
+        × (drop 12 packet.new ≡ drop 12 packet.old) }
+    ensures field { checksum_field packet.new ≡ checksum }
     ensures means { (p : PacketTree) (before after : ℕ) (first later : ChecksumPolicy)
         → Answer packet.old before first (Ok p) → IsAccepted later checksum after
         → later.strict_padding ≡ first.strict_padding

@@ -1,4 +1,3 @@
 pub mod AnswerCodes
-pub mod Sealing
 pub mod Places
 pub mod InitRows

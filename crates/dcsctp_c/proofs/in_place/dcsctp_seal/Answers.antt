@@ -4,23 +4,20 @@ use Rattle.dcsctp_crc32c.specs.Checksum.{packet_word}
 use Rattle.dcsctp_wire.specs.Packet.{Answer, equal}
 use Rattle.dcsctp_buffer.specs.Buffer.{kept}
 use Rattle.dcsctp_buffer.proofs.Buffers.{sealed_reads}
-use Rattle.dcsctp_c.proofs.Sealing.{own_word, own_field}
 use Rattle.dcsctp_c.proofs.in_place.dcsctp_seal.Goals as goal
 
 pub returns-clause-sealed : goal.returns-clause-sealed
 returns-clause-sealed c room =
-    own_field c.args.packet.now c.set_checksum_word.new.packet c.packet_word-word.result room
-    c.set_checksum_word.ensures.bytes c.packet_word-word.type_inv
-    ∙ own_word c.args.packet.now c.set_checksum_word.new.packet c.packet_word-word.result room
-    c.set_checksum_word.ensures.bytes c.packet_word-word.ensures.field_apart
+    let apart = c.set_checksum_word.ensures.apart in
+    c.set_checksum_word.ensures.field
+    ∙ c.packet_word-word.ensures.field_apart c.set_checksum_word.new.packet apart.0 apart.1
 
 pub returns-clause-means : goal.returns-clause-means
 returns-clause-means c word first later p answer strict =
-    let room : 12 ≤ length c.args.packet.now = omega arith in
     let bytes = c.set_checksum_word.new.packet in
+    let apart = c.set_checksum_word.ensures.apart in
     let own : c.packet_word-word.result ≡ packet_word bytes =
-    own_word c.args.packet.now bytes c.packet_word-word.result room
-    c.set_checksum_word.ensures.bytes c.packet_word-word.ensures.field_apart in
+    c.packet_word-word.ensures.field_apart bytes apart.0 apart.1 in
     subst (λ (n : ℕ). Answer bytes (packet_word bytes) later (Ok (record p { checksum = n }))) own
     (c.set_checksum_word.ensures.means p word (packet_word bytes) first later answer
     (equal own) strict)
