@@ -31,7 +31,8 @@ pub contains_cases : {X : Type 0} (x y : X) (xs : List X) → Contains (x ∷ xs
 contains_cases x y xs h = contains_at x y xs h.0 h.1 h.2
 
 pub contains_none : {X : Type 0} (y : X) → Contains [] y → ⊥
-contains_none y h = let l = h.1 in omega arith
+contains_none y h =
+    omega (arith, h.1)
 
 pub covers_head : (b : GapAckBlock) (bs : Blocks) (o : ℕ) → IsWithin b o → Covers (b ∷ bs) o
 covers_head b bs o h = (b, contains_head b bs, h)

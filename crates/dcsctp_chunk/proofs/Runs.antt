@@ -1,5 +1,5 @@
 -- Blocks that lie apart are the runs of what they cover, and the only ones.
-use Rattle.std.proofs.Common.{◌≡◌, ◌↔◌, inl, inr, ℕ, zero, suc, ◌+◌, ◌<◌, ◌≤◌, [], ◌∷◌, ◌++◌, length, get_or, take, drop, refl, sym, ap, subst, ◌∙◌, arith}
+use Rattle.std.proofs.Common.{◌≡◌, ◌↔◌, inl, inr, ℕ, zero, suc, ◌+◌, ◌<◌, ◌≤◌, [], ◌∷◌, ◌++◌, length, get_or, take, drop, refl, sym, ap, subst, arith}
 use Rattle.std.specs.List.{Contains}
 use Rattle.std.proofs.lemmas.Bool.{cases_lt}
 use Rattle.std.proofs.lemmas.List.{take-append-drop}
@@ -10,10 +10,7 @@ use Rattle.dcsctp_chunk.specs.Apart.{IsApart}
 use Rattle.dcsctp_chunk.proofs.Covers.{Blocks, contains_head, contains_tail, contains_cases, contains_none, covers_head, covers_tail, covers_cases}
 
 pub block_ext : (r s : GapAckBlock) → r.start ≡ s.start → r.end ≡ s.end → r ≡ s
-block_ext r s p q =
-    let f : ℕ → GapAckBlock = λ x. record { start = x; end = r.end } in
-    let g : ℕ → GapAckBlock = λ y. record { start = s.start; end = y } in
-    ap f p ∙ ap g q
+block_ext r s p q = grind arith
 
 pub apart_weaker : (m n : ℕ) (bs : Blocks) → m ≤ n → IsApart n bs → IsApart m bs
 apart_weaker m n [] l h = tt
@@ -24,15 +21,7 @@ pub apart_low : (n : ℕ) (bs : Blocks) (r : GapAckBlock) → IsApart n bs → C
     → (n ≤ r.start) × (r.start ≤ r.end)
 apart_low n [] r h t = absurd (contains_none r t)
 apart_low n (b ∷ bs) r h t =
-    let P : GapAckBlock → Type 0 = λ x. (n ≤ x.start) × (x.start ≤ x.end) in
-    elim (contains_cases b r bs t) [
-      | inl e ↦ subst P e (h.0, h.1)
-      | inr u ↦
-          let s = apart_low (b.end + 2) bs r h.2 u in
-          let k = h.0 in
-          let l = h.1 in
-          (omega arith, s.1)
-    ]
+    let g = apart_low (b.end + 2) bs r h.2 in let e = contains_cases b r bs t in grind (arith, e, g)
 
 -- each starts at least 2 past the end of each one before it
 apart_far : (n : ℕ) (bs : Blocks) → IsApart n bs → (i j : ℕ) (d : GapAckBlock) → i < j
@@ -52,27 +41,14 @@ apart_some n bs a i d l = (apart_low n bs (get_or bs i d) a (Contains-get_or bs 
 apart_rising : (n : ℕ) (bs : Blocks) → IsApart n bs → (i j : ℕ) (d : GapAckBlock) → i < j
     → j < length bs → (get_or bs i d).start < (get_or bs j d).start
 apart_rising n bs a i j d l m =
-    let p = apart_far n bs a i j d l m in
-    let q = apart_some n bs a i d (omega arith) in
-    omega arith
+    omega (arith, apart_far n bs a i j d l m, apart_some n bs a i d (omega arith))
 
 -- starts rise, and so do ends
 pub apart_order : (n : ℕ) (bs : Blocks) → IsApart n bs → (i j : ℕ) (d : GapAckBlock) → i ≤ j
     → j < length bs
     → ((get_or bs i d).start ≤ (get_or bs j d).start) × ((get_or bs i d).end ≤ (get_or bs j d).end)
 apart_order n bs a i j d l m =
-    elim (cases_lt i j) [
-      | inl lt ↦
-          let p = apart_far n bs a i j d lt m in
-          let q = apart_some n bs a i d (omega arith) in
-          let r = apart_some n bs a j d m in
-          (omega arith, omega arith)
-      | inr ge ↦
-          let same : i ≡ j = omega arith in
-          let e = ap (λ k. (get_or bs k d).start) same in
-          let f = ap (λ k. (get_or bs k d).end) same in
-          (omega arith, omega arith)
-    ]
+    grind (arith, apart_far n bs a i j d, apart_some n bs a i d, apart_some n bs a j d)
 
 -- runs one list after the other: what comes later starts at least 2 past each offset before
 pub record Split (n : ℕ) (xs ys : Blocks) : Type 0 where
@@ -106,30 +82,21 @@ apart_append n (x ∷ xs) ys a b f =
 
 pub apart_take : (n k : ℕ) (bs : Blocks) → IsApart n bs → IsApart n (take k bs)
 apart_take n k bs a =
-    let parts = subst (λ x. IsApart n x) (sym (take-append-drop k bs)) a in
-    (split n (take k bs) (drop k bs) parts).left
+    (split n (take k bs) (drop k bs) (rw (take-append-drop k bs) a)).left
 
 -- two of them that overlap or touch are one
 apart_near : (n : ℕ) (bs : Blocks) (r s : GapAckBlock) → IsApart n bs → Contains bs r
     → Contains bs s → s.start ≤ r.end + 1 → r.start ≤ s.end + 1 → r ≡ s
 apart_near n [] r s h t u l m = absurd (contains_none r t)
 apart_near n (b ∷ bs) r s h t u l m =
-    elim (contains_cases b r bs t) [
-      | inl e ↦ elim (contains_cases b s bs u) [
-        | inl f ↦ sym e ∙ f
-        | inr v ↦
-            let p = apart_low (b.end + 2) bs s h.2 v in
-            let q = ap (λ (x : GapAckBlock). x.end) e in
-            absurd (omega arith)
-      ]
-      | inr w ↦ elim (contains_cases b s bs u) [
-        | inl f ↦
-            let p = apart_low (b.end + 2) bs r h.2 w in
-            let q = ap (λ (x : GapAckBlock). x.end) f in
-            absurd (omega arith)
-        | inr v ↦ apart_near (b.end + 2) bs r s h.2 w v l m
-      ]
-    ]
+    grind (
+      arith,
+      contains_cases b r bs t,
+      contains_cases b s bs u,
+      apart_low (b.end + 2) bs s h.2,
+      apart_low (b.end + 2) bs r h.2,
+      apart_near (b.end + 2) bs r s h.2,
+    )
 
 -- an interval of covered offsets lies in one of them
 interval_in_one : (n : ℕ) (bs : Blocks) (low high : ℕ) → IsApart n bs → low ≤ high
@@ -142,11 +109,7 @@ interval_in_one n bs low high a l h =
     elim (cases_lt c.0.end high) [
       | inl lt ↦
           let d = h (c.0.end + 1) (omega arith) (omega arith) in
-          let d0 = d.2.0 in
-          let d1 = d.2.1 in
-          let e = apart_near n bs c.0 d.0 a c.1 d.1 d0 (omega arith) in
-          let f = ap (λ (x : GapAckBlock). x.end) e in
-          absurd (omega arith)
+          absurd (grind (arith, d.2, apart_near n bs c.0 d.0 a c.1 d.1))
       | inr ge ↦ (c.0, c.1, c0, ge)
     ]
 
@@ -159,12 +122,7 @@ apart_is_run n bs a r t =
       inside = (λ o l m. (r, t, (l, m)));
       longest = (λ low high l m inside.
           let s = interval_in_one n bs low high a (omega arith) inside in
-          let s0 = s.2 in
-          let s1 = s.3 in
-          let e = apart_near n bs r s.0 a t s.1 (omega arith) (omega arith) in
-          let f = ap (λ (x : GapAckBlock). x.start) e in
-          let g = ap (λ (x : GapAckBlock). x.end) e in
-          (omega arith, omega arith));
+          grind (arith, s.2, s.3, apart_near n bs r s.0 a t s.1));
     }
 
 apart_has_run : (n : ℕ) (bs : Blocks) → IsApart n bs → (r : GapAckBlock) → IsRun (Covers bs) r
@@ -205,11 +163,7 @@ IsRising rs =
 
 rising_head : (b : GapAckBlock) (bs : Blocks) (r : GapAckBlock) → IsRising (b ∷ bs) → Contains bs r
     → b.start < r.start
-rising_head b bs r h t =
-    let k = t.1 in
-    let l = h 0 (suc t.0) r (omega arith) (omega arith) in
-    let e = ap (λ (x : GapAckBlock). x.start) t.2 in
-    omega arith
+rising_head b bs r h t = grind (arith, h 0 (suc t.0) r, t.2)
 
 rising_tail : (b : GapAckBlock) (bs : Blocks) → IsRising (b ∷ bs) → IsRising bs
 rising_tail b bs h i j d l m = h (suc i) (suc j) d (omega arith) (omega arith)
@@ -217,28 +171,19 @@ rising_tail b bs h i j d l m = h (suc i) (suc j) d (omega arith) (omega arith)
 same_heads : (r s : GapAckBlock) (rs ss : Blocks) → IsRising (r ∷ rs) → IsRising (s ∷ ss)
     → Contains (s ∷ ss) r → Contains (r ∷ rs) s → r ≡ s
 same_heads r s rs ss h k t u =
-    elim (contains_cases s r ss t) [
-      | inl e ↦ sym e
-      | inr v ↦ elim (contains_cases r s rs u) [
-        | inl e ↦ e
-        | inr w ↦
-            let p = rising_head r rs s h w in
-            let q = rising_head s ss r k v in
-            absurd (omega arith)
-      ]
-    ]
+    grind (
+      arith,
+      contains_cases s r ss t,
+      contains_cases r s rs u,
+      rising_head r rs s h,
+      rising_head s ss r k,
+    )
 
 tail_within : (r s : GapAckBlock) (rs ss : Blocks) → r ≡ s → IsRising (r ∷ rs)
     → ((x : GapAckBlock) → Contains (r ∷ rs) x → Contains (s ∷ ss) x) → (x : GapAckBlock)
     → Contains rs x → Contains ss x
 tail_within r s rs ss e h f x t =
-    elim (contains_cases s x ss (f x (contains_tail r x rs t))) [
-      | inl g ↦
-          let p = rising_head r rs x h t in
-          let q = ap (λ (y : GapAckBlock). y.start) (e ∙ g) in
-          absurd (omega arith)
-      | inr u ↦ u
-    ]
+    grind (arith, contains_cases s x ss (f x (contains_tail r x rs t)), rising_head r rs x h t)
 
 same_from_rising : (rs ss : Blocks) → IsRising rs → IsRising ss
     → ((x : GapAckBlock) → Contains rs x → Contains ss x)

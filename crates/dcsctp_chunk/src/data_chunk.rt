@@ -16,8 +16,8 @@
 //! +-+-+-+-+-+-+-+-+-+-+-+-+-+-+-+-+-+-+-+-+-+-+-+-+-+-+-+-+-+-+-+-+
 //! ```
 
-ghost use Rattle.std.specs.Prelude.{◌≡◌, ◌≢◌, ◌↔◌, ℕ, Some, IsOk, IsErrOf, IfOk, Ok, vec_len, vec_capacity};
-ghost use Rattle.dcsctp_tlv.specs.Reading.{Exactly, reading, checking, Tested};
+ghost use Rattle.std.specs.Prelude.{◌≡◌, ◌≢◌, ◌↔◌, Some, IsOk, IsErrOf, IfOk, Ok, vec_len, vec_capacity, IfErr, length, ◌≤◌, OnOk, OnErr, ◌<◌};
+ghost use Rattle.dcsctp_tlv.specs.Reading.{Exactly, reading};
 ghost use Rattle.dcsctp_chunk.specs.DataChunk as kind;
 
 use crate::data::Data;
@@ -80,8 +80,9 @@ impl DataChunk {
 
     /// `InvalidLength` exactly where the value has fewer than 12 bytes.
     pub(crate) fn check(value: &[u8]) -> Result<(), ChunkParseError>
-        ensures { (flags : ℕ) → Exactly checking (λ u. u)
-            (Tested (kind.read flags value.now)) result }
+        ensures size { OnOk result (FIXED_SIZE ≤ length value.now) }
+        ensures short { OnErr result (length value.now < FIXED_SIZE) }
+        ensures fault { IfErr result (λ e. e ≡ ChunkParseError.InvalidLength) }
     {
         if value.len() < FIXED_SIZE {
             return Err(ChunkParseError::InvalidLength);

@@ -20,6 +20,7 @@ use dcsctp_tlv::error::ChunkParseError;
 ///
 /// `InvalidLength` exactly where the value has a size that its kind doesn't allow. Each value
 /// passes whose type has no kind of its own, or a kind with a list of parameters or error causes.
+#[tactic(auto, unfolding(crate::specs::DataChunk::read, crate::specs::IDataChunk::read, crate::specs::ShutdownComplete::read))]
 pub fn plain_check(raw: RawChunk) -> Result<(), ChunkParseError>
     ensures answer { ChecksKind (plain_kinds raw.entry.flags) raw.entry.typ raw.entry.value.now
         result }

@@ -8,8 +8,8 @@
 //! +-+-+-+-+-+-+-+-+-+-+-+-+-+-+-+-+-+-+-+-+-+-+-+-+-+-+-+-+-+-+-+-+
 //! ```
 
-ghost use Rattle.std.specs.Prelude.{◌≡◌, ◌≢◌, ◌↔◌, ℕ, List, [], Some, Ok, IsOk, IsErrOf};
-ghost use Rattle.dcsctp_tlv.specs.Reading.{Exactly, reading, checking, Tested};
+ghost use Rattle.std.specs.Prelude.{◌≡◌, ◌≢◌, ◌↔◌, ℕ, List, [], Some, Ok, IsOk, IsErrOf, IfErr, length, OnOk, OnErr, ◌<◌};
+ghost use Rattle.dcsctp_tlv.specs.Reading.{Exactly, reading};
 ghost use Rattle.dcsctp_chunk.specs.ShutdownComplete as kind;
 
 use crate::flags::{is_set, one_flag};
@@ -51,8 +51,9 @@ impl ShutdownCompleteChunk {
 
     /// `InvalidLength` exactly where the value isn't empty.
     pub(crate) fn check(value: &[u8]) -> Result<(), ChunkParseError>
-        ensures { (flags : ℕ) → Exactly checking (λ u. u)
-            (Tested (kind.read flags value.now)) result }
+        ensures size { OnOk result (length value.now ≡ 0) }
+        ensures filled { OnErr result (0 < length value.now) }
+        ensures fault { IfErr result (λ e. e ≡ ChunkParseError.InvalidLength) }
     {
         if !value.is_empty() {
             return Err(ChunkParseError::InvalidLength);

@@ -212,6 +212,7 @@ fn is_past(run: GapAckBlock, block: GapAckBlock) -> bool
 }
 
 /// Moves `count` runs to the gap's other side.
+#[tactic(auto, using(crate::proofs::Joined::copied_front, crate::proofs::Joined::copied_back))]
 fn lift(runs: &mut [GapAckBlock], gap: Gap, count: usize) -> Gap
     requires count { count ≤ gap.low }
     requires order { gap.low ≤ gap.high }
@@ -229,6 +230,7 @@ fn lift(runs: &mut [GapAckBlock], gap: Gap, count: usize) -> Gap
 }
 
 /// Moves the blocks from `start` up to `end` to `dest`.
+#[tactic(auto, using(crate::proofs::Joined::copy_nowhere))]
 fn move_within(blocks: &mut [GapAckBlock], start: usize, end: usize, dest: usize)
     requires order { start ≤ end }
     requires bound { end ≤ length blocks.old }

@@ -1,8 +1,7 @@
 -- One block more, or one that covers nothing; at the end the recent runs go among those in front.
-use Rattle.std.proofs.Common.{◌≡◌, ◌+◌, ◌++◌, take, drop, get_or, arith, subst, ◌∙◌}
+use Rattle.std.proofs.Common.{◌≡◌, ◌+◌, ◌++◌, take, drop, get_or, arith, ◌∙◌}
 use Rattle.std.proofs.lemmas.List.{length-take-le, take_all}
 use Rattle.dcsctp_chunk.specs.declared.sack_chunk.GapAckBlock.{GapAckBlock}
-use Rattle.dcsctp_chunk.specs.Cover.{SameCover}
 use Rattle.dcsctp_chunk.proofs.Covers.{zero_block, same_trans}
 use Rattle.dcsctp_chunk.proofs.Joined.{more_blocks, no_more_blocks, front_cover}
 use Rattle.dcsctp_chunk.proofs.chunk_validators.clean.gather.Goals as goal
@@ -58,8 +57,7 @@ returns-clause-runs c =
     let old = c.args.blocks.now in
     let over = c.loop-i-test.false in
     let runs = take count recent ++ take front blocks in
-    let every : take c.loop-i.i turned ≡ turned = take_all c.loop-i.i turned (omega arith) in
-    let cover = subst (λ x. SameCover runs x) every c.loop-i.invariant.cover in
+    let cover = rw (take_all c.loop-i.i turned (omega arith)) at c.loop-i.invariant.cover in
     let long = length-take-le (front + count) blocks (omega arith) in
     let recent_long = length-take-le count recent (omega arith) in
     front_cover c.join_runs.new.runs (drop (front + count) blocks) recent blocks old count front

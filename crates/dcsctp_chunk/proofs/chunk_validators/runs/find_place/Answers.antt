@@ -1,33 +1,23 @@
 -- Each step of the walk up takes in a run; the one after them starts too late, or there is none.
-use Rattle.std.proofs.Common.{drop, arith}
-use Rattle.dcsctp_chunk.specs.declared.sack_chunk.GapAckBlock.{GapAckBlock}
+use Rattle.std.proofs.Common.{◌+◌, get_or, drop, arith}
+use Rattle.std.proofs.lemmas.List.{drop_more}
 use Rattle.dcsctp_chunk.proofs.Covers.{zero_block}
-use Rattle.dcsctp_chunk.proofs.RunsOf.{put_in}
-use Rattle.dcsctp_chunk.proofs.Placed.{walk_up, walked_up}
+use Rattle.dcsctp_chunk.proofs.RunsOf.{put_join}
+use Rattle.dcsctp_chunk.proofs.Placed.{walked_up}
 use Rattle.dcsctp_chunk.proofs.chunk_validators.runs.find_place.Goals as goal
 
 pub loop-last-preserved : goal.loop-last-preserved
 loop-last-preserved c =
     let runs = c.args.runs.now in
     let i = c.loop-last.last in
-    let inv = c.loop-last.invariant in
-    let order = inv.order in
-    let start = inv.start in
-    let within = inv.within in
-    let some = c.loop-last-test.true in
-    let p = c.requires.point.1 i zero_block order some in
-    let touches = c.if-saturating_sub-run.true in
-    let every = put_in c.args.block (drop c.args.first runs) in
-    let next : GapAckBlock = record { start = c.min.result; end = c.max.result } in
-    record {
-      order = omega arith;
-      bound = omega arith;
-      start = omega arith;
-      within = omega arith;
-      same =
-          walk_up runs every c.loop-last.run next zero_block i some (omega arith) (omega arith)
-          (cc) inv.same;
-    }
+    let p = c.requires.point.1 i zero_block c.loop-last.invariant.order c.loop-last-test.true in
+    grind (
+      arith,
+      p,
+      drop_more runs i zero_block,
+      put_join c.loop-last.run (get_or runs i
+          zero_block) (drop (i + 1) runs),
+    )
 
 pub returns-else-saturating_sub-run-clause-runs : goal.returns-else-saturating_sub-run-clause-runs
 returns-else-saturating_sub-run-clause-runs c =

@@ -1,7 +1,6 @@
 -- The run lies in the place of those that it takes in, and after them all is free.
-use Rattle.std.proofs.Common.{◌+◌, ◌-◌, ◌≤◌, ◌∷◌, take, drop, set, arith, ap, subst, sym, ◌∙◌}
+use Rattle.std.proofs.Common.{◌+◌, ◌-◌, ◌≤◌, arith}
 use Rattle.std.proofs.lemmas.List.{length-take-le}
-use Rattle.dcsctp_chunk.specs.Apart.{AreFree, AreRunsOf}
 use Rattle.dcsctp_chunk.proofs.Joined.{put_run}
 use Rattle.dcsctp_chunk.proofs.chunk_validators.runs.insert.Goals as goal
 
@@ -15,7 +14,7 @@ make_free_from-requires-clause-free c = λ l.
     let put =
     put_run xs p.run p.first p.last kept c.min-end.result c.find_place-place.ensures.order
     within (omega arith) (omega arith) c.requires.free in
-    subst (λ x. AreFree (drop count (set x p.first p.run))) (sym c.move_within.ensures) (put.free l)
+    rw c.move_within.ensures (put.free l)
 
 pub returns-clause-runs : goal.returns-clause-runs
 returns-clause-runs c =
@@ -27,8 +26,5 @@ returns-clause-runs c =
     let put =
     put_run xs p.run p.first p.last kept c.min-end.result c.find_place-place.ensures.order
     within (omega arith) (omega arith) c.requires.free in
-    let front =
-    c.make_free_from.ensures.front
-    ∙ ap (λ x. take count (set x p.first p.run)) c.move_within.ensures ∙ put.front in
-    subst (λ x. AreRunsOf x (c.args.block ∷ take kept xs)) (sym front)
+    rw (c.make_free_from.ensures.front, c.move_within.ensures, put.front)
     c.find_place-place.ensures.runs

@@ -1,7 +1,6 @@
 -- Each step puts in the last of the others that are left; the move at the end closes the gap.
-use Rattle.std.proofs.Common.{◌≡◌, ◌-◌, ◌++◌, take, drop, get_or, arith, subst, sym}
-use Rattle.dcsctp_chunk.specs.Apart.{AreRunsOf, around}
-use Rattle.dcsctp_chunk.specs.Cover.{SameCover}
+use Rattle.std.proofs.Common.{◌≡◌, ◌-◌, ◌++◌, take, drop, get_or, arith}
+use Rattle.dcsctp_chunk.specs.Apart.{around}
 use Rattle.dcsctp_chunk.proofs.Covers.{zero_block}
 use Rattle.dcsctp_chunk.proofs.Joined.{next_apart, left_apart, left_cover}
 use Rattle.dcsctp_chunk.proofs.chunk_validators.runs.join_runs.Goals as goal
@@ -41,12 +40,6 @@ loop-left-preserved c =
 
 pub returns-clause-runs : goal.returns-clause-runs
 returns-clause-runs c =
-    let sides = around c.loop-left.gap c.loop-left.runs in
-    let others = c.args.others.now in
-    let every = others ++ take c.args.kept c.args.runs.now in
     let inv = c.loop-left.invariant in
     let none : c.loop-left.left ≡ 0 = omega arith in
-    subst (λ x. AreRunsOf x every) (sym c.close_gap.ensures.runs) record {
-      apart = inv.apart;
-      cover = subst (λ n. SameCover (take n others ++ sides) every) none inv.cover;
-    }
+    rw c.close_gap.ensures.runs record { apart = inv.apart; cover = rw none at inv.cover }

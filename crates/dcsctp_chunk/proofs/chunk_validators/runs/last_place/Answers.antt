@@ -1,6 +1,5 @@
 -- Each step of the walk down takes in a run, which starts early enough, since the last one does.
-use Rattle.std.proofs.Common.{◌-◌, ◌<◌, length, arith}
-use Rattle.dcsctp_chunk.specs.declared.sack_chunk.GapAckBlock.{GapAckBlock}
+use Rattle.std.proofs.Common.{◌-◌, length, arith}
 use Rattle.dcsctp_chunk.proofs.Covers.{zero_block}
 use Rattle.dcsctp_chunk.proofs.Runs.{apart_order}
 use Rattle.dcsctp_chunk.proofs.RunsOf.{put_in}
@@ -12,24 +11,14 @@ loop-first-preserved c =
     let runs = c.args.runs.now in
     let first = c.loop-first.first in
     let inv = c.loop-first.invariant in
-    let bound = inv.bound in
-    let start = inv.start in
-    let within = inv.within in
-    let touches = c.if-saturating_sub-runs.true in
-    let here : first - 1 < length runs = omega arith in
-    let later =
-    (apart_order 0 runs c.requires.apart (first - 1) (length runs - 1) zero_block (omega arith)
-    (omega arith)).0 in
-    let last = c.requires.near zero_block (omega arith) in
-    let next : GapAckBlock = record { start = c.min.result; end = c.max.result } in
-    record {
-      bound = omega arith;
-      start = omega arith;
-      within = omega arith;
-      same =
-          walk_down runs (put_in c.args.block runs) c.loop-first.run next zero_block (first - 1)
-          first (omega arith) here c.requires.apart (omega arith) (omega arith) (cc) inv.same;
-    }
+    let later = apart_order 0 runs c.requires.apart (first - 1) (length runs - 1) zero_block in
+    let last = c.requires.near zero_block in
+    let walk = walk_down runs (put_in c.args.block runs) c.loop-first.run (record {
+      start =
+          c.min.result;
+      end = c.max.result;
+    }) zero_block (first - 1) first in
+    grind (arith, later, last, walk)
 
 pub returns-else-saturating_sub-runs-clause-runs : goal.returns-else-saturating_sub-runs-clause-runs
 returns-else-saturating_sub-runs-clause-runs c =

@@ -1,10 +1,12 @@
 -- Each step moves runs that all start late enough, since the first of them does.
 use Rattle.std.proofs.Common.{◌≡◌, ℕ, ◌+◌, ◌-◌, ◌<◌, ◌≤◌, List, ◌++◌, length, get_or, take, drop, arith, ap, subst, sym, ◌∙◌}
+use Rattle.std.proofs.Math.Seq.{take-add}
+use Rattle.std.proofs.lemmas.Grind.{common_steps}
 use Rattle.dcsctp_chunk.specs.declared.sack_chunk.GapAckBlock.{GapAckBlock}
 use Rattle.dcsctp_chunk.specs.declared.chunk_validators.runs.Gap.{Gap}
 use Rattle.dcsctp_chunk.specs.Apart.{IsApart, around}
 use Rattle.dcsctp_chunk.proofs.Covers.{zero_block}
-use Rattle.dcsctp_chunk.proofs.Joined.{lifted, lifted_apart}
+use Rattle.dcsctp_chunk.proofs.Joined.{lifted_apart}
 use Rattle.dcsctp_chunk.proofs.chunk_validators.runs.lift_past.Invariants.{IsLifted}
 use Rattle.dcsctp_chunk.proofs.chunk_validators.runs.lift_past.Goals as goal
 
@@ -18,7 +20,7 @@ lift_more block d gap left next old runs after count some low high room front ba
     let order = inv.order in
     let bound = inv.bound in
     let same : around next after ≡ around left runs =
-    lifted runs after next.low next.high count left.low left.high low front back in
+    grind (arith, common_steps, front, back, take-add next.low count runs) in
     let here : IsApart 0 (around left runs) = subst (λ x. IsApart 0 x) (sym inv.same) apart in
     record {
       order = omega arith;

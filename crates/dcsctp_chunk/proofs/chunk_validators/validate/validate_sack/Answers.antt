@@ -1,6 +1,4 @@
 -- Blocks that are apart are the runs of their cover, and back.
-use Rattle.std.proofs.Common.{subst, sym}
-use Rattle.dcsctp_chunk.specs.Apart.{IsApart}
 use Rattle.dcsctp_chunk.proofs.RunsOf.{validated_runs, runs_validated}
 use Rattle.dcsctp_chunk.proofs.chunk_validators.validate.validate_sack.Goals as goal
 
@@ -9,6 +7,6 @@ returns-clause-valid c =
     let bs = c.args.sack.now.gap_ack_blocks.items in
     let e = c.are_apart.ensures.apart in
     let v = c.deref.ensures.value in (
-      (λ t. validated_runs bs (subst (λ x. IsApart 2 x) v (e.0 t))),
-      (λ h. e.1 (subst (λ x. IsApart 2 x) (sym v) (runs_validated bs h))),
+      (λ t. validated_runs bs (rw (← v) (e.0 t))),
+      (λ h. e.1 (rw v (runs_validated bs h))),
     )
