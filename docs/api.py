@@ -234,6 +234,8 @@ def items_of(path, wanted=None):
             if inside and found['indent']:
                 owner = re.sub(r'^impl(<[^>]*>)? ', '', inside).rstrip('{ ')
                 signature = signature.replace(f'fn {found["name"]}', f'fn {owner}::{found["name"]}', 1)
+            if found['kind'] == 'struct' and re.match(r'pub struct \w+;$', lines[at]):
+                signature += ';'
             page.append(entry(1 if inside and found['indent'] else 0, signature, first_sentence(doc), conditions))
             if found['kind'] in ('struct', 'enum'):
                 page += [entry(1, member, sentence) for member, sentence in members_of(lines, at)]

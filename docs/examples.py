@@ -23,7 +23,9 @@ PAGES = [
     ('docs/CALLING.md', 'crates/dcsctp_uses/src', 'rt', 'rust'),
     ('docs/C.md', 'examples/c', 'c', 'c'),
 ]
-LIBRARIES = ['dcsctp_types', 'dcsctp_tlv', 'dcsctp_cause', 'dcsctp_chunk', 'dcsctp_wire', 'dcsctp_borrowed', 'dcsctp_crc32c']
+LIBRARIES = [
+    'dcsctp_types', 'dcsctp_tlv', 'dcsctp_cause', 'dcsctp_chunk', 'dcsctp_wire', 'dcsctp_borrowed', 'dcsctp_crc32c', 'dcsctp_buffer',
+]
 
 
 def read(path):
@@ -104,7 +106,7 @@ def paste(directory, wanted):
     with open(os.path.join(ROOT, 'crates.txt'), encoding='utf-8') as file:
         lines = [line for line in file.read().splitlines() if line.split(':')[0] in LIBRARIES]
     files = needed(programs, wanted or [name for name, _ in programs])
-    used = [it for it in ('dcsctp_wire', 'dcsctp_borrowed', 'dcsctp_crc32c') if any(it in text for text in files.values())]
+    used = [it for it in ('dcsctp_wire', 'dcsctp_borrowed', 'dcsctp_crc32c', 'dcsctp_buffer') if any(it in text for text in files.values())]
     with open(os.path.join(directory, 'crates.txt'), 'w', encoding='utf-8') as file:
         file.write('\n'.join(lines + [f"your_crate: {' '.join(used)}"]) + '\n')
     for path, text in files.items():
