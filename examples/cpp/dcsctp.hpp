@@ -50,6 +50,25 @@ template <typename T, typename Read> std::optional<T> value_of(Read read)
 /// A packet in its bytes, whose checksum field has to be its CRC32c.
 class Packet {
   public:
+    /// The chunks, from the first on, for a `for` over them.
+    class Chunks {
+      public:
+        explicit Chunks(const Packet &packet) : packet_(packet), next_(packet.chunk_at(DCSCTP_FIRST_CHUNK)) {}
+        const Chunks &begin() const { return *this; }
+        std::nullopt_t end() const { return std::nullopt; }
+        const Chunk &operator*() const { return *next_; }
+        Chunks &operator++()
+        {
+            next_ = packet_.chunk_at(next_->next);
+            return *this;
+        }
+        bool operator!=(std::nullopt_t) const { return next_.has_value(); }
+
+      private:
+        const Packet &packet_;
+        std::optional<Chunk> next_;
+    };
+
     explicit Packet(Bytes bytes) : bytes_(bytes), word_(dcsctp_word(bytes.data(), bytes.size())) {}
 
     std::optional<Fault> fault() const
@@ -66,6 +85,7 @@ class Packet {
     {
         return value_of<Chunk>([&](Chunk *it) { return dcsctp_chunk_at(bytes_.data(), bytes_.size(), offset, it); });
     }
+    Chunks chunks() const { return Chunks(*this); }
     std::optional<Data> data(const Chunk &chunk) const
     {
         return value_of<Data>([&](Data *it) { return dcsctp_data(bytes_.data(), bytes_.size(), &chunk, it); });

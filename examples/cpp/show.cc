@@ -73,8 +73,8 @@ static void show(const Packet &packet)
         std::cout << "  fault " << fault->code << " at byte " << fault->offset << "\n";
         return;
     }
-    for (auto chunk = packet.chunk_at(DCSCTP_FIRST_CHUNK); chunk; chunk = packet.chunk_at(chunk->next))
-        print_chunk(packet, *chunk);
+    for (const Chunk &chunk : packet.chunks())
+        print_chunk(packet, chunk);
     std::cout << packet.text().value_or("") << "\n";
     uint8_t reply[1200];
     Bytes written = answer(packet, reply);
