@@ -5,7 +5,7 @@ use Rattle.std.specs.List.{flat_map, AllByRecursion}
 use Rattle.std.proofs.lemmas.List.{append-nil, length-append}
 use Rattle.dcsctp_tlv.specs.Fault.{Fault}
 use Rattle.dcsctp_tlv.specs.Frame.{round_up_to_4, padding_size, Item, item_bytes, AreFormed}
-use Rattle.dcsctp_tlv.specs.Level.{Row, Level, plain, map_ok, ItemsMean, MeansTrees}
+use Rattle.dcsctp_tlv.specs.Level.{Level, map_ok, ItemsMean, MeansTrees}
 use Rattle.dcsctp_tlv.specs.Image.{Tlv, size_of, list_size}
 use Rattle.dcsctp_tlv.proofs.KindLaws.{of_map_ok}
 
@@ -26,17 +26,14 @@ same_size m n e = record { at_most = omega (arith, e); up = ap round_up_to_4 e }
 
 -- ---- rows
 
-abbrev pub AccountsRow : {T : Type 0} → (T → Tlv) → Row T → Type 0
-AccountsRow {T} tlv row =
-    (value : List ℕ) (t : T) → row.means value t → SameSpace (size_of (tlv t)) (4 + length value)
-
--- a kind whose value is read at fixed places, and whose tree keeps the size
+-- a value that is read at fixed places, and whose tree keeps the size
 pub plain_account : {X T : Type 0} (read : List ℕ → Result X Fault) (tree : X → T) (tlv : T → Tlv)
-    → ((value : List ℕ) (x : X) → read value ≡ Ok x → size_of (tlv (tree x)) ≡ 4 + length value)
-    → AccountsRow tlv (plain (λ value. map_ok tree (read value)))
-plain_account read tree tlv law value t e =
+    (value : List ℕ) (t : T)
+    → ((x : X) → read value ≡ Ok x → size_of (tlv (tree x)) ≡ 4 + length value)
+    → map_ok tree (read value) ≡ Ok t → SameSpace (size_of (tlv t)) (4 + length value)
+plain_account read tree tlv value t law e =
     let x = of_map_ok tree (read value) t e in
-    same_size _ _ (ap (λ (u : _). size_of (tlv u)) x.1.1 ∙ law value x.0 x.1.0)
+    same_size _ _ (ap (λ (u : _). size_of (tlv u)) x.1.1 ∙ law x.0 x.1.0)
 
 -- ---- lists
 

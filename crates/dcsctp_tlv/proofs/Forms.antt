@@ -2,7 +2,7 @@
 use Rattle.std.proofs.Common.{◌≡◌, ℕ, Bool, true, false, List, [], ◌∷◌, refl, sym, subst, ◌∙◌, Result}
 use Rattle.std.specs.List.{flat_map, AllByRecursion}
 use Rattle.dcsctp_tlv.specs.Fault.{Fault}
-use Rattle.dcsctp_tlv.specs.Image.{Tlv}
+use Rattle.dcsctp_tlv.specs.Format.{Format}
 use Rattle.dcsctp_tlv.specs.Frame.{Item, item_bytes}
 use Rattle.dcsctp_tlv.specs.Level.{Row, Level, plain, pick, map_ok, ItemsMean, MeansTrees}
 use Rattle.dcsctp_tlv.proofs.KindLaws.{KindLaws, of_map_ok}
@@ -24,12 +24,12 @@ abbrev pub FormsRow : {T : Type 0} → (T → Type 0) → Row T → Type 0
 FormsRow {T} IsFormed row = (value : List ℕ) (t : T) → row.means value t → IsFormed t
 
 -- a kind whose value is read at fixed places
-pub plain_forms : {X T : Type 0} {read : ℕ → ℕ → List ℕ → Result X Fault} {tlv : X
-    → Tlv} {IsInWidth IsWellFormed : X → Type 0} → KindLaws read tlv IsInWidth IsWellFormed
+pub plain_forms : {X T : Type 0} {IsKept : List ℕ → Type 0}
+    {read : ℕ → ℕ → List ℕ → Result X Fault} {format : X → Format} → KindLaws IsKept read format
     → (tree : X → T) (IsFormed : T → Type 0) (first second : ℕ)
-    → ((x : X) → IsWellFormed x → IsFormed (tree x))
+    → ((x : X) → (format x).IsWellFormed → IsFormed (tree x))
     → FormsRow IsFormed (plain (λ value. map_ok tree (read first second value)))
-plain_forms {X} {T} {read} laws tree IsFormed first second law value t e =
+plain_forms {X} {T} {IsKept} {read} laws tree IsFormed first second law value t e =
     let x = of_map_ok tree (read first second value) t e in
     subst IsFormed (sym x.1.1) (law x.0 (laws.formed first second value x.0 x.1.0))
 

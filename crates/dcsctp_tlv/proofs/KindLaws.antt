@@ -2,27 +2,24 @@
 use Rattle.std.proofs.Common.{◌≡◌, ℕ, ◌+◌, Bool, true, false, cond, ◌⊎◌, inl, inr, List, length, Result, Ok, Err, refl}
 use Rattle.dcsctp_tlv.specs.Fault.{Fault}
 use Rattle.dcsctp_tlv.specs.Level.{map_ok}
-use Rattle.dcsctp_tlv.specs.Image.{zeroed, Tlv, size_of, IsEncodable}
+use Rattle.dcsctp_tlv.specs.Format.{Format}
+use Rattle.dcsctp_tlv.specs.Image.{zeroed, size_of, IsEncodable}
 use Rattle.dcsctp_tlv.proofs.Unpadded.{NotPadding}
 
--- A value as it is read, after the item's first two bytes; and its tree as it is written.
-pub record KindLaws {T : Type 0} (read : ℕ → ℕ → List ℕ → Result T Fault) (tlv : T
-    → Tlv) (IsInWidth IsWellFormed : T → Type 0) : Type 0 where
-  -- the value has the size that is counted
-  pub sized : (t : T) → length (tlv t).value ≡ (tlv t).value_size
+-- A value as it is read, after the item's first two bytes; and what its format says of its tree.
+pub record KindLaws {T : Type 0} (IsKept : List ℕ → Type 0)
+    (read : ℕ → ℕ → List ℕ → Result T Fault) (format : T → Format) : Type 0 where
   -- what is written is read again
-  pub back : (t : T) → IsInWidth t → IsWellFormed t → IsEncodable (tlv t)
-      → read (tlv t).first (tlv t).second (zeroed (tlv t).value) ≡ Ok t
+  pub back : (t : T) → (format t).IsInWidth → (format t).IsWellFormed → IsEncodable (format t).tlv
+      → read (format t).tlv.first (format t).tlv.second (zeroed (format t).tlv.value) ≡ Ok t
   -- what is read is well-formed
   pub formed : (first second : ℕ) (value : List ℕ) (t : T) → read first second value ≡ Ok t
-      → IsWellFormed t
+      → (format t).IsWellFormed
   -- its fault, if any, isn't that of padding
   pub unpadded : (first second : ℕ) (value : List ℕ) → NotPadding (read first second value)
-
--- what is read is written with the size that it was read from
-abbrev pub KeepsSize : {T : Type 0} → (ℕ → ℕ → List ℕ → Result T Fault) → (T → Tlv) → Type 0
-KeepsSize read tlv = (first second : ℕ) (value : List ℕ) (t : _) → read first second value ≡ Ok t
-    → size_of (tlv t) ≡ 4 + length value
+  -- what is read is written with the size that it was read from, where the value is kept
+  pub keeps : (first second : ℕ) (value : List ℕ) (t : T) → IsKept value
+      → read first second value ≡ Ok t → size_of (format t).tlv ≡ 4 + length value
 
 -- ---- a kind of parameter or cause, which has one type: its value alone is read
 

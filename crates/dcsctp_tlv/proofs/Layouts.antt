@@ -14,7 +14,7 @@ use Rattle.dcsctp_tlv.specs.Image.{solid, size_of}
 use Rattle.dcsctp_tlv.specs.Length.{length-solid}
 use Rattle.dcsctp_tlv.specs.Number.{number32}
 use Rattle.dcsctp_tlv.proofs.FieldLaws.{FieldLaw, length-fields, last_fields_back}
-use Rattle.dcsctp_tlv.proofs.FormatLaws.{FormatLaws, Keeps, format_laws, TypedLaws, TypedKeeps, typed_laws}
+use Rattle.dcsctp_tlv.proofs.FormatLaws.{FormatLaws, format_laws, TypedLaws, typed_laws}
 use Rattle.dcsctp_tlv.proofs.KindLaws.{of_ok, passed}
 use Rattle.dcsctp_tlv.proofs.Unpadded.{if_passed}
 
@@ -27,12 +27,7 @@ pub any_laws : (format : List ℕ → Format) → ((x : List ℕ) → (format x)
     → ((x : List ℕ) → (format x).IsWellFormed) → FormatLaws any format
 any_laws format same formed =
     format_laws any format (λ x. x) same (λ x width form fits. refl) (λ value x e. formed x)
-    (λ value. tt)
-
-pub any_keeps : (format : List ℕ → Format)
-    → ((x : List ℕ) → size_of (format x).tlv ≡ 4 + length x) → Keeps any format
-any_keeps format written first second value x e =
-    written x ∙ ap (λ (bytes : List ℕ). 4 + length bytes) (sym (of_ok value x e))
+    (λ value. tt) (λ value x kept e. ap length (sym (of_ok value x e)))
 
 -- ---- one size
 
@@ -55,13 +50,9 @@ sized_laws {T} size meaning format bytes same long again formed =
     (ap (λ (x : T). Ok x) (again t width)))
     (λ first second value t e. formed t)
     (λ first second value. if_passed (length value == size) (meaning first second value))
-
-pub sized_keeps : {T : Type 0} (size : ℕ) (meaning : ℕ → ℕ → List ℕ → T) (format : T → Format)
-    → ((t : T) → size_of (format t).tlv ≡ 4 + size) → TypedKeeps (read_sized size meaning) format
-sized_keeps size meaning format written first second value t e =
-    let read = Ok (meaning first second value) in
-    written t ∙ ap (λ (n : ℕ). 4 + n)
-    (sym (eqb-true (length value) size (passed (length value == size) read Length t e).0))
+    (λ first second value t kept e.
+        let whole = passed (length value == size) (Ok (meaning first second value)) Length t e in
+        long t ∙ sym (eqb-true (length value) size whole.0))
 
 -- a number of four bytes
 abbrev read_number : ℕ → ℕ → List ℕ → Result ℕ Fault
@@ -75,10 +66,6 @@ number_laws format same width formed =
     sized_laws 4 (λ first second. number32) format (to_be_bytes w32) same (λ n. refl)
     (λ n w. from_be_bytes-to_be_bytes_4 n (width n w)) formed
 
-pub number_keeps : (format : ℕ → Format) → ((n : ℕ) → size_of (format n).tlv ≡ 8)
-    → TypedKeeps read_number format
-number_keeps format written = sized_keeps 4 (λ first second. number32) format written
-
 -- an empty value
 abbrev read_empty : ℕ → ℕ → List ℕ → Result (Unit {0}) Fault
 read_empty = read_sized 0 (λ first second value. tt)
@@ -88,10 +75,6 @@ pub empty_laws : (format : Unit {0} → Format)
     → ((u : Unit {0}) → (format u).IsWellFormed) → TypedLaws read_empty format
 empty_laws format same formed =
     sized_laws 0 (λ first second value. tt) format (λ u. []) same (λ u. refl) (λ u w. refl) formed
-
-pub empty_keeps : (format : Unit {0} → Format) → ((u : Unit {0}) → size_of (format u).tlv ≡ 4)
-    → TypedKeeps read_empty format
-empty_keeps format written = sized_keeps 0 (λ first second value. tt) format written
 
 -- ---- numbers at fixed places, and after them fields of one size up to the end
 
@@ -164,6 +147,16 @@ module _ {T A : Type 0} (place size : ℕ) (read : List ℕ → A) (make : List 
         let whole = passed (length value == place + size * n) _ Length t e in
         (eqb-true (length value) (place + size * n) whole.0, of_ok _ t whole.1)
 
+    as_long : (value : List ℕ) (t : T) → read_fields place size read make value ≡ Ok t
+        → length (bytes t) ≡ length value
+    as_long value t e =
+        let n = count_after place size value in
+        let of = made_of value t e in
+        let count : length (laws.list t) ≡ n =
+        ap (λ (x : T). length (laws.list x)) (sym of.1) ∙ ap length (laws.kept value _)
+        ∙ length-fields read size n (drop place value) in
+        length-bytes t ∙ ap (λ (k : ℕ). place + size * k) count ∙ sym of.0
+
     pub fields_laws : FormatLaws (read_fields place size read make) format
     fields_laws =
         format_laws (read_fields place size read make) format bytes laws.same
@@ -171,13 +164,4 @@ module _ {T A : Type 0} (place size : ℕ) (read : List ℕ → A) (make : List 
         (λ value t e. subst (λ (x : T). (format x).IsWellFormed) (made_of value t e).1
         (laws.formed value (count_after place size value)))
         (λ value. if_passed (length value == place + size * count_after place size value) _)
-
-    pub fields_keep : Keeps (read_fields place size read make) format
-    fields_keep first second value t e =
-        let n = count_after place size value in
-        let of = made_of value t e in
-        let count : length (laws.list t) ≡ n =
-        ap (λ (x : T). length (laws.list x)) (sym of.1) ∙ ap length (laws.kept value _)
-        ∙ length-fields read size n (drop place value) in
-        laws.written t ∙ ap (λ (k : ℕ). 4 + (place + size * k)) count
-        ∙ ap (λ (k : ℕ). 4 + k) (sym of.0)
+        (λ value t kept e. as_long value t e)

@@ -5,6 +5,7 @@ use Rattle.std.specs.Int.{w16, w32, to_be_bytes, from_be_bytes}
 use Rattle.std.proofs.lemmas.Bool.{eqb-true}
 use Rattle.std.proofs.lemmas.Nat.{from_be_bytes-to_be_bytes_2, from_be_bytes-to_be_bytes_4}
 use Rattle.dcsctp_tlv.specs.Fault.{Length}
+use Rattle.dcsctp_tlv.specs.Image.{size_of}
 use Rattle.dcsctp_tlv.specs.Level.{plain, map_ok}
 use Rattle.dcsctp_tlv.specs.Number.{number16, number32, numbers}
 use Rattle.dcsctp_tlv.specs.HeartbeatInfo as info
@@ -22,10 +23,10 @@ use Rattle.dcsctp_tlv.specs.ReconfigurationResponse.{result_of, result_number, r
 use Rattle.dcsctp_tlv.specs.declared.parameter.reconfiguration_response_parameter.ReconfigurationResponseResult.{ReconfigurationResponseResult}
 use Rattle.dcsctp_tlv.specs.declared.parameter.reconfiguration_response_parameter.ReconfigurationResponseResult.TheVariants.{SuccessNothingToDo, SuccessPerformed, Denied, ErrorWrongSSN, ErrorRequestAlreadyInProgress, ErrorBadSequenceNumber, InProgress}
 use Rattle.dcsctp_tlv.proofs.KindLaws.{of_ok, of_map_ok, chosen, passed}
-use Rattle.dcsctp_tlv.proofs.FormatLaws.{FormatLaws, Keeps, format_laws}
+use Rattle.dcsctp_tlv.proofs.FormatLaws.{FormatLaws, format_laws}
 use Rattle.dcsctp_tlv.proofs.FieldLaws.{number16_law}
 use Rattle.dcsctp_tlv.proofs.Forms.{FormsRow}
-use Rattle.dcsctp_tlv.proofs.Layouts.{any_laws, any_keeps, sized_laws, sized_keeps, number_laws, number_keeps, empty_laws, empty_keeps, FieldsAfter, fields_laws, fields_keep}
+use Rattle.dcsctp_tlv.proofs.Layouts.{any_laws, sized_laws, number_laws, empty_laws, FieldsAfter, fields_laws}
 use Rattle.dcsctp_tlv.proofs.Unpadded.{NotPadding, either, mapped}
 
 -- ---- any bytes
@@ -34,35 +35,19 @@ pub info_laws : FormatLaws info.read info.format
 unfolding info.read
 info_laws = any_laws info.format (λ x. refl) (λ x. tt)
 
-pub info_keeps : Keeps info.read info.format
-unfolding info.read
-info_keeps = any_keeps info.format (λ x. refl)
-
 pub cookie_laws : FormatLaws cookie.read cookie.format
 unfolding cookie.read
 cookie_laws = any_laws cookie.format (λ x. refl) (λ x. tt)
 
-pub cookie_keeps : Keeps cookie.read cookie.format
-unfolding cookie.read
-cookie_keeps = any_keeps cookie.format (λ x. refl)
-
 pub extensions_laws : FormatLaws extensions.read extensions.format
 unfolding extensions.read
 extensions_laws = any_laws extensions.format (λ x. refl) (λ x. tt)
-
-pub extensions_keeps : Keeps extensions.read extensions.format
-unfolding extensions.read
-extensions_keeps = any_keeps extensions.format (λ x. refl)
 
 -- ---- one size
 
 pub ssn_tsn_laws : FormatLaws ssn_tsn.read ssn_tsn.format
 unfolding ssn_tsn.read
 ssn_tsn_laws = number_laws ssn_tsn.format (λ n. refl) (λ n width. width) (λ n. tt)
-
-pub ssn_tsn_keeps : Keeps ssn_tsn.read ssn_tsn.format
-unfolding ssn_tsn.read
-ssn_tsn_keeps = number_keeps ssn_tsn.format (λ n. refl)
 
 -- both requests for more streams, each of its type and name
 pub add_streams_laws : (typ : ℕ) (name : List ℕ)
@@ -76,26 +61,13 @@ add_streams_laws typ name =
     ) refl)
     (λ r. tt)
 
-pub add_streams_keeps : (typ : ℕ) (name : List ℕ)
-    → Keeps add_streams.read (add_streams.format typ name)
-unfolding add_streams.read
-add_streams_keeps typ name = sized_keeps 8 _ (add_streams.format typ name) (λ r. refl)
-
 pub zero_checksum_laws : FormatLaws zero_checksum.read zero_checksum.format
 unfolding zero_checksum.read
 zero_checksum_laws = number_laws zero_checksum.format (λ n. refl) (λ n width. width) (λ n. tt)
 
-pub zero_checksum_keeps : Keeps zero_checksum.read zero_checksum.format
-unfolding zero_checksum.read
-zero_checksum_keeps = number_keeps zero_checksum.format (λ n. refl)
-
 pub forward_tsn_laws : FormatLaws forward_tsn.read forward_tsn.format
 unfolding forward_tsn.read
 forward_tsn_laws = empty_laws forward_tsn.format (λ t. refl) (λ t. tt)
-
-pub forward_tsn_keeps : Keeps forward_tsn.read forward_tsn.format
-unfolding forward_tsn.read
-forward_tsn_keeps = empty_keeps forward_tsn.format (λ t. refl)
 
 -- ---- any type
 
@@ -103,9 +75,10 @@ forward_tsn_keeps = empty_keeps forward_tsn.format (λ t. refl)
 pub type_back : (typ : ℕ) → from_be_bytes w16 (typ / 256 ∷ typ % 256 ∷ []) ≡ typ
 type_back typ = omega arith
 
-pub unknown_keeps : (typ : ℕ) → Keeps (unknown.read typ) unknown.format
+pub unknown_keeps : (typ : ℕ) (value : List ℕ) (u : unknown.Tree) → unknown.read typ value ≡ Ok u
+    → size_of (unknown.format u).tlv ≡ 4 + length value
 unfolding unknown.read
-unknown_keeps typ first second value u e =
+unknown_keeps typ value u e =
     let kept : unknown.Tree = record { typ = typ; value = value } in
     ap (λ (v : unknown.Tree). 4 + length v.value) (sym (of_ok kept u e))
 
@@ -153,10 +126,6 @@ pub outgoing_laws : FormatLaws outgoing.read outgoing.format
 unfolding outgoing.read
 outgoing_laws = fields_laws 12 2 number16 outgoing_with _ _ _ outgoing_fields
 
-pub outgoing_keeps : Keeps outgoing.read outgoing.format
-unfolding outgoing.read
-outgoing_keeps = fields_keep 12 2 number16 outgoing_with _ _ _ outgoing_fields
-
 abbrev incoming_with : List ℕ → List ℕ → incoming.Tree
 incoming_with value streams = record { request = number32 value; streams = streams }
 
@@ -179,10 +148,6 @@ incoming_fields = record {
 pub incoming_laws : FormatLaws incoming.read incoming.format
 unfolding incoming.read
 incoming_laws = fields_laws 4 2 number16 incoming_with _ _ _ incoming_fields
-
-pub incoming_keeps : Keeps incoming.read incoming.format
-unfolding incoming.read
-incoming_keeps = fields_keep 4 2 number16 incoming_with _ _ _ incoming_fields
 
 -- ---- a response
 
@@ -274,14 +239,15 @@ response_laws =
     (λ r. numbers w32 (response.leading r) ++ numbers w32 (response.tsns r)) (λ r. refl)
     (λ r width form fits. response_back r.response r.result r.sender_next_tsn r.receiver_next_tsn
     width form)
-    (λ value t e. both value t (response_read value t e)) response_unpadded where
+    (λ value t e. both value t (response_read value t e)) response_unpadded
+    (λ value t kept e. as_long value t (response_read value t e)) where
       both : (value : List ℕ) (t : response.Tree) → IsRead value t
           → (response.format t).IsWellFormed
       both value t (inl p) = rw (p.1.0, p.1.1) ((λ h. h), (λ h. h))
       both value t (inr p) = rw (p.1.0, p.1.1) ((λ h. h), (λ h. h))
 
-pub response_keeps : Keeps response.read response.format
-response_keeps first second value t e = elim (response_read value t e) [
-  | inl p ↦ rw (p.1.0, p.0) refl
-  | inr p ↦ rw (p.1.0, p.1.1, p.0) refl
-]
+      as_long : (value : List ℕ) (t : response.Tree) → IsRead value t
+          → length (numbers w32 (response.leading t) ++ numbers w32 (response.tsns t))
+          ≡ length value
+      as_long value t (inl p) = rw (p.1.0, p.0) refl
+      as_long value t (inr p) = rw (p.1.0, p.1.1, p.0) refl

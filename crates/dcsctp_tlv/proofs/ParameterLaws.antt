@@ -25,10 +25,10 @@ use Rattle.dcsctp_tlv.proofs.FormatLaws.{IsGood, good_list}
 use Rattle.dcsctp_tlv.proofs.Places.{AtFront}
 use Rattle.dcsctp_tlv.proofs.Lenient.{Loosens}
 use Rattle.dcsctp_tlv.proofs.Unpadded.{list_unpadded}
-use Rattle.dcsctp_tlv.proofs.TableLaws.{RowLaws, sized, unknown_row, unknown_means}
+use Rattle.dcsctp_tlv.proofs.TableLaws.{RowLaws, kind, unknown_row, unknown_means}
 use Rattle.dcsctp_tlv.proofs.Tables.{MeansAny, of_table}
 use Rattle.dcsctp_tlv.proofs.ReadsBack.{ReadsBack}
-use Rattle.dcsctp_tlv.proofs.ParameterKinds.{info_laws, info_keeps, cookie_laws, cookie_keeps, outgoing_laws, outgoing_keeps, incoming_laws, incoming_keeps, response_laws, response_keeps, zero_checksum_laws, zero_checksum_keeps, extensions_laws, extensions_keeps, forward_tsn_laws, forward_tsn_keeps, ssn_tsn_laws, ssn_tsn_keeps, add_streams_laws, add_streams_keeps}
+use Rattle.dcsctp_tlv.proofs.ParameterKinds.{info_laws, cookie_laws, outgoing_laws, incoming_laws, response_laws, zero_checksum_laws, extensions_laws, forward_tsn_laws, ssn_tsn_laws, add_streams_laws}
 use Rattle.dcsctp_tlv.proofs.Forms.{FormsTrees}
 use Rattle.dcsctp_tlv.proofs.Accounts.{Accounts}
 use Rattle.dcsctp_tlv.proofs.Counts.{Counts, one_each}
@@ -42,19 +42,17 @@ Owes = RowLaws tlv IsWellFormed (λ typ value. Unit {0})
 
 rows : (typ : ℕ) → Owes typ (row typ)
 rows typ = of_table Owes table typ _ (
-    sized info_laws HeartbeatInfo (λ x h. h) info_keeps (λ x. refl) &
-    sized cookie_laws StateCookie (λ x h. h) cookie_keeps (λ x. refl) &
-    sized outgoing_laws OutgoingSsnResetRequest (λ x h. h) outgoing_keeps (λ x. refl) &
-    sized incoming_laws IncomingSsnResetRequest (λ x h. h) incoming_keeps (λ x. refl) &
-    sized ssn_tsn_laws SsnTsnResetRequest (λ x h. h) ssn_tsn_keeps (λ x. refl) &
-    sized response_laws ReconfigurationResponse (λ x h. h) response_keeps (λ x. refl) &
-    sized (add_streams_laws 17 add_outgoing.name) AddOutgoingStreamsRequest (λ x h. h)
-    (add_streams_keeps 17 add_outgoing.name) (λ x. refl) &
-    sized (add_streams_laws 18 add_incoming.name) AddIncomingStreamsRequest (λ x h. h)
-    (add_streams_keeps 18 add_incoming.name) (λ x. refl) &
-    sized zero_checksum_laws ZeroChecksumAcceptable (λ x h. h) zero_checksum_keeps (λ x. refl) &
-    sized extensions_laws SupportedExtensions (λ x h. h) extensions_keeps (λ x. refl) &
-    sized forward_tsn_laws (λ _. ForwardTsnSupported) (λ x h. h) forward_tsn_keeps (λ x. refl) & tt)
+    kind info_laws HeartbeatInfo (λ x h. h) (λ x. refl) &
+    kind cookie_laws StateCookie (λ x h. h) (λ x. refl) &
+    kind outgoing_laws OutgoingSsnResetRequest (λ x h. h) (λ x. refl) &
+    kind incoming_laws IncomingSsnResetRequest (λ x h. h) (λ x. refl) &
+    kind ssn_tsn_laws SsnTsnResetRequest (λ x h. h) (λ x. refl) &
+    kind response_laws ReconfigurationResponse (λ x h. h) (λ x. refl) &
+    kind (add_streams_laws 17 add_outgoing.name) AddOutgoingStreamsRequest (λ x h. h) (λ x. refl) &
+    kind (add_streams_laws 18 add_incoming.name) AddIncomingStreamsRequest (λ x h. h) (λ x. refl) &
+    kind zero_checksum_laws ZeroChecksumAcceptable (λ x h. h) (λ x. refl) &
+    kind extensions_laws SupportedExtensions (λ x h. h) (λ x. refl) &
+    kind forward_tsn_laws (λ _. ForwardTsnSupported) (λ x h. h) (λ x. refl) & tt)
     (λ unnamed. unknown_row Unknown (λ u. refl) (λ value. unnamed))
 
 pub row_lawful : (typ : ℕ) → LawfulRow (row typ)

@@ -3,13 +3,15 @@
 use Rattle.std.proofs.Common.{◌≡◌, ℕ, ◌+◌, ◌/◌, ◌%◌, List, [], ◌∷◌, length, refl, sym, ap, subst, ◌∙◌, Result}
 use Rattle.std.specs.Int.{w16, from_be_bytes}
 use Rattle.dcsctp_tlv.specs.Fault.{Fault}
+use Rattle.dcsctp_tlv.specs.Format.{Format}
 use Rattle.dcsctp_tlv.specs.Image.{Tlv, solid, zeroed, size_of}
 use Rattle.dcsctp_tlv.specs.Level.{Row, plain, map_ok}
 use Rattle.dcsctp_tlv.specs.Table.{Named, row_of, IsUnnamed}
 use Rattle.dcsctp_tlv.specs.UnknownParameter as unknown
 use Rattle.dcsctp_tlv.proofs.Accounts.{SameSpace, plain_account}
+use Rattle.dcsctp_tlv.proofs.FormatLaws.{TypedLaws}
 use Rattle.dcsctp_tlv.proofs.Forms.{FormsRow, plain_forms}
-use Rattle.dcsctp_tlv.proofs.KindLaws.{KindLaws, KeepsSize}
+use Rattle.dcsctp_tlv.proofs.KindLaws.{KindLaws}
 use Rattle.dcsctp_tlv.proofs.ParameterKinds.{type_back, unknown_keeps, unknown_forms}
 use Rattle.dcsctp_tlv.proofs.Places.{IsPlain, is_plain}
 use Rattle.dcsctp_tlv.proofs.ReadsBack.{zeroed-solid}
@@ -35,25 +37,29 @@ row_by tree read = plain (λ value. map_ok tree (read 0 0 value))
 
 module _ {T : Type 0} {tlv : T → Tlv} {IsGood : T → Type 0} {IsKept : ℕ → List ℕ → Type 0} {typ : ℕ}
   where
-    -- a kind, by its laws and its trees in the table: they are well-formed as its own format says
-    module _ {X : Type 0} {read : ℕ → ℕ → List ℕ → Result X Fault} {written : X → Tlv}
-        {HasWidths IsFormed : X → Type 0} (laws : KindLaws read written HasWidths IsFormed)
-        (tree : X → T) (formed : (x : X) → IsFormed x → IsGood (tree x))
-      where
-        pub kind : Accounted tlv (IsKept typ) (row_by tree read)
-            → RowLaws tlv IsGood IsKept typ (row_by tree read)
-        kind account = record {
-          plain = is_plain _;
-          forms = plain_forms laws tree IsGood 0 0 formed;
-          account = account;
-          unpadded = plain_unpadded tree (read 0 0) (laws.unpadded 0 0);
-        }
+    -- a kind, by its laws and its trees in the table: they are well-formed as its own format says,
+    -- and written as it says
+    pub kind_if : {X : Type 0} {IsKeptValue : List ℕ → Type 0} {read : ℕ → ℕ → List ℕ → Result X Fault}
+        {format : X → Format} → KindLaws IsKeptValue read format → (tree : X → T)
+        → ((x : X) → (format x).IsWellFormed → IsGood (tree x))
+        → ((x : X) → tlv (tree x) ≡ (format x).tlv)
+        → ((value : List ℕ) → IsKept typ value → IsKeptValue value)
+        → RowLaws tlv IsGood IsKept typ (row_by tree read)
+    kind_if {X} {IsKeptValue} {read} laws tree formed same kept = record {
+      plain = is_plain _;
+      forms = plain_forms laws tree IsGood 0 0 formed;
+      account = λ value t keeps. plain_account (read 0 0) tree tlv value t
+          (λ x e. ap size_of (same x) ∙ laws.keeps 0 0 value x (kept value keeps) e);
+      unpadded = plain_unpadded tree (read 0 0) (laws.unpadded 0 0);
+    }
 
-        -- one that keeps the size of its value
-        pub sized : KeepsSize read written → ((x : X) → tlv (tree x) ≡ written x)
-            → RowLaws tlv IsGood IsKept typ (row_by tree read)
-        sized keeps same = kind (λ value t kept. plain_account (read 0 0) tree tlv
-            (λ v x e. ap size_of (same x) ∙ keeps 0 0 v x e) value t)
+    -- one that keeps the size of every value
+    pub kind : {X : Type 0} {read : ℕ → ℕ → List ℕ → Result X Fault} {format : X → Format}
+        → TypedLaws read format → (tree : X → T)
+        → ((x : X) → (format x).IsWellFormed → IsGood (tree x))
+        → ((x : X) → tlv (tree x) ≡ (format x).tlv)
+        → RowLaws tlv IsGood IsKept typ (row_by tree read)
+    kind laws tree formed same = kind_if laws tree formed same (λ value kept. tt)
 
     -- any value of a type that isn't named
     pub unknown_row : (tree : unknown.Tree → T)
@@ -64,8 +70,8 @@ module _ {T : Type 0} {tlv : T → Tlv} {IsGood : T → Type 0} {IsKept : ℕ �
     unknown_row tree same formed = record {
       plain = is_plain _;
       forms = unknown_forms IsGood typ tree formed;
-      account = λ value t kept. plain_account (unknown.read typ) tree tlv
-          (λ v u e. ap size_of (same u) ∙ unknown_keeps typ 0 0 v u e) value t;
+      account = λ value t kept. plain_account (unknown.read typ) tree tlv value t
+          (λ u e. ap size_of (same u) ∙ unknown_keeps typ value u e);
       unpadded = ok_unpadded _;
     }
 
