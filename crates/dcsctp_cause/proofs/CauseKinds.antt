@@ -10,9 +10,9 @@ use Rattle.dcsctp_tlv.specs.Format.{Format}
 use Rattle.dcsctp_tlv.specs.Image.{solid, IsEncodable}
 use Rattle.dcsctp_tlv.specs.Number.{number16, number32}
 use Rattle.dcsctp_tlv.proofs.FieldLaws.{length-fields, numbers16_back}
-use Rattle.dcsctp_tlv.proofs.FormatLaws.{FormatLaws, Keeps, format_laws}
-use Rattle.dcsctp_tlv.proofs.KindLaws.{of_ok, passed}
-use Rattle.dcsctp_tlv.proofs.Layouts.{any_laws, any_keeps, number_laws, number_keeps, empty_laws, empty_keeps}
+use Rattle.dcsctp_tlv.proofs.FormatLaws.{FormatLaws, format_laws}
+use Rattle.dcsctp_tlv.proofs.KindLaws.{KindLaws, by_value, of_ok, passed}
+use Rattle.dcsctp_tlv.proofs.Layouts.{any_laws, number_laws, empty_laws}
 use Rattle.dcsctp_tlv.proofs.Unpadded.{if_passed}
 use Rattle.dcsctp_cause.specs.MissingMandatoryParameter as missing
 use Rattle.dcsctp_cause.specs.UnrecognizedChunk as chunk
@@ -44,16 +44,12 @@ missing_laws =
     format_laws missing.read missing.format bytes_of_types (λ types. refl)
     (λ types width form fits. missing_back types width fits) (λ value types e. tt)
     (λ value. if_passed (length value == 4 + 2 * number32 value) _)
-
-pub missing_keeps : Keeps missing.read missing.format
-unfolding missing.read
-missing_keeps first second value types e =
-    let whole = passed (length value == 4 + 2 * number32 value) _ Length types e in
-    let is = of_ok _ types whole.1 in
-    let count : length types ≡ number32 value =
-    ap length (sym is) ∙ length-fields number16 2 (number32 value) (drop 4 value) in
-    let size = eqb-true (length value) (4 + 2 * number32 value) whole.0 in
-    omega (arith, count, size)
+    (λ value types kept e.
+        let whole = passed (length value == 4 + 2 * number32 value) _ Length types e in
+        let count : length types ≡ number32 value = ap length (sym (of_ok _ types whole.1))
+        ∙ length-fields number16 2 (number32 value) (drop 4 value) in
+        let size = eqb-true (length value) (4 + 2 * number32 value) whole.0 in
+        omega (arith, length-bytes_of_types types, count, size))
 
 -- ---- any bytes
 
@@ -61,57 +57,39 @@ pub chunk_laws : FormatLaws chunk.read chunk.format
 unfolding chunk.read
 chunk_laws = any_laws chunk.format (λ x. refl) (λ x. tt)
 
-pub chunk_keeps : Keeps chunk.read chunk.format
-unfolding chunk.read
-chunk_keeps = any_keeps chunk.format (λ x. refl)
-
 -- ---- one size
 
 pub no_user_data_laws : FormatLaws no_user_data.read no_user_data.format
 unfolding no_user_data.read
 no_user_data_laws = number_laws no_user_data.format (λ n. refl) (λ n width. width) (λ n. tt)
 
-pub no_user_data_keeps : Keeps no_user_data.read no_user_data.format
-unfolding no_user_data.read
-no_user_data_keeps = number_keeps no_user_data.format (λ n. refl)
-
 pub cookie_received_laws : FormatLaws cookie_received.read cookie_received.format
 unfolding cookie_received.read
 cookie_received_laws = empty_laws cookie_received.format (λ t. refl) (λ t. tt)
-
-pub cookie_received_keeps : Keeps cookie_received.read cookie_received.format
-unfolding cookie_received.read
-cookie_received_keeps = empty_keeps cookie_received.format (λ t. refl)
 
 -- ---- texts: a value that isn't UTF-8 is read as another text, whose size may be another
 
 abbrev read_text : List ℕ → List ℕ → Result (List ℕ) Fault
 read_text fixed value = Ok (text_or fixed value)
 
+-- a value that is UTF-8 is kept
+abbrev TextLaws : (List ℕ → Result (List ℕ) Fault) → (List ℕ → Format) → Type 0
+TextLaws read format = KindLaws IsUtf8 (by_value read) format
+
 text_laws : (fixed : List ℕ) (format : List ℕ → Format)
     → ((x : List ℕ) → (format x).tlv.value ≡ solid x)
     → ((x : List ℕ) → (format x).IsInWidth → IsText x)
-    → ((x : List ℕ) → (format x).IsWellFormed) → FormatLaws (read_text fixed) format
+    → ((x : List ℕ) → (format x).IsWellFormed) → TextLaws (read_text fixed) format
 text_laws fixed format same width formed =
     format_laws (read_text fixed) format (λ x. x) same
     (λ x w form fits. ap (λ (text : List ℕ). Ok text) (text_or_utf8 fixed x (width x w).utf8))
     (λ value x e. formed x) (λ value. tt)
+    (λ value x utf8 e. ap length (sym (of_ok _ x e) ∙ text_or_utf8 fixed value utf8))
 
-text_kept : (fixed value x : List ℕ) → IsUtf8 value → read_text fixed value ≡ Ok x → x ≡ value
-text_kept fixed value x utf8 e = sym (of_ok _ x e) ∙ text_or_utf8 fixed value utf8
-
-pub abort_laws : FormatLaws abort.read abort.format
+pub abort_laws : TextLaws abort.read abort.format
 unfolding abort.read
 abort_laws = text_laws _ abort.format (λ x. refl) (λ x width. width) (λ x. tt)
 
-pub abort_kept : (value x : List ℕ) → IsUtf8 value → abort.read value ≡ Ok x → x ≡ value
-unfolding abort.read
-abort_kept value x = text_kept _ value x
-
-pub violation_laws : FormatLaws violation.read violation.format
+pub violation_laws : TextLaws violation.read violation.format
 unfolding violation.read
 violation_laws = text_laws _ violation.format (λ x. refl) (λ x width. width) (λ x. tt)
-
-pub violation_kept : (value x : List ℕ) → IsUtf8 value → violation.read value ≡ Ok x → x ≡ value
-unfolding violation.read
-violation_kept value x = text_kept _ value x

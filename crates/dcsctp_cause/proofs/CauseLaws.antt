@@ -15,7 +15,7 @@ use Rattle.dcsctp_tlv.proofs.Laws.{LawfulRow, Lawful}
 use Rattle.dcsctp_tlv.proofs.FormatLaws.{IsGood, good_list}
 use Rattle.dcsctp_tlv.proofs.Places.{AtFront}
 use Rattle.dcsctp_tlv.proofs.Lenient.{Loosens}
-use Rattle.dcsctp_tlv.proofs.TableLaws.{RowLaws, kind, sized, unknown_row, unknown_means}
+use Rattle.dcsctp_tlv.proofs.TableLaws.{RowLaws, kind, kind_if, unknown_row, unknown_means}
 use Rattle.dcsctp_tlv.proofs.Tables.{MeansAny, of_table}
 use Rattle.dcsctp_tlv.proofs.ReadsBack.{ReadsBack}
 use Rattle.dcsctp_tlv.proofs.KindLaws.{of_map_ok}
@@ -28,20 +28,9 @@ use Rattle.dcsctp_cause.specs.Cause.{CauseTree, MissingMandatoryParameter, Unrec
 use Rattle.dcsctp_cause.specs.UnrecognizedChunk as chunk
 use Rattle.dcsctp_cause.specs.UserInitiatedAbort as abort
 use Rattle.dcsctp_cause.specs.ProtocolViolation as violation
-use Rattle.dcsctp_cause.proofs.CauseKinds.{missing_laws, missing_keeps, chunk_laws, chunk_keeps, no_user_data_laws, no_user_data_keeps, cookie_received_laws, cookie_received_keeps, abort_laws, abort_kept, violation_laws, violation_kept}
+use Rattle.dcsctp_cause.proofs.CauseKinds.{missing_laws, chunk_laws, no_user_data_laws, cookie_received_laws, abort_laws, violation_laws}
 
 -- ---- what each row has to satisfy
-
--- a text that is kept has the size of its value
-text_account : (read : List ℕ → Result (List ℕ) Fault) (tree : List ℕ → CauseTree) (value : List ℕ)
-    (t : CauseTree) → IsUtf8 value → ((x : List ℕ) → size_of (tlv (tree x)) ≡ 4 + length x)
-    → ((x : List ℕ) → IsUtf8 value → read value ≡ Ok x → x ≡ value)
-    → (plain (λ v. map_ok tree (read v))).means value t
-    → SameSpace (size_of (tlv t)) (4 + length value)
-text_account read tree value t utf8 sized law e =
-    let x = of_map_ok tree (read value) t e in
-    same_size _ _ (ap (λ (u : CauseTree). size_of (tlv u)) x.1.1 ∙ sized x.0
-    ∙ ap (λ (v : List ℕ). 4 + length v) (law x.0 utf8 x.1.0))
 
 -- the laws of a row, where a text is kept
 abbrev Owes : ℕ → Row CauseTree → Type 0
@@ -49,17 +38,13 @@ Owes = RowLaws tlv IsWellFormed (λ code value. HoldsText code → IsUtf8 value)
 
 rows : (code : ℕ) → Owes code (row code)
 rows code = of_table Owes table code _ (
-    sized missing_laws MissingMandatoryParameter (λ x h. h) missing_keeps (λ x. refl) &
-    sized chunk_laws UnrecognizedChunk (λ x h. h) chunk_keeps (λ x. refl) &
-    sized no_user_data_laws NoUserData (λ x h. h) no_user_data_keeps (λ x. refl) &
-    sized cookie_received_laws (λ _. CookieReceivedWhileShuttingDown) (λ x h. h)
-    cookie_received_keeps (λ x. refl) &
-    kind abort_laws UserInitiatedAbort (λ x h. h)
-    (λ value t kept. text_account abort.read UserInitiatedAbort value t (kept (inl refl))
-    (λ x. refl) (abort_kept value)) &
-    kind violation_laws ProtocolViolation (λ x h. h)
-    (λ value t kept. text_account violation.read ProtocolViolation value t (kept (inr refl))
-    (λ x. refl) (violation_kept value)) & tt)
+    kind missing_laws MissingMandatoryParameter (λ x h. h) (λ x. refl) &
+    kind chunk_laws UnrecognizedChunk (λ x h. h) (λ x. refl) &
+    kind no_user_data_laws NoUserData (λ x h. h) (λ x. refl) &
+    kind cookie_received_laws (λ _. CookieReceivedWhileShuttingDown) (λ x h. h) (λ x. refl) &
+    kind_if abort_laws UserInitiatedAbort (λ x h. h) (λ x. refl) (λ value kept. kept (inl refl)) &
+    kind_if violation_laws ProtocolViolation (λ x h. h) (λ x. refl) (λ value kept. kept (inr refl))
+    & tt)
     (λ unnamed. unknown_row Unknown (λ u. refl) (λ value. unnamed))
 
 pub row_lawful : (code : ℕ) → LawfulRow (row code)
