@@ -7,8 +7,8 @@ use Rattle.std.proofs.lemmas.Bool.{true≢false, false≢true}
 use Rattle.std.proofs.lemmas.Nat.{from_be_bytes-to_be_bytes_2, from_be_bytes-to_be_bytes_4}
 use Rattle.dcsctp_tlv.specs.Number.{number32, numbers}
 use Rattle.dcsctp_tlv.proofs.FieldLaws.{FieldLaw, fields_each}
-use Rattle.dcsctp_tlv.proofs.FormatLaws.{FormatLaws, Keeps}
-use Rattle.dcsctp_tlv.proofs.Layouts.{FieldsAfter, fields_laws, fields_keep}
+use Rattle.dcsctp_tlv.proofs.FormatLaws.{FormatLaws}
+use Rattle.dcsctp_tlv.proofs.Layouts.{FieldsAfter, fields_laws}
 use Rattle.dcsctp_chunk.specs.SkippedStreams.{SkippedStreamTree, BySsn, ByMid, is_by_mid, AreByMid, IsSkippedStreamInWidth, Tree, format_of}
 use Rattle.dcsctp_chunk.specs.ForwardTsn as by_ssn
 use Rattle.dcsctp_chunk.specs.IForwardTsn as by_mid
@@ -90,10 +90,6 @@ pub forward_tsn_laws : FormatLaws by_ssn.read by_ssn.format
 unfolding by_ssn.read
 forward_tsn_laws = fields_laws 4 4 by_ssn.stream_at with _ _ _ ssn_fields
 
-pub forward_tsn_keeps_size : Keeps by_ssn.read by_ssn.format
-unfolding by_ssn.read
-forward_tsn_keeps_size = fields_keep 4 4 by_ssn.stream_at with _ _ _ ssn_fields
-
 mid_fields : FieldsAfter 4 8 by_mid.stream_at with by_mid.format by_mid.stream_bytes
     (IsPlaced true)
 mid_fields =
@@ -103,7 +99,3 @@ mid_fields =
 pub iforward_tsn_laws : FormatLaws by_mid.read by_mid.format
 unfolding by_mid.read
 iforward_tsn_laws = fields_laws 4 8 by_mid.stream_at with _ _ _ mid_fields
-
-pub iforward_tsn_keeps_size : Keeps by_mid.read by_mid.format
-unfolding by_mid.read
-iforward_tsn_keeps_size = fields_keep 4 8 by_mid.stream_at with _ _ _ mid_fields

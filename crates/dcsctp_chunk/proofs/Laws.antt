@@ -7,9 +7,9 @@ use Rattle.std.proofs.lemmas.List.{length-drop, nil_from_length}
 use Rattle.std.proofs.lemmas.Nat.{from_be_bytes-to_be_bytes_2, from_be_bytes-to_be_bytes_4}
 use Rattle.dcsctp_tlv.specs.Fault.{Length}
 use Rattle.dcsctp_tlv.specs.Number.{number32}
-use Rattle.dcsctp_tlv.proofs.FormatLaws.{FormatLaws, Keeps, format_laws, TypedLaws, TypedKeeps, typed_laws}
+use Rattle.dcsctp_tlv.proofs.FormatLaws.{FormatLaws, format_laws, TypedLaws, typed_laws}
 use Rattle.dcsctp_tlv.proofs.KindLaws.{of_ok, not_refused}
-use Rattle.dcsctp_tlv.proofs.Layouts.{sized_laws, sized_keeps, number_laws, number_keeps, empty_laws, empty_keeps}
+use Rattle.dcsctp_tlv.proofs.Layouts.{sized_laws, number_laws, empty_laws}
 use Rattle.dcsctp_tlv.proofs.Unpadded.{if_not_refused}
 use Rattle.dcsctp_chunk.specs.CookieAck as cookie_ack
 use Rattle.dcsctp_chunk.specs.CookieEcho as cookie_echo
@@ -29,36 +29,19 @@ pub shutdown_laws : FormatLaws shutdown.read shutdown.format
 unfolding shutdown.read
 shutdown_laws = number_laws shutdown.format (λ n. refl) (λ n width. width) (λ n. tt)
 
-pub shutdown_keeps_size : Keeps shutdown.read shutdown.format
-unfolding shutdown.read
-shutdown_keeps_size = number_keeps shutdown.format (λ n. refl)
-
 pub shutdown_ack_laws : FormatLaws shutdown_ack.read shutdown_ack.format
 unfolding shutdown_ack.read
 shutdown_ack_laws = empty_laws shutdown_ack.format (λ u. refl) (λ u. tt)
 
-pub shutdown_ack_keeps_size : Keeps shutdown_ack.read shutdown_ack.format
-unfolding shutdown_ack.read
-shutdown_ack_keeps_size = empty_keeps shutdown_ack.format (λ u. refl)
-
 pub cookie_ack_laws : FormatLaws cookie_ack.read cookie_ack.format
 unfolding cookie_ack.read
 cookie_ack_laws = empty_laws cookie_ack.format (λ u. refl) (λ u. tt)
-
-pub cookie_ack_keeps_size : Keeps cookie_ack.read cookie_ack.format
-unfolding cookie_ack.read
-cookie_ack_keeps_size = empty_keeps cookie_ack.format (λ u. refl)
 
 pub shutdown_complete_laws : TypedLaws (λ first. shutdown_complete.read) shutdown_complete.format
 unfolding shutdown_complete.read
 shutdown_complete_laws =
     sized_laws 0 _ shutdown_complete.format (λ reflected. []) (λ reflected. refl)
     (λ reflected. refl) (λ reflected width. one_again reflected) (λ reflected. tt)
-
-pub shutdown_complete_keeps_size
-    : TypedKeeps (λ first. shutdown_complete.read) shutdown_complete.format
-unfolding shutdown_complete.read
-shutdown_complete_keeps_size = sized_keeps 0 _ shutdown_complete.format (λ reflected. refl)
 
 -- ---- any bytes
 
@@ -76,12 +59,8 @@ cookie_echo_laws =
     ap (λ (xs : List ℕ). length xs == 0) (of_ok value cookie p.1 ∙ none) in
     absurd (let e : true ≡ false = sym empty ∙ p.0 in cc)))
     (λ value. if_not_refused (length value == 0) value)
-
-pub cookie_echo_keeps_size : Keeps cookie_echo.read cookie_echo.format
-unfolding cookie_echo.read
-cookie_echo_keeps_size first flags value cookie is =
-    ap (λ (xs : List ℕ). 4 + length xs)
-    (sym (of_ok value cookie (not_refused (length value == 0) (Ok value) Length cookie is).1))
+    (λ value cookie kept is. ap length
+    (sym (of_ok value cookie (not_refused (length value == 0) (Ok value) Length cookie is).1)))
 
 -- which types aren't named is said where the table is
 pub unknown_laws : TypedLaws unknown.read unknown.format
@@ -89,12 +68,8 @@ unfolding unknown.read
 unknown_laws =
     typed_laws unknown.read unknown.format (λ u. u.value) (λ u. refl)
     (λ u width form fits. refl) (λ first flags value u is. tt) (λ first flags value. tt)
-
-pub unknown_keeps_size : TypedKeeps unknown.read unknown.format
-unfolding unknown.read
-unknown_keeps_size first flags value u is =
-    ap (λ (t : unknown.Tree). 4 + length t.value)
-    (sym (of_ok (record { typ = first; flags = flags; value = value }) u is))
+    (λ first flags value u kept is. ap (λ (t : unknown.Tree). length t.value)
+    (sym (of_ok (record { typ = first; flags = flags; value = value }) u is)))
 
 -- ---- DATA
 
@@ -134,14 +109,11 @@ data_laws =
       fsn = ap (λ (t : Tree). t.user_data.fsn) (sym p);
     }))
     (λ first flags value. if_not_refused (nat_lt (length value) 12) _)
-
-pub data_keeps_size : TypedKeeps (λ first. data_chunk.read) data_chunk.format
-unfolding data_chunk.read
-data_keeps_size first flags value c is =
-    let p = not_refused (nat_lt (length value) 12) _ Length c is in
-    let payload : length (drop 12 value) ≡ length c.user_data.payload =
-    ap (λ (t : Tree). length t.user_data.payload) (of_ok _ c p.1) in
-    omega (arith, ltb-false _ _ p.0, length-drop 12 value, payload)
+    (λ first flags value c kept is.
+        let p = not_refused (nat_lt (length value) 12) _ Length c is in
+        let payload : length (drop 12 value) ≡ length c.user_data.payload =
+        ap (λ (t : Tree). length t.user_data.payload) (of_ok _ c p.1) in
+        omega (arith, ltb-false _ _ p.0, length-drop 12 value, payload))
 
 -- what isn't carried is neither written nor read
 pub data_kept_tlv : (c : Tree)
@@ -235,14 +207,11 @@ idata_laws =
     subst idata_chunk.IsWellFormed p
     (record { ssn = refl; fsn_or_ppid = other_number (is_set flags 1) number number })))
     (λ first flags value. if_not_refused (nat_lt (length value) 16) _)
-
-pub idata_keeps_size : TypedKeeps (λ first. idata_chunk.read) idata_chunk.format
-unfolding idata_chunk.read
-idata_keeps_size first flags value c is =
-    let p = not_refused (nat_lt (length value) 16) _ Length c is in
-    let payload : length (drop 16 value) ≡ length c.user_data.payload =
-    ap (λ (t : Tree). length t.user_data.payload) (of_ok _ c p.1) in
-    omega (arith, ltb-false _ _ p.0, length-drop 16 value, payload)
+    (λ first flags value c kept is.
+        let p = not_refused (nat_lt (length value) 16) _ Length c is in
+        let payload : length (drop 16 value) ≡ length c.user_data.payload =
+        ap (λ (t : Tree). length t.user_data.payload) (of_ok _ c p.1) in
+        omega (arith, ltb-false _ _ p.0, length-drop 16 value, payload))
 
 -- what isn't carried is neither written nor read
 pub idata_kept_tlv : (c : Tree)

@@ -1,5 +1,5 @@
 -- SACK: what is written is read again, and what was read keeps its size.
-use Rattle.std.proofs.Common.{◌≡◌, ◌+◌, ◌*◌, length, drop, refl, sym, ap, ◌∙◌, arith, Ok}
+use Rattle.std.proofs.Common.{◌≡◌, ℕ, List, ◌+◌, ◌*◌, length, drop, refl, sym, ap, ◌∙◌, arith, Ok}
 use Rattle.std.specs.Prelude.{◌==◌}
 use Rattle.std.specs.Int.{w32}
 use Rattle.std.specs.List.{flat_map}
@@ -12,7 +12,7 @@ use Rattle.dcsctp_tlv.specs.Image.{IsEncodable}
 use Rattle.dcsctp_tlv.specs.Length.{length-each}
 use Rattle.dcsctp_tlv.specs.Number.{number32, numbers}
 use Rattle.dcsctp_tlv.proofs.FieldLaws.{FieldLaw, length-fields, fields_back, numbers32_back}
-use Rattle.dcsctp_tlv.proofs.FormatLaws.{FormatLaws, Keeps, format_laws}
+use Rattle.dcsctp_tlv.proofs.FormatLaws.{FormatLaws, format_laws}
 use Rattle.dcsctp_tlv.proofs.KindLaws.{of_ok, passed}
 use Rattle.dcsctp_tlv.proofs.Unpadded.{if_passed}
 use Rattle.dcsctp_chunk.specs.Sack as sack
@@ -58,16 +58,10 @@ back s width fits =
       duplicates_are,
     ) refl
 
-pub sack_laws : FormatLaws sack.read sack.format
+as_long : (value : List ℕ) (s : Tree) → sack.read value ≡ Ok s
+    → length (sack.bytes s) ≡ length value
 unfolding sack.read
-sack_laws =
-    format_laws sack.read sack.format sack.bytes (λ s. refl)
-    (λ s width formed fits. back s width fits) (λ value s is. tt)
-    (λ value. if_passed (length value == 12 + 4 * block_count value + 4 * duplicate_count value) _)
-
-pub sack_keeps_size : Keeps sack.read sack.format
-unfolding sack.read
-sack_keeps_size first flags value s is =
+as_long value s is =
     let n = block_count value in
     let m = duplicate_count value in
     let whole = passed (length value == 12 + 4 * n + 4 * m) _ Length s is in
@@ -77,4 +71,13 @@ sack_keeps_size first flags value s is =
     let duplicates : length s.duplicates ≡ m =
     ap (λ (t : Tree). length t.duplicates) (sym e)
     ∙ length-fields number32 4 m (drop (12 + 4 * n) value) in
-    omega (arith, blocks, duplicates, eqb-true (length value) (12 + 4 * n + 4 * m) whole.0)
+    let size = eqb-true (length value) (12 + 4 * n + 4 * m) whole.0 in
+    omega (arith, length-lists s, blocks, duplicates, size)
+
+pub sack_laws : FormatLaws sack.read sack.format
+unfolding sack.read
+sack_laws =
+    format_laws sack.read sack.format sack.bytes (λ s. refl)
+    (λ s width formed fits. back s width fits) (λ value s is. tt)
+    (λ value. if_passed (length value == 12 + 4 * block_count value + 4 * duplicate_count value) _)
+    (λ value s kept is. as_long value s is)
