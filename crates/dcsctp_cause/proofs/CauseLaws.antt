@@ -12,13 +12,13 @@ use Rattle.dcsctp_tlv.specs.Table.{◌&◌}
 use Rattle.dcsctp_tlv.proofs.Lengths.{length-format}
 use Rattle.dcsctp_tlv.specs.UnknownParameter as unknown
 use Rattle.dcsctp_tlv.proofs.Laws.{LawfulRow, Lawful}
-use Rattle.dcsctp_tlv.proofs.FormatLaws.{IsGood, good_list}
+use Rattle.dcsctp_tlv.proofs.FormatLaws.{good_list}
 use Rattle.dcsctp_tlv.proofs.Places.{AtFront}
 use Rattle.dcsctp_tlv.proofs.Lenient.{Loosens}
 use Rattle.dcsctp_tlv.proofs.TableLaws.{RowLaws, kind, kind_if, unknown_row, unknown_means}
 use Rattle.dcsctp_tlv.proofs.Tables.{MeansAny, of_table}
 use Rattle.dcsctp_tlv.proofs.ReadsBack.{ReadsBack}
-use Rattle.dcsctp_tlv.proofs.KindLaws.{of_map_ok}
+use Rattle.dcsctp_tlv.proofs.KindLaws.{IsGood}
 use Rattle.dcsctp_tlv.proofs.Unpadded.{list_unpadded}
 use Rattle.dcsctp_tlv.proofs.Forms.{FormsTrees}
 use Rattle.dcsctp_tlv.proofs.Accounts.{SameSpace, Accounts, same_size}
@@ -80,7 +80,7 @@ any_value code value = of_table (MeansAny checked value) table code _ (
 
 -- a cause that can be written and read again
 abbrev pub IsGoodCause : CauseTree → Type 0
-IsGoodCause t = IsGood format t
+IsGoodCause t = IsGood (format t)
 
 -- the row for the two bytes that a code is written as
 abbrev Means : Tlv → CauseTree → Type 0
@@ -88,18 +88,15 @@ Means tlv t = ((causes lenient).row tlv.first tlv.second).means (zeroed tlv.valu
 
 cause_means : (t : CauseTree) → IsGoodCause t → Means (tlv t) t
 cause_means (MissingMandatoryParameter types) good =
-    ap (map_ok MissingMandatoryParameter) (missing_laws.back types good.width tt good.encodable)
-cause_means (UnrecognizedChunk chunk) good =
-    ap (map_ok UnrecognizedChunk) (chunk_laws.back chunk good.width tt good.encodable)
-cause_means (NoUserData tsn) good =
-    ap (map_ok NoUserData) (no_user_data_laws.back tsn good.width tt good.encodable)
+    ap (map_ok MissingMandatoryParameter) (missing_laws.back types good)
+cause_means (UnrecognizedChunk chunk) good = ap (map_ok UnrecognizedChunk) (chunk_laws.back chunk good)
+cause_means (NoUserData tsn) good = ap (map_ok NoUserData) (no_user_data_laws.back tsn good)
 cause_means CookieReceivedWhileShuttingDown good =
-    ap (map_ok (λ _. CookieReceivedWhileShuttingDown))
-    (cookie_received_laws.back tt tt tt good.encodable)
+    ap (map_ok (λ _. CookieReceivedWhileShuttingDown)) (cookie_received_laws.back tt good)
 cause_means (UserInitiatedAbort reason) good =
-    ap (map_ok UserInitiatedAbort) (abort_laws.back reason good.width tt good.encodable)
+    ap (map_ok UserInitiatedAbort) (abort_laws.back reason good)
 cause_means (ProtocolViolation information) good =
-    ap (map_ok ProtocolViolation) (violation_laws.back information good.width tt good.encodable)
+    ap (map_ok ProtocolViolation) (violation_laws.back information good)
 cause_means (Unknown u) good = unknown_means table Unknown u good.formed
 
 -- an image is as long as its size

@@ -6,7 +6,7 @@ use Rattle.dcsctp_tlv.specs.Fault.{Fault}
 use Rattle.dcsctp_tlv.specs.Format.{Format, tlv_by}
 use Rattle.dcsctp_tlv.specs.Image.{solid, size_of, IsEncodable, list_size}
 use Rattle.dcsctp_tlv.specs.Length.{length-solid}
-use Rattle.dcsctp_tlv.proofs.KindLaws.{KindLaws, by_value}
+use Rattle.dcsctp_tlv.proofs.KindLaws.{KindLaws, IsGood, by_value}
 use Rattle.dcsctp_tlv.proofs.ReadsBack.{zeroed-solid, each_encodable}
 use Rattle.dcsctp_tlv.proofs.Unpadded.{NotPadding}
 
@@ -30,7 +30,8 @@ pub typed_laws : {T : Type 0} {IsKept : List ℕ → Type 0} (read : ℕ → ℕ
     → length (bytes t) ≡ length value)
     → KindLaws IsKept read format
 typed_laws read format bytes same back formed unpadded long = record {
-  back = λ t width form fits. rw (same t, zeroed-solid (bytes t)) (back t width form fits);
+  back = λ t good. rw (same t, zeroed-solid (bytes t))
+      (back t good.width good.formed good.encodable);
   formed = formed;
   unpadded = unpadded;
   keeps = λ first second value t kept e.
@@ -59,15 +60,13 @@ format_laws read format bytes same back formed unpadded long =
 
 -- ---- trees that can be written and read again
 
-pub record IsGood {T : Type 0} (format : T → Format) (t : T) : Type 0 where
-  pub width : (format t).IsInWidth
-  pub formed : (format t).IsWellFormed
-  pub encodable : IsEncodable (format t).tlv
+abbrev AreGood : {T : Type 0} → (T → Format) → List T → Type 0
+AreGood format ts = AllByRecursion (λ t. IsGood (format t)) ts
 
 pub all_good : {T : Type 0} (format : T → Format) (ts : List T)
     → AllByRecursion (λ t. (format t).IsInWidth) ts
     → AllByRecursion (λ t. (format t).IsWellFormed) ts
-    → AllByRecursion (λ t. IsEncodable (format t).tlv) ts → AllByRecursion (IsGood format) ts
+    → AllByRecursion (λ t. IsEncodable (format t).tlv) ts → AreGood format ts
 all_good format [] w f e = tt
 all_good format (t ∷ ts) w f e =
     (record { width = w.0; formed = f.0; encodable = e.0 }, all_good format ts w.1 f.1 e.1)
@@ -76,6 +75,6 @@ all_good format (t ∷ ts) w f e =
 pub good_list : {T : Type 0} (format : T → Format) (ts : List T)
     → AllByRecursion (λ t. (format t).IsInWidth) ts
     → AllByRecursion (λ t. (format t).IsWellFormed) ts
-    → list_size (tlv_by format) ts < 2 ^ 16 → AllByRecursion (IsGood format) ts
+    → list_size (tlv_by format) ts < 2 ^ 16 → AreGood format ts
 good_list format ts width formed fits =
     all_good format ts width formed (each_encodable (tlv_by format) ts fits)

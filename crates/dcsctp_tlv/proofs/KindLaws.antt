@@ -6,11 +6,17 @@ use Rattle.dcsctp_tlv.specs.Format.{Format}
 use Rattle.dcsctp_tlv.specs.Image.{zeroed, size_of, IsEncodable}
 use Rattle.dcsctp_tlv.proofs.Unpadded.{NotPadding}
 
+-- a tree that can be written and read again, by its format
+pub record IsGood (format : Format) : Type 0 where
+  pub width : format.IsInWidth
+  pub formed : format.IsWellFormed
+  pub encodable : IsEncodable format.tlv
+
 -- A value as it is read, after the item's first two bytes; and what its format says of its tree.
 pub record KindLaws {T : Type 0} (IsKept : List ℕ → Type 0)
     (read : ℕ → ℕ → List ℕ → Result T Fault) (format : T → Format) : Type 0 where
   -- what is written is read again
-  pub back : (t : T) → (format t).IsInWidth → (format t).IsWellFormed → IsEncodable (format t).tlv
+  pub back : (t : T) → IsGood (format t)
       → read (format t).tlv.first (format t).tlv.second (zeroed (format t).tlv.value) ≡ Ok t
   -- what is read is well-formed
   pub formed : (first second : ℕ) (value : List ℕ) (t : T) → read first second value ≡ Ok t

@@ -21,7 +21,8 @@ use Rattle.dcsctp_tlv.specs.ReconfigurationResponse.{next_tsns, kept_tsn}
 use Rattle.dcsctp_tlv.specs.UnknownParameter as unknown
 use Rattle.dcsctp_tlv.specs.Parameter.{ParameterTree, HeartbeatInfo, StateCookie, OutgoingSsnResetRequest, IncomingSsnResetRequest, SsnTsnResetRequest, ReconfigurationResponse, AddOutgoingStreamsRequest, AddIncomingStreamsRequest, ZeroChecksumAcceptable, SupportedExtensions, ForwardTsnSupported, Unknown, table, row, parameters, format, tlv, IsInWidth, IsWellFormed, kept, all_kept}
 use Rattle.dcsctp_tlv.proofs.Laws.{LawfulRow, Lawful}
-use Rattle.dcsctp_tlv.proofs.FormatLaws.{IsGood, good_list}
+use Rattle.dcsctp_tlv.proofs.FormatLaws.{good_list}
+use Rattle.dcsctp_tlv.proofs.KindLaws.{IsGood}
 use Rattle.dcsctp_tlv.proofs.Places.{AtFront}
 use Rattle.dcsctp_tlv.proofs.Lenient.{Loosens}
 use Rattle.dcsctp_tlv.proofs.Unpadded.{list_unpadded}
@@ -90,7 +91,7 @@ any_value typ value = of_table (MeansAny checked value) table typ _ (
 
 -- a parameter that can be written and read again
 abbrev pub IsGoodParameter : ParameterTree → Type 0
-IsGoodParameter t = IsGood format t
+IsGoodParameter t = IsGood (format t)
 
 -- the row for the two bytes that a type is written as
 abbrev Means : Tlv → ParameterTree → Type 0
@@ -98,30 +99,26 @@ Means tlv t = ((parameters lenient).row tlv.first tlv.second).means (zeroed tlv.
 
 parameter_means : (t : ParameterTree) → IsGoodParameter t → Means (tlv t) t
 unfolding unknown.read
-parameter_means (HeartbeatInfo info) good =
-    ap (map_ok HeartbeatInfo) (info_laws.back info good.width tt good.encodable)
-parameter_means (StateCookie cookie) good =
-    ap (map_ok StateCookie) (cookie_laws.back cookie good.width tt good.encodable)
+parameter_means (HeartbeatInfo info) good = ap (map_ok HeartbeatInfo) (info_laws.back info good)
+parameter_means (StateCookie cookie) good = ap (map_ok StateCookie) (cookie_laws.back cookie good)
 parameter_means (OutgoingSsnResetRequest r) good =
-    ap (map_ok OutgoingSsnResetRequest) (outgoing_laws.back r good.width tt good.encodable)
+    ap (map_ok OutgoingSsnResetRequest) (outgoing_laws.back r good)
 parameter_means (IncomingSsnResetRequest r) good =
-    ap (map_ok IncomingSsnResetRequest) (incoming_laws.back r good.width tt good.encodable)
+    ap (map_ok IncomingSsnResetRequest) (incoming_laws.back r good)
 parameter_means (SsnTsnResetRequest request) good =
-    ap (map_ok SsnTsnResetRequest) (ssn_tsn_laws.back request good.width tt good.encodable)
+    ap (map_ok SsnTsnResetRequest) (ssn_tsn_laws.back request good)
 parameter_means (ReconfigurationResponse r) good =
-    ap (map_ok ReconfigurationResponse) (response_laws.back r good.width good.formed good.encodable)
+    ap (map_ok ReconfigurationResponse) (response_laws.back r good)
 parameter_means (AddOutgoingStreamsRequest r) good =
-    ap (map_ok AddOutgoingStreamsRequest)
-    ((add_streams_laws 17 add_outgoing.name).back r good.width tt good.encodable)
+    ap (map_ok AddOutgoingStreamsRequest) ((add_streams_laws 17 add_outgoing.name).back r good)
 parameter_means (AddIncomingStreamsRequest r) good =
-    ap (map_ok AddIncomingStreamsRequest)
-    ((add_streams_laws 18 add_incoming.name).back r good.width tt good.encodable)
+    ap (map_ok AddIncomingStreamsRequest) ((add_streams_laws 18 add_incoming.name).back r good)
 parameter_means (ZeroChecksumAcceptable method) good =
-    ap (map_ok ZeroChecksumAcceptable) (zero_checksum_laws.back method good.width tt good.encodable)
+    ap (map_ok ZeroChecksumAcceptable) (zero_checksum_laws.back method good)
 parameter_means (SupportedExtensions types) good =
-    ap (map_ok SupportedExtensions) (extensions_laws.back types good.width tt good.encodable)
+    ap (map_ok SupportedExtensions) (extensions_laws.back types good)
 parameter_means ForwardTsnSupported good =
-    ap (map_ok (λ _. ForwardTsnSupported)) (forward_tsn_laws.back tt tt tt good.encodable)
+    ap (map_ok (λ _. ForwardTsnSupported)) (forward_tsn_laws.back tt good)
 parameter_means (Unknown u) good = unknown_means table Unknown u good.formed
 
 -- an image is as long as its size
