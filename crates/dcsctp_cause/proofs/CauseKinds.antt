@@ -45,11 +45,11 @@ missing_laws =
     (λ types width form fits. missing_back types width fits) (λ value types e. tt)
     (λ value. if_passed (length value == 4 + 2 * number32 value) _)
     (λ value types kept e.
-        let whole = passed (length value == 4 + 2 * number32 value) _ Length types e in
-        let count : length types ≡ number32 value = ap length (sym (of_ok _ types whole.1))
-        ∙ length-fields number16 2 (number32 value) (drop 4 value) in
-        let size = eqb-true (length value) (4 + 2 * number32 value) whole.0 in
-        omega (arith, length-bytes_of_types types, count, size))
+    let whole = passed (length value == 4 + 2 * number32 value) _ Length types e in
+    let count : length types ≡ number32 value = ap length (sym (of_ok _ types whole.1))
+    ∙ length-fields number16 2 (number32 value) (drop 4 value) in
+    let size = eqb-true (length value) (4 + 2 * number32 value) whole.0 in
+    omega (arith, length-bytes_of_types types, count, size))
 
 -- ---- any bytes
 

@@ -69,38 +69,41 @@ macro_rules! each_kind {
     };
 }
 
-/// What a value of the code means is built, and something is done with it.
+/// For each of some codes an arm that builds a cause and does something with it; the other codes have
+/// the arms that follow.
+macro_rules! arms {
+    (
+        $code:expr, $cause:ident => $does:expr,
+        { $($kind:ident => $built:expr,)* }, { $($other:tt)* }
+    ) => {
+        match $code {
+            $($kind::CAUSE_CODE => {
+                let $cause = $built;
+                $does
+            })*
+            $($other)*
+        }
+    };
+}
+
+/// These arms for every code, with what the value means.
 macro_rules! built {
     ($code:expr, $alloc:expr, $value:expr, $cause:ident => $does:expr) => {
-        match $code {
-            missing_mandatory_parameter_error_cause::CAUSE_CODE => {
-                let $cause = ErrorCause::MissingMandatoryParameter(
-                    MissingMandatoryParameterErrorCause::build($alloc, $value)?,
-                );
-                $does
-            }
-            no_user_data_error_cause::CAUSE_CODE => {
-                let $cause = ErrorCause::NoUserData(NoUserDataErrorCause::build($value));
-                $does
-            }
-            cookie_received_while_shutting_down::CAUSE_CODE => {
-                let $cause = ErrorCause::CookieReceivedWhileShuttingDown(
-                    CookieReceivedWhileShuttingDownErrorCause {},
-                );
-                $does
-            }
-            user_initiated_abort_error_cause::CAUSE_CODE => {
-                let $cause = ErrorCause::UserInitiatedAbort(UserInitiatedAbortErrorCause::build(
-                    $alloc, $value,
-                )?);
-                $does
-            }
-            protocol_violation_error_cause::CAUSE_CODE => {
-                let $cause = ErrorCause::ProtocolViolation(ProtocolViolationErrorCause::build(
-                    $alloc, $value,
-                )?);
-                $does
-            }
+        arms!($code, $cause => $does, {
+            missing_mandatory_parameter_error_cause => ErrorCause::MissingMandatoryParameter(
+                MissingMandatoryParameterErrorCause::build($alloc, $value)?,
+            ),
+            no_user_data_error_cause => ErrorCause::NoUserData(NoUserDataErrorCause::build($value)),
+            cookie_received_while_shutting_down => ErrorCause::CookieReceivedWhileShuttingDown(
+                CookieReceivedWhileShuttingDownErrorCause {},
+            ),
+            user_initiated_abort_error_cause => ErrorCause::UserInitiatedAbort(
+                UserInitiatedAbortErrorCause::build($alloc, $value)?,
+            ),
+            protocol_violation_error_cause => ErrorCause::ProtocolViolation(
+                ProtocolViolationErrorCause::build($alloc, $value)?,
+            ),
+        }, {
             typ => {
                 // one copy for both kinds that keep their value, so that an item costs one result
                 let bytes = copied($alloc, $value)?;
@@ -113,7 +116,7 @@ macro_rules! built {
                     $does
                 }
             }
-        }
+        })
     };
 }
 

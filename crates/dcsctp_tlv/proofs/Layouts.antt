@@ -51,8 +51,8 @@ sized_laws {T} size meaning format bytes same long again formed =
     (λ first second value t e. formed t)
     (λ first second value. if_passed (length value == size) (meaning first second value))
     (λ first second value t kept e.
-        let whole = passed (length value == size) (Ok (meaning first second value)) Length t e in
-        long t ∙ sym (eqb-true (length value) size whole.0))
+    let whole = passed (length value == size) (Ok (meaning first second value)) Length t e in
+    long t ∙ sym (eqb-true (length value) size whole.0))
 
 -- a number of four bytes
 abbrev read_number : ℕ → ℕ → List ℕ → Result ℕ Fault

@@ -122,85 +122,73 @@ macro_rules! each_kind {
     };
 }
 
-/// What a value of the type means is built, and something is done with it.
+/// For each of some types an arm that builds a parameter and does something with it; the other types
+/// have the arms that follow.
+macro_rules! arms {
+    (
+        $typ:expr, $parameter:ident => $does:expr,
+        { $($kind:ident => $built:expr,)* }, { $($other:tt)* }
+    ) => {
+        match $typ {
+            $($kind::PARAMETER_TYPE => {
+                let $parameter = $built;
+                $does
+            })*
+            $($other)*
+        }
+    };
+}
+
+/// These arms for every type, with what the value means.
 macro_rules! built {
     ($typ:expr, $alloc:expr, $value:expr, $parameter:ident => $does:expr) => {
-        match $typ {
-            outgoing_ssn_reset_request_parameter::PARAMETER_TYPE => {
-                let $parameter = Parameter::OutgoingSsnResetRequest(
-                    OutgoingSsnResetRequestParameter::build($alloc, $value)?,
-                );
-                $does
-            }
-            incoming_ssn_reset_request_parameter::PARAMETER_TYPE => {
-                let $parameter = Parameter::IncomingSsnResetRequest(
-                    IncomingSsnResetRequestParameter::build($alloc, $value)?,
-                );
-                $does
-            }
-            ssn_tsn_reset_request_parameter::PARAMETER_TYPE => {
-                let $parameter = Parameter::SsnTsnResetRequest(
-                    SsnTsnResetRequestParameter::build($value),
-                );
-                $does
-            }
-            reconfiguration_response_parameter::PARAMETER_TYPE => {
-                let $parameter = Parameter::ReconfigurationResponse(
-                    ReconfigurationResponseParameter::build($value),
-                );
-                $does
-            }
-            add_outgoing_streams_request_parameter::PARAMETER_TYPE => {
-                let $parameter = Parameter::AddOutgoingStreamsRequest(
-                    AddOutgoingStreamsRequestParameter::build($value),
-                );
-                $does
-            }
-            add_incoming_streams_request_parameter::PARAMETER_TYPE => {
-                let $parameter = Parameter::AddIncomingStreamsRequest(
-                    AddIncomingStreamsRequestParameter::build($value),
-                );
-                $does
-            }
-            zero_checksum_acceptable_parameter::PARAMETER_TYPE => {
-                let $parameter = Parameter::ZeroChecksumAcceptable(
-                    ZeroChecksumAcceptableParameter::build($value),
-                );
-                $does
-            }
-            forward_tsn_supported_parameter::PARAMETER_TYPE => {
-                let $parameter = Parameter::ForwardTsnSupported(ForwardTsnSupportedParameter);
-                $does
-            }
+        arms!($typ, $parameter => $does, {
+            outgoing_ssn_reset_request_parameter => Parameter::OutgoingSsnResetRequest(
+                OutgoingSsnResetRequestParameter::build($alloc, $value)?,
+            ),
+            incoming_ssn_reset_request_parameter => Parameter::IncomingSsnResetRequest(
+                IncomingSsnResetRequestParameter::build($alloc, $value)?,
+            ),
+            ssn_tsn_reset_request_parameter => Parameter::SsnTsnResetRequest(
+                SsnTsnResetRequestParameter::build($value),
+            ),
+            reconfiguration_response_parameter => Parameter::ReconfigurationResponse(
+                ReconfigurationResponseParameter::build($value),
+            ),
+            add_outgoing_streams_request_parameter => Parameter::AddOutgoingStreamsRequest(
+                AddOutgoingStreamsRequestParameter::build($value),
+            ),
+            add_incoming_streams_request_parameter => Parameter::AddIncomingStreamsRequest(
+                AddIncomingStreamsRequestParameter::build($value),
+            ),
+            zero_checksum_acceptable_parameter => Parameter::ZeroChecksumAcceptable(
+                ZeroChecksumAcceptableParameter::build($value),
+            ),
+            forward_tsn_supported_parameter => Parameter::ForwardTsnSupported(
+                ForwardTsnSupportedParameter,
+            ),
+        }, {
             typ => {
                 // one copy for all kinds that keep their value, so that each item costs one result
                 let bytes = copied($alloc, $value)?;
-                match typ {
-                    heartbeat_info_parameter::PARAMETER_TYPE => {
-                        let $parameter = Parameter::HeartbeatInfo(
-                            HeartbeatInfoParameter { info: bytes },
-                        );
-                        $does
-                    }
-                    state_cookie_parameter::PARAMETER_TYPE => {
-                        let $parameter = Parameter::StateCookie(
-                            StateCookieParameter { cookie: bytes },
-                        );
-                        $does
-                    }
-                    supported_extensions_parameter::PARAMETER_TYPE => {
-                        let $parameter = Parameter::SupportedExtensions(
-                            SupportedExtensionsParameter { chunk_types: bytes },
-                        );
-                        $does
-                    }
+                arms!(typ, $parameter => $does, {
+                    heartbeat_info_parameter => Parameter::HeartbeatInfo(
+                        HeartbeatInfoParameter { info: bytes },
+                    ),
+                    state_cookie_parameter => Parameter::StateCookie(
+                        StateCookieParameter { cookie: bytes },
+                    ),
+                    supported_extensions_parameter => Parameter::SupportedExtensions(
+                        SupportedExtensionsParameter { chunk_types: bytes },
+                    ),
+                }, {
                     _ => {
                         let $parameter = Parameter::Unknown(UnknownParameter { typ, value: bytes });
                         $does
                     }
-                }
+                })
             }
-        }
+        })
     };
 }
 
