@@ -1,13 +1,24 @@
 -- Blocks that lie apart are the runs of what they cover, and the only ones.
-use Rattle.std.proofs.Common.{◌≡◌, ◌↔◌, inl, inr, ℕ, zero, suc, ◌+◌, ◌<◌, ◌≤◌, [], ◌∷◌, ◌++◌, length, get_or, take, drop, refl, sym, ap, subst, arith}
+use Rattle.std.proofs.Common.{◌≡◌, ◌↔◌, ◌⊎◌, inl, inr, ℕ, zero, suc, ◌+◌, ◌-◌, ◌<◌, ◌≤◌, [], ◌∷◌, ◌++◌, length, get_or, take, drop, refl, sym, ap, subst, arith}
 use Rattle.std.specs.List.{Contains}
 use Rattle.std.proofs.lemmas.Bool.{cases_lt}
-use Rattle.std.proofs.lemmas.List.{take-append-drop}
+use Rattle.std.proofs.lemmas.Grind.{common_steps}
 use Rattle.std.proofs.lemmas.List.Elements.{Contains-get_or}
 use Rattle.dcsctp_chunk.specs.declared.sack_chunk.GapAckBlock.{GapAckBlock}
 use Rattle.dcsctp_chunk.specs.Cover.{Covers, SameCover, IsInside, IsRun, IsRuns, HasBlockInEach, StartsPast}
-use Rattle.dcsctp_chunk.specs.Apart.{IsApart}
-use Rattle.dcsctp_chunk.proofs.Covers.{Blocks, contains_head, contains_tail, contains_cases, contains_none, covers_head, covers_tail, covers_cases}
+use Rattle.dcsctp_chunk.specs.Apart.{IsApart, after}
+use Rattle.dcsctp_chunk.proofs.Covers.{Blocks}
+
+contains_at : (x y : GapAckBlock) (xs : Blocks) (k : ℕ) → k < length (x ∷ xs)
+    → get_or (x ∷ xs) k y ≡ y → (x ≡ y) ⊎ Contains xs y
+contains_at x y xs zero l e = inl e
+contains_at x y xs (suc k) l e = inr (k, omega arith, e)
+
+contains_cases : (x y : GapAckBlock) (xs : Blocks) → Contains (x ∷ xs) y → (x ≡ y) ⊎ Contains xs y
+contains_cases x y xs h = contains_at x y xs h.0 h.1 h.2
+
+contains_none : (y : GapAckBlock) → Contains [] y → ⊥
+contains_none y h = omega (arith, h.1)
 
 pub block_ext : (r s : GapAckBlock) → r.start ≡ s.start → r.end ≡ s.end → r ≡ s
 block_ext r s p q = grind arith
@@ -16,73 +27,64 @@ pub apart_weaker : (m n : ℕ) (bs : Blocks) → m ≤ n → IsApart n bs → Is
 apart_weaker m n [] l h = tt
 apart_weaker m n (b ∷ bs) l h = let k = h.0 in (omega arith, h.1, h.2)
 
--- each of them starts at n or later, and does not end before its start
-pub apart_low : (n : ℕ) (bs : Blocks) (r : GapAckBlock) → IsApart n bs → Contains bs r
+-- each starts at least 2 past the end of those before it, and does not end before its start
+pub apart_at : (n i j : ℕ) (xs : Blocks) (d : GapAckBlock) → IsApart n xs → i ≤ j → j < length xs
+    → (after n (take i xs) ≤ (get_or xs j d).start)
+    × ((get_or xs j d).start ≤ (get_or xs j d).end)
+apart_at n i j [] d a l m = absurd (omega arith)
+apart_at n zero zero (x ∷ xs) d a l m = (a.0, a.1)
+apart_at n zero (suc j) (x ∷ xs) d a l m =
+    let low = a.0 in
+    let some = a.1 in
+    let t = apart_at (x.end + 2) zero j xs d a.2 (omega arith) (omega arith) in
+    let past = t.0 in
+    (omega arith, t.1)
+apart_at n (suc i) zero (x ∷ xs) d a l m = absurd (omega arith)
+apart_at n (suc i) (suc j) (x ∷ xs) d a l m =
+    apart_at (x.end + 2) i j xs d a.2 (omega arith) (omega arith)
+
+-- after the first k comes what starts 2 past the end of the last of them
+pub after_last : (n k : ℕ) (xs : Blocks) (d : GapAckBlock) → k < length xs
+    → after n (take (suc k) xs) ≡ (get_or xs k d).end + 2
+after_last n k [] d l = absurd (omega arith)
+after_last n zero (x ∷ xs) d l = refl
+after_last n (suc k) (x ∷ xs) d l = after_last (x.end + 2) k xs d (omega arith)
+
+apart_far : (n i j : ℕ) (xs : Blocks) (d : GapAckBlock) → IsApart n xs → i < j → j < length xs
+    → (get_or xs i d).end + 2 ≤ (get_or xs j d).start
+apart_far n i j xs d a l m =
+    rw (← after_last n i xs d (omega arith)) (apart_at n (suc i) j xs d a (omega arith) m).0
+
+apart_low : (n : ℕ) (xs : Blocks) (r : GapAckBlock) → IsApart n xs → Contains xs r
     → (n ≤ r.start) × (r.start ≤ r.end)
-apart_low n [] r h t = absurd (contains_none r t)
-apart_low n (b ∷ bs) r h t =
-    let g = apart_low (b.end + 2) bs r h.2 in let e = contains_cases b r bs t in grind (arith, e, g)
-
--- each starts at least 2 past the end of each one before it
-apart_far : (n : ℕ) (bs : Blocks) → IsApart n bs → (i j : ℕ) (d : GapAckBlock) → i < j
-    → j < length bs → (get_or bs i d).end + 2 ≤ (get_or bs j d).start
-apart_far n [] a i j d l m = absurd (omega arith)
-apart_far n (b ∷ bs) a i zero d l m = absurd (omega arith)
-apart_far n (b ∷ bs) a zero (suc j) d l m =
-    let k : j < length bs = omega arith in
-    (apart_low (b.end + 2) bs (get_or bs j d) a.2 (Contains-get_or bs j d k)).0
-apart_far n (b ∷ bs) a (suc i) (suc j) d l m =
-    apart_far (b.end + 2) bs a.2 i j d (omega arith) (omega arith)
-
-apart_some : (n : ℕ) (bs : Blocks) → IsApart n bs → (i : ℕ) (d : GapAckBlock) → i < length bs
-    → (get_or bs i d).start ≤ (get_or bs i d).end
-apart_some n bs a i d l = (apart_low n bs (get_or bs i d) a (Contains-get_or bs i d l)).1
+apart_low n xs r a t = grind (arith, apart_at n 0 t.0 xs r a, t.2)
 
 apart_rising : (n : ℕ) (bs : Blocks) → IsApart n bs → (i j : ℕ) (d : GapAckBlock) → i < j
     → j < length bs → (get_or bs i d).start < (get_or bs j d).start
 apart_rising n bs a i j d l m =
-    omega (arith, apart_far n bs a i j d l m, apart_some n bs a i d (omega arith))
+    omega (arith, apart_far n i j bs d a l m, (apart_at n i i bs d a (omega arith) (omega arith)).1)
 
 -- starts rise, and so do ends
 pub apart_order : (n : ℕ) (bs : Blocks) → IsApart n bs → (i j : ℕ) (d : GapAckBlock) → i ≤ j
     → j < length bs
     → ((get_or bs i d).start ≤ (get_or bs j d).start) × ((get_or bs i d).end ≤ (get_or bs j d).end)
 apart_order n bs a i j d l m =
-    grind (arith, apart_far n bs a i j d, apart_some n bs a i d, apart_some n bs a j d)
+    grind (arith, apart_far n i j bs d a, apart_at n i i bs d a, apart_at n j j bs d a)
 
--- runs one list after the other: what comes later starts at least 2 past each offset before
-pub record Split (n : ℕ) (xs ys : Blocks) : Type 0 where
-  pub left : IsApart n xs
-  pub right : IsApart n ys
-  pub past : (o : ℕ) → Covers xs o → IsApart (o + 2) ys
+pub apart_parts : (n : ℕ) (xs ys : Blocks) → IsApart n (xs ++ ys)
+    → IsApart n xs × IsApart (after n xs) ys
+apart_parts n [] ys a = (tt, a)
+apart_parts n (x ∷ xs) ys a =
+    let t = apart_parts (x.end + 2) xs ys a.2 in ((a.0, a.1, t.0), t.1)
 
-pub split : (n : ℕ) (xs ys : Blocks) → IsApart n (xs ++ ys) → Split n xs ys
-split n [] ys a =
-    record { left = tt; right = a; past = (λ o c. absurd (contains_none c.0 c.1)) }
-split n (x ∷ xs) ys a =
-    let a0 = a.0 in
-    let a1 = a.1 in
-    let t = split (x.end + 2) xs ys a.2 in
-    record {
-      left = (a0, a1, t.left);
-      right = apart_weaker n (x.end + 2) ys (omega arith) t.right;
-      past = (λ o c. elim (covers_cases x xs o c) [
-        | inl w ↦ let w1 = w.1 in apart_weaker (o + 2) (x.end + 2) ys (omega arith) t.right
-        | inr u ↦ t.past o u
-      ]);
-    }
+pub apart_append : (n : ℕ) (xs ys : Blocks) → IsApart n xs → IsApart (after n xs) ys
+    → IsApart n (xs ++ ys)
+apart_append n [] ys a b = b
+apart_append n (x ∷ xs) ys a b = (a.0, a.1, apart_append (x.end + 2) xs ys a.2 b)
 
-pub apart_append : (n : ℕ) (xs ys : Blocks) → IsApart n xs → IsApart n ys
-    → ((o : ℕ) → Covers xs o → IsApart (o + 2) ys) → IsApart n (xs ++ ys)
-apart_append n [] ys a b f = b
-apart_append n (x ∷ xs) ys a b f =
-    let a1 = a.1 in
-    let next = f x.end (covers_head x xs x.end (a1, omega arith)) in
-    (a.0, a1, apart_append (x.end + 2) xs ys a.2 next (λ o c. f o (covers_tail x xs o c)))
-
-pub apart_take : (n k : ℕ) (bs : Blocks) → IsApart n bs → IsApart n (take k bs)
-apart_take n k bs a =
-    (split n (take k bs) (drop k bs) (rw (take-append-drop k bs) a)).left
+pub after_append : (n : ℕ) (xs ys : Blocks) → after n (xs ++ ys) ≡ after (after n xs) ys
+after_append n [] ys = refl
+after_append n (x ∷ xs) ys = after_append (x.end + 2) xs ys
 
 -- two of them that overlap or touch are one
 apart_near : (n : ℕ) (bs : Blocks) (r s : GapAckBlock) → IsApart n bs → Contains bs r
@@ -183,16 +185,16 @@ tail_within : (r s : GapAckBlock) (rs ss : Blocks) → r ≡ s → IsRising (r �
     → ((x : GapAckBlock) → Contains (r ∷ rs) x → Contains (s ∷ ss) x) → (x : GapAckBlock)
     → Contains rs x → Contains ss x
 tail_within r s rs ss e h f x t =
-    grind (arith, contains_cases s x ss (f x (contains_tail r x rs t)), rising_head r rs x h t)
+    grind (arith, contains_cases s x ss (f x (suc t.0, omega arith, t.2)), rising_head r rs x h t)
 
 same_from_rising : (rs ss : Blocks) → IsRising rs → IsRising ss
     → ((x : GapAckBlock) → Contains rs x → Contains ss x)
     → ((x : GapAckBlock) → Contains ss x → Contains rs x) → rs ≡ ss
 same_from_rising [] [] h k f g = refl
-same_from_rising [] (s ∷ ss) h k f g = absurd (contains_none s (g s (contains_head s ss)))
-same_from_rising (r ∷ rs) [] h k f g = absurd (contains_none r (f r (contains_head r rs)))
+same_from_rising [] (s ∷ ss) h k f g = absurd (contains_none s (g s (0, omega arith, refl)))
+same_from_rising (r ∷ rs) [] h k f g = absurd (contains_none r (f r (0, omega arith, refl)))
 same_from_rising (r ∷ rs) (s ∷ ss) h k f g =
-    let e = same_heads r s rs ss h k (f r (contains_head r rs)) (g s (contains_head s ss)) in
+    let e = same_heads r s rs ss h k (f r (0, omega arith, refl)) (g s (0, omega arith, refl)) in
     let t =
     same_from_rising rs ss (rising_tail r rs h) (rising_tail s ss k)
     (tail_within r s rs ss e h f) (tail_within s r ss rs (sym e) k g) in
@@ -229,3 +231,21 @@ apart_past_one (b ∷ bs) a = let k = a.0 in omega arith
 pub past_one_apart : (n : ℕ) (bs : Blocks) → IsApart n bs → StartsPast 1 bs → IsApart 2 bs
 past_one_apart n [] a h = tt
 past_one_apart n (b ∷ bs) a h = (omega arith, a.1, a.2)
+
+-- from the i-th on, where that starts late enough
+pub apart_drop : (n m i : ℕ) (xs : Blocks) (d : GapAckBlock) → IsApart n xs
+    → (i < length xs → m ≤ (get_or xs i d).start) → IsApart m (drop i xs)
+apart_drop n m zero [] d a l = tt
+apart_drop n m (suc i) [] d a l = tt
+apart_drop n m zero (x ∷ xs) d a l = (l (omega arith), a.1, a.2)
+apart_drop n m (suc i) (x ∷ xs) d a l = apart_drop (x.end + 2) m i xs d a.2 (λ k. l (omega arith))
+
+pub after_until : (n m k : ℕ) (xs : Blocks) (d : GapAckBlock) → n ≤ m → k ≤ length xs
+    → (0 < k → (get_or xs (k - 1) d).end + 2 ≤ m) → after n (take k xs) ≤ m
+after_until n m k xs d l b h = grind (arith, common_steps, after_last n (k - 1) xs d)
+
+pub after_each : (n i : ℕ) (xs : Blocks) (d : GapAckBlock) → IsApart n xs → i < length xs
+    → (get_or xs i d).end + 2 ≤ after n xs
+after_each n i xs d a l =
+    let last = length xs - 1 in
+    grind (arith, common_steps, apart_order n xs a i last d, after_last n last xs d)
