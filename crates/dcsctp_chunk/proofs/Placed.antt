@@ -1,26 +1,15 @@
--- A block put in among runs by a walk over those that it touches, up or down.
-use Rattle.std.proofs.Common.{◌≡◌, inl, inr, ℕ, ◌+◌, ◌-◌, ◌<◌, ◌≤◌, max, [], ◌∷◌, ◌++◌, length, get_or, take, drop, ltb, refl, arith}
+-- Runs as the walks and the joins leave them, and where they lie in memory.
+use Rattle.std.proofs.Common.{◌≡◌, ℕ, ◌+◌, ◌-◌, ◌<◌, ◌≤◌, max, List, [], ◌∷◌, ◌++◌, length, get_or, set, take, drop, ltb, arith}
+use Rattle.std.specs.List.{copy_within, CopiedTo, SameFrom}
 use Rattle.std.specs.List.Sorted.{IsPartitionedBy}
-use Rattle.std.proofs.lemmas.Bool.{cases_lt}
+use Rattle.std.proofs.Math.Seq.{take-add, take-append-add, take-set-lt}
 use Rattle.std.proofs.lemmas.Bool.Decides.{nat_tests}
-use Rattle.std.specs.List.{copy_within}
-use Rattle.std.proofs.Math.Seq.{take-add}
-use Rattle.std.proofs.lemmas.Grind.{common_steps, elements}
-use Rattle.std.proofs.lemmas.List.{take-append-drop, get_or-drop, get_or-take, length-drop, length-take-le}
+use Rattle.std.proofs.lemmas.Grind.{common_steps}
+use Rattle.std.proofs.lemmas.List.{take-append-drop, take-append-le, drop-drop, drop-take, take-take, set-append_left, get_or-drop, get_or-take, length-drop, length-take-le, length-set, get_or-set_other}
 use Rattle.dcsctp_chunk.specs.declared.sack_chunk.GapAckBlock.{GapAckBlock}
 use Rattle.dcsctp_chunk.specs.Apart.{IsApart, AreFree, AreRunsOf, after, covered}
 use Rattle.dcsctp_chunk.proofs.Covers.{Blocks, covers, cover_append}
-use Rattle.dcsctp_chunk.proofs.Runs.{apart_append, apart_order, apart_drop, apart_parts, apart_weaker}
-
--- a run among those that it lies between
-pub placed_apart : (xs : Blocks) (run d : GapAckBlock) (first last : ℕ) → IsApart 0 xs
-    → run.start ≤ run.end → after 0 (take first xs) ≤ run.start
-    → (last < length xs → run.end + 2 ≤ (get_or xs last d).start)
-    → IsApart 0 (take first xs ++ (run ∷ drop last xs))
-placed_apart xs run d first last a some l m =
-    let parts = apart_parts 0 (take first xs) (drop first xs) (rw (take-append-drop first xs) a) in
-    apart_append 0 (take first xs) (run ∷ drop last xs) parts.0
-    (l, some, apart_drop 0 (run.end + 2) last xs d a m)
+use Rattle.dcsctp_chunk.proofs.Apart.{apart_append, apart_max, apart_order, apart_parts, placed_apart}
 
 -- where no more is taken in by the walk up
 pub walked_up : (xs : Blocks) (b run d : GapAckBlock) (first last : ℕ) → IsApart 0 xs
@@ -33,13 +22,15 @@ walked_up xs b run d first last a some l m e = record {
   cover = grind (arith, covers, take-append-drop first xs);
 }
 
--- the runs past a gap, where the first of them starts late enough
-pub past_gap : (xs : Blocks) (low high n : ℕ) (d : GapAckBlock)
-    → IsApart 0 (take low xs ++ drop high xs) → (high < length xs → n ≤ (get_or xs high d).start)
-    → IsApart n (drop high xs)
-past_gap xs low high n d a l =
-    let past = (apart_parts 0 (take low xs) (drop high xs) a).1 in
-    apart_drop (after 0 (take low xs)) n 0 (drop high xs) d past (λ some. grind (arith, common_steps, elements))
+-- runs placed below a gap
+pub below_gap : (low high placed : Blocks) (b : GapAckBlock) → IsApart 0 (low ++ high)
+    → IsApart (b.end + 2) high → AreRunsOf placed (b ∷ low)
+    → after 0 placed ≤ max (b.end + 2) (after 0 low) → AreRunsOf (placed ++ high) (b ∷ (low ++ high))
+below_gap low high placed b a d p l = record {
+  apart = apart_append 0 placed high p.apart
+      (apart_max (after 0 placed) (b.end + 2) (after 0 low) high l d (apart_parts 0 low high a).1);
+  cover = cc (cover_append placed high, p.cover, cover_append (b ∷ low) high);
+}
 
 -- what moves from below a gap to its other side
 pub lifted : (xs : Blocks) (low high count : ℕ) → count ≤ low → low ≤ high → high ≤ length xs
@@ -47,36 +38,6 @@ pub lifted : (xs : Blocks) (low high count : ℕ) → count ≤ low → low ≤ 
     ++ drop (high - count) (copy_within xs (low - count) low (high - count))
     ≡ take low xs ++ drop high xs
 lifted xs low high count l m n = grind (arith, common_steps, take-add (low - count) count xs)
-
--- runs placed below a gap
-pub below_gap : (low high placed : Blocks) (b : GapAckBlock) → IsApart 0 (low ++ high)
-    → IsApart (b.end + 2) high → AreRunsOf placed (b ∷ low)
-    → after 0 placed ≤ max (b.end + 2) (after 0 low) → AreRunsOf (placed ++ high) (b ∷ (low ++ high))
-below_gap low high placed b a d p l = record {
-  apart = apart_append 0 placed high p.apart (elim (cases_lt (b.end + 2) (after 0 low)) [
-    | inl m ↦ apart_weaker (after 0 placed) (after 0 low) high (omega arith) (apart_parts 0 low high a).1
-    | inr m ↦ apart_weaker (after 0 placed) (b.end + 2) high (omega arith) d
-  ]);
-  cover = cc (cover_append placed high, p.cover, cover_append (b ∷ low) high);
-}
-
--- the last of the runs that are left, and what lies past it
-pub next_left : (others high : Blocks) (left : ℕ) (d : GapAckBlock) → 0 < left
-    → left ≤ length others → IsApart 0 (take left others ++ high)
-    → IsApart 0 (get_or others (left - 1) d ∷ high) × ((later : Blocks)
-    → IsApart ((get_or others (left - 1) d).end + 2) later
-    → IsApart 0 (take (left - 1) others ++ later))
-next_left others high left d l m a =
-    let rest = take (left - 1) others in
-    let b = get_or others (left - 1) d in
-    let e : take left others ++ high ≡ rest ++ (b ∷ high) = grind (arith, common_steps) in
-    let parts = apart_parts 0 rest (b ∷ high) (rw (← e) a) in
-    let low = parts.1.0 in
-    let some = parts.1.1 in (
-      (omega arith, some, parts.1.2),
-      (λ later past. apart_append 0 rest later parts.0
-          (apart_weaker (after 0 rest) (b.end + 2) later (omega arith) past)),
-    )
 
 -- a free place ends last
 pub free_end : (xs : Blocks) (kept k : ℕ) (d : GapAckBlock) → kept ≤ k → k < length xs
@@ -92,8 +53,72 @@ parted_kept xs kept n m l a f i j d le lt e =
       nat_tests,
       e,
       free_end xs kept j d,
-      apart_order 0 (take kept xs) a i j d,
+      apart_order 0 i j (take kept xs) d a,
       length-take-le kept xs,
       get_or-take kept xs i d,
       get_or-take kept xs j d,
+    )
+
+pub copy_nowhere : {X : Type 0} (xs : List X) (i j : ℕ) → i ≤ j → xs ≡ copy_within xs i j i
+copy_nowhere xs i j l =
+    grind (
+      arith,
+      common_steps,
+      drop-drop (j - i) i xs,
+      take-append-drop (j - i) (drop i xs),
+      take-append-drop i xs,
+    )
+
+copied : (xs : Blocks) (i j n dest : ℕ) → n ≤ j - i → i + n ≤ length xs → dest ≤ length xs
+    → take (dest + n) (copy_within xs i j dest) ≡ take dest xs ++ take n (drop i xs)
+copied xs i j n dest l m k =
+    let moved = take (j - i) (drop i xs) in
+    let rest = drop (dest + (j - i)) xs in
+    grind (
+      arith,
+      common_steps,
+      take-append-add (take dest xs) (moved ++ rest) n,
+      take-append-le n moved rest,
+      take-take n (j - i) (drop i xs),
+    )
+
+written : (xs ys : Blocks) (i : ℕ) (b : GapAckBlock) → i < length xs
+    → set (take (i + 1) xs ++ ys) i b ≡ take i xs ++ (b ∷ ys)
+written xs ys i b l =
+    grind (arith, common_steps, set-append_left (take (i + 1) xs) ys i b, take-set-lt (i + 1) xs i b)
+
+pub put_run : (xs : Blocks) (run : GapAckBlock) (first last kept end : ℕ)
+    → first ≤ last → last ≤ kept → kept ≤ end → end < length xs
+    → take (first + 1 + (kept - last)) (set (copy_within xs last end (first + 1)) first run)
+    ≡ take first (take kept xs) ++ (run ∷ drop last (take kept xs))
+put_run xs run first last kept end k l m n =
+    let moved = take (kept - last) (drop last xs) in
+    grind (
+      arith,
+      take-set-lt (first + 1 + (kept - last)) (copy_within xs last end (first + 1)) first run,
+      copied xs last end (kept - last) (first + 1),
+      written xs moved first run,
+      drop-take last (kept - last) xs,
+      take-take first kept xs,
+    )
+
+-- where as many runs lie there as before, or one more, the places after them are free
+pub put_free : (xs after : Blocks) (run : GapAckBlock) (first last kept end : ℕ) → first ≤ last
+    → last ≤ kept → kept ≤ end → AreFree (drop kept xs) → length after ≡ length xs
+    → CopiedTo xs after last (first + 1) (end - last) → SameFrom xs after (first + 1 + (end - last))
+    → kept ≤ first + 1 + (kept - last)
+    → AreFree (drop (first + 1 + (kept - last)) (set after first run))
+put_free xs after run first last kept end k l m f n moved rest s i d t =
+    let count = first + 1 + (kept - last) in
+    let at = count + i in
+    grind (
+      arith,
+      get_or-drop count (set after first run) i d,
+      length-drop count (set after first run),
+      length-set after first run,
+      get_or-set_other after first at run d,
+      moved at d,
+      rest at d,
+      free_end xs kept at d,
+      free_end xs kept (at - 1) d,
     )

@@ -232,7 +232,7 @@ fn lift(runs: &mut [GapAckBlock], gap: Gap, count: usize) -> Gap
 }
 
 /// Moves the blocks from `start` up to `end` to `dest`.
-#[tactic(auto, using(crate::proofs::Joined::copy_nowhere))]
+#[tactic(auto, using(crate::proofs::Placed::copy_nowhere))]
 fn move_within(blocks: &mut [GapAckBlock], start: usize, end: usize, dest: usize)
     requires order { start ≤ end }
     requires bound { end ≤ length blocks.old }

@@ -2,7 +2,7 @@
 use Rattle.std.proofs.Common.{◌+◌, ◌-◌, get_or, take, drop, arith}
 use Rattle.std.proofs.lemmas.Grind.{common_steps}
 use Rattle.dcsctp_chunk.proofs.Covers.{zero_block, covers, cover_join}
-use Rattle.dcsctp_chunk.proofs.Runs.{apart_at, after_until}
+use Rattle.dcsctp_chunk.proofs.Apart.{apart_at, after_until}
 use Rattle.dcsctp_chunk.proofs.Placed.{walked_up}
 use Rattle.dcsctp_chunk.proofs.chunk_validators.runs.find_place.Goals as goal
 

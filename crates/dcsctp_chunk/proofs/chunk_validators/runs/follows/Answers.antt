@@ -2,8 +2,8 @@ use Rattle.std.proofs.Common.{length, arith}
 use Rattle.std.proofs.lemmas.Bool.{ltb-true}
 use Rattle.std.proofs.lemmas.Grind.{common_steps}
 use Rattle.dcsctp_chunk.proofs.Covers.{zero_block}
-use Rattle.dcsctp_chunk.proofs.Runs.{after_until}
-use Rattle.dcsctp_chunk.proofs.Placed.{placed_apart}
+use Rattle.dcsctp_chunk.proofs.Apart.{after_until}
+use Rattle.dcsctp_chunk.proofs.Apart.{placed_apart}
 use Rattle.dcsctp_chunk.proofs.chunk_validators.runs.follows.Goals as goal
 
 pub returns-in-Some : goal.returns-in-Some

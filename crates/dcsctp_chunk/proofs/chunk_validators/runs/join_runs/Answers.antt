@@ -2,7 +2,7 @@
 use Rattle.std.proofs.Common.{drop, arith}
 use Rattle.std.proofs.lemmas.Grind.{common_steps}
 use Rattle.dcsctp_chunk.proofs.Covers.{zero_block, cover_append, cover_cons}
-use Rattle.dcsctp_chunk.proofs.Placed.{next_left}
+use Rattle.dcsctp_chunk.proofs.Apart.{next_left}
 use Rattle.dcsctp_chunk.proofs.chunk_validators.runs.join_runs.Goals as goal
 
 pub put_by_walk-gap-requires-clause-below : goal.put_by_walk-gap-requires-clause-below

@@ -2,8 +2,8 @@
 use Rattle.std.proofs.Common.{◌-◌, length, get_or, take, arith}
 use Rattle.std.proofs.lemmas.Grind.{common_steps}
 use Rattle.dcsctp_chunk.proofs.Covers.{zero_block, covers, cover_cons, cover_last, cover_join}
-use Rattle.dcsctp_chunk.proofs.Runs.{apart_at, apart_order, after_each, after_until}
-use Rattle.dcsctp_chunk.proofs.Placed.{placed_apart}
+use Rattle.dcsctp_chunk.proofs.Apart.{apart_at, apart_order, after_each, after_until}
+use Rattle.dcsctp_chunk.proofs.Apart.{placed_apart}
 use Rattle.dcsctp_chunk.proofs.chunk_validators.runs.last_place.Goals as goal
 
 pub loop-first-preserved : goal.loop-first-preserved
@@ -16,7 +16,7 @@ loop-first-preserved c =
       common_steps,
       cover_cons,
       c.requires.near zero_block,
-      apart_order 0 runs c.requires.apart i last zero_block,
+      apart_order 0 i last runs zero_block c.requires.apart,
       apart_at 0 i i runs zero_block c.requires.apart,
       after_each 0 i runs zero_block c.requires.apart,
       cover_last runs i c.loop-first.first zero_block,

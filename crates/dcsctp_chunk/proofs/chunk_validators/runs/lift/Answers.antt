@@ -1,6 +1,7 @@
 use Rattle.std.proofs.Common.{◌-◌, take, drop, arith}
 use Rattle.std.proofs.lemmas.Grind.{common_steps}
-use Rattle.dcsctp_chunk.proofs.Placed.{past_gap, lifted}
+use Rattle.dcsctp_chunk.proofs.Apart.{past_gap}
+use Rattle.dcsctp_chunk.proofs.Placed.{lifted}
 use Rattle.dcsctp_chunk.proofs.chunk_validators.runs.lift.Goals as goal
 
 pub returns-clause-runs : goal.returns-clause-runs
