@@ -1,11 +1,11 @@
 -- Lists of blocks that lie apart: their elements, their parts, and a block or a list put among them.
-use Rattle.std.proofs.Common.{◌≡◌, inl, inr, ℕ, zero, suc, ◌+◌, ◌-◌, ◌<◌, ◌≤◌, max, [], ◌∷◌, ◌++◌, length, get_or, take, drop, refl, arith}
+use Rattle.std.proofs.Common.{◌≡◌, ◌⊎◌, inl, inr, ℕ, zero, suc, ◌+◌, ◌-◌, ◌<◌, ◌≤◌, max, [], ◌∷◌, ◌++◌, length, get_or, take, drop, refl, arith}
 use Rattle.std.proofs.lemmas.Bool.{cases_lt}
 use Rattle.std.proofs.lemmas.Grind.{common_steps, elements}
 use Rattle.std.proofs.lemmas.List.{take-append-drop}
 use Rattle.dcsctp_chunk.specs.declared.sack_chunk.GapAckBlock.{GapAckBlock}
 use Rattle.dcsctp_chunk.specs.Apart.{IsApart, after}
-use Rattle.dcsctp_chunk.proofs.Covers.{Blocks}
+use Rattle.dcsctp_chunk.proofs.Covers.{Blocks, zero_block}
 
 pub apart_weaker : (m n : ℕ) (xs : Blocks) → m ≤ n → IsApart n xs → IsApart m xs
 apart_weaker m n [] l a = tt
@@ -80,14 +80,15 @@ past_gap xs low high n d a l =
     (apart_parts 0 (take low xs) (drop high xs) a).1 (λ some. grind (arith, common_steps, elements))
 
 -- a block in the place of those from the first up to the last
-pub placed_apart : (xs : Blocks) (b d : GapAckBlock) (first last : ℕ) → IsApart 0 xs
+pub placed_apart : (xs : Blocks) (b : GapAckBlock) (first last : ℕ) → IsApart 0 xs
     → b.start ≤ b.end → after 0 (take first xs) ≤ b.start
-    → (last < length xs → b.end + 2 ≤ (get_or xs last d).start)
+    → (length xs ≤ last) ⊎ (b.end + 2 ≤ (get_or xs last zero_block).start)
     → IsApart 0 (take first xs ++ (b ∷ drop last xs))
-placed_apart xs b d first last a some l m =
-    apart_append 0 (take first xs) (b ∷ drop last xs)
-    (apart_parts 0 (take first xs) (drop first xs) (rw (take-append-drop first xs) a)).0
-    (l, some, past_gap xs last last (b.end + 2) d (rw (take-append-drop last xs) a) m)
+placed_apart xs b first last a some l m =
+    let front = apart_parts 0 (take first xs) (drop first xs) (rw (take-append-drop first xs) a) in
+    let whole : IsApart 0 (take last xs ++ drop last xs) = rw (take-append-drop last xs) a in
+    apart_append 0 (take first xs) (b ∷ drop last xs) front.0
+    (l, some, past_gap xs last last (b.end + 2) zero_block whole (λ more. grind (arith, m)))
 
 -- what starts late enough for either end
 pub apart_max : (l m n : ℕ) (xs : Blocks) → l ≤ max m n → IsApart m xs → IsApart n xs → IsApart l xs

@@ -1,5 +1,5 @@
 -- Runs as the walks and the joins leave them, and where they lie in memory.
-use Rattle.std.proofs.Common.{◌≡◌, ℕ, ◌+◌, ◌-◌, ◌<◌, ◌≤◌, max, List, [], ◌∷◌, ◌++◌, length, get_or, set, take, drop, ltb, arith}
+use Rattle.std.proofs.Common.{◌≡◌, ◌⊎◌, ℕ, ◌+◌, ◌-◌, ◌<◌, ◌≤◌, max, List, [], ◌∷◌, ◌++◌, length, get_or, set, take, drop, ltb, arith}
 use Rattle.std.specs.List.{copy_within, CopiedTo, SameFrom}
 use Rattle.std.specs.List.Sorted.{IsPartitionedBy}
 use Rattle.std.proofs.Math.Seq.{take-add, take-append-add, take-set-lt}
@@ -8,19 +8,14 @@ use Rattle.std.proofs.lemmas.Grind.{common_steps}
 use Rattle.std.proofs.lemmas.List.{take-append-drop, take-append-le, drop-drop, drop-take, take-take, set-append_left, get_or-drop, get_or-take, length-drop, length-take-le, length-set, get_or-set_other}
 use Rattle.dcsctp_chunk.specs.declared.sack_chunk.GapAckBlock.{GapAckBlock}
 use Rattle.dcsctp_chunk.specs.Apart.{IsApart, AreFree, AreRunsOf, after, covered}
-use Rattle.dcsctp_chunk.proofs.Covers.{Blocks, covers, cover_append}
+use Rattle.dcsctp_chunk.proofs.Covers.{Blocks, zero_block, covers, cover_append}
 use Rattle.dcsctp_chunk.proofs.Apart.{apart_append, apart_max, apart_order, apart_parts, placed_apart}
 
--- where no more is taken in by the walk up
-pub walked_up : (xs : Blocks) (b run d : GapAckBlock) (first last : ℕ) → IsApart 0 xs
-    → run.start ≤ run.end → after 0 (take first xs) ≤ run.start
-    → (last < length xs → run.end + 2 ≤ (get_or xs last d).start)
+-- what is covered where a block lies in the place of those from the first up to the last
+pub placed_cover : (xs : Blocks) (b run : GapAckBlock) (first last : ℕ)
     → covered (run ∷ drop last xs) ≡ covered (b ∷ drop first xs)
-    → AreRunsOf (take first xs ++ (run ∷ drop last xs)) (b ∷ xs)
-walked_up xs b run d first last a some l m e = record {
-  apart = placed_apart xs run d first last a some l m;
-  cover = grind (arith, covers, take-append-drop first xs);
-}
+    → covered (take first xs ++ (run ∷ drop last xs)) ≡ covered (b ∷ xs)
+placed_cover xs b run first last e = grind (arith, covers, take-append-drop first xs)
 
 -- runs placed below a gap
 pub below_gap : (low high placed : Blocks) (b : GapAckBlock) → IsApart 0 (low ++ high)

@@ -98,6 +98,7 @@ struct Place {
 
 /// The place of the block among the runs, of which the one at `first` is the first that it can
 /// touch.
+#[tactic(auto, using(crate::proofs::Apart::placed_apart, crate::proofs::Placed::placed_cover))]
 fn find_place(runs: &[GapAckBlock], first: usize, block: GapAckBlock) -> Place
     requires nonempty { block.start ≤ block.end }
     requires apart { IsApart 0 runs.now }

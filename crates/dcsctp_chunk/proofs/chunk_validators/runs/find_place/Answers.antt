@@ -3,7 +3,6 @@ use Rattle.std.proofs.Common.{◌+◌, ◌-◌, get_or, take, drop, arith}
 use Rattle.std.proofs.lemmas.Grind.{common_steps}
 use Rattle.dcsctp_chunk.proofs.Covers.{zero_block, covers, cover_join}
 use Rattle.dcsctp_chunk.proofs.Apart.{apart_at, after_until}
-use Rattle.dcsctp_chunk.proofs.Placed.{walked_up}
 use Rattle.dcsctp_chunk.proofs.chunk_validators.runs.find_place.Goals as goal
 
 pub loop-last-init : goal.loop-last-init
@@ -21,15 +20,3 @@ loop-last-preserved c =
     let reached = c.requires.point.1 i zero_block inv.order c.loop-last-test.true in
     let at = apart_at 0 c.args.first i runs zero_block c.requires.apart inv.order c.loop-last-test.true in
     grind (arith, common_steps, reached, at, cover_join c.loop-last.run r (drop (i + 1) runs))
-
-pub returns-else-saturating_sub-run-clause-runs : goal.returns-else-saturating_sub-run-clause-runs
-returns-else-saturating_sub-run-clause-runs c =
-    let inv = c.loop-last.invariant in
-    walked_up c.args.runs.now c.args.block c.loop-last.run zero_block c.args.first c.loop-last.last
-    c.requires.apart (omega arith) inv.low (λ l. omega arith) inv.cover
-
-pub returns-after-loop-last-clause-runs : goal.returns-after-loop-last-clause-runs
-returns-after-loop-last-clause-runs c =
-    let inv = c.loop-last.invariant in
-    walked_up c.args.runs.now c.args.block c.loop-last.run zero_block c.args.first c.loop-last.last
-    c.requires.apart (omega arith) inv.low (λ l. omega arith) inv.cover

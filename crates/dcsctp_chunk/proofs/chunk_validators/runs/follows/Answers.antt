@@ -18,6 +18,6 @@ returns-in-Some c t =
       common_steps,
       last,
       early,
-      placed_apart runs block zero_block n n c.requires.apart,
+      placed_apart runs block n n c.requires.apart,
       after_until 0 block.start n runs zero_block,
     )

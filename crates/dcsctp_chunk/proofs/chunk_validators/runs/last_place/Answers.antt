@@ -29,6 +29,6 @@ returns-else-saturating_sub-runs-clause-runs c =
     let first = c.loop-first.first in
     let run = c.loop-first.run in
     record {
-      apart = grind (arith, common_steps, placed_apart runs run zero_block first (length runs) c.requires.apart, after_until 0 run.start first runs zero_block);
+      apart = grind (arith, common_steps, placed_apart runs run first (length runs) c.requires.apart, after_until 0 run.start first runs zero_block);
       cover = grind (arith, covers);
     }
