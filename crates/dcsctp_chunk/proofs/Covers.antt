@@ -1,12 +1,17 @@
--- What lists of blocks cover: in parts, in another order, and with one block in the place of two.
-use Rattle.std.proofs.Common.{◌≡◌, ◌⊎◌, inl, inr, ℕ, zero, suc, ◌+◌, ◌<◌, ◌≤◌, min, max, List, [], ◌∷◌, ◌++◌, length, get_or, refl, sym, subst, arith}
-use Rattle.std.specs.List.{All, Contains}
+-- What lists of blocks cover, as sets: in parts, in another order, with one block in the place of
+-- two.
+use Rattle.std.proofs.Common.{◌≡◌, ◌↔◌, ℕ, ◌+◌, ◌<◌, ◌≤◌, min, max, Bool, true, ◌||◌, ◌&&◌, List, [], ◌∷◌, ◌++◌, length, get_or, take, arith, ap, sym, ◌∙◌}
+use Rattle.std.specs.Prelude.{nat_le}
 use Rattle.std.specs.List.Sorted.{IsPermutation}
-use Rattle.std.proofs.lemmas.Bool.{cases_lt}
-use Rattle.std.proofs.lemmas.List.Elements.{All-contains, Contains-append_left, Contains-append_right, Contains-append_cases}
-use Rattle.std.proofs.lemmas.List.Sorted.{Contains-permutation, IsPermutation-sym, IsPermutation-append_comm}
+use Rattle.std.proofs.Math.Path.{fun_ext}
+use Rattle.std.proofs.Math.Bool.{or_comm, or_assoc}
+use Rattle.std.proofs.lemmas.Bool.Decides.{nat_tests}
+use Rattle.std.proofs.lemmas.Grind.{common_steps}
+use Rattle.std.proofs.lemmas.List.Folds.{list_any-append, list_any_at, Any-from_list_any}
+use Rattle.std.proofs.lemmas.List.Sorted.{list_any-IsPermutation}
 use Rattle.dcsctp_chunk.specs.declared.sack_chunk.GapAckBlock.{GapAckBlock}
-use Rattle.dcsctp_chunk.specs.Cover.{IsWithin, Covers, SameCover}
+use Rattle.dcsctp_chunk.specs.Cover.{Covers, SameCover}
+use Rattle.dcsctp_chunk.specs.Apart.{covered}
 
 abbrev pub Blocks : Type 0
 Blocks = List GapAckBlock
@@ -15,143 +20,67 @@ Blocks = List GapAckBlock
 abbrev pub zero_block : GapAckBlock
 zero_block = record { start = 0; end = 0 }
 
-pub contains_head : {X : Type 0} (x : X) (xs : List X) → Contains (x ∷ xs) x
-contains_head x xs = (0, omega arith, refl)
+abbrev is_in : ℕ → GapAckBlock → Bool
+is_in o b = nat_le b.start o && nat_le o b.end
 
-pub contains_tail : {X : Type 0} (x y : X) (xs : List X) → Contains xs y → Contains (x ∷ xs) y
-contains_tail x y xs h = (suc h.0, omega arith, h.2)
+-- what lies in either set
+pub union : (ℕ → Bool) → (ℕ → Bool) → ℕ → Bool
+union s t o = s o || t o
 
-contains_at : {X : Type 0} (x y : X) (xs : List X) (k : ℕ) → k < length (x ∷ xs)
-    → get_or (x ∷ xs) k y ≡ y → (x ≡ y) ⊎ Contains xs y
-contains_at x y xs zero l e = inl e
-contains_at x y xs (suc k) l e = inr (k, omega arith, e)
+pub union_comm : (s t : ℕ → Bool) → union s t ≡ union t s
+unfolding union
+union_comm s t = fun_ext (λ o. or_comm (s o) (t o))
 
-pub contains_cases : {X : Type 0} (x y : X) (xs : List X) → Contains (x ∷ xs) y
-    → (x ≡ y) ⊎ Contains xs y
-contains_cases x y xs h = contains_at x y xs h.0 h.1 h.2
+pub union_assoc : (s t u : ℕ → Bool) → union (union s t) u ≡ union s (union t u)
+unfolding union
+union_assoc s t u = fun_ext (λ o. grind arith)
 
-pub contains_none : {X : Type 0} (y : X) → Contains [] y → ⊥
-contains_none y h =
-    omega (arith, h.1)
+pub cover_append : (xs ys : Blocks) → covered (xs ++ ys) ≡ union (covered xs) (covered ys)
+unfolding covered union
+cover_append xs ys = fun_ext (λ o. list_any-append (is_in o) xs ys)
 
-pub covers_head : (b : GapAckBlock) (bs : Blocks) (o : ℕ) → IsWithin b o → Covers (b ∷ bs) o
-covers_head b bs o h = (b, contains_head b bs, h)
+pub cover_cons : (b : GapAckBlock) (bs : Blocks) → covered (b ∷ bs) ≡ union (covered (b ∷ [])) (covered bs)
+cover_cons b bs = cover_append (b ∷ []) bs
 
-pub covers_tail : (b : GapAckBlock) (bs : Blocks) (o : ℕ) → Covers bs o → Covers (b ∷ bs) o
-covers_tail b bs o h = (h.0, contains_tail b h.0 bs h.1, h.2)
+pub ruleset covers = (cover_append, cover_cons, union_comm, union_assoc)
 
-pub covers_cases : (b : GapAckBlock) (bs : Blocks) (o : ℕ) → Covers (b ∷ bs) o
-    → IsWithin b o ⊎ Covers bs o
-covers_cases b bs o h =
-    let P : GapAckBlock → Type 0 = λ x. IsWithin x o in
-    elim (contains_cases b h.0 bs h.1) [
-      | inl e ↦ inl (subst P (sym e) h.2)
-      | inr t ↦ inr (h.0, t, h.2)
-    ]
-
-pub covers_left : (xs ys : Blocks) (o : ℕ) → Covers xs o → Covers (xs ++ ys) o
-covers_left xs ys o h = (h.0, Contains-append_left xs ys h.0 h.1, h.2)
-
-pub covers_right : (xs ys : Blocks) (o : ℕ) → Covers ys o → Covers (xs ++ ys) o
-covers_right xs ys o h = (h.0, Contains-append_right xs ys h.0 h.1, h.2)
-
-covers_either : (xs ys : Blocks) (o : ℕ) → Covers (xs ++ ys) o → Covers xs o ⊎ Covers ys o
-covers_either xs ys o h =
-    elim (Contains-append_cases xs ys h.0 h.1) [
-      | inl t ↦ inl (h.0, t, h.2)
-      | inr t ↦ inr (h.0, t, h.2)
-    ]
-
-pub same_refl : (xs : Blocks) → SameCover xs xs
-same_refl xs o = ((λ h. h), (λ h. h))
-
-pub same_sym : (xs ys : Blocks) → SameCover xs ys → SameCover ys xs
-same_sym xs ys e o = ((e o).1, (e o).0)
-
-pub same_trans : (xs ys zs : Blocks) → SameCover xs ys → SameCover ys zs → SameCover xs zs
-same_trans xs ys zs e f o = ((λ h. (f o).0 ((e o).0 h)), (λ h. (e o).1 ((f o).1 h)))
-
-append_covers : (xs ys ss ts : Blocks) → SameCover xs ss → SameCover ys ts → (o : ℕ)
-    → Covers (xs ++ ys) o → Covers (ss ++ ts) o
-append_covers xs ys ss ts e f o h =
-    elim (covers_either xs ys o h) [
-      | inl u ↦ covers_left ss ts o ((e o).0 u)
-      | inr u ↦ covers_right ss ts o ((f o).0 u)
-    ]
-
-pub same_append : (xs ys ss ts : Blocks) → SameCover xs ss → SameCover ys ts
-    → SameCover (xs ++ ys) (ss ++ ts)
-same_append xs ys ss ts e f o = (
-  append_covers xs ys ss ts e f o,
-  append_covers ss ts xs ys (same_sym xs ss e) (same_sym ys ts f) o,
-)
-
-pub same_cons : (b : GapAckBlock) (xs ys : Blocks) → SameCover xs ys → SameCover (b ∷ xs) (b ∷ ys)
-same_cons b xs ys e = same_append (b ∷ []) xs (b ∷ []) ys (same_refl (b ∷ [])) e
-
--- in another order
-pub permutation_cover : (xs ys : Blocks) → IsPermutation xs ys → SameCover xs ys
-permutation_cover xs ys p o = (
-  (λ h. (h.0, Contains-permutation xs ys h.0 p h.1, h.2)),
-  (λ h. (h.0, Contains-permutation ys xs h.0 (IsPermutation-sym xs ys p) h.1, h.2)),
-)
-
-pub same_turned : (xs ys : Blocks) → SameCover (xs ++ ys) (ys ++ xs)
-same_turned xs ys = permutation_cover (xs ++ ys) (ys ++ xs) (IsPermutation-append_comm xs ys)
-
-pub same_swap : (a b : GapAckBlock) (bs : Blocks) → SameCover (a ∷ b ∷ bs) (b ∷ a ∷ bs)
-same_swap a b bs =
-    same_append (a ∷ b ∷ []) bs (b ∷ a ∷ []) bs (same_turned (a ∷ []) (b ∷ [])) (same_refl bs)
+pub cover_permutation : (xs ys : Blocks) → IsPermutation xs ys → covered xs ≡ covered ys
+unfolding covered
+cover_permutation xs ys p = fun_ext (λ o. list_any-IsPermutation (is_in o) xs ys p)
 
 -- a block that ends before its start covers nothing
-pub same_reversed : (b : GapAckBlock) (bs : Blocks) → b.end < b.start → SameCover bs (b ∷ bs)
-same_reversed b bs l o = (
-  covers_tail b bs o,
-  (λ h. elim (covers_cases b bs o h) [
-    | inl w ↦ let w0 = w.0 in let w1 = w.1 in absurd (omega arith)
-    | inr t ↦ t
-  ]),
-)
+pub cover_reversed : (b : GapAckBlock) (bs : Blocks) → b.end < b.start → covered (b ∷ bs) ≡ covered bs
+unfolding covered
+cover_reversed b bs l = fun_ext (λ o. grind (arith, nat_tests))
 
 -- one block in the place of two that overlap or touch
 abbrev pub join : GapAckBlock → GapAckBlock → GapAckBlock
 join b r = record { start = min b.start r.start; end = max b.end r.end }
 
-pub same_join : (b r : GapAckBlock) (bs : Blocks) → b.start ≤ b.end → r.start ≤ r.end
-    → r.start ≤ b.end + 1 → b.start ≤ r.end + 1 → SameCover (join b r ∷ bs) (b ∷ r ∷ bs)
-same_join b r bs ne me k l o = (
-  (λ h. elim (covers_cases (join b r) bs o h) [
-    | inl w ↦
-        let w0 = w.0 in
-        let w1 = w.1 in
-        elim (cases_lt o b.start) [
-          | inl lt ↦ covers_tail b (r ∷ bs) o (covers_head r bs o (omega arith, omega arith))
-          | inr ge ↦ elim (cases_lt b.end o) [
-            | inl lt ↦ covers_tail b (r ∷ bs) o (covers_head r bs o (omega arith, omega arith))
-            | inr le ↦ covers_head b (r ∷ bs) o (ge, le)
-          ]
-        ]
-    | inr t ↦ covers_tail b (r ∷ bs) o (covers_tail r bs o t)
-  ]),
-  (λ h. elim (covers_cases b (r ∷ bs) o h) [
-    | inl w ↦
-        let w0 = w.0 in
-        let w1 = w.1 in
-        covers_head (join b r) bs o (omega arith, omega arith)
-    | inr t ↦ elim (covers_cases r bs o t) [
-      | inl w ↦
-          let w0 = w.0 in
-          let w1 = w.1 in
-          covers_head (join b r) bs o (omega arith, omega arith)
-      | inr u ↦ covers_tail (join b r) bs o u
-    ]
-  ]),
+pub cover_join : (b r : GapAckBlock) (bs : Blocks) → b.start ≤ b.end → r.start ≤ r.end
+    → r.start ≤ b.end + 1 → b.start ≤ r.end + 1 → covered (join b r ∷ bs) ≡ covered (b ∷ r ∷ bs)
+unfolding covered
+cover_join b r bs some more k l = fun_ext (λ o. grind (arith, nat_tests))
+
+pub covers_iff : (bs : Blocks) (o : ℕ) → Covers bs o ↔ (covered bs o ≡ true)
+unfolding covered
+covers_iff bs o = (
+  (λ c. let at = c.1.2 in list_any_at (is_in o) bs c.1.0 c.0 c.1.1 (grind (arith, nat_tests))),
+  (λ e.
+      let a = Any-from_list_any (is_in o) bs e in
+      (a.1, (a.0, a.2, a.3), grind (arith, nat_tests, a.4))),
 )
 
-pub offsets_from_ends : (bs : Blocks) → All (λ b. b.end ≤ 65535) bs → (o : ℕ) → Covers bs o
-    → o ≤ 65535
-offsets_from_ends bs h o c =
-    let P : GapAckBlock → Type 0 = λ b. b.end ≤ 65535 in
-    let k = All-contains P bs c.0 h c.1 in
-    let w = c.2.1 in
-    omega arith
+pub same_cover : (xs ys : Blocks) → SameCover xs ys → covered xs ≡ covered ys
+same_cover xs ys e = fun_ext (λ o. grind (arith, e o, covers_iff xs o, covers_iff ys o))
+
+pub cover_same : (xs ys : Blocks) → covered xs ≡ covered ys → SameCover xs ys
+cover_same xs ys e o =
+    let at = ap (λ s. s o) e in (
+      (λ c. (covers_iff ys o).1 (sym at ∙ (covers_iff xs o).0 c)),
+      (λ c. (covers_iff xs o).1 (at ∙ (covers_iff ys o).0 c)),
+    )
+
+pub cover_last : (xs : Blocks) (i j : ℕ) (d : GapAckBlock) → j ≡ i + 1 → i < length xs
+    → covered (take j xs) ≡ covered (get_or xs i d ∷ take i xs)
+cover_last xs i j d e l = grind (arith, common_steps, covers)

@@ -1,130 +1,119 @@
--- A block put in among runs by a walk over those that it touches, up or down.
-use Rattle.std.proofs.Common.{◌≡◌, inl, inr, ℕ, ◌+◌, ◌-◌, ◌<◌, ◌≤◌, [], ◌∷◌, ◌++◌, length, get_or, take, drop, ltb, refl, arith}
-use Rattle.std.specs.List.{All}
+-- Runs as the walks and the joins leave them, and where they lie in memory.
+use Rattle.std.proofs.Common.{◌≡◌, ◌⊎◌, ℕ, ◌+◌, ◌-◌, ◌<◌, ◌≤◌, max, List, [], ◌∷◌, ◌++◌, length, get_or, set, take, drop, ltb, arith}
+use Rattle.std.specs.List.{copy_within, CopiedTo, SameFrom}
 use Rattle.std.specs.List.Sorted.{IsPartitionedBy}
-use Rattle.std.proofs.lemmas.Bool.{cases_lt, ltb-true, lt-ltb}
-use Rattle.std.proofs.lemmas.Grind.{common_steps, elements}
-use Rattle.std.proofs.lemmas.List.{append-nil, drop_more, drop_all, length-take-le, length-drop, get_or-take, get_or-drop, take-append-drop}
-use Rattle.std.proofs.lemmas.List.Elements.{All-head, All-tail, All-from_get_or, Contains-push}
+use Rattle.std.proofs.Math.Seq.{take-add, take-append-add, take-set-lt}
+use Rattle.std.proofs.lemmas.Bool.Decides.{nat_tests}
+use Rattle.std.proofs.lemmas.Grind.{common_steps}
+use Rattle.std.proofs.lemmas.List.{take-append-drop, take-append-le, drop-drop, drop-take, take-take, set-append_left, get_or-drop, get_or-take, length-drop, length-take-le, length-set, get_or-set_other}
 use Rattle.dcsctp_chunk.specs.declared.sack_chunk.GapAckBlock.{GapAckBlock}
-use Rattle.dcsctp_chunk.specs.Apart.{IsApart, AreFree, AreRunsOf}
-use Rattle.dcsctp_chunk.proofs.Covers.{Blocks, join}
-use Rattle.dcsctp_chunk.proofs.Runs.{apart_low, apart_order, apart_take, block_ext}
-use Rattle.dcsctp_chunk.proofs.RunsOf.{put_in, put_none, put_after, put_before, put_join, put_in_runs}
+use Rattle.dcsctp_chunk.specs.Apart.{IsApart, AreFree, AreRunsOf, after, covered}
+use Rattle.dcsctp_chunk.proofs.Covers.{Blocks, zero_block, covers, cover_append}
+use Rattle.dcsctp_chunk.proofs.Apart.{apart_append, apart_max, apart_order, apart_parts, placed_apart}
 
--- runs that end too early for the block stay before it
-put_past : (b : GapAckBlock) (xs ys : Blocks) → All (λ r. r.end + 1 < b.start) xs
-    → put_in b (xs ++ ys) ≡ xs ++ put_in b ys
-put_past b [] ys h = refl
-put_past b (x ∷ xs) ys h =
-    cc (
-      put_after b x (xs ++ ys) (All-head (λ r. r.end + 1 < b.start) x xs h),
-      put_past b xs ys (All-tail (λ r. r.end + 1 < b.start) x xs h),
-    )
+-- what is covered where a block lies in the place of those from the first up to the last
+pub placed_cover : (xs : Blocks) (b run : GapAckBlock) (first last : ℕ)
+    → covered (run ∷ drop last xs) ≡ covered (b ∷ drop first xs)
+    → covered (take first xs ++ (run ∷ drop last xs)) ≡ covered (b ∷ xs)
+placed_cover xs b run first last e = grind (arith, covers, take-append-drop first xs)
 
--- after the last run, where that ends too early
-put_last : (b d : GapAckBlock) (xs : Blocks) → IsApart 0 xs
-    → (0 < length xs → (get_or xs (length xs - 1) d).end + 1 < b.start) → xs ++ (b ∷ [])
-    ≡ put_in b xs
-put_last b d xs a h =
-    let early = All-from_get_or (λ r. r.end + 1 < b.start) xs d (λ i l.
-    omega (arith, (apart_order 0 xs a i (length xs - 1) d (omega arith) (omega arith)).1, h)) in
-    cc (put_none b, put_past b xs [] early, append-nil xs)
+-- runs placed below a gap
+pub below_gap : (low high placed : Blocks) (b : GapAckBlock) → IsApart 0 (low ++ high)
+    → IsApart (b.end + 2) high → AreRunsOf placed (b ∷ low)
+    → after 0 placed ≤ max (b.end + 2) (after 0 low) → AreRunsOf (placed ++ high) (b ∷ (low ++ high))
+below_gap low high placed b a d p l = record {
+  apart = apart_append 0 placed high p.apart
+      (apart_max (after 0 placed) (b.end + 2) (after 0 low) high l d (apart_parts 0 low high a).1);
+  cover = cc (cover_append placed high, p.cover, cover_append (b ∷ low) high);
+}
 
-pub apart_last : (b d : GapAckBlock) (xs : Blocks) → b.start ≤ b.end → IsApart 0 xs
-    → (0 < length xs → (get_or xs (length xs - 1) d).end + 1 < b.start) → IsApart 0 (xs ++ (b ∷ []))
-apart_last b d xs ne a h =
-    rw (put_last b d xs a h) (put_in_runs b xs ne a).apart
-
--- where no more is taken in
-pub walked_up : (rs : Blocks) (b run d : GapAckBlock) (first last : ℕ) → b.start ≤ b.end
-    → IsApart 0 rs → first ≤ length rs
-    → ((k : ℕ) (d : GapAckBlock) → 0 ≤ k → k < first → (get_or rs k d).end + 1 < b.start)
-    → (last < length rs → run.start ≤ (get_or rs last d).end + 1)
-    → (last < length rs → run.end + 1 < (get_or rs last d).start) → put_in run (drop last rs)
-    ≡ put_in b (drop first rs) → AreRunsOf (take first rs ++ (run ∷ drop last rs)) (b ∷ rs)
-walked_up rs b run d first last ne a l early near far e =
-    let P : GapAckBlock → Type 0 = λ r. r.end + 1 < b.start in
-    let low : All P (take first rs) = λ k d m. grind (arith, common_steps, elements, early k d) in
-    let over : put_in run (drop last rs) ≡ run ∷ drop last rs =
-    elim (cases_lt last (length rs)) [
-      | inl lt ↦ rw (
-        drop_more rs last d lt,
-        put_before run (get_or rs last d) (drop (last + 1) rs)
-            (near lt) (far lt),
-      ) refl
-      | inr ge ↦ rw (drop_all last rs ge, put_none run) refl
-    ] in
-    let same : put_in b rs ≡ take first rs ++ (run ∷ drop last rs) =
-    cc (take-append-drop first rs, put_past b (take first rs) (drop first rs) low, over) in
-    rw (← same) (put_in_runs b rs ne a)
-
--- the last run, where the block touches it
-put_at_end : (n : ℕ) (b r : GapAckBlock) (xs : Blocks) → IsApart n (xs ++ (r ∷ []))
-    → b.start ≤ r.end + 1 → r.start ≤ b.end + 1 → put_in b (xs ++ (r ∷ [])) ≡ put_in (join b r) xs
-put_at_end n b r [] a k m = put_join b r [] k m
-put_at_end n b r (x ∷ xs) a k m =
-    let far = apart_low (x.end + 2) (xs ++ (r ∷ [])) r a.2 (Contains-push xs r) in
-    let some = a.1 in
-    elim (cases_lt (x.end + 1) b.start) [
-      | inl lt ↦ cc (
-        put_after b x (xs ++ (r ∷ [])) lt,
-        put_at_end (x.end + 2) b r xs a.2 k m,
-        put_after (join b r) x xs (omega arith),
-      )
-      | inr le ↦
-          let e : join (join b x) r ≡ join (join b r) x = block_ext _ _ (omega arith) (omega arith)
-          in
-          cc (
-            put_join b x (xs ++ (r ∷ [])) le (omega arith),
-            put_at_end (x.end + 2) (join b x) r xs a.2 (omega arith) (omega arith),
-            e,
-            put_join (join b r) x xs (omega arith) (omega arith),
-          )
-    ]
-
--- a run that the block touches, taken in: the last of those that are left
-pub walk_down : (rs every : Blocks) (run next d : GapAckBlock) (i first : ℕ) → i + 1 ≡ first
-    → i < length rs → IsApart 0 rs → run.start ≤ (get_or rs i d).end + 1
-    → (get_or rs i d).start ≤ run.end + 1 → next ≡ join run (get_or rs i d)
-    → put_in run (take first rs) ≡ every → put_in next (take i rs) ≡ every
-walk_down rs every run next d i first back l a k m e h =
-    let r = get_or rs i d in
-    let more : take first rs ≡ take i rs ++ (r ∷ []) = grind (arith, common_steps) in
-    let apart : IsApart 0 (take i rs ++ (r ∷ [])) = rw (← more) (apart_take 0 first rs a) in
-    cc (put_at_end 0 run r (take i rs) apart k m, more)
-
--- where no more is taken in
-pub walked_down : (rs : Blocks) (b run d : GapAckBlock) (first : ℕ) → b.start ≤ b.end → IsApart 0 rs
-    → first ≤ length rs → (0 < first → (get_or rs (first - 1) d).end + 1 < run.start)
-    → put_in run (take first rs) ≡ put_in b rs → AreRunsOf (take first rs ++ (run ∷ [])) (b ∷ rs)
-walked_down rs b run d first ne a l far e =
-    let front = take first rs in
-    let last = put_last run d front (apart_take 0 first rs a) (λ some.
-    let same : get_or front (length front - 1) d ≡ get_or rs (first - 1) d = grind (
-      arith,
-      common_steps,
-      elements,
-    ) in
-    let k = far (omega (arith, length-take-le first rs l)) in rw same k) in
-    rw (last, e) (put_in_runs b rs ne a)
+-- what moves from below a gap to its other side
+pub lifted : (xs : Blocks) (low high count : ℕ) → count ≤ low → low ≤ high → high ≤ length xs
+    → take (low - count) (copy_within xs (low - count) low (high - count))
+    ++ drop (high - count) (copy_within xs (low - count) low (high - count))
+    ≡ take low xs ++ drop high xs
+lifted xs low high count l m n = grind (arith, common_steps, take-add (low - count) count xs)
 
 -- a free place ends last
-pub free_end : (rs : Blocks) (kept k : ℕ) (d : GapAckBlock) → kept ≤ k → k < length rs
-    → AreFree (drop kept rs) → (get_or rs k d).end ≡ 65535
-free_end rs kept k d l m f =
-    grind (arith, get_or-drop kept rs (k - kept) d, f (k - kept) d, length-drop kept rs)
+pub free_end : (xs : Blocks) (kept k : ℕ) (d : GapAckBlock) → kept ≤ k → k < length xs
+    → AreFree (drop kept xs) → (get_or xs k d).end ≡ 65535
+free_end xs kept k d l m f = grind (arith, get_or-drop kept xs (k - kept) d, f (k - kept) d, length-drop kept xs)
 
 -- so the free places change nothing for a search
-pub parted_kept : (rs : Blocks) (kept t : ℕ) → t ≤ 65535 → kept ≤ length rs
-    → IsApart 0 (take kept rs) → AreFree (drop kept rs) → IsPartitionedBy (λ b. ltb b.end t) rs
-parted_kept rs kept t m l a f i j d le lt e =
-    let early = ltb-true (get_or rs j d).end t e in
-    elim (cases_lt j kept) [
-      | inl here ↦
-          let up = apart_order 0 (take kept rs) a i j d le (grind (arith, common_steps)) in
-          let p = get_or-take kept rs i d (omega arith) in
-          let q = get_or-take kept rs j d here in
-          lt-ltb (get_or rs i d).end t (grind (arith, up, p, q))
-      | inr ge ↦ absurd (omega (arith, free_end rs kept j d ge lt f))
-    ]
+pub parted_kept : (xs : Blocks) (kept n : ℕ) → n ≤ 65535 → kept ≤ length xs
+    → IsApart 0 (take kept xs) → AreFree (drop kept xs) → IsPartitionedBy (λ b. ltb b.end n) xs
+parted_kept xs kept n m l a f i j d le lt e =
+    grind (
+      arith,
+      nat_tests,
+      e,
+      free_end xs kept j d,
+      apart_order 0 i j (take kept xs) d a,
+      length-take-le kept xs,
+      get_or-take kept xs i d,
+      get_or-take kept xs j d,
+    )
+
+pub copy_nowhere : {X : Type 0} (xs : List X) (i j : ℕ) → i ≤ j → xs ≡ copy_within xs i j i
+copy_nowhere xs i j l =
+    grind (
+      arith,
+      common_steps,
+      drop-drop (j - i) i xs,
+      take-append-drop (j - i) (drop i xs),
+      take-append-drop i xs,
+    )
+
+copied : (xs : Blocks) (i j n dest : ℕ) → n ≤ j - i → i + n ≤ length xs → dest ≤ length xs
+    → take (dest + n) (copy_within xs i j dest) ≡ take dest xs ++ take n (drop i xs)
+copied xs i j n dest l m k =
+    let moved = take (j - i) (drop i xs) in
+    let rest = drop (dest + (j - i)) xs in
+    grind (
+      arith,
+      common_steps,
+      take-append-add (take dest xs) (moved ++ rest) n,
+      take-append-le n moved rest,
+      take-take n (j - i) (drop i xs),
+    )
+
+written : (xs ys : Blocks) (i : ℕ) (b : GapAckBlock) → i < length xs
+    → set (take (i + 1) xs ++ ys) i b ≡ take i xs ++ (b ∷ ys)
+written xs ys i b l =
+    grind (arith, common_steps, set-append_left (take (i + 1) xs) ys i b, take-set-lt (i + 1) xs i b)
+
+pub put_run : (xs : Blocks) (run : GapAckBlock) (first last kept end : ℕ)
+    → first ≤ last → last ≤ kept → kept ≤ end → end < length xs
+    → take (first + 1 + (kept - last)) (set (copy_within xs last end (first + 1)) first run)
+    ≡ take first (take kept xs) ++ (run ∷ drop last (take kept xs))
+put_run xs run first last kept end k l m n =
+    let moved = take (kept - last) (drop last xs) in
+    grind (
+      arith,
+      take-set-lt (first + 1 + (kept - last)) (copy_within xs last end (first + 1)) first run,
+      copied xs last end (kept - last) (first + 1),
+      written xs moved first run,
+      drop-take last (kept - last) xs,
+      take-take first kept xs,
+    )
+
+-- where as many runs lie there as before, or one more, the places after them are free
+pub put_free : (xs after : Blocks) (run : GapAckBlock) (first last kept end : ℕ) → first ≤ last
+    → last ≤ kept → kept ≤ end → AreFree (drop kept xs) → length after ≡ length xs
+    → CopiedTo xs after last (first + 1) (end - last) → SameFrom xs after (first + 1 + (end - last))
+    → kept ≤ first + 1 + (kept - last)
+    → AreFree (drop (first + 1 + (kept - last)) (set after first run))
+put_free xs after run first last kept end k l m f n moved rest s i d t =
+    let count = first + 1 + (kept - last) in
+    let at = count + i in
+    grind (
+      arith,
+      get_or-drop count (set after first run) i d,
+      length-drop count (set after first run),
+      length-set after first run,
+      get_or-set_other after first at run d,
+      moved at d,
+      rest at d,
+      free_end xs kept at d,
+      free_end xs kept (at - 1) d,
+    )

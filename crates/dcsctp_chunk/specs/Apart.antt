@@ -1,10 +1,9 @@
 -- What the steps of the cleaning say of neighbouring blocks (RFC 9260 section 3.3.4): for private
 -- functions alone, whose contracts can cite nothing but specs/.
-use Rattle.std.specs.Prelude.{◌≡◌, ℕ, ◌+◌, ◌-◌, ◌<◌, ◌≤◌, List, [], ◌∷◌, ◌++◌, slice_index_or, take, drop}
-use Rattle.std.specs.List.{All}
+use Rattle.std.specs.Prelude.{◌≡◌, ℕ, ◌+◌, ◌-◌, ◌<◌, ◌≤◌, Bool, ◌&&◌, nat_le, List, [], ◌∷◌, ◌++◌, slice_index_or, take, drop}
+use Rattle.std.specs.List.{All, list_any}
 use Rattle.std.specs.List.Sorted.{IsPartitionPoint}
 use Rattle.dcsctp_chunk.specs.declared.sack_chunk.GapAckBlock.{GapAckBlock}
-use Rattle.dcsctp_chunk.specs.Cover.{SameCover}
 use Rattle.dcsctp_chunk.specs.declared.chunk_validators.clean.Counts.{Counts}
 use Rattle.dcsctp_chunk.specs.declared.chunk_validators.runs.Gap.{Gap}
 use Rattle.dcsctp_chunk.specs.declared.chunk_validators.runs.Place.{Place}
@@ -15,10 +14,19 @@ abbrev pub IsApart : ℕ → List GapAckBlock → Type 0
 IsApart low [] = Unit {0}
 IsApart low (b ∷ bs) = (low ≤ b.start) × (b.start ≤ b.end) × IsApart (b.end + 2) bs
 
+-- where a block can start after such blocks: at low where there are none, else 2 past the last end
+abbrev pub after : ℕ → List GapAckBlock → ℕ
+after low [] = low
+after low (b ∷ bs) = after (b.end + 2) bs
+
+-- the set of the offsets that the blocks cover, as a test
+unfoldable pub covered : List GapAckBlock → ℕ → Bool
+covered blocks o = list_any (λ b. nat_le b.start o && nat_le o b.end) blocks
+
 -- the runs of what the blocks cover: they lie apart, and cover the same
 pub record AreRunsOf (runs blocks : List GapAckBlock) : Type 0 where
   pub apart : IsApart 0 runs
-  pub cover : SameCover runs blocks
+  pub cover : covered runs ≡ covered blocks
 
 -- the recent runs and those in front
 abbrev pub both : Counts → List GapAckBlock → List GapAckBlock → List GapAckBlock

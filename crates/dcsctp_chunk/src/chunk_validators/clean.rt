@@ -2,8 +2,8 @@
 
 ghost use Rattle.std.specs.Prelude.{◌≡◌, ◌+◌, ◌<◌, ◌≤◌, ◌∷◌, length, take, drop, vec_capacity};
 ghost use Rattle.std.specs.List.{SameFrom};
-ghost use Rattle.dcsctp_chunk.specs.Apart.{IsApart, AreRunsOf, AreFree, both};
-ghost use Rattle.dcsctp_chunk.specs.Cover.{SameCover, IsCleaned, AreValid};
+ghost use Rattle.dcsctp_chunk.specs.Apart.{IsApart, AreRunsOf, AreFree, both, covered};
+ghost use Rattle.dcsctp_chunk.specs.Cover.{IsCleaned, AreValid};
 
 use crate::chunk_validators::runs::{FREE, first_reaching, follows, insert, join_runs, make_free};
 use crate::chunk_validators::validate::are_apart;
@@ -77,7 +77,7 @@ fn gather(blocks: &mut [GapAckBlock]) -> usize
 /// Turns the blocks round where the first starts after the last: of falling blocks each then
 /// starts after the one before it.
 fn turn_falling(blocks: &mut [GapAckBlock])
-    ensures { SameCover blocks.new blocks.old }
+    ensures { covered blocks.new ≡ covered blocks.old }
 {
     let len = blocks.len();
     if len > 0 && blocks[0].start > blocks[len - 1].start {
@@ -93,6 +93,7 @@ struct Counts {
 }
 
 /// Puts the block in after the runs in front or among the recent ones, which may overlap those.
+#[tactic(auto, using(std::proofs::lemmas::Grind::common_steps, crate::proofs::Covers::covers))]
 fn add_block(
     blocks: &mut [GapAckBlock],
     recent: &mut [GapAckBlock],
@@ -110,8 +111,8 @@ fn add_block(
     ensures apart { IsApart 0 (take result.front blocks.new) }
     ensures recent_apart { IsApart 0 (take result.recent recent.new) }
     ensures free { AreFree (drop result.recent recent.new) }
-    ensures cover { SameCover (both result recent.new blocks.new)
-        (block ∷ both counts recent.old blocks.old) }
+    ensures cover { covered (both result recent.new blocks.new)
+        ≡ covered (block ∷ both counts recent.old blocks.old) }
     ensures rest { SameFrom blocks.old blocks.new (counts.front + counts.recent + 1) }
 {
     if follows(&blocks[..counts.front], block) {

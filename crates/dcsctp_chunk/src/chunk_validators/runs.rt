@@ -1,9 +1,9 @@
 //! Runs of offsets in a slice of blocks: a list by rising start, each at least 2 past the end of
 //! the one before it. A block is put in among them, and two such lists are joined.
 
-ghost use Rattle.std.specs.Prelude.{◌≡◌, ◌↔◌, ◌+◌, ◌-◌, ◌<◌, ◌≤◌, [], ◌∷◌, ◌++◌, length, IsTrue, take, drop};
-ghost use Rattle.std.specs.List.{copy_within};
-ghost use Rattle.dcsctp_chunk.specs.Apart.{IsApart, AreRunsOf, AreFree, LastStartsBy, IsReachedAt, around, placed};
+ghost use Rattle.std.specs.Prelude.{◌≡◌, ◌↔◌, ℕ, ◌+◌, ◌-◌, ◌<◌, ◌≤◌, [], ◌∷◌, ◌++◌, length, IsTrue, take, drop, max, slice_index_or};
+ghost use Rattle.std.specs.List.{copy_within, CopiedTo, SameFrom};
+ghost use Rattle.dcsctp_chunk.specs.Apart.{IsApart, AreRunsOf, AreFree, LastStartsBy, IsReachedAt, after, around, placed};
 
 use crate::sack_chunk::GapAckBlock;
 
@@ -98,6 +98,7 @@ struct Place {
 
 /// The place of the block among the runs, of which the one at `first` is the first that it can
 /// touch.
+#[tactic(auto, using(crate::proofs::Apart::placed_apart, crate::proofs::Placed::placed_cover))]
 fn find_place(runs: &[GapAckBlock], first: usize, block: GapAckBlock) -> Place
     requires nonempty { block.start ≤ block.end }
     requires apart { IsApart 0 runs.now }
@@ -212,16 +213,18 @@ fn is_past(run: GapAckBlock, block: GapAckBlock) -> bool
 }
 
 /// Moves `count` runs to the gap's other side.
-#[tactic(auto, using(crate::proofs::Joined::copied_front, crate::proofs::Joined::copied_back))]
 fn lift(runs: &mut [GapAckBlock], gap: Gap, count: usize) -> Gap
+    requires some { 0 < count }
     requires count { count ≤ gap.low }
     requires order { gap.low ≤ gap.high }
     requires bound { gap.high ≤ length runs.old }
+    requires apart { IsApart 0 (around gap runs.old) }
     ensures low { result.low + count ≡ gap.low }
     ensures high { result.high + count ≡ gap.high }
-    ensures front { take result.low runs.new ≡ take result.low runs.old }
-    ensures back { drop result.high runs.new ≡ take count (drop result.low runs.old)
-        ++ drop gap.high runs.old }
+    ensures runs { around result runs.new ≡ around gap runs.old }
+    ensures from { (n : ℕ) (d : GapAckBlock)
+        → n ≤ (slice_index_or runs.old (gap.low - count) d).start
+        → IsApart n (drop result.high runs.new) }
 {
     let low = gap.low - count;
     let high = gap.high - count;
@@ -230,12 +233,14 @@ fn lift(runs: &mut [GapAckBlock], gap: Gap, count: usize) -> Gap
 }
 
 /// Moves the blocks from `start` up to `end` to `dest`.
-#[tactic(auto, using(crate::proofs::Joined::copy_nowhere))]
+#[tactic(auto, using(crate::proofs::Placed::copy_nowhere))]
 fn move_within(blocks: &mut [GapAckBlock], start: usize, end: usize, dest: usize)
     requires order { start ≤ end }
     requires bound { end ≤ length blocks.old }
     requires room { dest + (end - start) ≤ length blocks.old }
-    ensures { blocks.new ≡ copy_within blocks.old start end dest }
+    ensures after { blocks.new ≡ copy_within blocks.old start end dest }
+    ensures moved { CopiedTo blocks.old blocks.new start dest (end - start) }
+    ensures rest { SameFrom blocks.old blocks.new (dest + (end - start)) }
 {
     if start != dest {
         blocks.copy_within(start..end, dest);
@@ -256,6 +261,7 @@ fn last_place(runs: &[GapAckBlock], block: GapAckBlock) -> Last
     requires near { LastStartsBy (block.end + 1) (length runs.now) runs.now }
     ensures bound { result.first ≤ length runs.now }
     ensures within { block.end ≤ result.run.end }
+    ensures last { result.run.end + 2 ≤ max (block.end + 2) (after 0 runs.now) }
     ensures runs { AreRunsOf (take result.first runs.now ++ (result.run ∷ [])) (block ∷ runs.now) }
 {
     let mut first = runs.len();

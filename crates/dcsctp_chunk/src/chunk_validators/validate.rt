@@ -12,6 +12,7 @@ use crate::sack_chunk::{GapAckBlock, SackChunk};
 /// if any, starts at 2 or later.
 ///
 /// Each TSN at a covered offset of 1 to 65,535 is greater than the cumulative TSN.
+#[tactic(auto, using(crate::proofs::Runs::valid_iff))]
 pub fn validate_sack(sack: &SackChunk) -> bool
     ensures valid { IsTrue result ↔ AreValid sack.now.gap_ack_blocks.items }
     ensures greater { (o : ℕ) → Covers sack.now.gap_ack_blocks.items o → 1 ≤ o → o ≤ 65535

@@ -2,15 +2,16 @@
 use Rattle.std.proofs.Common.{◌≡◌, take, refl, arith, ◌∙◌}
 use Rattle.std.proofs.lemmas.Bool.{false≢true}
 use Rattle.std.proofs.lemmas.List.{take-take, take-append-le}
-use Rattle.dcsctp_chunk.proofs.RunsOf.{are_runs_of, cleaned_from_cover, validated_runs, runs_validated}
+use Rattle.dcsctp_chunk.proofs.Apart.{apart_weaker}
+use Rattle.dcsctp_chunk.proofs.Runs.{cleaned_from_cover, valid_iff}
 use Rattle.dcsctp_chunk.proofs.chunk_validators.clean.clean_blocks.Goals as goal
 
 pub returns-then-are_apart-clause-cleaned : goal.returns-then-are_apart-clause-cleaned
 returns-then-are_apart-clause-cleaned c =
     let old = c.args.blocks.now.items in
     let said = rw c.deref.ensures.value at c.if-are_apart.ensures in
-    cleaned_from_cover old old said.ends
-    (are_runs_of old old (validated_runs old (said.apart.0 refl)).runs)
+    let apart = apart_weaker 0 2 old (omega arith) (said.apart.0 refl) in
+    cleaned_from_cover old old said.ends (record { apart = apart; cover = refl })
 
 pub returns-clause-cleaned : goal.returns-clause-cleaned
 returns-clause-cleaned c =
@@ -25,5 +26,5 @@ returns-clause-cleaned c =
 
 pub returns-clause-same : goal.returns-clause-same
 returns-clause-same c valid =
-    let apart = runs_validated c.args.blocks.now.items valid in
+    let apart = (valid_iff c.args.blocks.now.items).0 valid in
     absurd (false≢true (c.if-are_apart.ensures.apart.1 (rw c.deref.ensures.value apart)))

@@ -1,6 +1,6 @@
 -- The free places end last, so that they change nothing for the search.
-use Rattle.std.proofs.Common.{◌≤◌, inl, inr, ltb, get_or, rules, arith, ap}
-use Rattle.std.proofs.lemmas.Bool.{cases_lt, ltb-true, ltb-false}
+use Rattle.std.proofs.Common.{◌≤◌, ltb, rules, arith}
+use Rattle.std.proofs.lemmas.Bool.Decides.{nat_tests}
 use Rattle.std.proofs.lemmas.List.{length-take-le, get_or-take}
 use Rattle.std.proofs.lemmas.List.Sorted.{IsPartitionPoint-from_clause}
 use Rattle.dcsctp_chunk.specs.declared.sack_chunk.GapAckBlock.{GapAckBlock}
@@ -17,28 +17,13 @@ returns c =
     c.requires.free in
     let point = IsPartitionPoint-from_clause (λ (b : GapAckBlock). ltb b.end offset) _ _
     c.partition_point.ensures.partitioned parted (λ a r q k. search rules) in
-    let bound : c.partition_point.result ≤ kept =
-    elim (cases_lt kept c.partition_point.result) [
-      | inl lt ↦
-          let high = c.partition_point.ensures.bound in
-          let early = ltb-true (get_or runs kept zero_block).end offset
-          (point.0 kept zero_block (omega arith) lt) in
-          let last =
-          free_end runs kept kept zero_block (omega arith) (omega arith) c.requires.free in
-          absurd (omega arith)
-      | inr ge ↦ ge
-    ] in
+    let free = free_end runs kept kept zero_block in
+    let bound : c.partition_point.result ≤ kept = grind (arith, nat_tests, point.0 kept zero_block, free) in
     let long = length-take-le kept runs c.requires.room in
     record {
       bound = bound;
       point = (
-        (λ k d l m.
-            let early = ltb-true (get_or runs k d).end offset (point.0 k d l m) in
-            let same = ap (λ (b : GapAckBlock). b.end) (get_or-take kept runs k d (omega arith)) in
-            omega arith),
-        (λ k d l m.
-            let late = ltb-false (get_or runs k d).end offset (point.1 k d l (omega arith)) in
-            let same = ap (λ (b : GapAckBlock). b.end) (get_or-take kept runs k d (omega arith)) in
-            omega arith),
+        (λ k d l m. grind (arith, nat_tests, point.0 k d, get_or-take kept runs k d)),
+        (λ k d l m. grind (arith, nat_tests, point.1 k d, get_or-take kept runs k d)),
       );
     }

@@ -1,0 +1,15 @@
+use Rattle.std.proofs.Common.{◌-◌, take, drop, arith}
+use Rattle.std.proofs.lemmas.Grind.{common_steps}
+use Rattle.dcsctp_chunk.proofs.Apart.{past_gap}
+use Rattle.dcsctp_chunk.proofs.Placed.{lifted}
+use Rattle.dcsctp_chunk.proofs.chunk_validators.runs.lift.Goals as goal
+
+pub returns-clause-runs : goal.returns-clause-runs
+returns-clause-runs c = grind (arith, lifted)
+
+pub returns-clause-from : goal.returns-clause-from
+returns-clause-from c n d l =
+    let gap = c.args.gap in
+    let first = c.copy_within.ensures.by_index.0 0 d in
+    past_gap c.copy_within.new.self (gap.low - c.args.count) (gap.high - c.args.count) n d
+    (grind (arith, lifted, c.requires.apart)) (λ some. grind (arith, first))
