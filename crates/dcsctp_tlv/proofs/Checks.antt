@@ -9,7 +9,7 @@ use Rattle.dcsctp_tlv.specs.Frame.{padding_size, round_up_to_4, Item, item_bytes
 use Rattle.dcsctp_tlv.specs.Level.{Level, ItemsMean, MeansTrees, MeansCounted, front_row}
 use Rattle.dcsctp_tlv.proofs.Items.{front_item, front_length, items_before}
 use Rattle.dcsctp_tlv.proofs.Lists.{Progress, step, finish, is_cons}
-use Rattle.dcsctp_tlv.proofs.Laws.{front_is, rest_is}
+use Rattle.dcsctp_tlv.proofs.Laws.{front_is}
 
 -- ---- the check
 
@@ -104,7 +104,6 @@ first_item rule bytes (i ∷ is) fits h are =
     let e = at_first bytes i is are.split in
     let next = (items_before rule (i ∷ is) are.formed).0 in
     let front = front_is rule i (flat_map item_bytes is ++ []) bytes fits e next in
-    let rest = rest_is rule i (flat_map item_bytes is ++ []) bytes fits e next in
     record {
       frame = front.0;
       accepted = subst (λ (j : Item). rule (padding_size (length j.value)) j.padding ≡ true) front.1
@@ -112,7 +111,7 @@ first_item rule bytes (i ∷ is) fits h are =
       others = is;
       split = ap (λ (j : Item). j ∷ is) front.1;
       are = record {
-        split = sym rest ∙ append-nil (flat_map item_bytes is);
+        split = sym front.2 ∙ append-nil (flat_map item_bytes is);
         formed = tail_formed rule i is are.formed;
       };
     }

@@ -58,14 +58,9 @@ exactly errors distinct view answer single (Err e) (inr lacks) memory = record {
 
 pub error_one : (d e : Fault) → error_of d ≡ error_of e → d ≡ e
 error_one Length Length h = refl
-error_one Length Padding h = absurd cc
-error_one Length Value h = absurd cc
-error_one Padding Length h = absurd cc
 error_one Padding Padding h = refl
-error_one Padding Value h = absurd cc
-error_one Value Length h = absurd cc
-error_one Value Padding h = absurd cc
 error_one Value Value h = refl
+error_one d e h = absurd cc
 
 pub no_memory : (e : Fault) → error_of e ≡ OutOfMemory → ⊥
 no_memory Length h = cc

@@ -45,10 +45,7 @@ written_after front image old out e room =
     let is : out ≡ written (solid front) old = e ∙ sym (written-solid front old room) in
     let after : drop (length front) out ≡ drop (length front) old =
     ap (drop (length front)) e ∙ drop_at front (drop (length front) old) (length front) refl in
-    ap (λ (xs : List ℕ). take (length front) out ++ written image xs) after
-    ∙ ap (λ (xs : List ℕ). take (length front) xs ++ written image (drop (length front) old)) is
-    ∙ ap (λ (n : ℕ). take n (written (solid front) old) ++ written image (drop n old)) (sym len)
-    ∙ sym (written-append (solid front) image old)
+    rw (after, written-append (solid front) image old, len, ← is) refl
 
 -- ---- items
 
@@ -76,11 +73,7 @@ written_next p i n start old out e s =
     let len : length q ≡ start = length-append p (holes n) ∙ ap (λ (k : ℕ). length p + k)
     (length-replicate n None) ∙ sym s in
     let after : drop start out ≡ drop start old = rw (← len, e, ← same) (drop-written q old) in
-    sym (ap (λ (image : List (Option ℕ)). written image old) (sym (append_assoc p (holes n) i))
-    ∙ written-append q i old
-    ∙ ap (λ (k : ℕ). take k (written q old) ++ written i (drop k old)) len
-    ∙ ap (λ (ys : List ℕ). take start ys ++ written i (drop start old)) (same ∙ sym e)
-    ∙ ap (λ (ys : List ℕ). take start out ++ written i ys) (sym after))
+    rw (after, ← append_assoc p (holes n) i, written-append q i old, len, same, ← e) refl
 
 round_up-add : (a b : ℕ) → round_up_to_4 (round_up_to_4 a + b) ≡ round_up_to_4 a + round_up_to_4 b
 round_up-add a b = omega arith
@@ -92,12 +85,8 @@ list_size-push : {T : Type 0} (tlv : T → Tlv) (ts : List T) (t : T) → list_s
     ≡ round_up_to_4 (list_size tlv ts) + size_of (tlv t)
 list_size-push tlv [] t = omega arith
 list_size-push tlv (u ∷ []) t = refl
-list_size-push tlv (u ∷ v ∷ ts) t = ap (λ (n : ℕ). round_up_to_4 (size_of (tlv u)) + n)
-    (list_size-push tlv (v ∷ ts) t) ∙ omega (
-      arith,
-      round_up-add (size_of (tlv u))
-          (list_size tlv (v ∷ ts)),
-    )
+list_size-push tlv (u ∷ v ∷ ts) t = rw (list_size-push tlv (v ∷ ts) t)
+    (omega (arith, round_up-add (size_of (tlv u)) (list_size tlv (v ∷ ts))))
 
 -- the image of a list is as long as its size
 pub length-list_image : {T : Type 0} (tlv : T → Tlv)
@@ -107,29 +96,17 @@ length-list_image tlv law [] = refl
 length-list_image tlv law (t ∷ []) = law t
 length-list_image tlv law (t ∷ u ∷ ts) =
     let rest = length-list_image tlv law (u ∷ ts) in
-    let h = holes (gap (size_of (tlv t))) in
-    let l = list_image tlv (u ∷ ts) in
-    let a = length-append (image_of (tlv t)) (h ++ l) in
-    let b = length-append h l in
-    let c : length h ≡ gap (size_of (tlv t)) = length-replicate (gap (size_of (tlv t))) None in
-    let e = law t in
-    a ∙ omega (arith, b, c, rest, e)
+    simp (length-append, length-replicate, law t, rest) (omega arith)
 
 list_image-push : {T : Type 0} (tlv : T → Tlv) (ts : List T) (t : T) → list_image tlv (ts ++ t ∷ [])
     ≡ list_image tlv ts ++ (holes (gap (list_size tlv ts)) ++ image_of (tlv t))
 list_image-push tlv [] t = refl
 list_image-push tlv (u ∷ []) t = refl
 list_image-push tlv (u ∷ v ∷ ts) t =
-    let h = holes (gap (size_of (tlv u))) in
-    let l = list_image tlv (v ∷ ts) in
     let n = list_size tlv (v ∷ ts) in
-    let k : gap n ≡ gap (list_size tlv (u ∷ v ∷ ts)) =
-    sym (gap-add (size_of (tlv u)) n) ∙ ap gap (omega arith) in
-    ap (λ (x : List (Option ℕ)). image_of (tlv u) ++ (h ++ x)) (list_image-push tlv (v ∷ ts) t)
-    ∙ ap (λ (x : List (Option ℕ)). image_of (tlv u) ++ x)
-    (sym (append_assoc h l (holes (gap n) ++ image_of (tlv t))))
-    ∙ sym (append_assoc (image_of (tlv u)) (h ++ l) (holes (gap n) ++ image_of (tlv t)))
-    ∙ ap (λ (m : ℕ). (image_of (tlv u) ++ (h ++ l)) ++ (holes m ++ image_of (tlv t))) k
+    let same : gap (list_size tlv (u ∷ v ∷ ts)) ≡ gap n =
+    ap gap (omega arith) ∙ gap-add (size_of (tlv u)) n in
+    rw same (simp (list_image-push tlv (v ∷ ts) t, append_assoc))
 
 size_front : {T : Type 0} (tlv : T → Tlv) (ts us : List T)
     → list_size tlv ts ≤ list_size tlv (ts ++ us)
@@ -205,8 +182,7 @@ pub total_more : {T : Type 0} (tlv : T → Tlv) (ts : List T) {i : ℕ} {t : T} 
     → i < length ts → t ≡ get_or ts i t
     → total ≡ list_size tlv (take i ts) → next ≡ round_up_to_4 total + size_of (tlv t)
     → next ≡ list_size tlv (take (i + 1) ts)
-total_more tlv ts {i} {t} lt e so_far is = is ∙ ap (λ (n : ℕ). round_up_to_4 n
-    + size_of (tlv t)) so_far ∙ sym (next_size tlv ts lt e).0
+total_more tlv ts {i} {t} lt e so_far is = rw (is, so_far) (sym (next_size tlv ts lt e).0)
 
 pub all_more : {T : Type 0} (P : T → Type 0) (ts : List T) (i : ℕ) (t : T) → i < length ts
     → t ≡ get_or ts i t → P t
@@ -231,15 +207,13 @@ pub list_size-map : {A B : Type 0} (tlv : B → Tlv) (view : A → B) (xs : List
     → list_size (λ x. tlv (view x)) xs ≡ list_size tlv (map view xs)
 list_size-map tlv view [] = refl
 list_size-map tlv view (x ∷ []) = refl
-list_size-map tlv view (x ∷ y ∷ xs) =
-    ap (λ (n : ℕ). round_up_to_4 (size_of (tlv (view x))) + n) (list_size-map tlv view (y ∷ xs))
+list_size-map tlv view (x ∷ y ∷ xs) = rw (list_size-map tlv view (y ∷ xs)) refl
 
 pub list_image-map : {A B : Type 0} (tlv : B → Tlv) (view : A → B) (xs : List A)
     → list_image (λ x. tlv (view x)) xs ≡ list_image tlv (map view xs)
 list_image-map tlv view [] = refl
 list_image-map tlv view (x ∷ []) = refl
-list_image-map tlv view (x ∷ y ∷ xs) = ap (λ (p : List (Option ℕ)). image_of (tlv (view x))
-    ++ (holes (gap (size_of (tlv (view x)))) ++ p)) (list_image-map tlv view (y ∷ xs))
+list_image-map tlv view (x ∷ y ∷ xs) = rw (list_image-map tlv view (y ∷ xs)) refl
 
 -- ---- images over zeros
 
@@ -249,8 +223,7 @@ written-zeros [] n le = ap (λ (k : ℕ). replicate k 0) (let e : n ≡ n - 0 = 
 written-zeros (c ∷ image) zero le = absurd (omega arith)
 written-zeros (c ∷ image) (suc n) le =
     let k : n - length image ≡ suc n - suc (length image) = omega arith in
-    ap (λ (xs : List ℕ). unwrap_or c 0 ∷ xs) (written-zeros image n (omega arith)
-    ∙ ap (λ (m : ℕ). zeroed image ++ replicate m 0) k)
+    rw (written-zeros image n (omega arith), k) refl
 
 pub zeroed-append : (a b : List (Option ℕ)) → zeroed (a ++ b) ≡ zeroed a ++ zeroed b
 zeroed-append a b = map-append (λ cell. unwrap_or cell 0) a b

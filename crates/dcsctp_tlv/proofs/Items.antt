@@ -37,11 +37,8 @@ pub cut : (n m : ℕ) (xs : List ℕ) → n ≤ m → take n xs ++ (take (m - n)
     ≡ xs
 cut n m xs le =
     let k : n + (m - n) ≡ m = omega arith in
-    let e : drop (m - n) (drop n xs) ≡ drop m xs =
-    drop-drop (m - n) n xs ∙ ap (λ (j : ℕ). drop j xs) k in
-    ap (λ (ys : List ℕ). take n xs ++ (take (m - n) (drop n xs) ++ ys)) (sym e)
-    ∙ ap (λ (ys : List ℕ). take n xs ++ ys) (take-append-drop (m - n) (drop n xs))
-    ∙ take-append-drop n xs
+    let e : drop (m - n) (drop n xs) ≡ drop m xs = rw (drop-drop (m - n) n xs, k) refl in
+    rw (← e, take-append-drop (m - n) (drop n xs)) (take-append-drop n xs)
 
 pub same_front : (v w x y : List ℕ) → length v ≡ length w → v ++ x ≡ w ++ y → (v ≡ w) × (x ≡ y)
 same_front v w x y len e = (
@@ -100,13 +97,7 @@ front_split (a ∷ b ∷ c ∷ d ∷ more) fits frame =
     let wide : round_up_to_4 len - len ≡ (round_up_to_4 len - 4) - (len - 4) = omega arith in
     let parts : take (len - 4) more ++ (take (round_up_to_4 len - len) (drop len bytes)
     ++ drop (round_up_to_4 len) bytes) ≡ more =
-    ap (λ (ys : List ℕ). take (len - 4) more ++ (take (round_up_to_4 len - len) ys
-    ++ drop (round_up_to_4 len) bytes)) from
-    ∙ ap (λ (ys : List ℕ). take (len - 4) more
-    ++ (take (round_up_to_4 len - len) (drop (len - 4) more) ++ ys)) to
-    ∙ ap (λ (j : ℕ). take (len - 4) more ++ (take j (drop (len - 4) more)
-    ++ drop (round_up_to_4 len - 4) more)) wide
-    ∙ cut (len - 4) (round_up_to_4 len - 4) more (omega arith) in
+    rw (from, to, wide) (cut (len - 4) (round_up_to_4 len - 4) more (omega arith)) in
     sym (ap (λ (h : List ℕ). a ∷ b ∷ (h ++ (frame_value bytes ++ frame_padding bytes))
     ++ frame_rest bytes) header
     ∙ ap (λ (t : List ℕ). a ∷ b ∷ c ∷ d ∷ t) (append_assoc (frame_value bytes) (frame_padding bytes)
@@ -189,16 +180,16 @@ item_frame rule i r p =
 
 -- ---- lists of items
 
+-- one item more at the end
+pub with_last : (is : List Item) (i : Item) (r : List ℕ) → flat_map item_bytes is
+    ++ (item_bytes i ++ r) ≡ flat_map item_bytes (is ++ i ∷ []) ++ r
+with_last is i r = simp (flat_map-append, append_assoc, append-nil)
+
 pub before_push : (rule : PaddingRule) (is : List Item) (i : Item) (r : List ℕ)
     → AreBefore rule is (item_bytes i ++ r) → IsNext rule i r → AreBefore rule (is ++ i ∷ []) r
 before_push rule [] i r p q = (q, tt)
 before_push rule (j ∷ is) i r p q =
-    let e : flat_map item_bytes is ++ (item_bytes i ++ r) ≡ flat_map item_bytes (is ++ i ∷ [])
-    ++ r =
-    sym (append_assoc (flat_map item_bytes is) (item_bytes i) r)
-    ∙ ap (λ (x : List ℕ). (flat_map item_bytes is ++ x) ++ r) (sym (append-nil (item_bytes i)))
-    ∙ ap (λ (x : List ℕ). x ++ r) (sym (flat_map-append item_bytes is (i ∷ []))) in
-    (subst (IsNext rule j) e p.0, before_push rule is i r p.1 q)
+    (subst (IsNext rule j) (with_last is i r) p.0, before_push rule is i r p.1 q)
 
 whole_next : (rule : PaddingRule) (i : Item) (r : List ℕ) → r ≢ [] → IsNext rule i r
     → IsWhole rule i

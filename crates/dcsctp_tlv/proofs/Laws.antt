@@ -22,20 +22,11 @@ pub record LawfulRow {T : Type 0} (row : Row T) : Type 0 where
 abbrev pub Lawful : {T : Type 0} → Level T → Type 0
 Lawful level = (a b : ℕ) → LawfulRow (level.row a b)
 
-ok_same : {T E : Type 0} (r : Result T E) (s t : T) → r ≡ Ok s → r ≡ Ok t → s ≡ t
-ok_same r s t p q = cc
-
-err_same : {T E : Type 0} (r : Result T E) (s t : E) → r ≡ Err s → r ≡ Err t → s ≡ t
-err_same r s t p q = cc
-
-ok_not_err : {T E : Type 0} (r : Result T E) (s : T) (e : E) → r ≡ Ok s → r ≡ Err e → ⊥
-ok_not_err r s e p q = cc
-
 pub plain_lawful : {T : Type 0} (read : List ℕ → Result T Fault) → LawfulRow (plain read)
 plain_lawful {T} read = record {
-  one = λ v s t p q. ok_same (read v) s t p q;
-  apart = λ v t e fits p q. ok_not_err (read v) t e p q;
-  same = λ v d e fits p q. err_same (read v) d e p q;
+  one = λ v s t p q. cc;
+  apart = λ v t e fits p q. cc;
+  same = λ v d e fits p q. cc;
   place = λ v d e fits p q. refl;
   some = λ v fits. go v (read v) refl;
 } where
@@ -63,27 +54,17 @@ as_lawful {A} {B} f row law = record {
 
 -- ---- lists
 
-loosened : (rule : PaddingRule) (i : Item) (r : List ℕ) → IsNext rule i r → IsNext any_padding i r
-loosened rule i r p =
-    record { fits = p.fits; at_most = p.at_most; whole = p.whole; accepted = refl }
-
--- the front of an item's bytes is the item
+-- the front of an item's bytes is the item, and what follows it the rest
 pub front_is : (rule : PaddingRule) (i : Item) (r bytes : List ℕ) → AreBytes bytes
-    → bytes ≡ item_bytes i ++ r → IsNext rule i r → BeginsWithFrame bytes × (i ≡ front_item bytes)
+    → bytes ≡ item_bytes i ++ r → IsNext rule i r
+    → BeginsWithFrame bytes × (i ≡ front_item bytes) × (r ≡ frame_rest bytes)
 front_is rule i r bytes fits e p =
     let frame : BeginsWithFrame bytes = subst BeginsWithFrame (sym e) (item_frame rule i r p) in
+    let loosened : IsNext any_padding i r =
+    record { fits = p.fits; at_most = p.at_most; whole = p.whole; accepted = refl } in
     let same = next_one any_padding i (front_item bytes) r (frame_rest bytes)
-    (sym e ∙ front_split bytes fits frame) (loosened rule i r p) (front_next any_padding bytes
-    fits frame refl) in
-    (frame, same.0)
-
--- and so is what follows it
-pub rest_is : (rule : PaddingRule) (i : Item) (r bytes : List ℕ) → AreBytes bytes
-    → bytes ≡ item_bytes i ++ r → IsNext rule i r → r ≡ frame_rest bytes
-rest_is rule i r bytes fits e p =
-    let frame = (front_is rule i r bytes fits e p).0 in
-    (next_one any_padding i (front_item bytes) r (frame_rest bytes) (sym e ∙ front_split bytes fits
-    frame) (loosened rule i r p) (front_next any_padding bytes fits frame refl)).1
+    (sym e ∙ front_split bytes fits frame) loosened (front_next any_padding bytes fits frame refl) in
+    (frame, same.0, same.1)
 
 value_fits : (bytes : List ℕ) → AreBytes bytes → AreBytes (frame_value bytes)
 value_fits bytes fits i = elim (cases_lt i (frame_length bytes - 4)) [
@@ -105,14 +86,10 @@ front_apart level law i t r bytes e fits is p means (no_frame _ h _) =
     h (front_is level.padding i r bytes fits is p).0
 front_apart level law i t r bytes e fits is p means (value _ h) =
     let same = (front_is level.padding i r bytes fits is p).1 in
-    (law i.first i.second).apart i.value t e (subst (λ (j : Item). AreBytes j.value) (sym same)
-    (value_fits bytes fits)) means (subst (λ (j : Item). (level.row j.first j.second).faults
-    j.value e) (sym same) h)
+    (law i.first i.second).apart i.value t e (rw same (value_fits bytes fits)) means (rw same h)
 front_apart level law i t r bytes e fits is p means (padding _ _ _ h _) =
     let same = (front_is level.padding i r bytes fits is p).1 in
-    let refused : level.padding (padding_size (length i.value)) i.padding
-    ≡ false = subst (λ (j : Item). level.padding (padding_size (length j.value)) j.padding
-    ≡ false) (sym same) h in
+    let refused : level.padding (padding_size (length i.value)) i.padding ≡ false = rw same h in
     let both : true ≡ false = sym p.accepted ∙ refused in absurd cc
 
 rest_fits : (xs ys bytes : List ℕ) → AreBytes bytes → bytes ≡ xs ++ ys → AreBytes ys
@@ -256,8 +233,7 @@ list_agree level law bytes d e fits f g =
     λ r. (h : BeginsWithFault level r e) → Agree level f.rest r d e f.fault h in
     let same = subst P way.2 (λ h. front_agree level law f.rest d e p.fits f.fault h) g.fault in (
       same.0,
-      ap (λ (is : List Item). length (flat_map item_bytes is) + front_offset level f.rest d f.fault)
-          way.0 ∙ ap (λ (n : ℕ). length (flat_map item_bytes g.items) + n) same.1,
+      rw (way.0, same.1) refl,
     )
 
 pub list_same : {T : Type 0} (level : Level T) → Lawful level → (bytes : List ℕ) (d e : Fault)

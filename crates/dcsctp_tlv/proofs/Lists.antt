@@ -1,15 +1,14 @@
 -- Lists of items: one loop over frames gives the one answer.
-use Rattle.std.proofs.Common.{◌≡◌, ◌≢◌, ℕ, ◌+◌, ◌-◌, Bool, true, false, List, [], ◌∷◌, ◌++◌, length, refl, sym, ap, subst, ◌∙◌, append_assoc, arith}
+use Rattle.std.proofs.Common.{◌≡◌, ◌≢◌, ℕ, ◌+◌, ◌-◌, Bool, true, false, List, [], ◌∷◌, ◌++◌, length, refl, sym, ap, subst, ◌∙◌, arith}
 use Rattle.std.specs.List.{flat_map}
 use Rattle.std.proofs.lemmas.Bool.{eqb-true}
 use Rattle.std.proofs.lemmas.List.{append-nil, get_or-drop, length-append, nil_from_length}
-use Rattle.std.proofs.lemmas.List.Concat.{flat_map-append}
 use Rattle.std.specs.Prelude.{◌==◌}
 use Rattle.dcsctp_tlv.specs.Fault.{Fault}
 use Rattle.dcsctp_tlv.specs.Number.{AreBytes}
 use Rattle.dcsctp_tlv.specs.Frame.{round_up_to_4, padding_size, Item, item_bytes, frame_length, BeginsWithFrame, frame_value, frame_padding, frame_rest}
 use Rattle.dcsctp_tlv.specs.Level.{Level, ItemsMean, MeansTrees, HasFault, HasFaultAt, BeginsWithFault, no_frame, value, padding, front_row, front_offset}
-use Rattle.dcsctp_tlv.proofs.Items.{AreBefore, front_item, front_split, front_next, before_push, before_end, before_rest}
+use Rattle.dcsctp_tlv.proofs.Items.{AreBefore, front_item, front_split, front_next, with_last, before_push, before_end, before_rest}
 
 -- what a loop over the frames has read
 pub record Progress {T : Type 0} (level : Level T) (bytes : List ℕ) (trees : List T)
@@ -44,11 +43,7 @@ step level bytes trees rest t p frame means accepted =
     record {
       items = p.items ++ i ∷ [];
       split = p.split ∙ ap (λ (x : List ℕ). flat_map item_bytes p.items ++ x) cut
-          ∙ sym (append_assoc (flat_map item_bytes p.items) (item_bytes i) (frame_rest rest))
-          ∙ ap (λ (x : List ℕ). (flat_map item_bytes p.items ++ x) ++ frame_rest rest)
-          (sym (append-nil (item_bytes i)))
-          ∙ ap (λ (x : List ℕ). x ++ frame_rest rest)
-          (sym (flat_map-append item_bytes p.items (i ∷ [])));
+          ∙ with_last p.items i (frame_rest rest);
       before = before_push level.padding p.items i (frame_rest rest)
           (subst (AreBefore level.padding p.items) cut p.before) next;
       mean = mean_push level p.items trees i t p.mean means;

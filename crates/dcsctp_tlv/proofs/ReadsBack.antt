@@ -5,9 +5,10 @@ use Rattle.std.specs.Prelude.{replicate, unwrap_or}
 use Rattle.std.specs.List.{flat_map, AllByRecursion}
 use Rattle.std.proofs.lemmas.Bool.{eq-eqb}
 use Rattle.std.proofs.lemmas.List.{append-nil, length-replicate, length-map}
-use Rattle.dcsctp_tlv.specs.Frame.{padding_size, header, Item, item_bytes, PaddingRule, are_zeros, zero_padding, full_padding, IsWhole, IsLastForm, AreFormed}
+use Rattle.dcsctp_tlv.specs.Frame.{padding_size, Item, item_bytes, PaddingRule, are_zeros, zero_padding, full_padding, IsWhole, AreFormed}
 use Rattle.dcsctp_tlv.specs.Level.{Level, ItemsMean, MeansTrees}
 use Rattle.dcsctp_tlv.specs.Image.{solid, holes, zeroed, gap, Tlv, size_of, IsEncodable, image_of, list_image, list_size}
+use Rattle.dcsctp_tlv.proofs.Items.{before_end, whole_before}
 use Rattle.dcsctp_tlv.proofs.Images.{zeroed-append, zeroed-holes}
 
 -- Which trees of a level read back: what each is written as means it.
@@ -69,12 +70,7 @@ item_bytes_of : (t : Tlv) (n : ℕ) → length t.value ≡ t.value_size
     → zeroed (image_of t) ++ replicate n 0 ≡ item_bytes (item_of t n)
 unfolding image_of
 item_bytes_of t n sized =
-    let front : List ℕ = header t.first t.second t.value_size in
-    ap (λ (xs : List ℕ). xs ++ replicate n 0) (zeroed-append (solid front) t.value
-    ∙ ap (λ (xs : List ℕ). xs ++ zeroed t.value) (zeroed-solid front))
-    ∙ append_assoc front (zeroed t.value) (replicate n 0)
-    ∙ ap (λ (m : ℕ). header t.first t.second m ++ (zeroed t.value ++ replicate n 0))
-    (sym sized ∙ sym (length-zeroed t.value))
+    rw (length-zeroed t.value, sized) refl
 
 whole_item : (rule : PaddingRule) (t : Tlv) → length t.value ≡ t.value_size → size_of t < 2 ^ 16
     → AcceptsZeros rule → IsWhole rule (item_of t (gap (size_of t)))
@@ -92,10 +88,14 @@ whole_item rule t sized fits accepts =
 
 module _ {T : Type 0} (level : Level T) (tlv : T → Tlv) (IsGood : T
     → Type 0) (back : ReadsBack level tlv IsGood) where
+  abbrev nested_padding : List T → ℕ → ℕ
+  nested_padding [] n = 0
+  nested_padding (u ∷ ts) n = n
+
   abbrev nested_items : List T → List Item
   nested_items [] = []
-  nested_items (t ∷ []) = item_of (tlv t) 0 ∷ []
-  nested_items (t ∷ u ∷ ts) = item_of (tlv t) (gap (size_of (tlv t))) ∷ nested_items (u ∷ ts)
+  nested_items (t ∷ ts) =
+      item_of (tlv t) (nested_padding ts (gap (size_of (tlv t)))) ∷ nested_items ts
 
   nested_split : (ts : List T) → zeroed (list_image tlv ts) ≡ flat_map item_bytes (nested_items ts)
   nested_split [] = refl
@@ -104,12 +104,14 @@ module _ {T : Type 0} (level : Level T) (tlv : T → Tlv) (IsGood : T
   nested_split (t ∷ u ∷ ts) =
       let g = gap (size_of (tlv t)) in
       let l = list_image tlv (u ∷ ts) in
-      zeroed-append (image_of (tlv t)) (holes g ++ l)
-      ∙ ap (λ (xs : List ℕ). zeroed (image_of (tlv t)) ++ xs) (zeroed-append (holes g) l
-      ∙ ap (λ (xs : List ℕ). xs ++ zeroed l) (zeroed-holes g))
-      ∙ sym (append_assoc (zeroed (image_of (tlv t))) (replicate g 0) (zeroed l))
-      ∙ ap (λ (xs : List ℕ). xs ++ zeroed l) (item_bytes_of (tlv t) g (back.sized t))
-      ∙ ap (λ (xs : List ℕ). item_bytes (item_of (tlv t) g) ++ xs) (nested_split (u ∷ ts))
+      rw (
+        zeroed-append (image_of (tlv t)) (holes g ++ l),
+        zeroed-append (holes g) l,
+        zeroed-holes g,
+        ← append_assoc (zeroed (image_of (tlv t))) (replicate g 0) (zeroed l),
+        item_bytes_of (tlv t) g (back.sized t),
+        nested_split (u ∷ ts),
+      ) refl
 
   nested_formed : (ts : List T) → AllByRecursion IsGood ts → AcceptsZeros level.padding
       → AcceptsNone level.padding → AreFormed level.padding (nested_items ts)
@@ -119,21 +121,15 @@ module _ {T : Type 0} (level : Level T) (tlv : T → Tlv) (IsGood : T
     padded = omega arith;
     accepted = none (padding_size (length (zeroed (tlv t).value)));
   }
-  nested_formed (t ∷ u ∷ []) good zeros none = (
+  nested_formed (t ∷ u ∷ ts) good zeros none = (
     whole_item level.padding (tlv t) (back.sized t)
         (back.fits t good.0) zeros,
-    nested_formed (u ∷ []) good.1 zeros none,
-  )
-  nested_formed (t ∷ u ∷ v ∷ ts) good zeros none = (
-    whole_item level.padding (tlv t) (back.sized t)
-        (back.fits t good.0) zeros,
-    nested_formed (u ∷ v ∷ ts) good.1 zeros none,
+    nested_formed (u ∷ ts) good.1 zeros none,
   )
 
   nested_mean : (ts : List T) → AllByRecursion IsGood ts → ItemsMean level (nested_items ts) ts
   nested_mean [] good = tt
-  nested_mean (t ∷ []) good = (back.means t good.0, tt)
-  nested_mean (t ∷ u ∷ ts) good = (back.means t good.0, nested_mean (u ∷ ts) good.1)
+  nested_mean (t ∷ ts) good = (back.means t good.0, nested_mean ts good.1)
 
   -- the image of a list, over zeros, means the list
   pub nested_reads_back : (ts : List T) → AllByRecursion IsGood ts → AcceptsZeros level.padding
@@ -156,23 +152,15 @@ module _ {T : Type 0} (level : Level T) (tlv : T → Tlv) (IsGood : T
   body_split : (ts : List T) → flat_map padded_image ts ≡ flat_map item_bytes (body_items ts)
   body_split [] = refl
   body_split (t ∷ ts) =
-      ap (λ (xs : List ℕ). xs ++ flat_map padded_image ts)
-      (item_bytes_of (tlv t) (gap (size_of (tlv t))) (back.sized t))
-      ∙ ap (λ (xs : List ℕ). item_bytes (item_of (tlv t) (gap (size_of (tlv t)))) ++ xs)
-      (body_split ts)
+      rw (item_bytes_of (tlv t) (gap (size_of (tlv t))) (back.sized t), body_split ts) refl
 
-  whole_last : (i : Item) → IsWhole level.padding i → IsLastForm level.padding i
-  whole_last i p = record { fits = p.fits; padded = omega (arith, p.padded); accepted = p.accepted }
-
-  body_formed : (ts : List T) → AllByRecursion IsGood ts → AcceptsZeros level.padding
-      → AreFormed level.padding (body_items ts)
-  body_formed [] good zeros = tt
-  body_formed (t ∷ []) good zeros =
-      whole_last _ (whole_item level.padding (tlv t) (back.sized t) (back.fits t good.0) zeros)
-  body_formed (t ∷ u ∷ ts) good zeros = (
+  body_whole : (ts : List T) → AllByRecursion IsGood ts → AcceptsZeros level.padding
+      → AllByRecursion (IsWhole level.padding) (body_items ts)
+  body_whole [] good zeros = tt
+  body_whole (t ∷ ts) good zeros = (
     whole_item level.padding (tlv t) (back.sized t)
         (back.fits t good.0) zeros,
-    body_formed (u ∷ ts) good.1 zeros,
+    body_whole ts good.1 zeros,
   )
 
   body_mean : (ts : List T) → AllByRecursion IsGood ts → ItemsMean level (body_items ts) ts
@@ -184,6 +172,10 @@ module _ {T : Type 0} (level : Level T) (tlv : T → Tlv) (IsGood : T
       → MeansTrees level (flat_map padded_image ts) ts
   body_reads_back ts good zeros = record {
     items = body_items ts;
-    are = record { split = body_split ts; formed = body_formed ts good zeros };
+    are = record {
+      split = body_split ts;
+      formed = before_end level.padding (body_items ts)
+          (whole_before level.padding (body_items ts) [] (body_whole ts good zeros));
+    };
     mean = body_mean ts good;
   }
