@@ -152,24 +152,14 @@ all_kept ts = map kept ts
 
 -- how many parts it has: itself, and the parameters or causes in it
 abbrev pub parts : ChunkTree → ℕ
-parts (Data c) = 1
 parts (Init i) = kind.InitFields.parts i
 parts (InitAck i) = kind.InitFields.parts i
-parts (Sack s) = 1
 parts (HeartbeatRequest ps) = 1 + length ps
 parts (HeartbeatAck ps) = 1 + length ps
 parts (Abort a) = 1 + length a.causes
-parts (Shutdown tsn) = 1
-parts ShutdownAck = 1
 parts (Error cs) = 1 + length cs
-parts (CookieEcho cookie) = 1
-parts CookieAck = 1
-parts (ShutdownComplete reflected) = 1
-parts (IData c) = 1
 parts (ReConfig ps) = 1 + length ps
-parts (ForwardTsn t) = 1
-parts (IForwardTsn t) = 1
-parts (Unknown u) = 1
+parts t = 1
 
 -- its lists have room for their items alone, and so has each item
 abbrev pub IsTight : Chunk → Type 0

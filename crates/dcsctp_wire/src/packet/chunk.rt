@@ -1,11 +1,13 @@
 //! A chunk of any kind.
 
-ghost use Rattle.std.specs.Prelude.{◌≡◌, ◌≢◌, ◌<◌, ◌+◌, Some, IsOk, IfOk, IsErrOf, vec_len, vec_capacity};
+ghost use Rattle.std.specs.Prelude.{◌≡◌, ◌<◌, ◌+◌, Some, IsOk, IfOk, IsErrOf, vec_len, vec_capacity};
 ghost use Rattle.dcsctp_tlv.specs.Frame.{lenient};
 ghost use Rattle.dcsctp_tlv.specs.Level.{HasMeaning, Grows};
 ghost use Rattle.dcsctp_tlv.specs.Reading.{Exactly, reading, RowAnswer};
+ghost use Rattle.dcsctp_tlv.specs.Table.{IsUnnamed};
+ghost use Rattle.dcsctp_chunk.specs.PlainKinds.{plain_kinds, plain_rows};
 ghost use Rattle.dcsctp_wire.specs.Chunk as chunk;
-ghost use Rattle.dcsctp_wire.specs.Chunk.{parts as chunk_parts, ChunkTree, chunk_row, chunks, TakesNoMemory, IsPlaced, text as chunk_text, view, IsInWidth, IsTight};
+ghost use Rattle.dcsctp_wire.specs.Chunk.{parts as chunk_parts, ChunkTree, chunk_row, chunks, plain_trees, TakesNoMemory, IsPlaced, text as chunk_text, view, IsInWidth, IsTight};
 ghost use Rattle.dcsctp_wire.specs.declared.packet.chunk.Chunk.TheVariants as variant;
 
 use crate::packet::abort_chunk::{self, AbortChunk};
@@ -107,56 +109,41 @@ macro_rules! each_kind {
     };
 }
 
-/// What a value of a plain type means is built, and something is done with it; the other types have
+/// For each plain kind an arm that builds a chunk and does something with it; the other types have
 /// the arms that follow.
+macro_rules! kind_arms {
+    (
+        $typ:expr, $chunk:ident => $does:expr,
+        { $($kind:ident => $built:expr,)* }, { $($other:tt)* }
+    ) => {
+        match $typ {
+            $($kind::CHUNK_TYPE => {
+                let $chunk = $built;
+                $does
+            })*
+            $($other)*
+        }
+    };
+}
+
+/// These arms, with what a value of each plain type means.
 macro_rules! built {
     (
         $typ:expr, $alloc:expr, $flags:expr, $value:expr,
         $chunk:ident => $does:expr, { $($other:tt)* }
     ) => {
-        match $typ {
-            data_chunk::CHUNK_TYPE => {
-                let $chunk = Chunk::Data(DataChunk::build($alloc, $flags, $value)?);
-                $does
-            }
-            sack_chunk::CHUNK_TYPE => {
-                let $chunk = Chunk::Sack(SackChunk::build($alloc, $value)?);
-                $does
-            }
-            shutdown_chunk::CHUNK_TYPE => {
-                let $chunk = Chunk::Shutdown(ShutdownChunk::build($value));
-                $does
-            }
-            shutdown_ack_chunk::CHUNK_TYPE => {
-                let $chunk = Chunk::ShutdownAck(ShutdownAckChunk);
-                $does
-            }
-            cookie_echo_chunk::CHUNK_TYPE => {
-                let $chunk = Chunk::CookieEcho(CookieEchoChunk::build($alloc, $value)?);
-                $does
-            }
-            cookie_ack_chunk::CHUNK_TYPE => {
-                let $chunk = Chunk::CookieAck(CookieAckChunk);
-                $does
-            }
-            shutdown_complete_chunk::CHUNK_TYPE => {
-                let $chunk = Chunk::ShutdownComplete(ShutdownCompleteChunk::build($flags));
-                $does
-            }
-            idata_chunk::CHUNK_TYPE => {
-                let $chunk = Chunk::IData(IDataChunk::build($alloc, $flags, $value)?);
-                $does
-            }
-            forward_tsn_chunk::CHUNK_TYPE => {
-                let $chunk = Chunk::ForwardTsn(ForwardTsnChunk::build($alloc, $value)?);
-                $does
-            }
-            iforward_tsn_chunk::CHUNK_TYPE => {
-                let $chunk = Chunk::IForwardTsn(IForwardTsnChunk::build($alloc, $value)?);
-                $does
-            }
-            $($other)*
-        }
+        kind_arms!($typ, $chunk => $does, {
+            data_chunk => Chunk::Data(DataChunk::build($alloc, $flags, $value)?),
+            sack_chunk => Chunk::Sack(SackChunk::build($alloc, $value)?),
+            shutdown_chunk => Chunk::Shutdown(ShutdownChunk::build($value)),
+            shutdown_ack_chunk => Chunk::ShutdownAck(ShutdownAckChunk),
+            cookie_echo_chunk => Chunk::CookieEcho(CookieEchoChunk::build($alloc, $value)?),
+            cookie_ack_chunk => Chunk::CookieAck(CookieAckChunk),
+            shutdown_complete_chunk => Chunk::ShutdownComplete(ShutdownCompleteChunk::build($flags)),
+            idata_chunk => Chunk::IData(IDataChunk::build($alloc, $flags, $value)?),
+            forward_tsn_chunk => Chunk::ForwardTsn(ForwardTsnChunk::build($alloc, $value)?),
+            iforward_tsn_chunk => Chunk::IForwardTsn(IForwardTsnChunk::build($alloc, $value)?),
+        }, { $($other)* })
     };
 }
 
@@ -244,6 +231,7 @@ impl Chunk {
 
     /// Does what `read_onto` does for a kind with a list, and for a type without a kind. The list
     /// is filled where the chunk lies, so that neither it nor the chunk is moved.
+    #[tactic(auto, using(crate::proofs::Filled::filled))]
     fn other_onto(
         list: &mut Vec<Self>,
         alloc: Global,
@@ -251,8 +239,7 @@ impl Chunk {
         second: u8,
         value: &[u8],
     ) -> Result<(), AllocError>
-        requires other { (first ≢ 0) × (first ≢ 3) × (first ≢ 7) × (first ≢ 8) × (first ≢ 10)
-            × (first ≢ 11) × (first ≢ 14) × (first ≢ 64) × (first ≢ 192) × (first ≢ 194) }
+        requires other { IsUnnamed (plain_rows (plain_kinds second) (plain_trees second)) first }
         requires meant { HasMeaning (chunk_row lenient first second) value.now }
         requires room { vec_len list.old < vec_capacity list.old }
         ensures grows { IfOk result (λ _. Grows view IsTight

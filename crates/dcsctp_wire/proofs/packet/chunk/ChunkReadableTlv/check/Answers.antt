@@ -1,6 +1,6 @@
-use Rattle.std.proofs.Common.{Ok, Err, rules, ◌+◌, length, refl}
+use Rattle.std.proofs.Common.{Ok, Err, rules, refl}
 use Rattle.dcsctp_tlv.proofs.Readings.{finds_as}
-use Rattle.dcsctp_wire.specs.InitFields.{row as init_row, parts as init_parts}
+use Rattle.dcsctp_wire.specs.InitFields.{row as init_row}
 use Rattle.dcsctp_wire.specs.ParameterList.{row as parameter_list_row}
 use Rattle.dcsctp_wire.specs.Abort.{row as abort_row}
 use Rattle.dcsctp_wire.specs.Error.{row as error_row}
@@ -9,38 +9,32 @@ use Rattle.dcsctp_wire.proofs.ChunkRows.{plain_finds}
 use Rattle.dcsctp_wire.proofs.packet.chunk.ChunkReadableTlv.check.Goals as goal
 
 pub returns-in-1-clause-found : goal.returns-in-1-clause-found
-returns-in-1-clause-found c = rw c.in-1.is (finds_as Init (init_row c.args.strict) init_parts
-    chunk_parts (λ x. refl) c.args.value.now c.init_check.result c.init_check.ensures.found)
+returns-in-1-clause-found c = rw c.in-1.is (finds_as Init (init_row c.args.strict) _ chunk_parts
+    (λ x. refl) c.args.value.now _ c.init_check.ensures.found)
 
 pub returns-in-2-clause-found : goal.returns-in-2-clause-found
-returns-in-2-clause-found c = rw c.in-2.is (finds_as InitAck (init_row c.args.strict) init_parts
-    chunk_parts (λ x. refl) c.args.value.now c.init_check-in-2.result
-    c.init_check-in-2.ensures.found)
+returns-in-2-clause-found c = rw c.in-2.is (finds_as InitAck (init_row c.args.strict) _ chunk_parts
+    (λ x. refl) c.args.value.now _ c.init_check-in-2.ensures.found)
 
 pub returns-in-4-clause-found : goal.returns-in-4-clause-found
-returns-in-4-clause-found c = rw c.in-4.is
-    (finds_as HeartbeatRequest (parameter_list_row c.args.strict) (λ ps. 1 + length ps) chunk_parts
-    (λ x. refl) c.args.value.now c.parameter_list_check.result c.parameter_list_check.ensures.found)
+returns-in-4-clause-found c = rw c.in-4.is (finds_as HeartbeatRequest (parameter_list_row c.args.strict) _ chunk_parts
+    (λ x. refl) c.args.value.now _ c.parameter_list_check.ensures.found)
 
 pub returns-in-5-clause-found : goal.returns-in-5-clause-found
-returns-in-5-clause-found c = rw c.in-5.is (finds_as HeartbeatAck (parameter_list_row c.args.strict)
-    (λ ps. 1 + length ps) chunk_parts (λ x. refl) c.args.value.now
-    c.parameter_list_check-in-5.result c.parameter_list_check-in-5.ensures.found)
+returns-in-5-clause-found c = rw c.in-5.is (finds_as HeartbeatAck (parameter_list_row c.args.strict) _ chunk_parts
+    (λ x. refl) c.args.value.now _ c.parameter_list_check-in-5.ensures.found)
 
 pub returns-in-6-clause-found : goal.returns-in-6-clause-found
-returns-in-6-clause-found c = rw c.in-6.is (finds_as Abort (abort_row c.args.strict c.args.second)
-    (λ a. 1 + length a.causes) chunk_parts (λ x. refl) c.args.value.now c.check.result
-    (c.check.ensures.found c.args.second))
+returns-in-6-clause-found c = rw c.in-6.is (finds_as Abort (abort_row c.args.strict c.args.second) _ chunk_parts
+    (λ x. refl) c.args.value.now _ (c.check.ensures.found c.args.second))
 
 pub returns-in-9-clause-found : goal.returns-in-9-clause-found
-returns-in-9-clause-found c = rw c.in-9.is (finds_as Error (error_row c.args.strict)
-    (λ cs. 1 + length cs) chunk_parts (λ x. refl) c.args.value.now c.check-in-9.result
-    c.check-in-9.ensures.found)
+returns-in-9-clause-found c = rw c.in-9.is (finds_as Error (error_row c.args.strict) _ chunk_parts
+    (λ x. refl) c.args.value.now _ c.check-in-9.ensures.found)
 
 pub returns-in-130-clause-found : goal.returns-in-130-clause-found
-returns-in-130-clause-found c = rw c.in-130.is (finds_as ReConfig (parameter_list_row c.args.strict)
-    (λ ps. 1 + length ps) chunk_parts (λ x. refl) c.args.value.now
-    c.parameter_list_check-in-130.result c.parameter_list_check-in-130.ensures.found)
+returns-in-130-clause-found c = rw c.in-130.is (finds_as ReConfig (parameter_list_row c.args.strict) _ chunk_parts
+    (λ x. refl) c.args.value.now _ c.parameter_list_check-in-130.ensures.found)
 
 pub returns-in-Ok-clause-found : goal.returns-in-Ok-clause-found
 returns-in-Ok-clause-found c = plain_finds c.args.strict c.args.first c.args.second c.args.value.now
