@@ -19,7 +19,7 @@ use Rattle.dcsctp_wire.specs.Packet.{Meaning, PacketTree, checksum_field, IsAcce
 use Rattle.dcsctp_wire.specs.Canonical.{padded_chunk, canonical, padded_size, Fits}
 use Rattle.dcsctp_wire.specs.WellFormed.{IsInWidth, IsWellFormed}
 use Rattle.dcsctp_wire.proofs.Packets.{packet_one}
-use Rattle.dcsctp_wire.proofs.ChunkLaws.{IsGood, chunks_read_back}
+use Rattle.dcsctp_wire.proofs.ChunkLaws.{IsGoodChunk, chunks_read_back}
 
 -- a list's size and the bytes of its padded chunks
 pub padded_size-is : (ts : List ChunkTree) → padded_size ts ≡ round_up_to_4 (list_size chunk_tlv ts)
@@ -154,7 +154,7 @@ padded_size-push (u ∷ ts) t = let rest = padded_size-push ts t in omega (arith
 
 each_good : (ts : List ChunkTree) → AllByRecursion IsChunkInWidth ts
     → AllByRecursion IsChunkWellFormed ts → AllByRecursion IsChunkEncodable ts
-    → AllByRecursion IsGood ts
+    → AllByRecursion IsGoodChunk ts
 each_good [] w f e = tt
 each_good (t ∷ ts) w f e =
     (record { width = w.0; formed = f.0; encodable = e.0.1 }, each_good ts w.1 f.1 e.1)
@@ -191,7 +191,7 @@ reads_back_with m field word policy field_fits width formed fits accepted =
         destination = sym (from_be_bytes-to_be_bytes_2 m.destination width.destination);
         tag = sym (from_be_bytes-to_be_bytes_4 m.tag width.tag);
         checksum = sym e;
-        chunks = body_reads_back (chunks policy.strict_padding) chunk_tlv IsGood
+        chunks = body_reads_back (chunks policy.strict_padding) chunk_tlv IsGoodChunk
             (chunks_read_back policy.strict_padding) m.chunks (each_good m.chunks width.each
             formed.each fits.each) (full_zeros_accepted policy.strict_padding);
       },

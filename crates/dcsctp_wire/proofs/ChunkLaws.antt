@@ -8,6 +8,7 @@ use Rattle.dcsctp_tlv.specs.Level.{as_row, map_ok}
 use Rattle.dcsctp_tlv.specs.Image.{Tlv, zeroed, image_of, list_image, list_size, IsEncodable}
 use Rattle.dcsctp_tlv.specs.Parameter.{ParameterTree, tlv as parameter_tlv, IsInWidth as IsParameterInWidth, IsWellFormed as IsParameterWellFormed}
 use Rattle.dcsctp_tlv.specs.Table.{IsUnnamed}
+use Rattle.dcsctp_tlv.proofs.KindLaws.{IsGood}
 use Rattle.dcsctp_tlv.proofs.Tables.{of_others}
 use Rattle.dcsctp_tlv.proofs.ReadsBack.{ReadsBack, zeroed-solid}
 use Rattle.dcsctp_cause.specs.Cause.{CauseTree, tlv as cause_tlv}
@@ -19,7 +20,7 @@ use Rattle.dcsctp_chunk.proofs.ForwardTsnLaws.{forward_tsn_laws, iforward_tsn_la
 use Rattle.dcsctp_wire.specs.InitFields.{Tree as InitTree, tree_of as init_of, row as init_row, IsInWidth as IsInitInWidth, format as init_format}
 use Rattle.dcsctp_wire.specs.ParameterList.{row as parameter_list_row}
 use Rattle.dcsctp_wire.specs.Abort.{tree_of as abort_of, flags_of}
-use Rattle.dcsctp_wire.specs.Chunk.{ChunkTree, Data, Init, InitAck, Sack, HeartbeatRequest, HeartbeatAck, Abort, Shutdown, ShutdownAck, Error, CookieEcho, CookieAck, ShutdownComplete, ReConfig, ForwardTsn, IData, IForwardTsn, Unknown, table, chunks, chunk_row, format, tlv as chunk_tlv, IsInWidth as IsChunkInWidth, IsWellFormed as IsChunkWellFormed}
+use Rattle.dcsctp_wire.specs.Chunk.{ChunkTree, Data, Init, InitAck, Sack, HeartbeatRequest, HeartbeatAck, Abort, Shutdown, ShutdownAck, Error, CookieEcho, CookieAck, ShutdownComplete, ReConfig, ForwardTsn, IData, IForwardTsn, Unknown, table, chunks, chunk_row, format, tlv as chunk_tlv}
 use Rattle.dcsctp_wire.proofs.ListRows.{parameter_items, cause_items, listed_back}
 
 -- ---- kinds with a list
@@ -67,10 +68,8 @@ some_bytes (c ∷ d ∷ cs) some =
 -- ---- each kind reads back
 
 -- a chunk that can be written and read again
-pub record IsGood (t : ChunkTree) : Type 0 where
-  pub width : IsChunkInWidth t
-  pub formed : IsChunkWellFormed t
-  pub encodable : IsEncodable (chunk_tlv t)
+abbrev pub IsGoodChunk : ChunkTree → Type 0
+IsGoodChunk t = IsGood (format t)
 
 unknown_means : (strict : Bool) (u : UnknownTree) → IsUnnamed (table strict u.flags) u.typ
     → (chunk_row strict u.typ u.flags).means (zeroed (chunk_tlv (Unknown u)).value) (Unknown u)
@@ -79,14 +78,13 @@ unknown_means strict u h =
     of_others (λ row. row.means (zeroed (chunk_tlv (Unknown u)).value) (Unknown u))
     (table strict u.flags) u.typ _ h (rw (zeroed-solid u.value) refl)
 
-means : (strict : Bool) (t : ChunkTree) → IsGood t
+means : (strict : Bool) (t : ChunkTree) → IsGoodChunk t
     → (chunk_row strict (chunk_tlv t).first (chunk_tlv t).second).means (zeroed (chunk_tlv t).value)
     t
-means strict (Data c) good =
-    ap (map_ok Data) (data_laws.back c good.width good.formed good.encodable)
+means strict (Data c) good = ap (map_ok Data) (data_laws.back c good)
 means strict (Init i) good = init_means strict Init 1 i good.width good.formed good.encodable
 means strict (InitAck i) good = init_means strict InitAck 2 i good.width good.formed good.encodable
-means strict (Sack s) good = ap (map_ok Sack) (sack_laws.back s good.width tt good.encodable)
+means strict (Sack s) good = ap (map_ok Sack) (sack_laws.back s good)
 means strict (HeartbeatRequest ps) good =
     parameter_list_means strict HeartbeatRequest ps good.width good.formed (omega (arith, good.encodable))
 means strict (HeartbeatAck ps) good =
@@ -95,30 +93,23 @@ means strict (Abort a) good =
     listed_back cause_items 0 (λ v. true) (λ v cs. abort_of (flags_of a) cs) Abort strict _ a.causes
     a refl refl (rw (one_again a.tag_reflected) refl) good.width good.formed
     (omega (arith, good.encodable))
-means strict (Shutdown tsn) good =
-    ap (map_ok Shutdown) (shutdown_laws.back tsn good.width tt good.encodable)
-means strict ShutdownAck good =
-    ap (map_ok (λ _. ShutdownAck)) (shutdown_ack_laws.back tt tt tt good.encodable)
+means strict (Shutdown tsn) good = ap (map_ok Shutdown) (shutdown_laws.back tsn good)
+means strict ShutdownAck good = ap (map_ok (λ _. ShutdownAck)) (shutdown_ack_laws.back tt good)
 means strict (Error cs) good =
     listed_back cause_items 0 (λ v. nat_lt 0 (length v)) (λ v cs. cs) Error strict _ cs cs
     (some_bytes cs good.formed.0) refl refl good.width good.formed.1 (omega (arith, good.encodable))
-means strict (CookieEcho cookie) good =
-    ap (map_ok CookieEcho) (cookie_echo_laws.back cookie good.width good.formed good.encodable)
-means strict CookieAck good =
-    ap (map_ok (λ _. CookieAck)) (cookie_ack_laws.back tt tt tt good.encodable)
+means strict (CookieEcho cookie) good = ap (map_ok CookieEcho) (cookie_echo_laws.back cookie good)
+means strict CookieAck good = ap (map_ok (λ _. CookieAck)) (cookie_ack_laws.back tt good)
 means strict (ShutdownComplete reflected) good =
-    ap (map_ok ShutdownComplete) (shutdown_complete_laws.back reflected tt tt good.encodable)
-means strict (IData c) good =
-    ap (map_ok IData) (idata_laws.back c good.width good.formed good.encodable)
+    ap (map_ok ShutdownComplete) (shutdown_complete_laws.back reflected good)
+means strict (IData c) good = ap (map_ok IData) (idata_laws.back c good)
 means strict (ReConfig ps) good =
     parameter_list_means strict ReConfig ps good.width good.formed (omega (arith, good.encodable))
-means strict (ForwardTsn f) good =
-    ap (map_ok ForwardTsn) (forward_tsn_laws.back f good.width good.formed good.encodable)
-means strict (IForwardTsn f) good =
-    ap (map_ok IForwardTsn) (iforward_tsn_laws.back f good.width good.formed good.encodable)
+means strict (ForwardTsn f) good = ap (map_ok ForwardTsn) (forward_tsn_laws.back f good)
+means strict (IForwardTsn f) good = ap (map_ok IForwardTsn) (iforward_tsn_laws.back f good)
 means strict (Unknown u) good = unknown_means strict u good.formed
 
-pub chunks_read_back : (strict : Bool) → ReadsBack (chunks strict) chunk_tlv IsGood
+pub chunks_read_back : (strict : Bool) → ReadsBack (chunks strict) chunk_tlv IsGoodChunk
 chunks_read_back strict = record {
   sized = λ t. (format t).sized;
   fits = λ t good. good.encodable;

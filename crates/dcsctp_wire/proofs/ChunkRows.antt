@@ -13,8 +13,9 @@ use Rattle.dcsctp_tlv.specs.Image.{Tlv, size_of, list_size}
 use Rattle.dcsctp_tlv.specs.Table.{IsUnnamed, ◌&◌}
 use Rattle.dcsctp_tlv.proofs.Accounts.{SameSpace, Accounts, plain_account}
 use Rattle.dcsctp_tlv.proofs.Counts.{Counts}
+use Rattle.dcsctp_tlv.proofs.FormatLaws.{TypedLaws}
 use Rattle.dcsctp_tlv.proofs.Forms.{FormsTrees, FormsRow, plain_forms, list_formed, nil_means}
-use Rattle.dcsctp_tlv.proofs.KindLaws.{KindLaws, KeepsSize, of_ok, of_map_ok}
+use Rattle.dcsctp_tlv.proofs.KindLaws.{of_ok, of_map_ok}
 use Rattle.dcsctp_tlv.proofs.Laws.{LawfulRow, Lawful, plain_lawful, as_lawful, listed_lawful}
 use Rattle.dcsctp_tlv.proofs.Lenient.{LoosensRow, Loosens, as_looser, listed_looser}
 use Rattle.dcsctp_tlv.proofs.Tables.{of_table, of_others}
@@ -67,12 +68,12 @@ record RowLaws (strict : Bool) (flags typ : ℕ) (row : Row ChunkTree) : Type 0 
 
 -- it keeps its size, whatever its type
 plain_accounted : {X : Type 0} (typ flags : ℕ) {read : ℕ → ℕ → List ℕ → Result X Fault}
-    {tlv : X → Tlv} (tree : X → ChunkTree) → KeepsSize read tlv
-    → ((x : X) → chunk_tlv (tree x) ≡ tlv x)
+    {format : X → Format} (tree : X → ChunkTree) → TypedLaws read format
+    → ((x : X) → chunk_tlv (tree x) ≡ (format x).tlv)
     → Accounted typ (plain (λ value. map_ok tree (read typ flags value)))
-plain_accounted typ flags tree keeps written value t kept =
-    plain_account _ tree chunk_tlv
-    (λ v x e. ap size_of (written x) ∙ keeps typ flags v x e) value t
+plain_accounted typ flags {read} tree laws written value t kept =
+    plain_account (read typ flags) tree chunk_tlv value t
+    (λ x e. ap size_of (written x) ∙ laws.keeps typ flags value x tt e)
 
 -- it counts as one
 plain_counted : {X : Type 0} (tree : X → ChunkTree) (read : List ℕ → Result X Fault)
@@ -85,23 +86,22 @@ plain_counted tree read one value t e =
 -- What computing shows of each: it is written and well-formed as its own format says, it has one
 -- part, and both tables have the same row.
 record PlainKind {X : Type 0} (flags typ : ℕ) (read : ℕ → ℕ → List ℕ → Result X Fault)
-    (tlv : X → Tlv) (IsFormed : X → Type 0) (tree : X → ChunkTree) : Type 0 where
-  pub written : (x : X) → chunk_tlv (tree x) ≡ tlv x
-  pub formed : (x : X) → IsFormed x → IsChunkWellFormed (tree x)
+    (format : X → Format) (tree : X → ChunkTree) : Type 0 where
+  pub written : (x : X) → chunk_tlv (tree x) ≡ (format x).tlv
+  pub formed : (x : X) → (format x).IsWellFormed → IsChunkWellFormed (tree x)
   pub one : (x : X) → chunk_parts (tree x) ≡ 1
   pub same : LoosensRow (plain (λ v. map_ok tree (read typ flags v))) (chunk_row lenient typ flags)
 
-plain_kind : {X : Type 0} {read : ℕ → ℕ → List ℕ → Result X Fault} {tlv : X → Tlv}
-    {IsInWidth IsFormed : X → Type 0} (strict : Bool) (flags typ : ℕ) (tree : X → ChunkTree)
-    → KindLaws read tlv IsInWidth IsFormed → KeepsSize read tlv
-    → PlainKind flags typ read tlv IsFormed tree
+plain_kind : {X : Type 0} {read : ℕ → ℕ → List ℕ → Result X Fault} {format : X → Format}
+    (strict : Bool) (flags typ : ℕ) (tree : X → ChunkTree) → TypedLaws read format
+    → PlainKind flags typ read format tree
     → RowLaws strict flags typ (plain (λ v. map_ok tree (read typ flags v)))
-plain_kind {X} {read} strict flags typ tree laws keeps shown = record {
+plain_kind {X} {read} strict flags typ tree laws shown = record {
   lawful = plain_lawful _;
   looser = shown.same;
   sound = λ _. record {
     forms = plain_forms laws tree IsChunkWellFormed typ flags shown.formed;
-    account = plain_accounted typ flags tree keeps shown.written;
+    account = plain_accounted typ flags tree laws shown.written;
     counted = plain_counted tree (read typ flags) shown.one;
     unpadded = plain_unpadded tree (read typ flags) (laws.unpadded typ flags);
   };
@@ -196,7 +196,7 @@ other_kind strict flags typ unnamed = record {
       unnamed (λ v t m. m);
   sound = λ _. record {
     forms = unknown_forms typ flags unnamed;
-    account = plain_accounted typ flags Unknown kind.unknown_keeps_size (λ u. refl);
+    account = plain_accounted typ flags Unknown kind.unknown_laws (λ u. refl);
     counted = plain_counted Unknown (unknown_at typ flags) (λ u. refl);
     unpadded = ok_unpadded _;
   };
@@ -213,22 +213,16 @@ rows strict typ flags = of_table (RowLaws strict flags) (table strict flags) typ
     listed_kind strict flags 6 0 Abort cause_items (search rules) &
     listed_kind strict flags 9 0 Error cause_items (search (rules, some_causes, inr)) &
     listed_kind strict flags 130 0 ReConfig parameter_items (search rules) &
-    plain_kind strict flags 0 Data kind.data_laws kind.data_keeps_size (search rules) &
-    plain_kind strict flags 3 Sack kind_sack.sack_laws kind_sack.sack_keeps_size (search rules) &
-    plain_kind strict flags 7 Shutdown kind.shutdown_laws kind.shutdown_keeps_size (search rules) &
-    plain_kind strict flags 8 (λ _. ShutdownAck) kind.shutdown_ack_laws
-    kind.shutdown_ack_keeps_size (search rules) &
-    plain_kind strict flags 10 CookieEcho kind.cookie_echo_laws kind.cookie_echo_keeps_size
-    (search rules) &
-    plain_kind strict flags 11 (λ _. CookieAck) kind.cookie_ack_laws kind.cookie_ack_keeps_size
-    (search rules) &
-    plain_kind strict flags 14 ShutdownComplete kind.shutdown_complete_laws
-    kind.shutdown_complete_keeps_size (search rules) &
-    plain_kind strict flags 64 IData kind.idata_laws kind.idata_keeps_size (search rules) &
-    plain_kind strict flags 192 ForwardTsn kind_skipped.forward_tsn_laws
-    kind_skipped.forward_tsn_keeps_size (search rules) &
-    plain_kind strict flags 194 IForwardTsn kind_skipped.iforward_tsn_laws
-    kind_skipped.iforward_tsn_keeps_size (search rules) & tt)
+    plain_kind strict flags 0 Data kind.data_laws (search rules) &
+    plain_kind strict flags 3 Sack kind_sack.sack_laws (search rules) &
+    plain_kind strict flags 7 Shutdown kind.shutdown_laws (search rules) &
+    plain_kind strict flags 8 (λ _. ShutdownAck) kind.shutdown_ack_laws (search rules) &
+    plain_kind strict flags 10 CookieEcho kind.cookie_echo_laws (search rules) &
+    plain_kind strict flags 11 (λ _. CookieAck) kind.cookie_ack_laws (search rules) &
+    plain_kind strict flags 14 ShutdownComplete kind.shutdown_complete_laws (search rules) &
+    plain_kind strict flags 64 IData kind.idata_laws (search rules) &
+    plain_kind strict flags 192 ForwardTsn kind_skipped.forward_tsn_laws (search rules) &
+    plain_kind strict flags 194 IForwardTsn kind_skipped.iforward_tsn_laws (search rules) & tt)
     (other_kind strict flags typ)
 
 sound : (typ flags : ℕ) → Sound typ (chunk_row lenient typ flags)

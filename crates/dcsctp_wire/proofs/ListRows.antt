@@ -11,8 +11,9 @@ use Rattle.dcsctp_tlv.specs.Level.{as_row, Level, listed, MeansTrees}
 use Rattle.dcsctp_tlv.specs.Parameter as parameter
 use Rattle.dcsctp_tlv.proofs.Accounts.{SameSpace, all_account, list_account}
 use Rattle.dcsctp_tlv.proofs.Counts.{one_each, list_count, total-one}
-use Rattle.dcsctp_tlv.proofs.FormatLaws.{IsGood, good_list}
+use Rattle.dcsctp_tlv.proofs.FormatLaws.{good_list}
 use Rattle.dcsctp_tlv.proofs.Forms.{FormsTrees}
+use Rattle.dcsctp_tlv.proofs.KindLaws.{IsGood}
 use Rattle.dcsctp_tlv.proofs.Laws.{LawfulRow, Lawful, listed_lawful}
 use Rattle.dcsctp_tlv.proofs.Lenient.{Loosens}
 use Rattle.dcsctp_tlv.proofs.ParameterLaws.{parameters_lawful, parameters_looser, parameters_unpadded, parameters_form, parameters_account, parameters_read_back}
@@ -37,7 +38,7 @@ pub record ItemLaws {U : Type 0} (level : Bool → Level U) (format : U → Form
   pub account : (bytes : List ℕ) (us : List U) → AreKept bytes
       → MeansTrees (level lenient) bytes us
       → SameSpace (list_size (tlv_by format) us) (length bytes)
-  pub back : (strict : Bool) → ReadsBack (level strict) (tlv_by format) (IsGood format)
+  pub back : (strict : Bool) → ReadsBack (level strict) (tlv_by format) (λ u. IsGood (format u))
   pub zeros : (strict : Bool) → AcceptsZeros (level strict).padding
   pub none : (strict : Bool) → AcceptsNone (level strict).padding
 
@@ -122,6 +123,6 @@ module _ {U : Type 0} {level : Bool → Level U} {format : U → Format} {AreKep
         → (as_row tree (listed rule place (level strict) tree_of)).means value (tree x)
     listed_back rule tree_of tree strict value us x ok there made width formed fits =
         let good = good_list format us width formed fits in
-        let back = nested_reads_back (level strict) (tlv_by format) (IsGood format)
+        let back = nested_reads_back (level strict) (tlv_by format) (λ u. IsGood (format u))
         (items.back strict) us good (items.zeros strict) (items.none strict) in
         (x, (ok, (us, (rw there back), sym made)), refl)
