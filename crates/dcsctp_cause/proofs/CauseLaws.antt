@@ -12,7 +12,7 @@ use Rattle.dcsctp_tlv.specs.Table.{◌&◌}
 use Rattle.dcsctp_tlv.proofs.Lengths.{length-format}
 use Rattle.dcsctp_tlv.specs.UnknownParameter as unknown
 use Rattle.dcsctp_tlv.proofs.Laws.{LawfulRow, Lawful}
-use Rattle.dcsctp_tlv.proofs.FormatLaws.{IsGood, good_list}
+use Rattle.dcsctp_tlv.proofs.FormatLaws.{IsGood, back_as, good_list}
 use Rattle.dcsctp_tlv.proofs.Places.{AtFront}
 use Rattle.dcsctp_tlv.proofs.Lenient.{Loosens}
 use Rattle.dcsctp_tlv.proofs.TableLaws.{RowLaws, kind, sized, unknown_row, unknown_means}
@@ -102,20 +102,14 @@ abbrev Means : Tlv → CauseTree → Type 0
 Means tlv t = ((causes lenient).row tlv.first tlv.second).means (zeroed tlv.value) t
 
 cause_means : (t : CauseTree) → IsGoodCause t → Means (tlv t) t
-cause_means (MissingMandatoryParameter types) good =
-    ap (map_ok MissingMandatoryParameter) (missing_laws.back types good.width tt good.encodable)
-cause_means (UnrecognizedChunk chunk) good =
-    ap (map_ok UnrecognizedChunk) (chunk_laws.back chunk good.width tt good.encodable)
-cause_means (NoUserData tsn) good =
-    ap (map_ok NoUserData) (no_user_data_laws.back tsn good.width tt good.encodable)
-cause_means CookieReceivedWhileShuttingDown good =
-    ap (map_ok (λ _. CookieReceivedWhileShuttingDown))
-    (cookie_received_laws.back tt tt tt good.encodable)
-cause_means (UserInitiatedAbort reason) good =
-    ap (map_ok UserInitiatedAbort) (abort_laws.back reason good.width tt good.encodable)
-cause_means (ProtocolViolation information) good =
-    ap (map_ok ProtocolViolation) (violation_laws.back information good.width tt good.encodable)
-cause_means (Unknown u) good = unknown_means table Unknown u good.formed
+cause_means (MissingMandatoryParameter x) = back_as missing_laws MissingMandatoryParameter
+cause_means (UnrecognizedChunk x) = back_as chunk_laws UnrecognizedChunk
+cause_means (NoUserData x) = back_as no_user_data_laws NoUserData
+cause_means CookieReceivedWhileShuttingDown =
+    back_as cookie_received_laws (λ _. CookieReceivedWhileShuttingDown)
+cause_means (UserInitiatedAbort x) = back_as abort_laws UserInitiatedAbort
+cause_means (ProtocolViolation x) = back_as violation_laws ProtocolViolation
+cause_means (Unknown u) = λ good. unknown_means table Unknown u good.formed
 
 -- an image is as long as its size
 pub length-cause : (t : CauseTree) → length (image_of (tlv t)) ≡ size_of (tlv t)

@@ -1,10 +1,11 @@
 -- What a kind has to satisfy for the laws of its level, where one record is all that the tables say
 -- of a tree.
-use Rattle.std.proofs.Common.{◌≡◌, ℕ, ◌^◌, ◌<◌, List, [], ◌∷◌, Result, Ok}
+use Rattle.std.proofs.Common.{◌≡◌, ℕ, ◌^◌, ◌<◌, List, [], ◌∷◌, ap, Result, Ok}
 use Rattle.std.specs.List.{AllByRecursion}
 use Rattle.dcsctp_tlv.specs.Fault.{Fault}
 use Rattle.dcsctp_tlv.specs.Format.{Format, tlv_by}
-use Rattle.dcsctp_tlv.specs.Image.{solid, IsEncodable, list_size}
+use Rattle.dcsctp_tlv.specs.Image.{Tlv, solid, zeroed, IsEncodable, list_size}
+use Rattle.dcsctp_tlv.specs.Level.{map_ok}
 use Rattle.dcsctp_tlv.proofs.KindLaws.{KindLaws, KeepsSize, by_value}
 use Rattle.dcsctp_tlv.proofs.ReadsBack.{zeroed-solid, each_encodable}
 use Rattle.dcsctp_tlv.proofs.Unpadded.{NotPadding}
@@ -60,10 +61,22 @@ format_laws read format bytes same back formed unpadded =
 
 -- ---- trees that can be written and read again
 
-pub record IsGood {T : Type 0} (format : T → Format) (t : T) : Type 0 where
-  pub width : (format t).IsInWidth
-  pub formed : (format t).IsWellFormed
-  pub encodable : IsEncodable (format t).tlv
+pub record Good (IsInWidth IsWellFormed IsEncodable : Type 0) : Type 0 where
+  pub width : IsInWidth
+  pub formed : IsWellFormed
+  pub encodable : IsEncodable
+
+abbrev pub IsGood : {T : Type 0} → (T → Format) → T → Type 0
+IsGood format t =
+    Good (format t).IsInWidth (format t).IsWellFormed (IsEncodable (format t).tlv)
+
+-- what a kind's tree is written as means it, as a tree of the level
+pub back_as : {X T : Type 0} {read : ℕ → ℕ → List ℕ → Result X Fault} {written : X → Tlv}
+    {HasWidths IsFormed : X → Type 0} (laws : KindLaws read written HasWidths IsFormed)
+    (tree : X → T) {x : X} → Good (HasWidths x) (IsFormed x) (IsEncodable (written x))
+    → map_ok tree (read (written x).first (written x).second (zeroed (written x).value))
+    ≡ Ok (tree x)
+back_as laws tree {x} good = ap (map_ok tree) (laws.back x good.width good.formed good.encodable)
 
 pub all_good : {T : Type 0} (format : T → Format) (ts : List T)
     → AllByRecursion (λ t. (format t).IsInWidth) ts
