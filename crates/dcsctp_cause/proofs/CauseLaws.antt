@@ -1,12 +1,11 @@
 -- The laws of the table of error causes: a line for each kind.
-use Rattle.std.proofs.Common.{rules, ◌≡◌, ℕ, Bool, ◌+◌, ◌^◌, ◌<◌, List, [], ◌∷◌, length, refl, ap, ◌∙◌, Result, Ok, inl, inr}
+use Rattle.std.proofs.Common.{rules, ◌≡◌, ℕ, Bool, ◌^◌, ◌<◌, List, [], ◌∷◌, length, refl, inl, inr}
 use Rattle.std.specs.Int.{w16, from_be_bytes}
 use Rattle.std.specs.Str.{IsUtf8}
 use Rattle.std.specs.List.{AllByRecursion}
 use Rattle.dcsctp_tlv.specs.Decided.{IgnoresPadding}
 use Rattle.dcsctp_tlv.specs.Frame.{lenient}
-use Rattle.dcsctp_tlv.specs.Level.{Row, plain, map_ok}
-use Rattle.dcsctp_tlv.specs.Fault.{Fault}
+use Rattle.dcsctp_tlv.specs.Level.{Row}
 use Rattle.dcsctp_tlv.specs.Image.{Tlv, zeroed, size_of, image_of, list_size}
 use Rattle.dcsctp_tlv.specs.Table.{◌&◌}
 use Rattle.dcsctp_tlv.proofs.Lengths.{length-format}
@@ -18,10 +17,9 @@ use Rattle.dcsctp_tlv.proofs.Lenient.{Loosens}
 use Rattle.dcsctp_tlv.proofs.TableLaws.{RowLaws, kind, sized, unknown_row, unknown_means}
 use Rattle.dcsctp_tlv.proofs.Tables.{MeansAny, of_table}
 use Rattle.dcsctp_tlv.proofs.ReadsBack.{ReadsBack}
-use Rattle.dcsctp_tlv.proofs.KindLaws.{of_map_ok}
 use Rattle.dcsctp_tlv.proofs.Unpadded.{list_unpadded}
 use Rattle.dcsctp_tlv.proofs.Forms.{FormsTrees}
-use Rattle.dcsctp_tlv.proofs.Accounts.{SameSpace, Accounts, same_size}
+use Rattle.dcsctp_tlv.proofs.Accounts.{Accounts, value_account}
 use Rattle.dcsctp_tlv.proofs.Counts.{Counts, one_each}
 use Rattle.dcsctp_cause.specs.Text.{item_code}
 use Rattle.dcsctp_cause.specs.Cause.{CauseTree, MissingMandatoryParameter, UnrecognizedChunk, NoUserData, CookieReceivedWhileShuttingDown, UserInitiatedAbort, ProtocolViolation, Unknown, table, row, causes, format, tlv, IsInWidth, IsWellFormed, HoldsText, IsTextKept}
@@ -31,17 +29,6 @@ use Rattle.dcsctp_cause.specs.ProtocolViolation as violation
 use Rattle.dcsctp_cause.proofs.CauseKinds.{missing_laws, missing_keeps, chunk_laws, chunk_keeps, no_user_data_laws, no_user_data_keeps, cookie_received_laws, cookie_received_keeps, abort_laws, abort_kept, violation_laws, violation_kept}
 
 -- ---- what each row has to satisfy
-
--- a text that is kept has the size of its value
-text_account : (read : List ℕ → Result (List ℕ) Fault) (tree : List ℕ → CauseTree) (value : List ℕ)
-    (t : CauseTree) → IsUtf8 value → ((x : List ℕ) → size_of (tlv (tree x)) ≡ 4 + length x)
-    → ((x : List ℕ) → IsUtf8 value → read value ≡ Ok x → x ≡ value)
-    → (plain (λ v. map_ok tree (read v))).means value t
-    → SameSpace (size_of (tlv t)) (4 + length value)
-text_account read tree value t utf8 sized law e =
-    let x = of_map_ok tree (read value) t e in
-    same_size _ _ (ap (λ (u : CauseTree). size_of (tlv u)) x.1.1 ∙ sized x.0
-    ∙ ap (λ (v : List ℕ). 4 + length v) (law x.0 utf8 x.1.0))
 
 -- the laws of a row, where a text is kept
 abbrev Owes : ℕ → Row CauseTree → Type 0
@@ -55,11 +42,11 @@ rows code = of_table Owes table code _ (
     sized cookie_received_laws (λ _. CookieReceivedWhileShuttingDown) (λ x h. h)
     cookie_received_keeps (λ x. refl) &
     kind abort_laws UserInitiatedAbort (λ x h. h)
-    (λ value t kept. text_account abort.read UserInitiatedAbort value t (kept (inl refl))
-    (λ x. refl) (abort_kept value)) &
+    (λ value t kept. value_account abort.read UserInitiatedAbort tlv value
+    (λ x e. rw (abort_kept value x (kept (inl refl)) e) refl) t) &
     kind violation_laws ProtocolViolation (λ x h. h)
-    (λ value t kept. text_account violation.read ProtocolViolation value t (kept (inr refl))
-    (λ x. refl) (violation_kept value)) & tt)
+    (λ value t kept. value_account violation.read ProtocolViolation tlv value
+    (λ x e. rw (violation_kept value x (kept (inr refl)) e) refl) t) & tt)
     (λ unnamed. unknown_row Unknown (λ u. refl) (λ value. unnamed))
 
 pub row_lawful : (code : ℕ) → LawfulRow (row code)

@@ -30,13 +30,20 @@ abbrev pub AccountsRow : {T : Type 0} → (T → Tlv) → Row T → Type 0
 AccountsRow {T} tlv row =
     (value : List ℕ) (t : T) → row.means value t → SameSpace (size_of (tlv t)) (4 + length value)
 
--- a kind whose value is read at fixed places, and whose tree keeps the size
+-- a value that is read at fixed places, and whose tree keeps the size
+pub value_account : {X T : Type 0} (read : List ℕ → Result X Fault) (tree : X → T) (tlv : T → Tlv)
+    (value : List ℕ)
+    → ((x : X) → read value ≡ Ok x → size_of (tlv (tree x)) ≡ 4 + length value)
+    → (t : T) → map_ok tree (read value) ≡ Ok t → SameSpace (size_of (tlv t)) (4 + length value)
+value_account read tree tlv value law t e =
+    let x = of_map_ok tree (read value) t e in
+    same_size _ _ (ap (λ (u : _). size_of (tlv u)) x.1.1 ∙ law x.0 x.1.0)
+
+-- a kind all of whose values are
 pub plain_account : {X T : Type 0} (read : List ℕ → Result X Fault) (tree : X → T) (tlv : T → Tlv)
     → ((value : List ℕ) (x : X) → read value ≡ Ok x → size_of (tlv (tree x)) ≡ 4 + length value)
     → AccountsRow tlv (plain (λ value. map_ok tree (read value)))
-plain_account read tree tlv law value t e =
-    let x = of_map_ok tree (read value) t e in
-    same_size _ _ (ap (λ (u : _). size_of (tlv u)) x.1.1 ∙ law value x.0 x.1.0)
+plain_account read tree tlv law value = value_account read tree tlv value (law value)
 
 -- ---- lists
 
