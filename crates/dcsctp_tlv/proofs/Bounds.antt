@@ -4,7 +4,7 @@ use Rattle.std.proofs.Common.{◌≡◌, ℕ, ◌+◌, ◌*◌, ◌≤◌, List,
 use Rattle.std.specs.List.{flat_map}
 use Rattle.std.proofs.lemmas.List.{append-nil, length-append}
 use Rattle.dcsctp_tlv.specs.Count.{total}
-use Rattle.dcsctp_tlv.specs.Frame.{Item, item_bytes, AreFormed, padding_size, round_up_to_4}
+use Rattle.dcsctp_tlv.specs.Frame.{Item, item_bytes, AreFormed, round_up_to_4}
 use Rattle.dcsctp_tlv.specs.Image.{Tlv, size_of, list_size}
 use Rattle.dcsctp_tlv.specs.Level.{Level, ItemsMean, MeansTrees}
 use Rattle.dcsctp_tlv.proofs.Accounts.{length-item}

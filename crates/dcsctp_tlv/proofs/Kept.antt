@@ -1,8 +1,7 @@
 -- Trees that are written alike: their lists are, too.
-use Rattle.std.proofs.Common.{◌≡◌, ℕ, ◌+◌, List, [], ◌∷◌, ◌++◌, length, refl, ap, ◌∙◌, Option, map}
+use Rattle.std.proofs.Common.{◌≡◌, ℕ, ◌+◌, List, [], ◌∷◌, ◌++◌, length, refl, ap, map}
 use Rattle.std.specs.List.{AllByRecursion}
-use Rattle.dcsctp_tlv.specs.Frame.{round_up_to_4}
-use Rattle.dcsctp_tlv.specs.Image.{solid, holes, gap, Tlv, size_of, image_of, list_image, list_size, listed_tlv}
+use Rattle.dcsctp_tlv.specs.Image.{solid, Tlv, size_of, image_of, list_image, list_size, listed_tlv}
 
 -- f keeps how each is written
 abbrev pub KeepsTlv : {T : Type 0} → (T → Tlv) → (T → T) → Type 0
