@@ -1,12 +1,11 @@
 -- The laws of the table of error causes: a line for each kind.
-use Rattle.std.proofs.Common.{rules, ◌≡◌, ℕ, Bool, ◌+◌, ◌^◌, ◌<◌, List, [], ◌∷◌, length, refl, ap, ◌∙◌, Result, Ok, inl, inr}
+use Rattle.std.proofs.Common.{rules, ◌≡◌, ℕ, Bool, ◌^◌, ◌<◌, List, [], ◌∷◌, length, refl, inl, inr}
 use Rattle.std.specs.Int.{w16, from_be_bytes}
 use Rattle.std.specs.Str.{IsUtf8}
 use Rattle.std.specs.List.{AllByRecursion}
 use Rattle.dcsctp_tlv.specs.Decided.{IgnoresPadding}
 use Rattle.dcsctp_tlv.specs.Frame.{lenient}
-use Rattle.dcsctp_tlv.specs.Level.{Row, plain, map_ok}
-use Rattle.dcsctp_tlv.specs.Fault.{Fault}
+use Rattle.dcsctp_tlv.specs.Level.{Row}
 use Rattle.dcsctp_tlv.specs.Image.{Tlv, zeroed, size_of, image_of, list_size}
 use Rattle.dcsctp_tlv.specs.Table.{◌&◌}
 use Rattle.dcsctp_tlv.proofs.Lengths.{length-format}
@@ -18,10 +17,10 @@ use Rattle.dcsctp_tlv.proofs.Lenient.{Loosens}
 use Rattle.dcsctp_tlv.proofs.TableLaws.{RowLaws, kind, kind_if, unknown_row, unknown_means}
 use Rattle.dcsctp_tlv.proofs.Tables.{MeansAny, of_table}
 use Rattle.dcsctp_tlv.proofs.ReadsBack.{ReadsBack}
-use Rattle.dcsctp_tlv.proofs.KindLaws.{IsGood}
+use Rattle.dcsctp_tlv.proofs.KindLaws.{IsGood, back_as}
 use Rattle.dcsctp_tlv.proofs.Unpadded.{list_unpadded}
 use Rattle.dcsctp_tlv.proofs.Forms.{FormsTrees}
-use Rattle.dcsctp_tlv.proofs.Accounts.{SameSpace, Accounts, same_size}
+use Rattle.dcsctp_tlv.proofs.Accounts.{Accounts, value_account}
 use Rattle.dcsctp_tlv.proofs.Counts.{Counts, one_each}
 use Rattle.dcsctp_cause.specs.Text.{item_code}
 use Rattle.dcsctp_cause.specs.Cause.{CauseTree, MissingMandatoryParameter, UnrecognizedChunk, NoUserData, CookieReceivedWhileShuttingDown, UserInitiatedAbort, ProtocolViolation, Unknown, table, row, causes, format, tlv, IsInWidth, IsWellFormed, HoldsText, IsTextKept}
@@ -87,17 +86,14 @@ abbrev Means : Tlv → CauseTree → Type 0
 Means tlv t = ((causes lenient).row tlv.first tlv.second).means (zeroed tlv.value) t
 
 cause_means : (t : CauseTree) → IsGoodCause t → Means (tlv t) t
-cause_means (MissingMandatoryParameter types) good =
-    ap (map_ok MissingMandatoryParameter) (missing_laws.back types good)
-cause_means (UnrecognizedChunk chunk) good = ap (map_ok UnrecognizedChunk) (chunk_laws.back chunk good)
-cause_means (NoUserData tsn) good = ap (map_ok NoUserData) (no_user_data_laws.back tsn good)
-cause_means CookieReceivedWhileShuttingDown good =
-    ap (map_ok (λ _. CookieReceivedWhileShuttingDown)) (cookie_received_laws.back tt good)
-cause_means (UserInitiatedAbort reason) good =
-    ap (map_ok UserInitiatedAbort) (abort_laws.back reason good)
-cause_means (ProtocolViolation information) good =
-    ap (map_ok ProtocolViolation) (violation_laws.back information good)
-cause_means (Unknown u) good = unknown_means table Unknown u good.formed
+cause_means (MissingMandatoryParameter x) = back_as missing_laws MissingMandatoryParameter
+cause_means (UnrecognizedChunk x) = back_as chunk_laws UnrecognizedChunk
+cause_means (NoUserData x) = back_as no_user_data_laws NoUserData
+cause_means CookieReceivedWhileShuttingDown =
+    back_as cookie_received_laws (λ _. CookieReceivedWhileShuttingDown)
+cause_means (UserInitiatedAbort x) = back_as abort_laws UserInitiatedAbort
+cause_means (ProtocolViolation x) = back_as violation_laws ProtocolViolation
+cause_means (Unknown u) = λ good. unknown_means table Unknown u good.formed
 
 -- an image is as long as its size
 pub length-cause : (t : CauseTree) → length (image_of (tlv t)) ≡ size_of (tlv t)

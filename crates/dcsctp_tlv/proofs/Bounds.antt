@@ -4,7 +4,7 @@ use Rattle.std.proofs.Common.{◌≡◌, ℕ, ◌+◌, ◌*◌, ◌≤◌, List,
 use Rattle.std.specs.List.{flat_map}
 use Rattle.std.proofs.lemmas.List.{append-nil, length-append}
 use Rattle.dcsctp_tlv.specs.Count.{total}
-use Rattle.dcsctp_tlv.specs.Frame.{Item, item_bytes, AreFormed, padding_size, round_up_to_4}
+use Rattle.dcsctp_tlv.specs.Frame.{Item, item_bytes, AreFormed, round_up_to_4}
 use Rattle.dcsctp_tlv.specs.Image.{Tlv, size_of, list_size}
 use Rattle.dcsctp_tlv.specs.Level.{Level, ItemsMean, MeansTrees}
 use Rattle.dcsctp_tlv.proofs.Accounts.{length-item}
@@ -21,11 +21,7 @@ list_fits held tlv law [] = omega arith
 list_fits held tlv law (t ∷ []) = let h = law t in omega (arith, h)
 list_fits held tlv law (t ∷ u ∷ ts) =
     let h = law t in let rest = list_fits held tlv law (u ∷ ts) in
-    two (held t) (total held (u ∷ ts)) (length (u ∷ ts)) (length (t ∷ u ∷ ts)) (size_of (tlv t))
-    (list_size tlv (u ∷ ts)) (omega arith) h rest where
-      two : (h r n k s l : ℕ) → k ≡ 1 + n → 4 + h ≤ s → 4 * n + r ≤ l
-          → 4 * k + (h + r) ≤ round_up_to_4 s + l
-      two h r n k s l e p q = omega (arith, e, p, q)
+    omega (arith, h, rest)
 
 -- ---- what is held by the bytes of each item
 
@@ -44,25 +40,14 @@ items_bound level held more law (i ∷ is) [] p m = absurd m
 items_bound level held more law (i ∷ []) (t ∷ []) p m =
     let e : length (item_bytes i ++ []) ≡ 4 + (length i.value + length i.padding) =
     ap length (append-nil (item_bytes i)) ∙ length-item i in
-    last (held t) (length i.value) (length i.padding) more (length (item_bytes i ++ []))
-    (law.alone i t m.0) e where
-      last : (h n p more all : ℕ) → 4 + h ≤ 6 * (4 + n) + more → all ≡ 4 + (n + p)
-          → 4 * 1 + (h + 0) ≤ 6 * all + more
-      last h n p more all a e = omega (arith, a, e)
+    omega (arith, law.alone i t m.0, e)
 items_bound level held more law (i ∷ []) (t ∷ u ∷ ts) p m = absurd m.1
 items_bound level held more law (i ∷ j ∷ is) (t ∷ []) p m = absurd m.1
 items_bound level held more law (i ∷ j ∷ is) (t ∷ u ∷ ts) p m =
     let rest = flat_map item_bytes (j ∷ is) in
     let e = length-append (item_bytes i) rest ∙ ap (λ (n : ℕ). n + length rest) (length-item i) in
-    front (held t) (total held (u ∷ ts)) (length (u ∷ ts)) (length (t ∷ u ∷ ts)) (omega arith)
-    (length i.value) (length i.padding) more
-    (length rest) (length (item_bytes i ++ rest)) (law.padded i t m.0) p.0.padded
-    (items_bound level held more law (j ∷ is) (u ∷ ts) p.1 m.1) e where
-      front : (h d k j : ℕ) → j ≡ 1 + k → (n p more r all : ℕ) → 4 + h ≤ 6 * round_up_to_4 (4 + n)
-          → p ≡ padding_size n
-          → 4 * k + d ≤ 6 * r + more → all ≡ 4 + (n + p) + r
-          → 4 * j + (h + d) ≤ 6 * all + more
-      front h d k j one n p more r all a b c e = omega (arith, one, a, b, c, e)
+    let others = items_bound level held more law (j ∷ is) (u ∷ ts) p.1 m.1 in
+    omega (arith, law.padded i t m.0, p.0.padded, others, e)
 
 pub list_bound : {T : Type 0} (level : Level T) (held : T → ℕ) (more : ℕ) → Bounds level held more
     → (bytes : List ℕ) (ts : List T) → MeansTrees level bytes ts

@@ -8,6 +8,7 @@ use Rattle.dcsctp_tlv.specs.Count.{total}
 use Rattle.dcsctp_tlv.specs.Frame.{padding_size, round_up_to_4, Item, item_bytes, PaddingRule, AreFormed, AreItems, frame_length, BeginsWithFrame, frame_value, frame_padding, frame_rest}
 use Rattle.dcsctp_tlv.specs.Level.{Level, ItemsMean, MeansTrees, MeansCounted, front_row}
 use Rattle.dcsctp_tlv.proofs.Items.{front_item, front_length, items_before}
+use Rattle.dcsctp_tlv.proofs.Forms.{means_nil}
 use Rattle.dcsctp_tlv.proofs.Lists.{Progress, step, finish, is_cons}
 use Rattle.dcsctp_tlv.proofs.Laws.{front_is}
 
@@ -201,13 +202,8 @@ none_left rule rest items count all e are h =
 -- no bytes mean no trees
 pub no_trees : {T : Type 0} (level : Level T) (bytes : List ℕ) (trees : List T) → bytes ≡ []
     → MeansTrees level bytes trees → length trees ≡ 0
-no_trees level bytes trees e m = none level m.items trees (nothing_left level.padding m.items
-    (subst (λ (r : List ℕ). AreItems level.padding r m.items) e m.are)) m.mean where
-      none : {T : Type 0} (level : Level T) (items : List Item) (trees : List T) → length items ≡ 0
-          → ItemsMean level items trees → length trees ≡ 0
-      none level [] [] h m = refl
-      none level [] (t ∷ ts) h m = absurd m
-      none level (i ∷ is) ts h m = absurd (omega (arith, h))
+no_trees level bytes trees e m =
+    ap length (means_nil level trees (subst (λ (r : List ℕ). MeansTrees level r trees) e m))
 
 -- as many items as trees
 pub as_many : {T : Type 0} (level : Level T) (items : List Item) (trees : List T)

@@ -1,5 +1,5 @@
 -- The bound on how many trees bytes can mean: each takes four bytes at least.
-use Rattle.std.proofs.Common.{◌≡◌, ℕ, ◌+◌, ◌*◌, ◌≤◌, List, [], ◌∷◌, length, refl, sym, ap, subst, ◌∙◌, arith}
+use Rattle.std.proofs.Common.{◌≡◌, ℕ, ◌+◌, ◌*◌, ◌≤◌, List, [], ◌∷◌, length, refl, sym, ap, subst, arith}
 use Rattle.std.specs.List.{flat_map}
 use Rattle.std.proofs.lemmas.List.{length-append}
 use Rattle.dcsctp_tlv.specs.Frame.{Item, item_bytes}
@@ -27,12 +27,7 @@ items_count level count law (i ∷ is) (t ∷ ts) m =
     let item = length-item i in
     let here = law.bound i t m.0 in
     let rest = items_count level count law is ts m.1 in
-    sum_bound (count t) (total count ts) (length i.value) (length i.padding)
-    (length (flat_map item_bytes is)) (length (flat_map item_bytes (i ∷ is))) here rest
-    (whole ∙ ap (λ (n : ℕ). n + length (flat_map item_bytes is)) item) where
-      sum_bound : (c d n p r all : ℕ) → 4 * c ≤ 4 + n → 4 * d ≤ r → all ≡ 4 + (n + p) + r
-          → 4 * (c + d) ≤ all
-      sum_bound c d n p r all h k e = omega (arith, h, e, k)
+    omega (arith, here, rest, whole, item)
 
 pub list_count : {T : Type 0} (level : Level T) (count : T → ℕ) → Counts level count
     → (bytes : List ℕ) (ts : List T) → MeansTrees level bytes ts → 4 * total count ts ≤ length bytes

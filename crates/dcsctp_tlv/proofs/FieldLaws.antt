@@ -38,17 +38,13 @@ later read size bytes a (suc n) =
     omega (arith, mul-suc size a, ap (λ (k : ℕ). size * k) (add-one a)) in
     let same : read (drop (size * (a + 1)) bytes) ≡ read (drop (size * a) (drop size bytes)) =
     ap read (sym (drop-drop (size * a) size bytes ∙ ap (λ (k : ℕ). drop k bytes) at)) in
-    ap (λ (x : _). x ∷ map (λ i. read (drop (size * i) bytes)) (range_with_len (a + 1 + 1) n)) same
-    ∙ ap (λ (xs : List _). read (drop (size * a) (drop size bytes)) ∷ xs)
-    (later read size bytes (a + 1) n)
+    rw (same, later read size bytes (a + 1) n) refl
 
 -- the first, and those after it
 pub fields-first : {A : Type 0} (read : List ℕ → A) (size n : ℕ) (bytes : List ℕ)
     → fields read size (suc n) bytes ≡ read bytes ∷ fields read size n (drop size bytes)
 fields-first read size n bytes =
-    ap (λ (k : ℕ). read (drop k bytes) ∷ map (λ i. read (drop (size * i) bytes))
-    (range_with_len 1 n)) (mul-zero size)
-    ∙ ap (λ (xs : List _). read bytes ∷ xs) (later read size bytes 0 n)
+    rw (mul-zero size, later read size bytes 0 n) refl
 
 -- one field that can be written: it has its size, and is read again, whatever follows
 pub record FieldLaw {A : Type 0} (read : List ℕ → A) (write : A → List ℕ) (size : ℕ) (IsWritable : A
@@ -65,13 +61,13 @@ fields_back read write size IsWritable law (x ∷ xs) rest h =
     let after : List ℕ = flat_map write xs ++ rest in
     let e : flat_map write (x ∷ xs) ++ rest ≡ write x ++ after =
     append_assoc (write x) (flat_map write xs) rest in
-    fields-first read size (length xs) (flat_map write (x ∷ xs) ++ rest)
-    ∙ ap (λ (bytes : List ℕ). read bytes ∷ fields read size (length xs) (drop size bytes)) e
-    ∙ ap (λ (y : _). y ∷ fields read size (length xs) (drop size (write x ++ after)))
-    (law.back x after h.0)
-    ∙ ap (λ (bytes : List ℕ). x ∷ fields read size (length xs) bytes) (drop_at (write x) after size
-    (law.sized x h.0))
-    ∙ ap (λ (ys : List _). x ∷ ys) (fields_back read write size IsWritable law xs rest h.1)
+    rw (
+      fields-first read size (length xs) (flat_map write (x ∷ xs) ++ rest),
+      e,
+      law.back x after h.0,
+      drop_at (write x) after size (law.sized x h.0),
+      fields_back read write size IsWritable law xs rest h.1,
+    ) refl
 
 -- with nothing after them
 pub last_fields_back : {A : Type 0} (read : List ℕ → A) (write : A → List ℕ) (size : ℕ)

@@ -66,12 +66,10 @@ written_next : (p i : List (Option ℕ)) (n start : ℕ) (old out : List ℕ) �
 written_next p i n start old out e s =
     let q : List (Option ℕ) = p ++ holes n in
     let same : written q old ≡ written p old =
-    written-append p (holes n) old
-    ∙ ap (λ (ys : List ℕ). take (length p) (written p old) ++ ys)
-    (written-holes n (drop (length p) old) ∙ sym (drop-written p old))
-    ∙ take-append-drop (length p) (written p old) in
-    let len : length q ≡ start = length-append p (holes n) ∙ ap (λ (k : ℕ). length p + k)
-    (length-replicate n None) ∙ sym s in
+    rw (written-append p (holes n) old, written-holes n (drop (length p) old), ← drop-written p old)
+    (take-append-drop (length p) (written p old)) in
+    let len : length q ≡ start =
+    rw (length-append p (holes n), length-replicate {A = Option ℕ} n None) (sym s) in
     let after : drop start out ≡ drop start old = rw (← len, e, ← same) (drop-written q old) in
     rw (after, ← append_assoc p (holes n) i, written-append q i old, len, same, ← e) refl
 
@@ -115,14 +113,18 @@ size_front tlv (t ∷ []) [] = omega arith
 size_front tlv (t ∷ []) (u ∷ us) = omega arith
 size_front tlv (t ∷ u ∷ ts) us = let h = size_front tlv (u ∷ ts) us in omega (arith, h)
 
+-- the items up to the next one
+pub take_next : {T : Type 0} (ts : List T) (i : ℕ) (t : T) → i < length ts → t ≡ get_or ts i t
+    → take (i + 1) ts ≡ take i ts ++ t ∷ []
+take_next ts i t lt e = take_more ts i t lt ∙ ap (λ (x : _). take i ts ++ x ∷ []) (sym e)
+
 -- the next item fits after those before it
 next_size : {T : Type 0} (tlv : T → Tlv) (ts : List T) {i : ℕ} {t : T} → i < length ts
     → t ≡ get_or ts i t
     → (list_size tlv (take (i + 1) ts) ≡ round_up_to_4 (list_size tlv (take i ts))
     + size_of (tlv t)) × (list_size tlv (take (i + 1) ts) ≤ list_size tlv ts)
 next_size tlv ts {i} {t} lt e =
-    let more : take (i + 1) ts ≡ take i ts ++ t ∷ [] =
-    take_more ts i t lt ∙ ap (λ (x : _). take i ts ++ x ∷ []) (sym e) in (
+    let more = take_next ts i t lt e in (
       ap (list_size tlv) more ∙ list_size-push tlv (take i ts) t,
       subst (λ (all : List _). list_size tlv (take (i + 1) ts) ≤ list_size tlv all)
           (take-append-drop (i + 1) ts) (size_front tlv (take (i + 1) ts) (drop (i + 1) ts)),
@@ -161,12 +163,9 @@ written_more tlv ts {i} {t} old {out} {start} law lt e so_far here =
     let before = list_image tlv (take i ts) in
     let size = list_size tlv (take i ts) in
     let len : length before ≡ size = length-list_image tlv law (take i ts) in
-    let more : take (i + 1) ts ≡ take i ts ++ t ∷ [] =
-    take_more ts i t lt ∙ ap (λ (x : _). take i ts ++ x ∷ []) (sym e) in
     let place : start ≡ length before + gap size = here ∙ omega (arith, len) in
-    written_next before (image_of (tlv t)) (gap size) start old out so_far place
-    ∙ ap (λ (p : List (Option ℕ)). written p old) (sym (list_image-push tlv (take i ts) t)
-    ∙ ap (list_image tlv) (sym more))
+    rw (take_next ts i t lt e, list_image-push tlv (take i ts) t)
+    (written_next before (image_of (tlv t)) (gap size) start old out so_far place)
 
 -- ---- the test of a list
 

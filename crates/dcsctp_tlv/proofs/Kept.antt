@@ -1,8 +1,7 @@
 -- Trees that are written alike: their lists are, too.
-use Rattle.std.proofs.Common.{◌≡◌, ℕ, ◌+◌, List, [], ◌∷◌, ◌++◌, length, refl, ap, ◌∙◌, Option, map}
+use Rattle.std.proofs.Common.{◌≡◌, ℕ, ◌+◌, List, [], ◌∷◌, ◌++◌, length, refl, ap, map}
 use Rattle.std.specs.List.{AllByRecursion}
-use Rattle.dcsctp_tlv.specs.Frame.{round_up_to_4}
-use Rattle.dcsctp_tlv.specs.Image.{solid, holes, gap, Tlv, size_of, image_of, list_image, list_size, listed_tlv}
+use Rattle.dcsctp_tlv.specs.Image.{solid, Tlv, size_of, image_of, list_image, list_size, listed_tlv}
 
 -- f keeps how each is written
 abbrev pub KeepsTlv : {T : Type 0} → (T → Tlv) → (T → T) → Type 0
@@ -13,18 +12,14 @@ pub list_image-kept : {T : Type 0} (tlv : T → Tlv) (f : T → T) → KeepsTlv 
 list_image-kept tlv f law [] = refl
 list_image-kept tlv f law (t ∷ []) = ap image_of (law t)
 list_image-kept tlv f law (t ∷ u ∷ ts) =
-    ap (λ (x : Tlv). image_of x ++ (holes (gap (size_of x)) ++ list_image tlv (map f (u ∷ ts))))
-    (law t)
-    ∙ ap (λ (image : List (Option ℕ)). image_of (tlv t) ++ (holes (gap (size_of (tlv t))) ++ image))
-    (list_image-kept tlv f law (u ∷ ts))
+    rw (law t, list_image-kept tlv f law (u ∷ ts)) refl
 
 pub list_size-kept : {T : Type 0} (tlv : T → Tlv) (f : T → T) → KeepsTlv tlv f → (ts : List T)
     → list_size tlv (map f ts) ≡ list_size tlv ts
 list_size-kept tlv f law [] = refl
 list_size-kept tlv f law (t ∷ []) = ap size_of (law t)
 list_size-kept tlv f law (t ∷ u ∷ ts) =
-    ap (λ (x : Tlv). round_up_to_4 (size_of x) + list_size tlv (map f (u ∷ ts))) (law t)
-    ∙ ap (λ (n : ℕ). round_up_to_4 (size_of (tlv t)) + n) (list_size-kept tlv f law (u ∷ ts))
+    rw (law t, list_size-kept tlv f law (u ∷ ts)) refl
 
 -- so is an item whose value ends in such a list
 pub listed_tlv-kept : {T : Type 0} (tlv : T → Tlv) (f : T → T) → KeepsTlv tlv f

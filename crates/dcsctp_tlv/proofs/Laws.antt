@@ -63,7 +63,8 @@ front_is rule i r bytes fits e p =
     let loosened : IsNext any_padding i r =
     record { fits = p.fits; at_most = p.at_most; whole = p.whole; accepted = refl } in
     let same = next_one any_padding i (front_item bytes) r (frame_rest bytes)
-    (sym e ∙ front_split bytes fits frame) loosened (front_next any_padding bytes fits frame refl) in
+    (sym e ∙ front_split bytes fits frame) loosened
+    (front_next any_padding bytes fits frame refl) in
     (frame, same.0, same.1)
 
 value_fits : (bytes : List ℕ) → AreBytes bytes → AreBytes (frame_value bytes)

@@ -41,9 +41,7 @@ pub written_headed : (t : Tlv) (old headed value : List ℕ)
     → headed ++ value ≡ written (image_of t) old
 unfolding image_of
 written_headed t old headed value e is room =
-    ap (λ (xs : List ℕ). xs ++ value) e
-    ∙ ap (λ (xs : List ℕ). header t.first t.second t.value_size ++ xs) is
-    ∙ written_front (header t.first t.second t.value_size) t.value old room
+    rw (e, is) (written_front (header t.first t.second t.value_size) t.value old room)
 
 -- what was written says how long it is
 pub written_length : (t : Tlv) (old out : List ℕ) → IsEncodable t → size_of t ≤ length old

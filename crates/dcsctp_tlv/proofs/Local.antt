@@ -72,9 +72,7 @@ module _ {T : Type 0} (level : Level T) where
   local_means front end ts us words m n = record {
     items = m.items ++ n.items;
     are = record {
-      split = ap (λ (xs : List ℕ). xs ++ end) m.are.split
-          ∙ ap (λ (xs : List ℕ). flat_map item_bytes m.items ++ xs) n.are.split
-          ∙ sym (flat_map-append item_bytes m.items n.items);
+      split = rw (m.are.split, n.are.split) (sym (flat_map-append item_bytes m.items n.items));
       formed = formed_after level.padding m.items n.items (whole_items front ts m words)
           m.are.formed n.are.formed;
     };
@@ -88,10 +86,7 @@ module _ {T : Type 0} (level : Level T) where
     items = m.items ++ f.items;
     trees = ts ++ f.trees;
     rest = f.rest;
-    split = ap (λ (xs : List ℕ). xs ++ end) m.are.split
-        ∙ ap (λ (xs : List ℕ). flat_map item_bytes m.items ++ xs) f.split
-        ∙ sym (append_assoc (flat_map item_bytes m.items) (flat_map item_bytes f.items) f.rest)
-        ∙ ap (λ (xs : List ℕ). xs ++ f.rest) (sym (flat_map-append item_bytes m.items f.items));
+    split = rw (m.are.split, f.split) (simp (flat_map-append, append_assoc));
     whole = whole_after level.padding m.items f.items (whole_items front ts m words) f.whole;
     mean = mean_after m.items f.items ts f.trees m.mean f.mean;
     fault = f.fault;

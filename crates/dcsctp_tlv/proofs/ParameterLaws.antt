@@ -8,7 +8,7 @@ use Rattle.dcsctp_tlv.specs.Format.{sized_tlv}
 use Rattle.dcsctp_tlv.specs.Frame.{lenient}
 use Rattle.dcsctp_tlv.specs.Number.{numbers}
 use Rattle.dcsctp_tlv.proofs.Lengths.{length-format}
-use Rattle.dcsctp_tlv.specs.Level.{Row, map_ok}
+use Rattle.dcsctp_tlv.specs.Level.{Row}
 use Rattle.dcsctp_tlv.specs.Image.{Tlv, zeroed, image_of, size_of, list_size}
 use Rattle.dcsctp_tlv.specs.Table.{◌&◌}
 use Rattle.dcsctp_tlv.specs.HeartbeatInfo as info
@@ -22,7 +22,7 @@ use Rattle.dcsctp_tlv.specs.UnknownParameter as unknown
 use Rattle.dcsctp_tlv.specs.Parameter.{ParameterTree, HeartbeatInfo, StateCookie, OutgoingSsnResetRequest, IncomingSsnResetRequest, SsnTsnResetRequest, ReconfigurationResponse, AddOutgoingStreamsRequest, AddIncomingStreamsRequest, ZeroChecksumAcceptable, SupportedExtensions, ForwardTsnSupported, Unknown, table, row, parameters, format, tlv, IsInWidth, IsWellFormed, kept, all_kept}
 use Rattle.dcsctp_tlv.proofs.Laws.{LawfulRow, Lawful}
 use Rattle.dcsctp_tlv.proofs.FormatLaws.{good_list}
-use Rattle.dcsctp_tlv.proofs.KindLaws.{IsGood}
+use Rattle.dcsctp_tlv.proofs.KindLaws.{IsGood, back_as}
 use Rattle.dcsctp_tlv.proofs.Places.{AtFront}
 use Rattle.dcsctp_tlv.proofs.Lenient.{Loosens}
 use Rattle.dcsctp_tlv.proofs.Unpadded.{list_unpadded}
@@ -99,27 +99,20 @@ Means tlv t = ((parameters lenient).row tlv.first tlv.second).means (zeroed tlv.
 
 parameter_means : (t : ParameterTree) → IsGoodParameter t → Means (tlv t) t
 unfolding unknown.read
-parameter_means (HeartbeatInfo info) good = ap (map_ok HeartbeatInfo) (info_laws.back info good)
-parameter_means (StateCookie cookie) good = ap (map_ok StateCookie) (cookie_laws.back cookie good)
-parameter_means (OutgoingSsnResetRequest r) good =
-    ap (map_ok OutgoingSsnResetRequest) (outgoing_laws.back r good)
-parameter_means (IncomingSsnResetRequest r) good =
-    ap (map_ok IncomingSsnResetRequest) (incoming_laws.back r good)
-parameter_means (SsnTsnResetRequest request) good =
-    ap (map_ok SsnTsnResetRequest) (ssn_tsn_laws.back request good)
-parameter_means (ReconfigurationResponse r) good =
-    ap (map_ok ReconfigurationResponse) (response_laws.back r good)
-parameter_means (AddOutgoingStreamsRequest r) good =
-    ap (map_ok AddOutgoingStreamsRequest) ((add_streams_laws 17 add_outgoing.name).back r good)
-parameter_means (AddIncomingStreamsRequest r) good =
-    ap (map_ok AddIncomingStreamsRequest) ((add_streams_laws 18 add_incoming.name).back r good)
-parameter_means (ZeroChecksumAcceptable method) good =
-    ap (map_ok ZeroChecksumAcceptable) (zero_checksum_laws.back method good)
-parameter_means (SupportedExtensions types) good =
-    ap (map_ok SupportedExtensions) (extensions_laws.back types good)
-parameter_means ForwardTsnSupported good =
-    ap (map_ok (λ _. ForwardTsnSupported)) (forward_tsn_laws.back tt good)
-parameter_means (Unknown u) good = unknown_means table Unknown u good.formed
+parameter_means (HeartbeatInfo x) = back_as info_laws HeartbeatInfo
+parameter_means (StateCookie x) = back_as cookie_laws StateCookie
+parameter_means (OutgoingSsnResetRequest x) = back_as outgoing_laws OutgoingSsnResetRequest
+parameter_means (IncomingSsnResetRequest x) = back_as incoming_laws IncomingSsnResetRequest
+parameter_means (SsnTsnResetRequest x) = back_as ssn_tsn_laws SsnTsnResetRequest
+parameter_means (ReconfigurationResponse x) = back_as response_laws ReconfigurationResponse
+parameter_means (AddOutgoingStreamsRequest x) =
+    back_as (add_streams_laws 17 add_outgoing.name) AddOutgoingStreamsRequest
+parameter_means (AddIncomingStreamsRequest x) =
+    back_as (add_streams_laws 18 add_incoming.name) AddIncomingStreamsRequest
+parameter_means (ZeroChecksumAcceptable x) = back_as zero_checksum_laws ZeroChecksumAcceptable
+parameter_means (SupportedExtensions x) = back_as extensions_laws SupportedExtensions
+parameter_means ForwardTsnSupported = back_as forward_tsn_laws (λ _. ForwardTsnSupported)
+parameter_means (Unknown u) = λ good. unknown_means table Unknown u good.formed
 
 -- an image is as long as its size
 pub length-parameter : (t : ParameterTree) → length (image_of (tlv t)) ≡ size_of (tlv t)

@@ -3,7 +3,7 @@ use Rattle.std.proofs.Common.{◌≡◌, ℕ, suc, zero, ◌+◌, ◌*◌, ◌<�
 use Rattle.std.specs.Prelude.{All, map}
 use Rattle.std.specs.Int.{w32}
 use Rattle.std.specs.List.{flat_map, AllByRecursion}
-use Rattle.std.proofs.lemmas.List.{append-nil, length-append, length-take, take_more, take_at, drop_at, drop-drop, length-drop, length-map}
+use Rattle.std.proofs.lemmas.List.{append-nil, length-append, length-take, take_at, drop_at, drop-drop, length-drop, length-map}
 use Rattle.std.proofs.lemmas.List.Elements.{recursion_from_All}
 use Rattle.std.proofs.lemmas.List.FromFn.{map-range_with_len_more}
 use Rattle.std.proofs.lemmas.List.Concat.{flat_map-append}
@@ -13,7 +13,7 @@ use Rattle.dcsctp_tlv.specs.Frame.{header}
 use Rattle.dcsctp_tlv.specs.Image.{put, solid_tlv, image_of, written}
 use Rattle.dcsctp_tlv.specs.Number.{numbers}
 pub use Rattle.dcsctp_tlv.proofs.Lengths.{length-numbers}
-use Rattle.dcsctp_tlv.proofs.Images.{written-solid, written_item, all_take, all_from}
+use Rattle.dcsctp_tlv.proofs.Images.{written-solid, written_item, take_next, all_take, all_from}
 use Rattle.dcsctp_tlv.specs.Fields.{fields}
 
 -- ---- places
@@ -50,15 +50,14 @@ put-put old place next a b le e =
     let k = length-take place old in omega (arith, l, k)) in
     let end : place + length a + length b ≡ place + length (a ++ b) =
     (let l = length-append a b in omega (arith, l)) in
-    ap (λ (xs : List ℕ). take next xs ++ (b ++ drop (next + length b) xs)) so_far
-    ∙ ap (λ (xs : List ℕ). xs ++ (b ++ drop (next + length b) (front ++ back)))
-    (take_at front back next len)
-    ∙ ap (λ (xs : List ℕ). front ++ (b ++ xs)) (sym (drop-drop (length b) next (front ++ back))
-    ∙ ap (drop (length b)) (drop_at front back next len) ∙ drop-drop (length b)
-    (place + length a) old ∙ ap (λ (n : ℕ). drop n old) end)
-    ∙ append_assoc (take place old) a (b ++ drop (place + length (a ++ b)) old)
-    ∙ ap (λ (xs : List ℕ). take place old ++ xs)
-    (sym (append_assoc a b (drop (place + length (a ++ b)) old)))
+    rw (
+      so_far,
+      take_at front back next len,
+      ← drop-drop (length b) next (front ++ back),
+      drop_at front back next len,
+      drop-drop (length b) (place + length a) old,
+      end,
+    ) (simp append_assoc)
 
 -- `n` fields of one size
 pub length-written : {X : Type 0} (write : X → List ℕ) (size : ℕ) (xs : List X)
@@ -85,11 +84,8 @@ put_more write size is_writable xs i x old out place end law each lt e le at so_
     (all_take is_writable i xs (recursion_from_All is_writable xs each)))
     ∙ ap (λ (n : ℕ). size * n) count in
     let more : flat_map write (take (i + 1) xs) ≡ before ++ write x =
-    ap (flat_map write) (take_more xs i x lt ∙ ap (λ (y : _). take i xs ++ y ∷ []) (sym e))
-    ∙ flat_map-append write (take i xs) (x ∷ []) ∙ ap (λ (ys : List ℕ). before ++ ys)
-    (append-nil (write x)) in
-    ap (λ (ys : List ℕ). put ys end (write x)) so_far ∙ put-put old place end before (write x) le
-    (at ∙ ap (λ (n : ℕ). place + n) (sym len)) ∙ ap (put old place) (sym more)
+    rw (take_next xs i x lt e, flat_map-append write (take i xs) (x ∷ [])) (simp append-nil) in
+    rw (so_far, more) (put-put old place end before (write x) le (rw len at))
 
 -- ---- lengths
 
@@ -124,8 +120,6 @@ written_value first second n bytes old headed e room is =
     ap length is ∙ length-append (header first second n) (drop 4 old) in
     let left = length-drop 4 old in
     let left_headed = length-drop 4 headed in
-    ap (λ (xs : List ℕ). take 4 headed ++ (bytes ++ xs)) (sym (drop-drop (length bytes) 4 headed))
-    ∙ ap (λ (xs : List ℕ). take 4 headed ++ xs)
-    (sym (written-solid bytes (drop 4 headed) (omega (arith, all, left, left_headed))))
-    ∙ written_item (solid_tlv first second bytes) old headed
-    (is ∙ ap (λ (k : ℕ). header first second k ++ drop 4 old) e) (omega arith)
+    let room_left : length bytes ≤ length (drop 4 headed) = omega arith in
+    rw (← drop-drop (length bytes) 4 headed, ← written-solid bytes (drop 4 headed) room_left)
+    (written_item (solid_tlv first second bytes) old headed (rw (← e) is) (omega arith))

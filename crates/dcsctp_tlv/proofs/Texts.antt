@@ -1,21 +1,18 @@
 -- Printed lists, item by item.
 use Rattle.std.proofs.Common.{◌≡◌, ℕ, suc, zero, ◌+◌, ◌<◌, List, [], ◌∷◌, ◌++◌, length, get_or, take, refl, sym, ap, ◌∙◌, append_assoc, arith, map}
-use Rattle.std.proofs.lemmas.List.{take_more, map_push}
+use Rattle.std.proofs.lemmas.List.{map_push}
+use Rattle.dcsctp_tlv.proofs.Images.{take_next}
 use Rattle.dcsctp_tlv.specs.Text.{joined}
 
 joined-push : (separator : List ℕ) (u : List ℕ) (ts : List (List ℕ)) (t : List ℕ)
     → joined separator ((u ∷ ts) ++ t ∷ []) ≡ joined separator (u ∷ ts) ++ (separator ++ t)
 joined-push separator u [] t = refl
 joined-push separator u (v ∷ ts) t =
-    ap (λ (x : List ℕ). u ++ (separator ++ x)) (joined-push separator v ts t)
-    ∙ ap (λ (x : List ℕ). u ++ x) (sym (append_assoc separator (joined separator (v ∷ ts))
-    (separator ++ t)))
-    ∙ sym (append_assoc u (separator ++ joined separator (v ∷ ts)) (separator ++ t))
+    rw (joined-push separator v ts t) (simp append_assoc)
 
 one_more : {X : Type 0} (text : X → List ℕ) (xs : List X) (i : ℕ) (x : X) → i < length xs
     → x ≡ get_or xs i x → map text (take (i + 1) xs) ≡ map text (take i xs) ++ text x ∷ []
-one_more text xs i x lt e = ap (map text) (take_more xs i x lt ∙ ap (λ (y : _). take i xs ++ y ∷ [])
-    (sym e)) ∙ map_push text (take i xs) x
+one_more text xs i x lt e = rw (take_next xs i x lt e) (map_push text (take i xs) x)
 
 -- the first item stands alone
 pub joined_first : {X : Type 0} (separator : List ℕ) (text : X → List ℕ) (xs : List X) (i : ℕ)
