@@ -1,10 +1,10 @@
 -- Each kind of chunk reads back: a line a kind.
-use Rattle.std.proofs.Common.{◌≡◌, ◌≢◌, ℕ, ◌<◌, ◌^◌, Bool, true, List, [], ◌∷◌, refl, ap, arith}
+use Rattle.std.proofs.Common.{rules, ◌≡◌, ◌≢◌, ℕ, ◌+◌, ◌<◌, ◌^◌, Bool, true, List, [], ◌∷◌, refl, arith}
 use Rattle.std.specs.Prelude.{nat_lt, nat_le, length}
 use Rattle.std.specs.List.{AllByRecursion}
 use Rattle.std.proofs.lemmas.Bool.{le-leb, lt-ltb}
 use Rattle.std.proofs.lemmas.Nat.{from_be_bytes-to_be_bytes_2, from_be_bytes-to_be_bytes_4}
-use Rattle.dcsctp_tlv.specs.Level.{as_row, map_ok}
+use Rattle.dcsctp_tlv.specs.Level.{as_row}
 use Rattle.dcsctp_tlv.specs.Image.{Tlv, zeroed, image_of, list_image, list_size, IsEncodable}
 use Rattle.dcsctp_tlv.specs.Parameter.{ParameterTree, tlv as parameter_tlv, IsInWidth as IsParameterInWidth, IsWellFormed as IsParameterWellFormed}
 use Rattle.dcsctp_tlv.specs.Table.{IsUnnamed}
@@ -47,12 +47,12 @@ init_means strict tree typ i width formed fits =
 
 parameter_list_means : (strict : Bool) (tree : List ParameterTree → ChunkTree)
     (ps : List ParameterTree) → AllByRecursion IsParameterInWidth ps
-    → AllByRecursion IsParameterWellFormed ps → list_size parameter_tlv ps < 2 ^ 16
+    → AllByRecursion IsParameterWellFormed ps → 4 + (0 + list_size parameter_tlv ps) < 2 ^ 16
     → (as_row tree (parameter_list_row strict)).means (zeroed (list_image parameter_tlv ps))
     (tree ps)
 parameter_list_means strict tree ps width formed fits =
     listed_back parameter_items 0 (λ v. true) (λ v ps. ps) tree strict _ ps ps refl refl refl width
-    formed fits
+    formed (omega (arith, fits))
 
 -- a list of causes that is written isn't empty
 some_bytes : (cs : List CauseTree) → cs ≢ []
@@ -82,40 +82,31 @@ unknown_means strict u h =
 means : (strict : Bool) (t : ChunkTree) → IsGood t
     → (chunk_row strict (chunk_tlv t).first (chunk_tlv t).second).means (zeroed (chunk_tlv t).value)
     t
-means strict (Data c) good =
-    ap (map_ok Data) (data_laws.back c good.width good.formed good.encodable)
+means strict (Data c) good = search (rules, data_laws.back)
 means strict (Init i) good = init_means strict Init 1 i good.width good.formed good.encodable
 means strict (InitAck i) good = init_means strict InitAck 2 i good.width good.formed good.encodable
-means strict (Sack s) good = ap (map_ok Sack) (sack_laws.back s good.width tt good.encodable)
+means strict (Sack s) good = search (rules, sack_laws.back)
 means strict (HeartbeatRequest ps) good =
-    parameter_list_means strict HeartbeatRequest ps good.width good.formed (omega (arith, good.encodable))
+    parameter_list_means strict HeartbeatRequest ps good.width good.formed good.encodable
 means strict (HeartbeatAck ps) good =
-    parameter_list_means strict HeartbeatAck ps good.width good.formed (omega (arith, good.encodable))
+    parameter_list_means strict HeartbeatAck ps good.width good.formed good.encodable
 means strict (Abort a) good =
     listed_back cause_items 0 (λ v. true) (λ v cs. abort_of (flags_of a) cs) Abort strict _ a.causes
     a refl refl (rw (one_again a.tag_reflected) refl) good.width good.formed
     (omega (arith, good.encodable))
-means strict (Shutdown tsn) good =
-    ap (map_ok Shutdown) (shutdown_laws.back tsn good.width tt good.encodable)
-means strict ShutdownAck good =
-    ap (map_ok (λ _. ShutdownAck)) (shutdown_ack_laws.back tt tt tt good.encodable)
+means strict (Shutdown tsn) good = search (rules, shutdown_laws.back)
+means strict ShutdownAck good = search (rules, shutdown_ack_laws.back)
 means strict (Error cs) good =
     listed_back cause_items 0 (λ v. nat_lt 0 (length v)) (λ v cs. cs) Error strict _ cs cs
     (some_bytes cs good.formed.0) refl refl good.width good.formed.1 (omega (arith, good.encodable))
-means strict (CookieEcho cookie) good =
-    ap (map_ok CookieEcho) (cookie_echo_laws.back cookie good.width good.formed good.encodable)
-means strict CookieAck good =
-    ap (map_ok (λ _. CookieAck)) (cookie_ack_laws.back tt tt tt good.encodable)
-means strict (ShutdownComplete reflected) good =
-    ap (map_ok ShutdownComplete) (shutdown_complete_laws.back reflected tt tt good.encodable)
-means strict (IData c) good =
-    ap (map_ok IData) (idata_laws.back c good.width good.formed good.encodable)
+means strict (CookieEcho cookie) good = search (rules, cookie_echo_laws.back)
+means strict CookieAck good = search (rules, cookie_ack_laws.back)
+means strict (ShutdownComplete reflected) good = search (rules, shutdown_complete_laws.back)
+means strict (IData c) good = search (rules, idata_laws.back)
 means strict (ReConfig ps) good =
-    parameter_list_means strict ReConfig ps good.width good.formed (omega (arith, good.encodable))
-means strict (ForwardTsn f) good =
-    ap (map_ok ForwardTsn) (forward_tsn_laws.back f good.width good.formed good.encodable)
-means strict (IForwardTsn f) good =
-    ap (map_ok IForwardTsn) (iforward_tsn_laws.back f good.width good.formed good.encodable)
+    parameter_list_means strict ReConfig ps good.width good.formed good.encodable
+means strict (ForwardTsn f) good = search (rules, forward_tsn_laws.back)
+means strict (IForwardTsn f) good = search (rules, iforward_tsn_laws.back)
 means strict (Unknown u) good = unknown_means strict u good.formed
 
 pub chunks_read_back : (strict : Bool) → ReadsBack (chunks strict) chunk_tlv IsGood
