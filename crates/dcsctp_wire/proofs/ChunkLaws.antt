@@ -1,14 +1,14 @@
 -- Each kind of chunk reads back: a line a kind.
-use Rattle.std.proofs.Common.{◌≡◌, ◌≢◌, ℕ, ◌<◌, ◌^◌, Bool, true, List, [], ◌∷◌, refl, ap, arith}
+use Rattle.std.proofs.Common.{rules, ◌≡◌, ◌≢◌, ℕ, ◌+◌, ◌<◌, ◌^◌, Bool, true, List, [], ◌∷◌, refl, arith}
 use Rattle.std.specs.Prelude.{nat_lt, nat_le, length}
 use Rattle.std.specs.List.{AllByRecursion}
 use Rattle.std.proofs.lemmas.Bool.{le-leb, lt-ltb}
 use Rattle.std.proofs.lemmas.Nat.{from_be_bytes-to_be_bytes_2, from_be_bytes-to_be_bytes_4}
-use Rattle.dcsctp_tlv.specs.Level.{as_row, map_ok}
+use Rattle.dcsctp_tlv.specs.Level.{as_row}
 use Rattle.dcsctp_tlv.specs.Image.{Tlv, zeroed, image_of, list_image, list_size, IsEncodable}
 use Rattle.dcsctp_tlv.specs.Parameter.{ParameterTree, tlv as parameter_tlv, IsInWidth as IsParameterInWidth, IsWellFormed as IsParameterWellFormed}
 use Rattle.dcsctp_tlv.specs.Table.{IsUnnamed}
-use Rattle.dcsctp_tlv.proofs.KindLaws.{IsGood}
+use Rattle.dcsctp_tlv.proofs.KindLaws.{IsGood, back_as}
 use Rattle.dcsctp_tlv.proofs.Tables.{of_others}
 use Rattle.dcsctp_tlv.proofs.ReadsBack.{ReadsBack, zeroed-solid}
 use Rattle.dcsctp_cause.specs.Cause.{CauseTree, tlv as cause_tlv}
@@ -48,12 +48,12 @@ init_means strict tree typ i width formed fits =
 
 parameter_list_means : (strict : Bool) (tree : List ParameterTree → ChunkTree)
     (ps : List ParameterTree) → AllByRecursion IsParameterInWidth ps
-    → AllByRecursion IsParameterWellFormed ps → list_size parameter_tlv ps < 2 ^ 16
+    → AllByRecursion IsParameterWellFormed ps → 4 + (0 + list_size parameter_tlv ps) < 2 ^ 16
     → (as_row tree (parameter_list_row strict)).means (zeroed (list_image parameter_tlv ps))
     (tree ps)
 parameter_list_means strict tree ps width formed fits =
     listed_back parameter_items 0 (λ v. true) (λ v ps. ps) tree strict _ ps ps refl refl refl width
-    formed fits
+    formed (omega (arith, fits))
 
 -- a list of causes that is written isn't empty
 some_bytes : (cs : List CauseTree) → cs ≢ []
@@ -81,32 +81,31 @@ unknown_means strict u h =
 means : (strict : Bool) (t : ChunkTree) → IsGoodChunk t
     → (chunk_row strict (chunk_tlv t).first (chunk_tlv t).second).means (zeroed (chunk_tlv t).value)
     t
-means strict (Data c) good = ap (map_ok Data) (data_laws.back c good)
+means strict (Data c) good = back_as data_laws Data good
 means strict (Init i) good = init_means strict Init 1 i good.width good.formed good.encodable
 means strict (InitAck i) good = init_means strict InitAck 2 i good.width good.formed good.encodable
-means strict (Sack s) good = ap (map_ok Sack) (sack_laws.back s good)
+means strict (Sack s) good = back_as sack_laws Sack good
 means strict (HeartbeatRequest ps) good =
-    parameter_list_means strict HeartbeatRequest ps good.width good.formed (omega (arith, good.encodable))
+    parameter_list_means strict HeartbeatRequest ps good.width good.formed good.encodable
 means strict (HeartbeatAck ps) good =
-    parameter_list_means strict HeartbeatAck ps good.width good.formed (omega (arith, good.encodable))
+    parameter_list_means strict HeartbeatAck ps good.width good.formed good.encodable
 means strict (Abort a) good =
     listed_back cause_items 0 (λ v. true) (λ v cs. abort_of (flags_of a) cs) Abort strict _ a.causes
     a refl refl (rw (one_again a.tag_reflected) refl) good.width good.formed
     (omega (arith, good.encodable))
-means strict (Shutdown tsn) good = ap (map_ok Shutdown) (shutdown_laws.back tsn good)
-means strict ShutdownAck good = ap (map_ok (λ _. ShutdownAck)) (shutdown_ack_laws.back tt good)
+means strict (Shutdown tsn) good = back_as shutdown_laws Shutdown good
+means strict ShutdownAck good = back_as shutdown_ack_laws (λ _. ShutdownAck) good
 means strict (Error cs) good =
     listed_back cause_items 0 (λ v. nat_lt 0 (length v)) (λ v cs. cs) Error strict _ cs cs
     (some_bytes cs good.formed.0) refl refl good.width good.formed.1 (omega (arith, good.encodable))
-means strict (CookieEcho cookie) good = ap (map_ok CookieEcho) (cookie_echo_laws.back cookie good)
-means strict CookieAck good = ap (map_ok (λ _. CookieAck)) (cookie_ack_laws.back tt good)
-means strict (ShutdownComplete reflected) good =
-    ap (map_ok ShutdownComplete) (shutdown_complete_laws.back reflected good)
-means strict (IData c) good = ap (map_ok IData) (idata_laws.back c good)
+means strict (CookieEcho cookie) good = back_as cookie_echo_laws CookieEcho good
+means strict CookieAck good = back_as cookie_ack_laws (λ _. CookieAck) good
+means strict (ShutdownComplete reflected) good = back_as shutdown_complete_laws ShutdownComplete good
+means strict (IData c) good = back_as idata_laws IData good
 means strict (ReConfig ps) good =
-    parameter_list_means strict ReConfig ps good.width good.formed (omega (arith, good.encodable))
-means strict (ForwardTsn f) good = ap (map_ok ForwardTsn) (forward_tsn_laws.back f good)
-means strict (IForwardTsn f) good = ap (map_ok IForwardTsn) (iforward_tsn_laws.back f good)
+    parameter_list_means strict ReConfig ps good.width good.formed good.encodable
+means strict (ForwardTsn f) good = back_as forward_tsn_laws ForwardTsn good
+means strict (IForwardTsn f) good = back_as iforward_tsn_laws IForwardTsn good
 means strict (Unknown u) good = unknown_means strict u good.formed
 
 pub chunks_read_back : (strict : Bool) → ReadsBack (chunks strict) chunk_tlv IsGoodChunk

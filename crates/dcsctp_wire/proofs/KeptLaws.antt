@@ -1,5 +1,5 @@
 -- The kept form of a chunk is written alike, and its numbers lie in their widths: a line a kind.
-use Rattle.std.proofs.Common.{◌≡◌, ℕ, List, [], ◌∷◌, ◌++◌, refl, sym, ap, subst, ◌∙◌}
+use Rattle.std.proofs.Common.{rules, ◌≡◌, ℕ, List, [], ◌∷◌, ◌++◌, refl, sym, ap, subst, ◌∙◌}
 use Rattle.std.specs.Prelude.{replicate}
 use Rattle.std.specs.List.{flat_map}
 use Rattle.dcsctp_tlv.specs.Image.{zeroed, gap, Tlv, image_of, size_of, IsEncodable, listed_tlv}
@@ -7,8 +7,8 @@ use Rattle.dcsctp_tlv.specs.Parameter.{ParameterTree, tlv as parameter_tlv, kept
 use Rattle.dcsctp_tlv.proofs.Kept.{listed_tlv-kept}
 use Rattle.dcsctp_tlv.proofs.ParameterLaws.{kept_parameter_tlv, kept_parameters_width}
 use Rattle.dcsctp_chunk.proofs.Laws.{data_kept_tlv, data_kept_width, idata_kept_tlv, idata_kept_width}
-use Rattle.dcsctp_wire.specs.InitFields.{Tree as InitTree, leading as init_numbers, IsInWidth as IsInitInWidth}
-use Rattle.dcsctp_wire.specs.Chunk.{ChunkTree, Data, Init, InitAck, HeartbeatRequest, HeartbeatAck, ReConfig, IData, tlv as chunk_tlv, IsPlaced, IsChunkEncodable, IsInWidth as IsChunkInWidth, kept as kept_chunk, all_kept as kept_chunks}
+use Rattle.dcsctp_wire.specs.InitFields.{Tree as InitTree, IsInWidth as IsInitInWidth}
+use Rattle.dcsctp_wire.specs.Chunk.{ChunkTree, Data, tlv as chunk_tlv, IsPlaced, IsChunkEncodable, IsInWidth as IsChunkInWidth, kept as kept_chunk, all_kept as kept_chunks}
 use Rattle.dcsctp_wire.specs.Canonical.{canonical, padded_chunk}
 use Rattle.dcsctp_wire.specs.Packet.{Meaning}
 
@@ -20,15 +20,11 @@ listed_kept : (typ : ℕ) (leading : List ℕ) (ps : List ParameterTree)
 listed_kept typ leading ps =
     listed_tlv-kept parameter_tlv kept_parameter kept_parameter_tlv typ 0 leading ps
 
+ruleset kept_tlvs = (idata_kept_tlv, listed_kept)
+
 pub kept_tlv : (t : ChunkTree) → chunk_tlv (kept_chunk t) ≡ chunk_tlv t
 kept_tlv (Data c) = data_kept_tlv c
-kept_tlv (Init i) = listed_kept 1 (init_numbers i) i.parameters
-kept_tlv (InitAck i) = listed_kept 2 (init_numbers i) i.parameters
-kept_tlv (HeartbeatRequest ps) = listed_kept 4 [] ps
-kept_tlv (HeartbeatAck ps) = listed_kept 5 [] ps
-kept_tlv (IData c) = idata_kept_tlv c
-kept_tlv (ReConfig ps) = listed_kept 130 [] ps
-kept_tlv t = refl
+kept_tlv t = search (rules, kept_tlvs)
 
 -- a chunk with its padding, by how it is written
 abbrev padded : Tlv → List ℕ
@@ -58,21 +54,10 @@ kept_encodable t h = (kept_placed t h.0, subst IsEncodable (sym (kept_tlv t)) h.
 
 init_kept_width : (i : InitTree) → IsInitInWidth i
     → IsInitInWidth (record i { parameters = kept_parameters i.parameters })
-init_kept_width i h = record {
-  tag = h.tag;
-  window = h.window;
-  outbound = h.outbound;
-  inbound = h.inbound;
-  tsn = h.tsn;
-  each = kept_parameters_width i.parameters h.each;
-}
+init_kept_width i h = search (rules, kept_parameters_width)
+
+ruleset kept_widths = (idata_kept_width, init_kept_width, kept_parameters_width)
 
 pub kept_width : (t : ChunkTree) → IsChunkInWidth t → IsChunkInWidth (kept_chunk t)
 kept_width (Data c) h = data_kept_width c h
-kept_width (Init i) h = init_kept_width i h
-kept_width (InitAck i) h = init_kept_width i h
-kept_width (HeartbeatRequest ps) h = kept_parameters_width ps h
-kept_width (HeartbeatAck ps) h = kept_parameters_width ps h
-kept_width (IData c) h = idata_kept_width c h
-kept_width (ReConfig ps) h = kept_parameters_width ps h
-kept_width t h = h
+kept_width t h = search (rules, kept_widths)

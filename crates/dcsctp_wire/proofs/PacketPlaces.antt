@@ -1,6 +1,6 @@
 -- The first fault of a packet and its place, both ways: from what a check finds, since each input
 -- has one answer.
-use Rattle.std.proofs.Common.{◌≡◌, ℕ, ◌+◌, List, Result, Ok, Err, inl, inr, refl, sym, ap, ◌∙◌}
+use Rattle.std.proofs.Common.{rules, ◌≡◌, ℕ, ◌+◌, List, Result, Ok, Err, inl, inr, refl, sym, ap, ◌∙◌}
 use Rattle.std.specs.Result.{result_err}
 use Rattle.dcsctp_tlv.specs.declared.error.LocatedFault.{LocatedFault}
 use Rattle.dcsctp_tlv.specs.Number.{AreBytes}
@@ -23,16 +23,11 @@ offsets_same : (bytes : List ℕ) (word : ℕ) (policy : ChecksumPolicy) (d e : 
     → AreBytes bytes → (f : Answer bytes word policy (Err d)) (g : Answer bytes word policy (Err e))
     → offset_of bytes word policy d f ≡ offset_of bytes word policy e g
 offsets_same bytes word policy Size Size fits f g = refl
-offsets_same bytes word policy Size Checksum fits f g = absurd (f g.0)
-offsets_same bytes word policy Size (Chunk y) fits f g = absurd (f g.0.size)
-offsets_same bytes word policy Checksum Size fits f g = absurd (g f.0)
 offsets_same bytes word policy Checksum Checksum fits f g = refl
-offsets_same bytes word policy Checksum (Chunk y) fits f g = absurd (f.1 g.0.accepted)
-offsets_same bytes word policy (Chunk x) Size fits f g = absurd (g f.0.size)
-offsets_same bytes word policy (Chunk x) Checksum fits f g = absurd (g.1 f.0.accepted)
 offsets_same bytes word policy (Chunk x) (Chunk y) fits f g =
     ap (λ (n : ℕ). 12 + n) (list_place (chunks policy.strict_padding)
     (chunks_lawful policy.strict_padding) (body bytes) x y (body_fits bytes fits) f.1 g.1)
+offsets_same bytes word policy d e fits f g = absurd (search rules)
 
 pub place_one : (bytes : List ℕ) (word : ℕ) (policy : ChecksumPolicy) (d e : PacketFault) (m n : ℕ)
     → AreBytes bytes → HasPacketFaultAt bytes word policy d m

@@ -1,5 +1,5 @@
 -- Each input has one answer.
-use Rattle.std.proofs.Common.{◌≡◌, ◌≢◌, ℕ, ◌+◌, List, length, Result, Ok, Err, refl, sym, ap, ◌∙◌, arith, ◌⊎◌, inl, inr, Bool, true, false}
+use Rattle.std.proofs.Common.{rules, ◌≡◌, ◌≢◌, ℕ, ◌+◌, List, length, Result, Ok, Err, refl, sym, ap, ◌∙◌, arith, ◌⊎◌, inl, inr, Bool, true, false}
 use Rattle.std.proofs.lemmas.Bool.{cases_lt}
 use Rattle.std.proofs.lemmas.Bool.Decides.{eqb_tells}
 use Rattle.std.proofs.lemmas.List.{get_or-drop}
@@ -41,27 +41,18 @@ pub answer_one : (bytes : List ℕ) (word : ℕ) (policy : ChecksumPolicy)
     → Answer bytes word policy b → a ≡ b
 answer_one bytes word policy (Ok p) (Ok q) fits m n =
     ap Ok (packet_one policy.strict_padding bytes p q m.1 n.1)
-answer_one bytes word policy (Ok p) (Err Size) fits m n = absurd (n m.0.size)
-answer_one bytes word policy (Ok p) (Err Checksum) fits m n = absurd (n.1 m.0.accepted)
 answer_one bytes word policy (Ok p) (Err (Chunk e)) fits m n = absurd
     (list_apart (chunks policy.strict_padding) (chunks_lawful policy.strict_padding) (body bytes)
     p.meaning.chunks e (body_fits bytes fits) m.1.chunks n.1)
-answer_one bytes word policy (Err Size) (Ok q) fits m n = absurd (m n.0.size)
 answer_one bytes word policy (Err Size) (Err Size) fits m n = refl
-answer_one bytes word policy (Err Size) (Err Checksum) fits m n = absurd (m n.0)
-answer_one bytes word policy (Err Size) (Err (Chunk e)) fits m n = absurd (m n.0.size)
-answer_one bytes word policy (Err Checksum) (Ok q) fits m n = absurd (m.1 n.0.accepted)
-answer_one bytes word policy (Err Checksum) (Err Size) fits m n = absurd (n m.0)
 answer_one bytes word policy (Err Checksum) (Err Checksum) fits m n = refl
-answer_one bytes word policy (Err Checksum) (Err (Chunk e)) fits m n = absurd (m.1 n.0.accepted)
 answer_one bytes word policy (Err (Chunk d)) (Ok q) fits m n = absurd
     (list_apart (chunks policy.strict_padding) (chunks_lawful policy.strict_padding) (body bytes)
     q.meaning.chunks d (body_fits bytes fits) n.1.chunks m.1)
-answer_one bytes word policy (Err (Chunk d)) (Err Size) fits m n = absurd (n m.0.size)
-answer_one bytes word policy (Err (Chunk d)) (Err Checksum) fits m n = absurd (n.1 m.0.accepted)
 answer_one bytes word policy (Err (Chunk d)) (Err (Chunk e)) fits m n = ap
     (λ (x : Fault). Err (Chunk x)) (list_same (chunks policy.strict_padding)
     (chunks_lawful policy.strict_padding) (body bytes) d e (body_fits bytes fits) m.1 n.1)
+answer_one bytes word policy a b fits m n = absurd (search rules)
 
 size_tells : (bytes : List ℕ) → HasPacketSize bytes ⊎ (¬ HasPacketSize bytes)
 size_tells bytes = elim (cases_lt (length bytes) 16) [

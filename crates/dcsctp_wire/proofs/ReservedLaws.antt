@@ -1,8 +1,8 @@
 -- What a packet that was read is reserved is bounded by the length of its bytes.
-use Rattle.std.proofs.Common.{◌≡◌, ℕ, ◌+◌, ◌-◌, ◌*◌, ◌≤◌, Bool, true, false, List, [], ◌∷◌, length, map, refl, sym, ap, subst, ◌∙◌, arith, ◌⊎◌, inl, inr, Result, Ok, Err}
-use Rattle.std.specs.Prelude.{◌==◌, IfOk, All, codes, vec_len, vec_capacity}
+use Rattle.std.proofs.Common.{rules, ◌≡◌, ℕ, ◌+◌, ◌-◌, ◌*◌, ◌≤◌, Bool, true, false, List, [], ◌∷◌, length, map, refl, sym, ap, subst, ◌∙◌, arith, ◌⊎◌, inl, inr, Result, Ok, Err}
+use Rattle.std.specs.Prelude.{IfOk, All, codes, vec_len, vec_capacity}
 use Rattle.std.specs.Str.{is_utf8, IsUtf8}
-use Rattle.std.proofs.lemmas.Bool.{eqb-true}
+use Rattle.std.proofs.lemmas.Bool.Decides.{eqb_tells}
 use Rattle.std.proofs.lemmas.List.{length-drop, length-map}
 use Rattle.std.proofs.lemmas.List.Elements.{All-head, All-tail}
 use Rattle.std.proofs.lemmas.Str.{IsUtf8-from_is_utf8, is_utf8-from_IsUtf8, IsUtf8-nil}
@@ -10,8 +10,9 @@ use Rattle.std.specs.declared.vec.Vec.{Vec}
 use Rattle.dcsctp_tlv.specs.Count.{total}
 use Rattle.dcsctp_tlv.specs.Fault.{Fault}
 use Rattle.dcsctp_tlv.specs.Frame.{Item, lenient, round_up_to_4}
-use Rattle.dcsctp_tlv.specs.Image.{size_of}
-use Rattle.dcsctp_tlv.specs.Level.{map_ok, MeansTrees}
+use Rattle.dcsctp_tlv.specs.Image.{size_of, list_size}
+use Rattle.dcsctp_tlv.specs.Level.{map_ok}
+use Rattle.dcsctp_tlv.specs.Table.{IsOneOf}
 use Rattle.dcsctp_tlv.specs.Parameter as parameter
 use Rattle.dcsctp_tlv.specs.Parameter.{ParameterTree, parameters}
 use Rattle.dcsctp_tlv.specs.declared.parameter.Parameter.{Parameter}
@@ -26,8 +27,7 @@ use Rattle.dcsctp_cause.specs.ProtocolViolation as violation
 use Rattle.dcsctp_cause.specs.declared.error_causes.ErrorCause.{ErrorCause}
 use Rattle.dcsctp_cause.specs.declared.error_causes.ErrorCause.TheVariants as cause_kind
 use Rattle.dcsctp_cause.proofs.CauseLaws.{causes_account}
-use Rattle.dcsctp_wire.specs.Abort.{Tree as AbortTree}
-use Rattle.dcsctp_wire.specs.Chunk.{ChunkTree, Data, Init, InitAck, Sack, HeartbeatRequest, HeartbeatAck, Abort, Shutdown, ShutdownAck, Error, CookieEcho, CookieAck, ShutdownComplete, IData, ReConfig, ForwardTsn, IForwardTsn, Unknown, chunks, chunk_row, tlv as chunk_tlv, IsTight, view, views}
+use Rattle.dcsctp_wire.specs.Chunk.{ChunkTree, Data, Init, InitAck, Sack, HeartbeatRequest, HeartbeatAck, Abort, Error, CookieEcho, IData, ReConfig, ForwardTsn, IForwardTsn, Unknown, chunks, chunk_row, HoldsCauses, tlv as chunk_tlv, IsTight, view, views}
 use Rattle.dcsctp_wire.specs.declared.packet.chunk.Chunk.{Chunk}
 use Rattle.dcsctp_wire.specs.declared.packet.chunk.Chunk.TheVariants as variant
 use Rattle.dcsctp_wire.specs.declared.packet.sctp_packet.SctpPacket.{SctpPacket}
@@ -39,30 +39,24 @@ use Rattle.dcsctp_wire.specs.Reserved.{parameter_reserved, cause_reserved, chunk
 use Rattle.dcsctp_wire.proofs.ChunkRows.{chunks_account}
 use Rattle.dcsctp_wire.proofs.PacketLaws.{reads_only}
 
--- ---- what trees hold, counted as what is reserved is
+-- ---- what trees hold, counted as what is reserved is: nothing, where no line says more
 
 abbrev parameter_held : ParameterTree → ℕ
 parameter_held (parameter.HeartbeatInfo info) = length info
 parameter_held (parameter.StateCookie cookie) = length cookie
 parameter_held (parameter.OutgoingSsnResetRequest r) = 2 * length r.streams
 parameter_held (parameter.IncomingSsnResetRequest r) = 2 * length r.streams
-parameter_held (parameter.SsnTsnResetRequest n) = 0
-parameter_held (parameter.ReconfigurationResponse r) = 0
-parameter_held (parameter.AddOutgoingStreamsRequest r) = 0
-parameter_held (parameter.AddIncomingStreamsRequest r) = 0
-parameter_held (parameter.ZeroChecksumAcceptable n) = 0
 parameter_held (parameter.SupportedExtensions types) = length types
-parameter_held parameter.ForwardTsnSupported = 0
 parameter_held (parameter.Unknown u) = length u.value
+parameter_held t = 0
 
 abbrev cause_held : CauseTree → ℕ
 cause_held (cause.MissingMandatoryParameter types) = 2 * length types
 cause_held (cause.UnrecognizedChunk chunk) = length chunk
-cause_held (cause.NoUserData tsn) = 0
-cause_held cause.CookieReceivedWhileShuttingDown = 0
 cause_held (cause.UserInitiatedAbort reason) = length reason
 cause_held (cause.ProtocolViolation information) = length information
 cause_held (cause.Unknown u) = length u.value
+cause_held t = 0
 
 abbrev chunk_held : ChunkTree → ℕ
 chunk_held (Data c) = length c.user_data.payload
@@ -72,74 +66,41 @@ chunk_held (Sack s) = 4 * length s.blocks + 4 * length s.duplicates
 chunk_held (HeartbeatRequest ps) = list_held parameter_held ps
 chunk_held (HeartbeatAck ps) = list_held parameter_held ps
 chunk_held (Abort a) = list_held cause_held a.causes
-chunk_held (Shutdown tsn) = 0
-chunk_held ShutdownAck = 0
 chunk_held (Error cs) = list_held cause_held cs
 chunk_held (CookieEcho cookie) = length cookie
-chunk_held CookieAck = 0
-chunk_held (ShutdownComplete reflected) = 0
 chunk_held (IData c) = length c.user_data.payload
 chunk_held (ReConfig ps) = list_held parameter_held ps
 chunk_held (ForwardTsn f) = 4 * length f.streams
 chunk_held (IForwardTsn f) = 8 * length f.streams
 chunk_held (Unknown u) = length u.value
+chunk_held t = 0
 
 -- ---- a tree holds no more than it is written in
 
 parameter_fits : (t : ParameterTree) → 4 + parameter_held t ≤ size_of (parameter.tlv t)
-parameter_fits (parameter.HeartbeatInfo info) = omega arith
-parameter_fits (parameter.StateCookie cookie) = omega arith
-parameter_fits (parameter.OutgoingSsnResetRequest r) = omega arith
-parameter_fits (parameter.IncomingSsnResetRequest r) = omega arith
-parameter_fits (parameter.SsnTsnResetRequest n) = omega arith
-parameter_fits (parameter.ReconfigurationResponse r) = omega arith
-parameter_fits (parameter.AddOutgoingStreamsRequest r) = omega arith
-parameter_fits (parameter.AddIncomingStreamsRequest r) = omega arith
-parameter_fits (parameter.ZeroChecksumAcceptable n) = omega arith
-parameter_fits (parameter.SupportedExtensions types) = omega arith
 parameter_fits parameter.ForwardTsnSupported = omega arith
-parameter_fits (parameter.Unknown u) = omega arith
+parameter_fits t = omega arith
 
 cause_fits : (t : CauseTree) → 4 + cause_held t ≤ size_of (cause.tlv t)
-cause_fits (cause.MissingMandatoryParameter types) = omega arith
-cause_fits (cause.UnrecognizedChunk chunk) = omega arith
-cause_fits (cause.NoUserData tsn) = omega arith
 cause_fits cause.CookieReceivedWhileShuttingDown = omega arith
-cause_fits (cause.UserInitiatedAbort reason) = omega arith
-cause_fits (cause.ProtocolViolation information) = omega arith
-cause_fits (cause.Unknown u) = omega arith
+cause_fits t = omega arith
+
+parameters_fit : (ps : List ParameterTree)
+    → list_held parameter_held ps ≤ list_size parameter.tlv ps
+parameters_fit ps = list_fits parameter_held parameter.tlv parameter_fits ps
+
+causes_fit : (cs : List CauseTree) → list_held cause_held cs ≤ list_size cause.tlv cs
+causes_fit cs = list_fits cause_held cause.tlv cause_fits cs
 
 chunk_fits : (t : ChunkTree) → 4 + chunk_held t ≤ size_of (chunk_tlv t)
-chunk_fits (Data c) = omega arith
-chunk_fits (Init i) = let h =
-    list_fits parameter_held parameter.tlv parameter_fits i.parameters in omega (arith, h)
-chunk_fits (InitAck i) = let h =
-    list_fits parameter_held parameter.tlv parameter_fits i.parameters in omega (arith, h)
-chunk_fits (Sack s) = omega arith
-chunk_fits (HeartbeatRequest ps) = let h =
-    list_fits parameter_held parameter.tlv parameter_fits ps in omega (arith, h)
-chunk_fits (HeartbeatAck ps) = let h =
-    list_fits parameter_held parameter.tlv parameter_fits ps in omega (arith, h)
-chunk_fits (Abort a) = let h =
-    list_fits cause_held cause.tlv cause_fits a.causes in omega (arith, h)
-chunk_fits (Error cs) = let h = list_fits cause_held cause.tlv cause_fits cs in omega (arith, h)
-chunk_fits (CookieEcho cookie) = omega arith
-chunk_fits (IData c) = omega arith
-chunk_fits (ReConfig ps) = let h =
-    list_fits parameter_held parameter.tlv parameter_fits ps in omega (arith, h)
-chunk_fits (ForwardTsn f) = omega arith
-chunk_fits (IForwardTsn f) = omega arith
-chunk_fits (Unknown u) = omega arith
-chunk_fits t = omega arith
+chunk_fits (Init i) = omega (arith, parameters_fit i.parameters)
+chunk_fits t = omega (arith, parameters_fit, causes_fit)
 
 -- ---- causes: a text that isn't UTF-8 has at least one byte, and is replaced by at most 38
 
 -- what is held for a value of n bytes
 abbrev IsBounded : ℕ → ℕ → Type 0
 IsBounded held n = (4 + held ≤ 4 + n) ⊎ ((1 ≤ n) × (held ≤ 38))
-
-abbrev CauseBounded : ℕ → List ℕ → CauseTree → Type 0
-CauseBounded code value t = (cause.row code).means value t → IsBounded (cause_held t) (length value)
 
 broken_text : (tree : List ℕ → CauseTree) (fixed value : List ℕ) (t : CauseTree)
     → ((x : List ℕ) → cause_held (tree x) ≡ length x) → length fixed ≤ 38
@@ -152,23 +113,31 @@ broken_text tree fixed value t held few broken m =
     ap cause_held x.1.1 ∙ held x.0 ∙ ap length (sym is) in
     subst (λ (n : ℕ). n ≤ 38) (sym e) (rw broken few)
 
-broken_abort : (value : List ℕ) (t : CauseTree) → is_utf8 value ≡ false
-    → (cause.row 12).means value t → cause_held t ≤ 38
-unfolding user_abort.read
-broken_abort value t =
+broken_cause : (code : ℕ) (value : List ℕ) (t : CauseTree) → is_utf8 value ≡ false
+    → cause.HoldsText code → (cause.row code).means value t → cause_held t ≤ 38
+unfolding user_abort.read violation.read
+broken_cause code value t broken (inl is) m =
     broken_text cause.UserInitiatedAbort (codes "Failed to parse abort reason") value t (λ x. refl)
-    (omega arith)
-
-broken_violation : (value : List ℕ) (t : CauseTree) → is_utf8 value ≡ false
-    → (cause.row 13).means value t → cause_held t ≤ 38
-unfolding violation.read
-broken_violation value t =
+    (omega arith) broken (subst (λ (c : ℕ). (cause.row c).means value t) is m)
+broken_cause code value t broken (inr is) m =
     broken_text cause.ProtocolViolation (codes "Failed to parse additional information") value t
-    (λ x. refl) (omega arith)
+    (λ x. refl) (omega arith) broken (subst (λ (c : ℕ). (cause.row c).means value t) is m)
 
 some_byte : (value : List ℕ) → is_utf8 value ≡ false → 1 ≤ length value
 some_byte [] e = absurd (let p : true ≡ false = sym (is_utf8-from_IsUtf8 [] IsUtf8-nil) ∙ e in cc)
 some_byte (x ∷ xs) e = omega arith
+
+-- a number is one of the types, or none
+one_of : (types : List ℕ) (n : ℕ) → IsOneOf types n ⊎ (¬ IsOneOf types n)
+one_of [] n = inr (λ none. none)
+one_of (x ∷ []) n = elim (eqb_tells n x) [ inl p ↦ inl p.1 | inr p ↦ inr p.1 ]
+one_of (x ∷ y ∷ types) n = elim (eqb_tells n x) [
+  | inl p ↦ inl (inl p.1)
+  | inr p ↦ elim (one_of (y ∷ types) n) [
+    | inl q ↦ inl (inr q)
+    | inr q ↦ inr (λ is. elim is [ inl e ↦ p.1 e | inr e ↦ q e ])
+  ]
+]
 
 cause_bounded : (i : Item) (t : CauseTree) → (cause.row (item_code i)).means i.value t
     → IsBounded (cause_held t) (length i.value)
@@ -179,29 +148,12 @@ cause_bounded i t m = by_text (is_utf8 i.value) refl where
       let a = (causes_account.sized i t k m).at_most in let b = cause_fits t in
       inl (omega (arith, a, b))
 
-  by_code : (a b : Bool) → is_utf8 i.value ≡ false → (item_code i == 12) ≡ a
-      → (item_code i == 13) ≡ b
-      → IsBounded (cause_held t) (length i.value)
-  by_code true b broken p q =
-      inr (
-        some_byte i.value broken,
-        broken_abort i.value t broken
-            (subst (λ (c : ℕ). (cause.row c).means i.value t) (eqb-true (item_code i) 12 p) m),
-      )
-  by_code false true broken p q =
-      inr (
-        some_byte i.value broken,
-        broken_violation i.value t broken
-            (subst (λ (c : ℕ). (cause.row c).means i.value t) (eqb-true (item_code i) 13 q) m),
-      )
-  by_code false false broken p q = kept (λ is. elim is [
-    | inl e ↦ absurd (let h : false ≡ true = sym p ∙ ap (λ (n : ℕ). n == 12) e in cc)
-    | inr e ↦ absurd (let h : false ≡ true = sym q ∙ ap (λ (n : ℕ). n == 13) e in cc)
-  ])
-
   by_text : (b : Bool) → is_utf8 i.value ≡ b → IsBounded (cause_held t) (length i.value)
   by_text true e = kept (λ _. IsUtf8-from_is_utf8 i.value e)
-  by_text false e = by_code (item_code i == 12) (item_code i == 13) e refl refl
+  by_text false e = elim (one_of (12 ∷ 13 ∷ []) (item_code i)) [
+    | inl is ↦ inr (some_byte i.value e, broken_cause (item_code i) i.value t e is m)
+    | inr none ↦ kept (λ is. absurd (none is))
+  ]
 
 -- 42 bytes for the 8 that an item with a broken byte takes, or the 5 where it lacks its padding
 causes_bound : Bounds (causes lenient) cause_held 12
@@ -219,34 +171,26 @@ causes_bound = record {
 
 -- ---- chunks: the chunk's own header makes up for the padding that its last cause lacks
 
-causes_chunk : (value : List ℕ) (t : ChunkTree) (cs : List CauseTree)
-    → chunk_held t ≡ list_held cause_held cs → MeansTrees (causes lenient) value cs
-    → 4 + chunk_held t ≤ 6 * (4 + length value)
-causes_chunk value t cs e m =
-    let h = list_bound (causes lenient) cause_held 12 causes_bound value cs m in
+causes_chunk : (typ flags : ℕ) (value : List ℕ) (t : ChunkTree) → HoldsCauses typ
+    → (chunk_row lenient typ flags).means value t → 4 + chunk_held t ≤ 6 * (4 + length value)
+causes_chunk typ flags value t (inl is) m =
+    let n = subst (λ (c : ℕ). (chunk_row lenient c flags).means value t) is m in
+    let e = ap chunk_held (n.2 ∙ ap Abort n.1.1.2) in
+    let h = list_bound (causes lenient) cause_held 12 causes_bound value n.1.1.0 n.1.1.1 in
+    omega (arith, e, h)
+causes_chunk typ flags value t (inr is) m =
+    let n = subst (λ (c : ℕ). (chunk_row lenient c flags).means value t) is m in
+    let e = ap chunk_held (n.2 ∙ ap Error n.1.1.2) in
+    let h = list_bound (causes lenient) cause_held 12 causes_bound value n.1.1.0 n.1.1.1 in
     omega (arith, e, h)
 
 chunk_bound : (i : Item) (t : ChunkTree) → (chunk_row lenient i.first i.second).means i.value t
     → 4 + chunk_held t ≤ 6 * (4 + length i.value)
-chunk_bound i t m = by_type (i.first == 6) (i.first == 9) refl refl where
-  by_type : (a b : Bool) → (i.first == 6) ≡ a → (i.first == 9) ≡ b
-      → 4 + chunk_held t ≤ 6 * (4 + length i.value)
-  by_type true b p q =
-      let n : (chunk_row lenient 6 i.second).means i.value t =
-      subst (λ (c : ℕ). (chunk_row lenient c i.second).means i.value t) (eqb-true i.first 6 p) m in
-      causes_chunk i.value t n.1.1.0 (ap chunk_held n.2
-      ∙ ap (λ (a : AbortTree). list_held cause_held a.causes) n.1.1.2) n.1.1.1
-  by_type false true p q =
-      let n : (chunk_row lenient 9 i.second).means i.value t =
-      subst (λ (c : ℕ). (chunk_row lenient c i.second).means i.value t) (eqb-true i.first 9 q) m in
-      causes_chunk i.value t n.1.1.0 (ap chunk_held n.2 ∙ ap (list_held cause_held) n.1.1.2)
-      n.1.1.1
-  by_type false false p q =
-      let a = (chunks_account.sized i t (λ is. elim is [
-        | inl e ↦ absurd (let h : false ≡ true = sym p ∙ ap (λ (n : ℕ). n == 6) e in cc)
-        | inr e ↦ absurd (let h : false ≡ true = sym q ∙ ap (λ (n : ℕ). n == 9) e in cc)
-      ]) m).at_most in let b = chunk_fits t in
-      omega (arith, a, b)
+chunk_bound i t m = elim (one_of (6 ∷ 9 ∷ []) i.first) [
+  | inl is ↦ causes_chunk i.first i.second i.value t is m
+  | inr none ↦ (let a = (chunks_account.sized i t (λ is. absurd (none is)) m).at_most in
+      omega (arith, a, chunk_fits t))
+]
 
 chunks_bound : Bounds (chunks lenient) chunk_held 0
 chunks_bound = record {
@@ -272,6 +216,11 @@ mapped_tight : {X Y Z : Type 0} (f : X → Y) (v : Vec X Z) → vec_capacity v �
     → vec_capacity v ≡ length (map f v.items)
 mapped_tight f v e = vec_tight v e ∙ sym (length-map v.items f)
 
+-- in fields of this many bytes
+times_tight : {X Y Z : Type 0} (n : ℕ) (f : X → Y) (v : Vec X Z) → vec_capacity v ≡ vec_len v
+    → n * vec_capacity v ≡ n * length (map f v.items)
+times_tight n f v e = ap (λ (m : ℕ). n * m) (mapped_tight f v e)
+
 total_is : {X T : Type 0} (IsSo : X → Type 0) (view : X → T) (reserved : X → ℕ) (held : T → ℕ)
     → ((x : X) → IsSo x → reserved x ≡ held (view x)) → (xs : List X) → All IsSo xs
     → total reserved xs ≡ total held (map view xs)
@@ -290,62 +239,39 @@ list_is IsSo view reserved held law v tight =
     let b = total_is IsSo view reserved held law v.items tight.1 in
     omega (arith, a, b)
 
+ruleset tight = (vec_tight, times_tight)
+
 parameter_is : (p : Parameter) → parameter.IsTight p
     → parameter_reserved p ≡ parameter_held (parameter.view p)
 parameter_is (parameter_kind.HeartbeatInfo p) h = vec_tight p.info h
-parameter_is (parameter_kind.StateCookie p) h = vec_tight p.cookie h
-parameter_is (parameter_kind.OutgoingSsnResetRequest p) h =
-    ap (λ (n : ℕ). 2 * n) (mapped_tight (λ id. id.0) p.streams h)
-parameter_is (parameter_kind.IncomingSsnResetRequest p) h =
-    ap (λ (n : ℕ). 2 * n) (mapped_tight (λ id. id.0) p.streams h)
-parameter_is (parameter_kind.SsnTsnResetRequest p) h = refl
-parameter_is (parameter_kind.ReconfigurationResponse p) h = refl
-parameter_is (parameter_kind.AddOutgoingStreamsRequest p) h = refl
-parameter_is (parameter_kind.AddIncomingStreamsRequest p) h = refl
-parameter_is (parameter_kind.ZeroChecksumAcceptable p) h = refl
-parameter_is (parameter_kind.SupportedExtensions p) h = vec_tight p.chunk_types h
-parameter_is (parameter_kind.ForwardTsnSupported p) h = refl
-parameter_is (parameter_kind.Unknown p) h = vec_tight p.value h
+parameter_is p h = search (rules, tight)
+
+parameters_are : {Z : Type 0} (v : Vec Parameter Z)
+    → (vec_capacity v ≡ vec_len v) × All parameter.IsTight v.items
+    → 4 * vec_capacity v + total parameter_reserved v.items
+    ≡ list_held parameter_held (parameter.views v.items)
+parameters_are v h =
+    list_is parameter.IsTight parameter.view parameter_reserved parameter_held parameter_is v h
 
 cause_is : (c : ErrorCause) → cause.IsTight c → cause_reserved c ≡ cause_held (cause.view c)
 cause_is (cause_kind.MissingMandatoryParameter c) h =
     ap (λ (n : ℕ). 2 * n) (vec_tight c.missing_parameters h)
-cause_is (cause_kind.UnrecognizedChunk c) h = vec_tight c.chunk h
-cause_is (cause_kind.NoUserData c) h = refl
-cause_is (cause_kind.CookieReceivedWhileShuttingDown c) h = refl
-cause_is (cause_kind.UserInitiatedAbort c) h = vec_tight c.reason.bytes h
-cause_is (cause_kind.ProtocolViolation c) h = vec_tight c.information.bytes h
-cause_is (cause_kind.Unknown c) h = vec_tight c.value h
+cause_is c h = search (rules, tight)
+
+causes_are : {Z : Type 0} (v : Vec ErrorCause Z)
+    → (vec_capacity v ≡ vec_len v) × All cause.IsTight v.items
+    → 4 * vec_capacity v + total cause_reserved v.items
+    ≡ list_held cause_held (cause.views v.items)
+causes_are v h = list_is cause.IsTight cause.view cause_reserved cause_held cause_is v h
+
+ruleset lists_tight = (parameters_are, causes_are)
 
 chunk_is : (c : Chunk) → IsTight c → chunk_reserved c ≡ chunk_held (view c)
-chunk_is (variant.Data c) h = vec_tight c.user_data.payload h
-chunk_is (variant.Init c) h = list_is parameter.IsTight parameter.view parameter_reserved
-    parameter_held parameter_is c.parameters h
-chunk_is (variant.InitAck c) h = list_is parameter.IsTight parameter.view parameter_reserved
-    parameter_held parameter_is c.parameters h
 chunk_is (variant.Sack c) h =
     let a = vec_tight c.gap_ack_blocks h.0 in
     let b = mapped_tight (λ tsn. tsn.0) c.duplicate_tsns h.1 in
     omega (arith, a, b)
-chunk_is (variant.HeartbeatRequest c) h = list_is parameter.IsTight parameter.view
-    parameter_reserved parameter_held parameter_is c.parameters h
-chunk_is (variant.HeartbeatAck c) h = list_is parameter.IsTight parameter.view parameter_reserved
-    parameter_held parameter_is c.parameters h
-chunk_is (variant.Abort c) h =
-    list_is cause.IsTight cause.view cause_reserved cause_held cause_is c.error_causes h
-chunk_is (variant.Shutdown c) h = refl
-chunk_is (variant.ShutdownAck c) h = refl
-chunk_is (variant.Error c) h =
-    list_is cause.IsTight cause.view cause_reserved cause_held cause_is c.error_causes h
-chunk_is (variant.CookieEcho c) h = vec_tight c.cookie h
-chunk_is (variant.CookieAck c) h = refl
-chunk_is (variant.ShutdownComplete c) h = refl
-chunk_is (variant.IData c) h = vec_tight c.user_data.payload h
-chunk_is (variant.ReConfig c) h = list_is parameter.IsTight parameter.view parameter_reserved
-    parameter_held parameter_is c.parameters h
-chunk_is (variant.ForwardTsn c) h = ap (λ (n : ℕ). 4 * n) (mapped_tight _ c.skipped_streams h)
-chunk_is (variant.IForwardTsn c) h = ap (λ (n : ℕ). 8 * n) (mapped_tight _ c.skipped_streams h)
-chunk_is (variant.Unknown c) h = vec_tight c.value h
+chunk_is c h = search (rules, tight, lists_tight)
 
 reserved_is : (p : SctpPacket) → vec_capacity p.chunks ≡ vec_len p.chunks
     → All IsTight p.chunks.items

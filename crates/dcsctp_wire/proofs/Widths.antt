@@ -1,6 +1,6 @@
 -- Every number of a packet of the code lies in its field's width, and every text is one: its types
 -- say so. For each type, what it says of a value (`Known`), and that this is the width.
-use Rattle.std.proofs.Common.{ℕ, suc, zero, Bool, ◌<◌, ◌^◌, List, [], ◌∷◌, arith, Option, Some, None}
+use Rattle.std.proofs.Common.{rules, ℕ, suc, zero, Bool, ◌<◌, ◌^◌, List, [], ◌∷◌, arith, Option, Some, None}
 use Rattle.std.specs.Prelude.{map, IfSome, string_bytes}
 use Rattle.std.specs.List.{AllByRecursion}
 use Rattle.std.proofs.lemmas.Str.{IsUtf8-string_bytes}
@@ -204,34 +204,12 @@ parameter = declared_enum_known Parameter.the_type (
     one (nothing_known _) &
     one unknown_parameter & tt)
 
+ruleset widths = (bytes_width, tsns_width, stream_ids_width, optional_tsn_width, stream_width, unknown_parameter_width)
+
 parameter_width : (p : (Parameter.the_row).Denot) → parameter.Fact p
     → IsParameterInWidth (parameters.view p)
-parameter_width (parameter_kinds.HeartbeatInfo p) f = bytes_width p.info.items f.0.0
-parameter_width (parameter_kinds.StateCookie p) f = bytes_width p.cookie.items f.0.0
-parameter_width (parameter_kinds.OutgoingSsnResetRequest p) f = record {
-  request = f.0.0;
-  response = f.0.1.0;
-  last_tsn = f.0.1.1.0.0;
-  streams =
-      stream_ids_width p.streams.items f.0.1.1.1.0;
-}
-parameter_width (parameter_kinds.IncomingSsnResetRequest p) f =
-    record { request = f.0.0; streams = stream_ids_width p.streams.items f.0.1.0 }
-parameter_width (parameter_kinds.SsnTsnResetRequest p) f = f.0.0
-parameter_width (parameter_kinds.ReconfigurationResponse p) f = record {
-  response = f.0.0;
-  sender_next_tsn = optional_tsn_width p.sender_next_tsn f.0.1.1.0;
-  receiver_next_tsn =
-      optional_tsn_width p.receiver_next_tsn f.0.1.1.1.0;
-}
-parameter_width (parameter_kinds.AddOutgoingStreamsRequest p) f =
-    record { request = f.0.0; new_streams = f.0.1.0 }
-parameter_width (parameter_kinds.AddIncomingStreamsRequest p) f =
-    record { request = f.0.0; new_streams = f.0.1.0 }
-parameter_width (parameter_kinds.ZeroChecksumAcceptable p) f = f.0.0.0
-parameter_width (parameter_kinds.SupportedExtensions p) f = bytes_width p.chunk_types.items f.0.0
 parameter_width (parameter_kinds.ForwardTsnSupported p) f = tt
-parameter_width (parameter_kinds.Unknown u) f = unknown_parameter_width u f.0
+parameter_width p f = search (rules, widths)
 
 abbrev parameter_list : Known (Vec.the_row Parameter.the_row Global.the_row TheImpl.ghosts)
 parameter_list = vec parameter
@@ -258,16 +236,13 @@ error_cause = declared_enum_known ErrorCause.the_type (
     one (fields ProtocolViolationErrorCause.the_type (text & tt)) &
     one unknown_parameter & tt)
 
+ruleset cause_widths = (bytes_width, text_width, unknown_parameter_width)
+
 error_cause_width : (c : (ErrorCause.the_row).Denot) → error_cause.Fact c
     → IsCauseInWidth (causes.view c)
 error_cause_width (cause_kinds.MissingMandatoryParameter c) f =
     every _ _ (λ typ w. w) c.missing_parameters.items f.0.0
-error_cause_width (cause_kinds.UnrecognizedChunk c) f = bytes_width c.chunk.items f.0.0
-error_cause_width (cause_kinds.NoUserData c) f = f.0.0.0
-error_cause_width (cause_kinds.CookieReceivedWhileShuttingDown c) f = tt
-error_cause_width (cause_kinds.UserInitiatedAbort c) f = text_width c.reason f.0.0
-error_cause_width (cause_kinds.ProtocolViolation c) f = text_width c.information f.0.0
-error_cause_width (cause_kinds.Unknown u) f = unknown_parameter_width u f.0
+error_cause_width c f = search (rules, cause_widths)
 
 abbrev error_causes : Known (Vec.the_row ErrorCause.the_row Global.the_row TheImpl.ghosts)
 error_causes = vec error_cause
@@ -328,61 +303,17 @@ chunk = declared_enum_known Chunk.the_type (
 user_data_width : (n : ℕ) → n < 2 ^ 32 → (d : (Data.the_row).Denot) (at_once : Bool)
     → user_data.Fact ((Data.the_type).to d)
     → IsUserDataInWidth (record { tsn = n; user_data = user_data_view d; immediate_ack = at_once })
-user_data_width n low d at_once f = record {
-  tsn = low;
-  stream = stream_width d.stream_key
-      f.1.1.1.1.0;
-  ssn = f.1.1.1.1.1.0.0;
-  mid = f.1.0.0;
-  fsn = f.1.1.0.0;
-  ppid =
-      f.1.1.1.0.0;
-  payload = bytes_width d.payload.items f.0;
-}
+user_data_width n low d at_once f = search (rules, widths)
+
+blocks_width : (bs : List (GapAckBlock.the_row).Denot) → All block.Fact bs
+    → AllByRecursion IsBlockInWidth bs
+blocks_width bs f = every block.Fact IsBlockInWidth (λ b w. record { start = w.0; end = w.1.0 }) bs f
+
+ruleset held = (parameters_width, error_causes_width, skipped_streams_width, user_data_width, blocks_width)
 
 pub chunk_width : (c : (Chunk.the_row).Denot) → chunk.Fact c → IsChunkInWidth (view c)
-chunk_width (kinds.Data c) f = user_data_width c.tsn.0 f.0.1.0.0 c.user_data c.immediate_ack f.0.0
-chunk_width (kinds.Init c) f = record {
-  tag = f.0.0;
-  window = f.0.1.0;
-  outbound = f.0.1.1.0;
-  inbound = f.0.1.1.1.0;
-  tsn = f.0.1.1.1.1.0.0;
-  each =
-      parameters_width c.parameters.items f.0.1.1.1.1.1.0;
-}
-chunk_width (kinds.InitAck c) f = record {
-  tag = f.0.0;
-  window = f.0.1.0;
-  outbound = f.0.1.1.0;
-  inbound = f.0.1.1.1.0;
-  tsn = f.0.1.1.1.1.0.0;
-  each =
-      parameters_width c.parameters.items f.0.1.1.1.1.1.0;
-}
-chunk_width (kinds.Sack c) f = record {
-  tsn = f.0.0.0;
-  a_rwnd = f.0.1.0;
-  blocks = every block.Fact IsBlockInWidth (λ b w. record { start = w.0; end = w.1.0 })
-      c.gap_ack_blocks.items f.0.1.1.0;
-  duplicates = tsns_width c.duplicate_tsns.items f.0.1.1.1.0;
-}
-chunk_width (kinds.HeartbeatRequest c) f = parameters_width c.parameters.items f.0.0
-chunk_width (kinds.HeartbeatAck c) f = parameters_width c.parameters.items f.0.0
-chunk_width (kinds.Abort c) f = error_causes_width c.error_causes.items f.0.1.0
-chunk_width (kinds.Shutdown c) f = f.0.0.0
 chunk_width (kinds.ShutdownAck c) f = tt
-chunk_width (kinds.Error c) f = error_causes_width c.error_causes.items f.0.0
-chunk_width (kinds.CookieEcho c) f = bytes_width c.cookie.items f.0.0
-chunk_width (kinds.CookieAck c) f = tt
-chunk_width (kinds.ShutdownComplete c) f = tt
-chunk_width (kinds.IData c) f = user_data_width c.tsn.0 f.0.1.0.0 c.user_data c.immediate_ack f.0.0
-chunk_width (kinds.ReConfig c) f = parameters_width c.parameters.items f.0.0
-chunk_width (kinds.ForwardTsn c) f =
-    record { tsn = f.0.0.0; streams = skipped_streams_width c.skipped_streams.items f.0.1.0 }
-chunk_width (kinds.IForwardTsn c) f =
-    record { tsn = f.0.0.0; streams = skipped_streams_width c.skipped_streams.items f.0.1.0 }
-chunk_width (kinds.Unknown c) f = (f.0.0, f.0.1.0, bytes_width c.value.items f.0.1.1.0)
+chunk_width c f = search (rules, widths, held)
 
 -- ---- the packet
 abbrev pub packet : Known SctpPacket.the_row
