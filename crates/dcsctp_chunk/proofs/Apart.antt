@@ -90,6 +90,14 @@ placed_apart xs b first last a some l m =
     apart_append 0 (take first xs) (b ∷ drop last xs) front.0
     (l, some, past_gap xs last last (b.end + 2) zero_block whole (λ more. grind (arith, m)))
 
+-- a block after the first k
+pub apart_push : (xs : Blocks) (b : GapAckBlock) (k : ℕ) → IsApart 0 xs → b.start ≤ b.end
+    → k ≤ length xs → (k ≡ 0) ⊎ ((get_or xs (k - 1) zero_block).end + 2 ≤ b.start)
+    → IsApart 0 (take k xs ++ (b ∷ []))
+apart_push xs b k a some l m =
+    let past = after_until 0 b.start k xs zero_block in
+    grind (arith, common_steps, past, placed_apart xs b k (length xs) a some)
+
 -- what starts late enough for either end
 pub apart_max : (l m n : ℕ) (xs : Blocks) → l ≤ max m n → IsApart m xs → IsApart n xs → IsApart l xs
 apart_max l m n [] k a b = tt

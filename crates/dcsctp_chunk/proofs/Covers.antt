@@ -71,9 +71,6 @@ covers_iff bs o = (
       (a.1, (a.0, a.2, a.3), grind (arith, nat_tests, a.4))),
 )
 
-pub same_cover : (xs ys : Blocks) → SameCover xs ys → covered xs ≡ covered ys
-same_cover xs ys e = fun_ext (λ o. grind (arith, e o, covers_iff xs o, covers_iff ys o))
-
 pub cover_same : (xs ys : Blocks) → covered xs ≡ covered ys → SameCover xs ys
 cover_same xs ys e o =
     let at = ap (λ s. s o) e in (

@@ -8,7 +8,7 @@ use Rattle.std.proofs.lemmas.List.Elements.{All-contains}
 use Rattle.dcsctp_chunk.specs.declared.sack_chunk.GapAckBlock.{GapAckBlock}
 use Rattle.dcsctp_chunk.specs.Apart.{IsApart, AreRunsOf, covered}
 use Rattle.dcsctp_chunk.specs.Cover.{Covers, SameCover, IsInside, IsRun, IsRuns, IsCleaned, HasBlockInEach, AreValid}
-use Rattle.dcsctp_chunk.proofs.Covers.{Blocks, covers, cover_reversed, cover_join, join, same_cover, cover_same}
+use Rattle.dcsctp_chunk.proofs.Covers.{Blocks, covers, cover_reversed, cover_join, join, cover_same}
 use Rattle.dcsctp_chunk.proofs.Apart.{apart_at, apart_far, apart_first, apart_weaker}
 
 -- two of them that overlap or touch are one

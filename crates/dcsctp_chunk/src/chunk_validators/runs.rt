@@ -39,6 +39,7 @@ pub(crate) fn first_reaching(runs: &[GapAckBlock], kept: usize, block: GapAckBlo
 
 /// Puts the block in among the first `kept` runs, of which the one at `first` is the first that it
 /// can touch. Returns `n`: the first `n` are then the runs of both.
+#[tactic(auto, using(std::proofs::lemmas::Grind::common_steps, crate::proofs::Placed::put_run))]
 pub(crate) fn insert(
     runs: &mut [GapAckBlock],
     kept: usize,
@@ -255,6 +256,7 @@ struct Last {
 }
 
 /// The place of the block among runs none of which starts at least 2 past its end.
+#[tactic(auto, using(crate::proofs::Apart::apart_push, crate::proofs::Covers::covers))]
 fn last_place(runs: &[GapAckBlock], block: GapAckBlock) -> Last
     requires nonempty { block.start ≤ block.end }
     requires apart { IsApart 0 runs.now }

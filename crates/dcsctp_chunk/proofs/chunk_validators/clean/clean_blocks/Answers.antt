@@ -23,8 +23,3 @@ returns-clause-cleaned c =
     let ends = (rw c.deref.ensures.value at c.if-are_apart.ensures).ends in
     rw left (cleaned_from_cover old (take n c.gather-kept.new.blocks) ends
     (rw c.deref_mut.ensures.value at c.gather-kept.ensures.runs))
-
-pub returns-clause-same : goal.returns-clause-same
-returns-clause-same c valid =
-    let apart = (valid_iff c.args.blocks.now.items).0 valid in
-    absurd (false≢true (c.if-are_apart.ensures.apart.1 (rw c.deref.ensures.value apart)))

@@ -12,10 +12,3 @@ make_free_from-requires-clause-free c =
     let moved = c.move_within.ensures in
     put_free c.args.runs.now c.move_within.new.blocks place.run place.first place.last c.args.kept
     c.min-end.result (omega arith) (omega arith) (omega arith) c.requires.free (omega arith) moved.moved moved.rest
-
-pub returns-clause-runs : goal.returns-clause-runs
-returns-clause-runs c =
-    let place = c.find_place-place.result in
-    let long = length-take-le c.args.kept c.args.runs.now (omega arith) in
-    let put = put_run c.args.runs.now place.run place.first place.last c.args.kept c.min-end.result in
-    grind (arith, put, c.find_place-place.ensures.runs, c.make_free_from.ensures.front)

@@ -17,12 +17,4 @@ loop-left-preserved c =
     let next =
     next_left c.args.others.now (drop c.loop-left.gap.high c.loop-left.runs) c.loop-left.left
     zero_block (omega arith) inv.left_bound inv.left_apart in
-    let gap = c.put_by_walk-gap in
-    record {
-      room = omega arith;
-      bound = omega arith;
-      left_bound = omega arith;
-      apart = gap.ensures.runs.apart;
-      left_apart = next.1 (drop gap.result.high gap.new.runs) gap.ensures.below;
-      cover = grind (arith, common_steps, cover_append, cover_cons, gap.ensures.runs.cover, inv.cover);
-    }
+    grind (arith, common_steps, cover_append, cover_cons, next)
