@@ -167,7 +167,8 @@ fn put_by_walk(runs: &mut [GapAckBlock], gap: Gap, block: GapAckBlock) -> Gap
     requires order { gap.low < gap.high }
     requires bound { gap.high ≤ length runs.old }
     requires apart { IsApart 0 (around gap runs.old) }
-    requires below { IsApart 0 (block ∷ drop gap.high runs.old) }
+    requires nonempty { block.start ≤ block.end }
+    requires below { IsApart (block.end + 2) (drop gap.high runs.old) }
     ensures order { result.low + gap.high ≤ gap.low + 1 + result.high }
     ensures bound { result.high ≤ length runs.old }
     ensures runs { AreRunsOf (around result runs.new) (block ∷ around gap runs.old) }

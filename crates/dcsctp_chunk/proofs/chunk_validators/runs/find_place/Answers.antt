@@ -2,14 +2,14 @@
 use Rattle.std.proofs.Common.{◌+◌, ◌-◌, get_or, take, drop, arith}
 use Rattle.std.proofs.lemmas.Grind.{common_steps}
 use Rattle.dcsctp_chunk.proofs.Covers.{zero_block, covers, cover_join}
-use Rattle.dcsctp_chunk.proofs.Apart.{apart_at, after_until}
+use Rattle.dcsctp_chunk.proofs.Apart.{apart_at, after_take}
 use Rattle.dcsctp_chunk.proofs.chunk_validators.runs.find_place.Goals as goal
 
 pub loop-last-init : goal.loop-last-init
 loop-last-init c =
     let first = c.args.first in
     let early = c.requires.point.0 (first - 1) zero_block in
-    grind (arith, early, after_until 0 c.args.block.start first c.args.runs.now zero_block)
+    grind (arith, common_steps, early, after_take 0 first c.args.runs.now)
 
 pub loop-last-preserved : goal.loop-last-preserved
 loop-last-preserved c =
