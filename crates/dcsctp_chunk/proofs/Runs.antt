@@ -241,48 +241,39 @@ runs_from_cover : (rs bs : Blocks) → AreRunsOf rs bs → IsRuns rs (Covers bs)
 runs_from_cover rs bs are =
     runs_of_same rs bs rs (cover_same rs bs are.cover) (runs_from_apart 0 rs are.apart)
 
-runs_are : (rs bs : Blocks) → IsRuns rs (Covers bs) → (runs_of bs).runs ≡ rs
-runs_are rs bs h =
+-- and back; and they are as few
+known_runs : (rs bs : Blocks) → IsRuns rs (Covers bs) → AreRunsOf rs bs × (length rs ≤ length bs)
+known_runs rs bs h =
     let t = runs_of bs in
-    runs_unique (Covers bs) t.runs rs
-    (runs_from_cover t.runs bs (record { apart = t.apart; cover = t.cover })) h
-
--- and back
-are_runs_of : (rs bs : Blocks) → IsRuns rs (Covers bs) → AreRunsOf rs bs
-are_runs_of rs bs h =
-    let t = runs_of bs in
-    subst (λ x. AreRunsOf x bs) (runs_are rs bs h) (record { apart = t.apart; cover = t.cover })
+    let are : AreRunsOf t.runs bs = record { apart = t.apart; cover = t.cover } in
+    let same = runs_unique (Covers bs) t.runs rs (runs_from_cover t.runs bs are) h in
+    subst (λ x. AreRunsOf x bs × (length x ≤ length bs)) same (are, t.count)
 
 -- the blocks that `validate_sack` wants
 pub valid_iff : (bs : Blocks) → AreValid bs ↔ IsApart 2 bs
 valid_iff bs = (
-  (λ v. apart_first 0 2 bs (record { start = 0; end = 0 }) (are_runs_of bs bs v.runs).apart (λ some. grind (arith, v.first))),
+  (λ v. apart_first 0 2 bs (record { start = 0; end = 0 }) (known_runs bs bs v.runs).0.apart (λ some. grind (arith, v.first))),
   (λ a. record { runs = runs_from_apart 2 bs a; first = grind (arith, a) }),
 )
 
 -- all that is said of cleaned blocks follows from this
-pub cleaned_from_cover : (bs rs : Blocks) → All (λ b. b.end ≤ 65535) bs → AreRunsOf rs bs
+pub cleaned_from_cover : {bs rs : Blocks} → All (λ b. b.end ≤ 65535) bs → AreRunsOf rs bs
     → IsCleaned bs rs
-cleaned_from_cover bs rs ends are =
+cleaned_from_cover {bs} {rs} ends are =
     let runs = runs_from_cover rs bs are in
-    let cover = cover_same rs bs are.cover in
-    let of_others = λ (others : Blocks) (e : SameCover others bs).
-    runs_of_same bs others rs (λ o. ((e o).1, (e o).0)) runs in
+    -- they are those of the others with the same cover too
+    let known = λ (others : Blocks) (e : SameCover others bs).
+    known_runs rs others (runs_of_same bs others rs (λ o. ((e o).1, (e o).0)) runs) in
     record {
       runs = runs;
-      cover = cover;
+      cover = cover_same rs bs are.cover;
       offsets = (λ o c. omega (arith, All-contains (λ b. b.end ≤ 65535) bs c.0 ends c.1, c.2.1));
-      -- the runs of the others are as few as these, and are the same
-      fewest = (λ others e. omega (
-        arith,
-        ap length (runs_are rs others (of_others others e)),
-        (runs_of others).count,
-      ));
+      fewest = (λ others e. (known others e).1);
       own = (λ others e. block_in_each 0 rs others are.apart
-          (cover_same rs others (are_runs_of rs others (of_others others e)).cover));
+          (cover_same rs others (known others e).0.cover));
       unique = (λ others another h. (
-        (λ e. runs_unique (Covers others) another rs h (of_others others e)),
-        (λ e. cover_same others bs (cc ((are_runs_of another others h).cover, are.cover, e))),
+        (λ e. runs_unique (Covers others) another rs h (runs_from_cover rs others (known others e).0)),
+        (λ e. cover_same others bs (cc ((known_runs another others h).0.cover, are.cover, e))),
       ));
       once = (λ again h. runs_unique (Covers rs) again rs h (runs_from_apart 0 rs are.apart));
     }
