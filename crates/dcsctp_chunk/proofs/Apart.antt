@@ -1,4 +1,4 @@
--- Lists of blocks that lie apart: their elements, their parts, and a block or a list put among them.
+-- Lists of blocks that lie apart: their parts, their elements, and a block put among them.
 use Rattle.std.proofs.Common.{◌≡◌, ◌⊎◌, inl, inr, ℕ, zero, suc, ◌+◌, ◌-◌, ◌<◌, ◌≤◌, max, [], ◌∷◌, ◌++◌, length, get_or, take, drop, refl, arith}
 use Rattle.std.proofs.lemmas.Bool.{cases_lt}
 use Rattle.std.proofs.lemmas.Grind.{common_steps, elements}
@@ -38,7 +38,8 @@ pub apart_at : (n i j : ℕ) (xs : Blocks) (d : GapAckBlock) → IsApart n xs �
     × ((get_or xs j d).start ≤ (get_or xs j d).end)
 apart_at n i j [] d a l m = absurd (omega arith)
 apart_at n zero zero (x ∷ xs) d a l m = (a.0, a.1)
-apart_at n zero (suc j) (x ∷ xs) d a l m = grind (arith, a.0, a.1, apart_at (x.end + 2) 0 j xs d a.2)
+apart_at n zero (suc j) (x ∷ xs) d a l m =
+    grind (arith, a.0, a.1, apart_at (x.end + 2) 0 j xs d a.2)
 apart_at n (suc i) zero (x ∷ xs) d a l m = absurd (omega arith)
 apart_at n (suc i) (suc j) (x ∷ xs) d a l m =
     apart_at (x.end + 2) i j xs d a.2 (omega arith) (omega arith)

@@ -39,7 +39,8 @@ pub cover_append : (xs ys : Blocks) → covered (xs ++ ys) ≡ union (covered xs
 unfolding covered union
 cover_append xs ys = fun_ext (λ o. list_any-append (is_in o) xs ys)
 
-pub cover_cons : (b : GapAckBlock) (bs : Blocks) → covered (b ∷ bs) ≡ union (covered (b ∷ [])) (covered bs)
+pub cover_cons : (b : GapAckBlock) (bs : Blocks)
+    → covered (b ∷ bs) ≡ union (covered (b ∷ [])) (covered bs)
 cover_cons b bs = cover_append (b ∷ []) bs
 
 pub ruleset covers = (cover_append, cover_cons, union_comm, union_assoc)
@@ -49,7 +50,8 @@ unfolding covered
 cover_permutation xs ys p = fun_ext (λ o. list_any-IsPermutation (is_in o) xs ys p)
 
 -- a block that ends before its start covers nothing
-pub cover_reversed : (b : GapAckBlock) (bs : Blocks) → b.end < b.start → covered (b ∷ bs) ≡ covered bs
+pub cover_reversed : (b : GapAckBlock) (bs : Blocks) → b.end < b.start
+    → covered (b ∷ bs) ≡ covered bs
 unfolding covered
 cover_reversed b bs l = fun_ext (λ o. grind (arith, nat_tests))
 

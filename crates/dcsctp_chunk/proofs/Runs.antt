@@ -1,4 +1,4 @@
--- Blocks that lie apart are the runs of what they cover, and the only ones. Every list of blocks has
+-- Blocks that lie apart are the runs of what they cover, and the only ones. Each list of blocks has
 -- runs, which are as few, and all that is said of cleaned blocks follows.
 use Rattle.std.proofs.Common.{◌≡◌, ◌↔◌, ◌⊎◌, inl, inr, ℕ, zero, suc, ◌+◌, ◌<◌, ◌≤◌, [], ◌∷◌, length, get_or, refl, sym, ap, subst, arith, ◌∙◌}
 use Rattle.std.specs.List.{All, Contains}
@@ -8,7 +8,7 @@ use Rattle.std.proofs.lemmas.List.Elements.{All-contains}
 use Rattle.dcsctp_chunk.specs.declared.sack_chunk.GapAckBlock.{GapAckBlock}
 use Rattle.dcsctp_chunk.specs.Apart.{IsApart, AreRunsOf, covered}
 use Rattle.dcsctp_chunk.specs.Cover.{Covers, SameCover, IsInside, IsRun, IsRuns, IsCleaned, HasBlockInEach, AreValid}
-use Rattle.dcsctp_chunk.proofs.Covers.{Blocks, covers, cover_reversed, cover_join, join, cover_same}
+use Rattle.dcsctp_chunk.proofs.Covers.{Blocks, zero_block, covers, cover_reversed, cover_join, join, cover_same}
 use Rattle.dcsctp_chunk.proofs.Apart.{apart_at, apart_far, apart_first, apart_weaker}
 
 -- two of them that overlap or touch are one
@@ -55,8 +55,8 @@ apart_is_run n bs a r t =
       some = some;
       inside = (λ o l m. (r, t, (l, m)));
       longest = (λ low high l m inside.
-          let w = interval_within n bs r low high a t (omega arith) (omega arith) (omega arith) inside in
-          (omega (arith, w.0), omega (arith, w.1)));
+          let in_one = interval_within n bs r low high a t in
+          grind (arith, in_one (omega arith) (omega arith) (omega arith) inside));
     }
 
 apart_has_run : (n : ℕ) (bs : Blocks) → IsApart n bs → (r : GapAckBlock) → IsRun (Covers bs) r
@@ -252,7 +252,8 @@ known_runs rs bs h =
 -- the blocks that `validate_sack` wants
 pub valid_iff : (bs : Blocks) → AreValid bs ↔ IsApart 2 bs
 valid_iff bs = (
-  (λ v. apart_first 0 2 bs (record { start = 0; end = 0 }) (known_runs bs bs v.runs).0.apart (λ some. grind (arith, v.first))),
+  (λ v. apart_first 0 2 bs zero_block (known_runs bs bs v.runs).0.apart
+      (λ some. grind (arith, v.first))),
   (λ a. record { runs = runs_from_apart 2 bs a; first = grind (arith, a) }),
 )
 
@@ -272,7 +273,8 @@ cleaned_from_cover {bs} {rs} ends are =
       own = (λ others e. block_in_each 0 rs others are.apart
           (cover_same rs others (known others e).0.cover));
       unique = (λ others another h. (
-        (λ e. runs_unique (Covers others) another rs h (runs_from_cover rs others (known others e).0)),
+        (λ e. runs_unique (Covers others) another rs h
+            (runs_from_cover rs others (known others e).0)),
         (λ e. cover_same others bs (cc ((known_runs another others h).0.cover, are.cover, e))),
       ));
       once = (λ again h. runs_unique (Covers rs) again rs h (runs_from_apart 0 rs are.apart));

@@ -14,6 +14,6 @@ loop-i-preserved c =
     let same = inv.rest i zero_block (omega arith) in
     let one = cover_last old i (i + 1) zero_block (omega arith) (omega arith) in
     elim c.if-block.branch [
-      | then-block w ↦ let put = w.add_block-counts.ensures in grind (arith, same, one, cover_cons, put, inv)
+      | then-block w ↦ grind (arith, same, one, cover_cons, w.add_block-counts.ensures, inv)
       | else-block w ↦ grind (arith, same, one, cover_reversed block (take i old), inv)
     ]

@@ -18,5 +18,5 @@ loop-last-preserved c =
     let r = get_or runs i zero_block in
     let inv = c.loop-last.invariant in
     let reached = c.requires.point.1 i zero_block inv.order c.loop-last-test.true in
-    let at = apart_at 0 c.args.first i runs zero_block c.requires.apart inv.order c.loop-last-test.true in
+    let at = apart_at 0 c.args.first i runs zero_block c.requires.apart in
     grind (arith, common_steps, reached, at, cover_join c.loop-last.run r (drop (i + 1) runs))

@@ -9,6 +9,7 @@ pub make_free_from-requires-clause-free : goal.make_free_from-requires-clause-fr
 make_free_from-requires-clause-free c =
     let place = c.find_place-place.result in
     let long = length-take-le c.args.kept c.args.runs.now (omega arith) in
-    let moved = c.move_within.ensures in
+    let said = c.move_within.ensures in
     put_free c.args.runs.now c.move_within.new.blocks place.run place.first place.last c.args.kept
-    c.min-end.result (omega arith) (omega arith) (omega arith) c.requires.free (omega arith) moved.moved moved.rest
+    c.min-end.result (omega arith) (omega arith) (omega arith) c.requires.free (omega arith)
+    said.moved said.rest

@@ -16,12 +16,13 @@ pub loop-left-preserved : goal.loop-left-preserved
 loop-left-preserved c =
     let others = c.args.others.now in
     let i = c.loop-left.left - 1 in
-    let gap = c.put_by_walk-gap in
+    let b = get_or others i zero_block in
+    let high = drop c.put_by_walk-gap.result.high c.put_by_walk-gap.new.runs in
     grind (
       arith,
       common_steps,
       cover_append,
       cover_cons,
       apart_at 0 i i others zero_block c.requires.others_apart,
-      apart_weaker (after 0 (take i others)) ((get_or others i zero_block).end + 2) (drop gap.result.high gap.new.runs),
+      apart_weaker (after 0 (take i others)) (b.end + 2) high,
     )
