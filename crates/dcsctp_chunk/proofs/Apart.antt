@@ -1,6 +1,5 @@
--- Lists of blocks that lie apart: their elements, their parts, and a block or a list put among them.
-use Rattle.std.proofs.Common.{◌≡◌, ◌⊎◌, inl, inr, ℕ, zero, suc, ◌+◌, ◌-◌, ◌<◌, ◌≤◌, max, [], ◌∷◌, ◌++◌, length, get_or, take, drop, refl, arith}
-use Rattle.std.proofs.lemmas.Bool.{cases_lt}
+-- Lists of blocks that lie apart: their parts, their elements, and a block put among them.
+use Rattle.std.proofs.Common.{◌≡◌, ◌⊎◌, ℕ, zero, suc, ◌+◌, ◌-◌, ◌<◌, ◌≤◌, max, [], ◌∷◌, ◌++◌, length, get_or, take, drop, refl, arith}
 use Rattle.std.proofs.lemmas.Grind.{common_steps, elements}
 use Rattle.std.proofs.lemmas.List.{take-append-drop}
 use Rattle.dcsctp_chunk.specs.declared.sack_chunk.GapAckBlock.{GapAckBlock}
@@ -38,7 +37,8 @@ pub apart_at : (n i j : ℕ) (xs : Blocks) (d : GapAckBlock) → IsApart n xs �
     × ((get_or xs j d).start ≤ (get_or xs j d).end)
 apart_at n i j [] d a l m = absurd (omega arith)
 apart_at n zero zero (x ∷ xs) d a l m = (a.0, a.1)
-apart_at n zero (suc j) (x ∷ xs) d a l m = grind (arith, a.0, a.1, apart_at (x.end + 2) 0 j xs d a.2)
+apart_at n zero (suc j) (x ∷ xs) d a l m =
+    grind (arith, a.0, a.1, apart_at (x.end + 2) 0 j xs d a.2)
 apart_at n (suc i) zero (x ∷ xs) d a l m = absurd (omega arith)
 apart_at n (suc i) (suc j) (x ∷ xs) d a l m =
     apart_at (x.end + 2) i j xs d a.2 (omega arith) (omega arith)
@@ -50,9 +50,9 @@ after_last n k [] d l = absurd (omega arith)
 after_last n zero (x ∷ xs) d l = refl
 after_last n (suc k) (x ∷ xs) d l = after_last (x.end + 2) k xs d (omega arith)
 
-pub after_until : (n m k : ℕ) (xs : Blocks) (d : GapAckBlock) → n ≤ m → k ≤ length xs
-    → (0 < k → (get_or xs (k - 1) d).end + 2 ≤ m) → after n (take k xs) ≤ m
-after_until n m k xs d l b h = grind (arith, common_steps, after_last n (k - 1) xs d)
+pub after_take : (n k : ℕ) (xs : Blocks) → 0 < k → k ≤ length xs
+    → after n (take k xs) ≡ (get_or xs (k - 1) zero_block).end + 2
+after_take n k xs some l = grind (arith, after_last n (k - 1) xs zero_block)
 
 pub apart_far : (n i j : ℕ) (xs : Blocks) (d : GapAckBlock) → IsApart n xs → i < j → j < length xs
     → (get_or xs i d).end + 2 ≤ (get_or xs j d).start
@@ -90,24 +90,14 @@ placed_apart xs b first last a some l m =
     apart_append 0 (take first xs) (b ∷ drop last xs) front.0
     (l, some, past_gap xs last last (b.end + 2) zero_block whole (λ more. grind (arith, m)))
 
+-- a block after the first k
+pub apart_push : (xs : Blocks) (b : GapAckBlock) (k : ℕ) → IsApart 0 xs → b.start ≤ b.end
+    → k ≤ length xs → (k ≡ 0) ⊎ ((get_or xs (k - 1) zero_block).end + 2 ≤ b.start)
+    → IsApart 0 (take k xs ++ (b ∷ []))
+apart_push xs b k a some l m =
+    grind (arith, common_steps, after_take 0 k xs, placed_apart xs b k (length xs) a some)
+
 -- what starts late enough for either end
 pub apart_max : (l m n : ℕ) (xs : Blocks) → l ≤ max m n → IsApart m xs → IsApart n xs → IsApart l xs
 apart_max l m n [] k a b = tt
 apart_max l m n (x ∷ xs) k a b = (grind (arith, a.0, b.0), a.1, a.2)
-
--- the last of the blocks that are left, and what may come after those before it
-pub next_left : (xs high : Blocks) (left : ℕ) (d : GapAckBlock) → 0 < left → left ≤ length xs
-    → IsApart 0 (take left xs ++ high)
-    → IsApart 0 (get_or xs (left - 1) d ∷ high) × ((later : Blocks)
-    → IsApart ((get_or xs (left - 1) d).end + 2) later → IsApart 0 (take (left - 1) xs ++ later))
-next_left xs high left d l m a =
-    let rest = take (left - 1) xs in
-    let b = get_or xs (left - 1) d in
-    let e : take left xs ++ high ≡ rest ++ (b ∷ high) = grind (arith, common_steps) in
-    let parts = apart_parts 0 rest (b ∷ high) (rw (← e) a) in
-    let low = parts.1.0 in
-    let some = parts.1.1 in (
-      (omega arith, some, parts.1.2),
-      (λ later past. apart_append 0 rest later parts.0
-          (apart_weaker (after 0 rest) (b.end + 2) later (omega arith) past)),
-    )

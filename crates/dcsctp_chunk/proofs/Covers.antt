@@ -4,7 +4,7 @@ use Rattle.std.proofs.Common.{◌≡◌, ◌↔◌, ℕ, ◌+◌, ◌<◌, ◌�
 use Rattle.std.specs.Prelude.{nat_le}
 use Rattle.std.specs.List.Sorted.{IsPermutation}
 use Rattle.std.proofs.Math.Path.{fun_ext}
-use Rattle.std.proofs.Math.Bool.{or_comm, or_assoc}
+use Rattle.std.proofs.Math.Bool.{or_comm}
 use Rattle.std.proofs.lemmas.Bool.Decides.{nat_tests}
 use Rattle.std.proofs.lemmas.Grind.{common_steps}
 use Rattle.std.proofs.lemmas.List.Folds.{list_any-append, list_any_at, Any-from_list_any}
@@ -39,7 +39,8 @@ pub cover_append : (xs ys : Blocks) → covered (xs ++ ys) ≡ union (covered xs
 unfolding covered union
 cover_append xs ys = fun_ext (λ o. list_any-append (is_in o) xs ys)
 
-pub cover_cons : (b : GapAckBlock) (bs : Blocks) → covered (b ∷ bs) ≡ union (covered (b ∷ [])) (covered bs)
+pub cover_cons : (b : GapAckBlock) (bs : Blocks)
+    → covered (b ∷ bs) ≡ union (covered (b ∷ [])) (covered bs)
 cover_cons b bs = cover_append (b ∷ []) bs
 
 pub ruleset covers = (cover_append, cover_cons, union_comm, union_assoc)
@@ -49,7 +50,8 @@ unfolding covered
 cover_permutation xs ys p = fun_ext (λ o. list_any-IsPermutation (is_in o) xs ys p)
 
 -- a block that ends before its start covers nothing
-pub cover_reversed : (b : GapAckBlock) (bs : Blocks) → b.end < b.start → covered (b ∷ bs) ≡ covered bs
+pub cover_reversed : (b : GapAckBlock) (bs : Blocks) → b.end < b.start
+    → covered (b ∷ bs) ≡ covered bs
 unfolding covered
 cover_reversed b bs l = fun_ext (λ o. grind (arith, nat_tests))
 
@@ -70,9 +72,6 @@ covers_iff bs o = (
       let a = Any-from_list_any (is_in o) bs e in
       (a.1, (a.0, a.2, a.3), grind (arith, nat_tests, a.4))),
 )
-
-pub same_cover : (xs ys : Blocks) → SameCover xs ys → covered xs ≡ covered ys
-same_cover xs ys e = fun_ext (λ o. grind (arith, e o, covers_iff xs o, covers_iff ys o))
 
 pub cover_same : (xs ys : Blocks) → covered xs ≡ covered ys → SameCover xs ys
 cover_same xs ys e o =

@@ -1,5 +1,5 @@
 -- Runs as the walks and the joins leave them, and where they lie in memory.
-use Rattle.std.proofs.Common.{◌≡◌, ◌⊎◌, ℕ, ◌+◌, ◌-◌, ◌<◌, ◌≤◌, max, List, [], ◌∷◌, ◌++◌, length, get_or, set, take, drop, ltb, arith}
+use Rattle.std.proofs.Common.{◌≡◌, ℕ, ◌+◌, ◌-◌, ◌<◌, ◌≤◌, max, List, ◌∷◌, ◌++◌, length, get_or, set, take, drop, ltb, arith}
 use Rattle.std.specs.List.{copy_within, CopiedTo, SameFrom}
 use Rattle.std.specs.List.Sorted.{IsPartitionedBy}
 use Rattle.std.proofs.Math.Seq.{take-add, take-append-add, take-set-lt}
@@ -8,8 +8,8 @@ use Rattle.std.proofs.lemmas.Grind.{common_steps}
 use Rattle.std.proofs.lemmas.List.{take-append-drop, take-append-le, drop-drop, drop-take, take-take, set-append_left, get_or-drop, get_or-take, length-drop, length-take-le, length-set, get_or-set_other}
 use Rattle.dcsctp_chunk.specs.declared.sack_chunk.GapAckBlock.{GapAckBlock}
 use Rattle.dcsctp_chunk.specs.Apart.{IsApart, AreFree, AreRunsOf, after, covered}
-use Rattle.dcsctp_chunk.proofs.Covers.{Blocks, zero_block, covers, cover_append}
-use Rattle.dcsctp_chunk.proofs.Apart.{apart_append, apart_max, apart_order, apart_parts, placed_apart}
+use Rattle.dcsctp_chunk.proofs.Covers.{Blocks, covers, cover_append}
+use Rattle.dcsctp_chunk.proofs.Apart.{apart_append, apart_max, apart_order, apart_parts}
 
 -- what is covered where a block lies in the place of those from the first up to the last
 pub placed_cover : (xs : Blocks) (b run : GapAckBlock) (first last : ℕ)
@@ -20,7 +20,8 @@ placed_cover xs b run first last e = grind (arith, covers, take-append-drop firs
 -- runs placed below a gap
 pub below_gap : (low high placed : Blocks) (b : GapAckBlock) → IsApart 0 (low ++ high)
     → IsApart (b.end + 2) high → AreRunsOf placed (b ∷ low)
-    → after 0 placed ≤ max (b.end + 2) (after 0 low) → AreRunsOf (placed ++ high) (b ∷ (low ++ high))
+    → after 0 placed ≤ max (b.end + 2) (after 0 low)
+    → AreRunsOf (placed ++ high) (b ∷ (low ++ high))
 below_gap low high placed b a d p l = record {
   apart = apart_append 0 placed high p.apart
       (apart_max (after 0 placed) (b.end + 2) (after 0 low) high l d (apart_parts 0 low high a).1);
@@ -37,7 +38,8 @@ lifted xs low high count l m n = grind (arith, common_steps, take-add (low - cou
 -- a free place ends last
 pub free_end : (xs : Blocks) (kept k : ℕ) (d : GapAckBlock) → kept ≤ k → k < length xs
     → AreFree (drop kept xs) → (get_or xs k d).end ≡ 65535
-free_end xs kept k d l m f = grind (arith, get_or-drop kept xs (k - kept) d, f (k - kept) d, length-drop kept xs)
+free_end xs kept k d l m f =
+    grind (arith, get_or-drop kept xs (k - kept) d, f (k - kept) d, length-drop kept xs)
 
 -- so the free places change nothing for a search
 pub parted_kept : (xs : Blocks) (kept n : ℕ) → n ≤ 65535 → kept ≤ length xs
@@ -80,7 +82,8 @@ copied xs i j n dest l m k =
 written : (xs ys : Blocks) (i : ℕ) (b : GapAckBlock) → i < length xs
     → set (take (i + 1) xs ++ ys) i b ≡ take i xs ++ (b ∷ ys)
 written xs ys i b l =
-    grind (arith, common_steps, set-append_left (take (i + 1) xs) ys i b, take-set-lt (i + 1) xs i b)
+    let before = take (i + 1) xs in
+    grind (arith, common_steps, set-append_left before ys i b, take-set-lt (i + 1) xs i b)
 
 pub put_run : (xs : Blocks) (run : GapAckBlock) (first last kept end : ℕ)
     → first ≤ last → last ≤ kept → kept ≤ end → end < length xs

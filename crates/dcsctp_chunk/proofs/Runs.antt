@@ -1,6 +1,6 @@
--- Blocks that lie apart are the runs of what they cover, and the only ones. Every list of blocks has
+-- Blocks that lie apart are the runs of what they cover, and the only ones. Each list of blocks has
 -- runs, which are as few, and all that is said of cleaned blocks follows.
-use Rattle.std.proofs.Common.{◌≡◌, ◌↔◌, ◌⊎◌, inl, inr, ℕ, zero, suc, ◌+◌, ◌<◌, ◌≤◌, [], ◌∷◌, length, get_or, refl, sym, ap, subst, arith, ◌∙◌}
+use Rattle.std.proofs.Common.{◌≡◌, ◌↔◌, ◌⊎◌, inl, inr, ℕ, zero, suc, ◌+◌, ◌<◌, ◌≤◌, [], ◌∷◌, length, get_or, refl, sym, subst, arith, ◌∙◌}
 use Rattle.std.specs.List.{All, Contains}
 use Rattle.std.proofs.lemmas.Bool.{cases_lt}
 use Rattle.std.proofs.lemmas.List.{get_or_default}
@@ -8,7 +8,7 @@ use Rattle.std.proofs.lemmas.List.Elements.{All-contains}
 use Rattle.dcsctp_chunk.specs.declared.sack_chunk.GapAckBlock.{GapAckBlock}
 use Rattle.dcsctp_chunk.specs.Apart.{IsApart, AreRunsOf, covered}
 use Rattle.dcsctp_chunk.specs.Cover.{Covers, SameCover, IsInside, IsRun, IsRuns, IsCleaned, HasBlockInEach, AreValid}
-use Rattle.dcsctp_chunk.proofs.Covers.{Blocks, covers, cover_reversed, cover_join, join, same_cover, cover_same}
+use Rattle.dcsctp_chunk.proofs.Covers.{Blocks, zero_block, covers, cover_reversed, cover_join, join, cover_same}
 use Rattle.dcsctp_chunk.proofs.Apart.{apart_at, apart_far, apart_first, apart_weaker}
 
 -- two of them that overlap or touch are one
@@ -55,8 +55,8 @@ apart_is_run n bs a r t =
       some = some;
       inside = (λ o l m. (r, t, (l, m)));
       longest = (λ low high l m inside.
-          let w = interval_within n bs r low high a t (omega arith) (omega arith) (omega arith) inside in
-          (omega (arith, w.0), omega (arith, w.1)));
+          let in_one = interval_within n bs r low high a t in
+          grind (arith, in_one (omega arith) (omega arith) (omega arith) inside));
     }
 
 apart_has_run : (n : ℕ) (bs : Blocks) → IsApart n bs → (r : GapAckBlock) → IsRun (Covers bs) r
@@ -241,48 +241,41 @@ runs_from_cover : (rs bs : Blocks) → AreRunsOf rs bs → IsRuns rs (Covers bs)
 runs_from_cover rs bs are =
     runs_of_same rs bs rs (cover_same rs bs are.cover) (runs_from_apart 0 rs are.apart)
 
-runs_are : (rs bs : Blocks) → IsRuns rs (Covers bs) → (runs_of bs).runs ≡ rs
-runs_are rs bs h =
+-- and back; and they are as few
+known_runs : (rs bs : Blocks) → IsRuns rs (Covers bs) → AreRunsOf rs bs × (length rs ≤ length bs)
+known_runs rs bs h =
     let t = runs_of bs in
-    runs_unique (Covers bs) t.runs rs
-    (runs_from_cover t.runs bs (record { apart = t.apart; cover = t.cover })) h
-
--- and back
-are_runs_of : (rs bs : Blocks) → IsRuns rs (Covers bs) → AreRunsOf rs bs
-are_runs_of rs bs h =
-    let t = runs_of bs in
-    subst (λ x. AreRunsOf x bs) (runs_are rs bs h) (record { apart = t.apart; cover = t.cover })
+    let are : AreRunsOf t.runs bs = record { apart = t.apart; cover = t.cover } in
+    let same = runs_unique (Covers bs) t.runs rs (runs_from_cover t.runs bs are) h in
+    subst (λ x. AreRunsOf x bs × (length x ≤ length bs)) same (are, t.count)
 
 -- the blocks that `validate_sack` wants
 pub valid_iff : (bs : Blocks) → AreValid bs ↔ IsApart 2 bs
 valid_iff bs = (
-  (λ v. apart_first 0 2 bs (record { start = 0; end = 0 }) (are_runs_of bs bs v.runs).apart (λ some. grind (arith, v.first))),
+  (λ v. apart_first 0 2 bs zero_block (known_runs bs bs v.runs).0.apart
+      (λ some. grind (arith, v.first))),
   (λ a. record { runs = runs_from_apart 2 bs a; first = grind (arith, a) }),
 )
 
 -- all that is said of cleaned blocks follows from this
-pub cleaned_from_cover : (bs rs : Blocks) → All (λ b. b.end ≤ 65535) bs → AreRunsOf rs bs
+pub cleaned_from_cover : {bs rs : Blocks} → All (λ b. b.end ≤ 65535) bs → AreRunsOf rs bs
     → IsCleaned bs rs
-cleaned_from_cover bs rs ends are =
+cleaned_from_cover {bs} {rs} ends are =
     let runs = runs_from_cover rs bs are in
-    let cover = cover_same rs bs are.cover in
-    let of_others = λ (others : Blocks) (e : SameCover others bs).
-    runs_of_same bs others rs (λ o. ((e o).1, (e o).0)) runs in
+    -- they are those of the others with the same cover too
+    let known = λ (others : Blocks) (e : SameCover others bs).
+    known_runs rs others (runs_of_same bs others rs (λ o. ((e o).1, (e o).0)) runs) in
     record {
       runs = runs;
-      cover = cover;
+      cover = cover_same rs bs are.cover;
       offsets = (λ o c. omega (arith, All-contains (λ b. b.end ≤ 65535) bs c.0 ends c.1, c.2.1));
-      -- the runs of the others are as few as these, and are the same
-      fewest = (λ others e. omega (
-        arith,
-        ap length (runs_are rs others (of_others others e)),
-        (runs_of others).count,
-      ));
+      fewest = (λ others e. (known others e).1);
       own = (λ others e. block_in_each 0 rs others are.apart
-          (cover_same rs others (are_runs_of rs others (of_others others e)).cover));
+          (cover_same rs others (known others e).0.cover));
       unique = (λ others another h. (
-        (λ e. runs_unique (Covers others) another rs h (of_others others e)),
-        (λ e. cover_same others bs (cc ((are_runs_of another others h).cover, are.cover, e))),
+        (λ e. runs_unique (Covers others) another rs h
+            (runs_from_cover rs others (known others e).0)),
+        (λ e. cover_same others bs (cc ((known_runs another others h).0.cover, are.cover, e))),
       ));
       once = (λ again h. runs_unique (Covers rs) again rs h (runs_from_apart 0 rs are.apart));
     }

@@ -33,6 +33,7 @@ pub fn clean_sack(mut sack: SackChunk) -> SackChunk
 /// It works in the vector itself and does not allocate. Blocks that `validate_sack` accepts stay as
 /// they are.
 #[inline(never)]
+#[tactic(auto, using(crate::proofs::Runs::valid_iff))]
 pub fn clean_blocks(blocks: &mut Vec<GapAckBlock>)
     ensures cleaned { IsCleaned blocks.old.items blocks.new.items }
     ensures same { AreValid blocks.old.items → blocks.new ≡ blocks.old }

@@ -39,6 +39,7 @@ pub(crate) fn first_reaching(runs: &[GapAckBlock], kept: usize, block: GapAckBlo
 
 /// Puts the block in among the first `kept` runs, of which the one at `first` is the first that it
 /// can touch. Returns `n`: the first `n` are then the runs of both.
+#[tactic(auto, using(std::proofs::lemmas::Grind::common_steps, crate::proofs::Placed::put_run))]
 pub(crate) fn insert(
     runs: &mut [GapAckBlock],
     kept: usize,
@@ -166,7 +167,8 @@ fn put_by_walk(runs: &mut [GapAckBlock], gap: Gap, block: GapAckBlock) -> Gap
     requires order { gap.low < gap.high }
     requires bound { gap.high ≤ length runs.old }
     requires apart { IsApart 0 (around gap runs.old) }
-    requires below { IsApart 0 (block ∷ drop gap.high runs.old) }
+    requires nonempty { block.start ≤ block.end }
+    requires below { IsApart (block.end + 2) (drop gap.high runs.old) }
     ensures order { result.low + gap.high ≤ gap.low + 1 + result.high }
     ensures bound { result.high ≤ length runs.old }
     ensures runs { AreRunsOf (around result runs.new) (block ∷ around gap runs.old) }
@@ -255,6 +257,7 @@ struct Last {
 }
 
 /// The place of the block among runs none of which starts at least 2 past its end.
+#[tactic(auto, using(crate::proofs::Apart::apart_push, crate::proofs::Covers::covers))]
 fn last_place(runs: &[GapAckBlock], block: GapAckBlock) -> Last
     requires nonempty { block.start ≤ block.end }
     requires apart { IsApart 0 runs.now }

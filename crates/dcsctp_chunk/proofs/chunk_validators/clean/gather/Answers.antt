@@ -1,5 +1,5 @@
 -- One block more, or one that covers nothing.
-use Rattle.std.proofs.Common.{◌≡◌, ◌+◌, take, get_or, arith, ◌∙◌}
+use Rattle.std.proofs.Common.{◌+◌, take, get_or, arith}
 use Rattle.dcsctp_chunk.proofs.Covers.{zero_block, cover_cons, cover_last, cover_reversed}
 use Rattle.dcsctp_chunk.proofs.chunk_validators.clean.gather.Goals as goal
 use Rattle.dcsctp_chunk.proofs.chunk_validators.clean.gather.Goals.{then-block, else-block}
@@ -14,6 +14,6 @@ loop-i-preserved c =
     let same = inv.rest i zero_block (omega arith) in
     let one = cover_last old i (i + 1) zero_block (omega arith) (omega arith) in
     elim c.if-block.branch [
-      | then-block w ↦ let put = w.add_block-counts.ensures in grind (arith, same, one, cover_cons, put, inv)
+      | then-block w ↦ grind (arith, same, one, cover_cons, w.add_block-counts.ensures, inv)
       | else-block w ↦ grind (arith, same, one, cover_reversed block (take i old), inv)
     ]

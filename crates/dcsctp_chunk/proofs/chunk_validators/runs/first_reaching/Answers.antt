@@ -18,7 +18,8 @@ returns c =
     let point = IsPartitionPoint-from_clause (λ (b : GapAckBlock). ltb b.end offset) _ _
     c.partition_point.ensures.partitioned parted (λ a r q k. search rules) in
     let free = free_end runs kept kept zero_block in
-    let bound : c.partition_point.result ≤ kept = grind (arith, nat_tests, point.0 kept zero_block, free) in
+    let bound : c.partition_point.result ≤ kept =
+    grind (arith, nat_tests, point.0 kept zero_block, free) in
     let long = length-take-le kept runs c.requires.room in
     record {
       bound = bound;

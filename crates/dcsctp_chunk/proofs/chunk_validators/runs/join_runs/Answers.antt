@@ -1,28 +1,28 @@
 -- Each step puts in the last of the others that are left; the move at the end closes the gap.
-use Rattle.std.proofs.Common.{drop, arith}
+use Rattle.std.proofs.Common.{◌+◌, ◌-◌, get_or, take, drop, arith}
 use Rattle.std.proofs.lemmas.Grind.{common_steps}
+use Rattle.dcsctp_chunk.specs.Apart.{after}
 use Rattle.dcsctp_chunk.proofs.Covers.{zero_block, cover_append, cover_cons}
-use Rattle.dcsctp_chunk.proofs.Apart.{next_left}
+use Rattle.dcsctp_chunk.proofs.Apart.{after_take, apart_at, apart_weaker}
 use Rattle.dcsctp_chunk.proofs.chunk_validators.runs.join_runs.Goals as goal
 
-pub put_by_walk-gap-requires-clause-below : goal.put_by_walk-gap-requires-clause-below
-put_by_walk-gap-requires-clause-below c =
-    let inv = c.loop-left.invariant in
-    (next_left c.args.others.now (drop c.loop-left.gap.high c.loop-left.runs) c.loop-left.left
-    zero_block (omega arith) inv.left_bound inv.left_apart).0
+pub put_by_walk-gap-requires : goal.put_by_walk-gap-requires
+put_by_walk-gap-requires c =
+    let others = c.args.others.now in
+    let i = c.loop-left.left - 1 in
+    grind (arith, after_take, apart_at 0 i i others zero_block c.requires.others_apart)
 
 pub loop-left-preserved : goal.loop-left-preserved
 loop-left-preserved c =
-    let inv = c.loop-left.invariant in
-    let next =
-    next_left c.args.others.now (drop c.loop-left.gap.high c.loop-left.runs) c.loop-left.left
-    zero_block (omega arith) inv.left_bound inv.left_apart in
-    let gap = c.put_by_walk-gap in
-    record {
-      room = omega arith;
-      bound = omega arith;
-      left_bound = omega arith;
-      apart = gap.ensures.runs.apart;
-      left_apart = next.1 (drop gap.result.high gap.new.runs) gap.ensures.below;
-      cover = grind (arith, common_steps, cover_append, cover_cons, gap.ensures.runs.cover, inv.cover);
-    }
+    let others = c.args.others.now in
+    let i = c.loop-left.left - 1 in
+    let b = get_or others i zero_block in
+    let high = drop c.put_by_walk-gap.result.high c.put_by_walk-gap.new.runs in
+    grind (
+      arith,
+      common_steps,
+      cover_append,
+      cover_cons,
+      apart_at 0 i i others zero_block c.requires.others_apart,
+      apart_weaker (after 0 (take i others)) (b.end + 2) high,
+    )

@@ -1,9 +1,8 @@
 -- Each step of the walk down takes in a run, which starts early enough, since the last one does.
 use Rattle.std.proofs.Common.{◌-◌, length, get_or, take, arith}
 use Rattle.std.proofs.lemmas.Grind.{common_steps}
-use Rattle.dcsctp_chunk.proofs.Covers.{zero_block, covers, cover_cons, cover_last, cover_join}
-use Rattle.dcsctp_chunk.proofs.Apart.{apart_at, apart_order, after_each, after_until}
-use Rattle.dcsctp_chunk.proofs.Apart.{placed_apart}
+use Rattle.dcsctp_chunk.proofs.Covers.{zero_block, cover_cons, cover_last, cover_join}
+use Rattle.dcsctp_chunk.proofs.Apart.{apart_at, apart_order, after_each}
 use Rattle.dcsctp_chunk.proofs.chunk_validators.runs.last_place.Goals as goal
 
 pub loop-first-preserved : goal.loop-first-preserved
@@ -22,13 +21,3 @@ loop-first-preserved c =
       cover_last runs i c.loop-first.first zero_block,
       cover_join c.loop-first.run (get_or runs i zero_block) (take i runs),
     )
-
-pub returns-else-saturating_sub-runs-clause-runs : goal.returns-else-saturating_sub-runs-clause-runs
-returns-else-saturating_sub-runs-clause-runs c =
-    let runs = c.args.runs.now in
-    let first = c.loop-first.first in
-    let run = c.loop-first.run in
-    record {
-      apart = grind (arith, common_steps, placed_apart runs run first (length runs) c.requires.apart, after_until 0 run.start first runs zero_block);
-      cover = grind (arith, covers);
-    }

@@ -1,5 +1,4 @@
-use Rattle.std.proofs.Common.{◌-◌, take, drop, arith}
-use Rattle.std.proofs.lemmas.Grind.{common_steps}
+use Rattle.std.proofs.Common.{◌-◌, arith}
 use Rattle.dcsctp_chunk.proofs.Apart.{past_gap}
 use Rattle.dcsctp_chunk.proofs.Placed.{lifted}
 use Rattle.dcsctp_chunk.proofs.chunk_validators.runs.lift.Goals as goal

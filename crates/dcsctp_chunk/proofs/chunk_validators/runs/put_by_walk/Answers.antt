@@ -1,5 +1,5 @@
 -- On both sides of the gap are what `last_place` promised, and what the walk left past the gap.
-use Rattle.std.proofs.Common.{◌≤◌, ◌∷◌, ◌++◌, [], take, drop, arith}
+use Rattle.std.proofs.Common.{◌∷◌, ◌++◌, [], take, drop, arith}
 use Rattle.std.proofs.lemmas.Grind.{common_steps}
 use Rattle.dcsctp_chunk.proofs.Apart.{apart_parts, after_append}
 use Rattle.dcsctp_chunk.proofs.Placed.{below_gap}
@@ -19,7 +19,8 @@ returns-clause-runs c =
     let place = c.last_place-place.result in
     let low = take past.low xs in
     let front = take place.first low in
+    let said = c.last_place-place.ensures in
     let put = below_gap low (drop past.high xs) (front ++ (place.run ∷ [])) c.args.block
-    (rw c.lift_past-past.ensures.runs c.requires.apart) c.lift_past-past.ensures.below c.last_place-place.ensures.runs
-    (rw (after_append 0 front (place.run ∷ [])) c.last_place-place.ensures.last) in
+    (rw c.lift_past-past.ensures.runs c.requires.apart) c.lift_past-past.ensures.below said.runs
+    (rw (after_append 0 front (place.run ∷ [])) said.last) in
     grind (arith, common_steps, put)
