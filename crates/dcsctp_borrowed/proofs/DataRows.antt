@@ -1,67 +1,27 @@
 -- What `UserData` reads of a chunk is what the chunk's row of the table means.
-use Rattle.std.proofs.Common.{◌≡◌, ℕ, List, Some, None, Result, Ok, Err, refl, sym, ap, ◌∙◌}
+use Rattle.std.proofs.Common.{◌≡◌, ℕ, List, Some, Result, Ok, ap, rules}
 use Rattle.std.specs.Result.{result_ok}
 use Rattle.std.proofs.lemmas.Bool.{ne_eqb}
 use Rattle.dcsctp_tlv.specs.Fault.{Fault}
 use Rattle.dcsctp_tlv.specs.Frame.{lenient}
-use Rattle.dcsctp_tlv.specs.Level.{Row, plain, map_ok}
-use Rattle.dcsctp_tlv.specs.Table.{IsUnnamed, ◌&◌}
-use Rattle.dcsctp_tlv.proofs.Tables.{EachNamed, of_table}
-use Rattle.dcsctp_chunk.specs as kind
-use Rattle.dcsctp_wire.specs.Chunk.{ChunkTree, Data, Init, InitAck, Sack, HeartbeatRequest, HeartbeatAck, Abort, Shutdown, ShutdownAck, Error, CookieEcho, CookieAck, ShutdownComplete, ReConfig, ForwardTsn, IData, IForwardTsn, Unknown, table, chunk_row}
+use Rattle.dcsctp_chunk.specs.Data.{Tree}
+use Rattle.dcsctp_chunk.specs.DataChunk.{read as data_at}
+use Rattle.dcsctp_chunk.specs.IDataChunk.{read as idata_at}
+use Rattle.dcsctp_wire.specs.Chunk.{ChunkTree, chunk_row}
 use Rattle.dcsctp_borrowed.specs.UserData.{data_of, read_user_data}
+use Rattle.dcsctp_borrowed.proofs.TreeRows.{of_listed, of_chunk}
 
-abbrev ReadsAlike : ℕ → ℕ → Row ChunkTree → Type 0
-ReadsAlike flags typ row = (value : List ℕ) (t : ChunkTree) → row.means value t
-    → read_user_data typ flags value ≡ data_of t
+abbrev ReadsAs : ℕ → ℕ → List ℕ → ChunkTree → Type 0
+ReadsAs flags typ value t = read_user_data typ flags value ≡ data_of t
 
--- a row of user data
-own : (f : kind.Data.Tree → ChunkTree) → ((c : kind.Data.Tree) → data_of (f c) ≡ Some c)
-    → (r : Result kind.Data.Tree Fault) (t : ChunkTree) → map_ok f r ≡ Ok t
-    → result_ok r ≡ data_of t
-own f is (Ok c) t e = let same : f c ≡ t = cc in sym (is c) ∙ ap data_of same
-own f is (Err d) t e = absurd cc
-
--- a row of another kind, without a list
-other : {X : Type 0} (f : X → ChunkTree) → ((x : X) → data_of (f x) ≡ None)
-    → (r : Result X Fault) (t : ChunkTree) → map_ok f r ≡ Ok t → None ≡ data_of t
-other f isnt (Ok x) t e = let same : f x ≡ t = cc in sym (isnt x) ∙ ap data_of same
-other f isnt (Err d) t e = absurd cc
-
--- and with one
-listed : {X : Type 0} (f : X → ChunkTree) → ((x : X) → data_of (f x) ≡ None)
-    → (x : X) (t : ChunkTree) → t ≡ f x → None ≡ data_of t
-listed f isnt x t e = sym (ap data_of e ∙ isnt x)
-
-each : (flags : ℕ) → EachNamed (ReadsAlike flags) (table lenient flags)
-each flags =
-    (λ value t m. listed Init (λ x. refl) m.0 t m.2)
-    & (λ value t m. listed InitAck (λ x. refl) m.0 t m.2)
-    & (λ value t m. listed HeartbeatRequest (λ x. refl) m.0 t m.2)
-    & (λ value t m. listed HeartbeatAck (λ x. refl) m.0 t m.2)
-    & (λ value t m. listed Abort (λ x. refl) m.0 t m.2)
-    & (λ value t m. listed Error (λ x. refl) m.0 t m.2)
-    & (λ value t m. listed ReConfig (λ x. refl) m.0 t m.2)
-    & (λ value t m. own Data (λ c. refl) (kind.DataChunk.read flags value) t m)
-    & (λ value t m. other Sack (λ x. refl) (kind.Sack.read value) t m)
-    & (λ value t m. other Shutdown (λ x. refl) (kind.Shutdown.read value) t m)
-    & (λ value t m. other (λ _. ShutdownAck) (λ x. refl) (kind.ShutdownAck.read value) t m)
-    & (λ value t m. other CookieEcho (λ x. refl) (kind.CookieEcho.read value) t m)
-    & (λ value t m. other (λ _. CookieAck) (λ x. refl) (kind.CookieAck.read value) t m)
-    & (λ value t m. other ShutdownComplete (λ x. refl) (kind.ShutdownComplete.read flags value) t m)
-    & (λ value t m. own IData (λ c. refl) (kind.IDataChunk.read flags value) t m)
-    & (λ value t m. other ForwardTsn (λ x. refl) (kind.ForwardTsn.read value) t m)
-    & (λ value t m. other IForwardTsn (λ x. refl) (kind.IForwardTsn.read value) t m)
-    & tt
-
-unnamed_reads : (flags typ : ℕ) → IsUnnamed (table lenient flags) typ
-    → ReadsAlike flags typ (plain (λ value. map_ok Unknown (kind.Unknown.read typ flags value)))
-unnamed_reads flags typ unnamed value t m =
-    let isnt_idata = unnamed.1.1.1.1.1.1.1.1.1.1.1.1.1.1.0 in
-    rw (ne_eqb typ 0 unnamed.1.1.1.1.1.1.1.0, ne_eqb typ 64 isnt_idata)
-    (other Unknown (λ x. refl) (kind.Unknown.read typ flags value) t m)
+-- what a kind of user data reads
+own : (read : List ℕ → Result Tree Fault) (value : List ℕ) (c : Tree) → read value ≡ Ok c
+    → result_ok (read value) ≡ Some c
+own read value c e = ap result_ok e
 
 pub reads_alike : (typ flags : ℕ) (value : List ℕ) (t : ChunkTree)
     → (chunk_row lenient typ flags).means value t → read_user_data typ flags value ≡ data_of t
 reads_alike typ flags =
-    of_table (ReadsAlike flags) (table lenient flags) typ _ (each flags) (unnamed_reads flags typ)
+    of_chunk (ReadsAs flags) typ flags (search (rules, of_listed (ReadsAs flags)))
+    (assumption (own (data_at flags), own (idata_at flags)))
+    (λ isnt value u. search (rules, ne_eqb))

@@ -1,5 +1,6 @@
 pub mod Fronts
 pub mod PacketRefs
+pub mod TreeRows
 pub mod DataRows
 pub mod FieldLists
 pub mod Changes

@@ -1,4 +1,4 @@
-use Rattle.std.proofs.Common.{◌≡◌, ◌≤◌, ◌∙◌, ℕ, List, Ok, length, take, ap, sym, subst, arith}
+use Rattle.std.proofs.Common.{◌≡◌, ◌∙◌, ℕ, List, Ok, length, take, ap, sym, subst, arith}
 use Rattle.std.proofs.lemmas.List.{take_all}
 use Rattle.dcsctp_crc32c.specs.Checksum.{packet_word}
 use Rattle.dcsctp_wire.specs.Packet.{Answer, equal}
