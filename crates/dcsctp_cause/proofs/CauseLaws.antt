@@ -20,7 +20,7 @@ use Rattle.dcsctp_tlv.proofs.ReadsBack.{ReadsBack}
 use Rattle.dcsctp_tlv.proofs.KindLaws.{IsGood, back_as}
 use Rattle.dcsctp_tlv.proofs.Unpadded.{list_unpadded}
 use Rattle.dcsctp_tlv.proofs.Forms.{FormsTrees}
-use Rattle.dcsctp_tlv.proofs.Accounts.{Accounts, value_account}
+use Rattle.dcsctp_tlv.proofs.Accounts.{Accounts}
 use Rattle.dcsctp_tlv.proofs.Counts.{Counts, one_each}
 use Rattle.dcsctp_cause.specs.Text.{item_code}
 use Rattle.dcsctp_cause.specs.Cause.{CauseTree, MissingMandatoryParameter, UnrecognizedChunk, NoUserData, CookieReceivedWhileShuttingDown, UserInitiatedAbort, ProtocolViolation, Unknown, table, row, causes, format, tlv, IsInWidth, IsWellFormed, HoldsText, IsTextKept}
