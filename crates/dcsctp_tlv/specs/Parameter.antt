@@ -86,18 +86,8 @@ text t = (format t).text
 
 -- the parameter that is written for a parameter
 abbrev pub kept : ParameterTree → ParameterTree
-kept (HeartbeatInfo info) = HeartbeatInfo info
-kept (StateCookie cookie) = StateCookie cookie
-kept (OutgoingSsnResetRequest r) = OutgoingSsnResetRequest r
-kept (IncomingSsnResetRequest r) = IncomingSsnResetRequest r
-kept (SsnTsnResetRequest request) = SsnTsnResetRequest request
 kept (ReconfigurationResponse r) = ReconfigurationResponse (kind.ReconfigurationResponse.kept r)
-kept (AddOutgoingStreamsRequest r) = AddOutgoingStreamsRequest r
-kept (AddIncomingStreamsRequest r) = AddIncomingStreamsRequest r
-kept (ZeroChecksumAcceptable method) = ZeroChecksumAcceptable method
-kept (SupportedExtensions types) = SupportedExtensions types
-kept ForwardTsnSupported = ForwardTsnSupported
-kept (Unknown u) = Unknown u
+kept t = t
 
 abbrev pub all_kept : List ParameterTree → List ParameterTree
 all_kept ts = map kept ts
