@@ -59,9 +59,8 @@ sized_laws {T} size meaning format bytes same long again formed =
 pub sized_keeps : {T : Type 0} (size : ℕ) (meaning : ℕ → ℕ → List ℕ → T) (format : T → Format)
     → ((t : T) → size_of (format t).tlv ≡ 4 + size) → TypedKeeps (read_sized size meaning) format
 sized_keeps size meaning format written first second value t e =
-    let read = Ok (meaning first second value) in
-    written t ∙ ap (λ (n : ℕ). 4 + n)
-    (sym (eqb-true (length value) size (passed (length value == size) read Length t e).0))
+    let whole = passed (length value == size) (Ok (meaning first second value)) Length t e in
+    rw (written t, eqb-true (length value) size whole.0) refl
 
 -- a number of four bytes
 abbrev read_number : ℕ → ℕ → List ℕ → Result ℕ Fault
@@ -145,13 +144,12 @@ module _ {T A : Type 0} (place size : ℕ) (read : List ℕ → A) (make : List 
         let n = count_after place size (bytes t) in
         let rest = flat_map write (laws.list t) in
         let count : n ≡ length (laws.list t) =
-        ap (λ (k : ℕ). (k - place) / size) (length-bytes t) ∙ laws.counted (length (laws.list t)) in
-        let whole : length (bytes t) ≡ place + size * n =
-        length-bytes t ∙ ap (λ (k : ℕ). place + size * k) (sym count) in
+        rw (length-bytes t) (laws.counted (length (laws.list t))) in
+        let whole : length (bytes t) ≡ place + size * n = rw count (length-bytes t) in
         let list_is : fields read size n (drop place (bytes t)) ≡ laws.list t =
-        ap (fields read size n) (drop_at (laws.leading t) rest place (laws.placed t))
-        ∙ last_fields_back read write size IsWritable laws.law (laws.list t) n count
-        (laws.writable t width form) in
+        rw (drop_at (laws.leading t) rest place (laws.placed t))
+        (last_fields_back read write size IsWritable laws.law (laws.list t) n count
+        (laws.writable t width form)) in
         rw (eq-eqb (length (bytes t)) (place + size * n) whole, list_is)
         (ap (λ (x : T). Ok x) (laws.made t rest width))
 
@@ -179,5 +177,4 @@ module _ {T A : Type 0} (place size : ℕ) (read : List ℕ → A) (make : List 
         let count : length (laws.list t) ≡ n =
         ap (λ (x : T). length (laws.list x)) (sym of.1) ∙ ap length (laws.kept value _)
         ∙ length-fields read size n (drop place value) in
-        laws.written t ∙ ap (λ (k : ℕ). 4 + (place + size * k)) count
-        ∙ ap (λ (k : ℕ). 4 + k) (sym of.0)
+        rw (laws.written t, count, ← of.0) refl
