@@ -56,8 +56,6 @@ items_account : {T : Type 0} (level : Level T) (tlv : T → Tlv) (IsKept : Item 
     → AreFormed level.padding is → ItemsMean level is ts → AllByRecursion IsKept is
     → SameSpace (list_size tlv ts) (length (flat_map item_bytes is))
 items_account level tlv IsKept law [] [] p m k = same_size 0 0 refl
-items_account level tlv IsKept law [] (t ∷ ts) p m k = absurd m
-items_account level tlv IsKept law (i ∷ is) [] p m k = absurd m
 items_account level tlv IsKept law (i ∷ []) (t ∷ []) p m k =
     let e : length (item_bytes i ++ []) ≡ 4 + (length i.value + length i.padding) =
     ap length (append-nil (item_bytes i)) ∙ length-item i in
@@ -73,6 +71,7 @@ items_account level tlv IsKept law (i ∷ j ∷ is) (t ∷ u ∷ ts) p m k =
     (before_others (size_of (tlv t)) (length i.value) (length i.padding) (list_size tlv (u ∷ ts))
     (length rest) (law.sized i t k.0 m.0) p.0.padded (items_account level tlv IsKept law
     (j ∷ is) (u ∷ ts) p.1 m.1 k.1))
+items_account level tlv IsKept law is ts p m k = absurd m
 
 pub list_account : {T : Type 0} (level : Level T) (tlv : T → Tlv) (IsKept : Item → Type 0)
     → Accounts level tlv IsKept → (bytes : List ℕ) (ts : List T) (m : MeansTrees level bytes ts)

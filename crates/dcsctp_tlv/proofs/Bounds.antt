@@ -35,8 +35,6 @@ items_bound : {T : Type 0} (level : Level T) (held : T → ℕ) (more : ℕ) →
     → (is : List Item) (ts : List T) → AreFormed level.padding is → ItemsMean level is ts
     → list_held held ts ≤ 6 * length (flat_map item_bytes is) + more
 items_bound level held more law [] [] p m = omega arith
-items_bound level held more law [] (t ∷ ts) p m = absurd m
-items_bound level held more law (i ∷ is) [] p m = absurd m
 items_bound level held more law (i ∷ []) (t ∷ []) p m =
     let e : length (item_bytes i ++ []) ≡ 4 + (length i.value + length i.padding) =
     ap length (append-nil (item_bytes i)) ∙ length-item i in
@@ -48,6 +46,7 @@ items_bound level held more law (i ∷ j ∷ is) (t ∷ u ∷ ts) p m =
     let e = length-append (item_bytes i) rest ∙ ap (λ (n : ℕ). n + length rest) (length-item i) in
     let others = items_bound level held more law (j ∷ is) (u ∷ ts) p.1 m.1 in
     omega (arith, law.padded i t m.0, p.0.padded, others, e)
+items_bound level held more law is ts p m = absurd m
 
 pub list_bound : {T : Type 0} (level : Level T) (held : T → ℕ) (more : ℕ) → Bounds level held more
     → (bytes : List ℕ) (ts : List T) → MeansTrees level bytes ts

@@ -209,6 +209,5 @@ no_trees level bytes trees e m =
 pub as_many : {T : Type 0} (level : Level T) (items : List Item) (trees : List T)
     → ItemsMean level items trees → length items ≡ length trees
 as_many level [] [] m = refl
-as_many level [] (t ∷ ts) m = absurd m
-as_many level (i ∷ is) [] m = absurd m
 as_many level (i ∷ is) (t ∷ ts) m = ap suc (as_many level is ts m.1)
+as_many level is ts m = absurd m

@@ -20,14 +20,13 @@ items_count : {T : Type 0} (level : Level T) (count : T → ℕ) → Counts leve
     → (is : List Item) (ts : List T) → ItemsMean level is ts
     → 4 * total count ts ≤ length (flat_map item_bytes is)
 items_count level count law [] [] m = omega arith
-items_count level count law [] (t ∷ ts) m = absurd m
-items_count level count law (i ∷ is) [] m = absurd m
 items_count level count law (i ∷ is) (t ∷ ts) m =
     let whole = length-append (item_bytes i) (flat_map item_bytes is) in
     let item = length-item i in
     let here = law.bound i t m.0 in
     let rest = items_count level count law is ts m.1 in
     omega (arith, here, rest, whole, item)
+items_count level count law is ts m = absurd m
 
 pub list_count : {T : Type 0} (level : Level T) (count : T → ℕ) → Counts level count
     → (bytes : List ℕ) (ts : List T) → MeansTrees level bytes ts → 4 * total count ts ≤ length bytes

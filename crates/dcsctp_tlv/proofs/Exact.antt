@@ -64,8 +64,7 @@ error_one d e h = absurd cc
 
 pub no_memory : (e : Fault) → error_of e ≡ OutOfMemory → ⊥
 no_memory Length h = cc
-no_memory Padding h = cc
-no_memory Value h = cc
+no_memory e h = cc
 
 pub reading_distinct : Distinct reading
 reading_distinct = record { one = error_one; apart = no_memory }

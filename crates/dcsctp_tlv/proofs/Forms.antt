@@ -38,10 +38,9 @@ plain_forms {X} {T} {IsKept} {read} laws tree IsFormed first second law value t 
 items_form : {T : Type 0} (level : Level T) (IsFormed : T → Type 0) → FormsTrees level IsFormed
     → (is : List Item) (ts : List T) → ItemsMean level is ts → AllByRecursion IsFormed ts
 items_form level IsFormed forms [] [] m = tt
-items_form level IsFormed forms [] (t ∷ ts) m = absurd m
-items_form level IsFormed forms (i ∷ is) [] m = absurd m
 items_form level IsFormed forms (i ∷ is) (t ∷ ts) m =
     (forms.formed i.first i.second i.value t m.0, items_form level IsFormed forms is ts m.1)
+items_form level IsFormed forms is ts m = absurd m
 
 pub list_formed : {T : Type 0} (level : Level T) (IsFormed : T → Type 0) → FormsTrees level IsFormed
     → (bytes : List ℕ) (ts : List T) → MeansTrees level bytes ts → AllByRecursion IsFormed ts

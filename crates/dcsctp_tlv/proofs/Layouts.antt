@@ -128,13 +128,12 @@ module _ {T A : Type 0} (place size : ℕ) (read : List ℕ → A) (make : List 
         let n = count_after place size (bytes t) in
         let rest = flat_map write (laws.list t) in
         let count : n ≡ length (laws.list t) =
-        ap (λ (k : ℕ). (k - place) / size) (length-bytes t) ∙ laws.counted (length (laws.list t)) in
-        let whole : length (bytes t) ≡ place + size * n =
-        length-bytes t ∙ ap (λ (k : ℕ). place + size * k) (sym count) in
+        rw (length-bytes t) (laws.counted (length (laws.list t))) in
+        let whole : length (bytes t) ≡ place + size * n = rw count (length-bytes t) in
         let list_is : fields read size n (drop place (bytes t)) ≡ laws.list t =
-        ap (fields read size n) (drop_at (laws.leading t) rest place (laws.placed t))
-        ∙ last_fields_back read write size IsWritable laws.law (laws.list t) n count
-        (laws.writable t width form) in
+        rw (drop_at (laws.leading t) rest place (laws.placed t))
+        (last_fields_back read write size IsWritable laws.law (laws.list t) n count
+        (laws.writable t width form)) in
         rw (eq-eqb (length (bytes t)) (place + size * n) whole, list_is)
         (ap (λ (x : T). Ok x) (laws.made t rest width))
 

@@ -34,9 +34,8 @@ module _ {T : Type 0} (level loose : Level T) (law : Loosens level loose) where
 
   mean : (is : List Item) (ts : List T) → ItemsMean level is ts → ItemsMean loose is ts
   mean [] [] m = tt
-  mean [] (t ∷ ts) m = absurd m
-  mean (i ∷ is) [] m = absurd m
   mean (i ∷ is) (t ∷ ts) m = (law.row i.first i.second i.value t m.0, mean is ts m.1)
+  mean is ts m = absurd m
 
   pub list_looser : (bytes : List ℕ) (ts : List T) → MeansTrees level bytes ts
       → MeansTrees loose bytes ts

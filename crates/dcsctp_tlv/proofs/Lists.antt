@@ -27,9 +27,8 @@ mean_push : {T : Type 0} (level : Level T) (is : List Item) (ts : List T) (i : I
     → ItemsMean level is ts → (level.row i.first i.second).means i.value t
     → ItemsMean level (is ++ i ∷ []) (ts ++ t ∷ [])
 mean_push level [] [] i t p q = (q, tt)
-mean_push level [] (u ∷ ts) i t p q = absurd p
-mean_push level (j ∷ is) [] i t p q = absurd p
 mean_push level (j ∷ is) (u ∷ ts) i t p q = (p.0, mean_push level is ts i t p.1 q)
+mean_push level is ts i t p q = absurd p
 
 pub step : {T : Type 0} (level : Level T) (bytes : List ℕ) (trees : List T) (rest : List ℕ) (t : T)
     → Progress level bytes trees rest → BeginsWithFrame rest

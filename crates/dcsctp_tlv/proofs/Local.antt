@@ -56,9 +56,8 @@ module _ {T : Type 0} (level : Level T) where
   mean_after : (is js : List Item) (ts us : List T) → ItemsMean level is ts → ItemsMean level js us
       → ItemsMean level (is ++ js) (ts ++ us)
   mean_after [] js [] us m n = n
-  mean_after [] js (t ∷ ts) us m n = absurd m
-  mean_after (i ∷ is) js [] us m n = absurd m
   mean_after (i ∷ is) js (t ∷ ts) us m n = (m.0, mean_after is js ts us m.1 n)
+  mean_after is js ts us m n = absurd m
 
   whole_items : (front : List ℕ) (ts : List T) (m : MeansTrees level front ts)
       → length front % 4 ≡ 0 → AllByRecursion (IsWhole level.padding) m.items

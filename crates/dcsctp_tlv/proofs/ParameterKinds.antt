@@ -21,7 +21,7 @@ use Rattle.dcsctp_tlv.specs.AddStreamsRequest as add_streams
 use Rattle.dcsctp_tlv.specs.ReconfigurationResponse as response
 use Rattle.dcsctp_tlv.specs.ReconfigurationResponse.{result_of, result_number, response_with, next_tsns}
 use Rattle.dcsctp_tlv.specs.declared.parameter.reconfiguration_response_parameter.ReconfigurationResponseResult.{ReconfigurationResponseResult}
-use Rattle.dcsctp_tlv.specs.declared.parameter.reconfiguration_response_parameter.ReconfigurationResponseResult.TheVariants.{SuccessNothingToDo, SuccessPerformed, Denied, ErrorWrongSSN, ErrorRequestAlreadyInProgress, ErrorBadSequenceNumber, InProgress}
+use Rattle.dcsctp_tlv.specs.declared.parameter.reconfiguration_response_parameter.ReconfigurationResponseResult.TheVariants.{SuccessNothingToDo}
 use Rattle.dcsctp_tlv.proofs.KindLaws.{of_ok, of_map_ok, chosen, passed}
 use Rattle.dcsctp_tlv.proofs.FormatLaws.{FormatLaws, format_laws}
 use Rattle.dcsctp_tlv.proofs.FieldLaws.{number16_law}
@@ -153,21 +153,11 @@ incoming_laws = fields_laws 4 2 number16 incoming_with _ _ _ incoming_fields
 
 result_back : (x : ReconfigurationResponseResult) → result_of (result_number x) ≡ Ok x
 result_back SuccessNothingToDo = refl
-result_back SuccessPerformed = refl
-result_back Denied = refl
-result_back ErrorWrongSSN = refl
-result_back ErrorRequestAlreadyInProgress = refl
-result_back ErrorBadSequenceNumber = refl
-result_back InProgress = refl
+result_back x = refl
 
 result_fits : (x : ReconfigurationResponseResult) → result_number x < 2 ^ 32
 result_fits SuccessNothingToDo = omega arith
-result_fits SuccessPerformed = omega arith
-result_fits Denied = omega arith
-result_fits ErrorWrongSSN = omega arith
-result_fits ErrorRequestAlreadyInProgress = omega arith
-result_fits ErrorBadSequenceNumber = omega arith
-result_fits InProgress = omega arith
+result_fits x = omega arith
 
 abbrev response_of : ℕ → ReconfigurationResponseResult → Option ℕ → Option ℕ → response.Tree
 response_of n x s r =
