@@ -8,7 +8,7 @@ use Rattle.std.proofs.lemmas.List.Elements.{All-contains}
 use Rattle.dcsctp_chunk.specs.declared.sack_chunk.GapAckBlock.{GapAckBlock}
 use Rattle.dcsctp_chunk.specs.Apart.{IsApart, AreRunsOf, covered}
 use Rattle.dcsctp_chunk.specs.Cover.{Covers, SameCover, IsInside, IsRun, IsRuns, IsCleaned, HasBlockInEach, AreValid}
-use Rattle.dcsctp_chunk.proofs.Covers.{Blocks, zero_block, covers, cover_reversed, cover_join, join, cover_same}
+use Rattle.dcsctp_chunk.proofs.Covers.{Blocks, zero_block, covers, cover_cons, cover_reversed, cover_join, join, cover_same}
 use Rattle.dcsctp_chunk.proofs.Apart.{apart_at, apart_far, apart_first, apart_weaker}
 
 -- two of them that overlap or touch are one
@@ -113,17 +113,6 @@ rising_head b r bs h t = grind (arith, h 0 (suc t.0) r, t.2)
 rising_tail : (b : GapAckBlock) (bs : Blocks) → IsRising (b ∷ bs) → IsRising bs
 rising_tail b bs h i j d l m = h (suc i) (suc j) d (omega arith) (omega arith)
 
-same_heads : (r s : GapAckBlock) (rs ss : Blocks) → IsRising (r ∷ rs) → IsRising (s ∷ ss)
-    → Contains (s ∷ ss) r → Contains (r ∷ rs) s → r ≡ s
-same_heads r s rs ss h k t u =
-    grind (
-      arith,
-      contains_at s r ss t.0 t.1 t.2,
-      contains_at r s rs u.0 u.1 u.2,
-      rising_head r s rs h,
-      rising_head s r ss k,
-    )
-
 tail_within : (r s : GapAckBlock) (rs ss : Blocks) → r ≡ s → IsRising (r ∷ rs)
     → ((x : GapAckBlock) → Contains (r ∷ rs) x → Contains (s ∷ ss) x) → (x : GapAckBlock)
     → Contains rs x → Contains ss x
@@ -138,8 +127,16 @@ same_from_rising [] [] h k f g = refl
 same_from_rising [] (s ∷ ss) h k f g = absurd (omega (arith, (g s (0, omega arith, refl)).1))
 same_from_rising (r ∷ rs) [] h k f g = absurd (omega (arith, (f r (0, omega arith, refl)).1))
 same_from_rising (r ∷ rs) (s ∷ ss) h k f g =
-    let e = same_heads r s rs ss h k (f r (0, omega arith, refl)) (g s (0, omega arith, refl)) in
-    let t =
+    let t = f r (0, omega arith, refl) in
+    let u = g s (0, omega arith, refl) in
+    let e : r ≡ s = grind (
+      arith,
+      contains_at s r ss t.0 t.1 t.2,
+      contains_at r s rs u.0 u.1 u.2,
+      rising_head r s rs h,
+      rising_head s r ss k,
+    ) in
+    let rest =
     same_from_rising rs ss (rising_tail r rs h) (rising_tail s ss k)
     (tail_within r s rs ss e h f) (tail_within s r ss rs (sym e) k g) in
     cc
@@ -161,18 +158,14 @@ block_in_each n rs bs a e r t =
     (λ o l m. (e o).1 (c.0, c.1, (l, m))) in
     (c.0, c.1, w.0, omega arith, w.1)
 
--- the runs of the blocks, all from n on
+-- the blocks have runs, which start at n or later and are as few
 record HasRuns (n : ℕ) (bs : Blocks) : Type 0 where
   runs : Blocks
   apart : IsApart n runs
   cover : covered runs ≡ covered bs
   count : length runs ≤ length bs
 
-behind : (b r : GapAckBlock) (rs ts : Blocks) → covered ts ≡ covered (b ∷ rs)
-    → covered (r ∷ ts) ≡ covered (b ∷ r ∷ rs)
-behind b r rs ts e = grind (arith, covers)
-
--- of runs and one more block
+-- runs and one more block do
 with_one : (n : ℕ) (b : GapAckBlock) (rs : Blocks) → b.start ≤ b.end → n ≤ b.start → IsApart n rs
     → HasRuns n (b ∷ rs)
 with_one n b [] some l a =
@@ -183,12 +176,11 @@ with_one n b (r ∷ rs) some l a =
     elim (cases_lt (r.end + 1) b.start) [
       | inl k ↦
           let t = with_one (r.end + 2) b rs some (omega arith) a.2 in
-          let count = t.count in
           record {
             runs = r ∷ t.runs;
             apart = (low, more, t.apart);
-            cover = behind b r rs t.runs t.cover;
-            count = omega arith;
+            cover = grind (arith, covers, t.cover);
+            count = omega (arith, t.count);
           }
       | inr k ↦ elim (cases_lt (b.end + 1) r.start) [
         | inl m ↦ record {
@@ -200,40 +192,33 @@ with_one n b (r ∷ rs) some l a =
         | inr m ↦
             let rest = apart_weaker n (r.end + 2) rs (omega arith) a.2 in
             let t = with_one n (join b r) rs (omega arith) (omega arith) rest in
-            let count = t.count in
             record {
               runs = t.runs;
               apart = t.apart;
               cover = t.cover ∙ cover_join b r rs some more m k;
-              count = omega arith;
+              count = omega (arith, t.count);
             }
       ]
     ]
-
-one_more : (b : GapAckBlock) (bs rs : Blocks) → covered rs ≡ covered bs
-    → covered (b ∷ rs) ≡ covered (b ∷ bs)
-one_more b bs rs e = grind (arith, covers)
 
 runs_of : (bs : Blocks) → HasRuns 0 bs
 runs_of [] = record { runs = []; apart = tt; cover = refl; count = omega arith }
 runs_of (b ∷ bs) =
     let t = runs_of bs in
-    let count = t.count in
     elim (cases_lt b.end b.start) [
       | inl l ↦ record {
         runs = t.runs;
         apart = t.apart;
         cover = t.cover ∙ sym (cover_reversed b bs l);
-        count = omega arith;
+        count = omega (arith, t.count);
       }
       | inr some ↦
           let p = with_one 0 b t.runs some (omega arith) t.apart in
-          let more = p.count in
           record {
             runs = p.runs;
             apart = p.apart;
-            cover = p.cover ∙ one_more b bs t.runs t.cover;
-            count = omega arith;
+            cover = grind (arith, cover_cons, p.cover, t.cover);
+            count = omega (arith, p.count, t.count);
           }
     ]
 
@@ -241,7 +226,7 @@ runs_from_cover : (rs bs : Blocks) → AreRunsOf rs bs → IsRuns rs (Covers bs)
 runs_from_cover rs bs are =
     runs_of_same rs bs rs (cover_same rs bs are.cover) (runs_from_apart 0 rs are.apart)
 
--- and back; and they are as few
+-- what are the runs lies apart and covers the same, and is as few
 known_runs : (rs bs : Blocks) → IsRuns rs (Covers bs) → AreRunsOf rs bs × (length rs ≤ length bs)
 known_runs rs bs h =
     let t = runs_of bs in

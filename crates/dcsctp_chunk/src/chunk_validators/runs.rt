@@ -215,6 +215,7 @@ fn is_past(run: GapAckBlock, block: GapAckBlock) -> bool
 }
 
 /// Moves `count` runs to the gap's other side.
+#[tactic(auto, using(crate::proofs::Placed::lifted))]
 fn lift(runs: &mut [GapAckBlock], gap: Gap, count: usize) -> Gap
     requires some { 0 < count }
     requires count { count ≤ gap.low }

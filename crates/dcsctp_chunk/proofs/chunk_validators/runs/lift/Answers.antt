@@ -3,9 +3,6 @@ use Rattle.dcsctp_chunk.proofs.Apart.{past_gap}
 use Rattle.dcsctp_chunk.proofs.Placed.{lifted}
 use Rattle.dcsctp_chunk.proofs.chunk_validators.runs.lift.Goals as goal
 
-pub returns-clause-runs : goal.returns-clause-runs
-returns-clause-runs c = grind (arith, lifted)
-
 pub returns-clause-from : goal.returns-clause-from
 returns-clause-from c n d l =
     let gap = c.args.gap in
