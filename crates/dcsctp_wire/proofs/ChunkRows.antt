@@ -84,7 +84,7 @@ plain_counted tree read one value t e =
 
 -- What computing shows of each: it is written and well-formed as its own format says, it has one
 -- part, and both tables have the same row.
-record PlainKind {X : Type 0} (flags typ : ℕ) (read : ℕ → ℕ → List ℕ → Result X Fault)
+record PlainFacts {X : Type 0} (flags typ : ℕ) (read : ℕ → ℕ → List ℕ → Result X Fault)
     (tlv : X → Tlv) (IsFormed : X → Type 0) (tree : X → ChunkTree) : Type 0 where
   pub written : (x : X) → chunk_tlv (tree x) ≡ tlv x
   pub formed : (x : X) → IsFormed x → IsChunkWellFormed (tree x)
@@ -94,7 +94,7 @@ record PlainKind {X : Type 0} (flags typ : ℕ) (read : ℕ → ℕ → List ℕ
 plain_kind : {X : Type 0} {read : ℕ → ℕ → List ℕ → Result X Fault} {tlv : X → Tlv}
     {IsInWidth IsFormed : X → Type 0} (strict : Bool) (flags typ : ℕ) (tree : X → ChunkTree)
     → KindLaws read tlv IsInWidth IsFormed → KeepsSize read tlv
-    → PlainKind flags typ read tlv IsFormed tree
+    → PlainFacts flags typ read tlv IsFormed tree
     → RowLaws strict flags typ (plain (λ v. map_ok tree (read typ flags v)))
 plain_kind {X} {read} strict flags typ tree laws keeps shown = record {
   lawful = plain_lawful _;
@@ -111,7 +111,7 @@ plain_kind {X} {read} strict flags typ tree laws keeps shown = record {
 
 -- What is shown of each: where its list begins; that it is written and well-formed as its items
 -- are; that both tables have the same row.
-record ListKind {U X : Type 0} (flags typ place : ℕ) (level : Bool → Level U) (format : U → Format)
+record ListFacts {U X : Type 0} (flags typ place : ℕ) (level : Bool → Level U) (format : U → Format)
     (AreKept : List ℕ → Type 0) (rule : List ℕ → Bool) (tree_of : List ℕ → List U → X)
     (tree : X → ChunkTree) : Type 0 where
   pub words : place % 4 ≡ 0
@@ -130,7 +130,7 @@ record ListKind {U X : Type 0} (flags typ place : ℕ) (level : Bool → Level U
 module _ {U X : Type 0} {level : Bool → Level U} {format : U → Format} {AreKept : List ℕ → Type 0}
     {rule : List ℕ → Bool} {tree_of : List ℕ → List U → X} (strict : Bool) (flags typ place : ℕ)
     (tree : X → ChunkTree) (items : ItemLaws level format AreKept)
-    (shown : ListKind flags typ place level format AreKept rule tree_of tree)
+    (shown : ListFacts flags typ place level format AreKept rule tree_of tree)
   where
     abbrev row : Bool → Row X
     row s = listed rule place (level s) tree_of
