@@ -85,7 +85,7 @@ plain_counted tree read one value t e =
 
 -- What computing shows of each: it is written and well-formed as its own format says, it has one
 -- part, and both tables have the same row.
-record PlainKind {X : Type 0} (flags typ : ℕ) (read : ℕ → ℕ → List ℕ → Result X Fault)
+record PlainFacts {X : Type 0} (flags typ : ℕ) (read : ℕ → ℕ → List ℕ → Result X Fault)
     (format : X → Format) (tree : X → ChunkTree) : Type 0 where
   pub written : (x : X) → chunk_tlv (tree x) ≡ (format x).tlv
   pub formed : (x : X) → (format x).IsWellFormed → IsChunkWellFormed (tree x)
@@ -94,7 +94,7 @@ record PlainKind {X : Type 0} (flags typ : ℕ) (read : ℕ → ℕ → List ℕ
 
 plain_kind : {X : Type 0} {read : ℕ → ℕ → List ℕ → Result X Fault} {format : X → Format}
     (strict : Bool) (flags typ : ℕ) (tree : X → ChunkTree) → TypedLaws read format
-    → PlainKind flags typ read format tree
+    → PlainFacts flags typ read format tree
     → RowLaws strict flags typ (plain (λ v. map_ok tree (read typ flags v)))
 plain_kind {X} {read} strict flags typ tree laws shown = record {
   lawful = plain_lawful _;
@@ -111,7 +111,7 @@ plain_kind {X} {read} strict flags typ tree laws shown = record {
 
 -- What is shown of each: where its list begins; that it is written and well-formed as its items
 -- are; that both tables have the same row.
-record ListKind {U X : Type 0} (flags typ place : ℕ) (level : Bool → Level U) (format : U → Format)
+record ListFacts {U X : Type 0} (flags typ place : ℕ) (level : Bool → Level U) (format : U → Format)
     (AreKept : List ℕ → Type 0) (rule : List ℕ → Bool) (tree_of : List ℕ → List U → X)
     (tree : X → ChunkTree) : Type 0 where
   pub words : place % 4 ≡ 0
@@ -130,7 +130,7 @@ record ListKind {U X : Type 0} (flags typ place : ℕ) (level : Bool → Level U
 module _ {U X : Type 0} {level : Bool → Level U} {format : U → Format} {AreKept : List ℕ → Type 0}
     {rule : List ℕ → Bool} {tree_of : List ℕ → List U → X} (strict : Bool) (flags typ place : ℕ)
     (tree : X → ChunkTree) (items : ItemLaws level format AreKept)
-    (shown : ListKind flags typ place level format AreKept rule tree_of tree)
+    (shown : ListFacts flags typ place level format AreKept rule tree_of tree)
   where
     abbrev row : Bool → Row X
     row s = listed rule place (level s) tree_of
