@@ -77,6 +77,7 @@ fn gather(blocks: &mut [GapAckBlock]) -> usize
 
 /// Turns the blocks round where the first starts after the last: of falling blocks each then
 /// starts after the one before it.
+#[tactic(auto, using(crate::proofs::Covers::cover_permutation))]
 fn turn_falling(blocks: &mut [GapAckBlock])
     ensures { covered blocks.new ≡ covered blocks.old }
 {
