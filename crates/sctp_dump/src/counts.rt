@@ -196,6 +196,7 @@ fn increase(count: &mut u64)
 /// The name of the kind of chunk that has this type; nothing for a type that no kind has.
 fn kind_name(typ: usize) -> Option<&'static str>
     ensures unnamed { result ≡ None → IsUnnamed (table lenient 0) typ }
+    ensures named { IsUnnamed (table lenient 0) typ → result ≡ None }
 {
     match typ {
         0 => Some("DATA"),
