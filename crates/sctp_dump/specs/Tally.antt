@@ -1,8 +1,7 @@
 -- What is counted.
 use Rattle.std.specs.Prelude.{ℕ, List, fold, slice_index, slice_set}
 use Rattle.dcsctp_wire.specs.ChunkParseError.TheVariants.{InvalidPadding, InvalidValue}
-use Rattle.dcsctp_wire.specs.Chunk.{ChunkTree}
-use Rattle.dcsctp_wire.specs.Chunk as chunk
+use Rattle.dcsctp_wire.specs.Chunk.{ChunkTree, tlv}
 use Rattle.dcsctp_wire.specs.declared.packet.sctp_packet.PacketParseError.{PacketParseError}
 use Rattle.dcsctp_wire.specs.declared.packet.sctp_packet.PacketParseError.TheVariants.{FailedParseChunk}
 use Rattle.sctp_dump.specs.Counts.{one_more}
@@ -20,29 +19,10 @@ pub data Tally : Type 0 where
 
 -- ---- what is counted
 
--- the place of a chunk's kind among the counts of kinds
-abbrev pub kind_of : ChunkTree → ℕ
-kind_of (chunk.Data c) = 0
-kind_of (chunk.Init c) = 1
-kind_of (chunk.InitAck c) = 2
-kind_of (chunk.Sack c) = 3
-kind_of (chunk.HeartbeatRequest c) = 4
-kind_of (chunk.HeartbeatAck c) = 5
-kind_of (chunk.Abort c) = 6
-kind_of (chunk.Shutdown c) = 7
-kind_of chunk.ShutdownAck = 8
-kind_of (chunk.Error c) = 9
-kind_of (chunk.CookieEcho c) = 10
-kind_of chunk.CookieAck = 11
-kind_of (chunk.ShutdownComplete c) = 12
-kind_of (chunk.IData c) = 13
-kind_of (chunk.ReConfig c) = 14
-kind_of (chunk.ForwardTsn c) = 15
-kind_of (chunk.IForwardTsn c) = 16
-kind_of (chunk.Unknown c) = 17
-
+-- one chunk more of its type, where there is a count for each type
 abbrev pub with_kind : List ℕ → ChunkTree → List ℕ
-with_kind kinds c = slice_set kinds (kind_of c) (one_more (slice_index kinds (kind_of c)))
+with_kind kinds c =
+    slice_set kinds (tlv c).first (one_more (slice_index kinds (tlv c).first))
 
 -- the first fault is of the size, or in a chunk: of its padding, of a value, or else of a length
 abbrev pub refused_by : Counts → PacketParseError → Counts

@@ -1,9 +1,11 @@
 //! How many packets there were.
 
-ghost use Rattle.std.specs.Prelude.{◌≡◌, ◌<◌};
-ghost use Rattle.dcsctp_wire.specs.Chunk.{view, views};
+ghost use Rattle.std.specs.Prelude.{◌≡◌, None};
+ghost use Rattle.dcsctp_tlv.specs.Frame.{lenient};
+ghost use Rattle.dcsctp_tlv.specs.Table.{IsUnnamed};
+ghost use Rattle.dcsctp_wire.specs.Chunk.{table, view, views};
 ghost use Rattle.sctp_dump.specs.Counts.{one_more};
-ghost use Rattle.sctp_dump.specs.Tally.{Accepted, Refused, Skip, kind_of, with_kind, counted};
+ghost use Rattle.sctp_dump.specs.Tally.{Accepted, Refused, Skip, with_kind, counted};
 ghost use Rattle.sctp_dump.specs.Totals.{packets, refused, skipped};
 
 use crate::arguments::Options;
@@ -13,28 +15,6 @@ use dcsctp_wire::packet::chunk::Chunk;
 use dcsctp_wire::packet::sctp_packet::PacketParseError;
 use std::alloc::AllocError;
 use std::fmt;
-
-/// The names of the kinds of chunk, in the order of their types.
-const KINDS: [&str; 18] = [
-    "DATA",
-    "INIT",
-    "INIT ACK",
-    "SACK",
-    "HEARTBEAT",
-    "HEARTBEAT ACK",
-    "ABORT",
-    "SHUTDOWN",
-    "SHUTDOWN ACK",
-    "ERROR",
-    "COOKIE ECHO",
-    "COOKIE ACK",
-    "SHUTDOWN COMPLETE",
-    "I-DATA",
-    "RE-CONFIG",
-    "FORWARD-TSN",
-    "I-FORWARD-TSN",
-    "unknown",
-];
 
 /// How many packets, chunks and other records there were, up to 2^64 - 1 each.
 #[derive(Drop)]
@@ -50,7 +30,8 @@ pub struct Counts {
     long: u64,
     unknown: u64,
     others: u64,
-    kinds: [u64; 18],
+    // chunks of each type
+    kinds: [u64; 256],
 }
 
 impl Counts {
@@ -68,7 +49,7 @@ impl Counts {
             long: 0,
             unknown: 0,
             others: 0,
-            kinds: [0; 18],
+            kinds: [0; 256],
         }
     }
 
@@ -115,7 +96,7 @@ impl Counts {
     fn count_kind(&mut self, chunk: &Chunk)
         ensures { self.new ≡ record self.old { kinds = with_kind self.old.kinds (view chunk.now) } }
     {
-        increase(&mut self.kinds[kind_of(chunk)]);
+        increase(&mut self.kinds[usize::from(chunk.chunk_type())]);
     }
 
     /// Counts a packet that was refused.
@@ -154,16 +135,25 @@ impl Counts {
         }
     }
 
-    /// Adds a line for each kind of chunk that there was.
+    /// Adds a line for each kind of chunk that there was, and one for all of other types.
     fn push_kinds(&self, text: &mut String) -> Result<(), AllocError> {
-        for (kind, count) in self.kinds.iter().enumerate() {
-            let (name, count) = (KINDS[kind], *count);
-            if count > 0 {
-                writeln!(text, "{name}: {count}")?;
+        let mut unknown: u64 = 0;
+        for (typ, count) in self.kinds.iter().enumerate() {
+            match kind_name(typ) {
+                Some(name) => push_kind(name, *count, text)?,
+                None => unknown = unknown.saturating_add(*count),
             }
         }
-        Ok(())
+        push_kind("unknown", unknown, text)
     }
+}
+
+/// Adds a line for the kind, if there was a chunk of it.
+fn push_kind(name: &str, count: u64, text: &mut String) -> Result<(), AllocError> {
+    if count > 0 {
+        writeln!(text, "{name}: {count}")?;
+    }
+    Ok(())
 }
 
 /// Adds the last line, and before it a line for each kind of chunk where counts alone are printed.
@@ -203,29 +193,29 @@ fn increase(count: &mut u64)
     *count = count.saturating_add(1);
 }
 
-/// The place of a chunk's kind in `KINDS`.
-fn kind_of(chunk: &Chunk) -> usize
-    ensures place { result ≡ kind_of (view chunk.now) }
-    ensures within { result < 18 }
+/// The name of the kind of chunk that has this type; nothing for a type that no kind has.
+fn kind_name(typ: usize) -> Option<&'static str>
+    ensures unnamed { result ≡ None → IsUnnamed (table lenient 0) typ }
+    ensures named { IsUnnamed (table lenient 0) typ → result ≡ None }
 {
-    match chunk {
-        Chunk::Data(_) => 0,
-        Chunk::Init(_) => 1,
-        Chunk::InitAck(_) => 2,
-        Chunk::Sack(_) => 3,
-        Chunk::HeartbeatRequest(_) => 4,
-        Chunk::HeartbeatAck(_) => 5,
-        Chunk::Abort(_) => 6,
-        Chunk::Shutdown(_) => 7,
-        Chunk::ShutdownAck(_) => 8,
-        Chunk::Error(_) => 9,
-        Chunk::CookieEcho(_) => 10,
-        Chunk::CookieAck(_) => 11,
-        Chunk::ShutdownComplete(_) => 12,
-        Chunk::IData(_) => 13,
-        Chunk::ReConfig(_) => 14,
-        Chunk::ForwardTsn(_) => 15,
-        Chunk::IForwardTsn(_) => 16,
-        Chunk::Unknown(_) => 17,
+    match typ {
+        0 => Some("DATA"),
+        1 => Some("INIT"),
+        2 => Some("INIT ACK"),
+        3 => Some("SACK"),
+        4 => Some("HEARTBEAT"),
+        5 => Some("HEARTBEAT ACK"),
+        6 => Some("ABORT"),
+        7 => Some("SHUTDOWN"),
+        8 => Some("SHUTDOWN ACK"),
+        9 => Some("ERROR"),
+        10 => Some("COOKIE ECHO"),
+        11 => Some("COOKIE ACK"),
+        14 => Some("SHUTDOWN COMPLETE"),
+        64 => Some("I-DATA"),
+        130 => Some("RE-CONFIG"),
+        192 => Some("FORWARD-TSN"),
+        194 => Some("I-FORWARD-TSN"),
+        _ => None,
     }
 }
