@@ -110,10 +110,10 @@ data_laws =
     }))
     (λ first flags value. if_not_refused (nat_lt (length value) 12) _)
     (λ first flags value c kept is.
-        let p = not_refused (nat_lt (length value) 12) _ Length c is in
-        let payload : length (drop 12 value) ≡ length c.user_data.payload =
-        ap (λ (t : Tree). length t.user_data.payload) (of_ok _ c p.1) in
-        omega (arith, ltb-false _ _ p.0, length-drop 12 value, payload))
+    let p = not_refused (nat_lt (length value) 12) _ Length c is in
+    let payload : length (drop 12 value) ≡ length c.user_data.payload =
+    ap (λ (t : Tree). length t.user_data.payload) (of_ok _ c p.1) in
+    omega (arith, ltb-false _ _ p.0, length-drop 12 value, payload))
 
 -- what isn't carried is neither written nor read
 pub data_kept_tlv : (c : Tree)
@@ -208,10 +208,10 @@ idata_laws =
     (record { ssn = refl; fsn_or_ppid = other_number (is_set flags 1) number number })))
     (λ first flags value. if_not_refused (nat_lt (length value) 16) _)
     (λ first flags value c kept is.
-        let p = not_refused (nat_lt (length value) 16) _ Length c is in
-        let payload : length (drop 16 value) ≡ length c.user_data.payload =
-        ap (λ (t : Tree). length t.user_data.payload) (of_ok _ c p.1) in
-        omega (arith, ltb-false _ _ p.0, length-drop 16 value, payload))
+    let p = not_refused (nat_lt (length value) 16) _ Length c is in
+    let payload : length (drop 16 value) ≡ length c.user_data.payload =
+    ap (λ (t : Tree). length t.user_data.payload) (of_ok _ c p.1) in
+    omega (arith, ltb-false _ _ p.0, length-drop 16 value, payload))
 
 -- what isn't carried is neither written nor read
 pub idata_kept_tlv : (c : Tree)

@@ -2,7 +2,7 @@ use Rattle.std.proofs.Common.{◌≡◌, List, ◌∷◌, true, false, refl, sub
 use Rattle.dcsctp_chunk.specs.Apart.{IsApart}
 use Rattle.dcsctp_chunk.specs.Cover.{AreValid}
 use Rattle.dcsctp_chunk.specs.declared.sack_chunk.GapAckBlock.{GapAckBlock}
-use Rattle.dcsctp_chunk.proofs.RunsOf.{validated_runs, runs_validated}
+use Rattle.dcsctp_chunk.proofs.Runs.{valid_iff}
 use Rattle.dcsctp_borrowed.proofs.sack_ref.SackRef.validate.Goals.{then-block-via-then-block, then-block-via-else-block+then-block-least}
 use Rattle.dcsctp_borrowed.proofs.sack_ref.SackRef.validate.Goals as goal
 
@@ -13,7 +13,7 @@ returns-then-block-clause-valid c =
     let refused : AreValid bs → ⊥ = λ v.
     let here : IsApart c.loop-block.least (c.in-Some.block ∷ c.next.new.self) = subst
     (λ (left : List GapAckBlock). IsApart c.loop-block.least left) c.in-Some.ensures.steps
-    (c.loop-block.invariant.0 (runs_validated bs v)) in
+    (c.loop-block.invariant.0 ((valid_iff bs).0 v)) in
     let low = here.0 in
     let some = here.1 in
     elim c.then-block.branch [
@@ -29,4 +29,4 @@ returns-clause-valid c =
     let none : IsApart c.loop-block.least c.loop-block.block-iterator = subst
     (λ (left : List GapAckBlock). IsApart c.loop-block.least left)
     (sym c.in-None.ensures.steps.0) tt in
-    ((λ yes. validated_runs bs (c.loop-block.invariant.1 none)), (λ v. refl))
+    ((λ yes. (valid_iff bs).1 (c.loop-block.invariant.1 none)), (λ v. refl))
