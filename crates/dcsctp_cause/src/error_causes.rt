@@ -69,8 +69,8 @@ macro_rules! each_kind {
     };
 }
 
-/// For each of some codes an arm that builds a cause and does something with it; the other codes have
-/// the arms that follow.
+/// For each code that is named, an arm that builds a cause and does something with it; the other
+/// codes have the arms that follow.
 macro_rules! arms {
     (
         $code:expr, $cause:ident => $does:expr,

@@ -122,8 +122,8 @@ macro_rules! each_kind {
     };
 }
 
-/// For each of some types an arm that builds a parameter and does something with it; the other types
-/// have the arms that follow.
+/// For each type that is named, an arm that builds a parameter and does something with it; the other
+/// types have the arms that follow.
 macro_rules! arms {
     (
         $typ:expr, $parameter:ident => $does:expr,
