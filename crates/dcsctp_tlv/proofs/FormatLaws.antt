@@ -4,7 +4,7 @@ use Rattle.std.proofs.Common.{◌≡◌, ℕ, ◌+◌, ◌^◌, ◌<◌, List, [
 use Rattle.std.specs.List.{AllByRecursion}
 use Rattle.dcsctp_tlv.specs.Fault.{Fault}
 use Rattle.dcsctp_tlv.specs.Format.{Format, tlv_by}
-use Rattle.dcsctp_tlv.specs.Image.{solid, size_of, IsEncodable, list_size}
+use Rattle.dcsctp_tlv.specs.Image.{solid, IsEncodable, list_size}
 use Rattle.dcsctp_tlv.specs.Length.{length-solid}
 use Rattle.dcsctp_tlv.proofs.KindLaws.{KindLaws, IsGood, by_value}
 use Rattle.dcsctp_tlv.proofs.ReadsBack.{zeroed-solid, each_encodable}
