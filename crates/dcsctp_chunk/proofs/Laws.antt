@@ -1,5 +1,5 @@
 -- What each kind has to satisfy for the laws of its level.
-use Rattle.std.proofs.Common.{◌≡◌, ℕ, ◌+◌, ◌<◌, ◌^◌, Bool, true, false, cond, List, [], length, drop, refl, sym, ap, subst, ◌∙◌, arith, inl, inr, Ok}
+use Rattle.std.proofs.Common.{◌≡◌, ℕ, ◌<◌, ◌^◌, Bool, true, false, cond, List, [], length, drop, refl, sym, ap, subst, ◌∙◌, arith, inl, inr, Ok}
 use Rattle.std.specs.Prelude.{◌==◌, nat_lt}
 use Rattle.std.proofs.lemmas.Bool.{ltb-false, le-ltb}
 use Rattle.std.proofs.lemmas.Bool.Decides.{eqb_tells}

@@ -9,7 +9,7 @@ use Rattle.dcsctp_tlv.specs.Fault.{Fault}
 use Rattle.dcsctp_tlv.specs.Format.{Format, tlv_by}
 use Rattle.dcsctp_tlv.specs.Frame.{lenient}
 use Rattle.dcsctp_tlv.specs.Level.{Row, Level, plain, as_row, listed, map_ok, MeansTrees}
-use Rattle.dcsctp_tlv.specs.Image.{Tlv, size_of, list_size}
+use Rattle.dcsctp_tlv.specs.Image.{size_of, list_size}
 use Rattle.dcsctp_tlv.specs.Table.{IsUnnamed, ◌&◌}
 use Rattle.dcsctp_tlv.proofs.Accounts.{SameSpace, Accounts, plain_account}
 use Rattle.dcsctp_tlv.proofs.Counts.{Counts}
