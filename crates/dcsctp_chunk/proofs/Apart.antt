@@ -25,7 +25,7 @@ pub after_append : (n : ℕ) (xs ys : Blocks) → after n (xs ++ ys) ≡ after (
 after_append n [] ys = refl
 after_append n (x ∷ xs) ys = after_append (x.end + 2) xs ys
 
--- the first of them tells where they start
+-- as early as the first of them starts, they can start
 pub apart_first : (n m : ℕ) (xs : Blocks) (d : GapAckBlock) → IsApart n xs
     → (0 < length xs → m ≤ (get_or xs 0 d).start) → IsApart m xs
 apart_first n m [] d a l = tt
