@@ -10,6 +10,7 @@ Linux alone: once a second it reads /proc, so a process of less than a second is
 import collections
 import os
 import re
+import signal
 import subprocess
 import sys
 import time
@@ -20,7 +21,8 @@ PARTS = ('proof', 'tests', 'seed', 'edits')
 
 
 def provers(session):
-    """The prover's processes of the session that no other of them began: a key, the processor seconds so far, and the words."""
+    """The prover's processes of the session that no other of them began: a key, the processor seconds so far, the folder that
+    it runs in, and its words."""
     found = {}
     for pid in filter(str.isdigit, os.listdir('/proc')):
         try:
@@ -28,24 +30,27 @@ def provers(session):
                 fields = stat.read().rpartition(')')[2].split()
             if int(fields[3]) == session:
                 with open(f'/proc/{pid}/cmdline', encoding='utf-8', errors='replace') as words:
-                    found[pid] = (fields[1], (pid, fields[19]), sum(map(int, fields[11:15])) / TICKS, words.read().split('\0'))
+                    words = words.read().split('\0')
+                used = sum(map(int, fields[11:15])) / TICKS
+                found[pid] = (fields[1], (pid, fields[19]), used, os.readlink(f'/proc/{pid}/cwd'), words)
         except (OSError, ValueError):
             continue  # it has ended
-    found = {pid: it for pid, it in found.items() if os.path.basename(it[3][0]) == 'rattle'}
+    found = {pid: it for pid, it in found.items() if os.path.basename(it[4][0]) == 'rattle'}
     return [it[1:] for it in found.values() if it[0] not in found]
 
 
-def part_of(words):
-    """The crate, the part of its work, and the name of the edit, or '' for the other parts."""
+def part_of(folder, words):
+    """The crate, the part of its work, and the name of the edit, or '' where none is known."""
     after = dict(zip(words, words[1:]))
-    crate, kept = after.get('--crate-name', ''), re.search(r'/rt-edits-[^/]*/(\w+)$', after.get('--incremental', ''))
-    if not kept:
-        return crate, 'tests' if '--test' in words else 'proof', ''
-    if kept[1] == 'seed':
+    crate, kept = after.get('--crate-name', ''), re.search(r'/rt-edits-[^/]*/(seed|\d+)$', after.get('--incremental', ''))
+    if kept and kept[1] == 'seed':
         return crate, 'seed', ''
-    folder = os.path.join(ROOT, 'crates', crate, 'must-fail')
-    edits = sorted(it for it in os.listdir(folder) if it.endswith('.edit'))
-    return crate, 'edits', edits[int(kept[1])].removesuffix('.edit')
+    if kept:
+        edits = os.path.join(ROOT, 'crates', crate, 'must-fail')
+        return crate, 'edits', sorted(it for it in os.listdir(edits) if it.endswith('.edit'))[int(kept[1])].removesuffix('.edit')
+    if '/rt-edit-' in folder:
+        return crate, 'edits', ''
+    return crate, 'tests' if '--test' in words else 'proof', ''
 
 
 def main(command):
@@ -53,12 +58,16 @@ def main(command):
         sys.exit(__doc__)
     began, seconds, parts = time.monotonic(), {}, {}
     gate = subprocess.Popen(command or ['rt', 'ci'], cwd=ROOT, start_new_session=True)
-    while gate.poll() is None:
-        for key, used, words in provers(gate.pid):
-            seconds[key] = used
-            if key not in parts:
-                parts[key] = part_of(words)
-        time.sleep(1)
+    try:
+        while gate.poll() is None:
+            for key, used, folder, words in provers(gate.pid):
+                seconds[key] = used
+                if key not in parts:
+                    parts[key] = part_of(folder, words)
+            time.sleep(1)
+    finally:
+        if gate.poll() is None:
+            os.killpg(gate.pid, signal.SIGTERM)
     crates, edits = collections.defaultdict(lambda: dict.fromkeys(PARTS, 0.0)), []
     for key, (crate, part, edit) in parts.items():
         crates[crate][part] += seconds[key]
