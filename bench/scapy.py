@@ -393,8 +393,9 @@ GOLDEN = (
     ('lines.txt', 0, (
         (), 'packet 1', 'packet 2, time 17:39:54.123, incoming', 'packet 3, time 17:39:54.124, outgoing', 'packet 4',
         ('line 8 skipped: not a packet',), 'packet 5')),
+    ('-', 0, ('packet 1',)),
 )
-GOLDEN_COUNTS = ('packets 34: accepted 29, refused 5 (size 1, length 3, padding 0, value 1); skipped 6 (not SCTP 1, '
+GOLDEN_COUNTS = ('packets 35: accepted 30, refused 5 (size 1, length 3, padding 0, value 1); skipped 6 (not SCTP 1, '
                  'fragment 1, cut 2, malformed 0, too long 1, unknown 1)')
 
 
@@ -415,7 +416,7 @@ def golden_texts(lines):
 def golden_lines(expected, folder):
     for name, digits, records in GOLDEN:
         yield by_hand('file ' + name)
-        path = os.path.join(folder, 'data', name)
+        path = os.path.join(folder, 'stdin' if name == '-' else os.path.join('data', name))
         if digits:
             frames = itertools.chain(PcapReader(path), itertools.repeat(None))
         else:

@@ -1,9 +1,6 @@
 //! The program over captures in memory, and over devices that fail.
 
-use crate::arguments::{Form, Options};
-use crate::counts::Counts;
-use crate::engine::dump;
-use crate::failure::Failure;
+use dump_engine::{Counts, Failure, Form, Options, dump};
 use std::alloc::Global;
 use std::io::ErrorKind;
 use watched_io::faulty::{Fault, Plan, Sink, Source, fails, steps};

@@ -1,0 +1,26 @@
+-- The failure of a device or of memory, and when it comes.
+use Rattle.std.specs.Prelude.{◌≡◌, ◌⊎◌, ◌↔◌, true, false, Result, IsErrOf}
+use Rattle.watched_io.specs.Watched.{has_failed}
+use Rattle.watched_io.specs.declared.watched.Watched.{Watched}
+use Rattle.watched_io.specs.declared.stream.StreamError.{StreamError}
+use Rattle.watched_io.specs.declared.stream.StreamError.TheVariants as devices
+use Rattle.dump_engine.specs.declared.failure.Failure.{Failure}
+use Rattle.dump_engine.specs.declared.failure.Failure.TheVariants.{OutOfMemory, Read, Write}
+
+abbrev pub failure_of : StreamError → Failure
+failure_of devices.Read = Read
+failure_of devices.Write = Write
+
+-- a read or a write failed
+abbrev pub IsOfDevice : Failure → Type 0
+IsOfDevice failure = (failure ≡ Read) ⊎ (failure ≡ Write)
+
+-- a read or a write failed, or memory ran out: this says nothing of the input
+abbrev pub IsOfDeviceOrMemory : Failure → Type 0
+IsOfDeviceOrMemory failure = IsOfDevice failure ⊎ (failure ≡ OutOfMemory)
+
+-- A call ends in this error exactly where the device failed in it; of a device that had failed
+-- before, nothing is said.
+abbrev pub FailsWith : {T E D : Type 0} → E → Result T E → Watched D → Watched D → Type 0
+FailsWith error result old new =
+    has_failed old ≡ false → IsErrOf result error ↔ (has_failed new ≡ true)
