@@ -2,38 +2,35 @@
 # root of the repository, and what they make goes to the folder $out.
 
 export PYTHONDONTWRITEBYTECODE=1
-archives='crates/speed_probes/out/libspeed_probes.a crates/strict_probes/out/libstrict_probes.a'
+archives='crates/probes/out/libprobes.a crates/strict_probes/out/libstrict_probes.a'
 
 give_up() {
     echo "${0##*/}: $1" >&2
     exit 2
 }
 
-# Builds the library, proved, and links the driver with it: $out/driver.
-build_driver() {
-    local crate kit
+# Builds the library, proved, and links bench/PROGRAM.c with it: $out/PROGRAM. The words after PROGRAM are gcc's.
+build_program() {
+    local program=$1 crate
+    shift
     mkdir -p "$out"
     echo 'building the library: minutes the first time, since it is proved first' >&2
-    for crate in speed_probes strict_probes; do
+    for crate in probes strict_probes; do
         (cd "crates/$crate" && rt lib) >"$out/library.log" 2>&1 || { tail -n 5 "$out/library.log" >&2; give_up "no $crate"; }
     done
-    kit=$(dirname "$(rt doc)")
     # shellcheck disable=SC2086 # a list of paths without blanks
-    gcc -O2 -Wall -Wextra -o "$out/driver" bench/driver.c $archives "$kit/c/liblibc_c.a" \
-        -Wl,--wrap=malloc,--wrap=realloc
+    gcc -O2 -Wall -Wextra -o "$out/$program" "bench/$program.c" $archives "$(dirname "$(rt doc)")/c/liblibc_c.a" "$@"
+}
+
+# The driver counts the library's requests for memory.
+build_driver() {
+    build_program driver -Wl,--wrap=malloc,--wrap=realloc
 }
 
 # Makes the traffic files of a seed: $out/traffic.
 make_traffic() {
     rm -rf "$out/traffic"
     python3 bench/traffic.py "$1" "$out/traffic"
-}
-
-# Builds the CRC32c, proved, and links its program with it: $out/crc.
-build_crc() {
-    mkdir -p "$out"
-    (cd crates/crc_probes && rt lib) >"$out/library.log" 2>&1 || { tail -n 5 "$out/library.log" >&2; give_up 'no crc_probes'; }
-    gcc -O2 -Wall -Wextra -o "$out/crc" bench/crc.c crates/crc_probes/out/libcrc_probes.a
 }
 
 # Builds the C library, proved, and links its program with it: $out/c_api.

@@ -1,4 +1,4 @@
-/* Times the CRC32c of crates/crc_probes, beside a loop in C that goes byte by byte through one table.
+/* Times the CRC32c of crates/probes, beside a loop in C that goes byte by byte through one table.
 
    usage: crc ROUNDS MILLIS
 
@@ -12,8 +12,8 @@
 #include <time.h>
 
 /* A slice is a pointer and a length. */
-extern uint32_t crc_probes_crc32c(const unsigned char *bytes, size_t length);
-extern uint32_t crc_probes_packet_word(const unsigned char *bytes, size_t length);
+extern uint32_t probes_crc32c(const unsigned char *bytes, size_t length);
+extern uint32_t probes_packet_word(const unsigned char *bytes, size_t length);
 
 static uint32_t table[256];
 
@@ -40,8 +40,8 @@ static const struct {
     uint32_t (*call)(const unsigned char *bytes, size_t length);
 } calls[] = {
     {"byte by byte, in C", byte_by_byte},
-    {"`crc32c`", crc_probes_crc32c},
-    {"`packet_word`", crc_probes_packet_word},
+    {"`crc32c`", probes_crc32c},
+    {"`packet_word`", probes_packet_word},
 };
 enum { CALLS = sizeof calls / sizeof calls[0] };
 
@@ -85,7 +85,7 @@ int main(int count, char **words)
     for (size_t i = 0; i < sizeof bytes; i++)
         bytes[i] = rand() >> 7;
     for (size_t length = 0; length <= 4096; length++)
-        if (byte_by_byte(bytes, length) != crc_probes_crc32c(bytes, length)) {
+        if (byte_by_byte(bytes, length) != probes_crc32c(bytes, length)) {
             fprintf(stderr, "crc: they differ at %zu bytes\n", length);
             return 1;
         }

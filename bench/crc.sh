@@ -19,5 +19,5 @@ esac
 
 cd "$(dirname "$0")/.."
 out=bench/out
-build_crc
+build_program crc
 "$out/crc" "${1:-30}" "${2:-3}"

@@ -1,4 +1,4 @@
-/* Times the calls of crates/speed_probes over traffic files, and counts their requests for memory. Those of
+/* Times the calls of crates/probes over traffic files, and counts their requests for memory. Those of
    crates/strict_probes can be counted alone.
 
    usage: driver ROUNDS MILLIS FILE..
@@ -19,20 +19,20 @@
 #include <time.h>
 
 /* A slice is a pointer and a length; the allocator takes no place. */
-extern size_t speed_probes_check(const unsigned char *bytes, size_t length);
-extern uint64_t speed_probes_walk(const unsigned char *bytes, size_t length);
-extern size_t speed_probes_read(const unsigned char *bytes, size_t length);
-extern size_t speed_probes_read_and_write(const unsigned char *bytes, size_t length);
-extern size_t speed_probes_write_over(const unsigned char *bytes, size_t length, unsigned char *output, size_t room);
-extern size_t speed_probes_build(const unsigned char *bytes, size_t length);
-extern size_t speed_probes_clean(const unsigned char *bytes, size_t length);
+extern size_t probes_check(const unsigned char *bytes, size_t length);
+extern uint64_t probes_walk(const unsigned char *bytes, size_t length);
+extern size_t probes_read(const unsigned char *bytes, size_t length);
+extern size_t probes_read_and_write(const unsigned char *bytes, size_t length);
+extern size_t probes_write_over(const unsigned char *bytes, size_t length, unsigned char *output, size_t room);
+extern size_t probes_build(const unsigned char *bytes, size_t length);
+extern size_t probes_clean(const unsigned char *bytes, size_t length);
 extern size_t strict_probes_check(const unsigned char *bytes, size_t length, bool strict);
 
 static unsigned char output[1 << 16];
 
 static size_t write_over(const unsigned char *bytes, size_t length)
 {
-    return speed_probes_write_over(bytes, length, output, sizeof output);
+    return probes_write_over(bytes, length, output, sizeof output);
 }
 
 static size_t check_lenient(const unsigned char *bytes, size_t length)
@@ -50,13 +50,13 @@ static const struct {
     const char *name;
     size_t (*call)(const unsigned char *bytes, size_t length);
 } calls[] = {
-    {"check", speed_probes_check},
-    {"borrowed", speed_probes_walk},
-    {"read", speed_probes_read},
-    {"read_and_write", speed_probes_read_and_write},
+    {"check", probes_check},
+    {"borrowed", probes_walk},
+    {"read", probes_read},
+    {"read_and_write", probes_read_and_write},
     {"write_over", write_over},
-    {"build", speed_probes_build},
-    {"clean", speed_probes_clean},
+    {"build", probes_build},
+    {"clean", probes_clean},
     {"check_lenient", check_lenient},
     {"check_strict", check_strict},
 };

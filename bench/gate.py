@@ -3,13 +3,14 @@
 
 Runs the gate, `rt ci` where no command is named, and prints where its processor time went: a line for each crate, with the
 seconds of its proof, of its tests' proof, of the proof that its wrong edits begin with, and of all the edits; then the
-slowest edits. Ends with the gate's status.
+slowest edits; then what the whole run took, compilers and programs too. Ends with the gate's status.
 
 What an earlier run on this machine has passed isn't done again, so it takes no time here: `rt ci --anew` does everything.
 Linux alone: once a second it reads /proc, so a process of less than a second isn't seen."""
 import collections
 import os
 import re
+import resource
 import signal
 import subprocess
 import sys
@@ -73,12 +74,15 @@ def main(command):
         crates[crate][part] += seconds[key]
         if edit:
             edits.append((seconds[key], crate, edit))
-    print(f'\n{time.monotonic() - began:.0f} seconds; of the processors:\n{"":16}' + ''.join(f'{it:>8}' for it in PARTS))
+    took, children = time.monotonic() - began, resource.getrusage(resource.RUSAGE_CHILDREN)
+    print(f'\nSeconds of the processors:\n{"":16}' + ''.join(f'{it:>8}' for it in PARTS))
     total = {part: sum(it[part] for it in crates.values()) for part in PARTS}
     for crate, its in [*sorted(crates.items(), key=lambda it: -sum(it[1].values())), ('all', total)]:
         print(f'{crate:16}' + ''.join(f'{its[part]:8.0f}' for part in PARTS) + f'{sum(its.values()):8.0f}')
     for used, crate, edit in sorted(edits, reverse=True)[:20]:
         print(f'{used:8.0f} {crate} {edit}')
+    used, processors = children.ru_utime + children.ru_stime, len(os.sched_getaffinity(0))
+    print(f'\n{took:,.0f} seconds, {used:,.0f} processor seconds, {processors} processors')
     sys.exit(gate.returncode)
 
 

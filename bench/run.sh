@@ -56,7 +56,7 @@ out=bench/out
 load=$(cut -d' ' -f1 /proc/loadavg)
 
 build_driver
-build_crc
+build_program crc
 make_traffic "$seed"
 
 # What the figures were measured with, for the table's caption.

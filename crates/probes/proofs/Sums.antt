@@ -2,7 +2,7 @@
 use Rattle.std.proofs.Common.{◌≡◌, ◌≤◌, ◌<◌, ◌+◌, ◌-◌, ◌*◌, ◌%◌, ◌^◌, ℕ, List, [], ◌∷◌, length, refl, sym, ap, ◌∙◌, arith}
 use Rattle.std.proofs.Math.Nat.{mod-add-mod, mod-eq_of_lt}
 use Rattle.dcsctp_chunk.specs.declared.sack_chunk.GapAckBlock.{GapAckBlock}
-use Rattle.speed_probes.specs.Walk.{plus, with_blocks}
+use Rattle.probes.specs.Walk.{plus, with_blocks}
 
 -- Starts and ends so far, and the blocks that are left, add to a number what all the blocks do. The
 -- ends are known by the sum of both numbers of each block as one of 32 bits, modulo 2^32; and 32

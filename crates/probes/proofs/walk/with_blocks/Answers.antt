@@ -1,7 +1,7 @@
 use Rattle.std.proofs.Common.{◌<◌, ◌^◌, List, ◌∷◌, arith, subst}
 use Rattle.dcsctp_chunk.specs.declared.sack_chunk.GapAckBlock.{GapAckBlock}
-use Rattle.speed_probes.proofs.Sums.{IsGathered, one_gathered}
-use Rattle.speed_probes.proofs.walk.with_blocks.Goals as goal
+use Rattle.probes.proofs.Sums.{IsGathered, one_gathered}
+use Rattle.probes.proofs.walk.with_blocks.Goals as goal
 
 pub loop-block-preserved : goal.loop-block-preserved
 loop-block-preserved c =

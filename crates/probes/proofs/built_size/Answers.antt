@@ -2,8 +2,8 @@ use Rattle.std.proofs.Common.{◌∙◌, ◌≤◌, length, take, ap, inr}
 use Rattle.std.proofs.lemmas.List.{take_all}
 use Rattle.dcsctp_wire.specs.Chunk.{views}
 use Rattle.dcsctp_wire.specs.Packet.{meaning_view}
-use Rattle.speed_probes.proofs.Building.{stays-for, views-next, built-is}
-use Rattle.speed_probes.proofs.built_size.Goals as goal
+use Rattle.probes.proofs.Building.{stays-for, views-next, built-is}
+use Rattle.probes.proofs.built_size.Goals as goal
 
 pub loop-chunk-preserved : goal.loop-chunk-preserved
 loop-chunk-preserved c =

@@ -1,6 +1,6 @@
 use Rattle.std.proofs.Common.{refl}
 use Rattle.dcsctp_wire.specs.Account.{node_count}
-use Rattle.speed_probes.proofs.speed_probes_check.Goals as goal
+use Rattle.probes.proofs.probes_check.Goals as goal
 
 pub returns-in-Ok-clause-packet : goal.returns-in-Ok-clause-packet
 returns-in-Ok-clause-packet c p answer =

@@ -2,9 +2,9 @@ use Rattle.std.proofs.Common.{◌≡◌, List, Ok}
 use Rattle.dcsctp_wire.specs.Chunk.{ChunkTree}
 use Rattle.dcsctp_wire.specs.Packet.{PacketTree, Answer}
 use Rattle.dcsctp_borrowed.specs.RawChunks.{MeanChunks}
-use Rattle.speed_probes.specs.Walk.{with_chunks}
-use Rattle.speed_probes.specs.declared.TheConstants.{ANY_CHECKSUM}
-use Rattle.speed_probes.proofs.walk.speed_probes_walk.Given as goal
+use Rattle.probes.specs.Walk.{with_chunks}
+use Rattle.probes.specs.declared.TheConstants.{ANY_CHECKSUM}
+use Rattle.probes.proofs.walk.probes_walk.Given as goal
 
 -- what the chunks add that are left, after those that were gone over, is the packet's sum
 abbrev pub invariant-loop-chunk : goal.invariant-loop-chunk

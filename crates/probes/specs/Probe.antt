@@ -7,7 +7,7 @@ use Rattle.dcsctp_chunk.specs.declared.sack_chunk.GapAckBlock.{GapAckBlock}
 use Rattle.dcsctp_wire.specs.Canonical.{canonical}
 use Rattle.dcsctp_wire.specs.Chunk.{ChunkTree, Sack}
 use Rattle.dcsctp_wire.specs.Packet.{Meaning, PacketTree, Answer}
-use Rattle.speed_probes.specs.declared.TheConstants.{ANY_CHECKSUM}
+use Rattle.probes.specs.declared.TheConstants.{ANY_CHECKSUM}
 
 -- zero, or what a packet gives: the one that the bytes are
 abbrev pub IsZeroOr : (Meaning → ℕ → Type 0) → List ℕ → ℕ → Type 0

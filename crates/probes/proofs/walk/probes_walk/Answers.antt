@@ -1,7 +1,7 @@
 use Rattle.std.proofs.Common.{◌≡◌, [], refl, sym, ap, ◌∙◌}
 use Rattle.dcsctp_borrowed.specs.PacketRef.{reference}
-use Rattle.speed_probes.specs.Walk.{with_chunk, with_chunks}
-use Rattle.speed_probes.proofs.walk.speed_probes_walk.Goals as goal
+use Rattle.probes.specs.Walk.{with_chunk, with_chunks}
+use Rattle.probes.proofs.walk.probes_walk.Goals as goal
 
 pub loop-chunk-preserved : goal.loop-chunk-preserved
 loop-chunk-preserved c = λ p answer.

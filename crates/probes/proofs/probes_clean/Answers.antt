@@ -4,7 +4,7 @@ use Rattle.dcsctp_chunk.specs.Sack as sack
 use Rattle.dcsctp_wire.specs.Chunk.{view, views}
 use Rattle.dcsctp_wire.specs.Packet.{packet_view}
 use Rattle.dcsctp_wire.specs.declared.packet.chunk.Chunk.TheVariants as variant
-use Rattle.speed_probes.proofs.speed_probes_clean.Goals as goal
+use Rattle.probes.proofs.probes_clean.Goals as goal
 
 pub returns-in-Some-Sack : goal.returns-in-Some-Sack
 returns-in-Some-Sack c =

@@ -2,8 +2,8 @@ use Rattle.std.proofs.Common.{take}
 use Rattle.dcsctp_wire.specs.Builder.{Holds}
 use Rattle.dcsctp_wire.specs.Chunk.{views}
 use Rattle.dcsctp_wire.specs.Packet.{meaning_view}
-use Rattle.speed_probes.proofs.Building.{IsFor}
-use Rattle.speed_probes.proofs.built_size.Given as goal
+use Rattle.probes.proofs.Building.{IsFor}
+use Rattle.probes.proofs.built_size.Given as goal
 
 -- the chunks so far are held
 abbrev pub invariant-loop-chunk : goal.invariant-loop-chunk

@@ -5,7 +5,7 @@ ghost use Rattle.dcsctp_wire.specs.Chunk.{ChunkTree};
 ghost use Rattle.dcsctp_wire.specs.Packet.{PacketTree, Answer, IsPacket};
 ghost use Rattle.dcsctp_borrowed.specs.RawChunks.{RawMeans};
 ghost use Rattle.dcsctp_borrowed.specs.UserData.{user_data_view};
-ghost use Rattle.speed_probes.specs.Walk as spec;
+ghost use Rattle.probes.specs.Walk as spec;
 
 use crate::ANY_CHECKSUM;
 use dcsctp_borrowed::checked_chunks::CheckedChunk;
@@ -17,7 +17,7 @@ use dcsctp_wire::packet::data_chunk;
 /// Reads a packet in its bytes, and adds up every number of its DATA, I-DATA and SACK, and 1 for
 /// each other chunk, modulo 2^64; 0 where the bytes are no packet. Does not allocate.
 #[unsafe(no_mangle)]
-pub extern "C" fn speed_probes_walk(bytes: &[u8]) -> u64
+pub extern "C" fn probes_walk(bytes: &[u8]) -> u64
     ensures packet { (p : PacketTree) → Answer bytes.now 0 ANY_CHECKSUM (Ok p)
         → result ≡ spec.with_chunks 0 p.meaning.chunks }
     ensures none { ¬ IsPacket bytes.now 0 ANY_CHECKSUM → result ≡ 0 }

@@ -5,12 +5,13 @@
 //! comes from the C program's `malloc` and `realloc`. The checksum field may hold any number.
 #![tactic(auto)]
 
+mod crc;
 mod walk;
 
 ghost use Rattle.std.specs.Prelude.{◌≡◌, ◌≢◌, ◌⊎◌, ℕ, [], false, Ok, IfOk, drop};
 ghost use Rattle.dcsctp_wire.specs.Account.{node_count};
 ghost use Rattle.dcsctp_wire.specs.Packet.{PacketTree, Answer, IsPacket, IsAccepted, meaning_view};
-ghost use Rattle.speed_probes.specs.Probe.{IsZeroOr, IsChunkCount, IsCanonicalSize, BeginsCanonical, IsRunCount};
+ghost use Rattle.probes.specs.Probe.{IsZeroOr, IsChunkCount, IsCanonicalSize, BeginsCanonical, IsRunCount};
 
 use dcsctp_wire::api::ZERO_CHECKSUM_ALTERNATE_ERROR_DETECTION_METHOD_NONE;
 use dcsctp_wire::packet::chunk::Chunk;
@@ -35,7 +36,7 @@ pub fn any_checksum()
 /// Checks a packet: the number of its parts, which are chunks, parameters and error causes; 0 where
 /// the bytes are none.
 #[unsafe(no_mangle)]
-pub extern "C" fn speed_probes_check(bytes: &[u8]) -> usize
+pub extern "C" fn probes_check(bytes: &[u8]) -> usize
     ensures packet { (p : PacketTree) → Answer bytes.now 0 ANY_CHECKSUM (Ok p)
         → result ≡ node_count p.meaning }
     ensures none { ¬ IsPacket bytes.now 0 ANY_CHECKSUM → result ≡ 0 }
@@ -48,7 +49,7 @@ pub extern "C" fn speed_probes_check(bytes: &[u8]) -> usize
 
 /// Reads a packet: the number of its chunks; 0 where the bytes are none, or memory runs out.
 #[unsafe(no_mangle)]
-pub extern "C" fn speed_probes_read(alloc: Global, bytes: &[u8]) -> usize
+pub extern "C" fn probes_read(alloc: Global, bytes: &[u8]) -> usize
     ensures { IsZeroOr IsChunkCount bytes.now result }
 {
     match SctpPacket::from_bytes(alloc, bytes, 0, &ANY_CHECKSUM) {
@@ -60,7 +61,7 @@ pub extern "C" fn speed_probes_read(alloc: Global, bytes: &[u8]) -> usize
 /// Reads a packet and writes the canonical one: the number of its bytes; 0 where there is none, or
 /// memory runs out.
 #[unsafe(no_mangle)]
-pub extern "C" fn speed_probes_read_and_write(alloc: Global, bytes: &[u8]) -> usize
+pub extern "C" fn probes_read_and_write(alloc: Global, bytes: &[u8]) -> usize
     ensures { IsZeroOr IsCanonicalSize bytes.now result }
 {
     match SctpPacket::from_bytes(alloc, bytes, 0, &ANY_CHECKSUM) {
@@ -81,7 +82,7 @@ pub extern "C" fn speed_probes_read_and_write(alloc: Global, bytes: &[u8]) -> us
 /// writing: the number of its bytes; 0 where there is none, or no room, or memory runs out, and
 /// then nothing is written. The bytes after the packet stay.
 #[unsafe(no_mangle)]
-pub extern "C" fn speed_probes_write_over(alloc: Global, bytes: &[u8], output: &mut [u8]) -> usize
+pub extern "C" fn probes_write_over(alloc: Global, bytes: &[u8], output: &mut [u8]) -> usize
     ensures written { IsZeroOr (BeginsCanonical output.new) bytes.now result }
     ensures rest { drop result output.new ≡ drop result output.old }
 {
@@ -105,7 +106,7 @@ pub extern "C" fn speed_probes_write_over(alloc: Global, bytes: &[u8], output: &
 /// Reads a packet and builds the canonical one with the builder, chunk by chunk: the number of its
 /// bytes; 0 where there is none, or memory runs out.
 #[unsafe(no_mangle)]
-pub extern "C" fn speed_probes_build(alloc: Global, bytes: &[u8]) -> usize
+pub extern "C" fn probes_build(alloc: Global, bytes: &[u8]) -> usize
     ensures { IsZeroOr IsCanonicalSize bytes.now result }
 {
     match SctpPacket::from_bytes(alloc, bytes, 0, &ANY_CHECKSUM) {
@@ -151,7 +152,7 @@ fn built_size(alloc: Global, packet: &SctpPacket) -> Result<usize, AllocError>
 /// Reads a packet and cleans the SACK that is its last chunk: the number of its runs; 0 where there
 /// is none, or memory runs out.
 #[unsafe(no_mangle)]
-pub extern "C" fn speed_probes_clean(alloc: Global, bytes: &[u8]) -> usize
+pub extern "C" fn probes_clean(alloc: Global, bytes: &[u8]) -> usize
     ensures { IsZeroOr IsRunCount bytes.now result }
 {
     match SctpPacket::from_bytes(alloc, bytes, 0, &ANY_CHECKSUM) {
