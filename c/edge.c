@@ -1,5 +1,5 @@
-/* Calls at the edges: no bytes, offsets at and past the end, room that is just enough and one byte less, each allocation
-   refused in turn. Linked with --wrap=malloc,--wrap=realloc,--wrap=free. */
+/* Each call on packets of real peers; and calls at the edges: no bytes, offsets at and past the end, room that is just
+   enough and one byte less, each allocation refused in turn. Linked with --wrap=malloc,--wrap=realloc,--wrap=free. */
 #include <dcsctp.h>
 #include <stdio.h>
 #include <stdlib.h>
@@ -79,6 +79,98 @@ static struct dcsctp_chunk chunk_at(size_t offset)
     struct dcsctp_chunk chunk;
     CHECK(dcsctp_chunk_at(packet, LENGTH, offset, &chunk));
     return chunk;
+}
+
+/* ---- packets of real peers (docs/CAPTURES.md), whose numbers are read by hand by RFC 9260 */
+
+/* DATA of usrsctp: "hello", and three bytes of padding. Its checksum field, and the bytes before and after that. */
+#define HELLO_WORD 0x1148a1f6
+#define HELLO_FRONT "\x13\x88\x13\x88\x0d\xa7\x37\x98"
+#define HELLO_BACK "\0\3\0\x15\x79\x06\xb4\xb0\0\1\0\0\0\0\0\x33hello\0\0"
+static const uint8_t hello[] = HELLO_FRONT "\x11\x48\xa1\xf6" HELLO_BACK;
+static const uint8_t hello_canonical[] = HELLO_FRONT "\0\0\0\0" HELLO_BACK;
+enum { HELLO = sizeof hello };
+static const char hello_text[] = "source=5000 destination=5000 tag=229062552 checksum=289972726\n"
+                                 "DATA, type=ordered::complete, tsn=2030482608, sid=1, ssn=0, ppid=51, length=5";
+
+static void captured_data(void)
+{
+    struct dcsctp_header header;
+    struct dcsctp_chunk chunk;
+    struct dcsctp_data data = {.mid = 7, .fsn = 7, .ssn = 7, .is_unordered = true, .immediate_ack = true};
+    CHECK(HELLO == 36 && dcsctp_word(hello, HELLO) == HELLO_WORD);
+    CHECK(dcsctp_header(hello, HELLO, &header) && header.source_port == 5000 && header.destination_port == 5000);
+    CHECK(header.verification_tag == 229062552 && header.checksum == HELLO_WORD);
+    CHECK(dcsctp_chunk_at(hello, HELLO, 12, &chunk) && chunk.type == DCSCTP_DATA && chunk.flags == 3);
+    CHECK(chunk.value_offset == 16 && chunk.value_size == 17 && chunk.next == 36);
+    CHECK(!dcsctp_chunk_at(hello, HELLO, 36, &chunk));
+    CHECK(dcsctp_data(hello, HELLO, &chunk, &data) && data.tsn == 2030482608 && data.mid == 0 && data.fsn == 0);
+    CHECK(data.ppid == 51 && data.stream == 1 && data.ssn == 0 && !data.is_unordered && !data.immediate_ack);
+    CHECK(data.is_beginning && data.is_end && data.payload_offset == 28 && data.payload_size == 5);
+}
+
+static void captured_lists(void)
+{
+    static const uint8_t sack_packet[] =
+        "\x13\x88\x13\x88\1\2\3\4\0\0\0\0\3\0\0\x1c\x36\x9d\xd0\x0b\0\1\xed\x73\0\2\0\1"
+        "\0\2\0\6\0\x08\0\x08\x36\x9d\xd0\x11";
+    struct dcsctp_chunk chunk;
+    struct dcsctp_sack sack;
+    struct dcsctp_gap_ack_block block;
+    uint32_t tsn;
+    CHECK(dcsctp_chunk_at(sack_packet, 40, 12, &chunk) && dcsctp_sack(sack_packet, 40, &chunk, &sack));
+    CHECK(sack.cumulative_tsn_ack == 916312075 && sack.a_rwnd == 126323);
+    CHECK(sack.block_count == 2 && sack.duplicate_count == 1 && dcsctp_validate_sack(sack_packet, 40, &chunk));
+    CHECK(dcsctp_gap_ack_block(sack_packet, 40, &chunk, 0, &block) && block.start == 2 && block.end == 6);
+    CHECK(!dcsctp_gap_ack_block(sack_packet, 40, &chunk, 2, &block));
+    CHECK(dcsctp_duplicate_tsn(sack_packet, 40, &chunk, 0, &tsn) && tsn == 916312081);
+    CHECK(!dcsctp_duplicate_tsn(sack_packet, 40, &chunk, 1, &tsn));
+
+    static const uint8_t init_packet[] =
+        "\x13\x88\x13\x88\0\0\0\0\0\0\0\0\1\0\0\x14\x4d\x2d\xf5\x2d\0\2\0\0\0\4\0\5\x79\x06\xb4\xb0";
+    struct dcsctp_init init;
+    CHECK(dcsctp_chunk_at(init_packet, 32, 12, &chunk) && dcsctp_init(init_packet, 32, &chunk, &init));
+    CHECK(init.initiate_tag == 1294857517 && init.a_rwnd == 131072 && init.initial_tsn == 2030482608);
+    CHECK(init.outbound_streams == 4 && init.inbound_streams == 5);
+}
+
+/* A COOKIE ACK under a wrong tag and without a checksum is given both. */
+static void captured_in_place(void)
+{
+    uint8_t ack[] = {0x13, 0x88, 0x13, 0x88, 0, 0, 0, 0, 0, 0, 0, 0, 0x0b, 0, 0, 4};
+    CHECK(dcsctp_set_tag(ack, sizeof ack, 1294857517) && dcsctp_seal(ack, sizeof ack));
+    CHECK(!memcmp(ack, "\x13\x88\x13\x88\x4d\x2d\xf5\x2d\x67\xdb\x78\xb5\x0b\0\0\4", sizeof ack));
+}
+
+static void has_fault(const uint8_t *bytes, size_t length, uint32_t word, uint32_t code, size_t place)
+{
+    size_t offset;
+    CHECK(dcsctp_check(bytes, length, word, &exact) == code);
+    CHECK(dcsctp_first_fault(bytes, length, word, &exact, &offset) == code && offset == place);
+}
+
+static void captured_faults(void)
+{
+    has_fault(hello, HELLO, HELLO_WORD, DCSCTP_OK, 36);
+    has_fault(hello, 2, HELLO_WORD, DCSCTP_SIZE, 2);
+    has_fault(hello, HELLO, 0, DCSCTP_CHECKSUM, 8);
+    /* a chunk whose length is 3 */
+    static const uint8_t broken[] = HELLO_FRONT "\x11\x48\xa1\xf6\0\3\0\3";
+    has_fault(broken, 16, HELLO_WORD, DCSCTP_LENGTH, 12);
+}
+
+static void captured_outputs(void)
+{
+    size_t size = 7, length = strlen(hello_text);
+    fill_output();
+    CHECK(dcsctp_canonical(hello, HELLO, HELLO_WORD, &exact, output, 35, &size) == DCSCTP_NO_ROOM && size == 36);
+    CHECK(stays(0));
+    size = 7;
+    CHECK(dcsctp_canonical(hello, HELLO, HELLO_WORD, &exact, output, 40, &size) == DCSCTP_OK && size == 36);
+    CHECK(!memcmp(output, hello_canonical, HELLO) && stays(36));
+    size = 7;
+    CHECK(dcsctp_print(hello, HELLO, HELLO_WORD, &exact, output, 200, &size) == DCSCTP_OK && size == length);
+    CHECK(!memcmp(output, hello_text, length));
 }
 
 /* ---- reading a whole packet */
@@ -352,6 +444,10 @@ static void largest(void)
 
 int main(void)
 {
+    captured_data();
+    captured_lists();
+    captured_in_place();
+    captured_faults();
     places();
     parts();
     in_place();
@@ -359,6 +455,7 @@ int main(void)
     contents();
     largest();
     CHECK(requests == 0); /* none of these functions allocates */
+    captured_outputs();
     sizes_and_policies();
     outputs(dcsctp_canonical);
     outputs(dcsctp_print);

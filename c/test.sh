@@ -221,6 +221,6 @@ if rust_has_edition_2024; then
 else
     left_out 'rustc from 1.85 on' 'the example in Rust'
 fi
-try 'calls at the edges, and each allocation refused' edge
+try 'calls on captured packets and at the edges, and each allocation refused' edge
 try "$packets packets at random" fuzz
 finish

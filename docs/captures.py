@@ -5,7 +5,7 @@ Makes the page of captures, docs/CAPTURES.md, by running the program.
 
   --write    runs sctp_show (`rt try`) over the packets of docs/captures.txt, and writes docs/CAPTURES.md, two
              tables, crates/sctp_show/src/tests/captures.rt of what the program prints and
-             crates/dcsctp_uses/src/tests/association.rt of the packets that carry their checksums, and these
+             crates/value_tests/src/association.rt of the packets that carry their checksums, and these
              packets for the golden run of sctp_dump, whose output the page quotes
   --compare  runs nothing; fails if the page isn't what the tables and docs/captures.txt give, or if a packet
              doesn't carry its CRC32c
@@ -24,7 +24,7 @@ SOURCE = os.path.join(ROOT, 'docs', 'captures.txt')
 PAGE = os.path.join(ROOT, 'docs', 'CAPTURES.md')
 PROGRAM = os.path.join(ROOT, 'crates', 'sctp_show')
 TABLE = os.path.join(PROGRAM, 'src', 'tests', 'captures.rt')
-SEALED = os.path.join(ROOT, 'crates', 'dcsctp_uses', 'src', 'tests', 'association.rt')
+SEALED = os.path.join(ROOT, 'crates', 'value_tests', 'src', 'association.rt')
 GOLDEN = os.path.join(ROOT, 'crates', 'sctp_dump')
 DUMPED = os.path.join(GOLDEN, 'data', 'association.txt')
 
@@ -35,7 +35,7 @@ PAGE_HEAD = '''# Packets of real peers
 
 Each can be given to the program: `(cd crates/sctp_show && echo HEX | rt try)`. `docs/captures.py --write` makes this page of
 `docs/captures.txt` and of what the program prints; tests hold it too (`crates/sctp_show/src/tests/captures.rt`,
-`crates/dcsctp_uses/src/tests/association.rt`, the golden run of `crates/sctp_dump`).
+`crates/value_tests/src/association.rt`, the golden run of `crates/sctp_dump`).
 '''
 
 # What is said below each heading.

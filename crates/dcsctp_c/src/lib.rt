@@ -11,6 +11,4 @@ mod in_place;
 mod packet;
 mod parts;
 mod structs;
-#[cfg(test)]
-mod tests;
 mod writing;

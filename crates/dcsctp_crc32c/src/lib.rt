@@ -7,8 +7,6 @@ ghost use Rattle.std.specs.Prelude.{ℕ, ◌≡◌, ◌*◌, ◌+◌, ◌<◌, �
 ghost use Rattle.dcsctp_crc32c.specs.Checksum.{after_bits, after_byte, after_bytes, extended, crc32c, packet_word};
 
 mod tables;
-#[cfg(test)]
-mod tests;
 
 use crate::tables::TABLES;
 

@@ -13,5 +13,3 @@ pub mod payload;
 pub mod print;
 pub mod replay;
 pub mod sealed;
-#[cfg(test)]
-mod tests;

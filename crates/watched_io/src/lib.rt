@@ -5,8 +5,6 @@
 pub mod faulty;
 pub mod output;
 pub mod stream;
-#[cfg(test)]
-mod tests;
 pub mod transfer;
 pub mod watched;
 pub mod window;

@@ -1,0 +1,146 @@
+//! What is known of devices that fail.
+
+use std::alloc::{AllocError, Global};
+use std::io::{Read, Write};
+use watched_io::faulty::{Fault, INTERRUPTED, Plan, Sink, Source, fails, steps};
+use watched_io::output::Output;
+use watched_io::stream::StreamError::{self, Read as Reading, Write as Writing};
+use watched_io::stream::{need, skip};
+use watched_io::watched::Watched;
+use watched_io::window::Window;
+
+/// What each of three reads gives of three bytes, the second of which fails, and whether the device
+/// has failed by then.
+fn watched_reads() -> [(Option<usize>, bool); 3] {
+    let mut input = Watched::new(Source::new(b"abc", fails(1, 2, INTERRUPTED)));
+    let mut room = [0; 4];
+    let first = input.read(&mut room).ok();
+    let first_failed = input.failed();
+    let second = input.read(&mut room).ok();
+    let second_failed = input.failed();
+    let third = input.read(&mut room).ok();
+    [
+        (first, first_failed),
+        (second, second_failed),
+        (third, input.failed()),
+    ]
+}
+
+/// What each of four writes takes, the third of which takes nothing, whether the device has failed
+/// by then; whether a flush succeeds after them, and it has failed still; and how many bytes were
+/// taken, and whether these are the other writes'.
+fn watched_writes() -> ([(Option<usize>, bool); 4], (bool, bool), (usize, bool)) {
+    let mut output = Watched::new(Sink::new(b"abef", fails(9, 3, Fault::Nothing)));
+    let first = output.write(b"").ok();
+    let first_failed = output.failed();
+    let second = output.write(b"ab").ok();
+    let second_failed = output.failed();
+    let third = output.write(b"cd").ok();
+    let third_failed = output.failed();
+    let fourth = output.write(b"ef").ok();
+    let fourth_failed = output.failed();
+    let flushed = output.flush().is_ok();
+    let failed = output.failed();
+    let sink = output.into_device();
+    (
+        [
+            (first, first_failed),
+            (second, second_failed),
+            (third, third_failed),
+            (fourth, fourth_failed),
+        ],
+        (flushed, failed),
+        (sink.taken, sink.as_wanted),
+    )
+}
+
+// A device that failed is remembered through calls that succeed, and a write of no bytes that
+// takes none is no failure.
+#[test]
+fn watched(rt: HostRuntime) {
+    let reads = [(Some(1), false), (None, true), (Some(1), true)];
+    assert_eq!(rt; watched_reads(), reads);
+    let writes = [
+        (Some(0), false),
+        (Some(2), false),
+        (Some(0), true),
+        (Some(2), true),
+    ];
+    assert_eq!(rt; watched_writes(), (writes, (true, true), (4, true)));
+}
+
+/// Whether a device is flushed: at first, after a write, after a flush that fails, and after one
+/// that doesn't.
+fn watched_flushes() -> [bool; 4] {
+    let mut output = Watched::new(Sink::new(b"ab", fails(9, 2, INTERRUPTED)));
+    let first = output.is_flushed();
+    let _written = output.write(b"ab").ok();
+    let second = output.is_flushed();
+    let _failed = output.flush().ok();
+    let third = output.is_flushed();
+    let _flushed = output.flush().ok();
+    [first, second, third, output.is_flushed()]
+}
+
+#[test]
+fn watched_flush(rt: HostRuntime) {
+    assert_eq!(rt; watched_flushes(), [true, false, false, true]);
+}
+
+/// Four bytes are needed twice, then three are skipped, of ten that come three a read. Returns what
+/// each call answers and how many bytes are held then, and whether the text was written before.
+fn streamed(
+    alloc: Global,
+    input: Plan,
+    output: Plan,
+) -> Result<([(Result<bool, StreamError>, usize); 3], bool), AllocError> {
+    let mut window = Window::new(alloc)?;
+    let mut input = Watched::new(Source::new(b"0123456789", input));
+    let mut output = Output::new(alloc, Watched::new(Sink::new(b"text", output)));
+    output.text.push_str("text")?;
+    let first = (need(&mut window, &mut input, &mut output, 4), window.len());
+    let second = (need(&mut window, &mut input, &mut output, 4), window.len());
+    let third = (skip(&mut window, &mut input, &mut output, 7), window.len());
+    let is_next = window.held() == b"78".as_slice();
+    let sink = output.into_writer().into_device();
+    let is_written = sink.as_wanted && sink.taken == 4;
+    Ok(([first, second, third], is_next && is_written))
+}
+
+// Nothing is read that is held already; after a failed read or write the call can be made again.
+#[test]
+fn stream(rt: HostRuntime) -> Result<(), AllocError> {
+    assert_eq!(rt;
+        streamed(rt.alloc(), steps(3), steps(9))?,
+        ([(Ok(true), 6), (Ok(true), 6), (Ok(true), 2)], true)
+    );
+    assert_eq!(rt;
+        streamed(rt.alloc(), fails(3, 2, INTERRUPTED), steps(9))?,
+        ([(Err(Reading), 3), (Ok(true), 6), (Ok(true), 2)], true)
+    );
+    assert_eq!(rt;
+        streamed(rt.alloc(), steps(3), fails(9, 1, Fault::Nothing))?,
+        ([(Err(Writing), 0), (Ok(true), 6), (Ok(true), 2)], true)
+    );
+    Ok(())
+}
+
+/// What is left of ten bytes after the first four, where more are needed and skipped than there are.
+fn at_the_end(alloc: Global) -> Result<([Result<bool, StreamError>; 3], usize), AllocError> {
+    let mut window = Window::new(alloc)?;
+    let mut input = Watched::new(Source::new(b"0123456789", steps(9)));
+    let mut output = Output::new(alloc, Watched::new(Sink::new(b"", steps(9))));
+    let whole = need(&mut window, &mut input, &mut output, 10);
+    window.consume(4.min(window.len()));
+    let most = need(&mut window, &mut input, &mut output, 7);
+    let held = window.len();
+    let past = skip(&mut window, &mut input, &mut output, 7);
+    Ok(([whole, most, past], held))
+}
+
+#[test]
+fn end_of_stream(rt: HostRuntime) -> Result<(), AllocError> {
+    let wanted = ([Ok(true), Ok(false), Ok(false)], 6);
+    assert_eq!(rt; at_the_end(rt.alloc())?, wanted);
+    Ok(())
+}

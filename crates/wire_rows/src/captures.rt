@@ -1,0 +1,110 @@
+//! Captured traffic: the headers of files, frames of a link, and lines of text.
+
+use crate::bytes::{from, short_at, word_at, write_digits};
+use sctp_capture::frame::{is_known_link, packet_in};
+use sctp_capture::hex_bytes::HexBytes;
+use sctp_capture::line::{Line, LoggedPacket, place_of, read_line};
+use sctp_capture::pcap::{ByteOrder, input_kind, read_file_header, read_record_header};
+use std::alloc::{AllocError, Global};
+use std::fmt::Debug;
+
+fn write_told<T: Debug>(value: &T, out: &mut String) -> Result<(), AllocError> {
+    write!(out, "{value:?}")
+}
+
+/// The header of a file: 24 bytes.
+fn write_file_header(bytes: &[u8], out: &mut String) -> Result<(), AllocError> {
+    if bytes.len() < 24 {
+        return out.push_str("no header");
+    }
+    write_told(&read_file_header(bytes), out)
+}
+
+/// The header of a record, 16 bytes, in both orders.
+fn write_record_header(bytes: &[u8], out: &mut String) -> Result<(), AllocError> {
+    if bytes.len() < 16 {
+        return out.push_str("no header");
+    }
+    write_told(&read_record_header(ByteOrder::BigEndian, bytes), out)?;
+    out.push_str("; ")?;
+    write_told(&read_record_header(ByteOrder::LittleEndian, bytes), out)
+}
+
+/// What is found in a frame: a link's type of two bytes, how long the frame was, and the frame.
+fn write_found(bytes: &[u8], out: &mut String) -> Result<(), AllocError> {
+    match packet_in(short_at(bytes, 0), word_at(bytes, 2), from(bytes, 6)) {
+        Ok(packet) => write_told(&packet, out),
+        Err(none) => write_told(&none, out),
+    }
+}
+
+/// Writes the answer, if the call is one of this module; the offset of a line and how many bytes
+/// are held have four bytes each.
+pub fn write_answer(call: &str, bytes: &[u8], out: &mut String) -> Result<bool, AllocError> {
+    match call {
+        "input-kind" => write_told(&input_kind(bytes), out)?,
+        "file-header" => write_file_header(bytes, out)?,
+        "record-header" => write_record_header(bytes, out)?,
+        "known-link" => write_told(&is_known_link(short_at(bytes, 0)), out)?,
+        "link-frame" => write_found(bytes, out)?,
+        "place" => write_told(
+            &place_of(word_at(bytes, 0), word_at(bytes, 4) as usize),
+            out,
+        )?,
+        _ => return Ok(false),
+    }
+    Ok(true)
+}
+
+// ---- lines
+
+/// The bytes of a text, in which `\t`, `\r` and `\1` are a tab, a carriage return and a byte of 1.
+fn unescaped(alloc: Global, text: &str) -> Result<Vec<u8>, AllocError> {
+    let mut bytes = Vec::new(alloc);
+    let mut is_escaped = false;
+    for byte in text.bytes() {
+        let meant = match byte {
+            b't' if is_escaped => b'\t',
+            b'r' if is_escaped => b'\r',
+            b'1' if is_escaped => 1,
+            _ => byte,
+        };
+        is_escaped = byte == b'\\';
+        if !is_escaped {
+            bytes.push(meant)?;
+        }
+    }
+    Ok(bytes)
+}
+
+fn write_bytes(alloc: Global, bytes: HexBytes, out: &mut String) -> Result<(), AllocError> {
+    let mut items = Vec::new(alloc);
+    bytes.append_to(&mut items)?;
+    write_digits(alloc, &items, out)
+}
+
+/// What a line of a log says: the direction, the time and the packet.
+fn write_logged(alloc: Global, logged: LoggedPacket, out: &mut String) -> Result<(), AllocError> {
+    let time = str::from_utf8(logged.time.as_bytes()).unwrap_or("?");
+    let direction = logged.direction;
+    write!(out, "{direction:?} {time} ")?;
+    write_bytes(alloc, logged.packet, out)
+}
+
+/// What a line says.
+pub fn write_line(alloc: Global, text: &str, out: &mut String) -> Result<(), AllocError> {
+    let line = unescaped(alloc, text)?;
+    match read_line(&line) {
+        Line::Packet(bytes) => {
+            out.push_str("Packet ")?;
+            write_bytes(alloc, bytes, out)
+        }
+        Line::Logged(logged) => write_logged(alloc, logged, out),
+        Line::Dumped(part) => {
+            let (form, offset) = (part.form, part.offset);
+            write!(out, "{form:?} {offset} ")?;
+            write_bytes(alloc, part.bytes, out)
+        }
+        other => write!(out, "{other:?}"),
+    }
+}

@@ -1,0 +1,95 @@
+//! What is printed of chunks, faults and packets: each line is a fact, and ends with `|`.
+
+use crate::bytes::word_at;
+use crate::values::chunk_of;
+use dcsctp_crc32c::packet_word;
+use dcsctp_wire::packet::sctp_packet::{ChecksumPolicy, SctpPacket};
+use sctp_report::{ChecksumReport, ChunkReport, FaultReport, PacketReport};
+use std::alloc::{AllocError, Global};
+use std::fmt::Display;
+
+/// Writes the lines of a report.
+fn write_lines<T: Display>(alloc: Global, report: &T, out: &mut String) -> Result<(), AllocError> {
+    let text = report.to_string(alloc)?;
+    let mut is_first = true;
+    for line in text.split("\n") {
+        if !is_first {
+            out.push_str("|; ")?;
+        }
+        out.push_str(line)?;
+        is_first = false;
+    }
+    Ok(())
+}
+
+/// The chunk at the front, with 16 bytes of each value.
+fn write_chunk(alloc: Global, bytes: &[u8], out: &mut String) -> Result<(), AllocError> {
+    match chunk_of(alloc, bytes) {
+        Ok(chunk) => write_lines(
+            alloc,
+            &ChunkReport {
+                chunk: &chunk,
+                most: 16,
+            },
+            out,
+        ),
+        Err(fault) => write!(out, "{fault:?}"),
+    }
+}
+
+/// The first fault under a strict policy that accepts a checksum of 1.
+fn write_fault(alloc: Global, bytes: &[u8], out: &mut String) -> Result<(), AllocError> {
+    let policy = ChecksumPolicy::default().strict();
+    match SctpPacket::first_fault(bytes, 1, &policy) {
+        Some(found) => write_lines(
+            alloc,
+            &FaultReport {
+                bytes,
+                found: &found,
+            },
+            out,
+        ),
+        None => out.push_str("no fault"),
+    }
+}
+
+/// The packet, whatever its checksum is.
+fn write_packet(alloc: Global, bytes: &[u8], out: &mut String) -> Result<(), AllocError> {
+    let word = packet_word(bytes);
+    match SctpPacket::from_bytes(alloc, bytes, word, &ChecksumPolicy::ANY_CHECKSUM) {
+        Ok(packet) => write_lines(
+            alloc,
+            &PacketReport {
+                packet: &packet,
+                word,
+                most: 16,
+            },
+            out,
+        ),
+        Err(error) => write!(out, "{error:?}"),
+    }
+}
+
+/// The two numbers of a checksum field and of the word that is expected there.
+fn write_checksum(bytes: &[u8], out: &mut String) -> Result<(), AllocError> {
+    let (field, word) = (word_at(bytes, 0), word_at(bytes, 4));
+    let report = ChecksumReport { field, word };
+    write!(out, "{report}")
+}
+
+/// Writes the answer, if the call is one of this module.
+pub fn write_answer(
+    alloc: Global,
+    call: &str,
+    bytes: &[u8],
+    out: &mut String,
+) -> Result<bool, AllocError> {
+    match call {
+        "report" => write_chunk(alloc, bytes, out)?,
+        "report-fault" => write_fault(alloc, bytes, out)?,
+        "report-packet" => write_packet(alloc, bytes, out)?,
+        "report-checksum" => write_checksum(bytes, out)?,
+        _ => return Ok(false),
+    }
+    Ok(true)
+}
