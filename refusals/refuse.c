@@ -1,19 +1,21 @@
-/* Preloaded by refusals/test.sh. In the program that REFUSE_IN names, the request for memory with the number REFUSE_AT is refused: a call
-   of malloc or realloc, counted from 1. If REFUSE_COUNT is set, the number of requests is written to standard error at the end. */
+/* Preloaded by refusals/refuse.py. The request for memory with the number REFUSE_AT is refused: a call of malloc or realloc, counted
+   from 1. If that is 0, the number of requests is written to standard error at the end. */
 #define _GNU_SOURCE
 #include <dlfcn.h>
-#include <errno.h>
 #include <stdio.h>
 #include <stdlib.h>
-#include <string.h>
 
 static unsigned long requests, refused;
 
 __attribute__((constructor)) static void begin(void) {
-    const char *name = getenv("REFUSE_IN"), *at = getenv("REFUSE_AT");
-    if (name && at && strcmp(name, program_invocation_short_name) == 0)
-        refused = strtoul(at, NULL, 10);
+    const char *at = getenv("REFUSE_AT");
+    refused = at ? strtoul(at, NULL, 10) : 0;
     requests = 0;
+}
+
+__attribute__((destructor)) static void end(void) {
+    if (!refused)
+        fprintf(stderr, "%lu\n", requests);
 }
 
 static int is_refused(void) {
