@@ -1,9 +1,10 @@
 //! Builders: no room in memory, the switch, and a chunk with a field that it doesn't carry.
 
-use crate::help::chunk_of;
+use crate::help::{chunk_of, raw_of};
+use dcsctp_wire::packet::ChunkParseError;
 use dcsctp_wire::packet::chunk::Chunk;
+use dcsctp_wire::packet::data_chunk::DataChunk;
 use dcsctp_wire::packet::sctp_packet::SctpPacketBuilder;
-use dcsctp_wire::packet::{ChunkParseError, SerializableTlv, round_up_to_4};
 use dcsctp_wire::types::Mid;
 use std::alloc::Global;
 use std::test::Fail;
@@ -11,22 +12,15 @@ use std::test::Fail;
 /// A COOKIE ECHO of one byte.
 const COOKIE: &[u8] = &[0x0a, 0, 0, 5, 0x7f];
 
-/// Whether the chunk is refused, though it has room within the limit.
-fn is_refused(builder: &mut SctpPacketBuilder, chunk: &Chunk) -> bool {
-    chunk.encodable()
-        && round_up_to_4(chunk.serialized_size()) <= builder.bytes_remaining()
-        && builder.add(chunk).is_err()
-}
-
-/// Whether a builder of the largest limit refuses its first chunk by both calls, and holds nothing
-/// then, with as much room as before.
+/// Whether a builder of the largest limit refuses its first chunk, and holds nothing then, with as
+/// much room as before.
 fn refuses_first(alloc: Global) -> Result<bool, ChunkParseError> {
     let chunk = chunk_of(alloc, COOKIE)?;
     let mut builder = SctpPacketBuilder::new(alloc, 7, 1, 2, usize::MAX);
     let room = builder.bytes_remaining();
-    let refused = is_refused(&mut builder, &chunk) && builder.try_add(&chunk).is_err();
+    let is_refused = builder.try_add(&chunk).is_err();
     let is_empty = builder.is_empty() && builder.as_bytes().is_empty();
-    Ok(refused && is_empty && builder.bytes_remaining() == room)
+    Ok(is_refused && is_empty && builder.bytes_remaining() == room)
 }
 
 /// The room after a packet was built and the switch was off, and on again; then a packet that is
@@ -46,11 +40,10 @@ fn switched(alloc: Global) -> Result<(usize, Vec<u8>), ChunkParseError> {
 
 /// DATA with a MID, which it doesn't carry.
 fn data(alloc: Global) -> Result<Chunk, ChunkParseError> {
-    let mut data = chunk_of(alloc, b"\0\x07\0\x10\0\0\0\x01\0\x02\0\x03\0\0\0\x04")?;
-    if let Chunk::Data(chunk) = &mut data {
-        chunk.user_data.mid = Mid(9);
-    }
-    Ok(data)
+    let raw = raw_of(b"\0\x07\0\x10\0\0\0\x01\0\x02\0\x03\0\0\0\x04")?;
+    let mut data = DataChunk::try_from(alloc, raw)?;
+    data.user_data.mid = Mid(9);
+    Ok(Chunk::Data(data))
 }
 
 /// The rooms after a COOKIE ECHO and after that DATA; and the packet.
