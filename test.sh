@@ -32,6 +32,11 @@ compare() {
         docs/api.py --compare
 }
 
+# Whether the program prints the table of rows without their answers too: none of its answers is taken from the table.
+answers_rows_alone() {
+    sed '/^ /d; /^#/!s/ = .*//' crates/wire_rows/stdin | crates/wire_rows/out/wire_rows | cmp - crates/wire_rows/stdout
+}
+
 run_gate() {
     local gate
     compare || exit 1
@@ -39,7 +44,7 @@ run_gate() {
     rt ci | awk -v last="$work/last" 'NR > 1 { print line; fflush() } { line = $0 } END { print line > last }'
     gate=${PIPESTATUS[0]}
     if [ "$gate" -eq 0 ]; then
-        refusals/test.sh || exit 1
+        refusals/test.sh && answers_rows_alone || exit 1
         c/take_libraries.py
         c/test.sh || exit 1
     fi
