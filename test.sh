@@ -37,6 +37,20 @@ answers_rows_alone() {
     sed '/^ /d; /^#/!s/ = .*//' crates/wire_rows/stdin | crates/wire_rows/out/wire_rows | cmp - crates/wire_rows/stdout
 }
 
+# Whether sctp_dump ends with these words on standard error, and with status 2.
+fails_with() {
+    local wanted=$1 said
+    shift
+    said=$(crates/sctp_dump/out/sctp_dump "$@" 2>&1 >"${output:-/dev/null}" <<<1388138801020304000000000b000004)
+    [ $? -eq 2 ] && [ "$said" = "sctp_dump: $wanted" ] || { echo "sctp_dump $*: $said" && return 1; }
+}
+
+# What no stored run shows: its devices don't fail.
+tells_of_failures() {
+    fails_with "no-such-file: can't be opened" no-such-file && fails_with 'unknown option (try --help)' --nonsense &&
+        output=/dev/full fails_with 'a write failed'
+}
+
 run_gate() {
     local gate
     compare || exit 1
@@ -44,7 +58,7 @@ run_gate() {
     rt ci | awk -v last="$work/last" 'NR > 1 { print line; fflush() } { line = $0 } END { print line > last }'
     gate=${PIPESTATUS[0]}
     if [ "$gate" -eq 0 ]; then
-        refusals/test.sh && answers_rows_alone || exit 1
+        refusals/test.sh && answers_rows_alone && tells_of_failures || exit 1
         c/take_libraries.py
         c/test.sh || exit 1
     fi
