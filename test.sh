@@ -46,7 +46,7 @@ fails_with() {
 }
 
 # What no stored run shows: its devices don't fail.
-tells_of_failures() {
+reports_failures() {
     fails_with "no-such-file: can't be opened" no-such-file && fails_with 'unknown option (try --help)' --nonsense &&
         output=/dev/full fails_with 'a write failed'
 }
@@ -58,7 +58,7 @@ run_gate() {
     rt ci | awk -v last="$work/last" 'NR > 1 { print line; fflush() } { line = $0 } END { print line > last }'
     gate=${PIPESTATUS[0]}
     if [ "$gate" -eq 0 ]; then
-        refusals/test.sh && answers_rows_alone && tells_of_failures || exit 1
+        refusals/test.sh && answers_rows_alone && reports_failures || exit 1
         c/take_libraries.py
         c/test.sh || exit 1
     fi
@@ -95,7 +95,7 @@ try_program() {
 
 passed=0 failed=0 left_out=0
 # Says whether a step passed, by its status, and counts it; of one that failed, what it printed.
-tell() {
+report() {
     if [ "$2" -eq 0 ]; then
         passed=$((passed + 1))
         printf 'quick: %s: passed\n' "$1"
@@ -111,7 +111,7 @@ step() {
     local name=$1
     shift
     "$@" >"$work/$name.log" 2>&1
-    tell "$name" $?
+    report "$name" $?
 }
 
 # Whether these files were built after the last change of a source.
@@ -137,7 +137,7 @@ run_quickly() {
     step comparisons compare
     for i in "${!jobs[@]}"; do
         wait "${jobs[i]}"
-        tell "${programs[i]}" $?
+        report "${programs[i]}" $?
     done
     if are_built crates/wire_rows/out/wire_rows crates/sctp_show/out/sctp_show; then
         step 'refused requests' refusals/test.sh

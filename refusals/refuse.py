@@ -5,7 +5,7 @@ usage: refusals/refuse.py LIBRARY
 
 LIBRARY is refuse.c, compiled. Without a refusal a program has to give the right answers. Then it runs once for each of its
 requests, and that one is refused, which has to be seen, and nothing else. Either the program ends and says that memory ran
-out; or one row of its table is answered otherwise. `OutOfMemory` stands in that answer for what a reader or a call gives,
+out; or one row of its table is answered otherwise. `OutOfMemory` is in that answer in place of what a reader or a call returns,
 and each row of rows.txt has to say so in some run. An answer that ends in `no memory` was given up, since the program's own
 request was refused, or that of a call which says no more than this. In faults.txt no row says `OutOfMemory`: each request
 was the program's own, and so a fault takes no memory."""
@@ -76,8 +76,8 @@ def how_it_ran_out(wanted, others, answer):
 
 def refuse_rows(name, may_say):
     table = read(name)
-    rows, told, own = rows_of(table), set(), 0
-    # Further right answers: what stands after `#or` in a line below the row.
+    rows, ran_out, own = rows_of(table), set(), 0
+    # Further right answers: what comes after `#or` in a line below the row.
     others = [line.removeprefix('#or ') for line in table.splitlines() if line.startswith('#or ')]
     for request, found in enumerate(refuse_each('wire_rows', table, 0, table), 1):
         if found == ROWS_ENDED:
@@ -93,11 +93,11 @@ def refuse_rows(name, may_say):
         if len(said) > 1 or said[0] not in may_say:
             give_up(where, *(line for it in changed for line in (it[0], f'wanted   {it[1]}', f'answered {it[2]}')))
         if said[0] == 'OutOfMemory':
-            told.add(changed[0][0])
+            ran_out.add(changed[0][0])
         else:
             own += 1
-    print(f"refusals: {name}: {request} requests, {own} of them the program's own; {len(told)} of {len(rows)} rows ran out of memory")
-    never = [call for call, _ in rows if call not in told]
+    print(f"refusals: {name}: {request} requests, {own} of them the program's own; {len(ran_out)} of {len(rows)} rows ran out of memory")
+    never = [call for call, _ in rows if call not in ran_out]
     if 'OutOfMemory' in may_say and never:
         give_up('rows that never ran out of memory:', *never)
 

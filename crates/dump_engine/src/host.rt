@@ -21,9 +21,9 @@ const REFUSED: u8 = 1;
 const FAILED: u8 = 2;
 
 /// Does what the host's arguments say, and returns the status: 0 if all packets were accepted, 1 if
-/// some were refused, 2 if an input couldn't be read, the output written, or memory ran out. What
-/// failed is told on standard error. No clause says what is printed, since none of std's says what
-/// a host is asked for: that `dump` adds what it should to its writer its own clauses say.
+/// some were refused, 2 if an input couldn't be read, the output written, or memory ran out.
+/// Reports each failure on standard error. No clause says what is printed, since no clause of std says what
+/// a host is asked for; the clauses of `dump` say what is added to its writer.
 pub fn run(rt: &HostRuntime) -> u8
     ensures { result ≤ 2 }
 {

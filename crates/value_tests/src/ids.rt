@@ -105,7 +105,7 @@ fn precedes<T: Ord + Copy>(a: T, b: T) -> bool {
 
 /// Whether numbers that are converted print so, plainly and for a developer, and those of 1 and 2
 /// differ.
-fn are_told<N: From<u8> + Copy, T: From<N> + Eq + Hash + Copy + Debug + Display>(
+fn are_printed<N: From<u8> + Copy, T: From<N> + Eq + Hash + Copy + Debug + Display>(
     alloc: Global,
     numbers: &[N],
     wanted: &str,
@@ -126,13 +126,13 @@ fn are_told<N: From<u8> + Copy, T: From<N> + Eq + Hash + Copy + Debug + Display>
 #[test]
 fn numbers(rt: HostRuntime) -> Result<(), Fail> {
     let alloc = rt.alloc();
-    assert!(rt; are_told::<u16, Ssn>(alloc, &[65_535], "65535 65535 ")?);
-    assert!(rt; are_told::<u16, StreamId>(alloc, &[300, 345], "300 300 345 345 ")?);
-    assert!(rt; are_told::<u32, Mid>(alloc, &[70_000, 0], "70000 70000 0 0 ")?);
-    assert!(rt; are_told::<u32, Fsn>(alloc, &[5, 10], "5 5 10 10 ")?);
-    assert!(rt; are_told::<u32, Tsn>(alloc, &[u32::MAX], "4294967295 4294967295 ")?);
-    assert!(rt; are_told::<u32, OutgoingMessageId>(alloc, &[8, 12], "8 8 12 12 ")?);
-    assert!(rt; are_told::<u32, PpId>(alloc, &[53], "53 53 ")?);
+    assert!(rt; are_printed::<u16, Ssn>(alloc, &[65_535], "65535 65535 ")?);
+    assert!(rt; are_printed::<u16, StreamId>(alloc, &[300, 345], "300 300 345 345 ")?);
+    assert!(rt; are_printed::<u32, Mid>(alloc, &[70_000, 0], "70000 70000 0 0 ")?);
+    assert!(rt; are_printed::<u32, Fsn>(alloc, &[5, 10], "5 5 10 10 ")?);
+    assert!(rt; are_printed::<u32, Tsn>(alloc, &[u32::MAX], "4294967295 4294967295 ")?);
+    assert!(rt; are_printed::<u32, OutgoingMessageId>(alloc, &[8, 12], "8 8 12 12 ")?);
+    assert!(rt; are_printed::<u32, PpId>(alloc, &[53], "53 53 ")?);
     let last = LifecycleId::from(u64::MAX);
     let text = format!(in alloc; "{last} {last:?}")?;
     assert!(rt; text.as_str() == "18446744073709551615 18446744073709551615");

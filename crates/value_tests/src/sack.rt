@@ -77,15 +77,15 @@ fn sizes(rt: HostRuntime) -> Result<(), Fail> {
 enum List {
     /// The even offsets from 2 on.
     Even,
-    /// The first so many of them by falling start; and after them a block that covers all of 300,
+    /// The first `n` of them by falling start; and after them a block that covers all of 300,
     /// from 1 to 601.
     Falling(u16),
-    /// So many even offsets, half of them from 2 on, and the others up to 65534.
+    /// `n` even offsets, half of them from 2 on, and the others up to 65534.
     Apart(u16),
     /// The same, by turns from the front and from the end.
     Alternating(u16),
-    /// A low block and a high one, and between them so many by falling start: none of these follows
-    /// the last run. And then one that joins the lowest of them to the low block.
+    /// A low block and a high one, and between them `n` by falling start: none of these follows the
+    /// last run. And then one that joins the lowest of them to the low block.
     Between(u16),
     /// The same by rising start; and where the second number is 1, as they are joined.
     Rising(u16, u16),
@@ -133,7 +133,7 @@ fn block_of(list: List, i: u16) -> GapAckBlock {
     }
 }
 
-/// The first so many blocks of the list.
+/// The first `count` blocks of the list.
 fn blocks_of(alloc: Global, list: List, count: u16) -> Result<Vec<GapAckBlock>, AllocError> {
     let mut blocks = Vec::new(alloc);
     for i in 0..count {

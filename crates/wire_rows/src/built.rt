@@ -39,7 +39,7 @@ fn write_room(builder: &SctpPacketBuilder, out: &mut String) -> Result<(), Alloc
 }
 
 /// Whether a chunk was added; it may be refused for memory, and then the next one is tried.
-fn told(answer: Result<bool, AllocError>) -> &'static str {
+fn word_of(answer: Result<bool, AllocError>) -> &'static str {
     match answer {
         Ok(true) => "true",
         Ok(false) => "false",
@@ -59,7 +59,7 @@ fn write_added(
     if !add_words(alloc, words, &mut bytes)? {
         return out.push_str(", no row");
     }
-    let text = told(add_bytes(alloc, builder, &bytes, is_tried));
+    let text = word_of(add_bytes(alloc, builder, &bytes, is_tried));
     let (is_empty, room) = (builder.is_empty(), builder.bytes_remaining());
     let mark = if is_empty && text == "true" {
         " to nothing"

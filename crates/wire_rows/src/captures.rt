@@ -8,7 +8,7 @@ use sctp_capture::pcap::{ByteOrder, input_kind, read_file_header, read_record_he
 use std::alloc::{AllocError, Global};
 use std::fmt::Debug;
 
-fn write_told<T: Debug>(value: &T, out: &mut String) -> Result<(), AllocError> {
+fn write_debug<T: Debug>(value: &T, out: &mut String) -> Result<(), AllocError> {
     write!(out, "{value:?}")
 }
 
@@ -17,7 +17,7 @@ fn write_file_header(bytes: &[u8], out: &mut String) -> Result<(), AllocError> {
     if bytes.len() < 24 {
         return out.push_str("no header");
     }
-    write_told(&read_file_header(bytes), out)
+    write_debug(&read_file_header(bytes), out)
 }
 
 /// The header of a record, 16 bytes, in both orders.
@@ -25,16 +25,16 @@ fn write_record_header(bytes: &[u8], out: &mut String) -> Result<(), AllocError>
     if bytes.len() < 16 {
         return out.push_str("no header");
     }
-    write_told(&read_record_header(ByteOrder::BigEndian, bytes), out)?;
+    write_debug(&read_record_header(ByteOrder::BigEndian, bytes), out)?;
     out.push_str("; ")?;
-    write_told(&read_record_header(ByteOrder::LittleEndian, bytes), out)
+    write_debug(&read_record_header(ByteOrder::LittleEndian, bytes), out)
 }
 
 /// What is found in a frame: a link's type of two bytes, how long the frame was, and the frame.
 fn write_found(bytes: &[u8], out: &mut String) -> Result<(), AllocError> {
     match packet_in(short_at(bytes, 0), word_at(bytes, 2), from(bytes, 6)) {
-        Ok(packet) => write_told(&packet, out),
-        Err(none) => write_told(&none, out),
+        Ok(packet) => write_debug(&packet, out),
+        Err(none) => write_debug(&none, out),
     }
 }
 
@@ -42,12 +42,12 @@ fn write_found(bytes: &[u8], out: &mut String) -> Result<(), AllocError> {
 /// are held have four bytes each.
 pub fn write_answer(call: &str, bytes: &[u8], out: &mut String) -> Result<bool, AllocError> {
     match call {
-        "input-kind" => write_told(&input_kind(bytes), out)?,
+        "input-kind" => write_debug(&input_kind(bytes), out)?,
         "file-header" => write_file_header(bytes, out)?,
         "record-header" => write_record_header(bytes, out)?,
-        "known-link" => write_told(&is_known_link(short_at(bytes, 0)), out)?,
+        "known-link" => write_debug(&is_known_link(short_at(bytes, 0)), out)?,
         "link-frame" => write_found(bytes, out)?,
-        "place" => write_told(
+        "place" => write_debug(
             &place_of(word_at(bytes, 0), word_at(bytes, 4) as usize),
             out,
         )?,

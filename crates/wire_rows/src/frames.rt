@@ -78,7 +78,7 @@ fn write_frame(
     Ok(())
 }
 
-/// How `a` stands to `b`, and how far they are apart.
+/// The order of `a` and `b`, and how far they are apart.
 fn write_order<S: SerialNumber>(
     a: S,
     b: S,
