@@ -149,9 +149,10 @@ def constants_of_library():
     if codes != proved:
         raise Unreadable(f'the codes of codes.rt and of Code.antt differ: {codes} and {proved}')
     wire = 'crates/dcsctp_wire/src'
-    types = re.findall(r'^pub const (\w+): u8', read(f'{wire}/packet/chunk_types.rt'), flags=re.M)
+    text = read(f'{wire}/laws.rt')
+    types = re.findall(r'CHUNK_TYPE as (\w+)', text)
     # a law of the library says which number each is
-    laws = dict(re.findall(r'ensures \w+ \{ (\w+) ≡ (\d+) \}', read(f'{wire}/laws.rt')))
+    laws = dict(re.findall(r'ensures \w+ \{ (\w+) ≡ (\d+) \}', text))
     codes |= {name: laws[name] for name in types}
     size = re.search(r'^pub const COMMON_HEADER_SIZE: usize = (\d+);', read(f'{wire}/packet/common_header.rt'), flags=re.M)
     codes['FIRST_CHUNK'] = size[1]

@@ -7,21 +7,24 @@ use Rattle.dcsctp_tlv.specs.Level.{Row, as_row, map_ok}
 use Rattle.dcsctp_tlv.specs.Table.{Named, IsUnnamed}
 use Rattle.dcsctp_tlv.proofs.KindLaws.{of_map_ok}
 use Rattle.dcsctp_tlv.proofs.Tables.{EachNamed, of_table}
-use Rattle.dcsctp_chunk.specs.PlainKinds.{PlainKind, plain_kinds, TreesOf, plain_rows}
+use Rattle.dcsctp_tlv.specs.Kinds.{Kind, TreesOf, own_row, rows}
+use Rattle.dcsctp_chunk.specs.PlainKinds.{plain_kinds}
 use Rattle.dcsctp_chunk.specs.Unknown.{Tree as UnknownTree, read as unknown_at}
-use Rattle.dcsctp_wire.specs.Chunk.{ChunkTree, Unknown, list_rows, plain_trees, table, chunk_row}
+use Rattle.dcsctp_tlv.proofs.Owed.{down}
+use Rattle.dcsctp_wire.specs.Chunk.{ChunkTree, Unknown, list_rows, plain_trees, plain_rows, table, chunk_row}
 
 -- it holds of each tree that the row means
 abbrev pub OfRow : (ℕ → List ℕ → ChunkTree → Type 0) → ℕ → Row ChunkTree → Type 0
 OfRow Holds typ row = (value : List ℕ) (t : ChunkTree) → row.means value t → Holds typ value t
 
 -- of each tree that one of the kinds reads
-abbrev pub OfPlain : (ℕ → List ℕ → ChunkTree → Type 0) → (ks : List PlainKind)
+abbrev pub OfPlain : (ℕ → List ℕ → ChunkTree → Type 0) → ℕ → (ks : List Kind)
     → TreesOf ks ChunkTree → Type 0
-OfPlain Holds [] trees = Unit {0}
-OfPlain Holds (k ∷ ks) trees =
-    ((value : List ℕ) (x : k.Tree) → k.read value ≡ Ok x → Holds k.typ value (trees.0 x))
-    × OfPlain Holds ks trees.1
+OfPlain Holds flags [] trees = Unit {0}
+OfPlain Holds flags (k ∷ ks) trees =
+    ((value : List ℕ) (x : k.Tree) → (own_row lenient flags k.reader).means value x
+    → Holds k.typ value (trees.0 x))
+    × OfPlain Holds flags ks trees.1
 
 each_append : (Holds : ℕ → Row ChunkTree → Type 0) (xs ys : List (Named ChunkTree))
     → EachNamed Holds xs → EachNamed Holds ys → EachNamed Holds (xs ++ ys)
@@ -35,12 +38,14 @@ module _ (Holds : ℕ → List ℕ → ChunkTree → Type 0) where
   of_read typ value tree r h t m =
       let x = of_map_ok tree r t m in subst (Holds typ value) (sym x.1.1) (h x.0 x.1.0)
 
-  of_plain : (ks : List PlainKind) (trees : TreesOf ks ChunkTree) → OfPlain Holds ks trees
-      → EachNamed (OfRow Holds) (plain_rows ks trees)
-  of_plain [] trees h = tt
-  of_plain (k ∷ ks) trees h = (
-    λ value. of_read k.typ value trees.0 (k.read value) (h.0 value),
-    of_plain ks trees.1 h.1,
+  of_plain : (flags : ℕ) (ks : List Kind) (trees : TreesOf ks ChunkTree)
+      → OfPlain Holds flags ks trees → EachNamed (OfRow Holds) (rows lenient flags ks trees)
+  of_plain flags [] trees h = tt
+  of_plain flags (k ∷ ks) trees h = (
+    λ value t m.
+    (let d = down trees.0 lenient flags k.reader value t m in
+    subst (Holds k.typ value) (sym d.1.1) (h.0 value d.0 d.1.0)),
+    of_plain flags ks trees.1 h.1,
   )
 
   -- a kind with a list
@@ -51,13 +56,12 @@ module _ (Holds : ℕ → List ℕ → ChunkTree → Type 0) where
 
   -- of the kinds with a list, of those without, and of all other types
   pub of_chunk : (typ flags : ℕ) → EachNamed (OfRow Holds) (list_rows lenient flags)
-      → OfPlain Holds (plain_kinds flags) (plain_trees flags)
+      → OfPlain Holds flags plain_kinds plain_trees
       → (IsUnnamed (table lenient flags) typ → (value : List ℕ) (u : UnknownTree)
       → Holds typ value (Unknown u))
       → OfRow Holds typ (chunk_row lenient typ flags)
   of_chunk typ flags lists plains others = of_table (OfRow Holds) (table lenient flags) typ _
       (each_append (OfRow Holds) (list_rows lenient flags)
-      (plain_rows (plain_kinds flags) (plain_trees flags)) lists
-      (of_plain (plain_kinds flags) (plain_trees flags) plains))
+      (plain_rows flags) lists (of_plain flags plain_kinds plain_trees plains))
       (λ unnamed value.
       of_read typ value Unknown (unknown_at typ flags value) (λ u e. others unnamed value u))

@@ -1,79 +1,85 @@
--- The laws of the table of error causes: a line for each kind.
-use Rattle.std.proofs.Common.{rules, ◌≡◌, ℕ, Bool, ◌^◌, ◌<◌, List, [], ◌∷◌, length, refl, inl, inr}
-use Rattle.std.specs.Int.{w16, from_be_bytes}
+-- The laws of the table of error causes: a line for each kind of what it owes.
+use Rattle.std.proofs.Common.{rules, ◌≡◌, ℕ, Bool, List, length, Result, refl, inl, inr}
 use Rattle.std.specs.Str.{IsUtf8}
-use Rattle.std.specs.List.{AllByRecursion}
-use Rattle.dcsctp_tlv.specs.Decided.{IgnoresPadding}
+use Rattle.dcsctp_tlv.specs.Decided.{LawfulRow, IgnoresPadding}
 use Rattle.dcsctp_tlv.specs.Frame.{lenient}
-use Rattle.dcsctp_tlv.specs.Level.{Row}
-use Rattle.dcsctp_tlv.specs.Image.{Tlv, zeroed, size_of, image_of, list_size}
-use Rattle.dcsctp_tlv.specs.Table.{◌&◌}
+use Rattle.dcsctp_tlv.specs.Image.{Tlv, zeroed, size_of, image_of}
+use Rattle.dcsctp_tlv.specs.Table.{Content, Text, ◌&◌}
+use Rattle.dcsctp_tlv.specs.declared.error.ChunkParseError.{ChunkParseError}
+use Rattle.dcsctp_tlv.specs.Kinds.{ChecksKind}
+use Rattle.dcsctp_tlv.specs.Reading.{Answers, checking, RowTested}
 use Rattle.dcsctp_tlv.proofs.Lengths.{length-format}
-use Rattle.dcsctp_tlv.specs.UnknownParameter as unknown
-use Rattle.dcsctp_tlv.proofs.Laws.{LawfulRow, Lawful}
-use Rattle.dcsctp_tlv.proofs.FormatLaws.{good_list}
+use Rattle.dcsctp_tlv.proofs.Laws.{Lawful}
+use Rattle.dcsctp_tlv.proofs.Owed.{AllOwed, OwedOf, plain_owed, owed_if, back_of}
 use Rattle.dcsctp_tlv.proofs.Places.{AtFront}
 use Rattle.dcsctp_tlv.proofs.Lenient.{Loosens}
-use Rattle.dcsctp_tlv.proofs.TableLaws.{RowLaws, kind, kind_if, unknown_row, unknown_means}
-use Rattle.dcsctp_tlv.proofs.Tables.{MeansAny, of_table}
+use Rattle.dcsctp_tlv.proofs.TableLaws.{TypedFacts, typed_row_lawful, typed_at_front, typed_lawful, typed_looser, typed_form, typed_account, typed_unpadded, typed_tested, unknown_means}
 use Rattle.dcsctp_tlv.proofs.ReadsBack.{ReadsBack}
-use Rattle.dcsctp_tlv.proofs.KindLaws.{IsGood, back_as}
-use Rattle.dcsctp_tlv.proofs.Unpadded.{list_unpadded}
+use Rattle.dcsctp_tlv.proofs.KindLaws.{IsGood}
 use Rattle.dcsctp_tlv.proofs.Forms.{FormsTrees}
 use Rattle.dcsctp_tlv.proofs.Accounts.{Accounts}
-use Rattle.dcsctp_tlv.proofs.Counts.{Counts, one_each}
-use Rattle.dcsctp_cause.specs.Text.{item_code}
-use Rattle.dcsctp_cause.specs.Cause.{CauseTree, MissingMandatoryParameter, UnrecognizedChunk, NoUserData, CookieReceivedWhileShuttingDown, UserInitiatedAbort, ProtocolViolation, Unknown, table, row, causes, format, tlv, IsInWidth, IsWellFormed, HoldsText, IsTextKept}
-use Rattle.dcsctp_cause.specs.UnrecognizedChunk as chunk
-use Rattle.dcsctp_cause.specs.UserInitiatedAbort as abort
-use Rattle.dcsctp_cause.specs.ProtocolViolation as violation
+use Rattle.dcsctp_cause.specs.Cause.{CauseTree, Unknown, kinds, trees, table, row, causes, entry, format, tlv, IsWellFormed, HoldsText, IsTextKept}
 use Rattle.dcsctp_cause.proofs.CauseKinds.{missing_laws, chunk_laws, no_user_data_laws, cookie_received_laws, abort_laws, violation_laws}
 
--- ---- what each row has to satisfy
+-- ---- what each kind owes
 
--- the laws of a row, where a text is kept
-abbrev Owes : ℕ → Row CauseTree → Type 0
-Owes = RowLaws tlv IsWellFormed (λ code value. HoldsText code → IsUtf8 value)
+-- a text keeps its size where it is UTF-8
+abbrev Keeps : Content → List ℕ → Type 0
+Keeps Text value = IsUtf8 value
+Keeps content value = Unit {0}
 
-rows : (code : ℕ) → Owes code (row code)
-rows code = of_table Owes table code _ (
-    kind missing_laws MissingMandatoryParameter (λ x h. h) (λ x. refl) &
-    kind chunk_laws UnrecognizedChunk (λ x h. h) (λ x. refl) &
-    kind no_user_data_laws NoUserData (λ x h. h) (λ x. refl) &
-    kind cookie_received_laws (λ _. CookieReceivedWhileShuttingDown) (λ x h. h) (λ x. refl) &
-    kind_if abort_laws UserInitiatedAbort (λ x h. h) (λ x. refl) (λ value kept. kept (inl refl)) &
-    kind_if violation_laws ProtocolViolation (λ x h. h) (λ x. refl) (λ value kept. kept (inr refl))
-    & tt)
-    (λ unnamed. unknown_row Unknown (λ u. refl) (λ value. unnamed))
+owed : AllOwed Keeps kinds
+owed =
+    plain_owed 2 _ missing_laws &
+    plain_owed 6 _ chunk_laws &
+    plain_owed 9 _ no_user_data_laws &
+    plain_owed 10 _ cookie_received_laws &
+    owed_if 12 _ abort_laws (λ value is. is) &
+    owed_if 13 _ violation_laws (λ value is. is) & tt
+
+-- what the kind of each tree owes
+owed_of : (t : CauseTree) → OwedOf Keeps (entry t)
+owed_of (Unknown u) = tt
+owed_of t = assumption owed
+
+-- ---- what the level has
+
+facts : TypedFacts kinds trees entry Unknown Keeps (λ code value. HoldsText code → IsUtf8 value)
+facts = record {
+  owed = owed;
+  found = search (rules, inl, inr);
+  fixed = search rules;
+  same = λ u. refl;
+  formed = λ u unnamed. unnamed;
+  one = λ u. refl;
+}
 
 pub row_lawful : (code : ℕ) → LawfulRow (row code)
-row_lawful code = (rows code).plain.0
+row_lawful = typed_row_lawful facts
 
--- a cause's fault is that of the cause as a whole
 pub row_at_front : (code : ℕ) → AtFront (row code)
-row_at_front code = (rows code).plain.1
+row_at_front = typed_at_front facts
 
--- each value of a cause means one tree or has one fault
+-- a check that says what the kind does says what the table does
+pub cause_tested : (code : ℕ) (value : List ℕ) (r : Result (Unit {0}) ChunkParseError)
+    → ChecksKind kinds 0 code value r
+    → Answers checking (λ (u : Unit {0}). u) (RowTested (row code) value) r
+cause_tested = typed_tested facts
+
 pub causes_lawful : (strict : Bool) → Lawful (causes strict)
-causes_lawful strict = λ first second. row_lawful (from_be_bytes w16 (first ∷ second ∷ []))
+causes_lawful = typed_lawful facts
 
--- a strict reader's causes are a lenient one's
 pub causes_looser : (strict : Bool) → Loosens (causes strict) (causes lenient)
-causes_looser strict = record { row = λ first second value t m. m; any = λ size there. refl }
+causes_looser = typed_looser facts
 
--- ---- any value
+pub causes_form : FormsTrees (causes lenient) IsWellFormed
+causes_form = typed_form facts
 
--- the codes that don't allow any value
-abbrev checked : List ℕ
-checked = 2 ∷ 9 ∷ 10 ∷ []
+pub causes_account : Accounts (causes lenient) tlv IsTextKept
+causes_account = typed_account facts
 
--- any value of another code has a meaning
-pub any_value : (code : ℕ) (value : List ℕ) → MeansAny checked value code (row code)
-unfolding chunk.read abort.read violation.read unknown.read
-any_value code value = of_table (MeansAny checked value) table code _ (
-    (search rules) & (λ _. (_, refl)) & (search rules) & (search rules) & (λ _. (_, refl)) &
-    (λ _. (_, refl)) & tt)
-    (λ _ _. (_, refl))
+pub causes_unpadded : IgnoresPadding (causes lenient)
+causes_unpadded = typed_unpadded facts
 
 -- ---- reading back
 
@@ -86,14 +92,8 @@ abbrev Means : Tlv → CauseTree → Type 0
 Means tlv t = ((causes lenient).row tlv.first tlv.second).means (zeroed tlv.value) t
 
 cause_means : (t : CauseTree) → IsGoodCause t → Means (tlv t) t
-cause_means (MissingMandatoryParameter x) = back_as missing_laws MissingMandatoryParameter
-cause_means (UnrecognizedChunk x) = back_as chunk_laws UnrecognizedChunk
-cause_means (NoUserData x) = back_as no_user_data_laws NoUserData
-cause_means CookieReceivedWhileShuttingDown =
-    back_as cookie_received_laws (λ _. CookieReceivedWhileShuttingDown)
-cause_means (UserInitiatedAbort x) = back_as abort_laws UserInitiatedAbort
-cause_means (ProtocolViolation x) = back_as violation_laws ProtocolViolation
-cause_means (Unknown u) = λ good. unknown_means table Unknown u good.formed
+cause_means (Unknown u) good = unknown_means table Unknown u good.formed
+cause_means t good = back_of Keeps lenient (entry t) (owed_of t) good
 
 -- an image is as long as its size
 pub length-cause : (t : CauseTree) → length (image_of (tlv t)) ≡ size_of (tlv t)
@@ -102,31 +102,3 @@ length-cause t = length-format (format t)
 pub causes_read_back : (strict : Bool) → ReadsBack (causes strict) tlv IsGoodCause
 causes_read_back strict =
     record { sized = λ t. (format t).sized; fits = λ t good. good.encodable; means = cause_means }
-
--- the causes of a list that can be written
-pub good_causes : (ts : List CauseTree) → AllByRecursion IsInWidth ts
-    → AllByRecursion IsWellFormed ts → list_size tlv ts < 2 ^ 16 → AllByRecursion IsGoodCause ts
-good_causes ts width formed fits = good_list format ts width formed fits
-
--- ---- well-formed
-
-pub causes_form : FormsTrees (causes lenient) IsWellFormed
-causes_form =
-    record { formed = λ first second. (rows (from_be_bytes w16 (first ∷ second ∷ []))).forms }
-
--- ---- the size account
-
-pub causes_account : Accounts (causes lenient) tlv IsTextKept
-causes_account = record { sized = λ i t kept. (rows (item_code i)).account i.value t kept }
-
--- ---- padding
-
-pub causes_unpadded : IgnoresPadding (causes lenient)
-causes_unpadded =
-    list_unpadded (causes lenient) (λ _ _. refl)
-    (λ first second. (rows (from_be_bytes w16 (first ∷ second ∷ []))).unpadded)
-
--- ---- the bound on their number
-
-pub causes_count : Counts (causes lenient) (λ t. 1)
-causes_count = one_each (causes lenient)

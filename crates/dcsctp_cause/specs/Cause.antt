@@ -2,15 +2,15 @@
 use Rattle.std.specs.Prelude.{◌≡◌, ℕ, Bool, List, [], ◌∷◌, map, vec_len, vec_capacity}
 use Rattle.std.specs.String.{string_len, string_capacity}
 use Rattle.std.specs.Str.{IsUtf8}
-use Rattle.std.specs.Int.{w16, from_be_bytes}
-use Rattle.dcsctp_tlv.specs.Frame.{Item, zero_padding}
+use Rattle.dcsctp_tlv.specs.Frame.{Item, lenient}
 use Rattle.dcsctp_tlv.specs.Image.{Tlv}
-use Rattle.dcsctp_tlv.specs.Level.{Row, Level, plain, map_ok}
-use Rattle.dcsctp_tlv.specs.Table.{Named, named, row_of, IsUnnamed, Fixed, Varied, Text, is_fixed, is_text, types_where, IsOneOf}
+use Rattle.dcsctp_tlv.specs.Level.{Row, Level}
+use Rattle.dcsctp_tlv.specs.Table.{Named, IsUnnamed, is_fixed, is_text, types_where, IsOneOf, ◌&◌}
 use Rattle.dcsctp_tlv.specs.Format.{Format}
+use Rattle.dcsctp_tlv.specs.Kinds.{Kind, TreesOf, rows, Entry, Of, Unnamed, format_of}
+use Rattle.dcsctp_tlv.specs.Typed.{item_type, typed_row, typed_level}
 use Rattle.dcsctp_tlv.specs.UnknownParameter as unknown
 use Rattle.dcsctp_cause.specs as kind
-use Rattle.dcsctp_cause.specs.Text.{item_code}
 use Rattle.dcsctp_cause.specs.declared.error_causes.ErrorCause.{ErrorCause}
 use Rattle.dcsctp_cause.specs.declared.error_causes.ErrorCause.TheVariants as variant
 
@@ -24,27 +24,31 @@ pub data CauseTree : Type 0 where
   ProtocolViolation : List ℕ → CauseTree
   Unknown : unknown.Tree → CauseTree
 
--- the codes that are named, what the values of each hold, and how one is read
+-- the kinds that are named, by code; and their trees as trees of a cause, in the same order
+abbrev pub kinds : List Kind
+kinds =
+    kind.MissingMandatoryParameter.kind ∷
+    kind.UnrecognizedChunk.kind ∷
+    kind.NoUserData.kind ∷
+    kind.CookieReceivedWhileShuttingDown.kind ∷
+    kind.UserInitiatedAbort.kind ∷
+    kind.ProtocolViolation.kind ∷ []
+
+abbrev pub trees : TreesOf kinds CauseTree
+trees =
+    MissingMandatoryParameter & UnrecognizedChunk & NoUserData
+    & (λ _. CookieReceivedWhileShuttingDown) & UserInitiatedAbort & ProtocolViolation & tt
+
 abbrev pub table : List (Named CauseTree)
-table =
-    named 2 Varied MissingMandatoryParameter kind.MissingMandatoryParameter.read ∷
-    named 6 Varied UnrecognizedChunk kind.UnrecognizedChunk.read ∷
-    named 9 Fixed NoUserData kind.NoUserData.read ∷
-    named 10 Fixed (λ _. CookieReceivedWhileShuttingDown)
-    kind.CookieReceivedWhileShuttingDown.read ∷
-    named 12 Text UserInitiatedAbort kind.UserInitiatedAbort.read ∷
-    named 13 Text ProtocolViolation kind.ProtocolViolation.read ∷ []
+table = rows lenient 0 kinds trees
 
 -- what the value of a code means, and its faults
 abbrev pub row : ℕ → Row CauseTree
-row code = row_of table code (plain (λ value. map_ok Unknown (unknown.read code value)))
+row = typed_row table Unknown
 
 -- lists of causes, for a strict reader or a lenient one
 abbrev pub causes : Bool → Level CauseTree
-causes strict = record {
-  row = λ first second. row (from_be_bytes w16 (first ∷ second ∷ []));
-  padding = zero_padding strict;
-}
+causes = typed_level row
 
 -- what such a value means holds nothing on the heap
 abbrev pub TakesNoMemory : ℕ → Type 0
@@ -56,17 +60,24 @@ HoldsText code = IsOneOf (types_where is_text table) code
 
 -- The cause keeps its bytes: if its value is read as a text, then it is UTF-8.
 abbrev pub IsTextKept : Item → Type 0
-IsTextKept i = HoldsText (item_code i) → IsUtf8 i.value
+IsTextKept i = HoldsText (item_type i) → IsUtf8 i.value
 
--- what is said of a cause; an Unknown one has a code that isn't named
+-- the kind of a cause, and its tree there; an Unknown one has a code that isn't named
+abbrev pub entry : CauseTree → Entry CauseTree
+entry (MissingMandatoryParameter types) =
+    Of kind.MissingMandatoryParameter.kind MissingMandatoryParameter types
+entry (UnrecognizedChunk chunk) = Of kind.UnrecognizedChunk.kind UnrecognizedChunk chunk
+entry (NoUserData tsn) = Of kind.NoUserData.kind NoUserData tsn
+entry CookieReceivedWhileShuttingDown =
+    Of kind.CookieReceivedWhileShuttingDown.kind (λ _. CookieReceivedWhileShuttingDown) tt
+entry (UserInitiatedAbort reason) = Of kind.UserInitiatedAbort.kind UserInitiatedAbort reason
+entry (ProtocolViolation information) = Of kind.ProtocolViolation.kind ProtocolViolation information
+entry (Unknown u) =
+    Unnamed (record (unknown.format u) { IsWellFormed = IsUnnamed table u.typ })
+
+-- what is said of a cause
 abbrev pub format : CauseTree → Format
-format (MissingMandatoryParameter types) = kind.MissingMandatoryParameter.format types
-format (UnrecognizedChunk chunk) = kind.UnrecognizedChunk.format chunk
-format (NoUserData tsn) = kind.NoUserData.format tsn
-format CookieReceivedWhileShuttingDown = kind.CookieReceivedWhileShuttingDown.format tt
-format (UserInitiatedAbort reason) = kind.UserInitiatedAbort.format reason
-format (ProtocolViolation information) = kind.ProtocolViolation.format information
-format (Unknown u) = record (unknown.format u) { IsWellFormed = IsUnnamed table u.typ }
+format t = format_of (entry t)
 
 abbrev pub tlv : CauseTree → Tlv
 tlv t = (format t).tlv

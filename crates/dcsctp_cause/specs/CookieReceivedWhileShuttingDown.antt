@@ -1,6 +1,6 @@
 -- Cookie Received While Shutting Down (RFC 9260 section 3.3.10.10): code 10, an empty value.
 use Rattle.std.specs.Prelude.{ℕ, List, [], ◌==◌, Result, Ok, Err, if◌then◌else◌, length, codes, refl}
-use Rattle.dcsctp_tlv.specs.Kind.{Fault, Length, Format, sized_tlv}
+use Rattle.dcsctp_tlv.specs.Kind.{Fault, Length, Format, sized_tlv, Kind, plain_kind, Fixed}
 use Rattle.dcsctp_cause.specs.declared.cookie_received_while_shutting_down.CookieReceivedWhileShuttingDownErrorCause.{CookieReceivedWhileShuttingDownErrorCause}
 
 unfoldable pub read : List ℕ → Result (Unit {0}) Fault
@@ -17,3 +17,6 @@ format c = record {
 
 abbrev pub view : CookieReceivedWhileShuttingDownErrorCause → Unit {0}
 view c = tt
+
+abbrev pub kind : Kind
+kind = plain_kind 10 Fixed (λ flags. read) format

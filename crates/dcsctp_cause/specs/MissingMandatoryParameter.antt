@@ -7,7 +7,7 @@ use Rattle.std.specs.Prelude.{ℕ, ◌+◌, ◌*◌, ◌<◌, ◌^◌, List, [],
 use Rattle.std.specs.Fmt.{decimal}
 use Rattle.std.specs.List.{AllByRecursion}
 use Rattle.std.specs.Int.{w16, w32}
-use Rattle.dcsctp_tlv.specs.Kind.{Fault, Length, fields, number16, number32, numbers, joined, Format, sized_tlv, length-words}
+use Rattle.dcsctp_tlv.specs.Kind.{Fault, Length, fields, number16, number32, numbers, joined, Format, sized_tlv, length-words, Kind, plain_kind, Varied}
 use Rattle.dcsctp_cause.specs.declared.missing_mandatory_parameter_error_cause.MissingMandatoryParameterErrorCause.{MissingMandatoryParameterErrorCause}
 
 unfoldable pub read : List ℕ → Result (List ℕ) Fault
@@ -29,3 +29,6 @@ format types = record {
 
 abbrev pub view : MissingMandatoryParameterErrorCause → List ℕ
 view c = c.missing_parameters.items
+
+abbrev pub kind : Kind
+kind = plain_kind 2 Varied (λ flags. read) format

@@ -3,7 +3,7 @@
 use Rattle.std.specs.Prelude.{ℕ, ◌<◌, ◌^◌, List, ◌++◌, ◌==◌, Result, Ok, Err, if◌then◌else◌, length, codes, refl}
 use Rattle.std.specs.Fmt.{decimal}
 use Rattle.std.specs.Int.{w32, to_be_bytes}
-use Rattle.dcsctp_tlv.specs.Kind.{Fault, Length, number32, Format, sized_tlv}
+use Rattle.dcsctp_tlv.specs.Kind.{Fault, Length, number32, Format, sized_tlv, Kind, plain_kind, Fixed}
 use Rattle.dcsctp_cause.specs.declared.no_user_data_error_cause.NoUserDataErrorCause.{NoUserDataErrorCause}
 
 unfoldable pub read : List ℕ → Result ℕ Fault
@@ -20,3 +20,6 @@ format tsn = record {
 
 abbrev pub view : NoUserDataErrorCause → ℕ
 view c = c.tsn.0
+
+abbrev pub kind : Kind
+kind = plain_kind 9 Fixed (λ flags. read) format

@@ -2,7 +2,7 @@
 -- is read as a text, whatever its bytes are.
 use Rattle.std.specs.Prelude.{ℕ, List, ◌++◌, Result, Ok, length, codes}
 use Rattle.std.specs.String.{string_bytes}
-use Rattle.dcsctp_tlv.specs.Kind.{Fault, Format, sized_tlv, length-solid}
+use Rattle.dcsctp_tlv.specs.Kind.{Fault, Format, sized_tlv, length-solid, Kind, plain_kind, Text}
 use Rattle.dcsctp_cause.specs.Text.{text_or, IsText}
 use Rattle.dcsctp_cause.specs.declared.protocol_violation_error_cause.ProtocolViolationErrorCause.{ProtocolViolationErrorCause}
 
@@ -20,3 +20,6 @@ format information = record {
 
 abbrev pub view : ProtocolViolationErrorCause → List ℕ
 view c = string_bytes c.information
+
+abbrev pub kind : Kind
+kind = plain_kind 13 Text (λ flags. read) format

@@ -2,7 +2,7 @@
 -- reason. It is read as a text, whatever its bytes are.
 use Rattle.std.specs.Prelude.{ℕ, List, ◌++◌, Result, Ok, length, codes}
 use Rattle.std.specs.String.{string_bytes}
-use Rattle.dcsctp_tlv.specs.Kind.{Fault, Format, sized_tlv, length-solid}
+use Rattle.dcsctp_tlv.specs.Kind.{Fault, Format, sized_tlv, length-solid, Kind, plain_kind, Text}
 use Rattle.dcsctp_cause.specs.Text.{text_or, IsText}
 use Rattle.dcsctp_cause.specs.declared.user_initiated_abort_error_cause.UserInitiatedAbortErrorCause.{UserInitiatedAbortErrorCause}
 
@@ -20,3 +20,6 @@ format reason = record {
 
 abbrev pub view : UserInitiatedAbortErrorCause → List ℕ
 view c = string_bytes c.reason
+
+abbrev pub kind : Kind
+kind = plain_kind 12 Text (λ flags. read) format

@@ -8,8 +8,8 @@
 //! +-+-+-+-+-+-+-+-+-+-+-+-+-+-+-+-+-+-+-+-+-+-+-+-+-+-+-+-+-+-+-+-+
 //! ```
 
-ghost use Rattle.std.specs.Prelude.{◌≡◌, ◌≢◌, ◌↔◌, Some, IsErrOf};
-ghost use Rattle.dcsctp_tlv.specs.Reading.{Answers, Exactly, reading, checking, Tested};
+ghost use Rattle.std.specs.Prelude.{◌≡◌, ◌≢◌, ◌↔◌, Some, Ok, IsOk, IsErrOf};
+ghost use Rattle.dcsctp_tlv.specs.Reading.{Exactly, reading, checking, Tested};
 ghost use Rattle.dcsctp_cause.specs.CookieReceivedWhileShuttingDown as kind;
 
 use dcsctp_tlv::error::ChunkParseError;
@@ -40,17 +40,25 @@ impl CookieReceivedWhileShuttingDownErrorCause {
             return Err(ChunkParseError::InvalidType);
         }
         CookieReceivedWhileShuttingDownErrorCause::check(raw.value)?;
-        Ok(CookieReceivedWhileShuttingDownErrorCause {})
+        Ok(CookieReceivedWhileShuttingDownErrorCause::build(raw.value))
     }
 
     /// `InvalidLength` exactly where the value isn't empty.
     pub(crate) fn check(value: &[u8]) -> Result<(), ChunkParseError>
-        ensures { Answers checking (λ u. u) (Tested (kind.read value.now)) result }
+        ensures { Exactly checking (λ u. u) (Tested (kind.read value.now)) result }
     {
         if !value.is_empty() {
             return Err(ChunkParseError::InvalidLength);
         }
         Ok(())
+    }
+
+    /// What the value means.
+    pub(crate) fn build(value: &[u8]) -> Self
+        requires { IsOk (kind.read value.now) }
+        ensures { kind.read value.now ≡ Ok (kind.view result) }
+    {
+        CookieReceivedWhileShuttingDownErrorCause {}
     }
 }
 
@@ -68,6 +76,8 @@ impl SerializableTlv for CookieReceivedWhileShuttingDownErrorCause {
     fn encodable(&self) -> bool {
         true
     }
+
+    fn has_widths(&self) {}
 }
 
 impl fmt::Display for CookieReceivedWhileShuttingDownErrorCause {

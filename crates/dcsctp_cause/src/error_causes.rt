@@ -12,11 +12,11 @@
 
 ghost use Rattle.std.specs.Prelude.{◌≡◌, ◌≢◌, ◌≤◌, ◌*◌, [], length, vec_len, vec_capacity, Some, IsOk, IfOk, IsErrOf, refl, All};
 ghost use Rattle.dcsctp_tlv.specs.Frame.{lenient};
+ghost use Rattle.dcsctp_tlv.specs.Kinds.{ChecksKind};
 ghost use Rattle.dcsctp_tlv.specs.Level.{HasMeaning, MeansTrees, MeansSome};
 ghost use Rattle.dcsctp_tlv.specs.Reading.{Answers, Exactly, reading, checking, RowTested, RowAnswer, ListAnswer, Counted};
 ghost use Rattle.dcsctp_cause.specs.Cause as cause;
 ghost use Rattle.dcsctp_cause.specs.Cause.{CauseTree, causes, TakesNoMemory, IsTight, view, views};
-ghost use Rattle.dcsctp_cause.specs.declared.error_causes.ErrorCause.TheVariants as variant;
 
 use crate::cookie_received_while_shutting_down::{self, CookieReceivedWhileShuttingDownErrorCause};
 use crate::missing_mandatory_parameter_error_cause::{self, MissingMandatoryParameterErrorCause};
@@ -24,6 +24,7 @@ use crate::no_user_data_error_cause::{self, NoUserDataErrorCause};
 use crate::protocol_violation_error_cause::{self, ProtocolViolationErrorCause};
 use crate::unrecognized_chunk_error_cause::{self, UnrecognizedChunkErrorCause};
 use crate::user_initiated_abort_error_cause::{self, UserInitiatedAbortErrorCause};
+use dcsctp_tlv::{build_arms, check_arms, each_arms};
 use dcsctp_tlv::copy::copied;
 use dcsctp_tlv::error::{ChunkParseError, LocatedFault};
 use dcsctp_tlv::frame::are_zeros;
@@ -31,6 +32,7 @@ use dcsctp_tlv::parameter::raw_parameter::RawParameter;
 use dcsctp_tlv::parameter::unknown_parameter::UnknownParameter;
 use dcsctp_tlv::reader::{ReadableTlv, list_check, list_fill_counted, list_from_bytes};
 use dcsctp_tlv::tlv::{ListedTlv, SerializableTlv};
+use dcsctp_tlv::widths::Widths;
 use std::alloc::{AllocError, Global};
 use std::fmt;
 
@@ -54,69 +56,25 @@ pub enum ErrorCause {
     Unknown(UnknownParameter),
 }
 
-/// The same of every kind.
-macro_rules! each_kind {
-    ($cause:expr, $kind:ident => $does:expr) => {
-        match $cause {
-            ErrorCause::MissingMandatoryParameter($kind) => $does,
-            ErrorCause::UnrecognizedChunk($kind) => $does,
-            ErrorCause::NoUserData($kind) => $does,
-            ErrorCause::CookieReceivedWhileShuttingDown($kind) => $does,
-            ErrorCause::UserInitiatedAbort($kind) => $does,
-            ErrorCause::ProtocolViolation($kind) => $does,
-            ErrorCause::Unknown($kind) => $does,
-        }
-    };
-}
-
-/// For each code that is named, an arm that builds a cause and does something with it; the other
-/// codes have the arms that follow.
-macro_rules! arms {
-    (
-        $code:expr, $cause:ident => $does:expr,
-        { $($kind:ident => $built:expr,)* }, { $($other:tt)* }
-    ) => {
-        match $code {
-            $($kind::CAUSE_CODE => {
-                let $cause = $built;
-                $does
-            })*
-            $($other)*
-        }
-    };
-}
-
-/// These arms for every code, with what the value means.
-macro_rules! built {
-    ($code:expr, $alloc:expr, $value:expr, $cause:ident => $does:expr) => {
-        arms!($code, $cause => $does, {
-            missing_mandatory_parameter_error_cause => ErrorCause::MissingMandatoryParameter(
-                MissingMandatoryParameterErrorCause::build($alloc, $value)?,
-            ),
-            no_user_data_error_cause => ErrorCause::NoUserData(NoUserDataErrorCause::build($value)),
-            cookie_received_while_shutting_down => ErrorCause::CookieReceivedWhileShuttingDown(
-                CookieReceivedWhileShuttingDownErrorCause {},
-            ),
-            user_initiated_abort_error_cause => ErrorCause::UserInitiatedAbort(
-                UserInitiatedAbortErrorCause::build($alloc, $value)?,
-            ),
-            protocol_violation_error_cause => ErrorCause::ProtocolViolation(
-                ProtocolViolationErrorCause::build($alloc, $value)?,
-            ),
-        }, {
-            typ => {
-                // one copy for both kinds that keep their value, so that an item costs one result
-                let bytes = copied($alloc, $value)?;
-                if typ == unrecognized_chunk_error_cause::CAUSE_CODE {
-                    let $cause =
-                        ErrorCause::UnrecognizedChunk(UnrecognizedChunkErrorCause { chunk: bytes });
-                    $does
-                } else {
-                    let $cause = ErrorCause::Unknown(UnknownParameter { typ, value: bytes });
-                    $does
-                }
+/// The kinds, for a macro that has an arm for each: those that take no memory, those that copy what
+/// their value holds, and the one that keeps its value in a field.
+macro_rules! kinds {
+    ($arms:ident, $($args:tt)*) => {
+        $arms! {
+            [$($args)*]
+            {
+                no_user_data_error_cause::CAUSE_CODE, NoUserData, NoUserDataErrorCause;
+                cookie_received_while_shutting_down::CAUSE_CODE, CookieReceivedWhileShuttingDown, CookieReceivedWhileShuttingDownErrorCause;
             }
-        })
+            {
+                missing_mandatory_parameter_error_cause::CAUSE_CODE, MissingMandatoryParameter, MissingMandatoryParameterErrorCause;
+                user_initiated_abort_error_cause::CAUSE_CODE, UserInitiatedAbort, UserInitiatedAbortErrorCause;
+                protocol_violation_error_cause::CAUSE_CODE, ProtocolViolation, ProtocolViolationErrorCause;
+            }
+            {
+                unrecognized_chunk_error_cause::CAUSE_CODE, UnrecognizedChunk, UnrecognizedChunkErrorCause, chunk;
+            }
+        }
     };
 }
 
@@ -152,14 +110,15 @@ impl ErrorCause {
     fn check_value(code: u16, value: &[u8]) -> Result<(), ChunkParseError>
         ensures { Answers checking (λ u. u) (RowTested (cause.row code) value.now) result }
     {
-        match code {
-            missing_mandatory_parameter_error_cause::CAUSE_CODE =>
-                MissingMandatoryParameterErrorCause::check(value),
-            no_user_data_error_cause::CAUSE_CODE => NoUserDataErrorCause::check(value),
-            cookie_received_while_shutting_down::CAUSE_CODE =>
-                CookieReceivedWhileShuttingDownErrorCause::check(value),
-            _ => Ok(()),
-        }
+        ErrorCause::check_kind(code, value)
+    }
+
+    /// The check of the code's kind; any value of another code passes.
+    #[tactic(auto, unfolding(crate::specs::UnrecognizedChunk::read))]
+    fn check_kind(code: u16, value: &[u8]) -> Result<(), ChunkParseError>
+        ensures { ChecksKind cause.kinds 0 code value.now result }
+    {
+        kinds!(check_arms, code, value)
     }
 
     /// What the value means.
@@ -170,7 +129,7 @@ impl ErrorCause {
         ensures heap { TakesNoMemory code → IsOk result }
         ensures tight { IfOk result IsTight }
     {
-        built!(code, alloc, value, cause => Ok(cause))
+        kinds!(build_arms, ErrorCause, code, alloc, value, cause => Ok(cause))
     }
 }
 
@@ -186,7 +145,7 @@ impl ReadableTlv for ErrorCause {
 
     ghost parts = { λ t. 1 };
 
-    fn check(_strict: bool, first: u8, second: u8, value: &[u8]) -> Result<usize, LocatedFault> {
+    fn check(first: u8, second: u8, value: &[u8], _strict: bool) -> Result<usize, LocatedFault> {
         match ErrorCause::check_value(u16::from_be_bytes([first, second]), value) {
             Ok(()) => Ok(1),
             Err(fault) => Err(LocatedFault::at_front(fault)),
@@ -201,13 +160,13 @@ impl ReadableTlv for ErrorCause {
         value: &[u8],
     ) -> Result<(), AllocError> {
         let code = u16::from_be_bytes([first, second]);
-        built!(code, alloc, value, cause => {
+        kinds!(build_arms, ErrorCause, code, alloc, value, cause => {
             list.push_reserved(cause);
             Ok(())
         })
     }
 
-    fn accepts_padding(strict: bool, _size: usize, there: &[u8]) -> bool {
+    fn accepts_padding(_size: usize, there: &[u8], strict: bool) -> bool {
         !strict || are_zeros(there)
     }
 }
@@ -216,19 +175,23 @@ impl SerializableTlv for ErrorCause {
     ghost format = { λ c. cause.format (view c) };
 
     fn serialize_to(&self, output: &mut [u8]) {
-        each_kind!(self, c => c.serialize_to(output))
+        kinds!(each_arms, ErrorCause, self, c => c.serialize_to(output))
     }
 
     fn value_size(&self) -> usize {
-        each_kind!(self, c => c.value_size())
+        kinds!(each_arms, ErrorCause, self, c => c.value_size())
     }
 
     fn encodable(&self) -> bool {
-        each_kind!(self, c => c.encodable())
+        kinds!(each_arms, ErrorCause, self, c => c.encodable())
     }
 
     fn encoded_size(&self) -> Option<usize> {
-        each_kind!(self, c => c.encoded_size())
+        kinds!(each_arms, ErrorCause, self, c => c.encoded_size())
+    }
+
+    fn has_widths(&self) {
+        kinds!(each_arms, ErrorCause, self, c => c.has_widths())
     }
 }
 
@@ -236,7 +199,19 @@ impl fmt::Display for ErrorCause {
     ghost output = { λ c. Some (cause.text (view c)) };
 
     fn fmt<W: fmt::Write>(&self, f: &mut fmt::Formatter<W>) -> fmt::Result {
-        each_kind!(self, c => c.fmt(f))
+        kinds!(each_arms, ErrorCause, self, c => c.fmt(f))
+    }
+}
+
+impl Widths for ErrorCause {
+    ghost Tree = { CauseTree };
+
+    ghost view = { view };
+
+    ghost fits = { cause.IsInWidth };
+
+    fn is_in_width(&self) {
+        self.has_widths();
     }
 }
 
@@ -250,69 +225,6 @@ impl ListedTlv for ErrorCause {
     ghost same_tlv = { λ c. refl };
 
     ghost all_placed = { λ c. tt };
-}
-
-/// The error cause of this kind, with this value.
-impl From<MissingMandatoryParameterErrorCause> for ErrorCause {
-    ghost from_gives = { λ kind cause. cause ≡ variant.MissingMandatoryParameter kind };
-
-    fn from(kind: MissingMandatoryParameterErrorCause) -> ErrorCause {
-        ErrorCause::MissingMandatoryParameter(kind)
-    }
-}
-
-/// The error cause of this kind, with this value.
-impl From<UnrecognizedChunkErrorCause> for ErrorCause {
-    ghost from_gives = { λ kind cause. cause ≡ variant.UnrecognizedChunk kind };
-
-    fn from(kind: UnrecognizedChunkErrorCause) -> ErrorCause {
-        ErrorCause::UnrecognizedChunk(kind)
-    }
-}
-
-/// The error cause of this kind, with this value.
-impl From<NoUserDataErrorCause> for ErrorCause {
-    ghost from_gives = { λ kind cause. cause ≡ variant.NoUserData kind };
-
-    fn from(kind: NoUserDataErrorCause) -> ErrorCause {
-        ErrorCause::NoUserData(kind)
-    }
-}
-
-/// The error cause of this kind, with this value.
-impl From<CookieReceivedWhileShuttingDownErrorCause> for ErrorCause {
-    ghost from_gives = { λ kind cause. cause ≡ variant.CookieReceivedWhileShuttingDown kind };
-
-    fn from(kind: CookieReceivedWhileShuttingDownErrorCause) -> ErrorCause {
-        ErrorCause::CookieReceivedWhileShuttingDown(kind)
-    }
-}
-
-/// The error cause of this kind, with this value.
-impl From<UserInitiatedAbortErrorCause> for ErrorCause {
-    ghost from_gives = { λ kind cause. cause ≡ variant.UserInitiatedAbort kind };
-
-    fn from(kind: UserInitiatedAbortErrorCause) -> ErrorCause {
-        ErrorCause::UserInitiatedAbort(kind)
-    }
-}
-
-/// The error cause of this kind, with this value.
-impl From<ProtocolViolationErrorCause> for ErrorCause {
-    ghost from_gives = { λ kind cause. cause ≡ variant.ProtocolViolation kind };
-
-    fn from(kind: ProtocolViolationErrorCause) -> ErrorCause {
-        ErrorCause::ProtocolViolation(kind)
-    }
-}
-
-/// The error cause of this kind, with this value.
-impl From<UnknownParameter> for ErrorCause {
-    ghost from_gives = { λ kind cause. cause ≡ variant.Unknown kind };
-
-    fn from(kind: UnknownParameter) -> ErrorCause {
-        ErrorCause::Unknown(kind)
-    }
 }
 
 /// Reads all the bytes as a list of error causes; no bytes are the empty list. Padding is ignored.
@@ -344,8 +256,8 @@ pub fn error_cause_check(bytes: &[u8], strict: bool) -> Result<usize, ChunkParse
     ensures memory { ¬ IsErrOf result ChunkParseError.OutOfMemory }
     ensures few { IfOk result (λ n. 4 * n ≤ length bytes.now) }
 {
-    let (count, _) = list_check::<ErrorCause>(strict, bytes)?;
-    Ok(count)
+    let counts = list_check::<ErrorCause>(bytes, strict)?;
+    Ok(counts.items)
 }
 
 /// Builds the error causes that the bytes are known to mean.

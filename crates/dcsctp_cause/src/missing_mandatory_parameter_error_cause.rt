@@ -15,7 +15,7 @@
 ghost use Rattle.std.specs.Prelude.{◌≡◌, ◌≢◌, ◌↔◌, ℕ, Some, IsOk, IfOk, IsErrOf, refl, Ok, vec_len, vec_capacity};
 ghost use Rattle.std.specs.Int.{w16, to_be_bytes};
 ghost use Rattle.dcsctp_tlv.specs.Number.{number16};
-ghost use Rattle.dcsctp_tlv.specs.Reading.{Answers, Exactly, reading, checking, Tested};
+ghost use Rattle.dcsctp_tlv.specs.Reading.{Exactly, reading, checking, Tested};
 ghost use Rattle.dcsctp_cause.specs.MissingMandatoryParameter as kind;
 
 use dcsctp_tlv::copy::copied;
@@ -26,6 +26,7 @@ use dcsctp_tlv::number::{read_u16_be, read_u32_be, write_u16_be};
 use dcsctp_tlv::parameter::raw_parameter::RawParameter;
 use dcsctp_tlv::text::write_joined;
 use dcsctp_tlv::tlv::SerializableTlv;
+use dcsctp_tlv::widths::are_numbers;
 use std::alloc::{AllocError, Global};
 use std::fmt;
 
@@ -121,7 +122,7 @@ impl MissingMandatoryParameterErrorCause {
     /// `InvalidLength` exactly where the value has fewer than 4 bytes, or other than 4 and 2 more
     /// for each type that it counts.
     pub(crate) fn check(value: &[u8]) -> Result<(), ChunkParseError>
-        ensures { Answers checking (λ u. u) (Tested (kind.read value.now)) result }
+        ensures { Exactly checking (λ u. u) (Tested (kind.read value.now)) result }
     {
         if value.len() < FIXED_SIZE {
             return Err(ChunkParseError::InvalidLength);
@@ -162,6 +163,10 @@ impl SerializableTlv for MissingMandatoryParameterErrorCause {
 
     fn encodable(&self) -> bool {
         self.missing_parameters.len() <= (MAX_VALUE_SIZE - FIXED_SIZE) / 2
+    }
+
+    fn has_widths(&self) {
+        are_numbers(&self.missing_parameters);
     }
 }
 

@@ -11,7 +11,7 @@
 //! ```
 
 ghost use Rattle.std.specs.Prelude.{◌≡◌, ◌≢◌, ◌↔◌, Some, Ok, IsOk, IsErrOf};
-ghost use Rattle.dcsctp_tlv.specs.Reading.{Answers, Exactly, reading, checking, Tested};
+ghost use Rattle.dcsctp_tlv.specs.Reading.{Exactly, reading, checking, Tested};
 ghost use Rattle.dcsctp_cause.specs.NoUserData as kind;
 
 use dcsctp_tlv::error::ChunkParseError;
@@ -19,6 +19,7 @@ use dcsctp_tlv::frame::put_parameter;
 use dcsctp_tlv::number::read_u32_be;
 use dcsctp_tlv::parameter::raw_parameter::RawParameter;
 use dcsctp_tlv::tlv::SerializableTlv;
+use dcsctp_tlv::widths::Widths;
 use dcsctp_types::types::Tsn;
 use std::fmt;
 
@@ -53,7 +54,7 @@ impl NoUserDataErrorCause {
 
     /// `InvalidLength` exactly where the value hasn't 4 bytes.
     pub(crate) fn check(value: &[u8]) -> Result<(), ChunkParseError>
-        ensures { Answers checking (λ u. u) (Tested (kind.read value.now)) result }
+        ensures { Exactly checking (λ u. u) (Tested (kind.read value.now)) result }
     {
         if value.len() != 4 {
             return Err(ChunkParseError::InvalidLength);
@@ -85,6 +86,10 @@ impl SerializableTlv for NoUserDataErrorCause {
 
     fn encodable(&self) -> bool {
         true
+    }
+
+    fn has_widths(&self) {
+        self.tsn.is_in_width();
     }
 }
 

@@ -20,6 +20,7 @@ use dcsctp_tlv::error::ChunkParseError;
 use dcsctp_tlv::frame::{MAX_VALUE_SIZE, put_parameter};
 use dcsctp_tlv::parameter::raw_parameter::RawParameter;
 use dcsctp_tlv::tlv::SerializableTlv;
+use dcsctp_tlv::widths::are_bytes;
 use std::alloc::{AllocError, Global};
 use std::fmt;
 
@@ -76,6 +77,10 @@ impl SerializableTlv for UnrecognizedChunkErrorCause {
 
     fn encodable(&self) -> bool {
         self.chunk.len() <= MAX_VALUE_SIZE
+    }
+
+    fn has_widths(&self) {
+        are_bytes(&self.chunk);
     }
 }
 

@@ -12,10 +12,10 @@
 
 ghost use Rattle.std.specs.Prelude.{◌≡◌, ◌≢◌, ◌↔◌, Some, IsErrOf, IfOk, IsOk, Ok};
 ghost use Rattle.std.specs.String.{string_len, string_capacity};
-ghost use Rattle.dcsctp_tlv.specs.Reading.{Exactly, reading};
+ghost use Rattle.dcsctp_tlv.specs.Reading.{Exactly, reading, checking, Tested};
 ghost use Rattle.dcsctp_cause.specs.UserInitiatedAbort as kind;
 
-use crate::text::text_or;
+use crate::text::{is_text, text_or};
 use dcsctp_tlv::copy::copied_text;
 use dcsctp_tlv::error::ChunkParseError;
 use dcsctp_tlv::frame::{MAX_VALUE_SIZE, put_parameter};
@@ -56,6 +56,13 @@ impl UserInitiatedAbortErrorCause {
         Ok(UserInitiatedAbortErrorCause::build(alloc, raw.value)?)
     }
 
+    /// Any value passes.
+    pub(crate) fn check(_value: &[u8]) -> Result<(), ChunkParseError>
+        ensures { Exactly checking (λ u. u) (Tested (kind.read _value.now)) result }
+    {
+        Ok(())
+    }
+
     /// Copies the text, or says that the value isn't UTF-8.
     pub(crate) fn build(alloc: Global, value: &[u8]) -> Result<Self, AllocError>
         ensures meant { IfOk result (λ x. kind.read value.now ≡ Ok (kind.view x)) }
@@ -80,6 +87,10 @@ impl SerializableTlv for UserInitiatedAbortErrorCause {
 
     fn encodable(&self) -> bool {
         self.reason.len() <= MAX_VALUE_SIZE
+    }
+
+    fn has_widths(&self) {
+        is_text(&self.reason);
     }
 }
 

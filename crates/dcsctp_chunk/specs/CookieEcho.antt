@@ -2,7 +2,7 @@
 -- one byte.
 use Rattle.std.specs.Prelude.{◌≢◌, ℕ, List, [], ◌++◌, ◌==◌, Result, Ok, Err, if◌then◌else◌, length, codes}
 use Rattle.std.specs.Fmt.{decimal}
-use Rattle.dcsctp_tlv.specs.Kind.{Fault, Length, AreBytes, Format, flagged_tlv, length-solid}
+use Rattle.dcsctp_tlv.specs.Kind.{Fault, Length, AreBytes, Format, flagged_tlv, length-solid, Kind, plain_kind, Varied}
 use Rattle.dcsctp_chunk.specs.declared.cookie_echo_chunk.CookieEchoChunk.{CookieEchoChunk}
 
 unfoldable pub read : List ℕ → Result (List ℕ) Fault
@@ -19,3 +19,6 @@ format cookie = record {
 
 abbrev pub view : CookieEchoChunk → List ℕ
 view c = c.cookie.items
+
+abbrev pub kind : Kind
+kind = plain_kind 10 Varied (λ flags. read) format

@@ -2,7 +2,7 @@
 -- SSN in two each, the payload protocol id in four, and the payload. MID and FSN aren't carried.
 use Rattle.std.specs.Prelude.{◌≡◌, ℕ, ◌+◌, List, ◌++◌, nat_lt, Result, Ok, Err, if◌then◌else◌, length, drop, codes, refl}
 use Rattle.std.specs.Int.{w16, w32, to_be_bytes}
-use Rattle.dcsctp_tlv.specs.Kind.{Fault, Length, number16, number32, Format, flagged_tlv}
+use Rattle.dcsctp_tlv.specs.Kind.{Fault, Length, number16, number32, Format, flagged_tlv, Kind, kept_kind, Varied}
 use Rattle.dcsctp_tlv.proofs.Lengths.{length-fixed}
 use Rattle.dcsctp_chunk.specs.Data.{Tree, common, chunk_of, flags_of, text, tree_of, IsInWidth}
 use Rattle.dcsctp_chunk.specs.declared.data_chunk.DataChunk.{DataChunk}
@@ -45,3 +45,6 @@ view c = tree_of c.tsn c.user_data c.immediate_ack
 -- a tree with what isn't carried set to zero
 abbrev pub kept : Tree → Tree
 kept c = record c { user_data = record c.user_data { mid = 0; fsn = 0 } }
+
+abbrev pub kind : Kind
+kind = kept_kind 0 Varied read format kept

@@ -2,7 +2,7 @@
 -- four bytes, and then the skipped streams: the stream id and the sequence number, two bytes each.
 use Rattle.std.specs.Prelude.{◌≡◌, ℕ, false, List, [], ◌∷◌, Result, length, drop, codes, refl}
 use Rattle.std.specs.Int.{w16, w32}
-use Rattle.dcsctp_tlv.specs.Kind.{Fault, number16, numbers, Format}
+use Rattle.dcsctp_tlv.specs.Kind.{Fault, number16, numbers, Format, Kind, plain_kind, Varied}
 use Rattle.dcsctp_chunk.specs.SkippedStreams.{SkippedStreamTree, BySsn, ByMid, Tree, tree_of, read_of, format_of}
 use Rattle.dcsctp_chunk.specs.declared.forward_tsn_chunk.ForwardTsnChunk.{ForwardTsnChunk}
 
@@ -22,7 +22,6 @@ length-stream (ByMid stream is_unordered mid) = refl
 unfoldable pub read : List ℕ → Result Tree Fault
 read value = read_of stream_at 4 value
 
--- each stream is skipped by a sequence number
 -- the text before the TSN
 abbrev pub name : List ℕ
 name = codes "FORWARD-TSN, new_cumulative_tsn="
@@ -32,3 +31,6 @@ format t = format_of 192 name stream_bytes 4 length-stream false t
 
 abbrev pub view : ForwardTsnChunk → Tree
 view c = tree_of c.new_cumulative_tsn c.skipped_streams.items
+
+abbrev pub kind : Kind
+kind = plain_kind 192 Varied (λ flags. read) format

@@ -4,7 +4,7 @@
 -- and FSN one alone.
 use Rattle.std.specs.Prelude.{◌≡◌, ℕ, ◌+◌, List, ◌++◌, nat_lt, Result, Ok, Err, if◌then◌else◌, length, drop, codes, refl}
 use Rattle.std.specs.Int.{w16, w32, to_be_bytes}
-use Rattle.dcsctp_tlv.specs.Kind.{Fault, Length, number32, Format, flagged_tlv}
+use Rattle.dcsctp_tlv.specs.Kind.{Fault, Length, number32, Format, flagged_tlv, Kind, kept_kind, Varied}
 use Rattle.dcsctp_tlv.proofs.Lengths.{length-fixed}
 use Rattle.dcsctp_chunk.specs.Data.{DataTree, Tree, common, chunk_of, flags_of, text, tree_of, IsInWidth}
 use Rattle.dcsctp_chunk.specs.Flags.{is_set}
@@ -60,3 +60,6 @@ kept c = record c {
     ppid = if c.user_data.beginning then c.user_data.ppid else 0;
   };
 }
+
+abbrev pub kind : Kind
+kind = kept_kind 64 Varied read format kept

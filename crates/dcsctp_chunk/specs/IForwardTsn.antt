@@ -3,7 +3,7 @@
 -- bit says unordered, and the message id, four bytes.
 use Rattle.std.specs.Prelude.{◌≡◌, ℕ, ◌%◌, true, List, [], ◌∷◌, ◌++◌, ◌==◌, Result, if◌then◌else◌, length, drop, codes, refl}
 use Rattle.std.specs.Int.{w16, w32}
-use Rattle.dcsctp_tlv.specs.Kind.{Fault, number16, number32, numbers, Format}
+use Rattle.dcsctp_tlv.specs.Kind.{Fault, number16, number32, numbers, Format, Kind, plain_kind, Varied}
 use Rattle.dcsctp_chunk.specs.SkippedStreams.{SkippedStreamTree, BySsn, ByMid, Tree, tree_of, read_of, format_of}
 use Rattle.dcsctp_chunk.specs.declared.iforward_tsn_chunk.IForwardTsnChunk.{IForwardTsnChunk}
 
@@ -27,7 +27,6 @@ length-stream (ByMid stream is_unordered mid) = refl
 unfoldable pub read : List ℕ → Result Tree Fault
 read value = read_of stream_at 8 value
 
--- each stream is skipped by a message id
 -- the text before the TSN
 abbrev pub name : List ℕ
 name = codes "I-FORWARD-TSN, new_cumulative_tsn="
@@ -37,3 +36,6 @@ format t = format_of 194 name stream_bytes 8 length-stream true t
 
 abbrev pub view : IForwardTsnChunk → Tree
 view c = tree_of c.new_cumulative_tsn c.skipped_streams.items
+
+abbrev pub kind : Kind
+kind = plain_kind 194 Varied (λ flags. read) format

@@ -7,7 +7,7 @@ use Rattle.std.specs.Int.{w16, w32, to_be_bytes}
 use Rattle.std.proofs.Common.{ap, ◌∙◌}
 use Rattle.std.specs.List.{flat_map, AllByRecursion}
 use Rattle.dcsctp_types.specs.declared.types.tsn.Tsn.{Tsn}
-use Rattle.dcsctp_tlv.specs.Kind.{Fault, Length, fields, number16, number32, numbers, Format, flagged_tlv, length-two_lists}
+use Rattle.dcsctp_tlv.specs.Kind.{Fault, Length, fields, number16, number32, numbers, Format, flagged_tlv, length-two_lists, Kind, plain_kind, Varied}
 use Rattle.dcsctp_tlv.proofs.Lengths.{length-fixed}
 use Rattle.dcsctp_chunk.specs.declared.sack_chunk.GapAckBlock.{GapAckBlock}
 use Rattle.dcsctp_chunk.specs.declared.sack_chunk.SackChunk.{SackChunk}
@@ -87,3 +87,6 @@ view c = record {
   blocks = c.gap_ack_blocks.items;
   duplicates = duplicate_numbers c.duplicate_tsns.items;
 }
+
+abbrev pub kind : Kind
+kind = plain_kind 3 Varied (λ flags. read) format

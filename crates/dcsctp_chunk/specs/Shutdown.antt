@@ -3,7 +3,7 @@
 use Rattle.std.specs.Prelude.{ℕ, ◌<◌, ◌^◌, List, ◌++◌, ◌==◌, Result, Ok, Err, if◌then◌else◌, length, codes, refl}
 use Rattle.std.specs.Fmt.{decimal}
 use Rattle.std.specs.Int.{w32, to_be_bytes}
-use Rattle.dcsctp_tlv.specs.Kind.{Fault, Length, number32, Format, flagged_tlv}
+use Rattle.dcsctp_tlv.specs.Kind.{Fault, Length, number32, Format, flagged_tlv, Kind, plain_kind, Fixed}
 use Rattle.dcsctp_chunk.specs.declared.shutdown_chunk.ShutdownChunk.{ShutdownChunk}
 
 unfoldable pub read : List ℕ → Result ℕ Fault
@@ -21,3 +21,6 @@ format tsn = record {
 
 abbrev pub view : ShutdownChunk → ℕ
 view c = c.cumulative_tsn_ack.0
+
+abbrev pub kind : Kind
+kind = plain_kind 7 Fixed (λ flags. read) format

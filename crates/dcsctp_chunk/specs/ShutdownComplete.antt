@@ -1,7 +1,7 @@
 -- SHUTDOWN COMPLETE (RFC 9260 section 3.3.13): type 14, an empty value; flag bit 0 says that the
 -- tag is reflected, and the other bits are ignored.
 use Rattle.std.specs.Prelude.{ℕ, Bool, List, [], ◌∷◌, ◌++◌, ◌==◌, Result, Ok, Err, if◌then◌else◌, length, codes, refl}
-use Rattle.dcsctp_tlv.specs.Kind.{Fault, Length, Format, flagged_tlv}
+use Rattle.dcsctp_tlv.specs.Kind.{Fault, Length, Format, flagged_tlv, Kind, plain_kind, Fixed}
 use Rattle.dcsctp_chunk.specs.Flags.{is_set, flag_byte}
 use Rattle.dcsctp_chunk.specs.declared.shutdown_complete_chunk.ShutdownCompleteChunk.{ShutdownCompleteChunk}
 
@@ -21,3 +21,6 @@ format tag_reflected = record {
 
 abbrev pub view : ShutdownCompleteChunk → Bool
 view c = c.tag_reflected
+
+abbrev pub kind : Kind
+kind = plain_kind 14 Fixed read format

@@ -8,7 +8,7 @@
 //! +-+-+-+-+-+-+-+-+-+-+-+-+-+-+-+-+-+-+-+-+-+-+-+-+-+-+-+-+-+-+-+-+
 //! ```
 
-ghost use Rattle.std.specs.Prelude.{◌≡◌, ◌≢◌, ◌↔◌, [], Some, IsErrOf};
+ghost use Rattle.std.specs.Prelude.{◌≡◌, ◌≢◌, ◌↔◌, [], Some, Ok, IsOk, IsErrOf};
 ghost use Rattle.dcsctp_tlv.specs.Reading.{Exactly, reading, checking, Tested};
 ghost use Rattle.dcsctp_chunk.specs.CookieAck as kind;
 
@@ -40,7 +40,7 @@ impl CookieAckChunk {
             return Err(ChunkParseError::InvalidType);
         }
         CookieAckChunk::check(raw.value)?;
-        Ok(CookieAckChunk)
+        Ok(CookieAckChunk::build(raw.flags, raw.value))
     }
 
     /// `InvalidLength` exactly where the value isn't empty.
@@ -51,6 +51,14 @@ impl CookieAckChunk {
             return Err(ChunkParseError::InvalidLength);
         }
         Ok(())
+    }
+
+    /// What the value means.
+    pub fn build(_flags: u8, value: &[u8]) -> Self
+        requires { IsOk (kind.read value.now) }
+        ensures { kind.read value.now ≡ Ok (kind.view result) }
+    {
+        CookieAckChunk
     }
 }
 
@@ -68,6 +76,8 @@ impl SerializableTlv for CookieAckChunk {
     fn encodable(&self) -> bool {
         true
     }
+
+    fn has_widths(&self) {}
 }
 
 impl fmt::Display for CookieAckChunk {

@@ -19,6 +19,7 @@ use dcsctp_tlv::copy::copied;
 use dcsctp_tlv::error::ChunkParseError;
 use dcsctp_tlv::frame::{MAX_VALUE_SIZE, put_solid};
 use dcsctp_tlv::tlv::SerializableTlv;
+use dcsctp_tlv::widths::are_bytes;
 use std::alloc::{AllocError, Global};
 use std::fmt;
 
@@ -72,7 +73,7 @@ impl CookieEchoChunk {
             return Err(ChunkParseError::InvalidType);
         }
         CookieEchoChunk::check(raw.value)?;
-        Ok(CookieEchoChunk::build(alloc, raw.value)?)
+        Ok(CookieEchoChunk::build(alloc, raw.flags, raw.value)?)
     }
 
     /// `InvalidLength` exactly where the value is empty.
@@ -86,7 +87,7 @@ impl CookieEchoChunk {
     }
 
     /// Copies the value.
-    pub fn build(alloc: Global, value: &[u8]) -> Result<Self, AllocError>
+    pub fn build(alloc: Global, _flags: u8, value: &[u8]) -> Result<Self, AllocError>
         requires { IsOk (kind.read value.now) }
         ensures meant { IfOk result (λ x. kind.read value.now ≡ Ok (kind.view x)) }
         ensures tight { IfOk result (λ x. vec_capacity x.cookie ≡ vec_len x.cookie) }
@@ -110,6 +111,10 @@ impl SerializableTlv for CookieEchoChunk {
 
     fn encodable(&self) -> bool {
         self.cookie.len() <= MAX_VALUE_SIZE
+    }
+
+    fn has_widths(&self) {
+        are_bytes(&self.cookie);
     }
 }
 

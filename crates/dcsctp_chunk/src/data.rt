@@ -1,12 +1,13 @@
 //! User data, as DATA and I-DATA chunks hold it.
 
 ghost use Rattle.std.specs.Prelude.{◌≡◌, IfOk, vec_capacity, vec_len};
-ghost use Rattle.dcsctp_chunk.specs.Data.{user_data_view, no_data, user_data_flags, order_text, part_text};
+ghost use Rattle.dcsctp_chunk.specs.Data.{user_data_view, no_data, tree_of, IsInWidth, user_data_flags, order_text, part_text};
 
 use crate::flags::four_flags;
 use dcsctp_tlv::copy::copied;
+use dcsctp_tlv::widths::are_bytes;
 use dcsctp_types::api::{PpId, StreamId};
-use dcsctp_types::types::{Fsn, Mid, Ssn, StreamKey};
+use dcsctp_types::types::{Fsn, Mid, Ssn, StreamKey, Tsn};
 use std::alloc::{AllocError, Global};
 
 /// A message, or a fragment of one (RFC 9260 section 3.3.1, RFC 8260 section 2.1).
@@ -104,4 +105,17 @@ impl Data {
             (false, false) => "middle",
         }
     }
+}
+
+/// A law: the numbers of a chunk of user data lie in their fields' widths. It does nothing.
+pub(crate) fn data_has_widths(tsn: Tsn, user_data: &Data, immediate_ack: bool)
+    ensures { IsInWidth (tree_of tsn user_data.now immediate_ack) }
+{
+    let _tsn = tsn.0;
+    let _mid = user_data.mid.0;
+    let _fsn = user_data.fsn.0;
+    let _ppid = user_data.ppid.0;
+    let _ssn = user_data.ssn.0;
+    let _stream = user_data.stream_key.id().0;
+    are_bytes(&user_data.payload);
 }

@@ -18,13 +18,14 @@ ghost use Rattle.dcsctp_chunk.specs.SkippedStreams.{SkippedStreamTree, is_by_mid
 ghost use Rattle.dcsctp_chunk.specs.ForwardTsn as kind;
 
 use crate::raw_chunk::RawChunk;
-use crate::skipped_streams::are_by_mid;
+use crate::skipped_streams::{are_by_mid, streams_have_widths};
 use dcsctp_tlv::error::ChunkParseError;
 use dcsctp_tlv::fields::{Field, fields_from_bytes, put_numbers_and_fields};
 use dcsctp_tlv::frame::MAX_VALUE_SIZE;
 use dcsctp_tlv::number::{put_u16, read_u16_be, read_u32_be, write_u16_be};
 use dcsctp_tlv::skipped_stream::SkippedStream;
 use dcsctp_tlv::tlv::SerializableTlv;
+use dcsctp_tlv::widths::Widths;
 use dcsctp_types::api::StreamId;
 use dcsctp_types::types::{Ssn, Tsn};
 use std::alloc::{AllocError, Global};
@@ -105,7 +106,7 @@ impl ForwardTsnChunk {
             return Err(ChunkParseError::InvalidType);
         }
         ForwardTsnChunk::check(raw.value)?;
-        Ok(ForwardTsnChunk::build(alloc, raw.value)?)
+        Ok(ForwardTsnChunk::build(alloc, raw.flags, raw.value)?)
     }
 
     /// `InvalidLength` exactly where the value has fewer than 4 bytes, or no multiple of 4.
@@ -122,7 +123,7 @@ impl ForwardTsnChunk {
     }
 
     /// What the value means.
-    pub fn build(alloc: Global, value: &[u8]) -> Result<Self, AllocError>
+    pub fn build(alloc: Global, _flags: u8, value: &[u8]) -> Result<Self, AllocError>
         requires { IsOk (kind.read value.now) }
         ensures meant { IfOk result (λ x. kind.read value.now ≡ Ok (kind.view x)) }
         ensures tight { IfOk result
@@ -168,6 +169,11 @@ impl SerializableTlv for ForwardTsnChunk {
             return false;
         }
         self.skipped_streams.len() <= (MAX_VALUE_SIZE - FIXED_SIZE) / 4
+    }
+
+    fn has_widths(&self) {
+        self.new_cumulative_tsn.is_in_width();
+        streams_have_widths(&self.skipped_streams);
     }
 }
 

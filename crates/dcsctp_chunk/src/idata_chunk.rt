@@ -23,7 +23,7 @@ ghost use Rattle.dcsctp_tlv.specs.Reading.{Exactly, reading};
 ghost use Rattle.dcsctp_chunk.specs.Data.{user_data_view};
 ghost use Rattle.dcsctp_chunk.specs.IDataChunk as kind;
 
-use crate::data::Data;
+use crate::data::{Data, data_has_widths};
 use crate::flags::is_set;
 use crate::raw_chunk::RawChunk;
 use dcsctp_tlv::copy::copied;
@@ -180,6 +180,10 @@ impl SerializableTlv for IDataChunk {
 
     fn encodable(&self) -> bool {
         self.user_data.payload.len() <= MAX_VALUE_SIZE - FIXED_SIZE
+    }
+
+    fn has_widths(&self) {
+        data_has_widths(self.tsn, &self.user_data, self.immediate_ack);
     }
 }
 

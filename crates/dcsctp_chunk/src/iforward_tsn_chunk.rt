@@ -22,13 +22,14 @@ ghost use Rattle.dcsctp_chunk.specs.SkippedStreams.{SkippedStreamTree, is_by_mid
 ghost use Rattle.dcsctp_chunk.specs.IForwardTsn as kind;
 
 use crate::raw_chunk::RawChunk;
-use crate::skipped_streams::are_by_mid;
+use crate::skipped_streams::{are_by_mid, streams_have_widths};
 use dcsctp_tlv::error::ChunkParseError;
 use dcsctp_tlv::fields::{Field, fields_from_bytes, put_numbers_and_fields};
 use dcsctp_tlv::frame::MAX_VALUE_SIZE;
 use dcsctp_tlv::number::{put_u16, put_u32, read_u16_be, read_u32_be, write_u16_be};
 use dcsctp_tlv::skipped_stream::SkippedStream;
 use dcsctp_tlv::tlv::SerializableTlv;
+use dcsctp_tlv::widths::Widths;
 use dcsctp_types::api::StreamId;
 use dcsctp_types::types::{Mid, StreamKey, Tsn};
 use std::alloc::{AllocError, Global};
@@ -113,7 +114,7 @@ impl IForwardTsnChunk {
             return Err(ChunkParseError::InvalidType);
         }
         IForwardTsnChunk::check(raw.value)?;
-        Ok(IForwardTsnChunk::build(alloc, raw.value)?)
+        Ok(IForwardTsnChunk::build(alloc, raw.flags, raw.value)?)
     }
 
     /// `InvalidLength` exactly where the value has fewer than 4 bytes, or no multiple of 8 after
@@ -131,7 +132,7 @@ impl IForwardTsnChunk {
     }
 
     /// What the value means.
-    pub fn build(alloc: Global, value: &[u8]) -> Result<Self, AllocError>
+    pub fn build(alloc: Global, _flags: u8, value: &[u8]) -> Result<Self, AllocError>
         requires { IsOk (kind.read value.now) }
         ensures meant { IfOk result (λ x. kind.read value.now ≡ Ok (kind.view x)) }
         ensures tight { IfOk result
@@ -177,6 +178,11 @@ impl SerializableTlv for IForwardTsnChunk {
             return false;
         }
         self.skipped_streams.len() <= (MAX_VALUE_SIZE - FIXED_SIZE) / 8
+    }
+
+    fn has_widths(&self) {
+        self.new_cumulative_tsn.is_in_width();
+        streams_have_widths(&self.skipped_streams);
     }
 }
 

@@ -1,20 +1,37 @@
-//! The check of a chunk without a list, before it is built.
+//! The kinds of chunk without a list, and the check of their values before they are built.
 
 ghost use Rattle.std.specs.Prelude.{IsErrOf};
-ghost use Rattle.dcsctp_chunk.specs.PlainKinds.{plain_kinds, ChecksKind};
+ghost use Rattle.dcsctp_tlv.specs.Kinds.{ChecksKind};
+ghost use Rattle.dcsctp_chunk.specs.PlainKinds.{plain_kinds};
 
-use crate::cookie_ack_chunk::{self, CookieAckChunk};
-use crate::cookie_echo_chunk::{self, CookieEchoChunk};
-use crate::data_chunk::{self, DataChunk};
-use crate::forward_tsn_chunk::{self, ForwardTsnChunk};
-use crate::idata_chunk::{self, IDataChunk};
-use crate::iforward_tsn_chunk::{self, IForwardTsnChunk};
 use crate::raw_chunk::RawChunk;
-use crate::sack_chunk::{self, SackChunk};
-use crate::shutdown_ack_chunk::{self, ShutdownAckChunk};
-use crate::shutdown_chunk::{self, ShutdownChunk};
-use crate::shutdown_complete_chunk::{self, ShutdownCompleteChunk};
+use dcsctp_tlv::check_arms;
 use dcsctp_tlv::error::ChunkParseError;
+
+/// The kinds without a list, for a macro that has an arm for each: those that take no memory, and
+/// those that copy what their value holds.
+#[macro_export]
+macro_rules! plain_kinds {
+    ($arms:ident, $($args:tt)*) => {
+        $arms! {
+            [$($args)*]
+            {
+                $crate::shutdown_chunk::CHUNK_TYPE, Shutdown, $crate::shutdown_chunk::ShutdownChunk;
+                $crate::shutdown_ack_chunk::CHUNK_TYPE, ShutdownAck, $crate::shutdown_ack_chunk::ShutdownAckChunk;
+                $crate::cookie_ack_chunk::CHUNK_TYPE, CookieAck, $crate::cookie_ack_chunk::CookieAckChunk;
+                $crate::shutdown_complete_chunk::CHUNK_TYPE, ShutdownComplete, $crate::shutdown_complete_chunk::ShutdownCompleteChunk;
+            }
+            {
+                $crate::data_chunk::CHUNK_TYPE, Data, $crate::data_chunk::DataChunk;
+                $crate::sack_chunk::CHUNK_TYPE, Sack, $crate::sack_chunk::SackChunk;
+                $crate::cookie_echo_chunk::CHUNK_TYPE, CookieEcho, $crate::cookie_echo_chunk::CookieEchoChunk;
+                $crate::idata_chunk::CHUNK_TYPE, IData, $crate::idata_chunk::IDataChunk;
+                $crate::forward_tsn_chunk::CHUNK_TYPE, ForwardTsn, $crate::forward_tsn_chunk::ForwardTsnChunk;
+                $crate::iforward_tsn_chunk::CHUNK_TYPE, IForwardTsn, $crate::iforward_tsn_chunk::IForwardTsnChunk;
+            }
+        }
+    };
+}
 
 /// Whether the value is one that the chunk's kind reads. Does not allocate.
 ///
@@ -22,21 +39,9 @@ use dcsctp_tlv::error::ChunkParseError;
 /// passes whose type has no kind of its own, or a kind with a list of parameters or error causes.
 #[tactic(auto, unfolding(crate::specs::DataChunk::read, crate::specs::IDataChunk::read, crate::specs::ShutdownComplete::read))]
 pub fn plain_check(raw: RawChunk) -> Result<(), ChunkParseError>
-    ensures answer { ChecksKind (plain_kinds raw.entry.flags) raw.entry.typ raw.entry.value.now
+    ensures answer { ChecksKind plain_kinds raw.entry.flags raw.entry.typ raw.entry.value.now
         result }
     ensures memory { ¬ IsErrOf result ChunkParseError.OutOfMemory }
 {
-    match raw.typ {
-        data_chunk::CHUNK_TYPE => DataChunk::check(raw.value),
-        sack_chunk::CHUNK_TYPE => SackChunk::check(raw.value),
-        shutdown_chunk::CHUNK_TYPE => ShutdownChunk::check(raw.value),
-        shutdown_ack_chunk::CHUNK_TYPE => ShutdownAckChunk::check(raw.value),
-        cookie_echo_chunk::CHUNK_TYPE => CookieEchoChunk::check(raw.value),
-        cookie_ack_chunk::CHUNK_TYPE => CookieAckChunk::check(raw.value),
-        shutdown_complete_chunk::CHUNK_TYPE => ShutdownCompleteChunk::check(raw.value),
-        idata_chunk::CHUNK_TYPE => IDataChunk::check(raw.value),
-        forward_tsn_chunk::CHUNK_TYPE => ForwardTsnChunk::check(raw.value),
-        iforward_tsn_chunk::CHUNK_TYPE => IForwardTsnChunk::check(raw.value),
-        _ => Ok(()),
-    }
+    plain_kinds!(check_arms, raw.typ, raw.value)
 }

@@ -19,6 +19,7 @@
 //! ```
 
 ghost use Rattle.std.specs.Prelude.{◌≡◌, ◌≢◌, ◌↔◌, ◌<◌, ◌^◌, Some, IsOk, IsErrOf, length, refl, IfOk, Ok, vec_len, vec_capacity};
+ghost use Rattle.std.specs.List.{AllByRecursion};
 ghost use Rattle.dcsctp_tlv.specs.Reading.{Exactly, reading, checking, Tested};
 ghost use Rattle.dcsctp_chunk.specs.Sack as kind;
 
@@ -28,6 +29,7 @@ use dcsctp_tlv::fields::{Field, fields_from_bytes, put_fields};
 use dcsctp_tlv::frame::{MAX_VALUE_SIZE, TLV_HEADER_SIZE, put_bytes, put_header};
 use dcsctp_tlv::number::{put_u16, put_u32, read_u16_be, read_u32_be, write_u16_be};
 use dcsctp_tlv::tlv::SerializableTlv;
+use dcsctp_tlv::widths::{Widths, are_in_width};
 use dcsctp_types::types::Tsn;
 use std::alloc::{AllocError, Global};
 use std::fmt;
@@ -126,7 +128,7 @@ impl SackChunk {
             return Err(ChunkParseError::InvalidType);
         }
         SackChunk::check(raw.value)?;
-        Ok(SackChunk::build(alloc, raw.value)?)
+        Ok(SackChunk::build(alloc, raw.flags, raw.value)?)
     }
 
     /// `InvalidLength` exactly where the value has fewer than 12 bytes, or isn't just as long as
@@ -146,7 +148,7 @@ impl SackChunk {
     }
 
     /// What the value means.
-    pub fn build(alloc: Global, value: &[u8]) -> Result<Self, AllocError>
+    pub fn build(alloc: Global, _flags: u8, value: &[u8]) -> Result<Self, AllocError>
         requires { IsOk (kind.read value.now) }
         ensures meant { IfOk result (λ x. kind.read value.now ≡ Ok (kind.view x)) }
         ensures tight { IfOk result (λ x. (vec_capacity x.gap_ack_blocks ≡ vec_len x.gap_ack_blocks)
@@ -200,6 +202,13 @@ impl SerializableTlv for SackChunk {
         let duplicates = self.duplicate_tsns.len();
         blocks.saturating_add(duplicates) <= (MAX_VALUE_SIZE - FIXED_SIZE) / 4
     }
+
+    fn has_widths(&self) {
+        let _window = self.a_rwnd;
+        self.cumulative_tsn_ack.is_in_width();
+        blocks_have_widths(&self.gap_ack_blocks);
+        are_in_width(&self.duplicate_tsns);
+    }
 }
 
 impl fmt::Display for SackChunk {
@@ -210,4 +219,21 @@ impl fmt::Display for SackChunk {
         let a_rwnd = self.a_rwnd;
         write!(f, "SACK, cum_ack_tsn={tsn}, a_rwnd={a_rwnd}")
     }
+}
+
+/// A law: the numbers of each lie in their fields' widths. It does nothing.
+fn blocks_have_widths(blocks: &[GapAckBlock])
+    ensures { AllByRecursion kind.IsBlockInWidth blocks.now }
+{
+    for block in blocks {
+        block_has_widths(block);
+    }
+}
+
+/// The same of one.
+fn block_has_widths(block: &GapAckBlock)
+    ensures { kind.IsBlockInWidth block.now }
+{
+    let _start = block.start;
+    let _end = block.end;
 }

@@ -8,7 +8,7 @@
 //! +-+-+-+-+-+-+-+-+-+-+-+-+-+-+-+-+-+-+-+-+-+-+-+-+-+-+-+-+-+-+-+-+
 //! ```
 
-ghost use Rattle.std.specs.Prelude.{◌≡◌, ◌≢◌, ◌↔◌, [], Some, IsErrOf};
+ghost use Rattle.std.specs.Prelude.{◌≡◌, ◌≢◌, ◌↔◌, [], Some, Ok, IsOk, IsErrOf};
 ghost use Rattle.dcsctp_tlv.specs.Reading.{Exactly, reading, checking, Tested};
 ghost use Rattle.dcsctp_chunk.specs.ShutdownAck as kind;
 
@@ -40,7 +40,7 @@ impl ShutdownAckChunk {
             return Err(ChunkParseError::InvalidType);
         }
         ShutdownAckChunk::check(raw.value)?;
-        Ok(ShutdownAckChunk)
+        Ok(ShutdownAckChunk::build(raw.flags, raw.value))
     }
 
     /// `InvalidLength` exactly where the value isn't empty.
@@ -51,6 +51,14 @@ impl ShutdownAckChunk {
             return Err(ChunkParseError::InvalidLength);
         }
         Ok(())
+    }
+
+    /// What the value means.
+    pub fn build(_flags: u8, value: &[u8]) -> Self
+        requires { IsOk (kind.read value.now) }
+        ensures { kind.read value.now ≡ Ok (kind.view result) }
+    {
+        ShutdownAckChunk
     }
 }
 
@@ -68,6 +76,8 @@ impl SerializableTlv for ShutdownAckChunk {
     fn encodable(&self) -> bool {
         true
     }
+
+    fn has_widths(&self) {}
 }
 
 impl fmt::Display for ShutdownAckChunk {

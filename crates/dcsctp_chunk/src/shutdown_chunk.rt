@@ -20,6 +20,7 @@ use dcsctp_tlv::error::ChunkParseError;
 use dcsctp_tlv::frame::put_solid;
 use dcsctp_tlv::number::read_u32_be;
 use dcsctp_tlv::tlv::SerializableTlv;
+use dcsctp_tlv::widths::Widths;
 use dcsctp_types::types::Tsn;
 use std::fmt;
 
@@ -49,7 +50,7 @@ impl ShutdownChunk {
             return Err(ChunkParseError::InvalidType);
         }
         ShutdownChunk::check(raw.value)?;
-        Ok(ShutdownChunk::build(raw.value))
+        Ok(ShutdownChunk::build(raw.flags, raw.value))
     }
 
     /// `InvalidLength` exactly where the value hasn't 4 bytes.
@@ -63,7 +64,7 @@ impl ShutdownChunk {
     }
 
     /// What the value means.
-    pub fn build(value: &[u8]) -> Self
+    pub fn build(_flags: u8, value: &[u8]) -> Self
         requires { IsOk (kind.read value.now) }
         ensures { kind.read value.now ≡ Ok (kind.view result) }
     {
@@ -91,6 +92,10 @@ impl SerializableTlv for ShutdownChunk {
 
     fn encodable(&self) -> bool {
         true
+    }
+
+    fn has_widths(&self) {
+        self.cumulative_tsn_ack.is_in_width();
     }
 }
 

@@ -8,7 +8,7 @@
 //! +-+-+-+-+-+-+-+-+-+-+-+-+-+-+-+-+-+-+-+-+-+-+-+-+-+-+-+-+-+-+-+-+
 //! ```
 
-ghost use Rattle.std.specs.Prelude.{◌≡◌, ◌≢◌, ◌↔◌, ℕ, List, [], Some, Ok, IsOk, IsErrOf, IfErr, length, OnOk, OnErr, ◌<◌};
+ghost use Rattle.std.specs.Prelude.{◌≡◌, ◌≢◌, ◌↔◌, [], Some, Ok, IsOk, IsErrOf, IfErr, length, OnOk, OnErr, ◌<◌};
 ghost use Rattle.dcsctp_tlv.specs.Reading.{Exactly, reading};
 ghost use Rattle.dcsctp_chunk.specs.ShutdownComplete as kind;
 
@@ -46,7 +46,7 @@ impl ShutdownCompleteChunk {
             return Err(ChunkParseError::InvalidType);
         }
         ShutdownCompleteChunk::check(raw.value)?;
-        Ok(ShutdownCompleteChunk::build(raw.flags))
+        Ok(ShutdownCompleteChunk::build(raw.flags, raw.value))
     }
 
     /// `InvalidLength` exactly where the value isn't empty.
@@ -62,9 +62,9 @@ impl ShutdownCompleteChunk {
     }
 
     /// What a value without bytes means, under these flags.
-    pub fn build(flags: u8) -> Self
-        ensures { (value : List ℕ) → IsOk (kind.read flags value)
-            → kind.read flags value ≡ Ok (kind.view result) }
+    pub fn build(flags: u8, value: &[u8]) -> Self
+        requires { IsOk (kind.read flags value.now) }
+        ensures { kind.read flags value.now ≡ Ok (kind.view result) }
     {
         ShutdownCompleteChunk {
             tag_reflected: is_set(flags, 0),
@@ -86,6 +86,8 @@ impl SerializableTlv for ShutdownCompleteChunk {
     fn encodable(&self) -> bool {
         true
     }
+
+    fn has_widths(&self) {}
 }
 
 impl fmt::Display for ShutdownCompleteChunk {

@@ -1,9 +1,12 @@
 //! What FORWARD-TSN and I-FORWARD-TSN have in common: the test of their skipped streams.
 
-ghost use Rattle.std.specs.Prelude.{◌↔◌, IsTrue};
-ghost use Rattle.dcsctp_chunk.specs.SkippedStreams.{AreByMid, skipped_stream_views};
+ghost use Rattle.std.specs.Prelude.{◌↔◌, ◌<◌, ◌^◌, IsTrue};
+ghost use Rattle.std.specs.List.{AllByRecursion};
+ghost use Rattle.dcsctp_chunk.specs.SkippedStreams.{AreByMid, IsSkippedStreamInWidth, skipped_stream_view, skipped_stream_views};
 
 use dcsctp_tlv::skipped_stream::SkippedStream;
+use dcsctp_types::api::StreamId;
+use dcsctp_types::types::{Mid, Ssn};
 
 /// Whether each stream is skipped by a message id, or each by a sequence number.
 pub(crate) fn are_by_mid(by_mid: bool, streams: &[SkippedStream]) -> bool
@@ -15,4 +18,39 @@ pub(crate) fn are_by_mid(by_mid: bool, streams: &[SkippedStream]) -> bool
         }
     }
     true
+}
+
+/// A law: the numbers of each lie in their fields' widths. It does nothing.
+pub(crate) fn streams_have_widths(streams: &[SkippedStream])
+    ensures { AllByRecursion IsSkippedStreamInWidth (skipped_stream_views streams.now) }
+{
+    for stream in streams {
+        stream_has_widths(stream);
+    }
+}
+
+/// The same of one.
+fn stream_has_widths(stream: &SkippedStream)
+    ensures { IsSkippedStreamInWidth (skipped_stream_view stream.now) }
+{
+    match stream {
+        SkippedStream::ForwardTsn(id, ssn) => ssn_has_widths(*id, *ssn),
+        SkippedStream::IForwardTsn(key, mid) => mid_has_widths(key.id(), *mid),
+    }
+}
+
+/// The same of its numbers.
+fn ssn_has_widths(id: StreamId, ssn: Ssn)
+    ensures { (id.0 < 2 ^ 16) × (ssn.0 < 2 ^ 16) }
+{
+    let _id = id.0;
+    let _ssn = ssn.0;
+}
+
+/// The same, where it is skipped by a message id.
+fn mid_has_widths(id: StreamId, mid: Mid)
+    ensures { (id.0 < 2 ^ 16) × (mid.0 < 2 ^ 32) }
+{
+    let _id = id.0;
+    let _mid = mid.0;
 }

@@ -19,6 +19,7 @@ use dcsctp_tlv::copy::copied;
 use dcsctp_tlv::error::ChunkParseError;
 use dcsctp_tlv::frame::{MAX_VALUE_SIZE, put_solid};
 use dcsctp_tlv::tlv::SerializableTlv;
+use dcsctp_tlv::widths::are_bytes;
 use std::alloc::{AllocError, Global};
 use std::fmt;
 
@@ -72,6 +73,12 @@ impl SerializableTlv for UnknownChunk {
 
     fn encodable(&self) -> bool {
         self.value.len() <= MAX_VALUE_SIZE
+    }
+
+    fn has_widths(&self) {
+        let _typ = self.typ;
+        let _flags = self.flags;
+        are_bytes(&self.value);
     }
 }
 

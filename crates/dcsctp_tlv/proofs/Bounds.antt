@@ -1,5 +1,5 @@
--- The bound on what the trees of a list hold: at most six times the bytes that mean them, where it
--- holds of each item; some more where the last item lacks its padding.
+-- The bound on what the trees of a list are written in: at most six times the bytes that mean them,
+-- where it holds of each item; some more where the last item lacks its padding.
 use Rattle.std.proofs.Common.{◌≡◌, ℕ, ◌+◌, ◌*◌, ◌≤◌, List, [], ◌∷◌, ◌++◌, length, sym, ap, subst, ◌∙◌, arith}
 use Rattle.std.specs.List.{flat_map}
 use Rattle.std.proofs.lemmas.List.{append-nil, length-append}
@@ -9,48 +9,45 @@ use Rattle.dcsctp_tlv.specs.Image.{Tlv, size_of, list_size}
 use Rattle.dcsctp_tlv.specs.Level.{Level, ItemsMean, MeansTrees}
 use Rattle.dcsctp_tlv.proofs.Accounts.{length-item}
 
--- a list, with the headers of its items
-abbrev pub list_held : {T : Type 0} → (T → ℕ) → List T → ℕ
-list_held held ts = 4 * length ts + total held ts
+-- an item as it is written, with its padding
+abbrev pub padded_by : {T : Type 0} → (T → Tlv) → T → ℕ
+padded_by tlv t = round_up_to_4 (size_of (tlv t))
 
--- it holds no more than it is written in, where each of its trees holds no more
-pub list_fits : {T : Type 0} (held : T → ℕ) (tlv : T → Tlv)
-    → ((t : T) → 4 + held t ≤ size_of (tlv t))
-    → (ts : List T) → list_held held ts ≤ list_size tlv ts
-list_fits held tlv law [] = omega arith
-list_fits held tlv law (t ∷ []) = let h = law t in omega (arith, h)
-list_fits held tlv law (t ∷ u ∷ ts) =
-    let h = law t in let rest = list_fits held tlv law (u ∷ ts) in
-    omega (arith, h, rest)
+-- a list takes no more than its items with their padding
+pub list_fits : {T : Type 0} (tlv : T → Tlv) (ts : List T)
+    → list_size tlv ts ≤ total (padded_by tlv) ts
+list_fits tlv [] = omega arith
+list_fits tlv (t ∷ []) = omega arith
+list_fits tlv (t ∷ u ∷ ts) = let rest = list_fits tlv (u ∷ ts) in omega (arith, rest)
 
--- ---- what is held by the bytes of each item
+-- ---- what the bytes of each item are written in
 
-pub record Bounds {T : Type 0} (level : Level T) (held : T → ℕ) (more : ℕ) : Type 0 where
+pub record Bounds {T : Type 0} (level : Level T) (tlv : T → Tlv) (more : ℕ) : Type 0 where
   pub padded : (i : Item) (t : T) → (level.row i.first i.second).means i.value t
-      → 4 + held t ≤ 6 * round_up_to_4 (4 + length i.value)
+      → padded_by tlv t ≤ 6 * round_up_to_4 (4 + length i.value)
   pub alone : (i : Item) (t : T) → (level.row i.first i.second).means i.value t
-      → 4 + held t ≤ 6 * (4 + length i.value) + more
+      → padded_by tlv t ≤ 6 * (4 + length i.value) + more
 
-items_bound : {T : Type 0} (level : Level T) (held : T → ℕ) (more : ℕ) → Bounds level held more
+items_bound : {T : Type 0} (level : Level T) (tlv : T → Tlv) (more : ℕ) → Bounds level tlv more
     → (is : List Item) (ts : List T) → AreFormed level.padding is → ItemsMean level is ts
-    → list_held held ts ≤ 6 * length (flat_map item_bytes is) + more
-items_bound level held more law [] [] p m = omega arith
-items_bound level held more law (i ∷ []) (t ∷ []) p m =
+    → total (padded_by tlv) ts ≤ 6 * length (flat_map item_bytes is) + more
+items_bound level tlv more law [] [] p m = omega arith
+items_bound level tlv more law (i ∷ []) (t ∷ []) p m =
     let e : length (item_bytes i ++ []) ≡ 4 + (length i.value + length i.padding) =
     ap length (append-nil (item_bytes i)) ∙ length-item i in
     omega (arith, law.alone i t m.0, e)
-items_bound level held more law (i ∷ []) (t ∷ u ∷ ts) p m = absurd m.1
-items_bound level held more law (i ∷ j ∷ is) (t ∷ []) p m = absurd m.1
-items_bound level held more law (i ∷ j ∷ is) (t ∷ u ∷ ts) p m =
+items_bound level tlv more law (i ∷ []) (t ∷ u ∷ ts) p m = absurd m.1
+items_bound level tlv more law (i ∷ j ∷ is) (t ∷ []) p m = absurd m.1
+items_bound level tlv more law (i ∷ j ∷ is) (t ∷ u ∷ ts) p m =
     let rest = flat_map item_bytes (j ∷ is) in
     let e = length-append (item_bytes i) rest ∙ ap (λ (n : ℕ). n + length rest) (length-item i) in
-    let others = items_bound level held more law (j ∷ is) (u ∷ ts) p.1 m.1 in
+    let others = items_bound level tlv more law (j ∷ is) (u ∷ ts) p.1 m.1 in
     omega (arith, law.padded i t m.0, p.0.padded, others, e)
-items_bound level held more law is ts p m = absurd m
+items_bound level tlv more law is ts p m = absurd m
 
-pub list_bound : {T : Type 0} (level : Level T) (held : T → ℕ) (more : ℕ) → Bounds level held more
+pub list_bound : {T : Type 0} (level : Level T) (tlv : T → Tlv) (more : ℕ) → Bounds level tlv more
     → (bytes : List ℕ) (ts : List T) → MeansTrees level bytes ts
-    → list_held held ts ≤ 6 * length bytes + more
-list_bound level held more law bytes ts m =
-    subst (λ (n : ℕ). list_held held ts ≤ 6 * n + more) (ap length (sym m.are.split))
-    (items_bound level held more law m.items ts m.are.formed m.mean)
+    → total (padded_by tlv) ts ≤ 6 * length bytes + more
+list_bound level tlv more law bytes ts m =
+    subst (λ (n : ℕ). total (padded_by tlv) ts ≤ 6 * n + more) (ap length (sym m.are.split))
+    (items_bound level tlv more law m.items ts m.are.formed m.mean)

@@ -3,9 +3,9 @@ use Rattle.std.proofs.Common.{◌≡◌, ℕ, List, [], ◌∷◌, ◌++◌, ref
 use Rattle.std.specs.List.{flat_map}
 use Rattle.dcsctp_tlv.specs.Frame.{Item, item_bytes, PaddingRule}
 use Rattle.dcsctp_tlv.specs.Level.{Row, Level}
-use Rattle.dcsctp_tlv.specs.Decided.{SplitsOneWay, IsRowDecided, IsDecided}
+use Rattle.dcsctp_tlv.specs.Decided.{LawfulRow, SplitsOneWay, IsRowDecided, IsDecided}
 use Rattle.dcsctp_tlv.proofs.Items.{AreBefore, items_before}
-use Rattle.dcsctp_tlv.proofs.Laws.{LawfulRow, Lawful, after, list_one, list_apart, list_same, list_place, list_some}
+use Rattle.dcsctp_tlv.proofs.Laws.{Lawful, after, list_one, list_apart, list_same, list_place, list_some}
 
 items_one : (rule : PaddingRule) (is js : List Item) → flat_map item_bytes is ++ []
     ≡ flat_map item_bytes js ++ [] → AreBefore rule is [] → AreBefore rule js [] → is ≡ js

@@ -1,6 +1,6 @@
 -- From what a call answers to what it answers exactly, wherever the grammar gives one answer at
 -- most.
-use Rattle.std.proofs.Common.{◌≡◌, ℕ, List, Result, Ok, Err, inl, inr, refl, sym, ap, subst, ◌∙◌, length, get_or, Fits}
+use Rattle.std.proofs.Common.{◌≡◌, ℕ, true, false, List, Result, Ok, Err, inl, inr, refl, sym, ap, subst, ◌∙◌, length, get_or, Fits}
 use Rattle.std.specs.Prelude.{IsErrOf}
 use Rattle.std.specs.Int.{w8}
 use Rattle.dcsctp_tlv.specs.declared.error.ChunkParseError.{ChunkParseError}
@@ -8,8 +8,9 @@ use Rattle.dcsctp_tlv.specs.declared.error.ChunkParseError.TheVariants.{OutOfMem
 use Rattle.dcsctp_tlv.specs.Fault.{Fault, Length, Padding, Value}
 use Rattle.dcsctp_tlv.specs.Number.{AreBytes}
 use Rattle.dcsctp_tlv.specs.Level.{Row, Level, MeansTrees}
-use Rattle.dcsctp_tlv.specs.Reading.{Errors, Answers, Exactly, error_of, reading, checking, RowAnswer, ListAnswer, Counted}
-use Rattle.dcsctp_tlv.proofs.Laws.{LawfulRow, Lawful, list_one, list_apart, list_same}
+use Rattle.dcsctp_tlv.specs.Reading.{Errors, Answers, Exactly, error_of, reading, checking, Tested, RowAnswer, ListAnswer, Counted}
+use Rattle.dcsctp_tlv.specs.Decided.{LawfulRow}
+use Rattle.dcsctp_tlv.proofs.Laws.{Lawful, list_one, list_apart, list_same}
 
 -- one answer at most
 abbrev pub Single : {T F : Type 0} → (Result T F → Type 0) → Type 0
@@ -74,9 +75,6 @@ checking_distinct = record { one = error_one; apart = λ f none. none }
 
 -- ---- one answer at most
 
-pub read_single : {T F : Type 0} (read : Result T F) → Single (λ a. read ≡ a)
-read_single read a b p q = sym p ∙ q
-
 pub row_single : {T : Type 0} (row : Row T) → LawfulRow row → (v : List ℕ) → AreBytes v
     → Single (RowAnswer row v)
 row_single row law v fits (Ok s) (Ok t) m n = ap Ok (law.one v s t m n)
@@ -104,6 +102,23 @@ counted_single count answer single (Err f) (Ok n) g q =
     absurd (let h : Ok q.0 ≡ Err f = single (Ok q.0) (Err f) q.1 g in cc)
 counted_single count answer single (Err f) (Err g) p q =
     (let h : Err f ≡ Err g = single (Err f) (Err g) p q in let same : f ≡ g = cc in ap Err same)
+
+tested_single : {T : Type 0} (read : Result T Fault) → Single (Tested read)
+tested_single read (Ok x) (Ok y) p q = refl
+tested_single (Ok t) (Ok x) (Err f) p q = absurd cc
+tested_single (Err e) (Ok x) (Err f) p q = absurd (let h : false ≡ true = p in cc)
+tested_single (Ok t) (Err f) (Ok x) p q = absurd cc
+tested_single (Err e) (Err f) (Ok x) p q = absurd (let h : false ≡ true = q in cc)
+tested_single read (Err e) (Err f) p q =
+    let h : Err e ≡ Err f = sym p ∙ q in let same : e ≡ f = cc in ap Err same
+
+-- ---- of a check of a value
+
+pub tested_exactly : {T : Type 0} (read : Result T Fault) (r : Result (Unit {0}) ChunkParseError)
+    → Answers checking (λ (u : Unit {0}). u) (Tested read) r
+    → Exactly checking (λ (u : Unit {0}). u) (Tested read) r
+tested_exactly read r a = exactly checking checking_distinct (λ u. u) (Tested read)
+    (tested_single read) r a (λ e is none. absurd none)
 
 -- ---- of a reader of items
 

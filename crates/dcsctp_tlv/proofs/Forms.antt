@@ -1,11 +1,8 @@
 -- What is read is well-formed, at every level whose rows read nothing else.
-use Rattle.std.proofs.Common.{◌≡◌, ℕ, Bool, true, false, List, [], ◌∷◌, refl, sym, subst, ◌∙◌, Result}
+use Rattle.std.proofs.Common.{◌≡◌, ℕ, Bool, true, false, List, [], ◌∷◌, refl, ◌∙◌}
 use Rattle.std.specs.List.{flat_map, AllByRecursion}
-use Rattle.dcsctp_tlv.specs.Fault.{Fault}
-use Rattle.dcsctp_tlv.specs.Format.{Format}
 use Rattle.dcsctp_tlv.specs.Frame.{Item, item_bytes}
-use Rattle.dcsctp_tlv.specs.Level.{Row, Level, plain, pick, map_ok, ItemsMean, MeansTrees}
-use Rattle.dcsctp_tlv.proofs.KindLaws.{KindLaws, of_map_ok}
+use Rattle.dcsctp_tlv.specs.Level.{Row, Level, pick, ItemsMean, MeansTrees}
 
 -- each tree that a row means is well-formed
 pub record FormsTrees {T : Type 0} (level : Level T) (IsFormed : T → Type 0) : Type 0 where
@@ -22,16 +19,6 @@ picked Holds false row others p q = q refl
 
 abbrev pub FormsRow : {T : Type 0} → (T → Type 0) → Row T → Type 0
 FormsRow {T} IsFormed row = (value : List ℕ) (t : T) → row.means value t → IsFormed t
-
--- a kind whose value is read at fixed places
-pub plain_forms : {X T : Type 0} {IsKept : List ℕ → Type 0}
-    {read : ℕ → ℕ → List ℕ → Result X Fault} {format : X → Format} → KindLaws IsKept read format
-    → (tree : X → T) (IsFormed : T → Type 0) (first second : ℕ)
-    → ((x : X) → (format x).IsWellFormed → IsFormed (tree x))
-    → FormsRow IsFormed (plain (λ value. map_ok tree (read first second value)))
-plain_forms {X} {T} {IsKept} {read} laws tree IsFormed first second law value t e =
-    let x = of_map_ok tree (read first second value) t e in
-    subst IsFormed (sym x.1.1) (law x.0 (laws.formed first second value x.0 x.1.0))
 
 -- ---- lists
 
@@ -67,6 +54,3 @@ no_trees level (i ∷ is) ts e m = absurd cc
 -- an empty list of bytes means no trees, and nothing else
 pub means_nil : {T : Type 0} (level : Level T) (ts : List T) → MeansTrees level [] ts → ts ≡ []
 means_nil level ts m = no_trees level m.items ts m.are.split m.mean
-
-pub nil_means_nil : {T : Type 0} (level : Level T) → MeansTrees level [] []
-nil_means_nil level = record { items = []; are = record { split = refl; formed = tt }; mean = tt }

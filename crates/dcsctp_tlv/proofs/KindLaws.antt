@@ -1,5 +1,5 @@
 -- What a kind has to satisfy for the laws of its level, where its value is read at fixed places.
-use Rattle.std.proofs.Common.{◌≡◌, ℕ, ◌+◌, Bool, true, false, cond, ◌⊎◌, inl, inr, List, length, Result, Ok, Err, refl, ap}
+use Rattle.std.proofs.Common.{◌≡◌, ℕ, ◌+◌, Bool, true, false, cond, ◌⊎◌, inl, inr, List, length, Result, Ok, Err, refl}
 use Rattle.dcsctp_tlv.specs.Fault.{Fault}
 use Rattle.dcsctp_tlv.specs.Level.{map_ok}
 use Rattle.dcsctp_tlv.specs.Format.{Format}
@@ -26,14 +26,6 @@ pub record KindLaws {T : Type 0} (IsKept : List ℕ → Type 0)
   -- what is read is written with the size that it was read from, where the value is kept
   pub keeps : (first second : ℕ) (value : List ℕ) (t : T) → IsKept value
       → read first second value ≡ Ok t → size_of (format t).tlv ≡ 4 + length value
-
--- what a kind's tree is written as means it, as a tree of the level
-pub back_as : {X T : Type 0} {IsKept : List ℕ → Type 0} {read : ℕ → ℕ → List ℕ → Result X Fault}
-    {format : X → Format} → KindLaws IsKept read format → (tree : X → T) {x : X}
-    → IsGood (format x)
-    → map_ok tree (read (format x).tlv.first (format x).tlv.second (zeroed (format x).tlv.value))
-    ≡ Ok (tree x)
-back_as laws tree {x} good = ap (map_ok tree) (laws.back x good)
 
 -- ---- a kind of parameter or cause, which has one type: its value alone is read
 

@@ -6,18 +6,10 @@ use Rattle.std.proofs.lemmas.List.{append-nil, get_or-drop, get_or-take, get_or_
 use Rattle.dcsctp_tlv.specs.Fault.{Fault, Length, Padding}
 use Rattle.dcsctp_tlv.specs.Number.{AreBytes}
 use Rattle.dcsctp_tlv.specs.Frame.{round_up_to_4, padding_size, any_padding, Item, item_bytes, PaddingRule, frame_length, BeginsWithFrame, frame_value, frame_padding, frame_rest}
-use Rattle.dcsctp_tlv.specs.Level.{Row, Level, ItemsMean, MeansTrees, HasFault, BeginsWithFault, no_frame, value, padding, front_row, plain, as_row, pick, front_offset, fault_offset, listed, listed_offset}
+use Rattle.dcsctp_tlv.specs.Level.{Row, Level, ItemsMean, MeansTrees, HasFault, BeginsWithFault, no_frame, value, padding, front_row, plain, as_row, front_offset, fault_offset, listed, listed_offset}
+use Rattle.dcsctp_tlv.specs.Decided.{LawfulRow}
 use Rattle.dcsctp_tlv.proofs.Items.{IsNext, AreBefore, front_item, front_split, front_next, next_one, item_frame, items_before, whole_before}
 use Rattle.dcsctp_tlv.proofs.Lists.{Progress, begin, step, finish, not_nil, fault}
-
--- each value means one tree or has one fault, at one place
-pub record LawfulRow {T : Type 0} (row : Row T) : Type 0 where
-  pub one : (v : List ℕ) (s t : T) → row.means v s → row.means v t → s ≡ t
-  pub apart : (v : List ℕ) (t : T) (e : Fault) → AreBytes v → row.means v t → row.faults v e → ⊥
-  pub same : (v : List ℕ) (d e : Fault) → AreBytes v → row.faults v d → row.faults v e → d ≡ e
-  pub place : (v : List ℕ) (d e : Fault) → AreBytes v → (f : row.faults v d) (g : row.faults v e)
-      → row.offset v d f ≡ row.offset v e g
-  pub some : (v : List ℕ) → AreBytes v → ((t : T) × row.means v t) ⊎ ((e : Fault) × row.faults v e)
 
 abbrev pub Lawful : {T : Type 0} → Level T → Type 0
 Lawful level = (a b : ℕ) → LawfulRow (level.row a b)
@@ -34,11 +26,6 @@ plain_lawful {T} read = record {
       ⊎ ((e : Fault) × (read v ≡ Err e))
   go v (Ok t) h = inl (t, h)
   go v (Err e) h = inr (e, h)
-
-pub pick_lawful : {T : Type 0} (b : Bool) (row others : Row T) → LawfulRow row → LawfulRow others
-    → LawfulRow (pick b row others)
-pick_lawful true row others p q = p
-pick_lawful false row others p q = q
 
 pub as_lawful : {A B : Type 0} (f : A → B) (row : Row A) → LawfulRow row → LawfulRow (as_row f row)
 as_lawful {A} {B} f row law = record {

@@ -1,7 +1,7 @@
 -- What is accepted by a strict reader is accepted by a lenient one, with the same trees.
 use Rattle.std.proofs.Common.{◌≡◌, ℕ, Bool, true, List, [], ◌∷◌}
 use Rattle.dcsctp_tlv.specs.Frame.{Item, IsWhole, IsLastForm, AreFormed}
-use Rattle.dcsctp_tlv.specs.Level.{Row, as_row, listed, Level, ItemsMean, MeansTrees}
+use Rattle.dcsctp_tlv.specs.Level.{Row, listed, Level, ItemsMean, MeansTrees}
 
 -- what one row means, the other means too
 abbrev pub LoosensRow : {T : Type 0} → Row T → Row T → Type 0
@@ -11,12 +11,6 @@ LoosensRow {T} row loose = (value : List ℕ) (t : T) → row.means value t → 
 pub record Loosens {T : Type 0} (level loose : Level T) : Type 0 where
   pub row : (first second : ℕ) → LoosensRow (level.row first second) (loose.row first second)
   pub any : (size : ℕ) (there : List ℕ) → loose.padding size there ≡ true
-
--- ---- rows
-
-pub as_looser : {A B : Type 0} (f : A → B) (row loose : Row A) → LoosensRow row loose
-    → LoosensRow (as_row f row) (as_row f loose)
-as_looser f row loose law value t m = (m.0, law value m.0 m.1, m.2)
 
 -- ---- lists
 

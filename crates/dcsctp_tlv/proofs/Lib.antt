@@ -20,7 +20,9 @@ pub mod Counts
 pub mod Bounds
 pub mod Kept
 pub mod ParameterKinds
+pub mod Owed
 pub mod TableLaws
+pub mod KindChecks
 pub mod ParameterLaws
 pub mod Local
 pub mod Checks

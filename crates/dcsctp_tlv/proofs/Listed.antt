@@ -5,7 +5,6 @@ use Rattle.std.proofs.lemmas.List.{length-append, length-map}
 use Rattle.dcsctp_tlv.specs.Image.{solid, written, Tlv, size_of, image_of, list_image, list_size, listed_tlv, IsEncodable, IsListEncodable}
 use Rattle.dcsctp_tlv.specs.Frame.{header, frame_length}
 use Rattle.dcsctp_tlv.proofs.FieldLaws.{number16_law}
-use Rattle.dcsctp_tlv.proofs.Lengths.{length-image_of}
 use Rattle.dcsctp_tlv.proofs.Images.{list_size-map, list_image-map, length-list_image}
 
 module _ {A B : Type 0} (tlv : A → Tlv) (view : A → B) (tree_tlv : B → Tlv) (same : (x : A)
@@ -65,9 +64,3 @@ module _ {T : Type 0} (tlv : T → Tlv) (law : (t : T) → length (image_of (tlv
         let front = length-map leading Some in
         let back = length-list_image tlv law ts in
         omega (arith, whole, front, back)
-
-    pub length-listed_tlv : (first second : ℕ) (leading : List ℕ) (ts : List T)
-        → length (image_of (listed_tlv first second leading tlv ts))
-        ≡ size_of (listed_tlv first second leading tlv ts)
-    length-listed_tlv first second leading ts = length-image_of (listed_tlv first second leading tlv
-        ts) (listed_sized first second leading ts)

@@ -4,13 +4,13 @@ use Rattle.std.specs.Prelude.{◌==◌}
 use Rattle.std.proofs.lemmas.List.{length-take, length-drop}
 use Rattle.dcsctp_tlv.specs.declared.error.ChunkParseError.{ChunkParseError}
 use Rattle.dcsctp_tlv.specs.declared.error.ChunkParseError.TheVariants.{InvalidLength}
+use Rattle.dcsctp_tlv.specs.declared.reader.Counts.{Counts}
 use Rattle.dcsctp_tlv.specs.declared.error.LocatedFault.{LocatedFault}
 use Rattle.dcsctp_tlv.specs.Fault.{Fault, Length, Padding}
 use Rattle.dcsctp_tlv.specs.Frame.{round_up_to_4, padding_size, first_nonzero, BeginsWithFrame, frame_length, frame_value, frame_padding}
-use Rattle.dcsctp_tlv.specs.Level.{Row, plain, FaultsAt, Level, front_row, no_frame, value, padding, front_offset, HasFaultAt, listed}
+use Rattle.dcsctp_tlv.specs.Level.{Row, FaultsAt, Level, front_row, no_frame, value, padding, front_offset, HasFaultAt, listed}
 use Rattle.dcsctp_tlv.specs.Reading.{Answers, error_of, checking, locating, ListAnswer, Counted, RowLocated, ListLocated, ListedLocated}
 use Rattle.dcsctp_tlv.proofs.Lists.{Progress, fault_at}
-use Rattle.dcsctp_tlv.proofs.Laws.{LawfulRow, plain_lawful}
 
 -- what is a fault of a part at one place is a fault of the whole at another
 pub moved : {T U : Type 0} (move : ℕ → ℕ) (P : Result T (Fault × ℕ) → Type 0) (Q : Result U (Fault
@@ -26,7 +26,7 @@ moved move P Q grows l (inr none) = absurd none
 
 -- a list's fault, wherever it lies
 pub fault_only : {T : Type 0} (level : Level T) (parts : T → ℕ) (bytes : List ℕ) (l : LocatedFault)
-    → Answers locating (λ (n : ℕ × ℕ). n) (ListLocated level parts bytes) (Err l)
+    → Answers locating (λ (n : Counts). n) (ListLocated level parts bytes) (Err l)
     → Answers checking (λ (n : ℕ). n) (Counted length (ListAnswer level bytes)) (Err l.fault)
 fault_only level parts bytes l (inl found) =
     inl (found.0.0, ap (λ (x : LocatedFault). x.fault) found.1, found.2.0)
@@ -47,13 +47,6 @@ fault_at_front row parts v answer front x (inl found) =
     let place : ChunkParseError → LocatedFault = λ y. record { offset = 0; fault = y } in
     inl ((found.0, 0), ap place found.1, front found.0 found.2)
 fault_at_front row parts v answer front x (inr none) = absurd none
-
--- a value is read at fixed places: so it has one answer, and its fault is the item's as a whole
-abbrev pub IsPlain : {T : Type 0} → Row T → Type 0
-IsPlain row = LawfulRow row × AtFront row
-
-pub is_plain : {T : Type 0} (read : List ℕ → Result T Fault) → IsPlain (plain read)
-is_plain read = (plain_lawful read, λ v e f. refl)
 
 -- what a check finds of a list in a value
 pub finds_listed : {T U : Type 0} (rule : List ℕ → Bool) (place : ℕ) (level : Level U)
@@ -82,7 +75,7 @@ rule_broken rule place level tree_of parts v h = inl ((Length, 0), refl, (inl (h
 -- a fault and its place are what a check gives
 pub at_place : {T : Type 0} (level : Level T) (parts : T → ℕ) (bytes : List ℕ) (e : Fault) (n : ℕ)
     → HasFaultAt level bytes e n
-    → Answers locating (λ (k : ℕ × ℕ). k) (ListLocated level parts bytes)
+    → Answers locating (λ (k : Counts). k) (ListLocated level parts bytes)
     (Err (record { offset = n; fault = error_of e }))
 at_place level parts bytes e n f = inl ((e, n), refl, f)
 
@@ -100,7 +93,7 @@ pub value_fault : {T : Type 0} (level : Level T) (parts : T → ℕ) (bytes : Li
     → ahead ≡ length bytes - length rest → BeginsWithFrame rest
     → Answers locating (λ (n : ℕ). n) (RowLocated parts (front_row level rest) (frame_value rest))
     (Err l)
-    → Answers locating (λ (n : ℕ × ℕ). n) (ListLocated level parts bytes)
+    → Answers locating (λ (n : Counts). n) (ListLocated level parts bytes)
     (Err (record { offset = ahead + l.offset; fault = l.fault }))
 value_fault level parts bytes trees rest l ahead p is frame f =
     moved (λ k. ahead + k) (RowLocated parts (front_row level rest) (frame_value rest))

@@ -1,21 +1,10 @@
 -- What a check of one kind finds, at the level of its table; and what is known where it passed.
-use Rattle.std.proofs.Common.{◌≡◌, Bool, true, false, cond, ℕ, List, [], Result, Ok, Err, inl, inr, refl, ap, sym, ◌∙◌}
+use Rattle.std.proofs.Common.{◌≡◌, Bool, true, false, cond, ℕ, List, Result, Ok, Err, refl, sym, ◌∙◌}
 use Rattle.std.specs.Prelude.{IsOk}
-use Rattle.dcsctp_tlv.specs.declared.error.ChunkParseError.{ChunkParseError}
 use Rattle.dcsctp_tlv.specs.declared.error.LocatedFault.{LocatedFault}
 use Rattle.dcsctp_tlv.specs.Fault.{Fault}
-use Rattle.dcsctp_tlv.specs.Level.{Row, plain, map_ok, as_row}
-use Rattle.dcsctp_tlv.specs.Reading.{Answers, checking, locating, Tested, RowTested, RowLocated}
-
--- ---- a check of one kind, at the level of its table
-
-pub passes_row : {T U : Type 0} (f : T → U) (read : Result T Fault)
-    (r : Result (Unit {0}) ChunkParseError) → Answers checking (λ (u : Unit {0}). u) (Tested read) r
-    → Answers checking (λ (u : Unit {0}). u) (RowTested (plain (λ v. map_ok f read)) []) r
-passes_row f (Ok t) (Ok x) p = (f t, refl)
-passes_row f (Err d) (Ok x) p = absurd (let e : false ≡ true = p in cc)
-passes_row f read (Err e) (inl found) = inl (found.0, found.1, ap (map_ok f) found.2)
-passes_row f read (Err e) (inr none) = absurd none
+use Rattle.dcsctp_tlv.specs.Level.{Row, as_row}
+use Rattle.dcsctp_tlv.specs.Reading.{Answers, locating, RowLocated}
 
 -- ---- what is known where a value has a meaning
 

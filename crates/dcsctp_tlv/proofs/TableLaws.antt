@@ -1,84 +1,123 @@
--- What the rows of a table have to satisfy at its level: those of its kinds, and those of all other
--- types.
-use Rattle.std.proofs.Common.{◌≡◌, ℕ, ◌+◌, ◌/◌, ◌%◌, List, [], ◌∷◌, length, refl, sym, ap, subst, ◌∙◌, Result}
+-- The laws of a level whose items have a type in their first two bytes, by what its kinds owe.
+use Rattle.std.proofs.Common.{◌≡◌, ℕ, ◌/◌, ◌%◌, ◌+◌, ◌*◌, ◌≤◌, Bool, List, [], ◌∷◌, length, Result, refl, sym, ap, subst, ◌∙◌, arith}
 use Rattle.std.specs.Int.{w16, from_be_bytes}
-use Rattle.dcsctp_tlv.specs.Fault.{Fault}
-use Rattle.dcsctp_tlv.specs.Format.{Format}
-use Rattle.dcsctp_tlv.specs.Image.{Tlv, solid, zeroed, size_of}
-use Rattle.dcsctp_tlv.specs.Level.{Row, plain, map_ok}
-use Rattle.dcsctp_tlv.specs.Table.{Named, row_of, IsUnnamed}
+use Rattle.dcsctp_tlv.specs.Decided.{LawfulRow, IgnoresPadding}
+use Rattle.dcsctp_tlv.specs.Frame.{lenient}
+use Rattle.dcsctp_tlv.specs.Image.{solid, zeroed, size_of}
+use Rattle.dcsctp_tlv.specs.Kinds.{Kind, TreesOf, rows, Entry, format_of, parts_of, ChecksKind}
+use Rattle.dcsctp_tlv.specs.Level.{plain, map_ok}
+use Rattle.dcsctp_tlv.specs.Reading.{Answers, checking, RowTested}
+use Rattle.dcsctp_tlv.specs.declared.error.ChunkParseError.{ChunkParseError}
+use Rattle.dcsctp_tlv.specs.Table.{Content, Named, IsUnnamed}
+use Rattle.dcsctp_tlv.specs.Typed.{item_type, typed_row, typed_level}
 use Rattle.dcsctp_tlv.specs.UnknownParameter as unknown
-use Rattle.dcsctp_tlv.proofs.Accounts.{SameSpace, plain_account}
-use Rattle.dcsctp_tlv.proofs.FormatLaws.{TypedLaws}
-use Rattle.dcsctp_tlv.proofs.Forms.{FormsRow, plain_forms}
-use Rattle.dcsctp_tlv.proofs.KindLaws.{KindLaws}
+use Rattle.dcsctp_tlv.proofs.Accounts.{Accounts, plain_account}
+use Rattle.dcsctp_tlv.proofs.Forms.{FormsTrees}
+use Rattle.dcsctp_tlv.proofs.KindChecks.{table_finds, finds_tested, all_single}
+use Rattle.dcsctp_tlv.proofs.KindLaws.{of_map_ok}
+use Rattle.dcsctp_tlv.proofs.Laws.{Lawful, plain_lawful}
+use Rattle.dcsctp_tlv.proofs.Lenient.{Loosens}
+use Rattle.dcsctp_tlv.proofs.Owed.{AllOwed, AllFound, AreAtFixed, Sound, all_lawful, all_at_front, all_sound}
 use Rattle.dcsctp_tlv.proofs.ParameterKinds.{type_back, unknown_keeps, unknown_forms}
-use Rattle.dcsctp_tlv.proofs.Places.{IsPlain, is_plain}
+use Rattle.dcsctp_tlv.proofs.Places.{AtFront}
 use Rattle.dcsctp_tlv.proofs.ReadsBack.{zeroed-solid}
-use Rattle.dcsctp_tlv.proofs.Tables.{of_others}
-use Rattle.dcsctp_tlv.proofs.Unpadded.{Unpadded, plain_unpadded, ok_unpadded}
+use Rattle.dcsctp_tlv.proofs.Tables.{of_table, of_others}
+use Rattle.dcsctp_tlv.proofs.Unpadded.{ok_unpadded, list_unpadded}
 
--- a value that is kept is written in the same space
-abbrev pub Accounted : {T : Type 0} → (T → Tlv) → (List ℕ → Type 0) → Row T → Type 0
-Accounted tlv IsKept row = (value : List ℕ) (t : _) → IsKept value → row.means value t
-    → SameSpace (size_of (tlv t)) (4 + length value)
+-- What is shown of a level's kinds and of its trees; `tree` is that of a type that isn't named.
+pub record TypedFacts {T : Type 0} (kinds : List Kind) (trees : TreesOf kinds T) (of : T → Entry T)
+    (tree : unknown.Tree → T) (Keeps : Content → List ℕ → Type 0)
+    (IsKept : ℕ → List ℕ → Type 0) : Type 0 where
+  pub owed : AllOwed Keeps kinds
+  pub found : AllFound Keeps IsKept of kinds trees
+  pub fixed : AreAtFixed kinds
+  pub same : (u : unknown.Tree) → (format_of (of (tree u))).tlv ≡ (unknown.format u).tlv
+  pub formed : (u : unknown.Tree) → IsUnnamed (rows lenient 0 kinds trees) u.typ
+      → (format_of (of (tree u))).IsWellFormed
+  pub one : (u : unknown.Tree) → parts_of (of (tree u)) ≡ 1
 
--- each value means one tree or has one fault, which is the item's as a whole, and not of padding;
--- what it means is well-formed
-pub record RowLaws {T : Type 0} (tlv : T → Tlv) (IsFormed : T → Type 0)
-    (IsKept : ℕ → List ℕ → Type 0) (typ : ℕ) (row : Row T) : Type 0 where
-  pub plain : IsPlain row
-  pub forms : FormsRow IsFormed row
-  pub account : Accounted tlv (IsKept typ) row
-  pub unpadded : Unpadded row
-
-abbrev row_by : {X T : Type 0} → (X → T) → (ℕ → ℕ → List ℕ → Result X Fault) → Row T
-row_by tree read = plain (λ value. map_ok tree (read 0 0 value))
-
-module _ {T : Type 0} {tlv : T → Tlv} {IsGood : T → Type 0} {IsKept : ℕ → List ℕ → Type 0} {typ : ℕ}
+module _ {T : Type 0} {kinds : List Kind} {trees : TreesOf kinds T} {of : T → Entry T}
+    {tree : unknown.Tree → T} {Keeps : Content → List ℕ → Type 0} {IsKept : ℕ → List ℕ → Type 0}
+    (facts : TypedFacts kinds trees of tree Keeps IsKept)
   where
-    -- a kind, by its laws and its trees in the table: they are well-formed as its own format says,
-    -- and written as it says
-    pub kind_if : {X : Type 0} {IsKeptValue : List ℕ → Type 0} {read : ℕ → ℕ → List ℕ → Result X Fault}
-        {format : X → Format} → KindLaws IsKeptValue read format → (tree : X → T)
-        → ((x : X) → (format x).IsWellFormed → IsGood (tree x))
-        → ((x : X) → tlv (tree x) ≡ (format x).tlv)
-        → ((value : List ℕ) → IsKept typ value → IsKeptValue value)
-        → RowLaws tlv IsGood IsKept typ (row_by tree read)
-    kind_if {X} {IsKeptValue} {read} laws tree formed same kept = record {
-      plain = is_plain _;
-      forms = plain_forms laws tree IsGood 0 0 formed;
-      account = λ value t keeps. plain_account (read 0 0) tree tlv value t
-          (λ x e. ap size_of (same x) ∙ laws.keeps 0 0 value x (kept value keeps) e);
-      unpadded = plain_unpadded tree (read 0 0) (laws.unpadded 0 0);
-    }
+    abbrev table : List (Named T)
+    table = rows lenient 0 kinds trees
 
-    -- one that keeps the size of every value
-    pub kind : {X : Type 0} {read : ℕ → ℕ → List ℕ → Result X Fault} {format : X → Format}
-        → TypedLaws read format → (tree : X → T)
-        → ((x : X) → (format x).IsWellFormed → IsGood (tree x))
-        → ((x : X) → tlv (tree x) ≡ (format x).tlv)
-        → RowLaws tlv IsGood IsKept typ (row_by tree read)
-    kind laws tree formed same = kind_if laws tree formed same (λ value kept. tt)
-
-    -- any value of a type that isn't named
-    pub unknown_row : (tree : unknown.Tree → T)
-        → ((u : unknown.Tree) → tlv (tree u) ≡ (unknown.format u).tlv)
-        → ((value : List ℕ) → IsGood (tree (record { typ = typ; value = value })))
-        → RowLaws tlv IsGood IsKept typ (plain (λ value. map_ok tree (unknown.read typ value)))
+    unknown_sound : (typ : ℕ) → IsUnnamed table typ
+        → Sound IsKept of typ (plain (λ value. map_ok tree (unknown.read typ value)))
     unfolding unknown.read
-    unknown_row tree same formed = record {
-      plain = is_plain _;
-      forms = unknown_forms IsGood typ tree formed;
-      account = λ value t kept. plain_account (unknown.read typ) tree tlv value t
-          (λ u e. ap size_of (same u) ∙ unknown_keeps typ value u e);
+    unknown_sound typ unnamed = record {
+      forms = unknown_forms (λ t. (format_of (of t)).IsWellFormed) typ tree
+          (λ value. facts.formed (record { typ = typ; value = value }) unnamed);
+      account = λ value t kept. plain_account (unknown.read typ) tree (λ t. (format_of (of t)).tlv)
+          value t (λ u e. ap size_of (facts.same u) ∙ unknown_keeps typ value u e);
+      counted = λ value t m.
+          (let u = of_map_ok tree (unknown.read typ value) t m in
+          subst (λ (t : T). 4 * parts_of (of t) ≤ 4 + length value) (sym u.1.1)
+          (rw (facts.one u.0) (omega arith)));
       unpadded = ok_unpadded _;
     }
 
+    sound : (typ : ℕ) → Sound IsKept of typ (typed_row table tree typ)
+    sound typ = of_table (Sound IsKept of) table typ _
+        (all_sound Keeps IsKept of 0 kinds trees facts.owed facts.found) (unknown_sound typ)
+
+    -- each value means one tree or has one fault
+    pub typed_row_lawful : (typ : ℕ) → LawfulRow (typed_row table tree typ)
+    typed_row_lawful typ = of_table (λ n row. LawfulRow row) table typ _
+        (all_lawful T Keeps lenient 0 kinds trees facts.owed) (λ unnamed. plain_lawful _)
+
+    -- its fault is that of the item as a whole
+    pub typed_at_front : (typ : ℕ) → AtFront (typed_row table tree typ)
+    typed_at_front typ = of_table (λ n row. AtFront row) table typ _
+        (all_at_front T lenient 0 kinds trees facts.fixed) (λ unnamed value e f. refl)
+
+    pub typed_lawful : (strict : Bool) → Lawful (typed_level (typed_row table tree) strict)
+    typed_lawful strict first second =
+        typed_row_lawful (from_be_bytes w16 (first ∷ second ∷ []))
+
+    -- a strict reader's items are a lenient one's
+    pub typed_looser : (strict : Bool)
+        → Loosens (typed_level (typed_row table tree) strict)
+        (typed_level (typed_row table tree) lenient)
+    typed_looser strict =
+        record { row = λ first second value t m. m; any = λ size there. refl }
+
+    -- what is read is well-formed
+    pub typed_form : FormsTrees (typed_level (typed_row table tree) lenient)
+        (λ t. (format_of (of t)).IsWellFormed)
+    typed_form = record {
+      formed = λ first second. (sound (from_be_bytes w16 (first ∷ second ∷ []))).forms;
+    }
+
+    -- and written in the same space, where it is kept
+    pub typed_account : Accounts (typed_level (typed_row table tree) lenient)
+        (λ t. (format_of (of t)).tlv) (λ i. IsKept (item_type i) i.value)
+    typed_account =
+        record { sized = λ i t kept. (sound (item_type i)).account i.value t kept }
+
+    -- no fault of a lenient reader is that of padding
+    pub typed_unpadded : IgnoresPadding (typed_level (typed_row table tree) lenient)
+    typed_unpadded =
+        list_unpadded (typed_level (typed_row table tree) lenient) (λ _ _. refl)
+        (λ first second. (sound (from_be_bytes w16 (first ∷ second ∷ []))).unpadded)
+
+    -- a check of the value that says what its kind does says what the table does
+    pub typed_tested : (typ : ℕ) (value : List ℕ) (r : Result (Unit {0}) ChunkParseError)
+        → ChecksKind kinds 0 typ value r
+        → Answers checking (λ (u : Unit {0}). u) (RowTested (typed_row table tree typ) value) r
+    unfolding unknown.read
+    typed_tested typ value r p = finds_tested (typed_row table tree typ) value r
+        (table_finds (λ t. 1) kinds trees lenient 0 typ
+        (plain (λ v. map_ok tree (unknown.read typ v))) value r facts.fixed
+        (all_single T kinds trees) (_, refl, refl) p)
+
+-- ---- a type that isn't named
+
 -- it is written as it was, and its two bytes are read as its type again
 abbrev MeansUnknown : {T : Type 0} → List (Named T) → (unknown.Tree → T) → unknown.Tree → ℕ → Type 0
-MeansUnknown table tree u typ = (row_of table typ (plain (λ value. map_ok tree
-    (unknown.read typ value)))).means (zeroed (solid u.value)) (tree u)
+MeansUnknown table tree u typ =
+    (typed_row table tree typ).means (zeroed (solid u.value)) (tree u)
 
 pub unknown_means : {T : Type 0} (table : List (Named T)) (tree : unknown.Tree → T)
     (u : unknown.Tree) → IsUnnamed table u.typ

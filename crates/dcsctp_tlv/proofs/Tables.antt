@@ -1,8 +1,8 @@
 -- What holds of each row of a table holds of the row that a type has.
-use Rattle.std.proofs.Common.{ℕ, ◌≢◌, List, [], ◌∷◌, sym, subst}
+use Rattle.std.proofs.Common.{ℕ, List, [], ◌∷◌, sym, subst}
 use Rattle.std.specs.Prelude.{◌==◌}
 use Rattle.std.proofs.lemmas.Bool.{eqb-true, eqb-false, ne_eqb}
-use Rattle.dcsctp_tlv.specs.Level.{Row, HasMeaning}
+use Rattle.dcsctp_tlv.specs.Level.{Row}
 use Rattle.dcsctp_tlv.specs.Table.{Named, row_of, IsUnnamed}
 use Rattle.dcsctp_tlv.proofs.Forms.{picked}
 
@@ -10,14 +10,6 @@ use Rattle.dcsctp_tlv.proofs.Forms.{picked}
 abbrev pub EachNamed : {T : Type 0} → (ℕ → Row T → Type 0) → List (Named T) → Type 0
 EachNamed Holds [] = Unit {0}
 EachNamed Holds (kind ∷ kinds) = Holds kind.typ kind.row × EachNamed Holds kinds
-
--- a type that is none of these has a row under which any value means something
-abbrev pub IsNoneOf : List ℕ → ℕ → Type 0
-IsNoneOf [] n = Unit {0}
-IsNoneOf (x ∷ xs) n = (n ≢ x) × IsNoneOf xs n
-
-abbrev pub MeansAny : {T : Type 0} → List ℕ → List ℕ → ℕ → Row T → Type 0
-MeansAny types value typ row = IsNoneOf types typ → HasMeaning row value
 
 pub of_table : {T : Type 0} (Holds : ℕ → Row T → Type 0) (kinds : List (Named T)) (typ : ℕ)
     (others : Row T) → EachNamed Holds kinds → (IsUnnamed kinds typ → Holds typ others)

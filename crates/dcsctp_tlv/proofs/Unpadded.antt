@@ -1,5 +1,5 @@
 -- No fault is that of padding, where the rule accepts all padding and no row has such a fault.
-use Rattle.std.proofs.Common.{◌≡◌, ℕ, Bool, true, false, cond, List, sym, subst, ◌∙◌, inl, inr, Result, Ok, Err}
+use Rattle.std.proofs.Common.{◌≡◌, ℕ, Bool, true, false, cond, List, sym, ◌∙◌, inl, inr, Result, Ok, Err}
 use Rattle.dcsctp_tlv.specs.Fault.{Fault, Length, Padding, Value}
 use Rattle.dcsctp_tlv.specs.Level.{Row, Level, plain, map_ok, listed, BeginsWithFault, no_frame, value, padding}
 use Rattle.dcsctp_tlv.specs.Decided.{IgnoresPadding}
@@ -37,11 +37,6 @@ mapped f (Ok x) h = tt
 mapped f (Err Length) h = tt
 mapped f (Err Padding) h = absurd h
 mapped f (Err Value) h = tt
-
-pub plain_unpadded : {A T : Type 0} (tree : A → T) (read : List ℕ → Result A Fault)
-    → ((v : List ℕ) → NotPadding (read v)) → Unpadded (plain (λ v. map_ok tree (read v)))
-plain_unpadded {A} {T} tree read each v e = let P : Result T Fault → Type 0 =
-    NotPadding in subst P e (mapped tree (read v) (each v))
 
 -- any value has a meaning
 pub ok_unpadded : {T : Type 0} (tree : List ℕ → T) → Unpadded (plain (λ v. Ok (tree v)))

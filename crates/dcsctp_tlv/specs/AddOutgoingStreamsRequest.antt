@@ -1,6 +1,6 @@
 -- Add Outgoing Streams Request (RFC 6525 section 4.5): type 17.
 use Rattle.std.specs.Prelude.{ℕ, List, codes}
-use Rattle.dcsctp_tlv.specs.Kind.{Format}
+use Rattle.dcsctp_tlv.specs.Kind.{Format, Kind, plain_kind, Fixed}
 use Rattle.dcsctp_tlv.specs.AddStreamsRequest as request
 use Rattle.dcsctp_tlv.specs.declared.parameter.add_outgoing_streams_request_parameter.AddOutgoingStreamsRequestParameter.{AddOutgoingStreamsRequestParameter}
 
@@ -13,3 +13,6 @@ format = request.format 17 name
 
 abbrev pub view : AddOutgoingStreamsRequestParameter → request.Tree
 view p = record { request = p.request_seq_nbr; new_streams = p.nbr_new_streams }
+
+abbrev pub kind : Kind
+kind = plain_kind 17 Fixed (λ flags. request.read) format

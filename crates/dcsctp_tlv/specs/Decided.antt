@@ -24,6 +24,15 @@ pub record IsRowDecided {T : Type 0} (row : Row T) : Type 0 where
   pub either : (value : List ℕ) → AreBytes value
       → ((t : T) × row.means value t) ⊎ ((e : Fault) × row.faults value e)
 
+-- the same, as it is shown of a row: the place by the fault itself
+pub record LawfulRow {T : Type 0} (row : Row T) : Type 0 where
+  pub one : (v : List ℕ) (s t : T) → row.means v s → row.means v t → s ≡ t
+  pub apart : (v : List ℕ) (t : T) (e : Fault) → AreBytes v → row.means v t → row.faults v e → ⊥
+  pub same : (v : List ℕ) (d e : Fault) → AreBytes v → row.faults v d → row.faults v e → d ≡ e
+  pub place : (v : List ℕ) (d e : Fault) → AreBytes v → (f : row.faults v d) (g : row.faults v e)
+      → row.offset v d f ≡ row.offset v e g
+  pub some : (v : List ℕ) → AreBytes v → ((t : T) × row.means v t) ⊎ ((e : Fault) × row.faults v e)
+
 -- Each list of bytes means one list of trees or has one fault, and so does each value in it: never
 -- two of either, never both, and never neither. The fault lies at one place.
 pub record IsDecided {T : Type 0} (level : Level T) : Type 0 where

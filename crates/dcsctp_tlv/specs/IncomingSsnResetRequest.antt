@@ -4,7 +4,7 @@ use Rattle.std.specs.Prelude.{ℕ, ◌+◌, ◌-◌, ◌*◌, ◌/◌, ◌<◌, 
 use Rattle.std.specs.Fmt.{decimal}
 use Rattle.std.specs.List.{AllByRecursion}
 use Rattle.std.specs.Int.{w16, w32}
-use Rattle.dcsctp_tlv.specs.Kind.{Fault, Length, fields, stream_numbers, number16, number32, numbers, Format, sized_tlv, length-words}
+use Rattle.dcsctp_tlv.specs.Kind.{Fault, Length, fields, stream_numbers, number16, number32, numbers, Format, sized_tlv, length-words, Kind, plain_kind, Varied}
 use Rattle.dcsctp_tlv.specs.declared.parameter.incoming_ssn_reset_request_parameter.IncomingSsnResetRequestParameter.{IncomingSsnResetRequestParameter}
 
 pub record Tree : Type 0 where
@@ -42,3 +42,6 @@ format r = record {
 
 abbrev pub view : IncomingSsnResetRequestParameter → Tree
 view p = record { request = p.request_seq_nbr; streams = stream_numbers p.streams.items }
+
+abbrev pub kind : Kind
+kind = plain_kind 14 Varied (λ flags. read) format

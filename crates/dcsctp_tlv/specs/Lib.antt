@@ -26,4 +26,6 @@ pub mod Parameter
 pub mod Fields
 pub mod Format
 pub mod Table
+pub mod Kinds
+pub mod Typed
 pub mod Kind

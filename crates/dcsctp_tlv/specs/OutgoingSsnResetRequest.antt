@@ -5,7 +5,7 @@ use Rattle.std.specs.Prelude.{ℕ, ◌+◌, ◌-◌, ◌*◌, ◌/◌, ◌<◌, 
 use Rattle.std.specs.Fmt.{decimal}
 use Rattle.std.specs.List.{AllByRecursion}
 use Rattle.std.specs.Int.{w16, w32}
-use Rattle.dcsctp_tlv.specs.Kind.{Fault, Length, fields, stream_numbers, number16, number32, numbers, Format, sized_tlv, length-words}
+use Rattle.dcsctp_tlv.specs.Kind.{Fault, Length, fields, stream_numbers, number16, number32, numbers, Format, sized_tlv, length-words, Kind, plain_kind, Varied}
 use Rattle.dcsctp_tlv.specs.declared.parameter.outgoing_ssn_reset_request_parameter.OutgoingSsnResetRequestParameter.{OutgoingSsnResetRequestParameter}
 
 pub record Tree : Type 0 where
@@ -61,3 +61,6 @@ view p = record {
   last_tsn = p.sender_last_assigned_tsn.0;
   streams = stream_numbers p.streams.items;
 }
+
+abbrev pub kind : Kind
+kind = plain_kind 13 Varied (λ flags. read) format

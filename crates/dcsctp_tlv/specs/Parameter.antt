@@ -1,11 +1,12 @@
 -- The table of parameters (RFC 9260 section 3.2.1).
 use Rattle.std.specs.Prelude.{◌≡◌, ℕ, Bool, List, [], ◌∷◌, map, vec_len, vec_capacity}
-use Rattle.std.specs.Int.{w16, from_be_bytes}
-use Rattle.dcsctp_tlv.specs.Frame.{zero_padding}
+use Rattle.dcsctp_tlv.specs.Frame.{lenient}
 use Rattle.dcsctp_tlv.specs.Image.{Tlv}
-use Rattle.dcsctp_tlv.specs.Level.{Row, Level, plain, map_ok}
-use Rattle.dcsctp_tlv.specs.Table.{Named, named, row_of, IsUnnamed, Fixed, Varied, is_fixed, types_where, IsOneOf}
+use Rattle.dcsctp_tlv.specs.Level.{Row, Level}
+use Rattle.dcsctp_tlv.specs.Table.{Named, IsUnnamed, is_fixed, types_where, IsOneOf, ◌&◌}
 use Rattle.dcsctp_tlv.specs.Format.{Format}
+use Rattle.dcsctp_tlv.specs.Kinds.{Kind, TreesOf, rows, Entry, Of, Unnamed, format_of, kept_of}
+use Rattle.dcsctp_tlv.specs.Typed.{typed_row, typed_level}
 use Rattle.dcsctp_tlv.specs as kind
 use Rattle.dcsctp_tlv.specs.UnknownParameter as unknown
 use Rattle.dcsctp_tlv.specs.declared.parameter.Parameter.{Parameter}
@@ -26,50 +27,65 @@ pub data ParameterTree : Type 0 where
   ForwardTsnSupported : ParameterTree
   Unknown : unknown.Tree → ParameterTree
 
--- the types that are named, what the values of each hold, and how one is read
+-- the kinds that are named, by type; and their trees as trees of a parameter, in the same order
+abbrev pub kinds : List Kind
+kinds =
+    kind.HeartbeatInfo.kind ∷
+    kind.StateCookie.kind ∷
+    kind.OutgoingSsnResetRequest.kind ∷
+    kind.IncomingSsnResetRequest.kind ∷
+    kind.SsnTsnResetRequest.kind ∷
+    kind.ReconfigurationResponse.kind ∷
+    kind.AddOutgoingStreamsRequest.kind ∷
+    kind.AddIncomingStreamsRequest.kind ∷
+    kind.ZeroChecksumAcceptable.kind ∷
+    kind.SupportedExtensions.kind ∷
+    kind.ForwardTsnSupported.kind ∷ []
+
+abbrev pub trees : TreesOf kinds ParameterTree
+trees =
+    HeartbeatInfo & StateCookie & OutgoingSsnResetRequest & IncomingSsnResetRequest
+    & SsnTsnResetRequest & ReconfigurationResponse & AddOutgoingStreamsRequest
+    & AddIncomingStreamsRequest & ZeroChecksumAcceptable & SupportedExtensions
+    & (λ _. ForwardTsnSupported) & tt
+
 abbrev pub table : List (Named ParameterTree)
-table =
-    named 1 Varied HeartbeatInfo kind.HeartbeatInfo.read ∷
-    named 7 Varied StateCookie kind.StateCookie.read ∷
-    named 13 Varied OutgoingSsnResetRequest kind.OutgoingSsnResetRequest.read ∷
-    named 14 Varied IncomingSsnResetRequest kind.IncomingSsnResetRequest.read ∷
-    named 15 Fixed SsnTsnResetRequest kind.SsnTsnResetRequest.read ∷
-    named 16 Fixed ReconfigurationResponse kind.ReconfigurationResponse.read ∷
-    named 17 Fixed AddOutgoingStreamsRequest kind.AddStreamsRequest.read ∷
-    named 18 Fixed AddIncomingStreamsRequest kind.AddStreamsRequest.read ∷
-    named 0x8001 Fixed ZeroChecksumAcceptable kind.ZeroChecksumAcceptable.read ∷
-    named 0x8008 Varied SupportedExtensions kind.SupportedExtensions.read ∷
-    named 0xC000 Fixed (λ _. ForwardTsnSupported) kind.ForwardTsnSupported.read ∷ []
+table = rows lenient 0 kinds trees
 
 -- what the value of a type means, and its faults
 abbrev pub row : ℕ → Row ParameterTree
-row typ = row_of table typ (plain (λ value. map_ok Unknown (unknown.read typ value)))
+row = typed_row table Unknown
 
 -- lists of parameters, for a strict reader or a lenient one
 abbrev pub parameters : Bool → Level ParameterTree
-parameters strict = record {
-  row = λ first second. row (from_be_bytes w16 (first ∷ second ∷ []));
-  padding = zero_padding strict;
-}
+parameters = typed_level row
 
 -- what such a value means holds nothing on the heap
 abbrev pub TakesNoMemory : ℕ → Type 0
 TakesNoMemory typ = IsOneOf (types_where is_fixed table) typ
 
+-- the kind of a parameter, and its tree there; an Unknown one has a type that isn't named
+abbrev pub entry : ParameterTree → Entry ParameterTree
+entry (HeartbeatInfo info) = Of kind.HeartbeatInfo.kind HeartbeatInfo info
+entry (StateCookie cookie) = Of kind.StateCookie.kind StateCookie cookie
+entry (OutgoingSsnResetRequest r) = Of kind.OutgoingSsnResetRequest.kind OutgoingSsnResetRequest r
+entry (IncomingSsnResetRequest r) = Of kind.IncomingSsnResetRequest.kind IncomingSsnResetRequest r
+entry (SsnTsnResetRequest request) = Of kind.SsnTsnResetRequest.kind SsnTsnResetRequest request
+entry (ReconfigurationResponse r) = Of kind.ReconfigurationResponse.kind ReconfigurationResponse r
+entry (AddOutgoingStreamsRequest r) =
+    Of kind.AddOutgoingStreamsRequest.kind AddOutgoingStreamsRequest r
+entry (AddIncomingStreamsRequest r) =
+    Of kind.AddIncomingStreamsRequest.kind AddIncomingStreamsRequest r
+entry (ZeroChecksumAcceptable method) =
+    Of kind.ZeroChecksumAcceptable.kind ZeroChecksumAcceptable method
+entry (SupportedExtensions types) = Of kind.SupportedExtensions.kind SupportedExtensions types
+entry ForwardTsnSupported = Of kind.ForwardTsnSupported.kind (λ _. ForwardTsnSupported) tt
+entry (Unknown u) =
+    Unnamed (record (unknown.format u) { IsWellFormed = IsUnnamed table u.typ })
+
 -- what is said of a parameter
 abbrev pub format : ParameterTree → Format
-format (HeartbeatInfo info) = kind.HeartbeatInfo.format info
-format (StateCookie cookie) = kind.StateCookie.format cookie
-format (OutgoingSsnResetRequest r) = kind.OutgoingSsnResetRequest.format r
-format (IncomingSsnResetRequest r) = kind.IncomingSsnResetRequest.format r
-format (SsnTsnResetRequest request) = kind.SsnTsnResetRequest.format request
-format (ReconfigurationResponse r) = kind.ReconfigurationResponse.format r
-format (AddOutgoingStreamsRequest r) = kind.AddOutgoingStreamsRequest.format r
-format (AddIncomingStreamsRequest r) = kind.AddIncomingStreamsRequest.format r
-format (ZeroChecksumAcceptable method) = kind.ZeroChecksumAcceptable.format method
-format (SupportedExtensions types) = kind.SupportedExtensions.format types
-format ForwardTsnSupported = kind.ForwardTsnSupported.format tt
-format (Unknown u) = record (unknown.format u) { IsWellFormed = IsUnnamed table u.typ }
+format t = format_of (entry t)
 
 abbrev pub tlv : ParameterTree → Tlv
 tlv t = (format t).tlv
@@ -84,20 +100,9 @@ IsWellFormed t = (format t).IsWellFormed
 abbrev pub text : ParameterTree → List ℕ
 text t = (format t).text
 
--- the parameter that is written for a parameter
+-- What a parameter that is written reads back as: a response with fewer than two next TSNs has none.
 abbrev pub kept : ParameterTree → ParameterTree
-kept (HeartbeatInfo info) = HeartbeatInfo info
-kept (StateCookie cookie) = StateCookie cookie
-kept (OutgoingSsnResetRequest r) = OutgoingSsnResetRequest r
-kept (IncomingSsnResetRequest r) = IncomingSsnResetRequest r
-kept (SsnTsnResetRequest request) = SsnTsnResetRequest request
-kept (ReconfigurationResponse r) = ReconfigurationResponse (kind.ReconfigurationResponse.kept r)
-kept (AddOutgoingStreamsRequest r) = AddOutgoingStreamsRequest r
-kept (AddIncomingStreamsRequest r) = AddIncomingStreamsRequest r
-kept (ZeroChecksumAcceptable method) = ZeroChecksumAcceptable method
-kept (SupportedExtensions types) = SupportedExtensions types
-kept ForwardTsnSupported = ForwardTsnSupported
-kept (Unknown u) = Unknown u
+kept t = kept_of t (entry t)
 
 abbrev pub all_kept : List ParameterTree → List ParameterTree
 all_kept ts = map kept ts

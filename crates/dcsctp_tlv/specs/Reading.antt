@@ -6,6 +6,7 @@
 use Rattle.std.specs.Prelude.{◌≡◌, ◌↔◌, ◌⊎◌, ℕ, List, Result, Ok, Err, IsOk, IsErrOf, MatchResult, ◌+◌, drop}
 use Rattle.dcsctp_tlv.specs.declared.error.ChunkParseError.{ChunkParseError}
 use Rattle.dcsctp_tlv.specs.declared.error.LocatedFault.{LocatedFault}
+use Rattle.dcsctp_tlv.specs.declared.reader.Counts.{Counts}
 use Rattle.dcsctp_tlv.specs.declared.error.ChunkParseError.TheVariants.{InvalidLength, InvalidPadding, InvalidValue, OutOfMemory}
 use Rattle.dcsctp_tlv.specs.Level.{Row, Level, HasMeaning, FaultsAt, MeansParts, MeansTrees, MeansMany, MeansCounted, HasFault, HasFaultAt}
 use Rattle.dcsctp_tlv.specs.Fault.{Fault, Length, Padding, Value}
@@ -89,8 +90,8 @@ RowLocated parts row value (Err f) = FaultsAt row value f.0 f.1
 
 -- to a list: the numbers of trees and of their parts; or its fault, and where it lies
 abbrev pub ListLocated : {T : Type 0} → Level T → (T → ℕ) → List ℕ
-    → Result (ℕ × ℕ) (Fault × ℕ) → Type 0
-ListLocated level parts bytes (Ok n) = MeansCounted level parts bytes n.0 n.1
+    → Result Counts (Fault × ℕ) → Type 0
+ListLocated level parts bytes (Ok n) = MeansCounted level parts bytes n.items n.parts
 ListLocated level parts bytes (Err f) = HasFaultAt level bytes f.0 f.1
 
 -- to a list in a value, from a place on: the number of the item and of the list's items; or the

@@ -5,7 +5,7 @@ use Rattle.std.specs.Fmt.{decimal}
 use Rattle.std.specs.Int.{w32}
 use Rattle.dcsctp_types.specs.declared.types.tsn.Tsn.{Tsn}
 use Rattle.dcsctp_tlv.specs.Level.{map_ok}
-use Rattle.dcsctp_tlv.specs.Kind.{Fault, Length, Value, number32, numbers, Format, sized_tlv, length-words}
+use Rattle.dcsctp_tlv.specs.Kind.{Fault, Length, Value, number32, numbers, Format, sized_tlv, length-words, Kind, kept_kind, Fixed}
 use Rattle.dcsctp_tlv.specs.declared.parameter.reconfiguration_response_parameter.ReconfigurationResponseResult.{ReconfigurationResponseResult}
 use Rattle.dcsctp_tlv.specs.declared.parameter.reconfiguration_response_parameter.ReconfigurationResponseResult.TheVariants.{SuccessNothingToDo, SuccessPerformed, Denied, ErrorWrongSSN, ErrorRequestAlreadyInProgress, ErrorBadSequenceNumber, InProgress}
 use Rattle.dcsctp_tlv.specs.declared.parameter.reconfiguration_response_parameter.ReconfigurationResponseParameter.{ReconfigurationResponseParameter}
@@ -105,3 +105,6 @@ view p = record {
   sender_next_tsn = tsn_number p.sender_next_tsn;
   receiver_next_tsn = tsn_number p.receiver_next_tsn;
 }
+
+abbrev pub kind : Kind
+kind = kept_kind 16 Fixed (λ flags. read) format kept

@@ -1,7 +1,7 @@
 -- State Cookie (RFC 9260 section 3.3.3.1.1): type 7; the value is the cookie, any bytes.
 use Rattle.std.specs.Prelude.{ℕ, List, ◌++◌, Result, Ok, length, codes}
 use Rattle.std.specs.Fmt.{decimal}
-use Rattle.dcsctp_tlv.specs.Kind.{Fault, AreBytes, Format, sized_tlv, length-solid}
+use Rattle.dcsctp_tlv.specs.Kind.{Fault, AreBytes, Format, sized_tlv, length-solid, Kind, plain_kind, Varied}
 use Rattle.dcsctp_tlv.specs.declared.parameter.state_cookie_parameter.StateCookieParameter.{StateCookieParameter}
 
 unfoldable pub read : List ℕ → Result (List ℕ) Fault
@@ -18,3 +18,6 @@ format cookie = record {
 
 abbrev pub view : StateCookieParameter → List ℕ
 view p = p.cookie.items
+
+abbrev pub kind : Kind
+kind = plain_kind 7 Varied (λ flags. read) format

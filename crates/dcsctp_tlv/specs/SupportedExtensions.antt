@@ -2,7 +2,7 @@
 -- one byte each.
 use Rattle.std.specs.Prelude.{ℕ, List, ◌++◌, Result, Ok, length, map, codes}
 use Rattle.std.specs.Fmt.{decimal}
-use Rattle.dcsctp_tlv.specs.Kind.{Fault, AreBytes, joined, Format, sized_tlv, length-solid}
+use Rattle.dcsctp_tlv.specs.Kind.{Fault, AreBytes, joined, Format, sized_tlv, length-solid, Kind, plain_kind, Varied}
 use Rattle.dcsctp_tlv.specs.declared.parameter.supported_extensions_parameter.SupportedExtensionsParameter.{SupportedExtensionsParameter}
 
 unfoldable pub read : List ℕ → Result (List ℕ) Fault
@@ -19,3 +19,6 @@ format types = record {
 
 abbrev pub view : SupportedExtensionsParameter → List ℕ
 view p = p.chunk_types.items
+
+abbrev pub kind : Kind
+kind = plain_kind 0x8008 Varied (λ flags. read) format

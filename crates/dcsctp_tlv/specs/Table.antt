@@ -1,8 +1,7 @@
 -- Tables of types, as RFC 9260 sections 3.2, 3.2.1 and 3.3.10 list them: a row for each type that
 -- is named, and one for all others.
-use Rattle.std.specs.Prelude.{◌≡◌, ◌≢◌, ◌⊎◌, if◌then◌else◌, ℕ, Bool, true, false, List, [], ◌∷◌, Result, ◌==◌, drop}
-use Rattle.dcsctp_tlv.specs.Fault.{Fault}
-use Rattle.dcsctp_tlv.specs.Level.{Row, plain, pick, map_ok}
+use Rattle.std.specs.Prelude.{◌≡◌, ◌≢◌, ◌⊎◌, if◌then◌else◌, ℕ, Bool, true, false, List, [], ◌∷◌, ◌==◌, drop}
+use Rattle.dcsctp_tlv.specs.Level.{Row, pick}
 
 infixr 20 ◌&◌
 -- What the values of a kind hold: numbers at fixed places alone; as many bytes or numbers as there
@@ -19,12 +18,6 @@ pub record Named (T : Type 0) : Type 1 where
   pub typ : ℕ
   pub content : Content
   pub row : Row T
-
--- a kind whose value is read at fixed places: its type, what it holds, its trees in the level, and
--- how it is read
-abbrev pub named : {X T : Type 0} → ℕ → Content → (X → T) → (List ℕ → Result X Fault) → Named T
-named typ content tree read =
-    record { typ = typ; content = content; row = plain (λ value. map_ok tree (read value)) }
 
 -- one thing for each kind, one after the other, with `tt` at the end
 abbrev pub ◌&◌ : {A B : Type 0} → A → B → A × B

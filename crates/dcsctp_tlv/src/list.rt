@@ -1,6 +1,5 @@
 //! Lists of what can be written: one item after the other, each but the last padded to a multiple
-//! of 4 bytes. The functions keep the name of their first use, lists of parameters, and serve
-//! lists of error causes and of chunks too.
+//! of 4 bytes. For parameters, error causes and chunks.
 
 ghost use Rattle.std.specs.Prelude.{◌≡◌, ◌≤◌, ◌<◌, ◌+◌, ◌^◌, ◌↔◌, length, map, IsTrue};
 ghost use Rattle.dcsctp_tlv.specs.Format.{tlv_by};

@@ -27,11 +27,11 @@ pub mod zero_checksum_acceptable_parameter;
 
 ghost use Rattle.std.specs.Prelude.{◌≡◌, ◌≢◌, ◌≤◌, ◌*◌, [], length, vec_len, vec_capacity, Some, IsOk, IfOk, IsErrOf, refl, All};
 ghost use Rattle.dcsctp_tlv.specs.Frame.{lenient};
+ghost use Rattle.dcsctp_tlv.specs.Kinds.{ChecksKind};
 ghost use Rattle.dcsctp_tlv.specs.Level.{HasMeaning, MeansTrees, MeansSome};
 ghost use Rattle.dcsctp_tlv.specs.Reading.{Answers, Exactly, reading, checking, RowTested, RowAnswer, ListAnswer, Counted};
 ghost use Rattle.dcsctp_tlv.specs.Parameter as parameter;
 ghost use Rattle.dcsctp_tlv.specs.Parameter.{ParameterTree, parameters, TakesNoMemory, IsTight, view, views};
-ghost use Rattle.dcsctp_tlv.specs.declared.parameter.Parameter.TheVariants as variant;
 
 use crate::copy::copied;
 use crate::error::{ChunkParseError, LocatedFault};
@@ -42,7 +42,6 @@ pub use crate::list::{
 };
 use crate::parameter::add_incoming_streams_request_parameter::AddIncomingStreamsRequestParameter;
 use crate::parameter::add_outgoing_streams_request_parameter::AddOutgoingStreamsRequestParameter;
-use crate::parameter::add_streams_request::add_streams_check;
 use crate::parameter::forward_tsn_supported_parameter::ForwardTsnSupportedParameter;
 use crate::parameter::heartbeat_info_parameter::HeartbeatInfoParameter;
 use crate::parameter::incoming_ssn_reset_request_parameter::IncomingSsnResetRequestParameter;
@@ -56,8 +55,10 @@ use crate::parameter::state_cookie_parameter::StateCookieParameter;
 use crate::parameter::supported_extensions_parameter::SupportedExtensionsParameter;
 use crate::parameter::unknown_parameter::UnknownParameter;
 use crate::parameter::zero_checksum_acceptable_parameter::ZeroChecksumAcceptableParameter;
+use crate::{build_arms, check_arms, each_arms};
 use crate::reader::{ReadableTlv, list_check, list_fill_counted, list_from_bytes};
 use crate::tlv::{ListedTlv, SerializableTlv};
+use crate::widths::Widths;
 use std::alloc::{AllocError, Global};
 use std::fmt;
 
@@ -102,93 +103,30 @@ pub enum Parameter {
     Unknown(UnknownParameter),
 }
 
-/// The same of every kind.
-macro_rules! each_kind {
-    ($parameter:expr, $kind:ident => $does:expr) => {
-        match $parameter {
-            Parameter::HeartbeatInfo($kind) => $does,
-            Parameter::StateCookie($kind) => $does,
-            Parameter::OutgoingSsnResetRequest($kind) => $does,
-            Parameter::IncomingSsnResetRequest($kind) => $does,
-            Parameter::SsnTsnResetRequest($kind) => $does,
-            Parameter::ReconfigurationResponse($kind) => $does,
-            Parameter::AddOutgoingStreamsRequest($kind) => $does,
-            Parameter::AddIncomingStreamsRequest($kind) => $does,
-            Parameter::ZeroChecksumAcceptable($kind) => $does,
-            Parameter::SupportedExtensions($kind) => $does,
-            Parameter::ForwardTsnSupported($kind) => $does,
-            Parameter::Unknown($kind) => $does,
-        }
-    };
-}
-
-/// For each type that is named, an arm that builds a parameter and does something with it; the other
-/// types have the arms that follow.
-macro_rules! arms {
-    (
-        $typ:expr, $parameter:ident => $does:expr,
-        { $($kind:ident => $built:expr,)* }, { $($other:tt)* }
-    ) => {
-        match $typ {
-            $($kind::PARAMETER_TYPE => {
-                let $parameter = $built;
-                $does
-            })*
-            $($other)*
-        }
-    };
-}
-
-/// These arms for every type, with what the value means.
-macro_rules! built {
-    ($typ:expr, $alloc:expr, $value:expr, $parameter:ident => $does:expr) => {
-        arms!($typ, $parameter => $does, {
-            outgoing_ssn_reset_request_parameter => Parameter::OutgoingSsnResetRequest(
-                OutgoingSsnResetRequestParameter::build($alloc, $value)?,
-            ),
-            incoming_ssn_reset_request_parameter => Parameter::IncomingSsnResetRequest(
-                IncomingSsnResetRequestParameter::build($alloc, $value)?,
-            ),
-            ssn_tsn_reset_request_parameter => Parameter::SsnTsnResetRequest(
-                SsnTsnResetRequestParameter::build($value),
-            ),
-            reconfiguration_response_parameter => Parameter::ReconfigurationResponse(
-                ReconfigurationResponseParameter::build($value),
-            ),
-            add_outgoing_streams_request_parameter => Parameter::AddOutgoingStreamsRequest(
-                AddOutgoingStreamsRequestParameter::build($value),
-            ),
-            add_incoming_streams_request_parameter => Parameter::AddIncomingStreamsRequest(
-                AddIncomingStreamsRequestParameter::build($value),
-            ),
-            zero_checksum_acceptable_parameter => Parameter::ZeroChecksumAcceptable(
-                ZeroChecksumAcceptableParameter::build($value),
-            ),
-            forward_tsn_supported_parameter => Parameter::ForwardTsnSupported(
-                ForwardTsnSupportedParameter,
-            ),
-        }, {
-            typ => {
-                // one copy for all kinds that keep their value, so that each item costs one result
-                let bytes = copied($alloc, $value)?;
-                arms!(typ, $parameter => $does, {
-                    heartbeat_info_parameter => Parameter::HeartbeatInfo(
-                        HeartbeatInfoParameter { info: bytes },
-                    ),
-                    state_cookie_parameter => Parameter::StateCookie(
-                        StateCookieParameter { cookie: bytes },
-                    ),
-                    supported_extensions_parameter => Parameter::SupportedExtensions(
-                        SupportedExtensionsParameter { chunk_types: bytes },
-                    ),
-                }, {
-                    _ => {
-                        let $parameter = Parameter::Unknown(UnknownParameter { typ, value: bytes });
-                        $does
-                    }
-                })
+/// The kinds, for a macro that has an arm for each: those that take no memory, those with a list of
+/// numbers, and those that keep their value in a field.
+macro_rules! kinds {
+    ($arms:ident, $($args:tt)*) => {
+        $arms! {
+            [$($args)*]
+            {
+                ssn_tsn_reset_request_parameter::PARAMETER_TYPE, SsnTsnResetRequest, SsnTsnResetRequestParameter;
+                reconfiguration_response_parameter::PARAMETER_TYPE, ReconfigurationResponse, ReconfigurationResponseParameter;
+                add_outgoing_streams_request_parameter::PARAMETER_TYPE, AddOutgoingStreamsRequest, AddOutgoingStreamsRequestParameter;
+                add_incoming_streams_request_parameter::PARAMETER_TYPE, AddIncomingStreamsRequest, AddIncomingStreamsRequestParameter;
+                zero_checksum_acceptable_parameter::PARAMETER_TYPE, ZeroChecksumAcceptable, ZeroChecksumAcceptableParameter;
+                forward_tsn_supported_parameter::PARAMETER_TYPE, ForwardTsnSupported, ForwardTsnSupportedParameter;
             }
-        })
+            {
+                outgoing_ssn_reset_request_parameter::PARAMETER_TYPE, OutgoingSsnResetRequest, OutgoingSsnResetRequestParameter;
+                incoming_ssn_reset_request_parameter::PARAMETER_TYPE, IncomingSsnResetRequest, IncomingSsnResetRequestParameter;
+            }
+            {
+                heartbeat_info_parameter::PARAMETER_TYPE, HeartbeatInfo, HeartbeatInfoParameter, info;
+                state_cookie_parameter::PARAMETER_TYPE, StateCookie, StateCookieParameter, cookie;
+                supported_extensions_parameter::PARAMETER_TYPE, SupportedExtensions, SupportedExtensionsParameter, chunk_types;
+            }
+        }
     };
 }
 
@@ -224,25 +162,15 @@ impl Parameter {
     fn check_value(typ: u16, value: &[u8]) -> Result<(), ChunkParseError>
         ensures { Answers checking (λ u. u) (RowTested (parameter.row typ) value.now) result }
     {
-        match typ {
-            outgoing_ssn_reset_request_parameter::PARAMETER_TYPE =>
-                OutgoingSsnResetRequestParameter::check(value),
-            incoming_ssn_reset_request_parameter::PARAMETER_TYPE =>
-                IncomingSsnResetRequestParameter::check(value),
-            ssn_tsn_reset_request_parameter::PARAMETER_TYPE => SsnTsnResetRequestParameter::check(
-                value,
-            ),
-            reconfiguration_response_parameter::PARAMETER_TYPE =>
-                ReconfigurationResponseParameter::check(value),
-            add_outgoing_streams_request_parameter::PARAMETER_TYPE => add_streams_check(value),
-            add_incoming_streams_request_parameter::PARAMETER_TYPE => add_streams_check(value),
-            zero_checksum_acceptable_parameter::PARAMETER_TYPE =>
-                ZeroChecksumAcceptableParameter::check(value),
-            forward_tsn_supported_parameter::PARAMETER_TYPE => ForwardTsnSupportedParameter::check(
-                value,
-            ),
-            _ => Ok(()),
-        }
+        Parameter::check_kind(typ, value)
+    }
+
+    /// The check of the type's kind; any value of another type passes.
+    #[tactic(auto, unfolding(crate::specs::HeartbeatInfo::read, crate::specs::StateCookie::read, crate::specs::SupportedExtensions::read))]
+    fn check_kind(typ: u16, value: &[u8]) -> Result<(), ChunkParseError>
+        ensures { ChecksKind parameter.kinds 0 typ value.now result }
+    {
+        kinds!(check_arms, typ, value)
     }
 
     /// What the value means.
@@ -253,7 +181,7 @@ impl Parameter {
         ensures heap { TakesNoMemory typ → IsOk result }
         ensures tight { IfOk result IsTight }
     {
-        built!(typ, alloc, value, parameter => Ok(parameter))
+        kinds!(build_arms, Parameter, typ, alloc, value, parameter => Ok(parameter))
     }
 }
 
@@ -269,7 +197,7 @@ impl ReadableTlv for Parameter {
 
     ghost parts = { λ t. 1 };
 
-    fn check(_strict: bool, first: u8, second: u8, value: &[u8]) -> Result<usize, LocatedFault> {
+    fn check(first: u8, second: u8, value: &[u8], _strict: bool) -> Result<usize, LocatedFault> {
         match Parameter::check_value(u16::from_be_bytes([first, second]), value) {
             Ok(()) => Ok(1),
             Err(fault) => Err(LocatedFault::at_front(fault)),
@@ -284,13 +212,13 @@ impl ReadableTlv for Parameter {
         value: &[u8],
     ) -> Result<(), AllocError> {
         let typ = u16::from_be_bytes([first, second]);
-        built!(typ, alloc, value, parameter => {
+        kinds!(build_arms, Parameter, typ, alloc, value, parameter => {
             list.push_reserved(parameter);
             Ok(())
         })
     }
 
-    fn accepts_padding(strict: bool, _size: usize, there: &[u8]) -> bool {
+    fn accepts_padding(_size: usize, there: &[u8], strict: bool) -> bool {
         !strict || are_zeros(there)
     }
 }
@@ -299,19 +227,23 @@ impl SerializableTlv for Parameter {
     ghost format = { λ p. parameter.format (view p) };
 
     fn serialize_to(&self, output: &mut [u8]) {
-        each_kind!(self, p => p.serialize_to(output))
+        kinds!(each_arms, Parameter, self, p => p.serialize_to(output))
     }
 
     fn value_size(&self) -> usize {
-        each_kind!(self, p => p.value_size())
+        kinds!(each_arms, Parameter, self, p => p.value_size())
     }
 
     fn encodable(&self) -> bool {
-        each_kind!(self, p => p.encodable())
+        kinds!(each_arms, Parameter, self, p => p.encodable())
     }
 
     fn encoded_size(&self) -> Option<usize> {
-        each_kind!(self, p => p.encoded_size())
+        kinds!(each_arms, Parameter, self, p => p.encoded_size())
+    }
+
+    fn has_widths(&self) {
+        kinds!(each_arms, Parameter, self, p => p.has_widths())
     }
 }
 
@@ -319,7 +251,19 @@ impl fmt::Display for Parameter {
     ghost output = { λ p. Some (parameter.text (view p)) };
 
     fn fmt<W: fmt::Write>(&self, f: &mut fmt::Formatter<W>) -> fmt::Result {
-        each_kind!(self, p => p.fmt(f))
+        kinds!(each_arms, Parameter, self, p => p.fmt(f))
+    }
+}
+
+impl Widths for Parameter {
+    ghost Tree = { ParameterTree };
+
+    ghost view = { view };
+
+    ghost fits = { parameter.IsInWidth };
+
+    fn is_in_width(&self) {
+        self.has_widths();
     }
 }
 
@@ -333,114 +277,6 @@ impl ListedTlv for Parameter {
     ghost same_tlv = { λ p. refl };
 
     ghost all_placed = { λ p. tt };
-}
-
-/// The parameter of this kind, with this value.
-impl From<HeartbeatInfoParameter> for Parameter {
-    ghost from_gives = { λ kind parameter. parameter ≡ variant.HeartbeatInfo kind };
-
-    fn from(kind: HeartbeatInfoParameter) -> Parameter {
-        Parameter::HeartbeatInfo(kind)
-    }
-}
-
-/// The parameter of this kind, with this value.
-impl From<StateCookieParameter> for Parameter {
-    ghost from_gives = { λ kind parameter. parameter ≡ variant.StateCookie kind };
-
-    fn from(kind: StateCookieParameter) -> Parameter {
-        Parameter::StateCookie(kind)
-    }
-}
-
-/// The parameter of this kind, with this value.
-impl From<OutgoingSsnResetRequestParameter> for Parameter {
-    ghost from_gives = { λ kind parameter. parameter ≡ variant.OutgoingSsnResetRequest kind };
-
-    fn from(kind: OutgoingSsnResetRequestParameter) -> Parameter {
-        Parameter::OutgoingSsnResetRequest(kind)
-    }
-}
-
-/// The parameter of this kind, with this value.
-impl From<IncomingSsnResetRequestParameter> for Parameter {
-    ghost from_gives = { λ kind parameter. parameter ≡ variant.IncomingSsnResetRequest kind };
-
-    fn from(kind: IncomingSsnResetRequestParameter) -> Parameter {
-        Parameter::IncomingSsnResetRequest(kind)
-    }
-}
-
-/// The parameter of this kind, with this value.
-impl From<SsnTsnResetRequestParameter> for Parameter {
-    ghost from_gives = { λ kind parameter. parameter ≡ variant.SsnTsnResetRequest kind };
-
-    fn from(kind: SsnTsnResetRequestParameter) -> Parameter {
-        Parameter::SsnTsnResetRequest(kind)
-    }
-}
-
-/// The parameter of this kind, with this value.
-impl From<ReconfigurationResponseParameter> for Parameter {
-    ghost from_gives = { λ kind parameter. parameter ≡ variant.ReconfigurationResponse kind };
-
-    fn from(kind: ReconfigurationResponseParameter) -> Parameter {
-        Parameter::ReconfigurationResponse(kind)
-    }
-}
-
-/// The parameter of this kind, with this value.
-impl From<AddOutgoingStreamsRequestParameter> for Parameter {
-    ghost from_gives = { λ kind parameter. parameter ≡ variant.AddOutgoingStreamsRequest kind };
-
-    fn from(kind: AddOutgoingStreamsRequestParameter) -> Parameter {
-        Parameter::AddOutgoingStreamsRequest(kind)
-    }
-}
-
-/// The parameter of this kind, with this value.
-impl From<AddIncomingStreamsRequestParameter> for Parameter {
-    ghost from_gives = { λ kind parameter. parameter ≡ variant.AddIncomingStreamsRequest kind };
-
-    fn from(kind: AddIncomingStreamsRequestParameter) -> Parameter {
-        Parameter::AddIncomingStreamsRequest(kind)
-    }
-}
-
-/// The parameter of this kind, with this value.
-impl From<ZeroChecksumAcceptableParameter> for Parameter {
-    ghost from_gives = { λ kind parameter. parameter ≡ variant.ZeroChecksumAcceptable kind };
-
-    fn from(kind: ZeroChecksumAcceptableParameter) -> Parameter {
-        Parameter::ZeroChecksumAcceptable(kind)
-    }
-}
-
-/// The parameter of this kind, with this value.
-impl From<SupportedExtensionsParameter> for Parameter {
-    ghost from_gives = { λ kind parameter. parameter ≡ variant.SupportedExtensions kind };
-
-    fn from(kind: SupportedExtensionsParameter) -> Parameter {
-        Parameter::SupportedExtensions(kind)
-    }
-}
-
-/// The parameter of this kind, with this value.
-impl From<ForwardTsnSupportedParameter> for Parameter {
-    ghost from_gives = { λ kind parameter. parameter ≡ variant.ForwardTsnSupported kind };
-
-    fn from(kind: ForwardTsnSupportedParameter) -> Parameter {
-        Parameter::ForwardTsnSupported(kind)
-    }
-}
-
-/// The parameter of this kind, with this value.
-impl From<UnknownParameter> for Parameter {
-    ghost from_gives = { λ kind parameter. parameter ≡ variant.Unknown kind };
-
-    fn from(kind: UnknownParameter) -> Parameter {
-        Parameter::Unknown(kind)
-    }
 }
 
 /// Reads all the bytes as a list of parameters; no bytes are the empty list. Padding is ignored.
@@ -469,8 +305,8 @@ pub fn parameters_check(bytes: &[u8], strict: bool) -> Result<usize, ChunkParseE
     ensures memory { ¬ IsErrOf result ChunkParseError.OutOfMemory }
     ensures few { IfOk result (λ n. 4 * n ≤ length bytes.now) }
 {
-    let (count, _) = list_check::<Parameter>(strict, bytes)?;
-    Ok(count)
+    let counts = list_check::<Parameter>(bytes, strict)?;
+    Ok(counts.items)
 }
 
 /// Builds the parameters that the bytes are known to mean.

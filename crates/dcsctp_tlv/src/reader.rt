@@ -29,7 +29,7 @@ pub trait ReadableTlv: Sized + Drop {
 
     /// Counts the parts of what an item's value means, each of which has four bytes of its own; or
     /// returns its fault, with the offset from the item's first byte. Does not allocate.
-    fn check(strict: bool, first: u8, second: u8, value: &[u8]) -> Result<usize, LocatedFault>
+    fn check(first: u8, second: u8, value: &[u8], strict: bool) -> Result<usize, LocatedFault>
         ensures found { Answers locating (λ n. n)
             (RowLocated parts ((level strict).row first second) value.now) result }
         ensures few { IfOk result (λ n. 4 * n ≤ 4 + length value.now) }
@@ -51,8 +51,17 @@ pub trait ReadableTlv: Sized + Drop {
         ensures capacity { IfOk result (λ _. vec_capacity list.new ≡ vec_capacity list.old) };
 
     /// Returns whether an item that should have `size` bytes of padding may have these.
-    fn accepts_padding(strict: bool, size: usize, there: &[u8]) -> bool
+    fn accepts_padding(size: usize, there: &[u8], strict: bool) -> bool
         ensures { result ≡ (level strict).padding size there.now };
+}
+
+/// How much a list holds.
+#[derive(Clone, Copy)]
+pub struct Counts {
+    /// Its items.
+    pub items: usize,
+    /// Its items, and the items within them.
+    pub parts: usize,
 }
 
 /// Counts the items and all their parts; or returns the first fault from the left, with its offset.
@@ -63,13 +72,10 @@ pub trait ReadableTlv: Sized + Drop {
 /// A fault of a frame or of a value is at the item's first byte: of the innermost item, if that is
 /// in a list in a value. A fault of padding is at the first byte that isn't zero, or else where the
 /// first missing byte would be.
-pub fn list_check<T: ReadableTlv>(
-    strict: bool,
-    bytes: &[u8],
-) -> Result<(usize, usize), LocatedFault>
+pub fn list_check<T: ReadableTlv>(bytes: &[u8], strict: bool) -> Result<Counts, LocatedFault>
     ensures found { Answers locating (λ n. n)
         (ListLocated (T.level strict) T.parts bytes.now) result }
-    ensures few { IfOk result (λ n. (4 * n.0 ≤ length bytes.now) × (4 * n.1 ≤ length bytes.now)) }
+    ensures few { IfOk result (λ n. (4 * n.items ≤ length bytes.now) × (4 * n.parts ≤ length bytes.now)) }
     ensures within { IfErr result (λ found. found.offset ≤ length bytes.now) }
 {
     let mut items: usize = 0;
@@ -83,7 +89,7 @@ pub fn list_check<T: ReadableTlv>(
                 offset: ahead,
             });
         };
-        match T::check(strict, rest[0], rest[1], value) {
+        match T::check(rest[0], rest[1], value, strict) {
             Ok(found) => parts += found,
             Err(found) => {
                 return Err(LocatedFault {
@@ -93,7 +99,7 @@ pub fn list_check<T: ReadableTlv>(
             }
         }
         let (size, there) = padding_parts(rest);
-        if !T::accepts_padding(strict, size, there) {
+        if !T::accepts_padding(size, there, strict) {
             return Err(LocatedFault {
                 fault: ChunkParseError::InvalidPadding,
                 offset: ahead + padding_fault(rest),
@@ -102,7 +108,7 @@ pub fn list_check<T: ReadableTlv>(
         items += 1;
         rest = after;
     }
-    Ok((items, parts))
+    Ok(Counts { items, parts })
 }
 
 // A part of its callers: as a call it would also copy the unused bytes of a fault that isn't there.
@@ -111,9 +117,9 @@ pub fn list_check<T: ReadableTlv>(
 /// not allocate.
 #[inline(always)]
 pub fn listed_check<T: ReadableTlv>(
-    strict: bool,
     value: &[u8],
     place: usize,
+    strict: bool,
 ) -> Result<usize, LocatedFault>
     requires { place ≤ length value.now }
     ensures found { Answers locating (λ n. n)
@@ -121,8 +127,8 @@ pub fn listed_check<T: ReadableTlv>(
     ensures few { IfOk result (λ n. 4 * n ≤ 4 + length value.now) }
     ensures within { IfErr result (λ found. found.offset ≤ 4 + length value.now) }
 {
-    match list_check::<T>(strict, &value[place..]) {
-        Ok((count, _)) => Ok(1 + count),
+    match list_check::<T>(&value[place..], strict) {
+        Ok(count) => Ok(1 + count.items),
         Err(found) => Err(LocatedFault {
             fault: found.fault,
             offset: TLV_HEADER_SIZE + (place + found.offset),
@@ -222,6 +228,6 @@ pub fn list_from_bytes<T: ReadableTlv>(
     ensures reserved { IfOk result (λ list. vec_capacity list ≡ vec_len list) }
     ensures tight { IfOk result (λ list. All T.is_tight list.items) }
 {
-    let (count, _) = list_check::<T>(false, bytes)?;
+    let count = list_check::<T>(bytes, false)?.items;
     Ok(list_build(alloc, bytes, count)?)
 }

@@ -51,6 +51,11 @@ pub trait SerializableTlv {
         }
         Some(self.serialized_size())
     }
+
+    /// A law: every number lies in its field's width, and every text is UTF-8, by their types. It
+    /// does nothing.
+    fn has_widths(&self)
+        ensures { (format self.now).IsInWidth };
 }
 
 /// What a list in a chunk's value holds: parameters or error causes.

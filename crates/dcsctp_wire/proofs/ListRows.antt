@@ -1,28 +1,40 @@
 -- The kinds of chunk with a list. Their rows are `listed`, over parameters or over error causes, so
 -- what each has to satisfy follows from what is known of its items.
-use Rattle.std.proofs.Common.{◌≡◌, ℕ, ◌+◌, ◌*◌, ◌%◌, ◌<◌, ◌≤◌, ◌^◌, Bool, true, List, length, drop, refl, sym, arith}
+use Rattle.std.proofs.Common.{rules, ◌≡◌, ◌≢◌, ℕ, ◌+◌, ◌*◌, ◌%◌, ◌<◌, ◌≤◌, ◌^◌, Bool, true, false, List, [], ◌∷◌, length, drop, refl, sym, subst, arith}
+use Rattle.std.specs.Prelude.{nat_lt, nat_le}
 use Rattle.std.specs.List.{AllByRecursion}
+use Rattle.std.proofs.lemmas.Bool.{leb-true, le-leb, lt-ltb}
+use Rattle.std.proofs.lemmas.Nat.{from_be_bytes-to_be_bytes_2, from_be_bytes-to_be_bytes_4}
 use Rattle.std.proofs.lemmas.List.{length-drop}
 use Rattle.dcsctp_tlv.specs.Decided.{IgnoresPadding}
 use Rattle.dcsctp_tlv.specs.Format.{Format, tlv_by}
 use Rattle.dcsctp_tlv.specs.Frame.{Item, AreItems, lenient, any_padding}
-use Rattle.dcsctp_tlv.specs.Image.{zeroed, list_image, list_size}
-use Rattle.dcsctp_tlv.specs.Level.{as_row, Level, listed, MeansTrees}
+use Rattle.dcsctp_tlv.specs.Image.{Tlv, zeroed, image_of, list_image, list_size, size_of, IsEncodable}
+use Rattle.dcsctp_tlv.specs.Level.{Row, Level, listed, MeansTrees}
+use Rattle.dcsctp_tlv.specs.Table.{Content, Parameters, Causes}
 use Rattle.dcsctp_tlv.specs.Parameter as parameter
+use Rattle.dcsctp_tlv.specs.Parameter.{IsWellFormed as IsParameterWellFormed, all_kept as kept_parameters}
 use Rattle.dcsctp_tlv.proofs.Accounts.{SameSpace, all_account, list_account}
 use Rattle.dcsctp_tlv.proofs.Counts.{one_each, list_count, total-one}
 use Rattle.dcsctp_tlv.proofs.FormatLaws.{good_list}
-use Rattle.dcsctp_tlv.proofs.Forms.{FormsTrees}
+use Rattle.dcsctp_tlv.proofs.Forms.{FormsTrees, list_formed, nil_means}
 use Rattle.dcsctp_tlv.proofs.KindLaws.{IsGood}
-use Rattle.dcsctp_tlv.proofs.Laws.{LawfulRow, Lawful, listed_lawful}
-use Rattle.dcsctp_tlv.proofs.Lenient.{Loosens}
-use Rattle.dcsctp_tlv.proofs.ParameterLaws.{parameters_lawful, parameters_looser, parameters_unpadded, parameters_form, parameters_account, parameters_read_back}
+use Rattle.dcsctp_tlv.proofs.Laws.{Lawful, listed_lawful}
+use Rattle.dcsctp_tlv.proofs.Lenient.{Loosens, listed_looser}
+use Rattle.dcsctp_tlv.proofs.Kept.{listed_tlv-kept}
+use Rattle.dcsctp_tlv.proofs.Unpadded.{listed_unpadded}
+use Rattle.dcsctp_tlv.proofs.ParameterLaws.{kept_parameter_tlv, kept_parameters_width, parameters_lawful, parameters_looser, parameters_unpadded, parameters_form, parameters_account, parameters_read_back}
 use Rattle.dcsctp_tlv.proofs.ReadsBack.{ReadsBack, AcceptsZeros, AcceptsNone, nested_reads_back, zeros_accepted, none_accepted}
 use Rattle.dcsctp_cause.specs.Cause as cause
 use Rattle.dcsctp_cause.proofs.CauseLaws.{causes_lawful, causes_looser, causes_unpadded, causes_form, causes_account, causes_read_back}
-use Rattle.dcsctp_wire.specs.InitFields.{row as init_row}
-use Rattle.dcsctp_wire.specs.ParameterList.{row as parameter_list_row}
+use Rattle.dcsctp_tlv.specs.Kinds.{Kind, Nested}
+use Rattle.dcsctp_chunk.proofs.FlagLaws.{one_again}
+use Rattle.dcsctp_tlv.proofs.Owed.{Owed}
+use Rattle.dcsctp_wire.specs.InitFields.{Tree as InitTree, tree_of as init_of, row as init_row, IsInWidth as IsInitInWidth, format as init_format, leading as init_leading, kind_of as init_kind}
+use Rattle.dcsctp_wire.specs.ParameterList.{format as parameter_list_format, kind_of as parameter_list_kind}
+use Rattle.dcsctp_wire.specs.Abort as abort
 use Rattle.dcsctp_wire.specs.Abort.{row as abort_row}
+use Rattle.dcsctp_wire.specs.Error as error
 use Rattle.dcsctp_wire.specs.Error.{row as error_row}
 
 -- ---- items
@@ -74,20 +86,6 @@ cause_items = record {
   none = none_accepted;
 }
 
--- ---- one answer
-
-pub init_lawful : (strict : Bool) → LawfulRow (init_row strict)
-init_lawful strict = listed_lawful _ 16 _ _ (parameters_lawful strict)
-
-pub parameter_list_lawful : (strict : Bool) → LawfulRow (parameter_list_row strict)
-parameter_list_lawful strict = listed_lawful _ 0 _ _ (parameters_lawful strict)
-
-pub abort_lawful : (strict : Bool) (flags : ℕ) → LawfulRow (abort_row strict flags)
-abort_lawful strict flags = listed_lawful _ 0 _ _ (causes_lawful strict)
-
-pub error_lawful : (strict : Bool) → LawfulRow (error_row strict)
-error_lawful strict = listed_lawful _ 0 _ _ (causes_lawful strict)
-
 -- ---- a list in a value
 
 module _ {U : Type 0} {level : Bool → Level U} {format : U → Format} {AreKept : List ℕ → Type 0}
@@ -114,15 +112,176 @@ module _ {U : Type 0} {level : Bool → Level U} {format : U → Format} {AreKep
         omega (arith, few, total-one us, length-drop place value)
 
     -- a value with the list as it is written means the tree that is made of them
-    pub listed_back : {X T : Type 0} (rule : List ℕ → Bool) (tree_of : List ℕ → List U → X)
-        (tree : X → T) (strict : Bool) (value : List ℕ) (us : List U) (x : X)
+    pub listed_back : {X : Type 0} (rule : List ℕ → Bool) (tree_of : List ℕ → List U → X)
+        (strict : Bool) (value : List ℕ) (us : List U) (x : X)
         → rule value ≡ true → drop place value ≡ zeroed (list_image (tlv_by format) us)
         → tree_of value us ≡ x → AllByRecursion (λ u. (format u).IsInWidth) us
         → AllByRecursion (λ u. (format u).IsWellFormed) us
         → list_size (tlv_by format) us < 2 ^ 16
-        → (as_row tree (listed rule place (level strict) tree_of)).means value (tree x)
-    listed_back rule tree_of tree strict value us x ok there made width formed fits =
+        → (listed rule place (level strict) tree_of).means value x
+    listed_back rule tree_of strict value us x ok there made width formed fits =
         let good = good_list format us width formed fits in
         let back = nested_reads_back (level strict) (tlv_by format) (λ u. IsGood (format u))
         (items.back strict) us good (items.zeros strict) (items.none strict) in
-        (x, (ok, (us, (rw there back), sym made)), refl)
+        (ok, (us, rw there back, sym made))
+
+-- ---- what a kind with a list owes
+
+-- the causes keep their texts, where there are any
+abbrev pub KeepsAt : Content → List ℕ → Type 0
+KeepsAt (Causes place) value = KeepTexts value
+KeepsAt c value = Unit {0}
+
+-- a kind by its rule and where its list begins, and how a tree is made of both
+abbrev pub listed_kind : {U X : Type 0} → ℕ → Content → (List ℕ → Bool) → ℕ → (Bool → Level U)
+    → (ℕ → List ℕ → List U → X) → (X → Format) → (X → X) → (X → ℕ) → Kind
+listed_kind {U} {X} typ content rule place level tree_of format kept parts = record {
+  typ = typ;
+  content = content;
+  Tree = X;
+  reader = Nested (λ strict flags. listed rule place (level strict) (tree_of flags));
+  format = format;
+  kept = kept;
+  parts = parts;
+}
+
+-- What is shown of each: where its list begins; that it is written, well-formed and counted as its
+-- items are.
+pub record ListFacts {U X : Type 0} (content : Content) (rule : List ℕ → Bool) (place : ℕ)
+    (level : Bool → Level U) (item_format : U → Format) (AreKept : List ℕ → Type 0)
+    (tree_of : ℕ → List ℕ → List U → X) (format : X → Format) (count : X → ℕ) : Type 0 where
+  pub words : place % 4 ≡ 0
+  pub long : (value : List ℕ) → rule value ≡ true → place ≤ length value
+  pub keeps : (value : List ℕ) → KeepsAt content value → AreKept (drop place value)
+  pub formed : (flags : ℕ) (value : List ℕ) (us : List U) → rule value ≡ true
+      → MeansTrees (level lenient) (drop place value) us
+      → AllByRecursion (λ u. (item_format u).IsWellFormed) us
+      → (format (tree_of flags value us)).IsWellFormed
+  pub size : (flags : ℕ) (value : List ℕ) (us : List U)
+      → size_of (format (tree_of flags value us)).tlv
+      ≡ 4 + (place + list_size (tlv_by item_format) us)
+  pub parts : (flags : ℕ) (value : List ℕ) (us : List U)
+      → count (tree_of flags value us) ≡ 1 + length us
+
+module _ {U X : Type 0} {level : Bool → Level U} {item_format : U → Format}
+    {AreKept : List ℕ → Type 0} {tree_of : ℕ → List ℕ → List U → X} {format : X → Format}
+    {parts : X → ℕ} {rule : List ℕ → Bool} (typ : ℕ) (content : Content) (place : ℕ)
+    (items : ItemLaws level item_format AreKept)
+    (shown : ListFacts content rule place level item_format AreKept tree_of format parts)
+  where
+    abbrev row : Bool → ℕ → Row X
+    row strict flags = listed rule place (level strict) (tree_of flags)
+
+    -- what it means is made of a list
+    of_list : (flags : ℕ) (P : X → Type 0) (value : List ℕ) (x : X)
+        → ((us : List U) → rule value ≡ true → MeansTrees (level lenient) (drop place value) us
+        → P (tree_of flags value us))
+        → (row lenient flags).means value x → P x
+    of_list flags P value x law m = subst P (sym m.1.2) (law m.1.0 m.0 m.1.1)
+
+    pub listed_owed : {kept : X → X}
+        → ((strict : Bool) (x : X) → IsGood (format x)
+        → (row strict (format x).tlv.second).means (zeroed (format x).tlv.value) x)
+        → ((x : X) → (format (kept x)).tlv ≡ (format x).tlv)
+        → ((x : X) → (format x).IsInWidth → (format (kept x)).IsInWidth)
+        → Owed KeepsAt (listed_kind typ content rule place level tree_of format kept parts)
+    listed_owed back kept_tlv kept_width = record {
+      lawful = λ strict flags. listed_lawful rule place (level strict) (tree_of flags)
+          (items.lawful strict);
+      looser = λ strict flags. listed_looser rule place (level strict) (level lenient)
+          (tree_of flags) (items.looser strict);
+      unpadded = λ flags. listed_unpadded rule place (level lenient) (tree_of flags)
+          items.unpadded;
+      forms = λ flags value x. of_list flags (λ y. (format y).IsWellFormed) value x
+          (λ us ok m. shown.formed flags value us ok m
+          (list_formed (level lenient) (λ u. (item_format u).IsWellFormed) items.forms _ us m));
+      account = λ flags value x keeps. of_list flags
+          (λ y. SameSpace (size_of (format y).tlv) (4 + length value)) value x
+          (λ us ok m. rw (shown.size flags value us) (list_space items place shown.words value us
+          (shown.long value ok) (shown.keeps value keeps) m));
+      counted = λ flags value x. of_list flags (λ y. 4 * parts y ≤ 4 + length value) value x
+          (λ us ok m. rw (shown.parts flags value us) (list_parts items place value us m));
+      back = back;
+      kept_tlv = kept_tlv;
+      kept_width = kept_width;
+    }
+
+-- ---- INIT and INIT ACK
+
+abbrev init_tlv : ℕ → InitTree → Tlv
+init_tlv typ i = (init_format typ [] i).tlv
+
+init_back : (typ : ℕ) (strict : Bool) (i : InitTree) → IsInitInWidth i
+    → AllByRecursion IsParameterWellFormed i.parameters → IsEncodable (init_tlv typ i)
+    → (init_row strict).means (zeroed (init_tlv typ i).value) i
+init_back typ strict i width formed fits =
+    let value = zeroed (init_tlv typ i).value in
+    listed_back parameter_items 16 (λ v. nat_le 16 (length v)) init_of strict value
+    i.parameters i (le-leb 16 (length value) (omega arith)) refl
+    (rw (
+      from_be_bytes-to_be_bytes_4 i.tag width.tag,
+      from_be_bytes-to_be_bytes_4 i.window width.window,
+      from_be_bytes-to_be_bytes_2 i.outbound width.outbound,
+      from_be_bytes-to_be_bytes_2 i.inbound width.inbound,
+      from_be_bytes-to_be_bytes_4 i.tsn width.tsn,
+    ) refl)
+    width.each formed (omega (arith, fits))
+
+init_kept_width : (i : InitTree) → IsInitInWidth i
+    → IsInitInWidth (record i { parameters = kept_parameters i.parameters })
+init_kept_width i h = search (rules, kept_parameters_width)
+
+pub init_owed : (typ : ℕ) (name : List ℕ) → Owed KeepsAt (init_kind typ (init_format typ name))
+init_owed typ name =
+    listed_owed typ (Parameters 16) 16 parameter_items (search (rules, leb-true))
+    (λ strict i good. init_back typ strict i good.width good.formed good.encodable)
+    (λ i. listed_tlv-kept parameter.tlv parameter.kept kept_parameter_tlv typ 0 (init_leading i) i.parameters)
+    init_kept_width
+
+-- ---- lists of parameters
+
+pub parameter_list_owed : (typ : ℕ) (name : List ℕ)
+    → Owed KeepsAt (parameter_list_kind typ (parameter_list_format typ name))
+parameter_list_owed typ name =
+    listed_owed typ (Parameters 0) 0 parameter_items (search rules)
+    (λ strict ps good. listed_back parameter_items 0 (λ v. true) (λ v ps. ps) strict _ ps ps
+    refl refl refl good.width good.formed (omega (arith, good.encodable)))
+    (λ ps. listed_tlv-kept parameter.tlv parameter.kept kept_parameter_tlv typ 0 [] ps)
+    kept_parameters_width
+
+-- ---- lists of causes
+
+pub abort_owed : Owed KeepsAt abort.kind
+abort_owed =
+    listed_owed 6 (Causes 0) 0 cause_items (search rules)
+    (λ strict a good. listed_back cause_items 0 (λ v. true)
+    (λ v cs. abort.tree_of (abort.flags_of a) cs) strict _ a.causes a refl refl
+    (rw (one_again a.tag_reflected) refl) good.width good.formed (omega (arith, good.encodable)))
+    (λ a. refl) (λ a width. width)
+
+-- no bytes mean no causes, and ERROR wants some
+some_causes : (value : List ℕ) (cs : List cause.CauseTree) → nat_lt 0 (length value) ≡ true
+    → MeansTrees (cause.causes lenient) value cs → cs ≢ []
+some_causes value cs some m none =
+    let nil : value ≡ [] = nil_means (cause.causes lenient) value
+    (subst (MeansTrees (cause.causes lenient) value) none m) in
+    let refused : false ≡ true = rw nil at some in
+    cc
+
+-- a list of causes that is written isn't empty
+some_bytes : (cs : List cause.CauseTree) → cs ≢ []
+    → nat_lt 0 (length (zeroed (list_image cause.tlv cs))) ≡ true
+unfolding image_of
+some_bytes [] some = absurd (some refl)
+some_bytes (c ∷ []) some =
+    lt-ltb 0 (length (zeroed (list_image cause.tlv (c ∷ [])))) (omega arith)
+some_bytes (c ∷ d ∷ cs) some =
+    lt-ltb 0 (length (zeroed (list_image cause.tlv (c ∷ d ∷ cs)))) (omega arith)
+
+pub error_owed : Owed KeepsAt error.kind
+error_owed =
+    listed_owed 9 (Causes 0) 0 cause_items (search (rules, some_causes))
+    (λ strict cs good. listed_back cause_items 0 (λ v. nat_lt 0 (length v)) (λ v cs. cs) strict _ cs
+    cs (some_bytes cs good.formed.0) refl refl good.width good.formed.1
+    (omega (arith, good.encodable)))
+    (λ cs. refl) (λ cs width. width)

@@ -2,6 +2,7 @@
 -- answer.
 use Rattle.std.proofs.Common.{◌≡◌, ℕ, List, Result, Ok, Err, inl, inr, refl, ap, ◌∙◌}
 use Rattle.std.specs.Prelude.{IsErrOf}
+use Rattle.dcsctp_tlv.specs.declared.reader.Counts.{Counts}
 use Rattle.dcsctp_tlv.specs.declared.error.ChunkParseError.TheVariants.{OutOfMemory}
 use Rattle.dcsctp_tlv.specs.Number.{AreBytes}
 use Rattle.dcsctp_tlv.specs.Level.{MeansTrees}
@@ -56,7 +57,7 @@ CountedParts bytes word policy = Counted (λ p. node_count p.meaning) (Answer by
 
 -- what a check that says the place answers, without the place and the number of chunks
 pub check_answers : (bytes : List ℕ) (word : ℕ) (policy : ChecksumPolicy) (found : FirstFault)
-    → Answers packet_locating (λ (n : ℕ × ℕ). n) (PacketCounts bytes word policy) (Err found)
+    → Answers packet_locating (λ (n : Counts). n) (PacketCounts bytes word policy) (Err found)
     → Answers packet_checking (λ (n : ℕ). n) (CountedParts bytes word policy) (Err found.fault)
 check_answers bytes word policy found (inl f) =
     inl (f.0.0, ap (λ (x : FirstFault). x.fault) f.1, f.2.0)

@@ -2,6 +2,7 @@
 -- has one answer.
 use Rattle.std.proofs.Common.{rules, ◌≡◌, ℕ, ◌+◌, List, Result, Ok, Err, inl, inr, refl, sym, ap, ◌∙◌}
 use Rattle.std.specs.Result.{result_err}
+use Rattle.dcsctp_tlv.specs.declared.reader.Counts.{Counts}
 use Rattle.dcsctp_tlv.specs.declared.error.LocatedFault.{LocatedFault}
 use Rattle.dcsctp_tlv.specs.Number.{AreBytes}
 use Rattle.dcsctp_tlv.specs.Reading.{Answers, Exactly, locating, ListLocated}
@@ -40,16 +41,16 @@ place_one bytes word policy d e m n fits f g =
 -- a fault and its place
 pub fault_there : (bytes : List ℕ) (word : ℕ) (policy : ChecksumPolicy) (e : PacketFault) (n : ℕ)
     → HasPacketFaultAt bytes word policy e n
-    → Answers packet_locating (λ (k : ℕ × ℕ). k) (PacketCounts bytes word policy)
+    → Answers packet_locating (λ (k : Counts). k) (PacketCounts bytes word policy)
     (Err (record { fault = packet_error_of e; offset = n }))
 fault_there bytes word policy e n f = inl ((e, n), refl, f)
 
 -- a fault of the chunks, so far from the first
 pub chunk_fault : (bytes : List ℕ) (word : ℕ) (policy : ChecksumPolicy) (l : LocatedFault)
     → IsOpened bytes word policy
-    → Answers locating (λ (n : ℕ × ℕ). n) (ListLocated (chunks policy.strict_padding) chunk_parts
+    → Answers locating (λ (n : Counts). n) (ListLocated (chunks policy.strict_padding) chunk_parts
     (body bytes)) (Err l)
-    → Answers packet_locating (λ (n : ℕ × ℕ). n) (PacketCounts bytes word policy)
+    → Answers packet_locating (λ (n : Counts). n) (PacketCounts bytes word policy)
     (Err (record { fault = FailedParseChunk l.fault; offset = 12 + l.offset }))
 chunk_fault bytes word policy l opened (inl f) =
     let place : LocatedFault → FirstFault =
@@ -82,14 +83,14 @@ module _ (bytes : List ℕ) (word : ℕ) (policy : ChecksumPolicy) (fits : AreBy
       let there : f.1 ≡ g.1 = place_one bytes word policy f.0 g.0 f.1 g.1 fits p q in
       λ k. Err (same k, there k)
 
-  located_answers : (r : Result (ℕ × ℕ) FirstFault) → Answers packet_locating (λ (n : ℕ × ℕ). n)
+  located_answers : (r : Result Counts FirstFault) → Answers packet_locating (λ (n : Counts). n)
       (PacketCounts bytes word policy) r → Answers packet_locating (λ (u : Unit {0}). u)
       (PacketLocated bytes word policy) (refused (result_err r))
   located_answers (Ok n) a =
       (packet_with bytes a.1.trees, packet_is bytes word policy a.1.trees a.0 a.1.mean)
   located_answers (Err x) a = a
 
-  pub located_exactly : (r : Result (ℕ × ℕ) FirstFault) → Answers packet_locating (λ (n : ℕ × ℕ). n)
+  pub located_exactly : (r : Result Counts FirstFault) → Answers packet_locating (λ (n : Counts). n)
       (PacketCounts bytes word policy) r → Exactly packet_locating (λ (u : Unit {0}). u)
       (PacketLocated bytes word policy) (refused (result_err r))
   located_exactly r a = exactly packet_locating packet_locating_distinct (λ u. u)

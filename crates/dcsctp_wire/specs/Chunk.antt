@@ -1,14 +1,15 @@
 -- The table of chunks (RFC 9260 section 3.2).
-use Rattle.std.specs.Prelude.{◌≡◌, ◌⊎◌, ℕ, ◌+◌, Bool, List, [], ◌∷◌, ◌++◌, All, length, map, vec_len, vec_capacity}
+use Rattle.std.specs.Prelude.{◌≡◌, ◌⊎◌, ℕ, Bool, List, [], ◌∷◌, ◌++◌, All, map, vec_len, vec_capacity}
 use Rattle.dcsctp_tlv.specs.Frame.{lenient, full_padding}
-use Rattle.dcsctp_tlv.specs.Level.{Row, plain, as_row, Level, map_ok}
-use Rattle.dcsctp_tlv.specs.Table.{Named, row_of, IsUnnamed, Content, Parameters, Causes, is_fixed, has_causes, types_where, IsOneOf, HasEmptyList, ◌&◌}
+use Rattle.dcsctp_tlv.specs.Level.{Row, plain, Level, map_ok}
+use Rattle.dcsctp_tlv.specs.Table.{Named, row_of, IsUnnamed, is_fixed, has_causes, types_where, IsOneOf, HasEmptyList, ◌&◌}
 use Rattle.dcsctp_tlv.specs.Image.{Tlv, IsEncodable}
 use Rattle.dcsctp_tlv.specs.Format.{Format}
-use Rattle.dcsctp_tlv.specs.Parameter.{ParameterTree, all_kept as kept_parameters, IsTight as IsTightParameter}
+use Rattle.dcsctp_tlv.specs.Parameter.{ParameterTree, IsTight as IsTightParameter}
 use Rattle.dcsctp_cause.specs.Cause.{CauseTree, IsTight as IsTightCause}
 use Rattle.dcsctp_chunk.specs as plain_kind
-use Rattle.dcsctp_chunk.specs.PlainKinds.{plain_kinds, TreesOf, plain_rows}
+use Rattle.dcsctp_tlv.specs.Kinds.{Kind, TreesOf, rows, Entry, Of, Unnamed, format_of, kept_of, parts_of}
+use Rattle.dcsctp_chunk.specs.PlainKinds.{plain_kinds}
 use Rattle.dcsctp_chunk.specs.SkippedStreams as skipped_streams
 use Rattle.dcsctp_wire.specs as kind
 use Rattle.dcsctp_wire.specs.declared.packet.chunk.Chunk.{Chunk}
@@ -35,31 +36,35 @@ pub data ChunkTree : Type 0 where
   IForwardTsn : skipped_streams.Tree → ChunkTree
   Unknown : plain_kind.Unknown.Tree → ChunkTree
 
--- a kind with a list in its value: its type, where the list begins, its trees in the level, and its
--- row
-abbrev nested : {X : Type 0} → ℕ → Content → (X → ChunkTree) → Row X → Named ChunkTree
-nested typ content tree row = record { typ = typ; content = content; row = as_row tree row }
+-- The kinds that are named, those with a list first; and their trees as trees of a chunk, in the
+-- same order.
+abbrev pub list_kinds : List Kind
+list_kinds =
+    kind.Init.kind ∷
+    kind.InitAck.kind ∷
+    kind.HeartbeatRequest.kind ∷
+    kind.HeartbeatAck.kind ∷
+    kind.Abort.kind ∷
+    kind.Error.kind ∷
+    kind.ReConfig.kind ∷ []
 
--- the rows of these kinds, for a strict reader or a lenient one
-abbrev pub list_rows : Bool → ℕ → List (Named ChunkTree)
-list_rows strict flags =
-    nested 1 (Parameters 16) Init (kind.InitFields.row strict) ∷
-    nested 2 (Parameters 16) InitAck (kind.InitFields.row strict) ∷
-    nested 4 (Parameters 0) HeartbeatRequest (kind.ParameterList.row strict) ∷
-    nested 5 (Parameters 0) HeartbeatAck (kind.ParameterList.row strict) ∷
-    nested 6 (Causes 0) Abort (kind.Abort.row strict flags) ∷
-    nested 9 (Causes 0) Error (kind.Error.row strict) ∷
-    nested 130 (Parameters 0) ReConfig (kind.ParameterList.row strict) ∷ []
+abbrev pub list_trees : TreesOf list_kinds ChunkTree
+list_trees = Init & InitAck & HeartbeatRequest & HeartbeatAck & Abort & Error & ReConfig & tt
 
--- the trees of the kinds without a list, in their order
-abbrev pub plain_trees : (flags : ℕ) → TreesOf (plain_kinds flags) ChunkTree
-plain_trees flags =
+abbrev pub plain_trees : TreesOf plain_kinds ChunkTree
+plain_trees =
     Data & Sack & Shutdown & (λ _. ShutdownAck) & CookieEcho & (λ _. CookieAck) & ShutdownComplete
     & IData & ForwardTsn & IForwardTsn & tt
 
--- the types that are named, and how the value of each is read
+-- the types that are named, and how the value of each is read, for a strict reader or a lenient one
+abbrev pub list_rows : Bool → ℕ → List (Named ChunkTree)
+list_rows strict flags = rows strict flags list_kinds list_trees
+
+abbrev pub plain_rows : ℕ → List (Named ChunkTree)
+plain_rows flags = rows lenient flags plain_kinds plain_trees
+
 abbrev pub table : Bool → ℕ → List (Named ChunkTree)
-table strict flags = list_rows strict flags ++ plain_rows (plain_kinds flags) (plain_trees flags)
+table strict flags = list_rows strict flags ++ plain_rows flags
 
 -- what the value of a type means, and its faults
 abbrev pub chunk_row : Bool → ℕ → ℕ → Row ChunkTree
@@ -81,27 +86,32 @@ TakesNoMemory typ value =
 abbrev pub HoldsCauses : ℕ → Type 0
 HoldsCauses typ = IsOneOf (types_where has_causes (table lenient 0)) typ
 
--- what is said of a chunk; an Unknown one has a type that isn't named
+-- the kind of a chunk, and its tree there; an Unknown one has a type that isn't named
+abbrev pub entry : ChunkTree → Entry ChunkTree
+entry (Data c) = Of plain_kind.DataChunk.kind Data c
+entry (Init i) = Of kind.Init.kind Init i
+entry (InitAck i) = Of kind.InitAck.kind InitAck i
+entry (Sack s) = Of plain_kind.Sack.kind Sack s
+entry (HeartbeatRequest ps) = Of kind.HeartbeatRequest.kind HeartbeatRequest ps
+entry (HeartbeatAck ps) = Of kind.HeartbeatAck.kind HeartbeatAck ps
+entry (Abort a) = Of kind.Abort.kind Abort a
+entry (Shutdown tsn) = Of plain_kind.Shutdown.kind Shutdown tsn
+entry ShutdownAck = Of plain_kind.ShutdownAck.kind (λ _. ShutdownAck) tt
+entry (Error cs) = Of kind.Error.kind Error cs
+entry (CookieEcho cookie) = Of plain_kind.CookieEcho.kind CookieEcho cookie
+entry CookieAck = Of plain_kind.CookieAck.kind (λ _. CookieAck) tt
+entry (ShutdownComplete reflected) = Of plain_kind.ShutdownComplete.kind ShutdownComplete reflected
+entry (IData c) = Of plain_kind.IDataChunk.kind IData c
+entry (ReConfig ps) = Of kind.ReConfig.kind ReConfig ps
+entry (ForwardTsn t) = Of plain_kind.ForwardTsn.kind ForwardTsn t
+entry (IForwardTsn t) = Of plain_kind.IForwardTsn.kind IForwardTsn t
+entry (Unknown u) = Unnamed (record (plain_kind.Unknown.format u) {
+  IsWellFormed = IsUnnamed (table lenient u.flags) u.typ;
+})
+
+-- what is said of a chunk
 abbrev pub format : ChunkTree → Format
-format (Data c) = plain_kind.DataChunk.format c
-format (Init i) = kind.Init.format i
-format (InitAck i) = kind.InitAck.format i
-format (Sack s) = plain_kind.Sack.format s
-format (HeartbeatRequest ps) = kind.HeartbeatRequest.format ps
-format (HeartbeatAck ps) = kind.HeartbeatAck.format ps
-format (Abort a) = kind.Abort.format a
-format (Shutdown tsn) = plain_kind.Shutdown.format tsn
-format ShutdownAck = plain_kind.ShutdownAck.format tt
-format (Error cs) = kind.Error.format cs
-format (CookieEcho cookie) = plain_kind.CookieEcho.format cookie
-format CookieAck = plain_kind.CookieAck.format tt
-format (ShutdownComplete reflected) = plain_kind.ShutdownComplete.format reflected
-format (IData c) = plain_kind.IDataChunk.format c
-format (ReConfig ps) = kind.ReConfig.format ps
-format (ForwardTsn t) = plain_kind.ForwardTsn.format t
-format (IForwardTsn t) = plain_kind.IForwardTsn.format t
-format (Unknown u) =
-    record (plain_kind.Unknown.format u) { IsWellFormed = IsUnnamed (table lenient u.flags) u.typ }
+format t = format_of (entry t)
 
 abbrev pub tlv : ChunkTree → Tlv
 tlv t = (format t).tlv
@@ -128,38 +138,14 @@ IsChunkEncodable t = IsPlaced t × IsEncodable (tlv t)
 -- What a chunk that is written reads back as: fields that a kind doesn't carry are zero; a response
 -- with fewer than two next TSNs has none.
 abbrev pub kept : ChunkTree → ChunkTree
-kept (Data c) = Data (plain_kind.DataChunk.kept c)
-kept (Init i) = Init (record i { parameters = kept_parameters i.parameters })
-kept (InitAck i) = InitAck (record i { parameters = kept_parameters i.parameters })
-kept (Sack s) = Sack s
-kept (HeartbeatRequest ps) = HeartbeatRequest (kept_parameters ps)
-kept (HeartbeatAck ps) = HeartbeatAck (kept_parameters ps)
-kept (Abort a) = Abort a
-kept (Shutdown tsn) = Shutdown tsn
-kept ShutdownAck = ShutdownAck
-kept (Error cs) = Error cs
-kept (CookieEcho cookie) = CookieEcho cookie
-kept CookieAck = CookieAck
-kept (ShutdownComplete reflected) = ShutdownComplete reflected
-kept (IData c) = IData (plain_kind.IDataChunk.kept c)
-kept (ReConfig ps) = ReConfig (kept_parameters ps)
-kept (ForwardTsn t) = ForwardTsn t
-kept (IForwardTsn t) = IForwardTsn t
-kept (Unknown u) = Unknown u
+kept t = kept_of t (entry t)
 
 abbrev pub all_kept : List ChunkTree → List ChunkTree
 all_kept ts = map kept ts
 
 -- how many parts it has: itself, and the parameters or causes in it
 abbrev pub parts : ChunkTree → ℕ
-parts (Init i) = kind.InitFields.parts i
-parts (InitAck i) = kind.InitFields.parts i
-parts (HeartbeatRequest ps) = 1 + length ps
-parts (HeartbeatAck ps) = 1 + length ps
-parts (Abort a) = 1 + length a.causes
-parts (Error cs) = 1 + length cs
-parts (ReConfig ps) = 1 + length ps
-parts t = 1
+parts t = parts_of (entry t)
 
 -- its lists have room for their items alone, and so has each item
 abbrev pub IsTight : Chunk → Type 0

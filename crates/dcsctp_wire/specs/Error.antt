@@ -1,13 +1,15 @@
 -- ERROR (RFC 9260 section 3.3.10): type 9, flags ignored; the value is a list of error causes, one
 -- at least.
-use Rattle.std.specs.Prelude.{◌≢◌, Bool, List, [], nat_lt, length, codes}
+use Rattle.std.specs.Prelude.{◌≢◌, ◌+◌, Bool, List, [], nat_lt, length, codes}
 use Rattle.std.specs.List.{AllByRecursion}
 use Rattle.dcsctp_tlv.specs.Format.{Format}
 use Rattle.dcsctp_tlv.specs.Level.{Row, listed}
 use Rattle.dcsctp_tlv.specs.Image.{listed_tlv}
+use Rattle.dcsctp_tlv.specs.Table.{Causes}
 use Rattle.dcsctp_tlv.proofs.Listed.{listed_sized}
 use Rattle.dcsctp_cause.specs.Cause as cause
 use Rattle.dcsctp_cause.proofs.CauseLaws.{length-cause}
+use Rattle.dcsctp_tlv.specs.Kinds.{Kind, Nested}
 use Rattle.dcsctp_wire.specs.declared.packet.error_chunk.ErrorChunk.{ErrorChunk}
 
 -- No bytes are the empty list: it is refused.
@@ -22,6 +24,17 @@ format cs = record {
   text = codes "ERROR";
   IsInWidth = AllByRecursion cause.IsInWidth cs;
   IsWellFormed = (cs ≢ []) × AllByRecursion cause.IsWellFormed cs;
+}
+
+abbrev pub kind : Kind
+kind = record {
+  typ = 9;
+  content = Causes 0;
+  Tree = List cause.CauseTree;
+  reader = Nested (λ strict flags. row strict);
+  format = format;
+  kept = λ cs. cs;
+  parts = λ cs. 1 + length cs;
 }
 
 abbrev pub view : ErrorChunk → List cause.CauseTree

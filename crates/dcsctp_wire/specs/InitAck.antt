@@ -1,11 +1,15 @@
 -- INIT ACK (RFC 9260 section 3.3.3): type 2.
 use Rattle.std.specs.Prelude.{codes}
 use Rattle.dcsctp_tlv.specs.Format.{Format}
+use Rattle.dcsctp_tlv.specs.Kinds.{Kind}
 use Rattle.dcsctp_wire.specs.InitFields as fields
 use Rattle.dcsctp_wire.specs.declared.packet.init_ack_chunk.InitAckChunk.{InitAckChunk}
 
 abbrev pub format : fields.Tree → Format
 format i = fields.format 2 (codes "INIT-ACK") i
+
+abbrev pub kind : Kind
+kind = fields.kind_of 2 format
 
 abbrev pub view : InitAckChunk → fields.Tree
 view c = fields.view (record {

@@ -8,9 +8,11 @@ use Rattle.dcsctp_tlv.specs.Number.{number16, number32}
 use Rattle.dcsctp_tlv.specs.Format.{Format}
 use Rattle.dcsctp_tlv.specs.Level.{Row, listed}
 use Rattle.dcsctp_tlv.specs.Image.{listed_tlv}
+use Rattle.dcsctp_tlv.specs.Table.{Parameters}
 use Rattle.dcsctp_tlv.specs.Parameter as parameter
 use Rattle.dcsctp_tlv.proofs.Listed.{listed_sized}
 use Rattle.dcsctp_tlv.proofs.ParameterLaws.{length-parameter}
+use Rattle.dcsctp_tlv.specs.Kinds.{Kind, Nested}
 use Rattle.dcsctp_wire.specs.declared.packet.init_fields.InitFields.{InitFields}
 
 pub record Tree : Type 0 where
@@ -64,6 +66,17 @@ format typ name i = record {
       ++ (codes ", initial_tsn=" ++ decimal i.tsn)));
   IsInWidth = IsInWidth i;
   IsWellFormed = AllByRecursion parameter.IsWellFormed i.parameters;
+}
+
+abbrev pub kind_of : ℕ → (Tree → Format) → Kind
+kind_of typ format = record {
+  typ = typ;
+  content = Parameters 16;
+  Tree = Tree;
+  reader = Nested (λ strict flags. row strict);
+  format = format;
+  kept = λ i. record i { parameters = parameter.all_kept i.parameters };
+  parts = parts;
 }
 
 abbrev pub view : InitFields → Tree

@@ -1,14 +1,16 @@
 -- What the chunks have in common whose value is a list of parameters, and nothing else (RFC 9260
 -- sections 3.3.5 and 3.3.6, RFC 6525 section 3.1): flags are ignored, and any list is read, the
 -- empty one too.
-use Rattle.std.specs.Prelude.{ℕ, Bool, true, List, []}
+use Rattle.std.specs.Prelude.{ℕ, ◌+◌, Bool, true, List, [], length}
 use Rattle.std.specs.List.{AllByRecursion}
 use Rattle.dcsctp_tlv.specs.Format.{Format}
 use Rattle.dcsctp_tlv.specs.Level.{Row, listed}
 use Rattle.dcsctp_tlv.specs.Image.{listed_tlv}
+use Rattle.dcsctp_tlv.specs.Table.{Parameters}
 use Rattle.dcsctp_tlv.specs.Parameter as parameter
 use Rattle.dcsctp_tlv.proofs.Listed.{listed_sized}
 use Rattle.dcsctp_tlv.proofs.ParameterLaws.{length-parameter}
+use Rattle.dcsctp_tlv.specs.Kinds.{Kind, Nested}
 
 abbrev pub row : Bool → Row (List parameter.ParameterTree)
 row strict = listed (λ value. true) 0 (parameter.parameters strict) (λ value ps. ps)
@@ -21,4 +23,15 @@ format typ name ps = record {
   text = name;
   IsInWidth = AllByRecursion parameter.IsInWidth ps;
   IsWellFormed = AllByRecursion parameter.IsWellFormed ps;
+}
+
+abbrev pub kind_of : ℕ → (List parameter.ParameterTree → Format) → Kind
+kind_of typ format = record {
+  typ = typ;
+  content = Parameters 0;
+  Tree = List parameter.ParameterTree;
+  reader = Nested (λ strict flags. row strict);
+  format = format;
+  kept = parameter.all_kept;
+  parts = λ ps. 1 + length ps;
 }

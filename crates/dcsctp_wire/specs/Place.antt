@@ -1,5 +1,6 @@
 -- Where the fault of a packet lies (RFC 9260 section 3): its offset in bytes.
 use Rattle.std.specs.Prelude.{◌≡◌, ℕ, ◌+◌, List, Option, None, Some, Result, Ok, Err, length, nat_lt, if◌then◌else◌}
+use Rattle.dcsctp_tlv.specs.declared.reader.Counts.{Counts}
 use Rattle.dcsctp_tlv.specs.Level.{MeansCounted, fault_offset}
 use Rattle.dcsctp_tlv.specs.Reading.{Errors}
 use Rattle.dcsctp_wire.specs.declared.packet.sctp_packet.ChecksumPolicy.{ChecksumPolicy}
@@ -42,8 +43,8 @@ refused (Some e) = Err e
 
 -- The numbers of the chunks and of all parts; or the fault, and where it lies.
 abbrev pub PacketCounts : List ℕ → ℕ → ChecksumPolicy
-    → Result (ℕ × ℕ) (PacketFault × ℕ) → Type 0
+    → Result Counts (PacketFault × ℕ) → Type 0
 PacketCounts bytes word policy (Ok n) =
     IsOpened bytes word policy
-    × MeansCounted (chunks policy.strict_padding) chunk_parts (body bytes) n.0 n.1
+    × MeansCounted (chunks policy.strict_padding) chunk_parts (body bytes) n.items n.parts
 PacketCounts bytes word policy (Err f) = HasPacketFaultAt bytes word policy f.0 f.1

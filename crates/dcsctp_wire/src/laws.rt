@@ -16,31 +16,53 @@ ghost use Rattle.dcsctp_wire.specs.InitFields.{Tree as InitTree};
 ghost use Rattle.dcsctp_wire.specs.Packet.{PacketTree, PacketFault, Chunk, IsOpened, body, packet_with, Answer};
 ghost use Rattle.dcsctp_wire.specs.Place.{HasPacketFaultAt};
 
-use crate::packet::cause_codes::{
-    COOKIE_RECEIVED_WHILE_SHUTTING_DOWN, MISSING_MANDATORY_PARAMETER, NO_USER_DATA,
-    PROTOCOL_VIOLATION, UNRECOGNIZED_CHUNK, USER_INITIATED_ABORT,
-};
+use crate::packet::abort_chunk::CHUNK_TYPE as ABORT;
 pub use crate::packet::chunk::chunk_has_widths;
-use crate::packet::chunk_types::{
-    ABORT, COOKIE_ACK, COOKIE_ECHO, DATA, ERROR, FORWARD_TSN, HEARTBEAT, HEARTBEAT_ACK, I_DATA,
-    I_FORWARD_TSN, INIT, INIT_ACK, RE_CONFIG, SACK, SHUTDOWN, SHUTDOWN_ACK, SHUTDOWN_COMPLETE,
+use crate::packet::cookie_ack_chunk::CHUNK_TYPE as COOKIE_ACK;
+use crate::packet::cookie_echo_chunk::CHUNK_TYPE as COOKIE_ECHO;
+use crate::packet::cookie_received_while_shutting_down::CAUSE_CODE as COOKIE_RECEIVED_WHILE_SHUTTING_DOWN;
+use crate::packet::data_chunk::{CHUNK_TYPE as DATA, HEADER_SIZE as DATA_SIZE};
+use crate::packet::error_chunk::{CHUNK_TYPE as ERROR, HEADER_SIZE as ERROR_SIZE};
+use crate::packet::forward_tsn_chunk::CHUNK_TYPE as FORWARD_TSN;
+use crate::packet::forward_tsn_supported_parameter::PARAMETER_TYPE as FORWARD_TSN_SUPPORTED;
+use crate::packet::heartbeat_ack_chunk::{
+    CHUNK_TYPE as HEARTBEAT_ACK, HEADER_SIZE as HEARTBEAT_ACK_SIZE,
 };
-use crate::packet::data_chunk::HEADER_SIZE as DATA_SIZE;
-use crate::packet::error_chunk::HEADER_SIZE as ERROR_SIZE;
-use crate::packet::heartbeat_ack_chunk::HEADER_SIZE as HEARTBEAT_ACK_SIZE;
-use crate::packet::idata_chunk::HEADER_SIZE as I_DATA_SIZE;
-use crate::packet::missing_mandatory_parameter_error_cause::MissingMandatoryParameterErrorCause;
-use crate::packet::parameter_types::{
-    ADD_INCOMING_STREAMS, ADD_OUTGOING_STREAMS, FORWARD_TSN_SUPPORTED, HEARTBEAT_INFO,
-    INCOMING_SSN_RESET, OUTGOING_SSN_RESET, RECONFIGURATION_RESPONSE, SSN_TSN_RESET, STATE_COOKIE,
-    SUPPORTED_EXTENSIONS, ZERO_CHECKSUM_ACCEPTABLE,
+use crate::packet::heartbeat_info_parameter::PARAMETER_TYPE as HEARTBEAT_INFO;
+use crate::packet::heartbeat_request_chunk::CHUNK_TYPE as HEARTBEAT;
+use crate::packet::idata_chunk::{CHUNK_TYPE as I_DATA, HEADER_SIZE as I_DATA_SIZE};
+use crate::packet::iforward_tsn_chunk::CHUNK_TYPE as I_FORWARD_TSN;
+use crate::packet::incoming_ssn_reset_request_parameter::PARAMETER_TYPE as INCOMING_SSN_RESET;
+use crate::packet::init_ack_chunk::CHUNK_TYPE as INIT_ACK;
+use crate::packet::init_chunk::CHUNK_TYPE as INIT;
+use crate::packet::missing_mandatory_parameter_error_cause::{
+    CAUSE_CODE as MISSING_MANDATORY_PARAMETER, MissingMandatoryParameterErrorCause,
 };
-use crate::packet::reconfiguration_response_parameter::ReconfigurationResponseResult;
-use crate::packet::sack_chunk::GapAckBlock;
+use crate::packet::no_user_data_error_cause::CAUSE_CODE as NO_USER_DATA;
+use crate::packet::outgoing_ssn_reset_request_parameter::PARAMETER_TYPE as OUTGOING_SSN_RESET;
+use crate::packet::parameter::{
+    PARAMETER_TYPE_ADD_INCOMING_STREAMS_REQUEST as ADD_INCOMING_STREAMS,
+    PARAMETER_TYPE_ADD_OUTGOING_STREAMS_REQUEST as ADD_OUTGOING_STREAMS,
+    PARAMETER_TYPE_SSN_TSN_RESET_REQUEST as SSN_TSN_RESET,
+};
+use crate::packet::protocol_violation_error_cause::CAUSE_CODE as PROTOCOL_VIOLATION;
+use crate::packet::re_config_chunk::CHUNK_TYPE as RE_CONFIG;
+use crate::packet::reconfiguration_response_parameter::{
+    PARAMETER_TYPE as RECONFIGURATION_RESPONSE, ReconfigurationResponseResult,
+};
+use crate::packet::sack_chunk::{CHUNK_TYPE as SACK, GapAckBlock};
 pub use crate::packet::sctp_packet::has_widths;
 use crate::packet::sctp_packet::{
     COMMON_HEADER_SIZE, ChecksumPolicy, FirstFault, PacketParseError,
 };
+use crate::packet::shutdown_ack_chunk::CHUNK_TYPE as SHUTDOWN_ACK;
+use crate::packet::shutdown_chunk::CHUNK_TYPE as SHUTDOWN;
+use crate::packet::shutdown_complete_chunk::CHUNK_TYPE as SHUTDOWN_COMPLETE;
+use crate::packet::state_cookie_parameter::PARAMETER_TYPE as STATE_COOKIE;
+use crate::packet::supported_extensions_parameter::PARAMETER_TYPE as SUPPORTED_EXTENSIONS;
+use crate::packet::unrecognized_chunk_error_cause::CAUSE_CODE as UNRECOGNIZED_CHUNK;
+use crate::packet::user_initiated_abort_error_cause::CAUSE_CODE as USER_INITIATED_ABORT;
+use crate::packet::zero_checksum_acceptable_parameter::PARAMETER_TYPE as ZERO_CHECKSUM_ACCEPTABLE;
 use crate::packet::{
     ChunkParseError, PARAMETER_HEADER_SIZE, SerializableTlv, SkippedStream, TLV_HEADER_SIZE,
 };

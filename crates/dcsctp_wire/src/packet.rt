@@ -2,9 +2,7 @@
 
 pub mod abort_chunk;
 mod builder;
-pub mod cause_codes;
 pub mod chunk;
-pub mod chunk_types;
 mod common_header;
 pub mod error_chunk;
 mod first_fault;
@@ -14,7 +12,6 @@ pub mod init_ack_chunk;
 pub mod init_chunk;
 mod init_fields;
 mod parameter_list;
-pub mod parameter_types;
 pub mod re_config_chunk;
 pub mod sctp_packet;
 

@@ -7,9 +7,6 @@ use crate::help::size_of;
 use dcsctp_tlv::frame::put_parameter;
 use dcsctp_wire::api::StreamId;
 use dcsctp_wire::packet::SerializableTlv;
-use dcsctp_wire::packet::cookie_received_while_shutting_down::CookieReceivedWhileShuttingDownErrorCause;
-use dcsctp_wire::packet::error_causes::ErrorCause;
-use dcsctp_wire::packet::forward_tsn_supported_parameter::ForwardTsnSupportedParameter;
 use dcsctp_wire::packet::missing_mandatory_parameter_error_cause::MissingMandatoryParameterErrorCause;
 use dcsctp_wire::packet::outgoing_ssn_reset_request_parameter::OutgoingSsnResetRequestParameter;
 use dcsctp_wire::packet::parameter::{
@@ -18,12 +15,10 @@ use dcsctp_wire::packet::parameter::{
 use dcsctp_wire::packet::reconfiguration_response_parameter::{
     ReconfigurationResponseParameter, ReconfigurationResponseResult,
 };
-use dcsctp_wire::packet::ssn_tsn_reset_request_parameter::SsnTsnResetRequestParameter;
 use dcsctp_wire::packet::state_cookie_parameter::StateCookieParameter;
 use dcsctp_wire::packet::unknown_parameter::UnknownParameter;
 use dcsctp_wire::types::Tsn;
 use std::alloc::{AllocError, Global};
-use std::fmt::Debug;
 use std::test::Fail;
 
 /// Whether a list of two cookies of these sizes can be written.
@@ -149,29 +144,5 @@ fn lists(rt: HostRuntime) -> Result<(), Fail> {
         receiver_next_tsn: None,
     };
     assert!(rt; is_one_written(alloc, response, &[0, 16, 0, 12, 0, 0, 0, 1, 0, 0, 0, 1])?);
-    Ok(())
-}
-
-/// Whether a kind converts to the variant of that kind, with all that it holds.
-fn is_converted<K, L: From<K> + Debug + Drop>(
-    alloc: Global,
-    kind: K,
-    wanted: &str,
-) -> Result<bool, AllocError> {
-    let item = L::from(kind);
-    Ok(format!(in alloc; "{item:?}")?.as_str() == wanted)
-}
-
-#[test]
-fn converted(rt: HostRuntime) -> Result<(), Fail> {
-    let alloc = rt.alloc();
-    let wanted = "ForwardTsnSupported(ForwardTsnSupportedParameter)";
-    assert!(rt; is_converted::<_, Parameter>(alloc, ForwardTsnSupportedParameter, wanted)?);
-    let kind = SsnTsnResetRequestParameter { request_seq_nbr: 7 };
-    let wanted = "SsnTsnResetRequest(SsnTsnResetRequestParameter { request_seq_nbr: 7 })";
-    assert!(rt; is_converted::<_, Parameter>(alloc, kind, wanted)?);
-    let kind = CookieReceivedWhileShuttingDownErrorCause {};
-    let wanted = "CookieReceivedWhileShuttingDown(CookieReceivedWhileShuttingDownErrorCause)";
-    assert!(rt; is_converted::<_, ErrorCause>(alloc, kind, wanted)?);
     Ok(())
 }

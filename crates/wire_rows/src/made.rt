@@ -40,16 +40,16 @@ fn unknown(typ: u8, flags: u8, value: Vec<u8>) -> Chunk {
 fn new(alloc: Global, typ: u8, tsn: u32) -> Chunk {
     match typ {
         0 | 64 => with(typ, tsn, Data::new(alloc), false),
-        4 => Chunk::from(HeartbeatRequestChunk::new(alloc)),
-        5 => Chunk::from(HeartbeatAckChunk::new(alloc)),
-        6 => Chunk::from(AbortChunk::new(alloc)),
-        7 => Chunk::from(ShutdownChunk {
+        4 => Chunk::HeartbeatRequest(HeartbeatRequestChunk::new(alloc)),
+        5 => Chunk::HeartbeatAck(HeartbeatAckChunk::new(alloc)),
+        6 => Chunk::Abort(AbortChunk::new(alloc)),
+        7 => Chunk::Shutdown(ShutdownChunk {
             cumulative_tsn_ack: Tsn(tsn),
         }),
-        9 => Chunk::from(ErrorChunk::new(alloc)),
+        9 => Chunk::Error(ErrorChunk::new(alloc)),
         10 => Chunk::CookieEcho(CookieEchoChunk::new(alloc)),
-        11 => Chunk::from(CookieAckChunk),
-        130 => Chunk::from(ReConfigChunk::new(alloc)),
+        11 => Chunk::CookieAck(CookieAckChunk),
+        130 => Chunk::ReConfig(ReConfigChunk::new(alloc)),
         _ => unknown(typ, 0, Vec::new(alloc)),
     }
 }

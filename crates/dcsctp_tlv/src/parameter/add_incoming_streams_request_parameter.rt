@@ -13,14 +13,14 @@
 //! ```
 
 ghost use Rattle.std.specs.Prelude.{◌≡◌, ◌≢◌, ◌↔◌, Some, Ok, IsOk, IsErrOf};
-ghost use Rattle.dcsctp_tlv.specs.Reading.{Exactly, reading};
+ghost use Rattle.dcsctp_tlv.specs.Reading.{Exactly, reading, checking, Tested};
 ghost use Rattle.dcsctp_tlv.specs.AddStreamsRequest as request;
 ghost use Rattle.dcsctp_tlv.specs.AddIncomingStreamsRequest as kind;
 
 use crate::error::ChunkParseError;
 use crate::frame::put_parameter;
 use crate::number::{read_u16_be, read_u32_be};
-use crate::parameter::add_streams_request::{add_streams_check, add_streams_value};
+use crate::parameter::add_streams_request::add_streams_value;
 use crate::parameter::raw_parameter::RawParameter;
 use crate::tlv::SerializableTlv;
 use std::fmt;
@@ -53,8 +53,18 @@ impl AddIncomingStreamsRequestParameter {
         if raw.typ != PARAMETER_TYPE {
             return Err(ChunkParseError::InvalidType);
         }
-        add_streams_check(raw.value)?;
+        AddIncomingStreamsRequestParameter::check(raw.value)?;
         Ok(AddIncomingStreamsRequestParameter::build(raw.value))
+    }
+
+    /// `InvalidLength` exactly where the value hasn't 8 bytes.
+    pub(crate) fn check(value: &[u8]) -> Result<(), ChunkParseError>
+        ensures { Exactly checking (λ u. u) (Tested (request.read value.now)) result }
+    {
+        if value.len() != 8 {
+            return Err(ChunkParseError::InvalidLength);
+        }
+        Ok(())
     }
 
     /// What the value means.
@@ -83,6 +93,11 @@ impl SerializableTlv for AddIncomingStreamsRequestParameter {
 
     fn encodable(&self) -> bool {
         true
+    }
+
+    fn has_widths(&self) {
+        let _request_seq_nbr = self.request_seq_nbr;
+        let _nbr_new_streams = self.nbr_new_streams;
     }
 }
 

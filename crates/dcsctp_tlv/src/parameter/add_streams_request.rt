@@ -1,22 +1,9 @@
 //! What both requests for more streams share: the sizes and places of their numbers.
 
 ghost use Rattle.std.specs.Prelude.{◌≡◌};
-ghost use Rattle.dcsctp_tlv.specs.Reading.{Answers, checking, Tested};
 ghost use Rattle.dcsctp_tlv.specs.AddStreamsRequest as kind;
 
-use crate::error::ChunkParseError;
 use crate::number::{put_u16, put_u32};
-
-/// `InvalidLength` exactly where the value hasn't 8 bytes.
-#[tactic(auto, unfolding(crate::specs::AddStreamsRequest::read))]
-pub(crate) fn add_streams_check(value: &[u8]) -> Result<(), ChunkParseError>
-    ensures { Answers checking (λ u. u) (Tested (kind.read value.now)) result }
-{
-    if value.len() != 8 {
-        return Err(ChunkParseError::InvalidLength);
-    }
-    Ok(())
-}
 
 /// The value of a request; its reserved bytes are zeros.
 pub(crate) fn add_streams_value(request: u32, new_streams: u16) -> [u8; 8]

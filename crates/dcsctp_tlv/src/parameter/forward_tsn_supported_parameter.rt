@@ -8,8 +8,8 @@
 //! +-+-+-+-+-+-+-+-+-+-+-+-+-+-+-+-+-+-+-+-+-+-+-+-+-+-+-+-+-+-+-+-+
 //! ```
 
-ghost use Rattle.std.specs.Prelude.{◌≡◌, ◌≢◌, ◌↔◌, Some, IsErrOf};
-ghost use Rattle.dcsctp_tlv.specs.Reading.{Answers, Exactly, reading, checking, Tested};
+ghost use Rattle.std.specs.Prelude.{◌≡◌, ◌≢◌, ◌↔◌, Some, Ok, IsOk, IsErrOf};
+ghost use Rattle.dcsctp_tlv.specs.Reading.{Exactly, reading, checking, Tested};
 ghost use Rattle.dcsctp_tlv.specs.ForwardTsnSupported as kind;
 
 use crate::error::ChunkParseError;
@@ -41,17 +41,25 @@ impl ForwardTsnSupportedParameter {
             return Err(ChunkParseError::InvalidType);
         }
         ForwardTsnSupportedParameter::check(raw.value)?;
-        Ok(ForwardTsnSupportedParameter)
+        Ok(ForwardTsnSupportedParameter::build(raw.value))
     }
 
     /// `InvalidLength` exactly where the value isn't empty.
     pub(crate) fn check(value: &[u8]) -> Result<(), ChunkParseError>
-        ensures { Answers checking (λ u. u) (Tested (kind.read value.now)) result }
+        ensures { Exactly checking (λ u. u) (Tested (kind.read value.now)) result }
     {
         if !value.is_empty() {
             return Err(ChunkParseError::InvalidLength);
         }
         Ok(())
+    }
+
+    /// What the value means.
+    pub(crate) fn build(value: &[u8]) -> Self
+        requires { IsOk (kind.read value.now) }
+        ensures { kind.read value.now ≡ Ok (kind.view result) }
+    {
+        ForwardTsnSupportedParameter
     }
 }
 
@@ -69,6 +77,8 @@ impl SerializableTlv for ForwardTsnSupportedParameter {
     fn encodable(&self) -> bool {
         true
     }
+
+    fn has_widths(&self) {}
 }
 
 impl fmt::Display for ForwardTsnSupportedParameter {

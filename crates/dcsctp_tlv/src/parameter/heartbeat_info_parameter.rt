@@ -19,6 +19,7 @@ use crate::error::ChunkParseError;
 use crate::frame::{MAX_VALUE_SIZE, put_parameter};
 use crate::parameter::raw_parameter::RawParameter;
 use crate::tlv::SerializableTlv;
+use crate::widths::are_bytes;
 use std::alloc::{AllocError, Global};
 use std::fmt;
 
@@ -76,6 +77,10 @@ impl SerializableTlv for HeartbeatInfoParameter {
 
     fn encodable(&self) -> bool {
         self.info.len() <= MAX_VALUE_SIZE
+    }
+
+    fn has_widths(&self) {
+        are_bytes(&self.info);
     }
 }
 

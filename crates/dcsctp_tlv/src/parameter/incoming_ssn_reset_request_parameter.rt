@@ -13,7 +13,7 @@
 //! ```
 
 ghost use Rattle.std.specs.Prelude.{◌≡◌, ◌≢◌, ◌↔◌, Some, IsOk, IsErrOf, IfOk, Ok, vec_len, vec_capacity};
-ghost use Rattle.dcsctp_tlv.specs.Reading.{Answers, Exactly, reading, checking, Tested};
+ghost use Rattle.dcsctp_tlv.specs.Reading.{Exactly, reading, checking, Tested};
 ghost use Rattle.dcsctp_tlv.specs.IncomingSsnResetRequest as kind;
 
 use crate::error::ChunkParseError;
@@ -22,6 +22,7 @@ use crate::frame::MAX_VALUE_SIZE;
 use crate::number::read_u32_be;
 use crate::parameter::raw_parameter::RawParameter;
 use crate::tlv::SerializableTlv;
+use crate::widths::are_in_width;
 use dcsctp_types::api::StreamId;
 use std::alloc::{AllocError, Global};
 use std::fmt;
@@ -65,7 +66,7 @@ impl IncomingSsnResetRequestParameter {
 
     /// `InvalidLength` exactly where the value has fewer than 4 bytes or an odd number of them.
     pub(crate) fn check(value: &[u8]) -> Result<(), ChunkParseError>
-        ensures { Answers checking (λ u. u) (Tested (kind.read value.now)) result }
+        ensures { Exactly checking (λ u. u) (Tested (kind.read value.now)) result }
     {
         if value.len() < FIXED_SIZE {
             return Err(ChunkParseError::InvalidLength);
@@ -105,6 +106,11 @@ impl SerializableTlv for IncomingSsnResetRequestParameter {
 
     fn encodable(&self) -> bool {
         self.streams.len() <= (MAX_VALUE_SIZE - FIXED_SIZE) / 2
+    }
+
+    fn has_widths(&self) {
+        let _number = self.request_seq_nbr;
+        are_in_width(&self.streams);
     }
 }
 

@@ -17,7 +17,7 @@
 //! ```
 
 ghost use Rattle.std.specs.Prelude.{◌≡◌, ◌≢◌, ◌↔◌, Some, IsOk, IsErrOf, IfOk, Ok, vec_len, vec_capacity};
-ghost use Rattle.dcsctp_tlv.specs.Reading.{Answers, Exactly, reading, checking, Tested};
+ghost use Rattle.dcsctp_tlv.specs.Reading.{Exactly, reading, checking, Tested};
 ghost use Rattle.dcsctp_tlv.specs.OutgoingSsnResetRequest as kind;
 
 use crate::error::ChunkParseError;
@@ -26,6 +26,7 @@ use crate::frame::MAX_VALUE_SIZE;
 use crate::number::read_u32_be;
 use crate::parameter::raw_parameter::RawParameter;
 use crate::tlv::SerializableTlv;
+use crate::widths::{Widths, are_in_width};
 use dcsctp_types::api::StreamId;
 use dcsctp_types::types::Tsn;
 use std::alloc::{AllocError, Global};
@@ -74,7 +75,7 @@ impl OutgoingSsnResetRequestParameter {
 
     /// `InvalidLength` exactly where the value has fewer than 12 bytes or an odd number of them.
     pub(crate) fn check(value: &[u8]) -> Result<(), ChunkParseError>
-        ensures { Answers checking (λ u. u) (Tested (kind.read value.now)) result }
+        ensures { Exactly checking (λ u. u) (Tested (kind.read value.now)) result }
     {
         if value.len() < FIXED_SIZE {
             return Err(ChunkParseError::InvalidLength);
@@ -120,6 +121,13 @@ impl SerializableTlv for OutgoingSsnResetRequestParameter {
 
     fn encodable(&self) -> bool {
         self.streams.len() <= (MAX_VALUE_SIZE - FIXED_SIZE) / 2
+    }
+
+    fn has_widths(&self) {
+        let _request_seq_nbr = self.request_seq_nbr;
+        let _response_seq_nbr = self.response_seq_nbr;
+        self.sender_last_assigned_tsn.is_in_width();
+        are_in_width(&self.streams);
     }
 }
 

@@ -17,7 +17,7 @@
 //! ```
 
 ghost use Rattle.std.specs.Prelude.{◌≡◌, ◌≢◌, ◌↔◌, ◌≤◌, Some, Ok, IsOk, IsErrOf};
-ghost use Rattle.dcsctp_tlv.specs.Reading.{Answers, Exactly, reading, checking, Tested};
+ghost use Rattle.dcsctp_tlv.specs.Reading.{Exactly, reading, checking, Tested};
 ghost use Rattle.dcsctp_tlv.specs.ReconfigurationResponse as kind;
 ghost use Rattle.dcsctp_tlv.specs.ReconfigurationResponse.{result_of, result_number};
 
@@ -26,6 +26,7 @@ use crate::fields::put_parameter_fields;
 use crate::number::read_u32_be;
 use crate::parameter::raw_parameter::RawParameter;
 use crate::tlv::SerializableTlv;
+use crate::widths::tsn_is_in_width;
 use dcsctp_types::types::Tsn;
 use std::fmt;
 
@@ -124,7 +125,7 @@ impl ReconfigurationResponseParameter {
     /// `InvalidLength` exactly where the value hasn't 8 or 16 bytes; `InvalidValue` exactly where
     /// it has, and its result is above 6.
     pub(crate) fn check(value: &[u8]) -> Result<(), ChunkParseError>
-        ensures { Answers checking (λ u. u) (Tested (kind.read value.now)) result }
+        ensures { Exactly checking (λ u. u) (Tested (kind.read value.now)) result }
     {
         if value.len() != 8 && value.len() != 16 {
             return Err(ChunkParseError::InvalidLength);
@@ -184,6 +185,12 @@ impl SerializableTlv for ReconfigurationResponseParameter {
 
     fn encodable(&self) -> bool {
         true
+    }
+
+    fn has_widths(&self) {
+        let _number = self.response_seq_nbr;
+        tsn_is_in_width(self.sender_next_tsn);
+        tsn_is_in_width(self.receiver_next_tsn);
     }
 }
 

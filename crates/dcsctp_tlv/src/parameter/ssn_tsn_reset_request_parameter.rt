@@ -11,7 +11,7 @@
 //! ```
 
 ghost use Rattle.std.specs.Prelude.{◌≡◌, ◌≢◌, ◌↔◌, Some, Ok, IsOk, IsErrOf};
-ghost use Rattle.dcsctp_tlv.specs.Reading.{Answers, Exactly, reading, checking, Tested};
+ghost use Rattle.dcsctp_tlv.specs.Reading.{Exactly, reading, checking, Tested};
 ghost use Rattle.dcsctp_tlv.specs.SsnTsnResetRequest as kind;
 
 use crate::error::ChunkParseError;
@@ -53,7 +53,7 @@ impl SsnTsnResetRequestParameter {
 
     /// `InvalidLength` exactly where the value hasn't 4 bytes.
     pub(crate) fn check(value: &[u8]) -> Result<(), ChunkParseError>
-        ensures { Answers checking (λ u. u) (Tested (kind.read value.now)) result }
+        ensures { Exactly checking (λ u. u) (Tested (kind.read value.now)) result }
     {
         if value.len() != 4 {
             return Err(ChunkParseError::InvalidLength);
@@ -85,6 +85,10 @@ impl SerializableTlv for SsnTsnResetRequestParameter {
 
     fn encodable(&self) -> bool {
         true
+    }
+
+    fn has_widths(&self) {
+        let _number = self.request_seq_nbr;
     }
 }
 

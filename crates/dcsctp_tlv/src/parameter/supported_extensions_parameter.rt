@@ -20,6 +20,7 @@ use crate::frame::{MAX_VALUE_SIZE, put_parameter};
 use crate::parameter::raw_parameter::RawParameter;
 use crate::text::write_joined;
 use crate::tlv::SerializableTlv;
+use crate::widths::are_bytes;
 use std::alloc::{AllocError, Global};
 use std::fmt;
 
@@ -77,6 +78,10 @@ impl SerializableTlv for SupportedExtensionsParameter {
 
     fn encodable(&self) -> bool {
         self.chunk_types.len() <= MAX_VALUE_SIZE
+    }
+
+    fn has_widths(&self) {
+        are_bytes(&self.chunk_types);
     }
 }
 

@@ -19,6 +19,7 @@ use crate::error::ChunkParseError;
 use crate::frame::{MAX_VALUE_SIZE, put_parameter};
 use crate::parameter::raw_parameter::RawParameter;
 use crate::tlv::SerializableTlv;
+use crate::widths::are_bytes;
 use std::alloc::{AllocError, Global};
 use std::fmt;
 
@@ -78,6 +79,11 @@ impl SerializableTlv for UnknownParameter {
 
     fn encodable(&self) -> bool {
         self.value.len() <= MAX_VALUE_SIZE
+    }
+
+    fn has_widths(&self) {
+        let _number = self.typ;
+        are_bytes(&self.value);
     }
 }
 

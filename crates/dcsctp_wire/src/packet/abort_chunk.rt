@@ -10,20 +10,25 @@
 //! +-+-+-+-+-+-+-+-+-+-+-+-+-+-+-+-+-+-+-+-+-+-+-+-+-+-+-+-+-+-+-+-+
 //! ```
 
-ghost use Rattle.std.specs.Prelude.{◌≡◌, ◌≢◌, ◌↔◌, ◌≤◌, ◌+◌, ◌*◌, ℕ, [], false, length, Some, IsOk, IfOk, IfErr, IsErrOf, vec_capacity, All, vec_len};
+ghost use Rattle.std.specs.Prelude.{◌≡◌, ◌≢◌, ◌↔◌, ◌+◌, [], false, length, Some, IfOk, IsErrOf, vec_capacity, All, vec_len};
 ghost use Rattle.dcsctp_tlv.specs.Frame.{lenient};
 ghost use Rattle.dcsctp_tlv.specs.Level.{HasMeaning};
-ghost use Rattle.dcsctp_tlv.specs.Reading.{Answers, Exactly, reading, locating, RowAnswer, RowLocated};
+ghost use Rattle.dcsctp_tlv.specs.Reading.{Exactly, reading, RowAnswer};
 ghost use Rattle.dcsctp_cause.specs.Cause.{IsTight as IsTightCause};
+ghost use Rattle.dcsctp_tlv.proofs.Laws.{listed_lawful};
+ghost use Rattle.dcsctp_cause.proofs.CauseLaws.{causes_lawful};
+ghost use Rattle.dcsctp_chunk.specs.Flags.{is_set as flag_is_set};
 ghost use Rattle.dcsctp_wire.specs.Abort as kind;
 
-use dcsctp_cause::error_causes::{ErrorCause, error_cause_build};
+use dcsctp_cause::error_causes::{ErrorCause, error_cause_fill};
 use dcsctp_chunk::flags::{is_set, one_flag};
 use dcsctp_chunk::raw_chunk::RawChunk;
 use dcsctp_tlv::error::{ChunkParseError, LocatedFault};
+use dcsctp_tlv::kind::Kind;
 use dcsctp_tlv::list::{listed_encodable, listed_encoded_size, listed_size, put_listed};
 use dcsctp_tlv::reader::listed_check;
 use dcsctp_tlv::tlv::SerializableTlv;
+use dcsctp_tlv::widths::are_in_width;
 use std::alloc::{AllocError, Global};
 use std::fmt;
 
@@ -73,43 +78,35 @@ impl AbortChunk {
         }
         AbortChunk::read(alloc, raw.flags, raw.value)
     }
+}
 
-    /// Checks the value, and builds what it means.
-    fn read(alloc: Global, flags: u8, value: &[u8]) -> Result<Self, ChunkParseError>
-        ensures answer { Exactly reading kind.view
-            (RowAnswer (kind.row lenient flags) value.now) result }
-        ensures memory { IsErrOf result ChunkParseError.OutOfMemory →
-            HasMeaning (kind.row lenient flags) value.now × (value.now ≢ []) }
-        ensures reserved { IfOk result (λ c. vec_capacity c.error_causes ≡ vec_len c.error_causes) }
-        ensures tight { IfOk result (λ c. All IsTightCause c.error_causes.items) }
-    {
-        AbortChunk::check(value, false)?;
-        Ok(AbortChunk::build(alloc, flags, value)?)
+impl Kind for AbortChunk {
+    ghost kind = { kind.kind };
+
+    ghost lawful = { λ strict flags. listed_lawful _ 0 _ _ (causes_lawful strict) };
+
+    ghost view = { kind.view };
+
+    ghost is_tight = { λ c. (vec_capacity c.error_causes ≡ vec_len c.error_causes)
+        × All IsTightCause c.error_causes.items };
+
+    ghost begun = { λ flags value c. (c.tag_reflected ≡ flag_is_set flags 0)
+        × (c.error_causes.items ≡ []) × (vec_len c.error_causes ≡ 0)
+        × (vec_capacity c.error_causes ≡ 0) };
+
+    fn check(flags: u8, value: &[u8], strict: bool) -> Result<usize, LocatedFault> {
+        listed_check::<ErrorCause>(value, 0, strict)
     }
 
-    /// Counts the parts: the chunk and its causes; or returns the first fault of these from the
-    /// left, with the offset from the chunk's first byte. Does not allocate.
-    pub(crate) fn check(value: &[u8], strict: bool) -> Result<usize, LocatedFault>
-        ensures found { (flags : ℕ) → Answers locating (λ n. n)
-            (RowLocated (λ a. 1 + length a.causes) (kind.row strict flags) value.now) result }
-        ensures few { IfOk result (λ n. 4 * n ≤ 4 + length value.now) }
-        ensures within { IfErr result (λ found. found.offset ≤ 4 + length value.now) }
-    {
-        listed_check::<ErrorCause>(strict, value, 0)
-    }
-
-    /// What the value means, under these flags.
-    pub(crate) fn build(alloc: Global, flags: u8, value: &[u8]) -> Result<Self, AllocError>
-        requires { HasMeaning (kind.row lenient flags) value.now }
-        ensures meant { IfOk result (λ c. (kind.row lenient flags).means value.now (kind.view c)) }
-        ensures empty { value.now ≡ [] → IsOk result }
-        ensures reserved { IfOk result (λ c. vec_capacity c.error_causes ≡ vec_len c.error_causes) }
-        ensures tight { IfOk result (λ c. All IsTightCause c.error_causes.items) }
-    {
-        Ok(AbortChunk {
+    fn begin(alloc: Global, flags: u8, _value: &[u8]) -> Self {
+        AbortChunk {
             tag_reflected: is_set(flags, 0),
-            error_causes: error_cause_build(alloc, value)?,
-        })
+            error_causes: Vec::new(alloc),
+        }
+    }
+
+    fn fill(&mut self, alloc: Global, _flags: u8, value: &[u8]) -> Result<(), AllocError> {
+        error_cause_fill(&mut self.error_causes, alloc, value)
     }
 }
 
@@ -131,6 +128,10 @@ impl SerializableTlv for AbortChunk {
 
     fn encoded_size(&self) -> Option<usize> {
         listed_encoded_size(0, &self.error_causes)
+    }
+
+    fn has_widths(&self) {
+        are_in_width(&self.error_causes);
     }
 }
 

@@ -5,40 +5,37 @@ ghost use Rattle.dcsctp_tlv.specs.Frame.{lenient};
 ghost use Rattle.dcsctp_tlv.specs.Level.{HasMeaning, Grows};
 ghost use Rattle.dcsctp_tlv.specs.Reading.{Exactly, reading, RowAnswer};
 ghost use Rattle.dcsctp_tlv.specs.Table.{IsUnnamed};
-ghost use Rattle.dcsctp_chunk.specs.PlainKinds.{plain_kinds, plain_rows};
 ghost use Rattle.dcsctp_wire.specs.Chunk as chunk;
-ghost use Rattle.dcsctp_wire.specs.Chunk.{parts as chunk_parts, ChunkTree, chunk_row, chunks, plain_trees, TakesNoMemory, IsPlaced, text as chunk_text, view, IsInWidth, IsTight};
-ghost use Rattle.dcsctp_wire.specs.declared.packet.chunk.Chunk.TheVariants as variant;
+ghost use Rattle.dcsctp_wire.specs.Chunk.{parts as chunk_parts, ChunkTree, chunk_row, chunks, plain_rows, TakesNoMemory, IsPlaced, text as chunk_text, view, IsInWidth, IsTight};
 
 use crate::packet::abort_chunk::{self, AbortChunk};
-use crate::packet::cookie_ack_chunk::{self, CookieAckChunk};
-use crate::packet::cookie_echo_chunk::{self, CookieEchoChunk};
-use crate::packet::data_chunk::{self, DataChunk};
+use crate::packet::cookie_ack_chunk::CookieAckChunk;
+use crate::packet::cookie_echo_chunk::CookieEchoChunk;
+use crate::packet::data_chunk::DataChunk;
 use crate::packet::error_chunk::{self, ErrorChunk};
-use crate::packet::forward_tsn_chunk::{self, ForwardTsnChunk};
+use crate::packet::forward_tsn_chunk::ForwardTsnChunk;
 use crate::packet::heartbeat_ack_chunk::{self, HeartbeatAckChunk};
 use crate::packet::heartbeat_request_chunk::{self, HeartbeatRequestChunk};
-use crate::packet::idata_chunk::{self, IDataChunk};
-use crate::packet::iforward_tsn_chunk::{self, IForwardTsnChunk};
+use crate::packet::idata_chunk::IDataChunk;
+use crate::packet::iforward_tsn_chunk::IForwardTsnChunk;
 use crate::packet::init_ack_chunk::{self, InitAckChunk};
 use crate::packet::init_chunk::{self, InitChunk};
-use crate::packet::init_fields::{FIXED_SIZE, init_check, init_numbers};
-use crate::packet::parameter_list::parameter_list_check;
 use crate::packet::re_config_chunk::{self, ReConfigChunk};
-use crate::packet::sack_chunk::{self, SackChunk};
-use crate::packet::shutdown_ack_chunk::{self, ShutdownAckChunk};
-use crate::packet::shutdown_chunk::{self, ShutdownChunk};
-use crate::packet::shutdown_complete_chunk::{self, ShutdownCompleteChunk};
+use crate::packet::sack_chunk::SackChunk;
+use crate::packet::shutdown_ack_chunk::ShutdownAckChunk;
+use crate::packet::shutdown_chunk::ShutdownChunk;
+use crate::packet::shutdown_complete_chunk::ShutdownCompleteChunk;
 use crate::packet::unknown_chunk::UnknownChunk;
-use dcsctp_cause::error_causes::error_cause_fill;
-use dcsctp_chunk::flags::is_set;
+use dcsctp_chunk::plain_kinds;
 pub use dcsctp_chunk::plain_check::plain_check;
 pub use dcsctp_chunk::raw_chunk::{RawChunk, write_chunk_header};
+use dcsctp_tlv::each_arms;
 use dcsctp_tlv::error::{ChunkParseError, LocatedFault};
 use dcsctp_tlv::frame::are_zeros;
-use dcsctp_tlv::parameter::parameters_fill;
+use dcsctp_tlv::kind::Kind;
 use dcsctp_tlv::reader::ReadableTlv;
 use dcsctp_tlv::tlv::SerializableTlv;
+use dcsctp_tlv::widths::Widths;
 use std::alloc::{AllocError, Global};
 use std::fmt;
 
@@ -83,67 +80,95 @@ pub enum Chunk {
     Unknown(UnknownChunk),
 }
 
-/// The same of every kind.
-macro_rules! each_kind {
-    ($chunk:expr, $kind:ident => $does:expr) => {
-        match $chunk {
-            Chunk::Data($kind) => $does,
-            Chunk::Init($kind) => $does,
-            Chunk::InitAck($kind) => $does,
-            Chunk::Sack($kind) => $does,
-            Chunk::HeartbeatRequest($kind) => $does,
-            Chunk::HeartbeatAck($kind) => $does,
-            Chunk::Abort($kind) => $does,
-            Chunk::Shutdown($kind) => $does,
-            Chunk::ShutdownAck($kind) => $does,
-            Chunk::Error($kind) => $does,
-            Chunk::CookieEcho($kind) => $does,
-            Chunk::CookieAck($kind) => $does,
-            Chunk::ShutdownComplete($kind) => $does,
-            Chunk::IData($kind) => $does,
-            Chunk::ReConfig($kind) => $does,
-            Chunk::ForwardTsn($kind) => $does,
-            Chunk::IForwardTsn($kind) => $does,
-            Chunk::Unknown($kind) => $does,
+/// The kinds, for a macro that has an arm for each: those without a list, and those with one.
+macro_rules! kinds {
+    ($arms:ident, $($args:tt)*) => {
+        plain_kinds! { with_lists, $arms, $($args)* }
+    };
+}
+
+/// The kinds with a list, after those without.
+macro_rules! with_lists {
+    ([$arms:ident, $($args:tt)*] $($plain:tt)*) => {
+        $arms! {
+            [$($args)*]
+            $($plain)*
+            {
+                init_chunk::CHUNK_TYPE, Init, InitChunk;
+                init_ack_chunk::CHUNK_TYPE, InitAck, InitAckChunk;
+                heartbeat_request_chunk::CHUNK_TYPE, HeartbeatRequest, HeartbeatRequestChunk;
+                heartbeat_ack_chunk::CHUNK_TYPE, HeartbeatAck, HeartbeatAckChunk;
+                abort_chunk::CHUNK_TYPE, Abort, AbortChunk;
+                error_chunk::CHUNK_TYPE, Error, ErrorChunk;
+                re_config_chunk::CHUNK_TYPE, ReConfig, ReConfigChunk;
+            }
         }
     };
 }
 
-/// For each plain kind an arm that builds a chunk and does something with it; the other types have
-/// the arms that follow.
-macro_rules! kind_arms {
+/// The type of every kind; an `Unknown` chunk has its own.
+macro_rules! type_arms {
+    ([$chunk:expr] $({ $($typ:path, $variant:ident, $kind:path;)* })*) => {
+        match $chunk {
+            $($(Chunk::$variant(_) => $typ,)*)*
+            Chunk::Unknown(unknown) => unknown.typ,
+        }
+    };
+}
+
+/// The check of every kind with a list; the other types have the arms that follow.
+macro_rules! listed_check_arms {
     (
-        $typ:expr, $chunk:ident => $does:expr,
-        { $($kind:ident => $built:expr,)* }, { $($other:tt)* }
+        [$typ:expr, $flags:expr, $value:expr, $strict:expr, $($other:tt)*]
+        { $($fixed:tt)* } { $($copied:tt)* } { $($listed_type:path, $variant:ident, $listed:path;)* }
     ) => {
         match $typ {
-            $($kind::CHUNK_TYPE => {
-                let $chunk = $built;
-                $does
-            })*
+            $($listed_type => <$listed>::check($flags, $value, $strict),)*
             $($other)*
         }
     };
 }
 
-/// These arms, with what a value of each plain type means.
-macro_rules! built {
+/// Builds what the value of each kind means, and does something with it; the other types have the
+/// arms that follow.
+macro_rules! build_arms {
     (
-        $typ:expr, $alloc:expr, $flags:expr, $value:expr,
-        $chunk:ident => $does:expr, { $($other:tt)* }
+        [$typ:expr, $alloc:expr, $flags:expr, $value:expr, $chunk:ident => $does:expr, { $($other:tt)* }]
+        { $($fixed_type:path, $fixed_variant:ident, $fixed:path;)* }
+        $({ $($copied_type:path, $copied_variant:ident, $copied:path;)* })*
     ) => {
-        kind_arms!($typ, $chunk => $does, {
-            data_chunk => Chunk::Data(DataChunk::build($alloc, $flags, $value)?),
-            sack_chunk => Chunk::Sack(SackChunk::build($alloc, $value)?),
-            shutdown_chunk => Chunk::Shutdown(ShutdownChunk::build($value)),
-            shutdown_ack_chunk => Chunk::ShutdownAck(ShutdownAckChunk),
-            cookie_echo_chunk => Chunk::CookieEcho(CookieEchoChunk::build($alloc, $value)?),
-            cookie_ack_chunk => Chunk::CookieAck(CookieAckChunk),
-            shutdown_complete_chunk => Chunk::ShutdownComplete(ShutdownCompleteChunk::build($flags)),
-            idata_chunk => Chunk::IData(IDataChunk::build($alloc, $flags, $value)?),
-            forward_tsn_chunk => Chunk::ForwardTsn(ForwardTsnChunk::build($alloc, $value)?),
-            iforward_tsn_chunk => Chunk::IForwardTsn(IForwardTsnChunk::build($alloc, $value)?),
-        }, { $($other)* })
+        match $typ {
+            $($fixed_type => {
+                let $chunk = Chunk::$fixed_variant(<$fixed>::build($flags, $value));
+                $does
+            })*
+            $($($copied_type => {
+                let $chunk = Chunk::$copied_variant(<$copied>::build($alloc, $flags, $value)?);
+                $does
+            })*)*
+            $($other)*
+        }
+    };
+}
+
+/// Pushes a chunk of a kind with a list, and fills the list where it lies, so that neither it nor
+/// the chunk is moved; the other types have the arms that follow.
+macro_rules! fill_arms {
+    (
+        [$list:expr, $typ:expr, $alloc:expr, $flags:expr, $value:expr, $($other:tt)*]
+        { $($fixed:tt)* } { $($copied:tt)* } { $($listed_type:path, $variant:ident, $listed:path;)* }
+    ) => {
+        match $typ {
+            $($listed_type => {
+                let last = $list.len();
+                $list.push_reserved(Chunk::$variant(<$listed>::begin($alloc, $flags, $value)));
+                if let Chunk::$variant(chunk) = &mut $list[last] {
+                    chunk.fill($alloc, $flags, $value)?;
+                }
+                Ok(())
+            })*
+            $($other)*
+        }
     };
 }
 
@@ -171,26 +196,7 @@ impl Chunk {
     pub fn chunk_type(&self) -> u8
         ensures { result ≡ (chunk.tlv (view self.now)).first }
     {
-        match self {
-            Chunk::Data(_) => data_chunk::CHUNK_TYPE,
-            Chunk::Init(_) => init_chunk::CHUNK_TYPE,
-            Chunk::InitAck(_) => init_ack_chunk::CHUNK_TYPE,
-            Chunk::Sack(_) => sack_chunk::CHUNK_TYPE,
-            Chunk::HeartbeatRequest(_) => heartbeat_request_chunk::CHUNK_TYPE,
-            Chunk::HeartbeatAck(_) => heartbeat_ack_chunk::CHUNK_TYPE,
-            Chunk::Abort(_) => abort_chunk::CHUNK_TYPE,
-            Chunk::Shutdown(_) => shutdown_chunk::CHUNK_TYPE,
-            Chunk::ShutdownAck(_) => shutdown_ack_chunk::CHUNK_TYPE,
-            Chunk::Error(_) => error_chunk::CHUNK_TYPE,
-            Chunk::CookieEcho(_) => cookie_echo_chunk::CHUNK_TYPE,
-            Chunk::CookieAck(_) => cookie_ack_chunk::CHUNK_TYPE,
-            Chunk::ShutdownComplete(_) => shutdown_complete_chunk::CHUNK_TYPE,
-            Chunk::IData(_) => idata_chunk::CHUNK_TYPE,
-            Chunk::ReConfig(_) => re_config_chunk::CHUNK_TYPE,
-            Chunk::ForwardTsn(_) => forward_tsn_chunk::CHUNK_TYPE,
-            Chunk::IForwardTsn(_) => iforward_tsn_chunk::CHUNK_TYPE,
-            Chunk::Unknown(unknown) => unknown.typ,
-        }
+        kinds!(type_arms, self)
     }
 
     /// Checks a chunk's value, and builds what it means.
@@ -202,7 +208,7 @@ impl Chunk {
             × ¬ TakesNoMemory typ value.now }
         ensures tight { IfOk result IsTight }
     {
-        Chunk::check(false, typ, flags, value)?;
+        Chunk::check(typ, flags, value, false)?;
         Ok(Chunk::build(alloc, typ, flags, value)?)
     }
 
@@ -213,24 +219,12 @@ impl Chunk {
         ensures heap { TakesNoMemory typ value.now → IsOk result }
         ensures tight { IfOk result IsTight }
     {
-        built!(typ, alloc, flags, value, chunk => Ok(chunk), {
-            init_chunk::CHUNK_TYPE => Ok(Chunk::Init(InitChunk::build(alloc, value)?)),
-            init_ack_chunk::CHUNK_TYPE => Ok(Chunk::InitAck(InitAckChunk::build(alloc, value)?)),
-            heartbeat_request_chunk::CHUNK_TYPE => {
-                Ok(Chunk::HeartbeatRequest(HeartbeatRequestChunk::build(alloc, value)?))
-            }
-            heartbeat_ack_chunk::CHUNK_TYPE => {
-                Ok(Chunk::HeartbeatAck(HeartbeatAckChunk::build(alloc, value)?))
-            }
-            abort_chunk::CHUNK_TYPE => Ok(Chunk::Abort(AbortChunk::build(alloc, flags, value)?)),
-            error_chunk::CHUNK_TYPE => Ok(Chunk::Error(ErrorChunk::build(alloc, value)?)),
-            re_config_chunk::CHUNK_TYPE => Ok(Chunk::ReConfig(ReConfigChunk::build(alloc, value)?)),
+        kinds!(build_arms, typ, alloc, flags, value, chunk => Ok(chunk), {
             _ => Ok(Chunk::Unknown(UnknownChunk::build(alloc, typ, flags, value)?)),
         })
     }
 
-    /// Does what `read_onto` does for a kind with a list, and for a type without a kind. The list
-    /// is filled where the chunk lies, so that neither it nor the chunk is moved.
+    /// Does what `read_onto` does for a kind with a list, and for a type without a kind.
     #[tactic(auto, using(crate::proofs::Filled::filled))]
     fn other_onto(
         list: &mut Vec<Self>,
@@ -239,7 +233,7 @@ impl Chunk {
         second: u8,
         value: &[u8],
     ) -> Result<(), AllocError>
-        requires other { IsUnnamed (plain_rows (plain_kinds second) (plain_trees second)) first }
+        requires other { IsUnnamed (plain_rows second) first }
         requires meant { HasMeaning (chunk_row lenient first second) value.now }
         requires room { vec_len list.old < vec_capacity list.old }
         ensures grows { IfOk result (λ _. Grows view IsTight
@@ -247,77 +241,14 @@ impl Chunk {
         ensures len { IfOk result (λ _. vec_len list.new ≡ vec_len list.old + 1) }
         ensures capacity { IfOk result (λ _. vec_capacity list.new ≡ vec_capacity list.old) }
     {
-        let last = list.len();
-        match first {
-            init_chunk::CHUNK_TYPE => {
-                list.push_reserved(Chunk::Init(InitChunk::of_fields(init_numbers(alloc, value))));
-                if let Chunk::Init(chunk) = &mut list[last] {
-                    parameters_fill(&mut chunk.parameters, alloc, &value[FIXED_SIZE..])?;
-                }
-                Ok(())
-            }
-            init_ack_chunk::CHUNK_TYPE => {
-                list.push_reserved(Chunk::InitAck(InitAckChunk::of_fields(init_numbers(
-                    alloc, value,
-                ))));
-                if let Chunk::InitAck(chunk) = &mut list[last] {
-                    parameters_fill(&mut chunk.parameters, alloc, &value[FIXED_SIZE..])?;
-                }
-                Ok(())
-            }
-            heartbeat_request_chunk::CHUNK_TYPE => {
-                list.push_reserved(Chunk::HeartbeatRequest(HeartbeatRequestChunk {
-                    parameters: Vec::new(alloc),
-                }));
-                if let Chunk::HeartbeatRequest(chunk) = &mut list[last] {
-                    parameters_fill(&mut chunk.parameters, alloc, value)?;
-                }
-                Ok(())
-            }
-            heartbeat_ack_chunk::CHUNK_TYPE => {
-                list.push_reserved(Chunk::HeartbeatAck(HeartbeatAckChunk {
-                    parameters: Vec::new(alloc),
-                }));
-                if let Chunk::HeartbeatAck(chunk) = &mut list[last] {
-                    parameters_fill(&mut chunk.parameters, alloc, value)?;
-                }
-                Ok(())
-            }
-            abort_chunk::CHUNK_TYPE => {
-                list.push_reserved(Chunk::Abort(AbortChunk {
-                    tag_reflected: is_set(second, 0),
-                    error_causes: Vec::new(alloc),
-                }));
-                if let Chunk::Abort(chunk) = &mut list[last] {
-                    error_cause_fill(&mut chunk.error_causes, alloc, value)?;
-                }
-                Ok(())
-            }
-            error_chunk::CHUNK_TYPE => {
-                list.push_reserved(Chunk::Error(ErrorChunk {
-                    error_causes: Vec::new(alloc),
-                }));
-                if let Chunk::Error(chunk) = &mut list[last] {
-                    error_cause_fill(&mut chunk.error_causes, alloc, value)?;
-                }
-                Ok(())
-            }
-            re_config_chunk::CHUNK_TYPE => {
-                list.push_reserved(Chunk::ReConfig(ReConfigChunk {
-                    parameters: Vec::new(alloc),
-                }));
-                if let Chunk::ReConfig(chunk) = &mut list[last] {
-                    parameters_fill(&mut chunk.parameters, alloc, value)?;
-                }
-                Ok(())
-            }
+        kinds!(fill_arms, list, first, alloc, second, value,
             _ => {
                 list.push_reserved(Chunk::Unknown(UnknownChunk::build(
                     alloc, first, second, value,
                 )?));
                 Ok(())
             }
-        }
+        )
     }
 }
 
@@ -325,7 +256,21 @@ impl Chunk {
 /// their types. A proof-only function: calling it costs nothing.
 pub fn chunk_has_widths(chunk: &Chunk)
     ensures { IsInWidth (view chunk.now) }
-{}
+{
+    chunk.has_widths();
+}
+
+impl Widths for Chunk {
+    ghost Tree = { ChunkTree };
+
+    ghost view = { view };
+
+    ghost fits = { IsInWidth };
+
+    fn is_in_width(&self) {
+        self.has_widths();
+    }
+}
 
 impl ReadableTlv for Chunk {
     ghost Tree = { ChunkTree };
@@ -338,15 +283,8 @@ impl ReadableTlv for Chunk {
 
     ghost parts = { chunk_parts };
 
-    fn check(strict: bool, first: u8, second: u8, value: &[u8]) -> Result<usize, LocatedFault> {
-        match first {
-            init_chunk::CHUNK_TYPE => init_check(value, strict),
-            init_ack_chunk::CHUNK_TYPE => init_check(value, strict),
-            heartbeat_request_chunk::CHUNK_TYPE => parameter_list_check(value, strict),
-            heartbeat_ack_chunk::CHUNK_TYPE => parameter_list_check(value, strict),
-            abort_chunk::CHUNK_TYPE => AbortChunk::check(value, strict),
-            error_chunk::CHUNK_TYPE => ErrorChunk::check(value, strict),
-            re_config_chunk::CHUNK_TYPE => parameter_list_check(value, strict),
+    fn check(first: u8, second: u8, value: &[u8], strict: bool) -> Result<usize, LocatedFault> {
+        kinds!(listed_check_arms, first, second, value, strict,
             _ => match plain_check(RawChunk {
                 typ: first,
                 flags: second,
@@ -355,7 +293,7 @@ impl ReadableTlv for Chunk {
                 Ok(()) => Ok(1),
                 Err(fault) => Err(LocatedFault::at_front(fault)),
             },
-        }
+        )
     }
 
     fn read_onto(
@@ -365,7 +303,7 @@ impl ReadableTlv for Chunk {
         second: u8,
         value: &[u8],
     ) -> Result<(), AllocError> {
-        built!(first, alloc, second, value, chunk => {
+        plain_kinds!(build_arms, first, alloc, second, value, chunk => {
             list.push_reserved(chunk);
             Ok(())
         }, {
@@ -373,7 +311,7 @@ impl ReadableTlv for Chunk {
         })
     }
 
-    fn accepts_padding(strict: bool, size: usize, there: &[u8]) -> bool {
+    fn accepts_padding(size: usize, there: &[u8], strict: bool) -> bool {
         !strict || (there.len() == size && are_zeros(there))
     }
 }
@@ -387,19 +325,23 @@ impl SerializableTlv for Chunk {
     // Not inlined into the loop over a list, which would compute the places of every kind ahead.
     #[inline(never)]
     fn serialize_to(&self, output: &mut [u8]) {
-        each_kind!(self, c => c.serialize_to(output))
+        kinds!(each_arms, Chunk, self, c => c.serialize_to(output))
     }
 
     fn value_size(&self) -> usize {
-        each_kind!(self, c => c.value_size())
+        kinds!(each_arms, Chunk, self, c => c.value_size())
     }
 
     fn encodable(&self) -> bool {
-        each_kind!(self, c => c.encodable())
+        kinds!(each_arms, Chunk, self, c => c.encodable())
     }
 
     fn encoded_size(&self) -> Option<usize> {
-        each_kind!(self, c => c.encoded_size())
+        kinds!(each_arms, Chunk, self, c => c.encoded_size())
+    }
+
+    fn has_widths(&self) {
+        kinds!(each_arms, Chunk, self, c => c.has_widths())
     }
 }
 
@@ -407,168 +349,6 @@ impl fmt::Display for Chunk {
     ghost output = { λ c. Some (chunk_text (view c)) };
 
     fn fmt<W: fmt::Write>(&self, f: &mut fmt::Formatter<W>) -> fmt::Result {
-        each_kind!(self, c => c.fmt(f))
-    }
-}
-
-/// The chunk of this kind, with this value.
-impl From<DataChunk> for Chunk {
-    ghost from_gives = { λ kind chunk. chunk ≡ variant.Data kind };
-
-    fn from(kind: DataChunk) -> Chunk {
-        Chunk::Data(kind)
-    }
-}
-
-/// The chunk of this kind, with this value.
-impl From<InitChunk> for Chunk {
-    ghost from_gives = { λ kind chunk. chunk ≡ variant.Init kind };
-
-    fn from(kind: InitChunk) -> Chunk {
-        Chunk::Init(kind)
-    }
-}
-
-/// The chunk of this kind, with this value.
-impl From<InitAckChunk> for Chunk {
-    ghost from_gives = { λ kind chunk. chunk ≡ variant.InitAck kind };
-
-    fn from(kind: InitAckChunk) -> Chunk {
-        Chunk::InitAck(kind)
-    }
-}
-
-/// The chunk of this kind, with this value.
-impl From<SackChunk> for Chunk {
-    ghost from_gives = { λ kind chunk. chunk ≡ variant.Sack kind };
-
-    fn from(kind: SackChunk) -> Chunk {
-        Chunk::Sack(kind)
-    }
-}
-
-/// The chunk of this kind, with this value.
-impl From<HeartbeatRequestChunk> for Chunk {
-    ghost from_gives = { λ kind chunk. chunk ≡ variant.HeartbeatRequest kind };
-
-    fn from(kind: HeartbeatRequestChunk) -> Chunk {
-        Chunk::HeartbeatRequest(kind)
-    }
-}
-
-/// The chunk of this kind, with this value.
-impl From<HeartbeatAckChunk> for Chunk {
-    ghost from_gives = { λ kind chunk. chunk ≡ variant.HeartbeatAck kind };
-
-    fn from(kind: HeartbeatAckChunk) -> Chunk {
-        Chunk::HeartbeatAck(kind)
-    }
-}
-
-/// The chunk of this kind, with this value.
-impl From<AbortChunk> for Chunk {
-    ghost from_gives = { λ kind chunk. chunk ≡ variant.Abort kind };
-
-    fn from(kind: AbortChunk) -> Chunk {
-        Chunk::Abort(kind)
-    }
-}
-
-/// The chunk of this kind, with this value.
-impl From<ShutdownChunk> for Chunk {
-    ghost from_gives = { λ kind chunk. chunk ≡ variant.Shutdown kind };
-
-    fn from(kind: ShutdownChunk) -> Chunk {
-        Chunk::Shutdown(kind)
-    }
-}
-
-/// The chunk of this kind, with this value.
-impl From<ShutdownAckChunk> for Chunk {
-    ghost from_gives = { λ kind chunk. chunk ≡ variant.ShutdownAck kind };
-
-    fn from(kind: ShutdownAckChunk) -> Chunk {
-        Chunk::ShutdownAck(kind)
-    }
-}
-
-/// The chunk of this kind, with this value.
-impl From<ErrorChunk> for Chunk {
-    ghost from_gives = { λ kind chunk. chunk ≡ variant.Error kind };
-
-    fn from(kind: ErrorChunk) -> Chunk {
-        Chunk::Error(kind)
-    }
-}
-
-/// The chunk of this kind, with this value.
-impl From<CookieEchoChunk> for Chunk {
-    ghost from_gives = { λ kind chunk. chunk ≡ variant.CookieEcho kind };
-
-    fn from(kind: CookieEchoChunk) -> Chunk {
-        Chunk::CookieEcho(kind)
-    }
-}
-
-/// The chunk of this kind, with this value.
-impl From<CookieAckChunk> for Chunk {
-    ghost from_gives = { λ kind chunk. chunk ≡ variant.CookieAck kind };
-
-    fn from(kind: CookieAckChunk) -> Chunk {
-        Chunk::CookieAck(kind)
-    }
-}
-
-/// The chunk of this kind, with this value.
-impl From<ShutdownCompleteChunk> for Chunk {
-    ghost from_gives = { λ kind chunk. chunk ≡ variant.ShutdownComplete kind };
-
-    fn from(kind: ShutdownCompleteChunk) -> Chunk {
-        Chunk::ShutdownComplete(kind)
-    }
-}
-
-/// The chunk of this kind, with this value.
-impl From<IDataChunk> for Chunk {
-    ghost from_gives = { λ kind chunk. chunk ≡ variant.IData kind };
-
-    fn from(kind: IDataChunk) -> Chunk {
-        Chunk::IData(kind)
-    }
-}
-
-/// The chunk of this kind, with this value.
-impl From<ReConfigChunk> for Chunk {
-    ghost from_gives = { λ kind chunk. chunk ≡ variant.ReConfig kind };
-
-    fn from(kind: ReConfigChunk) -> Chunk {
-        Chunk::ReConfig(kind)
-    }
-}
-
-/// The chunk of this kind, with this value.
-impl From<ForwardTsnChunk> for Chunk {
-    ghost from_gives = { λ kind chunk. chunk ≡ variant.ForwardTsn kind };
-
-    fn from(kind: ForwardTsnChunk) -> Chunk {
-        Chunk::ForwardTsn(kind)
-    }
-}
-
-/// The chunk of this kind, with this value.
-impl From<IForwardTsnChunk> for Chunk {
-    ghost from_gives = { λ kind chunk. chunk ≡ variant.IForwardTsn kind };
-
-    fn from(kind: IForwardTsnChunk) -> Chunk {
-        Chunk::IForwardTsn(kind)
-    }
-}
-
-/// The chunk of this kind, with this value.
-impl From<UnknownChunk> for Chunk {
-    ghost from_gives = { λ kind chunk. chunk ≡ variant.Unknown kind };
-
-    fn from(kind: UnknownChunk) -> Chunk {
-        Chunk::Unknown(kind)
+        kinds!(each_arms, Chunk, self, c => c.fmt(f))
     }
 }

@@ -10,19 +10,24 @@
 //! +-+-+-+-+-+-+-+-+-+-+-+-+-+-+-+-+-+-+-+-+-+-+-+-+-+-+-+-+-+-+-+-+
 //! ```
 
-ghost use Rattle.std.specs.Prelude.{◌≡◌, ◌≢◌, ◌↔◌, ◌≤◌, ◌+◌, ◌*◌, [], length, Some, IfOk, IfErr, IsErrOf, vec_capacity, All, vec_len};
+ghost use Rattle.std.specs.Prelude.{◌≡◌, ◌≢◌, ◌↔◌, ◌+◌, List, [], length, Some, IfOk, IsErrOf, vec_capacity, All, vec_len};
 ghost use Rattle.dcsctp_tlv.specs.Frame.{lenient};
 ghost use Rattle.dcsctp_tlv.specs.Level.{HasMeaning};
-ghost use Rattle.dcsctp_tlv.specs.Reading.{Answers, Exactly, reading, locating, RowAnswer, RowLocated};
+ghost use Rattle.dcsctp_tlv.specs.Reading.{Exactly, reading, RowAnswer};
 ghost use Rattle.dcsctp_cause.specs.Cause.{IsTight as IsTightCause};
+ghost use Rattle.dcsctp_tlv.proofs.Laws.{listed_lawful};
+ghost use Rattle.dcsctp_cause.proofs.CauseLaws.{causes_lawful};
+ghost use Rattle.dcsctp_cause.specs.Cause as cause;
 ghost use Rattle.dcsctp_wire.specs.Error as kind;
 
-use dcsctp_cause::error_causes::{ErrorCause, error_cause_build};
+use dcsctp_cause::error_causes::{ErrorCause, error_cause_fill};
 use dcsctp_chunk::raw_chunk::RawChunk;
 use dcsctp_tlv::error::{ChunkParseError, LocatedFault};
+use dcsctp_tlv::kind::Kind;
 use dcsctp_tlv::list::{listed_encodable, listed_encoded_size, listed_size, put_listed};
 use dcsctp_tlv::reader::listed_check;
 use dcsctp_tlv::tlv::SerializableTlv;
+use dcsctp_tlv::widths::are_in_width;
 use std::alloc::{AllocError, Global};
 use std::fmt;
 
@@ -68,48 +73,39 @@ impl ErrorChunk {
         if raw.typ != CHUNK_TYPE {
             return Err(ChunkParseError::InvalidType);
         }
-        ErrorChunk::read(alloc, raw.value)
+        ErrorChunk::read(alloc, raw.flags, raw.value)
     }
+}
 
-    /// Checks the value, and builds what it means.
-    fn read(alloc: Global, value: &[u8]) -> Result<Self, ChunkParseError>
-        ensures answer { Exactly reading kind.view (RowAnswer (kind.row lenient) value.now) result }
-        ensures memory { IsErrOf result ChunkParseError.OutOfMemory →
-            HasMeaning (kind.row lenient) value.now }
-        ensures reserved { IfOk result (λ c. vec_capacity c.error_causes ≡ vec_len c.error_causes) }
-        ensures tight { IfOk result (λ c. All IsTightCause c.error_causes.items) }
-    {
-        ErrorChunk::check(value, false)?;
-        Ok(ErrorChunk::build(alloc, value)?)
-    }
+impl Kind for ErrorChunk {
+    ghost kind = { kind.kind };
 
-    /// Counts the parts: the chunk and its causes. `InvalidLength` where there are no causes; else
-    /// the first fault of these from the left. Does not allocate.
-    ///
-    /// A fault's offset counts from the chunk's first byte; it is 0 where there are no causes.
-    pub(crate) fn check(value: &[u8], strict: bool) -> Result<usize, LocatedFault>
-        ensures found { Answers locating (λ n. n)
-            (RowLocated (λ cs. 1 + length cs) (kind.row strict) value.now) result }
-        ensures few { IfOk result (λ n. 4 * n ≤ 4 + length value.now) }
-        ensures within { IfErr result (λ found. found.offset ≤ 4 + length value.now) }
-    {
+    ghost lawful = { λ strict flags. listed_lawful _ 0 _ _ (causes_lawful strict) };
+
+    ghost view = { kind.view };
+
+    ghost is_tight = { λ c. (vec_capacity c.error_causes ≡ vec_len c.error_causes)
+        × All IsTightCause c.error_causes.items };
+
+    ghost begun = { λ flags value c. (c.error_causes.items ≡ [])
+        × (vec_len c.error_causes ≡ 0) × (vec_capacity c.error_causes ≡ 0) };
+
+    fn check(_flags: u8, value: &[u8], strict: bool) -> Result<usize, LocatedFault> {
         let lacks_causes = value.is_empty();
         if lacks_causes {
             return Err(LocatedFault::at_front(ChunkParseError::InvalidLength));
         }
-        listed_check::<ErrorCause>(strict, value, 0)
+        listed_check::<ErrorCause>(value, 0, strict)
     }
 
-    /// What the value means.
-    pub(crate) fn build(alloc: Global, value: &[u8]) -> Result<Self, AllocError>
-        requires { HasMeaning (kind.row lenient) value.now }
-        ensures meant { IfOk result (λ c. (kind.row lenient).means value.now (kind.view c)) }
-        ensures reserved { IfOk result (λ c. vec_capacity c.error_causes ≡ vec_len c.error_causes) }
-        ensures tight { IfOk result (λ c. All IsTightCause c.error_causes.items) }
-    {
-        Ok(ErrorChunk {
-            error_causes: error_cause_build(alloc, value)?,
-        })
+    fn begin(alloc: Global, _flags: u8, _value: &[u8]) -> Self {
+        ErrorChunk {
+            error_causes: Vec::new(alloc),
+        }
+    }
+
+    fn fill(&mut self, alloc: Global, _flags: u8, value: &[u8]) -> Result<(), AllocError> {
+        error_cause_fill(&mut self.error_causes, alloc, value)
     }
 }
 
@@ -130,6 +126,10 @@ impl SerializableTlv for ErrorChunk {
 
     fn encoded_size(&self) -> Option<usize> {
         listed_encoded_size(0, &self.error_causes)
+    }
+
+    fn has_widths(&self) {
+        are_in_width(&self.error_causes);
     }
 }
 

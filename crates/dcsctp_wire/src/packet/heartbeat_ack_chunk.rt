@@ -10,20 +10,25 @@
 //! +-+-+-+-+-+-+-+-+-+-+-+-+-+-+-+-+-+-+-+-+-+-+-+-+-+-+-+-+-+-+-+-+
 //! ```
 
-ghost use Rattle.std.specs.Prelude.{◌≡◌, ◌≢◌, ◌↔◌, [], Some, IsOk, IfOk, IsErrOf, vec_capacity, All, vec_len};
+ghost use Rattle.std.specs.Prelude.{◌≡◌, ◌≢◌, ◌↔◌, ◌+◌, List, [], length, Some, IfOk, IsErrOf, vec_capacity, All, vec_len};
 ghost use Rattle.dcsctp_tlv.specs.Frame.{lenient};
 ghost use Rattle.dcsctp_tlv.specs.Level.{HasMeaning};
 ghost use Rattle.dcsctp_tlv.specs.Reading.{Exactly, reading, RowAnswer};
 ghost use Rattle.dcsctp_tlv.specs.Parameter.{IsTight as IsTightParameter};
+ghost use Rattle.dcsctp_tlv.proofs.Laws.{listed_lawful};
+ghost use Rattle.dcsctp_tlv.proofs.ParameterLaws.{parameters_lawful};
+ghost use Rattle.dcsctp_tlv.specs.Parameter as parameter;
 ghost use Rattle.dcsctp_wire.specs.HeartbeatAck as kind;
 ghost use Rattle.dcsctp_wire.specs.ParameterList as parameter_list;
 
 use crate::packet::parameter_list::parameter_list_check;
 use dcsctp_chunk::raw_chunk::RawChunk;
-use dcsctp_tlv::error::ChunkParseError;
+use dcsctp_tlv::error::{ChunkParseError, LocatedFault};
+use dcsctp_tlv::kind::Kind;
 use dcsctp_tlv::list::{listed_encodable, listed_encoded_size, listed_size, put_listed};
-use dcsctp_tlv::parameter::{Parameter, parameters_build};
+use dcsctp_tlv::parameter::{Parameter, parameters_fill};
 use dcsctp_tlv::tlv::SerializableTlv;
+use dcsctp_tlv::widths::are_in_width;
 use std::alloc::{AllocError, Global};
 use std::fmt;
 
@@ -69,34 +74,33 @@ impl HeartbeatAckChunk {
         if raw.typ != CHUNK_TYPE {
             return Err(ChunkParseError::InvalidType);
         }
-        HeartbeatAckChunk::read(alloc, raw.value)
+        HeartbeatAckChunk::read(alloc, raw.flags, raw.value)
+    }
+}
+
+impl Kind for HeartbeatAckChunk {
+    ghost kind = { kind.kind };
+
+    ghost lawful = { λ strict flags. listed_lawful _ 0 _ _ (parameters_lawful strict) };
+
+    ghost view = { kind.view };
+
+    ghost is_tight = { λ c. (vec_capacity c.parameters ≡ vec_len c.parameters)
+        × All IsTightParameter c.parameters.items };
+
+    ghost begun = { λ flags value c. (c.parameters.items ≡ [])
+        × (vec_len c.parameters ≡ 0) × (vec_capacity c.parameters ≡ 0) };
+
+    fn check(_flags: u8, value: &[u8], strict: bool) -> Result<usize, LocatedFault> {
+        parameter_list_check(value, strict)
     }
 
-    /// Checks the value, and builds what it means.
-    fn read(alloc: Global, value: &[u8]) -> Result<Self, ChunkParseError>
-        ensures answer { Exactly reading kind.view
-            (RowAnswer (parameter_list.row lenient) value.now) result }
-        ensures memory { IsErrOf result ChunkParseError.OutOfMemory →
-            HasMeaning (parameter_list.row lenient) value.now × (value.now ≢ []) }
-        ensures reserved { IfOk result (λ c. vec_capacity c.parameters ≡ vec_len c.parameters) }
-        ensures tight { IfOk result (λ c. All IsTightParameter c.parameters.items) }
-    {
-        parameter_list_check(value, false)?;
-        Ok(HeartbeatAckChunk::build(alloc, value)?)
+    fn begin(alloc: Global, _flags: u8, _value: &[u8]) -> Self {
+        HeartbeatAckChunk::new(alloc)
     }
 
-    /// What the value means.
-    pub(crate) fn build(alloc: Global, value: &[u8]) -> Result<Self, AllocError>
-        requires { HasMeaning (parameter_list.row lenient) value.now }
-        ensures meant { IfOk result (λ c. (parameter_list.row lenient).means value.now
-            (kind.view c)) }
-        ensures empty { value.now ≡ [] → IsOk result }
-        ensures reserved { IfOk result (λ c. vec_capacity c.parameters ≡ vec_len c.parameters) }
-        ensures tight { IfOk result (λ c. All IsTightParameter c.parameters.items) }
-    {
-        Ok(HeartbeatAckChunk {
-            parameters: parameters_build(alloc, value)?,
-        })
+    fn fill(&mut self, alloc: Global, _flags: u8, value: &[u8]) -> Result<(), AllocError> {
+        parameters_fill(&mut self.parameters, alloc, value)
     }
 }
 
@@ -117,6 +121,10 @@ impl SerializableTlv for HeartbeatAckChunk {
 
     fn encoded_size(&self) -> Option<usize> {
         listed_encoded_size(0, &self.parameters)
+    }
+
+    fn has_widths(&self) {
+        are_in_width(&self.parameters);
     }
 }
 

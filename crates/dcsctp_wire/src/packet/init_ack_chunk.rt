@@ -18,20 +18,24 @@
 //! +-+-+-+-+-+-+-+-+-+-+-+-+-+-+-+-+-+-+-+-+-+-+-+-+-+-+-+-+-+-+-+-+
 //! ```
 
-ghost use Rattle.std.specs.Prelude.{◌≡◌, ◌≢◌, ◌↔◌, [], drop, Some, IsOk, IfOk, IsErrOf, All, vec_len, vec_capacity};
+ghost use Rattle.std.specs.Prelude.{◌≡◌, ◌≢◌, ◌↔◌, [], drop, Some, IfOk, IsErrOf, vec_capacity, All, vec_len};
 ghost use Rattle.dcsctp_tlv.specs.Frame.{lenient};
 ghost use Rattle.dcsctp_tlv.specs.Level.{HasMeaning};
 ghost use Rattle.dcsctp_tlv.specs.Reading.{Exactly, reading, RowAnswer};
 ghost use Rattle.dcsctp_tlv.specs.Parameter.{IsTight as IsTightParameter};
+ghost use Rattle.dcsctp_tlv.proofs.Laws.{listed_lawful};
+ghost use Rattle.dcsctp_tlv.proofs.ParameterLaws.{parameters_lawful};
 ghost use Rattle.dcsctp_wire.specs.InitAck as kind;
 ghost use Rattle.dcsctp_wire.specs.InitFields as init_fields;
 
-use crate::packet::init_fields::{FIXED_SIZE, InitFields, init_build, init_bytes, init_check};
+use crate::packet::init_fields::{FIXED_SIZE, InitFields, init_bytes, init_check, init_numbers};
 use dcsctp_chunk::raw_chunk::RawChunk;
-use dcsctp_tlv::error::ChunkParseError;
+use dcsctp_tlv::error::{ChunkParseError, LocatedFault};
+use dcsctp_tlv::kind::Kind;
 use dcsctp_tlv::list::{listed_encodable, listed_encoded_size, listed_size, put_listed};
-use dcsctp_tlv::parameter::Parameter;
+use dcsctp_tlv::parameter::{Parameter, parameters_fill};
 use dcsctp_tlv::tlv::SerializableTlv;
+use dcsctp_tlv::widths::{Widths, are_in_width};
 use dcsctp_types::types::Tsn;
 use std::alloc::{AllocError, Global};
 use std::fmt;
@@ -76,31 +80,7 @@ impl InitAckChunk {
         if raw.typ != CHUNK_TYPE {
             return Err(ChunkParseError::InvalidType);
         }
-        InitAckChunk::read(alloc, raw.value)
-    }
-
-    /// Checks the value, and builds what it means.
-    fn read(alloc: Global, value: &[u8]) -> Result<Self, ChunkParseError>
-        ensures answer { Exactly reading kind.view
-            (RowAnswer (init_fields.row lenient) value.now) result }
-        ensures memory { IsErrOf result ChunkParseError.OutOfMemory →
-            HasMeaning (init_fields.row lenient) value.now × (drop 16 value.now ≢ []) }
-        ensures reserved { IfOk result (λ c. vec_capacity c.parameters ≡ vec_len c.parameters) }
-        ensures tight { IfOk result (λ c. All IsTightParameter c.parameters.items) }
-    {
-        init_check(value, false)?;
-        Ok(InitAckChunk::build(alloc, value)?)
-    }
-
-    /// What the value means.
-    pub(crate) fn build(alloc: Global, value: &[u8]) -> Result<Self, AllocError>
-        requires { HasMeaning (init_fields.row lenient) value.now }
-        ensures meant { IfOk result (λ c. (init_fields.row lenient).means value.now (kind.view c)) }
-        ensures empty { drop 16 value.now ≡ [] → IsOk result }
-        ensures reserved { IfOk result (λ c. vec_capacity c.parameters ≡ vec_len c.parameters) }
-        ensures tight { IfOk result (λ c. All IsTightParameter c.parameters.items) }
-    {
-        Ok(InitAckChunk::of_fields(init_build(alloc, value)?))
+        InitAckChunk::read(alloc, raw.flags, raw.value)
     }
 
     /// The chunk that holds these.
@@ -116,6 +96,33 @@ impl InitAckChunk {
             initial_tsn: fields.initial_tsn,
             parameters: fields.parameters,
         }
+    }
+}
+
+impl Kind for InitAckChunk {
+    ghost kind = { kind.kind };
+
+    ghost lawful = { λ strict flags. listed_lawful _ 16 _ _ (parameters_lawful strict) };
+
+    ghost view = { kind.view };
+
+    ghost is_tight = { λ c. (vec_capacity c.parameters ≡ vec_len c.parameters)
+        × All IsTightParameter c.parameters.items };
+
+    ghost begun = { λ flags value c. (kind.view c ≡ init_fields.tree_of value [])
+        × (c.parameters.items ≡ []) × (vec_len c.parameters ≡ 0)
+        × (vec_capacity c.parameters ≡ 0) };
+
+    fn check(_flags: u8, value: &[u8], strict: bool) -> Result<usize, LocatedFault> {
+        init_check(value, strict)
+    }
+
+    fn begin(alloc: Global, _flags: u8, value: &[u8]) -> Self {
+        InitAckChunk::of_fields(init_numbers(alloc, value))
+    }
+
+    fn fill(&mut self, alloc: Global, _flags: u8, value: &[u8]) -> Result<(), AllocError> {
+        parameters_fill(&mut self.parameters, alloc, &value[FIXED_SIZE..])
     }
 }
 
@@ -143,6 +150,15 @@ impl SerializableTlv for InitAckChunk {
 
     fn encoded_size(&self) -> Option<usize> {
         listed_encoded_size(FIXED_SIZE, &self.parameters)
+    }
+
+    fn has_widths(&self) {
+        let _initiate_tag = self.initiate_tag;
+        let _a_rwnd = self.a_rwnd;
+        let _nbr_outbound_streams = self.nbr_outbound_streams;
+        let _nbr_inbound_streams = self.nbr_inbound_streams;
+        self.initial_tsn.is_in_width();
+        are_in_width(&self.parameters);
     }
 }
 

@@ -9,7 +9,7 @@ ghost use Rattle.dcsctp_wire.specs.InitFields.{row as init_row, parts as init_pa
 
 use dcsctp_tlv::error::{ChunkParseError, LocatedFault};
 use dcsctp_tlv::number::{put_u16, put_u32, read_u16_be, read_u32_be};
-use dcsctp_tlv::parameter::{Parameter, parameters_fill};
+use dcsctp_tlv::parameter::Parameter;
 use dcsctp_tlv::reader::listed_check;
 use dcsctp_types::types::Tsn;
 use std::alloc::{AllocError, Global};
@@ -42,7 +42,7 @@ pub(crate) fn init_check(value: &[u8], strict: bool) -> Result<usize, LocatedFau
     if value.len() < FIXED_SIZE {
         return Err(LocatedFault::at_front(ChunkParseError::InvalidLength));
     }
-    listed_check::<Parameter>(strict, value, FIXED_SIZE)
+    listed_check::<Parameter>(value, FIXED_SIZE, strict)
 }
 
 /// The numbers of the value, and no parameters. Does not allocate.
@@ -60,20 +60,6 @@ pub(crate) fn init_numbers(alloc: Global, value: &[u8]) -> InitFields
         initial_tsn: Tsn(read_u32_be(&value[12..])),
         parameters: Vec::new(alloc),
     }
-}
-
-/// What the value means.
-pub(crate) fn init_build(alloc: Global, value: &[u8]) -> Result<InitFields, AllocError>
-    requires { HasMeaning (init_row lenient) value.now }
-    ensures meant { IfOk result
-        (λ fields. (init_row lenient).means value.now (init_fields_view fields)) }
-    ensures reserved { IfOk result (λ f. vec_capacity f.parameters ≡ vec_len f.parameters) }
-    ensures tight { IfOk result (λ f. All IsTightParameter f.parameters.items) }
-    ensures empty { drop 16 value.now ≡ [] → IsOk result }
-{
-    let mut fields = init_numbers(alloc, value);
-    parameters_fill(&mut fields.parameters, alloc, &value[FIXED_SIZE..])?;
-    Ok(fields)
 }
 
 /// The numbers of the value before the parameters, as they are written.

@@ -16,5 +16,5 @@ pub(crate) fn parameter_list_check(value: &[u8], strict: bool) -> Result<usize, 
     ensures few { IfOk result (λ n. 4 * n ≤ 4 + length value.now) }
     ensures within { IfErr result (λ found. found.offset ≤ 4 + length value.now) }
 {
-    listed_check::<Parameter>(strict, value, 0)
+    listed_check::<Parameter>(value, 0, strict)
 }

@@ -19,7 +19,6 @@ ghost use Rattle.dcsctp_wire.specs.Chunk.{views, IsTight};
 ghost use Rattle.dcsctp_tlv.specs.Reading.{Answers, Exactly, Counted};
 ghost use Rattle.dcsctp_wire.specs.Packet.{Meaning, Answer, IsPacket, IsAccepted, meaning_view, packet_view, packet_reading, packet_checking};
 ghost use Rattle.dcsctp_wire.specs.Account.{KeepsTexts, KeepsSize, node_count};
-ghost use Rattle.dcsctp_wire.specs.Reserved.{reserved_bytes};
 ghost use Rattle.dcsctp_wire.specs.Place.{PacketCounts, packet_locating};
 ghost use Rattle.dcsctp_wire.specs.Canonical.{canonical, padded_size, Fits};
 ghost use Rattle.dcsctp_wire.specs.PacketText.{packet_text, next_lines};
@@ -38,7 +37,8 @@ use dcsctp_tlv::copy::zeros;
 use dcsctp_tlv::error::ChunkParseError;
 use dcsctp_tlv::list::{encoded_list_size, list_size, put_list};
 use dcsctp_tlv::number::{read_u32_be, round_up_to_4};
-use dcsctp_tlv::reader::{list_build, list_check};
+use dcsctp_tlv::reader::{Counts, list_build, list_check};
+use dcsctp_tlv::widths::are_in_width;
 use dcsctp_types::api::{
     ZERO_CHECKSUM_ALTERNATE_ERROR_DETECTION_METHOD_NONE, ZeroChecksumAlternateErrorDetectionMethod,
 };
@@ -180,11 +180,12 @@ impl SctpPacket {
     /// a chunk, a parameter or an error cause that has a meaning, and padding that isn't accepted;
     /// what a strict policy accepts, the lenient one accepts with the same packet.
     ///
-    /// A packet of n bytes makes it reserve room for at most 6 (n - 12) bytes, in all its lists and
-    /// texts together. Each item counts as the bytes that it takes in a packet, and a chunk, a
-    /// parameter or an error cause as the four bytes of its header, however large they are in
-    /// memory. (The factor is 6, and not 1, since a text that isn't UTF-8 is replaced by a fixed
-    /// one of up to 38 bytes; only ABORT and ERROR have texts.)
+    /// A packet of n bytes has at most (n - 12) / 4 chunks, parameters and error causes together,
+    /// each of at most 64 bytes in memory. The lists have room for their items alone; and bytes,
+    /// numbers and texts take at most the 6 (n - 12) bytes that all chunks are written in again.
+    /// (The factor is 6, and not 1, since a text that isn't UTF-8 is replaced by a fixed one of up
+    /// to 38 bytes; only ABORT and ERROR have texts. A skipped stream of four or eight bytes takes
+    /// 12 in memory.)
     pub fn from_bytes(
         alloc: Global,
         bytes: &[u8],
@@ -211,8 +212,9 @@ impl SctpPacket {
         ensures reserved { IfOk result (λ p. vec_capacity p.chunks ≡ vec_len p.chunks) }
         ensures tight { IfOk result (λ p. All IsTight p.chunks.items) }
 
-        // All of it together, whatever the bytes are.
-        ensures room { IfOk result (λ p. reserved_bytes p ≤ 6 * (length bytes.now - 12)) }
+        // Written again, the chunks take at most six times their bytes, whatever these are.
+        ensures bound { IfOk result (λ p. padded_size (meaning_view p).chunks
+            ≤ 6 * (length bytes.now - 12)) }
     {
         read_packet(alloc, bytes, checksum, policy)
     }
@@ -233,7 +235,7 @@ impl SctpPacket {
         ensures memory { ¬ IsErrOf result (FailedParseChunk OutOfMemory) }
     {
         let counts = check_packet(bytes, checksum, policy)?;
-        Ok(counts.1)
+        Ok(counts.parts)
     }
 
     /// The canonical packet can be written: each chunk can be, and it has at most 65,532 bytes.
@@ -315,7 +317,13 @@ fn write_lines<W: fmt::Write>(chunks: &[Chunk], f: &mut fmt::Formatter<W>) -> fm
 /// their types. It does nothing.
 pub fn has_widths(packet: &SctpPacket)
     ensures { IsInWidth (meaning_view packet.now) }
-{}
+{
+    let header = &packet.common_header;
+    let _source_port = header.source_port;
+    let _destination_port = header.destination_port;
+    let _verification_tag = header.verification_tag;
+    are_in_width(&packet.chunks);
+}
 
 /// Counts the chunks, and all parts; or returns the first fault with its offset. Shared by `check`,
 /// `first_fault` and `from_bytes`; proves only that this is the grammar's answer.
@@ -325,7 +333,7 @@ pub(crate) fn check_packet(
     bytes: &[u8],
     checksum: u32,
     policy: &ChecksumPolicy,
-) -> Result<(usize, usize), FirstFault>
+) -> Result<Counts, FirstFault>
     ensures found { Answers packet_locating (λ n. n)
         (PacketCounts bytes.now checksum policy.now) result }
     ensures within { IfErr result (λ found. found.offset ≤ length bytes.now) }
@@ -342,7 +350,7 @@ pub(crate) fn check_packet(
             offset: CHECKSUM_OFFSET,
         });
     }
-    match list_check::<Chunk>(policy.strict_padding, &bytes[COMMON_HEADER_SIZE..]) {
+    match list_check::<Chunk>(&bytes[COMMON_HEADER_SIZE..], policy.strict_padding) {
         Ok(counts) => Ok(counts),
         Err(found) => Err(FirstFault {
             fault: PacketParseError::FailedParseChunk(found.fault),
@@ -365,8 +373,8 @@ fn read_packet(
     ensures reserved { IfOk result (λ p. vec_capacity p.chunks ≡ vec_len p.chunks) }
     ensures tight { IfOk result (λ p. All IsTight p.chunks.items) }
 {
-    let (count, _) = check_packet(bytes, checksum, policy)?;
-    let chunks = list_build(alloc, &bytes[COMMON_HEADER_SIZE..], count)?;
+    let counts = check_packet(bytes, checksum, policy)?;
+    let chunks = list_build(alloc, &bytes[COMMON_HEADER_SIZE..], counts.items)?;
     Ok(SctpPacket {
         common_header: read_header(bytes),
         chunks,

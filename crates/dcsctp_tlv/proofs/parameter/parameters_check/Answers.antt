@@ -6,18 +6,18 @@ use Rattle.dcsctp_tlv.proofs.Exact.{count_exactly}
 use Rattle.dcsctp_tlv.proofs.Places.{fault_only}
 use Rattle.dcsctp_tlv.proofs.parameter.parameters_check.Goals as goal
 
-pub returns-in_err-count-clause-answer : goal.returns-in_err-count-clause-answer
-returns-in_err-count-clause-answer c =
+pub returns-in_err-counts-clause-answer : goal.returns-in_err-counts-clause-answer
+returns-in_err-counts-clause-answer c =
     let level = parameters c.args.strict in
     let bytes = c.args.bytes.now in
-    let found = c.in_err-count.field-0.0 in
+    let found = c.in_err-counts.field-0.0 in
     let p = err_from_is_err_and c.from_residual.result c.from_residual.ensures.1 in
     rw (p.1, p.2) (count_exactly level (parameters_lawful c.args.strict) bytes
     (λ i. (c.type_inv.bytes i).fits) (Err found.fault) (fault_only level (λ t. 1) bytes found
-    c.in_err-count.ensures.found))
+    c.in_err-counts.ensures.found))
 
 pub returns-clause-answer : goal.returns-clause-answer
 returns-clause-answer c =
-    let f = c.in_ok-count.ensures.found in
+    let f = c.in_ok-counts.ensures.found in
     count_exactly (parameters c.args.strict) (parameters_lawful c.args.strict) c.args.bytes.now
-    (λ i. (c.type_inv.bytes i).fits) (Ok c.in_ok-count.count) (f.trees, f.mean, f.item_count)
+    (λ i. (c.type_inv.bytes i).fits) (Ok c.in_ok-counts.counts.items) (f.trees, f.mean, f.item_count)

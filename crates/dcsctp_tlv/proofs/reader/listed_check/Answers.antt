@@ -1,5 +1,6 @@
 use Rattle.std.proofs.Common.{ℕ, ◌+◌, List, Err, drop, refl, subst}
 use Rattle.std.proofs.lemmas.List.{take_rest}
+use Rattle.dcsctp_tlv.specs.declared.reader.Counts.{Counts}
 use Rattle.dcsctp_tlv.specs.Reading.{Answers, locating, ListLocated, ListedLocated}
 use Rattle.dcsctp_tlv.proofs.Places.{moved}
 use Rattle.dcsctp_tlv.proofs.reader.listed_check.Goals as goal
@@ -10,7 +11,7 @@ returns-in-Err-clause-found g c =
     let parts = g.T.ReadableTlv.parts in
     let place = c.args.place in
     let value = c.args.value.now in
-    let found = subst (λ (b : List ℕ). Answers locating (λ (n : ℕ × ℕ). n)
+    let found = subst (λ (b : List ℕ). Answers locating (λ (n : Counts). n)
     (ListLocated level parts b) (Err c.in-Err.found)) (take_rest value place)
     c.in-Err.ensures.found in
     moved (λ k. 4 + (place + k)) (ListLocated level parts (drop place value))

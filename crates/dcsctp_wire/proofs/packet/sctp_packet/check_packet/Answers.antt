@@ -1,6 +1,7 @@
 use Rattle.std.proofs.Common.{arith, rules, Err, List, ℕ, subst}
 use Rattle.std.specs.Prelude.{IsTrue}
 use Rattle.std.proofs.lemmas.List.{take_rest}
+use Rattle.dcsctp_tlv.specs.declared.reader.Counts.{Counts}
 use Rattle.dcsctp_tlv.specs.Reading.{Answers, locating, ListLocated}
 use Rattle.dcsctp_wire.specs.Chunk.{chunks, parts as chunk_parts}
 use Rattle.dcsctp_wire.specs.Packet.{IsAccepted, Size, Checksum}
@@ -16,7 +17,7 @@ returns-in-Err-clause-found c =
     (rw (take_rest bytes 8) at c.read_u32_be.ensures) (c.accepts.ensures.0 yes) in
     chunk_fault bytes c.args.checksum policy c.in-Err.found
     (record { size = record { low = omega arith; high = omega arith }; accepted = accepted })
-    (subst (λ (b : List ℕ). Answers locating (λ (n : ℕ × ℕ). n)
+    (subst (λ (b : List ℕ). Answers locating (λ (n : Counts). n)
     (ListLocated (chunks policy.strict_padding) chunk_parts b) (Err c.in-Err.found))
     (take_rest bytes 12) c.in-Err.ensures.found)
 

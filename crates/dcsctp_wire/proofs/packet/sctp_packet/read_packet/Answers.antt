@@ -14,7 +14,7 @@ pub list_build-requires : goal.list_build-requires
 list_build-requires c =
     let bytes = c.args.bytes.now in
     let strict = c.args.policy.now.strict_padding in
-    let found = c.in_ok-count.ensures.found.1 in
+    let found = c.in_ok-counts.ensures.found.1 in
     rw (take_rest bytes 12) (
       found.trees,
       list_looser (chunks strict) (chunks lenient)
@@ -23,7 +23,7 @@ list_build-requires c =
     )
 
 pub returns-in_err-chunks-clause-memory : goal.returns-in_err-chunks-clause-memory
-returns-in_err-chunks-clause-memory c = λ lacks. (let found = c.in_ok-count.ensures.found in (
+returns-in_err-chunks-clause-memory c = λ lacks. (let found = c.in_ok-counts.ensures.found in (
   packet_with c.args.bytes.now found.1.trees,
   packet_is c.args.bytes.now c.args.checksum
       c.args.policy.now found.1.trees found.0 found.1.mean,
@@ -32,7 +32,7 @@ returns-in_err-chunks-clause-memory c = λ lacks. (let found = c.in_ok-count.ens
 pub returns-clause-answer : goal.returns-clause-answer
 returns-clause-answer c =
     let bytes = c.args.bytes.now in
-    let found = c.in_ok-count.ensures.found in
+    let found = c.in_ok-counts.ensures.found in
     let built = rw (take_rest bytes 12) at c.in_ok-chunks.ensures.meant in (
       found.0,
       record {

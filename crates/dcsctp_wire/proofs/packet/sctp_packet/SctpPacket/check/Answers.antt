@@ -22,7 +22,7 @@ returns-clause-answer c =
     let word = c.args.checksum in
     let policy = c.args.policy.now in
     let found = c.in_ok-counts.ensures.found in
-    check_exactly bytes word policy (λ i. (c.type_inv.bytes i).fits) (Ok c.in_ok-counts.counts.1) (
+    check_exactly bytes word policy (λ i. (c.type_inv.bytes i).fits) (Ok c.in_ok-counts.counts.parts) (
       packet_with bytes found.1.trees,
       packet_is bytes word policy found.1.trees found.0
           found.1.mean,

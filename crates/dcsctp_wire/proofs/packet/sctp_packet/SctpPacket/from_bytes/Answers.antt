@@ -1,9 +1,10 @@
-use Rattle.std.proofs.Common.{◌-◌, ◌/◌, ◌≤◌, length}
+use Rattle.std.proofs.Common.{◌-◌, ◌*◌, ◌/◌, ◌≤◌, length}
 use Rattle.dcsctp_wire.specs.WellFormed.{IsWellFormed}
 use Rattle.dcsctp_wire.specs.Account.{KeepsSize, node_count}
 use Rattle.dcsctp_wire.proofs.PacketLaws.{packet_formed, packet_size, packet_parts, reads_only}
 use Rattle.dcsctp_wire.specs.Packet.{packet_view}
-use Rattle.dcsctp_wire.proofs.ReservedLaws.{read_bound}
+use Rattle.dcsctp_wire.specs.Canonical.{padded_size}
+use Rattle.dcsctp_wire.proofs.Bounded.{packet_bound}
 use Rattle.dcsctp_wire.proofs.PacketChecks.{read_exactly}
 use Rattle.dcsctp_wire.proofs.packet.sctp_packet.SctpPacket.from_bytes.Goals as goal
 
@@ -27,10 +28,12 @@ returns-clause-nodes c =
     c.args.policy.now c.read_packet.result (λ p size m. packet_parts bytes p m)
     c.read_packet.ensures.answer
 
-pub returns-clause-room : goal.returns-clause-room
-returns-clause-room c =
-    read_bound c.args.bytes.now c.args.checksum c.args.policy.now c.read_packet.result
-    c.read_packet.ensures.answer c.read_packet.ensures.reserved c.read_packet.ensures.tight
+pub returns-clause-bound : goal.returns-clause-bound
+returns-clause-bound c =
+    let bytes = c.args.bytes.now in
+    reads_only (λ p. padded_size p.meaning.chunks ≤ 6 * (length bytes - 12)) bytes c.args.checksum
+    c.args.policy.now c.read_packet.result (λ p size m. packet_bound bytes p m)
+    c.read_packet.ensures.answer
 
 pub returns-clause-answer : goal.returns-clause-answer
 returns-clause-answer c = read_exactly c.args.bytes.now c.args.checksum c.args.policy.now

@@ -1,0 +1,6 @@
+use Rattle.std.proofs.Common.{rules}
+use Rattle.std.proofs.lemmas.Str.{IsUtf8-string_bytes}
+use Rattle.dcsctp_cause.proofs.text.is_text.Goals as goal
+
+pub returns : goal.returns
+returns c = record { fits = search rules; utf8 = IsUtf8-string_bytes c.args.text.now }

@@ -1,0 +1,87 @@
+-- The check of a kind without a list, at the level of a table that has the kinds' rows.
+use Rattle.std.proofs.Common.{◌≡◌, ℕ, Bool, cond, true, false, List, [], ◌∷◌, Result, Ok, Err, inl, inr, ap, refl, sym}
+use Rattle.std.specs.Prelude.{◌==◌, IsOk}
+use Rattle.dcsctp_tlv.specs.declared.error.ChunkParseError.{ChunkParseError}
+use Rattle.dcsctp_tlv.specs.declared.error.LocatedFault.{LocatedFault}
+use Rattle.dcsctp_tlv.specs.Fault.{Fault}
+use Rattle.dcsctp_tlv.specs.Level.{Row, plain, pick, map_ok, MeansParts}
+use Rattle.dcsctp_tlv.specs.Reading.{Answers, checking, locating, Tested, RowTested, RowLocated}
+use Rattle.dcsctp_tlv.specs.Table.{row_of}
+use Rattle.dcsctp_tlv.proofs.Places.{fault_at_front}
+use Rattle.dcsctp_tlv.proofs.Owed.{IsAtFixed, AreAtFixed}
+use Rattle.dcsctp_tlv.specs.Kinds.{Kind, Reader, AtFixed, Nested, TreesOf, rows, row_as, Checks, ChecksKind}
+
+-- what the check of a whole item answers, where its value is checked first
+abbrev pub whole : Result (Unit {0}) ChunkParseError → Result ℕ LocatedFault
+whole (Ok u) = Ok 1
+whole (Err e) = Err (record { offset = 0; fault = e })
+
+-- that is one part, or the fault of the item as a whole
+abbrev pub Finds : {T : Type 0} → (T → ℕ) → Row T → List ℕ → Result (Unit {0}) ChunkParseError
+    → Type 0
+Finds parts row value r = Answers locating (λ (n : ℕ). n) (RowLocated parts row value) (whole r)
+
+-- a tree of each kind has one part
+abbrev pub AreSingle : {T : Type 0} → (T → ℕ) → (ks : List Kind) → TreesOf ks T → Type 0
+AreSingle parts [] trees = Unit {0}
+AreSingle parts (k ∷ ks) trees =
+    ((x : k.Tree) → parts (trees.0 x) ≡ 1) × AreSingle parts ks trees.1
+
+kind_finds : {A T : Type 0} (parts : T → ℕ) (tree : A → T) → ((x : A) → parts (tree x) ≡ 1)
+    → (read : List ℕ → Result A Fault) (value : List ℕ) (r : Result (Unit {0}) ChunkParseError)
+    → Answers checking (λ (u : Unit {0}). u) (Tested (read value)) r
+    → Finds parts (plain (λ v. map_ok tree (read v))) value r
+kind_finds {A} {T} parts tree one read value (Ok x) p = found (read value) p where
+  found : (a : Result A Fault) → IsOk a → (t : T) × (map_ok tree a ≡ Ok t) × (1 ≡ parts t)
+  found (Ok x) h = (tree x, refl, sym (one x))
+  found (Err d) h = absurd (let e : false ≡ true = h in cc)
+kind_finds parts tree one read value (Err e) p =
+    fault_at_front (plain (λ v. map_ok tree (read v))) parts value (Tested (read value))
+    (λ f is. (ap (map_ok tree) is, refl)) e p
+
+-- any value of a type that has none of the kinds passes
+other_finds : {T : Type 0} (parts : T → ℕ) (row : Row T) (value : List ℕ)
+    (r : Result (Unit {0}) ChunkParseError) → MeansParts parts row value 1 → IsOk r
+    → Finds parts row value r
+other_finds parts row value (Ok x) means p = means
+other_finds parts row value (Err e) means p = absurd (let e : false ≡ true = p in cc)
+
+choice : {T : Type 0} (parts : T → ℕ) (value : List ℕ) (r : Result (Unit {0}) ChunkParseError)
+    (b : Bool) (row others : Row T) (P Q : Type 0) → (P → Finds parts row value r)
+    → (Q → Finds parts others value r) → cond b P Q → Finds parts (pick b row others) value r
+choice parts value r true row others P Q own rest p = own p
+choice parts value r false row others P Q own rest p = rest p
+
+reader_finds : {X T : Type 0} (parts : T → ℕ) (tree : X → T) → ((x : X) → parts (tree x) ≡ 1)
+    → (reader : Reader X) (strict : Bool) (flags : ℕ) (value : List ℕ)
+    (r : Result (Unit {0}) ChunkParseError) → IsAtFixed reader → Checks reader flags value r
+    → Finds parts (row_as strict flags tree reader) value r
+reader_finds parts tree one (AtFixed read) strict flags value r fixed p =
+    kind_finds parts tree one (read flags) value r p.answers
+reader_finds parts tree one (Nested row) strict flags value r fixed p = absurd fixed
+
+-- so the check of the value says what the level's table does
+pub table_finds : {T : Type 0} (parts : T → ℕ) (ks : List Kind) (trees : TreesOf ks T)
+    (strict : Bool) (flags typ : ℕ) (others : Row T) (value : List ℕ)
+    (r : Result (Unit {0}) ChunkParseError) → AreAtFixed ks → AreSingle parts ks trees
+    → MeansParts parts others value 1 → ChecksKind ks flags typ value r
+    → Finds parts (row_of (rows strict flags ks trees) typ others) value r
+table_finds parts [] trees strict flags typ others value r fixed one means p =
+    other_finds parts others value r means p
+table_finds parts (k ∷ ks) trees strict flags typ others value r fixed one means p =
+    choice parts value r (typ == k.typ) _ _ _ _
+    (reader_finds parts trees.0 one.0 k.reader strict flags value r fixed.0)
+    (table_finds parts ks trees.1 strict flags typ others value r fixed.1 one.1 means) p
+
+-- the same of the value alone, where each tree is one part
+pub finds_tested : {T : Type 0} (row : Row T) (value : List ℕ) (r : Result (Unit {0}) ChunkParseError)
+    → Finds (λ t. 1) row value r
+    → Answers checking (λ (u : Unit {0}). u) (RowTested row value) r
+finds_tested row value (Ok x) found = (found.0, found.1)
+finds_tested row value (Err e) (inl found) =
+    inl (found.0.0, ap (λ (x : LocatedFault). x.fault) found.1, found.2.0)
+finds_tested row value (Err e) (inr none) = absurd none
+
+pub all_single : (T : Type 0) (ks : List Kind) (trees : TreesOf ks T) → AreSingle {T = T} (λ t. 1) ks trees
+all_single T [] trees = tt
+all_single T (k ∷ ks) trees = (λ x. refl, all_single T ks trees.1)

@@ -1,0 +1,258 @@
+-- What a kind owes to the laws of its level, in one record; and what follows for a table of kinds.
+use Rattle.std.proofs.Common.{◌≡◌, ℕ, ◌+◌, ◌*◌, ◌≤◌, Bool, true, false, List, [], ◌∷◌, length, Result, Ok, Err, refl, sym, ap, subst, arith}
+use Rattle.std.specs.Prelude.{◌==◌}
+use Rattle.dcsctp_tlv.specs.Fault.{Fault, Padding}
+use Rattle.dcsctp_tlv.specs.Format.{Format}
+use Rattle.dcsctp_tlv.specs.Frame.{lenient}
+use Rattle.dcsctp_tlv.specs.Image.{zeroed, size_of}
+use Rattle.dcsctp_tlv.specs.Level.{Row, pick, map_ok}
+use Rattle.dcsctp_tlv.specs.Table.{Content, row_of}
+use Rattle.dcsctp_tlv.proofs.Accounts.{SameSpace, same_size}
+use Rattle.dcsctp_tlv.proofs.FormatLaws.{TypedLaws}
+use Rattle.dcsctp_tlv.proofs.KindLaws.{KindLaws, IsGood, of_map_ok}
+use Rattle.dcsctp_tlv.proofs.Places.{AtFront}
+use Rattle.dcsctp_tlv.specs.Decided.{LawfulRow}
+use Rattle.dcsctp_tlv.proofs.Laws.{plain_lawful, as_lawful}
+use Rattle.dcsctp_tlv.proofs.Lenient.{LoosensRow}
+use Rattle.dcsctp_tlv.proofs.Tables.{EachNamed}
+use Rattle.dcsctp_tlv.proofs.Unpadded.{Unpadded, NotPadding}
+use Rattle.dcsctp_tlv.specs.Kinds.{Kind, Reader, AtFixed, Nested, plain_kind, kept_kind, own_row, row_as, TreesOf, rows, Entry, Of, Unnamed, format_of, parts_of}
+
+-- ---- what a kind owes
+
+-- `Keeps` says of which values the size is kept, by what they hold
+pub record Owed (Keeps : Content → List ℕ → Type 0) (k : Kind) : Type 0 where
+  -- each value means one tree or has one fault
+  pub lawful : (strict : Bool) (flags : ℕ) → LawfulRow (own_row strict flags k.reader)
+  -- what a value means, it means to a lenient reader
+  pub looser : (strict : Bool) (flags : ℕ)
+      → LoosensRow (own_row strict flags k.reader) (own_row lenient flags k.reader)
+  -- no fault of a lenient reader is that of padding
+  pub unpadded : (flags : ℕ) → Unpadded (own_row lenient flags k.reader)
+  -- what is read is well-formed
+  pub forms : (flags : ℕ) (value : List ℕ) (x : k.Tree)
+      → (own_row lenient flags k.reader).means value x → (k.format x).IsWellFormed
+  -- it is written in the same space
+  pub account : (flags : ℕ) (value : List ℕ) (x : k.Tree) → Keeps k.content value
+      → (own_row lenient flags k.reader).means value x
+      → SameSpace (size_of (k.format x).tlv) (4 + length value)
+  -- it has no more parts than words
+  pub counted : (flags : ℕ) (value : List ℕ) (x : k.Tree)
+      → (own_row lenient flags k.reader).means value x → 4 * k.parts x ≤ 4 + length value
+  -- what is written is read again
+  pub back : (strict : Bool) (x : k.Tree) → IsGood (k.format x)
+      → (own_row strict (k.format x).tlv.second k.reader).means (zeroed (k.format x).tlv.value) x
+  -- the kept form is written alike, and its numbers lie in their widths
+  pub kept_tlv : (x : k.Tree) → (k.format (k.kept x)).tlv ≡ (k.format x).tlv
+  pub kept_width : (x : k.Tree) → (k.format x).IsInWidth → (k.format (k.kept x)).IsInWidth
+
+module _ {Keeps : Content → List ℕ → Type 0} {X : Type 0} {read : ℕ → List ℕ → Result X Fault}
+    {format : X → Format} (typ : ℕ) (content : Content)
+  where
+    -- a kind without a list, by the laws of its format and of what it keeps
+    pub kept_owed : {IsKept : List ℕ → Type 0} (kept : X → X) → KindLaws IsKept (λ first. read) format
+        → ((value : List ℕ) → Keeps content value → IsKept value)
+        → ((x : X) → (format (kept x)).tlv ≡ (format x).tlv)
+        → ((x : X) → (format x).IsInWidth → (format (kept x)).IsInWidth)
+        → Owed Keeps (kept_kind typ content read format kept)
+    kept_owed kept laws keeps same width = record {
+      lawful = λ strict flags. plain_lawful (read flags);
+      looser = λ strict flags value x e. e;
+      unpadded = λ flags value e.
+          subst (λ (r : Result X Fault). NotPadding r) e (laws.unpadded 0 flags value);
+      forms = λ flags value x e. laws.formed 0 flags value x e;
+      account = λ flags value x is e.
+          same_size _ _ (laws.keeps 0 flags value x (keeps value is) e);
+      counted = λ flags value x e. omega arith;
+      back = λ strict x good. laws.back x good;
+      kept_tlv = same;
+      kept_width = width;
+    }
+
+    -- one whose fields are all carried
+    pub owed_if : {IsKept : List ℕ → Type 0} → KindLaws IsKept (λ first. read) format
+        → ((value : List ℕ) → Keeps content value → IsKept value)
+        → Owed Keeps (plain_kind typ content read format)
+    owed_if laws keeps = kept_owed (λ x. x) laws keeps (λ x. refl) (λ x width. width)
+
+    -- and that keeps the size of every value
+    pub plain_owed : TypedLaws (λ first. read) format
+        → Owed Keeps (plain_kind typ content read format)
+    plain_owed laws = owed_if laws (λ value is. tt)
+
+-- ---- kinds that are read at fixed places
+
+abbrev pub IsAtFixed : {X : Type 0} → Reader X → Type 0
+IsAtFixed (AtFixed read) = Unit {0}
+IsAtFixed (Nested row) = ⊥
+
+abbrev pub AreAtFixed : List Kind → Type 0
+AreAtFixed [] = Unit {0}
+AreAtFixed (k ∷ ks) = IsAtFixed k.reader × AreAtFixed ks
+
+-- ---- a kind's row in a table, from its own
+
+err_of : {A B : Type 0} (f : A → B) (r : Result A Fault) (e : Fault) → map_ok f r ≡ Err e
+    → r ≡ Err e
+err_of f (Ok x) e h = absurd cc
+err_of f (Err d) e h = cc
+
+module _ {X T : Type 0} (tree : X → T) where
+  up : (strict : Bool) (flags : ℕ) (r : Reader X) (value : List ℕ) (x : X)
+      → (own_row strict flags r).means value x → (row_as strict flags tree r).means value (tree x)
+  up strict flags (AtFixed read) value x e = ap (map_ok tree) e
+  up strict flags (Nested row) value x m = (x, m, refl)
+
+  pub down : (strict : Bool) (flags : ℕ) (r : Reader X) (value : List ℕ) (t : T)
+      → (row_as strict flags tree r).means value t
+      → (x : X) × ((own_row strict flags r).means value x × (t ≡ tree x))
+  down strict flags (AtFixed read) value t e = of_map_ok tree (read flags value) t e
+  down strict flags (Nested row) value t m = (m.0, (m.1, m.2))
+
+  lawful_as : (strict : Bool) (flags : ℕ) (r : Reader X) → LawfulRow (own_row strict flags r)
+      → LawfulRow (row_as strict flags tree r)
+  lawful_as strict flags (AtFixed read) law = plain_lawful _
+  lawful_as strict flags (Nested row) law = as_lawful tree (row strict flags) law
+
+  unpadded_as : (flags : ℕ) (r : Reader X) → Unpadded (own_row lenient flags r)
+      → Unpadded (row_as lenient flags tree r)
+  unpadded_as flags (AtFixed read) law value e = law value (err_of tree (read flags value) Padding e)
+  unpadded_as flags (Nested row) law value f = law value f
+
+  -- a fault of what is read at fixed places is the item's as a whole
+  front_as : (strict : Bool) (flags : ℕ) (r : Reader X) → IsAtFixed r
+      → AtFront (row_as strict flags tree r)
+  front_as strict flags (AtFixed read) fixed = λ value e f. refl
+  front_as strict flags (Nested row) fixed = absurd fixed
+
+-- ---- a table of kinds
+
+abbrev pub AllOwed : (Content → List ℕ → Type 0) → List Kind → Type 0
+AllOwed Keeps [] = Unit {0}
+AllOwed Keeps (k ∷ ks) = Owed Keeps k × AllOwed Keeps ks
+
+-- What computing shows of each kind in a level: its trees are written, well-formed and counted as
+-- the kind says, and its values keep their sizes where those of its type do.
+pub record Found {T : Type 0} (Keeps : Content → List ℕ → Type 0) (IsKept : ℕ → List ℕ → Type 0)
+    (of : T → Entry T) (k : Kind) (tree : k.Tree → T) : Type 0 where
+  pub written : (x : k.Tree) → (format_of (of (tree x))).tlv ≡ (k.format x).tlv
+  pub formed : (x : k.Tree) → (k.format x).IsWellFormed → (format_of (of (tree x))).IsWellFormed
+  pub parts : (x : k.Tree) → parts_of (of (tree x)) ≡ k.parts x
+  pub keeps : (value : List ℕ) → IsKept k.typ value → Keeps k.content value
+
+abbrev pub AllFound : {T : Type 0} → (Content → List ℕ → Type 0) → (ℕ → List ℕ → Type 0)
+    → (T → Entry T) → (ks : List Kind) → TreesOf ks T → Type 0
+AllFound Keeps IsKept of [] trees = Unit {0}
+AllFound Keeps IsKept of (k ∷ ks) trees =
+    Found Keeps IsKept of k trees.0 × AllFound Keeps IsKept of ks trees.1
+
+pub all_lawful : (T : Type 0) (Keeps : Content → List ℕ → Type 0) (strict : Bool) (flags : ℕ)
+    (ks : List Kind) (trees : TreesOf ks T) → AllOwed Keeps ks
+    → EachNamed (λ typ row. LawfulRow row) (rows strict flags ks trees)
+all_lawful T Keeps strict flags [] trees owed = tt
+all_lawful T Keeps strict flags (k ∷ ks) trees owed = (
+  lawful_as trees.0 strict flags k.reader (owed.0.lawful strict flags),
+  all_lawful T Keeps strict flags ks trees.1 owed.1,
+)
+
+pub all_at_front : (T : Type 0) (strict : Bool) (flags : ℕ) (ks : List Kind) (trees : TreesOf ks T)
+    → AreAtFixed ks → EachNamed (λ typ row. AtFront row) (rows strict flags ks trees)
+all_at_front T strict flags [] trees fixed = tt
+all_at_front T strict flags (k ∷ ks) trees fixed = (
+  front_as trees.0 strict flags k.reader fixed.0,
+  all_at_front T strict flags ks trees.1 fixed.1,
+)
+
+pick_looser : {T : Type 0} (b : Bool) (row others loose rest : Row T) → LoosensRow row loose
+    → LoosensRow others rest → LoosensRow (pick b row others) (pick b loose rest)
+pick_looser true row others loose rest own other = own
+pick_looser false row others loose rest own other = other
+
+-- a type's row loosens, where that of all other types stays
+pub rows_looser : {T : Type 0} (Keeps : Content → List ℕ → Type 0) (strict : Bool) (flags : ℕ)
+    (ks : List Kind) (trees : TreesOf ks T) → AllOwed Keeps ks → (typ : ℕ) (others : Row T)
+    → LoosensRow (row_of (rows strict flags ks trees) typ others)
+    (row_of (rows lenient flags ks trees) typ others)
+rows_looser Keeps strict flags [] trees owed typ others = λ value t m. m
+rows_looser {T} Keeps strict flags (k ∷ ks) trees owed typ others =
+    pick_looser (typ == k.typ) _ _ _ _ own
+    (rows_looser Keeps strict flags ks trees.1 owed.1 typ others) where
+      own : LoosensRow (row_as strict flags trees.0 k.reader)
+          (row_as lenient flags trees.0 k.reader)
+      own value t m =
+          let d = down trees.0 strict flags k.reader value t m in
+          subst (λ (u : T). (row_as lenient flags trees.0 k.reader).means value u) (sym d.1.1)
+          (up trees.0 lenient flags k.reader value d.0 (owed.0.looser strict flags value d.0 d.1.0))
+
+-- ---- what holds of each row of the lenient table
+
+pub record Sound {T : Type 0} (IsKept : ℕ → List ℕ → Type 0) (of : T → Entry T) (typ : ℕ)
+    (row : Row T) : Type 0 where
+  pub forms : (value : List ℕ) (t : T) → row.means value t → (format_of (of t)).IsWellFormed
+  pub account : (value : List ℕ) (t : T) → IsKept typ value → row.means value t
+      → SameSpace (size_of (format_of (of t)).tlv) (4 + length value)
+  pub counted : (value : List ℕ) (t : T) → row.means value t
+      → 4 * parts_of (of t) ≤ 4 + length value
+  pub unpadded : Unpadded row
+
+module _ {T : Type 0} (Keeps : Content → List ℕ → Type 0) (IsKept : ℕ → List ℕ → Type 0)
+    (of : T → Entry T) (flags : ℕ)
+  where
+    sound_as : (k : Kind) (tree : k.Tree → T) → Owed Keeps k → Found Keeps IsKept of k tree
+        → Sound IsKept of k.typ (row_as lenient flags tree k.reader)
+    sound_as k tree owed found = record {
+      forms = λ value t m.
+          (let d = down tree lenient flags k.reader value t m in
+          subst (λ (u : T). (format_of (of u)).IsWellFormed) (sym d.1.1)
+          (found.formed d.0 (owed.forms flags value d.0 d.1.0)));
+      account = λ value t kept m.
+          (let d = down tree lenient flags k.reader value t m in
+          subst (λ (u : T). SameSpace (size_of (format_of (of u)).tlv) (4 + length value))
+          (sym d.1.1) (rw (found.written d.0)
+          (owed.account flags value d.0 (found.keeps value kept) d.1.0)));
+      counted = λ value t m.
+          (let d = down tree lenient flags k.reader value t m in
+          subst (λ (u : T). 4 * parts_of (of u) ≤ 4 + length value) (sym d.1.1)
+          (rw (found.parts d.0) (owed.counted flags value d.0 d.1.0)));
+      unpadded = unpadded_as tree flags k.reader (owed.unpadded flags);
+    }
+
+    pub all_sound : (ks : List Kind) (trees : TreesOf ks T) → AllOwed Keeps ks
+        → AllFound Keeps IsKept of ks trees
+        → EachNamed (Sound IsKept of) (rows lenient flags ks trees)
+    all_sound [] trees owed found = tt
+    all_sound (k ∷ ks) trees owed found = (
+      sound_as k trees.0 owed.0 found.0,
+      all_sound ks trees.1 owed.1 found.1,
+    )
+
+-- ---- what holds of each tree
+
+abbrev pub OwedOf : {T : Type 0} → (Content → List ℕ → Type 0) → Entry T → Type 0
+OwedOf Keeps (Of k tree x) = Owed Keeps k
+OwedOf Keeps (Unnamed format) = Unit {0}
+
+abbrev pub MeansBack : {T : Type 0} → Bool → Entry T → Type 0
+MeansBack strict (Of k tree x) = (row_as strict (k.format x).tlv.second tree k.reader).means
+    (zeroed (k.format x).tlv.value) (tree x)
+MeansBack strict (Unnamed format) = Unit {0}
+
+pub back_of : {T : Type 0} (Keeps : Content → List ℕ → Type 0) (strict : Bool) (e : Entry T)
+    → OwedOf Keeps e → IsGood (format_of e) → MeansBack strict e
+back_of Keeps strict (Of k tree x) owed good =
+    up tree strict (k.format x).tlv.second k.reader _ x (owed.back strict x good)
+back_of Keeps strict (Unnamed format) owed good = tt
+
+abbrev pub kept_format : {T : Type 0} → Entry T → Format
+kept_format (Of k tree x) = k.format (k.kept x)
+kept_format (Unnamed format) = format
+
+pub kept_tlv_of : {T : Type 0} (Keeps : Content → List ℕ → Type 0) (e : Entry T) → OwedOf Keeps e
+    → (kept_format e).tlv ≡ (format_of e).tlv
+kept_tlv_of Keeps (Of k tree x) owed = owed.kept_tlv x
+kept_tlv_of Keeps (Unnamed format) owed = refl
+
+pub kept_width_of : {T : Type 0} (Keeps : Content → List ℕ → Type 0) (e : Entry T)
+    → OwedOf Keeps e → (format_of e).IsInWidth → (kept_format e).IsInWidth
+kept_width_of Keeps (Of k tree x) owed width = owed.kept_width x width
+kept_width_of Keeps (Unnamed format) owed width = width
