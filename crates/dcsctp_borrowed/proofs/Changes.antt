@@ -7,7 +7,8 @@ use Rattle.dcsctp_tlv.specs.Image.{put}
 use Rattle.dcsctp_tlv.specs.Number.{number32}
 use Rattle.dcsctp_tlv.specs.Level.{MeansTrees, HasFault}
 use Rattle.dcsctp_wire.specs.Chunk.{chunks}
-use Rattle.dcsctp_wire.specs.Packet.{PacketTree, PacketFault, Size, Checksum, Chunk, HasPacketSize, IsAccepted, IsOpened, Answer, checksum_field, body}
+use Rattle.dcsctp_wire.proofs.Packets.{has_header}
+use Rattle.dcsctp_wire.specs.Packet.{PacketTree, PacketFault, Size, Checksum, Chunk, HasPacketSize, IsAccepted, IsOpened, Answer, checksum_field, header_of, body}
 use Rattle.dcsctp_wire.specs.declared.packet.sctp_packet.ChecksumPolicy.{ChecksumPolicy}
 
 -- ---- bytes at a place
@@ -99,12 +100,12 @@ module _ (old : List ℕ) (n : ℕ) (room : 12 ≤ length old) (fits : n < 2 ^ 3
   with_tag word policy p m = (
     tag_opened word policy m.0,
     record {
-      source = m.1.source ∙ ap (from_be_bytes w16)
-          (sym (within 0 2 4 tagged old tag_before (omega arith)));
-      destination = m.1.destination ∙ ap (from_be_bytes w16)
-          (sym (within 2 2 4 tagged old tag_before (omega arith)));
-      tag = sym tag_is;
-      checksum = m.1.checksum ∙ sym tag_field;
+      header = has_header (record p { meaning = record p.meaning { tag = n } }) (header_of tagged)
+          (ap (λ (q : PacketTree). q.meaning.source) m.1.header ∙ ap (from_be_bytes w16)
+          (sym (within 0 2 4 tagged old tag_before (omega arith))))
+          (ap (λ (q : PacketTree). q.meaning.destination) m.1.header ∙ ap (from_be_bytes w16)
+          (sym (within 2 2 4 tagged old tag_before (omega arith))))
+          (sym tag_is) (ap (λ (q : PacketTree). q.checksum) m.1.header ∙ sym tag_field);
       chunks = subst (λ (bytes : List ℕ). MeansTrees (chunks policy.strict_padding) bytes
           p.meaning.chunks) (sym tag_body) m.1.chunks;
     },
@@ -156,13 +157,13 @@ module _ (old : List ℕ) (n : ℕ) (room : 12 ≤ length old) (fits : n < 2 ^ 3
       accepted = subst (λ (field : ℕ). IsAccepted later field expected) (sym seal_is) accepted;
     },
     record {
-      source = m.1.source ∙ ap (from_be_bytes w16)
-          (sym (within 0 2 8 sealed old seal_before (omega arith)));
-      destination = m.1.destination ∙ ap (from_be_bytes w16)
-          (sym (within 2 2 8 sealed old seal_before (omega arith)));
-      tag = m.1.tag ∙ ap (from_be_bytes w32)
-          (sym (within 4 4 8 sealed old seal_before (omega arith)));
-      checksum = sym seal_is;
+      header = has_header (record p { checksum = n }) (header_of sealed)
+          (ap (λ (q : PacketTree). q.meaning.source) m.1.header ∙ ap (from_be_bytes w16)
+          (sym (within 0 2 8 sealed old seal_before (omega arith))))
+          (ap (λ (q : PacketTree). q.meaning.destination) m.1.header ∙ ap (from_be_bytes w16)
+          (sym (within 2 2 8 sealed old seal_before (omega arith))))
+          (ap (λ (q : PacketTree). q.meaning.tag) m.1.header ∙ ap (from_be_bytes w32)
+          (sym (within 4 4 8 sealed old seal_before (omega arith)))) (sym seal_is);
       chunks = rw strict (subst (λ (bytes : List ℕ). MeansTrees (chunks first.strict_padding) bytes
           p.meaning.chunks) (sym (after old 8 (to_be_bytes w32 n) (omega (arith, room))))
           m.1.chunks);

@@ -22,10 +22,6 @@ field_at_place read size count bytes i here =
     ∙ ap Some (get_or-map-range_with_len (λ k. read (drop (size * k) bytes)) 0 count i i d here
     (omega arith))
 
-pub no_fields : {A : Type 0} (read : List ℕ → A) (size count : ℕ) (bytes : List ℕ) → count ≡ 0
-    → fields read size count bytes ≡ []
-no_fields read size count bytes none = rw none refl
-
 pub first_field : {A : Type 0} (read : List ℕ → A) (size count : ℕ) (bytes : List ℕ) → count ≢ 0
     → fields read size count bytes ≡ read bytes ∷ fields read size (count - 1) (drop size bytes)
 first_field read size zero bytes some = absurd (some refl)

@@ -25,10 +25,10 @@ chunks_lent bytes word policy p answer =
 pub refers : (bytes : List ℕ) (word : ℕ) (policy : ChecksumPolicy) (p : PacketTree)
     → Answer bytes word policy (Ok p) → RefersTo (reference bytes) p
 refers bytes word policy p answer = record {
-  source = sym answer.1.source;
-  destination = sym answer.1.destination;
-  tag = sym answer.1.tag;
-  checksum = sym answer.1.checksum;
+  source = sym (ap (λ (q : PacketTree). q.meaning.source) answer.1.header);
+  destination = sym (ap (λ (q : PacketTree). q.meaning.destination) answer.1.header);
+  tag = sym (ap (λ (q : PacketTree). q.meaning.tag) answer.1.header);
+  checksum = sym (ap (λ (q : PacketTree). q.checksum) answer.1.header);
   chunks = chunks_lent bytes word policy p answer;
 }
 

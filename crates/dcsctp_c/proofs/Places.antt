@@ -145,13 +145,6 @@ value_there bytes c value h =
 
 -- ---- user data
 
--- what the chunk means, it reads as
-pub data_alike : (bytes : List ℕ) (c : DcsctpChunk) (tree : ChunkTree) → ChunkMeans bytes c tree
-    → data_at bytes c ≡ data_of tree
-data_alike bytes c tree m =
-    ap (option_and_then (read_user_data c.typ c.flags)) m.1
-    ∙ reads_alike c.typ c.flags m.0 tree m.2
-
 -- the payload is the end of the value
 abbrev IsEnd : List ℕ → List ℕ → Type 0
 IsEnd value payload = (k : ℕ) × (k ≤ length value) × (payload ≡ drop k value)

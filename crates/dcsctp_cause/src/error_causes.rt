@@ -260,21 +260,7 @@ pub fn error_cause_check(bytes: &[u8], strict: bool) -> Result<usize, ChunkParse
     Ok(counts.items)
 }
 
-/// Builds the error causes that the bytes are known to mean.
-pub fn error_cause_build(alloc: Global, bytes: &[u8]) -> Result<Vec<ErrorCause>, AllocError>
-    requires { MeansSome (causes lenient) bytes.now }
-    ensures meant { IfOk result
-        (λ list. MeansTrees (causes lenient) bytes.now (views list.items)) }
-    ensures reserved { IfOk result (λ list. vec_capacity list ≡ vec_len list) }
-    ensures tight { IfOk result (λ list. All IsTight list.items) }
-    ensures empty { bytes.now ≡ [] → IsOk result }
-{
-    let mut list = Vec::new(alloc);
-    error_cause_fill(&mut list, alloc, bytes)?;
-    Ok(list)
-}
-
-/// Builds the same into a list that has no memory yet.
+/// Builds the error causes that the bytes are known to mean, into a list that has no memory yet.
 #[inline(never)]
 pub fn error_cause_fill(
     list: &mut Vec<ErrorCause>,

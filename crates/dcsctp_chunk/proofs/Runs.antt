@@ -7,7 +7,7 @@ use Rattle.std.proofs.lemmas.List.{get_or_default}
 use Rattle.std.proofs.lemmas.List.Elements.{All-contains}
 use Rattle.dcsctp_chunk.specs.declared.sack_chunk.GapAckBlock.{GapAckBlock}
 use Rattle.dcsctp_chunk.specs.Apart.{IsApart, AreRunsOf, covered}
-use Rattle.dcsctp_chunk.specs.Cover.{Covers, SameCover, IsInside, IsRun, IsRuns, IsCleaned, HasBlockInEach, AreValid}
+use Rattle.dcsctp_chunk.specs.Cover.{Covers, SameCover, IsInside, IsRun, IsRuns, IsCleaned, CleanedLaws, HasBlockInEach, AreValid}
 use Rattle.dcsctp_chunk.proofs.Covers.{Blocks, zero_block, covers, cover_cons, cover_reversed, cover_join, join, cover_same}
 use Rattle.dcsctp_chunk.proofs.Apart.{apart_at, apart_far, apart_first, apart_weaker}
 
@@ -244,14 +244,13 @@ valid_iff bs = (
 
 -- all that is said of cleaned blocks follows from this
 pub cleaned_from_cover : {bs rs : Blocks} → All (λ b. b.end ≤ 65535) bs → AreRunsOf rs bs
-    → IsCleaned bs rs
+    → IsCleaned bs rs × CleanedLaws bs rs
 cleaned_from_cover {bs} {rs} ends are =
     let runs = runs_from_cover rs bs are in
     -- they are those of the others with the same cover too
     let known = λ (others : Blocks) (e : SameCover others bs).
     known_runs rs others (runs_of_same bs others rs (λ o. ((e o).1, (e o).0)) runs) in
-    record {
-      runs = runs;
+    (runs, record {
       cover = cover_same rs bs are.cover;
       offsets = (λ o c. omega (arith, All-contains (λ b. b.end ≤ 65535) bs c.0 ends c.1, c.2.1));
       fewest = (λ others e. (known others e).1);
@@ -263,4 +262,4 @@ cleaned_from_cover {bs} {rs} ends are =
         (λ e. cover_same others bs (cc ((known_runs another others h).0.cover, are.cover, e))),
       ));
       once = (λ again h. runs_unique (Covers rs) again rs h (runs_from_apart 0 rs are.apart));
-    }
+    })

@@ -51,10 +51,12 @@ pub record AreValid (blocks : List GapAckBlock) : Type 0 where
   pub runs : IsRuns blocks (Covers blocks)
   pub first : StartsPast 1 blocks
 
--- What a list of blocks becomes when it is cleaned: the runs of the offsets that it covers. The
--- other fields follow from the first.
-pub record IsCleaned (blocks cleaned : List GapAckBlock) : Type 0 where
-  pub runs : IsRuns cleaned (Covers blocks)
+-- what a list of blocks becomes when it is cleaned: the runs of the offsets that it covers
+abbrev pub IsCleaned : List GapAckBlock → List GapAckBlock → Type 0
+IsCleaned blocks cleaned = IsRuns cleaned (Covers blocks)
+
+-- what follows from that
+pub record CleanedLaws (blocks cleaned : List GapAckBlock) : Type 0 where
   pub cover : SameCover cleaned blocks
   pub offsets : (o : ℕ) → Covers blocks o → o ≤ 65535
   -- No list with the same cover is shorter, and each run holds a block of its own of any such list.

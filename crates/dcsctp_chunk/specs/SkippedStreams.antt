@@ -50,7 +50,8 @@ tree_of tsn streams = record { tsn = tsn.0; streams = skipped_stream_views strea
 abbrev pub stream_count : ℕ → List ℕ → ℕ
 stream_count size value = (length value - 4) / size
 
--- by how a stream is read, and in how many bytes it lies
+-- By how a stream is read, and in how many bytes it lies: the value has at least 4 bytes, and after
+-- them a multiple of that size.
 abbrev pub read_of : (List ℕ → SkippedStreamTree) → ℕ → List ℕ → Result Tree Fault
 read_of stream_at size value =
     if length value == 4 + size * stream_count size value then Ok (record {

@@ -15,6 +15,7 @@ pub record Tree : Type 0 where
 abbrev pub stream_count : List ℕ → ℕ
 stream_count value = (length value - 4) / 2
 
+-- the value has at least 4 bytes, and after them an even number
 unfoldable pub read : List ℕ → Result Tree Fault
 read value =
     if length value == 4 + 2 * stream_count value then Ok (record {

@@ -18,6 +18,7 @@ pub record Tree : Type 0 where
 abbrev pub stream_count : List ℕ → ℕ
 stream_count value = (length value - 12) / 2
 
+-- the value has at least 12 bytes, and after them an even number
 unfoldable pub read : List ℕ → Result Tree Fault
 read value =
     if length value == 12 + 2 * stream_count value then Ok (record {

@@ -309,21 +309,7 @@ pub fn parameters_check(bytes: &[u8], strict: bool) -> Result<usize, ChunkParseE
     Ok(counts.items)
 }
 
-/// Builds the parameters that the bytes are known to mean.
-pub fn parameters_build(alloc: Global, bytes: &[u8]) -> Result<Vec<Parameter>, AllocError>
-    requires { MeansSome (parameters lenient) bytes.now }
-    ensures meant { IfOk result
-        (λ list. MeansTrees (parameters lenient) bytes.now (views list.items)) }
-    ensures reserved { IfOk result (λ list. vec_capacity list ≡ vec_len list) }
-    ensures tight { IfOk result (λ list. All IsTight list.items) }
-    ensures empty { bytes.now ≡ [] → IsOk result }
-{
-    let mut list = Vec::new(alloc);
-    parameters_fill(&mut list, alloc, bytes)?;
-    Ok(list)
-}
-
-/// Builds the same into a list that has no memory yet.
+/// Builds the parameters that the bytes are known to mean, into a list that has no memory yet.
 #[inline(never)]
 pub fn parameters_fill(
     list: &mut Vec<Parameter>,

@@ -1,7 +1,8 @@
 -- What a packet is answered with: there is at most one reply.
 use Rattle.std.proofs.Common.{◌≡◌, ◌∙◌, ℕ, List, [], ◌∷◌, Option, Some, None, Ok, IfSome, IfNone, sym, ap, subst}
 use Rattle.std.proofs.Common.{Vec, Global}
-use Rattle.dcsctp_wire.specs.Caller.{Meaning, PacketTree, DataChunkTree, InitTree, DataTree, InitAckTree}
+use Rattle.dcsctp_wire.specs.Caller.{Meaning, PacketTree, DataChunkTree}
+use Rattle.dcsctp_wire.specs.Chunk as tree
 use Rattle.dcsctp_wire.specs.InitFields.{Tree as InitFieldsTree}
 use Rattle.dcsctp_uses.specs.Sealed.{Verified}
 use Rattle.dcsctp_uses.specs.Reply.{IsReply, to_init, to_data, IsSealed, HasRoom, back, sack_of}
@@ -11,15 +12,15 @@ use Rattle.dcsctp_uses.specs.Reply.{IsReply, to_init, to_data, IsSealed, HasRoom
 pub one_reply : (own : InitFieldsTree) (peer_tag : ℕ) (m a b : Meaning) → IsReply own peer_tag m a
     → IsReply own peer_tag m b → a ≡ b
 one_reply own peer_tag m a b (to_init i zero only is) (to_init j zero2 only2 is2) =
-    let same : InitTree i ∷ [] ≡ InitTree j ∷ [] = sym only ∙ only2 in
+    let same : tree.Init i ∷ [] ≡ tree.Init j ∷ [] = sym only ∙ only2 in
     let inits : i ≡ j = cc in
-    is ∙ ap (λ (k : InitFieldsTree). back m k.tag (InitAckTree own)) inits ∙ sym is2
+    is ∙ ap (λ (k : InitFieldsTree). back m k.tag (tree.InitAck own)) inits ∙ sym is2
 one_reply own peer_tag m a b (to_init i zero only is) (to_data c others tag some is2) =
-    absurd (let no : InitTree i ∷ [] ≡ DataTree c ∷ others = sym only ∙ some in cc)
+    absurd (let no : tree.Init i ∷ [] ≡ tree.Data c ∷ others = sym only ∙ some in cc)
 one_reply own peer_tag m a b (to_data c others tag some is) (to_init i zero only is2) =
-    absurd (let no : InitTree i ∷ [] ≡ DataTree c ∷ others = sym only ∙ some in cc)
+    absurd (let no : tree.Init i ∷ [] ≡ tree.Data c ∷ others = sym only ∙ some in cc)
 one_reply own peer_tag m a b (to_data c others tag some is) (to_data d others2 tag2 some2 is2) =
-    let same : DataTree c ∷ others ≡ DataTree d ∷ others2 = sym some ∙ some2 in
+    let same : tree.Data c ∷ others ≡ tree.Data d ∷ others2 = sym some ∙ some2 in
     let both : c ≡ d = cc in
     is ∙ ap (λ (k : DataChunkTree). back m peer_tag (sack_of k.tsn own.window)) both ∙ sym is2
 

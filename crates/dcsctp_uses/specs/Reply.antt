@@ -3,7 +3,8 @@
 use Rattle.std.specs.Prelude.{◌≡◌, ◌+◌, ◌≤◌, ℕ, List, [], ◌∷◌, Ok}
 use Rattle.std.specs.List.{AllByRecursion}
 use Rattle.dcsctp_crc32c.specs.Checksum.{packet_word}
-use Rattle.dcsctp_wire.specs.Caller.{Meaning, ChunkTree, InitTree, InitAckTree, DataTree, SackTree, DataChunkTree, IsChunkEncodable, IsChunkWellFormed, all_kept, padded_size}
+use Rattle.dcsctp_wire.specs.Caller.{Meaning, ChunkTree, DataChunkTree, IsChunkEncodable, IsChunkWellFormed, all_kept, padded_size}
+use Rattle.dcsctp_wire.specs.Chunk as tree
 use Rattle.dcsctp_wire.specs.InitFields.{Tree as InitFieldsTree}
 use Rattle.dcsctp_uses.specs.Sealed.{Verified}
 
@@ -18,16 +19,16 @@ back m tag chunk = record {
 
 -- the SACK of DATA up to this TSN, with this window, and of no gaps or duplicates
 abbrev pub sack_of : ℕ → ℕ → ChunkTree
-sack_of tsn window = SackTree (record { tsn = tsn; a_rwnd = window; blocks = []; duplicates = [] })
+sack_of tsn window = tree.Sack (record { tsn = tsn; a_rwnd = window; blocks = []; duplicates = [] })
 
 -- What an endpoint with this INIT ACK answers a packet with, where its peer's tag is `peer_tag`. A
 -- packet with an INIT holds nothing else, has a tag of zero, and is answered under the tag that the
 -- INIT asks for; every other has the receiver's own tag (sections 8.5 and 8.5.1).
 pub data IsReply (own : InitFieldsTree) (peer_tag : ℕ) (m reply : Meaning) : Type 0 where
-  to_init : (init : InitFieldsTree) → m.tag ≡ 0 → m.chunks ≡ InitTree init ∷ []
-      → reply ≡ back m init.tag (InitAckTree own) → IsReply own peer_tag m reply
+  to_init : (init : InitFieldsTree) → m.tag ≡ 0 → m.chunks ≡ tree.Init init ∷ []
+      → reply ≡ back m init.tag (tree.InitAck own) → IsReply own peer_tag m reply
   to_data : (c : DataChunkTree) (others : List ChunkTree) → m.tag ≡ own.tag
-      → m.chunks ≡ DataTree c ∷ others
+      → m.chunks ≡ tree.Data c ∷ others
       → reply ≡ back m peer_tag (sack_of c.tsn own.window) → IsReply own peer_tag m reply
 
 -- the chunks can be written, within the limit

@@ -1,7 +1,8 @@
 //! A packet with an acknowledgment and a message.
 
 ghost use Rattle.std.specs.Prelude.{ℕ, ◌≡◌, ◌∷◌, [], true, Ok, IfOk, IfSome};
-ghost use Rattle.dcsctp_wire.specs.Caller.{Holds, Answer, IsAccepted, checksum_field, SackTree, DataTree, chunk_view, sack_view, data_view, kept_data};
+ghost use Rattle.dcsctp_wire.specs.Caller.{Holds, Answer, IsAccepted, checksum_field, chunk_view, sack_view, data_view, kept_data};
+ghost use Rattle.dcsctp_wire.specs.Chunk as tree;
 
 use dcsctp_wire::packet::chunk::Chunk;
 use dcsctp_wire::packet::data_chunk::DataChunk;
@@ -32,7 +33,7 @@ pub fn acknowledgment_with_data(
             source = header.now.destination_port;
             destination = header.now.source_port;
             tag = header.now.verification_tag;
-            chunks = SackTree (sack_view sack) ∷ DataTree (kept_data (data_view message)) ∷ [];
+            chunks = tree.Sack (sack_view sack) ∷ tree.Data (kept_data (data_view message)) ∷ [];
           };
           checksum = checksum_field bytes.items;
         })))) }

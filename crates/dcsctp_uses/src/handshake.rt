@@ -1,7 +1,8 @@
 //! The answer to an INIT.
 
 ghost use Rattle.std.specs.Prelude.{◌≡◌, ◌≤◌, ◌+◌, ◌*◌, ◌/◌, ◌∷◌, [], true, IfOk, IfSome, IfNone};
-ghost use Rattle.dcsctp_wire.specs.Caller.{Holds, padded_size, InitAckTree, IsChunkEncodable, init_ack_view};
+ghost use Rattle.dcsctp_wire.specs.Caller.{Holds, padded_size, IsChunkEncodable, init_ack_view};
+ghost use Rattle.dcsctp_wire.specs.Chunk as tree;
 
 use dcsctp_wire::packet::chunk::Chunk;
 use dcsctp_wire::packet::init_ack_chunk::InitAckChunk;
@@ -23,7 +24,7 @@ pub fn init_answer(
     limit: usize,
 ) -> Result<Option<SctpPacketBuilder>, AllocError>
     ensures holds { IfOk result (λ made. IfSome made (λ builder.
-        Holds builder (InitAckTree (init_ack_view answer) ∷ []))) }
+        Holds builder (tree.InitAck (init_ack_view answer) ∷ []))) }
     ensures settings { IfOk result (λ made. IfSome made (λ builder. builder ≡ record {
       source = header.now.destination_port;
       destination = header.now.source_port;
@@ -34,8 +35,8 @@ pub fn init_answer(
       reserved = builder.reserved;
     })) }
     ensures nothing { IfOk result (λ made. IfNone made
-        (¬ (IsChunkEncodable (InitAckTree (init_ack_view answer))
-        × (12 + padded_size (InitAckTree (init_ack_view answer) ∷ []) ≤ limit / 4 * 4)))) }
+        (¬ (IsChunkEncodable (tree.InitAck (init_ack_view answer))
+        × (12 + padded_size (tree.InitAck (init_ack_view answer) ∷ []) ≤ limit / 4 * 4)))) }
 {
     let mut builder = SctpPacketBuilder::new(
         alloc,

@@ -15,10 +15,10 @@ use Rattle.dcsctp_tlv.proofs.ReadsBack.{full_zeros_accepted, body_reads_back, ea
 use Rattle.dcsctp_wire.specs.declared.packet.chunk.Chunk.{Chunk}
 use Rattle.dcsctp_wire.specs.declared.packet.sctp_packet.ChecksumPolicy.{ChecksumPolicy}
 use Rattle.dcsctp_wire.specs.Chunk.{ChunkTree, chunks, tlv as chunk_tlv, format, IsPlaced, IsChunkEncodable, view, views, IsInWidth as IsChunkInWidth, IsWellFormed as IsChunkWellFormed}
-use Rattle.dcsctp_wire.specs.Packet.{Meaning, PacketTree, checksum_field, IsAccepted, disabled, Answer}
+use Rattle.dcsctp_wire.specs.Packet.{header_of, Meaning, PacketTree, checksum_field, IsAccepted, disabled, Answer}
 use Rattle.dcsctp_wire.specs.Canonical.{padded_chunk, canonical, padded_size, Fits}
 use Rattle.dcsctp_wire.specs.WellFormed.{IsInWidth, IsWellFormed}
-use Rattle.dcsctp_wire.proofs.Packets.{packet_one}
+use Rattle.dcsctp_wire.proofs.Packets.{has_header, packet_one}
 use Rattle.dcsctp_wire.proofs.ChunkLaws.{IsGoodChunk, chunks_read_back}
 
 -- a list's size and the bytes of its padded chunks
@@ -187,10 +187,11 @@ reads_back_with m field word policy field_fits width formed fits accepted =
         accepted = subst (λ (n : ℕ). IsAccepted policy n word) (sym e) accepted;
       },
       record {
-        source = sym (from_be_bytes-to_be_bytes_2 m.source width.source);
-        destination = sym (from_be_bytes-to_be_bytes_2 m.destination width.destination);
-        tag = sym (from_be_bytes-to_be_bytes_4 m.tag width.tag);
-        checksum = sym e;
+        header = has_header (record { meaning = m; checksum = field })
+            (header_of (with_field m field))
+            (sym (from_be_bytes-to_be_bytes_2 m.source width.source))
+            (sym (from_be_bytes-to_be_bytes_2 m.destination width.destination))
+            (sym (from_be_bytes-to_be_bytes_4 m.tag width.tag)) (sym e);
         chunks = body_reads_back (chunks policy.strict_padding) chunk_tlv IsGoodChunk
             (chunks_read_back policy.strict_padding) m.chunks (each_good m.chunks width.each
             formed.each fits.each) (full_zeros_accepted policy.strict_padding);

@@ -25,10 +25,7 @@ built_means strict bytes ts built m n =
 pub lenient_packet : (strict : Bool) (bytes : List ℕ) (p : PacketTree) → MeansPacket strict bytes p
     → MeansPacket lenient bytes p
 lenient_packet strict bytes p m = record {
-  source = m.source;
-  destination = m.destination;
-  tag = m.tag;
-  checksum = m.checksum;
+  header = m.header;
   chunks =
       list_looser (chunks strict) (chunks lenient) (chunks_looser strict) (body bytes)
       p.meaning.chunks m.chunks;

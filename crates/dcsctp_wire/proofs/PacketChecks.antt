@@ -49,7 +49,7 @@ pub packet_is : (bytes : List ℕ) (word : ℕ) (policy : ChecksumPolicy) (ts : 
     → IsOpened bytes word policy → MeansTrees (chunks policy.strict_padding) (body bytes) ts
     → Answer bytes word policy (Ok (packet_with bytes ts))
 packet_is bytes word policy ts opened m =
-    (opened, record { source = refl; destination = refl; tag = refl; checksum = refl; chunks = m })
+    (opened, record { header = refl; chunks = m })
 
 -- the answer, with the packet's parts counted
 abbrev pub CountedParts : List ℕ → ℕ → ChecksumPolicy → Result ℕ PacketFault → Type 0

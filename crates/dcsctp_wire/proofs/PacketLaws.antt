@@ -120,10 +120,7 @@ pub packet_after : (front end : List ℕ) (word : ℕ) (policy : ChecksumPolicy)
 packet_after front end word policy ts us low words opened m n = (
   opened,
   record {
-    source = refl;
-    destination = refl;
-    tag = refl;
-    checksum = refl;
+    header = refl;
     chunks = subst (λ (bytes : List ℕ). MeansTrees (chunks policy.strict_padding) bytes (ts ++ us))
         (sym (body_after front end low)) (local_means (chunks policy.strict_padding) (body front)
         end ts us (body_words front low words) m n);

@@ -7,8 +7,9 @@ use Rattle.dcsctp_tlv.specs.Fault.{Fault}
 use Rattle.dcsctp_tlv.specs.Number.{AreBytes}
 use Rattle.dcsctp_tlv.proofs.Laws.{list_one, list_apart, list_same, list_some}
 use Rattle.dcsctp_wire.specs.declared.packet.sctp_packet.ChecksumPolicy.{ChecksumPolicy}
+use Rattle.dcsctp_wire.specs.declared.packet.common_header.CommonHeader.{CommonHeader}
 use Rattle.dcsctp_wire.specs.Chunk.{chunks}
-use Rattle.dcsctp_wire.specs.Packet.{PacketTree, HasPacketSize, IsAccepted, disabled, alternate, equal, checksum_field, body, MeansPacket, packet_with, PacketFault, Size, Checksum, Chunk, Answer}
+use Rattle.dcsctp_wire.specs.Packet.{PacketTree, HasPacketSize, IsAccepted, disabled, alternate, equal, checksum_field, body, MeansPacket, with_header, packet_with, PacketFault, Size, Checksum, Chunk, Answer}
 use Rattle.dcsctp_wire.proofs.ChunkRows.{chunks_lawful}
 
 -- ---- one answer
@@ -16,15 +17,16 @@ use Rattle.dcsctp_wire.proofs.ChunkRows.{chunks_lawful}
 pub body_fits : (bytes : List ℕ) → AreBytes bytes → AreBytes (body bytes)
 body_fits bytes fits i = rw get_or-drop (fits (12 + i))
 
-made : (p q : PacketTree) → p.meaning.source ≡ q.meaning.source
-    → p.meaning.destination ≡ q.meaning.destination → p.meaning.tag ≡ q.meaning.tag
-    → p.meaning.chunks ≡ q.meaning.chunks → p.checksum ≡ q.checksum → p ≡ q
-made p q a b c d e = λ k. record {
+-- a packet with these numbers has the header
+pub has_header : (p : PacketTree) (h : CommonHeader) → p.meaning.source ≡ h.source_port
+    → p.meaning.destination ≡ h.destination_port → p.meaning.tag ≡ h.verification_tag
+    → p.checksum ≡ h.checksum → p ≡ with_header h p.meaning.chunks
+has_header p h a b c e = λ k. record {
   meaning = record {
     source = a k;
     destination = b k;
     tag = c k;
-    chunks = d k;
+    chunks = p.meaning.chunks;
   };
   checksum = e k;
 }
@@ -32,9 +34,8 @@ made p q a b c d e = λ k. record {
 pub packet_one : (strict : Bool) (bytes : List ℕ) (p q : PacketTree) → MeansPacket strict bytes p
     → MeansPacket strict bytes q → p ≡ q
 packet_one strict bytes p q m n =
-    made p q (m.source ∙ sym n.source) (m.destination ∙ sym n.destination) (m.tag ∙ sym n.tag)
-    (list_one (chunks strict) (chunks_lawful strict) (body bytes) p.meaning.chunks q.meaning.chunks
-    m.chunks n.chunks) (m.checksum ∙ sym n.checksum)
+    m.header ∙ ap (packet_with bytes) (list_one (chunks strict) (chunks_lawful strict) (body bytes)
+    p.meaning.chunks q.meaning.chunks m.chunks n.chunks) ∙ sym n.header
 
 pub answer_one : (bytes : List ℕ) (word : ℕ) (policy : ChecksumPolicy)
     (a b : Result PacketTree PacketFault) → AreBytes bytes → Answer bytes word policy a
@@ -103,8 +104,7 @@ answer_some bytes word policy fits = elim (size_tells bytes) [
             Ok (packet_with bytes m.0),
             (
               record { size = size; accepted = accepted },
-              record
-                  { source = refl; destination = refl; tag = refl; checksum = refl; chunks = m.1 },
+              record { header = refl; chunks = m.1 },
             ),
           )
           | inr f ↦ (Err (Chunk f.0), (record { size = size; accepted = accepted }, f.1))

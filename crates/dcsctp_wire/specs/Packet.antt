@@ -46,7 +46,8 @@ abbrev pub checksum_field : List ℕ → ℕ
 checksum_field bytes = number32 (drop 8 bytes)
 
 -- Verification is off; or another method replaces it, and the field is zero; or the field is the
--- word.
+-- word. A zero is accepted whatever the chunks are: that INIT and COOKIE ECHO have a CRC32c (RFC 9653
+-- section 5.2) is a rule for the caller, who knows whether the method was negotiated.
 pub data IsAccepted (policy : ChecksumPolicy) (field word : ℕ) : Type 0 where
   disabled : policy.disable_checksum_verification ≡ true → IsAccepted policy field word
   alternate : policy.zero_checksum_alternate_error_detection_method.0 ≢ 0 → field ≡ 0
@@ -63,14 +64,6 @@ pub record IsOpened (bytes : List ℕ) (word : ℕ) (policy : ChecksumPolicy) : 
 abbrev pub body : List ℕ → List ℕ
 body bytes = drop 12 bytes
 
--- the four numbers of the header, and the chunks that all of the body means
-pub record MeansPacket (strict : Bool) (bytes : List ℕ) (p : PacketTree) : Type 0 where
-  pub source : p.meaning.source ≡ number16 bytes
-  pub destination : p.meaning.destination ≡ number16 (drop 2 bytes)
-  pub tag : p.meaning.tag ≡ number32 (drop 4 bytes)
-  pub checksum : p.checksum ≡ checksum_field bytes
-  pub chunks : MeansTrees (chunks strict) (body bytes) p.meaning.chunks
-
 -- the header that these bytes begin with
 abbrev pub header_of : List ℕ → CommonHeader
 header_of bytes = record {
@@ -80,17 +73,25 @@ header_of bytes = record {
   checksum = checksum_field bytes;
 }
 
--- the packet with the header of these bytes, and these chunks
-abbrev pub packet_with : List ℕ → List ChunkTree → PacketTree
-packet_with bytes ts = record {
+-- a packet with this header, and these chunks
+abbrev pub with_header : CommonHeader → List ChunkTree → PacketTree
+with_header h ts = record {
   meaning = record {
-    source = number16 bytes;
-    destination = number16 (drop 2 bytes);
-    tag = number32 (drop 4 bytes);
+    source = h.source_port;
+    destination = h.destination_port;
+    tag = h.verification_tag;
     chunks = ts;
   };
-  checksum = checksum_field bytes;
+  checksum = h.checksum;
 }
+
+abbrev pub packet_with : List ℕ → List ChunkTree → PacketTree
+packet_with bytes ts = with_header (header_of bytes) ts
+
+-- it has the header of these bytes, and the chunks that all of the body means
+pub record MeansPacket (strict : Bool) (bytes : List ℕ) (p : PacketTree) : Type 0 where
+  pub header : p ≡ packet_with bytes p.meaning.chunks
+  pub chunks : MeansTrees (chunks strict) (body bytes) p.meaning.chunks
 
 -- The packet, or the first fault: of the size, then of the checksum, then of the chunks from the
 -- left. The policy says whether padding is looked at.
@@ -125,13 +126,8 @@ packet_checking = record { of = packet_error_of; lack = λ e. ⊥ }
 -- ---- packets of the code
 
 -- a packet of the code, without where it lies in memory
-abbrev pub meaning_view : SctpPacket → Meaning
-meaning_view p = record {
-  source = p.common_header.source_port;
-  destination = p.common_header.destination_port;
-  tag = p.common_header.verification_tag;
-  chunks = views p.chunks.items;
-}
-
 abbrev pub packet_view : SctpPacket → PacketTree
-packet_view p = record { meaning = meaning_view p; checksum = p.common_header.checksum }
+packet_view p = with_header p.common_header (views p.chunks.items)
+
+abbrev pub meaning_view : SctpPacket → Meaning
+meaning_view p = (packet_view p).meaning

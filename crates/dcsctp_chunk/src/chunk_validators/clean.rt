@@ -3,7 +3,7 @@
 ghost use Rattle.std.specs.Prelude.{◌≡◌, ◌+◌, ◌<◌, ◌≤◌, ◌∷◌, length, take, drop, vec_capacity};
 ghost use Rattle.std.specs.List.{SameFrom};
 ghost use Rattle.dcsctp_chunk.specs.Apart.{IsApart, AreRunsOf, AreFree, both, covered};
-ghost use Rattle.dcsctp_chunk.specs.Cover.{IsCleaned, AreValid};
+ghost use Rattle.dcsctp_chunk.specs.Cover.{IsCleaned, CleanedLaws, AreValid};
 
 use crate::chunk_validators::runs::{FREE, first_reaching, follows, insert, join_runs, make_free};
 use crate::chunk_validators::validate::are_apart;
@@ -19,6 +19,7 @@ pub fn clean_sack(mut sack: SackChunk) -> SackChunk
     ensures a_rwnd { result.a_rwnd ≡ sack.a_rwnd }
     ensures duplicate_tsns { result.duplicate_tsns ≡ sack.duplicate_tsns }
     ensures cleaned { IsCleaned sack.gap_ack_blocks.items result.gap_ack_blocks.items }
+    ensures laws { CleanedLaws sack.gap_ack_blocks.items result.gap_ack_blocks.items }
     ensures same { AreValid sack.gap_ack_blocks.items → result ≡ sack }
     ensures memory { vec_capacity result.gap_ack_blocks ≡ vec_capacity sack.gap_ack_blocks }
 {
@@ -36,6 +37,7 @@ pub fn clean_sack(mut sack: SackChunk) -> SackChunk
 #[tactic(auto, using(crate::proofs::Runs::valid_iff))]
 pub fn clean_blocks(blocks: &mut Vec<GapAckBlock>)
     ensures cleaned { IsCleaned blocks.old.items blocks.new.items }
+    ensures laws { CleanedLaws blocks.old.items blocks.new.items }
     ensures same { AreValid blocks.old.items → blocks.new ≡ blocks.old }
     ensures memory { vec_capacity blocks.new ≡ vec_capacity blocks.old }
 {

@@ -18,7 +18,7 @@ returns-in-Some-Sack c =
         sack.view c.in-Some-Sack.sack,
         c.clean_sack.result.gap_ack_blocks.items,
         ap views split ∙ map-append view rest (variant.Sack c.in-Some-Sack.sack ∷ []),
-        c.clean_sack.ensures.cleaned.runs,
+        c.clean_sack.ensures.cleaned,
         c.len.ensures ∙ c.clean_sack.result.gap_ack_blocks.ok.0,
       ),
     )

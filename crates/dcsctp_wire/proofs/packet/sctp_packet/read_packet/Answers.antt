@@ -3,7 +3,7 @@ use Rattle.std.proofs.lemmas.List.{take_rest}
 use Rattle.dcsctp_tlv.specs.Frame.{lenient}
 use Rattle.dcsctp_tlv.proofs.Lenient.{list_looser}
 use Rattle.dcsctp_wire.specs.Chunk.{chunks, views}
-use Rattle.dcsctp_wire.specs.Packet.{body, packet_with}
+use Rattle.dcsctp_wire.specs.Packet.{body, with_header, packet_with}
 use Rattle.dcsctp_wire.specs.declared.packet.common_header.CommonHeader.{CommonHeader}
 use Rattle.dcsctp_wire.proofs.ChunkRows.{chunks_looser}
 use Rattle.dcsctp_wire.proofs.Lenient.{built_means}
@@ -36,10 +36,8 @@ returns-clause-answer c =
     let built = rw (take_rest bytes 12) at c.in_ok-chunks.ensures.meant in (
       found.0,
       record {
-        source = ap (λ (h : CommonHeader). h.source_port) c.read_header.ensures;
-        destination = ap (λ (h : CommonHeader). h.destination_port) c.read_header.ensures;
-        tag = ap (λ (h : CommonHeader). h.verification_tag) c.read_header.ensures;
-        checksum = ap (λ (h : CommonHeader). h.checksum) c.read_header.ensures;
+        header = ap (λ (h : CommonHeader). with_header h (views c.in_ok-chunks.chunks.items))
+            c.read_header.ensures;
         chunks = built_means c.args.policy.now.strict_padding (body bytes) found.1.trees
             (views c.in_ok-chunks.chunks.items) found.1.mean built;
       },
