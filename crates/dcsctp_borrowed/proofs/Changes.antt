@@ -113,17 +113,17 @@ module _ (old : List ℕ) (n : ℕ) (room : 12 ≤ length old) (fits : n < 2 ^ 3
 
   pub with_tag_fault : (word : ℕ) (policy : ChecksumPolicy) (e : PacketFault)
       → Answer old word policy (Err e) → Answer tagged word policy (Err e)
-  with_tag_fault word policy Size h = λ size. h (tag_unsized size)
-  with_tag_fault word policy Checksum h = (
-    tag_size h.0,
-    λ accepted. h.1
-        (subst (λ (field : ℕ). IsAccepted policy field word) tag_field accepted),
-  )
-  with_tag_fault word policy (Chunk e) h = (
-    tag_opened word policy h.0,
-    subst
-        (λ (bytes : List ℕ). HasFault (chunks policy.strict_padding) bytes e) (sym tag_body) h.1,
-  )
+  with_tag_fault word policy Size h = (_, ((λ size. h.1.0 (tag_unsized size)), refl))
+  with_tag_fault word policy Checksum h = (_, (
+    tag_size h.1.0,
+    (λ accepted. h.1.1 (subst (λ (field : ℕ). IsAccepted policy field word) tag_field accepted)),
+    refl,
+  ))
+  with_tag_fault word policy (Chunk e) h = (h.0, (
+    tag_opened word policy h.1.0,
+    (h.1.1.0, subst (λ (bytes : List ℕ). HasFault (chunks policy.strict_padding) bytes
+        (e, h.1.1.0)) (sym tag_body) h.1.1.1, h.1.1.2),
+  ))
 
 -- ---- the checksum field
 

@@ -4,8 +4,8 @@ use Rattle.dcsctp_tlv.specs.Number.{AreBytes}
 use Rattle.dcsctp_tlv.specs.Reading.{Answers, Exactly, Counted}
 use Rattle.dcsctp_tlv.specs.declared.error.ChunkParseError.TheVariants.{OutOfMemory}
 use Rattle.dcsctp_wire.specs.Account.{node_count}
-use Rattle.dcsctp_wire.specs.Packet.{PacketTree, PacketFault, Answer, IsPacket, packet_error_of, packet_checking, packet_reading, packet_view}
-use Rattle.dcsctp_wire.specs.Place.{HasPacketFaultAt, PacketLocated, packet_locating}
+use Rattle.dcsctp_wire.specs.Packet.{PacketTree, PacketFault, Placed, Answer, IsPacket, packet_error_of, packet_checking, packet_reading, packet_view}
+use Rattle.dcsctp_wire.specs.Place.{PacketLocated, packet_locating}
 use Rattle.dcsctp_wire.specs.declared.packet.first_fault.FirstFault.{FirstFault}
 use Rattle.dcsctp_wire.specs.declared.packet.sctp_packet.ChecksumPolicy.{ChecksumPolicy}
 use Rattle.dcsctp_wire.specs.declared.packet.sctp_packet.PacketParseError.{PacketParseError}
@@ -42,16 +42,16 @@ module _ (bytes : List ℕ) (word : ℕ) (asked policy : ChecksumPolicy) (same :
       → Answers packet_locating (λ (u : Unit {0}). u) (PacketLocated bytes word asked) (Err found)
       → GivesFaults found.fault code → IsAnswerCode bytes word policy code
   located_code found code fits (inl f) of =
-      answered (Err f.0.0) code fits f.2.0 (of f.0.0 (ap (λ (x : FirstFault). x.fault) f.1))
+      answered (Err f.0.0) code fits (f.0.1, f.2) (of f.0.0 (ap (λ (x : FirstFault). x.fault) f.1))
   located_code found code fits (inr none) of = absurd none
 
   -- ---- the place of the fault
 
   pub located_place : (found : FirstFault) (e : PacketFault) (n : ℕ)
       → Exactly packet_locating (λ (u : Unit {0}). u) (PacketLocated bytes word asked) (Err found)
-      → HasPacketFaultAt bytes word policy e n → found.offset ≡ n
+      → Placed bytes word policy (Err (e, n)) → found.offset ≡ n
   located_place found e n h at =
-      let here = subst (λ (p : ChecksumPolicy). HasPacketFaultAt bytes word p e n) (sym same) at in
+      let here = subst (λ (p : ChecksumPolicy). Placed bytes word p (Err (e, n))) (sym same) at in
       let there : FirstFault = record { fault = packet_error_of e; offset = n } in
       let left : Result (Unit {0}) FirstFault = Err found in
       let is : left ≡ Err there = (h.fault (e, n)).1 here in
@@ -69,7 +69,7 @@ module _ (bytes : List ℕ) (word : ℕ) (asked policy : ChecksumPolicy) (same :
       → Answers packet_locating (λ (u : Unit {0}). u) (PacketLocated bytes word asked) (Err found)
       → IsPacket bytes word policy → ⊥
   no_packet found fits (inl f) p =
-      let m = asked_for (Err f.0.0) f.2.0 in
+      let m = asked_for (Err f.0.0) (f.0.1, f.2) in
       let h : Ok p.0 ≡ Err f.0.0 =
       packet_single bytes word policy fits (Ok p.0) (Err f.0.0) p.1 m in
       cc

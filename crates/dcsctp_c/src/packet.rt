@@ -1,10 +1,9 @@
 //! Whole packets: checked, located, canonical, printed.
 
-ghost use Rattle.std.specs.Prelude.{◌≡◌, ◌≤◌, ◌<◌, ◌∷◌, ◌↔◌, ℕ, List, length, take, drop};
+ghost use Rattle.std.specs.Prelude.{◌≡◌, ◌≤◌, ◌<◌, ◌∷◌, ◌↔◌, ℕ, List, Err, length, take, drop};
 ghost use Rattle.dcsctp_crc32c.specs.Checksum.{packet_word};
 ghost use Rattle.dcsctp_wire.specs.Canonical.{canonical, Fits};
-ghost use Rattle.dcsctp_wire.specs.Packet.{PacketFault, IsPacket, packet_view};
-ghost use Rattle.dcsctp_wire.specs.Place.{HasPacketFaultAt};
+ghost use Rattle.dcsctp_wire.specs.Packet.{PacketFault, Placed, IsPacket, packet_view};
 ghost use Rattle.dcsctp_c.specs.Code.{policy_of, IsAnswerCode};
 ghost use Rattle.dcsctp_c.specs.Output.{IsCanonical, IsText, Writes, WritesPacket};
 
@@ -51,7 +50,7 @@ pub extern "C" fn dcsctp_first_fault(
     ensures code { IsAnswerCode bytes.now word (policy_of policy.now) result }
     ensures none { IsPacket bytes.now word (policy_of policy.now) → offset.new ≡ length bytes.now }
     ensures place { (e : PacketFault) (n : ℕ)
-        → HasPacketFaultAt bytes.now word (policy_of policy.now) e n → offset.new ≡ n }
+        → Placed bytes.now word (policy_of policy.now) (Err (e, n)) → offset.new ≡ n }
     ensures within { offset.new ≤ length bytes.now }
 {
     match SctpPacket::first_fault(bytes, word, &checksum_policy(policy)) {

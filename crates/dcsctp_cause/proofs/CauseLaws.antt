@@ -7,7 +7,7 @@ use Rattle.dcsctp_tlv.specs.Image.{Tlv, zeroed, size_of, image_of}
 use Rattle.dcsctp_tlv.specs.Table.{Content, Text, ◌&◌}
 use Rattle.dcsctp_tlv.specs.declared.error.ChunkParseError.{ChunkParseError}
 use Rattle.dcsctp_tlv.specs.Kinds.{ChecksKind}
-use Rattle.dcsctp_tlv.specs.Reading.{Answers, checking, RowTested}
+use Rattle.dcsctp_tlv.specs.Reading.{Answers, checking, RowAnswer, Counted, Unplaced}
 use Rattle.dcsctp_tlv.proofs.Lengths.{length-format}
 use Rattle.dcsctp_tlv.proofs.Laws.{Lawful}
 use Rattle.dcsctp_tlv.proofs.Owed.{AllOwed, OwedOf, plain_owed, owed_if, back_of}
@@ -63,7 +63,7 @@ row_at_front = typed_at_front facts
 -- a check that says what the kind does says what the table does
 pub cause_tested : (code : ℕ) (value : List ℕ) (r : Result (Unit {0}) ChunkParseError)
     → ChecksKind kinds 0 code value r
-    → Answers checking (λ (u : Unit {0}). u) (RowTested (row code) value) r
+    → Answers checking (λ (u : Unit {0}). u) (Counted (λ t. tt) (Unplaced (RowAnswer (row code) value))) r
 cause_tested = typed_tested facts
 
 pub causes_lawful : (strict : Bool) → Lawful (causes strict)

@@ -14,7 +14,7 @@ ghost use Rattle.std.specs.Prelude.{◌≡◌, ◌≢◌, ◌≤◌, ◌*◌, []
 ghost use Rattle.dcsctp_tlv.specs.Frame.{lenient};
 ghost use Rattle.dcsctp_tlv.specs.Kinds.{ChecksKind};
 ghost use Rattle.dcsctp_tlv.specs.Level.{HasMeaning, MeansTrees, MeansSome};
-ghost use Rattle.dcsctp_tlv.specs.Reading.{Answers, Exactly, reading, checking, RowTested, RowAnswer, ListAnswer, Counted};
+ghost use Rattle.dcsctp_tlv.specs.Reading.{Answers, Exactly, reading, checking, RowAnswer, ListAnswer, Counted, Unplaced};
 ghost use Rattle.dcsctp_cause.specs.Cause as cause;
 ghost use Rattle.dcsctp_cause.specs.Cause.{CauseTree, causes, TakesNoMemory, IsTight, view, views};
 
@@ -86,7 +86,7 @@ impl ErrorCause {
     /// holds nothing on the heap. No other error is answered.
     pub fn try_from(alloc: Global, raw: RawParameter) -> Result<Self, ChunkParseError>
         ensures answer { Exactly reading view
-            (RowAnswer (cause.row raw.entry.typ) raw.entry.value.now) result }
+            (Unplaced (RowAnswer (cause.row raw.entry.typ) raw.entry.value.now)) result }
         ensures memory { IsErrOf result ChunkParseError.OutOfMemory →
             HasMeaning (cause.row raw.entry.typ) raw.entry.value.now
             × ¬ TakesNoMemory raw.entry.typ }
@@ -97,7 +97,8 @@ impl ErrorCause {
 
     /// Checks a cause's value, and builds what it means.
     fn read(alloc: Global, code: u16, value: &[u8]) -> Result<Self, ChunkParseError>
-        ensures answer { Exactly reading view (RowAnswer (cause.row code) value.now) result }
+        ensures answer { Exactly reading view
+            (Unplaced (RowAnswer (cause.row code) value.now)) result }
         ensures memory { IsErrOf result ChunkParseError.OutOfMemory
             → HasMeaning (cause.row code) value.now × ¬ TakesNoMemory code }
         ensures tight { IfOk result IsTight }
@@ -108,7 +109,8 @@ impl ErrorCause {
 
     /// Passes exactly where the value has a meaning; else its fault. Does not allocate.
     fn check_value(code: u16, value: &[u8]) -> Result<(), ChunkParseError>
-        ensures { Answers checking (λ u. u) (RowTested (cause.row code) value.now) result }
+        ensures { Answers checking (λ u. u) (Counted (λ t. tt)
+            (Unplaced (RowAnswer (cause.row code) value.now))) result }
     {
         ErrorCause::check_kind(code, value)
     }
@@ -237,7 +239,7 @@ pub fn error_cause_from_bytes(
     bytes: &[u8],
 ) -> Result<Vec<ErrorCause>, ChunkParseError>
     ensures answer { Exactly reading (λ list. views list.items)
-        (ListAnswer (causes lenient) bytes.now) result }
+        (Unplaced (ListAnswer (causes lenient) bytes.now)) result }
     ensures memory { IsErrOf result ChunkParseError.OutOfMemory →
         MeansSome (causes lenient) bytes.now × (bytes.now ≢ []) }
     ensures reserved { IfOk result (λ list. vec_capacity list ≡ vec_len list) }
@@ -252,7 +254,7 @@ pub fn error_cause_from_bytes(
 /// that isn't zero; the last may lack some or all of it.
 pub fn error_cause_check(bytes: &[u8], strict: bool) -> Result<usize, ChunkParseError>
     ensures answer { Exactly checking (λ n. n)
-        (Counted length (ListAnswer (causes strict) bytes.now)) result }
+        (Counted length (Unplaced (ListAnswer (causes strict) bytes.now))) result }
     ensures memory { ¬ IsErrOf result ChunkParseError.OutOfMemory }
     ensures few { IfOk result (λ n. 4 * n ≤ length bytes.now) }
 {

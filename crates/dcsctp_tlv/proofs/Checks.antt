@@ -1,12 +1,13 @@
 -- A check of a list, and the build after it: what both have gone over, and what is left.
-use Rattle.std.proofs.Common.{◌≡◌, ◌≢◌, ℕ, suc, ◌+◌, ◌*◌, ◌≤◌, Bool, true, false, List, [], ◌∷◌, ◌++◌, length, refl, sym, ap, subst, ◌∙◌, arith}
+use Rattle.std.proofs.Common.{◌≡◌, ◌≢◌, ℕ, suc, ◌+◌, ◌*◌, ◌≤◌, Bool, true, false, Ok, List, [], ◌∷◌, ◌++◌, length, refl, sym, ap, subst, ◌∙◌, arith}
 use Rattle.std.specs.List.{flat_map}
 use Rattle.std.specs.Prelude.{◌==◌}
 use Rattle.std.proofs.lemmas.List.{append-nil, get_or-drop, length-append, length-drop}
 use Rattle.dcsctp_tlv.specs.Number.{AreBytes}
 use Rattle.dcsctp_tlv.specs.Count.{total}
 use Rattle.dcsctp_tlv.specs.Frame.{padding_size, round_up_to_4, Item, item_bytes, PaddingRule, AreFormed, AreItems, frame_length, BeginsWithFrame, frame_value, frame_padding, frame_rest}
-use Rattle.dcsctp_tlv.specs.Level.{Level, ItemsMean, MeansTrees, MeansCounted, front_row}
+use Rattle.dcsctp_tlv.specs.Level.{Level, ItemsMean, MeansTrees, front_row}
+use Rattle.dcsctp_tlv.specs.Reading.{ListAnswer, Counted, counts}
 use Rattle.dcsctp_tlv.proofs.Items.{front_item, front_length, items_before}
 use Rattle.dcsctp_tlv.proofs.Forms.{means_nil}
 use Rattle.dcsctp_tlv.proofs.Lists.{Progress, step, finish, is_cons}
@@ -64,14 +65,13 @@ check_step level parts bytes rest n all t c frame means accepted few =
     }
 
 pub check_finish : {T : Type 0} (level : Level T) (parts : T → ℕ) (bytes rest : List ℕ) (n all : ℕ)
-    → Checked level parts bytes rest n all → rest ≡ [] → MeansCounted level parts bytes n all
-check_finish level parts bytes rest n all c e = record {
-  trees = c.trees;
-  mean = finish level bytes c.trees rest c.progress e;
-  item_count = c.item_count;
-  part_count =
-      c.part_count;
-}
+    → Checked level parts bytes rest n all → rest ≡ []
+    → Counted (counts parts) (ListAnswer level bytes) (Ok (record { items = n; parts = all }))
+check_finish level parts bytes rest n all c e = (
+  c.trees,
+  finish level bytes c.trees rest c.progress e,
+  (λ k. record { items = c.item_count k; parts = c.part_count k }),
+)
 
 -- ---- the build
 

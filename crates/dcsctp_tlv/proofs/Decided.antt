@@ -2,10 +2,10 @@
 use Rattle.std.proofs.Common.{◌≡◌, ℕ, List, [], ◌∷◌, ◌++◌, refl, sym, ap, ◌∙◌}
 use Rattle.std.specs.List.{flat_map}
 use Rattle.dcsctp_tlv.specs.Frame.{Item, item_bytes, PaddingRule}
-use Rattle.dcsctp_tlv.specs.Level.{Row, Level}
-use Rattle.dcsctp_tlv.specs.Decided.{LawfulRow, SplitsOneWay, IsRowDecided, IsDecided}
+use Rattle.dcsctp_tlv.specs.Level.{Level}
+use Rattle.dcsctp_tlv.specs.Decided.{SplitsOneWay, IsDecided}
 use Rattle.dcsctp_tlv.proofs.Items.{AreBefore, items_before}
-use Rattle.dcsctp_tlv.proofs.Laws.{Lawful, after, list_one, list_apart, list_same, list_place, list_some}
+use Rattle.dcsctp_tlv.proofs.Laws.{Lawful, after, list_one, list_apart, list_same, list_some}
 
 items_one : (rule : PaddingRule) (is js : List Item) → flat_map item_bytes is ++ []
     ≡ flat_map item_bytes js ++ [] → AreBefore rule is [] → AreBefore rule js [] → is ≡ js
@@ -22,21 +22,11 @@ pub splits_one_way : (rule : PaddingRule) → SplitsOneWay rule
 splits_one_way rule bytes is js p q = items_one rule is js (ap (λ (x : List ℕ). x ++ [])
     (sym p.split ∙ q.split)) (items_before rule is p.formed) (items_before rule js q.formed)
 
-row_decided : {T : Type 0} {row : Row T} → LawfulRow row → IsRowDecided row
-row_decided law = record {
-  meaning = law.one;
-  fault = law.same;
-  place = λ v d e m n fits f g. f.1 ∙ law.place v d e fits f.0 g.0 ∙ sym g.1;
-  apart = law.apart;
-  either = law.some;
-}
-
 pub decided : {T : Type 0} (level : Level T) → Lawful level → IsDecided level
 decided level law = record {
-  row = λ first second. row_decided (law first second);
+  row = law;
   meaning = list_one level law;
   fault = list_same level law;
-  place = λ bytes d e m n fits f g. f.1 ∙ list_place level law bytes d e fits f.0 g.0 ∙ sym g.1;
   apart = list_apart level law;
   either = list_some level law;
 }

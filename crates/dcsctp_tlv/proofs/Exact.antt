@@ -8,7 +8,7 @@ use Rattle.dcsctp_tlv.specs.declared.error.ChunkParseError.TheVariants.{OutOfMem
 use Rattle.dcsctp_tlv.specs.Fault.{Fault, Length, Padding, Value}
 use Rattle.dcsctp_tlv.specs.Number.{AreBytes}
 use Rattle.dcsctp_tlv.specs.Level.{Row, Level, MeansTrees}
-use Rattle.dcsctp_tlv.specs.Reading.{Errors, Answers, Exactly, error_of, reading, checking, Tested, RowAnswer, ListAnswer, Counted}
+use Rattle.dcsctp_tlv.specs.Reading.{Errors, Answers, Exactly, error_of, reading, checking, Tested, RowAnswer, ListAnswer, Counted, Unplaced}
 use Rattle.dcsctp_tlv.specs.Decided.{LawfulRow}
 use Rattle.dcsctp_tlv.proofs.Laws.{Lawful, list_one, list_apart, list_same}
 
@@ -92,7 +92,7 @@ list_single level law bytes fits (Err e) (Ok t) f m =
 list_single level law bytes fits (Err d) (Err e) f g =
     ap Err (list_same level law bytes d e fits f g)
 
-pub counted_single : {T F : Type 0} (count : T → ℕ) (answer : Result T F → Type 0) → Single answer
+pub counted_single : {T U F : Type 0} (count : T → U) (answer : Result T F → Type 0) → Single answer
     → Single (Counted count answer)
 counted_single count answer single (Ok m) (Ok n) p q = (let h : Ok p.0 ≡ Ok q.0 = single (Ok p.0)
     (Ok q.0) p.1 q.1 in let same : p.0 ≡ q.0 = cc in ap Ok (p.2 ∙ ap count same ∙ sym q.2))
@@ -102,6 +102,18 @@ counted_single count answer single (Err f) (Ok n) g q =
     absurd (let h : Ok q.0 ≡ Err f = single (Ok q.0) (Err f) q.1 g in cc)
 counted_single count answer single (Err f) (Err g) p q =
     (let h : Err f ≡ Err g = single (Err f) (Err g) p q in let same : f ≡ g = cc in ap Err same)
+
+pub unplaced_single : {T F : Type 0} (answer : Result T (F × ℕ) → Type 0) → Single answer
+    → Single (Unplaced answer)
+unplaced_single answer single (Ok s) (Ok t) p q =
+    (let h = single (Ok s) (Ok t) p q in let same : s ≡ t = cc in ap Ok same)
+unplaced_single answer single (Ok t) (Err f) p q =
+    absurd (let h = single (Ok t) (Err (f, q.0)) p q.1 in cc)
+unplaced_single answer single (Err f) (Ok t) p q =
+    absurd (let h = single (Ok t) (Err (f, p.0)) q p.1 in cc)
+unplaced_single {T} {F} answer single (Err f) (Err g) p q =
+    (let h = single (Err (f, p.0)) (Err (g, q.0)) p.1 q.1 in
+    let same : (f, p.0) ≡ (g, q.0) = cc in ap (λ (x : F × ℕ). Err x.0) same)
 
 tested_single : {T : Type 0} (read : Result T Fault) → Single (Tested read)
 tested_single read (Ok x) (Ok y) p q = refl
@@ -131,27 +143,31 @@ lacks r view answer memory e is h = memory (is ∙ ap Err h)
 -- a value has one answer under a lawful row
 pub row_exactly : {X T : Type 0} {row : Row T} → LawfulRow row → (v : List ℕ)
     → ((i : ℕ) → Fits w8 (get_or v i 0)) → {view : X → T} {r : Result X ChunkParseError}
-    → Answers reading view (RowAnswer row v) r × (IsErrOf r OutOfMemory → (t : T) × row.means v t)
-    → Exactly reading view (RowAnswer row v) r
+    → Answers reading view (Unplaced (RowAnswer row v)) r × (IsErrOf r OutOfMemory → (t : T)
+    × row.means v t) → Exactly reading view (Unplaced (RowAnswer row v)) r
 row_exactly {X} {T} {row} law v fits {view} {r} a = exactly reading reading_distinct view
-    (RowAnswer row v) (row_single row law v (λ i. (fits i).fits)) r a.0
-    (lacks r view (RowAnswer row v) a.1)
+    (Unplaced (RowAnswer row v))
+    (unplaced_single (RowAnswer row v) (row_single row law v (λ i. (fits i).fits))) r a.0
+    (lacks r view (Unplaced (RowAnswer row v)) a.1)
 
 -- the same of a list,
 pub list_exactly : {X T : Type 0} (level : Level T) → Lawful level → (bytes : List ℕ)
     → AreBytes bytes → (view : X → List T) (r : Result X ChunkParseError)
-    → Answers reading view (ListAnswer level bytes) r → (IsErrOf r OutOfMemory → (ts : List T)
-    × MeansTrees level bytes ts) → Exactly reading view (ListAnswer level bytes) r
+    → Answers reading view (Unplaced (ListAnswer level bytes)) r → (IsErrOf r OutOfMemory
+    → (ts : List T) × MeansTrees level bytes ts)
+    → Exactly reading view (Unplaced (ListAnswer level bytes)) r
 list_exactly level law bytes fits view r a memory = exactly reading reading_distinct view
-    (ListAnswer level bytes) (list_single level law bytes fits) r a
-    (lacks r view (ListAnswer level bytes) memory)
+    (Unplaced (ListAnswer level bytes))
+    (unplaced_single (ListAnswer level bytes) (list_single level law bytes fits)) r a
+    (lacks r view (Unplaced (ListAnswer level bytes)) memory)
 
 -- and of its check
 pub count_exactly : {T : Type 0} (level : Level T) → Lawful level → (bytes : List ℕ)
     → AreBytes bytes → (r : Result ℕ ChunkParseError)
-    → Answers checking (λ (n : ℕ). n) (Counted length (ListAnswer level bytes)) r
-    → Exactly checking (λ (n : ℕ). n) (Counted length (ListAnswer level bytes)) r
-count_exactly level law bytes fits r a =
-    exactly checking checking_distinct (λ n. n) (Counted length (ListAnswer level bytes))
-    (counted_single length (ListAnswer level bytes) (list_single level law bytes fits)) r a
+    → Answers checking (λ (n : ℕ). n) (Counted length (Unplaced (ListAnswer level bytes))) r
+    → Exactly checking (λ (n : ℕ). n) (Counted length (Unplaced (ListAnswer level bytes))) r
+count_exactly level law bytes fits r a = exactly checking checking_distinct (λ n. n)
+    (Counted length (Unplaced (ListAnswer level bytes)))
+    (counted_single length (Unplaced (ListAnswer level bytes))
+    (unplaced_single (ListAnswer level bytes) (list_single level law bytes fits))) r a
     (λ e is none. absurd none)

@@ -4,8 +4,8 @@ use Rattle.std.specs.Prelude.{◌==◌, IsOk}
 use Rattle.dcsctp_tlv.specs.declared.error.ChunkParseError.{ChunkParseError}
 use Rattle.dcsctp_tlv.specs.declared.error.LocatedFault.{LocatedFault}
 use Rattle.dcsctp_tlv.specs.Fault.{Fault}
-use Rattle.dcsctp_tlv.specs.Level.{Row, plain, pick, map_ok, MeansParts}
-use Rattle.dcsctp_tlv.specs.Reading.{Answers, checking, locating, Tested, RowTested, RowLocated}
+use Rattle.dcsctp_tlv.specs.Level.{Row, plain, pick, map_ok}
+use Rattle.dcsctp_tlv.specs.Reading.{Answers, checking, locating, Tested, RowAnswer, Counted, Unplaced}
 use Rattle.dcsctp_tlv.specs.Table.{row_of}
 use Rattle.dcsctp_tlv.proofs.Places.{fault_at_front}
 use Rattle.dcsctp_tlv.proofs.Owed.{IsAtFixed, AreAtFixed}
@@ -19,7 +19,7 @@ whole (Err e) = Err (record { offset = 0; fault = e })
 -- that is one part, or the fault of the item as a whole
 abbrev pub Finds : {T : Type 0} → (T → ℕ) → Row T → List ℕ → Result (Unit {0}) ChunkParseError
     → Type 0
-Finds parts row value r = Answers locating (λ (n : ℕ). n) (RowLocated parts row value) (whole r)
+Finds parts row value r = Answers locating (λ (n : ℕ). n) (Counted parts (RowAnswer row value)) (whole r)
 
 -- a tree of each kind has one part
 abbrev pub AreSingle : {T : Type 0} → (T → ℕ) → (ks : List Kind) → TreesOf ks T → Type 0
@@ -41,7 +41,7 @@ kind_finds parts tree one read value (Err e) p =
 
 -- any value of a type that has none of the kinds passes
 other_finds : {T : Type 0} (parts : T → ℕ) (row : Row T) (value : List ℕ)
-    (r : Result (Unit {0}) ChunkParseError) → MeansParts parts row value 1 → IsOk r
+    (r : Result (Unit {0}) ChunkParseError) → Counted parts (RowAnswer row value) (Ok 1) → IsOk r
     → Finds parts row value r
 other_finds parts row value (Ok x) means p = means
 other_finds parts row value (Err e) means p = absurd (let e : false ≡ true = p in cc)
@@ -64,7 +64,7 @@ reader_finds parts tree one (Nested row) strict flags value r fixed p = absurd f
 pub table_finds : {T : Type 0} (parts : T → ℕ) (ks : List Kind) (trees : TreesOf ks T)
     (strict : Bool) (flags typ : ℕ) (others : Row T) (value : List ℕ)
     (r : Result (Unit {0}) ChunkParseError) → AreAtFixed ks → AreSingle parts ks trees
-    → MeansParts parts others value 1 → ChecksKind ks flags typ value r
+    → Counted parts (RowAnswer others value) (Ok 1) → ChecksKind ks flags typ value r
     → Finds parts (row_of (rows strict flags ks trees) typ others) value r
 table_finds parts [] trees strict flags typ others value r fixed one means p =
     other_finds parts others value r means p
@@ -76,10 +76,10 @@ table_finds parts (k ∷ ks) trees strict flags typ others value r fixed one mea
 -- the same of the value alone, where each tree is one part
 pub finds_tested : {T : Type 0} (row : Row T) (value : List ℕ) (r : Result (Unit {0}) ChunkParseError)
     → Finds (λ t. 1) row value r
-    → Answers checking (λ (u : Unit {0}). u) (RowTested row value) r
-finds_tested row value (Ok x) found = (found.0, found.1)
+    → Answers checking (λ (u : Unit {0}). u) (Counted (λ t. tt) (Unplaced (RowAnswer row value))) r
+finds_tested row value (Ok x) found = (found.0, found.1, refl)
 finds_tested row value (Err e) (inl found) =
-    inl (found.0.0, ap (λ (x : LocatedFault). x.fault) found.1, found.2.0)
+    inl (found.0.0, ap (λ (x : LocatedFault). x.fault) found.1, (found.0.1, found.2))
 finds_tested row value (Err e) (inr none) = absurd none
 
 pub all_single : (T : Type 0) (ks : List Kind) (trees : TreesOf ks T) → AreSingle {T = T} (λ t. 1) ks trees

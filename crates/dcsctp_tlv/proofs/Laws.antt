@@ -6,7 +6,7 @@ use Rattle.std.proofs.lemmas.List.{append-nil, get_or-drop, get_or-take, get_or_
 use Rattle.dcsctp_tlv.specs.Fault.{Fault, Length, Padding}
 use Rattle.dcsctp_tlv.specs.Number.{AreBytes}
 use Rattle.dcsctp_tlv.specs.Frame.{round_up_to_4, padding_size, any_padding, Item, item_bytes, PaddingRule, frame_length, BeginsWithFrame, frame_value, frame_padding, frame_rest}
-use Rattle.dcsctp_tlv.specs.Level.{Row, Level, ItemsMean, MeansTrees, HasFault, BeginsWithFault, no_frame, value, padding, front_row, plain, as_row, front_offset, fault_offset, listed, listed_offset}
+use Rattle.dcsctp_tlv.specs.Level.{Row, Level, ItemsMean, MeansTrees, HasFault, BeginsWithFault, no_frame, value, padding, front_row, further, plain, as_row, listed}
 use Rattle.dcsctp_tlv.specs.Decided.{LawfulRow}
 use Rattle.dcsctp_tlv.proofs.Items.{IsNext, AreBefore, front_item, front_split, front_next, next_one, item_frame, items_before, whole_before}
 use Rattle.dcsctp_tlv.proofs.Lists.{Progress, begin, step, finish, not_nil, fault}
@@ -18,21 +18,20 @@ pub plain_lawful : {T : Type 0} (read : List ℕ → Result T Fault) → LawfulR
 plain_lawful {T} read = record {
   one = λ v s t p q. cc;
   apart = λ v t e fits p q. cc;
-  same = λ v d e fits p q. cc;
-  place = λ v d e fits p q. refl;
+  same = λ v d e fits p q. (
+      let is : d.0 ≡ e.0 = cc in let there : d.1 ≡ e.1 = cc in λ k. (is k, there k));
   some = λ v fits. go v (read v) refl;
 } where
   go : (v : List ℕ) (r : Result T Fault) → read v ≡ r → ((t : T) × (read v ≡ Ok t))
-      ⊎ ((e : Fault) × (read v ≡ Err e))
+      ⊎ ((f : Fault × ℕ) × ((read v ≡ Err f.0) × (f.1 ≡ 0)))
   go v (Ok t) h = inl (t, h)
-  go v (Err e) h = inr (e, h)
+  go v (Err e) h = inr ((e, 0), (h, refl))
 
 pub as_lawful : {A B : Type 0} (f : A → B) (row : Row A) → LawfulRow row → LawfulRow (as_row f row)
 as_lawful {A} {B} f row law = record {
   one = λ v s t p q. p.2 ∙ ap f (law.one v p.0 q.0 p.1 q.1) ∙ sym q.2;
   apart = λ v t e fits p q. law.apart v p.0 e fits p.1 q;
   same = law.same;
-  place = law.place;
   some = λ v fits. elim (law.some v fits) [
     | inl m ↦ inl (f m.0, (m.0, m.1, refl))
     | inr x ↦ inr x
@@ -67,7 +66,7 @@ value_fits bytes fits i = elim (cases_lt i (frame_length bytes - 4)) [
 
 -- an item that means a tree isn't at fault
 front_apart : {T : Type 0} (level : Level T) → Lawful level
-    → (i : Item) (t : T) (r bytes : List ℕ) (e : Fault) → AreBytes bytes → bytes ≡ item_bytes i ++ r
+    → (i : Item) (t : T) (r bytes : List ℕ) (e : Fault × ℕ) → AreBytes bytes → bytes ≡ item_bytes i ++ r
     → IsNext level.padding i r
     → (level.row i.first i.second).means i.value t → BeginsWithFault level bytes e → ⊥
 front_apart level law i t r bytes e fits is p means (no_frame _ h _) =
@@ -107,7 +106,7 @@ EndsAt {T} level rest = (i : Item) (t : T) (r : List ℕ) → rest ≡ item_byte
 nil_ends : {T : Type 0} (level : Level T) → EndsAt level []
 nil_ends level i t r e p m = cc
 
-fault_ends : {T : Type 0} (level : Level T) → Lawful level → (rest : List ℕ) (e : Fault)
+fault_ends : {T : Type 0} (level : Level T) → Lawful level → (rest : List ℕ) (e : Fault × ℕ)
     → AreBytes rest → BeginsWithFault level rest e → EndsAt level rest
 fault_ends level law rest e fits f i t r is p m = front_apart level law i t r rest e fits is p m f
 
@@ -152,7 +151,7 @@ of_trees level bytes ts m = record {
   fits = λ i. omega arith;
 }
 
-abbrev of_fault : {T : Type 0} (level : Level T) (bytes : List ℕ) (e : Fault) → AreBytes bytes
+abbrev of_fault : {T : Type 0} (level : Level T) (bytes : List ℕ) (e : Fault × ℕ) → AreBytes bytes
     → (f : HasFault level bytes e) → Progress level bytes f.trees f.rest
 of_fault level bytes e fits f = record {
   items = f.items;
@@ -168,76 +167,53 @@ list_one level law bytes ts us m n = (one_way level law bytes (of_trees level by
     (of_trees level bytes us n) (nil_ends level) (nil_ends level)).1
 
 pub list_apart : {T : Type 0} (level : Level T) → Lawful level
-    → (bytes : List ℕ) (ts : List T) (e : Fault) → AreBytes bytes → MeansTrees level bytes ts
+    → (bytes : List ℕ) (ts : List T) (e : Fault × ℕ) → AreBytes bytes → MeansTrees level bytes ts
     → HasFault level bytes e → ⊥
 list_apart level law bytes ts e fits m f =
     let p = of_fault level bytes e fits f in
-    not_nil level f.rest e f.fault
+    not_nil level f.rest f.first f.fault
     (sym (one_way level law bytes (of_trees level bytes ts m) p (nil_ends level)
-    (fault_ends level law f.rest e p.fits f.fault)).2)
+    (fault_ends level law f.rest f.first p.fits f.fault)).2)
 
 -- ---- one fault, at one place
 
--- two faults at the front are one
-abbrev Agree : {T : Type 0} (level : Level T) (rest more : List ℕ) (d e : Fault)
-    → BeginsWithFault level rest d → BeginsWithFault level more e → Type 0
-Agree level rest more d e f g =
-    (d ≡ e) × (front_offset level rest d f ≡ front_offset level more e g)
-
-meant : {T : Type 0} (level : Level T) → Lawful level → (rest : List ℕ) (t : T) (e : Fault)
+meant : {T : Type 0} (level : Level T) → Lawful level → (rest : List ℕ) (t : T) (e : Fault × ℕ)
     → AreBytes rest → (front_row level rest).means (frame_value rest) t
     → (front_row level rest).faults (frame_value rest) e → ⊥
 meant level law rest t e fits m p = (law (get_or rest 0 0) (get_or rest 1 0)).apart
     (frame_value rest) t e (value_fits rest fits) m p
 
-front_agree : {T : Type 0} (level : Level T) → Lawful level → (rest : List ℕ) (d e : Fault)
-    → AreBytes rest → (f : BeginsWithFault level rest d) (g : BeginsWithFault level rest e)
-    → Agree level rest rest d e f g
-front_agree level law rest d e fits (no_frame _ _ p) (no_frame _ _ q) = (p ∙ sym q, refl)
-front_agree level law rest d e fits (no_frame _ h _) (value k _) = absurd (h k)
-front_agree level law rest d e fits (no_frame _ h _) (padding _ k _ _ _) = absurd (h k)
-front_agree level law rest d e fits (value k _) (no_frame _ h _) = absurd (h k)
-front_agree level law rest d e fits (value _ p) (value _ q) =
-    let row = law (get_or rest 0 0) (get_or rest 1 0) in
-    let v = frame_value rest in
-    let in_width = value_fits rest fits in
-    (row.same v d e in_width p q, row.place v d e in_width p q)
-front_agree level law rest d e fits (value _ p) (padding t _ m _ _) =
+front_same : {T : Type 0} (level : Level T) → Lawful level → (rest : List ℕ) (d e : Fault × ℕ)
+    → AreBytes rest → BeginsWithFault level rest d → BeginsWithFault level rest e → d ≡ e
+front_same level law rest d e fits (no_frame _ _ p) (no_frame _ _ q) = p ∙ sym q
+front_same level law rest d e fits (no_frame _ h _) (value k _) = absurd (h k)
+front_same level law rest d e fits (no_frame _ h _) (padding _ k _ _ _) = absurd (h k)
+front_same level law rest d e fits (value k _) (no_frame _ h _) = absurd (h k)
+front_same level law rest d e fits (value _ p) (value _ q) =
+    (law (get_or rest 0 0) (get_or rest 1 0)).same (frame_value rest) d e (value_fits rest fits) p q
+front_same level law rest d e fits (value _ p) (padding t _ m _ _) =
     absurd (meant level law rest t d fits m p)
-front_agree level law rest d e fits (padding _ k _ _ _) (no_frame _ h _) = absurd (h k)
-front_agree level law rest d e fits (padding t _ m _ _) (value _ p) =
+front_same level law rest d e fits (padding _ k _ _ _) (no_frame _ h _) = absurd (h k)
+front_same level law rest d e fits (padding t _ m _ _) (value _ p) =
     absurd (meant level law rest t e fits m p)
-front_agree level law rest d e fits (padding _ _ _ _ p) (padding _ _ _ _ q) = (p ∙ sym q, refl)
+front_same level law rest d e fits (padding _ _ _ _ p) (padding _ _ _ _ q) = p ∙ sym q
 
-list_agree : {T : Type 0} (level : Level T) → Lawful level → (bytes : List ℕ) (d e : Fault)
-    → AreBytes bytes → (f : HasFault level bytes d) (g : HasFault level bytes e)
-    → (d ≡ e) × (fault_offset level bytes d f ≡ fault_offset level bytes e g)
-list_agree level law bytes d e fits f g =
+pub list_same : {T : Type 0} (level : Level T) → Lawful level → (bytes : List ℕ) (d e : Fault × ℕ)
+    → AreBytes bytes → HasFault level bytes d → HasFault level bytes e → d ≡ e
+list_same level law bytes d e fits f g =
     let p = of_fault level bytes d fits f in
     let q = of_fault level bytes e fits g in
-    let way = one_way level law bytes p q (fault_ends level law f.rest d p.fits f.fault)
-    (fault_ends level law g.rest e q.fits g.fault) in
-    let P : List ℕ → Type 0 =
-    λ r. (h : BeginsWithFault level r e) → Agree level f.rest r d e f.fault h in
-    let same = subst P way.2 (λ h. front_agree level law f.rest d e p.fits f.fault h) g.fault in (
-      same.0,
-      rw (way.0, same.1) refl,
-    )
-
-pub list_same : {T : Type 0} (level : Level T) → Lawful level → (bytes : List ℕ) (d e : Fault)
-    → AreBytes bytes → HasFault level bytes d → HasFault level bytes e → d ≡ e
-list_same level law bytes d e fits f g = (list_agree level law bytes d e fits f g).0
-
-pub list_place : {T : Type 0} (level : Level T) → Lawful level → (bytes : List ℕ) (d e : Fault)
-    → AreBytes bytes → (f : HasFault level bytes d) (g : HasFault level bytes e)
-    → fault_offset level bytes d f ≡ fault_offset level bytes e g
-list_place level law bytes d e fits f g = (list_agree level law bytes d e fits f g).1
+    let way = one_way level law bytes p q (fault_ends level law f.rest f.first p.fits f.fault)
+    (fault_ends level law g.rest g.first q.fits g.fault) in
+    let same = front_same level law f.rest f.first g.first p.fits f.fault
+    (subst (λ (r : List ℕ). BeginsWithFault level r g.first) (sym way.2) g.fault) in
+    f.place ∙ rw (way.0, same) (sym g.place)
 
 -- ---- each list of bytes has an answer
 
 abbrev pub ListAnswer : {T : Type 0} → Level T → List ℕ → Type 0
 ListAnswer {T} level bytes =
-    ((ts : List T) × MeansTrees level bytes ts) ⊎ ((e : Fault) × HasFault level bytes e)
+    ((ts : List T) × MeansTrees level bytes ts) ⊎ ((e : Fault × ℕ) × HasFault level bytes e)
 
 frame_tells : (bytes : List ℕ) → BeginsWithFrame bytes ⊎ (¬ BeginsWithFrame bytes)
 frame_tells bytes = elim (cases_lt (length bytes) 4) [
@@ -266,21 +242,17 @@ padded level n bytes trees rest t lt p frame m true e go = go (trees ++ t ∷ []
     omega (arith, length-drop (round_up_to_4 (frame_length rest)) rest))
     (step level bytes trees rest t p frame m e)
 padded level n bytes trees rest t lt p frame m false e go =
-    inr (Padding, fault level bytes trees rest Padding p (padding t frame m e refl))
+    inr (_, fault level bytes trees rest _ _ p refl (padding t frame m e refl))
 
 goes : {T : Type 0} (level : Level T) → Lawful level → (n : ℕ) (bytes : List ℕ)
     → Answered level bytes n
 goes level law zero bytes trees rest lt p = absurd (omega arith)
 goes level law (suc n) bytes trees [] lt p = inl (trees, finish level bytes trees [] p refl)
 goes level law (suc n) bytes trees (b ∷ rest) lt p = elim (frame_tells (b ∷ rest)) [
-  | inr none ↦ inr (
-    Length,
-    fault level bytes trees (b ∷ rest) Length p
-        (no_frame (λ c. cc) none refl),
-  )
+  | inr none ↦ inr (_, fault level bytes trees (b ∷ rest) _ _ p refl (no_frame (λ c. cc) none refl))
   | inl frame ↦ elim ((law b (get_or rest 0 0)).some (frame_value (b ∷ rest))
       (value_fits (b ∷ rest) p.fits)) [
-        | inr f ↦ inr (f.0, fault level bytes trees (b ∷ rest) f.0 p (value frame f.1))
+        | inr f ↦ inr (_, fault level bytes trees (b ∷ rest) f.0 _ p refl (value frame f.1))
         | inl m ↦ padded level n bytes trees (b ∷ rest) m.0 lt p frame m.1
             (level.padding (padding_size (length (frame_value (b ∷ rest))))
             (frame_padding (b ∷ rest)))
@@ -305,28 +277,24 @@ listed_lawful {T} {U} rule at level tree_of law = record {
       ∙ sym q.1.2;
   apart = λ v t e fits p f. elim f [
     | inl g ↦ (let h : true ≡ false = sym p.0 ∙ g.0 in cc)
-    | inr g ↦ list_apart level law (drop at v) p.1.0 e (drop_fits at v fits) p.1.1 g.1
+    | inr g ↦ list_apart level law (drop at v) p.1.0 g.1.0 (drop_fits at v fits) p.1.1 g.1.1
   ];
-  same = λ v d e fits f g. (agree v d e fits f g).0;
-  place = λ v d e fits f g. (agree v d e fits f g).1;
+  same = same;
   some = λ v fits. answered v fits (rule v) refl;
 } where
-  agree : (v : List ℕ) (d e : Fault) → AreBytes v
-      → (f : (listed rule at level tree_of).faults v d) (g : (listed rule at level tree_of).faults v
-      e)
-      → (d ≡ e) × (listed_offset rule at level v d f ≡ listed_offset rule at level v e g)
-  agree v d e fits (inl f) (inl g) = (f.1 ∙ sym g.1, refl)
-  agree v d e fits (inl f) (inr g) = absurd (let h : false ≡ true = sym f.0 ∙ g.0 in cc)
-  agree v d e fits (inr f) (inl g) = absurd (let h : true ≡ false = sym f.0 ∙ g.0 in cc)
-  agree v d e fits (inr f) (inr g) =
-      let same = list_agree level law (drop at v) d e (drop_fits at v fits) f.1 g.1 in
-      (same.0, ap (λ (n : ℕ). 4 + (at + n)) same.1)
+  same : (v : List ℕ) (d e : Fault × ℕ) → AreBytes v → (listed rule at level tree_of).faults v d
+      → (listed rule at level tree_of).faults v e → d ≡ e
+  same v d e fits (inl f) (inl g) = f.1 ∙ sym g.1
+  same v d e fits (inl f) (inr g) = absurd (let h : false ≡ true = sym f.0 ∙ g.0 in cc)
+  same v d e fits (inr f) (inl g) = absurd (let h : true ≡ false = sym f.0 ∙ g.0 in cc)
+  same v d e fits (inr f) (inr g) = f.1.2 ∙ ap (λ (x : Fault × ℕ). further 4 (further at x))
+      (list_same level law (drop at v) f.1.0 g.1.0 (drop_fits at v fits) f.1.1 g.1.1) ∙ sym g.1.2
 
   answered : (v : List ℕ) → AreBytes v → (b : Bool) → rule v ≡ b
       → ((t : T) × (listed rule at level tree_of).means v t)
-      ⊎ ((e : Fault) × (listed rule at level tree_of).faults v e)
-  answered v fits false h = inr (Length, inl (h, refl))
+      ⊎ ((e : Fault × ℕ) × (listed rule at level tree_of).faults v e)
+  answered v fits false h = inr (_, inl (h, refl))
   answered v fits true h = elim (list_some level law (drop at v) (drop_fits at v fits)) [
     | inl m ↦ inl (tree_of v m.0, (h, (m.0, m.1, refl)))
-    | inr f ↦ inr (f.0, inr (h, f.1))
+    | inr f ↦ inr (_, inr (h, (f.0, f.1, refl)))
   ]

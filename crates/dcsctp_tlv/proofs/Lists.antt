@@ -7,7 +7,7 @@ use Rattle.std.specs.Prelude.{◌==◌}
 use Rattle.dcsctp_tlv.specs.Fault.{Fault}
 use Rattle.dcsctp_tlv.specs.Number.{AreBytes}
 use Rattle.dcsctp_tlv.specs.Frame.{round_up_to_4, padding_size, Item, item_bytes, frame_length, BeginsWithFrame, frame_value, frame_padding, frame_rest}
-use Rattle.dcsctp_tlv.specs.Level.{Level, ItemsMean, MeansTrees, HasFault, HasFaultAt, BeginsWithFault, no_frame, value, padding, front_row, front_offset}
+use Rattle.dcsctp_tlv.specs.Level.{Level, ItemsMean, MeansTrees, HasFault, further, BeginsWithFault, no_frame, value, padding, front_row}
 use Rattle.dcsctp_tlv.proofs.Items.{AreBefore, front_item, front_split, front_next, with_last, before_push, before_end, before_rest}
 
 -- what a loop over the frames has read
@@ -61,41 +61,31 @@ finish level bytes trees rest p e = record {
   mean = p.mean;
 }
 
-pub not_nil : {T : Type 0} (level : Level T) (rest : List ℕ) (e : Fault)
+pub not_nil : {T : Type 0} (level : Level T) (rest : List ℕ) (e : Fault × ℕ)
     → BeginsWithFault level rest e → rest ≢ []
 not_nil level [] e (no_frame h _ _) = h
 not_nil level [] e (value h _) = absurd (omega (arith, h.header))
 not_nil level [] e (padding _ h _ _ _) = absurd (omega (arith, h.header))
 not_nil level (b ∷ rest) e f = λ c. cc
 
--- at the front of what is left, after the bytes that were gone over
-after_front : (all before left n k : ℕ) → all ≡ before + left → n ≡ (all - left) + k
-    → n ≡ before + k
-after_front all before left n k e h = omega (arith, e, h)
-
--- what is wrong at the front of what is left is the fault, and where it lies
-pub fault_at : {T : Type 0} (level : Level T) (bytes : List ℕ) (trees : List T) (rest : List ℕ)
-    (e : Fault) (n : ℕ) → Progress level bytes trees rest → (f : BeginsWithFault level rest e)
-    → n ≡ (length bytes - length rest) + front_offset level rest e f → HasFaultAt level bytes e n
-fault_at level bytes trees rest e n p f h = (
-  record {
-    items = p.items;
-    trees = trees;
-    rest = rest;
-    split = p.split;
-    whole = before_rest level.padding p.items rest (not_nil level rest e f) p.before;
-    mean = p.mean;
-    fault = f;
-  },
-  after_front (length bytes) (length (flat_map item_bytes p.items)) (length rest) n
-      (front_offset level rest e f) (ap length p.split ∙ length-append (flat_map item_bytes p.items)
-      rest) h,
-)
-
+-- what is wrong at the front of what is left is the fault, after the bytes that were gone over
 pub fault : {T : Type 0} (level : Level T) (bytes : List ℕ) (trees : List T) (rest : List ℕ)
-    (e : Fault) → Progress level bytes trees rest → BeginsWithFault level rest e
-    → HasFault level bytes e
-fault level bytes trees rest e p f = (fault_at level bytes trees rest e _ p f refl).0
+    (f : Fault × ℕ) (n : ℕ) → Progress level bytes trees rest → n ≡ length bytes - length rest
+    → BeginsWithFault level rest f → HasFault level bytes (further n f)
+fault level bytes trees rest f n p h first =
+    let ahead : n ≡ length (flat_map item_bytes p.items) = omega (arith, h,
+    ap length p.split ∙ length-append (flat_map item_bytes p.items) rest) in
+    record {
+      items = p.items;
+      trees = trees;
+      rest = rest;
+      split = p.split;
+      whole = before_rest level.padding p.items rest (not_nil level rest f first) p.before;
+      mean = p.mean;
+      first = f;
+      fault = first;
+      place = ap (λ (k : ℕ). further k f) ahead;
+    }
 
 -- what is_empty says
 pub is_nil : (xs : List ℕ) (b : Bool) → b ≡ (length xs == 0) → b ≡ true → xs ≡ []

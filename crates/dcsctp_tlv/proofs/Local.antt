@@ -5,7 +5,7 @@ use Rattle.std.proofs.lemmas.List.{append-nil, length-append}
 use Rattle.std.proofs.lemmas.List.Concat.{flat_map-append}
 use Rattle.dcsctp_tlv.specs.Fault.{Fault}
 use Rattle.dcsctp_tlv.specs.Frame.{Item, item_bytes, PaddingRule, IsWhole, IsLastForm, AreFormed}
-use Rattle.dcsctp_tlv.specs.Level.{Level, ItemsMean, MeansTrees, HasFault}
+use Rattle.dcsctp_tlv.specs.Level.{Level, ItemsMean, MeansTrees, HasFault, further}
 use Rattle.dcsctp_tlv.proofs.Accounts.{length-item}
 
 -- ---- items that fill words are whole, the last too
@@ -78,15 +78,24 @@ module _ {T : Type 0} (level : Level T) where
     mean = mean_after m.items n.items ts us m.mean n.mean;
   }
 
-  -- the fault of the second
-  pub local_fault : (front end : List ℕ) (ts : List T) (e : Fault) → length front % 4 ≡ 0
-      → MeansTrees level front ts → HasFault level end e → HasFault level (front ++ end) e
-  local_fault front end ts e words m f = record {
-    items = m.items ++ f.items;
-    trees = ts ++ f.trees;
-    rest = f.rest;
-    split = rw (m.are.split, f.split) (simp (flat_map-append, append_assoc));
-    whole = whole_after level.padding m.items f.items (whole_items front ts m words) f.whole;
-    mean = mean_after m.items f.items ts f.trees m.mean f.mean;
-    fault = f.fault;
-  }
+  -- the fault of the second, after the bytes of the first
+  pub local_fault : (front end : List ℕ) (ts : List T) (e : Fault × ℕ) → length front % 4 ≡ 0
+      → MeansTrees level front ts → HasFault level end e
+      → HasFault level (front ++ end) (further (length front) e)
+  local_fault front end ts e words m f =
+      let both = ap length (flat_map-append item_bytes m.items f.items)
+      ∙ length-append (flat_map item_bytes m.items) (flat_map item_bytes f.items) in
+      let ahead : length front + (length (flat_map item_bytes f.items) + f.first.1)
+      ≡ length (flat_map item_bytes (m.items ++ f.items)) + f.first.1 =
+      omega (arith, both, ap length m.are.split) in
+      record {
+        items = m.items ++ f.items;
+        trees = ts ++ f.trees;
+        rest = f.rest;
+        split = rw (m.are.split, f.split) (simp (flat_map-append, append_assoc));
+        whole = whole_after level.padding m.items f.items (whole_items front ts m words) f.whole;
+        mean = mean_after m.items f.items ts f.trees m.mean f.mean;
+        first = f.first;
+        fault = f.fault;
+        place = ap (further (length front)) f.place ∙ ap (λ (n : ℕ). (f.first.0, n)) ahead;
+      }

@@ -58,8 +58,8 @@ module _ {Keeps : Content → List ℕ → Type 0} {X : Type 0} {read : ℕ → 
     kept_owed kept laws keeps same width = record {
       lawful = λ strict flags. plain_lawful (read flags);
       looser = λ strict flags value x e. e;
-      unpadded = λ flags value e.
-          subst (λ (r : Result X Fault). NotPadding r) e (laws.unpadded 0 flags value);
+      unpadded = λ flags value n e.
+          subst (λ (r : Result X Fault). NotPadding r) e.0 (laws.unpadded 0 flags value);
       forms = λ flags value x e. laws.formed 0 flags value x e;
       account = λ flags value x is e.
           same_size _ _ (laws.keeps 0 flags value x (keeps value is) e);
@@ -116,13 +116,14 @@ module _ {X T : Type 0} (tree : X → T) where
 
   unpadded_as : (flags : ℕ) (r : Reader X) → Unpadded (own_row lenient flags r)
       → Unpadded (row_as lenient flags tree r)
-  unpadded_as flags (AtFixed read) law value e = law value (err_of tree (read flags value) Padding e)
-  unpadded_as flags (Nested row) law value f = law value f
+  unpadded_as flags (AtFixed read) law value n e =
+      law value n (err_of tree (read flags value) Padding e.0, e.1)
+  unpadded_as flags (Nested row) law value n f = law value n f
 
   -- a fault of what is read at fixed places is the item's as a whole
   front_as : (strict : Bool) (flags : ℕ) (r : Reader X) → IsAtFixed r
       → AtFront (row_as strict flags tree r)
-  front_as strict flags (AtFixed read) fixed = λ value e f. refl
+  front_as strict flags (AtFixed read) fixed = λ value e n is. (is.0, refl)
   front_as strict flags (Nested row) fixed = absurd fixed
 
 -- ---- a table of kinds

@@ -9,7 +9,7 @@ use Rattle.dcsctp_tlv.specs.Frame.{lenient}
 use Rattle.dcsctp_tlv.specs.Number.{numbers}
 use Rattle.dcsctp_tlv.specs.declared.error.ChunkParseError.{ChunkParseError}
 use Rattle.dcsctp_tlv.specs.Kinds.{ChecksKind}
-use Rattle.dcsctp_tlv.specs.Reading.{Answers, checking, RowTested}
+use Rattle.dcsctp_tlv.specs.Reading.{Answers, checking, RowAnswer, Counted, Unplaced}
 use Rattle.dcsctp_tlv.proofs.Lengths.{length-format}
 use Rattle.dcsctp_tlv.specs.Image.{Tlv, zeroed, image_of, size_of}
 use Rattle.dcsctp_tlv.specs.Table.{Content, Varied, ◌&◌}
@@ -110,7 +110,7 @@ row_at_front = typed_at_front facts
 -- a check that says what the kind does says what the table does
 pub parameter_tested : (typ : ℕ) (value : List ℕ) (r : Result (Unit {0}) ChunkParseError)
     → ChecksKind kinds 0 typ value r
-    → Answers checking (λ (u : Unit {0}). u) (RowTested (row typ) value) r
+    → Answers checking (λ (u : Unit {0}). u) (Counted (λ t. tt) (Unplaced (RowAnswer (row typ) value))) r
 parameter_tested = typed_tested facts
 
 pub parameters_lawful : (strict : Bool) → Lawful (parameters strict)

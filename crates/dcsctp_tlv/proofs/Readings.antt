@@ -4,7 +4,7 @@ use Rattle.std.specs.Prelude.{IsOk}
 use Rattle.dcsctp_tlv.specs.declared.error.LocatedFault.{LocatedFault}
 use Rattle.dcsctp_tlv.specs.Fault.{Fault}
 use Rattle.dcsctp_tlv.specs.Level.{Row, as_row}
-use Rattle.dcsctp_tlv.specs.Reading.{Answers, locating, RowLocated}
+use Rattle.dcsctp_tlv.specs.Reading.{Answers, locating, RowAnswer, Counted}
 
 -- ---- what is known where a value has a meaning
 
@@ -24,7 +24,7 @@ ok_not_refused true r e ok = absurd (let h : false ≡ true = ok in cc)
 
 pub finds_as : {A B : Type 0} (f : A → B) (row : Row A) (parts : A → ℕ) (all : B → ℕ)
     → ((x : A) → all (f x) ≡ parts x) → (v : List ℕ) (r : Result ℕ LocatedFault)
-    → Answers locating (λ (n : ℕ). n) (RowLocated parts row v) r
-    → Answers locating (λ (n : ℕ). n) (RowLocated all (as_row f row) v) r
+    → Answers locating (λ (n : ℕ). n) (Counted parts (RowAnswer row v)) r
+    → Answers locating (λ (n : ℕ). n) (Counted all (RowAnswer (as_row f row) v)) r
 finds_as f row parts all same v (Ok n) p = (f p.0, (p.0, p.1, refl), p.2 ∙ sym (same p.0))
 finds_as f row parts all same v (Err l) p = p

@@ -6,7 +6,7 @@ use Rattle.dcsctp_tlv.specs.Frame.{lenient}
 use Rattle.dcsctp_tlv.specs.Image.{solid, zeroed, size_of}
 use Rattle.dcsctp_tlv.specs.Kinds.{Kind, TreesOf, rows, Entry, format_of, parts_of, ChecksKind}
 use Rattle.dcsctp_tlv.specs.Level.{plain, map_ok}
-use Rattle.dcsctp_tlv.specs.Reading.{Answers, checking, RowTested}
+use Rattle.dcsctp_tlv.specs.Reading.{Answers, checking, RowAnswer, Counted, Unplaced}
 use Rattle.dcsctp_tlv.specs.declared.error.ChunkParseError.{ChunkParseError}
 use Rattle.dcsctp_tlv.specs.Table.{Content, Named, IsUnnamed}
 use Rattle.dcsctp_tlv.specs.Typed.{item_type, typed_row, typed_level}
@@ -70,7 +70,7 @@ module _ {T : Type 0} {kinds : List Kind} {trees : TreesOf kinds T} {of : T → 
     -- its fault is that of the item as a whole
     pub typed_at_front : (typ : ℕ) → AtFront (typed_row table tree typ)
     typed_at_front typ = of_table (λ n row. AtFront row) table typ _
-        (all_at_front T lenient 0 kinds trees facts.fixed) (λ unnamed value e f. refl)
+        (all_at_front T lenient 0 kinds trees facts.fixed) (λ unnamed value e n is. (is.0, refl))
 
     pub typed_lawful : (strict : Bool) → Lawful (typed_level (typed_row table tree) strict)
     typed_lawful strict first second =
@@ -105,7 +105,7 @@ module _ {T : Type 0} {kinds : List Kind} {trees : TreesOf kinds T} {of : T → 
     -- a check of the value that says what its kind does says what the table does
     pub typed_tested : (typ : ℕ) (value : List ℕ) (r : Result (Unit {0}) ChunkParseError)
         → ChecksKind kinds 0 typ value r
-        → Answers checking (λ (u : Unit {0}). u) (RowTested (typed_row table tree typ) value) r
+        → Answers checking (λ (u : Unit {0}). u) (Counted (λ t. tt) (Unplaced (RowAnswer (typed_row table tree typ) value))) r
     unfolding unknown.read
     typed_tested typ value r p = finds_tested (typed_row table tree typ) value r
         (table_finds (λ t. 1) kinds trees lenient 0 typ

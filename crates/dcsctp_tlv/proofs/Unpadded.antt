@@ -1,11 +1,11 @@
 -- No fault is that of padding, where the rule accepts all padding and no row has such a fault.
-use Rattle.std.proofs.Common.{◌≡◌, ℕ, Bool, true, false, cond, List, sym, ◌∙◌, inl, inr, Result, Ok, Err}
+use Rattle.std.proofs.Common.{◌≡◌, ℕ, Bool, true, false, cond, List, drop, sym, ap, subst, ◌∙◌, inl, inr, Result, Ok, Err}
 use Rattle.dcsctp_tlv.specs.Fault.{Fault, Length, Padding, Value}
-use Rattle.dcsctp_tlv.specs.Level.{Row, Level, plain, map_ok, listed, BeginsWithFault, no_frame, value, padding}
+use Rattle.dcsctp_tlv.specs.Level.{Row, Level, plain, map_ok, listed, HasFault, BeginsWithFault, no_frame, value, padding}
 use Rattle.dcsctp_tlv.specs.Decided.{IgnoresPadding}
 
 abbrev pub Unpadded : {T : Type 0} → Row T → Type 0
-Unpadded row = (v : List ℕ) → ¬ row.faults v Padding
+Unpadded row = (v : List ℕ) (n : ℕ) → ¬ row.faults v (Padding, n)
 
 -- ---- rows
 
@@ -40,24 +40,30 @@ mapped f (Err Value) h = tt
 
 -- any value has a meaning
 pub ok_unpadded : {T : Type 0} (tree : List ℕ → T) → Unpadded (plain (λ v. Ok (tree v)))
-ok_unpadded tree v e = cc
+ok_unpadded tree v n e = let h = e.0 in cc
 
 pub listed_unpadded : {T U : Type 0} (rule : List ℕ → Bool) (at : ℕ) (level : Level U)
     (tree_of : List ℕ → List U → T) → IgnoresPadding level → Unpadded (listed rule at level tree_of)
-listed_unpadded rule at level tree_of ignores v (inl f) = absurd cc
-listed_unpadded rule at level tree_of ignores v (inr f) = ignores _ f.1
+listed_unpadded rule at level tree_of ignores v n (inl f) =
+    absurd (let is : Padding ≡ Length = ap (λ (x : Fault × ℕ). x.0) f.1 in cc)
+listed_unpadded rule at level tree_of ignores v n (inr f) = ignores _ f.1.0.1
+    (subst (λ (e : Fault). HasFault level (drop at v) (e, f.1.0.1))
+    (ap (λ (x : Fault × ℕ). x.0) (sym f.1.2)) f.1.1)
 
 -- ---- lists
 
 front_unpadded : {T : Type 0} (level : Level T) → ((size : ℕ) (there : List ℕ)
     → level.padding size there ≡ true) → ((first second : ℕ) → Unpadded (level.row first second))
-    → (rest : List ℕ) → BeginsWithFault level rest Padding → ⊥
-front_unpadded level accepts rows rest (no_frame _ _ e) = absurd cc
-front_unpadded level accepts rows rest (value _ f) = rows _ _ _ f
-front_unpadded level accepts rows rest (padding _ _ _ refused _) = let both : true ≡ false =
+    → (rest : List ℕ) (n : ℕ) → BeginsWithFault level rest (Padding, n) → ⊥
+front_unpadded level accepts rows rest n (no_frame _ _ e) =
+    absurd (let is : Padding ≡ Length = ap (λ (x : Fault × ℕ). x.0) e in cc)
+front_unpadded level accepts rows rest n (value _ f) = rows _ _ _ n f
+front_unpadded level accepts rows rest n (padding _ _ _ refused _) = let both : true ≡ false =
     sym (accepts _ _) ∙ refused in absurd cc
 
 pub list_unpadded : {T : Type 0} (level : Level T) → ((size : ℕ) (there : List ℕ)
     → level.padding size there ≡ true) → ((first second : ℕ) → Unpadded (level.row first second))
     → IgnoresPadding level
-list_unpadded level accepts rows bytes f = front_unpadded level accepts rows f.rest f.fault
+list_unpadded level accepts rows bytes n f = front_unpadded level accepts rows f.rest f.first.1
+    (subst (λ (e : Fault). BeginsWithFault level f.rest (e, f.first.1))
+    (ap (λ (x : Fault × ℕ). x.0) (sym f.place)) f.fault)

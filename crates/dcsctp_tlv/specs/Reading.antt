@@ -3,12 +3,13 @@
 --
 -- The grammar's answer is what `Result` has two cases for: a tree that the bytes mean, or a fault
 -- that they have. Two notions relate a call's result to it: `Answers` and `Exactly`.
-use Rattle.std.specs.Prelude.{◌≡◌, ◌↔◌, ◌⊎◌, ℕ, List, Result, Ok, Err, IsOk, IsErrOf, MatchResult, ◌+◌, drop}
+use Rattle.std.specs.Prelude.{◌≡◌, ◌↔◌, ◌⊎◌, ℕ, List, Result, Ok, Err, IsOk, IsErrOf, MatchResult, ◌+◌, drop, length}
 use Rattle.dcsctp_tlv.specs.declared.error.ChunkParseError.{ChunkParseError}
 use Rattle.dcsctp_tlv.specs.declared.error.LocatedFault.{LocatedFault}
 use Rattle.dcsctp_tlv.specs.declared.reader.Counts.{Counts}
 use Rattle.dcsctp_tlv.specs.declared.error.ChunkParseError.TheVariants.{InvalidLength, InvalidPadding, InvalidValue, OutOfMemory}
-use Rattle.dcsctp_tlv.specs.Level.{Row, Level, HasMeaning, FaultsAt, MeansParts, MeansTrees, MeansMany, MeansCounted, HasFault, HasFaultAt}
+use Rattle.dcsctp_tlv.specs.Level.{Row, Level, MeansTrees, MeansMany, HasFault, HasListFault}
+use Rattle.dcsctp_tlv.specs.Count.{total}
 use Rattle.dcsctp_tlv.specs.Fault.{Fault, Length, Padding, Value}
 
 -- ---- what a call answers
@@ -56,48 +57,40 @@ locating = record {
   lack = λ e. ⊥;
 }
 
--- ---- the grammar's answers
+-- ---- the grammar's answers: the meaning, or the fault and its offset
 
--- to a value, by its kind's row
-abbrev pub RowAnswer : {T : Type 0} → Row T → List ℕ → Result T Fault → Type 0
+-- to a value, by its kind's row: from the item's first byte
+abbrev pub RowAnswer : {T : Type 0} → Row T → List ℕ → Result T (Fault × ℕ) → Type 0
 RowAnswer row value (Ok tree) = row.means value tree
-RowAnswer row value (Err e) = row.faults value e
+RowAnswer row value (Err f) = row.faults value f
 
 -- to a list of bytes, by its level
-abbrev pub ListAnswer : {T : Type 0} → Level T → List ℕ → Result (List T) Fault → Type 0
+abbrev pub ListAnswer : {T : Type 0} → Level T → List ℕ → Result (List T) (Fault × ℕ) → Type 0
 ListAnswer level bytes (Ok trees) = MeansTrees level bytes trees
-ListAnswer level bytes (Err e) = HasFault level bytes e
+ListAnswer level bytes (Err f) = HasFault level bytes f
 
--- the same answer, with a number in place of the value
-abbrev pub Counted : {T F : Type 0} → (T → ℕ) → (Result T F → Type 0) → Result ℕ F → Type 0
+-- the same answer, with a count in place of the value
+abbrev pub Counted : {T U F : Type 0} → (T → U) → (Result T F → Type 0) → Result U F → Type 0
 Counted count answer (Ok n) = (t : _) × answer (Ok t) × (n ≡ count t)
 Counted count answer (Err f) = answer (Err f)
 
--- the same answer, without the value
+-- the same answer, without the place
+abbrev pub Unplaced : {T F : Type 0} → (Result T (F × ℕ) → Type 0) → Result T F → Type 0
+Unplaced answer (Ok t) = answer (Ok t)
+Unplaced answer (Err f) = (n : ℕ) × answer (Err (f, n))
+
+-- the same of what is read at fixed places, without the value
 abbrev pub Tested : {T F : Type 0} → Result T F → Result (Unit {0}) F → Type 0
 Tested read (Ok _) = IsOk read
 Tested read (Err f) = read ≡ Err f
 
--- to a value, without the tree
-abbrev pub RowTested : {T : Type 0} → Row T → List ℕ → Result (Unit {0}) Fault → Type 0
-RowTested row value (Ok _) = HasMeaning row value
-RowTested row value (Err e) = row.faults value e
-
--- to a value: the number of parts of the tree that it means; or its fault, and where it lies
-abbrev pub RowLocated : {T : Type 0} → (T → ℕ) → Row T → List ℕ → Result ℕ (Fault × ℕ) → Type 0
-RowLocated parts row value (Ok n) = MeansParts parts row value n
-RowLocated parts row value (Err f) = FaultsAt row value f.0 f.1
-
--- to a list: the numbers of trees and of their parts; or its fault, and where it lies
-abbrev pub ListLocated : {T : Type 0} → Level T → (T → ℕ) → List ℕ
-    → Result Counts (Fault × ℕ) → Type 0
-ListLocated level parts bytes (Ok n) = MeansCounted level parts bytes n.items n.parts
-ListLocated level parts bytes (Err f) = HasFaultAt level bytes f.0 f.1
+-- the number of the trees of a list, and that of their parts
+abbrev pub counts : {T : Type 0} → (T → ℕ) → List T → Counts
+counts parts trees = record { items = length trees; parts = total parts trees }
 
 -- to a list in a value, from a place on: the number of the item and of the list's items; or the
--- list's fault, and where it lies, from the item's first byte on
-abbrev pub ListedLocated : {T : Type 0} → Level T → ℕ → List ℕ → Result ℕ (Fault × ℕ) → Type 0
-ListedLocated level place value (Ok n) =
+-- list's fault
+abbrev pub ListedAnswer : {T : Type 0} → Level T → ℕ → List ℕ → Result ℕ (Fault × ℕ) → Type 0
+ListedAnswer level place value (Ok n) =
     (k : ℕ) × MeansMany level (drop place value) k × (n ≡ 1 + k)
-ListedLocated level place value (Err f) =
-    (k : ℕ) × HasFaultAt level (drop place value) f.0 k × (f.1 ≡ 4 + (place + k))
+ListedAnswer level place value (Err f) = HasListFault level place value f

@@ -8,7 +8,7 @@ ghost use Rattle.dcsctp_tlv.specs.Kinds as kinds;
 ghost use Rattle.dcsctp_tlv.specs.Kinds.{own_row};
 ghost use Rattle.dcsctp_tlv.specs.Level.{HasMeaning};
 ghost use Rattle.dcsctp_tlv.specs.Table.{IsEmptyList};
-ghost use Rattle.dcsctp_tlv.specs.Reading.{Answers, Exactly, reading, locating, RowAnswer, RowLocated};
+ghost use Rattle.dcsctp_tlv.specs.Reading.{Answers, Exactly, reading, locating, RowAnswer, Counted, Unplaced};
 
 use crate::error::{ChunkParseError, LocatedFault};
 use std::alloc::{AllocError, Global};
@@ -102,7 +102,7 @@ pub trait Kind: Sized + Drop {
     /// returns its fault, with the offset from the item's first byte. Does not allocate.
     fn check(flags: u8, value: &[u8], strict: bool) -> Result<usize, LocatedFault>
         ensures found { Answers locating (λ n. n)
-            (RowLocated kind.parts (own_row strict flags kind.reader) value.now) result }
+            (Counted kind.parts (RowAnswer (own_row strict flags kind.reader) value.now)) result }
         ensures few { IfOk result (λ n. 4 * n ≤ 4 + length value.now) }
         ensures within { IfErr result (λ found. found.offset ≤ 4 + length value.now) };
 
@@ -136,7 +136,7 @@ pub trait Kind: Sized + Drop {
     /// Checks the value, and builds what it means.
     fn read(alloc: Global, flags: u8, value: &[u8]) -> Result<Self, ChunkParseError>
         ensures answer { Exactly reading view
-            (RowAnswer (own_row lenient flags kind.reader) value.now) result }
+            (Unplaced (RowAnswer (own_row lenient flags kind.reader) value.now)) result }
         ensures memory { IsErrOf result ChunkParseError.OutOfMemory
             → HasMeaning (own_row lenient flags kind.reader) value.now
             × ¬ IsEmptyList kind.content value.now }

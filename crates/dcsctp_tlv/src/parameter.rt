@@ -29,7 +29,7 @@ ghost use Rattle.std.specs.Prelude.{◌≡◌, ◌≢◌, ◌≤◌, ◌*◌, []
 ghost use Rattle.dcsctp_tlv.specs.Frame.{lenient};
 ghost use Rattle.dcsctp_tlv.specs.Kinds.{ChecksKind};
 ghost use Rattle.dcsctp_tlv.specs.Level.{HasMeaning, MeansTrees, MeansSome};
-ghost use Rattle.dcsctp_tlv.specs.Reading.{Answers, Exactly, reading, checking, RowTested, RowAnswer, ListAnswer, Counted};
+ghost use Rattle.dcsctp_tlv.specs.Reading.{Answers, Exactly, reading, checking, RowAnswer, ListAnswer, Counted, Unplaced};
 ghost use Rattle.dcsctp_tlv.specs.Parameter as parameter;
 ghost use Rattle.dcsctp_tlv.specs.Parameter.{ParameterTree, parameters, TakesNoMemory, IsTight, view, views};
 
@@ -138,7 +138,7 @@ impl Parameter {
     /// holds nothing on the heap. `InvalidType` is never answered.
     pub fn try_from(alloc: Global, raw: RawParameter) -> Result<Self, ChunkParseError>
         ensures answer { Exactly reading view
-            (RowAnswer (parameter.row raw.entry.typ) raw.entry.value.now) result }
+            (Unplaced (RowAnswer (parameter.row raw.entry.typ) raw.entry.value.now)) result }
         ensures memory { IsErrOf result ChunkParseError.OutOfMemory →
             HasMeaning (parameter.row raw.entry.typ) raw.entry.value.now
             × ¬ TakesNoMemory raw.entry.typ }
@@ -149,7 +149,8 @@ impl Parameter {
 
     /// Checks a parameter's value, and builds what it means.
     fn read(alloc: Global, typ: u16, value: &[u8]) -> Result<Self, ChunkParseError>
-        ensures answer { Exactly reading view (RowAnswer (parameter.row typ) value.now) result }
+        ensures answer { Exactly reading view
+            (Unplaced (RowAnswer (parameter.row typ) value.now)) result }
         ensures memory { IsErrOf result ChunkParseError.OutOfMemory
             → HasMeaning (parameter.row typ) value.now × ¬ TakesNoMemory typ }
         ensures tight { IfOk result IsTight }
@@ -160,7 +161,8 @@ impl Parameter {
 
     /// Passes exactly where the value has a meaning; else its fault. Does not allocate.
     fn check_value(typ: u16, value: &[u8]) -> Result<(), ChunkParseError>
-        ensures { Answers checking (λ u. u) (RowTested (parameter.row typ) value.now) result }
+        ensures { Answers checking (λ u. u) (Counted (λ t. tt)
+            (Unplaced (RowAnswer (parameter.row typ) value.now))) result }
     {
         Parameter::check_kind(typ, value)
     }
@@ -286,7 +288,7 @@ impl ListedTlv for Parameter {
 /// fault, which is a law of the level (`IsDecided`, in `laws::one_answer` of `dcsctp_wire`).
 pub fn parameters_from_bytes(alloc: Global, bytes: &[u8]) -> Result<Vec<Parameter>, ChunkParseError>
     ensures answer { Exactly reading (λ list. views list.items)
-        (ListAnswer (parameters lenient) bytes.now) result }
+        (Unplaced (ListAnswer (parameters lenient) bytes.now)) result }
     ensures memory { IsErrOf result ChunkParseError.OutOfMemory →
         MeansSome (parameters lenient) bytes.now × (bytes.now ≢ []) }
     ensures reserved { IfOk result (λ list. vec_capacity list ≡ vec_len list) }
@@ -301,7 +303,7 @@ pub fn parameters_from_bytes(alloc: Global, bytes: &[u8]) -> Result<Vec<Paramete
 /// that isn't zero; the last may lack some or all of it.
 pub fn parameters_check(bytes: &[u8], strict: bool) -> Result<usize, ChunkParseError>
     ensures answer { Exactly checking (λ n. n)
-        (Counted length (ListAnswer (parameters strict) bytes.now)) result }
+        (Counted length (Unplaced (ListAnswer (parameters strict) bytes.now))) result }
     ensures memory { ¬ IsErrOf result ChunkParseError.OutOfMemory }
     ensures few { IfOk result (λ n. 4 * n ≤ length bytes.now) }
 {

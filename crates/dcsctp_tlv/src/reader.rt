@@ -4,7 +4,7 @@
 ghost use Rattle.std.specs.Prelude.{◌≡◌, ◌≢◌, ◌≤◌, ◌<◌, ◌+◌, ◌*◌, ℕ, Bool, List, [], length, map, IsOk, IfOk, IfErr, IsErrOf, vec_len, vec_capacity, All};
 ghost use Rattle.dcsctp_tlv.specs.Frame.{PaddingRule, lenient, Item, AreItems};
 ghost use Rattle.dcsctp_tlv.specs.Level.{Level, HasMeaning, Grows, MeansTrees, MeansSome, MeansMany};
-ghost use Rattle.dcsctp_tlv.specs.Reading.{Answers, reading, locating, ListedLocated, ListAnswer, RowLocated, ListLocated};
+ghost use Rattle.dcsctp_tlv.specs.Reading.{Answers, reading, locating, ListedAnswer, ListAnswer, RowAnswer, Counted, Unplaced, counts};
 
 use crate::error::{ChunkParseError, LocatedFault};
 use crate::frame::{TLV_HEADER_SIZE, frame_parts, padding_fault, padding_parts, split_frame};
@@ -31,7 +31,7 @@ pub trait ReadableTlv: Sized + Drop {
     /// returns its fault, with the offset from the item's first byte. Does not allocate.
     fn check(first: u8, second: u8, value: &[u8], strict: bool) -> Result<usize, LocatedFault>
         ensures found { Answers locating (λ n. n)
-            (RowLocated parts ((level strict).row first second) value.now) result }
+            (Counted parts (RowAnswer ((level strict).row first second) value.now)) result }
         ensures few { IfOk result (λ n. 4 * n ≤ 4 + length value.now) }
         ensures within { IfErr result (λ found. found.offset ≤ 4 + length value.now) };
 
@@ -74,7 +74,7 @@ pub struct Counts {
 /// first missing byte would be.
 pub fn list_check<T: ReadableTlv>(bytes: &[u8], strict: bool) -> Result<Counts, LocatedFault>
     ensures found { Answers locating (λ n. n)
-        (ListLocated (T.level strict) T.parts bytes.now) result }
+        (Counted (counts T.parts) (ListAnswer (T.level strict) bytes.now)) result }
     ensures few { IfOk result (λ n. (4 * n.items ≤ length bytes.now) × (4 * n.parts ≤ length bytes.now)) }
     ensures within { IfErr result (λ found. found.offset ≤ length bytes.now) }
 {
@@ -123,7 +123,7 @@ pub fn listed_check<T: ReadableTlv>(
 ) -> Result<usize, LocatedFault>
     requires { place ≤ length value.now }
     ensures found { Answers locating (λ n. n)
-        (ListedLocated (T.level strict) place value.now) result }
+        (ListedAnswer (T.level strict) place value.now) result }
     ensures few { IfOk result (λ n. 4 * n ≤ 4 + length value.now) }
     ensures within { IfErr result (λ found. found.offset ≤ 4 + length value.now) }
 {
@@ -222,7 +222,7 @@ pub fn list_from_bytes<T: ReadableTlv>(
     bytes: &[u8],
 ) -> Result<Vec<T>, ChunkParseError>
     ensures answer { Answers reading (λ list. map T.view list.items)
-        (ListAnswer (T.level lenient) bytes.now) result }
+        (Unplaced (ListAnswer (T.level lenient) bytes.now)) result }
     ensures memory { IsErrOf result ChunkParseError.OutOfMemory
         → MeansSome (T.level lenient) bytes.now × (bytes.now ≢ []) }
     ensures reserved { IfOk result (λ list. vec_capacity list ≡ vec_len list) }

@@ -60,9 +60,13 @@ other_refused bytes others p read other =
     }) in
     let word = word_apart bytes others other.before other.after in
     let field = accepts_word (checksum_field bytes) (packet_word bytes) read.0.accepted in (
-      sizes,
-      λ accepted. other.field (accepts_word (checksum_field others) (packet_word others)
-          accepted ∙ word ∙ sym field),
+      _,
+      (
+        sizes,
+        (λ accepted. other.field (accepts_word (checksum_field others) (packet_word others)
+            accepted ∙ word ∙ sym field)),
+        refl,
+      ),
     )
 
 -- ---- what is sealed

@@ -13,9 +13,9 @@ use Rattle.dcsctp_wire.specs.declared.packet.sctp_packet.PacketParseError.TheVar
 use Rattle.dcsctp_wire.specs.declared.packet.sctp_packet.ChecksumPolicy.{ChecksumPolicy}
 use Rattle.dcsctp_wire.specs.declared.packet.first_fault.FirstFault.{FirstFault}
 use Rattle.dcsctp_wire.specs.Chunk.{ChunkTree, chunks}
-use Rattle.dcsctp_wire.specs.Packet.{PacketTree, PacketFault, Size, Checksum, Chunk, packet_error_of, IsOpened, body, packet_with, Answer, IsPacket, packet_reading, packet_checking}
+use Rattle.dcsctp_wire.specs.Packet.{PacketTree, PacketFault, Size, Checksum, Chunk, packet_error_of, IsOpened, body, packet_with, Placed, Answer, IsPacket, packet_reading, packet_checking}
 use Rattle.dcsctp_wire.specs.Account.{node_count}
-use Rattle.dcsctp_wire.specs.Place.{PacketCounts, packet_locating}
+use Rattle.dcsctp_wire.specs.Place.{packet_counts, packet_locating}
 use Rattle.dcsctp_wire.proofs.Packets.{answer_one}
 
 -- ---- errors of packets
@@ -31,7 +31,7 @@ packet_error_one (Chunk x) Size h = absurd cc
 packet_error_one (Chunk x) Checksum h = absurd cc
 packet_error_one (Chunk x) (Chunk y) h = ap Chunk (error_one x y cc)
 
-packet_no_memory : (e : PacketFault) → packet_error_of e ≡ FailedParseChunk OutOfMemory → ⊥
+pub packet_no_memory : (e : PacketFault) → packet_error_of e ≡ FailedParseChunk OutOfMemory → ⊥
 packet_no_memory Size h = cc
 packet_no_memory Checksum h = cc
 packet_no_memory (Chunk e) h = no_memory e cc
@@ -57,10 +57,11 @@ CountedParts bytes word policy = Counted (λ p. node_count p.meaning) (Answer by
 
 -- what a check that says the place answers, without the place and the number of chunks
 pub check_answers : (bytes : List ℕ) (word : ℕ) (policy : ChecksumPolicy) (found : FirstFault)
-    → Answers packet_locating (λ (n : Counts). n) (PacketCounts bytes word policy) (Err found)
+    → Answers packet_locating (λ (n : Counts). n) (Counted packet_counts (Placed bytes word policy))
+    (Err found)
     → Answers packet_checking (λ (n : ℕ). n) (CountedParts bytes word policy) (Err found.fault)
 check_answers bytes word policy found (inl f) =
-    inl (f.0.0, ap (λ (x : FirstFault). x.fault) f.1, f.2.0)
+    inl (f.0.0, ap (λ (x : FirstFault). x.fault) f.1, (f.0.1, f.2))
 check_answers bytes word policy found (inr none) = absurd none
 
 module _ (bytes : List ℕ) (word : ℕ) (policy : ChecksumPolicy) (fits : AreBytes bytes) where

@@ -16,7 +16,7 @@ use Rattle.dcsctp_wire.specs.declared.packet.sctp_packet.ChecksumPolicy.{Checksu
 use Rattle.dcsctp_wire.specs.declared.packet.sctp_packet.PacketParseError.{PacketParseError}
 use Rattle.dcsctp_wire.specs.declared.packet.sctp_packet.SctpPacket.{SctpPacket}
 use Rattle.dcsctp_wire.specs.Chunk.{ChunkTree, ForwardTsn, IForwardTsn, chunks, tlv as chunk_tlv, IsPlaced, IsChunkEncodable, IsWellFormed as IsChunkWellFormed, parts as chunk_parts}
-use Rattle.dcsctp_wire.specs.Packet.{PacketTree, HasPacketSize, body, IsOpened, MeansPacket, Chunk, packet_with, Answer, packet_view, packet_reading}
+use Rattle.dcsctp_wire.specs.Packet.{PacketTree, HasPacketSize, body, IsOpened, MeansPacket, Chunk, packet_with, Placed, Answer, packet_view, packet_reading}
 use Rattle.dcsctp_tlv.specs.Reading.{Answers}
 use Rattle.dcsctp_wire.specs.Canonical.{padded_size}
 use Rattle.dcsctp_wire.specs.WellFormed.{IsWellFormed}
@@ -128,13 +128,19 @@ packet_after front end word policy ts us low words opened m n = (
 )
 
 pub fault_after : (front end : List ℕ) (word : ℕ) (policy : ChecksumPolicy) (ts : List ChunkTree)
-    (e : Fault) → 16 ≤ length front → length front % 4 ≡ 0 → IsOpened (front ++ end) word policy
+    (f : Fault × ℕ) → 16 ≤ length front → length front % 4 ≡ 0
+    → IsOpened (front ++ end) word policy
     → MeansTrees (chunks policy.strict_padding) (body front) ts
-    → HasFault (chunks policy.strict_padding) end e
-    → Answer (front ++ end) word policy (Err (Chunk e))
-fault_after front end word policy ts e low words opened m f = (
+    → HasFault (chunks policy.strict_padding) end f
+    → Placed (front ++ end) word policy (Err (Chunk f.0, length front + f.1))
+fault_after front end word policy ts f low words opened m h = (
   opened,
-  subst (λ (bytes : List ℕ). HasFault (chunks policy.strict_padding) bytes e)
-      (sym (body_after front end low)) (local_fault (chunks policy.strict_padding) (body front)
-      end ts e (body_words front low words) m f),
+  (
+    length (body front) + f.1,
+    subst (λ (bytes : List ℕ). HasFault (chunks policy.strict_padding) bytes
+        (f.0, length (body front) + f.1)) (sym (body_after front end low))
+        (local_fault (chunks policy.strict_padding) (body front) end ts f
+        (body_words front low words) m h),
+    omega (arith, length-body front, low),
+  ),
 )

@@ -5,11 +5,12 @@ use Rattle.std.proofs.lemmas.Bool.Decides.{eqb_tells}
 use Rattle.std.proofs.lemmas.List.{get_or-drop}
 use Rattle.dcsctp_tlv.specs.Fault.{Fault}
 use Rattle.dcsctp_tlv.specs.Number.{AreBytes}
+use Rattle.dcsctp_tlv.proofs.Exact.{unplaced_single}
 use Rattle.dcsctp_tlv.proofs.Laws.{list_one, list_apart, list_same, list_some}
 use Rattle.dcsctp_wire.specs.declared.packet.sctp_packet.ChecksumPolicy.{ChecksumPolicy}
 use Rattle.dcsctp_wire.specs.declared.packet.common_header.CommonHeader.{CommonHeader}
 use Rattle.dcsctp_wire.specs.Chunk.{chunks}
-use Rattle.dcsctp_wire.specs.Packet.{PacketTree, HasPacketSize, IsAccepted, disabled, alternate, equal, checksum_field, body, MeansPacket, with_header, packet_with, PacketFault, Size, Checksum, Chunk, Answer}
+use Rattle.dcsctp_wire.specs.Packet.{PacketTree, HasPacketSize, IsAccepted, disabled, alternate, equal, checksum_field, body, MeansPacket, with_header, packet_with, PacketFault, Size, Checksum, Chunk, Placed, Answer}
 use Rattle.dcsctp_wire.proofs.ChunkRows.{chunks_lawful}
 
 -- ---- one answer
@@ -37,23 +38,33 @@ packet_one strict bytes p q m n =
     m.header ∙ ap (packet_with bytes) (list_one (chunks strict) (chunks_lawful strict) (body bytes)
     p.meaning.chunks q.meaning.chunks m.chunks n.chunks) ∙ sym n.header
 
+pub placed_one : (bytes : List ℕ) (word : ℕ) (policy : ChecksumPolicy)
+    (a b : Result PacketTree (PacketFault × ℕ)) → AreBytes bytes → Placed bytes word policy a
+    → Placed bytes word policy b → a ≡ b
+placed_one bytes word policy (Ok p) (Ok q) fits m n =
+    ap Ok (packet_one policy.strict_padding bytes p q m.1 n.1)
+placed_one bytes word policy (Ok p) (Err (Chunk e, j)) fits m n = absurd
+    (list_apart (chunks policy.strict_padding) (chunks_lawful policy.strict_padding) (body bytes)
+    p.meaning.chunks (e, n.1.0) (body_fits bytes fits) m.1.chunks n.1.1)
+placed_one bytes word policy (Err (Size, i)) (Err (Size, j)) fits m n =
+    ap (λ (k : ℕ). Err (Size, k)) (m.1 ∙ sym n.1)
+placed_one bytes word policy (Err (Checksum, i)) (Err (Checksum, j)) fits m n =
+    ap (λ (k : ℕ). Err (Checksum, k)) (m.2 ∙ sym n.2)
+placed_one bytes word policy (Err (Chunk d, i)) (Ok q) fits m n = absurd
+    (list_apart (chunks policy.strict_padding) (chunks_lawful policy.strict_padding) (body bytes)
+    q.meaning.chunks (d, m.1.0) (body_fits bytes fits) n.1.chunks m.1.1)
+placed_one bytes word policy (Err (Chunk d, i)) (Err (Chunk e, j)) fits m n =
+    ap (λ (k : ℕ). Err (Chunk d, k)) m.1.2 ∙ ap (λ (f : Fault × ℕ). Err (Chunk f.0, 12 + f.1))
+    (list_same (chunks policy.strict_padding) (chunks_lawful policy.strict_padding) (body bytes)
+    (d, m.1.0) (e, n.1.0) (body_fits bytes fits) m.1.1 n.1.1)
+    ∙ ap (λ (k : ℕ). Err (Chunk e, k)) (sym n.1.2)
+placed_one bytes word policy a b fits m n = absurd (search rules)
+
 pub answer_one : (bytes : List ℕ) (word : ℕ) (policy : ChecksumPolicy)
     (a b : Result PacketTree PacketFault) → AreBytes bytes → Answer bytes word policy a
     → Answer bytes word policy b → a ≡ b
-answer_one bytes word policy (Ok p) (Ok q) fits m n =
-    ap Ok (packet_one policy.strict_padding bytes p q m.1 n.1)
-answer_one bytes word policy (Ok p) (Err (Chunk e)) fits m n = absurd
-    (list_apart (chunks policy.strict_padding) (chunks_lawful policy.strict_padding) (body bytes)
-    p.meaning.chunks e (body_fits bytes fits) m.1.chunks n.1)
-answer_one bytes word policy (Err Size) (Err Size) fits m n = refl
-answer_one bytes word policy (Err Checksum) (Err Checksum) fits m n = refl
-answer_one bytes word policy (Err (Chunk d)) (Ok q) fits m n = absurd
-    (list_apart (chunks policy.strict_padding) (chunks_lawful policy.strict_padding) (body bytes)
-    q.meaning.chunks d (body_fits bytes fits) n.1.chunks m.1)
-answer_one bytes word policy (Err (Chunk d)) (Err (Chunk e)) fits m n = ap
-    (λ (x : Fault). Err (Chunk x)) (list_same (chunks policy.strict_padding)
-    (chunks_lawful policy.strict_padding) (body bytes) d e (body_fits bytes fits) m.1 n.1)
-answer_one bytes word policy a b fits m n = absurd (search rules)
+answer_one bytes word policy a b fits m n = unplaced_single (Placed bytes word policy)
+    (λ c d p q. placed_one bytes word policy c d fits p q) a b m n
 
 size_tells : (bytes : List ℕ) → HasPacketSize bytes ⊎ (¬ HasPacketSize bytes)
 size_tells bytes = elim (cases_lt (length bytes) 16) [
@@ -92,12 +103,12 @@ accepted_tells policy field word = off (policy.disable_checksum_verification) re
     ]
   ]
 
-pub answer_some : (bytes : List ℕ) (word : ℕ) (policy : ChecksumPolicy) → AreBytes bytes
-    → (a : Result PacketTree PacketFault) × Answer bytes word policy a
-answer_some bytes word policy fits = elim (size_tells bytes) [
-  | inr no_size ↦ (Err Size, no_size)
+pub placed_some : (bytes : List ℕ) (word : ℕ) (policy : ChecksumPolicy) → AreBytes bytes
+    → (a : Result PacketTree (PacketFault × ℕ)) × Placed bytes word policy a
+placed_some bytes word policy fits = elim (size_tells bytes) [
+  | inr no_size ↦ (Err (Size, _), (no_size, refl))
   | inl size ↦ elim (accepted_tells policy (checksum_field bytes) word) [
-    | inr refused ↦ (Err Checksum, (size, refused))
+    | inr refused ↦ (Err (Checksum, 8), (size, refused, refl))
     | inl accepted ↦ elim (list_some (chunks policy.strict_padding)
         (chunks_lawful policy.strict_padding) (body bytes) (body_fits bytes fits)) [
           | inl m ↦ (
@@ -107,7 +118,18 @@ answer_some bytes word policy fits = elim (size_tells bytes) [
               record { header = refl; chunks = m.1 },
             ),
           )
-          | inr f ↦ (Err (Chunk f.0), (record { size = size; accepted = accepted }, f.1))
+          | inr f ↦ (
+            Err (Chunk f.0.0, 12 + f.0.1),
+            (record { size = size; accepted = accepted }, (f.0.1, f.1, refl)),
+          )
         ]
   ]
 ]
+
+pub answer_some : (bytes : List ℕ) (word : ℕ) (policy : ChecksumPolicy) → AreBytes bytes
+    → (a : Result PacketTree PacketFault) × Answer bytes word policy a
+answer_some bytes word policy fits = of (placed_some bytes word policy fits) where
+  of : (a : Result PacketTree (PacketFault × ℕ)) × Placed bytes word policy a
+      → (b : Result PacketTree PacketFault) × Answer bytes word policy b
+  of (Ok p, m) = (Ok p, m)
+  of (Err f, m) = (Err f.0, (f.1, m))

@@ -4,12 +4,12 @@
 use Rattle.std.specs.Prelude.{Option, Some, None}
 use Rattle.dcsctp_wire.specs.Chunk.{Data, IData}
 -- packets as plain data, and what the grammar answers
-pub use Rattle.dcsctp_wire.specs.Packet.{Meaning, PacketTree, PacketFault, Answer, IsPacket, IsAccepted}
+pub use Rattle.dcsctp_wire.specs.Packet.{Meaning, PacketTree, PacketFault, Placed, Answer, IsPacket, IsAccepted}
 pub use Rattle.dcsctp_wire.specs.Packet.{header_of, checksum_field, packet_view, meaning_view}
 pub use Rattle.dcsctp_wire.specs.Packet.{HasPacketSize, Checksum as ChecksumFault, packet_error_of, packet_reading, packet_checking}
 pub use Rattle.dcsctp_wire.specs.PacketText.{packet_text}
 -- what the clauses of readers and checks are made of
-pub use Rattle.dcsctp_tlv.specs.Reading.{Answers, Exactly, Counted}
+pub use Rattle.dcsctp_tlv.specs.Reading.{Answers, Exactly, Counted, Unplaced}
 -- chunks as plain data; after `ghost use Rattle.dcsctp_wire.specs.Chunk as tree` a SACK is
 -- `tree.Sack (sack_view sack)`
 pub use Rattle.dcsctp_wire.specs.Chunk.{ChunkTree, IsChunkEncodable, IsWellFormed as IsChunkWellFormed, view as chunk_view, views as chunk_views, all_kept}

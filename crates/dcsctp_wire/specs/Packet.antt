@@ -2,11 +2,11 @@
 -- section 5.2).
 --
 --   | source port u16 | destination port u16 | verification tag u32 | checksum u32 | chunks .. |
-use Rattle.std.specs.Prelude.{◌≡◌, ◌≢◌, ℕ, ◌≤◌, Bool, List, Result, Ok, Err, true, length, drop}
+use Rattle.std.specs.Prelude.{◌≡◌, ◌≢◌, ℕ, ◌≤◌, ◌+◌, Bool, List, Result, Ok, Err, true, length, drop, nat_lt, if◌then◌else◌}
 use Rattle.dcsctp_tlv.specs.Fault.{Fault}
 use Rattle.dcsctp_tlv.specs.Number.{number16, number32}
 use Rattle.dcsctp_tlv.specs.Level.{MeansTrees, HasFault}
-use Rattle.dcsctp_tlv.specs.Reading.{Errors, error_of}
+use Rattle.dcsctp_tlv.specs.Reading.{Errors, Unplaced, error_of}
 use Rattle.dcsctp_tlv.specs.declared.error.ChunkParseError.TheVariants.{OutOfMemory}
 use Rattle.dcsctp_wire.specs.declared.packet.sctp_packet.PacketParseError.{PacketParseError}
 use Rattle.dcsctp_wire.specs.declared.packet.sctp_packet.PacketParseError.TheVariants.{InvalidPacketSize, InvalidChecksum, FailedParseChunk}
@@ -93,16 +93,22 @@ pub record MeansPacket (strict : Bool) (bytes : List ℕ) (p : PacketTree) : Typ
   pub header : p ≡ packet_with bytes p.meaning.chunks
   pub chunks : MeansTrees (chunks strict) (body bytes) p.meaning.chunks
 
--- The packet, or the first fault: of the size, then of the checksum, then of the chunks from the
--- left. The policy says whether padding is looked at.
-abbrev pub Answer : List ℕ → ℕ → ChecksumPolicy → Result PacketTree PacketFault → Type 0
-Answer bytes word policy (Ok p) =
+-- The packet, or the first fault and its offset: of the size, the first byte that is missing or too
+-- many; then of the checksum, its field; then of the chunks from the left, after the header. The
+-- policy says whether padding is looked at.
+abbrev pub Placed : List ℕ → ℕ → ChecksumPolicy → Result PacketTree (PacketFault × ℕ) → Type 0
+Placed bytes word policy (Ok p) =
     IsOpened bytes word policy × MeansPacket policy.strict_padding bytes p
-Answer bytes word policy (Err Size) = ¬ HasPacketSize bytes
-Answer bytes word policy (Err Checksum) =
-    HasPacketSize bytes × ¬ IsAccepted policy (checksum_field bytes) word
-Answer bytes word policy (Err (Chunk e)) =
-    IsOpened bytes word policy × HasFault (chunks policy.strict_padding) (body bytes) e
+Placed bytes word policy (Err (Size, n)) = (¬ HasPacketSize bytes)
+    × (n ≡ if nat_lt (length bytes) 16 then length bytes else 65535)
+Placed bytes word policy (Err (Checksum, n)) =
+    HasPacketSize bytes × (¬ IsAccepted policy (checksum_field bytes) word) × (n ≡ 8)
+Placed bytes word policy (Err (Chunk e, n)) = IsOpened bytes word policy
+    × ((k : ℕ) × HasFault (chunks policy.strict_padding) (body bytes) (e, k) × (n ≡ 12 + k))
+
+-- the same answer, without the place
+abbrev pub Answer : List ℕ → ℕ → ChecksumPolicy → Result PacketTree PacketFault → Type 0
+Answer bytes word policy = Unplaced (Placed bytes word policy)
 
 -- the bytes are a packet
 abbrev pub IsPacket : List ℕ → ℕ → ChecksumPolicy → Type 0

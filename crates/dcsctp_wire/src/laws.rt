@@ -13,8 +13,7 @@ ghost use Rattle.dcsctp_tlv.specs.Parameter.{parameters, tlv as parameter_tlv};
 ghost use Rattle.dcsctp_cause.specs.Cause.{causes};
 ghost use Rattle.dcsctp_wire.specs.Chunk.{ChunkTree, Init, InitAck, chunks, tlv};
 ghost use Rattle.dcsctp_wire.specs.InitFields.{Tree as InitTree};
-ghost use Rattle.dcsctp_wire.specs.Packet.{PacketTree, PacketFault, Chunk, IsOpened, body, packet_with, Answer};
-ghost use Rattle.dcsctp_wire.specs.Place.{HasPacketFaultAt};
+ghost use Rattle.dcsctp_wire.specs.Packet.{PacketTree, PacketFault, Chunk, IsOpened, body, packet_with, Answer, Placed};
 
 use crate::packet::abort_chunk::CHUNK_TYPE as ABORT;
 pub use crate::packet::chunk::chunk_has_widths;
@@ -77,13 +76,11 @@ pub use dcsctp_types::laws as types;
 /// refuses no list for its padding. A fault, of a packet or of a list, lies at one place.
 pub fn one_answer()
     ensures one { (bytes : List ℕ) (word : ℕ) (policy : ChecksumPolicy)
-        (a b : Result PacketTree PacketFault)
-        → AreBytes bytes → Answer bytes word policy a → Answer bytes word policy b → a ≡ b }
+        (a b : Result PacketTree (PacketFault × ℕ))
+        → AreBytes bytes → Placed bytes word policy a → Placed bytes word policy b → a ≡ b }
     ensures some { (bytes : List ℕ) (word : ℕ) (policy : ChecksumPolicy)
-        → AreBytes bytes → ((a : Result PacketTree PacketFault) × Answer bytes word policy a) }
-    ensures place { (bytes : List ℕ) (word : ℕ) (policy : ChecksumPolicy) (d e : PacketFault)
-        (m n : ℕ) → AreBytes bytes → HasPacketFaultAt bytes word policy d m
-        → HasPacketFaultAt bytes word policy e n → m ≡ n }
+        → AreBytes bytes
+        → ((a : Result PacketTree (PacketFault × ℕ)) × Placed bytes word policy a) }
     ensures splitting { (rule : PaddingRule) → SplitsOneWay rule }
     ensures chunks { (strict : Bool) → IsDecided (chunks strict) }
     ensures parameters { (strict : Bool) → IsDecided (parameters strict) }
@@ -103,11 +100,11 @@ pub fn reading_is_local()
         → MeansTrees (chunks policy.strict_padding) end us
         → Answer (front ++ end) word policy (Ok (packet_with (front ++ end) (ts ++ us))) }
     ensures fault { (front end : List ℕ) (word : ℕ) (policy : ChecksumPolicy)
-        (ts : List ChunkTree) (e : Fault)
+        (ts : List ChunkTree) (f : Fault × ℕ)
         → 16 ≤ length front → length front % 4 ≡ 0 → IsOpened (front ++ end) word policy
         → MeansTrees (chunks policy.strict_padding) (body front) ts
-        → HasFault (chunks policy.strict_padding) end e
-        → Answer (front ++ end) word policy (Err (Chunk e)) }
+        → HasFault (chunks policy.strict_padding) end f
+        → Placed (front ++ end) word policy (Err (Chunk f.0, length front + f.1)) }
 {}
 
 /// What a policy accepts that looks at padding, the same policy accepts where it doesn't, as the

@@ -3,8 +3,8 @@ use Rattle.std.proofs.Common.{◌≡◌, ℕ, ◌||◌, List, ◌++◌, Ok, Err,
 use Rattle.dcsctp_wire.specs.declared.packet.sctp_packet.ChecksumPolicy.{ChecksumPolicy}
 use Rattle.dcsctp_wire.specs.declared.packet.first_fault.FirstFault.{FirstFault}
 use Rattle.dcsctp_wire.specs.Reading.{Answers}
-use Rattle.dcsctp_wire.specs.Packet.{PacketTree, Answer}
-use Rattle.dcsctp_wire.specs.Place.{HasPacketFaultAt, PacketLocated, packet_locating}
+use Rattle.dcsctp_wire.specs.Packet.{PacketTree, Answer, Placed}
+use Rattle.dcsctp_wire.specs.Place.{PacketLocated, packet_locating}
 use Rattle.dcsctp_crc32c.specs.Checksum.{packet_word}
 use Rattle.sctp_report.specs.Packet.{packet_lines}
 use Rattle.sctp_report.specs.Fault.{fault_lines}
@@ -33,8 +33,8 @@ pub Block-refused : (o : Options) (seen : Seen) (bytes : List ℕ) (word : ℕ)
     (seen_lines seen ++ fault_lines bytes found.fault found.offset ++ codes "\n"))
 Block-refused o seen bytes word policy found is_word is_policy (inr never) = absurd never
 Block-refused o seen bytes word policy found is_word is_policy (inl (f, is, at)) =
-    let here : HasPacketFaultAt bytes word (policy_of o) f.0 f.1 =
-    subst (λ (q : ChecksumPolicy). HasPacketFaultAt bytes word q f.0 f.1) is_policy at in
-    refused f.0 f.1 (subst (λ (w : ℕ). HasPacketFaultAt bytes w (policy_of o) f.0 f.1) is_word here)
+    let here : Placed bytes word (policy_of o) (Err f) =
+    subst (λ (q : ChecksumPolicy). Placed bytes word q (Err f)) is_policy at in
+    refused f.0 f.1 (subst (λ (w : ℕ). Placed bytes w (policy_of o) (Err f)) is_word here)
     (ap (λ (x : FirstFault). unless o.summary
     (seen_lines seen ++ fault_lines bytes x.fault x.offset ++ codes "\n")) is)

@@ -1,8 +1,7 @@
 -- The text of a record: of a packet, of bytes that are refused, or of what is skipped.
-use Rattle.std.specs.Prelude.{◌≡◌, ℕ, ◌||◌, ◌-◌, ◌^◌, Bool, true, List, [], ◌++◌, if◌then◌else◌, codes, Ok}
+use Rattle.std.specs.Prelude.{◌≡◌, ℕ, ◌||◌, ◌-◌, ◌^◌, Bool, true, List, [], ◌++◌, if◌then◌else◌, codes, Ok, Err}
 use Rattle.dcsctp_wire.specs.declared.packet.sctp_packet.ChecksumPolicy.{ChecksumPolicy}
-use Rattle.dcsctp_wire.specs.Packet.{PacketTree, PacketFault, Answer, packet_error_of}
-use Rattle.dcsctp_wire.specs.Place.{HasPacketFaultAt}
+use Rattle.dcsctp_wire.specs.Packet.{PacketTree, PacketFault, Answer, Placed, packet_error_of}
 use Rattle.dcsctp_crc32c.specs.Checksum.{packet_word}
 use Rattle.sctp_report.specs.Packet.{packet_lines}
 use Rattle.sctp_report.specs.Fault.{fault_lines}
@@ -35,7 +34,7 @@ pub data Block (o : Options) (seen : Seen) (bytes : List ℕ) (text : List ℕ) 
       (seen_lines seen ++ packet_lines (packet_word bytes) (most_shown o) p ++ codes "\n")
       → Block o seen bytes text
   refused : (e : PacketFault) (offset : ℕ)
-      → HasPacketFaultAt bytes (packet_word bytes) (policy_of o) e offset
+      → Placed bytes (packet_word bytes) (policy_of o) (Err (e, offset))
       → text ≡ unless o.summary
       (seen_lines seen ++ fault_lines bytes (packet_error_of e) offset ++ codes "\n")
       → Block o seen bytes text

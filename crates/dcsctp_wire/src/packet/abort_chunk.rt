@@ -13,7 +13,7 @@
 ghost use Rattle.std.specs.Prelude.{◌≡◌, ◌≢◌, ◌↔◌, ◌+◌, [], false, length, Some, IfOk, IsErrOf, vec_capacity, All, vec_len};
 ghost use Rattle.dcsctp_tlv.specs.Frame.{lenient};
 ghost use Rattle.dcsctp_tlv.specs.Level.{HasMeaning};
-ghost use Rattle.dcsctp_tlv.specs.Reading.{Exactly, reading, RowAnswer};
+ghost use Rattle.dcsctp_tlv.specs.Reading.{Exactly, reading, RowAnswer, Unplaced};
 ghost use Rattle.dcsctp_cause.specs.Cause.{IsTight as IsTightCause};
 ghost use Rattle.dcsctp_tlv.proofs.Laws.{listed_lawful};
 ghost use Rattle.dcsctp_cause.proofs.CauseLaws.{causes_lawful};
@@ -66,7 +66,7 @@ impl AbortChunk {
         ensures other { IsErrOf result ChunkParseError.InvalidType ↔ (raw.entry.typ ≢ CHUNK_TYPE) }
         ensures answer { raw.entry.typ ≡ CHUNK_TYPE →
             Exactly reading kind.view
-            (RowAnswer (kind.row lenient raw.entry.flags) raw.entry.value.now) result }
+            (Unplaced (RowAnswer (kind.row lenient raw.entry.flags) raw.entry.value.now)) result }
         ensures memory { IsErrOf result ChunkParseError.OutOfMemory
             → HasMeaning (kind.row lenient raw.entry.flags) raw.entry.value.now
             × (raw.entry.value.now ≢ []) }

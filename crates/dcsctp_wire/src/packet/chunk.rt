@@ -3,7 +3,7 @@
 ghost use Rattle.std.specs.Prelude.{◌≡◌, ◌<◌, ◌+◌, Some, IsOk, IfOk, IsErrOf, vec_len, vec_capacity};
 ghost use Rattle.dcsctp_tlv.specs.Frame.{lenient};
 ghost use Rattle.dcsctp_tlv.specs.Level.{HasMeaning, Grows};
-ghost use Rattle.dcsctp_tlv.specs.Reading.{Exactly, reading, RowAnswer};
+ghost use Rattle.dcsctp_tlv.specs.Reading.{Exactly, reading, RowAnswer, Unplaced};
 ghost use Rattle.dcsctp_tlv.specs.Table.{IsUnnamed};
 ghost use Rattle.dcsctp_wire.specs.Chunk as chunk;
 ghost use Rattle.dcsctp_wire.specs.Chunk.{parts as chunk_parts, ChunkTree, chunk_row, chunks, plain_rows, TakesNoMemory, IsPlaced, text as chunk_text, view, IsInWidth, IsTight};
@@ -182,8 +182,8 @@ impl Chunk {
     /// (`laws::one_answer`), so this is the chunk exactly where they mean one.
     pub fn try_from(alloc: Global, raw: RawChunk) -> Result<Self, ChunkParseError>
         ensures answer { Exactly reading view
-            (RowAnswer (chunk_row lenient raw.entry.typ raw.entry.flags) raw.entry.value.now)
-            result }
+            (Unplaced (RowAnswer (chunk_row lenient raw.entry.typ raw.entry.flags)
+            raw.entry.value.now)) result }
         ensures memory { IsErrOf result ChunkParseError.OutOfMemory →
             HasMeaning (chunk_row lenient raw.entry.typ raw.entry.flags) raw.entry.value.now
             × ¬ TakesNoMemory raw.entry.typ raw.entry.value.now }
@@ -202,7 +202,7 @@ impl Chunk {
     /// Checks a chunk's value, and builds what it means.
     fn read(alloc: Global, typ: u8, flags: u8, value: &[u8]) -> Result<Self, ChunkParseError>
         ensures answer { Exactly reading view
-            (RowAnswer (chunk_row lenient typ flags) value.now) result }
+            (Unplaced (RowAnswer (chunk_row lenient typ flags) value.now)) result }
         ensures memory { IsErrOf result ChunkParseError.OutOfMemory
             → HasMeaning (chunk_row lenient typ flags) value.now
             × ¬ TakesNoMemory typ value.now }

@@ -13,7 +13,7 @@
 ghost use Rattle.std.specs.Prelude.{◌≡◌, ◌≢◌, ◌↔◌, ◌+◌, List, [], length, Some, IfOk, IsErrOf, vec_capacity, All, vec_len};
 ghost use Rattle.dcsctp_tlv.specs.Frame.{lenient};
 ghost use Rattle.dcsctp_tlv.specs.Level.{HasMeaning};
-ghost use Rattle.dcsctp_tlv.specs.Reading.{Exactly, reading, RowAnswer};
+ghost use Rattle.dcsctp_tlv.specs.Reading.{Exactly, reading, RowAnswer, Unplaced};
 ghost use Rattle.dcsctp_cause.specs.Cause.{IsTight as IsTightCause};
 ghost use Rattle.dcsctp_tlv.proofs.Laws.{listed_lawful};
 ghost use Rattle.dcsctp_cause.proofs.CauseLaws.{causes_lawful};
@@ -64,7 +64,7 @@ impl ErrorChunk {
     pub fn try_from(alloc: Global, raw: RawChunk) -> Result<Self, ChunkParseError>
         ensures other { IsErrOf result ChunkParseError.InvalidType ↔ (raw.entry.typ ≢ CHUNK_TYPE) }
         ensures answer { raw.entry.typ ≡ CHUNK_TYPE →
-            Exactly reading kind.view (RowAnswer (kind.row lenient) raw.entry.value.now) result }
+            Exactly reading kind.view (Unplaced (RowAnswer (kind.row lenient) raw.entry.value.now)) result }
         ensures memory { IsErrOf result ChunkParseError.OutOfMemory
             → HasMeaning (kind.row lenient) raw.entry.value.now }
         ensures reserved { IfOk result (λ c. vec_capacity c.error_causes ≡ vec_len c.error_causes) }

@@ -21,7 +21,7 @@
 ghost use Rattle.std.specs.Prelude.{◌≡◌, ◌≢◌, ◌↔◌, [], drop, Some, IfOk, IsErrOf, vec_capacity, All, vec_len};
 ghost use Rattle.dcsctp_tlv.specs.Frame.{lenient};
 ghost use Rattle.dcsctp_tlv.specs.Level.{HasMeaning};
-ghost use Rattle.dcsctp_tlv.specs.Reading.{Exactly, reading, RowAnswer};
+ghost use Rattle.dcsctp_tlv.specs.Reading.{Exactly, reading, RowAnswer, Unplaced};
 ghost use Rattle.dcsctp_tlv.specs.Parameter.{IsTight as IsTightParameter};
 ghost use Rattle.dcsctp_tlv.proofs.Laws.{listed_lawful};
 ghost use Rattle.dcsctp_tlv.proofs.ParameterLaws.{parameters_lawful};
@@ -70,7 +70,7 @@ impl InitChunk {
         ensures other { IsErrOf result ChunkParseError.InvalidType ↔ (raw.entry.typ ≢ CHUNK_TYPE) }
         ensures answer { raw.entry.typ ≡ CHUNK_TYPE →
             Exactly reading kind.view
-            (RowAnswer (init_fields.row lenient) raw.entry.value.now) result }
+            (Unplaced (RowAnswer (init_fields.row lenient) raw.entry.value.now)) result }
         ensures memory { IsErrOf result ChunkParseError.OutOfMemory
             → HasMeaning (init_fields.row lenient) raw.entry.value.now
             × (drop 16 raw.entry.value.now ≢ []) }

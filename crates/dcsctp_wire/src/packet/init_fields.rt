@@ -3,7 +3,7 @@
 ghost use Rattle.std.specs.Prelude.{◌≡◌, ◌≤◌, ◌+◌, ◌*◌, [], length, drop, vec_len, vec_capacity, IsOk, IfOk, IfErr, All};
 ghost use Rattle.dcsctp_tlv.specs.Frame.{lenient};
 ghost use Rattle.dcsctp_tlv.specs.Level.{HasMeaning};
-ghost use Rattle.dcsctp_tlv.specs.Reading.{Answers, locating, RowLocated};
+ghost use Rattle.dcsctp_tlv.specs.Reading.{Answers, locating, RowAnswer, Counted};
 ghost use Rattle.dcsctp_tlv.specs.Parameter.{IsTight as IsTightParameter};
 ghost use Rattle.dcsctp_wire.specs.InitFields.{row as init_row, parts as init_parts, leading as init_numbers, tree_of, view as init_fields_view};
 
@@ -35,7 +35,7 @@ pub(crate) struct InitFields {
 /// bytes.
 pub(crate) fn init_check(value: &[u8], strict: bool) -> Result<usize, LocatedFault>
     ensures found { Answers locating (λ n. n)
-        (RowLocated init_parts (init_row strict) value.now) result }
+        (Counted init_parts (RowAnswer (init_row strict) value.now)) result }
     ensures few { IfOk result (λ n. 4 * n ≤ 4 + length value.now) }
     ensures within { IfErr result (λ found. found.offset ≤ 4 + length value.now) }
 {

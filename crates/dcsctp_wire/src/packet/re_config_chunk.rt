@@ -13,7 +13,7 @@
 ghost use Rattle.std.specs.Prelude.{◌≡◌, ◌≢◌, ◌↔◌, ◌+◌, List, [], length, Some, IfOk, IsErrOf, vec_capacity, All, vec_len};
 ghost use Rattle.dcsctp_tlv.specs.Frame.{lenient};
 ghost use Rattle.dcsctp_tlv.specs.Level.{HasMeaning};
-ghost use Rattle.dcsctp_tlv.specs.Reading.{Exactly, reading, RowAnswer};
+ghost use Rattle.dcsctp_tlv.specs.Reading.{Exactly, reading, RowAnswer, Unplaced};
 ghost use Rattle.dcsctp_tlv.specs.Parameter.{IsTight as IsTightParameter};
 ghost use Rattle.dcsctp_tlv.proofs.Laws.{listed_lawful};
 ghost use Rattle.dcsctp_tlv.proofs.ParameterLaws.{parameters_lawful};
@@ -61,7 +61,7 @@ impl ReConfigChunk {
         ensures other { IsErrOf result ChunkParseError.InvalidType ↔ (raw.entry.typ ≢ CHUNK_TYPE) }
         ensures answer { raw.entry.typ ≡ CHUNK_TYPE →
             Exactly reading kind.view
-            (RowAnswer (parameter_list.row lenient) raw.entry.value.now) result }
+            (Unplaced (RowAnswer (parameter_list.row lenient) raw.entry.value.now)) result }
         ensures memory { IsErrOf result ChunkParseError.OutOfMemory
             → HasMeaning (parameter_list.row lenient) raw.entry.value.now
             × (raw.entry.value.now ≢ []) }

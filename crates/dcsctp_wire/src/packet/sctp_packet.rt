@@ -17,9 +17,9 @@
 ghost use Rattle.std.specs.Prelude.{◌≡◌, ◌↔◌, ◌≤◌, ◌+◌, ◌-◌, ◌*◌, ◌/◌, ℕ, [], false, true, Some, length, replicate, vec_len, vec_capacity, IsTrue, IfOk, IfErr, IsErrOf, All};
 ghost use Rattle.dcsctp_wire.specs.Chunk.{views, IsTight};
 ghost use Rattle.dcsctp_tlv.specs.Reading.{Answers, Exactly, Counted};
-ghost use Rattle.dcsctp_wire.specs.Packet.{Meaning, Answer, IsPacket, IsAccepted, meaning_view, packet_view, packet_reading, packet_checking};
+ghost use Rattle.dcsctp_wire.specs.Packet.{Meaning, Answer, Placed, IsPacket, IsAccepted, meaning_view, packet_view, packet_reading, packet_checking};
 ghost use Rattle.dcsctp_wire.specs.Account.{KeepsTexts, KeepsSize, node_count};
-ghost use Rattle.dcsctp_wire.specs.Place.{PacketCounts, packet_locating};
+ghost use Rattle.dcsctp_wire.specs.Place.{packet_counts, packet_locating};
 ghost use Rattle.dcsctp_wire.specs.Canonical.{canonical, padded_size, Fits};
 ghost use Rattle.dcsctp_wire.specs.PacketText.{packet_text, next_lines};
 ghost use Rattle.std.specs.Fmt.{WritesOnOk};
@@ -335,7 +335,7 @@ pub(crate) fn check_packet(
     policy: &ChecksumPolicy,
 ) -> Result<Counts, FirstFault>
     ensures found { Answers packet_locating (λ n. n)
-        (PacketCounts bytes.now checksum policy.now) result }
+        (Counted packet_counts (Placed bytes.now checksum policy.now)) result }
     ensures within { IfErr result (λ found. found.offset ≤ length bytes.now) }
 {
     if bytes.len() < MIN_PACKET_SIZE || bytes.len() > MAX_PACKET_SIZE {

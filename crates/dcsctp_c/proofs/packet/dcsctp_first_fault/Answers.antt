@@ -1,6 +1,5 @@
 use Rattle.std.proofs.Common.{Ok, refl}
-use Rattle.dcsctp_c.specs.Code.{policy_of}
-use Rattle.dcsctp_c.proofs.AnswerCodes.{answered, located_code, located_place, not_both, no_packet}
+use Rattle.dcsctp_c.{specs.Code.{policy_of}, proofs.AnswerCodes.{answered, located_code, located_place, not_both, no_packet}}
 use Rattle.dcsctp_c.proofs.packet.dcsctp_first_fault.Goals as goal
 
 pub returns-in-None-clause-code : goal.returns-in-None-clause-code
@@ -15,7 +14,7 @@ returns-in-None-clause-place c e n at =
     let found = c.in-None.ensures.answer.answers in
     absurd (not_both c.args.bytes.now c.args.word c.checksum_policy.result
     (policy_of c.args.policy.now) c.checksum_policy.ensures found.0 e
-    (λ i. (c.type_inv.bytes i).fits) found.1 at.0)
+    (λ i. (c.type_inv.bytes i).fits) found.1 (n, at))
 
 pub returns-in-Some-clause-code : goal.returns-in-Some-clause-code
 returns-in-Some-clause-code c =

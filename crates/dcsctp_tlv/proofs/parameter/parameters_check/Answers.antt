@@ -1,5 +1,6 @@
-use Rattle.std.proofs.Common.{Ok, Err}
+use Rattle.std.proofs.Common.{Ok, Err, ap}
 use Rattle.std.proofs.lemmas.Result.{err_from_is_err_and}
+use Rattle.dcsctp_tlv.specs.declared.reader.Counts.{Counts}
 use Rattle.dcsctp_tlv.specs.Parameter.{parameters}
 use Rattle.dcsctp_tlv.proofs.ParameterLaws.{parameters_lawful}
 use Rattle.dcsctp_tlv.proofs.Exact.{count_exactly}
@@ -20,4 +21,4 @@ pub returns-clause-answer : goal.returns-clause-answer
 returns-clause-answer c =
     let f = c.in_ok-counts.ensures.found in
     count_exactly (parameters c.args.strict) (parameters_lawful c.args.strict) c.args.bytes.now
-    (λ i. (c.type_inv.bytes i).fits) (Ok c.in_ok-counts.counts.items) (f.trees, f.mean, f.item_count)
+    (λ i. (c.type_inv.bytes i).fits) (Ok c.in_ok-counts.counts.items) (f.0, f.1, ap (λ (n : Counts). n.items) f.2)

@@ -1,7 +1,7 @@
 use Rattle.std.proofs.Common.{ℕ, ◌+◌, List, Err, drop, refl, subst}
 use Rattle.std.proofs.lemmas.List.{take_rest}
 use Rattle.dcsctp_tlv.specs.declared.reader.Counts.{Counts}
-use Rattle.dcsctp_tlv.specs.Reading.{Answers, locating, ListLocated, ListedLocated}
+use Rattle.dcsctp_tlv.specs.Reading.{Answers, locating, ListAnswer, Counted, counts, ListedAnswer}
 use Rattle.dcsctp_tlv.proofs.Places.{moved}
 use Rattle.dcsctp_tlv.proofs.reader.listed_check.Goals as goal
 
@@ -12,7 +12,7 @@ returns-in-Err-clause-found g c =
     let place = c.args.place in
     let value = c.args.value.now in
     let found = subst (λ (b : List ℕ). Answers locating (λ (n : Counts). n)
-    (ListLocated level parts b) (Err c.in-Err.found)) (take_rest value place)
+    (Counted (counts parts) (ListAnswer level b)) (Err c.in-Err.found)) (take_rest value place)
     c.in-Err.ensures.found in
-    moved (λ k. 4 + (place + k)) (ListLocated level parts (drop place value))
-    (ListedLocated level place value) (λ f h. (f.1, h, refl)) c.in-Err.found found
+    moved (λ k. 4 + (place + k)) (Counted (counts parts) (ListAnswer level (drop place value)))
+    (ListedAnswer level place value) (λ f h. (f, h, refl)) c.in-Err.found found

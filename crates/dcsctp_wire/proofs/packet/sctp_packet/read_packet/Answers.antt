@@ -1,44 +1,41 @@
 use Rattle.std.proofs.Common.{ap}
 use Rattle.std.proofs.lemmas.List.{take_rest}
+use Rattle.dcsctp_tlv.specs.declared.reader.Counts.{Counts}
 use Rattle.dcsctp_tlv.specs.Frame.{lenient}
 use Rattle.dcsctp_tlv.proofs.Lenient.{list_looser}
 use Rattle.dcsctp_wire.specs.Chunk.{chunks, views}
-use Rattle.dcsctp_wire.specs.Packet.{body, with_header, packet_with}
+use Rattle.dcsctp_wire.specs.Packet.{body, with_header}
 use Rattle.dcsctp_wire.specs.declared.packet.common_header.CommonHeader.{CommonHeader}
 use Rattle.dcsctp_wire.proofs.ChunkRows.{chunks_looser}
 use Rattle.dcsctp_wire.proofs.Lenient.{built_means}
-use Rattle.dcsctp_wire.proofs.PacketChecks.{packet_is}
 use Rattle.dcsctp_wire.proofs.packet.sctp_packet.read_packet.Goals as goal
 
 pub list_build-requires : goal.list_build-requires
 list_build-requires c =
     let bytes = c.args.bytes.now in
     let strict = c.args.policy.now.strict_padding in
-    let found = c.in_ok-counts.ensures.found.1 in
+    let found = c.in_ok-counts.ensures.found in
     rw (take_rest bytes 12) (
-      found.trees,
+      found.0.meaning.chunks,
       list_looser (chunks strict) (chunks lenient)
-          (chunks_looser strict) (body bytes) found.trees found.mean,
-      found.item_count,
+          (chunks_looser strict) (body bytes) found.0.meaning.chunks found.1.1.chunks,
+      ap (λ (n : Counts). n.items) found.2,
     )
 
 pub returns-in_err-chunks-clause-memory : goal.returns-in_err-chunks-clause-memory
-returns-in_err-chunks-clause-memory c = λ lacks. (let found = c.in_ok-counts.ensures.found in (
-  packet_with c.args.bytes.now found.1.trees,
-  packet_is c.args.bytes.now c.args.checksum
-      c.args.policy.now found.1.trees found.0 found.1.mean,
-))
+returns-in_err-chunks-clause-memory c = λ lacks. (let found = c.in_ok-counts.ensures.found in
+    (found.0, found.1))
 
 pub returns-clause-answer : goal.returns-clause-answer
 returns-clause-answer c =
     let bytes = c.args.bytes.now in
     let found = c.in_ok-counts.ensures.found in
     let built = rw (take_rest bytes 12) at c.in_ok-chunks.ensures.meant in (
-      found.0,
+      found.1.0,
       record {
         header = ap (λ (h : CommonHeader). with_header h (views c.in_ok-chunks.chunks.items))
             c.read_header.ensures;
-        chunks = built_means c.args.policy.now.strict_padding (body bytes) found.1.trees
-            (views c.in_ok-chunks.chunks.items) found.1.mean built;
+        chunks = built_means c.args.policy.now.strict_padding (body bytes) found.0.meaning.chunks
+            (views c.in_ok-chunks.chunks.items) found.1.1.chunks built;
       },
     )

@@ -1,9 +1,9 @@
-use Rattle.std.proofs.Common.{Ok, Err}
+use Rattle.std.proofs.Common.{Ok, Err, ap}
 use Rattle.std.proofs.lemmas.Result.{err_from_is_err_and}
-use Rattle.dcsctp_wire.specs.Packet.{packet_with}
+use Rattle.dcsctp_tlv.specs.declared.reader.Counts.{Counts}
 use Rattle.dcsctp_wire.proofs.PacketLaws.{packet_parts}
 use Rattle.dcsctp_wire.proofs.Lenient.{lenient_packet}
-use Rattle.dcsctp_wire.proofs.PacketChecks.{check_answers, check_exactly, packet_is}
+use Rattle.dcsctp_wire.proofs.PacketChecks.{check_answers, check_exactly}
 use Rattle.dcsctp_wire.proofs.packet.sctp_packet.SctpPacket.check.Goals as goal
 
 pub returns-in_err-counts-clause-answer : goal.returns-in_err-counts-clause-answer
@@ -18,21 +18,14 @@ returns-in_err-counts-clause-answer c =
 
 pub returns-clause-answer : goal.returns-clause-answer
 returns-clause-answer c =
-    let bytes = c.args.bytes.now in
-    let word = c.args.checksum in
-    let policy = c.args.policy.now in
     let found = c.in_ok-counts.ensures.found in
-    check_exactly bytes word policy (λ i. (c.type_inv.bytes i).fits) (Ok c.in_ok-counts.counts.parts) (
-      packet_with bytes found.1.trees,
-      packet_is bytes word policy found.1.trees found.0
-          found.1.mean,
-      found.1.part_count,
-    )
+    check_exactly c.args.bytes.now c.args.checksum c.args.policy.now
+    (λ i. (c.type_inv.bytes i).fits) (Ok c.in_ok-counts.counts.parts)
+    (found.0, found.1, ap (λ (n : Counts). n.parts) found.2)
 
 pub returns-clause-few : goal.returns-clause-few
 returns-clause-few c =
     let bytes = c.args.bytes.now in
     let found = c.in_ok-counts.ensures.found in
-    rw found.1.part_count (packet_parts bytes (packet_with bytes found.1.trees)
-    (lenient_packet c.args.policy.now.strict_padding bytes (packet_with bytes found.1.trees)
-    (packet_is bytes c.args.checksum c.args.policy.now found.1.trees found.0 found.1.mean).1))
+    rw (ap (λ (n : Counts). n.parts) found.2) (packet_parts bytes found.0
+    (lenient_packet c.args.policy.now.strict_padding bytes found.0 found.1.1))
