@@ -1,15 +1,7 @@
 -- A packet in whose bytes one number of the header was written.
-use Rattle.std.proofs.Common.{◌≡◌, ◌≤◌, ◌<◌, ◌+◌, ◌^◌, ℕ, List, ◌++◌, Ok, Err, length, take, drop, refl, sym, ap, subst, ◌∙◌, append_assoc, arith}
-use Rattle.std.specs.Int.{w16, w32, to_be_bytes, from_be_bytes}
-use Rattle.std.proofs.lemmas.List.{length-append, length-take, length-drop, take_at, drop_at, drop-drop, take-take, drop-take}
-use Rattle.std.proofs.lemmas.Nat.{from_be_bytes-to_be_bytes_4}
-use Rattle.dcsctp_tlv.specs.Image.{put}
-use Rattle.dcsctp_tlv.specs.Number.{number32}
-use Rattle.dcsctp_tlv.specs.Level.{MeansTrees, HasFault}
-use Rattle.dcsctp_wire.specs.Chunk.{chunks}
-use Rattle.dcsctp_wire.proofs.Packets.{has_header}
-use Rattle.dcsctp_wire.specs.Packet.{PacketTree, PacketFault, Size, Checksum, Chunk, HasPacketSize, IsAccepted, IsOpened, Answer, checksum_field, header_of, body}
-use Rattle.dcsctp_wire.specs.declared.packet.sctp_packet.ChecksumPolicy.{ChecksumPolicy}
+use Rattle.std.{proofs.Common.{◌≡◌, ◌≤◌, ◌<◌, ◌+◌, ◌^◌, ℕ, List, ◌++◌, Ok, Err, length, take, drop, refl, sym, ap, subst, ◌∙◌, append_assoc, arith, length-append, length-take, length-drop, take_at, drop_at, drop-drop, take-take}, specs.Int.{w16, w32, to_be_bytes, from_be_bytes}, proofs.lemmas.List.{drop-take}, proofs.lemmas.Nat.{from_be_bytes-to_be_bytes_4}}
+use Rattle.dcsctp_tlv.specs.{Image.{put}, Number.{number32}, Level.{MeansTrees, HasFault}}
+use Rattle.dcsctp_wire.{specs.Chunk.{chunks}, proofs.Packets.{has_header}, specs.Packet.{PacketTree, PacketFault, Size, Checksum, Chunk, HasPacketSize, IsAccepted, IsOpened, Answer, checksum_field, header_of, body}, specs.declared.packet.sctp_packet.ChecksumPolicy.{ChecksumPolicy}}
 
 -- ---- bytes at a place
 
@@ -114,16 +106,26 @@ module _ (old : List ℕ) (n : ℕ) (room : 12 ≤ length old) (fits : n < 2 ^ 3
   pub with_tag_fault : (word : ℕ) (policy : ChecksumPolicy) (e : PacketFault)
       → Answer old word policy (Err e) → Answer tagged word policy (Err e)
   with_tag_fault word policy Size h = (_, ((λ size. h.1.0 (tag_unsized size)), refl))
-  with_tag_fault word policy Checksum h = (_, (
-    tag_size h.1.0,
-    (λ accepted. h.1.1 (subst (λ (field : ℕ). IsAccepted policy field word) tag_field accepted)),
-    refl,
-  ))
-  with_tag_fault word policy (Chunk e) h = (h.0, (
-    tag_opened word policy h.1.0,
-    (h.1.1.0, subst (λ (bytes : List ℕ). HasFault (chunks policy.strict_padding) bytes
-        (e, h.1.1.0)) (sym tag_body) h.1.1.1, h.1.1.2),
-  ))
+  with_tag_fault word policy Checksum h = (
+    _,
+    (
+      tag_size h.1.0,
+      (λ accepted. h.1.1 (subst (λ (field : ℕ). IsAccepted policy field word) tag_field accepted)),
+      refl,
+    ),
+  )
+  with_tag_fault word policy (Chunk e) h = (
+    h.0,
+    (
+      tag_opened word policy h.1.0,
+      (
+        h.1.1.0,
+        subst (λ (bytes : List ℕ). HasFault (chunks policy.strict_padding) bytes
+            (e, h.1.1.0)) (sym tag_body) h.1.1.1,
+        h.1.1.2,
+      ),
+    ),
+  )
 
 -- ---- the checksum field
 

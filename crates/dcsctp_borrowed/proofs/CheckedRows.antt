@@ -1,13 +1,9 @@
 -- A chunk that is known to mean one: the list that lies in it, and which chunks come next.
 use Rattle.std.proofs.Common.{◌≡◌, ℕ, List, Option, Some, None, sym, subst, ◌∙◌}
-use Rattle.dcsctp_tlv.specs.Frame.{lenient}
-use Rattle.dcsctp_tlv.specs.Level.{Level, HasMeaning, MeansSome}
-use Rattle.dcsctp_tlv.specs.Number.{AreBytes}
-use Rattle.dcsctp_tlv.proofs.Checks.{rest_bytes}
+use Rattle.dcsctp_tlv.{specs.Frame.{lenient}, specs.Level.{Level, HasMeaning, MeansSome}, specs.Number.{AreBytes}, proofs.Checks.{rest_bytes}}
 use Rattle.dcsctp_chunk.specs.declared.raw_chunk.RawChunk.{RawChunk}
 use Rattle.dcsctp_wire.specs.Chunk.{ChunkTree, chunks, chunk_row}
-use Rattle.dcsctp_borrowed.specs.Front.{MeansList}
-use Rattle.dcsctp_borrowed.specs.RawChunks.{GivesNext, RawMeans}
+use Rattle.dcsctp_borrowed.specs.{Front.{MeansList}, RawChunks.{GivesNext, RawMeans}}
 
 -- the list that lies at this place, where the chunk means one
 pub listed : {T : Type 0} (level : Level T) (rest : List ℕ) (ts : Option (List T))

@@ -1,15 +1,9 @@
 -- What `UserData` reads of a chunk is what the chunk's row of the table means.
-use Rattle.std.proofs.Common.{◌≡◌, ℕ, List, Some, Result, Ok, ap, rules}
-use Rattle.std.specs.Result.{result_ok}
-use Rattle.std.proofs.lemmas.Bool.{ne_eqb}
-use Rattle.dcsctp_tlv.specs.Fault.{Fault}
-use Rattle.dcsctp_tlv.specs.Frame.{lenient}
-use Rattle.dcsctp_chunk.specs.Data.{Tree}
-use Rattle.dcsctp_chunk.specs.DataChunk.{read as data_at}
-use Rattle.dcsctp_chunk.specs.IDataChunk.{read as idata_at}
+use Rattle.std.{proofs.Common.{◌≡◌, ℕ, List, Some, Result, Ok, ap, rules, ne_eqb}, specs.Result.{result_ok}}
+use Rattle.dcsctp_tlv.specs.{Fault.{Fault}, Frame.{lenient}}
+use Rattle.dcsctp_chunk.specs.{Data.{Tree}, DataChunk.{read as data_at}, IDataChunk.{read as idata_at}}
 use Rattle.dcsctp_wire.specs.Chunk.{ChunkTree, chunk_row}
-use Rattle.dcsctp_borrowed.specs.UserData.{data_of, read_user_data}
-use Rattle.dcsctp_borrowed.proofs.TreeRows.{of_listed, of_chunk}
+use Rattle.dcsctp_borrowed.{specs.UserData.{data_of, read_user_data}, proofs.TreeRows.{of_listed, of_chunk}}
 
 abbrev ReadsAs : ℕ → ℕ → List ℕ → ChunkTree → Type 0
 ReadsAs flags typ value t = read_user_data typ flags value ≡ data_of t

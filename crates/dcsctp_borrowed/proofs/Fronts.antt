@@ -1,12 +1,6 @@
 -- The item at the front of bytes that mean trees, at every level.
-use Rattle.std.proofs.Common.{◌≡◌, ◌≢◌, ◌≤◌, ◌+◌, ℕ, List, [], ◌∷◌, length, refl, sym, subst, ◌∙◌, arith}
-use Rattle.std.specs.List.{slice_index}
-use Rattle.std.specs.Int.{w16, from_be_bytes}
-use Rattle.dcsctp_tlv.specs.Number.{AreBytes, number16}
-use Rattle.dcsctp_tlv.specs.Frame.{Item, BeginsWithFrame, frame_value, frame_rest}
-use Rattle.dcsctp_tlv.specs.Level.{Row, Level, ItemsMean, MeansTrees, MeansSome, front_row}
-use Rattle.dcsctp_tlv.proofs.Items.{front_length}
-use Rattle.dcsctp_tlv.proofs.Checks.{first_item, first_tree, frame_shrinks, rest_bytes, no_trees}
+use Rattle.std.{proofs.Common.{◌≡◌, ◌≢◌, ◌≤◌, ◌+◌, ℕ, List, [], ◌∷◌, length, refl, sym, subst, ◌∙◌, arith}, specs.List.{slice_index}, specs.Int.{w16, from_be_bytes}}
+use Rattle.dcsctp_tlv.{specs.Number.{AreBytes, number16}, specs.Frame.{Item, BeginsWithFrame, frame_value, frame_rest}, specs.Level.{Row, Level, ItemsMean, MeansTrees, MeansSome, front_row}, proofs.Items.{front_length}, proofs.Checks.{first_item, first_tree, frame_shrinks, rest_bytes, no_trees}}
 use Rattle.dcsctp_borrowed.specs.Front.{MeansFirst, IsFront, IsAtEnd}
 
 -- ---- what the front means

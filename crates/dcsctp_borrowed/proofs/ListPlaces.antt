@@ -1,20 +1,10 @@
 -- Where a chunk's list lies: what the chunk's row of the table means of the value, the list there
 -- means.
-use Rattle.std.proofs.Common.{◌≡◌, ℕ, List, Option, Some, None, refl, ap, subst, rules}
-use Rattle.std.proofs.lemmas.Bool.{ne_eqb}
-use Rattle.dcsctp_tlv.specs.Frame.{lenient}
-use Rattle.dcsctp_tlv.specs.Level.{Level, MeansSome}
-use Rattle.dcsctp_tlv.specs.Parameter.{ParameterTree, parameters}
+use Rattle.std.proofs.Common.{◌≡◌, ℕ, List, Option, Some, None, refl, ap, subst, rules, ne_eqb}
+use Rattle.dcsctp_tlv.specs.{Frame.{lenient}, Level.{Level, MeansSome}, Parameter.{ParameterTree, parameters}}
 use Rattle.dcsctp_cause.specs.Cause.{CauseTree, causes}
-use Rattle.dcsctp_wire.specs.InitFields.{Tree as InitTree, row as init_row}
-use Rattle.dcsctp_wire.specs.ParameterList.{row as parameter_list_row}
-use Rattle.dcsctp_wire.specs.Abort.{Tree as AbortTree, row as abort_row}
-use Rattle.dcsctp_wire.specs.Error.{row as error_row}
-use Rattle.dcsctp_wire.specs.Chunk.{ChunkTree, Init, HeartbeatRequest, Abort, Error, chunk_row}
-use Rattle.dcsctp_borrowed.specs.Front.{GivesList, MeansList}
-use Rattle.dcsctp_borrowed.specs.RawParameters.{parameter_bytes, parameters_of}
-use Rattle.dcsctp_borrowed.specs.RawCauses.{cause_bytes, causes_of}
-use Rattle.dcsctp_borrowed.proofs.TreeRows.{of_listed, of_chunk}
+use Rattle.dcsctp_wire.specs.{InitFields.{Tree as InitTree, row as init_row}, ParameterList.{row as parameter_list_row}, Abort.{Tree as AbortTree, row as abort_row}, Error.{row as error_row}, Chunk.{ChunkTree, Init, HeartbeatRequest, Abort, Error, chunk_row}}
+use Rattle.dcsctp_borrowed.{specs.Front.{GivesList, MeansList}, specs.RawParameters.{parameter_bytes, parameters_of}, specs.RawCauses.{cause_bytes, causes_of}, proofs.TreeRows.{of_listed, of_chunk}}
 
 -- ---- what is given of a place
 

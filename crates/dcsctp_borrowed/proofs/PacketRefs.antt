@@ -1,18 +1,8 @@
 -- A packet that is read in its bytes: what refers to it.
 use Rattle.std.proofs.Common.{◌≡◌, ℕ, List, Result, Ok, Err, sym, ap, ◌∙◌}
-use Rattle.dcsctp_tlv.specs.Number.{AreBytes}
-use Rattle.dcsctp_tlv.specs.Frame.{lenient}
-use Rattle.dcsctp_tlv.specs.Level.{MeansTrees}
-use Rattle.dcsctp_tlv.specs.Reading.{Answers, Exactly}
-use Rattle.dcsctp_tlv.proofs.Exact.{Single, exactly}
-use Rattle.dcsctp_wire.specs.Chunk.{chunks}
-use Rattle.dcsctp_wire.specs.Packet.{PacketTree, Answer, body, packet_checking}
-use Rattle.dcsctp_borrowed.specs.PacketRef.{reference, Referred, RefersTo}
-use Rattle.dcsctp_borrowed.specs.declared.packet_ref.SctpPacketRef.{SctpPacketRef}
-use Rattle.dcsctp_wire.specs.declared.packet.sctp_packet.ChecksumPolicy.{ChecksumPolicy}
-use Rattle.dcsctp_wire.specs.declared.packet.sctp_packet.PacketParseError.{PacketParseError}
-use Rattle.dcsctp_wire.proofs.Lenient.{lenient_packet}
-use Rattle.dcsctp_wire.proofs.PacketChecks.{packet_checking_distinct, packet_single}
+use Rattle.dcsctp_tlv.{specs.Number.{AreBytes}, specs.Frame.{lenient}, specs.Level.{MeansTrees}, specs.Reading.{Answers, Exactly}, proofs.Exact.{Single, exactly}}
+use Rattle.dcsctp_wire.{specs.Chunk.{chunks}, specs.Packet.{PacketTree, Answer, body, packet_checking}, specs.declared.packet.sctp_packet.ChecksumPolicy.{ChecksumPolicy}, specs.declared.packet.sctp_packet.PacketParseError.{PacketParseError}, proofs.Lenient.{lenient_packet}, proofs.PacketChecks.{packet_checking_distinct, packet_single}}
+use Rattle.dcsctp_borrowed.specs.{PacketRef.{reference, Referred, RefersTo}, declared.packet_ref.SctpPacketRef.{SctpPacketRef}}
 
 -- ---- what refers to a packet
 

@@ -1,16 +1,8 @@
 -- What holds of each tree that a chunk can mean. Of the kinds without a list it is said all at once:
 -- where computing shows it of each, `assumption` does, however many there are.
 use Rattle.std.proofs.Common.{◌≡◌, ℕ, List, [], ◌∷◌, ◌++◌, Result, Ok, sym, subst}
-use Rattle.dcsctp_tlv.specs.Fault.{Fault}
-use Rattle.dcsctp_tlv.specs.Frame.{lenient}
-use Rattle.dcsctp_tlv.specs.Level.{Row, as_row, map_ok}
-use Rattle.dcsctp_tlv.specs.Table.{Named, IsUnnamed}
-use Rattle.dcsctp_tlv.proofs.KindLaws.{of_map_ok}
-use Rattle.dcsctp_tlv.proofs.Tables.{EachNamed, of_table}
-use Rattle.dcsctp_tlv.specs.Kinds.{Kind, TreesOf, own_row, rows}
-use Rattle.dcsctp_chunk.specs.PlainKinds.{plain_kinds}
-use Rattle.dcsctp_chunk.specs.Unknown.{Tree as UnknownTree, read as unknown_at}
-use Rattle.dcsctp_tlv.proofs.Owed.{down}
+use Rattle.dcsctp_tlv.{specs.Fault.{Fault}, specs.Frame.{lenient}, specs.Level.{Row, as_row, map_ok}, specs.Table.{Named, IsUnnamed}, proofs.KindLaws.{of_map_ok}, proofs.Tables.{EachNamed, of_table}, specs.Kinds.{Kind, TreesOf, own_row, rows}, proofs.Owed.{down}}
+use Rattle.dcsctp_chunk.specs.{PlainKinds.{plain_kinds}, Unknown.{Tree as UnknownTree, read as unknown_at}}
 use Rattle.dcsctp_wire.specs.Chunk.{ChunkTree, Unknown, list_rows, plain_trees, plain_rows, table, chunk_row}
 
 -- it holds of each tree that the row means
@@ -43,8 +35,8 @@ module _ (Holds : ℕ → List ℕ → ChunkTree → Type 0) where
   of_plain flags [] trees h = tt
   of_plain flags (k ∷ ks) trees h = (
     λ value t m.
-    (let d = down trees.0 lenient flags k.reader value t m in
-    subst (Holds k.typ value) (sym d.1.1) (h.0 value d.0 d.1.0)),
+        (let d = down trees.0 lenient flags k.reader value t m in
+        subst (Holds k.typ value) (sym d.1.1) (h.0 value d.0 d.1.0)),
     of_plain flags ks trees.1 h.1,
   )
 

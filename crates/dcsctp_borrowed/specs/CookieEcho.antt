@@ -1,6 +1,5 @@
 -- The cookie of COOKIE ECHO (RFC 9260 section 3.3.11), read in its bytes.
-use Rattle.std.specs.Prelude.{◌==◌, ℕ, List, if◌then◌else◌, Option, Some, None}
-use Rattle.std.specs.Result.{result_ok}
+use Rattle.std.specs.{Prelude.{◌==◌, ℕ, List, if◌then◌else◌, Option, Some, None}, Result.{result_ok}}
 use Rattle.dcsctp_chunk.specs.CookieEcho as cookie_kind
 use Rattle.dcsctp_wire.specs.Chunk.{ChunkTree, CookieEcho}
 

@@ -1,10 +1,7 @@
 -- The item at the front of bytes that mean a list, to a reader that takes one after the other: of
 -- chunks, of parameters and of error causes alike (RFC 9260 sections 3.2, 3.2.1 and 3.3.10).
 use Rattle.std.specs.Prelude.{◌≡◌, ◌≤◌, ◌+◌, ℕ, List, [], ◌∷◌, Option, Some, None, length}
-use Rattle.dcsctp_tlv.specs.Frame.{BeginsWithFrame, frame_value, frame_rest}
-use Rattle.dcsctp_tlv.specs.Level.{Row, Level, MeansTrees, MeansSome}
-use Rattle.dcsctp_tlv.specs.Number.{number16}
-use Rattle.dcsctp_tlv.specs.declared.parameter.raw_parameter.RawParameter.{RawParameter}
+use Rattle.dcsctp_tlv.specs.{Frame.{BeginsWithFrame, frame_value, frame_rest}, Level.{Row, Level, MeansTrees, MeansSome}, Number.{number16}, declared.parameter.raw_parameter.RawParameter.{RawParameter}}
 
 -- ---- the next item
 

@@ -1,6 +1,5 @@
 -- The info of HEARTBEAT and HEARTBEAT ACK (RFC 9260 sections 3.3.5 and 3.3.6), read in its bytes.
-use Rattle.std.specs.Prelude.{◌==◌, ℕ, List, if◌then◌else◌, Option, Some, None}
-use Rattle.std.specs.Result.{result_ok}
+use Rattle.std.specs.{Prelude.{◌==◌, ℕ, List, if◌then◌else◌, Option, Some, None}, Result.{result_ok}}
 use Rattle.dcsctp_tlv.specs.HeartbeatInfo as info_kind
 use Rattle.dcsctp_tlv.specs.Parameter.{ParameterTree, HeartbeatInfo}
 

@@ -1,10 +1,8 @@
 -- A packet that is read in its bytes (RFC 9260 section 3): what refers to it, and which packet that
 -- is.
 use Rattle.std.specs.Prelude.{◌≡◌, ℕ, List, Result, Ok, Err}
-use Rattle.dcsctp_wire.specs.Packet.{PacketTree, PacketFault, Answer, IsPacket, body, header_of}
-use Rattle.dcsctp_borrowed.specs.RawChunks.{MeanChunks}
-use Rattle.dcsctp_wire.specs.declared.packet.sctp_packet.ChecksumPolicy.{ChecksumPolicy}
-use Rattle.dcsctp_borrowed.specs.declared.packet_ref.SctpPacketRef.{SctpPacketRef}
+use Rattle.dcsctp_wire.specs.{Packet.{PacketTree, PacketFault, Answer, IsPacket, body, header_of}, declared.packet.sctp_packet.ChecksumPolicy.{ChecksumPolicy}}
+use Rattle.dcsctp_borrowed.specs.{RawChunks.{MeanChunks}, declared.packet_ref.SctpPacketRef.{SctpPacketRef}}
 
 -- the numbers of the header, and the bytes of the chunks
 abbrev pub reference : List ℕ → SctpPacketRef

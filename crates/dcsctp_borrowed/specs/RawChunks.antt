@@ -1,8 +1,7 @@
 -- Chunks that are read in their bytes (RFC 9260 section 3.2): what each means there, and which
 -- chunk is the next.
 use Rattle.std.specs.Prelude.{◌≡◌, ℕ, List, Option, Some, None, slice_index}
-use Rattle.dcsctp_tlv.specs.Frame.{lenient}
-use Rattle.dcsctp_tlv.specs.Level.{MeansTrees}
+use Rattle.dcsctp_tlv.specs.{Frame.{lenient}, Level.{MeansTrees}}
 use Rattle.dcsctp_chunk.specs.declared.raw_chunk.RawChunk.{RawChunk}
 use Rattle.dcsctp_wire.specs.Chunk.{ChunkTree, chunks, chunk_row}
 use Rattle.dcsctp_borrowed.specs.Front.{MeansFirst, IsFront, IsAtEnd}

@@ -1,6 +1,5 @@
 -- A SACK that is read in its bytes (RFC 9260 section 3.3.4).
-use Rattle.std.specs.Prelude.{◌==◌, ℕ, List, if◌then◌else◌, Option, Some, None}
-use Rattle.std.specs.Result.{result_ok}
+use Rattle.std.specs.{Prelude.{◌==◌, ℕ, List, if◌then◌else◌, Option, Some, None}, Result.{result_ok}}
 use Rattle.dcsctp_chunk.specs.Sack.{Tree, read}
 use Rattle.dcsctp_wire.specs.Chunk.{ChunkTree, Sack}
 

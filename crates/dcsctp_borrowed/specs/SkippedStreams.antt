@@ -1,7 +1,6 @@
 -- FORWARD-TSN (RFC 3758 section 3.2) and I-FORWARD-TSN (RFC 8260 section 2.3.1) that are read in
 -- their bytes.
-use Rattle.std.specs.Prelude.{◌==◌, ℕ, Bool, List, if◌then◌else◌, Option, Some, None}
-use Rattle.std.specs.Result.{result_ok}
+use Rattle.std.specs.{Prelude.{◌==◌, ℕ, Bool, List, if◌then◌else◌, Option, Some, None}, Result.{result_ok}}
 use Rattle.dcsctp_tlv.specs.Fields.{fields}
 use Rattle.dcsctp_chunk.specs.ForwardTsn as forward_kind
 use Rattle.dcsctp_chunk.specs.IForwardTsn as iforward_kind

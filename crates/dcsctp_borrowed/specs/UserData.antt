@@ -1,7 +1,6 @@
 -- User data that is read in its bytes: of DATA (RFC 9260 section 3.3.1) and of I-DATA (RFC 8260
 -- section 2.1).
-use Rattle.std.specs.Prelude.{◌==◌, ℕ, List, not, if◌then◌else◌, Option, Some, None}
-use Rattle.std.specs.Result.{result_ok}
+use Rattle.std.specs.{Prelude.{◌==◌, ℕ, List, not, if◌then◌else◌, Option, Some, None}, Result.{result_ok}}
 use Rattle.dcsctp_types.specs.StreamKey.{is_ordered_key, stream_of}
 use Rattle.dcsctp_chunk.specs.Data.{Tree}
 use Rattle.dcsctp_chunk.specs.DataChunk as data_kind

@@ -1,21 +1,11 @@
 //! The chunks of a packet in its bytes, each known to mean a chunk.
 
 ghost use Rattle.std.specs.Prelude.{◌≡◌, ◌≤◌, ℕ, List, Some, IfSome, length, option_map};
-ghost use Rattle.dcsctp_tlv.specs.Frame.{lenient};
-ghost use Rattle.dcsctp_tlv.specs.Level.{HasMeaning, MeansSome};
-ghost use Rattle.dcsctp_tlv.specs.Number.{AreBytes};
-ghost use Rattle.dcsctp_tlv.specs.Parameter.{parameters};
+ghost use Rattle.dcsctp_tlv.specs.{Frame.{lenient}, Level.{HasMeaning, MeansSome}, Number.{AreBytes}, Parameter.{parameters}};
 ghost use Rattle.dcsctp_cause.specs.Cause.{causes};
 ghost use Rattle.dcsctp_chunk.specs.declared.raw_chunk.RawChunk.{RawChunk};
 ghost use Rattle.dcsctp_wire.specs.Chunk.{ChunkTree, chunk_row, chunks};
-ghost use Rattle.dcsctp_borrowed.specs.CookieEcho.{cookie_of, read_cookie};
-ghost use Rattle.dcsctp_borrowed.specs.Front.{GivesList, MeansList};
-ghost use Rattle.dcsctp_borrowed.specs.RawCauses.{cause_bytes, causes_of};
-ghost use Rattle.dcsctp_borrowed.specs.RawChunks.{RawMeans};
-ghost use Rattle.dcsctp_borrowed.specs.RawParameters.{parameter_bytes, parameters_of};
-ghost use Rattle.dcsctp_borrowed.specs.Sack.{sack_of, read_sack};
-ghost use Rattle.dcsctp_borrowed.specs.SkippedStreams.{forward_of, read_forward};
-ghost use Rattle.dcsctp_borrowed.specs.UserData.{user_data_view, data_of, read_user_data};
+ghost use Rattle.dcsctp_borrowed.specs.{CookieEcho.{cookie_of, read_cookie}, Front.{GivesList, MeansList}, RawCauses.{cause_bytes, causes_of}, RawChunks.{RawMeans}, RawParameters.{parameter_bytes, parameters_of}, Sack.{sack_of, read_sack}, SkippedStreams.{forward_of, read_forward}, UserData.{user_data_view, data_of, read_user_data}};
 
 use crate::forward_tsn_ref::ForwardTsnRef;
 use crate::raw_causes::{RawCauses, cause_bytes};

@@ -2,8 +2,7 @@
 
 ghost use Rattle.std.specs.Prelude.{◌≡◌, option_map};
 ghost use Rattle.dcsctp_wire.specs.Chunk.{ChunkTree};
-ghost use Rattle.dcsctp_borrowed.specs.CookieEcho.{cookie_of, read_cookie};
-ghost use Rattle.dcsctp_borrowed.specs.RawChunks.{RawMeans};
+ghost use Rattle.dcsctp_borrowed.specs.{CookieEcho.{cookie_of, read_cookie}, RawChunks.{RawMeans}};
 
 use dcsctp_wire::packet::chunk::RawChunk;
 use dcsctp_wire::packet::cookie_echo_chunk;

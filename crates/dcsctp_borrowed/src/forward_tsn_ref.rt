@@ -1,14 +1,11 @@
 //! FORWARD-TSN and I-FORWARD-TSN, in a packet's bytes.
 
-ghost use Rattle.std.specs.Prelude.{◌≡◌, ◌<◌, ◌≤◌, ◌*◌, ℕ, Bool, List, if◌then◌else◌, IsOk, Some, option_map, length, slice_get};
-ghost use Rattle.std.specs.Iterator.{YieldsFirstBy, item_count};
-ghost use Rattle.std.specs.Result.{result_ok};
+ghost use Rattle.std.specs.{Prelude.{◌≡◌, ◌<◌, ◌≤◌, ◌*◌, ℕ, Bool, List, if◌then◌else◌, IsOk, Some, option_map, length, slice_get}, Iterator.{YieldsFirstBy, item_count}, Result.{result_ok}};
 ghost use Rattle.dcsctp_chunk.specs.ForwardTsn as forward_kind;
 ghost use Rattle.dcsctp_chunk.specs.IForwardTsn as iforward_kind;
 ghost use Rattle.dcsctp_chunk.specs.SkippedStreams.{SkippedStreamTree, Tree, skipped_stream_view};
 ghost use Rattle.dcsctp_wire.specs.Chunk.{ChunkTree};
-ghost use Rattle.dcsctp_borrowed.specs.RawChunks.{RawMeans};
-ghost use Rattle.dcsctp_borrowed.specs.SkippedStreams.{streams_at, forward_of, read_forward};
+ghost use Rattle.dcsctp_borrowed.specs.{RawChunks.{RawMeans}, SkippedStreams.{streams_at, forward_of, read_forward}};
 
 use dcsctp_chunk::{forward_tsn_chunk, iforward_tsn_chunk};
 use dcsctp_tlv::number::{read_u16_be, read_u32_be};

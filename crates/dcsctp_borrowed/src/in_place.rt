@@ -1,10 +1,8 @@
 //! Changes to a packet in its bytes: for a middle box, and to seal a packet that was written.
 
-ghost use Rattle.std.specs.Prelude.{◌≡◌, ◌≤◌, ℕ, Ok, Err, length, take, drop};
-ghost use Rattle.std.specs.Int.{w32, to_be_bytes};
+ghost use Rattle.std.specs.{Prelude.{◌≡◌, ◌≤◌, ℕ, Ok, Err, length, take, drop}, Int.{w32, to_be_bytes}};
 ghost use Rattle.dcsctp_tlv.specs.Image.{put};
-ghost use Rattle.dcsctp_wire.specs.Packet.{PacketTree, PacketFault, Answer, IsAccepted, checksum_field};
-ghost use Rattle.dcsctp_wire.specs.declared.packet.sctp_packet.ChecksumPolicy.{ChecksumPolicy};
+ghost use Rattle.dcsctp_wire.specs.{Packet.{PacketTree, PacketFault, Answer, IsAccepted, checksum_field}, declared.packet.sctp_packet.ChecksumPolicy.{ChecksumPolicy}};
 
 use dcsctp_tlv::number::put_u32;
 

@@ -1,14 +1,9 @@
 //! A packet in its bytes: checked, and neither copied nor built.
 
 ghost use Rattle.std.specs.Prelude.{◌≡◌, ◌≤◌, Ok, IfOk, IsErrOf, length};
-ghost use Rattle.dcsctp_tlv.specs.Frame.{lenient};
-ghost use Rattle.dcsctp_tlv.specs.Level.{MeansSome};
-ghost use Rattle.dcsctp_tlv.specs.Reading.{Answers, Exactly};
-ghost use Rattle.dcsctp_tlv.specs.declared.error.ChunkParseError.TheVariants.{OutOfMemory};
-ghost use Rattle.dcsctp_wire.specs.Chunk.{chunks};
-ghost use Rattle.dcsctp_wire.specs.Packet.{PacketTree, Answer, body, packet_checking};
+ghost use Rattle.dcsctp_tlv.specs.{Frame.{lenient}, Level.{MeansSome}, Reading.{Answers, Exactly}, declared.error.ChunkParseError.TheVariants.{OutOfMemory}};
+ghost use Rattle.dcsctp_wire.specs.{Chunk.{chunks}, Packet.{PacketTree, Answer, body, packet_checking}, declared.packet.sctp_packet.PacketParseError.TheVariants.{FailedParseChunk}};
 ghost use Rattle.dcsctp_borrowed.specs.PacketRef.{reference, Referred, RefersTo};
-ghost use Rattle.dcsctp_wire.specs.declared.packet.sctp_packet.PacketParseError.TheVariants.{FailedParseChunk};
 
 use crate::raw_chunks::RawChunks;
 use dcsctp_tlv::number::{read_u16_be, read_u32_be};

@@ -1,14 +1,10 @@
 //! The error causes of a chunk in its bytes, one after the other.
 
 ghost use Rattle.std.specs.Prelude.{◌≡◌, ℕ, List, option_map};
-ghost use Rattle.dcsctp_tlv.specs.Frame.{lenient};
-ghost use Rattle.dcsctp_tlv.specs.Level.{MeansSome};
-ghost use Rattle.dcsctp_tlv.specs.Number.{AreBytes};
+ghost use Rattle.dcsctp_tlv.specs.{Frame.{lenient}, Level.{MeansSome}, Number.{AreBytes}};
 ghost use Rattle.dcsctp_cause.specs.Cause.{causes};
 ghost use Rattle.dcsctp_wire.specs.Chunk.{ChunkTree};
-ghost use Rattle.dcsctp_borrowed.specs.Front.{GivesList, MeansList};
-ghost use Rattle.dcsctp_borrowed.specs.RawChunks.{RawMeans};
-ghost use Rattle.dcsctp_borrowed.specs.RawCauses.{cause_bytes, causes_of};
+ghost use Rattle.dcsctp_borrowed.specs.{Front.{GivesList, MeansList}, RawChunks.{RawMeans}, RawCauses.{cause_bytes, causes_of}};
 
 use crate::raw_parameters::front_parts;
 use dcsctp_cause::error_causes::error_cause_check;

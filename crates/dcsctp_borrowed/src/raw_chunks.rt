@@ -1,9 +1,7 @@
 //! The chunks of a packet in its bytes, one after the other.
 
 ghost use Rattle.std.specs.Prelude.{◌≡◌, ℕ, List, length};
-ghost use Rattle.dcsctp_tlv.specs.Frame.{lenient};
-ghost use Rattle.dcsctp_tlv.specs.Level.{MeansSome};
-ghost use Rattle.dcsctp_tlv.specs.Number.{AreBytes};
+ghost use Rattle.dcsctp_tlv.specs.{Frame.{lenient}, Level.{MeansSome}, Number.{AreBytes}};
 ghost use Rattle.dcsctp_wire.specs.Chunk.{chunks};
 
 use crate::checked_chunks::CheckedChunks;

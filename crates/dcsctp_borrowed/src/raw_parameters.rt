@@ -1,14 +1,9 @@
 //! The parameters of a chunk in its bytes, one after the other.
 
 ghost use Rattle.std.specs.Prelude.{◌≡◌, ℕ, List, option_map};
-ghost use Rattle.dcsctp_tlv.specs.Frame.{lenient, BeginsWithFrame, frame_value, frame_rest};
-ghost use Rattle.dcsctp_tlv.specs.Level.{MeansSome};
-ghost use Rattle.dcsctp_tlv.specs.Number.{AreBytes, number16};
-ghost use Rattle.dcsctp_tlv.specs.Parameter.{parameters};
+ghost use Rattle.dcsctp_tlv.specs.{Frame.{lenient, BeginsWithFrame, frame_value, frame_rest}, Level.{MeansSome}, Number.{AreBytes, number16}, Parameter.{parameters}};
 ghost use Rattle.dcsctp_wire.specs.Chunk.{ChunkTree};
-ghost use Rattle.dcsctp_borrowed.specs.Front.{GivesList, MeansList};
-ghost use Rattle.dcsctp_borrowed.specs.RawChunks.{RawMeans};
-ghost use Rattle.dcsctp_borrowed.specs.RawParameters.{parameter_bytes, parameters_of};
+ghost use Rattle.dcsctp_borrowed.specs.{Front.{GivesList, MeansList}, RawChunks.{RawMeans}, RawParameters.{parameter_bytes, parameters_of}};
 
 use dcsctp_tlv::frame::frame_parts;
 use dcsctp_tlv::number::read_u16_be;

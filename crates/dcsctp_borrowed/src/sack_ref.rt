@@ -1,17 +1,11 @@
 //! A SACK, in a packet's bytes.
 
-ghost use Rattle.std.specs.Prelude.{◌≡◌, ◌↔◌, ◌<◌, ◌≤◌, ◌+◌, ◌*◌, ◌^◌, ℕ, List, Some, IsOk, IsTrue, length, drop, slice_get};
-ghost use Rattle.std.specs.Iterator.{YieldsFirst, YieldsFirstBy, item_count};
-ghost use Rattle.std.specs.Result.{result_ok};
+ghost use Rattle.std.specs.{Prelude.{◌≡◌, ◌↔◌, ◌<◌, ◌≤◌, ◌+◌, ◌*◌, ◌^◌, ℕ, List, Some, IsOk, IsTrue, length, drop, slice_get}, Iterator.{YieldsFirst, YieldsFirstBy, item_count}, Result.{result_ok}};
 ghost use Rattle.dcsctp_types.specs.Serial.{wrapped_sum, IsGreater};
-ghost use Rattle.dcsctp_tlv.specs.Fields.{fields};
-ghost use Rattle.dcsctp_tlv.specs.Number.{number16, number32};
-ghost use Rattle.dcsctp_chunk.specs.Cover.{Covers, AreValid};
-ghost use Rattle.dcsctp_chunk.specs.Sack.{Tree, block_at, read};
-ghost use Rattle.dcsctp_chunk.specs.declared.sack_chunk.GapAckBlock.{GapAckBlock};
+ghost use Rattle.dcsctp_tlv.specs.{Fields.{fields}, Number.{number16, number32}};
+ghost use Rattle.dcsctp_chunk.specs.{Cover.{Covers, AreValid}, Sack.{Tree, block_at, read}, declared.sack_chunk.GapAckBlock.{GapAckBlock}};
 ghost use Rattle.dcsctp_wire.specs.Chunk.{ChunkTree};
-ghost use Rattle.dcsctp_borrowed.specs.RawChunks.{RawMeans};
-ghost use Rattle.dcsctp_borrowed.specs.Sack.{sack_of, read_sack};
+ghost use Rattle.dcsctp_borrowed.specs.{RawChunks.{RawMeans}, Sack.{sack_of, read_sack}};
 
 use dcsctp_chunk::sack_chunk::{self, GapAckBlock};
 use dcsctp_tlv::fields::Field;

@@ -1,15 +1,13 @@
 //! The user data of DATA and I-DATA, in a packet's bytes.
 
-ghost use Rattle.std.specs.Prelude.{◌≡◌, ◌≤◌, IfSome, IsOk, Some, not, option_map, if◌then◌else◌, length, drop};
-ghost use Rattle.std.specs.Result.{result_ok};
+ghost use Rattle.std.specs.{Prelude.{◌≡◌, ◌≤◌, IfSome, IsOk, Some, not, option_map, if◌then◌else◌, length, drop}, Result.{result_ok}};
 ghost use Rattle.dcsctp_types.specs.StreamKey.{is_ordered_key, stream_of};
 ghost use Rattle.dcsctp_tlv.specs.Number.{number16};
 ghost use Rattle.dcsctp_chunk.specs.Flags as bits;
 ghost use Rattle.dcsctp_chunk.specs.DataChunk as data_kind;
 ghost use Rattle.dcsctp_chunk.specs.IDataChunk as idata_kind;
 ghost use Rattle.dcsctp_wire.specs.Chunk.{ChunkTree};
-ghost use Rattle.dcsctp_borrowed.specs.RawChunks.{RawMeans};
-ghost use Rattle.dcsctp_borrowed.specs.UserData.{user_data_view, data_of, read_user_data};
+ghost use Rattle.dcsctp_borrowed.specs.{RawChunks.{RawMeans}, UserData.{user_data_view, data_of, read_user_data}};
 
 use dcsctp_chunk::flags::is_set;
 use dcsctp_tlv::frame::TLV_HEADER_SIZE;

@@ -1,20 +1,8 @@
 -- What a buffer holds after each step.
-use Rattle.std.proofs.Common.{◌≡◌, ℕ, ◌+◌, ◌-◌, ◌^◌, ◌≤◌, ◌<◌, Ok, List, [], ◌∷◌, ◌++◌, length, take, drop, refl, sym, ap, subst, ◌∙◌, append_assoc, arith}
-use Rattle.std.specs.List.{AllByRecursion}
-use Rattle.std.specs.Int.{w32, to_be_bytes}
-use Rattle.std.proofs.lemmas.List.{length-append, length-take, take_at, drop_at, take-take, drop-take}
-use Rattle.std.proofs.Math.Seq.{take-append-add}
-use Rattle.dcsctp_tlv.specs.Frame.{round_up_to_4}
-use Rattle.dcsctp_tlv.specs.Image.{put, size_of}
-use Rattle.dcsctp_tlv.proofs.Kept.{all_map}
+use Rattle.std.{proofs.Common.{◌≡◌, ℕ, ◌+◌, ◌-◌, ◌^◌, ◌≤◌, ◌<◌, Ok, List, [], ◌∷◌, ◌++◌, length, take, drop, refl, sym, ap, subst, ◌∙◌, append_assoc, arith, length-append, length-take, take_at, drop_at, take-take}, specs.List.{AllByRecursion}, specs.Int.{w32, to_be_bytes}, proofs.lemmas.List.{drop-take}, proofs.Math.Seq.{take-append-add}}
+use Rattle.dcsctp_tlv.{specs.Frame.{round_up_to_4}, specs.Image.{put, size_of}, proofs.Kept.{all_map}}
 use Rattle.dcsctp_crc32c.specs.Checksum.{packet_word}
-use Rattle.dcsctp_wire.specs.Chunk.{ChunkTree, tlv as chunk_tlv, IsChunkEncodable, IsInWidth as IsChunkInWidth, kept as kept_chunk}
-use Rattle.dcsctp_wire.specs.Canonical.{canonical, padded_chunk, Fits}
-use Rattle.dcsctp_wire.specs.Packet.{Meaning, Answer, equal}
-use Rattle.dcsctp_wire.specs.WellFormed.{IsInWidth, IsWellFormed}
-use Rattle.dcsctp_wire.specs.declared.packet.sctp_packet.ChecksumPolicy.{ChecksumPolicy}
-use Rattle.dcsctp_wire.proofs.KeptLaws.{canonical_kept, kept_encodable, kept_width}
-use Rattle.dcsctp_wire.proofs.Canonicals.{length-canonical, length-padded_chunk, canonical-push, padded_size-push, with_field, reads_back_with}
+use Rattle.dcsctp_wire.{specs.Chunk.{ChunkTree, tlv as chunk_tlv, IsChunkEncodable, IsInWidth as IsChunkInWidth, kept as kept_chunk}, specs.Canonical.{canonical, padded_chunk, Fits}, specs.Packet.{Meaning, Answer, equal}, specs.WellFormed.{IsInWidth, IsWellFormed}, specs.declared.packet.sctp_packet.ChecksumPolicy.{ChecksumPolicy}, proofs.KeptLaws.{canonical_kept, kept_encodable, kept_width}, proofs.Canonicals.{length-canonical, length-padded_chunk, canonical-push, padded_size-push, with_field, reads_back_with}}
 use Rattle.dcsctp_buffer.specs.Buffer.{HoldsPacket, HasRoom, with_chunk, kept}
 
 -- ---- a packet is begun

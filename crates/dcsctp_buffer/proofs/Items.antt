@@ -1,11 +1,6 @@
 -- What an output is after a chunk was written at its front, whose bytes have no place left out.
-use Rattle.std.proofs.Common.{◌≡◌, ℕ, ◌+◌, ◌-◌, ◌≤◌, List, [], ◌∷◌, ◌++◌, length, take, drop, replicate, refl, sym, ap, ◌∙◌, arith}
-use Rattle.std.specs.Prelude.{Some}
-use Rattle.std.proofs.lemmas.List.{append-nil, length-append, length-drop, map-append, drop-drop}
-use Rattle.dcsctp_tlv.specs.Frame.{header, typed_header}
-use Rattle.dcsctp_tlv.specs.Image.{Tlv, put, solid, zeroed, size_of, image_of, written, solid_tlv, typed_tlv, listed_tlv}
-use Rattle.dcsctp_tlv.proofs.Images.{written-solid, written-zeros}
-use Rattle.dcsctp_tlv.proofs.Puts.{put-put, written_value}
+use Rattle.std.proofs.{Common.{◌≡◌, ℕ, ◌+◌, ◌-◌, ◌≤◌, List, [], ◌∷◌, ◌++◌, length, take, drop, replicate, refl, sym, ap, ◌∙◌, arith, Some, append-nil, length-append, length-drop, drop-drop}, lemmas.List.{map-append}}
+use Rattle.dcsctp_tlv.{specs.Frame.{header, typed_header}, specs.Image.{Tlv, put, solid, zeroed, size_of, image_of, written, solid_tlv, typed_tlv, listed_tlv}, proofs.Images.{written-solid, written-zeros}, proofs.Puts.{put-put, written_value}}
 use Rattle.dcsctp_buffer.specs.Buffer.{with_item}
 
 pub zeroed-solid : (bytes : List ℕ) → zeroed (solid bytes) ≡ bytes

@@ -1,6 +1,5 @@
 -- Numbers that lie in their widths.
-use Rattle.std.proofs.Common.{ℕ, suc, ◌<◌, Bool, true, false, List, [], ◌∷◌, get_or}
-use Rattle.std.specs.List.{AllByRecursion}
+use Rattle.std.{proofs.Common.{ℕ, suc, ◌<◌, Bool, true, false, List, [], ◌∷◌, get_or}, specs.List.{AllByRecursion}}
 use Rattle.dcsctp_tlv.specs.Number.{AreBytes}
 use Rattle.dcsctp_wire.specs.Chunk.{IsInWidth as IsChunkInWidth}
 use Rattle.dcsctp_buffer.specs.Heartbeat.{heartbeat}

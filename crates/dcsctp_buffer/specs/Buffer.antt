@@ -1,11 +1,7 @@
 -- A packet at the front of a buffer, to which chunks are added (RFC 9260 section 3).
 use Rattle.std.specs.Prelude.{◌≡◌, ℕ, ◌+◌, ◌%◌, ◌≤◌, List, [], ◌∷◌, ◌++◌, length, take, drop}
-use Rattle.dcsctp_tlv.specs.Frame.{round_up_to_4}
-use Rattle.dcsctp_tlv.specs.Image.{Tlv, zeroed, put, size_of, image_of}
-use Rattle.dcsctp_wire.specs.Chunk.{ChunkTree, tlv as chunk_tlv, IsChunkEncodable, all_kept}
-use Rattle.dcsctp_wire.specs.Canonical.{canonical, padded_chunk, Fits}
-use Rattle.dcsctp_wire.specs.Packet.{Meaning}
-use Rattle.dcsctp_wire.specs.WellFormed.{IsInWidth}
+use Rattle.dcsctp_tlv.specs.{Frame.{round_up_to_4}, Image.{Tlv, zeroed, put, size_of, image_of}}
+use Rattle.dcsctp_wire.specs.{Chunk.{ChunkTree, tlv as chunk_tlv, IsChunkEncodable, all_kept}, Canonical.{canonical, padded_chunk, Fits}, Packet.{Meaning}, WellFormed.{IsInWidth}}
 
 -- The first `size` bytes are the canonical packet of m: each chunk can be written, the packet has
 -- at most 65,532 bytes, and its numbers lie in their fields' widths. A relation, since two meanings

@@ -1,7 +1,6 @@
 -- A SACK that is written from where its lists lie (RFC 9260 section 3.3.4).
 use Rattle.std.specs.Prelude.{map}
-use Rattle.dcsctp_chunk.specs.Sack.{Tree}
-use Rattle.dcsctp_chunk.specs.declared.sack_chunk.GapAckBlock.{GapAckBlock}
+use Rattle.dcsctp_chunk.specs.{Sack.{Tree}, declared.sack_chunk.GapAckBlock.{GapAckBlock}}
 use Rattle.dcsctp_buffer.specs.declared.sack.BorrowedSack.{BorrowedSack}
 
 -- the chunk as plain data, by what each block is

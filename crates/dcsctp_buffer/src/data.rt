@@ -1,8 +1,7 @@
 //! DATA, whose payload lies anywhere.
 
 ghost use Rattle.std.specs.Prelude.{◌≡◌, ◌<◌, ◌^◌};
-ghost use Rattle.dcsctp_chunk.specs.Data.{IsInWidth};
-ghost use Rattle.dcsctp_chunk.specs.DataChunk.{fixed as fixed_bytes};
+ghost use Rattle.dcsctp_chunk.specs.{Data.{IsInWidth}, DataChunk.{fixed as fixed_bytes}};
 ghost use Rattle.dcsctp_wire.specs.Chunk.{Data as DataTree};
 ghost use Rattle.dcsctp_buffer.specs.Data.{view};
 

@@ -1,8 +1,7 @@
 //! INIT ACK, whose State Cookie lies anywhere.
 
 ghost use Rattle.std.specs.Prelude.{◌≡◌};
-ghost use Rattle.dcsctp_wire.specs.Chunk.{InitAck as InitAckTree};
-ghost use Rattle.dcsctp_wire.specs.InitFields.{leading, IsInWidth};
+ghost use Rattle.dcsctp_wire.specs.{Chunk.{InitAck as InitAckTree}, InitFields.{leading, IsInWidth}};
 ghost use Rattle.dcsctp_buffer.specs.InitAck.{view};
 
 use crate::one_item::{one_item_size, put_one_item};

@@ -17,16 +17,10 @@ pub mod sack;
 mod widths;
 pub mod writable_chunk;
 
-ghost use Rattle.std.specs.Prelude.{◌≡◌, ◌↔◌, ◌≤◌, ◌+◌, [], true, false, Ok, length, take, drop, IsTrue};
-ghost use Rattle.std.specs.Int.{w32, to_be_bytes};
+ghost use Rattle.std.specs.{Prelude.{◌≡◌, ◌↔◌, ◌≤◌, ◌+◌, [], true, false, Ok, length, take, drop, IsTrue}, Int.{w32, to_be_bytes}};
 ghost use Rattle.dcsctp_crc32c.specs.Checksum.{packet_word};
-ghost use Rattle.dcsctp_tlv.specs.Frame.{round_up_to_4};
-ghost use Rattle.dcsctp_tlv.specs.Image.{put, size_of};
-ghost use Rattle.dcsctp_wire.specs.Canonical.{canonical, padded_chunk};
-ghost use Rattle.dcsctp_wire.specs.Chunk.{tlv as chunk_tlv, IsChunkEncodable, IsInWidth as IsChunkInWidth};
-ghost use Rattle.dcsctp_wire.specs.Packet.{Meaning, Answer};
-ghost use Rattle.dcsctp_wire.specs.WellFormed.{IsWellFormed};
-ghost use Rattle.dcsctp_wire.specs.declared.packet.sctp_packet.ChecksumPolicy.{ChecksumPolicy};
+ghost use Rattle.dcsctp_tlv.specs.{Frame.{round_up_to_4}, Image.{put, size_of}};
+ghost use Rattle.dcsctp_wire.specs.{Canonical.{canonical, padded_chunk}, Chunk.{tlv as chunk_tlv, IsChunkEncodable, IsInWidth as IsChunkInWidth}, Packet.{Meaning, Answer}, WellFormed.{IsWellFormed}, declared.packet.sctp_packet.ChecksumPolicy.{ChecksumPolicy}};
 ghost use Rattle.dcsctp_buffer.specs.Buffer.{HoldsPacket, HasRoom, IsAdded, kept};
 
 use crate::writable_chunk::WritableChunk;

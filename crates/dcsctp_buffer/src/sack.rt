@@ -1,11 +1,9 @@
 //! A SACK, whose lists lie anywhere.
 
-ghost use Rattle.std.specs.Prelude.{◌≡◌, ◌<◌, ◌≤◌, ◌+◌, ◌*◌, ◌^◌, length, map};
-ghost use Rattle.std.specs.List.{AllByRecursion, flat_map};
+ghost use Rattle.std.specs.{Prelude.{◌≡◌, ◌<◌, ◌≤◌, ◌+◌, ◌*◌, ◌^◌, length, map}, List.{AllByRecursion, flat_map}};
 ghost use Rattle.dcsctp_tlv.specs.Image.{put};
-ghost use Rattle.dcsctp_chunk.specs.Sack.{block_bytes, fixed as fixed_bytes, IsBlockInWidth};
+ghost use Rattle.dcsctp_chunk.specs.{Sack.{block_bytes, fixed as fixed_bytes, IsBlockInWidth}, declared.sack_chunk.GapAckBlock.{GapAckBlock}};
 ghost use Rattle.dcsctp_wire.specs.Chunk.{Sack as SackTree};
-ghost use Rattle.dcsctp_chunk.specs.declared.sack_chunk.GapAckBlock.{GapAckBlock};
 ghost use Rattle.dcsctp_buffer.specs.Sack.{view};
 
 use crate::widths::words_in_width;

@@ -1,8 +1,7 @@
 //! Laws of slices: the numbers in them lie in their widths, by their types. Proof-only functions:
 //! calling them costs nothing.
 
-ghost use Rattle.std.specs.Prelude.{◌<◌, ◌^◌};
-ghost use Rattle.std.specs.List.{AllByRecursion};
+ghost use Rattle.std.specs.{Prelude.{◌<◌, ◌^◌}, List.{AllByRecursion}};
 ghost use Rattle.dcsctp_tlv.specs.Number.{AreBytes};
 
 /// Each is a byte.

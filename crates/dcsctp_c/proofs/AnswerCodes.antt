@@ -1,18 +1,8 @@
 -- The code is that of the grammar's answer, and what is written is a form of the packet.
 use Rattle.std.proofs.Common.{◌≡◌, ◌∙◌, ℕ, List, Result, Ok, Err, inl, inr, refl, sym, subst, ap}
-use Rattle.dcsctp_tlv.specs.Number.{AreBytes}
-use Rattle.dcsctp_tlv.specs.Reading.{Answers, Exactly, Counted}
-use Rattle.dcsctp_tlv.specs.declared.error.ChunkParseError.TheVariants.{OutOfMemory}
-use Rattle.dcsctp_wire.specs.Account.{node_count}
-use Rattle.dcsctp_wire.specs.Packet.{PacketTree, PacketFault, Placed, Answer, IsPacket, packet_error_of, packet_checking, packet_reading, packet_view}
-use Rattle.dcsctp_wire.specs.Place.{PacketLocated, packet_locating}
-use Rattle.dcsctp_wire.specs.declared.packet.first_fault.FirstFault.{FirstFault}
-use Rattle.dcsctp_wire.specs.declared.packet.sctp_packet.ChecksumPolicy.{ChecksumPolicy}
-use Rattle.dcsctp_wire.specs.declared.packet.sctp_packet.PacketParseError.{PacketParseError}
-use Rattle.dcsctp_wire.specs.declared.packet.sctp_packet.PacketParseError.TheVariants.{FailedParseChunk}
-use Rattle.dcsctp_wire.proofs.PacketChecks.{packet_single}
-use Rattle.dcsctp_c.specs.Code.{fault_code, answer_code, no_memory_code, IsAnswerCode}
-use Rattle.dcsctp_c.specs.Output.{Output, Writes, written, no_memory, no_room, no_form, WritesPacket, packet, faulty}
+use Rattle.dcsctp_tlv.specs.{Number.{AreBytes}, Reading.{Answers, Exactly, Counted}, declared.error.ChunkParseError.TheVariants.{OutOfMemory}}
+use Rattle.dcsctp_wire.{specs.Account.{node_count}, specs.Packet.{PacketTree, PacketFault, Placed, Answer, IsPacket, packet_error_of, packet_checking, packet_reading, packet_view}, specs.Place.{PacketLocated, packet_locating}, specs.declared.packet.first_fault.FirstFault.{FirstFault}, specs.declared.packet.sctp_packet.ChecksumPolicy.{ChecksumPolicy}, specs.declared.packet.sctp_packet.PacketParseError.{PacketParseError}, specs.declared.packet.sctp_packet.PacketParseError.TheVariants.{FailedParseChunk}, proofs.PacketChecks.{packet_single}}
+use Rattle.dcsctp_c.specs.{Code.{fault_code, answer_code, no_memory_code, IsAnswerCode}, Output.{Output, Writes, written, no_memory, no_room, no_form, WritesPacket, packet, faulty}}
 
 -- ---- codes, where the library was asked with an equal policy
 

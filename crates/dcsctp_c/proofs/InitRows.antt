@@ -1,15 +1,9 @@
 -- The numbers of INIT and INIT ACK are read as the table of chunks says.
-use Rattle.std.proofs.Common.{◌≡◌, ℕ, Bool, List, [], Option, Some, None, refl, sym, ap, subst, ◌∙◌, rules}
-use Rattle.std.specs.Prelude.{option_map, false}
-use Rattle.std.specs.Option.{option_and_then}
-use Rattle.std.proofs.lemmas.Bool.{ne_eqb}
+use Rattle.std.{proofs.Common.{◌≡◌, ℕ, Bool, List, [], Option, Some, None, refl, sym, ap, subst, ◌∙◌, rules, option_map, false, ne_eqb}, specs.Option.{option_and_then}}
 use Rattle.dcsctp_tlv.specs.Frame.{lenient}
-use Rattle.dcsctp_wire.specs.Chunk.{ChunkTree, Init, chunk_row}
-use Rattle.dcsctp_wire.specs.InitFields.{Tree, row}
+use Rattle.dcsctp_wire.specs.{Chunk.{ChunkTree, Init, chunk_row}, InitFields.{Tree, row}}
 use Rattle.dcsctp_borrowed.proofs.TreeRows.{of_listed, of_chunk}
-use Rattle.dcsctp_c.specs.Part.{Reads, ReadsInto, ChunkMeans, read_init, init_of, init_at, HoldsInit}
-use Rattle.dcsctp_c.specs.declared.structs.DcsctpChunk.{DcsctpChunk}
-use Rattle.dcsctp_c.specs.declared.structs.DcsctpInit.{DcsctpInit}
+use Rattle.dcsctp_c.specs.{Part.{Reads, ReadsInto, ChunkMeans, read_init, init_of, init_at, HoldsInit}, declared.structs.DcsctpChunk.{DcsctpChunk}, declared.structs.DcsctpInit.{DcsctpInit}}
 
 -- the tree without its parameters
 abbrev bare : Tree → Tree

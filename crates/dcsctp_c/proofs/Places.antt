@@ -1,25 +1,12 @@
 -- Where a chunk and what it holds lie in the bytes.
-use Rattle.std.proofs.Common.{Ok, Err, ◌≡◌, ◌≢◌, ◌+◌, ◌-◌, ◌≤◌, ℕ, Bool, true, false, List, [], ◌∷◌, Option, Some, None, length, take, drop, get_or, ◌∙◌, refl, sym, ap, subst, inl, inr, arith, length-drop, length-take}
-use Rattle.std.specs.Prelude.{◌==◌, nat_le, nat_lt, if◌then◌else◌}
-use Rattle.std.specs.Option.{option_and_then}
-use Rattle.std.specs.Result.{result_ok}
-use Rattle.std.proofs.lemmas.Bool.{cases_lt, le-leb, leb-true, ltb-false}
-use Rattle.std.proofs.lemmas.List.{drop-drop, drop_all, drop-take, get_or-drop}
-use Rattle.dcsctp_tlv.specs.Number.{AreBytes}
-use Rattle.dcsctp_tlv.specs.Frame.{lenient, round_up_to_4, BeginsWithFrame, frame_length, frame_value, frame_rest}
-use Rattle.dcsctp_tlv.specs.Level.{MeansTrees}
-use Rattle.dcsctp_tlv.proofs.Items.{front_length}
-use Rattle.dcsctp_tlv.proofs.Checks.{frame_shrinks}
+use Rattle.std.{proofs.Common.{Ok, Err, ◌≡◌, ◌≢◌, ◌+◌, ◌-◌, ◌≤◌, ℕ, Bool, true, false, List, [], ◌∷◌, Option, Some, None, length, take, drop, get_or, ◌∙◌, refl, sym, ap, subst, inl, inr, arith, length-drop, length-take, ◌==◌, nat_le, nat_lt, if◌then◌else◌, le-leb, leb-true, ltb-false, drop-drop, get_or-drop}, specs.Option.{option_and_then}, specs.Result.{result_ok}, proofs.lemmas.Bool.{cases_lt}, proofs.lemmas.List.{drop_all, drop-take}}
+use Rattle.dcsctp_tlv.{specs.Number.{AreBytes}, specs.Frame.{lenient, round_up_to_4, BeginsWithFrame, frame_length, frame_value, frame_rest}, specs.Level.{MeansTrees}, proofs.Items.{front_length}, proofs.Checks.{frame_shrinks}}
 use Rattle.dcsctp_chunk.specs.Data as data_kind
 use Rattle.dcsctp_chunk.specs.DataChunk as data_chunk
 use Rattle.dcsctp_chunk.specs.IDataChunk as idata_chunk
 use Rattle.dcsctp_wire.specs.Chunk.{ChunkTree, chunks}
-use Rattle.dcsctp_borrowed.specs.UserData.{read_user_data, data_of}
-use Rattle.dcsctp_borrowed.proofs.DataRows.{reads_alike}
-use Rattle.dcsctp_borrowed.proofs.Fronts.{front_means, means_none}
-use Rattle.dcsctp_c.specs.Part.{part, Reads, value_at, ChunkMeans, IsChunkAt, data_at, data_view, HoldsData}
-use Rattle.dcsctp_c.specs.declared.structs.DcsctpChunk.{DcsctpChunk}
-use Rattle.dcsctp_c.specs.declared.structs.DcsctpData.{DcsctpData}
+use Rattle.dcsctp_borrowed.{specs.UserData.{read_user_data, data_of}, proofs.DataRows.{reads_alike}, proofs.Fronts.{front_means, means_none}}
+use Rattle.dcsctp_c.specs.{Part.{part, Reads, value_at, ChunkMeans, IsChunkAt, data_at, data_view, HoldsData}, declared.structs.DcsctpChunk.{DcsctpChunk}, declared.structs.DcsctpData.{DcsctpData}}
 
 -- ---- a chunk
 

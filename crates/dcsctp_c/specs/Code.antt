@@ -1,9 +1,7 @@
 -- The codes that C programs get for whole packets (RFC 9260 section 3), and the policy that they
 -- ask for. No standard has these numbers.
 use Rattle.std.specs.Prelude.{◌≡◌, ℕ, List, if◌then◌else◌, Result, Ok, Err}
-use Rattle.dcsctp_wire.specs.Fault.{Length, Padding, Value}
-use Rattle.dcsctp_wire.specs.Packet.{PacketTree, PacketFault, Size, Checksum, Chunk, Answer}
-use Rattle.dcsctp_wire.specs.declared.packet.sctp_packet.ChecksumPolicy.{ChecksumPolicy}
+use Rattle.dcsctp_wire.specs.{Fault.{Length, Padding, Value}, Packet.{PacketTree, PacketFault, Size, Checksum, Chunk, Answer}, declared.packet.sctp_packet.ChecksumPolicy.{ChecksumPolicy}}
 use Rattle.dcsctp_c.specs.declared.structs.DcsctpPolicy.{DcsctpPolicy}
 
 -- the policy that the struct asks for; method 1 is the one of RFC 9653

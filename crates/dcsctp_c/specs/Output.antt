@@ -1,10 +1,7 @@
 -- What a call does that writes a form of a packet (RFC 9260 section 3) over the front of an output,
 -- and the form's size beside it.
 use Rattle.std.specs.Prelude.{◌≡◌, ◌<◌, ℕ, List, ◌++◌, Ok, Err, length, drop}
-use Rattle.dcsctp_wire.specs.Canonical.{canonical, Fits}
-use Rattle.dcsctp_wire.specs.Packet.{PacketTree, PacketFault, Answer}
-use Rattle.dcsctp_wire.specs.PacketText.{packet_text}
-use Rattle.dcsctp_wire.specs.declared.packet.sctp_packet.ChecksumPolicy.{ChecksumPolicy}
+use Rattle.dcsctp_wire.specs.{Canonical.{canonical, Fits}, Packet.{PacketTree, PacketFault, Answer}, PacketText.{packet_text}, declared.packet.sctp_packet.ChecksumPolicy.{ChecksumPolicy}}
 use Rattle.dcsctp_c.specs.Code.{fault_code, no_memory_code, no_room_code, too_long_code}
 
 -- the canonical packet, of a packet that has one

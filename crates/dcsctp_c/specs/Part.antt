@@ -1,24 +1,13 @@
 -- The parts of a packet as a C program reads them: offsets into its bytes, and numbers.
-use Rattle.std.specs.Prelude.{◌≡◌, ◌+◌, ◌≤◌, ◌<◌, ◌==◌, ◌||◌, ◌&&◌, ℕ, Bool, true, false, List, [], ◌∷◌, if◌then◌else◌, nat_le, Option, Some, None, length, take, drop, slice_index, slice_get}
-use Rattle.std.specs.Option.{option_and_then}
-use Rattle.dcsctp_tlv.specs.Frame.{lenient, frame_value, frame_rest}
-use Rattle.dcsctp_tlv.specs.Level.{MeansTrees}
-use Rattle.dcsctp_chunk.specs.Cover.{AreValid}
+use Rattle.std.specs.{Prelude.{◌≡◌, ◌+◌, ◌≤◌, ◌<◌, ◌==◌, ◌||◌, ◌&&◌, ℕ, Bool, true, false, List, [], ◌∷◌, if◌then◌else◌, nat_le, Option, Some, None, length, take, drop, slice_index, slice_get}, Option.{option_and_then}}
+use Rattle.dcsctp_tlv.specs.{Frame.{lenient, frame_value, frame_rest}, Level.{MeansTrees}}
+use Rattle.dcsctp_chunk.specs.{Cover.{AreValid}, declared.sack_chunk.GapAckBlock.{GapAckBlock}}
 use Rattle.dcsctp_chunk.specs.Data as data_kind
 use Rattle.dcsctp_chunk.specs.Sack as sack_kind
-use Rattle.dcsctp_chunk.specs.declared.sack_chunk.GapAckBlock.{GapAckBlock}
-use Rattle.dcsctp_wire.specs.Chunk.{ChunkTree, Init, InitAck, chunks, chunk_row}
+use Rattle.dcsctp_wire.specs.{Chunk.{ChunkTree, Init, InitAck, chunks, chunk_row}, Packet.{PacketTree, header_of}, declared.packet.common_header.CommonHeader.{CommonHeader}}
 use Rattle.dcsctp_wire.specs.InitFields as init_fields
-use Rattle.dcsctp_wire.specs.Packet.{PacketTree, header_of}
-use Rattle.dcsctp_wire.specs.declared.packet.common_header.CommonHeader.{CommonHeader}
-use Rattle.dcsctp_borrowed.specs.Sack.{read_sack}
-use Rattle.dcsctp_borrowed.specs.UserData.{read_user_data}
-use Rattle.dcsctp_c.specs.declared.structs.DcsctpChunk.{DcsctpChunk}
-use Rattle.dcsctp_c.specs.declared.structs.DcsctpData.{DcsctpData}
-use Rattle.dcsctp_c.specs.declared.structs.DcsctpGapAckBlock.{DcsctpGapAckBlock}
-use Rattle.dcsctp_c.specs.declared.structs.DcsctpHeader.{DcsctpHeader}
-use Rattle.dcsctp_c.specs.declared.structs.DcsctpInit.{DcsctpInit}
-use Rattle.dcsctp_c.specs.declared.structs.DcsctpSack.{DcsctpSack}
+use Rattle.dcsctp_borrowed.specs.{Sack.{read_sack}, UserData.{read_user_data}}
+use Rattle.dcsctp_c.specs.declared.structs.{DcsctpChunk.{DcsctpChunk}, DcsctpData.{DcsctpData}, DcsctpGapAckBlock.{DcsctpGapAckBlock}, DcsctpHeader.{DcsctpHeader}, DcsctpInit.{DcsctpInit}, DcsctpSack.{DcsctpSack}}
 
 -- ---- what is read
 

@@ -5,9 +5,7 @@ use Rattle.dcsctp_tlv.specs.Parameter.{StateCookie}
 use Rattle.dcsctp_cause.specs.Cause.{UserInitiatedAbort}
 use Rattle.dcsctp_chunk.specs.declared.sack_chunk.GapAckBlock.{GapAckBlock}
 use Rattle.dcsctp_wire.specs.Chunk.{ChunkTree, Data, Sack, Abort, InitAck}
-use Rattle.dcsctp_c.specs.declared.structs.DcsctpData.{DcsctpData}
-use Rattle.dcsctp_c.specs.declared.structs.DcsctpGapAckBlock.{DcsctpGapAckBlock}
-use Rattle.dcsctp_c.specs.declared.structs.DcsctpInit.{DcsctpInit}
+use Rattle.dcsctp_c.specs.declared.structs.{DcsctpData.{DcsctpData}, DcsctpGapAckBlock.{DcsctpGapAckBlock}, DcsctpInit.{DcsctpInit}}
 
 -- DATA with this payload; what the struct has besides isn't carried
 abbrev pub data_chunk : DcsctpData → List ℕ → ChunkTree

@@ -3,8 +3,7 @@
 ghost use Rattle.std.specs.Prelude.{◌≡◌};
 ghost use Rattle.dcsctp_c.specs.Code.{fault_code, no_memory_code};
 ghost use Rattle.dcsctp_tlv.specs.declared.error.ChunkParseError.TheVariants.{OutOfMemory};
-ghost use Rattle.dcsctp_wire.specs.Packet.{PacketFault, packet_error_of};
-ghost use Rattle.dcsctp_wire.specs.declared.packet.sctp_packet.PacketParseError.TheVariants.{FailedParseChunk};
+ghost use Rattle.dcsctp_wire.specs.{Packet.{PacketFault, packet_error_of}, declared.packet.sctp_packet.PacketParseError.TheVariants.{FailedParseChunk}};
 
 use dcsctp_wire::packet::ChunkParseError;
 use dcsctp_wire::packet::sctp_packet::PacketParseError;

@@ -1,12 +1,9 @@
 //! Changes to a packet in its bytes.
 
-ghost use Rattle.std.specs.Prelude.{◌≡◌, ◌↔◌, ◌≤◌, ◌<◌, ℕ, Ok, Err, IsTrue, length};
-ghost use Rattle.std.specs.Int.{w32, to_be_bytes};
+ghost use Rattle.std.specs.{Prelude.{◌≡◌, ◌↔◌, ◌≤◌, ◌<◌, ℕ, Ok, Err, IsTrue, length}, Int.{w32, to_be_bytes}};
 ghost use Rattle.dcsctp_crc32c.specs.Checksum.{packet_word};
 ghost use Rattle.dcsctp_tlv.specs.Image.{put};
-ghost use Rattle.dcsctp_wire.specs.Packet.{Meaning, PacketTree, PacketFault, Answer, checksum_field};
-ghost use Rattle.dcsctp_wire.specs.WellFormed.{IsWellFormed};
-ghost use Rattle.dcsctp_wire.specs.declared.packet.sctp_packet.ChecksumPolicy.{ChecksumPolicy};
+ghost use Rattle.dcsctp_wire.specs.{Packet.{Meaning, PacketTree, PacketFault, Answer, checksum_field}, WellFormed.{IsWellFormed}, declared.packet.sctp_packet.ChecksumPolicy.{ChecksumPolicy}};
 ghost use Rattle.dcsctp_buffer.specs.Buffer.{HoldsPacket, kept};
 
 use dcsctp_borrowed::in_place::{set_checksum_word, set_verification_tag};

@@ -2,10 +2,8 @@
 
 ghost use Rattle.std.specs.Prelude.{◌≡◌, ◌≤◌, ◌<◌, ◌∷◌, ◌↔◌, ℕ, List, Err, length, take, drop};
 ghost use Rattle.dcsctp_crc32c.specs.Checksum.{packet_word};
-ghost use Rattle.dcsctp_wire.specs.Canonical.{canonical, Fits};
-ghost use Rattle.dcsctp_wire.specs.Packet.{PacketFault, Placed, IsPacket, packet_view};
-ghost use Rattle.dcsctp_c.specs.Code.{policy_of, IsAnswerCode};
-ghost use Rattle.dcsctp_c.specs.Output.{IsCanonical, IsText, Writes, WritesPacket};
+ghost use Rattle.dcsctp_wire.specs.{Canonical.{canonical, Fits}, Packet.{PacketFault, Placed, IsPacket, packet_view}};
+ghost use Rattle.dcsctp_c.specs.{Code.{policy_of, IsAnswerCode}, Output.{IsCanonical, IsText, Writes, WritesPacket}};
 
 use crate::codes::{NO_MEMORY, NO_ROOM, OK, TOO_LONG, code_of};
 use crate::structs::DcsctpPolicy;

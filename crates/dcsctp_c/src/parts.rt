@@ -2,11 +2,8 @@
 
 ghost use Rattle.std.specs.Prelude.{◌≡◌, ◌↔◌, ◌≤◌, ℕ, Ok, IsTrue, IfSome, option_map, false, length, drop};
 ghost use Rattle.dcsctp_tlv.specs.Frame.{BeginsWithFrame};
-ghost use Rattle.dcsctp_wire.specs.Chunk.{ChunkTree};
-ghost use Rattle.dcsctp_wire.specs.Packet.{PacketTree, Answer};
-ghost use Rattle.dcsctp_wire.specs.declared.packet.sctp_packet.ChecksumPolicy.{ChecksumPolicy};
-ghost use Rattle.dcsctp_borrowed.specs.Sack.{sack_of};
-ghost use Rattle.dcsctp_borrowed.specs.UserData.{data_of};
+ghost use Rattle.dcsctp_wire.specs.{Chunk.{ChunkTree}, Packet.{PacketTree, Answer}, declared.packet.sctp_packet.ChecksumPolicy.{ChecksumPolicy}};
+ghost use Rattle.dcsctp_borrowed.specs.{Sack.{sack_of}, UserData.{data_of}};
 ghost use Rattle.dcsctp_c.specs.Part.{ReadsInto, Reads, header_at, HoldsHeader, IsHeaderOf, value_at, ChunkMeans, IsChunkAt, data_at, HoldsData, sack_at, HoldsSack, block_at, HoldsBlock, duplicate_at, HoldsNumber, IsValidSack, init_of, init_at, HoldsInit};
 
 use crate::structs::{

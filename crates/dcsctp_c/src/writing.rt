@@ -2,12 +2,10 @@
 //!
 //! A packet is begun, each chunk is added to it, and `dcsctp_seal` of its `size` bytes ends it.
 
-ghost use Rattle.std.specs.Prelude.{◌≡◌, ◌↔◌, ◌≤◌, [], true, false, length, drop, IsTrue};
-ghost use Rattle.std.specs.Str.{IsUtf8};
+ghost use Rattle.std.specs.{Prelude.{◌≡◌, ◌↔◌, ◌≤◌, [], true, false, length, drop, IsTrue}, Str.{IsUtf8}};
 ghost use Rattle.dcsctp_chunk.specs.declared.sack_chunk.GapAckBlock.{GapAckBlock};
 ghost use Rattle.dcsctp_wire.specs.Chunk.{CookieAck};
-ghost use Rattle.dcsctp_buffer.specs.Buffer.{HoldsPacket, HasRoom, IsAdded};
-ghost use Rattle.dcsctp_buffer.specs.Heartbeat.{heartbeat};
+ghost use Rattle.dcsctp_buffer.specs.{Buffer.{HoldsPacket, HasRoom, IsAdded}, Heartbeat.{heartbeat}};
 ghost use Rattle.dcsctp_c.specs.Writing.{data_chunk, block_of, sack_chunk, abort_chunk, init_ack_chunk};
 
 use crate::structs::{DcsctpData, DcsctpGapAckBlock, DcsctpInit};

@@ -1,28 +1,13 @@
 -- What each kind of error cause has to satisfy for the laws of the table.
-use Rattle.std.proofs.Common.{◌≡◌, ℕ, ◌+◌, ◌*◌, true, List, length, drop, refl, sym, ap, ◌∙◌, arith, Result, Ok}
-use Rattle.std.specs.Prelude.{◌==◌}
-use Rattle.std.specs.Str.{IsUtf8}
-use Rattle.std.proofs.lemmas.Bool.{eqb-true}
-use Rattle.std.proofs.lemmas.Bool.Decides.{Decides-eqb}
-use Rattle.std.proofs.lemmas.Nat.{from_be_bytes-to_be_bytes_4}
-use Rattle.dcsctp_tlv.specs.Fault.{Fault, Length}
-use Rattle.dcsctp_tlv.specs.Format.{Format}
-use Rattle.dcsctp_tlv.specs.Image.{solid, IsEncodable}
-use Rattle.dcsctp_tlv.specs.Number.{number16, number32}
-use Rattle.dcsctp_tlv.proofs.FieldLaws.{length-fields, numbers16_back}
-use Rattle.dcsctp_tlv.proofs.FormatLaws.{FormatLaws, format_laws}
-use Rattle.dcsctp_tlv.proofs.KindLaws.{KindLaws, by_value, of_ok, passed}
-use Rattle.dcsctp_tlv.proofs.Layouts.{any_laws, number_laws, empty_laws}
-use Rattle.dcsctp_tlv.proofs.Unpadded.{if_passed}
+use Rattle.std.{proofs.Common.{◌≡◌, ℕ, ◌+◌, ◌*◌, true, List, length, drop, refl, sym, ap, ◌∙◌, arith, Result, Ok, ◌==◌, eqb-true}, specs.Str.{IsUtf8}, proofs.lemmas.Bool.Decides.{Decides-eqb}, proofs.lemmas.Nat.{from_be_bytes-to_be_bytes_4}}
+use Rattle.dcsctp_tlv.{specs.Fault.{Fault, Length}, specs.Format.{Format}, specs.Image.{solid, IsEncodable}, specs.Number.{number16, number32}, proofs.FieldLaws.{length-fields, numbers16_back}, proofs.FormatLaws.{FormatLaws, format_laws}, proofs.KindLaws.{KindLaws, by_value, of_ok, passed}, proofs.Layouts.{any_laws, number_laws, empty_laws}, proofs.Unpadded.{if_passed}}
 use Rattle.dcsctp_cause.specs.MissingMandatoryParameter as missing
 use Rattle.dcsctp_cause.specs.UnrecognizedChunk as chunk
 use Rattle.dcsctp_cause.specs.NoUserData as no_user_data
 use Rattle.dcsctp_cause.specs.CookieReceivedWhileShuttingDown as cookie_received
 use Rattle.dcsctp_cause.specs.UserInitiatedAbort as abort
 use Rattle.dcsctp_cause.specs.ProtocolViolation as violation
-use Rattle.dcsctp_cause.specs.Text.{text_or, IsText}
-use Rattle.dcsctp_cause.proofs.Texts.{text_or_utf8}
-use Rattle.dcsctp_cause.proofs.Types.{bytes_of_types, length-bytes_of_types}
+use Rattle.dcsctp_cause.{specs.Text.{text_or, IsText}, proofs.Texts.{text_or_utf8}, proofs.Types.{bytes_of_types, length-bytes_of_types}}
 
 -- ---- types of missing parameters
 

@@ -1,25 +1,7 @@
 -- The laws of the table of error causes: a line for each kind of what it owes.
-use Rattle.std.proofs.Common.{rules, ◌≡◌, ℕ, Bool, List, length, Result, refl, inl, inr}
-use Rattle.std.specs.Str.{IsUtf8}
-use Rattle.dcsctp_tlv.specs.Decided.{LawfulRow, IgnoresPadding}
-use Rattle.dcsctp_tlv.specs.Frame.{lenient}
-use Rattle.dcsctp_tlv.specs.Image.{Tlv, zeroed, size_of, image_of}
-use Rattle.dcsctp_tlv.specs.Table.{Content, Text, ◌&◌}
-use Rattle.dcsctp_tlv.specs.declared.error.ChunkParseError.{ChunkParseError}
-use Rattle.dcsctp_tlv.specs.Kinds.{ChecksKind}
-use Rattle.dcsctp_tlv.specs.Reading.{Answers, checking, RowAnswer, Counted, Unplaced}
-use Rattle.dcsctp_tlv.proofs.Lengths.{length-format}
-use Rattle.dcsctp_tlv.proofs.Laws.{Lawful}
-use Rattle.dcsctp_tlv.proofs.Owed.{AllOwed, OwedOf, plain_owed, owed_if, back_of}
-use Rattle.dcsctp_tlv.proofs.Places.{AtFront}
-use Rattle.dcsctp_tlv.proofs.Lenient.{Loosens}
-use Rattle.dcsctp_tlv.proofs.TableLaws.{TypedFacts, typed_row_lawful, typed_at_front, typed_lawful, typed_looser, typed_form, typed_account, typed_unpadded, typed_tested, unknown_means}
-use Rattle.dcsctp_tlv.proofs.ReadsBack.{ReadsBack}
-use Rattle.dcsctp_tlv.proofs.KindLaws.{IsGood}
-use Rattle.dcsctp_tlv.proofs.Forms.{FormsTrees}
-use Rattle.dcsctp_tlv.proofs.Accounts.{Accounts}
-use Rattle.dcsctp_cause.specs.Cause.{CauseTree, Unknown, kinds, trees, table, row, causes, entry, format, tlv, IsWellFormed, HoldsText, IsTextKept}
-use Rattle.dcsctp_cause.proofs.CauseKinds.{missing_laws, chunk_laws, no_user_data_laws, cookie_received_laws, abort_laws, violation_laws}
+use Rattle.std.{proofs.Common.{rules, ◌≡◌, ℕ, Bool, List, length, Result, refl, inl, inr}, specs.Str.{IsUtf8}}
+use Rattle.dcsctp_tlv.{specs.Decided.{LawfulRow, IgnoresPadding}, specs.Frame.{lenient}, specs.Image.{Tlv, zeroed, size_of, image_of}, specs.Table.{Content, Text, ◌&◌}, specs.declared.error.ChunkParseError.{ChunkParseError}, specs.Kinds.{ChecksKind}, specs.Reading.{Answers, checking, RowAnswer, Counted, Unplaced}, proofs.Lengths.{length-format}, proofs.Laws.{Lawful}, proofs.Owed.{AllOwed, OwedOf, plain_owed, owed_if, back_of}, proofs.Places.{AtFront}, proofs.Lenient.{Loosens}, proofs.TableLaws.{TypedFacts, typed_row_lawful, typed_at_front, typed_lawful, typed_looser, typed_form, typed_account, typed_unpadded, typed_tested, unknown_means}, proofs.ReadsBack.{ReadsBack}, proofs.KindLaws.{IsGood}, proofs.Forms.{FormsTrees}, proofs.Accounts.{Accounts}}
+use Rattle.dcsctp_cause.{specs.Cause.{CauseTree, Unknown, kinds, trees, table, row, causes, entry, format, tlv, IsWellFormed, HoldsText, IsTextKept}, proofs.CauseKinds.{missing_laws, chunk_laws, no_user_data_laws, cookie_received_laws, abort_laws, violation_laws}}
 
 -- ---- what each kind owes
 

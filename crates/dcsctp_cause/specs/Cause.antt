@@ -1,14 +1,6 @@
 -- The table of error causes (RFC 9260 section 3.3.10).
-use Rattle.std.specs.Prelude.{◌≡◌, ℕ, Bool, List, [], ◌∷◌, map, vec_len, vec_capacity}
-use Rattle.std.specs.String.{string_len, string_capacity}
-use Rattle.std.specs.Str.{IsUtf8}
-use Rattle.dcsctp_tlv.specs.Frame.{Item, lenient}
-use Rattle.dcsctp_tlv.specs.Image.{Tlv}
-use Rattle.dcsctp_tlv.specs.Level.{Row, Level}
-use Rattle.dcsctp_tlv.specs.Table.{Named, IsUnnamed, is_fixed, is_text, types_where, IsOneOf, ◌&◌}
-use Rattle.dcsctp_tlv.specs.Format.{Format}
-use Rattle.dcsctp_tlv.specs.Kinds.{Kind, TreesOf, rows, Entry, Of, Unnamed, format_of}
-use Rattle.dcsctp_tlv.specs.Typed.{item_type, typed_row, typed_level}
+use Rattle.std.specs.{Prelude.{◌≡◌, ℕ, Bool, List, [], ◌∷◌, map, vec_len, vec_capacity}, String.{string_len, string_capacity}, Str.{IsUtf8}}
+use Rattle.dcsctp_tlv.specs.{Frame.{Item, lenient}, Image.{Tlv}, Level.{Row, Level}, Table.{Named, IsUnnamed, is_fixed, is_text, types_where, IsOneOf, ◌&◌}, Format.{Format}, Kinds.{Kind, TreesOf, rows, Entry, Of, Unnamed, format_of}, Typed.{item_type, typed_row, typed_level}}
 use Rattle.dcsctp_tlv.specs.UnknownParameter as unknown
 use Rattle.dcsctp_cause.specs as kind
 use Rattle.dcsctp_cause.specs.declared.error_causes.ErrorCause.{ErrorCause}

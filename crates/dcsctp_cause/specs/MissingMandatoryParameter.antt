@@ -3,10 +3,7 @@
 --
 -- The count is a natural number here, so no count above the number of types that are there is
 -- accepted.
-use Rattle.std.specs.Prelude.{ℕ, ◌+◌, ◌*◌, ◌<◌, ◌^◌, List, [], ◌∷◌, ◌++◌, ◌==◌, Result, Ok, Err, if◌then◌else◌, length, drop, map, codes, refl}
-use Rattle.std.specs.Fmt.{decimal}
-use Rattle.std.specs.List.{AllByRecursion}
-use Rattle.std.specs.Int.{w16, w32}
+use Rattle.std.specs.{Prelude.{ℕ, ◌+◌, ◌*◌, ◌<◌, ◌^◌, List, [], ◌∷◌, ◌++◌, ◌==◌, Result, Ok, Err, if◌then◌else◌, length, drop, map, codes, refl}, Fmt.{decimal}, List.{AllByRecursion}, Int.{w16, w32}}
 use Rattle.dcsctp_tlv.specs.Kind.{Fault, Length, fields, number16, number32, numbers, joined, Format, sized_tlv, length-words, Kind, plain_kind, Varied}
 use Rattle.dcsctp_cause.specs.declared.missing_mandatory_parameter_error_cause.MissingMandatoryParameterErrorCause.{MissingMandatoryParameterErrorCause}
 

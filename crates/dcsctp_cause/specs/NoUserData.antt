@@ -1,8 +1,6 @@
 -- No User Data (RFC 9260 section 3.3.10.9): code 9; the value is the TSN of the DATA chunk that
 -- held no data, four bytes.
-use Rattle.std.specs.Prelude.{ℕ, ◌<◌, ◌^◌, List, ◌++◌, ◌==◌, Result, Ok, Err, if◌then◌else◌, length, codes, refl}
-use Rattle.std.specs.Fmt.{decimal}
-use Rattle.std.specs.Int.{w32, to_be_bytes}
+use Rattle.std.specs.{Prelude.{ℕ, ◌<◌, ◌^◌, List, ◌++◌, ◌==◌, Result, Ok, Err, if◌then◌else◌, length, codes, refl}, Fmt.{decimal}, Int.{w32, to_be_bytes}}
 use Rattle.dcsctp_tlv.specs.Kind.{Fault, Length, number32, Format, sized_tlv, Kind, plain_kind, Fixed}
 use Rattle.dcsctp_cause.specs.declared.no_user_data_error_cause.NoUserDataErrorCause.{NoUserDataErrorCause}
 

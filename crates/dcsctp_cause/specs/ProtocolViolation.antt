@@ -1,10 +1,8 @@
 -- Protocol Violation (RFC 9260 section 3.3.10.13): code 13; the value is additional information. It
 -- is read as a text, whatever its bytes are.
-use Rattle.std.specs.Prelude.{ℕ, List, ◌++◌, Result, Ok, length, codes}
-use Rattle.std.specs.String.{string_bytes}
+use Rattle.std.specs.{Prelude.{ℕ, List, ◌++◌, Result, Ok, length, codes}, String.{string_bytes}}
 use Rattle.dcsctp_tlv.specs.Kind.{Fault, Format, sized_tlv, length-solid, Kind, plain_kind, Text}
-use Rattle.dcsctp_cause.specs.Text.{text_or, IsText}
-use Rattle.dcsctp_cause.specs.declared.protocol_violation_error_cause.ProtocolViolationErrorCause.{ProtocolViolationErrorCause}
+use Rattle.dcsctp_cause.specs.{Text.{text_or, IsText}, declared.protocol_violation_error_cause.ProtocolViolationErrorCause.{ProtocolViolationErrorCause}}
 
 unfoldable pub read : List ℕ → Result (List ℕ) Fault
 read value = Ok (text_or (codes "Failed to parse additional information") value)

@@ -1,10 +1,8 @@
 -- User-Initiated Abort (RFC 9260 section 3.3.10.12): code 12; the value is the upper layer's
 -- reason. It is read as a text, whatever its bytes are.
-use Rattle.std.specs.Prelude.{ℕ, List, ◌++◌, Result, Ok, length, codes}
-use Rattle.std.specs.String.{string_bytes}
+use Rattle.std.specs.{Prelude.{ℕ, List, ◌++◌, Result, Ok, length, codes}, String.{string_bytes}}
 use Rattle.dcsctp_tlv.specs.Kind.{Fault, Format, sized_tlv, length-solid, Kind, plain_kind, Text}
-use Rattle.dcsctp_cause.specs.Text.{text_or, IsText}
-use Rattle.dcsctp_cause.specs.declared.user_initiated_abort_error_cause.UserInitiatedAbortErrorCause.{UserInitiatedAbortErrorCause}
+use Rattle.dcsctp_cause.specs.{Text.{text_or, IsText}, declared.user_initiated_abort_error_cause.UserInitiatedAbortErrorCause.{UserInitiatedAbortErrorCause}}
 
 unfoldable pub read : List ℕ → Result (List ℕ) Fault
 read value = Ok (text_or (codes "Failed to parse abort reason") value)

@@ -11,10 +11,7 @@
 //! ```
 
 ghost use Rattle.std.specs.Prelude.{◌≡◌, ◌≢◌, ◌≤◌, ◌*◌, [], length, vec_len, vec_capacity, Some, IsOk, IfOk, IsErrOf, refl, All};
-ghost use Rattle.dcsctp_tlv.specs.Frame.{lenient};
-ghost use Rattle.dcsctp_tlv.specs.Kinds.{ChecksKind};
-ghost use Rattle.dcsctp_tlv.specs.Level.{HasMeaning, MeansTrees, MeansSome};
-ghost use Rattle.dcsctp_tlv.specs.Reading.{Answers, Exactly, reading, checking, RowAnswer, ListAnswer, Counted, Unplaced};
+ghost use Rattle.dcsctp_tlv.specs.{Frame.{lenient}, Kinds.{ChecksKind}, Level.{HasMeaning, MeansTrees, MeansSome}, Reading.{Answers, Exactly, reading, checking, RowAnswer, ListAnswer, Counted, Unplaced}};
 ghost use Rattle.dcsctp_cause.specs.Cause as cause;
 ghost use Rattle.dcsctp_cause.specs.Cause.{CauseTree, causes, TakesNoMemory, IsTight, view, views};
 
@@ -24,7 +21,6 @@ use crate::no_user_data_error_cause::{self, NoUserDataErrorCause};
 use crate::protocol_violation_error_cause::{self, ProtocolViolationErrorCause};
 use crate::unrecognized_chunk_error_cause::{self, UnrecognizedChunkErrorCause};
 use crate::user_initiated_abort_error_cause::{self, UserInitiatedAbortErrorCause};
-use dcsctp_tlv::{build_arms, check_arms, each_arms};
 use dcsctp_tlv::copy::copied;
 use dcsctp_tlv::error::{ChunkParseError, LocatedFault};
 use dcsctp_tlv::frame::are_zeros;
@@ -33,6 +29,7 @@ use dcsctp_tlv::parameter::unknown_parameter::UnknownParameter;
 use dcsctp_tlv::reader::{ReadableTlv, list_check, list_fill_counted, list_from_bytes};
 use dcsctp_tlv::tlv::{ListedTlv, SerializableTlv};
 use dcsctp_tlv::widths::Widths;
+use dcsctp_tlv::{build_arms, check_arms, each_arms};
 use std::alloc::{AllocError, Global};
 use std::fmt;
 

@@ -12,10 +12,8 @@
 //! +-+-+-+-+-+-+-+-+-+-+-+-+-+-+-+-+-+-+-+-+-+-+-+-+-+-+-+-+-+-+-+-+
 //! ```
 
-ghost use Rattle.std.specs.Prelude.{◌≡◌, ◌≢◌, ◌↔◌, ℕ, Some, IsOk, IfOk, IsErrOf, refl, Ok, vec_len, vec_capacity};
-ghost use Rattle.std.specs.Int.{w16, to_be_bytes};
-ghost use Rattle.dcsctp_tlv.specs.Number.{number16};
-ghost use Rattle.dcsctp_tlv.specs.Reading.{Exactly, reading, checking, Tested};
+ghost use Rattle.std.specs.{Prelude.{◌≡◌, ◌≢◌, ◌↔◌, ℕ, Some, IsOk, IfOk, IsErrOf, refl, Ok, vec_len, vec_capacity}, Int.{w16, to_be_bytes}};
+ghost use Rattle.dcsctp_tlv.specs.{Number.{number16}, Reading.{Exactly, reading, checking, Tested}};
 ghost use Rattle.dcsctp_cause.specs.MissingMandatoryParameter as kind;
 
 use dcsctp_tlv::copy::copied;

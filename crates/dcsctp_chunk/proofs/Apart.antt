@@ -1,10 +1,6 @@
 -- Lists of blocks that lie apart: their parts, their elements, and a block put among them.
-use Rattle.std.proofs.Common.{◌≡◌, ◌⊎◌, ℕ, zero, suc, ◌+◌, ◌-◌, ◌<◌, ◌≤◌, max, [], ◌∷◌, ◌++◌, length, get_or, take, drop, refl, arith}
-use Rattle.std.proofs.lemmas.Grind.{common_steps, elements}
-use Rattle.std.proofs.lemmas.List.{take-append-drop}
-use Rattle.dcsctp_chunk.specs.declared.sack_chunk.GapAckBlock.{GapAckBlock}
-use Rattle.dcsctp_chunk.specs.Apart.{IsApart, after}
-use Rattle.dcsctp_chunk.proofs.Covers.{Blocks, zero_block}
+use Rattle.std.proofs.{Common.{◌≡◌, ◌⊎◌, ℕ, zero, suc, ◌+◌, ◌-◌, ◌<◌, ◌≤◌, max, [], ◌∷◌, ◌++◌, length, get_or, take, drop, refl, arith, take-append-drop}, lemmas.Grind.{common_steps, elements}}
+use Rattle.dcsctp_chunk.{specs.declared.sack_chunk.GapAckBlock.{GapAckBlock}, specs.Apart.{IsApart, after}, proofs.Covers.{Blocks, zero_block}}
 
 pub apart_weaker : (m n : ℕ) (xs : Blocks) → m ≤ n → IsApart n xs → IsApart m xs
 apart_weaker m n [] l a = tt

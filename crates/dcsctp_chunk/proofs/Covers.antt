@@ -1,17 +1,7 @@
 -- What lists of blocks cover, as sets: in parts, in another order, with one block in the place of
 -- two.
-use Rattle.std.proofs.Common.{◌≡◌, ◌↔◌, ℕ, ◌+◌, ◌<◌, ◌≤◌, min, max, Bool, true, ◌||◌, ◌&&◌, List, [], ◌∷◌, ◌++◌, length, get_or, take, arith, ap, sym, ◌∙◌}
-use Rattle.std.specs.Prelude.{nat_le}
-use Rattle.std.specs.List.Sorted.{IsPermutation}
-use Rattle.std.proofs.Math.Path.{fun_ext}
-use Rattle.std.proofs.Math.Bool.{or_comm}
-use Rattle.std.proofs.lemmas.Bool.Decides.{nat_tests}
-use Rattle.std.proofs.lemmas.Grind.{common_steps}
-use Rattle.std.proofs.lemmas.List.Folds.{list_any-append, list_any_at, Any-from_list_any}
-use Rattle.std.proofs.lemmas.List.Sorted.{list_any-IsPermutation}
-use Rattle.dcsctp_chunk.specs.declared.sack_chunk.GapAckBlock.{GapAckBlock}
-use Rattle.dcsctp_chunk.specs.Cover.{Covers, SameCover}
-use Rattle.dcsctp_chunk.specs.Apart.{covered}
+use Rattle.std.{proofs.Common.{◌≡◌, ◌↔◌, ℕ, ◌+◌, ◌<◌, ◌≤◌, min, max, Bool, true, ◌||◌, ◌&&◌, List, [], ◌∷◌, ◌++◌, length, get_or, take, arith, ap, sym, ◌∙◌, nat_le}, specs.List.Sorted.{IsPermutation}, proofs.Math.Path.{fun_ext}, proofs.Math.Bool.{or_comm}, proofs.lemmas.Bool.Decides.{nat_tests}, proofs.lemmas.Grind.{common_steps}, proofs.lemmas.List.Folds.{list_any-append, list_any_at, Any-from_list_any}, proofs.lemmas.List.Sorted.{list_any-IsPermutation}}
+use Rattle.dcsctp_chunk.specs.{declared.sack_chunk.GapAckBlock.{GapAckBlock}, Cover.{Covers, SameCover}, Apart.{covered}}
 
 abbrev pub Blocks : Type 0
 Blocks = List GapAckBlock

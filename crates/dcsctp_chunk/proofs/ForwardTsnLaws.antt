@@ -1,14 +1,7 @@
 -- FORWARD-TSN and I-FORWARD-TSN: what is written is read again, and what was read is well-formed
 -- and keeps its size.
-use Rattle.std.proofs.Common.{◌≡◌, ℕ, ◌+◌, ◌-◌, ◌*◌, ◌/◌, Bool, true, false, List, [], ◌∷◌, ◌++◌, length, drop, refl, arith}
-use Rattle.std.specs.Int.{w32}
-use Rattle.std.specs.List.{AllByRecursion}
-use Rattle.std.proofs.lemmas.Bool.{true≢false, false≢true}
-use Rattle.std.proofs.lemmas.Nat.{from_be_bytes-to_be_bytes_2, from_be_bytes-to_be_bytes_4}
-use Rattle.dcsctp_tlv.specs.Number.{number32, numbers}
-use Rattle.dcsctp_tlv.proofs.FieldLaws.{FieldLaw, fields_each}
-use Rattle.dcsctp_tlv.proofs.FormatLaws.{FormatLaws}
-use Rattle.dcsctp_tlv.proofs.Layouts.{FieldsAfter, fields_laws}
+use Rattle.std.{proofs.Common.{◌≡◌, ℕ, ◌+◌, ◌-◌, ◌*◌, ◌/◌, Bool, true, false, List, [], ◌∷◌, ◌++◌, length, drop, refl, arith, true≢false}, specs.Int.{w32}, specs.List.{AllByRecursion}, proofs.lemmas.Bool.{false≢true}, proofs.lemmas.Nat.{from_be_bytes-to_be_bytes_2, from_be_bytes-to_be_bytes_4}}
+use Rattle.dcsctp_tlv.{specs.Number.{number32, numbers}, proofs.FieldLaws.{FieldLaw, fields_each}, proofs.FormatLaws.{FormatLaws}, proofs.Layouts.{FieldsAfter, fields_laws}}
 use Rattle.dcsctp_chunk.specs.SkippedStreams.{SkippedStreamTree, BySsn, ByMid, is_by_mid, AreByMid, IsSkippedStreamInWidth, Tree, format_of}
 use Rattle.dcsctp_chunk.specs.ForwardTsn as by_ssn
 use Rattle.dcsctp_chunk.specs.IForwardTsn as by_mid

@@ -1,27 +1,15 @@
 -- What each kind has to satisfy for the laws of its level.
-use Rattle.std.proofs.Common.{◌≡◌, ℕ, ◌<◌, ◌^◌, Bool, true, false, cond, List, [], length, drop, refl, sym, ap, subst, ◌∙◌, arith, inl, inr, Ok}
-use Rattle.std.specs.Prelude.{◌==◌, nat_lt}
-use Rattle.std.proofs.lemmas.Bool.{ltb-false, le-ltb}
-use Rattle.std.proofs.lemmas.Bool.Decides.{eqb_tells}
-use Rattle.std.proofs.lemmas.List.{length-drop, nil_from_length}
-use Rattle.std.proofs.lemmas.Nat.{from_be_bytes-to_be_bytes_2, from_be_bytes-to_be_bytes_4}
-use Rattle.dcsctp_tlv.specs.Fault.{Length}
-use Rattle.dcsctp_tlv.specs.Number.{number32}
-use Rattle.dcsctp_tlv.proofs.FormatLaws.{FormatLaws, format_laws, TypedLaws, typed_laws}
-use Rattle.dcsctp_tlv.proofs.KindLaws.{of_ok, not_refused}
-use Rattle.dcsctp_tlv.proofs.Layouts.{sized_laws, number_laws, empty_laws}
-use Rattle.dcsctp_tlv.proofs.Unpadded.{if_not_refused}
+use Rattle.std.proofs.{Common.{◌≡◌, ℕ, ◌<◌, ◌^◌, Bool, true, false, cond, List, [], length, drop, refl, sym, ap, subst, ◌∙◌, arith, inl, inr, Ok, ◌==◌, nat_lt, ltb-false, le-ltb, length-drop}, lemmas.Bool.Decides.{eqb_tells}, lemmas.List.{nil_from_length}, lemmas.Nat.{from_be_bytes-to_be_bytes_2, from_be_bytes-to_be_bytes_4}}
+use Rattle.dcsctp_tlv.{specs.Fault.{Length}, specs.Number.{number32}, proofs.FormatLaws.{FormatLaws, format_laws, TypedLaws, typed_laws}, proofs.KindLaws.{of_ok, not_refused}, proofs.Layouts.{sized_laws, number_laws, empty_laws}, proofs.Unpadded.{if_not_refused}}
 use Rattle.dcsctp_chunk.specs.CookieAck as cookie_ack
 use Rattle.dcsctp_chunk.specs.CookieEcho as cookie_echo
-use Rattle.dcsctp_chunk.specs.Data.{Tree, IsInWidth, flags_of}
+use Rattle.dcsctp_chunk.{specs.Data.{Tree, IsInWidth, flags_of}, specs.Flags.{is_set}, proofs.FlagLaws.{one_again, four_again}}
 use Rattle.dcsctp_chunk.specs.DataChunk as data_chunk
-use Rattle.dcsctp_chunk.specs.Flags.{is_set}
 use Rattle.dcsctp_chunk.specs.IDataChunk as idata_chunk
 use Rattle.dcsctp_chunk.specs.Shutdown as shutdown
 use Rattle.dcsctp_chunk.specs.ShutdownAck as shutdown_ack
 use Rattle.dcsctp_chunk.specs.ShutdownComplete as shutdown_complete
 use Rattle.dcsctp_chunk.specs.Unknown as unknown
-use Rattle.dcsctp_chunk.proofs.FlagLaws.{one_again, four_again}
 
 -- ---- one size
 

@@ -1,15 +1,6 @@
 -- Runs as the walks and the joins leave them, and where they lie in memory.
-use Rattle.std.proofs.Common.{◌≡◌, ℕ, ◌+◌, ◌-◌, ◌<◌, ◌≤◌, max, List, ◌∷◌, ◌++◌, length, get_or, set, take, drop, ltb, arith}
-use Rattle.std.specs.List.{copy_within, CopiedTo, SameFrom}
-use Rattle.std.specs.List.Sorted.{IsPartitionedBy}
-use Rattle.std.proofs.Math.Seq.{take-add, take-append-add, take-set-lt}
-use Rattle.std.proofs.lemmas.Bool.Decides.{nat_tests}
-use Rattle.std.proofs.lemmas.Grind.{common_steps}
-use Rattle.std.proofs.lemmas.List.{take-append-drop, take-append-le, drop-drop, drop-take, take-take, set-append_left, get_or-drop, get_or-take, length-drop, length-take-le, length-set, get_or-set_other}
-use Rattle.dcsctp_chunk.specs.declared.sack_chunk.GapAckBlock.{GapAckBlock}
-use Rattle.dcsctp_chunk.specs.Apart.{IsApart, AreFree, AreRunsOf, after, covered}
-use Rattle.dcsctp_chunk.proofs.Covers.{Blocks, covers, cover_append}
-use Rattle.dcsctp_chunk.proofs.Apart.{apart_append, apart_max, apart_order, apart_parts}
+use Rattle.std.{proofs.Common.{◌≡◌, ℕ, ◌+◌, ◌-◌, ◌<◌, ◌≤◌, max, List, ◌∷◌, ◌++◌, length, get_or, set, take, drop, ltb, arith, take-append-drop, drop-drop, take-take, get_or-drop, get_or-take, length-drop, length-take-le, length-set, get_or-set_other}, specs.List.{copy_within, CopiedTo, SameFrom}, specs.List.Sorted.{IsPartitionedBy}, proofs.Math.Seq.{take-add, take-append-add, take-set-lt}, proofs.lemmas.Bool.Decides.{nat_tests}, proofs.lemmas.Grind.{common_steps}, proofs.lemmas.List.{take-append-le, drop-take, set-append_left}}
+use Rattle.dcsctp_chunk.{specs.declared.sack_chunk.GapAckBlock.{GapAckBlock}, specs.Apart.{IsApart, AreFree, AreRunsOf, after, covered}, proofs.Covers.{Blocks, covers, cover_append}, proofs.Apart.{apart_append, apart_max, apart_order, apart_parts}}
 
 -- what is covered where a block lies in the place of those from the first up to the last
 pub placed_cover : (xs : Blocks) (b run : GapAckBlock) (first last : ℕ)

@@ -1,15 +1,7 @@
 -- Blocks that lie apart are the runs of what they cover, and the only ones. Each list of blocks has
 -- runs, which are as few, and all that is said of cleaned blocks follows.
-use Rattle.std.proofs.Common.{◌≡◌, ◌↔◌, ◌⊎◌, inl, inr, ℕ, zero, suc, ◌+◌, ◌<◌, ◌≤◌, [], ◌∷◌, length, get_or, refl, sym, subst, arith, ◌∙◌}
-use Rattle.std.specs.List.{All, Contains}
-use Rattle.std.proofs.lemmas.Bool.{cases_lt}
-use Rattle.std.proofs.lemmas.List.{get_or_default}
-use Rattle.std.proofs.lemmas.List.Elements.{All-contains}
-use Rattle.dcsctp_chunk.specs.declared.sack_chunk.GapAckBlock.{GapAckBlock}
-use Rattle.dcsctp_chunk.specs.Apart.{IsApart, AreRunsOf, covered}
-use Rattle.dcsctp_chunk.specs.Cover.{Covers, SameCover, IsInside, IsRun, IsRuns, IsCleaned, CleanedLaws, HasBlockInEach, AreValid}
-use Rattle.dcsctp_chunk.proofs.Covers.{Blocks, zero_block, covers, cover_cons, cover_reversed, cover_join, join, cover_same}
-use Rattle.dcsctp_chunk.proofs.Apart.{apart_at, apart_far, apart_first, apart_weaker}
+use Rattle.std.{proofs.Common.{◌≡◌, ◌↔◌, ◌⊎◌, inl, inr, ℕ, zero, suc, ◌+◌, ◌<◌, ◌≤◌, [], ◌∷◌, length, get_or, refl, sym, subst, arith, ◌∙◌}, specs.List.{All, Contains}, proofs.lemmas.Bool.{cases_lt}, proofs.lemmas.List.{get_or_default}, proofs.lemmas.List.Elements.{All-contains}}
+use Rattle.dcsctp_chunk.{specs.declared.sack_chunk.GapAckBlock.{GapAckBlock}, specs.Apart.{IsApart, AreRunsOf, covered}, specs.Cover.{Covers, SameCover, IsInside, IsRun, IsRuns, IsCleaned, CleanedLaws, HasBlockInEach, AreValid}, proofs.Covers.{Blocks, zero_block, covers, cover_cons, cover_reversed, cover_join, join, cover_same}, proofs.Apart.{apart_at, apart_far, apart_first, apart_weaker}}
 
 -- two of them that overlap or touch are one
 apart_near : (n : ℕ) (bs : Blocks) (r s : GapAckBlock) → IsApart n bs → Contains bs r
@@ -249,17 +241,19 @@ cleaned_from_cover {bs} {rs} ends are =
     let runs = runs_from_cover rs bs are in
     -- they are those of the others with the same cover too
     let known = λ (others : Blocks) (e : SameCover others bs).
-    known_runs rs others (runs_of_same bs others rs (λ o. ((e o).1, (e o).0)) runs) in
-    (runs, record {
-      cover = cover_same rs bs are.cover;
-      offsets = (λ o c. omega (arith, All-contains (λ b. b.end ≤ 65535) bs c.0 ends c.1, c.2.1));
-      fewest = (λ others e. (known others e).1);
-      own = (λ others e. block_in_each 0 rs others are.apart
-          (cover_same rs others (known others e).0.cover));
-      unique = (λ others another h. (
-        (λ e. runs_unique (Covers others) another rs h
-            (runs_from_cover rs others (known others e).0)),
-        (λ e. cover_same others bs (cc ((known_runs another others h).0.cover, are.cover, e))),
-      ));
-      once = (λ again h. runs_unique (Covers rs) again rs h (runs_from_apart 0 rs are.apart));
-    })
+    known_runs rs others (runs_of_same bs others rs (λ o. ((e o).1, (e o).0)) runs) in (
+      runs,
+      record {
+        cover = cover_same rs bs are.cover;
+        offsets = (λ o c. omega (arith, All-contains (λ b. b.end ≤ 65535) bs c.0 ends c.1, c.2.1));
+        fewest = (λ others e. (known others e).1);
+        own = (λ others e. block_in_each 0 rs others are.apart
+            (cover_same rs others (known others e).0.cover));
+        unique = (λ others another h. (
+          (λ e. runs_unique (Covers others) another rs h
+              (runs_from_cover rs others (known others e).0)),
+          (λ e. cover_same others bs (cc ((known_runs another others h).0.cover, are.cover, e))),
+        ));
+        once = (λ again h. runs_unique (Covers rs) again rs h (runs_from_apart 0 rs are.apart));
+      },
+    )

@@ -1,23 +1,8 @@
 -- SACK: what is written is read again, and what was read keeps its size.
-use Rattle.std.proofs.Common.{◌≡◌, ℕ, List, ◌+◌, ◌*◌, length, drop, refl, sym, ap, ◌∙◌, arith, Ok}
-use Rattle.std.specs.Prelude.{◌==◌}
-use Rattle.std.specs.Int.{w32}
-use Rattle.std.specs.List.{flat_map}
-use Rattle.std.proofs.lemmas.Bool.{eq-eqb, eqb-true}
-use Rattle.std.proofs.lemmas.List.{drop_at, drop-drop}
-use Rattle.std.proofs.lemmas.Nat.{from_be_bytes-to_be_bytes_2, from_be_bytes-to_be_bytes_4}
-use Rattle.dcsctp_tlv.specs.Fault.{Length}
-use Rattle.dcsctp_tlv.specs.Fields.{fields}
-use Rattle.dcsctp_tlv.specs.Image.{IsEncodable}
-use Rattle.dcsctp_tlv.specs.Length.{length-each}
-use Rattle.dcsctp_tlv.specs.Number.{number32, numbers}
-use Rattle.dcsctp_tlv.proofs.FieldLaws.{FieldLaw, length-fields, fields_back, numbers32_back}
-use Rattle.dcsctp_tlv.proofs.FormatLaws.{FormatLaws, format_laws}
-use Rattle.dcsctp_tlv.proofs.KindLaws.{of_ok, passed}
-use Rattle.dcsctp_tlv.proofs.Unpadded.{if_passed}
+use Rattle.std.{proofs.Common.{◌≡◌, ℕ, List, ◌+◌, ◌*◌, length, drop, refl, sym, ap, ◌∙◌, arith, Ok, ◌==◌, eq-eqb, eqb-true, drop_at, drop-drop}, specs.Int.{w32}, specs.List.{flat_map}, proofs.lemmas.Nat.{from_be_bytes-to_be_bytes_2, from_be_bytes-to_be_bytes_4}}
+use Rattle.dcsctp_tlv.{specs.Fault.{Length}, specs.Fields.{fields}, specs.Image.{IsEncodable}, specs.Length.{length-each}, specs.Number.{number32, numbers}, proofs.FieldLaws.{FieldLaw, length-fields, fields_back, numbers32_back}, proofs.FormatLaws.{FormatLaws, format_laws}, proofs.KindLaws.{of_ok, passed}, proofs.Unpadded.{if_passed}}
 use Rattle.dcsctp_chunk.specs.Sack as sack
-use Rattle.dcsctp_chunk.specs.Sack.{Tree, block_at, block_bytes, block_count, duplicate_count, IsBlockInWidth, IsInWidth}
-use Rattle.dcsctp_chunk.proofs.Sacks.{length-lists}
+use Rattle.dcsctp_chunk.{specs.Sack.{Tree, block_at, block_bytes, block_count, duplicate_count, IsBlockInWidth, IsInWidth}, proofs.Sacks.{length-lists}}
 
 block_law : FieldLaw block_at block_bytes 4 IsBlockInWidth
 block_law = record {

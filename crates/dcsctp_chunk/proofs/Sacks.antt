@@ -1,15 +1,7 @@
 -- What an output is after a SACK was written.
-use Rattle.std.proofs.Common.{◌≡◌, ℕ, ◌+◌, ◌*◌, ◌≤◌, ◌++◌, List, length, drop, refl, ap, ◌∙◌, arith}
-use Rattle.std.specs.Int.{w32, to_be_bytes}
-use Rattle.std.specs.List.{flat_map}
-use Rattle.std.proofs.lemmas.List.{length-map}
+use Rattle.std.{proofs.Common.{◌≡◌, ℕ, ◌+◌, ◌*◌, ◌≤◌, ◌++◌, List, length, drop, refl, ap, ◌∙◌, arith}, specs.Int.{w32, to_be_bytes}, specs.List.{flat_map}, proofs.lemmas.List.{length-map}}
 use Rattle.dcsctp_types.specs.declared.types.tsn.Tsn.{Tsn}
-use Rattle.dcsctp_tlv.specs.Format.{flagged_tlv}
-use Rattle.dcsctp_tlv.specs.Frame.{header}
-use Rattle.dcsctp_tlv.specs.Image.{put, image_of, written}
-use Rattle.dcsctp_tlv.specs.Length.{length-each, length-two_lists}
-use Rattle.dcsctp_tlv.specs.Number.{numbers}
-use Rattle.dcsctp_tlv.proofs.Puts.{put-put, written_value}
+use Rattle.dcsctp_tlv.{specs.Format.{flagged_tlv}, specs.Frame.{header}, specs.Image.{put, image_of, written}, specs.Length.{length-each, length-two_lists}, specs.Number.{numbers}, proofs.Puts.{put-put, written_value}}
 use Rattle.dcsctp_chunk.specs.Sack.{Tree, block_bytes, fixed, lists, bytes, format, duplicate_numbers}
 
 pub count_of_duplicates : (tsns : List Tsn) → length (duplicate_numbers tsns) ≡ length tsns

@@ -1,9 +1,5 @@
 -- Skipped streams of a chunk: each as all are, and how many.
-use Rattle.std.proofs.Common.{◌≡◌, Bool, List, [], ◌∷◌, length}
-use Rattle.std.specs.Prelude.{All}
-use Rattle.std.specs.List.{AllByRecursion}
-use Rattle.std.proofs.lemmas.List.{length-map}
-use Rattle.std.proofs.lemmas.List.Elements.{All-from_recursion}
+use Rattle.std.{proofs.Common.{◌≡◌, Bool, List, [], ◌∷◌, length, All}, specs.List.{AllByRecursion}, proofs.lemmas.List.{length-map}, proofs.lemmas.List.Elements.{All-from_recursion}}
 use Rattle.dcsctp_tlv.specs.declared.skipped_stream.SkippedStream.{SkippedStream}
 use Rattle.dcsctp_chunk.specs.SkippedStreams.{is_by_mid, AreByMid, skipped_stream_view, skipped_stream_views}
 

@@ -1,12 +1,7 @@
 -- What the steps of the cleaning say of neighbouring blocks (RFC 9260 section 3.3.4): for private
 -- functions alone, whose contracts can cite nothing but specs/.
-use Rattle.std.specs.Prelude.{◌≡◌, ℕ, ◌+◌, ◌-◌, ◌<◌, ◌≤◌, Bool, ◌&&◌, nat_le, List, [], ◌∷◌, ◌++◌, slice_index_or, take, drop}
-use Rattle.std.specs.List.{All, list_any}
-use Rattle.std.specs.List.Sorted.{IsPartitionPoint}
-use Rattle.dcsctp_chunk.specs.declared.sack_chunk.GapAckBlock.{GapAckBlock}
-use Rattle.dcsctp_chunk.specs.declared.chunk_validators.clean.Counts.{Counts}
-use Rattle.dcsctp_chunk.specs.declared.chunk_validators.runs.Gap.{Gap}
-use Rattle.dcsctp_chunk.specs.declared.chunk_validators.runs.Place.{Place}
+use Rattle.std.specs.{Prelude.{◌≡◌, ℕ, ◌+◌, ◌-◌, ◌<◌, ◌≤◌, Bool, ◌&&◌, nat_le, List, [], ◌∷◌, ◌++◌, slice_index_or, take, drop}, List.{All, list_any}, List.Sorted.{IsPartitionPoint}}
+use Rattle.dcsctp_chunk.specs.declared.{sack_chunk.GapAckBlock.{GapAckBlock}, chunk_validators.clean.Counts.{Counts}, chunk_validators.runs.Gap.{Gap}, chunk_validators.runs.Place.{Place}}
 
 -- no block ends before its start, the first starts at low or later, and each later one at least 2
 -- past the end before it

@@ -1,7 +1,6 @@
 -- COOKIE ECHO (RFC 9260 section 3.3.11): type 10, flags ignored; the value is the cookie, at least
 -- one byte.
-use Rattle.std.specs.Prelude.{◌≢◌, ℕ, List, [], ◌++◌, ◌==◌, Result, Ok, Err, if◌then◌else◌, length, codes}
-use Rattle.std.specs.Fmt.{decimal}
+use Rattle.std.specs.{Prelude.{◌≢◌, ℕ, List, [], ◌++◌, ◌==◌, Result, Ok, Err, if◌then◌else◌, length, codes}, Fmt.{decimal}}
 use Rattle.dcsctp_tlv.specs.Kind.{Fault, Length, AreBytes, Format, flagged_tlv, length-solid, Kind, plain_kind, Varied}
 use Rattle.dcsctp_chunk.specs.declared.cookie_echo_chunk.CookieEchoChunk.{CookieEchoChunk}
 

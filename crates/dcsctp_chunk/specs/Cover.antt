@@ -1,7 +1,6 @@
 -- What gap ack blocks cover (RFC 9260 section 3.3.4): offsets above the cumulative TSN, and the
 -- runs of such a set.
-use Rattle.std.specs.Prelude.{◌≡◌, ◌↔◌, ℕ, ◌<◌, ◌≤◌, List, [], ◌∷◌, length, slice_index_or}
-use Rattle.std.specs.List.{Contains}
+use Rattle.std.specs.{Prelude.{◌≡◌, ◌↔◌, ℕ, ◌<◌, ◌≤◌, List, [], ◌∷◌, length, slice_index_or}, List.{Contains}}
 use Rattle.dcsctp_chunk.specs.declared.sack_chunk.GapAckBlock.{GapAckBlock}
 
 -- the offset lies in the block; in one that ends before its start lies none

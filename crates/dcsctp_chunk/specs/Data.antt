@@ -2,13 +2,10 @@
 -- their chunks have in common: flag bits 0 to 3 say end, beginning, unordered and immediate ack,
 -- and the others are ignored; the value begins with the TSN in four bytes and the stream id in two,
 -- and ends with the payload.
-use Rattle.std.specs.Prelude.{ℕ, ◌<◌, ◌^◌, Bool, false, List, [], ◌∷◌, ◌++◌, not, if◌then◌else◌, length, drop, codes}
-use Rattle.std.specs.Fmt.{decimal}
-use Rattle.dcsctp_types.specs.StreamKey.{stream_of, is_ordered_key}
-use Rattle.dcsctp_types.specs.declared.types.tsn.Tsn.{Tsn}
+use Rattle.std.specs.{Prelude.{ℕ, ◌<◌, ◌^◌, Bool, false, List, [], ◌∷◌, ◌++◌, not, if◌then◌else◌, length, drop, codes}, Fmt.{decimal}}
+use Rattle.dcsctp_types.specs.{StreamKey.{stream_of, is_ordered_key}, declared.types.tsn.Tsn.{Tsn}}
 use Rattle.dcsctp_tlv.specs.Kind.{AreBytes, number16, number32}
-use Rattle.dcsctp_chunk.specs.Flags.{is_set, flag_byte}
-use Rattle.dcsctp_chunk.specs.declared.data.Data.{Data}
+use Rattle.dcsctp_chunk.specs.{Flags.{is_set, flag_byte}, declared.data.Data.{Data}}
 
 -- user data as plain data
 pub record DataTree : Type 0 where

@@ -1,11 +1,8 @@
 -- DATA (RFC 9260 section 3.3.1): type 0. The value is the TSN in four bytes, the stream id and the
 -- SSN in two each, the payload protocol id in four, and the payload. MID and FSN aren't carried.
-use Rattle.std.specs.Prelude.{◌≡◌, ℕ, ◌+◌, List, ◌++◌, nat_lt, Result, Ok, Err, if◌then◌else◌, length, drop, codes, refl}
-use Rattle.std.specs.Int.{w16, w32, to_be_bytes}
-use Rattle.dcsctp_tlv.specs.Kind.{Fault, Length, number16, number32, Format, flagged_tlv, Kind, kept_kind, Varied}
-use Rattle.dcsctp_tlv.proofs.Lengths.{length-fixed}
-use Rattle.dcsctp_chunk.specs.Data.{Tree, common, chunk_of, flags_of, text, tree_of, IsInWidth}
-use Rattle.dcsctp_chunk.specs.declared.data_chunk.DataChunk.{DataChunk}
+use Rattle.std.specs.{Prelude.{◌≡◌, ℕ, ◌+◌, List, ◌++◌, nat_lt, Result, Ok, Err, if◌then◌else◌, length, drop, codes, refl}, Int.{w16, w32, to_be_bytes}}
+use Rattle.dcsctp_tlv.{specs.Kind.{Fault, Length, number16, number32, Format, flagged_tlv, Kind, kept_kind, Varied}, proofs.Lengths.{length-fixed}}
+use Rattle.dcsctp_chunk.specs.{Data.{Tree, common, chunk_of, flags_of, text, tree_of, IsInWidth}, declared.data_chunk.DataChunk.{DataChunk}}
 
 unfoldable pub read : ℕ → List ℕ → Result Tree Fault
 read flags value =

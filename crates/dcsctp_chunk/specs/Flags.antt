@@ -1,6 +1,5 @@
 -- The bits of a chunk's flags, from the lowest (RFC 9260 section 3.2).
-use Rattle.std.specs.Prelude.{ℕ, ◌+◌, ◌*◌, Bool, ◌==◌, if◌then◌else◌, List, [], ◌∷◌}
-use Rattle.std.specs.Int.{bit_at}
+use Rattle.std.specs.{Prelude.{ℕ, ◌+◌, ◌*◌, Bool, ◌==◌, if◌then◌else◌, List, [], ◌∷◌}, Int.{bit_at}}
 
 abbrev pub is_set : ℕ → ℕ → Bool
 is_set flags bit = bit_at flags bit == 1

@@ -1,10 +1,8 @@
 -- FORWARD-TSN (RFC 3758 section 3.2): type 192, flags ignored; the value is the new cumulative TSN,
 -- four bytes, and then the skipped streams: the stream id and the sequence number, two bytes each.
-use Rattle.std.specs.Prelude.{◌≡◌, ℕ, false, List, [], ◌∷◌, Result, length, drop, codes, refl}
-use Rattle.std.specs.Int.{w16, w32}
+use Rattle.std.specs.{Prelude.{◌≡◌, ℕ, false, List, [], ◌∷◌, Result, length, drop, codes, refl}, Int.{w16, w32}}
 use Rattle.dcsctp_tlv.specs.Kind.{Fault, number16, numbers, Format, Kind, plain_kind, Varied}
-use Rattle.dcsctp_chunk.specs.SkippedStreams.{SkippedStreamTree, BySsn, ByMid, Tree, tree_of, read_of, format_of}
-use Rattle.dcsctp_chunk.specs.declared.forward_tsn_chunk.ForwardTsnChunk.{ForwardTsnChunk}
+use Rattle.dcsctp_chunk.specs.{SkippedStreams.{SkippedStreamTree, BySsn, ByMid, Tree, tree_of, read_of, format_of}, declared.forward_tsn_chunk.ForwardTsnChunk.{ForwardTsnChunk}}
 
 abbrev pub stream_at : List ℕ → SkippedStreamTree
 stream_at bytes = BySsn (number16 bytes) (number16 (drop 2 bytes))

@@ -2,13 +2,9 @@
 -- two bytes that are ignored, the MID in four, and in four more the payload protocol id of a
 -- beginning, or else the FSN; then the payload. The SSN isn't carried, and of payload protocol id
 -- and FSN one alone.
-use Rattle.std.specs.Prelude.{◌≡◌, ℕ, ◌+◌, List, ◌++◌, nat_lt, Result, Ok, Err, if◌then◌else◌, length, drop, codes, refl}
-use Rattle.std.specs.Int.{w16, w32, to_be_bytes}
-use Rattle.dcsctp_tlv.specs.Kind.{Fault, Length, number32, Format, flagged_tlv, Kind, kept_kind, Varied}
-use Rattle.dcsctp_tlv.proofs.Lengths.{length-fixed}
-use Rattle.dcsctp_chunk.specs.Data.{DataTree, Tree, common, chunk_of, flags_of, text, tree_of, IsInWidth}
-use Rattle.dcsctp_chunk.specs.Flags.{is_set}
-use Rattle.dcsctp_chunk.specs.declared.idata_chunk.IDataChunk.{IDataChunk}
+use Rattle.std.specs.{Prelude.{◌≡◌, ℕ, ◌+◌, List, ◌++◌, nat_lt, Result, Ok, Err, if◌then◌else◌, length, drop, codes, refl}, Int.{w16, w32, to_be_bytes}}
+use Rattle.dcsctp_tlv.{specs.Kind.{Fault, Length, number32, Format, flagged_tlv, Kind, kept_kind, Varied}, proofs.Lengths.{length-fixed}}
+use Rattle.dcsctp_chunk.specs.{Data.{DataTree, Tree, common, chunk_of, flags_of, text, tree_of, IsInWidth}, Flags.{is_set}, declared.idata_chunk.IDataChunk.{IDataChunk}}
 
 unfoldable pub read : ℕ → List ℕ → Result Tree Fault
 read flags value =

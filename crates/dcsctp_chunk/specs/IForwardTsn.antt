@@ -1,11 +1,9 @@
 -- I-FORWARD-TSN (RFC 8260 section 2.3.1): type 194, flags ignored; the value is the new cumulative
 -- TSN, four bytes, and then the skipped streams: the stream id, two bytes, two more whose lowest
 -- bit says unordered, and the message id, four bytes.
-use Rattle.std.specs.Prelude.{◌≡◌, ℕ, ◌%◌, true, List, [], ◌∷◌, ◌++◌, ◌==◌, Result, if◌then◌else◌, length, drop, codes, refl}
-use Rattle.std.specs.Int.{w16, w32}
+use Rattle.std.specs.{Prelude.{◌≡◌, ℕ, ◌%◌, true, List, [], ◌∷◌, ◌++◌, ◌==◌, Result, if◌then◌else◌, length, drop, codes, refl}, Int.{w16, w32}}
 use Rattle.dcsctp_tlv.specs.Kind.{Fault, number16, number32, numbers, Format, Kind, plain_kind, Varied}
-use Rattle.dcsctp_chunk.specs.SkippedStreams.{SkippedStreamTree, BySsn, ByMid, Tree, tree_of, read_of, format_of}
-use Rattle.dcsctp_chunk.specs.declared.iforward_tsn_chunk.IForwardTsnChunk.{IForwardTsnChunk}
+use Rattle.dcsctp_chunk.specs.{SkippedStreams.{SkippedStreamTree, BySsn, ByMid, Tree, tree_of, read_of, format_of}, declared.iforward_tsn_chunk.IForwardTsnChunk.{IForwardTsnChunk}}
 
 -- all bits but the lowest of the two bytes after the stream id are ignored
 abbrev pub stream_at : List ℕ → SkippedStreamTree

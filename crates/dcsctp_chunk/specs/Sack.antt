@@ -1,16 +1,10 @@
 -- SACK (RFC 9260 section 3.3.4): type 3, flags ignored; the value is the cumulative TSN and the
 -- window, four bytes each, the numbers of gap ack blocks and of duplicate TSNs, two bytes each, and
 -- then just as many blocks and TSNs, four bytes each.
-use Rattle.std.specs.Prelude.{ℕ, ◌+◌, ◌*◌, ◌<◌, ◌^◌, List, [], ◌∷◌, ◌++◌, ◌==◌, Result, Ok, Err, if◌then◌else◌, length, drop, map, codes, refl}
-use Rattle.std.specs.Fmt.{decimal}
-use Rattle.std.specs.Int.{w16, w32, to_be_bytes}
-use Rattle.std.proofs.Common.{ap, ◌∙◌}
-use Rattle.std.specs.List.{flat_map, AllByRecursion}
+use Rattle.std.{proofs.Common.{ℕ, ◌+◌, ◌*◌, ◌<◌, ◌^◌, List, [], ◌∷◌, ◌++◌, ◌==◌, Result, Ok, Err, if◌then◌else◌, length, drop, map, codes, refl, ap, ◌∙◌}, specs.Fmt.{decimal}, specs.Int.{w16, w32, to_be_bytes}, specs.List.{flat_map, AllByRecursion}}
 use Rattle.dcsctp_types.specs.declared.types.tsn.Tsn.{Tsn}
-use Rattle.dcsctp_tlv.specs.Kind.{Fault, Length, fields, number16, number32, numbers, Format, flagged_tlv, length-two_lists, Kind, plain_kind, Varied}
-use Rattle.dcsctp_tlv.proofs.Lengths.{length-fixed}
-use Rattle.dcsctp_chunk.specs.declared.sack_chunk.GapAckBlock.{GapAckBlock}
-use Rattle.dcsctp_chunk.specs.declared.sack_chunk.SackChunk.{SackChunk}
+use Rattle.dcsctp_tlv.{specs.Kind.{Fault, Length, fields, number16, number32, numbers, Format, flagged_tlv, length-two_lists, Kind, plain_kind, Varied}, proofs.Lengths.{length-fixed}}
+use Rattle.dcsctp_chunk.specs.declared.sack_chunk.{GapAckBlock.{GapAckBlock}, SackChunk.{SackChunk}}
 
 pub record Tree : Type 0 where
   pub tsn : ℕ

@@ -1,8 +1,6 @@
 -- SHUTDOWN (RFC 9260 section 3.3.8): type 7, flags ignored; the value is the cumulative TSN, four
 -- bytes.
-use Rattle.std.specs.Prelude.{ℕ, ◌<◌, ◌^◌, List, ◌++◌, ◌==◌, Result, Ok, Err, if◌then◌else◌, length, codes, refl}
-use Rattle.std.specs.Fmt.{decimal}
-use Rattle.std.specs.Int.{w32, to_be_bytes}
+use Rattle.std.specs.{Prelude.{ℕ, ◌<◌, ◌^◌, List, ◌++◌, ◌==◌, Result, Ok, Err, if◌then◌else◌, length, codes, refl}, Fmt.{decimal}, Int.{w32, to_be_bytes}}
 use Rattle.dcsctp_tlv.specs.Kind.{Fault, Length, number32, Format, flagged_tlv, Kind, plain_kind, Fixed}
 use Rattle.dcsctp_chunk.specs.declared.shutdown_chunk.ShutdownChunk.{ShutdownChunk}
 

@@ -2,8 +2,7 @@
 -- tag is reflected, and the other bits are ignored.
 use Rattle.std.specs.Prelude.{ℕ, Bool, List, [], ◌∷◌, ◌++◌, ◌==◌, Result, Ok, Err, if◌then◌else◌, length, codes, refl}
 use Rattle.dcsctp_tlv.specs.Kind.{Fault, Length, Format, flagged_tlv, Kind, plain_kind, Fixed}
-use Rattle.dcsctp_chunk.specs.Flags.{is_set, flag_byte}
-use Rattle.dcsctp_chunk.specs.declared.shutdown_complete_chunk.ShutdownCompleteChunk.{ShutdownCompleteChunk}
+use Rattle.dcsctp_chunk.specs.{Flags.{is_set, flag_byte}, declared.shutdown_complete_chunk.ShutdownCompleteChunk.{ShutdownCompleteChunk}}
 
 unfoldable pub read : ℕ → List ℕ → Result Bool Fault
 read flags value = if length value == 0 then Ok (is_set flags 0) else Err Length

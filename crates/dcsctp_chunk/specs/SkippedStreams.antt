@@ -1,14 +1,8 @@
 -- Streams that are skipped: each by a sequence number (RFC 3758 section 3.2), or by a message id
 -- (RFC 8260 section 2.3.1); and what the chunks that hold them have in common.
-use Rattle.std.specs.Prelude.{◌≡◌, ℕ, ◌+◌, ◌-◌, ◌*◌, ◌/◌, ◌<◌, ◌^◌, Bool, true, false, not, List, ◌∷◌, [], ◌++◌, ◌==◌, Result, Ok, Err, if◌then◌else◌, length, drop, map}
-use Rattle.std.specs.Fmt.{decimal}
-use Rattle.std.specs.List.{AllByRecursion}
-use Rattle.dcsctp_types.specs.StreamKey.{stream_of, is_ordered_key}
-use Rattle.dcsctp_types.specs.declared.types.tsn.Tsn.{Tsn}
-use Rattle.dcsctp_tlv.specs.Kind.{Fault, Length, fields, number32, Format, length-fields}
-use Rattle.dcsctp_tlv.specs.Fields.{numbers_and_fields_tlv}
-use Rattle.dcsctp_tlv.specs.declared.skipped_stream.SkippedStream.{SkippedStream}
-use Rattle.dcsctp_tlv.specs.declared.skipped_stream.SkippedStream.TheVariants.{ForwardTsn, IForwardTsn}
+use Rattle.std.specs.{Prelude.{◌≡◌, ℕ, ◌+◌, ◌-◌, ◌*◌, ◌/◌, ◌<◌, ◌^◌, Bool, true, false, not, List, ◌∷◌, [], ◌++◌, ◌==◌, Result, Ok, Err, if◌then◌else◌, length, drop, map}, Fmt.{decimal}, List.{AllByRecursion}}
+use Rattle.dcsctp_types.specs.{StreamKey.{stream_of, is_ordered_key}, declared.types.tsn.Tsn.{Tsn}}
+use Rattle.dcsctp_tlv.specs.{Kind.{Fault, Length, fields, number32, Format, length-fields}, Fields.{numbers_and_fields_tlv}, declared.skipped_stream.SkippedStream.{SkippedStream}, declared.skipped_stream.SkippedStream.TheVariants.{ForwardTsn, IForwardTsn}}
 
 pub data SkippedStreamTree : Type 0 where
   -- the stream, and the sequence number of the last message that is skipped

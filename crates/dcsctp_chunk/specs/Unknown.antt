@@ -1,7 +1,6 @@
 -- A chunk of a type that isn't named: kept as it is, with its type and all its flags (RFC 9260
 -- section 3.2).
-use Rattle.std.specs.Prelude.{ℕ, ◌<◌, ◌^◌, List, ◌++◌, Result, Ok, length, codes}
-use Rattle.std.specs.Fmt.{decimal}
+use Rattle.std.specs.{Prelude.{ℕ, ◌<◌, ◌^◌, List, ◌++◌, Result, Ok, length, codes}, Fmt.{decimal}}
 use Rattle.dcsctp_tlv.specs.Kind.{Fault, AreBytes, Format, flagged_tlv, length-solid}
 use Rattle.dcsctp_chunk.specs.declared.unknown_chunk.UnknownChunk.{UnknownChunk}
 

@@ -10,11 +10,8 @@
 //! +-+-+-+-+-+-+-+-+-+-+-+-+-+-+-+-+-+-+-+-+-+-+-+-+-+-+-+-+-+-+-+-+
 //! ```
 
-ghost use Rattle.std.specs.Borrow.{sem};
-ghost use Rattle.std.specs.Prelude.{◌≡◌, ◌↔◌, ◌≤◌, ◌<◌, ◌+◌, ◌^◌, length, take, drop, slice_index, IsOk, IfOk, IfErr};
-ghost use Rattle.dcsctp_tlv.specs.Frame.{header, BeginsWithFrame, frame_value, frame_padding, frame_rest};
-ghost use Rattle.dcsctp_tlv.specs.Lending.{LendsValue};
-ghost use Rattle.dcsctp_tlv.specs.declared.error.ChunkParseError.TheVariants.{InvalidLength};
+ghost use Rattle.std.specs.{Borrow.{sem}, Prelude.{◌≡◌, ◌↔◌, ◌≤◌, ◌<◌, ◌+◌, ◌^◌, length, take, drop, slice_index, IsOk, IfOk, IfErr}};
+ghost use Rattle.dcsctp_tlv.specs.{Frame.{header, BeginsWithFrame, frame_value, frame_padding, frame_rest}, Lending.{LendsValue}, declared.error.ChunkParseError.TheVariants.{InvalidLength}};
 
 use dcsctp_tlv::error::ChunkParseError;
 use dcsctp_tlv::frame::{padding_parts, split_frame};

@@ -10,8 +10,7 @@
 //! +-+-+-+-+-+-+-+-+-+-+-+-+-+-+-+-+-+-+-+-+-+-+-+-+-+-+-+-+-+-+-+-+
 //! ```
 
-ghost use Rattle.std.specs.Prelude.{◌≡◌, ◌≢◌, ◌↔◌, Some, Ok, IsOk, IsErrOf};
-ghost use Rattle.std.specs.Int.{to_be_bytes};
+ghost use Rattle.std.specs.{Prelude.{◌≡◌, ◌≢◌, ◌↔◌, Some, Ok, IsOk, IsErrOf}, Int.{to_be_bytes}};
 ghost use Rattle.dcsctp_tlv.specs.Reading.{Exactly, reading, checking, Tested};
 ghost use Rattle.dcsctp_chunk.specs.Shutdown as kind;
 

@@ -1,7 +1,6 @@
 //! What FORWARD-TSN and I-FORWARD-TSN have in common: the test of their skipped streams.
 
-ghost use Rattle.std.specs.Prelude.{◌↔◌, ◌<◌, ◌^◌, IsTrue};
-ghost use Rattle.std.specs.List.{AllByRecursion};
+ghost use Rattle.std.specs.{Prelude.{◌↔◌, ◌<◌, ◌^◌, IsTrue}, List.{AllByRecursion}};
 ghost use Rattle.dcsctp_chunk.specs.SkippedStreams.{AreByMid, IsSkippedStreamInWidth, skipped_stream_view, skipped_stream_views};
 
 use dcsctp_tlv::skipped_stream::SkippedStream;

@@ -1,13 +1,7 @@
 -- The size account: what was read is written in no more bytes than it was read from, and these fill
 -- the same words.
-use Rattle.std.proofs.Common.{◌≡◌, ℕ, ◌+◌, ◌≤◌, List, [], ◌∷◌, ◌++◌, length, refl, sym, ap, subst, ◌∙◌, arith, Result, Ok}
-use Rattle.std.specs.List.{flat_map, AllByRecursion}
-use Rattle.std.proofs.lemmas.List.{append-nil, length-append}
-use Rattle.dcsctp_tlv.specs.Fault.{Fault}
-use Rattle.dcsctp_tlv.specs.Frame.{round_up_to_4, padding_size, Item, item_bytes, AreFormed}
-use Rattle.dcsctp_tlv.specs.Level.{Level, map_ok, ItemsMean, MeansTrees}
-use Rattle.dcsctp_tlv.specs.Image.{Tlv, size_of, list_size}
-use Rattle.dcsctp_tlv.proofs.KindLaws.{of_map_ok}
+use Rattle.std.{proofs.Common.{◌≡◌, ℕ, ◌+◌, ◌≤◌, List, [], ◌∷◌, ◌++◌, length, refl, sym, ap, subst, ◌∙◌, arith, Result, Ok, append-nil, length-append}, specs.List.{flat_map, AllByRecursion}}
+use Rattle.dcsctp_tlv.{specs.Fault.{Fault}, specs.Frame.{round_up_to_4, padding_size, Item, item_bytes, AreFormed}, specs.Level.{Level, map_ok, ItemsMean, MeansTrees}, specs.Image.{Tlv, size_of, list_size}, proofs.KindLaws.{of_map_ok}}
 
 -- what is written takes no more than what was read, and as much where both are rounded up
 pub record SameSpace (written read : ℕ) : Type 0 where

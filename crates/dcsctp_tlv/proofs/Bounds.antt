@@ -1,13 +1,7 @@
 -- The bound on what the trees of a list are written in: at most six times the bytes that mean them,
 -- where it holds of each item; some more where the last item lacks its padding.
-use Rattle.std.proofs.Common.{◌≡◌, ℕ, ◌+◌, ◌*◌, ◌≤◌, List, [], ◌∷◌, ◌++◌, length, sym, ap, subst, ◌∙◌, arith}
-use Rattle.std.specs.List.{flat_map}
-use Rattle.std.proofs.lemmas.List.{append-nil, length-append}
-use Rattle.dcsctp_tlv.specs.Count.{total}
-use Rattle.dcsctp_tlv.specs.Frame.{Item, item_bytes, AreFormed, round_up_to_4}
-use Rattle.dcsctp_tlv.specs.Image.{Tlv, size_of, list_size}
-use Rattle.dcsctp_tlv.specs.Level.{Level, ItemsMean, MeansTrees}
-use Rattle.dcsctp_tlv.proofs.Accounts.{length-item}
+use Rattle.std.{proofs.Common.{◌≡◌, ℕ, ◌+◌, ◌*◌, ◌≤◌, List, [], ◌∷◌, ◌++◌, length, sym, ap, subst, ◌∙◌, arith, append-nil, length-append}, specs.List.{flat_map}}
+use Rattle.dcsctp_tlv.{specs.Count.{total}, specs.Frame.{Item, item_bytes, AreFormed, round_up_to_4}, specs.Image.{Tlv, size_of, list_size}, specs.Level.{Level, ItemsMean, MeansTrees}, proofs.Accounts.{length-item}}
 
 -- an item as it is written, with its padding
 abbrev pub padded_by : {T : Type 0} → (T → Tlv) → T → ℕ

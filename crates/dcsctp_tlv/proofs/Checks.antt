@@ -1,17 +1,6 @@
 -- A check of a list, and the build after it: what both have gone over, and what is left.
-use Rattle.std.proofs.Common.{◌≡◌, ◌≢◌, ℕ, suc, ◌+◌, ◌*◌, ◌≤◌, Bool, true, false, Ok, List, [], ◌∷◌, ◌++◌, length, refl, sym, ap, subst, ◌∙◌, arith}
-use Rattle.std.specs.List.{flat_map}
-use Rattle.std.specs.Prelude.{◌==◌}
-use Rattle.std.proofs.lemmas.List.{append-nil, get_or-drop, length-append, length-drop}
-use Rattle.dcsctp_tlv.specs.Number.{AreBytes}
-use Rattle.dcsctp_tlv.specs.Count.{total}
-use Rattle.dcsctp_tlv.specs.Frame.{padding_size, round_up_to_4, Item, item_bytes, PaddingRule, AreFormed, AreItems, frame_length, BeginsWithFrame, frame_value, frame_padding, frame_rest}
-use Rattle.dcsctp_tlv.specs.Level.{Level, ItemsMean, MeansTrees, front_row}
-use Rattle.dcsctp_tlv.specs.Reading.{ListAnswer, Counted, counts}
-use Rattle.dcsctp_tlv.proofs.Items.{front_item, front_length, items_before}
-use Rattle.dcsctp_tlv.proofs.Forms.{means_nil}
-use Rattle.dcsctp_tlv.proofs.Lists.{Progress, step, finish, is_cons}
-use Rattle.dcsctp_tlv.proofs.Laws.{front_is}
+use Rattle.std.{proofs.Common.{◌≡◌, ◌≢◌, ℕ, suc, ◌+◌, ◌*◌, ◌≤◌, Bool, true, false, Ok, List, [], ◌∷◌, ◌++◌, length, refl, sym, ap, subst, ◌∙◌, arith, ◌==◌, append-nil, get_or-drop, length-append, length-drop}, specs.List.{flat_map}}
+use Rattle.dcsctp_tlv.{specs.Number.{AreBytes}, specs.Count.{total}, specs.Frame.{padding_size, round_up_to_4, Item, item_bytes, PaddingRule, AreFormed, AreItems, frame_length, BeginsWithFrame, frame_value, frame_padding, frame_rest}, specs.Level.{Level, ItemsMean, MeansTrees, front_row}, specs.Reading.{ListAnswer, Counted, counts}, proofs.Items.{front_item, front_length, items_before}, proofs.Forms.{means_nil}, proofs.Lists.{Progress, step, finish, is_cons}, proofs.Laws.{front_is}}
 
 -- ---- the check
 

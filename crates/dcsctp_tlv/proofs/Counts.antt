@@ -1,11 +1,6 @@
 -- The bound on how many trees bytes can mean: each takes four bytes at least.
-use Rattle.std.proofs.Common.{◌≡◌, ℕ, ◌+◌, ◌*◌, ◌≤◌, List, [], ◌∷◌, length, refl, sym, ap, subst, arith}
-use Rattle.std.specs.List.{flat_map}
-use Rattle.std.proofs.lemmas.List.{length-append}
-use Rattle.dcsctp_tlv.specs.Frame.{Item, item_bytes}
-use Rattle.dcsctp_tlv.specs.Level.{Level, ItemsMean, MeansTrees}
-use Rattle.dcsctp_tlv.specs.Count.{total}
-use Rattle.dcsctp_tlv.proofs.Accounts.{length-item}
+use Rattle.std.{proofs.Common.{◌≡◌, ℕ, ◌+◌, ◌*◌, ◌≤◌, List, [], ◌∷◌, length, refl, sym, ap, subst, arith, length-append}, specs.List.{flat_map}}
+use Rattle.dcsctp_tlv.{specs.Frame.{Item, item_bytes}, specs.Level.{Level, ItemsMean, MeansTrees}, specs.Count.{total}, proofs.Accounts.{length-item}}
 
 -- each item has four bytes, without its padding, for each tree in what it means
 pub record Counts {T : Type 0} (level : Level T) (count : T → ℕ) : Type 0 where

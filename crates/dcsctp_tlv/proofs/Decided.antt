@@ -1,11 +1,6 @@
 -- What a list of bytes means is decided, at every level whose rows have one answer.
-use Rattle.std.proofs.Common.{◌≡◌, ℕ, List, [], ◌∷◌, ◌++◌, refl, sym, ap, ◌∙◌}
-use Rattle.std.specs.List.{flat_map}
-use Rattle.dcsctp_tlv.specs.Frame.{Item, item_bytes, PaddingRule}
-use Rattle.dcsctp_tlv.specs.Level.{Level}
-use Rattle.dcsctp_tlv.specs.Decided.{SplitsOneWay, IsDecided}
-use Rattle.dcsctp_tlv.proofs.Items.{AreBefore, items_before}
-use Rattle.dcsctp_tlv.proofs.Laws.{Lawful, after, list_one, list_apart, list_same, list_some}
+use Rattle.std.{proofs.Common.{◌≡◌, ℕ, List, [], ◌∷◌, ◌++◌, refl, sym, ap, ◌∙◌}, specs.List.{flat_map}}
+use Rattle.dcsctp_tlv.{specs.Frame.{Item, item_bytes, PaddingRule}, specs.Level.{Level}, specs.Decided.{SplitsOneWay, IsDecided}, proofs.Items.{AreBefore, items_before}, proofs.Laws.{Lawful, after, list_one, list_apart, list_same, list_some}}
 
 items_one : (rule : PaddingRule) (is js : List Item) → flat_map item_bytes is ++ []
     ≡ flat_map item_bytes js ++ [] → AreBefore rule is [] → AreBefore rule js [] → is ≡ js

@@ -1,16 +1,7 @@
 -- From what a call answers to what it answers exactly, wherever the grammar gives one answer at
 -- most.
-use Rattle.std.proofs.Common.{◌≡◌, ℕ, true, false, List, Result, Ok, Err, inl, inr, refl, sym, ap, subst, ◌∙◌, length, get_or, Fits}
-use Rattle.std.specs.Prelude.{IsErrOf}
-use Rattle.std.specs.Int.{w8}
-use Rattle.dcsctp_tlv.specs.declared.error.ChunkParseError.{ChunkParseError}
-use Rattle.dcsctp_tlv.specs.declared.error.ChunkParseError.TheVariants.{OutOfMemory}
-use Rattle.dcsctp_tlv.specs.Fault.{Fault, Length, Padding, Value}
-use Rattle.dcsctp_tlv.specs.Number.{AreBytes}
-use Rattle.dcsctp_tlv.specs.Level.{Row, Level, MeansTrees}
-use Rattle.dcsctp_tlv.specs.Reading.{Errors, Answers, Exactly, error_of, reading, checking, Tested, RowAnswer, ListAnswer, Counted, Unplaced}
-use Rattle.dcsctp_tlv.specs.Decided.{LawfulRow}
-use Rattle.dcsctp_tlv.proofs.Laws.{Lawful, list_one, list_apart, list_same}
+use Rattle.std.{proofs.Common.{◌≡◌, ℕ, true, false, List, Result, Ok, Err, inl, inr, refl, sym, ap, subst, ◌∙◌, length, get_or, Fits, IsErrOf}, specs.Int.{w8}}
+use Rattle.dcsctp_tlv.{specs.declared.error.ChunkParseError.{ChunkParseError}, specs.declared.error.ChunkParseError.TheVariants.{OutOfMemory}, specs.Fault.{Fault, Length, Padding, Value}, specs.Number.{AreBytes}, specs.Level.{Row, Level, MeansTrees}, specs.Reading.{Errors, Answers, Exactly, error_of, reading, checking, Tested, RowAnswer, ListAnswer, Counted, Unplaced}, specs.Decided.{LawfulRow}, proofs.Laws.{Lawful, list_one, list_apart, list_same}}
 
 -- one answer at most
 abbrev pub Single : {T F : Type 0} → (Result T F → Type 0) → Type 0

@@ -1,15 +1,8 @@
 -- Fields of one size in a row read back: written one after the other, they are read one after the
 -- other.
-use Rattle.std.proofs.Common.{◌≡◌, ℕ, zero, suc, ◌+◌, ◌*◌, ◌^◌, ◌<◌, List, [], ◌∷◌, ◌++◌, length, drop, refl, sym, ap, ◌∙◌, append_assoc, add-one, arith}
-use Rattle.std.specs.Prelude.{map}
-use Rattle.std.specs.Int.{w16, w32, to_be_bytes}
-use Rattle.std.specs.List.{flat_map, AllByRecursion, range_with_len}
-use Rattle.std.proofs.lemmas.List.{append-nil, drop_at, drop-drop}
-use Rattle.std.proofs.lemmas.List.FromFn.{length-map-range_with_len}
+use Rattle.std.{proofs.Common.{◌≡◌, ℕ, zero, suc, ◌+◌, ◌*◌, ◌^◌, ◌<◌, List, [], ◌∷◌, ◌++◌, length, drop, refl, sym, ap, ◌∙◌, append_assoc, add-one, arith, map, append-nil, drop_at, drop-drop}, specs.Int.{w16, w32, to_be_bytes}, specs.List.{flat_map, AllByRecursion, range_with_len}, proofs.lemmas.List.FromFn.{length-map-range_with_len}, proofs.lemmas.Nat.{from_be_bytes-to_be_bytes_2, from_be_bytes-to_be_bytes_4}}
 use native.Mathlib.Nat.{mul-zero, mul-suc}
-use Rattle.std.proofs.lemmas.Nat.{from_be_bytes-to_be_bytes_2, from_be_bytes-to_be_bytes_4}
-use Rattle.dcsctp_tlv.specs.Number.{number16, number32, numbers}
-use Rattle.dcsctp_tlv.specs.Fields.{fields}
+use Rattle.dcsctp_tlv.specs.{Number.{number16, number32, numbers}, Fields.{fields}}
 
 -- `count` are read
 pub length-fields : {A : Type 0} (read : List ℕ → A) (size count : ℕ) (bytes : List ℕ)

@@ -1,14 +1,7 @@
 -- What a kind has to satisfy for the laws of its level, where one record is all that the tables say
 -- of a tree.
-use Rattle.std.proofs.Common.{◌≡◌, ℕ, ◌+◌, ◌^◌, ◌<◌, List, [], ◌∷◌, length, sym, ap, ◌∙◌, Result, Ok}
-use Rattle.std.specs.List.{AllByRecursion}
-use Rattle.dcsctp_tlv.specs.Fault.{Fault}
-use Rattle.dcsctp_tlv.specs.Format.{Format, tlv_by}
-use Rattle.dcsctp_tlv.specs.Image.{solid, IsEncodable, list_size}
-use Rattle.dcsctp_tlv.specs.Length.{length-solid}
-use Rattle.dcsctp_tlv.proofs.KindLaws.{KindLaws, IsGood, by_value}
-use Rattle.dcsctp_tlv.proofs.ReadsBack.{zeroed-solid, each_encodable}
-use Rattle.dcsctp_tlv.proofs.Unpadded.{NotPadding}
+use Rattle.std.{proofs.Common.{◌≡◌, ℕ, ◌+◌, ◌^◌, ◌<◌, List, [], ◌∷◌, length, sym, ap, ◌∙◌, Result, Ok}, specs.List.{AllByRecursion}}
+use Rattle.dcsctp_tlv.{specs.Fault.{Fault}, specs.Format.{Format, tlv_by}, specs.Image.{solid, IsEncodable, list_size}, specs.Length.{length-solid}, proofs.KindLaws.{KindLaws, IsGood, by_value}, proofs.ReadsBack.{zeroed-solid, each_encodable}, proofs.Unpadded.{NotPadding}}
 
 -- ---- a kind that is read under the item's first two bytes, as a chunk under its flags
 

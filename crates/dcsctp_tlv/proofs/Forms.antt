@@ -1,8 +1,6 @@
 -- What is read is well-formed, at every level whose rows read nothing else.
-use Rattle.std.proofs.Common.{◌≡◌, ℕ, Bool, true, false, List, [], ◌∷◌, refl, ◌∙◌}
-use Rattle.std.specs.List.{flat_map, AllByRecursion}
-use Rattle.dcsctp_tlv.specs.Frame.{Item, item_bytes}
-use Rattle.dcsctp_tlv.specs.Level.{Row, Level, pick, ItemsMean, MeansTrees}
+use Rattle.std.{proofs.Common.{◌≡◌, ℕ, Bool, true, false, List, [], ◌∷◌, refl, ◌∙◌}, specs.List.{flat_map, AllByRecursion}}
+use Rattle.dcsctp_tlv.specs.{Frame.{Item, item_bytes}, Level.{Row, Level, pick, ItemsMean, MeansTrees}}
 
 -- each tree that a row means is well-formed
 pub record FormsTrees {T : Type 0} (level : Level T) (IsFormed : T → Type 0) : Type 0 where

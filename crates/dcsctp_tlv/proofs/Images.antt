@@ -1,11 +1,6 @@
 -- Images: how long they are, and what an output is after they were written.
-use Rattle.std.proofs.Common.{◌≡◌, ℕ, suc, zero, ◌+◌, ◌-◌, ◌^◌, ◌<◌, ◌≤◌, List, [], ◌∷◌, ◌++◌, length, get_or, take, drop, refl, sym, ap, subst, ◌∙◌, append_assoc, arith, inl, inr, Option, Some, None}
-use Rattle.std.specs.Prelude.{replicate, unwrap_or, map}
-use Rattle.std.specs.List.{AllByRecursion}
-use Rattle.std.proofs.lemmas.List.{take-append-drop, length-append, length-replicate, length-map, take_more, take_all, get_or_read, drop_at, map-append}
-use Rattle.std.proofs.lemmas.Bool.{cases_lt}
-use Rattle.dcsctp_tlv.specs.Frame.{round_up_to_4, header}
-use Rattle.dcsctp_tlv.specs.Image.{solid, holes, written, zeroed, gap, Tlv, size_of, image_of, list_image, list_size, IsListEncodable}
+use Rattle.std.{proofs.Common.{◌≡◌, ℕ, suc, zero, ◌+◌, ◌-◌, ◌^◌, ◌<◌, ◌≤◌, List, [], ◌∷◌, ◌++◌, length, get_or, take, drop, refl, sym, ap, subst, ◌∙◌, append_assoc, arith, inl, inr, Option, Some, None, replicate, unwrap_or, map, take-append-drop, length-append, take_all, drop_at}, specs.List.{AllByRecursion}, proofs.lemmas.List.{length-replicate, length-map, take_more, get_or_read, map-append}, proofs.lemmas.Bool.{cases_lt}}
+use Rattle.dcsctp_tlv.specs.{Frame.{round_up_to_4, header}, Image.{solid, holes, written, zeroed, gap, Tlv, size_of, image_of, list_image, list_size, IsListEncodable}}
 
 -- ---- writing
 

@@ -1,13 +1,6 @@
 -- Items and frames: what is read from the front is the next item.
-use Rattle.std.proofs.Common.{◌≡◌, ◌≢◌, ℕ, suc, zero, ◌+◌, ◌-◌, ◌^◌, ◌<◌, ◌≤◌, true, List, [], ◌∷◌, ◌++◌, length, get_or, take, drop, refl, sym, ap, subst, ◌∙◌, append_assoc, arith, inl, inr}
-use Rattle.std.specs.List.{flat_map, AllByRecursion}
-use Rattle.std.specs.Int.{w16, to_be_bytes, from_be_bytes}
-use Rattle.std.proofs.lemmas.Bool.{cases_lt}
-use Rattle.std.proofs.lemmas.List.{append-nil, take-append-drop, length-append, length-take, length-drop, take_at, drop_at, drop-drop, drop_all}
-use Rattle.std.proofs.lemmas.List.Concat.{flat_map-append}
-use Rattle.std.proofs.lemmas.Nat.{be_bytes_2, from_be_bytes-to_be_bytes_2}
-use Rattle.dcsctp_tlv.specs.Number.{AreBytes}
-use Rattle.dcsctp_tlv.specs.Frame.{round_up_to_4, padding_size, Item, item_bytes, HasLength, PaddingRule, IsWhole, AreFormed, frame_length, BeginsWithFrame, frame_value, frame_padding, frame_rest}
+use Rattle.std.{proofs.Common.{◌≡◌, ◌≢◌, ℕ, suc, zero, ◌+◌, ◌-◌, ◌^◌, ◌<◌, ◌≤◌, true, List, [], ◌∷◌, ◌++◌, length, get_or, take, drop, refl, sym, ap, subst, ◌∙◌, append_assoc, arith, inl, inr, append-nil, take-append-drop, length-append, length-take, length-drop, take_at, drop_at, drop-drop}, specs.List.{flat_map, AllByRecursion}, specs.Int.{w16, to_be_bytes, from_be_bytes}, proofs.lemmas.Bool.{cases_lt}, proofs.lemmas.List.{drop_all}, proofs.lemmas.List.Concat.{flat_map-append}, proofs.lemmas.Nat.{be_bytes_2, from_be_bytes-to_be_bytes_2}}
+use Rattle.dcsctp_tlv.specs.{Number.{AreBytes}, Frame.{round_up_to_4, padding_size, Item, item_bytes, HasLength, PaddingRule, IsWhole, AreFormed, frame_length, BeginsWithFrame, frame_value, frame_padding, frame_rest}}
 
 -- an item, and what follows it: whole, or the last
 pub record IsNext (rule : PaddingRule) (i : Item) (rest : List ℕ) : Type 0 where

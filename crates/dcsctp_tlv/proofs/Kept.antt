@@ -1,6 +1,5 @@
 -- Trees that are written alike: their lists are, too.
-use Rattle.std.proofs.Common.{◌≡◌, ℕ, ◌+◌, List, [], ◌∷◌, ◌++◌, length, refl, ap, map}
-use Rattle.std.specs.List.{AllByRecursion}
+use Rattle.std.{proofs.Common.{◌≡◌, ℕ, ◌+◌, List, [], ◌∷◌, ◌++◌, length, refl, ap, map}, specs.List.{AllByRecursion}}
 use Rattle.dcsctp_tlv.specs.Image.{solid, Tlv, size_of, image_of, list_image, list_size, listed_tlv}
 
 -- f keeps how each is written

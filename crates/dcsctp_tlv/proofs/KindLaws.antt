@@ -1,10 +1,6 @@
 -- What a kind has to satisfy for the laws of its level, where its value is read at fixed places.
 use Rattle.std.proofs.Common.{◌≡◌, ℕ, ◌+◌, Bool, true, false, cond, ◌⊎◌, inl, inr, List, length, Result, Ok, Err, refl}
-use Rattle.dcsctp_tlv.specs.Fault.{Fault}
-use Rattle.dcsctp_tlv.specs.Level.{map_ok}
-use Rattle.dcsctp_tlv.specs.Format.{Format}
-use Rattle.dcsctp_tlv.specs.Image.{zeroed, size_of, IsEncodable}
-use Rattle.dcsctp_tlv.proofs.Unpadded.{NotPadding}
+use Rattle.dcsctp_tlv.{specs.Fault.{Fault}, specs.Level.{map_ok}, specs.Format.{Format}, specs.Image.{zeroed, size_of, IsEncodable}, proofs.Unpadded.{NotPadding}}
 
 -- a tree that can be written and read again, by its format
 pub record IsGood (format : Format) : Type 0 where

@@ -1,15 +1,6 @@
 -- Each list of bytes has one answer, at every level whose rows have one.
-use Rattle.std.proofs.Common.{◌≡◌, ℕ, suc, zero, ◌+◌, ◌-◌, ◌<◌, ◌≤◌, Bool, true, false, List, [], ◌∷◌, ◌++◌, length, get_or, drop, refl, sym, ap, subst, ◌∙◌, append_assoc, arith, ◌⊎◌, inl, inr, Result, Ok, Err}
-use Rattle.std.specs.List.{flat_map}
-use Rattle.std.proofs.lemmas.Bool.{cases_lt}
-use Rattle.std.proofs.lemmas.List.{append-nil, get_or-drop, get_or-take, get_or_past, length-take, length-drop}
-use Rattle.dcsctp_tlv.specs.Fault.{Fault, Length, Padding}
-use Rattle.dcsctp_tlv.specs.Number.{AreBytes}
-use Rattle.dcsctp_tlv.specs.Frame.{round_up_to_4, padding_size, any_padding, Item, item_bytes, PaddingRule, frame_length, BeginsWithFrame, frame_value, frame_padding, frame_rest}
-use Rattle.dcsctp_tlv.specs.Level.{Row, Level, ItemsMean, MeansTrees, HasFault, BeginsWithFault, no_frame, value, padding, front_row, further, plain, as_row, listed}
-use Rattle.dcsctp_tlv.specs.Decided.{LawfulRow}
-use Rattle.dcsctp_tlv.proofs.Items.{IsNext, AreBefore, front_item, front_split, front_next, next_one, item_frame, items_before, whole_before}
-use Rattle.dcsctp_tlv.proofs.Lists.{Progress, begin, step, finish, not_nil, fault}
+use Rattle.std.{proofs.Common.{◌≡◌, ℕ, suc, zero, ◌+◌, ◌-◌, ◌<◌, ◌≤◌, Bool, true, false, List, [], ◌∷◌, ◌++◌, length, get_or, drop, refl, sym, ap, subst, ◌∙◌, append_assoc, arith, ◌⊎◌, inl, inr, Result, Ok, Err, append-nil, get_or-drop, get_or-take, length-take, length-drop}, specs.List.{flat_map}, proofs.lemmas.Bool.{cases_lt}, proofs.lemmas.List.{get_or_past}}
+use Rattle.dcsctp_tlv.{specs.Fault.{Fault}, specs.Number.{AreBytes}, specs.Frame.{round_up_to_4, padding_size, any_padding, Item, item_bytes, PaddingRule, frame_length, BeginsWithFrame, frame_value, frame_padding, frame_rest}, specs.Level.{Row, Level, ItemsMean, MeansTrees, HasFault, BeginsWithFault, no_frame, value, padding, front_row, further, plain, as_row, listed}, specs.Decided.{LawfulRow}, proofs.Items.{IsNext, AreBefore, front_item, front_split, front_next, next_one, item_frame, items_before, whole_before}, proofs.Lists.{Progress, begin, step, finish, not_nil, fault}}
 
 abbrev pub Lawful : {T : Type 0} → Level T → Type 0
 Lawful level = (a b : ℕ) → LawfulRow (level.row a b)

@@ -1,22 +1,7 @@
 -- What a kind has to satisfy for the laws of its level, by how its value is laid out: any bytes;
 -- one size, as of a number or of an empty value; numbers, and after them fields.
-use Rattle.std.proofs.Common.{◌≡◌, ℕ, ◌+◌, ◌-◌, ◌*◌, ◌/◌, ◌^◌, ◌<◌, cond, List, [], ◌++◌, length, drop, refl, sym, ap, subst, ◌∙◌, arith, Result, Ok, Err}
-use Rattle.std.specs.Prelude.{◌==◌}
-use Rattle.std.specs.Int.{w32, to_be_bytes}
-use Rattle.std.specs.List.{flat_map, AllByRecursion}
-use Rattle.std.proofs.lemmas.Bool.{eqb-true, eq-eqb}
-use Rattle.std.proofs.lemmas.List.{drop_at}
-use Rattle.std.proofs.lemmas.Nat.{from_be_bytes-to_be_bytes_4}
-use Rattle.dcsctp_tlv.specs.Fault.{Fault, Length}
-use Rattle.dcsctp_tlv.specs.Fields.{fields}
-use Rattle.dcsctp_tlv.specs.Format.{Format}
-use Rattle.dcsctp_tlv.specs.Image.{solid, size_of}
-use Rattle.dcsctp_tlv.specs.Length.{length-solid}
-use Rattle.dcsctp_tlv.specs.Number.{number32}
-use Rattle.dcsctp_tlv.proofs.FieldLaws.{FieldLaw, length-fields, last_fields_back}
-use Rattle.dcsctp_tlv.proofs.FormatLaws.{FormatLaws, format_laws, TypedLaws, typed_laws}
-use Rattle.dcsctp_tlv.proofs.KindLaws.{of_ok, passed}
-use Rattle.dcsctp_tlv.proofs.Unpadded.{if_passed}
+use Rattle.std.{proofs.Common.{◌≡◌, ℕ, ◌+◌, ◌-◌, ◌*◌, ◌/◌, ◌^◌, ◌<◌, cond, List, [], ◌++◌, length, drop, refl, sym, ap, subst, ◌∙◌, arith, Result, Ok, Err, ◌==◌, eqb-true, eq-eqb, drop_at}, specs.Int.{w32, to_be_bytes}, specs.List.{flat_map, AllByRecursion}, proofs.lemmas.Nat.{from_be_bytes-to_be_bytes_4}}
+use Rattle.dcsctp_tlv.{specs.Fault.{Fault, Length}, specs.Fields.{fields}, specs.Format.{Format}, specs.Image.{solid, size_of}, specs.Length.{length-solid}, specs.Number.{number32}, proofs.FieldLaws.{FieldLaw, length-fields, last_fields_back}, proofs.FormatLaws.{FormatLaws, format_laws, TypedLaws, typed_laws}, proofs.KindLaws.{of_ok, passed}, proofs.Unpadded.{if_passed}}
 
 -- ---- any bytes
 

@@ -1,13 +1,6 @@
 -- An image is as long as its size.
-use Rattle.std.specs.Prelude.{◌≡◌, ℕ, ◌+◌, ◌*◌, List, ◌++◌, length}
-use Rattle.std.specs.Int.{Width, to_be_bytes}
-use Rattle.std.proofs.Common.{ap, ◌∙◌}
-use Rattle.std.proofs.lemmas.List.{length-append}
-use Rattle.dcsctp_tlv.specs.Frame.{header}
-use Rattle.dcsctp_tlv.specs.Image.{solid, Tlv, size_of, image_of}
-use Rattle.dcsctp_tlv.specs.Number.{numbers}
-use Rattle.dcsctp_tlv.specs.Format.{Format}
-use Rattle.dcsctp_tlv.specs.Length.{length-solid, length-each}
+use Rattle.std.{proofs.Common.{◌≡◌, ℕ, ◌+◌, ◌*◌, List, ◌++◌, length, ap, ◌∙◌, length-append}, specs.Int.{Width, to_be_bytes}}
+use Rattle.dcsctp_tlv.specs.{Frame.{header}, Image.{solid, Tlv, size_of, image_of}, Number.{numbers}, Format.{Format}, Length.{length-solid, length-each}}
 
 pub length-image_of : (t : Tlv) → length t.value ≡ t.value_size → length (image_of t) ≡ size_of t
 unfolding image_of

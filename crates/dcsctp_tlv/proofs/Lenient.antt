@@ -1,7 +1,6 @@
 -- What is accepted by a strict reader is accepted by a lenient one, with the same trees.
 use Rattle.std.proofs.Common.{◌≡◌, ℕ, Bool, true, List, [], ◌∷◌}
-use Rattle.dcsctp_tlv.specs.Frame.{Item, IsWhole, IsLastForm, AreFormed}
-use Rattle.dcsctp_tlv.specs.Level.{Row, listed, Level, ItemsMean, MeansTrees}
+use Rattle.dcsctp_tlv.specs.{Frame.{Item, IsWhole, IsLastForm, AreFormed}, Level.{Row, listed, Level, ItemsMean, MeansTrees}}
 
 -- what one row means, the other means too
 abbrev pub LoosensRow : {T : Type 0} → Row T → Row T → Type 0

@@ -1,11 +1,6 @@
 -- A list in a value: of the code's items, seen by what they mean.
-use Rattle.std.proofs.Common.{◌≡◌, ℕ, ◌^◌, ◌<◌, ◌≤◌, List, [], ◌∷◌, ◌++◌, length, get_or, drop, refl, sym, ap, ◌∙◌, arith, Option, Some}
-use Rattle.std.specs.Prelude.{map}
-use Rattle.std.proofs.lemmas.List.{length-append, length-map}
-use Rattle.dcsctp_tlv.specs.Image.{solid, written, Tlv, size_of, image_of, list_image, list_size, listed_tlv, IsEncodable, IsListEncodable}
-use Rattle.dcsctp_tlv.specs.Frame.{header, frame_length}
-use Rattle.dcsctp_tlv.proofs.FieldLaws.{number16_law}
-use Rattle.dcsctp_tlv.proofs.Images.{list_size-map, list_image-map, length-list_image}
+use Rattle.std.proofs.{Common.{◌≡◌, ℕ, ◌^◌, ◌<◌, ◌≤◌, List, [], ◌∷◌, ◌++◌, length, get_or, drop, refl, sym, ap, ◌∙◌, arith, Option, Some, map, length-append}, lemmas.List.{length-map}}
+use Rattle.dcsctp_tlv.{specs.Image.{solid, written, Tlv, size_of, image_of, list_image, list_size, listed_tlv, IsEncodable, IsListEncodable}, specs.Frame.{header, frame_length}, proofs.FieldLaws.{number16_law}, proofs.Images.{list_size-map, list_image-map, length-list_image}}
 
 module _ {A B : Type 0} (tlv : A → Tlv) (view : A → B) (tree_tlv : B → Tlv) (same : (x : A)
     → tlv x ≡ tree_tlv (view x)) where

@@ -1,14 +1,6 @@
 -- Lists of items: one loop over frames gives the one answer.
-use Rattle.std.proofs.Common.{◌≡◌, ◌≢◌, ℕ, ◌+◌, ◌-◌, Bool, true, false, List, [], ◌∷◌, ◌++◌, length, refl, sym, ap, subst, ◌∙◌, arith}
-use Rattle.std.specs.List.{flat_map}
-use Rattle.std.proofs.lemmas.Bool.{eqb-true}
-use Rattle.std.proofs.lemmas.List.{append-nil, get_or-drop, length-append, nil_from_length}
-use Rattle.std.specs.Prelude.{◌==◌}
-use Rattle.dcsctp_tlv.specs.Fault.{Fault}
-use Rattle.dcsctp_tlv.specs.Number.{AreBytes}
-use Rattle.dcsctp_tlv.specs.Frame.{round_up_to_4, padding_size, Item, item_bytes, frame_length, BeginsWithFrame, frame_value, frame_padding, frame_rest}
-use Rattle.dcsctp_tlv.specs.Level.{Level, ItemsMean, MeansTrees, HasFault, further, BeginsWithFault, no_frame, value, padding, front_row}
-use Rattle.dcsctp_tlv.proofs.Items.{AreBefore, front_item, front_split, front_next, with_last, before_push, before_end, before_rest}
+use Rattle.std.{proofs.Common.{◌≡◌, ◌≢◌, ℕ, ◌+◌, ◌-◌, Bool, true, false, List, [], ◌∷◌, ◌++◌, length, refl, sym, ap, subst, ◌∙◌, arith, eqb-true, append-nil, get_or-drop, length-append, ◌==◌}, specs.List.{flat_map}, proofs.lemmas.List.{nil_from_length}}
+use Rattle.dcsctp_tlv.{specs.Fault.{Fault}, specs.Number.{AreBytes}, specs.Frame.{round_up_to_4, padding_size, Item, item_bytes, frame_length, BeginsWithFrame, frame_value, frame_padding, frame_rest}, specs.Level.{Level, ItemsMean, MeansTrees, HasFault, further, BeginsWithFault, no_frame, value, padding, front_row}, proofs.Items.{AreBefore, front_item, front_split, front_next, with_last, before_push, before_end, before_rest}}
 
 -- what a loop over the frames has read
 pub record Progress {T : Type 0} (level : Level T) (bytes : List ℕ) (trees : List T)
@@ -73,8 +65,11 @@ pub fault : {T : Type 0} (level : Level T) (bytes : List ℕ) (trees : List T) (
     (f : Fault × ℕ) (n : ℕ) → Progress level bytes trees rest → n ≡ length bytes - length rest
     → BeginsWithFault level rest f → HasFault level bytes (further n f)
 fault level bytes trees rest f n p h first =
-    let ahead : n ≡ length (flat_map item_bytes p.items) = omega (arith, h,
-    ap length p.split ∙ length-append (flat_map item_bytes p.items) rest) in
+    let ahead : n ≡ length (flat_map item_bytes p.items) = omega (
+      arith,
+      h,
+      ap length p.split ∙ length-append (flat_map item_bytes p.items) rest,
+    ) in
     record {
       items = p.items;
       trees = trees;

@@ -1,12 +1,6 @@
 -- Reading is local: after items that fill words, a list goes on as if it began there.
-use Rattle.std.proofs.Common.{◌≡◌, ℕ, ◌+◌, ◌%◌, List, [], ◌∷◌, ◌++◌, length, sym, ap, subst, ◌∙◌, append_assoc, arith}
-use Rattle.std.specs.List.{flat_map, AllByRecursion}
-use Rattle.std.proofs.lemmas.List.{append-nil, length-append}
-use Rattle.std.proofs.lemmas.List.Concat.{flat_map-append}
-use Rattle.dcsctp_tlv.specs.Fault.{Fault}
-use Rattle.dcsctp_tlv.specs.Frame.{Item, item_bytes, PaddingRule, IsWhole, IsLastForm, AreFormed}
-use Rattle.dcsctp_tlv.specs.Level.{Level, ItemsMean, MeansTrees, HasFault, further}
-use Rattle.dcsctp_tlv.proofs.Accounts.{length-item}
+use Rattle.std.{proofs.Common.{◌≡◌, ℕ, ◌+◌, ◌%◌, List, [], ◌∷◌, ◌++◌, length, sym, ap, subst, ◌∙◌, append_assoc, arith, append-nil, length-append}, specs.List.{flat_map, AllByRecursion}, proofs.lemmas.List.Concat.{flat_map-append}}
+use Rattle.dcsctp_tlv.{specs.Fault.{Fault}, specs.Frame.{Item, item_bytes, PaddingRule, IsWhole, IsLastForm, AreFormed}, specs.Level.{Level, ItemsMean, MeansTrees, HasFault, further}, proofs.Accounts.{length-item}}
 
 -- ---- items that fill words are whole, the last too
 

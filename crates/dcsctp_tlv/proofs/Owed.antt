@@ -1,22 +1,6 @@
 -- What a kind owes to the laws of its level, in one record; and what follows for a table of kinds.
-use Rattle.std.proofs.Common.{◌≡◌, ℕ, ◌+◌, ◌*◌, ◌≤◌, Bool, true, false, List, [], ◌∷◌, length, Result, Ok, Err, refl, sym, ap, subst, arith}
-use Rattle.std.specs.Prelude.{◌==◌}
-use Rattle.dcsctp_tlv.specs.Fault.{Fault, Padding}
-use Rattle.dcsctp_tlv.specs.Format.{Format}
-use Rattle.dcsctp_tlv.specs.Frame.{lenient}
-use Rattle.dcsctp_tlv.specs.Image.{zeroed, size_of}
-use Rattle.dcsctp_tlv.specs.Level.{Row, pick, map_ok}
-use Rattle.dcsctp_tlv.specs.Table.{Content, row_of}
-use Rattle.dcsctp_tlv.proofs.Accounts.{SameSpace, same_size}
-use Rattle.dcsctp_tlv.proofs.FormatLaws.{TypedLaws}
-use Rattle.dcsctp_tlv.proofs.KindLaws.{KindLaws, IsGood, of_map_ok}
-use Rattle.dcsctp_tlv.proofs.Places.{AtFront}
-use Rattle.dcsctp_tlv.specs.Decided.{LawfulRow}
-use Rattle.dcsctp_tlv.proofs.Laws.{plain_lawful, as_lawful}
-use Rattle.dcsctp_tlv.proofs.Lenient.{LoosensRow}
-use Rattle.dcsctp_tlv.proofs.Tables.{EachNamed}
-use Rattle.dcsctp_tlv.proofs.Unpadded.{Unpadded, NotPadding}
-use Rattle.dcsctp_tlv.specs.Kinds.{Kind, Reader, AtFixed, Nested, plain_kind, kept_kind, own_row, row_as, TreesOf, rows, Entry, Of, Unnamed, format_of, parts_of}
+use Rattle.std.proofs.Common.{◌≡◌, ℕ, ◌+◌, ◌*◌, ◌≤◌, Bool, true, false, List, [], ◌∷◌, length, Result, Ok, Err, refl, sym, ap, subst, arith, ◌==◌}
+use Rattle.dcsctp_tlv.{specs.Fault.{Fault, Padding}, specs.Format.{Format}, specs.Frame.{lenient}, specs.Image.{zeroed, size_of}, specs.Level.{Row, pick, map_ok}, specs.Table.{Content, row_of}, proofs.Accounts.{SameSpace, same_size}, proofs.FormatLaws.{TypedLaws}, proofs.KindLaws.{KindLaws, IsGood, of_map_ok}, proofs.Places.{AtFront}, specs.Decided.{LawfulRow}, proofs.Laws.{plain_lawful, as_lawful}, proofs.Lenient.{LoosensRow}, proofs.Tables.{EachNamed}, proofs.Unpadded.{Unpadded, NotPadding}, specs.Kinds.{Kind, Reader, AtFixed, Nested, plain_kind, kept_kind, own_row, row_as, TreesOf, rows, Entry, Of, Unnamed, format_of, parts_of}}
 
 -- ---- what a kind owes
 

@@ -1,13 +1,6 @@
 -- What each kind of parameter has to satisfy for the laws of the table.
-use Rattle.std.proofs.Common.{◌≡◌, ℕ, ◌+◌, ◌/◌, ◌%◌, ◌^◌, ◌<◌, true, false, List, [], ◌∷◌, ◌++◌, length, drop, refl, sym, ap, subst, ◌∙◌, arith, Option, Some, None, Ok, ◌⊎◌, inl, inr}
-use Rattle.std.specs.Prelude.{◌==◌}
-use Rattle.std.specs.Int.{w16, w32, to_be_bytes, from_be_bytes}
-use Rattle.std.proofs.lemmas.Bool.{eqb-true}
-use Rattle.std.proofs.lemmas.Nat.{from_be_bytes-to_be_bytes_2, from_be_bytes-to_be_bytes_4}
-use Rattle.dcsctp_tlv.specs.Fault.{Length}
-use Rattle.dcsctp_tlv.specs.Image.{size_of}
-use Rattle.dcsctp_tlv.specs.Level.{plain, map_ok}
-use Rattle.dcsctp_tlv.specs.Number.{number16, number32, numbers}
+use Rattle.std.{proofs.Common.{◌≡◌, ℕ, ◌+◌, ◌/◌, ◌%◌, ◌^◌, ◌<◌, true, false, List, [], ◌∷◌, ◌++◌, length, drop, refl, sym, ap, subst, ◌∙◌, arith, Option, Some, None, Ok, ◌⊎◌, inl, inr, ◌==◌, eqb-true}, specs.Int.{w16, w32, to_be_bytes, from_be_bytes}, proofs.lemmas.Nat.{from_be_bytes-to_be_bytes_2, from_be_bytes-to_be_bytes_4}}
+use Rattle.dcsctp_tlv.{specs.Fault.{Length}, specs.Image.{size_of}, specs.Level.{plain, map_ok}, specs.Number.{number16, number32, numbers}, specs.ReconfigurationResponse.{result_of, result_number, response_with, next_tsns}, specs.declared.parameter.reconfiguration_response_parameter.ReconfigurationResponseResult.{ReconfigurationResponseResult}, specs.declared.parameter.reconfiguration_response_parameter.ReconfigurationResponseResult.TheVariants.{SuccessNothingToDo}, proofs.KindLaws.{of_ok, of_map_ok, chosen, passed}, proofs.FormatLaws.{FormatLaws, format_laws}, proofs.FieldLaws.{number16_law}, proofs.Forms.{FormsRow}, proofs.Layouts.{any_laws, sized_laws, number_laws, empty_laws, FieldsAfter, fields_laws}, proofs.Unpadded.{NotPadding, either, mapped}}
 use Rattle.dcsctp_tlv.specs.HeartbeatInfo as info
 use Rattle.dcsctp_tlv.specs.StateCookie as cookie
 use Rattle.dcsctp_tlv.specs.SupportedExtensions as extensions
@@ -19,15 +12,6 @@ use Rattle.dcsctp_tlv.specs.IncomingSsnResetRequest as incoming
 use Rattle.dcsctp_tlv.specs.SsnTsnResetRequest as ssn_tsn
 use Rattle.dcsctp_tlv.specs.AddStreamsRequest as add_streams
 use Rattle.dcsctp_tlv.specs.ReconfigurationResponse as response
-use Rattle.dcsctp_tlv.specs.ReconfigurationResponse.{result_of, result_number, response_with, next_tsns}
-use Rattle.dcsctp_tlv.specs.declared.parameter.reconfiguration_response_parameter.ReconfigurationResponseResult.{ReconfigurationResponseResult}
-use Rattle.dcsctp_tlv.specs.declared.parameter.reconfiguration_response_parameter.ReconfigurationResponseResult.TheVariants.{SuccessNothingToDo}
-use Rattle.dcsctp_tlv.proofs.KindLaws.{of_ok, of_map_ok, chosen, passed}
-use Rattle.dcsctp_tlv.proofs.FormatLaws.{FormatLaws, format_laws}
-use Rattle.dcsctp_tlv.proofs.FieldLaws.{number16_law}
-use Rattle.dcsctp_tlv.proofs.Forms.{FormsRow}
-use Rattle.dcsctp_tlv.proofs.Layouts.{any_laws, sized_laws, number_laws, empty_laws, FieldsAfter, fields_laws}
-use Rattle.dcsctp_tlv.proofs.Unpadded.{NotPadding, either, mapped}
 
 -- ---- any bytes
 

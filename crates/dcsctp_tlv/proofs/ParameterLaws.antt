@@ -1,34 +1,9 @@
 -- The laws of the table of parameters: a line for each kind of what it owes.
-use Rattle.std.proofs.Common.{rules, ◌≡◌, ℕ, Bool, ◌+◌, ◌*◌, ◌^◌, ◌<◌, List, ◌++◌, length, Result, refl, ap, Option, Some, None}
-use Rattle.std.specs.Prelude.{IfSome}
-use Rattle.std.specs.Int.{w32}
-use Rattle.std.specs.List.{AllByRecursion}
-use Rattle.dcsctp_tlv.specs.Decided.{LawfulRow, IgnoresPadding}
-use Rattle.dcsctp_tlv.specs.Format.{sized_tlv}
-use Rattle.dcsctp_tlv.specs.Frame.{lenient}
-use Rattle.dcsctp_tlv.specs.Number.{numbers}
-use Rattle.dcsctp_tlv.specs.declared.error.ChunkParseError.{ChunkParseError}
-use Rattle.dcsctp_tlv.specs.Kinds.{ChecksKind}
-use Rattle.dcsctp_tlv.specs.Reading.{Answers, checking, RowAnswer, Counted, Unplaced}
-use Rattle.dcsctp_tlv.proofs.Lengths.{length-format}
-use Rattle.dcsctp_tlv.specs.Image.{Tlv, zeroed, image_of, size_of}
-use Rattle.dcsctp_tlv.specs.Table.{Content, Varied, ◌&◌}
+use Rattle.std.{proofs.Common.{rules, ◌≡◌, ℕ, Bool, ◌+◌, ◌*◌, ◌^◌, ◌<◌, List, ◌++◌, length, Result, refl, ap, Option, Some, None, IfSome}, specs.Int.{w32}, specs.List.{AllByRecursion}}
+use Rattle.dcsctp_tlv.{specs.Decided.{LawfulRow, IgnoresPadding}, specs.Format.{sized_tlv}, specs.Frame.{lenient}, specs.Number.{numbers}, specs.declared.error.ChunkParseError.{ChunkParseError}, specs.Kinds.{ChecksKind}, specs.Reading.{Answers, checking, RowAnswer, Counted, Unplaced}, proofs.Lengths.{length-format}, specs.Image.{Tlv, zeroed, image_of, size_of}, specs.Table.{Content, Varied, ◌&◌}, specs.ReconfigurationResponse.{next_tsns, kept_tsn}, specs.Parameter.{ParameterTree, Unknown, kinds, trees, table, row, parameters, entry, format, tlv, IsInWidth, IsWellFormed, kept, all_kept}, proofs.Laws.{Lawful}, proofs.KindLaws.{IsGood}, proofs.Owed.{AllOwed, OwedOf, plain_owed, kept_owed, back_of, kept_tlv_of, kept_width_of}, proofs.Places.{AtFront}, proofs.Lenient.{Loosens}, proofs.TableLaws.{TypedFacts, typed_row_lawful, typed_at_front, typed_lawful, typed_looser, typed_form, typed_account, typed_unpadded, typed_tested, unknown_means}, proofs.ReadsBack.{ReadsBack}, proofs.ParameterKinds.{info_laws, cookie_laws, outgoing_laws, incoming_laws, response_laws, zero_checksum_laws, extensions_laws, forward_tsn_laws, ssn_tsn_laws, add_streams_laws}, proofs.Forms.{FormsTrees}, proofs.Accounts.{Accounts}, proofs.Kept.{all_map}}
 use Rattle.dcsctp_tlv.specs.AddOutgoingStreamsRequest as add_outgoing
 use Rattle.dcsctp_tlv.specs.AddIncomingStreamsRequest as add_incoming
 use Rattle.dcsctp_tlv.specs.ReconfigurationResponse as response
-use Rattle.dcsctp_tlv.specs.ReconfigurationResponse.{next_tsns, kept_tsn}
-use Rattle.dcsctp_tlv.specs.Parameter.{ParameterTree, Unknown, kinds, trees, table, row, parameters, entry, format, tlv, IsInWidth, IsWellFormed, kept, all_kept}
-use Rattle.dcsctp_tlv.proofs.Laws.{Lawful}
-use Rattle.dcsctp_tlv.proofs.KindLaws.{IsGood}
-use Rattle.dcsctp_tlv.proofs.Owed.{AllOwed, OwedOf, plain_owed, kept_owed, back_of, kept_tlv_of, kept_width_of}
-use Rattle.dcsctp_tlv.proofs.Places.{AtFront}
-use Rattle.dcsctp_tlv.proofs.Lenient.{Loosens}
-use Rattle.dcsctp_tlv.proofs.TableLaws.{TypedFacts, typed_row_lawful, typed_at_front, typed_lawful, typed_looser, typed_form, typed_account, typed_unpadded, typed_tested, unknown_means}
-use Rattle.dcsctp_tlv.proofs.ReadsBack.{ReadsBack}
-use Rattle.dcsctp_tlv.proofs.ParameterKinds.{info_laws, cookie_laws, outgoing_laws, incoming_laws, response_laws, zero_checksum_laws, extensions_laws, forward_tsn_laws, ssn_tsn_laws, add_streams_laws}
-use Rattle.dcsctp_tlv.proofs.Forms.{FormsTrees}
-use Rattle.dcsctp_tlv.proofs.Accounts.{Accounts}
-use Rattle.dcsctp_tlv.proofs.Kept.{all_map}
 
 -- ---- a response as it is written
 

@@ -1,16 +1,6 @@
 -- Where a fault lies, and what a check finds.
-use Rattle.std.proofs.Common.{◌≡◌, ◌≢◌, ℕ, ◌+◌, ◌-◌, ◌≤◌, true, false, Bool, cond, Result, Ok, Err, List, [], ◌∷◌, length, drop, refl, sym, ap, subst, ◌∙◌, arith, inl, inr}
-use Rattle.std.specs.Prelude.{◌==◌}
-use Rattle.std.proofs.lemmas.List.{length-take, length-drop}
-use Rattle.dcsctp_tlv.specs.declared.error.ChunkParseError.{ChunkParseError}
-use Rattle.dcsctp_tlv.specs.declared.error.ChunkParseError.TheVariants.{InvalidLength}
-use Rattle.dcsctp_tlv.specs.declared.reader.Counts.{Counts}
-use Rattle.dcsctp_tlv.specs.declared.error.LocatedFault.{LocatedFault}
-use Rattle.dcsctp_tlv.specs.Fault.{Fault, Length, Padding}
-use Rattle.dcsctp_tlv.specs.Frame.{round_up_to_4, padding_size, first_nonzero, BeginsWithFrame, frame_length, frame_value, frame_padding}
-use Rattle.dcsctp_tlv.specs.Level.{Row, Level, front_row, HasFault, no_frame, value, padding, listed}
-use Rattle.dcsctp_tlv.specs.Reading.{Answers, error_of, checking, locating, RowAnswer, ListAnswer, Counted, Unplaced, counts, ListedAnswer}
-use Rattle.dcsctp_tlv.proofs.Lists.{Progress, fault}
+use Rattle.std.proofs.Common.{◌≡◌, ◌≢◌, ℕ, ◌+◌, ◌-◌, ◌≤◌, true, false, Bool, cond, Result, Ok, Err, List, [], ◌∷◌, length, drop, refl, sym, ap, subst, ◌∙◌, arith, inl, inr, ◌==◌, length-take, length-drop}
+use Rattle.dcsctp_tlv.{specs.declared.error.ChunkParseError.{ChunkParseError}, specs.declared.error.ChunkParseError.TheVariants.{InvalidLength}, specs.declared.reader.Counts.{Counts}, specs.declared.error.LocatedFault.{LocatedFault}, specs.Fault.{Fault, Length, Padding}, specs.Frame.{round_up_to_4, padding_size, first_nonzero, BeginsWithFrame, frame_length, frame_value, frame_padding}, specs.Level.{Row, Level, front_row, HasFault, no_frame, value, padding, listed}, specs.Reading.{Answers, error_of, checking, locating, RowAnswer, ListAnswer, Counted, Unplaced, counts, ListedAnswer}, proofs.Lists.{Progress, fault}}
 
 -- what is a fault of a part at one place is a fault of the whole at another
 pub moved : {T U : Type 0} (move : ℕ → ℕ) (P : Result T (Fault × ℕ) → Type 0) (Q : Result U (Fault

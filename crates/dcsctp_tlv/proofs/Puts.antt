@@ -1,20 +1,8 @@
 -- Fields in a row: read one after the other, and written one after the other.
-use Rattle.std.proofs.Common.{◌≡◌, ℕ, suc, zero, ◌+◌, ◌*◌, ◌<◌, ◌≤◌, List, [], ◌∷◌, ◌++◌, length, get_or, drop, take, refl, sym, ap, ◌∙◌, append_assoc, arith, add-one}
-use Rattle.std.specs.Prelude.{All, map}
-use Rattle.std.specs.Int.{w32}
-use Rattle.std.specs.List.{flat_map, AllByRecursion}
-use Rattle.std.proofs.lemmas.List.{append-nil, length-append, length-take, take_at, drop_at, drop-drop, length-drop, length-map}
-use Rattle.std.proofs.lemmas.List.Elements.{recursion_from_All}
-use Rattle.std.proofs.lemmas.List.FromFn.{map-range_with_len_more}
-use Rattle.std.proofs.lemmas.List.Concat.{flat_map-append}
-use Rattle.std.proofs.lemmas.List.Folds.{flat_map-map}
+use Rattle.std.{proofs.Common.{◌≡◌, ℕ, suc, zero, ◌+◌, ◌*◌, ◌<◌, ◌≤◌, List, [], ◌∷◌, ◌++◌, length, get_or, drop, take, refl, sym, ap, ◌∙◌, append_assoc, arith, add-one, All, map, append-nil, length-append, length-take, take_at, drop_at, drop-drop, length-drop}, specs.Int.{w32}, specs.List.{flat_map, AllByRecursion}, proofs.lemmas.List.{length-map}, proofs.lemmas.List.Elements.{recursion_from_All}, proofs.lemmas.List.FromFn.{map-range_with_len_more}, proofs.lemmas.List.Concat.{flat_map-append}, proofs.lemmas.List.Folds.{flat_map-map}}
 use native.Mathlib.Nat.{mul-zero, mul-suc}
-use Rattle.dcsctp_tlv.specs.Frame.{header}
-use Rattle.dcsctp_tlv.specs.Image.{put, solid_tlv, image_of, written}
-use Rattle.dcsctp_tlv.specs.Number.{numbers}
+use Rattle.dcsctp_tlv.{specs.Frame.{header}, specs.Image.{put, solid_tlv, image_of, written}, specs.Number.{numbers}, proofs.Images.{written-solid, written_item, take_next, all_take, all_from}, specs.Fields.{fields}}
 pub use Rattle.dcsctp_tlv.proofs.Lengths.{length-numbers}
-use Rattle.dcsctp_tlv.proofs.Images.{written-solid, written_item, take_next, all_take, all_from}
-use Rattle.dcsctp_tlv.specs.Fields.{fields}
 
 -- ---- places
 

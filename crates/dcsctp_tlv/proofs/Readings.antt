@@ -1,10 +1,6 @@
 -- What a check of one kind finds, at the level of its table; and what is known where it passed.
-use Rattle.std.proofs.Common.{◌≡◌, Bool, true, false, cond, ℕ, List, Result, Ok, Err, refl, sym, ◌∙◌}
-use Rattle.std.specs.Prelude.{IsOk}
-use Rattle.dcsctp_tlv.specs.declared.error.LocatedFault.{LocatedFault}
-use Rattle.dcsctp_tlv.specs.Fault.{Fault}
-use Rattle.dcsctp_tlv.specs.Level.{Row, as_row}
-use Rattle.dcsctp_tlv.specs.Reading.{Answers, locating, RowAnswer, Counted}
+use Rattle.std.proofs.Common.{◌≡◌, Bool, true, false, cond, ℕ, List, Result, Ok, Err, refl, sym, ◌∙◌, IsOk}
+use Rattle.dcsctp_tlv.specs.{declared.error.LocatedFault.{LocatedFault}, Fault.{Fault}, Level.{Row, as_row}, Reading.{Answers, locating, RowAnswer, Counted}}
 
 -- ---- what is known where a value has a meaning
 

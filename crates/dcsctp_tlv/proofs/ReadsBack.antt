@@ -1,15 +1,7 @@
 -- What is written reads back, at every level whose kinds do; and what was read has the size of its
 -- bytes.
-use Rattle.std.proofs.Common.{◌≡◌, ℕ, suc, zero, ◌^◌, ◌<◌, Bool, true, false, List, [], ◌∷◌, ◌++◌, length, refl, sym, ap, ◌∙◌, append_assoc, arith, Option}
-use Rattle.std.specs.Prelude.{replicate, unwrap_or}
-use Rattle.std.specs.List.{flat_map, AllByRecursion}
-use Rattle.std.proofs.lemmas.Bool.{eq-eqb}
-use Rattle.std.proofs.lemmas.List.{append-nil, length-replicate, length-map}
-use Rattle.dcsctp_tlv.specs.Frame.{padding_size, Item, item_bytes, PaddingRule, are_zeros, zero_padding, full_padding, IsWhole, AreFormed}
-use Rattle.dcsctp_tlv.specs.Level.{Level, ItemsMean, MeansTrees}
-use Rattle.dcsctp_tlv.specs.Image.{solid, holes, zeroed, gap, Tlv, size_of, IsEncodable, image_of, list_image, list_size}
-use Rattle.dcsctp_tlv.proofs.Items.{before_end, whole_before}
-use Rattle.dcsctp_tlv.proofs.Images.{zeroed-append, zeroed-holes}
+use Rattle.std.{proofs.Common.{◌≡◌, ℕ, suc, zero, ◌^◌, ◌<◌, Bool, true, false, List, [], ◌∷◌, ◌++◌, length, refl, sym, ap, ◌∙◌, append_assoc, arith, Option, replicate, unwrap_or, eq-eqb, append-nil}, specs.List.{flat_map, AllByRecursion}, proofs.lemmas.List.{length-replicate, length-map}}
+use Rattle.dcsctp_tlv.{specs.Frame.{padding_size, Item, item_bytes, PaddingRule, are_zeros, zero_padding, full_padding, IsWhole, AreFormed}, specs.Level.{Level, ItemsMean, MeansTrees}, specs.Image.{solid, holes, zeroed, gap, Tlv, size_of, IsEncodable, image_of, list_image, list_size}, proofs.Items.{before_end, whole_before}, proofs.Images.{zeroed-append, zeroed-holes}}
 
 -- Which trees of a level read back: what each is written as means it.
 pub record ReadsBack {T : Type 0} (level : Level T) (tlv : T → Tlv) (IsGood : T

@@ -1,28 +1,7 @@
 -- The laws of a level whose items have a type in their first two bytes, by what its kinds owe.
-use Rattle.std.proofs.Common.{◌≡◌, ℕ, ◌/◌, ◌%◌, ◌+◌, ◌*◌, ◌≤◌, Bool, List, [], ◌∷◌, length, Result, refl, sym, ap, subst, ◌∙◌, arith}
-use Rattle.std.specs.Int.{w16, from_be_bytes}
-use Rattle.dcsctp_tlv.specs.Decided.{LawfulRow, IgnoresPadding}
-use Rattle.dcsctp_tlv.specs.Frame.{lenient}
-use Rattle.dcsctp_tlv.specs.Image.{solid, zeroed, size_of}
-use Rattle.dcsctp_tlv.specs.Kinds.{Kind, TreesOf, rows, Entry, format_of, parts_of, ChecksKind}
-use Rattle.dcsctp_tlv.specs.Level.{plain, map_ok}
-use Rattle.dcsctp_tlv.specs.Reading.{Answers, checking, RowAnswer, Counted, Unplaced}
-use Rattle.dcsctp_tlv.specs.declared.error.ChunkParseError.{ChunkParseError}
-use Rattle.dcsctp_tlv.specs.Table.{Content, Named, IsUnnamed}
-use Rattle.dcsctp_tlv.specs.Typed.{item_type, typed_row, typed_level}
+use Rattle.std.{proofs.Common.{◌≡◌, ℕ, ◌/◌, ◌%◌, ◌+◌, ◌*◌, ◌≤◌, Bool, List, [], ◌∷◌, length, Result, refl, sym, ap, subst, ◌∙◌, arith}, specs.Int.{w16, from_be_bytes}}
+use Rattle.dcsctp_tlv.{specs.Decided.{LawfulRow, IgnoresPadding}, specs.Frame.{lenient}, specs.Image.{solid, zeroed, size_of}, specs.Kinds.{Kind, TreesOf, rows, Entry, format_of, parts_of, ChecksKind}, specs.Level.{plain, map_ok}, specs.Reading.{Answers, checking, RowAnswer, Counted, Unplaced}, specs.declared.error.ChunkParseError.{ChunkParseError}, specs.Table.{Content, Named, IsUnnamed}, specs.Typed.{item_type, typed_row, typed_level}, proofs.Accounts.{Accounts, plain_account}, proofs.Forms.{FormsTrees}, proofs.KindChecks.{table_finds, finds_tested, all_single}, proofs.KindLaws.{of_map_ok}, proofs.Laws.{Lawful, plain_lawful}, proofs.Lenient.{Loosens}, proofs.Owed.{AllOwed, AllFound, AreAtFixed, Sound, all_lawful, all_at_front, all_sound}, proofs.ParameterKinds.{type_back, unknown_keeps, unknown_forms}, proofs.Places.{AtFront}, proofs.ReadsBack.{zeroed-solid}, proofs.Tables.{of_table, of_others}, proofs.Unpadded.{ok_unpadded, list_unpadded}}
 use Rattle.dcsctp_tlv.specs.UnknownParameter as unknown
-use Rattle.dcsctp_tlv.proofs.Accounts.{Accounts, plain_account}
-use Rattle.dcsctp_tlv.proofs.Forms.{FormsTrees}
-use Rattle.dcsctp_tlv.proofs.KindChecks.{table_finds, finds_tested, all_single}
-use Rattle.dcsctp_tlv.proofs.KindLaws.{of_map_ok}
-use Rattle.dcsctp_tlv.proofs.Laws.{Lawful, plain_lawful}
-use Rattle.dcsctp_tlv.proofs.Lenient.{Loosens}
-use Rattle.dcsctp_tlv.proofs.Owed.{AllOwed, AllFound, AreAtFixed, Sound, all_lawful, all_at_front, all_sound}
-use Rattle.dcsctp_tlv.proofs.ParameterKinds.{type_back, unknown_keeps, unknown_forms}
-use Rattle.dcsctp_tlv.proofs.Places.{AtFront}
-use Rattle.dcsctp_tlv.proofs.ReadsBack.{zeroed-solid}
-use Rattle.dcsctp_tlv.proofs.Tables.{of_table, of_others}
-use Rattle.dcsctp_tlv.proofs.Unpadded.{ok_unpadded, list_unpadded}
 
 -- What is shown of a level's kinds and of its trees; `tree` is that of a type that isn't named.
 pub record TypedFacts {T : Type 0} (kinds : List Kind) (trees : TreesOf kinds T) (of : T → Entry T)

@@ -1,10 +1,6 @@
 -- What holds of each row of a table holds of the row that a type has.
-use Rattle.std.proofs.Common.{ℕ, List, [], ◌∷◌, sym, subst}
-use Rattle.std.specs.Prelude.{◌==◌}
-use Rattle.std.proofs.lemmas.Bool.{eqb-true, eqb-false, ne_eqb}
-use Rattle.dcsctp_tlv.specs.Level.{Row}
-use Rattle.dcsctp_tlv.specs.Table.{Named, row_of, IsUnnamed}
-use Rattle.dcsctp_tlv.proofs.Forms.{picked}
+use Rattle.std.proofs.{Common.{ℕ, List, [], ◌∷◌, sym, subst, ◌==◌, eqb-true, ne_eqb}, lemmas.Bool.{eqb-false}}
+use Rattle.dcsctp_tlv.{specs.Level.{Row}, specs.Table.{Named, row_of, IsUnnamed}, proofs.Forms.{picked}}
 
 -- each named row keeps a law at its type
 abbrev pub EachNamed : {T : Type 0} → (ℕ → Row T → Type 0) → List (Named T) → Type 0

@@ -1,8 +1,6 @@
 -- Printed lists, item by item.
-use Rattle.std.proofs.Common.{◌≡◌, ℕ, suc, zero, ◌+◌, ◌<◌, List, [], ◌∷◌, ◌++◌, length, get_or, take, refl, sym, ap, ◌∙◌, append_assoc, arith, map}
-use Rattle.std.proofs.lemmas.List.{map_push}
-use Rattle.dcsctp_tlv.proofs.Images.{take_next}
-use Rattle.dcsctp_tlv.specs.Text.{joined}
+use Rattle.std.proofs.{Common.{◌≡◌, ℕ, suc, zero, ◌+◌, ◌<◌, List, [], ◌∷◌, ◌++◌, length, get_or, take, refl, sym, ap, ◌∙◌, append_assoc, arith, map}, lemmas.List.{map_push}}
+use Rattle.dcsctp_tlv.{proofs.Images.{take_next}, specs.Text.{joined}}
 
 joined-push : (separator : List ℕ) (u : List ℕ) (ts : List (List ℕ)) (t : List ℕ)
     → joined separator ((u ∷ ts) ++ t ∷ []) ≡ joined separator (u ∷ ts) ++ (separator ++ t)

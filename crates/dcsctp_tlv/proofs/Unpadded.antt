@@ -1,8 +1,6 @@
 -- No fault is that of padding, where the rule accepts all padding and no row has such a fault.
 use Rattle.std.proofs.Common.{◌≡◌, ℕ, Bool, true, false, cond, List, drop, sym, ap, subst, ◌∙◌, inl, inr, Result, Ok, Err}
-use Rattle.dcsctp_tlv.specs.Fault.{Fault, Length, Padding, Value}
-use Rattle.dcsctp_tlv.specs.Level.{Row, Level, plain, map_ok, listed, HasFault, BeginsWithFault, no_frame, value, padding}
-use Rattle.dcsctp_tlv.specs.Decided.{IgnoresPadding}
+use Rattle.dcsctp_tlv.specs.{Fault.{Fault, Length, Padding, Value}, Level.{Row, Level, plain, map_ok, listed, HasFault, BeginsWithFault, no_frame, value, padding}, Decided.{IgnoresPadding}}
 
 abbrev pub Unpadded : {T : Type 0} → Row T → Type 0
 Unpadded row = (v : List ℕ) (n : ℕ) → ¬ row.faults v (Padding, n)

@@ -1,8 +1,7 @@
 -- Add Incoming Streams Request (RFC 6525 section 4.6): type 18.
 use Rattle.std.specs.Prelude.{ℕ, List, codes}
-use Rattle.dcsctp_tlv.specs.Kind.{Format, Kind, plain_kind, Fixed}
+use Rattle.dcsctp_tlv.specs.{Kind.{Format, Kind, plain_kind, Fixed}, declared.parameter.add_incoming_streams_request_parameter.AddIncomingStreamsRequestParameter.{AddIncomingStreamsRequestParameter}}
 use Rattle.dcsctp_tlv.specs.AddStreamsRequest as request
-use Rattle.dcsctp_tlv.specs.declared.parameter.add_incoming_streams_request_parameter.AddIncomingStreamsRequestParameter.{AddIncomingStreamsRequestParameter}
 
 -- in print
 abbrev pub name : List ℕ

@@ -1,8 +1,7 @@
 -- Add Outgoing Streams Request (RFC 6525 section 4.5): type 17.
 use Rattle.std.specs.Prelude.{ℕ, List, codes}
-use Rattle.dcsctp_tlv.specs.Kind.{Format, Kind, plain_kind, Fixed}
+use Rattle.dcsctp_tlv.specs.{Kind.{Format, Kind, plain_kind, Fixed}, declared.parameter.add_outgoing_streams_request_parameter.AddOutgoingStreamsRequestParameter.{AddOutgoingStreamsRequestParameter}}
 use Rattle.dcsctp_tlv.specs.AddStreamsRequest as request
-use Rattle.dcsctp_tlv.specs.declared.parameter.add_outgoing_streams_request_parameter.AddOutgoingStreamsRequestParameter.{AddOutgoingStreamsRequestParameter}
 
 -- in print
 abbrev pub name : List ℕ

@@ -1,9 +1,7 @@
 -- What both requests for more streams hold (RFC 6525 sections 4.5 and 4.6): the value is the
 -- request number, four bytes; how many streams are to be added, two bytes; and two reserved bytes,
 -- which are ignored, and written as zeros.
-use Rattle.std.specs.Prelude.{ℕ, ◌<◌, ◌^◌, List, [], ◌∷◌, ◌++◌, ◌==◌, Result, Ok, Err, if◌then◌else◌, length, drop, codes, refl}
-use Rattle.std.specs.Fmt.{decimal}
-use Rattle.std.specs.Int.{w16, w32, to_be_bytes}
+use Rattle.std.specs.{Prelude.{ℕ, ◌<◌, ◌^◌, List, [], ◌∷◌, ◌++◌, ◌==◌, Result, Ok, Err, if◌then◌else◌, length, drop, codes, refl}, Fmt.{decimal}, Int.{w16, w32, to_be_bytes}}
 use Rattle.dcsctp_tlv.specs.Kind.{Fault, Length, number16, number32, Format, sized_tlv}
 
 pub record Tree : Type 0 where

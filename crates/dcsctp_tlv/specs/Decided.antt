@@ -1,9 +1,6 @@
 -- That what a list of bytes means is decided: by the bytes alone, and always.
 use Rattle.std.specs.Prelude.{◌≡◌, ◌⊎◌, ℕ, List}
-use Rattle.dcsctp_tlv.specs.Fault.{Fault, Padding}
-use Rattle.dcsctp_tlv.specs.Number.{AreBytes}
-use Rattle.dcsctp_tlv.specs.Frame.{Item, PaddingRule, AreItems}
-use Rattle.dcsctp_tlv.specs.Level.{Row, Level, MeansTrees, HasFault}
+use Rattle.dcsctp_tlv.specs.{Fault.{Fault, Padding}, Number.{AreBytes}, Frame.{Item, PaddingRule, AreItems}, Level.{Row, Level, MeansTrees, HasFault}}
 
 -- a list of bytes is split into items in one way, or not at all
 abbrev pub SplitsOneWay : PaddingRule → Type 0

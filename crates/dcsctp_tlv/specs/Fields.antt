@@ -1,11 +1,7 @@
 -- Fields of one size in a row, as gap ack blocks and TSNs (RFC 9260 section 3.3.4), stream ids
 -- (RFC 6525 section 4) or skipped streams (RFC 3758 section 3.2) lie in a value.
-use Rattle.std.specs.Prelude.{ℕ, ◌+◌, ◌*◌, ◌/◌, ◌%◌, List, ◌++◌, length, drop, map}
-use Rattle.std.specs.Int.{w32}
-use Rattle.std.specs.List.{flat_map, range_with_len}
-use Rattle.dcsctp_tlv.specs.Format.{flagged_tlv}
-use Rattle.dcsctp_tlv.specs.Image.{Tlv}
-use Rattle.dcsctp_tlv.specs.Number.{numbers}
+use Rattle.std.specs.{Prelude.{ℕ, ◌+◌, ◌*◌, ◌/◌, ◌%◌, List, ◌++◌, length, drop, map}, Int.{w32}, List.{flat_map, range_with_len}}
+use Rattle.dcsctp_tlv.specs.{Format.{flagged_tlv}, Image.{Tlv}, Number.{numbers}}
 use Rattle.dcsctp_types.specs.declared.api.stream_id.StreamId.{StreamId}
 
 -- `count` fields of a size: field i is read where i such fields end

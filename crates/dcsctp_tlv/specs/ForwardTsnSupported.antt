@@ -1,7 +1,6 @@
 -- Forward-TSN-Supported (RFC 3758 section 3.1): type 0xC000, an empty value.
 use Rattle.std.specs.Prelude.{ℕ, List, [], ◌==◌, Result, Ok, Err, if◌then◌else◌, length, codes, refl}
-use Rattle.dcsctp_tlv.specs.Kind.{Fault, Length, Format, sized_tlv, Kind, plain_kind, Fixed}
-use Rattle.dcsctp_tlv.specs.declared.parameter.forward_tsn_supported_parameter.ForwardTsnSupportedParameter.{ForwardTsnSupportedParameter}
+use Rattle.dcsctp_tlv.specs.{Kind.{Fault, Length, Format, sized_tlv, Kind, plain_kind, Fixed}, declared.parameter.forward_tsn_supported_parameter.ForwardTsnSupportedParameter.{ForwardTsnSupportedParameter}}
 
 unfoldable pub read : List ℕ → Result (Unit {0}) Fault
 read value = if length value == 0 then Ok tt else Err Length

@@ -5,9 +5,7 @@
 --
 -- For a chunk the first two bytes are its type and its flags; for a parameter or a cause they
 -- are its type. The length counts these four bytes and the value, and leaves out the padding.
-use Rattle.std.specs.Prelude.{◌≡◌, ℕ, ◌+◌, ◌-◌, ◌*◌, ◌/◌, ◌%◌, ◌≤◌, ◌<◌, ◌^◌, ◌==◌, Bool, true, false, ◌&&◌, if◌then◌else◌, List, [], ◌∷◌, ◌++◌, length, take, drop}
-use Rattle.std.specs.List.{flat_map, list_all, prefix_len}
-use Rattle.std.specs.Int.{w16, to_be_bytes}
+use Rattle.std.specs.{Prelude.{◌≡◌, ℕ, ◌+◌, ◌-◌, ◌*◌, ◌/◌, ◌%◌, ◌≤◌, ◌<◌, ◌^◌, ◌==◌, Bool, true, false, ◌&&◌, if◌then◌else◌, List, [], ◌∷◌, ◌++◌, length, take, drop}, List.{flat_map, list_all, prefix_len}, Int.{w16, to_be_bytes}}
 use Rattle.dcsctp_tlv.specs.Number.{number16}
 
 -- the least multiple of 4 not below n

@@ -1,8 +1,6 @@
 -- Heartbeat Info (RFC 9260 section 3.3.5): type 1; the value is the info, any bytes.
-use Rattle.std.specs.Prelude.{ℕ, List, ◌++◌, Result, Ok, length, codes}
-use Rattle.std.specs.Fmt.{decimal}
-use Rattle.dcsctp_tlv.specs.Kind.{Fault, AreBytes, Format, sized_tlv, length-solid, Kind, plain_kind, Varied}
-use Rattle.dcsctp_tlv.specs.declared.parameter.heartbeat_info_parameter.HeartbeatInfoParameter.{HeartbeatInfoParameter}
+use Rattle.std.specs.{Prelude.{ℕ, List, ◌++◌, Result, Ok, length, codes}, Fmt.{decimal}}
+use Rattle.dcsctp_tlv.specs.{Kind.{Fault, AreBytes, Format, sized_tlv, length-solid, Kind, plain_kind, Varied}, declared.parameter.heartbeat_info_parameter.HeartbeatInfoParameter.{HeartbeatInfoParameter}}
 
 unfoldable pub read : List ℕ → Result (List ℕ) Fault
 read value = Ok value

@@ -1,11 +1,7 @@
 -- Incoming SSN Reset Request (RFC 6525 section 4.2): type 14; the value is the request number, four
 -- bytes, and then stream ids, two bytes each.
-use Rattle.std.specs.Prelude.{ℕ, ◌+◌, ◌-◌, ◌*◌, ◌/◌, ◌<◌, ◌^◌, List, [], ◌∷◌, ◌++◌, ◌==◌, Result, Ok, Err, if◌then◌else◌, length, drop, codes, refl}
-use Rattle.std.specs.Fmt.{decimal}
-use Rattle.std.specs.List.{AllByRecursion}
-use Rattle.std.specs.Int.{w16, w32}
-use Rattle.dcsctp_tlv.specs.Kind.{Fault, Length, fields, stream_numbers, number16, number32, numbers, Format, sized_tlv, length-words, Kind, plain_kind, Varied}
-use Rattle.dcsctp_tlv.specs.declared.parameter.incoming_ssn_reset_request_parameter.IncomingSsnResetRequestParameter.{IncomingSsnResetRequestParameter}
+use Rattle.std.specs.{Prelude.{ℕ, ◌+◌, ◌-◌, ◌*◌, ◌/◌, ◌<◌, ◌^◌, List, [], ◌∷◌, ◌++◌, ◌==◌, Result, Ok, Err, if◌then◌else◌, length, drop, codes, refl}, Fmt.{decimal}, List.{AllByRecursion}, Int.{w16, w32}}
+use Rattle.dcsctp_tlv.specs.{Kind.{Fault, Length, fields, stream_numbers, number16, number32, numbers, Format, sized_tlv, length-words, Kind, plain_kind, Varied}, declared.parameter.incoming_ssn_reset_request_parameter.IncomingSsnResetRequestParameter.{IncomingSsnResetRequestParameter}}
 
 pub record Tree : Type 0 where
   pub request : ℕ

@@ -1,12 +1,7 @@
--- A kind of chunk (RFC 9260 section 3.2): all that the tables say of it, in one record.
-use Rattle.std.specs.Prelude.{ℕ, Bool, List, [], ◌∷◌, ◌==◌, Result, IsOk}
-use Rattle.std.proofs.Common.{cond}
-use Rattle.dcsctp_tlv.specs.declared.error.ChunkParseError.{ChunkParseError}
-use Rattle.dcsctp_tlv.specs.Fault.{Fault}
-use Rattle.dcsctp_tlv.specs.Format.{Format}
-use Rattle.dcsctp_tlv.specs.Level.{Row, plain, as_row, map_ok}
-use Rattle.dcsctp_tlv.specs.Reading.{Exactly, checking, Tested}
-use Rattle.dcsctp_tlv.specs.Table.{Named, Content}
+-- A kind of chunk, of parameter or of error cause (RFC 9260 sections 3.2, 3.2.1 and 3.3.10): all that
+-- the tables say of it, in one record.
+use Rattle.std.proofs.Common.{ℕ, Bool, List, [], ◌∷◌, ◌==◌, Result, IsOk, cond}
+use Rattle.dcsctp_tlv.specs.{declared.error.ChunkParseError.{ChunkParseError}, Fault.{Fault}, Format.{Format}, Level.{Row, plain, as_row, map_ok}, Reading.{Exactly, checking, Tested}, Table.{Named, Content}}
 
 -- How a value is read, under the flags: at fixed places; or by a row, where a list is in it.
 pub data Reader (X : Type 0) : Type 1 where

@@ -1,13 +1,7 @@
 -- A value has the size that is counted: the lemmas that formats cite for this. They are here and
 -- not in proofs/, which a definition of the same crate can't cite; none of them has to be believed.
-use Rattle.std.specs.Prelude.{◌≡◌, ℕ, ◌+◌, ◌*◌, List, [], ◌∷◌, ◌++◌, Some, length}
-use Rattle.std.specs.Int.{Width, w32, to_be_bytes}
-use Rattle.std.specs.List.{flat_map}
-use Rattle.std.proofs.Common.{refl, sym, ap, ◌∙◌}
-use Rattle.std.proofs.Math.Nat.{mul-zero, mul-suc, add_comm}
-use Rattle.std.proofs.lemmas.List.{length-append, length-map}
-use Rattle.dcsctp_tlv.specs.Image.{solid}
-use Rattle.dcsctp_tlv.specs.Number.{numbers}
+use Rattle.std.{proofs.Common.{◌≡◌, ℕ, ◌+◌, ◌*◌, List, [], ◌∷◌, ◌++◌, Some, length, refl, sym, ap, ◌∙◌, length-append}, specs.Int.{Width, w32, to_be_bytes}, specs.List.{flat_map}, proofs.Math.Nat.{mul-zero, mul-suc, add_comm}, proofs.lemmas.List.{length-map}}
+use Rattle.dcsctp_tlv.specs.{Image.{solid}, Number.{numbers}}
 
 pub length-solid : (bytes : List ℕ) → length (solid bytes) ≡ length bytes
 length-solid bytes = length-map bytes Some

@@ -4,10 +4,8 @@
 -- A level is a table with a row for each kind of item, and a rule for the padding. From these
 -- follow, for every level alike: which trees a list of bytes means, and which fault it has, and
 -- where.
-use Rattle.std.specs.Prelude.{◌≡◌, ◌≢◌, ℕ, ◌+◌, Bool, true, false, List, [], ◌∷◌, ◌++◌, Result, Ok, Err, ◌⊎◌, slice_index, length, drop}
-use Rattle.std.specs.List.{flat_map, AllByRecursion}
-use Rattle.dcsctp_tlv.specs.Fault.{Fault, Length, Padding}
-use Rattle.dcsctp_tlv.specs.Frame.{Item, item_bytes, PaddingRule, IsWhole, AreItems, BeginsWithFrame, frame_length, frame_value, frame_padding, padding_size, first_nonzero}
+use Rattle.std.specs.{Prelude.{◌≡◌, ◌≢◌, ℕ, ◌+◌, Bool, true, false, List, [], ◌∷◌, ◌++◌, Result, Ok, Err, ◌⊎◌, slice_index, length, drop}, List.{flat_map, AllByRecursion}}
+use Rattle.dcsctp_tlv.specs.{Fault.{Fault, Length, Padding}, Frame.{Item, item_bytes, PaddingRule, IsWhole, AreItems, BeginsWithFrame, frame_length, frame_value, frame_padding, padding_size, first_nonzero}}
 
 -- ---- rows
 
@@ -99,7 +97,7 @@ pub data BeginsWithFault {T : Type 0} (level : Level T) (rest : List ℕ) (f : F
       → f ≡ (Padding, frame_length rest + first_nonzero (frame_padding rest))
       → BeginsWithFault level rest f
 
--- the same fault, so many bytes further on
+-- the same fault, n bytes further on
 abbrev pub further : ℕ → Fault × ℕ → Fault × ℕ
 further n f = (f.0, n + f.1)
 

@@ -1,7 +1,5 @@
 -- Numbers on the wire: bytes, most significant first (RFC 9260 section 3).
-use Rattle.std.specs.Prelude.{ℕ, ◌<◌, List, take, slice_index}
-use Rattle.std.specs.List.{flat_map}
-use Rattle.std.specs.Int.{Width, w16, w32, w64, byte_len, from_be_bytes, to_be_bytes}
+use Rattle.std.specs.{Prelude.{ℕ, ◌<◌, List, take, slice_index}, List.{flat_map}, Int.{Width, w16, w32, w64, byte_len, from_be_bytes, to_be_bytes}}
 
 -- each element is a byte
 abbrev pub AreBytes : List ℕ → Type 0

@@ -1,12 +1,8 @@
 -- Outgoing SSN Reset Request (RFC 6525 section 4.1): type 13; the value is the request number, the
 -- response number and the sender's last assigned TSN, four bytes each, and then stream ids, two
 -- bytes each.
-use Rattle.std.specs.Prelude.{ℕ, ◌+◌, ◌-◌, ◌*◌, ◌/◌, ◌<◌, ◌^◌, List, [], ◌∷◌, ◌++◌, ◌==◌, Result, Ok, Err, if◌then◌else◌, length, drop, codes, refl}
-use Rattle.std.specs.Fmt.{decimal}
-use Rattle.std.specs.List.{AllByRecursion}
-use Rattle.std.specs.Int.{w16, w32}
-use Rattle.dcsctp_tlv.specs.Kind.{Fault, Length, fields, stream_numbers, number16, number32, numbers, Format, sized_tlv, length-words, Kind, plain_kind, Varied}
-use Rattle.dcsctp_tlv.specs.declared.parameter.outgoing_ssn_reset_request_parameter.OutgoingSsnResetRequestParameter.{OutgoingSsnResetRequestParameter}
+use Rattle.std.specs.{Prelude.{ℕ, ◌+◌, ◌-◌, ◌*◌, ◌/◌, ◌<◌, ◌^◌, List, [], ◌∷◌, ◌++◌, ◌==◌, Result, Ok, Err, if◌then◌else◌, length, drop, codes, refl}, Fmt.{decimal}, List.{AllByRecursion}, Int.{w16, w32}}
+use Rattle.dcsctp_tlv.specs.{Kind.{Fault, Length, fields, stream_numbers, number16, number32, numbers, Format, sized_tlv, length-words, Kind, plain_kind, Varied}, declared.parameter.outgoing_ssn_reset_request_parameter.OutgoingSsnResetRequestParameter.{OutgoingSsnResetRequestParameter}}
 
 pub record Tree : Type 0 where
   pub request : ℕ

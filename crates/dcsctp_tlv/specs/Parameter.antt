@@ -1,15 +1,8 @@
 -- The table of parameters (RFC 9260 section 3.2.1).
 use Rattle.std.specs.Prelude.{◌≡◌, ℕ, Bool, List, [], ◌∷◌, map, vec_len, vec_capacity}
-use Rattle.dcsctp_tlv.specs.Frame.{lenient}
-use Rattle.dcsctp_tlv.specs.Image.{Tlv}
-use Rattle.dcsctp_tlv.specs.Level.{Row, Level}
-use Rattle.dcsctp_tlv.specs.Table.{Named, IsUnnamed, is_fixed, types_where, IsOneOf, ◌&◌}
-use Rattle.dcsctp_tlv.specs.Format.{Format}
-use Rattle.dcsctp_tlv.specs.Kinds.{Kind, TreesOf, rows, Entry, Of, Unnamed, format_of, kept_of}
-use Rattle.dcsctp_tlv.specs.Typed.{typed_row, typed_level}
+use Rattle.dcsctp_tlv.specs.{Frame.{lenient}, Image.{Tlv}, Level.{Row, Level}, Table.{Named, IsUnnamed, is_fixed, types_where, IsOneOf, ◌&◌}, Format.{Format}, Kinds.{Kind, TreesOf, rows, Entry, Of, Unnamed, format_of, kept_of}, Typed.{typed_row, typed_level}, declared.parameter.Parameter.{Parameter}}
 use Rattle.dcsctp_tlv.specs as kind
 use Rattle.dcsctp_tlv.specs.UnknownParameter as unknown
-use Rattle.dcsctp_tlv.specs.declared.parameter.Parameter.{Parameter}
 use Rattle.dcsctp_tlv.specs.declared.parameter.Parameter.TheVariants as variant
 
 -- a parameter as plain data

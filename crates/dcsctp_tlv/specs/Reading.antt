@@ -4,13 +4,7 @@
 -- The grammar's answer is what `Result` has two cases for: a tree that the bytes mean, or a fault
 -- that they have. Two notions relate a call's result to it: `Answers` and `Exactly`.
 use Rattle.std.specs.Prelude.{◌≡◌, ◌↔◌, ◌⊎◌, ℕ, List, Result, Ok, Err, IsOk, IsErrOf, MatchResult, ◌+◌, drop, length}
-use Rattle.dcsctp_tlv.specs.declared.error.ChunkParseError.{ChunkParseError}
-use Rattle.dcsctp_tlv.specs.declared.error.LocatedFault.{LocatedFault}
-use Rattle.dcsctp_tlv.specs.declared.reader.Counts.{Counts}
-use Rattle.dcsctp_tlv.specs.declared.error.ChunkParseError.TheVariants.{InvalidLength, InvalidPadding, InvalidValue, OutOfMemory}
-use Rattle.dcsctp_tlv.specs.Level.{Row, Level, MeansTrees, MeansMany, HasFault, HasListFault}
-use Rattle.dcsctp_tlv.specs.Count.{total}
-use Rattle.dcsctp_tlv.specs.Fault.{Fault, Length, Padding, Value}
+use Rattle.dcsctp_tlv.specs.{declared.error.ChunkParseError.{ChunkParseError}, declared.error.LocatedFault.{LocatedFault}, declared.reader.Counts.{Counts}, declared.error.ChunkParseError.TheVariants.{InvalidLength, InvalidPadding, InvalidValue, OutOfMemory}, Level.{Row, Level, MeansTrees, MeansMany, HasFault, HasListFault}, Count.{total}, Fault.{Fault, Length, Padding, Value}}
 
 -- ---- what a call answers
 

@@ -1,14 +1,8 @@
 -- Re-configuration Response (RFC 6525 section 4.4): type 16; the value is the response number and
 -- the result, four bytes each, and then both next TSNs, four bytes each, or neither.
-use Rattle.std.specs.Prelude.{ℕ, ◌+◌, ◌*◌, ◌<◌, ◌^◌, ◌↔◌, List, [], ◌∷◌, ◌++◌, ◌==◌, Option, Some, None, IsSome, IfSome, option_map, Result, Ok, Err, if◌then◌else◌, length, drop, codes, refl}
-use Rattle.std.specs.Fmt.{decimal}
-use Rattle.std.specs.Int.{w32}
+use Rattle.std.specs.{Prelude.{ℕ, ◌+◌, ◌*◌, ◌<◌, ◌^◌, ◌↔◌, List, [], ◌∷◌, ◌++◌, ◌==◌, Option, Some, None, IsSome, IfSome, option_map, Result, Ok, Err, if◌then◌else◌, length, drop, codes, refl}, Fmt.{decimal}, Int.{w32}}
 use Rattle.dcsctp_types.specs.declared.types.tsn.Tsn.{Tsn}
-use Rattle.dcsctp_tlv.specs.Level.{map_ok}
-use Rattle.dcsctp_tlv.specs.Kind.{Fault, Length, Value, number32, numbers, Format, sized_tlv, length-words, Kind, kept_kind, Fixed}
-use Rattle.dcsctp_tlv.specs.declared.parameter.reconfiguration_response_parameter.ReconfigurationResponseResult.{ReconfigurationResponseResult}
-use Rattle.dcsctp_tlv.specs.declared.parameter.reconfiguration_response_parameter.ReconfigurationResponseResult.TheVariants.{SuccessNothingToDo, SuccessPerformed, Denied, ErrorWrongSSN, ErrorRequestAlreadyInProgress, ErrorBadSequenceNumber, InProgress}
-use Rattle.dcsctp_tlv.specs.declared.parameter.reconfiguration_response_parameter.ReconfigurationResponseParameter.{ReconfigurationResponseParameter}
+use Rattle.dcsctp_tlv.specs.{Level.{map_ok}, Kind.{Fault, Length, Value, number32, numbers, Format, sized_tlv, length-words, Kind, kept_kind, Fixed}, declared.parameter.reconfiguration_response_parameter.ReconfigurationResponseResult.{ReconfigurationResponseResult}, declared.parameter.reconfiguration_response_parameter.ReconfigurationResponseResult.TheVariants.{SuccessNothingToDo, SuccessPerformed, Denied, ErrorWrongSSN, ErrorRequestAlreadyInProgress, ErrorBadSequenceNumber, InProgress}, declared.parameter.reconfiguration_response_parameter.ReconfigurationResponseParameter.{ReconfigurationResponseParameter}}
 
 pub record Tree : Type 0 where
   pub response : ℕ

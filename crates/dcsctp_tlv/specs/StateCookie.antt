@@ -1,8 +1,6 @@
 -- State Cookie (RFC 9260 section 3.3.3.1.1): type 7; the value is the cookie, any bytes.
-use Rattle.std.specs.Prelude.{ℕ, List, ◌++◌, Result, Ok, length, codes}
-use Rattle.std.specs.Fmt.{decimal}
-use Rattle.dcsctp_tlv.specs.Kind.{Fault, AreBytes, Format, sized_tlv, length-solid, Kind, plain_kind, Varied}
-use Rattle.dcsctp_tlv.specs.declared.parameter.state_cookie_parameter.StateCookieParameter.{StateCookieParameter}
+use Rattle.std.specs.{Prelude.{ℕ, List, ◌++◌, Result, Ok, length, codes}, Fmt.{decimal}}
+use Rattle.dcsctp_tlv.specs.{Kind.{Fault, AreBytes, Format, sized_tlv, length-solid, Kind, plain_kind, Varied}, declared.parameter.state_cookie_parameter.StateCookieParameter.{StateCookieParameter}}
 
 unfoldable pub read : List ℕ → Result (List ℕ) Fault
 read value = Ok value

@@ -1,9 +1,7 @@
 -- Supported Extensions (RFC 5061 section 4.2.7): type 0x8008; the value is a list of chunk types,
 -- one byte each.
-use Rattle.std.specs.Prelude.{ℕ, List, ◌++◌, Result, Ok, length, map, codes}
-use Rattle.std.specs.Fmt.{decimal}
-use Rattle.dcsctp_tlv.specs.Kind.{Fault, AreBytes, joined, Format, sized_tlv, length-solid, Kind, plain_kind, Varied}
-use Rattle.dcsctp_tlv.specs.declared.parameter.supported_extensions_parameter.SupportedExtensionsParameter.{SupportedExtensionsParameter}
+use Rattle.std.specs.{Prelude.{ℕ, List, ◌++◌, Result, Ok, length, map, codes}, Fmt.{decimal}}
+use Rattle.dcsctp_tlv.specs.{Kind.{Fault, AreBytes, joined, Format, sized_tlv, length-solid, Kind, plain_kind, Varied}, declared.parameter.supported_extensions_parameter.SupportedExtensionsParameter.{SupportedExtensionsParameter}}
 
 unfoldable pub read : List ℕ → Result (List ℕ) Fault
 read value = Ok value

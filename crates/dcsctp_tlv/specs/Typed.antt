@@ -1,10 +1,7 @@
 -- A level whose items have a type in their first two bytes: parameters (RFC 9260 section 3.2.1) and
 -- error causes (section 3.3.10).
-use Rattle.std.specs.Prelude.{ℕ, Bool, List, [], ◌∷◌}
-use Rattle.std.specs.Int.{w16, from_be_bytes}
-use Rattle.dcsctp_tlv.specs.Frame.{Item, zero_padding}
-use Rattle.dcsctp_tlv.specs.Level.{Row, Level, plain, map_ok}
-use Rattle.dcsctp_tlv.specs.Table.{Named, row_of}
+use Rattle.std.specs.{Prelude.{ℕ, Bool, List, [], ◌∷◌}, Int.{w16, from_be_bytes}}
+use Rattle.dcsctp_tlv.specs.{Frame.{Item, zero_padding}, Level.{Row, Level, plain, map_ok}, Table.{Named, row_of}}
 use Rattle.dcsctp_tlv.specs.UnknownParameter as unknown
 
 -- the type of an item

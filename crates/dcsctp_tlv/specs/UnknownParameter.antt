@@ -1,9 +1,7 @@
 -- A parameter or an error cause of a type that isn't named: kept as it is, with its type (RFC 9260
 -- sections 3.2.1 and 3.3.10).
-use Rattle.std.specs.Prelude.{ℕ, ◌<◌, ◌^◌, List, ◌++◌, Result, Ok, length, codes}
-use Rattle.std.specs.Fmt.{decimal}
-use Rattle.dcsctp_tlv.specs.Kind.{Fault, AreBytes, Format, sized_tlv, length-solid}
-use Rattle.dcsctp_tlv.specs.declared.parameter.unknown_parameter.UnknownParameter.{UnknownParameter}
+use Rattle.std.specs.{Prelude.{ℕ, ◌<◌, ◌^◌, List, ◌++◌, Result, Ok, length, codes}, Fmt.{decimal}}
+use Rattle.dcsctp_tlv.specs.{Kind.{Fault, AreBytes, Format, sized_tlv, length-solid}, declared.parameter.unknown_parameter.UnknownParameter.{UnknownParameter}}
 
 pub record Tree : Type 0 where
   pub typ : ℕ

@@ -1,10 +1,7 @@
 -- Zero Checksum Acceptable (RFC 9653 section 4): type 0x8001; the value is the method's identifier,
 -- four bytes.
-use Rattle.std.specs.Prelude.{ℕ, ◌<◌, ◌^◌, List, ◌++◌, ◌==◌, Result, Ok, Err, if◌then◌else◌, length, codes, refl}
-use Rattle.std.specs.Fmt.{decimal}
-use Rattle.std.specs.Int.{w32, to_be_bytes}
-use Rattle.dcsctp_tlv.specs.Kind.{Fault, Length, number32, Format, sized_tlv, Kind, plain_kind, Fixed}
-use Rattle.dcsctp_tlv.specs.declared.parameter.zero_checksum_acceptable_parameter.ZeroChecksumAcceptableParameter.{ZeroChecksumAcceptableParameter}
+use Rattle.std.specs.{Prelude.{ℕ, ◌<◌, ◌^◌, List, ◌++◌, ◌==◌, Result, Ok, Err, if◌then◌else◌, length, codes, refl}, Fmt.{decimal}, Int.{w32, to_be_bytes}}
+use Rattle.dcsctp_tlv.specs.{Kind.{Fault, Length, number32, Format, sized_tlv, Kind, plain_kind, Fixed}, declared.parameter.zero_checksum_acceptable_parameter.ZeroChecksumAcceptableParameter.{ZeroChecksumAcceptableParameter}}
 
 unfoldable pub read : List ℕ → Result ℕ Fault
 read value = if length value == 4 then Ok (number32 value) else Err Length

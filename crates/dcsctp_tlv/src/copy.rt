@@ -1,7 +1,6 @@
 //! Copies that have no room to spare.
 
-ghost use Rattle.std.specs.Prelude.{◌≡◌, IfOk, replicate, vec_len, vec_capacity, length, ◌≤◌};
-ghost use Rattle.std.specs.String.{string_bytes, string_len, string_capacity};
+ghost use Rattle.std.specs.{Prelude.{◌≡◌, IfOk, replicate, vec_len, vec_capacity, length, ◌≤◌}, String.{string_bytes, string_len, string_capacity}};
 
 use std::alloc::{AllocError, Global};
 

@@ -1,11 +1,7 @@
 //! Fields of one size in a row: stream ids, and whatever else a value lists.
 
-ghost use Rattle.std.specs.Prelude.{◌≡◌, ◌≤◌, ◌+◌, ◌*◌, ◌++◌, ℕ, List, All, IfOk, length, drop, map, vec_capacity, refl, vec_len};
-ghost use Rattle.std.specs.Int.{w16, w32, to_be_bytes};
-ghost use Rattle.std.specs.List.{flat_map};
-ghost use Rattle.dcsctp_tlv.specs.Fields.{fields, numbers_and_fields_tlv, fields_tlv};
-ghost use Rattle.dcsctp_tlv.specs.Image.{put, IsEncodable, size_of, image_of, written};
-ghost use Rattle.dcsctp_tlv.specs.Number.{number16, number32};
+ghost use Rattle.std.specs.{Prelude.{◌≡◌, ◌≤◌, ◌+◌, ◌*◌, ◌++◌, ℕ, List, All, IfOk, length, drop, map, vec_capacity, refl, vec_len}, Int.{w16, w32, to_be_bytes}, List.{flat_map}};
+ghost use Rattle.dcsctp_tlv.specs.{Fields.{fields, numbers_and_fields_tlv, fields_tlv}, Image.{put, IsEncodable, size_of, image_of, written}, Number.{number16, number32}};
 
 use crate::frame::{TLV_HEADER_SIZE, put_header};
 use crate::number::{read_u16_be, read_u32_be, write_u16_be, write_u32_be};

@@ -1,10 +1,7 @@
 //! The frame of an item: a header of four bytes, and a value (RFC 9260 section 3.2).
 
 ghost use Rattle.std.specs.Prelude.{◌≡◌, ◌≤◌, ◌<◌, ◌+◌, ◌^◌, ◌++◌, ◌↔◌, length, drop, IsOk, IfOk, IfErr};
-ghost use Rattle.dcsctp_tlv.specs.Frame.{padding_size, are_zeros as are_zero_bytes, first_nonzero as first_nonzero_byte, header, BeginsWithFrame, frame_length, frame_value, frame_padding, frame_rest};
-ghost use Rattle.dcsctp_tlv.specs.Format.{flagged_tlv};
-ghost use Rattle.dcsctp_tlv.specs.Image.{put, solid_tlv, typed_tlv, image_of, written};
-ghost use Rattle.dcsctp_tlv.specs.declared.error.ChunkParseError.TheVariants.{InvalidLength};
+ghost use Rattle.dcsctp_tlv.specs.{Frame.{padding_size, are_zeros as are_zero_bytes, first_nonzero as first_nonzero_byte, header, BeginsWithFrame, frame_length, frame_value, frame_padding, frame_rest}, Format.{flagged_tlv}, Image.{put, solid_tlv, typed_tlv, image_of, written}, declared.error.ChunkParseError.TheVariants.{InvalidLength}};
 
 use crate::error::ChunkParseError;
 use crate::number::{read_u16_be, round_up_to_4, write_u16_be};

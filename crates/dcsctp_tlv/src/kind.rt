@@ -2,13 +2,8 @@
 //! a kind by itself, a check that does not allocate, and a build that tests nothing again.
 
 ghost use Rattle.std.specs.Prelude.{◌≤◌, ◌+◌, ◌*◌, ℕ, Bool, List, length, IsOk, IfOk, IfErr, IsErrOf};
-ghost use Rattle.dcsctp_tlv.specs.Decided.{LawfulRow};
-ghost use Rattle.dcsctp_tlv.specs.Frame.{lenient};
+ghost use Rattle.dcsctp_tlv.specs.{Decided.{LawfulRow}, Frame.{lenient}, Kinds.{own_row}, Level.{HasMeaning}, Table.{IsEmptyList}, Reading.{Answers, Exactly, reading, locating, RowAnswer, Counted, Unplaced}};
 ghost use Rattle.dcsctp_tlv.specs.Kinds as kinds;
-ghost use Rattle.dcsctp_tlv.specs.Kinds.{own_row};
-ghost use Rattle.dcsctp_tlv.specs.Level.{HasMeaning};
-ghost use Rattle.dcsctp_tlv.specs.Table.{IsEmptyList};
-ghost use Rattle.dcsctp_tlv.specs.Reading.{Answers, Exactly, reading, locating, RowAnswer, Counted, Unplaced};
 
 use crate::error::{ChunkParseError, LocatedFault};
 use std::alloc::{AllocError, Global};

@@ -2,8 +2,7 @@
 //! of 4 bytes. For parameters, error causes and chunks.
 
 ghost use Rattle.std.specs.Prelude.{◌≡◌, ◌≤◌, ◌<◌, ◌+◌, ◌^◌, ◌↔◌, length, map, IsTrue};
-ghost use Rattle.dcsctp_tlv.specs.Format.{tlv_by};
-ghost use Rattle.dcsctp_tlv.specs.Image.{written, image_of, size_of, IsEncodable, Sizes, list_image, list_size, listed_tlv, IsListEncodable};
+ghost use Rattle.dcsctp_tlv.specs.{Format.{tlv_by}, Image.{written, image_of, size_of, IsEncodable, Sizes, list_image, list_size, listed_tlv, IsListEncodable}};
 
 use crate::frame::{MAX_VALUE_SIZE, TLV_HEADER_SIZE, frame_length, put_header};
 use crate::number::round_up_to_4;

@@ -1,10 +1,7 @@
 //! Big-endian numbers (RFC 9260 section 3), and multiples of 4.
 
-ghost use Rattle.std.specs.Prelude.{◌≡◌, ◌≤◌, ◌<◌, ◌+◌, ◌%◌, ◌^◌, ◌++◌, ◌↔◌, length, drop, IsTrue};
-ghost use Rattle.std.specs.Int.{w16, w32, w64, to_be_bytes};
-ghost use Rattle.dcsctp_tlv.specs.Frame.{round_up_to_4, round_down_to_4};
-ghost use Rattle.dcsctp_tlv.specs.Image.{put};
-ghost use Rattle.dcsctp_tlv.specs.Number.{number16, number32, number64};
+ghost use Rattle.std.specs.{Prelude.{◌≡◌, ◌≤◌, ◌<◌, ◌+◌, ◌%◌, ◌^◌, ◌++◌, ◌↔◌, length, drop, IsTrue}, Int.{w16, w32, w64, to_be_bytes}};
+ghost use Rattle.dcsctp_tlv.specs.{Frame.{round_up_to_4, round_down_to_4}, Image.{put}, Number.{number16, number32, number64}};
 
 /// Returns the number in the first two bytes, big-endian.
 pub fn read_u16_be(bytes: &[u8]) -> u16

@@ -26,12 +26,8 @@ pub mod unknown_parameter;
 pub mod zero_checksum_acceptable_parameter;
 
 ghost use Rattle.std.specs.Prelude.{◌≡◌, ◌≢◌, ◌≤◌, ◌*◌, [], length, vec_len, vec_capacity, Some, IsOk, IfOk, IsErrOf, refl, All};
-ghost use Rattle.dcsctp_tlv.specs.Frame.{lenient};
-ghost use Rattle.dcsctp_tlv.specs.Kinds.{ChecksKind};
-ghost use Rattle.dcsctp_tlv.specs.Level.{HasMeaning, MeansTrees, MeansSome};
-ghost use Rattle.dcsctp_tlv.specs.Reading.{Answers, Exactly, reading, checking, RowAnswer, ListAnswer, Counted, Unplaced};
+ghost use Rattle.dcsctp_tlv.specs.{Frame.{lenient}, Kinds.{ChecksKind}, Level.{HasMeaning, MeansTrees, MeansSome}, Reading.{Answers, Exactly, reading, checking, RowAnswer, ListAnswer, Counted, Unplaced}, Parameter.{ParameterTree, parameters, TakesNoMemory, IsTight, view, views}};
 ghost use Rattle.dcsctp_tlv.specs.Parameter as parameter;
-ghost use Rattle.dcsctp_tlv.specs.Parameter.{ParameterTree, parameters, TakesNoMemory, IsTight, view, views};
 
 use crate::copy::copied;
 use crate::error::{ChunkParseError, LocatedFault};
@@ -55,10 +51,10 @@ use crate::parameter::state_cookie_parameter::StateCookieParameter;
 use crate::parameter::supported_extensions_parameter::SupportedExtensionsParameter;
 use crate::parameter::unknown_parameter::UnknownParameter;
 use crate::parameter::zero_checksum_acceptable_parameter::ZeroChecksumAcceptableParameter;
-use crate::{build_arms, check_arms, each_arms};
 use crate::reader::{ReadableTlv, list_check, list_fill_counted, list_from_bytes};
 use crate::tlv::{ListedTlv, SerializableTlv};
 use crate::widths::Widths;
+use crate::{build_arms, check_arms, each_arms};
 use std::alloc::{AllocError, Global};
 use std::fmt;
 

@@ -2,9 +2,7 @@
 //! nothing again. For every level.
 
 ghost use Rattle.std.specs.Prelude.{◌≡◌, ◌≢◌, ◌≤◌, ◌<◌, ◌+◌, ◌*◌, ℕ, Bool, List, [], length, map, IsOk, IfOk, IfErr, IsErrOf, vec_len, vec_capacity, All};
-ghost use Rattle.dcsctp_tlv.specs.Frame.{PaddingRule, lenient, Item, AreItems};
-ghost use Rattle.dcsctp_tlv.specs.Level.{Level, HasMeaning, Grows, MeansTrees, MeansSome, MeansMany};
-ghost use Rattle.dcsctp_tlv.specs.Reading.{Answers, reading, locating, ListedAnswer, ListAnswer, RowAnswer, Counted, Unplaced, counts};
+ghost use Rattle.dcsctp_tlv.specs.{Frame.{PaddingRule, lenient, Item, AreItems}, Level.{Level, HasMeaning, Grows, MeansTrees, MeansSome, MeansMany}, Reading.{Answers, reading, locating, ListedAnswer, ListAnswer, RowAnswer, Counted, Unplaced, counts}};
 
 use crate::error::{ChunkParseError, LocatedFault};
 use crate::frame::{TLV_HEADER_SIZE, frame_parts, padding_fault, padding_parts, split_frame};

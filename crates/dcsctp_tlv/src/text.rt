@@ -1,7 +1,6 @@
 //! Printing lists.
 
-ghost use Rattle.std.specs.Prelude.{◌≡◌, ℕ, List, Some, map};
-ghost use Rattle.std.specs.Fmt.{WritesOnOk};
+ghost use Rattle.std.specs.{Prelude.{◌≡◌, ℕ, List, Some, map}, Fmt.{WritesOnOk}};
 ghost use Rattle.dcsctp_tlv.specs.Text.{joined};
 
 use std::fmt;

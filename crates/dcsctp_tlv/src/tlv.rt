@@ -1,8 +1,7 @@
 //! What can be written: chunks, parameters and error causes.
 
 ghost use Rattle.std.specs.Prelude.{◌≡◌, ◌≤◌, ◌+◌, ◌↔◌, length, IsTrue};
-ghost use Rattle.dcsctp_tlv.specs.Format.{Format};
-ghost use Rattle.dcsctp_tlv.specs.Image.{Tlv, size_of, image_of, IsEncodable, Sizes, written};
+ghost use Rattle.dcsctp_tlv.specs.{Format.{Format}, Image.{Tlv, size_of, image_of, IsEncodable, Sizes, written}};
 
 /// A chunk, a parameter or an error cause that can be sized and written.
 ///

@@ -1,9 +1,7 @@
 //! Laws of widths: each number lies in its field's width, by its type. They do nothing.
 
-ghost use Rattle.std.specs.Prelude.{◌<◌, ◌^◌, ℕ, map, IfSome};
-ghost use Rattle.std.specs.List.{AllByRecursion};
-ghost use Rattle.dcsctp_tlv.specs.Number.{AreBytes};
-ghost use Rattle.dcsctp_tlv.specs.ReconfigurationResponse.{tsn_number};
+ghost use Rattle.std.specs.{Prelude.{◌<◌, ◌^◌, ℕ, map, IfSome}, List.{AllByRecursion}};
+ghost use Rattle.dcsctp_tlv.specs.{Number.{AreBytes}, ReconfigurationResponse.{tsn_number}};
 
 use dcsctp_types::api::StreamId;
 use dcsctp_types::types::Tsn;

@@ -1,8 +1,5 @@
 -- The laws of the serial order, over the size of the space.
-use Rattle.std.proofs.Common.{◌≡◌, ℕ, ◌+◌, ◌-◌, ◌/◌, ◌%◌, ◌<◌, ◌⊎◌, inl, inr, refl, sym, ap, ◌∙◌, arith}
-use Rattle.std.specs.Prelude.{◌↔◌}
-use Rattle.std.proofs.lemmas.Bool.{cases_lt}
-use Rattle.std.proofs.Math.Nat.{mod-eq_of_lt, mod-lt, add-mod_right, mod-add-mod}
+use Rattle.std.proofs.{Common.{◌≡◌, ℕ, ◌+◌, ◌-◌, ◌/◌, ◌%◌, ◌<◌, ◌⊎◌, inl, inr, refl, sym, ap, ◌∙◌, arith, ◌↔◌}, lemmas.Bool.{cases_lt}, Math.Nat.{mod-eq_of_lt, mod-lt, add-mod_right, mod-add-mod}}
 use Rattle.dcsctp_types.specs.Serial.{wrapped_sum, wrapped_difference, IsGreater}
 
 -- r is what the space leaves of n, which is below twice its size m

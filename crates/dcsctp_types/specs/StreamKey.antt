@@ -1,8 +1,6 @@
 -- What a stream key holds: a stream (RFC 9260 section 3.3.1), and whether its messages are ordered.
 use Rattle.std.specs.Prelude.{Bool, true, false}
-use Rattle.dcsctp_types.specs.declared.api.stream_id.StreamId.{StreamId}
-use Rattle.dcsctp_types.specs.declared.types.stream_key.StreamKey.{StreamKey}
-use Rattle.dcsctp_types.specs.declared.types.stream_key.StreamKey.TheVariants.{Ordered, Unordered}
+use Rattle.dcsctp_types.specs.declared.{api.stream_id.StreamId.{StreamId}, types.stream_key.StreamKey.{StreamKey}, types.stream_key.StreamKey.TheVariants.{Ordered, Unordered}}
 
 abbrev pub stream_of : StreamKey → StreamId
 stream_of (Ordered id) = id

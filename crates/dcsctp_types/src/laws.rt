@@ -1,9 +1,7 @@
 //! Laws of serial numbers, as contracts of functions that do nothing.
 
-ghost use Rattle.std.specs.Prelude.{◌≡◌, ℕ, ◌/◌, ◌<◌, ◌↔◌};
-ghost use Rattle.std.specs.Ordering.{nat_cmp};
-ghost use Rattle.dcsctp_types.specs.Equality.{TellsSame, IsItself};
-ghost use Rattle.dcsctp_types.specs.Serial.{wrapped_sum, wrapped_difference, IsGreater};
+ghost use Rattle.std.specs.{Prelude.{◌≡◌, ℕ, ◌/◌, ◌<◌, ◌↔◌}, Ordering.{nat_cmp}};
+ghost use Rattle.dcsctp_types.specs.{Equality.{TellsSame, IsItself}, Serial.{wrapped_sum, wrapped_difference, IsGreater}};
 
 use crate::api::{
     LifecycleId, PpId, SocketTime, StreamId,

@@ -1,29 +1,11 @@
 -- What a packet that was read is written in is bounded by the length of its bytes.
-use Rattle.std.proofs.Common.{◌≡◌, ℕ, ◌+◌, ◌-◌, ◌*◌, ◌≤◌, Bool, true, false, List, [], ◌∷◌, length, refl, sym, ap, subst, ◌∙◌, arith, ◌⊎◌, inl, inr, Ok}
-use Rattle.std.specs.Prelude.{codes}
-use Rattle.std.specs.Str.{is_utf8, IsUtf8}
-use Rattle.std.proofs.lemmas.Bool.Decides.{eqb_tells}
-use Rattle.std.proofs.lemmas.List.{length-drop}
-use Rattle.std.proofs.lemmas.Str.{IsUtf8-from_is_utf8, is_utf8-from_IsUtf8, IsUtf8-nil}
-use Rattle.dcsctp_tlv.specs.Count.{total}
-use Rattle.dcsctp_tlv.specs.Fault.{Fault}
-use Rattle.dcsctp_tlv.specs.Frame.{Item, lenient, round_up_to_4}
-use Rattle.dcsctp_tlv.specs.Image.{size_of, list_size}
-use Rattle.dcsctp_tlv.specs.Level.{MeansTrees, map_ok}
-use Rattle.dcsctp_tlv.specs.Table.{IsOneOf}
-use Rattle.dcsctp_tlv.specs.Typed.{item_type}
-use Rattle.dcsctp_tlv.proofs.Bounds.{padded_by, list_fits, Bounds, list_bound}
-use Rattle.dcsctp_tlv.proofs.KindLaws.{of_map_ok, of_ok}
+use Rattle.std.{proofs.Common.{◌≡◌, ℕ, ◌+◌, ◌-◌, ◌*◌, ◌≤◌, Bool, true, false, List, [], ◌∷◌, length, refl, sym, ap, subst, ◌∙◌, arith, ◌⊎◌, inl, inr, Ok, codes, length-drop}, specs.Str.{is_utf8, IsUtf8}, proofs.lemmas.Bool.Decides.{eqb_tells}, proofs.lemmas.Str.{IsUtf8-from_is_utf8, is_utf8-from_IsUtf8, IsUtf8-nil}}
+use Rattle.dcsctp_tlv.{specs.Count.{total}, specs.Fault.{Fault}, specs.Frame.{Item, lenient, round_up_to_4}, specs.Image.{size_of, list_size}, specs.Level.{MeansTrees, map_ok}, specs.Table.{IsOneOf}, specs.Typed.{item_type}, proofs.Bounds.{padded_by, list_fits, Bounds, list_bound}, proofs.KindLaws.{of_map_ok, of_ok}}
 use Rattle.dcsctp_cause.specs.Cause as cause
-use Rattle.dcsctp_cause.specs.Cause.{CauseTree, causes}
-use Rattle.dcsctp_cause.specs.Text.{text_or}
+use Rattle.dcsctp_cause.{specs.Cause.{CauseTree, causes}, specs.Text.{text_or}, proofs.CauseLaws.{causes_account}}
 use Rattle.dcsctp_cause.specs.UserInitiatedAbort as user_abort
 use Rattle.dcsctp_cause.specs.ProtocolViolation as violation
-use Rattle.dcsctp_cause.proofs.CauseLaws.{causes_account}
-use Rattle.dcsctp_wire.specs.Canonical.{padded_size}
-use Rattle.dcsctp_wire.specs.Chunk.{ChunkTree, Abort, Error, chunks, chunk_row, HoldsCauses, tlv as chunk_tlv}
-use Rattle.dcsctp_wire.specs.Packet.{PacketTree, MeansPacket, body}
-use Rattle.dcsctp_wire.proofs.ChunkRows.{chunks_account}
+use Rattle.dcsctp_wire.{specs.Canonical.{padded_size}, specs.Chunk.{ChunkTree, Abort, Error, chunks, chunk_row, HoldsCauses, tlv as chunk_tlv}, specs.Packet.{PacketTree, MeansPacket, body}, proofs.ChunkRows.{chunks_account}}
 
 -- ---- causes: a text that isn't UTF-8 has at least one byte, and is replaced by at most 38
 

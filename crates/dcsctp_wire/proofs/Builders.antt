@@ -1,19 +1,7 @@
 -- What a builder holds: its room, and one more chunk.
-use Rattle.std.proofs.Common.{◌≡◌, ◌≢◌, ℕ, ◌+◌, ◌-◌, ◌^◌, ◌≤◌, ◌<◌, Bool, true, false, Ok, List, [], ◌∷◌, ◌++◌, length, take, drop, replicate, refl, sym, ap, subst, ◌∙◌, arith}
-use Rattle.std.specs.List.{AllByRecursion}
-use Rattle.std.proofs.Math.Seq.{take-append_seam, drop-append_seam}
-use Rattle.dcsctp_tlv.specs.Frame.{round_up_to_4}
-use Rattle.dcsctp_tlv.specs.Image.{zeroed, gap, written, size_of, image_of}
-use Rattle.dcsctp_tlv.proofs.Images.{written-zeros}
-use Rattle.dcsctp_wire.specs.Chunk.{ChunkTree, tlv as chunk_tlv, IsChunkEncodable, IsInWidth as IsChunkInWidth, IsWellFormed as IsChunkWellFormed, kept as kept_chunk, all_kept as kept_chunks}
-use Rattle.dcsctp_wire.specs.Canonical.{canonical, padded_chunk, padded_size, Fits}
-use Rattle.dcsctp_wire.specs.Builder.{BuilderState, meaning_with, HoldsPacket, Holds, room, begun, checksummed, built}
-use Rattle.dcsctp_wire.specs.declared.packet.sctp_packet.ChecksumPolicy.{ChecksumPolicy}
-use Rattle.dcsctp_wire.specs.Packet.{Meaning, checksum_field, IsAccepted, Answer}
-use Rattle.dcsctp_wire.specs.WellFormed.{IsInWidth, IsWellFormed}
-use Rattle.dcsctp_tlv.proofs.Kept.{all_map}
-use Rattle.dcsctp_wire.proofs.KeptLaws.{canonical_kept, kept_encodable, kept_width}
-use Rattle.dcsctp_wire.proofs.Canonicals.{length-chunk, length-canonical, canonical-push, padded_size-push, padded_size-is, with_field, field_back, reads_back_with}
+use Rattle.std.{proofs.Common.{◌≡◌, ◌≢◌, ℕ, ◌+◌, ◌-◌, ◌^◌, ◌≤◌, ◌<◌, Bool, true, false, Ok, List, [], ◌∷◌, ◌++◌, length, take, drop, replicate, refl, sym, ap, subst, ◌∙◌, arith}, specs.List.{AllByRecursion}, proofs.Math.Seq.{take-append_seam, drop-append_seam}}
+use Rattle.dcsctp_tlv.{specs.Frame.{round_up_to_4}, specs.Image.{zeroed, gap, written, size_of, image_of}, proofs.Images.{written-zeros}, proofs.Kept.{all_map}}
+use Rattle.dcsctp_wire.{specs.Chunk.{ChunkTree, tlv as chunk_tlv, IsChunkEncodable, IsInWidth as IsChunkInWidth, IsWellFormed as IsChunkWellFormed, kept as kept_chunk, all_kept as kept_chunks}, specs.Canonical.{canonical, padded_chunk, padded_size, Fits}, specs.Builder.{BuilderState, meaning_with, HoldsPacket, Holds, room, begun, checksummed, built}, specs.declared.packet.sctp_packet.ChecksumPolicy.{ChecksumPolicy}, specs.Packet.{Meaning, checksum_field, IsAccepted, Answer}, specs.WellFormed.{IsInWidth, IsWellFormed}, proofs.KeptLaws.{canonical_kept, kept_encodable, kept_width}, proofs.Canonicals.{length-chunk, length-canonical, canonical-push, padded_size-push, padded_size-is, with_field, field_back, reads_back_with}}
 
 -- ---- one chunk's bytes
 

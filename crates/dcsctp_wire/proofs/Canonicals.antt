@@ -1,25 +1,8 @@
 -- The canonical packet is what the list of chunks writes over zeros; it reads back, and no other
 -- meaning has it.
-use Rattle.std.proofs.Common.{◌≡◌, ◌≢◌, ℕ, ◌+◌, ◌-◌, ◌^◌, ◌<◌, ◌≤◌, true, List, [], ◌∷◌, ◌++◌, length, replicate, unwrap_or, refl, sym, ap, subst, ◌∙◌, append_assoc, arith, Option, Ok}
-use Rattle.std.specs.List.{AllByRecursion, flat_map}
-use Rattle.std.specs.Int.{w16, w32, to_be_bytes}
-use Rattle.std.proofs.lemmas.List.{append-nil, length-append, length-map, length-replicate}
-use Rattle.std.proofs.lemmas.Nat.{from_be_bytes-to_be_bytes_2, from_be_bytes-to_be_bytes_4}
-use Rattle.std.proofs.lemmas.Grind.{flat_map-append}
-use Rattle.std.proofs.lemmas.List.Elements.{recursion_from_All, All-from_recursion}
-use Rattle.dcsctp_tlv.specs.Frame.{lenient, round_up_to_4}
-use Rattle.dcsctp_tlv.specs.Image.{zeroed, gap, holes, written, size_of, image_of, IsEncodable, list_image, list_size, IsListEncodable}
-use Rattle.dcsctp_tlv.proofs.Lengths.{length-format}
-use Rattle.dcsctp_tlv.proofs.Images.{list_size-map, list_image-map, length-list_image, written-zeros, zeroed-append, zeroed-holes}
-use Rattle.dcsctp_tlv.proofs.ReadsBack.{full_zeros_accepted, body_reads_back, each_encodable}
-use Rattle.dcsctp_wire.specs.declared.packet.chunk.Chunk.{Chunk}
-use Rattle.dcsctp_wire.specs.declared.packet.sctp_packet.ChecksumPolicy.{ChecksumPolicy}
-use Rattle.dcsctp_wire.specs.Chunk.{ChunkTree, chunks, tlv as chunk_tlv, format, IsPlaced, IsChunkEncodable, view, views, IsInWidth as IsChunkInWidth, IsWellFormed as IsChunkWellFormed}
-use Rattle.dcsctp_wire.specs.Packet.{header_of, Meaning, PacketTree, checksum_field, IsAccepted, disabled, Answer}
-use Rattle.dcsctp_wire.specs.Canonical.{padded_chunk, canonical, padded_size, Fits}
-use Rattle.dcsctp_wire.specs.WellFormed.{IsInWidth, IsWellFormed}
-use Rattle.dcsctp_wire.proofs.Packets.{has_header, packet_one}
-use Rattle.dcsctp_wire.proofs.ChunkLaws.{IsGoodChunk, chunks_read_back}
+use Rattle.std.{proofs.Common.{◌≡◌, ◌≢◌, ℕ, ◌+◌, ◌-◌, ◌^◌, ◌<◌, ◌≤◌, true, List, [], ◌∷◌, ◌++◌, length, replicate, unwrap_or, refl, sym, ap, subst, ◌∙◌, append_assoc, arith, Option, Ok, append-nil, length-append}, specs.List.{AllByRecursion, flat_map}, specs.Int.{w16, w32, to_be_bytes}, proofs.lemmas.List.{length-map, length-replicate}, proofs.lemmas.Nat.{from_be_bytes-to_be_bytes_2, from_be_bytes-to_be_bytes_4}, proofs.lemmas.Grind.{flat_map-append}, proofs.lemmas.List.Elements.{recursion_from_All, All-from_recursion}}
+use Rattle.dcsctp_tlv.{specs.Frame.{lenient, round_up_to_4}, specs.Image.{zeroed, gap, holes, written, size_of, image_of, IsEncodable, list_image, list_size, IsListEncodable}, proofs.Lengths.{length-format}, proofs.Images.{list_size-map, list_image-map, length-list_image, written-zeros, zeroed-append, zeroed-holes}, proofs.ReadsBack.{full_zeros_accepted, body_reads_back, each_encodable}}
+use Rattle.dcsctp_wire.{specs.declared.packet.chunk.Chunk.{Chunk}, specs.declared.packet.sctp_packet.ChecksumPolicy.{ChecksumPolicy}, specs.Chunk.{ChunkTree, chunks, tlv as chunk_tlv, format, IsPlaced, IsChunkEncodable, view, views, IsInWidth as IsChunkInWidth, IsWellFormed as IsChunkWellFormed}, specs.Packet.{header_of, Meaning, PacketTree, checksum_field, IsAccepted, disabled, Answer}, specs.Canonical.{padded_chunk, canonical, padded_size, Fits}, specs.WellFormed.{IsInWidth, IsWellFormed}, proofs.Packets.{has_header, packet_one}, proofs.ChunkLaws.{IsGoodChunk, chunks_read_back}}
 
 -- a list's size and the bytes of its padded chunks
 pub padded_size-is : (ts : List ChunkTree) → padded_size ts ≡ round_up_to_4 (list_size chunk_tlv ts)

@@ -1,15 +1,8 @@
 -- Each kind of chunk reads back.
 use Rattle.std.proofs.Common.{Bool, refl}
-use Rattle.dcsctp_tlv.specs.Image.{zeroed}
-use Rattle.dcsctp_tlv.specs.Table.{IsUnnamed}
-use Rattle.dcsctp_tlv.proofs.KindLaws.{IsGood}
-use Rattle.dcsctp_tlv.proofs.Tables.{of_others}
-use Rattle.dcsctp_tlv.proofs.ReadsBack.{ReadsBack, zeroed-solid}
+use Rattle.dcsctp_tlv.{specs.Image.{zeroed}, specs.Table.{IsUnnamed}, proofs.KindLaws.{IsGood}, proofs.Tables.{of_others}, proofs.ReadsBack.{ReadsBack, zeroed-solid}, proofs.Owed.{back_of}}
 use Rattle.dcsctp_chunk.specs.Unknown.{Tree as UnknownTree, read as unknown_at}
-use Rattle.dcsctp_tlv.proofs.Owed.{back_of}
-use Rattle.dcsctp_wire.specs.Chunk.{ChunkTree, Unknown, table, chunks, chunk_row, entry, format, tlv as chunk_tlv}
-use Rattle.dcsctp_wire.proofs.ChunkRows.{owed_of}
-use Rattle.dcsctp_wire.proofs.ListRows.{KeepsAt}
+use Rattle.dcsctp_wire.{specs.Chunk.{ChunkTree, Unknown, table, chunks, chunk_row, entry, format, tlv as chunk_tlv}, proofs.ChunkRows.{owed_of}, proofs.ListRows.{KeepsAt}}
 
 -- a chunk that can be written and read again
 abbrev pub IsGoodChunk : ChunkTree → Type 0

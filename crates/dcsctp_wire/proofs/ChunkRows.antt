@@ -1,30 +1,9 @@
 -- What the kinds of chunk owe, and what the table of chunks satisfies by it: a line for each kind.
-use Rattle.std.proofs.Common.{rules, ℕ, ◌+◌, ◌*◌, ◌≤◌, Bool, List, ◌++◌, length, Result, refl, sym, subst, arith, inl, inr}
-use Rattle.std.specs.Prelude.{codes}
-use Rattle.dcsctp_tlv.specs.declared.error.ChunkParseError.{ChunkParseError}
-use Rattle.dcsctp_tlv.specs.Decided.{LawfulRow, IgnoresPadding}
-use Rattle.dcsctp_tlv.specs.Frame.{lenient}
-use Rattle.dcsctp_tlv.specs.Level.{Row, plain, map_ok}
-use Rattle.dcsctp_tlv.specs.Table.{IsUnnamed, ◌&◌}
-use Rattle.dcsctp_tlv.proofs.Accounts.{Accounts, plain_account}
-use Rattle.dcsctp_tlv.proofs.Counts.{Counts}
-use Rattle.dcsctp_tlv.proofs.Forms.{FormsTrees}
-use Rattle.dcsctp_tlv.proofs.KindLaws.{of_ok, of_map_ok}
-use Rattle.dcsctp_tlv.proofs.Laws.{Lawful, plain_lawful}
-use Rattle.dcsctp_tlv.proofs.Lenient.{Loosens}
-use Rattle.dcsctp_tlv.proofs.Tables.{of_table, of_others}
-use Rattle.dcsctp_tlv.proofs.Unpadded.{ok_unpadded, list_unpadded}
-use Rattle.dcsctp_tlv.specs.Kinds.{Kind, TreesOf, ChecksKind}
-use Rattle.dcsctp_chunk.specs.PlainKinds.{plain_kinds}
-use Rattle.dcsctp_chunk.specs.Unknown.{read as unknown_at}
-use Rattle.dcsctp_chunk.proofs.ForwardTsnLaws.{forward_tsn_laws, iforward_tsn_laws}
+use Rattle.std.proofs.Common.{rules, ℕ, ◌+◌, ◌*◌, ◌≤◌, Bool, List, ◌++◌, length, Result, refl, sym, subst, arith, inl, inr, codes}
+use Rattle.dcsctp_tlv.{specs.declared.error.ChunkParseError.{ChunkParseError}, specs.Decided.{LawfulRow, IgnoresPadding}, specs.Frame.{lenient}, specs.Level.{Row, plain, map_ok}, specs.Table.{IsUnnamed, ◌&◌}, proofs.Accounts.{Accounts, plain_account}, proofs.Counts.{Counts}, proofs.Forms.{FormsTrees}, proofs.KindLaws.{of_ok, of_map_ok}, proofs.Laws.{Lawful, plain_lawful}, proofs.Lenient.{Loosens}, proofs.Tables.{of_table, of_others}, proofs.Unpadded.{ok_unpadded, list_unpadded}, specs.Kinds.{Kind, TreesOf, ChecksKind}, proofs.Owed.{AllOwed, AllFound, OwedOf, Sound, kept_owed, plain_owed, all_lawful, all_sound, rows_looser}, proofs.KindChecks.{Finds, table_finds}}
+use Rattle.dcsctp_chunk.{specs.PlainKinds.{plain_kinds}, specs.Unknown.{read as unknown_at}, proofs.ForwardTsnLaws.{forward_tsn_laws, iforward_tsn_laws}, proofs.SackLaws.{sack_laws}}
 use Rattle.dcsctp_chunk.proofs.Laws as kind
-use Rattle.dcsctp_tlv.proofs.Owed.{AllOwed, AllFound, OwedOf, Sound, kept_owed, plain_owed, all_lawful, all_sound, rows_looser}
-use Rattle.dcsctp_tlv.proofs.KindChecks.{Finds, table_finds}
-use Rattle.dcsctp_chunk.proofs.SackLaws.{sack_laws}
-use Rattle.dcsctp_wire.specs.Chunk.{ChunkTree, Init, InitAck, HeartbeatRequest, HeartbeatAck, Abort, Error, ReConfig, Unknown, list_kinds, list_rows, plain_trees, table, chunks, chunk_row, entry, HoldsCauses, tlv as chunk_tlv, parts as chunk_parts, IsWellFormed as IsChunkWellFormed}
-use Rattle.dcsctp_wire.specs.Account.{AreTextsKept}
-use Rattle.dcsctp_wire.proofs.ListRows.{KeepTexts, KeepsAt, init_owed, parameter_list_owed, abort_owed, error_owed}
+use Rattle.dcsctp_wire.{specs.Chunk.{ChunkTree, Init, InitAck, HeartbeatRequest, HeartbeatAck, Abort, Error, ReConfig, Unknown, list_kinds, list_rows, plain_trees, table, chunks, chunk_row, entry, HoldsCauses, tlv as chunk_tlv, parts as chunk_parts, IsWellFormed as IsChunkWellFormed}, specs.Account.{AreTextsKept}, proofs.ListRows.{KeepTexts, KeepsAt, init_owed, parameter_list_owed, abort_owed, error_owed}}
 
 -- ---- the kinds
 

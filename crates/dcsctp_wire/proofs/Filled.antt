@@ -1,11 +1,6 @@
 -- A chunk that was pushed with an empty list, and whose list was then filled in its place.
-use Rattle.std.proofs.Common.{◌≡◌, ◌∙◌, ℕ, List, [], ◌∷◌, ◌++◌, Result, Ok, Err, drop, ap}
-use Rattle.std.specs.Prelude.{IfOk, slice_set, vec_len}
-use Rattle.std.proofs.Math.Seq.{set-append_seam}
-use Rattle.std.specs.declared.vec.Vec.{Vec}
-use Rattle.dcsctp_tlv.specs.Frame.{lenient}
-use Rattle.dcsctp_tlv.specs.Level.{Row, Grows, HasMeaning, MeansTrees}
-use Rattle.dcsctp_tlv.specs.Parameter.{ParameterTree, parameters}
+use Rattle.std.{proofs.Common.{◌≡◌, ◌∙◌, ℕ, List, [], ◌∷◌, ◌++◌, Result, Ok, Err, drop, ap, IfOk, slice_set, vec_len}, proofs.Math.Seq.{set-append_seam}, specs.declared.vec.Vec.{Vec}}
+use Rattle.dcsctp_tlv.specs.{Frame.{lenient}, Level.{Row, Grows, HasMeaning, MeansTrees}, Parameter.{ParameterTree, parameters}}
 use Rattle.dcsctp_wire.specs.InitFields as init
 
 -- such an item, which the row means then, is one more

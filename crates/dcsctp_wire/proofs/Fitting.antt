@@ -1,12 +1,8 @@
 -- A packet fits or it doesn't.
-use Rattle.std.proofs.Common.{◌≡◌, ◌<◌, ◌^◌, ◌⊎◌, inl, inr, ℕ, Bool, true, false, List, [], ◌∷◌, refl, arith}
-use Rattle.std.specs.List.{AllByRecursion}
-use Rattle.std.proofs.lemmas.Bool.{cases_lt}
+use Rattle.std.{proofs.Common.{◌≡◌, ◌<◌, ◌^◌, ◌⊎◌, inl, inr, ℕ, Bool, true, false, List, [], ◌∷◌, refl, arith}, specs.List.{AllByRecursion}, proofs.lemmas.Bool.{cases_lt}}
 use Rattle.dcsctp_tlv.specs.Image.{size_of}
 use Rattle.dcsctp_chunk.specs.SkippedStreams.{SkippedStreamTree, is_by_mid, AreByMid}
-use Rattle.dcsctp_wire.specs.Chunk.{ChunkTree, ForwardTsn, IForwardTsn, IsPlaced, IsChunkEncodable, tlv}
-use Rattle.dcsctp_wire.specs.Packet.{Meaning}
-use Rattle.dcsctp_wire.specs.Canonical.{Fits, padded_size}
+use Rattle.dcsctp_wire.specs.{Chunk.{ChunkTree, ForwardTsn, IForwardTsn, IsPlaced, IsChunkEncodable, tlv}, Packet.{Meaning}, Canonical.{Fits, padded_size}}
 
 lt_tells : (m n : ℕ) → (m < n) ⊎ (¬ (m < n))
 lt_tells m n = elim (cases_lt m n) [ inl h ↦ inl h | inr h ↦ inr (λ k. omega arith) ]

@@ -1,14 +1,7 @@
 -- The kept form of a chunk is written alike, and its numbers lie in their widths.
-use Rattle.std.proofs.Common.{◌≡◌, ℕ, List, [], ◌∷◌, ◌++◌, refl, sym, ap, subst, ◌∙◌}
-use Rattle.std.specs.Prelude.{replicate}
-use Rattle.std.specs.List.{flat_map}
-use Rattle.dcsctp_tlv.specs.Image.{zeroed, gap, Tlv, image_of, size_of, IsEncodable}
-use Rattle.dcsctp_tlv.proofs.Owed.{kept_tlv_of, kept_width_of}
-use Rattle.dcsctp_wire.specs.Chunk.{ChunkTree, Data, entry, tlv as chunk_tlv, IsPlaced, IsChunkEncodable, IsInWidth as IsChunkInWidth, kept as kept_chunk, all_kept as kept_chunks}
-use Rattle.dcsctp_wire.proofs.ChunkRows.{owed_of}
-use Rattle.dcsctp_wire.proofs.ListRows.{KeepsAt}
-use Rattle.dcsctp_wire.specs.Canonical.{canonical, padded_chunk}
-use Rattle.dcsctp_wire.specs.Packet.{Meaning}
+use Rattle.std.{proofs.Common.{◌≡◌, ℕ, List, [], ◌∷◌, ◌++◌, refl, sym, ap, subst, ◌∙◌, replicate}, specs.List.{flat_map}}
+use Rattle.dcsctp_tlv.{specs.Image.{zeroed, gap, Tlv, image_of, size_of, IsEncodable}, proofs.Owed.{kept_tlv_of, kept_width_of}}
+use Rattle.dcsctp_wire.{specs.Chunk.{ChunkTree, Data, entry, tlv as chunk_tlv, IsPlaced, IsChunkEncodable, IsInWidth as IsChunkInWidth, kept as kept_chunk, all_kept as kept_chunks}, proofs.ChunkRows.{owed_of}, proofs.ListRows.{KeepsAt}, specs.Canonical.{canonical, padded_chunk}, specs.Packet.{Meaning}}
 
 -- ---- it is written alike
 

@@ -1,13 +1,7 @@
 -- What a strict policy accepts, the lenient one accepts with the same packet.
 use Rattle.std.proofs.Common.{ℕ, Bool, false, List, Ok, subst}
-use Rattle.dcsctp_tlv.specs.Frame.{lenient}
-use Rattle.dcsctp_tlv.specs.Level.{MeansTrees}
-use Rattle.dcsctp_tlv.proofs.Laws.{list_one}
-use Rattle.dcsctp_tlv.proofs.Lenient.{list_looser}
-use Rattle.dcsctp_wire.specs.declared.packet.sctp_packet.ChecksumPolicy.{ChecksumPolicy}
-use Rattle.dcsctp_wire.specs.Chunk.{ChunkTree, chunks}
-use Rattle.dcsctp_wire.specs.Packet.{PacketTree, IsAccepted, disabled, alternate, equal, body, MeansPacket, Answer}
-use Rattle.dcsctp_wire.proofs.ChunkRows.{chunks_lawful, chunks_looser}
+use Rattle.dcsctp_tlv.{specs.Frame.{lenient}, specs.Level.{MeansTrees}, proofs.Laws.{list_one}, proofs.Lenient.{list_looser}}
+use Rattle.dcsctp_wire.{specs.declared.packet.sctp_packet.ChecksumPolicy.{ChecksumPolicy}, specs.Chunk.{ChunkTree, chunks}, specs.Packet.{PacketTree, IsAccepted, disabled, alternate, equal, body, MeansPacket, Answer}, proofs.ChunkRows.{chunks_lawful, chunks_looser}}
 
 -- ---- chunks
 

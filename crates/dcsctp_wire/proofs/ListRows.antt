@@ -1,41 +1,14 @@
 -- The kinds of chunk with a list. Their rows are `listed`, over parameters or over error causes, so
 -- what each has to satisfy follows from what is known of its items.
-use Rattle.std.proofs.Common.{rules, ◌≡◌, ◌≢◌, ℕ, ◌+◌, ◌*◌, ◌%◌, ◌<◌, ◌≤◌, ◌^◌, Bool, true, false, List, [], ◌∷◌, length, drop, refl, sym, subst, arith}
-use Rattle.std.specs.Prelude.{nat_lt, nat_le}
-use Rattle.std.specs.List.{AllByRecursion}
-use Rattle.std.proofs.lemmas.Bool.{leb-true, le-leb, lt-ltb}
-use Rattle.std.proofs.lemmas.Nat.{from_be_bytes-to_be_bytes_2, from_be_bytes-to_be_bytes_4}
-use Rattle.std.proofs.lemmas.List.{length-drop}
-use Rattle.dcsctp_tlv.specs.Decided.{IgnoresPadding}
-use Rattle.dcsctp_tlv.specs.Format.{Format, tlv_by}
-use Rattle.dcsctp_tlv.specs.Frame.{Item, AreItems, lenient, any_padding}
-use Rattle.dcsctp_tlv.specs.Image.{Tlv, zeroed, image_of, list_image, list_size, size_of, IsEncodable}
-use Rattle.dcsctp_tlv.specs.Level.{Row, Level, listed, MeansTrees}
-use Rattle.dcsctp_tlv.specs.Table.{Content, Parameters, Causes}
+use Rattle.std.{proofs.Common.{rules, ◌≡◌, ◌≢◌, ℕ, ◌+◌, ◌*◌, ◌%◌, ◌<◌, ◌≤◌, ◌^◌, Bool, true, false, List, [], ◌∷◌, length, drop, refl, sym, subst, arith, nat_lt, nat_le, leb-true, le-leb, lt-ltb, length-drop}, specs.List.{AllByRecursion}, proofs.lemmas.Nat.{from_be_bytes-to_be_bytes_2, from_be_bytes-to_be_bytes_4}}
+use Rattle.dcsctp_tlv.{specs.Decided.{IgnoresPadding}, specs.Format.{Format, tlv_by}, specs.Frame.{Item, AreItems, lenient, any_padding}, specs.Image.{Tlv, zeroed, image_of, list_image, list_size, size_of, IsEncodable}, specs.Level.{Row, Level, listed, MeansTrees}, specs.Table.{Content, Parameters, Causes}, specs.Parameter.{IsWellFormed as IsParameterWellFormed, all_kept as kept_parameters}, proofs.Accounts.{SameSpace, all_account, list_account}, proofs.Counts.{one_each, list_count, total-one}, proofs.FormatLaws.{good_list}, proofs.Forms.{FormsTrees, list_formed, nil_means}, proofs.KindLaws.{IsGood}, proofs.Laws.{Lawful, listed_lawful}, proofs.Lenient.{Loosens, listed_looser}, proofs.Kept.{listed_tlv-kept}, proofs.Unpadded.{listed_unpadded}, proofs.ParameterLaws.{kept_parameter_tlv, kept_parameters_width, parameters_lawful, parameters_looser, parameters_unpadded, parameters_form, parameters_account, parameters_read_back}, proofs.ReadsBack.{ReadsBack, AcceptsZeros, AcceptsNone, nested_reads_back, zeros_accepted, none_accepted}, specs.Kinds.{Kind, Nested}, proofs.Owed.{Owed}}
 use Rattle.dcsctp_tlv.specs.Parameter as parameter
-use Rattle.dcsctp_tlv.specs.Parameter.{IsWellFormed as IsParameterWellFormed, all_kept as kept_parameters}
-use Rattle.dcsctp_tlv.proofs.Accounts.{SameSpace, all_account, list_account}
-use Rattle.dcsctp_tlv.proofs.Counts.{one_each, list_count, total-one}
-use Rattle.dcsctp_tlv.proofs.FormatLaws.{good_list}
-use Rattle.dcsctp_tlv.proofs.Forms.{FormsTrees, list_formed, nil_means}
-use Rattle.dcsctp_tlv.proofs.KindLaws.{IsGood}
-use Rattle.dcsctp_tlv.proofs.Laws.{Lawful, listed_lawful}
-use Rattle.dcsctp_tlv.proofs.Lenient.{Loosens, listed_looser}
-use Rattle.dcsctp_tlv.proofs.Kept.{listed_tlv-kept}
-use Rattle.dcsctp_tlv.proofs.Unpadded.{listed_unpadded}
-use Rattle.dcsctp_tlv.proofs.ParameterLaws.{kept_parameter_tlv, kept_parameters_width, parameters_lawful, parameters_looser, parameters_unpadded, parameters_form, parameters_account, parameters_read_back}
-use Rattle.dcsctp_tlv.proofs.ReadsBack.{ReadsBack, AcceptsZeros, AcceptsNone, nested_reads_back, zeros_accepted, none_accepted}
 use Rattle.dcsctp_cause.specs.Cause as cause
 use Rattle.dcsctp_cause.proofs.CauseLaws.{causes_lawful, causes_looser, causes_unpadded, causes_form, causes_account, causes_read_back}
-use Rattle.dcsctp_tlv.specs.Kinds.{Kind, Nested}
 use Rattle.dcsctp_chunk.proofs.FlagLaws.{one_again}
-use Rattle.dcsctp_tlv.proofs.Owed.{Owed}
-use Rattle.dcsctp_wire.specs.InitFields.{Tree as InitTree, tree_of as init_of, row as init_row, IsInWidth as IsInitInWidth, format as init_format, leading as init_leading, kind_of as init_kind}
-use Rattle.dcsctp_wire.specs.ParameterList.{format as parameter_list_format, kind_of as parameter_list_kind}
+use Rattle.dcsctp_wire.specs.{InitFields.{Tree as InitTree, tree_of as init_of, row as init_row, IsInWidth as IsInitInWidth, format as init_format, leading as init_leading, kind_of as init_kind}, ParameterList.{format as parameter_list_format, kind_of as parameter_list_kind}, Abort.{row as abort_row}, Error.{row as error_row}}
 use Rattle.dcsctp_wire.specs.Abort as abort
-use Rattle.dcsctp_wire.specs.Abort.{row as abort_row}
 use Rattle.dcsctp_wire.specs.Error as error
-use Rattle.dcsctp_wire.specs.Error.{row as error_row}
 
 -- ---- items
 

@@ -1,22 +1,8 @@
 -- A check and a reader of packets, both ways: from what they answer, since each input has one
 -- answer.
-use Rattle.std.proofs.Common.{◌≡◌, ℕ, List, Result, Ok, Err, inl, inr, refl, ap, ◌∙◌}
-use Rattle.std.specs.Prelude.{IsErrOf}
-use Rattle.dcsctp_tlv.specs.declared.reader.Counts.{Counts}
-use Rattle.dcsctp_tlv.specs.declared.error.ChunkParseError.TheVariants.{OutOfMemory}
-use Rattle.dcsctp_tlv.specs.Number.{AreBytes}
-use Rattle.dcsctp_tlv.specs.Level.{MeansTrees}
-use Rattle.dcsctp_tlv.specs.Reading.{Answers, Exactly, Counted}
-use Rattle.dcsctp_tlv.proofs.Exact.{Single, Distinct, exactly, error_one, no_memory, counted_single}
-use Rattle.dcsctp_wire.specs.declared.packet.sctp_packet.PacketParseError.{PacketParseError}
-use Rattle.dcsctp_wire.specs.declared.packet.sctp_packet.PacketParseError.TheVariants.{FailedParseChunk}
-use Rattle.dcsctp_wire.specs.declared.packet.sctp_packet.ChecksumPolicy.{ChecksumPolicy}
-use Rattle.dcsctp_wire.specs.declared.packet.first_fault.FirstFault.{FirstFault}
-use Rattle.dcsctp_wire.specs.Chunk.{ChunkTree, chunks}
-use Rattle.dcsctp_wire.specs.Packet.{PacketTree, PacketFault, Size, Checksum, Chunk, packet_error_of, IsOpened, body, packet_with, Placed, Answer, IsPacket, packet_reading, packet_checking}
-use Rattle.dcsctp_wire.specs.Account.{node_count}
-use Rattle.dcsctp_wire.specs.Place.{packet_counts, packet_locating}
-use Rattle.dcsctp_wire.proofs.Packets.{answer_one}
+use Rattle.std.proofs.Common.{◌≡◌, ℕ, List, Result, Ok, Err, inl, inr, refl, ap, ◌∙◌, IsErrOf}
+use Rattle.dcsctp_tlv.{specs.declared.reader.Counts.{Counts}, specs.declared.error.ChunkParseError.TheVariants.{OutOfMemory}, specs.Number.{AreBytes}, specs.Level.{MeansTrees}, specs.Reading.{Answers, Exactly, Counted}, proofs.Exact.{Single, Distinct, exactly, error_one, no_memory, counted_single}}
+use Rattle.dcsctp_wire.{specs.declared.packet.sctp_packet.PacketParseError.{PacketParseError}, specs.declared.packet.sctp_packet.PacketParseError.TheVariants.{FailedParseChunk}, specs.declared.packet.sctp_packet.ChecksumPolicy.{ChecksumPolicy}, specs.declared.packet.first_fault.FirstFault.{FirstFault}, specs.Chunk.{ChunkTree, chunks}, specs.Packet.{PacketTree, PacketFault, Size, Checksum, Chunk, packet_error_of, IsOpened, body, packet_with, Placed, Answer, IsPacket, packet_reading, packet_checking}, specs.Account.{node_count}, specs.Place.{packet_counts, packet_locating}, proofs.Packets.{answer_one}}
 
 -- ---- errors of packets
 

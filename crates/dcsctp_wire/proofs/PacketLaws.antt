@@ -1,29 +1,7 @@
 -- What holds of every packet that is read, and of what is read after others.
-use Rattle.std.proofs.Common.{◌≡◌, ℕ, ◌+◌, ◌-◌, ◌/◌, ◌%◌, ◌≤◌, List, [], ◌∷◌, ◌++◌, length, Result, Ok, Err, refl, sym, ap, subst, ◌∙◌, arith}
-use Rattle.std.specs.Prelude.{IfOk}
-use Rattle.std.specs.List.{AllByRecursion}
-use Rattle.std.proofs.lemmas.List.{length-drop, drop-append-le}
-use Rattle.dcsctp_tlv.specs.Fault.{Fault}
-use Rattle.dcsctp_tlv.specs.Frame.{lenient, round_up_to_4}
-use Rattle.dcsctp_tlv.specs.Level.{MeansTrees, HasFault}
-use Rattle.dcsctp_tlv.specs.Image.{IsEncodable, list_size}
-use Rattle.dcsctp_tlv.proofs.ReadsBack.{each_encodable}
-use Rattle.dcsctp_tlv.proofs.Forms.{list_formed, nil_means}
-use Rattle.dcsctp_tlv.proofs.Accounts.{SameSpace, list_account}
-use Rattle.dcsctp_tlv.proofs.Counts.{list_count}
-use Rattle.dcsctp_tlv.proofs.Local.{local_means, local_fault}
-use Rattle.dcsctp_wire.specs.declared.packet.sctp_packet.ChecksumPolicy.{ChecksumPolicy}
-use Rattle.dcsctp_wire.specs.declared.packet.sctp_packet.PacketParseError.{PacketParseError}
-use Rattle.dcsctp_wire.specs.declared.packet.sctp_packet.SctpPacket.{SctpPacket}
-use Rattle.dcsctp_wire.specs.Chunk.{ChunkTree, ForwardTsn, IForwardTsn, chunks, tlv as chunk_tlv, IsPlaced, IsChunkEncodable, IsWellFormed as IsChunkWellFormed, parts as chunk_parts}
-use Rattle.dcsctp_wire.specs.Packet.{PacketTree, HasPacketSize, body, IsOpened, MeansPacket, Chunk, packet_with, Placed, Answer, packet_view, packet_reading}
-use Rattle.dcsctp_tlv.specs.Reading.{Answers}
-use Rattle.dcsctp_wire.specs.Canonical.{padded_size}
-use Rattle.dcsctp_wire.specs.WellFormed.{IsWellFormed}
-use Rattle.dcsctp_wire.specs.Account.{AreTextsKept, KeepsTexts, KeepsSize, node_count}
-use Rattle.dcsctp_wire.proofs.ChunkRows.{chunks_form, chunks_account, chunks_count}
-use Rattle.dcsctp_wire.proofs.Canonicals.{padded_size-is}
-use Rattle.dcsctp_wire.proofs.Lenient.{lenient_packet}
+use Rattle.std.{proofs.Common.{◌≡◌, ℕ, ◌+◌, ◌-◌, ◌/◌, ◌%◌, ◌≤◌, List, [], ◌∷◌, ◌++◌, length, Result, Ok, Err, refl, sym, ap, subst, ◌∙◌, arith, IfOk, length-drop}, specs.List.{AllByRecursion}, proofs.lemmas.List.{drop-append-le}}
+use Rattle.dcsctp_tlv.{specs.Fault.{Fault}, specs.Frame.{lenient, round_up_to_4}, specs.Level.{MeansTrees, HasFault}, specs.Image.{IsEncodable, list_size}, proofs.ReadsBack.{each_encodable}, proofs.Forms.{list_formed, nil_means}, proofs.Accounts.{SameSpace, list_account}, proofs.Counts.{list_count}, proofs.Local.{local_means, local_fault}, specs.Reading.{Answers}}
+use Rattle.dcsctp_wire.{specs.declared.packet.sctp_packet.ChecksumPolicy.{ChecksumPolicy}, specs.declared.packet.sctp_packet.PacketParseError.{PacketParseError}, specs.declared.packet.sctp_packet.SctpPacket.{SctpPacket}, specs.Chunk.{ChunkTree, ForwardTsn, IForwardTsn, chunks, tlv as chunk_tlv, IsPlaced, IsChunkEncodable, IsWellFormed as IsChunkWellFormed, parts as chunk_parts}, specs.Packet.{PacketTree, HasPacketSize, body, IsOpened, MeansPacket, Chunk, packet_with, Placed, Answer, packet_view, packet_reading}, specs.Canonical.{padded_size}, specs.WellFormed.{IsWellFormed}, specs.Account.{AreTextsKept, KeepsTexts, KeepsSize, node_count}, proofs.ChunkRows.{chunks_form, chunks_account, chunks_count}, proofs.Canonicals.{padded_size-is}, proofs.Lenient.{lenient_packet}}
 
 length-body : (bytes : List ℕ) → length (body bytes) ≡ length bytes - 12
 length-body bytes = length-drop 12 bytes

@@ -1,20 +1,8 @@
 -- The first fault of a packet and its place, both ways: from what a check finds, since each input
 -- has one answer.
-use Rattle.std.proofs.Common.{rules, ◌≡◌, ℕ, ◌+◌, List, Result, Ok, Err, inl, inr, refl, sym, ap, ◌∙◌}
-use Rattle.std.specs.Result.{result_err}
-use Rattle.dcsctp_tlv.specs.declared.reader.Counts.{Counts}
-use Rattle.dcsctp_tlv.specs.declared.error.LocatedFault.{LocatedFault}
-use Rattle.dcsctp_tlv.specs.Number.{AreBytes}
-use Rattle.dcsctp_tlv.specs.Reading.{Answers, Exactly, locating, ListAnswer, Counted, counts}
-use Rattle.dcsctp_tlv.proofs.Exact.{Distinct, exactly, counted_single}
-use Rattle.dcsctp_wire.specs.declared.packet.sctp_packet.PacketParseError.TheVariants.{FailedParseChunk}
-use Rattle.dcsctp_wire.specs.declared.packet.sctp_packet.ChecksumPolicy.{ChecksumPolicy}
-use Rattle.dcsctp_wire.specs.declared.packet.first_fault.FirstFault.{FirstFault}
-use Rattle.dcsctp_wire.specs.Chunk.{chunks, parts as chunk_parts}
-use Rattle.dcsctp_wire.specs.Packet.{PacketFault, Chunk, IsOpened, body, Placed, packet_error_of}
-use Rattle.dcsctp_wire.specs.Place.{packet_locating, packet_counts, refused}
-use Rattle.dcsctp_wire.proofs.Packets.{placed_one}
-use Rattle.dcsctp_wire.proofs.PacketChecks.{packet_error_one}
+use Rattle.std.{proofs.Common.{◌≡◌, ℕ, ◌+◌, List, Result, Ok, Err, inl, inr, refl, ap}, specs.Result.{result_err}}
+use Rattle.dcsctp_tlv.{specs.declared.reader.Counts.{Counts}, specs.declared.error.LocatedFault.{LocatedFault}, specs.Number.{AreBytes}, specs.Reading.{Answers, Exactly, locating, ListAnswer, Counted, counts}, proofs.Exact.{Distinct, exactly, counted_single}}
+use Rattle.dcsctp_wire.{specs.declared.packet.sctp_packet.PacketParseError.TheVariants.{FailedParseChunk}, specs.declared.packet.sctp_packet.ChecksumPolicy.{ChecksumPolicy}, specs.declared.packet.first_fault.FirstFault.{FirstFault}, specs.Chunk.{chunks, parts as chunk_parts}, specs.Packet.{PacketFault, Chunk, IsOpened, body, Placed, packet_error_of}, specs.Place.{packet_locating, packet_counts, refused}, proofs.Packets.{placed_one}, proofs.PacketChecks.{packet_error_one}}
 
 -- ---- what a check finds
 

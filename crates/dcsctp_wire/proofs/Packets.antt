@@ -1,17 +1,7 @@
 -- Each input has one answer.
-use Rattle.std.proofs.Common.{rules, ◌≡◌, ◌≢◌, ℕ, ◌+◌, List, length, Result, Ok, Err, refl, sym, ap, ◌∙◌, arith, ◌⊎◌, inl, inr, Bool, true, false}
-use Rattle.std.proofs.lemmas.Bool.{cases_lt}
-use Rattle.std.proofs.lemmas.Bool.Decides.{eqb_tells}
-use Rattle.std.proofs.lemmas.List.{get_or-drop}
-use Rattle.dcsctp_tlv.specs.Fault.{Fault}
-use Rattle.dcsctp_tlv.specs.Number.{AreBytes}
-use Rattle.dcsctp_tlv.proofs.Exact.{unplaced_single}
-use Rattle.dcsctp_tlv.proofs.Laws.{list_one, list_apart, list_same, list_some}
-use Rattle.dcsctp_wire.specs.declared.packet.sctp_packet.ChecksumPolicy.{ChecksumPolicy}
-use Rattle.dcsctp_wire.specs.declared.packet.common_header.CommonHeader.{CommonHeader}
-use Rattle.dcsctp_wire.specs.Chunk.{chunks}
-use Rattle.dcsctp_wire.specs.Packet.{PacketTree, HasPacketSize, IsAccepted, disabled, alternate, equal, checksum_field, body, MeansPacket, with_header, packet_with, PacketFault, Size, Checksum, Chunk, Placed, Answer}
-use Rattle.dcsctp_wire.proofs.ChunkRows.{chunks_lawful}
+use Rattle.std.proofs.{Common.{rules, ◌≡◌, ◌≢◌, ℕ, ◌+◌, List, length, Result, Ok, Err, refl, sym, ap, ◌∙◌, arith, ◌⊎◌, inl, inr, Bool, true, false, get_or-drop}, lemmas.Bool.{cases_lt}, lemmas.Bool.Decides.{eqb_tells}}
+use Rattle.dcsctp_tlv.{specs.Fault.{Fault}, specs.Number.{AreBytes}, proofs.Exact.{unplaced_single}, proofs.Laws.{list_one, list_apart, list_same, list_some}}
+use Rattle.dcsctp_wire.{specs.declared.packet.sctp_packet.ChecksumPolicy.{ChecksumPolicy}, specs.declared.packet.common_header.CommonHeader.{CommonHeader}, specs.Chunk.{chunks}, specs.Packet.{PacketTree, HasPacketSize, IsAccepted, disabled, alternate, equal, checksum_field, body, MeansPacket, with_header, packet_with, PacketFault, Size, Checksum, Chunk, Placed, Answer}, proofs.ChunkRows.{chunks_lawful}}
 
 -- ---- one answer
 

@@ -1,16 +1,10 @@
 -- ABORT (RFC 9260 section 3.3.7): type 6; flag bit 0 says that the tag is reflected, and the others
 -- are ignored. The value is a list of error causes: any list, the empty one too.
-use Rattle.std.specs.Prelude.{ℕ, ◌+◌, Bool, true, List, [], ◌∷◌, ◌++◌, if◌then◌else◌, length, codes}
-use Rattle.std.specs.List.{AllByRecursion}
-use Rattle.dcsctp_tlv.specs.Format.{Format}
-use Rattle.dcsctp_tlv.specs.Level.{Row, listed}
-use Rattle.dcsctp_tlv.specs.Image.{listed_tlv}
-use Rattle.dcsctp_tlv.specs.Table.{Causes}
-use Rattle.dcsctp_tlv.proofs.Listed.{listed_sized}
+use Rattle.std.specs.{Prelude.{ℕ, ◌+◌, Bool, true, List, [], ◌∷◌, ◌++◌, if◌then◌else◌, length, codes}, List.{AllByRecursion}}
+use Rattle.dcsctp_tlv.{specs.Format.{Format}, specs.Level.{Row, listed}, specs.Image.{listed_tlv}, specs.Table.{Causes}, proofs.Listed.{listed_sized}, specs.Kinds.{Kind, Nested}}
 use Rattle.dcsctp_cause.specs.Cause as cause
 use Rattle.dcsctp_cause.proofs.CauseLaws.{length-cause}
 use Rattle.dcsctp_chunk.specs.Flags.{is_set, flag_byte}
-use Rattle.dcsctp_tlv.specs.Kinds.{Kind, Nested}
 use Rattle.dcsctp_wire.specs.declared.packet.abort_chunk.AbortChunk.{AbortChunk}
 
 pub record Tree : Type 0 where

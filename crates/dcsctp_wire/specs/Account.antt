@@ -1,13 +1,9 @@
 -- How much a packet (RFC 9260 section 3) holds: its size as it is written again, and the number of
 -- its parts.
-use Rattle.std.specs.Prelude.{◌≡◌, ℕ, ◌+◌, ◌≤◌, List, length}
-use Rattle.std.specs.List.{AllByRecursion}
-use Rattle.dcsctp_tlv.specs.Frame.{Item, AreItems, any_padding, round_up_to_4}
-use Rattle.dcsctp_tlv.specs.Count.{total}
+use Rattle.std.specs.{Prelude.{◌≡◌, ℕ, ◌+◌, ◌≤◌, List, length}, List.{AllByRecursion}}
+use Rattle.dcsctp_tlv.specs.{Frame.{Item, AreItems, any_padding, round_up_to_4}, Count.{total}}
 use Rattle.dcsctp_cause.specs.Cause.{IsTextKept}
-use Rattle.dcsctp_wire.specs.Chunk.{IsChunkEncodable, HoldsCauses, parts}
-use Rattle.dcsctp_wire.specs.Packet.{Meaning, body}
-use Rattle.dcsctp_wire.specs.Canonical.{padded_size, Fits}
+use Rattle.dcsctp_wire.specs.{Chunk.{IsChunkEncodable, HoldsCauses, parts}, Packet.{Meaning, body}, Canonical.{padded_size, Fits}}
 
 -- ---- replaced texts
 

@@ -1,11 +1,7 @@
 -- The packet builder, as its callers see it: the packets are those of RFC 9260 section 3.
-use Rattle.std.specs.Prelude.{◌≡◌, ◌≢◌, ℕ, ◌-◌, ◌^◌, ◌<◌, ◌≤◌, Bool, true, false, List, [], ◌∷◌, length}
-use Rattle.std.specs.List.{AllByRecursion}
-use Rattle.std.specs.Int.{w32, to_be_bytes}
+use Rattle.std.specs.{Prelude.{◌≡◌, ◌≢◌, ℕ, ◌-◌, ◌^◌, ◌<◌, ◌≤◌, Bool, true, false, List, [], ◌∷◌, length}, List.{AllByRecursion}, Int.{w32, to_be_bytes}}
 use Rattle.dcsctp_tlv.specs.Image.{put}
-use Rattle.dcsctp_wire.specs.Chunk.{ChunkTree, IsChunkEncodable, IsInWidth as IsChunkInWidth}
-use Rattle.dcsctp_wire.specs.Packet.{Meaning}
-use Rattle.dcsctp_wire.specs.Canonical.{canonical}
+use Rattle.dcsctp_wire.specs.{Chunk.{ChunkTree, IsChunkEncodable, IsInWidth as IsChunkInWidth}, Packet.{Meaning}, Canonical.{canonical}}
 
 pub record BuilderState : Type 0 where
   pub source : ℕ

@@ -1,12 +1,8 @@
 -- The canonical packet of a meaning: the one form in which it is written, out of those that RFC
 -- 9260 section 3 allows.
-use Rattle.std.specs.Prelude.{ℕ, ◌+◌, ◌≤◌, List, [], ◌∷◌, ◌++◌, replicate}
-use Rattle.std.specs.List.{flat_map, AllByRecursion}
-use Rattle.std.specs.Int.{w16, w32, to_be_bytes}
-use Rattle.dcsctp_tlv.specs.Frame.{round_up_to_4}
-use Rattle.dcsctp_tlv.specs.Image.{zeroed, gap, size_of, image_of}
-use Rattle.dcsctp_wire.specs.Chunk.{ChunkTree, tlv as chunk_tlv, IsChunkEncodable}
-use Rattle.dcsctp_wire.specs.Packet.{Meaning}
+use Rattle.std.specs.{Prelude.{ℕ, ◌+◌, ◌≤◌, List, [], ◌∷◌, ◌++◌, replicate}, List.{flat_map, AllByRecursion}, Int.{w16, w32, to_be_bytes}}
+use Rattle.dcsctp_tlv.specs.{Frame.{round_up_to_4}, Image.{zeroed, gap, size_of, image_of}}
+use Rattle.dcsctp_wire.specs.{Chunk.{ChunkTree, tlv as chunk_tlv, IsChunkEncodable}, Packet.{Meaning}}
 
 -- a chunk as written over zeros, and zeros up to a multiple of 4
 abbrev pub padded_chunk : ChunkTree → List ℕ

@@ -1,14 +1,8 @@
 -- The table of chunks (RFC 9260 section 3.2).
 use Rattle.std.specs.Prelude.{◌≡◌, ◌⊎◌, ℕ, Bool, List, [], ◌∷◌, ◌++◌, All, map, vec_len, vec_capacity}
-use Rattle.dcsctp_tlv.specs.Frame.{lenient, full_padding}
-use Rattle.dcsctp_tlv.specs.Level.{Row, plain, Level, map_ok}
-use Rattle.dcsctp_tlv.specs.Table.{Named, row_of, IsUnnamed, is_fixed, has_causes, types_where, IsOneOf, HasEmptyList, ◌&◌}
-use Rattle.dcsctp_tlv.specs.Image.{Tlv, IsEncodable}
-use Rattle.dcsctp_tlv.specs.Format.{Format}
-use Rattle.dcsctp_tlv.specs.Parameter.{ParameterTree, IsTight as IsTightParameter}
+use Rattle.dcsctp_tlv.specs.{Frame.{lenient, full_padding}, Level.{Row, plain, Level, map_ok}, Table.{Named, row_of, IsUnnamed, is_fixed, has_causes, types_where, IsOneOf, HasEmptyList, ◌&◌}, Image.{Tlv, IsEncodable}, Format.{Format}, Parameter.{ParameterTree, IsTight as IsTightParameter}, Kinds.{Kind, TreesOf, rows, Entry, Of, Unnamed, format_of, kept_of, parts_of}}
 use Rattle.dcsctp_cause.specs.Cause.{CauseTree, IsTight as IsTightCause}
 use Rattle.dcsctp_chunk.specs as plain_kind
-use Rattle.dcsctp_tlv.specs.Kinds.{Kind, TreesOf, rows, Entry, Of, Unnamed, format_of, kept_of, parts_of}
 use Rattle.dcsctp_chunk.specs.PlainKinds.{plain_kinds}
 use Rattle.dcsctp_chunk.specs.SkippedStreams as skipped_streams
 use Rattle.dcsctp_wire.specs as kind

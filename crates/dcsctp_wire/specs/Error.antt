@@ -1,15 +1,9 @@
 -- ERROR (RFC 9260 section 3.3.10): type 9, flags ignored; the value is a list of error causes, one
 -- at least.
-use Rattle.std.specs.Prelude.{◌≢◌, ◌+◌, Bool, List, [], nat_lt, length, codes}
-use Rattle.std.specs.List.{AllByRecursion}
-use Rattle.dcsctp_tlv.specs.Format.{Format}
-use Rattle.dcsctp_tlv.specs.Level.{Row, listed}
-use Rattle.dcsctp_tlv.specs.Image.{listed_tlv}
-use Rattle.dcsctp_tlv.specs.Table.{Causes}
-use Rattle.dcsctp_tlv.proofs.Listed.{listed_sized}
+use Rattle.std.specs.{Prelude.{◌≢◌, ◌+◌, Bool, List, [], nat_lt, length, codes}, List.{AllByRecursion}}
+use Rattle.dcsctp_tlv.{specs.Format.{Format}, specs.Level.{Row, listed}, specs.Image.{listed_tlv}, specs.Table.{Causes}, proofs.Listed.{listed_sized}, specs.Kinds.{Kind, Nested}}
 use Rattle.dcsctp_cause.specs.Cause as cause
 use Rattle.dcsctp_cause.proofs.CauseLaws.{length-cause}
-use Rattle.dcsctp_tlv.specs.Kinds.{Kind, Nested}
 use Rattle.dcsctp_wire.specs.declared.packet.error_chunk.ErrorChunk.{ErrorChunk}
 
 -- No bytes are the empty list: it is refused.

@@ -1,8 +1,7 @@
 -- HEARTBEAT (RFC 9260 section 3.3.5): type 4; the value is a list of parameters.
 use Rattle.std.specs.Prelude.{List, codes}
-use Rattle.dcsctp_tlv.specs.Format.{Format}
+use Rattle.dcsctp_tlv.specs.{Format.{Format}, Kinds.{Kind}}
 use Rattle.dcsctp_tlv.specs.Parameter as parameter
-use Rattle.dcsctp_tlv.specs.Kinds.{Kind}
 use Rattle.dcsctp_wire.specs.ParameterList as list
 use Rattle.dcsctp_wire.specs.declared.packet.heartbeat_request_chunk.HeartbeatRequestChunk.{HeartbeatRequestChunk}
 

@@ -1,7 +1,6 @@
 -- INIT ACK (RFC 9260 section 3.3.3): type 2.
 use Rattle.std.specs.Prelude.{codes}
-use Rattle.dcsctp_tlv.specs.Format.{Format}
-use Rattle.dcsctp_tlv.specs.Kinds.{Kind}
+use Rattle.dcsctp_tlv.specs.{Format.{Format}, Kinds.{Kind}}
 use Rattle.dcsctp_wire.specs.InitFields as fields
 use Rattle.dcsctp_wire.specs.declared.packet.init_ack_chunk.InitAckChunk.{InitAckChunk}
 

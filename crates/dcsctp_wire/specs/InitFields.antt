@@ -1,18 +1,8 @@
 -- What INIT and INIT ACK have in common (RFC 9260 sections 3.3.2 and 3.3.3): flags ignored; sixteen
 -- bytes of numbers, and after them parameters.
-use Rattle.std.specs.Prelude.{ℕ, Bool, ◌+◌, ◌<◌, ◌^◌, List, ◌++◌, length, drop, codes, nat_le}
-use Rattle.std.specs.List.{AllByRecursion}
-use Rattle.std.specs.Fmt.{decimal}
-use Rattle.std.specs.Int.{w16, w32, to_be_bytes}
-use Rattle.dcsctp_tlv.specs.Number.{number16, number32}
-use Rattle.dcsctp_tlv.specs.Format.{Format}
-use Rattle.dcsctp_tlv.specs.Level.{Row, listed}
-use Rattle.dcsctp_tlv.specs.Image.{listed_tlv}
-use Rattle.dcsctp_tlv.specs.Table.{Parameters}
+use Rattle.std.specs.{Prelude.{ℕ, Bool, ◌+◌, ◌<◌, ◌^◌, List, ◌++◌, length, drop, codes, nat_le}, List.{AllByRecursion}, Fmt.{decimal}, Int.{w16, w32, to_be_bytes}}
+use Rattle.dcsctp_tlv.{specs.Number.{number16, number32}, specs.Format.{Format}, specs.Level.{Row, listed}, specs.Image.{listed_tlv}, specs.Table.{Parameters}, proofs.Listed.{listed_sized}, proofs.ParameterLaws.{length-parameter}, specs.Kinds.{Kind, Nested}}
 use Rattle.dcsctp_tlv.specs.Parameter as parameter
-use Rattle.dcsctp_tlv.proofs.Listed.{listed_sized}
-use Rattle.dcsctp_tlv.proofs.ParameterLaws.{length-parameter}
-use Rattle.dcsctp_tlv.specs.Kinds.{Kind, Nested}
 use Rattle.dcsctp_wire.specs.declared.packet.init_fields.InitFields.{InitFields}
 
 pub record Tree : Type 0 where

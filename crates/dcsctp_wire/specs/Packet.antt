@@ -3,17 +3,8 @@
 --
 --   | source port u16 | destination port u16 | verification tag u32 | checksum u32 | chunks .. |
 use Rattle.std.specs.Prelude.{◌≡◌, ◌≢◌, ℕ, ◌≤◌, ◌+◌, Bool, List, Result, Ok, Err, true, length, drop, nat_lt, if◌then◌else◌}
-use Rattle.dcsctp_tlv.specs.Fault.{Fault}
-use Rattle.dcsctp_tlv.specs.Number.{number16, number32}
-use Rattle.dcsctp_tlv.specs.Level.{MeansTrees, HasFault}
-use Rattle.dcsctp_tlv.specs.Reading.{Errors, Unplaced, error_of}
-use Rattle.dcsctp_tlv.specs.declared.error.ChunkParseError.TheVariants.{OutOfMemory}
-use Rattle.dcsctp_wire.specs.declared.packet.sctp_packet.PacketParseError.{PacketParseError}
-use Rattle.dcsctp_wire.specs.declared.packet.sctp_packet.PacketParseError.TheVariants.{InvalidPacketSize, InvalidChecksum, FailedParseChunk}
-use Rattle.dcsctp_wire.specs.declared.packet.sctp_packet.ChecksumPolicy.{ChecksumPolicy}
-use Rattle.dcsctp_wire.specs.declared.packet.common_header.CommonHeader.{CommonHeader}
-use Rattle.dcsctp_wire.specs.declared.packet.sctp_packet.SctpPacket.{SctpPacket}
-use Rattle.dcsctp_wire.specs.Chunk.{ChunkTree, chunks, views}
+use Rattle.dcsctp_tlv.specs.{Fault.{Fault}, Number.{number16, number32}, Level.{MeansTrees, HasFault}, Reading.{Errors, Unplaced, error_of}, declared.error.ChunkParseError.TheVariants.{OutOfMemory}}
+use Rattle.dcsctp_wire.specs.{declared.packet.sctp_packet.PacketParseError.{PacketParseError}, declared.packet.sctp_packet.PacketParseError.TheVariants.{InvalidPacketSize, InvalidChecksum, FailedParseChunk}, declared.packet.sctp_packet.ChecksumPolicy.{ChecksumPolicy}, declared.packet.common_header.CommonHeader.{CommonHeader}, declared.packet.sctp_packet.SctpPacket.{SctpPacket}, Chunk.{ChunkTree, chunks, views}}
 
 -- ---- packets as plain data
 

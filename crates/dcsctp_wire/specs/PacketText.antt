@@ -1,9 +1,6 @@
 -- The printed text of a packet: no standard names it.
-use Rattle.std.specs.Prelude.{ℕ, List, ◌++◌, codes}
-use Rattle.std.specs.List.{flat_map}
-use Rattle.std.specs.Fmt.{decimal}
-use Rattle.dcsctp_wire.specs.Chunk.{ChunkTree, text}
-use Rattle.dcsctp_wire.specs.Packet.{PacketTree}
+use Rattle.std.specs.{Prelude.{ℕ, List, ◌++◌, codes}, List.{flat_map}, Fmt.{decimal}}
+use Rattle.dcsctp_wire.specs.{Chunk.{ChunkTree, text}, Packet.{PacketTree}}
 
 -- the four numbers of the header, in decimal
 abbrev pub header_text : ℕ → ℕ → ℕ → ℕ → List ℕ

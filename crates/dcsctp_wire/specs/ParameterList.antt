@@ -1,16 +1,9 @@
 -- What the chunks have in common whose value is a list of parameters, and nothing else (RFC 9260
 -- sections 3.3.5 and 3.3.6, RFC 6525 section 3.1): flags are ignored, and any list is read, the
 -- empty one too.
-use Rattle.std.specs.Prelude.{ℕ, ◌+◌, Bool, true, List, [], length}
-use Rattle.std.specs.List.{AllByRecursion}
-use Rattle.dcsctp_tlv.specs.Format.{Format}
-use Rattle.dcsctp_tlv.specs.Level.{Row, listed}
-use Rattle.dcsctp_tlv.specs.Image.{listed_tlv}
-use Rattle.dcsctp_tlv.specs.Table.{Parameters}
+use Rattle.std.specs.{Prelude.{ℕ, ◌+◌, Bool, true, List, [], length}, List.{AllByRecursion}}
+use Rattle.dcsctp_tlv.{specs.Format.{Format}, specs.Level.{Row, listed}, specs.Image.{listed_tlv}, specs.Table.{Parameters}, proofs.Listed.{listed_sized}, proofs.ParameterLaws.{length-parameter}, specs.Kinds.{Kind, Nested}}
 use Rattle.dcsctp_tlv.specs.Parameter as parameter
-use Rattle.dcsctp_tlv.proofs.Listed.{listed_sized}
-use Rattle.dcsctp_tlv.proofs.ParameterLaws.{length-parameter}
-use Rattle.dcsctp_tlv.specs.Kinds.{Kind, Nested}
 
 abbrev pub row : Bool → Row (List parameter.ParameterTree)
 row strict = listed (λ value. true) 0 (parameter.parameters strict) (λ value ps. ps)

@@ -1,11 +1,7 @@
 -- What a check of a packet returns that says where the fault lies (RFC 9260 section 3).
 use Rattle.std.specs.Prelude.{ℕ, List, Option, None, Some, Result, Ok, Err}
-use Rattle.dcsctp_tlv.specs.declared.reader.Counts.{Counts}
-use Rattle.dcsctp_tlv.specs.Reading.{Errors, Counted, counts}
-use Rattle.dcsctp_wire.specs.declared.packet.sctp_packet.ChecksumPolicy.{ChecksumPolicy}
-use Rattle.dcsctp_wire.specs.declared.packet.first_fault.FirstFault.{FirstFault}
-use Rattle.dcsctp_wire.specs.Chunk.{parts as chunk_parts}
-use Rattle.dcsctp_wire.specs.Packet.{PacketTree, PacketFault, Placed, packet_error_of}
+use Rattle.dcsctp_tlv.specs.{declared.reader.Counts.{Counts}, Reading.{Errors, Counted, counts}}
+use Rattle.dcsctp_wire.specs.{declared.packet.sctp_packet.ChecksumPolicy.{ChecksumPolicy}, declared.packet.first_fault.FirstFault.{FirstFault}, Chunk.{parts as chunk_parts}, Packet.{PacketTree, PacketFault, Placed, packet_error_of}}
 
 abbrev pub packet_locating : Errors (PacketFault × ℕ) FirstFault
 packet_locating = record {

@@ -1,8 +1,7 @@
 -- RE-CONFIG (RFC 6525 section 3.1): type 130; the value is a list of parameters.
 use Rattle.std.specs.Prelude.{List, codes}
-use Rattle.dcsctp_tlv.specs.Format.{Format}
+use Rattle.dcsctp_tlv.specs.{Format.{Format}, Kinds.{Kind}}
 use Rattle.dcsctp_tlv.specs.Parameter as parameter
-use Rattle.dcsctp_tlv.specs.Kinds.{Kind}
 use Rattle.dcsctp_wire.specs.ParameterList as list
 use Rattle.dcsctp_wire.specs.declared.packet.re_config_chunk.ReConfigChunk.{ReConfigChunk}
 

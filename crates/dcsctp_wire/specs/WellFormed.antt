@@ -1,8 +1,6 @@
 -- Meanings that a packet (RFC 9260 section 3) can have.
-use Rattle.std.specs.Prelude.{◌≢◌, ◌<◌, ◌^◌, []}
-use Rattle.std.specs.List.{AllByRecursion}
-use Rattle.dcsctp_wire.specs.Chunk.{IsInWidth as IsChunkInWidth, IsWellFormed as IsChunkWellFormed}
-use Rattle.dcsctp_wire.specs.Packet.{Meaning}
+use Rattle.std.specs.{Prelude.{◌≢◌, ◌<◌, ◌^◌, []}, List.{AllByRecursion}}
+use Rattle.dcsctp_wire.specs.{Chunk.{IsInWidth as IsChunkInWidth, IsWellFormed as IsChunkWellFormed}, Packet.{Meaning}}
 
 -- every number lies in its field's width, and every text is one
 pub record IsInWidth (m : Meaning) : Type 0 where

@@ -3,17 +3,9 @@
 
 ghost use Rattle.std.specs.Prelude.{◌≡◌, ◌≤◌, ◌+◌, ◌++◌, ◌%◌, ◌↔◌, ℕ, Bool, true, false, IsTrue, List, Result, length, drop};
 ghost use Rattle.dcsctp_types.specs.Equality.{TellsSame, IsItself};
-ghost use Rattle.dcsctp_tlv.specs.Fault.{Fault};
-ghost use Rattle.dcsctp_tlv.specs.Frame.{PaddingRule, lenient};
-ghost use Rattle.dcsctp_tlv.specs.Level.{MeansTrees, HasFault};
-ghost use Rattle.dcsctp_tlv.specs.Decided.{SplitsOneWay, IsDecided, IgnoresPadding};
-ghost use Rattle.dcsctp_tlv.specs.Image.{size_of, image_of, list_size, written};
-ghost use Rattle.dcsctp_tlv.specs.Number.{AreBytes};
-ghost use Rattle.dcsctp_tlv.specs.Parameter.{parameters, tlv as parameter_tlv};
+ghost use Rattle.dcsctp_tlv.specs.{Fault.{Fault}, Frame.{PaddingRule, lenient}, Level.{MeansTrees, HasFault}, Decided.{SplitsOneWay, IsDecided, IgnoresPadding}, Image.{size_of, image_of, list_size, written}, Number.{AreBytes}, Parameter.{parameters, tlv as parameter_tlv}};
 ghost use Rattle.dcsctp_cause.specs.Cause.{causes};
-ghost use Rattle.dcsctp_wire.specs.Chunk.{ChunkTree, Init, InitAck, chunks, tlv};
-ghost use Rattle.dcsctp_wire.specs.InitFields.{Tree as InitTree};
-ghost use Rattle.dcsctp_wire.specs.Packet.{PacketTree, PacketFault, Chunk, IsOpened, body, packet_with, Answer, Placed};
+ghost use Rattle.dcsctp_wire.specs.{Chunk.{ChunkTree, Init, InitAck, chunks, tlv}, InitFields.{Tree as InitTree}, Packet.{PacketTree, PacketFault, Chunk, IsOpened, body, packet_with, Answer, Placed}};
 
 use crate::packet::abort_chunk::CHUNK_TYPE as ABORT;
 pub use crate::packet::chunk::chunk_has_widths;

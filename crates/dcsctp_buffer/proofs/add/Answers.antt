@@ -1,10 +1,7 @@
-use Rattle.std.proofs.Common.{arith, ℕ, ◌≡◌, ◌+◌, ◌∙◌, ap, length}
-use Rattle.std.proofs.lemmas.Grind.{common_steps}
-use Rattle.dcsctp_tlv.specs.Frame.{round_up_to_4}
-use Rattle.dcsctp_tlv.specs.Image.{size_of}
+use Rattle.std.proofs.{Common.{arith, ℕ, ◌≡◌, ◌+◌, ◌∙◌, ap, length}, lemmas.Grind.{common_steps}}
+use Rattle.dcsctp_tlv.specs.{Frame.{round_up_to_4}, Image.{size_of}}
 use Rattle.dcsctp_wire.specs.Chunk.{tlv as chunk_tlv}
-use Rattle.dcsctp_buffer.specs.Buffer.{HasRoom}
-use Rattle.dcsctp_buffer.proofs.Buffers.{adds}
+use Rattle.dcsctp_buffer.{specs.Buffer.{HasRoom}, proofs.Buffers.{adds}}
 use Rattle.dcsctp_buffer.proofs.add.Goals as goal
 
 pub returns-clause-added : goal.returns-clause-added

@@ -1,9 +1,7 @@
 //! The cleaning of the gap ack blocks of a SACK.
 
-ghost use Rattle.std.specs.Prelude.{◌≡◌, ◌+◌, ◌<◌, ◌≤◌, ◌∷◌, length, take, drop, vec_capacity};
-ghost use Rattle.std.specs.List.{SameFrom};
-ghost use Rattle.dcsctp_chunk.specs.Apart.{IsApart, AreRunsOf, AreFree, both, covered};
-ghost use Rattle.dcsctp_chunk.specs.Cover.{IsCleaned, CleanedLaws, AreValid};
+ghost use Rattle.std.specs.{Prelude.{◌≡◌, ◌+◌, ◌<◌, ◌≤◌, ◌∷◌, length, take, drop, vec_capacity}, List.{SameFrom}};
+ghost use Rattle.dcsctp_chunk.specs.{Apart.{IsApart, AreRunsOf, AreFree, both, covered}, Cover.{IsCleaned, CleanedLaws, AreValid}};
 
 use crate::chunk_validators::runs::{FREE, first_reaching, follows, insert, join_runs, make_free};
 use crate::chunk_validators::validate::are_apart;

@@ -1,8 +1,7 @@
 //! Runs of offsets in a slice of blocks: a list by rising start, each at least 2 past the end of
 //! the one before it. A block is put in among them, and two such lists are joined.
 
-ghost use Rattle.std.specs.Prelude.{◌≡◌, ◌↔◌, ℕ, ◌+◌, ◌-◌, ◌<◌, ◌≤◌, [], ◌∷◌, ◌++◌, length, IsTrue, take, drop, max, slice_index_or};
-ghost use Rattle.std.specs.List.{copy_within, CopiedTo, SameFrom};
+ghost use Rattle.std.specs.{Prelude.{◌≡◌, ◌↔◌, ℕ, ◌+◌, ◌-◌, ◌<◌, ◌≤◌, [], ◌∷◌, ◌++◌, length, IsTrue, take, drop, max, slice_index_or}, List.{copy_within, CopiedTo, SameFrom}};
 ghost use Rattle.dcsctp_chunk.specs.Apart.{IsApart, AreRunsOf, AreFree, LastStartsBy, IsReachedAt, after, around, placed};
 
 use crate::sack_chunk::GapAckBlock;

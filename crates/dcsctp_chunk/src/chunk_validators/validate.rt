@@ -1,10 +1,8 @@
 //! Whether the gap ack blocks of a SACK are in order.
 
-ghost use Rattle.std.specs.Prelude.{◌↔◌, ℕ, ◌≤◌, ◌^◌, IsTrue};
-ghost use Rattle.std.specs.List.{All};
+ghost use Rattle.std.specs.{Prelude.{◌↔◌, ℕ, ◌≤◌, ◌^◌, IsTrue}, List.{All}};
 ghost use Rattle.dcsctp_types.specs.Serial.{wrapped_sum, IsGreater};
-ghost use Rattle.dcsctp_chunk.specs.Apart.{IsApart};
-ghost use Rattle.dcsctp_chunk.specs.Cover.{Covers, AreValid};
+ghost use Rattle.dcsctp_chunk.specs.{Apart.{IsApart}, Cover.{Covers, AreValid}};
 
 use crate::sack_chunk::{GapAckBlock, SackChunk};
 

@@ -1,11 +1,7 @@
 //! A parameter or an error cause before its value is looked at, and its header.
 
-ghost use Rattle.std.specs.Borrow.{sem};
-ghost use Rattle.std.specs.Prelude.{◌≡◌, ◌↔◌, ◌≤◌, ◌<◌, ◌+◌, ◌^◌, length, take, drop, IsOk, IfOk, IfErr};
-ghost use Rattle.dcsctp_tlv.specs.Frame.{typed_header, BeginsWithFrame, frame_value, frame_padding, frame_rest};
-ghost use Rattle.dcsctp_tlv.specs.Lending.{LendsValue};
-ghost use Rattle.dcsctp_tlv.specs.Number.{number16};
-ghost use Rattle.dcsctp_tlv.specs.declared.error.ChunkParseError.TheVariants.{InvalidLength};
+ghost use Rattle.std.specs.{Borrow.{sem}, Prelude.{◌≡◌, ◌↔◌, ◌≤◌, ◌<◌, ◌+◌, ◌^◌, length, take, drop, IsOk, IfOk, IfErr}};
+ghost use Rattle.dcsctp_tlv.specs.{Frame.{typed_header, BeginsWithFrame, frame_value, frame_padding, frame_rest}, Lending.{LendsValue}, Number.{number16}, declared.error.ChunkParseError.TheVariants.{InvalidLength}};
 
 use crate::error::ChunkParseError;
 use crate::frame::{padding_parts, split_frame};

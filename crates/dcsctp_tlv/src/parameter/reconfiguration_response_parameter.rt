@@ -17,9 +17,8 @@
 //! ```
 
 ghost use Rattle.std.specs.Prelude.{◌≡◌, ◌≢◌, ◌↔◌, ◌≤◌, Some, Ok, IsOk, IsErrOf};
-ghost use Rattle.dcsctp_tlv.specs.Reading.{Exactly, reading, checking, Tested};
+ghost use Rattle.dcsctp_tlv.specs.{Reading.{Exactly, reading, checking, Tested}, ReconfigurationResponse.{result_of, result_number}};
 ghost use Rattle.dcsctp_tlv.specs.ReconfigurationResponse as kind;
-ghost use Rattle.dcsctp_tlv.specs.ReconfigurationResponse.{result_of, result_number};
 
 use crate::error::ChunkParseError;
 use crate::fields::put_parameter_fields;

@@ -1,7 +1,6 @@
 //! The id by which an application follows a message.
 
-ghost use Rattle.std.specs.Prelude.{◌≡◌, ◌≢◌, ◌<◌, ◌↔◌, ℕ, Some, IsNone, IfSome};
-ghost use Rattle.std.specs.Fmt.{decimal};
+ghost use Rattle.std.specs.{Prelude.{◌≡◌, ◌≢◌, ◌<◌, ◌↔◌, ℕ, Some, IsNone, IfSome}, Fmt.{decimal}};
 
 use std::fmt;
 use std::marker::Model;

@@ -1,7 +1,6 @@
 //! The payload protocol identifier.
 
-ghost use Rattle.std.specs.Prelude.{◌≡◌, Some};
-ghost use Rattle.std.specs.Fmt.{decimal};
+ghost use Rattle.std.specs.{Prelude.{◌≡◌, Some}, Fmt.{decimal}};
 
 use std::fmt;
 

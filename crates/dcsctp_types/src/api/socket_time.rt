@@ -1,8 +1,6 @@
 //! Points in time.
 
-ghost use Rattle.std.specs.Prelude.{◌≡◌, ◌+◌, ◌-◌, min};
-ghost use Rattle.std.specs.Duration.{as_nanos, max_nanos};
-ghost use Rattle.std.specs.declared.time.Duration.{Duration};
+ghost use Rattle.std.specs.{Prelude.{◌≡◌, ◌+◌, ◌-◌, min}, Duration.{as_nanos, max_nanos}, declared.time.Duration.{Duration}};
 
 use std::marker::Model;
 use std::ops::{Add, Sub};

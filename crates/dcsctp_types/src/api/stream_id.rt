@@ -1,7 +1,6 @@
 //! The number of a stream.
 
-ghost use Rattle.std.specs.Prelude.{◌≡◌, Some};
-ghost use Rattle.std.specs.Fmt.{decimal};
+ghost use Rattle.std.specs.{Prelude.{◌≡◌, Some}, Fmt.{decimal}};
 
 use std::fmt;
 

@@ -1,7 +1,6 @@
 //! The id of a message that is sent.
 
-ghost use Rattle.std.specs.Prelude.{◌≡◌, ◌^◌, Some};
-ghost use Rattle.std.specs.Fmt.{decimal};
+ghost use Rattle.std.specs.{Prelude.{◌≡◌, ◌^◌, Some}, Fmt.{decimal}};
 ghost use Rattle.dcsctp_types.specs.Serial.{wrapped_sum};
 
 use std::fmt;

@@ -1,8 +1,6 @@
 //! The transmission sequence number.
 
-ghost use Rattle.std.specs.Prelude.{◌≡◌, ◌^◌, Some};
-ghost use Rattle.std.specs.Fmt.{decimal};
-ghost use Rattle.std.proofs.Common.{rules};
+ghost use Rattle.std.{proofs.Common.{◌≡◌, ◌^◌, Some, rules}, specs.Fmt.{decimal}};
 ghost use Rattle.dcsctp_types.specs.Serial.{wrapped_sum, wrapped_difference};
 
 use crate::types::SerialNumber;

@@ -1,15 +1,9 @@
 //! Packets that are built chunk by chunk: the common header, and after it each chunk with its
 //! padding. A packet's bytes are reserved once, and written in place.
 
-ghost use Rattle.std.specs.Prelude.{◌≡◌, ◌≢◌, ◌≤◌, ◌+◌, ◌-◌, ◌*◌, ◌/◌, ◌++◌, ◌∷◌, [], ◌↔◌, ℕ, List, true, false, max, length, take, drop, vec_len, vec_capacity, IsTrue, IsOk, IfOk, OnOk, OnErr};
-ghost use Rattle.dcsctp_tlv.specs.Frame.{round_up_to_4};
-ghost use Rattle.dcsctp_tlv.specs.Image.{size_of, image_of, written};
-ghost use Rattle.dcsctp_wire.specs.Chunk.{ChunkTree, tlv as chunk_tlv, IsChunkEncodable, view, all_kept as kept_chunks, IsWellFormed as IsChunkWellFormed};
-ghost use Rattle.dcsctp_wire.specs.Canonical.{padded_chunk, padded_size};
-ghost use Rattle.dcsctp_wire.specs.Builder.{Holds, IsHeaderInWidth, meaning_with, room, begun, built};
-ghost use Rattle.dcsctp_wire.specs.Packet.{IsAccepted, checksum_field, Answer};
-ghost use Rattle.dcsctp_wire.specs.declared.packet.sctp_packet.ChecksumPolicy.{ChecksumPolicy};
-ghost use Rattle.std.specs.List.{AllByRecursion};
+ghost use Rattle.std.specs.{Prelude.{◌≡◌, ◌≢◌, ◌≤◌, ◌+◌, ◌-◌, ◌*◌, ◌/◌, ◌++◌, ◌∷◌, [], ◌↔◌, ℕ, List, true, false, max, length, take, drop, vec_len, vec_capacity, IsTrue, IsOk, IfOk, OnOk, OnErr}, List.{AllByRecursion}};
+ghost use Rattle.dcsctp_tlv.specs.{Frame.{round_up_to_4}, Image.{size_of, image_of, written}};
+ghost use Rattle.dcsctp_wire.specs.{Chunk.{ChunkTree, tlv as chunk_tlv, IsChunkEncodable, view, all_kept as kept_chunks, IsWellFormed as IsChunkWellFormed}, Canonical.{padded_chunk, padded_size}, Builder.{Holds, IsHeaderInWidth, meaning_with, room, begun, built}, Packet.{IsAccepted, checksum_field, Answer}, declared.packet.sctp_packet.ChecksumPolicy.{ChecksumPolicy}};
 
 use crate::packet::chunk::{Chunk, chunk_has_widths};
 use crate::packet::common_header::{COMMON_HEADER_SIZE, header_bytes};

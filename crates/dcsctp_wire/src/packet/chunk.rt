@@ -1,10 +1,7 @@
 //! A chunk of any kind.
 
 ghost use Rattle.std.specs.Prelude.{◌≡◌, ◌<◌, ◌+◌, Some, IsOk, IfOk, IsErrOf, vec_len, vec_capacity};
-ghost use Rattle.dcsctp_tlv.specs.Frame.{lenient};
-ghost use Rattle.dcsctp_tlv.specs.Level.{HasMeaning, Grows};
-ghost use Rattle.dcsctp_tlv.specs.Reading.{Exactly, reading, RowAnswer, Unplaced};
-ghost use Rattle.dcsctp_tlv.specs.Table.{IsUnnamed};
+ghost use Rattle.dcsctp_tlv.specs.{Frame.{lenient}, Level.{HasMeaning, Grows}, Reading.{Exactly, reading, RowAnswer, Unplaced}, Table.{IsUnnamed}};
 ghost use Rattle.dcsctp_wire.specs.Chunk as chunk;
 ghost use Rattle.dcsctp_wire.specs.Chunk.{parts as chunk_parts, ChunkTree, chunk_row, chunks, plain_rows, TakesNoMemory, IsPlaced, text as chunk_text, view, IsInWidth, IsTight};
 
@@ -26,8 +23,8 @@ use crate::packet::shutdown_ack_chunk::ShutdownAckChunk;
 use crate::packet::shutdown_chunk::ShutdownChunk;
 use crate::packet::shutdown_complete_chunk::ShutdownCompleteChunk;
 use crate::packet::unknown_chunk::UnknownChunk;
-use dcsctp_chunk::plain_kinds;
 pub use dcsctp_chunk::plain_check::plain_check;
+use dcsctp_chunk::plain_kinds;
 pub use dcsctp_chunk::raw_chunk::{RawChunk, write_chunk_header};
 use dcsctp_tlv::each_arms;
 use dcsctp_tlv::error::{ChunkParseError, LocatedFault};

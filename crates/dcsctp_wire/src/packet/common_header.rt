@@ -13,9 +13,7 @@
 //! ```
 
 ghost use Rattle.std.specs.Prelude.{◌≡◌, ◌↔◌, ◌≤◌, [], Some, IsSome, IfSome, length};
-ghost use Rattle.dcsctp_wire.specs.Packet.{header_of};
-ghost use Rattle.dcsctp_wire.specs.Canonical.{canonical};
-ghost use Rattle.dcsctp_wire.specs.PacketText.{header_text};
+ghost use Rattle.dcsctp_wire.specs.{Packet.{header_of}, Canonical.{canonical}, PacketText.{header_text}};
 
 use dcsctp_tlv::number::{put_u32, read_u16_be, read_u32_be};
 use std::fmt;

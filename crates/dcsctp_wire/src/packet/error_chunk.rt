@@ -10,14 +10,9 @@
 //! +-+-+-+-+-+-+-+-+-+-+-+-+-+-+-+-+-+-+-+-+-+-+-+-+-+-+-+-+-+-+-+-+
 //! ```
 
-ghost use Rattle.std.specs.Prelude.{◌≡◌, ◌≢◌, ◌↔◌, ◌+◌, List, [], length, Some, IfOk, IsErrOf, vec_capacity, All, vec_len};
-ghost use Rattle.dcsctp_tlv.specs.Frame.{lenient};
-ghost use Rattle.dcsctp_tlv.specs.Level.{HasMeaning};
-ghost use Rattle.dcsctp_tlv.specs.Reading.{Exactly, reading, RowAnswer, Unplaced};
-ghost use Rattle.dcsctp_cause.specs.Cause.{IsTight as IsTightCause};
-ghost use Rattle.dcsctp_tlv.proofs.Laws.{listed_lawful};
-ghost use Rattle.dcsctp_cause.proofs.CauseLaws.{causes_lawful};
-ghost use Rattle.dcsctp_cause.specs.Cause as cause;
+ghost use Rattle.std.specs.Prelude.{◌≡◌, ◌≢◌, ◌↔◌, ◌+◌, [], length, Some, IfOk, IsErrOf, vec_capacity, All, vec_len};
+ghost use Rattle.dcsctp_tlv.{specs.Frame.{lenient}, specs.Level.{HasMeaning}, specs.Reading.{Exactly, reading, RowAnswer, Unplaced}, proofs.Laws.{listed_lawful}};
+ghost use Rattle.dcsctp_cause.{specs.Cause.{IsTight as IsTightCause}, proofs.CauseLaws.{causes_lawful}};
 ghost use Rattle.dcsctp_wire.specs.Error as kind;
 
 use dcsctp_cause::error_causes::{ErrorCause, error_cause_fill};

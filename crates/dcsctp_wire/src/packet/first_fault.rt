@@ -1,10 +1,8 @@
 //! The first fault of a packet, and where it lies.
 
 ghost use Rattle.std.specs.Prelude.{◌≡◌, ◌≤◌, length, IfSome};
-ghost use Rattle.dcsctp_tlv.specs.Reading.{Exactly};
-ghost use Rattle.dcsctp_wire.specs.Place.{PacketLocated, packet_locating, refused};
-ghost use Rattle.dcsctp_tlv.specs.declared.error.ChunkParseError.TheVariants.{OutOfMemory};
-ghost use Rattle.dcsctp_wire.specs.declared.packet.sctp_packet.PacketParseError.TheVariants.{FailedParseChunk};
+ghost use Rattle.dcsctp_tlv.specs.{Reading.{Exactly}, declared.error.ChunkParseError.TheVariants.{OutOfMemory}};
+ghost use Rattle.dcsctp_wire.specs.{Place.{PacketLocated, packet_locating, refused}, declared.packet.sctp_packet.PacketParseError.TheVariants.{FailedParseChunk}};
 
 use crate::packet::sctp_packet::{ChecksumPolicy, PacketParseError, SctpPacket, check_packet};
 

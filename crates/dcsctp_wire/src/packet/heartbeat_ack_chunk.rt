@@ -10,14 +10,8 @@
 //! +-+-+-+-+-+-+-+-+-+-+-+-+-+-+-+-+-+-+-+-+-+-+-+-+-+-+-+-+-+-+-+-+
 //! ```
 
-ghost use Rattle.std.specs.Prelude.{◌≡◌, ◌≢◌, ◌↔◌, ◌+◌, List, [], length, Some, IfOk, IsErrOf, vec_capacity, All, vec_len};
-ghost use Rattle.dcsctp_tlv.specs.Frame.{lenient};
-ghost use Rattle.dcsctp_tlv.specs.Level.{HasMeaning};
-ghost use Rattle.dcsctp_tlv.specs.Reading.{Exactly, reading, RowAnswer, Unplaced};
-ghost use Rattle.dcsctp_tlv.specs.Parameter.{IsTight as IsTightParameter};
-ghost use Rattle.dcsctp_tlv.proofs.Laws.{listed_lawful};
-ghost use Rattle.dcsctp_tlv.proofs.ParameterLaws.{parameters_lawful};
-ghost use Rattle.dcsctp_tlv.specs.Parameter as parameter;
+ghost use Rattle.std.specs.Prelude.{◌≡◌, ◌≢◌, ◌↔◌, ◌+◌, [], length, Some, IfOk, IsErrOf, vec_capacity, All, vec_len};
+ghost use Rattle.dcsctp_tlv.{specs.Frame.{lenient}, specs.Level.{HasMeaning}, specs.Reading.{Exactly, reading, RowAnswer, Unplaced}, specs.Parameter.{IsTight as IsTightParameter}, proofs.Laws.{listed_lawful}, proofs.ParameterLaws.{parameters_lawful}};
 ghost use Rattle.dcsctp_wire.specs.HeartbeatAck as kind;
 ghost use Rattle.dcsctp_wire.specs.ParameterList as parameter_list;
 

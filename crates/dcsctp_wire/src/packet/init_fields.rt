@@ -1,10 +1,7 @@
 //! What INIT and INIT ACK have in common.
 
-ghost use Rattle.std.specs.Prelude.{◌≡◌, ◌≤◌, ◌+◌, ◌*◌, [], length, drop, vec_len, vec_capacity, IsOk, IfOk, IfErr, All};
-ghost use Rattle.dcsctp_tlv.specs.Frame.{lenient};
-ghost use Rattle.dcsctp_tlv.specs.Level.{HasMeaning};
+ghost use Rattle.std.specs.Prelude.{◌≡◌, ◌≤◌, ◌+◌, ◌*◌, [], length, vec_len, vec_capacity, IfOk, IfErr};
 ghost use Rattle.dcsctp_tlv.specs.Reading.{Answers, locating, RowAnswer, Counted};
-ghost use Rattle.dcsctp_tlv.specs.Parameter.{IsTight as IsTightParameter};
 ghost use Rattle.dcsctp_wire.specs.InitFields.{row as init_row, parts as init_parts, leading as init_numbers, tree_of, view as init_fields_view};
 
 use dcsctp_tlv::error::{ChunkParseError, LocatedFault};

@@ -14,19 +14,9 @@
 //! +-+-+-+-+-+-+-+-+-+-+-+-+-+-+-+-+-+-+-+-+-+-+-+-+-+-+-+-+-+-+-+-+
 //! ```
 
-ghost use Rattle.std.specs.Prelude.{◌≡◌, ◌↔◌, ◌≤◌, ◌+◌, ◌-◌, ◌*◌, ◌/◌, ℕ, [], false, true, Some, length, replicate, vec_len, vec_capacity, IsTrue, IfOk, IfErr, IsErrOf, All};
-ghost use Rattle.dcsctp_wire.specs.Chunk.{views, IsTight};
-ghost use Rattle.dcsctp_tlv.specs.Reading.{Answers, Exactly, Counted};
-ghost use Rattle.dcsctp_wire.specs.Packet.{Meaning, Answer, Placed, IsPacket, IsAccepted, meaning_view, packet_view, packet_reading, packet_checking};
-ghost use Rattle.dcsctp_wire.specs.Account.{KeepsTexts, KeepsSize, node_count};
-ghost use Rattle.dcsctp_wire.specs.Place.{packet_counts, packet_locating};
-ghost use Rattle.dcsctp_wire.specs.Canonical.{canonical, padded_size, Fits};
-ghost use Rattle.dcsctp_wire.specs.PacketText.{packet_text, next_lines};
-ghost use Rattle.std.specs.Fmt.{WritesOnOk};
-ghost use Rattle.dcsctp_wire.specs.WellFormed.{IsInWidth, IsWellFormed};
-ghost use Rattle.dcsctp_wire.specs.declared.packet.sctp_packet.ChecksumPolicy.{ChecksumPolicy};
-ghost use Rattle.dcsctp_tlv.specs.declared.error.ChunkParseError.TheVariants.{OutOfMemory};
-ghost use Rattle.dcsctp_wire.specs.declared.packet.sctp_packet.PacketParseError.TheVariants.{FailedParseChunk};
+ghost use Rattle.std.specs.{Prelude.{◌≡◌, ◌↔◌, ◌≤◌, ◌+◌, ◌-◌, ◌*◌, ◌/◌, ℕ, [], false, true, Some, length, replicate, vec_len, vec_capacity, IsTrue, IfOk, IfErr, IsErrOf, All}, Fmt.{WritesOnOk}};
+ghost use Rattle.dcsctp_wire.specs.{Chunk.{views, IsTight}, Packet.{Meaning, Answer, Placed, IsPacket, IsAccepted, meaning_view, packet_view, packet_reading, packet_checking}, Account.{KeepsTexts, KeepsSize, node_count}, Place.{packet_counts, packet_locating}, Canonical.{canonical, padded_size, Fits}, PacketText.{packet_text, next_lines}, WellFormed.{IsInWidth, IsWellFormed}, declared.packet.sctp_packet.ChecksumPolicy.{ChecksumPolicy}, declared.packet.sctp_packet.PacketParseError.TheVariants.{FailedParseChunk}};
+ghost use Rattle.dcsctp_tlv.specs.{Reading.{Answers, Exactly, Counted}, declared.error.ChunkParseError.TheVariants.{OutOfMemory}};
 
 pub use crate::packet::builder::SctpPacketBuilder;
 use crate::packet::chunk::Chunk;

@@ -1,15 +1,6 @@
-use Rattle.std.proofs.Common.{◌≡◌, ◌+◌, ap, subst, sym, ◌∙◌, refl, arith}
-use Rattle.std.specs.Int.{w16, to_be_bytes}
-use Rattle.std.specs.List.{flat_map}
-use Rattle.std.proofs.lemmas.List.{take_all}
-use Rattle.std.proofs.lemmas.List.Folds.{flat_map-map}
-use Rattle.std.proofs.lemmas.List.Elements.{recursion_from_All}
-use Rattle.dcsctp_tlv.specs.Image.{put}
-use Rattle.dcsctp_tlv.proofs.Images.{all_more}
-use Rattle.dcsctp_tlv.proofs.Kept.{all_map}
-use Rattle.dcsctp_tlv.proofs.Puts.{put-put, put_more}
-use Rattle.dcsctp_chunk.specs.Sack.{block_bytes, IsBlockInWidth}
-use Rattle.dcsctp_chunk.specs.declared.sack_chunk.GapAckBlock.{GapAckBlock}
+use Rattle.std.{proofs.Common.{◌≡◌, ◌+◌, ap, subst, sym, ◌∙◌, refl, arith, take_all}, specs.Int.{w16, to_be_bytes}, specs.List.{flat_map}, proofs.lemmas.List.Folds.{flat_map-map}, proofs.lemmas.List.Elements.{recursion_from_All}}
+use Rattle.dcsctp_tlv.{specs.Image.{put}, proofs.Images.{all_more}, proofs.Kept.{all_map}, proofs.Puts.{put-put, put_more}}
+use Rattle.dcsctp_chunk.specs.{Sack.{block_bytes, IsBlockInWidth}, declared.sack_chunk.GapAckBlock.{GapAckBlock}}
 use Rattle.dcsctp_buffer.proofs.sack.put_blocks.Goals as goal
 
 pub loop-item-preserved : goal.loop-item-preserved

@@ -1,5 +1,4 @@
-use Rattle.std.proofs.Common.{◌≡◌, ◌<◌, ◌+◌, ◌*◌, ℕ, take, get_or}
-use Rattle.std.specs.List.{flat_map}
+use Rattle.std.{proofs.Common.{◌≡◌, ◌<◌, ◌+◌, ◌*◌, ℕ, take, get_or}, specs.List.{flat_map}}
 use Rattle.dcsctp_tlv.specs.Image.{put}
 use Rattle.dcsctp_chunk.specs.Sack.{block_bytes, IsBlockInWidth}
 use Rattle.dcsctp_buffer.proofs.sack.put_blocks.Given as goal

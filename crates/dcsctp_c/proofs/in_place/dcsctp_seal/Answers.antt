@@ -1,9 +1,7 @@
-use Rattle.std.proofs.Common.{◌≡◌, ◌∙◌, ℕ, List, Ok, length, take, ap, sym, subst, arith}
-use Rattle.std.proofs.lemmas.List.{take_all}
+use Rattle.std.proofs.Common.{◌≡◌, ◌∙◌, ℕ, List, Ok, length, take, ap, sym, subst, arith, take_all}
 use Rattle.dcsctp_crc32c.specs.Checksum.{packet_word}
 use Rattle.dcsctp_wire.specs.Packet.{Answer, equal}
-use Rattle.dcsctp_buffer.specs.Buffer.{kept}
-use Rattle.dcsctp_buffer.proofs.Buffers.{sealed_reads}
+use Rattle.dcsctp_buffer.{specs.Buffer.{kept}, proofs.Buffers.{sealed_reads}}
 use Rattle.dcsctp_c.proofs.in_place.dcsctp_seal.Goals as goal
 
 pub returns-clause-sealed : goal.returns-clause-sealed

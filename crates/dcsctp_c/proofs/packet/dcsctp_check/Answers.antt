@@ -1,6 +1,5 @@
 use Rattle.std.proofs.Common.{Ok, refl}
-use Rattle.dcsctp_c.specs.Code.{policy_of}
-use Rattle.dcsctp_c.proofs.AnswerCodes.{answered, checked_code}
+use Rattle.dcsctp_c.{specs.Code.{policy_of}, proofs.AnswerCodes.{answered, checked_code}}
 use Rattle.dcsctp_c.proofs.packet.dcsctp_check.Goals as goal
 
 pub returns-in-Ok : goal.returns-in-Ok

@@ -1,8 +1,6 @@
 use Rattle.std.proofs.Common.{ap, Err}
 use Rattle.dcsctp_wire.specs.Packet.{packet_view}
-use Rattle.dcsctp_c.specs.Code.{policy_of}
-use Rattle.dcsctp_c.specs.Output.{IsText}
-use Rattle.dcsctp_c.proofs.AnswerCodes.{of_packet, refused}
+use Rattle.dcsctp_c.{specs.Code.{policy_of}, specs.Output.{IsText}, proofs.AnswerCodes.{of_packet, refused}}
 use Rattle.dcsctp_c.proofs.packet.dcsctp_print.Goals as goal
 
 pub returns-in-Ok : goal.returns-in-Ok

@@ -1,7 +1,6 @@
 use Rattle.std.proofs.Common.{rules}
 use Rattle.dcsctp_wire.specs.Packet.{packet_view}
-use Rattle.dcsctp_c.specs.Output.{IsText}
-use Rattle.dcsctp_c.proofs.AnswerCodes.{one_form}
+use Rattle.dcsctp_c.{specs.Output.{IsText}, proofs.AnswerCodes.{one_form}}
 use Rattle.dcsctp_c.proofs.packet.print.Goals as goal
 
 pub returns-in-Ok : goal.returns-in-Ok

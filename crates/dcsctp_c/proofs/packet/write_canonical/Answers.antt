@@ -1,8 +1,6 @@
 use Rattle.std.proofs.Common.{◌≡◌, ◌<◌, true, length, refl, rules, arith}
-use Rattle.dcsctp_wire.specs.Canonical.{canonical}
-use Rattle.dcsctp_wire.specs.Packet.{meaning_view}
-use Rattle.dcsctp_c.specs.Output.{written, no_room}
-use Rattle.dcsctp_c.proofs.AnswerCodes.{resized}
+use Rattle.dcsctp_wire.specs.{Canonical.{canonical}, Packet.{meaning_view}}
+use Rattle.dcsctp_c.{specs.Output.{written, no_room}, proofs.AnswerCodes.{resized}}
 use Rattle.dcsctp_c.proofs.packet.write_canonical.Goals as goal
 
 pub returns-then-needed-output : goal.returns-then-needed-output

@@ -1,6 +1,5 @@
 use Rattle.std.proofs.Common.{false}
-use Rattle.dcsctp_c.specs.Part.{HoldsInit, init_at}
-use Rattle.dcsctp_c.proofs.InitRows.{init_alike, nothing_read}
+use Rattle.dcsctp_c.{specs.Part.{HoldsInit, init_at}, proofs.InitRows.{init_alike, nothing_read}}
 use Rattle.dcsctp_c.proofs.parts.dcsctp_init.Goals as goal
 
 pub returns-in_default-clause-means : goal.returns-in_default-clause-means

@@ -1,10 +1,6 @@
-use Rattle.std.proofs.Common.{Ok, Err, ap}
-use Rattle.std.proofs.lemmas.Result.{err_from_is_err_and}
-use Rattle.dcsctp_tlv.specs.declared.reader.Counts.{Counts}
-use Rattle.dcsctp_cause.specs.Cause.{causes}
-use Rattle.dcsctp_cause.proofs.CauseLaws.{causes_lawful}
-use Rattle.dcsctp_tlv.proofs.Exact.{count_exactly}
-use Rattle.dcsctp_tlv.proofs.Places.{fault_only}
+use Rattle.std.proofs.{Common.{Ok, Err, ap}, lemmas.Result.{err_from_is_err_and}}
+use Rattle.dcsctp_tlv.{specs.declared.reader.Counts.{Counts}, proofs.Exact.{count_exactly}, proofs.Places.{fault_only}}
+use Rattle.dcsctp_cause.{specs.Cause.{causes}, proofs.CauseLaws.{causes_lawful}}
 use Rattle.dcsctp_cause.proofs.error_causes.error_cause_check.Goals as goal
 
 pub returns-in_err-counts-clause-answer : goal.returns-in_err-counts-clause-answer

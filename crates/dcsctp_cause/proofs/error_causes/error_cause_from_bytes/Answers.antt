@@ -1,7 +1,5 @@
-use Rattle.dcsctp_tlv.specs.Frame.{lenient}
-use Rattle.dcsctp_cause.specs.Cause.{causes, views}
-use Rattle.dcsctp_cause.proofs.CauseLaws.{causes_lawful}
-use Rattle.dcsctp_tlv.proofs.Exact.{list_exactly}
+use Rattle.dcsctp_tlv.{specs.Frame.{lenient}, proofs.Exact.{list_exactly}}
+use Rattle.dcsctp_cause.{specs.Cause.{causes, views}, proofs.CauseLaws.{causes_lawful}}
 use Rattle.dcsctp_cause.proofs.error_causes.error_cause_from_bytes.Goals as goal
 
 pub returns-clause-answer : goal.returns-clause-answer

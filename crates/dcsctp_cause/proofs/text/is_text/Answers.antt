@@ -1,5 +1,4 @@
-use Rattle.std.proofs.Common.{rules}
-use Rattle.std.proofs.lemmas.Str.{IsUtf8-string_bytes}
+use Rattle.std.proofs.{Common.{rules}, lemmas.Str.{IsUtf8-string_bytes}}
 use Rattle.dcsctp_cause.proofs.text.is_text.Goals as goal
 
 pub returns : goal.returns

@@ -1,6 +1,5 @@
 -- The blocks so far fit, and those that are left decide.
-use Rattle.std.proofs.Common.{drop}
-use Rattle.std.specs.List.{AllByRecursion}
+use Rattle.std.{proofs.Common.{drop}, specs.List.{AllByRecursion}}
 use Rattle.dcsctp_chunk.specs.Sack.{IsBlockInWidth}
 use Rattle.dcsctp_chunk.proofs.sack_chunk.blocks_have_widths.Given as goal
 

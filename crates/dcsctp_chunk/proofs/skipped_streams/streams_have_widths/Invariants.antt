@@ -1,6 +1,5 @@
 -- The streams so far fit, and those that are left decide.
-use Rattle.std.proofs.Common.{drop}
-use Rattle.std.specs.List.{AllByRecursion}
+use Rattle.std.{proofs.Common.{drop}, specs.List.{AllByRecursion}}
 use Rattle.dcsctp_chunk.specs.SkippedStreams.{IsSkippedStreamInWidth, skipped_stream_views}
 use Rattle.dcsctp_chunk.proofs.skipped_streams.streams_have_widths.Given as goal
 

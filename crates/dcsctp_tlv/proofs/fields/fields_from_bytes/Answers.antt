@@ -1,7 +1,5 @@
-use Rattle.std.proofs.Common.{arith, sym, ap, ◌∙◌, ◌≡◌, ◌*◌, ◌++◌, [], ◌∷◌, ℕ, List, drop, map}
-use Rattle.std.proofs.lemmas.List.{map_push, take_rest}
-use Rattle.dcsctp_tlv.specs.Fields.{fields}
-use Rattle.dcsctp_tlv.proofs.Puts.{fields-push}
+use Rattle.std.proofs.{Common.{arith, sym, ap, ◌∙◌, ◌≡◌, ◌*◌, ◌++◌, [], ◌∷◌, ℕ, List, drop, map}, lemmas.List.{map_push, take_rest}}
+use Rattle.dcsctp_tlv.{specs.Fields.{fields}, proofs.Puts.{fields-push}}
 use Rattle.dcsctp_tlv.proofs.fields.fields_from_bytes.Goals as goal
 
 pub loop-i-preserved : goal.loop-i-preserved

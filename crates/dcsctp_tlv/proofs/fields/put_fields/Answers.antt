@@ -1,9 +1,5 @@
-use Rattle.std.proofs.Common.{arith, sym, ap, subst, ◌∙◌, ◌≡◌, ◌+◌, ℕ, length, drop}
-use Rattle.std.specs.List.{flat_map}
-use Rattle.std.proofs.lemmas.List.{take_all, drop-drop}
-use Rattle.std.proofs.lemmas.List.Folds.{flat_map-map}
-use Rattle.dcsctp_tlv.specs.Image.{put}
-use Rattle.dcsctp_tlv.proofs.Puts.{next_place, put_more}
+use Rattle.std.{proofs.Common.{arith, sym, ap, subst, ◌∙◌, ◌≡◌, ◌+◌, ℕ, length, drop, take_all, drop-drop}, specs.List.{flat_map}, proofs.lemmas.List.Folds.{flat_map-map}}
+use Rattle.dcsctp_tlv.{specs.Image.{put}, proofs.Puts.{next_place, put_more}}
 use Rattle.dcsctp_tlv.proofs.fields.put_fields.Goals as goal
 
 pub loop-value-preserved : goal.loop-value-preserved

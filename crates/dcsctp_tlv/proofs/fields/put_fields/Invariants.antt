@@ -1,5 +1,4 @@
-use Rattle.std.proofs.Common.{◌≡◌, ◌+◌, ◌*◌, take}
-use Rattle.std.specs.List.{flat_map}
+use Rattle.std.{proofs.Common.{◌≡◌, ◌+◌, ◌*◌, take}, specs.List.{flat_map}}
 use Rattle.dcsctp_tlv.specs.Image.{put}
 use Rattle.dcsctp_tlv.proofs.fields.put_fields.Given as goal
 

@@ -1,12 +1,6 @@
 -- The size that is counted over the fields is the size of their bytes.
-use Rattle.std.proofs.Common.{arith, refl, ap, ◌∙◌, ◌≡◌, ◌+◌, ◌*◌, ◌++◌, ℕ, List, length, map}
-use Rattle.std.specs.Int.{w32, to_be_bytes}
-use Rattle.std.specs.List.{flat_map}
-use Rattle.std.proofs.lemmas.List.{length-map, map-id}
-use Rattle.dcsctp_tlv.specs.Format.{flagged_tlv}
-use Rattle.dcsctp_tlv.specs.Image.{put, image_of, written}
-use Rattle.dcsctp_tlv.specs.Number.{numbers}
-use Rattle.dcsctp_tlv.proofs.Puts.{length-value, length-numbers, put-put, written_value}
+use Rattle.std.{proofs.Common.{arith, refl, ap, ◌∙◌, ◌≡◌, ◌+◌, ◌*◌, ◌++◌, ℕ, List, length, map, map-id}, specs.Int.{w32, to_be_bytes}, specs.List.{flat_map}, proofs.lemmas.List.{length-map}}
+use Rattle.dcsctp_tlv.{specs.Format.{flagged_tlv}, specs.Image.{put, image_of, written}, specs.Number.{numbers}, proofs.Puts.{length-value, length-numbers, put-put, written_value}}
 use Rattle.dcsctp_tlv.proofs.fields.put_numbers_and_fields.Goals as goal
 use Rattle.dcsctp_tlv.proofs.fields.put_numbers_and_fields.Given as given
 

@@ -1,8 +1,5 @@
-use Rattle.std.proofs.Common.{arith, refl, ap, ◌∙◌, ◌+◌, ◌++◌, ℕ, List, length}
-use Rattle.std.proofs.lemmas.List.{length-append}
-use Rattle.dcsctp_tlv.specs.Format.{flagged_tlv}
-use Rattle.dcsctp_tlv.specs.Image.{put, image_of, written}
-use Rattle.dcsctp_tlv.proofs.Puts.{put-put, written_value}
+use Rattle.std.proofs.Common.{arith, refl, ap, ◌∙◌, ◌+◌, ◌++◌, ℕ, List, length, length-append}
+use Rattle.dcsctp_tlv.{specs.Format.{flagged_tlv}, specs.Image.{put, image_of, written}, proofs.Puts.{put-put, written_value}}
 use Rattle.dcsctp_tlv.proofs.frame.put_fixed_and_rest.Goals as goal
 
 pub returns : goal.returns

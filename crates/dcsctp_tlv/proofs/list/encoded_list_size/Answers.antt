@@ -1,8 +1,5 @@
-use Rattle.std.proofs.Common.{arith, refl, ap, ◌∙◌}
-use Rattle.std.proofs.lemmas.List.{take_all}
-use Rattle.dcsctp_tlv.specs.Format.{tlv_by}
-use Rattle.dcsctp_tlv.specs.Image.{list_size}
-use Rattle.dcsctp_tlv.proofs.Images.{room_for, not_total, total_more, all_more, all_done}
+use Rattle.std.proofs.Common.{arith, refl, ap, ◌∙◌, take_all}
+use Rattle.dcsctp_tlv.{specs.Format.{tlv_by}, specs.Image.{list_size}, proofs.Images.{room_for, not_total, total_more, all_more, all_done}}
 use Rattle.dcsctp_tlv.proofs.list.encoded_list_size.Goals as goal
 
 pub loop-item-init : goal.loop-item-init

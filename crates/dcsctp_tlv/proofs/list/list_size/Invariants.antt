@@ -1,6 +1,5 @@
 use Rattle.std.proofs.Common.{◌≡◌, take}
-use Rattle.dcsctp_tlv.specs.Format.{tlv_by}
-use Rattle.dcsctp_tlv.specs.Image.{list_size}
+use Rattle.dcsctp_tlv.specs.{Format.{tlv_by}, Image.{list_size}}
 use Rattle.dcsctp_tlv.proofs.list.list_size.Given as goal
 
 abbrev pub invariant-loop-item : goal.invariant-loop-item

@@ -1,8 +1,5 @@
 use Rattle.std.proofs.Common.{arith, ◌∙◌, ap}
-use Rattle.dcsctp_tlv.proofs.Lengths.{length-format}
-use Rattle.dcsctp_tlv.specs.Frame.{round_up_to_4}
-use Rattle.dcsctp_tlv.proofs.Images.{room_for, written_more}
-use Rattle.dcsctp_tlv.proofs.Listed.{written_length}
+use Rattle.dcsctp_tlv.{proofs.Lengths.{length-format}, specs.Frame.{round_up_to_4}, proofs.Images.{room_for, written_more}, proofs.Listed.{written_length}}
 use Rattle.dcsctp_tlv.proofs.list.put_list.Goals as goal
 
 pub round_up_to_4-start-requires : goal.round_up_to_4-start-requires

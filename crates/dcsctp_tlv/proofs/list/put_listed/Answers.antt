@@ -1,11 +1,5 @@
-use Rattle.std.proofs.Common.{arith, ap, ◌∙◌, ◌≡◌, ◌++◌, ◌+◌, ℕ, List, length, drop}
-use Rattle.std.specs.Prelude.{map}
-use Rattle.std.proofs.Math.ListN.{drop_of_length-le}
-use Rattle.std.proofs.lemmas.List.{append-nil}
-use Rattle.dcsctp_tlv.specs.Format.{tlv_by}
-use Rattle.dcsctp_tlv.specs.Frame.{header}
-use Rattle.dcsctp_tlv.specs.Image.{solid, written, listed_tlv, list_image}
-use Rattle.dcsctp_tlv.proofs.Listed.{list_size-view, list_image-view, list_encodable, written_front, written_headed}
+use Rattle.std.proofs.{Common.{arith, ap, ◌∙◌, ◌≡◌, ◌++◌, ◌+◌, ℕ, List, length, drop, map, append-nil}, Math.ListN.{drop_of_length-le}}
+use Rattle.dcsctp_tlv.{specs.Format.{tlv_by}, specs.Frame.{header}, specs.Image.{solid, written, listed_tlv, list_image}, proofs.Listed.{list_size-view, list_image-view, list_encodable, written_front, written_headed}}
 use Rattle.dcsctp_tlv.proofs.list.put_listed.Goals as goal
 
 pub put_list-size-requires-clause-encodable : goal.put_list-size-requires-clause-encodable

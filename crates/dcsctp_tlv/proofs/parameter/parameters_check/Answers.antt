@@ -1,10 +1,5 @@
-use Rattle.std.proofs.Common.{Ok, Err, ap}
-use Rattle.std.proofs.lemmas.Result.{err_from_is_err_and}
-use Rattle.dcsctp_tlv.specs.declared.reader.Counts.{Counts}
-use Rattle.dcsctp_tlv.specs.Parameter.{parameters}
-use Rattle.dcsctp_tlv.proofs.ParameterLaws.{parameters_lawful}
-use Rattle.dcsctp_tlv.proofs.Exact.{count_exactly}
-use Rattle.dcsctp_tlv.proofs.Places.{fault_only}
+use Rattle.std.proofs.{Common.{Ok, Err, ap}, lemmas.Result.{err_from_is_err_and}}
+use Rattle.dcsctp_tlv.{specs.declared.reader.Counts.{Counts}, specs.Parameter.{parameters}, proofs.ParameterLaws.{parameters_lawful}, proofs.Exact.{count_exactly}, proofs.Places.{fault_only}}
 use Rattle.dcsctp_tlv.proofs.parameter.parameters_check.Goals as goal
 
 pub returns-in_err-counts-clause-answer : goal.returns-in_err-counts-clause-answer

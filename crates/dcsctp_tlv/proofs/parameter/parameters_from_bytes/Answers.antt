@@ -1,7 +1,4 @@
-use Rattle.dcsctp_tlv.specs.Frame.{lenient}
-use Rattle.dcsctp_tlv.specs.Parameter.{parameters, views}
-use Rattle.dcsctp_tlv.proofs.ParameterLaws.{parameters_lawful}
-use Rattle.dcsctp_tlv.proofs.Exact.{list_exactly}
+use Rattle.dcsctp_tlv.{specs.Frame.{lenient}, specs.Parameter.{parameters, views}, proofs.ParameterLaws.{parameters_lawful}, proofs.Exact.{list_exactly}}
 use Rattle.dcsctp_tlv.proofs.parameter.parameters_from_bytes.Goals as goal
 
 pub returns-clause-answer : goal.returns-clause-answer

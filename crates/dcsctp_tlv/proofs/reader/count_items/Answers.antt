@@ -1,6 +1,5 @@
 use Rattle.std.proofs.Common.{length, arith}
-use Rattle.dcsctp_tlv.proofs.Lists.{is_nil, is_cons}
-use Rattle.dcsctp_tlv.proofs.Checks.{first_item, frame_shrinks, rest_bytes, none_left, one_counted}
+use Rattle.dcsctp_tlv.proofs.{Lists.{is_nil, is_cons}, Checks.{first_item, frame_shrinks, rest_bytes, none_left, one_counted}}
 use Rattle.dcsctp_tlv.proofs.reader.count_items.Goals as goal
 
 pub frame_parts-requires : goal.frame_parts-requires

@@ -1,6 +1,5 @@
 use Rattle.std.proofs.Common.{◌≡◌, ◌≤◌, ◌+◌, List, length}
-use Rattle.dcsctp_tlv.specs.Number.{AreBytes}
-use Rattle.dcsctp_tlv.specs.Frame.{PaddingRule, Item, AreItems}
+use Rattle.dcsctp_tlv.specs.{Number.{AreBytes}, Frame.{PaddingRule, Item, AreItems}}
 use Rattle.dcsctp_tlv.proofs.reader.count_items.Given as goal
 
 abbrev pub invariant-loop-rest : goal.invariant-loop-rest

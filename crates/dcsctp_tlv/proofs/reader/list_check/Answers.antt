@@ -1,8 +1,5 @@
 use Rattle.std.proofs.Common.{refl, sym}
-use Rattle.dcsctp_tlv.specs.Fault.{Length, Padding}
-use Rattle.dcsctp_tlv.proofs.Lists.{is_nil, is_cons}
-use Rattle.dcsctp_tlv.proofs.Checks.{check_step, check_finish}
-use Rattle.dcsctp_tlv.proofs.Places.{frame_fault, value_fault, padding_fault, at_place}
+use Rattle.dcsctp_tlv.{specs.Fault.{Length, Padding}, proofs.Lists.{is_nil, is_cons}, proofs.Checks.{check_step, check_finish}, proofs.Places.{frame_fault, value_fault, padding_fault, at_place}}
 use Rattle.dcsctp_tlv.proofs.reader.list_check.Goals as goal
 
 pub returns-in_default-clause-found : goal.returns-in_default-clause-found

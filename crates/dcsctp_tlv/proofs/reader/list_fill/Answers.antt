@@ -1,10 +1,5 @@
-use Rattle.std.proofs.Common.{◌≡◌, [], ◌∷◌, ◌++◌, ap, ◌∙◌, arith, vec_len, vec_capacity}
-use Rattle.std.specs.Prelude.{map}
-use Rattle.std.proofs.lemmas.List.{map_push}
-use Rattle.std.proofs.lemmas.List.Elements.{All-push}
-use Rattle.dcsctp_tlv.specs.Frame.{lenient}
-use Rattle.dcsctp_tlv.proofs.Lists.{finish, is_nil}
-use Rattle.dcsctp_tlv.proofs.Checks.{left_tree, frame_shrinks, build_step, no_trees}
+use Rattle.std.proofs.{Common.{◌≡◌, [], ◌∷◌, ◌++◌, ap, ◌∙◌, arith, vec_len, vec_capacity, map}, lemmas.List.{map_push}, lemmas.List.Elements.{All-push}}
+use Rattle.dcsctp_tlv.{specs.Frame.{lenient}, proofs.Lists.{finish, is_nil}, proofs.Checks.{left_tree, frame_shrinks, build_step, no_trees}}
 use Rattle.dcsctp_tlv.proofs.reader.list_fill.Goals as goal
 
 pub returns-in_err-reserve_exact-clause-empty : goal.returns-in_err-reserve_exact-clause-empty

@@ -1,7 +1,5 @@
-use Rattle.std.proofs.Common.{length, vec_len, vec_capacity}
-use Rattle.std.specs.Prelude.{All, map}
-use Rattle.dcsctp_tlv.specs.Frame.{lenient}
-use Rattle.dcsctp_tlv.proofs.Checks.{Building}
+use Rattle.std.proofs.Common.{length, vec_len, vec_capacity, All, map}
+use Rattle.dcsctp_tlv.{specs.Frame.{lenient}, proofs.Checks.{Building}}
 use Rattle.dcsctp_tlv.proofs.reader.list_fill.Given as goal
 
 abbrev pub invariant-loop-rest : goal.invariant-loop-rest

@@ -1,6 +1,5 @@
 use Rattle.std.proofs.Common.{◌∙◌}
-use Rattle.dcsctp_tlv.specs.Frame.{lenient}
-use Rattle.dcsctp_tlv.proofs.Checks.{as_many}
+use Rattle.dcsctp_tlv.{specs.Frame.{lenient}, proofs.Checks.{as_many}}
 use Rattle.dcsctp_tlv.proofs.reader.list_fill_counted.Goals as goal
 
 pub list_fill-requires-clause-meant : goal.list_fill-requires-clause-meant

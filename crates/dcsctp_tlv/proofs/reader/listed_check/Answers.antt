@@ -1,8 +1,5 @@
-use Rattle.std.proofs.Common.{ℕ, ◌+◌, List, Err, drop, refl, subst}
-use Rattle.std.proofs.lemmas.List.{take_rest}
-use Rattle.dcsctp_tlv.specs.declared.reader.Counts.{Counts}
-use Rattle.dcsctp_tlv.specs.Reading.{Answers, locating, ListAnswer, Counted, counts, ListedAnswer}
-use Rattle.dcsctp_tlv.proofs.Places.{moved}
+use Rattle.std.proofs.{Common.{ℕ, ◌+◌, List, Err, drop, refl, subst}, lemmas.List.{take_rest}}
+use Rattle.dcsctp_tlv.{specs.declared.reader.Counts.{Counts}, specs.Reading.{Answers, locating, ListAnswer, Counted, counts, ListedAnswer}, proofs.Places.{moved}}
 use Rattle.dcsctp_tlv.proofs.reader.listed_check.Goals as goal
 
 pub returns-in-Err-clause-found : goal.returns-in-Err-clause-found

@@ -1,10 +1,6 @@
-use Rattle.std.proofs.Common.{arith, rules, refl, ap, map, append_assoc, ◌∙◌, take}
-use Rattle.std.proofs.Output.{has_written_append, has_written_of_eq, has_written_to_eq}
-use Rattle.std.proofs.lemmas.List.{take_all}
-use Rattle.dcsctp_tlv.specs.Text.{joined}
-use Rattle.dcsctp_tlv.proofs.Texts.{joined_first, joined_next}
+use Rattle.std.proofs.{Common.{arith, rules, refl, ap, map, append_assoc, ◌∙◌, take, take_all}, Output.{has_written_append, has_written_of_eq, has_written_to_eq}}
+use Rattle.dcsctp_tlv.{specs.Text.{joined}, proofs.Texts.{joined_first, joined_next}, proofs.text.write_joined.Goals.{then-i-gt0+in_ok-write_str, else-i-gt0}}
 use Rattle.dcsctp_tlv.proofs.text.write_joined.Goals as goal
-use Rattle.dcsctp_tlv.proofs.text.write_joined.Goals.{then-i-gt0+in_ok-write_str, else-i-gt0}
 
 pub loop-i-preserved : goal.loop-i-preserved
 loop-i-preserved g c = λ text law plain.

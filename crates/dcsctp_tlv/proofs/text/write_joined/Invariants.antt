@@ -1,5 +1,4 @@
-use Rattle.std.proofs.Common.{◌≡◌, ℕ, List, Some, map, take}
-use Rattle.std.specs.Fmt.{HasWritten, IsPlainFormatter}
+use Rattle.std.{proofs.Common.{◌≡◌, ℕ, List, Some, map, take}, specs.Fmt.{HasWritten, IsPlainFormatter}}
 use Rattle.dcsctp_tlv.specs.Text.{joined}
 use Rattle.dcsctp_tlv.proofs.text.write_joined.Given as goal
 

@@ -1,6 +1,5 @@
 -- The items so far fit, and those that are left decide.
-use Rattle.std.proofs.Common.{drop, map}
-use Rattle.std.specs.List.{AllByRecursion}
+use Rattle.std.{proofs.Common.{drop, map}, specs.List.{AllByRecursion}}
 use Rattle.dcsctp_tlv.proofs.widths.are_in_width.Given as goal
 
 abbrev pub invariant-loop-item : goal.invariant-loop-item

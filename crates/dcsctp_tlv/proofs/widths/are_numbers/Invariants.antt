@@ -1,6 +1,5 @@
 -- The numbers so far fit, and those that are left decide.
-use Rattle.std.proofs.Common.{drop, ◌<◌, ◌^◌}
-use Rattle.std.specs.List.{AllByRecursion}
+use Rattle.std.{proofs.Common.{drop, ◌<◌, ◌^◌}, specs.List.{AllByRecursion}}
 use Rattle.dcsctp_tlv.proofs.widths.are_numbers.Given as goal
 
 abbrev pub invariant-loop-number : goal.invariant-loop-number

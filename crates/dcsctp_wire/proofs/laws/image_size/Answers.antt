@@ -1,8 +1,5 @@
-use Rattle.std.specs.Prelude.{◌≡◌, ℕ, drop}
-use Rattle.std.proofs.Common.{subst}
-use Rattle.dcsctp_tlv.specs.Image.{image_of, written}
-use Rattle.dcsctp_tlv.proofs.Images.{drop-written}
-use Rattle.dcsctp_tlv.proofs.Lengths.{length-format}
+use Rattle.std.proofs.Common.{◌≡◌, ℕ, drop, subst}
+use Rattle.dcsctp_tlv.{specs.Image.{image_of, written}, proofs.Images.{drop-written}, proofs.Lengths.{length-format}}
 use Rattle.dcsctp_wire.proofs.laws.image_size.Goals as goal
 
 pub returns-clause-size : goal.returns-clause-size

@@ -1,9 +1,7 @@
 use Rattle.std.proofs.Common.{Some, None, refl}
 use Rattle.dcsctp_tlv.specs.Frame.{lenient}
 use Rattle.dcsctp_cause.specs.Cause.{causes}
-use Rattle.dcsctp_borrowed.specs.RawCauses.{cause_bytes, causes_of}
-use Rattle.dcsctp_borrowed.proofs.CheckedRows.{listed, list_at}
-use Rattle.dcsctp_borrowed.proofs.ListPlaces.{causes_there}
+use Rattle.dcsctp_borrowed.{specs.RawCauses.{cause_bytes, causes_of}, proofs.CheckedRows.{listed, list_at}, proofs.ListPlaces.{causes_there}}
 use Rattle.dcsctp_borrowed.proofs.checked_chunks.CheckedChunk.as_causes.Goals as goal
 
 pub new-requires : goal.new-requires

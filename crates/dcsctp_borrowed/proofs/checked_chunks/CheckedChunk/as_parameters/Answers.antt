@@ -1,9 +1,6 @@
 use Rattle.std.proofs.Common.{Some, None, refl}
-use Rattle.dcsctp_tlv.specs.Frame.{lenient}
-use Rattle.dcsctp_tlv.specs.Parameter.{parameters}
-use Rattle.dcsctp_borrowed.specs.RawParameters.{parameter_bytes, parameters_of}
-use Rattle.dcsctp_borrowed.proofs.CheckedRows.{listed, list_at}
-use Rattle.dcsctp_borrowed.proofs.ListPlaces.{parameters_there}
+use Rattle.dcsctp_tlv.specs.{Frame.{lenient}, Parameter.{parameters}}
+use Rattle.dcsctp_borrowed.{specs.RawParameters.{parameter_bytes, parameters_of}, proofs.CheckedRows.{listed, list_at}, proofs.ListPlaces.{parameters_there}}
 use Rattle.dcsctp_borrowed.proofs.checked_chunks.CheckedChunk.as_parameters.Goals as goal
 
 pub new-requires : goal.new-requires

@@ -1,5 +1,4 @@
-use Rattle.std.proofs.Common.{◌<◌, ◌*◌, length, Some, sym, ap, ◌∙◌, arith}
-use Rattle.std.proofs.lemmas.List.{take_rest}
+use Rattle.std.proofs.{Common.{◌<◌, ◌*◌, length, Some, sym, ap, ◌∙◌, arith}, lemmas.List.{take_rest}}
 use Rattle.dcsctp_chunk.specs.ForwardTsn as forward_kind
 use Rattle.dcsctp_chunk.specs.IForwardTsn as iforward_kind
 use Rattle.dcsctp_chunk.specs.SkippedStreams.{Tree}

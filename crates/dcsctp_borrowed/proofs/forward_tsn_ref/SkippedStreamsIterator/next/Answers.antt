@@ -1,5 +1,4 @@
-use Rattle.std.proofs.Common.{◌-◌, drop, arith}
-use Rattle.std.proofs.lemmas.List.{take_rest}
+use Rattle.std.proofs.{Common.{◌-◌, drop, arith}, lemmas.List.{take_rest}}
 use Rattle.dcsctp_chunk.specs.ForwardTsn as forward_kind
 use Rattle.dcsctp_chunk.specs.IForwardTsn as iforward_kind
 use Rattle.dcsctp_borrowed.proofs.FieldLists.{first_field, stream_count}

@@ -1,5 +1,4 @@
-use Rattle.std.proofs.Common.{Ok, Err}
-use Rattle.std.proofs.lemmas.Result.{err_from_is_err_and}
+use Rattle.std.proofs.{Common.{Ok, Err}, lemmas.Result.{err_from_is_err_and}}
 use Rattle.dcsctp_borrowed.proofs.PacketRefs.{chunks_lent, refers, referred_exactly}
 use Rattle.dcsctp_borrowed.proofs.packet_ref.SctpPacketRef.from_bytes.Goals as goal
 

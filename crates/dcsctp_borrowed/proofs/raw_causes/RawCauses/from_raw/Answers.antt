@@ -1,8 +1,7 @@
 use Rattle.std.proofs.Common.{None, length, refl}
 use Rattle.dcsctp_tlv.specs.Frame.{lenient}
 use Rattle.dcsctp_cause.specs.Cause.{causes}
-use Rattle.dcsctp_borrowed.specs.RawCauses.{cause_bytes, causes_of}
-use Rattle.dcsctp_borrowed.proofs.ListPlaces.{given, not_given, causes_there}
+use Rattle.dcsctp_borrowed.{specs.RawCauses.{cause_bytes, causes_of}, proofs.ListPlaces.{given, not_given, causes_there}}
 use Rattle.dcsctp_borrowed.proofs.raw_causes.RawCauses.from_raw.Goals as goal
 
 pub returns-in-Err-clause-read : goal.returns-in-Err-clause-read

@@ -1,7 +1,6 @@
 use Rattle.std.proofs.Common.{arith}
-use Rattle.dcsctp_tlv.specs.Frame.{lenient}
+use Rattle.dcsctp_tlv.{specs.Frame.{lenient}, proofs.Lists.{is_nil, is_cons}}
 use Rattle.dcsctp_cause.specs.Cause.{causes, row}
-use Rattle.dcsctp_tlv.proofs.Lists.{is_nil, is_cons}
 use Rattle.dcsctp_borrowed.proofs.Fronts.{front, typed_front, at_end}
 use Rattle.dcsctp_borrowed.proofs.raw_causes.RawCausesIterator.next.Goals as goal
 

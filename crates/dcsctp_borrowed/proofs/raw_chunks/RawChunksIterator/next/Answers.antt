@@ -1,6 +1,5 @@
 use Rattle.std.proofs.Common.{refl, arith}
-use Rattle.dcsctp_tlv.specs.Frame.{lenient}
-use Rattle.dcsctp_tlv.proofs.Lists.{is_nil, is_cons}
+use Rattle.dcsctp_tlv.{specs.Frame.{lenient}, proofs.Lists.{is_nil, is_cons}}
 use Rattle.dcsctp_wire.specs.Chunk.{chunks}
 use Rattle.dcsctp_borrowed.proofs.Fronts.{front, is_front, at_end}
 use Rattle.dcsctp_borrowed.proofs.raw_chunks.RawChunksIterator.next.Goals as goal

@@ -1,9 +1,6 @@
 use Rattle.std.proofs.Common.{List, ℕ, Option, Some, None, length, refl, sym, subst}
-use Rattle.dcsctp_tlv.specs.Frame.{lenient}
-use Rattle.dcsctp_tlv.specs.Parameter.{parameters}
-use Rattle.dcsctp_borrowed.specs.Front.{MeansList}
-use Rattle.dcsctp_borrowed.specs.RawParameters.{parameter_bytes, parameters_of}
-use Rattle.dcsctp_borrowed.proofs.ListPlaces.{given, not_given, parameters_there}
+use Rattle.dcsctp_tlv.specs.{Frame.{lenient}, Parameter.{parameters}}
+use Rattle.dcsctp_borrowed.{specs.Front.{MeansList}, specs.RawParameters.{parameter_bytes, parameters_of}, proofs.ListPlaces.{given, not_given, parameters_there}}
 use Rattle.dcsctp_borrowed.proofs.raw_parameters.RawParameters.from_raw.Goals as goal
 
 -- the value has no place for parameters

@@ -1,7 +1,5 @@
 use Rattle.std.proofs.Common.{arith}
-use Rattle.dcsctp_tlv.specs.Frame.{lenient}
-use Rattle.dcsctp_tlv.specs.Parameter.{parameters, row}
-use Rattle.dcsctp_tlv.proofs.Lists.{is_nil, is_cons}
+use Rattle.dcsctp_tlv.{specs.Frame.{lenient}, specs.Parameter.{parameters, row}, proofs.Lists.{is_nil, is_cons}}
 use Rattle.dcsctp_borrowed.proofs.Fronts.{front, typed_front, at_end}
 use Rattle.dcsctp_borrowed.proofs.raw_parameters.RawParametersIterator.next.Goals as goal
 

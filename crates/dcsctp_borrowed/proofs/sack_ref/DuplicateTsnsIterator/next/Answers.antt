@@ -1,5 +1,4 @@
-use Rattle.std.proofs.Common.{◌-◌, drop, arith}
-use Rattle.std.proofs.lemmas.List.{take_rest}
+use Rattle.std.proofs.{Common.{◌-◌, drop, arith}, lemmas.List.{take_rest}}
 use Rattle.dcsctp_tlv.specs.Number.{number32}
 use Rattle.dcsctp_borrowed.proofs.FieldLists.{field_count, first_field}
 use Rattle.dcsctp_borrowed.proofs.sack_ref.DuplicateTsnsIterator.next.Goals as goal

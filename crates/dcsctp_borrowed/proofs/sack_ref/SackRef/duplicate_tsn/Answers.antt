@@ -1,5 +1,4 @@
-use Rattle.std.proofs.Common.{◌<◌, ◌+◌, ◌*◌, length, drop, Some, sym, ap, ◌∙◌, arith}
-use Rattle.std.proofs.lemmas.List.{take_rest, drop-drop}
+use Rattle.std.proofs.{Common.{◌<◌, ◌+◌, ◌*◌, length, drop, Some, sym, ap, ◌∙◌, arith, drop-drop}, lemmas.List.{take_rest}}
 use Rattle.dcsctp_tlv.specs.Number.{number32}
 use Rattle.dcsctp_chunk.specs.Sack.{Tree}
 use Rattle.dcsctp_borrowed.proofs.FieldLists.{field_count, field_at_place}

@@ -1,5 +1,4 @@
-use Rattle.std.proofs.Common.{◌<◌, ◌*◌, length, Some, sym, ap, ◌∙◌, arith}
-use Rattle.std.proofs.lemmas.List.{take_rest}
+use Rattle.std.proofs.{Common.{◌<◌, ◌*◌, length, Some, sym, ap, ◌∙◌, arith}, lemmas.List.{take_rest}}
 use Rattle.dcsctp_chunk.specs.Sack.{Tree, block_at}
 use Rattle.dcsctp_borrowed.proofs.FieldLists.{field_count, field_at_place}
 use Rattle.dcsctp_borrowed.proofs.sack_ref.SackRef.gap_ack_block.Goals as goal

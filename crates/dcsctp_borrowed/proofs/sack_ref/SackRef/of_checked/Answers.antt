@@ -1,9 +1,5 @@
-use Rattle.std.proofs.Common.{◌≡◌, ◌+◌, ◌*◌, length, drop, refl, sym, ap, ◌∙◌}
-use Rattle.std.specs.Prelude.{◌==◌}
-use Rattle.std.proofs.lemmas.List.{take_rest, drop-drop}
-use Rattle.dcsctp_tlv.specs.Fault.{Length}
-use Rattle.dcsctp_tlv.proofs.Readings.{ok_passed}
-use Rattle.dcsctp_tlv.specs.Number.{number16, number32}
+use Rattle.std.proofs.{Common.{◌≡◌, ◌+◌, ◌*◌, length, drop, refl, sym, ap, ◌∙◌, ◌==◌, drop-drop}, lemmas.List.{take_rest}}
+use Rattle.dcsctp_tlv.{specs.Fault.{Length}, proofs.Readings.{ok_passed}, specs.Number.{number16, number32}}
 use Rattle.dcsctp_chunk.specs.Sack.{block_count, duplicate_count, read}
 use Rattle.dcsctp_borrowed.proofs.sack_ref.SackRef.of_checked.Goals as goal
 

@@ -1,7 +1,4 @@
-use Rattle.std.proofs.Common.{◌≡◌, ◌+◌, ◌*◌, true, length, drop, refl, sym, ap, ◌∙◌}
-use Rattle.std.specs.Prelude.{◌==◌}
-use Rattle.std.proofs.lemmas.Bool.{eq-eqb}
-use Rattle.std.proofs.lemmas.List.{take_rest, drop-drop}
+use Rattle.std.proofs.{Common.{◌≡◌, ◌+◌, ◌*◌, true, length, drop, refl, sym, ap, ◌∙◌, ◌==◌, eq-eqb, drop-drop}, lemmas.List.{take_rest}}
 use Rattle.dcsctp_tlv.specs.Number.{number16}
 use Rattle.dcsctp_chunk.specs.Sack.{block_count, duplicate_count, read}
 use Rattle.dcsctp_borrowed.proofs.sack_ref.SackRef.of_value.Goals as goal

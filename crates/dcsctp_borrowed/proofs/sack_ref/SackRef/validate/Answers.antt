@@ -1,8 +1,5 @@
 use Rattle.std.proofs.Common.{◌≡◌, List, ◌∷◌, true, false, refl, subst, sym, arith}
-use Rattle.dcsctp_chunk.specs.Apart.{IsApart}
-use Rattle.dcsctp_chunk.specs.Cover.{AreValid}
-use Rattle.dcsctp_chunk.specs.declared.sack_chunk.GapAckBlock.{GapAckBlock}
-use Rattle.dcsctp_chunk.proofs.Runs.{valid_iff}
+use Rattle.dcsctp_chunk.{specs.Apart.{IsApart}, specs.Cover.{AreValid}, specs.declared.sack_chunk.GapAckBlock.{GapAckBlock}, proofs.Runs.{valid_iff}}
 use Rattle.dcsctp_borrowed.proofs.sack_ref.SackRef.validate.Goals.{then-block-via-then-block, then-block-via-else-block+then-block-least}
 use Rattle.dcsctp_borrowed.proofs.sack_ref.SackRef.validate.Goals as goal
 

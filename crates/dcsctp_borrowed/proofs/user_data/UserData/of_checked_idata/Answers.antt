@@ -1,9 +1,5 @@
-use Rattle.std.proofs.Common.{◌≡◌, length, drop, refl, sym, ap, ◌∙◌}
-use Rattle.std.specs.Prelude.{nat_lt}
-use Rattle.std.proofs.lemmas.List.{take_rest}
-use Rattle.dcsctp_tlv.specs.Fault.{Length}
-use Rattle.dcsctp_tlv.proofs.Readings.{ok_not_refused}
-use Rattle.dcsctp_tlv.specs.Number.{number32}
+use Rattle.std.proofs.{Common.{◌≡◌, length, drop, refl, sym, ap, ◌∙◌, nat_lt}, lemmas.List.{take_rest}}
+use Rattle.dcsctp_tlv.{specs.Fault.{Length}, proofs.Readings.{ok_not_refused}, specs.Number.{number32}}
 use Rattle.dcsctp_chunk.specs.IDataChunk.{read}
 use Rattle.dcsctp_borrowed.proofs.user_data.UserData.of_checked_idata.Goals as goal
 

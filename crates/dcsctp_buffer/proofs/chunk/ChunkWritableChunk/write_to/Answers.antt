@@ -1,5 +1,4 @@
-use Rattle.dcsctp_wire.specs.Chunk.{tlv as chunk_tlv, view}
-use Rattle.dcsctp_wire.proofs.Canonicals.{length-chunk}
+use Rattle.dcsctp_wire.{specs.Chunk.{tlv as chunk_tlv, view}, proofs.Canonicals.{length-chunk}}
 use Rattle.dcsctp_buffer.proofs.Items.{zeroed_item}
 use Rattle.dcsctp_buffer.proofs.chunk.ChunkWritableChunk.write_to.Goals as goal
 

@@ -1,7 +1,6 @@
 use Rattle.std.proofs.Common.{◌∙◌, refl, arith}
 use Rattle.dcsctp_chunk.specs.DataChunk.{format, bytes}
-use Rattle.dcsctp_buffer.specs.Data.{view}
-use Rattle.dcsctp_buffer.proofs.Items.{solid_item}
+use Rattle.dcsctp_buffer.{specs.Data.{view}, proofs.Items.{solid_item}}
 use Rattle.dcsctp_buffer.proofs.data.BorrowedDataWritableChunk.write_to.Goals as goal
 
 pub returns-clause-written : goal.returns-clause-written

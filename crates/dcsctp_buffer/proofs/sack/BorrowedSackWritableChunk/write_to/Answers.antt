@@ -1,13 +1,7 @@
-use Rattle.std.proofs.Common.{◌≡◌, ℕ, ◌+◌, ◌*◌, List, length, map, ap, ◌∙◌, refl, sym, arith}
-use Rattle.std.specs.Int.{w32, to_be_bytes}
-use Rattle.std.specs.List.{flat_map}
-use Rattle.std.proofs.lemmas.List.{length-map, map-id}
-use Rattle.dcsctp_tlv.specs.Image.{put}
-use Rattle.dcsctp_tlv.specs.Number.{numbers}
-use Rattle.dcsctp_chunk.specs.Sack.{format, bytes}
-use Rattle.dcsctp_chunk.proofs.Sacks.{sack_written, length-lists}
-use Rattle.dcsctp_buffer.specs.Sack.{view}
-use Rattle.dcsctp_buffer.proofs.Items.{solid_item}
+use Rattle.std.{proofs.Common.{◌≡◌, ℕ, ◌+◌, ◌*◌, List, length, map, ap, ◌∙◌, refl, sym, arith, map-id}, specs.Int.{w32, to_be_bytes}, specs.List.{flat_map}, proofs.lemmas.List.{length-map}}
+use Rattle.dcsctp_tlv.specs.{Image.{put}, Number.{numbers}}
+use Rattle.dcsctp_chunk.{specs.Sack.{format, bytes}, proofs.Sacks.{sack_written, length-lists}}
+use Rattle.dcsctp_buffer.{specs.Sack.{view}, proofs.Items.{solid_item}}
 use Rattle.dcsctp_buffer.proofs.sack.BorrowedSackWritableChunk.write_to.Goals as goal
 
 pub returns-clause-written : goal.returns-clause-written

@@ -1,7 +1,5 @@
-use Rattle.dcsctp_tlv.specs.Reading.{RowAnswer, Counted, Unplaced}
-use Rattle.dcsctp_tlv.proofs.Places.{fault_at_front}
-use Rattle.dcsctp_cause.specs.Cause.{row}
-use Rattle.dcsctp_cause.proofs.CauseLaws.{row_at_front}
+use Rattle.dcsctp_tlv.{specs.Reading.{RowAnswer, Counted, Unplaced}, proofs.Places.{fault_at_front}}
+use Rattle.dcsctp_cause.{specs.Cause.{row}, proofs.CauseLaws.{row_at_front}}
 use Rattle.dcsctp_cause.proofs.error_causes.ErrorCauseReadableTlv.check.Goals as goal
 
 pub returns-in-Err-clause-found : goal.returns-in-Err-clause-found

@@ -1,8 +1,5 @@
 -- What the three calls write, one after the other.
-use Rattle.std.proofs.Common.{ℕ, List, ap, refl, ◌∙◌, map, append_assoc}
-use Rattle.std.specs.Fmt.{decimal}
-use Rattle.std.specs.Prelude.{codes}
-use Rattle.std.proofs.Output.{has_written_append, has_written_of_eq}
+use Rattle.std.{proofs.Common.{ℕ, List, ap, refl, ◌∙◌, map, append_assoc, codes}, specs.Fmt.{decimal}, proofs.Output.{has_written_append, has_written_of_eq}}
 use Rattle.dcsctp_tlv.specs.Text.{joined}
 use Rattle.dcsctp_cause.specs.MissingMandatoryParameter as missing
 use Rattle.dcsctp_cause.proofs.missing_mandatory_parameter_error_cause.MissingMandatoryParameterErrorCauseDisplay.fmt.Goals as goal

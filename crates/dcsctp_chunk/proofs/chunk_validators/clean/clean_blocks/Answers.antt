@@ -1,12 +1,6 @@
 -- Blocks that are apart are runs already; of others `gather` leaves the runs in front.
-use Rattle.std.proofs.Common.{◌≡◌, ◌≤◌, List, take, refl, arith}
-use Rattle.std.proofs.lemmas.Grind.{common_steps}
-use Rattle.std.specs.Prelude.{All}
-use Rattle.dcsctp_chunk.specs.declared.sack_chunk.GapAckBlock.{GapAckBlock}
-use Rattle.dcsctp_chunk.specs.Apart.{IsApart}
-use Rattle.dcsctp_chunk.specs.Cover.{IsCleaned, CleanedLaws}
-use Rattle.dcsctp_chunk.proofs.Apart.{apart_weaker}
-use Rattle.dcsctp_chunk.proofs.Runs.{cleaned_from_cover}
+use Rattle.std.proofs.{Common.{◌≡◌, ◌≤◌, List, take, refl, arith, All}, lemmas.Grind.{common_steps}}
+use Rattle.dcsctp_chunk.{specs.declared.sack_chunk.GapAckBlock.{GapAckBlock}, specs.Apart.{IsApart}, specs.Cover.{IsCleaned, CleanedLaws}, proofs.Apart.{apart_weaker}, proofs.Runs.{cleaned_from_cover}}
 use Rattle.dcsctp_chunk.proofs.chunk_validators.clean.clean_blocks.Goals as goal
 
 -- where the blocks are apart already

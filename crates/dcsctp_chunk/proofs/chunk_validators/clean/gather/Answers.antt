@@ -1,8 +1,7 @@
 -- One block more, or one that covers nothing.
 use Rattle.std.proofs.Common.{◌+◌, take, get_or, arith}
-use Rattle.dcsctp_chunk.proofs.Covers.{zero_block, cover_cons, cover_last, cover_reversed}
+use Rattle.dcsctp_chunk.proofs.{Covers.{zero_block, cover_cons, cover_last, cover_reversed}, chunk_validators.clean.gather.Goals.{then-block, else-block}}
 use Rattle.dcsctp_chunk.proofs.chunk_validators.clean.gather.Goals as goal
-use Rattle.dcsctp_chunk.proofs.chunk_validators.clean.gather.Goals.{then-block, else-block}
 
 pub loop-i-preserved : goal.loop-i-preserved
 loop-i-preserved c =

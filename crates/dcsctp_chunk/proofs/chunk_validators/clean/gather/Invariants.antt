@@ -1,7 +1,6 @@
 -- The runs in front and the recent ones cover what the first i blocks did; from i on the blocks are
 -- as they were.
-use Rattle.std.proofs.Common.{◌≡◌, ◌+◌, ◌<◌, ◌≤◌, take, drop}
-use Rattle.std.specs.List.{SameFrom}
+use Rattle.std.{proofs.Common.{◌≡◌, ◌+◌, ◌<◌, ◌≤◌, take, drop}, specs.List.{SameFrom}}
 use Rattle.dcsctp_chunk.specs.Apart.{IsApart, AreFree, both, covered}
 use Rattle.dcsctp_chunk.proofs.chunk_validators.clean.gather.Given as goal
 

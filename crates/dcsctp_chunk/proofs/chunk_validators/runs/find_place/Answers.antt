@@ -1,8 +1,6 @@
 -- Each step of the walk up takes in a run; the one after them starts too late, or there is none.
-use Rattle.std.proofs.Common.{◌+◌, ◌-◌, get_or, drop, arith}
-use Rattle.std.proofs.lemmas.Grind.{common_steps}
-use Rattle.dcsctp_chunk.proofs.Covers.{zero_block, cover_join}
-use Rattle.dcsctp_chunk.proofs.Apart.{apart_at, after_take}
+use Rattle.std.proofs.{Common.{◌+◌, ◌-◌, get_or, drop, arith}, lemmas.Grind.{common_steps}}
+use Rattle.dcsctp_chunk.proofs.{Covers.{zero_block, cover_join}, Apart.{apart_at, after_take}}
 use Rattle.dcsctp_chunk.proofs.chunk_validators.runs.find_place.Goals as goal
 
 pub loop-last-init : goal.loop-last-init

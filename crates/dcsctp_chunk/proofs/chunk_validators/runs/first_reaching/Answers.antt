@@ -1,11 +1,6 @@
 -- The free places end last, so that they change nothing for the search.
-use Rattle.std.proofs.Common.{◌≤◌, ltb, rules, arith}
-use Rattle.std.proofs.lemmas.Bool.Decides.{nat_tests}
-use Rattle.std.proofs.lemmas.List.{length-take-le, get_or-take}
-use Rattle.std.proofs.lemmas.List.Sorted.{IsPartitionPoint-from_clause}
-use Rattle.dcsctp_chunk.specs.declared.sack_chunk.GapAckBlock.{GapAckBlock}
-use Rattle.dcsctp_chunk.proofs.Covers.{zero_block}
-use Rattle.dcsctp_chunk.proofs.Placed.{free_end, parted_kept}
+use Rattle.std.proofs.{Common.{◌≤◌, ltb, rules, arith, length-take-le, get_or-take}, lemmas.Bool.Decides.{nat_tests}, lemmas.List.Sorted.{IsPartitionPoint-from_clause}}
+use Rattle.dcsctp_chunk.{specs.declared.sack_chunk.GapAckBlock.{GapAckBlock}, proofs.Covers.{zero_block}, proofs.Placed.{free_end, parted_kept}}
 use Rattle.dcsctp_chunk.proofs.chunk_validators.runs.first_reaching.Goals as goal
 
 pub returns : goal.returns

@@ -1,8 +1,5 @@
-use Rattle.std.proofs.Common.{length, arith}
-use Rattle.std.proofs.lemmas.Bool.{ltb-true}
-use Rattle.std.proofs.lemmas.Grind.{common_steps}
-use Rattle.dcsctp_chunk.proofs.Covers.{zero_block}
-use Rattle.dcsctp_chunk.proofs.Apart.{apart_push}
+use Rattle.std.proofs.{Common.{length, arith, ltb-true}, lemmas.Grind.{common_steps}}
+use Rattle.dcsctp_chunk.proofs.{Covers.{zero_block}, Apart.{apart_push}}
 use Rattle.dcsctp_chunk.proofs.chunk_validators.runs.follows.Goals as goal
 
 pub returns-in-Some : goal.returns-in-Some

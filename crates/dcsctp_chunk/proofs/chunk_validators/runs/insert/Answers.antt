@@ -1,6 +1,5 @@
 -- The run lies in the place of those that it takes in, and after them all is free.
-use Rattle.std.proofs.Common.{arith}
-use Rattle.std.proofs.lemmas.List.{length-take-le}
+use Rattle.std.proofs.Common.{arith, length-take-le}
 use Rattle.dcsctp_chunk.proofs.Placed.{put_free}
 use Rattle.dcsctp_chunk.proofs.chunk_validators.runs.insert.Goals as goal
 

@@ -1,9 +1,6 @@
 -- Each step puts in the last of the others that are left; the move at the end closes the gap.
-use Rattle.std.proofs.Common.{◌+◌, ◌-◌, get_or, take, drop, arith}
-use Rattle.std.proofs.lemmas.Grind.{common_steps}
-use Rattle.dcsctp_chunk.specs.Apart.{after}
-use Rattle.dcsctp_chunk.proofs.Covers.{zero_block, cover_append, cover_cons}
-use Rattle.dcsctp_chunk.proofs.Apart.{after_take, apart_at, apart_weaker}
+use Rattle.std.proofs.{Common.{◌+◌, ◌-◌, get_or, take, drop, arith}, lemmas.Grind.{common_steps}}
+use Rattle.dcsctp_chunk.{specs.Apart.{after}, proofs.Covers.{zero_block, cover_append, cover_cons}, proofs.Apart.{after_take, apart_at, apart_weaker}}
 use Rattle.dcsctp_chunk.proofs.chunk_validators.runs.join_runs.Goals as goal
 
 pub put_by_walk-gap-requires : goal.put_by_walk-gap-requires

@@ -1,8 +1,6 @@
 -- Each step of the walk down takes in a run, which starts early enough, since the last one does.
-use Rattle.std.proofs.Common.{◌-◌, length, get_or, take, arith}
-use Rattle.std.proofs.lemmas.Grind.{common_steps}
-use Rattle.dcsctp_chunk.proofs.Covers.{zero_block, cover_cons, cover_last, cover_join}
-use Rattle.dcsctp_chunk.proofs.Apart.{apart_at, apart_order, after_each}
+use Rattle.std.proofs.{Common.{◌-◌, length, get_or, take, arith}, lemmas.Grind.{common_steps}}
+use Rattle.dcsctp_chunk.proofs.{Covers.{zero_block, cover_cons, cover_last, cover_join}, Apart.{apart_at, apart_order, after_each}}
 use Rattle.dcsctp_chunk.proofs.chunk_validators.runs.last_place.Goals as goal
 
 pub loop-first-preserved : goal.loop-first-preserved

@@ -1,6 +1,5 @@
 use Rattle.std.proofs.Common.{◌-◌, arith}
-use Rattle.dcsctp_chunk.proofs.Apart.{past_gap}
-use Rattle.dcsctp_chunk.proofs.Placed.{lifted}
+use Rattle.dcsctp_chunk.proofs.{Apart.{past_gap}, Placed.{lifted}}
 use Rattle.dcsctp_chunk.proofs.chunk_validators.runs.lift.Goals as goal
 
 pub returns-clause-from : goal.returns-clause-from

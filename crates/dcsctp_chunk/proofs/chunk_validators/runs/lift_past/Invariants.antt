@@ -1,8 +1,6 @@
 -- The gap moves down, and the runs on both sides are the same.
 use Rattle.std.proofs.Common.{◌≡◌, ◌+◌, ◌-◌, ◌≤◌, List, drop}
-use Rattle.dcsctp_chunk.specs.declared.sack_chunk.GapAckBlock.{GapAckBlock}
-use Rattle.dcsctp_chunk.specs.declared.chunk_validators.runs.Gap.{Gap}
-use Rattle.dcsctp_chunk.specs.Apart.{IsApart, around}
+use Rattle.dcsctp_chunk.specs.{declared.sack_chunk.GapAckBlock.{GapAckBlock}, declared.chunk_validators.runs.Gap.{Gap}, Apart.{IsApart, around}}
 use Rattle.dcsctp_chunk.proofs.chunk_validators.runs.lift_past.Given as goal
 
 abbrev pub IsLifted : GapAckBlock → Gap → List GapAckBlock → Gap → List GapAckBlock → Type 0

@@ -1,8 +1,6 @@
 -- On both sides of the gap are what `last_place` promised, and what the walk left past the gap.
-use Rattle.std.proofs.Common.{◌∷◌, ◌++◌, [], take, drop, arith}
-use Rattle.std.proofs.lemmas.Grind.{common_steps}
-use Rattle.dcsctp_chunk.proofs.Apart.{apart_parts, after_append}
-use Rattle.dcsctp_chunk.proofs.Placed.{below_gap}
+use Rattle.std.proofs.{Common.{◌∷◌, ◌++◌, [], take, drop, arith}, lemmas.Grind.{common_steps}}
+use Rattle.dcsctp_chunk.proofs.{Apart.{apart_parts, after_append}, Placed.{below_gap}}
 use Rattle.dcsctp_chunk.proofs.chunk_validators.runs.put_by_walk.Goals as goal
 
 pub last_place-place-requires-clause-apart : goal.last_place-place-requires-clause-apart

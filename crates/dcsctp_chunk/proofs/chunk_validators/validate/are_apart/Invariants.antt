@@ -1,8 +1,6 @@
 -- The blocks so far are apart, and so are those that are left, exactly where all are.
-use Rattle.std.proofs.Common.{◌↔◌, ◌≤◌, IsTrue, drop}
-use Rattle.std.specs.List.{AllWithin}
-use Rattle.dcsctp_chunk.specs.declared.sack_chunk.GapAckBlock.{GapAckBlock}
-use Rattle.dcsctp_chunk.specs.Apart.{IsApart}
+use Rattle.std.{proofs.Common.{◌↔◌, ◌≤◌, IsTrue, drop}, specs.List.{AllWithin}}
+use Rattle.dcsctp_chunk.specs.{declared.sack_chunk.GapAckBlock.{GapAckBlock}, Apart.{IsApart}}
 use Rattle.dcsctp_chunk.proofs.chunk_validators.validate.are_apart.Given as goal
 
 abbrev pub invariant-loop-block : goal.invariant-loop-block

@@ -1,7 +1,5 @@
-use Rattle.std.proofs.Common.{◌≡◌, subst, sym}
-use Rattle.std.specs.Prelude.{false, All}
-use Rattle.dcsctp_chunk.specs.SkippedStreams.{is_by_mid, skipped_stream_view}
-use Rattle.dcsctp_chunk.proofs.SkippedStreams.{each_by_mid}
+use Rattle.std.proofs.Common.{◌≡◌, subst, sym, false, All}
+use Rattle.dcsctp_chunk.{specs.SkippedStreams.{is_by_mid, skipped_stream_view}, proofs.SkippedStreams.{each_by_mid}}
 use Rattle.dcsctp_chunk.proofs.forward_tsn_chunk.ForwardTsnChunkSerializableTlv.serialize_to.Goals as goal
 
 pub put_numbers_and_fields-requires-clause-writable

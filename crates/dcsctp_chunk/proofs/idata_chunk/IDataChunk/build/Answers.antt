@@ -1,6 +1,4 @@
-use Rattle.std.proofs.Common.{arith, ◌∙◌, ◌≡◌, drop}
-use Rattle.std.proofs.lemmas.Grind.{common_steps}
-use Rattle.std.proofs.lemmas.List.{take_rest}
+use Rattle.std.proofs.{Common.{arith, ◌∙◌, ◌≡◌, drop}, lemmas.Grind.{common_steps}, lemmas.List.{take_rest}}
 use Rattle.dcsctp_chunk.specs.IDataChunk.{read}
 use Rattle.dcsctp_chunk.proofs.idata_chunk.IDataChunk.build.Goals as goal
 

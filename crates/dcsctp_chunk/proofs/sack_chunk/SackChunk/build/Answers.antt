@@ -1,10 +1,5 @@
-use Rattle.std.proofs.Common.{◌≡◌, ◌+◌, ◌*◌, refl, length, drop, ap, ◌∙◌, sym}
-use Rattle.std.specs.Prelude.{◌==◌}
-use Rattle.std.proofs.lemmas.List.{map-id, take_rest}
-use Rattle.dcsctp_tlv.specs.Fault.{Length}
-use Rattle.dcsctp_tlv.proofs.Readings.{ok_passed}
-use Rattle.dcsctp_tlv.specs.Fields.{fields}
-use Rattle.dcsctp_tlv.specs.Number.{number16, number32}
+use Rattle.std.proofs.{Common.{◌≡◌, ◌+◌, ◌*◌, refl, length, drop, ap, ◌∙◌, sym, ◌==◌, map-id}, lemmas.List.{take_rest}}
+use Rattle.dcsctp_tlv.{specs.Fault.{Length}, proofs.Readings.{ok_passed}, specs.Fields.{fields}, specs.Number.{number16, number32}}
 use Rattle.dcsctp_chunk.specs.Sack.{block_at, block_count, duplicate_count, duplicate_numbers, read}
 use Rattle.dcsctp_chunk.proofs.sack_chunk.SackChunk.build.Goals as goal
 

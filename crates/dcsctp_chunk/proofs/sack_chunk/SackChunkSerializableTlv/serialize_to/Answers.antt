@@ -1,12 +1,6 @@
-use Rattle.std.proofs.Common.{◌≡◌, ◌+◌, ◌*◌, ℕ, length, ap, ◌∙◌, arith, map}
-use Rattle.std.specs.Int.{w32}
-use Rattle.std.specs.List.{flat_map}
-use Rattle.std.proofs.lemmas.List.{map-id}
-use Rattle.dcsctp_tlv.specs.Image.{put}
-use Rattle.dcsctp_tlv.specs.Number.{numbers}
-use Rattle.dcsctp_chunk.specs.declared.sack_chunk.GapAckBlock.{GapAckBlock}
-use Rattle.dcsctp_chunk.specs.Sack.{block_bytes, duplicate_numbers, view}
-use Rattle.dcsctp_chunk.proofs.Sacks.{sack_written}
+use Rattle.std.{proofs.Common.{◌≡◌, ◌+◌, ◌*◌, ℕ, length, ap, ◌∙◌, arith, map, map-id}, specs.Int.{w32}, specs.List.{flat_map}}
+use Rattle.dcsctp_tlv.specs.{Image.{put}, Number.{numbers}}
+use Rattle.dcsctp_chunk.{specs.declared.sack_chunk.GapAckBlock.{GapAckBlock}, specs.Sack.{block_bytes, duplicate_numbers, view}, proofs.Sacks.{sack_written}}
 use Rattle.dcsctp_chunk.proofs.sack_chunk.SackChunkSerializableTlv.serialize_to.Goals as goal
 
 pub returns : goal.returns

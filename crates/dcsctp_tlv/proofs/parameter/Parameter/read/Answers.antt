@@ -1,6 +1,5 @@
 use Rattle.std.proofs.Common.{rules}
-use Rattle.dcsctp_tlv.proofs.Exact.{row_exactly}
-use Rattle.dcsctp_tlv.proofs.ParameterLaws.{row_lawful}
+use Rattle.dcsctp_tlv.proofs.{Exact.{row_exactly}, ParameterLaws.{row_lawful}}
 use Rattle.dcsctp_tlv.proofs.parameter.Parameter.read.Goals as goal
 
 pub returns-in_err-check_value-clause-answer : goal.returns-in_err-check_value-clause-answer

@@ -1,7 +1,4 @@
-use Rattle.dcsctp_tlv.specs.Reading.{RowAnswer, Counted, Unplaced}
-use Rattle.dcsctp_tlv.specs.Parameter.{row}
-use Rattle.dcsctp_tlv.proofs.ParameterLaws.{row_at_front}
-use Rattle.dcsctp_tlv.proofs.Places.{fault_at_front}
+use Rattle.dcsctp_tlv.{specs.Reading.{RowAnswer, Counted, Unplaced}, specs.Parameter.{row}, proofs.ParameterLaws.{row_at_front}, proofs.Places.{fault_at_front}}
 use Rattle.dcsctp_tlv.proofs.parameter.ParameterReadableTlv.check.Goals as goal
 
 pub returns-in-Err-clause-found : goal.returns-in-Err-clause-found

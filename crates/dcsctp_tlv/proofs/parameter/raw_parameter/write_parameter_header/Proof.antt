@@ -1,8 +1,7 @@
 -- `write_parameter_header` writes four bytes and lends the part after them: a walk of its MIR by
 -- hand. Assumes `Logic`.
-use Rattle.dcsctp_tlv.proofs.Lending.{refl, ap, ℕ, ◌+◌, ◌/◌, ◌%◌, ◌^◌, ◌<◌, ◌≤◌, arith, List, [], ◌∷◌, length, length-set, ftrue, flft, named, w16, w64, vint, tables, ‵, ◌⊛◌, given, ◌$◌, ◌∵◌, !, qed, move, keep, drop, learn, split, split3, join, fsplit, fjoin, suffices, frame, done, whole, sub, agg, stop, fld, addr, lit, of_opd, bin, un, assigns, and_then, no_more, returns, enter, alloc_all, pass_all, free_all, look_at, get, get_in, through, is, sets, u8, u16, usize, yes, no, uint_vals, uint_Tells, owns, opens_slice, MutSlice, Room, slice_val, mut_slice_vals, mut_slice_Tells, nothing, says, Stays, stay_dropped, walk_of, ends_at, Goes-dropped, Goes-spent_slice, plain, Width, UInt, proved, store_byte, value_part, lends_value}
+use Rattle.dcsctp_tlv.proofs.{Lending.{refl, ap, ℕ, ◌+◌, ◌/◌, ◌%◌, ◌^◌, ◌<◌, ◌≤◌, arith, List, [], ◌∷◌, length, length-set, ftrue, flft, named, w16, w64, vint, tables, ‵, ◌⊛◌, given, ◌$◌, ◌∵◌, !, qed, move, keep, drop, learn, split, split3, join, fsplit, fjoin, suffices, frame, done, whole, sub, agg, stop, fld, addr, lit, of_opd, bin, un, assigns, and_then, no_more, returns, enter, alloc_all, pass_all, free_all, look_at, get, get_in, through, is, sets, u8, u16, usize, yes, no, uint_vals, uint_Tells, owns, opens_slice, MutSlice, Room, slice_val, mut_slice_vals, mut_slice_Tells, nothing, says, Stays, stay_dropped, walk_of, ends_at, Goes-dropped, Goes-spent_slice, plain, Width, UInt, proved, store_byte, value_part, lends_value}, parameter.raw_parameter.write_parameter_header.Statement.{statement}}
 use Rattle.dcsctp_tlv.specs.contracts.parameter.raw_parameter.write_parameter_header as F
-use Rattle.dcsctp_tlv.proofs.parameter.raw_parameter.write_parameter_header.Statement.{statement}
 use Rattle.dcsctp_tlv.proofs.parameter.raw_parameter.write_parameter_header.Code as code
 
 abbrev stayed : Stays F.ended.signature.params F.ended.kept

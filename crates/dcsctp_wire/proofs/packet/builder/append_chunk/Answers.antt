@@ -1,9 +1,6 @@
-use Rattle.std.proofs.Common.{arith, ◌≡◌, ◌∙◌, ◌++◌, replicate, drop, take, length}
-use Rattle.std.proofs.lemmas.Grind.{common_steps}
-use Rattle.dcsctp_tlv.specs.Frame.{round_up_to_4}
-use Rattle.dcsctp_tlv.specs.Image.{size_of, written, image_of}
-use Rattle.dcsctp_wire.specs.Chunk.{view, tlv as chunk_tlv}
-use Rattle.dcsctp_wire.proofs.Builders.{padded_after}
+use Rattle.std.proofs.{Common.{arith, ◌≡◌, ◌∙◌, ◌++◌, replicate, drop, take, length}, lemmas.Grind.{common_steps}}
+use Rattle.dcsctp_tlv.specs.{Frame.{round_up_to_4}, Image.{size_of, written, image_of}}
+use Rattle.dcsctp_wire.{specs.Chunk.{view, tlv as chunk_tlv}, proofs.Builders.{padded_after}}
 use Rattle.dcsctp_wire.proofs.packet.builder.append_chunk.Goals as goal
 
 pub returns-clause-items : goal.returns-clause-items

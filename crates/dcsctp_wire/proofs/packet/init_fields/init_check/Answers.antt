@@ -1,8 +1,5 @@
-use Rattle.std.proofs.Common.{arith, rules, refl, length}
-use Rattle.std.specs.Prelude.{nat_le}
-use Rattle.std.proofs.lemmas.Bool.{le-leb}
-use Rattle.dcsctp_tlv.specs.Parameter.{parameters}
-use Rattle.dcsctp_tlv.proofs.Places.{finds_listed, rule_broken}
+use Rattle.std.proofs.Common.{arith, rules, refl, length, nat_le, le-leb}
+use Rattle.dcsctp_tlv.{specs.Parameter.{parameters}, proofs.Places.{finds_listed, rule_broken}}
 use Rattle.dcsctp_wire.specs.InitFields.{tree_of as init_of, parts as init_parts}
 use Rattle.dcsctp_wire.proofs.packet.init_fields.init_check.Goals as goal
 

@@ -1,5 +1,4 @@
-use Rattle.std.proofs.Common.{refl}
-use Rattle.std.proofs.lemmas.List.{take_rest}
+use Rattle.std.proofs.{Common.{refl}, lemmas.List.{take_rest}}
 use Rattle.dcsctp_wire.proofs.packet.init_fields.init_numbers.Goals as goal
 
 pub returns-clause-numbers : goal.returns-clause-numbers

@@ -1,6 +1,5 @@
 use Rattle.std.proofs.Common.{◌+◌, length, true, refl}
-use Rattle.dcsctp_tlv.specs.Parameter.{parameters}
-use Rattle.dcsctp_tlv.proofs.Places.{finds_listed}
+use Rattle.dcsctp_tlv.{specs.Parameter.{parameters}, proofs.Places.{finds_listed}}
 use Rattle.dcsctp_wire.proofs.packet.parameter_list.parameter_list_check.Goals as goal
 
 pub returns-clause-found : goal.returns-clause-found

@@ -1,8 +1,5 @@
 use Rattle.std.proofs.Common.{ap, ◌∙◌, ◌≡◌, ◌+◌, ℕ, replicate}
-use Rattle.dcsctp_wire.specs.Chunk.{views}
-use Rattle.dcsctp_wire.specs.Packet.{meaning_view}
-use Rattle.dcsctp_wire.specs.Canonical.{padded_size}
-use Rattle.dcsctp_wire.proofs.Canonicals.{length-canonical}
+use Rattle.dcsctp_wire.{specs.Chunk.{views}, specs.Packet.{meaning_view}, specs.Canonical.{padded_size}, proofs.Canonicals.{length-canonical}}
 use Rattle.dcsctp_wire.proofs.packet.sctp_packet.canonical_of.Goals as goal
 
 pub write_over_zeros-requires-clause-zeros : goal.write_over_zeros-requires-clause-zeros

@@ -1,12 +1,6 @@
-use Rattle.std.proofs.Common.{arith, rules, Ok, Err, List, ℕ, subst}
-use Rattle.std.specs.Prelude.{IsTrue}
-use Rattle.std.proofs.lemmas.List.{take_rest}
-use Rattle.dcsctp_tlv.specs.declared.reader.Counts.{Counts}
-use Rattle.dcsctp_tlv.specs.Reading.{Answers, locating, ListAnswer, Counted, counts}
-use Rattle.dcsctp_wire.specs.Chunk.{chunks, parts as chunk_parts}
-use Rattle.dcsctp_wire.specs.Packet.{IsAccepted, Size, Checksum, packet_with}
-use Rattle.dcsctp_wire.proofs.PacketChecks.{packet_is}
-use Rattle.dcsctp_wire.proofs.PacketPlaces.{chunk_fault, fault_there}
+use Rattle.std.proofs.{Common.{arith, rules, Ok, Err, List, ℕ, subst, IsTrue}, lemmas.List.{take_rest}}
+use Rattle.dcsctp_tlv.specs.{declared.reader.Counts.{Counts}, Reading.{Answers, locating, ListAnswer, Counted, counts}}
+use Rattle.dcsctp_wire.{specs.Chunk.{chunks, parts as chunk_parts}, specs.Packet.{IsAccepted, Size, Checksum, packet_with}, proofs.PacketChecks.{packet_is}, proofs.PacketPlaces.{chunk_fault, fault_there}}
 use Rattle.dcsctp_wire.proofs.packet.sctp_packet.check_packet.Goals as goal
 
 pub returns-in-Err-clause-found : goal.returns-in-Err-clause-found

@@ -1,13 +1,6 @@
-use Rattle.std.proofs.Common.{ap}
-use Rattle.std.proofs.lemmas.List.{take_rest}
-use Rattle.dcsctp_tlv.specs.declared.reader.Counts.{Counts}
-use Rattle.dcsctp_tlv.specs.Frame.{lenient}
-use Rattle.dcsctp_tlv.proofs.Lenient.{list_looser}
-use Rattle.dcsctp_wire.specs.Chunk.{chunks, views}
-use Rattle.dcsctp_wire.specs.Packet.{body, with_header}
-use Rattle.dcsctp_wire.specs.declared.packet.common_header.CommonHeader.{CommonHeader}
-use Rattle.dcsctp_wire.proofs.ChunkRows.{chunks_looser}
-use Rattle.dcsctp_wire.proofs.Lenient.{built_means}
+use Rattle.std.proofs.{Common.{ap}, lemmas.List.{take_rest}}
+use Rattle.dcsctp_tlv.{specs.declared.reader.Counts.{Counts}, specs.Frame.{lenient}, proofs.Lenient.{list_looser}}
+use Rattle.dcsctp_wire.{specs.Chunk.{chunks, views}, specs.Packet.{body, with_header}, specs.declared.packet.common_header.CommonHeader.{CommonHeader}, proofs.ChunkRows.{chunks_looser}, proofs.Lenient.{built_means}}
 use Rattle.dcsctp_wire.proofs.packet.sctp_packet.read_packet.Goals as goal
 
 pub list_build-requires : goal.list_build-requires

@@ -1,8 +1,6 @@
 -- The lines of the chunks so far are written.
-use Rattle.std.proofs.Common.{take}
-use Rattle.std.specs.Fmt.{HasWritten, IsPlainFormatter}
-use Rattle.dcsctp_wire.specs.Chunk.{views}
-use Rattle.dcsctp_wire.specs.PacketText.{next_lines}
+use Rattle.std.{proofs.Common.{take}, specs.Fmt.{HasWritten, IsPlainFormatter}}
+use Rattle.dcsctp_wire.specs.{Chunk.{views}, PacketText.{next_lines}}
 use Rattle.dcsctp_wire.proofs.packet.sctp_packet.write_lines.Given as goal
 
 abbrev pub invariant-loop-chunk : goal.invariant-loop-chunk

@@ -1,10 +1,6 @@
-use Rattle.std.proofs.Common.{[], refl, arith, ap, ◌∙◌, ◌≡◌, ◌+◌, ◌-◌, ◌++◌, ℕ, List, length, drop, replicate}
-use Rattle.std.proofs.lemmas.List.{drop-replicate, length-replicate}
+use Rattle.std.proofs.{Common.{[], refl, arith, ap, ◌∙◌, ◌≡◌, ◌+◌, ◌-◌, ◌++◌, ℕ, List, length, drop, replicate}, lemmas.List.{drop-replicate, length-replicate}}
 use Rattle.dcsctp_tlv.specs.Image.{written, list_image, list_size}
-use Rattle.dcsctp_wire.specs.Chunk.{tlv as chunk_tlv, view, views}
-use Rattle.dcsctp_wire.specs.Packet.{meaning_view}
-use Rattle.dcsctp_wire.specs.Canonical.{canonical, padded_size}
-use Rattle.dcsctp_wire.proofs.Canonicals.{fits_to, body_is, size_views}
+use Rattle.dcsctp_wire.{specs.Chunk.{tlv as chunk_tlv, view, views}, specs.Packet.{meaning_view}, specs.Canonical.{canonical, padded_size}, proofs.Canonicals.{fits_to, body_is, size_views}}
 use Rattle.dcsctp_wire.proofs.packet.sctp_packet.write_over_zeros.Goals as goal
 
 pub put_list-requires-clause-encodable : goal.put_list-requires-clause-encodable

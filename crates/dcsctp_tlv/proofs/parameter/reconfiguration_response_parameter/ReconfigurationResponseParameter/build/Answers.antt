@@ -1,13 +1,6 @@
-use Rattle.std.proofs.Common.{◌≡◌, ◌≢◌, sym, ap, ◌∙◌, ℕ, List, drop, length, Some, Ok, refl}
-use Rattle.std.specs.Prelude.{◌==◌, IsOk}
-use Rattle.std.proofs.lemmas.Bool.{ne_eqb}
-use Rattle.std.proofs.lemmas.List.{take_rest}
-use Rattle.dcsctp_tlv.specs.Fault.{Length}
-use Rattle.dcsctp_tlv.specs.Number.{number32}
+use Rattle.std.proofs.{Common.{◌≡◌, ◌≢◌, sym, ap, ◌∙◌, ℕ, List, drop, length, Some, Ok, refl, ◌==◌, IsOk, ne_eqb}, lemmas.List.{take_rest}}
+use Rattle.dcsctp_tlv.{specs.Fault.{Length}, specs.Number.{number32}, specs.ReconfigurationResponse.{result_of}, proofs.Readings.{ok_passed}, specs.declared.parameter.reconfiguration_response_parameter.ReconfigurationResponseResult.{ReconfigurationResponseResult}}
 use Rattle.dcsctp_tlv.specs.ReconfigurationResponse as kind
-use Rattle.dcsctp_tlv.specs.ReconfigurationResponse.{result_of}
-use Rattle.dcsctp_tlv.proofs.Readings.{ok_passed}
-use Rattle.dcsctp_tlv.specs.declared.parameter.reconfiguration_response_parameter.ReconfigurationResponseResult.{ReconfigurationResponseResult}
 use Rattle.dcsctp_tlv.proofs.parameter.reconfiguration_response_parameter.ReconfigurationResponseParameter.build.Goals as goal
 
 -- a value that isn't short is long

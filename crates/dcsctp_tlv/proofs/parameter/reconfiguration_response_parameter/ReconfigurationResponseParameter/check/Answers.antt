@@ -1,6 +1,5 @@
 use Rattle.std.proofs.Common.{rules}
-use Rattle.dcsctp_tlv.specs.ReconfigurationResponse.{read}
-use Rattle.dcsctp_tlv.proofs.Exact.{tested_exactly}
+use Rattle.dcsctp_tlv.{specs.ReconfigurationResponse.{read}, proofs.Exact.{tested_exactly}}
 use Rattle.dcsctp_tlv.proofs.parameter.reconfiguration_response_parameter.ReconfigurationResponseParameter.check.Goals as goal
 
 pub returns-then-read_u32_be-gt-MAX_RESULT : goal.returns-then-read_u32_be-gt-MAX_RESULT

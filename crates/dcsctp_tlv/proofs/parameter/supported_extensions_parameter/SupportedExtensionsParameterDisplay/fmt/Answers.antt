@@ -1,7 +1,4 @@
-use Rattle.std.proofs.Common.{ap, refl, ◌++◌, map}
-use Rattle.std.specs.Fmt.{decimal}
-use Rattle.std.specs.Prelude.{codes}
-use Rattle.std.proofs.Output.{has_written_append, has_written_of_eq}
+use Rattle.std.{proofs.Common.{ap, refl, ◌++◌, map, codes}, specs.Fmt.{decimal}, proofs.Output.{has_written_append, has_written_of_eq}}
 use Rattle.dcsctp_tlv.specs.Text.{joined}
 use Rattle.dcsctp_tlv.proofs.parameter.supported_extensions_parameter.SupportedExtensionsParameterDisplay.fmt.Goals as goal
 

@@ -1,8 +1,5 @@
 use Rattle.std.proofs.Common.{◌∙◌, ◌++◌, ap, vec_capacity}
-use Rattle.dcsctp_wire.specs.Chunk.{view}
-use Rattle.dcsctp_wire.specs.Canonical.{padded_chunk}
-use Rattle.dcsctp_wire.specs.Builder.{BuilderState}
-use Rattle.dcsctp_wire.proofs.Builders.{adds}
+use Rattle.dcsctp_wire.{specs.Chunk.{view}, specs.Canonical.{padded_chunk}, specs.Builder.{BuilderState}, proofs.Builders.{adds}}
 use Rattle.dcsctp_wire.proofs.packet.builder.SctpPacketBuilder.add.Goals as goal
 
 pub returns-clause-added : goal.returns-clause-added

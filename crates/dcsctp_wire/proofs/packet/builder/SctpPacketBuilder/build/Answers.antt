@@ -1,8 +1,5 @@
 use Rattle.std.proofs.Common.{subst, sym, ℕ, List, Ok}
-use Rattle.dcsctp_wire.specs.Builder.{meaning_with}
-use Rattle.dcsctp_wire.specs.Chunk.{all_kept as kept_chunks}
-use Rattle.dcsctp_wire.specs.Packet.{IsAccepted, checksum_field, Answer}
-use Rattle.dcsctp_wire.proofs.Builders.{built_reads_back}
+use Rattle.dcsctp_wire.{specs.Builder.{meaning_with}, specs.Chunk.{all_kept as kept_chunks}, specs.Packet.{IsAccepted, checksum_field, Answer}, proofs.Builders.{built_reads_back}}
 use Rattle.dcsctp_wire.proofs.packet.builder.SctpPacketBuilder.build.Goals as goal
 
 pub returns-clause-reads_back : goal.returns-clause-reads_back

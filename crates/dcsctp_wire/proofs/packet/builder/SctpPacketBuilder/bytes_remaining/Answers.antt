@@ -1,7 +1,5 @@
-use Rattle.std.proofs.Common.{arith, ◌≡◌, ◌∙◌}
-use Rattle.std.proofs.lemmas.Grind.{common_steps}
-use Rattle.dcsctp_wire.specs.Builder.{room}
-use Rattle.dcsctp_wire.proofs.Builders.{room_after}
+use Rattle.std.proofs.{Common.{arith, ◌≡◌, ◌∙◌}, lemmas.Grind.{common_steps}}
+use Rattle.dcsctp_wire.{specs.Builder.{room}, proofs.Builders.{room_after}}
 use Rattle.dcsctp_wire.proofs.packet.builder.SctpPacketBuilder.bytes_remaining.Goals as goal
 
 pub returns-clause-held : goal.returns-clause-held

@@ -1,16 +1,6 @@
-use Rattle.std.proofs.Common.{rules, ◌≡◌, ◌∙◌, ℕ, List, Result, Ok, Err, inl, inr, sym, ap}
-use Rattle.std.specs.Prelude.{IsErrOf}
-use Rattle.std.proofs.lemmas.Result.{err_from_is_err_and}
-use Rattle.dcsctp_tlv.specs.declared.error.ChunkParseError.{ChunkParseError}
-use Rattle.dcsctp_tlv.specs.declared.error.ChunkParseError.TheVariants.{OutOfMemory}
-use Rattle.dcsctp_tlv.specs.declared.error.LocatedFault.{LocatedFault}
-use Rattle.dcsctp_tlv.specs.Frame.{lenient}
-use Rattle.dcsctp_tlv.specs.Level.{Row}
-use Rattle.dcsctp_tlv.specs.Reading.{Answers, locating, reading, RowAnswer, Counted, Unplaced}
-use Rattle.dcsctp_tlv.proofs.Exact.{row_exactly, no_memory}
-use Rattle.dcsctp_wire.specs.declared.packet.chunk.Chunk.{Chunk}
-use Rattle.dcsctp_wire.specs.Chunk.{ChunkTree, chunks, view, parts as chunk_parts}
-use Rattle.dcsctp_wire.proofs.ChunkRows.{chunks_lawful}
+use Rattle.std.proofs.{Common.{rules, ◌≡◌, ◌∙◌, ℕ, List, Result, Err, inl, inr, sym, ap, IsErrOf}, lemmas.Result.{err_from_is_err_and}}
+use Rattle.dcsctp_tlv.{specs.declared.error.ChunkParseError.{ChunkParseError}, specs.declared.error.ChunkParseError.TheVariants.{OutOfMemory}, specs.declared.error.LocatedFault.{LocatedFault}, specs.Frame.{lenient}, specs.Level.{Row}, specs.Reading.{Answers, locating, reading, RowAnswer, Counted, Unplaced}, proofs.Exact.{row_exactly, no_memory}}
+use Rattle.dcsctp_wire.{specs.declared.packet.chunk.Chunk.{Chunk}, specs.Chunk.{ChunkTree, chunks, view, parts as chunk_parts}, proofs.ChunkRows.{chunks_lawful}}
 use Rattle.dcsctp_wire.proofs.packet.chunk.Chunk.read.Goals as goal
 
 -- the fault that the check found, wherever it lies

@@ -1,11 +1,6 @@
 use Rattle.std.proofs.Common.{Ok, Err, rules, refl}
 use Rattle.dcsctp_tlv.proofs.Readings.{finds_as}
-use Rattle.dcsctp_wire.specs.InitFields.{row as init_row}
-use Rattle.dcsctp_wire.specs.ParameterList.{row as parameter_list_row}
-use Rattle.dcsctp_wire.specs.Abort.{row as abort_row}
-use Rattle.dcsctp_wire.specs.Error.{row as error_row}
-use Rattle.dcsctp_wire.specs.Chunk.{parts as chunk_parts, Init, InitAck, HeartbeatRequest, HeartbeatAck, Abort, Error, ReConfig}
-use Rattle.dcsctp_wire.proofs.ChunkRows.{plain_finds}
+use Rattle.dcsctp_wire.{specs.InitFields.{row as init_row}, specs.ParameterList.{row as parameter_list_row}, specs.Abort.{row as abort_row}, specs.Error.{row as error_row}, specs.Chunk.{parts as chunk_parts, Init, InitAck, HeartbeatRequest, HeartbeatAck, Abort, Error, ReConfig}, proofs.ChunkRows.{plain_finds}}
 use Rattle.dcsctp_wire.proofs.packet.chunk.ChunkReadableTlv.check.Goals as goal
 
 pub returns-in-1-clause-found : goal.returns-in-1-clause-found

@@ -1,5 +1,4 @@
-use Rattle.std.proofs.Common.{◌+◌, length, rules, refl}
-use Rattle.std.specs.Prelude.{nat_lt}
+use Rattle.std.proofs.Common.{◌+◌, length, rules, refl, nat_lt}
 use Rattle.dcsctp_tlv.proofs.Places.{finds_listed, rule_broken}
 use Rattle.dcsctp_cause.specs.Cause.{causes}
 use Rattle.dcsctp_wire.proofs.packet.error_chunk.ErrorChunkKind.check.Goals as goal

@@ -1,8 +1,5 @@
-use Rattle.std.proofs.Common.{sym, ap, ◌∙◌}
-use Rattle.std.proofs.lemmas.Result.{IfOk-weaker}
-use Rattle.dcsctp_wire.specs.Packet.{meaning_view}
-use Rattle.dcsctp_wire.specs.Canonical.{canonical}
-use Rattle.dcsctp_wire.proofs.Canonicals.{reads_back, canonical_one}
+use Rattle.std.proofs.{Common.{sym, ap, ◌∙◌}, lemmas.Result.{IfOk-weaker}}
+use Rattle.dcsctp_wire.{specs.Packet.{meaning_view}, specs.Canonical.{canonical}, proofs.Canonicals.{reads_back, canonical_one}}
 use Rattle.dcsctp_wire.proofs.packet.sctp_packet.SctpPacket.canonical_bytes.Goals as goal
 
 pub returns-clause-reads_back : goal.returns-clause-reads_back

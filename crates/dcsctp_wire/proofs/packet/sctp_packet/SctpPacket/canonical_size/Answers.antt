@@ -1,9 +1,6 @@
 use Rattle.std.proofs.Common.{refl, arith, ap, ◌∙◌}
-use Rattle.dcsctp_tlv.specs.Frame.{round_up_to_4}
-use Rattle.dcsctp_tlv.specs.Image.{list_size}
-use Rattle.dcsctp_wire.specs.Chunk.{tlv as chunk_tlv, view}
-use Rattle.dcsctp_wire.specs.Packet.{meaning_view}
-use Rattle.dcsctp_wire.proofs.Canonicals.{fits_to, size_views, length-canonical}
+use Rattle.dcsctp_tlv.specs.{Frame.{round_up_to_4}, Image.{list_size}}
+use Rattle.dcsctp_wire.{specs.Chunk.{tlv as chunk_tlv, view}, specs.Packet.{meaning_view}, proofs.Canonicals.{fits_to, size_views, length-canonical}}
 use Rattle.dcsctp_wire.proofs.packet.sctp_packet.SctpPacket.canonical_size.Goals as goal
 
 pub list_size-requires : goal.list_size-requires

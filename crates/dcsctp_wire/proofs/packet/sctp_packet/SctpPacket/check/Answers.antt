@@ -1,9 +1,6 @@
-use Rattle.std.proofs.Common.{Ok, Err, ap}
-use Rattle.std.proofs.lemmas.Result.{err_from_is_err_and}
+use Rattle.std.proofs.{Common.{Ok, Err, ap}, lemmas.Result.{err_from_is_err_and}}
 use Rattle.dcsctp_tlv.specs.declared.reader.Counts.{Counts}
-use Rattle.dcsctp_wire.proofs.PacketLaws.{packet_parts}
-use Rattle.dcsctp_wire.proofs.Lenient.{lenient_packet}
-use Rattle.dcsctp_wire.proofs.PacketChecks.{check_answers, check_exactly}
+use Rattle.dcsctp_wire.proofs.{PacketLaws.{packet_parts}, Lenient.{lenient_packet}, PacketChecks.{check_answers, check_exactly}}
 use Rattle.dcsctp_wire.proofs.packet.sctp_packet.SctpPacket.check.Goals as goal
 
 pub returns-in_err-counts-clause-answer : goal.returns-in_err-counts-clause-answer

@@ -1,10 +1,6 @@
-use Rattle.std.proofs.Common.{refl, arith, ap, ◌∙◌, ◌≡◌}
-use Rattle.std.proofs.lemmas.Bool.{leb-true, le-leb}
-use Rattle.dcsctp_tlv.specs.Frame.{round_up_to_4}
-use Rattle.dcsctp_tlv.specs.Image.{list_size, IsListEncodable}
-use Rattle.dcsctp_wire.specs.Chunk.{tlv as chunk_tlv, IsPlaced, view}
-use Rattle.dcsctp_wire.specs.Packet.{meaning_view}
-use Rattle.dcsctp_wire.proofs.Canonicals.{fits_from, fits_to}
+use Rattle.std.proofs.Common.{refl, arith, ap, ◌∙◌, ◌≡◌, leb-true, le-leb}
+use Rattle.dcsctp_tlv.specs.{Frame.{round_up_to_4}, Image.{list_size, IsListEncodable}}
+use Rattle.dcsctp_wire.{specs.Chunk.{tlv as chunk_tlv, IsPlaced, view}, specs.Packet.{meaning_view}, proofs.Canonicals.{fits_from, fits_to}}
 use Rattle.dcsctp_wire.proofs.packet.sctp_packet.SctpPacket.fits.Goals as goal
 
 pub returns-in-None : goal.returns-in-None

@@ -1,11 +1,5 @@
 use Rattle.std.proofs.Common.{◌-◌, ◌*◌, ◌/◌, ◌≤◌, length}
-use Rattle.dcsctp_wire.specs.WellFormed.{IsWellFormed}
-use Rattle.dcsctp_wire.specs.Account.{KeepsSize, node_count}
-use Rattle.dcsctp_wire.proofs.PacketLaws.{packet_formed, packet_size, packet_parts, reads_only}
-use Rattle.dcsctp_wire.specs.Packet.{packet_view}
-use Rattle.dcsctp_wire.specs.Canonical.{padded_size}
-use Rattle.dcsctp_wire.proofs.Bounded.{packet_bound}
-use Rattle.dcsctp_wire.proofs.PacketChecks.{read_exactly}
+use Rattle.dcsctp_wire.{specs.WellFormed.{IsWellFormed}, specs.Account.{KeepsSize, node_count}, proofs.PacketLaws.{packet_formed, packet_size, packet_parts, reads_only}, specs.Packet.{packet_view}, specs.Canonical.{padded_size}, proofs.Bounded.{packet_bound}, proofs.PacketChecks.{read_exactly}}
 use Rattle.dcsctp_wire.proofs.packet.sctp_packet.SctpPacket.from_bytes.Goals as goal
 
 pub returns-clause-formed : goal.returns-clause-formed
