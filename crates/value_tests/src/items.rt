@@ -5,6 +5,7 @@ ghost use Rattle.dcsctp_tlv.specs.UnknownParameter as unknown;
 
 use crate::help::size_of;
 use dcsctp_tlv::frame::put_parameter;
+use dcsctp_tlv::widths::are_bytes;
 use dcsctp_wire::api::StreamId;
 use dcsctp_wire::packet::SerializableTlv;
 use dcsctp_wire::packet::missing_mandatory_parameter_error_cause::MissingMandatoryParameterErrorCause;
@@ -102,6 +103,10 @@ impl SerializableTlv for Number {
 
     fn encodable(&self) -> bool {
         true
+    }
+
+    fn has_widths(&self) {
+        are_bytes(&self.0.to_be_bytes());
     }
 }
 
