@@ -1,7 +1,7 @@
 -- What holds of each tree that a chunk can mean. Of the kinds without a list it is said all at once:
 -- where computing shows it of each, `assumption` does, however many there are.
 use Rattle.std.proofs.Common.{◌≡◌, ℕ, List, [], ◌∷◌, ◌++◌, Result, Ok, sym, subst}
-use Rattle.dcsctp_tlv.{specs.Fault.{Fault}, specs.Frame.{lenient}, specs.Level.{Row, as_row, map_ok}, specs.Table.{Named, IsUnnamed}, proofs.KindLaws.{of_map_ok}, proofs.Tables.{EachNamed, of_table}, specs.Kinds.{Kind, TreesOf, own_row, rows}, proofs.Owed.{down}}
+use Rattle.dcsctp_tlv.{specs.Fault.{Fault}, specs.Frame.{lenient}, specs.Level.{Row, as_row, map_ok}, specs.Table.{Named, IsUnnamed}, proofs.KindLaws.{of_map_ok}, proofs.Tables.{EachNamed, of_table}, specs.Kinds.{Kind, TreesOf, own_row, rows}, proofs.Satisfies.{down}}
 use Rattle.dcsctp_chunk.specs.{PlainKinds.{plain_kinds}, Unknown.{Tree as UnknownTree, read as unknown_at}}
 use Rattle.dcsctp_wire.specs.Chunk.{ChunkTree, Unknown, list_rows, plain_trees, plain_rows, table, chunk_row}
 

@@ -1,34 +1,36 @@
--- The laws of the table of error causes: a line for each kind of what it owes.
-use Rattle.std.{proofs.Common.{rules, ◌≡◌, ℕ, Bool, List, length, Result, refl, inl, inr}, specs.Str.{IsUtf8}}
-use Rattle.dcsctp_tlv.{specs.Decided.{LawfulRow, IgnoresPadding}, specs.Frame.{lenient}, specs.Image.{Tlv, zeroed, size_of, image_of}, specs.Table.{Content, Text, ◌&◌}, specs.declared.error.ChunkParseError.{ChunkParseError}, specs.Kinds.{ChecksKind}, specs.Reading.{Answers, checking, RowAnswer, Counted, Unplaced}, proofs.Lengths.{length-format}, proofs.Laws.{Lawful}, proofs.Owed.{AllOwed, OwedOf, plain_owed, owed_if, back_of}, proofs.Places.{AtFront}, proofs.Lenient.{Loosens}, proofs.TableLaws.{TypedFacts, typed_row_lawful, typed_at_front, typed_lawful, typed_looser, typed_form, typed_account, typed_unpadded, typed_tested, unknown_means}, proofs.ReadsBack.{ReadsBack}, proofs.KindLaws.{IsGood}, proofs.Forms.{FormsTrees}, proofs.Accounts.{Accounts}}
-use Rattle.dcsctp_cause.{specs.Cause.{CauseTree, Unknown, kinds, trees, table, row, causes, entry, format, tlv, IsWellFormed, HoldsText, IsTextKept}, proofs.CauseKinds.{missing_laws, chunk_laws, no_user_data_laws, cookie_received_laws, abort_laws, violation_laws}}
+-- The laws of the table of error causes: a line for each kind, of the laws that it satisfies.
+use Rattle.std.{proofs.Common.{rules, ◌≡◌, ℕ, Bool, List, length, Result, refl, subst, inl, inr}, specs.Str.{IsUtf8}, specs.List.{AllByRecursion}}
+use Rattle.dcsctp_tlv.{specs.Decided.{LawfulRow, IgnoresPadding}, specs.Frame.{Item, AreItems, any_padding, lenient}, specs.Image.{Tlv, zeroed, size_of, image_of}, specs.Level.{MeansTrees}, specs.Table.{Content, Text, ◌&◌}, specs.declared.error.ChunkParseError.{ChunkParseError}, specs.Kinds.{ChecksKind}, specs.Reading.{Answers, checking, RowAnswer, Counted, Unplaced}, proofs.Lengths.{length-format}, proofs.Laws.{Lawful}, proofs.Satisfies.{AllSatisfy, SatisfiesOf, plain_satisfies, satisfies_if, back_of}, proofs.Places.{AtFront}, proofs.Lenient.{Loosens}, proofs.TableLaws.{TypedFacts, typed_row_lawful, typed_at_front, typed_lawful, typed_looser, typed_form, typed_account, typed_unpadded, typed_tested, unknown_means}, proofs.ReadsBack.{ReadsBack}, proofs.KindLaws.{IsGood, of_ok, of_map_ok}, proofs.Forms.{FormsTrees}, proofs.Accounts.{Accounts, items_kept}, proofs.Decided.{splits_one_way}}
+use Rattle.dcsctp_cause.specs.UserInitiatedAbort as abort
+use Rattle.dcsctp_cause.specs.ProtocolViolation as violation
+use Rattle.dcsctp_cause.{specs.Cause.{CauseTree, UserInitiatedAbort, ProtocolViolation, Unknown, kinds, trees, table, row, causes, entry, format, tlv, IsWellFormed, HoldsText, IsTextKept, HasOwnText}, proofs.Texts.{utf8_unless}, proofs.CauseKinds.{missing_laws, chunk_laws, no_user_data_laws, cookie_received_laws, abort_laws, violation_laws}}
 
--- ---- what each kind owes
+-- ---- what each kind satisfies
 
 -- a text keeps its size where it is UTF-8
 abbrev Keeps : Content → List ℕ → Type 0
 Keeps Text value = IsUtf8 value
 Keeps content value = Unit {0}
 
-owed : AllOwed Keeps kinds
-owed =
-    plain_owed 2 _ missing_laws &
-    plain_owed 6 _ chunk_laws &
-    plain_owed 9 _ no_user_data_laws &
-    plain_owed 10 _ cookie_received_laws &
-    owed_if 12 _ abort_laws (λ value is. is) &
-    owed_if 13 _ violation_laws (λ value is. is) & tt
+satisfied : AllSatisfy Keeps kinds
+satisfied =
+    plain_satisfies 2 _ missing_laws &
+    plain_satisfies 6 _ chunk_laws &
+    plain_satisfies 9 _ no_user_data_laws &
+    plain_satisfies 10 _ cookie_received_laws &
+    satisfies_if 12 _ abort_laws (λ value is. is) &
+    satisfies_if 13 _ violation_laws (λ value is. is) & tt
 
--- what the kind of each tree owes
-owed_of : (t : CauseTree) → OwedOf Keeps (entry t)
-owed_of (Unknown u) = tt
-owed_of t = assumption owed
+-- what the kind of each tree satisfies
+satisfies_of : (t : CauseTree) → SatisfiesOf Keeps (entry t)
+satisfies_of (Unknown u) = tt
+satisfies_of t = assumption satisfied
 
 -- ---- what the level has
 
 facts : TypedFacts kinds trees entry Unknown Keeps (λ code value. HoldsText code → IsUtf8 value)
 facts = record {
-  owed = owed;
+  satisfied = satisfied;
   found = search (rules, inl, inr);
   fixed = search rules;
   same = λ u. refl;
@@ -60,6 +62,26 @@ causes_form = typed_form facts
 pub causes_account : Accounts (causes lenient) tlv IsTextKept
 causes_account = typed_account facts
 
+-- a text is kept if it was read as its own
+text_kept : (i : Item) (t : CauseTree) → ((causes lenient).row i.first i.second).means i.value t
+    → HasOwnText t → IsTextKept i
+unfolding abort.read violation.read
+text_kept i t m own (inl is) =
+    let x = of_map_ok UserInitiatedAbort (abort.read i.value) t
+    (subst (λ (code : ℕ). (row code).means i.value t) is m) in
+    utf8_unless abort.unreadable i.value (rw (of_ok _ x.0 x.1.0) (subst HasOwnText x.1.1 own))
+text_kept i t m own (inr is) =
+    let x = of_map_ok ProtocolViolation (violation.read i.value) t
+    (subst (λ (code : ℕ). (row code).means i.value t) is m) in
+    utf8_unless violation.unreadable i.value (rw (of_ok _ x.0 x.1.0) (subst HasOwnText x.1.1 own))
+
+pub texts_kept : (bytes : List ℕ) (cs : List CauseTree) → MeansTrees (causes lenient) bytes cs
+    → AllByRecursion HasOwnText cs → (items : List Item) → AreItems any_padding bytes items
+    → AllByRecursion IsTextKept items
+texts_kept bytes cs m own items are = subst (AllByRecursion IsTextKept)
+    (splits_one_way any_padding bytes m.items items m.are are)
+    (items_kept (causes lenient) HasOwnText IsTextKept text_kept m.items cs m.mean own)
+
 pub causes_unpadded : IgnoresPadding (causes lenient)
 causes_unpadded = typed_unpadded facts
 
@@ -75,7 +97,7 @@ Means tlv t = ((causes lenient).row tlv.first tlv.second).means (zeroed tlv.valu
 
 cause_means : (t : CauseTree) → IsGoodCause t → Means (tlv t) t
 cause_means (Unknown u) good = unknown_means table Unknown u good.formed
-cause_means t good = back_of Keeps lenient (entry t) (owed_of t) good
+cause_means t good = back_of Keeps lenient (entry t) (satisfies_of t) good
 
 -- an image is as long as its size
 pub length-cause : (t : CauseTree) → length (image_of (tlv t)) ≡ size_of (tlv t)

@@ -1,6 +1,6 @@
 -- The table of error causes (RFC 9260 section 3.3.10).
-use Rattle.std.specs.{Prelude.{◌≡◌, ℕ, Bool, List, [], ◌∷◌, map, vec_len, vec_capacity}, String.{string_len, string_capacity}, Str.{IsUtf8}}
-use Rattle.dcsctp_tlv.specs.{Frame.{Item, lenient}, Image.{Tlv}, Level.{Row, Level}, Table.{Named, IsUnnamed, is_fixed, is_text, types_where, IsOneOf, ◌&◌}, Format.{Format}, Kinds.{Kind, TreesOf, rows, Entry, Of, Unnamed, format_of}, Typed.{item_type, typed_row, typed_level}}
+use Rattle.std.specs.{Prelude.{◌≡◌, ◌≢◌, ℕ, Bool, List, [], ◌∷◌, map}, String.{string_len, string_capacity}, Str.{IsUtf8}}
+use Rattle.dcsctp_tlv.specs.{Frame.{Item, lenient}, Image.{Tlv}, Level.{Row, Level}, Table.{Named, IsUnnamed, is_fixed, is_text, types_where, IsOneOf, ◌&◌}, Format.{Format}, Tight.{IsTightList}, Kinds.{Kind, TreesOf, rows, Entry, Of, Unnamed, format_of}, Typed.{item_type, typed_row, typed_level}}
 use Rattle.dcsctp_tlv.specs.UnknownParameter as unknown
 use Rattle.dcsctp_cause.specs as kind
 use Rattle.dcsctp_cause.specs.declared.error_causes.ErrorCause.{ErrorCause}
@@ -54,6 +54,12 @@ HoldsText code = IsOneOf (types_where is_text table) code
 abbrev pub IsTextKept : Item → Type 0
 IsTextKept i = HoldsText (item_type i) → IsUtf8 i.value
 
+-- its text, if it has one, isn't the one that a value is read as that isn't UTF-8
+abbrev pub HasOwnText : CauseTree → Type 0
+HasOwnText (UserInitiatedAbort reason) = reason ≢ kind.UserInitiatedAbort.unreadable
+HasOwnText (ProtocolViolation information) = information ≢ kind.ProtocolViolation.unreadable
+HasOwnText t = Unit {0}
+
 -- the kind of a cause, and its tree there; an Unknown one has a code that isn't named
 abbrev pub entry : CauseTree → Entry CauseTree
 entry (MissingMandatoryParameter types) =
@@ -85,14 +91,12 @@ IsWellFormed t = (format t).IsWellFormed
 
 -- its list or its text, if it has one, has room for its items alone
 abbrev pub IsTight : ErrorCause → Type 0
-IsTight (variant.MissingMandatoryParameter c) =
-    vec_capacity c.missing_parameters ≡ vec_len c.missing_parameters
-IsTight (variant.UnrecognizedChunk c) = vec_capacity c.chunk ≡ vec_len c.chunk
-IsTight (variant.NoUserData c) = Unit {0}
-IsTight (variant.CookieReceivedWhileShuttingDown c) = Unit {0}
+IsTight (variant.MissingMandatoryParameter c) = IsTightList c.missing_parameters
+IsTight (variant.UnrecognizedChunk c) = IsTightList c.chunk
 IsTight (variant.UserInitiatedAbort c) = string_capacity c.reason ≡ string_len c.reason
 IsTight (variant.ProtocolViolation c) = string_capacity c.information ≡ string_len c.information
-IsTight (variant.Unknown u) = vec_capacity u.value ≡ vec_len u.value
+IsTight (variant.Unknown u) = IsTightList u.value
+IsTight c = Unit {0}
 
 -- a cause of the code, without where it lies in memory
 abbrev pub view : ErrorCause → CauseTree

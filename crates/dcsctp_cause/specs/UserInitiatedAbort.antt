@@ -4,8 +4,12 @@ use Rattle.std.specs.{Prelude.{ℕ, List, ◌++◌, Result, Ok, length, codes}, 
 use Rattle.dcsctp_tlv.specs.Kind.{Fault, Format, sized_tlv, length-solid, Kind, plain_kind, Text}
 use Rattle.dcsctp_cause.specs.{Text.{text_or, IsText}, declared.user_initiated_abort_error_cause.UserInitiatedAbortErrorCause.{UserInitiatedAbortErrorCause}}
 
+-- what a value that isn't UTF-8 is read as
+abbrev pub unreadable : List ℕ
+unreadable = codes "Failed to parse abort reason"
+
 unfoldable pub read : List ℕ → Result (List ℕ) Fault
-read value = Ok (text_or (codes "Failed to parse abort reason") value)
+read value = Ok (text_or unreadable value)
 
 abbrev pub format : List ℕ → Format
 format reason = record {

@@ -74,6 +74,16 @@ list_account level tlv IsKept law bytes ts m k =
     subst (SameSpace (list_size tlv ts)) (ap length (sym m.are.split))
     (items_account level tlv IsKept law m.items ts m.are.formed m.mean k)
 
+-- items are kept whose trees say so
+pub items_kept : {T : Type 0} (level : Level T) (IsOwn : T → Type 0) (IsKept : Item → Type 0)
+    → ((i : Item) (t : T) → (level.row i.first i.second).means i.value t → IsOwn t → IsKept i)
+    → (is : List Item) (ts : List T) → ItemsMean level is ts → AllByRecursion IsOwn ts
+    → AllByRecursion IsKept is
+items_kept level IsOwn IsKept law [] [] m own = tt
+items_kept level IsOwn IsKept law (i ∷ is) (t ∷ ts) m own =
+    (law i t m.0 own.0, items_kept level IsOwn IsKept law is ts m.1 own.1)
+items_kept level IsOwn IsKept law is ts m own = absurd m
+
 -- the same where every item is kept
 pub all_account : {T : Type 0} (level : Level T) (tlv : T → Tlv)
     → Accounts level tlv (λ i. Unit {0}) → (bytes : List ℕ) (ts : List T)

@@ -20,7 +20,7 @@ pub mod Counts
 pub mod Bounds
 pub mod Kept
 pub mod ParameterKinds
-pub mod Owed
+pub mod Satisfies
 pub mod TableLaws
 pub mod KindChecks
 pub mod ParameterLaws

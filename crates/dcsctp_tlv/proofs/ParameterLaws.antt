@@ -1,6 +1,6 @@
--- The laws of the table of parameters: a line for each kind of what it owes.
+-- The laws of the table of parameters: a line for each kind, of the laws that it satisfies.
 use Rattle.std.{proofs.Common.{rules, ◌≡◌, ℕ, Bool, ◌+◌, ◌*◌, ◌^◌, ◌<◌, List, ◌++◌, length, Result, refl, ap, Option, Some, None, IfSome}, specs.Int.{w32}, specs.List.{AllByRecursion}}
-use Rattle.dcsctp_tlv.{specs.Decided.{LawfulRow, IgnoresPadding}, specs.Format.{sized_tlv}, specs.Frame.{lenient}, specs.Number.{numbers}, specs.declared.error.ChunkParseError.{ChunkParseError}, specs.Kinds.{ChecksKind}, specs.Reading.{Answers, checking, RowAnswer, Counted, Unplaced}, proofs.Lengths.{length-format}, specs.Image.{Tlv, zeroed, image_of, size_of}, specs.Table.{Content, Varied, ◌&◌}, specs.ReconfigurationResponse.{next_tsns, kept_tsn}, specs.Parameter.{ParameterTree, Unknown, kinds, trees, table, row, parameters, entry, format, tlv, IsInWidth, IsWellFormed, kept, all_kept}, proofs.Laws.{Lawful}, proofs.KindLaws.{IsGood}, proofs.Owed.{AllOwed, OwedOf, plain_owed, kept_owed, back_of, kept_tlv_of, kept_width_of}, proofs.Places.{AtFront}, proofs.Lenient.{Loosens}, proofs.TableLaws.{TypedFacts, typed_row_lawful, typed_at_front, typed_lawful, typed_looser, typed_form, typed_account, typed_unpadded, typed_tested, unknown_means}, proofs.ReadsBack.{ReadsBack}, proofs.ParameterKinds.{info_laws, cookie_laws, outgoing_laws, incoming_laws, response_laws, zero_checksum_laws, extensions_laws, forward_tsn_laws, ssn_tsn_laws, add_streams_laws}, proofs.Forms.{FormsTrees}, proofs.Accounts.{Accounts}, proofs.Kept.{all_map}}
+use Rattle.dcsctp_tlv.{specs.Decided.{LawfulRow, IgnoresPadding}, specs.Format.{sized_tlv}, specs.Frame.{lenient}, specs.Number.{numbers}, specs.declared.error.ChunkParseError.{ChunkParseError}, specs.Kinds.{ChecksKind}, specs.Reading.{Answers, checking, RowAnswer, Counted, Unplaced}, proofs.Lengths.{length-format}, specs.Image.{Tlv, zeroed, image_of, size_of}, specs.Table.{Content, Varied, ◌&◌}, specs.ReconfigurationResponse.{next_tsns, kept_tsn}, specs.Parameter.{ParameterTree, Unknown, kinds, trees, table, row, parameters, entry, format, tlv, IsInWidth, IsWellFormed, kept, all_kept}, proofs.Laws.{Lawful}, proofs.KindLaws.{IsGood}, proofs.Satisfies.{AllSatisfy, SatisfiesOf, plain_satisfies, kept_satisfies, back_of, kept_tlv_of, kept_width_of}, proofs.Places.{AtFront}, proofs.Lenient.{Loosens}, proofs.TableLaws.{TypedFacts, typed_row_lawful, typed_at_front, typed_lawful, typed_looser, typed_form, typed_account, typed_unpadded, typed_tested, unknown_means}, proofs.ReadsBack.{ReadsBack}, proofs.ParameterKinds.{info_laws, cookie_laws, outgoing_laws, incoming_laws, response_laws, zero_checksum_laws, extensions_laws, forward_tsn_laws, ssn_tsn_laws, add_streams_laws}, proofs.Forms.{FormsTrees}, proofs.Accounts.{Accounts}, proofs.Kept.{all_map}}
 use Rattle.dcsctp_tlv.specs.AddOutgoingStreamsRequest as add_outgoing
 use Rattle.dcsctp_tlv.specs.AddIncomingStreamsRequest as add_incoming
 use Rattle.dcsctp_tlv.specs.ReconfigurationResponse as response
@@ -38,37 +38,37 @@ kept_response_width r w = record {
   receiver_next_tsn = tsn_kept IsTsn r.receiver_next_tsn r.sender_next_tsn w.receiver_next_tsn;
 }
 
--- ---- what each kind owes
+-- ---- what each kind satisfies
 
 -- every value keeps its size
 abbrev Keeps : Content → List ℕ → Type 0
 Keeps content value = Unit {0}
 
-owed : AllOwed Keeps kinds
-owed =
-    plain_owed 1 _ info_laws &
-    plain_owed 7 _ cookie_laws &
-    plain_owed 13 _ outgoing_laws &
-    plain_owed 14 _ incoming_laws &
-    plain_owed 15 _ ssn_tsn_laws &
-    kept_owed 16 _ response.kept response_laws (λ value is. tt) kept_response_tlv
+satisfied : AllSatisfy Keeps kinds
+satisfied =
+    plain_satisfies 1 _ info_laws &
+    plain_satisfies 7 _ cookie_laws &
+    plain_satisfies 13 _ outgoing_laws &
+    plain_satisfies 14 _ incoming_laws &
+    plain_satisfies 15 _ ssn_tsn_laws &
+    kept_satisfies 16 _ response.kept response_laws (λ value is. tt) kept_response_tlv
     kept_response_width &
-    plain_owed 17 _ (add_streams_laws 17 add_outgoing.name) &
-    plain_owed 18 _ (add_streams_laws 18 add_incoming.name) &
-    plain_owed 0x8001 _ zero_checksum_laws &
-    plain_owed 0x8008 _ extensions_laws &
-    plain_owed 0xC000 _ forward_tsn_laws & tt
+    plain_satisfies 17 _ (add_streams_laws 17 add_outgoing.name) &
+    plain_satisfies 18 _ (add_streams_laws 18 add_incoming.name) &
+    plain_satisfies 0x8001 _ zero_checksum_laws &
+    plain_satisfies 0x8008 _ extensions_laws &
+    plain_satisfies 0xC000 _ forward_tsn_laws & tt
 
--- what the kind of each tree owes
-owed_of : (t : ParameterTree) → OwedOf Keeps (entry t)
-owed_of (Unknown u) = tt
-owed_of t = assumption owed
+-- what the kind of each tree satisfies
+satisfies_of : (t : ParameterTree) → SatisfiesOf Keeps (entry t)
+satisfies_of (Unknown u) = tt
+satisfies_of t = assumption satisfied
 
 -- ---- what the level has
 
 facts : TypedFacts kinds trees entry Unknown Keeps (λ typ. Keeps Varied)
 facts = record {
-  owed = owed;
+  satisfied = satisfied;
   found = search rules;
   fixed = search rules;
   same = λ u. refl;
@@ -115,7 +115,7 @@ Means tlv t = ((parameters lenient).row tlv.first tlv.second).means (zeroed tlv.
 
 parameter_means : (t : ParameterTree) → IsGoodParameter t → Means (tlv t) t
 parameter_means (Unknown u) good = unknown_means table Unknown u good.formed
-parameter_means t good = back_of Keeps lenient (entry t) (owed_of t) good
+parameter_means t good = back_of Keeps lenient (entry t) (satisfies_of t) good
 
 -- an image is as long as its size
 pub length-parameter : (t : ParameterTree) → length (image_of (tlv t)) ≡ size_of (tlv t)
@@ -132,11 +132,11 @@ parameters_read_back strict = record {
 
 pub kept_parameter_tlv : (t : ParameterTree) → tlv (kept t) ≡ tlv t
 kept_parameter_tlv (Unknown u) = refl
-kept_parameter_tlv t = kept_tlv_of Keeps (entry t) (owed_of t)
+kept_parameter_tlv t = kept_tlv_of Keeps (entry t) (satisfies_of t)
 
 pub kept_parameter_width : (t : ParameterTree) → IsInWidth t → IsInWidth (kept t)
 kept_parameter_width (Unknown u) width = width
-kept_parameter_width t width = kept_width_of Keeps (entry t) (owed_of t) width
+kept_parameter_width t width = kept_width_of Keeps (entry t) (satisfies_of t) width
 
 pub kept_parameters_width : (ts : List ParameterTree) → AllByRecursion IsInWidth ts
     → AllByRecursion IsInWidth (all_kept ts)

@@ -1,13 +1,13 @@
--- The laws of a level whose items have a type in their first two bytes, by what its kinds owe.
+-- The laws of a level whose items have a type in their first two bytes, by what its kinds satisfy.
 use Rattle.std.{proofs.Common.{◌≡◌, ℕ, ◌/◌, ◌%◌, ◌+◌, ◌*◌, ◌≤◌, Bool, List, [], ◌∷◌, length, Result, refl, sym, ap, subst, ◌∙◌, arith}, specs.Int.{w16, from_be_bytes}}
-use Rattle.dcsctp_tlv.{specs.Decided.{LawfulRow, IgnoresPadding}, specs.Frame.{lenient}, specs.Image.{solid, zeroed, size_of}, specs.Kinds.{Kind, TreesOf, rows, Entry, format_of, parts_of, ChecksKind}, specs.Level.{plain, map_ok}, specs.Reading.{Answers, checking, RowAnswer, Counted, Unplaced}, specs.declared.error.ChunkParseError.{ChunkParseError}, specs.Table.{Content, Named, IsUnnamed}, specs.Typed.{item_type, typed_row, typed_level}, proofs.Accounts.{Accounts, plain_account}, proofs.Forms.{FormsTrees}, proofs.KindChecks.{table_finds, finds_tested, all_single}, proofs.KindLaws.{of_map_ok}, proofs.Laws.{Lawful, plain_lawful}, proofs.Lenient.{Loosens}, proofs.Owed.{AllOwed, AllFound, AreAtFixed, Sound, all_lawful, all_at_front, all_sound}, proofs.ParameterKinds.{type_back, unknown_keeps, unknown_forms}, proofs.Places.{AtFront}, proofs.ReadsBack.{zeroed-solid}, proofs.Tables.{of_table, of_others}, proofs.Unpadded.{ok_unpadded, list_unpadded}}
+use Rattle.dcsctp_tlv.{specs.Decided.{LawfulRow, IgnoresPadding}, specs.Frame.{lenient}, specs.Image.{solid, zeroed, size_of}, specs.Kinds.{Kind, TreesOf, rows, Entry, format_of, parts_of, ChecksKind}, specs.Level.{plain, map_ok}, specs.Reading.{Answers, checking, RowAnswer, Counted, Unplaced}, specs.declared.error.ChunkParseError.{ChunkParseError}, specs.Table.{Content, Named, IsUnnamed}, specs.Typed.{item_type, typed_row, typed_level}, proofs.Accounts.{Accounts, plain_account}, proofs.Forms.{FormsTrees}, proofs.KindChecks.{table_finds, finds_tested, all_single}, proofs.KindLaws.{of_map_ok}, proofs.Laws.{Lawful, plain_lawful}, proofs.Lenient.{Loosens}, proofs.Satisfies.{AllSatisfy, AllFound, AreAtFixed, Sound, all_lawful, all_at_front, all_sound}, proofs.ParameterKinds.{type_back, unknown_keeps, unknown_forms}, proofs.Places.{AtFront}, proofs.ReadsBack.{zeroed-solid}, proofs.Tables.{of_table, of_others}, proofs.Unpadded.{ok_unpadded, list_unpadded}}
 use Rattle.dcsctp_tlv.specs.UnknownParameter as unknown
 
 -- What is shown of a level's kinds and of its trees; `tree` is that of a type that isn't named.
 pub record TypedFacts {T : Type 0} (kinds : List Kind) (trees : TreesOf kinds T) (of : T → Entry T)
     (tree : unknown.Tree → T) (Keeps : Content → List ℕ → Type 0)
     (IsKept : ℕ → List ℕ → Type 0) : Type 0 where
-  pub owed : AllOwed Keeps kinds
+  pub satisfied : AllSatisfy Keeps kinds
   pub found : AllFound Keeps IsKept of kinds trees
   pub fixed : AreAtFixed kinds
   pub same : (u : unknown.Tree) → (format_of (of (tree u))).tlv ≡ (unknown.format u).tlv
@@ -39,12 +39,12 @@ module _ {T : Type 0} {kinds : List Kind} {trees : TreesOf kinds T} {of : T → 
 
     sound : (typ : ℕ) → Sound IsKept of typ (typed_row table tree typ)
     sound typ = of_table (Sound IsKept of) table typ _
-        (all_sound Keeps IsKept of 0 kinds trees facts.owed facts.found) (unknown_sound typ)
+        (all_sound Keeps IsKept of 0 kinds trees facts.satisfied facts.found) (unknown_sound typ)
 
     -- each value means one tree or has one fault
     pub typed_row_lawful : (typ : ℕ) → LawfulRow (typed_row table tree typ)
     typed_row_lawful typ = of_table (λ n row. LawfulRow row) table typ _
-        (all_lawful T Keeps lenient 0 kinds trees facts.owed) (λ unnamed. plain_lawful _)
+        (all_lawful T Keeps lenient 0 kinds trees facts.satisfied) (λ unnamed. plain_lawful _)
 
     -- its fault is that of the item as a whole
     pub typed_at_front : (typ : ℕ) → AtFront (typed_row table tree typ)

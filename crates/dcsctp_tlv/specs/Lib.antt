@@ -4,6 +4,7 @@ pub mod Frame
 pub mod Level
 pub mod Decided
 pub mod Count
+pub mod Tight
 pub mod Reading
 pub mod Image
 pub mod Length

@@ -1,6 +1,6 @@
 -- The table of parameters (RFC 9260 section 3.2.1).
-use Rattle.std.specs.Prelude.{◌≡◌, ℕ, Bool, List, [], ◌∷◌, map, vec_len, vec_capacity}
-use Rattle.dcsctp_tlv.specs.{Frame.{lenient}, Image.{Tlv}, Level.{Row, Level}, Table.{Named, IsUnnamed, is_fixed, types_where, IsOneOf, ◌&◌}, Format.{Format}, Kinds.{Kind, TreesOf, rows, Entry, Of, Unnamed, format_of, kept_of}, Typed.{typed_row, typed_level}, declared.parameter.Parameter.{Parameter}}
+use Rattle.std.specs.Prelude.{ℕ, Bool, List, [], ◌∷◌, map}
+use Rattle.dcsctp_tlv.specs.{Frame.{lenient}, Image.{Tlv}, Level.{Row, Level}, Table.{Named, IsUnnamed, is_fixed, types_where, IsOneOf, ◌&◌}, Format.{Format}, Tight.{IsTightList}, Kinds.{Kind, TreesOf, rows, Entry, Of, Unnamed, format_of, kept_of}, Typed.{typed_row, typed_level}, declared.parameter.Parameter.{Parameter}}
 use Rattle.dcsctp_tlv.specs as kind
 use Rattle.dcsctp_tlv.specs.UnknownParameter as unknown
 use Rattle.dcsctp_tlv.specs.declared.parameter.Parameter.TheVariants as variant
@@ -102,18 +102,13 @@ all_kept ts = map kept ts
 
 -- its list, if it has one, has room for its items alone
 abbrev pub IsTight : Parameter → Type 0
-IsTight (variant.HeartbeatInfo p) = vec_capacity p.info ≡ vec_len p.info
-IsTight (variant.StateCookie p) = vec_capacity p.cookie ≡ vec_len p.cookie
-IsTight (variant.OutgoingSsnResetRequest p) = vec_capacity p.streams ≡ vec_len p.streams
-IsTight (variant.IncomingSsnResetRequest p) = vec_capacity p.streams ≡ vec_len p.streams
-IsTight (variant.SsnTsnResetRequest p) = Unit {0}
-IsTight (variant.ReconfigurationResponse p) = Unit {0}
-IsTight (variant.AddOutgoingStreamsRequest p) = Unit {0}
-IsTight (variant.AddIncomingStreamsRequest p) = Unit {0}
-IsTight (variant.ZeroChecksumAcceptable p) = Unit {0}
-IsTight (variant.SupportedExtensions p) = vec_capacity p.chunk_types ≡ vec_len p.chunk_types
-IsTight (variant.ForwardTsnSupported p) = Unit {0}
-IsTight (variant.Unknown p) = vec_capacity p.value ≡ vec_len p.value
+IsTight (variant.HeartbeatInfo p) = IsTightList p.info
+IsTight (variant.StateCookie p) = IsTightList p.cookie
+IsTight (variant.OutgoingSsnResetRequest p) = IsTightList p.streams
+IsTight (variant.IncomingSsnResetRequest p) = IsTightList p.streams
+IsTight (variant.SupportedExtensions p) = IsTightList p.chunk_types
+IsTight (variant.Unknown p) = IsTightList p.value
+IsTight p = Unit {0}
 
 -- a parameter of the code, without where it lies in memory
 abbrev pub view : Parameter → ParameterTree

@@ -2,7 +2,7 @@
 -- meaning has it.
 use Rattle.std.{proofs.Common.{◌≡◌, ◌≢◌, ℕ, ◌+◌, ◌-◌, ◌^◌, ◌<◌, ◌≤◌, true, List, [], ◌∷◌, ◌++◌, length, replicate, unwrap_or, refl, sym, ap, subst, ◌∙◌, append_assoc, arith, Option, Ok, append-nil, length-append}, specs.List.{AllByRecursion, flat_map}, specs.Int.{w16, w32, to_be_bytes}, proofs.lemmas.List.{length-map, length-replicate}, proofs.lemmas.Nat.{from_be_bytes-to_be_bytes_2, from_be_bytes-to_be_bytes_4}, proofs.lemmas.Grind.{flat_map-append}, proofs.lemmas.List.Elements.{recursion_from_All, All-from_recursion}}
 use Rattle.dcsctp_tlv.{specs.Frame.{lenient, round_up_to_4}, specs.Image.{zeroed, gap, holes, written, size_of, image_of, IsEncodable, list_image, list_size, IsListEncodable}, proofs.Lengths.{length-format}, proofs.Images.{list_size-map, list_image-map, length-list_image, written-zeros, zeroed-append, zeroed-holes}, proofs.ReadsBack.{full_zeros_accepted, body_reads_back, each_encodable}}
-use Rattle.dcsctp_wire.{specs.declared.packet.chunk.Chunk.{Chunk}, specs.declared.packet.sctp_packet.ChecksumPolicy.{ChecksumPolicy}, specs.Chunk.{ChunkTree, chunks, tlv as chunk_tlv, format, IsPlaced, IsChunkEncodable, view, views, IsInWidth as IsChunkInWidth, IsWellFormed as IsChunkWellFormed}, specs.Packet.{header_of, Meaning, PacketTree, checksum_field, IsAccepted, disabled, Answer}, specs.Canonical.{padded_chunk, canonical, padded_size, Fits}, specs.WellFormed.{IsInWidth, IsWellFormed}, proofs.Packets.{has_header, packet_one}, proofs.ChunkLaws.{IsGoodChunk, chunks_read_back}}
+use Rattle.dcsctp_wire.{specs.declared.packet.chunk.Chunk.{Chunk}, specs.declared.packet.sctp_packet.ChecksumPolicy.{ChecksumPolicy}, specs.Chunk.{ChunkTree, chunks, tlv as chunk_tlv, format, IsPlaced, IsChunkEncodable, view, views, IsInWidth as IsChunkInWidth, IsWellFormed as IsChunkWellFormed}, specs.Packet.{header_of, Meaning, PacketTree, checksum_field, IsAccepted, disabled, Answer}, specs.Canonical.{padded_chunk, canonical, padded_size, Fits, HasCanonical, IsCanonicalOf}, specs.WellFormed.{IsInWidth, IsWellFormed}, proofs.Packets.{has_header, packet_one}, proofs.ChunkLaws.{IsGoodChunk, chunks_read_back}}
 
 -- a list's size and the bytes of its padded chunks
 pub padded_size-is : (ts : List ChunkTree) → padded_size ts ≡ round_up_to_4 (list_size chunk_tlv ts)
@@ -196,12 +196,21 @@ off = record {
   strict_padding = lenient;
 }
 
+-- what a canonical packet means
+means_again : (m : Meaning) → HasCanonical m
+    → Answer (canonical m) 0 off (Ok (record { meaning = m; checksum = 0 }))
+means_again m h = reads_back m 0 off h.width h.formed h.fits (disabled refl)
+
 -- equal canonical packets have one meaning
-pub canonical_one : (m n : Meaning) → IsInWidth m → IsWellFormed m → Fits m → IsInWidth n
-    → IsWellFormed n → Fits n → canonical m ≡ canonical n → m ≡ n
-canonical_one m n mw mf mfits nw nf nfits e =
-    let a = reads_back m 0 off mw mf mfits (disabled refl) in
+pub canonical_one : (m n : Meaning) → HasCanonical m → HasCanonical n → canonical m ≡ canonical n
+    → m ≡ n
+canonical_one m n h k e =
+    let a = means_again m h in
     let b = subst (λ (bytes : List ℕ). Answer bytes 0 off
-    (Ok (record { meaning = n; checksum = 0 }))) (sym e) (reads_back n 0 off nw nf nfits
-    (disabled refl)) in
+    (Ok (record { meaning = n; checksum = 0 }))) (sym e) (means_again n k) in
     ap (λ (x : PacketTree). x.meaning) (packet_one lenient (canonical m) _ _ a.1 b.1)
+
+-- so it is that of one meaning alone
+pub canonical_of : (m : Meaning) → HasCanonical m → IsCanonicalOf m (canonical m)
+canonical_of m h =
+    record { has = h; is = refl; one = λ n k e. canonical_one m n h k e }

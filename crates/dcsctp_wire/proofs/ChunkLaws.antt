@@ -1,8 +1,8 @@
 -- Each kind of chunk reads back.
 use Rattle.std.proofs.Common.{Bool, refl}
-use Rattle.dcsctp_tlv.{specs.Image.{zeroed}, specs.Table.{IsUnnamed}, proofs.KindLaws.{IsGood}, proofs.Tables.{of_others}, proofs.ReadsBack.{ReadsBack, zeroed-solid}, proofs.Owed.{back_of}}
+use Rattle.dcsctp_tlv.{specs.Image.{zeroed}, specs.Table.{IsUnnamed}, proofs.KindLaws.{IsGood}, proofs.Tables.{of_others}, proofs.ReadsBack.{ReadsBack, zeroed-solid}, proofs.Satisfies.{back_of}}
 use Rattle.dcsctp_chunk.specs.Unknown.{Tree as UnknownTree, read as unknown_at}
-use Rattle.dcsctp_wire.{specs.Chunk.{ChunkTree, Unknown, table, chunks, chunk_row, entry, format, tlv as chunk_tlv}, proofs.ChunkRows.{owed_of}, proofs.ListRows.{KeepsAt}}
+use Rattle.dcsctp_wire.{specs.Chunk.{ChunkTree, Unknown, table, chunks, chunk_row, entry, format, tlv as chunk_tlv}, proofs.ChunkRows.{satisfies_of}, proofs.ListRows.{KeepsAt}}
 
 -- a chunk that can be written and read again
 abbrev pub IsGoodChunk : ChunkTree → Type 0
@@ -19,7 +19,7 @@ means : (strict : Bool) (t : ChunkTree) → IsGoodChunk t
     → (chunk_row strict (chunk_tlv t).first (chunk_tlv t).second).means (zeroed (chunk_tlv t).value)
     t
 means strict (Unknown u) good = unknown_means strict u good.formed
-means strict t good = back_of KeepsAt strict (entry t) (owed_of t) good
+means strict t good = back_of KeepsAt strict (entry t) (satisfies_of t) good
 
 pub chunks_read_back : (strict : Bool) → ReadsBack (chunks strict) chunk_tlv IsGoodChunk
 chunks_read_back strict = record {

@@ -1,9 +1,9 @@
--- What the kinds of chunk owe, and what the table of chunks satisfies by it: a line for each kind.
+-- What the kinds of chunk satisfy, a line for each, and by it the table of chunks.
 use Rattle.std.proofs.Common.{rules, ℕ, ◌+◌, ◌*◌, ◌≤◌, Bool, List, ◌++◌, length, Result, refl, sym, subst, arith, inl, inr, codes}
-use Rattle.dcsctp_tlv.{specs.declared.error.ChunkParseError.{ChunkParseError}, specs.Decided.{LawfulRow, IgnoresPadding}, specs.Frame.{lenient}, specs.Level.{Row, plain, map_ok}, specs.Table.{IsUnnamed, ◌&◌}, proofs.Accounts.{Accounts, plain_account}, proofs.Counts.{Counts}, proofs.Forms.{FormsTrees}, proofs.KindLaws.{of_ok, of_map_ok}, proofs.Laws.{Lawful, plain_lawful}, proofs.Lenient.{Loosens}, proofs.Tables.{of_table, of_others}, proofs.Unpadded.{ok_unpadded, list_unpadded}, specs.Kinds.{Kind, TreesOf, ChecksKind}, proofs.Owed.{AllOwed, AllFound, OwedOf, Sound, kept_owed, plain_owed, all_lawful, all_sound, rows_looser}, proofs.KindChecks.{Finds, table_finds}}
+use Rattle.dcsctp_tlv.{specs.declared.error.ChunkParseError.{ChunkParseError}, specs.Decided.{LawfulRow, IgnoresPadding}, specs.Frame.{lenient}, specs.Level.{Row, plain, map_ok}, specs.Table.{IsUnnamed, ◌&◌}, proofs.Accounts.{Accounts, plain_account}, proofs.Counts.{Counts}, proofs.Forms.{FormsTrees}, proofs.KindLaws.{of_ok, of_map_ok}, proofs.Laws.{Lawful, plain_lawful}, proofs.Lenient.{Loosens}, proofs.Tables.{of_table, of_others}, proofs.Unpadded.{ok_unpadded, list_unpadded}, specs.Kinds.{Kind, TreesOf, ChecksKind}, proofs.Satisfies.{AllSatisfy, AllFound, SatisfiesOf, Sound, kept_satisfies, plain_satisfies, all_lawful, all_sound, rows_looser}, proofs.KindChecks.{Finds, table_finds}}
 use Rattle.dcsctp_chunk.{specs.PlainKinds.{plain_kinds}, specs.Unknown.{read as unknown_at}, proofs.ForwardTsnLaws.{forward_tsn_laws, iforward_tsn_laws}, proofs.SackLaws.{sack_laws}}
 use Rattle.dcsctp_chunk.proofs.Laws as kind
-use Rattle.dcsctp_wire.{specs.Chunk.{ChunkTree, Init, InitAck, HeartbeatRequest, HeartbeatAck, Abort, Error, ReConfig, Unknown, list_kinds, list_rows, plain_trees, table, chunks, chunk_row, entry, HoldsCauses, tlv as chunk_tlv, parts as chunk_parts, IsWellFormed as IsChunkWellFormed}, specs.Account.{AreTextsKept}, proofs.ListRows.{KeepTexts, KeepsAt, init_owed, parameter_list_owed, abort_owed, error_owed}}
+use Rattle.dcsctp_wire.{specs.Chunk.{ChunkTree, Init, InitAck, HeartbeatRequest, HeartbeatAck, Abort, Error, ReConfig, Unknown, list_kinds, list_rows, plain_trees, table, chunks, chunk_row, entry, HoldsCauses, tlv as chunk_tlv, parts as chunk_parts, IsWellFormed as IsChunkWellFormed}, specs.Account.{AreTextsKept}, proofs.ListRows.{KeepTexts, KeepsAt, init_satisfies, parameter_list_satisfies, abort_satisfies, error_satisfies}}
 
 -- ---- the kinds
 
@@ -13,25 +13,25 @@ kinds = list_kinds ++ plain_kinds
 abbrev trees : TreesOf kinds ChunkTree
 trees = Init & InitAck & HeartbeatRequest & HeartbeatAck & Abort & Error & ReConfig & plain_trees
 
-owed : AllOwed KeepsAt kinds
-owed =
-    init_owed 1 (codes "INIT") &
-    init_owed 2 (codes "INIT-ACK") &
-    parameter_list_owed 4 _ &
-    parameter_list_owed 5 _ &
-    abort_owed &
-    error_owed &
-    parameter_list_owed 130 _ &
-    kept_owed 0 _ _ kind.data_laws (λ value is. tt) kind.data_kept_tlv kind.data_kept_width &
-    plain_owed 3 _ sack_laws &
-    plain_owed 7 _ kind.shutdown_laws &
-    plain_owed 8 _ kind.shutdown_ack_laws &
-    plain_owed 10 _ kind.cookie_echo_laws &
-    plain_owed 11 _ kind.cookie_ack_laws &
-    plain_owed 14 _ kind.shutdown_complete_laws &
-    kept_owed 64 _ _ kind.idata_laws (λ value is. tt) kind.idata_kept_tlv kind.idata_kept_width &
-    plain_owed 192 _ forward_tsn_laws &
-    plain_owed 194 _ iforward_tsn_laws & tt
+satisfied : AllSatisfy KeepsAt kinds
+satisfied =
+    init_satisfies 1 (codes "INIT") &
+    init_satisfies 2 (codes "INIT-ACK") &
+    parameter_list_satisfies 4 _ &
+    parameter_list_satisfies 5 _ &
+    abort_satisfies &
+    error_satisfies &
+    parameter_list_satisfies 130 _ &
+    kept_satisfies 0 _ _ kind.data_laws (λ value is. tt) kind.data_kept_tlv kind.data_kept_width &
+    plain_satisfies 3 _ sack_laws &
+    plain_satisfies 7 _ kind.shutdown_laws &
+    plain_satisfies 8 _ kind.shutdown_ack_laws &
+    plain_satisfies 10 _ kind.cookie_echo_laws &
+    plain_satisfies 11 _ kind.cookie_ack_laws &
+    plain_satisfies 14 _ kind.shutdown_complete_laws &
+    kept_satisfies 64 _ _ kind.idata_laws (λ value is. tt) kind.idata_kept_tlv kind.idata_kept_width &
+    plain_satisfies 192 _ forward_tsn_laws &
+    plain_satisfies 194 _ iforward_tsn_laws & tt
 
 -- the causes keep their texts
 abbrev KeepsCauses : ℕ → List ℕ → Type 0
@@ -40,10 +40,10 @@ KeepsCauses typ value = HoldsCauses typ → KeepTexts value
 found : AllFound KeepsAt KeepsCauses entry kinds trees
 found = search (rules, inl, inr)
 
--- what the kind of each tree owes
-pub owed_of : (t : ChunkTree) → OwedOf KeepsAt (entry t)
-owed_of (Unknown u) = tt
-owed_of t = assumption owed
+-- what the kind of each tree satisfies
+pub satisfies_of : (t : ChunkTree) → SatisfiesOf KeepsAt (entry t)
+satisfies_of (Unknown u) = tt
+satisfies_of t = assumption satisfied
 
 -- ---- a type that isn't named
 
@@ -68,16 +68,16 @@ unknown_sound typ flags unnamed = record {
 
 sound : (typ flags : ℕ) → Sound KeepsCauses entry typ (chunk_row lenient typ flags)
 sound typ flags = of_table (Sound KeepsCauses entry) (table lenient flags) typ _
-    (all_sound KeepsAt KeepsCauses entry flags kinds trees owed found) (unknown_sound typ flags)
+    (all_sound KeepsAt KeepsCauses entry flags kinds trees satisfied found) (unknown_sound typ flags)
 
 -- each row of the table of chunks is a function of the value, or has one answer otherwise
 pub chunks_lawful : (strict : Bool) → Lawful (chunks strict)
 chunks_lawful strict typ flags = of_table (λ n row. LawfulRow row) (table strict flags) typ _
-    (all_lawful _ KeepsAt strict flags kinds trees owed) (λ unnamed. plain_lawful _)
+    (all_lawful _ KeepsAt strict flags kinds trees satisfied) (λ unnamed. plain_lawful _)
 
 pub chunks_looser : (strict : Bool) → Loosens (chunks strict) (chunks lenient)
 chunks_looser strict = record {
-  row = λ typ flags. rows_looser KeepsAt strict flags kinds trees owed typ _;
+  row = λ typ flags. rows_looser KeepsAt strict flags kinds trees satisfied typ _;
   any = λ size there. refl;
 }
 

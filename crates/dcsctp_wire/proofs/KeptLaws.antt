@@ -1,13 +1,13 @@
 -- The kept form of a chunk is written alike, and its numbers lie in their widths.
 use Rattle.std.{proofs.Common.{◌≡◌, ℕ, List, [], ◌∷◌, ◌++◌, refl, sym, ap, subst, ◌∙◌, replicate}, specs.List.{flat_map}}
-use Rattle.dcsctp_tlv.{specs.Image.{zeroed, gap, Tlv, image_of, size_of, IsEncodable}, proofs.Owed.{kept_tlv_of, kept_width_of}}
-use Rattle.dcsctp_wire.{specs.Chunk.{ChunkTree, Data, entry, tlv as chunk_tlv, IsPlaced, IsChunkEncodable, IsInWidth as IsChunkInWidth, kept as kept_chunk, all_kept as kept_chunks}, proofs.ChunkRows.{owed_of}, proofs.ListRows.{KeepsAt}, specs.Canonical.{canonical, padded_chunk}, specs.Packet.{Meaning}}
+use Rattle.dcsctp_tlv.{specs.Image.{zeroed, gap, Tlv, image_of, size_of, IsEncodable}, proofs.Satisfies.{kept_tlv_of, kept_width_of}}
+use Rattle.dcsctp_wire.{specs.Chunk.{ChunkTree, Data, entry, tlv as chunk_tlv, IsPlaced, IsChunkEncodable, IsInWidth as IsChunkInWidth, kept as kept_chunk, all_kept as kept_chunks}, proofs.ChunkRows.{satisfies_of}, proofs.ListRows.{KeepsAt}, specs.Canonical.{canonical, padded_chunk}, specs.Packet.{Meaning}}
 
 -- ---- it is written alike
 
 pub kept_tlv : (t : ChunkTree) → chunk_tlv (kept_chunk t) ≡ chunk_tlv t
-kept_tlv (Data c) = kept_tlv_of KeepsAt (entry (Data c)) (owed_of (Data c))
-kept_tlv t = kept_tlv_of KeepsAt (entry t) (owed_of t)
+kept_tlv (Data c) = kept_tlv_of KeepsAt (entry (Data c)) (satisfies_of (Data c))
+kept_tlv t = kept_tlv_of KeepsAt (entry t) (satisfies_of t)
 
 -- a chunk with its padding, by how it is written
 abbrev padded : Tlv → List ℕ
@@ -36,5 +36,5 @@ kept_encodable t h = (kept_placed t h.0, subst IsEncodable (sym (kept_tlv t)) h.
 -- ---- it is in width
 
 pub kept_width : (t : ChunkTree) → IsChunkInWidth t → IsChunkInWidth (kept_chunk t)
-kept_width (Data c) h = kept_width_of KeepsAt (entry (Data c)) (owed_of (Data c)) h
-kept_width t h = kept_width_of KeepsAt (entry t) (owed_of t) h
+kept_width (Data c) h = kept_width_of KeepsAt (entry (Data c)) (satisfies_of (Data c)) h
+kept_width t h = kept_width_of KeepsAt (entry t) (satisfies_of t) h

@@ -1,7 +1,7 @@
 -- The kinds of chunk with a list. Their rows are `listed`, over parameters or over error causes, so
 -- what each has to satisfy follows from what is known of its items.
 use Rattle.std.{proofs.Common.{rules, ◌≡◌, ◌≢◌, ℕ, ◌+◌, ◌*◌, ◌%◌, ◌<◌, ◌≤◌, ◌^◌, Bool, true, false, List, [], ◌∷◌, length, drop, refl, sym, subst, arith, nat_lt, nat_le, leb-true, le-leb, lt-ltb, length-drop}, specs.List.{AllByRecursion}, proofs.lemmas.Nat.{from_be_bytes-to_be_bytes_2, from_be_bytes-to_be_bytes_4}}
-use Rattle.dcsctp_tlv.{specs.Decided.{IgnoresPadding}, specs.Format.{Format, tlv_by}, specs.Frame.{Item, AreItems, lenient, any_padding}, specs.Image.{Tlv, zeroed, image_of, list_image, list_size, size_of, IsEncodable}, specs.Level.{Row, Level, listed, MeansTrees}, specs.Table.{Content, Parameters, Causes}, specs.Parameter.{IsWellFormed as IsParameterWellFormed, all_kept as kept_parameters}, proofs.Accounts.{SameSpace, all_account, list_account}, proofs.Counts.{one_each, list_count, total-one}, proofs.FormatLaws.{good_list}, proofs.Forms.{FormsTrees, list_formed, nil_means}, proofs.KindLaws.{IsGood}, proofs.Laws.{Lawful, listed_lawful}, proofs.Lenient.{Loosens, listed_looser}, proofs.Kept.{listed_tlv-kept}, proofs.Unpadded.{listed_unpadded}, proofs.ParameterLaws.{kept_parameter_tlv, kept_parameters_width, parameters_lawful, parameters_looser, parameters_unpadded, parameters_form, parameters_account, parameters_read_back}, proofs.ReadsBack.{ReadsBack, AcceptsZeros, AcceptsNone, nested_reads_back, zeros_accepted, none_accepted}, specs.Kinds.{Kind, Nested}, proofs.Owed.{Owed}}
+use Rattle.dcsctp_tlv.{specs.Decided.{IgnoresPadding}, specs.Format.{Format, tlv_by}, specs.Frame.{Item, AreItems, lenient, any_padding}, specs.Image.{Tlv, zeroed, image_of, list_image, list_size, size_of, IsEncodable}, specs.Level.{Row, Level, listed, MeansTrees}, specs.Table.{Content, Parameters, Causes}, specs.Parameter.{IsWellFormed as IsParameterWellFormed, all_kept as kept_parameters}, proofs.Accounts.{SameSpace, all_account, list_account}, proofs.Counts.{one_each, list_count, total-one}, proofs.FormatLaws.{good_list}, proofs.Forms.{FormsTrees, list_formed, nil_means}, proofs.KindLaws.{IsGood}, proofs.Laws.{Lawful, listed_lawful}, proofs.Lenient.{Loosens, listed_looser}, proofs.Kept.{listed_tlv-kept}, proofs.Unpadded.{listed_unpadded}, proofs.ParameterLaws.{kept_parameter_tlv, kept_parameters_width, parameters_lawful, parameters_looser, parameters_unpadded, parameters_form, parameters_account, parameters_read_back}, proofs.ReadsBack.{ReadsBack, AcceptsZeros, AcceptsNone, nested_reads_back, zeros_accepted, none_accepted}, specs.Kinds.{Kind, Nested}, proofs.Satisfies.{Satisfies}}
 use Rattle.dcsctp_tlv.specs.Parameter as parameter
 use Rattle.dcsctp_cause.specs.Cause as cause
 use Rattle.dcsctp_cause.proofs.CauseLaws.{causes_lawful, causes_looser, causes_unpadded, causes_form, causes_account, causes_read_back}
@@ -98,7 +98,7 @@ module _ {U : Type 0} {level : Bool → Level U} {format : U → Format} {AreKep
         (items.back strict) us good (items.zeros strict) (items.none strict) in
         (ok, (us, rw there back, sym made))
 
--- ---- what a kind with a list owes
+-- ---- what a kind with a list satisfies
 
 -- the causes keep their texts, where there are any
 abbrev pub KeepsAt : Content → List ℕ → Type 0
@@ -152,13 +152,13 @@ module _ {U X : Type 0} {level : Bool → Level U} {item_format : U → Format}
         → (row lenient flags).means value x → P x
     of_list flags P value x law m = subst P (sym m.1.2) (law m.1.0 m.0 m.1.1)
 
-    pub listed_owed : {kept : X → X}
+    pub listed_satisfies : {kept : X → X}
         → ((strict : Bool) (x : X) → IsGood (format x)
         → (row strict (format x).tlv.second).means (zeroed (format x).tlv.value) x)
         → ((x : X) → (format (kept x)).tlv ≡ (format x).tlv)
         → ((x : X) → (format x).IsInWidth → (format (kept x)).IsInWidth)
-        → Owed KeepsAt (listed_kind typ content rule place level tree_of format kept parts)
-    listed_owed back kept_tlv kept_width = record {
+        → Satisfies KeepsAt (listed_kind typ content rule place level tree_of format kept parts)
+    listed_satisfies back kept_tlv kept_width = record {
       lawful = λ strict flags. listed_lawful rule place (level strict) (tree_of flags)
           (items.lawful strict);
       looser = λ strict flags. listed_looser rule place (level strict) (level lenient)
@@ -204,19 +204,19 @@ init_kept_width : (i : InitTree) → IsInitInWidth i
     → IsInitInWidth (record i { parameters = kept_parameters i.parameters })
 init_kept_width i h = search (rules, kept_parameters_width)
 
-pub init_owed : (typ : ℕ) (name : List ℕ) → Owed KeepsAt (init_kind typ (init_format typ name))
-init_owed typ name =
-    listed_owed typ (Parameters 16) 16 parameter_items (search (rules, leb-true))
+pub init_satisfies : (typ : ℕ) (name : List ℕ) → Satisfies KeepsAt (init_kind typ (init_format typ name))
+init_satisfies typ name =
+    listed_satisfies typ (Parameters 16) 16 parameter_items (search (rules, leb-true))
     (λ strict i good. init_back typ strict i good.width good.formed good.encodable)
     (λ i. listed_tlv-kept parameter.tlv parameter.kept kept_parameter_tlv typ 0 (init_leading i) i.parameters)
     init_kept_width
 
 -- ---- lists of parameters
 
-pub parameter_list_owed : (typ : ℕ) (name : List ℕ)
-    → Owed KeepsAt (parameter_list_kind typ (parameter_list_format typ name))
-parameter_list_owed typ name =
-    listed_owed typ (Parameters 0) 0 parameter_items (search rules)
+pub parameter_list_satisfies : (typ : ℕ) (name : List ℕ)
+    → Satisfies KeepsAt (parameter_list_kind typ (parameter_list_format typ name))
+parameter_list_satisfies typ name =
+    listed_satisfies typ (Parameters 0) 0 parameter_items (search rules)
     (λ strict ps good. listed_back parameter_items 0 (λ v. true) (λ v ps. ps) strict _ ps ps
     refl refl refl good.width good.formed (omega (arith, good.encodable)))
     (λ ps. listed_tlv-kept parameter.tlv parameter.kept kept_parameter_tlv typ 0 [] ps)
@@ -224,9 +224,9 @@ parameter_list_owed typ name =
 
 -- ---- lists of causes
 
-pub abort_owed : Owed KeepsAt abort.kind
-abort_owed =
-    listed_owed 6 (Causes 0) 0 cause_items (search rules)
+pub abort_satisfies : Satisfies KeepsAt abort.kind
+abort_satisfies =
+    listed_satisfies 6 (Causes 0) 0 cause_items (search rules)
     (λ strict a good. listed_back cause_items 0 (λ v. true)
     (λ v cs. abort.tree_of (abort.flags_of a) cs) strict _ a.causes a refl refl
     (rw (one_again a.tag_reflected) refl) good.width good.formed (omega (arith, good.encodable)))
@@ -251,9 +251,9 @@ some_bytes (c ∷ []) some =
 some_bytes (c ∷ d ∷ cs) some =
     lt-ltb 0 (length (zeroed (list_image cause.tlv (c ∷ d ∷ cs)))) (omega arith)
 
-pub error_owed : Owed KeepsAt error.kind
-error_owed =
-    listed_owed 9 (Causes 0) 0 cause_items (search (rules, some_causes))
+pub error_satisfies : Satisfies KeepsAt error.kind
+error_satisfies =
+    listed_satisfies 9 (Causes 0) 0 cause_items (search (rules, some_causes))
     (λ strict cs good. listed_back cause_items 0 (λ v. nat_lt 0 (length v)) (λ v cs. cs) strict _ cs
     cs (some_bytes cs good.formed.0) refl refl good.width good.formed.1
     (omega (arith, good.encodable)))

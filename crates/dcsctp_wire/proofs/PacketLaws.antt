@@ -1,7 +1,8 @@
 -- What holds of every packet that is read, and of what is read after others.
-use Rattle.std.{proofs.Common.{◌≡◌, ℕ, ◌+◌, ◌-◌, ◌/◌, ◌%◌, ◌≤◌, List, [], ◌∷◌, ◌++◌, length, Result, Ok, Err, refl, sym, ap, subst, ◌∙◌, arith, IfOk, length-drop}, specs.List.{AllByRecursion}, proofs.lemmas.List.{drop-append-le}}
-use Rattle.dcsctp_tlv.{specs.Fault.{Fault}, specs.Frame.{lenient, round_up_to_4}, specs.Level.{MeansTrees, HasFault}, specs.Image.{IsEncodable, list_size}, proofs.ReadsBack.{each_encodable}, proofs.Forms.{list_formed, nil_means}, proofs.Accounts.{SameSpace, list_account}, proofs.Counts.{list_count}, proofs.Local.{local_means, local_fault}, specs.Reading.{Answers}}
-use Rattle.dcsctp_wire.{specs.declared.packet.sctp_packet.ChecksumPolicy.{ChecksumPolicy}, specs.declared.packet.sctp_packet.PacketParseError.{PacketParseError}, specs.declared.packet.sctp_packet.SctpPacket.{SctpPacket}, specs.Chunk.{ChunkTree, ForwardTsn, IForwardTsn, chunks, tlv as chunk_tlv, IsPlaced, IsChunkEncodable, IsWellFormed as IsChunkWellFormed, parts as chunk_parts}, specs.Packet.{PacketTree, HasPacketSize, body, IsOpened, MeansPacket, Chunk, packet_with, Placed, Answer, packet_view, packet_reading}, specs.Canonical.{padded_size}, specs.WellFormed.{IsWellFormed}, specs.Account.{AreTextsKept, KeepsTexts, KeepsSize, node_count}, proofs.ChunkRows.{chunks_form, chunks_account, chunks_count}, proofs.Canonicals.{padded_size-is}, proofs.Lenient.{lenient_packet}}
+use Rattle.std.{proofs.Common.{◌≡◌, ℕ, ◌+◌, ◌-◌, ◌/◌, ◌%◌, ◌≤◌, List, [], ◌∷◌, ◌++◌, length, Result, Ok, Err, refl, sym, ap, subst, ◌∙◌, arith, IfOk, length-drop, inl, inr}, specs.List.{AllByRecursion}, proofs.lemmas.List.{drop-append-le}}
+use Rattle.dcsctp_tlv.{specs.Fault.{Fault}, specs.Frame.{Item, lenient, any_padding, round_up_to_4}, specs.Level.{MeansTrees, HasFault}, specs.Image.{IsEncodable, list_size}, proofs.ReadsBack.{each_encodable}, proofs.Forms.{list_formed, nil_means}, proofs.Accounts.{SameSpace, list_account, items_kept}, proofs.Decided.{splits_one_way}, proofs.Counts.{list_count}, proofs.Local.{local_means, local_fault}, specs.Reading.{Answers}}
+use Rattle.dcsctp_cause.{specs.Cause.{HasOwnText}, proofs.CauseLaws.{texts_kept}}
+use Rattle.dcsctp_wire.{specs.declared.packet.sctp_packet.ChecksumPolicy.{ChecksumPolicy}, specs.declared.packet.sctp_packet.PacketParseError.{PacketParseError}, specs.declared.packet.sctp_packet.SctpPacket.{SctpPacket}, specs.Chunk.{ChunkTree, Abort, Error, ForwardTsn, IForwardTsn, chunks, chunk_row, tlv as chunk_tlv, IsPlaced, IsChunkEncodable, IsWellFormed as IsChunkWellFormed, parts as chunk_parts}, specs.Packet.{PacketTree, HasPacketSize, body, IsOpened, MeansPacket, Chunk, packet_with, Placed, Answer, packet_view, packet_reading}, specs.Canonical.{padded_size}, specs.WellFormed.{IsWellFormed}, specs.Abort.{Tree as AbortTree}, specs.Account.{AreTextsKept, HasOwnTexts, KeepsTexts, KeepsSize, node_count}, proofs.ChunkRows.{chunks_form, chunks_account, chunks_count}, proofs.Canonicals.{padded_size-is}, proofs.Lenient.{lenient_packet}}
 
 length-body : (bytes : List ℕ) → length (body bytes) ≡ length bytes - 12
 length-body bytes = length-drop 12 bytes
@@ -35,6 +36,26 @@ each_chunk (t ∷ ts) formed fits = ((placed t formed.0, fits.0), each_chunk ts 
 whole_size : (written read all : ℕ) → SameSpace written read → read ≡ all - 12 → 16 ≤ all
     → 12 + round_up_to_4 written ≡ round_up_to_4 all
 whole_size written read all same e low = omega (arith, same.up, e, low)
+
+-- a chunk keeps its texts if each was read as its own
+chunk_texts : (i : Item) (t : ChunkTree) → ((chunks lenient).row i.first i.second).means i.value t
+    → HasOwnTexts t → AreTextsKept i
+chunk_texts i t m own (inl is) causes are =
+    let m = subst (λ (typ : ℕ). (chunk_row lenient typ i.second).means i.value t) is m in
+    let own : HasOwnTexts (Abort m.0) = subst HasOwnTexts m.2 own in
+    texts_kept i.value _ m.1.1.1
+    (subst (λ (a : AbortTree). AllByRecursion HasOwnText a.causes) m.1.1.2 own) causes are
+chunk_texts i t m own (inr is) causes are =
+    let m = subst (λ (typ : ℕ). (chunk_row lenient typ i.second).means i.value t) is m in
+    let own : HasOwnTexts (Error m.0) = subst HasOwnTexts m.2 own in
+    texts_kept i.value _ m.1.1.1 (subst (AllByRecursion HasOwnText) m.1.1.2 own) causes are
+
+pub packet_texts : (bytes : List ℕ) (p : PacketTree) → MeansPacket lenient bytes p
+    → AllByRecursion HasOwnTexts p.meaning.chunks → KeepsTexts bytes
+packet_texts bytes p m own items are = subst (AllByRecursion AreTextsKept)
+    (splits_one_way any_padding (body bytes) m.chunks.items items m.chunks.are are)
+    (items_kept (chunks lenient) HasOwnTexts AreTextsKept chunk_texts m.chunks.items
+    p.meaning.chunks m.chunks.mean own)
 
 pub packet_size : (bytes : List ℕ) (p : PacketTree) → HasPacketSize bytes
     → MeansPacket lenient bytes p → KeepsTexts bytes → KeepsSize bytes p.meaning

@@ -2,8 +2,8 @@
 -- its parts.
 use Rattle.std.specs.{Prelude.{◌≡◌, ℕ, ◌+◌, ◌≤◌, List, length}, List.{AllByRecursion}}
 use Rattle.dcsctp_tlv.specs.{Frame.{Item, AreItems, any_padding, round_up_to_4}, Count.{total}}
-use Rattle.dcsctp_cause.specs.Cause.{IsTextKept}
-use Rattle.dcsctp_wire.specs.{Chunk.{IsChunkEncodable, HoldsCauses, parts}, Packet.{Meaning, body}, Canonical.{padded_size, Fits}}
+use Rattle.dcsctp_cause.specs.Cause.{IsTextKept, HasOwnText}
+use Rattle.dcsctp_wire.specs.{Chunk.{ChunkTree, Abort, Error, IsChunkEncodable, HoldsCauses, parts}, Packet.{Meaning, body}, Canonical.{padded_size, Fits}}
 
 -- ---- replaced texts
 
@@ -18,6 +18,12 @@ abbrev pub KeepsTexts : List ℕ → Type 0
 KeepsTexts bytes =
     (chunks : List Item) → AreItems any_padding (body bytes) chunks
     → AllByRecursion AreTextsKept chunks
+
+-- each text in the chunk is its own: so it is where there is none
+abbrev pub HasOwnTexts : ChunkTree → Type 0
+HasOwnTexts (Abort a) = AllByRecursion HasOwnText a.causes
+HasOwnTexts (Error causes) = AllByRecursion HasOwnText causes
+HasOwnTexts t = Unit {0}
 
 -- ---- size
 

@@ -23,7 +23,9 @@ pub use Rattle.dcsctp_chunk.specs.IForwardTsn.{view as i_forward_tsn_view}
 pub use Rattle.dcsctp_wire.specs.Init.{view as init_view}
 pub use Rattle.dcsctp_wire.specs.InitAck.{view as init_ack_view}
 -- packets that are written, and the builder
-pub use Rattle.dcsctp_wire.specs.Canonical.{canonical, padded_size, Fits}
+pub use Rattle.dcsctp_wire.specs.Canonical.{canonical, padded_size, Fits, HasCanonical, IsCanonicalOf}
+pub use Rattle.dcsctp_wire.specs.Account.{HasOwnTexts}
+pub use Rattle.dcsctp_tlv.specs.Frame.{round_up_to_4}
 pub use Rattle.dcsctp_wire.specs.WellFormed.{IsInWidth, IsWellFormed}
 pub use Rattle.dcsctp_wire.specs.Builder.{BuilderState, Holds, meaning_with, room, built}
 -- the blocks of a SACK

@@ -1,8 +1,8 @@
 -- The canonical packet of a meaning: the one form in which it is written, out of those that RFC
 -- 9260 section 3 allows.
-use Rattle.std.specs.{Prelude.{ℕ, ◌+◌, ◌≤◌, List, [], ◌∷◌, ◌++◌, replicate}, List.{flat_map, AllByRecursion}, Int.{w16, w32, to_be_bytes}}
+use Rattle.std.specs.{Prelude.{◌≡◌, ℕ, ◌+◌, ◌≤◌, List, [], ◌∷◌, ◌++◌, replicate}, List.{flat_map, AllByRecursion}, Int.{w16, w32, to_be_bytes}}
 use Rattle.dcsctp_tlv.specs.{Frame.{round_up_to_4}, Image.{zeroed, gap, size_of, image_of}}
-use Rattle.dcsctp_wire.specs.{Chunk.{ChunkTree, tlv as chunk_tlv, IsChunkEncodable}, Packet.{Meaning}}
+use Rattle.dcsctp_wire.specs.{Chunk.{ChunkTree, tlv as chunk_tlv, IsChunkEncodable}, Packet.{Meaning}, WellFormed.{IsInWidth, IsWellFormed}}
 
 -- a chunk as written over zeros, and zeros up to a multiple of 4
 abbrev pub padded_chunk : ChunkTree → List ℕ
@@ -24,3 +24,15 @@ padded_size (t ∷ ts) = round_up_to_4 (size_of (chunk_tlv t)) + padded_size ts
 pub record Fits (m : Meaning) : Type 0 where
   pub each : AllByRecursion IsChunkEncodable m.chunks
   pub whole : 12 + padded_size m.chunks ≤ 65532
+
+-- a meaning that has a canonical packet, which reads back
+pub record HasCanonical (m : Meaning) : Type 0 where
+  pub width : IsInWidth m
+  pub formed : IsWellFormed m
+  pub fits : Fits m
+
+-- the bytes are the canonical packet of this meaning, and of no other that has one
+pub record IsCanonicalOf (m : Meaning) (bytes : List ℕ) : Type 0 where
+  pub has : HasCanonical m
+  pub is : bytes ≡ canonical m
+  pub one : (n : Meaning) → HasCanonical n → bytes ≡ canonical n → m ≡ n

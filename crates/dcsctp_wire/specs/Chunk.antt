@@ -1,6 +1,6 @@
 -- The table of chunks (RFC 9260 section 3.2).
-use Rattle.std.specs.Prelude.{◌≡◌, ◌⊎◌, ℕ, Bool, List, [], ◌∷◌, ◌++◌, All, map, vec_len, vec_capacity}
-use Rattle.dcsctp_tlv.specs.{Frame.{lenient, full_padding}, Level.{Row, plain, Level, map_ok}, Table.{Named, row_of, IsUnnamed, is_fixed, has_causes, types_where, IsOneOf, HasEmptyList, ◌&◌}, Image.{Tlv, IsEncodable}, Format.{Format}, Parameter.{ParameterTree, IsTight as IsTightParameter}, Kinds.{Kind, TreesOf, rows, Entry, Of, Unnamed, format_of, kept_of, parts_of}}
+use Rattle.std.specs.Prelude.{◌⊎◌, ℕ, Bool, List, [], ◌∷◌, ◌++◌, map}
+use Rattle.dcsctp_tlv.specs.{Frame.{lenient, full_padding}, Level.{Row, plain, Level, map_ok}, Table.{Named, row_of, IsUnnamed, is_fixed, has_causes, types_where, IsOneOf, HasEmptyList, ◌&◌}, Image.{Tlv, IsEncodable}, Format.{Format}, Tight.{IsTightList, AreTight}, Parameter.{ParameterTree, IsTight as IsTightParameter}, Kinds.{Kind, TreesOf, rows, Entry, Of, Unnamed, format_of, kept_of, parts_of}}
 use Rattle.dcsctp_cause.specs.Cause.{CauseTree, IsTight as IsTightCause}
 use Rattle.dcsctp_chunk.specs as plain_kind
 use Rattle.dcsctp_chunk.specs.PlainKinds.{plain_kinds}
@@ -24,9 +24,9 @@ pub data ChunkTree : Type 0 where
   CookieEcho : List ℕ → ChunkTree
   CookieAck : ChunkTree
   ShutdownComplete : Bool → ChunkTree
+  IData : plain_kind.Data.Tree → ChunkTree
   ReConfig : List ParameterTree → ChunkTree
   ForwardTsn : skipped_streams.Tree → ChunkTree
-  IData : plain_kind.Data.Tree → ChunkTree
   IForwardTsn : skipped_streams.Tree → ChunkTree
   Unknown : plain_kind.Unknown.Tree → ChunkTree
 
@@ -143,33 +143,21 @@ parts t = parts_of (entry t)
 
 -- its lists have room for their items alone, and so has each item
 abbrev pub IsTight : Chunk → Type 0
-IsTight (variant.Data c) = vec_capacity c.user_data.payload ≡ vec_len c.user_data.payload
-IsTight (variant.Init c) =
-    (vec_capacity c.parameters ≡ vec_len c.parameters) × All IsTightParameter c.parameters.items
-IsTight (variant.InitAck c) =
-    (vec_capacity c.parameters ≡ vec_len c.parameters) × All IsTightParameter c.parameters.items
-IsTight (variant.Sack c) =
-    (vec_capacity c.gap_ack_blocks ≡ vec_len c.gap_ack_blocks)
-    × (vec_capacity c.duplicate_tsns ≡ vec_len c.duplicate_tsns)
-IsTight (variant.HeartbeatRequest c) =
-    (vec_capacity c.parameters ≡ vec_len c.parameters) × All IsTightParameter c.parameters.items
-IsTight (variant.HeartbeatAck c) =
-    (vec_capacity c.parameters ≡ vec_len c.parameters) × All IsTightParameter c.parameters.items
-IsTight (variant.Abort c) =
-    (vec_capacity c.error_causes ≡ vec_len c.error_causes) × All IsTightCause c.error_causes.items
-IsTight (variant.Shutdown c) = Unit {0}
-IsTight (variant.ShutdownAck c) = Unit {0}
-IsTight (variant.Error c) =
-    (vec_capacity c.error_causes ≡ vec_len c.error_causes) × All IsTightCause c.error_causes.items
-IsTight (variant.CookieEcho c) = vec_capacity c.cookie ≡ vec_len c.cookie
-IsTight (variant.CookieAck c) = Unit {0}
-IsTight (variant.ShutdownComplete c) = Unit {0}
-IsTight (variant.IData c) = vec_capacity c.user_data.payload ≡ vec_len c.user_data.payload
-IsTight (variant.ReConfig c) =
-    (vec_capacity c.parameters ≡ vec_len c.parameters) × All IsTightParameter c.parameters.items
-IsTight (variant.ForwardTsn c) = vec_capacity c.skipped_streams ≡ vec_len c.skipped_streams
-IsTight (variant.IForwardTsn c) = vec_capacity c.skipped_streams ≡ vec_len c.skipped_streams
-IsTight (variant.Unknown c) = vec_capacity c.value ≡ vec_len c.value
+IsTight (variant.Data c) = IsTightList c.user_data.payload
+IsTight (variant.Init c) = AreTight IsTightParameter c.parameters
+IsTight (variant.InitAck c) = AreTight IsTightParameter c.parameters
+IsTight (variant.Sack c) = IsTightList c.gap_ack_blocks × IsTightList c.duplicate_tsns
+IsTight (variant.HeartbeatRequest c) = AreTight IsTightParameter c.parameters
+IsTight (variant.HeartbeatAck c) = AreTight IsTightParameter c.parameters
+IsTight (variant.Abort c) = AreTight IsTightCause c.error_causes
+IsTight (variant.Error c) = AreTight IsTightCause c.error_causes
+IsTight (variant.CookieEcho c) = IsTightList c.cookie
+IsTight (variant.IData c) = IsTightList c.user_data.payload
+IsTight (variant.ReConfig c) = AreTight IsTightParameter c.parameters
+IsTight (variant.ForwardTsn c) = IsTightList c.skipped_streams
+IsTight (variant.IForwardTsn c) = IsTightList c.skipped_streams
+IsTight (variant.Unknown c) = IsTightList c.value
+IsTight c = Unit {0}
 
 -- a chunk of the code, without where it lies in memory
 abbrev pub view : Chunk → ChunkTree

@@ -5,7 +5,7 @@ ghost use Rattle.std.specs.Prelude.{◌≡◌, ◌≤◌, ◌+◌, ◌++◌, ◌
 ghost use Rattle.dcsctp_types.specs.Equality.{TellsSame, IsItself};
 ghost use Rattle.dcsctp_tlv.specs.{Fault.{Fault}, Frame.{PaddingRule, lenient}, Level.{MeansTrees, HasFault}, Decided.{SplitsOneWay, IsDecided, IgnoresPadding}, Image.{size_of, image_of, list_size, written}, Number.{AreBytes}, Parameter.{parameters, tlv as parameter_tlv}};
 ghost use Rattle.dcsctp_cause.specs.Cause.{causes};
-ghost use Rattle.dcsctp_wire.specs.{Chunk.{ChunkTree, Init, InitAck, chunks, tlv}, InitFields.{Tree as InitTree}, Packet.{PacketTree, PacketFault, Chunk, IsOpened, body, packet_with, Answer, Placed}};
+ghost use Rattle.dcsctp_wire.specs.{Chunk.{ChunkTree, Init, InitAck, chunks, tlv}, InitFields.{Tree as InitTree}, Canonical.{canonical, HasCanonical}, Packet.{Meaning, PacketTree, PacketFault, Chunk, IsOpened, body, packet_with, Answer, Placed}};
 
 use crate::packet::abort_chunk::CHUNK_TYPE as ABORT;
 pub use crate::packet::chunk::chunk_has_widths;
@@ -105,6 +105,14 @@ pub fn strict_is_lenient()
     ensures { (bytes : List ℕ) (word : ℕ) (policy : ChecksumPolicy) (p : PacketTree)
         → Answer bytes word policy (Ok p)
         → Answer bytes word (record policy { strict_padding = false }) (Ok p) }
+{}
+
+/// Two meanings are the same if and only if their canonical packets are, where both have one that
+/// reads back: where each is well-formed, in width, and fits. What `from_bytes` returns is
+/// well-formed, and in width (`has_widths`); `fits` says the rest.
+pub fn canonical_one()
+    ensures { (m n : Meaning) → HasCanonical m → HasCanonical n
+        → (canonical m ≡ canonical n) ↔ (m ≡ n) }
 {}
 
 /// A chunk, a parameter or an error cause is written as just `serialized_size` bytes, wherever it

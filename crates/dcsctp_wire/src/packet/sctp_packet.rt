@@ -14,8 +14,8 @@
 //! +-+-+-+-+-+-+-+-+-+-+-+-+-+-+-+-+-+-+-+-+-+-+-+-+-+-+-+-+-+-+-+-+
 //! ```
 
-ghost use Rattle.std.specs.{Prelude.{◌≡◌, ◌↔◌, ◌≤◌, ◌+◌, ◌-◌, ◌*◌, ◌/◌, ℕ, [], false, true, Some, length, replicate, vec_len, vec_capacity, IsTrue, IfOk, IfErr, IsErrOf, All}, Fmt.{WritesOnOk}};
-ghost use Rattle.dcsctp_wire.specs.{Chunk.{views, IsTight}, Packet.{Meaning, Answer, Placed, IsPacket, IsAccepted, meaning_view, packet_view, packet_reading, packet_checking}, Account.{KeepsTexts, KeepsSize, node_count}, Place.{packet_counts, packet_locating}, Canonical.{canonical, padded_size, Fits}, PacketText.{packet_text, next_lines}, WellFormed.{IsInWidth, IsWellFormed}, declared.packet.sctp_packet.ChecksumPolicy.{ChecksumPolicy}, declared.packet.sctp_packet.PacketParseError.TheVariants.{FailedParseChunk}};
+ghost use Rattle.std.specs.{Prelude.{◌≡◌, ◌↔◌, ◌≤◌, ◌+◌, ◌-◌, ◌*◌, ◌/◌, ℕ, [], false, true, Some, length, replicate, vec_len, vec_capacity, IsTrue, IfOk, IfErr, IsErrOf, All}, List.{AllByRecursion}, Fmt.{WritesOnOk}};
+ghost use Rattle.dcsctp_wire.specs.{Chunk.{views, IsTight}, Packet.{Answer, Placed, IsPacket, IsAccepted, meaning_view, packet_view, packet_reading, packet_checking}, Account.{KeepsTexts, KeepsSize, HasOwnTexts, node_count}, Place.{packet_counts, packet_locating}, Canonical.{canonical, padded_size, Fits, IsCanonicalOf}, PacketText.{packet_text, next_lines}, WellFormed.{IsInWidth, IsWellFormed}, declared.packet.sctp_packet.ChecksumPolicy.{ChecksumPolicy}, declared.packet.sctp_packet.PacketParseError.TheVariants.{FailedParseChunk}};
 ghost use Rattle.dcsctp_tlv.specs.{Reading.{Answers, Exactly, Counted}, declared.error.ChunkParseError.TheVariants.{OutOfMemory}};
 
 pub use crate::packet::builder::SctpPacketBuilder;
@@ -186,9 +186,12 @@ impl SctpPacket {
             (Answer bytes.now checksum policy.now) result }
         ensures formed { IfOk result (λ p. IsWellFormed (meaning_view p)) }
 
-        // Where no text of an error cause is replaced, the packet is as large as the input.
+        // Where no text of an error cause is replaced, the packet is as large as the input. None is
+        // if each text that was read is its own: if there is none, for example.
         ensures size { KeepsTexts bytes.now
             → IfOk result (λ p. KeepsSize bytes.now (meaning_view p)) }
+        ensures texts { IfOk result (λ p. AllByRecursion HasOwnTexts (meaning_view p).chunks
+            → KeepsTexts bytes.now) }
 
         // Chunks, parameters and causes together.
         ensures nodes { IfOk result (λ p. node_count
@@ -242,8 +245,8 @@ impl SctpPacket {
     /// to a multiple of 4. `self.common_header.checksum` has no part in it.
     ///
     /// Where the packet is well-formed and has a chunk, these bytes read back under each word and
-    /// policy that accept a field of 0, and two such packets have equal bytes exactly where they
-    /// mean the same. Refused only where memory runs out.
+    /// policy that accept a field of 0, and two such packets have equal bytes if and only if they
+    /// mean the same (`laws::canonical_one`). Refused only where memory runs out.
     pub fn canonical_bytes(&self, alloc: Global) -> Result<Vec<u8>, AllocError>
         requires { Fits (meaning_view self.now) }
         ensures bytes { IfOk result (λ bytes. bytes.items ≡ canonical (meaning_view self.now)) }
@@ -253,10 +256,8 @@ impl SctpPacket {
             → IfOk result (λ bytes. Answer bytes.items word policy
             (Ok (record { meaning = meaning_view self.now; checksum = 0 }))) }
 
-        // This packet is in width too (`has_widths`).
         ensures one { IsWellFormed (meaning_view self.now)
-            → (m : Meaning) → IsInWidth m → IsWellFormed m → Fits m
-            → IfOk result (λ bytes. (bytes.items ≡ canonical m) ↔ (meaning_view self.now ≡ m)) }
+            → IfOk result (λ bytes. IsCanonicalOf (meaning_view self.now) bytes.items) }
     {
         has_widths(self);
         canonical_of(self, alloc)

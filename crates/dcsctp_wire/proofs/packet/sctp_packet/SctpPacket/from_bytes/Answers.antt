@@ -1,5 +1,5 @@
-use Rattle.std.proofs.Common.{◌-◌, ◌*◌, ◌/◌, ◌≤◌, length}
-use Rattle.dcsctp_wire.{specs.WellFormed.{IsWellFormed}, specs.Account.{KeepsSize, node_count}, proofs.PacketLaws.{packet_formed, packet_size, packet_parts, reads_only}, specs.Packet.{packet_view}, specs.Canonical.{padded_size}, proofs.Bounded.{packet_bound}, proofs.PacketChecks.{read_exactly}}
+use Rattle.std.{proofs.Common.{◌-◌, ◌*◌, ◌/◌, ◌≤◌, length}, specs.List.{AllByRecursion}}
+use Rattle.dcsctp_wire.{specs.WellFormed.{IsWellFormed}, specs.Account.{KeepsTexts, KeepsSize, HasOwnTexts, node_count}, proofs.PacketLaws.{packet_formed, packet_size, packet_texts, packet_parts, reads_only}, specs.Packet.{packet_view}, specs.Canonical.{padded_size}, proofs.Bounded.{packet_bound}, proofs.PacketChecks.{read_exactly}}
 use Rattle.dcsctp_wire.proofs.packet.sctp_packet.SctpPacket.from_bytes.Goals as goal
 
 pub returns-clause-formed : goal.returns-clause-formed
@@ -14,6 +14,13 @@ returns-clause-size c = λ kept.
     reads_only (λ p. KeepsSize bytes p.meaning) bytes c.args.checksum c.args.policy.now
     c.read_packet.result (λ p size m. packet_size bytes p size m kept)
     c.read_packet.ensures.answer)
+
+pub returns-clause-texts : goal.returns-clause-texts
+returns-clause-texts c =
+    let bytes = c.args.bytes.now in
+    reads_only (λ p. AllByRecursion HasOwnTexts p.meaning.chunks → KeepsTexts bytes) bytes
+    c.args.checksum c.args.policy.now c.read_packet.result (λ p size m. packet_texts bytes p m)
+    c.read_packet.ensures.answer
 
 pub returns-clause-nodes : goal.returns-clause-nodes
 returns-clause-nodes c =

@@ -1,11 +1,11 @@
--- What a kind owes to the laws of its level, in one record; and what follows for a table of kinds.
+-- The laws of its level that a kind satisfies, in one record; and what follows for a table of kinds.
 use Rattle.std.proofs.Common.{◌≡◌, ℕ, ◌+◌, ◌*◌, ◌≤◌, Bool, true, false, List, [], ◌∷◌, length, Result, Ok, Err, refl, sym, ap, subst, arith, ◌==◌}
 use Rattle.dcsctp_tlv.{specs.Fault.{Fault, Padding}, specs.Format.{Format}, specs.Frame.{lenient}, specs.Image.{zeroed, size_of}, specs.Level.{Row, pick, map_ok}, specs.Table.{Content, row_of}, proofs.Accounts.{SameSpace, same_size}, proofs.FormatLaws.{TypedLaws}, proofs.KindLaws.{KindLaws, IsGood, of_map_ok}, proofs.Places.{AtFront}, specs.Decided.{LawfulRow}, proofs.Laws.{plain_lawful, as_lawful}, proofs.Lenient.{LoosensRow}, proofs.Tables.{EachNamed}, proofs.Unpadded.{Unpadded, NotPadding}, specs.Kinds.{Kind, Reader, AtFixed, Nested, plain_kind, kept_kind, own_row, row_as, TreesOf, rows, Entry, Of, Unnamed, format_of, parts_of}}
 
--- ---- what a kind owes
+-- ---- what a kind satisfies
 
 -- `Keeps` says of which values the size is kept, by what they hold
-pub record Owed (Keeps : Content → List ℕ → Type 0) (k : Kind) : Type 0 where
+pub record Satisfies (Keeps : Content → List ℕ → Type 0) (k : Kind) : Type 0 where
   -- each value means one tree or has one fault
   pub lawful : (strict : Bool) (flags : ℕ) → LawfulRow (own_row strict flags k.reader)
   -- what a value means, it means to a lenient reader
@@ -34,12 +34,12 @@ module _ {Keeps : Content → List ℕ → Type 0} {X : Type 0} {read : ℕ → 
     {format : X → Format} (typ : ℕ) (content : Content)
   where
     -- a kind without a list, by the laws of its format and of what it keeps
-    pub kept_owed : {IsKept : List ℕ → Type 0} (kept : X → X) → KindLaws IsKept (λ first. read) format
+    pub kept_satisfies : {IsKept : List ℕ → Type 0} (kept : X → X) → KindLaws IsKept (λ first. read) format
         → ((value : List ℕ) → Keeps content value → IsKept value)
         → ((x : X) → (format (kept x)).tlv ≡ (format x).tlv)
         → ((x : X) → (format x).IsInWidth → (format (kept x)).IsInWidth)
-        → Owed Keeps (kept_kind typ content read format kept)
-    kept_owed kept laws keeps same width = record {
+        → Satisfies Keeps (kept_kind typ content read format kept)
+    kept_satisfies kept laws keeps same width = record {
       lawful = λ strict flags. plain_lawful (read flags);
       looser = λ strict flags value x e. e;
       unpadded = λ flags value n e.
@@ -54,15 +54,15 @@ module _ {Keeps : Content → List ℕ → Type 0} {X : Type 0} {read : ℕ → 
     }
 
     -- one whose fields are all carried
-    pub owed_if : {IsKept : List ℕ → Type 0} → KindLaws IsKept (λ first. read) format
+    pub satisfies_if : {IsKept : List ℕ → Type 0} → KindLaws IsKept (λ first. read) format
         → ((value : List ℕ) → Keeps content value → IsKept value)
-        → Owed Keeps (plain_kind typ content read format)
-    owed_if laws keeps = kept_owed (λ x. x) laws keeps (λ x. refl) (λ x width. width)
+        → Satisfies Keeps (plain_kind typ content read format)
+    satisfies_if laws keeps = kept_satisfies (λ x. x) laws keeps (λ x. refl) (λ x width. width)
 
     -- and that keeps the size of every value
-    pub plain_owed : TypedLaws (λ first. read) format
-        → Owed Keeps (plain_kind typ content read format)
-    plain_owed laws = owed_if laws (λ value is. tt)
+    pub plain_satisfies : TypedLaws (λ first. read) format
+        → Satisfies Keeps (plain_kind typ content read format)
+    plain_satisfies laws = satisfies_if laws (λ value is. tt)
 
 -- ---- kinds that are read at fixed places
 
@@ -112,9 +112,9 @@ module _ {X T : Type 0} (tree : X → T) where
 
 -- ---- a table of kinds
 
-abbrev pub AllOwed : (Content → List ℕ → Type 0) → List Kind → Type 0
-AllOwed Keeps [] = Unit {0}
-AllOwed Keeps (k ∷ ks) = Owed Keeps k × AllOwed Keeps ks
+abbrev pub AllSatisfy : (Content → List ℕ → Type 0) → List Kind → Type 0
+AllSatisfy Keeps [] = Unit {0}
+AllSatisfy Keeps (k ∷ ks) = Satisfies Keeps k × AllSatisfy Keeps ks
 
 -- What computing shows of each kind in a level: its trees are written, well-formed and counted as
 -- the kind says, and its values keep their sizes where those of its type do.
@@ -132,12 +132,12 @@ AllFound Keeps IsKept of (k ∷ ks) trees =
     Found Keeps IsKept of k trees.0 × AllFound Keeps IsKept of ks trees.1
 
 pub all_lawful : (T : Type 0) (Keeps : Content → List ℕ → Type 0) (strict : Bool) (flags : ℕ)
-    (ks : List Kind) (trees : TreesOf ks T) → AllOwed Keeps ks
+    (ks : List Kind) (trees : TreesOf ks T) → AllSatisfy Keeps ks
     → EachNamed (λ typ row. LawfulRow row) (rows strict flags ks trees)
-all_lawful T Keeps strict flags [] trees owed = tt
-all_lawful T Keeps strict flags (k ∷ ks) trees owed = (
-  lawful_as trees.0 strict flags k.reader (owed.0.lawful strict flags),
-  all_lawful T Keeps strict flags ks trees.1 owed.1,
+all_lawful T Keeps strict flags [] trees satisfied = tt
+all_lawful T Keeps strict flags (k ∷ ks) trees satisfied = (
+  lawful_as trees.0 strict flags k.reader (satisfied.0.lawful strict flags),
+  all_lawful T Keeps strict flags ks trees.1 satisfied.1,
 )
 
 pub all_at_front : (T : Type 0) (strict : Bool) (flags : ℕ) (ks : List Kind) (trees : TreesOf ks T)
@@ -155,19 +155,19 @@ pick_looser false row others loose rest own other = other
 
 -- a type's row loosens, where that of all other types stays
 pub rows_looser : {T : Type 0} (Keeps : Content → List ℕ → Type 0) (strict : Bool) (flags : ℕ)
-    (ks : List Kind) (trees : TreesOf ks T) → AllOwed Keeps ks → (typ : ℕ) (others : Row T)
+    (ks : List Kind) (trees : TreesOf ks T) → AllSatisfy Keeps ks → (typ : ℕ) (others : Row T)
     → LoosensRow (row_of (rows strict flags ks trees) typ others)
     (row_of (rows lenient flags ks trees) typ others)
-rows_looser Keeps strict flags [] trees owed typ others = λ value t m. m
-rows_looser {T} Keeps strict flags (k ∷ ks) trees owed typ others =
+rows_looser Keeps strict flags [] trees satisfied typ others = λ value t m. m
+rows_looser {T} Keeps strict flags (k ∷ ks) trees satisfied typ others =
     pick_looser (typ == k.typ) _ _ _ _ own
-    (rows_looser Keeps strict flags ks trees.1 owed.1 typ others) where
+    (rows_looser Keeps strict flags ks trees.1 satisfied.1 typ others) where
       own : LoosensRow (row_as strict flags trees.0 k.reader)
           (row_as lenient flags trees.0 k.reader)
       own value t m =
           let d = down trees.0 strict flags k.reader value t m in
           subst (λ (u : T). (row_as lenient flags trees.0 k.reader).means value u) (sym d.1.1)
-          (up trees.0 lenient flags k.reader value d.0 (owed.0.looser strict flags value d.0 d.1.0))
+          (up trees.0 lenient flags k.reader value d.0 (satisfied.0.looser strict flags value d.0 d.1.0))
 
 -- ---- what holds of each row of the lenient table
 
@@ -183,39 +183,39 @@ pub record Sound {T : Type 0} (IsKept : ℕ → List ℕ → Type 0) (of : T →
 module _ {T : Type 0} (Keeps : Content → List ℕ → Type 0) (IsKept : ℕ → List ℕ → Type 0)
     (of : T → Entry T) (flags : ℕ)
   where
-    sound_as : (k : Kind) (tree : k.Tree → T) → Owed Keeps k → Found Keeps IsKept of k tree
+    sound_as : (k : Kind) (tree : k.Tree → T) → Satisfies Keeps k → Found Keeps IsKept of k tree
         → Sound IsKept of k.typ (row_as lenient flags tree k.reader)
-    sound_as k tree owed found = record {
+    sound_as k tree satisfied found = record {
       forms = λ value t m.
           (let d = down tree lenient flags k.reader value t m in
           subst (λ (u : T). (format_of (of u)).IsWellFormed) (sym d.1.1)
-          (found.formed d.0 (owed.forms flags value d.0 d.1.0)));
+          (found.formed d.0 (satisfied.forms flags value d.0 d.1.0)));
       account = λ value t kept m.
           (let d = down tree lenient flags k.reader value t m in
           subst (λ (u : T). SameSpace (size_of (format_of (of u)).tlv) (4 + length value))
           (sym d.1.1) (rw (found.written d.0)
-          (owed.account flags value d.0 (found.keeps value kept) d.1.0)));
+          (satisfied.account flags value d.0 (found.keeps value kept) d.1.0)));
       counted = λ value t m.
           (let d = down tree lenient flags k.reader value t m in
           subst (λ (u : T). 4 * parts_of (of u) ≤ 4 + length value) (sym d.1.1)
-          (rw (found.parts d.0) (owed.counted flags value d.0 d.1.0)));
-      unpadded = unpadded_as tree flags k.reader (owed.unpadded flags);
+          (rw (found.parts d.0) (satisfied.counted flags value d.0 d.1.0)));
+      unpadded = unpadded_as tree flags k.reader (satisfied.unpadded flags);
     }
 
-    pub all_sound : (ks : List Kind) (trees : TreesOf ks T) → AllOwed Keeps ks
+    pub all_sound : (ks : List Kind) (trees : TreesOf ks T) → AllSatisfy Keeps ks
         → AllFound Keeps IsKept of ks trees
         → EachNamed (Sound IsKept of) (rows lenient flags ks trees)
-    all_sound [] trees owed found = tt
-    all_sound (k ∷ ks) trees owed found = (
-      sound_as k trees.0 owed.0 found.0,
-      all_sound ks trees.1 owed.1 found.1,
+    all_sound [] trees satisfied found = tt
+    all_sound (k ∷ ks) trees satisfied found = (
+      sound_as k trees.0 satisfied.0 found.0,
+      all_sound ks trees.1 satisfied.1 found.1,
     )
 
 -- ---- what holds of each tree
 
-abbrev pub OwedOf : {T : Type 0} → (Content → List ℕ → Type 0) → Entry T → Type 0
-OwedOf Keeps (Of k tree x) = Owed Keeps k
-OwedOf Keeps (Unnamed format) = Unit {0}
+abbrev pub SatisfiesOf : {T : Type 0} → (Content → List ℕ → Type 0) → Entry T → Type 0
+SatisfiesOf Keeps (Of k tree x) = Satisfies Keeps k
+SatisfiesOf Keeps (Unnamed format) = Unit {0}
 
 abbrev pub MeansBack : {T : Type 0} → Bool → Entry T → Type 0
 MeansBack strict (Of k tree x) = (row_as strict (k.format x).tlv.second tree k.reader).means
@@ -223,21 +223,21 @@ MeansBack strict (Of k tree x) = (row_as strict (k.format x).tlv.second tree k.r
 MeansBack strict (Unnamed format) = Unit {0}
 
 pub back_of : {T : Type 0} (Keeps : Content → List ℕ → Type 0) (strict : Bool) (e : Entry T)
-    → OwedOf Keeps e → IsGood (format_of e) → MeansBack strict e
-back_of Keeps strict (Of k tree x) owed good =
-    up tree strict (k.format x).tlv.second k.reader _ x (owed.back strict x good)
-back_of Keeps strict (Unnamed format) owed good = tt
+    → SatisfiesOf Keeps e → IsGood (format_of e) → MeansBack strict e
+back_of Keeps strict (Of k tree x) satisfied good =
+    up tree strict (k.format x).tlv.second k.reader _ x (satisfied.back strict x good)
+back_of Keeps strict (Unnamed format) satisfied good = tt
 
 abbrev pub kept_format : {T : Type 0} → Entry T → Format
 kept_format (Of k tree x) = k.format (k.kept x)
 kept_format (Unnamed format) = format
 
-pub kept_tlv_of : {T : Type 0} (Keeps : Content → List ℕ → Type 0) (e : Entry T) → OwedOf Keeps e
+pub kept_tlv_of : {T : Type 0} (Keeps : Content → List ℕ → Type 0) (e : Entry T) → SatisfiesOf Keeps e
     → (kept_format e).tlv ≡ (format_of e).tlv
-kept_tlv_of Keeps (Of k tree x) owed = owed.kept_tlv x
-kept_tlv_of Keeps (Unnamed format) owed = refl
+kept_tlv_of Keeps (Of k tree x) satisfied = satisfied.kept_tlv x
+kept_tlv_of Keeps (Unnamed format) satisfied = refl
 
 pub kept_width_of : {T : Type 0} (Keeps : Content → List ℕ → Type 0) (e : Entry T)
-    → OwedOf Keeps e → (format_of e).IsInWidth → (kept_format e).IsInWidth
-kept_width_of Keeps (Of k tree x) owed width = owed.kept_width x width
-kept_width_of Keeps (Unnamed format) owed width = width
+    → SatisfiesOf Keeps e → (format_of e).IsInWidth → (kept_format e).IsInWidth
+kept_width_of Keeps (Of k tree x) satisfied width = satisfied.kept_width x width
+kept_width_of Keeps (Unnamed format) satisfied width = width
