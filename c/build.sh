@@ -8,7 +8,8 @@ Proves and builds the C library, and puts it into the folder PREFIX:
 
   include/dcsctp.h
   lib/libdcsctp.a              for static linking; it needs libc and nothing else
-  lib/libdcsctp.so             for dynamic linking; it needs libc and nothing else
+  lib/libdcsctp.so             for dynamic linking; it needs libc and nothing else. A link to libdcsctp.so.MAJOR.MINOR,
+                               since until 1.0.0 a minor version may change the interface
   lib/pkgconfig/dcsctp.pc
 
 The first run proves everything below it, and prints a line as each of nine crates is done: that takes 8 to 20 minutes on
@@ -57,13 +58,16 @@ grep -o 'dcsctp_[a-z_]*(' include/dcsctp.h | tr -d '(' | sort -u >"$work/functio
 "$ld" -r -o "$work/dcsctp.o" --whole-archive "$archive" "$heap"
 "$objcopy" --keep-global-symbols="$work/functions" "$work/dcsctp.o"
 "$ar" rcsD "$work/libdcsctp.a" "$work/dcsctp.o"
-"$cc" -shared -o "$work/libdcsctp.so" "$work/dcsctp.o" -Wl,-soname,libdcsctp.so -Wl,-z,text -Wl,-z,noexecstack \
+version=$(sed -n 's/^#define DCSCTP_VERSION "\(.*\)"$/\1/p' include/dcsctp.h)
+soname=libdcsctp.so.${version%.*}
+"$cc" -shared -o "$work/$soname" "$work/dcsctp.o" -Wl,-soname,"$soname" -Wl,-z,text -Wl,-z,noexecstack \
     -Wl,--no-undefined
 
 mkdir -p "$prefix/include" "$prefix/lib/pkgconfig"
 install -m 644 include/dcsctp.h "$prefix/include/dcsctp.h"
 install -m 644 "$work/libdcsctp.a" "$prefix/lib/libdcsctp.a"
-install -m 755 "$work/libdcsctp.so" "$prefix/lib/libdcsctp.so"
+install -m 755 "$work/$soname" "$prefix/lib/$soname"
+ln -sf "$soname" "$prefix/lib/libdcsctp.so"
 cat >"$prefix/lib/pkgconfig/dcsctp.pc" <<PC
 prefix=$prefix
 libdir=\${prefix}/lib
@@ -71,7 +75,7 @@ includedir=\${prefix}/include
 
 Name: dcsctp
 Description: The wire layer of SCTP (RFC 9260), proved
-Version: $(sed -n 's/^#define DCSCTP_VERSION "\(.*\)"$/\1/p' include/dcsctp.h)
+Version: $version
 Cflags: -I\${includedir}
 Libs: -L\${libdir} -ldcsctp
 PC

@@ -54,6 +54,7 @@ def header_side(text):
     version = re.search(r'^#define DCSCTP_VERSION "(.*)"$', text, flags=re.M)
     if not version:
         raise Unreadable('no version')
+    numbers = '.'.join(re.findall(r'^#define DCSCTP_VERSION_(?:MAJOR|MINOR|PATCH) (\d+)$', text, flags=re.M))
     text = re.sub(r'^#ifdef __cplusplus\n.*?\n#endif$', '', text, flags=re.M | re.S)
     text = re.sub(r'^#.*$', '', text, flags=re.M)
     functions, structs, constants = {}, {}, {}
@@ -79,12 +80,12 @@ def header_side(text):
         functions[match[2]] = match[1], [(kind, [name]) for kind, name in arguments]
         return ''
 
-    text = re.sub(r'enum \{(.*?)\};', enum, text, flags=re.S)
+    text = re.sub(r'enum (?:\w+ )?\{(.*?)\};', enum, text, flags=re.S)
     text = re.sub(r'struct (\w+) \{(.*?)\};', struct, text, flags=re.S)
     text = re.sub(r'(\w+) (\w+)\(([^()]*)\);', function, text)
     if text.strip():
         raise Unreadable(text.strip().splitlines()[0])
-    return functions, structs, constants, version[1]
+    return functions, structs, constants, version[1], numbers
 
 
 def c_type(kind):
@@ -131,7 +132,7 @@ def library_side():
     for name, fields in re.findall(r'#\[repr\(C\)\]\s*(?:#\[[^\]]*\]\s*)*pub struct (\w+) \{(.*?)\}', text, flags=re.S):
         both = [listed(field.strip().removeprefix('pub '), ':') for field in listed(fields, ',')]
         structs[c_type(name)] = [(c_type(kind), RENAMED.get(field, field)) for field, kind in both]
-    return functions, structs, constants_of_library(), newest_version()
+    return functions, structs, constants_of_library(), newest_version(), newest_version()
 
 
 def newest_version():
@@ -143,20 +144,20 @@ def constants_of_library():
     # the codes that the contracts have
     spec = read(f'{CRATE}/specs/Code.antt')
     proved = {'OK': re.search(r'^answer_code \(Ok \w+\) = (\d+)$', spec, flags=re.M)[1]}
-    proved |= {fault.upper(): code for fault, code in
+    proved |= {f'FAULT_{fault.upper()}': code for fault, code in
                re.findall(r'^fault_code \(?(?:Chunk )?(\w+)\)? = (\d+)$', spec, flags=re.M)}
     proved |= {name.upper(): code for name, code in re.findall(r'^(\w+)_code = (\d+)$', spec, flags=re.M)}
     if codes != proved:
         raise Unreadable(f'the codes of codes.rt and of Code.antt differ: {codes} and {proved}')
     wire = 'crates/dcsctp_wire/src'
     text = read(f'{wire}/laws.rt')
-    types = re.findall(r'CHUNK_TYPE as (\w+)', text)
-    # a law of the library says which number each is
-    laws = dict(re.findall(r'ensures \w+ \{ (\w+) ≡ (\d+) \}', text))
-    codes |= {name: laws[name] for name in types}
+    # a law of the library says which number each type and each code is
+    laws = dict(re.findall(r'ensures \w+ \{ (\w+) ≡ (\d+|0x[\dA-F]+) \}', text))
+    for kind, constant in (('CHUNK', 'CHUNK_TYPE'), ('PARAMETER', r'PARAMETER_TYPE\w*'), ('CAUSE', 'CAUSE_CODE')):
+        codes |= {f'{kind}_{name}': laws[name] for name in re.findall(rf'\b{constant} as (\w+)', text)}
     size = re.search(r'^pub const COMMON_HEADER_SIZE: usize = (\d+);', read(f'{wire}/packet/common_header.rt'), flags=re.M)
     codes['FIRST_CHUNK'] = size[1]
-    return {name: int(value) for name, value in codes.items()}
+    return {name: int(value, 0) for name, value in codes.items()}
 
 
 def argument_text(argument):
@@ -189,8 +190,9 @@ def differences(header, library):
     for name in sorted(set(header[2]) & set(library[2])):
         if header[2][name] != library[2][name]:
             yield f'DCSCTP_{name}: {header[2][name]} in the header, {library[2][name]} in the library'
-    if header[3] != library[3]:
-        yield f'DCSCTP_VERSION: {header[3]} in the header, {library[3]} in CHANGELOG.md'
+    for name, have, want in zip(('DCSCTP_VERSION', 'DCSCTP_VERSION_MAJOR and its like'), header[3:], library[3:]):
+        if have != want:
+            yield f'{name}: {have} in the header, {want} in CHANGELOG.md'
 
 
 # What is changed, and into what; each has to be noticed.
@@ -211,10 +213,11 @@ CHANGES = [
     ('two fields are swapped', '    uint32_t mid;\n    uint32_t fsn;\n', '    uint32_t fsn;\n    uint32_t mid;\n'),
     ('a field is missing', '    bool zero_checksum;', ''),
     ('a field is added', '    uint16_t end;\n', '    uint16_t end;\n    uint16_t gap;\n'),
-    ('two codes are swapped', 'DCSCTP_LENGTH = 3', 'DCSCTP_LENGTH = 4'),
+    ('two codes are swapped', 'DCSCTP_FAULT_LENGTH = 3', 'DCSCTP_FAULT_LENGTH = 4'),
     ('a code of the writing is another', 'DCSCTP_NO_ROOM = 7', 'DCSCTP_NO_ROOM = 8'),
-    ('a type of chunk is another', 'DCSCTP_I_FORWARD_TSN = 194', 'DCSCTP_I_FORWARD_TSN = 193'),
+    ('a type of chunk is another', 'DCSCTP_CHUNK_I_FORWARD_TSN = 194', 'DCSCTP_CHUNK_I_FORWARD_TSN = 193'),
     ('the version is another', 'DCSCTP_VERSION "0.', 'DCSCTP_VERSION "9.'),
+    ('a number of the version is another', 'DCSCTP_VERSION_MINOR 1', 'DCSCTP_VERSION_MINOR 2'),
     ('the first chunk lies elsewhere', 'DCSCTP_FIRST_CHUNK = 12', 'DCSCTP_FIRST_CHUNK = 16'),
 ]
 

@@ -101,7 +101,7 @@ static void captured_data(void)
     CHECK(HELLO == 36 && dcsctp_word(hello, HELLO) == HELLO_WORD);
     CHECK(dcsctp_header(hello, HELLO, &header) && header.source_port == 5000 && header.destination_port == 5000);
     CHECK(header.verification_tag == 229062552 && header.checksum == HELLO_WORD);
-    CHECK(dcsctp_chunk_at(hello, HELLO, 12, &chunk) && chunk.type == DCSCTP_DATA && chunk.flags == 3);
+    CHECK(dcsctp_chunk_at(hello, HELLO, 12, &chunk) && chunk.type == DCSCTP_CHUNK_DATA && chunk.flags == 3);
     CHECK(chunk.value_offset == 16 && chunk.value_size == 17 && chunk.next == 36);
     CHECK(!dcsctp_chunk_at(hello, HELLO, 36, &chunk));
     CHECK(dcsctp_data(hello, HELLO, &chunk, &data) && data.tsn == 2030482608 && data.mid == 0 && data.fsn == 0);
@@ -152,11 +152,11 @@ static void has_fault(const uint8_t *bytes, size_t length, uint32_t word, uint32
 static void captured_faults(void)
 {
     has_fault(hello, HELLO, HELLO_WORD, DCSCTP_OK, 36);
-    has_fault(hello, 2, HELLO_WORD, DCSCTP_SIZE, 2);
-    has_fault(hello, HELLO, 0, DCSCTP_CHECKSUM, 8);
+    has_fault(hello, 2, HELLO_WORD, DCSCTP_FAULT_SIZE, 2);
+    has_fault(hello, HELLO, 0, DCSCTP_FAULT_CHECKSUM, 8);
     /* a chunk whose length is 3 */
     static const uint8_t broken[] = HELLO_FRONT "\x11\x48\xa1\xf6\0\3\0\3";
-    has_fault(broken, 16, HELLO_WORD, DCSCTP_LENGTH, 12);
+    has_fault(broken, 16, HELLO_WORD, DCSCTP_FAULT_LENGTH, 12);
 }
 
 static void captured_outputs(void)
@@ -179,16 +179,16 @@ static void sizes_and_policies(void)
 {
     static uint8_t large[65536] = {0x13, 0x88, 0x13, 0x88, 1, 2, 3, 4, 0, 0, 0, 0, 10, 0, 0xff, 0xf0};
     size_t offset = 7, size = 7;
-    CHECK(dcsctp_check(packet, 0, 0, &any) == DCSCTP_SIZE);
-    CHECK(dcsctp_first_fault(packet, 0, 0, &any, &offset) == DCSCTP_SIZE && offset == 0);
-    CHECK(dcsctp_first_fault(packet, 15, 0, &any, &offset) == DCSCTP_SIZE && offset == 15);
-    CHECK(dcsctp_first_fault(large, 65536, 0, &any, &offset) == DCSCTP_SIZE && offset == 65535);
+    CHECK(dcsctp_check(packet, 0, 0, &any) == DCSCTP_FAULT_SIZE);
+    CHECK(dcsctp_first_fault(packet, 0, 0, &any, &offset) == DCSCTP_FAULT_SIZE && offset == 0);
+    CHECK(dcsctp_first_fault(packet, 15, 0, &any, &offset) == DCSCTP_FAULT_SIZE && offset == 15);
+    CHECK(dcsctp_first_fault(large, 65536, 0, &any, &offset) == DCSCTP_FAULT_SIZE && offset == 65535);
     CHECK(dcsctp_first_fault(packet, LENGTH, 0, &any, &offset) == DCSCTP_OK && offset == LENGTH);
 
-    CHECK(dcsctp_first_fault(packet, LENGTH, 1, &exact, &offset) == DCSCTP_CHECKSUM && offset == 8);
+    CHECK(dcsctp_first_fault(packet, LENGTH, 1, &exact, &offset) == DCSCTP_FAULT_CHECKSUM && offset == 8);
     CHECK(dcsctp_check(packet, LENGTH, 0, &exact) == DCSCTP_OK);
     CHECK(dcsctp_check(packet, LENGTH, 1, &zero) == DCSCTP_OK);
-    CHECK(dcsctp_first_fault(packet, LENGTH, 0, &strict, &offset) == DCSCTP_PADDING && offset == 61);
+    CHECK(dcsctp_first_fault(packet, LENGTH, 0, &strict, &offset) == DCSCTP_FAULT_PADDING && offset == 61);
 
     /* a COOKIE ECHO of 65,520 bytes makes a packet of 65,532; of 65,521, one whose canonical form has four more */
     CHECK(dcsctp_check(large, 65532, 0, &any) == DCSCTP_OK);
@@ -207,8 +207,8 @@ static void outputs(writer *write)
 {
     size_t size = 7, needed;
     fill_output();
-    CHECK(write(packet, LENGTH, 1, &exact, output, sizeof output, &size) == DCSCTP_CHECKSUM && size == 7 && stays(0));
-    CHECK(write(packet, 15, 0, &any, output, sizeof output, &size) == DCSCTP_SIZE && size == 7 && stays(0));
+    CHECK(write(packet, LENGTH, 1, &exact, output, sizeof output, &size) == DCSCTP_FAULT_CHECKSUM && size == 7 && stays(0));
+    CHECK(write(packet, 15, 0, &any, output, sizeof output, &size) == DCSCTP_FAULT_SIZE && size == 7 && stays(0));
     CHECK(write(packet, LENGTH, 0, &any, output, 0, &size) == DCSCTP_NO_ROOM && size > 7 && stays(0));
     needed = size;
     CHECK(needed <= sizeof output);
@@ -242,7 +242,7 @@ static void refusals(writer *write)
     /* a fault comes before any request */
     size_t size = 7;
     requests = 0;
-    CHECK(write(packet, LENGTH, 1, &exact, output, sizeof output, &size) == DCSCTP_CHECKSUM && requests == 0);
+    CHECK(write(packet, LENGTH, 1, &exact, output, sizeof output, &size) == DCSCTP_FAULT_CHECKSUM && requests == 0);
 }
 
 /* ---- reading the parts of a packet */
@@ -262,7 +262,7 @@ static void places(void)
     CHECK(dcsctp_chunk_at(packet, DATA_AT + 22, DATA_AT, &chunk) && chunk.next == DATA_AT + 22);
     CHECK(chunk_at(SACK_AT).next == DATA_AT && chunk_at(DATA_AT).next == HEARTBEAT_AT);
     chunk = chunk_at(HEARTBEAT_AT);
-    CHECK(chunk.next == LENGTH && chunk.type == DCSCTP_HEARTBEAT && chunk.value_offset == 68 && chunk.value_size == 6);
+    CHECK(chunk.next == LENGTH && chunk.type == DCSCTP_CHUNK_HEARTBEAT && chunk.value_offset == 68 && chunk.value_size == 6);
 }
 
 static void parts(void)
@@ -295,7 +295,7 @@ static void parts(void)
 
     /* chunks that no call wrote */
     const size_t wild[] = {0, LENGTH - 1, LENGTH, LENGTH + 1, SIZE_MAX - 15, SIZE_MAX};
-    const uint8_t types[] = {DCSCTP_DATA, DCSCTP_I_DATA, DCSCTP_SACK, DCSCTP_INIT, DCSCTP_INIT_ACK};
+    const uint8_t types[] = {DCSCTP_CHUNK_DATA, DCSCTP_CHUNK_I_DATA, DCSCTP_CHUNK_SACK, DCSCTP_CHUNK_INIT, DCSCTP_CHUNK_INIT_ACK};
     for (size_t i = 0; i < 6 * 6 * 5; i++) {
         struct dcsctp_chunk chunk = {types[i % 5], 0xff, wild[i / 5 % 6], wild[i / 30], wild[i / 30]};
         if (chunk.value_offset == 0 && chunk.value_size <= LENGTH)
@@ -320,7 +320,7 @@ static void in_place(void)
     CHECK(dcsctp_set_tag(output, LENGTH, 0x0a0b0c0d) && !memcmp(output + 4, "\x0a\x0b\x0c\x0d", 4) && stays(LENGTH));
     CHECK(!memcmp(output, packet, 4) && !memcmp(output + 8, packet + 8, LENGTH - 8));
     uint32_t word = dcsctp_word(output, LENGTH);
-    CHECK(dcsctp_check(output, LENGTH, word, &exact) == DCSCTP_CHECKSUM);
+    CHECK(dcsctp_check(output, LENGTH, word, &exact) == DCSCTP_FAULT_CHECKSUM);
     CHECK(dcsctp_seal(output, LENGTH) && dcsctp_word(output, LENGTH) == word && stays(LENGTH));
     CHECK(dcsctp_check(output, LENGTH, word, &exact) == DCSCTP_OK);
     CHECK(!memcmp(output, packet, 4) && !memcmp(output + 12, packet + 12, LENGTH - 12));
@@ -356,8 +356,8 @@ static bool add(int which, size_t room, size_t *size)
 enum { KINDS = 7 };
 /* Header and value of the chunk and of what is in it, padded (RFC 9260 section 3.3). */
 static const size_t padded[KINDS] = {4 + 12 + 8, 4 + 12 + 8 + 4, 4 + 4 + 12, 4 + 4 + 12, 4 + 4 + 12, 4 + 16 + 4 + 8, 4};
-static const uint8_t kind_types[KINDS] = {DCSCTP_DATA, DCSCTP_SACK, DCSCTP_HEARTBEAT, DCSCTP_HEARTBEAT_ACK, DCSCTP_ABORT,
-                                          DCSCTP_INIT_ACK, DCSCTP_COOKIE_ACK};
+static const uint8_t kind_types[KINDS] = {DCSCTP_CHUNK_DATA, DCSCTP_CHUNK_SACK, DCSCTP_CHUNK_HEARTBEAT, DCSCTP_CHUNK_HEARTBEAT_ACK, DCSCTP_CHUNK_ABORT,
+                                          DCSCTP_CHUNK_INIT_ACK, DCSCTP_CHUNK_COOKIE_ACK};
 
 static void rooms(void)
 {

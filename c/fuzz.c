@@ -162,7 +162,7 @@ static struct fault padding_fault(const uint8_t *bytes, size_t offset, size_t th
 {
     for (size_t i = 0; i < there; i++)
         if (bytes[offset + i])
-            return (struct fault){DCSCTP_PADDING, offset + i};
+            return (struct fault){DCSCTP_FAULT_PADDING, offset + i};
     return none;
 }
 
@@ -182,7 +182,7 @@ static uint32_t parameter_fault(uint32_t type, const uint8_t *value, size_t size
         break;
     case 16:
         if ((size == 8 || size == 16) && u32(value + 4) > 6)
-            return DCSCTP_VALUE;
+            return DCSCTP_FAULT_VALUE;
         fits = size == 8 || size == 16;
         break;
     case 17:
@@ -195,7 +195,7 @@ static uint32_t parameter_fault(uint32_t type, const uint8_t *value, size_t size
     default:
         fits = true;
     }
-    return fits ? DCSCTP_OK : DCSCTP_LENGTH;
+    return fits ? DCSCTP_OK : DCSCTP_FAULT_LENGTH;
 }
 
 /* Section 3.3.10 */
@@ -208,7 +208,7 @@ static uint32_t cause_fault(uint32_t code, const uint8_t *value, size_t size)
         fits = size == 4;
     else if (code == 10)
         fits = size == 0;
-    return fits ? DCSCTP_OK : DCSCTP_LENGTH;
+    return fits ? DCSCTP_OK : DCSCTP_FAULT_LENGTH;
 }
 
 static struct fault list_fault(const uint8_t *bytes, size_t offset, size_t end, bool strict,
@@ -217,7 +217,7 @@ static struct fault list_fault(const uint8_t *bytes, size_t offset, size_t end, 
     while (offset < end) {
         size_t left = end - offset, size = left < 4 ? 0 : u16(bytes + offset + 2);
         if (size < 4 || size > left)
-            return (struct fault){DCSCTP_LENGTH, offset};
+            return (struct fault){DCSCTP_FAULT_LENGTH, offset};
         uint32_t code = item_fault(u16(bytes + offset), bytes + offset + 4, size - 4);
         if (code != DCSCTP_OK)
             return (struct fault){code, offset};
@@ -236,73 +236,73 @@ static struct fault value_fault(const uint8_t *bytes, size_t chunk, size_t size,
     size_t begin = chunk + 4, end = begin + size;
     bool fits = true;
     switch (bytes[chunk]) {
-    case DCSCTP_DATA:
+    case DCSCTP_CHUNK_DATA:
         fits = size >= 12;
         break;
-    case DCSCTP_I_DATA:
+    case DCSCTP_CHUNK_I_DATA:
         fits = size >= 16;
         break;
-    case DCSCTP_INIT:
-    case DCSCTP_INIT_ACK:
+    case DCSCTP_CHUNK_INIT:
+    case DCSCTP_CHUNK_INIT_ACK:
         if (size >= 16)
             return list_fault(bytes, begin + 16, end, strict, parameter_fault);
         fits = false;
         break;
-    case DCSCTP_SACK:
+    case DCSCTP_CHUNK_SACK:
         fits = size >= 12 && size == 12 + 4 * (size_t)u16(value + 8) + 4 * (size_t)u16(value + 10);
         break;
-    case DCSCTP_HEARTBEAT:
-    case DCSCTP_HEARTBEAT_ACK:
-    case DCSCTP_RE_CONFIG:
+    case DCSCTP_CHUNK_HEARTBEAT:
+    case DCSCTP_CHUNK_HEARTBEAT_ACK:
+    case DCSCTP_CHUNK_RE_CONFIG:
         return list_fault(bytes, begin, end, strict, parameter_fault);
-    case DCSCTP_ABORT:
+    case DCSCTP_CHUNK_ABORT:
         return list_fault(bytes, begin, end, strict, cause_fault);
-    case DCSCTP_ERROR:
+    case DCSCTP_CHUNK_ERROR:
         if (size > 0)
             return list_fault(bytes, begin, end, strict, cause_fault);
         fits = false;
         break;
-    case DCSCTP_SHUTDOWN:
+    case DCSCTP_CHUNK_SHUTDOWN:
         fits = size == 4;
         break;
-    case DCSCTP_SHUTDOWN_ACK:
-    case DCSCTP_COOKIE_ACK:
-    case DCSCTP_SHUTDOWN_COMPLETE:
+    case DCSCTP_CHUNK_SHUTDOWN_ACK:
+    case DCSCTP_CHUNK_COOKIE_ACK:
+    case DCSCTP_CHUNK_SHUTDOWN_COMPLETE:
         fits = size == 0;
         break;
-    case DCSCTP_COOKIE_ECHO:
+    case DCSCTP_CHUNK_COOKIE_ECHO:
         fits = size > 0;
         break;
-    case DCSCTP_FORWARD_TSN:
+    case DCSCTP_CHUNK_FORWARD_TSN:
         fits = size >= 4 && size % 4 == 0;
         break;
-    case DCSCTP_I_FORWARD_TSN:
+    case DCSCTP_CHUNK_I_FORWARD_TSN:
         fits = size >= 4 && size % 8 == 4;
         break;
     default:
         break;
     }
-    return fits ? none : (struct fault){DCSCTP_LENGTH, chunk};
+    return fits ? none : (struct fault){DCSCTP_FAULT_LENGTH, chunk};
 }
 
 static struct fault reference_fault(const uint8_t *bytes, size_t length, uint32_t word, const struct dcsctp_policy *policy)
 {
     if (length < 16 || length > 65535)
-        return (struct fault){DCSCTP_SIZE, length < 16 ? length : 65535};
+        return (struct fault){DCSCTP_FAULT_SIZE, length < 16 ? length : 65535};
     uint32_t field = u32(bytes + 8);
     if (field != word && !policy->any_checksum && !(policy->zero_checksum && field == 0))
-        return (struct fault){DCSCTP_CHECKSUM, 8};
+        return (struct fault){DCSCTP_FAULT_CHECKSUM, 8};
     size_t offset = 12;
     while (offset < length) {
         size_t left = length - offset, size = left < 4 ? 0 : u16(bytes + offset + 2);
         if (size < 4 || size > left)
-            return (struct fault){DCSCTP_LENGTH, offset};
+            return (struct fault){DCSCTP_FAULT_LENGTH, offset};
         struct fault fault = value_fault(bytes, offset, size - 4, policy->strict_padding);
         size_t next = padded(size) < left ? offset + padded(size) : length;
         if (fault.code == DCSCTP_OK && policy->strict_padding) {
             fault = padding_fault(bytes, offset + size, next - offset - size);
             if (fault.code == DCSCTP_OK && padded(size) > left)
-                fault = (struct fault){DCSCTP_PADDING, length};
+                fault = (struct fault){DCSCTP_FAULT_PADDING, length};
         }
         if (fault.code != DCSCTP_OK)
             return fault;
@@ -355,7 +355,7 @@ static void try_parts(const uint8_t *bytes, size_t length, const struct dcsctp_c
     const uint8_t *value = is_there ? bytes + chunk->value_offset : bytes;
     size_t size = is_there ? chunk->value_size : 0, offset = chunk->value_offset;
     struct dcsctp_data data = {.tsn = 77, .payload_size = 77}, wanted = data;
-    bool is_data = chunk->type == DCSCTP_DATA && size >= 12, is_idata = chunk->type == DCSCTP_I_DATA && size >= 16;
+    bool is_data = chunk->type == DCSCTP_CHUNK_DATA && size >= 12, is_idata = chunk->type == DCSCTP_CHUNK_I_DATA && size >= 16;
     if (is_data || is_idata) {
         wanted = (struct dcsctp_data){.tsn = u32(value), .stream = (uint16_t)u16(value + 4)};
         wanted.is_unordered = chunk->flags & 4;
@@ -376,7 +376,7 @@ static void try_parts(const uint8_t *bytes, size_t length, const struct dcsctp_c
     REQUIRE(!memcmp(&data, &wanted, sizeof data));
 
     struct dcsctp_init init = {77, 77, 77, 77, 77}, init_wanted = init;
-    bool is_init = (chunk->type == DCSCTP_INIT || chunk->type == DCSCTP_INIT_ACK) && size >= 16;
+    bool is_init = (chunk->type == DCSCTP_CHUNK_INIT || chunk->type == DCSCTP_CHUNK_INIT_ACK) && size >= 16;
     if (is_init)
         init_wanted = (struct dcsctp_init){u32(value), u32(value + 4), (uint16_t)u16(value + 8),
                                            (uint16_t)u16(value + 10), u32(value + 12)};
@@ -386,7 +386,7 @@ static void try_parts(const uint8_t *bytes, size_t length, const struct dcsctp_c
     struct dcsctp_gap_ack_block block = {77, 77};
     uint32_t tsn = 77;
     size_t blocks = 0, duplicates = 0;
-    bool is_sack = chunk->type == DCSCTP_SACK && size >= 12, is_valid = true;
+    bool is_sack = chunk->type == DCSCTP_CHUNK_SACK && size >= 12, is_valid = true;
     if (is_sack) {
         blocks = u16(value + 8);
         duplicates = u16(value + 10);
@@ -613,7 +613,7 @@ static bool add_chunk(uint8_t *packet, size_t room, size_t *size, struct added *
         value = 12 + some;
         break;
     case 1:
-        added->type = DCSCTP_SACK;
+        added->type = DCSCTP_CHUNK_SACK;
         added->tsn = (uint32_t)draw(), added->a_rwnd = (uint32_t)draw();
         added->block_count = below(9), added->duplicate_count = below(9);
         for (size_t i = 0; i < 8; i++) {
@@ -625,25 +625,25 @@ static bool add_chunk(uint8_t *packet, size_t room, size_t *size, struct added *
         value = 12 + 4 * added->block_count + 4 * added->duplicate_count;
         break;
     case 2:
-        added->type = flag ? DCSCTP_HEARTBEAT_ACK : DCSCTP_HEARTBEAT;
+        added->type = flag ? DCSCTP_CHUNK_HEARTBEAT_ACK : DCSCTP_CHUNK_HEARTBEAT;
         result = dcsctp_add_heartbeat(packet, room, size, flag, block.bytes, some);
         value = 4 + some;
         break;
     case 3:
-        added->type = DCSCTP_ABORT;
+        added->type = DCSCTP_CHUNK_ABORT;
         added->flags = flag;
         result = dcsctp_add_abort(packet, room, size, flag, block.bytes, some);
         has_room = is_utf8(block.bytes, some);
         value = 4 + some;
         break;
     case 4:
-        added->type = DCSCTP_INIT_ACK;
+        added->type = DCSCTP_CHUNK_INIT_ACK;
         added->init = (struct dcsctp_init){(uint32_t)draw(), (uint32_t)draw(), (uint16_t)draw(), (uint16_t)draw(), (uint32_t)draw()};
         result = dcsctp_add_init_ack(packet, room, size, &added->init, block.bytes, some);
         value = 20 + some;
         break;
     default:
-        added->type = DCSCTP_COOKIE_ACK;
+        added->type = DCSCTP_CHUNK_COOKIE_ACK;
         result = dcsctp_add_cookie_ack(packet, room, size);
     }
     release(block);
@@ -665,14 +665,14 @@ static size_t read_added(const uint8_t *packet, size_t size, size_t at, const st
     struct dcsctp_gap_ack_block block;
     uint32_t tsn;
     switch (added->type) {
-    case DCSCTP_DATA:
+    case DCSCTP_CHUNK_DATA:
         wanted.mid = wanted.fsn = 0;
         wanted.payload_offset = at + 16;
         wanted.payload_size = some;
         REQUIRE(dcsctp_data(packet, size, &chunk, &data) && !memcmp(&data, &wanted, sizeof data));
         REQUIRE(!memcmp(packet + data.payload_offset, bytes, some));
         break;
-    case DCSCTP_SACK:
+    case DCSCTP_CHUNK_SACK:
         REQUIRE(dcsctp_sack(packet, size, &chunk, &sack) && sack.cumulative_tsn_ack == added->tsn && sack.a_rwnd == added->a_rwnd);
         REQUIRE(sack.block_count == added->block_count && sack.duplicate_count == added->duplicate_count);
         for (size_t i = 0; i < sack.block_count; i++)
@@ -680,14 +680,14 @@ static size_t read_added(const uint8_t *packet, size_t size, size_t at, const st
         for (size_t i = 0; i < sack.duplicate_count; i++)
             REQUIRE(dcsctp_duplicate_tsn(packet, size, &chunk, i, &tsn) && tsn == added->duplicates[i]);
         break;
-    case DCSCTP_HEARTBEAT:
-    case DCSCTP_HEARTBEAT_ACK:
+    case DCSCTP_CHUNK_HEARTBEAT:
+    case DCSCTP_CHUNK_HEARTBEAT_ACK:
         REQUIRE(u16(value) == 1 && u16(value + 2) == 4 + some && !memcmp(value + 4, bytes, some));
         break;
-    case DCSCTP_ABORT:
+    case DCSCTP_CHUNK_ABORT:
         REQUIRE(u16(value) == 12 && u16(value + 2) == 4 + some && !memcmp(value + 4, bytes, some));
         break;
-    case DCSCTP_INIT_ACK:
+    case DCSCTP_CHUNK_INIT_ACK:
         REQUIRE(dcsctp_init(packet, size, &chunk, &init) && !memcmp(&init, &added->init, sizeof init));
         REQUIRE(u16(value + 16) == 7 && u16(value + 18) == 4 + some && !memcmp(value + 20, bytes, some));
         break;
@@ -735,7 +735,7 @@ static size_t try_building(enum placing placing)
         at = read_added(buffer.bytes, size, at, &added[i]);
     REQUIRE(at == size);
     uint32_t code = dcsctp_check(buffer.bytes, size, dcsctp_word(buffer.bytes, size), &policies[3]);
-    REQUIRE(code == (count ? DCSCTP_OK : DCSCTP_SIZE));
+    REQUIRE(code == (count ? DCSCTP_OK : DCSCTP_FAULT_SIZE));
     release(buffer);
     return size;
 }

@@ -23,7 +23,7 @@ int main(void)
     struct dcsctp_chunk chunk;
     struct dcsctp_init init;
     if (!dcsctp_header(bytes, length, &header) || !dcsctp_chunk_at(bytes, length, DCSCTP_FIRST_CHUNK, &chunk)
-        || !dcsctp_init(bytes, length, &chunk, &init) || chunk.type != DCSCTP_INIT || chunk.next < length
+        || !dcsctp_init(bytes, length, &chunk, &init) || chunk.type != DCSCTP_CHUNK_INIT || chunk.next < length
         || header.verification_tag != 0 || header.source_port == 0 || header.destination_port == 0
         || init.initiate_tag == 0 || init.outbound_streams == 0 || init.inbound_streams == 0)
         return 1;

@@ -53,7 +53,7 @@ static size_t answer(const uint8_t *bytes, size_t length, uint8_t *packet, size_
     size_t size;
     if (!dcsctp_header(bytes, length, &header) || !dcsctp_chunk_at(bytes, length, DCSCTP_FIRST_CHUNK, &chunk))
         return 0;
-    bool is_init = chunk.type == DCSCTP_INIT && chunk.next == length && header.verification_tag == 0
+    bool is_init = chunk.type == DCSCTP_CHUNK_INIT && chunk.next == length && header.verification_tag == 0
         && dcsctp_init(bytes, length, &chunk, &init) && init.initiate_tag != 0;
     peer_tag = is_init ? init.initiate_tag : peer_tag;
     if (!dcsctp_begin(packet, room, &size, header.destination_port, header.source_port, peer_tag))

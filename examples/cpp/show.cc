@@ -55,7 +55,7 @@ static Bytes answer(const Packet &packet, uint8_t (&reply)[1200])
         return {};
     uint16_t source = header->destination_port, destination = header->source_port;
     auto init = packet.init(*chunk);
-    if (init && chunk->type == DCSCTP_INIT && header->verification_tag == 0 && chunk->next == packet.size()
+    if (init && chunk->type == DCSCTP_CHUNK_INIT && header->verification_tag == 0 && chunk->next == packet.size()
         && init->initiate_tag != 0) {
         peer_tag = init->initiate_tag;
         return Writer(reply, source, destination, peer_tag).init_ack(own, {cookie, sizeof cookie}).seal();

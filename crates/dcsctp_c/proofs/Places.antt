@@ -5,7 +5,7 @@ use Rattle.dcsctp_chunk.specs.Data as data_kind
 use Rattle.dcsctp_chunk.specs.DataChunk as data_chunk
 use Rattle.dcsctp_chunk.specs.IDataChunk as idata_chunk
 use Rattle.dcsctp_wire.specs.Chunk.{ChunkTree, chunks}
-use Rattle.dcsctp_borrowed.{specs.UserData.{read_user_data, data_of}, proofs.DataRows.{reads_alike}, proofs.Fronts.{front_means, means_none}}
+use Rattle.dcsctp_borrowed.{specs.UserData.{read_user_data}, proofs.Fronts.{front_means, means_none}}
 use Rattle.dcsctp_c.specs.{Part.{part, Reads, value_at, ChunkMeans, IsChunkAt, data_at, data_view, HoldsData}, declared.structs.DcsctpChunk.{DcsctpChunk}, declared.structs.DcsctpData.{DcsctpData}}
 
 -- ---- a chunk

@@ -12,19 +12,19 @@ use dcsctp_wire::packet::sctp_packet::PacketParseError;
 pub const OK: u32 = 0;
 
 /// Fewer than 16 bytes, or more than 65,535.
-pub const SIZE: u32 = 1;
+pub const FAULT_SIZE: u32 = 1;
 
 /// The policy does not accept the checksum field.
-pub const CHECKSUM: u32 = 2;
+pub const FAULT_CHECKSUM: u32 = 2;
 
 /// A chunk, a parameter or an error cause has a wrong length.
-pub const LENGTH: u32 = 3;
+pub const FAULT_LENGTH: u32 = 3;
 
 /// A RE-CONFIG response has an unknown result.
-pub const VALUE: u32 = 4;
+pub const FAULT_VALUE: u32 = 4;
 
 /// Padding is missing or not zero.
-pub const PADDING: u32 = 5;
+pub const FAULT_PADDING: u32 = 5;
 
 /// An allocation failed.
 pub const NO_MEMORY: u32 = 6;
@@ -41,11 +41,11 @@ pub fn code_of(error: PacketParseError) -> u32
     ensures memory { error ≡ FailedParseChunk OutOfMemory → result ≡ no_memory_code }
 {
     match error {
-        PacketParseError::InvalidPacketSize => SIZE,
-        PacketParseError::InvalidChecksum => CHECKSUM,
-        PacketParseError::FailedParseChunk(ChunkParseError::InvalidLength) => LENGTH,
-        PacketParseError::FailedParseChunk(ChunkParseError::InvalidValue) => VALUE,
-        PacketParseError::FailedParseChunk(ChunkParseError::InvalidPadding) => PADDING,
+        PacketParseError::InvalidPacketSize => FAULT_SIZE,
+        PacketParseError::InvalidChecksum => FAULT_CHECKSUM,
+        PacketParseError::FailedParseChunk(ChunkParseError::InvalidLength) => FAULT_LENGTH,
+        PacketParseError::FailedParseChunk(ChunkParseError::InvalidValue) => FAULT_VALUE,
+        PacketParseError::FailedParseChunk(ChunkParseError::InvalidPadding) => FAULT_PADDING,
         _ => NO_MEMORY,
     }
 }

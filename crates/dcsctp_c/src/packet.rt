@@ -1,14 +1,15 @@
 //! Whole packets: checked, located, canonical, printed.
 
-ghost use Rattle.std.specs.Prelude.{◌≡◌, ◌≤◌, ◌<◌, ◌∷◌, ◌↔◌, ℕ, List, Err, length, take, drop};
+ghost use Rattle.std.specs.Prelude.{◌≡◌, ◌≢◌, ◌≤◌, ◌<◌, ◌∷◌, ◌↔◌, ℕ, List, Ok, Err, length, take, drop};
 ghost use Rattle.dcsctp_crc32c.specs.Checksum.{packet_word};
-ghost use Rattle.dcsctp_wire.specs.{Canonical.{canonical, Fits}, Packet.{PacketFault, Placed, IsPacket, packet_view}};
-ghost use Rattle.dcsctp_c.specs.{Code.{policy_of, IsAnswerCode}, Output.{IsCanonical, IsText, Writes, WritesPacket}};
+ghost use Rattle.dcsctp_wire.specs.{Canonical.{canonical, Fits, IsCanonicalOf}, Packet.{PacketTree, PacketFault, Placed, Answer, IsPacket, packet_view}};
+ghost use Rattle.dcsctp_c.specs.{Code.{policy_of, no_memory_code, IsAnswerCode}, Output.{IsCanonical, IsText, Writes, WritesPacket}};
 
 use crate::codes::{NO_MEMORY, NO_ROOM, OK, TOO_LONG, code_of};
 use crate::structs::DcsctpPolicy;
 use dcsctp_crc32c::packet_word;
 use dcsctp_wire::api::ZeroChecksumAlternateErrorDetectionMethod;
+use dcsctp_wire::laws::has_widths;
 use dcsctp_wire::packet::sctp_packet::{ChecksumPolicy, SctpPacket};
 use std::alloc::Global;
 
@@ -64,7 +65,7 @@ pub extern "C" fn dcsctp_first_fault(
 }
 
 /// Writes the canonical packet to the front of `output`, and its size in bytes to `size`. Two
-/// packets have the same one exactly where they mean the same.
+/// packets have the same one if and only if they mean the same.
 ///
 /// Returns 0, or the code of the first fault; `NO_MEMORY` where an allocation failed; `NO_ROOM`
 /// where `output` is too small; `TOO_LONG` where the canonical packet would have more than 65,532
@@ -79,19 +80,26 @@ pub extern "C" fn dcsctp_canonical(
     output: &mut [u8],
     size: &mut usize,
 ) -> u32
-    ensures { WritesPacket IsCanonical bytes.now word (policy_of policy.now)
+    ensures written { WritesPacket IsCanonical bytes.now word (policy_of policy.now)
         (record { bytes = output.old; size = size.old })
         (record { bytes = output.new; size = size.new }) result }
+    ensures one { result ≡ 0 → (p : PacketTree)
+        → Answer bytes.now word (policy_of policy.now) (Ok p)
+        → IsCanonicalOf p.meaning (take size.new output.new) }
 {
     match SctpPacket::from_bytes(alloc, bytes, word, &checksum_policy(policy)) {
-        Ok(packet) => write_canonical(&packet, output, size),
+        Ok(packet) => {
+            has_widths(&packet);
+            write_canonical(&packet, output, size)
+        }
         Err(error) => code_of(error),
     }
 }
 
-/// Writes the canonical packet, where it fits and has room.
+/// Writes the canonical packet, where it fits and has room. Does not allocate.
 fn write_canonical(packet: &SctpPacket, output: &mut [u8], size: &mut usize) -> u32
-    ensures { Writes (IsCanonical (packet_view packet.now))
+    ensures memory { result ≢ no_memory_code }
+    ensures writes { Writes (IsCanonical (packet_view packet.now))
         (record { bytes = output.old; size = size.old })
         (record { bytes = output.new; size = size.new }) result }
 {
@@ -143,9 +151,10 @@ fn print(alloc: Global, packet: &SctpPacket, output: &mut [u8], size: &mut usize
     }
 }
 
-/// Writes a text, where it has room.
+/// Writes a text, where it has room. Does not allocate.
 fn write_text(text: &[u8], output: &mut [u8], size: &mut usize) -> u32
-    ensures { Writes (λ form. form ≡ text.now)
+    ensures memory { result ≢ no_memory_code }
+    ensures writes { Writes (λ form. form ≡ text.now)
         (record { bytes = output.old; size = size.old })
         (record { bytes = output.new; size = size.new }) result }
 {

@@ -7,4 +7,4 @@ pub returns-in-Ok : goal.returns-in-Ok
 returns-in-Ok c =
     let h : IsText (packet_view c.args.packet.now) c.as_bytes.result.now = search rules in
     one_form (IsText (packet_view c.args.packet.now)) c.as_bytes.result.now _ _ _ h
-    c.write_text.ensures
+    c.write_text.ensures.writes
