@@ -1,3 +1,4 @@
 pub mod Sealed
 pub mod Payload
 pub mod Reply
+pub mod Normal

@@ -1,8 +1,9 @@
 //! A packet with an acknowledgment and a message.
 
-ghost use Rattle.std.specs.Prelude.{ℕ, ◌≡◌, ◌∷◌, [], true, Ok, IfOk, IfSome};
-ghost use Rattle.dcsctp_wire.specs.Caller.{Holds, Answer, IsAccepted, checksum_field, chunk_view, sack_view, data_view, kept_data};
+ghost use Rattle.std.specs.Prelude.{ℕ, ◌≡◌, ◌↔◌, ◌∷◌, [], true, Ok, IsTrue, IsSome, IfOk, IfSome};
+ghost use Rattle.dcsctp_wire.specs.Caller.{Holds, Answer, IsAccepted, checksum_field, meaning_with, chunk_view, sack_view, data_view, kept_data};
 ghost use Rattle.dcsctp_wire.specs.Chunk as tree;
+ghost use Rattle.dcsctp_uses.specs.Reply.{HasRoom};
 
 use dcsctp_wire::packet::chunk::Chunk;
 use dcsctp_wire::packet::data_chunk::DataChunk;
@@ -10,8 +11,8 @@ use dcsctp_wire::packet::sack_chunk::SackChunk;
 use dcsctp_wire::packet::sctp_packet::{ChecksumPolicy, CommonHeader, SctpPacketBuilder};
 use std::alloc::{AllocError, Global};
 
-/// A packet of a SACK and DATA, from the receiver of a packet back to its sender. Nothing where the
-/// two have no room within the limit.
+/// A packet of a SACK and DATA, from the receiver of a packet back to its sender. Nothing exactly
+/// where the two have no room within the limit, or one of them can't be written.
 ///
 /// `word` is written into the checksum field. A sender computes it over `as_bytes` of the builder
 /// (`checksum_word`).
@@ -37,6 +38,12 @@ pub fn acknowledgment_with_data(
           };
           checksum = checksum_field bytes.items;
         })))) }
+    ensures room { IfOk result (λ made. IsSome made ↔ HasRoom limit (record {
+      source = header.now.destination_port;
+      destination = header.now.source_port;
+      tag = header.now.verification_tag;
+      chunks = tree.Sack (sack_view sack) ∷ tree.Data (data_view message) ∷ [];
+    })) }
 {
     let (source, destination) = (header.destination_port, header.source_port);
     let tag = header.verification_tag;
@@ -47,7 +54,7 @@ pub fn acknowledgment_with_data(
     Ok(Some(builder.build(word)))
 }
 
-/// Adds two chunks; the answer is false where one of them has no room.
+/// Adds two chunks; the answer is false where they have no room.
 fn add_both(
     builder: &mut SctpPacketBuilder,
     first: &Chunk,
@@ -55,6 +62,9 @@ fn add_both(
 ) -> Result<bool, AllocError>
     ensures holds { IfOk result (λ added. added ≡ true → Holds builder.old []
         → Holds builder.new (chunk_view first.now ∷ chunk_view second.now ∷ [])) }
+    ensures room { IfOk result (λ added. Holds builder.old [] → (IsTrue added
+        ↔ HasRoom builder.old.limit (meaning_with builder.old
+        (chunk_view first.now ∷ chunk_view second.now ∷ [])))) }
     ensures settings { builder.new ≡ record builder.old {
       bytes = builder.new.bytes;
       reserved = builder.new.reserved;

@@ -9,6 +9,7 @@ pub mod checksum;
 pub mod filter;
 pub mod handshake;
 pub mod in_place;
+pub mod normal;
 pub mod payload;
 pub mod print;
 pub mod replay;

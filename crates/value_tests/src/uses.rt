@@ -1,6 +1,8 @@
 //! The programs of `dcsctp_uses` that take memory, once each. Packets are laid out by hand after RFC 9260,
 //! or of the association; checksums are as another program computes them.
 
+ghost use Rattle.std.specs.Prelude.{◌≤◌, length};
+
 use crate::association::{PACKETS, REFUSED};
 use crate::help::{chunk_of, raw_of};
 use dcsctp_crc32c::packet_word;
@@ -8,6 +10,7 @@ use dcsctp_uses::acknowledge::acknowledgment_with_data;
 use dcsctp_uses::answer::answer;
 use dcsctp_uses::handshake::init_answer;
 use dcsctp_uses::in_place::owned_chunks;
+use dcsctp_uses::normal::normalized;
 use dcsctp_uses::print::packet_to_text;
 use dcsctp_uses::replay::fingerprint;
 use dcsctp_uses::sealed::{read_verified, seal};
@@ -69,6 +72,13 @@ fn has_key(alloc: Global, bytes: &[u8], wanted: &[u8]) -> Result<bool, PacketPar
     Ok(are(key, wanted))
 }
 
+fn normalizes(alloc: Global, bytes: &[u8], wanted: &[u8]) -> Result<bool, PacketParseError>
+    requires { length bytes.now ≤ 65532 }
+{
+    let made = normalized(alloc, bytes, 0, &ChecksumPolicy::default())?;
+    Ok(are(made, wanted))
+}
+
 #[test]
 fn of_made_packets(rt: HostRuntime) -> Result<(), Fail> {
     let alloc = rt.alloc();
@@ -84,7 +94,10 @@ fn of_made_packets(rt: HostRuntime) -> Result<(), Fail> {
     // COOKIE ACK with a flag bit that isn't read, and so isn't in the key
     let packet = b"\0\x01\0\x02\0\0\0\x07\0\0\0\0\x0b\x80\0\x04";
     let key = b"\0\x01\0\x02\0\0\0\x07\0\0\0\0\x0b\0\0\x04";
-    assert!(rt; has_key(alloc, packet, key)?);
+    assert!(rt; has_key(alloc, packet, key)? && normalizes(alloc, packet, key)?);
+    // ABORT, whose causes are left alone
+    let packet = b"\0\x01\0\x02\0\0\0\x07\0\0\0\0\x06\0\0\x04";
+    assert!(rt; normalizes(alloc, packet, &[])?);
     Ok(())
 }
 

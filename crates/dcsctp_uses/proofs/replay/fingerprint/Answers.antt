@@ -1,6 +1,6 @@
-use Rattle.dcsctp_wire.specs.Canonical.{canonical, Fits}
+use Rattle.dcsctp_wire.specs.Canonical.{IsCanonicalOf, Fits}
 use Rattle.dcsctp_wire.specs.Packet.{PacketTree, meaning_view, packet_view}
-use Rattle.std.proofs.Common.{◌≡◌, ◌∙◌, true, ap, subst, sym}
+use Rattle.std.proofs.Common.{◌≡◌, true, subst, sym}
 use Rattle.dcsctp_uses.proofs.replay.fingerprint.Goals as goal
 
 pub returns-then-not-fits-clause-nothing : goal.returns-then-not-fits-clause-nothing
@@ -11,7 +11,8 @@ returns-then-not-fits-clause-nothing c p ans fits =
     let yes : c.fits.result ≡ true = c.fits.ensures.1 held in
     cc
 
-pub returns-clause-key : goal.returns-clause-key
-returns-clause-key c p ans =
-    c.in_ok-canonical_bytes.ensures.bytes
-    ∙ ap (λ (p : PacketTree). canonical p.meaning) (c.in_ok-packet.ensures.answer.value p ans)
+pub returns-clause-one : goal.returns-clause-one
+returns-clause-one c p ans =
+    subst (λ (q : PacketTree). IsCanonicalOf q.meaning c.in_ok-canonical_bytes.field-0.items)
+    (c.in_ok-packet.ensures.answer.value p ans)
+    (c.in_ok-canonical_bytes.ensures.one c.in_ok-packet.ensures.formed)
