@@ -1,6 +1,6 @@
 //! Bytes that a text says in hexadecimal digits.
 
-ghost use Rattle.std.specs.Prelude.{◌≡◌, ◌<◌, ◌++◌, ℕ, List, [], ◌∷◌, IsTrue, MatchOption, IsSome, OnOk, OnErr, is_some, not, position};
+ghost use Rattle.std.specs.Prelude.{◌≡◌, ◌<◌, ◌≤◌, ◌+◌, ◌++◌, ℕ, List, [], ◌∷◌, length, vec_len, vec_capacity, IsTrue, MatchOption, IsSome, IsOk, OnOk, OnErr, is_some, not, position};
 ghost use Rattle.std.specs.Iterator.{YieldsFirst, item_count};
 ghost use Rattle.std.specs.Char.{is_ascii_hexdigit, digit_value};
 ghost use Rattle.sctp_capture.specs.HexBytes.{is_blank, without_blanks_before, begins_with_byte, hex_bytes, bytes_said};
@@ -38,10 +38,13 @@ impl<'a> HexBytes<'a> {
         }
     }
 
-    /// Appends the bytes that are left. If an allocation fails, `output` has its old items.
+    /// Appends the bytes that are left. If an allocation fails, `output` has its old items. None is
+    /// needed where `output` has room for them.
     pub fn append_to(self, output: &mut Vec<u8>) -> Result<(), AllocError>
         ensures ok { OnOk result (output.new.items ≡ output.old.items ++ self.entry) }
         ensures err { OnErr result (output.new.items ≡ output.old.items) }
+        ensures succeeds { vec_len output.old + length self.entry ≤ vec_capacity output.old
+            → IsOk result }
     {
         let held = output.len();
         for byte in self {

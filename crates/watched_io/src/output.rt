@@ -1,6 +1,6 @@
 //! A writer with the text that is written to it later, many lines at once.
 
-ghost use Rattle.std.specs.Prelude.{◌≡◌, ◌||◌, [], true, is_err, OnOk, OnErr};
+ghost use Rattle.std.specs.Prelude.{◌≡◌, ◌≤◌, ◌<◌, ◌||◌, [], true, length, is_err, IsOk, OnOk, OnErr};
 ghost use Rattle.std.specs.Io.KnownBytes.{Appends, Keeps};
 ghost use Rattle.watched_io.specs.Transfer.{AppendsBeginning};
 ghost use Rattle.watched_io.specs.Watched.{device_of, has_failed, is_flushed};
@@ -44,6 +44,7 @@ impl<W: Write> Output<W> {
         ensures whole { OnOk result (Appends (W.contents (device_of (writer_of self.old)))
             (W.contents (device_of (writer_of self.new))) (pending self.old)) }
         ensures empty { OnOk result (pending self.new ≡ []) }
+        ensures none { pending self.old ≡ [] → IsOk result }
         ensures kept { OnOk result (Keeps (total W.contents self.old) (total W.contents self.new)) }
         ensures cut { OnErr result (AppendsBeginning (W.contents (device_of (writer_of self.old)))
             (W.contents (device_of (writer_of self.new))) (pending self.old)) }
@@ -61,6 +62,8 @@ impl<W: Write> Output<W> {
 
     /// Writes the text if it has at least `least` bytes. Nothing changes if it is shorter.
     pub fn write_from(&mut self, least: usize) -> io::Result<()>
+        ensures short { length (pending self.old) < least → IsOk result × (self.new ≡ self.old) }
+        ensures long { OnOk result (least ≤ length (pending self.old) → pending self.new ≡ []) }
         ensures kept { OnOk result (Keeps (total W.contents self.old) (total W.contents self.new)) }
         ensures cut { OnErr result (AppendsBeginning (W.contents (device_of (writer_of self.old)))
             (W.contents (device_of (writer_of self.new))) (pending self.old)) }

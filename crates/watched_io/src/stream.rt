@@ -1,6 +1,6 @@
 //! Reads an input piece by piece, where what is written about it must not wait for it.
 
-ghost use Rattle.std.specs.Prelude.{◌≡◌, ◌+◌, ◌≤◌, ◌<◌, ◌↔◌, true, false, length, IfOk, IfSome, OnOk, IsErrOf};
+ghost use Rattle.std.specs.Prelude.{◌≡◌, ◌+◌, ◌≤◌, ◌<◌, ◌↔◌, [], true, false, drop, length, Ok, IfOk, IfSome, OnOk, IsErrOf};
 ghost use Rattle.std.specs.Io.KnownBytes.{Keeps, IsAtEnd};
 ghost use Rattle.watched_io.specs.Transfer.{AppendsBeginning, DropsBytes};
 ghost use Rattle.watched_io.specs.Watched.{device_of, has_failed};
@@ -39,7 +39,14 @@ pub fn read_more<R: Read, W: Write>(
     ensures stream { Keeps (left window.old (R.remaining (device_of input.old)))
         (left window.new (R.remaining (device_of input.new))) }
 
-    // Nor is any text, unless a write fails: then the writer has a beginning of it.
+    // All text is written before the read, which doesn't come where a write fails.
+    ensures written { OnOk result (pending output.new ≡ []) }
+    ensures written_unread { IsErrOf result Read → pending output.new ≡ [] }
+    ensures unwritten { IsErrOf result Write
+        → (window.new ≡ window.old) × (input.new ≡ input.old) }
+    ensures none { pending output.old ≡ [] → ¬ IsErrOf result Write }
+
+    // No text is lost, unless a write fails: then the writer has a beginning of it.
     ensures text { OnOk result (Keeps (total W.contents output.old) (total W.contents output.new)) }
     ensures unread { IsErrOf result Read
         → Keeps (total W.contents output.old) (total W.contents output.new) }
@@ -63,6 +70,7 @@ pub fn read_more<R: Read, W: Write>(
 }
 
 /// Reads until the window has `count` bytes, or the input is at its end; returns whether it has.
+/// Nothing changes if it has them already; else all text is written before the first read.
 pub fn need<R: Read, W: Write>(
     window: &mut Window,
     input: &mut Watched<R>,
@@ -70,6 +78,12 @@ pub fn need<R: Read, W: Write>(
     count: usize,
 ) -> Result<bool, StreamError>
     requires { count ≤ MOST_KEPT + 16 }
+    ensures held { count ≤ length (held window.old) → (result ≡ Ok true)
+        × (window.new ≡ window.old) × (input.new ≡ input.old) × (output.new ≡ output.old) }
+    ensures written { OnOk result
+        (length (held window.old) < count → pending output.new ≡ []) }
+    ensures unwritten { IsErrOf result Write
+        → (window.new ≡ window.old) × (input.new ≡ input.old) }
     ensures enough { IfOk result (λ b. b ≡ true → count ≤ length (held window.new)) }
     ensures end { IfOk result (λ b. b ≡ false
         → (length (held window.new) < count) × IsAtEnd (R.remaining (device_of input.new))) }
@@ -96,13 +110,19 @@ pub fn need<R: Read, W: Write>(
 }
 
 /// Drops the next `count` bytes of the input, however many they are, and returns whether it had as
-/// many.
+/// many. Reads nothing if the window has them; else all text is written before the first read.
 pub fn skip<R: Read, W: Write>(
     window: &mut Window,
     input: &mut Watched<R>,
     output: &mut Output<W>,
     count: usize,
 ) -> Result<bool, StreamError>
+    ensures held { count ≤ length (held window.old) → (result ≡ Ok true)
+        × (held window.new ≡ drop count (held window.old))
+        × (input.new ≡ input.old) × (output.new ≡ output.old) }
+    ensures written { OnOk result
+        (length (held window.old) < count → pending output.new ≡ []) }
+    ensures unwritten { IsErrOf result Write → input.new ≡ input.old }
     ensures skipped { IfOk result (λ b. b ≡ true
         → DropsBytes count (left window.old (R.remaining (device_of input.old)))
         (left window.new (R.remaining (device_of input.new)))) }

@@ -1,5 +1,5 @@
 //! Moves bytes between memory and a device, up to the device's first failure.
-ghost use Rattle.std.specs.Prelude.{◌≡◌, ◌||◌, ◌<◌, ◌≤◌, is_err, take, length, IfOk, OnOk, OnErr};
+ghost use Rattle.std.specs.Prelude.{◌≡◌, ◌||◌, ◌<◌, ◌≤◌, [], is_err, take, length, IsOk, IfOk, OnOk, OnErr};
 ghost use Rattle.std.specs.Io.KnownBytes.{Appends, Consumes, IsAtEnd};
 ghost use Rattle.watched_io.specs.Watched.{device_of, has_failed};
 ghost use Rattle.watched_io.specs.Transfer.{TakesAtMost, AppendsBeginning};
@@ -33,12 +33,13 @@ pub fn fill<R: Read>(input: &mut Watched<R>, room: &mut [u8]) -> io::Result<usiz
 
 /// Writes all bytes, and doesn't flush. Where the output fails, it took a beginning of them; a
 /// write that takes none is `WriteZero`. A failed write, also an interrupted one, is not tried
-/// again.
+/// again. Of no bytes nothing is written.
 pub fn write_bytes<W: Write>(output: &mut Watched<W>, bytes: &[u8]) -> io::Result<()>
     ensures whole { OnOk result (Appends (W.contents (device_of output.old))
         (W.contents (device_of output.new)) bytes.now) }
     ensures cut { OnErr result (AppendsBeginning (W.contents (device_of output.old))
         (W.contents (device_of output.new)) bytes.now) }
+    ensures none { bytes.now ≡ [] → IsOk result }
     ensures failed { has_failed output.new ≡ (has_failed output.old || is_err result) }
 {
     let mut written = 0;

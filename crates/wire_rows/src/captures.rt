@@ -40,7 +40,12 @@ fn write_found(bytes: &[u8], out: &mut String) -> Result<(), AllocError> {
 
 /// Writes the answer, if the call is one of this module; the offset of a line and how many bytes
 /// are held have four bytes each.
-pub fn write_answer(call: &str, bytes: &[u8], out: &mut String) -> Result<bool, AllocError> {
+pub fn write_answer(
+    alloc: Global,
+    call: &str,
+    bytes: &[u8],
+    out: &mut String,
+) -> Result<bool, AllocError> {
     match call {
         "input-kind" => write_debug(&input_kind(bytes), out)?,
         "file-header" => write_file_header(bytes, out)?,
@@ -51,6 +56,7 @@ pub fn write_answer(call: &str, bytes: &[u8], out: &mut String) -> Result<bool, 
             &place_of(word_at(bytes, 0), word_at(bytes, 4) as usize),
             out,
         )?,
+        "line-of" => write_size(alloc, bytes, out)?,
         _ => return Ok(false),
     }
     Ok(true)
@@ -107,4 +113,20 @@ pub fn write_line(alloc: Global, text: &str, out: &mut String) -> Result<(), All
         }
         other => write!(out, "{other:?}"),
     }
+}
+
+/// How many bytes a line of the digits of these bytes says, and whether they are others.
+fn write_size(alloc: Global, bytes: &[u8], out: &mut String) -> Result<(), AllocError> {
+    let digits = hex::encode(alloc, bytes)?;
+    let Line::Packet(packet) = read_line(digits.as_bytes()) else {
+        return out.push_str("none");
+    };
+    let mut said = Vec::new(alloc);
+    packet.append_to(&mut said)?;
+    let size = said.len();
+    write!(out, "{size} bytes")?;
+    if said.as_slice() != bytes {
+        out.push_str(", others")?;
+    }
+    Ok(())
 }

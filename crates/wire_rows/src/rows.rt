@@ -28,7 +28,7 @@ fn write_answer(
         || report::write_answer(alloc, call, bytes, out)?
         || hostile::write_answer(alloc, call, (bytes, other), out)?
         || buffers::write_answer(alloc, call, bytes, out)?
-        || captures::write_answer(call, bytes, out)?
+        || captures::write_answer(alloc, call, bytes, out)?
         || checksums::write_answer(call, (bytes, other), out)?;
     if is_known {
         Ok(())

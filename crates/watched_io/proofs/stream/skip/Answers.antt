@@ -23,6 +23,7 @@ loop-ahead-preserved g c =
       search rules,
       search rules,
       search rules,
+      grind (arith, common_steps),
     )
 
 pub returns-clause-skipped : goal.returns-clause-skipped

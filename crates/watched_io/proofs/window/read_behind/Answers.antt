@@ -1,4 +1,4 @@
-use Rattle.std.proofs.Common.{◌-◌, length, take, rules, arith, sym, length-take-le}
+use Rattle.std.proofs.Common.{◌-◌, length, take, arith, sym, length-take-le}
 use Rattle.watched_io.proofs.Devices.{take-put_mid_more}
 use Rattle.watched_io.proofs.window.read_behind.Goals as goal
 
