@@ -5,14 +5,15 @@ set -u
 usage='usage: ./test.sh [--quick]
 
 Runs the gate: the files that have to agree are compared; `rt ci` proves everything, and runs each program and test; each
-request for memory of what it built is refused; and the library that it proved is tried from C. The last line is that of
-`rt ci`.
+request for memory of what it built is refused; sctp_dump is run with each option; and the library that it proved is tried
+from C. The last line is that of `rt ci`.
 
   --quick  for who has changed a line: what runs without a proof, within three minutes on four processors. That is the
            comparisons, and each program over its stored input by `rt try`; of wire_rows all rows but those whose packets
            are very large, or changed byte by byte. The toolchain keeps no unproved program, and makes no unproved library
-           for C. So requests are refused, and C is tried, only where what was proved and built is as new as the sources.
-           The last line says what passed, failed and was left out, and that nothing was proved
+           for C. So requests are refused, sctp_dump is run with its options, and C is tried, only where what was proved
+           and built is as new as the sources. The last line says what passed, failed and was left out, and that nothing
+           was proved
   --help   prints this'
 
 quick=
@@ -37,20 +38,6 @@ answers_rows_alone() {
     sed '/^ /d; /^#/!s/ = .*//' crates/wire_rows/stdin | crates/wire_rows/out/wire_rows | cmp - crates/wire_rows/stdout
 }
 
-# Whether sctp_dump ends with these words on standard error, and with status 2.
-fails_with() {
-    local wanted=$1 said
-    shift
-    said=$(crates/sctp_dump/out/sctp_dump "$@" 2>&1 >"${output:-/dev/null}" <<<1388138801020304000000000b000004)
-    [ $? -eq 2 ] && [ "$said" = "sctp_dump: $wanted" ] || { echo "sctp_dump $*: $said" && return 1; }
-}
-
-# What no stored run shows: its devices don't fail.
-reports_failures() {
-    fails_with "no-such-file: can't be opened" no-such-file && fails_with 'unknown option (try --help)' --nonsense &&
-        output=/dev/full fails_with 'a write failed'
-}
-
 run_gate() {
     local gate
     compare || exit 1
@@ -58,7 +45,7 @@ run_gate() {
     rt ci | awk -v last="$work/last" 'NR > 1 { print line; fflush() } { line = $0 } END { print line > last }'
     gate=${PIPESTATUS[0]}
     if [ "$gate" -eq 0 ]; then
-        refusals/test.sh && answers_rows_alone && reports_failures || exit 1
+        refusals/test.sh && answers_rows_alone && dump/test.sh || exit 1
         c/take_libraries.py
         c/test.sh || exit 1
     fi
@@ -144,6 +131,7 @@ run_quickly() {
     else
         leave_out 'refused requests'
     fi
+    if are_built crates/sctp_dump/out/sctp_dump; then step 'runs of sctp_dump' dump/test.sh; else leave_out 'runs of sctp_dump'; fi
     if are_built crates/dcsctp_c/out/libdcsctp_c.a; then step C c/test.sh 100000; else leave_out C; fi
     printf 'quick: %s passed, %s failed, %s left out; nothing was proved\n' "$passed" "$failed" "$left_out"
     [ "$failed" -eq 0 ]

@@ -368,35 +368,52 @@ def by_hand(text):
     return Line(text.replace('{', '{{').replace('}', '}}'), (), HAND)
 
 
+def refused(said, fault, offset, row):
+    """The lines of bytes that are refused: how they were seen, the fault and its place."""
+    return said, f'error: {fault}', f'at byte {offset}', row, (6 + offset % 16 * 3) * ' ' + '^^', ''
+
+
+def skipped(first, last, reason):
+    return tuple((f'line {number} skipped: {reason}',) for number in range(first, last + 1))
+
+
 # A file, and for each of its records or lines what is expected: a packet, or lines by hand. Record 2 carries TCP. In record
 # 8 the chunk at byte 12 says a length of 3, which is less than its header. The last record of sctp.pcap says 2^32 - 1 bytes.
 PACKET, ADDRESSES = object(), object()
 GOLDEN = (
     ('ethernet.pcap', 6, (
         PACKET, (), PACKET, ('record 4 skipped: a fragment',), PACKET, ('record 6 skipped: cut off',), PACKET,
-        (ADDRESSES, 'error: invalid chunk: length', 'at byte 12', '0000: 13 88 13 89 00 00 00 03 27 7f 41 c4 0b 00 00 03',
-         6 * ' ' + 12 * '   ' + '^^', ''),
+        refused(ADDRESSES, 'invalid chunk: length', 12, '0000: 13 88 13 89 00 00 00 03 27 7f 41 c4 0b 00 00 03'),
         ('record 9 skipped: the file ends in it',))),
     ('cooked.pcap', 9, (PACKET,)),
     ('raw.pcap', 6, (PACKET, PACKET)),
     ('sctp.pcap', 9, (PACKET, ('record 2 skipped: more than 262144 bytes',))),
     ('association.txt', 0, (
         *('packet %d' % number for number in range(1, 17)),
-        ('packet 17', 'error: invalid chunk: length', 'at byte 12', '0000: 13 88 13 88 4d 2d f5 2d 52 e5 9e ed 03 00 00 14',
-         6 * ' ' + 12 * '   ' + '^^', ''),
-        ('packet 18', 'error: invalid chunk: length', 'at byte 16', '0010: 00 01 00 2c 99 5c 05 6b d8 40 05 00 00 00 00 00',
-         6 * ' ' + '^^', ''),
-        ('packet 19', 'error: invalid chunk: value', 'at byte 16', '0010: 00 10 00 0c 79 06 b4 b0 00 00 00 07',
-         6 * ' ' + '^^', ''),
-        ('packet 20', 'error: invalid packet size', 'at byte 15', '0000: 13 88 13 88 0d a7 37 98 89 20 01 d0 0e 00 00',
-         6 * ' ' + 15 * '   ' + '^^', ''))),
+        refused('packet 17', 'invalid chunk: length', 12, '0000: 13 88 13 88 4d 2d f5 2d 52 e5 9e ed 03 00 00 14'),
+        refused('packet 18', 'invalid chunk: length', 16, '0010: 00 01 00 2c 99 5c 05 6b d8 40 05 00 00 00 00 00'),
+        refused('packet 19', 'invalid chunk: value', 16, '0010: 00 10 00 0c 79 06 b4 b0 00 00 00 07'),
+        refused('packet 20', 'invalid packet size', 15, '0000: 13 88 13 88 0d a7 37 98 89 20 01 d0 0e 00 00'))),
     ('lines.txt', 0, (
         (), 'packet 1', 'packet 2, time 17:39:54.123, incoming', 'packet 3, time 17:39:54.124, outgoing', 'packet 4',
         ('line 8 skipped: not a packet',), 'packet 5')),
+    ('faults.txt', 0, (
+        refused('packet 1', 'invalid packet size', 1, '0000: 13'),
+        refused('packet 2', 'invalid packet size', 12, '0000: 13 88 13 88 00 00 00 01 00 00 00 00'),
+        refused('packet 3, time 17:39:54.125, incoming', 'invalid packet size', 14,
+                '0000: 13 88 13 88 00 00 00 02 00 00 00 00 0b 00'),
+        refused('packet 4', 'invalid chunk: value', 16, '0010: 00 10 00 0c 00 00 00 01 00 00 00 08'),
+        refused('packet 5', 'invalid chunk: padding', 31, '0010: 00 00 00 07 00 01 00 00 00 00 00 33 68 00 00 01'),
+        refused('packet 6', 'invalid chunk: padding', 29, '0010: 00 00 00 07 00 01 00 00 00 00 00 33 68'),
+        refused('packet 7', 'invalid chunk: padding', 21, '0010: 00 01 00 05 ff 01 00 00'),
+        refused('packet 8', 'invalid chunk: padding', 22, '0010: 00 0c 00 05 41 00 ff 00'),
+        refused('packet 9', 'invalid chunk: padding', 19, '0010: ff 00 00 01'),
+        *skipped(18, 21, 'cut off'), *skipped(23, 28, 'a fragment'), *skipped(33, 40, "a header's length is wrong"),
+        *skipped(53, 58, 'not a packet'), *skipped(59, 60, "its offset doesn't continue a packet"))),
     ('-', 0, ('packet 1',)),
 )
-GOLDEN_COUNTS = ('packets 35: accepted 30, refused 5 (size 1, length 3, padding 0, value 1); skipped 6 (not SCTP 1, '
-                 'fragment 1, cut 2, malformed 0, too long 1, unknown 1)')
+GOLDEN_COUNTS = ('packets 44: accepted 30, refused 14 (size 4, length 3, padding 5, value 2); skipped 41 (not SCTP 10, '
+                 'fragment 7, cut 6, malformed 8, too long 1, unknown 9)')
 
 
 def golden_texts(lines):

@@ -5,6 +5,7 @@ pub mod Headers
 pub mod InputFaults
 pub mod InputRuns
 pub mod Inputs
+pub mod KindLines
 pub mod LineEnds
 pub mod LineFeeds
 pub mod LineRuns

@@ -1,4 +1,4 @@
--- The text of a record: of a packet, of bytes that are refused, or of what is skipped.
+-- The text of a packet, or of bytes that are refused; and what is counted of it.
 use Rattle.std.specs.Prelude.{◌≡◌, ℕ, ◌||◌, ◌-◌, ◌^◌, Bool, true, List, [], ◌++◌, if◌then◌else◌, codes, Ok, Err}
 use Rattle.dcsctp_wire.specs.declared.packet.sctp_packet.ChecksumPolicy.{ChecksumPolicy}
 use Rattle.dcsctp_wire.specs.Packet.{PacketTree, PacketFault, Answer, Placed, packet_error_of}
@@ -8,6 +8,7 @@ use Rattle.sctp_report.specs.Fault.{fault_lines}
 use Rattle.dump_engine.specs.declared.arguments.Options.{Options}
 use Rattle.dump_engine.specs.declared.record.Seen.{Seen}
 use Rattle.dump_engine.specs.Seen.{seen_lines}
+use Rattle.dump_engine.specs.Tally.{Tally, Accepted, Refused}
 
 -- any checksum is accepted, and any padding unless it is looked at
 abbrev pub policy_of : Options → ChecksumPolicy
@@ -38,3 +39,9 @@ pub data Block (o : Options) (seen : Seen) (bytes : List ℕ) (text : List ℕ) 
       → text ≡ unless o.summary
       (seen_lines seen ++ fault_lines bytes (packet_error_of e) offset ++ codes "\n")
       → Block o seen bytes text
+
+-- what is counted of it: the packet that was printed with its chunks, or the fault
+abbrev pub tally_of : {o : Options} {seen : Seen} {bytes text : List ℕ} → Block o seen bytes text
+    → Tally
+tally_of (accepted p read is) = Accepted p.meaning.chunks
+tally_of (refused e offset read is) = Refused (packet_error_of e)

@@ -10,5 +10,6 @@ pub mod Runs
 pub mod Seen
 pub mod Skip
 pub mod Steps
+pub mod Summary
 pub mod Tally
 pub mod Totals

@@ -1,6 +1,8 @@
--- The sums of the counts, and the status of a run.
-use Rattle.std.specs.Prelude.{◌+◌, ◌-◌, ◌^◌, min, ℕ, Bool, true, false, nat_lt, if◌then◌else◌}
+-- The sums of the counts, the failures that end a run, and its status.
+use Rattle.std.specs.Prelude.{◌+◌, ◌-◌, ◌^◌, min, ℕ, Bool, true, false, nat_lt, if◌then◌else◌, Result, Ok, Err}
 use Rattle.dump_engine.specs.declared.counts.Counts.{Counts}
+use Rattle.dump_engine.specs.declared.failure.Failure.{Failure}
+use Rattle.dump_engine.specs.declared.failure.Failure.TheVariants.{OutOfMemory, Write}
 
 -- ---- sums, up to 2^64 - 1
 
@@ -16,7 +18,15 @@ packets c = capped (c.accepted + refused c)
 abbrev pub skipped : Counts → ℕ
 skipped c = capped (c.fragments + c.cut + c.malformed + c.long + c.unknown + c.others)
 
--- ---- the status
+-- ---- the end of a run
+
+-- A failure of the output or of memory ends the run; after another one, which is reported, or after
+-- none the next input is begun. This says whether the input failed.
+abbrev pub after_input : {T : Type 0} → Result T Failure → Result Bool Failure
+after_input (Ok x) = Ok false
+after_input (Err OutOfMemory) = Err OutOfMemory
+after_input (Err Write) = Err Write
+after_input (Err _) = Ok true
 
 -- 2: an input failed; or else 1: a packet was refused
 abbrev pub status : Bool → Counts → ℕ

@@ -6,7 +6,8 @@ ghost use Rattle.sctp_report.specs.Packet.{packet_lines};
 ghost use Rattle.sctp_report.specs.Fault.{fault_lines};
 ghost use Rattle.dump_engine.specs.Seen.{seen_lines};
 ghost use Rattle.dump_engine.specs.Skip.{skipped_text};
-ghost use Rattle.dump_engine.specs.Block.{Block, policy_of, most_shown, unless};
+ghost use Rattle.dump_engine.specs.Block.{Block, tally_of, policy_of, most_shown, unless};
+ghost use Rattle.dump_engine.specs.Tally.{Skip, counted};
 
 use crate::arguments::Options;
 use crate::counts::Counts;
@@ -48,8 +49,9 @@ pub fn push_packet(
     text: &mut String,
     counts: &mut Counts,
 ) -> Result<(), AllocError>
-    ensures { OnOk result ((block : List ℕ) × Block options.now seen.now bytes.now block
-        × (string_bytes text.new ≡ string_bytes text.old ++ block)) }
+    ensures { OnOk result ((added : List ℕ) × (block : Block options.now seen.now bytes.now added)
+        × (string_bytes text.new ≡ string_bytes text.old ++ added)
+        × (counts.new ≡ counted counts.old (tally_of block))) }
 {
     let word = packet_word(bytes);
     let policy = options.policy();
@@ -122,8 +124,9 @@ pub fn push_skipped(
     text: &mut String,
     counts: &mut Counts,
 ) -> Result<(), AllocError>
-    ensures { OnOk result (string_bytes text.new ≡ string_bytes text.old
+    ensures text { OnOk result (string_bytes text.new ≡ string_bytes text.old
         ++ skipped_text options.now part number why) }
+    ensures counts { OnOk result (counts.new ≡ counted counts.old (Skip why)) }
 {
     if !(options.summary || options.faults || why.is_other()) {
         let line = SkippedLine { part, number, why };

@@ -1,12 +1,14 @@
 //! How many packets there were.
 
-ghost use Rattle.std.specs.Prelude.{◌≡◌, None};
+ghost use Rattle.std.specs.Prelude.{◌≡◌, ◌++◌, None, Some, OnOk, MatchOption, string_bytes};
+ghost use Rattle.std.specs.Fmt.{WritesOnOk};
 ghost use Rattle.dcsctp_tlv.specs.Frame.{lenient};
 ghost use Rattle.dcsctp_tlv.specs.Table.{IsUnnamed};
 ghost use Rattle.dcsctp_wire.specs.Chunk.{table, view, views};
 ghost use Rattle.dump_engine.specs.Counts.{one_more};
 ghost use Rattle.dump_engine.specs.Tally.{Accepted, Refused, Skip, nothing, with_kind, counted};
 ghost use Rattle.dump_engine.specs.Totals.{packets, refused, skipped};
+ghost use Rattle.dump_engine.specs.Summary.{kind_name, chunks_line, kinds_lines, packets_text, faults_text, skipped_text, broken_text, counts_text};
 
 use crate::arguments::Options;
 use crate::skipped::Skipped;
@@ -138,7 +140,10 @@ impl Counts {
     }
 
     /// Adds a line for each kind of chunk that there was, and one for all of other types.
-    fn push_kinds(&self, text: &mut String) -> Result<(), AllocError> {
+    fn push_kinds(&self, text: &mut String) -> Result<(), AllocError>
+        ensures { OnOk result (string_bytes text.new
+            ≡ string_bytes text.old ++ kinds_lines self.now.kinds) }
+    {
         let mut unknown: u64 = 0;
         for (typ, count) in self.kinds.iter().enumerate() {
             match kind_name(typ) {
@@ -151,7 +156,10 @@ impl Counts {
 }
 
 /// Adds a line for the kind, if there was a chunk of it.
-fn push_kind(name: &str, count: u64, text: &mut String) -> Result<(), AllocError> {
+fn push_kind(name: &str, count: u64, text: &mut String) -> Result<(), AllocError>
+    ensures { OnOk result (string_bytes text.new
+        ≡ string_bytes text.old ++ chunks_line name.now count) }
+{
     if count > 0 {
         writeln!(text, "{name}: {count}")?;
     }
@@ -159,11 +167,10 @@ fn push_kind(name: &str, count: u64, text: &mut String) -> Result<(), AllocError
 }
 
 /// Adds the last line, and before it a line for each kind of chunk where counts alone are printed.
-pub fn push_counts(
-    options: &Options,
-    counts: &Counts,
-    text: &mut String,
-) -> Result<(), AllocError> {
+pub fn push_counts(options: &Options, counts: &Counts, text: &mut String) -> Result<(), AllocError>
+    ensures { OnOk result (string_bytes text.new
+        ≡ string_bytes text.old ++ counts_text options.now counts.now) }
+{
     if options.summary {
         counts.push_kinds(text)?;
     }
@@ -171,21 +178,61 @@ pub fn push_counts(
 }
 
 impl fmt::Display for Counts {
+    ghost output = { λ c.
+        Some (packets_text c ++ faults_text c ++ skipped_text c ++ broken_text c) };
+
     fn fmt<W: fmt::Write>(&self, f: &mut fmt::Formatter<W>) -> fmt::Result {
-        let (packets, accepted, refused) = (self.packets(), self.accepted, self.refused());
-        let (size, length, padding, value) = (self.size, self.length, self.padding, self.value);
-        write!(
-            f,
-            "packets {packets}: accepted {accepted}, refused {refused} (size {size}, length {length}, padding {padding}, value {value})"
-        )?;
-        let skipped = self.skipped();
-        let (others, fragments, cut) = (self.others, self.fragments, self.cut);
-        let (malformed, long, unknown) = (self.malformed, self.long, self.unknown);
-        write!(
-            f,
-            "; skipped {skipped} (not SCTP {others}, fragment {fragments}, cut {cut}, malformed {malformed}, too long {long}, unknown {unknown})"
-        )
+        write_packets(self, f)?;
+        write_faults(self, f)?;
+        write_skipped(self, f)?;
+        write_broken(self, f)
     }
+}
+
+/// Writes how many packets there were, and how many were accepted and refused.
+fn write_packets<W: fmt::Write>(counts: &Counts, f: &mut fmt::Formatter<W>) -> fmt::Result
+    ensures { WritesOnOk W.write_str_gives f.old result (packets_text counts.now) f.new }
+{
+    let (packets, accepted, refused) = (counts.packets(), counts.accepted, counts.refused());
+    write!(
+        f,
+        "packets {packets}: accepted {accepted}, refused {refused}"
+    )
+}
+
+/// Writes how many were refused for each fault.
+fn write_faults<W: fmt::Write>(counts: &Counts, f: &mut fmt::Formatter<W>) -> fmt::Result
+    ensures { WritesOnOk W.write_str_gives f.old result (faults_text counts.now) f.new }
+{
+    let (size, length) = (counts.size, counts.length);
+    let (padding, value) = (counts.padding, counts.value);
+    write!(
+        f,
+        " (size {size}, length {length}, padding {padding}, value {value})"
+    )
+}
+
+/// Writes how many records and lines were skipped, and the first of the reasons.
+fn write_skipped<W: fmt::Write>(counts: &Counts, f: &mut fmt::Formatter<W>) -> fmt::Result
+    ensures { WritesOnOk W.write_str_gives f.old result (skipped_text counts.now) f.new }
+{
+    let (skipped, others, fragments) = (counts.skipped(), counts.others, counts.fragments);
+    write!(
+        f,
+        "; skipped {skipped} (not SCTP {others}, fragment {fragments}"
+    )
+}
+
+/// Writes how many were skipped for the other reasons.
+fn write_broken<W: fmt::Write>(counts: &Counts, f: &mut fmt::Formatter<W>) -> fmt::Result
+    ensures { WritesOnOk W.write_str_gives f.old result (broken_text counts.now) f.new }
+{
+    let (cut, malformed) = (counts.cut, counts.malformed);
+    let (long, unknown) = (counts.long, counts.unknown);
+    write!(
+        f,
+        ", cut {cut}, malformed {malformed}, too long {long}, unknown {unknown})"
+    )
 }
 
 /// Adds one, up to 2^64 - 1.
@@ -197,6 +244,8 @@ fn increase(count: &mut u64)
 
 /// The name of the kind of chunk that has this type; nothing for a type that no kind has.
 fn kind_name(typ: usize) -> Option<&'static str>
+    ensures name { MatchOption result (kind_name typ ≡ None)
+        (λ name. kind_name typ ≡ Some name.now) }
     ensures unnamed { result ≡ None → IsUnnamed (table lenient 0) typ }
     ensures named { IsUnnamed (table lenient 0) typ → result ≡ None }
 {

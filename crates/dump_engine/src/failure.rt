@@ -1,5 +1,6 @@
 //! What ends the reading of an input before its end.
-ghost use Rattle.std.specs.Prelude.{◌≡◌};
+ghost use Rattle.std.specs.Prelude.{◌≡◌, Some};
+ghost use Rattle.dump_engine.specs.Failed.{failure_text};
 
 use std::alloc::{AllocError, AllocFailed};
 use std::fmt;
@@ -33,6 +34,8 @@ pub enum Failure {
 }
 
 impl fmt::Display for Failure {
+    ghost output = { λ f. Some (failure_text f) };
+
     fn fmt<W: fmt::Write>(&self, f: &mut fmt::Formatter<W>) -> fmt::Result {
         let text = match self {
             Failure::OutOfMemory => "out of memory",

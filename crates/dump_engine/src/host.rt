@@ -1,7 +1,8 @@
 //! The program on its host: its arguments, files, standard streams and status.
 
-ghost use Rattle.std.specs.Prelude.{◌≡◌, ◌≤◌, IfOk};
-ghost use Rattle.dump_engine.specs.Totals.{status};
+ghost use Rattle.std.specs.Prelude.{◌≡◌, ◌≤◌, Ok, Err, IfOk, MatchResult};
+ghost use Rattle.dump_engine.specs.Totals.{after_input, status};
+ghost use Rattle.dump_engine.specs.declared.failure.Failure.{Failure};
 
 use crate::arguments::{Action, HELP, Request, STANDARD_INPUT, VERSION, request_of};
 use crate::counts::{Counts, push_counts};
@@ -96,8 +97,17 @@ fn dump_all(rt: &HostRuntime, request: &Request<'_>) -> Result<u8, Failure>
         failed |= is_over(rt, name, outcome)?;
     }
     push_counts(&request.options, &counts, &mut output.text)?;
-    match output.finish() {
-        Ok(()) => Ok(status_of(failed, &counts)),
+    end_of(output.finish(), failed, &counts)
+}
+
+/// What a run returns, whose last write ended so.
+fn end_of(written: io::Result<()>, failed: bool, counts: &Counts) -> Result<u8, Failure>
+    ensures end { MatchResult written (λ _. result ≡ Ok (status failed counts.now))
+        (λ _. result ≡ Err Failure.Write) }
+    ensures known { IfOk result (λ status. status ≤ 2) }
+{
+    match written {
+        Ok(()) => Ok(status_of(failed, counts)),
         Err(_) => Err(Failure::Write),
     }
 }
@@ -116,8 +126,11 @@ fn status_of(failed: bool, counts: &Counts) -> u8
     }
 }
 
-/// Reports a failure of an input. One of the output or of memory ends the run.
-fn is_over(rt: &HostRuntime, name: &str, outcome: Result<(), Failure>) -> Result<bool, Failure> {
+/// Reports a failure of an input, and returns whether it failed. A failure of the output or of memory
+/// ends the run.
+fn is_over(rt: &HostRuntime, name: &str, outcome: Result<(), Failure>) -> Result<bool, Failure>
+    ensures { result ≡ after_input outcome }
+{
     match outcome {
         Ok(()) => Ok(false),
         Err(Failure::Write) => Err(Failure::Write),

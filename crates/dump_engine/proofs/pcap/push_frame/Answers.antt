@@ -2,6 +2,7 @@ use Rattle.std.proofs.Common.{string_bytes}
 use Rattle.sctp_capture.specs.Found.{packet_of}
 use Rattle.sctp_capture.specs.Frame.{packet_in}
 use Rattle.sctp_capture.specs.Pcap.{record_of}
+use Rattle.dump_engine.proofs.Blocks.{pushed_text}
 use Rattle.dump_engine.proofs.RecordTexts.{pushed_packet, pushed_line}
 use Rattle.dump_engine.proofs.pcap.push_frame.Goals as goal
 
@@ -14,7 +15,7 @@ returns-in-Ok c =
     (packet_of c.in-Ok.found)
     (packet_in header.link_type r.original_length frame) (string_bytes c.args.text.now)
     (string_bytes c.push_packet.new.text)
-    c.in-Ok.ensures c.push_packet.ensures
+    c.in-Ok.ensures (pushed_text c.push_packet.result _ _ _ _ _ _ _ c.push_packet.ensures)
 
 pub returns-in-Err : goal.returns-in-Err
 returns-in-Err c =
@@ -25,4 +26,4 @@ returns-in-Err c =
     c.in-Err.why c.skipped_for.result
     (packet_in header.link_type r.original_length frame) (string_bytes c.args.text.now)
     (string_bytes c.push_skipped.new.text)
-    c.in-Err.ensures c.skipped_for.ensures c.push_skipped.ensures
+    c.in-Err.ensures c.skipped_for.ensures c.push_skipped.ensures.text

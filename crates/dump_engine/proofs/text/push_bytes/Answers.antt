@@ -1,6 +1,7 @@
 use Rattle.std.proofs.Common.{ℕ, List, ◌++◌, ap, ◌∙◌, string_bytes}
 use Rattle.dump_engine.specs.Counts.{one_more}
 use Rattle.dump_engine.specs.Lines.{numbered}
+use Rattle.dump_engine.proofs.Blocks.{pushed_text}
 use Rattle.dump_engine.proofs.LineTexts.{Block-as}
 use Rattle.dump_engine.proofs.text.push_bytes.Goals as goal
 
@@ -13,4 +14,4 @@ returns-clause-text c =
     (c.seen_at-seen.ensures ∙ ap (λ (n : ℕ). numbered n c.args.time) c.next_number-dump.ensures)
     (c.as_slice.ensures.value ∙ (c.in_ok-append_to.ensures.ok
     ∙ ap (λ (l : List ℕ). l ++ c.args.bytes) c.clear.ensures.items))
-    c.push_packet.ensures
+    (pushed_text c.push_packet.result _ _ _ _ _ _ _ c.push_packet.ensures)

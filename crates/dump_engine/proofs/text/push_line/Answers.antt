@@ -82,5 +82,5 @@ returns-in_ok-push_dump-in-Unknown c =
     ended.text.2 ended.packets
     (own_text c.push_skipped.result (skipped_line o number Unknown)
     (string_bytes c.push_dump-in-Unknown.new.text) (string_bytes c.push_skipped.new.text)
-    c.push_skipped.ensures)
+    c.push_skipped.ensures.text)
     (on_ok c.push_skipped.result (closed_state d d.packets ended.form refl))

@@ -27,7 +27,7 @@ returns-then-len-gt-MOST_KEPT c =
     pushed_dropped c.push_skipped.result c.args.options.now c.args.number d.form d.bytes.items
     d.first_line d.packets c.args.part
     (string_bytes c.args.text.now) (string_bytes c.push_skipped.new.text)
-    (c.continues.ensures.0 yes) long c.push_skipped.ensures
+    (c.continues.ensures.0 yes) long c.push_skipped.ensures.text
 
 pub returns : goal.returns
 returns c =
