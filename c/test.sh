@@ -5,9 +5,10 @@ set -u
 usage='usage: c/test.sh [PACKETS]
 
 Builds the C library, and tries it: the header against the library, the examples against what they have to print, calls
-at the edges, and a million packets that are made at random, or PACKETS. The last line is: c: N passed, M failed.
+at the edges, associations of a real stack, and a million packets that are made at random, or PACKETS. The last line is:
+c: N passed, M failed.
 
-Needed are what c/build.sh needs, and Python. C++, Rust and pkg-config are used where they are there.'
+Needed are what c/build.sh needs, and Python. C++, Rust, pkg-config and usrsctp are used where they are there.'
 
 case ${1:-1000000} in
     *[!0-9]*)
@@ -176,6 +177,15 @@ edge() {
         "$work/edge"
 }
 
+has_usrsctp() {
+    echo '#include <usrsctp.h>' | "$cc" -fsyntax-only -x c - 2>"$work/log"
+}
+
+# With the shared libusrsctp, which then takes the time from the program.
+interop() {
+    compile_sanitized -pedantic -Werror -o "$work/interop" c/interop.c "$prefix/lib/libdcsctp.a" -lusrsctp && "$work/interop"
+}
+
 # As many processes as there are processors, each with a seed of its own.
 fuzz() {
     local seed seeds jobs=() job status=0
@@ -222,5 +232,10 @@ else
     left_out 'rustc from 1.85 on' 'the example in Rust'
 fi
 try 'calls on captured packets and at the edges, and each allocation refused' edge
+if has_usrsctp; then
+    try 'two sockets of usrsctp, with the library between them' interop
+else
+    left_out usrsctp.h 'associations of a real stack'
+fi
 try "$packets packets at random" fuzz
 finish
