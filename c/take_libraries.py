@@ -3,8 +3,9 @@
 
 `rt ci` leaves each library that it proved in crates/NAME/out/rlib. `rt lib` takes what is there if a file `stamp` beside it has the
 sum of the sources, and `rt ci` writes no such file: these libraries fit only each other. So this writes the stamps if all libraries
-below crates/dcsctp_c are there and none has a stamp, as in a fresh clone. Otherwise, or with another toolchain, it does nothing: then
-`rt lib` proves them again, which takes some minutes.
+below crates/dcsctp_c are there, newer than all their sources, and none has a stamp, as in a fresh clone. Otherwise, or with another
+toolchain, it does nothing: then `rt lib` proves them again, which takes some minutes. (What `rt ci` has proved before it leaves as it is,
+so a library can be older than its sources.)
 """
 
 import os
@@ -12,6 +13,16 @@ import shutil
 import sys
 
 ROOT = os.path.dirname(os.path.dirname(os.path.abspath(__file__)))
+
+
+def crate_of(library):
+    return os.path.dirname(os.path.dirname(os.path.dirname(library.rlib)))
+
+
+def newest_source(libraries):
+    """When a file of a crate's src, specs or proofs was last changed."""
+    folders = (os.path.join(crate_of(it), part) for it in libraries for part in ("src", "specs", "proofs"))
+    return max(os.path.getmtime(os.path.join(at, name)) for it in folders for at, _, names in os.walk(it) for name in names)
 
 
 def main():
@@ -24,6 +35,9 @@ def main():
         crate = next(it for it in rtlib.crates_below(ROOT) if it.name == "dcsctp_c")
         stamps = {f"{os.path.dirname(it.rlib)}/stamp": it for it in crate.below()}
         if any(os.path.exists(it) for it in stamps) or not all(os.path.isdir(it.rlib) for it in stamps.values()):
+            return
+        newest = newest_source(stamps.values())
+        if any(os.path.getmtime(it.rlib) < newest for it in stamps.values()):
             return
         for path, library in stamps.items():
             with open(path, "w", encoding="utf-8") as file:

@@ -88,6 +88,8 @@ echo 'sctp_dump: a write failed' >"$work/wanted_errors"
 
 "$program" cooked.pcap >/dev/full 2>"$work/errors"
 judge 'a full disk' $? 2
+"$program" --summary cooked.pcap >/dev/full 2>"$work/errors"
+judge 'a full disk at the end of the run' $? 2
 "$program" --help >/dev/full 2>"$work/errors"
 judge 'a full disk, and no packets' $? 2
 long | timeout 60 "$program" - cooked.pcap >/dev/full 2>"$work/errors"
