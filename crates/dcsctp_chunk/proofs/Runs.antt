@@ -257,3 +257,9 @@ cleaned_from_cover {bs} {rs} ends are =
         once = (λ again h. runs_unique (Covers rs) again rs h (runs_from_apart 0 rs are.apart));
       },
     )
+
+-- blocks that are apart already
+pub cleaned_if_apart : (bs : Blocks) → All (λ b. b.end ≤ 65535) bs → IsApart 2 bs
+    → IsCleaned bs bs × CleanedLaws bs bs
+cleaned_if_apart bs ends apart = cleaned_from_cover ends
+    (record { apart = apart_weaker 0 2 bs (omega arith) apart; cover = refl })

@@ -8,5 +8,5 @@ mod clean;
 mod runs;
 mod validate;
 
-pub use crate::chunk_validators::clean::{clean_blocks, clean_sack};
+pub use crate::chunk_validators::clean::{clean_blocks, clean_in_place, clean_sack};
 pub use crate::chunk_validators::validate::validate_sack;

@@ -39,7 +39,9 @@ pub const CHUNK_TYPE: u8 = 3;
 /// Bytes of the value before the gap ack blocks.
 const FIXED_SIZE: usize = 12;
 
-/// A run of TSNs that came in beyond the first one that is missing (RFC 9260 section 3.3.4).
+/// A run of TSNs that came in beyond the first one that is missing (RFC 9260 section 3.3.4). Laid
+/// out as a struct of C.
+#[repr(C)]
 #[derive(Clone, Copy, Debug, PartialEq, Eq)]
 pub struct GapAckBlock {
     /// The first TSN, as its offset from the cumulative TSN.

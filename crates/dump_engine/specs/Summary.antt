@@ -35,7 +35,7 @@ abbrev pub kind_name : ℕ → Option (List ℕ)
 kind_name typ =
     option_map (λ (k : ℕ × List ℕ). k.1) (find (λ (k : ℕ × List ℕ). k.0 == typ) kind_names)
 
--- the line of so many chunks, if there are any
+-- the line of `n` chunks of this name, if there are any
 abbrev pub chunks_line : List ℕ → ℕ → List ℕ
 chunks_line name n = if nat_lt 0 n then name ++ codes ": " ++ decimal n ++ codes "\n" else []
 

@@ -46,6 +46,22 @@ pub fn clean_blocks(blocks: &mut Vec<GapAckBlock>)
     blocks.truncate(kept);
 }
 
+/// Does the same in a slice, and returns how many blocks are left: they are its first ones, and
+/// those after them are of no use.
+#[tactic(auto, using(crate::proofs::Runs::valid_iff))]
+pub fn clean_in_place(blocks: &mut [GapAckBlock]) -> usize
+    ensures len { result ≤ length blocks.old }
+    ensures cleaned { IsCleaned blocks.old (take result blocks.new) }
+    ensures laws { CleanedLaws blocks.old (take result blocks.new) }
+    ensures same { AreValid blocks.old
+        → (result ≡ length blocks.old) × (blocks.new ≡ blocks.old) }
+{
+    if are_apart(blocks) {
+        return blocks.len();
+    }
+    gather(blocks)
+}
+
 /// Puts block after block in among the runs of those before it. Returns `n`: the first `n` are then
 /// the runs of what the blocks covered.
 ///

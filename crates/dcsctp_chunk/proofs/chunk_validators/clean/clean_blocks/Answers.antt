@@ -1,23 +1,17 @@
 -- Blocks that are apart are runs already; of others `gather` leaves the runs in front.
-use Rattle.std.proofs.{Common.{◌≡◌, ◌≤◌, List, take, refl, arith, All}, lemmas.Grind.{common_steps}}
-use Rattle.dcsctp_chunk.{specs.declared.sack_chunk.GapAckBlock.{GapAckBlock}, specs.Apart.{IsApart}, specs.Cover.{IsCleaned, CleanedLaws}, proofs.Apart.{apart_weaker}, proofs.Runs.{cleaned_from_cover}}
+use Rattle.std.proofs.{Common.{◌≡◌, take, refl, arith}, lemmas.Grind.{common_steps}}
+use Rattle.dcsctp_chunk.proofs.Runs.{cleaned_from_cover, cleaned_if_apart}
 use Rattle.dcsctp_chunk.proofs.chunk_validators.clean.clean_blocks.Goals as goal
-
--- where the blocks are apart already
-kept : (bs : List GapAckBlock) → All (λ b. b.end ≤ 65535) bs → IsApart 2 bs
-    → IsCleaned bs bs × CleanedLaws bs bs
-kept bs ends apart = cleaned_from_cover ends
-    (record { apart = apart_weaker 0 2 bs (omega arith) apart; cover = refl })
 
 pub returns-then-are_apart-clause-cleaned : goal.returns-then-are_apart-clause-cleaned
 returns-then-are_apart-clause-cleaned c =
     let said = rw c.deref.ensures.value at c.if-are_apart.ensures in
-    (kept c.args.blocks.now.items said.ends (said.apart.0 refl)).0
+    (cleaned_if_apart c.args.blocks.now.items said.ends (said.apart.0 refl)).0
 
 pub returns-then-are_apart-clause-laws : goal.returns-then-are_apart-clause-laws
 returns-then-are_apart-clause-laws c =
     let said = rw c.deref.ensures.value at c.if-are_apart.ensures in
-    (kept c.args.blocks.now.items said.ends (said.apart.0 refl)).1
+    (cleaned_if_apart c.args.blocks.now.items said.ends (said.apart.0 refl)).1
 
 pub returns-clause-cleaned : goal.returns-clause-cleaned
 returns-clause-cleaned c =

@@ -1,7 +1,5 @@
-use Rattle.std.proofs.Common.{◌≡◌, ◌+◌, ◌<◌, ap, ◌∙◌, length, get_or, string_bytes, rules, arith}
+use Rattle.std.proofs.Common.{◌≡◌, ◌<◌, ap, ◌∙◌, length, get_or, string_bytes, rules, arith}
 use Rattle.std.proofs.lemmas.Grind.{common_steps}
-use Rattle.dump_engine.specs.Totals.{capped}
-use Rattle.dump_engine.specs.Summary.{unnamed}
 use Rattle.dump_engine.proofs.KindLines.{lines_more, unnamed_more, named_line, unnamed_line, unnamed_none, unnamed_some}
 use Rattle.dump_engine.proofs.counts.Counts.push_kinds.Goals as goal
 use Rattle.dump_engine.proofs.counts.Counts.push_kinds.Goals.{in-Some+in_ok-push_kind-in-Some, in-None}
