@@ -1,5 +1,5 @@
 -- Fields of one size in a row: how many they are, the one at a place, and the first.
-use Rattle.std.proofs.{Common.{◌≡◌, Bool, true, false, ◌≢◌, ℕ, zero, suc, ◌-◌, ◌*◌, ◌<◌, List, [], ◌∷◌, Some, length, drop, refl, ap, ◌∙◌, arith, slice_get}, lemmas.List.FromFn.{get_or-map-range_with_len}, lemmas.Option.{slice_get-get_or}}
+use Rattle.std.proofs.{Common.{◌≡◌, Bool, true, false, ◌≢◌, ℕ, zero, suc, ◌-◌, ◌*◌, ◌<◌, List, ◌∷◌, Some, length, drop, refl, ap, ◌∙◌, arith, slice_get}, lemmas.List.FromFn.{get_or-map-range_with_len}, lemmas.Option.{slice_get-get_or}}
 use Rattle.dcsctp_tlv.{specs.Fields.{fields}, proofs.FieldLaws.{length-fields, fields-first}}
 use Rattle.dcsctp_chunk.specs.ForwardTsn as forward_kind
 use Rattle.dcsctp_chunk.specs.IForwardTsn as iforward_kind

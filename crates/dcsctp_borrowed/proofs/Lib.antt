@@ -2,6 +2,7 @@ pub mod Fronts
 pub mod PacketRefs
 pub mod TreeRows
 pub mod DataRows
+pub mod ReConfigRows
 pub mod FieldLists
 pub mod Changes
 pub mod ListPlaces

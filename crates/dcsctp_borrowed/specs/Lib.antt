@@ -8,3 +8,5 @@ pub mod RawParameters
 pub mod RawCauses
 pub mod CookieEcho
 pub mod HeartbeatInfo
+pub mod ReConfig
+pub mod MissingParameters

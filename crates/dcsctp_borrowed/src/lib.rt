@@ -1,8 +1,9 @@
 //! SCTP packets in their own bytes: read without memory, and changed in place.
 //!
 //! A packet that was checked is a header and an iterator over its chunks, which can't fail; user
-//! data, a SACK, skipped streams, parameters, error causes, a cookie and a heartbeat's info are
-//! read where they lie. What is read here is what `dcsctp_wire` builds, by the same clauses.
+//! data, a SACK, skipped streams, parameters and those of RE-CONFIG, error causes, the types of
+//! missing parameters, a cookie and a heartbeat's info are read where they lie. What is read here
+//! is what `dcsctp_wire` builds, by the same clauses.
 #![tactic(auto)]
 
 pub mod checked_chunks;
@@ -10,9 +11,12 @@ pub mod cookie_echo;
 pub mod forward_tsn_ref;
 pub mod heartbeat_info;
 pub mod in_place;
+pub mod missing_parameters;
+pub mod numbers;
 pub mod packet_ref;
 pub mod raw_causes;
 pub mod raw_chunks;
 pub mod raw_parameters;
+pub mod re_config_ref;
 pub mod sack_ref;
 pub mod user_data;
