@@ -19,12 +19,19 @@ FIELD(dcsctp_header, destination_port, 2, uint16_t);
 FIELD(dcsctp_header, verification_tag, 4, uint32_t);
 FIELD(dcsctp_header, checksum, 8, uint32_t);
 
-SIZE(dcsctp_chunk, 32);
+SIZE(dcsctp_chunk, 40);
 FIELD(dcsctp_chunk, type, 0, uint8_t);
 FIELD(dcsctp_chunk, flags, 1, uint8_t);
 FIELD(dcsctp_chunk, value_offset, 8, size_t);
 FIELD(dcsctp_chunk, value_size, 16, size_t);
-FIELD(dcsctp_chunk, next, 24, size_t);
+FIELD(dcsctp_chunk, list_offset, 24, size_t);
+FIELD(dcsctp_chunk, next, 32, size_t);
+
+SIZE(dcsctp_parameter, 32);
+FIELD(dcsctp_parameter, type, 0, uint16_t);
+FIELD(dcsctp_parameter, value_offset, 8, size_t);
+FIELD(dcsctp_parameter, value_size, 16, size_t);
+FIELD(dcsctp_parameter, next, 24, size_t);
 
 SIZE(dcsctp_data, 40);
 FIELD(dcsctp_data, tsn, 0, uint32_t);
@@ -57,6 +64,28 @@ FIELD(dcsctp_init, outbound_streams, 8, uint16_t);
 FIELD(dcsctp_init, inbound_streams, 10, uint16_t);
 FIELD(dcsctp_init, initial_tsn, 12, uint32_t);
 
+SIZE(dcsctp_forward_tsn, 16);
+FIELD(dcsctp_forward_tsn, new_cumulative_tsn, 0, uint32_t);
+FIELD(dcsctp_forward_tsn, stream_count, 8, size_t);
+
+SIZE(dcsctp_skipped_stream, 12);
+FIELD(dcsctp_skipped_stream, stream, 0, uint16_t);
+FIELD(dcsctp_skipped_stream, ssn, 2, uint16_t);
+FIELD(dcsctp_skipped_stream, mid, 4, uint32_t);
+FIELD(dcsctp_skipped_stream, is_unordered, 8, bool);
+
+SIZE(dcsctp_re_config, 48);
+FIELD(dcsctp_re_config, type, 0, uint16_t);
+FIELD(dcsctp_re_config, request_number, 4, uint32_t);
+FIELD(dcsctp_re_config, response_number, 8, uint32_t);
+FIELD(dcsctp_re_config, last_tsn, 12, uint32_t);
+FIELD(dcsctp_re_config, result, 16, uint32_t);
+FIELD(dcsctp_re_config, has_next_tsns, 20, bool);
+FIELD(dcsctp_re_config, sender_next_tsn, 24, uint32_t);
+FIELD(dcsctp_re_config, receiver_next_tsn, 28, uint32_t);
+FIELD(dcsctp_re_config, new_streams, 32, uint16_t);
+FIELD(dcsctp_re_config, stream_count, 40, size_t);
+
 VALUE(OK, 0);
 VALUE(FAULT_SIZE, 1);
 VALUE(FAULT_CHECKSUM, 2);
@@ -66,8 +95,13 @@ VALUE(FAULT_PADDING, 5);
 VALUE(NO_MEMORY, 6);
 VALUE(NO_ROOM, 7);
 VALUE(TOO_LONG, 8);
+VALUE(BAD_VALUE, 9);
+VALUE(BAD_PLACE, 10);
 
 VALUE(FIRST_CHUNK, 12);
+
+/* The T bit: RFC 9260 sections 3.3.7 and 3.3.13. */
+VALUE(TAG_REFLECTED, 1);
 
 /* The types of chunks: RFC 9260 section 3.2, RFC 8260 section 2.1 and 2.3, RFC 6525 section 3.1, RFC 3758 section 3.2. */
 VALUE(CHUNK_DATA, 0);

@@ -12,7 +12,7 @@ Proves and builds the C library, and puts it into the folder PREFIX:
                                since until 1.0.0 a minor version may change the interface
   lib/pkgconfig/dcsctp.pc
 
-The first run proves everything below it, and prints a line as each of nine crates is done: that takes 8 to 20 minutes on
+The first run proves everything below it, and prints a line as each of ten crates is done: that takes 8 to 20 minutes on
 four processors, and 4 GB of disk for what is kept. Later runs take half a minute. Needed are the toolchain and a C compiler
 with binutils; the variables CC, LD, OBJCOPY and AR name others than cc, ld, objcopy and ar.'
 
@@ -42,19 +42,23 @@ work=$(mktemp -d)
 trap 'rm -rf "$work"' EXIT
 
 # The archive of the crate, and the toolchain's three functions that call malloc, realloc and free.
-echo 'c/build.sh: proving and building nine crates; the first run takes 8 to 20 minutes' >&2
-(cd crates/dcsctp_c && rt lib) 2>&1 | tee "$work/log" | sed -n -u 's/^crate \(dcsctp_[a-z0-9_]*\): .*/  \1/p' >&2 || {
+# Of what rt says, a line is passed on for each crate that is done, and that another process keeps it waiting.
+archive=crates/dcsctp_c/out/libdcsctp_c.a
+first=
+[ -f "$archive" ] || first='; the first run takes 8 to 20 minutes'
+echo "c/build.sh: proving and building ten crates$first" >&2
+(cd crates/dcsctp_c && rt lib) 2>&1 | tee "$work/log" |
+    sed -n -u -E 's/^crate (dcsctp_[a-z0-9_]*|sctp_report): .*/  \1/p; s/^rt: (.*waiting.*)/  \1/p' >&2 || {
     { grep -E 'error|not proved|^rt:' "$work/log" || cat "$work/log"; } | tail -n 10 | cut -c1-300 >&2
     give_up 'crates/dcsctp_c was not built'
 }
 kit=$(dirname "$(rt doc)")
-archive=crates/dcsctp_c/out/libdcsctp_c.a
 heap=$kit/c/liblibc_c.a
 [ -f "$archive" ] || give_up "rt lib made no $archive"
 [ -f "$heap" ] || give_up "the toolchain has no $heap"
 
 # One object, in which the functions of the header alone are visible to a linker.
-grep -o 'dcsctp_[a-z_]*(' include/dcsctp.h | tr -d '(' | sort -u >"$work/functions"
+grep -v '^static inline' include/dcsctp.h | grep -o 'dcsctp_[a-z_]*(' | tr -d '(' | sort -u >"$work/functions"
 "$ld" -r -o "$work/dcsctp.o" --whole-archive "$archive" "$heap"
 "$objcopy" --keep-global-symbols="$work/functions" "$work/dcsctp.o"
 "$ar" rcsD "$work/libdcsctp.a" "$work/dcsctp.o"

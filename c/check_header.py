@@ -9,7 +9,8 @@ Prints each difference, and fails if there is one.
   --help       prints this
 
 No compiler sees both sides, and nothing in the proof speaks of the header: so this does. In a header a slice is a
-pointer and a length, and an argument of the type Global is no argument.
+pointer and a length, and an argument of the type Global is no argument. The header's `static inline` functions, which give
+names, are no part of the library, and aren't looked at.
 """
 import os
 import re
@@ -22,6 +23,8 @@ CRATE = 'crates/dcsctp_c'
 TYPES = {'u8': 'uint8_t', 'u16': 'uint16_t', 'u32': 'uint32_t', 'u64': 'uint64_t', 'usize': 'size_t', 'bool': 'bool'}
 # Names that a clause or the language keeps for itself, and the header's.
 RENAMED = {'typ': 'type', 'user_data': 'data'}
+# The struct of another crate, where it is, and the header's name of it.
+BLOCK, BLOCK_FILE, C_BLOCK = 'GapAckBlock', 'crates/dcsctp_chunk/src/sack_chunk.rt', 'dcsctp_gap_ack_block'
 
 
 class Unreadable(Exception):
@@ -33,12 +36,16 @@ def read(path):
         return file.read()
 
 
+def without_comments(text):
+    return re.sub(r'//.*', '', text)
+
+
 def sources():
     """The crate's modules, one after the other, without comments."""
     texts = []
     for folder, _, names in sorted(os.walk(os.path.join(ROOT, CRATE, 'src'))):
         texts += [read(os.path.join(folder, name)) for name in sorted(names) if name.endswith('.rt')]
-    return re.sub(r'//.*', '', '\n'.join(texts))
+    return without_comments('\n'.join(texts))
 
 
 def listed(text, separator):
@@ -57,6 +64,7 @@ def header_side(text):
     numbers = '.'.join(re.findall(r'^#define DCSCTP_VERSION_(?:MAJOR|MINOR|PATCH) (\d+)$', text, flags=re.M))
     text = re.sub(r'^#ifdef __cplusplus\n.*?\n#endif$', '', text, flags=re.M | re.S)
     text = re.sub(r'^#.*$', '', text, flags=re.M)
+    text = re.sub(r'^static inline .*?^}$', '', text, flags=re.M | re.S)
     functions, structs, constants = {}, {}, {}
 
     def declared(words):
@@ -76,7 +84,7 @@ def header_side(text):
         return ''
 
     def function(match):
-        arguments = [declared(argument) for argument in listed(match[3], ',')]
+        arguments = [declared(argument) for argument in listed(match[3], ',') if argument != 'void']
         functions[match[2]] = match[1], [(kind, [name]) for kind, name in arguments]
         return ''
 
@@ -92,6 +100,8 @@ def c_type(kind):
     """The C type of a number, a bool or a struct."""
     if kind in TYPES:
         return TYPES[kind]
+    if kind == BLOCK:
+        return C_BLOCK
     if re.fullmatch(r'Dcsctp\w+', kind):
         return re.sub(r'(?<=.)([A-Z])', r'_\1', kind).lower()
     raise Unreadable(kind)
@@ -129,6 +139,7 @@ def library_side():
     for name, arguments, result in exports:
         both = [listed(argument, ':') for argument in listed(arguments, ',')]
         functions[name] = c_type(result), [c for argument, kind in both for c in c_arguments(argument, kind)]
+    text += without_comments(read(BLOCK_FILE))
     for name, fields in re.findall(r'#\[repr\(C\)\]\s*(?:#\[[^\]]*\]\s*)*pub struct (\w+) \{(.*?)\}', text, flags=re.S):
         both = [listed(field.strip().removeprefix('pub '), ':') for field in listed(fields, ',')]
         structs[c_type(name)] = [(c_type(kind), RENAMED.get(field, field)) for field, kind in both]
@@ -157,6 +168,8 @@ def constants_of_library():
         codes |= {f'{kind}_{name}': laws[name] for name in re.findall(rf'\b{constant} as (\w+)', text)}
     size = re.search(r'^pub const COMMON_HEADER_SIZE: usize = (\d+);', read(f'{wire}/packet/common_header.rt'), flags=re.M)
     codes['FIRST_CHUNK'] = size[1]
+    bit = re.search(r'\btag_reflected: is_set\(flags, (\d)\)', read('crates/dcsctp_chunk/src/shutdown_complete_chunk.rt'))
+    codes['TAG_REFLECTED'] = str(1 << int(bit[1]))
     return {name: int(value, 0) for name, value in codes.items()}
 
 
@@ -201,20 +214,24 @@ CHANGES = [
      'uint16_t destination_port, uint16_t source_port,\n'),
     ('a length and an offset are swapped', 'size_t length, size_t offset, struct dcsctp_chunk *chunk',
      'size_t offset, size_t length, struct dcsctp_chunk *chunk'),
-    ('two lengths are swapped', 'size_t block_count, const uint32_t *duplicates,\n                     size_t duplicate_count',
-     'size_t duplicate_count, const uint32_t *duplicates,\n                     size_t block_count'),
+    ('two lengths are swapped', 'size_t block_count, const uint32_t *duplicates,\n                         size_t duplicate_count',
+     'size_t duplicate_count, const uint32_t *duplicates,\n                         size_t block_count'),
     ('an argument is missing', 'size_t room, size_t *size, bool is_ack,', 'size_t room, bool is_ack,'),
     ('an argument is narrower', 'uint32_t cumulative_tsn_ack, uint32_t a_rwnd,\n', 'uint16_t cumulative_tsn_ack, uint32_t a_rwnd,\n'),
-    ('what is written is const', 'bool dcsctp_seal(uint8_t *packet', 'bool dcsctp_seal(const uint8_t *packet'),
-    ('a result is wider', 'bool dcsctp_set_tag', 'uint32_t dcsctp_set_tag'),
-    ('a function is missing', 'bool dcsctp_add_cookie_ack(uint8_t *packet, size_t room, size_t *size);\n', ''),
+    ('what is written is const', 'dcsctp_seal(uint8_t *packet', 'dcsctp_seal(const uint8_t *packet'),
+    ('a list is of wider numbers', 'const uint16_t *types,', 'const uint32_t *types,'),
+    ('a list is of other structs', 'dcsctp_clean_blocks(struct dcsctp_gap_ack_block', 'dcsctp_clean_blocks(struct dcsctp_skipped_stream'),
+    ('a struct is another', 'const struct dcsctp_parameter *parameter, uint32_t *number', 'const struct dcsctp_chunk *parameter, uint32_t *number'),
+    ('a result is narrower', 'uint32_t dcsctp_set_tag', 'bool dcsctp_set_tag'),
+    ('a function is missing', 'uint32_t dcsctp_add_cookie_ack(uint8_t *packet, size_t room, size_t *size);\n', ''),
     ('a function has another name', 'uint32_t dcsctp_word(', 'uint32_t dcsctp_words('),
-    ('a field is wider', '    uint16_t stream;\n', '    uint32_t stream;\n'),
+    ('a field is wider', '    uint16_t new_streams;', '    uint32_t new_streams;'),
     ('two fields are swapped', '    uint32_t mid;\n    uint32_t fsn;\n', '    uint32_t fsn;\n    uint32_t mid;\n'),
     ('a field is missing', '    bool zero_checksum;', ''),
     ('a field is added', '    uint16_t end;\n', '    uint16_t end;\n    uint16_t gap;\n'),
     ('two codes are swapped', 'DCSCTP_FAULT_LENGTH = 3', 'DCSCTP_FAULT_LENGTH = 4'),
-    ('a code of the writing is another', 'DCSCTP_NO_ROOM = 7', 'DCSCTP_NO_ROOM = 8'),
+    ('a code of the writing is another', 'DCSCTP_BAD_VALUE = 9', 'DCSCTP_BAD_VALUE = 10'),
+    ('a flag is another', 'DCSCTP_TAG_REFLECTED = 1', 'DCSCTP_TAG_REFLECTED = 2'),
     ('a type of chunk is another', 'DCSCTP_CHUNK_I_FORWARD_TSN = 194', 'DCSCTP_CHUNK_I_FORWARD_TSN = 193'),
     ('the version is another', 'DCSCTP_VERSION "0.', 'DCSCTP_VERSION "9.'),
     ('a number of the version is another', 'DCSCTP_VERSION_MINOR 1', 'DCSCTP_VERSION_MINOR 2'),

@@ -1,14 +1,16 @@
-/* Two sockets of usrsctp, a real stack of SCTP, talk to each other in one process, with the library between them.
+/* Two sockets of usrsctp, a real stack of SCTP, talk to each other in one process, with the library between them; or one calls
+   examples/c/responder.c.
 
    usage: interop [SCENARIO ..] [--messages N] [--seed N]
 
-   Each packet is checked as by a socket, read by every reader and compared with plain_reader.h, and refused with a bit changed.
-   Then noise goes into every bit that a receiver ignores, and the other side gets the canonical form of that, sealed: it has to
-   be what usrsctp sent. Each message has to arrive once, and in order.
+   Each packet is checked as by a socket, read by every reader and compared with plain_reader.h, written anew from what was read,
+   and refused with a bit changed. Then noise goes into every bit that a receiver ignores, and the other side gets the canonical
+   form of that, sealed: it has to be what was sent. Each message has to arrive once, and in order.
 
    usrsctp asks this program for the time and for random numbers: so a run depends on its seed alone, and waits for no timer.
    That takes the shared libusrsctp, whose calls of gettimeofday and read_random reach the functions here. */
 #define _GNU_SOURCE
+#include "../examples/c/responder.c"
 #include "plain_reader.h"
 #include <dcsctp.h>
 #include <errno.h>
@@ -28,6 +30,7 @@ struct scenario {
     bool is_short, is_interleaved; /* is_interleaved: I-DATA in place of DATA (RFC 8260) */
     bool abandons, changes;        /* messages are given up (RFC 3758); streams are reset and added (RFC 6525) */
     bool aborts;                   /* the end is ABORT in place of SHUTDOWN */
+    bool is_answered;              /* the second side is the responder, which sends no messages */
     unsigned lost, late;           /* packets of a hundred */
 };
 
@@ -41,6 +44,11 @@ static const struct scenario scenarios[] = {
     {.name = "streams", .changes = true},
     {.name = "i-data-streams", .is_short = true, .is_interleaved = true, .changes = true},
     {.name = "abort", .aborts = true},
+    {.name = "responder", .is_short = true, .is_answered = true},
+    {.name = "responder-lossy", .is_short = true, .is_answered = true, .lost = 5, .late = 10},
+    {.name = "responder-partial", .is_answered = true, .abandons = true, .lost = 5, .late = 10},
+    {.name = "responder-streams", .is_short = true, .is_answered = true, .is_interleaved = true, .changes = true},
+    {.name = "responder-abort", .is_answered = true, .aborts = true},
 };
 enum { SCENARIOS = sizeof scenarios / sizeof *scenarios };
 
@@ -92,7 +100,7 @@ static void fill(uint8_t *bytes, size_t size, uint64_t *from)
         bytes[i] = (uint8_t)(draw(from) >> 56);
 }
 
-/* ---- the library: all that is used of it, with what each number has to be by the RFC */
+/* ---- the library: all that is used of it but by the responder, with what each number has to be by the RFC */
 
 static const struct dcsctp_policy as_a_socket = {.any_checksum = false, .zero_checksum = false, .strict_padding = false};
 enum { ACCEPTED = DCSCTP_OK, WRONG_CHECKSUM = DCSCTP_FAULT_CHECKSUM };
@@ -154,6 +162,77 @@ static void compare_init(const uint8_t *bytes, size_t length, const struct dcsct
                                   init.inbound_streams, init.initial_tsn));
 }
 
+static void compare_tsns(const uint8_t *bytes, size_t length, const struct dcsctp_chunk *chunk)
+{
+    const uint8_t *value = bytes + chunk->value_offset, *at = value + 4;
+    bool by_mid = chunk->type == PLAIN_I_FORWARD_TSN, is_forward = by_mid || chunk->type == PLAIN_FORWARD_TSN;
+    struct dcsctp_forward_tsn forward = {0};
+    struct dcsctp_skipped_stream stream;
+    uint32_t tsn;
+    size_t count = 0;
+    REQUIRE(dcsctp_shutdown(bytes, length, chunk, &tsn) == (chunk->type == PLAIN_SHUTDOWN));
+    REQUIRE(chunk->type != PLAIN_SHUTDOWN || plain_are(value, "4", tsn));
+    REQUIRE(dcsctp_forward_tsn(bytes, length, chunk, &forward) == is_forward);
+    for (; dcsctp_skipped_stream(bytes, length, chunk, count, &stream); count++, at += by_mid ? 8 : 4) {
+        REQUIRE(plain_are(at, "2", stream.stream) && stream.is_unordered == (by_mid && (at[3] & 1)));
+        REQUIRE(by_mid ? plain_are(at + 4, "4", stream.mid) && !stream.ssn : plain_are(at + 2, "2", stream.ssn) && !stream.mid);
+    }
+    REQUIRE(count == forward.stream_count);
+    REQUIRE(!is_forward || (plain_are(value, "4", forward.new_cumulative_tsn) && at == value + chunk->value_size));
+}
+
+/* A parameter of RFC 6525 section 4. */
+static void compare_re_config(const uint8_t *bytes, size_t length, const struct dcsctp_parameter *parameter)
+{
+    const uint8_t *value = bytes + parameter->value_offset, *list = value + parameter->value_size;
+    const uint32_t type = parameter->type;
+    struct dcsctp_re_config it;
+    uint16_t stream;
+    size_t count = 0;
+    bool is_outgoing = type == 13, is_response = type == 16, adds = type == 17 || type == 18;
+    bool has_next = is_response && parameter->value_size == 16;
+    REQUIRE(dcsctp_re_config(bytes, length, parameter, &it) == (type >= 13 && type <= 18));
+    if (type >= 13 && type <= 18) {
+        REQUIRE(it.type == type && (is_response ? it.request_number == 0 && plain_are(value, "44", it.response_number, it.result)
+                                                : plain_are(value, "4", it.request_number) && it.result == 0));
+        REQUIRE(is_outgoing ? plain_are(value + 4, "44", it.response_number, it.last_tsn) : it.last_tsn == 0);
+        REQUIRE(it.has_next_tsns == has_next && (adds ? plain_are(value + 4, "2", it.new_streams) : it.new_streams == 0));
+        REQUIRE(has_next ? plain_are(value + 8, "44", it.sender_next_tsn, it.receiver_next_tsn)
+                         : !it.sender_next_tsn && !it.receiver_next_tsn);
+        REQUIRE(is_response || is_outgoing || it.response_number == 0);
+        list = is_outgoing ? value + 12 : type == 14 ? value + 4 : list;
+    }
+    for (; dcsctp_reset_stream(bytes, length, parameter, count, &stream); count++, list += 2)
+        REQUIRE(plain_are(list, "2", stream));
+    REQUIRE(list == value + parameter->value_size && ((type < 13 || type > 18) || it.stream_count == count));
+}
+
+/* The parameters or error causes of a chunk, if it has any. */
+static void compare_list(const uint8_t *bytes, size_t length, const struct dcsctp_chunk *chunk)
+{
+    const struct plain_kind *kind = &plain_kinds[chunk->type];
+    bool has_list = kind->rest >= PLAIN_PARAMETERS;
+    size_t end = chunk->value_offset + chunk->value_size, at = has_list ? chunk->value_offset + kind->numbers : end;
+    struct plain_item item;
+    struct dcsctp_parameter it;
+    uint32_t number;
+    uint16_t type;
+    REQUIRE(chunk->list_offset == at);
+    for (; plain_item_at(bytes, at, end, &item); at = item.next) {
+        uint32_t missing = 0, missing_wanted = item.type == 2 ? plain_u32(bytes + item.value) : 0;
+        REQUIRE(dcsctp_parameter_at(bytes, length, chunk, at, &it) && it.type == item.type && it.next == item.next);
+        REQUIRE(it.value_offset == item.value && it.value_size == item.size);
+        REQUIRE(dcsctp_number(bytes, length, &it, &number) == (item.size == 4));
+        REQUIRE(item.size != 4 || plain_are(bytes + item.value, "4", number));
+        if (kind->rest == PLAIN_PARAMETERS)
+            compare_re_config(bytes, length, &it);
+        for (; dcsctp_missing_parameter(bytes, length, &it, missing, &type); missing++)
+            REQUIRE(plain_are(bytes + item.value + 4 + 2 * missing, "2", type));
+        REQUIRE(kind->rest != PLAIN_CAUSES || missing == missing_wanted);
+    }
+    REQUIRE(at == end && !dcsctp_parameter_at(bytes, length, chunk, at, &it));
+}
+
 /* Reads a packet by every reader; its text has a line for the header, and one for each chunk. */
 static void compare_readings(const uint8_t *bytes, size_t length)
 {
@@ -171,6 +250,8 @@ static void compare_readings(const uint8_t *bytes, size_t length)
         compare_data(bytes, length, &chunk);
         compare_sack(bytes, length, &chunk);
         compare_init(bytes, length, &chunk);
+        compare_tsns(bytes, length, &chunk);
+        compare_list(bytes, length, &chunk);
     }
     REQUIRE(at == length && !dcsctp_chunk_at(bytes, length, at, &chunk));
     REQUIRE(dcsctp_print(bytes, length, dcsctp_word(bytes, length), &as_a_socket, text, sizeof text, &size) == ACCEPTED);
@@ -181,7 +262,110 @@ static void compare_readings(const uint8_t *bytes, size_t length)
 
 static void seal(uint8_t *bytes, size_t length)
 {
-    REQUIRE(dcsctp_seal(bytes, length));
+    REQUIRE(dcsctp_seal(bytes, length) == DCSCTP_OK);
+}
+
+#define TO_COPY copy, MOST, &size
+
+/* Adds to the chunk that begins at `start` what is read of a list. */
+static size_t add_list(const uint8_t *bytes, size_t length, const struct dcsctp_chunk *chunk, uint8_t *copy, size_t size,
+                       size_t start)
+{
+    static uint16_t list[MOST / 2];
+    const bool has_causes = plain_kinds[chunk->type].rest == PLAIN_CAUSES;
+    struct dcsctp_parameter it;
+    struct dcsctp_re_config re_config;
+    uint32_t number, code;
+    for (size_t at = chunk->list_offset; dcsctp_parameter_at(bytes, length, chunk, at, &it); at = it.next) {
+        size_t count = 0;
+        if (!has_causes && dcsctp_re_config(bytes, length, &it, &re_config)) {
+            while (dcsctp_reset_stream(bytes, length, &it, count, &list[count]))
+                count++;
+            code = dcsctp_add_re_config(TO_COPY, start, &re_config, list, count);
+        } else if (has_causes && it.type == DCSCTP_CAUSE_MISSING_MANDATORY_PARAMETER) {
+            while (dcsctp_missing_parameter(bytes, length, &it, count, &list[count]))
+                count++;
+            code = dcsctp_add_missing_parameters(TO_COPY, start, list, count);
+        } else if (dcsctp_number(bytes, length, &it, &number)) {
+            code = dcsctp_add_number(TO_COPY, start, it.type, number);
+        } else {
+            code = dcsctp_add_parameter(TO_COPY, start, it.type, bytes + it.value_offset, it.value_size);
+        }
+        REQUIRE(code == DCSCTP_OK);
+    }
+    return size;
+}
+
+/* Adds what is read of a chunk, by the call for its kind, if there is one; returns the new size. */
+static size_t add_read(const uint8_t *bytes, size_t length, const struct dcsctp_chunk *chunk, uint8_t *copy, size_t size)
+{
+    static struct dcsctp_gap_ack_block blocks[MOST / 4];
+    static struct dcsctp_skipped_stream streams[MOST / 4];
+    static uint32_t duplicates[MOST / 4];
+    const uint8_t *value = bytes + chunk->value_offset;
+    const uint8_t type = chunk->type;
+    const size_t start = size;
+    struct dcsctp_data data;
+    struct dcsctp_sack sack;
+    struct dcsctp_init init;
+    struct dcsctp_forward_tsn forward;
+    struct dcsctp_parameter info;
+    uint32_t tsn, code;
+    bool is_reflected = chunk->flags & DCSCTP_TAG_REFLECTED, has_more = false; /* of its list */
+    if (dcsctp_data(bytes, length, chunk, &data)) {
+        uint32_t (*add)(uint8_t *, size_t, size_t *, const struct dcsctp_data *, const uint8_t *, size_t) =
+            type == DCSCTP_CHUNK_DATA ? dcsctp_add_data : dcsctp_add_i_data;
+        code = add(TO_COPY, &data, bytes + data.payload_offset, data.payload_size);
+    } else if (dcsctp_sack(bytes, length, chunk, &sack)) {
+        for (size_t i = 0; i < sack.block_count; i++)
+            REQUIRE(dcsctp_gap_ack_block(bytes, length, chunk, i, &blocks[i]));
+        for (size_t i = 0; i < sack.duplicate_count; i++)
+            REQUIRE(dcsctp_duplicate_tsn(bytes, length, chunk, i, &duplicates[i]));
+        code = dcsctp_add_sack(TO_COPY, sack.cumulative_tsn_ack, sack.a_rwnd, blocks, sack.block_count, duplicates,
+                               sack.duplicate_count);
+    } else if (dcsctp_init(bytes, length, chunk, &init)) {
+        code = (type == DCSCTP_CHUNK_INIT ? dcsctp_add_init : dcsctp_add_init_ack)(TO_COPY, &init);
+        has_more = true;
+    } else if (dcsctp_forward_tsn(bytes, length, chunk, &forward)) {
+        for (size_t i = 0; i < forward.stream_count; i++)
+            REQUIRE(dcsctp_skipped_stream(bytes, length, chunk, i, &streams[i]));
+        code = (type == DCSCTP_CHUNK_FORWARD_TSN ? dcsctp_add_forward_tsn : dcsctp_add_i_forward_tsn)(
+            TO_COPY, forward.new_cumulative_tsn, streams, forward.stream_count);
+    } else if (dcsctp_shutdown(bytes, length, chunk, &tsn)) {
+        code = dcsctp_add_shutdown(TO_COPY, tsn);
+    } else if ((type == DCSCTP_CHUNK_HEARTBEAT || type == DCSCTP_CHUNK_HEARTBEAT_ACK)
+               && dcsctp_parameter_at(bytes, length, chunk, chunk->list_offset, &info)
+               && info.type == DCSCTP_PARAMETER_HEARTBEAT_INFO) {
+        code = dcsctp_add_heartbeat(TO_COPY, type == DCSCTP_CHUNK_HEARTBEAT_ACK, bytes + info.value_offset, info.value_size);
+    } else if (type == DCSCTP_CHUNK_COOKIE_ECHO) {
+        code = dcsctp_add_cookie_echo(TO_COPY, value, chunk->value_size);
+    } else if (type == DCSCTP_CHUNK_COOKIE_ACK) {
+        code = dcsctp_add_cookie_ack(TO_COPY);
+    } else if (type == DCSCTP_CHUNK_SHUTDOWN_ACK) {
+        code = dcsctp_add_shutdown_ack(TO_COPY);
+    } else if (type == DCSCTP_CHUNK_SHUTDOWN_COMPLETE) {
+        code = dcsctp_add_shutdown_complete(TO_COPY, is_reflected);
+    } else {
+        has_more = plain_kinds[type].rest != PLAIN_UNKNOWN;
+        code = dcsctp_add_chunk(TO_COPY, type, chunk->flags, value, has_more ? 0 : chunk->value_size);
+    }
+    REQUIRE(code == DCSCTP_OK);
+    return has_more ? add_list(bytes, length, chunk, copy, size, start) : size;
+}
+
+/* Writes a packet anew from what is read of it: the same bytes, since usrsctp and the responder write zeros where nothing is. */
+static void write_anew(const uint8_t *bytes, size_t length)
+{
+    static uint8_t copy[MOST];
+    struct dcsctp_header header;
+    struct dcsctp_chunk chunk;
+    size_t size = 0;
+    REQUIRE(dcsctp_header(bytes, length, &header));
+    REQUIRE(dcsctp_begin(TO_COPY, header.source_port, header.destination_port, header.verification_tag) == DCSCTP_OK);
+    for (size_t at = PLAIN_HEADER; dcsctp_chunk_at(bytes, length, at, &chunk); at = chunk.next)
+        size = add_read(bytes, length, &chunk, copy, size);
+    seal(copy, size);
+    REQUIRE(size == length && !memcmp(copy, bytes, length));
 }
 
 static size_t canonical_form(const uint8_t *bytes, size_t length, uint8_t *output, size_t room)
@@ -193,7 +377,7 @@ static size_t canonical_form(const uint8_t *bytes, size_t length, uint8_t *outpu
 
 /* ---- between the sides */
 
-/* Takes a packet that usrsctp sent, and writes the one that the other side gets; returns its size. */
+/* Takes a packet that was sent, and writes the one that the other side gets; returns its size. */
 static size_t pass(const uint8_t *sent, size_t length, uint8_t *passed)
 {
     static uint8_t changed[MOST], ignored[MOST], noise[MOST];
@@ -207,6 +391,7 @@ static size_t pass(const uint8_t *sent, size_t length, uint8_t *passed)
     }
     tally.packets++;
     compare_readings(sent, length);
+    write_anew(sent, length);
 
     memcpy(changed, sent, length);
     changed[below(length)] ^= (uint8_t)(1 << below(8));
@@ -348,6 +533,106 @@ static void take_message(struct side *side, const uint8_t *bytes, size_t size, c
     from->awaited -= !message->may_be_lost;
 }
 
+/* ---- the responder in place of the second side: its TSNs in order, and the messages on their streams */
+
+static struct responder responder;
+
+/* The chunks that came, by TSN, and how many of them were looked at; what there is of a message on each stream. */
+static struct part {
+    struct dcsctp_data data;
+    uint8_t *payload;
+} *parts;
+static size_t part_room, part_count;
+static struct partial {
+    uint8_t bytes[LARGEST];
+    size_t size;
+    uint32_t ppid, next_fsn, next_tsn;
+    bool is_whole;
+} partials[MORE_STREAMS];
+
+static uint32_t first_tsn(void)
+{
+    return responder.association.peer.initial_tsn;
+}
+
+static void keep_part(void *user, const struct dcsctp_data *data, const uint8_t *payload)
+{
+    const size_t index = data->tsn - first_tsn();
+    (void)user;
+    REQUIRE(index < part_room && !parts[index].payload);
+    parts[index] = (struct part){*data, malloc(data->payload_size)};
+    REQUIRE(parts[index].payload);
+    memcpy(parts[index].payload, payload, data->payload_size);
+}
+
+/* Takes the messages up to the cumulative TSN. Where TSNs were skipped, a message isn't whole. */
+static void take_parts(struct side *side)
+{
+    for (; part_count != responder.cumulative_tsn + 1 - first_tsn(); part_count++) {
+        struct part *part = &parts[part_count];
+        const struct dcsctp_data *data = &part->data;
+        if (!part->payload)
+            continue;
+        REQUIRE(data->stream < MORE_STREAMS);
+        struct partial *message = &partials[data->stream];
+        bool is_next = scenario->is_interleaved ? data->fsn == message->next_fsn : data->tsn == message->next_tsn;
+        message->is_whole = data->is_beginning || (message->is_whole && is_next);
+        if (data->is_beginning)
+            message->size = message->next_fsn = 0, message->ppid = data->ppid;
+        message->next_fsn++;
+        message->next_tsn = data->tsn + 1;
+        if (message->is_whole) {
+            REQUIRE(message->size + data->payload_size <= LARGEST);
+            memcpy(message->bytes + message->size, part->payload, data->payload_size);
+            message->size += data->payload_size;
+        }
+        if (message->is_whole && data->is_end) {
+            const struct sctp_rcvinfo info = {.rcv_sid = data->stream, .rcv_ppid = htonl(message->ppid),
+                                              .rcv_flags = data->is_unordered ? SCTP_UNORDERED : 0};
+            take_message(side, message->bytes, message->size, &info);
+            message->is_whole = false;
+        }
+        free(part->payload);
+        part->payload = NULL;
+    }
+}
+
+static void begin_responder(size_t messages)
+{
+    responder = (struct responder){.take_data = keep_part};
+    responder.own = (struct dcsctp_init){.a_rwnd = 1 << 20, .outbound_streams = 1, .inbound_streams = MORE_STREAMS};
+    responder.own.initiate_tag = (uint32_t)draw(&state) | 1;
+    responder.own.initial_tsn = (uint32_t)draw(&state);
+    responder.key[0] = draw(&state), responder.key[1] = draw(&state);
+    part_room = messages * (2 + LARGEST / 400);
+    part_count = 0;
+    parts = calloc(part_room, sizeof *parts);
+    REQUIRE(parts);
+}
+
+static void end_responder(void)
+{
+    for (size_t i = 0; i < part_room; i++)
+        free(parts[i].payload);
+    free(parts);
+    parts = NULL;
+}
+
+/* Gives a packet to a side. */
+static void give(struct side *side, const uint8_t *bytes, size_t length)
+{
+    static uint8_t reply[1400];
+    if (!scenario->is_answered || side == &sides[0]) {
+        usrsctp_conninput(side, bytes, length, 0);
+        return;
+    }
+    size_t size = responder_receive(&responder, now / 1000, bytes, length, reply, sizeof reply);
+    if (responder.state != CLOSED)
+        take_parts(side);
+    if (size > 0)
+        send_packet(side, reply, size, 0, 0);
+}
+
 /* usrsctp's call: with a message, with an event of streams that changed, or with no data at the end. */
 static int receive(struct socket *socket, union sctp_sockstore from, void *data, size_t size, struct sctp_rcvinfo info, int flags,
                    void *to)
@@ -368,7 +653,7 @@ static int receive(struct socket *socket, union sctp_sockstore from, void *data,
     return 1;
 }
 
-/* ---- the clock, by which usrsctp's timers run too */
+/* ---- the clock, by which usrsctp's timers run too: if they ran faster, it would sometimes not send its last packet again */
 
 static void step(void)
 {
@@ -379,7 +664,7 @@ static void step(void)
     while (under_way && under_way->due <= now) {
         struct packet *packet = under_way;
         under_way = packet->next;
-        usrsctp_conninput(packet->to, packet->bytes, packet->size, 0);
+        give(packet->to, packet->bytes, packet->size);
         free(packet);
     }
     usrsctp_handle_timers(STEP);
@@ -426,9 +711,12 @@ static struct socket *open_socket(struct side *side)
     return socket;
 }
 
-/* The state of a side's association; -1 where there is none. */
+/* The state of a side's association; -1 where there is none. The responder has no timer, so where SHUTDOWN COMPLETE is lost it
+   waits for ever. */
 static int32_t state_of(const struct side *side)
 {
+    if (scenario->is_answered && side == &sides[1])
+        return responder.state == ESTABLISHED ? SCTP_ESTABLISHED : -1;
     struct sctp_status status = {0};
     socklen_t size = sizeof status;
     return usrsctp_getsockopt(side->socket, IPPROTO_SCTP, SCTP_STATUS, &status, &size) ? -1 : status.sstat_state;
@@ -437,19 +725,23 @@ static int32_t state_of(const struct side *side)
 static void connect_sides(void)
 {
     struct sockaddr_conn to = address_of(&sides[0]);
-    sides[1].listener = open_socket(&sides[1]);
-    REQUIRE(!usrsctp_listen(sides[1].listener, 1));
+    if (!scenario->is_answered) {
+        sides[1].listener = open_socket(&sides[1]);
+        REQUIRE(!usrsctp_listen(sides[1].listener, 1));
+    }
     sides[0].socket = open_socket(&sides[0]);
     REQUIRE(usrsctp_connect(sides[0].socket, (struct sockaddr *)&to, sizeof to) < 0 && errno == EINPROGRESS);
-    RUN_UNTIL((sides[1].socket = usrsctp_accept(sides[1].listener, NULL, NULL)));
-    REQUIRE(!usrsctp_set_non_blocking(sides[1].socket, 1));
+    if (!scenario->is_answered) {
+        RUN_UNTIL((sides[1].socket = usrsctp_accept(sides[1].listener, NULL, NULL)));
+        REQUIRE(!usrsctp_set_non_blocking(sides[1].socket, 1));
+    }
     RUN_UNTIL(state_of(&sides[0]) == SCTP_ESTABLISHED);
 }
 
 static void exchange_messages(size_t count)
 {
     plan_messages(&sides[0], count);
-    plan_messages(&sides[1], count);
+    plan_messages(&sides[1], scenario->is_answered ? 0 : count);
     RUN_UNTIL(sides[0].awaited == 0 && sides[1].awaited == 0);
 }
 
@@ -458,7 +750,7 @@ static void change(struct side *side, int option, const void *request, size_t si
 {
     unsigned before = side->changes, before_there = other(side)->changes;
     RUN_UNTIL(!usrsctp_setsockopt(side->socket, IPPROTO_SCTP, option, request, (socklen_t)size));
-    RUN_UNTIL(side->changes > before && other(side)->changes > before_there);
+    RUN_UNTIL(side->changes > before && (scenario->is_answered || other(side)->changes > before_there));
 }
 
 /* Resets the first `count` streams of a direction; for 0, all. */
@@ -479,6 +771,12 @@ static void change_streams(void)
 {
     const struct sctp_add_streams own = {.sas_outstrms = 4}, others = {.sas_instrms = 3};
     reset_streams(&sides[0], SCTP_STREAM_RESET_OUTGOING, 0);
+    if (scenario->is_answered) { /* which asks for nothing, and denies what is asked of its own streams */
+        reset_streams(&sides[0], SCTP_STREAM_RESET_OUTGOING, 3);
+        change(&sides[0], SCTP_ADD_STREAMS, &own, sizeof own);
+        REQUIRE(sides[0].streams == STREAMS + 4);
+        return;
+    }
     reset_streams(&sides[1], SCTP_STREAM_RESET_OUTGOING, 3);
     reset_streams(&sides[1], SCTP_STREAM_RESET_INCOMING, 2);
     change(&sides[0], SCTP_ADD_STREAMS, &own, sizeof own);
@@ -521,6 +819,8 @@ static void run_scenario(size_t messages, uint64_t seed)
         REQUIRE(sides[i].messages);
         usrsctp_register_address(&sides[i]);
     }
+    if (scenario->is_answered)
+        begin_responder(2 * messages);
     connect_sides();
     exchange_messages(messages);
     RUN_UNTIL(tally.kinds[PLAIN_HEARTBEAT_ACK] && !under_way); /* an idle association asks after half a minute */
@@ -533,9 +833,13 @@ static void run_scenario(size_t messages, uint64_t seed)
     printf("interop: %s: %u packets (%u lost) of %u chunks; %u flipped bits caught; %u canonical forms as sent, %u of them of"
            " noise; %zu and %zu messages of %zu each\n", scenario->name, tally.packets, tally.lost, tally.chunks,
            tally.packets, tally.packets, tally.noisy, sides[1].received, sides[0].received, sides[0].planned);
-    usrsctp_close(sides[1].listener);
+    if (scenario->is_answered)
+        end_responder();
+    if (sides[1].listener)
+        usrsctp_close(sides[1].listener);
     for (int i = 0; i < 2; i++) {
-        usrsctp_close(sides[i].socket);
+        if (sides[i].socket)
+            usrsctp_close(sides[i].socket);
         usrsctp_deregister_address(&sides[i]);
         free(sides[i].messages);
     }
@@ -549,7 +853,7 @@ static int give_up(void)
     fputs("usage: interop [SCENARIO ..] [--messages N] [--seed N]\nscenarios:", stderr);
     for (int i = 0; i < SCENARIOS; i++)
         fprintf(stderr, " %s%s", scenarios[i].name, scenarios[i].is_short ? "*" : "");
-    fputs("\n1,000 messages go each way; where none is named, those with a star run, with 200\n", stderr);
+    fputs("\n1,000 messages go each way; where none is named, those with a star run, with 200 if both sides are usrsctp\n", stderr);
     return 2;
 }
 
@@ -572,7 +876,7 @@ int main(int count, char **words)
     for (int i = 0; i < SCENARIOS; i++)
         if (chosen ? chosen >> i & 1 : scenarios[i].is_short) {
             scenario = &scenarios[i];
-            run_scenario(messages ? messages : chosen ? 1000 : 200, seed);
+            run_scenario(messages ? messages : chosen || scenario->is_answered ? 1000 : 200, seed);
         }
     return 0;
 }

@@ -60,8 +60,9 @@ finish() {
 
 # ---- what is visible
 
+# Those of the library: the header's own are `static inline`.
 functions() {
-    grep -o 'dcsctp_[a-z_]*(' include/dcsctp.h | tr -d '(' | sort -u
+    grep -v '^static inline' include/dcsctp.h | grep -o 'dcsctp_[a-z_]*(' | tr -d '(' | sort -u
 }
 
 archive_has_the_functions_alone() {
@@ -106,7 +107,7 @@ compile_sanitized() {
 }
 
 header_is_c99() {
-    "$cc" -std=c99 -pedantic -Wall -Wextra -Werror -fsyntax-only -x c include/dcsctp.h
+    echo '#include <dcsctp.h>' | "$cc" -std=c99 -pedantic -Wall -Wextra -Werror -I"$prefix/include" -fsyntax-only -x c -
 }
 
 assertions_hold() {
@@ -115,7 +116,7 @@ assertions_hold() {
 
 header_is_cxx() {
     echo '#include <dcsctp.h>
-static_assert(sizeof(struct dcsctp_data) == 40, "its size");' >"$work/header.cc" &&
+static_assert(sizeof(struct dcsctp_re_config) == 48, "its size");' >"$work/header.cc" &&
         "$cxx" -std=c++11 -pedantic -Wall -Wextra -Werror -I"$prefix/include" -c -o "$work/header.o" "$work/header.cc"
 }
 
@@ -143,6 +144,14 @@ show_in_rust() {
 
 show_in_python() {
     expected python3 examples/python/show.py "$prefix/lib/libdcsctp.so"
+}
+
+page_has_the_functions() {
+    local name lacking=0
+    for name in $(functions); do
+        grep -q "\b$name\b" docs/C.md || { echo "not on the page: $name"; lacking=1; }
+    done
+    return $lacking
 }
 
 page_has_the_codes() {
@@ -212,6 +221,7 @@ try 'the archive needs libc alone' archive_needs_libc_alone
 try 'the shared library has these functions alone' shared_library_has_the_functions_alone
 try 'the shared library needs libc alone' shared_library_needs_libc_alone
 try 'the codes of docs/C.md' page_has_the_codes
+try 'the functions of docs/C.md' page_has_the_functions
 try 'the program of docs/C.md' answer_by_hand
 if has pkg-config; then
     try 'the same by pkg-config' answer_by_pkg_config
@@ -233,7 +243,7 @@ else
 fi
 try 'calls on captured packets and at the edges, and each allocation refused' edge
 if has_usrsctp; then
-    try 'two sockets of usrsctp, with the library between them' interop
+    try 'two sockets of usrsctp with the library between them, and one that calls the responder' interop
 else
     left_out usrsctp.h 'associations of a real stack'
 fi

@@ -14,7 +14,7 @@ int main(void)
     size_t offset;
     uint32_t fault = dcsctp_first_fault(bytes, length, dcsctp_word(bytes, length), &policy, &offset);
     if (fault != DCSCTP_OK) {
-        fprintf(stderr, "fault %u at byte %zu\n", fault, offset);
+        fprintf(stderr, "%s at byte %zu\n", dcsctp_result_text(fault), offset);
         return 1;
     }
 
@@ -34,8 +34,11 @@ int main(void)
     const uint8_t cookie[] = {'a', 'b', 'c', 'd'};
     uint8_t packet[1200];
     size_t size;
-    if (!dcsctp_begin(packet, sizeof packet, &size, header.destination_port, header.source_port, init.initiate_tag)
-        || !dcsctp_add_init_ack(packet, sizeof packet, &size, &own, cookie, sizeof cookie) || !dcsctp_seal(packet, size))
+    if (dcsctp_begin(packet, sizeof packet, &size, header.destination_port, header.source_port, init.initiate_tag)
+        || dcsctp_add_init_ack(packet, sizeof packet, &size, &own)
+        || dcsctp_add_parameter(packet, sizeof packet, &size, DCSCTP_FIRST_CHUNK, DCSCTP_PARAMETER_STATE_COOKIE, cookie,
+                                sizeof cookie)
+        || dcsctp_seal(packet, size))
         return 1;
     for (size_t i = 0; i < size; i++)
         printf("%02x", packet[i]);

@@ -7,8 +7,6 @@ static const struct dcsctp_policy policy = {false, false, false};
 /* This side of the one association, and the tag of the other side, which its INIT asks for (RFC 9260 section 8.5). */
 static const struct dcsctp_init own = {0x0da73798, 0x20000, 4, 4, 0x66e387ab};
 static const uint8_t cookie[] = {'a', 'b', 'c', 'd'};
-static const struct dcsctp_gap_ack_block no_blocks[1];
-static const uint32_t no_tsns[1];
 static uint32_t peer_tag;
 
 static void print_hex(const char *before, const uint8_t *bytes, size_t size)
@@ -23,6 +21,7 @@ static void print_chunk(const uint8_t *bytes, size_t length, const struct dcsctp
 {
     struct dcsctp_data data;
     struct dcsctp_sack sack;
+    struct dcsctp_parameter item;
     printf("  chunk %u, flags %u, %zu bytes\n", chunk->type, chunk->flags, chunk->value_size);
     if (dcsctp_data(bytes, length, chunk, &data)) {
         printf("    tsn %u, stream %u, ssn %u, mid %u", data.tsn, data.stream, data.ssn, data.mid);
@@ -41,6 +40,8 @@ static void print_chunk(const uint8_t *bytes, size_t length, const struct dcsctp
             printf(" %u", tsn);
         putchar('\n');
     }
+    for (size_t at = chunk->list_offset; dcsctp_parameter_at(bytes, length, chunk, at, &item); at = item.next)
+        printf("    item %u, %zu bytes\n", item.type, item.value_size);
 }
 
 /* Writes the answer to a packet: INIT ACK to an INIT, a SACK to DATA. Returns its size, or 0 if there is none. */
@@ -56,12 +57,15 @@ static size_t answer(const uint8_t *bytes, size_t length, uint8_t *packet, size_
     bool is_init = chunk.type == DCSCTP_CHUNK_INIT && chunk.next == length && header.verification_tag == 0
         && dcsctp_init(bytes, length, &chunk, &init) && init.initiate_tag != 0;
     peer_tag = is_init ? init.initiate_tag : peer_tag;
-    if (!dcsctp_begin(packet, room, &size, header.destination_port, header.source_port, peer_tag))
-        return 0;
-    bool added = is_init ? dcsctp_add_init_ack(packet, room, &size, &own, cookie, sizeof cookie)
-        : header.verification_tag == own.initiate_tag && dcsctp_data(bytes, length, &chunk, &data)
-            && dcsctp_add_sack(packet, room, &size, data.tsn, own.a_rwnd, no_blocks, 0, no_tsns, 0);
-    return added && dcsctp_seal(packet, size) ? size : 0;
+    bool is_data = header.verification_tag == own.initiate_tag && dcsctp_data(bytes, length, &chunk, &data);
+    uint32_t code = dcsctp_begin(packet, room, &size, header.destination_port, header.source_port, peer_tag);
+    if (code == DCSCTP_OK && is_init)
+        code = dcsctp_add_init_ack(packet, room, &size, &own);
+    if (code == DCSCTP_OK && is_init) /* to the last chunk, which is also the first */
+        code = dcsctp_add_parameter(packet, room, &size, DCSCTP_FIRST_CHUNK, DCSCTP_PARAMETER_STATE_COOKIE, cookie, sizeof cookie);
+    if (code == DCSCTP_OK && is_data)
+        code = dcsctp_add_sack(packet, room, &size, data.tsn, own.a_rwnd, NULL, 0, NULL, 0);
+    return (is_init || is_data) && code == DCSCTP_OK && dcsctp_seal(packet, size) == DCSCTP_OK ? size : 0;
 }
 
 static void show(const uint8_t *bytes, size_t length)

@@ -11,23 +11,23 @@ namespace dcsctp {
 using Policy = ::dcsctp_policy;
 using Header = struct ::dcsctp_header;
 using Chunk = ::dcsctp_chunk;
+using Parameter = ::dcsctp_parameter;
 using Data = struct ::dcsctp_data;
 using Sack = struct ::dcsctp_sack;
 using Block = struct ::dcsctp_gap_ack_block;
 using Init = struct ::dcsctp_init;
 
-/// Items that lie one after the other. Its pointer is never null.
+/// Items that lie one after the other.
 template <typename T> class View {
   public:
-    View() : data_(&none_), size_(0) {}
-    View(const T *data, size_t size) : data_(data ? data : &none_), size_(data ? size : 0) {}
+    View() : data_(nullptr), size_(0) {}
+    View(const T *data, size_t size) : data_(data), size_(size) {}
     const T *data() const { return data_; }
     size_t size() const { return size_; }
     const T *begin() const { return data_; }
     const T *end() const { return data_ + size_; }
 
   private:
-    static inline const T none_{};
     const T *data_;
     size_t size_;
 };
@@ -86,6 +86,12 @@ class Packet {
         return value_of<Chunk>([&](Chunk *it) { return dcsctp_chunk_at(bytes_.data(), bytes_.size(), offset, it); });
     }
     Chunks chunks() const { return Chunks(*this); }
+    /// Returns the parameter or the error cause of the chunk at an offset; the first is at its `list_offset`.
+    std::optional<Parameter> parameter_at(const Chunk &chunk, size_t offset) const
+    {
+        return value_of<Parameter>(
+            [&](Parameter *it) { return dcsctp_parameter_at(bytes_.data(), bytes_.size(), &chunk, offset, it); });
+    }
     std::optional<Data> data(const Chunk &chunk) const
     {
         return value_of<Data>([&](Data *it) { return dcsctp_data(bytes_.data(), bytes_.size(), &chunk, it); });
@@ -133,32 +139,51 @@ class Packet {
     Policy policy_{};
 };
 
-/// A packet that is written into a buffer. After a call that fails it stays empty.
+/// A packet that is written into a buffer, as long as no call fails.
 class Writer {
   public:
     template <size_t room>
     Writer(uint8_t (&buffer)[room], uint16_t source, uint16_t destination, uint32_t tag) : buffer_(buffer), room_(room)
     {
-        good_ = dcsctp_begin(buffer_, room_, &size_, source, destination, tag);
+        code_ = dcsctp_begin(buffer_, room_, &size_, source, destination, tag);
     }
-    Writer &init_ack(const Init &init, Bytes cookie)
+    Writer &init_ack(const Init &init)
     {
-        good_ = good_ && dcsctp_add_init_ack(buffer_, room_, &size_, &init, cookie.data(), cookie.size());
+        return add([&] { return dcsctp_add_init_ack(buffer_, room_, &size_, &init); });
+    }
+    /// Adds a parameter, or an error cause of this code, to the chunk before.
+    Writer &parameter(uint16_t type, Bytes value)
+    {
+        if (code_ == DCSCTP_OK)
+            code_ = dcsctp_add_parameter(buffer_, room_, &size_, start_, type, value.data(), value.size());
         return *this;
     }
     Writer &sack(uint32_t cumulative_tsn_ack, uint32_t a_rwnd, View<Block> blocks = {}, View<uint32_t> duplicates = {})
     {
-        good_ = good_ && dcsctp_add_sack(buffer_, room_, &size_, cumulative_tsn_ack, a_rwnd, blocks.data(),
-                                         blocks.size(), duplicates.data(), duplicates.size());
-        return *this;
+        return add([&] {
+            return dcsctp_add_sack(buffer_, room_, &size_, cumulative_tsn_ack, a_rwnd, blocks.data(), blocks.size(),
+                                   duplicates.data(), duplicates.size());
+        });
     }
+    /// Returns DCSCTP_OK, or the code of the first call that failed.
+    uint32_t code() const { return code_; }
     /// Writes the CRC32c, and returns the packet; no bytes if a call before failed.
-    Bytes seal() { return good_ && dcsctp_seal(buffer_, size_) ? Bytes(buffer_, size_) : Bytes(); }
+    Bytes seal()
+    {
+        return code_ == DCSCTP_OK && dcsctp_seal(buffer_, size_) == DCSCTP_OK ? Bytes(buffer_, size_) : Bytes();
+    }
 
   private:
+    template <typename Call> Writer &add(Call call)
+    {
+        start_ = size_;
+        if (code_ == DCSCTP_OK)
+            code_ = call();
+        return *this;
+    }
     uint8_t *buffer_;
-    size_t room_, size_ = 0;
-    bool good_;
+    size_t room_, size_ = 0, start_ = 0; // start_: of the last chunk
+    uint32_t code_;
 };
 
 } // namespace dcsctp

@@ -44,6 +44,8 @@ static void print_chunk(const Packet &packet, const Chunk &chunk)
             std::cout << " " << *tsn;
         std::cout << "\n";
     }
+    for (auto item = packet.parameter_at(chunk, chunk.list_offset); item; item = packet.parameter_at(chunk, item->next))
+        std::cout << "    item " << item->type << ", " << item->value_size << " bytes\n";
 }
 
 // The answer to a packet: INIT ACK to an INIT, a SACK to DATA; no bytes if there is none.
@@ -58,7 +60,10 @@ static Bytes answer(const Packet &packet, uint8_t (&reply)[1200])
     if (init && chunk->type == DCSCTP_CHUNK_INIT && header->verification_tag == 0 && chunk->next == packet.size()
         && init->initiate_tag != 0) {
         peer_tag = init->initiate_tag;
-        return Writer(reply, source, destination, peer_tag).init_ack(own, {cookie, sizeof cookie}).seal();
+        return Writer(reply, source, destination, peer_tag)
+            .init_ack(own)
+            .parameter(DCSCTP_PARAMETER_STATE_COOKIE, {cookie, sizeof cookie})
+            .seal();
     }
     auto data = packet.data(*chunk);
     if (data && header->verification_tag == own.initiate_tag)

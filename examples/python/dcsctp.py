@@ -5,6 +5,7 @@ from ctypes import POINTER, byref, c_bool, c_char_p, c_size_t, c_uint8, c_uint16
 OK, NO_ROOM = 0, 7
 FIRST_CHUNK = 12
 INIT = 1
+STATE_COOKIE = 7
 
 
 def struct(name, **fields):
@@ -13,7 +14,9 @@ def struct(name, **fields):
 
 Policy = struct('Policy', any_checksum=c_bool, zero_checksum=c_bool, strict_padding=c_bool)
 Header = struct('Header', source_port=c_uint16, destination_port=c_uint16, verification_tag=c_uint32, checksum=c_uint32)
-Chunk = struct('Chunk', type=c_uint8, flags=c_uint8, value_offset=c_size_t, value_size=c_size_t, next=c_size_t)
+Chunk = struct('Chunk', type=c_uint8, flags=c_uint8, value_offset=c_size_t, value_size=c_size_t, list_offset=c_size_t,
+               next=c_size_t)
+Parameter = struct('Parameter', type=c_uint16, value_offset=c_size_t, value_size=c_size_t, next=c_size_t)
 Data = struct('Data', tsn=c_uint32, mid=c_uint32, fsn=c_uint32, ppid=c_uint32, stream=c_uint16, ssn=c_uint16,
               is_unordered=c_bool, is_beginning=c_bool, is_end=c_bool, immediate_ack=c_bool,
               payload_offset=c_size_t, payload_size=c_size_t)
@@ -22,7 +25,7 @@ GapAckBlock = struct('GapAckBlock', start=c_uint16, end=c_uint16)
 Init = struct('Init', initiate_tag=c_uint32, a_rwnd=c_uint32, outbound_streams=c_uint16, inbound_streams=c_uint16,
               initial_tsn=c_uint32)
 
-PACKET = (c_char_p, c_size_t)  # bytes are never null in Python, also where there are none
+PACKET = (c_char_p, c_size_t)
 BUFFER = (POINTER(c_uint8), c_size_t, POINTER(c_size_t))
 PRINT = (*PACKET, c_uint32, POINTER(Policy), POINTER(c_uint8), c_size_t, POINTER(c_size_t))
 FUNCTIONS = {
@@ -31,15 +34,17 @@ FUNCTIONS = {
     'dcsctp_word': (c_uint32, *PACKET),
     'dcsctp_header': (c_bool, *PACKET, POINTER(Header)),
     'dcsctp_chunk_at': (c_bool, *PACKET, c_size_t, POINTER(Chunk)),
+    'dcsctp_parameter_at': (c_bool, *PACKET, POINTER(Chunk), c_size_t, POINTER(Parameter)),
     'dcsctp_data': (c_bool, *PACKET, POINTER(Chunk), POINTER(Data)),
     'dcsctp_sack': (c_bool, *PACKET, POINTER(Chunk), POINTER(Sack)),
     'dcsctp_gap_ack_block': (c_bool, *PACKET, POINTER(Chunk), c_size_t, POINTER(GapAckBlock)),
     'dcsctp_duplicate_tsn': (c_bool, *PACKET, POINTER(Chunk), c_size_t, POINTER(c_uint32)),
     'dcsctp_init': (c_bool, *PACKET, POINTER(Chunk), POINTER(Init)),
-    'dcsctp_seal': (c_bool, POINTER(c_uint8), c_size_t),
-    'dcsctp_begin': (c_bool, *BUFFER, c_uint16, c_uint16, c_uint32),
-    'dcsctp_add_sack': (c_bool, *BUFFER, c_uint32, c_uint32, POINTER(GapAckBlock), c_size_t, POINTER(c_uint32), c_size_t),
-    'dcsctp_add_init_ack': (c_bool, *BUFFER, POINTER(Init), c_char_p, c_size_t),
+    'dcsctp_seal': (c_uint32, POINTER(c_uint8), c_size_t),
+    'dcsctp_begin': (c_uint32, *BUFFER, c_uint16, c_uint16, c_uint32),
+    'dcsctp_add_sack': (c_uint32, *BUFFER, c_uint32, c_uint32, POINTER(GapAckBlock), c_size_t, POINTER(c_uint32), c_size_t),
+    'dcsctp_add_init_ack': (c_uint32, *BUFFER, POINTER(Init)),
+    'dcsctp_add_parameter': (c_uint32, *BUFFER, c_size_t, c_uint16, c_char_p, c_size_t),
 }
 
 
@@ -90,6 +95,13 @@ class Packet:
             yield chunk
             at = chunk.next
 
+    def parameters(self, chunk):
+        """The parameters or the error causes of a chunk."""
+        at = chunk.list_offset
+        while item := self.read(Parameter, self.library.parameter_at, byref(chunk), at):
+            yield item
+            at = item.next
+
     def data(self, chunk):
         """The numbers of DATA or I-DATA, and its payload; or None."""
         data = self.read(Data, self.library.data, byref(chunk))
@@ -107,25 +119,37 @@ class Packet:
         return self.read(Init, self.library.init, byref(chunk))
 
 
+class NotWritten(Exception):
+    """What has no room, or can't be written; its argument is the code of dcsctp.h."""
+
+
 class Writer:
-    """A packet that is written; MemoryError where it has no room."""
+    """A packet that is written. A call that raises NotWritten has changed nothing."""
 
     def __init__(self, library, room, source, destination, tag):
         self.library, self.room, self.size = library, room, c_size_t()
-        self.packet = (c_uint8 * max(room, 1))()
+        self.packet = (c_uint8 * room)()
         self.call(library.begin, source, destination, tag)
 
     def call(self, function, *arguments):
-        if not function(self.packet, self.room, byref(self.size), *arguments):
-            raise MemoryError('no room for the chunk')
+        if code := function(self.packet, self.room, byref(self.size), *arguments):
+            raise NotWritten(code)
+
+    def add(self, function, *arguments):
+        """Adds a chunk, to which parameters or error causes can then be added."""
+        start = self.size.value
+        self.call(function, *arguments)
+        self.start = start
 
     def sack(self, cumulative_tsn_ack, a_rwnd, blocks=(), duplicates=()):
-        self.call(self.library.add_sack, cumulative_tsn_ack, a_rwnd,
-                  (GapAckBlock * max(len(blocks), 1))(*blocks), len(blocks),
-                  (c_uint32 * max(len(duplicates), 1))(*duplicates), len(duplicates))
+        self.add(self.library.add_sack, cumulative_tsn_ack, a_rwnd, (GapAckBlock * len(blocks))(*blocks), len(blocks),
+                 (c_uint32 * len(duplicates))(*duplicates), len(duplicates))
 
-    def init_ack(self, init, cookie):
-        self.call(self.library.add_init_ack, byref(init), cookie, len(cookie))
+    def init_ack(self, init):
+        self.add(self.library.add_init_ack, byref(init))
+
+    def parameter(self, parameter_type, value):
+        self.call(self.library.add_parameter, self.start, parameter_type, value, len(value))
 
     def seal(self):
         """Writes the CRC32c, and returns the packet."""

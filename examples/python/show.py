@@ -5,7 +5,7 @@ usage: show.py LIBRARY FILE
 """
 import sys
 
-from dcsctp import FIRST_CHUNK, INIT, Init, Library, Packet, Writer
+from dcsctp import INIT, STATE_COOKIE, Init, Library, Packet, Writer
 
 # This side of the association.
 OWN = Init(initiate_tag=0x0da73798, a_rwnd=0x20000, outbound_streams=4, inbound_streams=4, initial_tsn=0x66e387ab)
@@ -24,6 +24,8 @@ def print_chunk(packet, chunk):
         print(f'    cumulative tsn {sack.cumulative_tsn_ack}, a_rwnd {sack.a_rwnd}')
         print('    blocks' + ''.join(f' {block.start}-{block.end}' for block in blocks))
         print('    duplicates' + ''.join(f' {tsn}' for tsn in duplicates))
+    for item in packet.parameters(chunk):
+        print(f'    item {item.type}, {item.value_size} bytes')
 
 
 class Server:
@@ -45,7 +47,8 @@ class Server:
             if self.peer_tag == 0:
                 return None
             writer = self.reply_to(header)
-            writer.init_ack(OWN, b'abcd')
+            writer.init_ack(OWN)
+            writer.parameter(STATE_COOKIE, b'abcd')
             return writer.seal()
         if header.verification_tag == OWN.initiate_tag and (found := packet.data(chunk)):
             writer = self.reply_to(header)

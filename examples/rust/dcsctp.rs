@@ -28,7 +28,18 @@ pub struct Chunk {
     pub flags: u8,
     pub value_offset: usize,
     pub value_size: usize,
+    pub list_offset: usize,
     pub next: usize,
+}
+
+/// A parameter, or an error cause with its code as the type.
+#[repr(C)]
+#[derive(Clone, Copy, Default)]
+pub struct Parameter {
+    pub typ: u16,
+    pub value_offset: usize,
+    pub value_size: usize,
+    next: usize,
 }
 
 #[repr(C)]
@@ -83,18 +94,20 @@ unsafe extern "C" {
     fn dcsctp_word(bytes: *const u8, length: usize) -> u32;
     fn dcsctp_header(bytes: *const u8, length: usize, header: &mut Header) -> bool;
     fn dcsctp_chunk_at(bytes: *const u8, length: usize, offset: usize, chunk: &mut Chunk) -> bool;
+    fn dcsctp_parameter_at(bytes: *const u8, length: usize, chunk: &Chunk, offset: usize, parameter: &mut Parameter) -> bool;
     fn dcsctp_data(bytes: *const u8, length: usize, chunk: &Chunk, data: &mut Data) -> bool;
     fn dcsctp_sack(bytes: *const u8, length: usize, chunk: &Chunk, sack: &mut Sack) -> bool;
     fn dcsctp_gap_ack_block(bytes: *const u8, length: usize, chunk: &Chunk, index: usize, block: &mut GapAckBlock) -> bool;
     fn dcsctp_duplicate_tsn(bytes: *const u8, length: usize, chunk: &Chunk, index: usize, tsn: &mut u32) -> bool;
     fn dcsctp_init(bytes: *const u8, length: usize, chunk: &Chunk, init: &mut Init) -> bool;
-    fn dcsctp_seal(packet: *mut u8, length: usize) -> bool;
+    fn dcsctp_seal(packet: *mut u8, length: usize) -> u32;
     fn dcsctp_begin(packet: *mut u8, room: usize, size: &mut usize, source_port: u16, destination_port: u16,
-        verification_tag: u32) -> bool;
+        verification_tag: u32) -> u32;
     fn dcsctp_add_sack(packet: *mut u8, room: usize, size: &mut usize, cumulative_tsn_ack: u32, a_rwnd: u32,
-        blocks: *const GapAckBlock, block_count: usize, duplicates: *const u32, duplicate_count: usize) -> bool;
-    fn dcsctp_add_init_ack(packet: *mut u8, room: usize, size: &mut usize, init: &Init, cookie: *const u8,
-        cookie_size: usize) -> bool;
+        blocks: *const GapAckBlock, block_count: usize, duplicates: *const u32, duplicate_count: usize) -> u32;
+    fn dcsctp_add_init_ack(packet: *mut u8, room: usize, size: &mut usize, init: &Init) -> u32;
+    fn dcsctp_add_parameter(packet: *mut u8, room: usize, size: &mut usize, start: usize, typ: u16, value: *const u8,
+        value_size: usize) -> u32;
 }
 
 /// The code and the offset of a fault.
@@ -157,6 +170,14 @@ impl<'a> Packet<'a> {
         std::iter::successors(chunk_at(12), move |chunk: &Chunk| chunk_at(chunk.next))
     }
 
+    /// The parameters or the error causes of a chunk.
+    pub fn parameters(self, chunk: Chunk) -> impl Iterator<Item = Parameter> + 'a {
+        let parameter_at = move |offset| {
+            value_of(|it| unsafe { dcsctp_parameter_at(self.bytes.as_ptr(), self.bytes.len(), &chunk, offset, it) })
+        };
+        std::iter::successors(parameter_at(chunk.list_offset), move |it: &Parameter| parameter_at(it.next))
+    }
+
     /// The numbers of DATA or I-DATA, and its payload.
     pub fn data(self, chunk: &Chunk) -> Option<(Data, &'a [u8])> {
         let data: Data = value_of(|data| unsafe { dcsctp_data(self.bytes.as_ptr(), self.bytes.len(), chunk, data) })?;
@@ -185,35 +206,56 @@ impl<'a> Packet<'a> {
     }
 }
 
-/// A packet that is written into a buffer; each call returns none where it has no room.
+/// A packet that is written into a buffer. A call fails with a code of dcsctp.h: 7 where there is no room.
 pub struct Writer<'a> {
     packet: &'a mut [u8],
     size: usize,
+    /// Where the last chunk begins.
+    start: usize,
 }
 
 impl<'a> Writer<'a> {
-    pub fn begin(packet: &'a mut [u8], source: u16, destination: u16, tag: u32) -> Option<Self> {
-        let mut size = 0;
-        unsafe { dcsctp_begin(packet.as_mut_ptr(), packet.len(), &mut size, source, destination, tag) }
-            .then_some(Writer { packet, size })
+    pub fn begin(packet: &'a mut [u8], source: u16, destination: u16, tag: u32) -> Result<Self, u32> {
+        let (at, room, mut size) = (packet.as_mut_ptr(), packet.len(), 0);
+        let code = unsafe { dcsctp_begin(at, room, &mut size, source, destination, tag) };
+        Writer { packet, size, start: 0 }.if_ok(code)
     }
 
-    pub fn sack(mut self, tsn: u32, a_rwnd: u32, blocks: &[GapAckBlock], duplicates: &[u32]) -> Option<Self> {
-        let (at, room) = (self.packet.as_mut_ptr(), self.packet.len());
+    pub fn sack(mut self, tsn: u32, a_rwnd: u32, blocks: &[GapAckBlock], duplicates: &[u32]) -> Result<Self, u32> {
+        let (at, room, size) = self.open();
         let (first, count) = (blocks.as_ptr(), blocks.len());
-        let size = &mut self.size;
-        unsafe { dcsctp_add_sack(at, room, size, tsn, a_rwnd, first, count, duplicates.as_ptr(), duplicates.len()) }
-            .then_some(self)
+        let (tsns, tsn_count) = (duplicates.as_ptr(), duplicates.len());
+        let code = unsafe { dcsctp_add_sack(at, room, size, tsn, a_rwnd, first, count, tsns, tsn_count) };
+        self.if_ok(code)
     }
 
-    pub fn init_ack(mut self, init: &Init, cookie: &[u8]) -> Option<Self> {
+    pub fn init_ack(mut self, init: &Init) -> Result<Self, u32> {
+        let (at, room, size) = self.open();
+        let code = unsafe { dcsctp_add_init_ack(at, room, size, init) };
+        self.if_ok(code)
+    }
+
+    /// Adds a parameter, or an error cause of this code, to the chunk before.
+    pub fn parameter(mut self, typ: u16, value: &[u8]) -> Result<Self, u32> {
         let (at, room) = (self.packet.as_mut_ptr(), self.packet.len());
-        unsafe { dcsctp_add_init_ack(at, room, &mut self.size, init, cookie.as_ptr(), cookie.len()) }.then_some(self)
+        let (size, first, count) = (&mut self.size, value.as_ptr(), value.len());
+        let code = unsafe { dcsctp_add_parameter(at, room, size, self.start, typ, first, count) };
+        self.if_ok(code)
     }
 
     /// Writes the CRC32c, and returns the packet.
     pub fn seal(self) -> &'a [u8] {
         unsafe { dcsctp_seal(self.packet.as_mut_ptr(), self.size) };
         &self.packet[..self.size]
+    }
+
+    /// What a call that adds a chunk takes: the chunk begins where the packet ends.
+    fn open(&mut self) -> (*mut u8, usize, &mut usize) {
+        self.start = self.size;
+        (self.packet.as_mut_ptr(), self.packet.len(), &mut self.size)
+    }
+
+    fn if_ok(self, code: u32) -> Result<Self, u32> {
+        if code == 0 { Ok(self) } else { Err(code) }
     }
 }

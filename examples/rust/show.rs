@@ -15,8 +15,9 @@ const OWN: Init = Init {
     initial_tsn: 0x66e387ab,
 };
 
-/// The type of INIT.
+/// The type of INIT, and that of the parameter State Cookie.
 const INIT: u8 = 1;
+const STATE_COOKIE: u16 = 7;
 
 fn hex(bytes: &[u8]) -> String {
     bytes.iter().map(|byte| format!("{byte:02x}")).collect()
@@ -42,6 +43,9 @@ fn print_chunk(packet: Packet, chunk: &Chunk) {
         }
         println!();
     }
+    for item in packet.parameters(*chunk) {
+        println!("    item {}, {} bytes", item.typ, item.value_size);
+    }
 }
 
 /// The answer to a packet: INIT ACK to an INIT, a SACK to DATA. `peer_tag` is the tag of the other side, which its INIT
@@ -55,15 +59,15 @@ fn answer<'a>(packet: Packet, peer_tag: &mut u32, reply: &'a mut [u8]) -> Option
         if *peer_tag == 0 {
             return None;
         }
-        let writer = Writer::begin(reply, source, destination, *peer_tag)?;
-        return Some(writer.init_ack(&OWN, b"abcd")?.seal());
+        let writer = Writer::begin(reply, source, destination, *peer_tag).ok()?;
+        return Some(writer.init_ack(&OWN).ok()?.parameter(STATE_COOKIE, b"abcd").ok()?.seal());
     }
     let (data, _) = packet.data(&chunk)?;
     if header.verification_tag != OWN.initiate_tag {
         return None;
     }
-    let writer = Writer::begin(reply, source, destination, *peer_tag)?;
-    Some(writer.sack(data.tsn, OWN.a_rwnd, &[], &[])?.seal())
+    let writer = Writer::begin(reply, source, destination, *peer_tag).ok()?;
+    Some(writer.sack(data.tsn, OWN.a_rwnd, &[], &[]).ok()?.seal())
 }
 
 fn show(packet: Packet, peer_tag: &mut u32) {

@@ -1,9 +1,9 @@
 -- What a buffer holds after each step.
-use Rattle.std.{proofs.Common.{◌≡◌, ℕ, ◌+◌, ◌-◌, ◌^◌, ◌≤◌, ◌<◌, Ok, List, [], ◌∷◌, ◌++◌, length, take, drop, refl, sym, ap, subst, ◌∙◌, append_assoc, arith, length-append, length-take, take_at, drop_at, take-take}, specs.List.{AllByRecursion}, specs.Int.{w32, to_be_bytes}, proofs.lemmas.List.{drop-take}, proofs.Math.Seq.{take-append-add}}
-use Rattle.dcsctp_tlv.{specs.Frame.{round_up_to_4}, specs.Image.{put, size_of}, proofs.Kept.{all_map}}
+use Rattle.std.{proofs.Common.{◌≡◌, ◌≢◌, ℕ, ◌+◌, ◌-◌, ◌^◌, ◌≤◌, ◌<◌, Bool, Ok, List, [], ◌∷◌, ◌++◌, length, take, drop, refl, sym, ap, subst, ◌∙◌, append_assoc, arith, length-append, length-take, take_at, drop_at, take-take}, specs.List.{AllByRecursion, flat_map}, specs.Int.{w32, to_be_bytes}, proofs.lemmas.List.{drop-take}, proofs.lemmas.Nat.{from_be_bytes-to_be_bytes_2, from_be_bytes-to_be_bytes_4}, proofs.Math.Seq.{take-append-add}}
+use Rattle.dcsctp_tlv.{specs.Frame.{round_up_to_4, full_padding, Item}, specs.Image.{Tlv, zeroed, put, size_of}, specs.Level.{Level, ItemsMean, MeansTrees}, proofs.ReadsBack.{ReadsBack, full_zeros_accepted, body_reads_back}}
 use Rattle.dcsctp_crc32c.specs.Checksum.{packet_word}
-use Rattle.dcsctp_wire.{specs.Chunk.{ChunkTree, tlv as chunk_tlv, IsChunkEncodable, IsInWidth as IsChunkInWidth, kept as kept_chunk}, specs.Canonical.{canonical, padded_chunk, Fits}, specs.Packet.{Meaning, Answer, equal}, specs.WellFormed.{IsInWidth, IsWellFormed}, specs.declared.packet.sctp_packet.ChecksumPolicy.{ChecksumPolicy}, proofs.KeptLaws.{canonical_kept, kept_encodable, kept_width}, proofs.Canonicals.{length-canonical, length-padded_chunk, canonical-push, padded_size-push, with_field, reads_back_with}}
-use Rattle.dcsctp_buffer.specs.Buffer.{HoldsPacket, HasRoom, with_chunk, kept}
+use Rattle.dcsctp_wire.{specs.Chunk.{ChunkTree, chunks, chunk_row, format, tlv as chunk_tlv, IsChunkEncodable, IsInWidth as IsChunkInWidth, IsWellFormed as IsChunkWellFormed, kept as kept_chunk, all_kept}, specs.Canonical.{canonical, padded_chunk, padded_size, Fits}, specs.Packet.{Meaning, Answer, equal, header_of}, specs.WellFormed.{IsInWidth, IsWellFormed}, specs.declared.packet.sctp_packet.ChecksumPolicy.{ChecksumPolicy}, proofs.ChunkLaws.{chunks_read_back}, proofs.KeptLaws.{kept_tlv, kept_encodable, kept_width}, proofs.Packets.{has_header}, proofs.Canonicals.{length-canonical, length-padded_chunk, canonical-push, padded_size-push, with_field, field_back}}
+use Rattle.dcsctp_buffer.specs.Buffer.{HoldsPacket, HasRoom, with_chunk, kept, ReadAs}
 
 -- ---- a packet is begun
 
@@ -33,7 +33,7 @@ begins old new header source destination tag s d t room is e =
 
 -- ---- one more chunk
 
-each-push : (P : ChunkTree → Type 0) (ts : List ChunkTree) (t : ChunkTree) → AllByRecursion P ts
+pub each-push : (P : ChunkTree → Type 0) (ts : List ChunkTree) (t : ChunkTree) → AllByRecursion P ts
     → P t → AllByRecursion P (ts ++ t ∷ [])
 each-push P [] t each last = (last, tt)
 each-push P (u ∷ ts) t each last = (each.0, each-push P ts t each.1 last)
@@ -103,22 +103,119 @@ word_of_field : (m : Meaning) (word : ℕ) → packet_word (with_field m word) �
 unfolding canonical
 word_of_field m word = refl
 
-kept_fits : (m : Meaning) → Fits m → Fits (kept m)
-kept_fits m h =
-    let len = sym (length-canonical (kept m)) ∙ ap length (canonical_kept m) ∙ length-canonical m in
-    record {
-      each = all_map IsChunkEncodable IsChunkEncodable kept_chunk kept_encodable m.chunks
-          h.each;
-      whole = omega (arith, len, h.whole);
-    }
-
-kept_widths : (m : Meaning) → IsInWidth m → IsInWidth (kept m)
-kept_widths m h = record {
-  source = h.source;
-  destination = h.destination;
-  tag = h.tag;
-  each = all_map IsChunkInWidth IsChunkInWidth kept_chunk kept_width m.chunks h.each;
+-- a level where each item means the tree that it is written for
+abbrev as_written : Bool → Level ChunkTree
+as_written strict = record {
+  row = λ first second. record {
+    means = λ value t. (first ≡ (chunk_tlv t).first) × (second ≡ (chunk_tlv t).second)
+        × (value ≡ zeroed (chunk_tlv t).value);
+    faults = λ value f. ⊥;
+  };
+  padding = full_padding strict;
 }
+
+written_back : (strict : Bool) → ReadsBack (as_written strict) chunk_tlv IsChunkEncodable
+written_back strict = record {
+  sized = λ t. (format t).sized;
+  fits = λ t encodable. encodable.1;
+  means = λ t encodable. (refl, refl, refl);
+}
+
+-- so the items mean what their chunks read as
+items_mean : (strict : Bool) (is : List Item) (ts us : List ChunkTree)
+    → ItemsMean (as_written strict) is ts → ReadAs strict ts us → ItemsMean (chunks strict) is us
+items_mean strict [] [] [] m r = tt
+items_mean strict (i ∷ is) (t ∷ ts) (u ∷ us) m r = (
+  rw (m.0.0, m.0.1, m.0.2) r.0,
+  items_mean strict is ts us m.1 r.1,
+)
+items_mean strict [] (t ∷ ts) us m r = absurd m
+items_mean strict (i ∷ is) [] us m r = absurd m
+items_mean strict [] [] (u ∷ us) m r = absurd r
+items_mean strict (i ∷ is) (t ∷ ts) [] m r = absurd r
+
+body_means : (strict : Bool) (ts us : List ChunkTree) → AllByRecursion IsChunkEncodable ts
+    → ReadAs strict ts us → MeansTrees (chunks strict) (flat_map padded_chunk ts) us
+body_means strict ts us encodable r =
+    let b = body_reads_back (as_written strict) chunk_tlv IsChunkEncodable (written_back strict) ts
+    encodable (full_zeros_accepted strict) in
+    record { items = b.items; are = b.are; mean = items_mean strict b.items ts us b.mean r }
+
+four : (ts : List ChunkTree) → ts ≢ [] → 4 ≤ padded_size ts
+four [] some = absurd (some refl)
+four (t ∷ ts) some = omega arith
+
+length-field : (m : Meaning) (word : ℕ) → length (with_field m word) ≡ length (canonical m)
+unfolding canonical
+length-field m word = refl
+
+-- the canonical packet with its word in its checksum field
+field_means : (m : Meaning) (us : List ChunkTree) (word : ℕ) (policy : ChecksumPolicy)
+    → word < 2 ^ 32 → IsInWidth m → Fits m → m.chunks ≢ []
+    → ReadAs policy.strict_padding m.chunks us
+    → Answer (with_field m word) word policy
+    (Ok (record { meaning = record m { chunks = us }; checksum = word }))
+field_means m us word policy small width fits some r =
+    let len = length-field m word ∙ length-canonical m in
+    let least = four m.chunks some in
+    let e = field_back m word small in (
+      record {
+        size = record {
+          low = omega (arith, len, least);
+          high = omega (arith, len, fits.whole);
+        };
+        accepted = equal e;
+      },
+      record {
+        header = has_header (record { meaning = record m { chunks = us }; checksum = word })
+            (header_of (with_field m word))
+            (sym (from_be_bytes-to_be_bytes_2 m.source width.source))
+            (sym (from_be_bytes-to_be_bytes_2 m.destination width.destination))
+            (sym (from_be_bytes-to_be_bytes_4 m.tag width.tag)) (sym e);
+        chunks = body_means policy.strict_padding m.chunks us fits.each r;
+      },
+    )
+
+pub sealed_means : (old new : List ℕ) (size word : ℕ) (m : Meaning) (us : List ChunkTree)
+    (policy : ChecksumPolicy)
+    → word < 2 ^ 32 → 12 ≤ size
+    → word ≡ packet_word (take size old) → new ≡ put old 8 (to_be_bytes w32 word)
+    → HoldsPacket old size m → m.chunks ≢ [] → ReadAs policy.strict_padding m.chunks us
+    → Answer (take size new) (packet_word (take size new)) policy
+    (Ok (record { meaning = record m { chunks = us }; checksum = packet_word (take size new) }))
+sealed_means old new size word m us policy small header is e h some r =
+    let k = size - 12 in
+    let size_is : size ≡ 12 + k = omega (arith, header) in
+    let put_is : take size (put old 8 (to_be_bytes w32 word)) ≡ put (take size old) 8
+    (to_be_bytes w32 word) =
+    ap (λ (n : ℕ). take n (put old 8 (to_be_bytes w32 word))) size_is
+    ∙ take-put old (to_be_bytes w32 word) 8 k (omega (arith, h.within, size_is))
+    ∙ ap (λ (n : ℕ). put (take n old) 8 (to_be_bytes w32 word)) (sym size_is) in
+    let bytes : take size new ≡ with_field m word =
+    ap (take size) e ∙ put_is ∙ ap (λ (xs : List ℕ). put xs 8 (to_be_bytes w32 word)) h.bytes
+    ∙ field_put m word in
+    let word_is : word ≡ packet_word (take size new) =
+    is ∙ ap packet_word h.bytes ∙ sym (word_of_field m word) ∙ ap packet_word (sym bytes) in
+    subst (λ (n : ℕ). Answer (take size new) n policy
+    (Ok (record { meaning = record m { chunks = us }; checksum = n }))) word_is
+    (subst (λ (xs : List ℕ). Answer xs word policy (Ok
+    (record { meaning = record m { chunks = us }; checksum = word }))) (sym bytes)
+    (field_means m us word policy small h.width h.fits some r))
+
+-- what is written reads as its kept form, where that can be read
+reads_kept : (strict : Bool) (ts : List ChunkTree) → AllByRecursion IsChunkEncodable ts
+    → AllByRecursion IsChunkInWidth ts → AllByRecursion IsChunkWellFormed (all_kept ts)
+    → ReadAs strict ts (all_kept ts)
+reads_kept strict [] encodable width formed = tt
+reads_kept strict (t ∷ ts) encodable width formed = (
+  subst (λ (x : Tlv). (chunk_row strict x.first x.second).means (zeroed x.value) (kept_chunk t))
+      (kept_tlv t) ((chunks_read_back strict).means (kept_chunk t) (record {
+        width = kept_width t width.0;
+        formed = formed.0;
+        encodable = (kept_encodable t encodable.0).1;
+      })),
+  reads_kept strict ts encodable.1 width.1 formed.1,
+)
 
 pub sealed_reads : (old new : List ℕ) (size word : ℕ) (m : Meaning) (policy : ChecksumPolicy)
     → word < 2 ^ 32 → 12 ≤ size
@@ -126,23 +223,7 @@ pub sealed_reads : (old new : List ℕ) (size word : ℕ) (m : Meaning) (policy 
     → HoldsPacket old size m → IsWellFormed (kept m)
     → Answer (take size new) (packet_word (take size new)) policy
     (Ok (record { meaning = kept m; checksum = packet_word (take size new) }))
-sealed_reads old new size word m policy fits header is e h formed =
-    let k = size - 12 in
-    let size_is : size ≡ 12 + k = omega (arith, header) in
-    let held : take size old ≡ canonical (kept m) = h.bytes ∙ sym (canonical_kept m) in
-    let put_is : take size (put old 8 (to_be_bytes w32 word)) ≡ put (take size old) 8
-    (to_be_bytes w32 word) =
-    ap (λ (n : ℕ). take n (put old 8 (to_be_bytes w32 word))) size_is
-    ∙ take-put old (to_be_bytes w32 word) 8 k (omega (arith, h.within, size_is))
-    ∙ ap (λ (n : ℕ). put (take n old) 8 (to_be_bytes w32 word)) (sym size_is) in
-    let bytes : take size new ≡ with_field (kept m) word =
-    ap (take size) e ∙ put_is ∙ ap (λ (xs : List ℕ). put xs 8 (to_be_bytes w32 word)) held
-    ∙ field_put (kept m) word in
-    let word_is : word ≡ packet_word (take size new) =
-    is ∙ ap packet_word held ∙ sym (word_of_field (kept m) word) ∙ ap packet_word (sym bytes) in
-    subst (λ (n : ℕ). Answer (take size new) n policy
-    (Ok (record { meaning = kept m; checksum = n }))) word_is
-    (subst (λ (xs : List ℕ). Answer xs word policy (Ok
-    (record { meaning = kept m; checksum = word }))) (sym bytes)
-    (reads_back_with (kept m) word word policy fits (kept_widths m h.width) formed
-    (kept_fits m h.fits) (equal refl)))
+sealed_reads old new size word m policy small header is e h formed =
+    sealed_means old new size word m (all_kept m.chunks) policy small header is e h
+    (λ none. formed.some (ap all_kept none))
+    (reads_kept policy.strict_padding m.chunks h.fits.each h.width.each formed.each)

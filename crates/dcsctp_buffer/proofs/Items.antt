@@ -1,7 +1,8 @@
 -- What an output is after a chunk was written at its front, whose bytes have no place left out.
-use Rattle.std.proofs.{Common.{◌≡◌, ℕ, ◌+◌, ◌-◌, ◌≤◌, List, [], ◌∷◌, ◌++◌, length, take, drop, replicate, refl, sym, ap, ◌∙◌, arith, Some, append-nil, length-append, length-drop, drop-drop}, lemmas.List.{map-append}}
-use Rattle.dcsctp_tlv.{specs.Frame.{header, typed_header}, specs.Image.{Tlv, put, solid, zeroed, size_of, image_of, written, solid_tlv, typed_tlv, listed_tlv}, proofs.Images.{written-solid, written-zeros}, proofs.Puts.{put-put, written_value}}
-use Rattle.dcsctp_buffer.specs.Buffer.{with_item}
+use Rattle.std.proofs.{Common.{◌≡◌, ℕ, Bool, true, false, if◌then◌else◌, ◌+◌, ◌-◌, ◌≤◌, List, [], ◌∷◌, ◌++◌, length, take, drop, replicate, refl, sym, ap, ◌∙◌, arith, Some, append-nil}, lemmas.List.{map-append}}
+use Rattle.dcsctp_tlv.{specs.Frame.{header, typed_header}, specs.Image.{Tlv, solid, zeroed, size_of, image_of, written, solid_tlv, typed_tlv, listed_tlv}, specs.Parameter.{tlv as parameter_tlv}, proofs.Images.{written-solid, written-zeros, written_item}}
+use Rattle.dcsctp_wire.specs.{Chunk.{tlv as chunk_tlv}, InitFields.{leading}}
+use Rattle.dcsctp_buffer.specs.{Buffer.{with_item}, Init.{init, fields}, declared.init.BorrowedInit.{BorrowedInit}}
 
 pub zeroed-solid : (bytes : List ℕ) → zeroed (solid bytes) ≡ bytes
 zeroed-solid [] = refl
@@ -36,50 +37,23 @@ length-item_bytes : (typ : ℕ) (value : List ℕ) → length (item_bytes typ va
 unfolding item_bytes
 length-item_bytes typ value = omega arith
 
--- header, leading bytes and one item, each written after what was written
-pub one_item_written : (first second typ n place : ℕ)
-    (leading value old headed led front rest out : List ℕ)
-    → n ≡ length leading + 4 + length value → place ≡ 4 + length leading
-    → 4 + (length leading + (4 + length value)) ≤ length old → length headed ≡ length old
-    → length led ≡ length old
-    → headed ≡ header first second n ++ drop 4 old
-    → led ≡ put headed 4 leading
-    → front ≡ take place led → rest ≡ drop place led
+-- a header, and after it one item
+pub one_item_written : (first second typ : ℕ) (value old headed front rest out : List ℕ)
+    → 8 + length value ≤ length old
+    → headed ≡ header first second (4 + length value) ++ drop 4 old
+    → front ≡ take 4 headed → rest ≡ drop 4 headed
     → out ≡ written (image_of (typed_tlv typ value)) rest
-    → front ++ out ≡ with_item (listed_tlv first second leading (typed_tlv typ) (value ∷ [])) old
-one_item_written first second typ n place leading value old headed led front rest out size at room
-    headed_len led_len h p before after q =
-    let item = item_bytes typ value in
-    let len = length-item_bytes typ value in
-    let all : List ℕ = leading ++ item in
-    let all_len : length all ≡ length leading + (4 + length value) =
-    (let l = length-append leading item in omega (arith, l, len)) in
-    let rest_len = ap length after ∙ length-drop place led in
-    let is_out : out ≡ item ++ drop (length item) rest =
-    q ∙ ap (λ (i : List _). written i rest) (item_image typ value)
-    ∙ written-solid item rest (omega (arith, len, rest_len, led_len, at, room)) in
-    let is_put : front ++ out ≡ put led place item =
+    → front ++ out ≡ with_item (listed_tlv first second [] (typed_tlv typ) (value ∷ [])) old
+one_item_written first second typ value old headed front rest out room h before after e =
+    let item = image_of (typed_tlv typ value) in
+    let t = listed_tlv first second [] (typed_tlv typ) (value ∷ []) in
+    let size : 4 + length value ≡ t.value_size = omega arith in
     ap (λ (xs : List ℕ). xs ++ out) before
-    ∙ ap (λ (xs : List ℕ). take place led ++ xs) is_out
-    ∙ ap (λ (xs : List ℕ). take place led ++ (item ++ xs))
-    (ap (drop (length item)) after ∙ drop-drop (length item) place led) in
-    let t = listed_tlv first second leading (typed_tlv typ) (value ∷ []) in
-    let value_is : t.value ≡ solid all =
-    ap (λ (i : List _). solid leading ++ i) (item_image typ value)
-    ∙ sym (map-append Some leading item) in
-    is_put
-    ∙ ap (λ (xs : List ℕ). put xs place item) p
-    ∙ put-put headed 4 place leading item (omega (arith, headed_len, room)) at
-    ∙ written_value first second n all old headed (omega (arith, size, all_len))
-    (omega (arith, room, all_len)) h
-    ∙ ap (λ (i : List _). written i old)
-    (same_image first second all t.value t.value_size all_len value_is)
-    ∙ solid_item t all old value_is all_len (omega (arith, room)) where
-      same_image : (first second : ℕ) (bytes : List ℕ) (value : List _) (size : ℕ)
-          → length bytes ≡ size → value ≡ solid bytes → image_of (solid_tlv first second bytes)
-          ≡ image_of (record { first = first; second = second; value = value; value_size = size })
-      same_image first second bytes value size e is = λ k.
-          image_of (record { first = first; second = second; value = sym is k; value_size = e k })
+    ∙ ap (λ (xs : List ℕ). take 4 headed ++ xs) (e ∙ ap (written item) after)
+    ∙ written_item t old headed
+    (h ∙ ap (λ (n : ℕ). header first second n ++ drop 4 old) size) (omega (arith, room))
+    ∙ solid_item t (item_bytes typ value) old (item_image typ value)
+    (length-item_bytes typ value ∙ size) (omega (arith, room))
 
 -- an item written over zeros
 pub zeroed_item : (t : Tlv) (size : ℕ) (old front filled out rest : List ℕ) → size ≡ size_of t
@@ -96,3 +70,24 @@ zeroed_item t size old front filled out rest is len room zeros e after =
     ∙ append-nil (zeroed (image_of t)) in
     ap (λ (xs : List ℕ). xs ++ rest) out_is ∙ ap (λ (xs : List ℕ). zeroed (image_of t) ++ xs)
     (after ∙ ap (λ (n : ℕ). drop n old) is)
+
+-- a chunk with an empty list after these bytes
+no_items : (first : ℕ) (leading old : List ℕ) → 4 + length leading ≤ length old
+    → written (image_of (solid_tlv first 0 leading)) old
+    ≡ with_item (listed_tlv first 0 leading parameter_tlv []) old
+unfolding image_of
+no_items first leading old room =
+    let t = listed_tlv first 0 leading parameter_tlv [] in
+    let is : t.value ≡ solid leading = append-nil (solid leading) in
+    let size : length leading ≡ t.value_size = omega arith in
+    ap (λ (value : List _). written (solid (header first 0 (length leading)) ++ value) old) (sym is)
+    ∙ ap (λ (n : ℕ). written (solid (header first 0 n) ++ t.value) old) size
+    ∙ solid_item t leading old is size (omega (arith, room))
+
+-- INIT or INIT ACK with these numbers
+pub init_item : (is_ack : Bool) (b : BorrowedInit) (old out : List ℕ)
+    → size_of (chunk_tlv (init is_ack (fields b))) ≤ length old
+    → out ≡ written (image_of (solid_tlv (if is_ack then 2 else 1) 0 (leading (fields b)))) old
+    → out ≡ with_item (chunk_tlv (init is_ack (fields b))) old
+init_item true b old out room e = e ∙ no_items 2 (leading (fields b)) old (omega (arith, room))
+init_item false b old out room e = e ∙ no_items 1 (leading (fields b)) old (omega (arith, room))

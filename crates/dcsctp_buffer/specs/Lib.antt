@@ -1,6 +1,9 @@
 pub mod Buffer
+pub mod Item
 pub mod Data
+pub mod IData
 pub mod Sack
+pub mod ForwardTsn
 pub mod Heartbeat
 pub mod Abort
-pub mod InitAck
+pub mod Init

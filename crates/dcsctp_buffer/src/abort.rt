@@ -25,14 +25,13 @@ impl WritableChunk for BorrowedAbort<'_> {
     ghost tree = { λ a. AbortTree (view a) };
 
     fn written_size(&self) -> Option<usize> {
-        one_item_size(0, self.reason.as_bytes())
+        one_item_size(self.reason.as_bytes())
     }
 
     fn write_to(&self, output: &mut [u8]) {
         put_one_item(
             CHUNK_TYPE,
             one_flag(self.tag_reflected),
-            &[],
             CAUSE_CODE,
             text_bytes(self.reason),
             output,

@@ -1,9 +1,10 @@
 //! DATA, whose payload lies anywhere.
 
-ghost use Rattle.std.specs.Prelude.{◌≡◌, ◌<◌, ◌^◌};
+ghost use Rattle.std.specs.Prelude.{◌≡◌, ◌≤◌, ◌<◌, ◌+◌, ◌^◌, ◌++◌, length};
+ghost use Rattle.dcsctp_tlv.specs.{Format.{flagged_tlv}, Image.{Sizes}};
 ghost use Rattle.dcsctp_chunk.specs.{Data.{IsInWidth}, DataChunk.{fixed as fixed_bytes}};
 ghost use Rattle.dcsctp_wire.specs.Chunk.{Data as DataTree};
-ghost use Rattle.dcsctp_buffer.specs.Data.{view};
+ghost use Rattle.dcsctp_buffer.specs.{Buffer.{with_item}, Data.{view}};
 
 use crate::widths::bytes_in_width;
 use crate::writable_chunk::WritableChunk;
@@ -58,10 +59,7 @@ impl WritableChunk for BorrowedData<'_> {
     ghost tree = { λ d. DataTree (view d) };
 
     fn written_size(&self) -> Option<usize> {
-        if self.payload.len() > MAX_VALUE_SIZE - FIXED_SIZE {
-            return None;
-        }
-        Some(HEADER_SIZE + self.payload.len())
+        data_size(HEADER_SIZE, self.payload)
     }
 
     fn write_to(&self, output: &mut [u8]) {
@@ -71,6 +69,31 @@ impl WritableChunk for BorrowedData<'_> {
             self.stream_key.is_unordered(),
             self.immediate_ack,
         );
-        put_fixed_and_rest(CHUNK_TYPE, flags, &self.fixed(), self.payload, output);
+        put_data(CHUNK_TYPE, flags, &self.fixed(), self.payload, output);
     }
+}
+
+// ---- what DATA and I-DATA have in common
+
+/// The bytes of a chunk with as many before its payload; nothing where two bytes can't hold this
+/// number.
+pub(crate) fn data_size(header_size: usize, payload: &[u8]) -> Option<usize>
+    requires { header_size < 2 ^ 16 }
+    ensures { Sizes result (header_size + length payload.now < 2 ^ 16)
+        (header_size + length payload.now) }
+{
+    if payload.len() > MAX_VALUE_SIZE + TLV_HEADER_SIZE - header_size {
+        return None;
+    }
+    Some(header_size + payload.len())
+}
+
+/// Writes a chunk whose value is a fixed part, and after it the payload; the bytes after it stay.
+pub(crate) fn put_data(typ: u8, flags: u8, fixed: &[u8], payload: &[u8], output: &mut [u8])
+    requires encodable { 4 + (length fixed.now + length payload.now) < 2 ^ 16 }
+    requires room { 4 + (length fixed.now + length payload.now) ≤ length output.old }
+    ensures { output.new ≡ with_item (flagged_tlv typ flags
+        (length fixed.now + length payload.now) (fixed.now ++ payload.now)) output.old }
+{
+    put_fixed_and_rest(typ, flags, fixed, payload, output);
 }

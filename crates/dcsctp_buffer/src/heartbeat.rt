@@ -22,7 +22,7 @@ impl WritableChunk for BorrowedHeartbeat<'_> {
     ghost tree = { view };
 
     fn written_size(&self) -> Option<usize> {
-        one_item_size(0, self.info)
+        one_item_size(self.info)
     }
 
     fn write_to(&self, output: &mut [u8]) {
@@ -32,6 +32,6 @@ impl WritableChunk for BorrowedHeartbeat<'_> {
         } else {
             heartbeat_request_chunk::CHUNK_TYPE
         };
-        put_one_item(typ, 0, &[], PARAMETER_TYPE, self.info, output);
+        put_one_item(typ, 0, PARAMETER_TYPE, self.info, output);
     }
 }

@@ -3,12 +3,34 @@
 
 ghost use Rattle.std.specs.{Prelude.{◌<◌, ◌^◌}, List.{AllByRecursion}};
 ghost use Rattle.dcsctp_tlv.specs.Number.{AreBytes};
+ghost use Rattle.dcsctp_chunk.specs.Sack.{IsBlockInWidth};
+
+use dcsctp_wire::packet::sack_chunk::GapAckBlock;
 
 /// Each is a byte.
 #[inline(always)]
 pub(crate) fn bytes_in_width(bytes: &[u8])
     ensures { AreBytes bytes.now }
 {}
+
+/// Each has a start and an end of 16 bits.
+#[inline(always)]
+pub(crate) fn blocks_in_width(blocks: &[GapAckBlock])
+    ensures { AllByRecursion IsBlockInWidth blocks.now }
+{
+    for block in blocks {
+        block_in_width(block);
+    }
+}
+
+/// It has a start and an end of 16 bits.
+#[inline(always)]
+fn block_in_width(block: &GapAckBlock)
+    ensures { IsBlockInWidth block.now }
+{
+    let _start = block.start;
+    let _end = block.end;
+}
 
 /// Each has 32 bits.
 #[inline(always)]

@@ -1,3 +1,5 @@
 pub mod AnswerCodes
 pub mod Places
 pub mod InitRows
+pub mod NumberRows
+pub mod Writings

@@ -1,14 +1,15 @@
--- Where a chunk and what it holds lie in the bytes.
-use Rattle.std.{proofs.Common.{Ok, Err, ◌≡◌, ◌≢◌, ◌+◌, ◌-◌, ◌≤◌, ℕ, Bool, true, false, List, [], ◌∷◌, Option, Some, None, length, take, drop, get_or, ◌∙◌, refl, sym, ap, subst, inl, inr, arith, length-drop, length-take, ◌==◌, nat_le, nat_lt, if◌then◌else◌, le-leb, leb-true, ltb-false, drop-drop, get_or-drop}, specs.Option.{option_and_then}, specs.Result.{result_ok}, proofs.lemmas.Bool.{cases_lt}, proofs.lemmas.List.{drop_all, drop-take}}
-use Rattle.dcsctp_tlv.{specs.Number.{AreBytes}, specs.Frame.{lenient, round_up_to_4, BeginsWithFrame, frame_length, frame_value, frame_rest}, specs.Level.{MeansTrees}, proofs.Items.{front_length}, proofs.Checks.{frame_shrinks}}
+-- Where a chunk, a parameter or a cause lies in the bytes, and what a chunk holds.
+use Rattle.std.{proofs.Common.{Ok, Err, ◌≡◌, ◌≢◌, ◌+◌, ◌-◌, ◌≤◌, ℕ, Bool, true, false, List, [], ◌∷◌, Option, Some, None, length, take, drop, get_or, slice_index, ◌∙◌, refl, sym, ap, subst, inl, inr, arith, length-drop, length-take, ◌==◌, nat_le, nat_lt, if◌then◌else◌, le-leb, leb-true, ltb-false, drop-drop, get_or-drop}, specs.Int.{w16, from_be_bytes}, specs.Option.{option_and_then, unwrap_or}, specs.Result.{result_ok}, proofs.lemmas.Bool.{cases_lt}, proofs.lemmas.List.{drop_all, drop-take, take-take, get_or-take, get_or_past}}
+use Rattle.dcsctp_tlv.{specs.Number.{AreBytes, number16}, specs.Frame.{lenient, round_up_to_4, BeginsWithFrame, frame_length, frame_value, frame_rest}, specs.Level.{Row, Level, MeansTrees, front_row}, specs.Parameter.{ParameterTree, parameters, row as parameter_row}, specs.Typed.{typed_level}, proofs.Items.{front_length}, proofs.Checks.{frame_shrinks}}
+use Rattle.dcsctp_cause.specs.Cause.{CauseTree, causes, row as cause_row}
 use Rattle.dcsctp_chunk.specs.Data as data_kind
 use Rattle.dcsctp_chunk.specs.DataChunk as data_chunk
 use Rattle.dcsctp_chunk.specs.IDataChunk as idata_chunk
-use Rattle.dcsctp_wire.specs.Chunk.{ChunkTree, chunks}
-use Rattle.dcsctp_borrowed.{specs.UserData.{read_user_data}, proofs.Fronts.{front_means, means_none}}
-use Rattle.dcsctp_c.specs.{Part.{part, Reads, value_at, ChunkMeans, IsChunkAt, data_at, data_view, HoldsData}, declared.structs.DcsctpChunk.{DcsctpChunk}, declared.structs.DcsctpData.{DcsctpData}}
+use Rattle.dcsctp_wire.specs.Chunk.{ChunkTree, Abort, Error, chunks, chunk_row}
+use Rattle.dcsctp_borrowed.{specs.Front.{MeansList}, specs.RawCauses.{cause_bytes, causes_of}, specs.RawParameters.{parameter_bytes, parameters_of}, specs.UserData.{read_user_data}, proofs.Fronts.{front_means, means_none}, proofs.ListPlaces.{parameters_there, causes_there}}
+use Rattle.dcsctp_c.specs.{Part.{part, part_at, Reads, value_at, value_from, list_bytes, IsItemAt, MeansFirst, IsListOf, ChunkMeans, IsChunkAt, data_at, data_view, HoldsData}, Parameter.{IsParameterAt}, declared.structs.DcsctpChunk.{DcsctpChunk}, declared.structs.DcsctpData.{DcsctpData}, declared.structs.DcsctpParameter.{DcsctpParameter}}
 
--- ---- a chunk
+-- ---- an item
 
 -- the end of a list, by its length
 suffix : (k : ℕ) (xs : List ℕ) → drop (length xs - length (drop k xs)) xs ≡ drop k xs
@@ -33,30 +34,11 @@ value_part bytes offset frame =
     ap (λ (k : ℕ). take k (drop (offset + 4) bytes)) n
     ∙ ap (take (frame_length (drop offset bytes) - 4)) (sym (drop-drop 4 offset bytes))
 
--- what a call writes of a chunk with this value, and this rest after it
-abbrev pub chunk_of : (bytes : List ℕ) (offset : ℕ) (value rest : List ℕ) → DcsctpChunk
-chunk_of bytes offset value rest = record {
-  typ = get_or (drop offset bytes) 0 0;
-  flags = get_or (drop offset bytes) 1 0;
-  value_offset = offset + 4;
-  value_size = length value;
-  next = length bytes - length rest;
-}
-
-pub chunk_there : (bytes : List ℕ) (offset : ℕ) (value rest : List ℕ) → AreBytes bytes
-    → BeginsWithFrame (drop offset bytes) → value ≡ frame_value (drop offset bytes)
-    → rest ≡ frame_rest (drop offset bytes)
-    → IsChunkAt bytes offset (chunk_of bytes offset value rest)
-chunk_there bytes offset value rest fits frame is_value is_rest = record {
-  typ = refl;
-  flags = refl;
-  place = refl;
-  value = at_value;
-  next = at_next;
-  after = omega (arith, size, shrinks, low, rest_size);
-  within = omega arith;
-  means = means;
-} where
+-- of the item at an offset, whose value this is, and which this rest follows
+module _ (bytes : List ℕ) (offset : ℕ) (value rest : List ℕ) (fits : AreBytes bytes)
+    (frame : BeginsWithFrame (drop offset bytes))
+    (is_value : value ≡ frame_value (drop offset bytes))
+    (is_rest : rest ≡ frame_rest (drop offset bytes)) where
   size : length (drop offset bytes) ≡ length bytes - offset
   size = length-drop offset bytes
 
@@ -64,36 +46,44 @@ chunk_there bytes offset value rest fits frame is_value is_rest = record {
       ≤ length (drop offset bytes)
   shrinks = frame_shrinks (drop offset bytes) frame
 
-  low : 4 ≤ frame_length (drop offset bytes)
-  low = frame.low
-
-  rest_size : length rest ≡ length (frame_rest (drop offset bytes))
-  rest_size = ap length is_rest
-
-  value_size : length value ≡ length (frame_value (drop offset bytes))
-  value_size = ap length is_value
-
-  within : nat_le (offset + 4 + length value) (length bytes) ≡ true
-  within =
+  value_size : length value + 4 ≡ frame_length (drop offset bytes)
+  value_size =
       let len = front_length (drop offset bytes) frame in
-      le-leb _ _ (omega (arith, size, low, value_size, len, frame.high))
+      let same = ap length is_value in
+      let low = frame.low in
+      omega (arith, same, len, low)
 
-  is_part : part bytes (offset + 4) (length value) ≡ frame_value (drop offset bytes)
-  is_part =
-      ap (λ (n : ℕ). part bytes (offset + 4) n) value_size ∙ value_part bytes offset frame
+  pub item_within : offset + 4 + length value ≤ length bytes
+  item_within = omega (arith, size, frame.high, frame.low, value_size)
 
-  at_value : value_at bytes (chunk_of bytes offset value rest)
-      ≡ Some (frame_value (drop offset bytes))
-  at_value = rw within (ap Some is_part)
-
-  at : frame_rest (drop offset bytes)
-      ≡ drop (offset + round_up_to_4 (frame_length (drop offset bytes))) bytes
-  at = drop-drop (round_up_to_4 (frame_length (drop offset bytes))) offset bytes
+  at_value : part_at bytes (offset + 4) (length value) ≡ Some (frame_value (drop offset bytes))
+  at_value =
+      let within : nat_le (offset + 4 + length value) (length bytes) ≡ true =
+      le-leb _ _ item_within in
+      let is_part : part bytes (offset + 4) (length value) ≡ frame_value (drop offset bytes) =
+      ap (λ (n : ℕ). part bytes (offset + 4) n) (ap length is_value)
+      ∙ value_part bytes offset frame in
+      rw within (ap Some is_part)
 
   at_next : drop (length bytes - length rest) bytes ≡ frame_rest (drop offset bytes)
   at_next =
+      let at : frame_rest (drop offset bytes)
+      ≡ drop (offset + round_up_to_4 (frame_length (drop offset bytes))) bytes =
+      drop-drop (round_up_to_4 (frame_length (drop offset bytes))) offset bytes in
       ap (λ (r : List ℕ). drop (length bytes - length r) bytes) (is_rest ∙ at)
       ∙ suffix (offset + round_up_to_4 (frame_length (drop offset bytes))) bytes ∙ sym at
+
+  pub item_there : IsItemAt (λ n. drop n bytes) (length bytes) offset (offset + 4)
+      (part_at bytes (offset + 4) (length value)) (length bytes - length rest)
+  item_there =
+      let rest_size = ap length is_rest in
+      record {
+        place = refl;
+        value = at_value;
+        next = at_next;
+        after = omega (arith, size, shrinks, frame.low, rest_size);
+        within = omega arith;
+      }
 
   some : drop offset bytes ≢ []
   some e =
@@ -103,17 +93,16 @@ chunk_there bytes offset value rest fits frame is_value is_rest = record {
   fits_from : AreBytes (drop offset bytes)
   fits_from i = rw get_or-drop (fits (offset + i))
 
-  means : (all : List ChunkTree) → MeansTrees (chunks lenient) (drop offset bytes) all
-      → (first : ChunkTree) × (others : List ChunkTree) × (all ≡ first ∷ others)
-      × ChunkMeans bytes (chunk_of bytes offset value rest) first
-      × MeansTrees (chunks lenient) (drop (length bytes - length rest) bytes) others
-  means [] m = absurd (means_none (chunks lenient) (drop offset bytes) fits_from some m)
-  means (t ∷ ts) m =
-      let here = front_means (chunks lenient) (drop offset bytes) t ts fits_from some m in
-      let left = subst (λ (l : List ℕ). MeansTrees (chunks lenient) l ts) (sym at_next) here.1 in
+  pub first_there : {T : Type 0} (level : Level T) → MeansFirst level
+      (front_row level (drop offset bytes)) (drop offset bytes)
+      (part_at bytes (offset + 4) (length value)) (drop (length bytes - length rest) bytes)
+  first_there level [] m = absurd (means_none level (drop offset bytes) fits_from some m)
+  first_there level (t ∷ ts) m =
+      let here = front_means level (drop offset bytes) t ts fits_from some m in
+      let left = subst (λ (l : List ℕ). MeansTrees level l ts) (sym at_next) here.1 in
       (t, ts, refl, (frame_value (drop offset bytes), at_value, here.0), left)
 
--- ---- what lies in a chunk's value
+-- ---- a chunk's value
 
 chosen : {A : Type 0} (test : Bool) (a b : A) → (if test then Some a else None) ≡ Some b
     → (test ≡ true) × (a ≡ b)
@@ -129,6 +118,258 @@ value_there bytes c value h =
     let here = part bytes c.value_offset c.value_size in
     let found = chosen (nat_le ends (length bytes)) here value h in
     (leb-true ends (length bytes) found.0, found.1)
+
+-- its bytes are bytes
+value_bytes : (bytes : List ℕ) (c : DcsctpChunk) (value : List ℕ) → AreBytes bytes
+    → value_at bytes c ≡ Some value → AreBytes value
+value_bytes bytes c value fits h = subst AreBytes (value_there bytes c value h).1 part_fits where
+  part_fits : AreBytes (part bytes c.value_offset c.value_size)
+  part_fits i = elim (cases_lt i c.value_size) [
+    | inl lt ↦ rw (
+      get_or-take c.value_size (drop c.value_offset bytes) i 0 lt,
+      get_or-drop c.value_offset bytes i 0,
+    ) (fits (c.value_offset + i))
+    | inr le ↦ rw (get_or_past (part bytes c.value_offset c.value_size) i 0
+        (omega (arith, length-take c.value_size (drop c.value_offset bytes)))) (omega arith)
+  ]
+
+value_length : (bytes : List ℕ) (c : DcsctpChunk) (value : List ℕ)
+    → value_at bytes c ≡ Some value → length value ≡ c.value_size
+value_length bytes c value h =
+    let there = value_there bytes c value h in
+    let from = length-drop c.value_offset bytes in
+    let whole = length-take c.value_size (drop c.value_offset bytes) in
+    let is = ap length there.1 in
+    omega (arith, from, whole, is, there.0)
+
+-- ---- the list in a value
+
+-- the value's bytes from an offset on, where it is there
+from_there : (bytes : List ℕ) (c : DcsctpChunk) (value : List ℕ) (offset : ℕ)
+    → value_at bytes c ≡ Some value → c.value_offset ≤ offset
+    → value_from bytes c offset ≡ drop (offset - c.value_offset) value
+from_there bytes c value offset there le =
+    let test : nat_le c.value_offset offset ≡ true = le-leb _ _ le in
+    rw test (ap (λ (o : Option (List ℕ)). drop (offset - c.value_offset) (unwrap_or o [])) there)
+
+-- a chunk has parameters, or causes, or neither
+not_both : (t : ChunkTree) (ps : List ParameterTree) (cs : List CauseTree)
+    → parameters_of t ≡ Some ps → causes_of t ≡ Some cs → ⊥
+not_both (Abort a) ps cs h g = cc
+not_both (Error e) ps cs h g = cc
+not_both t ps cs h g = cc
+
+-- where there are trees, there are bytes that mean them
+trees_there : {T : Type 0} (level : Level T) (place : Option (List ℕ)) (ts : Option (List T))
+    (all : List T) → MeansList level place ts → ts ≡ Some all
+    → (bytes : List ℕ) × (place ≡ Some bytes) × MeansTrees level bytes all
+trees_there level (Some bytes) (Some trees) all m e =
+    (bytes, refl, subst (MeansTrees level bytes) (let same : trees ≡ all = cc in same) m)
+trees_there level None None all m e = absurd (let no : None ≡ Some all = e in cc)
+trees_there level (Some bytes) None all m e = absurd m
+trees_there level None (Some trees) all m e = absurd m
+
+-- and where there are none, no place
+none_there : {T : Type 0} (level : Level T) (place : Option (List ℕ)) (ts : Option (List T))
+    → MeansList level place ts → ts ≡ None → place ≡ None
+none_there level None ts m e = refl
+none_there level (Some bytes) None m e = absurd m
+none_there level (Some bytes) (Some trees) m e = absurd (let no : Some trees ≡ None = e in cc)
+
+is_list : (t : ChunkTree) (first second : Option (List ℕ))
+    → MeansList (parameters lenient) first (parameters_of t)
+    → MeansList (causes lenient) second (causes_of t)
+    → IsListOf t (unwrap_or first (unwrap_or second []))
+is_list t first second has_parameters has_causes = record {
+  of_parameters = λ ps e.
+      (let h = trees_there (parameters lenient) first (parameters_of t) ps has_parameters e in
+      rw h.1 h.2);
+  of_causes = λ cs e.
+      (let h = trees_there (causes lenient) second (causes_of t) cs has_causes e in
+      let none = none_there (parameters lenient) first (parameters_of t) has_parameters
+      (no_parameters (parameters_of t) (λ ps g. not_both t ps cs g e)) in
+      rw (none, h.1) h.2);
+  none = λ e g.
+      rw (
+        none_there (parameters lenient) first (parameters_of t) has_parameters e,
+        none_there (causes lenient) second (causes_of t) has_causes g,
+      ) refl;
+} where
+  no_parameters : (o : Option (List ParameterTree)) → ((ps : List ParameterTree) → o ≡ Some ps → ⊥)
+      → o ≡ None
+  no_parameters None h = refl
+  no_parameters (Some ps) h = absurd (h ps refl)
+
+-- of a chunk whose list is where its type has one
+lists_there : (bytes : List ℕ) (c : DcsctpChunk) (value : List ℕ) → value_at bytes c ≡ Some value
+    → value_from bytes c c.list_offset ≡ list_bytes c.typ value → (t : ChunkTree)
+    → ChunkMeans bytes c t → IsListOf t (value_from bytes c c.list_offset)
+lists_there bytes c value there list t m =
+    let same : m.0 ≡ value = cc in
+    let means = subst (λ (v : List ℕ). (chunk_row lenient c.typ c.flags).means v t) same m.2 in
+    rw list (is_list t (parameter_bytes c.typ value) (cause_bytes c.typ value)
+    (parameters_there c.typ c.flags value t means) (causes_there c.typ c.flags value t means))
+
+-- ---- a chunk
+
+-- what a call writes of a chunk with this value, this place of its list, and this rest after it
+abbrev pub chunk_of : (bytes : List ℕ) (offset : ℕ) (value : List ℕ) (place : ℕ) (rest : List ℕ)
+    → DcsctpChunk
+chunk_of bytes offset value place rest = record {
+  typ = get_or (drop offset bytes) 0 0;
+  flags = get_or (drop offset bytes) 1 0;
+  value_offset = offset + 4;
+  value_size = length value;
+  list_offset = offset + 4 + place;
+  next = length bytes - length rest;
+}
+
+pub chunk_there : (bytes : List ℕ) (offset : ℕ) (value : List ℕ) (place : ℕ) (rest : List ℕ)
+    → AreBytes bytes → BeginsWithFrame (drop offset bytes) → value ≡ frame_value (drop offset bytes)
+    → rest ≡ frame_rest (drop offset bytes) → place ≤ length value
+    → drop place value ≡ list_bytes (get_or (drop offset bytes) 0 0) value
+    → IsChunkAt bytes offset (chunk_of bytes offset value place rest)
+chunk_there bytes offset value place rest fits frame is_value is_rest within is_place = record {
+  typ = refl;
+  flags = refl;
+  item = item;
+  means = first_there bytes offset value rest fits frame is_value is_rest (chunks lenient);
+  list = list ∙ ap (list_bytes (get_or (drop offset bytes) 0 0)) is_value;
+  list_after = omega arith;
+  list_within = omega (arith, within);
+  lists = lists_there bytes (chunk_of bytes offset value place rest) value there list;
+} where
+  item : IsItemAt (λ n. drop n bytes) (length bytes) offset (offset + 4)
+      (part_at bytes (offset + 4) (length value)) (length bytes - length rest)
+  item = item_there bytes offset value rest fits frame is_value is_rest
+
+  there : value_at bytes (chunk_of bytes offset value place rest) ≡ Some value
+  there = item.value ∙ ap Some (sym is_value)
+
+  list : value_from bytes (chunk_of bytes offset value place rest) (offset + 4 + place)
+      ≡ list_bytes (get_or (drop offset bytes) 0 0) value
+  list =
+      let skip : offset + 4 + place - (offset + 4) ≡ place = omega arith in
+      from_there bytes (chunk_of bytes offset value place rest) value (offset + 4 + place) there
+      (omega arith)
+      ∙ ap (λ (n : ℕ). drop n value) skip ∙ is_place
+
+-- ---- a parameter or a cause
+
+-- a part of a part
+part_of_part : (bytes : List ℕ) (offset size k n : ℕ) → offset + size ≤ length bytes → k + n ≤ size
+    → part_at bytes (offset + k) n ≡ part_at (part bytes offset size) k n
+part_of_part bytes offset size k n within fits =
+    let from = length-drop offset bytes in
+    let whole = length-take size (drop offset bytes) in
+    let outer : nat_le (offset + k + n) (length bytes) ≡ true =
+    le-leb _ _ (omega (arith, within, fits)) in
+    let inner : nat_le (k + n) (length (part bytes offset size)) ≡ true =
+    le-leb _ _ (omega (arith, from, whole, within, fits)) in
+    let all : k + (size - k) ≡ size = omega (arith, fits) in
+    let same : take n (drop k (take (k + (size - k)) (drop offset bytes)))
+    ≡ take n (drop (offset + k) bytes) =
+    ap (take n) (drop-take k (size - k) (drop offset bytes))
+    ∙ take-take n (size - k) (drop k (drop offset bytes)) (omega (arith, fits))
+    ∙ ap (take n) (drop-drop k offset bytes) in
+    rw (outer, inner) (ap Some (sym (ap (λ (m : ℕ). take n (drop k (take m (drop offset bytes))))
+    (sym all) ∙ same)))
+
+-- the type at the front is the number of the first two bytes
+typ_is : (bytes : List ℕ) → 4 ≤ length bytes
+    → number16 bytes ≡ from_be_bytes w16 (slice_index bytes 0 ∷ slice_index bytes 1 ∷ [])
+typ_is [] size = absurd (omega (arith, size))
+typ_is (a ∷ []) size = absurd (omega (arith, size))
+typ_is (a ∷ b ∷ more) size = refl
+
+-- the same of equal types and equal bytes
+means_alike : {T : Type 0} (level : Level T) (row : ℕ → Row T) {m n : ℕ} → m ≡ n
+    → {bytes others : List ℕ} → bytes ≡ others → {found again : Option (List ℕ)} → found ≡ again
+    → {left rest : List ℕ} → left ≡ rest → MeansFirst level (row m) bytes found left
+    → MeansFirst level (row n) others again rest
+means_alike level row {m} {n} is {bytes} {others} from {found} {again} value {left} {rest} after h =
+    subst (λ (k : ℕ). MeansFirst level (row k) others again rest) is
+    (subst (λ (l : List ℕ). MeansFirst level (row m) l again rest) from
+    (subst (λ (o : Option (List ℕ)). MeansFirst level (row m) bytes o rest) value
+    (subst (λ (l : List ℕ). MeansFirst level (row m) bytes found l) after h)))
+
+-- what a call writes of one in a chunk's value
+abbrev pub parameter_of : (c : DcsctpChunk) (list : List ℕ) (offset typ : ℕ)
+    (value rest : List ℕ) → DcsctpParameter
+parameter_of c list offset typ value rest = record {
+  typ = typ;
+  value_offset = offset + 4;
+  value_size = length value;
+  next = c.value_offset + (length list - length rest);
+}
+
+pub parameter_there : (bytes : List ℕ) (c : DcsctpChunk) (list : List ℕ) (offset typ : ℕ)
+    (value rest : List ℕ) → AreBytes bytes → Some list ≡ value_at bytes c
+    → c.value_offset ≤ offset → BeginsWithFrame (drop (offset - c.value_offset) list)
+    → typ ≡ number16 (drop (offset - c.value_offset) list)
+    → value ≡ frame_value (drop (offset - c.value_offset) list)
+    → rest ≡ frame_rest (drop (offset - c.value_offset) list)
+    → IsParameterAt bytes c offset (parameter_of c list offset typ value rest)
+parameter_there bytes c list offset typ value rest fits is le frame kind is_value is_rest = record {
+  typ = rw here kind;
+  item = record {
+    place = refl;
+    value = at_value ∙ item.value ∙ ap (λ (l : List ℕ). Some (frame_value l)) (sym here);
+    next = left ∙ item.next ∙ ap frame_rest (sym here);
+    after = omega (arith, item.after, le);
+    within = omega (arith, item.within, size);
+  };
+  of_parameters = first parameter_row;
+  of_causes = first cause_row;
+} where
+  there : value_at bytes c ≡ Some list
+  there = sym is
+
+  size : length list ≡ c.value_size
+  size = value_length bytes c list there
+
+  list_fits : AreBytes list
+  list_fits = value_bytes bytes c list fits there
+
+  item : IsItemAt (λ n. drop n list) (length list) (offset - c.value_offset)
+      (offset - c.value_offset + 4) (part_at list (offset - c.value_offset + 4) (length value))
+      (length list - length rest)
+  item = item_there list (offset - c.value_offset) value rest list_fits frame is_value is_rest
+
+  here : value_from bytes c offset ≡ drop (offset - c.value_offset) list
+  here = from_there bytes c list offset there le
+
+  left : value_from bytes c (c.value_offset + (length list - length rest))
+      ≡ drop (length list - length rest) list
+  left =
+      let skip : c.value_offset + (length list - length rest) - c.value_offset
+      ≡ length list - length rest = omega arith in
+      from_there bytes c list (c.value_offset + (length list - length rest)) there (omega arith)
+      ∙ ap (λ (n : ℕ). drop n list) skip
+
+  at_value : part_at bytes (offset + 4) (length value)
+      ≡ part_at list (offset - c.value_offset + 4) (length value)
+  at_value =
+      let whole = value_there bytes c list there in
+      let within = item_within list (offset - c.value_offset) value rest list_fits frame is_value
+      is_rest in
+      let place : offset + 4 ≡ c.value_offset + (offset - c.value_offset + 4) =
+      omega (arith, le) in
+      ap (λ (n : ℕ). part_at bytes n (length value)) place
+      ∙ part_of_part bytes c.value_offset c.value_size (offset - c.value_offset + 4) (length value)
+      whole.0 (omega (arith, within, size))
+      ∙ ap (λ (l : List ℕ). part_at l (offset - c.value_offset + 4) (length value)) whole.1
+
+  first : {T : Type 0} (row : ℕ → Row T) → MeansFirst (typed_level row lenient) (row typ)
+      (value_from bytes c offset) (part_at bytes (offset + 4) (length value))
+      (value_from bytes c (c.value_offset + (length list - length rest)))
+  first row =
+      let same : from_be_bytes w16 (slice_index (drop (offset - c.value_offset) list) 0
+      ∷ slice_index (drop (offset - c.value_offset) list) 1 ∷ []) ≡ typ =
+      sym (kind ∙ typ_is (drop (offset - c.value_offset) list) frame.header) in
+      means_alike (typed_level row lenient) row same (sym here) (sym at_value) (sym left)
+      (first_there list (offset - c.value_offset) value rest list_fits frame is_value is_rest
+      (typed_level row lenient))
 
 -- ---- user data
 
@@ -218,11 +459,7 @@ data_there bytes c value tree d is read same offset size =
     data_is = ap (option_and_then (read_user_data c.typ c.flags)) (sym is) ∙ sym read
 
     value_size : length value ≡ c.value_size
-    value_size =
-        let from = length-drop c.value_offset bytes in
-        let whole = length-take c.value_size (drop c.value_offset bytes) in
-        let is = ap length there.1 in
-        omega (arith, from, whole, is, there.0)
+    value_size = value_length bytes c value (sym is)
 
     ended : (length tree.user_data.payload ≤ c.value_size)
         × (part bytes (c.value_offset + (c.value_size - length tree.user_data.payload))

@@ -2,6 +2,7 @@
 -- ask for. No standard has these numbers.
 use Rattle.std.specs.Prelude.{◌≡◌, ℕ, List, if◌then◌else◌, Result, Ok, Err}
 use Rattle.dcsctp_wire.specs.{Fault.{Length, Padding, Value}, Packet.{PacketTree, PacketFault, Size, Checksum, Chunk, Answer}, declared.packet.sctp_packet.ChecksumPolicy.{ChecksumPolicy}}
+use Rattle.dcsctp_buffer.specs.{declared.error.WriteError.{WriteError}, declared.error.WriteError.TheVariants.{BadPlace, BadValue, NoRoom}}
 use Rattle.dcsctp_c.specs.declared.structs.DcsctpPolicy.{DcsctpPolicy}
 
 -- the policy that the struct asks for; method 1 is the one of RFC 9653
@@ -34,6 +35,18 @@ no_room_code = 7
 
 abbrev pub too_long_code : ℕ
 too_long_code = 8
+
+-- of what isn't written: it can't be, or there is no packet to add it to
+abbrev pub bad_value_code : ℕ
+bad_value_code = 9
+
+abbrev pub bad_place_code : ℕ
+bad_place_code = 10
+
+abbrev pub write_code : WriteError → ℕ
+write_code NoRoom = no_room_code
+write_code BadValue = bad_value_code
+write_code BadPlace = bad_place_code
 
 -- The code of what the grammar answers: it has an answer, and each that it has is of this code.
 pub record IsAnswerCode (bytes : List ℕ) (word : ℕ) (policy : ChecksumPolicy)

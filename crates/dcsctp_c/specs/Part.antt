@@ -1,13 +1,15 @@
 -- The parts of a packet as a C program reads them: offsets into its bytes, and numbers.
-use Rattle.std.specs.{Prelude.{◌≡◌, ◌+◌, ◌≤◌, ◌<◌, ◌==◌, ◌||◌, ◌&&◌, ℕ, Bool, true, false, List, [], ◌∷◌, if◌then◌else◌, nat_le, Option, Some, None, length, take, drop, slice_index, slice_get}, Option.{option_and_then}}
-use Rattle.dcsctp_tlv.specs.{Frame.{lenient, frame_value, frame_rest}, Level.{MeansTrees}}
+use Rattle.std.specs.{Prelude.{◌≡◌, ◌+◌, ◌-◌, ◌≤◌, ◌<◌, ◌==◌, ◌||◌, ◌&&◌, ℕ, Bool, true, false, List, [], ◌∷◌, if◌then◌else◌, nat_le, Option, Some, None, length, take, drop, slice_index, slice_get}, Option.{option_and_then, unwrap_or}}
+use Rattle.dcsctp_tlv.specs.{Frame.{lenient, frame_value, frame_rest}, Level.{Row, Level, MeansTrees}, Number.{number32}, Parameter.{ParameterTree, parameters}}
+use Rattle.dcsctp_cause.specs.Cause.{CauseTree, causes}
 use Rattle.dcsctp_chunk.specs.{Cover.{AreValid}, declared.sack_chunk.GapAckBlock.{GapAckBlock}}
 use Rattle.dcsctp_chunk.specs.Data as data_kind
 use Rattle.dcsctp_chunk.specs.Sack as sack_kind
-use Rattle.dcsctp_wire.specs.{Chunk.{ChunkTree, Init, InitAck, chunks, chunk_row}, Packet.{PacketTree, header_of}, declared.packet.common_header.CommonHeader.{CommonHeader}}
+use Rattle.dcsctp_chunk.specs.SkippedStreams as skipped_streams
+use Rattle.dcsctp_wire.specs.{Chunk.{ChunkTree, Init, InitAck, Shutdown, chunks, chunk_row}, Packet.{PacketTree, header_of}, declared.packet.common_header.CommonHeader.{CommonHeader}}
 use Rattle.dcsctp_wire.specs.InitFields as init_fields
-use Rattle.dcsctp_borrowed.specs.{Sack.{read_sack}, UserData.{read_user_data}}
-use Rattle.dcsctp_c.specs.declared.structs.{DcsctpChunk.{DcsctpChunk}, DcsctpData.{DcsctpData}, DcsctpGapAckBlock.{DcsctpGapAckBlock}, DcsctpHeader.{DcsctpHeader}, DcsctpInit.{DcsctpInit}, DcsctpSack.{DcsctpSack}}
+use Rattle.dcsctp_borrowed.specs.{RawCauses.{cause_bytes, causes_of}, RawParameters.{parameter_bytes, parameters_of}, Sack.{read_sack}, SkippedStreams.{read_forward}, UserData.{read_user_data}}
+use Rattle.dcsctp_c.specs.declared.structs.{DcsctpChunk.{DcsctpChunk}, DcsctpData.{DcsctpData}, DcsctpForwardTsn.{DcsctpForwardTsn}, DcsctpHeader.{DcsctpHeader}, DcsctpInit.{DcsctpInit}, DcsctpSack.{DcsctpSack}, DcsctpSkippedStream.{DcsctpSkippedStream}}
 
 -- ---- what is read
 
@@ -23,6 +25,10 @@ Reads Holds None (Some struct) = ⊥
 abbrev pub ReadsInto : {T S : Type 0} → (T → S → Type 0) → Option T → S → S → Bool → Type 0
 ReadsInto Holds (Some tree) old new done = (done ≡ true) × Holds tree new
 ReadsInto Holds None old new done = (done ≡ false) × (new ≡ old)
+
+-- it is what was read
+abbrev pub Holds : {T : Type 0} → T → T → Type 0
+Holds tree struct = struct ≡ tree
 
 -- ---- the common header (RFC 9260 section 3.1)
 
@@ -41,37 +47,86 @@ pub record IsHeaderOf (p : PacketTree) (h : DcsctpHeader) : Type 0 where
   pub tag : h.verification_tag ≡ p.meaning.tag
   pub checksum : h.checksum ≡ p.checksum
 
--- ---- chunks (RFC 9260 section 3.2)
+-- ---- an item of a list (RFC 9260 sections 3.2, 3.2.1 and 3.3.10)
 
 -- `size` bytes from an offset on
 abbrev pub part : List ℕ → ℕ → ℕ → List ℕ
 part bytes offset size = take size (drop offset bytes)
 
--- a chunk's value, where its offset and its size say; nothing unless all of it is there
+-- the same; nothing unless all of them are there
+abbrev pub part_at : List ℕ → ℕ → ℕ → Option (List ℕ)
+part_at bytes offset size =
+    if nat_le (offset + size) (length bytes) then Some (part bytes offset size) else None
+
+-- there is a value, which means this tree
+abbrev pub ValueMeans : {T : Type 0} → Row T → Option (List ℕ) → T → Type 0
+ValueMeans row found tree =
+    (value : List ℕ) × (found ≡ Some value) × row.means value tree
+
+-- The item that begins at an offset of a list: where its value is, and where the next item. The
+-- list is said by its bytes from each offset on, and by where it ends.
+pub record IsItemAt (from : ℕ → List ℕ) (end offset start : ℕ) (found : Option (List ℕ))
+    (further : ℕ) : Type 0 where
+  pub place : start ≡ offset + 4
+  pub value : found ≡ Some (frame_value (from offset))
+  pub next : from further ≡ frame_rest (from offset)
+  pub after : offset < further
+  pub within : further ≤ end
+
+-- Whatever trees the bytes mean, the value means the first of them, and the bytes from the next
+-- item on mean the others.
+abbrev pub MeansFirst : {T : Type 0} → Level T → Row T → List ℕ → Option (List ℕ) → List ℕ
+    → Type 0
+MeansFirst {T} level row bytes found left =
+    (all : List T) → MeansTrees level bytes all
+    → (first : T) × (others : List T) × (all ≡ first ∷ others)
+    × ValueMeans row found first × MeansTrees level left others
+
+-- ---- chunks (RFC 9260 section 3.2)
+
+-- a chunk's value, where its offset and its size say
 abbrev pub value_at : List ℕ → DcsctpChunk → Option (List ℕ)
-value_at bytes c =
-    if nat_le (c.value_offset + c.value_size) (length bytes)
-    then Some (part bytes c.value_offset c.value_size) else None
+value_at bytes c = part_at bytes c.value_offset c.value_size
 
 -- its value means this tree, to a reader that ignores padding
 abbrev pub ChunkMeans : List ℕ → DcsctpChunk → ChunkTree → Type 0
-ChunkMeans bytes c tree =
-    (value : List ℕ) × (value_at bytes c ≡ Some value)
-    × (chunk_row lenient c.typ c.flags).means value tree
+ChunkMeans bytes c tree = ValueMeans (chunk_row lenient c.typ c.flags) (value_at bytes c) tree
 
--- The chunk that begins at an offset. Whatever trees the bytes mean from there on, it means the
--- first of them, and the bytes from the next chunk on mean the others.
+-- The value's bytes from an offset on; none where the offset lies before the value, or there is no
+-- value.
+abbrev pub value_from : List ℕ → DcsctpChunk → ℕ → List ℕ
+value_from bytes c offset =
+    if nat_le c.value_offset offset
+    then drop (offset - c.value_offset) (unwrap_or (value_at bytes c) []) else []
+
+-- The parameters or the error causes in a value of this type; none where it has no place for them.
+abbrev pub list_bytes : ℕ → List ℕ → List ℕ
+list_bytes typ value = unwrap_or (parameter_bytes typ value) (unwrap_or (cause_bytes typ value) [])
+
+-- The bytes mean the chunk's parameters, or its error causes; they are none where it can have
+-- neither.
+pub record IsListOf (tree : ChunkTree) (bytes : List ℕ) : Type 0 where
+  pub of_parameters : (ps : List ParameterTree) → parameters_of tree ≡ Some ps
+      → MeansTrees (parameters lenient) bytes ps
+  pub of_causes : (cs : List CauseTree) → causes_of tree ≡ Some cs
+      → MeansTrees (causes lenient) bytes cs
+  pub none : parameters_of tree ≡ None → causes_of tree ≡ None → bytes ≡ []
+
+-- the chunk that begins at an offset
 pub record IsChunkAt (bytes : List ℕ) (offset : ℕ) (c : DcsctpChunk) : Type 0 where
   pub typ : c.typ ≡ slice_index (drop offset bytes) 0
   pub flags : c.flags ≡ slice_index (drop offset bytes) 1
-  pub place : c.value_offset ≡ offset + 4
-  pub value : value_at bytes c ≡ Some (frame_value (drop offset bytes))
-  pub next : drop c.next bytes ≡ frame_rest (drop offset bytes)
-  pub after : offset < c.next
-  pub within : c.next ≤ length bytes
-  pub means : (all : List ChunkTree) → MeansTrees (chunks lenient) (drop offset bytes) all
-      → (first : ChunkTree) × (others : List ChunkTree) × (all ≡ first ∷ others)
-      × ChunkMeans bytes c first × MeansTrees (chunks lenient) (drop c.next bytes) others
+  pub item : IsItemAt (λ n. drop n bytes) (length bytes) offset c.value_offset (value_at bytes c)
+      c.next
+  pub means : MeansFirst (chunks lenient) (chunk_row lenient c.typ c.flags) (drop offset bytes)
+      (value_at bytes c) (drop c.next bytes)
+  -- where its list is, from there to the end of the value
+  pub list : value_from bytes c c.list_offset
+      ≡ list_bytes c.typ (frame_value (drop offset bytes))
+  pub list_after : c.value_offset ≤ c.list_offset
+  pub list_within : c.list_offset ≤ c.value_offset + c.value_size
+  pub lists : (tree : ChunkTree) → ChunkMeans bytes c tree
+      → IsListOf tree (value_from bytes c c.list_offset)
 
 -- ---- DATA (RFC 9260 section 3.3.1) and I-DATA (RFC 8260 section 2.1)
 
@@ -122,12 +177,6 @@ abbrev pub duplicate_at : ℕ → Option sack_kind.Tree → Option ℕ
 duplicate_at index sack =
     option_and_then (λ (s : sack_kind.Tree). slice_get s.duplicates index) sack
 
-abbrev pub HoldsBlock : GapAckBlock → DcsctpGapAckBlock → Type 0
-HoldsBlock block b = (b.start ≡ block.start) × (b.end ≡ block.end)
-
-abbrev pub HoldsNumber : ℕ → ℕ → Type 0
-HoldsNumber number n = n ≡ number
-
 -- it is a SACK, and its blocks are valid
 abbrev pub IsValidSack : Option sack_kind.Tree → Type 0
 IsValidSack (Some s) = AreValid s.blocks
@@ -158,3 +207,42 @@ pub record HoldsInit (tree : init_fields.Tree) (i : DcsctpInit) : Type 0 where
   pub outbound : i.outbound_streams ≡ tree.outbound
   pub inbound : i.inbound_streams ≡ tree.inbound
   pub tsn : i.initial_tsn ≡ tree.tsn
+
+-- ---- SHUTDOWN (RFC 9260 section 3.3.8)
+
+-- the number of a value of four bytes; nothing of any other
+abbrev pub read_number : List ℕ → Option ℕ
+read_number value = if length value == 4 then Some (number32 value) else None
+
+-- the cumulative TSN ack of SHUTDOWN; nothing of any other chunk
+abbrev pub shutdown_of : ChunkTree → Option ℕ
+shutdown_of (Shutdown tsn) = Some tsn
+shutdown_of t = None
+
+abbrev pub read_shutdown : ℕ → List ℕ → Option ℕ
+read_shutdown typ value = if typ == 7 then read_number value else None
+
+abbrev pub shutdown_at : List ℕ → DcsctpChunk → Option ℕ
+shutdown_at bytes c = option_and_then (read_shutdown c.typ) (value_at bytes c)
+
+-- ---- FORWARD-TSN (RFC 3758 section 3.2) and I-FORWARD-TSN (RFC 8260 section 2.3.1)
+
+abbrev pub forward_at : List ℕ → DcsctpChunk → Option skipped_streams.Tree
+forward_at bytes c = option_and_then (read_forward c.typ) (value_at bytes c)
+
+pub record HoldsForward (tree : skipped_streams.Tree) (f : DcsctpForwardTsn) : Type 0 where
+  pub tsn : f.new_cumulative_tsn ≡ tree.tsn
+  pub streams : f.stream_count ≡ length tree.streams
+
+-- the skipped stream at an index
+abbrev pub skipped_at : ℕ → Option skipped_streams.Tree
+    → Option skipped_streams.SkippedStreamTree
+skipped_at index forward =
+    option_and_then (λ (f : skipped_streams.Tree). slice_get f.streams index) forward
+
+-- the struct as plain data, by a message id or by a sequence number
+abbrev pub HoldsSkipped : skipped_streams.SkippedStreamTree → DcsctpSkippedStream → Type 0
+HoldsSkipped (skipped_streams.BySsn stream ssn) s =
+    s ≡ record { stream = stream; ssn = ssn; mid = 0; is_unordered = false }
+HoldsSkipped (skipped_streams.ByMid stream is_unordered mid) s =
+    s ≡ record { stream = stream; ssn = 0; mid = mid; is_unordered = is_unordered }

@@ -8,7 +8,11 @@
 
 mod codes;
 mod in_place;
+mod lists;
 mod packet;
+mod parameters;
 mod parts;
+mod re_config;
 mod structs;
+mod version;
 mod writing;

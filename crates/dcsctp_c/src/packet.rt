@@ -1,9 +1,9 @@
-//! Whole packets: checked, located, canonical, printed.
+//! Whole packets: checked, located, canonical, printed, reported.
 
 ghost use Rattle.std.specs.Prelude.{◌≡◌, ◌≢◌, ◌≤◌, ◌<◌, ◌∷◌, ◌↔◌, ℕ, List, Ok, Err, length, take, drop};
 ghost use Rattle.dcsctp_crc32c.specs.Checksum.{packet_word};
 ghost use Rattle.dcsctp_wire.specs.{Canonical.{canonical, Fits, IsCanonicalOf}, Packet.{PacketTree, PacketFault, Placed, Answer, IsPacket, packet_view}};
-ghost use Rattle.dcsctp_c.specs.{Code.{policy_of, no_memory_code, IsAnswerCode}, Output.{IsCanonical, IsText, Writes, WritesPacket}};
+ghost use Rattle.dcsctp_c.specs.{Code.{policy_of, no_memory_code, IsAnswerCode}, Output.{IsCanonical, IsText, IsReport, Writes, WritesPacket}};
 
 use crate::codes::{NO_MEMORY, NO_ROOM, OK, TOO_LONG, code_of};
 use crate::structs::DcsctpPolicy;
@@ -11,6 +11,7 @@ use dcsctp_crc32c::packet_word;
 use dcsctp_wire::api::ZeroChecksumAlternateErrorDetectionMethod;
 use dcsctp_wire::laws::has_widths;
 use dcsctp_wire::packet::sctp_packet::{ChecksumPolicy, SctpPacket};
+use sctp_report::PacketReport;
 use std::alloc::Global;
 
 /// Returns the library's policy.
@@ -146,6 +147,47 @@ fn print(alloc: Global, packet: &SctpPacket, output: &mut [u8], size: &mut usize
         (record { bytes = output.new; size = size.new }) result }
 {
     match format!(in alloc; "{packet}") {
+        Ok(text) => write_text(text.as_bytes(), output, size),
+        Err(_) => NO_MEMORY,
+    }
+}
+
+/// Writes all that the packet holds to the front of `output`, in UTF-8, and its size in bytes to
+/// `size`: a line for each fact, each ended by a line feed, and each value whole. The checksum
+/// field is compared with `word`.
+///
+/// Returns what `dcsctp_print` returns, and changes what that changes.
+#[unsafe(no_mangle)]
+pub extern "C" fn dcsctp_report(
+    alloc: Global,
+    bytes: &[u8],
+    word: u32,
+    policy: &DcsctpPolicy,
+    output: &mut [u8],
+    size: &mut usize,
+) -> u32
+    ensures { WritesPacket (IsReport word) bytes.now word (policy_of policy.now)
+        (record { bytes = output.old; size = size.old })
+        (record { bytes = output.new; size = size.new }) result }
+{
+    match SctpPacket::from_bytes(alloc, bytes, word, &checksum_policy(policy)) {
+        Ok(packet) => report(alloc, &packet, word, output, size),
+        Err(error) => code_of(error),
+    }
+}
+
+/// Writes all that the packet holds, where it has room.
+fn report(alloc: Global, packet: &SctpPacket, word: u32, output: &mut [u8], size: &mut usize) -> u32
+    ensures { Writes (IsReport word (packet_view packet.now))
+        (record { bytes = output.old; size = size.old })
+        (record { bytes = output.new; size = size.new }) result }
+{
+    let report = PacketReport {
+        packet,
+        word,
+        most: usize::MAX,
+    };
+    match format!(in alloc; "{report}") {
         Ok(text) => write_text(text.as_bytes(), output, size),
         Err(_) => NO_MEMORY,
     }

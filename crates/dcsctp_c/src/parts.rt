@@ -1,23 +1,36 @@
-//! The parts of a packet: the common header, the chunks, and what DATA, SACK and INIT hold.
+//! The parts of a packet: the common header, the chunks, and what those hold that have no list of
+//! parameters or error causes, and INIT before its list.
 
-ghost use Rattle.std.specs.Prelude.{◌≡◌, ◌↔◌, ◌≤◌, ℕ, Ok, IsTrue, IfSome, option_map, false, length, drop};
+ghost use Rattle.std.specs.Prelude.{◌≡◌, ◌↔◌, ◌≤◌, ℕ, Ok, IsTrue, IfSome, option_map, false, length, take, drop};
 ghost use Rattle.dcsctp_tlv.specs.Frame.{BeginsWithFrame};
+ghost use Rattle.dcsctp_chunk.specs.{Cover.{IsCleaned, CleanedLaws, AreValid}, SkippedStreams.{skipped_stream_view}};
 ghost use Rattle.dcsctp_wire.specs.{Chunk.{ChunkTree}, Packet.{PacketTree, Answer}, declared.packet.sctp_packet.ChecksumPolicy.{ChecksumPolicy}};
-ghost use Rattle.dcsctp_borrowed.specs.{Sack.{sack_of}, UserData.{data_of}};
-ghost use Rattle.dcsctp_c.specs.Part.{ReadsInto, Reads, header_at, HoldsHeader, IsHeaderOf, value_at, ChunkMeans, IsChunkAt, data_at, HoldsData, sack_at, HoldsSack, block_at, HoldsBlock, duplicate_at, HoldsNumber, IsValidSack, init_of, init_at, HoldsInit};
+ghost use Rattle.dcsctp_borrowed.specs.{Sack.{sack_of}, SkippedStreams.{forward_of}, UserData.{data_of}};
+ghost use Rattle.dcsctp_c.specs.Part.{ReadsInto, Reads, header_at, HoldsHeader, IsHeaderOf, value_at, ChunkMeans, IsChunkAt, list_bytes, data_at, HoldsData, sack_at, HoldsSack, block_at, duplicate_at, Holds, IsValidSack, init_of, init_at, HoldsInit, part_at, read_number, shutdown_of, shutdown_at, forward_at, HoldsForward, skipped_at, HoldsSkipped};
 
 use crate::structs::{
-    DcsctpChunk, DcsctpData, DcsctpGapAckBlock, DcsctpHeader, DcsctpInit, DcsctpSack,
+    DcsctpChunk, DcsctpData, DcsctpForwardTsn, DcsctpHeader, DcsctpInit, DcsctpSack,
+    DcsctpSkippedStream,
 };
+use dcsctp_borrowed::forward_tsn_ref::ForwardTsnRef;
 use dcsctp_borrowed::sack_ref::SackRef;
 use dcsctp_borrowed::user_data::UserData;
+use dcsctp_chunk::chunk_validators::clean_in_place;
+use dcsctp_chunk::sack_chunk::GapAckBlock;
 use dcsctp_tlv::frame::split_frame;
+use dcsctp_tlv::skipped_stream::SkippedStream;
 use dcsctp_wire::packet::raw_chunk::RawChunk;
 use dcsctp_wire::packet::sctp_packet::CommonHeader;
-use dcsctp_wire::packet::{TLV_HEADER_SIZE, init_ack_chunk, init_chunk, read_u16_be, read_u32_be};
+use dcsctp_wire::packet::{
+    TLV_HEADER_SIZE, abort_chunk, error_chunk, heartbeat_ack_chunk, heartbeat_request_chunk,
+    init_ack_chunk, init_chunk, re_config_chunk, read_u16_be, read_u32_be, shutdown_chunk,
+};
 
 /// Bytes of the value of INIT and INIT ACK before the parameters.
 const INIT_SIZE: usize = 16;
+
+/// Bytes of a value that is one number.
+const NUMBER_SIZE: usize = 4;
 
 /// Reads the common header (RFC 9260 section 3.1). Returns false, and `header` stays, for fewer
 /// than 12 bytes.
@@ -39,8 +52,8 @@ pub extern "C" fn dcsctp_header(bytes: &[u8], header: &mut DcsctpHeader) -> bool
     true
 }
 
-/// Reads the chunk at an offset (RFC 9260 section 3.2), and writes where its value and the next
-/// chunk are. The first chunk of a packet is at 12.
+/// Reads the chunk at an offset (RFC 9260 section 3.2), and writes where its value, the first of
+/// its parameters or error causes, and the next chunk are. The first chunk of a packet is at 12.
 ///
 /// Returns false, and `chunk` stays, exactly where no header with a whole value is there: at the
 /// end of a packet, and after it.
@@ -62,6 +75,7 @@ pub extern "C" fn dcsctp_chunk_at(bytes: &[u8], offset: usize, chunk: &mut Dcsct
         flags: from[1],
         value_offset: offset + TLV_HEADER_SIZE,
         value_size: value.len(),
+        list_offset: offset + TLV_HEADER_SIZE + list_place(from[0], value),
         next: bytes.len() - rest.len(),
     };
     true
@@ -118,12 +132,12 @@ pub extern "C" fn dcsctp_gap_ack_block(
     bytes: &[u8],
     chunk: &DcsctpChunk,
     index: usize,
-    block: &mut DcsctpGapAckBlock,
+    block: &mut GapAckBlock,
 ) -> bool
-    ensures read { ReadsInto HoldsBlock (block_at index (sack_at bytes.now chunk.now))
+    ensures read { ReadsInto Holds (block_at index (sack_at bytes.now chunk.now))
         block.old block.new result }
     ensures means { (tree : ChunkTree) → ChunkMeans bytes.now chunk.now tree
-        → ReadsInto HoldsBlock (block_at index (sack_of tree)) block.old block.new result }
+        → ReadsInto Holds (block_at index (sack_of tree)) block.old block.new result }
 {
     let Some(found) = read_block(bytes, chunk, index) else {
         return false;
@@ -143,10 +157,10 @@ pub extern "C" fn dcsctp_duplicate_tsn(
     index: usize,
     tsn: &mut u32,
 ) -> bool
-    ensures read { ReadsInto HoldsNumber (duplicate_at index (sack_at bytes.now chunk.now))
+    ensures read { ReadsInto Holds (duplicate_at index (sack_at bytes.now chunk.now))
         tsn.old tsn.new result }
     ensures means { (tree : ChunkTree) → ChunkMeans bytes.now chunk.now tree
-        → ReadsInto HoldsNumber (duplicate_at index (sack_of tree)) tsn.old tsn.new result }
+        → ReadsInto Holds (duplicate_at index (sack_of tree)) tsn.old tsn.new result }
 {
     let Some(found) = read_duplicate(bytes, chunk, index) else {
         return false;
@@ -169,6 +183,23 @@ pub extern "C" fn dcsctp_validate_sack(bytes: &[u8], chunk: &DcsctpChunk) -> boo
     }
 }
 
+/// Brings gap ack blocks (RFC 9260 section 3.3.4) into order, joins those that overlap or touch,
+/// and drops those that are empty: what is left are the runs of the offsets that they cover, as few
+/// blocks as there can be. Returns how many; they are the first ones, and those after them are of
+/// no use.
+///
+/// Blocks that `dcsctp_validate_sack` accepts stay as they are. Runs that start at 0 or 1 are kept.
+#[unsafe(no_mangle)]
+pub extern "C" fn dcsctp_clean_blocks(blocks: &mut [GapAckBlock]) -> usize
+    ensures len { result ≤ length blocks.old }
+    ensures cleaned { IsCleaned blocks.old (take result blocks.new) }
+    ensures laws { CleanedLaws blocks.old (take result blocks.new) }
+    ensures same { AreValid blocks.old
+        → (result ≡ length blocks.old) × (blocks.new ≡ blocks.old) }
+{
+    clean_in_place(blocks)
+}
+
 /// Reads the numbers of INIT (RFC 9260 section 3.3.2) or INIT ACK (section 3.3.3). The parameters
 /// are not looked at.
 ///
@@ -187,20 +218,119 @@ pub extern "C" fn dcsctp_init(bytes: &[u8], chunk: &DcsctpChunk, init: &mut Dcsc
     true
 }
 
+/// Reads the cumulative TSN ack of SHUTDOWN (RFC 9260 section 3.3.8).
+///
+/// Returns false, and `cumulative_tsn_ack` stays, exactly where the chunk has another type, its
+/// value hasn't four bytes, or it does not lie within the bytes.
+#[unsafe(no_mangle)]
+pub extern "C" fn dcsctp_shutdown(
+    bytes: &[u8],
+    chunk: &DcsctpChunk,
+    cumulative_tsn_ack: &mut u32,
+) -> bool
+    ensures read { ReadsInto Holds (shutdown_at bytes.now chunk.now)
+        cumulative_tsn_ack.old cumulative_tsn_ack.new result }
+    ensures means { (tree : ChunkTree) → ChunkMeans bytes.now chunk.now tree
+        → ReadsInto Holds (shutdown_of tree)
+        cumulative_tsn_ack.old cumulative_tsn_ack.new result }
+{
+    let Some(found) = read_shutdown(bytes, chunk) else {
+        return false;
+    };
+    *cumulative_tsn_ack = found;
+    true
+}
+
+/// Reads the numbers of FORWARD-TSN (RFC 3758 section 3.2) or I-FORWARD-TSN (RFC 8260 section
+/// 2.3.1).
+///
+/// Returns false, and `forward_tsn` stays, exactly where the chunk has another type, its value
+/// isn't the TSN and whole streams, or it does not lie within the bytes.
+#[unsafe(no_mangle)]
+pub extern "C" fn dcsctp_forward_tsn(
+    bytes: &[u8],
+    chunk: &DcsctpChunk,
+    forward_tsn: &mut DcsctpForwardTsn,
+) -> bool
+    ensures read { ReadsInto HoldsForward (forward_at bytes.now chunk.now)
+        forward_tsn.old forward_tsn.new result }
+    ensures means { (tree : ChunkTree) → ChunkMeans bytes.now chunk.now tree
+        → ReadsInto HoldsForward (forward_of tree) forward_tsn.old forward_tsn.new result }
+{
+    let Some(found) = forward_ref(bytes, chunk) else {
+        return false;
+    };
+    *forward_tsn = DcsctpForwardTsn {
+        new_cumulative_tsn: found.new_cumulative_tsn().0,
+        stream_count: found.skipped_stream_count(),
+    };
+    true
+}
+
+/// Reads the skipped stream at an index, from 0 on, of FORWARD-TSN or I-FORWARD-TSN.
+///
+/// Returns false, and `skipped_stream` stays, exactly where `dcsctp_forward_tsn` returns false, or
+/// the chunk has no stream at this index.
+#[unsafe(no_mangle)]
+pub extern "C" fn dcsctp_skipped_stream(
+    bytes: &[u8],
+    chunk: &DcsctpChunk,
+    index: usize,
+    skipped_stream: &mut DcsctpSkippedStream,
+) -> bool
+    ensures read { ReadsInto HoldsSkipped (skipped_at index (forward_at bytes.now chunk.now))
+        skipped_stream.old skipped_stream.new result }
+    ensures means { (tree : ChunkTree) → ChunkMeans bytes.now chunk.now tree
+        → ReadsInto HoldsSkipped (skipped_at index (forward_of tree))
+        skipped_stream.old skipped_stream.new result }
+{
+    let Some(found) = read_skipped(bytes, chunk, index) else {
+        return false;
+    };
+    *skipped_stream = found;
+    true
+}
+
 // ---- helpers
+
+/// Returns a part of the bytes, if all of it lies within them.
+#[inline(always)]
+pub(crate) fn part_at(bytes: &[u8], offset: usize, size: usize) -> Option<&[u8]>
+    ensures { option_map (λ value. value.now) result ≡ part_at bytes.now offset size }
+{
+    // a sum of the offset and the size could overflow
+    if offset > bytes.len() || size > bytes.len() - offset {
+        return None;
+    }
+    let (_, from) = bytes.split_at(offset);
+    let (value, _) = from.split_at(size);
+    Some(value)
+}
 
 /// Returns the chunk's value, if all of it lies within the bytes.
 #[inline(always)]
-fn value_of<'a>(bytes: &'a [u8], chunk: &DcsctpChunk) -> Option<&'a [u8]>
+pub(crate) fn value_of<'a>(bytes: &'a [u8], chunk: &DcsctpChunk) -> Option<&'a [u8]>
     ensures { option_map (λ value. value.now) result ≡ value_at bytes.now chunk.now }
 {
-    // a sum of the offset and the size could overflow
-    if chunk.value_offset > bytes.len() || chunk.value_size > bytes.len() - chunk.value_offset {
-        return None;
+    part_at(bytes, chunk.value_offset, chunk.value_size)
+}
+
+/// Returns where the parameters or the error causes begin in a value of this type: at its end where
+/// it has no place for them.
+#[inline(always)]
+fn list_place(typ: u8, value: &[u8]) -> usize
+    ensures within { result ≤ length value.now }
+    ensures bytes { drop result value.now ≡ list_bytes typ value.now }
+{
+    match typ {
+        init_chunk::CHUNK_TYPE | init_ack_chunk::CHUNK_TYPE => INIT_SIZE.min(value.len()),
+        heartbeat_request_chunk::CHUNK_TYPE
+        | heartbeat_ack_chunk::CHUNK_TYPE
+        | re_config_chunk::CHUNK_TYPE
+        | abort_chunk::CHUNK_TYPE
+        | error_chunk::CHUNK_TYPE => 0,
+        _ => value.len(),
     }
-    let (_, from) = bytes.split_at(chunk.value_offset);
-    let (value, _) = from.split_at(chunk.value_size);
-    Some(value)
 }
 
 /// Reads the user data, and where its payload is.
@@ -248,8 +378,8 @@ fn sack_ref<'a>(bytes: &'a [u8], chunk: &DcsctpChunk) -> Option<SackRef<'a>>
 
 /// Reads the gap ack block.
 #[inline(always)]
-fn read_block(bytes: &[u8], chunk: &DcsctpChunk, index: usize) -> Option<DcsctpGapAckBlock>
-    ensures read { Reads HoldsBlock (block_at index (sack_at bytes.now chunk.now)) result }
+fn read_block(bytes: &[u8], chunk: &DcsctpChunk, index: usize) -> Option<GapAckBlock>
+    ensures read { Reads Holds (block_at index (sack_at bytes.now chunk.now)) result }
     ensures means { (tree : ChunkTree) → ChunkMeans bytes.now chunk.now tree
         → sack_at bytes.now chunk.now ≡ sack_of tree }
 {
@@ -257,17 +387,13 @@ fn read_block(bytes: &[u8], chunk: &DcsctpChunk, index: usize) -> Option<DcsctpG
     if index >= sack.gap_ack_block_count() {
         return None;
     }
-    let block = sack.gap_ack_block(index);
-    Some(DcsctpGapAckBlock {
-        start: block.start,
-        end: block.end,
-    })
+    Some(sack.gap_ack_block(index))
 }
 
 /// Reads the duplicate TSN.
 #[inline(always)]
 fn read_duplicate(bytes: &[u8], chunk: &DcsctpChunk, index: usize) -> Option<u32>
-    ensures read { Reads HoldsNumber (duplicate_at index (sack_at bytes.now chunk.now)) result }
+    ensures read { Reads Holds (duplicate_at index (sack_at bytes.now chunk.now)) result }
     ensures means { (tree : ChunkTree) → ChunkMeans bytes.now chunk.now tree
         → sack_at bytes.now chunk.now ≡ sack_of tree }
 {
@@ -297,4 +423,78 @@ fn read_init(bytes: &[u8], chunk: &DcsctpChunk) -> Option<DcsctpInit>
         inbound_streams: read_u16_be(&value[10..]),
         initial_tsn: read_u32_be(&value[12..]),
     })
+}
+
+/// Reads the cumulative TSN ack.
+#[inline(always)]
+fn read_shutdown(bytes: &[u8], chunk: &DcsctpChunk) -> Option<u32>
+    ensures read { result ≡ shutdown_at bytes.now chunk.now }
+    ensures means { (tree : ChunkTree) → ChunkMeans bytes.now chunk.now tree
+        → shutdown_at bytes.now chunk.now ≡ shutdown_of tree }
+{
+    match chunk.typ {
+        shutdown_chunk::CHUNK_TYPE => read_number(value_of(bytes, chunk)?),
+        _ => None,
+    }
+}
+
+/// Reads a value that is one number.
+#[inline(always)]
+pub(crate) fn read_number(value: &[u8]) -> Option<u32>
+    ensures { result ≡ read_number value.now }
+{
+    if value.len() != NUMBER_SIZE {
+        return None;
+    }
+    Some(read_u32_be(value))
+}
+
+/// Returns the FORWARD-TSN or I-FORWARD-TSN where it lies.
+#[inline(always)]
+fn forward_ref<'a>(bytes: &'a [u8], chunk: &DcsctpChunk) -> Option<ForwardTsnRef<'a>>
+    ensures read { result ≡ forward_at bytes.now chunk.now }
+    ensures means { (tree : ChunkTree) → ChunkMeans bytes.now chunk.now tree
+        → forward_at bytes.now chunk.now ≡ forward_of tree }
+{
+    let value = value_of(bytes, chunk)?;
+    ForwardTsnRef::from_raw(&RawChunk {
+        typ: chunk.typ,
+        flags: chunk.flags,
+        value,
+    })
+}
+
+/// Reads the skipped stream.
+#[inline(always)]
+fn read_skipped(bytes: &[u8], chunk: &DcsctpChunk, index: usize) -> Option<DcsctpSkippedStream>
+    ensures read { Reads HoldsSkipped (skipped_at index (forward_at bytes.now chunk.now)) result }
+    ensures means { (tree : ChunkTree) → ChunkMeans bytes.now chunk.now tree
+        → forward_at bytes.now chunk.now ≡ forward_of tree }
+{
+    let forward = forward_ref(bytes, chunk)?;
+    if index >= forward.skipped_stream_count() {
+        return None;
+    }
+    Some(skipped_stream_of(forward.skipped_stream(index)))
+}
+
+/// Returns the stream as its struct.
+#[inline(always)]
+fn skipped_stream_of(stream: SkippedStream) -> DcsctpSkippedStream
+    ensures { HoldsSkipped (skipped_stream_view stream) result }
+{
+    match stream {
+        SkippedStream::ForwardTsn(stream, ssn) => DcsctpSkippedStream {
+            stream: stream.0,
+            ssn: ssn.0,
+            mid: 0,
+            is_unordered: false,
+        },
+        SkippedStream::IForwardTsn(key, mid) => DcsctpSkippedStream {
+            stream: key.id().0,
+            ssn: 0,
+            mid: mid.0,
+            is_unordered: key.is_unordered(),
+        },
+    }
 }

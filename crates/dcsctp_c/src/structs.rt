@@ -39,7 +39,25 @@ pub struct DcsctpChunk {
     pub value_offset: usize,
     /// The size of the value in bytes, without padding.
     pub value_size: usize,
+    /// The offset of the first parameter or error cause; the end of the value, if the type has
+    /// none.
+    pub list_offset: usize,
     /// The offset of the next chunk.
+    pub next: usize,
+}
+
+/// A parameter (RFC 9260 section 3.2.1) or an error cause (section 3.3.10), as offsets into the
+/// packet's bytes.
+#[repr(C)]
+#[derive(Clone, Copy)]
+pub struct DcsctpParameter {
+    /// The type of the parameter, or the code of the cause.
+    pub typ: u16,
+    /// The offset of the value.
+    pub value_offset: usize,
+    /// The size of the value in bytes, without padding.
+    pub value_size: usize,
+    /// The offset of the next one.
     pub next: usize,
 }
 
@@ -88,16 +106,6 @@ pub struct DcsctpSack {
     pub duplicate_count: usize,
 }
 
-/// A gap ack block (RFC 9260 section 3.3.4): offsets from the cumulative TSN.
-#[repr(C)]
-#[derive(Clone, Copy)]
-pub struct DcsctpGapAckBlock {
-    /// The offset of the first TSN.
-    pub start: u16,
-    /// The offset of the last TSN.
-    pub end: u16,
-}
-
 /// The numbers of INIT (RFC 9260 section 3.3.2) or INIT ACK (section 3.3.3).
 #[repr(C)]
 #[derive(Clone, Copy)]
@@ -112,4 +120,54 @@ pub struct DcsctpInit {
     pub inbound_streams: u16,
     /// The TSN of the first DATA.
     pub initial_tsn: u32,
+}
+
+/// The numbers of FORWARD-TSN (RFC 3758 section 3.2) or I-FORWARD-TSN (RFC 8260 section 2.3.1).
+#[repr(C)]
+#[derive(Clone, Copy)]
+pub struct DcsctpForwardTsn {
+    /// The TSN up to which all is to be taken as received.
+    pub new_cumulative_tsn: u32,
+    /// The number of skipped streams.
+    pub stream_count: usize,
+}
+
+/// A stream of FORWARD-TSN or I-FORWARD-TSN. What the kind does not carry is 0.
+#[repr(C)]
+#[derive(Clone, Copy)]
+pub struct DcsctpSkippedStream {
+    /// The stream id.
+    pub stream: u16,
+    /// The sequence number of the last message that is skipped; 0 in I-FORWARD-TSN.
+    pub ssn: u16,
+    /// The id of the last message that is skipped; 0 in FORWARD-TSN.
+    pub mid: u32,
+    /// Whether its unordered messages are skipped; false in FORWARD-TSN.
+    pub is_unordered: bool,
+}
+
+/// A request or the response of RE-CONFIG (RFC 6525 section 4). What the kind does not carry is 0.
+#[repr(C)]
+#[derive(Clone, Copy)]
+pub struct DcsctpReConfig {
+    /// The type of the parameter: 13 to 18.
+    pub typ: u16,
+    /// The number of a request.
+    pub request_number: u32,
+    /// The number of the request that a response answers; in an Outgoing SSN Reset too.
+    pub response_number: u32,
+    /// The last TSN that the sender of an Outgoing SSN Reset assigned.
+    pub last_tsn: u32,
+    /// What became of the request that a response answers: 0 to 6.
+    pub result: u32,
+    /// Whether a response has the next two.
+    pub has_next_tsns: bool,
+    /// The TSN that the sender of the response uses next.
+    pub sender_next_tsn: u32,
+    /// The TSN that the receiver of the response has to use next.
+    pub receiver_next_tsn: u32,
+    /// The number of streams to be added.
+    pub new_streams: u16,
+    /// The number of streams of an Outgoing or Incoming SSN Reset; writing ignores it.
+    pub stream_count: usize,
 }

@@ -1,41 +1,43 @@
 //! Packets that are written into the caller's buffer, chunk by chunk.
 //!
-//! A packet is begun, each chunk is added to it, and `dcsctp_seal` of its `size` bytes ends it.
+//! A packet is begun, each chunk is added to it, parameters and error causes to the chunk that was
+//! added last (`lists`), and `dcsctp_seal` of its `size` bytes ends it. Each call here returns 0; or
+//! it changes nothing, and returns the first of these that is so: `BAD_PLACE`, the size isn't that of
+//! a packet that was begun; `BAD_VALUE`, the chunk can't be written; `NO_ROOM`, the packet has no
+//! room for it.
 
-ghost use Rattle.std.specs.{Prelude.{◌≡◌, ◌↔◌, ◌≤◌, [], true, false, length, drop, IsTrue}, Str.{IsUtf8}};
-ghost use Rattle.dcsctp_chunk.specs.declared.sack_chunk.GapAckBlock.{GapAckBlock};
-ghost use Rattle.dcsctp_wire.specs.Chunk.{CookieAck};
-ghost use Rattle.dcsctp_buffer.specs.{Buffer.{HoldsPacket, HasRoom, IsAdded}, Heartbeat.{heartbeat}};
-ghost use Rattle.dcsctp_c.specs.Writing.{data_chunk, block_of, sack_chunk, abort_chunk, init_ack_chunk};
+ghost use Rattle.std.specs.{Prelude.{◌≡◌, ◌≢◌, [], false, true, length, drop, nat_le, if◌then◌else◌}, Str.{IsUtf8}};
+ghost use Rattle.dcsctp_wire.specs.Chunk.{Init, InitAck, CookieEcho, CookieAck, Shutdown, ShutdownAck, ShutdownComplete};
+ghost use Rattle.dcsctp_buffer.specs.{Buffer.{HoldsPacket, IsBegun}, Heartbeat.{heartbeat}, Init.{init as init_of, view as init_view}};
+ghost use Rattle.dcsctp_c.specs.{Code.{no_room_code}, Writing.{AddsChunk, AddsNothing, any_chunk, data_chunk, i_data_chunk, sack_chunk, init_tree, abort_chunk, skipped_stream, forward_tsn_chunk, i_forward_tsn_chunk}};
 
-use crate::structs::{DcsctpData, DcsctpGapAckBlock, DcsctpInit};
+use crate::codes::{OK, unwritable, write_code};
+use crate::structs::{DcsctpData, DcsctpInit, DcsctpSkippedStream};
 use dcsctp_buffer::abort::BorrowedAbort;
+use dcsctp_buffer::cookie_echo::BorrowedCookieEcho;
 use dcsctp_buffer::data::BorrowedData;
+use dcsctp_buffer::forward_tsn::{AsSkippedStream, BorrowedForwardTsn};
 use dcsctp_buffer::heartbeat::BorrowedHeartbeat;
-use dcsctp_buffer::init_ack::BorrowedInitAck;
-use dcsctp_buffer::sack::{AsGapAckBlock, BorrowedSack};
-use dcsctp_buffer::{add, begin};
+use dcsctp_buffer::idata::BorrowedIData;
+use dcsctp_buffer::init::BorrowedInit;
+use dcsctp_buffer::sack::BorrowedSack;
+use dcsctp_buffer::writable_chunk::WritableChunk;
+use dcsctp_buffer::{add, begin, is_begun};
 use dcsctp_chunk::cookie_ack_chunk::CookieAckChunk;
+use dcsctp_chunk::raw_chunk::RawChunk;
 use dcsctp_chunk::sack_chunk::GapAckBlock;
+use dcsctp_chunk::shutdown_ack_chunk::ShutdownAckChunk;
+use dcsctp_chunk::shutdown_chunk::ShutdownChunk;
+use dcsctp_chunk::shutdown_complete_chunk::ShutdownCompleteChunk;
+use dcsctp_tlv::skipped_stream::SkippedStream;
 use dcsctp_types::api::{PpId, StreamId};
-use dcsctp_types::types::{Ssn, StreamKey, Tsn};
-
-impl AsGapAckBlock for DcsctpGapAckBlock {
-    ghost block = { block_of };
-
-    fn as_gap_ack_block(&self) -> GapAckBlock {
-        GapAckBlock {
-            start: self.start,
-            end: self.end,
-        }
-    }
-}
+use dcsctp_types::types::{Fsn, Mid, Ssn, StreamKey, Tsn};
 
 /// Begins a packet (RFC 9260 section 3.1) with these ports and this tag, a checksum field of zero
 /// and no chunk: writes 12 bytes at the front of the buffer, and sets the size to 12.
 ///
-/// Returns false, and changes nothing, exactly where the buffer has fewer than 12 bytes. All bytes
-/// after the header stay.
+/// Returns 0; `NO_ROOM`, and changes nothing, if and only if the buffer has fewer than 12 bytes.
+/// All bytes after the header stay.
 #[unsafe(no_mangle)]
 pub extern "C" fn dcsctp_begin(
     packet: &mut [u8],
@@ -43,44 +45,58 @@ pub extern "C" fn dcsctp_begin(
     source_port: u16,
     destination_port: u16,
     verification_tag: u32,
-) -> bool
-    ensures room { IsTrue result ↔ (12 ≤ length packet.old) }
-    ensures size { result ≡ true → size.new ≡ 12 }
-    ensures begun { result ≡ true → HoldsPacket packet.new size.new (record {
+) -> u32
+    ensures room { result ≡ (if nat_le 12 (length packet.old) then 0 else no_room_code) }
+    ensures size { result ≡ 0 → size.new ≡ 12 }
+    ensures begun { result ≡ 0 → HoldsPacket packet.new size.new (record {
       source = source_port;
       destination = destination_port;
       tag = verification_tag;
       chunks = [];
     }) }
     ensures after { drop 12 packet.new ≡ drop 12 packet.old }
-    ensures declined { result ≡ false → (packet.new ≡ packet.old) × (size.new ≡ size.old) }
+    ensures declined { result ≢ 0 → (packet.new ≡ packet.old) × (size.new ≡ size.old) }
 {
-    begin(
+    match begin(
         packet,
         size,
         source_port,
         destination_port,
         verification_tag,
-    )
+    ) {
+        Ok(()) => OK,
+        Err(error) => write_code(error),
+    }
+}
+
+/// Adds a chunk (RFC 9260 section 3.2) of any type with these flags, and this value as it is.
+#[unsafe(no_mangle)]
+pub extern "C" fn dcsctp_add_chunk(
+    packet: &mut [u8],
+    size: &mut usize,
+    typ: u8,
+    flags: u8,
+    value: &[u8],
+) -> u32
+    ensures { AddsChunk (any_chunk typ flags value.now)
+        (record { bytes = packet.old; size = size.old })
+        (record { bytes = packet.new; size = size.new }) result }
+{
+    add_chunk(packet, size, &RawChunk { typ, flags, value })
 }
 
 /// Adds DATA (RFC 9260 section 3.3.1) with this payload; the MID, the FSN, and the payload's offset
 /// and size in the struct are ignored.
-///
-/// Returns true exactly where the chunk can be written and the packet has room for it, as
-/// `dcsctp_buffer::add` does; false changes nothing.
 #[unsafe(no_mangle)]
 pub extern "C" fn dcsctp_add_data(
     packet: &mut [u8],
     size: &mut usize,
     user_data: &DcsctpData,
     payload: &[u8],
-) -> bool
-    ensures room { IsTrue result
-        ↔ HasRoom (length packet.old) size.old (data_chunk user_data.now payload.now) }
-    ensures added { result ≡ true → IsAdded (data_chunk user_data.now payload.now)
-        packet.old size.old packet.new size.new }
-    ensures declined { result ≡ false → (packet.new ≡ packet.old) × (size.new ≡ size.old) }
+) -> u32
+    ensures { AddsChunk (data_chunk user_data.now payload.now)
+        (record { bytes = packet.old; size = size.old })
+        (record { bytes = packet.new; size = size.new }) result }
 {
     let chunk = BorrowedData {
         tsn: Tsn(user_data.tsn),
@@ -92,29 +108,51 @@ pub extern "C" fn dcsctp_add_data(
         is_end: user_data.is_end,
         immediate_ack: user_data.immediate_ack,
     };
-    add(packet, size, &chunk)
+    add_chunk(packet, size, &chunk)
+}
+
+/// Adds I-DATA (RFC 8260 section 2.1) with this payload; the SSN, and the payload's offset and size
+/// in the struct are ignored. At the beginning of a message the FSN isn't written, elsewhere the
+/// payload protocol id.
+#[unsafe(no_mangle)]
+pub extern "C" fn dcsctp_add_i_data(
+    packet: &mut [u8],
+    size: &mut usize,
+    user_data: &DcsctpData,
+    payload: &[u8],
+) -> u32
+    ensures { AddsChunk (i_data_chunk user_data.now payload.now)
+        (record { bytes = packet.old; size = size.old })
+        (record { bytes = packet.new; size = size.new }) result }
+{
+    let chunk = BorrowedIData {
+        tsn: Tsn(user_data.tsn),
+        stream_key: StreamKey::new(user_data.is_unordered, StreamId(user_data.stream)),
+        mid: Mid(user_data.mid),
+        fsn: Fsn(user_data.fsn),
+        ppid: PpId(user_data.ppid),
+        payload,
+        is_beginning: user_data.is_beginning,
+        is_end: user_data.is_end,
+        immediate_ack: user_data.immediate_ack,
+    };
+    add_chunk(packet, size, &chunk)
 }
 
 /// Adds a SACK (RFC 9260 section 3.3.4). Its blocks and duplicates are written as they are, in any
 /// order.
-///
-/// Returns true exactly where the chunk can be written and the packet has room for it, as
-/// `dcsctp_buffer::add` does; false changes nothing.
 #[unsafe(no_mangle)]
 pub extern "C" fn dcsctp_add_sack(
     packet: &mut [u8],
     size: &mut usize,
     cumulative_tsn_ack: u32,
     a_rwnd: u32,
-    blocks: &[DcsctpGapAckBlock],
+    blocks: &[GapAckBlock],
     duplicates: &[u32],
-) -> bool
-    ensures room { IsTrue result ↔ HasRoom (length packet.old) size.old
-        (sack_chunk cumulative_tsn_ack a_rwnd blocks.now duplicates.now) }
-    ensures added { result ≡ true
-        → IsAdded (sack_chunk cumulative_tsn_ack a_rwnd blocks.now duplicates.now)
-        packet.old size.old packet.new size.new }
-    ensures declined { result ≡ false → (packet.new ≡ packet.old) × (size.new ≡ size.old) }
+) -> u32
+    ensures { AddsChunk (sack_chunk cumulative_tsn_ack a_rwnd blocks.now duplicates.now)
+        (record { bytes = packet.old; size = size.old })
+        (record { bytes = packet.new; size = size.new }) result }
 {
     let chunk = BorrowedSack {
         cumulative_tsn_ack: Tsn(cumulative_tsn_ack),
@@ -122,50 +160,83 @@ pub extern "C" fn dcsctp_add_sack(
         gap_ack_blocks: blocks,
         duplicate_tsns: duplicates,
     };
-    add(packet, size, &chunk)
+    add_chunk(packet, size, &chunk)
+}
+
+/// Adds INIT (RFC 9260 section 3.3.2) with these numbers, and no parameter.
+#[unsafe(no_mangle)]
+pub extern "C" fn dcsctp_add_init(packet: &mut [u8], size: &mut usize, init: &DcsctpInit) -> u32
+    ensures { AddsChunk (Init (init_tree init.now))
+        (record { bytes = packet.old; size = size.old })
+        (record { bytes = packet.new; size = size.new }) result }
+{
+    add_chunk(packet, size, &init_chunk(false, init))
+}
+
+/// Adds INIT ACK (RFC 9260 section 3.3.3) with these numbers, and no parameter.
+#[unsafe(no_mangle)]
+pub extern "C" fn dcsctp_add_init_ack(packet: &mut [u8], size: &mut usize, init: &DcsctpInit) -> u32
+    ensures { AddsChunk (InitAck (init_tree init.now))
+        (record { bytes = packet.old; size = size.old })
+        (record { bytes = packet.new; size = size.new }) result }
+{
+    add_chunk(packet, size, &init_chunk(true, init))
+}
+
+/// Adds COOKIE ECHO (RFC 9260 section 3.3.11) with this cookie.
+#[unsafe(no_mangle)]
+pub extern "C" fn dcsctp_add_cookie_echo(packet: &mut [u8], size: &mut usize, cookie: &[u8]) -> u32
+    ensures { AddsChunk (CookieEcho cookie.now)
+        (record { bytes = packet.old; size = size.old })
+        (record { bytes = packet.new; size = size.new }) result }
+{
+    add_chunk(packet, size, &BorrowedCookieEcho { cookie })
+}
+
+/// Adds COOKIE ACK (RFC 9260 section 3.3.12).
+#[unsafe(no_mangle)]
+pub extern "C" fn dcsctp_add_cookie_ack(packet: &mut [u8], size: &mut usize) -> u32
+    ensures { AddsChunk CookieAck
+        (record { bytes = packet.old; size = size.old })
+        (record { bytes = packet.new; size = size.new }) result }
+{
+    add_chunk(packet, size, &CookieAckChunk)
 }
 
 /// Adds HEARTBEAT (RFC 9260 section 3.3.5), or HEARTBEAT ACK (section 3.3.6) where `is_ack` is
 /// true, with this Heartbeat Info as its one parameter.
-///
-/// Returns true exactly where the chunk can be written and the packet has room for it, as
-/// `dcsctp_buffer::add` does; false changes nothing.
 #[unsafe(no_mangle)]
 pub extern "C" fn dcsctp_add_heartbeat(
     packet: &mut [u8],
     size: &mut usize,
     is_ack: bool,
     info: &[u8],
-) -> bool
-    ensures room { IsTrue result
-        ↔ HasRoom (length packet.old) size.old (heartbeat is_ack info.now) }
-    ensures added { result ≡ true
-        → IsAdded (heartbeat is_ack info.now) packet.old size.old packet.new size.new }
-    ensures declined { result ≡ false → (packet.new ≡ packet.old) × (size.new ≡ size.old) }
+) -> u32
+    ensures { AddsChunk (heartbeat is_ack info.now)
+        (record { bytes = packet.old; size = size.old })
+        (record { bytes = packet.new; size = size.new }) result }
 {
-    add(packet, size, &BorrowedHeartbeat { is_ack, info })
+    add_chunk(packet, size, &BorrowedHeartbeat { is_ack, info })
 }
 
 /// Adds ABORT (RFC 9260 section 3.3.7) with a User-Initiated Abort (section 3.3.10.12) as its one
-/// cause.
-///
-/// Returns true exactly where the reason is UTF-8, the chunk can be written and the packet has room
-/// for it, as `dcsctp_buffer::add` does; false changes nothing.
+/// cause. A reason that isn't UTF-8 can't be written.
 #[unsafe(no_mangle)]
 pub extern "C" fn dcsctp_add_abort(
     packet: &mut [u8],
     size: &mut usize,
     tag_reflected: bool,
     reason: &[u8],
-) -> bool
-    ensures room { IsTrue result ↔ (IsUtf8 reason.now
-        × HasRoom (length packet.old) size.old (abort_chunk tag_reflected reason.now)) }
-    ensures added { result ≡ true → IsAdded (abort_chunk tag_reflected reason.now)
-        packet.old size.old packet.new size.new }
-    ensures declined { result ≡ false → (packet.new ≡ packet.old) × (size.new ≡ size.old) }
+) -> u32
+    ensures added { IsUtf8 reason.now → AddsChunk (abort_chunk tag_reflected reason.now)
+        (record { bytes = packet.old; size = size.old })
+        (record { bytes = packet.new; size = size.new }) result }
+    ensures other { (¬ IsUtf8 reason.now) → AddsNothing (IsBegun (length packet.old) size.old)
+        (record { bytes = packet.old; size = size.old })
+        (record { bytes = packet.new; size = size.new }) result }
 {
     match str::from_utf8(reason) {
-        Ok(reason) => add(
+        Ok(reason) => add_chunk(
             packet,
             size,
             &BorrowedAbort {
@@ -173,49 +244,128 @@ pub extern "C" fn dcsctp_add_abort(
                 reason,
             },
         ),
-        Err(_) => false,
+        Err(_) => unwritable(is_begun(packet.len(), *size)),
     }
 }
 
-/// Adds INIT ACK (RFC 9260 section 3.3.3) with these numbers, and a State Cookie as its one
-/// parameter.
-///
-/// Returns true exactly where the chunk can be written and the packet has room for it, as
-/// `dcsctp_buffer::add` does; false changes nothing.
+/// Adds SHUTDOWN (RFC 9260 section 3.3.8).
 #[unsafe(no_mangle)]
-pub extern "C" fn dcsctp_add_init_ack(
+pub extern "C" fn dcsctp_add_shutdown(
     packet: &mut [u8],
     size: &mut usize,
-    init: &DcsctpInit,
-    cookie: &[u8],
-) -> bool
-    ensures room { IsTrue result
-        ↔ HasRoom (length packet.old) size.old (init_ack_chunk init.now cookie.now) }
-    ensures added { result ≡ true → IsAdded (init_ack_chunk init.now cookie.now)
-        packet.old size.old packet.new size.new }
-    ensures declined { result ≡ false → (packet.new ≡ packet.old) × (size.new ≡ size.old) }
+    cumulative_tsn_ack: u32,
+) -> u32
+    ensures { AddsChunk (Shutdown cumulative_tsn_ack)
+        (record { bytes = packet.old; size = size.old })
+        (record { bytes = packet.new; size = size.new }) result }
 {
-    let chunk = BorrowedInitAck {
+    let chunk = ShutdownChunk {
+        cumulative_tsn_ack: Tsn(cumulative_tsn_ack),
+    };
+    add_chunk(packet, size, &chunk)
+}
+
+/// Adds SHUTDOWN ACK (RFC 9260 section 3.3.9).
+#[unsafe(no_mangle)]
+pub extern "C" fn dcsctp_add_shutdown_ack(packet: &mut [u8], size: &mut usize) -> u32
+    ensures { AddsChunk ShutdownAck
+        (record { bytes = packet.old; size = size.old })
+        (record { bytes = packet.new; size = size.new }) result }
+{
+    add_chunk(packet, size, &ShutdownAckChunk)
+}
+
+/// Adds SHUTDOWN COMPLETE (RFC 9260 section 3.3.13).
+#[unsafe(no_mangle)]
+pub extern "C" fn dcsctp_add_shutdown_complete(
+    packet: &mut [u8],
+    size: &mut usize,
+    tag_reflected: bool,
+) -> u32
+    ensures { AddsChunk (ShutdownComplete tag_reflected)
+        (record { bytes = packet.old; size = size.old })
+        (record { bytes = packet.new; size = size.new }) result }
+{
+    add_chunk(packet, size, &ShutdownCompleteChunk { tag_reflected })
+}
+
+/// Adds FORWARD-TSN (RFC 3758 section 3.2); the streams' MIDs and what says unordered are ignored.
+#[unsafe(no_mangle)]
+pub extern "C" fn dcsctp_add_forward_tsn(
+    packet: &mut [u8],
+    size: &mut usize,
+    new_cumulative_tsn: u32,
+    streams: &[DcsctpSkippedStream],
+) -> u32
+    ensures { AddsChunk (forward_tsn_chunk new_cumulative_tsn streams.now)
+        (record { bytes = packet.old; size = size.old })
+        (record { bytes = packet.new; size = size.new }) result }
+{
+    let chunk = BorrowedForwardTsn {
+        by_mid: false,
+        new_cumulative_tsn: Tsn(new_cumulative_tsn),
+        skipped_streams: streams,
+    };
+    add_chunk(packet, size, &chunk)
+}
+
+/// Adds I-FORWARD-TSN (RFC 8260 section 2.3.1); the streams' SSNs are ignored.
+#[unsafe(no_mangle)]
+pub extern "C" fn dcsctp_add_i_forward_tsn(
+    packet: &mut [u8],
+    size: &mut usize,
+    new_cumulative_tsn: u32,
+    streams: &[DcsctpSkippedStream],
+) -> u32
+    ensures { AddsChunk (i_forward_tsn_chunk new_cumulative_tsn streams.now)
+        (record { bytes = packet.old; size = size.old })
+        (record { bytes = packet.new; size = size.new }) result }
+{
+    let chunk = BorrowedForwardTsn {
+        by_mid: true,
+        new_cumulative_tsn: Tsn(new_cumulative_tsn),
+        skipped_streams: streams,
+    };
+    add_chunk(packet, size, &chunk)
+}
+
+// ---- helpers
+
+impl AsSkippedStream for DcsctpSkippedStream {
+    ghost stream = { skipped_stream };
+
+    fn as_skipped_stream(&self, by_mid: bool) -> SkippedStream {
+        let stream = StreamId(self.stream);
+        if by_mid {
+            SkippedStream::IForwardTsn(StreamKey::new(self.is_unordered, stream), Mid(self.mid))
+        } else {
+            SkippedStream::ForwardTsn(stream, Ssn(self.ssn))
+        }
+    }
+}
+
+/// The chunk with the struct's numbers.
+fn init_chunk(is_ack: bool, init: &DcsctpInit) -> BorrowedInit
+    ensures { init_view result ≡ init_of is_ack (init_tree init.now) }
+{
+    BorrowedInit {
+        is_ack,
         initiate_tag: init.initiate_tag,
         a_rwnd: init.a_rwnd,
         nbr_outbound_streams: init.outbound_streams,
         nbr_inbound_streams: init.inbound_streams,
         initial_tsn: Tsn(init.initial_tsn),
-        cookie,
-    };
-    add(packet, size, &chunk)
+    }
 }
 
-/// Adds COOKIE ACK (RFC 9260 section 3.3.12).
-///
-/// Returns true exactly where the packet has room for it, as `dcsctp_buffer::add` does; false
-/// changes nothing.
-#[unsafe(no_mangle)]
-pub extern "C" fn dcsctp_add_cookie_ack(packet: &mut [u8], size: &mut usize) -> bool
-    ensures room { IsTrue result ↔ HasRoom (length packet.old) size.old CookieAck }
-    ensures added { result ≡ true
-        → IsAdded CookieAck packet.old size.old packet.new size.new }
-    ensures declined { result ≡ false → (packet.new ≡ packet.old) × (size.new ≡ size.old) }
+/// Adds a chunk.
+fn add_chunk<C: WritableChunk>(packet: &mut [u8], size: &mut usize, chunk: &C) -> u32
+    ensures { AddsChunk (C.tree chunk.now)
+        (record { bytes = packet.old; size = size.old })
+        (record { bytes = packet.new; size = size.new }) result }
 {
-    add(packet, size, &CookieAckChunk)
+    match add(packet, size, chunk) {
+        Ok(()) => OK,
+        Err(error) => write_code(error),
+    }
 }

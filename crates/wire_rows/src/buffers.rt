@@ -3,20 +3,25 @@
 use crate::bytes::{add_words, short_at, word_at, write_digits};
 use crate::values::chunk_of;
 use dcsctp_buffer::abort::BorrowedAbort;
+use dcsctp_buffer::cookie_echo::BorrowedCookieEcho;
 use dcsctp_buffer::data::BorrowedData;
+use dcsctp_buffer::forward_tsn::BorrowedForwardTsn;
 use dcsctp_buffer::heartbeat::BorrowedHeartbeat;
-use dcsctp_buffer::init_ack::BorrowedInitAck;
+use dcsctp_buffer::idata::BorrowedIData;
+use dcsctp_buffer::init::BorrowedInit;
+use dcsctp_buffer::item::add_item;
 use dcsctp_buffer::sack::BorrowedSack;
 use dcsctp_buffer::{add, begin, seal};
 use dcsctp_wire::api::{PpId, StreamId};
 use dcsctp_wire::packet::abort_chunk::AbortChunk;
-use dcsctp_wire::packet::chunk::Chunk;
+use dcsctp_wire::packet::chunk::{Chunk, RawChunk};
 use dcsctp_wire::packet::cookie_ack_chunk::CookieAckChunk;
 use dcsctp_wire::packet::data_chunk::DataChunk;
 use dcsctp_wire::packet::error_causes::ErrorCause;
-use dcsctp_wire::packet::init_ack_chunk::InitAckChunk;
+use dcsctp_wire::packet::idata_chunk::IDataChunk;
 use dcsctp_wire::packet::parameter::Parameter;
 use dcsctp_wire::packet::sack_chunk::SackChunk;
+use dcsctp_wire::packet::{SkippedStream, state_cookie_parameter, supported_extensions_parameter};
 use dcsctp_wire::types::{Ssn, StreamKey, Tsn};
 use std::alloc::{AllocError, Global};
 
@@ -39,7 +44,7 @@ fn add_data(buffer: &mut [u8], size: &mut usize, chunk: &DataChunk) -> bool {
         is_end: data.is_end,
         immediate_ack: chunk.immediate_ack,
     };
-    add(buffer, size, &borrowed)
+    add(buffer, size, &borrowed).is_ok()
 }
 
 fn add_sack(
@@ -58,7 +63,7 @@ fn add_sack(
         gap_ack_blocks: &chunk.gap_ack_blocks,
         duplicate_tsns: &duplicates,
     };
-    Ok(add(buffer, size, &borrowed))
+    Ok(add(buffer, size, &borrowed).is_ok())
 }
 
 /// A heartbeat with the first of these parameters.
@@ -71,28 +76,65 @@ fn add_heartbeat(
     match parameters.first() {
         Some(Parameter::HeartbeatInfo(parameter)) => {
             let info = &parameter.info;
-            add(buffer, size, &BorrowedHeartbeat { is_ack, info })
+            add(buffer, size, &BorrowedHeartbeat { is_ack, info }).is_ok()
         }
         _ => false,
     }
 }
 
-/// The same of the cookie that it begins with.
-fn add_init_ack(buffer: &mut [u8], size: &mut usize, chunk: &InitAckChunk) -> bool {
-    match chunk.parameters.first() {
-        Some(Parameter::StateCookie(parameter)) => {
-            let borrowed = BorrowedInitAck {
-                initiate_tag: chunk.initiate_tag,
-                a_rwnd: chunk.a_rwnd,
-                nbr_outbound_streams: chunk.nbr_outbound_streams,
-                nbr_inbound_streams: chunk.nbr_inbound_streams,
-                initial_tsn: chunk.initial_tsn,
-                cookie: &parameter.cookie,
-            };
-            add(buffer, size, &borrowed)
-        }
-        _ => false,
+/// INIT or INIT ACK without parameters, and after it those that are cookies or chunk types.
+fn add_init(
+    buffer: &mut [u8],
+    size: &mut usize,
+    chunk: &BorrowedInit,
+    parameters: &[Parameter],
+) -> bool {
+    let start = *size;
+    let mut is_added = add(buffer, size, chunk).is_ok();
+    for parameter in parameters {
+        let (typ, value): (u16, &[u8]) = match parameter {
+            Parameter::StateCookie(p) => (state_cookie_parameter::PARAMETER_TYPE, &p.cookie),
+            Parameter::SupportedExtensions(p) => (
+                supported_extensions_parameter::PARAMETER_TYPE,
+                &p.chunk_types,
+            ),
+            _ => return false,
+        };
+        is_added = is_added && add_item(buffer, size, start, typ, value, &[]).is_ok();
     }
+    is_added
+}
+
+fn add_idata(buffer: &mut [u8], size: &mut usize, chunk: &IDataChunk) -> bool {
+    let data = &chunk.user_data;
+    let borrowed = BorrowedIData {
+        tsn: chunk.tsn,
+        stream_key: data.stream_key,
+        mid: data.mid,
+        fsn: data.fsn,
+        ppid: data.ppid,
+        payload: &data.payload,
+        is_beginning: data.is_beginning,
+        is_end: data.is_end,
+        immediate_ack: chunk.immediate_ack,
+    };
+    add(buffer, size, &borrowed).is_ok()
+}
+
+/// FORWARD-TSN, or I-FORWARD-TSN.
+fn add_forward_tsn(
+    buffer: &mut [u8],
+    size: &mut usize,
+    by_mid: bool,
+    new_cumulative_tsn: Tsn,
+    skipped_streams: &[SkippedStream],
+) -> bool {
+    let borrowed = BorrowedForwardTsn {
+        by_mid,
+        new_cumulative_tsn,
+        skipped_streams,
+    };
+    add(buffer, size, &borrowed).is_ok()
 }
 
 /// The same of the reason that it begins with.
@@ -103,7 +145,7 @@ fn add_abort(buffer: &mut [u8], size: &mut usize, chunk: &AbortChunk) -> bool {
                 tag_reflected: chunk.tag_reflected,
                 reason: &cause.reason,
             };
-            add(buffer, size, &borrowed)
+            add(buffer, size, &borrowed).is_ok()
         }
         _ => false,
     }
@@ -122,10 +164,59 @@ fn add_borrowed(
         Chunk::Sack(c) => add_sack(alloc, buffer, size, c)?,
         Chunk::HeartbeatRequest(c) => add_heartbeat(buffer, size, false, &c.parameters),
         Chunk::HeartbeatAck(c) => add_heartbeat(buffer, size, true, &c.parameters),
-        Chunk::InitAck(c) => add_init_ack(buffer, size, c),
+        Chunk::Init(c) => {
+            let borrowed = BorrowedInit {
+                is_ack: false,
+                initiate_tag: c.initiate_tag,
+                a_rwnd: c.a_rwnd,
+                nbr_outbound_streams: c.nbr_outbound_streams,
+                nbr_inbound_streams: c.nbr_inbound_streams,
+                initial_tsn: c.initial_tsn,
+            };
+            add_init(buffer, size, &borrowed, &c.parameters)
+        }
+        Chunk::InitAck(c) => {
+            let borrowed = BorrowedInit {
+                is_ack: true,
+                initiate_tag: c.initiate_tag,
+                a_rwnd: c.a_rwnd,
+                nbr_outbound_streams: c.nbr_outbound_streams,
+                nbr_inbound_streams: c.nbr_inbound_streams,
+                initial_tsn: c.initial_tsn,
+            };
+            add_init(buffer, size, &borrowed, &c.parameters)
+        }
         Chunk::Abort(c) => add_abort(buffer, size, c),
-        Chunk::CookieAck(c) => add(buffer, size, c),
-        _ => add(buffer, size, chunk),
+        Chunk::Shutdown(c) => add(buffer, size, c).is_ok(),
+        Chunk::ShutdownAck(c) => add(buffer, size, c).is_ok(),
+        Chunk::CookieEcho(c) => {
+            let cookie = &c.cookie;
+            add(buffer, size, &BorrowedCookieEcho { cookie }).is_ok()
+        }
+        Chunk::CookieAck(c) => add(buffer, size, c).is_ok(),
+        Chunk::ShutdownComplete(c) => add(buffer, size, c).is_ok(),
+        Chunk::IData(c) => add_idata(buffer, size, c),
+        Chunk::ForwardTsn(c) => {
+            add_forward_tsn(
+                buffer,
+                size,
+                false,
+                c.new_cumulative_tsn,
+                &c.skipped_streams,
+            )
+        }
+        Chunk::IForwardTsn(c) => {
+            add_forward_tsn(buffer, size, true, c.new_cumulative_tsn, &c.skipped_streams)
+        }
+        Chunk::Unknown(c) => {
+            let raw = RawChunk {
+                typ: c.typ,
+                flags: c.flags,
+                value: &c.value,
+            };
+            add(buffer, size, &raw).is_ok()
+        }
+        _ => add(buffer, size, chunk).is_ok(),
     })
 }
 
@@ -142,7 +233,7 @@ fn add_chunk(
     let mut bytes = Vec::new(alloc);
     add_words(alloc, words, &mut bytes)?;
     match chunk_of(alloc, &bytes) {
-        Ok(chunk) if is_owned => Ok(add(buffer, size, &chunk)),
+        Ok(chunk) if is_owned => Ok(add(buffer, size, &chunk).is_ok()),
         Ok(chunk) => add_borrowed(alloc, buffer, size, &chunk),
         Err(_) => Ok(false),
     }
@@ -155,7 +246,7 @@ fn write_sealed(
     size: usize,
     out: &mut String,
 ) -> Result<(), AllocError> {
-    let is_sealed = seal(buffer, size);
+    let is_sealed = seal(buffer, size).is_ok();
     write!(out, "{is_sealed}; ")?;
     write_digits(alloc, buffer.get(..size).unwrap_or(&[]), out)?;
     if !are_untouched(buffer.get(size..).unwrap_or(&[])) {
@@ -182,7 +273,8 @@ fn write_packet(
         source,
         destination,
         word_at(numbers, 8),
-    );
+    )
+    .is_ok();
     write!(out, "{begins}, ")?;
     for words in chunks.split(" / ").skip(1) {
         let is_added = add_chunk(alloc, &mut buffer, &mut size, words, is_owned)?;
@@ -216,11 +308,11 @@ fn write_at(alloc: Global, numbers: &[u8], out: &mut String) -> Result<(), Alloc
     let mut buffer = vec![in alloc; 0xee; word_at(numbers, 0) as usize]?;
     let start = ((word_at(numbers, 4) as usize) << 32) | (word_at(numbers, 8) as usize);
     let mut size = start;
-    let is_added = add(&mut buffer, &mut size, &CookieAckChunk);
+    let is_added = add(&mut buffer, &mut size, &CookieAckChunk).is_ok();
     if !is_added && (size != start || !are_untouched(&buffer)) {
         out.push_str("changed, though ")?;
     }
-    let is_sealed = seal(&mut buffer, start);
+    let is_sealed = seal(&mut buffer, start).is_ok();
     write!(out, "{is_added} {is_sealed}")?;
     if !is_added && !is_sealed && !are_untouched(&buffer) {
         out.push_str(", but changed")?;
@@ -242,7 +334,8 @@ fn write_data(alloc: Global, payload: &[u8], out: &mut String) -> Result<(), All
         is_end: true,
         immediate_ack: false,
     };
-    let is_added = begin(&mut buffer, &mut size, 1, 1, 1) && add(&mut buffer, &mut size, &data);
+    let is_added = begin(&mut buffer, &mut size, 1, 1, 1).is_ok()
+        && add(&mut buffer, &mut size, &data).is_ok();
     write!(out, "{is_added} {size}")
 }
 

@@ -1,7 +1,7 @@
-use Rattle.std.proofs.{Common.{arith, ℕ, ◌≡◌, ◌+◌, ◌∙◌, ap, length}, lemmas.Grind.{common_steps}}
+use Rattle.std.proofs.Common.{arith, rules, ℕ, ◌≡◌, ◌+◌, ◌∙◌, ap, length}
 use Rattle.dcsctp_tlv.specs.{Frame.{round_up_to_4}, Image.{size_of}}
 use Rattle.dcsctp_wire.specs.Chunk.{tlv as chunk_tlv}
-use Rattle.dcsctp_buffer.{specs.Buffer.{HasRoom}, proofs.Buffers.{adds}}
+use Rattle.dcsctp_buffer.{specs.Buffer.{HasRoom, IsBegun}, proofs.Buffers.{adds}}
 use Rattle.dcsctp_buffer.proofs.add.Goals as goal
 
 pub returns-clause-added : goal.returns-clause-added
@@ -10,9 +10,10 @@ returns-clause-added g c added =
     let size = c.args.size.now in
     let padded : c.round_up_to_4-padded_size.result ≡ round_up_to_4 (size_of (chunk_tlv t)) =
     c.round_up_to_4-padded_size.ensures ∙ ap round_up_to_4 c.in-Some.ensures.1 in
+    let begun : IsBegun (length c.args.buffer.now) size = search rules in
     let room : HasRoom (length c.args.buffer.now) size t = record {
-      header = omega arith;
-      words = grind (arith, common_steps);
+      header = begun.header;
+      words = begun.words;
       encodable = c.in-Some.ensures.0;
       within = omega (arith, padded, c.min-limit.ensures);
       whole = omega (arith, padded, c.min-limit.ensures);

@@ -1,7 +1,7 @@
 use Rattle.std.proofs.Common.{◌≡◌, ◌∙◌, ℕ, List, Ok, length, take, ap, sym, subst, arith, take_all}
 use Rattle.dcsctp_crc32c.specs.Checksum.{packet_word}
 use Rattle.dcsctp_wire.specs.Packet.{Answer, equal}
-use Rattle.dcsctp_buffer.{specs.Buffer.{kept}, proofs.Buffers.{sealed_reads}}
+use Rattle.dcsctp_buffer.{specs.Buffer.{kept}, proofs.Buffers.{sealed_reads, sealed_means}}
 use Rattle.dcsctp_c.proofs.in_place.dcsctp_seal.Goals as goal
 
 pub returns-clause-sealed : goal.returns-clause-sealed
@@ -33,3 +33,17 @@ returns-clause-reads c room m policy held formed =
     c.packet_word-word.type_inv room
     (c.packet_word-word.ensures.value ∙ ap packet_word (sym whole))
     c.set_checksum_word.ensures.bytes held formed)
+
+pub returns-clause-reads_as : goal.returns-clause-reads_as
+returns-clause-reads_as c room m us policy held some read =
+    let old = c.args.packet.now in
+    let new = c.set_checksum_word.new.packet in
+    let whole : take (length old) old ≡ old = take_all (length old) old (omega arith) in
+    let sealed : take (length old) new ≡ new =
+    take_all (length old) new (omega (arith, c.set_checksum_word.auto.packet)) in
+    subst (λ (bytes : List ℕ). Answer bytes (packet_word bytes) policy
+    (Ok (record { meaning = record m { chunks = us }; checksum = packet_word bytes }))) sealed
+    (sealed_means old new (length old) c.packet_word-word.result m us policy
+    c.packet_word-word.type_inv room
+    (c.packet_word-word.ensures.value ∙ ap packet_word (sym whole))
+    c.set_checksum_word.ensures.bytes held some read)

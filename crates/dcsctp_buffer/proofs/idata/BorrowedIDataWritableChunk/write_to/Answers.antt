@@ -1,0 +1,6 @@
+use Rattle.dcsctp_buffer.proofs.idata.BorrowedIDataWritableChunk.write_to.Goals as goal
+
+pub returns-clause-written : goal.returns-clause-written
+returns-clause-written c =
+    rw (c.four_flags-flags.ensures, c.is_unordered.ensures, c.fixed.ensures.bytes) at
+    c.put_data.ensures

@@ -1,0 +1,13 @@
+use Rattle.std.proofs.Common.{arith}
+use Rattle.dcsctp_c.proofs.Places.{parameter_there}
+use Rattle.dcsctp_c.proofs.parameters.dcsctp_parameter_at.Goals as goal
+
+pub returns-clause-read : goal.returns-clause-read
+returns-clause-read c found =
+    let frame = rw c.split_at.ensures.back at c.in-Ok.ensures.frame.0 found in
+    let value = rw c.split_at.ensures.back at c.in-Ok.ensures.value in
+    let rest = rw c.split_at.ensures.back at c.in-Ok.ensures.rest in
+    let typ = rw c.split_at.ensures.back at c.read_u16_be.ensures in
+    parameter_there c.args.bytes.now c.args.chunk.now c.in-Some.list.now c.args.offset
+    c.read_u16_be.result c.in-Ok.value.now c.in-Ok.rest.now (λ i. (c.type_inv.bytes i).fits)
+    c.in-Some.ensures (omega arith) frame typ value rest

@@ -1,0 +1,4 @@
+use Rattle.dcsctp_c.proofs.writing.dcsctp_add_init.Goals as goal
+
+pub returns : goal.returns
+returns c = rw c.init_chunk.ensures at c.add_chunk.ensures
