@@ -170,6 +170,13 @@ def constants_of_library():
     codes['FIRST_CHUNK'] = size[1]
     bit = re.search(r'\btag_reflected: is_set\(flags, (\d)\)', read('crates/dcsctp_chunk/src/shutdown_complete_chunk.rt'))
     codes['TAG_REFLECTED'] = str(1 << int(bit[1]))
+    # what the library knows no kind of, from RFC 9260 (sections 3.3.3.1 and 3.3.10) and RFC 6525 (section 4.4)
+    codes |= {'PARAMETER_UNRECOGNIZED_PARAMETER': '8'}
+    codes |= {f'CAUSE_{name}': str(code) for code, name in (
+        (1, 'INVALID_STREAM_IDENTIFIER'), (3, 'STALE_COOKIE'), (4, 'OUT_OF_RESOURCE'), (5, 'UNRESOLVABLE_ADDRESS'),
+        (7, 'INVALID_MANDATORY_PARAMETER'), (8, 'UNRECOGNIZED_PARAMETERS'), (11, 'RESTART_WITH_NEW_ADDRESSES'))}
+    codes |= {f'RE_CONFIG_{name}': str(result) for result, name in enumerate((
+        'NOTHING_TO_DO', 'PERFORMED', 'DENIED', 'WRONG_SSN', 'ALREADY_IN_PROGRESS', 'BAD_SEQUENCE_NUMBER', 'IN_PROGRESS'))}
     return {name: int(value, 0) for name, value in codes.items()}
 
 

@@ -1024,8 +1024,8 @@ static const char *cause_name(uint32_t code)
 static void names(void)
 {
     CHECK(named(chunk_name, 256, "unknown") == 17 && !strcmp(dcsctp_chunk_name(14), "SHUTDOWN COMPLETE") && !strcmp(dcsctp_chunk_name(0), "DATA"));
-    CHECK(named(parameter_name, 65536, "unknown") == 11 && !strcmp(dcsctp_parameter_name(0x8008), "Supported Extensions"));
-    CHECK(named(cause_name, 65536, "unknown") == 6 && !strcmp(dcsctp_cause_name(13), "Protocol Violation"));
+    CHECK(named(parameter_name, 65536, "unknown") == 12 && !strcmp(dcsctp_parameter_name(0x8008), "Supported Extensions"));
+    CHECK(named(cause_name, 65536, "unknown") == 13 && !strcmp(dcsctp_cause_name(13), "Protocol Violation"));
     CHECK(named(dcsctp_result_text, 65536, "unknown result") == 11 && !strcmp(dcsctp_result_text(7), "no room"));
     CHECK(!strcmp(dcsctp_version(), DCSCTP_VERSION));
     CHECK(dcsctp_version_number() == DCSCTP_VERSION_NUMBER && DCSCTP_VERSION_NUMBER == 256);

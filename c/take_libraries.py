@@ -3,9 +3,9 @@
 
 `rt ci` leaves each library that it proved in crates/NAME/out/rlib. `rt lib` takes what is there if a file `stamp` beside it has the
 sum of the sources, and `rt ci` writes no such file: these libraries fit only each other. So this writes the stamps if all libraries
-below crates/dcsctp_c are there, newer than all their sources, and none has a stamp, as in a fresh clone. Otherwise, or with another
-toolchain, it does nothing: then `rt lib` proves them again, which takes some minutes. (What `rt ci` has proved before it leaves as it is,
-so a library can be older than its sources.)
+below what is shipped (dcsctp_c, sctp_dump, sctp_show) are there, newer than all their sources, and none has a stamp, as in a fresh
+clone. Otherwise, or with another toolchain, it does nothing: then `rt lib` and dist/make.py prove them again, which takes some
+minutes. (What `rt ci` has proved before it leaves as it is, so a library can be older than its sources.)
 """
 
 import os
@@ -13,6 +13,7 @@ import shutil
 import sys
 
 ROOT = os.path.dirname(os.path.dirname(os.path.abspath(__file__)))
+SHIPPED = ("dcsctp_c", "sctp_dump", "sctp_show")
 
 
 def crate_of(library):
@@ -32,8 +33,8 @@ def main():
     try:
         import rtlib
 
-        crate = next(it for it in rtlib.crates_below(ROOT) if it.name == "dcsctp_c")
-        stamps = {f"{os.path.dirname(it.rlib)}/stamp": it for it in crate.below()}
+        below = (it for crate in rtlib.crates_below(ROOT) if crate.name in SHIPPED for it in crate.below())
+        stamps = {f"{os.path.dirname(it.rlib)}/stamp": it for it in below}
         if any(os.path.exists(it) for it in stamps) or not all(os.path.isdir(it.rlib) for it in stamps.values()):
             return
         newest = newest_source(stamps.values())
@@ -42,7 +43,7 @@ def main():
         for path, library in stamps.items():
             with open(path, "w", encoding="utf-8") as file:
                 file.write(library.stamp())
-    except (AttributeError, ImportError, StopIteration) as error:
+    except (AttributeError, ImportError) as error:
         print(f"c/take_libraries.py: this toolchain's libraries can't be taken: {error}")
 
 
