@@ -1,0 +1,375 @@
+#!/usr/bin/env python3
+"""usage: dist/make.py [--compare] [--into FOLDER] [--jobs N] [FILE ..]
+
+Makes the files of dist/ that take the toolchain: the C library as assembly text for five systems, and the programs
+sctp_dump and sctp_show for Linux on x86-64; with them copies of the header, LICENSE and NOTICE, and MANIFEST. Whoever
+has the texts needs a C compiler and nothing else (dist/README.md).
+
+  --compare      makes them in a folder of its own, and fails where one isn't what lies in dist/, and names it
+  --into FOLDER  the folder, in place of dist/
+  --jobs N       how many processors a proof may take; 1 if left out
+  FILE ..        these texts alone, such as sctp_show-x86_64-elf.s, without MANIFEST and the copies
+  --help         prints this
+
+`rt check` proves each crate first, unless all libraries below it are built. Then `rattle build` proves and compiles
+each crate once for each processor, over what was kept of its proofs: run no other rt in this checkout meanwhile. The
+text is what the toolchain's clang writes of the very module that `rattle build` gave it. Where it is for Linux it has
+to assemble and link to the very bytes that `rattle build` compiled; for the other systems the same module is compiled
+for another target, and only tests say that this is right. No name is visible in a text but those that the header
+declares, or a program's rattle_main; nothing of this machine or of this run stands in it.
+"""
+
+import argparse
+import hashlib
+import os
+import re
+import shutil
+import subprocess
+import sys
+import tempfile
+
+ROOT = os.path.dirname(os.path.dirname(os.path.abspath(__file__)))
+
+# What `rt version` has to say. How clang is called, and what rtlib has, isn't promised for another toolchain: see
+# there whether it is as this script takes it, and then change this line.
+LOGIC = "logic dac8208d650f15bf"
+
+# Each text: its crate, the target that rattle compiles it for, and the one that clang is given.
+LINUX, LINUX_ARM = "x86_64-unknown-linux-gnu", "aarch64-unknown-linux-gnu"
+TEXTS = {
+    "dcsctp-x86_64-elf.s": ("dcsctp_c", LINUX, LINUX),
+    "dcsctp-aarch64-elf.s": ("dcsctp_c", LINUX_ARM, LINUX_ARM),
+    "dcsctp-x86_64-coff.s": ("dcsctp_c", LINUX, "x86_64-w64-windows-gnu"),
+    "dcsctp-x86_64-macho.s": ("dcsctp_c", LINUX, "x86_64-apple-macos11"),
+    "dcsctp-aarch64-macho.s": ("dcsctp_c", LINUX_ARM, "arm64-apple-macos11"),
+    "sctp_dump-x86_64-elf.s": ("sctp_dump", LINUX, LINUX),
+    "sctp_show-x86_64-elf.s": ("sctp_show", LINUX, LINUX),
+}
+COPIES = {"dcsctp.h": "include/dcsctp.h", "LICENSE": "LICENSE", "NOTICE": "NOTICE"}
+
+# What a text of the library may take from elsewhere; the last two on macOS.
+LIBC = {"malloc", "realloc", "free", "memcpy", "memmove", "memset", "memcmp", "bcmp", "bzero", "__bzero"}
+
+# In the place of clang in a folder of links to the toolchain: keeps the module that rattle has compiled, and the words.
+WRAPPER = """#!/bin/sh
+for word in "$@"; do
+    if [ "$word" = -c ]; then
+        printf '%s\\n' "$@" >'{kept}/words'
+        cp ./*.bc ./*.ll '{kept}/' 2>'{kept}/log'
+    fi
+done
+exec '{clang}' "$@"
+"""
+
+
+def fail(text):
+    sys.exit(f"dist/make.py: {text}")
+
+
+def read(path):
+    with open(path, "rb") as file:
+        return file.read()
+
+
+def write(path, text):
+    with open(path, "w", encoding="utf-8", newline="\n") as file:
+        file.write(text)
+
+
+def output_of(words, what, errors=subprocess.PIPE, **how):
+    """What a command prints. Where it fails, this ends with its errors, or else with what it said last."""
+    ran = subprocess.run(words, stdin=subprocess.DEVNULL, stdout=subprocess.PIPE, stderr=errors, text=True, **how)
+    if ran.returncode:
+        said = (ran.stdout + (ran.stderr or "")).splitlines()
+        said = [it for it in said if re.search(r"error|not proved|^rt:", it)] or said
+        fail("\n".join([f"{what}:", *(it[:300] for it in said[-12:])]))
+    return ran.stdout
+
+
+class Toolchain:
+    def __init__(self, work, jobs):
+        self.work, self.jobs, self.built = work, str(jobs), {}
+        for tool in ("rt", "rattle"):
+            if not shutil.which(tool):
+                fail(f"the toolchain's {tool} isn't on PATH; only making the texts takes the toolchain, and not using them")
+        self.version = output_of(["rt", "version"], "`rt version` failed").strip()
+        if not self.version.endswith(LOGIC):
+            fail(f"the toolchain is `{self.version}`, and this script was tried with `{LOGIC}` alone: see LOGIC in it")
+        kit = os.path.dirname(output_of(["rt", "doc"], "`rt doc` failed").strip())
+        self.clang = f"{kit}/toolchain/bin/clang"
+        # (a crate's folder, its libraries, and the words for its build, as rt itself has them)
+        sys.path.insert(0, f"{kit}/bin")
+        sys.dont_write_bytecode = True
+        try:
+            import rtlib
+
+            self.crates = {it.name: it for it in rtlib.crates_below(ROOT)}
+            for crate, target in ((self.crates.get(name), target) for name, target, _ in TEXTS.values()):
+                _ = crate and (crate.folder, crate.is_program, [it.is_built for it in crate.below()], self.words(crate, target))
+        except (AttributeError, ImportError, TypeError) as error:
+            fail(f"the toolchain {self.version} doesn't give the words for a build: {error!r}")
+        lacking = {name for name, _, _ in TEXTS.values()} - set(self.crates)
+        if lacking:
+            fail(f"crates.txt has no {', '.join(sorted(lacking))}")
+        # One program of the toolchain is all of LLVM's tools, by the name that it is called by.
+        self.folder, self.kept = f"{work}/toolchain", f"{work}/kept"
+        os.makedirs(f"{self.folder}/bin")
+        os.makedirs(self.kept)
+        os.symlink(f"{kit}/toolchain/lib", f"{self.folder}/lib")
+        for name in os.listdir(f"{kit}/toolchain/bin"):
+            if name != "clang":
+                os.symlink(os.path.realpath(f"{kit}/toolchain/bin/{name}"), f"{self.folder}/bin/{name}")
+        if not os.path.exists(f"{self.folder}/bin/llvm-nm"):
+            os.symlink(self.clang, f"{self.folder}/bin/llvm-nm")
+        write(f"{self.folder}/bin/clang", WRAPPER.format(kept=self.kept, clang=self.clang))
+        os.chmod(f"{self.folder}/bin/clang", 0o755)
+
+    def words(self, crate, target):
+        """What `rattle build` is told of a crate."""
+        return crate.words(["--jobs", self.jobs, "--target", target], False)
+
+    def tool(self, name, *words):
+        return output_of([f"{self.folder}/bin/{name}", *words], f"the toolchain's {name} failed")
+
+    def build(self, name, target):
+        """Compiles a crate for a target. Returns its module and the words that clang had for it, what rattle made, and the
+        verdict."""
+        if (name, target) in self.built:
+            return self.built[name, target]
+        crate = self.crates[name]
+        print(f"dist/make.py: {name} for {target}", file=sys.stderr)
+        if not all(it.is_built() for it in crate.below()):
+            output_of(["rt", "check", "--jobs", self.jobs], f"{name} isn't proved", subprocess.STDOUT, cwd=crate.folder)
+        shutil.rmtree(self.kept)
+        to = f"{self.work}/{name}-{target}"
+        os.makedirs(self.kept)
+        os.makedirs(to)
+        words = self.words(crate, target)
+        words += ["--backend", "llvm", "--toolchain", self.folder, "--incremental", "out/incremental", "-o", f"{to}/made"]
+        said = output_of(["rattle", "build", *words], f"{name} isn't proved and compiled for {target}",
+                         subprocess.STDOUT, cwd=crate.folder)
+        verdict = next((it for it in reversed(said.splitlines()) if it.startswith("logic=proved ")), None)
+        if not verdict:
+            fail(f"rattle gave no verdict on {name} for {target}")
+        try:
+            clang = read(f"{self.kept}/words").decode().splitlines()
+            for word in ("-c", "-o", "-Werror"):
+                clang.index(word)
+            module = shutil.move(f"{self.kept}/{clang[clang.index('ir', clang.index('-x')) + 1]}", to)
+        except (OSError, ValueError, IndexError) as error:
+            fail(f"the toolchain {self.version} doesn't call clang with -Werror -c -x ir MODULE -o OBJECT: {error!r}")
+        # (what was taken from earlier runs differs between runs, and isn't said)
+        verdict = " ".join(it for it in verdict.split() if not it.endswith("=trusted"))
+        self.built[name, target] = module, clang, f"{to}/made", verdict
+        return self.built[name, target]
+
+    def assemble(self, text, triple):
+        """The object that the toolchain's clang makes of a text."""
+        path = f"{self.work}/text"
+        write(f"{path}.s", text)
+        march = ["-march=x86-64-v2"] if triple.startswith("x86_64") else []
+        output_of([self.clang, f"--target={triple}", "--no-default-config", *march, "-c", "-o", f"{path}.o", f"{path}.s"],
+                  f"the text isn't assembled for {triple}")
+        return f"{path}.o"
+
+    def image(self, file):
+        """The bytes of code and data that an object or an archive is linked to."""
+        out = f"{self.work}/image"
+        words = ["-shared", "--build-id=none", "-z", "norelro", "--oformat=binary"]
+        self.tool("ld.lld", *words, "-o", out, "--whole-archive", file)
+        return read(out)
+
+    def names(self, file, *words):
+        """Names of an object's symbols, as C has them."""
+        found = self.tool("llvm-nm", "-j", *words, file).split()
+        is_macho = read(file)[:4] == b"\xcf\xfa\xed\xfe"
+        return {it[1:] if is_macho else it for it in found}
+
+
+# ---- the text
+
+# A line whose quotes hold no name.
+IS_DATA = re.compile(r'\t\.(ascii|asciz|string|ident)\b')
+QUOTED = re.compile(r'"([^"\\]*)"')
+# Marks for a 32-bit linker, and the version of macOS, which whoever assembles it says.
+DROPPED = re.compile(r'\t\.build_version\b.*\n|\t\.def\t"?@feat\.00"?;(.*\n)+?"?@feat\.00"? = 0\n')
+DEFINED = re.compile(r'^("[^"\\]*"|[A-Za-z_.$][\w.$]*):', re.M)
+
+
+def plain_name(name):
+    return re.sub(r"[^\w.$]+", ".", name, flags=re.A).rstrip(".")
+
+
+def plain(text):
+    """The text with names that every assembler takes, in the place of those that stand in quotes."""
+    text = DROPPED.sub("", text)
+    taken = {}
+    for name in (it.strip('"') for it in DEFINED.findall(text)):
+        if taken.setdefault(plain_name(name), name) != name:
+            fail(f"two functions would be called {plain_name(name)}: {name} and {taken[plain_name(name)]}")
+
+    def renamed(match):
+        # (the flags of a section stay in quotes)
+        return match[0] if re.fullmatch(r"[\w.$-]*", match[1], re.A) else plain_name(match[1])
+
+    lines = (it if IS_DATA.match(it) else QUOTED.sub(renamed, it) for it in text.splitlines())
+    return "".join(f"{it}\n" for it in lines if it)
+
+
+def own_labels(text, triple, prefix):
+    """The text with a prefix in its local labels, which the code beside it may have too, where rustc assembles both as one."""
+    label = r"(L|l(?=CPI))" if "apple" in triple else r"(\.L)"
+    label = re.compile(rf"(?<![\w.]){label}(?=[A-Za-z])", re.A)
+    return "".join(it if IS_DATA.match(it) else label.sub(rf"\1{prefix}", it) for it in text.splitlines(True))
+
+
+def written(tools, module, words, triple, is_retargeted):
+    """What clang writes of a module."""
+    words = [it for it in words if not it.startswith(("--target=", "--sysroot="))]
+    words[words.index("-c")] = "-S"
+    words[words.index("-o") + 1] = "-"
+    words[words.index("-x") + 2] = module
+    if is_retargeted:
+        words[words.index("-Werror")] = "-Wno-override-module"
+    if "windows" in triple:
+        # A section's name would have the function's, and isn't quoted there.
+        words = [it for it in words if it not in ("-ffunction-sections", "-fdata-sections")]
+    if triple.startswith("arm64"):
+        # As GNU writes instructions on vectors, and not Apple alone.
+        words += ["-mllvm", "-aarch64-neon-syntax=generic"]
+    return output_of([tools.clang, f"--target={triple}", *words, "-fno-verbose-asm", "-fno-addrsig"],
+                     f"the module isn't compiled for {triple}", cwd=tools.work)
+
+
+def heap(tools, triple):
+    """The functions by which the proved code gets memory, under labels that the text has not."""
+    words = ["-O2", "-fPIC", "-c", "-x", "ir", "", "-o", "", "--no-default-config", "-Werror"]
+    text = plain(written(tools, f"{ROOT}/dist/heap.ll", words, triple, True))
+    text = own_labels(text, triple, "dcsctp_heap_")
+    return re.sub(r'\t\.file\t.*\n|\t\.section\t"?\.note\.GNU-stack.*\n|\.subsections_via_symbols\n', "", text)
+
+
+def header_functions():
+    """The names that the header declares, but those that it defines itself."""
+    header = re.sub(r"/\*.*?\*/", "", read(f"{ROOT}/include/dcsctp.h").decode(), flags=re.S)
+    of_header = re.findall(r"static inline[^;{]*?\b(dcsctp_\w+)\(", header)
+    return set(re.findall(r"\b(dcsctp_\w+)\(", header)) - set(of_header)
+
+
+def made(tools, file):
+    """A text of TEXTS, and the verdict on its crate."""
+    crate, target, triple = TEXTS[file]
+    module, words, built, verdict = tools.build(crate, target)
+    text = own_labels(plain(written(tools, module, words, triple, triple != target)), triple, "dcsctp_")
+    said = "not compared"
+    if triple == target:
+        image = tools.image(tools.assemble(text, triple))
+        if image != tools.image(built):
+            fail(f"{file} doesn't assemble to what rattle built of {crate}")
+        said = f"its {len(image):,} bytes of code and data are those that rattle built"
+    if "rattle_alloc" in text:
+        text += heap(tools, triple)
+    is_program = tools.crates[crate].is_program
+    if is_program:
+        text = re.sub(r"(?<![\w.$])main(?![\w.$])", "rattle_main", text)
+    object_file = tools.assemble(text, triple)
+    visible, wanted = tools.names(object_file, "-g", "--defined-only"), {"rattle_main"} if is_program else header_functions()
+    if visible != wanted:
+        fail(f"{file}: what is visible isn't what include/dcsctp.h declares: {' '.join(sorted(visible ^ wanted))}")
+    needed = tools.names(object_file, "-u") - {"_GLOBAL_OFFSET_TABLE_"}
+    if not is_program and needed - LIBC:
+        fail(f"{file} needs {' '.join(sorted(needed - LIBC))}, and dist/README.md says that it needs libc alone")
+    if tools.work in text or ROOT in text:
+        fail(f"{file} has a path of this machine in it")
+    print(f"{file}: {len(text):,} bytes, {text.count(chr(10)):,} lines; {said}; needs {' '.join(sorted(needed))}")
+    return text, f"# proved {crate}: {verdict}\n"
+
+
+# ---- the manifest
+
+def sum_of(data):
+    return hashlib.sha256(data).hexdigest()
+
+
+def source_sum(folder):
+    """What dist/README.md has a shell say of a crate's sources: the sum of the sums of its files."""
+    walked = (it for part in ("src", "specs") for it in os.walk(f"{folder}/{part}"))
+    files = (os.path.relpath(os.path.join(at, name), folder) for at, _, names in walked for name in names)
+    lines = (f"{sum_of(read(os.path.join(folder, it)))}  {it}\n" for it in sorted(files, key=os.fsencode))
+    return sum_of("".join(lines).encode())
+
+
+def manifest_head(tools):
+    """What the texts are made from: the version, the toolchain, and the sources of each crate in them."""
+    version = re.search(r'^#define DCSCTP_VERSION "(.*)"$', read(f"{ROOT}/include/dcsctp.h").decode(), re.M)[1]
+    named = (tools.crates[it] for it, _, _ in TEXTS.values())
+    crates = {it.name: it.folder for crate in named for it in (*crate.below(), crate)}
+    head = f"# dcsctp {version}; dist/README.md says how to check this\n# toolchain {tools.version}\n"
+    return head + "".join(f"# source {source_sum(crates[it])} {it}\n" for it in sorted(crates))
+
+
+def differing(fresh, folder, names):
+    """Says which files of a folder aren't what they would be made, and the first line that differs."""
+    found = []
+    for name in names:
+        if not os.path.isfile(f"{folder}/{name}"):
+            found.append(f"{name} is missing")
+        elif read(f"{fresh}/{name}") != read(f"{folder}/{name}"):
+            new, old = (read(f"{it}/{name}").decode().splitlines() for it in (fresh, folder))
+            line = next((i for i, (a, b) in enumerate(zip(new, old)) if a != b), min(len(new), len(old)))
+            found.append(f"{name} isn't what the sources give, from line {line + 1} on")
+    return found
+
+
+def main():
+    parser = argparse.ArgumentParser(usage=__doc__.strip()[7:], add_help=False)
+    parser.add_argument("--compare", action="store_true")
+    parser.add_argument("--into", default=f"{ROOT}/dist")
+    parser.add_argument("--jobs", type=int, default=1)
+    parser.add_argument("files", nargs="*")
+    parser.add_argument("--help", action="store_true")
+    given = parser.parse_args()
+    if given.help:
+        print(__doc__.strip())
+        return
+    for it in given.files:
+        if it not in TEXTS:
+            fail(f"{it} isn't one of {' '.join(TEXTS)}")
+    with tempfile.TemporaryDirectory() as work:
+        make(Toolchain(work, given.jobs), given, f"{work}/fresh")
+
+
+def make(tools, given, fresh):
+    os.makedirs(fresh)
+    head = manifest_head(tools)
+    if given.compare and not given.files and os.path.isfile(f"{given.into}/MANIFEST"):
+        # What needs no build comes first.
+        old = read(f"{given.into}/MANIFEST").decode().splitlines()
+        changed = [it.split()[-1] if it.startswith("# source") else it[2:] for it in head.splitlines() if it not in old]
+        if changed:
+            fail(f"changed since dist/ was made: {', '.join(changed)}; run dist/make.py")
+    verdicts = {}
+    for file in given.files or TEXTS:
+        text, verdict = made(tools, file)
+        write(f"{fresh}/{file}", text)
+        verdicts[verdict] = True
+    if not given.files:
+        for name, source in COPIES.items():
+            shutil.copyfile(f"{ROOT}/{source}", f"{fresh}/{name}")
+        # (as sha256sum takes it, for which a line with # says nothing)
+        sums = "".join(f"{sum_of(read(f'{fresh}/{it}'))}  {it}\n" for it in sorted(os.listdir(fresh)))
+        write(f"{fresh}/MANIFEST", head + "".join(verdicts) + sums)
+    names = sorted(os.listdir(fresh))
+    if not given.compare:
+        os.makedirs(given.into, exist_ok=True)
+        for it in names:
+            shutil.copyfile(f"{fresh}/{it}", f"{given.into}/{it}")
+        return
+    found = differing(fresh, given.into, names)
+    if found:
+        fail(f"{'; '.join(found)}; run dist/make.py")
+    print(f"dist/make.py: {len(names)} files are what the sources give")
+
+
+if __name__ == "__main__":
+    main()

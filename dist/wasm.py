@@ -1,0 +1,155 @@
+#!/usr/bin/env python3
+"""usage: dist/wasm.py [--module FILE] [--into FILE] [--compare]
+
+Makes bindings/js/dcsctp.wasm, the C library as WebAssembly. It takes the toolchain, and wasm-opt of binaryen.
+
+  --module FILE  the module of dcsctp_c that `rattle build` gave to clang for Linux on x86-64, where it was kept; else
+                 dist/make.py has it made
+  --into FILE    the file, in place of bindings/js/dcsctp.wasm
+  --compare      makes it in a folder of its own, and fails where it isn't what lies there
+  --help         prints this
+
+No verdict is given for WebAssembly: the functions are those of the module for x86-64, compiled for a system whose
+pointers and sizes are as wide and whose words have the same order of bytes. What is made has a 64-bit memory, and
+wasm-opt lowers it to one of 32 bits, which every browser has. It imports nothing, and exports its memory, the functions
+of the header, malloc and free.
+"""
+
+import argparse
+import os
+import re
+import shutil
+import sys
+import tempfile
+
+sys.dont_write_bytecode = True
+sys.path.insert(0, os.path.dirname(os.path.abspath(__file__)))
+import make  # noqa: E402
+
+SYSTEM = "wasm64-unknown-unknown"
+BINDING = f"{make.ROOT}/bindings/js"
+# As rattle itself compiles for this system: 128-bit numbers are divided in place, and what isn't reached traps.
+FLAGS = ["-mcpu=lime1", "-mllvm", "-expand-div-rem-bits=64", "-mllvm", "-expand-fp-convert-bits=64", "-mllvm",
+         "-trap-unreachable", "-ffunction-sections", "-fdata-sections", "-O3", "-Werror", "-Wno-override-module"]
+LOWERING = ["--enable-memory64", "--enable-bulk-memory", "--enable-sign-ext", "--enable-mutable-globals",
+            "--enable-nontrapping-float-to-int", "--enable-multivalue", "--memory64-lowering", "-O2", "--strip-producers"]
+# Attributes of a function for x86-64.
+OF_X86 = re.compile(r' "(target-cpu|target-features|tune-cpu|probe-stack|stack-probe-size)"="[^"]*"')
+DEFINED = re.compile(r"define (?!internal |private )[^@]*@(\w+)\(")
+# What a WebAssembly module may import, and export, has a byte for its kind.
+KINDS = ("function", "table", "memory", "global")
+
+
+def fail(text):
+    sys.exit(f"dist/wasm.py: {text}")
+
+
+make.fail = fail
+
+
+def retargeted(text, exported):
+    """A module in LLVM's text without what is of one system alone; these functions of it are exported."""
+    for line in text.splitlines(True):
+        if line.startswith(("target datalayout", "target triple", "@llvm.compiler.used")):
+            continue
+        found = DEFINED.match(line)
+        if found and found[1] in exported:
+            line, count = re.subn(r"( #\d+)(?=[^#]*\{$)", rf'\1 "wasm-export-name"="{found[1]}"', line.rstrip("\n"))
+            if count != 1:
+                fail(f"the module defines {found[1]} otherwise than this script takes it")
+            line += "\n"
+        yield OF_X86.sub("", line)
+
+
+def sections(wasm):
+    """The sections of a WebAssembly module, by their numbers."""
+    at, found = 8, {}
+    while at < len(wasm):
+        kind = wasm[at]
+        size, at = number(wasm, at + 1)
+        found[kind] = wasm[at:at + size]
+        at += size
+    return found
+
+
+def number(data, at):
+    value = shift = 0
+    while True:
+        byte = data[at]
+        value |= (byte & 127) << shift
+        at, shift = at + 1, shift + 7
+        if byte < 128:
+            return value, at
+
+
+def exports(wasm):
+    section = sections(wasm).get(7, b"\0")
+    count, at = number(section, 0)
+    for _ in range(count):
+        size, at = number(section, at)
+        name = section[at:at + size].decode()
+        kind = KINDS[section[at + size]]
+        _, at = number(section, at + size + 1)
+        yield kind, name
+
+
+def compiled(tools, module, work):
+    """The library as WebAssembly, with a 64-bit memory."""
+    exported = {*make.header_functions(), "malloc", "free"}
+
+    def clang(system, *words):
+        return make.output_of([tools.clang, f"--target={system}", "--no-default-config", *words],
+                              "the library isn't compiled for WebAssembly", cwd=work)
+
+    text = ["-S", "-emit-llvm", "-o", "-"]
+    parts = {
+        "library": clang(make.LINUX, *text, "-Xclang", "-disable-llvm-passes", "-x", "ir", module),
+        # (these functions are in a file of their own here, so they have to be seen from another)
+        "memory": make.read(f"{make.ROOT}/dist/heap.ll").decode().replace("define internal", "define hidden"),
+        "heap": clang(SYSTEM, *text, *FLAGS, *"-ffreestanding -nostdinc -fno-builtin -fwrapv".split(), f"{BINDING}/heap.c"),
+    }
+    for name, it in parts.items():
+        make.write(f"{work}/{name}.ll", "".join(retargeted(it, exported)))
+        clang(SYSTEM, *FLAGS, "-c", "-x", "ir", f"{name}.ll", "-o", f"{name}.o")
+    tools.tool("llvm-ar", "rcsD", f"{work}/library.a", *(f"{work}/{it}.o" for it in parts))
+    make.output_of([f"{tools.kit}/bin/rattle-link", "--target", SYSTEM, "--toolchain", f"{tools.kit}/toolchain", "-o",
+                    f"{work}/wide.wasm", f"{work}/library.a"], "the library isn't linked for WebAssembly", cwd=work)
+    make.output_of(["wasm-opt", *LOWERING, f"{work}/wide.wasm", "-o", f"{work}/dcsctp.wasm"], "wasm-opt failed")
+    wasm = make.read(f"{work}/dcsctp.wasm")
+    wanted = {("function", it) for it in exported} | {("memory", "memory")}
+    found = {it for it in exports(wasm) if it != ("global", "__heap_base")}
+    if found != wanted:
+        fail(f"what is exported isn't what include/dcsctp.h declares: {sorted(found ^ wanted)}")
+    if 2 in sections(wasm):
+        fail("the module has imports")
+    return wasm
+
+
+def main():
+    parser = argparse.ArgumentParser(usage=__doc__.strip()[7:], add_help=False)
+    parser.add_argument("--module")
+    parser.add_argument("--into", default=f"{BINDING}/dcsctp.wasm")
+    parser.add_argument("--compare", action="store_true")
+    parser.add_argument("--help", action="store_true")
+    given = parser.parse_args()
+    if given.help:
+        print(__doc__.strip())
+        return
+    if not shutil.which("wasm-opt"):
+        fail("wasm-opt isn't on PATH (Debian: binaryen)")
+    with tempfile.TemporaryDirectory() as work:
+        tools = make.Toolchain(work, 1)
+        tools.kit = os.path.dirname(os.path.dirname(os.path.dirname(tools.clang)))
+        module = os.path.abspath(given.module) if given.module else tools.build("dcsctp_c", make.LINUX)[0]
+        wasm = compiled(tools, module, work)
+    if given.compare:
+        if not os.path.isfile(given.into) or make.read(given.into) != wasm:
+            fail(f"{given.into} isn't what the sources give; run dist/wasm.py")
+    else:
+        with open(given.into, "wb") as out:
+            out.write(wasm)
+    print(f"{os.path.basename(given.into)}: {len(wasm):,} bytes, without an import")
+
+
+if __name__ == "__main__":
+    main()
