@@ -1,0 +1,1036 @@
+// dcsctp for C++17 and later: reads, checks, prints and writes SCTP packets (RFC 9260). One header, over dcsctp.h.
+//
+// What is read is a view: it owns nothing, and the bytes have to outlive it. Whatever the bytes are, reading them is
+// defined: what isn't there is std::nullopt, an empty range or an empty view, never an exception. Only functions whose
+// result or argument is a std::string or a std::vector allocate, or throw, and that std::bad_alloc alone; the library
+// itself allocates in packet::canonical, packet::print and packet::report, and returns result_code::no_memory.
+//
+//   dcsctp::packet packet(bytes);
+//   if (auto fault = packet.first_fault())
+//       return refuse(fault->text(), fault->offset);
+//   for (dcsctp::chunk chunk : packet.chunks())
+//       if (auto data = chunk.as_data())
+//           receive(data->stream, data->tsn, data->payload);
+//
+// Any number of threads may read the same bytes at once.
+#ifndef DCSCTP_HPP
+#define DCSCTP_HPP
+
+// (gcc: some functions have the name of a struct)
+#ifdef __GNUC__
+#pragma GCC diagnostic push
+#pragma GCC diagnostic ignored "-Wshadow"
+#endif
+#include <dcsctp.h>
+#ifdef __GNUC__
+#pragma GCC diagnostic pop
+#endif
+
+#include <cstddef>
+#include <cstdint>
+#include <functional>
+#include <iterator>
+#include <optional>
+#include <string>
+#include <string_view>
+#include <type_traits>
+#include <utility>
+#include <vector>
+
+#if __has_include(<version>)
+#include <version>
+#endif
+#ifdef __cpp_lib_ranges
+#include <ranges>
+#endif
+
+namespace dcsctp {
+
+// ---- views
+
+/// Items that lie one after the other and belong to someone else: std::span, for C++17. It is made of an array, a
+/// std::vector, a std::array or a std::span, and a std::span of it.
+template <typename T> class view {
+    template <typename Container, typename = void> struct holds_items : std::false_type {};
+    template <typename Container>
+    struct holds_items<Container, std::void_t<decltype(std::data(std::declval<Container &>())),
+                                              decltype(std::size(std::declval<Container &>()))>>
+        : std::bool_constant<
+              std::is_convertible_v<std::remove_pointer_t<decltype(std::data(std::declval<Container &>()))> (*)[],
+                                    T (*)[]>
+              && (std::is_const_v<T> || std::is_lvalue_reference_v<Container>)> {};
+
+  public:
+    using element_type = T;
+    using value_type = std::remove_cv_t<T>;
+    using size_type = std::size_t;
+    using difference_type = std::ptrdiff_t;
+    using iterator = T *;
+
+    constexpr view() noexcept = default;
+    /// `data` may be null where `size` is 0.
+    constexpr view(T *data, std::size_t size) noexcept : data_(data), size_(size) {}
+    /// The container has to outlive the view.
+    template <typename Container, typename = std::enable_if_t<!std::is_same_v<std::decay_t<Container>, view>>,
+              typename = std::enable_if_t<holds_items<Container>::value>>
+    constexpr view(Container &&container) noexcept : data_(std::data(container)), size_(std::size(container))
+    {
+    }
+
+    constexpr T *data() const noexcept { return data_; }
+    constexpr std::size_t size() const noexcept { return size_; }
+    constexpr bool empty() const noexcept { return size_ == 0; }
+    constexpr T *begin() const noexcept { return data_; }
+    constexpr T *end() const noexcept { return data_ + size_; }
+    /// `index` has to be below size().
+    constexpr T &operator[](std::size_t index) const { return data_[index]; }
+
+  private:
+    T *data_ = nullptr;
+    std::size_t size_ = 0;
+};
+
+/// Bytes that are read.
+using bytes_view = view<const std::uint8_t>;
+/// Bytes that are written.
+using mutable_bytes_view = view<std::uint8_t>;
+
+/// Returns the bytes of a text.
+inline bytes_view as_bytes(std::string_view text) noexcept
+{
+    return {reinterpret_cast<const std::uint8_t *>(text.data()), text.size()};
+}
+
+/// Returns bytes as those of this library.
+inline bytes_view as_bytes(view<const std::byte> bytes) noexcept
+{
+    return {reinterpret_cast<const std::uint8_t *>(bytes.data()), bytes.size()};
+}
+
+/// Returns bytes as a text. Only the reason of an ABORT that builder::add_abort wrote is known to be UTF-8.
+inline std::string_view as_text(bytes_view bytes) noexcept
+{
+    return {reinterpret_cast<const char *>(bytes.data()), bytes.size()};
+}
+
+// ---- results
+
+/// What a call returns.
+enum class result_code : std::uint32_t {
+    ok = DCSCTP_OK,
+    fault_size = DCSCTP_FAULT_SIZE,         ///< fewer than 16 bytes, or more than 65,535
+    fault_checksum = DCSCTP_FAULT_CHECKSUM, ///< the policy does not accept the checksum field
+    fault_length = DCSCTP_FAULT_LENGTH,     ///< a chunk, a parameter or an error cause has a wrong length
+    fault_value = DCSCTP_FAULT_VALUE,       ///< a RE-CONFIG response has an unknown result
+    fault_padding = DCSCTP_FAULT_PADDING,   ///< padding is missing or not zero; only under a strict policy
+    no_memory = DCSCTP_NO_MEMORY,           ///< an allocation in the library failed
+    no_room = DCSCTP_NO_ROOM,     ///< the output is too small, or the packet would have more than 65,532 bytes
+    too_long = DCSCTP_TOO_LONG,   ///< the canonical packet would have more than 65,532 bytes
+    bad_value = DCSCTP_BAD_VALUE, ///< a chunk would have more than 65,535 bytes, what has to be UTF-8 isn't, or what
+                                  ///< is to be written lies in the builder's own buffer
+    bad_place = DCSCTP_BAD_PLACE  ///< no packet has this size, or there is no chunk to add to
+};
+
+/// Returns what a code means, in a few words.
+inline const char *text(result_code code) noexcept
+{
+    return ::dcsctp_result_text(static_cast<std::uint32_t>(code));
+}
+
+/// What a call that writes returns: true where all is well, so that calls are joined by `&&`.
+class [[nodiscard]] result {
+  public:
+    constexpr result() noexcept = default;
+    constexpr result(result_code code) noexcept : code_(code) {}
+    constexpr explicit operator bool() const noexcept { return code_ == result_code::ok; }
+    constexpr result_code code() const noexcept { return code_; }
+    const char *text() const noexcept { return dcsctp::text(code_); }
+
+  private:
+    result_code code_ = result_code::ok;
+};
+
+/// A value, or why there is none.
+template <typename T> class [[nodiscard]] outcome {
+  public:
+    outcome(T value) : value_(std::move(value)), code_(result_code::ok) {}
+    /// `code` is another than ok.
+    outcome(result_code code) : value_(), code_(code) {}
+    explicit operator bool() const noexcept { return code_ == result_code::ok; }
+    result_code code() const noexcept { return code_; }
+    const char *text() const noexcept { return dcsctp::text(code_); }
+    /// The value; T() where there is none.
+    T &operator*() & noexcept { return value_; }
+    const T &operator*() const & noexcept { return value_; }
+    T &&operator*() && noexcept { return std::move(value_); }
+    T *operator->() noexcept { return &value_; }
+    const T *operator->() const noexcept { return &value_; }
+
+  private:
+    T value_;
+    result_code code_;
+};
+
+/// How many bytes were written, or why none were.
+struct [[nodiscard]] written {
+    result_code code = result_code::ok;
+    std::size_t size = 0; ///< where the code is no_room, how many are needed
+    explicit operator bool() const noexcept { return code == result_code::ok; }
+};
+
+/// The first fault of bytes that are no packet.
+struct fault {
+    result_code code = result_code::ok;
+    std::size_t offset = 0; ///< where it is; of fault_size how many bytes there are, at most 65,535
+    const char *text() const noexcept { return dcsctp::text(code); }
+};
+
+// ---- types, and their names
+
+/// Types of chunks (RFC 9260 section 3.2). Any other number is one too: `static_cast<chunk_type>(5)`.
+enum class chunk_type : std::uint8_t {
+    data = DCSCTP_CHUNK_DATA,
+    init = DCSCTP_CHUNK_INIT,
+    init_ack = DCSCTP_CHUNK_INIT_ACK,
+    sack = DCSCTP_CHUNK_SACK,
+    heartbeat = DCSCTP_CHUNK_HEARTBEAT,
+    heartbeat_ack = DCSCTP_CHUNK_HEARTBEAT_ACK,
+    abort = DCSCTP_CHUNK_ABORT,
+    shutdown = DCSCTP_CHUNK_SHUTDOWN,
+    shutdown_ack = DCSCTP_CHUNK_SHUTDOWN_ACK,
+    error = DCSCTP_CHUNK_ERROR,
+    cookie_echo = DCSCTP_CHUNK_COOKIE_ECHO,
+    cookie_ack = DCSCTP_CHUNK_COOKIE_ACK,
+    shutdown_complete = DCSCTP_CHUNK_SHUTDOWN_COMPLETE,
+    i_data = DCSCTP_CHUNK_I_DATA,
+    re_config = DCSCTP_CHUNK_RE_CONFIG,
+    forward_tsn = DCSCTP_CHUNK_FORWARD_TSN,
+    i_forward_tsn = DCSCTP_CHUNK_I_FORWARD_TSN
+};
+
+/// Types of parameters (section 3.2.1). Any other number is one too.
+enum class parameter_type : std::uint16_t {
+    heartbeat_info = DCSCTP_PARAMETER_HEARTBEAT_INFO,
+    state_cookie = DCSCTP_PARAMETER_STATE_COOKIE,
+    unrecognized_parameter = DCSCTP_PARAMETER_UNRECOGNIZED_PARAMETER,
+    outgoing_ssn_reset = DCSCTP_PARAMETER_OUTGOING_SSN_RESET,
+    incoming_ssn_reset = DCSCTP_PARAMETER_INCOMING_SSN_RESET,
+    ssn_tsn_reset = DCSCTP_PARAMETER_SSN_TSN_RESET,
+    reconfiguration_response = DCSCTP_PARAMETER_RECONFIGURATION_RESPONSE,
+    add_outgoing_streams = DCSCTP_PARAMETER_ADD_OUTGOING_STREAMS,
+    add_incoming_streams = DCSCTP_PARAMETER_ADD_INCOMING_STREAMS,
+    zero_checksum_acceptable = DCSCTP_PARAMETER_ZERO_CHECKSUM_ACCEPTABLE,
+    supported_extensions = DCSCTP_PARAMETER_SUPPORTED_EXTENSIONS,
+    forward_tsn_supported = DCSCTP_PARAMETER_FORWARD_TSN_SUPPORTED
+};
+
+/// Codes of error causes (section 3.3.10). Any other number is one too.
+enum class cause_code : std::uint16_t {
+    invalid_stream_identifier = DCSCTP_CAUSE_INVALID_STREAM_IDENTIFIER,
+    missing_mandatory_parameter = DCSCTP_CAUSE_MISSING_MANDATORY_PARAMETER,
+    stale_cookie = DCSCTP_CAUSE_STALE_COOKIE,
+    out_of_resource = DCSCTP_CAUSE_OUT_OF_RESOURCE,
+    unresolvable_address = DCSCTP_CAUSE_UNRESOLVABLE_ADDRESS,
+    unrecognized_chunk = DCSCTP_CAUSE_UNRECOGNIZED_CHUNK,
+    invalid_mandatory_parameter = DCSCTP_CAUSE_INVALID_MANDATORY_PARAMETER,
+    unrecognized_parameters = DCSCTP_CAUSE_UNRECOGNIZED_PARAMETERS,
+    no_user_data = DCSCTP_CAUSE_NO_USER_DATA,
+    cookie_received_while_shutting_down = DCSCTP_CAUSE_COOKIE_RECEIVED_WHILE_SHUTTING_DOWN,
+    restart_with_new_addresses = DCSCTP_CAUSE_RESTART_WITH_NEW_ADDRESSES,
+    user_initiated_abort = DCSCTP_CAUSE_USER_INITIATED_ABORT,
+    protocol_violation = DCSCTP_CAUSE_PROTOCOL_VIOLATION
+};
+
+/// The result of a response of RE-CONFIG (RFC 6525 section 4.4).
+enum class re_config_result : std::uint32_t {
+    nothing_to_do = DCSCTP_RE_CONFIG_NOTHING_TO_DO,
+    performed = DCSCTP_RE_CONFIG_PERFORMED,
+    denied = DCSCTP_RE_CONFIG_DENIED,
+    wrong_ssn = DCSCTP_RE_CONFIG_WRONG_SSN,
+    already_in_progress = DCSCTP_RE_CONFIG_ALREADY_IN_PROGRESS,
+    bad_sequence_number = DCSCTP_RE_CONFIG_BAD_SEQUENCE_NUMBER,
+    in_progress = DCSCTP_RE_CONFIG_IN_PROGRESS
+};
+
+/// Returns the number of a chunk_type, a parameter_type, a cause_code, a re_config_result or a result_code.
+template <typename Enum> constexpr std::underlying_type_t<Enum> number(Enum value) noexcept
+{
+    return static_cast<std::underlying_type_t<Enum>>(value);
+}
+
+/// Returns the name that the RFCs have; "unknown" for a number that the type above doesn't name.
+inline const char *name(chunk_type type) noexcept { return ::dcsctp_chunk_name(number(type)); }
+inline const char *name(parameter_type type) noexcept { return ::dcsctp_parameter_name(number(type)); }
+inline const char *name(cause_code code) noexcept { return ::dcsctp_cause_name(number(code)); }
+
+/// The version of the headers, as a text.
+inline const char *version() noexcept { return ::dcsctp_version(); }
+/// The version of the headers: 65,536 times the major one, 256 times the minor one, and the patch.
+inline constexpr std::uint32_t version_number = DCSCTP_VERSION_NUMBER;
+/// Returns the version of the library, which can be another one where the library is shared.
+inline std::uint32_t library_version_number() noexcept { return ::dcsctp_version_number(); }
+
+// ---- values; the fields are those of dcsctp.h
+
+/// Which checksum fields are accepted, and whether padding is checked: any_checksum, zero_checksum, strict_padding.
+using policy = struct ::dcsctp_policy;
+/// The common header: source_port, destination_port, verification_tag, checksum.
+using header = struct ::dcsctp_header;
+/// The numbers of INIT or INIT ACK: initiate_tag, a_rwnd, outbound_streams, inbound_streams, initial_tsn.
+using init = struct ::dcsctp_init;
+/// The numbers of a SACK: cumulative_tsn_ack, a_rwnd, block_count, duplicate_count.
+using sack = struct ::dcsctp_sack;
+/// A gap ack block, as offsets from the cumulative TSN: start, end.
+using gap_ack_block = struct ::dcsctp_gap_ack_block;
+/// The numbers of FORWARD-TSN or I-FORWARD-TSN: new_cumulative_tsn, stream_count.
+using forward_tsn = struct ::dcsctp_forward_tsn;
+/// A stream of these: stream; ssn in FORWARD-TSN, mid and is_unordered in I-FORWARD-TSN.
+using skipped_stream = struct ::dcsctp_skipped_stream;
+
+/// The user data of DATA or I-DATA. What the kind does not carry is 0. A whole message is its beginning and its end.
+struct data {
+    std::uint32_t tsn = 0;
+    std::uint32_t mid = 0; ///< in I-DATA
+    std::uint32_t fsn = 0; ///< in I-DATA, but for a message's beginning
+    std::uint32_t ppid = 0; ///< in I-DATA at a message's beginning alone
+    std::uint16_t stream = 0;
+    std::uint16_t ssn = 0; ///< in DATA
+    bool is_unordered = false;
+    bool is_beginning = false;
+    bool is_end = false;
+    bool immediate_ack = false;
+    bytes_view payload;
+};
+
+/// A request or the response of RE-CONFIG (RFC 6525 section 4). What the kind does not carry is 0.
+struct re_config {
+    parameter_type type{};
+    std::uint32_t request_number = 0;  ///< of a request
+    std::uint32_t response_number = 0; ///< of a response, the number of its request; of an Outgoing SSN Reset, that of
+                                       ///< the Incoming SSN Reset that it answers, or of the last request that came
+    std::uint32_t last_tsn = 0;        ///< of an Outgoing SSN Reset: the last TSN that its sender used
+    re_config_result result{};         ///< of a response
+    bool has_next_tsns = false;        ///< of a response: whether it has the next two
+    std::uint32_t sender_next_tsn = 0;
+    std::uint32_t receiver_next_tsn = 0;
+    std::uint16_t new_streams = 0; ///< of Add Outgoing Streams and Add Incoming Streams
+    std::size_t stream_count = 0;  ///< of an Outgoing or Incoming SSN Reset; writing ignores it
+};
+
+// ---- ranges
+
+/// What a packet, a chunk or a parameter lists, read as a `for` goes over it; nothing is kept. In C++20 it is a view,
+/// std::ranges::forward_range and borrowed. Of the same range, iterators are equal where they are at one place.
+template <typename Source> class range {
+  public:
+    using value_type = typename Source::value_type;
+
+    class iterator {
+      public:
+        using value_type = typename Source::value_type;
+        using difference_type = std::ptrdiff_t;
+        using pointer = const value_type *;
+        using reference = value_type;
+        using iterator_category = std::input_iterator_tag;
+#ifdef __cpp_lib_ranges
+        using iterator_concept = std::forward_iterator_tag;
+#endif
+        iterator() = default;
+        /// The iterator isn't the end.
+        value_type operator*() const noexcept { return *value_; }
+        pointer operator->() const noexcept { return &*value_; }
+        iterator &operator++() noexcept
+        {
+            if (value_)
+                read(Source::next(position_, *value_));
+            return *this;
+        }
+        iterator operator++(int) noexcept
+        {
+            iterator before = *this;
+            ++*this;
+            return before;
+        }
+        friend bool operator==(const iterator &one, const iterator &other) noexcept
+        {
+            return one.position_ == other.position_;
+        }
+        friend bool operator!=(const iterator &one, const iterator &other) noexcept { return !(one == other); }
+
+      private:
+        friend class range;
+        iterator(const Source &source, std::size_t position) noexcept : source_(source) { read(position); }
+        void read(std::size_t position) noexcept
+        {
+            value_ = source_.read(position);
+            position_ = value_ ? position : no_position;
+        }
+        static constexpr std::size_t no_position = static_cast<std::size_t>(-1);
+        Source source_{};
+        std::size_t position_ = no_position;
+        std::optional<value_type> value_;
+    };
+    using const_iterator = iterator;
+
+    range() = default;
+    range(const Source &source, std::size_t first) noexcept : source_(source), first_(first) {}
+    iterator begin() const noexcept { return iterator(source_, first_); }
+    iterator end() const noexcept { return iterator(); }
+    bool empty() const noexcept { return !source_.read(first_); }
+    /// Reads what is at a place: of chunks, parameters and error causes an offset into the packet, else an index.
+    std::optional<value_type> at(std::size_t position) const noexcept { return source_.read(position); }
+
+  private:
+    Source source_{};
+    std::size_t first_ = 0;
+};
+
+/// Implementation. Not for use.
+namespace detail {
+
+// What `read` writes, if it does.
+template <typename T, typename Read> std::optional<T> value_of(Read read) noexcept
+{
+    T value{};
+    return read(&value) ? std::optional<T>(value) : std::nullopt;
+}
+
+// The bytes of a value at an offset; none where they aren't there.
+inline bytes_view part(bytes_view bytes, std::size_t offset, std::size_t size) noexcept
+{
+    if (offset > bytes.size() || size > bytes.size() - offset)
+        return {};
+    return {bytes.data() + offset, size};
+}
+
+// The items by index of a chunk or a parameter.
+template <typename T, typename Owner,
+          bool (*read_item)(const std::uint8_t *, std::size_t, const Owner *, std::size_t, T *)>
+struct by_index {
+    using value_type = T;
+    bytes_view bytes;
+    Owner owner{};
+    std::optional<T> read(std::size_t index) const noexcept
+    {
+        return value_of<T>([&](T *it) { return read_item(bytes.data(), bytes.size(), &owner, index, it); });
+    }
+    static std::size_t next(std::size_t index, const T &) noexcept { return index + 1; }
+};
+
+// The items at offsets of a chunk: its parameters, or its error causes.
+template <typename Item> struct items_of {
+    using value_type = Item;
+    bytes_view bytes;
+    ::dcsctp_chunk owner{};
+    std::optional<Item> read(std::size_t offset) const noexcept
+    {
+        ::dcsctp_parameter item{};
+        if (!::dcsctp_parameter_at(bytes.data(), bytes.size(), &owner, offset, &item))
+            return std::nullopt;
+        return Item(bytes, item, offset);
+    }
+    static std::size_t next(std::size_t, const Item &item) noexcept { return item.next_offset(); }
+};
+
+// What parameters and error causes have.
+class item {
+  public:
+    /// What it holds, without its header and padding.
+    bytes_view value() const noexcept { return part(bytes_, it_.value_offset, it_.value_size); }
+    /// Where it begins in the packet.
+    std::size_t offset() const noexcept { return offset_; }
+    /// Where the next one begins.
+    std::size_t next_offset() const noexcept { return it_.next; }
+    /// Reads a value that is one number of four bytes, whatever its type: the method of Zero Checksum Acceptable, the
+    /// TSN of the cause No User Data.
+    std::optional<std::uint32_t> as_number() const noexcept
+    {
+        return value_of<std::uint32_t>(
+            [&](std::uint32_t *it) { return ::dcsctp_number(bytes_.data(), bytes_.size(), &it_, it); });
+    }
+
+  protected:
+    item(bytes_view bytes, const ::dcsctp_parameter &it, std::size_t offset) noexcept
+        : bytes_(bytes), it_(it), offset_(offset)
+    {
+    }
+    bytes_view bytes_;
+    ::dcsctp_parameter it_;
+    std::size_t offset_;
+};
+
+} // namespace detail
+
+/// The streams of an Outgoing or Incoming SSN Reset. A request that names no stream is for all of them.
+using reset_streams =
+    range<detail::by_index<std::uint16_t, ::dcsctp_parameter, &::dcsctp_reset_stream>>;
+/// The types of the cause Missing Mandatory Parameter.
+using missing_parameters =
+    range<detail::by_index<std::uint16_t, ::dcsctp_parameter, &::dcsctp_missing_parameter>>;
+/// The gap ack blocks of a SACK.
+using gap_ack_blocks = range<detail::by_index<gap_ack_block, ::dcsctp_chunk, &::dcsctp_gap_ack_block>>;
+/// The duplicate TSNs of a SACK.
+using duplicate_tsns = range<detail::by_index<std::uint32_t, ::dcsctp_chunk, &::dcsctp_duplicate_tsn>>;
+/// The streams of a FORWARD-TSN or an I-FORWARD-TSN.
+using skipped_streams = range<detail::by_index<skipped_stream, ::dcsctp_chunk, &::dcsctp_skipped_stream>>;
+
+// ---- reading
+
+/// A parameter of a chunk (RFC 9260 section 3.2.1).
+class parameter : public detail::item {
+  public:
+    parameter_type type() const noexcept { return static_cast<parameter_type>(it_.type); }
+    /// Reads a request or the response of RE-CONFIG.
+    std::optional<re_config> as_re_config() const noexcept
+    {
+        struct ::dcsctp_re_config it {};
+        if (!::dcsctp_re_config(bytes_.data(), bytes_.size(), &it_, &it))
+            return std::nullopt;
+        re_config read;
+        read.type = static_cast<parameter_type>(it.type);
+        read.request_number = it.request_number;
+        read.response_number = it.response_number;
+        read.last_tsn = it.last_tsn;
+        read.result = static_cast<re_config_result>(it.result);
+        read.has_next_tsns = it.has_next_tsns;
+        read.sender_next_tsn = it.sender_next_tsn;
+        read.receiver_next_tsn = it.receiver_next_tsn;
+        read.new_streams = it.new_streams;
+        read.stream_count = it.stream_count;
+        return read;
+    }
+    /// The streams, if it is an Outgoing or Incoming SSN Reset.
+    dcsctp::reset_streams reset_streams() const noexcept { return {{bytes_, it_}, 0}; }
+
+  private:
+    friend detail::items_of<parameter>;
+    using detail::item::item;
+};
+
+/// An error cause of an ABORT or an ERROR (section 3.3.10).
+class cause : public detail::item {
+  public:
+    cause_code code() const noexcept { return static_cast<cause_code>(it_.type); }
+    /// The types, if it is Missing Mandatory Parameter.
+    dcsctp::missing_parameters missing_parameters() const noexcept { return {{bytes_, it_}, 0}; }
+
+  private:
+    friend detail::items_of<cause>;
+    using detail::item::item;
+};
+
+/// A chunk of a packet (section 3.2).
+class chunk {
+  public:
+    chunk_type type() const noexcept { return static_cast<chunk_type>(it_.type); }
+    std::uint8_t flags() const noexcept { return it_.flags; }
+    /// What follows its header of four bytes, without padding.
+    bytes_view value() const noexcept { return detail::part(bytes_, it_.value_offset, it_.value_size); }
+    /// Where it begins in the packet.
+    std::size_t offset() const noexcept { return offset_; }
+    /// Where the next one begins.
+    std::size_t next_offset() const noexcept { return it_.next; }
+    /// Returns whether it is an ABORT or a SHUTDOWN COMPLETE with the T bit: the verification tag isn't the one that
+    /// the receiver expects, but the one that it writes into its own packets, sent back to it (section 8.5.1).
+    bool is_tag_reflected() const noexcept
+    {
+        return (type() == chunk_type::abort || type() == chunk_type::shutdown_complete)
+            && (it_.flags & DCSCTP_TAG_REFLECTED) != 0;
+    }
+
+    /// The parameters; none of ABORT and ERROR, or where the type has none.
+    range<detail::items_of<parameter>> parameters() const noexcept
+    {
+        return {{bytes_, it_}, has_causes() ? it_.next : it_.list_offset};
+    }
+    /// The error causes; none but of ABORT and ERROR.
+    range<detail::items_of<cause>> causes() const noexcept
+    {
+        return {{bytes_, it_}, has_causes() ? it_.list_offset : it_.next};
+    }
+
+    /// Reads DATA or I-DATA.
+    std::optional<dcsctp::data> as_data() const noexcept
+    {
+        struct ::dcsctp_data it {};
+        if (!::dcsctp_data(bytes_.data(), bytes_.size(), &it_, &it))
+            return std::nullopt;
+        dcsctp::data read;
+        read.tsn = it.tsn;
+        read.mid = it.mid;
+        read.fsn = it.fsn;
+        read.ppid = it.ppid;
+        read.stream = it.stream;
+        read.ssn = it.ssn;
+        read.is_unordered = it.is_unordered;
+        read.is_beginning = it.is_beginning;
+        read.is_end = it.is_end;
+        read.immediate_ack = it.immediate_ack;
+        read.payload = detail::part(bytes_, it.payload_offset, it.payload_size);
+        return read;
+    }
+    /// Reads the numbers of INIT or INIT ACK.
+    std::optional<dcsctp::init> as_init() const noexcept { return read<dcsctp::init>(&::dcsctp_init); }
+    /// Reads the numbers of a SACK.
+    std::optional<dcsctp::sack> as_sack() const noexcept { return read<dcsctp::sack>(&::dcsctp_sack); }
+    /// The gap ack blocks, if it is a SACK.
+    dcsctp::gap_ack_blocks gap_ack_blocks() const noexcept { return {{bytes_, it_}, 0}; }
+    /// The duplicate TSNs, if it is a SACK.
+    dcsctp::duplicate_tsns duplicate_tsns() const noexcept { return {{bytes_, it_}, 0}; }
+    /// Returns whether it is a SACK whose gap ack blocks are in order, apart, and begin at 2 or later.
+    bool is_valid_sack() const noexcept { return ::dcsctp_validate_sack(bytes_.data(), bytes_.size(), &it_); }
+    /// Reads the cumulative TSN ack of SHUTDOWN.
+    std::optional<std::uint32_t> as_shutdown() const noexcept { return read<std::uint32_t>(&::dcsctp_shutdown); }
+    /// Reads the numbers of FORWARD-TSN or I-FORWARD-TSN.
+    std::optional<dcsctp::forward_tsn> as_forward_tsn() const noexcept
+    {
+        return read<dcsctp::forward_tsn>(&::dcsctp_forward_tsn);
+    }
+    /// The streams, if it is one of these.
+    dcsctp::skipped_streams skipped_streams() const noexcept { return {{bytes_, it_}, 0}; }
+
+  private:
+    friend class packet;
+    chunk(bytes_view bytes, const ::dcsctp_chunk &it, std::size_t offset) noexcept
+        : bytes_(bytes), it_(it), offset_(offset)
+    {
+    }
+    bool has_causes() const noexcept { return type() == chunk_type::abort || type() == chunk_type::error; }
+    template <typename T>
+    using reader = bool (*)(const std::uint8_t *, std::size_t, const ::dcsctp_chunk *, T *);
+    template <typename T> std::optional<T> read(reader<T> function) const noexcept
+    {
+        return detail::value_of<T>([&](T *it) { return function(bytes_.data(), bytes_.size(), &it_, it); });
+    }
+    bytes_view bytes_;
+    ::dcsctp_chunk it_;
+    std::size_t offset_;
+};
+
+/// A packet in its bytes, from the source port on; or bytes of which first_fault says that they are none. docs/C.md has
+/// what is said of each field, and what is still to be checked of a packet without a fault.
+///
+/// `word` is what the checksum field has to be, if you have computed it (the field itself is never it); else the CRC32c
+/// is computed, unless the policy accepts any checksum.
+class packet {
+    struct chunk_source {
+        using value_type = chunk;
+        bytes_view bytes;
+        std::optional<chunk> read(std::size_t offset) const noexcept { return packet(bytes).chunk_at(offset); }
+        static std::size_t next(std::size_t, const chunk &it) noexcept { return it.next_offset(); }
+    };
+
+  public:
+    using word_option = std::optional<std::uint32_t>;
+
+    constexpr packet() noexcept = default;
+    constexpr explicit packet(bytes_view bytes) noexcept : bytes_(bytes) {}
+    constexpr bytes_view bytes() const noexcept { return bytes_; }
+    constexpr std::size_t size() const noexcept { return bytes_.size(); }
+
+    /// Returns ok, or the code of the first fault.
+    result check(policy accepted = {}, word_option word = {}) const noexcept
+    {
+        return code(::dcsctp_check(bytes_.data(), bytes_.size(), word_of(accepted, word), &accepted));
+    }
+    /// Returns the first fault, if there is one.
+    std::optional<fault> first_fault(policy accepted = {}, word_option word = {}) const noexcept
+    {
+        fault first;
+        first.code = code(
+            ::dcsctp_first_fault(bytes_.data(), bytes_.size(), word_of(accepted, word), &accepted, &first.offset));
+        return first.code == result_code::ok ? std::nullopt : std::optional<fault>(first);
+    }
+    /// Computes what the checksum field has to be. For fewer than 12 bytes it has no meaning.
+    std::uint32_t word() const noexcept { return ::dcsctp_word(bytes_.data(), bytes_.size()); }
+
+    /// Reads the common header; none of fewer than 12 bytes.
+    std::optional<dcsctp::header> header() const noexcept
+    {
+        return detail::value_of<dcsctp::header>(
+            [&](dcsctp::header *it) { return ::dcsctp_header(bytes_.data(), bytes_.size(), it); });
+    }
+    /// The chunks. If the bytes are a packet, these are all; else they end where there is no whole chunk.
+    range<chunk_source> chunks() const noexcept { return {{bytes_}, DCSCTP_FIRST_CHUNK}; }
+    /// Reads the chunk at an offset.
+    std::optional<chunk> chunk_at(std::size_t offset) const noexcept
+    {
+        ::dcsctp_chunk it{};
+        if (!::dcsctp_chunk_at(bytes_.data(), bytes_.size(), offset, &it))
+            return std::nullopt;
+        return chunk(bytes_, it, offset);
+    }
+
+    /// Writes the packet's text, in UTF-8: a line for the header and one for each chunk, with no line feed at the end.
+    /// The output does not overlap the packet.
+    written print_to(mutable_bytes_view output, policy accepted = {}, word_option word = {}) const noexcept
+    {
+        return write<&::dcsctp_print>(output, accepted, word);
+    }
+    /// Returns this text.
+    outcome<std::string> print(policy accepted = {}, word_option word = {}) const
+    {
+        return make<&::dcsctp_print, std::string>(accepted, word);
+    }
+    /// Writes all that the packet holds, in UTF-8, as `sctp_dump --payload` prints it. The output does not overlap the
+    /// packet.
+    written report_to(mutable_bytes_view output, policy accepted = {}, word_option word = {}) const noexcept
+    {
+        return write<&::dcsctp_report>(output, accepted, word);
+    }
+    /// Returns this text.
+    outcome<std::string> report(policy accepted = {}, word_option word = {}) const
+    {
+        return make<&::dcsctp_report, std::string>(accepted, word);
+    }
+    /// Writes the canonical packet: two packets have the same one if and only if they mean the same. The output does
+    /// not overlap the packet.
+    written canonical_to(mutable_bytes_view output, policy accepted = {}, word_option word = {}) const noexcept
+    {
+        return write<&::dcsctp_canonical>(output, accepted, word);
+    }
+    /// Returns the canonical packet.
+    outcome<std::vector<std::uint8_t>> canonical(policy accepted = {}, word_option word = {}) const
+    {
+        return make<&::dcsctp_canonical, std::vector<std::uint8_t>>(accepted, word);
+    }
+
+  private:
+    using writer = std::uint32_t (*)(const std::uint8_t *, std::size_t, std::uint32_t, const policy *, std::uint8_t *,
+                                     std::size_t, std::size_t *);
+    static result_code code(std::uint32_t number) noexcept { return static_cast<result_code>(number); }
+    std::uint32_t word_of(const policy &accepted, const word_option &option) const noexcept
+    {
+        return option ? *option : accepted.any_checksum ? 0 : word();
+    }
+    template <writer function>
+    written write(mutable_bytes_view output, const policy &accepted, const word_option &option) const noexcept
+    {
+        written wrote;
+        wrote.code = code(function(bytes_.data(), bytes_.size(), word_of(accepted, option), &accepted, output.data(),
+                                   output.size(), &wrote.size));
+        return wrote;
+    }
+    template <writer function, typename Container>
+    outcome<Container> make(const policy &accepted, const word_option &option) const
+    {
+        const word_option known = word_of(accepted, option);
+        const written needed = write<function>({}, accepted, known);
+        if (needed.code != result_code::no_room)
+            return needed.code;
+        Container output(needed.size, {});
+        const written wrote =
+            write<function>({reinterpret_cast<std::uint8_t *>(output.data()), output.size()}, accepted, known);
+        if (!wrote)
+            return wrote.code;
+        return output;
+    }
+    bytes_view bytes_;
+};
+
+// ---- changing a packet in place
+
+/// Writes the CRC32c into the checksum field. bad_place for fewer than 12 bytes.
+inline result seal(mutable_bytes_view packet) noexcept
+{
+    return static_cast<result_code>(::dcsctp_seal(packet.data(), packet.size()));
+}
+
+/// Writes the verification tag; seal the packet after it. bad_place for fewer than 12 bytes.
+inline result set_tag(mutable_bytes_view packet, std::uint32_t verification_tag) noexcept
+{
+    return static_cast<result_code>(::dcsctp_set_tag(packet.data(), packet.size(), verification_tag));
+}
+
+/// Brings gap ack blocks into order, joins those that overlap or touch, and drops those that end before their start.
+/// Returns those that are left, at the front; those after them are of no use.
+inline view<gap_ack_block> clean_blocks(view<gap_ack_block> blocks) noexcept
+{
+    return {blocks.data(), ::dcsctp_clean_blocks(blocks.data(), blocks.size())};
+}
+
+/// The same, and the vector has as many as are left.
+inline void clean_blocks(std::vector<gap_ack_block> &blocks)
+{
+    blocks.resize(::dcsctp_clean_blocks(blocks.data(), blocks.size()));
+}
+
+// ---- writing
+
+/// Writes a packet: each `add_` adds a chunk, and add_parameter, add_cause, add_number, add_re_config and
+/// add_missing_parameters add to the last chunk's list. Each returns ok; or it changes nothing, and returns why:
+///   bad_place  the buffer had no 12 bytes for the header; or there is no chunk to add to
+///   bad_value  the chunk would have more than 65,535 bytes, or what is to be written lies in the buffer itself
+///   no_room    the packet would have more bytes than the buffer, the limit or 65,532
+/// so one can seal, send, and begin the next packet with the chunk that had no room. The values are written as they
+/// are: whether RFC 9260 lets them be sent, or packet::check would accept the packet, isn't checked.
+///
+///   std::vector<std::uint8_t> bytes;
+///   dcsctp::builder packet(bytes, source_port, destination_port, tag);
+///   if (packet.add_sack(tsn, a_rwnd) && packet.add_data(data) && packet.seal())
+///       transmit(packet.bytes());
+class builder {
+  public:
+    /// The most bytes that a packet has.
+    static constexpr std::size_t most = 65532;
+
+    /// Begins a packet in a buffer, which has to outlive the builder; its size is the room. Bytes after the packet
+    /// stay.
+    builder(mutable_bytes_view buffer, std::uint16_t source_port, std::uint16_t destination_port,
+            std::uint32_t verification_tag) noexcept
+        : data_(buffer.data()), room_(buffer.size())
+    {
+        begin(source_port, destination_port, verification_tag);
+    }
+    /// Begins a packet in a vector, which loses what it had, grows up to `limit` as chunks are added, and ends with the
+    /// packet when that is sealed. Leave it alone until then.
+    builder(std::vector<std::uint8_t> &buffer, std::uint16_t source_port, std::uint16_t destination_port,
+            std::uint32_t verification_tag, std::size_t limit = most)
+        : vector_(&buffer), limit_(limit < most ? limit : most)
+    {
+        grow();
+        begin(source_port, destination_port, verification_tag);
+    }
+    builder(const builder &) = delete;
+    builder &operator=(const builder &) = delete;
+
+    /// Adds a chunk of any type.
+    result add_chunk(chunk_type type, std::uint8_t flags = 0, bytes_view value = {})
+    {
+        return add(value, [&] {
+            return ::dcsctp_add_chunk(data_, room_, &size_, number(type), flags, value.data(), value.size());
+        });
+    }
+    /// Adds DATA; mid and fsn are ignored.
+    result add_data(const data &of)
+    {
+        const struct ::dcsctp_data it = c_data(of);
+        return add(of.payload, [&] {
+            return ::dcsctp_add_data(data_, room_, &size_, &it, of.payload.data(), of.payload.size());
+        });
+    }
+    /// Adds I-DATA; ssn is ignored, fsn at the beginning of a message, and ppid elsewhere.
+    result add_i_data(const data &of)
+    {
+        const struct ::dcsctp_data it = c_data(of);
+        return add(of.payload, [&] {
+            return ::dcsctp_add_i_data(data_, room_, &size_, &it, of.payload.data(), of.payload.size());
+        });
+    }
+    /// Adds a SACK.
+    result add_sack(std::uint32_t cumulative_tsn_ack, std::uint32_t a_rwnd, view<const gap_ack_block> blocks = {},
+                    view<const std::uint32_t> duplicates = {})
+    {
+        if (overlaps(duplicates))
+            return result_code::bad_value;
+        return add(blocks, [&] {
+            return ::dcsctp_add_sack(data_, room_, &size_, cumulative_tsn_ack, a_rwnd, blocks.data(), blocks.size(),
+                                     duplicates.data(), duplicates.size());
+        });
+    }
+    /// Adds INIT, without a parameter.
+    result add_init(const init &numbers)
+    {
+        return add(bytes_view(), [&] { return ::dcsctp_add_init(data_, room_, &size_, &numbers); });
+    }
+    /// Adds INIT ACK, without a parameter; its State Cookie has to be added.
+    result add_init_ack(const init &numbers)
+    {
+        return add(bytes_view(), [&] { return ::dcsctp_add_init_ack(data_, room_, &size_, &numbers); });
+    }
+    /// Adds COOKIE ECHO.
+    result add_cookie_echo(bytes_view cookie)
+    {
+        return add(cookie,
+                   [&] { return ::dcsctp_add_cookie_echo(data_, room_, &size_, cookie.data(), cookie.size()); });
+    }
+    /// Adds COOKIE ACK.
+    result add_cookie_ack()
+    {
+        return add(bytes_view(), [&] { return ::dcsctp_add_cookie_ack(data_, room_, &size_); });
+    }
+    /// Adds HEARTBEAT with this heartbeat info.
+    result add_heartbeat(bytes_view info) { return heartbeat(false, info); }
+    /// Adds HEARTBEAT ACK with this heartbeat info.
+    result add_heartbeat_ack(bytes_view info) { return heartbeat(true, info); }
+    /// Adds ABORT with the cause User-Initiated Abort; bad_value where the reason isn't UTF-8. For other causes:
+    /// add_chunk(chunk_type::abort), and add_cause.
+    result add_abort(std::string_view reason, bool tag_reflected = false)
+    {
+        const bytes_view bytes = as_bytes(reason);
+        return add(bytes, [&] {
+            return ::dcsctp_add_abort(data_, room_, &size_, tag_reflected, bytes.data(), bytes.size());
+        });
+    }
+    /// Adds SHUTDOWN.
+    result add_shutdown(std::uint32_t cumulative_tsn_ack)
+    {
+        return add(bytes_view(), [&] { return ::dcsctp_add_shutdown(data_, room_, &size_, cumulative_tsn_ack); });
+    }
+    /// Adds SHUTDOWN ACK.
+    result add_shutdown_ack()
+    {
+        return add(bytes_view(), [&] { return ::dcsctp_add_shutdown_ack(data_, room_, &size_); });
+    }
+    /// Adds SHUTDOWN COMPLETE.
+    result add_shutdown_complete(bool tag_reflected = false)
+    {
+        return add(bytes_view(), [&] { return ::dcsctp_add_shutdown_complete(data_, room_, &size_, tag_reflected); });
+    }
+    /// Adds FORWARD-TSN.
+    result add_forward_tsn(std::uint32_t new_cumulative_tsn, view<const skipped_stream> streams = {})
+    {
+        return add(streams, [&] {
+            return ::dcsctp_add_forward_tsn(data_, room_, &size_, new_cumulative_tsn, streams.data(), streams.size());
+        });
+    }
+    /// Adds I-FORWARD-TSN.
+    result add_i_forward_tsn(std::uint32_t new_cumulative_tsn, view<const skipped_stream> streams = {})
+    {
+        return add(streams, [&] {
+            return ::dcsctp_add_i_forward_tsn(data_, room_, &size_, new_cumulative_tsn, streams.data(), streams.size());
+        });
+    }
+
+    /// Adds a parameter to the last chunk.
+    result add_parameter(parameter_type type, bytes_view value = {}) { return item(number(type), value); }
+    /// Adds an error cause to the last chunk.
+    result add_cause(cause_code code, bytes_view value = {}) { return item(number(code), value); }
+    /// Adds a parameter whose value is a number of four bytes: Zero Checksum Acceptable.
+    result add_number(parameter_type type, std::uint32_t value) { return four_bytes(number(type), value); }
+    /// Adds an error cause whose value is a number of four bytes: No User Data.
+    result add_number(cause_code code, std::uint32_t value) { return four_bytes(number(code), value); }
+    /// Adds a request or the response of RE-CONFIG; the streams are written for an Outgoing or Incoming SSN Reset
+    /// alone. bad_value for another type, or a result above 6.
+    result add_re_config(const re_config &of, view<const std::uint16_t> streams = {})
+    {
+        struct ::dcsctp_re_config it {};
+        it.type = number(of.type);
+        it.request_number = of.request_number;
+        it.response_number = of.response_number;
+        it.last_tsn = of.last_tsn;
+        it.result = number(of.result);
+        it.has_next_tsns = of.has_next_tsns;
+        it.sender_next_tsn = of.sender_next_tsn;
+        it.receiver_next_tsn = of.receiver_next_tsn;
+        it.new_streams = of.new_streams;
+        return extend(streams, [&] {
+            return ::dcsctp_add_re_config(data_, room_, &size_, start_, &it, streams.data(), streams.size());
+        });
+    }
+    /// Adds the cause Missing Mandatory Parameter with these types.
+    result add_missing_parameters(view<const std::uint16_t> types)
+    {
+        return extend(types, [&] {
+            return ::dcsctp_add_missing_parameters(data_, room_, &size_, start_, types.data(), types.size());
+        });
+    }
+
+    /// Takes the last chunk back, with its list; nothing if that was done, or there is none. After it there is no chunk
+    /// to add to, until one is added.
+    void remove_last_chunk() noexcept { size_ = start_; }
+    /// Writes the CRC32c. Call it last.
+    result seal()
+    {
+        if (vector_ && size_ != 0) {
+            vector_->resize(size_);
+            data_ = vector_->data();
+            room_ = size_;
+        }
+        return code(::dcsctp_seal(data_, size_));
+    }
+    /// The packet, as far as it is written; of 0 bytes where the buffer had no 12.
+    mutable_bytes_view bytes() const noexcept { return {data_, size_}; }
+    std::size_t size() const noexcept { return size_; }
+
+  private:
+    static result_code code(std::uint32_t number) noexcept { return static_cast<result_code>(number); }
+    static struct ::dcsctp_data c_data(const data &of) noexcept
+    {
+        struct ::dcsctp_data it {};
+        it.tsn = of.tsn;
+        it.mid = of.mid;
+        it.fsn = of.fsn;
+        it.ppid = of.ppid;
+        it.stream = of.stream;
+        it.ssn = of.ssn;
+        it.is_unordered = of.is_unordered;
+        it.is_beginning = of.is_beginning;
+        it.is_end = of.is_end;
+        it.immediate_ack = of.immediate_ack;
+        return it;
+    }
+    void begin(std::uint16_t source_port, std::uint16_t destination_port, std::uint32_t tag) noexcept
+    {
+        if (code(::dcsctp_begin(data_, room_, &size_, source_port, destination_port, tag)) != result_code::ok)
+            size_ = 0;
+        start_ = size_;
+    }
+    // Whether some of the items lie in the buffer: the library has to read and write apart.
+    template <typename T> bool overlaps(view<T> items) const noexcept
+    {
+        if (items.empty() || room_ == 0)
+            return false;
+        const std::less<const void *> before{};
+        return before(items.begin(), data_ + room_) && before(data_, items.end());
+    }
+    bool grow()
+    {
+        if (!vector_ || room_ >= limit_)
+            return false;
+        const std::size_t room = room_ < 128 ? 256 : 2 * room_;
+        vector_->resize(room < limit_ ? room : limit_);
+        data_ = vector_->data();
+        room_ = vector_->size();
+        return true;
+    }
+    template <typename T, typename Call> result extend(view<T> items, Call call)
+    {
+        if (overlaps(items))
+            return result_code::bad_value;
+        result_code returned = code(call());
+        while (returned == result_code::no_room && grow())
+            returned = code(call());
+        return returned;
+    }
+    template <typename T, typename Call> result add(view<T> items, Call call)
+    {
+        const std::size_t start = size_;
+        const result added = extend(items, call);
+        if (added)
+            start_ = start;
+        return added;
+    }
+    result heartbeat(bool is_ack, bytes_view info)
+    {
+        return add(info,
+                   [&] { return ::dcsctp_add_heartbeat(data_, room_, &size_, is_ack, info.data(), info.size()); });
+    }
+    result item(std::uint16_t type, bytes_view value)
+    {
+        return extend(value, [&] {
+            return ::dcsctp_add_parameter(data_, room_, &size_, start_, type, value.data(), value.size());
+        });
+    }
+    result four_bytes(std::uint16_t type, std::uint32_t value)
+    {
+        return extend(bytes_view(),
+                      [&] { return ::dcsctp_add_number(data_, room_, &size_, start_, type, value); });
+    }
+
+    std::vector<std::uint8_t> *vector_ = nullptr;
+    std::uint8_t *data_ = nullptr;
+    std::size_t room_ = 0, limit_ = 0, size_ = 0;
+    std::size_t start_ = 0; // of the last chunk; size_ where there is none
+};
+
+} // namespace dcsctp
+
+#ifdef __cpp_lib_ranges
+template <typename T> inline constexpr bool std::ranges::enable_view<dcsctp::view<T>> = true;
+template <typename T> inline constexpr bool std::ranges::enable_borrowed_range<dcsctp::view<T>> = true;
+template <typename Source> inline constexpr bool std::ranges::enable_view<dcsctp::range<Source>> = true;
+template <typename Source> inline constexpr bool std::ranges::enable_borrowed_range<dcsctp::range<Source>> = true;
+#endif
+
+#endif

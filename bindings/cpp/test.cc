@@ -1,0 +1,617 @@
+// Reads and writes each kind of chunk, parameter and error cause. The packets are written by hand from the RFCs, and
+// their checksums computed by a CRC32c of this file.
+#include "dcsctp.hpp"
+
+#include <algorithm>
+#include <array>
+#include <cstdio>
+#include <cstdlib>
+#include <cstring>
+#include <memory>
+#include <new>
+#ifdef __cpp_lib_span
+#include <span>
+#endif
+
+using namespace dcsctp;
+using bytes = std::vector<std::uint8_t>;
+
+static std::size_t allocations;
+
+void *operator new(std::size_t size)
+{
+    allocations++;
+    if (void *memory = std::malloc(size))
+        return memory;
+    throw std::bad_alloc();
+}
+void operator delete(void *memory) noexcept { std::free(memory); }
+void operator delete(void *memory, std::size_t) noexcept { std::free(memory); }
+
+namespace {
+
+int passed, failed;
+
+void check(bool is_so, const char *what, int line)
+{
+    if (is_so) {
+        passed++;
+    } else {
+        failed++;
+        std::printf("test.cc:%d: not so: %s\n", line, what);
+    }
+}
+#define CHECK(...) check(static_cast<bool>(__VA_ARGS__), #__VA_ARGS__, __LINE__)
+
+bytes of_hex(std::string_view text)
+{
+    bytes all;
+    unsigned digits = 0, value = 0;
+    for (char c : text) {
+        if (c == ' ')
+            continue;
+        value = value * 16 + static_cast<unsigned>(c <= '9' ? c - '0' : c - 'a' + 10);
+        if (++digits % 2 == 0) {
+            all.push_back(static_cast<std::uint8_t>(value));
+            value = 0;
+        }
+    }
+    return all;
+}
+
+// RFC 9260 appendix A, bit by bit; the field has it least significant byte first.
+void put_checksum(bytes &packet)
+{
+    std::fill(packet.begin() + 8, packet.begin() + 12, std::uint8_t{0});
+    std::uint32_t crc = 0xffffffff;
+    for (std::uint8_t byte : packet) {
+        crc ^= byte;
+        for (int i = 0; i < 8; i++)
+            crc = crc & 1 ? crc >> 1 ^ 0x82f63b78 : crc >> 1;
+    }
+    crc = ~crc;
+    for (unsigned i = 0; i < 4; i++)
+        packet[8 + i] = static_cast<std::uint8_t>(crc >> 8 * i);
+}
+
+// A packet from port 5000 to port 5001 under the tag 0x01020304.
+bytes sealed(std::string_view chunks)
+{
+    bytes packet = of_hex("1388 1389 01020304 00000000");
+    const bytes more = of_hex(chunks);
+    packet.insert(packet.end(), more.begin(), more.end());
+    put_checksum(packet);
+    return packet;
+}
+
+bool same(bytes_view one, bytes_view other)
+{
+    return std::equal(one.begin(), one.end(), other.begin(), other.end());
+}
+
+// Whether what is written by `write`, into an array and into a vector, is `wanted`.
+template <typename Write> bool writes(const bytes &wanted, Write write)
+{
+    std::array<std::uint8_t, 1200> array;
+    array.fill(0xee);
+    builder one(array, 5000, 5001, 0x01020304);
+    bytes vector = {1, 2, 3};
+    builder other(vector, 5000, 5001, 0x01020304);
+    return write(one) && one.seal() && same(one.bytes(), wanted) && array[one.size()] == 0xee && write(other)
+        && other.seal() && same(other.bytes(), wanted) && vector == wanted;
+}
+
+// The only chunk of a packet without a fault, padding with it. It is checked that there is one.
+chunk only(const bytes &packet)
+{
+    CHECK(!dcsctp::packet(packet).first_fault({false, false, true}));
+    const auto chunks = dcsctp::packet(packet).chunks();
+    CHECK(std::distance(chunks.begin(), chunks.end()) == 1);
+    return *chunks.begin();
+}
+
+void data_chunks()
+{
+    // RFC 9260 section 3.3.1: the flags are I, U, B, E.
+    const bytes packet = sealed("000b0013 01020304 0005 0006 00000033 616263 00");
+    const chunk chunk = only(packet);
+    CHECK(chunk.type() == chunk_type::data && chunk.flags() == 11 && chunk.value().size() == 15);
+    CHECK(chunk.offset() == 12 && chunk.next_offset() == 32);
+    const auto data = chunk.as_data();
+    CHECK(data && data->tsn == 0x01020304 && data->stream == 5 && data->ssn == 6 && data->ppid == 51);
+    CHECK(data->immediate_ack && !data->is_unordered && data->is_beginning && data->is_end);
+    CHECK(data->mid == 0 && data->fsn == 0 && as_text(data->payload) == "abc");
+    CHECK(data->payload.data() == packet.data() + 28);
+    CHECK(writes(packet, [&](builder &to) { return to.add_data(*data); }));
+    CHECK(!chunk.as_sack() && !chunk.as_init() && !chunk.as_shutdown() && !chunk.as_forward_tsn());
+    CHECK(chunk.gap_ack_blocks().empty() && chunk.duplicate_tsns().empty() && chunk.skipped_streams().empty());
+    CHECK(chunk.parameters().empty() && chunk.causes().empty() && !chunk.is_valid_sack());
+
+    // RFC 8260 section 2.1: a beginning has a PPID, what follows an FSN.
+    const bytes first = sealed("40060015 01020304 0005 0000 00000007 00000033 61 000000");
+    const auto beginning = only(first).as_data();
+    CHECK(beginning && beginning->mid == 7 && beginning->ppid == 51 && beginning->fsn == 0 && beginning->ssn == 0);
+    CHECK(beginning->is_unordered && beginning->is_beginning && !beginning->is_end && !beginning->immediate_ack);
+    CHECK(as_text(beginning->payload) == "a");
+    CHECK(writes(first, [&](builder &to) { return to.add_i_data(*beginning); }));
+    const bytes last = sealed("40010016 01020305 0005 0000 00000007 00000009 6162 0000");
+    const auto end = only(last).as_data();
+    CHECK(end && end->tsn == 0x01020305 && end->mid == 7 && end->fsn == 9 && end->ppid == 0 && end->is_end);
+    CHECK(writes(last, [&](builder &to) { return to.add_i_data(*end); }));
+}
+
+void sacks()
+{
+    // Section 3.3.4.
+    const bytes packet = sealed("0300001c 0000000a 00010000 0002 0001 0002 0003 0005 0005 00000009");
+    const chunk chunk = only(packet);
+    const auto sack = chunk.as_sack();
+    CHECK(sack && sack->cumulative_tsn_ack == 10 && sack->a_rwnd == 65536 && sack->block_count == 2);
+    CHECK(sack->duplicate_count == 1 && chunk.is_valid_sack());
+    std::vector<gap_ack_block> blocks;
+    for (gap_ack_block block : chunk.gap_ack_blocks())
+        blocks.push_back(block);
+    CHECK(blocks.size() == 2 && blocks[0].start == 2 && blocks[0].end == 3);
+    CHECK(blocks[1].start == 5 && blocks[1].end == 5);
+    const auto duplicates = chunk.duplicate_tsns();
+    CHECK(std::distance(duplicates.begin(), duplicates.end()) == 1 && *duplicates.begin() == 9);
+    CHECK(chunk.gap_ack_blocks().at(1)->start == 5 && !chunk.gap_ack_blocks().at(2));
+    CHECK(chunk.gap_ack_blocks().begin()->end == 3);
+    const std::vector<std::uint32_t> tsns(duplicates.begin(), duplicates.end());
+    CHECK(writes(packet, [&](builder &to) { return to.add_sack(10, 65536, blocks, tsns); }));
+    const bytes none = sealed("03000010 0000000a 00010000 0000 0000");
+    CHECK(only(none).gap_ack_blocks().empty());
+    CHECK(writes(none, [&](builder &to) { return to.add_sack(10, 65536); }));
+    CHECK(!only(sealed("03000014 0000000a 00010000 0001 0000 0001 0001")).is_valid_sack());
+
+    std::vector<gap_ack_block> mixed = {{5, 6}, {2, 3}, {9, 8}, {4, 4}, {9, 9}};
+    std::vector<gap_ack_block> in_place = mixed;
+    const auto left = clean_blocks(view<gap_ack_block>(in_place));
+    clean_blocks(mixed);
+    CHECK(mixed.size() == 2 && mixed[0].start == 2 && mixed[0].end == 6 && mixed[1].start == 9 && mixed[1].end == 9);
+    CHECK(left.size() == 2 && left[0].end == 6 && left.data() == in_place.data());
+}
+
+void inits()
+{
+    // Section 3.3.2; the parameters of RFC 5061 section 4.2.7, RFC 3758 section 3.1, RFC 9653 section 4.
+    const bytes packet = sealed("01000028 00000008 00000400 0001 0002 00000003"
+                                "8008 0006 82c0 0000  c000 0004  8001 0008 00000001");
+    const chunk chunk = only(packet);
+    const auto init = chunk.as_init();
+    CHECK(init && init->initiate_tag == 8 && init->a_rwnd == 1024 && init->outbound_streams == 1);
+    CHECK(init->inbound_streams == 2 && init->initial_tsn == 3);
+    std::vector<parameter> parameters;
+    for (parameter parameter : chunk.parameters())
+        parameters.push_back(parameter);
+    CHECK(parameters.size() == 3 && chunk.causes().empty());
+    CHECK(parameters[0].type() == parameter_type::supported_extensions && parameters[0].offset() == 32);
+    CHECK(same(parameters[0].value(), of_hex("82c0")) && parameters[0].next_offset() == 40);
+    CHECK(parameters[1].type() == parameter_type::forward_tsn_supported && parameters[1].value().empty());
+    CHECK(parameters[2].type() == parameter_type::zero_checksum_acceptable && parameters[2].as_number() == 1u);
+    CHECK(!parameters[0].as_number() && !parameters[0].as_re_config() && parameters[0].reset_streams().empty());
+    CHECK(writes(packet, [&](builder &to) {
+        return to.add_init(*init) && to.add_parameter(parameters[0].type(), parameters[0].value())
+            && to.add_parameter(parameter_type::forward_tsn_supported)
+            && to.add_number(parameter_type::zero_checksum_acceptable, 1);
+    }));
+
+    const bytes ack = sealed("0200001b 00000008 00000400 0001 0002 00000003 0007 0007 616263 00");
+    const auto answer = only(ack);
+    CHECK(answer.type() == chunk_type::init_ack && answer.as_init()->initial_tsn == 3);
+    CHECK(answer.parameters().begin()->type() == parameter_type::state_cookie);
+    CHECK(as_text(answer.parameters().begin()->value()) == "abc");
+    CHECK(writes(ack, [&](builder &to) {
+        return to.add_init_ack({8, 1024, 1, 2, 3}) && to.add_parameter(parameter_type::state_cookie, as_bytes("abc"));
+    }));
+}
+
+void small_chunks()
+{
+    // Sections 3.3.5 to 3.3.13.
+    const bytes echo = sealed("0a000007 616263 00");
+    CHECK(only(echo).type() == chunk_type::cookie_echo && as_text(only(echo).value()) == "abc");
+    CHECK(writes(echo, [&](builder &to) { return to.add_cookie_echo(only(echo).value()); }));
+    const bytes ack = sealed("0b000004");
+    CHECK(only(ack).type() == chunk_type::cookie_ack && only(ack).value().empty());
+    CHECK(writes(ack, [](builder &to) { return to.add_cookie_ack(); }));
+
+    const bytes heartbeat = sealed("0400000a 0001 0006 6869 0000");
+    const auto parameters = only(heartbeat).parameters();
+    CHECK(std::distance(parameters.begin(), parameters.end()) == 1);
+    CHECK(parameters.begin()->type() == parameter_type::heartbeat_info && as_text(parameters.begin()->value()) == "hi");
+    CHECK(writes(heartbeat, [](builder &to) { return to.add_heartbeat(as_bytes("hi")); }));
+    const bytes reply = sealed("0500000a 0001 0006 6869 0000");
+    CHECK(only(reply).type() == chunk_type::heartbeat_ack);
+    CHECK(writes(reply, [&](builder &to) { return to.add_heartbeat_ack(parameters.begin()->value()); }));
+
+    const bytes shutdown = sealed("07000008 0000000a");
+    CHECK(only(shutdown).as_shutdown() == 10u);
+    CHECK(writes(shutdown, [](builder &to) { return to.add_shutdown(10); }));
+    const bytes shut = sealed("08000004");
+    CHECK(only(shut).type() == chunk_type::shutdown_ack);
+    CHECK(writes(shut, [](builder &to) { return to.add_shutdown_ack(); }));
+    const bytes complete = sealed("0e010004"), own = sealed("0e000004");
+    CHECK(only(complete).is_tag_reflected() && !only(own).is_tag_reflected());
+    CHECK(!only(sealed("0b010004")).is_tag_reflected());
+    CHECK(writes(complete, [](builder &to) { return to.add_shutdown_complete(true); }));
+    CHECK(writes(own, [](builder &to) { return to.add_shutdown_complete(); }));
+
+    const bytes other = sealed("7f050006 0102 0000");
+    CHECK(number(only(other).type()) == 127 && only(other).flags() == 5 && same(only(other).value(), of_hex("0102")));
+    CHECK(writes(other, [](builder &to) { return to.add_chunk(static_cast<chunk_type>(127), 5, of_hex("0102")); }));
+}
+
+void causes()
+{
+    // Section 3.3.10.12.
+    const bytes abort = sealed("0601000c 000c 0008 62796521");
+    CHECK(only(abort).is_tag_reflected() && only(abort).parameters().empty());
+    CHECK(only(abort).causes().begin()->code() == cause_code::user_initiated_abort);
+    CHECK(as_text(only(abort).causes().begin()->value()) == "bye!");
+    CHECK(writes(abort, [](builder &to) { return to.add_abort("bye!", true); }));
+    CHECK(writes(abort, [](builder &to) {
+        return to.add_chunk(chunk_type::abort, DCSCTP_TAG_REFLECTED)
+            && to.add_cause(cause_code::user_initiated_abort, as_bytes("bye!"));
+    }));
+
+    // Sections 3.3.10.2, .9, .6, .10, .13.
+    const bytes error = sealed("0900002b  0002 000a 00000001 0007 0000  0009 0008 00000005  0006 0008 7f000004"
+                               "000a 0004  000d 0007 626164 00");
+    std::vector<cause> causes;
+    for (cause cause : only(error).causes())
+        causes.push_back(cause);
+    CHECK(causes.size() == 5 && only(error).parameters().empty());
+    CHECK(causes[0].code() == cause_code::missing_mandatory_parameter);
+    const auto missing = causes[0].missing_parameters();
+    CHECK(std::distance(missing.begin(), missing.end()) == 1 && *missing.begin() == 7);
+    CHECK(causes[1].code() == cause_code::no_user_data && causes[1].as_number() == 5u);
+    CHECK(causes[1].missing_parameters().empty());
+    CHECK(causes[2].code() == cause_code::unrecognized_chunk && same(causes[2].value(), of_hex("7f000004")));
+    CHECK(causes[3].code() == cause_code::cookie_received_while_shutting_down && causes[3].value().empty());
+    CHECK(causes[4].code() == cause_code::protocol_violation && as_text(causes[4].value()) == "bad");
+    const std::uint16_t types[] = {number(parameter_type::state_cookie)};
+    CHECK(writes(error, [&](builder &to) {
+        return to.add_chunk(chunk_type::error) && to.add_missing_parameters(types)
+            && to.add_number(cause_code::no_user_data, 5)
+            && to.add_cause(cause_code::unrecognized_chunk, of_hex("7f000004"))
+            && to.add_cause(cause_code::cookie_received_while_shutting_down)
+            && to.add_cause(cause_code::protocol_violation, as_bytes("bad"));
+    }));
+}
+
+// Reads a RE-CONFIG of one parameter, and writes it again.
+re_config re_config_of(std::string_view hex, std::vector<std::uint16_t> streams = {})
+{
+    const bytes packet = sealed(hex);
+    const auto parameters = only(packet).parameters();
+    CHECK(std::distance(parameters.begin(), parameters.end()) == 1);
+    const auto read = parameters.begin()->as_re_config();
+    CHECK(read && read->type == parameters.begin()->type() && read->stream_count == streams.size());
+    const auto named = parameters.begin()->reset_streams();
+    CHECK(std::equal(named.begin(), named.end(), streams.begin(), streams.end()));
+    CHECK(writes(packet, [&](builder &to) {
+        return to.add_chunk(chunk_type::re_config) && to.add_re_config(*read, streams);
+    }));
+    return *read;
+}
+
+void re_configs()
+{
+    // RFC 6525 sections 4.1 to 4.6.
+    const re_config out = re_config_of("82000018 000d 0014 00000001 00000002 00000003 0004 0005", {4, 5});
+    CHECK(out.type == parameter_type::outgoing_ssn_reset && out.request_number == 1 && out.response_number == 2);
+    CHECK(out.last_tsn == 3);
+    const re_config in = re_config_of("8200000e 000e 000a 00000006 0007 0000", {7});
+    CHECK(in.type == parameter_type::incoming_ssn_reset && in.request_number == 6);
+    const re_config both = re_config_of("8200000c 000f 0008 00000008");
+    CHECK(both.type == parameter_type::ssn_tsn_reset && both.request_number == 8);
+    const re_config brief = re_config_of("82000010 0010 000c 00000009 00000006");
+    CHECK(brief.type == parameter_type::reconfiguration_response && brief.response_number == 9);
+    CHECK(brief.result == re_config_result::in_progress && !brief.has_next_tsns);
+    const re_config whole = re_config_of("82000018 0010 0014 00000009 00000001 0000000a 0000000b");
+    CHECK(whole.has_next_tsns && whole.result == re_config_result::performed);
+    CHECK(whole.sender_next_tsn == 10 && whole.receiver_next_tsn == 11);
+    const re_config more = re_config_of("82000010 0011 000c 0000000c 000d 0000");
+    CHECK(more.type == parameter_type::add_outgoing_streams && more.request_number == 12 && more.new_streams == 13);
+    const re_config others = re_config_of("82000010 0012 000c 0000000e 000f 0000");
+    CHECK(others.type == parameter_type::add_incoming_streams && others.new_streams == 15);
+
+    bytes buffer;
+    builder to(buffer, 1, 2, 3);
+    re_config wrong;
+    wrong.type = parameter_type::state_cookie;
+    CHECK(to.add_chunk(chunk_type::re_config));
+    CHECK(to.add_re_config(wrong).code() == result_code::bad_value);
+    wrong.type = parameter_type::reconfiguration_response;
+    wrong.result = static_cast<re_config_result>(7);
+    CHECK(to.add_re_config(wrong).code() == result_code::bad_value && to.size() == 16);
+}
+
+void forward_tsns()
+{
+    // RFC 3758 section 3.2.
+    const bytes packet = sealed("c0000010 0000000a 0001 0002 0003 0004");
+    const auto tsn = only(packet).as_forward_tsn();
+    CHECK(tsn && tsn->new_cumulative_tsn == 10 && tsn->stream_count == 2);
+    const auto range = only(packet).skipped_streams();
+    const std::vector<skipped_stream> streams(range.begin(), range.end());
+    CHECK(streams.size() == 2 && streams[0].stream == 1 && streams[0].ssn == 2 && streams[1].stream == 3);
+    CHECK(streams[1].ssn == 4 && streams[1].mid == 0 && !streams[1].is_unordered);
+    CHECK(writes(packet, [&](builder &to) { return to.add_forward_tsn(10, streams); }));
+    CHECK(writes(sealed("c0000008 0000000a"), [](builder &to) { return to.add_forward_tsn(10); }));
+
+    // RFC 8260 section 2.3.1.
+    const bytes by_mid = sealed("c2000018 0000000a 0001 0001 00000002 0003 0000 00000004");
+    const auto others = only(by_mid).skipped_streams();
+    const std::vector<skipped_stream> mids(others.begin(), others.end());
+    CHECK(only(by_mid).as_forward_tsn()->new_cumulative_tsn == 10 && mids.size() == 2);
+    CHECK(mids[0].stream == 1 && mids[0].is_unordered && mids[0].mid == 2 && mids[0].ssn == 0);
+    CHECK(mids[1].stream == 3 && !mids[1].is_unordered && mids[1].mid == 4);
+    CHECK(writes(by_mid, [&](builder &to) { return to.add_i_forward_tsn(10, mids); }));
+}
+
+void whole_packets()
+{
+    bytes packet = sealed("0b000004 000b0013 01020304 0005 0006 00000033 616263 00");
+    const dcsctp::packet whole(packet);
+    const auto header = whole.header();
+    CHECK(header && header->source_port == 5000 && header->destination_port == 5001);
+    CHECK(header->verification_tag == 0x01020304 && header->checksum == whole.word());
+    CHECK(whole.check() && !whole.first_fault() && whole.check({}, whole.word()));
+    CHECK(whole.check({}, whole.word() + 1).code() == result_code::fault_checksum);
+    CHECK(whole.chunk_at(16)->type() == chunk_type::data && !whole.chunk_at(36) && !whole.chunk_at(99));
+    CHECK(!dcsctp::packet().header() && dcsctp::packet().chunks().empty() && dcsctp::packet().size() == 0);
+
+    bytes canonical = packet;
+    std::fill(canonical.begin() + 8, canonical.begin() + 12, std::uint8_t{0});
+    CHECK(*whole.canonical() == canonical);
+    CHECK(dcsctp::packet(canonical).first_fault()->code == result_code::fault_checksum);
+    CHECK(dcsctp::packet(canonical).check({false, true, false}));
+    CHECK(dcsctp::packet(canonical).check({true, false, false}));
+    std::uint8_t room[2000];
+    CHECK(whole.canonical_to(room).size == canonical.size() && same({room, canonical.size()}, canonical));
+    CHECK(whole.canonical_to({room, 35}).code == result_code::no_room && whole.canonical_to({room, 35}).size == 36);
+
+    const auto text = whole.print();
+    CHECK(text && text->find("source=5000 destination=5001 tag=16909060 ") == 0 && text->back() != '\n');
+    const written printed = whole.print_to(room);
+    CHECK(printed && as_text({room, printed.size}) == *text);
+    const auto report = whole.report();
+    const written reported = whole.report_to(room);
+    CHECK(report && report->back() == '\n' && reported && as_text({room, reported.size}) == *report);
+    const written ten = whole.report_to({room, 10});
+    CHECK(ten.code == result_code::no_room && ten.size == report->size());
+
+    CHECK(set_tag(packet, 7) && !whole.check() && seal(packet) && whole.check());
+    CHECK(whole.header()->verification_tag == 7);
+    bytes again = packet;
+    put_checksum(again);
+    CHECK(again == packet);
+    CHECK(seal({room, 11}).code() == result_code::bad_place && set_tag({room, 11}, 1).code() == result_code::bad_place);
+}
+
+// The fault of a packet's bytes, with padding checked, is this one; printing says the same.
+void has_fault(const bytes &packet, result_code code, std::size_t offset)
+{
+    const policy strict = {false, false, true};
+    const dcsctp::packet it(packet);
+    const auto fault = it.first_fault(strict);
+    CHECK(fault && fault->code == code && fault->offset == offset && it.check(strict).code() == code);
+    CHECK(it.print(strict).code() == code && it.report(strict).code() == code && it.canonical(strict).code() == code);
+    CHECK(!it.print(strict) && (*it.print(strict)).empty());
+}
+
+void faults()
+{
+    has_fault({}, result_code::fault_size, 0);
+    has_fault(of_hex("1388 1389 01020304 00000000 0b0000"), result_code::fault_size, 15);
+    has_fault(bytes(65536), result_code::fault_size, 65535);
+    bytes changed = sealed("0b000004");
+    changed[8] ^= 1;
+    has_fault(changed, result_code::fault_checksum, 8);
+    has_fault(sealed("0b000004 0b000003"), result_code::fault_length, 16);
+    has_fault(sealed("0400000c 0001 0009 68692121"), result_code::fault_length, 16);
+    has_fault(sealed("82000010 0010 000c 00000009 00000007"), result_code::fault_value, 16);
+    has_fault(sealed("0a000007 616263 01"), result_code::fault_padding, 19);
+    has_fault(sealed("0a000007 616263"), result_code::fault_padding, 19);
+    CHECK(packet(sealed("0a000007 616263 01")).check());
+    CHECK(std::strcmp(text(result_code::fault_padding), "wrong padding") == 0);
+    CHECK(std::strcmp(packet().first_fault()->text(), "not the size of a packet") == 0);
+    CHECK(std::strcmp(packet().check().text(), "not the size of a packet") == 0);
+    CHECK(std::strcmp(packet().print().text(), "not the size of a packet") == 0);
+}
+
+void builders()
+{
+    // What has no room changes nothing.
+    std::array<std::uint8_t, 32> buffer;
+    buffer.fill(0xee);
+    builder to(buffer, 1, 2, 3);
+    to.remove_last_chunk();
+    CHECK(to.size() == 12 && to.add_cause(cause_code::no_user_data).code() == result_code::bad_place);
+    CHECK(to.add_cookie_ack() && to.size() == 16);
+    const auto before = buffer;
+    CHECK(to.add_chunk(chunk_type::error, 0, bytes(13)).code() == result_code::no_room && buffer == before);
+    CHECK(to.add_chunk(chunk_type::error, 0, bytes(65532)).code() == result_code::bad_value && to.size() == 16);
+    CHECK(to.add_abort("\xff").code() == result_code::bad_value && to.size() == 16);
+    CHECK(to.add_chunk(chunk_type::error, 0, bytes(12)) && to.size() == 32);
+    CHECK(to.add_cause(cause_code::protocol_violation).code() == result_code::no_room && to.size() == 32);
+    to.remove_last_chunk();
+    CHECK(to.size() == 16 && to.add_cause(cause_code::protocol_violation).code() == result_code::bad_place);
+    to.remove_last_chunk();
+    CHECK(to.size() == 16 && to.seal() && packet(to.bytes()).check());
+
+    // What lies in the buffer isn't written, and what lies beside it is.
+    std::array<std::uint8_t, 64> both{};
+    builder front(mutable_bytes_view(both.data(), 40), 1, 2, 3);
+    CHECK(front.add_cookie_echo({both.data() + 39, 2}).code() == result_code::bad_value && front.size() == 12);
+    CHECK(front.add_cookie_echo({both.data() + 40, 2}) && front.size() == 20);
+    const view<const std::uint32_t> inside(reinterpret_cast<const std::uint32_t *>(&both), 1);
+    CHECK(front.add_sack(1, 2, {}, inside).code() == result_code::bad_value && front.size() == 20);
+    CHECK(front.add_parameter(parameter_type::state_cookie, front.bytes()).code() == result_code::bad_value);
+
+    // There is no packet in 11 bytes.
+    builder small(mutable_bytes_view(both.data(), 11), 1, 2, 3);
+    CHECK(small.size() == 0 && small.bytes().empty() && small.add_cookie_ack().code() == result_code::bad_place);
+    CHECK(small.seal().code() == result_code::bad_place);
+    small.remove_last_chunk();
+    builder nowhere(mutable_bytes_view(), 1, 2, 3);
+    CHECK(nowhere.size() == 0 && nowhere.seal().code() == result_code::bad_place);
+
+    // A vector grows as far as its limit.
+    bytes vector(5000, 7);
+    builder growing(vector, 1, 2, 3);
+    CHECK(growing.add_chunk(chunk_type::cookie_echo, 0, bytes(65516)) && growing.size() == 65532);
+    CHECK(growing.add_cookie_ack().code() == result_code::no_room);
+    CHECK(growing.seal() && vector.size() == 65532 && packet(vector).check());
+    growing.remove_last_chunk();
+    CHECK(growing.seal() && vector.size() == 12 && growing.add_cookie_ack() && growing.seal() && vector.size() == 16);
+    CHECK(packet(vector).check() && growing.bytes().data() == vector.data());
+    builder limited(vector, 1, 2, 3, 20);
+    CHECK(limited.add_cookie_ack() && limited.add_cookie_ack());
+    CHECK(limited.add_cookie_ack().code() == result_code::no_room && limited.seal() && vector.size() == 20);
+    builder none(vector, 1, 2, 3, 11);
+    CHECK(none.size() == 0 && none.seal().code() == result_code::bad_place);
+}
+
+void names()
+{
+    CHECK(std::string_view(name(chunk_type::i_forward_tsn)) == "I-FORWARD-TSN");
+    CHECK(std::string_view(name(static_cast<chunk_type>(99))) == "unknown");
+    CHECK(std::string_view(name(parameter_type::ssn_tsn_reset)) == "SSN/TSN Reset Request");
+    CHECK(std::string_view(name(cause_code::no_user_data)) == "No User Data");
+    CHECK(std::string_view(name(cause_code::stale_cookie)) == "Stale Cookie");
+    CHECK(std::string_view(version()) == DCSCTP_VERSION && library_version_number() == version_number);
+}
+
+void views()
+{
+    std::uint8_t array[] = {1, 2, 3};
+    const std::array<std::uint8_t, 2> other = {1, 2};
+    const bytes vector = {1, 2, 3};
+    const std::byte std_bytes[] = {std::byte{1}, std::byte{2}};
+    CHECK(same(array, vector) && bytes_view(other).size() == 2 && mutable_bytes_view(array)[2] == 3);
+    CHECK(same(as_bytes(std_bytes), other) && bytes_view().empty() && as_text(as_bytes("ab")) == "ab");
+    CHECK(same(mutable_bytes_view(array), bytes_view(mutable_bytes_view(array))));
+    static_assert(std::is_convertible_v<bytes, bytes_view> && std::is_convertible_v<bytes &, mutable_bytes_view>);
+    static_assert(!std::is_convertible_v<bytes, mutable_bytes_view>);
+    static_assert(!std::is_convertible_v<const bytes &, mutable_bytes_view>);
+    static_assert(!std::is_convertible_v<bytes_view, mutable_bytes_view>);
+    static_assert(!std::is_convertible_v<std::string, bytes_view>);
+    static_assert(!std::is_convertible_v<std::vector<std::uint16_t>, bytes_view>);
+    static_assert(std::is_trivially_copyable_v<packet> && std::is_trivially_copyable_v<chunk>);
+    static_assert(noexcept(packet(vector).first_fault()) && noexcept(packet(vector).word()));
+    static_assert(noexcept(packet().header()) && noexcept(++packet().chunks().begin()));
+    static_assert(noexcept(packet().chunk_at(12)->as_data()) && noexcept(packet().chunk_at(12)->skipped_streams()));
+#ifdef __cpp_lib_span
+    const std::span<const std::uint8_t> span(vector);
+    CHECK(same(span, vector) && packet(span).size() == 3);
+    const std::span<const std::uint8_t> back = bytes_view(vector);
+    std::span<std::uint8_t> changeable(array);
+    const std::span<std::uint8_t> once_more = mutable_bytes_view(changeable);
+    CHECK(back.data() == vector.data() && back.size() == 3 && once_more.data() == array);
+#endif
+#ifdef __cpp_lib_ranges
+    using chunks = decltype(packet().chunks());
+    static_assert(std::ranges::forward_range<chunks> && std::ranges::view<chunks>);
+    static_assert(std::ranges::borrowed_range<chunks>);
+    static_assert(std::ranges::forward_range<gap_ack_blocks> && std::ranges::view<gap_ack_blocks>);
+    static_assert(std::ranges::contiguous_range<bytes_view> && std::ranges::view<bytes_view>);
+    const bytes two = sealed("0b000004 08000004");
+    CHECK(std::ranges::distance(packet(two).chunks()) == 2);
+    CHECK(std::ranges::count(packet(two).chunks(), chunk_type::shutdown_ack, &chunk::type) == 1);
+#endif
+    const bytes packets = sealed("0b000004 08000004");
+    auto at = packet(packets).chunks().begin();
+    const auto first = at++;
+    CHECK(first->type() == chunk_type::cookie_ack && at->type() == chunk_type::shutdown_ack && first != at);
+    CHECK(++at == packet(packets).chunks().end() && ++at == packet(packets).chunks().end());
+}
+
+std::size_t touched;
+
+void touch(bytes_view bytes)
+{
+    for (std::uint8_t byte : bytes)
+        touched += byte;
+}
+
+// Reads all that there is in any bytes.
+void read_all(bytes_view bytes)
+{
+    const packet it(bytes);
+    touch(bytes);
+    touched += it.first_fault({true, false, true}).has_value() + it.header().has_value();
+    for (chunk chunk : it.chunks()) {
+        touch(chunk.value());
+        if (auto data = chunk.as_data())
+            touch(data->payload);
+        for (gap_ack_block block : chunk.gap_ack_blocks())
+            touched += block.start;
+        for (std::uint32_t tsn : chunk.duplicate_tsns())
+            touched += tsn;
+        for (skipped_stream stream : chunk.skipped_streams())
+            touched += stream.mid;
+        for (parameter parameter : chunk.parameters()) {
+            touch(parameter.value());
+            touched += parameter.as_number().has_value() + parameter.as_re_config().has_value();
+            for (std::uint16_t stream : parameter.reset_streams())
+                touched += stream;
+        }
+        for (cause cause : chunk.causes()) {
+            touch(cause.value());
+            for (std::uint16_t type : cause.missing_parameters())
+                touched += type;
+        }
+    }
+}
+
+// Bytes of the length that they have: a sanitizer sees what is read after them.
+void any_bytes()
+{
+    std::uint32_t state = 1;
+    const auto random = [&] { return state = state * 1664525 + 1013904223; };
+    const bytes whole = sealed("0300001c 0000000a 00010000 0002 0001 0002 0003 0005 0005 00000009"
+                               "000b0013 01020304 0005 0006 00000033 616263 00"
+                               "82000018 000d 0014 00000001 00000002 00000003 0004 0005"
+                               "0900002b  0002 000a 00000001 0007 0000  0009 0008 00000005  0006 0008 7f000004"
+                               "000a 0004  000d 0007 626164 00 c2000010 0000000a 0001 0001 00000002");
+    for (std::size_t size = 0; size <= whole.size(); size++)
+        for (int round = 0; round < 20; round++) {
+            std::unique_ptr<std::uint8_t[]> part(new std::uint8_t[size]);
+            std::copy_n(whole.begin(), size, part.get());
+            for (int changes = round; changes > 0 && size > 0; changes--)
+                part[(random() >> 8) % size] = static_cast<std::uint8_t>(random() >> 24);
+            read_all({part.get(), size});
+        }
+    CHECK(touched > 0);
+
+    const std::size_t before = allocations;
+    std::array<std::uint8_t, 100> buffer;
+    builder to(buffer, 1, 2, 3);
+    read_all(whole);
+    const bool wrote = to.add_cookie_echo(whole) || (to.add_cookie_ack() && to.seal());
+    CHECK(wrote && allocations == before);
+}
+
+} // namespace
+
+int main()
+{
+    data_chunks();
+    sacks();
+    inits();
+    small_chunks();
+    causes();
+    re_configs();
+    forward_tsns();
+    whole_packets();
+    faults();
+    builders();
+    names();
+    views();
+    any_bytes();
+    std::printf("cpp: %d passed, %d failed\n", passed, failed);
+    return failed != 0;
+}

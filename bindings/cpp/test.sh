@@ -1,0 +1,55 @@
+#!/usr/bin/env bash
+# usage: bindings/cpp/test.sh [DIST]
+#
+# Builds test.cc with g++ and clang++, those that are there, as C++17 and C++20, with the sanitizers, over the text in the
+# folder DIST (else the repository's dist/), and runs it; show.cc and the README's program as well, as C++17; all with every
+# warning as an error. Looks whether dcsctp.hpp calls each function of dcsctp.h. Stops at the first that fails.
+set -eu -o pipefail
+cd "$(dirname "$0")"
+dist=${1:-../../dist}
+text=$dist/dcsctp-$(uname -m)-elf.s
+for file in "$dist/dcsctp.h" "$text"; do
+    [ -f "$file" ] || { echo "bindings/cpp: there is no $file; dist/make.py makes it" >&2 && exit 1; }
+done
+work=$(mktemp -d)
+trap 'rm -rf "$work"' EXIT
+
+# Comments and the names of structs aside, each function has to be called.
+functions=$(sed -E ':a; s%/\*.*\*/%%; /\/\*/{N; ba}' "$dist/dcsctp.h" | grep -oE '\bdcsctp_[a-z_]+\(' | sort -u)
+[ "$(wc -l <<<"$functions")" -ge 50 ] || { echo "bindings/cpp: $dist/dcsctp.h has too few functions" >&2 && exit 1; }
+sed 's%//.*%%' dcsctp.hpp >"$work/code"
+for function in $functions; do
+    grep -qE "::${function%(}(\(|[,>)])" "$work/code" ||
+        { echo "bindings/cpp: dcsctp.hpp never calls ${function%(}" >&2 && exit 1; }
+done
+
+{
+    printf '#include "dcsctp.hpp"\n#include <iostream>\nint main()\n{\n'
+    sed -n '/^```cpp$/,/^```$/{/^```/!p}' README.md
+    printf '}\n'
+} >"$work/readme.cc"
+printf 'INIT ACK: State Cookie\n' >"$work/readme.expected"
+
+flags=(-Wall -Wextra -Wpedantic -Wconversion -Wshadow -Werror -I . -I "$dist")
+sanitizers=(-g -fsanitize=address,undefined -fno-sanitize-recover=all)
+tried=0
+for compiler in g++ clang++; do
+    command -v "$compiler" >"$work/log" || { echo "bindings/cpp: left out, since it isn't here: $compiler" && continue; }
+    echo 'int main() {}' >"$work/probe.cc"
+    if ! { "$compiler" "${sanitizers[@]}" -o "$work/probe" "$work/probe.cc" && "$work/probe"; } >"$work/log" 2>&1; then
+        echo "bindings/cpp: $compiler has no sanitizers" && sanitizers=()
+    fi
+    for standard in 17 20; do
+        "$compiler" -std=c++$standard "${flags[@]}" "${sanitizers[@]}" -o "$work/test" test.cc "$text"
+        "$work/test"
+        tried=$((tried + 1))
+    done
+    "$compiler" -std=c++17 "${flags[@]}" -o "$work/readme" "$work/readme.cc" "$text"
+    "$work/readme" | diff - "$work/readme.expected"
+    "$compiler" -std=c++17 "${flags[@]}" -O2 -o "$work/show" show.cc "$text"
+    if [ -f ../../examples/packets.txt ]; then
+        "$work/show" ../../examples/packets.txt | diff - ../../examples/expected.txt
+    fi
+done
+echo "bindings/cpp: $tried builds of test.cc passed, and what show.cc and README.md print is right"
+[ "$tried" -gt 0 ]

@@ -1,0 +1,139 @@
+/* The calls of dcsctp.h with structs and sizes as values: what cgo passes the address of, Go has to keep on its heap. */
+#ifndef CALLS_H
+#define CALLS_H
+
+#include "dcsctp.h"
+
+/* ---- a whole packet */
+
+/* The word that the policy wants; it wants none where it accepts any checksum. */
+static inline uint32_t go_word(const uint8_t *bytes, size_t length, struct dcsctp_policy policy)
+{
+    return policy.any_checksum ? 0 : dcsctp_word(bytes, length);
+}
+
+static inline uint32_t go_check(const uint8_t *bytes, size_t length, struct dcsctp_policy policy)
+{
+    return dcsctp_check(bytes, length, go_word(bytes, length, policy), &policy);
+}
+
+/* A code, and the offset or the size that the call wrote. */
+struct go_result {
+    uint32_t code;
+    size_t size;
+};
+
+static inline struct go_result go_first_fault(const uint8_t *bytes, size_t length, struct dcsctp_policy policy)
+{
+    struct go_result result = {0, 0};
+    result.code = dcsctp_first_fault(bytes, length, go_word(bytes, length, policy), &policy, &result.size);
+    return result;
+}
+
+#define WRITES_PACKET(name)                                                                                            \
+    static inline struct go_result go_##name(const uint8_t *bytes, size_t length, uint32_t word,                       \
+                                             struct dcsctp_policy policy, uint8_t *output, size_t room)                \
+    {                                                                                                                  \
+        struct go_result result = {0, 0};                                                                              \
+        result.code = dcsctp_##name(bytes, length, word, &policy, output, room, &result.size);                         \
+        return result;                                                                                                 \
+    }
+WRITES_PACKET(canonical)
+WRITES_PACKET(print)
+WRITES_PACKET(report)
+
+/* ---- the parts of a packet */
+
+/* A value, if it is there; and `type go_NAME(..)`, which reads it. */
+#define READS(name, type, parameters, ...)                                                                             \
+    struct go_##name {                                                                                                 \
+        bool is_there;                                                                                                 \
+        type it;                                                                                                       \
+    };                                                                                                                 \
+    static inline struct go_##name go_##name parameters                                                                \
+    {                                                                                                                  \
+        struct go_##name result = {0};                                                                                 \
+        result.is_there = dcsctp_##name(bytes, length, __VA_ARGS__, &result.it);                                       \
+        return result;                                                                                                 \
+    }
+#define OF_CHUNK (const uint8_t *bytes, size_t length, struct dcsctp_chunk chunk)
+#define OF_CHUNK_AT (const uint8_t *bytes, size_t length, struct dcsctp_chunk chunk, size_t at)
+#define OF_ITEM (const uint8_t *bytes, size_t length, struct dcsctp_parameter item)
+#define OF_ITEM_AT (const uint8_t *bytes, size_t length, struct dcsctp_parameter item, size_t at)
+
+READS(chunk_at, struct dcsctp_chunk, (const uint8_t *bytes, size_t length, size_t offset), offset)
+READS(data, struct dcsctp_data, OF_CHUNK, &chunk)
+READS(sack, struct dcsctp_sack, OF_CHUNK, &chunk)
+READS(gap_ack_block, struct dcsctp_gap_ack_block, OF_CHUNK_AT, &chunk, at)
+READS(duplicate_tsn, uint32_t, OF_CHUNK_AT, &chunk, at)
+READS(init, struct dcsctp_init, OF_CHUNK, &chunk)
+READS(shutdown, uint32_t, OF_CHUNK, &chunk)
+READS(forward_tsn, struct dcsctp_forward_tsn, OF_CHUNK, &chunk)
+READS(skipped_stream, struct dcsctp_skipped_stream, OF_CHUNK_AT, &chunk, at)
+READS(parameter_at, struct dcsctp_parameter, OF_CHUNK_AT, &chunk, at)
+READS(number, uint32_t, OF_ITEM, &item)
+READS(re_config, struct dcsctp_re_config, OF_ITEM, &item)
+READS(reset_stream, uint16_t, OF_ITEM_AT, &item, at)
+READS(missing_parameter, uint16_t, OF_ITEM_AT, &item, at)
+
+struct go_header {
+    bool is_there;
+    struct dcsctp_header it;
+};
+
+static inline struct go_header go_header(const uint8_t *bytes, size_t length)
+{
+    struct go_header result = {0};
+    result.is_there = dcsctp_header(bytes, length, &result.it);
+    return result;
+}
+
+static inline bool go_validate_sack(const uint8_t *bytes, size_t length, struct dcsctp_chunk chunk)
+{
+    return dcsctp_validate_sack(bytes, length, &chunk);
+}
+
+/* ---- writing: each takes the size of the packet, and returns the code and the size after it */
+
+#define TO uint8_t *packet, size_t room, size_t size
+#define ADD(name, parameters, ...)                                                                                     \
+    static inline struct go_result go_##name parameters                                                                \
+    {                                                                                                                  \
+        struct go_result result = {0, size};                                                                           \
+        result.code = dcsctp_##name(packet, room, &result.size, __VA_ARGS__);                                          \
+        return result;                                                                                                 \
+    }
+#define ADD_ALONE(name)                                                                                                \
+    static inline struct go_result go_##name(TO)                                                                       \
+    {                                                                                                                  \
+        struct go_result result = {0, size};                                                                           \
+        result.code = dcsctp_##name(packet, room, &result.size);                                                       \
+        return result;                                                                                                 \
+    }
+
+ADD(begin, (TO, uint16_t source_port, uint16_t destination_port, uint32_t tag), source_port, destination_port, tag)
+ADD(add_chunk, (TO, uint8_t type, uint8_t flags, const uint8_t *value, size_t count), type, flags, value, count)
+ADD(add_data, (TO, struct dcsctp_data data, const uint8_t *payload, size_t count), &data, payload, count)
+ADD(add_i_data, (TO, struct dcsctp_data data, const uint8_t *payload, size_t count), &data, payload, count)
+ADD(add_sack,
+    (TO, uint32_t tsn, uint32_t a_rwnd, const struct dcsctp_gap_ack_block *blocks, size_t block_count,
+     const uint32_t *duplicates, size_t duplicate_count),
+    tsn, a_rwnd, blocks, block_count, duplicates, duplicate_count)
+ADD(add_init, (TO, struct dcsctp_init init), &init)
+ADD(add_init_ack, (TO, struct dcsctp_init init), &init)
+ADD(add_cookie_echo, (TO, const uint8_t *cookie, size_t count), cookie, count)
+ADD_ALONE(add_cookie_ack)
+ADD(add_heartbeat, (TO, bool is_ack, const uint8_t *info, size_t count), is_ack, info, count)
+ADD(add_abort, (TO, bool tag_reflected, const uint8_t *reason, size_t count), tag_reflected, reason, count)
+ADD(add_shutdown, (TO, uint32_t tsn), tsn)
+ADD_ALONE(add_shutdown_ack)
+ADD(add_shutdown_complete, (TO, bool tag_reflected), tag_reflected)
+ADD(add_forward_tsn, (TO, uint32_t tsn, const struct dcsctp_skipped_stream *streams, size_t count), tsn, streams, count)
+ADD(add_i_forward_tsn, (TO, uint32_t tsn, const struct dcsctp_skipped_stream *streams, size_t count), tsn, streams, count)
+ADD(add_parameter, (TO, size_t start, uint16_t type, const uint8_t *value, size_t count), start, type, value, count)
+ADD(add_number, (TO, size_t start, uint16_t type, uint32_t number), start, type, number)
+ADD(add_re_config, (TO, size_t start, struct dcsctp_re_config re_config, const uint16_t *streams, size_t count), start,
+    &re_config, streams, count)
+ADD(add_missing_parameters, (TO, size_t start, const uint16_t *types, size_t count), start, types, count)
+
+#endif

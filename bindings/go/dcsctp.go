@@ -1,0 +1,292 @@
+// Package dcsctp reads, checks, prints and writes SCTP packets (RFC 9260): the wire layer of an association, whose
+// timers, streams and retransmission are yours. It calls code that proved sources compile to, which lies in this folder
+// as assembly text and is linked by cgo; dist/README.md says what is proved of it, and docs/C.md more of each call.
+//
+//	packet := dcsctp.Packet(bytes)
+//	if err := packet.Check(dcsctp.Policy{}); err != nil {
+//		return err // dcsctp: wrong checksum at byte 8
+//	}
+//	for chunks := packet.Chunks(); chunks.Next(); {
+//		if data, ok := chunks.Value().Data(); ok {
+//			receive(data.Stream, data.TSN, data.Payload)
+//		}
+//	}
+//
+// Nothing panics, whatever the bytes are. Bytes begin at the source port. What is read (values, payloads) are slices of
+// the packet's bytes, and not copied. Any number of goroutines may read the same packet.
+package dcsctp
+
+// #include "calls.h"
+import "C"
+
+import (
+	"fmt"
+	"unsafe"
+)
+
+// A Code says why a call failed; it is an error, and what errors.Is compares an error of this package with.
+type Code uint32
+
+// The codes: the faults of bytes that are no packet, and why nothing was written.
+const (
+	// ErrSize: the bytes are fewer than 16, or more than 65,535.
+	ErrSize Code = C.DCSCTP_FAULT_SIZE
+	// ErrChecksum: the policy does not accept the checksum field.
+	ErrChecksum Code = C.DCSCTP_FAULT_CHECKSUM
+	// ErrLength: a chunk, a parameter or an error cause has a wrong length.
+	ErrLength Code = C.DCSCTP_FAULT_LENGTH
+	// ErrValue: a RE-CONFIG response has an unknown result.
+	ErrValue Code = C.DCSCTP_FAULT_VALUE
+	// ErrPadding: padding is missing or not zero; only under a strict policy.
+	ErrPadding Code = C.DCSCTP_FAULT_PADDING
+	// ErrNoMemory: the bytes are a packet, but an allocation of C failed.
+	ErrNoMemory Code = C.DCSCTP_NO_MEMORY
+	// ErrNoRoom: the packet would have more bytes than the buffer, or than 65,532.
+	ErrNoRoom Code = C.DCSCTP_NO_ROOM
+	// ErrTooLong: the canonical packet would have more than 65,532 bytes.
+	ErrTooLong Code = C.DCSCTP_TOO_LONG
+	// ErrBadValue: a chunk would have more than 65,535 bytes, or a value can't be written.
+	ErrBadValue Code = C.DCSCTP_BAD_VALUE
+	// ErrBadPlace: there is no packet of at least 12 bytes, or no chunk to add to.
+	ErrBadPlace Code = C.DCSCTP_BAD_PLACE
+)
+
+// Error returns what the code means, in a few words.
+func (code Code) Error() string {
+	return "dcsctp: " + C.GoString(C.dcsctp_result_text(C.uint32_t(code)))
+}
+
+// An Error is the first fault of bytes that are no packet. It wraps its Code, for errors.Is.
+type Error struct {
+	Code   Code
+	Offset int // where the fault is; of ErrSize how many bytes there are, at most 65,535
+}
+
+// Error returns what the code means, and the offset.
+func (e *Error) Error() string { return fmt.Sprintf("%v at byte %d", e.Code, e.Offset) }
+
+// Unwrap returns the code.
+func (e *Error) Unwrap() error { return e.Code }
+
+// errorOf returns the error of a code, nil for success.
+func errorOf(code C.uint32_t) error {
+	if code == C.DCSCTP_OK {
+		return nil
+	}
+	return Code(code)
+}
+
+// Version returns the version of the library, as MAJOR.MINOR.PATCH.
+func Version() string { return C.GoString(C.dcsctp_version()) }
+
+// VersionNumber returns 65,536 times the major version, 256 times the minor one, and the patch.
+func VersionNumber() uint32 { return uint32(C.dcsctp_version_number()) }
+
+// A ChunkType is the type of a chunk (RFC 9260 section 3.2). It may be another number than those below.
+type ChunkType uint8
+
+// Types of chunks: of RFC 9260; I-DATA and I-FORWARD-TSN of RFC 8260, RE-CONFIG of RFC 6525, FORWARD-TSN of RFC 3758.
+const (
+	ChunkData             ChunkType = C.DCSCTP_CHUNK_DATA
+	ChunkInit             ChunkType = C.DCSCTP_CHUNK_INIT
+	ChunkInitAck          ChunkType = C.DCSCTP_CHUNK_INIT_ACK
+	ChunkSACK             ChunkType = C.DCSCTP_CHUNK_SACK
+	ChunkHeartbeat        ChunkType = C.DCSCTP_CHUNK_HEARTBEAT
+	ChunkHeartbeatAck     ChunkType = C.DCSCTP_CHUNK_HEARTBEAT_ACK
+	ChunkAbort            ChunkType = C.DCSCTP_CHUNK_ABORT
+	ChunkShutdown         ChunkType = C.DCSCTP_CHUNK_SHUTDOWN
+	ChunkShutdownAck      ChunkType = C.DCSCTP_CHUNK_SHUTDOWN_ACK
+	ChunkError            ChunkType = C.DCSCTP_CHUNK_ERROR
+	ChunkCookieEcho       ChunkType = C.DCSCTP_CHUNK_COOKIE_ECHO
+	ChunkCookieAck        ChunkType = C.DCSCTP_CHUNK_COOKIE_ACK
+	ChunkShutdownComplete ChunkType = C.DCSCTP_CHUNK_SHUTDOWN_COMPLETE
+	ChunkIData            ChunkType = C.DCSCTP_CHUNK_I_DATA
+	ChunkReConfig         ChunkType = C.DCSCTP_CHUNK_RE_CONFIG
+	ChunkForwardTSN       ChunkType = C.DCSCTP_CHUNK_FORWARD_TSN
+	ChunkIForwardTSN      ChunkType = C.DCSCTP_CHUNK_I_FORWARD_TSN
+)
+
+// String returns the name that the RFCs have; "unknown" for a type that has no constant here.
+func (t ChunkType) String() string { return C.GoString(C.dcsctp_chunk_name(C.uint8_t(t))) }
+
+// TagReflected is the flag of ABORT and SHUTDOWN COMPLETE, the T bit: the verification tag isn't the one that the receiver
+// expects, but the one that it writes into its own packets, sent back to it (section 8.5.1). Chunk.IsTagReflected looks at
+// the type first.
+const TagReflected = C.DCSCTP_TAG_REFLECTED
+
+// A ParameterType is the type of a parameter (section 3.2.1). It may be another number than those below.
+type ParameterType uint16
+
+// Types of parameters.
+const (
+	ParameterHeartbeatInfo           ParameterType = C.DCSCTP_PARAMETER_HEARTBEAT_INFO
+	ParameterStateCookie             ParameterType = C.DCSCTP_PARAMETER_STATE_COOKIE
+	ParameterUnrecognizedParameter   ParameterType = C.DCSCTP_PARAMETER_UNRECOGNIZED_PARAMETER
+	ParameterOutgoingSSNReset        ParameterType = C.DCSCTP_PARAMETER_OUTGOING_SSN_RESET
+	ParameterIncomingSSNReset        ParameterType = C.DCSCTP_PARAMETER_INCOMING_SSN_RESET
+	ParameterSSNTSNReset             ParameterType = C.DCSCTP_PARAMETER_SSN_TSN_RESET
+	ParameterReconfigurationResponse ParameterType = C.DCSCTP_PARAMETER_RECONFIGURATION_RESPONSE
+	ParameterAddOutgoingStreams      ParameterType = C.DCSCTP_PARAMETER_ADD_OUTGOING_STREAMS
+	ParameterAddIncomingStreams      ParameterType = C.DCSCTP_PARAMETER_ADD_INCOMING_STREAMS
+	ParameterZeroChecksumAcceptable  ParameterType = C.DCSCTP_PARAMETER_ZERO_CHECKSUM_ACCEPTABLE
+	ParameterSupportedExtensions     ParameterType = C.DCSCTP_PARAMETER_SUPPORTED_EXTENSIONS
+	ParameterForwardTSNSupported     ParameterType = C.DCSCTP_PARAMETER_FORWARD_TSN_SUPPORTED
+)
+
+// String returns the name that the RFCs have; "unknown" for a type that has no constant here.
+func (t ParameterType) String() string { return C.GoString(C.dcsctp_parameter_name(C.uint16_t(t))) }
+
+// A CauseCode is the code of an error cause (section 3.3.10). It may be another number than those below.
+type CauseCode uint16
+
+// Codes of error causes.
+const (
+	CauseInvalidStreamIdentifier         CauseCode = C.DCSCTP_CAUSE_INVALID_STREAM_IDENTIFIER
+	CauseMissingMandatoryParameter       CauseCode = C.DCSCTP_CAUSE_MISSING_MANDATORY_PARAMETER
+	CauseStaleCookie                     CauseCode = C.DCSCTP_CAUSE_STALE_COOKIE
+	CauseOutOfResource                   CauseCode = C.DCSCTP_CAUSE_OUT_OF_RESOURCE
+	CauseUnresolvableAddress             CauseCode = C.DCSCTP_CAUSE_UNRESOLVABLE_ADDRESS
+	CauseUnrecognizedChunk               CauseCode = C.DCSCTP_CAUSE_UNRECOGNIZED_CHUNK
+	CauseInvalidMandatoryParameter       CauseCode = C.DCSCTP_CAUSE_INVALID_MANDATORY_PARAMETER
+	CauseUnrecognizedParameters          CauseCode = C.DCSCTP_CAUSE_UNRECOGNIZED_PARAMETERS
+	CauseNoUserData                      CauseCode = C.DCSCTP_CAUSE_NO_USER_DATA
+	CauseCookieReceivedWhileShuttingDown CauseCode = C.DCSCTP_CAUSE_COOKIE_RECEIVED_WHILE_SHUTTING_DOWN
+	CauseRestartWithNewAddresses         CauseCode = C.DCSCTP_CAUSE_RESTART_WITH_NEW_ADDRESSES
+	CauseUserInitiatedAbort              CauseCode = C.DCSCTP_CAUSE_USER_INITIATED_ABORT
+	CauseProtocolViolation               CauseCode = C.DCSCTP_CAUSE_PROTOCOL_VIOLATION
+)
+
+// String returns the name that the RFCs have; "unknown" for a code that has no constant here.
+func (c CauseCode) String() string { return C.GoString(C.dcsctp_cause_name(C.uint16_t(c))) }
+
+// A ReConfigResult is the result of a response of RE-CONFIG (RFC 6525 section 4.4).
+type ReConfigResult uint32
+
+// The results; a response with another one is no packet.
+const (
+	ReConfigNothingToDo       ReConfigResult = C.DCSCTP_RE_CONFIG_NOTHING_TO_DO
+	ReConfigPerformed         ReConfigResult = C.DCSCTP_RE_CONFIG_PERFORMED
+	ReConfigDenied            ReConfigResult = C.DCSCTP_RE_CONFIG_DENIED
+	ReConfigWrongSSN          ReConfigResult = C.DCSCTP_RE_CONFIG_WRONG_SSN
+	ReConfigAlreadyInProgress ReConfigResult = C.DCSCTP_RE_CONFIG_ALREADY_IN_PROGRESS
+	ReConfigBadSequenceNumber ReConfigResult = C.DCSCTP_RE_CONFIG_BAD_SEQUENCE_NUMBER
+	ReConfigInProgress        ReConfigResult = C.DCSCTP_RE_CONFIG_IN_PROGRESS
+)
+
+// A Header is the common header (section 3.1).
+type Header struct {
+	SourcePort      uint16
+	DestinationPort uint16
+	VerificationTag uint32
+	Checksum        uint32 // bytes 8 to 11, most significant byte first
+}
+
+// Data is the user data of DATA (section 3.3.1) or I-DATA (RFC 8260 section 2.1). What the kind does not carry is 0. A
+// whole message is its beginning and its end.
+type Data struct {
+	TSN          uint32
+	MID          uint32 // of I-DATA
+	FSN          uint32 // of I-DATA that isn't the beginning of a message
+	PPID         uint32 // of DATA, and of I-DATA that is the beginning of a message
+	Stream       uint16
+	SSN          uint16 // of DATA
+	IsUnordered  bool
+	IsBeginning  bool
+	IsEnd        bool
+	ImmediateAck bool
+	Payload      []byte // where it lies in the packet
+}
+
+// SACK has the numbers of a SACK (section 3.3.4).
+type SACK struct {
+	CumulativeTSNAck uint32
+	ARwnd            uint32 // the advertised receiver window credit, in bytes
+	BlockCount       int
+	DuplicateCount   int
+}
+
+// A GapAckBlock is a block of TSNs that came, as offsets from the cumulative TSN.
+type GapAckBlock struct {
+	Start uint16
+	End   uint16 // the last one
+}
+
+// Init has the numbers of INIT (section 3.3.2) or INIT ACK (section 3.3.3).
+type Init struct {
+	InitiateTag     uint32
+	ARwnd           uint32 // the advertised receiver window credit, in bytes
+	OutboundStreams uint16
+	InboundStreams  uint16
+	InitialTSN      uint32
+}
+
+// ForwardTSN has the numbers of FORWARD-TSN (RFC 3758 section 3.2) or I-FORWARD-TSN (RFC 8260 section 2.3.1).
+type ForwardTSN struct {
+	NewCumulativeTSN uint32
+	StreamCount      int
+}
+
+// A SkippedStream is a stream of FORWARD-TSN or I-FORWARD-TSN. What the kind does not carry is 0.
+type SkippedStream struct {
+	Stream      uint16
+	SSN         uint16 // of FORWARD-TSN
+	MID         uint32 // of I-FORWARD-TSN
+	IsUnordered bool   // of I-FORWARD-TSN
+}
+
+// ReConfig is a request or the response of RE-CONFIG (RFC 6525 section 4). What the kind does not carry is 0.
+type ReConfig struct {
+	Type          ParameterType
+	RequestNumber uint32 // of a request
+	// ResponseNumber is, of a response, the number of its request; of an Outgoing SSN Reset, that of the Incoming SSN Reset
+	// that it answers, or else of the last request that came.
+	ResponseNumber  uint32
+	LastTSN         uint32         // of an Outgoing SSN Reset: the last TSN that its sender used
+	Result          ReConfigResult // of a response
+	HasNextTSNs     bool           // of a response: whether it has the next two
+	SenderNextTSN   uint32
+	ReceiverNextTSN uint32
+	NewStreams      uint16 // of Add Outgoing Streams and Add Incoming Streams
+	StreamCount     int    // of an Outgoing or Incoming SSN Reset; writing ignores it
+}
+
+// These have the layout of C, whose slices are passed as they are: the next one begins at the size of C.
+var (
+	_ [unsafe.Offsetof(twoBlocks{}.other)]byte           = [C.sizeof_struct_dcsctp_gap_ack_block]byte{}
+	_ [unsafe.Offsetof(GapAckBlock{}.End)]byte           = [unsafe.Offsetof(C.struct_dcsctp_gap_ack_block{}.end)]byte{}
+	_ [unsafe.Offsetof(twoStreams{}.other)]byte          = [C.sizeof_struct_dcsctp_skipped_stream]byte{}
+	_ [unsafe.Offsetof(SkippedStream{}.SSN)]byte         = [unsafe.Offsetof(cStream{}.ssn)]byte{}
+	_ [unsafe.Offsetof(SkippedStream{}.MID)]byte         = [unsafe.Offsetof(cStream{}.mid)]byte{}
+	_ [unsafe.Offsetof(SkippedStream{}.IsUnordered)]byte = [unsafe.Offsetof(cStream{}.is_unordered)]byte{}
+)
+
+type (
+	twoBlocks  struct{ one, other GapAckBlock }
+	twoStreams struct{ one, other SkippedStream }
+	cStream    = C.struct_dcsctp_skipped_stream
+)
+
+// CleanBlocks brings gap ack blocks into order, joins those that overlap or touch, and drops those that end before their
+// start: what it returns are the fewest blocks that cover the same offsets. They are at the front of the slice, which it
+// changes.
+func CleanBlocks(blocks []GapAckBlock) []GapAckBlock {
+	return blocks[:C.dcsctp_clean_blocks(blocksOf(blocks), C.size_t(len(blocks)))]
+}
+
+// first returns where a slice's items begin, in C; null where there are none.
+func first[T any](items []T) unsafe.Pointer {
+	if len(items) == 0 {
+		return nil
+	}
+	return unsafe.Pointer(&items[0])
+}
+
+func bytesOf(bytes []byte) *C.uint8_t { return (*C.uint8_t)(first(bytes)) }
+
+func blocksOf(blocks []GapAckBlock) *C.struct_dcsctp_gap_ack_block {
+	return (*C.struct_dcsctp_gap_ack_block)(first(blocks))
+}
+
+func streamsOf(streams []SkippedStream) *C.struct_dcsctp_skipped_stream {
+	return (*C.struct_dcsctp_skipped_stream)(first(streams))
+}

@@ -1,0 +1,1 @@
+../../dist/dcsctp-x86_64-coff.s

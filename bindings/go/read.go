@@ -1,0 +1,441 @@
+package dcsctp
+
+// #include "calls.h"
+import "C"
+
+// FirstChunk is the offset of a packet's first chunk: the size of the common header.
+const FirstChunk = C.DCSCTP_FIRST_CHUNK
+
+// A Policy says which checksum fields are accepted, and whether padding is checked. The zero value is what a socket takes:
+// the field has to be the CRC32c, and padding is ignored.
+type Policy struct {
+	// AnyChecksum accepts every checksum field, and computes no CRC32c: for captures whose checksums a network card
+	// filled in later, and where you have compared Header.Checksum with a CRC32c of your own.
+	AnyChecksum bool
+	// ZeroChecksum accepts a field of zero as well, for an association that negotiated it (RFC 9653).
+	ZeroChecksum bool
+	// StrictPadding wants padding to be complete and zero.
+	StrictPadding bool
+}
+
+func (policy Policy) c() C.struct_dcsctp_policy {
+	return C.struct_dcsctp_policy{
+		any_checksum:   C.bool(policy.AnyChecksum),
+		zero_checksum:  C.bool(policy.ZeroChecksum),
+		strict_padding: C.bool(policy.StrictPadding),
+	}
+}
+
+// A Packet has the bytes of a packet, from the source port on; or bytes of which Check says that they are none.
+type Packet []byte
+
+// Check returns nil if the bytes are a packet, and else an *Error: the first fault, and where it is. The size is checked
+// first, then the checksum, then the chunks from the left. It says nothing of the association: docs/C.md has what is still
+// to be compared.
+func (p Packet) Check(policy Policy) error {
+	result := C.go_first_fault(bytesOf(p), C.size_t(len(p)), policy.c())
+	if result.code == C.DCSCTP_OK {
+		return nil
+	}
+	return &Error{Code(result.code), int(result.size)}
+}
+
+// IsValid returns whether Check returns nil.
+func (p Packet) IsValid(policy Policy) bool {
+	return C.go_check(bytesOf(p), C.size_t(len(p)), policy.c()) == C.DCSCTP_OK
+}
+
+// Word computes what the checksum field has to be (section 6.8): the packet's CRC32c over zeros in the field, as the number
+// that Header.Checksum has to be. For fewer than 12 bytes it has no meaning.
+func (p Packet) Word() uint32 { return uint32(C.dcsctp_word(bytesOf(p), C.size_t(len(p)))) }
+
+// Print returns the packet's text: a line for the header and one for each chunk, with no line feed at the end. The error is
+// that of Check, or ErrNoMemory.
+func (p Packet) Print(policy Policy) (string, error) {
+	text, err := p.write(policy, func(word C.uint32_t, output []byte) C.struct_go_result {
+		return C.go_print(bytesOf(p), C.size_t(len(p)), word, policy.c(), bytesOf(output), C.size_t(len(output)))
+	})
+	return string(text), err
+}
+
+// Report returns all that the packet holds, as `sctp_dump --payload` prints it: each line ends in a line feed, and what is
+// inside of something is two blanks deeper. The error is that of Check, or ErrNoMemory.
+func (p Packet) Report(policy Policy) (string, error) {
+	text, err := p.write(policy, func(word C.uint32_t, output []byte) C.struct_go_result {
+		return C.go_report(bytesOf(p), C.size_t(len(p)), word, policy.c(), bytesOf(output), C.size_t(len(output)))
+	})
+	return string(text), err
+}
+
+// Canonical returns the canonical packet, in memory of its own: two packets have the same one if and only if they mean the
+// same. Its checksum is 0. The error is that of Check, ErrNoMemory or ErrTooLong.
+func (p Packet) Canonical(policy Policy) ([]byte, error) {
+	return p.write(policy, func(word C.uint32_t, output []byte) C.struct_go_result {
+		return C.go_canonical(bytesOf(p), C.size_t(len(p)), word, policy.c(), bytesOf(output), C.size_t(len(output)))
+	})
+}
+
+// write calls a function for the size that it needs, and then for what it writes.
+func (p Packet) write(policy Policy, call func(C.uint32_t, []byte) C.struct_go_result) ([]byte, error) {
+	var word C.uint32_t
+	if !policy.AnyChecksum {
+		word = C.dcsctp_word(bytesOf(p), C.size_t(len(p)))
+	}
+	result := call(word, nil)
+	if result.code == C.DCSCTP_NO_ROOM {
+		output := make([]byte, result.size)
+		if result = call(word, output); result.code == C.DCSCTP_OK {
+			return output[:result.size], nil
+		}
+	}
+	if err := p.Check(policy); err != nil {
+		return nil, err
+	}
+	return nil, errorOf(result.code)
+}
+
+// Header reads the common header; false for fewer than 12 bytes.
+func (p Packet) Header() (Header, bool) {
+	read := C.go_header(bytesOf(p), C.size_t(len(p)))
+	it := read.it
+	return Header{
+		SourcePort:      uint16(it.source_port),
+		DestinationPort: uint16(it.destination_port),
+		VerificationTag: uint32(it.verification_tag),
+		Checksum:        uint32(it.checksum),
+	}, bool(read.is_there)
+}
+
+// Seal writes the CRC32c into the checksum field; ErrBadPlace for fewer than 12 bytes.
+func (p Packet) Seal() error { return errorOf(C.dcsctp_seal(bytesOf(p), C.size_t(len(p)))) }
+
+// SetTag writes the verification tag; seal the packet after it. ErrBadPlace for fewer than 12 bytes.
+func (p Packet) SetTag(verificationTag uint32) error {
+	return errorOf(C.dcsctp_set_tag(bytesOf(p), C.size_t(len(p)), C.uint32_t(verificationTag)))
+}
+
+// An Iterator goes over what a packet, a chunk or a parameter lists, and reads one after the other:
+//
+//	for chunks := packet.Chunks(); chunks.Next(); {
+//		use(chunks.Value())
+//	}
+//
+// or, from Go 1.23 on, `for chunk := range packet.Chunks().All`.
+type Iterator[T any] struct {
+	read  func() (T, bool)
+	value T
+}
+
+// Next reads the next one, and returns whether there is one.
+func (it *Iterator[T]) Next() bool {
+	value, isThere := it.read()
+	if isThere {
+		it.value = value
+	}
+	return isThere
+}
+
+// Value returns what Next has read last.
+func (it *Iterator[T]) Value() T { return it.value }
+
+// All calls a function for each of those that are left, as long as it returns true.
+func (it *Iterator[T]) All(yield func(T) bool) {
+	for it.Next() && yield(it.value) {
+	}
+}
+
+// Slice returns those that are left.
+func (it *Iterator[T]) Slice() []T {
+	var all []T
+	for it.Next() {
+		all = append(all, it.value)
+	}
+	return all
+}
+
+// byIndex goes over what is read by an index, from 0 on.
+func byIndex[T any](read func(index C.size_t) (T, bool)) *Iterator[T] {
+	var next C.size_t
+	return &Iterator[T]{read: func() (T, bool) {
+		value, isThere := read(next)
+		if isThere {
+			next++
+		}
+		return value, isThere
+	}}
+}
+
+// part returns bytes of a packet; nil where they aren't there.
+func (p Packet) part(offset, size C.size_t) []byte {
+	if length := C.size_t(len(p)); offset > length || size > length-offset {
+		return nil
+	}
+	return p[offset : offset+size : offset+size]
+}
+
+// A Chunk is a chunk of a packet (section 3.2), where it lies.
+type Chunk struct {
+	Type       ChunkType
+	Flags      uint8
+	Value      []byte // what follows its header of four bytes, without padding
+	Offset     int    // where it begins in the packet
+	NextOffset int    // where the next one begins
+	packet     Packet
+	c          C.struct_dcsctp_chunk
+}
+
+// Chunks goes over the chunks. If the bytes are a packet, these are all; else they end where there is no whole chunk.
+func (p Packet) Chunks() *Iterator[Chunk] {
+	next := FirstChunk
+	return &Iterator[Chunk]{read: func() (Chunk, bool) {
+		chunk, isThere := p.ChunkAt(next)
+		if isThere {
+			next = chunk.NextOffset
+		}
+		return chunk, isThere
+	}}
+}
+
+// ChunkAt reads the chunk at an offset; false where no whole chunk is.
+func (p Packet) ChunkAt(offset int) (Chunk, bool) {
+	read := C.go_chunk_at(bytesOf(p), C.size_t(len(p)), C.size_t(offset))
+	if !read.is_there {
+		return Chunk{}, false
+	}
+	return Chunk{
+		Type:       ChunkType(read.it._type),
+		Flags:      uint8(read.it.flags),
+		Value:      p.part(read.it.value_offset, read.it.value_size),
+		Offset:     offset,
+		NextOffset: int(read.it.next),
+		packet:     p,
+		c:          read.it,
+	}, true
+}
+
+func (chunk Chunk) bytes() (*C.uint8_t, C.size_t) {
+	return bytesOf(chunk.packet), C.size_t(len(chunk.packet))
+}
+
+// IsTagReflected returns whether it is an ABORT or a SHUTDOWN COMPLETE with the flag TagReflected.
+func (chunk Chunk) IsTagReflected() bool {
+	return (chunk.Type == ChunkAbort || chunk.Type == ChunkShutdownComplete) && chunk.Flags&TagReflected != 0
+}
+
+// Data reads DATA or I-DATA; false for another type.
+func (chunk Chunk) Data() (Data, bool) {
+	bytes, length := chunk.bytes()
+	read := C.go_data(bytes, length, chunk.c)
+	if !read.is_there {
+		return Data{}, false
+	}
+	it := read.it
+	return Data{
+		TSN:          uint32(it.tsn),
+		MID:          uint32(it.mid),
+		FSN:          uint32(it.fsn),
+		PPID:         uint32(it.ppid),
+		Stream:       uint16(it.stream),
+		SSN:          uint16(it.ssn),
+		IsUnordered:  bool(it.is_unordered),
+		IsBeginning:  bool(it.is_beginning),
+		IsEnd:        bool(it.is_end),
+		ImmediateAck: bool(it.immediate_ack),
+		Payload:      chunk.packet.part(it.payload_offset, it.payload_size),
+	}, true
+}
+
+// SACK reads the numbers of a SACK; false for another type.
+func (chunk Chunk) SACK() (SACK, bool) {
+	bytes, length := chunk.bytes()
+	read := C.go_sack(bytes, length, chunk.c)
+	return SACK{
+		CumulativeTSNAck: uint32(read.it.cumulative_tsn_ack),
+		ARwnd:            uint32(read.it.a_rwnd),
+		BlockCount:       int(read.it.block_count),
+		DuplicateCount:   int(read.it.duplicate_count),
+	}, bool(read.is_there)
+}
+
+// GapAckBlocks goes over the gap ack blocks of a SACK; another type has none.
+func (chunk Chunk) GapAckBlocks() *Iterator[GapAckBlock] {
+	bytes, length := chunk.bytes()
+	return byIndex(func(index C.size_t) (GapAckBlock, bool) {
+		read := C.go_gap_ack_block(bytes, length, chunk.c, index)
+		return GapAckBlock{Start: uint16(read.it.start), End: uint16(read.it.end)}, bool(read.is_there)
+	})
+}
+
+// DuplicateTSNs goes over the duplicate TSNs of a SACK; another type has none.
+func (chunk Chunk) DuplicateTSNs() *Iterator[uint32] {
+	bytes, length := chunk.bytes()
+	return byIndex(func(index C.size_t) (uint32, bool) {
+		read := C.go_duplicate_tsn(bytes, length, chunk.c, index)
+		return uint32(read.it), bool(read.is_there)
+	})
+}
+
+// IsValidSACK returns whether it is a SACK whose gap ack blocks are in order, apart, and begin at 2 or later.
+func (chunk Chunk) IsValidSACK() bool {
+	bytes, length := chunk.bytes()
+	return bool(C.go_validate_sack(bytes, length, chunk.c))
+}
+
+// Init reads the numbers of INIT or INIT ACK; false for another type.
+func (chunk Chunk) Init() (Init, bool) {
+	bytes, length := chunk.bytes()
+	read := C.go_init(bytes, length, chunk.c)
+	return Init{
+		InitiateTag:     uint32(read.it.initiate_tag),
+		ARwnd:           uint32(read.it.a_rwnd),
+		OutboundStreams: uint16(read.it.outbound_streams),
+		InboundStreams:  uint16(read.it.inbound_streams),
+		InitialTSN:      uint32(read.it.initial_tsn),
+	}, bool(read.is_there)
+}
+
+// Shutdown reads the cumulative TSN ack of SHUTDOWN; false for another type.
+func (chunk Chunk) Shutdown() (cumulativeTSNAck uint32, ok bool) {
+	bytes, length := chunk.bytes()
+	read := C.go_shutdown(bytes, length, chunk.c)
+	return uint32(read.it), bool(read.is_there)
+}
+
+// ForwardTSN reads the numbers of FORWARD-TSN or I-FORWARD-TSN; false for another type.
+func (chunk Chunk) ForwardTSN() (ForwardTSN, bool) {
+	bytes, length := chunk.bytes()
+	read := C.go_forward_tsn(bytes, length, chunk.c)
+	return ForwardTSN{
+		NewCumulativeTSN: uint32(read.it.new_cumulative_tsn),
+		StreamCount:      int(read.it.stream_count),
+	}, bool(read.is_there)
+}
+
+// SkippedStreams goes over the streams of FORWARD-TSN or I-FORWARD-TSN; another type has none.
+func (chunk Chunk) SkippedStreams() *Iterator[SkippedStream] {
+	bytes, length := chunk.bytes()
+	return byIndex(func(index C.size_t) (SkippedStream, bool) {
+		read := C.go_skipped_stream(bytes, length, chunk.c, index)
+		return SkippedStream{
+			Stream:      uint16(read.it.stream),
+			SSN:         uint16(read.it.ssn),
+			MID:         uint32(read.it.mid),
+			IsUnordered: bool(read.it.is_unordered),
+		}, bool(read.is_there)
+	})
+}
+
+// item is what parameters and error causes have.
+type item struct {
+	packet Packet
+	c      C.struct_dcsctp_parameter
+}
+
+// items goes over the parameters, or the error causes, if this is what the chunk has.
+func items[T any](chunk Chunk, areThere bool, value func(item, int) T) *Iterator[T] {
+	next := chunk.c.list_offset
+	if !areThere {
+		next = chunk.c.next
+	}
+	bytes, length := chunk.bytes()
+	return &Iterator[T]{read: func() (T, bool) {
+		read := C.go_parameter_at(bytes, length, chunk.c, next)
+		if !read.is_there {
+			var none T
+			return none, false
+		}
+		offset := int(next)
+		next = read.it.next
+		return value(item{chunk.packet, read.it}, offset), true
+	}}
+}
+
+func (it item) bytes() (*C.uint8_t, C.size_t) { return bytesOf(it.packet), C.size_t(len(it.packet)) }
+
+func (it item) value() []byte { return it.packet.part(it.c.value_offset, it.c.value_size) }
+
+func (it item) number() (uint32, bool) {
+	bytes, length := it.bytes()
+	read := C.go_number(bytes, length, it.c)
+	return uint32(read.it), bool(read.is_there)
+}
+
+func (chunk Chunk) hasCauses() bool { return chunk.Type == ChunkAbort || chunk.Type == ChunkError }
+
+// A Parameter is a parameter of a chunk (section 3.2.1), where it lies. Its value is what it holds: a State Cookie the
+// cookie, a Heartbeat Info the info, Supported Extensions a ChunkType in each byte.
+type Parameter struct {
+	Type   ParameterType
+	Value  []byte // without its header and padding
+	Offset int    // where it begins in the packet
+	item   item
+}
+
+// Parameters goes over the parameters; ABORT and ERROR, and types that have none, have none.
+func (chunk Chunk) Parameters() *Iterator[Parameter] {
+	return items(chunk, !chunk.hasCauses(), func(it item, offset int) Parameter {
+		return Parameter{Type: ParameterType(it.c._type), Value: it.value(), Offset: offset, item: it}
+	})
+}
+
+// Number reads a value that is one number of four bytes, whatever its type: the method of Zero Checksum Acceptable
+// (RFC 9653 section 4). False where the value has another size.
+func (parameter Parameter) Number() (uint32, bool) { return parameter.item.number() }
+
+// ReConfig reads a request or the response of RE-CONFIG; false for another type.
+func (parameter Parameter) ReConfig() (ReConfig, bool) {
+	bytes, length := parameter.item.bytes()
+	read := C.go_re_config(bytes, length, parameter.item.c)
+	it := read.it
+	return ReConfig{
+		Type:            ParameterType(it._type),
+		RequestNumber:   uint32(it.request_number),
+		ResponseNumber:  uint32(it.response_number),
+		LastTSN:         uint32(it.last_tsn),
+		Result:          ReConfigResult(it.result),
+		HasNextTSNs:     bool(it.has_next_tsns),
+		SenderNextTSN:   uint32(it.sender_next_tsn),
+		ReceiverNextTSN: uint32(it.receiver_next_tsn),
+		NewStreams:      uint16(it.new_streams),
+		StreamCount:     int(it.stream_count),
+	}, bool(read.is_there)
+}
+
+// ResetStreams goes over the streams of an Outgoing or Incoming SSN Reset; another type has none. A request that names no
+// stream is for all of them.
+func (parameter Parameter) ResetStreams() *Iterator[uint16] {
+	bytes, length := parameter.item.bytes()
+	return byIndex(func(index C.size_t) (uint16, bool) {
+		read := C.go_reset_stream(bytes, length, parameter.item.c, index)
+		return uint16(read.it), bool(read.is_there)
+	})
+}
+
+// A Cause is an error cause of ABORT or ERROR (section 3.3.10), where it lies. Its value is what it holds: User-Initiated
+// Abort and Protocol Violation a text, Unrecognized Chunk Type the chunk.
+type Cause struct {
+	Code   CauseCode
+	Value  []byte // without its header and padding
+	Offset int    // where it begins in the packet
+	item   item
+}
+
+// Causes goes over the error causes of ABORT or ERROR; another type has none.
+func (chunk Chunk) Causes() *Iterator[Cause] {
+	return items(chunk, chunk.hasCauses(), func(it item, offset int) Cause {
+		return Cause{Code: CauseCode(it.c._type), Value: it.value(), Offset: offset, item: it}
+	})
+}
+
+// Number reads a value that is one number of four bytes, whatever its code: the TSN of No User Data (section 3.3.10.9).
+// False where the value has another size.
+func (cause Cause) Number() (uint32, bool) { return cause.item.number() }
+
+// MissingParameters goes over the types of the cause Missing Mandatory Parameter (section 3.3.10.2); another code has none.
+func (cause Cause) MissingParameters() *Iterator[ParameterType] {
+	bytes, length := cause.item.bytes()
+	return byIndex(func(index C.size_t) (ParameterType, bool) {
+		read := C.go_missing_parameter(bytes, length, cause.item.c, index)
+		return ParameterType(read.it), bool(read.is_there)
+	})
+}

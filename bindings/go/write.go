@@ -1,0 +1,272 @@
+package dcsctp
+
+// #include "calls.h"
+import "C"
+
+import "unsafe"
+
+// A Builder writes a packet into a buffer of the caller: each Add function adds a chunk, and AddParameter, AddCause and
+// those after them add to the last chunk's list. Each returns nil; or it changes nothing, and returns why:
+//
+//	ErrBadPlace  there is no chunk to add to
+//	ErrBadValue  the chunk would have more than 65,535 bytes; some functions say what else can't be written
+//	ErrNoRoom    the packet would have more bytes than the buffer or 65,532
+//
+// so one can seal, send, and begin the next packet with the chunk that had no room. The values are written as they are:
+// whether RFC 9260 lets them be sent, or Packet.Check would accept the packet, isn't checked.
+//
+//	packet, err := dcsctp.Begin(make([]byte, 1200), sourcePort, destinationPort, tag)
+//	if err == nil {
+//		err = packet.AddSACK(tsn, window, nil, nil)
+//	}
+//	if err == nil {
+//		err = packet.AddData(data)
+//	}
+//	if err == nil {
+//		err = packet.Seal()
+//	}
+type Builder struct {
+	buffer []byte
+	size   C.size_t
+	start  C.size_t // of the last chunk; size where there is none
+}
+
+// Begin begins a packet with these ports and this tag; the length of the buffer is the room. Bytes of the buffer after the
+// packet stay. ErrNoRoom where the buffer has no 12 bytes.
+func Begin(buffer []byte, sourcePort, destinationPort uint16, verificationTag uint32) (*Builder, error) {
+	b := &Builder{buffer: buffer}
+	to, room := b.to()
+	result := C.go_begin(to, room, 0, C.uint16_t(sourcePort), C.uint16_t(destinationPort), C.uint32_t(verificationTag))
+	if result.code != C.DCSCTP_OK {
+		return nil, Code(result.code)
+	}
+	b.size, b.start = result.size, result.size
+	return b, nil
+}
+
+// Bytes returns the packet, as far as it is written: a part of the buffer.
+func (b *Builder) Bytes() []byte { return b.buffer[:b.size] }
+
+// Seal writes the CRC32c. Call it last.
+func (b *Builder) Seal() error { return Packet(b.Bytes()).Seal() }
+
+// RemoveLastChunk takes the last chunk back, with its list; nothing if that was done, or there is none. After it there is
+// no chunk to add to, until one is added.
+func (b *Builder) RemoveLastChunk() { b.size = b.start }
+
+// AddChunk adds a chunk of any type with these flags and this value.
+func (b *Builder) AddChunk(chunkType ChunkType, flags uint8, value []byte) error {
+	to, room := b.to()
+	value = b.apart(value)
+	return b.added(C.go_add_chunk(to, room, b.size, C.uint8_t(chunkType), C.uint8_t(flags), bytesOf(value),
+		C.size_t(len(value))))
+}
+
+// AddData adds DATA; its MID and FSN are ignored.
+func (b *Builder) AddData(data Data) error {
+	to, room := b.to()
+	payload := b.apart(data.Payload)
+	return b.added(C.go_add_data(to, room, b.size, data.c(), bytesOf(payload), C.size_t(len(payload))))
+}
+
+// AddIData adds I-DATA; its SSN is ignored, FSN at the beginning of a message, and PPID elsewhere.
+func (b *Builder) AddIData(data Data) error {
+	to, room := b.to()
+	payload := b.apart(data.Payload)
+	return b.added(C.go_add_i_data(to, room, b.size, data.c(), bytesOf(payload), C.size_t(len(payload))))
+}
+
+// AddSACK adds a SACK.
+func (b *Builder) AddSACK(cumulativeTSNAck, aRwnd uint32, blocks []GapAckBlock, duplicates []uint32) error {
+	to, room := b.to()
+	return b.added(C.go_add_sack(to, room, b.size, C.uint32_t(cumulativeTSNAck), C.uint32_t(aRwnd), blocksOf(blocks),
+		C.size_t(len(blocks)), (*C.uint32_t)(first(duplicates)), C.size_t(len(duplicates))))
+}
+
+// AddInit adds INIT with these numbers, and no parameter yet.
+func (b *Builder) AddInit(init Init) error {
+	to, room := b.to()
+	return b.added(C.go_add_init(to, room, b.size, init.c()))
+}
+
+// AddInitAck adds INIT ACK with these numbers, and no parameter yet; its State Cookie has to be added.
+func (b *Builder) AddInitAck(init Init) error {
+	to, room := b.to()
+	return b.added(C.go_add_init_ack(to, room, b.size, init.c()))
+}
+
+// AddCookieEcho adds COOKIE ECHO with this cookie.
+func (b *Builder) AddCookieEcho(cookie []byte) error {
+	to, room := b.to()
+	cookie = b.apart(cookie)
+	return b.added(C.go_add_cookie_echo(to, room, b.size, bytesOf(cookie), C.size_t(len(cookie))))
+}
+
+// AddCookieAck adds COOKIE ACK.
+func (b *Builder) AddCookieAck() error {
+	to, room := b.to()
+	return b.added(C.go_add_cookie_ack(to, room, b.size))
+}
+
+// AddHeartbeat adds HEARTBEAT with this heartbeat info.
+func (b *Builder) AddHeartbeat(info []byte) error { return b.heartbeat(false, info) }
+
+// AddHeartbeatAck adds HEARTBEAT ACK with this heartbeat info.
+func (b *Builder) AddHeartbeatAck(info []byte) error { return b.heartbeat(true, info) }
+
+func (b *Builder) heartbeat(isAck bool, info []byte) error {
+	to, room := b.to()
+	info = b.apart(info)
+	return b.added(C.go_add_heartbeat(to, room, b.size, C.bool(isAck), bytesOf(info), C.size_t(len(info))))
+}
+
+// AddAbort adds ABORT with the cause User-Initiated Abort; ErrBadValue where the reason isn't UTF-8. For other causes:
+// AddChunk of ChunkAbort, and AddCause.
+func (b *Builder) AddAbort(reason string, tagReflected bool) error {
+	to, room := b.to()
+	bytes := []byte(reason)
+	return b.added(C.go_add_abort(to, room, b.size, C.bool(tagReflected), bytesOf(bytes), C.size_t(len(bytes))))
+}
+
+// AddShutdown adds SHUTDOWN.
+func (b *Builder) AddShutdown(cumulativeTSNAck uint32) error {
+	to, room := b.to()
+	return b.added(C.go_add_shutdown(to, room, b.size, C.uint32_t(cumulativeTSNAck)))
+}
+
+// AddShutdownAck adds SHUTDOWN ACK.
+func (b *Builder) AddShutdownAck() error {
+	to, room := b.to()
+	return b.added(C.go_add_shutdown_ack(to, room, b.size))
+}
+
+// AddShutdownComplete adds SHUTDOWN COMPLETE.
+func (b *Builder) AddShutdownComplete(tagReflected bool) error {
+	to, room := b.to()
+	return b.added(C.go_add_shutdown_complete(to, room, b.size, C.bool(tagReflected)))
+}
+
+// AddForwardTSN adds FORWARD-TSN.
+func (b *Builder) AddForwardTSN(newCumulativeTSN uint32, streams []SkippedStream) error {
+	to, room := b.to()
+	return b.added(C.go_add_forward_tsn(to, room, b.size, C.uint32_t(newCumulativeTSN), streamsOf(streams),
+		C.size_t(len(streams))))
+}
+
+// AddIForwardTSN adds I-FORWARD-TSN.
+func (b *Builder) AddIForwardTSN(newCumulativeTSN uint32, streams []SkippedStream) error {
+	to, room := b.to()
+	return b.added(C.go_add_i_forward_tsn(to, room, b.size, C.uint32_t(newCumulativeTSN), streamsOf(streams),
+		C.size_t(len(streams))))
+}
+
+// AddParameter adds a parameter to the last chunk.
+func (b *Builder) AddParameter(parameterType ParameterType, value []byte) error {
+	return b.item(C.uint16_t(parameterType), value)
+}
+
+// AddCause adds an error cause to the last chunk.
+func (b *Builder) AddCause(code CauseCode, value []byte) error {
+	return b.item(C.uint16_t(code), value)
+}
+
+func (b *Builder) item(itemType C.uint16_t, value []byte) error {
+	to, room := b.to()
+	value = b.apart(value)
+	return b.extended(C.go_add_parameter(to, room, b.size, b.start, itemType, bytesOf(value), C.size_t(len(value))))
+}
+
+// AddNumber adds a parameter whose value is a number of four bytes: Zero Checksum Acceptable.
+func (b *Builder) AddNumber(parameterType ParameterType, number uint32) error {
+	to, room := b.to()
+	return b.extended(C.go_add_number(to, room, b.size, b.start, C.uint16_t(parameterType), C.uint32_t(number)))
+}
+
+// AddCauseNumber adds an error cause whose value is a number of four bytes: No User Data.
+func (b *Builder) AddCauseNumber(code CauseCode, number uint32) error {
+	return b.AddNumber(ParameterType(code), number)
+}
+
+// AddReConfig adds a request or the response of RE-CONFIG; the streams are written for an Outgoing or Incoming SSN Reset
+// alone. ErrBadValue for another type, or a result above 6.
+func (b *Builder) AddReConfig(reConfig ReConfig, streams []uint16) error {
+	to, room := b.to()
+	return b.extended(C.go_add_re_config(to, room, b.size, b.start, reConfig.c(), (*C.uint16_t)(first(streams)),
+		C.size_t(len(streams))))
+}
+
+// AddMissingParameters adds the cause Missing Mandatory Parameter with these types.
+func (b *Builder) AddMissingParameters(types []ParameterType) error {
+	to, room := b.to()
+	return b.extended(C.go_add_missing_parameters(to, room, b.size, b.start, (*C.uint16_t)(first(types)),
+		C.size_t(len(types))))
+}
+
+func (b *Builder) to() (*C.uint8_t, C.size_t) { return bytesOf(b.buffer), C.size_t(len(b.buffer)) }
+
+// extended takes what a call returned.
+func (b *Builder) extended(result C.struct_go_result) error {
+	if result.code == C.DCSCTP_OK {
+		b.size = result.size
+	}
+	return errorOf(result.code)
+}
+
+// added does, for a call that added a chunk.
+func (b *Builder) added(result C.struct_go_result) error {
+	if result.code == C.DCSCTP_OK {
+		b.start = b.size
+	}
+	return b.extended(result)
+}
+
+// apart returns what is to be written, and a copy where it lies in the buffer itself: C reads and writes apart.
+func (b *Builder) apart(value []byte) []byte {
+	if len(value) == 0 || len(b.buffer) == 0 {
+		return value
+	}
+	from, to := uintptr(unsafe.Pointer(&value[0])), uintptr(unsafe.Pointer(&b.buffer[0]))
+	if from < to+uintptr(len(b.buffer)) && to < from+uintptr(len(value)) {
+		return append([]byte(nil), value...)
+	}
+	return value
+}
+
+func (data Data) c() C.struct_dcsctp_data {
+	return C.struct_dcsctp_data{
+		tsn:           C.uint32_t(data.TSN),
+		mid:           C.uint32_t(data.MID),
+		fsn:           C.uint32_t(data.FSN),
+		ppid:          C.uint32_t(data.PPID),
+		stream:        C.uint16_t(data.Stream),
+		ssn:           C.uint16_t(data.SSN),
+		is_unordered:  C.bool(data.IsUnordered),
+		is_beginning:  C.bool(data.IsBeginning),
+		is_end:        C.bool(data.IsEnd),
+		immediate_ack: C.bool(data.ImmediateAck),
+	}
+}
+
+func (init Init) c() C.struct_dcsctp_init {
+	return C.struct_dcsctp_init{
+		initiate_tag:     C.uint32_t(init.InitiateTag),
+		a_rwnd:           C.uint32_t(init.ARwnd),
+		outbound_streams: C.uint16_t(init.OutboundStreams),
+		inbound_streams:  C.uint16_t(init.InboundStreams),
+		initial_tsn:      C.uint32_t(init.InitialTSN),
+	}
+}
+
+func (reConfig ReConfig) c() C.struct_dcsctp_re_config {
+	return C.struct_dcsctp_re_config{
+		_type:             C.uint16_t(reConfig.Type),
+		request_number:    C.uint32_t(reConfig.RequestNumber),
+		response_number:   C.uint32_t(reConfig.ResponseNumber),
+		last_tsn:          C.uint32_t(reConfig.LastTSN),
+		result:            C.uint32_t(reConfig.Result),
+		has_next_tsns:     C.bool(reConfig.HasNextTSNs),
+		sender_next_tsn:   C.uint32_t(reConfig.SenderNextTSN),
+		receiver_next_tsn: C.uint32_t(reConfig.ReceiverNextTSN),
+		new_streams:       C.uint16_t(reConfig.NewStreams),
+	}
+}

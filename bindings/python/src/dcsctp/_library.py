@@ -1,0 +1,191 @@
+"""The functions and structs of dcsctp.h, by ctypes; tests/test_header.py compares them with it."""
+
+import ctypes
+import os
+from ctypes import POINTER, c_bool, c_char_p, c_size_t, c_uint8, c_uint16, c_uint32
+from typing import Any
+
+from ._version import VERSION
+
+
+class Policy(ctypes.Structure):
+    _fields_ = [("any_checksum", c_bool), ("zero_checksum", c_bool), ("strict_padding", c_bool)]
+
+
+class Header(ctypes.Structure):
+    _fields_ = [
+        ("source_port", c_uint16),
+        ("destination_port", c_uint16),
+        ("verification_tag", c_uint32),
+        ("checksum", c_uint32),
+    ]
+
+
+class Chunk(ctypes.Structure):
+    _fields_ = [
+        ("type", c_uint8),
+        ("flags", c_uint8),
+        ("value_offset", c_size_t),
+        ("value_size", c_size_t),
+        ("list_offset", c_size_t),
+        ("next", c_size_t),
+    ]
+
+
+class Parameter(ctypes.Structure):
+    _fields_ = [("type", c_uint16), ("value_offset", c_size_t), ("value_size", c_size_t), ("next", c_size_t)]
+
+
+class Data(ctypes.Structure):
+    _fields_ = [
+        ("tsn", c_uint32),
+        ("mid", c_uint32),
+        ("fsn", c_uint32),
+        ("ppid", c_uint32),
+        ("stream", c_uint16),
+        ("ssn", c_uint16),
+        ("is_unordered", c_bool),
+        ("is_beginning", c_bool),
+        ("is_end", c_bool),
+        ("immediate_ack", c_bool),
+        ("payload_offset", c_size_t),
+        ("payload_size", c_size_t),
+    ]
+
+
+class Sack(ctypes.Structure):
+    _fields_ = [
+        ("cumulative_tsn_ack", c_uint32),
+        ("a_rwnd", c_uint32),
+        ("block_count", c_size_t),
+        ("duplicate_count", c_size_t),
+    ]
+
+
+class GapAckBlock(ctypes.Structure):
+    _fields_ = [("start", c_uint16), ("end", c_uint16)]
+
+
+class Init(ctypes.Structure):
+    _fields_ = [
+        ("initiate_tag", c_uint32),
+        ("a_rwnd", c_uint32),
+        ("outbound_streams", c_uint16),
+        ("inbound_streams", c_uint16),
+        ("initial_tsn", c_uint32),
+    ]
+
+
+class ForwardTsn(ctypes.Structure):
+    _fields_ = [("new_cumulative_tsn", c_uint32), ("stream_count", c_size_t)]
+
+
+class SkippedStream(ctypes.Structure):
+    _fields_ = [("stream", c_uint16), ("ssn", c_uint16), ("mid", c_uint32), ("is_unordered", c_bool)]
+
+
+class ReConfig(ctypes.Structure):
+    _fields_ = [
+        ("type", c_uint16),
+        ("request_number", c_uint32),
+        ("response_number", c_uint32),
+        ("last_tsn", c_uint32),
+        ("result", c_uint32),
+        ("has_next_tsns", c_bool),
+        ("sender_next_tsn", c_uint32),
+        ("receiver_next_tsn", c_uint32),
+        ("new_streams", c_uint16),
+        ("stream_count", c_size_t),
+    ]
+
+
+_BYTES = (c_char_p, c_size_t)
+_WHOLE = (*_BYTES, c_uint32, POINTER(Policy))
+_OUTPUT = (POINTER(c_uint8), c_size_t, POINTER(c_size_t))
+_CHUNK = (*_BYTES, POINTER(Chunk))
+_PARAMETER = (*_BYTES, POINTER(Parameter))
+_LIST = (*_OUTPUT, c_size_t)
+_STREAMS = (POINTER(SkippedStream), c_size_t)
+
+# What each returns, and what it takes.
+FUNCTIONS: dict[str, tuple[Any, ...]] = {
+    "dcsctp_check": (c_uint32, *_WHOLE),
+    "dcsctp_first_fault": (c_uint32, *_WHOLE, POINTER(c_size_t)),
+    "dcsctp_canonical": (c_uint32, *_WHOLE, *_OUTPUT),
+    "dcsctp_print": (c_uint32, *_WHOLE, *_OUTPUT),
+    "dcsctp_report": (c_uint32, *_WHOLE, *_OUTPUT),
+    "dcsctp_word": (c_uint32, *_BYTES),
+    "dcsctp_header": (c_bool, *_BYTES, POINTER(Header)),
+    "dcsctp_chunk_at": (c_bool, *_BYTES, c_size_t, POINTER(Chunk)),
+    "dcsctp_data": (c_bool, *_CHUNK, POINTER(Data)),
+    "dcsctp_sack": (c_bool, *_CHUNK, POINTER(Sack)),
+    "dcsctp_gap_ack_block": (c_bool, *_CHUNK, c_size_t, POINTER(GapAckBlock)),
+    "dcsctp_duplicate_tsn": (c_bool, *_CHUNK, c_size_t, POINTER(c_uint32)),
+    "dcsctp_validate_sack": (c_bool, *_CHUNK),
+    "dcsctp_init": (c_bool, *_CHUNK, POINTER(Init)),
+    "dcsctp_shutdown": (c_bool, *_CHUNK, POINTER(c_uint32)),
+    "dcsctp_forward_tsn": (c_bool, *_CHUNK, POINTER(ForwardTsn)),
+    "dcsctp_skipped_stream": (c_bool, *_CHUNK, c_size_t, POINTER(SkippedStream)),
+    "dcsctp_parameter_at": (c_bool, *_CHUNK, c_size_t, POINTER(Parameter)),
+    "dcsctp_number": (c_bool, *_PARAMETER, POINTER(c_uint32)),
+    "dcsctp_re_config": (c_bool, *_PARAMETER, POINTER(ReConfig)),
+    "dcsctp_reset_stream": (c_bool, *_PARAMETER, c_size_t, POINTER(c_uint16)),
+    "dcsctp_missing_parameter": (c_bool, *_PARAMETER, c_size_t, POINTER(c_uint16)),
+    "dcsctp_seal": (c_uint32, POINTER(c_uint8), c_size_t),
+    "dcsctp_set_tag": (c_uint32, POINTER(c_uint8), c_size_t, c_uint32),
+    "dcsctp_begin": (c_uint32, *_OUTPUT, c_uint16, c_uint16, c_uint32),
+    "dcsctp_add_chunk": (c_uint32, *_OUTPUT, c_uint8, c_uint8, *_BYTES),
+    "dcsctp_add_data": (c_uint32, *_OUTPUT, POINTER(Data), *_BYTES),
+    "dcsctp_add_i_data": (c_uint32, *_OUTPUT, POINTER(Data), *_BYTES),
+    "dcsctp_add_sack": (
+        *(c_uint32, *_OUTPUT, c_uint32, c_uint32),
+        *(POINTER(GapAckBlock), c_size_t, POINTER(c_uint32), c_size_t),
+    ),
+    "dcsctp_add_init": (c_uint32, *_OUTPUT, POINTER(Init)),
+    "dcsctp_add_init_ack": (c_uint32, *_OUTPUT, POINTER(Init)),
+    "dcsctp_add_cookie_echo": (c_uint32, *_OUTPUT, *_BYTES),
+    "dcsctp_add_cookie_ack": (c_uint32, *_OUTPUT),
+    "dcsctp_add_heartbeat": (c_uint32, *_OUTPUT, c_bool, *_BYTES),
+    "dcsctp_add_abort": (c_uint32, *_OUTPUT, c_bool, *_BYTES),
+    "dcsctp_add_shutdown": (c_uint32, *_OUTPUT, c_uint32),
+    "dcsctp_add_shutdown_ack": (c_uint32, *_OUTPUT),
+    "dcsctp_add_shutdown_complete": (c_uint32, *_OUTPUT, c_bool),
+    "dcsctp_add_forward_tsn": (c_uint32, *_OUTPUT, c_uint32, *_STREAMS),
+    "dcsctp_add_i_forward_tsn": (c_uint32, *_OUTPUT, c_uint32, *_STREAMS),
+    "dcsctp_add_parameter": (c_uint32, *_LIST, c_uint16, *_BYTES),
+    "dcsctp_add_number": (c_uint32, *_LIST, c_uint16, c_uint32),
+    "dcsctp_add_re_config": (c_uint32, *_LIST, POINTER(ReConfig), POINTER(c_uint16), c_size_t),
+    "dcsctp_add_missing_parameters": (c_uint32, *_LIST, POINTER(c_uint16), c_size_t),
+    "dcsctp_clean_blocks": (c_size_t, POINTER(GapAckBlock), c_size_t),
+    "dcsctp_version_number": (c_uint32,),
+}
+
+
+def _load() -> ctypes.CDLL:
+    folder = os.path.dirname(os.path.abspath(__file__))
+    for ending in ("so", "dylib", "dll"):
+        path = os.path.join(folder, f"_dcsctp.{ending}")
+        if os.path.exists(path):
+            break
+    else:
+        raise ImportError("dcsctp has no shared library here: install the package, by pip install bindings/python")
+    library = ctypes.CDLL(path)
+    try:
+        for name, (result, *arguments) in FUNCTIONS.items():
+            function = getattr(library, name)
+            function.restype, function.argtypes = result, arguments
+    except AttributeError as error:
+        raise ImportError(f"{path} is not the library of dcsctp {_text(VERSION)}: {error}") from None
+    number = library.dcsctp_version_number()
+    version = (number >> 16, number >> 8 & 255, number & 255)
+    if version != VERSION:
+        raise ImportError(f"{path} is the library of dcsctp {_text(version)}, and this is {_text(VERSION)}")
+    return library
+
+
+def _text(version: tuple[int, int, int]) -> str:
+    return ".".join(map(str, version))
+
+
+version_text = _text(VERSION)
+functions = _load()

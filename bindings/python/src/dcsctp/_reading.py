@@ -1,0 +1,430 @@
+"""Reading packets."""
+
+import ctypes
+import operator
+from collections.abc import Callable, Iterator
+from ctypes import byref, c_size_t, c_uint8, c_uint16, c_uint32
+from itertools import count
+from typing import Any, TypeAlias
+
+from . import _library as c
+from . import _values as v
+from ._library import functions
+
+Buffer: TypeAlias = bytes | bytearray | memoryview
+"""What holds bytes. Those of a bytearray or a memoryview are copied first, so that no other thread changes them."""
+
+_FIRST_CHUNK = 12
+_DEFAULT = v.Policy()
+
+
+def to_bytes(data: Buffer) -> bytes:
+    return data if type(data) is bytes else memoryview(data).tobytes()
+
+
+def number(value: int, most: int, name: str) -> int:
+    """The number, if it has a place in a field of C; ctypes would cut it."""
+    index = operator.index(value)
+    if not 0 <= index <= most:
+        raise ValueError(f"{name} has to be 0 to {most}, and is {index}")
+    return index
+
+
+def start_of(buffer: bytearray) -> Any:
+    """What leads C to the bytes, whose size is not changed while it lives."""
+    return byref(c_uint8.from_buffer(buffer)) if buffer else None
+
+
+# ---- a whole packet
+
+
+def _arguments(data: bytes, policy: v.Policy, word: int | None) -> tuple[Any, ...]:
+    right = functions.dcsctp_word(data, len(data)) if word is None else number(word, 0xFFFFFFFF, "word")
+    flags = c.Policy(bool(policy.any_checksum), bool(policy.zero_checksum), bool(policy.strict_padding))
+    return data, len(data), right, byref(flags)
+
+
+def _first_fault(arguments: tuple[Any, ...]) -> v.Fault | None:
+    offset = c_size_t()
+    code = functions.dcsctp_first_fault(*arguments, byref(offset))
+    return v.Fault(v.Result(code), offset.value) if code else None
+
+
+def _write(function: Any, data: Buffer, policy: v.Policy, word: int | None, room: int) -> bytes:
+    arguments = _arguments(to_bytes(data), policy, word)
+    size = c_size_t(room)
+    code = int(v.Result.NO_ROOM)
+    while code == v.Result.NO_ROOM:
+        output = bytearray(size.value)
+        code = function(*arguments, start_of(output), len(output), byref(size))
+    if code == v.Result.OK:
+        return bytes(output[: size.value])
+    if code == v.Result.NO_MEMORY:
+        raise MemoryError
+    raise _first_fault(arguments) or v.write_error(code)
+
+
+def word(data: Buffer) -> int:
+    """Returns the word of a packet (RFC 9260 section 6.8): its CRC32c over zeros in the checksum field, as the number that
+    the field, bytes 8 to 11, has to be, most significant byte first. For fewer than 12 bytes it has no meaning."""
+    data = to_bytes(data)
+    result: int = functions.dcsctp_word(data, len(data))
+    return result
+
+
+def check(data: Buffer, policy: v.Policy = _DEFAULT, *, word: int | None = None) -> None:
+    """Returns if the bytes are a packet (RFC 9260 section 3), and else raises the first Fault. `word` is the number that
+    the checksum field has to be, never what it is; None computes it. So does every function here that has these."""
+    arguments = _arguments(to_bytes(data), policy, word)
+    if functions.dcsctp_check(*arguments):
+        fault = _first_fault(arguments)
+        assert fault is not None
+        raise fault
+
+
+def first_fault(data: Buffer, policy: v.Policy = _DEFAULT, *, word: int | None = None) -> v.Fault | None:
+    """Returns the first fault, from the left, or None for a packet; raises nothing."""
+    return _first_fault(_arguments(to_bytes(data), policy, word))
+
+
+def canonical(data: Buffer, policy: v.Policy = _DEFAULT, *, word: int | None = None) -> bytes:
+    """Returns the canonical packet: a checksum of zero, padding of zeros, zeros in reserved bits, and else the same ports,
+    tag and chunks. Two packets have the same one if and only if they mean the same. `seal` it before you send it.
+
+    Raises Fault, TooLong where it would have more than 65,532 bytes, MemoryError."""
+    return _write(functions.dcsctp_canonical, data, policy, word, len(data) + 3)
+
+
+def text(data: Buffer, policy: v.Policy = _DEFAULT, *, word: int | None = None) -> str:
+    """Returns text for logs: a line for the header and one for each chunk, without a line feed at the end. In the line of
+    an I-DATA `mid=` is the stream and `ssn=` the MID. Raises Fault, MemoryError."""
+    return _write(functions.dcsctp_print, data, policy, word, 4096).decode()
+
+
+def report(data: Buffer, policy: v.Policy = _DEFAULT, *, word: int | None = None) -> str:
+    """Returns all that the packet holds: each line ends in a line feed, and what is inside of something is two blanks
+    deeper. Raises Fault, MemoryError."""
+    return _write(functions.dcsctp_report, data, policy, word, 4096).decode()
+
+
+# ---- its parts, of any bytes
+
+
+def header(data: Buffer) -> v.Header:
+    """Returns the common header (RFC 9260 section 3.1) of bytes that need not be a packet. Raises Fault for fewer than 12."""
+    data = to_bytes(data)
+    out = c.Header()
+    if not functions.dcsctp_header(data, len(data), byref(out)):
+        raise v.Fault(v.Result.FAULT_SIZE, len(data))
+    return v.Header(out.source_port, out.destination_port, out.verification_tag, out.checksum)
+
+
+def raw_chunks(data: Buffer) -> Iterator[v.RawChunk]:
+    """Returns the chunks of bytes that need not be a packet, as they are, up to where there is no whole one."""
+    data = to_bytes(data)
+    return (v.RawChunk(it.type, it.flags, _value(data, it)) for it in _chunks(data))
+
+
+def chunks(data: Buffer) -> Iterator[v.Chunk]:
+    """Returns the chunks of bytes that need not be a packet, up to where there is no whole one. A list ends where there is
+    no whole parameter or error cause."""
+    data = to_bytes(data)
+    return (_chunk(data, it) for it in _chunks(data))
+
+
+def raw_items(data: Buffer) -> Iterator[tuple[v.RawChunk, tuple[v.RawParameter, ...]]]:
+    """Returns the chunks of bytes that need not be a packet, as they are, each with its parameters or error causes, as they
+    are; of a cause the code is the type."""
+    data = to_bytes(data)
+    for chunk in _chunks(data):
+        items = tuple(v.RawParameter(it.type, _value(data, it)) for it in _items(data, chunk))
+        yield v.RawChunk(chunk.type, chunk.flags, _value(data, chunk)), items
+
+
+class Packet:
+    """A packet, in its bytes, that was checked (RFC 9260 section 3).
+
+    Iterating gives its chunks. `bytes(packet)`, `len(packet)` and equality are those of the bytes; packets that mean the
+    same have the same `canonical()`."""
+
+    __slots__ = ("_bytes", "_policy", "_word")
+
+    def __init__(self, data: Buffer, policy: v.Policy = _DEFAULT, *, word: int | None = None) -> None:
+        """Checks the bytes; raises the first Fault if they are no packet."""
+        self._bytes, self._policy = to_bytes(data), policy
+        self._word: int = functions.dcsctp_word(self._bytes, len(self._bytes)) if word is None else word
+        check(self._bytes, policy, word=self._word)
+
+    @property
+    def header(self) -> v.Header:
+        """The common header (section 3.1)."""
+        return header(self._bytes)
+
+    @property
+    def word(self) -> int:
+        """The number that the checksum field has to be: its CRC32c (section 6.8), or what was passed."""
+        return self._word
+
+    def __iter__(self) -> Iterator[v.Chunk]:
+        return chunks(self._bytes)
+
+    def chunks(self) -> tuple[v.Chunk, ...]:
+        """Returns its chunks (section 3.2), at least one."""
+        return tuple(self)
+
+    def raw_chunks(self) -> Iterator[v.RawChunk]:
+        """Returns its chunks as they are: with all flags and padding inside."""
+        return raw_chunks(self._bytes)
+
+    def raw_items(self) -> Iterator[tuple[v.RawChunk, tuple[v.RawParameter, ...]]]:
+        """Returns its chunks as they are, each with its parameters or error causes as they are."""
+        return raw_items(self._bytes)
+
+    def canonical(self) -> bytes:
+        """Returns its canonical form: see the function."""
+        return canonical(self._bytes, self._policy, word=self._word)
+
+    def text(self) -> str:
+        """Returns text for logs: see the function."""
+        return text(self._bytes, self._policy, word=self._word)
+
+    def report(self) -> str:
+        """Returns all that it holds: see the function."""
+        return report(self._bytes, self._policy, word=self._word)
+
+    def __bytes__(self) -> bytes:
+        return self._bytes
+
+    def __len__(self) -> int:
+        return len(self._bytes)
+
+    def __eq__(self, other: object) -> bool:
+        if not isinstance(other, Packet):
+            return NotImplemented
+        return self._bytes == other._bytes
+
+    def __hash__(self) -> int:
+        return hash(self._bytes)
+
+    def __repr__(self) -> str:
+        return f"Packet(bytes.fromhex({self._bytes.hex()!r}))"
+
+
+# ---- chunks
+
+
+def _chunks(data: bytes) -> Iterator[c.Chunk]:
+    at = _FIRST_CHUNK
+    while True:
+        chunk = c.Chunk()
+        if not functions.dcsctp_chunk_at(data, len(data), at, byref(chunk)):
+            return
+        yield chunk
+        at = chunk.next
+
+
+def _value(data: bytes, part: c.Chunk | c.Parameter) -> bytes:
+    start: int = part.value_offset
+    return data[start : start + part.value_size]
+
+
+def _each(function: Any, data: bytes, part: ctypes.Structure, new: Callable[[], Any]) -> Iterator[Any]:
+    """What a function reads at the indices 0, 1 .. as long as there is something."""
+    for index in count():
+        out = new()
+        if not function(data, len(data), byref(part), index, byref(out)):
+            return
+        yield out
+
+
+def _chunk(data: bytes, chunk: c.Chunk) -> v.Chunk:
+    read = _CHUNKS.get(chunk.type)
+    return read and read(data, chunk) or v.RawChunk(chunk.type, chunk.flags, _value(data, chunk))
+
+
+def _data(data: bytes, chunk: c.Chunk) -> v.Data | v.IData | None:
+    out = c.Data()
+    if not functions.dcsctp_data(data, len(data), byref(chunk), byref(out)):
+        return None
+    payload = data[out.payload_offset : out.payload_offset + out.payload_size]
+    bits = {
+        "is_unordered": out.is_unordered,
+        "is_beginning": out.is_beginning,
+        "is_end": out.is_end,
+        "immediate_ack": out.immediate_ack,
+    }
+    if chunk.type == v.ChunkType.DATA:
+        return v.Data(tsn=out.tsn, stream=out.stream, ssn=out.ssn, ppid=out.ppid, payload=payload, **bits)
+    return v.IData(
+        tsn=out.tsn, stream=out.stream, mid=out.mid, ppid=out.ppid, fsn=out.fsn, payload=payload, **bits
+    )
+
+
+def _init(data: bytes, chunk: c.Chunk) -> v.Init | v.InitAck | None:
+    out = c.Init()
+    if not functions.dcsctp_init(data, len(data), byref(chunk), byref(out)):
+        return None
+    kind: type[v.Init | v.InitAck] = v.Init if chunk.type == v.ChunkType.INIT else v.InitAck
+    return kind(
+        out.initiate_tag,
+        out.a_rwnd,
+        out.outbound_streams,
+        out.inbound_streams,
+        out.initial_tsn,
+        _parameters(data, chunk),
+    )
+
+
+def _sack(data: bytes, chunk: c.Chunk) -> v.Sack | None:
+    out = c.Sack()
+    if not functions.dcsctp_sack(data, len(data), byref(chunk), byref(out)):
+        return None
+    blocks = _each(functions.dcsctp_gap_ack_block, data, chunk, c.GapAckBlock)
+    duplicates = _each(functions.dcsctp_duplicate_tsn, data, chunk, c_uint32)
+    return v.Sack(
+        out.cumulative_tsn_ack,
+        out.a_rwnd,
+        tuple(v.GapAckBlock(it.start, it.end) for it in blocks),
+        tuple(it.value for it in duplicates),
+    )
+
+
+def _shutdown(data: bytes, chunk: c.Chunk) -> v.Shutdown | None:
+    tsn = c_uint32()
+    found = functions.dcsctp_shutdown(data, len(data), byref(chunk), byref(tsn))
+    return v.Shutdown(tsn.value) if found else None
+
+
+def _forward_tsn(data: bytes, chunk: c.Chunk) -> v.ForwardTsn | v.IForwardTsn | None:
+    out = c.ForwardTsn()
+    if not functions.dcsctp_forward_tsn(data, len(data), byref(chunk), byref(out)):
+        return None
+    streams = _each(functions.dcsctp_skipped_stream, data, chunk, c.SkippedStream)
+    tsn: int = out.new_cumulative_tsn
+    if chunk.type == v.ChunkType.FORWARD_TSN:
+        return v.ForwardTsn(tsn, tuple(v.SkippedStream(it.stream, it.ssn) for it in streams))
+    return v.IForwardTsn(tsn, tuple(v.SkippedIStream(it.stream, it.mid, it.is_unordered) for it in streams))
+
+
+def _tag_reflected(chunk: c.Chunk) -> bool:
+    return bool(chunk.flags & 1)
+
+
+_CHUNKS: dict[int, Callable[[bytes, c.Chunk], v.Chunk | None]] = {
+    v.ChunkType.DATA: _data,
+    v.ChunkType.I_DATA: _data,
+    v.ChunkType.INIT: _init,
+    v.ChunkType.INIT_ACK: _init,
+    v.ChunkType.SACK: _sack,
+    v.ChunkType.HEARTBEAT: lambda data, chunk: v.Heartbeat(_parameters(data, chunk)),
+    v.ChunkType.HEARTBEAT_ACK: lambda data, chunk: v.HeartbeatAck(_parameters(data, chunk)),
+    v.ChunkType.ABORT: lambda data, chunk: v.Abort(_causes(data, chunk), _tag_reflected(chunk)),
+    v.ChunkType.SHUTDOWN: _shutdown,
+    v.ChunkType.SHUTDOWN_ACK: lambda data, chunk: None if chunk.value_size else v.ShutdownAck(),
+    v.ChunkType.ERROR: lambda data, chunk: v.OperationError(_causes(data, chunk)),
+    v.ChunkType.COOKIE_ECHO: lambda data, chunk: v.CookieEcho(_value(data, chunk)),
+    v.ChunkType.COOKIE_ACK: lambda data, chunk: None if chunk.value_size else v.CookieAck(),
+    v.ChunkType.SHUTDOWN_COMPLETE: lambda data, chunk: (
+        None if chunk.value_size else v.ShutdownComplete(_tag_reflected(chunk))
+    ),
+    v.ChunkType.RE_CONFIG: lambda data, chunk: v.ReConfig(_parameters(data, chunk)),
+    v.ChunkType.FORWARD_TSN: _forward_tsn,
+    v.ChunkType.I_FORWARD_TSN: _forward_tsn,
+}
+
+# ---- parameters and error causes
+
+
+def _items(data: bytes, chunk: c.Chunk) -> Iterator[c.Parameter]:
+    at = chunk.list_offset
+    while True:
+        item = c.Parameter()
+        if not functions.dcsctp_parameter_at(data, len(data), byref(chunk), at, byref(item)):
+            return
+        yield item
+        at = item.next
+
+
+def _parameters(data: bytes, chunk: c.Chunk) -> tuple[v.Parameter, ...]:
+    return tuple(_parameter(data, it) for it in _items(data, chunk))
+
+
+def _causes(data: bytes, chunk: c.Chunk) -> tuple[v.Cause, ...]:
+    return tuple(_cause(data, it) for it in _items(data, chunk))
+
+
+def _parameter(data: bytes, item: c.Parameter) -> v.Parameter:
+    read = _PARAMETERS.get(item.type)
+    return read and read(data, item) or v.RawParameter(item.type, _value(data, item))
+
+
+def _cause(data: bytes, item: c.Parameter) -> v.Cause:
+    read = _CAUSES.get(item.type)
+    return read and read(data, item) or v.RawCause(item.type, _value(data, item))
+
+
+def _number(data: bytes, item: c.Parameter) -> int | None:
+    out = c_uint32()
+    return out.value if functions.dcsctp_number(data, len(data), byref(item), byref(out)) else None
+
+
+def _zero_checksum_acceptable(data: bytes, item: c.Parameter) -> v.ZeroChecksumAcceptable | None:
+    method = _number(data, item)
+    return None if method is None else v.ZeroChecksumAcceptable(method)
+
+
+def _no_user_data(data: bytes, item: c.Parameter) -> v.NoUserData | None:
+    tsn = _number(data, item)
+    return None if tsn is None else v.NoUserData(tsn)
+
+
+def _re_config(data: bytes, item: c.Parameter) -> v.Parameter | None:
+    out = c.ReConfig()
+    if not functions.dcsctp_re_config(data, len(data), byref(item), byref(out)):
+        return None
+    streams = tuple(it.value for it in _each(functions.dcsctp_reset_stream, data, item, c_uint16))
+    match v.ParameterType(out.type):
+        case v.ParameterType.OUTGOING_SSN_RESET:
+            return v.OutgoingSsnReset(out.request_number, out.response_number, out.last_tsn, streams)
+        case v.ParameterType.INCOMING_SSN_RESET:
+            return v.IncomingSsnReset(out.request_number, streams)
+        case v.ParameterType.SSN_TSN_RESET:
+            return v.SsnTsnReset(out.request_number)
+        case v.ParameterType.ADD_OUTGOING_STREAMS:
+            return v.AddOutgoingStreams(out.request_number, out.new_streams)
+        case v.ParameterType.ADD_INCOMING_STREAMS:
+            return v.AddIncomingStreams(out.request_number, out.new_streams)
+        case v.ParameterType.RECONFIGURATION_RESPONSE:
+            next_tsns = v.NextTsns(out.sender_next_tsn, out.receiver_next_tsn) if out.has_next_tsns else None
+            return v.ReConfigResponse(out.response_number, v.ReConfigResult(out.result), next_tsns)
+    return None
+
+
+def _missing_mandatory_parameter(data: bytes, item: c.Parameter) -> v.MissingMandatoryParameter | None:
+    types = tuple(it.value for it in _each(functions.dcsctp_missing_parameter, data, item, c_uint16))
+    return v.MissingMandatoryParameter(types) if item.value_size == 4 + 2 * len(types) else None
+
+
+_PARAMETERS: dict[int, Callable[[bytes, c.Parameter], v.Parameter | None]] = {
+    v.ParameterType.HEARTBEAT_INFO: lambda data, item: v.HeartbeatInfo(_value(data, item)),
+    v.ParameterType.STATE_COOKIE: lambda data, item: v.StateCookie(_value(data, item)),
+    v.ParameterType.OUTGOING_SSN_RESET: _re_config,
+    v.ParameterType.INCOMING_SSN_RESET: _re_config,
+    v.ParameterType.SSN_TSN_RESET: _re_config,
+    v.ParameterType.RECONFIGURATION_RESPONSE: _re_config,
+    v.ParameterType.ADD_OUTGOING_STREAMS: _re_config,
+    v.ParameterType.ADD_INCOMING_STREAMS: _re_config,
+    v.ParameterType.ZERO_CHECKSUM_ACCEPTABLE: _zero_checksum_acceptable,
+    v.ParameterType.SUPPORTED_EXTENSIONS: lambda data, item: v.SupportedExtensions(_value(data, item)),
+    v.ParameterType.FORWARD_TSN_SUPPORTED: lambda data, item: None if item.value_size else v.ForwardTsnSupported(),
+}
+_CAUSES: dict[int, Callable[[bytes, c.Parameter], v.Cause | None]] = {
+    v.CauseCode.MISSING_MANDATORY_PARAMETER: _missing_mandatory_parameter,
+    v.CauseCode.UNRECOGNIZED_CHUNK: lambda data, item: v.UnrecognizedChunk(_value(data, item)),
+    v.CauseCode.NO_USER_DATA: _no_user_data,
+    v.CauseCode.COOKIE_RECEIVED_WHILE_SHUTTING_DOWN: lambda data, item: (
+        None if item.value_size else v.CookieReceivedWhileShuttingDown()
+    ),
+    v.CauseCode.USER_INITIATED_ABORT: lambda data, item: v.UserInitiatedAbort(_value(data, item)),
+    v.CauseCode.PROTOCOL_VIOLATION: lambda data, item: v.ProtocolViolation(_value(data, item)),
+}

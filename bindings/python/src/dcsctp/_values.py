@@ -1,0 +1,695 @@
+"""The values of a packet, and the errors."""
+
+from dataclasses import dataclass
+from enum import IntEnum
+from typing import NamedTuple, TypeAlias
+
+MAX_PACKET_SIZE = 65532
+"""The most bytes that a packet has that is written here: a multiple of 4, as each is."""
+
+
+class Result(IntEnum):
+    """What the library answers. `text` says it in a few words."""
+
+    OK = 0
+    """The bytes are a packet; what was asked for is written."""
+    FAULT_SIZE = 1
+    """Fewer than 16 bytes, or more than 65,535."""
+    FAULT_CHECKSUM = 2
+    """The policy does not accept the checksum field."""
+    FAULT_LENGTH = 3
+    """A chunk, a parameter or an error cause has a wrong length."""
+    FAULT_VALUE = 4
+    """A RE-CONFIG response has an unknown result."""
+    FAULT_PADDING = 5
+    """Padding is missing or not zero; only under a strict policy."""
+    NO_MEMORY = 6
+    """The bytes are a packet, but an allocation failed. Here a MemoryError says so."""
+    NO_ROOM = 7
+    """The packet would have more bytes than the builder's limit."""
+    TOO_LONG = 8
+    """The bytes are a packet, but its canonical form would have more than 65,532 bytes."""
+    BAD_VALUE = 9
+    """A chunk would have more than 65,535 bytes, or what has to be UTF-8 isn't."""
+    BAD_PLACE = 10
+    """No packet has this size, or the chunk isn't the packet's last one any more."""
+
+    @property
+    def text(self) -> str:
+        """What it means, in a few words."""
+        return _RESULT_TEXTS[self]
+
+
+_RESULT_TEXTS = {
+    Result.OK: "success",
+    Result.FAULT_SIZE: "not the size of a packet",
+    Result.FAULT_CHECKSUM: "wrong checksum",
+    Result.FAULT_LENGTH: "wrong length of a chunk, a parameter or an error cause",
+    Result.FAULT_VALUE: "unknown result of a re-configuration",
+    Result.FAULT_PADDING: "wrong padding",
+    Result.NO_MEMORY: "out of memory",
+    Result.NO_ROOM: "no room",
+    Result.TOO_LONG: "no canonical packet is as long",
+    Result.BAD_VALUE: "a value that can't be written",
+    Result.BAD_PLACE: "not the end of a packet, or not its last chunk",
+}
+
+
+class Error(Exception):
+    """What all errors of this package are, but those that Python has for it: ValueError for a number that has no place in
+    its field, MemoryError, TypeError."""
+
+    code: Result
+    """Why."""
+
+    @property
+    def text(self) -> str:
+        """Why, in a few words."""
+        return self.code.text
+
+
+class Fault(Error):
+    """The bytes are no packet: the first fault, from the left."""
+
+    offset: int
+    """Where: the offset of the chunk, the parameter or the error cause with a wrong length or value; 8 for a checksum; of
+    the first byte of wrong padding; for a wrong size the number of bytes, or 65,535 if that is less."""
+
+    def __init__(self, code: Result, offset: int) -> None:
+        super().__init__(code, offset)
+        self.code, self.offset = code, offset
+
+    def __str__(self) -> str:
+        return f"{self.text} at byte {self.offset}"
+
+
+class WriteError(Error):
+    """Nothing was written, and all is as it was before."""
+
+    def __init__(self, code: Result) -> None:
+        super().__init__(code)
+        self.code = code
+
+    def __str__(self) -> str:
+        return self.text
+
+
+class NoRoom(WriteError):
+    """The packet would have more bytes than the builder's limit. Begin the next packet with the chunk; one that has no
+    room in a new packet never will."""
+
+
+class TooLong(WriteError):
+    """The canonical packet would have more than 65,532 bytes."""
+
+
+class BadValue(WriteError):
+    """A chunk would have more than 65,535 bytes, the reason of an abort isn't UTF-8, or a re-configuration's result is
+    above 6."""
+
+
+class BadPlace(WriteError):
+    """The chunk isn't the packet's last one any more; or what is changed has fewer than 12 bytes."""
+
+
+_WRITE_ERRORS = {
+    Result.NO_ROOM: NoRoom,
+    Result.TOO_LONG: TooLong,
+    Result.BAD_VALUE: BadValue,
+    Result.BAD_PLACE: BadPlace,
+}
+
+
+def write_error(code: int) -> WriteError:
+    result = Result(code)
+    return _WRITE_ERRORS[result](result)
+
+
+class ChunkType(IntEnum):
+    """Types of chunks (RFC 9260 section 3.2)."""
+
+    DATA = 0
+    INIT = 1
+    INIT_ACK = 2
+    SACK = 3
+    HEARTBEAT = 4
+    HEARTBEAT_ACK = 5
+    ABORT = 6
+    SHUTDOWN = 7
+    SHUTDOWN_ACK = 8
+    ERROR = 9
+    COOKIE_ECHO = 10
+    COOKIE_ACK = 11
+    SHUTDOWN_COMPLETE = 14
+    I_DATA = 64
+    RE_CONFIG = 130
+    FORWARD_TSN = 192
+    I_FORWARD_TSN = 194
+
+
+class ParameterType(IntEnum):
+    """Types of parameters (RFC 9260 section 3.2.1). UNRECOGNIZED_PARAMETER has no kind of its own here: it is a
+    RawParameter, whose value is the parameter that wasn't recognized (section 3.3.3.1)."""
+
+    HEARTBEAT_INFO = 1
+    STATE_COOKIE = 7
+    UNRECOGNIZED_PARAMETER = 8
+    OUTGOING_SSN_RESET = 13
+    INCOMING_SSN_RESET = 14
+    SSN_TSN_RESET = 15
+    RECONFIGURATION_RESPONSE = 16
+    ADD_OUTGOING_STREAMS = 17
+    ADD_INCOMING_STREAMS = 18
+    ZERO_CHECKSUM_ACCEPTABLE = 0x8001
+    SUPPORTED_EXTENSIONS = 0x8008
+    FORWARD_TSN_SUPPORTED = 0xC000
+
+
+class CauseCode(IntEnum):
+    """Codes of error causes (RFC 9260 section 3.3.10). Those that have no kind of their own here are a RawCause."""
+
+    INVALID_STREAM_IDENTIFIER = 1
+    MISSING_MANDATORY_PARAMETER = 2
+    STALE_COOKIE = 3
+    OUT_OF_RESOURCE = 4
+    UNRESOLVABLE_ADDRESS = 5
+    UNRECOGNIZED_CHUNK = 6
+    INVALID_MANDATORY_PARAMETER = 7
+    UNRECOGNIZED_PARAMETERS = 8
+    NO_USER_DATA = 9
+    COOKIE_RECEIVED_WHILE_SHUTTING_DOWN = 10
+    RESTART_WITH_NEW_ADDRESSES = 11
+    USER_INITIATED_ABORT = 12
+    PROTOCOL_VIOLATION = 13
+
+
+class ReConfigResult(IntEnum):
+    """What became of a re-configuration request (RFC 6525 section 4.4)."""
+
+    NOTHING_TO_DO = 0
+    PERFORMED = 1
+    DENIED = 2
+    WRONG_SSN = 3
+    ALREADY_IN_PROGRESS = 4
+    BAD_SEQUENCE_NUMBER = 5
+    IN_PROGRESS = 6
+
+
+_CHUNK_NAMES: dict[int, str] = {
+    ChunkType.DATA: "DATA",
+    ChunkType.INIT: "INIT",
+    ChunkType.INIT_ACK: "INIT ACK",
+    ChunkType.SACK: "SACK",
+    ChunkType.HEARTBEAT: "HEARTBEAT",
+    ChunkType.HEARTBEAT_ACK: "HEARTBEAT ACK",
+    ChunkType.ABORT: "ABORT",
+    ChunkType.SHUTDOWN: "SHUTDOWN",
+    ChunkType.SHUTDOWN_ACK: "SHUTDOWN ACK",
+    ChunkType.ERROR: "ERROR",
+    ChunkType.COOKIE_ECHO: "COOKIE ECHO",
+    ChunkType.COOKIE_ACK: "COOKIE ACK",
+    ChunkType.SHUTDOWN_COMPLETE: "SHUTDOWN COMPLETE",
+    ChunkType.I_DATA: "I-DATA",
+    ChunkType.RE_CONFIG: "RE-CONFIG",
+    ChunkType.FORWARD_TSN: "FORWARD-TSN",
+    ChunkType.I_FORWARD_TSN: "I-FORWARD-TSN",
+}
+_PARAMETER_NAMES: dict[int, str] = {
+    ParameterType.HEARTBEAT_INFO: "Heartbeat Info",
+    ParameterType.STATE_COOKIE: "State Cookie",
+    ParameterType.UNRECOGNIZED_PARAMETER: "Unrecognized Parameter",
+    ParameterType.OUTGOING_SSN_RESET: "Outgoing SSN Reset Request",
+    ParameterType.INCOMING_SSN_RESET: "Incoming SSN Reset Request",
+    ParameterType.SSN_TSN_RESET: "SSN/TSN Reset Request",
+    ParameterType.RECONFIGURATION_RESPONSE: "Re-configuration Response",
+    ParameterType.ADD_OUTGOING_STREAMS: "Add Outgoing Streams Request",
+    ParameterType.ADD_INCOMING_STREAMS: "Add Incoming Streams Request",
+    ParameterType.ZERO_CHECKSUM_ACCEPTABLE: "Zero Checksum Acceptable",
+    ParameterType.SUPPORTED_EXTENSIONS: "Supported Extensions",
+    ParameterType.FORWARD_TSN_SUPPORTED: "Forward-TSN-Supported",
+}
+_CAUSE_NAMES: dict[int, str] = {
+    CauseCode.INVALID_STREAM_IDENTIFIER: "Invalid Stream Identifier",
+    CauseCode.MISSING_MANDATORY_PARAMETER: "Missing Mandatory Parameter",
+    CauseCode.STALE_COOKIE: "Stale Cookie",
+    CauseCode.OUT_OF_RESOURCE: "Out of Resource",
+    CauseCode.UNRESOLVABLE_ADDRESS: "Unresolvable Address",
+    CauseCode.UNRECOGNIZED_CHUNK: "Unrecognized Chunk Type",
+    CauseCode.INVALID_MANDATORY_PARAMETER: "Invalid Mandatory Parameter",
+    CauseCode.UNRECOGNIZED_PARAMETERS: "Unrecognized Parameters",
+    CauseCode.NO_USER_DATA: "No User Data",
+    CauseCode.COOKIE_RECEIVED_WHILE_SHUTTING_DOWN: "Cookie Received While Shutting Down",
+    CauseCode.RESTART_WITH_NEW_ADDRESSES: "Restart of an Association with New Addresses",
+    CauseCode.USER_INITIATED_ABORT: "User-Initiated Abort",
+    CauseCode.PROTOCOL_VIOLATION: "Protocol Violation",
+}
+
+
+def chunk_name(chunk_type: int) -> str:
+    """Returns the name of a type of chunk as the RFCs write it; "unknown" for one that ChunkType doesn't have."""
+    return _CHUNK_NAMES.get(chunk_type, "unknown")
+
+
+def parameter_name(parameter_type: int) -> str:
+    """Returns the name of a type of parameter; "unknown" for one that ParameterType doesn't have."""
+    return _PARAMETER_NAMES.get(parameter_type, "unknown")
+
+
+def cause_name(code: int) -> str:
+    """Returns the name of an error cause; "unknown" for a code that CauseCode doesn't have."""
+    return _CAUSE_NAMES.get(code, "unknown")
+
+
+@dataclass(frozen=True, slots=True, kw_only=True)
+class Policy:
+    """Which checksum fields are accepted, and whether padding is checked. By default, as for a socket, the field has to be
+    the word, and padding is ignored."""
+
+    any_checksum: bool = False
+    """Accepts every checksum field: for captures whose checksums a network card filled in later."""
+    zero_checksum: bool = False
+    """Accepts a field of zero as well (RFC 9653), on INIT and COOKIE ECHO too, which have to have a CRC32c."""
+    strict_padding: bool = False
+    """Padding has to be complete and zero: for a filter that refuses bytes hidden in it (RFC 9260 section 3.2)."""
+
+
+@dataclass(frozen=True, slots=True)
+class Header:
+    """The common header (RFC 9260 section 3.1)."""
+
+    source_port: int
+    destination_port: int
+    verification_tag: int
+    checksum: int
+    """Bytes 8 to 11, most significant byte first. It is right if it is the packet's word."""
+
+
+class GapAckBlock(NamedTuple):
+    """A gap ack block (RFC 9260 section 3.3.4): the first and the last offset from the cumulative TSN."""
+
+    start: int
+    end: int
+
+
+class SkippedStream(NamedTuple):
+    """A stream of FORWARD-TSN (RFC 3758 section 3.2)."""
+
+    stream: int
+    ssn: int
+
+
+class SkippedIStream(NamedTuple):
+    """A stream of I-FORWARD-TSN (RFC 8260 section 2.3.1)."""
+
+    stream: int
+    mid: int
+    is_unordered: bool = False
+
+
+# ---- parameters
+
+
+@dataclass(frozen=True, slots=True)
+class RawParameter:
+    """A parameter as it is (RFC 9260 section 3.2.1): of a type that has no kind of its own here, or whose value isn't one
+    of its kind, which a packet that was checked doesn't have."""
+
+    type: int
+    value: bytes = b""
+
+
+@dataclass(frozen=True, slots=True)
+class HeartbeatInfo:
+    """Heartbeat Info, type 1 (RFC 9260 section 3.3.5)."""
+
+    info: bytes
+
+
+@dataclass(frozen=True, slots=True)
+class StateCookie:
+    """State Cookie, type 7 (RFC 9260 section 3.3.3.1)."""
+
+    cookie: bytes
+
+
+@dataclass(frozen=True, slots=True)
+class OutgoingSsnReset:
+    """Outgoing SSN Reset Request, type 13 (RFC 6525 section 4.1). Without streams it is for all of them."""
+
+    request_number: int
+    response_number: int
+    """The number of the Incoming SSN Reset Request that it answers, or else of the last request that came."""
+    last_tsn: int
+    """The last TSN that its sender used."""
+    streams: tuple[int, ...] = ()
+
+
+@dataclass(frozen=True, slots=True)
+class IncomingSsnReset:
+    """Incoming SSN Reset Request, type 14 (RFC 6525 section 4.2). Without streams it is for all of them."""
+
+    request_number: int
+    streams: tuple[int, ...] = ()
+
+
+@dataclass(frozen=True, slots=True)
+class SsnTsnReset:
+    """SSN/TSN Reset Request, type 15 (RFC 6525 section 4.3)."""
+
+    request_number: int
+
+
+@dataclass(frozen=True, slots=True)
+class NextTsns:
+    """The TSNs that follow a reset of all (RFC 6525 section 4.4)."""
+
+    sender: int
+    receiver: int
+
+
+@dataclass(frozen=True, slots=True)
+class ReConfigResponse:
+    """Re-configuration Response, type 16 (RFC 6525 section 4.4)."""
+
+    response_number: int
+    """The number of the request that it answers."""
+    result: ReConfigResult
+    next_tsns: NextTsns | None = None
+
+
+@dataclass(frozen=True, slots=True)
+class AddOutgoingStreams:
+    """Add Outgoing Streams Request, type 17 (RFC 6525 section 4.5)."""
+
+    request_number: int
+    new_streams: int
+    """How many."""
+
+
+@dataclass(frozen=True, slots=True)
+class AddIncomingStreams:
+    """Add Incoming Streams Request, type 18 (RFC 6525 section 4.6)."""
+
+    request_number: int
+    new_streams: int
+    """How many."""
+
+
+@dataclass(frozen=True, slots=True)
+class ZeroChecksumAcceptable:
+    """Zero Checksum Acceptable, type 0x8001 (RFC 9653 section 4)."""
+
+    method: int
+    """The error detection method; 1 is DTLS."""
+
+
+@dataclass(frozen=True, slots=True)
+class SupportedExtensions:
+    """Supported Extensions, type 0x8008 (RFC 5061 section 4.2.7)."""
+
+    chunk_types: bytes
+    """A type of chunk in each byte."""
+
+
+@dataclass(frozen=True, slots=True)
+class ForwardTsnSupported:
+    """Forward-TSN-Supported, type 0xC000 (RFC 3758 section 3.1)."""
+
+
+Parameter: TypeAlias = (
+    HeartbeatInfo
+    | StateCookie
+    | OutgoingSsnReset
+    | IncomingSsnReset
+    | SsnTsnReset
+    | ReConfigResponse
+    | AddOutgoingStreams
+    | AddIncomingStreams
+    | ZeroChecksumAcceptable
+    | SupportedExtensions
+    | ForwardTsnSupported
+    | RawParameter
+)
+
+# ---- error causes
+
+
+@dataclass(frozen=True, slots=True)
+class RawCause:
+    """An error cause as it is (RFC 9260 section 3.3.10): of a code that has no kind of its own here, or whose value isn't
+    one of its kind, which a packet that was checked doesn't have."""
+
+    code: int
+    value: bytes = b""
+
+
+@dataclass(frozen=True, slots=True)
+class MissingMandatoryParameter:
+    """Missing Mandatory Parameter, code 2 (RFC 9260 section 3.3.10.2)."""
+
+    types: tuple[int, ...]
+    """The types of the parameters that are missing."""
+
+
+@dataclass(frozen=True, slots=True)
+class UnrecognizedChunk:
+    """Unrecognized Chunk Type, code 6 (RFC 9260 section 3.3.10.6)."""
+
+    chunk: bytes
+    """The chunk, with its header."""
+
+
+@dataclass(frozen=True, slots=True)
+class NoUserData:
+    """No User Data, code 9 (RFC 9260 section 3.3.10.9)."""
+
+    tsn: int
+
+
+@dataclass(frozen=True, slots=True)
+class CookieReceivedWhileShuttingDown:
+    """Cookie Received While Shutting Down, code 10 (RFC 9260 section 3.3.10.10)."""
+
+
+@dataclass(frozen=True, slots=True)
+class UserInitiatedAbort:
+    """User-Initiated Abort, code 12 (RFC 9260 section 3.3.10.12)."""
+
+    reason: bytes
+    """Of the upper layer; what was received need not be UTF-8."""
+
+
+@dataclass(frozen=True, slots=True)
+class ProtocolViolation:
+    """Protocol Violation, code 13 (RFC 9260 section 3.3.10.13)."""
+
+    information: bytes
+    """What was received need not be UTF-8."""
+
+
+Cause: TypeAlias = (
+    MissingMandatoryParameter
+    | UnrecognizedChunk
+    | NoUserData
+    | CookieReceivedWhileShuttingDown
+    | UserInitiatedAbort
+    | ProtocolViolation
+    | RawCause
+)
+
+# ---- chunks
+
+
+@dataclass(frozen=True, slots=True)
+class RawChunk:
+    """A chunk as it is (RFC 9260 section 3.2): of a type that has no kind of its own here, or whose value isn't one of its
+    kind, which a packet that was checked doesn't have."""
+
+    type: int
+    flags: int = 0
+    value: bytes = b""
+
+
+@dataclass(frozen=True, slots=True, kw_only=True)
+class Data:
+    """DATA, type 0 (RFC 9260 section 3.3.1): user data, by default a whole message."""
+
+    tsn: int
+    stream: int
+    ssn: int
+    ppid: int
+    payload: bytes
+    is_unordered: bool = False
+    """The U bit."""
+    is_beginning: bool = True
+    """The B bit: it is a message's first fragment."""
+    is_end: bool = True
+    """The E bit: it is a message's last fragment."""
+    immediate_ack: bool = False
+    """The I bit (RFC 7053): the SACK is not to be delayed."""
+
+
+@dataclass(frozen=True, slots=True, kw_only=True)
+class IData:
+    """I-DATA, type 64 (RFC 8260 section 2.1): user data, by default a whole message."""
+
+    tsn: int
+    stream: int
+    mid: int
+    payload: bytes
+    ppid: int = 0
+    """At the beginning of a message; elsewhere 0, and not written."""
+    fsn: int = 0
+    """0 at the beginning of a message, and not written."""
+    is_unordered: bool = False
+    """The U bit."""
+    is_beginning: bool = True
+    """The B bit: it is a message's first fragment."""
+    is_end: bool = True
+    """The E bit: it is a message's last fragment."""
+    immediate_ack: bool = False
+    """The I bit (RFC 7053): the SACK is not to be delayed."""
+
+
+@dataclass(frozen=True, slots=True)
+class Init:
+    """INIT, type 1 (RFC 9260 section 3.3.2)."""
+
+    initiate_tag: int
+    a_rwnd: int
+    outbound_streams: int
+    inbound_streams: int
+    initial_tsn: int
+    parameters: tuple[Parameter, ...] = ()
+
+
+@dataclass(frozen=True, slots=True)
+class InitAck:
+    """INIT ACK, type 2 (RFC 9260 section 3.3.3). It has to have a State Cookie, and may lack it in what was received."""
+
+    initiate_tag: int
+    a_rwnd: int
+    outbound_streams: int
+    inbound_streams: int
+    initial_tsn: int
+    parameters: tuple[Parameter, ...] = ()
+
+
+@dataclass(frozen=True, slots=True)
+class Sack:
+    """SACK, type 3 (RFC 9260 section 3.3.4). The blocks may be in any order: see validate_sack."""
+
+    cumulative_tsn_ack: int
+    a_rwnd: int
+    blocks: tuple[GapAckBlock, ...] = ()
+    duplicates: tuple[int, ...] = ()
+    """TSNs."""
+
+
+@dataclass(frozen=True, slots=True)
+class Heartbeat:
+    """HEARTBEAT, type 4 (RFC 9260 section 3.3.5)."""
+
+    parameters: tuple[Parameter, ...] = ()
+
+
+@dataclass(frozen=True, slots=True)
+class HeartbeatAck:
+    """HEARTBEAT ACK, type 5 (RFC 9260 section 3.3.6)."""
+
+    parameters: tuple[Parameter, ...] = ()
+
+
+@dataclass(frozen=True, slots=True)
+class Abort:
+    """ABORT, type 6 (RFC 9260 section 3.3.7)."""
+
+    causes: tuple[Cause, ...] = ()
+    tag_reflected: bool = False
+    """The T bit: the verification tag isn't the one that the receiver expects, but the one that it writes into its own
+    packets, sent back to it (section 8.5.1)."""
+
+
+@dataclass(frozen=True, slots=True)
+class Shutdown:
+    """SHUTDOWN, type 7 (RFC 9260 section 3.3.8)."""
+
+    cumulative_tsn_ack: int
+
+
+@dataclass(frozen=True, slots=True)
+class ShutdownAck:
+    """SHUTDOWN ACK, type 8 (RFC 9260 section 3.3.9)."""
+
+
+@dataclass(frozen=True, slots=True)
+class OperationError:
+    """ERROR, type 9 (RFC 9260 section 3.3.10)."""
+
+    causes: tuple[Cause, ...]
+
+
+@dataclass(frozen=True, slots=True)
+class CookieEcho:
+    """COOKIE ECHO, type 10 (RFC 9260 section 3.3.11)."""
+
+    cookie: bytes
+
+
+@dataclass(frozen=True, slots=True)
+class CookieAck:
+    """COOKIE ACK, type 11 (RFC 9260 section 3.3.12)."""
+
+
+@dataclass(frozen=True, slots=True)
+class ShutdownComplete:
+    """SHUTDOWN COMPLETE, type 14 (RFC 9260 section 3.3.13)."""
+
+    tag_reflected: bool = False
+    """The T bit: the verification tag isn't the one that the receiver expects, but the one that it writes into its own
+    packets, sent back to it (section 8.5.1)."""
+
+
+@dataclass(frozen=True, slots=True)
+class ReConfig:
+    """RE-CONFIG, type 130 (RFC 6525 section 3.1)."""
+
+    parameters: tuple[Parameter, ...] = ()
+
+
+@dataclass(frozen=True, slots=True)
+class ForwardTsn:
+    """FORWARD-TSN, type 192 (RFC 3758 section 3.2)."""
+
+    new_cumulative_tsn: int
+    streams: tuple[SkippedStream, ...] = ()
+
+
+@dataclass(frozen=True, slots=True)
+class IForwardTsn:
+    """I-FORWARD-TSN, type 194 (RFC 8260 section 2.3.1)."""
+
+    new_cumulative_tsn: int
+    streams: tuple[SkippedIStream, ...] = ()
+
+
+Chunk: TypeAlias = (
+    Data
+    | IData
+    | Init
+    | InitAck
+    | Sack
+    | Heartbeat
+    | HeartbeatAck
+    | Abort
+    | Shutdown
+    | ShutdownAck
+    | OperationError
+    | CookieEcho
+    | CookieAck
+    | ShutdownComplete
+    | ReConfig
+    | ForwardTsn
+    | IForwardTsn
+    | RawChunk
+)

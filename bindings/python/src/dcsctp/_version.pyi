@@ -1,0 +1,2 @@
+# The module is made as the package is built, of dcsctp.h.
+VERSION: tuple[int, int, int]

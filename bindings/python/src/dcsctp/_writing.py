@@ -1,0 +1,518 @@
+"""Writing packets."""
+
+import threading
+from collections.abc import Callable, Iterable, Sequence
+from ctypes import byref, c_size_t, c_uint8, c_uint16, c_uint32
+from types import TracebackType
+from typing import Any, TypeVar
+
+from . import _library as c
+from . import _values as v
+from ._library import functions
+from ._reading import Buffer, number, start_of, to_bytes
+
+_SMALL = 2048
+
+
+def _u8(value: int, name: str) -> int:
+    return number(value, 0xFF, name)
+
+
+def _u16(value: int, name: str) -> int:
+    return number(value, 0xFFFF, name)
+
+
+def _u32(value: int, name: str) -> int:
+    return number(value, 0xFFFFFFFF, name)
+
+
+def _array(kind: Any, items: Sequence[Any]) -> tuple[Any, int]:
+    """The two arguments of C for a list."""
+    return ((kind * len(items))(*items) if items else None), len(items)
+
+
+def _numbers(kind: Any, check: Callable[[int, str], int], values: Iterable[int], name: str) -> tuple[Any, int]:
+    return _array(kind, [check(it, name) for it in values])
+
+
+def _blocks(blocks: Iterable[tuple[int, int]]) -> tuple[Any, int]:
+    pairs = [c.GapAckBlock(_u16(start, "a block's start"), _u16(end, "a block's end")) for start, end in blocks]
+    return _array(c.GapAckBlock, pairs)
+
+
+def _bytes(data: Buffer) -> tuple[bytes, int]:
+    data = to_bytes(data)
+    return data, len(data)
+
+
+# ---- changing a packet
+
+
+def _changed(function: Any, data: Buffer, *arguments: Any) -> bytes:
+    packet = bytearray(to_bytes(data))
+    code = function(start_of(packet), len(packet), *arguments)
+    if code:
+        raise v.write_error(code)
+    return bytes(packet)
+
+
+def seal(data: Buffer) -> bytes:
+    """Returns the packet with its CRC32c in the checksum field (RFC 9260 section 6.8); all other bytes are the same. Raises
+    BadPlace for fewer than 12 bytes."""
+    return _changed(functions.dcsctp_seal, data)
+
+
+def set_tag(data: Buffer, verification_tag: int) -> bytes:
+    """Returns the packet with this verification tag; all other bytes are the same, so `seal` it. Raises BadPlace for fewer
+    than 12 bytes."""
+    return _changed(functions.dcsctp_set_tag, data, _u32(verification_tag, "verification_tag"))
+
+
+# ---- the blocks of a SACK
+
+
+def clean_blocks(blocks: Iterable[tuple[int, int]]) -> list[v.GapAckBlock]:
+    """Returns gap ack blocks in order, with those joined that overlap or touch, and without those that end before their
+    start: the fewest blocks that cover the same offsets, for a SACK that is to be sent (RFC 9260 section 3.3.4)."""
+    array, size = _blocks(blocks)
+    left = functions.dcsctp_clean_blocks(array, size)
+    return [v.GapAckBlock(it.start, it.end) for it in array[:left]] if array else []
+
+
+def validate_sack(sack: v.Sack) -> bool:
+    """Returns whether the gap ack blocks are in order, with a gap between each two, and begin at 2 or later, as a receiver
+    has to send them (RFC 9260 section 3.3.4). Raises NoRoom or BadValue where no packet can
+    have as many."""
+    builder = PacketBuilder(0, 0, 0)
+    builder.sack(0, 0, sack.blocks)
+    packet = bytes(builder)
+    chunk = c.Chunk()
+    functions.dcsctp_chunk_at(packet, len(packet), 12, byref(chunk))
+    return bool(functions.dcsctp_validate_sack(packet, len(packet), byref(chunk)))
+
+
+# ---- a packet
+
+
+class PacketBuilder:
+    """Writes a packet (RFC 9260 section 3): a method for each kind of chunk, and `seal` for its bytes.
+
+    The values are written as they are: whether RFC 9260 lets them be sent, or `check` would accept the packet, isn't
+    checked. A method that raises has changed nothing: NoRoom where the packet would have more bytes than the limit,
+    BadValue where the chunk would have more than 65,535, ValueError where a number has no place in its field. Any number
+    of threads may use one builder."""
+
+    def __init__(
+        self, source_port: int, destination_port: int, verification_tag: int, *, limit: int = v.MAX_PACKET_SIZE
+    ) -> None:
+        """Begins a packet of at most `limit` bytes, and never more than 65,532; NoRoom where the limit is below 12."""
+        self._limit = max(0, min(limit, v.MAX_PACKET_SIZE))
+        self._packet = bytearray(min(self._limit, _SMALL))
+        self._size = c_size_t()
+        # (C has to be alone with the packet and its size.)
+        self._lock = threading.RLock()
+        self._call(
+            functions.dcsctp_begin,
+            _u16(source_port, "source_port"),
+            _u16(destination_port, "destination_port"),
+            _u32(verification_tag, "verification_tag"),
+        )
+
+    def _call(self, function: Any, *arguments: Any) -> None:
+        with self._lock:
+            while True:
+                code = function(start_of(self._packet), len(self._packet), byref(self._size), *arguments)
+                if code != v.Result.NO_ROOM or len(self._packet) == self._limit:
+                    break
+                packet = bytearray(min(self._limit, 2 * len(self._packet)))
+                packet[: len(self._packet)] = self._packet
+                self._packet = packet
+        if code:
+            raise v.write_error(code)
+
+    def _list(self, function: Any, *arguments: Any) -> "ChunkWriter":
+        with self._lock:
+            start = self._size.value
+            self._call(function, *arguments)
+            return ChunkWriter(self, start)
+
+    def _take_back(self, start: int) -> None:
+        with self._lock:
+            self._size.value = min(self._size.value, start)
+
+    # -- what was written
+
+    def __bytes__(self) -> bytes:
+        """The packet with a checksum field of zero, as RFC 9653 has it sent where that was negotiated."""
+        with self._lock:
+            return bytes(self._packet[: self._size.value])
+
+    def __len__(self) -> int:
+        """The number of bytes."""
+        return self._size.value
+
+    @property
+    def limit(self) -> int:
+        """The most bytes that the packet may have."""
+        return self._limit
+
+    def seal(self) -> bytes:
+        """Returns the packet, with its CRC32c (RFC 9260 section 6.8). More may be added, and sealed again."""
+        return seal(bytes(self))
+
+    # -- chunks
+
+    def add(self, chunk: v.Chunk) -> None:
+        """Adds a chunk of any kind, with its parameters or error causes: all of it, or nothing."""
+        with self._lock:
+            start = len(self)
+            try:
+                self._add(chunk)
+            except BaseException:
+                self._take_back(start)
+                raise
+
+    def _add(self, chunk: v.Chunk) -> None:
+        match chunk:
+            case v.Data():
+                self._data(functions.dcsctp_add_data, chunk, chunk.payload, ssn=chunk.ssn)
+            case v.IData():
+                self._data(functions.dcsctp_add_i_data, chunk, chunk.payload, mid=chunk.mid, fsn=chunk.fsn)
+            case v.Init():
+                self._init(functions.dcsctp_add_init, chunk)._parameters(chunk.parameters)
+            case v.InitAck():
+                self._init(functions.dcsctp_add_init_ack, chunk)._parameters(chunk.parameters)
+            case v.Sack():
+                self.sack(chunk.cumulative_tsn_ack, chunk.a_rwnd, chunk.blocks, chunk.duplicates)
+            case v.Heartbeat():
+                self.chunk(v.ChunkType.HEARTBEAT)._parameters(chunk.parameters)
+            case v.HeartbeatAck():
+                self.chunk(v.ChunkType.HEARTBEAT_ACK)._parameters(chunk.parameters)
+            case v.Abort():
+                self.abort(tag_reflected=chunk.tag_reflected)._causes(chunk.causes)
+            case v.Shutdown():
+                self.shutdown(chunk.cumulative_tsn_ack)
+            case v.ShutdownAck():
+                self.shutdown_ack()
+            case v.OperationError():
+                self.error()._causes(chunk.causes)
+            case v.CookieEcho():
+                self.cookie_echo(chunk.cookie)
+            case v.CookieAck():
+                self.cookie_ack()
+            case v.ShutdownComplete():
+                self.shutdown_complete(tag_reflected=chunk.tag_reflected)
+            case v.ReConfig():
+                self.re_config()._parameters(chunk.parameters)
+            case v.ForwardTsn():
+                self.forward_tsn(chunk.new_cumulative_tsn, chunk.streams)
+            case v.IForwardTsn():
+                self.i_forward_tsn(chunk.new_cumulative_tsn, chunk.streams)
+            case v.RawChunk():
+                self.chunk(chunk.type, chunk.flags, chunk.value)
+            case _:
+                raise TypeError(f"{type(chunk).__name__} is no chunk")
+
+    def chunk(self, type: int, flags: int = 0, value: Buffer = b"") -> "ChunkWriter":
+        """Adds a chunk of any type (RFC 9260 section 3.2), to which parameters or error causes can be added."""
+        return self._list(functions.dcsctp_add_chunk, _u8(type, "type"), _u8(flags, "flags"), *_bytes(value))
+
+    def data(
+        self,
+        payload: Buffer,
+        *,
+        tsn: int,
+        stream: int,
+        ssn: int,
+        ppid: int,
+        is_unordered: bool = False,
+        is_beginning: bool = True,
+        is_end: bool = True,
+        immediate_ack: bool = False,
+    ) -> None:
+        """Adds DATA (RFC 9260 section 3.3.1), by default a whole message."""
+        self.add(
+            v.Data(
+                tsn=tsn,
+                stream=stream,
+                ssn=ssn,
+                ppid=ppid,
+                payload=to_bytes(payload),
+                is_unordered=is_unordered,
+                is_beginning=is_beginning,
+                is_end=is_end,
+                immediate_ack=immediate_ack,
+            )
+        )
+
+    def i_data(
+        self,
+        payload: Buffer,
+        *,
+        tsn: int,
+        stream: int,
+        mid: int,
+        ppid: int = 0,
+        fsn: int = 0,
+        is_unordered: bool = False,
+        is_beginning: bool = True,
+        is_end: bool = True,
+        immediate_ack: bool = False,
+    ) -> None:
+        """Adds I-DATA (RFC 8260 section 2.1), by default a whole message. The PPID is written at the beginning of a
+        message, and the FSN elsewhere."""
+        self.add(
+            v.IData(
+                tsn=tsn,
+                stream=stream,
+                mid=mid,
+                ppid=ppid,
+                fsn=fsn,
+                payload=to_bytes(payload),
+                is_unordered=is_unordered,
+                is_beginning=is_beginning,
+                is_end=is_end,
+                immediate_ack=immediate_ack,
+            )
+        )
+
+    def _data(
+        self, function: Any, chunk: v.Data | v.IData, payload: Buffer, *, ssn: int = 0, mid: int = 0, fsn: int = 0
+    ) -> None:
+        numbers = c.Data(
+            tsn=_u32(chunk.tsn, "tsn"),
+            mid=_u32(mid, "mid"),
+            fsn=_u32(fsn, "fsn"),
+            ppid=_u32(chunk.ppid, "ppid"),
+            stream=_u16(chunk.stream, "stream"),
+            ssn=_u16(ssn, "ssn"),
+            is_unordered=bool(chunk.is_unordered),
+            is_beginning=bool(chunk.is_beginning),
+            is_end=bool(chunk.is_end),
+            immediate_ack=bool(chunk.immediate_ack),
+        )
+        self._call(function, byref(numbers), *_bytes(payload))
+
+    def sack(
+        self,
+        cumulative_tsn_ack: int,
+        a_rwnd: int,
+        blocks: Iterable[tuple[int, int]] = (),
+        duplicates: Iterable[int] = (),
+    ) -> None:
+        """Adds a SACK (RFC 9260 section 3.3.4). `clean_blocks` brings blocks into order."""
+        self._call(
+            functions.dcsctp_add_sack,
+            _u32(cumulative_tsn_ack, "cumulative_tsn_ack"),
+            _u32(a_rwnd, "a_rwnd"),
+            *_blocks(blocks),
+            *_numbers(c_uint32, _u32, duplicates, "a duplicate TSN"),
+        )
+
+    def init(
+        self, *, initiate_tag: int, a_rwnd: int, outbound_streams: int, inbound_streams: int, initial_tsn: int
+    ) -> "ChunkWriter":
+        """Adds INIT (RFC 9260 section 3.3.2), to which parameters can be added. It goes alone, under tag 0."""
+        chunk = v.Init(initiate_tag, a_rwnd, outbound_streams, inbound_streams, initial_tsn)
+        return self._init(functions.dcsctp_add_init, chunk)
+
+    def init_ack(
+        self, *, initiate_tag: int, a_rwnd: int, outbound_streams: int, inbound_streams: int, initial_tsn: int
+    ) -> "ChunkWriter":
+        """Adds INIT ACK (RFC 9260 section 3.3.3). A StateCookie has to be added."""
+        chunk = v.InitAck(initiate_tag, a_rwnd, outbound_streams, inbound_streams, initial_tsn)
+        return self._init(functions.dcsctp_add_init_ack, chunk)
+
+    def _init(self, function: Any, chunk: v.Init | v.InitAck) -> "ChunkWriter":
+        numbers = c.Init(
+            _u32(chunk.initiate_tag, "initiate_tag"),
+            _u32(chunk.a_rwnd, "a_rwnd"),
+            _u16(chunk.outbound_streams, "outbound_streams"),
+            _u16(chunk.inbound_streams, "inbound_streams"),
+            _u32(chunk.initial_tsn, "initial_tsn"),
+        )
+        return self._list(function, byref(numbers))
+
+    def cookie_echo(self, cookie: Buffer) -> None:
+        """Adds COOKIE ECHO (RFC 9260 section 3.3.11)."""
+        self._call(functions.dcsctp_add_cookie_echo, *_bytes(cookie))
+
+    def cookie_ack(self) -> None:
+        """Adds COOKIE ACK (RFC 9260 section 3.3.12)."""
+        self._call(functions.dcsctp_add_cookie_ack)
+
+    def heartbeat(self, info: Buffer) -> "ChunkWriter":
+        """Adds HEARTBEAT with this Heartbeat Info (RFC 9260 section 3.3.5)."""
+        return self._list(functions.dcsctp_add_heartbeat, False, *_bytes(info))
+
+    def heartbeat_ack(self, info: Buffer) -> "ChunkWriter":
+        """Adds HEARTBEAT ACK with this Heartbeat Info (RFC 9260 section 3.3.6)."""
+        return self._list(functions.dcsctp_add_heartbeat, True, *_bytes(info))
+
+    def abort(self, reason: str | Buffer | None = None, *, tag_reflected: bool = False) -> "ChunkWriter":
+        """Adds ABORT (RFC 9260 section 3.3.7), to which error causes can be added; with a reason it has the cause
+        User-Initiated Abort. BadValue where the bytes of the reason aren't UTF-8."""
+        if reason is None:
+            return self.chunk(v.ChunkType.ABORT, int(bool(tag_reflected)))
+        encoded = reason.encode() if isinstance(reason, str) else reason
+        return self._list(functions.dcsctp_add_abort, bool(tag_reflected), *_bytes(encoded))
+
+    def error(self) -> "ChunkWriter":
+        """Adds ERROR (RFC 9260 section 3.3.10), to which at least one error cause has to be added."""
+        return self.chunk(v.ChunkType.ERROR)
+
+    def shutdown(self, cumulative_tsn_ack: int) -> None:
+        """Adds SHUTDOWN (RFC 9260 section 3.3.8)."""
+        self._call(functions.dcsctp_add_shutdown, _u32(cumulative_tsn_ack, "cumulative_tsn_ack"))
+
+    def shutdown_ack(self) -> None:
+        """Adds SHUTDOWN ACK (RFC 9260 section 3.3.9)."""
+        self._call(functions.dcsctp_add_shutdown_ack)
+
+    def shutdown_complete(self, *, tag_reflected: bool = False) -> None:
+        """Adds SHUTDOWN COMPLETE (RFC 9260 section 3.3.13)."""
+        self._call(functions.dcsctp_add_shutdown_complete, bool(tag_reflected))
+
+    def re_config(self) -> "ChunkWriter":
+        """Adds RE-CONFIG (RFC 6525 section 3.1), to which one or two parameters have to be added."""
+        return self.chunk(v.ChunkType.RE_CONFIG)
+
+    def forward_tsn(self, new_cumulative_tsn: int, streams: Iterable[tuple[int, int]] = ()) -> None:
+        """Adds FORWARD-TSN (RFC 3758 section 3.2); of each stream the number and the SSN."""
+        skipped = [c.SkippedStream(_u16(stream, "stream"), _u16(ssn, "ssn"), 0, False) for stream, ssn in streams]
+        self._call(
+            functions.dcsctp_add_forward_tsn,
+            _u32(new_cumulative_tsn, "new_cumulative_tsn"),
+            *_array(c.SkippedStream, skipped),
+        )
+
+    def i_forward_tsn(self, new_cumulative_tsn: int, streams: Iterable[tuple[int, int, bool]] = ()) -> None:
+        """Adds I-FORWARD-TSN (RFC 8260 section 2.3.1); of each stream the number, the MID, and whether the message is
+        unordered."""
+        skipped = [
+            c.SkippedStream(_u16(stream, "stream"), 0, _u32(mid, "mid"), bool(is_unordered))
+            for stream, mid, is_unordered in streams
+        ]
+        self._call(
+            functions.dcsctp_add_i_forward_tsn,
+            _u32(new_cumulative_tsn, "new_cumulative_tsn"),
+            *_array(c.SkippedStream, skipped),
+        )
+
+
+class ChunkWriter:
+    """Adds parameters or error causes to the packet's last chunk. In a `with` statement that ends by an exception the chunk
+    is taken back, with all that was added since.
+
+    A method that raises has changed nothing: BadPlace where the chunk isn't the last one any more, and what the methods of
+    PacketBuilder raise."""
+
+    def __init__(self, builder: PacketBuilder, start: int) -> None:
+        self._builder, self._start = builder, start
+
+    def __enter__(self) -> "ChunkWriter":
+        return self
+
+    def __exit__(
+        self, kind: type[BaseException] | None, value: BaseException | None, traceback: TracebackType | None
+    ) -> None:
+        if kind is not None:
+            self._builder._take_back(self._start)
+
+    def _parameters(self, parameters: Iterable[v.Parameter]) -> None:
+        for it in parameters:
+            self.parameter(it)
+
+    def _causes(self, causes: Iterable[v.Cause]) -> None:
+        for it in causes:
+            self.cause(it)
+
+    def _item(self, type: int, value: Buffer = b"") -> None:
+        add = functions.dcsctp_add_parameter
+        self._builder._call(add, self._start, _u16(type, "type"), *_bytes(value))
+
+    def _number(self, type: int, value: int, name: str) -> None:
+        self._builder._call(functions.dcsctp_add_number, self._start, type, _u32(value, name))
+
+    def _re_config(self, values: c.ReConfig, streams: Iterable[int] = ()) -> None:
+        add = functions.dcsctp_add_re_config
+        self._builder._call(add, self._start, byref(values), *_numbers(c_uint16, _u16, streams, "a stream"))
+
+    def parameter(self, parameter: v.Parameter) -> "ChunkWriter":
+        """Adds a parameter (RFC 9260 section 3.2.1), and returns this."""
+        match parameter:
+            case v.HeartbeatInfo():
+                self._item(v.ParameterType.HEARTBEAT_INFO, parameter.info)
+            case v.StateCookie():
+                self._item(v.ParameterType.STATE_COOKIE, parameter.cookie)
+            case v.OutgoingSsnReset():
+                values = c.ReConfig(
+                    type=v.ParameterType.OUTGOING_SSN_RESET,
+                    request_number=_u32(parameter.request_number, "request_number"),
+                    response_number=_u32(parameter.response_number, "response_number"),
+                    last_tsn=_u32(parameter.last_tsn, "last_tsn"),
+                )
+                self._re_config(values, parameter.streams)
+            case v.IncomingSsnReset():
+                request_number = _u32(parameter.request_number, "request_number")
+                values = c.ReConfig(type=v.ParameterType.INCOMING_SSN_RESET, request_number=request_number)
+                self._re_config(values, parameter.streams)
+            case v.SsnTsnReset():
+                request_number = _u32(parameter.request_number, "request_number")
+                self._re_config(c.ReConfig(type=v.ParameterType.SSN_TSN_RESET, request_number=request_number))
+            case v.ReConfigResponse():
+                values = c.ReConfig(
+                    type=v.ParameterType.RECONFIGURATION_RESPONSE,
+                    response_number=_u32(parameter.response_number, "response_number"),
+                    result=_u32(parameter.result, "result"),
+                )
+                if parameter.next_tsns is not None:
+                    values.has_next_tsns = True
+                    values.sender_next_tsn = _u32(parameter.next_tsns.sender, "next_tsns.sender")
+                    values.receiver_next_tsn = _u32(parameter.next_tsns.receiver, "next_tsns.receiver")
+                self._re_config(values)
+            case v.AddOutgoingStreams():
+                self._add_streams(v.ParameterType.ADD_OUTGOING_STREAMS, parameter)
+            case v.AddIncomingStreams():
+                self._add_streams(v.ParameterType.ADD_INCOMING_STREAMS, parameter)
+            case v.ZeroChecksumAcceptable():
+                self._number(v.ParameterType.ZERO_CHECKSUM_ACCEPTABLE, parameter.method, "method")
+            case v.SupportedExtensions():
+                self._item(v.ParameterType.SUPPORTED_EXTENSIONS, parameter.chunk_types)
+            case v.ForwardTsnSupported():
+                self._item(v.ParameterType.FORWARD_TSN_SUPPORTED)
+            case v.RawParameter():
+                self._item(parameter.type, parameter.value)
+            case _:
+                raise TypeError(f"{type(parameter).__name__} is no parameter")
+        return self
+
+    def _add_streams(self, kind: v.ParameterType, parameter: v.AddOutgoingStreams | v.AddIncomingStreams) -> None:
+        values = c.ReConfig(
+            type=kind,
+            request_number=_u32(parameter.request_number, "request_number"),
+            new_streams=_u16(parameter.new_streams, "new_streams"),
+        )
+        self._re_config(values)
+
+    def cause(self, cause: v.Cause) -> "ChunkWriter":
+        """Adds an error cause (RFC 9260 section 3.3.10), and returns this."""
+        match cause:
+            case v.MissingMandatoryParameter():
+                types = _numbers(c_uint16, _u16, cause.types, "a type")
+                self._builder._call(functions.dcsctp_add_missing_parameters, self._start, *types)
+            case v.UnrecognizedChunk():
+                self._item(v.CauseCode.UNRECOGNIZED_CHUNK, cause.chunk)
+            case v.NoUserData():
+                self._number(v.CauseCode.NO_USER_DATA, cause.tsn, "tsn")
+            case v.CookieReceivedWhileShuttingDown():
+                self._item(v.CauseCode.COOKIE_RECEIVED_WHILE_SHUTTING_DOWN)
+            case v.UserInitiatedAbort():
+                self._item(v.CauseCode.USER_INITIATED_ABORT, cause.reason)
+            case v.ProtocolViolation():
+                self._item(v.CauseCode.PROTOCOL_VIOLATION, cause.information)
+            case v.RawCause():
+                self._item(cause.code, cause.value)
+            case _:
+                raise TypeError(f"{type(cause).__name__} is no error cause")
+        return self

@@ -1,0 +1,41 @@
+"""What the tests share."""
+
+import os
+import random
+from collections.abc import Iterator
+
+import dcsctp
+
+HERE = os.path.dirname(os.path.abspath(__file__))
+ANY_CHECKSUM = dcsctp.Policy(any_checksum=True)
+
+
+def of_hex(text: str) -> bytes:
+    """The bytes of hexadecimal text with blanks."""
+    return bytes.fromhex(text)
+
+
+def packets() -> list[bytes]:
+    """Those of examples/packets.txt."""
+    with open(os.path.join(HERE, "packets.txt"), encoding="ascii") as file:
+        return [bytes.fromhex(line) for line in file.read().splitlines() if line and not line.startswith("#")]
+
+
+def mutated(count: int, seed: int) -> Iterator[bytes]:
+    """Packets with bytes changed, cut out and put in, at random; and bytes at random."""
+    source = random.Random(seed)
+    known = packets()
+    for _ in range(count):
+        data = bytearray(source.choice(known))
+        for _ in range(source.randrange(4)):
+            at = source.randrange(len(data) + 1)
+            match source.randrange(4):
+                case 0:
+                    data[at : at + 1] = source.randbytes(1)
+                case 1:
+                    del data[at : at + source.randrange(1, 9)]
+                case 2:
+                    data[at:at] = source.randbytes(source.randrange(1, 9))
+                case 3:
+                    data[at : at + 2] = source.choice((b"\x00\x00", b"\x00\x04", b"\x00\x07", b"\xff\xff"))
+        yield bytes(data) if source.randrange(20) else source.randbytes(source.randrange(64))

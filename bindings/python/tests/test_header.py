@@ -1,0 +1,144 @@
+"""That what is declared for ctypes, and the names of numbers, are those of dcsctp.h: none forgotten, none wrong."""
+
+import ctypes
+import os
+import re
+import unittest
+from ctypes import POINTER, c_bool, c_char_p, c_size_t, c_uint8, c_uint16, c_uint32
+from typing import Any
+
+import dcsctp
+from dcsctp import _library
+from support import HERE
+
+TYPES: dict[str, Any] = {
+    "bool": c_bool,
+    "size_t": c_size_t,
+    "uint8_t": c_uint8,
+    "uint16_t": c_uint16,
+    "uint32_t": c_uint32,
+    "const uint8_t *": c_char_p,
+    "const uint16_t *": POINTER(c_uint16),
+    "const uint32_t *": POINTER(c_uint32),
+    "uint8_t *": POINTER(c_uint8),
+    "uint16_t *": POINTER(c_uint16),
+    "uint32_t *": POINTER(c_uint32),
+    "size_t *": POINTER(c_size_t),
+}
+
+
+def header() -> str:
+    """The header that the package is built with, without comments; or that of a checkout."""
+    for folder in ("../library", "../../../dist", "../../../include"):
+        path = os.path.join(HERE, folder, "dcsctp.h")
+        if os.path.exists(path):
+            with open(path, encoding="ascii") as file:
+                return re.sub(r"/\*.*?\*/", "", file.read(), flags=re.DOTALL)
+    raise FileNotFoundError("there is no dcsctp.h")
+
+
+HEADER = header()
+
+
+def camel(name: str) -> str:
+    return "".join(word.capitalize() for word in name.split("_"))
+
+
+def ctype(text: str) -> Any:
+    """The type of ctypes for a type of C."""
+    found = re.fullmatch(r"(?:const )?struct dcsctp_(\w+) \*", text)
+    return POINTER(getattr(_library, camel(found[1]))) if found else TYPES[text]
+
+
+def split(declaration: str) -> tuple[str, str]:
+    """The type and the name of a declaration."""
+    found = re.fullmatch(r"(.*?[ *])(\w+)", declaration.strip())
+    assert found, declaration
+    return found[1].strip(), found[2]
+
+
+class Functions(unittest.TestCase):
+    def test_all_are_declared(self) -> None:
+        text = re.sub(r"static inline .*?\n}\n", "", HEADER, flags=re.DOTALL)
+        expected = {}
+        for result, name, arguments in re.findall(r"^(\w+) (dcsctp_\w+)\(([^)]*)\);", text, re.MULTILINE):
+            words = [] if arguments == "void" else [split(" ".join(it.split()))[0] for it in arguments.split(",")]
+            expected[name] = (TYPES[result], *map(ctype, words))
+        self.assertGreater(len(expected), 40)
+        self.assertEqual(_library.FUNCTIONS, expected)
+
+    def test_all_are_called(self) -> None:
+        folder = os.path.dirname(dcsctp.__file__)
+        text = ""
+        for name in ("_library.py", "_reading.py", "_writing.py"):
+            with open(os.path.join(folder, name), encoding="ascii") as file:
+                text += file.read()
+        called = set(re.findall(r"(?:functions|library)\.(dcsctp_\w+)", text))
+        self.assertEqual(called, set(_library.FUNCTIONS))
+
+
+class Structs(unittest.TestCase):
+    def test_fields(self) -> None:
+        found = re.findall(r"^struct dcsctp_(\w+) \{(.*?)^\};", HEADER, re.MULTILINE | re.DOTALL)
+        self.assertEqual(len(found), 11)
+        for name, body in found:
+            fields = [split(" ".join(it.split())) for it in body.split(";") if it.strip()]
+            with self.subTest(name):
+                struct = getattr(_library, camel(name))
+                self.assertEqual(struct._fields_, [(field, ctype(kind)) for kind, field in fields])
+
+    def test_none_beside(self) -> None:
+        structs = [it for it in vars(_library).values() if isinstance(it, type) and issubclass(it, ctypes.Structure)]
+        self.assertEqual(len(structs), 11)
+
+
+class Numbers(unittest.TestCase):
+    def test_all(self) -> None:
+        expected = {
+            **{f"CHUNK_{it.name}": it.value for it in dcsctp.ChunkType},
+            **{f"PARAMETER_{it.name}": it.value for it in dcsctp.ParameterType},
+            **{f"CAUSE_{it.name}": it.value for it in dcsctp.CauseCode},
+            **{f"RE_CONFIG_{it.name}": it.value for it in dcsctp.ReConfigResult},
+            **{it.name: it.value for it in dcsctp.Result},
+            "FIRST_CHUNK": 12,
+            "TAG_REFLECTED": 1,
+        }
+        bodies = re.findall(r"^enum .*?\};", HEADER, re.MULTILINE | re.DOTALL)
+        pairs = re.findall(r"DCSCTP_(\w+) = (\w+)", "".join(bodies))
+        self.assertEqual({name: int(number, 0) for name, number in pairs}, expected)
+
+    def test_version(self) -> None:
+        self.assertIn(f'#define DCSCTP_VERSION "{dcsctp.__version__}"', HEADER)
+        major, minor, patch = map(int, dcsctp.__version__.split("."))
+        number = major * 65536 + minor * 256 + patch
+        self.assertEqual(_library.functions.dcsctp_version_number(), number)
+
+
+class Names(unittest.TestCase):
+    def texts(self, function: str, prefix: str) -> dict[str, str]:
+        found = re.search(rf"\*{function}\(.*?\n}}\n", HEADER, re.DOTALL)
+        assert found
+        return dict(re.findall(rf'case DCSCTP_{prefix}(\w+): return "(.*?)";', found[0]))
+
+    def test_results(self) -> None:
+        self.assertEqual({it.name: it.text for it in dcsctp.Result}, self.texts("dcsctp_result_text", ""))
+
+    def test_chunks(self) -> None:
+        names = {it.name: dcsctp.chunk_name(it) for it in dcsctp.ChunkType}
+        self.assertEqual(names, self.texts("dcsctp_chunk_name", "CHUNK_"))
+        self.assertEqual(dcsctp.chunk_name(130), "RE-CONFIG")
+        self.assertEqual(dcsctp.chunk_name(200), "unknown")
+
+    def test_parameters(self) -> None:
+        names = {it.name: dcsctp.parameter_name(it) for it in dcsctp.ParameterType}
+        self.assertEqual(names, self.texts("dcsctp_parameter_name", "PARAMETER_"))
+        self.assertEqual(dcsctp.parameter_name(0), "unknown")
+
+    def test_causes(self) -> None:
+        names = {it.name: dcsctp.cause_name(it) for it in dcsctp.CauseCode}
+        self.assertEqual(names, self.texts("dcsctp_cause_name", "CAUSE_"))
+        self.assertEqual(dcsctp.cause_name(0), "unknown")
+
+
+if __name__ == "__main__":
+    unittest.main()

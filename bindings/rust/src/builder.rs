@@ -1,0 +1,575 @@
+//! Packets that are written.
+
+use crate::error::WriteError;
+use crate::ffi;
+use crate::packet::seal;
+use crate::types::{CauseCode, ChunkType, ParameterType};
+use crate::values::{Data, GapAckBlock, Init, ReConfig, SkippedStream};
+
+/// The most bytes that a packet can have which is written.
+pub const MAX_PACKET: usize = 65_532;
+
+/// A packet that is written into a buffer (RFC 9260 section 3): begun, added to, and sealed.
+///
+/// Each method that adds a chunk adds its padding too. One that can't returns an error and changes
+/// nothing; so to bundle, add until one returns [`WriteError::NoRoom`], seal and send, and begin
+/// the next packet with that chunk. The values are written as they are: whether RFC 9260 lets them
+/// be sent, or [`check`](crate::check) would accept the packet, isn't checked. Bytes of the buffer
+/// after the packet stay.
+///
+/// ```
+/// use dcsctp::{Data, GapAckBlock, PacketBuilder};
+///
+/// let mut buffer = [0; 1200];
+/// let mut packet = PacketBuilder::begin(&mut buffer, 5000, 5001, 0x0102_0304)?;
+/// packet
+///     .sack(41, 0x2_0000, &[GapAckBlock::new(2, 3)], &[])?
+///     .data(&Data {
+///         tsn: 7,
+///         is_beginning: true,
+///         is_end: true,
+///         payload: b"hello",
+///         ..Data::default()
+///     })?;
+/// let bytes = packet.seal();
+/// assert_eq!(bytes.len(), 12 + 20 + 24);
+/// # Ok::<(), dcsctp::WriteError>(())
+/// ```
+#[derive(Debug)]
+pub struct PacketBuilder<'a> {
+    buffer: &'a mut [u8],
+    size: usize,
+}
+
+/// Defines a call of a function that adds to a packet: the packet's arguments come first.
+macro_rules! add {
+    ($packet:expr, $function:ident $(, $argument:expr)*) => {{
+        let (front, room) = ($packet.buffer.as_mut_ptr(), $packet.buffer.len());
+        // SAFETY: `buffer` and each pointer with a length are of slices, and `size` and each other
+        // pointer are references. The buffer is borrowed mutably, so nothing overlaps it.
+        WriteError::check(unsafe {
+            ffi::$function(front, room, &raw mut $packet.size $(, $argument)*)
+        })
+    }};
+}
+
+impl<'a> PacketBuilder<'a> {
+    /// Begins a packet with these ports and this tag (RFC 9260 section 3.1), and a checksum field
+    /// of zero: 12 bytes.
+    ///
+    /// The tag is the initiate tag of the peer's INIT or INIT ACK; with INIT it is 0.
+    ///
+    /// # Errors
+    /// [`WriteError::NoRoom`] where the buffer has fewer than 12 bytes.
+    #[doc(alias = "dcsctp_begin")]
+    pub fn begin(
+        buffer: &'a mut [u8],
+        source_port: u16,
+        destination_port: u16,
+        verification_tag: u32,
+    ) -> Result<Self, WriteError> {
+        let mut packet = Self { buffer, size: 0 };
+        add!(packet, dcsctp_begin, source_port, destination_port, verification_tag)?;
+        Ok(packet)
+    }
+
+    /// Goes on with a packet that was begun before: the first `size` bytes of the buffer.
+    ///
+    /// # Errors
+    /// [`WriteError::BadPlace`] where `size` is less than 12, not a multiple of 4, or more than the
+    /// buffer or [`MAX_PACKET`].
+    pub const fn resume(buffer: &'a mut [u8], size: usize) -> Result<Self, WriteError> {
+        if size < 12 || size % 4 != 0 || size > buffer.len() || size > MAX_PACKET {
+            return Err(WriteError::BadPlace);
+        }
+        Ok(Self { buffer, size })
+    }
+
+    /// Returns the packet's size so far, in bytes.
+    #[must_use]
+    pub const fn size(&self) -> usize {
+        self.size
+    }
+
+    /// Returns how many bytes there is room for: of the buffer, and up to [`MAX_PACKET`].
+    #[must_use]
+    pub fn room(&self) -> usize {
+        self.buffer.len().min(MAX_PACKET) - self.size
+    }
+
+    /// Returns the packet so far; its checksum field is zero.
+    #[must_use]
+    pub fn as_bytes(&self) -> &[u8] {
+        &self.buffer[..self.size]
+    }
+
+    /// Writes the CRC32c (RFC 9260 section 6.8), and returns the packet.
+    #[must_use]
+    pub fn seal(self) -> &'a mut [u8] {
+        let packet = self.unsealed();
+        // The packet has a header at least.
+        let _ = seal(packet);
+        packet
+    }
+
+    /// Returns the packet with a checksum field of zero, as it may be sent to a peer that sent Zero
+    /// Checksum Acceptable (RFC 9653); but not with INIT or COOKIE ECHO in it.
+    #[must_use]
+    pub fn unsealed(self) -> &'a mut [u8] {
+        &mut self.buffer[..self.size]
+    }
+
+    /// Adds all or nothing: where `add` returns an error, what it added is taken back.
+    ///
+    /// ```
+    /// use dcsctp::{CauseCode, PacketBuilder, WriteError};
+    ///
+    /// let mut buffer = [0; 32];
+    /// let mut packet = PacketBuilder::begin(&mut buffer, 1, 2, 3)?;
+    /// let added = packet.all_or_nothing(|packet| {
+    ///     packet.error()?.cause(CauseCode::PROTOCOL_VIOLATION, b"what was it?")?;
+    ///     packet.cookie_ack().map(|_| ())
+    /// });
+    /// assert_eq!((added, packet.size()), (Err(WriteError::NoRoom), 12));
+    /// # Ok::<(), WriteError>(())
+    /// ```
+    ///
+    /// # Errors
+    /// What `add` returns.
+    pub fn all_or_nothing<T>(
+        &mut self,
+        add: impl FnOnce(&mut PacketBuilder<'_>) -> Result<T, WriteError>,
+    ) -> Result<T, WriteError> {
+        let Self { buffer, size } = self;
+        let mut packet = PacketBuilder { buffer, size: *size };
+        let added = add(&mut packet)?;
+        *size = packet.size;
+        Ok(added)
+    }
+
+    /// Adds a chunk of any type with these flags and this value (RFC 9260 section 3.2).
+    ///
+    /// # Errors
+    /// [`WriteError::BadValue`] or [`WriteError::NoRoom`].
+    #[doc(alias = "dcsctp_add_chunk")]
+    pub fn chunk(
+        &mut self,
+        chunk_type: ChunkType,
+        flags: u8,
+        value: &[u8],
+    ) -> Result<ChunkBuilder<'_, 'a>, WriteError> {
+        let start = self.size;
+        let (first, count) = (value.as_ptr(), value.len());
+        add!(self, dcsctp_add_chunk, chunk_type.0, flags, first, count)?;
+        Ok(ChunkBuilder { packet: self, start })
+    }
+
+    /// Returns the last chunk, which begins at this offset, to add to its list: what
+    /// [`size`](Self::size) was before it was added. Where no chunk begins there and ends the
+    /// packet, adding returns [`WriteError::BadPlace`].
+    pub const fn last_chunk(&mut self, offset: usize) -> ChunkBuilder<'_, 'a> {
+        ChunkBuilder { packet: self, start: offset }
+    }
+
+    /// Adds DATA (RFC 9260 section 3.3.1). Of `data` its `mid` and `fsn` are ignored.
+    ///
+    /// # Errors
+    /// [`WriteError::BadValue`] or [`WriteError::NoRoom`].
+    #[doc(alias = "dcsctp_add_data")]
+    pub fn data(&mut self, data: &Data) -> Result<&mut Self, WriteError> {
+        let raw = raw_data(data);
+        let (first, count) = (data.payload.as_ptr(), data.payload.len());
+        add!(self, dcsctp_add_data, &raw const raw, first, count)?;
+        Ok(self)
+    }
+
+    /// Adds I-DATA (RFC 8260 section 2.1). Of `data` its `ssn` is ignored; and its `fsn` at the
+    /// beginning of a message, its `ppid` elsewhere.
+    ///
+    /// # Errors
+    /// [`WriteError::BadValue`] or [`WriteError::NoRoom`].
+    #[doc(alias = "dcsctp_add_i_data")]
+    pub fn i_data(&mut self, data: &Data) -> Result<&mut Self, WriteError> {
+        let raw = raw_data(data);
+        let (first, count) = (data.payload.as_ptr(), data.payload.len());
+        add!(self, dcsctp_add_i_data, &raw const raw, first, count)?;
+        Ok(self)
+    }
+
+    /// Adds a SACK (RFC 9260 section 3.3.4). [`clean_blocks`](crate::clean_blocks) brings its
+    /// blocks into order.
+    ///
+    /// # Errors
+    /// [`WriteError::BadValue`] or [`WriteError::NoRoom`].
+    #[doc(alias = "dcsctp_add_sack")]
+    pub fn sack(
+        &mut self,
+        cumulative_tsn_ack: u32,
+        a_rwnd: u32,
+        gap_ack_blocks: &[GapAckBlock],
+        duplicate_tsns: &[u32],
+    ) -> Result<&mut Self, WriteError> {
+        add!(
+            self,
+            dcsctp_add_sack,
+            cumulative_tsn_ack,
+            a_rwnd,
+            gap_ack_blocks.as_ptr(),
+            gap_ack_blocks.len(),
+            duplicate_tsns.as_ptr(),
+            duplicate_tsns.len()
+        )?;
+        Ok(self)
+    }
+
+    /// Adds INIT with these numbers (RFC 9260 section 3.3.2), and no parameter yet.
+    ///
+    /// ```
+    /// use dcsctp::{ChunkType, Init, PacketBuilder, ParameterType};
+    ///
+    /// let own = Init {
+    ///     initiate_tag: 0x4d2d_f52d,
+    ///     a_rwnd: 0x2_0000,
+    ///     outbound_streams: 4,
+    ///     inbound_streams: 4,
+    ///     initial_tsn: 0x7906_b4b0,
+    /// };
+    /// let extensions = [ChunkType::RE_CONFIG, ChunkType::FORWARD_TSN].map(u8::from);
+    /// let mut buffer = [0; 1200];
+    /// let mut packet = PacketBuilder::begin(&mut buffer, 5000, 5000, 0)?;
+    /// packet
+    ///     .init(&own)?
+    ///     .parameter(ParameterType::SUPPORTED_EXTENSIONS, &extensions)?
+    ///     .parameter(ParameterType::FORWARD_TSN_SUPPORTED, &[])?;
+    /// assert_eq!(packet.seal().len(), 12 + 20 + 8 + 4);
+    /// # Ok::<(), dcsctp::WriteError>(())
+    /// ```
+    ///
+    /// # Errors
+    /// [`WriteError::NoRoom`].
+    #[doc(alias = "dcsctp_add_init")]
+    pub fn init(&mut self, init: &Init) -> Result<ChunkBuilder<'_, 'a>, WriteError> {
+        let start = self.size;
+        add!(self, dcsctp_add_init, init)?;
+        Ok(ChunkBuilder { packet: self, start })
+    }
+
+    /// Adds INIT ACK with these numbers (RFC 9260 section 3.3.3), and no parameter yet; its
+    /// [State Cookie](ParameterType::STATE_COOKIE) has to be added.
+    ///
+    /// # Errors
+    /// [`WriteError::NoRoom`].
+    #[doc(alias = "dcsctp_add_init_ack")]
+    pub fn init_ack(&mut self, init: &Init) -> Result<ChunkBuilder<'_, 'a>, WriteError> {
+        let start = self.size;
+        add!(self, dcsctp_add_init_ack, init)?;
+        Ok(ChunkBuilder { packet: self, start })
+    }
+
+    /// Adds COOKIE ECHO with this cookie (RFC 9260 section 3.3.11).
+    ///
+    /// # Errors
+    /// [`WriteError::BadValue`] or [`WriteError::NoRoom`].
+    #[doc(alias = "dcsctp_add_cookie_echo")]
+    pub fn cookie_echo(&mut self, cookie: &[u8]) -> Result<&mut Self, WriteError> {
+        add!(self, dcsctp_add_cookie_echo, cookie.as_ptr(), cookie.len())?;
+        Ok(self)
+    }
+
+    /// Adds COOKIE ACK (RFC 9260 section 3.3.12).
+    ///
+    /// # Errors
+    /// [`WriteError::NoRoom`].
+    #[doc(alias = "dcsctp_add_cookie_ack")]
+    pub fn cookie_ack(&mut self) -> Result<&mut Self, WriteError> {
+        add!(self, dcsctp_add_cookie_ack)?;
+        Ok(self)
+    }
+
+    /// Adds HEARTBEAT with this Heartbeat Info (RFC 9260 section 3.3.5).
+    ///
+    /// # Errors
+    /// [`WriteError::BadValue`] or [`WriteError::NoRoom`].
+    #[doc(alias = "dcsctp_add_heartbeat")]
+    pub fn heartbeat(&mut self, info: &[u8]) -> Result<ChunkBuilder<'_, 'a>, WriteError> {
+        let start = self.size;
+        add!(self, dcsctp_add_heartbeat, false, info.as_ptr(), info.len())?;
+        Ok(ChunkBuilder { packet: self, start })
+    }
+
+    /// Adds HEARTBEAT ACK with this Heartbeat Info (RFC 9260 section 3.3.6): that of the HEARTBEAT.
+    ///
+    /// # Errors
+    /// [`WriteError::BadValue`] or [`WriteError::NoRoom`].
+    #[doc(alias = "dcsctp_add_heartbeat")]
+    pub fn heartbeat_ack(&mut self, info: &[u8]) -> Result<ChunkBuilder<'_, 'a>, WriteError> {
+        let start = self.size;
+        add!(self, dcsctp_add_heartbeat, true, info.as_ptr(), info.len())?;
+        Ok(ChunkBuilder { packet: self, start })
+    }
+
+    /// Adds ABORT (RFC 9260 section 3.3.7) with the cause User-Initiated Abort (section 3.3.10.12).
+    /// `tag_reflected` is its T bit: whether the verification tag is the one that the receiver
+    /// sends (section 8.5.1). An ABORT with other causes, or none, is a [`chunk`](Self::chunk)
+    /// without a value, whose flags are [`TAG_REFLECTED`](crate::TAG_REFLECTED) or 0.
+    ///
+    /// # Errors
+    /// [`WriteError::BadValue`] or [`WriteError::NoRoom`].
+    #[doc(alias = "dcsctp_add_abort")]
+    pub fn abort(
+        &mut self,
+        tag_reflected: bool,
+        reason: &str,
+    ) -> Result<ChunkBuilder<'_, 'a>, WriteError> {
+        let start = self.size;
+        add!(self, dcsctp_add_abort, tag_reflected, reason.as_ptr(), reason.len())?;
+        Ok(ChunkBuilder { packet: self, start })
+    }
+
+    /// Adds ERROR (RFC 9260 section 3.3.10) without a cause yet; one at least has to be added.
+    ///
+    /// # Errors
+    /// [`WriteError::NoRoom`].
+    pub fn error(&mut self) -> Result<ChunkBuilder<'_, 'a>, WriteError> {
+        self.chunk(ChunkType::ERROR, 0, &[])
+    }
+
+    /// Adds SHUTDOWN (RFC 9260 section 3.3.8).
+    ///
+    /// # Errors
+    /// [`WriteError::NoRoom`].
+    #[doc(alias = "dcsctp_add_shutdown")]
+    pub fn shutdown(&mut self, cumulative_tsn_ack: u32) -> Result<&mut Self, WriteError> {
+        add!(self, dcsctp_add_shutdown, cumulative_tsn_ack)?;
+        Ok(self)
+    }
+
+    /// Adds SHUTDOWN ACK (RFC 9260 section 3.3.9).
+    ///
+    /// # Errors
+    /// [`WriteError::NoRoom`].
+    #[doc(alias = "dcsctp_add_shutdown_ack")]
+    pub fn shutdown_ack(&mut self) -> Result<&mut Self, WriteError> {
+        add!(self, dcsctp_add_shutdown_ack)?;
+        Ok(self)
+    }
+
+    /// Adds SHUTDOWN COMPLETE (RFC 9260 section 3.3.13). `tag_reflected` is its T bit: whether the
+    /// verification tag is the one that the receiver sends (section 8.5.1).
+    ///
+    /// # Errors
+    /// [`WriteError::NoRoom`].
+    #[doc(alias = "dcsctp_add_shutdown_complete")]
+    pub fn shutdown_complete(&mut self, tag_reflected: bool) -> Result<&mut Self, WriteError> {
+        add!(self, dcsctp_add_shutdown_complete, tag_reflected)?;
+        Ok(self)
+    }
+
+    /// Adds RE-CONFIG (RFC 6525 section 3.1) without a parameter yet; one or two
+    /// [requests or responses](ChunkBuilder::re_config) have to be added.
+    ///
+    /// # Errors
+    /// [`WriteError::NoRoom`].
+    pub fn re_config(&mut self) -> Result<ChunkBuilder<'_, 'a>, WriteError> {
+        self.chunk(ChunkType::RE_CONFIG, 0, &[])
+    }
+
+    /// Adds FORWARD-TSN (RFC 3758 section 3.2).
+    ///
+    /// # Errors
+    /// [`WriteError::BadValue`] or [`WriteError::NoRoom`].
+    #[doc(alias = "dcsctp_add_forward_tsn")]
+    pub fn forward_tsn(
+        &mut self,
+        new_cumulative_tsn: u32,
+        streams: &[SkippedStream],
+    ) -> Result<&mut Self, WriteError> {
+        let (first, count) = (streams.as_ptr(), streams.len());
+        add!(self, dcsctp_add_forward_tsn, new_cumulative_tsn, first, count)?;
+        Ok(self)
+    }
+
+    /// Adds I-FORWARD-TSN (RFC 8260 section 2.3.1).
+    ///
+    /// # Errors
+    /// [`WriteError::BadValue`] or [`WriteError::NoRoom`].
+    #[doc(alias = "dcsctp_add_i_forward_tsn")]
+    pub fn i_forward_tsn(
+        &mut self,
+        new_cumulative_tsn: u32,
+        streams: &[SkippedStream],
+    ) -> Result<&mut Self, WriteError> {
+        let (first, count) = (streams.as_ptr(), streams.len());
+        add!(self, dcsctp_add_i_forward_tsn, new_cumulative_tsn, first, count)?;
+        Ok(self)
+    }
+}
+
+/// The last chunk of a packet that is written, to add to its list: parameters (RFC 9260 section
+/// 3.2.1) or error causes (section 3.3.10). A method that returns an error adds nothing.
+#[derive(Debug)]
+pub struct ChunkBuilder<'p, 'a> {
+    packet: &'p mut PacketBuilder<'a>,
+    start: usize,
+}
+
+impl ChunkBuilder<'_, '_> {
+    /// Returns where the chunk begins, for [`last_chunk`](PacketBuilder::last_chunk).
+    #[must_use]
+    pub const fn offset(&self) -> usize {
+        self.start
+    }
+
+    /// Adds a parameter (RFC 9260 section 3.2.1).
+    ///
+    /// # Errors
+    /// Any [`WriteError`].
+    #[doc(alias = "dcsctp_add_parameter")]
+    pub fn parameter(
+        &mut self,
+        parameter_type: ParameterType,
+        value: &[u8],
+    ) -> Result<&mut Self, WriteError> {
+        self.item(parameter_type.0, value)
+    }
+
+    /// Adds a parameter whose value is a number of four bytes: Zero Checksum Acceptable (RFC 9653
+    /// section 4).
+    ///
+    /// # Errors
+    /// Any [`WriteError`].
+    #[doc(alias = "dcsctp_add_number")]
+    pub fn number_parameter(
+        &mut self,
+        parameter_type: ParameterType,
+        number: u32,
+    ) -> Result<&mut Self, WriteError> {
+        self.number(parameter_type.0, number)
+    }
+
+    /// Adds a request or the response of RE-CONFIG (RFC 6525 section 4).
+    ///
+    /// ```
+    /// use dcsctp::{PacketBuilder, ReConfig};
+    ///
+    /// let mut buffer = [0; 1200];
+    /// let mut packet = PacketBuilder::begin(&mut buffer, 5000, 5000, 0x0da7_3798)?;
+    /// packet.re_config()?.re_config(&ReConfig::OutgoingSsnReset {
+    ///     request_number: 0x7906_b4b0,
+    ///     response_number: 0x66e3_87aa,
+    ///     last_tsn: 0x7906_b4b0,
+    ///     streams: &[1],
+    /// })?;
+    /// assert_eq!(packet.seal().len(), 12 + 4 + 20);
+    /// # Ok::<(), dcsctp::WriteError>(())
+    /// ```
+    ///
+    /// # Errors
+    /// Any [`WriteError`].
+    #[doc(alias = "dcsctp_add_re_config")]
+    pub fn re_config(&mut self, re_config: &ReConfig<&[u16]>) -> Result<&mut Self, WriteError> {
+        let (raw, streams) = raw_re_config(re_config);
+        let (first, count) = (streams.as_ptr(), streams.len());
+        add!(self.packet, dcsctp_add_re_config, self.start, &raw const raw, first, count)?;
+        Ok(self)
+    }
+
+    /// Adds an error cause (RFC 9260 section 3.3.10).
+    ///
+    /// # Errors
+    /// Any [`WriteError`].
+    #[doc(alias = "dcsctp_add_parameter")]
+    pub fn cause(&mut self, code: CauseCode, value: &[u8]) -> Result<&mut Self, WriteError> {
+        self.item(code.0, value)
+    }
+
+    /// Adds an error cause whose value is a number of four bytes: No User Data (RFC 9260 section
+    /// 3.3.10.9).
+    ///
+    /// # Errors
+    /// Any [`WriteError`].
+    #[doc(alias = "dcsctp_add_number")]
+    pub fn number_cause(&mut self, code: CauseCode, number: u32) -> Result<&mut Self, WriteError> {
+        self.number(code.0, number)
+    }
+
+    /// Adds the error cause Missing Mandatory Parameter (RFC 9260 section 3.3.10.2) with these
+    /// types.
+    ///
+    /// # Errors
+    /// Any [`WriteError`].
+    #[doc(alias = "dcsctp_add_missing_parameters")]
+    pub fn missing_parameters(&mut self, types: &[ParameterType]) -> Result<&mut Self, WriteError> {
+        // `ParameterType` is `#[repr(transparent)]`: the types lie there as numbers of two bytes.
+        let (first, count) = (types.as_ptr().cast(), types.len());
+        add!(self.packet, dcsctp_add_missing_parameters, self.start, first, count)?;
+        Ok(self)
+    }
+
+    fn item(&mut self, number: u16, value: &[u8]) -> Result<&mut Self, WriteError> {
+        let (first, count) = (value.as_ptr(), value.len());
+        add!(self.packet, dcsctp_add_parameter, self.start, number, first, count)?;
+        Ok(self)
+    }
+
+    fn number(&mut self, item: u16, number: u32) -> Result<&mut Self, WriteError> {
+        add!(self.packet, dcsctp_add_number, self.start, item, number)?;
+        Ok(self)
+    }
+}
+
+/// The numbers as C has them.
+fn raw_data(data: &Data) -> ffi::Data {
+    ffi::Data {
+        tsn: data.tsn,
+        mid: data.mid,
+        fsn: data.fsn,
+        ppid: data.ppid,
+        stream: data.stream,
+        ssn: data.ssn,
+        is_unordered: data.is_unordered,
+        is_beginning: data.is_beginning,
+        is_end: data.is_end,
+        immediate_ack: data.immediate_ack,
+        payload_offset: 0,
+        payload_size: 0,
+    }
+}
+
+/// The numbers as C has them, and the streams.
+fn raw_re_config<'a>(re_config: &ReConfig<&'a [u16]>) -> (ffi::ReConfig, &'a [u16]) {
+    let of = |typ: ParameterType| ffi::ReConfig { r#type: typ.0, ..Default::default() };
+    match *re_config {
+        ReConfig::OutgoingSsnReset { request_number, response_number, last_tsn, streams } => {
+            let raw = of(ParameterType::OUTGOING_SSN_RESET);
+            (ffi::ReConfig { request_number, response_number, last_tsn, ..raw }, streams)
+        }
+        ReConfig::IncomingSsnReset { request_number, streams } => {
+            let raw = of(ParameterType::INCOMING_SSN_RESET);
+            (ffi::ReConfig { request_number, ..raw }, streams)
+        }
+        ReConfig::SsnTsnReset { request_number } => {
+            (ffi::ReConfig { request_number, ..of(ParameterType::SSN_TSN_RESET) }, &[])
+        }
+        ReConfig::Response { response_number, result, next_tsns } => {
+            let next = next_tsns.unwrap_or_default();
+            let raw = ffi::ReConfig {
+                response_number,
+                result: result.number(),
+                has_next_tsns: next_tsns.is_some(),
+                sender_next_tsn: next.sender,
+                receiver_next_tsn: next.receiver,
+                ..of(ParameterType::RECONFIGURATION_RESPONSE)
+            };
+            (raw, &[])
+        }
+        ReConfig::AddOutgoingStreams { request_number, new_streams } => {
+            let raw = of(ParameterType::ADD_OUTGOING_STREAMS);
+            (ffi::ReConfig { request_number, new_streams, ..raw }, &[])
+        }
+        ReConfig::AddIncomingStreams { request_number, new_streams } => {
+            let raw = of(ParameterType::ADD_INCOMING_STREAMS);
+            (ffi::ReConfig { request_number, new_streams, ..raw }, &[])
+        }
+    }
+}

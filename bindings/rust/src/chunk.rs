@@ -1,0 +1,462 @@
+//! Chunks, and what they hold, where it lies.
+
+use crate::ffi;
+use crate::list::{Causes, Parameters};
+use crate::types::ChunkType;
+use crate::values::{Data, GapAckBlock, Init, SkippedStream};
+use core::iter::FusedIterator;
+use core::ops::Range;
+
+/// The offset of a packet's first chunk: the size of the common header (RFC 9260 section 3.1).
+pub const FIRST_CHUNK: usize = 12;
+
+/// The flag of ABORT (RFC 9260 section 3.3.7) and SHUTDOWN COMPLETE (section 3.3.13), the T bit:
+/// the verification tag isn't the one that the receiver expects, but the one that it writes into
+/// its own packets, sent back to it (section 8.5.1).
+pub const TAG_REFLECTED: u8 = 1;
+
+/// The size of a chunk's header (RFC 9260 section 3.2).
+const CHUNK_HEADER: usize = 4;
+
+/// Calls a function that reads what a chunk, a parameter or an error cause holds; at an index, if
+/// one is named.
+macro_rules! read {
+    ($it:expr, $function:ident $(, $index:expr)?) => {{
+        let (bytes, raw) = ($it.bytes(), $it.raw());
+        let (start, length) = (bytes.as_ptr(), bytes.len());
+        // SAFETY: `bytes` is a slice, and `raw` and `found` are references.
+        ffi::read(|found| unsafe { ffi::$function(start, length, raw $(, $index)?, found) })
+    }};
+}
+pub(crate) use read;
+
+/// A chunk (RFC 9260 section 3.2), where it lies in a packet's bytes.
+#[derive(Clone, Copy, PartialEq, Eq, Debug)]
+pub struct Chunk<'a> {
+    bytes: &'a [u8],
+    raw: ffi::Chunk,
+}
+
+/// What a chunk holds, by its type.
+///
+/// ```
+/// use dcsctp::{Content, Packet};
+///
+/// fn acknowledged(packet: &Packet) -> Option<u32> {
+///     packet.chunks().find_map(|chunk| match chunk.content() {
+///         Content::Sack(sack) => Some(sack.cumulative_tsn_ack),
+///         Content::Shutdown { cumulative_tsn_ack } => Some(cumulative_tsn_ack),
+///         _ => None,
+///     })
+/// }
+/// ```
+#[derive(Clone, Debug)]
+#[non_exhaustive]
+pub enum Content<'a> {
+    /// DATA (RFC 9260 section 3.3.1).
+    Data(Data<'a>),
+    /// I-DATA (RFC 8260 section 2.1).
+    IData(Data<'a>),
+    /// INIT (RFC 9260 section 3.3.2), and its parameters.
+    Init(Init, Parameters<'a>),
+    /// INIT ACK (RFC 9260 section 3.3.3), and its parameters.
+    InitAck(Init, Parameters<'a>),
+    /// SACK (RFC 9260 section 3.3.4).
+    Sack(Sack<'a>),
+    /// HEARTBEAT (RFC 9260 section 3.3.5): its parameters, a Heartbeat Info among them.
+    Heartbeat(Parameters<'a>),
+    /// HEARTBEAT ACK (RFC 9260 section 3.3.6): its parameters, a Heartbeat Info among them.
+    HeartbeatAck(Parameters<'a>),
+    /// ABORT (RFC 9260 section 3.3.7).
+    Abort {
+        /// The T bit: the verification tag is the one that the receiver sends.
+        tag_reflected: bool,
+        /// Why.
+        causes: Causes<'a>,
+    },
+    /// SHUTDOWN (RFC 9260 section 3.3.8).
+    Shutdown {
+        /// All TSNs up to this one have come.
+        cumulative_tsn_ack: u32,
+    },
+    /// SHUTDOWN ACK (RFC 9260 section 3.3.9).
+    ShutdownAck,
+    /// ERROR (RFC 9260 section 3.3.10).
+    Error(Causes<'a>),
+    /// COOKIE ECHO (RFC 9260 section 3.3.11): its cookie.
+    CookieEcho(&'a [u8]),
+    /// COOKIE ACK (RFC 9260 section 3.3.12).
+    CookieAck,
+    /// SHUTDOWN COMPLETE (RFC 9260 section 3.3.13).
+    ShutdownComplete {
+        /// The T bit: the verification tag is the one that the receiver sends.
+        tag_reflected: bool,
+    },
+    /// RE-CONFIG (RFC 6525 section 3.1): its requests and responses are parameters.
+    ReConfig(Parameters<'a>),
+    /// FORWARD-TSN (RFC 3758 section 3.2).
+    ForwardTsn(ForwardTsn<'a>),
+    /// I-FORWARD-TSN (RFC 8260 section 2.3.1).
+    IForwardTsn(ForwardTsn<'a>),
+    /// Any other type; and, in bytes that weren't checked, what its type doesn't allow. The
+    /// [value](Chunk::value) has it.
+    Other,
+}
+
+impl<'a> Chunk<'a> {
+    /// Reads the chunk at an offset of any bytes, checked or not; none where no whole chunk is (RFC
+    /// 9260 section 3.2).
+    #[doc(alias = "dcsctp_chunk_at")]
+    #[must_use]
+    pub fn at(bytes: &'a [u8], offset: usize) -> Option<Self> {
+        let (start, length) = (bytes.as_ptr(), bytes.len());
+        // SAFETY: `bytes` is a slice, and `chunk` a reference.
+        let raw = ffi::read(|chunk| unsafe { ffi::dcsctp_chunk_at(start, length, offset, chunk) })?;
+        Some(Self { bytes, raw })
+    }
+
+    /// Returns the type (RFC 9260 section 3.2).
+    #[must_use]
+    pub const fn chunk_type(&self) -> ChunkType {
+        ChunkType(self.raw.r#type)
+    }
+
+    /// Returns the flags (RFC 9260 section 3.2), whose meaning depends on the type.
+    #[must_use]
+    pub const fn flags(&self) -> u8 {
+        self.raw.flags
+    }
+
+    /// Returns the value (RFC 9260 section 3.2): what follows the header of four bytes, without
+    /// padding. Of COOKIE ECHO it is the cookie.
+    #[must_use]
+    pub fn value(&self) -> &'a [u8] {
+        part(self.bytes, self.raw.value_offset, self.raw.value_size)
+    }
+
+    /// Returns the header and the value, without padding (RFC 9260 section 3.2): what the cause
+    /// Unrecognized Chunk Type has to hold.
+    #[must_use]
+    pub fn as_bytes(&self) -> &'a [u8] {
+        part(self.bytes, self.offset(), CHUNK_HEADER + self.raw.value_size)
+    }
+
+    /// Returns where the chunk begins in the packet's bytes.
+    #[must_use]
+    pub const fn offset(&self) -> usize {
+        self.raw.value_offset - CHUNK_HEADER
+    }
+
+    /// Returns where the next chunk begins, after the padding; the end of the bytes if this one is
+    /// the last.
+    #[must_use]
+    pub const fn next_offset(&self) -> usize {
+        self.raw.next
+    }
+
+    /// Returns what the chunk holds, by its type.
+    #[must_use]
+    pub fn content(&self) -> Content<'a> {
+        self.known_content().unwrap_or(Content::Other)
+    }
+
+    fn known_content(&self) -> Option<Content<'a>> {
+        let tag_reflected = self.flags() & TAG_REFLECTED != 0;
+        Some(match self.chunk_type() {
+            ChunkType::DATA => Content::Data(self.data()?),
+            ChunkType::I_DATA => Content::IData(self.data()?),
+            ChunkType::INIT => Content::Init(self.init()?, self.parameters()),
+            ChunkType::INIT_ACK => Content::InitAck(self.init()?, self.parameters()),
+            ChunkType::SACK => Content::Sack(self.sack()?),
+            ChunkType::HEARTBEAT => Content::Heartbeat(self.parameters()),
+            ChunkType::HEARTBEAT_ACK => Content::HeartbeatAck(self.parameters()),
+            ChunkType::ABORT => Content::Abort { tag_reflected, causes: self.causes() },
+            ChunkType::SHUTDOWN => Content::Shutdown { cumulative_tsn_ack: self.shutdown()? },
+            ChunkType::SHUTDOWN_ACK => Content::ShutdownAck,
+            ChunkType::ERROR => Content::Error(self.causes()),
+            ChunkType::COOKIE_ECHO => Content::CookieEcho(self.value()),
+            ChunkType::COOKIE_ACK => Content::CookieAck,
+            ChunkType::SHUTDOWN_COMPLETE => Content::ShutdownComplete { tag_reflected },
+            ChunkType::RE_CONFIG => Content::ReConfig(self.parameters()),
+            ChunkType::FORWARD_TSN => Content::ForwardTsn(self.forward_tsn()?),
+            ChunkType::I_FORWARD_TSN => Content::IForwardTsn(self.forward_tsn()?),
+            _ => return None,
+        })
+    }
+
+    /// Returns the user data of DATA (RFC 9260 section 3.3.1) or I-DATA (RFC 8260 section 2.1).
+    #[doc(alias = "dcsctp_data")]
+    #[must_use]
+    pub fn data(&self) -> Option<Data<'a>> {
+        let data: ffi::Data = read!(self, dcsctp_data)?;
+        Some(Data {
+            tsn: data.tsn,
+            stream: data.stream,
+            ssn: data.ssn,
+            mid: data.mid,
+            fsn: data.fsn,
+            ppid: data.ppid,
+            is_unordered: data.is_unordered,
+            is_beginning: data.is_beginning,
+            is_end: data.is_end,
+            immediate_ack: data.immediate_ack,
+            payload: part(self.bytes, data.payload_offset, data.payload_size),
+        })
+    }
+
+    /// Returns the numbers of INIT (RFC 9260 section 3.3.2) or INIT ACK (section 3.3.3); the rest
+    /// are [parameters](Self::parameters).
+    #[doc(alias = "dcsctp_init")]
+    #[must_use]
+    pub fn init(&self) -> Option<Init> {
+        read!(self, dcsctp_init)
+    }
+
+    /// Returns what a SACK says (RFC 9260 section 3.3.4).
+    #[doc(alias = "dcsctp_sack")]
+    #[must_use]
+    pub fn sack(&self) -> Option<Sack<'a>> {
+        let sack: ffi::Sack = read!(self, dcsctp_sack)?;
+        Some(Sack {
+            cumulative_tsn_ack: sack.cumulative_tsn_ack,
+            a_rwnd: sack.a_rwnd,
+            chunk: *self,
+            block_count: sack.block_count,
+            duplicate_count: sack.duplicate_count,
+        })
+    }
+
+    /// Returns the cumulative TSN ack of SHUTDOWN (RFC 9260 section 3.3.8).
+    #[doc(alias = "dcsctp_shutdown")]
+    #[must_use]
+    pub fn shutdown(&self) -> Option<u32> {
+        read!(self, dcsctp_shutdown)
+    }
+
+    /// Returns what FORWARD-TSN (RFC 3758 section 3.2) or I-FORWARD-TSN (RFC 8260 section 2.3.1)
+    /// says.
+    #[doc(alias = "dcsctp_forward_tsn")]
+    #[must_use]
+    pub fn forward_tsn(&self) -> Option<ForwardTsn<'a>> {
+        let it: ffi::ForwardTsn = read!(self, dcsctp_forward_tsn)?;
+        Some(ForwardTsn {
+            new_cumulative_tsn: it.new_cumulative_tsn,
+            chunk: *self,
+            stream_count: it.stream_count,
+        })
+    }
+
+    /// Returns the parameters (RFC 9260 section 3.2.1) of INIT, INIT ACK, HEARTBEAT, HEARTBEAT ACK
+    /// and RE-CONFIG; other types have none.
+    ///
+    /// ```
+    /// use dcsctp::{Chunk, ParameterType};
+    ///
+    /// fn cookie<'a>(init_ack: &Chunk<'a>) -> Option<&'a [u8]> {
+    ///     let mut parameters = init_ack.parameters();
+    ///     let cookie = parameters.find(|it| it.parameter_type() == ParameterType::STATE_COOKIE)?;
+    ///     Some(cookie.value())
+    /// }
+    /// ```
+    #[must_use]
+    pub fn parameters(&self) -> Parameters<'a> {
+        Parameters::of(*self)
+    }
+
+    /// Returns the error causes (RFC 9260 section 3.3.10) of ABORT and ERROR; other types have
+    /// none.
+    #[must_use]
+    pub fn causes(&self) -> Causes<'a> {
+        Causes::of(*self)
+    }
+
+    /// The packet's bytes.
+    pub(crate) const fn bytes(&self) -> &'a [u8] {
+        self.bytes
+    }
+
+    /// What the C API knows of it.
+    pub(crate) const fn raw(&self) -> &ffi::Chunk {
+        &self.raw
+    }
+}
+
+/// The bytes at an offset. The C API returns only those within a packet.
+pub(crate) fn part(bytes: &[u8], offset: usize, size: usize) -> &[u8] {
+    &bytes[offset..offset + size]
+}
+
+/// The chunks of a packet (RFC 9260 section 3.2), or of any bytes: then up to where no whole chunk
+/// is.
+#[derive(Clone, Debug)]
+pub struct Chunks<'a> {
+    bytes: &'a [u8],
+    next: usize,
+}
+
+impl<'a> Chunks<'a> {
+    /// Returns the chunks of any bytes that begin with a common header, checked or not.
+    ///
+    /// ```
+    /// use dcsctp::{ChunkType, Chunks};
+    ///
+    /// // A COOKIE ACK, and the first half of a SHUTDOWN.
+    /// let bytes = *b"\x13\x88\x13\x88\0\0\0\x01\0\0\0\0\x0b\0\0\x04\x07\0\0\x08";
+    /// assert!(Chunks::of(&bytes).map(|it| it.chunk_type()).eq([ChunkType::COOKIE_ACK]));
+    /// ```
+    #[must_use]
+    pub const fn of(bytes: &'a [u8]) -> Self {
+        Self { bytes, next: FIRST_CHUNK }
+    }
+}
+
+impl<'a> Iterator for Chunks<'a> {
+    type Item = Chunk<'a>;
+
+    fn next(&mut self) -> Option<Chunk<'a>> {
+        let chunk = Chunk::at(self.bytes, self.next)?;
+        self.next = chunk.raw.next;
+        Some(chunk)
+    }
+}
+
+// Where there is no chunk, `next` stays.
+impl FusedIterator for Chunks<'_> {}
+
+/// A SACK (RFC 9260 section 3.3.4).
+///
+/// ```
+/// use dcsctp::{GapAckBlock, Packet, PacketBuilder};
+///
+/// let mut buffer = [0; 100];
+/// let mut packet = PacketBuilder::begin(&mut buffer, 5000, 5001, 3)?;
+/// packet.sack(41, 0x2_0000, &[GapAckBlock::new(2, 3)], &[40])?;
+/// let packet = Packet::parse(packet.seal())?;
+/// let sack = packet.chunks().find_map(|chunk| chunk.sack()).unwrap();
+/// assert_eq!(sack.cumulative_tsn_ack, 41);
+/// assert!(sack.is_valid());
+/// for block in sack.gap_ack_blocks() {
+///     let tsn = |offset: u16| sack.cumulative_tsn_ack.wrapping_add(offset.into());
+///     assert_eq!((tsn(block.start), tsn(block.end)), (43, 44));
+/// }
+/// assert!(sack.duplicate_tsns().eq([40]));
+/// # Ok::<(), Box<dyn std::error::Error>>(())
+/// ```
+#[derive(Clone, Copy, PartialEq, Eq, Debug)]
+pub struct Sack<'a> {
+    /// All TSNs up to this one have come.
+    pub cumulative_tsn_ack: u32,
+    /// How many bytes its sender has room for: the advertised receiver window credit.
+    pub a_rwnd: u32,
+    chunk: Chunk<'a>,
+    block_count: usize,
+    duplicate_count: usize,
+}
+
+impl<'a> Sack<'a> {
+    /// Returns the gap ack blocks, as they stand there: RFC 9260 section 3.3.4 has a receiver send
+    /// them in order, but they may be in any.
+    #[must_use]
+    pub const fn gap_ack_blocks(&self) -> GapAckBlocks<'a> {
+        GapAckBlocks { chunk: self.chunk, indices: 0..self.block_count }
+    }
+
+    /// Returns the TSNs that came more than once (RFC 9260 section 3.3.4).
+    #[must_use]
+    pub const fn duplicate_tsns(&self) -> DuplicateTsns<'a> {
+        DuplicateTsns { chunk: self.chunk, indices: 0..self.duplicate_count }
+    }
+
+    /// Returns whether the gap ack blocks are in order, apart, and begin at 2 or later, as RFC 9260
+    /// section 3.3.4 has a receiver send them.
+    #[doc(alias = "dcsctp_validate_sack")]
+    #[must_use]
+    pub fn is_valid(&self) -> bool {
+        let Chunk { bytes, raw } = &self.chunk;
+        // SAFETY: `bytes` is a slice, and `raw` a reference.
+        unsafe { ffi::dcsctp_validate_sack(bytes.as_ptr(), bytes.len(), raw) }
+    }
+}
+
+/// FORWARD-TSN (RFC 3758 section 3.2) or I-FORWARD-TSN (RFC 8260 section 2.3.1).
+#[derive(Clone, Copy, PartialEq, Eq, Debug)]
+pub struct ForwardTsn<'a> {
+    /// The receiver has to take it that all TSNs up to this one have come.
+    pub new_cumulative_tsn: u32,
+    chunk: Chunk<'a>,
+    stream_count: usize,
+}
+
+impl<'a> ForwardTsn<'a> {
+    /// Returns the streams that messages are skipped in (RFC 3758 section 3.2, RFC 8260 section
+    /// 2.3.1).
+    #[doc(alias = "dcsctp_skipped_stream")]
+    #[must_use]
+    pub const fn skipped_streams(&self) -> SkippedStreams<'a> {
+        SkippedStreams { chunk: self.chunk, indices: 0..self.stream_count }
+    }
+}
+
+/// Defines an iterator over what a function of the C API reads at each index of a range.
+macro_rules! indexed {
+    ($(#[$about:meta])* $name:ident, $from:ident: $source:ty, $item:ty, $function:ident) => {
+        $(#[$about])*
+        #[derive(Clone, Debug)]
+        pub struct $name<'a> {
+            pub(crate) $from: $source,
+            pub(crate) indices: Range<usize>,
+        }
+
+        impl $name<'_> {
+            fn read(&self, index: usize) -> Option<$item> {
+                read!(self.$from, $function, index)
+            }
+        }
+
+        impl Iterator for $name<'_> {
+            type Item = $item;
+
+            fn next(&mut self) -> Option<$item> {
+                let index = self.indices.next()?;
+                self.read(index)
+            }
+
+            fn size_hint(&self) -> (usize, Option<usize>) {
+                self.indices.size_hint()
+            }
+
+            fn nth(&mut self, n: usize) -> Option<$item> {
+                let index = self.indices.nth(n)?;
+                self.read(index)
+            }
+        }
+
+        impl DoubleEndedIterator for $name<'_> {
+            fn next_back(&mut self) -> Option<$item> {
+                let index = self.indices.next_back()?;
+                self.read(index)
+            }
+        }
+
+        // There is something at each index below the count that the C API gives.
+        impl ExactSizeIterator for $name<'_> {}
+        impl FusedIterator for $name<'_> {}
+    };
+}
+pub(crate) use indexed;
+
+indexed! {
+    /// The gap ack blocks of a [`Sack`] (RFC 9260 section 3.3.4).
+    #[doc(alias = "dcsctp_gap_ack_block")]
+    GapAckBlocks, chunk: Chunk<'a>, GapAckBlock, dcsctp_gap_ack_block
+}
+indexed! {
+    /// The duplicate TSNs of a [`Sack`] (RFC 9260 section 3.3.4).
+    #[doc(alias = "dcsctp_duplicate_tsn")]
+    DuplicateTsns, chunk: Chunk<'a>, u32, dcsctp_duplicate_tsn
+}
+indexed! {
+    /// The streams of a [`ForwardTsn`] (RFC 3758 section 3.2, RFC 8260 section 2.3.1).
+    #[doc(alias = "dcsctp_skipped_stream")]
+    SkippedStreams, chunk: Chunk<'a>, SkippedStream, dcsctp_skipped_stream
+}

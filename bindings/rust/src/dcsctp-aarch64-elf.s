@@ -1,0 +1,1 @@
+../../../dist/dcsctp-aarch64-elf.s

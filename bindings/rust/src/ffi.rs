@@ -1,0 +1,375 @@
+//! The C API, as `dcsctp.h` declares it; `tests/header.rs` compares them.
+
+use crate::{GapAckBlock, Header, Init, Policy, SkippedStream};
+
+/// A chunk, as offsets into the packet's bytes.
+#[repr(C)]
+#[derive(Clone, Copy, Default, PartialEq, Eq, Debug)]
+pub struct Chunk {
+    pub r#type: u8,
+    pub flags: u8,
+    pub value_offset: usize,
+    pub value_size: usize,
+    pub list_offset: usize,
+    pub next: usize,
+}
+
+/// A parameter or an error cause, as offsets into the packet's bytes.
+#[repr(C)]
+#[derive(Clone, Copy, Default, PartialEq, Eq, Debug)]
+pub struct Parameter {
+    pub r#type: u16,
+    pub value_offset: usize,
+    pub value_size: usize,
+    pub next: usize,
+}
+
+/// The user data of DATA or I-DATA.
+#[repr(C)]
+#[derive(Clone, Copy, Default, Debug)]
+pub struct Data {
+    pub tsn: u32,
+    pub mid: u32,
+    pub fsn: u32,
+    pub ppid: u32,
+    pub stream: u16,
+    pub ssn: u16,
+    pub is_unordered: bool,
+    pub is_beginning: bool,
+    pub is_end: bool,
+    pub immediate_ack: bool,
+    pub payload_offset: usize,
+    pub payload_size: usize,
+}
+
+/// The numbers of a SACK.
+#[repr(C)]
+#[derive(Clone, Copy, Default, Debug)]
+pub struct Sack {
+    pub cumulative_tsn_ack: u32,
+    pub a_rwnd: u32,
+    pub block_count: usize,
+    pub duplicate_count: usize,
+}
+
+/// The numbers of FORWARD-TSN or I-FORWARD-TSN.
+#[repr(C)]
+#[derive(Clone, Copy, Default, Debug)]
+pub struct ForwardTsn {
+    pub new_cumulative_tsn: u32,
+    pub stream_count: usize,
+}
+
+/// A request or the response of RE-CONFIG.
+#[repr(C)]
+#[derive(Clone, Copy, Default, Debug)]
+pub struct ReConfig {
+    pub r#type: u16,
+    pub request_number: u32,
+    pub response_number: u32,
+    pub last_tsn: u32,
+    pub result: u32,
+    pub has_next_tsns: bool,
+    pub sender_next_tsn: u32,
+    pub receiver_next_tsn: u32,
+    pub new_streams: u16,
+    pub stream_count: usize,
+}
+
+/// Returns what `read` writes, if it returns true.
+pub fn read<T: Default>(read: impl FnOnce(&mut T) -> bool) -> Option<T> {
+    let mut value = T::default();
+    read(&mut value).then_some(value)
+}
+
+// What every function asks of its caller, and what the SAFETY comments of this crate are about:
+//
+// - A pointer leads to as many bytes or items as its length says; one without a length to one item.
+//   Here each comes from a slice or a reference. That of an empty slice isn't null, and isn't read.
+// - An output overlaps no input and no other output: here an output is a `&mut`.
+// - A bool is 0 or 1, as Rust's is.
+//
+// No function keeps a pointer. What they write into the structs is valid for any of these: numbers,
+// and a bool that is 0 or 1.
+unsafe extern "C" {
+    pub fn dcsctp_check(bytes: *const u8, length: usize, word: u32, policy: *const Policy) -> u32;
+    pub fn dcsctp_first_fault(
+        bytes: *const u8,
+        length: usize,
+        word: u32,
+        policy: *const Policy,
+        offset: *mut usize,
+    ) -> u32;
+    pub fn dcsctp_canonical(
+        bytes: *const u8,
+        length: usize,
+        word: u32,
+        policy: *const Policy,
+        output: *mut u8,
+        room: usize,
+        size: *mut usize,
+    ) -> u32;
+    pub fn dcsctp_print(
+        bytes: *const u8,
+        length: usize,
+        word: u32,
+        policy: *const Policy,
+        output: *mut u8,
+        room: usize,
+        size: *mut usize,
+    ) -> u32;
+    pub fn dcsctp_report(
+        bytes: *const u8,
+        length: usize,
+        word: u32,
+        policy: *const Policy,
+        output: *mut u8,
+        room: usize,
+        size: *mut usize,
+    ) -> u32;
+    pub fn dcsctp_word(bytes: *const u8, length: usize) -> u32;
+
+    pub fn dcsctp_header(bytes: *const u8, length: usize, header: *mut Header) -> bool;
+    pub fn dcsctp_chunk_at(
+        bytes: *const u8,
+        length: usize,
+        offset: usize,
+        chunk: *mut Chunk,
+    ) -> bool;
+    pub fn dcsctp_data(
+        bytes: *const u8,
+        length: usize,
+        chunk: *const Chunk,
+        data: *mut Data,
+    ) -> bool;
+    pub fn dcsctp_sack(
+        bytes: *const u8,
+        length: usize,
+        chunk: *const Chunk,
+        sack: *mut Sack,
+    ) -> bool;
+    pub fn dcsctp_gap_ack_block(
+        bytes: *const u8,
+        length: usize,
+        chunk: *const Chunk,
+        index: usize,
+        block: *mut GapAckBlock,
+    ) -> bool;
+    pub fn dcsctp_duplicate_tsn(
+        bytes: *const u8,
+        length: usize,
+        chunk: *const Chunk,
+        index: usize,
+        tsn: *mut u32,
+    ) -> bool;
+    pub fn dcsctp_validate_sack(bytes: *const u8, length: usize, chunk: *const Chunk) -> bool;
+    pub fn dcsctp_init(
+        bytes: *const u8,
+        length: usize,
+        chunk: *const Chunk,
+        init: *mut Init,
+    ) -> bool;
+    pub fn dcsctp_shutdown(
+        bytes: *const u8,
+        length: usize,
+        chunk: *const Chunk,
+        cumulative_tsn_ack: *mut u32,
+    ) -> bool;
+    pub fn dcsctp_forward_tsn(
+        bytes: *const u8,
+        length: usize,
+        chunk: *const Chunk,
+        forward_tsn: *mut ForwardTsn,
+    ) -> bool;
+    pub fn dcsctp_skipped_stream(
+        bytes: *const u8,
+        length: usize,
+        chunk: *const Chunk,
+        index: usize,
+        skipped_stream: *mut SkippedStream,
+    ) -> bool;
+    pub fn dcsctp_parameter_at(
+        bytes: *const u8,
+        length: usize,
+        chunk: *const Chunk,
+        offset: usize,
+        parameter: *mut Parameter,
+    ) -> bool;
+    pub fn dcsctp_number(
+        bytes: *const u8,
+        length: usize,
+        parameter: *const Parameter,
+        number: *mut u32,
+    ) -> bool;
+    pub fn dcsctp_re_config(
+        bytes: *const u8,
+        length: usize,
+        parameter: *const Parameter,
+        re_config: *mut ReConfig,
+    ) -> bool;
+    pub fn dcsctp_reset_stream(
+        bytes: *const u8,
+        length: usize,
+        parameter: *const Parameter,
+        index: usize,
+        stream: *mut u16,
+    ) -> bool;
+    pub fn dcsctp_missing_parameter(
+        bytes: *const u8,
+        length: usize,
+        cause: *const Parameter,
+        index: usize,
+        r#type: *mut u16,
+    ) -> bool;
+
+    pub fn dcsctp_seal(packet: *mut u8, length: usize) -> u32;
+    pub fn dcsctp_set_tag(packet: *mut u8, length: usize, verification_tag: u32) -> u32;
+
+    pub fn dcsctp_begin(
+        packet: *mut u8,
+        room: usize,
+        size: *mut usize,
+        source_port: u16,
+        destination_port: u16,
+        verification_tag: u32,
+    ) -> u32;
+    pub fn dcsctp_add_chunk(
+        packet: *mut u8,
+        room: usize,
+        size: *mut usize,
+        r#type: u8,
+        flags: u8,
+        value: *const u8,
+        value_size: usize,
+    ) -> u32;
+    pub fn dcsctp_add_data(
+        packet: *mut u8,
+        room: usize,
+        size: *mut usize,
+        data: *const Data,
+        payload: *const u8,
+        payload_size: usize,
+    ) -> u32;
+    pub fn dcsctp_add_i_data(
+        packet: *mut u8,
+        room: usize,
+        size: *mut usize,
+        data: *const Data,
+        payload: *const u8,
+        payload_size: usize,
+    ) -> u32;
+    pub fn dcsctp_add_sack(
+        packet: *mut u8,
+        room: usize,
+        size: *mut usize,
+        cumulative_tsn_ack: u32,
+        a_rwnd: u32,
+        blocks: *const GapAckBlock,
+        block_count: usize,
+        duplicates: *const u32,
+        duplicate_count: usize,
+    ) -> u32;
+    pub fn dcsctp_add_init(
+        packet: *mut u8,
+        room: usize,
+        size: *mut usize,
+        init: *const Init,
+    ) -> u32;
+    pub fn dcsctp_add_init_ack(
+        packet: *mut u8,
+        room: usize,
+        size: *mut usize,
+        init: *const Init,
+    ) -> u32;
+    pub fn dcsctp_add_cookie_echo(
+        packet: *mut u8,
+        room: usize,
+        size: *mut usize,
+        cookie: *const u8,
+        cookie_size: usize,
+    ) -> u32;
+    pub fn dcsctp_add_cookie_ack(packet: *mut u8, room: usize, size: *mut usize) -> u32;
+    pub fn dcsctp_add_heartbeat(
+        packet: *mut u8,
+        room: usize,
+        size: *mut usize,
+        is_ack: bool,
+        info: *const u8,
+        info_size: usize,
+    ) -> u32;
+    pub fn dcsctp_add_abort(
+        packet: *mut u8,
+        room: usize,
+        size: *mut usize,
+        tag_reflected: bool,
+        reason: *const u8,
+        reason_size: usize,
+    ) -> u32;
+    pub fn dcsctp_add_shutdown(
+        packet: *mut u8,
+        room: usize,
+        size: *mut usize,
+        cumulative_tsn_ack: u32,
+    ) -> u32;
+    pub fn dcsctp_add_shutdown_ack(packet: *mut u8, room: usize, size: *mut usize) -> u32;
+    pub fn dcsctp_add_shutdown_complete(
+        packet: *mut u8,
+        room: usize,
+        size: *mut usize,
+        tag_reflected: bool,
+    ) -> u32;
+    pub fn dcsctp_add_forward_tsn(
+        packet: *mut u8,
+        room: usize,
+        size: *mut usize,
+        new_cumulative_tsn: u32,
+        streams: *const SkippedStream,
+        stream_count: usize,
+    ) -> u32;
+    pub fn dcsctp_add_i_forward_tsn(
+        packet: *mut u8,
+        room: usize,
+        size: *mut usize,
+        new_cumulative_tsn: u32,
+        streams: *const SkippedStream,
+        stream_count: usize,
+    ) -> u32;
+
+    pub fn dcsctp_add_parameter(
+        packet: *mut u8,
+        room: usize,
+        size: *mut usize,
+        start: usize,
+        r#type: u16,
+        value: *const u8,
+        value_size: usize,
+    ) -> u32;
+    pub fn dcsctp_add_number(
+        packet: *mut u8,
+        room: usize,
+        size: *mut usize,
+        start: usize,
+        r#type: u16,
+        number: u32,
+    ) -> u32;
+    pub fn dcsctp_add_re_config(
+        packet: *mut u8,
+        room: usize,
+        size: *mut usize,
+        start: usize,
+        re_config: *const ReConfig,
+        streams: *const u16,
+        stream_count: usize,
+    ) -> u32;
+    pub fn dcsctp_add_missing_parameters(
+        packet: *mut u8,
+        room: usize,
+        size: *mut usize,
+        start: usize,
+        types: *const u16,
+        type_count: usize,
+    ) -> u32;
+
+    pub fn dcsctp_clean_blocks(blocks: *mut GapAckBlock, block_count: usize) -> usize;
+    pub fn dcsctp_version_number() -> u32;
+}

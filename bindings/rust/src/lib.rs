@@ -1,0 +1,41 @@
+#![doc = include_str!("../README.md")]
+#![no_std]
+#![warn(missing_docs)]
+
+#[cfg(feature = "alloc")]
+extern crate alloc;
+
+mod builder;
+mod chunk;
+mod error;
+mod ffi;
+mod list;
+mod packet;
+mod text;
+mod types;
+mod values;
+
+pub use builder::{ChunkBuilder, MAX_PACKET, PacketBuilder};
+pub use chunk::{
+    Chunk, Chunks, Content, DuplicateTsns, FIRST_CHUNK, ForwardTsn, GapAckBlocks, Sack,
+    SkippedStreams, TAG_REFLECTED,
+};
+pub use error::{Fault, FaultKind, OutputError, WriteError};
+pub use list::{Cause, Causes, MissingParameters, Parameter, Parameters, ResetStreams};
+pub use packet::{Packet, check, clean_blocks, first_fault, seal, set_tag, word};
+pub use types::{CauseCode, ChunkType, ParameterType};
+pub use values::{
+    Data, GapAckBlock, Header, Init, NextTsns, Policy, ReConfig, ReConfigResult, SkippedStream,
+};
+
+/// The version of this crate, and of the library in it.
+pub const VERSION: &str = env!("CARGO_PKG_VERSION");
+
+/// Returns the library's version as a number: the major one times 65,536, the minor one times 256,
+/// and the patch.
+#[doc(alias = "dcsctp_version_number")]
+#[must_use]
+pub fn version_number() -> u32 {
+    // SAFETY: it takes nothing.
+    unsafe { ffi::dcsctp_version_number() }
+}

@@ -1,0 +1,345 @@
+//! Whole packets.
+
+use crate::chunk::Chunks;
+use crate::error::{Fault, FaultKind, OutputError, WriteError};
+use crate::ffi;
+use crate::values::{GapAckBlock, Header, Policy};
+#[cfg(feature = "alloc")]
+use alloc::{string::String, vec::Vec};
+
+/// Returns the word of a packet (RFC 9260 section 6.8): its CRC32c, over zeros in the checksum
+/// field, as the number that this field, bytes 8 to 11, has to be, most significant byte first.
+///
+/// If you have a faster CRC32c: the word is `crc.swap_bytes()`. The field itself is never it: with
+/// [`Header::checksum`] in its place, every checksum is right. For fewer than 12 bytes it has no
+/// meaning.
+///
+/// ```
+/// let packet = *b"\x13\x88\x13\x88\x4d\x2d\xf5\x2d\x67\xdb\x78\xb5\x0b\0\0\x04";
+/// assert_eq!(dcsctp::word(&packet), 0x67db_78b5);
+/// ```
+#[doc(alias = "dcsctp_word")]
+#[must_use]
+pub fn word(bytes: &[u8]) -> u32 {
+    // SAFETY: `bytes` is a slice.
+    unsafe { ffi::dcsctp_word(bytes.as_ptr(), bytes.len()) }
+}
+
+/// Checks whether bytes are a packet (RFC 9260 section 3). `word` is what the checksum field has to
+/// be: [`word(bytes)`](word).
+///
+/// # Errors
+/// The kind of the first fault; [`first_fault`] says where it is.
+#[doc(alias = "dcsctp_check")]
+pub fn check(bytes: &[u8], word: u32, policy: Policy) -> Result<(), FaultKind> {
+    let (start, length) = (bytes.as_ptr(), bytes.len());
+    // SAFETY: `bytes` is a slice, and `policy` is a value here.
+    let code = unsafe { ffi::dcsctp_check(start, length, word, &raw const policy) };
+    FaultKind::of(code).map_or(Ok(()), Err)
+}
+
+/// Returns the first fault of bytes, or none if they are a packet (RFC 9260 section 3). `word` is
+/// what the checksum field has to be: [`word(bytes)`](word).
+///
+/// ```
+/// use dcsctp::{Fault, FaultKind, Policy};
+///
+/// let policy = Policy { any_checksum: true, ..Policy::default() };
+/// // A COOKIE ACK, and a chunk with a length of 3.
+/// let bytes = *b"\x13\x88\x13\x88\0\0\0\x01\0\0\0\0\x0b\0\0\x04\x0b\0\0\x03";
+/// let fault = dcsctp::first_fault(&bytes, 0, policy);
+/// assert_eq!(fault, Some(Fault { kind: FaultKind::Length, offset: 16 }));
+/// ```
+#[doc(alias = "dcsctp_first_fault")]
+#[must_use]
+pub fn first_fault(bytes: &[u8], word: u32, policy: Policy) -> Option<Fault> {
+    let mut offset = 0;
+    let (start, length) = (bytes.as_ptr(), bytes.len());
+    let (policy, offset_at) = (&raw const policy, &raw mut offset);
+    // SAFETY: `bytes` is a slice, and `policy` and `offset` are values here.
+    let code = unsafe { ffi::dcsctp_first_fault(start, length, word, policy, offset_at) };
+    FaultKind::of(code).map(|kind| Fault { kind, offset })
+}
+
+/// Writes the CRC32c into the checksum field of a packet (RFC 9260 section 6.8); all other bytes
+/// stay.
+///
+/// # Errors
+/// [`WriteError::BadPlace`], and nothing changes, for fewer than 12 bytes.
+#[doc(alias = "dcsctp_seal")]
+pub fn seal(packet: &mut [u8]) -> Result<(), WriteError> {
+    // SAFETY: `packet` is a slice.
+    WriteError::check(unsafe { ffi::dcsctp_seal(packet.as_mut_ptr(), packet.len()) })
+}
+
+/// Writes the verification tag of a packet (RFC 9260 section 3.1); all other bytes stay. The packet
+/// has to be [sealed](seal) anew.
+///
+/// ```
+/// let mut bytes = *b"\x13\x88\x13\x88\x4d\x2d\xf5\x2d\x67\xdb\x78\xb5\x0b\0\0\x04";
+/// dcsctp::set_tag(&mut bytes, 0x0102_0304)?;
+/// dcsctp::seal(&mut bytes)?;
+/// assert_eq!(dcsctp::Packet::parse(&bytes)?.header().verification_tag, 0x0102_0304);
+/// # Ok::<(), Box<dyn std::error::Error>>(())
+/// ```
+///
+/// # Errors
+/// [`WriteError::BadPlace`], and nothing changes, for fewer than 12 bytes.
+#[doc(alias = "dcsctp_set_tag")]
+pub fn set_tag(packet: &mut [u8], verification_tag: u32) -> Result<(), WriteError> {
+    let (start, length) = (packet.as_mut_ptr(), packet.len());
+    // SAFETY: `packet` is a slice.
+    WriteError::check(unsafe { ffi::dcsctp_set_tag(start, length, verification_tag) })
+}
+
+/// Brings gap ack blocks of a SACK that is to be sent into order (RFC 9260 section 3.3.4), joins
+/// those that overlap or touch, and drops those that end before their start. Returns what is left:
+/// the fewest blocks that cover the same offsets. The blocks after them are of no use.
+///
+/// ```
+/// use dcsctp::GapAckBlock;
+///
+/// let mut blocks = [
+///     GapAckBlock::new(7, 9),
+///     GapAckBlock::new(4, 3),
+///     GapAckBlock::new(2, 4),
+///     GapAckBlock::new(5, 5),
+/// ];
+/// let cleaned = dcsctp::clean_blocks(&mut blocks);
+/// assert_eq!(cleaned, [GapAckBlock::new(2, 5), GapAckBlock::new(7, 9)]);
+/// ```
+#[doc(alias = "dcsctp_clean_blocks")]
+pub fn clean_blocks(blocks: &mut [GapAckBlock]) -> &mut [GapAckBlock] {
+    // SAFETY: `blocks` is a slice.
+    let count = unsafe { ffi::dcsctp_clean_blocks(blocks.as_mut_ptr(), blocks.len()) };
+    &mut blocks[..count]
+}
+
+impl Header {
+    /// Reads the common header (RFC 9260 section 3.1) of any bytes; none of fewer than 12.
+    #[doc(alias = "dcsctp_header")]
+    #[must_use]
+    pub fn read(bytes: &[u8]) -> Option<Self> {
+        // SAFETY: `bytes` is a slice, and `header` a reference.
+        ffi::read(|header| unsafe { ffi::dcsctp_header(bytes.as_ptr(), bytes.len(), header) })
+    }
+}
+
+/// Bytes that are a packet (RFC 9260 section 3): they were checked.
+///
+/// That says that the checksum and all lengths are right, and nothing of the association: the
+/// verification tag has still to be compared, an INIT to be alone, and so on.
+///
+/// ```
+/// use dcsctp::{ChunkType, Packet};
+///
+/// let bytes = *b"\x13\x88\x13\x88\x4d\x2d\xf5\x2d\x67\xdb\x78\xb5\x0b\0\0\x04";
+/// let packet = Packet::parse(&bytes)?;
+/// assert_eq!(packet.header().verification_tag, 0x4d2d_f52d);
+/// assert!(packet.chunks().map(|chunk| chunk.chunk_type()).eq([ChunkType::COOKIE_ACK]));
+/// # Ok::<(), dcsctp::Fault>(())
+/// ```
+#[derive(Clone, Copy, PartialEq, Eq, Hash, Debug)]
+pub struct Packet<'a> {
+    bytes: &'a [u8],
+    word: u32,
+    policy: Policy,
+}
+
+/// The type of the functions that write what a packet holds.
+type Write =
+    unsafe extern "C" fn(*const u8, usize, u32, *const Policy, *mut u8, usize, *mut usize) -> u32;
+
+impl<'a> Packet<'a> {
+    /// Checks bytes whose checksum has to be their CRC32c; padding is ignored.
+    ///
+    /// # Errors
+    /// The first fault.
+    pub fn parse(bytes: &'a [u8]) -> Result<Self, Fault> {
+        Self::parse_with(bytes, word(bytes), Policy::default())
+    }
+
+    /// Checks bytes under a policy. `word` is what the checksum field has to be:
+    /// [`word(bytes)`](word), or what computes it faster.
+    ///
+    /// ```
+    /// use dcsctp::{Fault, FaultKind, Packet, Policy};
+    ///
+    /// let zero = Policy { zero_checksum: true, ..Policy::default() };
+    /// let bytes = *b"\x13\x88\x13\x88\0\0\0\x01\0\0\0\0\x0b\0\0\x04";
+    /// assert!(Packet::parse_with(&bytes, dcsctp::word(&bytes), zero).is_ok());
+    /// let fault = Fault { kind: FaultKind::Checksum, offset: 8 };
+    /// assert_eq!(Packet::parse(&bytes), Err(fault));
+    /// assert_eq!(fault.to_string(), "wrong checksum at byte 8");
+    /// ```
+    ///
+    /// # Errors
+    /// The first fault.
+    pub fn parse_with(bytes: &'a [u8], word: u32, policy: Policy) -> Result<Self, Fault> {
+        let packet = Packet { bytes, word, policy };
+        first_fault(bytes, word, policy).map_or(Ok(packet), Err)
+    }
+
+    /// Returns the bytes.
+    #[must_use]
+    pub const fn as_bytes(&self) -> &'a [u8] {
+        self.bytes
+    }
+
+    /// Returns the common header (RFC 9260 section 3.1).
+    #[must_use]
+    pub fn header(&self) -> Header {
+        Header::read(self.bytes).unwrap_or_default()
+    }
+
+    /// Returns the chunks (RFC 9260 section 3.2), of which there is one at least.
+    #[must_use]
+    pub fn chunks(&self) -> Chunks<'a> {
+        Chunks::of(self.bytes)
+    }
+
+    /// Writes the canonical packet to the front of `output`, and returns it: a checksum of zero,
+    /// padding of zeros, zeros in reserved bits, and else the same. Two packets have the same one
+    /// if and only if they mean the same. [Seal](seal) it before you send it.
+    ///
+    /// # Errors
+    /// Any [`OutputError`]; `output` stays as it is.
+    #[doc(alias = "dcsctp_canonical")]
+    pub fn write_canonical<'b>(&self, output: &'b mut [u8]) -> Result<&'b mut [u8], OutputError> {
+        let size = self.write(ffi::dcsctp_canonical, output)?;
+        Ok(&mut output[..size])
+    }
+
+    /// Writes the packet's text to the front of `output`, and returns it: a line for the header,
+    /// and one for each chunk. There is a line feed between lines, and none at the end.
+    ///
+    /// ```
+    /// use dcsctp::{OutputError, Packet};
+    ///
+    /// let bytes = *b"\x13\x88\x13\x88\x4d\x2d\xf5\x2d\x67\xdb\x78\xb5\x0b\0\0\x04";
+    /// let packet = Packet::parse(&bytes)?;
+    /// let mut output = [0; 100];
+    /// let text = packet.write_text(&mut output)?;
+    /// let header = "source=5000 destination=5000 tag=1294857517 checksum=1742436533";
+    /// assert_eq!(text, format!("{header}\nCOOKIE-ACK"));
+    /// let needed = text.len();
+    /// assert_eq!(packet.write_text(&mut []), Err(OutputError::NoRoom { needed }));
+    /// # Ok::<(), Box<dyn std::error::Error>>(())
+    /// ```
+    ///
+    /// # Errors
+    /// [`OutputError::NoRoom`] or [`OutputError::OutOfMemory`]; `output` stays as it is.
+    #[doc(alias = "dcsctp_print")]
+    pub fn write_text<'b>(&self, output: &'b mut [u8]) -> Result<&'b str, OutputError> {
+        let size = self.write(ffi::dcsctp_print, output)?;
+        Ok(utf8(&output[..size]))
+    }
+
+    /// Writes all that the packet holds to the front of `output`, and returns it, as `sctp_dump`
+    /// prints it: each line ends in a line feed, and what is inside of something is two blanks
+    /// deeper.
+    ///
+    /// # Errors
+    /// [`OutputError::NoRoom`] or [`OutputError::OutOfMemory`]; `output` stays as it is.
+    #[doc(alias = "dcsctp_report")]
+    pub fn write_report<'b>(&self, output: &'b mut [u8]) -> Result<&'b str, OutputError> {
+        let size = self.write(ffi::dcsctp_report, output)?;
+        Ok(utf8(&output[..size]))
+    }
+
+    /// Returns what [`write_canonical`](Self::write_canonical) writes.
+    ///
+    /// # Errors
+    /// [`OutputError::TooLong`] or [`OutputError::OutOfMemory`].
+    #[cfg(feature = "alloc")]
+    pub fn to_canonical(&self) -> Result<Vec<u8>, OutputError> {
+        self.collect(ffi::dcsctp_canonical)
+    }
+
+    /// Returns what [`write_text`](Self::write_text) writes; [`Display`](core::fmt::Display) does
+    /// too.
+    ///
+    /// # Errors
+    /// [`OutputError::OutOfMemory`].
+    #[cfg(feature = "alloc")]
+    pub fn to_text(&self) -> Result<String, OutputError> {
+        self.collect(ffi::dcsctp_print).map(text)
+    }
+
+    /// Returns what [`write_report`](Self::write_report) writes.
+    ///
+    /// # Errors
+    /// [`OutputError::OutOfMemory`].
+    #[cfg(feature = "alloc")]
+    pub fn to_report(&self) -> Result<String, OutputError> {
+        self.collect(ffi::dcsctp_report).map(text)
+    }
+
+    /// Calls the function, and returns the size of what it writes.
+    fn write(&self, function: Write, output: &mut [u8]) -> Result<usize, OutputError> {
+        let Self { bytes, word, policy } = self;
+        let (start, length) = (bytes.as_ptr(), bytes.len());
+        let (front, room) = (output.as_mut_ptr(), output.len());
+        let mut size = 0;
+        // SAFETY: `function` is one of dcsctp_canonical, dcsctp_print and dcsctp_report. `bytes`
+        // and `output` are slices, and `policy` and `size` references.
+        let code = unsafe { function(start, length, *word, policy, front, room, &raw mut size) };
+        match code {
+            0 => Ok(size),
+            6 => Err(OutputError::OutOfMemory),
+            7 => Err(OutputError::NoRoom { needed: size }),
+            8 => Err(OutputError::TooLong),
+            _ => unreachable!("of a packet, 0 and 6 to 8 are returned"),
+        }
+    }
+
+    /// Returns what the function writes.
+    #[cfg(feature = "alloc")]
+    fn collect(&self, function: Write) -> Result<Vec<u8>, OutputError> {
+        let needed = match self.write(function, &mut []) {
+            Ok(size) => size,
+            Err(OutputError::NoRoom { needed }) => needed,
+            Err(error) => return Err(error),
+        };
+        let mut output = Vec::new();
+        output.try_reserve_exact(needed).map_err(|_| OutputError::OutOfMemory)?;
+        output.resize(needed, 0);
+        let size = self.write(function, &mut output)?;
+        output.truncate(size);
+        Ok(output)
+    }
+}
+
+/// The text that these bytes are.
+fn utf8(bytes: &[u8]) -> &str {
+    core::str::from_utf8(bytes).expect("texts are UTF-8")
+}
+
+/// The text that these bytes are.
+#[cfg(feature = "alloc")]
+fn text(bytes: Vec<u8>) -> String {
+    String::from_utf8(bytes).expect("texts are UTF-8")
+}
+
+impl<'a> TryFrom<&'a [u8]> for Packet<'a> {
+    type Error = Fault;
+
+    /// As [`Packet::parse`].
+    fn try_from(bytes: &'a [u8]) -> Result<Self, Fault> {
+        Self::parse(bytes)
+    }
+}
+
+impl AsRef<[u8]> for Packet<'_> {
+    fn as_ref(&self) -> &[u8] {
+        self.bytes
+    }
+}
+
+/// Writes the packet's [text](Packet::to_text).
+#[cfg(feature = "alloc")]
+impl core::fmt::Display for Packet<'_> {
+    fn fmt(&self, f: &mut core::fmt::Formatter<'_>) -> core::fmt::Result {
+        f.pad(&self.to_text().map_err(|_| core::fmt::Error)?)
+    }
+}

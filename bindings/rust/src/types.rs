@@ -1,0 +1,155 @@
+//! The numbers that the RFCs have names for.
+
+use core::fmt;
+
+/// Defines a type of such numbers, with a constant and a name for each.
+macro_rules! named {
+    (
+        $(#[$about:meta])*
+        $name:ident($number:ty), $other:literal;
+        $($(#[$section:meta])* $constant:ident = $value:literal, $text:literal;)*
+    ) => {
+        $(#[$about])*
+        #[repr(transparent)]
+        #[derive(Clone, Copy, PartialEq, Eq, PartialOrd, Ord, Hash, Debug)]
+        pub struct $name(pub $number);
+
+        impl $name {
+            $($(#[$section])* pub const $constant: Self = Self($value);)*
+
+            /// Returns the name as the RFCs write it, in ASCII; `"unknown"` for a number that has
+            /// no constant here.
+            #[must_use]
+            pub const fn name(self) -> &'static str {
+                match self.0 {
+                    $($value => $text,)*
+                    _ => "unknown",
+                }
+            }
+        }
+
+        /// Writes the name; for a number that has none, the number.
+        impl fmt::Display for $name {
+            fn fmt(&self, f: &mut fmt::Formatter<'_>) -> fmt::Result {
+                match *self {
+                    $(Self::$constant => f.pad($text),)*
+                    Self(number) => write!(f, concat!($other, " {}"), number),
+                }
+            }
+        }
+
+        impl From<$number> for $name {
+            fn from(number: $number) -> Self {
+                Self(number)
+            }
+        }
+
+        impl From<$name> for $number {
+            fn from(it: $name) -> Self {
+                it.0
+            }
+        }
+    };
+}
+
+named! {
+    /// A type of chunk (RFC 9260 section 3.2): any number of a byte, with names for some.
+    ChunkType(u8), "chunk type";
+    /// User data (RFC 9260 section 3.3.1).
+    DATA = 0, "DATA";
+    /// Asks for an association (RFC 9260 section 3.3.2).
+    INIT = 1, "INIT";
+    /// Answers INIT (RFC 9260 section 3.3.3).
+    INIT_ACK = 2, "INIT ACK";
+    /// Acknowledges user data (RFC 9260 section 3.3.4).
+    SACK = 3, "SACK";
+    /// Asks whether the peer is reachable (RFC 9260 section 3.3.5).
+    HEARTBEAT = 4, "HEARTBEAT";
+    /// Answers HEARTBEAT (RFC 9260 section 3.3.6).
+    HEARTBEAT_ACK = 5, "HEARTBEAT ACK";
+    /// Ends the association at once (RFC 9260 section 3.3.7).
+    ABORT = 6, "ABORT";
+    /// Begins to end the association (RFC 9260 section 3.3.8).
+    SHUTDOWN = 7, "SHUTDOWN";
+    /// Answers SHUTDOWN (RFC 9260 section 3.3.9).
+    SHUTDOWN_ACK = 8, "SHUTDOWN ACK";
+    /// Reports errors (RFC 9260 section 3.3.10).
+    ERROR = 9, "ERROR";
+    /// Sends the State Cookie back (RFC 9260 section 3.3.11).
+    COOKIE_ECHO = 10, "COOKIE ECHO";
+    /// Answers COOKIE ECHO (RFC 9260 section 3.3.12).
+    COOKIE_ACK = 11, "COOKIE ACK";
+    /// Answers SHUTDOWN ACK (RFC 9260 section 3.3.13).
+    SHUTDOWN_COMPLETE = 14, "SHUTDOWN COMPLETE";
+    /// User data of messages that can be interleaved (RFC 8260 section 2.1).
+    I_DATA = 64, "I-DATA";
+    /// Re-configures streams (RFC 6525 section 3.1).
+    RE_CONFIG = 130, "RE-CONFIG";
+    /// Tells which user data isn't sent again (RFC 3758 section 3.2).
+    FORWARD_TSN = 192, "FORWARD-TSN";
+    /// The same where I-DATA is used (RFC 8260 section 2.3.1).
+    I_FORWARD_TSN = 194, "I-FORWARD-TSN";
+}
+
+named! {
+    /// A type of parameter (RFC 9260 section 3.2.1): any number of two bytes, with names for some.
+    ParameterType(u16), "parameter type";
+    /// What a HEARTBEAT has its answer return (RFC 9260 section 3.3.5).
+    HEARTBEAT_INFO = 1, "Heartbeat Info";
+    /// What an INIT ACK has the COOKIE ECHO return (RFC 9260 section 3.3.3.1.1).
+    STATE_COOKIE = 7, "State Cookie";
+    /// A parameter of the INIT that its receiver doesn't know, sent back in the INIT ACK (RFC 9260
+    /// section 3.3.3.1.2).
+    UNRECOGNIZED_PARAMETER = 8, "Unrecognized Parameter";
+    /// Resets the SSNs of streams that the sender sends on (RFC 6525 section 4.1).
+    OUTGOING_SSN_RESET = 13, "Outgoing SSN Reset Request";
+    /// Asks the peer to do so (RFC 6525 section 4.2).
+    INCOMING_SSN_RESET = 14, "Incoming SSN Reset Request";
+    /// Resets all SSNs and TSNs (RFC 6525 section 4.3).
+    SSN_TSN_RESET = 15, "SSN/TSN Reset Request";
+    /// Answers a request (RFC 6525 section 4.4).
+    RECONFIGURATION_RESPONSE = 16, "Re-configuration Response";
+    /// Adds streams that the sender sends on (RFC 6525 section 4.5).
+    ADD_OUTGOING_STREAMS = 17, "Add Outgoing Streams Request";
+    /// Asks the peer to do so (RFC 6525 section 4.6).
+    ADD_INCOMING_STREAMS = 18, "Add Incoming Streams Request";
+    /// Accepts packets without a checksum (RFC 9653 section 4).
+    ZERO_CHECKSUM_ACCEPTABLE = 0x8001, "Zero Checksum Acceptable";
+    /// The types of chunks of extensions, a byte for each (RFC 5061 section 4.2.7).
+    SUPPORTED_EXTENSIONS = 0x8008, "Supported Extensions";
+    /// FORWARD-TSN is understood (RFC 3758 section 3.1).
+    FORWARD_TSN_SUPPORTED = 0xC000, "Forward-TSN-Supported";
+}
+
+named! {
+    /// A code of an error cause (RFC 9260 section 3.3.10): any number of two bytes, with names for
+    /// some.
+    CauseCode(u16), "cause code";
+    /// User data came on a stream that isn't there (RFC 9260 section 3.3.10.1).
+    INVALID_STREAM_IDENTIFIER = 1, "Invalid Stream Identifier";
+    /// Parameters were missing (RFC 9260 section 3.3.10.2).
+    MISSING_MANDATORY_PARAMETER = 2, "Missing Mandatory Parameter";
+    /// The State Cookie was too old (RFC 9260 section 3.3.10.3).
+    STALE_COOKIE = 3, "Stale Cookie";
+    /// There is no memory for the association (RFC 9260 section 3.3.10.4).
+    OUT_OF_RESOURCE = 4, "Out of Resource";
+    /// An address is of a type that isn't supported (RFC 9260 section 3.3.10.5).
+    UNRESOLVABLE_ADDRESS = 5, "Unresolvable Address";
+    /// A chunk of an unknown type came, and is in the cause (RFC 9260 section 3.3.10.6).
+    UNRECOGNIZED_CHUNK = 6, "Unrecognized Chunk Type";
+    /// A parameter that has to be there had a value that it can't have (RFC 9260 section 3.3.10.7).
+    INVALID_MANDATORY_PARAMETER = 7, "Invalid Mandatory Parameter";
+    /// Parameters of unknown types came, and are in the cause (RFC 9260 section 3.3.10.8).
+    UNRECOGNIZED_PARAMETERS = 8, "Unrecognized Parameters";
+    /// A DATA chunk had no payload (RFC 9260 section 3.3.10.9).
+    NO_USER_DATA = 9, "No User Data";
+    /// A COOKIE ECHO came too late (RFC 9260 section 3.3.10.10).
+    COOKIE_RECEIVED_WHILE_SHUTTING_DOWN = 10, "Cookie Received While Shutting Down";
+    /// An INIT for an association that is there had addresses that this hasn't (RFC 9260 section
+    /// 3.3.10.11).
+    RESTART_WITH_NEW_ADDRESSES = 11, "Restart of an Association with New Addresses";
+    /// The user ended the association, for a reason (RFC 9260 section 3.3.10.12).
+    USER_INITIATED_ABORT = 12, "User-Initiated Abort";
+    /// The peer broke the protocol (RFC 9260 section 3.3.10.13).
+    PROTOCOL_VIOLATION = 13, "Protocol Violation";
+}

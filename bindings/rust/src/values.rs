@@ -1,0 +1,255 @@
+//! What chunks hold: values that are read and written.
+
+/// Which checksum fields are accepted, and whether padding is checked.
+///
+/// The default, all false, is a socket's: the field has to be the packet's CRC32c, and padding is
+/// ignored.
+#[repr(C)]
+#[derive(Clone, Copy, Default, PartialEq, Eq, Hash, Debug)]
+pub struct Policy {
+    /// Accepts every checksum field: for captures whose checksums a network card filled in later.
+    pub any_checksum: bool,
+    /// Accepts a field of zero as well: for an association in which you sent Zero Checksum
+    /// Acceptable (RFC 9653), of a client from then on, of a server from the COOKIE ECHO on. It is
+    /// accepted on INIT and COOKIE ECHO too, which have to have a CRC32c: refuse these yourself.
+    pub zero_checksum: bool,
+    /// Padding has to be complete and zero: for a filter that refuses bytes hidden in padding,
+    /// which a receiver has to ignore (RFC 9260 section 3.2).
+    pub strict_padding: bool,
+}
+
+/// The common header (RFC 9260 section 3.1).
+#[repr(C)]
+#[derive(Clone, Copy, Default, PartialEq, Eq, Hash, Debug)]
+pub struct Header {
+    /// The sender's port.
+    pub source_port: u16,
+    /// The receiver's port.
+    pub destination_port: u16,
+    /// The tag that the receiver asked for; 0 with INIT. With the T bit it is the one that the
+    /// receiver sends, sent back to it (RFC 9260 section 8.5.1).
+    pub verification_tag: u32,
+    /// The checksum field, bytes 8 to 11, most significant byte first: what [`word`](crate::word)
+    /// returns, if it is right.
+    pub checksum: u32,
+}
+
+/// The numbers of INIT (RFC 9260 section 3.3.2) or INIT ACK (section 3.3.3).
+#[repr(C)]
+#[derive(Clone, Copy, Default, PartialEq, Eq, Hash, Debug)]
+pub struct Init {
+    /// The verification tag that the packets to its sender have to have.
+    pub initiate_tag: u32,
+    /// How many bytes its sender has room for: the advertised receiver window credit.
+    pub a_rwnd: u32,
+    /// How many streams its sender wants to send on.
+    pub outbound_streams: u16,
+    /// How many streams its sender allows the peer at most.
+    pub inbound_streams: u16,
+    /// The first TSN of its sender.
+    pub initial_tsn: u32,
+}
+
+/// The user data of DATA (RFC 9260 section 3.3.1) or I-DATA (RFC 8260 section 2.1). What the kind
+/// does not carry is 0 where it is read, and ignored where it is written.
+#[derive(Clone, Copy, Default, PartialEq, Eq, Hash, Debug)]
+pub struct Data<'a> {
+    /// The transmission sequence number.
+    pub tsn: u32,
+    /// The stream's identifier.
+    pub stream: u16,
+    /// The stream sequence number; only in DATA.
+    pub ssn: u16,
+    /// The message identifier; only in I-DATA.
+    pub mid: u32,
+    /// The fragment sequence number; only in I-DATA that isn't the beginning of a message, where it
+    /// is 0.
+    pub fsn: u32,
+    /// The payload protocol identifier; in DATA, and in I-DATA at the beginning of a message.
+    pub ppid: u32,
+    /// The U bit: the message is delivered as soon as it is whole.
+    pub is_unordered: bool,
+    /// The B bit: the first fragment of a message. A whole message has B and E.
+    pub is_beginning: bool,
+    /// The E bit: the last fragment of a message.
+    pub is_end: bool,
+    /// The I bit: the SACK should not be delayed (RFC 7053).
+    pub immediate_ack: bool,
+    /// The user's bytes.
+    pub payload: &'a [u8],
+}
+
+/// A gap ack block of a SACK (RFC 9260 section 3.3.4): the TSNs from one offset to another have
+/// come, both included. Offsets count from the cumulative TSN ack.
+#[repr(C)]
+#[derive(Clone, Copy, Default, PartialEq, Eq, PartialOrd, Ord, Hash, Debug)]
+pub struct GapAckBlock {
+    /// The offset of the first TSN.
+    pub start: u16,
+    /// The offset of the last TSN.
+    pub end: u16,
+}
+
+impl GapAckBlock {
+    /// Returns the block from one offset to another, both included.
+    #[must_use]
+    pub const fn new(start: u16, end: u16) -> Self {
+        Self { start, end }
+    }
+}
+
+/// A stream of FORWARD-TSN (RFC 3758 section 3.2) or I-FORWARD-TSN (RFC 8260 section 2.3.1). What
+/// the kind does not carry is 0 where it is read, and ignored where it is written.
+#[repr(C)]
+#[derive(Clone, Copy, Default, PartialEq, Eq, Hash, Debug)]
+pub struct SkippedStream {
+    /// The stream's identifier.
+    pub stream: u16,
+    /// The last SSN that is skipped; only in FORWARD-TSN.
+    pub ssn: u16,
+    /// The last message identifier that is skipped; only in I-FORWARD-TSN.
+    pub mid: u32,
+    /// Whether that is of unordered messages; only in I-FORWARD-TSN.
+    pub is_unordered: bool,
+}
+
+/// A request or the response of RE-CONFIG (RFC 6525 section 4).
+///
+/// The streams of the two requests that name some are a [`ResetStreams`](crate::ResetStreams) where
+/// they are read, and a slice of `u16` where they are written. A request that names no stream is
+/// for all of them.
+#[derive(Clone, Copy, PartialEq, Eq, Hash, Debug)]
+pub enum ReConfig<Streams> {
+    /// Outgoing SSN Reset Request (RFC 6525 section 4.1).
+    OutgoingSsnReset {
+        /// The request's number.
+        request_number: u32,
+        /// The number of the Incoming SSN Reset Request that it answers, or else of the last
+        /// request that came.
+        response_number: u32,
+        /// The last TSN that its sender used.
+        last_tsn: u32,
+        /// The streams.
+        streams: Streams,
+    },
+    /// Incoming SSN Reset Request (RFC 6525 section 4.2).
+    IncomingSsnReset {
+        /// The request's number.
+        request_number: u32,
+        /// The streams.
+        streams: Streams,
+    },
+    /// SSN/TSN Reset Request (RFC 6525 section 4.3).
+    SsnTsnReset {
+        /// The request's number.
+        request_number: u32,
+    },
+    /// Re-configuration Response (RFC 6525 section 4.4).
+    Response {
+        /// The number of the request that it answers.
+        response_number: u32,
+        /// What came of it.
+        result: ReConfigResult,
+        /// The next TSN of its sender and that of its receiver; after an SSN/TSN Reset.
+        next_tsns: Option<NextTsns>,
+    },
+    /// Add Outgoing Streams Request (RFC 6525 section 4.5).
+    AddOutgoingStreams {
+        /// The request's number.
+        request_number: u32,
+        /// How many streams are added.
+        new_streams: u16,
+    },
+    /// Add Incoming Streams Request (RFC 6525 section 4.6).
+    AddIncomingStreams {
+        /// The request's number.
+        request_number: u32,
+        /// How many streams are asked for.
+        new_streams: u16,
+    },
+}
+
+impl<Streams> ReConfig<Streams> {
+    /// Returns the same with other streams (RFC 6525 section 4): made of those that it has, if its
+    /// kind has some.
+    ///
+    /// ```
+    /// use dcsctp::ReConfig;
+    ///
+    /// let request = ReConfig::IncomingSsnReset { request_number: 1, streams: vec![2, 3] };
+    /// let count = request.map_streams(|streams| streams.len());
+    /// assert_eq!(count, ReConfig::IncomingSsnReset { request_number: 1, streams: 2 });
+    /// ```
+    pub fn map_streams<T>(self, map: impl FnOnce(Streams) -> T) -> ReConfig<T> {
+        match self {
+            Self::OutgoingSsnReset { request_number, response_number, last_tsn, streams } => {
+                let streams = map(streams);
+                ReConfig::OutgoingSsnReset { request_number, response_number, last_tsn, streams }
+            }
+            Self::IncomingSsnReset { request_number, streams } => {
+                ReConfig::IncomingSsnReset { request_number, streams: map(streams) }
+            }
+            Self::SsnTsnReset { request_number } => ReConfig::SsnTsnReset { request_number },
+            Self::Response { response_number, result, next_tsns } => {
+                ReConfig::Response { response_number, result, next_tsns }
+            }
+            Self::AddOutgoingStreams { request_number, new_streams } => {
+                ReConfig::AddOutgoingStreams { request_number, new_streams }
+            }
+            Self::AddIncomingStreams { request_number, new_streams } => {
+                ReConfig::AddIncomingStreams { request_number, new_streams }
+            }
+        }
+    }
+}
+
+/// The TSNs of a Re-configuration Response (RFC 6525 section 4.4).
+#[derive(Clone, Copy, Default, PartialEq, Eq, Hash, Debug)]
+pub struct NextTsns {
+    /// The next TSN that the response's sender will use.
+    pub sender: u32,
+    /// The next TSN that the response's receiver has to use.
+    pub receiver: u32,
+}
+
+/// The result in a Re-configuration Response (RFC 6525 section 4.4).
+#[derive(Clone, Copy, PartialEq, Eq, Hash, Debug)]
+pub enum ReConfigResult {
+    /// Success: nothing to do.
+    NothingToDo = 0,
+    /// Success: performed.
+    Performed = 1,
+    /// Denied.
+    Denied = 2,
+    /// An error: wrong SSN.
+    WrongSsn = 3,
+    /// An error: a request is already in progress.
+    AlreadyInProgress = 4,
+    /// An error: bad sequence number.
+    BadSequenceNumber = 5,
+    /// In progress.
+    InProgress = 6,
+}
+
+impl ReConfigResult {
+    /// Returns the number that the response carries: 0 to 6.
+    #[must_use]
+    pub const fn number(self) -> u32 {
+        self as u32
+    }
+
+    /// Returns the result of a number; none above 6.
+    #[must_use]
+    pub const fn of(number: u32) -> Option<Self> {
+        Some(match number {
+            0 => Self::NothingToDo,
+            1 => Self::Performed,
+            2 => Self::Denied,
+            3 => Self::WrongSsn,
+            4 => Self::AlreadyInProgress,
+            5 => Self::BadSequenceNumber,
+            6 => Self::InProgress,
+            _ => return None,
+        })
+    }
+}

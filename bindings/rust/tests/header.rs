@@ -1,0 +1,249 @@
+//! That the declarations in `src/` are those of `dcsctp.h`. Nothing else checks them: a function
+//! that is declared wrongly links all the same.
+
+const HEADER: &str = include_str!("dcsctp.h");
+const FFI: &str = include_str!("../src/ffi.rs");
+const VALUES: &str = include_str!("../src/values.rs");
+const TYPES: &str = include_str!("../src/types.rs");
+
+/// Text without C's comments.
+fn without_comments(text: &str) -> String {
+    text.split("/*").map(|it| it.split_once("*/").map_or(it, |(_, rest)| rest)).collect()
+}
+
+/// Text with a blank between words, and none elsewhere.
+fn words(text: &str) -> String {
+    text.split_whitespace().collect::<Vec<_>>().join(" ")
+}
+
+/// The Rust name of a struct: `dcsctp_gap_ack_block` is `GapAckBlock`.
+fn camel_case(name: &str) -> String {
+    let words = name.strip_prefix("dcsctp_").unwrap().split('_');
+    words.map(|it| it[..1].to_uppercase() + &it[1..]).collect()
+}
+
+/// The Rust type of one in C.
+fn rust_type(c: &str) -> String {
+    let (is_pointer, c) = match c.strip_suffix('*') {
+        Some(it) => (true, it.trim()),
+        None => (false, c.trim()),
+    };
+    let (is_const, c) = match c.strip_prefix("const ") {
+        Some(it) => (true, it),
+        None => (false, c),
+    };
+    let name = match c {
+        "bool" => "bool".into(),
+        "size_t" => "usize".into(),
+        "uint8_t" => "u8".into(),
+        "uint16_t" => "u16".into(),
+        "uint32_t" => "u32".into(),
+        _ => camel_case(c.strip_prefix("struct ").unwrap()),
+    };
+    match (is_pointer, is_const) {
+        (false, _) => name,
+        (true, false) => format!("*mut {name}"),
+        (true, true) => format!("*const {name}"),
+    }
+}
+
+/// A variable, a parameter or a field of C, as Rust declares it.
+fn rust_declaration(c: &str) -> String {
+    let c = c.trim();
+    let start = c.rfind([' ', '*']).unwrap() + 1;
+    let name = if &c[start..] == "type" { "r#type" } else { &c[start..] };
+    format!("{name}: {}", rust_type(c[..start].trim()))
+}
+
+/// The functions of the header, as Rust declares them.
+fn functions_of_header() -> Vec<String> {
+    let text = words(&without_comments(HEADER));
+    let declared = text.split("/* ---- names").next().unwrap().split("static inline").next();
+    let mut functions = Vec::new();
+    for part in declared.unwrap().split_inclusive(");") {
+        let Some(part) = part.strip_suffix(");") else { continue };
+        let Some((head, parameters)) = part.rsplit_once('(') else { continue };
+        let Some(at) = head.rfind("dcsctp_") else { continue };
+        let result = head[..at].trim().rsplit([' ', ';', '}']).next().unwrap();
+        let parameters = match parameters {
+            "void" => String::new(),
+            _ => parameters.split(',').map(rust_declaration).collect::<Vec<_>>().join(", "),
+        };
+        functions.push(format!("{}({parameters}) -> {}", &head[at..], rust_type(result)));
+    }
+    functions
+}
+
+/// The functions that `src/ffi.rs` declares.
+fn functions_declared() -> Vec<String> {
+    let text = words(FFI.split("unsafe extern \"C\" {").nth(1).unwrap());
+    let functions = text.split("pub fn ").skip(1);
+    functions
+        .map(|it| it.split(';').next().unwrap().replace("( ", "(").replace(", )", ")"))
+        .collect()
+}
+
+#[test]
+fn functions_are_those_of_the_header() {
+    let functions = functions_of_header();
+    assert!(functions.len() >= 46, "{functions:#?}");
+    assert_eq!(functions_declared(), functions);
+    // Counted in another way, so that none is lost above.
+    let names = HEADER.lines().filter(|it| {
+        (it.starts_with("uint32_t ") || it.starts_with("bool ") || it.starts_with("size_t "))
+            && it.contains("dcsctp_")
+    });
+    assert_eq!(names.count(), functions.len());
+}
+
+/// The fields of each struct of the header, as Rust declares them.
+fn structs_of_header() -> Vec<(String, Vec<String>)> {
+    let text = words(&without_comments(HEADER));
+    let structs = text.split("struct dcsctp_").skip(1).filter_map(|it| it.split_once(" { "));
+    structs
+        .filter(|(name, _)| name.chars().all(|it| it.is_ascii_lowercase() || it == '_'))
+        .map(|(name, rest)| {
+            let fields = rest.split('}').next().unwrap().trim().trim_end_matches(';');
+            (
+                camel_case(&format!("dcsctp_{name}")),
+                fields.split(';').map(rust_declaration).collect(),
+            )
+        })
+        .collect()
+}
+
+/// The fields of each `#[repr(C)]` struct.
+fn structs_declared(text: &str) -> Vec<(String, Vec<String>)> {
+    let structs = text.split("#[repr(C)]").skip(1);
+    structs
+        .map(|it| {
+            let (name, rest) = it.split_once("pub struct ").unwrap().1.split_once(" {").unwrap();
+            let fields = rest.split("\n}").next().unwrap().lines().filter_map(|line| {
+                Some(line.trim().strip_prefix("pub ")?.trim_end_matches(',').to_string())
+            });
+            (name.to_string(), fields.collect())
+        })
+        .collect()
+}
+
+#[test]
+fn structs_are_those_of_the_header() {
+    let mut declared = structs_declared(FFI);
+    declared.extend(structs_declared(VALUES));
+    declared.sort();
+    let mut expected = structs_of_header();
+    expected.sort();
+    assert_eq!(expected.len(), 11);
+    assert_eq!(declared, expected);
+}
+
+/// The named numbers of the header that begin so, each with its name as text.
+fn names_of_header(kind: &str, function: &str) -> Vec<(String, u16, String)> {
+    let body = HEADER.split(&format!("{function}(uint")).nth(1).unwrap();
+    let body = body.split("\n}").next().unwrap();
+    let text = words(&without_comments(HEADER));
+    let prefix = format!("DCSCTP_{kind}_");
+    let constants = text.split(&prefix).skip(1).filter_map(|it| {
+        let (name, rest) = it.split_once(" = ")?;
+        let number = rest.split([',', ' ']).next()?;
+        let number = match number.strip_prefix("0x") {
+            Some(digits) => u16::from_str_radix(digits, 16).ok()?,
+            None => number.parse().ok()?,
+        };
+        let case = format!("case DCSCTP_{kind}_{name}: return \"");
+        let text = body.split(&case).nth(1)?.split('"').next()?;
+        Some((name.to_string(), number, text.to_string()))
+    });
+    constants.filter(|(name, _, _)| !name.contains(' ')).collect()
+}
+
+/// The same of `src/types.rs`.
+fn names_declared(kind: &str) -> Vec<(String, u16, String)> {
+    let text = TYPES.split(&format!("    {kind}(u")).nth(1).unwrap().split("\n}").next().unwrap();
+    let constants = text.lines().filter_map(|line| {
+        let (name, rest) = line.trim().split_once(" = ")?;
+        let (number, text) = rest.split_once(", ")?;
+        let number = match number.strip_prefix("0x") {
+            Some(digits) => u16::from_str_radix(digits, 16).ok()?,
+            None => number.parse().ok()?,
+        };
+        Some((name.to_string(), number, text.trim_matches([';', '"']).to_string()))
+    });
+    constants.collect()
+}
+
+#[test]
+fn names_are_those_of_the_header() {
+    for (kind, function, declared, count) in [
+        ("CHUNK", "dcsctp_chunk_name", "ChunkType", 17),
+        ("PARAMETER", "dcsctp_parameter_name", "ParameterType", 12),
+        ("CAUSE", "dcsctp_cause_name", "CauseCode", 13),
+    ] {
+        let (mut names, mut own) = (names_of_header(kind, function), names_declared(declared));
+        names.sort();
+        own.sort();
+        assert_eq!(names.len(), count, "{names:#?}");
+        assert_eq!(own, names);
+    }
+}
+
+#[test]
+fn results_are_those_of_the_header() {
+    use dcsctp::ReConfigResult;
+    for (result, name) in [
+        (ReConfigResult::NothingToDo, "NOTHING_TO_DO"),
+        (ReConfigResult::Performed, "PERFORMED"),
+        (ReConfigResult::Denied, "DENIED"),
+        (ReConfigResult::WrongSsn, "WRONG_SSN"),
+        (ReConfigResult::AlreadyInProgress, "ALREADY_IN_PROGRESS"),
+        (ReConfigResult::BadSequenceNumber, "BAD_SEQUENCE_NUMBER"),
+        (ReConfigResult::InProgress, "IN_PROGRESS"),
+    ] {
+        assert!(HEADER.contains(&format!("DCSCTP_RE_CONFIG_{name} = {}", result.number())));
+        assert_eq!(ReConfigResult::of(result.number()), Some(result));
+    }
+    assert_eq!(ReConfigResult::of(7), None);
+    assert_eq!(HEADER.matches("    DCSCTP_RE_CONFIG_").count(), 7);
+}
+
+#[test]
+fn texts_are_those_of_the_header() {
+    use dcsctp::{FaultKind, OutputError, WriteError};
+    let text = |name: &str| {
+        let case = format!("case DCSCTP_{name}: return \"");
+        HEADER.split(&case).nth(1).unwrap().split('"').next().unwrap()
+    };
+    let code = |name: &str| {
+        let rest = HEADER.split(&format!("DCSCTP_{name} = ")).nth(1).unwrap();
+        rest.split([',', ' ', '\n']).next().unwrap().parse::<u32>().unwrap()
+    };
+    for (kind, name) in [
+        (FaultKind::Size, "FAULT_SIZE"),
+        (FaultKind::Checksum, "FAULT_CHECKSUM"),
+        (FaultKind::Length, "FAULT_LENGTH"),
+        (FaultKind::Value, "FAULT_VALUE"),
+        (FaultKind::Padding, "FAULT_PADDING"),
+    ] {
+        assert_eq!((kind.code(), kind.text()), (code(name), text(name)));
+        assert_eq!(kind.to_string(), text(name));
+    }
+    for (error, name) in [
+        (WriteError::NoRoom, "NO_ROOM"),
+        (WriteError::BadValue, "BAD_VALUE"),
+        (WriteError::BadPlace, "BAD_PLACE"),
+    ] {
+        assert_eq!((error.code(), error.text()), (code(name), text(name)));
+        assert_eq!(error.to_string(), text(name));
+    }
+    assert_eq!(OutputError::OutOfMemory.to_string(), text("NO_MEMORY"));
+    assert_eq!(OutputError::TooLong.to_string(), text("TOO_LONG"));
+    let no_room = OutputError::NoRoom { needed: 3 }.to_string();
+    assert_eq!(no_room, format!("{}: 3 bytes are needed", text("NO_ROOM")));
+}
+
+#[test]
+fn version_is_that_of_the_header() {
+    assert!(HEADER.contains(&format!("#define DCSCTP_VERSION \"{}\"\n", dcsctp::VERSION)));
+    let numbers = dcsctp::VERSION.split('.').map(|it| it.parse::<u32>().unwrap());
+    assert_eq!(dcsctp::version_number(), numbers.fold(0, |sum, it| sum * 256 + it));
+}
