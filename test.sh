@@ -5,8 +5,8 @@ set -u
 usage='usage: ./test.sh [--quick]
 
 Runs the gate: the files that have to agree are compared; `rt ci` proves everything, and runs each program and test; each
-request for memory of what it built is refused; sctp_dump is run with each option; and the library that it proved is tried
-from C. The last line is that of `rt ci`.
+request for memory of what it built is refused; sctp_dump is run with each option; the library that it proved is tried from C;
+and the texts in dist/ are made anew, compared and tried. The last line is that of `rt ci`.
 
   --quick  for who has changed a line: what runs without a proof, within three minutes on four processors. That is the
            comparisons, and each program over its stored input by `rt try`; of wire_rows all rows but those whose packets
@@ -33,6 +33,15 @@ compare() {
         docs/api.py --compare
 }
 
+# Whether the library for JavaScript is that of the sources.
+compare_wasm() {
+    if command -v wasm-opt >/dev/null; then
+        dist/wasm.py --compare
+    else
+        echo 'dist: bindings/js/dcsctp.wasm: not compared, since there is no wasm-opt (Debian: binaryen)'
+    fi
+}
+
 # Whether the program prints the table of rows without their answers too: none of its answers is taken from the table.
 answers_rows_alone() {
     sed '/^ /d; /^#/!s/ = .*//' crates/wire_rows/stdin | crates/wire_rows/out/wire_rows | cmp - crates/wire_rows/stdout
@@ -47,7 +56,7 @@ run_gate() {
     if [ "$gate" -eq 0 ]; then
         refusals/test.sh && answers_rows_alone && dump/test.sh || exit 1
         c/take_libraries.py
-        c/test.sh || exit 1
+        c/test.sh && dist/make.py --jobs 4 --compare && compare_wasm && dist/test.sh || exit 1
     fi
     cat "$work/last"
     exit "$gate"
