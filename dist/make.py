@@ -1,11 +1,12 @@
 #!/usr/bin/env python3
-"""usage: dist/make.py [--compare] [--into FOLDER] [--jobs N] [FILE ..]
+"""usage: dist/make.py [--compare] [--copies] [--into FOLDER] [--jobs N] [FILE ..]
 
 Makes the files of dist/ that take the toolchain: the C library as assembly text for five systems, and the programs
 sctp_dump and sctp_show for Linux on x86-64; with them copies of the header, LICENSE and NOTICE, and MANIFEST. Whoever
 has the texts needs a C compiler and nothing else (dist/README.md).
 
   --compare      makes them in a folder of its own, and fails where one isn't what lies in dist/, and names it
+  --copies       makes the packages' copies of texts and other files alone, for which no toolchain is needed
   --into FOLDER  the folder, in place of dist/
   --jobs N       how many processors a proof may take; 1 if left out
   FILE ..        these texts alone, such as sctp_show-x86_64-elf.s, without MANIFEST and the copies
@@ -46,6 +47,16 @@ TEXTS = {
     "sctp_show-x86_64-elf.s": ("sctp_show", LINUX, LINUX),
 }
 COPIES = {"dcsctp.h": "include/dcsctp.h", "LICENSE": "LICENSE", "NOTICE": "NOTICE"}
+
+# What a package has to have in its own folder, since it is published alone, and whose it is. (rt ci takes no links.)
+PACKAGED = {f"bindings/{package}/{it}": it for package in ("go", "js", "rust") for it in ("LICENSE", "NOTICE")}
+PACKAGED |= {f"bindings/rust/src/{it}": f"dist/{it}" for it in TEXTS if it.startswith("dcsctp-")}
+PACKAGED |= {f"bindings/go/dcsctp_{system}.s": f"dist/dcsctp-{text}.s" for system, text in (
+    ("darwin_amd64", "x86_64-macho"), ("darwin_arm64", "aarch64-macho"), ("linux_amd64", "x86_64-elf"),
+    ("linux_arm64", "aarch64-elf"), ("windows_amd64", "x86_64-coff"))}
+PACKAGED |= {"bindings/go/dcsctp.h": "dist/dcsctp.h", "bindings/rust/tests/dcsctp.h": "include/dcsctp.h"}
+PACKAGED |= {f"bindings/{at}/{it}.txt": f"examples/{it}.txt" for at in ("python/tests", "rust/examples")
+             for it in ("packets", "expected")}
 
 # What a text of the library may take from elsewhere; the last two on macOS.
 LIBC = {"malloc", "realloc", "free", "memcpy", "memmove", "memset", "memcmp", "bcmp", "bzero", "__bzero"}
@@ -324,6 +335,7 @@ def differing(fresh, folder, names):
 def main():
     parser = argparse.ArgumentParser(usage=__doc__.strip()[7:], add_help=False)
     parser.add_argument("--compare", action="store_true")
+    parser.add_argument("--copies", action="store_true")
     parser.add_argument("--into", default=f"{ROOT}/dist")
     parser.add_argument("--jobs", type=int, default=1)
     parser.add_argument("files", nargs="*")
@@ -335,8 +347,25 @@ def main():
     for it in given.files:
         if it not in TEXTS:
             fail(f"{it} isn't one of {' '.join(TEXTS)}")
-    with tempfile.TemporaryDirectory() as work:
-        make(Toolchain(work, given.jobs), given, f"{work}/fresh")
+    if not given.copies:
+        with tempfile.TemporaryDirectory() as work:
+            make(Toolchain(work, given.jobs), given, f"{work}/fresh")
+    if given.copies or (given.into == f"{ROOT}/dist" and not given.files):
+        package(given.compare)
+
+
+def package(is_compared):
+    """Makes the packages' copies, or compares them."""
+    if is_compared:
+        found = [it for it, source in PACKAGED.items()
+                 if not os.path.isfile(f"{ROOT}/{it}") or read(f"{ROOT}/{it}") != read(f"{ROOT}/{source}")]
+        if found:
+            fail(f"{', '.join(found)}: not the copies that they have to be; run dist/make.py --copies")
+        return
+    for it, source in PACKAGED.items():
+        if os.path.islink(f"{ROOT}/{it}"):
+            os.remove(f"{ROOT}/{it}")
+        shutil.copyfile(f"{ROOT}/{source}", f"{ROOT}/{it}")
 
 
 def make(tools, given, fresh):

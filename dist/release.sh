@@ -83,7 +83,7 @@ texts=$(sed -n 's/^[0-9a-f]\{64\}  //p' dist/MANIFEST)
 for file in $texts MANIFEST README.md CMakeLists.txt dcsctp.pc.in program.c heap.ll; do
     cp "dist/$file" "$work/$folder/dist/"
 done
-cp -rL bindings examples "$work/$folder/"
+cp -r bindings examples "$work/$folder/"
 cp docs/C.md docs/DUMP.md "$work/$folder/docs/"
 cp LICENSE NOTICE CHANGELOG.md "$work/$folder/"
 find "$work/$folder" -name __pycache__ -prune -exec rm -r {} +

@@ -36,10 +36,9 @@ export PATH=${path#:} PYTHONDONTWRITEBYTECODE=1
 
 work=$(mktemp -d)
 trap 'rm -rf "$work"' EXIT
-# (links into dist/ are files in a release)
 mkdir "$work/sources"
 mkdir "$work/sources/include"
-cp -rL "$from/dist" "$from/bindings" "$root/examples" "$work/sources/"
+cp -r "$from/dist" "$from/bindings" "$root/examples" "$work/sources/"
 cp "$from/dist/dcsctp.h" "$work/sources/include/"
 dist=$work/sources/dist bindings=$work/sources/bindings examples=$root/examples
 elf=$dist/dcsctp-x86_64-elf.s
@@ -331,6 +330,7 @@ backend.build_wheel(sys.argv[1])' "$work/$1")
 "$root/dist/packets.py" 4000 1 <"$examples/packets.txt" >"$work/packets.txt" || exit
 try 'no toolchain is on PATH' no_toolchain
 try 'the sums of MANIFEST' sums
+try 'the copies in the packages' "$root/dist/make.py" --copies --compare
 try 'one version' one_version
 with "$cc" 'cc -o answer answer.c dcsctp-x86_64-elf.s' answer
 with gcc 'gcc' by gcc
