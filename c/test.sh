@@ -8,7 +8,7 @@ Builds the C library, and tries it: the header against the library, the examples
 at the edges, associations of a real stack, and a million packets that are made at random, or PACKETS. The last line is:
 c: N passed, M failed.
 
-Needed are what c/build.sh needs, and Python. C++, Rust, pkg-config and usrsctp are used where they are there.'
+Needed are what c/build.sh needs, and Python. C++, pkg-config and usrsctp are used where they are there.'
 
 case ${1:-1000000} in
     *[!0-9]*)
@@ -130,20 +130,8 @@ show_in_c() {
 
 # With the shared library; the others take the static one.
 show_in_cxx() {
-    "$cxx" -std=c++17 -O2 -Wall -Wextra -I"$prefix/include" -o "$work/show_cxx" examples/cpp/show.cc \
+    "$cxx" -std=c++17 -O2 -Wall -Wextra -I"$prefix/include" -Ibindings/cpp -o "$work/show_cxx" bindings/cpp/show.cc \
         -L"$prefix/lib" -ldcsctp -Wl,-rpath,"$prefix/lib" && expected "$work/show_cxx"
-}
-
-rust_has_edition_2024() {
-    has rustc && rustc --edition 2024 --crate-type lib --emit metadata -o "$work/probe.rmeta" - </dev/null 2>"$work/log"
-}
-
-show_in_rust() {
-    rustc --edition 2024 -O -L "native=$prefix/lib" -o "$work/show_rust" examples/rust/show.rs && expected "$work/show_rust"
-}
-
-show_in_python() {
-    expected python3 examples/python/show.py "$prefix/lib/libdcsctp.so"
 }
 
 page_has_the_functions() {
@@ -229,17 +217,11 @@ else
     left_out pkg-config 'the program of docs/C.md with its flags'
 fi
 try 'the example in C' show_in_c
-try 'the example in Python' show_in_python
 if has "$cxx"; then
     try 'the header is C++11' header_is_cxx
     try 'the example in C++' show_in_cxx
 else
     left_out "$cxx" 'the header and the example in C++'
-fi
-if rust_has_edition_2024; then
-    try 'the example in Rust' show_in_rust
-else
-    left_out 'rustc from 1.85 on' 'the example in Rust'
 fi
 try 'calls on captured packets and at the edges, and each allocation refused' edge
 if has_usrsctp; then

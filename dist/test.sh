@@ -126,7 +126,7 @@ by() {
 
 shared() {
     "$cc" -shared -o libdcsctp.so "$elf" -Wl,-soname,libdcsctp.so -Wl,-z,text -Wl,--no-undefined &&
-        "$cxx" -std=c++17 -O2 -I "$dist" -o show_cxx "$examples/cpp/show.cc" -L. -ldcsctp -Wl,-rpath,"$work" &&
+        "$cxx" -std=c++17 -O2 -I "$dist" -I "$bindings/cpp" -o show_cxx "$bindings/cpp/show.cc" -L. -ldcsctp -Wl,-rpath,"$work" &&
         expected ./show_cxx
 }
 

@@ -96,6 +96,8 @@ def exports(wasm):
 def compiled(tools, module, work):
     """The library as WebAssembly, with a 64-bit memory."""
     exported = {*make.header_functions(), "malloc", "free"}
+    toolchain = os.path.dirname(os.path.dirname(tools.clang))
+    link = f"{os.path.dirname(toolchain)}/bin/rattle-link"
 
     def clang(system, *words):
         return make.output_of([tools.clang, f"--target={system}", "--no-default-config", *words],
@@ -112,8 +114,8 @@ def compiled(tools, module, work):
         make.write(f"{work}/{name}.ll", "".join(retargeted(it, exported)))
         clang(SYSTEM, *FLAGS, "-c", "-x", "ir", f"{name}.ll", "-o", f"{name}.o")
     tools.tool("llvm-ar", "rcsD", f"{work}/library.a", *(f"{work}/{it}.o" for it in parts))
-    make.output_of([f"{tools.kit}/bin/rattle-link", "--target", SYSTEM, "--toolchain", f"{tools.kit}/toolchain", "-o",
-                    f"{work}/wide.wasm", f"{work}/library.a"], "the library isn't linked for WebAssembly", cwd=work)
+    make.output_of([link, "--target", SYSTEM, "--toolchain", toolchain, "-o", f"{work}/wide.wasm", f"{work}/library.a"],
+                   "the library isn't linked for WebAssembly", cwd=work)
     make.output_of(["wasm-opt", *LOWERING, f"{work}/wide.wasm", "-o", f"{work}/dcsctp.wasm"], "wasm-opt failed")
     wasm = make.read(f"{work}/dcsctp.wasm")
     wanted = {("function", it) for it in exported} | {("memory", "memory")}
@@ -139,7 +141,6 @@ def main():
         fail("wasm-opt isn't on PATH (Debian: binaryen)")
     with tempfile.TemporaryDirectory() as work:
         tools = make.Toolchain(work, 1)
-        tools.kit = os.path.dirname(os.path.dirname(os.path.dirname(tools.clang)))
         module = os.path.abspath(given.module) if given.module else tools.build("dcsctp_c", make.LINUX)[0]
         wasm = compiled(tools, module, work)
     if given.compare:

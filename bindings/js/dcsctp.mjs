@@ -181,8 +181,9 @@ function reserve(block, size) {
     throw new DcsctpError(Result.NO_MEMORY);
 }
 
+/** Refuses what is no Uint8Array, be it that of another window or context. */
 function isBytes(bytes) {
-  if (!(bytes instanceof Uint8Array))
+  if (!ArrayBuffer.isView(bytes) || bytes[Symbol.toStringTag] !== 'Uint8Array')
     throw new TypeError('bytes have to be a Uint8Array');
   return bytes;
 }

@@ -1,6 +1,7 @@
 // What is refused, and what lies in the memory: nothing leaks, and no bytes reach outside of what they were given.
 import assert from 'node:assert/strict';
 import { test } from 'node:test';
+import { runInNewContext } from 'node:vm';
 import * as dcsctp from '../dcsctp.mjs';
 import { call, view } from '../library.mjs';
 
@@ -206,6 +207,8 @@ test('values of another type or size are refused', () => {
     assert.throws(() => new Builder(PORTS).addData({ ...DATA, isEnd: it }), TypeError);
   }
   dcsctp.check(packet);
+  dcsctp.check(Buffer.from(packet));
+  dcsctp.check(runInNewContext('Uint8Array').from(packet));
 });
 
 test('objects whose fields run code', () => {
