@@ -40,6 +40,7 @@ mkdir "$work/sources"
 mkdir "$work/sources/include"
 cp -r "$from/dist" "$from/bindings" "$root/examples" "$work/sources/"
 cp "$from/dist/dcsctp.h" "$work/sources/include/"
+cp "$root/dist/packets.py" "$work/sources/dist/"
 dist=$work/sources/dist bindings=$work/sources/bindings examples=$root/examples
 elf=$dist/dcsctp-x86_64-elf.s
 cc=${CC:-cc} cxx=${CXX:-c++}
