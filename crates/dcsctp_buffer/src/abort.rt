@@ -15,7 +15,8 @@ use dcsctp_wire::packet::user_initiated_abort_error_cause::CAUSE_CODE;
 /// its one cause.
 #[derive(Clone, Copy, Debug)]
 pub struct BorrowedAbort<'a> {
-    /// Whether the packet's verification tag is the receiver's own, sent back to it: the T bit.
+    /// Whether the packet's verification tag is reflected, the T bit: it is the one that the
+    /// receiver writes into its own packets (RFC 9260 section 8.5.1).
     pub tag_reflected: bool,
     /// Why, in the upper layer's words.
     pub reason: &'a str,

@@ -1,16 +1,16 @@
 //! Parameters and error causes that are added to a chunk of the packet.
 
-ghost use Rattle.std.specs.{Prelude.{◌≡◌, ◌≤◌, ◌<◌, ◌+◌, ◌^◌, ◌++◌, ◌↔◌, ℕ, length, drop, replicate, refl, IsTrue, IsOk, IfErr}, Int.{w16, to_be_bytes}};
-ghost use Rattle.dcsctp_tlv.specs.{Frame.{round_up_to_4, typed_header, frame_length}, Image.{gap, put}, Number.{number16}};
+ghost use Rattle.std.specs.Prelude.{◌≡◌, ◌≤◌, ◌<◌, ◌+◌, ◌^◌, ◌++◌, ◌↔◌, length, drop, replicate, IsTrue, IsOk, IfErr};
+ghost use Rattle.dcsctp_tlv.specs.{Frame.{round_up_to_4, typed_header, frame_length}, Image.{gap, put}};
 ghost use Rattle.dcsctp_buffer.specs.Buffer.{Declines};
 ghost use Rattle.dcsctp_buffer.specs.Item.{item_value, IsLastChunk, IsExtensible, HasItemRoom, IsItemAdded, ExtendsParameters, ExtendsCauses, MakesError, padded_item};
 
 use crate::error::WriteError;
 use crate::widths::bytes_in_width;
 use crate::{MAX_SIZE, is_begun};
-use dcsctp_tlv::fields::{Field, put_fields};
+use dcsctp_tlv::fields::put_fields;
 use dcsctp_tlv::frame::{MAX_VALUE_SIZE, TLV_HEADER_SIZE, put_bytes, put_header};
-use dcsctp_tlv::number::{is_divisible_by_4, put_u16, read_u16_be, round_up_to_4, write_u16_be};
+use dcsctp_tlv::number::{is_divisible_by_4, put_u16, read_u16_be, round_up_to_4};
 use dcsctp_wire::packet::sctp_packet::COMMON_HEADER_SIZE;
 
 /// The offset of the length field in an item.
@@ -135,7 +135,7 @@ fn put_padded_item(
     put_zeros(output, place, begin - place);
     put_bytes(output, begin, &header);
     put_bytes(output, value_place, leading);
-    put_fields::<Word>(output, value_place + leading.len(), numbers);
+    put_fields::<u16>(output, value_place + leading.len(), numbers);
     let item_size = TLV_HEADER_SIZE + value_size;
     put_zeros(
         output,
@@ -167,35 +167,4 @@ fn put_zeros(output: &mut [u8], place: usize, count: usize)
     let (_, rest) = output.split_at_mut(place);
     let (front, _) = rest.split_at_mut(count);
     front.fill(0);
-}
-
-/// A number of two bytes.
-struct Word;
-
-impl Field for Word {
-    type Value = u16;
-
-    ghost Tree = { ℕ };
-
-    ghost view = { λ n. n };
-
-    ghost field_at = { number16 };
-
-    ghost field_bytes = { to_be_bytes w16 };
-
-    ghost is_writable = { λ n. Unit {0} };
-
-    ghost SIZE = { 2 };
-
-    const SIZE: usize = 2;
-
-    fn read(bytes: &[u8]) -> u16 {
-        read_u16_be(bytes)
-    }
-
-    fn write(value: &u16, output: &mut [u8]) {
-        write_u16_be(output, *value);
-    }
-
-    ghost field_length = { λ n fits. refl };
 }

@@ -99,7 +99,7 @@ pub extern "C" fn dcsctp_add_missing_parameters(
         (record { bytes = packet.new; size = size.new }) result }
 {
     let code = missing_mandatory_parameter_error_cause::CAUSE_CODE;
-    // Two bytes hold no length of so many types that four bytes don't hold their number.
+    // Where the remainder isn't the number, the value is too long to be written.
     let count = ((types.len() % (1 << 32)) as u32).to_be_bytes();
     add_to_list(packet, size, start, code, &count, types)
 }

@@ -12,15 +12,15 @@
 //! +-+-+-+-+-+-+-+-+-+-+-+-+-+-+-+-+-+-+-+-+-+-+-+-+-+-+-+-+-+-+-+-+
 //! ```
 
-ghost use Rattle.std.specs.{Prelude.{◌≡◌, ◌≢◌, ◌↔◌, ℕ, Some, IsOk, IfOk, IsErrOf, refl, Ok, vec_len, vec_capacity}, Int.{w16, to_be_bytes}};
-ghost use Rattle.dcsctp_tlv.specs.{Number.{number16}, Reading.{Exactly, reading, checking, Tested}};
+ghost use Rattle.std.specs.Prelude.{◌≡◌, ◌≢◌, ◌↔◌, Some, IsOk, IfOk, IsErrOf, Ok, vec_len, vec_capacity};
+ghost use Rattle.dcsctp_tlv.specs.Reading.{Exactly, reading, checking, Tested};
 ghost use Rattle.dcsctp_cause.specs.MissingMandatoryParameter as kind;
 
 use dcsctp_tlv::copy::copied;
 use dcsctp_tlv::error::ChunkParseError;
-use dcsctp_tlv::fields::{Field, fields_from_bytes, put_parameter_fields};
+use dcsctp_tlv::fields::{fields_from_bytes, put_parameter_fields};
 use dcsctp_tlv::frame::MAX_VALUE_SIZE;
-use dcsctp_tlv::number::{read_u16_be, read_u32_be, write_u16_be};
+use dcsctp_tlv::number::read_u32_be;
 use dcsctp_tlv::parameter::raw_parameter::RawParameter;
 use dcsctp_tlv::text::write_joined;
 use dcsctp_tlv::tlv::SerializableTlv;
@@ -33,37 +33,6 @@ pub const CAUSE_CODE: u16 = 2;
 
 /// Bytes of the value before the types.
 const FIXED_SIZE: usize = 4;
-
-/// How a parameter's type is laid out: two bytes.
-struct ParameterTypeField;
-
-impl Field for ParameterTypeField {
-    type Value = u16;
-
-    ghost Tree = { ℕ };
-
-    ghost view = { λ n. n };
-
-    ghost field_at = { number16 };
-
-    ghost field_bytes = { to_be_bytes w16 };
-
-    ghost is_writable = { λ n. Unit {0} };
-
-    ghost SIZE = { 2 };
-
-    const SIZE: usize = 2;
-
-    fn read(bytes: &[u8]) -> u16 {
-        read_u16_be(bytes)
-    }
-
-    fn write(value: &u16, output: &mut [u8]) {
-        write_u16_be(output, *value);
-    }
-
-    ghost field_length = { λ n fits. refl };
-}
 
 /// Missing Mandatory Parameter (RFC 9260 section 3.3.10.2).
 #[derive(Debug, Drop, PartialEq, Eq)]
@@ -141,7 +110,7 @@ impl MissingMandatoryParameterErrorCause {
     {
         let count = read_u32_be(value) as usize;
         let types = &value[FIXED_SIZE..];
-        let missing_parameters = fields_from_bytes::<ParameterTypeField>(alloc, types, count)?;
+        let missing_parameters = fields_from_bytes::<u16>(alloc, types, count)?;
         Ok(MissingMandatoryParameterErrorCause { missing_parameters })
     }
 }
@@ -152,7 +121,7 @@ impl SerializableTlv for MissingMandatoryParameterErrorCause {
     fn serialize_to(&self, output: &mut [u8]) {
         let types = &self.missing_parameters;
         let leading = [types.len() as u32];
-        put_parameter_fields::<ParameterTypeField>(CAUSE_CODE, &leading, types, output);
+        put_parameter_fields::<u16>(CAUSE_CODE, &leading, types, output);
     }
 
     fn value_size(&self) -> usize {

@@ -25,8 +25,9 @@ pub const CHUNK_TYPE: u8 = 14;
 /// SHUTDOWN COMPLETE (RFC 9260 section 3.3.13).
 #[derive(Debug, Drop)]
 pub struct ShutdownCompleteChunk {
-    /// Whether the packet's verification tag is the receiver's own, sent back to it: the T bit. It
-    /// is set where the sender has no association.
+    /// Whether the packet's verification tag is reflected, the T bit: it is the one that the
+    /// receiver writes into its own packets (RFC 9260 section 8.5.1). A sender without an
+    /// association sets it.
     pub tag_reflected: bool,
 }
 

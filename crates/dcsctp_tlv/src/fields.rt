@@ -1,4 +1,4 @@
-//! Fields of one size in a row: stream ids, and whatever else a value lists.
+//! Fields of one size in a row: numbers, stream ids, and whatever else a value lists.
 
 ghost use Rattle.std.specs.{Prelude.{◌≡◌, ◌≤◌, ◌+◌, ◌*◌, ◌++◌, ℕ, List, All, IfOk, length, drop, map, vec_capacity, refl, vec_len}, Int.{w16, w32, to_be_bytes}, List.{flat_map}};
 ghost use Rattle.dcsctp_tlv.specs.{Fields.{fields, numbers_and_fields_tlv, fields_tlv}, Image.{put, IsEncodable, size_of, image_of, written}, Number.{number16, number32}};
@@ -46,6 +46,34 @@ pub trait Field {
 
     ghost field_length: { (value : Self.Value) → is_writable value
         → length (field_bytes (view value)) ≡ SIZE };
+}
+
+impl Field for u16 {
+    type Value = u16;
+
+    ghost Tree = { ℕ };
+
+    ghost view = { λ n. n };
+
+    ghost field_at = { number16 };
+
+    ghost field_bytes = { to_be_bytes w16 };
+
+    ghost is_writable = { λ n. Unit {0} };
+
+    ghost SIZE = { 2 };
+
+    const SIZE: usize = 2;
+
+    fn read(bytes: &[u8]) -> u16 {
+        read_u16_be(bytes)
+    }
+
+    fn write(value: &u16, output: &mut [u8]) {
+        write_u16_be(output, *value);
+    }
+
+    ghost field_length = { λ n fits. refl };
 }
 
 impl Field for u32 {
