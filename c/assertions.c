@@ -19,13 +19,12 @@ FIELD(dcsctp_header, destination_port, 2, uint16_t);
 FIELD(dcsctp_header, verification_tag, 4, uint32_t);
 FIELD(dcsctp_header, checksum, 8, uint32_t);
 
-SIZE(dcsctp_chunk, 40);
+SIZE(dcsctp_chunk, 32);
 FIELD(dcsctp_chunk, type, 0, uint8_t);
 FIELD(dcsctp_chunk, flags, 1, uint8_t);
 FIELD(dcsctp_chunk, value_offset, 8, size_t);
 FIELD(dcsctp_chunk, value_size, 16, size_t);
-FIELD(dcsctp_chunk, list_offset, 24, size_t);
-FIELD(dcsctp_chunk, next, 32, size_t);
+FIELD(dcsctp_chunk, next, 24, size_t);
 
 SIZE(dcsctp_parameter, 32);
 FIELD(dcsctp_parameter, type, 0, uint16_t);

@@ -106,7 +106,7 @@ static void captured_data(void)
     CHECK(dcsctp_header(hello, HELLO, &header) && header.source_port == 5000 && header.destination_port == 5000);
     CHECK(header.verification_tag == 229062552 && header.checksum == HELLO_WORD);
     CHECK(dcsctp_chunk_at(hello, HELLO, 12, &chunk) && chunk.type == DCSCTP_CHUNK_DATA && chunk.flags == 3);
-    CHECK(chunk.value_offset == 16 && chunk.value_size == 17 && chunk.list_offset == 33 && chunk.next == 36);
+    CHECK(chunk.value_offset == 16 && chunk.value_size == 17 && chunk.next == 36);
     CHECK(!dcsctp_chunk_at(hello, HELLO, 36, &chunk));
     CHECK(dcsctp_data(hello, HELLO, &chunk, &data) && data.tsn == 2030482608 && data.mid == 0 && data.fsn == 0);
     CHECK(data.ppid == 51 && data.stream == 1 && data.ssn == 0 && !data.is_unordered && !data.immediate_ack);
@@ -257,7 +257,7 @@ static void refusals(writer *write)
 static void places(void)
 {
     struct dcsctp_header header = {7, 7, 7, 7};
-    struct dcsctp_chunk chunk = {7, 7, 7, 7, 7, 7};
+    struct dcsctp_chunk chunk = {7, 7, 7, 7, 7};
     CHECK(!dcsctp_header(packet, 0, &header) && !dcsctp_header(packet, 11, &header) && header.checksum == 7);
     CHECK(dcsctp_header(packet, 12, &header) && header.source_port == 5000 && header.verification_tag == 0x01020304);
 
@@ -270,7 +270,6 @@ static void places(void)
     CHECK(chunk_at(SACK_AT).next == DATA_AT && chunk_at(DATA_AT).next == HEARTBEAT_AT);
     chunk = chunk_at(HEARTBEAT_AT);
     CHECK(chunk.next == LENGTH && chunk.type == DCSCTP_CHUNK_HEARTBEAT && chunk.value_offset == 68 && chunk.value_size == 6);
-    CHECK(chunk.list_offset == 68);
 }
 
 static void parts(void)
@@ -305,7 +304,7 @@ static void parts(void)
     const size_t wild[] = {0, LENGTH - 1, LENGTH, LENGTH + 1, SIZE_MAX - 15, SIZE_MAX};
     const uint8_t types[] = {DCSCTP_CHUNK_DATA, DCSCTP_CHUNK_I_DATA, DCSCTP_CHUNK_SACK, DCSCTP_CHUNK_INIT, DCSCTP_CHUNK_INIT_ACK};
     for (size_t i = 0; i < 6 * 6 * 5; i++) {
-        struct dcsctp_chunk chunk = {types[i % 5], 0xff, wild[i / 5 % 6], wild[i / 30], wild[i / 30], wild[i / 30]};
+        struct dcsctp_chunk chunk = {types[i % 5], 0xff, wild[i / 5 % 6], wild[i / 30], wild[i / 30]};
         if (chunk.value_offset == 0 && chunk.value_size <= LENGTH)
             continue; /* the bytes are there */
         data.tsn = sack.a_rwnd = init.a_rwnd = tsn = 7;
@@ -339,7 +338,7 @@ static struct dcsctp_chunk first_of(const uint8_t *bytes, size_t size)
 /* The parameter or the cause that a text is. */
 static struct dcsctp_parameter item_of(const uint8_t *bytes, size_t size)
 {
-    const struct dcsctp_chunk whole = {DCSCTP_CHUNK_ERROR, 0, 0, size, 0, size};
+    const struct dcsctp_chunk whole = {DCSCTP_CHUNK_ERROR, 0, 0, size, size};
     struct dcsctp_parameter item = {0};
     CHECK(dcsctp_parameter_at(bytes, size, &whole, 0, &item) && item.value_offset == 4 && item.value_size == size - 4 && item.next == size);
     return item;
@@ -351,17 +350,19 @@ static void list_offsets(void)
         uint8_t type, offset; /* from the chunk on, of a value of 20 bytes */
     } lists[] = {{1, 20}, {2, 20}, {4, 4}, {5, 4}, {130, 4}, {6, 4}, {9, 4}, {0, 24}, {3, 24}, {7, 24}, {8, 24}, {10, 24}, {11, 24},
                  {14, 24}, {64, 24}, {192, 24}, {194, 24}, {12, 24}, {131, 24}, {255, 24}};
-    uint8_t bytes[24] = {0, 0, 0, 24};
     for (size_t i = 0; i < sizeof lists / sizeof *lists; i++) {
-        bytes[0] = lists[i].type;
-        CHECK(first_of(bytes, 24).list_offset == lists[i].offset);
+        const struct dcsctp_chunk chunk = {lists[i].type, 0, 4, 20, 24};
+        CHECK(dcsctp_list_offset(&chunk) == lists[i].offset);
     }
+    /* a value that lies in no bytes: the sum stays below 2^64 */
+    const struct dcsctp_chunk wild = {DCSCTP_CHUNK_INIT, 0, SIZE_MAX - 15, SIZE_MAX, 0}, none = {0, 0, 1, SIZE_MAX, 0};
+    CHECK(dcsctp_list_offset(&wild) == SIZE_MAX && dcsctp_list_offset(&none) == SIZE_MAX);
     /* an INIT without its numbers has no list, and one without parameters an empty one */
     struct dcsctp_parameter item = {7, 7, 7, 7};
     for (uint8_t size = 4; size <= 20; size++) {
-        bytes[0] = DCSCTP_CHUNK_INIT, bytes[3] = size;
+        const uint8_t bytes[24] = {DCSCTP_CHUNK_INIT, 0, 0, size};
         const struct dcsctp_chunk chunk = first_of(bytes, 24);
-        CHECK(chunk.list_offset == size && !dcsctp_parameter_at(bytes, 24, &chunk, chunk.list_offset, &item) && item.type == 7);
+        CHECK(dcsctp_list_offset(&chunk) == size && !dcsctp_parameter_at(bytes, 24, &chunk, size, &item) && item.type == 7);
     }
 }
 
@@ -374,7 +375,7 @@ static void parameters(void)
     enum { SIZE = sizeof init - 1, FIRST = 20 };
     struct dcsctp_chunk chunk = first_of(init, SIZE);
     struct dcsctp_parameter item = {7, 7, 7, 7};
-    CHECK(chunk.list_offset == FIRST && chunk.value_size == SIZE - 4);
+    CHECK(dcsctp_list_offset(&chunk) == FIRST && chunk.value_size == SIZE - 4);
     CHECK(dcsctp_parameter_at(init, SIZE, &chunk, FIRST, &item) && item.type == DCSCTP_PARAMETER_SUPPORTED_EXTENSIONS);
     CHECK(item.value_offset == 24 && item.value_size == 3 && item.next == 28);
     CHECK(dcsctp_parameter_at(init, SIZE, &chunk, 28, &item) && item.type == DCSCTP_PARAMETER_FORWARD_TSN_SUPPORTED);
@@ -401,13 +402,13 @@ static void parameters(void)
     const struct item wrong[] = {{BYTES("\0\1\0\0")}, {BYTES("\0\1\0\3")}, {BYTES("\0\1\0\5")}, {BYTES("\0\1\xff\xff")}, {BYTES("\0\1\0")}};
     item.type = 7;
     for (size_t i = 0; i < sizeof wrong / sizeof *wrong; i++) {
-        const struct dcsctp_chunk whole = {DCSCTP_CHUNK_HEARTBEAT, 0, 0, wrong[i].size, 0, 0};
+        const struct dcsctp_chunk whole = {DCSCTP_CHUNK_HEARTBEAT, 0, 0, wrong[i].size, 0};
         CHECK(!dcsctp_parameter_at(wrong[i].bytes, wrong[i].size, &whole, 0, &item) && item.type == 7);
     }
     /* chunks that no call wrote */
     const size_t wild[] = {SIZE, SIZE + 1, SIZE_MAX - 15, SIZE_MAX};
     for (size_t i = 0; i < 16; i++) {
-        const struct dcsctp_chunk other = {1, 0, wild[i / 4], wild[i % 4], FIRST, SIZE};
+        const struct dcsctp_chunk other = {1, 0, wild[i / 4], wild[i % 4], SIZE};
         for (size_t k = 0; k < 4; k++)
             CHECK(!dcsctp_parameter_at(init, SIZE, &other, wild[k], &item) && item.type == 7);
         CHECK(!dcsctp_parameter_at(init, SIZE, &other, FIRST, &item) && item.type == 7);
@@ -807,7 +808,7 @@ static void lists(void)
     const uint16_t types[] = {DCSCTP_PARAMETER_SUPPORTED_EXTENSIONS, DCSCTP_PARAMETER_FORWARD_TSN_SUPPORTED, DCSCTP_PARAMETER_STATE_COOKIE};
     size_t found = 0;
     CHECK(dcsctp_chunk_at(output, size, DCSCTP_FIRST_CHUNK, &chunk));
-    for (size_t at = chunk.list_offset; dcsctp_parameter_at(output, size, &chunk, at, &item); at = item.next, found++)
+    for (size_t at = dcsctp_list_offset(&chunk); dcsctp_parameter_at(output, size, &chunk, at, &item); at = item.next, found++)
         CHECK(found < 3 && item.type == types[found]);
     CHECK(found == 3 && item.value_size == 9 && !memcmp(output + item.value_offset, text, 9));
 

@@ -431,10 +431,30 @@ static bool try_item_at(const uint8_t *bytes, size_t length, const struct dcsctp
     return is_item;
 }
 
+/* The bytes of a value before its parameters or error causes: all of them where the type has none. */
+static size_t numbers_before_list(uint8_t type, size_t size)
+{
+    switch (type) {
+    case DCSCTP_CHUNK_INIT:
+    case DCSCTP_CHUNK_INIT_ACK:
+        return size < 16 ? size : 16;
+    case DCSCTP_CHUNK_HEARTBEAT:
+    case DCSCTP_CHUNK_HEARTBEAT_ACK:
+    case DCSCTP_CHUNK_RE_CONFIG:
+    case DCSCTP_CHUNK_ABORT:
+    case DCSCTP_CHUNK_ERROR:
+        return 0;
+    default:
+        return size;
+    }
+}
+
 static void try_list(const uint8_t *bytes, size_t length, const struct dcsctp_chunk *chunk, bool is_there)
 {
+    const size_t before = numbers_before_list(chunk->type, chunk->value_size), most = SIZE_MAX - chunk->value_offset;
     struct dcsctp_parameter item;
-    size_t at = chunk->list_offset;
+    size_t at = dcsctp_list_offset(chunk);
+    REQUIRE(at == chunk->value_offset + (before < most ? before : most));
     for (; try_item_at(bytes, length, chunk, is_there, at, &item); at = item.next)
         try_item(bytes, length, &item);
     const size_t offsets[] = {chunk->value_offset + below(chunk->value_size % 70000 + 1), below(length + 8), (size_t)draw(), SIZE_MAX - below(40)};
@@ -527,24 +547,6 @@ static void try_parts(const uint8_t *bytes, size_t length, const struct dcsctp_c
     try_list(bytes, length, chunk, is_there);
 }
 
-/* The bytes of a value before its parameters or error causes: all of them where the type has none. */
-static size_t numbers_before_list(uint8_t type, size_t size)
-{
-    switch (type) {
-    case DCSCTP_CHUNK_INIT:
-    case DCSCTP_CHUNK_INIT_ACK:
-        return size < 16 ? size : 16;
-    case DCSCTP_CHUNK_HEARTBEAT:
-    case DCSCTP_CHUNK_HEARTBEAT_ACK:
-    case DCSCTP_CHUNK_RE_CONFIG:
-    case DCSCTP_CHUNK_ABORT:
-    case DCSCTP_CHUNK_ERROR:
-        return 0;
-    default:
-        return size;
-    }
-}
-
 static void try_walk(const uint8_t *bytes, size_t length)
 {
     struct dcsctp_header header = {77, 77, 77, 77};
@@ -563,7 +565,6 @@ static void try_walk(const uint8_t *bytes, size_t length)
         REQUIRE(chunk.value_offset == at + 4 && chunk.value_size + 4 == u16(bytes + at + 2));
         REQUIRE(chunk.value_size <= length - at - 4 && chunk.next > at && chunk.next <= length);
         REQUIRE(chunk.next == at + padded(chunk.value_size + 4) || (chunk.next == length && length < at + padded(chunk.value_size + 4)));
-        REQUIRE(chunk.list_offset == chunk.value_offset + numbers_before_list(chunk.type, chunk.value_size));
         try_parts(bytes, length, &chunk);
     }
     /* no whole chunk is there: that is the end, or where the bytes aren't a packet */
@@ -575,7 +576,7 @@ static void try_walk(const uint8_t *bytes, size_t length)
     for (int i = 0; i < 3; i++) {
         const size_t offsets[] = {below(length + 8), draw(), SIZE_MAX - below(40), length};
         const uint8_t types[] = {0, 1, 2, 3, 7, 64, 192, 194, (uint8_t)draw()};
-        struct dcsctp_chunk other = {types[below(sizeof types)], (uint8_t)draw(), offsets[below(4)], offsets[below(4)], offsets[below(4)],
+        struct dcsctp_chunk other = {types[below(sizeof types)], (uint8_t)draw(), offsets[below(4)], offsets[below(4)],
                                      offsets[below(4)]};
         if (below(2))
             other.value_size = below(length + 1);
@@ -1023,13 +1024,13 @@ static size_t read_added(const uint8_t *packet, size_t size, const struct added 
     case DCSCTP_CHUNK_ABORT:
         if (added->is_raw)
             break;
-        REQUIRE(dcsctp_parameter_at(packet, size, &chunk, chunk.list_offset, &item) && item.value_size == some);
+        REQUIRE(dcsctp_parameter_at(packet, size, &chunk, dcsctp_list_offset(&chunk), &item) && item.value_size == some);
         REQUIRE(item.type == (added->type == DCSCTP_CHUNK_ABORT ? DCSCTP_CAUSE_USER_INITIATED_ABORT : DCSCTP_PARAMETER_HEARTBEAT_INFO));
         REQUIRE(!memcmp(packet + item.value_offset, bytes, some) && (item.next == at || added->item_count == 0));
         break;
     case DCSCTP_CHUNK_INIT:
     case DCSCTP_CHUNK_INIT_ACK:
-        REQUIRE(dcsctp_init(packet, size, &chunk, &init) && !memcmp(&init, &added->init, sizeof init) && chunk.list_offset == at);
+        REQUIRE(dcsctp_init(packet, size, &chunk, &init) && !memcmp(&init, &added->init, sizeof init) && dcsctp_list_offset(&chunk) == at);
         break;
     case DCSCTP_CHUNK_SHUTDOWN:
         REQUIRE(dcsctp_shutdown(packet, size, &chunk, &tsn) && tsn == added->tsn);
@@ -1194,7 +1195,7 @@ static void call_responder(void)
     REQUIRE(!dcsctp_begin(packet, 200, &size, 1, 2, 0) && !dcsctp_add_init(packet, 200, &size, &peer) && !dcsctp_seal(packet, size));
     answered = ask(packet, size, answer, 200);
     REQUIRE(u32(answer + 4) == peer.initiate_tag && dcsctp_chunk_at(answer, answered, 12, &chunk) && chunk.type == DCSCTP_CHUNK_INIT_ACK);
-    REQUIRE(dcsctp_parameter_at(answer, answered, &chunk, chunk.list_offset, &cookie) && cookie.type == DCSCTP_PARAMETER_STATE_COOKIE);
+    REQUIRE(dcsctp_parameter_at(answer, answered, &chunk, dcsctp_list_offset(&chunk), &cookie) && cookie.type == DCSCTP_PARAMETER_STATE_COOKIE);
     for (int wrong = 2; wrong >= 0; wrong--) {
         const size_t at = cookie.value_offset + below(cookie.value_size), bit = below(8);
         answer[at] ^= (uint8_t)((wrong == 1) << bit);

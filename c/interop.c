@@ -217,7 +217,7 @@ static void compare_list(const uint8_t *bytes, size_t length, const struct dcsct
     struct dcsctp_parameter it;
     uint32_t number;
     uint16_t type;
-    REQUIRE(chunk->list_offset == at);
+    REQUIRE(dcsctp_list_offset(chunk) == at);
     for (; plain_item_at(bytes, at, end, &item); at = item.next) {
         uint32_t missing = 0, missing_wanted = item.type == 2 ? plain_u32(bytes + item.value) : 0;
         REQUIRE(dcsctp_parameter_at(bytes, length, chunk, at, &it) && it.type == item.type && it.next == item.next);
@@ -276,7 +276,7 @@ static size_t add_list(const uint8_t *bytes, size_t length, const struct dcsctp_
     struct dcsctp_parameter it;
     struct dcsctp_re_config re_config;
     uint32_t number, code;
-    for (size_t at = chunk->list_offset; dcsctp_parameter_at(bytes, length, chunk, at, &it); at = it.next) {
+    for (size_t at = dcsctp_list_offset(chunk); dcsctp_parameter_at(bytes, length, chunk, at, &it); at = it.next) {
         size_t count = 0;
         if (!has_causes && dcsctp_re_config(bytes, length, &it, &re_config)) {
             while (dcsctp_reset_stream(bytes, length, &it, count, &list[count]))
@@ -334,7 +334,7 @@ static size_t add_read(const uint8_t *bytes, size_t length, const struct dcsctp_
     } else if (dcsctp_shutdown(bytes, length, chunk, &tsn)) {
         code = dcsctp_add_shutdown(TO_COPY, tsn);
     } else if ((type == DCSCTP_CHUNK_HEARTBEAT || type == DCSCTP_CHUNK_HEARTBEAT_ACK)
-               && dcsctp_parameter_at(bytes, length, chunk, chunk->list_offset, &info)
+               && dcsctp_parameter_at(bytes, length, chunk, dcsctp_list_offset(chunk), &info)
                && info.type == DCSCTP_PARAMETER_HEARTBEAT_INFO) {
         code = dcsctp_add_heartbeat(TO_COPY, type == DCSCTP_CHUNK_HEARTBEAT_ACK, bytes + info.value_offset, info.value_size);
     } else if (type == DCSCTP_CHUNK_COOKIE_ECHO) {

@@ -541,12 +541,12 @@ class chunk {
     /// The parameters; none of ABORT and ERROR, or where the type has none.
     range<detail::items_of<parameter>> parameters() const noexcept
     {
-        return {{bytes_, it_}, has_causes() ? it_.next : it_.list_offset};
+        return {{bytes_, it_}, has_causes() ? it_.next : ::dcsctp_list_offset(&it_)};
     }
     /// The error causes; none but of ABORT and ERROR.
     range<detail::items_of<cause>> causes() const noexcept
     {
-        return {{bytes_, it_}, has_causes() ? it_.list_offset : it_.next};
+        return {{bytes_, it_}, has_causes() ? ::dcsctp_list_offset(&it_) : it_.next};
     }
 
     /// Reads DATA or I-DATA.

@@ -93,6 +93,11 @@ static inline bool go_validate_sack(const uint8_t *bytes, size_t length, struct 
     return dcsctp_validate_sack(bytes, length, &chunk);
 }
 
+static inline size_t go_list_offset(struct dcsctp_chunk chunk)
+{
+    return dcsctp_list_offset(&chunk);
+}
+
 /* ---- writing: each takes the size of the packet, and returns the code and the size after it */
 
 #define TO uint8_t *packet, size_t room, size_t size

@@ -333,9 +333,9 @@ type item struct {
 
 // items goes over the parameters, or the error causes, if this is what the chunk has.
 func items[T any](chunk Chunk, areThere bool, value func(item, int) T) *Iterator[T] {
-	next := chunk.c.list_offset
-	if !areThere {
-		next = chunk.c.next
+	next := chunk.c.next
+	if areThere {
+		next = C.go_list_offset(chunk.c)
 	}
 	bytes, length := chunk.bytes()
 	return &Iterator[T]{read: func() (T, bool) {

@@ -218,10 +218,9 @@ export interface Chunk {
   /** As `chunkName` has it. */
   name: string;
   flags: number;
-  /** Where it begins in the bytes, where its value and its list do, and where the next chunk begins. */
+  /** Where it begins in the bytes, where its value does, and where the next chunk begins. */
   offset: number;
   valueOffset: number;
-  listOffset: number;
   next: number;
   /** What follows its header of four bytes, without padding: a view of the bytes. */
   value: Uint8Array;

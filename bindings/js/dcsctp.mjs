@@ -333,8 +333,8 @@ export function chunks(bytes) {
   for (let offset = FIRST_CHUNK; ;) {
     if (!call('dcsctp_chunk_at', ...words, BigInt(offset), head))
       return list.values();
-    const { type, flags, valueOffset, valueSize, listOffset, next } = structs.chunk.read(head);
-    const chunk = { type, name: chunkName(type), flags, offset, valueOffset, listOffset, next };
+    const { type, flags, valueOffset, valueSize, next } = structs.chunk.read(head);
+    const chunk = { type, name: chunkName(type), flags, offset, valueOffset, next };
     chunk.value = part(bytes, valueOffset, valueSize);
     const [name, read] = CONTENTS[type] ?? [];
     const content = read && read([...words, head], bytes);
@@ -347,19 +347,12 @@ export function chunks(bytes) {
 
 /** The parameters or error causes of a chunk, read from its value alone. */
 function items(chunk, complete) {
-  const { type, flags, value, valueOffset, listOffset } = chunk;
-  const at = structs.chunk.values({
-    type,
-    flags,
-    valueOffset: 0,
-    valueSize: isBytes(value).length,
-    listOffset: listOffset - valueOffset,
-    next: value.length,
-  });
+  const { type, flags, value, valueOffset } = chunk, size = isBytes(value).length;
+  const at = structs.chunk.values({ type, flags, valueOffset: 0, valueSize: size, next: size });
   const base = number(valueOffset, 'size', 'valueOffset'), list = [];
   const words = put(input, value), head = place(HEAD), item = place(ITEM);
   structs.chunk.write(head, at);
-  for (let offset = listOffset - valueOffset; ;) {
+  for (let offset = Number(call('dcsctp_list_offset', head)); ;) {
     if (!call('dcsctp_parameter_at', ...words, head, BigInt(offset), item))
       return list.values();
     const it = structs.parameter.read(item);

@@ -166,9 +166,7 @@ export class Struct {
 export const structs = {
   policy: new Struct({ anyChecksum: 'bool', zeroChecksum: 'bool', strictPadding: 'bool' }),
   header: new Struct({ sourcePort: 'u16', destinationPort: 'u16', verificationTag: 'u32', checksum: 'u32' }),
-  chunk: new Struct({
-    type: 'u8', flags: 'u8', valueOffset: 'size', valueSize: 'size', listOffset: 'size', next: 'size',
-  }),
+  chunk: new Struct({ type: 'u8', flags: 'u8', valueOffset: 'size', valueSize: 'size', next: 'size' }),
   parameter: new Struct({ type: 'u16', valueOffset: 'size', valueSize: 'size', next: 'size' }),
   data: new Struct({
     tsn: 'u32', mid: 'u32', fsn: 'u32', ppid: 'u32', stream: 'u16', ssn: 'u16', isUnordered: 'bool', isBeginning: 'bool',

@@ -78,7 +78,7 @@ static bool answer_init(const struct responder *r, uint64_t now, struct exchange
         || dcsctp_add_parameter(TO(x), DCSCTP_FIRST_CHUNK, DCSCTP_PARAMETER_FORWARD_TSN_SUPPORTED, NULL, 0))
         return false;
     /* unknown parameters with the two high bits are reported, in one of type 8 (section 3.2.1) */
-    for (size_t at = x->chunk.list_offset; dcsctp_parameter_at(CHUNK(x), at, &it); at = it.next)
+    for (size_t at = dcsctp_list_offset(&x->chunk); dcsctp_parameter_at(CHUNK(x), at, &it); at = it.next)
         if (it.type > DCSCTP_PARAMETER_FORWARD_TSN_SUPPORTED)
             dcsctp_add_parameter(TO(x), DCSCTP_FIRST_CHUNK, 8, x->bytes + at, 4 + it.value_size);
     return true;
@@ -172,7 +172,7 @@ static bool answer_requests(struct responder *r, struct exchange *x)
     const size_t start = x->size;
     struct dcsctp_parameter it;
     struct dcsctp_re_config request, response = {.type = DCSCTP_PARAMETER_RECONFIGURATION_RESPONSE};
-    for (size_t at = x->chunk.list_offset; dcsctp_parameter_at(CHUNK(x), at, &it); at = it.next) {
+    for (size_t at = dcsctp_list_offset(&x->chunk); dcsctp_parameter_at(CHUNK(x), at, &it); at = it.next) {
         if (!dcsctp_re_config(x->bytes, x->length, &it, &request) || request.type == response.type)
             continue;
         const bool is_next = request.request_number == r->next_request;
@@ -200,7 +200,7 @@ static bool answer_chunk(struct responder *r, struct exchange *x, size_t at)
     case DCSCTP_CHUNK_FORWARD_TSN: case DCSCTP_CHUNK_I_FORWARD_TSN: return skip(r, x);
     case DCSCTP_CHUNK_RE_CONFIG: return answer_requests(r, x);
     case DCSCTP_CHUNK_HEARTBEAT:
-        if (dcsctp_parameter_at(CHUNK(x), x->chunk.list_offset, &info) && info.type == DCSCTP_PARAMETER_HEARTBEAT_INFO)
+        if (dcsctp_parameter_at(CHUNK(x), dcsctp_list_offset(&x->chunk), &info) && info.type == DCSCTP_PARAMETER_HEARTBEAT_INFO)
             dcsctp_add_heartbeat(TO(x), true, x->bytes + info.value_offset, info.value_size);
         return true;
     case DCSCTP_CHUNK_SHUTDOWN: r->state = SHUTDOWN_ACK_SENT; return !dcsctp_add_shutdown_ack(TO(x));

@@ -40,7 +40,7 @@ static void print_chunk(const uint8_t *bytes, size_t length, const struct dcsctp
             printf(" %u", tsn);
         putchar('\n');
     }
-    for (size_t at = chunk->list_offset; dcsctp_parameter_at(bytes, length, chunk, at, &item); at = item.next)
+    for (size_t at = dcsctp_list_offset(chunk); dcsctp_parameter_at(bytes, length, chunk, at, &item); at = item.next)
         printf("    item %u, %zu bytes\n", item.type, item.value_size);
 }
 

@@ -44,7 +44,7 @@ static void print_chunk(const uint8_t *bytes, size_t length, const struct dcsctp
     struct dcsctp_skipped_stream stream;
     struct dcsctp_parameter item;
     uint32_t tsn;
-    printf("chunk %u %u %zu %zu %zu %zu\n", chunk->type, chunk->flags, chunk->value_offset, chunk->value_size, chunk->list_offset, chunk->next);
+    printf("chunk %u %u %zu %zu %zu\n", chunk->type, chunk->flags, chunk->value_offset, chunk->value_size, chunk->next);
     if (dcsctp_data(bytes, length, chunk, &data)) {
         printf(" data %u %u %u %u %u %u", data.tsn, data.mid, data.fsn, data.ppid, data.stream, data.ssn);
         printf(" %d %d %d %d", data.is_unordered, data.is_beginning, data.is_end, data.immediate_ack);
@@ -69,7 +69,7 @@ static void print_chunk(const uint8_t *bytes, size_t length, const struct dcsctp
             printf(" %u:%u:%u:%d", stream.stream, stream.ssn, stream.mid, stream.is_unordered);
         putchar('\n');
     }
-    for (size_t at = chunk->list_offset; dcsctp_parameter_at(bytes, length, chunk, at, &item); at = item.next)
+    for (size_t at = dcsctp_list_offset(chunk); dcsctp_parameter_at(bytes, length, chunk, at, &item); at = item.next)
         print_item(bytes, length, chunk, &item);
 }
 

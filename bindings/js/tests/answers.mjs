@@ -22,7 +22,7 @@ function* itemLines(bytes, item) {
 }
 
 function* chunkLines(bytes, chunk) {
-  yield ['chunk', chunk.type, chunk.flags, chunk.valueOffset, chunk.value.length, chunk.listOffset, chunk.next].join(' ');
+  yield ['chunk', chunk.type, chunk.flags, chunk.valueOffset, chunk.value.length, chunk.next].join(' ');
   const { data, sack, init, shutdown, forwardTsn } = chunk;
   if (data) {
     yield [' data', data.tsn, data.mid, data.fsn, data.ppid, data.stream, data.ssn, bit(data.isUnordered), bit(data.isBeginning),

@@ -15,7 +15,7 @@ const RE_CONFIG = {
 };
 
 /** Every field but where it lies, and `name`. */
-function content({ name, offset, valueOffset, listOffset, next, value, ...rest }) {
+function content({ name, offset, valueOffset, next, value, ...rest }) {
   return rest;
 }
 

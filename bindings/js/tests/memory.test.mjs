@@ -88,7 +88,7 @@ test('what lies beside the bytes in the memory stays', () => {
     }
     for (const chunk of dcsctp.chunks(packet)) {
       // A chunk that was changed is read as what it says.
-      const other = { ...chunk, type: types[random(types.length)], listOffset: chunk.valueOffset + random(1 << 30) };
+      const other = { ...chunk, type: types[random(types.length)], valueOffset: random(1 << 30) };
       for (const it of [...dcsctp.parameters(chunk), ...dcsctp.causes(chunk), ...dcsctp.parameters(other), ...dcsctp.causes(other)])
         assert.ok(it.value.byteOffset >= 0 && it.value.byteOffset + it.value.length <= packet.length);
     }

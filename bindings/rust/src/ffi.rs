@@ -10,7 +10,6 @@ pub struct Chunk {
     pub flags: u8,
     pub value_offset: usize,
     pub value_size: usize,
-    pub list_offset: usize,
     pub next: usize,
 }
 
@@ -188,6 +187,7 @@ unsafe extern "C" {
         index: usize,
         skipped_stream: *mut SkippedStream,
     ) -> bool;
+    pub fn dcsctp_list_offset(chunk: *const Chunk) -> usize;
     pub fn dcsctp_parameter_at(
         bytes: *const u8,
         length: usize,

@@ -42,8 +42,13 @@ struct Items<'a> {
 impl<'a> Items<'a> {
     /// Those of a chunk whose list has the items that are asked for; of another none.
     fn of(chunk: Chunk<'a>, has_them: bool) -> Self {
-        let end = chunk.bytes().len();
-        Self { chunk, next: if has_them { chunk.raw().list_offset } else { end } }
+        let next = if has_them {
+            // SAFETY: the chunk is a reference.
+            unsafe { ffi::dcsctp_list_offset(chunk.raw()) }
+        } else {
+            chunk.bytes().len()
+        };
+        Self { chunk, next }
     }
 
     fn next(&mut self) -> Option<Item<'a>> {

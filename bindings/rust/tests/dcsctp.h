@@ -133,8 +133,7 @@ struct dcsctp_chunk {
     uint8_t flags;
     size_t value_offset;
     size_t value_size;
-    size_t list_offset; /* of the first parameter or error cause; the end of the value, if the type has none */
-    size_t next;        /* the offset of the next chunk */
+    size_t next; /* the offset of the next chunk */
 };
 
 /* A parameter (section 3.2.1), or an error cause (section 3.3.10) with its code as the type; as offsets into the packet's
@@ -305,8 +304,11 @@ bool dcsctp_forward_tsn(const uint8_t *bytes, size_t length, const struct dcsctp
 bool dcsctp_skipped_stream(const uint8_t *bytes, size_t length, const struct dcsctp_chunk *chunk, size_t index,
                            struct dcsctp_skipped_stream *skipped_stream);
 
+/* Returns the offset of the chunk's first parameter or error cause; that of the end of its value, if the type has none. */
+size_t dcsctp_list_offset(const struct dcsctp_chunk *chunk);
+
 /* Reads the parameter or the error cause of the chunk at an offset; false where no whole one is. Those of a chunk:
-     for (size_t at = chunk.list_offset; dcsctp_parameter_at(bytes, length, &chunk, at, &item); at = item.next) */
+     for (size_t at = dcsctp_list_offset(&chunk); dcsctp_parameter_at(bytes, length, &chunk, at, &item); at = item.next) */
 bool dcsctp_parameter_at(const uint8_t *bytes, size_t length, const struct dcsctp_chunk *chunk, size_t offset,
                          struct dcsctp_parameter *parameter);
 

@@ -1,12 +1,12 @@
 -- Where a chunk, a parameter or a cause lies in the bytes, and what a chunk holds.
-use Rattle.std.{proofs.Common.{Ok, Err, ◌≡◌, ◌≢◌, ◌+◌, ◌-◌, ◌≤◌, ℕ, Bool, true, false, List, [], ◌∷◌, Option, Some, None, length, take, drop, get_or, slice_index, ◌∙◌, refl, sym, ap, subst, inl, inr, arith, length-drop, length-take, ◌==◌, nat_le, nat_lt, if◌then◌else◌, le-leb, leb-true, ltb-false, drop-drop, get_or-drop}, specs.Int.{w16, from_be_bytes}, specs.Option.{option_and_then, unwrap_or}, specs.Result.{result_ok}, proofs.lemmas.Bool.{cases_lt}, proofs.lemmas.List.{drop_all, drop-take, take-take, get_or-take, get_or_past}}
-use Rattle.dcsctp_tlv.{specs.Number.{AreBytes, number16}, specs.Frame.{lenient, round_up_to_4, BeginsWithFrame, frame_length, frame_value, frame_rest}, specs.Level.{Row, Level, MeansTrees, front_row}, specs.Parameter.{ParameterTree, parameters, row as parameter_row}, specs.Typed.{typed_level}, proofs.Items.{front_length}, proofs.Checks.{frame_shrinks}}
+use Rattle.std.{proofs.Common.{Ok, Err, ◌≡◌, ◌≢◌, ◌+◌, ◌^◌, ◌-◌, ◌<◌, ◌≤◌, ℕ, Bool, true, false, List, [], ◌∷◌, Option, Some, None, length, take, drop, get_or, ◌∙◌, refl, sym, ap, subst, inl, inr, arith, length-drop, length-take, ◌==◌, nat_le, nat_lt, if◌then◌else◌, le-leb, leb-true, ltb-false, drop-drop, get_or-drop}, specs.Option.{option_and_then, unwrap_or}, specs.Result.{result_ok}, proofs.lemmas.Bool.{cases_lt}, proofs.lemmas.List.{drop_all, drop-take, take-take, get_or-take, get_or_past}}
+use Rattle.dcsctp_tlv.{specs.Number.{AreBytes, number16}, specs.Frame.{lenient, round_up_to_4, BeginsWithFrame, frame_length, frame_value, frame_rest}, specs.Level.{Row, Level, MeansTrees, MeansSome, front_row}, specs.Parameter.{ParameterTree, parameters, row as parameter_row}, specs.Typed.{typed_level}, proofs.Items.{front_length}, proofs.Checks.{frame_shrinks}}
 use Rattle.dcsctp_cause.specs.Cause.{CauseTree, causes, row as cause_row}
 use Rattle.dcsctp_chunk.specs.Data as data_kind
 use Rattle.dcsctp_chunk.specs.DataChunk as data_chunk
 use Rattle.dcsctp_chunk.specs.IDataChunk as idata_chunk
 use Rattle.dcsctp_wire.specs.Chunk.{ChunkTree, Abort, Error, chunks, chunk_row}
-use Rattle.dcsctp_borrowed.{specs.Front.{MeansList}, specs.RawCauses.{cause_bytes, causes_of}, specs.RawParameters.{parameter_bytes, parameters_of}, specs.UserData.{read_user_data}, proofs.Fronts.{front_means, means_none}, proofs.ListPlaces.{parameters_there, causes_there}}
+use Rattle.dcsctp_borrowed.{specs.Front.{MeansList, IsFront}, specs.RawCauses.{cause_bytes, causes_of}, specs.RawParameters.{parameter_bytes, parameters_of}, specs.UserData.{read_user_data}, proofs.Fronts.{is_front, typed_front}, proofs.ListPlaces.{parameters_there, causes_there}}
 use Rattle.dcsctp_c.specs.{Part.{part, part_at, Reads, value_at, value_from, list_bytes, IsItemAt, MeansFirst, IsListOf, ChunkMeans, IsChunkAt, data_at, data_view, HoldsData}, Parameter.{IsParameterAt}, declared.structs.DcsctpChunk.{DcsctpChunk}, declared.structs.DcsctpData.{DcsctpData}, declared.structs.DcsctpParameter.{DcsctpParameter}}
 
 -- ---- an item
@@ -93,14 +93,19 @@ module _ (bytes : List ℕ) (offset : ℕ) (value rest : List ℕ) (fits : AreBy
   fits_from : AreBytes (drop offset bytes)
   fits_from i = rw get_or-drop (fits (offset + i))
 
-  pub first_there : {T : Type 0} (level : Level T) → MeansFirst level
-      (front_row level (drop offset bytes)) (drop offset bytes)
-      (part_at bytes (offset + 4) (length value)) (drop (length bytes - length rest) bytes)
-  first_there level [] m = absurd (means_none level (drop offset bytes) fits_from some m)
-  first_there level (t ∷ ts) m =
-      let here = front_means level (drop offset bytes) t ts fits_from some m in
-      let left = subst (λ (l : List ℕ). MeansTrees level l ts) (sym at_next) here.1 in
-      (t, ts, refl, (frame_value (drop offset bytes), at_value, here.0), left)
+  -- of a row that means what the front's does
+  pub first_there : {T : Type 0} (level : Level T) (row : Row T)
+      → (MeansSome level (drop offset bytes) × AreBytes (drop offset bytes) → drop offset bytes ≢ []
+      → IsFront level (drop offset bytes) row value rest)
+      → MeansFirst level row (drop offset bytes) (part_at bytes (offset + 4) (length value))
+      (drop (length bytes - length rest) bytes)
+  first_there level row front all m =
+      let it = (front ((all, m), fits_from) some).means all m in
+      let here : part_at bytes (offset + 4) (length value) ≡ Some value =
+      at_value ∙ ap Some (sym is_value) in
+      let left = subst (λ (l : List ℕ). MeansTrees level l it.others) (is_rest ∙ sym at_next)
+      it.mean in
+      (it.first, it.others, it.split, (value, here, it.means), left)
 
 -- ---- a chunk's value
 
@@ -200,59 +205,53 @@ is_list t first second has_parameters has_causes = record {
   no_parameters None h = refl
   no_parameters (Some ps) h = absurd (h ps refl)
 
--- of a chunk whose list is where its type has one
-lists_there : (bytes : List ℕ) (c : DcsctpChunk) (value : List ℕ) → value_at bytes c ≡ Some value
-    → value_from bytes c c.list_offset ≡ list_bytes c.typ value → (t : ChunkTree)
-    → ChunkMeans bytes c t → IsListOf t (value_from bytes c c.list_offset)
-lists_there bytes c value there list t m =
-    let same : m.0 ≡ value = cc in
-    let means = subst (λ (v : List ℕ). (chunk_row lenient c.typ c.flags).means v t) same m.2 in
-    rw list (is_list t (parameter_bytes c.typ value) (cause_bytes c.typ value)
-    (parameters_there c.typ c.flags value t means) (causes_there c.typ c.flags value t means))
+-- at this offset, which is that place of a value that lies in bytes
+module _ (c : DcsctpChunk) (place start : ℕ) (within : place ≤ c.value_size)
+    (is : c.value_offset + place < 2 ^ 64 → start ≡ c.value_offset + place)
+    (is_place : (value : List ℕ) → length value ≡ c.value_size
+    → drop place value ≡ list_bytes c.typ value) where
+  pub list_there : (bytes value : List ℕ) → length bytes < 2 ^ 64 → value_at bytes c ≡ Some value
+      → value_from bytes c start ≡ list_bytes c.typ value
+  list_there bytes value fits there =
+      let here = value_there bytes c value there in
+      let same : start ≡ c.value_offset + place = is (omega (arith, here.0, fits, within)) in
+      let skip : start - c.value_offset ≡ place = omega (arith, same) in
+      from_there bytes c value start there (omega (arith, same))
+      ∙ ap (λ (n : ℕ). drop n value) skip
+      ∙ is_place value (value_length bytes c value there)
+
+  pub lists_there : (bytes : List ℕ) (t : ChunkTree) → length bytes < 2 ^ 64
+      → ChunkMeans bytes c t → IsListOf t (value_from bytes c start)
+  lists_there bytes t fits m =
+      rw (list_there bytes m.0 fits m.1)
+      (is_list t (parameter_bytes c.typ m.0) (cause_bytes c.typ m.0)
+      (parameters_there c.typ c.flags m.0 t m.2) (causes_there c.typ c.flags m.0 t m.2))
 
 -- ---- a chunk
 
--- what a call writes of a chunk with this value, this place of its list, and this rest after it
-abbrev pub chunk_of : (bytes : List ℕ) (offset : ℕ) (value : List ℕ) (place : ℕ) (rest : List ℕ)
-    → DcsctpChunk
-chunk_of bytes offset value place rest = record {
+-- what a call writes of a chunk with this value, and this rest after it
+abbrev pub chunk_of : (bytes : List ℕ) (offset : ℕ) (value rest : List ℕ) → DcsctpChunk
+chunk_of bytes offset value rest = record {
   typ = get_or (drop offset bytes) 0 0;
   flags = get_or (drop offset bytes) 1 0;
   value_offset = offset + 4;
   value_size = length value;
-  list_offset = offset + 4 + place;
   next = length bytes - length rest;
 }
 
-pub chunk_there : (bytes : List ℕ) (offset : ℕ) (value : List ℕ) (place : ℕ) (rest : List ℕ)
-    → AreBytes bytes → BeginsWithFrame (drop offset bytes) → value ≡ frame_value (drop offset bytes)
-    → rest ≡ frame_rest (drop offset bytes) → place ≤ length value
-    → drop place value ≡ list_bytes (get_or (drop offset bytes) 0 0) value
-    → IsChunkAt bytes offset (chunk_of bytes offset value place rest)
-chunk_there bytes offset value place rest fits frame is_value is_rest within is_place = record {
+pub chunk_there : (bytes : List ℕ) (offset : ℕ) (value rest : List ℕ) → AreBytes bytes
+    → BeginsWithFrame (drop offset bytes) → value ≡ frame_value (drop offset bytes)
+    → rest ≡ frame_rest (drop offset bytes)
+    → IsChunkAt bytes offset (chunk_of bytes offset value rest)
+chunk_there bytes offset value rest fits frame is_value is_rest = record {
   typ = refl;
   flags = refl;
-  item = item;
-  means = first_there bytes offset value rest fits frame is_value is_rest (chunks lenient);
-  list = list ∙ ap (list_bytes (get_or (drop offset bytes) 0 0)) is_value;
-  list_after = omega arith;
-  list_within = omega (arith, within);
-  lists = lists_there bytes (chunk_of bytes offset value place rest) value there list;
-} where
-  item : IsItemAt (λ n. drop n bytes) (length bytes) offset (offset + 4)
-      (part_at bytes (offset + 4) (length value)) (length bytes - length rest)
-  item = item_there bytes offset value rest fits frame is_value is_rest
-
-  there : value_at bytes (chunk_of bytes offset value place rest) ≡ Some value
-  there = item.value ∙ ap Some (sym is_value)
-
-  list : value_from bytes (chunk_of bytes offset value place rest) (offset + 4 + place)
-      ≡ list_bytes (get_or (drop offset bytes) 0 0) value
-  list =
-      let skip : offset + 4 + place - (offset + 4) ≡ place = omega arith in
-      from_there bytes (chunk_of bytes offset value place rest) value (offset + 4 + place) there
-      (omega arith)
-      ∙ ap (λ (n : ℕ). drop n value) skip ∙ is_place
+  item = item_there bytes offset value rest fits frame is_value is_rest;
+  means = first_there bytes offset value rest fits frame is_value is_rest (chunks lenient)
+      (front_row (chunks lenient) (drop offset bytes)) (is_front (chunks lenient)
+      (front_row (chunks lenient) (drop offset bytes)) (drop offset bytes) value rest
+      (λ tree means. means) is_value is_rest);
+}
 
 -- ---- a parameter or a cause
 
@@ -274,24 +273,6 @@ part_of_part bytes offset size k n within fits =
     ∙ ap (take n) (drop-drop k offset bytes) in
     rw (outer, inner) (ap Some (sym (ap (λ (m : ℕ). take n (drop k (take m (drop offset bytes))))
     (sym all) ∙ same)))
-
--- the type at the front is the number of the first two bytes
-typ_is : (bytes : List ℕ) → 4 ≤ length bytes
-    → number16 bytes ≡ from_be_bytes w16 (slice_index bytes 0 ∷ slice_index bytes 1 ∷ [])
-typ_is [] size = absurd (omega (arith, size))
-typ_is (a ∷ []) size = absurd (omega (arith, size))
-typ_is (a ∷ b ∷ more) size = refl
-
--- the same of equal types and equal bytes
-means_alike : {T : Type 0} (level : Level T) (row : ℕ → Row T) {m n : ℕ} → m ≡ n
-    → {bytes others : List ℕ} → bytes ≡ others → {found again : Option (List ℕ)} → found ≡ again
-    → {left rest : List ℕ} → left ≡ rest → MeansFirst level (row m) bytes found left
-    → MeansFirst level (row n) others again rest
-means_alike level row {m} {n} is {bytes} {others} from {found} {again} value {left} {rest} after h =
-    subst (λ (k : ℕ). MeansFirst level (row k) others again rest) is
-    (subst (λ (l : List ℕ). MeansFirst level (row m) l again rest) from
-    (subst (λ (o : Option (List ℕ)). MeansFirst level (row m) bytes o rest) value
-    (subst (λ (l : List ℕ). MeansFirst level (row m) bytes found l) after h)))
 
 -- what a call writes of one in a chunk's value
 abbrev pub parameter_of : (c : DcsctpChunk) (list : List ℕ) (offset typ : ℕ)
@@ -364,12 +345,11 @@ parameter_there bytes c list offset typ value rest fits is le frame kind is_valu
       (value_from bytes c offset) (part_at bytes (offset + 4) (length value))
       (value_from bytes c (c.value_offset + (length list - length rest)))
   first row =
-      let same : from_be_bytes w16 (slice_index (drop (offset - c.value_offset) list) 0
-      ∷ slice_index (drop (offset - c.value_offset) list) 1 ∷ []) ≡ typ =
-      sym (kind ∙ typ_is (drop (offset - c.value_offset) list) frame.header) in
-      means_alike (typed_level row lenient) row same (sym here) (sym at_value) (sym left)
+      rw (here, at_value, left)
       (first_there list (offset - c.value_offset) value rest list_fits frame is_value is_rest
-      (typed_level row lenient))
+      (typed_level row lenient) (row typ) (typed_front (typed_level row lenient) row
+      (λ first second value tree means. means) (drop (offset - c.value_offset) list) typ value rest
+      kind is_value is_rest))
 
 -- ---- user data
 

@@ -120,13 +120,6 @@ pub record IsChunkAt (bytes : List ℕ) (offset : ℕ) (c : DcsctpChunk) : Type 
       c.next
   pub means : MeansFirst (chunks lenient) (chunk_row lenient c.typ c.flags) (drop offset bytes)
       (value_at bytes c) (drop c.next bytes)
-  -- where its list is, from there to the end of the value
-  pub list : value_from bytes c c.list_offset
-      ≡ list_bytes c.typ (frame_value (drop offset bytes))
-  pub list_after : c.value_offset ≤ c.list_offset
-  pub list_within : c.list_offset ≤ c.value_offset + c.value_size
-  pub lists : (tree : ChunkTree) → ChunkMeans bytes c tree
-      → IsListOf tree (value_from bytes c c.list_offset)
 
 -- ---- DATA (RFC 9260 section 3.3.1) and I-DATA (RFC 8260 section 2.1)
 

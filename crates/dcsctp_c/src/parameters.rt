@@ -1,18 +1,42 @@
-//! The parameters and the error causes of a chunk, one after the other, and what they hold.
+//! The parameters and the error causes of a chunk: where they begin, one after the other, and what
+//! they hold.
 
-ghost use Rattle.std.specs.Prelude.{◌≡◌, ◌↔◌, ℕ, IsTrue, Some, false, option_map};
+ghost use Rattle.std.specs.Prelude.{◌≡◌, ◌↔◌, ◌+◌, ◌^◌, ◌<◌, ◌≤◌, ℕ, List, IsTrue, Some, false, length, drop, option_map};
 ghost use Rattle.dcsctp_tlv.specs.{Frame.{BeginsWithFrame}, Parameter.{ParameterTree}};
 ghost use Rattle.dcsctp_cause.specs.Cause.{CauseTree};
-ghost use Rattle.dcsctp_c.specs.{Part.{ReadsInto, Holds, value_from}, Parameter.{IsParameterAt, ParameterMeans, CauseMeans, parameter_value, number_at, number_of, cause_number_of}};
+ghost use Rattle.dcsctp_wire.specs.Chunk.{ChunkTree};
+ghost use Rattle.dcsctp_c.specs.{Part.{ReadsInto, Holds, value_at, value_from, ChunkMeans, list_bytes, IsListOf}, Parameter.{IsParameterAt, ParameterMeans, CauseMeans, parameter_value, number_at, number_of, cause_number_of}};
 
-use crate::parts::{part_at, read_number, value_of};
+use crate::parts::{INIT_SIZE, part_at, read_number, value_of};
 use crate::structs::{DcsctpChunk, DcsctpParameter};
 use dcsctp_tlv::frame::split_frame;
-use dcsctp_wire::packet::{TLV_HEADER_SIZE, read_u16_be};
+use dcsctp_wire::packet::{
+    TLV_HEADER_SIZE, abort_chunk, error_chunk, heartbeat_ack_chunk, heartbeat_request_chunk,
+    init_ack_chunk, init_chunk, re_config_chunk, read_u16_be,
+};
+
+/// Returns the offset of a chunk's first parameter (RFC 9260 section 3.2.1) or error cause (section
+/// 3.3.10); that of the end of its value, if the type has none.
+#[unsafe(no_mangle)]
+pub extern "C" fn dcsctp_list_offset(chunk: &DcsctpChunk) -> usize
+    ensures after { chunk.now.value_offset ≤ result }
+    ensures within { result ≤ chunk.now.value_offset + chunk.now.value_size }
+    ensures list { (bytes value : List ℕ) → length bytes < 2 ^ 64
+        → value_at bytes chunk.now ≡ Some value
+        → value_from bytes chunk.now result ≡ list_bytes chunk.now.typ value }
+    ensures lists { (bytes : List ℕ) (tree : ChunkTree) → length bytes < 2 ^ 64
+        → ChunkMeans bytes chunk.now tree
+        → IsListOf tree (value_from bytes chunk.now result) }
+{
+    // the sum could overflow where the value lies in no bytes
+    chunk
+        .value_offset
+        .saturating_add(list_place(chunk.typ, chunk.value_size))
+}
 
 /// Reads the parameter (RFC 9260 section 3.2.1) or the error cause (section 3.3.10) at an offset of
-/// a chunk's value, and writes where its value and the next one are. The first is at the chunk's
-/// `list_offset`.
+/// a chunk's value, and writes where its value and the next one are. The first is where
+/// `dcsctp_list_offset` says.
 ///
 /// Returns false, and `parameter` stays, exactly where no header with a whole value is there: at
 /// the end of the chunk's value and after it, before the value, and where that does not lie within
@@ -68,6 +92,27 @@ pub extern "C" fn dcsctp_number(bytes: &[u8], parameter: &DcsctpParameter, numbe
     };
     *number = found;
     true
+}
+
+// ---- helpers
+
+/// Returns where the parameters or the error causes begin in a value of this type and size: at its
+/// end where it has no place for them.
+#[inline(always)]
+fn list_place(typ: u8, size: usize) -> usize
+    ensures within { result ≤ size }
+    ensures bytes { (value : List ℕ) → length value ≡ size
+        → drop result value ≡ list_bytes typ value }
+{
+    match typ {
+        init_chunk::CHUNK_TYPE | init_ack_chunk::CHUNK_TYPE => INIT_SIZE.min(size),
+        heartbeat_request_chunk::CHUNK_TYPE
+        | heartbeat_ack_chunk::CHUNK_TYPE
+        | re_config_chunk::CHUNK_TYPE
+        | abort_chunk::CHUNK_TYPE
+        | error_chunk::CHUNK_TYPE => 0,
+        _ => size,
+    }
 }
 
 /// Returns the value, if all of it lies within the bytes.

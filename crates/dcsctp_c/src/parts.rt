@@ -6,7 +6,7 @@ ghost use Rattle.dcsctp_tlv.specs.Frame.{BeginsWithFrame};
 ghost use Rattle.dcsctp_chunk.specs.{Cover.{IsCleaned, CleanedLaws, AreValid}, SkippedStreams.{skipped_stream_view}};
 ghost use Rattle.dcsctp_wire.specs.{Chunk.{ChunkTree}, Packet.{PacketTree, Answer}, declared.packet.sctp_packet.ChecksumPolicy.{ChecksumPolicy}};
 ghost use Rattle.dcsctp_borrowed.specs.{Sack.{sack_of}, SkippedStreams.{forward_of}, UserData.{data_of}};
-ghost use Rattle.dcsctp_c.specs.Part.{ReadsInto, Reads, header_at, HoldsHeader, IsHeaderOf, value_at, ChunkMeans, IsChunkAt, list_bytes, data_at, HoldsData, sack_at, HoldsSack, block_at, duplicate_at, Holds, IsValidSack, init_of, init_at, HoldsInit, part_at, read_number, shutdown_of, shutdown_at, forward_at, HoldsForward, skipped_at, HoldsSkipped};
+ghost use Rattle.dcsctp_c.specs.Part.{ReadsInto, Reads, header_at, HoldsHeader, IsHeaderOf, value_at, ChunkMeans, IsChunkAt, data_at, HoldsData, sack_at, HoldsSack, block_at, duplicate_at, Holds, IsValidSack, init_of, init_at, HoldsInit, part_at, read_number, shutdown_of, shutdown_at, forward_at, HoldsForward, skipped_at, HoldsSkipped};
 
 use crate::structs::{
     DcsctpChunk, DcsctpData, DcsctpForwardTsn, DcsctpHeader, DcsctpInit, DcsctpSack,
@@ -22,13 +22,11 @@ use dcsctp_tlv::skipped_stream::SkippedStream;
 use dcsctp_wire::packet::raw_chunk::RawChunk;
 use dcsctp_wire::packet::sctp_packet::CommonHeader;
 use dcsctp_wire::packet::{
-    TLV_HEADER_SIZE, abort_chunk, error_chunk, heartbeat_ack_chunk, heartbeat_request_chunk,
-    init_ack_chunk, init_chunk, re_config_chunk, read_u16_be, read_u32_be, sack_chunk,
-    shutdown_chunk,
+    TLV_HEADER_SIZE, init_ack_chunk, init_chunk, read_u16_be, read_u32_be, shutdown_chunk,
 };
 
 /// Bytes of the value of INIT and INIT ACK before the parameters.
-const INIT_SIZE: usize = 16;
+pub(crate) const INIT_SIZE: usize = 16;
 
 /// Bytes of a value that is one number.
 const NUMBER_SIZE: usize = 4;
@@ -53,8 +51,8 @@ pub extern "C" fn dcsctp_header(bytes: &[u8], header: &mut DcsctpHeader) -> bool
     true
 }
 
-/// Reads the chunk at an offset (RFC 9260 section 3.2), and writes where its value, the first of
-/// its parameters or error causes, and the next chunk are. The first chunk of a packet is at 12.
+/// Reads the chunk at an offset (RFC 9260 section 3.2), and writes where its value and the next
+/// chunk are. The first chunk of a packet is at 12.
 ///
 /// Returns false, and `chunk` stays, exactly where no header with a whole value is there: at the
 /// end of a packet, and after it.
@@ -76,7 +74,6 @@ pub extern "C" fn dcsctp_chunk_at(bytes: &[u8], offset: usize, chunk: &mut Dcsct
         flags: from[1],
         value_offset: offset + TLV_HEADER_SIZE,
         value_size: value.len(),
-        list_offset: offset + TLV_HEADER_SIZE + list_place(from[0], value),
         next: bytes.len() - rest.len(),
     };
     true
@@ -314,28 +311,6 @@ pub(crate) fn value_of<'a>(bytes: &'a [u8], chunk: &DcsctpChunk) -> Option<&'a [
     ensures { option_map (λ value. value.now) result ≡ value_at bytes.now chunk.now }
 {
     part_at(bytes, chunk.value_offset, chunk.value_size)
-}
-
-/// Returns where the parameters or the error causes begin in a value of this type: at its end where
-/// it has no place for them.
-#[inline(always)]
-fn list_place(typ: u8, value: &[u8]) -> usize
-    ensures within { result ≤ length value.now }
-    ensures bytes { drop result value.now ≡ list_bytes typ value.now }
-{
-    // the kinds that come most have no list: this finds them without a jump for each of the others
-    if typ % 64 == 0 || typ == sack_chunk::CHUNK_TYPE {
-        return value.len();
-    }
-    match typ {
-        init_chunk::CHUNK_TYPE | init_ack_chunk::CHUNK_TYPE => INIT_SIZE.min(value.len()),
-        heartbeat_request_chunk::CHUNK_TYPE
-        | heartbeat_ack_chunk::CHUNK_TYPE
-        | re_config_chunk::CHUNK_TYPE
-        | abort_chunk::CHUNK_TYPE
-        | error_chunk::CHUNK_TYPE => 0,
-        _ => value.len(),
-    }
 }
 
 /// Reads the user data, and where its payload is.

@@ -39,9 +39,6 @@ pub struct DcsctpChunk {
     pub value_offset: usize,
     /// The size of the value in bytes, without padding.
     pub value_size: usize,
-    /// The offset of the first parameter or error cause; the end of the value, if the type has
-    /// none.
-    pub list_offset: usize,
     /// The offset of the next chunk.
     pub next: usize,
 }

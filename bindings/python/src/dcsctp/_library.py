@@ -27,7 +27,6 @@ class Chunk(ctypes.Structure):
         ("flags", c_uint8),
         ("value_offset", c_size_t),
         ("value_size", c_size_t),
-        ("list_offset", c_size_t),
         ("next", c_size_t),
     ]
 
@@ -126,6 +125,7 @@ FUNCTIONS: dict[str, tuple[Any, ...]] = {
     "dcsctp_shutdown": (c_bool, *_CHUNK, POINTER(c_uint32)),
     "dcsctp_forward_tsn": (c_bool, *_CHUNK, POINTER(ForwardTsn)),
     "dcsctp_skipped_stream": (c_bool, *_CHUNK, c_size_t, POINTER(SkippedStream)),
+    "dcsctp_list_offset": (c_size_t, POINTER(Chunk)),
     "dcsctp_parameter_at": (c_bool, *_CHUNK, c_size_t, POINTER(Parameter)),
     "dcsctp_number": (c_bool, *_PARAMETER, POINTER(c_uint32)),
     "dcsctp_re_config": (c_bool, *_PARAMETER, POINTER(ReConfig)),

@@ -336,7 +336,7 @@ _CHUNKS: dict[int, Callable[[bytes, c.Chunk], v.Chunk | None]] = {
 
 
 def _items(data: bytes, chunk: c.Chunk) -> Iterator[c.Parameter]:
-    at = chunk.list_offset
+    at = functions.dcsctp_list_offset(byref(chunk))
     while True:
         item = c.Parameter()
         if not functions.dcsctp_parameter_at(data, len(data), byref(chunk), at, byref(item)):

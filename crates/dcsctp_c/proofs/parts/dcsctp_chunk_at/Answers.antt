@@ -6,8 +6,6 @@ returns-clause-read c found =
     let frame = rw c.split_at.ensures.back at c.in-Ok.ensures.frame.0 found in
     let value = rw c.split_at.ensures.back at c.in-Ok.ensures.value in
     let rest = rw c.split_at.ensures.back at c.in-Ok.ensures.rest in
-    let place = rw c.split_at.ensures.back at c.list_place.ensures.bytes in
     rw c.split_at.ensures.back
-    (chunk_there c.args.bytes.now c.args.offset c.in-Ok.value.now c.list_place.result
-    c.in-Ok.rest.now (λ i. (c.type_inv.bytes i).fits) frame value rest
-    c.list_place.ensures.within place)
+    (chunk_there c.args.bytes.now c.args.offset c.in-Ok.value.now c.in-Ok.rest.now
+    (λ i. (c.type_inv.bytes i).fits) frame value rest)
