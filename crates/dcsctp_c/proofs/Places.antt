@@ -1,11 +1,11 @@
 -- Where a chunk, a parameter or a cause lies in the bytes, and what a chunk holds.
-use Rattle.std.{proofs.Common.{Ok, Err, ◌≡◌, ◌≢◌, ◌+◌, ◌^◌, ◌-◌, ◌<◌, ◌≤◌, ℕ, Bool, true, false, List, [], ◌∷◌, Option, Some, None, length, take, drop, get_or, ◌∙◌, refl, sym, ap, subst, inl, inr, arith, length-drop, length-take, ◌==◌, nat_le, nat_lt, if◌then◌else◌, le-leb, leb-true, ltb-false, drop-drop, get_or-drop}, specs.Option.{option_and_then, unwrap_or}, specs.Result.{result_ok}, proofs.lemmas.Bool.{cases_lt}, proofs.lemmas.List.{drop_all, drop-take, take-take, get_or-take, get_or_past}}
+use Rattle.std.{proofs.Common.{Ok, Err, ◌≡◌, ◌≢◌, ◌+◌, ◌^◌, ◌-◌, ◌<◌, ◌≤◌, ℕ, Bool, true, false, List, [], Option, Some, None, length, take, drop, get_or, ◌∙◌, refl, sym, ap, subst, inl, inr, arith, length-drop, length-take, ◌==◌, nat_le, nat_lt, if◌then◌else◌, le-leb, leb-true, ltb-false, drop-drop, get_or-drop}, specs.Option.{option_and_then, unwrap_or}, specs.Result.{result_ok}, proofs.lemmas.Bool.{cases_lt}, proofs.lemmas.List.{drop_all, drop-take, take-take, get_or-take, get_or_past}}
 use Rattle.dcsctp_tlv.{specs.Number.{AreBytes, number16}, specs.Frame.{lenient, round_up_to_4, BeginsWithFrame, frame_length, frame_value, frame_rest}, specs.Level.{Row, Level, MeansTrees, MeansSome, front_row}, specs.Parameter.{ParameterTree, parameters, row as parameter_row}, specs.Typed.{typed_level}, proofs.Items.{front_length}, proofs.Checks.{frame_shrinks}}
 use Rattle.dcsctp_cause.specs.Cause.{CauseTree, causes, row as cause_row}
 use Rattle.dcsctp_chunk.specs.Data as data_kind
 use Rattle.dcsctp_chunk.specs.DataChunk as data_chunk
 use Rattle.dcsctp_chunk.specs.IDataChunk as idata_chunk
-use Rattle.dcsctp_wire.specs.Chunk.{ChunkTree, Abort, Error, chunks, chunk_row}
+use Rattle.dcsctp_wire.specs.Chunk.{ChunkTree, Abort, Error, chunks}
 use Rattle.dcsctp_borrowed.{specs.Front.{MeansList, IsFront}, specs.RawCauses.{cause_bytes, causes_of}, specs.RawParameters.{parameter_bytes, parameters_of}, specs.UserData.{read_user_data}, proofs.Fronts.{is_front, typed_front}, proofs.ListPlaces.{parameters_there, causes_there}}
 use Rattle.dcsctp_c.specs.{Part.{part, part_at, Reads, value_at, value_from, list_bytes, IsItemAt, MeansFirst, IsListOf, ChunkMeans, IsChunkAt, data_at, data_view, HoldsData}, Parameter.{IsParameterAt}, declared.structs.DcsctpChunk.{DcsctpChunk}, declared.structs.DcsctpData.{DcsctpData}, declared.structs.DcsctpParameter.{DcsctpParameter}}
 
