@@ -1,4 +1,4 @@
-pub mod Blocks
 pub mod Linear
 pub mod Pieces
 pub mod Rows
+pub mod Words

@@ -12,7 +12,7 @@ rows : ℕ → ℕ → List (List ℕ)
 rows n zero = []
 rows n (suc count) = row n 0 256 ∷ rows (n + 8) count
 
-tables_are : TABLES ≡ rows 8 8
+tables_are : TABLES ≡ rows 8 16
 unfolding rows row after_bits
 tables_are = refl
 
@@ -34,11 +34,11 @@ get_or-rows n (suc count) (suc k) none below =
     let e : n + 8 + 8 * k ≡ n + 8 * suc k = omega arith in
     get_or-rows (n + 8) count k none (omega arith) ∙ ap (λ m. row m 0 256) e
 
-pub table_entry : (k byte : ℕ) (none : List ℕ) → k < 8 → byte < 2 ^ 8
+pub table_entry : (k byte : ℕ) (none : List ℕ) → k < 16 → byte < 2 ^ 8
     → get_or (get_or TABLES k none) byte 0 ≡ after_bits (8 * (k + 1)) byte
 table_entry k byte none small fits =
     let n : 8 + 8 * k ≡ 8 * (k + 1) = omega arith in
     ap (λ t. get_or (get_or t k none) byte 0) tables_are
-    ∙ ap (λ r. get_or r byte 0) (get_or-rows 8 8 k none small)
+    ∙ ap (λ r. get_or r byte 0) (get_or-rows 8 16 k none small)
     ∙ get_or-row (8 + 8 * k) 0 256 byte fits
     ∙ (let b : 0 + byte ≡ byte = omega arith in λ i. after_bits (n i) (b i))
