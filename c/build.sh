@@ -7,6 +7,7 @@ usage='usage: c/build.sh PREFIX
 Proves and builds the C library, and puts it into the folder PREFIX:
 
   include/dcsctp.h
+  include/dcsctp_processor.h   the processor's CRC32c, an option that isn't proved
   lib/libdcsctp.a              for static linking; it needs libc and nothing else
   lib/libdcsctp.so             for dynamic linking; it needs libc and nothing else. A link to libdcsctp.so.MAJOR.MINOR,
                                since until 1.0.0 a minor version may change the interface
@@ -68,7 +69,7 @@ soname=libdcsctp.so.${version%.*}
     -Wl,--no-undefined
 
 mkdir -p "$prefix/include" "$prefix/lib/pkgconfig"
-install -m 644 include/dcsctp.h "$prefix/include/dcsctp.h"
+install -m 644 include/dcsctp.h include/dcsctp_processor.h "$prefix/include"
 install -m 644 "$work/libdcsctp.a" "$prefix/lib/libdcsctp.a"
 install -m 755 "$work/$soname" "$prefix/lib/$soname"
 ln -sf "$soname" "$prefix/lib/libdcsctp.so"

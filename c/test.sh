@@ -120,6 +120,21 @@ static_assert(sizeof(struct dcsctp_re_config) == 48, "its size");' >"$work/heade
         "$cxx" -std=c++11 -pedantic -Wall -Wextra -Werror -I"$prefix/include" -c -o "$work/header.o" "$work/header.cc"
 }
 
+# The processor's CRC32c against the library's; its header in the other languages; and what its macro changes.
+processor() {
+    compile -Werror -o "$work/processor" c/processor.c "$prefix/lib/libdcsctp.a" && "$work/processor" &&
+        echo '#include <dcsctp_processor.h>' |
+        "$cc" -std=c99 -pedantic -Wall -Wextra -Werror -I"$prefix/include" -fsyntax-only -x c - &&
+        printf '#define DCSCTP_PROCESSOR_CRC32C\n#include <dcsctp_processor.h>\nuint32_t (*word)(const uint8_t *, size_t) = dcsctp_word;\n' |
+        "$cc" -O2 -Wall -Wextra -Werror -I"$prefix/include" -c -o "$work/chosen.o" -x c - &&
+        nm "$work/chosen.o" | grep ' t dcsctp_processor_word$'
+}
+
+processor_is_cxx() {
+    echo '#include <dcsctp_processor.h>' |
+        "$cxx" -std=c++11 -pedantic -Wall -Wextra -Werror -I"$prefix/include" -fsyntax-only -x c++ -
+}
+
 expected() {
     "$@" examples/packets.txt >"$work/printed" && diff "$work/printed" examples/expected.txt
 }
@@ -219,10 +234,12 @@ fi
 try 'the example in C' show_in_c
 if has "$cxx"; then
     try 'the header is C++11' header_is_cxx
+    try "the header of the processor's CRC32c is C++11" processor_is_cxx
     try 'the example in C++' show_in_cxx
 else
     left_out "$cxx" 'the header and the example in C++'
 fi
+try "the processor's CRC32c, on 3,000 packets" processor
 try 'calls on captured packets and at the edges, and each allocation refused' edge
 if has_usrsctp; then
     try 'two sockets of usrsctp with the library between them, and one that calls the responder' interop

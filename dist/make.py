@@ -47,6 +47,7 @@ TEXTS = {
     "sctp_show-x86_64-elf.s": ("sctp_show", LINUX, LINUX),
 }
 COPIES = {"dcsctp.h": "include/dcsctp.h", "LICENSE": "LICENSE", "NOTICE": "NOTICE"}
+COPIES["dcsctp_processor.h"] = "include/dcsctp_processor.h"
 
 # What a package has to have in its own folder, since it is published alone, and whose it is. (rt ci takes no links.)
 PACKAGED = {f"bindings/{package}/{it}": it for package in ("go", "js", "rust") for it in ("LICENSE", "NOTICE")}

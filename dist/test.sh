@@ -253,6 +253,11 @@ edge() {
         -Wl,--wrap=malloc -Wl,--wrap=realloc -Wl,--wrap=free && "$work/edge"
 }
 
+# The processor's CRC32c against the library's.
+processor() {
+    cd "$root" && "$cc" "${sanitizers[@]}" -I "$dist" -o "$work/processor" c/processor.c "$elf" && "$work/processor"
+}
+
 fuzz() {
     cd "$root" && "$cc" "${sanitizers[@]}" -I "$dist" -o "$work/fuzz" c/fuzz.c "$elf" &&
         "$work/fuzz" 20000 1 examples/packets.txt
@@ -260,9 +265,9 @@ fuzz() {
 
 # ---- packages
 
-# With and without Vec and String.
+# With and without Vec, String and the processor's CRC32c.
 cargo_tests() {
-    cd "$bindings/rust" && export CARGO_TARGET_DIR=$work/target && cargo test --offline &&
+    cd "$bindings/rust" && export CARGO_TARGET_DIR=$work/target && cargo test --offline --all-features &&
         cargo test --offline --no-default-features
 }
 
@@ -354,6 +359,7 @@ with "$cc" 'sctp_dump' sctp_dump "$cc"
 with musl-gcc 'sctp_dump, static by musl-gcc' sctp_dump musl-gcc -static
 with 'musl-gcc qemu-x86_64' 'sctp_dump on an old processor' old_processor
 with "$cc" 'calls at the edges' edge
+with "$cc" "the processor's CRC32c" processor
 with "$cc" '20,000 packets against a second reader' fuzz
 with 'cargo rustc-1.85' 'cargo test' cargo_tests
 with 'cargo rustc-1.85' 'cargo run --example show' cargo_show

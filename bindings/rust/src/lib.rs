@@ -4,6 +4,8 @@
 
 #[cfg(feature = "alloc")]
 extern crate alloc;
+#[cfg(feature = "processor-crc32c")]
+extern crate std;
 
 mod builder;
 mod chunk;
@@ -11,6 +13,8 @@ mod error;
 mod ffi;
 mod list;
 mod packet;
+#[cfg(feature = "processor-crc32c")]
+pub mod processor;
 mod text;
 mod types;
 mod values;

@@ -1,0 +1,103 @@
+//! The word of a packet by the processor's own instruction for CRC32c, where it has one.
+//!
+//! **Not proved**: unlike the rest of this crate it is Rust that rustc makes, and nothing else calls
+//! it. `tests/processor.rs` compares it with [`crate::word`] and [`crate::seal`], which are proved,
+//! on random packets of every size. The processor is asked as the program runs (SSE4.2 on x86-64,
+//! CRC on arm64); where it has no such instruction, the proved functions answer.
+//!
+//! ```
+//! use dcsctp::{Packet, Policy, processor};
+//!
+//! let bytes = *b"\x13\x88\x13\x88\x4d\x2d\xf5\x2d\x67\xdb\x78\xb5\x0b\0\0\x04";
+//! let packet = Packet::parse_with(&bytes, processor::word(&bytes), Policy::default())?;
+//! # assert_eq!(packet.header().checksum, dcsctp::word(&bytes));
+//! # Ok::<(), dcsctp::Fault>(())
+//! ```
+//!
+//! It takes about a third of the time of [`crate::word`] for packets of 64 to 1,200 bytes;
+//! `cargo test --release --features processor-crc32c -- --ignored --nocapture` prints both.
+
+use crate::error::WriteError;
+
+#[cfg(target_arch = "x86_64")]
+mod instruction {
+    use core::arch::x86_64::{_mm_crc32_u8, _mm_crc32_u32, _mm_crc32_u64};
+
+    pub fn is_there() -> bool {
+        std::is_x86_feature_detected!("sse4.2")
+    }
+
+    /// Returns the register after eight bytes, four zeros and the rest.
+    ///
+    /// # Safety
+    /// The instruction [is there](is_there).
+    #[target_feature(enable = "sse4.2")]
+    #[allow(unused_unsafe)] // the calls are safe from Rust 1.86 on
+    #[allow(clippy::cast_possible_truncation)] // a register has 32 bits
+    pub unsafe fn after(first: u64, rest: &[u8]) -> u32 {
+        let (eights, ones) = rest.split_at(rest.len() & !7);
+        // SAFETY: the caller knows that the instruction is there.
+        unsafe {
+            let mut register = _mm_crc32_u64(u64::from(u32::MAX), first);
+            register = u64::from(_mm_crc32_u32(register as u32, 0));
+            for eight in eights.chunks_exact(8) {
+                let number = u64::from_le_bytes(eight.try_into().unwrap_or_default());
+                register = _mm_crc32_u64(register, number);
+            }
+            ones.iter().fold(register as u32, |register, one| _mm_crc32_u8(register, *one))
+        }
+    }
+}
+
+#[cfg(target_arch = "aarch64")]
+mod instruction {
+    use core::arch::aarch64::{__crc32cb, __crc32cd, __crc32cw};
+
+    pub fn is_there() -> bool {
+        std::arch::is_aarch64_feature_detected!("crc")
+    }
+
+    /// Returns the register after eight bytes, four zeros and the rest.
+    ///
+    /// # Safety
+    /// The instruction [is there](is_there).
+    #[target_feature(enable = "crc")]
+    #[allow(unused_unsafe)] // the calls are safe from Rust 1.86 on
+    pub unsafe fn after(first: u64, rest: &[u8]) -> u32 {
+        let (eights, ones) = rest.split_at(rest.len() & !7);
+        // SAFETY: the caller knows that the instruction is there.
+        unsafe {
+            let mut register = __crc32cw(__crc32cd(u32::MAX, first), 0);
+            for eight in eights.chunks_exact(8) {
+                let number = u64::from_le_bytes(eight.try_into().unwrap_or_default());
+                register = __crc32cd(register, number);
+            }
+            ones.iter().fold(register, |register, one| __crc32cb(register, *one))
+        }
+    }
+}
+
+/// Returns what [`crate::word`] does.
+#[must_use]
+pub fn word(bytes: &[u8]) -> u32 {
+    match (bytes.first_chunk(), bytes.get(12..)) {
+        (Some(first), Some(rest)) if instruction::is_there() => {
+            // SAFETY: it is there.
+            let register = unsafe { instruction::after(u64::from_le_bytes(*first), rest) };
+            (!register).swap_bytes()
+        }
+        _ => crate::word(bytes),
+    }
+}
+
+/// Does what [`crate::seal`] does. Of a [`PacketBuilder`](crate::PacketBuilder),
+/// [`unsealed`](crate::PacketBuilder::unsealed) returns the packet for it.
+///
+/// # Errors
+/// [`WriteError::BadPlace`], and nothing changes, for fewer than 12 bytes.
+pub fn seal(packet: &mut [u8]) -> Result<(), WriteError> {
+    let word = word(packet);
+    let field = packet.get_mut(8..12).ok_or(WriteError::BadPlace)?;
+    field.copy_from_slice(&word.to_be_bytes());
+    Ok(())
+}
