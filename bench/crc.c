@@ -45,7 +45,7 @@ static const struct {
 };
 enum { CALLS = sizeof calls / sizeof calls[0] };
 
-static const size_t lengths[] = {16, 100, 1200, 65535};
+static const size_t lengths[] = {16, 64, 100, 576, 1200, 65535};
 
 static unsigned char bytes[1 << 16];
 
