@@ -637,6 +637,26 @@ static struct block lines_of(struct block text, int count)
     return text;
 }
 
+/* Takes out of a report the lines of reasons: they have the packet's bytes, and a canonical packet has a sentence of the
+   library where these aren't UTF-8. */
+static struct block without_reasons(struct block lines)
+{
+    size_t kept = 0;
+    for (size_t at = 0; at < lines.size;) {
+        const uint8_t *line = lines.bytes + at, *end = memchr(line, '\n', lines.size - at);
+        REQUIRE(end);
+        size_t size = (size_t)(end + 1 - line);
+        bool is_reason = size > 14 && (!memcmp(line, "  cause 0x000c", 14) || !memcmp(line, "  cause 0x000d", 14));
+        if (!is_reason) {
+            memmove(lines.bytes + kept, line, size);
+            kept += size;
+        }
+        at += size;
+    }
+    lines.size = kept;
+    return lines;
+}
+
 /* The lines of the packet's text or report, if it is a packet, of which `count` stand before the chunks. The caller frees them. */
 static struct block chunk_lines(writer *write, const uint8_t *bytes, size_t length, int count, enum placing placing, uint32_t *code)
 {
@@ -647,6 +667,8 @@ static struct block chunk_lines(writer *write, const uint8_t *bytes, size_t leng
         REQUIRE((text.bytes[text.size - 1] == '\n') == is_report);
         lines = lines_of(text, count);
         lines = copy_of(&output_pages, lines.bytes, lines.size, ALLOCATED);
+        if (is_report)
+            lines = without_reasons(lines);
     }
     release(text);
     return lines;

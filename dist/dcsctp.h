@@ -8,8 +8,8 @@
      a pointer without a length leads to one item.
    - An output overlaps no input and no other output. `packet` of the writing functions is both, and is one buffer.
    - A bool is 0 or 1.
-   - dcsctp_canonical, dcsctp_print and dcsctp_report allocate with malloc, and free what they allocate; no other function
-     allocates. No function is called from a signal handler, or from the forked child of a process with threads.
+   - dcsctp_canonical and dcsctp_print allocate with malloc, and free what they allocate; no other function allocates.
+     No function is called from a signal handler, or from the forked child of a process with threads.
    No function keeps a pointer, and any number of threads may call at once. */
 #ifndef DCSCTP_H
 #define DCSCTP_H
@@ -133,8 +133,7 @@ struct dcsctp_chunk {
     uint8_t flags;
     size_t value_offset;
     size_t value_size;
-    size_t list_offset; /* of the first parameter or error cause; the end of the value, if the type has none */
-    size_t next;        /* the offset of the next chunk */
+    size_t next; /* the offset of the next chunk */
 };
 
 /* A parameter (section 3.2.1), or an error cause (section 3.3.10) with its code as the type; as offsets into the packet's
@@ -252,7 +251,8 @@ uint32_t dcsctp_print(const uint8_t *bytes, size_t length, uint32_t word, const 
                       uint8_t *output, size_t room, size_t *size);
 
 /* Writes all that the packet holds, in UTF-8, as sctp_dump prints it: each line ends in a line feed, and what is inside
-   of something is two blanks deeper. The codes and what they change are those of dcsctp_print. */
+   of something is two blanks deeper. The codes and what they change are those of dcsctp_print; DCSCTP_NO_MEMORY is never
+   returned. */
 uint32_t dcsctp_report(const uint8_t *bytes, size_t length, uint32_t word, const struct dcsctp_policy *policy,
                        uint8_t *output, size_t room, size_t *size);
 
@@ -305,8 +305,11 @@ bool dcsctp_forward_tsn(const uint8_t *bytes, size_t length, const struct dcsctp
 bool dcsctp_skipped_stream(const uint8_t *bytes, size_t length, const struct dcsctp_chunk *chunk, size_t index,
                            struct dcsctp_skipped_stream *skipped_stream);
 
+/* Returns the offset of the chunk's first parameter or error cause; that of the end of its value, if the type has none. */
+size_t dcsctp_list_offset(const struct dcsctp_chunk *chunk);
+
 /* Reads the parameter or the error cause of the chunk at an offset; false where no whole one is. Those of a chunk:
-     for (size_t at = chunk.list_offset; dcsctp_parameter_at(bytes, length, &chunk, at, &item); at = item.next) */
+     for (size_t at = dcsctp_list_offset(&chunk); dcsctp_parameter_at(bytes, length, &chunk, at, &item); at = item.next) */
 bool dcsctp_parameter_at(const uint8_t *bytes, size_t length, const struct dcsctp_chunk *chunk, size_t offset,
                          struct dcsctp_parameter *parameter);
 

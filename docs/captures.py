@@ -154,7 +154,7 @@ def in_table():
 def dumped():
     """What sctp_dump prints of each packet with a checksum field, by its golden run."""
     with open(os.path.join(GOLDEN, 'stdout'), encoding='utf-8') as file:
-        text = file.read().partition('file association.txt\n')[2]
+        text = file.read().partition('file association.txt\n\n')[2]
     return iter(text.partition('file ')[0].split('\n\n'))
 
 

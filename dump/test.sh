@@ -94,6 +94,7 @@ judge 'a full disk at the end of the run' $? 2
 judge 'a full disk, and no packets' $? 2
 long | timeout 60 "$program" - cooked.pcap >/dev/full 2>"$work/errors"
 judge 'a full disk in the first of two files' "${PIPESTATUS[1]}" 2
+: >"$work/wanted_errors"
 long | timeout 60 "$program" 2>"$work/errors" | head -n 1 >/dev/null
 judge 'a pipe that is closed after a line' "${PIPESTATUS[1]}" 2
 exec 3> >(true)

@@ -59,7 +59,7 @@ func (p Packet) Print(policy Policy) (string, error) {
 }
 
 // Report returns all that the packet holds, as `sctp_dump --payload` prints it: each line ends in a line feed, and what is
-// inside of something is two blanks deeper. The error is that of Check, or ErrNoMemory.
+// inside of something is two blanks deeper. The error is that of Check.
 func (p Packet) Report(policy Policy) (string, error) {
 	text, err := p.write(policy, func(word C.uint32_t, output []byte) C.struct_go_result {
 		return C.go_report(bytesOf(p), C.size_t(len(p)), word, policy.c(), bytesOf(output), C.size_t(len(output)))

@@ -240,7 +240,7 @@ impl<'a> Packet<'a> {
     /// deeper.
     ///
     /// # Errors
-    /// [`OutputError::NoRoom`] or [`OutputError::OutOfMemory`]; `output` stays as it is.
+    /// [`OutputError::NoRoom`]; `output` stays as it is.
     #[doc(alias = "dcsctp_report")]
     pub fn write_report<'b>(&self, output: &'b mut [u8]) -> Result<&'b str, OutputError> {
         let size = self.write(ffi::dcsctp_report, output)?;

@@ -8,8 +8,8 @@
      a pointer without a length leads to one item.
    - An output overlaps no input and no other output. `packet` of the writing functions is both, and is one buffer.
    - A bool is 0 or 1.
-   - dcsctp_canonical, dcsctp_print and dcsctp_report allocate with malloc, and free what they allocate; no other function
-     allocates. No function is called from a signal handler, or from the forked child of a process with threads.
+   - dcsctp_canonical and dcsctp_print allocate with malloc, and free what they allocate; no other function allocates.
+     No function is called from a signal handler, or from the forked child of a process with threads.
    No function keeps a pointer, and any number of threads may call at once. */
 #ifndef DCSCTP_H
 #define DCSCTP_H
@@ -251,7 +251,8 @@ uint32_t dcsctp_print(const uint8_t *bytes, size_t length, uint32_t word, const 
                       uint8_t *output, size_t room, size_t *size);
 
 /* Writes all that the packet holds, in UTF-8, as sctp_dump prints it: each line ends in a line feed, and what is inside
-   of something is two blanks deeper. The codes and what they change are those of dcsctp_print. */
+   of something is two blanks deeper. The codes and what they change are those of dcsctp_print; DCSCTP_NO_MEMORY is never
+   returned. */
 uint32_t dcsctp_report(const uint8_t *bytes, size_t length, uint32_t word, const struct dcsctp_policy *policy,
                        uint8_t *output, size_t room, size_t *size);
 

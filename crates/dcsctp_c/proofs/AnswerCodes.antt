@@ -91,6 +91,15 @@ module _ (bytes : List ℕ) (word : ℕ) (asked policy : ChecksumPolicy) (same :
       let p = memory lacks in
       packet p.0 (asked_for (Ok p.0) p.1) (no_memory (lack lacks) refl)
 
+  pub refused_check : (IsForm : PacketTree → List ℕ → Type 0) (error : PacketParseError)
+      (old : Output) (code : ℕ)
+      → Answers packet_checking (λ (n : ℕ). n)
+      (Counted (λ p. node_count p.meaning) (Answer bytes word asked)) (Err error)
+      → GivesFaults error code → WritesPacket IsForm bytes word policy old old code
+  refused_check IsForm error old code (inl f) of =
+      faulty f.0 (asked_for (Err f.0) f.2) (of f.0 f.1) refl
+  refused_check IsForm error old code (inr none) of = absurd none
+
   -- nor has what was refused
   pub refused_code : (error : PacketParseError) (code : ℕ)
       → Answers packet_reading packet_view (Answer bytes word asked) (Err error)

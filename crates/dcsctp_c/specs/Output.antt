@@ -1,8 +1,7 @@
 -- What a call does that writes a form of a packet (RFC 9260 section 3) over the front of an output,
 -- and the form's size beside it.
-use Rattle.std.specs.Prelude.{◌≡◌, ◌<◌, ◌-◌, ◌^◌, ℕ, List, ◌++◌, Ok, Err, length, drop}
+use Rattle.std.specs.Prelude.{◌≡◌, ◌<◌, ⊤, ℕ, List, ◌++◌, Ok, Err, length, drop}
 use Rattle.dcsctp_wire.specs.{Canonical.{canonical, Fits}, Packet.{PacketTree, PacketFault, Answer}, PacketText.{packet_text}, declared.packet.sctp_packet.ChecksumPolicy.{ChecksumPolicy}}
-use Rattle.sctp_report.specs.Packet.{packet_lines}
 use Rattle.dcsctp_c.specs.Code.{fault_code, no_memory_code, no_room_code, too_long_code}
 
 -- the canonical packet, of a packet that has one
@@ -13,9 +12,9 @@ IsCanonical p form = Fits p.meaning × (form ≡ canonical p.meaning)
 abbrev pub IsText : PacketTree → List ℕ → Type 0
 IsText p form = form ≡ packet_text p
 
--- all that it holds, as lines; no value is longer than what is shown of one
-abbrev pub IsReport : ℕ → PacketTree → List ℕ → Type 0
-IsReport word p form = form ≡ packet_lines word (2 ^ 64 - 1) p
+-- a text of which no clause says more
+abbrev pub IsAnyText : PacketTree → List ℕ → Type 0
+IsAnyText p form = ⊤
 
 -- an output, and the size that is written beside it
 pub record Output : Type 0 where

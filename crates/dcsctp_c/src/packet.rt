@@ -1,9 +1,9 @@
 //! Whole packets: checked, located, canonical, printed, reported.
 
-ghost use Rattle.std.specs.Prelude.{◌≡◌, ◌≢◌, ◌≤◌, ◌<◌, ◌∷◌, ◌↔◌, ℕ, List, Ok, Err, length, take, drop};
+ghost use Rattle.std.specs.Prelude.{◌≡◌, ◌≢◌, ◌≤◌, ◌<◌, ◌∷◌, ◌↔◌, ⊤, ℕ, List, Ok, Err, length, take, drop};
 ghost use Rattle.dcsctp_crc32c.specs.Checksum.{packet_word};
 ghost use Rattle.dcsctp_wire.specs.{Canonical.{canonical, Fits, IsCanonicalOf}, Packet.{PacketTree, PacketFault, Placed, Answer, IsPacket, packet_view}};
-ghost use Rattle.dcsctp_c.specs.{Code.{policy_of, no_memory_code, IsAnswerCode}, Output.{IsCanonical, IsText, IsReport, Writes, WritesPacket}};
+ghost use Rattle.dcsctp_c.specs.{Code.{policy_of, no_memory_code, IsAnswerCode}, Output.{IsCanonical, IsText, IsAnyText, Writes, WritesPacket}};
 
 use crate::codes::{NO_MEMORY, NO_ROOM, OK, TOO_LONG, code_of};
 use crate::structs::DcsctpPolicy;
@@ -13,6 +13,8 @@ use dcsctp_wire::laws::has_widths;
 use dcsctp_wire::packet::sctp_packet::{ChecksumPolicy, SctpPacket};
 use sctp_report::PacketReport;
 use std::alloc::Global;
+use std::fmt;
+use std::fmt::Write as _;
 
 /// Returns the library's policy.
 fn checksum_policy(policy: &DcsctpPolicy) -> ChecksumPolicy
@@ -154,42 +156,95 @@ fn print(alloc: Global, packet: &SctpPacket, output: &mut [u8], size: &mut usize
 
 /// Writes all that the packet holds to the front of `output`, in UTF-8, and its size in bytes to
 /// `size`: a line for each fact, each ended by a line feed, and each value whole. The checksum
-/// field is compared with `word`.
+/// field is compared with `word`. Does not allocate.
 ///
-/// Returns what `dcsctp_print` returns, and changes what that changes.
+/// Returns what `dcsctp_print` returns, but never `NO_MEMORY`, and changes what that changes. The
+/// size is counted before the output is looked at, so it is the same for each room.
 #[unsafe(no_mangle)]
 pub extern "C" fn dcsctp_report(
-    alloc: Global,
     bytes: &[u8],
     word: u32,
     policy: &DcsctpPolicy,
     output: &mut [u8],
     size: &mut usize,
 ) -> u32
-    ensures { WritesPacket (IsReport word) bytes.now word (policy_of policy.now)
+    ensures memory { result ≢ no_memory_code }
+    ensures writes { WritesPacket IsAnyText bytes.now word (policy_of policy.now)
         (record { bytes = output.old; size = size.old })
         (record { bytes = output.new; size = size.new }) result }
 {
-    match SctpPacket::from_bytes(alloc, bytes, word, &checksum_policy(policy)) {
-        Ok(packet) => report(alloc, &packet, word, output, size),
+    match SctpPacket::check(bytes, word, &checksum_policy(policy)) {
+        Ok(_) => write_report(
+            &PacketReport {
+                bytes,
+                length: bytes.len(),
+                word,
+                fault: None,
+                most: usize::MAX,
+            },
+            output,
+            size,
+        ),
         Err(error) => code_of(error),
     }
 }
 
-/// Writes all that the packet holds, where it has room.
-fn report(alloc: Global, packet: &SctpPacket, word: u32, output: &mut [u8], size: &mut usize) -> u32
-    ensures { Writes (IsReport word (packet_view packet.now))
+/// Writes a report, where it has room.
+fn write_report(report: &PacketReport, output: &mut [u8], size: &mut usize) -> u32
+    ensures memory { result ≢ no_memory_code }
+    ensures writes { Writes (λ _. ⊤)
         (record { bytes = output.old; size = size.old })
         (record { bytes = output.new; size = size.new }) result }
 {
-    let report = PacketReport {
-        packet,
-        word,
-        most: usize::MAX,
-    };
-    match format!(in alloc; "{report}") {
-        Ok(text) => write_text(text.as_bytes(), output, size),
-        Err(_) => NO_MEMORY,
+    let needed = text_size(report);
+    *size = needed;
+    if output.len() < needed {
+        return NO_ROOM;
+    }
+    let (front, _) = output.split_at_mut(needed);
+    fill(front, report);
+    OK
+}
+
+/// Returns the size of a report in bytes.
+fn text_size(report: &PacketReport) -> usize {
+    let mut size = TextSize(0);
+    let _ = write!(size, "{report}");
+    size.0
+}
+
+/// Writes a report over an output, from its first byte on; what has no room is left out.
+fn fill(output: &mut [u8], report: &PacketReport) {
+    let mut text = Text { output, at: 0 };
+    let _ = write!(text, "{report}");
+}
+
+/// Counts the bytes of a text.
+#[derive(Drop)]
+struct TextSize(usize);
+
+impl fmt::Write for TextSize {
+    fn write_str(&mut self, text: &str) -> fmt::Result {
+        self.0 = self.0.saturating_add(text.len());
+        Ok(())
+    }
+}
+
+/// Fills an output from a place on; what has no room is left out.
+#[derive(Drop)]
+struct Text<'a> {
+    output: &'a mut [u8],
+    at: usize,
+}
+
+impl fmt::Write for Text<'_> {
+    fn write_str(&mut self, text: &str) -> fmt::Result {
+        let at = self.at.min(self.output.len());
+        let rest = &mut self.output[at..];
+        let count = text.len().min(rest.len());
+        rest[..count].copy_from_slice(&text.as_bytes()[..count]);
+        self.at = at + count;
+        Ok(())
     }
 }
 

@@ -1,15 +1,4 @@
-pub mod Block
+pub mod Handed
 pub mod Counts
-pub mod Failed
-pub mod Faults
-pub mod LineSteps
-pub mod Lines
-pub mod Prints
-pub mod Records
-pub mod Runs
-pub mod Seen
-pub mod Skip
-pub mod Steps
-pub mod Summary
-pub mod Tally
+pub mod Inputs
 pub mod Totals

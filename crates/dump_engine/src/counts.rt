@@ -1,39 +1,66 @@
-//! How many packets there were.
+//! What is counted of the events of captures.
 
-ghost use Rattle.std.specs.Prelude.{◌≡◌, ◌++◌, None, Some, OnOk, MatchOption, string_bytes};
-ghost use Rattle.std.specs.Fmt.{WritesOnOk};
-ghost use Rattle.dcsctp_tlv.specs.Frame.{lenient};
-ghost use Rattle.dcsctp_tlv.specs.Table.{IsUnnamed};
-ghost use Rattle.dcsctp_wire.specs.Chunk.{table, view, views};
-ghost use Rattle.dump_engine.specs.Counts.{one_more};
-ghost use Rattle.dump_engine.specs.Tally.{Accepted, Refused, Skip, nothing, with_kind, counted};
-ghost use Rattle.dump_engine.specs.Totals.{packets, refused, skipped};
-ghost use Rattle.dump_engine.specs.Summary.{kind_name, chunks_line, kinds_lines, packets_text, faults_text, skipped_text, broken_text, counts_text};
+ghost use Rattle.std.specs.Prelude.{◌≡◌, ℕ, List, fold};
+ghost use Rattle.sctp_capture.specs.Found.{packet_of};
+ghost use Rattle.dcsctp_wire.specs.declared.packet.sctp_packet.ChecksumPolicy.{ChecksumPolicy};
+ghost use Rattle.dump_engine.specs.Counts.{nothing, one_more, with_kind, ChunkTypes, with_checksum, refused_by, no_packet, unread, packets, refused, skipped, is_unread, CountsPacket};
 
 use crate::arguments::Options;
-use crate::skipped::Skipped;
+use dcsctp_borrowed::packet_ref::SctpPacketRef;
+use dcsctp_borrowed::raw_chunks::RawChunks;
+use dcsctp_crc32c::packet_word;
 use dcsctp_wire::packet::ChunkParseError;
-use dcsctp_wire::packet::chunk::Chunk;
-use dcsctp_wire::packet::sctp_packet::PacketParseError;
-use std::alloc::AllocError;
-use std::fmt;
+use dcsctp_wire::packet::sctp_packet::{CommonHeader, PacketParseError};
+use sctp_capture::event::Skipped;
+use sctp_capture::frame::{FoundPacket, NoPacket};
 
-/// How many packets, chunks and other records there were, up to 2^64 - 1 each.
+/// How many packets, chunks, and records and lines without a packet there were, up to 2^64 - 1
+/// each.
 #[derive(Drop)]
 pub struct Counts {
-    accepted: u64,
-    size: u64,
-    length: u64,
-    padding: u64,
-    value: u64,
-    fragments: u64,
-    cut: u64,
-    malformed: u64,
-    long: u64,
-    unknown: u64,
-    others: u64,
-    // chunks of each type
-    kinds: [u64; 256],
+    /// Packets that were accepted.
+    pub accepted: u64,
+    /// Packets that were refused for their size,
+    pub size: u64,
+    /// for a length in them,
+    pub length: u64,
+    /// for padding,
+    pub padding: u64,
+    /// or for a value.
+    pub value: u64,
+    /// Packets of which the capture has the beginning alone.
+    pub partial: u64,
+    /// Packets whose checksum field is zero, where another is expected,
+    pub zero: u64,
+    /// and those whose field is wrong.
+    pub wrong: u64,
+    /// Frames that carry something else,
+    pub others: u64,
+    /// a fragment of an IP packet,
+    pub fragments: u64,
+    /// frames that were cut off before the packet, and what a file ends in,
+    pub cut: u64,
+    /// frames, records and blocks with a header that contradicts itself,
+    pub malformed: u64,
+    /// records and lines of more bytes than are kept,
+    pub long: u64,
+    /// lines of no form that is known,
+    pub unknown: u64,
+    /// frames of a link type that isn't read.
+    pub links: u64,
+    // the chunks of accepted packets, by their types
+    pub kinds: [u64; 256],
+}
+
+/// What was found of a packet.
+#[derive(Clone, Copy, PartialEq, Eq)]
+pub enum Verdict {
+    /// It was accepted.
+    Accepted,
+    /// It was refused.
+    Refused,
+    /// The capture has its beginning alone.
+    Partial,
 }
 
 impl Counts {
@@ -47,21 +74,27 @@ impl Counts {
             length: 0,
             padding: 0,
             value: 0,
+            partial: 0,
+            zero: 0,
+            wrong: 0,
+            others: 0,
             fragments: 0,
             cut: 0,
             malformed: 0,
             long: 0,
             unknown: 0,
-            others: 0,
+            links: 0,
             kinds: [0; 256],
         }
     }
 
     /// Returns the number of packets.
-    fn packets(&self) -> u64
+    pub fn packets(&self) -> u64
         ensures { result ≡ packets self.now }
     {
-        self.accepted.saturating_add(self.refused())
+        self.accepted
+            .saturating_add(self.refused())
+            .saturating_add(self.partial)
     }
 
     /// Returns the number of packets that were refused.
@@ -74,38 +107,80 @@ impl Counts {
             .saturating_add(self.value)
     }
 
-    /// Returns the number of records and lines that were skipped.
-    fn skipped(&self) -> u64
+    /// Returns the number of records, lines and frames without a packet.
+    pub fn skipped(&self) -> u64
         ensures { result ≡ skipped self.now }
     {
-        self.fragments
+        self.others
+            .saturating_add(self.fragments)
             .saturating_add(self.cut)
             .saturating_add(self.malformed)
             .saturating_add(self.long)
             .saturating_add(self.unknown)
-            .saturating_add(self.others)
+            .saturating_add(self.links)
     }
 
-    /// Counts a packet with these chunks.
-    pub fn count_accepted(&mut self, chunks: &[Chunk])
-        ensures { self.new ≡ counted self.old (Accepted (views chunks.now)) }
+    /// Returns whether there was something, and no packet in it.
+    pub fn is_unread(&self) -> bool
+        ensures { result ≡ is_unread self.now }
     {
-        increase(&mut self.accepted);
-        for chunk in chunks {
-            self.count_kind(chunk);
+        self.packets() == 0 && self.skipped() > 0
+    }
+
+    /// Counts a packet, and returns what was found of it, and its checksum word, which is 0 of one
+    /// that was cut off.
+    pub fn count_packet(&mut self, options: &Options, found: &FoundPacket<'_>) -> (Verdict, u32)
+        ensures { CountsPacket options.now self.old (packet_of found.now) self.new }
+    {
+        let bytes = found.packet;
+        if bytes.len() < found.length {
+            increase(&mut self.partial);
+            return (Verdict::Partial, 0);
+        }
+        let word = packet_word(bytes);
+        self.count_checksum(bytes, word);
+        match SctpPacketRef::from_bytes(bytes, word, &options.policy()) {
+            Ok(packet) => {
+                increase(&mut self.accepted);
+                self.count_chunks(packet.chunks);
+                (Verdict::Accepted, word)
+            }
+            Err(error) => {
+                self.count_refused(&error);
+                (Verdict::Refused, word)
+            }
         }
     }
 
-    /// Counts a chunk.
-    fn count_kind(&mut self, chunk: &Chunk)
-        ensures { self.new ≡ record self.old { kinds = with_kind self.old.kinds (view chunk.now) } }
+    /// Counts a checksum field that isn't the word.
+    fn count_checksum(&mut self, bytes: &[u8], word: u32)
+        ensures { self.new ≡ with_checksum self.old bytes.now word }
     {
-        increase(&mut self.kinds[usize::from(chunk.chunk_type())]);
+        if let Some(header) = CommonHeader::from_bytes(bytes) {
+            if header.checksum == word {
+                return;
+            }
+            if header.checksum == 0 {
+                increase(&mut self.zero);
+            } else {
+                increase(&mut self.wrong);
+            }
+        }
+    }
+
+    /// Counts chunks by their types.
+    fn count_chunks(&mut self, chunks: RawChunks<'_>)
+        ensures { (types : List ℕ) × ChunkTypes chunks.entry types
+            × (self.new ≡ record self.old { kinds = fold with_kind self.old.kinds types }) }
+    {
+        for chunk in chunks {
+            increase(&mut self.kinds[usize::from(chunk.typ)]);
+        }
     }
 
     /// Counts a packet that was refused.
-    pub fn count_refused(&mut self, error: &PacketParseError)
-        ensures { self.new ≡ counted self.old (Refused error.now) }
+    fn count_refused(&mut self, error: &PacketParseError)
+        ensures { self.new ≡ refused_by self.old error.now }
     {
         match error {
             PacketParseError::FailedParseChunk(ChunkParseError::InvalidPadding) => {
@@ -125,114 +200,30 @@ impl Counts {
         }
     }
 
-    /// Counts what was skipped.
-    pub fn count_skipped(&mut self, why: Skipped)
-        ensures { self.new ≡ counted self.old (Skip why) }
+    /// Counts a frame without a packet.
+    pub fn count_no_packet(&mut self, why: NoPacket)
+        ensures { self.new ≡ no_packet self.old why }
     {
         match why {
-            Skipped::Fragment => increase(&mut self.fragments),
-            Skipped::Cut | Skipped::EndsIn => increase(&mut self.cut),
-            Skipped::Malformed => increase(&mut self.malformed),
+            NoPacket::Other => increase(&mut self.others),
+            NoPacket::Fragment => increase(&mut self.fragments),
+            NoPacket::Cut => increase(&mut self.cut),
+            NoPacket::Malformed => increase(&mut self.malformed),
+            NoPacket::LinkType => increase(&mut self.links),
+        }
+    }
+
+    /// Counts a record or a line without a frame.
+    pub fn count_unread(&mut self, why: Skipped)
+        ensures { self.new ≡ unread self.old why }
+    {
+        match why {
+            Skipped::EndsIn => increase(&mut self.cut),
+            Skipped::Malformed | Skipped::NoInterface => increase(&mut self.malformed),
             Skipped::TooLong => increase(&mut self.long),
             Skipped::Unknown | Skipped::Apart => increase(&mut self.unknown),
-            Skipped::Other => increase(&mut self.others),
         }
     }
-
-    /// Adds a line for each kind of chunk that there was, and one for all of other types.
-    fn push_kinds(&self, text: &mut String) -> Result<(), AllocError>
-        ensures { OnOk result (string_bytes text.new
-            ≡ string_bytes text.old ++ kinds_lines self.now.kinds) }
-    {
-        let mut unknown: u64 = 0;
-        for (typ, count) in self.kinds.iter().enumerate() {
-            match kind_name(typ) {
-                Some(name) => push_kind(name, *count, text)?,
-                None => unknown = unknown.saturating_add(*count),
-            }
-        }
-        push_kind("unknown", unknown, text)
-    }
-}
-
-/// Adds a line for the kind, if there was a chunk of it.
-fn push_kind(name: &str, count: u64, text: &mut String) -> Result<(), AllocError>
-    ensures { OnOk result (string_bytes text.new
-        ≡ string_bytes text.old ++ chunks_line name.now count) }
-{
-    if count > 0 {
-        writeln!(text, "{name}: {count}")?;
-    }
-    Ok(())
-}
-
-/// Adds the last line, and before it a line for each kind of chunk where counts alone are printed.
-pub fn push_counts(options: &Options, counts: &Counts, text: &mut String) -> Result<(), AllocError>
-    ensures { OnOk result (string_bytes text.new
-        ≡ string_bytes text.old ++ counts_text options.now counts.now) }
-{
-    if options.summary {
-        counts.push_kinds(text)?;
-    }
-    writeln!(text, "{counts}")
-}
-
-impl fmt::Display for Counts {
-    ghost output = { λ c.
-        Some (packets_text c ++ faults_text c ++ skipped_text c ++ broken_text c) };
-
-    fn fmt<W: fmt::Write>(&self, f: &mut fmt::Formatter<W>) -> fmt::Result {
-        write_packets(self, f)?;
-        write_faults(self, f)?;
-        write_skipped(self, f)?;
-        write_broken(self, f)
-    }
-}
-
-/// Writes how many packets there were, and how many were accepted and refused.
-fn write_packets<W: fmt::Write>(counts: &Counts, f: &mut fmt::Formatter<W>) -> fmt::Result
-    ensures { WritesOnOk W.write_str_gives f.old result (packets_text counts.now) f.new }
-{
-    let (packets, accepted, refused) = (counts.packets(), counts.accepted, counts.refused());
-    write!(
-        f,
-        "packets {packets}: accepted {accepted}, refused {refused}"
-    )
-}
-
-/// Writes how many were refused for each fault.
-fn write_faults<W: fmt::Write>(counts: &Counts, f: &mut fmt::Formatter<W>) -> fmt::Result
-    ensures { WritesOnOk W.write_str_gives f.old result (faults_text counts.now) f.new }
-{
-    let (size, length) = (counts.size, counts.length);
-    let (padding, value) = (counts.padding, counts.value);
-    write!(
-        f,
-        " (size {size}, length {length}, padding {padding}, value {value})"
-    )
-}
-
-/// Writes how many records and lines were skipped, and the first of the reasons.
-fn write_skipped<W: fmt::Write>(counts: &Counts, f: &mut fmt::Formatter<W>) -> fmt::Result
-    ensures { WritesOnOk W.write_str_gives f.old result (skipped_text counts.now) f.new }
-{
-    let (skipped, others, fragments) = (counts.skipped(), counts.others, counts.fragments);
-    write!(
-        f,
-        "; skipped {skipped} (not SCTP {others}, fragment {fragments}"
-    )
-}
-
-/// Writes how many were skipped for the other reasons.
-fn write_broken<W: fmt::Write>(counts: &Counts, f: &mut fmt::Formatter<W>) -> fmt::Result
-    ensures { WritesOnOk W.write_str_gives f.old result (broken_text counts.now) f.new }
-{
-    let (cut, malformed) = (counts.cut, counts.malformed);
-    let (long, unknown) = (counts.long, counts.unknown);
-    write!(
-        f,
-        ", cut {cut}, malformed {malformed}, too long {long}, unknown {unknown})"
-    )
 }
 
 /// Adds one, up to 2^64 - 1.
@@ -240,33 +231,4 @@ fn increase(count: &mut u64)
     ensures { count.new ≡ one_more count.old }
 {
     *count = count.saturating_add(1);
-}
-
-/// The name of the kind of chunk that has this type; nothing for a type that no kind has.
-fn kind_name(typ: usize) -> Option<&'static str>
-    ensures name { MatchOption result (kind_name typ ≡ None)
-        (λ name. kind_name typ ≡ Some name.now) }
-    ensures unnamed { result ≡ None → IsUnnamed (table lenient 0) typ }
-    ensures named { IsUnnamed (table lenient 0) typ → result ≡ None }
-{
-    match typ {
-        0 => Some("DATA"),
-        1 => Some("INIT"),
-        2 => Some("INIT ACK"),
-        3 => Some("SACK"),
-        4 => Some("HEARTBEAT"),
-        5 => Some("HEARTBEAT ACK"),
-        6 => Some("ABORT"),
-        7 => Some("SHUTDOWN"),
-        8 => Some("SHUTDOWN ACK"),
-        9 => Some("ERROR"),
-        10 => Some("COOKIE ECHO"),
-        11 => Some("COOKIE ACK"),
-        14 => Some("SHUTDOWN COMPLETE"),
-        64 => Some("I-DATA"),
-        130 => Some("RE-CONFIG"),
-        192 => Some("FORWARD-TSN"),
-        194 => Some("I-FORWARD-TSN"),
-        _ => None,
-    }
 }

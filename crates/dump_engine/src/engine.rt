@@ -1,99 +1,110 @@
-//! The program over a reader and a writer, either of which may fail.
+//! Reads a capture piece by piece, and hands its events to a printer.
 
-ghost use Rattle.std.specs.Prelude.{◌≡◌, ◌⊎◌, [], Some, None, OnOk, IfErr};
-ghost use Rattle.std.specs.Io.KnownBytes.{Keeps};
+ghost use Rattle.std.specs.Prelude.{◌≡◌, ℕ, List, [], true, false, None, IfOk, IfErr, IfSome, OnOk, IsErrOf};
+ghost use Rattle.std.specs.Io.KnownBytes.{Consumes, IsAtEnd};
 ghost use Rattle.watched_io.specs.Watched.{device_of};
-ghost use Rattle.watched_io.specs.Output.{writer_of, total};
-ghost use Rattle.dump_engine.specs.declared.failure.Failure.{Failure};
-ghost use Rattle.dump_engine.specs.Failed.{IsOfDeviceOrMemory, FailsWith};
-ghost use Rattle.dump_engine.specs.Faults.{HasInputFault};
-ghost use Rattle.dump_engine.specs.Prints.{Grows};
-ghost use Rattle.dump_engine.specs.Runs.{is_pcap, PrintsInput, BeginsInput};
+ghost use Rattle.watched_io.specs.Window.{left};
+ghost use Rattle.sctp_capture.specs.Event.{Hands};
+ghost use Rattle.dump_engine.specs.Handed.{HandsAll, Stops, Takes, Reaches, FallsShort, IsNoFault, FailsWith};
+ghost use Rattle.dump_engine.specs.declared.stop.Stop.{Stop};
 
-use crate::arguments::{Form, Options};
-use crate::counts::Counts;
-use crate::failure::Failure;
-use crate::pcap::dump_pcap;
-use crate::text::dump_text;
-use sctp_capture::pcap::{InputKind, input_kind};
-use std::alloc::Global;
-use std::io::{Read, Write};
-use watched_io::output::Output;
-use watched_io::stream::need;
+use crate::printer::Printer;
+use crate::stop::Stop;
+use crate::stream::{drop_bytes, drop_line, read_more};
+use sctp_capture::decoder::{Decoder, Extent, Next};
+use std::io::Read;
 use watched_io::watched::Watched;
 use watched_io::window::Window;
 
-/// Prints the packets of an input, and counts them. What the window held before is dropped. Text that
-/// isn't long stays in `output` until `finish`.
+/// Hands the events of an input to the printer, which shows all before each read. What the window
+/// holds is the beginning of the input.
 ///
-/// Returns the first failure: a read or a write that failed, memory that ran out, or what the input
-/// begins with where that isn't read.
-pub fn dump<R: Read, W: Write>(
-    alloc: Global,
-    options: &Options,
+/// Returns the first of these: the decoder's fault, a failed read, or a failure of the printer. A
+/// printer that fails in its last call isn't asked.
+pub fn read_capture<D: Decoder, R: Read, P: Printer>(
+    decoder: &mut D,
     window: &mut Window,
     input: &mut Watched<R>,
-    output: &mut Output<W>,
-    counts: &mut Counts,
-) -> Result<(), Failure>
-    ensures whole { OnOk result (PrintsInput options.now (R.remaining (device_of input.old))
-        (total W.contents output.old) (total W.contents output.new)) }
-
-    // What was written before a failure is true of the input.
-    ensures begun { IfErr result (λ failure. BeginsInput options.now failure
-        (R.remaining (device_of input.old))
-        (total W.contents output.old) (total W.contents output.new)
-        (W.contents (device_of (writer_of output.new)))) }
-
-    // Which failure comes, and when: of a device where it failed, or else the input's fault.
-    ensures failed_read { FailsWith Failure.Read result input.old input.new }
-    ensures failed_write { FailsWith Failure.Write result (writer_of output.old)
-        (writer_of output.new) }
-    ensures fault { IfErr result (λ failure. IsOfDeviceOrMemory failure
-        ⊎ HasInputFault options.now (R.remaining (device_of input.old)) (Some failure)) }
-    ensures no_fault { OnOk result
-        (HasInputFault options.now (R.remaining (device_of input.old)) None) }
+    printer: &mut P,
+) -> Result<(), Stop>
+    ensures whole { OnOk result (HandsAll D.Item D.End P.handed (D.state decoder.old)
+        (left window.old (R.remaining (device_of input.old))) printer.old printer.new None) }
+    ensures stopped { IfErr result (Stops D.Item D.End P.handed (D.state decoder.old)
+        (left window.old (R.remaining (device_of input.old))) printer.old printer.new) }
+    ensures failed_read { FailsWith Stop.Read result input.old input.new }
+    ensures failed_printer { IsErrOf result Stop.Printer → P.failed printer.new ≡ true }
 {
-    window.clear();
-    let _ = need(window, input, output, 4)?;
-    let pcap = is_pcap(options.form, window.held())?;
-    if pcap {
-        dump_pcap(alloc, options, window, input, output, counts)
-    } else {
-        dump_text(alloc, options, window, input, output, counts)
+    let mut at_end = false;
+    for _ in 0..u64::MAX {
+        if printer.failed() {
+            return Err(Stop::Printer);
+        }
+        match take_item(decoder, at_end, window, input, printer)? {
+            Some(ended) => at_end = ended,
+            None => return Ok(()),
+        }
+    }
+    Err(Stop::Endless)
+}
+
+/// Takes what the input begins with, if all of it is in memory; or reads once. Returns whether the
+/// input is at its end, or nothing where all its events were handed on.
+fn take_item<D: Decoder, R: Read, P: Printer>(
+    decoder: &mut D,
+    at_end: bool,
+    window: &mut Window,
+    input: &mut Watched<R>,
+    printer: &mut P,
+) -> Result<Option<bool>, Stop>
+    requires { at_end ≡ true → IsAtEnd (R.remaining (device_of input.old)) }
+    ensures taken { IfOk result (λ more. IfSome more (λ ended. Takes D.Item P.handed
+        (D.state decoder.old) (D.state decoder.new)
+        (left window.old (R.remaining (device_of input.old)))
+        (left window.new (R.remaining (device_of input.new))) printer.old printer.new)) }
+    ensures at_end { IfOk result (λ more. IfSome more (λ ended.
+        ended ≡ true → IsAtEnd (R.remaining (device_of input.new)))) }
+    ensures whole { IfOk result (λ more. more ≡ None
+        → HandsAll D.Item D.End P.handed (D.state decoder.old)
+        (left window.old (R.remaining (device_of input.old))) printer.old printer.new None) }
+    ensures stopped { IfErr result (Stops D.Item D.End P.handed (D.state decoder.old)
+        (left window.old (R.remaining (device_of input.old))) printer.old printer.new) }
+    ensures failed_read { FailsWith Stop.Read result input.old input.new }
+    ensures failed_printer { IsErrOf result Stop.Printer → P.failed printer.new ≡ true }
+{
+    match decoder.next(window.held(), at_end, printer) {
+        Next::More => Ok(Some(read_more(window, input, printer)? == 0)),
+        Next::Item(size) => {
+            window.consume(size);
+            Ok(Some(at_end))
+        }
+        Next::Long(reach) => {
+            let whole = drop_item(reach, window, input, printer)?;
+            Ok(if whole { Some(false) } else { None })
+        }
+        Next::End => Ok(None),
+        Next::Fault(fault) => Err(Stop::Fault(fault)),
     }
 }
 
-/// Whether an input that begins with these bytes is a pcap file, or else a text.
-fn is_pcap(form: Form, bytes: &[u8]) -> Result<bool, Failure>
-    ensures { result ≡ is_pcap form bytes.now }
+/// Drops an item of the input, and returns whether it was whole.
+fn drop_item<R: Read, P: Printer>(
+    reach: Extent,
+    window: &mut Window,
+    input: &mut Watched<R>,
+    printer: &mut P,
+) -> Result<bool, Stop>
+    ensures dropped { IfOk result (λ b. b ≡ true → (dropped : List ℕ) × Reaches reach dropped
+        × Consumes (left window.old (R.remaining (device_of input.old)))
+        (left window.new (R.remaining (device_of input.new))) dropped) }
+    ensures short { IfOk result (λ b. b ≡ false
+        → IfSome (left window.old (R.remaining (device_of input.old))) (FallsShort reach)) }
+    ensures handed { Hands P.handed printer.old printer.new [] }
+    ensures failed_read { FailsWith Stop.Read result input.old input.new }
+    ensures failed_printer { IsErrOf result Stop.Printer → P.failed printer.new ≡ true }
+    ensures no_fault { IfErr result IsNoFault }
 {
-    match form {
-        Form::Pcap => Ok(true),
-        Form::Text => Ok(false),
-        Form::Detected => match input_kind(bytes) {
-            InputKind::Pcap(_) => Ok(true),
-            InputKind::Text => Ok(false),
-            InputKind::Pcapng => Err(Failure::Pcapng),
-        },
-    }
-}
-
-/// Text of at least this many bytes is written before more is added.
-const LONG: usize = 65_536;
-
-/// Writes the text if it is long.
-pub fn write_if_long<W: Write>(output: &mut Output<W>) -> Result<(), Failure>
-    ensures text { OnOk result (Keeps (total W.contents output.old) (total W.contents output.new)) }
-    ensures stopped { IfErr result (λ failure. Grows failure
-        (total W.contents output.old) (total W.contents output.new)
-        (W.contents (device_of (writer_of output.new))) []) }
-    ensures device { IfErr result (λ failure. failure ≡ Failure.Write) }
-    ensures failed_write { FailsWith Failure.Write result (writer_of output.old)
-        (writer_of output.new) }
-{
-    match output.write_from(LONG) {
-        Ok(()) => Ok(()),
-        Err(_) => Err(Failure::Write),
+    match reach {
+        Extent::Bytes(count) => drop_bytes(count, window, input, printer),
+        Extent::Line => drop_line(window, input, printer),
     }
 }

@@ -1,12 +1,11 @@
-//! What ends the reading of an input before its end.
-ghost use Rattle.std.specs.Prelude.{◌≡◌, Some};
-ghost use Rattle.dump_engine.specs.Failed.{failure_text};
+//! What keeps the program from its work.
 
+use crate::stop::Stop;
+use sctp_capture::decoder::Fault;
 use std::alloc::{AllocError, AllocFailed};
 use std::fmt;
-use watched_io::stream::StreamError;
 
-/// What ends the reading of an input before its end.
+/// What keeps the program from its work.
 #[derive(Clone, Copy, Debug, PartialEq, Eq)]
 pub enum Failure {
     /// Memory ran out.
@@ -15,43 +14,47 @@ pub enum Failure {
     Read,
     /// A write failed, or took no byte.
     Write,
+    /// Whoever read the output reads no more of it.
+    ClosedPipe,
     /// The file can't be opened.
     Open,
     /// The arguments can't be read.
     Arguments,
     /// There is no such option.
     UnknownOption,
-    /// `--format` isn't followed by `pcap` or `text`.
+    /// `--format` isn't followed by a format.
     UnknownFormat,
-    /// The input is pcapng.
-    Pcapng,
-    /// The input was to be pcap, and begins otherwise.
-    NotPcap,
-    /// The input ends in the header of the file.
-    ShortHeader,
-    /// Frames of this link type aren't read.
-    LinkType(u16),
+    /// `--udp-port` isn't followed by a port.
+    UnknownPort,
+    /// The input is compressed.
+    Compressed,
+    /// The input has more parts than can be counted.
+    Endless,
+    /// The input can't be read from some place on.
+    Fault(Fault),
 }
 
 impl fmt::Display for Failure {
-    ghost output = { λ f. Some (failure_text f) };
-
     fn fmt<W: fmt::Write>(&self, f: &mut fmt::Formatter<W>) -> fmt::Result {
         let text = match self {
             Failure::OutOfMemory => "out of memory",
             Failure::Read => "a read failed",
-            Failure::Write => "a write failed",
+            Failure::Write | Failure::ClosedPipe => "a write failed",
             Failure::Open => "can't be opened",
             Failure::Arguments => "the arguments can't be read",
             Failure::UnknownOption => "unknown option (try --help)",
-            Failure::UnknownFormat => "--format takes pcap or text",
-            Failure::Pcapng => "pcapng isn't read: convert it by editcap -F pcap IN OUT",
-            Failure::NotPcap => "not a pcap file",
-            Failure::ShortHeader => "ends in the file header",
-            Failure::LinkType(link_type) => {
+            Failure::UnknownFormat => "--format takes pcap, pcapng or text",
+            Failure::UnknownPort => "--udp-port takes a number from 1 to 65535",
+            Failure::Compressed => "is compressed by gzip: zcat FILE | sctp_dump reads it",
+            Failure::Endless => "has too many parts",
+            Failure::Fault(Fault::NotCapture) => "doesn't begin as a file of its format",
+            Failure::Fault(Fault::ShortHeader) => "ends in the file header",
+            Failure::Fault(Fault::Block) =>
+                "a block's length is wrong, and nothing after it is read",
+            Failure::Fault(Fault::LinkType(link_type)) => {
                 return write!(
                     f,
-                    "link type {link_type} isn't read (1, 101, 113 and 248 are)"
+                    "link type {link_type} isn't read (--help names those that are)"
                 );
             }
         };
@@ -59,34 +62,26 @@ impl fmt::Display for Failure {
     }
 }
 
-impl From<StreamError> for Failure {
-    ghost use Rattle.dump_engine.specs.Failed.{failure_of};
-
-    ghost from_gives = { λ error e. e ≡ failure_of error };
-
-    fn from(error: StreamError) -> Failure {
-        match error {
-            StreamError::Read => Failure::Read,
-            StreamError::Write => Failure::Write,
+impl From<Stop> for Failure {
+    fn from(stop: Stop) -> Failure {
+        match stop {
+            Stop::Read => Failure::Read,
+            Stop::Printer => Failure::Write,
+            Stop::OutOfMemory => Failure::OutOfMemory,
+            Stop::Compressed => Failure::Compressed,
+            Stop::Endless => Failure::Endless,
+            Stop::Fault(fault) => Failure::Fault(fault),
         }
     }
 }
 
 impl From<AllocError> for Failure {
-    ghost use Rattle.dump_engine.specs.declared.failure.Failure.{Failure};
-
-    ghost from_gives = { λ _ e. e ≡ Failure.OutOfMemory };
-
     fn from(_: AllocError) -> Failure {
         Failure::OutOfMemory
     }
 }
 
 impl<T: Drop> From<AllocFailed<T>> for Failure {
-    ghost use Rattle.dump_engine.specs.declared.failure.Failure.{Failure};
-
-    ghost from_gives = { λ _ e. e ≡ Failure.OutOfMemory };
-
     fn from(_: AllocFailed<T>) -> Failure {
         Failure::OutOfMemory
     }

@@ -1,16 +1,18 @@
 //! The program on its host: its arguments, files, standard streams and status.
 
-ghost use Rattle.std.specs.Prelude.{◌≡◌, ◌≤◌, Ok, Err, IfOk, MatchResult};
-ghost use Rattle.dump_engine.specs.Totals.{after_input, status};
+ghost use Rattle.std.specs.Prelude.{◌≡◌, ◌≤◌, IfOk, Ok, Err, MatchResult};
+ghost use Rattle.dump_engine.specs.Counts.{is_unread, status};
+ghost use Rattle.dump_engine.specs.Totals.{after_input};
 ghost use Rattle.dump_engine.specs.declared.failure.Failure.{Failure};
 
 use crate::arguments::{Action, HELP, Request, STANDARD_INPUT, VERSION, request_of};
-use crate::counts::{Counts, push_counts};
-use crate::engine::dump;
+use crate::counts::Counts;
 use crate::failure::Failure;
+use crate::input::read_input;
+use crate::stop::Stop;
+use crate::text_printer::TextPrinter;
 use std::io::Write;
 use std::{env, fs, io};
-use watched_io::output::Output;
 use watched_io::watched::Watched;
 use watched_io::window::Window;
 
@@ -22,16 +24,20 @@ const REFUSED: u8 = 1;
 const FAILED: u8 = 2;
 
 /// Does what the host's arguments say, and returns the status: 0 if all packets were accepted, 1 if
-/// some were refused, 2 if an input couldn't be read, the output written, or memory ran out.
-/// Reports each failure on standard error. No clause says what is printed, since no clause of std says what
-/// a host is asked for; the clauses of `dump` say what is added to its writer.
+/// some were refused, 2 if an input couldn't be read or no packet was found in what it holds, the
+/// output couldn't be written, or memory ran out.
+///
+/// Reports each failure on standard error, but not that whoever read the output reads no more of
+/// it. No clause says what a host is asked for, since none of std does.
 pub fn run(rt: &HostRuntime) -> u8
     ensures { result ≤ 2 }
 {
     match run_request(rt) {
         Ok(status) => status,
         Err(failure) => {
-            report(rt, None, &failure);
+            if failure != Failure::ClosedPipe {
+                report(rt, None, &failure);
+            }
             FAILED
         }
     }
@@ -85,30 +91,34 @@ fn dump_all(rt: &HostRuntime, request: &Request<'_>) -> Result<u8, Failure>
     ensures { IfOk result (λ status. status ≤ 2) }
 {
     let mut window = Window::new(rt.alloc())?;
-    let mut output = Output::new(rt.alloc(), Watched::new(io::writer(rt)));
-    let mut counts = Counts::new();
+    let writer = Watched::new(io::writer(rt));
+    let mut printer = TextPrinter::new(rt.alloc(), request.options, writer);
     let mut failed = false;
     let names_files = request.files.len() > 1 && !request.options.summary;
     for name in &request.files {
         if names_files {
-            writeln!(&mut output.text, "file {name}")?;
+            printer.print_file(name)?;
         }
-        let outcome = dump_input(rt, name, request, &mut window, &mut output, &mut counts);
+        let outcome = dump_input(rt, name, request, &mut window, &mut printer);
         failed |= is_over(rt, name, outcome)?;
     }
-    push_counts(&request.options, &counts, &mut output.text)?;
-    end_of(output.finish(), failed, &counts)
+    let written = printer.finish();
+    if !failed && printer.counts.is_unread() {
+        // There is no other place to say that standard error doesn't take it.
+        let _ = eprintln!(rt; "sctp_dump: no SCTP packet was found");
+    }
+    end_of(written, failed, &printer.counts)
 }
 
 /// What a run returns, whose last write ended so.
-fn end_of(written: io::Result<()>, failed: bool, counts: &Counts) -> Result<u8, Failure>
+fn end_of(written: Result<(), Failure>, failed: bool, counts: &Counts) -> Result<u8, Failure>
     ensures end { MatchResult written (λ _. result ≡ Ok (status failed counts.now))
-        (λ _. result ≡ Err Failure.Write) }
+        (λ failure. result ≡ Err failure) }
     ensures known { IfOk result (λ status. status ≤ 2) }
 {
     match written {
         Ok(()) => Ok(status_of(failed, counts)),
-        Err(_) => Err(Failure::Write),
+        Err(failure) => Err(failure),
     }
 }
 
@@ -117,7 +127,7 @@ fn status_of(failed: bool, counts: &Counts) -> u8
     ensures status { result ≡ status failed counts.now }
     ensures known { result ≤ 2 }
 {
-    if failed {
+    if failed || counts.is_unread() {
         FAILED
     } else if counts.refused() > 0 {
         REFUSED
@@ -134,6 +144,7 @@ fn is_over(rt: &HostRuntime, name: &str, outcome: Result<(), Failure>) -> Result
     match outcome {
         Ok(()) => Ok(false),
         Err(Failure::Write) => Err(Failure::Write),
+        Err(Failure::ClosedPipe) => Err(Failure::ClosedPipe),
         Err(Failure::OutOfMemory) => Err(Failure::OutOfMemory),
         Err(failure) => {
             report(rt, Some(name), &failure);
@@ -148,19 +159,31 @@ fn dump_input<W: Write>(
     name: &str,
     request: &Request<'_>,
     window: &mut Window,
-    output: &mut Output<W>,
-    counts: &mut Counts,
+    printer: &mut TextPrinter<W>,
 ) -> Result<(), Failure> {
-    let (alloc, options) = (rt.alloc(), &request.options);
-    if name == STANDARD_INPUT {
+    let (alloc, form) = (rt.alloc(), request.options.form);
+    let outcome = if name == STANDARD_INPUT {
         let mut input = Watched::new(rt.reader());
-        return dump(alloc, options, window, &mut input, output, counts);
-    }
-    match fs::open(rt, name) {
-        Ok(file) => {
-            let mut input = Watched::new(file);
-            dump(alloc, options, window, &mut input, output, counts)
+        read_input(alloc, form, window, &mut input, printer)
+    } else {
+        match fs::open(rt, name) {
+            Ok(file) => {
+                let mut input = Watched::new(file);
+                read_input(alloc, form, window, &mut input, printer)
+            }
+            Err(_) => return Err(Failure::Open),
         }
-        Err(_) => Err(Failure::Open),
+    };
+    match outcome {
+        Ok(()) => Ok(()),
+        Err(stop) => Err(failure_after(stop, printer.failure)),
+    }
+}
+
+/// Returns why reading stopped, of a printer that may have failed.
+fn failure_after(stop: Stop, failure: Option<Failure>) -> Failure {
+    match failure {
+        Some(failure) if stop == Stop::Printer => failure,
+        _ => Failure::from(stop),
     }
 }

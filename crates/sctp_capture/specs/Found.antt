@@ -6,7 +6,12 @@ use Rattle.sctp_capture.specs.declared.frame.Payload.{Payload}
 use Rattle.sctp_capture.specs.declared.frame.NoPacket.{NoPacket}
 
 abbrev pub packet_of : FoundPacket → frame.Packet
-packet_of f = record { addresses = f.addresses; udp_ports = f.udp_ports; bytes = f.packet.now }
+packet_of f = record {
+  addresses = f.addresses;
+  udp_ports = f.udp_ports;
+  length = f.length;
+  bytes = f.packet.now;
+}
 
 abbrev pub found : Result FoundPacket NoPacket → Result frame.Packet NoPacket
 found (Ok f) = Ok (packet_of f)

@@ -5,3 +5,11 @@ pub mod Found
 pub mod HexBytes
 pub mod Line
 pub mod Sent
+pub mod Event
+pub mod Decoding
+pub mod PcapEvents
+pub mod Dump
+pub mod Text
+pub mod Pcapng
+pub mod PcapngEvents
+pub mod PcapngState

@@ -4,11 +4,11 @@ use Rattle.std.specs.Prelude.{◌+◌, ◌*◌, ◌==◌, ℕ, Bool, ◌||◌, �
 use Rattle.std.specs.List.{starts_with, list_all, position_or_len}
 use Rattle.std.specs.Char.{is_ascii_digit, is_ascii_hexdigit, digit_value}
 use Rattle.sctp_capture.specs.Number.{byte_at}
-use Rattle.sctp_capture.specs.HexBytes.{is_blank, without_blanks_before, hex_bytes}
+use Rattle.sctp_capture.specs.HexBytes.{is_blank, without_blanks_before, begins_with_byte, hex_bytes}
 use Rattle.sctp_capture.specs.declared.line.Direction.{Direction}
 use Rattle.sctp_capture.specs.declared.line.Direction.TheVariants.{Incoming, Outgoing}
 use Rattle.sctp_capture.specs.declared.line.DumpForm.{DumpForm}
-use Rattle.sctp_capture.specs.declared.line.DumpForm.TheVariants.{Xxd, Tcpdump}
+use Rattle.sctp_capture.specs.declared.line.DumpForm.TheVariants.{Xxd, Tcpdump, Hexdump, Wireshark}
 use Rattle.sctp_capture.specs.declared.line.Line.{Line}
 use Rattle.sctp_capture.specs.declared.line.Line.TheVariants.{Blank, Comment, Packet, Logged, Dumped, Unknown}
 use Rattle.sctp_capture.specs.declared.line.Place.{Place}
@@ -62,12 +62,32 @@ logged direction time (Some bytes) =
     Logged (record { direction = direction; time = time; packet = bytes })
 logged direction time None = Unknown
 
--- A time, the offset 0000, and the bytes. What follows the mark is of no matter.
-abbrev pub log_line : Direction → List ℕ → Line
-log_line direction text =
-    if not (is_time (word text)) then Unknown else
-    if not (starts_with nat_eq (after_word text) (codes "0000 ")) then Unknown else
-    logged direction (word text) (marked_bytes (drop 5 (after_word text)))
+-- a direction is at the front: I (73) or O (79), and a space
+abbrev pub has_direction : List ℕ → Bool
+has_direction text = (byte_at 0 text == 73 || byte_at 0 text == 79) && byte_at 1 text == 32
+
+abbrev pub direction_of : List ℕ → Direction
+direction_of text = if byte_at 0 text == 73 then Incoming else Outgoing
+
+abbrev pub behind_direction : List ℕ → List ℕ
+behind_direction text = without_blanks_before (drop 2 text)
+
+-- a direction, a time, and the offset 0000
+unfoldable pub begins_log : List ℕ → Bool
+begins_log text =
+    has_direction text && (is_time (word (behind_direction text))
+    && starts_with nat_eq (after_word (behind_direction text)) (codes "0000 "))
+
+-- from the first place on that begins so; what comes before is of no matter
+unfoldable pub log_from : List ℕ → List ℕ
+log_from [] = []
+log_from (byte ∷ text) = if begins_log (byte ∷ text) then byte ∷ text else log_from text
+
+-- And then the bytes. What follows the mark is of no matter.
+abbrev pub log_line : List ℕ → Line
+log_line text =
+    logged (direction_of text) (word (behind_direction text))
+    (marked_bytes (drop 5 (after_word (behind_direction text))))
 
 -- ---- a dump
 
@@ -78,11 +98,11 @@ hex_number digits = fold (λ n digit. 16 * n + digit_value digit) 0 digits
 abbrev pub offset_length : List ℕ → ℕ
 offset_length text = position_or_len (λ byte. not (is_ascii_hexdigit byte)) text
 
--- an offset, of one to eight digits, and a colon
+-- an offset, of one to eight digits, a colon, and a blank
 abbrev pub has_offset : List ℕ → Bool
 has_offset text =
     nat_lt 0 (offset_length text) && nat_le (offset_length text) 8
-    && byte_at (offset_length text) text == 58
+    && byte_at (offset_length text) text == 58 && is_blank (byte_at (offset_length text + 1) text)
 
 -- two blanks are at this offset
 abbrev pub is_gap : List ℕ → ℕ → Bool
@@ -118,20 +138,62 @@ dump_line form text =
     dumped form (hex_number (take (offset_length text) text))
     (dumped_bytes (without_blanks_before (drop (offset_length text + 1) text)))
 
+-- ---- a dump without colons
+
+-- a byte, and then a blank or nothing
+abbrev pub is_byte_alone : List ℕ → Bool
+is_byte_alone text = begins_with_byte text && (length text == 2 || is_blank (byte_at 2 text))
+
+-- from the first byte on that is neither a digit of the offset nor a blank behind it
+abbrev pub behind_offset : List ℕ → List ℕ
+behind_offset text = without_blanks_before (drop (offset_length text) text)
+
+-- An offset of six to eight digits, and then a byte; the last line is the dump's length alone, of
+-- which the first two digits are 0.
+abbrev pub has_hexdump_offset : List ℕ → Bool
+has_hexdump_offset text =
+    nat_le 6 (offset_length text) && nat_le (offset_length text) 8
+    && (is_byte_alone (behind_offset text)
+    || length (behind_offset text) == 0 && starts_with nat_eq text (codes "00"))
+
+-- an offset of four digits, two blanks, and a byte
+abbrev pub has_wireshark_offset : List ℕ → Bool
+has_wireshark_offset text =
+    offset_length text == 4 && is_gap (drop 4 text) 0 && is_byte_alone (behind_offset text)
+
+-- how many bytes come before the first `|`
+abbrev pub bar_offset : List ℕ → ℕ
+bar_offset text = position_or_len (λ byte. byte == 124) text
+
+-- Digits, and from the first `|` on a text that can be printed.
+abbrev pub barred_bytes : List ℕ → Option (List ℕ)
+barred_bytes text =
+    if list_all is_printable (drop (bar_offset text) text)
+    then hex_bytes (take (bar_offset text) text) else
+    None
+
+abbrev pub hexdump_line : List ℕ → Line
+hexdump_line text =
+    dumped Hexdump (hex_number (take (offset_length text) text)) (barred_bytes (behind_offset text))
+
+abbrev pub wireshark_line : List ℕ → Line
+wireshark_line text =
+    dumped Wireshark (hex_number (take (offset_length text) text))
+    (dumped_bytes (behind_offset text))
+
 -- ---- a line
 
--- The forms in the order that they are tried in: each is known by its beginning.
+-- The forms in the order that they are tried in. A dump is known by its beginning.
 abbrev pub text_line : List ℕ → Line
 text_line text =
     if length text == 0 then Blank else
     if byte_at 0 text == 35 then Comment else
-    if starts_with nat_eq text (codes "I ")
-    then log_line Incoming (without_blanks_before (drop 2 text)) else
-    if starts_with nat_eq text (codes "O ")
-    then log_line Outgoing (without_blanks_before (drop 2 text)) else
     if starts_with nat_eq text (codes "0x") then dump_line Tcpdump (drop 2 text) else
     if has_offset text then dump_line Xxd text else
-    packet_line (hex_bytes text)
+    if has_hexdump_offset text then hexdump_line text else
+    if has_wireshark_offset text then wireshark_line text else
+    if length (log_from text) == 0 then packet_line (hex_bytes text) else
+    log_line (log_from text)
 
 -- blanks before a line are of no matter
 abbrev pub line_of : List ℕ → Line

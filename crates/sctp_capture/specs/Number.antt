@@ -1,5 +1,5 @@
 -- Numbers in bytes: in a packet most significant byte first, in a capture file in the file's order.
-use Rattle.std.specs.Prelude.{ℕ, List, take, slice_index}
+use Rattle.std.specs.Prelude.{◌+◌, ◌-◌, ◌^◌, ℕ, List, min, take, slice_index}
 use Rattle.std.specs.Int.{Width, w16, byte_len, from_be_bytes, from_le_bytes, to_be_bytes, to_le_bytes}
 use Rattle.sctp_capture.specs.declared.pcap.ByteOrder.{ByteOrder}
 use Rattle.sctp_capture.specs.declared.pcap.ByteOrder.TheVariants.{BigEndian, LittleEndian}
@@ -21,3 +21,7 @@ number_in LittleEndian width bytes = from_le_bytes width (take (byte_len width) 
 abbrev pub number_bytes : ByteOrder → Width → ℕ → List ℕ
 number_bytes BigEndian width n = to_be_bytes width n
 number_bytes LittleEndian width n = to_le_bytes width n
+
+-- the number after this one, up to 2^64 - 1
+abbrev pub one_more : ℕ → ℕ
+one_more n = min (n + 1) (2 ^ 64 - 1)

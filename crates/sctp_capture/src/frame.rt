@@ -1,22 +1,36 @@
 //! The SCTP packet in a frame, by its link type.
 
-ghost use Rattle.std.specs.Prelude.{◌≡◌, ◌≤◌, length};
+ghost use Rattle.std.specs.Prelude.{◌≡◌, ◌≤◌, ◌+◌, length};
 ghost use Rattle.sctp_capture.specs.Number.{number16};
-ghost use Rattle.sctp_capture.specs.Frame.{packet_in, is_known_link, is_extension, may_carry_sctp, carried, in_udp, whole, ipv4, ipv6, ip, ipv4_addresses, ipv6_addresses, of_type, typed, ethernet, on_link, without_extension, without_extensions};
-ghost use Rattle.sctp_capture.specs.Found.{found, payload_of, payload_result};
+ghost use Rattle.sctp_capture.specs.Frame.{packet_in, is_known_link, is_header, is_ip_family, is_extension, is_ipv6_fragment, extension_size, may_carry_sctp, packet, carried, in_udp, behind, behind_header, behind_headers, on_link, loopback, typed, of_type, label, in_session, ip, ipv4, ipv6, ipv4_length, ipv4_addresses, ipv6_addresses, extension};
+ghost use Rattle.sctp_capture.specs.Found.{found, packet_of, payload_of, payload_result};
 
 use crate::parts::after;
 
-/// Link types of pcap files (the registry of draft-ietf-opsawg-pcaplinktype).
+/// Link types (the registry of draft-ietf-opsawg-pcaplinktype).
 pub mod link_type {
+    /// BSD's loopback: the family in the capturing machine's byte order.
+    pub const LOOPBACK: u16 = 0;
     /// Ethernet II.
     pub const ETHERNET: u16 = 1;
+    /// IPv4 or IPv6, in files of some BSDs.
+    pub const BSD_RAW_IP: u16 = 12;
+    /// IPv4 or IPv6, in files of OpenBSD.
+    pub const OPENBSD_RAW_IP: u16 = 14;
     /// IPv4 or IPv6, without a header of the link.
     pub const RAW_IP: u16 = 101;
+    /// OpenBSD's loopback: the family most significant byte first.
+    pub const OPENBSD_LOOPBACK: u16 = 108;
     /// Linux's cooked header, version 1.
     pub const LINUX_COOKED: u16 = 113;
+    /// IPv4, without a header of the link.
+    pub const IPV4: u16 = 228;
+    /// IPv6, without a header of the link.
+    pub const IPV6: u16 = 229;
     /// SCTP, without IP.
     pub const SCTP: u16 = 248;
+    /// Linux's cooked header, version 2.
+    pub const LINUX_COOKED_2: u16 = 276;
 }
 
 /// The protocol number of SCTP in IP.
@@ -28,11 +42,15 @@ const UDP_PROTOCOL: u8 = 17;
 /// The protocol number of IPv6's fragment header.
 const FRAGMENT_HEADER: u8 = 44;
 
+/// The protocol number of the authentication header.
+const AUTHENTICATION_HEADER: u8 = 51;
+
 /// The UDP port of SCTP (RFC 6951 section 5.1).
 pub const UDP_PORT: u16 = 9899;
 
-/// The most extension headers of an IPv6 packet that are read.
-pub const MOST_EXTENSIONS: u8 = 8;
+/// The most headers of a frame that are read, those of the link and of IP: a frame of 262,144 bytes
+/// has no more.
+const MOST_HEADERS: u32 = 65_536;
 
 /// The addresses of an IP packet.
 #[derive(Clone, Copy, Debug, PartialEq, Eq)]
@@ -63,16 +81,22 @@ pub struct FoundPacket<'a> {
     pub addresses: Option<Addresses>,
     /// The ports of the UDP datagram that carries it, if one does.
     pub udp_ports: Option<UdpPorts>,
-    /// The packet from its common header on, without what follows it in the frame.
+    /// How many bytes the packet had, as the headers before it say.
+    pub length: usize,
+    /// The packet from its common header on, without what follows it in the frame: its first bytes,
+    /// if fewer than `length` were captured.
     pub packet: &'a [u8],
 }
 
 /// Why a frame has no packet that can be read.
 #[derive(Clone, Copy, Debug, PartialEq, Eq)]
 pub enum NoPacket {
-    /// It is a fragment of an IP packet that carries SCTP or UDP, or in IPv6 anything.
+    /// Frames of its link type aren't read.
+    LinkType,
+    /// It is a fragment of an IP packet that may carry SCTP: in IPv4 of one that carries SCTP, UDP or
+    /// the authentication header, in IPv6 of any.
     Fragment,
-    /// Fewer bytes were captured than the headers say.
+    /// Fewer bytes were captured than the headers have.
     Cut,
     /// A header contradicts itself, or a length in it is more than the header around it allows.
     Malformed,
@@ -86,80 +110,108 @@ pub fn is_known_link(link_type: u16) -> bool
 {
     matches!(
         link_type,
-        link_type::ETHERNET | link_type::RAW_IP | link_type::LINUX_COOKED | link_type::SCTP
+        link_type::LOOPBACK
+            | link_type::ETHERNET
+            | link_type::BSD_RAW_IP
+            | link_type::OPENBSD_RAW_IP
+            | link_type::RAW_IP
+            | link_type::OPENBSD_LOOPBACK
+            | link_type::LINUX_COOKED
+            | link_type::IPV4
+            | link_type::IPV6
+            | link_type::SCTP
+            | link_type::LINUX_COOKED_2
     )
 }
 
-/// Returns the SCTP packet in a frame of this link type: Ethernet II (1) with at most one 802.1Q
-/// tag, raw IP (101), Linux cooked (113), or SCTP (248). `original_length` is the number of bytes
-/// that the frame had on the link; it matters for link type 248 alone.
+/// Returns the SCTP packet in a frame of this link type, which had `original_length` bytes on the
+/// link.
 ///
-/// The packet is protocol 132 of IPv4, or of IPv6 behind at most eight extension headers, or it is
-/// in UDP with port 9899 on either side. It ends where the innermost header says; what follows in
-/// the frame is left out.
+/// The packet is protocol 132 of IPv4 or of IPv6, or it is in UDP with `udp_port` on either side.
+/// It may be behind any 802.1Q and 802.1ad tags, MPLS labels and PPPoE in a session, and behind the
+/// authentication header and IPv6's extension headers. It is as long as the innermost header says,
+/// and what follows in the frame is left out; if the frame was cut off, it has fewer bytes than
+/// `length`, maybe none. An IPv4 packet whose length is 0 reaches to the end of the frame.
 ///
-/// Otherwise returns the first of these from the link's header inward: `Cut` if fewer bytes were
-/// captured than a header has or than its lengths say; `Malformed` if a header has another version
-/// than its type says, or a length that is less than a header or more than the header around it
-/// allows; `Fragment`; `Other`, also for an unknown link type.
+/// Otherwise returns the first of these from the link's header inward: `LinkType`; `Cut` if fewer
+/// bytes were captured than a header has; `Malformed` if a header has another version than its type
+/// says, or a length that is less than a header or more than the header around it allows;
+/// `Fragment`, but not of a packet in one fragment; `Other`.
 #[tactic(auto, unfolding(crate::specs::Frame::packet_in))]
 pub fn packet_in(
+    udp_port: u16,
     link_type: u16,
     original_length: u32,
     frame: &[u8],
 ) -> Result<FoundPacket<'_>, NoPacket>
-    ensures { found result ≡ packet_in link_type original_length frame.now }
+    ensures { found result ≡ packet_in udp_port link_type original_length frame.now }
 {
-    if link_type == link_type::SCTP {
-        return whole(None, None, original_length as usize, frame);
-    }
-    carried(on_link(link_type, frame)?)
+    let payload = behind_headers(Payload {
+        addresses: None,
+        protocol: Protocol::Link(link_type),
+        size: original_length as usize,
+        bytes: frame,
+    })?;
+    carried(udp_port, payload)
 }
 
-/// What an IP packet carries: `size` bytes as its header says. `bytes` begin with them, but may be
-/// fewer, or more by what follows the IP packet.
+/// What a payload is.
+#[derive(Clone, Copy)]
+enum Protocol {
+    /// A frame of this link type.
+    Link(u16),
+    /// What has this type in Ethernet.
+    EtherType(u16),
+    /// An IP packet, whose version says which.
+    Ip,
+    /// What has this protocol number in IP.
+    Number(u8),
+}
+
+/// What follows a header: `size` bytes as the headers say. `bytes` begin with them, but may be
+/// fewer, or more by what follows them in the frame.
 #[derive(Clone, Copy)]
 struct Payload<'a> {
-    addresses: Addresses,
-    protocol: u8,
+    addresses: Option<Addresses>,
+    protocol: Protocol,
     size: usize,
     bytes: &'a [u8],
 }
 
-/// Returns a packet of this size at the front.
-fn whole(
+/// Returns a packet of this size, as far as it was captured.
+fn packet(
     addresses: Option<Addresses>,
     udp_ports: Option<UdpPorts>,
     size: usize,
     bytes: &[u8],
-) -> Result<FoundPacket<'_>, NoPacket>
-    ensures { found result ≡ whole addresses udp_ports size bytes.now }
+) -> FoundPacket<'_>
+    ensures { packet_of result ≡ packet addresses udp_ports size bytes.now }
 {
-    if bytes.len() < size {
-        return Err(NoPacket::Cut);
-    }
-    Ok(FoundPacket {
+    FoundPacket {
         addresses,
         udp_ports,
-        packet: &bytes[..size],
-    })
+        length: size,
+        packet: &bytes[..size.min(bytes.len())],
+    }
 }
 
-/// Returns the packet that an IP packet carries.
-fn carried(payload: Payload<'_>) -> Result<FoundPacket<'_>, NoPacket>
-    ensures { found result ≡ carried (payload_of payload.entry) }
+/// Returns the packet behind the headers of the link and of IP.
+fn carried(udp_port: u16, payload: Payload<'_>) -> Result<FoundPacket<'_>, NoPacket>
+    ensures { found result ≡ carried udp_port (payload_of payload.entry) }
 {
     match payload.protocol {
-        SCTP_PROTOCOL => whole(Some(payload.addresses), None, payload.size, payload.bytes),
-        UDP_PROTOCOL => in_udp(payload),
+        Protocol::Number(SCTP_PROTOCOL) => {
+            Ok(packet(payload.addresses, None, payload.size, payload.bytes))
+        }
+        Protocol::Number(UDP_PROTOCOL) => in_udp(udp_port, payload),
         _ => Err(NoPacket::Other),
     }
 }
 
 /// Returns the packet in a UDP datagram.
 #[tactic(auto, unfolding(crate::specs::Frame::in_udp))]
-fn in_udp(payload: Payload<'_>) -> Result<FoundPacket<'_>, NoPacket>
-    ensures { found result ≡ in_udp (payload_of payload.entry) }
+fn in_udp(udp_port: u16, payload: Payload<'_>) -> Result<FoundPacket<'_>, NoPacket>
+    ensures { found result ≡ in_udp udp_port (payload_of payload.entry) }
 {
     let bytes = payload.bytes;
     if payload.size < 8 {
@@ -170,7 +222,7 @@ fn in_udp(payload: Payload<'_>) -> Result<FoundPacket<'_>, NoPacket>
     }
     let source = number16(bytes);
     let destination = number16(&bytes[2..]);
-    if source != UDP_PORT && destination != UDP_PORT {
+    if source != udp_port && destination != udp_port {
         return Err(NoPacket::Other);
     }
     let size = number16(&bytes[4..]) as usize;
@@ -181,85 +233,190 @@ fn in_udp(payload: Payload<'_>) -> Result<FoundPacket<'_>, NoPacket>
         source,
         destination,
     };
-    whole(Some(payload.addresses), Some(ports), size - 8, &bytes[8..])
+    Ok(packet(payload.addresses, Some(ports), size - 8, &bytes[8..]))
 }
 
-/// Returns what a frame of this link type carries.
+/// Returns the payload behind the headers of the link and of IP.
+fn behind_headers(payload: Payload<'_>) -> Result<Payload<'_>, NoPacket>
+    ensures { payload_result result ≡ behind_headers MOST_HEADERS (payload_of payload.entry) }
+{
+    let mut rest = payload;
+    for _k in 0..MOST_HEADERS {
+        if !is_header(rest.protocol) {
+            return Ok(rest);
+        }
+        rest = behind_header(rest)?;
+    }
+    Ok(rest)
+}
+
+/// Returns whether this is a header of the link or of IP, and what follows it.
+fn is_header(protocol: Protocol) -> bool
+    ensures { result ≡ is_header protocol }
+{
+    match protocol {
+        Protocol::Number(number) => is_extension(number),
+        _ => true,
+    }
+}
+
+/// Returns the payload behind the header at its front.
+fn behind_header(payload: Payload<'_>) -> Result<Payload<'_>, NoPacket>
+    ensures { payload_result result ≡ behind_header (payload_of payload.entry) }
+{
+    match payload.protocol {
+        Protocol::Link(link_type) => on_link(link_type, payload),
+        Protocol::EtherType(ether_type) => of_type(ether_type, payload),
+        Protocol::Ip => ip(payload),
+        Protocol::Number(number) => extension(number, payload),
+    }
+}
+
+/// Returns what follows the first `count` bytes.
+fn behind(count: usize, protocol: Protocol, payload: Payload<'_>) -> Payload<'_>
+    ensures { payload_of result ≡ behind count protocol (payload_of payload.entry) }
+{
+    Payload {
+        addresses: payload.addresses,
+        protocol,
+        size: payload.size.saturating_sub(count),
+        bytes: after(payload.bytes, count),
+    }
+}
+
+/// Returns what follows the header of a link.
 #[tactic(auto, unfolding(crate::specs::Frame::on_link))]
-fn on_link(link_type: u16, frame: &[u8]) -> Result<Payload<'_>, NoPacket>
-    ensures { payload_result result ≡ on_link link_type frame.now }
+fn on_link(link_type: u16, frame: Payload<'_>) -> Result<Payload<'_>, NoPacket>
+    ensures { payload_result result ≡ on_link link_type (payload_of frame.entry) }
 {
     match link_type {
-        link_type::ETHERNET => ethernet(frame),
-        link_type::RAW_IP => ip(frame),
-        link_type::LINUX_COOKED => typed(14, frame),
+        link_type::ETHERNET => typed(12, 14, frame),
+        link_type::BSD_RAW_IP | link_type::OPENBSD_RAW_IP | link_type::RAW_IP => ip(frame),
+        link_type::LINUX_COOKED => typed(14, 16, frame),
+        link_type::LINUX_COOKED_2 => typed(0, 20, frame),
+        link_type::LOOPBACK | link_type::OPENBSD_LOOPBACK => loopback(frame),
+        link_type::IPV4 => ipv4(frame),
+        link_type::IPV6 => ipv6(frame),
+        link_type::SCTP => Ok(behind(0, Protocol::Number(SCTP_PROTOCOL), frame)),
+        _ => Err(NoPacket::LinkType),
+    }
+}
+
+/// Returns what follows the family.
+#[tactic(auto, unfolding(crate::specs::Frame::loopback))]
+fn loopback(frame: Payload<'_>) -> Result<Payload<'_>, NoPacket>
+    ensures { payload_result result ≡ loopback (payload_of frame.entry) }
+{
+    let bytes = frame.bytes;
+    if bytes.len() < 4 {
+        return Err(NoPacket::Cut);
+    }
+    let family = [bytes[0], bytes[1], bytes[2], bytes[3]];
+    if is_ip_family(u32::from_be_bytes(family)) || is_ip_family(u32::from_le_bytes(family)) {
+        Ok(behind(4, Protocol::Ip, frame))
+    } else {
+        Err(NoPacket::Other)
+    }
+}
+
+/// Returns whether this is the family of IPv4 or IPv6 on some machine.
+fn is_ip_family(family: u32) -> bool
+    ensures { result ≡ is_ip_family family }
+{
+    matches!(family, 2 | 24 | 28 | 30)
+}
+
+/// Returns what follows a header of this size, whose type is at this offset.
+#[tactic(auto, unfolding(crate::specs::Frame::typed))]
+fn typed(offset: usize, size: usize, payload: Payload<'_>) -> Result<Payload<'_>, NoPacket>
+    requires { offset + 2 ≤ size }
+    ensures { payload_result result ≡ typed offset size (payload_of payload.entry) }
+{
+    if payload.bytes.len() < size {
+        return Err(NoPacket::Cut);
+    }
+    let ether_type = number16(&payload.bytes[offset..]);
+    Ok(behind(size, Protocol::EtherType(ether_type), payload))
+}
+
+/// Returns what follows a header of this type, or the payload of an IP packet.
+#[tactic(auto, unfolding(crate::specs::Frame::of_type))]
+fn of_type(ether_type: u16, payload: Payload<'_>) -> Result<Payload<'_>, NoPacket>
+    ensures { payload_result result ≡ of_type ether_type (payload_of payload.entry) }
+{
+    match ether_type {
+        0x0800 => ipv4(payload),
+        0x86dd => ipv6(payload),
+        0x8100 | 0x88a8 | 0x9100 => typed(2, 4, payload),
+        0x8847 | 0x8848 => label(ether_type, payload),
+        0x8864 => in_session(payload),
         _ => Err(NoPacket::Other),
     }
 }
 
-/// Returns what an Ethernet frame carries.
-#[tactic(auto, unfolding(crate::specs::Frame::ethernet))]
-fn ethernet(frame: &[u8]) -> Result<Payload<'_>, NoPacket>
-    ensures { payload_result result ≡ ethernet frame.now }
+/// Returns what follows an MPLS label.
+#[tactic(auto, unfolding(crate::specs::Frame::label))]
+fn label(ether_type: u16, payload: Payload<'_>) -> Result<Payload<'_>, NoPacket>
+    ensures { payload_result result ≡ label ether_type (payload_of payload.entry) }
 {
-    if frame.len() < 14 {
+    if payload.bytes.len() < 4 {
         return Err(NoPacket::Cut);
     }
-    if number16(&frame[12..]) == 0x8100 {
-        typed(16, frame)
+    let protocol = if payload.bytes[2] % 2 == 1 {
+        Protocol::Ip
     } else {
-        typed(12, frame)
-    }
+        Protocol::EtherType(ether_type)
+    };
+    Ok(behind(4, protocol, payload))
 }
 
-/// Returns what follows the type at this offset.
-#[tactic(auto, unfolding(crate::specs::Frame::typed, crate::specs::Frame::of_type))]
-fn typed(offset: usize, frame: &[u8]) -> Result<Payload<'_>, NoPacket>
-    requires { offset ≤ 16 }
-    ensures { payload_result result ≡ typed offset frame.now }
+/// Returns what follows the headers of PPPoE in a session and of PPP.
+#[tactic(auto, unfolding(crate::specs::Frame::in_session))]
+fn in_session(payload: Payload<'_>) -> Result<Payload<'_>, NoPacket>
+    ensures { payload_result result ≡ in_session (payload_of payload.entry) }
 {
-    if frame.len() < offset + 2 {
+    if payload.bytes.len() < 8 {
         return Err(NoPacket::Cut);
     }
-    match number16(&frame[offset..]) {
-        0x0800 => ipv4(&frame[offset + 2..]),
-        0x86dd => ipv6(&frame[offset + 2..]),
+    match number16(&payload.bytes[6..]) {
+        0x0021 | 0x0057 => Ok(behind(8, Protocol::Ip, payload)),
         _ => Err(NoPacket::Other),
     }
 }
 
 /// Returns what an IP packet of either version carries.
 #[tactic(auto, unfolding(crate::specs::Frame::ip))]
-fn ip(bytes: &[u8]) -> Result<Payload<'_>, NoPacket>
-    ensures { payload_result result ≡ ip bytes.now }
+fn ip(packet: Payload<'_>) -> Result<Payload<'_>, NoPacket>
+    ensures { payload_result result ≡ ip (payload_of packet.entry) }
 {
-    if bytes.is_empty() {
+    if packet.bytes.is_empty() {
         return Err(NoPacket::Cut);
     }
-    match bytes[0] / 16 {
-        4 => ipv4(bytes),
-        6 => ipv6(bytes),
+    match packet.bytes[0] / 16 {
+        4 => ipv4(packet),
+        6 => ipv6(packet),
         _ => Err(NoPacket::Other),
     }
 }
 
 /// Returns what an IPv4 packet carries.
 #[tactic(auto, unfolding(crate::specs::Frame::ipv4))]
-fn ipv4(bytes: &[u8]) -> Result<Payload<'_>, NoPacket>
-    ensures { payload_result result ≡ ipv4 bytes.now }
+fn ipv4(packet: Payload<'_>) -> Result<Payload<'_>, NoPacket>
+    ensures { payload_result result ≡ ipv4 (payload_of packet.entry) }
 {
+    let bytes = packet.bytes;
     if bytes.len() < 20 {
         return Err(NoPacket::Cut);
     }
     if bytes[0] / 16 != 4 {
         return Err(NoPacket::Malformed);
     }
-    let protocol = bytes[9];
-    if !may_carry_sctp(protocol) {
+    let number = bytes[9];
+    if !may_carry_sctp(number) {
         return Err(NoPacket::Other);
     }
     let header = 4 * (bytes[0] % 16) as usize;
-    let total = number16(&bytes[2..]) as usize;
+    let total = ipv4_length(packet);
     if header < 20 {
         return Err(NoPacket::Malformed);
     }
@@ -269,12 +426,26 @@ fn ipv4(bytes: &[u8]) -> Result<Payload<'_>, NoPacket>
     if number16(&bytes[6..]) % 0x4000 != 0 {
         return Err(NoPacket::Fragment);
     }
+    if bytes.len() < header {
+        return Err(NoPacket::Cut);
+    }
     Ok(Payload {
-        addresses: ipv4_addresses(bytes),
-        protocol,
+        addresses: Some(ipv4_addresses(bytes)),
+        protocol: Protocol::Number(number),
         size: total - header,
-        bytes: after(bytes, header),
+        bytes: &bytes[header..],
     })
+}
+
+/// Returns the length of an IPv4 packet.
+fn ipv4_length(packet: Payload<'_>) -> usize
+    requires { 20 ≤ length packet.bytes.now }
+    ensures { result ≡ ipv4_length (payload_of packet.entry) }
+{
+    match number16(&packet.bytes[2..]) {
+        0 => packet.size,
+        length => length as usize,
+    }
 }
 
 /// Returns the addresses of an IPv4 header.
@@ -292,26 +463,24 @@ fn ipv4_addresses(bytes: &[u8]) -> Addresses
     }
 }
 
-/// Returns what an IPv6 packet carries, behind its extension headers.
+/// Returns what an IPv6 packet carries, with its extension headers.
 #[tactic(auto, unfolding(crate::specs::Frame::ipv6))]
-fn ipv6(bytes: &[u8]) -> Result<Payload<'_>, NoPacket>
-    ensures { payload_result result ≡ ipv6 bytes.now }
+fn ipv6(packet: Payload<'_>) -> Result<Payload<'_>, NoPacket>
+    ensures { payload_result result ≡ ipv6 (payload_of packet.entry) }
 {
+    let bytes = packet.bytes;
     if bytes.len() < 40 {
         return Err(NoPacket::Cut);
     }
     if bytes[0] / 16 != 6 {
         return Err(NoPacket::Malformed);
     }
-    without_extensions(
-        MOST_EXTENSIONS,
-        Payload {
-            addresses: ipv6_addresses(bytes),
-            protocol: bytes[6],
-            size: number16(&bytes[4..]) as usize,
-            bytes: &bytes[40..],
-        },
-    )
+    Ok(Payload {
+        addresses: Some(ipv6_addresses(bytes)),
+        protocol: Protocol::Number(bytes[6]),
+        size: number16(&bytes[4..]) as usize,
+        bytes: &bytes[40..],
+    })
 }
 
 /// Returns the addresses of an IPv6 header.
@@ -329,27 +498,10 @@ fn ipv6_addresses(bytes: &[u8]) -> Addresses
     }
 }
 
-/// Returns the payload behind `most` extension headers at most.
-fn without_extensions(most: u8, payload: Payload<'_>) -> Result<Payload<'_>, NoPacket>
-    ensures { payload_result result ≡ without_extensions most (payload_of payload.entry) }
-{
-    let mut rest = payload;
-    for _k in 0..most {
-        if rest.protocol == FRAGMENT_HEADER {
-            return Err(NoPacket::Fragment);
-        }
-        if !is_extension(rest.protocol) {
-            return Ok(rest);
-        }
-        rest = without_extension(rest)?;
-    }
-    Ok(rest)
-}
-
-/// Returns the payload behind the extension header at its front.
-#[tactic(auto, unfolding(crate::specs::Frame::without_extension))]
-fn without_extension(payload: Payload<'_>) -> Result<Payload<'_>, NoPacket>
-    ensures { payload_result result ≡ without_extension (payload_of payload.entry) }
+/// Returns what follows an extension header.
+#[tactic(auto, unfolding(crate::specs::Frame::extension))]
+fn extension(number: u8, payload: Payload<'_>) -> Result<Payload<'_>, NoPacket>
+    ensures { payload_result result ≡ extension number (payload_of payload.entry) }
 {
     let bytes = payload.bytes;
     if payload.size < 8 {
@@ -358,34 +510,63 @@ fn without_extension(payload: Payload<'_>) -> Result<Payload<'_>, NoPacket>
     if bytes.len() < 8 {
         return Err(NoPacket::Cut);
     }
-    let extension = 8 * (bytes[1] as usize + 1);
-    if payload.size < extension {
+    let size = extension_size(number, bytes);
+    if payload.size < size {
         return Err(NoPacket::Malformed);
     }
-    Ok(Payload {
-        addresses: payload.addresses,
-        protocol: bytes[0],
-        size: payload.size - extension,
-        bytes: after(bytes, extension),
-    })
+    if number == AUTHENTICATION_HEADER && bytes[1] == 0 {
+        return Err(NoPacket::Malformed);
+    }
+    if number == FRAGMENT_HEADER && is_ipv6_fragment(bytes) {
+        return Err(NoPacket::Fragment);
+    }
+    if bytes.len() < size {
+        return Err(NoPacket::Cut);
+    }
+    Ok(behind(size, Protocol::Number(bytes[0]), payload))
 }
 
-/// Returns whether this is an extension header that says how long it is.
-fn is_extension(protocol: u8) -> bool
-    ensures { result ≡ is_extension protocol }
+/// Returns the size of an extension header.
+fn extension_size(number: u8, bytes: &[u8]) -> usize
+    requires { 8 ≤ length bytes.now }
+    ensures { result ≡ extension_size number bytes.now }
 {
-    matches!(protocol, 0 | 43 | 60)
+    let said = bytes[1] as usize;
+    match number {
+        FRAGMENT_HEADER => 8,
+        AUTHENTICATION_HEADER => 4 * (said + 2),
+        _ => 8 * (said + 1),
+    }
 }
 
-/// Returns whether this protocol may carry SCTP.
-fn may_carry_sctp(protocol: u8) -> bool
-    ensures { result ≡ may_carry_sctp protocol }
+/// Returns whether a fragment header is that of one of several fragments.
+fn is_ipv6_fragment(bytes: &[u8]) -> bool
+    requires { 8 ≤ length bytes.now }
+    ensures { result ≡ is_ipv6_fragment bytes.now }
 {
-    matches!(protocol, SCTP_PROTOCOL | UDP_PROTOCOL)
+    let field = number16(&bytes[2..]);
+    field / 8 != 0 || field % 2 != 0
+}
+
+/// Returns whether this protocol is an extension header.
+fn is_extension(number: u8) -> bool
+    ensures { result ≡ is_extension number }
+{
+    matches!(
+        number,
+        0 | 43 | FRAGMENT_HEADER | AUTHENTICATION_HEADER | 60 | 140
+    )
+}
+
+/// Returns whether this protocol in IPv4 may carry SCTP.
+fn may_carry_sctp(number: u8) -> bool
+    ensures { result ≡ may_carry_sctp number }
+{
+    matches!(number, SCTP_PROTOCOL | UDP_PROTOCOL | AUTHENTICATION_HEADER)
 }
 
 /// Returns the number of the first two bytes, most significant byte first.
-fn number16(bytes: &[u8]) -> u16
+pub(crate) fn number16(bytes: &[u8]) -> u16
     requires { 2 ≤ length bytes.now }
     ensures { result ≡ number16 bytes.now }
 {

@@ -55,6 +55,17 @@ impl<'a> HexBytes<'a> {
         }
         Ok(())
     }
+
+    /// Appends the bytes that are left to a vector that has room for them.
+    pub fn append_reserved(self, output: &mut Vec<u8>)
+        requires { vec_len output.old + length self ≤ vec_capacity output.old }
+        ensures items { output.new.items ≡ output.old.items ++ self.entry }
+        ensures capacity { vec_capacity output.new ≡ vec_capacity output.old }
+    {
+        for byte in self {
+            output.push_reserved(byte);
+        }
+    }
 }
 
 impl<'a> Iterator for HexBytes<'a> {
@@ -134,7 +145,7 @@ fn says_bytes(text: &[u8]) -> bool
 }
 
 /// Returns whether two digits are at the front.
-fn begins_with_byte(text: &[u8]) -> bool
+pub(crate) fn begins_with_byte(text: &[u8]) -> bool
     ensures { result ≡ begins_with_byte text.now }
 {
     text.len() > 1 && text[0].is_ascii_hexdigit() && text[1].is_ascii_hexdigit()

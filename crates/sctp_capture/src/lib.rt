@@ -1,9 +1,13 @@
-//! Finds SCTP packets in captures: in pcap files, in frames of a link, and in lines of text.
+//! Finds SCTP packets in captures: in pcap and pcapng files, in frames of a link, and in lines of
+//! text.
 //!
 //! Every function takes bytes in memory and returns what a definition of `specs/` says of them.
-//! Only `HexBytes::append_to` allocates.
+//! Only `TextDecoder::new`, `PcapngDecoder::new` and `HexBytes::append_to` allocate.
 #![tactic(auto)]
 
+pub mod decoder;
+mod dump;
+pub mod event;
 pub mod frame;
 pub mod hex_bytes;
 pub mod laws;
@@ -11,3 +15,7 @@ pub mod line;
 pub mod log_time;
 mod parts;
 pub mod pcap;
+pub mod pcap_decoder;
+pub mod pcapng;
+pub mod pcapng_decoder;
+pub mod text;

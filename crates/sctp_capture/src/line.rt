@@ -1,12 +1,12 @@
 //! Lines of text that hold packets: in hexadecimal, of a log, or of a dump with offsets.
 
-ghost use Rattle.std.specs.Prelude.{◌≡◌, ◌≤◌, ◌<◌, ◌==◌, not, All, IsTrue, length, position};
+ghost use Rattle.std.specs.Prelude.{◌≡◌, ◌≤◌, ◌<◌, ◌==◌, not, All, IsTrue, length, position, take};
 ghost use Rattle.std.specs.Char.{is_ascii_hexdigit};
 ghost use Rattle.std.specs.List.{list_all};
 ghost use Rattle.sctp_capture.specs.HexBytes.{is_blank, hex_bytes};
-ghost use Rattle.sctp_capture.specs.Line.{line_of, text_line, packet_line, log_line, dump_line, place_of, is_in_time, is_time, word, after_word, marked_bytes, dumped_bytes, is_gap, groups_length, hex_number, offset_length, has_offset, is_printable};
+ghost use Rattle.sctp_capture.specs.Line.{line_of, text_line, packet_line, has_direction, behind_direction, begins_log, log_from, log_line, dump_line, place_of, is_in_time, is_time, word, after_word, marked_bytes, dumped, dumped_bytes, is_byte_alone, behind_offset, has_hexdump_offset, has_wireshark_offset, barred_bytes, hexdump_line, wireshark_line, is_gap, groups_length, hex_number, offset_length, has_offset, is_printable};
 
-use crate::hex_bytes::{HexBytes, digit, is_blank, without_blanks_before};
+use crate::hex_bytes::{HexBytes, begins_with_byte, digit, is_blank, without_blanks_before};
 use crate::log_time::LogTime;
 use crate::parts::after;
 
@@ -35,8 +35,14 @@ pub struct LoggedPacket<'a> {
 pub enum DumpForm {
     /// Of `xxd`: `00000010: 1388 1388 ..`. The bytes are those of an SCTP packet.
     Xxd,
-    /// Of `tcpdump -x`: `0x0010:  1388 1388 ..`. The bytes are those of an IP packet.
+    /// Of `tcpdump -x` and `-xx`: `0x0010:  1388 1388 ..`. The bytes are those of an IP packet, or
+    /// of a frame.
     Tcpdump,
+    /// Of `hexdump -C` and `od -A x -t x1`: `00000010  13 88 13 88 ..`. Nothing says what the bytes
+    /// are.
+    Hexdump,
+    /// Of Wireshark and `tshark -x`: `0010  13 88 13 88 ..`. Nothing says what the bytes are.
+    Wireshark,
 }
 
 /// A line of a dump.
@@ -93,17 +99,21 @@ pub fn place_of(offset: u32, held: usize) -> Place
 }
 
 /// Reads a line of text, without its line feed. Blanks (spaces, tabs and carriage returns) at its
-/// beginning and its end are ignored. The forms, in the order in which they are tried, each by the
-/// line's beginning:
+/// beginning and its end are ignored. The forms, in the order in which they are tried, a dump by
+/// the line's beginning:
 ///
 /// - nothing: `Blank`; `#`: `Comment`;
-/// - `I ` or `O `: `Logged`, as WebRTC logs packets for `text2pcap`:
-///   `I 12:34:56.789 0000 13 88 .. # SCTP_PACKET`; anything may follow the mark, but no other text
-///   may come before the direction;
 /// - `0x`: `Dumped`, as `tcpdump -x` and `-X` write it: an offset of one to eight digits, a colon,
-///   and groups of digits;
-/// - one to eight digits and a colon: `Dumped`, as `xxd` writes it; in both forms of dump, two
-///   blanks in a row end the bytes, and only printable ASCII may follow;
+///   a blank, and groups of digits;
+/// - one to eight digits, a colon and a blank: `Dumped`, as `xxd` writes it; in both forms of dump,
+///   two blanks in a row end the bytes, and only printable ASCII may follow;
+/// - six to eight digits, blanks and a byte: `Dumped`, as `hexdump -C` writes it, where the first
+///   `|` ends the bytes, and as `od -A x -t x1` does; the digits alone, of which the first two are
+///   0, are the last line, which says the length;
+/// - four digits, two blanks and a byte: `Dumped`, as Wireshark writes it; two blanks in a row end
+///   the bytes;
+/// - `I ` or `O `, a time and `0000 `, anywhere: `Logged`, as WebRTC logs packets for `text2pcap`:
+///   `I 12:34:56.789 0000 13 88 .. # SCTP_PACKET`; anything may come before, and follow the mark;
 /// - anything else: `Packet`, if it is digits, two a byte, of either case, with blanks between
 ///   bytes.
 ///
@@ -122,16 +132,21 @@ fn read_text(text: &[u8]) -> Line<'_>
         Line::Blank
     } else if text[0] == b'#' {
         Line::Comment
-    } else if text.starts_with(b"I ") {
-        log_line(Direction::Incoming, without_blanks_before(after(text, 2)))
-    } else if text.starts_with(b"O ") {
-        log_line(Direction::Outgoing, without_blanks_before(after(text, 2)))
     } else if text.starts_with(b"0x") {
         dump_line(DumpForm::Tcpdump, after(text, 2))
     } else if has_offset(text) {
         dump_line(DumpForm::Xxd, text)
+    } else if has_hexdump_offset(text) {
+        hexdump_line(text)
+    } else if has_wireshark_offset(text) {
+        wireshark_line(text)
     } else {
-        packet_line(text)
+        let log = log_from(text);
+        if log.is_empty() {
+            packet_line(text)
+        } else {
+            log_line(log)
+        }
     }
 }
 
@@ -145,18 +160,18 @@ fn packet_line(text: &[u8]) -> Line<'_>
     }
 }
 
-/// Reads a line of a log behind its direction.
-fn log_line(direction: Direction, text: &[u8]) -> Line<'_>
-    ensures { result ≡ log_line direction text.now }
+/// Reads a line of a log from its direction on.
+fn log_line(text: &[u8]) -> Line<'_>
+    requires { 0 < length text.now }
+    ensures { result ≡ log_line text.now }
 {
-    let (time, rest) = first_word(text);
-    if !is_time(time) {
-        return Line::Unknown;
-    }
-    if !rest.starts_with(b"0000 ") {
-        return Line::Unknown;
-    }
-    match marked_bytes(&rest[5..]) {
+    let direction = if text[0] == b'I' {
+        Direction::Incoming
+    } else {
+        Direction::Outgoing
+    };
+    let (time, rest) = first_word(behind_direction(text));
+    match marked_bytes(after(rest, 5)) {
         Some(packet) => Line::Logged(LoggedPacket {
             direction,
             time: LogTime::new(time),
@@ -164,6 +179,47 @@ fn log_line(direction: Direction, text: &[u8]) -> Line<'_>
         }),
         None => Line::Unknown,
     }
+}
+
+/// Returns the text from the first place on where a line of a log begins; nothing if there is none.
+#[tactic(auto, using(crate::proofs::Logs::log_none))]
+fn log_from(text: &[u8]) -> &[u8]
+    ensures { result.now ≡ log_from text.now }
+{
+    let mut offset = 0;
+    while offset < text.len() {
+        if begins_log(&text[offset..]) {
+            return &text[offset..];
+        }
+        offset += 1;
+    }
+    &text[offset..]
+}
+
+/// Returns whether a direction, a time and the offset 0000 are at the front.
+#[tactic(auto, unfolding(crate::specs::Line::begins_log))]
+fn begins_log(text: &[u8]) -> bool
+    ensures { result ≡ begins_log text.now }
+{
+    if !has_direction(text) {
+        return false;
+    }
+    let (time, rest) = first_word(behind_direction(text));
+    is_time(time) && rest.starts_with(b"0000 ")
+}
+
+/// Returns whether a direction is at the front.
+fn has_direction(text: &[u8]) -> bool
+    ensures { result ≡ has_direction text.now }
+{
+    text.len() > 1 && matches!(text[0], b'I' | b'O') && text[1] == b' '
+}
+
+/// Returns what follows the direction and the blanks behind it.
+fn behind_direction(text: &[u8]) -> &[u8]
+    ensures { result.now ≡ behind_direction text.now }
+{
+    without_blanks_before(after(text, 2))
 }
 
 /// Returns the first word, and what follows the blanks behind it.
@@ -234,9 +290,16 @@ fn dump_line(form: DumpForm, text: &[u8]) -> Line<'_>
     if !has_offset(text) {
         return Line::Unknown;
     }
-    let length = offset_length(text);
-    let offset = hex_number(&text[..length]);
-    match dumped_bytes(without_blanks_before(&text[length + 1..])) {
+    let offset = number_before(text);
+    let rest = &text[offset_length(text) + 1..];
+    dumped(form, offset, dumped_bytes(without_blanks_before(rest)))
+}
+
+/// Returns what a line of a dump says: nothing that is known, without bytes.
+fn dumped(form: DumpForm, offset: u32, bytes: Option<HexBytes<'_>>) -> Line<'_>
+    ensures { result ≡ dumped form offset bytes.entry }
+{
+    match bytes {
         Some(bytes) => Line::Dumped(DumpedBytes {
             form,
             offset,
@@ -246,14 +309,106 @@ fn dump_line(form: DumpForm, text: &[u8]) -> Line<'_>
     }
 }
 
-/// Returns whether the text begins with one to eight digits and a colon.
+/// Returns the number that the digits at the beginning say.
+fn number_before(text: &[u8]) -> u32
+    requires { offset_length text.now ≤ 8 }
+    ensures { result ≡ hex_number (take (offset_length text.now) text.now) }
+{
+    let length = offset_length(text);
+    hex_number(&text[..length])
+}
+
+/// Returns what follows the digits at the beginning and the blanks behind them.
+fn behind_offset(text: &[u8]) -> &[u8]
+    ensures { result.now ≡ behind_offset text.now }
+{
+    without_blanks_before(after(text, offset_length(text)))
+}
+
+/// Reads a line of a dump by `hexdump`.
+fn hexdump_line(text: &[u8]) -> Line<'_>
+    requires { offset_length text.now ≤ 8 }
+    ensures { result ≡ hexdump_line text.now }
+{
+    let offset = number_before(text);
+    dumped(DumpForm::Hexdump, offset, barred_bytes(behind_offset(text)))
+}
+
+/// Reads a line of a dump by Wireshark.
+fn wireshark_line(text: &[u8]) -> Line<'_>
+    requires { offset_length text.now ≤ 8 }
+    ensures { result ≡ wireshark_line text.now }
+{
+    let offset = number_before(text);
+    dumped(
+        DumpForm::Wireshark,
+        offset,
+        dumped_bytes(behind_offset(text)),
+    )
+}
+
+/// Returns whether the text begins with six to eight digits and a byte, or is a length.
+fn has_hexdump_offset(text: &[u8]) -> bool
+    ensures value { result ≡ has_hexdump_offset text.now }
+    ensures short { IsTrue result → offset_length text.now ≤ 8 }
+{
+    let length = offset_length(text);
+    let rest = behind_offset(text);
+    length >= 6
+        && length <= 8
+        && (is_byte_alone(rest) || rest.is_empty() && text.starts_with(b"00"))
+}
+
+/// Returns whether the text begins with four digits, two blanks and a byte.
+fn has_wireshark_offset(text: &[u8]) -> bool
+    ensures value { result ≡ has_wireshark_offset text.now }
+    ensures short { IsTrue result → offset_length text.now ≤ 8 }
+{
+    offset_length(text) == 4
+        && text.len() > 4
+        && is_gap(&text[4..], 0)
+        && is_byte_alone(behind_offset(text))
+}
+
+/// Returns whether the text begins with a byte, and a blank or nothing behind it.
+fn is_byte_alone(text: &[u8]) -> bool
+    ensures { result ≡ is_byte_alone text.now }
+{
+    begins_with_byte(text) && (text.len() == 2 || is_blank(text[2]))
+}
+
+/// Returns the bytes before a `|`.
+#[tactic(auto, using(crate::proofs::Places::first_place, crate::proofs::Places::place_within))]
+fn barred_bytes(text: &[u8]) -> Option<HexBytes<'_>>
+    ensures { result ≡ barred_bytes text.now }
+{
+    let offset = first_bar(text).unwrap_or(text.len());
+    if are_printable(&text[offset..]) {
+        HexBytes::from_text(&text[..offset])
+    } else {
+        None
+    }
+}
+
+/// Returns the offset of the first `|`.
+fn first_bar(text: &[u8]) -> Option<usize>
+    ensures { result ≡ position (λ byte. byte == 124) text.now }
+{
+    text.iter().position(|byte| *byte == b'|')
+}
+
+/// Returns whether the text begins with one to eight digits, a colon and a blank.
 fn has_offset(text: &[u8]) -> bool
     ensures value { result ≡ has_offset text.now }
     ensures inside { IsTrue result → offset_length text.now < length text.now }
     ensures short { IsTrue result → offset_length text.now ≤ 8 }
 {
     let length = offset_length(text);
-    length > 0 && length <= 8 && length < text.len() && text[length] == b':'
+    length > 0
+        && length <= 8
+        && length + 1 < text.len()
+        && text[length] == b':'
+        && is_blank(text[length + 1])
 }
 
 /// Returns how many digits the text begins with.

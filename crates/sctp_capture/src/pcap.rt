@@ -3,7 +3,7 @@
 ghost use Rattle.std.specs.Prelude.{◌≡◌, ◌≤◌, ◌++◌, ℕ, List, length, take, drop};
 ghost use Rattle.std.specs.Int.{w16, w32};
 ghost use Rattle.sctp_capture.specs.Number.{number_in};
-ghost use Rattle.sctp_capture.specs.Pcap.{magic_format, input_kind, file_header, record_header, record_bytes, record_of};
+ghost use Rattle.sctp_capture.specs.Pcap.{magic_format, input_kind, file_header, record_header, record_bytes, record_of, Fits};
 
 /// The size of a file header in bytes.
 pub const FILE_HEADER_SIZE: usize = 24;
@@ -43,7 +43,7 @@ pub struct PcapFormat {
 pub enum InputKind {
     /// A pcap file.
     Pcap(PcapFormat),
-    /// A pcapng file, which this crate doesn't read.
+    /// A pcapng file.
     Pcapng,
     /// Anything else, fewer than four bytes too.
     Text,
@@ -115,6 +115,8 @@ pub fn read_record_header(order: ByteOrder, bytes: &[u8]) -> RecordHeader
     ensures value { result ≡ record_header order bytes.now }
     ensures begins { (frame : List ℕ) → length frame ≡ result.captured_length
         → record_bytes order (record_of result frame) ≡ take 16 bytes.now ++ frame }
+    ensures fits { (frame : List ℕ) → length frame ≡ result.captured_length
+        → Fits (record_of result frame) }
 {
     RecordHeader {
         seconds: read_u32(order, bytes),
@@ -143,7 +145,7 @@ fn magic_format(bytes: &[u8]) -> Option<PcapFormat>
 }
 
 /// Reads the number of the first two bytes.
-fn read_u16(order: ByteOrder, bytes: &[u8]) -> u16
+pub(crate) fn read_u16(order: ByteOrder, bytes: &[u8]) -> u16
     requires { 2 ≤ length bytes.now }
     ensures { result ≡ number_in order w16 bytes.now }
 {
@@ -155,7 +157,7 @@ fn read_u16(order: ByteOrder, bytes: &[u8]) -> u16
 }
 
 /// Reads the number of the first four bytes.
-fn read_u32(order: ByteOrder, bytes: &[u8]) -> u32
+pub(crate) fn read_u32(order: ByteOrder, bytes: &[u8]) -> u32
     requires { 4 ≤ length bytes.now }
     ensures { result ≡ number_in order w32 bytes.now }
 {

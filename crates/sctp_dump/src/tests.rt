@@ -1,10 +1,10 @@
 //! The program over captures in memory, and over devices that fail.
 
-use dump_engine::{Counts, Failure, Form, Options, dump};
+use dump_engine::{Form, Options, Printer, Stop, TextPrinter, read_input};
+use sctp_capture::decoder::Fault as Unreadable;
 use std::alloc::Global;
 use std::io::ErrorKind;
 use watched_io::faulty::{Fault, Plan, Sink, Source, fails, steps};
-use watched_io::output::Output;
 use watched_io::watched::Watched;
 use watched_io::window::Window;
 
@@ -13,6 +13,7 @@ const PLAIN: Options = Options {
     summary: false,
     strict: false,
     payload: false,
+    udp_port: 9899,
     form: Form::Detected,
 };
 
@@ -23,37 +24,29 @@ const FIRST: &str =
     "packet 1\nsource 5000, destination 5000, tag 0x01020304\nchecksum 0x00000000: zero\nCOOKIE ACK\n\n";
 
 const BOTH: &str =
-    "packet 1\nsource 5000, destination 5000, tag 0x01020304\nchecksum 0x00000000: zero\nCOOKIE ACK\n\npacket 2\nerror: invalid chunk: length\nat byte 12\n0000: 13 88 13 88 01 02 03 04 00 00 00 00 0b 00 00 03\n                                          ^^\n\n";
+    "packet 1\nsource 5000, destination 5000, tag 0x01020304\nchecksum 0x00000000: zero\nCOOKIE ACK\n\npacket 2\nsource 5000, destination 5000, tag 0x01020304\nchecksum 0x00000000: zero\nerror: COOKIE ACK: length 3, but 4 are needed\nat byte 12\n0000: 13 88 13 88 01 02 03 04 00 00 00 00 0b 00 00 03\n                                          ^^\n\n";
 
 const BROKEN: Fault = Fault::Error(ErrorKind::BrokenPipe);
 
-/// What a run ends with, how many bytes it wrote, and whether these are a beginning of what is
+/// What reading ends with, how many bytes were written, and whether these are a beginning of what is
 /// wanted.
 fn run(
     alloc: Global,
     options: Options,
     (bytes, reads): (&[u8], Plan),
     (wanted, writes): (&str, Plan),
-) -> (Result<(), Failure>, usize, bool) {
+) -> (Result<(), Stop>, usize, bool) {
     let Ok(mut window) = Window::new(alloc) else {
-        return (Err(Failure::OutOfMemory), 0, false);
+        return (Err(Stop::OutOfMemory), 0, false);
     };
     let mut input = Watched::new(Source::new(bytes, reads));
     let sink = Watched::new(Sink::new(wanted.as_bytes(), writes));
-    let mut output = Output::new(alloc, sink);
-    let mut counts = Counts::new();
-    let outcome = dump(
-        alloc,
-        &options,
-        &mut window,
-        &mut input,
-        &mut output,
-        &mut counts,
-    );
-    if outcome != Err(Failure::Write) {
-        let _ = output.finish();
+    let mut printer = TextPrinter::new(alloc, options, sink);
+    let outcome = read_input(alloc, options.form, &mut window, &mut input, &mut printer);
+    if outcome != Err(Stop::Printer) {
+        printer.show();
     }
-    let sink = output.into_writer().into_device();
+    let sink = printer.into_writer().into_device();
     (outcome, sink.taken, sink.as_wanted)
 }
 
@@ -82,7 +75,7 @@ fn failed_read(rt: HostRuntime) {
         (TWO_LINES.as_bytes(), reads),
         (BOTH, steps(100_000)),
     );
-    assert!(rt; ended == (Err(Failure::Read), FIRST.len(), true));
+    assert!(rt; ended == (Err(Stop::Read), FIRST.len(), true));
 }
 
 // The writer fails at its second call, after ten bytes: nothing is written twice.
@@ -95,20 +88,30 @@ fn failed_write(rt: HostRuntime) {
         (TWO_LINES.as_bytes(), steps(33)),
         (BOTH, writes),
     );
-    assert!(rt; ended == (Err(Failure::Write), 10, true));
+    assert!(rt; ended == (Err(Stop::Printer), 10, true));
 }
 
 /// Inputs that begin as captures, and what they end with.
-const HOSTILE: &[(&[u8], &str, Result<(), Failure>)] = &[
+const HOSTILE: &[(&[u8], &str, Result<(), Stop>)] = &[
     (b"", "", Ok(())),
     (b"\n\n# nothing\n", "", Ok(())),
-    (b"\x0a\x0d\x0d\x0a", "", Err(Failure::Pcapng)),
-    (b"\xd4\xc3\xb2\xa1\x02\x00", "", Err(Failure::ShortHeader)),
+    // A section header that ends in its type.
+    (
+        b"\x0a\x0d\x0d\x0a",
+        "record 1 skipped: the file ends in it\n\n",
+        Ok(()),
+    ),
+    (
+        b"\xd4\xc3\xb2\xa1\x02\x00",
+        "",
+        Err(Stop::Fault(Unreadable::ShortHeader)),
+    ),
+    (b"\x1f\x8b\x08\x00", "", Err(Stop::Compressed)),
     // Link type 147.
     (
         b"\xd4\xc3\xb2\xa1\x02\x00\x04\x00\x00\x00\x00\x00\x00\x00\x00\x00\x00\x00\x00\x00\x93\x00\x00\x00",
         "",
-        Err(Failure::LinkType(147)),
+        Err(Stop::Fault(Unreadable::LinkType(147))),
     ),
     // A snapshot length of zero, and no record.
     (
@@ -119,13 +122,13 @@ const HOSTILE: &[(&[u8], &str, Result<(), Failure>)] = &[
     // A record of 2^32 - 1 bytes.
     (
         b"\xd4\xc3\xb2\xa1\x02\x00\x04\x00\x00\x00\x00\x00\x00\x00\x00\x00\xff\xff\x00\x00\x65\x00\x00\x00\x00\x00\x00\x00\x00\x00\x00\x00\xff\xff\xff\xff\xff\xff\xff\xff\x00",
-        "record 1 skipped: more than 262144 bytes\n",
+        "record 1 skipped: more than 262144 bytes\n\n",
         Ok(()),
     ),
     // A record of 100 bytes, of which there is one.
     (
         b"\xd4\xc3\xb2\xa1\x02\x00\x04\x00\x00\x00\x00\x00\x00\x00\x00\x00\xff\xff\x00\x00\x65\x00\x00\x00\x00\x00\x00\x00\x00\x00\x00\x00\x64\x00\x00\x00\x64\x00\x00\x00\x00",
-        "record 1 skipped: the file ends in it\n",
+        "record 1 skipped: the file ends in it\n\n",
         Ok(()),
     ),
 ];

@@ -1,104 +1,82 @@
 //! What is printed of an error cause.
 
-ghost use Rattle.std.specs.Prelude.{◌≡◌, ℕ};
-ghost use Rattle.std.specs.Fmt.{WritesOnOk};
-ghost use Rattle.dcsctp_cause.specs.Cause.{CauseTree, view};
-ghost use Rattle.sctp_report.specs.Causes.{parameter_type_line, missing_lines, cause_name, cause_lines};
-
-use crate::bytes::{Bytes, Quoted};
-use crate::hexadecimal::Hex16;
-use crate::lines::{Lines, write_each};
-use dcsctp_wire::packet::error_causes::ErrorCause;
+use crate::names::cause_name;
+use crate::part::{Item, Part, Quoted, Shown};
+use dcsctp_borrowed::missing_parameters::missing_parameters;
+use dcsctp_wire::packet::parameter::RawParameter;
+use dcsctp_wire::packet::read_u32_be;
 use std::fmt;
 
-impl Lines for ErrorCause {
-    ghost Tree = { CauseTree };
-
-    ghost view = { view };
-
-    ghost lines = { cause_lines };
-
-    fn write_lines<W: fmt::Write>(&self, most: usize, f: &mut fmt::Formatter<W>) -> fmt::Result {
-        match self {
-            ErrorCause::MissingMandatoryParameter(c) => {
-                write_missing(&c.missing_parameters, most, f)
-            }
-            ErrorCause::UnrecognizedChunk(c) => {
-                let chunk = Bytes {
-                    bytes: &c.chunk,
-                    most,
-                };
-                writeln!(f, "  cause 0x0006 Unrecognized Chunk Type: {chunk}")
-            }
-            ErrorCause::NoUserData(c) => {
-                let tsn = c.tsn;
-                writeln!(f, "  cause 0x0009 No User Data: tsn {tsn}")
-            }
-            ErrorCause::CookieReceivedWhileShuttingDown(_) => {
-                f.write_str("  cause 0x000a Cookie Received While Shutting Down\n")
-            }
-            ErrorCause::UserInitiatedAbort(c) => {
-                let reason = Quoted(&c.reason);
-                writeln!(f, "  cause 0x000c User-Initiated Abort: {reason}")
-            }
-            ErrorCause::ProtocolViolation(c) => {
-                let information = Quoted(&c.information);
-                writeln!(f, "  cause 0x000d Protocol Violation: {information}")
-            }
-            ErrorCause::Unknown(c) => {
-                let (code, value) = (
-                    Hex16(c.typ),
-                    Bytes {
-                        bytes: &c.value,
-                        most,
-                    },
-                );
-                let name = cause_name(c.typ);
-                writeln!(f, "  cause {code} {name}: {value}")
-            }
-        }
-    }
-}
-
-/// The type of a parameter that is missing.
-impl Lines for u16 {
-    ghost Tree = { ℕ };
-
-    ghost view = { λ n. n };
-
-    ghost lines = { λ most typ. parameter_type_line typ };
-
-    fn write_lines<W: fmt::Write>(&self, _most: usize, f: &mut fmt::Formatter<W>) -> fmt::Result {
-        let typ = Hex16(*self);
-        writeln!(f, "    parameter type {typ}")
-    }
-}
-
-/// Writes the lines of Missing Mandatory Parameter.
-fn write_missing<W: fmt::Write>(
-    types: &[u16],
+/// Writes the lines of each cause of a list, as far as there are causes.
+pub fn write_causes<W: fmt::Write>(
+    list: Part<'_>,
     most: usize,
     f: &mut fmt::Formatter<W>,
-) -> fmt::Result
-    ensures { WritesOnOk W.write_str_gives f.old result (missing_lines types.now) f.new }
-{
-    f.write_str("  cause 0x0002 Missing Mandatory Parameter\n")?;
-    write_each(types, most, f)
+) -> fmt::Result {
+    let mut rest = list;
+    // Each has four bytes at least.
+    for _ in 0..list.bytes.len() / 4 {
+        let Some(cause) = rest.item() else {
+            return Ok(());
+        };
+        write_cause(cause, most, f)?;
+        rest = rest.after(cause.padded);
+    }
+    Ok(())
 }
 
-/// The name of a cause that is kept as bytes.
-#[tactic(auto, unfolding(crate::specs::Causes::cause_name))]
-fn cause_name(code: u16) -> &'static str
-    ensures { result.now ≡ cause_name code }
-{
-    match code {
-        1 => "Invalid Stream Identifier",
-        3 => "Stale Cookie",
-        4 => "Out of Resource",
-        5 => "Unresolvable Address",
-        7 => "Invalid Mandatory Parameter",
-        8 => "Unrecognized Parameters",
-        11 => "Restart of an Association with New Addresses",
-        _ => "unknown",
+/// Writes the lines of a cause.
+fn write_cause<W: fmt::Write>(
+    cause: Item<'_>,
+    most: usize,
+    f: &mut fmt::Formatter<W>,
+) -> fmt::Result {
+    let (code, value) = (cause.code(), cause.value);
+    let name = cause_name(code);
+    write!(f, "  cause {code:#06x} {name}")?;
+    if value.is_whole() && write_meaning(code, value.bytes, f)? {
+        return Ok(());
     }
+    let shown = Shown { part: value, most };
+    writeln!(f, ": {shown}")
+}
+
+/// Writes what a value means, after the name; returns false, and writes nothing, where it isn't
+/// known to mean anything but its bytes.
+fn write_meaning<W: fmt::Write>(
+    code: u16,
+    value: &[u8],
+    f: &mut fmt::Formatter<W>,
+) -> Result<bool, fmt::Error> {
+    match code {
+        2 => return write_missing(code, value, f),
+        9 if value.len() == 4 => {
+            let tsn = read_u32_be(value);
+            writeln!(f, ": tsn {tsn}")?;
+        }
+        10 if value.is_empty() => f.write_str("\n")?,
+        12 | 13 => {
+            let text = Quoted(value);
+            writeln!(f, ": {text}")?;
+        }
+        _ => return Ok(false),
+    }
+    Ok(true)
+}
+
+/// Writes the types that a Missing Mandatory Parameter lists.
+fn write_missing<W: fmt::Write>(
+    code: u16,
+    value: &[u8],
+    f: &mut fmt::Formatter<W>,
+) -> Result<bool, fmt::Error> {
+    let Some(types) = missing_parameters(&RawParameter { typ: code, value }) else {
+        return Ok(false);
+    };
+    f.write_str("\n")?;
+    for i in 0..types.count() {
+        let typ = types.number(i);
+        writeln!(f, "    parameter type {typ:#06x}")?;
+    }
+    Ok(true)
 }

@@ -1,249 +1,235 @@
 //! What is printed of a chunk.
 
-ghost use Rattle.std.specs.Prelude.{◌≡◌, ℕ};
-ghost use Rattle.std.specs.Fmt.{WritesOnOk};
-ghost use Rattle.std.specs.List.{flat_map};
-ghost use Rattle.dcsctp_chunk.specs.DataChunk.{view as data_view};
-ghost use Rattle.dcsctp_chunk.specs.IDataChunk.{view as i_data_view};
-ghost use Rattle.dcsctp_chunk.specs.Data.{user_data_view};
-ghost use Rattle.dcsctp_chunk.specs.SkippedStreams.{SkippedStreamTree, skipped_stream_view};
-ghost use Rattle.dcsctp_chunk.specs.Sack.{view as sack_view};
-ghost use Rattle.dcsctp_chunk.specs.declared.sack_chunk.GapAckBlock.{GapAckBlock};
-ghost use Rattle.dcsctp_wire.specs.Chunk.{ChunkTree, view};
-ghost use Rattle.sctp_report.specs.Chunks.{word_if, ppid_name, order_word, data_lines, i_data_lines, init_line, bits_text, payload_lines, ppid_or_fsn_text, sack_lines, block_line, duplicate_line, skipped_line, chunk_lines};
+ghost use Rattle.std.specs.Prelude.{◌≤◌, length};
 
-use crate::bytes::Bytes;
-use crate::hexadecimal::{Hex8, Hex32};
-use crate::lines::{Lines, write_each};
-use dcsctp_types::api::PpId;
-use dcsctp_types::types::{StreamKey, Tsn};
-use dcsctp_wire::packet::SkippedStream;
-use dcsctp_wire::packet::chunk::Chunk;
-use dcsctp_wire::packet::data::Data;
-use dcsctp_wire::packet::data_chunk::DataChunk;
-use dcsctp_wire::packet::idata_chunk::IDataChunk;
-use dcsctp_wire::packet::sack_chunk::{GapAckBlock, SackChunk};
+use crate::causes::write_causes;
+use crate::names::{ChunkName, PayloadProtocol};
+use crate::parameters::write_parameters;
+use crate::part::{Item, Part, Shown};
+use dcsctp_borrowed::forward_tsn_ref::ForwardTsnRef;
+use dcsctp_borrowed::user_data::UserData;
+use dcsctp_wire::packet::chunk::RawChunk;
+use dcsctp_wire::packet::{SkippedStream, read_u16_be, read_u32_be};
 use std::fmt;
 
-impl Lines for Chunk {
-    ghost Tree = { ChunkTree };
+/// Bytes of the value of INIT and INIT ACK before the parameters.
+pub const INIT_SIZE: usize = 16;
 
-    ghost view = { view };
+/// Bytes of the value of SACK before the gap ack blocks and the duplicate TSNs.
+const SACK_SIZE: usize = 12;
 
-    ghost lines = { chunk_lines };
+/// Writes the lines of each chunk of a list, as far as there are chunks.
+pub fn write_chunks<W: fmt::Write>(
+    list: Part<'_>,
+    most: usize,
+    f: &mut fmt::Formatter<W>,
+) -> fmt::Result {
+    let mut rest = list;
+    // Each has four bytes at least.
+    for _ in 0..list.bytes.len() / 4 {
+        let Some(chunk) = rest.item() else {
+            return Ok(());
+        };
+        write_chunk(chunk, most, f)?;
+        rest = rest.after(chunk.padded);
+    }
+    Ok(())
+}
 
-    fn write_lines<W: fmt::Write>(&self, most: usize, f: &mut fmt::Formatter<W>) -> fmt::Result {
-        match self {
-            Chunk::Data(c) => write_data(c, most, f),
-            Chunk::Init(c) => {
-                write_init_line(
-                    "INIT",
-                    c.initiate_tag,
-                    c.a_rwnd,
-                    c.nbr_outbound_streams,
-                    c.nbr_inbound_streams,
-                    c.initial_tsn,
-                    f,
-                )?;
-                write_each(&c.parameters, most, f)
-            }
-            Chunk::InitAck(c) => {
-                write_init_line(
-                    "INIT ACK",
-                    c.initiate_tag,
-                    c.a_rwnd,
-                    c.nbr_outbound_streams,
-                    c.nbr_inbound_streams,
-                    c.initial_tsn,
-                    f,
-                )?;
-                write_each(&c.parameters, most, f)
-            }
-            Chunk::Sack(c) => write_sack(c, most, f),
-            Chunk::HeartbeatRequest(c) => {
-                f.write_str("HEARTBEAT\n")?;
-                write_each(&c.parameters, most, f)
-            }
-            Chunk::HeartbeatAck(c) => {
-                f.write_str("HEARTBEAT ACK\n")?;
-                write_each(&c.parameters, most, f)
-            }
-            Chunk::Abort(c) => {
-                let reflected = word_if(c.tag_reflected, ", tag reflected");
-                writeln!(f, "ABORT{reflected}")?;
-                write_each(&c.error_causes, most, f)
-            }
-            Chunk::Shutdown(c) => {
-                let tsn = c.cumulative_tsn_ack;
-                writeln!(f, "SHUTDOWN: cumulative tsn {tsn}")
-            }
-            Chunk::ShutdownAck(_) => f.write_str("SHUTDOWN ACK\n"),
-            Chunk::Error(c) => {
-                f.write_str("ERROR\n")?;
-                write_each(&c.error_causes, most, f)
-            }
-            Chunk::CookieEcho(c) => {
-                let cookie = Bytes {
-                    bytes: &c.cookie,
-                    most,
-                };
-                writeln!(f, "COOKIE ECHO: {cookie}")
-            }
-            Chunk::CookieAck(_) => f.write_str("COOKIE ACK\n"),
-            Chunk::ShutdownComplete(c) => {
-                let reflected = word_if(c.tag_reflected, ", tag reflected");
-                writeln!(f, "SHUTDOWN COMPLETE{reflected}")
-            }
-            Chunk::ReConfig(c) => {
-                f.write_str("RE-CONFIG\n")?;
-                write_each(&c.parameters, most, f)
-            }
-            Chunk::ForwardTsn(c) => {
-                let tsn = c.new_cumulative_tsn;
-                writeln!(f, "FORWARD-TSN: new cumulative tsn {tsn}")?;
-                write_each(&c.skipped_streams, most, f)
-            }
-            Chunk::IData(c) => write_i_data(c, most, f),
-            Chunk::IForwardTsn(c) => {
-                let tsn = c.new_cumulative_tsn;
-                writeln!(f, "I-FORWARD-TSN: new cumulative tsn {tsn}")?;
-                write_each(&c.skipped_streams, most, f)
-            }
-            Chunk::Unknown(c) => {
-                let (typ, flags) = (Hex8(c.typ), Hex8(c.flags));
-                let value = Bytes {
-                    bytes: &c.value,
-                    most,
-                };
-                writeln!(f, "unknown chunk: type {typ}, flags {flags}, {value}")
-            }
+/// Writes the lines of a chunk.
+pub fn write_chunk<W: fmt::Write>(
+    chunk: Item<'_>,
+    most: usize,
+    f: &mut fmt::Formatter<W>,
+) -> fmt::Result {
+    let (typ, flags, value) = (chunk.first, chunk.second, chunk.value);
+    if write_head(typ, flags, value, f)? {
+        return match typ {
+            // DATA, I-DATA
+            0 => write_payload(value.after(12), most, f),
+            64 => write_payload(value.after(16), most, f),
+            // INIT, INIT ACK; HEARTBEAT, HEARTBEAT ACK, RE-CONFIG
+            1 | 2 => write_parameters(value.after(INIT_SIZE), most, f),
+            4 | 5 | 130 => write_parameters(value, most, f),
+            // ABORT, ERROR
+            6 | 9 => write_causes(value, most, f),
+            _ => Ok(()),
+        };
+    }
+    let (name, shown) = (ChunkName(typ), Shown { part: value, most });
+    if !name.is_known() {
+        return writeln!(f, "unknown chunk: type {name}, flags {flags:#04x}, {shown}");
+    }
+    write!(f, "{name}: ")?;
+    // Those of COOKIE ECHO have no meaning.
+    if flags != 0 && typ != 10 {
+        write!(f, "flags {flags:#04x}, ")?;
+    }
+    writeln!(f, "{shown}")
+}
+
+/// Writes the line of a chunk's name and numbers, and the lines of a list of numbers; returns
+/// false, and writes nothing, where the chunk isn't known to hold anything but its bytes.
+fn write_head<W: fmt::Write>(
+    typ: u8,
+    flags: u8,
+    value: Part<'_>,
+    f: &mut fmt::Formatter<W>,
+) -> Result<bool, fmt::Error> {
+    let name = ChunkName(typ);
+    let (reflected, whole) = (tag_reflected(flags), value.is_whole());
+    let bytes = value.bytes;
+    match typ {
+        0 | 64 => return write_data(typ, flags, bytes, f),
+        1 | 2 if bytes.len() >= INIT_SIZE => write_init(name, bytes, f)?,
+        3 => return write_sack(value, f),
+        4 | 5 | 9 | 130 => writeln!(f, "{name}")?,
+        6 => writeln!(f, "{name}{reflected}")?,
+        7 if whole && bytes.len() == 4 => {
+            let tsn = read_u32_be(bytes);
+            writeln!(f, "{name}: cumulative tsn {tsn}")?;
         }
+        8 | 11 if value.size == 0 => writeln!(f, "{name}")?,
+        14 if value.size == 0 => writeln!(f, "{name}{reflected}")?,
+        192 | 194 if whole => return write_forward_tsn(typ, flags, bytes, f),
+        _ => return Ok(false),
+    }
+    Ok(true)
+}
+
+/// What the T bit says.
+fn tag_reflected(flags: u8) -> &'static str {
+    if flags % 2 == 1 {
+        ", tag reflected"
+    } else {
+        ""
     }
 }
 
 /// Writes the line of an INIT or an INIT ACK.
-fn write_init_line<W: fmt::Write>(
-    name: &str,
-    tag: u32,
-    a_rwnd: u32,
-    outbound: u16,
-    inbound: u16,
-    tsn: Tsn,
+fn write_init<W: fmt::Write>(
+    name: ChunkName,
+    value: &[u8],
     f: &mut fmt::Formatter<W>,
 ) -> fmt::Result
-    ensures { WritesOnOk W.write_str_gives f.old result
-        (init_line name.now tag a_rwnd outbound inbound tsn.0) f.new }
+    requires { INIT_SIZE ≤ length value.now }
 {
-    let tag = Hex32(tag);
-    writeln!(
-        f,
-        "{name}: tag {tag}, a_rwnd {a_rwnd}, outbound streams {outbound}, inbound streams {inbound}, initial tsn {tsn}"
-    )
-}
-
-/// Writes the lines of a SACK.
-fn write_sack<W: fmt::Write>(c: &SackChunk, most: usize, f: &mut fmt::Formatter<W>) -> fmt::Result
-    ensures { WritesOnOk W.write_str_gives f.old result (sack_lines (sack_view c.now)) f.new }
-{
-    let (tsn, a_rwnd) = (c.cumulative_tsn_ack, c.a_rwnd);
-    writeln!(f, "SACK: cumulative tsn {tsn}, a_rwnd {a_rwnd}")?;
-    write_blocks(&c.gap_ack_blocks, most, f)?;
-    write_each(&c.duplicate_tsns, most, f)
-}
-
-/// Writes the lines of gap ack blocks.
-fn write_blocks<W: fmt::Write>(
-    blocks: &[GapAckBlock],
-    most: usize,
-    f: &mut fmt::Formatter<W>,
-) -> fmt::Result
-    ensures { WritesOnOk W.write_str_gives f.old result (flat_map block_line blocks.now) f.new }
-{
-    write_each(blocks, most, f)
-}
-
-/// Writes the lines of a DATA.
-fn write_data<W: fmt::Write>(c: &DataChunk, most: usize, f: &mut fmt::Formatter<W>) -> fmt::Result
-    ensures { WritesOnOk W.write_str_gives f.old result (data_lines most (data_view c.now)) f.new }
-{
-    let data = &c.user_data;
-    let (tsn, stream, ssn) = (c.tsn, data.stream_key.id(), data.ssn);
-    let (ppid, name) = (data.ppid, ppid_name(data.ppid));
+    let (tag, a_rwnd) = (read_u32_be(value), read_u32_be(&value[4..]));
+    let (outbound, inbound) = (read_u16_be(&value[8..]), read_u16_be(&value[10..]));
+    let tsn = read_u32_be(&value[12..]);
+    write!(f, "{name}: tag {tag:#010x}, a_rwnd {a_rwnd}")?;
     write!(
         f,
-        "DATA: tsn {tsn}, stream {stream}, ssn {ssn}, ppid {ppid}{name}"
+        ", outbound streams {outbound}, inbound streams {inbound}"
     )?;
-    write_bits(data, c.immediate_ack, f)?;
-    write_payload(data, most, f)
+    writeln!(f, ", initial tsn {tsn}")
 }
 
-/// Writes the lines of an I-DATA.
-fn write_i_data<W: fmt::Write>(
-    c: &IDataChunk,
-    most: usize,
+/// Writes the lines of a SACK, as far as its lists were captured, as `write_head` does.
+fn write_sack<W: fmt::Write>(
+    value: Part<'_>,
     f: &mut fmt::Formatter<W>,
-) -> fmt::Result
-    ensures { WritesOnOk W.write_str_gives f.old result
-        (i_data_lines most (i_data_view c.now)) f.new }
-{
-    let data = &c.user_data;
-    let (tsn, stream, mid) = (c.tsn, data.stream_key.id(), data.mid);
-    write!(f, "I-DATA: tsn {tsn}, stream {stream}, mid {mid}")?;
-    write_ppid_or_fsn(data, f)?;
-    write_bits(data, c.immediate_ack, f)?;
-    write_payload(data, most, f)
+) -> Result<bool, fmt::Error> {
+    let bytes = value.bytes;
+    if bytes.len() < SACK_SIZE {
+        return Ok(false);
+    }
+    let (tsn, a_rwnd) = (read_u32_be(bytes), read_u32_be(&bytes[4..]));
+    let blocks = read_u16_be(&bytes[8..]) as usize;
+    let duplicates = read_u16_be(&bytes[10..]) as usize;
+    if value.size != SACK_SIZE + 4 * (blocks + duplicates) {
+        return Ok(false);
+    }
+    writeln!(f, "SACK: cumulative tsn {tsn}, a_rwnd {a_rwnd}")?;
+    let lists = &bytes[SACK_SIZE..];
+    for i in 0..lists.len() / 4 {
+        let field = &lists[4 * i..];
+        if i < blocks {
+            let (start, end) = (read_u16_be(field), read_u16_be(&field[2..]));
+            writeln!(f, "  block {start} to {end}")?;
+        } else {
+            let tsn = read_u32_be(field);
+            writeln!(f, "  duplicate tsn {tsn}")?;
+        }
+    }
+    Ok(true)
 }
 
-/// Writes the payload protocol identifier of a beginning, or else the FSN.
-fn write_ppid_or_fsn<W: fmt::Write>(user_data: &Data, f: &mut fmt::Formatter<W>) -> fmt::Result
-    ensures { WritesOnOk W.write_str_gives f.old result
-        (ppid_or_fsn_text (user_data_view user_data.now)) f.new }
-{
-    if user_data.is_beginning {
-        let (ppid, name) = (user_data.ppid, ppid_name(user_data.ppid));
-        write!(f, ", ppid {ppid}{name}")
-    } else {
-        let fsn = user_data.fsn;
-        write!(f, ", fsn {fsn}")
+/// Writes the lines of a FORWARD-TSN or an I-FORWARD-TSN, as `write_head` does.
+fn write_forward_tsn<W: fmt::Write>(
+    typ: u8,
+    flags: u8,
+    value: &[u8],
+    f: &mut fmt::Formatter<W>,
+) -> Result<bool, fmt::Error> {
+    let Some(forward) = ForwardTsnRef::from_raw(&RawChunk { typ, flags, value }) else {
+        return Ok(false);
+    };
+    let (name, tsn) = (ChunkName(typ), forward.new_cumulative_tsn());
+    writeln!(f, "{name}: new cumulative tsn {tsn}")?;
+    for skipped in forward.skipped_streams() {
+        match skipped {
+            SkippedStream::ForwardTsn(stream, ssn) => {
+                writeln!(f, "  stream {stream}, ssn {ssn}")?;
+            }
+            SkippedStream::IForwardTsn(key, mid) => {
+                let (stream, order) = (key.id(), order_word(key.is_unordered()));
+                writeln!(f, "  stream {stream}{order}, mid {mid}")?;
+            }
+        }
     }
+    Ok(true)
+}
+
+/// Writes what a DATA or an I-DATA says of its payload, as `write_head` does, but for the line
+/// break.
+fn write_data<W: fmt::Write>(
+    typ: u8,
+    flags: u8,
+    value: &[u8],
+    f: &mut fmt::Formatter<W>,
+) -> Result<bool, fmt::Error> {
+    let Some(data) = UserData::from_raw(&RawChunk { typ, flags, value }) else {
+        return Ok(false);
+    };
+    let (name, tsn, stream) = (ChunkName(typ), data.tsn, data.stream_key.id());
+    let (ppid, protocol) = (data.ppid, PayloadProtocol(data.ppid.0));
+    write!(f, "{name}: tsn {tsn}, stream {stream}")?;
+    if typ == 0 {
+        let ssn = data.ssn;
+        write!(f, ", ssn {ssn}, ppid {ppid}{protocol}")?;
+    } else if data.is_beginning {
+        let mid = data.mid;
+        write!(f, ", mid {mid}, ppid {ppid}{protocol}")?;
+    } else {
+        let (mid, fsn) = (data.mid, data.fsn);
+        write!(f, ", mid {mid}, fsn {fsn}")?;
+    }
+    write_bits(&data, f)?;
+    Ok(true)
 }
 
 /// Writes what the bits of a chunk with user data say.
-fn write_bits<W: fmt::Write>(
-    user_data: &Data,
-    immediate_ack: bool,
-    f: &mut fmt::Formatter<W>,
-) -> fmt::Result
-    ensures { WritesOnOk W.write_str_gives f.old result
-        (bits_text (user_data_view user_data.now) immediate_ack) f.new }
-{
-    let order = order_word(user_data.stream_key.is_unordered());
-    let beginning = word_if(user_data.is_beginning, ", beginning");
-    let end = word_if(user_data.is_end, ", end");
-    let immediate = word_if(immediate_ack, ", immediate");
+fn write_bits<W: fmt::Write>(data: &UserData<'_>, f: &mut fmt::Formatter<W>) -> fmt::Result {
+    let order = order_word(data.stream_key.is_unordered());
+    let beginning = word_if(data.is_beginning, ", beginning");
+    let end = word_if(data.is_end, ", end");
+    let immediate = word_if(data.immediate_ack, ", immediate");
     write!(f, "{order}{beginning}{end}{immediate}")
 }
 
 /// Ends the line, and writes that of the payload.
 fn write_payload<W: fmt::Write>(
-    user_data: &Data,
+    part: Part<'_>,
     most: usize,
     f: &mut fmt::Formatter<W>,
-) -> fmt::Result
-    ensures { WritesOnOk W.write_str_gives f.old result
-        (payload_lines most user_data.now.payload.items) f.new }
-{
-    let payload = Bytes {
-        bytes: &user_data.payload,
-        most,
-    };
+) -> fmt::Result {
+    let payload = Shown { part, most };
     writeln!(f, "\n  payload: {payload}")
 }
 
 /// How messages are delivered, after a comma.
-fn order_word(unordered: bool) -> &'static str
-    ensures { result.now ≡ order_word unordered }
-{
+fn order_word(unordered: bool) -> &'static str {
     if unordered {
         ", unordered"
     } else {
@@ -252,74 +238,6 @@ fn order_word(unordered: bool) -> &'static str
 }
 
 /// A word where it applies.
-fn word_if(holds: bool, word: &'static str) -> &'static str
-    ensures { result.now ≡ word_if holds word.now }
-{
+fn word_if(holds: bool, word: &'static str) -> &'static str {
     if holds { word } else { "" }
-}
-
-/// The name of a payload protocol identifier of WebRTC.
-#[tactic(auto, unfolding(crate::specs::Chunks::ppid_name))]
-fn ppid_name(ppid: PpId) -> &'static str
-    ensures { result.now ≡ ppid_name ppid.0 }
-{
-    match ppid {
-        PpId::WEBRTC_DCEP => " (WebRTC DCEP)",
-        PpId::WEBRTC_STRING => " (WebRTC String)",
-        PpId::WEBRTC_BINARY_PARTIAL => " (WebRTC Binary Partial)",
-        PpId::WEBRTC_BINARY => " (WebRTC Binary)",
-        PpId::WEBRTC_STRING_PARTIAL => " (WebRTC String Partial)",
-        PpId::WEBRTC_STRING_EMPTY => " (WebRTC String Empty)",
-        PpId::WEBRTC_BINARY_EMPTY => " (WebRTC Binary Empty)",
-        _ => "",
-    }
-}
-
-/// A gap ack block of a SACK.
-impl Lines for GapAckBlock {
-    ghost Tree = { GapAckBlock };
-
-    ghost view = { λ b. b };
-
-    ghost lines = { λ most b. block_line b };
-
-    fn write_lines<W: fmt::Write>(&self, _most: usize, f: &mut fmt::Formatter<W>) -> fmt::Result {
-        let (start, end) = (self.start, self.end);
-        writeln!(f, "  block {start} to {end}")
-    }
-}
-
-/// A duplicate TSN of a SACK.
-impl Lines for Tsn {
-    ghost Tree = { ℕ };
-
-    ghost view = { λ tsn. tsn.0 };
-
-    ghost lines = { λ most tsn. duplicate_line tsn };
-
-    fn write_lines<W: fmt::Write>(&self, _most: usize, f: &mut fmt::Formatter<W>) -> fmt::Result {
-        let tsn = self.0;
-        writeln!(f, "  duplicate tsn {tsn}")
-    }
-}
-
-/// A stream that is skipped.
-impl Lines for SkippedStream {
-    ghost Tree = { SkippedStreamTree };
-
-    ghost view = { skipped_stream_view };
-
-    ghost lines = { λ most s. skipped_line s };
-
-    fn write_lines<W: fmt::Write>(&self, _most: usize, f: &mut fmt::Formatter<W>) -> fmt::Result {
-        match self {
-            SkippedStream::ForwardTsn(stream, ssn) => {
-                writeln!(f, "  stream {stream}, ssn {ssn}")
-            }
-            SkippedStream::IForwardTsn(key, mid) => {
-                let (stream, order) = (key.id(), order_word(key.is_unordered()));
-                writeln!(f, "  stream {stream}{order}, mid {mid}")
-            }
-        }
-    }
 }

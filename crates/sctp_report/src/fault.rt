@@ -1,96 +1,337 @@
 //! Why bytes are no packet, and where, as text.
 
-ghost use Rattle.std.specs.Prelude.{◌≡◌, ◌++◌, Some, take, drop, codes};
-ghost use Rattle.std.specs.List.{flat_map};
-ghost use Rattle.std.specs.Fmt.{WritesOnOk};
-ghost use Rattle.sctp_report.specs.Hexadecimal.{byte_digits};
-ghost use Rattle.sctp_report.specs.Fault.{fault_lines, error_line, chunk_error_line, row_line, mark_line};
-
-use crate::hexadecimal::{Digits, Offset};
-use dcsctp_wire::packet::ChunkParseError;
-use dcsctp_wire::packet::sctp_packet::{FirstFault, PacketParseError};
+use crate::chunks::INIT_SIZE;
+use crate::names::{ChunkName, cause_name, parameter_name};
+use crate::part::{Item, Part};
+use dcsctp_wire::packet::sctp_packet::{COMMON_HEADER_SIZE, FirstFault, PacketParseError};
+use dcsctp_wire::packet::{ChunkParseError, read_u16_be, read_u32_be};
 use std::fmt;
 
 /// The bytes of a row.
 const ROW: usize = 16;
 
+/// The bytes of an item's header.
+const HEADER_SIZE: usize = 4;
+
 /// Why bytes are no packet, as lines that end with a line break: the error, its offset, the row of
 /// sixteen bytes that holds that byte, and a mark below the byte. Where the bytes end too soon, the
 /// mark is after the last byte.
 #[derive(Clone, Copy)]
-pub struct FaultReport<'a> {
+pub struct FaultReport<'a, 'f> {
     /// The bytes.
     pub bytes: &'a [u8],
     /// Their fault, as `SctpPacket::first_fault` returns it.
-    pub found: &'a FirstFault,
+    pub found: &'f FirstFault,
 }
 
-impl<'a> fmt::Display for FaultReport<'a> {
-    ghost output = { λ r. Some (fault_lines r.bytes.now r.found.now.fault r.found.now.offset) };
-
+impl<'a, 'f> fmt::Display for FaultReport<'a, 'f> {
     fn fmt<W: fmt::Write>(&self, f: &mut fmt::Formatter<W>) -> fmt::Result {
-        let offset = self.found.offset;
-        f.write_str(error_line(&self.found.fault))?;
-        writeln!(f, "at byte {offset}")?;
-        write_row(self.bytes, offset / ROW * ROW, f)?;
-        write_mark(offset, f)
+        let (bytes, offset) = (self.bytes, self.found.offset);
+        match &self.found.fault {
+            PacketParseError::InvalidPacketSize => write_size(bytes.len(), f)?,
+            PacketParseError::InvalidChecksum => f.write_str("error: invalid checksum\n")?,
+            PacketParseError::InvalidChunkSize => f.write_str("error: invalid chunk size\n")?,
+            PacketParseError::FailedParseChunk(fault) => {
+                write_error(fault, Place::of(bytes, offset), f)?;
+            }
+        }
+        write_offset(bytes, offset, f)
     }
+}
+
+/// Writes the fault of a packet that was cut off, as `FaultReport` does, if a chunk's length is
+/// less than 4 or more than the packet has left: all that is known to be a fault there.
+pub fn write_cut_fault<W: fmt::Write>(packet: Part<'_>, f: &mut fmt::Formatter<W>) -> fmt::Result {
+    let place = Place::first(packet, usize::MAX).skip();
+    if place.rest.bytes.len() < HEADER_SIZE {
+        return Ok(());
+    }
+    write_error(&ChunkParseError::InvalidLength, place, f)?;
+    let offset = packet.size.saturating_sub(place.rest.size);
+    write_offset(packet.bytes, offset, f)
+}
+
+/// Writes an offset, the row of bytes that holds it, and the mark.
+fn write_offset<W: fmt::Write>(
+    bytes: &[u8],
+    offset: usize,
+    f: &mut fmt::Formatter<W>,
+) -> fmt::Result {
+    writeln!(f, "at byte {offset}")?;
+    write_row(bytes, offset / ROW * ROW, f)?;
+    write_mark(offset, f)
+}
+
+/// Writes that a packet has too few bytes or too many.
+fn write_size<W: fmt::Write>(size: usize, f: &mut fmt::Formatter<W>) -> fmt::Result {
+    if size < 16 {
+        let unit = if size == 1 { "byte" } else { "bytes" };
+        writeln!(f, "error: packet: {size} {unit}, but 16 are needed")
+    } else {
+        writeln!(f, "error: packet: {size} bytes, but 65535 are the most")
+    }
+}
+
+/// What an item is.
+#[derive(Clone, Copy)]
+enum Level {
+    Chunk,
+    Parameter,
+    Cause,
+}
+
+/// Where a fault lies: the rest of a list, which begins with the item that is at fault, and the
+/// offset in it.
+#[derive(Clone, Copy)]
+struct Place<'a> {
+    level: Level,
+    rest: Part<'a>,
+    offset: usize,
+}
+
+impl<'a> Place<'a> {
+    /// The place of an offset of a packet in the list of its chunks.
+    fn first(packet: Part<'a>, offset: usize) -> Place<'a> {
+        Place {
+            level: Level::Chunk,
+            rest: packet.after(COMMON_HEADER_SIZE),
+            offset: offset.saturating_sub(COMMON_HEADER_SIZE),
+        }
+    }
+
+    /// Finds the innermost item at an offset of a packet.
+    fn of(bytes: &'a [u8], offset: usize) -> Place<'a> {
+        let packet = Part {
+            bytes,
+            size: bytes.len(),
+        };
+        let place = Place::first(packet, offset).skip();
+        match place.rest.item() {
+            Some(chunk) => place.within(chunk).skip(),
+            None => place,
+        }
+    }
+
+    /// Passes over the items before the offset.
+    fn skip(self) -> Place<'a> {
+        let mut place = self;
+        for _ in 0..self.rest.bytes.len() / HEADER_SIZE {
+            let Some(item) = place.rest.item() else {
+                return place;
+            };
+            if place.offset < item.padded {
+                return place;
+            }
+            place.rest = place.rest.after(item.padded);
+            place.offset -= item.padded;
+        }
+        place
+    }
+
+    /// The place in a chunk's list, where it has one, and the offset is in it.
+    fn within(self, chunk: Item<'a>) -> Place<'a> {
+        let (level, start) = match chunk.first {
+            1 | 2 => (Level::Parameter, INIT_SIZE),
+            4 | 5 | 130 => (Level::Parameter, 0),
+            6 | 9 => (Level::Cause, 0),
+            _ => return self,
+        };
+        let before = HEADER_SIZE + start;
+        if self.offset < before || self.offset - HEADER_SIZE >= chunk.value.size {
+            return self;
+        }
+        Place {
+            level,
+            rest: chunk.value.after(start),
+            offset: self.offset - before,
+        }
+    }
+}
+
+/// The name of an item, after what it is.
+#[derive(Clone, Copy)]
+struct ItemName {
+    level: Level,
+    first: u8,
+    second: u8,
+}
+
+impl fmt::Display for ItemName {
+    fn fmt<W: fmt::Write>(&self, f: &mut fmt::Formatter<W>) -> fmt::Result {
+        let typ = u16::from_be_bytes([self.first, self.second]);
+        match self.level {
+            Level::Chunk => {
+                let name = ChunkName(self.first);
+                if !name.is_known() {
+                    f.write_str("chunk ")?;
+                }
+                write!(f, "{name}")
+            }
+            Level::Parameter => {
+                let name = parameter_name(typ);
+                write!(f, "parameter {typ:#06x} {name}")
+            }
+            Level::Cause => {
+                let name = cause_name(typ);
+                write!(f, "cause {typ:#06x} {name}")
+            }
+        }
+    }
+}
+
+/// How many bytes are left.
+#[derive(Clone, Copy)]
+struct Left(usize);
+
+impl fmt::Display for Left {
+    fn fmt<W: fmt::Write>(&self, f: &mut fmt::Formatter<W>) -> fmt::Result {
+        let left = self.0;
+        if left == 1 {
+            f.write_str("1 byte is left")
+        } else {
+            write!(f, "{left} bytes are left")
+        }
+    }
+}
+
+/// Writes the line of a fault of an item.
+fn write_error<W: fmt::Write>(
+    fault: &ChunkParseError,
+    place: Place<'_>,
+    f: &mut fmt::Formatter<W>,
+) -> fmt::Result {
+    let bytes = place.rest.bytes;
+    if bytes.len() < HEADER_SIZE {
+        let word = match place.level {
+            Level::Chunk => "chunk",
+            Level::Parameter => "parameter",
+            Level::Cause => "cause",
+        };
+        let left = Left(bytes.len());
+        return writeln!(f, "error: {word}: header of 4 bytes, but {left}");
+    }
+    let length = read_u16_be(&bytes[2..]);
+    let name = ItemName {
+        level: place.level,
+        first: bytes[0],
+        second: bytes[1],
+    };
+    write!(f, "error: {name}: ")?;
+    match fault {
+        ChunkParseError::InvalidLength => write_length(name, length, place.rest, f),
+        ChunkParseError::InvalidPadding => {
+            let there = bytes.len().saturating_sub(length as usize);
+            write_padding(length, there, place.offset >= bytes.len(), f)
+        }
+        ChunkParseError::InvalidValue => write_result(bytes, f),
+        ChunkParseError::InvalidType => f.write_str("another type\n"),
+        ChunkParseError::OutOfMemory => f.write_str("out of memory\n"),
+    }
+}
+
+/// Writes what is wrong with a length.
+fn write_length<W: fmt::Write>(
+    name: ItemName,
+    length: u16,
+    rest: Part<'_>,
+    f: &mut fmt::Formatter<W>,
+) -> fmt::Result {
+    let size = length as usize;
+    write!(f, "length {size}, but ")?;
+    if size < HEADER_SIZE {
+        return f.write_str("4 are needed\n");
+    }
+    if size > rest.size {
+        let left = Left(rest.size);
+        return writeln!(f, "{left}");
+    }
+    let (least, step) = sizes(name, rest.front(size).bytes);
+    if size < least || step == 0 {
+        return writeln!(f, "{least} are needed");
+    }
+    let lower = size - (size - least) % step as usize;
+    let upper = lower + step as usize;
+    writeln!(f, "{lower} or {upper} are needed")
+}
+
+/// The least length of an item, and by how much it can be longer.
+fn sizes(name: ItemName, bytes: &[u8]) -> (usize, u8) {
+    let typ = u16::from_be_bytes([name.first, name.second]);
+    match name.level {
+        Level::Chunk => match name.first {
+            0 => (16, 1),
+            1 | 2 | 64 => (20, 1),
+            3 if bytes.len() >= 16 => {
+                let (blocks, duplicates) = (read_u16_be(&bytes[12..]), read_u16_be(&bytes[14..]));
+                (16 + 4 * (blocks as usize + duplicates as usize), 0)
+            }
+            3 => (16, 0),
+            7 => (8, 0),
+            9 => (8, 1),
+            10 => (5, 1),
+            192 => (8, 4),
+            194 => (8, 8),
+            _ => (4, 0),
+        },
+        Level::Parameter => match typ {
+            0x000d => (16, 2),
+            0x000e => (8, 2),
+            0x0010 if bytes.len() > 20 => (20, 0),
+            0x0010 => (12, 8),
+            0x0011 | 0x0012 => (12, 0),
+            0x000f | 0x8001 => (8, 0),
+            _ => (4, 0),
+        },
+        Level::Cause => match typ {
+            2 if bytes.len() >= 8 => (8 + 2 * read_u32_be(&bytes[4..]) as usize, 0),
+            2 | 9 => (8, 0),
+            _ => (4, 0),
+        },
+    }
+}
+
+/// Writes what is wrong with the padding of an item of this length, of which some bytes may be
+/// missing.
+fn write_padding<W: fmt::Write>(
+    length: u16,
+    there: usize,
+    is_missing: bool,
+    f: &mut fmt::Formatter<W>,
+) -> fmt::Result {
+    let padding = (length as usize).div_ceil(4) * 4 - length as usize;
+    let unit = if padding == 1 { "byte" } else { "bytes" };
+    if is_missing {
+        let left = Left(there);
+        writeln!(f, "padding of {padding} {unit}, but {left}")
+    } else {
+        writeln!(f, "padding of {padding} {unit} isn't zero")
+    }
+}
+
+/// Writes what is wrong with a value: of all values, the result of a Re-configuration Response
+/// alone can be wrong.
+fn write_result<W: fmt::Write>(bytes: &[u8], f: &mut fmt::Formatter<W>) -> fmt::Result {
+    if bytes.len() < 12 {
+        return f.write_str("invalid value\n");
+    }
+    let result = read_u32_be(&bytes[8..]);
+    writeln!(f, "result {result}, but 6 is the highest")
 }
 
 /// Writes the row at an offset.
-fn write_row<W: fmt::Write>(bytes: &[u8], row: usize, f: &mut fmt::Formatter<W>) -> fmt::Result
-    ensures { WritesOnOk W.write_str_gives f.old result (row_line bytes.now row) f.new }
-{
-    let offset = Offset(row);
+fn write_row<W: fmt::Write>(bytes: &[u8], row: usize, f: &mut fmt::Formatter<W>) -> fmt::Result {
     let rest = &bytes[row.min(bytes.len())..];
-    write!(f, "{offset}:")?;
-    write_spaced(&rest[..rest.len().min(ROW)], f)?;
+    write!(f, "{row:04x}:")?;
+    for byte in &rest[..rest.len().min(ROW)] {
+        write!(f, " {byte:02x}")?;
+    }
     f.write_str("\n")
 }
 
-/// Writes a blank and two digits for each byte.
-fn write_spaced<W: fmt::Write>(bytes: &[u8], f: &mut fmt::Formatter<W>) -> fmt::Result
-    ensures { WritesOnOk W.write_str_gives f.old result
-        (flat_map (λ byte. codes " " ++ byte_digits byte) bytes.now) f.new }
-{
-    for byte in bytes {
-        let digits = Digits(*byte);
-        write!(f, " {digits}")?;
-    }
-    Ok(())
-}
-
 /// Writes the mark below the byte at an offset.
-fn write_mark<W: fmt::Write>(offset: usize, f: &mut fmt::Formatter<W>) -> fmt::Result
-    ensures { WritesOnOk W.write_str_gives f.old result (mark_line offset) f.new }
-{
+fn write_mark<W: fmt::Write>(offset: usize, f: &mut fmt::Formatter<W>) -> fmt::Result {
     for _i in 0..6 + 3 * (offset % ROW) {
         f.write_str(" ")?;
     }
     f.write_str("^^\n")
-}
-
-/// The line of an error.
-fn error_line(error: &PacketParseError) -> &'static str
-    ensures { result.now ≡ error_line error.now }
-{
-    match error {
-        PacketParseError::InvalidPacketSize => "error: invalid packet size\n",
-        PacketParseError::InvalidChecksum => "error: invalid checksum\n",
-        PacketParseError::InvalidChunkSize => "error: invalid chunk size\n",
-        PacketParseError::FailedParseChunk(error) => chunk_error_line(error),
-    }
-}
-
-/// The line of a chunk's error.
-fn chunk_error_line(error: &ChunkParseError) -> &'static str
-    ensures { result.now ≡ chunk_error_line error.now }
-{
-    match error {
-        ChunkParseError::InvalidLength => "error: invalid chunk: length\n",
-        ChunkParseError::InvalidType => "error: invalid chunk: type\n",
-        ChunkParseError::InvalidPadding => "error: invalid chunk: padding\n",
-        ChunkParseError::InvalidValue => "error: invalid chunk: value\n",
-        ChunkParseError::OutOfMemory => "error: out of memory\n",
-    }
 }

@@ -1,17 +1,19 @@
 //! All that a packet holds, as text: plain lines, one fact a line, and two blanks deeper what is
-//! inside.
+//! inside. Of a refused packet, and of one that was cut off, what can be read of it.
 //!
-//! Each text is defined in specs/ over the packet's tree. Nothing here allocates.
+//! It reads the packet where it lies, and does not allocate. Proved safe and total: no clause says
+//! what a text is.
 #![tactic(auto)]
 
-mod bytes;
 mod causes;
 mod chunks;
 mod fault;
 mod hexadecimal;
-mod lines;
+mod names;
 mod packet;
 mod parameters;
+mod part;
 
 pub use crate::fault::FaultReport;
+pub use crate::names::ChunkName;
 pub use crate::packet::{ChecksumReport, ChunkReport, PacketReport};

@@ -1,59 +1,88 @@
 //! A packet, its checksum field, and a chunk, as text.
 
-ghost use Rattle.std.specs.Prelude.{Some};
-ghost use Rattle.std.specs.Fmt.{WritesOnOk};
-ghost use Rattle.dcsctp_wire.specs.Chunk.{view};
-ghost use Rattle.dcsctp_wire.specs.Packet.{packet_view};
-ghost use Rattle.sctp_report.specs.Chunks.{chunk_lines};
-ghost use Rattle.sctp_report.specs.Packet.{verdict, checksum_line, header_line, packet_lines};
-
-use crate::hexadecimal::Hex32;
-use crate::lines::{Lines, write_each};
-use dcsctp_wire::packet::chunk::Chunk;
-use dcsctp_wire::packet::sctp_packet::{CommonHeader, SctpPacket};
+use crate::chunks::{write_chunk, write_chunks};
+use crate::fault::{FaultReport, write_cut_fault};
+use crate::part::{Item, Part};
+use dcsctp_wire::packet::chunk::RawChunk;
+use dcsctp_wire::packet::sctp_packet::{COMMON_HEADER_SIZE, CommonHeader, FirstFault};
 use std::fmt;
 
-/// All that a packet holds, as lines that end with a line break (RFC 9260 section 3).
+/// All that can be read of a packet, as lines that end with a line break (RFC 9260 section 3).
+///
+/// Of an accepted packet both ports, the tag, the checksum's verdict and all that its chunks hold.
+/// Of a refused one the chunks before its fault, and the fault as `FaultReport` prints it. Of one
+/// that was cut off the chunks as far as they go, and a fault only where a chunk's length can't be
+/// right; its checksum isn't known.
 #[derive(Clone, Copy)]
-pub struct PacketReport<'a> {
-    /// The packet.
-    pub packet: &'a SctpPacket,
-    /// The expected checksum field, most significant byte first (`dcsctp_crc32c::packet_word`).
+pub struct PacketReport<'a, 'f> {
+    /// The packet's bytes, as far as they were captured.
+    pub bytes: &'a [u8],
+    /// How many bytes the packet has.
+    pub length: usize,
+    /// The expected checksum field, most significant byte first (`dcsctp_crc32c::packet_word`); of
+    /// a packet that was cut off it isn't read.
     pub word: u32,
+    /// Its fault, as `SctpPacket::first_fault` returns it; `None` of a packet that was cut off.
+    pub fault: Option<&'f FirstFault>,
     /// How many bytes of a payload, a cookie or another value are shown at most.
     pub most: usize,
 }
 
-impl<'a> fmt::Display for PacketReport<'a> {
-    ghost output = { λ r. Some (packet_lines r.word r.most (packet_view r.packet.now)) };
-
+impl<'a, 'f> fmt::Display for PacketReport<'a, 'f> {
     fn fmt<W: fmt::Write>(&self, f: &mut fmt::Formatter<W>) -> fmt::Result {
-        let header = &self.packet.common_header;
-        write_header(header, f)?;
-        write_checksum(header.checksum, self.word, f)?;
-        write_each(&self.packet.chunks, self.most, f)
+        let packet = Part {
+            bytes: self.bytes,
+            size: self.length.max(self.bytes.len()),
+        };
+        if let Some(header) = CommonHeader::from_bytes(self.bytes) {
+            write_header(&header, f)?;
+            write_checksum(header.checksum, self.word, packet.is_whole(), f)?;
+        }
+        match self.fault {
+            None => {
+                write_chunks(packet.after(COMMON_HEADER_SIZE), self.most, f)?;
+                if packet.is_whole() {
+                    return Ok(());
+                }
+                write_cut_fault(packet, f)
+            }
+            Some(found) => {
+                let before = packet.front(found.offset);
+                write_chunks(before.after(COMMON_HEADER_SIZE), self.most, f)?;
+                let bytes = self.bytes;
+                let fault = FaultReport { bytes, found };
+                write!(f, "{fault}")
+            }
+        }
     }
 }
 
 /// Writes the line of both ports and the tag.
-fn write_header<W: fmt::Write>(header: &CommonHeader, f: &mut fmt::Formatter<W>) -> fmt::Result
-    ensures { WritesOnOk W.write_str_gives f.old result (header_line header.now.source_port
-        header.now.destination_port header.now.verification_tag) f.new }
-{
+fn write_header<W: fmt::Write>(header: &CommonHeader, f: &mut fmt::Formatter<W>) -> fmt::Result {
     let (source, destination) = (header.source_port, header.destination_port);
-    let tag = Hex32(header.verification_tag);
-    writeln!(f, "source {source}, destination {destination}, tag {tag}")
+    let tag = header.verification_tag;
+    writeln!(
+        f,
+        "source {source}, destination {destination}, tag {tag:#010x}"
+    )
 }
 
 /// Writes the line of a checksum field.
-fn write_checksum<W: fmt::Write>(field: u32, word: u32, f: &mut fmt::Formatter<W>) -> fmt::Result
-    ensures { WritesOnOk W.write_str_gives f.old result (checksum_line field word) f.new }
-{
-    let (shown, verdict) = (Hex32(field), ChecksumReport { field, word });
-    writeln!(f, "checksum {shown}: {verdict}")
+fn write_checksum<W: fmt::Write>(
+    field: u32,
+    word: u32,
+    is_known: bool,
+    f: &mut fmt::Formatter<W>,
+) -> fmt::Result {
+    if !is_known {
+        return writeln!(f, "checksum {field:#010x}: not known");
+    }
+    let verdict = ChecksumReport { field, word };
+    writeln!(f, "checksum {field:#010x}: {verdict}")
 }
 
 /// What is said of a checksum field: that it is right, zero, or wrong, and then what was expected.
+/// A field of zero says that the sender computed no checksum (RFC 9653), unless zero is expected.
 #[derive(Clone, Copy)]
 pub struct ChecksumReport {
     /// The field, most significant byte first.
@@ -63,33 +92,39 @@ pub struct ChecksumReport {
 }
 
 impl fmt::Display for ChecksumReport {
-    ghost output = { λ r. Some (verdict r.field r.word) };
-
     fn fmt<W: fmt::Write>(&self, f: &mut fmt::Formatter<W>) -> fmt::Result {
-        if self.field == self.word {
+        let (field, word) = (self.field, self.word);
+        if field == word {
             return f.write_str("right");
         }
-        if self.field == 0 {
+        if field == 0 {
             return f.write_str("zero");
         }
-        let expected = Hex32(self.word);
-        write!(f, "wrong, expected {expected}")
+        write!(f, "wrong, expected {word:#010x}")
     }
 }
 
 /// All that a chunk holds, as lines that end with a line break (RFC 9260 section 3.2).
 #[derive(Clone, Copy)]
-pub struct ChunkReport<'a> {
+pub struct ChunkReport<'c, 'a> {
     /// The chunk.
-    pub chunk: &'a Chunk,
+    pub chunk: &'c RawChunk<'a>,
     /// How many bytes of a payload, a cookie or another value are shown at most.
     pub most: usize,
 }
 
-impl<'a> fmt::Display for ChunkReport<'a> {
-    ghost output = { λ r. Some (chunk_lines r.most (view r.chunk.now)) };
-
+impl<'c, 'a> fmt::Display for ChunkReport<'c, 'a> {
     fn fmt<W: fmt::Write>(&self, f: &mut fmt::Formatter<W>) -> fmt::Result {
-        self.chunk.write_lines(self.most, f)
+        let bytes = self.chunk.value;
+        let item = Item {
+            first: self.chunk.typ,
+            second: self.chunk.flags,
+            value: Part {
+                bytes,
+                size: bytes.len(),
+            },
+            padded: 0,
+        };
+        write_chunk(item, self.most, f)
     }
 }

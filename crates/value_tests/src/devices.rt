@@ -1,13 +1,8 @@
 //! What is known of devices that fail.
 
-use std::alloc::{AllocError, Global};
 use std::io::{Read, Write};
 use watched_io::faulty::{Fault, INTERRUPTED, Plan, Sink, Source, fails, steps};
-use watched_io::output::Output;
-use watched_io::stream::StreamError::{self, Read as Reading, Write as Writing};
-use watched_io::stream::{need, skip};
 use watched_io::watched::Watched;
-use watched_io::window::Window;
 
 /// What each of three reads gives of three bytes, the second of which fails, and whether the device
 /// has failed by then.
@@ -85,62 +80,4 @@ fn watched_flushes() -> [bool; 4] {
 #[test]
 fn watched_flush(rt: HostRuntime) {
     assert_eq!(rt; watched_flushes(), [true, false, false, true]);
-}
-
-/// Four bytes are needed twice, then three are skipped, of ten that come three a read. Returns what
-/// each call answers and how many bytes are held then, and whether the text was written before.
-fn streamed(
-    alloc: Global,
-    input: Plan,
-    output: Plan,
-) -> Result<([(Result<bool, StreamError>, usize); 3], bool), AllocError> {
-    let mut window = Window::new(alloc)?;
-    let mut input = Watched::new(Source::new(b"0123456789", input));
-    let mut output = Output::new(alloc, Watched::new(Sink::new(b"text", output)));
-    output.text.push_str("text")?;
-    let first = (need(&mut window, &mut input, &mut output, 4), window.len());
-    let second = (need(&mut window, &mut input, &mut output, 4), window.len());
-    let third = (skip(&mut window, &mut input, &mut output, 7), window.len());
-    let is_next = window.held() == b"78".as_slice();
-    let sink = output.into_writer().into_device();
-    let is_written = sink.as_wanted && sink.taken == 4;
-    Ok(([first, second, third], is_next && is_written))
-}
-
-// Nothing is read that is held already; after a failed read or write the call can be made again.
-#[test]
-fn stream(rt: HostRuntime) -> Result<(), AllocError> {
-    assert_eq!(rt;
-        streamed(rt.alloc(), steps(3), steps(9))?,
-        ([(Ok(true), 6), (Ok(true), 6), (Ok(true), 2)], true)
-    );
-    assert_eq!(rt;
-        streamed(rt.alloc(), fails(3, 2, INTERRUPTED), steps(9))?,
-        ([(Err(Reading), 3), (Ok(true), 6), (Ok(true), 2)], true)
-    );
-    assert_eq!(rt;
-        streamed(rt.alloc(), steps(3), fails(9, 1, Fault::Nothing))?,
-        ([(Err(Writing), 0), (Ok(true), 6), (Ok(true), 2)], true)
-    );
-    Ok(())
-}
-
-/// What is left of ten bytes after the first four, where more are needed and skipped than there are.
-fn at_the_end(alloc: Global) -> Result<([Result<bool, StreamError>; 3], usize), AllocError> {
-    let mut window = Window::new(alloc)?;
-    let mut input = Watched::new(Source::new(b"0123456789", steps(9)));
-    let mut output = Output::new(alloc, Watched::new(Sink::new(b"", steps(9))));
-    let whole = need(&mut window, &mut input, &mut output, 10);
-    window.consume(4.min(window.len()));
-    let most = need(&mut window, &mut input, &mut output, 7);
-    let held = window.len();
-    let past = skip(&mut window, &mut input, &mut output, 7);
-    Ok(([whole, most, past], held))
-}
-
-#[test]
-fn end_of_stream(rt: HostRuntime) -> Result<(), AllocError> {
-    let wanted = ([Ok(true), Ok(false), Ok(false)], 6);
-    assert_eq!(rt; at_the_end(rt.alloc())?, wanted);
-    Ok(())
 }

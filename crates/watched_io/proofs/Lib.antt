@@ -1,3 +1,2 @@
 pub mod Devices
-pub mod Outputs
 pub mod Streams

@@ -1,6 +1,6 @@
 -- What is known of an output and of the text that it holds back.
 use Rattle.std.specs.Prelude.{ℕ, List, Option, string_bytes}
-use Rattle.std.specs.Io.KnownBytes.{append_known, Keeps}
+use Rattle.std.specs.Io.KnownBytes.{append_known}
 use Rattle.watched_io.specs.Watched.{device_of}
 use Rattle.watched_io.specs.declared.watched.Watched.{Watched}
 use Rattle.watched_io.specs.declared.output.Output.{Output}
@@ -16,7 +16,3 @@ pending o = string_bytes o.text
 -- the bytes of the writer and then the text, where `contents` is what the writer's type says
 abbrev pub total : {W : Type 0} → (W → Option (List ℕ)) → Output W → Option (List ℕ)
 total contents o = append_known (contents (device_of (writer_of o))) (pending o)
-
--- what the writer has is a beginning of these bytes
-abbrev pub HasBeginning : Option (List ℕ) → Option (List ℕ) → Type 0
-HasBeginning all contents = (rest : List ℕ) × Keeps all (append_known contents rest)

@@ -17,7 +17,3 @@ abbrev pub AddsBehind : ℕ → ℕ → List ℕ → Option (List ℕ) → List 
 AddsBehind end n old before new after =
     (more : List ℕ) × (length more ≡ n) × (take (end + n) new ≡ take end old ++ more)
     × Consumes before after more
-
--- as many bytes were dropped from the front of what was left
-abbrev pub DropsBytes : ℕ → Option (List ℕ) → Option (List ℕ) → Type 0
-DropsBytes count old new = (dropped : List ℕ) × (length dropped ≡ count) × Consumes old new dropped

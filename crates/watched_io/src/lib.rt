@@ -4,7 +4,6 @@
 
 pub mod faulty;
 pub mod output;
-pub mod stream;
 pub mod transfer;
 pub mod watched;
 pub mod window;

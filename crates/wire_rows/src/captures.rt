@@ -1,7 +1,7 @@
 //! Captured traffic: the headers of files, frames of a link, and lines of text.
 
 use crate::bytes::{from, short_at, word_at, write_digits};
-use sctp_capture::frame::{is_known_link, packet_in};
+use sctp_capture::frame::{UDP_PORT, is_known_link, packet_in};
 use sctp_capture::hex_bytes::HexBytes;
 use sctp_capture::line::{Line, LoggedPacket, place_of, read_line};
 use sctp_capture::pcap::{ByteOrder, input_kind, read_file_header, read_record_header};
@@ -30,9 +30,15 @@ fn write_record_header(bytes: &[u8], out: &mut String) -> Result<(), AllocError>
     write_debug(&read_record_header(ByteOrder::LittleEndian, bytes), out)
 }
 
-/// What is found in a frame: a link's type of two bytes, how long the frame was, and the frame.
-fn write_found(bytes: &[u8], out: &mut String) -> Result<(), AllocError> {
-    match packet_in(short_at(bytes, 0), word_at(bytes, 2), from(bytes, 6)) {
+/// What is found in a frame, in UDP if it is on this port: a link's type of two bytes, how long the
+/// frame was, and the frame.
+fn write_found(udp_port: u16, bytes: &[u8], out: &mut String) -> Result<(), AllocError> {
+    match packet_in(
+        udp_port,
+        short_at(bytes, 0),
+        word_at(bytes, 2),
+        from(bytes, 6),
+    ) {
         Ok(packet) => write_debug(&packet, out),
         Err(none) => write_debug(&none, out),
     }
@@ -51,7 +57,8 @@ pub fn write_answer(
         "file-header" => write_file_header(bytes, out)?,
         "record-header" => write_record_header(bytes, out)?,
         "known-link" => write_debug(&is_known_link(short_at(bytes, 0)), out)?,
-        "link-frame" => write_found(bytes, out)?,
+        "link-frame" => write_found(UDP_PORT, bytes, out)?,
+        "link-frame-port" => write_found(short_at(bytes, 0), from(bytes, 2), out)?,
         "place" => write_debug(
             &place_of(word_at(bytes, 0), word_at(bytes, 4) as usize),
             out,

@@ -1,8 +1,8 @@
 //! What is printed of chunks, faults and packets: each line is a fact, and ends with `|`.
 
-use crate::bytes::word_at;
-use crate::values::chunk_of;
+use crate::bytes::{from, short_at, word_at};
 use dcsctp_crc32c::packet_word;
+use dcsctp_wire::packet::chunk::RawChunk;
 use dcsctp_wire::packet::sctp_packet::{ChecksumPolicy, SctpPacket};
 use sctp_report::{ChecksumReport, ChunkReport, FaultReport, PacketReport};
 use std::alloc::{AllocError, Global};
@@ -24,8 +24,8 @@ fn write_lines<T: Display>(alloc: Global, report: &T, out: &mut String) -> Resul
 
 /// The chunk at the front, with 16 bytes of each value.
 fn write_chunk(alloc: Global, bytes: &[u8], out: &mut String) -> Result<(), AllocError> {
-    match chunk_of(alloc, bytes) {
-        Ok(chunk) => write_lines(
+    match RawChunk::from_bytes(bytes) {
+        Ok((chunk, _)) => write_lines(
             alloc,
             &ChunkReport {
                 chunk: &chunk,
@@ -53,21 +53,30 @@ fn write_fault(alloc: Global, bytes: &[u8], out: &mut String) -> Result<(), Allo
     }
 }
 
-/// The packet, whatever its checksum is.
+/// The packet, whatever its checksum is, or what is there of it and its first fault.
 fn write_packet(alloc: Global, bytes: &[u8], out: &mut String) -> Result<(), AllocError> {
     let word = packet_word(bytes);
-    match SctpPacket::from_bytes(alloc, bytes, word, &ChecksumPolicy::ANY_CHECKSUM) {
-        Ok(packet) => write_lines(
-            alloc,
-            &PacketReport {
-                packet: &packet,
-                word,
-                most: 16,
-            },
-            out,
-        ),
-        Err(error) => write!(out, "{error:?}"),
-    }
+    let found = SctpPacket::first_fault(bytes, word, &ChecksumPolicy::ANY_CHECKSUM);
+    let report = PacketReport {
+        bytes,
+        length: bytes.len(),
+        word,
+        fault: found.as_ref(),
+        most: 16,
+    };
+    write_lines(alloc, &report, out)
+}
+
+/// A packet of so many bytes, of which these were captured.
+fn write_cut(alloc: Global, length: u16, bytes: &[u8], out: &mut String) -> Result<(), AllocError> {
+    let report = PacketReport {
+        bytes,
+        length: length as usize,
+        word: 0,
+        fault: None,
+        most: 16,
+    };
+    write_lines(alloc, &report, out)
 }
 
 /// The two numbers of a checksum field and of the word that is expected there.
@@ -88,6 +97,7 @@ pub fn write_answer(
         "report" => write_chunk(alloc, bytes, out)?,
         "report-fault" => write_fault(alloc, bytes, out)?,
         "report-packet" => write_packet(alloc, bytes, out)?,
+        "report-cut" => write_cut(alloc, short_at(bytes, 0), from(bytes, 2), out)?,
         "report-checksum" => write_checksum(bytes, out)?,
         _ => return Ok(false),
     }

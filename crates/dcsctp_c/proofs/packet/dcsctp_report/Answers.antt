@@ -1,20 +1,15 @@
-use Rattle.std.proofs.Common.{ap, Err}
-use Rattle.dcsctp_wire.specs.Packet.{packet_view}
-use Rattle.dcsctp_c.{specs.Code.{policy_of}, specs.Output.{IsReport}, proofs.AnswerCodes.{of_packet, refused}}
+use Rattle.dcsctp_c.{specs.Code.{policy_of}, specs.Output.{IsAnyText, packet, faulty}, proofs.AnswerCodes.{of_packet, refused_check}}
 use Rattle.dcsctp_c.proofs.packet.dcsctp_report.Goals as goal
 
-pub returns-in-Ok : goal.returns-in-Ok
-returns-in-Ok c =
+pub returns-in-Ok-clause-writes : goal.returns-in-Ok-clause-writes
+returns-in-Ok-clause-writes c =
+    let found = c.in-Ok.ensures.answer.answers in
     of_packet c.args.bytes.now c.args.word c.checksum_policy.result
-    (policy_of c.args.policy.now) c.checksum_policy.ensures (IsReport c.args.word)
-    (packet_view c.in-Ok.packet) _ _ _
-    c.in-Ok.ensures.answer.answers c.report.ensures
+    (policy_of c.args.policy.now) c.checksum_policy.ensures IsAnyText found.0 _ _ _
+    found.1 c.write_report.ensures.writes
 
-pub returns-in-Err : goal.returns-in-Err
-returns-in-Err c =
-    refused c.args.bytes.now c.args.word c.checksum_policy.result
-    (policy_of c.args.policy.now) c.checksum_policy.ensures (IsReport c.args.word)
-    c.in-Err.error _ _
-    c.in-Err.ensures.answer.answers
-    (λ lacks. c.in-Err.ensures.memory (ap Err lacks))
-    c.code_of.ensures.fault c.code_of.ensures.memory
+pub returns-in-Err-clause-writes : goal.returns-in-Err-clause-writes
+returns-in-Err-clause-writes c =
+    refused_check c.args.bytes.now c.args.word c.checksum_policy.result
+    (policy_of c.args.policy.now) c.checksum_policy.ensures IsAnyText c.in-Err.error _ _
+    c.in-Err.ensures.answer.answers c.code_of.ensures.fault

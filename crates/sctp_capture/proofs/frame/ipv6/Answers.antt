@@ -8,10 +8,9 @@ use Rattle.sctp_capture.proofs.frame.ipv6.Goals as goal
 pub returns : goal.returns
 unfolding ipv6
 returns c =
-    let bytes = c.args.bytes.now in
+    let bytes = c.args.packet.bytes.now in
     let size : c.number16.result ≡ number16 (drop 4 bytes) = c.number16.ensures
     ∙ ap number16 (whole_rest 4 bytes) in
     let enough : nat_lt (length bytes) 40 ≡ false = grind (arith, nat_tests) in
     let version : (ip_version bytes == 6) ≡ true = grind (arith, nat_tests) in
-    rw (enough, version) (c.without_extensions.ensures
-    ∙ rw (c.ipv6_addresses.ensures, size, whole_rest 40 bytes) refl)
+    rw (enough, version, c.ipv6_addresses.ensures, size, whole_rest 40 bytes) refl

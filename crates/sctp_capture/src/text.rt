@@ -1,0 +1,321 @@
+//! The events of a text: packets in hexadecimal, of logs and of dumps.
+
+ghost use Rattle.std.specs.Prelude.{◌≡◌, ◌*◌, ◌^◌, ◌≤◌, ◌<◌, ℕ, List, [], ◌∷◌, None, Some, length, position, ◌==◌, IfOk};
+ghost use Rattle.sctp_capture.specs.Event.{Event, Skip, Hands};
+ghost use Rattle.sctp_capture.specs.Decoding.{IsLine};
+ghost use Rattle.sctp_capture.specs.Number.{one_more};
+ghost use Rattle.sctp_capture.specs.Text.{TextState, before_text, packet_event, end_events, after_end, at_line, long_events, own_events, after_own, is_form, continues_dump, said_events, after_said, line_events, after_line, last_events, SaysAtMost, LineItem, TextEnd};
+ghost use Rattle.sctp_capture.specs.declared.line.Line.TheVariants.{Dumped};
+
+use crate::decoder::{Decoder, Extent, MOST_KEPT, Next};
+use crate::dump::link_of;
+use crate::event::{Part, Seen, Sink, Skipped, Time};
+use crate::frame::link_type;
+use crate::hex_bytes::HexBytes;
+use crate::line::{DumpForm, DumpedBytes, Line, Place, place_of, read_line};
+use crate::parts::{after, front};
+use std::alloc::{AllocError, Global};
+use std::marker::Model;
+
+/// The most bytes that a line says: two digits say one.
+const MOST_SAID: usize = MOST_KEPT / 2;
+
+/// Finds the packets of a text.
+#[derive(Drop)]
+pub struct TextDecoder {
+    /// What the lines of a dump said.
+    bytes: Vec<u8>,
+    /// How they were written, if a dump is open.
+    form: Option<DumpForm>,
+    /// The number of its first line.
+    first_line: u64,
+    /// How many packets there were.
+    packets: u64,
+    /// How many lines there were.
+    lines: u64,
+    /// How many bytes in memory were searched for a line feed when they were seen last.
+    searched: usize,
+}
+
+impl Model for TextDecoder {
+    ghost use Rattle.std.specs.Prelude.{◌≤◌, length, option_map, vec_capacity};
+    ghost use Rattle.sctp_capture.specs.Text.{TextState};
+
+    ghost Value = { TextState };
+
+    ghost view = { λ d. record {
+      lines = d.lines;
+      packets = d.packets;
+      dump = option_map (λ form. record {
+        form = form;
+        bytes = d.bytes.items;
+        first_line = d.first_line;
+      }) d.form;
+    } };
+
+    ghost invariant = { λ d. (393216 ≤ vec_capacity d.bytes) × (length d.bytes.items ≤ 393216) };
+}
+
+impl TextDecoder {
+    /// Returns a decoder of a text, with the memory of the longest dump.
+    pub fn new(alloc: Global) -> Result<TextDecoder, AllocError>
+        ensures { IfOk result (λ d. d ≡ before_text) }
+    {
+        Ok(TextDecoder {
+            bytes: Vec::with_capacity(alloc, MOST_KEPT + MOST_SAID)?,
+            form: None,
+            first_line: 0,
+            packets: 0,
+            lines: 0,
+            searched: 0,
+        })
+    }
+
+    /// Returns whether a line feed may have come since the bytes in memory were searched last.
+    fn may_have_line(&mut self, held: &[u8]) -> bool
+        ensures { self.new ≡ self.old }
+    {
+        let searched = self.searched;
+        self.searched = held.len();
+        searched == 0 || first_line_feed(after(held, searched)).is_some()
+    }
+
+    /// Counts a line.
+    fn count_line(&mut self)
+        ensures { self.new ≡ at_line self.old }
+    {
+        self.lines = next_number(self.lines);
+        self.searched = 0;
+    }
+
+    /// Hands on the events of a line.
+    fn take_line<S: Sink>(&mut self, line: &[u8], sink: &mut S)
+        ensures state { self.new ≡ after_line self.old line.now }
+        ensures events { Hands S.handed sink.old sink.new (line_events self.old line.now) }
+    {
+        if line.len() > MOST_KEPT {
+            self.take_long(sink);
+        } else {
+            self.count_line();
+            self.take_said(read_line(line), sink);
+        }
+    }
+
+    /// Hands on the events of a line that is too long.
+    fn take_long<S: Sink>(&mut self, sink: &mut S)
+        ensures state { self.new ≡ after_end (at_line self.old) }
+        ensures events { Hands S.handed sink.old sink.new (long_events self.old) }
+    {
+        self.count_line();
+        self.end_dump(sink);
+        sink.skipped(Part::Line, self.lines, Skipped::TooLong);
+    }
+
+    /// Hands on the events of what follows the last line feed, and of the open dump.
+    fn take_last<S: Sink>(&mut self, line: &[u8], sink: &mut S)
+        ensures { Hands S.handed sink.old sink.new (last_events self.old line.now) }
+    {
+        if line.is_empty() {
+            self.end_dump(sink);
+            return;
+        }
+        self.take_line(line, sink);
+        self.end_dump(sink);
+    }
+
+    /// Hands on the events of a line that says this.
+    fn take_said<S: Sink>(&mut self, line: Line<'_>, sink: &mut S)
+        requires { SaysAtMost 262144 line }
+        ensures state { self.new ≡ after_said self.old line.entry }
+        ensures events { Hands S.handed sink.old sink.new (said_events self.old line.entry) }
+    {
+        match line {
+            Line::Dumped(part) => self.take_part(part, sink),
+            Line::Blank | Line::Comment => self.end_dump(sink),
+            Line::Packet(bytes) => {
+                self.end_dump(sink);
+                self.take_packet(Time::Unknown, bytes, sink);
+            }
+            Line::Logged(logged) => {
+                self.end_dump(sink);
+                let time = Time::OfDay {
+                    time: logged.time,
+                    direction: logged.direction,
+                };
+                self.take_packet(time, logged.packet, sink);
+            }
+            Line::Unknown => {
+                self.end_dump(sink);
+                sink.skipped(Part::Line, self.lines, Skipped::Unknown);
+            }
+        }
+    }
+
+    /// Hands on a packet, where no dump is open.
+    fn take_packet<S: Sink>(&mut self, time: Time<'_>, bytes: HexBytes<'_>, sink: &mut S)
+        requires closed { self.old.dump ≡ None }
+        requires short { 2 * length bytes ≤ 262144 }
+        ensures state { self.new ≡ record self.old { packets = one_more self.old.packets } }
+        ensures events { Hands S.handed sink.old sink.new
+            (packet_event (one_more self.old.packets) self.old.lines time.entry 248 bytes.entry
+            ∷ []) }
+    {
+        self.packets = next_number(self.packets);
+        self.bytes.clear();
+        bytes.append_reserved(&mut self.bytes);
+        let bytes = self.bytes.as_slice();
+        hand_on(self.packets, self.lines, time, link_type::SCTP, bytes, sink);
+    }
+
+    /// Hands on the events of a line of a dump.
+    fn take_part<S: Sink>(&mut self, part: DumpedBytes<'_>, sink: &mut S)
+        requires { 2 * length part.bytes ≤ 262144 }
+        ensures state { self.new ≡ after_said self.old (Dumped part.entry) }
+        ensures events { Hands S.handed sink.old sink.new
+            (said_events self.old (Dumped part.entry)) }
+    {
+        if !self.is_continued_by(&part) {
+            self.end_dump(sink);
+            self.begin_dump(part, sink);
+        } else if self.bytes.len() > MOST_KEPT {
+            self.form = None;
+            sink.skipped(Part::Line, self.lines, Skipped::TooLong);
+        } else {
+            part.bytes.append_reserved(&mut self.bytes);
+        }
+    }
+
+    /// Returns whether a line continues the open dump.
+    fn is_continued_by(&self, part: &DumpedBytes<'_>) -> bool
+        ensures { result ≡ continues_dump part.now self.now.dump }
+    {
+        match self.form {
+            Some(form) => {
+                is_form(part.form, form)
+                    && place_of(part.offset, self.bytes.len()) == Place::Continues
+            }
+            None => false,
+        }
+    }
+
+    /// Takes a line of a dump that continues none, where none is open: it begins one at offset 0.
+    fn begin_dump<S: Sink>(&mut self, part: DumpedBytes<'_>, sink: &mut S)
+        requires closed { self.old.dump ≡ None }
+        requires short { 2 * length part.bytes ≤ 262144 }
+        ensures state { self.new ≡ after_own self.old (Dumped part.entry) }
+        ensures events { Hands S.handed sink.old sink.new
+            (own_events self.old (Dumped part.entry)) }
+    {
+        if part.offset != 0 {
+            sink.skipped(Part::Line, self.lines, Skipped::Apart);
+            return;
+        }
+        self.form = Some(part.form);
+        self.first_line = self.lines;
+        self.bytes.clear();
+        part.bytes.append_reserved(&mut self.bytes);
+    }
+
+    /// Hands on the packet of the open dump, if one is open.
+    fn end_dump<S: Sink>(&mut self, sink: &mut S)
+        ensures state { self.new ≡ after_end self.old }
+        ensures events { Hands S.handed sink.old sink.new (end_events self.old) }
+    {
+        let Some(form) = self.form else {
+            return;
+        };
+        self.form = None;
+        self.packets = next_number(self.packets);
+        let bytes = self.bytes.as_slice();
+        let link = link_of(form, bytes);
+        hand_on(
+            self.packets,
+            self.first_line,
+            Time::Unknown,
+            link,
+            bytes,
+            sink,
+        );
+    }
+}
+
+impl Decoder for TextDecoder {
+    ghost State = { TextState };
+
+    ghost state = { λ d. d };
+
+    ghost Item = { LineItem };
+
+    ghost End = { TextEnd };
+
+    fn next<S: Sink>(&mut self, held: &[u8], at_end: bool, sink: &mut S) -> Next {
+        let may_have_line = self.may_have_line(held);
+        if !may_have_line && !at_end && held.len() <= MOST_KEPT {
+            return Next::More;
+        }
+        match first_line_feed(held) {
+            Some(size) => {
+                let line = front(held, size);
+                self.take_line(line, sink);
+                Next::Item(size + 1)
+            }
+            None if at_end => {
+                self.take_last(held, sink);
+                Next::End
+            }
+            None if held.len() > MOST_KEPT => {
+                self.take_long(sink);
+                Next::Long(Extent::Line)
+            }
+            None => Next::More,
+        }
+    }
+}
+
+/// Hands on a frame of a text.
+fn hand_on<S: Sink>(
+    number: u64,
+    first_line: u64,
+    time: Time<'_>,
+    link_type: u16,
+    bytes: &[u8],
+    sink: &mut S,
+)
+    requires { length bytes.now < 2 ^ 32 }
+    ensures { Hands S.handed sink.old sink.new
+        (packet_event number first_line time.entry link_type bytes.now ∷ []) }
+{
+    let seen = Seen {
+        number,
+        time,
+        part: Part::Line,
+        place: first_line,
+    };
+    sink.frame(&seen, link_type, bytes.len() as u32, bytes);
+}
+
+/// Returns the number after this one, if there is one.
+fn next_number(number: u64) -> u64
+    ensures { result ≡ one_more number }
+{
+    number.saturating_add(1)
+}
+
+/// Returns whether the forms are the same.
+fn is_form(form: DumpForm, of: DumpForm) -> bool
+    ensures { result ≡ is_form form of }
+{
+    match form {
+        DumpForm::Xxd => matches!(of, DumpForm::Xxd),
+        DumpForm::Tcpdump => matches!(of, DumpForm::Tcpdump),
+        DumpForm::Hexdump => matches!(of, DumpForm::Hexdump),
+        DumpForm::Wireshark => matches!(of, DumpForm::Wireshark),
+    }
+}
+
+/// Returns the offset of the first line feed.
+pub fn first_line_feed(bytes: &[u8]) -> Option<usize>
+    ensures { result ≡ position (λ byte. byte == 10) bytes.now }
+{
+    bytes.iter().position(|byte| *byte == b'\n')
+}

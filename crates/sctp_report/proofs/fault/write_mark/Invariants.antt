@@ -1,8 +1,0 @@
--- A blank for each step so far is written.
-use Rattle.std.proofs.Common.{replicate}
-use Rattle.std.specs.Fmt.{HasWritten, IsPlainFormatter}
-use Rattle.sctp_report.proofs.fault.write_mark.Given as goal
-
-abbrev pub invariant-loop-i : goal.invariant-loop-i
-invariant-loop-i g l = IsPlainFormatter l.initial.f
-    → HasWritten g.W.Write.write_str_gives l.initial.f (replicate l._i 32) l.f
