@@ -32,7 +32,7 @@ pub fn reason_of(why: Skipped) -> &'static str {
         Skipped::Malformed => "a header's length is wrong",
         Skipped::TooLong => "more than 262144 bytes",
         Skipped::EndsIn => "the file ends in it",
-        Skipped::NoInterface => "no block describes its interface",
+        Skipped::NoInterface => "its interface isn't known",
         Skipped::Unknown => "not a packet; further lines like it are counted alone",
         Skipped::Apart =>
             "its offset doesn't continue a packet; further lines like it are counted alone",

@@ -156,7 +156,7 @@ Item-held s t h held size least is enough after =
     )
 
 long_block : (s : State) (h : BlockHeader) (body : List ℕ) → 262144 < length body
-    → long_events s.number h ≡ block_events s.interfaces s.number h body
+    → long_events s.number ≡ block_events s.interfaces s.number h body
 long_block s h body long =
     let past : nat_lt 262144 (length body) ≡ true = grind (arith, nat_tests) in rw past refl
 
@@ -170,7 +170,7 @@ long_after s h body long =
 pub Passes-long : (s t : State) (h : BlockHeader) (held : List ℕ) → 12 ≤ length held
     → block_header s.order held ≡ Some h → length held < h.total_length
     → 262144 < h.total_length - 12 → t ≡ after_block s h []
-    → Passes Item End s held (extent.Bytes h.total_length) (long_events s.number h) t
+    → Passes Item End s held (extent.Bytes h.total_length) (long_events s.number) t
 Passes-long s t h held size is short long after = (
   short,
   λ bytes all starts. (
@@ -203,7 +203,7 @@ Passes-long s t h held size is short long after = (
   at_least bytes starts = omega (arith, ap length starts, length-take (length held) bytes)
 
   cut_events : (bytes : List ℕ) → StartsWith bytes held
-      → long_events s.number h ≡ end_events s bytes
+      → long_events s.number ≡ end_events s bytes
   cut_events bytes starts =
       let least = at_least bytes starts in
       let so = begins_so s.order bytes h (header_of bytes starts) in

@@ -19,15 +19,27 @@ has_ip offset bytes =
 abbrev pub is_tag : ℕ → Bool
 is_tag type = type == 0x8100 || type == 0x88a8
 
--- An Ethernet header, behind whose two addresses an IP packet is, or a tag.
+abbrev pub has_tag : ℕ → List ℕ → Bool
+has_tag offset bytes =
+    nat_le (offset + 2) (length bytes) && is_tag (number16 (drop offset bytes))
+
+-- An Ethernet header, behind whose two addresses an IP packet is, or one or two tags and then an IP
+-- packet.
 abbrev pub is_ethernet : List ℕ → Bool
 is_ethernet bytes =
-    has_ip 12 bytes || nat_le 14 (length bytes) && is_tag (number16 (drop 12 bytes))
+    has_ip 12 bytes
+    || has_tag 12 bytes && (has_ip 16 bytes || has_tag 16 bytes && has_ip 20 bytes)
 
 -- A header of Linux's cooked frames of 16 bytes: it begins with a number up to 4, which says where
 -- the frame went, and ends with the type.
 abbrev pub is_cooked : List ℕ → Bool
 is_cooked bytes = has_ip 14 bytes && nat_le (number16 bytes) 4
+
+-- A header of Linux's cooked frames of 20 bytes: the type, two zeros, and 16 bytes more.
+abbrev pub is_cooked_2 : List ℕ → Bool
+is_cooked_2 bytes =
+    nat_le 21 (length bytes) && number16 (drop 2 bytes) == 0
+    && is_ip_type (number16 bytes) (ip_version (drop 20 bytes))
 
 -- An IP packet that is whole: its header says how long it is, and so long it is.
 abbrev pub is_ip : List ℕ → Bool
@@ -41,10 +53,11 @@ abbrev pub link_or : ℕ → List ℕ → ℕ
 link_or other bytes =
     if is_ethernet bytes then 1 else
     if is_cooked bytes then 113 else
+    if is_cooked_2 bytes then 276 else
     other
 
 -- The link type of a dump's bytes. By xxd they are an SCTP packet (248); by tcpdump a frame of
--- Ethernet (1) or of Linux's cooked ones (113), or an IP packet (101); by others any of these.
+-- Ethernet (1) or of Linux's cooked ones (113, 276), or an IP packet (101); by others any of these.
 abbrev pub link_of : DumpForm → List ℕ → ℕ
 link_of Xxd bytes = 248
 link_of Tcpdump bytes = link_or 101 bytes

@@ -94,13 +94,13 @@ kept_event interfaces number h body =
     if h.block_type == 3 then simple_event number h.order body (interface_at interfaces 0) else
     packet_event number h.order body (interface_at interfaces (number_in h.order w16 body))
 
--- of a packet block whose body is longer than is kept, and of other blocks
-abbrev pub long_events : ℕ → BlockHeader → List Event
-long_events number h = if is_packet h.block_type then Skip part.Record number TooLong ∷ [] else []
+-- of a block whose body is longer than is kept
+abbrev pub long_events : ℕ → List Event
+long_events number = Skip part.Record number TooLong ∷ []
 
 abbrev pub block_events : List (Option Interface) → ℕ → BlockHeader → List ℕ → List Event
 block_events interfaces number h body =
-    if nat_lt 262144 (length body) then long_events number h else
+    if nat_lt 262144 (length body) then long_events number else
     if is_packet h.block_type then kept_event interfaces number h body ∷ [] else
     []
 
@@ -143,7 +143,7 @@ fault_by (Some h) = None
 abbrev pub events_by : State → Option BlockHeader → List Event
 events_by s None = []
 events_by s (Some h) =
-    if nat_lt 262144 (h.total_length - 12) then long_events s.number h else
+    if nat_lt 262144 (h.total_length - 12) then long_events s.number else
     Skip part.Record s.number EndsIn ∷ []
 
 abbrev pub end_fault : Option ByteOrder → List ℕ → Option Fault

@@ -1,7 +1,7 @@
 //! What the bytes of a dump are.
 
 ghost use Rattle.std.specs.Prelude.{◌≡◌, ◌+◌, ◌≤◌, length, IsTrue};
-ghost use Rattle.sctp_capture.specs.Dump.{has_ip, is_tag, is_ethernet, is_cooked, is_ip, link_or, link_of};
+ghost use Rattle.sctp_capture.specs.Dump.{is_ip_type, has_ip, is_tag, has_tag, is_ethernet, is_cooked, is_cooked_2, is_ip, link_or, link_of};
 
 use crate::frame::{link_type, number16};
 use crate::line::DumpForm;
@@ -32,6 +32,8 @@ fn link_or(other: u16, bytes: &[u8]) -> u16
         link_type::ETHERNET
     } else if is_cooked(bytes) {
         link_type::LINUX_COOKED
+    } else if is_cooked_2(bytes) {
+        link_type::LINUX_COOKED_2
     } else {
         other
     }
@@ -55,7 +57,16 @@ fn is_ip(bytes: &[u8]) -> bool
 fn is_ethernet(bytes: &[u8]) -> bool
     ensures { result ≡ is_ethernet bytes.now }
 {
-    has_ip(bytes, 12) || bytes.len() >= 14 && is_tag(number16(&bytes[12..]))
+    has_ip(bytes, 12)
+        || has_tag(bytes, 12) && (has_ip(bytes, 16) || has_tag(bytes, 16) && has_ip(bytes, 20))
+}
+
+/// Returns whether the type of a tag is at this offset.
+fn has_tag(bytes: &[u8], offset: usize) -> bool
+    requires { offset ≤ 16 }
+    ensures { result ≡ has_tag offset bytes.now }
+{
+    bytes.len() >= offset + 2 && is_tag(number16(&bytes[offset..]))
 }
 
 /// Returns whether the bytes begin with a header of a cooked frame.
@@ -65,17 +76,30 @@ fn is_cooked(bytes: &[u8]) -> bool
     has_ip(bytes, 14) && number16(bytes) <= 4
 }
 
+/// Returns whether the bytes begin with a header of a cooked frame of the second version.
+fn is_cooked_2(bytes: &[u8]) -> bool
+    ensures { result ≡ is_cooked_2 bytes.now }
+{
+    bytes.len() >= 21 && number16(&bytes[2..]) == 0 && is_ip_type(number16(bytes), bytes[20] / 16)
+}
+
 /// Returns whether a type of IP is at this offset, and an IP packet behind it.
 fn has_ip(bytes: &[u8], offset: usize) -> bool
-    requires { offset ≤ 14 }
+    requires { offset ≤ 20 }
     ensures value { result ≡ has_ip offset bytes.now }
     ensures long { IsTrue result → offset + 3 ≤ length bytes.now }
 {
     if bytes.len() < offset + 3 {
         return false;
     }
-    let version = bytes[offset + 2] / 16;
-    match number16(&bytes[offset..]) {
+    is_ip_type(number16(&bytes[offset..]), bytes[offset + 2] / 16)
+}
+
+/// Returns whether a type is that of an IP packet of this version.
+fn is_ip_type(kind: u16, version: u8) -> bool
+    ensures { result ≡ is_ip_type kind version }
+{
+    match kind {
         0x0800 => version == 4,
         0x86dd => version == 6,
         _ => false,

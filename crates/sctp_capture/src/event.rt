@@ -70,7 +70,7 @@ pub enum Skipped {
     TooLong,
     /// The file ends in it.
     EndsIn,
-    /// A packet block of an interface that no block describes.
+    /// A packet block of an interface that no block describes, or that isn't kept.
     NoInterface,
     /// A line of no form that is known.
     Unknown,

@@ -102,7 +102,7 @@ impl PcapngDecoder {
             return Next::Item(size);
         }
         if size - LEAST_BLOCK_SIZE > MOST_KEPT {
-            hand_long(self.number, header, sink);
+            hand_long(self.number, sink);
             self.note_block(header, &[]);
             return Next::Long(Extent::Bytes(size));
         }
@@ -157,7 +157,7 @@ fn hand_block<S: Sink>(
         (block_events interfaces.now number header.now body.now) }
 {
     if body.len() > MOST_KEPT {
-        return hand_long(number, header, sink);
+        return hand_long(number, sink);
     }
     let order = header.order;
     if header.block_type == ENHANCED_PACKET {
@@ -177,13 +177,11 @@ fn hand_block<S: Sink>(
     }
 }
 
-/// Hands on the event of a block that is longer than is kept, if it is a packet.
-fn hand_long<S: Sink>(number: u64, header: &BlockHeader, sink: &mut S)
-    ensures { Hands S.handed sink.old sink.new (long_events number header.now) }
+/// Hands on the event of a block that is longer than is kept.
+fn hand_long<S: Sink>(number: u64, sink: &mut S)
+    ensures { Hands S.handed sink.old sink.new (long_events number) }
 {
-    if is_packet(header.block_type) {
-        sink.skipped(Part::Record, number, Skipped::TooLong);
-    }
+    sink.skipped(Part::Record, number, Skipped::TooLong);
 }
 
 /// Returns the interface of this number.

@@ -24,7 +24,7 @@ pub returns-then-size-gt-MOST_KEPT : goal.returns-then-size-gt-MOST_KEPT
 returns-then-size-gt-MOST_KEPT g c =
     let s = state_of c.args.self.now in
     let h = c.args.header.now in (
-      long_events s.number h,
+      long_events s.number,
       c.hand_long.ensures,
       Passes-long s (state_of c.note_block-then-size-gt-MOST_KEPT.new.self) h c.args.held.now
           c.requires.size c.requires.header (omega arith) (omega arith)
