@@ -1,4 +1,4 @@
-use Rattle.dcsctp_c.{specs.Code.{policy_of}, specs.Output.{IsAnyText, packet, faulty}, proofs.AnswerCodes.{of_packet, refused_check}}
+use Rattle.dcsctp_c.{specs.Code.{policy_of}, specs.Output.{IsAnyText}, proofs.AnswerCodes.{of_packet, refused_check}}
 use Rattle.dcsctp_c.proofs.packet.dcsctp_report.Goals as goal
 
 pub returns-in-Ok-clause-writes : goal.returns-in-Ok-clause-writes
