@@ -75,6 +75,7 @@ def printed(program, path):
 
 
 def said(line, values, chunks):
+    """Adds what a line says: values of the packet, or a chunk or fields of the last one."""
     headers = [(name, tuple(map(read, found.groups()))) for name, form, read in HEADERS
                for found in [re.fullmatch(form, line)] if found]
     values.update(headers)
@@ -93,8 +94,7 @@ def said(line, values, chunks):
 def dissected(path):
     """What tshark says of each packet, in the same form."""
     command = ['tshark', '-n', '-r', path, '-T', 'pdml', '-Y', 'sctp.checksum and !(ip.flags.mf == 1 or ip.frag_offset > 0)',
-               '-o', 'sctp.checksum:CRC 32c',
-               '-o', 'ip.defragment:FALSE', '-o', 'ipv6.defragment:FALSE']
+               '-o', 'sctp.checksum:CRC 32c', '-o', 'ip.defragment:FALSE', '-o', 'ipv6.defragment:FALSE']
     with subprocess.Popen(command, stdout=subprocess.PIPE, stderr=subprocess.DEVNULL) as run:
         for _, packet in xml.etree.ElementTree.iterparse(run.stdout):
             if packet.tag == 'packet':
@@ -123,6 +123,7 @@ def shown(packet):
 
 
 def fields_of(chunk):
+    """The fields of a chunk, but for those of chunks and parameters that it quotes."""
     found = [(it.get('name').removeprefix('sctp.'), it.get('show')) for field in chunk for it in (field, *field)]
     typ = int(dict(found)['chunk_type'])
     yield 'chunk', typ
