@@ -82,7 +82,7 @@ def said(line, values, chunks):
     if headers or not line:
         return
     line = re.sub(r'"[^"]*"|\([^)]*\)', '', line)
-    if line[0] != ' ':
+    if line[0] != ' ' or not chunks:
         name = re.split('[:,]', line)[0]
         typ = re.match('unknown chunk: type (0x[0-9a-f]+)', line)
         chunks.append([('chunk', int(typ[1], 0) if typ else CHUNKS.get(name, name))])
