@@ -33,21 +33,23 @@ HEADER = '1388138801020304' + '00000000'
 
 PAGE_HEAD = '''# Packets of real peers
 
-Each can be given to the program: `(cd crates/sctp_show && echo HEX | rt try)`. `docs/captures.py --write` makes this page of
-`docs/captures.txt` and of what the program prints; tests hold it too (`crates/sctp_show/src/tests/captures.rt`,
-`crates/value_tests/src/association.rt`, the golden run of `crates/sctp_dump`).
+Each line of digits is a packet, and below it is what a program prints of it: `echo DIGITS | ./sctp_show` or `echo DIGITS | ./sctp_dump`
+([how to build them](INSTALL.md)). Where the line `canonical=` of `sctp_show` is missing here, the canonical form is the packet itself
+with a checksum field of 0. `docs/captures.py --write` makes this page of `docs/captures.txt` and of what the programs print; tests hold
+it too (`crates/sctp_show/src/tests/captures.rt`, `crates/value_tests/src/association.rt`, the golden run of `crates/sctp_dump`).
 '''
 
 # What is said below each heading.
 SECTIONS = {
-    'Chunks': '''The chunks were captured; the header is the same in all: both ports 5000, tag 16909060, checksum 0.
+    'Chunks': '''The chunks were captured; the header is the same in all: both ports 5000, tag 16909060, checksum 0. Below each is what `sctp_show`
+prints after the line of the header.
 ''',
     'An association, with its checksums': '''Two sockets of usrsctp 0.9.5.0 (Debian's `libusrsctp2`) in one process, `bench/association.c`: all packets from INIT to SHUTDOWN
-COMPLETE, as they were sent. Each carries its CRC32c: `read_verified` (docs/CALLING.md) reads it, and refuses it after each
-single changed bit of the checksum field. Below each is what `sctp_show` prints, and then what `sctp_dump` does.
+COMPLETE, as they were sent. Each carries its CRC32c: `read_verified` ([CALLING.md](CALLING.md)) reads it, and refuses it after each
+single changed bit of the checksum field. Below each is what `sctp_dump` prints.
 ''',
-    'Refused packets, with their faults': '''Packets of this association, changed by hand; their checksums were computed anew, but for the first. The fault and its offset
-in bytes are those of `SctpPacket::first_fault`, with the word of `packet_word` and the default policy. Below is what `sctp_dump`
+    'Refused packets, with their faults': '''Packets of this association, changed by hand; their checksums were computed anew, but for the first and the last. The fault and its
+offset in bytes are those of `SctpPacket::first_fault`, with the word of `packet_word` and the default policy. Below is what `sctp_dump`
 prints, which reads a packet whose checksum is wrong.
 ''',
 }
@@ -158,6 +160,14 @@ def dumped():
     return iter(text.partition('file ')[0].split('\n\n'))
 
 
+def shown(entry, answer):
+    """What the page shows of what sctp_show prints: without the header and a canonical form that the packet's digits show already."""
+    lines = answer.splitlines()[1:]
+    if lines and lines[-1] == f'canonical={entry.text[:16]}00000000{entry.text[24:]}':
+        lines.pop()
+    return lines
+
+
 def page_of(rows):
     parts = [PAGE_HEAD]
     blocks = dumped()
@@ -165,10 +175,16 @@ def page_of(rows):
         if isinstance(entry, str):
             parts.append(f'## {entry}\n\n{SECTIONS[entry]}')
             continue
-        told = answer if entry.fault is None else f'refused: {entry.fault}, at byte {entry.offset}'
-        block = [entry.text, '', *told.splitlines()]
+        block = [entry.text]
+        if entry.fault is not None:
+            block.append(f'refused: {entry.fault}, at byte {entry.offset}')
+        elif not entry.is_whole:
+            block += shown(entry, answer)
+        else:
+            block += [line for line in shown(entry, answer) if line.startswith('canonical=')]
         if entry.is_whole:
-            block += ['', *next(blocks, '').splitlines()]
+            # the number of the packet comes first
+            block += next(blocks, '').splitlines()[1:]
         parts.append('\n'.join(entry.words) + '\n\n' + '\n'.join('    ' + line if line else '' for line in block) + '\n')
     return '\n'.join(parts)
 
