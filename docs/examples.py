@@ -1,19 +1,20 @@
 #!/usr/bin/env python3
 """usage: docs/examples.py --write | --compare | --paste DIR [NAME ..] | --help
 
-The programs of docs/CALLING.md are the files of crates/dcsctp_uses/src, which the gate proves. The program of docs/C.md
+The programs of docs/CALLING.md are files of crates/dcsctp_uses/src, which the gate proves. The program of docs/C.md
 is a file of examples/c, which c/test.sh runs.
 
   --write      puts each file into its page, after the line `<!-- NAME.rt -->` or `<!-- NAME.c -->`
   --compare    fails if a program of a page isn't its file
-  --paste DIR  makes a repository in DIR as a new user would: the libraries, with what is proved of them, and a crate
-               `your_crate` with the programs of docs/CALLING.md, or the named ones alone and what they call, and with the
-               files of proofs/ and specs/ that they need
+  --paste DIR  makes a repository in DIR as a new user would: the libraries, with what is proved of them, their licence and
+               their version, and a crate `your_crate` with the programs of crates/dcsctp_uses, or the named ones alone and
+               what they call, and with the files of proofs/ and specs/ that they need
   --help       prints this
 """
 import os
 import re
 import shutil
+import subprocess
 import sys
 
 ROOT = os.path.dirname(os.path.dirname(os.path.abspath(__file__)))
@@ -43,6 +44,18 @@ def examples(page, _, ending, word):
     if not found:
         sys.exit(f'{page} has no programs')
     return found
+
+
+def all_programs():
+    """The name and the text of each program of crates/dcsctp_uses."""
+    return [(path[4:-3], text) for path, text in sorted(text_files('src').items()) if path != 'src/lib.rt']
+
+
+def version():
+    """What was copied: the newest heading of CHANGELOG.md, and the commit, if this is a clone."""
+    heading = re.search(r'^## (.*)$', read('CHANGELOG.md'), re.M)[1]
+    commit = subprocess.run(['git', 'rev-parse', 'HEAD'], cwd=ROOT, capture_output=True, text=True).stdout.strip()
+    return f'davgyuti {heading}\n' + (f'commit {commit}\n' if commit else '')
 
 
 def write():
@@ -95,12 +108,17 @@ def needed(programs, wanted):
 
 
 def paste(directory, wanted):
-    programs = examples(*PAGES[0])
+    programs = all_programs()
     lacking = [name for name in wanted if name not in [it for it, _ in programs]]
     if lacking:
-        sys.exit(f'{PAGES[0][0]} has no program {lacking[0]}')
+        sys.exit(f'crates/dcsctp_uses has no program {lacking[0]}')
     os.makedirs(os.path.join(directory, 'crates'))
     shutil.copy(os.path.join(ROOT, 'HANDLES'), directory)
+    for name in ('LICENSE', 'NOTICE'):
+        shutil.copy(os.path.join(ROOT, name), os.path.join(directory, f'{name}-dcsctp'))
+    for name, text in (('VERSION-dcsctp', version()), ('.gitignore', 'out/\n')):
+        with open(os.path.join(directory, name), 'w', encoding='utf-8') as file:
+            file.write(text)
     for library in LIBRARIES:
         shutil.copytree(os.path.join(ROOT, 'crates', library), os.path.join(directory, 'crates', library))
     with open(os.path.join(ROOT, 'crates.txt'), encoding='utf-8') as file:
