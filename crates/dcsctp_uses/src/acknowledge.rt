@@ -24,8 +24,8 @@ pub fn acknowledgment_with_data(
     limit: u16,
     word: u32,
 ) -> Result<Option<Vec<u8>>, AllocError>
-    // What `from_bytes` gives for the bytes, under each word and policy that accept their checksum:
-    // the SACK and the DATA, but for fields that DATA doesn't carry.
+    // What `from_bytes` returns for the bytes, under each word and policy that accept their
+    // checksum: the SACK and the DATA, but for fields that DATA doesn't carry.
     ensures reads { IfOk result (λ made. IfSome made (λ bytes.
         (expected : ℕ) (policy : ChecksumPolicy)
         → IsAccepted policy (checksum_field bytes.items) expected
@@ -54,7 +54,7 @@ pub fn acknowledgment_with_data(
     Ok(Some(builder.build(word)))
 }
 
-/// Adds two chunks; the answer is false where they have no room.
+/// Adds two chunks; returns false if they have no room.
 fn add_both(
     builder: &mut SctpPacketBuilder,
     first: &Chunk,

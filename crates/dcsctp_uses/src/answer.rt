@@ -1,4 +1,4 @@
-//! From a packet to the packet that answers it.
+//! From a packet to the reply.
 
 ghost use Rattle.std.specs.Prelude.{◌≡◌, ◌↔◌, ◌∷◌, [], Ok, Err, IfOk, IfSome, IfNone, IsErrOf};
 ghost use Rattle.dcsctp_wire.specs.Caller.{Meaning, PacketTree, PacketFault, packet_error_of, meaning_view, chunk_view, init_ack_view};
@@ -14,9 +14,9 @@ use dcsctp_wire::packet::sctp_packet::{
 };
 use std::alloc::{AllocError, Global};
 
-/// Answers an INIT with `own`, and DATA with a SACK of its TSN, which serves where the peer waits
-/// for each SACK. Nothing for another packet, or where the answer has no room within the limit. A
-/// fault is returned exactly where the bytes have one.
+/// Returns the reply to a packet: `own` to an INIT, and to DATA a SACK of its TSN, which serves
+/// where the peer waits for each SACK. `None` for another packet, or if the reply has no room
+/// within the limit. Returns a fault if and only if the bytes have one.
 ///
 /// The tag of `own` is this side's, and `peer_tag` the other side's (RFC 9260 section 8.5).
 pub fn answer(
@@ -42,7 +42,7 @@ pub fn answer(
     }
 }
 
-/// The chunk that answers a packet, and the tag under which it is sent.
+/// Returns the chunk of the reply, and the tag under which it is sent.
 fn reply_to(
     alloc: Global,
     packet: &SctpPacket,
@@ -73,8 +73,8 @@ fn reply_to(
     }
 }
 
-/// A packet of one chunk, back to where the other came from, with its CRC32c. Nothing where it has
-/// no room within the limit.
+/// Returns a packet of one chunk, back to where the other came from, with its CRC32c. `None` if it
+/// has no room within the limit.
 fn one_chunk(
     alloc: Global,
     header: &CommonHeader,

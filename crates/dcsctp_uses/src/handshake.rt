@@ -1,4 +1,4 @@
-//! The answer to an INIT.
+//! The reply to an INIT.
 
 ghost use Rattle.std.specs.Prelude.{◌≡◌, ◌≤◌, ◌+◌, ◌*◌, ◌/◌, ◌∷◌, [], true, IfOk, IfSome, IfNone};
 ghost use Rattle.dcsctp_wire.specs.Caller.{Holds, padded_size, IsChunkEncodable, init_ack_view};
@@ -11,8 +11,8 @@ use dcsctp_wire::packet::sctp_packet::{CommonHeader, SctpPacketBuilder};
 use dcsctp_wire::packet::{SerializableTlv, round_up_to_4};
 use std::alloc::{AllocError, Global};
 
-/// The packet that answers an INIT: to where it came from, with the tag that it asks for. Nothing
-/// where the answer can't be written within the limit.
+/// Returns the reply to an INIT: to where it came from, with the tag that it asks for. `None`
+/// if the reply can't be written within the limit.
 ///
 /// `as_bytes` of the builder is what the CRC32c is computed over; `build(checksum_word(crc32c))`
 /// then returns the packet.

@@ -10,7 +10,7 @@ use dcsctp_wire::packet::chunk::Chunk;
 use dcsctp_wire::packet::sctp_packet::{ChecksumPolicy, PacketParseError};
 use std::alloc::Global;
 
-/// How many bytes of user data a packet carries, or why it is none. Does not allocate.
+/// Returns the number of bytes of user data in a packet, or its first fault. Does not allocate.
 pub fn payload_size(
     bytes: &[u8],
     word: u32,
@@ -31,8 +31,8 @@ pub fn payload_size(
     Ok(size)
 }
 
-/// The chunks of a packet, each built from its place in the bytes: those that
-/// `SctpPacket::from_bytes` gives, by the same clauses.
+/// Returns the chunks of a packet, each built from its place in the bytes: those that
+/// `SctpPacket::from_bytes` returns, by the same clauses.
 pub fn owned_chunks(
     alloc: Global,
     bytes: &[u8],

@@ -8,8 +8,8 @@ use dcsctp_crc32c::packet_word;
 use dcsctp_wire::packet::sctp_packet::{ChecksumPolicy, PacketParseError, SctpPacket};
 use std::alloc::Global;
 
-/// The text of a packet: a line of its header, and a line for each chunk. Its checksum is verified;
-/// a fault is returned exactly where the bytes have one.
+/// Verifies a packet's checksum, and returns its text: a line for its header, and a line for each
+/// chunk. Returns a fault if and only if the bytes have one.
 pub fn packet_to_text(alloc: Global, bytes: &[u8]) -> Result<String, PacketParseError>
     ensures text { IfOk result (λ text. (p : PacketTree) → Verified bytes.now (Ok p)
         → string_bytes text ≡ packet_text p) }

@@ -14,7 +14,7 @@ use std::alloc::Global;
 
 /// Reads a packet and verifies its checksum (RFC 9260 section 6.8). Padding is ignored.
 ///
-/// Returns `InvalidChecksum` exactly where there are 16 to 65,535 bytes and the checksum field
+/// Returns `InvalidChecksum` if and only if there are 16 to 65,535 bytes and the checksum field
 /// isn't the CRC32c; otherwise what `SctpPacket::from_bytes` returns for the word of the bytes.
 pub fn read_verified(alloc: Global, bytes: &[u8]) -> Result<SctpPacket, PacketParseError>
     ensures answer { Exactly packet_reading packet_view (Verified bytes.now) result }
