@@ -1,5 +1,5 @@
-# What bench/run.sh, bench/crc.sh, bench/c.sh and bench/instructions.sh do first; they source it. Its functions run at the
-# root of the repository, and what they make goes to the folder $out.
+# What the scripts of bench/ do first; they source it. Its functions run at the root of the repository, and what they make
+# goes to the folder $out.
 
 export PYTHONDONTWRITEBYTECODE=1
 archives='crates/probes/out/libprobes.a crates/strict_probes/out/libstrict_probes.a'

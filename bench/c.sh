@@ -5,7 +5,7 @@ set -eu
 
 usage='usage: bench/c.sh [ROUNDS [MILLIS]]
 
-Prints a Markdown table of thousands of packets a second. Each call has 30 rounds of 3 milliseconds, or as many as given.
+Prints a Markdown table of nanoseconds a packet. Each call has 30 rounds of 3 milliseconds, or as many as given.
 
 Needed are the toolchain, gcc and Python.'
 
@@ -22,7 +22,7 @@ out=bench/out
 build_c_api
 make_traffic 1
 files=()
-for file in data1200 data_small data_bundle idata1200 sack0 sack4 sack20 init init_ack cookie_echo mixed; do
+for file in data1200 data_small data_bundle sack20 init mixed; do
     files+=("$out/traffic/$file.hex")
 done
 "$out/c_api" "${1:-30}" "${2:-3}" "${files[@]}"

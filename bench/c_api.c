@@ -4,7 +4,7 @@
 
    A file holds one packet a line, in hexadecimal. In each round every call goes over the whole file again and again
    for MILLIS milliseconds, one call after the other, so that a slow spell of the machine hits them all; the best round
-   counts. Prints a Markdown table: thousands of packets a second, a row a file. */
+   counts. Prints a Markdown table: nanoseconds a packet, a row a file. */
 #define _GNU_SOURCE
 #include <dcsctp.h>
 #include <stdio.h>
@@ -146,9 +146,9 @@ int main(int words_count, char **words)
                     best[which] = one;
             }
         const char *slash = strrchr(words[word], '/'), *name = slash ? slash + 1 : words[word];
-        printf("| %.*s |", (int)strcspn(name, "."), name);
+        printf("| `%.*s` |", (int)strcspn(name, "."), name);
         for (int which = 0; which < CALLS; which++)
-            printf(" %.0f |", best[which] / 1000);
+            printf(1e9 / best[which] < 99.95 ? " %.1f |" : " %.0f |", 1e9 / best[which]);
         printf("\n");
         fflush(stdout);
         for (size_t i = 0; i < count; i++)

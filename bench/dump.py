@@ -5,8 +5,8 @@ usage: bench/dump.py [PROGRAM]
 
 Makes bench/out/bulk10.pcap and bulk100.pcap: a bulk transfer over Ethernet and IPv4, two DATA that fill 1,200 bytes
 and then a SACK of the peer, all with their CRC32c. A thousand such packets come again and again, with rising times.
-Runs each command twice over each file, its output thrown away, and prints a Markdown table of what /usr/bin/time says:
-seconds, and the greatest resident memory. PROGRAM is crates/sctp_dump/out/sctp_dump unless it is named (docs/DUMP.md
+Runs each command three times over each file, its output thrown away, and prints a Markdown table of what /usr/bin/time
+says: the least seconds, and the greatest resident memory. PROGRAM is crates/sctp_dump/out/sctp_dump unless it is named (docs/DUMP.md
 says how to build it)."""
 import itertools
 import os
@@ -18,7 +18,7 @@ import sys
 from traffic import Draw, Peer
 
 ROOT = os.path.dirname(os.path.dirname(os.path.abspath(__file__)))
-PACKETS, TURNS = 1000, 2
+PACKETS, TURNS, SIZES = 1000, 3, (10, 100)
 ADDRESSES = bytes([192, 0, 2, 1]), bytes([192, 0, 2, 2])
 
 
@@ -69,13 +69,17 @@ def write(path, size, contents):
 
 
 def measured(command, note):
-    """The seconds of user, system and wall, and the greatest resident memory in KiB, of a run."""
-    run = subprocess.run(['/usr/bin/time', '-o', note, '-f', '%U %S %e %M'] + command, check=False,
-                         stdout=subprocess.DEVNULL, stderr=subprocess.DEVNULL)
-    if run.returncode:
-        sys.exit('dump.py: %s failed' % ' '.join(command))
-    with open(note, encoding='ascii') as file:
-        return file.read().split()
+    """The least seconds of user and wall, and the greatest resident memory in KiB, of some runs."""
+    runs = []
+    for _ in range(TURNS):
+        run = subprocess.run(['/usr/bin/time', '-o', note, '-f', '%U %e %M'] + command, check=False,
+                             stdout=subprocess.DEVNULL, stderr=subprocess.DEVNULL)
+        if run.returncode:
+            sys.exit('dump.py: %s failed' % ' '.join(command))
+        with open(note, encoding='ascii') as file:
+            runs.append(file.read().split())
+    user, wall, memory = zip(*runs)
+    return [min(user, key=float), min(wall, key=float), format(max(map(int, memory)), ',')]
 
 
 def main():
@@ -88,16 +92,13 @@ def main():
     folder = os.path.join(ROOT, 'bench', 'out')
     os.makedirs(folder, exist_ok=True)
     contents = list(frames())
-    print('| command | MB | packets | user s | system s | wall s | resident KiB |\n| --- ' + '| --: ' * 6 + '|')
-    for megabytes in (10, 100):
-        path = os.path.join(folder, 'bulk%d.pcap' % megabytes)
-        packets = write(path, megabytes * 10 ** 6, contents)
-        for command in commands:
-            runs = [measured(command + [path], os.path.join(folder, 'time')) for _ in range(TURNS)]
-            shown = ' '.join([os.path.basename(command[0])] + command[1:])
-            figures = ' | '.join(map(', '.join, zip(*runs)))
-            print('| `%s` | %d | %s | %s |' % (shown, megabytes, format(packets, ','), figures))
-            sys.stdout.flush()
+    paths = [os.path.join(folder, 'bulk%d.pcap' % size) for size in SIZES]
+    packets = [write(path, size * 10 ** 6, contents) for path, size in zip(paths, SIZES)]
+    heads = ['%d MB, %s packets: user s | wall s | KiB' % it for it in zip(SIZES, (format(it, ',') for it in packets))]
+    print('| command | %s |\n| --- ' % ' | '.join(heads) + '| --: ' * 3 * len(SIZES) + '|')
+    for command in commands:
+        cells = [cell for path in paths for cell in measured(command + [path], os.path.join(folder, 'time'))]
+        print('| `%s` | %s |' % (' '.join([os.path.basename(command[0])] + command[1:]), ' | '.join(cells)), flush=True)
 
 
 if __name__ == '__main__':

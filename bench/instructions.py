@@ -1,23 +1,21 @@
 #!/usr/bin/env python3
 """Compares what bench/instructions.sh counted with the recorded figures, and prints it as Markdown.
 
-usage: instructions.py FOLDER RECORD [DOCUMENT]
+usage: instructions.py FOLDER RECORD [--record]
 
 FOLDER holds functions.txt, the names of the library's functions, and for each call and file FILE.CALL.packets, the
-number of packets, and FILE.CALL.callgrind. RECORD is the table of recorded figures. With DOCUMENT writes RECORD, and
-the table between the two marker lines of DOCUMENT; without it exits 1 where a count is more than 1 % above its record."""
+number of packets, and FILE.CALL.callgrind. RECORD is the table of recorded figures. With --record writes RECORD;
+without it exits 1 where a count is more than 1 % above its record."""
 import os
 import re
 import sys
 
-from report import record_in, rows, table
+from report import rows, table
 from traffic import FILES
 
 CALLS = ('check', 'check_lenient', 'check_strict', 'borrowed', 'read', 'read_and_write', 'write_over', 'build')
 # How much of its record a count may be.
 MOST = 1.01
-BEGIN = '<!-- counted: bench/instructions.sh --record writes this part -->'
-END = '<!-- end of the counted part -->'
 
 
 def instructions(file, functions):
@@ -99,26 +97,15 @@ def compared(found, known):
     return table(['file', 'call', 'recorded', 'counted', 'change', 'C library'], lines), above
 
 
-def by_file(found):
-    """The table for the page: a line a file."""
-    calls = [call for call in CALLS if any(key[1] == call for key in found)]
-    files = list(dict.fromkeys(name for name, _ in ordered(found)))
-    return table(['file'] + ['`%s`' % call for call in calls],
-                 [[name] + [figure(found[name, call][0]) for call in calls] for name in files])
-
-
 def main():
-    if len(sys.argv) not in (3, 4):
-        sys.exit('usage: instructions.py FOLDER RECORD [DOCUMENT]')
+    if len(sys.argv) not in (3, 4) or sys.argv[3:] not in ([], ['--record']):
+        sys.exit('usage: instructions.py FOLDER RECORD [--record]')
     folder, record = sys.argv[1:3]
     found = counted(folder)
     lines, above = compared(found, recorded(record))
     print('\n'.join(lines))
     if len(sys.argv) == 4:
         write_record(found, record)
-        with open(os.path.join(folder, 'toolchain.txt'), encoding='utf-8') as file:
-            said = 'Instructions a packet, counted with `%s`, seed 1:' % file.read().strip()
-        record_in(sys.argv[3], '\n'.join([said, '', *by_file(found)]) + '\n', BEGIN, END)
     elif above:
         sys.exit('instructions.py: more than 1 % above the record, or without one:\n  ' + '\n  '.join(above))
 

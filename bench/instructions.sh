@@ -1,15 +1,27 @@
 #!/usr/bin/env bash
-# Counts the library's instructions a packet, and compares them with bench/instructions.tsv (docs/SPEED.md).
+# Counts the library's instructions a packet, and compares them with bench/instructions.tsv.
 set -eu
 . "$(dirname "$0")/build.sh"
 
 usage='usage: bench/instructions.sh [--record]
 
 Counts the instructions that the library takes for each packet of five traffic files, call by call, and prints them
-beside the figures of bench/instructions.tsv. Exits 1 where a count is more than 1 % above the recorded one.
+beside the figures of bench/instructions.tsv. Exits 1 where a count is more than 1 % above the recorded one. Takes 20
+seconds once the library is built.
 
-  --record  writes bench/instructions.tsv, and the table in docs/SPEED.md
+  --record  writes bench/instructions.tsv
   --help    prints this
+
+callgrind counts one round over a file, after a round that warms up. Only the functions of the archives of the library are
+counted; the C library has a column of its own, which is compared with nothing. So a count does not depend on the C library
+or on the load of the machine. It does depend on the toolchain: record again after a change of it. check_lenient and
+check_strict are SctpPacket::check with a policy that is known only as the program runs; the calls of probes are lenient, so
+the compiler leaves out of them what only a strict check does.
+
+The counts rest on three hints, which keep the work for a fault off the path of a valid item. Without padding_fault as a cold
+call (dcsctp_tlv, frame.rt) some checks take 9 % more, without offset as the first field of LocatedFault 12 %, and without
+listed_check inlined (reader.rt) 5 %. With the hints a check that knows the place of its fault takes 3 instructions more for
+a packet than one that does not, and reading 9.
 
 Needed are the toolchain, gcc, Python and valgrind.'
 
@@ -50,4 +62,4 @@ for file in data_small sack4 init hostile_params hostile_acks; do
     done
 done
 
-python3 bench/instructions.py "$counts" bench/instructions.tsv ${record:+docs/SPEED.md}
+python3 bench/instructions.py "$counts" bench/instructions.tsv ${record:+--record}

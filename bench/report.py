@@ -1,10 +1,10 @@
 #!/usr/bin/env python3
 """Joins what the turns of bench/run.sh measured, and prints it as Markdown.
 
-usage: report.py FOLDER [DOCUMENT]
+usage: report.py FOLDER
 
-Reads library.N.tsv, original.N.tsv (if there are any) and circumstances.tsv in FOLDER, writes results.tsv there, and
-prints the tables; with DOCUMENT also puts them between its two marker lines. Of all turns the greatest rate counts."""
+Reads library.N.tsv, original.N.tsv (if there are any) and circumstances.tsv in FOLDER, writes results.tsv there, which
+has all figures of all calls, and prints the part of docs/SPEED.md. Of all turns the greatest rate counts."""
 import glob
 import math
 import os
@@ -18,7 +18,9 @@ COUNTERPARTS = {'borrowed': 'parse', 'read': 'parse', 'read_and_write': 'write',
 CALLS = ('check', 'borrowed', 'read', 'read_and_write', 'write_over', 'build', 'clean')
 COLUMNS = ('file', 'call', 'packets', 'bytes', 'zero', 'rate', 'requests', 'original_rate', 'original_requests',
            'ratio', 'least_ratio', 'greatest_ratio')
-BEGIN, END = '<!-- measured: bench/run.sh --record writes this part -->', '<!-- end of the measured part -->'
+# What the page shows, and of which files not; the Rust crate's calls come behind `read` and `build`.
+SHOWN, BESIDE = ('check', 'borrowed', 'read', 'read_and_write', 'build'), ('read', 'build')
+LEFT_OUT = ('idata1200', 'cookie_echo', 'i_forward_tsn', 'abort', 'handshake')
 
 
 def rows(file):
@@ -83,13 +85,21 @@ def ratio(value):
     return '%.2f' % value
 
 
-def thousands(rate):
-    """Thousands a second: whole, or in three digits below a hundred."""
-    return '{:,.0f}'.format(rate / 1e3) if rate >= 1e5 else '%.3g' % (rate / 1e3)
+def duration(rate):
+    """How long one of so many a second takes: nanoseconds, or microseconds or milliseconds with their unit."""
+    nanoseconds = 1e9 / rate
+    for unit, size in (('ms', 1e6), ('µs', 1e3)):
+        if nanoseconds >= 10 * size:
+            return '%s %s' % (three_digits(nanoseconds / size), unit)
+    return three_digits(nanoseconds)
 
 
-def number(value, shape='{:,.2f}'):
-    return '{:,.0f}'.format(value) if value == int(value) else shape.format(value)
+def three_digits(value):
+    return '{:,.0f}'.format(value) if value >= 99.95 else '%.1f' % value
+
+
+def number(value):
+    return '{:,.0f}'.format(value) if value == int(value) else '{:,.1f}'.format(value)
 
 
 def table(heads, lines):
@@ -97,58 +107,56 @@ def table(heads, lines):
     return ['| ' + ' | '.join(cells) + ' |' for cells in [heads, rule, *lines]]
 
 
-def beside(records):
-    """The library beside the Rust crate."""
-    by = {(it['file'], it['call']): it for it in records}
-    lines, logs = [], {}
-    for name, _, _, _ in FILES:
-        cells = [name]
-        for call in COUNTERPARTS:
-            it = by[name, call]
-            if 'ratio' not in it:
-                break
-            asked = ' / '.join(number(it[key]) for key in ('requests', 'original_requests') if key in it)
-            if it['zero'] == it['packets']:
-                # nothing is written, so there is nothing to compare
-                cells += ['-'] * 3
-                continue
-            rates = '%s / %s' % (thousands(it['rate']), thousands(it['original_rate']))
-            cells += [rates, '**%s**' % ratio(it['ratio']), asked]
-            logs.setdefault(call, []).append(math.log(it['ratio']))
-        else:
-            lines.append(cells)
-    if not lines:
-        return []
-    heads = ['file'] + [word for call in COUNTERPARTS
-                        for word in ('`%s`' % call, 'ratio', 'requests')]
-    means = ['`%s` %s over %d files, least %s' % (
-        call, ratio(math.exp(sum(logs[call]) / len(logs[call]))), len(logs[call]), ratio(math.exp(min(logs[call]))))
-        for call in COUNTERPARTS]
-    spreads = sorted(it['greatest_ratio'] / it['least_ratio'] for it in records if 'ratio' in it)
-    spread = ('Of the ratios of single turns the greatest of a row is {:.2f} times the least in the median, and {:.2f} '
-              'times at most.').format(spreads[len(spreads) // 2], spreads[-1])
-    return ['Library / Rust crate, thousands of packets a second, and requests for memory a packet:', '',
-            *table(heads, lines), '',
-            filled('Geometric means of the ratios: ' + '; '.join(means) + '. ' + spread), '']
-
-
-def alone(records):
-    """The library's own calls."""
+def shown(records, is_beside):
+    """A line for each file that the page shows."""
     by = {(it['file'], it['call']): it for it in records}
     lines = []
     for name, what, _, _ in FILES:
-        cells = [name, what, number(by[name, 'read']['bytes'], '{:,.1f}')]
-        for call in CALLS:
+        if name in LEFT_OUT or name.startswith('clean_'):
+            continue
+        read = by[name, 'read']
+        cells = ['`%s`' % name, what, number(read['bytes'])]
+        for call in SHOWN:
             it = by[name, call]
-            cells.append('-' if it['zero'] == it['packets'] else thousands(it['rate']))
-        lines.append(cells)
-    aligned = table(['file', 'a packet holds', 'bytes'] + ['`%s`' % call for call in CALLS], lines)
+            if it['zero'] == it['packets']:
+                cells.append('-')
+            else:
+                cells.append(duration(it['rate']) + (' (%s)' % ratio(it['ratio']) if 'ratio' in it else ''))
+            if is_beside and call in BESIDE:
+                has_rate = cells[-1] != '-' and 'original_rate' in it
+                cells.append(duration(it['original_rate']) if has_rate else '-')
+        asked = [number(read[key]) for key in ('requests', 'original_requests') if key in read]
+        lines.append(cells + [' / '.join(asked)])
+    heads = ['file', 'a packet holds', 'bytes']
+    for call in SHOWN:
+        heads += ['`%s`' % call] + (["crate's `%s`" % COUNTERPARTS[call]] if is_beside and call in BESIDE else [])
+    aligned = table(heads + ['requests'], lines)
     aligned[1] = aligned[1].replace('| --: |', '| --- |', 1)
-    return ["The library's calls, thousands of packets a second ('-': it answers 0 for every packet):", '', *aligned]
+    return aligned
+
+
+def means(records):
+    """The geometric mean of each call's ratios, the least, and how far those of single turns lie apart."""
+    texts = []
+    for call in COUNTERPARTS:
+        found = [it['ratio'] for it in records if it['call'] == call and 'ratio' in it and it['zero'] != it['packets']]
+        texts.append('`%s` %s (%s)' % (
+            call, ratio(math.exp(sum(map(math.log, found)) / len(found))), ratio(min(found))))
+    spreads = sorted(it['greatest_ratio'] / it['least_ratio'] for it in records if 'ratio' in it)
+    return ('Geometric means of the ratios, over all files, and the least: %s. Of the ratios of single turns the greatest of a row is %.2f '
+            'times the least in the median, and %.2f times at most.'
+            % (', '.join(texts), spreads[len(spreads) // 2], spreads[-1]))
+
+
+def cleaned(records):
+    """What is said of SACK cleaning."""
+    by = {it['file']: it for it in records if it['call'] == 'clean'}
+    return '`clean`: %s.' % '; '.join(
+        '%s: %s' % (what, duration(by[name]['rate'])) for name, what, _, _ in FILES if name.startswith('clean_'))
 
 
 def filled(text):
-    return textwrap.fill(text, 128, break_long_words=False, break_on_hyphens=False)
+    return textwrap.fill(text, 140, break_long_words=False, break_on_hyphens=False)
 
 
 def circumstances(folder):
@@ -157,37 +165,27 @@ def circumstances(folder):
         return dict(line.rstrip('\n').split('\t', 1) for line in lines)
 
 
-def caption(folder):
+def caption(folder, is_beside):
     said = circumstances(folder)
     is_busy = float(said['load']) > float(said['processors']) / 2
     return filled((
         'Measured on {date}, with the crates of commit `{commit}`: {processor}, {processors} processors, load {load} as it '
-        'began; `{toolchain}`; the driver compiled by {compiler} with `-O2`; {rounds} rounds of {millis} '
-        'ms in each of {turns} turns, seed {seed}.').format(**said)
+        'began; `{toolchain}`; {rounds} rounds of {millis} ms in each of {turns} turns, seed {seed}. Nanoseconds a packet, '
+        'where no other unit is said').format(**said)
+        + ("; in brackets how many times as long the Rust crate takes; and requests for memory of `read`, library / crate."
+           if is_beside else '; and requests for memory of `read`.')
         + (' **The machine was busy, so these figures say little**: run it again in a quiet hour.' if is_busy else ''))
 
 
-def record_in(document, text, begin, end):
-    """Puts the text between two marker lines of a document."""
-    with open(document, encoding='utf-8') as file:
-        before, _, rest = file.read().partition(begin + '\n')
-    _, found, after = rest.partition(end + '\n')
-    if not found:
-        sys.exit('%s lacks the two marker lines of %s' % (document, begin))
-    with open(document, 'w', encoding='utf-8') as file:
-        file.write(before + begin + '\n\n' + text + '\n' + end + '\n' + after)
-
-
 def main():
-    if len(sys.argv) not in (2, 3):
-        sys.exit('usage: report.py FOLDER [DOCUMENT]')
+    if len(sys.argv) != 2:
+        sys.exit('usage: report.py FOLDER')
     folder = sys.argv[1]
     records = joined(folder)
     write_results(records, os.path.join(folder, 'results.tsv'))
-    text = '\n'.join([caption(folder), '', *beside(records), *alone(records)]) + '\n'
-    print(text, end='')
-    if len(sys.argv) == 3:
-        record_in(sys.argv[2], text, BEGIN, END)
+    is_beside = any('ratio' in it for it in records)
+    parts = [caption(folder, is_beside), '', *shown(records, is_beside), '']
+    print('\n'.join(parts + [filled((means(records) + ' ' if is_beside else '') + cleaned(records))]))
 
 
 if __name__ == '__main__':

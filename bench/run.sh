@@ -5,17 +5,28 @@ set -eu
 
 usage='usage: bench/run.sh [OPTION]..
 
-Times each call over each traffic file, and prints Markdown tables. Everything it makes goes to bench/out/.
+Times each call over each traffic file, and prints a Markdown table. Everything it makes goes to bench/out/: results.tsv has
+all figures, speed.svg is the plot.
 
   --original PROGRAM  times the Rust crate beside the library; the variable ORIGINAL does too
   --turns 3           how often each file has its turn
   --rounds 30         how many rounds a call has in a turn
   --millis 3          how long a round is at least
   --seed 1            the seed of the traffic files
-  --record            writes the tables into docs/SPEED.md, and the plot beside it
   --help              prints this
 
-Needed are the toolchain, gcc and Python.'
+The Rust crate is not part of this repository. Without it the ratios are left out, and the plot shows megabytes a second. PROGRAM
+is called as `PROGRAM FILE --rounds N --millis M --tsv`. It prints a line of column names and then a line a call, tab separated;
+read are the columns file, what (parse or write), greatest (the most packets a second of its rounds) and, if they are there, refused,
+allocs/p and reallocs/p. parse is SctpPacket::from_bytes and the drop of what it returns; write is that, and then the size and the
+bytes of the canonical packet by the builder of the crate, whose limit is that size.
+
+A file has 2,000 packets, and a hostile one five. In each round all calls have their turn, the best round counts, and of all turns
+the best. The driver counts requests for memory by wrapping malloc and realloc as it is linked. It leaves no free block in the heap
+before the calls: one of 4 KiB makes reading a full DATA chunk a fifth slower. The library is what `rt lib` makes, LLVM at
+opt_level 2 for x86-64-v2; the driver has -O2, and the two are not optimized together.
+
+Needed are the toolchain, gcc and Python from 3.9 on.'
 
 misused() {
     echo "$usage" >&2
@@ -23,19 +34,9 @@ misused() {
 }
 
 original=${ORIGINAL:-}
-turns=3 rounds=30 millis=3 seed=1 record=
+turns=3 rounds=30 millis=3 seed=1
 while [ $# -gt 0 ]; do
-    case $1 in
-        --help)
-            echo "$usage"
-            exit
-            ;;
-        --record)
-            record=yes
-            shift
-            continue
-            ;;
-    esac
+    [ "$1" != --help ] || { echo "$usage" && exit; }
     [ $# -gt 1 ] || misused
     case $1 in
         --original) original=$2 ;;
@@ -56,7 +57,6 @@ out=bench/out
 load=$(cut -d' ' -f1 /proc/loadavg)
 
 build_driver
-build_program crc
 make_traffic "$seed"
 
 # What the figures were measured with, for the table's caption.
@@ -65,7 +65,6 @@ make_traffic "$seed"
     printf 'processor\t%s\n' "$(sed -n 's/^model name[^:]*: //p' /proc/cpuinfo | head -n 1)"
     printf 'processors\t%s\n' "$(nproc)"
     printf 'load\t%s\n' "$load"
-    printf 'compiler\t%s\n' "$(gcc --version | head -n 1)"
     printf 'toolchain\t%s\n' "$(rt version)"
     printf 'commit\t%s\n' "$(git log -1 --format=%h -- crates)$(git diff --quiet HEAD -- crates || echo ' with changes')"
     printf 'turns\t%s\nrounds\t%s\nmillis\t%s\nseed\t%s\n' "$turns" "$rounds" "$millis" "$seed"
@@ -84,9 +83,5 @@ for ((turn = 1; turn <= turns; turn++)); do
     echo "turn $turn of $turns is over" >&2
 done
 
-python3 bench/report.py "$out" ${record:+docs/SPEED.md}
+python3 bench/report.py "$out"
 python3 bench/plot.py "$out" "$out/speed.svg"
-[ -z "$record" ] || cp "$out/speed.svg" docs/speed.svg
-
-printf '\nThe CRC32c, gigabytes a second:\n\n'
-"$out/crc" "$rounds" "$millis"
