@@ -22,7 +22,7 @@ out=bench/out
 build_c_api
 make_traffic 1
 files=()
-for file in data1200 data_small data_bundle sack20 init mixed; do
+for file in data1200 data_small data_bundle init mixed; do
     files+=("$out/traffic/$file.hex")
 done
 "$out/c_api" "${1:-30}" "${2:-3}" "${files[@]}"

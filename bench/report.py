@@ -20,7 +20,8 @@ COLUMNS = ('file', 'call', 'packets', 'bytes', 'zero', 'rate', 'requests', 'orig
            'ratio', 'least_ratio', 'greatest_ratio')
 # What the page shows, and of which files not; the Rust crate's calls come behind `read` and `build`.
 SHOWN, BESIDE = ('check', 'borrowed', 'read', 'read_and_write', 'build'), ('read', 'build')
-LEFT_OUT = ('idata1200', 'cookie_echo', 'i_forward_tsn', 'abort', 'handshake')
+CLEANED = {'clean_falling': 'by falling start', 'clean_shuffled': 'in any order', 'clean_overlapping': 'overlapping'}
+LEFT_OUT = ('idata1200', 'sack4', 'init_ack', 'cookie_echo', 'i_forward_tsn', 'abort', 'error', 'handshake')
 
 
 def rows(file):
@@ -112,7 +113,7 @@ def shown(records, is_beside):
     by = {(it['file'], it['call']): it for it in records}
     lines = []
     for name, what, _, _ in FILES:
-        if name in LEFT_OUT or name.startswith('clean_'):
+        if name in LEFT_OUT or name in CLEANED:
             continue
         read = by[name, 'read']
         cells = ['`%s`' % name, what, number(read['bytes'])]
@@ -143,16 +144,16 @@ def means(records):
         texts.append('`%s` %s (%s)' % (
             call, ratio(math.exp(sum(map(math.log, found)) / len(found))), ratio(min(found))))
     spreads = sorted(it['greatest_ratio'] / it['least_ratio'] for it in records if 'ratio' in it)
-    return ('Geometric means of the ratios, over all files, and the least: %s. Of the ratios of single turns the greatest of a row is %.2f '
-            'times the least in the median, and %.2f times at most.'
+    return ('Geometric means of the ratios over all files, and the least: %s. Of the ratios of single turns the greatest of a '
+            'row is %.2f times the least in the median, and %.2f at most.'
             % (', '.join(texts), spreads[len(spreads) // 2], spreads[-1]))
 
 
 def cleaned(records):
     """What is said of SACK cleaning."""
-    by = {it['file']: it for it in records if it['call'] == 'clean'}
-    return '`clean`: %s.' % '; '.join(
-        '%s: %s' % (what, duration(by[name]['rate'])) for name, what, _, _ in FILES if name.startswith('clean_'))
+    rates = {it['file']: it['rate'] for it in records if it['call'] == 'clean'}
+    return 'Reading a SACK of 16,376 blocks and cleaning it: %s.' % ', '.join(
+        '%s %s' % (order, duration(rates[name])) for name, order in CLEANED.items())
 
 
 def filled(text):
@@ -169,9 +170,9 @@ def caption(folder, is_beside):
     said = circumstances(folder)
     is_busy = float(said['load']) > float(said['processors']) / 2
     return filled((
-        'Measured on {date}, with the crates of commit `{commit}`: {processor}, {processors} processors, load {load} as it '
-        'began; `{toolchain}`; {rounds} rounds of {millis} ms in each of {turns} turns, seed {seed}. Nanoseconds a packet, '
-        'where no other unit is said').format(**said)
+        '{date}, crates of commit `{commit}`, {processor}, {processors} processors, load {load} as it began, `{toolchain}`, the '
+        'best of {turns} turns of {rounds} rounds of {millis} ms. Nanoseconds a packet where no other unit is said')
+        .format(**said)
         + ("; in brackets how many times as long the Rust crate takes; and requests for memory of `read`, library / crate."
            if is_beside else '; and requests for memory of `read`.')
         + (' **The machine was busy, so these figures say little**: run it again in a quiet hour.' if is_busy else ''))
