@@ -75,6 +75,25 @@ while IFS= read -r line; do
     esac
 done <"$rows"
 
+# ---- an input that is waited for
+
+# A packet is printed though its input doesn't end yet.
+mkfifo "$work/pipe"
+timeout 60 "$program" <"$work/pipe" >"$work/all" 2>"$work/errors" &
+exec 3>"$work/pipe"
+echo '138813880102030400000000 0b000004' >&3
+for _ in {1..300}; do
+    grep -q '^COOKIE ACK' "$work/all" && break
+    sleep 0.1
+done
+cp "$work/all" "$work/printed"
+exec 3>&-
+wait $!
+ended=$?
+printf '%s\n' 'packet 1' 'source 5000, destination 5000, tag 0x01020304' 'checksum 0x00000000: zero' 'COOKIE ACK' '' >"$work/wanted"
+: >"$work/wanted_errors"
+judge 'an input that is waited for' $ended 0
+
 # ---- an output that fails
 
 # The packets of a long text, of which more is printed than a pipe holds.
