@@ -95,7 +95,9 @@ static const char hello_text[] = "source=5000 destination=5000 tag=229062552 che
 static const char hello_report[] = "source 5000, destination 5000, tag 0x0da73798\n"
                                    "checksum 0x1148a1f6: right\n"
                                    "DATA: tsn 2030482608, stream 1, ssn 0, ppid 51 (WebRTC String), ordered, beginning, end\n"
-                                   "  payload: 5 bytes: 68656c6c6f\n";
+                                   "  payload: 5 bytes\n"
+                                   "    0000: 68 65 6c 6c 6f                                   |hello|\n"
+                                   "  text: \"hello\"\n";
 
 static void captured_data(void)
 {

@@ -180,7 +180,7 @@ pub extern "C" fn dcsctp_report(
                 length: bytes.len(),
                 word,
                 fault: None,
-                most: usize::MAX,
+                shows_all: true,
             },
             output,
             size,

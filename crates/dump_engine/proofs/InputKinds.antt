@@ -14,8 +14,8 @@ use Rattle.sctp_capture.specs.Text as text
 use Rattle.sctp_capture.specs.declared.pcap_decoder.PcapDecoder.{PcapDecoder}
 use Rattle.sctp_capture.specs.declared.decoder.Fault.{Fault}
 use Rattle.sctp_capture.proofs.Handed.{Hands-trans}
-use Rattle.dump_engine.specs.declared.arguments.Form.{Form}
-use Rattle.dump_engine.specs.declared.arguments.Form.TheVariants as form
+use Rattle.dump_engine.specs.declared.options.Form.{Form}
+use Rattle.dump_engine.specs.declared.options.Form.TheVariants as form
 use Rattle.dump_engine.specs.declared.input.Kind.{Kind}
 use Rattle.dump_engine.specs.declared.input.Kind.TheVariants as kind
 use Rattle.dump_engine.specs.declared.stop.Stop.{Stop}

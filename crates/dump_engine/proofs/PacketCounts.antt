@@ -7,7 +7,7 @@ use Rattle.dcsctp_wire.specs.declared.packet.sctp_packet.ChecksumPolicy.{Checksu
 use Rattle.dcsctp_wire.specs.declared.packet.sctp_packet.PacketParseError.{PacketParseError}
 use Rattle.dcsctp_borrowed.specs.PacketRef.{reference}
 use Rattle.dcsctp_borrowed.specs.declared.packet_ref.SctpPacketRef.{SctpPacketRef}
-use Rattle.dump_engine.specs.declared.arguments.Options.{Options}
+use Rattle.dump_engine.specs.declared.options.Options.{Options}
 use Rattle.dump_engine.specs.declared.counts.Counts.{Counts}
 use Rattle.dump_engine.specs.Counts.{one_more, policy_of, ChunkTypes, with_kind, accepted_with, with_checksum, refused_by, CountsPacket, whole, faulty}
 

@@ -3,7 +3,7 @@ use Rattle.std.proofs.Common.{◌≡◌, false, List, [], ◌∷◌, ◌++◌, O
 use Rattle.sctp_capture.specs.Event.{Event}
 use Rattle.sctp_capture.specs.Frame.{Packet}
 use Rattle.sctp_capture.specs.declared.frame.NoPacket.{NoPacket}
-use Rattle.dump_engine.specs.declared.arguments.Options.{Options}
+use Rattle.dump_engine.specs.declared.options.Options.{Options}
 use Rattle.dump_engine.specs.declared.counts.Counts.{Counts}
 use Rattle.dump_engine.specs.declared.failure.Failure.{Failure}
 use Rattle.dump_engine.specs.Counts.{AreCounts, more, CountsEvent, CountsFrame, CountsPacket}

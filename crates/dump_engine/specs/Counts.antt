@@ -13,7 +13,7 @@ use Rattle.dcsctp_wire.specs.Packet.{PacketFault, Answer, IsPacket, body, checks
 use Rattle.dcsctp_wire.specs.declared.packet.sctp_packet.ChecksumPolicy.{ChecksumPolicy}
 use Rattle.dcsctp_wire.specs.declared.packet.sctp_packet.PacketParseError.{PacketParseError}
 use Rattle.dcsctp_wire.specs.declared.packet.sctp_packet.PacketParseError.TheVariants.{FailedParseChunk}
-use Rattle.dump_engine.specs.declared.arguments.Options.{Options}
+use Rattle.dump_engine.specs.declared.options.Options.{Options}
 use Rattle.dump_engine.specs.declared.counts.Counts.{Counts}
 
 -- ---- numbers up to 2^64 - 1
@@ -145,10 +145,13 @@ pub data AreCounts (o : Options) : List Event → Counts → Type 0 where
       → AreCounts o first before → CountsEvent o before last c → events ≡ first ++ last ∷ []
       → AreCounts o events c
 
--- 2: an input couldn't be read, or nothing was read of any; or else 1: a packet was refused
+-- 2: an input couldn't be read, or nothing was read of any; or else 1: a packet was refused; or else
+-- 3: one breaks a rule that was looked at
 abbrev pub is_unread : Counts → Bool
 is_unread c = packets c == 0 && nat_lt 0 (skipped c)
 
-abbrev pub status : Bool → Counts → ℕ
-status failed c =
-    if failed || is_unread c then 2 else if nat_lt 0 (refused c) then 1 else 0
+abbrev pub status : Bool → Bool → Counts → ℕ
+status failed warned c =
+    if failed || is_unread c then 2 else
+    if nat_lt 0 (refused c) then 1 else
+    if warned then 3 else 0

@@ -5,7 +5,7 @@ ghost use Rattle.sctp_capture.specs.Found.{packet_of};
 ghost use Rattle.dcsctp_wire.specs.declared.packet.sctp_packet.ChecksumPolicy.{ChecksumPolicy};
 ghost use Rattle.dump_engine.specs.Counts.{nothing, one_more, with_kind, ChunkTypes, with_checksum, refused_by, no_packet, unread, packets, refused, skipped, is_unread, CountsPacket};
 
-use crate::arguments::Options;
+use crate::options::Options;
 use dcsctp_borrowed::packet_ref::SctpPacketRef;
 use dcsctp_borrowed::raw_chunks::RawChunks;
 use dcsctp_crc32c::packet_word;

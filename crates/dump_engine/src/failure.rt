@@ -20,12 +20,8 @@ pub enum Failure {
     Open,
     /// The arguments can't be read.
     Arguments,
-    /// There is no such option.
-    UnknownOption,
-    /// `--format` isn't followed by a format.
-    UnknownFormat,
-    /// `--udp-port` isn't followed by a port.
-    UnknownPort,
+    /// An option isn't known, or its value isn't one; this says which.
+    Usage(&'static str),
     /// The input is compressed.
     Compressed,
     /// The input has more parts than can be counted.
@@ -42,9 +38,7 @@ impl fmt::Display for Failure {
             Failure::Write | Failure::ClosedPipe => "a write failed",
             Failure::Open => "can't be opened",
             Failure::Arguments => "the arguments can't be read",
-            Failure::UnknownOption => "unknown option (try --help)",
-            Failure::UnknownFormat => "--format takes pcap, pcapng or text",
-            Failure::UnknownPort => "--udp-port takes a number from 1 to 65535",
+            Failure::Usage(usage) => usage,
             Failure::Compressed => "is compressed by gzip: zcat FILE | sctp_dump reads it",
             Failure::Endless => "has too many parts",
             Failure::Fault(Fault::NotCapture) => "doesn't begin as a file of its format",

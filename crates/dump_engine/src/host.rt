@@ -7,30 +7,34 @@ ghost use Rattle.dump_engine.specs.declared.failure.Failure.{Failure};
 
 use crate::arguments::{Action, HELP, Request, STANDARD_INPUT, VERSION, request_of};
 use crate::counts::Counts;
+use crate::event_printer::EventPrinter;
 use crate::failure::Failure;
 use crate::input::read_input;
 use crate::stop::Stop;
-use crate::text_printer::TextPrinter;
 use std::io::Write;
 use std::{env, fs, io};
 use watched_io::watched::Watched;
 use watched_io::window::Window;
 
-/// The statuses: all packets were accepted; some were refused; the program couldn't do its work.
+/// The statuses: all packets were accepted; some were refused; the program couldn't do its work;
+/// none was refused, but some break rules.
 const ACCEPTED: u8 = 0;
 
 const REFUSED: u8 = 1;
 
 const FAILED: u8 = 2;
 
+const WARNED: u8 = 3;
+
 /// Does what the host's arguments say, and returns the status: 0 if all packets were accepted, 1 if
 /// some were refused, 2 if an input couldn't be read or no packet was found in what it holds, the
-/// output couldn't be written, or memory ran out.
+/// output couldn't be written, or memory ran out, 3 if none was refused, but some break rules that
+/// were looked at.
 ///
 /// Reports each failure on standard error, but not that whoever read the output reads no more of
 /// it. No clause says what a host is asked for, since none of std does.
 pub fn run(rt: &HostRuntime) -> u8
-    ensures { result ≤ 2 }
+    ensures { result ≤ 3 }
 {
     match run_request(rt) {
         Ok(status) => status,
@@ -54,7 +58,7 @@ fn report(rt: &HostRuntime, name: Option<&str>, failure: &Failure) {
 
 /// Does what the arguments say, and returns the status.
 fn run_request(rt: &HostRuntime) -> Result<u8, Failure>
-    ensures { IfOk result (λ status. status ≤ 2) }
+    ensures { IfOk result (λ status. status ≤ 3) }
 {
     let words = words_of(rt)?;
     let request = request_of(rt.alloc(), words.as_slice())?;
@@ -88,11 +92,11 @@ fn print(rt: &HostRuntime, text: &str) -> Result<u8, Failure>
 /// Prints the packets of all inputs, and then the counts of them all. An input that can't be read is
 /// reported, and the next one begun.
 fn dump_all(rt: &HostRuntime, request: &Request<'_>) -> Result<u8, Failure>
-    ensures { IfOk result (λ status. status ≤ 2) }
+    ensures { IfOk result (λ status. status ≤ 3) }
 {
     let mut window = Window::new(rt.alloc())?;
     let writer = Watched::new(io::writer(rt));
-    let mut printer = TextPrinter::new(rt.alloc(), request.options, writer);
+    let mut printer = EventPrinter::new(rt.alloc(), request.options, writer);
     let mut failed = false;
     let names_files = request.files.len() > 1 && !request.options.summary;
     for name in &request.files {
@@ -105,32 +109,42 @@ fn dump_all(rt: &HostRuntime, request: &Request<'_>) -> Result<u8, Failure>
     let written = printer.finish();
     if !failed && printer.counts.is_unread() {
         // There is no other place to say that standard error doesn't take it.
-        let _ = eprintln!(rt; "sctp_dump: no SCTP packet was found");
+        let _ = eprintln!(rt;
+            "sctp_dump: no SCTP packet was found (in UDP, --udp-port says the port)"
+        );
     }
-    end_of(written, failed, &printer.counts)
+    end_of(written, failed, printer.is_warned(), &printer.counts)
 }
 
 /// What a run returns, whose last write ended so.
-fn end_of(written: Result<(), Failure>, failed: bool, counts: &Counts) -> Result<u8, Failure>
-    ensures end { MatchResult written (λ _. result ≡ Ok (status failed counts.now))
+fn end_of(
+    written: Result<(), Failure>,
+    failed: bool,
+    warned: bool,
+    counts: &Counts,
+) -> Result<u8, Failure>
+    ensures end { MatchResult written (λ _. result ≡ Ok (status failed warned counts.now))
         (λ failure. result ≡ Err failure) }
-    ensures known { IfOk result (λ status. status ≤ 2) }
+    ensures known { IfOk result (λ status. status ≤ 3) }
 {
     match written {
-        Ok(()) => Ok(status_of(failed, counts)),
+        Ok(()) => Ok(status_of(failed, warned, counts)),
         Err(failure) => Err(failure),
     }
 }
 
-/// The status of a run: what failed comes before what was refused.
-fn status_of(failed: bool, counts: &Counts) -> u8
-    ensures status { result ≡ status failed counts.now }
-    ensures known { result ≤ 2 }
+/// The status of a run: what failed comes before what was refused, and that before what was warned
+/// of.
+fn status_of(failed: bool, warned: bool, counts: &Counts) -> u8
+    ensures status { result ≡ status failed warned counts.now }
+    ensures known { result ≤ 3 }
 {
     if failed || counts.is_unread() {
         FAILED
     } else if counts.refused() > 0 {
         REFUSED
+    } else if warned {
+        WARNED
     } else {
         ACCEPTED
     }
@@ -159,7 +173,7 @@ fn dump_input<W: Write>(
     name: &str,
     request: &Request<'_>,
     window: &mut Window,
-    printer: &mut TextPrinter<W>,
+    printer: &mut EventPrinter<W>,
 ) -> Result<(), Failure> {
     let (alloc, form) = (rt.alloc(), request.options.form);
     let outcome = if name == STANDARD_INPUT {

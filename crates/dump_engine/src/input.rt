@@ -9,8 +9,8 @@ ghost use Rattle.dump_engine.specs.Handed.{IsNoFault, FailsWith};
 ghost use Rattle.dump_engine.specs.Inputs.{kind_of, HandsInput, StopsInput};
 ghost use Rattle.dump_engine.specs.declared.stop.Stop.{Stop};
 
-use crate::arguments::Form;
 use crate::engine::read_capture;
+use crate::options::Form;
 use crate::printer::Printer;
 use crate::stop::Stop;
 use crate::stream::read_more;

@@ -1,146 +1,188 @@
-//! The first lines of a packet: where and when it was seen.
+//! Where and when packets were seen, as text.
 
-use sctp_capture::event::{Seen, Time};
+use crate::when::When;
+use dcsctp_wire::packet::sctp_packet::CommonHeader;
 use sctp_capture::frame::{Addresses, FoundPacket, UdpPorts};
 use sctp_capture::line::Direction;
-use sctp_capture::pcap::Resolution;
 use std::fmt;
 use std::net::{Ipv4Addr, Ipv6Addr};
 
-/// The first lines of a packet: its number and its time, how much of it was captured if that isn't
-/// all, the IP addresses and the UDP ports.
+/// A packet's number and time, how much of it was captured, the IP addresses and the UDP ports, as
+/// the first lines of its block.
 #[derive(Clone, Copy)]
-pub struct SeenLines<'a> {
-    /// Where and when its frame was seen.
-    pub seen: &'a Seen<'a>,
-    /// The packet in the frame.
-    pub found: &'a FoundPacket<'a>,
+pub struct SeenLines<'t, 'f, 'a> {
+    /// The packet's number.
+    pub number: u64,
+    /// When it was seen.
+    pub when: When<'t>,
+    /// The packet in its frame.
+    pub found: &'f FoundPacket<'a>,
 }
 
-impl<'a> fmt::Display for SeenLines<'a> {
+impl<'t, 'f, 'a> fmt::Display for SeenLines<'t, 'f, 'a> {
     fn fmt<W: fmt::Write>(&self, f: &mut fmt::Formatter<W>) -> fmt::Result {
-        let number = self.seen.number;
+        let (number, when) = (self.number, self.when);
         write!(f, "packet {number}")?;
-        write_time(&self.seen.time, f)?;
+        if when.is_known() {
+            write!(f, ", time {when}")?;
+        }
+        if let Some(direction) = when.direction() {
+            let word = direction_word(direction);
+            write!(f, ", {word}")?;
+        }
         let (captured, length) = (self.found.packet.len(), self.found.length);
         if captured < length {
             write!(f, ", {captured} of {length} bytes")?;
         }
         f.write_str("\n")?;
-        write_addresses(self.found.addresses, f)?;
-        write_udp_ports(self.found.udp_ports, f)
-    }
-}
-
-/// Writes a time, in seconds since 1970-01-01 00:00:00 UTC, or as a log says it.
-fn write_time<W: fmt::Write>(time: &Time<'_>, f: &mut fmt::Formatter<W>) -> fmt::Result {
-    match time {
-        Time::Unknown => Ok(()),
-        Time::Stamp {
-            seconds,
-            fraction,
-            resolution,
-        } => write_stamp(*seconds, *fraction, *resolution, f),
-        Time::Ticks { ticks, resolution } => write_ticks(*ticks, *resolution, f),
-        Time::OfDay { time, direction } => {
-            f.write_str(", time ")?;
-            for byte in time.as_bytes() {
-                f.write_char(char::from(*byte))?;
-            }
-            f.write_str(match direction {
-                Direction::Incoming => ", incoming",
-                Direction::Outgoing => ", outgoing",
-            })
+        if let Some(addresses) = self.found.addresses {
+            let (source, destination) = hosts_of(addresses);
+            writeln!(f, "from {source} to {destination}")?;
+        }
+        match self.found.udp_ports {
+            Some(
+                UdpPorts {
+                    source,
+                    destination,
+                },
+            ) => { writeln!(f, "udp source {source}, destination {destination}") }
+            None => Ok(()),
         }
     }
 }
 
-/// Writes a time of pcap. A fraction that is no part of a second is said apart.
-fn write_stamp<W: fmt::Write>(
-    seconds: u32,
-    fraction: u32,
-    resolution: Resolution,
-    f: &mut fmt::Formatter<W>,
-) -> fmt::Result {
-    match resolution {
-        Resolution::Microseconds if fraction < 1_000_000 => {
-            write!(f, ", time {seconds}.{fraction:06}")
+/// The same at the front of a line, in a fixed order: number, time, and both ends with their SCTP
+/// ports, of which `-` stands for what isn't known.
+#[derive(Clone, Copy)]
+pub struct SeenBrief<'t, 'f, 'a>(pub SeenLines<'t, 'f, 'a>);
+
+impl<'t, 'f, 'a> fmt::Display for SeenBrief<'t, 'f, 'a> {
+    fn fmt<W: fmt::Write>(&self, f: &mut fmt::Formatter<W>) -> fmt::Result {
+        let seen = self.0;
+        let (number, when) = (seen.number, seen.when);
+        write!(f, "{number} ")?;
+        if when.is_known() {
+            write!(f, "{when}")?;
+        } else {
+            f.write_str("-")?;
         }
-        Resolution::Nanoseconds if fraction < 1_000_000_000 => {
-            write!(f, ", time {seconds}.{fraction:09}")
-        }
-        Resolution::Microseconds => write!(f, ", time {seconds} and {fraction} microseconds"),
-        Resolution::Nanoseconds => write!(f, ", time {seconds} and {fraction} nanoseconds"),
+        let header = CommonHeader::from_bytes(seen.found.packet);
+        let (source, destination) = ends_of(seen.found.addresses, when.direction());
+        let (from, to) = match header {
+            Some(header) => (Some(header.source_port), Some(header.destination_port)),
+            None => (None, None),
+        };
+        f.write_str(" ")?;
+        write_end(source, from, f)?;
+        f.write_str(" > ")?;
+        write_end(destination, to, f)
     }
 }
 
-/// Writes a time of pcapng. Units that aren't microseconds, nanoseconds or the like are said as
-/// they are.
-fn write_ticks<W: fmt::Write>(
-    ticks: u64,
-    resolution: u8,
-    f: &mut fmt::Formatter<W>,
-) -> fmt::Result {
-    match resolution {
-        0 => write!(f, ", time {ticks}"),
-        3 => {
-            let (seconds, fraction) = (ticks / 1_000, ticks % 1_000);
-            write!(f, ", time {seconds}.{fraction:03}")
+/// Writes an end with its port (RFC 3986 section 3.2.2: an IPv6 address in brackets).
+fn write_end<W: fmt::Write>(end: End, port: Option<u16>, f: &mut fmt::Formatter<W>) -> fmt::Result {
+    match end {
+        End::V6(address) => write!(f, "[{address}]")?,
+        _ => write!(f, "{end}")?,
+    }
+    match port {
+        Some(port) => write!(f, ":{port}"),
+        None => f.write_str(":-"),
+    }
+}
+
+/// The same as keys of a JSON object, of which the packet's number is the first.
+#[derive(Clone, Copy)]
+pub struct SeenJson<'t, 'f, 'a>(pub SeenLines<'t, 'f, 'a>);
+
+impl<'t, 'f, 'a> fmt::Display for SeenJson<'t, 'f, 'a> {
+    fn fmt<W: fmt::Write>(&self, f: &mut fmt::Formatter<W>) -> fmt::Result {
+        let seen = self.0;
+        let (number, when) = (seen.number, seen.when);
+        write!(f, "\"packet\":{number}")?;
+        if when.is_known() {
+            write!(f, ",\"time\":\"{when}\"")?;
         }
-        6 => {
-            let (seconds, fraction) = (ticks / 1_000_000, ticks % 1_000_000);
-            write!(f, ", time {seconds}.{fraction:06}")
+        if let Some(direction) = when.direction() {
+            let word = direction_word(direction);
+            write!(f, ",\"direction\":\"{word}\"")?;
         }
-        9 => {
-            let (seconds, fraction) = (ticks / 1_000_000_000, ticks % 1_000_000_000);
-            write!(f, ", time {seconds}.{fraction:09}")
+        if let Some(addresses) = seen.found.addresses {
+            let (source, destination) = hosts_of(addresses);
+            write!(f, ",\"from\":\"{source}\",\"to\":\"{destination}\"")?;
         }
-        1..=127 => write!(f, ", time {ticks} units of 10^-{resolution} seconds"),
-        _ => {
-            let exponent = resolution % 128;
-            write!(f, ", time {ticks} units of 2^-{exponent} seconds")
+        match seen.found.udp_ports {
+            Some(
+                UdpPorts {
+                    source,
+                    destination,
+                },
+            ) => write!(
+                f,
+                ",\"udp_source\":{source},\"udp_destination\":{destination}"
+            ),
+            None => Ok(()),
         }
     }
 }
 
-/// Writes a line with both addresses, if they are known.
-fn write_addresses<W: fmt::Write>(
-    addresses: Option<Addresses>,
-    f: &mut fmt::Formatter<W>,
-) -> fmt::Result {
+/// Returns which way a packet went, in a word.
+fn direction_word(direction: Direction) -> &'static str {
+    match direction {
+        Direction::Incoming => "incoming",
+        Direction::Outgoing => "outgoing",
+    }
+}
+
+/// One end of a packet's way.
+#[derive(Clone, Copy)]
+enum End {
+    V4(Ipv4Addr),
+    V6(Ipv6Addr),
+    // Of a log: the end that wrote it, or the other one.
+    Local,
+    Remote,
+    Unknown,
+}
+
+impl fmt::Display for End {
+    fn fmt<W: fmt::Write>(&self, f: &mut fmt::Formatter<W>) -> fmt::Result {
+        match self {
+            End::V4(address) => write!(f, "{address}"),
+            End::V6(address) => write!(f, "{address}"),
+            End::Local => f.write_str("local"),
+            End::Remote => f.write_str("remote"),
+            End::Unknown => f.write_str("-"),
+        }
+    }
+}
+
+/// Returns both addresses.
+fn hosts_of(addresses: Addresses) -> (End, End) {
     match addresses {
-        None => Ok(()),
-        Some(
-            Addresses::V4 {
-                source,
-                destination,
-            },
-        ) => {
-            let (source, destination) = (Ipv4Addr::from(source), Ipv4Addr::from(destination));
-            writeln!(f, "from {source} to {destination}")
-        }
-        Some(
-            Addresses::V6 {
-                source,
-                destination,
-            },
-        ) => {
-            let (source, destination) = (Ipv6Addr::from(source), Ipv6Addr::from(destination));
-            writeln!(f, "from {source} to {destination}")
-        }
+        Addresses::V4 {
+            source,
+            destination,
+        } => (
+            End::V4(Ipv4Addr::from(source)),
+            End::V4(Ipv4Addr::from(destination)),
+        ),
+        Addresses::V6 {
+            source,
+            destination,
+        } => (
+            End::V6(Ipv6Addr::from(source)),
+            End::V6(Ipv6Addr::from(destination)),
+        ),
     }
 }
 
-/// Writes a line with both ports of UDP, if it is UDP.
-fn write_udp_ports<W: fmt::Write>(
-    ports: Option<UdpPorts>,
-    f: &mut fmt::Formatter<W>,
-) -> fmt::Result {
-    match ports {
-        None => Ok(()),
-        Some(ports) => {
-            let (source, destination) = (ports.source, ports.destination);
-            writeln!(f, "udp source {source}, destination {destination}")
-        }
+/// Returns both ends.
+fn ends_of(addresses: Option<Addresses>, direction: Option<Direction>) -> (End, End) {
+    match (addresses, direction) {
+        (Some(addresses), _) => hosts_of(addresses),
+        (None, Some(Direction::Incoming)) => (End::Remote, End::Local),
+        (None, Some(Direction::Outgoing)) => (End::Local, End::Remote),
+        (None, None) => (End::Unknown, End::Unknown),
     }
 }

@@ -4,7 +4,7 @@ use sctp_capture::event::{Part, Skipped};
 use sctp_capture::frame::NoPacket;
 use std::fmt;
 
-/// The line of a record or of a line of text that has no packet.
+/// A record or a line of text that has no packet, as a line.
 #[derive(Clone, Copy)]
 pub struct SkippedLine {
     /// What it is.
@@ -17,12 +17,27 @@ pub struct SkippedLine {
 
 impl fmt::Display for SkippedLine {
     fn fmt<W: fmt::Write>(&self, f: &mut fmt::Formatter<W>) -> fmt::Result {
-        let name = match self.part {
-            Part::Record => "record",
-            Part::Line => "line",
-        };
-        let (number, reason) = (self.number, self.reason);
-        write!(f, "{name} {number} skipped: {reason}\n\n")
+        let (name, number, reason) = (name_of(self.part), self.number, self.reason);
+        writeln!(f, "{name} {number} skipped: {reason}")
+    }
+}
+
+/// The same as a JSON object, in a line.
+#[derive(Clone, Copy)]
+pub struct SkippedJson(pub SkippedLine);
+
+impl fmt::Display for SkippedJson {
+    fn fmt<W: fmt::Write>(&self, f: &mut fmt::Formatter<W>) -> fmt::Result {
+        let (name, number, reason) = (name_of(self.0.part), self.0.number, self.0.reason);
+        write!(f, "{{\"{name}\":{number},\"skipped\":\"{reason}\"}}\n")
+    }
+}
+
+/// Returns what a part of a capture is called.
+fn name_of(part: Part) -> &'static str {
+    match part {
+        Part::Record => "record",
+        Part::Line => "line",
     }
 }
 

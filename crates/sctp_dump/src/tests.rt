@@ -1,6 +1,6 @@
 //! The program over captures in memory, and over devices that fail.
 
-use dump_engine::{Form, Options, Printer, Stop, TextPrinter, read_input};
+use dump_engine::{EventPrinter, Form, Options, Printer, Stop, read_input};
 use sctp_capture::decoder::Fault as Unreadable;
 use std::alloc::Global;
 use std::io::ErrorKind;
@@ -8,14 +8,7 @@ use watched_io::faulty::{Fault, Plan, Sink, Source, fails, steps};
 use watched_io::watched::Watched;
 use watched_io::window::Window;
 
-const PLAIN: Options = Options {
-    faults: false,
-    summary: false,
-    strict: false,
-    payload: false,
-    udp_port: 9899,
-    form: Form::Detected,
-};
+const PLAIN: Options = Options::DEFAULT;
 
 /// A COOKIE ACK with a checksum field of zero, and one whose length is less than its header's.
 const TWO_LINES: &str = "1388138801020304000000000b000004\n1388138801020304000000000b000003\n";
@@ -41,7 +34,7 @@ fn run(
     };
     let mut input = Watched::new(Source::new(bytes, reads));
     let sink = Watched::new(Sink::new(wanted.as_bytes(), writes));
-    let mut printer = TextPrinter::new(alloc, options, sink);
+    let mut printer = EventPrinter::new(alloc, options, sink);
     let outcome = read_input(alloc, options.form, &mut window, &mut input, &mut printer);
     if outcome != Err(Stop::Printer) {
         printer.show();

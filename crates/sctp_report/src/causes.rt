@@ -1,82 +1,51 @@
-//! What is printed of an error cause.
+//! What an error cause holds.
 
-use crate::names::cause_name;
-use crate::part::{Item, Part, Quoted, Shown};
+use crate::fields::{Fields, Form, Level, Number, walk_numbers};
+use crate::part::{Item, Part};
 use dcsctp_borrowed::missing_parameters::missing_parameters;
 use dcsctp_wire::packet::parameter::RawParameter;
-use dcsctp_wire::packet::read_u32_be;
 use std::fmt;
 
-/// Writes the lines of each cause of a list, as far as there are causes.
-pub fn write_causes<W: fmt::Write>(
-    list: Part<'_>,
-    most: usize,
-    f: &mut fmt::Formatter<W>,
-) -> fmt::Result {
-    let mut rest = list;
-    // Each has four bytes at least.
-    for _ in 0..list.bytes.len() / 4 {
-        let Some(cause) = rest.item() else {
-            return Ok(());
-        };
-        write_cause(cause, most, f)?;
-        rest = rest.after(cause.padded);
+/// Hands over each cause of a list, as far as there are causes.
+pub fn walk_causes<F: Fields>(list: Part<'_>, fields: &mut F) -> fmt::Result {
+    fields.begin_list("causes", list.item().is_none())?;
+    for cause in list.items() {
+        walk_cause(&cause, fields)?;
     }
-    Ok(())
+    fields.end_list()
 }
 
-/// Writes the lines of a cause.
-fn write_cause<W: fmt::Write>(
-    cause: Item<'_>,
-    most: usize,
-    f: &mut fmt::Formatter<W>,
-) -> fmt::Result {
-    let (code, value) = (cause.code(), cause.value);
-    let name = cause_name(code);
-    write!(f, "  cause {code:#06x} {name}")?;
-    if value.is_whole() && write_meaning(code, value.bytes, f)? {
-        return Ok(());
+/// Hands over a cause.
+fn walk_cause<F: Fields>(cause: &Item<'_>, fields: &mut F) -> fmt::Result {
+    fields.begin(Level::Cause, cause)?;
+    if !cause.value.is_whole() || !walk_meaning(cause, fields)? {
+        fields.value(Level::Cause, cause)?;
     }
-    let shown = Shown { part: value, most };
-    writeln!(f, ": {shown}")
+    fields.end(Level::Cause)
 }
 
-/// Writes what a value means, after the name; returns false, and writes nothing, where it isn't
+/// Hands over what a cause means; returns false, and hands over nothing, where its value isn't
 /// known to mean anything but its bytes.
-fn write_meaning<W: fmt::Write>(
-    code: u16,
-    value: &[u8],
-    f: &mut fmt::Formatter<W>,
-) -> Result<bool, fmt::Error> {
+fn walk_meaning<F: Fields>(cause: &Item<'_>, fields: &mut F) -> Result<bool, fmt::Error> {
+    let (code, value) = (cause.code(), cause.value.bytes);
     match code {
-        2 => return write_missing(code, value, f),
-        9 if value.len() == 4 => {
-            let tsn = read_u32_be(value);
-            writeln!(f, ": tsn {tsn}")?;
-        }
-        10 if value.is_empty() => f.write_str("\n")?,
-        12 | 13 => {
-            let text = Quoted(value);
-            writeln!(f, ": {text}")?;
-        }
+        2 => return walk_missing(cause, fields),
+        9 if value.len() == 4 => fields.number(&Number::read(": tsn ", "tsn", cause, 4, 4))?,
+        10 if value.is_empty() => {}
+        12 | 13 => fields.text_value(value)?,
         _ => return Ok(false),
     }
     Ok(true)
 }
 
-/// Writes the types that a Missing Mandatory Parameter lists.
-fn write_missing<W: fmt::Write>(
-    code: u16,
-    value: &[u8],
-    f: &mut fmt::Formatter<W>,
-) -> Result<bool, fmt::Error> {
-    let Some(types) = missing_parameters(&RawParameter { typ: code, value }) else {
+/// Hands over the types that a Missing Mandatory Parameter lists.
+fn walk_missing<F: Fields>(cause: &Item<'_>, fields: &mut F) -> Result<bool, fmt::Error> {
+    let (typ, value) = (cause.code(), cause.value.bytes);
+    let Some(types) = missing_parameters(&RawParameter { typ, value }) else {
         return Ok(false);
     };
-    f.write_str("\n")?;
-    for i in 0..types.count() {
-        let typ = types.number(i);
-        writeln!(f, "    parameter type {typ:#06x}")?;
-    }
+    let first = Number::read("\n    parameter type ", "parameter", cause, 8, 2);
+    let first = first.in_form(Form::Hexadecimal);
+    walk_numbers("types", types.count(), first, cause, fields)?;
     Ok(true)
 }

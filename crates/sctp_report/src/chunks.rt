@@ -1,243 +1,271 @@
-//! What is printed of a chunk.
+//! What a chunk holds.
 
-ghost use Rattle.std.specs.Prelude.{◌≤◌, length};
-
-use crate::causes::write_causes;
-use crate::names::{ChunkName, PayloadProtocol};
-use crate::parameters::write_parameters;
-use crate::part::{Item, Part, Shown};
+use crate::causes::walk_causes;
+use crate::channel::walk_channel;
+use crate::fields::{Block, Fields, Flag, Form, HEADER_SIZE, Level, Number, walk_numbers};
+use crate::names::payload_protocol;
+use crate::parameters::walk_parameters;
+use crate::part::{Item, Part};
 use dcsctp_borrowed::forward_tsn_ref::ForwardTsnRef;
 use dcsctp_borrowed::user_data::UserData;
 use dcsctp_wire::packet::chunk::RawChunk;
-use dcsctp_wire::packet::{SkippedStream, read_u16_be, read_u32_be};
+use dcsctp_wire::packet::read_u16_be;
 use std::fmt;
 
-/// Bytes of the value of INIT and INIT ACK before the parameters.
-pub const INIT_SIZE: usize = 16;
+/// Bytes of INIT and INIT ACK before the parameters.
+pub const INIT_SIZE: usize = 20;
 
-/// Bytes of the value of SACK before the gap ack blocks and the duplicate TSNs.
-const SACK_SIZE: usize = 12;
+/// Bytes of SACK before the gap ack blocks and the duplicate TSNs.
+const SACK_SIZE: usize = 16;
 
-/// Writes the lines of each chunk of a list, as far as there are chunks.
-pub fn write_chunks<W: fmt::Write>(
-    list: Part<'_>,
-    most: usize,
-    f: &mut fmt::Formatter<W>,
-) -> fmt::Result {
-    let mut rest = list;
-    // Each has four bytes at least.
-    for _ in 0..list.bytes.len() / 4 {
-        let Some(chunk) = rest.item() else {
-            return Ok(());
-        };
-        write_chunk(chunk, most, f)?;
-        rest = rest.after(chunk.padded);
+/// Bytes of a gap ack block, and of a duplicate TSN.
+const SACK_ENTRY_SIZE: usize = 4;
+
+/// Bytes of DATA before the payload.
+const DATA_SIZE: usize = 16;
+
+/// Bytes of I-DATA before the payload.
+const IDATA_SIZE: usize = 20;
+
+/// Bytes of FORWARD-TSN and I-FORWARD-TSN before the streams.
+const FORWARD_TSN_SIZE: usize = 8;
+
+/// Hands over each chunk of a packet's list, as far as there are chunks.
+pub fn walk_chunks<F: Fields>(list: Part<'_>, fields: &mut F) -> fmt::Result {
+    fields.begin_list("chunks", list.item().is_none())?;
+    for chunk in list.items() {
+        walk_chunk(&chunk, fields)?;
     }
-    Ok(())
+    fields.end_list()
 }
 
-/// Writes the lines of a chunk.
-pub fn write_chunk<W: fmt::Write>(
-    chunk: Item<'_>,
-    most: usize,
-    f: &mut fmt::Formatter<W>,
-) -> fmt::Result {
-    let (typ, flags, value) = (chunk.first, chunk.second, chunk.value);
-    if write_head(typ, flags, value, f)? {
-        return match typ {
-            // DATA, I-DATA
-            0 => write_payload(value.after(12), most, f),
-            64 => write_payload(value.after(16), most, f),
-            // INIT, INIT ACK; HEARTBEAT, HEARTBEAT ACK, RE-CONFIG
-            1 | 2 => write_parameters(value.after(INIT_SIZE), most, f),
-            4 | 5 | 130 => write_parameters(value, most, f),
-            // ABORT, ERROR
-            6 | 9 => write_causes(value, most, f),
-            _ => Ok(()),
-        };
+/// Hands over a chunk.
+pub fn walk_chunk<F: Fields>(chunk: &Item<'_>, fields: &mut F) -> fmt::Result {
+    fields.begin(Level::Chunk, chunk)?;
+    if !walk_meaning(chunk, fields)? {
+        fields.value(Level::Chunk, chunk)?;
     }
-    let (name, shown) = (ChunkName(typ), Shown { part: value, most });
-    if !name.is_known() {
-        return writeln!(f, "unknown chunk: type {name}, flags {flags:#04x}, {shown}");
-    }
-    write!(f, "{name}: ")?;
-    // Those of COOKIE ECHO have no meaning.
-    if flags != 0 && typ != 10 {
-        write!(f, "flags {flags:#04x}, ")?;
-    }
-    writeln!(f, "{shown}")
+    fields.end(Level::Chunk)
 }
 
-/// Writes the line of a chunk's name and numbers, and the lines of a list of numbers; returns
-/// false, and writes nothing, where the chunk isn't known to hold anything but its bytes.
-fn write_head<W: fmt::Write>(
-    typ: u8,
-    flags: u8,
-    value: Part<'_>,
-    f: &mut fmt::Formatter<W>,
-) -> Result<bool, fmt::Error> {
-    let name = ChunkName(typ);
-    let (reflected, whole) = (tag_reflected(flags), value.is_whole());
-    let bytes = value.bytes;
-    match typ {
-        0 | 64 => return write_data(typ, flags, bytes, f),
-        1 | 2 if bytes.len() >= INIT_SIZE => write_init(name, bytes, f)?,
-        3 => return write_sack(value, f),
-        4 | 5 | 9 | 130 => writeln!(f, "{name}")?,
-        6 => writeln!(f, "{name}{reflected}")?,
-        7 if whole && bytes.len() == 4 => {
-            let tsn = read_u32_be(bytes);
-            writeln!(f, "{name}: cumulative tsn {tsn}")?;
+/// Hands over what a chunk means; returns false, and hands over nothing, where it isn't known to
+/// hold anything but its bytes.
+fn walk_meaning<F: Fields>(chunk: &Item<'_>, fields: &mut F) -> Result<bool, fmt::Error> {
+    let value = chunk.value;
+    let size = value.bytes.len();
+    match chunk.first {
+        // DATA, I-DATA
+        0 | 64 => return walk_data(chunk, fields),
+        // INIT, INIT ACK
+        1 | 2 if size >= INIT_SIZE - HEADER_SIZE => {
+            walk_init(chunk, fields)?;
+            walk_parameters(value.after(INIT_SIZE - HEADER_SIZE), fields)?;
         }
-        8 | 11 if value.size == 0 => writeln!(f, "{name}")?,
-        14 if value.size == 0 => writeln!(f, "{name}{reflected}")?,
-        192 | 194 if whole => return write_forward_tsn(typ, flags, bytes, f),
+        // SACK
+        3 => return walk_sack(chunk, fields),
+        // HEARTBEAT, HEARTBEAT ACK, RE-CONFIG
+        4 | 5 | 130 => walk_parameters(value, fields)?,
+        // ABORT, ERROR
+        6 => {
+            fields.flag(&tag_reflected(chunk))?;
+            walk_causes(value, fields)?;
+        }
+        9 => walk_causes(value, fields)?,
+        // SHUTDOWN, SHUTDOWN ACK, COOKIE ACK, SHUTDOWN COMPLETE
+        7 if value.is_whole() && size == 4 => {
+            fields.number(&Number::read(": cumulative tsn ", "cumulative_tsn", chunk, 4, 4))?;
+        }
+        8 | 11 if value.size == 0 => {}
+        14 if value.size == 0 => fields.flag(&tag_reflected(chunk))?,
+        // FORWARD-TSN, I-FORWARD-TSN
+        192 | 194 if value.is_whole() => return walk_forward_tsn(chunk, fields),
         _ => return Ok(false),
     }
     Ok(true)
 }
 
-/// What the T bit says.
-fn tag_reflected(flags: u8) -> &'static str {
-    if flags % 2 == 1 {
-        ", tag reflected"
-    } else {
-        ""
+/// The T bit.
+fn tag_reflected(chunk: &Item<'_>) -> Flag {
+    Flag {
+        words: (", tag reflected", ""),
+        key: "tag_reflected",
+        otherwise: "",
+        offset: 1,
+        is_set: chunk.second % 2 == 1,
     }
 }
 
-/// Writes the line of an INIT or an INIT ACK.
-fn write_init<W: fmt::Write>(
-    name: ChunkName,
-    value: &[u8],
-    f: &mut fmt::Formatter<W>,
-) -> fmt::Result
-    requires { INIT_SIZE ≤ length value.now }
-{
-    let (tag, a_rwnd) = (read_u32_be(value), read_u32_be(&value[4..]));
-    let (outbound, inbound) = (read_u16_be(&value[8..]), read_u16_be(&value[10..]));
-    let tsn = read_u32_be(&value[12..]);
-    write!(f, "{name}: tag {tag:#010x}, a_rwnd {a_rwnd}")?;
-    write!(
-        f,
-        ", outbound streams {outbound}, inbound streams {inbound}"
-    )?;
-    writeln!(f, ", initial tsn {tsn}")
+/// Hands over the numbers of an INIT or an INIT ACK.
+fn walk_init<F: Fields>(chunk: &Item<'_>, fields: &mut F) -> fmt::Result {
+    let tag = Number::read(": tag ", "tag", chunk, 4, 4);
+    fields.number(&tag.in_form(Form::Hexadecimal))?;
+    fields.number(&Number::read(", a_rwnd ", "a_rwnd", chunk, 8, 4))?;
+    fields.number(&Number::read(", outbound streams ", "outbound_streams", chunk, 12, 2))?;
+    fields.number(&Number::read(", inbound streams ", "inbound_streams", chunk, 14, 2))?;
+    fields.number(&Number::read(", initial tsn ", "initial_tsn", chunk, 16, 4))
 }
 
-/// Writes the lines of a SACK, as far as its lists were captured, as `write_head` does.
-fn write_sack<W: fmt::Write>(
-    value: Part<'_>,
-    f: &mut fmt::Formatter<W>,
-) -> Result<bool, fmt::Error> {
-    let bytes = value.bytes;
-    if bytes.len() < SACK_SIZE {
+/// Hands over a SACK, as far as its lists were captured, as `walk_meaning` does.
+fn walk_sack<F: Fields>(chunk: &Item<'_>, fields: &mut F) -> Result<bool, fmt::Error> {
+    let bytes = chunk.value.bytes;
+    if bytes.len() < SACK_SIZE - HEADER_SIZE {
         return Ok(false);
     }
-    let (tsn, a_rwnd) = (read_u32_be(bytes), read_u32_be(&bytes[4..]));
+    let tsn = Number::read(": cumulative tsn ", "cumulative_tsn", chunk, 4, 4);
     let blocks = read_u16_be(&bytes[8..]) as usize;
     let duplicates = read_u16_be(&bytes[10..]) as usize;
-    if value.size != SACK_SIZE + 4 * (blocks + duplicates) {
+    let lists_size = SACK_ENTRY_SIZE * (blocks + duplicates);
+    if chunk.value.size != SACK_SIZE - HEADER_SIZE + lists_size {
         return Ok(false);
     }
-    writeln!(f, "SACK: cumulative tsn {tsn}, a_rwnd {a_rwnd}")?;
-    let lists = &bytes[SACK_SIZE..];
-    for i in 0..lists.len() / 4 {
-        let field = &lists[4 * i..];
-        if i < blocks {
-            let (start, end) = (read_u16_be(field), read_u16_be(&field[2..]));
-            writeln!(f, "  block {start} to {end}")?;
-        } else {
-            let tsn = read_u32_be(field);
-            writeln!(f, "  duplicate tsn {tsn}")?;
-        }
-    }
+    fields.number(&tsn)?;
+    fields.number(&Number::read(", a_rwnd ", "a_rwnd", chunk, 8, 4))?;
+    let captured = (bytes.len() - (SACK_SIZE - HEADER_SIZE)) / SACK_ENTRY_SIZE;
+    let blocks_captured = blocks.min(captured);
+    walk_blocks(blocks_captured, tsn.value, chunk, fields)?;
+    let first_duplicate = Number::read(
+        "\n  duplicate tsn ",
+        "tsn",
+        chunk,
+        SACK_SIZE + SACK_ENTRY_SIZE * blocks,
+        4,
+    );
+    walk_numbers(
+        "duplicates",
+        captured - blocks_captured,
+        first_duplicate,
+        chunk,
+        fields,
+    )?;
     Ok(true)
 }
 
-/// Writes the lines of a FORWARD-TSN or an I-FORWARD-TSN, as `write_head` does.
-fn write_forward_tsn<W: fmt::Write>(
-    typ: u8,
-    flags: u8,
-    value: &[u8],
-    f: &mut fmt::Formatter<W>,
-) -> Result<bool, fmt::Error> {
+/// Hands over the gap ack blocks of a SACK.
+fn walk_blocks<F: Fields>(
+    count: usize,
+    cumulative_tsn: u32,
+    chunk: &Item<'_>,
+    fields: &mut F,
+) -> fmt::Result {
+    fields.begin_list("blocks", count == 0)?;
+    let mut start = Number::read("", "start", chunk, SACK_SIZE, 2);
+    for _ in 0..count {
+        let end = start.next(chunk);
+        fields.block(&Block {
+            offset: start.offset,
+            start: start.value,
+            end: end.value,
+            cumulative_tsn,
+        })?;
+        start = end.next(chunk);
+    }
+    fields.end_list()
+}
+
+/// Hands over a FORWARD-TSN or an I-FORWARD-TSN, as `walk_meaning` does.
+fn walk_forward_tsn<F: Fields>(chunk: &Item<'_>, fields: &mut F) -> Result<bool, fmt::Error> {
+    let (typ, flags, value) = (chunk.first, chunk.second, chunk.value.bytes);
     let Some(forward) = ForwardTsnRef::from_raw(&RawChunk { typ, flags, value }) else {
         return Ok(false);
     };
-    let (name, tsn) = (ChunkName(typ), forward.new_cumulative_tsn());
-    writeln!(f, "{name}: new cumulative tsn {tsn}")?;
-    for skipped in forward.skipped_streams() {
-        match skipped {
-            SkippedStream::ForwardTsn(stream, ssn) => {
-                writeln!(f, "  stream {stream}, ssn {ssn}")?;
-            }
-            SkippedStream::IForwardTsn(key, mid) => {
-                let (stream, order) = (key.id(), order_word(key.is_unordered()));
-                writeln!(f, "  stream {stream}{order}, mid {mid}")?;
-            }
-        }
+    let words = ": new cumulative tsn ";
+    fields.number(&Number::read(words, "new_cumulative_tsn", chunk, 4, 4))?;
+    let count = forward.skipped_stream_count();
+    let size = if typ == 192 { 4 } else { 8 };
+    fields.begin_list("streams", count == 0)?;
+    let mut offset = FORWARD_TSN_SIZE;
+    for _ in 0..count {
+        walk_stream(offset, size, chunk, fields)?;
+        offset = offset.saturating_add(size);
     }
+    fields.end_list()?;
     Ok(true)
 }
 
-/// Writes what a DATA or an I-DATA says of its payload, as `write_head` does, but for the line
-/// break.
-fn write_data<W: fmt::Write>(
-    typ: u8,
-    flags: u8,
-    value: &[u8],
-    f: &mut fmt::Formatter<W>,
-) -> Result<bool, fmt::Error> {
+/// Hands over a skipped stream, of 4 bytes in FORWARD-TSN, and of 8 in I-FORWARD-TSN.
+fn walk_stream<F: Fields>(
+    offset: usize,
+    size: usize,
+    chunk: &Item<'_>,
+    fields: &mut F,
+) -> fmt::Result {
+    fields.begin_entry(offset, size)?;
+    fields.number(&Number::read("\n  stream ", "stream", chunk, offset, 2))?;
+    if size == 4 {
+        let offset = offset.saturating_add(2);
+        fields.number(&Number::read(", ssn ", "ssn", chunk, offset, 2))?;
+    } else {
+        let bits = Number::read("", "", chunk, offset.saturating_add(3), 1);
+        fields.flag(&order_flag(bits.value % 2 == 1, bits.offset))?;
+        let offset = offset.saturating_add(4);
+        fields.number(&Number::read(", mid ", "mid", chunk, offset, 4))?;
+    }
+    fields.end_entry()
+}
+
+/// Hands over a DATA or an I-DATA, as `walk_meaning` does.
+fn walk_data<F: Fields>(chunk: &Item<'_>, fields: &mut F) -> Result<bool, fmt::Error> {
+    let (typ, flags, value) = (chunk.first, chunk.second, chunk.value.bytes);
     let Some(data) = UserData::from_raw(&RawChunk { typ, flags, value }) else {
         return Ok(false);
     };
-    let (name, tsn, stream) = (ChunkName(typ), data.tsn, data.stream_key.id());
-    let (ppid, protocol) = (data.ppid, PayloadProtocol(data.ppid.0));
-    write!(f, "{name}: tsn {tsn}, stream {stream}")?;
-    if typ == 0 {
-        let ssn = data.ssn;
-        write!(f, ", ssn {ssn}, ppid {ppid}{protocol}")?;
-    } else if data.is_beginning {
-        let mid = data.mid;
-        write!(f, ", mid {mid}, ppid {ppid}{protocol}")?;
+    fields.number(&Number::read(": tsn ", "tsn", chunk, 4, 4))?;
+    fields.number(&Number::read(", stream ", "stream", chunk, 8, 2))?;
+    let offset = if typ == 0 {
+        fields.number(&Number::read(", ssn ", "ssn", chunk, 10, 2))?;
+        walk_ppid(12, chunk, fields)?;
+        DATA_SIZE
     } else {
-        let (mid, fsn) = (data.mid, data.fsn);
-        write!(f, ", mid {mid}, fsn {fsn}")?;
+        fields.number(&Number::read(", mid ", "mid", chunk, 12, 4))?;
+        if data.is_beginning {
+            walk_ppid(16, chunk, fields)?;
+        } else {
+            fields.number(&Number::read(", fsn ", "fsn", chunk, 16, 4))?;
+        }
+        IDATA_SIZE
+    };
+    walk_bits(&data, fields)?;
+    let payload = chunk.value.after(offset - HEADER_SIZE);
+    let is_message = data.is_beginning && data.is_end && payload.is_whole();
+    fields.payload(payload, offset, is_message && data.ppid.0 == 51)?;
+    if is_message && data.ppid.0 == 50 {
+        walk_channel(offset, payload.bytes, chunk, fields)?;
     }
-    write_bits(&data, f)?;
     Ok(true)
 }
 
-/// Writes what the bits of a chunk with user data say.
-fn write_bits<W: fmt::Write>(data: &UserData<'_>, f: &mut fmt::Formatter<W>) -> fmt::Result {
-    let order = order_word(data.stream_key.is_unordered());
-    let beginning = word_if(data.is_beginning, ", beginning");
-    let end = word_if(data.is_end, ", end");
-    let immediate = word_if(data.immediate_ack, ", immediate");
-    write!(f, "{order}{beginning}{end}{immediate}")
+/// Hands over a payload protocol identifier.
+fn walk_ppid<F: Fields>(offset: usize, chunk: &Item<'_>, fields: &mut F) -> fmt::Result {
+    let ppid = Number::read(", ppid ", "ppid", chunk, offset, 4);
+    fields.named(&ppid, payload_protocol(ppid.value))
 }
 
-/// Ends the line, and writes that of the payload.
-fn write_payload<W: fmt::Write>(
-    part: Part<'_>,
-    most: usize,
-    f: &mut fmt::Formatter<W>,
-) -> fmt::Result {
-    let payload = Shown { part, most };
-    writeln!(f, "\n  payload: {payload}")
+/// Hands over the bits of a chunk with user data.
+fn walk_bits<F: Fields>(data: &UserData<'_>, fields: &mut F) -> fmt::Result {
+    fields.flag(&order_flag(data.stream_key.is_unordered(), 1))?;
+    fields.flag(&data_flag(", beginning", "beginning", data.is_beginning))?;
+    fields.flag(&data_flag(", end", "end", data.is_end))?;
+    fields.flag(&data_flag(", immediate", "immediate", data.immediate_ack))
 }
 
-/// How messages are delivered, after a comma.
-fn order_word(unordered: bool) -> &'static str {
-    if unordered {
-        ", unordered"
-    } else {
-        ", ordered"
+/// A bit of a chunk with user data, of which nothing is said where it isn't set.
+fn data_flag(words: &'static str, key: &'static str, is_set: bool) -> Flag {
+    Flag {
+        words: (words, ""),
+        key,
+        otherwise: "",
+        offset: 1,
+        is_set,
     }
 }
 
-/// A word where it applies.
-fn word_if(holds: bool, word: &'static str) -> &'static str {
-    if holds { word } else { "" }
+/// The U bit, in a byte at an offset.
+fn order_flag(is_set: bool, offset: usize) -> Flag {
+    Flag {
+        words: (", unordered", ", ordered"),
+        key: "unordered",
+        otherwise: "ordered",
+        offset,
+        is_set,
+    }
 }

@@ -1,7 +1,8 @@
 //! Why bytes are no packet, and where, as text.
 
 use crate::chunks::INIT_SIZE;
-use crate::names::{ChunkName, cause_name, parameter_name};
+use crate::fields::{HEADER_SIZE, Level};
+use crate::names::ItemName;
 use crate::part::{Item, Part};
 use dcsctp_wire::packet::sctp_packet::{COMMON_HEADER_SIZE, FirstFault, PacketParseError};
 use dcsctp_wire::packet::{ChunkParseError, read_u16_be, read_u32_be};
@@ -9,9 +10,6 @@ use std::fmt;
 
 /// The bytes of a row.
 const ROW: usize = 16;
-
-/// The bytes of an item's header.
-const HEADER_SIZE: usize = 4;
 
 /// Why bytes are no packet, as lines that end with a line break: the error, its offset, the row of
 /// sixteen bytes that holds that byte, and a mark below the byte. Where the bytes end too soon, the
@@ -26,58 +24,115 @@ pub struct FaultReport<'a, 'f> {
 
 impl<'a, 'f> fmt::Display for FaultReport<'a, 'f> {
     fn fmt<W: fmt::Write>(&self, f: &mut fmt::Formatter<W>) -> fmt::Result {
-        let (bytes, offset) = (self.bytes, self.found.offset);
-        match &self.found.fault {
-            PacketParseError::InvalidPacketSize => write_size(bytes.len(), f)?,
-            PacketParseError::InvalidChecksum => f.write_str("error: invalid checksum\n")?,
-            PacketParseError::InvalidChunkSize => f.write_str("error: invalid chunk size\n")?,
-            PacketParseError::FailedParseChunk(fault) => {
-                write_error(fault, Place::of(bytes, offset), f)?;
-            }
+        let fault = Fault::of(self.bytes, self.found);
+        write!(f, "{fault}")
+    }
+}
+
+/// What is wrong.
+#[derive(Clone, Copy)]
+pub enum FaultKind {
+    Size,
+    Checksum,
+    Length,
+    Padding,
+    Value,
+}
+
+impl FaultKind {
+    /// Returns its name.
+    pub fn name(self) -> &'static str {
+        match self {
+            FaultKind::Size => "size",
+            FaultKind::Checksum => "checksum",
+            FaultKind::Length => "length",
+            FaultKind::Padding => "padding",
+            FaultKind::Value => "value",
         }
-        write_offset(bytes, offset, f)
     }
 }
 
-/// Writes the fault of a packet that was cut off, as `FaultReport` does, if a chunk's length is
-/// less than 4 or more than the packet has left: all that is known to be a fault there.
-pub fn write_cut_fault<W: fmt::Write>(packet: Part<'_>, f: &mut fmt::Formatter<W>) -> fmt::Result {
-    let place = Place::first(packet, usize::MAX).skip();
-    if place.rest.bytes.len() < HEADER_SIZE {
-        return Ok(());
-    }
-    write_error(&ChunkParseError::InvalidLength, place, f)?;
-    let offset = packet.size.saturating_sub(place.rest.size);
-    write_offset(packet.bytes, offset, f)
+/// A fault of a packet: what is wrong, and where.
+#[derive(Clone, Copy)]
+pub struct Fault<'a> {
+    /// The packet's bytes.
+    bytes: &'a [u8],
+    pub kind: FaultKind,
+    pub offset: usize,
+    /// The item that is at fault, if one is.
+    place: Place<'a>,
 }
 
-/// Writes an offset, the row of bytes that holds it, and the mark.
-fn write_offset<W: fmt::Write>(
-    bytes: &[u8],
-    offset: usize,
-    f: &mut fmt::Formatter<W>,
-) -> fmt::Result {
-    writeln!(f, "at byte {offset}")?;
-    write_row(bytes, offset / ROW * ROW, f)?;
-    write_mark(offset, f)
+impl<'a> Fault<'a> {
+    /// The fault that `SctpPacket::first_fault` found in these bytes.
+    pub fn of(bytes: &'a [u8], found: &FirstFault) -> Fault<'a> {
+        let kind = match &found.fault {
+            PacketParseError::InvalidPacketSize => FaultKind::Size,
+            PacketParseError::InvalidChecksum => FaultKind::Checksum,
+            PacketParseError::FailedParseChunk(ChunkParseError::InvalidPadding) => {
+                FaultKind::Padding
+            }
+            PacketParseError::FailedParseChunk(ChunkParseError::InvalidValue) => FaultKind::Value,
+            PacketParseError::InvalidChunkSize | PacketParseError::FailedParseChunk(_) => {
+                FaultKind::Length
+            }
+        };
+        Fault {
+            bytes,
+            kind,
+            offset: found.offset,
+            place: Place::of(bytes, found.offset),
+        }
+    }
+
+    /// The fault of a packet that was cut off, if a chunk's length is less than 4 or more than the
+    /// packet has left: all that is known to be a fault there.
+    pub fn of_cut(packet: Part<'a>) -> Option<Fault<'a>> {
+        let place = Place::first(packet, usize::MAX).skip();
+        if place.rest.bytes.len() < HEADER_SIZE {
+            return None;
+        }
+        Some(Fault {
+            bytes: packet.bytes,
+            kind: FaultKind::Length,
+            offset: packet.size.saturating_sub(place.rest.size),
+            place,
+        })
+    }
+}
+
+impl<'a> fmt::Display for Fault<'a> {
+    fn fmt<W: fmt::Write>(&self, f: &mut fmt::Formatter<W>) -> fmt::Result {
+        let (reason, offset) = (Reason(*self), self.offset);
+        writeln!(f, "error: {reason}\nat byte {offset}")?;
+        write_row(self.bytes, offset / ROW * ROW, f)?;
+        write_mark(offset, f)
+    }
+}
+
+/// What is wrong, in a sentence: what is there, and what is needed.
+#[derive(Clone, Copy)]
+pub struct Reason<'a>(pub Fault<'a>);
+
+impl<'a> fmt::Display for Reason<'a> {
+    fn fmt<W: fmt::Write>(&self, f: &mut fmt::Formatter<W>) -> fmt::Result {
+        let fault = &self.0;
+        match fault.kind {
+            FaultKind::Size => write_size(fault.bytes.len(), f),
+            FaultKind::Checksum => f.write_str("invalid checksum"),
+            _ => write_item(fault.kind, fault.place, f),
+        }
+    }
 }
 
 /// Writes that a packet has too few bytes or too many.
 fn write_size<W: fmt::Write>(size: usize, f: &mut fmt::Formatter<W>) -> fmt::Result {
     if size < 16 {
         let unit = if size == 1 { "byte" } else { "bytes" };
-        writeln!(f, "error: packet: {size} {unit}, but 16 are needed")
+        write!(f, "packet: {size} {unit}, but 16 are needed")
     } else {
-        writeln!(f, "error: packet: {size} bytes, but 65535 are the most")
+        write!(f, "packet: {size} bytes, but 65535 are the most")
     }
-}
-
-/// What an item is.
-#[derive(Clone, Copy)]
-enum Level {
-    Chunk,
-    Parameter,
-    Cause,
 }
 
 /// Where a fault lies: the rest of a list, which begins with the item that is at fault, and the
@@ -101,10 +156,7 @@ impl<'a> Place<'a> {
 
     /// Finds the innermost item at an offset of a packet.
     fn of(bytes: &'a [u8], offset: usize) -> Place<'a> {
-        let packet = Part {
-            bytes,
-            size: bytes.len(),
-        };
+        let packet = Part::packet(bytes, bytes.len());
         let place = Place::first(packet, offset).skip();
         match place.rest.item() {
             Some(chunk) => place.within(chunk).skip(),
@@ -131,7 +183,7 @@ impl<'a> Place<'a> {
     /// The place in a chunk's list, where it has one, and the offset is in it.
     fn within(self, chunk: Item<'a>) -> Place<'a> {
         let (level, start) = match chunk.first {
-            1 | 2 => (Level::Parameter, INIT_SIZE),
+            1 | 2 => (Level::Parameter, INIT_SIZE - HEADER_SIZE),
             4 | 5 | 130 => (Level::Parameter, 0),
             6 | 9 => (Level::Cause, 0),
             _ => return self,
@@ -144,37 +196,6 @@ impl<'a> Place<'a> {
             level,
             rest: chunk.value.after(start),
             offset: self.offset - before,
-        }
-    }
-}
-
-/// The name of an item, after what it is.
-#[derive(Clone, Copy)]
-struct ItemName {
-    level: Level,
-    first: u8,
-    second: u8,
-}
-
-impl fmt::Display for ItemName {
-    fn fmt<W: fmt::Write>(&self, f: &mut fmt::Formatter<W>) -> fmt::Result {
-        let typ = u16::from_be_bytes([self.first, self.second]);
-        match self.level {
-            Level::Chunk => {
-                let name = ChunkName(self.first);
-                if !name.is_known() {
-                    f.write_str("chunk ")?;
-                }
-                write!(f, "{name}")
-            }
-            Level::Parameter => {
-                let name = parameter_name(typ);
-                write!(f, "parameter {typ:#06x} {name}")
-            }
-            Level::Cause => {
-                let name = cause_name(typ);
-                write!(f, "cause {typ:#06x} {name}")
-            }
         }
     }
 }
@@ -194,38 +215,30 @@ impl fmt::Display for Left {
     }
 }
 
-/// Writes the line of a fault of an item.
-fn write_error<W: fmt::Write>(
-    fault: &ChunkParseError,
+/// Writes what is wrong with an item.
+fn write_item<W: fmt::Write>(
+    kind: FaultKind,
     place: Place<'_>,
     f: &mut fmt::Formatter<W>,
 ) -> fmt::Result {
     let bytes = place.rest.bytes;
     if bytes.len() < HEADER_SIZE {
-        let word = match place.level {
-            Level::Chunk => "chunk",
-            Level::Parameter => "parameter",
-            Level::Cause => "cause",
-        };
-        let left = Left(bytes.len());
-        return writeln!(f, "error: {word}: header of 4 bytes, but {left}");
+        let (word, left) = (place.level.word(), Left(bytes.len()));
+        return write!(f, "{word}: header of 4 bytes, but {left}");
     }
     let length = read_u16_be(&bytes[2..]);
     let name = ItemName {
         level: place.level,
-        first: bytes[0],
-        second: bytes[1],
+        code: read_u16_be(bytes),
     };
-    write!(f, "error: {name}: ")?;
-    match fault {
-        ChunkParseError::InvalidLength => write_length(name, length, place.rest, f),
-        ChunkParseError::InvalidPadding => {
+    write!(f, "{name}: ")?;
+    match kind {
+        FaultKind::Padding => {
             let there = bytes.len().saturating_sub(length as usize);
             write_padding(length, there, place.offset >= bytes.len(), f)
         }
-        ChunkParseError::InvalidValue => write_result(bytes, f),
-        ChunkParseError::InvalidType => f.write_str("another type\n"),
-        ChunkParseError::OutOfMemory => f.write_str("out of memory\n"),
+        FaultKind::Value => write_result(bytes, f),
+        _ => write_length(name, length, place.rest, f),
     }
 }
 
@@ -239,26 +252,25 @@ fn write_length<W: fmt::Write>(
     let size = length as usize;
     write!(f, "length {size}, but ")?;
     if size < HEADER_SIZE {
-        return f.write_str("4 are needed\n");
+        return f.write_str("4 are needed");
     }
     if size > rest.size {
         let left = Left(rest.size);
-        return writeln!(f, "{left}");
+        return write!(f, "{left}");
     }
     let (least, step) = sizes(name, rest.front(size).bytes);
     if size < least || step == 0 {
-        return writeln!(f, "{least} are needed");
+        return write!(f, "{least} are needed");
     }
     let lower = size - (size - least) % step as usize;
     let upper = lower + step as usize;
-    writeln!(f, "{lower} or {upper} are needed")
+    write!(f, "{lower} or {upper} are needed")
 }
 
 /// The least length of an item, and by how much it can be longer.
 fn sizes(name: ItemName, bytes: &[u8]) -> (usize, u8) {
-    let typ = u16::from_be_bytes([name.first, name.second]);
     match name.level {
-        Level::Chunk => match name.first {
+        Level::Chunk => match name.code.to_be_bytes()[0] {
             0 => (16, 1),
             1 | 2 | 64 => (20, 1),
             3 if bytes.len() >= 16 => {
@@ -273,7 +285,7 @@ fn sizes(name: ItemName, bytes: &[u8]) -> (usize, u8) {
             194 => (8, 8),
             _ => (4, 0),
         },
-        Level::Parameter => match typ {
+        Level::Parameter => match name.code {
             0x000d => (16, 2),
             0x000e => (8, 2),
             0x0010 if bytes.len() > 20 => (20, 0),
@@ -282,7 +294,7 @@ fn sizes(name: ItemName, bytes: &[u8]) -> (usize, u8) {
             0x000f | 0x8001 => (8, 0),
             _ => (4, 0),
         },
-        Level::Cause => match typ {
+        Level::Cause => match name.code {
             2 if bytes.len() >= 8 => (8 + 2 * read_u32_be(&bytes[4..]) as usize, 0),
             2 | 9 => (8, 0),
             _ => (4, 0),
@@ -302,9 +314,9 @@ fn write_padding<W: fmt::Write>(
     let unit = if padding == 1 { "byte" } else { "bytes" };
     if is_missing {
         let left = Left(there);
-        writeln!(f, "padding of {padding} {unit}, but {left}")
+        write!(f, "padding of {padding} {unit}, but {left}")
     } else {
-        writeln!(f, "padding of {padding} {unit} isn't zero")
+        write!(f, "padding of {padding} {unit} isn't zero")
     }
 }
 
@@ -312,10 +324,10 @@ fn write_padding<W: fmt::Write>(
 /// alone can be wrong.
 fn write_result<W: fmt::Write>(bytes: &[u8], f: &mut fmt::Formatter<W>) -> fmt::Result {
     if bytes.len() < 12 {
-        return f.write_str("invalid value\n");
+        return f.write_str("invalid value");
     }
     let result = read_u32_be(&bytes[8..]);
-    writeln!(f, "result {result}, but 6 is the highest")
+    write!(f, "result {result}, but 6 is the highest")
 }
 
 /// Writes the row at an offset.

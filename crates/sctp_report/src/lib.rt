@@ -1,19 +1,28 @@
 //! All that a packet holds, as text: plain lines, one fact a line, and two blanks deeper what is
-//! inside. Of a refused packet, and of one that was cut off, what can be read of it.
+//! inside; as JSON; and in a part of one line. Of a refused packet, and of one that was cut off,
+//! what can be read of it.
 //!
-//! It reads the packet where it lies, and does not allocate. Proved safe and total: no clause says
-//! what a text is.
+//! It reads the packet where it lies, and does not allocate. One walk hands over what there is, to
+//! what writes one form of it. Proved safe and total: no clause says what a text is.
 #![tactic(auto)]
 
+mod brief;
 mod causes;
+mod channel;
 mod chunks;
 mod fault;
+mod fields;
 mod hexadecimal;
+mod json;
 mod names;
 mod packet;
 mod parameters;
 mod part;
+mod shown;
+mod text;
 
 pub use crate::fault::FaultReport;
-pub use crate::names::ChunkName;
-pub use crate::packet::{ChecksumReport, ChunkReport, PacketReport};
+pub use crate::json::JsonText;
+pub use crate::names::{CauseName, ChunkName, cause_name, chunk_name};
+pub use crate::packet::{ChecksumReport, ChunkReport, PacketBrief, PacketJson, PacketReport};
+pub use crate::part::{Item, Items, Part};

@@ -1,12 +1,14 @@
 //! The names of types and codes.
 
+use crate::fields::Level;
+use dcsctp_wire::packet::reconfiguration_response_parameter::ReconfigurationResponseResult;
 use std::fmt;
 
 /// Returns the name of a chunk type, in the words of its standard; `None` of a type that has none
 /// here.
 // IANA, "SCTP Parameters", "Chunk Types"; 16 is of draft-tuexen-tsvwg-sctp-multipath, and 129 of
 // draft-stewart-sctp-pktdrprep.
-fn chunk_name(typ: u8) -> Option<&'static str> {
+pub fn chunk_name(typ: u32) -> Option<&'static str> {
     match typ {
         0 => Some("DATA"),
         1 => Some("INIT"),
@@ -44,101 +46,127 @@ pub struct ChunkName(pub u8);
 impl ChunkName {
     /// Returns whether the type has a name.
     pub fn is_known(self) -> bool {
-        chunk_name(self.0).is_some()
+        chunk_name(self.0 as u32).is_some()
     }
 }
 
 impl fmt::Display for ChunkName {
     fn fmt<W: fmt::Write>(&self, f: &mut fmt::Formatter<W>) -> fmt::Result {
         let typ = self.0;
-        match chunk_name(typ) {
+        match chunk_name(typ as u32) {
             Some(name) => f.write_str(name),
             None => write!(f, "{typ:#04x}"),
         }
     }
 }
 
+/// The name of an item, after what it is.
+#[derive(Clone, Copy)]
+pub struct ItemName {
+    pub level: Level,
+    /// A parameter's type, or a cause's code; the first byte alone is a chunk's type.
+    pub code: u16,
+}
+
+impl fmt::Display for ItemName {
+    fn fmt<W: fmt::Write>(&self, f: &mut fmt::Formatter<W>) -> fmt::Result {
+        let code = self.code;
+        match self.level {
+            Level::Chunk => {
+                let name = ChunkName(code.to_be_bytes()[0]);
+                let word = if name.is_known() { "" } else { "chunk " };
+                write!(f, "{word}{name}")
+            }
+            Level::Parameter => {
+                let name = parameter_name(code).unwrap_or("unknown");
+                write!(f, "parameter {code:#06x} {name}")
+            }
+            Level::Cause => {
+                let name = CauseName(code);
+                write!(f, "cause {name}")
+            }
+        }
+    }
+}
+
 /// Returns the name of a parameter.
 // IANA, "SCTP Parameters", "Chunk Parameter Types".
-pub fn parameter_name(typ: u16) -> &'static str {
+pub fn parameter_name(typ: u16) -> Option<&'static str> {
     match typ {
-        0x0001 => "Heartbeat Info",
-        0x0005 => "IPv4 Address",
-        0x0006 => "IPv6 Address",
-        0x0007 => "State Cookie",
-        0x0008 => "Unrecognized Parameter",
-        0x0009 => "Cookie Preservative",
-        0x000b => "Host Name Address",
-        0x000c => "Supported Address Types",
-        0x000d => "Outgoing SSN Reset Request",
-        0x000e => "Incoming SSN Reset Request",
-        0x000f => "SSN/TSN Reset Request",
-        0x0010 => "Re-configuration Response",
-        0x0011 => "Add Outgoing Streams Request",
-        0x0012 => "Add Incoming Streams Request",
-        0x8000 => "ECN Capable",
-        0x8001 => "Zero Checksum Acceptable",
-        0x8002 => "Random",
-        0x8003 => "Chunk List",
-        0x8004 => "Requested HMAC Algorithm",
-        0x8005 => "Padding",
-        0x8008 => "Supported Extensions",
-        0xc000 => "Forward TSN Supported",
-        0xc001 => "Add IP Address",
-        0xc002 => "Delete IP Address",
-        0xc003 => "Error Cause Indication",
-        0xc004 => "Set Primary Address",
-        0xc005 => "Success Indication",
-        0xc006 => "Adaptation Layer Indication",
-        _ => "unknown",
+        0x0001 => Some("Heartbeat Info"),
+        0x0005 => Some("IPv4 Address"),
+        0x0006 => Some("IPv6 Address"),
+        0x0007 => Some("State Cookie"),
+        0x0008 => Some("Unrecognized Parameter"),
+        0x0009 => Some("Cookie Preservative"),
+        0x000b => Some("Host Name Address"),
+        0x000c => Some("Supported Address Types"),
+        0x000d => Some("Outgoing SSN Reset Request"),
+        0x000e => Some("Incoming SSN Reset Request"),
+        0x000f => Some("SSN/TSN Reset Request"),
+        0x0010 => Some("Re-configuration Response"),
+        0x0011 => Some("Add Outgoing Streams Request"),
+        0x0012 => Some("Add Incoming Streams Request"),
+        0x8000 => Some("ECN Capable"),
+        0x8001 => Some("Zero Checksum Acceptable"),
+        0x8002 => Some("Random"),
+        0x8003 => Some("Chunk List"),
+        0x8004 => Some("Requested HMAC Algorithm"),
+        0x8005 => Some("Padding"),
+        0x8008 => Some("Supported Extensions"),
+        0xc000 => Some("Forward TSN Supported"),
+        0xc001 => Some("Add IP Address"),
+        0xc002 => Some("Delete IP Address"),
+        0xc003 => Some("Error Cause Indication"),
+        0xc004 => Some("Set Primary Address"),
+        0xc005 => Some("Success Indication"),
+        0xc006 => Some("Adaptation Layer Indication"),
+        _ => None,
+    }
+}
+
+/// The code of an error cause in hexadecimal, and its name, or `unknown`.
+#[derive(Clone, Copy)]
+pub struct CauseName(pub u16);
+
+impl fmt::Display for CauseName {
+    fn fmt<W: fmt::Write>(&self, f: &mut fmt::Formatter<W>) -> fmt::Result {
+        let (code, name) = (self.0, cause_name(self.0).unwrap_or("unknown"));
+        write!(f, "{code:#06x} {name}")
     }
 }
 
 /// Returns the name of an error cause.
 // IANA, "SCTP Parameters", "Error Cause Codes".
-pub fn cause_name(code: u16) -> &'static str {
+pub fn cause_name(code: u16) -> Option<&'static str> {
     match code {
-        0x0001 => "Invalid Stream Identifier",
-        0x0002 => "Missing Mandatory Parameter",
-        0x0003 => "Stale Cookie",
-        0x0004 => "Out of Resource",
-        0x0005 => "Unresolvable Address",
-        0x0006 => "Unrecognized Chunk Type",
-        0x0007 => "Invalid Mandatory Parameter",
-        0x0008 => "Unrecognized Parameters",
-        0x0009 => "No User Data",
-        0x000a => "Cookie Received While Shutting Down",
-        0x000b => "Restart of an Association with New Addresses",
-        0x000c => "User-Initiated Abort",
-        0x000d => "Protocol Violation",
-        0x00a0 => "Request to Delete Last Remaining IP Address",
-        0x00a1 => "Operation Refused Due to Resource Shortage",
-        0x00a2 => "Request to Delete Source IP Address",
-        0x00a3 => "Association Aborted due to illegal ASCONF-ACK",
-        0x00a4 => "Request refused - no authorization",
-        0x0105 => "Unsupported HMAC Identifier",
-        _ => "unknown",
-    }
-}
-
-/// The name of a payload protocol identifier after a blank, between parentheses; nothing of one
-/// that has none here.
-#[derive(Clone, Copy)]
-pub struct PayloadProtocol(pub u32);
-
-impl fmt::Display for PayloadProtocol {
-    fn fmt<W: fmt::Write>(&self, f: &mut fmt::Formatter<W>) -> fmt::Result {
-        match payload_protocol(self.0) {
-            Some(name) => write!(f, " ({name})"),
-            None => Ok(()),
-        }
+        0x0001 => Some("Invalid Stream Identifier"),
+        0x0002 => Some("Missing Mandatory Parameter"),
+        0x0003 => Some("Stale Cookie"),
+        0x0004 => Some("Out of Resource"),
+        0x0005 => Some("Unresolvable Address"),
+        0x0006 => Some("Unrecognized Chunk Type"),
+        0x0007 => Some("Invalid Mandatory Parameter"),
+        0x0008 => Some("Unrecognized Parameters"),
+        0x0009 => Some("No User Data"),
+        0x000a => Some("Cookie Received While Shutting Down"),
+        0x000b => Some("Restart of an Association with New Addresses"),
+        0x000c => Some("User-Initiated Abort"),
+        0x000d => Some("Protocol Violation"),
+        0x00a0 => Some("Request to Delete Last Remaining IP Address"),
+        0x00a1 => Some("Operation Refused Due to Resource Shortage"),
+        0x00a2 => Some("Request to Delete Source IP Address"),
+        0x00a3 => Some("Association Aborted due to illegal ASCONF-ACK"),
+        0x00a4 => Some("Request refused - no authorization"),
+        0x0105 => Some("Unsupported HMAC Identifier"),
+        _ => None,
     }
 }
 
 /// Returns the name of a payload protocol identifier.
 // IANA, "SCTP Parameters", "SCTP Payload Protocol Identifiers", where Wireshark's table agrees; in
 // their short forms.
-fn payload_protocol(ppid: u32) -> Option<&'static str> {
+pub fn payload_protocol(ppid: u32) -> Option<&'static str> {
     match ppid {
         1 => Some("IUA"),
         2 => Some("M2UA"),
@@ -215,30 +243,76 @@ fn payload_protocol(ppid: u32) -> Option<&'static str> {
     }
 }
 
-/// A number that stands for something: for what, depends on the list that it is in.
+/// Returns the name of a result of a RE-CONFIG request.
+// RFC 6525 section 4.4.
+pub fn result_name(outcome: ReconfigurationResponseResult) -> &'static str {
+    match outcome {
+        ReconfigurationResponseResult::SuccessNothingToDo => "Success - Nothing to do",
+        ReconfigurationResponseResult::SuccessPerformed => "Success - Performed",
+        ReconfigurationResponseResult::Denied => "Denied",
+        ReconfigurationResponseResult::ErrorWrongSSN => "Error - Wrong SSN",
+        ReconfigurationResponseResult::ErrorRequestAlreadyInProgress => {
+            "Error - Request already in progress"
+        }
+        ReconfigurationResponseResult::ErrorBadSequenceNumber => "Error - Bad Sequence Number",
+        ReconfigurationResponseResult::InProgress => "In progress",
+    }
+}
+
+/// Returns what a type of data channel says of its messages.
+// RFC 8832 section 5.1.
+pub fn channel_type_name(typ: u32) -> Option<&'static str> {
+    match typ {
+        0x00 => Some("reliable ordered"),
+        0x80 => Some("reliable unordered"),
+        0x01 => Some("partial reliable rexmit ordered"),
+        0x81 => Some("partial reliable rexmit unordered"),
+        0x02 => Some("partial reliable timed ordered"),
+        0x82 => Some("partial reliable timed unordered"),
+        _ => None,
+    }
+}
+
+/// What the numbers of a list stand for.
 #[derive(Clone, Copy)]
-pub enum Named {
+pub enum NamedBy {
     /// A chunk type.
-    Chunk(u8),
+    Chunk,
     /// The type of an address (RFC 9260 section 3.3.2.1.4).
-    Address(u16),
+    Address,
     /// The identifier of an HMAC (RFC 4895 section 3.3).
-    Hmac(u16),
+    Hmac,
+}
+
+/// A number that stands for something; its name, or itself where it has none.
+#[derive(Clone, Copy)]
+pub struct Named {
+    pub number: u32,
+    pub by: NamedBy,
+}
+
+impl Named {
+    /// Returns its name.
+    pub fn name(self) -> Option<&'static str> {
+        match (self.by, self.number) {
+            (NamedBy::Chunk, typ) => chunk_name(typ),
+            (NamedBy::Address, 5) => Some("IPv4"),
+            (NamedBy::Address, 6) => Some("IPv6"),
+            (NamedBy::Address, 11) => Some("Host Name"),
+            (NamedBy::Hmac, 1) => Some("SHA-1"),
+            (NamedBy::Hmac, 3) => Some("SHA-256"),
+            _ => None,
+        }
+    }
 }
 
 impl fmt::Display for Named {
     fn fmt<W: fmt::Write>(&self, f: &mut fmt::Formatter<W>) -> fmt::Result {
-        match self {
-            Named::Chunk(typ) => {
-                let name = ChunkName(*typ);
-                write!(f, "{name}")
-            }
-            Named::Address(5) => f.write_str("IPv4"),
-            Named::Address(6) => f.write_str("IPv6"),
-            Named::Address(11) => f.write_str("Host Name"),
-            Named::Hmac(1) => f.write_str("SHA-1"),
-            Named::Hmac(3) => f.write_str("SHA-256"),
-            Named::Address(number) | Named::Hmac(number) => write!(f, "{number}"),
+        let number = self.number;
+        match (self.name(), self.by) {
+            (Some(name), _) => f.write_str(name),
+            (None, NamedBy::Chunk) => write!(f, "{number:#04x}"),
+            (None, _) => write!(f, "{number}"),
         }
     }
 }

@@ -1,8 +1,12 @@
 //! A packet, its checksum field, and a chunk, as text.
 
-use crate::chunks::{write_chunk, write_chunks};
-use crate::fault::{FaultReport, write_cut_fault};
+use crate::brief::BriefFields;
+use crate::chunks::{walk_chunk, walk_chunks};
+use crate::fault::Fault;
+use crate::fields::{Fields, Verdict};
+use crate::json::JsonFields;
 use crate::part::{Item, Part};
+use crate::text::TextFields;
 use dcsctp_wire::packet::chunk::RawChunk;
 use dcsctp_wire::packet::sctp_packet::{COMMON_HEADER_SIZE, CommonHeader, FirstFault};
 use std::fmt;
@@ -24,61 +28,115 @@ pub struct PacketReport<'a, 'f> {
     pub word: u32,
     /// Its fault, as `SctpPacket::first_fault` returns it; `None` of a packet that was cut off.
     pub fault: Option<&'f FirstFault>,
-    /// How many bytes of a payload, a cookie or another value are shown at most.
-    pub most: usize,
+    /// Whether all bytes of a cookie or another value are shown, and those of a payload in rows;
+    /// else the first 16.
+    pub shows_all: bool,
 }
 
 impl<'a, 'f> fmt::Display for PacketReport<'a, 'f> {
     fn fmt<W: fmt::Write>(&self, f: &mut fmt::Formatter<W>) -> fmt::Result {
-        let packet = Part {
-            bytes: self.bytes,
-            size: self.length.max(self.bytes.len()),
+        let packet = Part::packet(self.bytes, self.length.max(self.bytes.len()));
+        let fields = &mut TextFields {
+            f,
+            shows_all: self.shows_all,
         };
-        if let Some(header) = CommonHeader::from_bytes(self.bytes) {
-            write_header(&header, f)?;
-            write_checksum(header.checksum, self.word, packet.is_whole(), f)?;
-        }
-        match self.fault {
-            None => {
-                write_chunks(packet.after(COMMON_HEADER_SIZE), self.most, f)?;
-                if packet.is_whole() {
-                    return Ok(());
-                }
-                write_cut_fault(packet, f)
-            }
-            Some(found) => {
-                let before = packet.front(found.offset);
-                write_chunks(before.after(COMMON_HEADER_SIZE), self.most, f)?;
-                let bytes = self.bytes;
-                let fault = FaultReport { bytes, found };
-                write!(f, "{fault}")
-            }
-        }
+        walk_packet(packet, self.word, self.fault, fields)
     }
 }
 
-/// Writes the line of both ports and the tag.
-fn write_header<W: fmt::Write>(header: &CommonHeader, f: &mut fmt::Formatter<W>) -> fmt::Result {
-    let (source, destination) = (header.source_port, header.destination_port);
-    let tag = header.verification_tag;
-    writeln!(
-        f,
-        "source {source}, destination {destination}, tag {tag:#010x}"
-    )
+/// All that can be read of a packet, as members of a JSON object, without its braces: `length`,
+/// `captured` if that is less, then what `PacketReport` prints.
+///
+/// Each number, text or run of bytes has a name. Bytes are in hexadecimal, and a text that isn't
+/// UTF-8 is left out.
+#[derive(Clone, Copy)]
+pub struct PacketJson<'a, 'f> {
+    /// The packet's bytes, as far as they were captured.
+    pub bytes: &'a [u8],
+    /// How many bytes the packet has.
+    pub length: usize,
+    /// As in `PacketReport`.
+    pub word: u32,
+    /// As in `PacketReport`.
+    pub fault: Option<&'f FirstFault>,
+    /// Whether it has the captured bytes, as `bytes`, and after each field its place in them:
+    /// `"tag@":[4,4]` is its offset and its size.
+    pub places: bool,
 }
 
-/// Writes the line of a checksum field.
-fn write_checksum<W: fmt::Write>(
-    field: u32,
+impl<'a, 'f> fmt::Display for PacketJson<'a, 'f> {
+    fn fmt<W: fmt::Write>(&self, f: &mut fmt::Formatter<W>) -> fmt::Result {
+        let packet = Part::packet(self.bytes, self.length.max(self.bytes.len()));
+        let fields = &mut JsonFields::new(f, self.places, packet.size);
+        fields.put("length", self.length)?;
+        if !packet.is_whole() {
+            fields.put("captured", self.bytes.len())?;
+        }
+        if self.places {
+            fields.put_bytes("bytes", self.bytes)?;
+        }
+        walk_packet(packet, self.word, self.fault, fields)
+    }
+}
+
+/// What can be read of a packet, in one line that has no line break: its tag, what is found of its
+/// checksum field (`right`, `zero`, `wrong`, `unknown`), and its chunks, with ` | ` between each
+/// two. A refused packet ends in `! KIND at OFFSET: REASON`, and one that was cut off, if it has no
+/// fault, in `! cut off`.
+///
+/// A chunk is its name and its fields, as `tsn=5`, with a blank between each two; of its parameters
+/// and error causes it has the names, or the types and codes of those without one, and texts.
+#[derive(Clone, Copy)]
+pub struct PacketBrief<'a, 'f> {
+    /// The packet's bytes, as far as they were captured.
+    pub bytes: &'a [u8],
+    /// How many bytes the packet has.
+    pub length: usize,
+    /// As in `PacketReport`.
+    pub word: u32,
+    /// As in `PacketReport`.
+    pub fault: Option<&'f FirstFault>,
+}
+
+impl<'a, 'f> fmt::Display for PacketBrief<'a, 'f> {
+    fn fmt<W: fmt::Write>(&self, f: &mut fmt::Formatter<W>) -> fmt::Result {
+        let packet = Part::packet(self.bytes, self.length.max(self.bytes.len()));
+        walk_packet(packet, self.word, self.fault, &mut BriefFields::new(f))
+    }
+}
+
+/// Hands over a packet.
+fn walk_packet<F: Fields>(
+    packet: Part<'_>,
     word: u32,
-    is_known: bool,
-    f: &mut fmt::Formatter<W>,
+    found: Option<&FirstFault>,
+    fields: &mut F,
 ) -> fmt::Result {
-    if !is_known {
-        return writeln!(f, "checksum {field:#010x}: not known");
+    if let Some(header) = CommonHeader::from_bytes(packet.bytes) {
+        let verdict = if packet.is_whole() {
+            Verdict::of(header.checksum, word)
+        } else {
+            Verdict::Unknown
+        };
+        fields.header(&header, verdict)?;
     }
-    let verdict = ChecksumReport { field, word };
-    writeln!(f, "checksum {field:#010x}: {verdict}")
+    match found {
+        Some(found) => {
+            let before = packet.front(found.offset);
+            walk_chunks(before.after(COMMON_HEADER_SIZE), fields)?;
+            fields.fault(&Fault::of(packet.bytes, found))
+        }
+        None => {
+            walk_chunks(packet.after(COMMON_HEADER_SIZE), fields)?;
+            if packet.is_whole() {
+                return Ok(());
+            }
+            match Fault::of_cut(packet) {
+                Some(fault) => fields.fault(&fault),
+                None => fields.cut_off(),
+            }
+        }
+    }
 }
 
 /// What is said of a checksum field: that it is right, zero, or wrong, and then what was expected.
@@ -93,14 +151,8 @@ pub struct ChecksumReport {
 
 impl fmt::Display for ChecksumReport {
     fn fmt<W: fmt::Write>(&self, f: &mut fmt::Formatter<W>) -> fmt::Result {
-        let (field, word) = (self.field, self.word);
-        if field == word {
-            return f.write_str("right");
-        }
-        if field == 0 {
-            return f.write_str("zero");
-        }
-        write!(f, "wrong, expected {word:#010x}")
+        let verdict = Verdict::of(self.field, self.word);
+        write!(f, "{verdict}")
     }
 }
 
@@ -109,22 +161,23 @@ impl fmt::Display for ChecksumReport {
 pub struct ChunkReport<'c, 'a> {
     /// The chunk.
     pub chunk: &'c RawChunk<'a>,
-    /// How many bytes of a payload, a cookie or another value are shown at most.
-    pub most: usize,
+    /// As in `PacketReport`.
+    pub shows_all: bool,
 }
 
 impl<'c, 'a> fmt::Display for ChunkReport<'c, 'a> {
     fn fmt<W: fmt::Write>(&self, f: &mut fmt::Formatter<W>) -> fmt::Result {
         let bytes = self.chunk.value;
-        let item = Item {
+        let chunk = Item {
             first: self.chunk.typ,
             second: self.chunk.flags,
-            value: Part {
-                bytes,
-                size: bytes.len(),
-            },
+            value: Part::packet(bytes, bytes.len()),
             padded: 0,
         };
-        write_chunk(item, self.most, f)
+        let fields = &mut TextFields {
+            f,
+            shows_all: self.shows_all,
+        };
+        walk_chunk(&chunk, fields)
     }
 }

@@ -1,20 +1,25 @@
-//! Bytes of a packet, as far as they were captured, and how they are printed.
+//! Bytes of a packet, as far as they were captured, and the items in them: chunks, parameters and
+//! error causes.
 
-use crate::hexadecimal::write_digits;
+ghost use Rattle.std.specs.Prelude.{◌≡◌};
+ghost use Rattle.sctp_report.specs.Part.{part_of, front, after, IsFirst};
+
 use dcsctp_wire::packet::read_u16_be;
-use std::fmt;
+use std::marker::Model;
 
 /// Bytes of a packet, of which the last ones may not have been captured.
-#[derive(Clone, Copy)]
+#[derive(Clone, Copy, Debug)]
 pub struct Part<'a> {
-    /// Those that were captured.
+    /// Those that were captured, the first ones.
     pub bytes: &'a [u8],
     /// How many bytes there are in the packet.
     pub size: usize,
+    /// The offset of the first one in the packet.
+    pub offset: usize,
 }
 
 /// A chunk, a parameter or an error cause.
-#[derive(Clone, Copy)]
+#[derive(Clone, Copy, Debug)]
 pub struct Item<'a> {
     /// The first byte: a chunk's type.
     pub first: u8,
@@ -27,30 +32,50 @@ pub struct Item<'a> {
 }
 
 impl<'a> Part<'a> {
+    /// Returns a packet of `size` bytes, of which these were captured.
+    pub fn packet(bytes: &'a [u8], size: usize) -> Part<'a>
+        ensures bytes { result.bytes.now ≡ bytes.now }
+        ensures size { result.size ≡ size }
+    {
+        Part {
+            bytes,
+            size,
+            offset: 0,
+        }
+    }
+
     /// Returns whether all of it was captured.
     pub fn is_whole(self) -> bool {
         self.bytes.len() >= self.size
     }
 
     /// Returns the first bytes.
-    pub fn front(self, count: usize) -> Part<'a> {
+    pub fn front(self, count: usize) -> Part<'a>
+        ensures { part_of result ≡ front count (part_of self.entry) }
+    {
         Part {
             bytes: &self.bytes[..count.min(self.bytes.len())],
             size: count.min(self.size),
+            offset: self.offset,
         }
     }
 
     /// Returns what follows the first bytes.
-    pub fn after(self, count: usize) -> Part<'a> {
+    pub fn after(self, count: usize) -> Part<'a>
+        ensures { part_of result ≡ after count (part_of self.entry) }
+    {
         Part {
             bytes: &self.bytes[count.min(self.bytes.len())..],
             size: self.size.saturating_sub(count),
+            offset: self.offset.saturating_add(count),
         }
     }
 
-    /// Returns the chunk, parameter or cause at the front; `None` where the header was not
-    /// captured, or its length is less than 4 or more than is left.
-    pub fn item(self) -> Option<Item<'a>> {
+    /// Returns the item at the front; `None` where its header was not captured, or its length is
+    /// less than 4 or more than is left.
+    pub fn item(self) -> Option<Item<'a>>
+        ensures { IsFirst (part_of self.entry) result }
+    {
         let bytes = self.bytes;
         if bytes.len() < 4 {
             return None;
@@ -66,6 +91,14 @@ impl<'a> Part<'a> {
             padded: length.div_ceil(4) * 4,
         })
     }
+
+    /// Returns the items that lie here one after the other, as far as their headers were captured,
+    /// and their lengths are 4 at least and no more than is left.
+    pub fn items(self) -> Items<'a>
+        ensures { result ≡ part_of self.entry }
+    {
+        Items { rest: self }
+    }
 }
 
 impl<'a> Item<'a> {
@@ -75,55 +108,48 @@ impl<'a> Item<'a> {
     }
 }
 
-/// The size of a part, and the first bytes of it, at most as many as `most`.
-#[derive(Clone, Copy)]
-pub struct Shown<'a> {
-    pub part: Part<'a>,
-    pub most: usize,
+/// The items that lie in bytes of a packet one after the other (RFC 9260 sections 3.2, 3.2.1 and
+/// 3.3.10), as far as their headers were captured, and their lengths are 4 at least and no more
+/// than is left.
+///
+/// A contract sees the bytes that are left.
+#[derive(Clone, Debug, Drop)]
+pub struct Items<'a> {
+    rest: Part<'a>,
 }
 
-impl<'a> fmt::Display for Shown<'a> {
-    fn fmt<W: fmt::Write>(&self, f: &mut fmt::Formatter<W>) -> fmt::Result {
-        let (bytes, size) = (self.part.bytes, self.part.size);
-        let unit = if size == 1 { "byte" } else { "bytes" };
-        write!(f, "{size} {unit}")?;
-        if !self.part.is_whole() {
-            let captured = bytes.len();
-            write!(f, ", {captured} captured")?;
-        }
-        if bytes.is_empty() {
-            return Ok(());
-        }
-        f.write_str(": ")?;
-        let shown = bytes.len().min(self.most);
-        write_digits(&bytes[..shown], f)?;
-        if shown < size {
-            f.write_str(" ..")?;
-        }
-        Ok(())
+impl<'a> Model for Items<'a> {
+    ghost use Rattle.sctp_report.specs.Part.{Part, part_of};
+
+    ghost Value = { Part };
+
+    ghost view = { λ i. part_of i.rest };
+}
+
+impl<'a> Items<'a> {
+    /// Returns what is left: nothing, or what begins with no item.
+    pub fn rest(&self) -> Part<'a>
+        ensures { part_of result ≡ self.now }
+    {
+        self.rest
     }
 }
 
-/// A text between quotation marks; what isn't printable ASCII is escaped.
-#[derive(Clone, Copy)]
-pub struct Quoted<'a>(pub &'a [u8]);
+impl<'a> Iterator for Items<'a> {
+    ghost use Rattle.std.specs.Prelude.{length};
+    ghost use Rattle.std.specs.Iterator.{at_most};
+    ghost use Rattle.sctp_report.specs.Part.{GivesItem};
 
-impl<'a> fmt::Display for Quoted<'a> {
-    fn fmt<W: fmt::Write>(&self, f: &mut fmt::Formatter<W>) -> fmt::Result {
-        f.write_str("\"")?;
-        for byte in self.0 {
-            write_printed(*byte, f)?;
-        }
-        f.write_str("\"")
-    }
-}
+    type Item = Item<'a>;
 
-/// Writes a byte as it is, or escaped: from the blank to the tilde, it is neither a quotation mark
-/// nor a backslash.
-fn write_printed<W: fmt::Write>(byte: u8, f: &mut fmt::Formatter<W>) -> fmt::Result {
-    if (b' '..=b'~').contains(&byte) && byte != b'"' && byte != b'\\' {
-        f.write_char(byte as char)
-    } else {
-        write!(f, "\\x{byte:02x}")
+    ghost next_gives = { GivesItem };
+
+    ghost remaining = { λ p. at_most (length p.bytes) };
+
+    /// Returns the next item.
+    fn next(&mut self) -> Option<Item<'a>> {
+        let item = self.rest.item()?;
+        self.rest = self.rest.after(item.padded);
+        Some(item)
     }
 }

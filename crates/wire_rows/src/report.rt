@@ -4,7 +4,9 @@ use crate::bytes::{from, short_at, word_at};
 use dcsctp_crc32c::packet_word;
 use dcsctp_wire::packet::chunk::RawChunk;
 use dcsctp_wire::packet::sctp_packet::{ChecksumPolicy, SctpPacket};
-use sctp_report::{ChecksumReport, ChunkReport, FaultReport, PacketReport};
+use sctp_report::{
+    ChecksumReport, ChunkReport, FaultReport, JsonText, PacketBrief, PacketJson, PacketReport,
+};
 use std::alloc::{AllocError, Global};
 use std::fmt::Display;
 
@@ -29,7 +31,7 @@ fn write_chunk(alloc: Global, bytes: &[u8], out: &mut String) -> Result<(), Allo
             alloc,
             &ChunkReport {
                 chunk: &chunk,
-                most: 16,
+                shows_all: false,
             },
             out,
         ),
@@ -54,7 +56,12 @@ fn write_fault(alloc: Global, bytes: &[u8], out: &mut String) -> Result<(), Allo
 }
 
 /// The packet, whatever its checksum is, or what is there of it and its first fault.
-fn write_packet(alloc: Global, bytes: &[u8], out: &mut String) -> Result<(), AllocError> {
+fn write_packet(
+    alloc: Global,
+    shows_all: bool,
+    bytes: &[u8],
+    out: &mut String,
+) -> Result<(), AllocError> {
     let word = packet_word(bytes);
     let found = SctpPacket::first_fault(bytes, word, &ChecksumPolicy::ANY_CHECKSUM);
     let report = PacketReport {
@@ -62,19 +69,84 @@ fn write_packet(alloc: Global, bytes: &[u8], out: &mut String) -> Result<(), All
         length: bytes.len(),
         word,
         fault: found.as_ref(),
-        most: 16,
+        shows_all,
     };
     write_lines(alloc, &report, out)
 }
 
+/// The packet as JSON, of as many bytes, and with a blank before each key but the first, so that
+/// long lines are broken.
+fn write_json(
+    alloc: Global,
+    length: usize,
+    places: bool,
+    bytes: &[u8],
+    out: &mut String,
+) -> Result<(), AllocError> {
+    let word = packet_word(bytes);
+    let found = if length > bytes.len() {
+        None
+    } else {
+        SctpPacket::first_fault(bytes, word, &ChecksumPolicy::ANY_CHECKSUM)
+    };
+    let json = PacketJson {
+        bytes,
+        length,
+        word,
+        fault: found.as_ref(),
+        places,
+    };
+    let text = json.to_string(alloc)?;
+    let mut before = "";
+    for member in text.split(",\"") {
+        write!(out, "{before}{member}")?;
+        before = ", \"";
+    }
+    Ok(())
+}
+
+/// The packet in a line, of as many bytes.
+fn write_brief(length: usize, bytes: &[u8], out: &mut String) -> Result<(), AllocError> {
+    let word = packet_word(bytes);
+    let found = if length > bytes.len() {
+        None
+    } else {
+        SctpPacket::first_fault(bytes, word, &ChecksumPolicy::ANY_CHECKSUM)
+    };
+    let brief = PacketBrief {
+        bytes,
+        length,
+        word,
+        fault: found.as_ref(),
+    };
+    write!(out, "{brief}")
+}
+
+/// The bytes as a string of JSON.
+fn write_json_text(bytes: &[u8], out: &mut String) -> Result<(), AllocError> {
+    match str::from_utf8(bytes) {
+        Ok(text) => {
+            let text = JsonText(text);
+            write!(out, "{text}")
+        }
+        Err(_) => out.push_str("not UTF-8"),
+    }
+}
+
 /// A packet of so many bytes, of which these were captured.
-fn write_cut(alloc: Global, length: u16, bytes: &[u8], out: &mut String) -> Result<(), AllocError> {
+fn write_cut(
+    alloc: Global,
+    length: u16,
+    shows_all: bool,
+    bytes: &[u8],
+    out: &mut String,
+) -> Result<(), AllocError> {
     let report = PacketReport {
         bytes,
         length: length as usize,
         word: 0,
         fault: None,
-        most: 16,
+        shows_all,
     };
     write_lines(alloc, &report, out)
 }
@@ -96,8 +168,23 @@ pub fn write_answer(
     match call {
         "report" => write_chunk(alloc, bytes, out)?,
         "report-fault" => write_fault(alloc, bytes, out)?,
-        "report-packet" => write_packet(alloc, bytes, out)?,
-        "report-cut" => write_cut(alloc, short_at(bytes, 0), from(bytes, 2), out)?,
+        "report-packet" => write_packet(alloc, false, bytes, out)?,
+        "report-cut" => write_cut(alloc, short_at(bytes, 0), false, from(bytes, 2), out)?,
+        "report-whole" => write_packet(alloc, true, bytes, out)?,
+        "report-cut-whole" => write_cut(alloc, short_at(bytes, 0), true, from(bytes, 2), out)?,
+        "json" => write_json(alloc, bytes.len(), false, bytes, out)?,
+        "json-places" => write_json(alloc, bytes.len(), true, bytes, out)?,
+        "json-cut" => {
+            let length = short_at(bytes, 0) as usize;
+            write_json(alloc, length, false, from(bytes, 2), out)?;
+        }
+        "json-cut-places" => {
+            let length = short_at(bytes, 0) as usize;
+            write_json(alloc, length, true, from(bytes, 2), out)?;
+        }
+        "json-text" => write_json_text(bytes, out)?,
+        "brief" => write_brief(bytes.len(), bytes, out)?,
+        "brief-cut" => write_brief(short_at(bytes, 0) as usize, from(bytes, 2), out)?,
         "report-checksum" => write_checksum(bytes, out)?,
         _ => return Ok(false),
     }

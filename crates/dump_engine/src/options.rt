@@ -1,0 +1,128 @@
+//! What the arguments ask for.
+
+ghost use Rattle.std.specs.Prelude.{◌≡◌};
+ghost use Rattle.dump_engine.specs.Counts.{policy_of};
+
+use dcsctp_wire::packet::sctp_packet::ChecksumPolicy;
+use sctp_association::TimeForm;
+use sctp_capture::frame::UDP_PORT;
+use sctp_filter::filter::Filter;
+
+/// The form of an input.
+#[derive(Clone, Copy, PartialEq, Eq)]
+pub enum Form {
+    /// What its first bytes say.
+    Detected,
+    /// A pcap file.
+    Pcap,
+    /// A pcapng file.
+    Pcapng,
+    /// Lines of text.
+    Text,
+}
+
+/// The form of what is printed.
+#[derive(Clone, Copy, PartialEq, Eq)]
+pub enum OutputForm {
+    /// A block of lines a packet.
+    Blocks,
+    /// A line a packet.
+    Brief,
+    /// A JSON object a line.
+    Json,
+}
+
+/// The form of times.
+#[derive(Clone, Copy, PartialEq, Eq)]
+pub enum TimeOption {
+    /// As the capture says them: seconds since 1970, or a log's time of day.
+    Captured,
+    /// A date and a time of day in UTC (ISO 8601).
+    Iso,
+    /// A time of day in UTC.
+    Utc,
+    /// Seconds since the first packet.
+    Relative,
+    /// Seconds since the packet before.
+    Delta,
+}
+
+/// What is printed, and how.
+#[derive(Clone, Copy)]
+pub struct Options {
+    /// The form of packets.
+    pub output: OutputForm,
+    /// Refused packets alone.
+    pub faults: bool,
+    /// Counts alone.
+    pub summary: bool,
+    /// Padding that isn't zero is refused.
+    pub strict: bool,
+    /// All bytes of values.
+    pub payload: bool,
+    /// Where each field of a JSON object lies.
+    pub places: bool,
+    /// The rules that accepted packets break.
+    pub check: bool,
+    /// The associations.
+    pub associations: bool,
+    /// The form of times.
+    pub time: TimeOption,
+    /// Which packets are printed.
+    pub filter: Filter,
+    /// The filter was asked for: what has no packet isn't printed.
+    pub is_filtered: bool,
+    /// The UDP port that carries SCTP.
+    pub udp_port: u16,
+    /// The form of the inputs.
+    pub form: Form,
+}
+
+impl Options {
+    /// What is asked for without an option.
+    pub const DEFAULT: Options = Options {
+        output: OutputForm::Blocks,
+        faults: false,
+        summary: false,
+        strict: false,
+        payload: false,
+        places: false,
+        check: false,
+        associations: false,
+        time: TimeOption::Captured,
+        filter: Filter::ALL,
+        is_filtered: false,
+        udp_port: UDP_PORT,
+        form: Form::Detected,
+    };
+
+    /// Any checksum is accepted, and any padding unless it is looked at.
+    pub fn policy(&self) -> ChecksumPolicy
+        ensures { result ≡ policy_of self.now }
+    {
+        ChecksumPolicy {
+            strict_padding: self.strict,
+            ..ChecksumPolicy::ANY_CHECKSUM
+        }
+    }
+
+    /// Returns the form of an association's times.
+    pub fn time_form(&self) -> TimeForm {
+        match self.time {
+            TimeOption::Iso => TimeForm::Iso,
+            TimeOption::Utc => TimeForm::Utc,
+            _ => TimeForm::Seconds,
+        }
+    }
+
+    /// Returns whether packets are printed: not where associations or counts alone are.
+    pub fn prints_packets(&self) -> bool {
+        let replaced = self.associations && self.output == OutputForm::Blocks;
+        !(self.summary || replaced)
+    }
+
+    /// Returns whether what has no packet is printed.
+    pub fn prints_skipped(&self) -> bool {
+        self.prints_packets() && !self.faults && !self.is_filtered
+    }
+}

@@ -1,0 +1,119 @@
+-- What is counted of the packets that one end of an association sent.
+use Rattle.std.specs.Prelude.{◌≡◌, ◌+◌, ◌-◌, ◌^◌, ◌==◌, ℕ, Bool, min, nat_lt, nat_le, if◌then◌else◌, List, fold, length, drop, Option, Some, None}
+use Rattle.dcsctp_tlv.specs.Number.{number16, number32}
+use Rattle.sctp_report.specs.Part.{Part, Item, AreItems, after}
+use Rattle.sctp_association.specs.declared.counts.Counts.{Counts}
+use Rattle.sctp_association.specs.declared.counts.LeastWindow.{LeastWindow}
+use Rattle.sctp_association.specs.declared.counts.SeenPacket.{SeenPacket}
+use Rattle.sctp_association.specs.declared.counts.Checksum.{Checksum}
+use Rattle.sctp_association.specs.declared.counts.Checksum.TheVariants.{Right, Zero, Wrong, Unknown}
+
+-- ---- numbers up to 2^64 - 1
+
+abbrev pub capped : ℕ → ℕ
+capped n = min n (2 ^ 64 - 1)
+
+abbrev pub one_more : ℕ → ℕ
+one_more n = capped (n + 1)
+
+abbrev pub nothing : Counts
+nothing = record {
+  packets = 0;
+  refused = 0;
+  zero = 0;
+  wrong = 0;
+  data_chunks = 0;
+  data_bytes = 0;
+  sacks = 0;
+  sacks_with_gaps = 0;
+  least_window = None;
+  heartbeats = 0;
+}
+
+-- ---- a packet, without its chunks
+
+-- A field of zero says that no checksum was computed (RFC 9653 section 3); neither right nor unknown
+-- ones are counted.
+abbrev pub with_checksum : Counts → Checksum → Counts
+with_checksum c Zero = record c { zero = one_more c.zero }
+with_checksum c Wrong = record c { wrong = one_more c.wrong }
+with_checksum c Right = c
+with_checksum c Unknown = c
+
+abbrev pub with_refusal : Counts → Bool → Counts
+with_refusal c refused = if refused then record c { refused = one_more c.refused } else c
+
+abbrev pub with_header : Counts → Checksum → Bool → Counts
+with_header c checksum refused =
+    with_checksum (with_refusal (record c { packets = one_more c.packets }) refused) checksum
+
+-- ---- a chunk
+
+-- a chunk with this many bytes of user data
+abbrev pub with_data : Counts → ℕ → Counts
+with_data c size =
+    record c { data_chunks = one_more c.data_chunks; data_bytes = capped (c.data_bytes + size) }
+
+-- the lesser window, and of equal ones the first
+abbrev pub with_window : Option LeastWindow → ℕ → ℕ → Option LeastWindow
+with_window (Some w) a_rwnd packet =
+    if nat_le w.a_rwnd a_rwnd then Some w else Some (record { a_rwnd = a_rwnd; packet = packet })
+with_window None a_rwnd packet = Some (record { a_rwnd = a_rwnd; packet = packet })
+
+-- The value of a SACK (RFC 9260 section 3.3.4): the cumulative TSN, then a_rwnd, the number of gap
+-- blocks, and that of duplicates.
+abbrev pub a_rwnd : List ℕ → ℕ
+a_rwnd value = number32 (drop 4 value)
+
+abbrev pub gap_blocks : List ℕ → ℕ
+gap_blocks value = number16 (drop 8 value)
+
+abbrev pub with_gaps : Counts → List ℕ → Counts
+with_gaps c value =
+    if nat_lt 0 (gap_blocks value) then record c { sacks_with_gaps = one_more c.sacks_with_gaps } else c
+
+abbrev pub with_least : ℕ → Counts → List ℕ → Counts
+with_least packet c value =
+    record c { least_window = with_window c.least_window (a_rwnd value) packet }
+
+-- Of a SACK whose fixed part wasn't captured only that there was one is known.
+abbrev pub with_sack : ℕ → Counts → List ℕ → Counts
+with_sack packet c value =
+    let more = record c { sacks = one_more c.sacks } in
+    if nat_lt (length value) 12 then more else with_least packet (with_gaps more value) value
+
+-- DATA (RFC 9260 section 3.3.1) has 12 bytes before its user data, I-DATA (RFC 8260 section 2.1) 16;
+-- SACK is of RFC 9260 section 3.3.4, HEARTBEAT of 3.3.5.
+abbrev pub with_chunk : ℕ → Counts → Item → Counts
+with_chunk packet c chunk =
+    if chunk.first == 0 then with_data c (chunk.value.size - 12) else
+    if chunk.first == 64 then with_data c (chunk.value.size - 16) else
+    if chunk.first == 3 then with_sack packet c chunk.value.bytes else
+    if chunk.first == 4 then record c { heartbeats = one_more c.heartbeats } else c
+
+-- the chunks in these bytes were counted, as far as they can be read
+abbrev pub CountsChunks : ℕ → Counts → Part → Counts → Type 0
+CountsChunks packet before bytes new =
+    (chunks : List Item) × AreItems bytes chunks × (new ≡ fold (with_chunk packet) before chunks)
+
+-- ---- a packet
+
+pub record Packet : Type 0 where
+  pub number : ℕ
+  pub checksum : Checksum
+  pub is_refused : Bool
+  -- what follows the common header (RFC 9260 section 3)
+  pub chunks : Part
+
+abbrev pub packet_of : SeenPacket → Packet
+packet_of p = record {
+  number = p.number;
+  checksum = p.checksum;
+  is_refused = p.is_refused;
+  chunks = after 12 (record { bytes = p.found.packet.now; size = p.found.length });
+}
+
+-- one packet was counted, with its chunks as far as they can be read
+abbrev pub CountsPacket : Counts → Packet → Counts → Type 0
+CountsPacket before p new =
+    CountsChunks p.number (with_header before p.checksum p.is_refused) p.chunks new

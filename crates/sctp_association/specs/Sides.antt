@@ -1,0 +1,14 @@
+-- The ends of an association.
+use Rattle.sctp_association.specs.declared.association.Side.{Side}
+use Rattle.sctp_association.specs.declared.association.Side.TheVariants.{First, Second}
+use Rattle.sctp_association.specs.declared.association.Association.{Association}
+use Rattle.sctp_association.specs.declared.counts.Counts.{Counts}
+
+abbrev pub other : Side → Side
+other First = Second
+other Second = First
+
+-- what is counted of the packets that an end sent
+abbrev pub counts_of : Side → Association → Counts
+counts_of First a = a.first.counts
+counts_of Second a = a.second.counts

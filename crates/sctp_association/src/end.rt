@@ -1,0 +1,180 @@
+//! One end of an association.
+
+ghost use Rattle.std.specs.Prelude.{◌≡◌, ◌≤◌, length};
+ghost use Rattle.sctp_association.specs.Counts.{nothing};
+
+use crate::chunk_type::{DATA, HEARTBEAT, HEARTBEAT_ACK, I_DATA, INIT, INIT_ACK, SACK};
+use crate::counts::{Counts, SeenPacket};
+use crate::heartbeats::Heartbeats;
+use crate::initiation::accepts_zero;
+use crate::round_trips::RoundTrips;
+use crate::tsns::Tsns;
+use dcsctp_wire::packet::read_u32_be;
+use sctp_report::Item;
+use std::net::IpAddr;
+
+/// How many addresses of an end are kept.
+const MOST_ADDRESSES: usize = 4;
+
+/// The last TSN that the other end acknowledged, and the first packet that did.
+#[derive(Clone, Copy, Debug, PartialEq, Eq)]
+pub struct Acknowledged {
+    /// The greatest Cumulative TSN Ack (RFC 9260 section 3.3.4).
+    pub tsn: u32,
+    /// The packet's number.
+    pub packet: u64,
+}
+
+/// One end of an association, and what it sent.
+#[derive(Clone, Debug, Drop)]
+pub struct End {
+    /// The addresses from which or to which packets went, the first ones of them.
+    pub addresses: [Option<IpAddr>; MOST_ADDRESSES],
+    /// Whether there were more.
+    pub has_more_addresses: bool,
+    /// The port.
+    pub port: u16,
+    /// The tag that it chose: packets to it carry it (RFC 9260 section 3.1).
+    pub tag: Option<u32>,
+    // The one before: an INIT that is sent again may be answered by an INIT ACK with another tag,
+    // and either may then be used.
+    pub other_tag: Option<u32>,
+    /// Whether its INIT or INIT ACK announced Zero Checksum Acceptable (RFC 9653 section 4), if one
+    /// was seen.
+    pub accepts_zero: Option<bool>,
+    /// What is counted of the packets that it sent.
+    pub counts: Counts,
+    /// The TSNs that it sent.
+    pub tsns: Tsns,
+    /// What of them the other end acknowledged.
+    pub acknowledged: Option<Acknowledged>,
+    /// Its HEARTBEATs that weren't answered.
+    pub heartbeats: Heartbeats,
+    /// The round trips of its DATA.
+    pub round_trips: RoundTrips,
+}
+
+/// What a tag of an end is.
+#[derive(Clone, Copy, Debug, PartialEq, Eq)]
+pub enum Learned {
+    /// It was known.
+    Known,
+    /// It is new.
+    New {
+        /// The one that is known no longer.
+        forgotten: Option<u32>,
+    },
+}
+
+impl End {
+    /// Returns an end of which the port and maybe an address is known.
+    pub fn new(address: Option<IpAddr>, port: u16) -> End
+        ensures { result.counts ≡ nothing }
+    {
+        End {
+            addresses: [address, None, None, None],
+            has_more_addresses: false,
+            port,
+            tag: None,
+            other_tag: None,
+            accepts_zero: None,
+            counts: Counts::new(),
+            tsns: Tsns::new(),
+            acknowledged: None,
+            heartbeats: Heartbeats::new(),
+            round_trips: RoundTrips::new(),
+        }
+    }
+
+    /// Notes that packets to it carry a tag. The two last ones are known.
+    pub fn learn(&mut self, tag: u32) -> Learned
+        ensures { self.new.counts ≡ self.old.counts }
+    {
+        if self.tag == Some(tag) {
+            return Learned::Known;
+        }
+        let forgotten = self.other_tag;
+        self.other_tag = self.tag;
+        self.tag = Some(tag);
+        if forgotten == Some(tag) {
+            return Learned::Known;
+        }
+        Learned::New { forgotten }
+    }
+
+    /// Notes an address.
+    pub fn note_address(&mut self, address: Option<IpAddr>)
+        ensures { self.new.counts ≡ self.old.counts }
+    {
+        if address.is_none() {
+            return;
+        }
+        for known in self.addresses.iter_mut() {
+            if *known == address {
+                return;
+            }
+            if known.is_none() {
+                *known = address;
+                return;
+            }
+        }
+        self.has_more_addresses = true;
+    }
+
+    /// Notes a chunk that this end sent.
+    pub fn note_sent(&mut self, packet: &SeenPacket<'_>, chunk: Item<'_>)
+        ensures { self.new.counts ≡ self.old.counts }
+    {
+        let value = chunk.value.bytes;
+        match chunk.first {
+            DATA | I_DATA if value.len() >= 4 => self.note_tsn(packet, read_u32_be(value)),
+            HEARTBEAT => self.heartbeats.note(value, packet.number),
+            INIT | INIT_ACK => self.accepts_zero = accepts_zero(chunk.value).or(self.accepts_zero),
+            _ => {}
+        }
+    }
+
+    /// Notes a chunk that the other end sent.
+    pub fn note_received(&mut self, packet: &SeenPacket<'_>, chunk: Item<'_>)
+        ensures { self.new.counts ≡ self.old.counts }
+    {
+        let value = chunk.value.bytes;
+        if chunk.first == SACK && value.len() >= 4 {
+            self.note_acknowledged(read_u32_be(value), packet.number);
+        }
+        match (chunk.first, packet.nanoseconds) {
+            (SACK, Some(nanoseconds)) => {
+                self.round_trips
+                    .acknowledge(value, nanoseconds, packet.number);
+            }
+            (HEARTBEAT_ACK, _) => self.heartbeats.answer(value),
+            _ => {}
+        }
+    }
+
+    /// Notes a Cumulative TSN Ack, if it is beyond the one before (RFC 9260 section 1.6).
+    fn note_acknowledged(&mut self, tsn: u32, packet: u64)
+        ensures { self.new.counts ≡ self.old.counts }
+    {
+        if let Some(known) = self.acknowledged {
+            if !(1..1 << 31).contains(&tsn.wrapping_sub(known.tsn)) {
+                return;
+            }
+        }
+        self.acknowledged = Some(Acknowledged { tsn, packet });
+    }
+
+    /// Notes a TSN that this end sent.
+    fn note_tsn(&mut self, packet: &SeenPacket<'_>, tsn: u32)
+        ensures { self.new.counts ≡ self.old.counts }
+    {
+        let is_new = self.tsns.note(tsn, packet.number);
+        if !is_new {
+            self.round_trips.leave(tsn);
+            return;
+        }
+        if let Some(nanoseconds) = packet.nanoseconds {
+            self.round_trips.wait(tsn, nanoseconds);
+        }
+    }
+}

@@ -1,0 +1,139 @@
+//! The TSNs of the DATA that one end sent: which were repeated, and which were never seen.
+
+ghost use Rattle.std.specs.Prelude.{◌<◌};
+
+use crate::counts::increase;
+
+/// How many TSNs up to the greatest one are remembered one by one.
+const WINDOW: u32 = 2_048;
+
+/// How many words hold a bit for each of them.
+const WORDS: usize = 32;
+
+/// The TSNs that one end sent (RFC 9260 sections 1.6 and 3.3.1), with counts up to 2^64 - 1.
+#[derive(Clone, Debug, Drop)]
+pub struct Tsns {
+    span: Option<Span>,
+    /// How many were seen again. One that comes more than 2,048 TSNs late counts as such.
+    pub repeated: u64,
+    /// The number of the first packet in which one was, or 0.
+    pub first_repeated: u64,
+    /// How many between the first and the last one were not seen.
+    pub missing: u64,
+    // which of the last `WINDOW` TSNs were seen, by their remainders
+    seen: [u64; WORDS],
+}
+
+/// The first TSN of the sequence and the last one.
+#[derive(Clone, Copy, Debug)]
+struct Span {
+    first: u32,
+    last: u32,
+}
+
+impl Tsns {
+    /// Returns none.
+    pub fn new() -> Tsns {
+        Tsns {
+            span: None,
+            repeated: 0,
+            first_repeated: 0,
+            missing: 0,
+            seen: [0; WORDS],
+        }
+    }
+
+    /// Returns the first TSN of the sequence, and the last one.
+    pub fn span(&self) -> Option<(u32, u32)> {
+        let span = self.span?;
+        Some((span.first, span.last))
+    }
+
+    /// Notes a TSN of the packet of this number, and returns whether it is the first time.
+    pub fn note(&mut self, tsn: u32, number: u64) -> bool {
+        let Some(span) = self.span else {
+            self.span = Some(Span {
+                first: tsn,
+                last: tsn,
+            });
+            self.mark(tsn);
+            return true;
+        };
+        let ahead = tsn.wrapping_sub(span.last);
+        if ahead != 0 && ahead < 0x8000_0000 {
+            self.advance(span, ahead);
+            self.mark(tsn);
+            return true;
+        }
+        self.note_earlier(span, tsn, number)
+    }
+
+    /// Moves the last TSN on.
+    fn advance(&mut self, span: Span, ahead: u32) {
+        for step in 1..ahead.min(WINDOW) {
+            self.unmark(span.last.wrapping_add(step));
+        }
+        if ahead > WINDOW {
+            self.seen = [0; WORDS];
+        }
+        self.missing = self
+            .missing
+            .saturating_add(u64::from(ahead).saturating_sub(1));
+        self.span = Some(Span {
+            first: span.first,
+            last: span.last.wrapping_add(ahead),
+        });
+    }
+
+    /// Notes a TSN that isn't beyond the last one.
+    fn note_earlier(&mut self, span: Span, tsn: u32, number: u64) -> bool {
+        let behind = span.last.wrapping_sub(tsn);
+        let size = span.last.wrapping_sub(span.first);
+        if behind >= WINDOW || self.is_marked(tsn) {
+            increase(&mut self.repeated);
+            if self.first_repeated == 0 {
+                self.first_repeated = number;
+            }
+            return false;
+        }
+        if behind <= size {
+            self.missing = self.missing.saturating_sub(1);
+        } else {
+            let between = u64::from(behind).saturating_sub(u64::from(size) + 1);
+            self.missing = self.missing.saturating_add(between);
+            self.span = Some(Span {
+                first: tsn,
+                last: span.last,
+            });
+        }
+        self.mark(tsn);
+        true
+    }
+
+    /// Returns whether the bit of a TSN is set.
+    fn is_marked(&self, tsn: u32) -> bool {
+        self.seen[word_of(tsn)] & bit_of(tsn) != 0
+    }
+
+    /// Sets the bit of a TSN.
+    fn mark(&mut self, tsn: u32) {
+        self.seen[word_of(tsn)] |= bit_of(tsn);
+    }
+
+    /// Clears the bit of a TSN.
+    fn unmark(&mut self, tsn: u32) {
+        self.seen[word_of(tsn)] &= !bit_of(tsn);
+    }
+}
+
+/// Returns the index of the word that holds the bit of a TSN.
+fn word_of(tsn: u32) -> usize
+    ensures { result < 32 }
+{
+    (tsn / 64 % 32) as usize
+}
+
+/// Returns the bit of a TSN in its word.
+fn bit_of(tsn: u32) -> u64 {
+    1 << (tsn % 64)
+}

@@ -1,0 +1,20 @@
+-- Gap ack blocks are isolated if and only if the first is, and those after it are.
+use Rattle.std.proofs.Common.{◌≡◌, ◌+◌, ◌-◌, ◌<◌, ◌≤◌, ◌&&◌, ℕ, zero, suc, true, length, nat_le, nat_lt, ap, ◌∙◌, arith}
+use Rattle.std.proofs.lemmas.Bool.{cond-false, le-ltb, lt-ltb, le-leb}
+use Rattle.sctp_report.specs.Part.{Part, after}
+use Rattle.sctp_filter.specs.Chunks.{are_isolated, block_start, block_end}
+
+pub are_isolated-next : (n end : ℕ) (p : Part) → 0 < n → 4 ≤ length p.bytes
+    → end + 1 < block_start p → block_start p ≤ block_end p
+    → are_isolated n end p ≡ are_isolated (n - 1) (block_end p) (after 4 p)
+are_isolated-next zero end p some four apart ends = absurd (omega (arith, some))
+are_isolated-next (suc n) end p some four apart ends =
+    let others = are_isolated n (block_end p) (after 4 p) in
+    let one_less : n ≡ suc n - 1 = omega arith in
+    cond-false (nat_lt (length p.bytes) 4) true
+    (nat_lt (end + 1) (block_start p) && nat_le (block_start p) (block_end p) && others)
+    (le-ltb (length p.bytes) 4 four)
+    ∙ ap (λ b. b && nat_le (block_start p) (block_end p) && others)
+    (lt-ltb (end + 1) (block_start p) apart)
+    ∙ ap (λ b. b && others) (le-leb (block_start p) (block_end p) ends)
+    ∙ ap (λ (k : ℕ). are_isolated k (block_end p) (after 4 p)) one_less

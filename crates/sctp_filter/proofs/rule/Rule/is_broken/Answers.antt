@@ -1,0 +1,18 @@
+use Rattle.std.proofs.Common.{◌≡◌, ap, ◌∙◌, rules}
+use Rattle.sctp_report.specs.Part.{Part as ThePart, part_of}
+use Rattle.sctp_filter.specs.Chunks.{chunk_part}
+use Rattle.sctp_filter.specs.ChunkTest.{items_of}
+use Rattle.sctp_filter.specs.Rule.{breaks}
+use Rattle.sctp_filter.proofs.Looks.{are_items}
+use Rattle.sctp_filter.proofs.rule.Rule.is_broken.Goals as goal
+
+pub returns : goal.returns
+returns c =
+    let packet : ThePart = record { bytes = c.args.bytes.now; size = c.args.size } in
+    let packet_is : part_of c.packet.result ≡ packet = search rules in (
+      items_of (chunk_part packet),
+      are_items (chunk_part packet),
+      c.is_broken_by.ensures
+          ∙ ap (λ p. breaks c.args.self p c.args.word c.args.accepts_zero (items_of (chunk_part p)))
+          packet_is,
+    )

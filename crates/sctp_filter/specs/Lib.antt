@@ -1,0 +1,4 @@
+pub mod Chunks
+pub mod ChunkTest
+pub mod Filter
+pub mod Rule

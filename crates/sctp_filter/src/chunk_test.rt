@@ -1,0 +1,207 @@
+//! Tests of a chunk, and the loop that looks for one that meets a test.
+
+ghost use Rattle.std.specs.Prelude.{◌≡◌, ◌==◌, ◌&&◌, ◌||◌, not, nat_le, nat_lt, length, List};
+ghost use Rattle.std.specs.List.{list_any};
+ghost use Rattle.dcsctp_tlv.specs.Number.{number16, number32};
+ghost use Rattle.sctp_report.specs.Part.{Item as AnItem, AreItems, part_of, item_of, after};
+ghost use Rattle.sctp_filter.specs.Chunks.{flags_below, are_isolated, has_ppid, has_after};
+ghost use Rattle.sctp_filter.specs.ChunkTest.{meets_test, items_of, IsFound};
+
+use crate::fields::{is_u16, is_u32};
+use dcsctp_wire::packet::{read_u16_be, read_u32_be};
+use sctp_report::{Item, Part};
+
+/// The types of chunks that are asked for by name (RFC 9260 section 3.2, RFC 8260 section 2.1).
+pub(crate) mod chunk_type {
+    pub(crate) const DATA: u8 = 0;
+
+    pub(crate) const INIT: u8 = 1;
+
+    pub(crate) const INIT_ACK: u8 = 2;
+
+    pub(crate) const SACK: u8 = 3;
+
+    pub(crate) const ABORT: u8 = 6;
+
+    pub(crate) const COOKIE_ECHO: u8 = 10;
+
+    pub(crate) const SHUTDOWN_COMPLETE: u8 = 14;
+
+    pub(crate) const I_DATA: u8 = 64;
+}
+
+/// What is asked of a chunk.
+#[derive(Clone, Copy)]
+pub(crate) enum ChunkTest {
+    /// Nothing.
+    Any,
+    /// This type.
+    Type(u8),
+    /// Another type.
+    OtherThan(u8),
+    /// User data of this stream.
+    Stream(u16),
+    /// User data with this payload protocol identifier.
+    Ppid(u32),
+    /// DATA or I-DATA.
+    UserData,
+    /// A chunk of RFC 9260 other than DATA.
+    Control,
+    /// User data of no byte.
+    NoUserData,
+    /// INIT, INIT ACK or SHUTDOWN COMPLETE.
+    StandsAlone,
+    /// An Initiate Tag of 0.
+    NoInitiateTag,
+    /// No outbound or no inbound stream.
+    NoStreams,
+    /// A first window of fewer than 1,500 bytes.
+    SmallWindow,
+    /// INIT or COOKIE ECHO.
+    NeedsChecksum,
+    /// Gap ack blocks that aren't isolated.
+    WrongBlocks,
+    /// A flag that is reserved.
+    ReservedFlag,
+}
+
+impl ChunkTest {
+    /// Returns whether the chunk meets it.
+    fn is_met(self, chunk: Item<'_>) -> bool
+        ensures { result ≡ meets_test self (item_of chunk.entry) }
+    {
+        let typ = chunk.first;
+        let value = chunk.value;
+        match self {
+            ChunkTest::Any => true,
+            ChunkTest::Type(wanted) => typ == wanted,
+            ChunkTest::OtherThan(wanted) => typ != wanted,
+            ChunkTest::Stream(stream) => is_user_data(typ) && is_u16(value.after(4), stream),
+            ChunkTest::Ppid(ppid) => has_ppid(chunk, ppid),
+            ChunkTest::UserData => is_user_data(typ),
+            ChunkTest::Control => (1..=14).contains(&typ),
+            ChunkTest::NoUserData => {
+                typ == chunk_type::DATA && value.size == 12
+                    || typ == chunk_type::I_DATA && value.size == 16
+            }
+            ChunkTest::StandsAlone => is_init(typ) || typ == chunk_type::SHUTDOWN_COMPLETE,
+            ChunkTest::NoInitiateTag => is_init(typ) && is_u32(value, 0),
+            ChunkTest::NoStreams => {
+                is_init(typ) && (is_u16(value.after(8), 0) || is_u16(value.after(10), 0))
+            }
+            ChunkTest::SmallWindow => is_init(typ) && has_small_window(value),
+            ChunkTest::NeedsChecksum => typ == chunk_type::INIT || typ == chunk_type::COOKIE_ECHO,
+            ChunkTest::WrongBlocks => typ == chunk_type::SACK && has_wrong_blocks(value),
+            ChunkTest::ReservedFlag => u16::from(chunk.second) >= flags_below(typ),
+        }
+    }
+}
+
+/// Returns whether chunks of this type hold user data.
+fn is_user_data(typ: u8) -> bool
+    ensures { result ≡ (typ == 0 || typ == 64) }
+{
+    typ == chunk_type::DATA || typ == chunk_type::I_DATA
+}
+
+/// Returns whether it is the type of INIT or of INIT ACK, whose fields are the same.
+fn is_init(typ: u8) -> bool
+    ensures { result ≡ (typ == 1 || typ == 2) }
+{
+    typ == chunk_type::INIT || typ == chunk_type::INIT_ACK
+}
+
+/// Returns whether an INIT or an INIT ACK with this value advertises a window of fewer than 1,500
+/// bytes.
+fn has_small_window(value: Part<'_>) -> bool
+    ensures { let v = part_of value.entry in
+        result ≡ (nat_le 8 (length v.bytes) && nat_lt (number32 (after 4 v).bytes) 1500) }
+{
+    value.bytes.len() >= 8 && read_u32_be(&value.bytes[4..]) < 1500
+}
+
+/// Returns whether it is user data with this payload protocol identifier, which every DATA has, and
+/// the first fragment of an I-DATA message.
+fn has_ppid(chunk: Item<'_>, ppid: u32) -> bool
+    ensures { result ≡ has_ppid ppid (item_of chunk.entry) }
+{
+    match chunk.first {
+        chunk_type::DATA => is_u32(chunk.value.after(8), ppid),
+        chunk_type::I_DATA => chunk.second / 2 % 2 == 1 && is_u32(chunk.value.after(12), ppid),
+        _ => false,
+    }
+}
+
+/// Returns the number that flags of this type are below; the bits from there on are reserved.
+fn flags_below(typ: u8) -> u16
+    ensures { result ≡ flags_below typ }
+{
+    match typ {
+        chunk_type::DATA | chunk_type::I_DATA => 16,
+        chunk_type::ABORT | chunk_type::SHUTDOWN_COMPLETE => 2,
+        1..=5 | 7..=11 | 130 | 192 | 194 => 1,
+        _ => 256,
+    }
+}
+
+/// Returns whether some gap ack block of a SACK with this value isn't isolated.
+fn has_wrong_blocks(value: Part<'_>) -> bool
+    ensures { let v = part_of value.entry in
+        result ≡ not (are_isolated (number16 (after 8 v).bytes) 0 (after 12 v)) }
+{
+    let numbers = value.after(8).bytes;
+    numbers.len() >= 2 && !are_isolated(read_u16_be(numbers), value.after(12))
+}
+
+/// Returns whether each of the first `count` gap ack blocks, as far as they were captured, ends
+/// where it starts or later, and a TSN is missing before it.
+fn are_isolated(count: u16, blocks: Part<'_>) -> bool
+    ensures { result ≡ are_isolated count 0 (part_of blocks.entry) }
+{
+    let mut rest = blocks;
+    let mut before: u16 = 0;
+    let mut left = count;
+    while left > 0 && rest.bytes.len() >= 4 {
+        let start = read_u16_be(rest.bytes);
+        let end = read_u16_be(&rest.bytes[2..]);
+        if start <= before.saturating_add(1) || start > end {
+            return false;
+        }
+        before = end;
+        rest = rest.after(4);
+        left -= 1;
+    }
+    true
+}
+
+/// Returns what follows the first chunk that meets the test; `None` where none does.
+pub(crate) fn after_first(chunks: Part<'_>, test: ChunkTest) -> Option<Part<'_>>
+    ensures { (items : List AnItem) → AreItems (part_of chunks.entry) items
+        → IsFound (meets_test test) items result }
+{
+    let mut items = chunks.items();
+    while let Some(chunk) = items.next() {
+        if test.is_met(chunk) {
+            return Some(items.rest());
+        }
+    }
+    None
+}
+
+/// Returns whether some chunk meets the test.
+pub(crate) fn some(chunks: Part<'_>, test: ChunkTest) -> bool
+    ensures { result ≡ list_any (meets_test test) (items_of (part_of chunks.entry)) }
+{
+    after_first(chunks, test).is_some()
+}
+
+/// Returns whether some chunk that meets the second test comes after one that meets the first.
+pub(crate) fn some_after(chunks: Part<'_>, first: ChunkTest, second: ChunkTest) -> bool
+    ensures { result ≡
+        has_after (meets_test first) (meets_test second) (items_of (part_of chunks.entry)) }
+{
+    match after_first(chunks, first) {
+        Some(rest) => some(rest, second),
+        None => false,
+    }
+}

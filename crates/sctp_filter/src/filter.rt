@@ -1,0 +1,157 @@
+//! Filters: which packets are asked for.
+
+ghost use Rattle.std.specs.Prelude.{◌≡◌, ◌&&◌, ◌||◌, not, nat_le, length, List};
+ghost use Rattle.sctp_capture.specs.Found.{packet_of};
+ghost use Rattle.sctp_report.specs.Part.{Item as AnItem, AreItems, part_of};
+ghost use Rattle.sctp_filter.specs.ChunkTest.{items_of};
+ghost use Rattle.sctp_filter.specs.Filter.{chunks_of, passes, passes_headers, passes_chunks, has_host, has_wrong_checksum};
+
+use crate::chunk_test::{ChunkTest, some};
+use crate::fields::{has_port, is_u32};
+use sctp_capture::frame::{Addresses, FoundPacket};
+use sctp_report::Part;
+
+/// An address of an IP packet, as its octets.
+#[derive(Clone, Copy, Debug, PartialEq, Eq)]
+pub enum Host {
+    /// Of IPv4 (RFC 791).
+    V4([u8; 4]),
+    /// Of IPv6 (RFC 8200).
+    V6([u8; 16]),
+}
+
+/// What a packet has to have, all of it.
+#[derive(Clone, Copy, Debug)]
+pub struct Filter {
+    /// The source port or the destination port (RFC 9260 section 3.1).
+    pub port: Option<u16>,
+    /// The verification tag (RFC 9260 section 3.1).
+    pub tag: Option<u32>,
+    /// The source address or the destination address of the IP packet that carries it.
+    pub host: Option<Host>,
+    /// The type of a chunk (RFC 9260 section 3.2).
+    pub chunk: Option<u8>,
+    /// The stream of a DATA (RFC 9260 section 3.3.1) or an I-DATA (RFC 8260 section 2.1).
+    pub stream: Option<u16>,
+    /// The payload protocol identifier of a DATA or of the first fragment of an I-DATA message.
+    pub ppid: Option<u32>,
+    /// Whether its checksum field is neither what is expected nor 0, and all of it was captured.
+    pub wrong: bool,
+    /// The least number of a packet,
+    pub first: u64,
+    /// and the greatest.
+    pub last: u64,
+}
+
+impl Filter {
+    /// Passes all packets.
+    pub const ALL: Filter = Filter {
+        port: None,
+        tag: None,
+        host: None,
+        chunk: None,
+        stream: None,
+        ppid: None,
+        wrong: false,
+        first: 0,
+        last: u64::MAX,
+    };
+
+    /// Returns whether the packet of this number has all that is asked for. Its chunks are those
+    /// that can be read, also if it was cut off or has another fault. `word` is what its checksum
+    /// field has to be.
+    pub fn passes(&self, number: u64, found: &FoundPacket<'_>, word: u32) -> bool
+        ensures { (chunks : List AnItem) × AreItems (chunks_of (packet_of found.now)) chunks
+            × (result ≡ passes self.now number (packet_of found.now) word chunks) }
+    {
+        self.is_met(number, found, word)
+    }
+
+    /// Returns whether the packet of this number has all that is asked for.
+    fn is_met(&self, number: u64, found: &FoundPacket<'_>, word: u32) -> bool
+        ensures { let p = packet_of found.now in
+            result ≡ passes self.now number p word (items_of (chunks_of p)) }
+    {
+        let packet = Part::packet(found.packet, found.length);
+        self.first <= number
+            && number <= self.last
+            && self.is_met_by_headers(packet, found.addresses)
+            && self.is_met_by_chunks(packet.after(12))
+            && (!self.wrong || has_wrong_checksum(packet, word))
+    }
+
+    /// Returns whether the headers have what is asked for.
+    fn is_met_by_headers(&self, packet: Part<'_>, addresses: Option<Addresses>) -> bool
+        ensures { result ≡ passes_headers self.now (part_of packet.entry) addresses }
+    {
+        if let Some(port) = self.port
+            && !has_port(packet, port)
+        {
+            return false;
+        }
+        if let Some(tag) = self.tag
+            && !is_u32(packet.after(4), tag)
+        {
+            return false;
+        }
+        match self.host {
+            Some(host) => host.is_of(addresses),
+            None => true,
+        }
+    }
+
+    /// Returns whether there are chunks that are asked for.
+    fn is_met_by_chunks(&self, chunks: Part<'_>) -> bool
+        ensures { result ≡ passes_chunks self.now (items_of (part_of chunks.entry)) }
+    {
+        if let Some(typ) = self.chunk
+            && !some(chunks, ChunkTest::Type(typ))
+        {
+            return false;
+        }
+        if let Some(stream) = self.stream
+            && !some(chunks, ChunkTest::Stream(stream))
+        {
+            return false;
+        }
+        match self.ppid {
+            Some(ppid) => some(chunks, ChunkTest::Ppid(ppid)),
+            None => true,
+        }
+    }
+}
+
+impl Host {
+    /// Returns whether an IP packet with these addresses comes from it or goes to it.
+    fn is_of(self, addresses: Option<Addresses>) -> bool
+        ensures { result ≡ has_host self addresses }
+    {
+        let (source, destination) = match addresses {
+            Some(
+                Addresses::V4 {
+                    source,
+                    destination,
+                },
+            ) => (Host::V4(source), Host::V4(destination)),
+            Some(
+                Addresses::V6 {
+                    source,
+                    destination,
+                },
+            ) => (Host::V6(source), Host::V6(destination)),
+            None => return false,
+        };
+        self == source || self == destination
+    }
+}
+
+/// Returns whether all of the packet was captured, and its checksum field is neither the word nor
+/// 0.
+fn has_wrong_checksum(packet: Part<'_>, word: u32) -> bool
+    ensures { result ≡ has_wrong_checksum word (part_of packet.entry) }
+{
+    let field = packet.after(8);
+    packet.bytes.len() >= packet.size
+        && packet.bytes.len() >= 12
+        && !(is_u32(field, word) || is_u32(field, 0))
+}
