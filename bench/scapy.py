@@ -114,6 +114,20 @@ def quoted(text):
     return '"%s"' % ''.join(chr(it) if 32 <= it < 127 and it not in b'"\\' else '\\x%02x' % it for it in text)
 
 
+def payload(line, data, ppid, is_message, in_rows=True):
+    """The lines of a payload: its size, its rows as `hexdump -C` prints them, and what a whole message says."""
+    if in_rows:
+        yield line('  payload: {size}', '%d byte%s' % (len(data), '' if len(data) == 1 else 's'))
+        for at in range(0, len(data), 16):
+            row = data[at:at + 16]
+            text = ''.join(chr(it) if 32 <= it < 127 else '.' for it in row)
+            yield line('    {row}', '%04x: %-47s  |%s|' % (at, row.hex(' '), text))
+    else:
+        yield line('  payload: {payload}', data)
+    if is_message and ppid == 51:
+        yield line('  text: {text}', quoted(data))
+
+
 def items(value):
     """The type and the value of each parameter or cause (RFC 9260 section 3.2.1)."""
     while len(value) >= 4:
@@ -128,6 +142,7 @@ class Expected:
     def __init__(self):
         self.undissected = set()
         self.corrected = collections.Counter()
+        self.in_rows = False  # payloads, as --payload prints them
 
     def layout(self, name):
         self.undissected.add(name)
@@ -178,7 +193,7 @@ class Expected:
             yield scapys('{chunk}: tsn {tsn}, stream {stream}, ssn {ssn}, ppid {ppid}{protocol}' + BITS,
                          name, c.tsn, c.stream_id, c.stream_seq, c.proto_id, protocol(c.proto_id),
                          *bits(c.unordered, c.beginning, c.ending, c.delay_sack))
-            yield scapys('  payload: {payload}', c.data or b'')
+            yield from payload(scapys, c.data or b'', c.proto_id, c.beginning and c.ending, self.in_rows)
         elif c.type in (1, 2):
             yield scapys('{chunk}: tag {tag}, a_rwnd {a_rwnd}, outbound streams {outbound}, inbound streams {inbound}, '
                          'initial tsn {tsn}', name, c.init_tag, c.a_rwnd, c.n_out_streams, c.n_in_streams, c.init_tsn)
@@ -186,7 +201,9 @@ class Expected:
         elif c.type == 3:
             yield scapys('{chunk}: cumulative tsn {tsn}, a_rwnd {a_rwnd}', name, c.cumul_tsn_ack, c.a_rwnd)
             for block in c.gap_ack_list:
-                yield scapys('  block {start} to {last}', *map(int, block.split(':')))
+                of = [*map(int, block.split(':'))]
+                tsns = [(c.cumul_tsn_ack + it) % 2 ** 32 for it in of]
+                yield scapys('  block {start} to {last}: tsn {first_tsn} to {last_tsn}', *of, *tsns)
             for tsn in c.dup_tsn_list:
                 yield scapys('  duplicate tsn {tsn}', tsn)
         elif c.type in (4, 5):
@@ -222,7 +239,7 @@ class Expected:
             else:
                 yield line('{chunk}: tsn {tsn}, stream {stream}, mid {mid}, fsn {fsn}' + BITS,
                            name, tsn, stream, mid, last, *of)
-            yield line('  payload: {payload}', value[16:])
+            yield from payload(line, value[16:], last, flags & 3 == 3, self.in_rows)
         elif typ == 192:  # RFC 3758 section 3.2
             line = self.layout('FORWARD-TSN')
             yield line('{chunk}: new cumulative tsn {tsn}', name, *struct.unpack('>I', value[:4]))
@@ -405,7 +422,7 @@ def skipped(first, last, reason):
 # 8 the chunk at byte 12 says a length of 3, which is less than its header. The last record of sctp.pcap says 2^32 - 1 bytes.
 PACKET, ADDRESSES = object(), object()
 ZERO, DATA_CHUNK = '0x00000000: zero', ('DATA: tsn 7, stream 1, ssn 0, ppid 51 (WebRTC String), ordered, beginning, end',
-                                        '  payload: 1 byte: 68')
+                                        '  payload: 1 byte: 68', '  text: "h"')
 FROM = 'from 10.0.0.1 to 10.0.0.2'
 GOLDEN = (
     ('ethernet.pcap', 6, (
@@ -453,12 +470,12 @@ GOLDEN = (
                 'COOKIE ECHO: 1 byte: ff'),
         *skipped(18, 18, 'cut off'), ('packet 11, 15 of 16 bytes', FROM, *header(9, '0x00000000: not known'), ''),
         *skipped(20, 20, 'cut off'), ('packet 13, 8 of 16 bytes', FROM, 'udp source 9899, destination 9899', ''),
-        *skipped(23, 26, 'a fragment'), *skipped(27, 28, 'cut off'), *skipped(33, 40, "a header's length is wrong"),
-        *skipped(59, 60, "its offset doesn't continue a packet"))),
+        *skipped(23, 28, 'a fragment'), *skipped(34, 41, "a header's length is wrong"),
+        *skipped(60, 60, "its offset doesn't continue a packet; further lines like it are counted alone"))),
     ('-', 0, ('packet 1',)),
 )
 GOLDEN_COUNTS = ('packets 47: accepted 30, refused 14 (size 4, length 3, padding 5, value 2), cut off 3; skipped 38 (not SCTP 10, '
-                 'fragment 5, cut 5, malformed 8, too long 1, unknown 9, link type 0)')
+                 'fragment 7, cut 3, malformed 8, too long 1, unknown 9, link type 0)')
 
 
 def golden_texts(lines):
@@ -650,6 +667,7 @@ def main():
     for line in wrong:
         print('  ' + line)
     bad += bool(wrong)
+    expected.in_rows = True
     for name, order, digits, link, headers in CAPTURES:
         path = os.path.join(folder, name + '.pcap')
         contents = list(packets(options['--seed'], name))

@@ -81,7 +81,10 @@ def said(line, values, chunks):
     values.update(headers)
     if headers or not line:
         return
-    line = re.sub(r'"[^"]*"|\([^)]*\)', '', line)
+    # What is counted from other numbers, and what a message says, isn't compared.
+    if line.startswith(('  text: ', '  DATA_CHANNEL_')):
+        return
+    line = re.sub(r'"[^"]*"|\([^)]*\)|(?<= to )(\d+): tsn .*', r'\1', line)
     if line[0] != ' ' or not chunks:
         name = re.split('[:,]', line)[0]
         typ = re.match('unknown chunk: type (0x[0-9a-f]+)', line)

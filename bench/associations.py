@@ -1,0 +1,647 @@
+#!/usr/bin/env python3
+"""Compares what sctp_dump says of a capture's associations with a model of them, over tshark's dissection.
+
+usage: bench/associations.py [--program PATH] [--seed 1] [CAPTURE ..]
+
+  --program PATH  the program, in place of crates/sctp_dump/out/sctp_dump: it is run with --json --associations CAPTURE
+  --seed 1        the seed of the captures that are made
+  --only-make     makes the captures, and compares nothing
+  --model         prints the model's associations, a line each, and compares nothing
+
+Without a CAPTURE it makes some in bench/out/associations, one a case, and compares all. The model keeps all TSNs, HEARTBEATs
+and round trips, where the program keeps windows of them. Of a packet that was cut off tshark shows the header alone, so a
+capture with such packets can't be compared. Which packets were refused is compared of the captures that are made alone.
+Status: 0 if all agree, 1 if not, 2 if it can't run. Needed are tshark and the program, built (docs/DUMP.md)."""
+import json
+import os
+import random
+import struct
+import subprocess
+import sys
+
+ROOT = os.path.dirname(os.path.dirname(os.path.abspath(__file__)))
+FOLDER = os.path.join(ROOT, 'bench/out/associations')
+DATA, INIT, INIT_ACK, SACK, HEARTBEAT, HEARTBEAT_ACK, ABORT = 0, 1, 2, 3, 4, 5, 6
+SHUTDOWN, SHUTDOWN_ACK, COOKIE_ECHO, COOKIE_ACK, SHUTDOWN_COMPLETE, I_DATA = 7, 8, 10, 11, 14, 64
+NAMES = {DATA: 'DATA', INIT: 'INIT', INIT_ACK: 'INIT ACK', SACK: 'SACK', HEARTBEAT: 'HEARTBEAT', ABORT: 'ABORT',
+         HEARTBEAT_ACK: 'HEARTBEAT ACK', SHUTDOWN: 'SHUTDOWN', SHUTDOWN_ACK: 'SHUTDOWN ACK', 9: 'ERROR',
+         COOKIE_ECHO: 'COOKIE ECHO', COOKIE_ACK: 'COOKIE ACK', SHUTDOWN_COMPLETE: 'SHUTDOWN COMPLETE', I_DATA: 'I-DATA',
+         192: 'FORWARD-TSN', 193: 'ASCONF', 128: 'ASCONF ACK', 130: 'RE-CONFIG', 15: 'AUTH'}
+MOST_WAITING, MOST_ADDRESSES, MOST_ASSOCIATIONS = 16, 4, 10000
+
+
+# ---- the model (RFC 9260), over tshark's fields
+
+FIELDS = ['frame.number', 'frame.time_epoch', 'ip.src', 'ip.dst', 'ipv6.src', 'ipv6.dst', 'sctp.srcport', 'sctp.dstport',
+          'sctp.verification_tag', 'sctp.checksum', 'sctp.checksum.status', 'sctp.chunk_type', 'sctp.chunk_flags',
+          'sctp.chunk_length', 'sctp.data_tsn_raw', 'sctp.init_initiate_tag', 'sctp.initack_initiate_tag',
+          'sctp.sack_cumulative_tsn_ack_raw', 'sctp.sack_a_rwnd', 'sctp.sack_number_of_gap_blocks',
+          'sctp.sack_gap_block_start', 'sctp.sack_gap_block_end', 'sctp.parameter_heartbeat_information',
+          'sctp.cause_code', 'sctp.chunk_value']
+
+
+def dissected(path):
+    """Yields the SCTP packets of a capture, each as a dictionary of lists of texts."""
+    command = ['tshark', '-n', '-r', path, '-o', 'sctp.checksum:CRC 32c', '-o', 'sctp.tsn_analysis:FALSE', '-o',
+               'sctp.relative_tsns:FALSE', '-o', 'sctp.reassembly:FALSE', '-Y', 'sctp', '-T', 'fields', '-E', 'separator=/t',
+               '-E', 'occurrence=a', '-E', 'aggregator=;']
+    for field in FIELDS:
+        command += ['-e', field]
+    run = subprocess.run(command, stdout=subprocess.PIPE, stderr=subprocess.DEVNULL, text=True, check=True)
+    for line in run.stdout.splitlines():
+        yield {name: value.split(';') if value else [] for name, value in zip(FIELDS, line.split('\t'))}
+
+
+def number(text):
+    return int(text, 16) if text.startswith('0x') else int(text)
+
+
+def nanoseconds(text):
+    seconds, _, fraction = text.partition('.')
+    return int(seconds) * 10 ** 9 + int((fraction + '000000000')[:9])
+
+
+class End:
+    def __init__(self, port):
+        self.addresses, self.port, self.tags = [], port, []
+        self.packets = self.refused = self.zero = self.wrong = self.chunks = self.bytes = 0
+        self.seen, self.first, self.last, self.repeated, self.first_repeated = set(), None, None, 0, None
+        self.sacks = self.gaps = 0
+        self.window = self.cumulative = None
+        self.sent, self.pending = 0, []
+        self.waiting, self.trips = {}, []
+
+    def tsn(self, tsn, packet, time):
+        # unwrapped, so that numbers beyond 2^32 follow
+        if self.last is not None:
+            tsn = self.last + (tsn - self.last + 2 ** 31) % 2 ** 32 - 2 ** 31
+        if tsn in self.seen:
+            self.repeated += 1
+            self.first_repeated = self.first_repeated or packet
+            self.waiting.pop(tsn % 2 ** 32, None)
+            return
+        self.seen.add(tsn)
+        self.first = tsn if self.first is None else min(self.first, tsn)
+        self.last = tsn if self.last is None else max(self.last, tsn)
+        if len(self.waiting) < MOST_WAITING:
+            self.waiting[tsn % 2 ** 32] = time
+
+    def note_acknowledged(self, tsn, packet):
+        if self.cumulative is None or 0 < (tsn - self.cumulative[0]) % 2 ** 32 < 2 ** 31:
+            self.cumulative = tsn, packet
+
+    def acknowledged(self, cumulative, blocks, packet, time):
+        for tsn in list(self.waiting):
+            offset = (tsn - cumulative) % 2 ** 32
+            if offset == 0 or offset >= 2 ** 31 or any(first <= offset <= last for first, last in blocks):
+                sent = self.waiting.pop(tsn)
+                if sent <= time:
+                    self.trips.append((time - sent, packet))
+
+
+class Association:
+    def __init__(self, number, packet, time, chunk, ends, restart_of):
+        self.number, self.packet, self.time, self.chunk, self.ends = number, packet, time, chunk, ends
+        self.restart_of, self.ended, self.last = restart_of, None, time
+
+
+class Model:
+    def __init__(self):
+        self.all, self.by_tag, self.by_route = [], {}, {}
+
+    def sender(self, packet):
+        """Returns the association of a packet, and which end sent it; None if it begins another."""
+        key, tag, types = packet['key'], packet['tag'], packet['types']
+        if types[:1] == [INIT]:
+            found = self.by_tag.get((key[1], key[0], packet['initiate']))
+            if found:
+                return found[0], 1 - found[1]
+            for side in 0, 1:
+                known = self.by_route.get(packet['route'][::-1] if side else packet['route'])
+                if known and known.chunk == INIT and not known.ended and not known.ends[side].tags:
+                    return known, side
+            return None
+        if packet['reflected']:
+            found = self.by_tag.get((key[1], key[0], tag))
+            return found and (found[0], 1 - found[1])
+        if (*key, tag) in self.by_tag:
+            return self.by_tag[(*key, tag)]
+        for side in 0, 1:
+            known = self.by_route.get(packet['route'][::-1] if side else packet['route'])
+            if known and not known.ends[1 - side].tags:
+                return known, side
+        return None
+
+    def learn(self, association, side, tag):
+        """The end chose this tag: packets to it carry it. The two latest tags are known."""
+        end, other = association.ends[side], association.ends[1 - side]
+        if not tag or end.tags[:1] == [tag]:
+            return
+        if tag in end.tags:
+            end.tags.reverse()
+            return
+        if len(end.tags) == 2:
+            self.by_tag.pop((other.port, end.port, end.tags.pop()), None)
+        end.tags.insert(0, tag)
+        self.by_tag[other.port, end.port, tag] = (association, 1 - side)
+
+    def see(self, packet):
+        found = self.sender(packet)
+        if not found:
+            ends = [End(packet['key'][0]), End(packet['key'][1])]
+            route, restart_of = packet['route'], None
+            latest = self.by_route.get(route) or self.by_route.get(route[::-1])
+            if packet['types'][:1] == [INIT] and latest and not latest.ended and route[0][0]:
+                restart_of = latest.number
+            association = Association(len(self.all) + 1, packet['number'], packet['time'], (packet['types'] + [None])[0],
+                                      ends, restart_of)
+            self.all.append(association)
+            self.by_route.pop(route[::-1], None)
+            self.by_route[route] = association
+            found = association, 0
+        association, side = found
+        self.learn(association, side, packet['initiate'])
+        self.learn(association, side if packet['reflected'] else 1 - side, packet['tag'])
+        self.count(association, side, packet)
+
+    def count(self, association, side, packet):
+        sender, receiver = association.ends[side], association.ends[1 - side]
+        for end, address in zip((sender, receiver), (place[0] for place in packet['route'])):
+            if address and address not in end.addresses:
+                end.addresses.append(address)
+        sender.packets += 1
+        sender.refused += packet['refused']
+        sender.zero += packet['checksum'] == 'zero'
+        sender.wrong += packet['checksum'] == 'wrong'
+        for kind, value in packet['chunks']:
+            if kind in (DATA, I_DATA):
+                sender.chunks += 1
+                sender.bytes += value[1]
+                sender.tsn(value[0], packet['number'], packet['time'])
+            elif kind == SACK:
+                sender.sacks += 1
+                sender.gaps += bool(value[2])
+                if sender.window is None or value[1] < sender.window[0]:
+                    sender.window = value[1], packet['number']
+                receiver.note_acknowledged(value[0], packet['number'])
+                receiver.acknowledged(value[0], value[2], packet['number'], packet['time'])
+            elif kind == HEARTBEAT:
+                sender.sent += 1
+                sender.pending.append((value, packet['number']))
+            elif kind == HEARTBEAT_ACK:
+                for sent in receiver.pending:
+                    if sent[0] == value:
+                        receiver.pending.remove(sent)
+                        break
+            elif kind in (ABORT, SHUTDOWN_COMPLETE) and not association.ended:
+                association.ended = packet['number'], packet['time'], kind, side, value
+        association.last = packet['time']
+
+
+def packets(path, refused):
+    """Yields the packets of a capture as the model takes them."""
+    for fields in dissected(path):
+        if not fields['sctp.srcport']:
+            continue
+        take = {name: iter(values) for name, values in fields.items()}
+
+        def next_number(name, take=take):
+            return number(next(take[name]))
+
+        chunks, types, initiate, reflected = [], [number(text) for text in fields['sctp.chunk_type']], 0, False
+        flags = [number(text) for text in fields['sctp.chunk_flags']]
+        lengths = [number(text) for text in fields['sctp.chunk_length']]
+        try:
+            for index, kind in enumerate(types):
+                value = None
+                if kind in (DATA, I_DATA):
+                    value = next_number('sctp.data_tsn_raw'), lengths[index] - (16 if kind == DATA else 20)
+                elif kind == INIT:
+                    initiate = next_number('sctp.init_initiate_tag')
+                elif kind == INIT_ACK:
+                    initiate = next_number('sctp.initack_initiate_tag')
+                elif kind == SACK:
+                    cumulative, window = next_number('sctp.sack_cumulative_tsn_ack_raw'), next_number('sctp.sack_a_rwnd')
+                    blocks = [(next_number('sctp.sack_gap_block_start'), next_number('sctp.sack_gap_block_end'))
+                              for _ in range(next_number('sctp.sack_number_of_gap_blocks'))]
+                    value = cumulative, window, blocks
+                elif kind in (HEARTBEAT, HEARTBEAT_ACK):
+                    value = next(take['sctp.parameter_heartbeat_information'], '')
+                elif kind == ABORT:
+                    value = number(next(take['sctp.cause_code'], '-1'))
+                if kind in (ABORT, SHUTDOWN_COMPLETE) and index == 0:
+                    reflected = bool(flags[0] & 1)
+                chunks.append((kind, value))
+        except StopIteration:
+            pass
+        source = (fields['ip.src'] or fields['ipv6.src'] or [None])[0]
+        destination = (fields['ip.dst'] or fields['ipv6.dst'] or [None])[0]
+        key = number(fields['sctp.srcport'][0]), number(fields['sctp.dstport'][0])
+        status = fields['sctp.checksum.status'][:1]
+        checksum = {'1': 'right', '0': 'wrong'}.get(status[0] if status else '', 'unknown')
+        if checksum == 'wrong' and number(fields['sctp.checksum'][0]) == 0:
+            checksum = 'zero'
+        frame = int(fields['frame.number'][0])
+        yield {'number': frame, 'time': nanoseconds(fields['frame.time_epoch'][0]), 'key': key, 'checksum': checksum,
+               'tag': number(fields['sctp.verification_tag'][0]), 'types': types, 'chunks': chunks, 'initiate': initiate,
+               'reflected': reflected, 'route': ((source, key[0]), (destination, key[1])),
+               'refused': frame in refused}
+
+
+def modelled(path, refused):
+    model = Model()
+    for packet in packets(path, refused):
+        model.see(packet)
+    return model
+
+
+def resolution(path):
+    """Returns how many digits of a second a pcap file's times have."""
+    with open(path, 'rb') as file:
+        return 9 if file.read(4) == struct.pack('<I', 0xa1b23c4d) else 6
+
+
+def seconds(time, digits):
+    return ('%d.%09d' % divmod(time, 10 ** 9))[:digits - 9 or None]
+
+
+def expected(model, digits):
+    """Returns what the program should print of the model's associations."""
+    for association in model.all:
+        ends = []
+        for end in association.ends:
+            one = {'addresses': end.addresses[:MOST_ADDRESSES], 'port': end.port}
+            if len(end.addresses) > MOST_ADDRESSES:
+                one['more_addresses'] = True
+            if end.tags:
+                one['tag'] = end.tags[0]
+            one.update(packets=end.packets, refused=end.refused, zero_checksums=end.zero, wrong_checksums=end.wrong,
+                       data=end.chunks, bytes=end.bytes)
+            if end.first is not None:
+                one.update(first_tsn=end.first % 2 ** 32, last_tsn=end.last % 2 ** 32, repeated=end.repeated,
+                           missing=end.last - end.first + 1 - len(end.seen))
+                if end.cumulative:
+                    one.update(acknowledged=end.cumulative[0], acknowledged_packet=end.cumulative[1])
+                if end.repeated:
+                    one['first_repeated'] = end.first_repeated
+            one.update(sacks=end.sacks, sacks_with_gaps=end.gaps)
+            if end.window:
+                one.update(least_a_rwnd=end.window[0], least_a_rwnd_packet=end.window[1])
+            one.update(heartbeats=end.sent, heartbeats_unanswered=len(end.pending))
+            if end.pending:
+                one['last_unanswered'] = max(packet for _, packet in end.pending)
+            if end.trips:
+                times = sorted(time for time, _ in end.trips)
+                greatest = next(packet for time, packet in end.trips if time == times[-1])
+                one['round_trip'] = {'count': len(times), 'least': seconds(times[0], digits),
+                                     'median': times[(len(times) - 1) // 2], 'greatest': seconds(times[-1], digits),
+                                     'greatest_packet': greatest}
+            ends.append(one)
+        line = {'association': association.number, 'ends': ends,
+                'began': {'packet': association.packet, 'time': seconds(association.time, digits)}}
+        if association.chunk is not None:
+            line['began']['chunk'] = NAMES.get(association.chunk, '0x%02x' % association.chunk)
+        if association.restart_of:
+            line['restart_of'] = association.restart_of
+        if association.chunk != INIT:
+            line['midway'] = True
+        last = association.last
+        if association.ended:
+            packet, last, kind, side, cause = association.ended
+            line['ended'] = {'packet': packet, 'time': seconds(last, digits), 'chunk': NAMES[kind], 'by': side}
+            if kind == ABORT and cause >= 0:
+                line['ended']['cause'] = cause
+        line['duration'] = seconds(max(last - association.time, 0), digits)
+        yield line
+
+
+def differences(path, want, got, checks_refused):
+    """Prints how two associations differ, and returns whether they do."""
+    found = []
+
+    def compare(place, a, b):
+        if isinstance(a, dict) and isinstance(b, dict):
+            for key in sorted(set(a) | set(b)):
+                if key == 'median' and key in a and key in b:
+                    exact, printed = a[key], nanoseconds(b[key])
+                    if abs(exact - printed) > max(exact / 16, 512) + 1000:
+                        found.append('%s.median: %d, %d' % (place, exact, printed))
+                elif key not in ('reason', 'cause_name') and (key != 'refused' or checks_refused):
+                    compare('%s.%s' % (place, key), a.get(key), b.get(key))
+        elif isinstance(a, list) and isinstance(b, list) and len(a) == len(b):
+            for index, pair in enumerate(zip(a, b)):
+                compare('%s.%d' % (place, index), *pair)
+        elif a != b:
+            found.append('%s: expected %s, printed %s' % (place, a, b))
+
+    compare('association %d' % want['association'], want, got)
+    for line in found[:20]:
+        print('%s: %s' % (os.path.basename(path), line))
+    return bool(found)
+
+
+def compare(path, program, refused):
+    """Compares a capture, and returns the number of associations and of those that differ."""
+    run = subprocess.run([program, '--json', '--associations', path], stdout=subprocess.PIPE, text=True, check=False)
+    got = [json.loads(line) for line in run.stdout.splitlines() if line.startswith('{"association"')]
+    want = list(expected(modelled(path, refused or ()), resolution(path)))
+    got.sort(key=lambda one: one['association'])
+    left = sum(bool(one.pop('left_table', False)) for one in got)
+    if left != max(len(want) - MOST_ASSOCIATIONS, 0):
+        print('%s: %d left the table' % (os.path.basename(path), left))
+        return len(want), 1
+    wrong = sum(differences(path, a, b, refused is not None) for a, b in zip(want, got))
+    if len(want) != len(got):
+        print('%s: expected %d associations, printed %d' % (os.path.basename(path), len(want), len(got)))
+        wrong += 1
+    return len(want), wrong
+
+
+# ---- captures, one a case
+
+def crc32c(data, table=[]):
+    if not table:
+        for byte in range(256):
+            for _ in range(8):
+                byte = byte >> 1 ^ 0x82f63b78 * (byte & 1)
+            table.append(byte)
+    crc = 0xffffffff
+    for byte in data:
+        crc = crc >> 8 ^ table[(crc ^ byte) & 255]
+    return struct.pack('<I', crc ^ 0xffffffff)
+
+
+def chunk(kind, flags, value, length=None):
+    size = 4 + len(value)
+    return struct.pack('>BBH', kind, flags, size if length is None else length) + value + bytes(-size % 4)
+
+
+def parameter(kind, value):
+    return struct.pack('>HH', kind, 4 + len(value)) + value + bytes(-len(value) % 4)
+
+
+def init(kind, tag, tsn, parameters=b''):
+    return chunk(kind, 0, struct.pack('>IIHHI', tag, 131072, 10, 10, tsn % 2 ** 32) + parameters)
+
+
+def data(tsn, payload=b'hello', kind=DATA):
+    more = bytes(4) if kind == I_DATA else b''
+    return chunk(kind, 3, struct.pack('>IHHI', tsn % 2 ** 32, 1, 0, 51) + more + payload)
+
+
+def sack(cumulative, window=131072, blocks=()):
+    value = struct.pack('>IIHH', cumulative % 2 ** 32, window, len(blocks), 0)
+    return chunk(SACK, 0, value + b''.join(struct.pack('>HH', *block) for block in blocks))
+
+
+def heartbeat(info, kind=HEARTBEAT):
+    return chunk(kind, 0, parameter(1, info))
+
+
+class Capture:
+    """A pcap file of raw IPv4, with the numbers of the packets that are refused."""
+
+    def __init__(self, name):
+        self.path, self.records, self.time, self.refused = os.path.join(FOLDER, name + '.pcap'), [], 1718195696 * 10 ** 6, set()
+
+    def add(self, source, destination, tag, *chunks, after=100, checksum='right', refused=False):
+        """Adds a packet, some microseconds after the one before; a place is an address' last two bytes and a port."""
+        self.time += after
+        header = struct.pack('>HHI', source[1], destination[1], tag)
+        body = b''.join(chunks)
+        field = {'right': crc32c(header + bytes(4) + body), 'zero': bytes(4), 'wrong': b'\1\2\3\4'}[checksum]
+        packet = header + field + body
+        ip = struct.pack('>BBHHHBBHHHHH', 0x45, 0, 20 + len(packet), 0, 0, 64, 132, 0, 0x0a00, source[0], 0x0a00,
+                         destination[0])
+        self.records.append((self.time, ip + packet))
+        if refused:
+            self.refused.add(len(self.records))
+
+    def write(self):
+        with open(self.path, 'wb') as file:
+            file.write(struct.pack('<IHHiIII', 0xa1b2c3d4, 2, 4, 0, 0, 262144, 101))
+            for time, frame in self.records:
+                file.write(struct.pack('<IIII', time // 10 ** 6, time % 10 ** 6, len(frame), len(frame)) + frame)
+        return self
+
+
+A, B, C = (1, 36412), (2, 40000), (3, 40000)
+
+
+def handshake(capture, a=A, b=B, tag_a=0x4d2df52d, tag_b=0x0da73798, tsn_a=1000, tsn_b=2000, parameters=b''):
+    capture.add(a, b, 0, init(INIT, tag_a, tsn_a, parameters))
+    capture.add(b, a, tag_a, init(INIT_ACK, tag_b, tsn_b, parameter(7, b'cookie..')))
+    capture.add(a, b, tag_b, chunk(COOKIE_ECHO, 0, b'cookie..'))
+    capture.add(b, a, tag_a, chunk(COOKIE_ACK, 0, b''))
+    return tag_a, tag_b
+
+
+def shutdown(capture, tags, a=A, b=B):
+    capture.add(a, b, tags[1], chunk(SHUTDOWN, 0, bytes(4)))
+    capture.add(b, a, tags[0], chunk(SHUTDOWN_ACK, 0, b''))
+    capture.add(a, b, tags[1], chunk(SHUTDOWN_COMPLETE, 0, b''))
+
+
+def plain():
+    capture = Capture('plain')
+    tags = handshake(capture)
+    capture.add(A, B, tags[1], data(1000), data(1001, bytes(1200)))
+    capture.add(B, A, tags[0], sack(1001, 100000), data(2000, b'x', I_DATA), after=210)
+    capture.add(A, B, tags[1], sack(2000), after=400)
+    capture.add(A, B, tags[1], heartbeat(b'one'))
+    capture.add(B, A, tags[0], heartbeat(b'one', HEARTBEAT_ACK))
+    shutdown(capture, tags)
+    return capture
+
+
+def tsns():
+    capture = Capture('tsns')
+    first = 2 ** 32 - 3
+    tags = handshake(capture, tsn_a=first)
+    for step in 0, 1, 3, 6, 5, 3, 10, 2, 10, 9:
+        capture.add(A, B, tags[1], data(first + step))
+    capture.add(B, A, tags[0], sack(first, 5000, ((2, 2), (4, 5))))
+    capture.add(B, A, tags[0], sack(first + 6, 0))
+    capture.add(B, A, tags[0], sack(first + 10, 0))
+    capture.add(A, B, tags[1], data(first - 2), after=7)
+    capture.add(A, B, tags[1], data(first + 3000))
+    capture.add(A, B, tags[1], data(first + 1500), data(first + 3000))
+    capture.add(B, A, tags[0], chunk(ABORT, 0, parameter(12, b'bye')), after=61_000_000)
+    return capture
+
+
+def beginnings():
+    capture = Capture('beginnings')
+    # an INIT that is sent again, answered twice; the first answer is used
+    capture.add(A, B, 0, init(INIT, 0x11, 1))
+    capture.add(A, B, 0, init(INIT, 0x11, 1))
+    capture.add(B, A, 0x11, init(INIT_ACK, 0x22, 1))
+    capture.add(B, A, 0x11, init(INIT_ACK, 0x23, 1))
+    capture.add(A, B, 0x22, chunk(COOKIE_ECHO, 0, b'cook'))
+    capture.add(B, A, 0x11, chunk(COOKIE_ACK, 0, b''))
+    # a restart by the other end, and its data
+    tags = handshake(capture, B, A, 0x31, 0x32)
+    capture.add(B, A, tags[1], data(1000))
+    capture.add(A, B, tags[0], sack(1000))
+    capture.add(A, B, tags[0], chunk(ABORT, 0, b''))
+    # the same places again, after the end: no restart
+    tags = handshake(capture, A, B, 0x41, 0x42)
+    shutdown(capture, tags)
+    # both send INIT (RFC 9260 section 5.2.1)
+    capture.add(A, C, 0, init(INIT, 0x51, 1))
+    capture.add(C, A, 0, init(INIT, 0x52, 1))
+    capture.add(A, C, 0x52, init(INIT_ACK, 0x51, 1))
+    capture.add(C, A, 0x51, init(INIT_ACK, 0x52, 1))
+    capture.add(A, C, 0x52, chunk(COOKIE_ECHO, 0, b'cook'))
+    # midway, and then the other direction
+    capture.add((4, 1), (5, 2), 0x61, data(7))
+    capture.add((5, 2), (4, 1), 0x62, sack(7))
+    capture.add((4, 1), (5, 2), 0x61, data(8))
+    # an INIT that is refused, and an association that begins with its INIT ACK
+    capture.add((6, 1), (7, 2), 0, init(INIT, 0x71, 1))
+    capture.add((7, 2), (6, 1), 0x71, chunk(ABORT, 0, parameter(4, b'')))
+    capture.add((8, 1), (9, 2), 0x81, init(INIT_ACK, 0x82, 1))
+    capture.add((9, 2), (8, 1), 0x82, chunk(COOKIE_ECHO, 0, b'cook'))
+    return capture
+
+
+def endings():
+    capture = Capture('endings')
+    # the other side's tag, reflected
+    capture.add(A, B, 0x11, data(1))
+    capture.add(B, A, 0x11, chunk(ABORT, 1, b''))
+    # of nothing known: each is an association of its own
+    capture.add(B, C, 0x99, chunk(ABORT, 1, b''))
+    capture.add(B, C, 0x98, chunk(SHUTDOWN_COMPLETE, 1, b''))
+    capture.add(C, B, 0x97, chunk(ABORT, 0, parameter(13, b'text')))
+    tags = handshake(capture, A, C, 0x21, 0x22)
+    capture.add(A, C, tags[1], chunk(SHUTDOWN, 0, bytes(4)))
+    capture.add(C, A, tags[1], chunk(SHUTDOWN_COMPLETE, 1, b''))
+    capture.add(C, A, tags[0], chunk(ABORT, 0, b''))
+    return capture
+
+
+def checksums():
+    capture = Capture('checksums')
+    tags = handshake(capture, parameters=parameter(0x8001, struct.pack('>I', 1)))
+    capture.add(A, B, tags[1], data(1000), checksum='zero')
+    capture.add(A, B, tags[1], data(1001), checksum='wrong')
+    capture.add(B, A, tags[0], sack(1001), checksum='zero')
+    capture.add(A, B, tags[1], chunk(COOKIE_ACK, 0, b'', length=3), refused=True)
+    capture.add(A, B, tags[1], data(1002), chunk(COOKIE_ACK, 0, b'', length=90), refused=True)
+    return capture
+
+
+def heartbeats():
+    capture = Capture('heartbeats')
+    tags = handshake(capture)
+    for step in range(20):
+        capture.add(A, B, tags[1], heartbeat(bytes([step] * 20)))
+        if step % 3 == 1:
+            capture.add(B, A, tags[0], heartbeat(bytes([step - 1] * 20), HEARTBEAT_ACK))
+    capture.add(B, A, tags[0], heartbeat(b'unknown', HEARTBEAT_ACK))
+    return capture
+
+
+def homes():
+    capture = Capture('homes')
+    tags = handshake(capture)
+    for step in range(7):
+        capture.add((100 + step, 36412), (200 + step % 2, 40000), tags[1], data(1000 + step))
+        capture.add((200 + step % 2, 40000), (100 + step, 36412), tags[0], sack(1000 + step))
+    return capture
+
+
+def drawn(seed):
+    """Some associations at once, with loss, reordering and repetition."""
+    draw = random.Random(seed)
+    capture = Capture('drawn%d' % seed)
+    live = []
+    for _ in range(4000):
+        if len(live) < 6 and draw.random() < 0.05:
+            a, b = (draw.randrange(1, 9), draw.choice((5000, 36412))), (draw.randrange(11, 19), draw.choice((5000, 36412)))
+            tags = handshake(capture, a, b, draw.getrandbits(32) or 1, draw.getrandbits(32) or 1)
+            live.append([a, b, tags, [draw.getrandbits(32), draw.getrandbits(32)], 0, 0])
+        if not live:
+            continue
+        one = draw.choice(live)
+        a, b, tags, next_tsns = one[:4]
+        side = draw.randrange(2)
+        source, destination, tag = ((a, b, tags[1]), (b, a, tags[0]))[side]
+        after, what = draw.randrange(1, 5000), draw.random()
+        if what < 0.6:
+            tsn = next_tsns[side]
+            if draw.random() < 0.1:
+                tsn -= draw.randrange(1, 30)
+            else:
+                next_tsns[side] += draw.choice((1, 1, 1, 1, 2, 3))
+            capture.add(source, destination, tag, data(tsn, bytes(draw.randrange(1, 1400)), draw.choice((DATA, DATA, I_DATA))),
+                        after=after, checksum=draw.choice(('right',) * 9 + ('wrong',)))
+        elif what < 0.9:
+            blocks = [(first, first + 1) for first in range(2, draw.choice((2, 2, 2, 20)), 4)]
+            cumulative = next_tsns[1 - side] - draw.randrange(12)
+            capture.add(source, destination, tag, sack(cumulative, draw.randrange(200000), blocks), after=after)
+        elif what < 0.99:
+            one[4 + side] += 1
+            info = bytes([side]) + struct.pack('>I', one[4 + side])
+            capture.add(source, destination, tag, heartbeat(info), after=after)
+            if draw.random() < 0.7:
+                info = bytes([side]) + struct.pack('>I', max(one[4 + side] - draw.randrange(3), 0))
+                capture.add(destination, source, tags[side], heartbeat(info, HEARTBEAT_ACK))
+        else:
+            live.remove(one)
+            if draw.random() < 0.5:
+                shutdown(capture, tags, a, b)
+            else:
+                capture.add(source, destination, tag, chunk(ABORT, 0, parameter(12, b'')), after=after)
+    return capture
+
+
+def many():
+    """More associations than the table has room for."""
+    capture = Capture('many')
+    for step in range(13000):
+        capture.add((1 + step // 60000, 1 + step % 60000), B, 0, init(INIT, 1 + step, 1), after=1)
+    return capture
+
+
+def main():
+    arguments, program, seed = sys.argv[1:], os.path.join(ROOT, 'crates/sctp_dump/out/sctp_dump'), 1
+    captures, makes, prints = [], False, False
+    while arguments:
+        word = arguments.pop(0)
+        if word == '--program':
+            program = arguments.pop(0)
+        elif word == '--seed':
+            seed = int(arguments.pop(0))
+        elif word == '--only-make':
+            makes = True
+        elif word == '--model':
+            prints = True
+        elif word == '--help':
+            print(__doc__)
+            return 0
+        else:
+            captures.append((word, None))
+    if not captures:
+        os.makedirs(FOLDER, exist_ok=True)
+        cases = [plain(), tsns(), beginnings(), endings(), checksums(), heartbeats(), homes(), many()]
+        captures = [(case.write().path, case.refused) for case in cases + [drawn(seed), drawn(seed + 1)]]
+    if makes:
+        return 0
+    if prints:
+        for path, refused in captures:
+            for line in expected(modelled(path, refused or ()), resolution(path)):
+                print(json.dumps(line))
+        return 0
+    total = wrong = 0
+    for path, refused in captures:
+        associations, differing = compare(path, program, refused)
+        total, wrong = total + associations, wrong + differing
+        print('%s: associations %d, differing %d' % (os.path.basename(path), associations, differing))
+    print('associations %d: differing %d' % (total, wrong))
+    return 1 if wrong else 0
+
+
+if __name__ == '__main__':
+    sys.exit(main())
