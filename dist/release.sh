@@ -10,6 +10,7 @@ Makes in FOLDER, which has to be new or empty, of the texts in dist/ and of this
   dcsctp-VERSION.crate                 the package for Rust
   dcsctp-VERSION.tar.gz, dcsctp-VERSION-py3-none-SYSTEM.whl      those for Python
   sctp_dump-VERSION-linux-x86_64       the program, static: it runs on any Linux, from x86-64-v2 on
+  sctp_dump-VERSION.html               the page with the program as WebAssembly, where the toolchain and wasm-opt are
   SHA256SUMS
 
 The same commit gives the same files, with the same compilers. It stops where something is not committed, CHANGELOG.md says
@@ -102,9 +103,16 @@ backend.build_wheel(sys.argv[1])' "$to")
 program=$to/sctp_dump-$version-linux-x86_64
 musl-gcc -static -O2 -o "$program" "$user/dist/sctp_dump-x86_64-elf.s" "$user/dist/program.c"
 strip "$program"
+if command -v rt >/dev/null && command -v wasm-opt >/dev/null; then
+    page/make.py --into "$work/page/sctp.html"
+    cp "$work/page/sctp.html" "$to/sctp_dump-$version.html"
+else
+    echo 'dist/release.sh: the toolchain or wasm-opt is not here: the page is left out' >&2
+fi
 
 # ---- whether they work
 
 dist/test.sh "$user"
 dump/test.sh "$program"
+[ ! -d "$work/page" ] || page/test.sh "$work/page"
 (cd "$to" && sha256sum -- * >"$work/sums" && mv "$work/sums" SHA256SUMS && ls -l)

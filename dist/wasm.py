@@ -36,6 +36,7 @@ LOWERING = ["--enable-memory64", "--enable-bulk-memory", "--enable-sign-ext", "-
 # Attributes of a function for x86-64.
 OF_X86 = re.compile(r' "(target-cpu|target-features|tune-cpu|probe-stack|stack-probe-size)"="[^"]*"')
 DEFINED = re.compile(r"define (?!internal |private )[^@]*@(\w+)\(")
+DECLARED = re.compile(r"declare [^@]*@(\w+)\(")
 # What a WebAssembly module may import, and export, has a byte for its kind.
 KINDS = ("function", "table", "memory", "global")
 
@@ -47,11 +48,16 @@ def fail(text):
 make.fail = fail
 
 
-def retargeted(text, exported):
-    """A module in LLVM's text without what is of one system alone; these functions of it are exported."""
+def retargeted(text, exported, imported):
+    """A module in LLVM's text without what is of one system alone; these functions of it are exported, and those imported. A
+    program's main has the name that it has in dist/."""
     for line in text.splitlines(True):
         if line.startswith(("target datalayout", "target triple", "@llvm.compiler.used")):
             continue
+        line = re.sub(r"@main\(", "@rattle_main(", line)
+        found = DECLARED.match(line)
+        if found and found[1] in imported:
+            line = f'{line.rstrip()} "wasm-import-module"="env" "wasm-import-name"="{found[1]}"\n'
         found = DEFINED.match(line)
         if found and found[1] in exported:
             line, count = re.subn(r"( #\d+)(?=[^#]*\{$)", rf'\1 "wasm-export-name"="{found[1]}"', line.rstrip("\n"))
@@ -82,48 +88,65 @@ def number(data, at):
             return value, at
 
 
+def name(section, at):
+    size, at = number(section, at)
+    return section[at:at + size].decode(), at + size
+
+
 def exports(wasm):
     section = sections(wasm).get(7, b"\0")
     count, at = number(section, 0)
     for _ in range(count):
-        size, at = number(section, at)
-        name = section[at:at + size].decode()
-        kind = KINDS[section[at + size]]
-        _, at = number(section, at + size + 1)
-        yield kind, name
+        text, at = name(section, at)
+        kind = KINDS[section[at]]
+        _, at = number(section, at + 1)
+        yield kind, text
 
 
-def compiled(tools, module, work):
-    """The library as WebAssembly, with a 64-bit memory."""
-    exported = {*make.header_functions(), "malloc", "free"}
+def imports(wasm):
+    """What is imported, of which only functions are known here."""
+    section = sections(wasm).get(2, b"\0")
+    count, at = number(section, 0)
+    for _ in range(count):
+        _, at = name(section, at)
+        text, at = name(section, at)
+        if KINDS[section[at]] != "function":
+            fail(f"{text} is imported, and is no function")
+        _, at = number(section, at + 1)
+        yield text
+
+
+def compiled(tools, module, work, exported, imported=()):
+    """A library or a program as WebAssembly, linked with a heap, with a 64-bit memory that is lowered. It exports its memory and
+    these functions, and imports no others than those."""
     toolchain = os.path.dirname(os.path.dirname(tools.clang))
     link = f"{os.path.dirname(toolchain)}/bin/rattle-link"
 
     def clang(system, *words):
         return make.output_of([tools.clang, f"--target={system}", "--no-default-config", *words],
-                              "the library isn't compiled for WebAssembly", cwd=work)
+                              "the module isn't compiled for WebAssembly", cwd=work)
 
     text = ["-S", "-emit-llvm", "-o", "-"]
     parts = {
-        "library": clang(make.LINUX, *text, "-Xclang", "-disable-llvm-passes", "-x", "ir", module),
+        "module": clang(make.LINUX, *text, "-Xclang", "-disable-llvm-passes", "-x", "ir", module),
         # (these functions are in a file of their own here, so they have to be seen from another)
         "memory": make.read(f"{make.ROOT}/dist/heap.ll").decode().replace("define internal", "define hidden"),
         "heap": clang(SYSTEM, *text, *FLAGS, *"-ffreestanding -nostdinc -fno-builtin -fwrapv".split(), f"{BINDING}/heap.c"),
     }
     for name, it in parts.items():
-        make.write(f"{work}/{name}.ll", "".join(retargeted(it, exported)))
+        make.write(f"{work}/{name}.ll", "".join(retargeted(it, exported, imported)))
         clang(SYSTEM, *FLAGS, "-c", "-x", "ir", f"{name}.ll", "-o", f"{name}.o")
-    tools.tool("llvm-ar", "rcsD", f"{work}/library.a", *(f"{work}/{it}.o" for it in parts))
-    make.output_of([link, "--target", SYSTEM, "--toolchain", toolchain, "-o", f"{work}/wide.wasm", f"{work}/library.a"],
-                   "the library isn't linked for WebAssembly", cwd=work)
-    make.output_of(["wasm-opt", *LOWERING, f"{work}/wide.wasm", "-o", f"{work}/dcsctp.wasm"], "wasm-opt failed")
-    wasm = make.read(f"{work}/dcsctp.wasm")
+    tools.tool("llvm-ar", "rcsD", f"{work}/module.a", *(f"{work}/{it}.o" for it in parts))
+    make.output_of([link, "--target", SYSTEM, "--toolchain", toolchain, "-o", f"{work}/wide.wasm", f"{work}/module.a"],
+                   "the module isn't linked for WebAssembly", cwd=work)
+    make.output_of(["wasm-opt", *LOWERING, f"{work}/wide.wasm", "-o", f"{work}/lowered.wasm"], "wasm-opt failed")
+    wasm = make.read(f"{work}/lowered.wasm")
     wanted = {("function", it) for it in exported} | {("memory", "memory")}
     found = {it for it in exports(wasm) if it != ("global", "__heap_base")}
     if found != wanted:
-        fail(f"what is exported isn't what include/dcsctp.h declares: {sorted(found ^ wanted)}")
-    if 2 in sections(wasm):
-        fail("the module has imports")
+        fail(f"what is exported isn't what was wanted: {sorted(found ^ wanted)}")
+    if set(imports(wasm)) - set(imported):
+        fail(f"the module imports {', '.join(sorted(set(imports(wasm)) - set(imported)))}")
     return wasm
 
 
@@ -142,7 +165,7 @@ def main():
     with tempfile.TemporaryDirectory() as work:
         tools = make.Toolchain(work, 1)
         module = os.path.abspath(given.module) if given.module else tools.build("dcsctp_c", make.LINUX)[0]
-        wasm = compiled(tools, module, work)
+        wasm = compiled(tools, module, work, {*make.header_functions(), "malloc", "free"})
     if given.compare:
         if not os.path.isfile(given.into) or make.read(given.into) != wasm:
             fail(f"{given.into} isn't what the sources give; run dist/wasm.py")

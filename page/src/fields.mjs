@@ -1,0 +1,375 @@
+// A packet's fields as a tree, beside its bytes: each field marks its bytes, and each byte its field.
+import { groupOf, isObject, ruleOf } from './keys.mjs';
+import { byId, counted, element, hex, shown } from './text.mjs';
+import { VirtualList } from './virtual.mjs';
+
+/** The nodes of an object's tree, each before its children; `end` is behind the last of them. */
+export function nodesOf(object) {
+  const nodes = [];
+  const add = (label, value, place, depth, parent, group) => {
+    const index = nodes.length;
+    const node = { label, value, place: placeOf(place), depth, parent, group, isOpen: true, end: index + 1 };
+    nodes.push(node);
+    return index;
+  };
+  const walk = (it, depth, parent, group) => {
+    for (const [key, value] of Object.entries(it)) {
+      if (key.endsWith('@') || (depth === 0 && key === 'bytes'))
+        continue;
+      if (Array.isArray(value) && value.some(isObject))
+        value.forEach((entry, i) => walkEntry(key, i, entry, depth, parent, group));
+      else if (isObject(value))
+        walkInto(add(key, '', value['@'], depth, parent, group), value, depth, group);
+      else
+        add(key, value, it[`${key}@`], depth, parent, group);
+    }
+  };
+  const walkEntry = (key, i, entry, depth, parent, group) => {
+    if (!isObject(entry))
+      return;
+    const own = typeof entry.chunk === 'number' ? groupOf(entry.chunk) : group;
+    walkInto(add(entry.name ?? `${key} ${i + 1}`, summaryOf(entry), entry['@'], depth, parent, own), entry, depth, own);
+  };
+  const walkInto = (index, it, depth, group) => {
+    walk(it, depth + 1, index, group);
+    nodes[index].end = nodes.length;
+  };
+  walk(object, 0, -1);
+  return nodes;
+}
+
+function placeOf(place) {
+  const isPlace = Array.isArray(place) && place.length === 2 && place.every(it => Number.isSafeInteger(it) && it >= 0);
+  return isPlace ? { from: place[0], to: place[0] + place[1] } : undefined;
+}
+
+/** What an entry is told by where it is closed: its first numbers. */
+function summaryOf(entry) {
+  const known = ['length', 'flags', 'name'];
+  return Object.entries(entry).filter(([key, it]) => typeof it === 'number' && !known.includes(key)).slice(0, 3)
+    .map(([key, it]) => `${key} ${it}`).join(', ');
+}
+
+/** The bytes that a text in hexadecimal gives. */
+export function bytesOf(text) {
+  const found = typeof text === 'string' ? text.match(/[0-9a-f]{2}/g) ?? [] : [];
+  return Uint8Array.from(found, it => parseInt(it, 16));
+}
+
+/** For each byte its deepest node, and the first of those. */
+export function ownersOf(nodes, size) {
+  const owners = new Int32Array(size).fill(-1);
+  nodes.forEach(({ place, depth }, index) => {
+    for (let i = place?.from ?? 0; i < Math.min(place?.to ?? 0, size); i++) {
+      if (owners[i] < 0 || nodes[owners[i]].depth < depth)
+        owners[i] = index;
+    }
+  });
+  return owners;
+}
+
+export class Fields {
+  nodes = [];
+  visible = [];
+  bytes = new Uint8Array();
+  owners = new Int32Array();
+  selected = -1;
+  hovered = -1;
+  cursor = -1;
+  fault = -1;
+
+  constructor() {
+    this.treeBox = byId('tree');
+    this.bytesBox = byId('bytes');
+    this.tree = new VirtualList(this.treeBox, {
+      draw: index => this.drawNode(index),
+      select: index => this.selectNode(this.visible[index]),
+      press: (key, index) => this.pressInTree(key, index),
+    });
+    this.hexadecimal = new VirtualList(this.bytesBox, {
+      draw: index => this.drawBytes(index),
+      select: () => {},
+      press: key => this.pressInBytes(key),
+    });
+    this.treeBox.addEventListener('click', event => {
+      if (event.target.classList.contains('twist'))
+        this.toggle(this.visible[Number(event.target.closest('.row').dataset.index)]);
+    });
+    this.treeBox.addEventListener('pointerover', event => {
+      const row = event.target.closest('.row');
+      this.hover(row ? this.visible[Number(row.dataset.index)] : -1);
+    });
+    this.bytesBox.addEventListener('pointerover', event => {
+      const at = Number(event.target.dataset.at ?? -1);
+      this.hover(at < 0 ? -1 : this.owners[at]);
+    });
+    for (const it of [this.treeBox, this.bytesBox])
+      it.addEventListener('pointerleave', () => this.hover(-1));
+    this.bytesBox.addEventListener('click', event => {
+      if (event.target.dataset.at !== undefined)
+        this.moveTo(Number(event.target.dataset.at));
+    });
+    const narrow = matchMedia('(max-width: 1100px)');
+    const measure = () => {
+      this.width = narrow.matches ? 8 : 16;
+      this.bytesBox.classList.toggle('narrow', narrow.matches);
+      this.showBytes();
+    };
+    narrow.addEventListener('change', measure);
+    measure();
+  }
+
+  /** Shows an object that was a line. */
+  show(object, title) {
+    this.nodes = nodesOf(object);
+    this.bytes = bytesOf(object.bytes);
+    this.fault = typeof object.fault?.offset === 'number' ? object.fault.offset : -1;
+    const fault = this.nodes.find(it => it.depth === 0 && it.label === 'fault');
+    if (fault && this.fault >= 0)
+      fault.place = { from: this.fault, to: this.fault + 1 };
+    this.owners = ownersOf(this.nodes, this.bytes.length);
+    Object.assign(this, { selected: -1, hovered: -1, cursor: -1 });
+    if (this.nodes.length > 2000) {
+      for (const node of this.nodes)
+        node.isOpen = false;
+    }
+    byId('title').replaceChildren(title);
+    byId('notes').replaceChildren(...this.notesOf(object));
+    this.showTree();
+    this.showBytes();
+    this.treeBox.scrollTop = this.bytesBox.scrollTop = 0;
+    this.tree.setCurrent(-1);
+    if (this.fault >= 0) {
+      this.moveTo(Math.min(this.fault, this.bytes.length - 1));
+      // (with what is below it)
+      if (fault)
+        this.tree.reveal(this.visible.indexOf(fault.end - 1));
+    }
+    this.say();
+  }
+
+  /** What is wrong with a packet, each in words and with its section. */
+  notesOf(object) {
+    const notes = [];
+    if (object.fault) {
+      const { rule, section } = ruleOf(object.fault), offset = object.fault.offset;
+      const go = element('button', 'link', `byte ${offset}`);
+      go.addEventListener('click', () => {
+        this.moveTo(Math.min(offset, this.bytes.length - 1));
+        this.bytesBox.focus();
+      });
+      const state = object.captured === undefined ? 'Refused' : 'Cut off, and wrong';
+      const what = element('strong', '', `${state}: ${object.fault.kind}`);
+      notes.push(element('p', 'note bad', what, ' at ', go, `: ${shown(object.fault.reason)}. ${rule} (${section})`));
+    }
+    if (object.verdict === 'wrong') {
+      notes.push(element('p', 'note doubt', element('strong', '', 'The checksum is wrong'),
+        `: it has to be ${hex(object.expected, 8)}. (RFC 9260 section 6.8)`));
+    }
+    if (object.captured !== undefined)
+      notes.push(element('p', 'note', `Only ${object.captured} of ${counted(object.length, 'byte')} were captured.`));
+    for (const { rule, sentence, section } of object.warnings ?? [])
+      notes.push(element('p', 'note doubt', element('strong', '', shown(rule)), `: ${shown(sentence)} (${shown(section)})`));
+    return notes;
+  }
+
+  // ---- the tree
+
+  showTree() {
+    this.visible = [];
+    for (let i = 0; i < this.nodes.length; i = this.nodes[i].isOpen ? i + 1 : this.nodes[i].end)
+      this.visible.push(i);
+    this.tree.show(this.visible.length);
+    this.tree.setCurrent(this.visible.indexOf(this.selected), false);
+  }
+
+  drawNode(index) {
+    const at = this.visible[index], node = this.nodes[at], isBranch = node.end > at + 1;
+    const twist = element('span', 'twist', isBranch ? (node.isOpen ? '▾' : '▸') : '');
+    const row = element('div', `node ${node.group ?? ''}`, twist, element('span', 'key', shown(node.label)), valueOf(node));
+    row.classList.toggle('branch', isBranch);
+    row.style.paddingLeft = `${Math.min(node.depth, 12) * 16 + 4}px`;
+    row.setAttribute('role', 'treeitem');
+    row.setAttribute('aria-level', node.depth + 1);
+    if (isBranch)
+      row.setAttribute('aria-expanded', node.isOpen);
+    row.classList.toggle('over', at === this.hovered);
+    row.classList.toggle('placed', node.place !== undefined);
+    row.classList.toggle('faulty', node.place !== undefined && node.label === 'fault');
+    return row;
+  }
+
+  toggle(at) {
+    this.nodes[at].isOpen = !this.nodes[at].isOpen;
+    this.showTree();
+  }
+
+  selectNode(at) {
+    this.selected = at;
+    const { place } = this.nodes[at];
+    if (place && this.bytes.length) {
+      this.cursor = Math.min(place.from, this.bytes.length - 1);
+      this.hexadecimal.setCurrent(Math.floor(this.cursor / this.width));
+    }
+    this.paint();
+    this.say();
+  }
+
+  pressInTree(key, index) {
+    const at = this.visible[index], node = this.nodes[at];
+    if (!node)
+      return false;
+    const isBranch = node.end > at + 1;
+    if (key === 'ArrowRight' && isBranch) {
+      if (node.isOpen)
+        this.tree.choose(index + 1);
+      else
+        this.toggle(at);
+    } else if (key === 'ArrowLeft') {
+      if (isBranch && node.isOpen)
+        this.toggle(at);
+      else if (node.parent >= 0)
+        this.tree.choose(this.visible.indexOf(node.parent));
+    } else if (key === 'Enter' || key === ' ') {
+      if (node.place && this.bytes.length)
+        this.bytesBox.focus();
+      else if (isBranch)
+        this.toggle(at);
+    } else {
+      return false;
+    }
+    return true;
+  }
+
+  // ---- the bytes
+
+  showBytes() {
+    byId('bytes-panel').hidden = this.bytes.length === 0 && this.nodes.length > 0;
+    // (a fault can be just behind the last byte)
+    this.hexadecimal.show(Math.ceil(Math.max(this.bytes.length, this.fault + 1) / this.width));
+  }
+
+  drawBytes(index) {
+    const from = index * this.width;
+    const row = element('div', 'bytes', element('span', 'offset', from.toString(16).padStart(4, '0')));
+    const texts = element('span', 'texts');
+    for (let at = from; at < from + this.width; at++) {
+      const isThere = at < this.bytes.length, byte = this.bytes[at];
+      if (!isThere && at !== this.fault) {
+        row.append(element('span', 'byte none', '  '));
+        continue;
+      }
+      const classes = ['byte'];
+      const node = this.nodes[this.owners[at]];
+      if (node?.group)
+        classes.push(node.group);
+      if (at === this.fault)
+        classes.push('fault');
+      const cell = element('span', classes.join(' '), isThere ? byte.toString(16).padStart(2, '0') : '··');
+      cell.setAttribute('role', 'gridcell');
+      cell.id = `byte-${at}`;
+      const isSeen = byte > 32 && byte < 127;
+      const text = element('span', classes.join(' '), isSeen ? String.fromCharCode(byte) : isThere ? '·' : ' ');
+      for (const it of isThere ? [cell, text] : [])
+        it.dataset.at = at;
+      row.append(cell);
+      texts.append(text);
+    }
+    texts.setAttribute('aria-hidden', 'true');
+    row.append(texts);
+    row.setAttribute('role', 'row');
+    this.paint(row);
+    return row;
+  }
+
+  /** Marks bytes: those of the field that is selected or pointed at, and the one at the cursor. */
+  paint(box = this.bytesBox) {
+    const selected = this.nodes[this.selected]?.place, hovered = this.nodes[this.hovered]?.place;
+    for (const it of box.querySelectorAll('[data-at]')) {
+      const at = Number(it.dataset.at);
+      it.classList.toggle('in', selected !== undefined && at >= selected.from && at < selected.to);
+      it.classList.toggle('over', hovered !== undefined && at >= hovered.from && at < hovered.to);
+      it.classList.toggle('cursor', at === this.cursor);
+    }
+  }
+
+  /** Makes a byte the one at the cursor, and its field the selected one. */
+  moveTo(at) {
+    if (at < 0 || at >= this.bytes.length)
+      return;
+    this.cursor = at;
+    const owner = this.owners[at];
+    if (owner >= 0) {
+      for (let up = this.nodes[owner].parent; up >= 0; up = this.nodes[up].parent)
+        this.nodes[up].isOpen = true;
+      this.selected = owner;
+      this.showTree();
+      this.tree.setCurrent(this.visible.indexOf(owner));
+    } else {
+      this.selected = -1;
+      this.tree.setCurrent(-1);
+    }
+    this.hexadecimal.setCurrent(Math.floor(at / this.width));
+    this.paint();
+    this.say();
+  }
+
+  pressInBytes(key) {
+    const step = { ArrowLeft: -1, ArrowRight: 1, ArrowUp: -this.width, ArrowDown: this.width,
+      PageUp: -this.width * this.hexadecimal.rows, PageDown: this.width * this.hexadecimal.rows }[key];
+    if (key === 'Enter')
+      this.treeBox.focus();
+    else if (key === 'Home' || key === 'End')
+      this.moveTo(key === 'Home' ? 0 : this.bytes.length - 1);
+    else if (step !== undefined && this.cursor < 0)
+      this.moveTo(0);
+    else if (step !== undefined)
+      this.moveTo(this.cursor + step);
+    else
+      return false;
+    return true;
+  }
+
+  hover(at) {
+    if (at === this.hovered)
+      return;
+    const old = this.hovered;
+    this.hovered = at;
+    for (const it of [old, at])
+      this.tree.drawn.get(this.visible.indexOf(it))?.classList.toggle('over', it === at && at >= 0);
+    this.paint();
+    this.say();
+  }
+
+  /** Says which field and bytes are marked. */
+  say() {
+    const at = this.hovered >= 0 ? this.hovered : this.selected, node = this.nodes[at];
+    const path = [];
+    for (let up = at; up >= 0; up = this.nodes[up].parent)
+      path.unshift(shown(this.nodes[up].label, 60));
+    let text = path.join(' › ');
+    if (node?.place) {
+      const { from, to } = node.place;
+      text += `: ${to - from === 1 ? `byte ${from}` : `bytes ${from} to ${to - 1}`}`;
+      const isSame = it => it.depth === node.depth && it.place?.from === from && it.place.to === to;
+      const others = this.nodes.filter(it => it !== node && isSame(it));
+      if (others.length)
+        text += `, also ${others.map(it => shown(it.label, 60)).join(', ')}`;
+    } else if (this.cursor >= 0 && at < 0) {
+      text = `byte ${this.cursor}${this.cursor === this.fault ? ': the fault' : ''}`;
+    }
+    byId('marked').textContent = text;
+    if (this.cursor >= 0)
+      this.bytesBox.setAttribute('aria-activedescendant', `byte-${this.cursor}`);
+  }
+}
+
+/** How a node's value is shown: a number also in hexadecimal, as wide as its bytes. */
+function valueOf({ value, place, end }) {
+  if (Array.isArray(value))
+    return element('span', 'value', value.length ? shown(value.join(', ')) : 'none');
+  const size = place ? place.to - place.from : 0;
+  if (typeof value === 'number' && size > 0 && size <= 4)
+    return element('span', 'value', String(value), element('span', 'dim', ` ${hex(value, 2 * size)}`));
+  return element('span', typeof value === 'string' && end ? 'value text' : 'value', shown(value ?? ''));
+}

@@ -1,0 +1,92 @@
+// The list of packets.
+import { groupOf, KINDS } from './keys.mjs';
+import { element, hex, shown } from './text.mjs';
+
+/** A chunk's name in the colour of its group, with how often it comes. */
+export function chip({ type, name, count = 1 }) {
+  return element('span', `chip ${groupOf(type)}`, shown(name ?? `chunk ${type}`, 40), count > 1 ? ` ×${count}` : '');
+}
+
+/** What a row is marked with, beside its chunks. */
+const MARKS = {
+  wrong: ['doubt', 'wrong checksum'], zero: ['dim', 'zero checksum'], repeated: ['doubt', 'sent again'],
+  late: ['doubt', 'fills a gap'], jump: ['doubt', 'gap before'], gaps: ['doubt', 'gaps'], warned: ['doubt', 'warning'],
+};
+
+export function marksOf(store, row) {
+  return Object.entries(MARKS).filter(([flag]) => store.has(row, flag));
+}
+
+/** Ranges of TSNs as text, the first three of them. */
+export function rangeTexts(ranges) {
+  const texts = ranges.slice(0, 3).map(([least, most]) => least === most ? least : `${least}–${most}`);
+  return texts.join(', ') + (ranges.length > 3 ? ' ..' : '');
+}
+
+/** TSNs as ranges. */
+function rangesOf(tsns) {
+  const ranges = [];
+  for (const it of tsns) {
+    if (ranges.length && it === (ranges.at(-1)[1] + 1) % 2 ** 32)
+      ranges.at(-1)[1] = it;
+    else
+      ranges.push([it, it]);
+  }
+  return ranges;
+}
+
+/** Where an end is: its address and port. */
+export function endText(address, port) {
+  const ending = String(port ?? '');
+  if (address === undefined)
+    return ending;
+  return address.includes(':') ? `[${address}]:${ending}` : `${address}:${ending}`;
+}
+
+/** What a row says behind its chunks. */
+export function infoOf(store, row) {
+  const summary = store.summaries[store.columns.summary[row]], parts = [];
+  if (store.has(row, 'sack'))
+    parts.push(`acknowledges ${store.columns.ack[row]}`);
+  if (store.has(row, 'data')) {
+    parts.push(`TSN ${rangeTexts(rangesOf(store.tsns(row)))}`, `stream ${summary.streams.slice(0, 4).join(', ')}`);
+    parts.push(...summary.ppids.slice(0, 2).map(([ppid, name]) => name ? shown(name, 40) : `ppid ${ppid}`));
+  }
+  return parts.join(' · ');
+}
+
+/** A row of the list. */
+export function drawPacket(store, row, isSince) {
+  const it = store.at(row), kind = KINDS[it.kind], flow = store.flows[it.flow], summary = store.summaries[it.summary];
+  const line = element('div', `packet ${kind}`);
+  line.setAttribute('role', 'row');
+  const cell = (classes, ...parts) => {
+    const made = element('span', classes, ...parts);
+    made.setAttribute('role', 'gridcell');
+    line.append(made);
+  };
+  if (kind === 'file') {
+    cell('whole', shown(store.notes[it.note]));
+    return line;
+  }
+  cell('number', String(it.number));
+  cell('time', store.time(row, isSince));
+  if (kind === 'skipped') {
+    cell('whole', `skipped: ${shown(store.notes[it.note])}`);
+    return line;
+  }
+  const ends = `${endText(flow.from, flow.source)} → ${endText(flow.to, flow.destination)}`;
+  cell('ends', flow.direction ? `${flow.direction} ${ends}` : ends);
+  cell('tag', flow.tag === undefined ? '' : hex(flow.tag, 8));
+  const marks = marksOf(store, row).map(([, [classes, text]]) => element('span', `mark ${classes}`, text));
+  if (kind === 'refused')
+    marks.unshift(element('span', 'mark bad', 'refused'));
+  if (kind === 'cut')
+    marks.unshift(element('span', 'mark dim', 'cut off'));
+  const runs = summary.runs.slice(0, 8).map(chip);
+  if (summary.runs.length > 8)
+    runs.push(element('span', 'dim', `+${summary.runs.length - 8}`));
+  const note = it.note ? element('span', 'reason', shown(store.notes[it.note], 120)) : undefined;
+  cell('chunks', ...runs, ...marks, element('span', 'info', infoOf(store, row)), note);
+  return line;
+}

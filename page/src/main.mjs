@@ -1,0 +1,325 @@
+// The page: opens captures, and shows what comes back from the Worker.
+import { Associations } from './associations.mjs';
+import { Diagram } from './diagram.mjs';
+import { Fields } from './fields.mjs';
+import { filterOf, strangeWords, SYNTAX } from './filter.mjs';
+import { skippedText, WORDS } from './keys.mjs';
+import { drawPacket } from './list.mjs';
+import { Store } from './store.mjs';
+import { byId, counted, element, shown } from './text.mjs';
+import { VirtualList } from './virtual.mjs';
+
+const decoded = id => Uint8Array.from(atob(byId(id).textContent), it => it.charCodeAt(0));
+const script = URL.createObjectURL(new Blob([byId('worker-script').textContent], { type: 'text/javascript' }));
+
+let store = new Store(), worker, program, filter = filterOf(''), test = () => true;
+/** The rows that the filter passes, and how many rows it has seen. */
+let passed = [], seen = 0;
+
+// ---- a capture
+
+/** Reads files as one capture, in place of what is shown. */
+async function open(files) {
+  worker?.terminate();
+  program ??= await WebAssembly.compile(decoded('program'));
+  store = new Store();
+  byId('name').textContent = document.title = shown(files.map(it => it.name).join(', '), 100);
+  byId('status').textContent = byId('status').className = byId('filter').value = '';
+  byId('progress').max = files.reduce((sum, it) => sum + it.size, 0) || 1;
+  byId('progress').value = 0;
+  byId('stop').hidden = byId('progress').hidden = byId('again').hidden = false;
+  offer(false);
+  fields.show({}, '');
+  list.setCurrent(-1);
+  select('packets');
+  applyFilter();
+  showFound();
+  showAssociations();
+  const strict = byId('strict').checked ? ['--strict'] : [], udp = byId('udp').value ? ['--udp-port', byId('udp').value] : [];
+  const started = performance.now(), own = worker = new Worker(script);
+  own.onmessage = ({ data }) => own === worker && (data.columns ? take(data) : end(data.errors, started));
+  own.onerror = event => own === worker && end(event.message, started);
+  own.postMessage({ program, words: [...WORDS, ...strict, ...udp], files: namedApart(files) });
+  byId('list').focus();
+}
+
+/** Files by the names that the program has for them: none is `-` or an option, and none is there twice. */
+function namedApart(files) {
+  const names = new Map();
+  for (const it of files) {
+    const own = it.name.startsWith('-') ? `./${it.name}` : it.name;
+    let name = own;
+    for (let i = 2; names.has(name); i++)
+      name = `${own} (${i})`;
+    names.set(name, it);
+  }
+  return [...names];
+}
+
+/** Takes what the Worker has read. */
+function take(batch) {
+  store.add(batch);
+  byId('progress').value = store.read;
+  byId('status').textContent = `${counted(store.count, 'row')} …`;
+  passMore();
+  list.show(passed.length, true);
+  if (list.current < 0 && passed.length)
+    list.choose(0);
+  showFound();
+}
+
+/** The program is at its end, or was stopped. */
+function end(errors, started) {
+  worker.terminate();
+  worker = undefined;
+  store.finish();
+  byId('stop').hidden = byId('progress').hidden = true;
+  const time = started === undefined ? ': stopped' : ` in ${((performance.now() - started) / 1000).toFixed(1)} s`;
+  const packets = counted(store.kinds[0] + store.kinds[1] + store.kinds[2], 'packet');
+  byId('status').textContent = errors ? shown(errors.trim(), 200) : packets + time + skippedText(store.summary);
+  byId('status').className = errors ? 'bad' : '';
+  showAssociations();
+  document.body.dataset.done = performance.now();
+}
+
+/** Shows where a capture is opened, or else the one that is open. */
+function offer(isOffered) {
+  byId('start').hidden = !isOffered;
+  byId('work').hidden = isOffered;
+  byId('again').textContent = isOffered ? 'Back' : 'Open another';
+}
+
+// ---- packets
+
+const fields = new Fields();
+const list = new VirtualList(byId('list'), {
+  draw: index => drawPacket(store, passed[index], byId('clock').value === 'since'),
+  select: index => showRow(passed[index]),
+  press: key => key === 'Enter' && (byId('tree').focus(), true),
+});
+
+let asked = 0;
+
+/** Shows a row's line as a tree. */
+async function showRow(row) {
+  const number = ++asked, [object] = await store.objects([row]);
+  // (another one was asked for meanwhile)
+  if (number !== asked)
+    return;
+  const [kind, its] = ['packet', 'record', 'line', 'file'].map(it => [it, object[it]]).find(([, it]) => it !== undefined);
+  fields.show(object, `${kind[0].toUpperCase()}${kind.slice(1)} ${shown(its, 60)}`);
+}
+
+// ---- the filter
+
+function passMore() {
+  for (; seen < store.count; seen++) {
+    if (test(seen))
+      passed.push(seen);
+  }
+  byId('list').setAttribute('aria-rowcount', passed.length);
+}
+
+function applyFilter() {
+  const row = passed[list.current];
+  filter = filterOf(byId('filter').value);
+  test = filter.test(store);
+  [passed, seen] = [[], 0];
+  passMore();
+  list.setCurrent(-1);
+  list.show(passed.length);
+  const at = passed.indexOf(row);
+  if (at >= 0)
+    list.setCurrent(at);
+  else if (passed.length)
+    list.choose(0);
+  showFound();
+  document.body.dataset.filter = byId('filter').value;
+}
+
+function filterBy(text) {
+  byId('filter').value = text;
+  select('packets');
+  applyFilter();
+}
+
+/** What was found, each with the filter that shows it alone. */
+const COUNTS = [
+  ['refused', ['refused', 'refused'], ({ kinds }) => kinds[1]],
+  ['cut', ['cut off', 'cut off'], ({ kinds }) => kinds[2]],
+  ['wrong', ['wrong checksum', 'wrong checksums'], ({ flags }) => flags.wrong],
+  ['repeated', ['sent again', 'sent again'], ({ flags }) => flags.repeated],
+  ['late', ['filled a gap', 'filled a gap'], ({ flags }) => flags.late],
+  ['gaps', ['SACK with gaps', 'SACKs with gaps'], ({ flags }) => flags.gaps],
+  ['warned', ['with a warning', 'with warnings'], ({ flags }) => flags.warned],
+  ['skipped', ['skipped', 'skipped'], ({ kinds }) => kinds[3]],
+].map(([word, texts, count]) => {
+  const button = element('button');
+  button.addEventListener('click', () => filterBy(byId('filter').value === word ? '' : word));
+  byId('counts').append(button);
+  return { button, texts, count };
+});
+
+/** Says how much the filter passes, or which of its words are none; and what was found. */
+function showFound() {
+  const isFiltered = byId('filter').value.trim() !== '', strange = strangeWords(store, filter, passed.length);
+  const found = isFiltered ? `${passed.length.toLocaleString('en')} of ${counted(store.count, 'row')}` : '';
+  byId('found').textContent = strange.length ? `not known: ${shown(strange.join(' '), 60)}` : found;
+  for (const id of ['filter', 'found'])
+    byId(id).classList.toggle('bad', strange.length > 0);
+  for (const { button, texts, count } of COUNTS) {
+    button.hidden = !count(store);
+    button.textContent = counted(count(store), ...texts);
+  }
+}
+
+let typed;
+byId('filter').addEventListener('input', () => {
+  clearTimeout(typed);
+  typed = setTimeout(applyFilter, store.count > 50000 ? 250 : 40);
+});
+byId('filter').addEventListener('keydown', event => {
+  if (event.key === 'Enter' || event.key === 'ArrowDown') {
+    event.preventDefault();
+    clearTimeout(typed);
+    applyFilter();
+    byId('list').focus();
+  }
+});
+byId('clock').addEventListener('change', () => list.redraw());
+byId('syntax').append(...SYNTAX.flatMap(([word, meaning]) => {
+  const button = element('button', '', word);
+  button.addEventListener('click', () => filterBy(`${byId('filter').value} ${word}`.trim()));
+  return [element('dt', '', button), element('dd', '', meaning)];
+}));
+byId('syntax-button').addEventListener('click', () => {
+  byId('syntax').hidden = !byId('syntax').hidden;
+  byId('syntax-button').setAttribute('aria-expanded', !byId('syntax').hidden);
+});
+
+// ---- associations and the diagram
+
+const associations = new Associations({ select: showAssociation, open: drawAssociation });
+const diagram = new Diagram({
+  select(row) {
+    showRow(row);
+    const at = passed.indexOf(row);
+    if (at >= 0)
+      list.setCurrent(at, false);
+  },
+});
+
+function showAssociations() {
+  associations.show(store.associations);
+  diagram.list(store);
+}
+
+function showAssociation(it) {
+  asked++;
+  fields.show(it, `Association ${it.association}`);
+}
+
+function drawAssociation(it) {
+  select('diagram', false);
+  diagram.show(store, it);
+}
+
+byId('show-packets').addEventListener('click', () => {
+  if (associations.chosen)
+    filterBy(`association:${associations.chosen.association}`);
+});
+byId('show-diagram').addEventListener('click', () => associations.chosen && drawAssociation(associations.chosen));
+
+// ---- views
+
+const VIEWS = ['packets', 'associations', 'diagram'];
+
+/** Shows a view; the diagram is that of the current packet, unless another is shown next. */
+function select(view, isOfPacket = true) {
+  for (const it of VIEWS) {
+    byId(it).hidden = it !== view;
+    byId(`tab-${it}`).setAttribute('aria-selected', it === view);
+    byId(`tab-${it}`).tabIndex = it === view ? 0 : -1;
+  }
+  if (view === 'associations') {
+    if (associations.chosen)
+      showAssociation(associations.chosen);
+  } else if (list.current >= 0 && isOfPacket) {
+    showRow(passed[list.current]);
+    if (view === 'packets')
+      list.reveal(list.current);
+    else
+      diagram.showWith(passed[list.current]);
+  }
+}
+
+for (const view of VIEWS) {
+  byId(`tab-${view}`).addEventListener('click', () => select(view));
+  byId(`tab-${view}`).addEventListener('keydown', event => {
+    const step = { ArrowRight: 1, ArrowLeft: -1 }[event.key];
+    if (step) {
+      const to = VIEWS[(VIEWS.indexOf(view) + step + VIEWS.length) % VIEWS.length];
+      select(to);
+      byId(`tab-${to}`).focus();
+    }
+  });
+}
+
+document.addEventListener('keydown', event => {
+  if (byId('work').hidden)
+    return;
+  if (event.key === '/' && !event.target.matches('input, textarea, select')) {
+    event.preventDefault();
+    select('packets');
+    byId('filter').focus();
+    byId('filter').select();
+  } else if (event.key === 'Escape') {
+    if (!byId('syntax').hidden)
+      byId('syntax-button').click();
+    else if (document.activeElement === byId('filter') && byId('filter').value)
+      filterBy('');
+    else
+      select('packets');
+    byId('list').focus();
+  }
+});
+
+// ---- what is opened
+
+byId('file').addEventListener('change', () => {
+  const files = [...byId('file').files];
+  // (so that the same one can be chosen again)
+  byId('file').value = '';
+  if (files.length)
+    open(files);
+});
+byId('read').addEventListener('click', () => openData([], byId('text').value, 'typed text'));
+byId('example').addEventListener('click', () => open([new File([decoded('sample')], 'example.pcap')]));
+byId('stop').addEventListener('click', () => end(''));
+byId('again').addEventListener('click', () => offer(byId('start').hidden));
+
+/** Opens files, or else a text. */
+function openData(files, text, name) {
+  if (files.length)
+    open([...files]);
+  else if (text.trim())
+    open([new File([text], name)]);
+}
+
+document.addEventListener('paste', event => {
+  if (!event.target.matches('input, textarea'))
+    openData(event.clipboardData.files, event.clipboardData.getData('text'), 'pasted text');
+});
+document.addEventListener('dragover', event => {
+  event.preventDefault();
+  document.body.classList.add('over-drop');
+});
+document.addEventListener('dragleave', event => {
+  if (!event.relatedTarget)
+    document.body.classList.remove('over-drop');
+});
+document.addEventListener('drop', event => {
+  event.preventDefault();
+  document.body.classList.remove('over-drop');
+  openData(event.dataTransfer.files, event.dataTransfer.getData('text'), 'dropped text');
+});

@@ -1,0 +1,128 @@
+// What was read: a row of numbers for each line, and the lines themselves in Blobs, which the browser may keep on disk.
+import { COLUMNS, FLAGS, isAssociation, isSummary, KINDS, OF_DAY, pairsOf, senderIn } from './keys.mjs';
+
+export class Store {
+  count = 0;
+  columns = Object.fromEntries(Object.entries(COLUMNS).map(([name, type]) => [name, new type(1024)]));
+  flows = [];
+  summaries = [];
+  notes = [];
+  batches = [];
+  associations = [];
+  /** Counts of rows by kind, and of packets by flag. */
+  kinds = KINDS.map(() => 0);
+  flags = Object.fromEntries(Object.keys(FLAGS).map(it => [it, 0]));
+  summary;
+  read = 0;
+
+  /** Adds what the Worker handed back. */
+  add({ lines, columns, objects, read, flows, summaries, notes }) {
+    const more = columns.kind.length;
+    for (const [name, column] of Object.entries(this.columns)) {
+      if (column.length < this.count + more) {
+        this.columns[name] = new COLUMNS[name](2 * (this.count + more));
+        this.columns[name].set(column.subarray(0, this.count));
+      }
+      this.columns[name].set(columns[name], this.count);
+    }
+    this.count += more;
+    this.read = read;
+    this.batches.push(lines);
+    flows.forEach(it => this.flows.push(it));
+    summaries.forEach(it => this.summaries.push(it));
+    notes.forEach(it => this.notes.push(it));
+    for (const it of objects) {
+      if (isAssociation(it))
+        this.associations.push(it);
+      else if (isSummary(it))
+        this.summary = it;
+    }
+    columns.kind.forEach(it => this.kinds[it]++);
+    for (const [name, bit] of Object.entries(FLAGS))
+      this.flags[name] += columns.flags.reduce((sum, it) => sum + (it & bit ? 1 : 0), 0);
+  }
+
+  at(row) {
+    const it = { row };
+    for (const name in this.columns)
+      it[name] = this.columns[name][row];
+    return it;
+  }
+
+  /** The TSNs of a row's DATA. */
+  tsns(row) {
+    const first = this.columns.tsn[row];
+    return this.summaries[this.columns.summary[row]].tsns.map(it => (first + it) >>> 0);
+  }
+
+  has(row, flag) {
+    return (this.columns.flags[row] & FLAGS[flag]) !== 0;
+  }
+
+  /** The objects of these rows, read from their lines. */
+  async objects(rows) {
+    const { batch, offset, size } = this.columns;
+    return Promise.all(rows.map(async row => {
+      const lines = this.batches[batch[row]].slice(offset[row], offset[row] + size[row]);
+      return JSON.parse(await lines.text());
+    }));
+  }
+
+  /** The program is at its end. If it was stopped, there are pairs of ends in the place of associations. */
+  finish() {
+    if (!this.associations.length)
+      this.associations = pairsOf(this.flows);
+  }
+
+  /** The rows of an association's packets. */
+  rowsOf(association) {
+    const senders = this.senders(association), { flow, kind } = this.columns, rows = [];
+    for (let row = 0; row < this.count; row++) {
+      if (kind[row] < 3 && senders[flow[row]] !== undefined)
+        rows.push(row);
+    }
+    return { rows, senders };
+  }
+
+  /** The association that a packet's row belongs to. */
+  associationOf(row) {
+    const flow = this.flows[this.columns.flow[row]];
+    return this.columns.kind[row] < 3 ? this.associations.find(it => senderIn(it, flow) !== undefined) : undefined;
+  }
+
+  /** For each flow which end of the association sends in it, if any does. */
+  senders(association) {
+    return this.flows.map(flow => flow.source === undefined ? undefined : senderIn(association, flow));
+  }
+
+  /** Nanoseconds from one row's time to another's, or undefined. */
+  between(first, row) {
+    const { seconds, nanos, digits } = this.columns;
+    if (digits[first] && digits[row])
+      return (seconds[row] - seconds[first]) * 1e9 + nanos[row] - nanos[first];
+  }
+
+  /** A row's time as text: since the first one, or as it is, by UTC. */
+  time(row, isSince) {
+    const { seconds, nanos, digits } = this.columns;
+    if (!digits[row])
+      return '';
+    const decimals = (digits[row] & ~OF_DAY) - 1;
+    const fraction = it => decimals ? `.${String(it).padStart(9, '0').slice(0, decimals)}` : '';
+    if (isSince) {
+      this.first ??= digits.findIndex(it => it);
+      let whole = seconds[row] - seconds[this.first], part = nanos[row] - nanos[this.first];
+      const sign = whole < 0 || whole === 0 && part < 0 ? '-' : '';
+      if (sign)
+        [whole, part] = [-whole, -part];
+      if (part < 0)
+        [whole, part] = [whole - 1, part + 1e9];
+      return `${sign}${whole}${fraction(part)}`;
+    }
+    const two = it => String(Math.floor(it)).padStart(2, '0');
+    const second = seconds[row], ofDay = second % 86400;
+    const clock = `${two(ofDay / 3600)}:${two(ofDay / 60 % 60)}:${two(ofDay % 60)}${fraction(nanos[row])}`;
+    const date = new Date(second * 1000);
+    return digits[row] & OF_DAY || Number.isNaN(date.getTime()) ? clock : `${date.toISOString().slice(0, 10)} ${clock}`;
+  }
+}

@@ -1,0 +1,36 @@
+// Elements and texts. Whatever a capture holds becomes text alone: nothing here reads HTML.
+
+/** An element with classes, and texts or elements in it. */
+export function element(tag, classes = '', ...parts) {
+  const it = document.createElement(tag);
+  if (classes)
+    it.className = classes;
+  it.append(...parts.filter(part => part !== undefined && part !== ''));
+  return it;
+}
+
+export const byId = id => document.getElementById(id);
+
+// Control characters, and those that change the direction of a text or aren't seen.
+const UNSEEN = /[\p{Cc}\p{Cf}\p{Cs}\p{Zl}\p{Zp}]/gu;
+
+/** A text of a capture as it is shown: its unseen characters by their numbers, and of a long one the beginning. */
+export function shown(text, most = 300) {
+  const whole = String(text), cut = whole.slice(0, most);
+  const seen = cut.replace(UNSEEN, it => `\\u${it.codePointAt(0).toString(16).padStart(4, '0')}`);
+  return cut.length < whole.length ? `${seen} … (${whole.length.toLocaleString('en')} characters)` : seen;
+}
+
+export const hex = (number, digits) => `0x${number.toString(16).padStart(digits, '0')}`;
+
+/** `one` of something, or some `many`. */
+export const counted = (count, one, many = `${one}s`) => `${count.toLocaleString('en')} ${count === 1 ? one : many}`;
+
+/** A file for whoever asked for it. */
+export function save(name, type, text) {
+  const link = element('a');
+  link.href = URL.createObjectURL(new Blob([text], { type }));
+  link.download = name;
+  link.click();
+  setTimeout(() => URL.revokeObjectURL(link.href), 10000);
+}

@@ -1,0 +1,143 @@
+// The Worker: runs the program over the inputs, and hands back what it prints, in batches: a Blob of whole lines, and a row
+// for each. A Worker that is stopped loses nothing that it handed back.
+import { COLUMNS, Rows } from './keys.mjs';
+import { run } from './program.mjs';
+
+/** So many bytes of lines are a batch; the first one is smaller, and so is one that is waited for. */
+const BATCH = 2 << 20;
+
+const decoder = new TextDecoder();
+
+/** Reads a file piece by piece. */
+class FileInput {
+  constructor(file) {
+    this.file = file;
+    this.at = 0;
+    this.reader = new FileReaderSync();
+  }
+
+  read(size) {
+    const bytes = new Uint8Array(this.reader.readAsArrayBuffer(this.file.slice(this.at, this.at + size)));
+    this.at += bytes.length;
+    return bytes;
+  }
+}
+
+/** Collects what the program prints. */
+class Output {
+  rows = new Rows();
+  batch = 0;
+  read = 0;
+  last = performance.now();
+
+  constructor() {
+    this.bytes = new Uint8Array(BATCH);
+    this.size = 0;
+    this.clear();
+  }
+
+  clear() {
+    this.columns = Object.fromEntries(Object.keys(COLUMNS).map(name => [name, []]));
+    this.objects = [];
+    this.done = 0;
+  }
+
+  write(bytes) {
+    if (this.size + bytes.length > this.bytes.length) {
+      const room = new Uint8Array(2 * (this.size + bytes.length));
+      room.set(this.bytes.subarray(0, this.size));
+      this.bytes = room;
+    }
+    this.bytes.set(bytes, this.size);
+    const from = this.size;
+    this.size += bytes.length;
+    this.takeLines(from);
+    if (this.done > BATCH / 2 || performance.now() - this.last > 200)
+      this.post();
+  }
+
+  takeLines(from) {
+    const bytes = this.bytes.subarray(0, this.size);
+    for (let end = bytes.indexOf(10, from); end >= 0; end = bytes.indexOf(10, this.done)) {
+      this.takeLine(this.done, end);
+      this.done = end + 1;
+    }
+  }
+
+  takeLine(from, end) {
+    let object;
+    try {
+      object = JSON.parse(decoder.decode(this.bytes.subarray(from, end)));
+    } catch {
+      return;
+    }
+    const row = this.rows.row(object);
+    if (!row) {
+      if (object)
+        this.objects.push(object);
+      return;
+    }
+    Object.assign(row, { batch: this.batch, offset: from, size: end - from });
+    for (const name in this.columns)
+      this.columns[name].push(row[name] ?? 0);
+  }
+
+  /** Hands back the whole lines; what follows them is kept. */
+  post() {
+    this.last = performance.now();
+    const columns = Object.fromEntries(Object.entries(COLUMNS).map(([name, type]) => [name, type.from(this.columns[name])]));
+    const { flows, summaries, notes } = this.rows;
+    postMessage({
+      lines: new Blob([this.bytes.slice(0, this.done)]), columns, objects: this.objects, read: this.read,
+      flows: flows.take(), summaries: summaries.take(), notes: notes.take(),
+    }, Object.values(columns).map(it => it.buffer));
+    this.bytes.copyWithin(0, this.done, this.size);
+    this.size -= this.done;
+    this.batch++;
+    this.clear();
+  }
+}
+
+/** The inputs by their names, which are the program's last arguments. */
+function inputsOf(files, output) {
+  const counted = input => ({
+    read(size) {
+      const bytes = input.read(size);
+      output.read += bytes.length;
+      return bytes;
+    },
+  });
+  return new Map(files.map(([name, file]) => [name, counted(new FileInput(file))]));
+}
+
+/** Whether a file has lines that sctp_dump printed elsewhere. */
+function hasLines(file) {
+  return new FileInput(file).read(1)[0] === 0x7b;
+}
+
+onmessage = ({ data: { program, words, files } }) => {
+  const output = new Output(), inputs = inputsOf(files, output);
+  let errors = '';
+  try {
+    if (files.length === 1 && hasLines(files[0][1])) {
+      const [input] = inputs.values();
+      for (let bytes = input.read(BATCH); bytes.length; bytes = input.read(BATCH))
+        output.write(bytes);
+      // (the last line may not end)
+      output.write(Uint8Array.of(10));
+    } else {
+      run(program, {
+        words: [...words, ...inputs.keys()],
+        open: name => inputs.get(name),
+        print: bytes => output.write(bytes),
+        report(bytes) {
+          errors += decoder.decode(bytes);
+        },
+      });
+    }
+  } catch (error) {
+    errors += String(error);
+  }
+  output.post();
+  postMessage({ errors });
+};
