@@ -97,10 +97,13 @@ fn write_json(
         places,
     };
     let text = json.to_string(alloc)?;
-    let mut before = "";
+    let mut is_first = true;
     for member in text.split(",\"") {
-        write!(out, "{before}{member}")?;
-        before = ", \"";
+        if !is_first {
+            out.push_str(", \"")?;
+        }
+        out.push_str(member)?;
+        is_first = false;
     }
     Ok(())
 }
