@@ -1,4 +1,6 @@
--- The ends of an association.
+-- The ends of an association, and one that left the table.
+use Rattle.std.specs.Prelude.{◌≡◌, true, Box, Option, Some, None}
+use Rattle.std.specs.declared.alloc.Global.{Global}
 use Rattle.sctp_association.specs.declared.association.Side.{Side}
 use Rattle.sctp_association.specs.declared.association.Side.TheVariants.{First, Second}
 use Rattle.sctp_association.specs.declared.association.Association.{Association}
@@ -12,3 +14,8 @@ other Second = First
 abbrev pub counts_of : Side → Association → Counts
 counts_of First a = a.first.counts
 counts_of Second a = a.second.counts
+
+-- what is returned, if something is, says that it left the table
+abbrev pub HasLeft : Option (Box Association Global) → Type 0
+HasLeft (Some a) = a.value.has_left ≡ true
+HasLeft None = Unit {0}

@@ -1,6 +1,7 @@
 //! The table of associations.
 
-ghost use Rattle.std.specs.Prelude.{◌≤◌, vec_len};
+ghost use Rattle.std.specs.Prelude.{◌≤◌, vec_len, IfOk};
+ghost use Rattle.std.specs.List.Sorted.{IsNonDecreasingBy};
 
 use crate::association::{Association, Began, Side};
 use crate::chunk_type::{ABORT, INIT, INIT_ACK, SHUTDOWN_COMPLETE};
@@ -118,6 +119,8 @@ pub struct Associations {
 }
 
 impl Associations {
+    ghost use Rattle.sctp_association.specs.Sides.{HasLeft};
+
     /// Returns none.
     pub fn new(alloc: Global) -> Result<Associations, AllocError> {
         Ok(Associations {
@@ -132,7 +135,9 @@ impl Associations {
 
     /// Counts a packet. Returns the association that left the table, if it was full and the packet
     /// begins another.
-    pub fn see(&mut self, packet: &SeenPacket<'_>) -> Result<Option<Box<Association>>, AllocError> {
+    pub fn see(&mut self, packet: &SeenPacket<'_>) -> Result<Option<Box<Association>>, AllocError>
+        ensures { IfOk result HasLeft }
+    {
         let Some(arrival) = arrival_of(packet) else {
             return Ok(None);
         };
@@ -156,7 +161,8 @@ impl Associations {
 
     /// Returns those that didn't leave the table, in the order in which they began.
     pub fn into_vec(self) -> Vec<Box<Association>>
-        ensures { vec_len result ≤ MOST_ASSOCIATIONS }
+        ensures bounded { vec_len result ≤ MOST_ASSOCIATIONS }
+        ensures ordered { IsNonDecreasingBy (λ a. a.value.number) result.items }
     {
         let mut associations = self.table;
         associations.sort_unstable_by_key(|association| association.number);
@@ -299,7 +305,9 @@ impl Associations {
     }
 
     /// Begins an association by a packet. Returns the one that left the table, if it was full.
-    fn begin(&mut self, arrival: &Arrival<'_, '_>) -> Result<Option<Box<Association>>, AllocError> {
+    fn begin(&mut self, arrival: &Arrival<'_, '_>) -> Result<Option<Box<Association>>, AllocError>
+        ensures { IfOk result HasLeft }
+    {
         let (route, packet) = (arrival.route, arrival.packet);
         let restart_of = self.restarted(arrival);
         self.begun = self.begun.saturating_add(1);
@@ -349,7 +357,9 @@ impl Associations {
     fn place(
         &mut self,
         association: Box<Association>,
-    ) -> Result<(usize, Option<Box<Association>>), AllocError> {
+    ) -> Result<(usize, Option<Box<Association>>), AllocError>
+        ensures { IfOk result (λ placed. HasLeft placed.1) }
+    {
         if self.table.len() < MOST_ASSOCIATIONS {
             let slot = self.table.len();
             self.table.push(association)?;
@@ -360,7 +370,7 @@ impl Associations {
         self.forget(slot);
         self.order.touch(slot);
         let Some(place) = self.table.get_mut(slot) else {
-            return Ok((slot, Some(association)));
+            return Ok((slot, None));
         };
         let mut left = mem::replace(place, association);
         left.has_left = true;
