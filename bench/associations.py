@@ -68,6 +68,7 @@ class End:
         self.seen, self.first, self.last, self.repeated, self.first_repeated = set(), None, None, 0, None
         self.sacks = self.gaps = 0
         self.window = self.cumulative = None
+        self.closed = []
         self.sent, self.pending = 0, []
         self.waiting, self.trips = {}, []
 
@@ -78,6 +79,7 @@ class End:
         if tsn in self.seen:
             self.repeated += 1
             self.first_repeated = self.first_repeated or packet
+            self.first_repeated_tsn = tsn % 2 ** 32 if self.repeated == 1 else self.first_repeated_tsn
             self.waiting.pop(tsn % 2 ** 32, None)
             return
         self.seen.add(tsn)
@@ -96,7 +98,7 @@ class End:
             if offset == 0 or offset >= 2 ** 31 or any(first <= offset <= last for first, last in blocks):
                 sent = self.waiting.pop(tsn)
                 if sent <= time:
-                    self.trips.append((time - sent, packet))
+                    self.trips.append((time - sent, packet, tsn))
 
 
 class Association:
@@ -181,6 +183,8 @@ class Model:
             elif kind == SACK:
                 sender.sacks += 1
                 sender.gaps += bool(value[2])
+                if value[1] == 0:
+                    sender.closed.append(packet['number'])
                 if sender.window is None or value[1] < sender.window[0]:
                     sender.window = value[1], packet['number']
                 receiver.note_acknowledged(value[0], packet['number'])
@@ -283,19 +287,22 @@ def expected(model, digits):
                 if end.cumulative:
                     one.update(acknowledged=end.cumulative[0], acknowledged_packet=end.cumulative[1])
                 if end.repeated:
-                    one['first_repeated'] = end.first_repeated
+                    one.update(first_repeated=end.first_repeated, first_repeated_tsn=end.first_repeated_tsn)
             one.update(sacks=end.sacks, sacks_with_gaps=end.gaps)
             if end.window:
                 one.update(least_a_rwnd=end.window[0], least_a_rwnd_packet=end.window[1])
+            if end.closed:
+                one.update(closed_first=end.closed[0], closed_last=end.closed[-1])
             one.update(heartbeats=end.sent, heartbeats_unanswered=len(end.pending))
             if end.pending:
                 one['last_unanswered'] = max(packet for _, packet in end.pending)
             if end.trips:
-                times = sorted(time for time, _ in end.trips)
-                greatest = next(packet for time, packet in end.trips if time == times[-1])
+                times = sorted(time for time, _, _ in end.trips)
+                greatest = next(packet for time, packet, _ in end.trips if time == times[-1])
                 one['round_trip'] = {'count': len(times), 'least': seconds(times[0], digits),
                                      'median': times[(len(times) - 1) // 2], 'greatest': seconds(times[-1], digits),
-                                     'greatest_packet': greatest}
+                                     'greatest_packet': greatest,
+                                     'greatest_tsn': {tsn for time, packet, tsn in end.trips if packet == greatest and time == times[-1]}}
             ends.append(one)
         line = {'association': association.number, 'ends': ends,
                 'began': {'packet': association.packet, 'time': seconds(association.time, digits)}}
@@ -326,6 +333,8 @@ def differences(path, want, got, checks_refused):
                     exact, printed = a[key], nanoseconds(b[key])
                     if abs(exact - printed) > max(exact / 16, 512) + 1000:
                         found.append('%s.median: %d, %d' % (place, exact, printed))
+                elif key == 'greatest_tsn' and b.get(key) in a.get(key, ()):
+                    pass
                 elif key not in ('reason', 'cause_name') and (key != 'refused' or checks_refused):
                     compare('%s.%s' % (place, key), a.get(key), b.get(key))
         elif isinstance(a, list) and isinstance(b, list) and len(a) == len(b):

@@ -16,7 +16,7 @@ use dcsctp_wire::packet::sctp_packet::{CommonHeader, FirstFault, SctpPacket};
 use sctp_association::{
     Association, AssociationJson, AssociationReport, Associations, Checksum, SeenPacket,
 };
-use sctp_capture::event::{Part, Seen, Sink, Skipped};
+use sctp_capture::event::{Part, Seen, Sink, Skipped, Time};
 use sctp_capture::frame::{FoundPacket, NoPacket, packet_in};
 use sctp_filter::rule::Rule;
 use sctp_report::{JsonText, PacketBrief, PacketJson, PacketReport};
@@ -44,6 +44,8 @@ pub struct EventPrinter<W> {
     // Those of the packets so far, where associations or rules are asked for.
     associations: Option<Associations>,
     clock: Clock,
+    /// A log's times of day were seen: those of associations are printed so.
+    is_log: bool,
     /// A line of no known form was said; further ones are counted alone.
     said_unknown: bool,
     /// So was a line of a dump that continues none.
@@ -66,6 +68,7 @@ impl<W: Write> EventPrinter<W> {
             warnings: [0; RULES],
             associations: None,
             clock: Clock::new(options.time),
+            is_log: false,
             said_unknown: false,
             said_apart: false,
             output: Output::new(alloc, writer),
@@ -118,7 +121,12 @@ impl<W: Write> EventPrinter<W> {
     {
         match self.associations.take() {
             Some(associations) => {
-                push_associations(&self.options, associations, &mut self.output.text)
+                push_associations(
+                    &self.options,
+                    self.is_log,
+                    associations,
+                    &mut self.output.text,
+                )
             }
             None => Ok(()),
         }
@@ -162,6 +170,7 @@ impl<W: Write> EventPrinter<W> {
         ensures failure { self.new.failure ≡ self.old.failure }
     {
         let nanoseconds = nanoseconds_of(&seen.time);
+        self.is_log |= matches!(seen.time, Time::OfDay { .. });
         let passes = self.options.filter.passes(seen.number, found, word);
         self.track(SeenPacket {
             number: seen.number,
@@ -214,7 +223,12 @@ impl<W: Write> EventPrinter<W> {
         };
         match left {
             Some(association) => {
-                push_association(&self.options, &association, &mut self.output.text)
+                push_association(
+                    &self.options,
+                    self.is_log,
+                    &association,
+                    &mut self.output.text,
+                )
             }
             None => Ok(()),
         }
@@ -437,11 +451,12 @@ fn push_packet(
 /// Adds the associations, in the order in which they began.
 fn push_associations(
     options: &Options,
+    is_log: bool,
     associations: Associations,
     text: &mut String,
 ) -> Result<(), AllocError> {
     for association in associations.into_vec() {
-        push_association(options, &association, text)?;
+        push_association(options, is_log, &association, text)?;
     }
     Ok(())
 }
@@ -449,13 +464,14 @@ fn push_associations(
 /// Adds an association, if they are asked for, and a packet of it passed.
 fn push_association(
     options: &Options,
+    is_log: bool,
     association: &Association,
     text: &mut String,
 ) -> Result<(), AllocError> {
     if !options.associations || !association.passes {
         return Ok(());
     }
-    let (form, digits) = (options.time_form(), 6);
+    let (form, digits) = (options.time_form(is_log), 6);
     if options.output == OutputForm::Json {
         let object = AssociationJson {
             association,

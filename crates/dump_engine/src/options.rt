@@ -106,9 +106,10 @@ impl Options {
         }
     }
 
-    /// Returns the form of an association's times.
-    pub fn time_form(&self) -> TimeForm {
+    /// Returns the form of an association's times, in a log or in a file.
+    pub fn time_form(&self, is_log: bool) -> TimeForm {
         match self.time {
+            _ if is_log => TimeForm::Utc,
             TimeOption::Iso => TimeForm::Iso,
             TimeOption::Utc => TimeForm::Utc,
             _ => TimeForm::Seconds,

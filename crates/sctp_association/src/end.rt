@@ -25,6 +25,15 @@ pub struct Acknowledged {
     pub packet: u64,
 }
 
+/// The packets in which an end had no room.
+#[derive(Clone, Copy, Debug, PartialEq, Eq)]
+pub struct Closed {
+    /// The number of the first SACK with an a_rwnd of 0,
+    pub first: u64,
+    /// and that of the last one.
+    pub last: u64,
+}
+
 /// One end of an association, and what it sent.
 #[derive(Clone, Debug, Drop)]
 pub struct End {
@@ -48,6 +57,8 @@ pub struct End {
     pub tsns: Tsns,
     /// What of them the other end acknowledged.
     pub acknowledged: Option<Acknowledged>,
+    /// When it had no room, if it ever said so.
+    pub closed: Option<Closed>,
     /// Its HEARTBEATs that weren't answered.
     pub heartbeats: Heartbeats,
     /// The round trips of its DATA.
@@ -81,6 +92,7 @@ impl End {
             counts: Counts::new(),
             tsns: Tsns::new(),
             acknowledged: None,
+            closed: None,
             heartbeats: Heartbeats::new(),
             round_trips: RoundTrips::new(),
         }
@@ -128,6 +140,7 @@ impl End {
         let value = chunk.value.bytes;
         match chunk.first {
             DATA | I_DATA if value.len() >= 4 => self.note_tsn(packet, read_u32_be(value)),
+            SACK if value.len() >= 8 => self.note_window(read_u32_be(&value[4..]), packet.number),
             HEARTBEAT => self.heartbeats.note(value, packet.number),
             INIT | INIT_ACK => self.accepts_zero = accepts_zero(chunk.value).or(self.accepts_zero),
             _ => {}
@@ -150,6 +163,23 @@ impl End {
             (HEARTBEAT_ACK, _) => self.heartbeats.answer(value),
             _ => {}
         }
+    }
+
+    /// Notes the window of a SACK that this end sent (RFC 9260 section 3.3.4).
+    fn note_window(&mut self, a_rwnd: u32, packet: u64)
+        ensures { self.new.counts ≡ self.old.counts }
+    {
+        if a_rwnd > 0 {
+            return;
+        }
+        let first = match self.closed {
+            Some(closed) => closed.first,
+            None => packet,
+        };
+        self.closed = Some(Closed {
+            first,
+            last: packet,
+        });
     }
 
     /// Notes a Cumulative TSN Ack, if it is beyond the one before (RFC 9260 section 1.6).

@@ -111,8 +111,8 @@ impl<'a> AssociationJson<'a> {
         self.write_seconds("least", trips.least, f)?;
         self.write_seconds("median", trips.median(), f)?;
         self.write_seconds("greatest", trips.greatest, f)?;
-        let packet = trips.greatest_packet;
-        write!(f, ",\"greatest_packet\":{packet}}}")
+        let (tsn, packet) = (trips.greatest_tsn, trips.greatest_packet);
+        write!(f, ",\"greatest_tsn\":{tsn},\"greatest_packet\":{packet}}}")
     }
 
     /// Writes a time, if it is known.
@@ -204,7 +204,11 @@ fn write_tsns<W: fmt::Write>(end: &End, f: &mut fmt::Formatter<W>) -> fmt::Resul
     write!(f, ",\"repeated\":{repeated}")?;
     if repeated > 0 {
         let packet = end.tsns.first_repeated;
-        write!(f, ",\"first_repeated\":{packet}")?;
+        let tsn = end.tsns.first_repeated_tsn;
+        write!(
+            f,
+            ",\"first_repeated\":{packet},\"first_repeated_tsn\":{tsn}"
+        )?;
     }
     write!(f, ",\"missing\":{missing}")
 }
@@ -220,7 +224,14 @@ fn write_sacks<W: fmt::Write>(end: &End, f: &mut fmt::Formatter<W>) -> fmt::Resu
     write!(
         f,
         ",\"least_a_rwnd\":{a_rwnd},\"least_a_rwnd_packet\":{packet}"
-    )
+    )?;
+    match end.closed {
+        Some(closed) => {
+            let (first, last) = (closed.first, closed.last);
+            write!(f, ",\"closed_first\":{first},\"closed_last\":{last}")
+        }
+        None => Ok(()),
+    }
 }
 
 /// Writes the HEARTBEATs of an end.

@@ -22,7 +22,7 @@ mod tsns;
 pub use crate::association::{Association, Began, Ended, Side};
 pub use crate::associations::Associations;
 pub use crate::counts::{Checksum, Counts, LeastWindow, SeenPacket};
-pub use crate::end::{Acknowledged, End};
+pub use crate::end::{Acknowledged, Closed, End};
 pub use crate::heartbeats::Heartbeats;
 pub use crate::json::AssociationJson;
 pub use crate::report::AssociationReport;

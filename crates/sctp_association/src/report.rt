@@ -92,7 +92,7 @@ impl<'a> AssociationReport<'a> {
     fn write_sent<W: fmt::Write>(&self, end: &End, f: &mut fmt::Formatter<W>) -> fmt::Result {
         write_packets(&end.counts, f)?;
         write_data(end, f)?;
-        write_sacks(&end.counts, f)?;
+        write_sacks(end, f)?;
         write_heartbeats(end, f)?;
         self.write_round_trips(end, f)
     }
@@ -114,8 +114,8 @@ impl<'a> AssociationReport<'a> {
         self.write_seconds(trips.median(), f)?;
         f.write_str(", greatest ")?;
         self.write_seconds(trips.greatest, f)?;
-        let packet = trips.greatest_packet;
-        writeln!(f, " (packet {packet})")
+        let (tsn, packet) = (trips.greatest_tsn, trips.greatest_packet);
+        writeln!(f, " (tsn {tsn}, packet {packet})")
     }
 
     /// Writes a time after a comma, if it is known.
@@ -204,8 +204,8 @@ fn write_data<W: fmt::Write>(end: &End, f: &mut fmt::Formatter<W>) -> fmt::Resul
         }
         write!(f, ", repeated {repeated}")?;
         if repeated > 0 {
-            let packet = end.tsns.first_repeated;
-            write!(f, " (first packet {packet})")?;
+            let (tsn, packet) = (end.tsns.first_repeated_tsn, end.tsns.first_repeated);
+            write!(f, " (first tsn {tsn}, packet {packet})")?;
         }
         write!(f, ", never seen {missing}")?;
     }
@@ -213,10 +213,14 @@ fn write_data<W: fmt::Write>(end: &End, f: &mut fmt::Formatter<W>) -> fmt::Resul
 }
 
 /// Writes the line of SACKs.
-fn write_sacks<W: fmt::Write>(counts: &Counts, f: &mut fmt::Formatter<W>) -> fmt::Result {
-    let (sacks, with_gaps) = (counts.sacks, counts.sacks_with_gaps);
+fn write_sacks<W: fmt::Write>(end: &End, f: &mut fmt::Formatter<W>) -> fmt::Result {
+    let (sacks, with_gaps) = (end.counts.sacks, end.counts.sacks_with_gaps);
     write!(f, "  SACK {sacks}, with gaps {with_gaps}")?;
-    if let Some(window) = counts.least_window {
+    if let Some(closed) = end.closed {
+        let (first, last) = (closed.first, closed.last);
+        return writeln!(f, ", a_rwnd 0 from packet {first} to {last}");
+    }
+    if let Some(window) = end.counts.least_window {
         let (a_rwnd, packet) = (window.a_rwnd, window.packet);
         write!(f, ", least a_rwnd {a_rwnd} (packet {packet})")?;
     }

@@ -29,6 +29,8 @@ pub struct RoundTrips {
     pub least: u64,
     /// the greatest one,
     pub greatest: u64,
+    /// its TSN,
+    pub greatest_tsn: u32,
     /// and the number of the first packet that ended it.
     pub greatest_packet: u64,
     waiting: [Sent; MOST],
@@ -55,6 +57,7 @@ impl RoundTrips {
             count: 0,
             least: 0,
             greatest: 0,
+            greatest_tsn: 0,
             greatest_packet: 0,
             waiting: [none; MOST],
             buckets: [0; BUCKETS],
@@ -92,19 +95,20 @@ impl RoundTrips {
             if sent.is_waiting && is_acknowledged(value, sent.tsn) {
                 self.waiting[place].is_waiting = false;
                 if sent.nanoseconds <= nanoseconds {
-                    self.count(nanoseconds - sent.nanoseconds, packet);
+                    self.count(nanoseconds - sent.nanoseconds, sent.tsn, packet);
                 }
             }
         }
     }
 
-    /// Counts a round trip.
-    fn count(&mut self, nanoseconds: u64, packet: u64) {
+    /// Counts the round trip of a TSN.
+    fn count(&mut self, nanoseconds: u64, tsn: u32, packet: u64) {
         if self.count == 0 || nanoseconds < self.least {
             self.least = nanoseconds;
         }
         if self.count == 0 || nanoseconds > self.greatest {
             self.greatest = nanoseconds;
+            self.greatest_tsn = tsn;
             self.greatest_packet = packet;
         }
         increase(&mut self.count);

@@ -16,7 +16,9 @@ pub struct Tsns {
     span: Option<Span>,
     /// How many were seen again. One that comes more than 2,048 TSNs late counts as such.
     pub repeated: u64,
-    /// The number of the first packet in which one was, or 0.
+    /// The first of them,
+    pub first_repeated_tsn: u32,
+    /// and the number of its packet, or 0.
     pub first_repeated: u64,
     /// How many between the first and the last one were not seen.
     pub missing: u64,
@@ -37,6 +39,7 @@ impl Tsns {
         Tsns {
             span: None,
             repeated: 0,
+            first_repeated_tsn: 0,
             first_repeated: 0,
             missing: 0,
             seen: [0; WORDS],
@@ -93,6 +96,7 @@ impl Tsns {
             increase(&mut self.repeated);
             if self.first_repeated == 0 {
                 self.first_repeated = number;
+                self.first_repeated_tsn = tsn;
             }
             return false;
         }
