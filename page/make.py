@@ -78,9 +78,11 @@ def sum_of(text):
 def page(program, sample):
     """The page, with all that it needs."""
     style, script = read("page.css"), joined(PAGE)
+    version = re.search(r'#define DCSCTP_VERSION "(.*)"', make.read(f"{make.ROOT}/include/dcsctp.h").decode())[1]
     parts = {
         "style": style, "script": script, "worker": joined(WORKER), "program": base64.b64encode(program).decode(),
-        "sample": base64.b64encode(sample).decode(), "policy": POLICY.format(style=sum_of(style), script=sum_of(script)),
+        "sample": base64.b64encode(sample).decode(), "version": version,
+        "policy": POLICY.format(style=sum_of(style), script=sum_of(script)),
     }
     return re.sub(r"\{\{(\w+)\}\}", lambda it: parts[it[1]], read("page.html"))
 

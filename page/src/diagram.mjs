@@ -191,7 +191,7 @@ export class Diagram {
     const isScaled = byId('scale').value === 'time' && span > 0, height = rows.length * ROW;
     const places = rows.map((row, i) => isScaled ? (store.between(rows[0], row) ?? 0) / span * height : i * ROW);
     const bottom = TOP + Math.max(...places) + 30;
-    const svg = shape('svg', { xmlns: SVG, width, height: bottom, viewBox: `0 0 ${width} ${bottom}` });
+    const svg = shape('svg', { xmlns: SVG, role: 'presentation', width, height: bottom, viewBox: `0 0 ${width} ${bottom}` });
     svg.append(...x.map(it => line('life', it, TOP - 28, it, bottom)));
     if (isScaled)
       svg.append(...this.ticks(span, height, width));
@@ -276,7 +276,7 @@ export class Diagram {
       const style = getComputedStyle(it);
       STYLES.forEach(name => it.setAttribute(name, style.getPropertyValue(name)));
     }
-    for (const it of copy.querySelectorAll('*'))
+    for (const it of [copy, ...copy.querySelectorAll('*')])
       NOT_SAVED.forEach(name => it.removeAttribute(name));
     const { width, height } = copy.viewBox.baseVal;
     copy.prepend(shape('rect', { width, height, fill: '#ffffff' }));

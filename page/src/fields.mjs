@@ -250,9 +250,9 @@ export class Fields {
   }
 
   drawBytes(index) {
-    const from = index * this.width;
-    const row = element('div', 'bytes', element('span', 'offset', from.toString(16).padStart(4, '0')));
-    const texts = element('span', 'texts');
+    const from = index * this.width, offset = element('span', 'offset', from.toString(16).padStart(4, '0'));
+    const row = element('div', 'bytes', offset), texts = element('span', 'texts');
+    offset.setAttribute('role', 'rowheader');
     for (let at = from; at < from + this.width; at++) {
       const isThere = at < this.bytes.length, byte = this.bytes[at];
       if (!isThere && at !== this.fault) {

@@ -80,6 +80,8 @@ const all = (selector, what = 'it.textContent') =>
   `Array.from(document.querySelectorAll(${JSON.stringify(selector)}), it => ${what})`;
 /** The rows of the list that are in the document, in their order. */
 const ROWS = `${all('#list .row', 'it')}.sort((a, b) => a.dataset.index - b.dataset.index).map(it => it.textContent)`;
+/** Where they are, and their numbers. */
+const ROW_PLACES = all('#list .row', '({ ...it.getBoundingClientRect().toJSON(), number: Number(it.dataset.index) + 1 })');
 /** What would read a text as HTML, or run it. */
 const HTML_READERS = /(inner|outer|Adjacent|set)HTML|document\.write|Fragment|srcdoc|eval\(|Function\(/;
 const FITS = "[document.documentElement, document.getElementById('list')].every(it => it.scrollWidth <= innerWidth)";
@@ -131,6 +133,15 @@ async function inBrowser(browser) {
     await wait(100);
     const wanted = linesOf(DATA, ...Object.keys(DATA)).filter(it => isRow(it) || it.file !== undefined);
     assert.equal(await count(), wanted.length);
+    // An option, for the next one.
+    const refusedOf = (...words) => linesOf({ '-': DATA['faults.txt'] }, ...words).filter(it => it.fault).length;
+    assert.notEqual(refusedOf(), refusedOf('--strict'));
+    for (const words of [['--strict'], []]) {
+      await browser.click('#again');
+      await browser.click('#strict');
+      await show(join(folder, 'faults.txt'));
+      assert.equal(await browser.ask(by('#counts button')), `${refusedOf(...words)} refused`);
+    }
     // What is no capture is said.
     await show(file('archive.gz', bytes([1, 0x1f, 0x8b, 8, 0])));
     assert.match(await browser.ask(by('#status')), /gzip/);
@@ -390,10 +401,9 @@ async function inBrowser(browser) {
     assert.match((await browser.ask(all('#tree .value'))).join('\n'), /^<img src=x onerror="hacked=1">$/m);
     // Lines that sctp_dump didn't print.
     const values = [null, -1, 1e300, 'x', [], {}, [null], [[]], [{}], true, '<b>'];
-    const spoilt = lines(pcap(association(14))).flatMap(line => Array.from({ length: 40 }, (_, i) => {
-      let left = i * 3;
-      return JSON.stringify(line, (key, value) => key !== '' && left-- === 0 ? values[i % values.length] : value);
-    }));
+    const spoil = (line, at, value) => JSON.stringify(line, (key, its) => key !== '' && at-- === 0 ? value : its);
+    const spoilt = lines(pcap(association(14))).flatMap(line => Array.from({ length: line.association ? 660 : 40 }, (_, i) =>
+      line.association ? spoil(line, i % 60, values[Math.floor(i / 60)]) : spoil(line, i * 3, values[i % values.length])));
     await show(file('spoilt.json', [...spoilt, 'null', '5', '[]', '"x"', '{"packet":1,"chunks":[]}'].join('\n')));
     await browser.ask("document.getElementById('list').focus()");
     for (let i = 0; i < 150; i++)
@@ -435,6 +445,35 @@ async function inBrowser(browser) {
     await browser.press('End');
     await titled(`Packet ${records.length}`);
     assert.equal(await filter('chunk:data'), `18,700 of ${records.length.toLocaleString('en')} rows`);
+    quiet();
+  });
+
+  await check('more rows than a browser scrolls', async () => {
+    const most = 700_000, made = Array.from({ length: most }, (_, i) => `{"line":${i + 1},"skipped":"no packet"}\n`);
+    await show(file('long.json', made.join('')), 60);
+    assert.equal(await count(), most);
+    const inView = () => browser.ask(`(() => {
+      const box = document.getElementById('list').getBoundingClientRect();
+      const rows = ${ROW_PLACES}.filter(it => it.bottom > box.top && it.top < box.bottom).sort((a, b) => a.top - b.top);
+      const isFull = rows[0].top <= box.top + 1 && rows.at(-1).bottom >= box.bottom - 1;
+      return { isFull, numbers: rows.map(it => it.number) };
+    })()`);
+    const isRun = ({ isFull, numbers }) => isFull && numbers.every((it, i) => it === numbers[0] + i);
+    await browser.ask("document.getElementById('list').focus()");
+    for (const [key, number] of [['End', most], ['PageUp'], ['Home', 1], ['PageDown'], ['ArrowDown']]) {
+      await browser.press(key);
+      const seen = await inView();
+      assert.ok(isRun(seen) && (number === undefined || seen.numbers.includes(number)), `${key}: ${JSON.stringify(seen)}`);
+    }
+    for (const part of [0.1, 0.5, 0.9]) {
+      await browser.ask(`new Promise(resolve => {
+        const list = document.getElementById('list');
+        list.scrollTop = ${part} * list.scrollHeight;
+        requestAnimationFrame(() => requestAnimationFrame(resolve));
+      })`);
+      const seen = await inView();
+      assert.ok(isRun(seen) && Math.abs(seen.numbers[0] / most - part) < 0.01, JSON.stringify(seen));
+    }
     quiet();
   });
 
