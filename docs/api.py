@@ -302,12 +302,18 @@ def item_of(lines, at, found, owner, sentence):
     if found['kind'] in ('struct', 'enum'):
         traits = traits_of(lines, at, found['name'])
         page[0] += f' Has {", ".join(f"`{it}`" for it in traits)}.' if traits else ''
-        page += [entry(1, member, about) for member, about in members_of(lines, at)]
+        page += member_lines(members_of(lines, at))
     if found['kind'] == 'trait':
         owners = implementors_of(found['name'])
         page[0] += f' Implemented by {", ".join(f"`{it}`" for it in owners)}.' if owners else ''
         page += methods_of(lines, at)
     return Item(found['kind'], found['name'], owner, page, sentence, value)
+
+
+def member_lines(members):
+    """A line for each member; those that have no sentence share one."""
+    bare = ', '.join(f'`{member}`' for member, about in members if not about)
+    return [entry(1, member, about) for member, about in members if about] + ([f'  - {bare}'] if bare else [])
 
 
 def methods_of(lines, at):
@@ -372,6 +378,8 @@ def module_lines(name, about, items):
     """A module's heading, and its items: numbers of kinds in the first line, methods below their type."""
     numbers = [f'`{it.name}` is {it.value}.' for it in items if it.is_number_of_kind()]
     items = [it for it in items if not it.is_number_of_kind()]
+    if not numbers and sum(it.owner is None for it in items) == 1:
+        about = ''  # the only item says it
     lines = [f'### {name}'] + [' '.join(it for it in (about, *numbers) if it)] * bool(about or numbers)
     for item in items:
         if item.owner is None:

@@ -30,7 +30,7 @@ pub record IsAtEnd {T : Type 0} (level : Level T) (bytes left : List ℕ) : Type
   pub stays : left ≡ []
   pub means : (all : List T) → MeansTrees level bytes all → all ≡ []
 
--- The next parameter or error cause of the bytes, and those that are left; nothing exactly where
+-- The next parameter or error cause of the bytes, and those that are left; nothing if and only if
 -- there are none. The row is that of its type.
 abbrev pub GivesNextTyped : {T : Type 0} → Level T → (ℕ → Row T) → List ℕ → Option RawParameter
     → List ℕ → Type 0
@@ -41,7 +41,7 @@ GivesNextTyped level row bytes None left = IsAtEnd level bytes left
 -- ---- the list in a chunk's value
 
 -- The bytes where the list lies, if the value has a place for one, where they mean a list; nothing
--- exactly where there is no such place, or its bytes mean no list.
+-- if and only if there is no such place, or its bytes mean no list.
 abbrev pub GivesList : {T : Type 0} → Level T → Option (List ℕ) → Option (List ℕ) → Type 0
 GivesList level place (Some bytes) = (place ≡ Some bytes) × MeansSome level bytes
 GivesList level place None = (bytes : List ℕ) → place ≡ Some bytes → ¬ MeansSome level bytes

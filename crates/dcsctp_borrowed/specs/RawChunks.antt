@@ -19,7 +19,7 @@ abbrev pub MeansFirstChunk : RawChunk → List ℕ → List ChunkTree → Type 0
 MeansFirstChunk raw left all =
     MeansFirst (chunks lenient) (chunk_row lenient raw.typ raw.flags) raw.value.now left all
 
--- The next chunk of the bytes, and those that are left; nothing exactly where there are none.
+-- The next chunk of the bytes, and those that are left; nothing if and only if there are none.
 abbrev pub GivesNext : List ℕ → Option RawChunk → List ℕ → Type 0
 GivesNext bytes (Some raw) left =
     (raw.typ ≡ slice_index bytes 0) × (raw.flags ≡ slice_index bytes 1)

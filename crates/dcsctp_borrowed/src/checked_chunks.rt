@@ -66,7 +66,7 @@ impl<'a> CheckedChunk<'a> {
     }
 
     /// Returns the user data of DATA or I-DATA, without a copy: what `UserData::from_raw` returns.
-    /// `None` exactly where the chunk has another type.
+    /// `None` if and only if the chunk has another type.
     #[inline(always)]
     pub fn as_user_data(&self) -> Option<UserData<'a>>
         ensures read { option_map user_data_view result
@@ -83,8 +83,8 @@ impl<'a> CheckedChunk<'a> {
         }
     }
 
-    /// Returns the SACK, without a copy: what `SackRef::from_raw` returns. `None` exactly where the
-    /// chunk has another type.
+    /// Returns the SACK, without a copy: what `SackRef::from_raw` returns. `None` if and only if
+    /// the chunk has another type.
     #[inline(always)]
     pub fn as_sack(&self) -> Option<SackRef<'a>>
         ensures read { result ≡ read_sack self.now.typ self.now.value.now }
@@ -97,7 +97,7 @@ impl<'a> CheckedChunk<'a> {
     }
 
     /// Returns the FORWARD-TSN or I-FORWARD-TSN, without a copy: what `ForwardTsnRef::from_raw`
-    /// returns. `None` exactly where the chunk has another type.
+    /// returns. `None` if and only if the chunk has another type.
     #[inline(always)]
     pub fn as_forward_tsn(&self) -> Option<ForwardTsnRef<'a>>
         ensures read { result ≡ read_forward self.now.typ self.now.value.now }
@@ -112,8 +112,8 @@ impl<'a> CheckedChunk<'a> {
     }
 
     /// Returns the parameters of INIT, INIT ACK, HEARTBEAT, HEARTBEAT ACK and RE-CONFIG: what
-    /// `RawParameters::from_raw` returns, which goes over all of them once more. `None` exactly
-    /// where the chunk has another type.
+    /// `RawParameters::from_raw` returns, which goes over all of them once more. `None` if and only
+    /// if the chunk has another type.
     #[inline(always)]
     pub fn as_parameters(&self) -> Option<RawParameters<'a>>
         ensures read { GivesList (parameters lenient)
@@ -126,7 +126,7 @@ impl<'a> CheckedChunk<'a> {
     }
 
     /// Returns the error causes of ABORT and ERROR: what `RawCauses::from_raw` returns, which goes
-    /// over all of them once more. `None` exactly where the chunk has another type.
+    /// over all of them once more. `None` if and only if the chunk has another type.
     #[inline(always)]
     pub fn as_causes(&self) -> Option<RawCauses<'a>>
         ensures read { GivesList (causes lenient) (cause_bytes self.now.typ self.now.value.now)
@@ -139,7 +139,7 @@ impl<'a> CheckedChunk<'a> {
     }
 
     /// Returns the cookie of COOKIE ECHO, without a copy: what `cookie_echo::cookie` returns.
-    /// `None` exactly where the chunk has another type.
+    /// `None` if and only if the chunk has another type.
     #[inline(always)]
     #[tactic(auto, unfolding(dcsctp_chunk::specs::CookieEcho::read))]
     pub fn as_cookie(&self) -> Option<&'a [u8]>

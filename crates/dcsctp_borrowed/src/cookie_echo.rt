@@ -7,11 +7,11 @@ ghost use Rattle.dcsctp_borrowed.specs.{CookieEcho.{cookie_of, read_cookie}, Raw
 use dcsctp_wire::packet::chunk::RawChunk;
 use dcsctp_wire::packet::cookie_echo_chunk;
 
-/// Returns the cookie of COOKIE ECHO (RFC 9260 section 3.3.11), without a copy; `None` exactly
-/// where the chunk has another type, or no value.
+/// Returns the cookie of COOKIE ECHO (RFC 9260 section 3.3.11), without a copy; `None` if and only
+/// if the chunk has another type, or no value.
 ///
 /// Of a chunk of a packet this is the cookie that `SctpPacket::from_bytes` gives, and `None`
-/// exactly where the chunk has another type.
+/// if and only if the chunk has another type.
 #[inline(always)]
 pub fn cookie<'a>(raw: &RawChunk<'a>) -> Option<&'a [u8]>
     ensures read { option_map (λ bytes. bytes.now) result

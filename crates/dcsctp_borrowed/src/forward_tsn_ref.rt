@@ -50,12 +50,12 @@ impl<'a> Model for ForwardTsnRef<'a> {
 
 #[tactic(auto, using(crate::proofs::FieldLists::stream_count))]
 impl<'a> ForwardTsnRef<'a> {
-    /// Reads FORWARD-TSN or I-FORWARD-TSN, without a copy; flags are ignored. `None` exactly where
+    /// Reads FORWARD-TSN or I-FORWARD-TSN, without a copy; flags are ignored. `None` if and only if
     /// the chunk has another type, or a value that isn't 4 bytes and whole streams: of 4 bytes each
     /// (RFC 3758 section 3.2), or of 8 (RFC 8260 section 2.3.1).
     ///
     /// Of a chunk of a packet this is the chunk that `SctpPacket::from_bytes` gives, and `None`
-    /// exactly where the chunk has another type.
+    /// if and only if the chunk has another type.
     #[inline(always)]
     pub fn from_raw(raw: &RawChunk<'a>) -> Option<ForwardTsnRef<'a>>
         ensures read { result ≡ read_forward raw.now.typ raw.now.value.now }

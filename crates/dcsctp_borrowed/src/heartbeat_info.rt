@@ -7,11 +7,11 @@ ghost use Rattle.dcsctp_borrowed.specs.HeartbeatInfo.{info_of, read_info};
 use dcsctp_tlv::parameter::{RawParameter, heartbeat_info_parameter};
 
 /// Returns the info of a Heartbeat Info parameter (RFC 9260 sections 3.3.5 and 3.3.6), without a
-/// copy; `None` exactly where the parameter has another type. It may be empty.
+/// copy; `None` if and only if the parameter has another type. It may be empty.
 ///
 /// `RawParameters` gives the parameters of HEARTBEAT and HEARTBEAT ACK. Of a parameter of a packet
-/// this is the info that `SctpPacket::from_bytes` gives, and `None` exactly where the parameter has
-/// another type.
+/// this is the info that `SctpPacket::from_bytes` gives, and `None` if and only if the parameter
+/// has another type.
 #[inline(always)]
 pub fn heartbeat_info<'a>(raw: &RawParameter<'a>) -> Option<&'a [u8]>
     ensures read { option_map (λ bytes. bytes.now) result

@@ -13,11 +13,11 @@ use dcsctp_tlv::parameter::RawParameter;
 const FIXED_SIZE: usize = 4;
 
 /// Returns the types that a Missing Mandatory Parameter (RFC 9260 section 3.3.10.2) lists, without
-/// a copy, in their order and with repeats; `None` exactly where the cause has another code, or a
+/// a copy, in their order and with repeats; `None` if and only if the cause has another code, or a
 /// value that isn't as long as its count says.
 ///
 /// `RawCauses` gives the causes of ABORT and ERROR. Of a cause of a packet these are the types that
-/// `SctpPacket::from_bytes` gives, and `None` exactly where the cause has another code.
+/// `SctpPacket::from_bytes` gives, and `None` if and only if the cause has another code.
 #[inline(always)]
 pub fn missing_parameters<'a>(raw: &RawParameter<'a>) -> Option<Numbers<'a>>
     ensures read { result ≡ read_missing raw.now.typ raw.now.value.now }

@@ -35,11 +35,11 @@ impl<'a> Model for RawCauses<'a> {
 impl<'a> RawCauses<'a> {
     // It checks the value, as `RawParameters::from_raw` does.
     /// Returns the error causes of ABORT and ERROR (RFC 9260 sections 3.3.7 and 3.3.10); `None`
-    /// exactly where the chunk has another type, or a value that its type doesn't allow. Does not
+    /// if and only if the chunk has another type, or a value that its type doesn't allow. Does not
     /// allocate.
     ///
     /// Of a chunk of a packet these are the causes that `SctpPacket::from_bytes` gives, and `None`
-    /// exactly where the chunk has another type.
+    /// if and only if the chunk has another type.
     pub fn from_raw(raw: &RawChunk<'a>) -> Option<RawCauses<'a>>
         ensures read { GivesList (causes lenient) (cause_bytes raw.now.typ raw.now.value.now)
             result }

@@ -40,11 +40,11 @@ impl<'a> RawParameters<'a> {
     // It checks the value, so that any chunk will do, and no caller has to prove that it was
     // checked.
     /// Returns the parameters of INIT, INIT ACK, HEARTBEAT, HEARTBEAT ACK (RFC 9260 sections 3.3.2,
-    /// 3.3.3, 3.3.5 and 3.3.6) and RE-CONFIG (RFC 6525 section 3.1); `None` exactly where the chunk
-    /// has another type, or a value that its type doesn't allow. Does not allocate.
+    /// 3.3.3, 3.3.5 and 3.3.6) and RE-CONFIG (RFC 6525 section 3.1); `None` if and only if the
+    /// chunk has another type, or a value that its type doesn't allow. Does not allocate.
     ///
     /// Of a chunk of a packet these are the parameters that `SctpPacket::from_bytes` gives, and
-    /// `None` exactly where the chunk has another type.
+    /// `None` if and only if the chunk has another type.
     pub fn from_raw(raw: &RawChunk<'a>) -> Option<RawParameters<'a>>
         ensures read { GivesList (parameters lenient)
             (parameter_bytes raw.now.typ raw.now.value.now) result }

@@ -63,12 +63,12 @@ pub enum ReConfigRef<'a> {
 }
 
 impl<'a> ReConfigRef<'a> {
-    /// Reads a request or the response, without a copy. `None` exactly where the parameter has
+    /// Reads a request or the response, without a copy. `None` if and only if the parameter has
     /// another type, or a value that its type doesn't allow: of another size, or a response whose
     /// result is above 6. Reserved bytes are ignored.
     ///
     /// `RawParameters` gives the parameters of RE-CONFIG. Of a parameter of a packet this is the
-    /// parameter that `SctpPacket::from_bytes` gives, and `None` exactly where the parameter has
+    /// parameter that `SctpPacket::from_bytes` gives, and `None` if and only if the parameter has
     /// another type.
     #[inline(always)]
     pub fn from_raw(raw: &RawParameter<'a>) -> Option<ReConfigRef<'a>>

@@ -46,11 +46,11 @@ impl<'a> Model for SackRef<'a> {
 
 #[tactic(auto, using(crate::proofs::FieldLists::field_count))]
 impl<'a> SackRef<'a> {
-    /// Reads a SACK, without a copy; flags are ignored. `None` exactly where the chunk has another
+    /// Reads a SACK, without a copy; flags are ignored. `None` if and only if the chunk has another
     /// type, or a value of another size than its two counts say.
     ///
     /// Of a chunk of a packet this is the SACK that `SctpPacket::from_bytes` gives, and `None`
-    /// exactly where the chunk has another type.
+    /// if and only if the chunk has another type.
     #[inline(always)]
     pub fn from_raw(raw: &RawChunk<'a>) -> Option<SackRef<'a>>
         ensures read { result ≡ read_sack raw.now.typ raw.now.value.now }

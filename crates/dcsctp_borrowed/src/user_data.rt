@@ -52,11 +52,11 @@ pub struct UserData<'a> {
 }
 
 impl<'a> UserData<'a> {
-    /// Reads DATA or I-DATA, without a copy; `None` exactly where the chunk has another type, or a
+    /// Reads DATA or I-DATA, without a copy; `None` if and only if the chunk has another type, or a
     /// value that is too short for its kind: of less than 12 bytes, or of less than 16.
     ///
     /// Of a chunk of a packet this is the user data that `SctpPacket::from_bytes` gives, and `None`
-    /// exactly where the chunk has another type.
+    /// if and only if the chunk has another type.
     #[inline(always)]
     pub fn from_raw(raw: &RawChunk<'a>) -> Option<UserData<'a>>
         ensures read { option_map user_data_view result

@@ -1,5 +1,5 @@
--- A parameter or an error cause that is added to the last chunk of a packet (RFC 9260 sections 3.2.1
--- and 3.3.10).
+-- A parameter or an error cause that is added to the last chunk of a packet (RFC 9260 sections
+-- 3.2.1 and 3.3.10).
 use Rattle.std.specs.{Prelude.{◌≡◌, ℕ, ◌+◌, ◌%◌, ◌≤◌, ◌<◌, ◌^◌, Bool, Option, Some, None, List, [], ◌∷◌, ◌++◌, length, drop, replicate}, Int.{w16, to_be_bytes}}
 use Rattle.dcsctp_tlv.specs.{Frame.{round_up_to_4, typed_header, frame_length}, Image.{zeroed, gap, put}, Number.{numbers}, Parameter.{ParameterTree, row as parameter_row}}
 use Rattle.dcsctp_cause.specs.Cause.{CauseTree, row as cause_row}

@@ -12,8 +12,8 @@ pub trait WritableChunk {
     /// The chunk as plain data.
     ghost tree: { Self → ChunkTree };
 
-    /// Returns the number of bytes of its header and its value, without padding; nothing exactly
-    /// where the chunk can't be written: two bytes can't hold this number, or a skipped stream
+    /// Returns the number of bytes of its header and its value, without padding; `None` if and
+    /// only if the chunk can't be written: two bytes can't hold this number, or a skipped stream
     /// isn't of the chunk's kind.
     fn written_size(&self) -> Option<usize>
         ensures { Sizes result (IsChunkEncodable (tree self.now))

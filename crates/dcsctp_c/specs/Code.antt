@@ -48,7 +48,7 @@ write_code NoRoom = no_room_code
 write_code BadValue = bad_value_code
 write_code BadPlace = bad_place_code
 
--- The code of what the grammar answers: it has an answer, and each that it has is of this code.
+-- The code of what the grammar gives: it has an answer, and each that it has is of this code.
 pub record IsAnswerCode (bytes : List ℕ) (word : ℕ) (policy : ChecksumPolicy)
     (code : ℕ) : Type 0 where
   pub some : (a : Result PacketTree PacketFault) × Answer bytes word policy a

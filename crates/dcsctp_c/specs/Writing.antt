@@ -1,6 +1,6 @@
 -- The chunks that a C program adds to a packet (RFC 9260 section 3.3), and the parameters and error
--- causes that it adds to a chunk (sections 3.2.1 and 3.3.10), as plain data: made of the structs, the
--- bytes and the lists that it passes.
+-- causes that it adds to a chunk (sections 3.2.1 and 3.3.10), as plain data: made of the structs,
+-- the bytes and the lists that it passes.
 use Rattle.std.specs.{Prelude.{◌≡◌, ℕ, Bool, true, false, List, [], ◌∷◌, ◌==◌, ◌||◌, if◌then◌else◌, map, Option, Some, None, option_map, length}, Result.{result_ok}}
 use Rattle.dcsctp_tlv.specs.{Image.{zeroed}, Parameter.{ParameterTree, tlv as parameter_tlv, OutgoingSsnResetRequest, IncomingSsnResetRequest, SsnTsnResetRequest, ReconfigurationResponse, AddOutgoingStreamsRequest, AddIncomingStreamsRequest}, ReconfigurationResponse.{result_of}}
 use Rattle.dcsctp_cause.specs.Cause.{CauseTree, UserInitiatedAbort, tlv as cause_tlv}

@@ -38,7 +38,7 @@ pub extern "C" fn dcsctp_list_offset(chunk: &DcsctpChunk) -> usize
 /// a chunk's value, and writes where its value and the next one are. The first is where
 /// `dcsctp_list_offset` says.
 ///
-/// Returns false, and `parameter` stays, exactly where no header with a whole value is there: at
+/// Returns false, and `parameter` stays, if and only if no header with a whole value is there: at
 /// the end of the chunk's value and after it, before the value, and where that does not lie within
 /// the bytes.
 #[unsafe(no_mangle)]
@@ -74,7 +74,7 @@ pub extern "C" fn dcsctp_parameter_at(
 /// Reads a value that is one number of four bytes, whatever its type: the method of Zero Checksum
 /// Acceptable (RFC 9653 section 4), the TSN of the cause No User Data (RFC 9260 section 3.3.10.9).
 ///
-/// Returns false, and `number` stays, exactly where the value hasn't four bytes, or does not lie
+/// Returns false, and `number` stays, if and only if the value hasn't four bytes, or does not lie
 /// within the bytes.
 #[unsafe(no_mangle)]
 pub extern "C" fn dcsctp_number(bytes: &[u8], parameter: &DcsctpParameter, number: &mut u32) -> bool

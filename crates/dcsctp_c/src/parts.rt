@@ -54,7 +54,7 @@ pub extern "C" fn dcsctp_header(bytes: &[u8], header: &mut DcsctpHeader) -> bool
 /// Reads the chunk at an offset (RFC 9260 section 3.2), and writes where its value and the next
 /// chunk are. The first chunk of a packet is at 12.
 ///
-/// Returns false, and `chunk` stays, exactly where no header with a whole value is there: at the
+/// Returns false, and `chunk` stays, if and only if no header with a whole value is there: at the
 /// end of a packet, and after it.
 #[unsafe(no_mangle)]
 pub extern "C" fn dcsctp_chunk_at(bytes: &[u8], offset: usize, chunk: &mut DcsctpChunk) -> bool
@@ -82,8 +82,8 @@ pub extern "C" fn dcsctp_chunk_at(bytes: &[u8], offset: usize, chunk: &mut Dcsct
 /// Reads the user data of DATA (RFC 9260 section 3.3.1) or I-DATA (RFC 8260 section 2.1), and
 /// writes where its payload is.
 ///
-/// Returns false, and `user_data` stays, exactly where the chunk has another type, its value is too
-/// short for its kind, or it does not lie within the bytes.
+/// Returns false, and `user_data` stays, if and only if the chunk has another type, its value is
+/// too short for its kind, or it does not lie within the bytes.
 #[unsafe(no_mangle)]
 pub extern "C" fn dcsctp_data(bytes: &[u8], chunk: &DcsctpChunk, user_data: &mut DcsctpData) -> bool
     ensures read { ReadsInto (HoldsData bytes.now chunk.now) (data_at bytes.now chunk.now)
@@ -101,7 +101,7 @@ pub extern "C" fn dcsctp_data(bytes: &[u8], chunk: &DcsctpChunk, user_data: &mut
 
 /// Reads the numbers of a SACK (RFC 9260 section 3.3.4).
 ///
-/// Returns false, and `sack` stays, exactly where the chunk has another type, its value isn't as
+/// Returns false, and `sack` stays, if and only if the chunk has another type, its value isn't as
 /// long as its counts say, or it does not lie within the bytes.
 #[unsafe(no_mangle)]
 pub extern "C" fn dcsctp_sack(bytes: &[u8], chunk: &DcsctpChunk, sack: &mut DcsctpSack) -> bool
@@ -123,7 +123,7 @@ pub extern "C" fn dcsctp_sack(bytes: &[u8], chunk: &DcsctpChunk, sack: &mut Dcsc
 
 /// Reads a SACK's gap ack block at an index, from 0 on.
 ///
-/// Returns false, and `block` stays, exactly where `dcsctp_sack` returns false, or the SACK has no
+/// Returns false, and `block` stays, if and only if `dcsctp_sack` returns false, or the SACK has no
 /// block at this index.
 #[unsafe(no_mangle)]
 pub extern "C" fn dcsctp_gap_ack_block(
@@ -146,7 +146,7 @@ pub extern "C" fn dcsctp_gap_ack_block(
 
 /// Reads a SACK's duplicate TSN at an index, from 0 on.
 ///
-/// Returns false, and `tsn` stays, exactly where `dcsctp_sack` returns false, or the SACK has no
+/// Returns false, and `tsn` stays, if and only if `dcsctp_sack` returns false, or the SACK has no
 /// duplicate TSN at this index.
 #[unsafe(no_mangle)]
 pub extern "C" fn dcsctp_duplicate_tsn(
@@ -201,7 +201,7 @@ pub extern "C" fn dcsctp_clean_blocks(blocks: &mut [GapAckBlock]) -> usize
 /// Reads the numbers of INIT (RFC 9260 section 3.3.2) or INIT ACK (section 3.3.3). The parameters
 /// are not looked at.
 ///
-/// Returns false, and `init` stays, exactly where the chunk has another type, its value has fewer
+/// Returns false, and `init` stays, if and only if the chunk has another type, its value has fewer
 /// than 16 bytes, or it does not lie within the bytes.
 #[unsafe(no_mangle)]
 pub extern "C" fn dcsctp_init(bytes: &[u8], chunk: &DcsctpChunk, init: &mut DcsctpInit) -> bool
@@ -218,7 +218,7 @@ pub extern "C" fn dcsctp_init(bytes: &[u8], chunk: &DcsctpChunk, init: &mut Dcsc
 
 /// Reads the cumulative TSN ack of SHUTDOWN (RFC 9260 section 3.3.8).
 ///
-/// Returns false, and `cumulative_tsn_ack` stays, exactly where the chunk has another type, its
+/// Returns false, and `cumulative_tsn_ack` stays, if and only if the chunk has another type, its
 /// value hasn't four bytes, or it does not lie within the bytes.
 #[unsafe(no_mangle)]
 pub extern "C" fn dcsctp_shutdown(
@@ -242,7 +242,7 @@ pub extern "C" fn dcsctp_shutdown(
 /// Reads the numbers of FORWARD-TSN (RFC 3758 section 3.2) or I-FORWARD-TSN (RFC 8260 section
 /// 2.3.1).
 ///
-/// Returns false, and `forward_tsn` stays, exactly where the chunk has another type, its value
+/// Returns false, and `forward_tsn` stays, if and only if the chunk has another type, its value
 /// isn't the TSN and whole streams, or it does not lie within the bytes.
 #[unsafe(no_mangle)]
 pub extern "C" fn dcsctp_forward_tsn(
@@ -267,7 +267,7 @@ pub extern "C" fn dcsctp_forward_tsn(
 
 /// Reads the skipped stream at an index, from 0 on, of FORWARD-TSN or I-FORWARD-TSN.
 ///
-/// Returns false, and `skipped_stream` stays, exactly where `dcsctp_forward_tsn` returns false, or
+/// Returns false, and `skipped_stream` stays, if and only if `dcsctp_forward_tsn` returns false, or
 /// the chunk has no stream at this index.
 #[unsafe(no_mangle)]
 pub extern "C" fn dcsctp_skipped_stream(

@@ -21,7 +21,7 @@ use dcsctp_types::types::Tsn;
 
 /// Reads a request or the response of RE-CONFIG (RFC 6525 section 4).
 ///
-/// Returns false, and `re_config` stays, exactly where the parameter has another type, its value
+/// Returns false, and `re_config` stays, if and only if the parameter has another type, its value
 /// isn't one of its type, as of a response with a result above 6, or it does not lie within the
 /// bytes.
 #[unsafe(no_mangle)]
@@ -45,8 +45,8 @@ pub extern "C" fn dcsctp_re_config(
 /// Reads the stream at an index, from 0 on, of an Outgoing SSN Reset Request (RFC 6525 section 4.1)
 /// or an Incoming one (section 4.2). A request without streams is for all of them.
 ///
-/// Returns false, and `stream` stays, exactly where `dcsctp_re_config` returns false, the parameter
-/// is none of these two, or has no stream at this index.
+/// Returns false, and `stream` stays, if and only if `dcsctp_re_config` returns false, the
+/// parameter is none of these two, or has no stream at this index.
 #[unsafe(no_mangle)]
 pub extern "C" fn dcsctp_reset_stream(
     bytes: &[u8],
@@ -74,7 +74,7 @@ pub extern "C" fn dcsctp_reset_stream(
 /// Reads the type at an index, from 0 on, of the cause Missing Mandatory Parameter (RFC 9260
 /// section 3.3.10.2).
 ///
-/// Returns false, and `typ` stays, exactly where the cause has another code, its value isn't as
+/// Returns false, and `typ` stays, if and only if the cause has another code, its value isn't as
 /// long as its count says, it does not lie within the bytes, or has no type at this index.
 #[unsafe(no_mangle)]
 pub extern "C" fn dcsctp_missing_parameter(

@@ -1,10 +1,10 @@
 //! Packets that are written into the caller's buffer, chunk by chunk.
 //!
 //! A packet is begun, each chunk is added to it, parameters and error causes to the chunk that was
-//! added last (`lists`), and `dcsctp_seal` of its `size` bytes ends it. Each call here returns 0; or
-//! it changes nothing, and returns the first of these that is so: `BAD_PLACE`, the size isn't that of
-//! a packet that was begun; `BAD_VALUE`, the chunk can't be written; `NO_ROOM`, the packet has no
-//! room for it.
+//! added last (`lists`), and `dcsctp_seal` of its `size` bytes ends it. Each call here returns 0;
+//! or it changes nothing, and returns the first of these that is so: `BAD_PLACE`, the size isn't
+//! that of a packet that was begun; `BAD_VALUE`, the chunk can't be written; `NO_ROOM`, the packet
+//! has no room for it.
 
 ghost use Rattle.std.specs.{Prelude.{◌≡◌, ◌≢◌, [], false, true, length, drop, nat_le, if◌then◌else◌}, Str.{IsUtf8}};
 ghost use Rattle.dcsctp_wire.specs.Chunk.{Init, InitAck, CookieEcho, CookieAck, Shutdown, ShutdownAck, ShutdownComplete};

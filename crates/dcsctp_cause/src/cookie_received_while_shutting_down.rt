@@ -29,7 +29,8 @@ pub struct CookieReceivedWhileShuttingDownErrorCause {}
 impl CookieReceivedWhileShuttingDownErrorCause {
     /// Reads the cause; no memory is taken.
     ///
-    /// `InvalidType` exactly for another code; `InvalidLength` exactly where the value isn't empty.
+    /// `InvalidType` exactly for another code; `InvalidLength` if and only if the value isn't
+    /// empty.
     pub fn try_from(raw: RawParameter) -> Result<Self, ChunkParseError>
         ensures other { IsErrOf result ChunkParseError.InvalidType ↔ (raw.entry.typ ≢ CAUSE_CODE) }
         ensures answer { raw.entry.typ ≡ CAUSE_CODE →
@@ -43,7 +44,7 @@ impl CookieReceivedWhileShuttingDownErrorCause {
         Ok(CookieReceivedWhileShuttingDownErrorCause::build(raw.value))
     }
 
-    /// `InvalidLength` exactly where the value isn't empty.
+    /// `InvalidLength` if and only if the value isn't empty.
     pub(crate) fn check(value: &[u8]) -> Result<(), ChunkParseError>
         ensures { Exactly checking (λ u. u) (Tested (kind.read value.now)) result }
     {

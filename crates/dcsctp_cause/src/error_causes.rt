@@ -78,9 +78,9 @@ macro_rules! kinds {
 impl ErrorCause {
     /// Reads a cause as its code says.
     ///
-    /// `InvalidLength` exactly where the value has a size that its kind doesn't allow;
+    /// `InvalidLength` if and only if the value has a size that its kind doesn't allow;
     /// `OutOfMemory` only where it has a meaning, and what it holds can't be copied; never where it
-    /// holds nothing on the heap. No other error is answered.
+    /// holds nothing on the heap. No other error is returned.
     pub fn try_from(alloc: Global, raw: RawParameter) -> Result<Self, ChunkParseError>
         ensures answer { Exactly reading view
             (Unplaced (RowAnswer (cause.row raw.entry.typ) raw.entry.value.now)) result }
@@ -104,7 +104,7 @@ impl ErrorCause {
         Ok(ErrorCause::build(alloc, code, value)?)
     }
 
-    /// Passes exactly where the value has a meaning; else its fault. Does not allocate.
+    /// Passes if and only if the value has a meaning; else its fault. Does not allocate.
     fn check_value(code: u16, value: &[u8]) -> Result<(), ChunkParseError>
         ensures { Answers checking (λ u. u) (Counted (λ t. tt)
             (Unplaced (RowAnswer (cause.row code) value.now))) result }

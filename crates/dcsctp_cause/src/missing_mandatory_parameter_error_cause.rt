@@ -67,7 +67,7 @@ impl MissingMandatoryParameterErrorCause {
 
     /// Reads the cause, and copies its types.
     ///
-    /// `InvalidType` exactly for another code; `InvalidLength` exactly where the value has fewer
+    /// `InvalidType` exactly for another code; `InvalidLength` if and only if the value has fewer
     /// than 4 bytes, or other than 4 and 2 more for each type that it counts; `OutOfMemory` only
     /// where the types can't be copied.
     pub fn try_from(alloc: Global, raw: RawParameter) -> Result<Self, ChunkParseError>
@@ -86,7 +86,7 @@ impl MissingMandatoryParameterErrorCause {
         Ok(MissingMandatoryParameterErrorCause::build(alloc, raw.value)?)
     }
 
-    /// `InvalidLength` exactly where the value has fewer than 4 bytes, or other than 4 and 2 more
+    /// `InvalidLength` if and only if the value has fewer than 4 bytes, or other than 4 and 2 more
     /// for each type that it counts.
     pub(crate) fn check(value: &[u8]) -> Result<(), ChunkParseError>
         ensures { Exactly checking (λ u. u) (Tested (kind.read value.now)) result }

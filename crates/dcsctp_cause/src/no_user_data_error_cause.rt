@@ -37,7 +37,7 @@ pub struct NoUserDataErrorCause {
 impl NoUserDataErrorCause {
     /// Reads the cause; no memory is taken.
     ///
-    /// `InvalidType` exactly for another code; `InvalidLength` exactly where the value hasn't 4
+    /// `InvalidType` exactly for another code; `InvalidLength` if and only if the value hasn't 4
     /// bytes.
     pub fn try_from(raw: RawParameter) -> Result<Self, ChunkParseError>
         ensures other { IsErrOf result ChunkParseError.InvalidType ↔ (raw.entry.typ ≢ CAUSE_CODE) }
@@ -52,7 +52,7 @@ impl NoUserDataErrorCause {
         Ok(NoUserDataErrorCause::build(raw.value))
     }
 
-    /// `InvalidLength` exactly where the value hasn't 4 bytes.
+    /// `InvalidLength` if and only if the value hasn't 4 bytes.
     pub(crate) fn check(value: &[u8]) -> Result<(), ChunkParseError>
         ensures { Exactly checking (λ u. u) (Tested (kind.read value.now)) result }
     {

@@ -59,7 +59,7 @@ impl CookieEchoChunk {
 
     /// Reads the chunk, and copies its cookie; flags are ignored.
     ///
-    /// `InvalidType` exactly for another type; `InvalidLength` exactly where the value is empty;
+    /// `InvalidType` exactly for another type; `InvalidLength` if and only if the value is empty;
     /// `OutOfMemory` only where the cookie can't be copied.
     pub fn try_from(alloc: Global, raw: RawChunk) -> Result<Self, ChunkParseError>
         ensures other { IsErrOf result ChunkParseError.InvalidType ↔ (raw.entry.typ ≢ CHUNK_TYPE) }
@@ -76,7 +76,7 @@ impl CookieEchoChunk {
         Ok(CookieEchoChunk::build(alloc, raw.flags, raw.value)?)
     }
 
-    /// `InvalidLength` exactly where the value is empty.
+    /// `InvalidLength` if and only if the value is empty.
     pub(crate) fn check(value: &[u8]) -> Result<(), ChunkParseError>
         ensures { Exactly checking (λ u. u) (Tested (kind.read value.now)) result }
     {

@@ -59,7 +59,7 @@ pub struct DataChunk {
 impl DataChunk {
     /// Reads the chunk, and copies its payload; flags but the four lowest are ignored.
     ///
-    /// `InvalidType` exactly for another type; `InvalidLength` exactly where the value has fewer
+    /// `InvalidType` exactly for another type; `InvalidLength` if and only if the value has fewer
     /// than 12 bytes; `OutOfMemory` only where the payload can't be copied.
     pub fn try_from(alloc: Global, raw: RawChunk) -> Result<Self, ChunkParseError>
         ensures other { IsErrOf result ChunkParseError.InvalidType ↔ (raw.entry.typ ≢ CHUNK_TYPE) }
@@ -78,7 +78,7 @@ impl DataChunk {
         Ok(DataChunk::build(alloc, raw.flags, raw.value)?)
     }
 
-    /// `InvalidLength` exactly where the value has fewer than 12 bytes.
+    /// `InvalidLength` if and only if the value has fewer than 12 bytes.
     pub(crate) fn check(value: &[u8]) -> Result<(), ChunkParseError>
         ensures size { OnOk result (FIXED_SIZE ≤ length value.now) }
         ensures short { OnErr result (length value.now < FIXED_SIZE) }

@@ -91,7 +91,7 @@ impl ForwardTsnChunk {
     /// Reads the chunk, and copies its skipped streams, each as `SkippedStream::ForwardTsn`; flags
     /// are ignored.
     ///
-    /// `InvalidType` exactly for another type; `InvalidLength` exactly where the value has fewer
+    /// `InvalidType` exactly for another type; `InvalidLength` if and only if the value has fewer
     /// than 4 bytes, or no multiple of 4; `OutOfMemory` only where the streams can't be copied.
     pub fn try_from(alloc: Global, raw: RawChunk) -> Result<Self, ChunkParseError>
         ensures other { IsErrOf result ChunkParseError.InvalidType ↔ (raw.entry.typ ≢ CHUNK_TYPE) }
@@ -109,7 +109,7 @@ impl ForwardTsnChunk {
         Ok(ForwardTsnChunk::build(alloc, raw.flags, raw.value)?)
     }
 
-    /// `InvalidLength` exactly where the value has fewer than 4 bytes, or no multiple of 4.
+    /// `InvalidLength` if and only if the value has fewer than 4 bytes, or no multiple of 4.
     pub(crate) fn check(value: &[u8]) -> Result<(), ChunkParseError>
         ensures { Exactly checking (λ u. u) (Tested (kind.read value.now)) result }
     {

@@ -88,7 +88,7 @@ impl IDataChunk {
     /// Reads the chunk, and copies its payload; flags but the four lowest and the reserved bytes
     /// are ignored.
     ///
-    /// `InvalidType` exactly for another type; `InvalidLength` exactly where the value has fewer
+    /// `InvalidType` exactly for another type; `InvalidLength` if and only if the value has fewer
     /// than 16 bytes; `OutOfMemory` only where the payload can't be copied.
     pub fn try_from(alloc: Global, raw: RawChunk) -> Result<Self, ChunkParseError>
         ensures other { IsErrOf result ChunkParseError.InvalidType ↔ (raw.entry.typ ≢ CHUNK_TYPE) }
@@ -107,7 +107,7 @@ impl IDataChunk {
         Ok(IDataChunk::build(alloc, raw.flags, raw.value)?)
     }
 
-    /// `InvalidLength` exactly where the value has fewer than 16 bytes.
+    /// `InvalidLength` if and only if the value has fewer than 16 bytes.
     pub(crate) fn check(value: &[u8]) -> Result<(), ChunkParseError>
         ensures size { OnOk result (FIXED_SIZE ≤ length value.now) }
         ensures short { OnErr result (length value.now < FIXED_SIZE) }

@@ -98,7 +98,7 @@ impl IForwardTsnChunk {
     /// Reads the chunk, and copies its skipped streams, each as `SkippedStream::IForwardTsn`;
     /// flags are ignored.
     ///
-    /// `InvalidType` exactly for another type; `InvalidLength` exactly where the value has fewer
+    /// `InvalidType` exactly for another type; `InvalidLength` if and only if the value has fewer
     /// than 4 bytes, or no multiple of 8 after the first 4; `OutOfMemory` only where the streams
     /// can't be copied.
     pub fn try_from(alloc: Global, raw: RawChunk) -> Result<Self, ChunkParseError>
@@ -117,7 +117,7 @@ impl IForwardTsnChunk {
         Ok(IForwardTsnChunk::build(alloc, raw.flags, raw.value)?)
     }
 
-    /// `InvalidLength` exactly where the value has fewer than 4 bytes, or no multiple of 8 after
+    /// `InvalidLength` if and only if the value has fewer than 4 bytes, or no multiple of 8 after
     /// the first 4.
     pub(crate) fn check(value: &[u8]) -> Result<(), ChunkParseError>
         ensures { Exactly checking (λ u. u) (Tested (kind.read value.now)) result }

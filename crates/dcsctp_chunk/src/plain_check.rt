@@ -35,7 +35,7 @@ macro_rules! plain_kinds {
 
 /// Whether the value is one that the chunk's kind reads. Does not allocate.
 ///
-/// `InvalidLength` exactly where the value has a size that its kind doesn't allow. Each value
+/// `InvalidLength` if and only if the value has a size that its kind doesn't allow. Each value
 /// passes whose type has no kind of its own, or a kind with a list of parameters or error causes.
 #[tactic(auto, unfolding(crate::specs::DataChunk::read, crate::specs::IDataChunk::read, crate::specs::ShutdownComplete::read))]
 pub fn plain_check(raw: RawChunk) -> Result<(), ChunkParseError>

@@ -113,7 +113,7 @@ pub struct SackChunk {
 impl SackChunk {
     /// Reads the chunk, and copies its blocks and its duplicate TSNs; flags are ignored.
     ///
-    /// `InvalidType` exactly for another type; `InvalidLength` exactly where the value has fewer
+    /// `InvalidType` exactly for another type; `InvalidLength` if and only if the value has fewer
     /// than 12 bytes, or isn't just as long as its two counts say; `OutOfMemory` only where the
     /// lists can't be copied.
     pub fn try_from(alloc: Global, raw: RawChunk) -> Result<Self, ChunkParseError>
@@ -132,7 +132,7 @@ impl SackChunk {
         Ok(SackChunk::build(alloc, raw.flags, raw.value)?)
     }
 
-    /// `InvalidLength` exactly where the value has fewer than 12 bytes, or isn't just as long as
+    /// `InvalidLength` if and only if the value has fewer than 12 bytes, or isn't just as long as
     /// its two counts say.
     pub(crate) fn check(value: &[u8]) -> Result<(), ChunkParseError>
         ensures { Exactly checking (λ u. u) (Tested (kind.read value.now)) result }

@@ -29,7 +29,8 @@ pub struct ShutdownAckChunk;
 impl ShutdownAckChunk {
     /// Reads the chunk; flags are ignored, and no memory is taken.
     ///
-    /// `InvalidType` exactly for another type; `InvalidLength` exactly where the value isn't empty.
+    /// `InvalidType` exactly for another type; `InvalidLength` if and only if the value isn't
+    /// empty.
     pub fn try_from(raw: RawChunk) -> Result<Self, ChunkParseError>
         ensures other { IsErrOf result ChunkParseError.InvalidType ↔ (raw.entry.typ ≢ CHUNK_TYPE) }
         ensures answer { raw.entry.typ ≡ CHUNK_TYPE →
@@ -43,7 +44,7 @@ impl ShutdownAckChunk {
         Ok(ShutdownAckChunk::build(raw.flags, raw.value))
     }
 
-    /// `InvalidLength` exactly where the value isn't empty.
+    /// `InvalidLength` if and only if the value isn't empty.
     pub(crate) fn check(value: &[u8]) -> Result<(), ChunkParseError>
         ensures { Exactly checking (λ u. u) (Tested (kind.read value.now)) result }
     {

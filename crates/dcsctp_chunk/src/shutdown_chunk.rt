@@ -37,7 +37,7 @@ pub struct ShutdownChunk {
 impl ShutdownChunk {
     /// Reads the chunk; flags are ignored, and no memory is taken.
     ///
-    /// `InvalidType` exactly for another type; `InvalidLength` exactly where the value hasn't 4
+    /// `InvalidType` exactly for another type; `InvalidLength` if and only if the value hasn't 4
     /// bytes.
     pub fn try_from(raw: RawChunk) -> Result<Self, ChunkParseError>
         ensures other { IsErrOf result ChunkParseError.InvalidType ↔ (raw.entry.typ ≢ CHUNK_TYPE) }
@@ -52,7 +52,7 @@ impl ShutdownChunk {
         Ok(ShutdownChunk::build(raw.flags, raw.value))
     }
 
-    /// `InvalidLength` exactly where the value hasn't 4 bytes.
+    /// `InvalidLength` if and only if the value hasn't 4 bytes.
     pub(crate) fn check(value: &[u8]) -> Result<(), ChunkParseError>
         ensures { Exactly checking (λ u. u) (Tested (kind.read value.now)) result }
     {

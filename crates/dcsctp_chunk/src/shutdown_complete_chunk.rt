@@ -35,7 +35,8 @@ pub struct ShutdownCompleteChunk {
 impl ShutdownCompleteChunk {
     /// Reads the chunk; flags but the T bit are ignored, and no memory is taken.
     ///
-    /// `InvalidType` exactly for another type; `InvalidLength` exactly where the value isn't empty.
+    /// `InvalidType` exactly for another type; `InvalidLength` if and only if the value isn't
+    /// empty.
     pub fn try_from(raw: RawChunk) -> Result<Self, ChunkParseError>
         ensures other { IsErrOf result ChunkParseError.InvalidType ↔ (raw.entry.typ ≢ CHUNK_TYPE) }
         ensures answer { raw.entry.typ ≡ CHUNK_TYPE →
@@ -50,7 +51,7 @@ impl ShutdownCompleteChunk {
         Ok(ShutdownCompleteChunk::build(raw.flags, raw.value))
     }
 
-    /// `InvalidLength` exactly where the value isn't empty.
+    /// `InvalidLength` if and only if the value isn't empty.
     pub(crate) fn check(value: &[u8]) -> Result<(), ChunkParseError>
         ensures size { OnOk result (length value.now ≡ 0) }
         ensures filled { OnErr result (0 < length value.now) }

@@ -1,5 +1,5 @@
--- A kind of chunk, of parameter or of error cause (RFC 9260 sections 3.2, 3.2.1 and 3.3.10): all that
--- the tables say of it, in one record.
+-- A kind of chunk, of parameter or of error cause (RFC 9260 sections 3.2, 3.2.1 and 3.3.10): all
+-- that the tables say of it, in one record.
 use Rattle.std.proofs.Common.{ℕ, Bool, List, [], ◌∷◌, ◌==◌, Result, IsOk, cond}
 use Rattle.dcsctp_tlv.specs.{declared.error.ChunkParseError.{ChunkParseError}, Fault.{Fault}, Format.{Format}, Level.{Row, plain, as_row, map_ok}, Reading.{Exactly, checking, Tested}, Table.{Named, Content}}
 

@@ -93,7 +93,8 @@ IsWellFormed t = (format t).IsWellFormed
 abbrev pub text : ParameterTree → List ℕ
 text t = (format t).text
 
--- What a parameter that is written reads back as: a response with fewer than two next TSNs has none.
+-- What a parameter that is written reads back as: a response with fewer than two next TSNs has
+-- none.
 abbrev pub kept : ParameterTree → ParameterTree
 kept t = kept_of t (entry t)
 

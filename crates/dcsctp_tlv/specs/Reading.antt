@@ -1,4 +1,4 @@
--- What a call answers, beside what the grammar says of the bytes: the same of a value, of a list
+-- What a call returns, beside what the grammar says of the bytes: the same of a value, of a list
 -- and of a packet (RFC 9260 sections 3, 3.2, 3.2.1 and 3.3.10).
 --
 -- The grammar's answer is what `Result` has two cases for: a tree that the bytes mean, or a fault
@@ -6,7 +6,7 @@
 use Rattle.std.specs.Prelude.{◌≡◌, ◌↔◌, ◌⊎◌, ℕ, List, Result, Ok, Err, IsOk, IsErrOf, MatchResult, ◌+◌, drop, length}
 use Rattle.dcsctp_tlv.specs.{declared.error.ChunkParseError.{ChunkParseError}, declared.error.LocatedFault.{LocatedFault}, declared.reader.Counts.{Counts}, declared.error.ChunkParseError.TheVariants.{InvalidLength, InvalidPadding, InvalidValue, OutOfMemory}, Level.{Row, Level, MeansTrees, MeansMany, HasFault, HasListFault}, Count.{total}, Fault.{Fault, Length, Padding, Value}}
 
--- ---- what a call answers
+-- ---- what a call returns
 
 -- The errors of a call: that of each fault, and those that say that memory ran out.
 pub record Errors (F E : Type 0) : Type 1 where
@@ -22,7 +22,7 @@ Answers errors view answer (Err e) =
     ((f : _) × (e ≡ errors.of f) × answer (Err f)) ⊎ errors.lack e
 
 -- The same both ways: a value that the grammar gives, the call gives too, unless memory ran out;
--- and it gives a fault's error exactly where the grammar gives that fault.
+-- and it gives a fault's error if and only if the grammar gives that fault.
 pub record Exactly {X T E F : Type 0} (errors : Errors F E) (view : X → T)
     (answer : Result T F → Type 0) (result : Result X E) : Type 0 where
   pub answers : Answers errors view answer result

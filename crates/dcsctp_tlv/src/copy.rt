@@ -1,8 +1,8 @@
 //! Copies that have no room to spare.
 //!
-//! `Vec::with_capacity` and `push_reserved` say how much memory a list has; std leaves open how much
-//! a copy of many items at once reserves. So a copy is made at once, and again item by item if it
-//! has room to spare. That takes no time, since std's copies have none.
+//! `Vec::with_capacity` and `push_reserved` say how much memory a list has; std leaves open how
+//! much a copy of many items at once reserves. So a copy is made at once, and again item by item if
+//! it has room to spare. That takes no time, since std's copies have none.
 
 ghost use Rattle.std.specs.{Prelude.{◌≡◌, IfOk, replicate, vec_len, vec_capacity, length, ◌≤◌}, String.{string_bytes, string_len, string_capacity}};
 

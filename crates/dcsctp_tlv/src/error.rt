@@ -18,7 +18,7 @@ pub enum ChunkParseError {
     /// The reader of one kind was handed another type.
     #[error("Unexpected TLV type")]
     InvalidType,
-    /// Padding that isn't accepted; never answered where padding is ignored.
+    /// Padding that isn't accepted; never returned where padding is ignored.
     #[error("Incorrect number of padding bytes")]
     InvalidPadding,
     /// A number that has no meaning in its field.
@@ -32,7 +32,7 @@ pub enum ChunkParseError {
 /// The first fault of the bytes, and where it lies.
 #[derive(Drop)]
 pub struct LocatedFault {
-    // A number first: in a `Result` it then shares its place with the number of a good answer.
+    // A number first: in a `Result` it then shares its place with the number of a good result.
     /// The fault's offset in bytes, from the first byte that was checked.
     pub offset: usize,
     /// What is wrong; never that memory ran out.

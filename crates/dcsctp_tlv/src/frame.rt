@@ -23,7 +23,7 @@ pub(crate) fn frame_length(bytes: &[u8]) -> usize
 /// The value of the frame at the front, and the bytes after it and its padding.
 ///
 /// Both are parts of the input. The last item of a list may lack padding: then nothing is left.
-/// `InvalidLength` exactly where the bytes don't begin with a frame.
+/// `InvalidLength` if and only if the bytes don't begin with a frame.
 pub fn split_frame(bytes: &[u8]) -> Result<(&[u8], &[u8]), ChunkParseError>
     ensures frame { IsOk result ↔ BeginsWithFrame bytes.now }
     ensures value { IfOk result (λ x. x.0.now ≡ frame_value bytes.now) }

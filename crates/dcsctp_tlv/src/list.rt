@@ -46,7 +46,7 @@ pub fn list_size<T: SerializableTlv>(list: &[T]) -> usize
     size
 }
 
-/// Writes the list at the front of `output`, and answers its bytes. The bytes between items, and
+/// Writes the list at the front of `output`, and returns its bytes. The bytes between items, and
 /// those past the list, stay as they stood.
 pub fn put_list<T: SerializableTlv>(list: &[T], output: &mut [u8]) -> usize
     requires encodable { IsListEncodable (tlv_by T.format) T.placed list.now }

@@ -129,9 +129,9 @@ macro_rules! kinds {
 impl Parameter {
     /// Reads a parameter as its type says.
     ///
-    /// `InvalidLength` exactly where the value has a size that its kind doesn't allow;
+    /// `InvalidLength` if and only if the value has a size that its kind doesn't allow;
     /// `OutOfMemory` only where it has a meaning, and what it holds can't be copied; never where it
-    /// holds nothing on the heap. `InvalidType` is never answered.
+    /// holds nothing on the heap. `InvalidType` is never returned.
     pub fn try_from(alloc: Global, raw: RawParameter) -> Result<Self, ChunkParseError>
         ensures answer { Exactly reading view
             (Unplaced (RowAnswer (parameter.row raw.entry.typ) raw.entry.value.now)) result }
@@ -155,7 +155,7 @@ impl Parameter {
         Ok(Parameter::build(alloc, typ, value)?)
     }
 
-    /// Passes exactly where the value has a meaning; else its fault. Does not allocate.
+    /// Passes if and only if the value has a meaning; else its fault. Does not allocate.
     fn check_value(typ: u16, value: &[u8]) -> Result<(), ChunkParseError>
         ensures { Answers checking (λ u. u) (Counted (λ t. tt)
             (Unplaced (RowAnswer (parameter.row typ) value.now))) result }

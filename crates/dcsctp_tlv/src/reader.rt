@@ -213,7 +213,7 @@ pub fn list_fill_counted<T: ReadableTlv>(
 
 /// Reads all the bytes as a list of items: a check, and then a build.
 ///
-/// It answers what the items mean, or the first fault from the left wherever there is one;
+/// It returns what the items mean, or the first fault from the left wherever there is one;
 /// `OutOfMemory` only where there is none, and there are items.
 pub fn list_from_bytes<T: ReadableTlv>(
     alloc: Global,

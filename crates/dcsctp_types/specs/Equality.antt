@@ -1,7 +1,7 @@
 -- Equality of values.
 use Rattle.std.specs.Prelude.{◌≡◌, ◌↔◌, Bool, IsTrue}
 
--- the test holds of two values exactly where they are the same
+-- the test holds of two values if and only if they are the same
 abbrev pub TellsSame : {A : Type 0} → (A → A → Bool) → Type 0
 TellsSame {A} test = (a b : A) → IsTrue (test a b) ↔ (a ≡ b)
 

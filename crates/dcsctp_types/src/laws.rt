@@ -52,7 +52,7 @@ pub fn orders()
         → ⟦<SocketTime as Ord>⟧.cmp a b ≡ ⟦<Duration as Ord>⟧.cmp a b }
 {}
 
-/// Two values are equal exactly where they are the same: serial numbers, keys, ids, times and
+/// Two values are equal if and only if they are the same: serial numbers, keys, ids, times and
 /// methods.
 pub fn equality()
     ensures tsns { TellsSame ⟦<Tsn as PartialEq>⟧.eq }

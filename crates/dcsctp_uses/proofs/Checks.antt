@@ -7,7 +7,7 @@ use Rattle.dcsctp_wire.specs.Packet.{Answer, IsPacket, packet_checking}
 use Rattle.dcsctp_wire.specs.declared.packet.sctp_packet.ChecksumPolicy.{ChecksumPolicy}
 use Rattle.dcsctp_wire.specs.declared.packet.sctp_packet.PacketParseError.{PacketParseError}
 
--- it is good exactly where the bytes are a packet
+-- it is good if and only if the bytes are a packet
 pub is_good : (bytes : List ℕ) (word : ℕ) (policy : ChecksumPolicy)
     (result : Result ℕ PacketParseError)
     → Exactly packet_checking (λ (n : ℕ). n) (Counted (λ p. node_count p.meaning)

@@ -4,7 +4,7 @@ use Rattle.dcsctp_wire.specs.Caller.{BuilderState, ChunkTree, Holds, IsChunkEnco
 use Rattle.dcsctp_wire.proofs.Canonicals.{length-canonical}
 use Rattle.dcsctp_uses.specs.Reply.{HasRoom}
 
--- the second is added to the first exactly where both have room
+-- the second is added to the first if and only if both have room
 pub with_second : (b mid after : BuilderState) (t u : ChunkTree) (more : ℕ) (added : Bool)
     → mid.limit ≡ b.limit → after.limit ≡ mid.limit → Holds mid (t ∷ [])
     → IsTrue added ↔ (IsChunkEncodable u × (more ≤ room mid)) → more + 0 ≡ padded_size (u ∷ [])

@@ -29,7 +29,7 @@ pub record HoldsPacket (b : BuilderState) (chunks : List ChunkTree) : Type 0 whe
   pub bytes : b.bytes ≡ canonical (meaning_with b chunks)
   pub within : length b.bytes ≤ b.limit
 
--- No chunks are held exactly where there are no bytes: a bare header holds no list. A relation,
+-- No chunks are held if and only if there are no bytes: a bare header holds no list. A relation,
 -- since two chunks can have the same bytes: COOKIE ACK, and an Unknown chunk of its type.
 abbrev pub Holds : BuilderState → List ChunkTree → Type 0
 Holds b [] = b.bytes ≡ []

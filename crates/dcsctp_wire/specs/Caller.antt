@@ -3,7 +3,7 @@
 -- results.
 use Rattle.std.specs.Prelude.{Option, Some, None}
 use Rattle.dcsctp_wire.specs.Chunk.{Data, IData}
--- packets as plain data, and what the grammar answers
+-- packets as plain data, and what the grammar gives
 pub use Rattle.dcsctp_wire.specs.Packet.{Meaning, PacketTree, PacketFault, Placed, Answer, IsPacket, IsAccepted}
 pub use Rattle.dcsctp_wire.specs.Packet.{header_of, checksum_field, packet_view, meaning_view}
 pub use Rattle.dcsctp_wire.specs.Packet.{HasPacketSize, Checksum as ChecksumFault, packet_error_of, packet_reading, packet_checking}

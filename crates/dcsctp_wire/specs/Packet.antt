@@ -37,8 +37,8 @@ abbrev pub checksum_field : List ℕ → ℕ
 checksum_field bytes = number32 (drop 8 bytes)
 
 -- Verification is off; or another method replaces it, and the field is zero; or the field is the
--- word. A zero is accepted whatever the chunks are: that INIT and COOKIE ECHO have a CRC32c (RFC 9653
--- section 5.2) is a rule for the caller, who knows whether the method was negotiated.
+-- word. A zero is accepted whatever the chunks are: that INIT and COOKIE ECHO have a CRC32c (RFC
+-- 9653 section 5.2) is a rule for the caller, who knows whether the method was negotiated.
 pub data IsAccepted (policy : ChecksumPolicy) (field word : ℕ) : Type 0 where
   disabled : policy.disable_checksum_verification ≡ true → IsAccepted policy field word
   alternate : policy.zero_checksum_alternate_error_detection_method.0 ≢ 0 → field ≡ 0

@@ -135,8 +135,8 @@ pub fn init_size()
         → (tlv (InitAck i)).value_size ≡ 16 + list_size parameter_tlv i.parameters }
 {}
 
-/// Two values are equal exactly where they are the same: errors, first faults, results, gap ack
-/// blocks and skipped streams; and causes of missing parameters exactly where they name the same
+/// Two values are equal if and only if they are the same: errors, first faults, results, gap ack
+/// blocks and skipped streams; and causes of missing parameters if and only if they name the same
 /// ones. (`types::equality` has the serial numbers, ids, keys, times and methods.)
 pub fn equality()
     ensures packet_errors { TellsSame ⟦<PacketParseError as PartialEq>⟧.eq }

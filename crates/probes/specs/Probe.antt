@@ -1,4 +1,4 @@
--- What the probes answer: numbers of the packet that bytes are, whatever its checksum
+-- What the probes return: numbers of the packet that bytes are, whatever its checksum
 -- field holds (RFC 9260 section 3).
 use Rattle.std.specs.Prelude.{◌≡◌, ◌⊎◌, ℕ, List, [], ◌∷◌, ◌++◌, Ok, length, take}
 use Rattle.dcsctp_chunk.specs.Cover.{Covers, IsRuns}

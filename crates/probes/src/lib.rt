@@ -1,4 +1,4 @@
-//! What a benchmark calls from C (`docs/SPEED.md`): each call takes the bytes of a packet, answers
+//! What a benchmark calls from C (`docs/SPEED.md`): each call takes the bytes of a packet, returns
 //! a number, and drops all that it made.
 //!
 //! In C a slice is a pointer and a length, and `alloc` takes no place among the arguments: memory

@@ -50,7 +50,7 @@ pub record Reads {S : Type 0} (Item : S → List ℕ → List Event → S → Ty
 -- ---- a step
 
 -- An item that begins with these bytes, and reaches so far, has these events; so it has where the
--- capture ends in it. It goes on behind these bytes.
+-- capture ends in it. It goes on after these bytes.
 abbrev pub Passes : {S : Type 0} → (S → List ℕ → List Event → S → Type 0)
     → (S → List ℕ → List Event → Option Fault → Type 0)
     → S → List ℕ → Extent → List Event → S → Type 0

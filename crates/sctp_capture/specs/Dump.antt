@@ -9,7 +9,7 @@ use Rattle.sctp_capture.specs.declared.line.DumpForm.TheVariants.{Xxd, Tcpdump, 
 abbrev pub is_ip_type : ℕ → ℕ → Bool
 is_ip_type type version = type == 0x0800 && version == 4 || type == 0x86dd && version == 6
 
--- such a type is at this offset, and the IP packet behind it
+-- such a type is at this offset, and the IP packet after it
 abbrev pub has_ip : ℕ → List ℕ → Bool
 has_ip offset bytes =
     nat_le (offset + 3) (length bytes)
@@ -23,7 +23,7 @@ abbrev pub has_tag : ℕ → List ℕ → Bool
 has_tag offset bytes =
     nat_le (offset + 2) (length bytes) && is_tag (number16 (drop offset bytes))
 
--- An Ethernet header, behind whose two addresses an IP packet is, or one or two tags and then an IP
+-- An Ethernet header, after whose two addresses an IP packet is, or one or two tags and then an IP
 -- packet.
 abbrev pub is_ethernet : List ℕ → Bool
 is_ethernet bytes =

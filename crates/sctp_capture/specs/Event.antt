@@ -4,8 +4,8 @@ use Rattle.sctp_capture.specs.declared.event.Part.{Part}
 use Rattle.sctp_capture.specs.declared.event.Seen.{Seen}
 use Rattle.sctp_capture.specs.declared.event.Skipped.{Skipped}
 
--- a frame that was seen so, with its link type, its length on the link, and its captured bytes; or a
--- record or a line that holds none, by its number, and why
+-- a frame that was seen so, with its link type, its length on the link, and its captured bytes; or
+-- a record or a line that holds none, by its number, and why
 pub data Event : Type 0 where
   Saw : Seen → ℕ → ℕ → List ℕ → Event
   Skip : Part → ℕ → Skipped → Event

@@ -1,4 +1,4 @@
--- The SCTP packet in a frame: behind the headers of the link and of IP, or by itself; in IP as
+-- The SCTP packet in a frame: after the headers of the link and of IP, or by itself; in IP as
 -- protocol 132, or in UDP (RFC 6951). A header says what follows it, and the headers are read one
 -- after the other.
 use Rattle.std.specs.Prelude.{◌+◌, ◌-◌, ◌*◌, ◌/◌, ◌%◌, ◌^◌, ◌==◌, ℕ, zero, suc, Bool, true, ◌&&◌, ◌||◌, not, nat_lt, if◌then◌else◌, List, Option, Some, None, Result, Ok, Err, length, take, drop}
@@ -69,7 +69,7 @@ carried_as port (Link link) p = Err Other
 carried_as port (EtherType type) p = Err Other
 carried_as port Ip p = Err Other
 
--- the packet that is behind the headers of the link and of IP
+-- the packet that is after the headers of the link and of IP
 abbrev pub carried : ℕ → Payload → Result Packet NoPacket
 carried port p = carried_as port p.protocol p
 
@@ -219,7 +219,7 @@ loopback p =
     Err Other
 
 -- A frame of this link type (the registry of draft-ietf-opsawg-pcaplinktype): Ethernet, whose type
--- is behind two addresses of six bytes; IP without a header of the link, which is 12 or 14 in files
+-- is after two addresses of six bytes; IP without a header of the link, which is 12 or 14 in files
 -- of some BSDs; Linux's cooked header of either version; BSD's and OpenBSD's loopback; IPv4; IPv6;
 -- and SCTP.
 unfoldable pub on_link : ℕ → Payload → Result Payload NoPacket
@@ -255,11 +255,11 @@ behind_first (EtherType type) p = of_type type p
 behind_first Ip p = ip p
 behind_first (Number number) p = extension number p
 
--- the payload behind the header at its front
+-- the payload after the header at its front
 abbrev pub behind_header : Payload → Result Payload NoPacket
 behind_header p = behind_first p.protocol p
 
--- the payload behind n headers at most
+-- the payload after n headers at most
 unfoldable pub behind_headers : ℕ → Payload → Result Payload NoPacket
 behind_headers zero p = Ok p
 behind_headers (suc n) p =

@@ -23,7 +23,7 @@ word_length text = position_or_len is_blank text
 abbrev pub word : List ℕ → List ℕ
 word text = take (word_length text) text
 
--- what follows the first word and the blanks behind it
+-- what follows the first word and the blanks after it
 abbrev pub after_word : List ℕ → List ℕ
 after_word text = without_blanks_before (drop (word_length text) text)
 
@@ -144,7 +144,7 @@ dump_line form text =
 abbrev pub is_byte_alone : List ℕ → Bool
 is_byte_alone text = begins_with_byte text && (length text == 2 || is_blank (byte_at 2 text))
 
--- from the first byte on that is neither a digit of the offset nor a blank behind it
+-- from the first byte on that is neither a digit of the offset nor a blank after it
 abbrev pub behind_offset : List ℕ → List ℕ
 behind_offset text = without_blanks_before (drop (offset_length text) text)
 

@@ -22,6 +22,10 @@ abbrev pub number_bytes : ByteOrder → Width → ℕ → List ℕ
 number_bytes BigEndian width n = to_be_bytes width n
 number_bytes LittleEndian width n = to_le_bytes width n
 
--- the number after this one, up to 2^64 - 1
+-- a count, up to 2^64 - 1
+abbrev pub capped : ℕ → ℕ
+capped n = min n (2 ^ 64 - 1)
+
+-- the next count
 abbrev pub one_more : ℕ → ℕ
-one_more n = min (n + 1) (2 ^ 64 - 1)
+one_more n = capped (n + 1)

@@ -32,7 +32,7 @@ magic_order bytes =
     if starts_with nat_eq bytes (0x4d ∷ 0x3c ∷ 0x2b ∷ 0x1a ∷ []) then Some LittleEndian else
     None
 
--- the order of a block's numbers: a section header says its own, and that of all behind it
+-- the order of a block's numbers: a section header says its own, and that of all after it
 abbrev pub block_order : Option ByteOrder → List ℕ → Option ByteOrder
 block_order order bytes =
     if starts_with nat_eq bytes section_header then magic_order (drop 8 bytes) else order

@@ -177,7 +177,7 @@ last_events s [] = end_events s
 last_events s (byte ∷ bytes) =
     line_events s (byte ∷ bytes) ++ end_events (after_line s (byte ∷ bytes))
 
--- a line says so many digits at most, two a byte
+-- the bytes that a line says take at most this many digits, two each
 abbrev pub SaysAtMost : ℕ → Line → Type 0
 SaysAtMost digits said.Blank = Unit {0}
 SaysAtMost digits said.Comment = Unit {0}

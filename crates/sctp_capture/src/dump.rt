@@ -83,7 +83,7 @@ fn is_cooked_2(bytes: &[u8]) -> bool
     bytes.len() >= 21 && number16(&bytes[2..]) == 0 && is_ip_type(number16(bytes), bytes[20] / 16)
 }
 
-/// Returns whether a type of IP is at this offset, and an IP packet behind it.
+/// Returns whether a type of IP is at this offset, and an IP packet after it.
 fn has_ip(bytes: &[u8], offset: usize) -> bool
     requires { offset ≤ 20 }
     ensures value { result ≡ has_ip offset bytes.now }

@@ -93,8 +93,8 @@ pub struct FoundPacket<'a> {
 pub enum NoPacket {
     /// Frames of its link type aren't read.
     LinkType,
-    /// It is a fragment of an IP packet that may carry SCTP: in IPv4 of one that carries SCTP, UDP or
-    /// the authentication header, in IPv6 of any.
+    /// It is a fragment of an IP packet that may carry SCTP: in IPv4 of one that carries SCTP, UDP
+    /// or the authentication header, in IPv6 of any.
     Fragment,
     /// Fewer bytes were captured than the headers have.
     Cut,
@@ -128,7 +128,7 @@ pub fn is_known_link(link_type: u16) -> bool
 /// link.
 ///
 /// The packet is protocol 132 of IPv4 or of IPv6, or it is in UDP with `udp_port` on either side.
-/// It may be behind any 802.1Q and 802.1ad tags, MPLS labels and PPPoE in a session, and behind the
+/// It may be after any 802.1Q and 802.1ad tags, MPLS labels and PPPoE in a session, and after the
 /// authentication header and IPv6's extension headers. It is as long as the innermost header says,
 /// and what follows in the frame is left out; if the frame was cut off, it has fewer bytes than
 /// `length`, maybe none. An IPv4 packet whose length is 0 reaches to the end of the frame.
@@ -195,7 +195,7 @@ fn packet(
     }
 }
 
-/// Returns the packet behind the headers of the link and of IP.
+/// Returns the packet after the headers of the link and of IP.
 fn carried(udp_port: u16, payload: Payload<'_>) -> Result<FoundPacket<'_>, NoPacket>
     ensures { found result ≡ carried udp_port (payload_of payload.entry) }
 {
@@ -236,7 +236,7 @@ fn in_udp(udp_port: u16, payload: Payload<'_>) -> Result<FoundPacket<'_>, NoPack
     Ok(packet(payload.addresses, Some(ports), size - 8, &bytes[8..]))
 }
 
-/// Returns the payload behind the headers of the link and of IP.
+/// Returns the payload after the headers of the link and of IP.
 fn behind_headers(payload: Payload<'_>) -> Result<Payload<'_>, NoPacket>
     ensures { payload_result result ≡ behind_headers MOST_HEADERS (payload_of payload.entry) }
 {
@@ -260,7 +260,7 @@ fn is_header(protocol: Protocol) -> bool
     }
 }
 
-/// Returns the payload behind the header at its front.
+/// Returns the payload after the header at its front.
 fn behind_header(payload: Payload<'_>) -> Result<Payload<'_>, NoPacket>
     ensures { payload_result result ≡ behind_header (payload_of payload.entry) }
 {

@@ -84,7 +84,7 @@ pub enum Place {
     Apart,
 }
 
-/// Returns where bytes at this offset belong, behind `held` bytes of a packet: at offset 0 they
+/// Returns where bytes at this offset belong, after `held` bytes of a packet: at offset 0 they
 /// begin the next packet, and at offset `held` they continue this one.
 pub fn place_of(offset: u32, held: usize) -> Place
     ensures { result ≡ place_of offset held }
@@ -215,14 +215,14 @@ fn has_direction(text: &[u8]) -> bool
     text.len() > 1 && matches!(text[0], b'I' | b'O') && text[1] == b' '
 }
 
-/// Returns what follows the direction and the blanks behind it.
+/// Returns what follows the direction and the blanks after it.
 fn behind_direction(text: &[u8]) -> &[u8]
     ensures { result.now ≡ behind_direction text.now }
 {
     without_blanks_before(after(text, 2))
 }
 
-/// Returns the first word, and what follows the blanks behind it.
+/// Returns the first word, and what follows the blanks after it.
 #[tactic(auto, using(crate::proofs::Places::first_place, crate::proofs::Places::place_within))]
 fn first_word(text: &[u8]) -> (&[u8], &[u8])
     ensures word { result.0.now ≡ word text.now }
@@ -318,7 +318,7 @@ fn number_before(text: &[u8]) -> u32
     hex_number(&text[..length])
 }
 
-/// Returns what follows the digits at the beginning and the blanks behind them.
+/// Returns what follows the digits at the beginning and the blanks after them.
 fn behind_offset(text: &[u8]) -> &[u8]
     ensures { result.now ≡ behind_offset text.now }
 {
@@ -370,7 +370,7 @@ fn has_wireshark_offset(text: &[u8]) -> bool
         && is_byte_alone(behind_offset(text))
 }
 
-/// Returns whether the text begins with a byte, and a blank or nothing behind it.
+/// Returns whether the text begins with a byte, and a blank or nothing after it.
 fn is_byte_alone(text: &[u8]) -> bool
     ensures { result ≡ is_byte_alone text.now }
 {
@@ -440,7 +440,7 @@ fn hex_number(digits: &[u8]) -> u32
     number
 }
 
-/// Returns the bytes of a line of a dump behind its offset.
+/// Returns the bytes of a line of a dump after its offset.
 fn dumped_bytes(text: &[u8]) -> Option<HexBytes<'_>>
     ensures { result ≡ dumped_bytes text.now }
 {

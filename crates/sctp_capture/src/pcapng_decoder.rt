@@ -113,7 +113,7 @@ impl PcapngDecoder {
         Next::End
     }
 
-    /// Notes what a block says of those behind it.
+    /// Notes what a block says of those after it.
     fn note_block(&mut self, header: &BlockHeader, body: &[u8])
         ensures { state_of self.new ≡ after_block (state_of self.old) header.now body.now }
     {
@@ -145,7 +145,7 @@ fn is_packet(block_type: u32) -> bool
     block_type == ENHANCED_PACKET || block_type == SIMPLE_PACKET || block_type == OBSOLETE_PACKET
 }
 
-/// Hands on the event of a block, if it is a packet.
+/// Passes on the event of a block, if it is a packet.
 fn hand_block<S: Sink>(
     interfaces: &[Option<Interface>],
     number: u64,
@@ -177,7 +177,7 @@ fn hand_block<S: Sink>(
     }
 }
 
-/// Hands on the event of a block that is longer than is kept.
+/// Passes on the event of a block that is longer than is kept.
 fn hand_long<S: Sink>(number: u64, sink: &mut S)
     ensures { Hands S.handed sink.old sink.new (long_events number) }
 {
@@ -194,7 +194,7 @@ fn interface_at(interfaces: &[Option<Interface>], number: usize) -> Option<Inter
     }
 }
 
-/// Hands on an enhanced packet, or an obsolete one.
+/// Passes on an enhanced packet, or an obsolete one.
 fn hand_packet<S: Sink>(
     number: u64,
     order: ByteOrder,
@@ -229,7 +229,7 @@ fn hand_packet<S: Sink>(
     );
 }
 
-/// Hands on a simple packet.
+/// Passes on a simple packet.
 fn hand_simple<S: Sink>(
     number: u64,
     order: ByteOrder,
@@ -273,7 +273,7 @@ fn simple_size(interface: &Interface, original: u32) -> u32
     }
 }
 
-/// Hands on a frame of an interface.
+/// Passes on a frame of an interface.
 fn hand_frame<S: Sink>(
     number: u64,
     time: Time<'_>,

@@ -88,7 +88,7 @@ impl TextDecoder {
         self.searched = 0;
     }
 
-    /// Hands on the events of a line.
+    /// Passes on the events of a line.
     fn take_line<S: Sink>(&mut self, line: &[u8], sink: &mut S)
         ensures state { self.new ≡ after_line self.old line.now }
         ensures events { Hands S.handed sink.old sink.new (line_events self.old line.now) }
@@ -101,7 +101,7 @@ impl TextDecoder {
         }
     }
 
-    /// Hands on the events of a line that is too long.
+    /// Passes on the events of a line that is too long.
     fn take_long<S: Sink>(&mut self, sink: &mut S)
         ensures state { self.new ≡ after_end (at_line self.old) }
         ensures events { Hands S.handed sink.old sink.new (long_events self.old) }
@@ -111,7 +111,7 @@ impl TextDecoder {
         sink.skipped(Part::Line, self.lines, Skipped::TooLong);
     }
 
-    /// Hands on the events of what follows the last line feed, and of the open dump.
+    /// Passes on the events of what follows the last line feed, and of the open dump.
     fn take_last<S: Sink>(&mut self, line: &[u8], sink: &mut S)
         ensures { Hands S.handed sink.old sink.new (last_events self.old line.now) }
     {
@@ -123,7 +123,7 @@ impl TextDecoder {
         self.end_dump(sink);
     }
 
-    /// Hands on the events of a line that says this.
+    /// Passes on the events of a line that says this.
     fn take_said<S: Sink>(&mut self, line: Line<'_>, sink: &mut S)
         requires { SaysAtMost 262144 line }
         ensures state { self.new ≡ after_said self.old line.entry }
@@ -151,7 +151,7 @@ impl TextDecoder {
         }
     }
 
-    /// Hands on a packet, where no dump is open.
+    /// Passes on a packet, where no dump is open.
     fn take_packet<S: Sink>(&mut self, time: Time<'_>, bytes: HexBytes<'_>, sink: &mut S)
         requires closed { self.old.dump ≡ None }
         requires short { 2 * length bytes ≤ 262144 }
@@ -167,7 +167,7 @@ impl TextDecoder {
         hand_on(self.packets, self.lines, time, link_type::SCTP, bytes, sink);
     }
 
-    /// Hands on the events of a line of a dump.
+    /// Passes on the events of a line of a dump.
     fn take_part<S: Sink>(&mut self, part: DumpedBytes<'_>, sink: &mut S)
         requires { 2 * length part.bytes ≤ 262144 }
         ensures state { self.new ≡ after_said self.old (Dumped part.entry) }
@@ -216,7 +216,7 @@ impl TextDecoder {
         part.bytes.append_reserved(&mut self.bytes);
     }
 
-    /// Hands on the packet of the open dump, if one is open.
+    /// Passes on the packet of the open dump, if one is open.
     fn end_dump<S: Sink>(&mut self, sink: &mut S)
         ensures state { self.new ≡ after_end self.old }
         ensures events { Hands S.handed sink.old sink.new (end_events self.old) }
@@ -272,7 +272,7 @@ impl Decoder for TextDecoder {
     }
 }
 
-/// Hands on a frame of a text.
+/// Passes on a frame of a text.
 fn hand_on<S: Sink>(
     number: u64,
     first_line: u64,

@@ -175,7 +175,7 @@ not_read_failed strict known left answer (inr (input, all, read, shown)) h =
 same_bytes : (now is : List ℕ) → Some now ≡ Some is → now ≡ is
 same_bytes now is e = cc
 
--- the line of a failed read alone, and status 1, come exactly where a read failed
+-- the line of a failed read alone, and status 1, come if and only if a read failed
 pub only_read_failed : (strict : Bool) (failed : Bool) (known left old new : Option (List ℕ))
     (answer : List ℕ × ℕ) (status : ℕ)
     → MayAnswer strict failed known left answer → status ≡ answer.1 → Appends old new answer.0

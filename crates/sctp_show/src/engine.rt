@@ -89,7 +89,7 @@ fn read_input<R: Read>(alloc: Global, input: &mut Watched<R>) -> Result<Vec<u8>,
     }
 }
 
-/// Writes the reply and answers its status, or 2 where the output failed.
+/// Writes the reply and returns its status, or 2 where the output failed.
 fn tell<W: Write>(output: &mut Watched<W>, reply: &Result<String, Failure>) -> u8
     ensures status { has_failed output.old ≡ false
         → (result ≡ 2) ↔ (has_failed output.new ≡ true) }
@@ -106,7 +106,7 @@ fn tell<W: Write>(output: &mut Watched<W>, reply: &Result<String, Failure>) -> u
     }
 }
 
-/// Writes the text, flushes, and answers `status`, or 2 where the output failed.
+/// Writes the text, flushes, and returns `status`, or 2 where the output failed.
 fn print<W: Write>(output: &mut Watched<W>, text: &[u8], status: u8) -> u8
     requires { status < 2 }
     ensures status { has_failed output.old ≡ false

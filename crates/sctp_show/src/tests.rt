@@ -121,8 +121,8 @@ fn is_row_so<F: Fn(Global, &str, (&str, u8)) -> bool>(
     Ok(is_so(alloc, text, (wanted.as_str(), status)))
 }
 
-/// The answer of the first row that isn't so. A row is a text and its answer, in one line with ` = `
-/// between them, or in two, of which the second begins with `= `; `#` begins a comment.
+/// The answer of the first row that isn't so. A row is a text and its answer, in one line with ` =
+/// ` between them, or in two, of which the second begins with `= `; `#` begins a comment.
 fn first_wrong<'a, F: Fn(Global, &str, (&str, u8)) -> bool>(
     alloc: Global,
     rows: &'a str,

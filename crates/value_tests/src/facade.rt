@@ -1,5 +1,5 @@
-//! The types and codes of `dcsctp_wire`: each module is that of its name. The values are those of the
-//! RFCs.
+//! The types and codes of `dcsctp_wire`: each module is that of its name. The values are those of
+//! the RFCs.
 
 use dcsctp_wire::packet::{
     abort_chunk, add_incoming_streams_request_parameter, add_outgoing_streams_request_parameter,

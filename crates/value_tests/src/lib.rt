@@ -1,6 +1,6 @@
-//! Tests of what no bytes say: traits, laws, constants and sizes; values with fields that aren't carried;
-//! lists of thousands of blocks; devices that fail; and the programs of `dcsctp_uses`. What bytes say is a
-//! row of `wire_rows`.
+//! Tests of what no bytes say: traits, laws, constants and sizes; values with fields that aren't
+//! carried; lists of thousands of blocks; devices that fail; and the programs of `dcsctp_uses`.
+//! What bytes say is a row of `wire_rows`.
 #![tactic(auto)]
 
 #[cfg(test)]

@@ -1,5 +1,5 @@
-//! The programs of `dcsctp_uses` that take memory, once each. Packets are laid out by hand after RFC 9260,
-//! or of the association; checksums are as another program computes them.
+//! The programs of `dcsctp_uses` that take memory, once each. Packets are laid out by hand after
+//! RFC 9260, or of the association; checksums are as another program computes them.
 
 ghost use Rattle.std.specs.Prelude.{◌≤◌, length};
 

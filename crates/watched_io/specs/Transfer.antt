@@ -12,7 +12,7 @@ abbrev pub AppendsBeginning : Option (List ℕ) → Option (List ℕ) → List �
 AppendsBeginning old new bytes =
     (written : List ℕ) × StartsWith bytes written × Appends old new written
 
--- a read behind the first `end` bytes of the memory added these many bytes
+-- a read after the first `end` bytes of the memory added these many bytes
 abbrev pub AddsBehind : ℕ → ℕ → List ℕ → Option (List ℕ) → List ℕ → Option (List ℕ) → Type 0
 AddsBehind end n old before new after =
     (more : List ℕ) × (length more ≡ n) × (take (end + n) new ≡ take end old ++ more)

@@ -15,7 +15,7 @@ pub const MOST_KEPT: usize = 262_144;
 /// The fewest bytes that there is room for when the input is read.
 const LEAST_ROOM: usize = 65_536;
 
-/// A record with its header, or a line with its end, and room for a read behind it.
+/// A record with its header, or a line with its end, and room for a read after it.
 const CAPACITY: usize = 327_696;
 
 /// The bytes that were read, and aren't used yet.
@@ -95,7 +95,7 @@ impl Window {
         }
     }
 
-    /// Moves the bytes to the front of the memory, where there is little room behind them.
+    /// Moves the bytes to the front of the memory, where there is little room after them.
     fn make_room(&mut self)
         requires { length (held self.old) ≤ MOST_KEPT + 16 }
         ensures bytes { held self.new ≡ held self.old }
@@ -118,7 +118,7 @@ fn move_to_front(bytes: &mut [u8], start: usize, end: usize)
     bytes[..end].rotate_left(start);
 }
 
-/// Reads once, behind the first `end` bytes.
+/// Reads once, after the first `end` bytes.
 fn read_behind<R: Read>(input: &mut Watched<R>, bytes: &mut [u8], end: usize) -> io::Result<usize>
     requires { end < length bytes.old }
     ensures bound { IfOk result (λ n. end + n ≤ length bytes.new) }

@@ -41,7 +41,7 @@ pub struct AddIncomingStreamsRequestParameter {
 impl AddIncomingStreamsRequestParameter {
     /// Reads the parameter; no memory is taken, and the reserved bytes are ignored.
     ///
-    /// `InvalidType` exactly for another type; `InvalidLength` exactly where the value hasn't 8
+    /// `InvalidType` exactly for another type; `InvalidLength` if and only if the value hasn't 8
     /// bytes.
     pub fn try_from(raw: RawParameter) -> Result<Self, ChunkParseError>
         ensures other { IsErrOf result ChunkParseError.InvalidType ↔
@@ -57,7 +57,7 @@ impl AddIncomingStreamsRequestParameter {
         Ok(AddIncomingStreamsRequestParameter::build(raw.value))
     }
 
-    /// `InvalidLength` exactly where the value hasn't 8 bytes.
+    /// `InvalidLength` if and only if the value hasn't 8 bytes.
     pub(crate) fn check(value: &[u8]) -> Result<(), ChunkParseError>
         ensures { Exactly checking (λ u. u) (Tested (request.read value.now)) result }
     {

@@ -29,7 +29,8 @@ pub struct ForwardTsnSupportedParameter;
 impl ForwardTsnSupportedParameter {
     /// Reads the parameter; no memory is taken.
     ///
-    /// `InvalidType` exactly for another type; `InvalidLength` exactly where the value isn't empty.
+    /// `InvalidType` exactly for another type; `InvalidLength` if and only if the value isn't
+    /// empty.
     pub fn try_from(raw: RawParameter) -> Result<Self, ChunkParseError>
         ensures other { IsErrOf result ChunkParseError.InvalidType ↔
             (raw.entry.typ ≢ PARAMETER_TYPE) }
@@ -44,7 +45,7 @@ impl ForwardTsnSupportedParameter {
         Ok(ForwardTsnSupportedParameter::build(raw.value))
     }
 
-    /// `InvalidLength` exactly where the value isn't empty.
+    /// `InvalidLength` if and only if the value isn't empty.
     pub(crate) fn check(value: &[u8]) -> Result<(), ChunkParseError>
         ensures { Exactly checking (λ u. u) (Tested (kind.read value.now)) result }
     {

@@ -46,7 +46,7 @@ pub struct IncomingSsnResetRequestParameter {
 impl IncomingSsnResetRequestParameter {
     /// Reads the parameter, and copies its stream ids.
     ///
-    /// `InvalidType` exactly for another type; `InvalidLength` exactly where the value has fewer
+    /// `InvalidType` exactly for another type; `InvalidLength` if and only if the value has fewer
     /// than 4 bytes or an odd number of them; `OutOfMemory` only where the ids can't be copied.
     pub fn try_from(alloc: Global, raw: RawParameter) -> Result<Self, ChunkParseError>
         ensures other { IsErrOf result ChunkParseError.InvalidType ↔
@@ -64,7 +64,7 @@ impl IncomingSsnResetRequestParameter {
         Ok(IncomingSsnResetRequestParameter::build(alloc, raw.value)?)
     }
 
-    /// `InvalidLength` exactly where the value has fewer than 4 bytes or an odd number of them.
+    /// `InvalidLength` if and only if the value has fewer than 4 bytes or an odd number of them.
     pub(crate) fn check(value: &[u8]) -> Result<(), ChunkParseError>
         ensures { Exactly checking (λ u. u) (Tested (kind.read value.now)) result }
     {

@@ -55,7 +55,7 @@ pub struct OutgoingSsnResetRequestParameter {
 impl OutgoingSsnResetRequestParameter {
     /// Reads the parameter, and copies its stream ids.
     ///
-    /// `InvalidType` exactly for another type; `InvalidLength` exactly where the value has fewer
+    /// `InvalidType` exactly for another type; `InvalidLength` if and only if the value has fewer
     /// than 12 bytes or an odd number of them; `OutOfMemory` only where the ids can't be copied.
     pub fn try_from(alloc: Global, raw: RawParameter) -> Result<Self, ChunkParseError>
         ensures other { IsErrOf result ChunkParseError.InvalidType ↔
@@ -73,7 +73,7 @@ impl OutgoingSsnResetRequestParameter {
         Ok(OutgoingSsnResetRequestParameter::build(alloc, raw.value)?)
     }
 
-    /// `InvalidLength` exactly where the value has fewer than 12 bytes or an odd number of them.
+    /// `InvalidLength` if and only if the value has fewer than 12 bytes or an odd number of them.
     pub(crate) fn check(value: &[u8]) -> Result<(), ChunkParseError>
         ensures { Exactly checking (λ u. u) (Tested (kind.read value.now)) result }
     {

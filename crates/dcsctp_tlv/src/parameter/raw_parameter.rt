@@ -25,7 +25,7 @@ impl<'a> RawParameter<'a> {
     ///
     /// Value and rest are parts of the input, and no memory is taken. Padding isn't looked at; the
     /// last parameter of a list may lack some or all of it, and then nothing is left.
-    /// `InvalidLength` exactly where there are fewer than 4 bytes, or the length field is below 4
+    /// `InvalidLength` if and only if there are fewer than 4 bytes, or the length field is below 4
     /// or above the number of bytes.
     pub fn from_bytes(bytes: &'a [u8]) -> Result<(Self, &'a [u8]), ChunkParseError>
         ensures frame { IsOk result ↔ BeginsWithFrame bytes.now }

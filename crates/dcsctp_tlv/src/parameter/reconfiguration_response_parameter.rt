@@ -105,8 +105,8 @@ pub struct ReconfigurationResponseParameter {
 impl ReconfigurationResponseParameter {
     /// Reads the parameter; no memory is taken.
     ///
-    /// `InvalidType` exactly for another type; `InvalidLength` exactly where the value hasn't 8 or
-    /// 16 bytes; `InvalidValue` exactly where it has, and its result is above 6.
+    /// `InvalidType` exactly for another type; `InvalidLength` if and only if the value hasn't 8 or
+    /// 16 bytes; `InvalidValue` if and only if it has, and its result is above 6.
     pub fn try_from(raw: RawParameter) -> Result<Self, ChunkParseError>
         ensures other { IsErrOf result ChunkParseError.InvalidType ↔
             (raw.entry.typ ≢ PARAMETER_TYPE) }
@@ -121,7 +121,7 @@ impl ReconfigurationResponseParameter {
         Ok(ReconfigurationResponseParameter::build(raw.value))
     }
 
-    /// `InvalidLength` exactly where the value hasn't 8 or 16 bytes; `InvalidValue` exactly where
+    /// `InvalidLength` if and only if the value hasn't 8 or 16 bytes; `InvalidValue` if and only if
     /// it has, and its result is above 6.
     pub(crate) fn check(value: &[u8]) -> Result<(), ChunkParseError>
         ensures { Exactly checking (λ u. u) (Tested (kind.read value.now)) result }

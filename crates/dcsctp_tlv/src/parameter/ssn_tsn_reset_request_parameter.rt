@@ -35,7 +35,7 @@ pub struct SsnTsnResetRequestParameter {
 impl SsnTsnResetRequestParameter {
     /// Reads the parameter; no memory is taken.
     ///
-    /// `InvalidType` exactly for another type; `InvalidLength` exactly where the value hasn't 4
+    /// `InvalidType` exactly for another type; `InvalidLength` if and only if the value hasn't 4
     /// bytes.
     pub fn try_from(raw: RawParameter) -> Result<Self, ChunkParseError>
         ensures other { IsErrOf result ChunkParseError.InvalidType ↔
@@ -51,7 +51,7 @@ impl SsnTsnResetRequestParameter {
         Ok(SsnTsnResetRequestParameter::build(raw.value))
     }
 
-    /// `InvalidLength` exactly where the value hasn't 4 bytes.
+    /// `InvalidLength` if and only if the value hasn't 4 bytes.
     pub(crate) fn check(value: &[u8]) -> Result<(), ChunkParseError>
         ensures { Exactly checking (λ u. u) (Tested (kind.read value.now)) result }
     {

@@ -36,7 +36,7 @@ pub struct ZeroChecksumAcceptableParameter {
 impl ZeroChecksumAcceptableParameter {
     /// Reads the parameter; no memory is taken, and every method is accepted.
     ///
-    /// `InvalidType` exactly for another type; `InvalidLength` exactly where the value hasn't 4
+    /// `InvalidType` exactly for another type; `InvalidLength` if and only if the value hasn't 4
     /// bytes.
     pub fn try_from(raw: RawParameter) -> Result<Self, ChunkParseError>
         ensures other { IsErrOf result ChunkParseError.InvalidType ↔
@@ -52,7 +52,7 @@ impl ZeroChecksumAcceptableParameter {
         Ok(ZeroChecksumAcceptableParameter::build(raw.value))
     }
 
-    /// `InvalidLength` exactly where the value hasn't 4 bytes.
+    /// `InvalidLength` if and only if the value hasn't 4 bytes.
     pub(crate) fn check(value: &[u8]) -> Result<(), ChunkParseError>
         ensures { Exactly checking (λ u. u) (Tested (kind.read value.now)) result }
     {

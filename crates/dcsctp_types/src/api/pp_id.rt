@@ -4,7 +4,7 @@ ghost use Rattle.std.specs.{Prelude.{◌≡◌, Some}, Fmt.{decimal}};
 
 use std::fmt;
 
-/// A payload protocol identifier (RFC 9260 section 3.3.1), which SCTP hands on as it is.
+/// A payload protocol identifier (RFC 9260 section 3.3.1), which SCTP passes on as it is.
 /// Identifiers are ordered by their numbers, and print as decimal ones.
 #[derive(Clone, Copy, PartialEq, Eq, PartialOrd, Ord, Hash)]
 pub struct PpId(pub u32);

@@ -118,7 +118,7 @@ impl SctpPacketBuilder {
     }
 
     /// Adds the chunk where `add` may be called: it is `encodable`, and `bytes_remaining` has room
-    /// for it. Else the answer is false, and nothing is changed.
+    /// for it. Else false is returned, and nothing is changed.
     ///
     /// For callers that don't prove the conditions of `add`. Memory can run out only where the
     /// chunk has room, and nothing was added before; then nothing is changed.

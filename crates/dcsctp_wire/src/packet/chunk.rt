@@ -175,8 +175,8 @@ impl Chunk {
     /// `InvalidLength` where the value has a size that its kind doesn't allow; else the first
     /// fault of the list that it holds, if it holds one. `OutOfMemory` only where the value has a
     /// meaning, and what it holds can't be copied; never where it holds nothing on the heap.
-    /// `InvalidType` is never answered. Its bytes mean one chunk or have one fault
-    /// (`laws::one_answer`), so this is the chunk exactly where they mean one.
+    /// `InvalidType` is never returned. Its bytes mean one chunk or have one fault
+    /// (`laws::one_answer`), so this is the chunk if and only if they mean one.
     pub fn try_from(alloc: Global, raw: RawChunk) -> Result<Self, ChunkParseError>
         ensures answer { Exactly reading view
             (Unplaced (RowAnswer (chunk_row lenient raw.entry.typ raw.entry.flags)

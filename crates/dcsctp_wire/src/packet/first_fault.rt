@@ -9,7 +9,7 @@ use crate::packet::sctp_packet::{ChecksumPolicy, PacketParseError, SctpPacket, c
 /// Why bytes are no packet, and where.
 #[derive(Debug, Drop, PartialEq, Eq)]
 pub struct FirstFault {
-    /// What `from_bytes` and `check` answer; never that memory ran out.
+    /// What `from_bytes` and `check` return; never that memory ran out.
     pub fault: PacketParseError,
     /// The fault's offset in bytes: at most the number of bytes of the input.
     ///
@@ -33,9 +33,9 @@ impl SctpPacket {
     /// The first fault of the bytes, and its offset in bytes from the packet's first byte. It takes
     /// no memory.
     ///
-    /// Nothing exactly where the grammar gives these bytes a packet; else the fault that
-    /// `from_bytes` and `check` answer under the same word and policy, and its place, of which
-    /// there is one (`laws::one_answer`). `OutOfMemory` is never answered.
+    /// Nothing if and only if the grammar gives these bytes a packet; else the fault that
+    /// `from_bytes` and `check` return under the same word and policy, and its place, of which
+    /// there is one (`laws::one_answer`). `OutOfMemory` is never returned.
     pub fn first_fault(bytes: &[u8], checksum: u32, policy: &ChecksumPolicy) -> Option<FirstFault>
         ensures answer { Exactly packet_locating (λ u. u)
             (PacketLocated bytes.now checksum policy.now) (refused result) }

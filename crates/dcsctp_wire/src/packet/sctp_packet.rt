@@ -57,7 +57,7 @@ pub enum PacketParseError {
     /// The policy doesn't accept its checksum field.
     #[error("Invalid packet checksum")]
     InvalidChecksum,
-    /// Never answered.
+    /// Never returned.
     #[error("Invalid chunk size")]
     InvalidChunkSize,
     /// The first fault of the chunks; or memory ran out.
@@ -164,7 +164,7 @@ impl SctpPacket {
     /// `InvalidPacketSize` unless there are 16 to 65,535 bytes; then `InvalidChecksum` unless the
     /// policy accepts the field; then `FailedParseChunk` with the first fault of the chunks from
     /// the left. Where there is no fault, memory is taken, each list at once, and
-    /// `FailedParseChunk` with `OutOfMemory` is answered where it runs out.
+    /// `FailedParseChunk` with `OutOfMemory` is returned where it runs out.
     ///
     /// Padding isn't looked at, unless the policy is strict. Then `InvalidPadding` is the fault of
     /// a chunk, a parameter or an error cause that has a meaning, and padding that isn't accepted;
@@ -215,8 +215,8 @@ impl SctpPacket {
     /// The number of parts of a packet: its chunks, and the parameters and error causes in them;
     /// or its fault. Does not allocate.
     ///
-    /// The number exactly where the grammar gives these bytes a packet, and the same faults as
-    /// `from_bytes` exactly where this reports them. `OutOfMemory` is never returned.
+    /// The number if and only if the grammar gives these bytes a packet, and the same faults as
+    /// `from_bytes` if and only if this reports them. `OutOfMemory` is never returned.
     pub fn check(
         bytes: &[u8],
         checksum: u32,
@@ -272,7 +272,7 @@ impl SctpPacket {
         COMMON_HEADER_SIZE + body_size
     }
 
-    /// Writes the canonical packet, which `canonical_bytes` answers, over as many bytes as it has
+    /// Writes the canonical packet, which `canonical_bytes` returns, over as many bytes as it has
     /// (`canonical_size`). Does not allocate.
     pub fn write_canonical(&self, output: &mut [u8])
         requires fits { Fits (meaning_view self.now) }
@@ -350,7 +350,7 @@ pub(crate) fn check_packet(
     }
 }
 
-/// Reads a packet: what it answers, and no law of it.
+/// Reads a packet: what it returns, and no law of it.
 fn read_packet(
     alloc: Global,
     bytes: &[u8],

@@ -33,8 +33,8 @@ zz = error: not hexadecimal
 # The digits are told before the packet's size.
 13888 = error: not hexadecimal";
 
-/// A sample of what the Rust crate answers: packets drawn from a generated corpus, read, printed and
-/// written by `dcsctp` 0.1.16 under the same program.
+/// A sample of what the Rust crate answers: packets drawn from a generated corpus, read, printed
+/// and written by `dcsctp` 0.1.16 under the same program.
 const ORIGINAL: &str = r"# Too short.
 7fff1645649444f1b4659ceb0408 = error: invalid packet size
 # The first chunk is longer than the packet.

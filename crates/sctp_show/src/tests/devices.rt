@@ -96,8 +96,8 @@ fn reader_gives_none(rt: HostRuntime) {
 
 const BROKEN_PIPE: Fault = Fault::Error(ErrorKind::BrokenPipe);
 
-/// A text, how many bytes its reader gives a call, the call at which that fails and how, and what is
-/// to be written.
+/// A text, how many bytes its reader gives a call, the call at which that fails and how, and what
+/// is to be written.
 type Row = (&'static str, usize, (usize, Fault), &'static str);
 
 const NEVER: (usize, Fault) = (0, Fault::Nothing);

@@ -1,4 +1,4 @@
--- The blocks that are left are apart from those before them exactly where all are.
+-- The blocks that are left are apart from those before them if and only if all are.
 use Rattle.std.proofs.Common.{◌↔◌}
 use Rattle.dcsctp_chunk.specs.Apart.{IsApart}
 use Rattle.dcsctp_borrowed.proofs.sack_ref.SackRef.validate.Given as goal

@@ -1,4 +1,4 @@
--- The blocks so far are apart, and so are those that are left, exactly where all are.
+-- The blocks so far are apart, and so are those that are left, if and only if all are.
 use Rattle.std.{proofs.Common.{◌↔◌, ◌≤◌, IsTrue, drop}, specs.List.{AllWithin}}
 use Rattle.dcsctp_chunk.specs.{declared.sack_chunk.GapAckBlock.{GapAckBlock}, Apart.{IsApart}}
 use Rattle.dcsctp_chunk.proofs.chunk_validators.validate.are_apart.Given as goal
