@@ -51,7 +51,7 @@ PARAMETERS = {1: 'Heartbeat Info', 5: 'IPv4 Address', 6: 'IPv6 Address', 7: 'Sta
               13: 'Outgoing SSN Reset Request', 14: 'Incoming SSN Reset Request', 15: 'SSN/TSN Reset Request',
               16: 'Re-configuration Response', 17: 'Add Outgoing Streams Request', 18: 'Add Incoming Streams Request',
               0x8000: 'ECN Capable', 0x8001: 'Zero Checksum Acceptable', 0x8002: 'Random', 0x8003: 'Chunk List',
-              0x8004: 'Requested HMAC Algorithm', 0x8008: 'Supported Extensions', 0xC000: 'Forward TSN Supported',
+              0x8004: 'Requested HMAC Algorithm', 0x8008: 'Supported Extensions', 0xC000: 'Forward-TSN-Supported',
               0xC006: 'Adaptation Layer Indication'}
 ADDRESSES_NAMED, HMACS = {5: 'IPv4', 6: 'IPv6'}, {1: 'SHA-1', 3: 'SHA-256'}
 # scapy's names of payload protocols that aren't the program's: it takes the short forms of Wireshark's table.

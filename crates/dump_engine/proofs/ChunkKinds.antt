@@ -2,7 +2,8 @@
 use Rattle.std.proofs.Common.{◌≡◌, ℕ, List, [], ◌∷◌, fold, slice_index, slice_set, refl, ap, subst, ◌∙◌}
 use Rattle.dcsctp_tlv.specs.Frame.{BeginsWithFrame, frame_rest}
 use Rattle.dump_engine.specs.declared.counts.Counts.{Counts}
-use Rattle.dump_engine.specs.Counts.{ChunkTypes, none, next, with_kind, one_more}
+use Rattle.sctp_capture.specs.Number.{one_more}
+use Rattle.dump_engine.specs.Counts.{ChunkTypes, none, next, with_kind}
 
 -- whatever types the chunks have that are left, all have them after those that were counted
 abbrev pub Counting : List ℕ → Counts → List ℕ → Counts → Type 0

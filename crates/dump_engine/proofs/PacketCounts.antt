@@ -9,7 +9,8 @@ use Rattle.dcsctp_borrowed.specs.PacketRef.{reference}
 use Rattle.dcsctp_borrowed.specs.declared.packet_ref.SctpPacketRef.{SctpPacketRef}
 use Rattle.dump_engine.specs.declared.options.Options.{Options}
 use Rattle.dump_engine.specs.declared.counts.Counts.{Counts}
-use Rattle.dump_engine.specs.Counts.{one_more, policy_of, ChunkTypes, with_kind, accepted_with, with_checksum, refused_by, CountsPacket, whole, faulty}
+use Rattle.sctp_capture.specs.Number.{one_more}
+use Rattle.dump_engine.specs.Counts.{policy_of, ChunkTypes, with_kind, accepted_with, with_checksum, refused_by, CountsPacket, whole, faulty}
 
 pub counted_accepted : (o : Options) (before checked after : Counts) (p : Packet) (word n : ℕ)
     (policy : ChecksumPolicy) (r : SctpPacketRef) → p.length ≤ length p.bytes

@@ -1,5 +1,6 @@
 -- What is counted of the events of captures, and the status of a run.
-use Rattle.std.specs.Prelude.{◌≡◌, ◌+◌, ◌-◌, ◌^◌, ◌≤◌, ◌<◌, ◌==◌, ◌||◌, ◌&&◌, ℕ, Bool, true, min, nat_lt, if◌then◌else◌, List, [], ◌∷◌, ◌++◌, fold, replicate, slice_index, slice_set, length, Result, Ok, Err}
+use Rattle.std.specs.Prelude.{◌≡◌, ◌+◌, ◌≤◌, ◌<◌, ◌==◌, ◌||◌, ◌&&◌, ℕ, Bool, true, nat_lt, if◌then◌else◌, List, [], ◌∷◌, ◌++◌, fold, replicate, slice_index, slice_set, length, Result, Ok, Err}
+use Rattle.sctp_capture.specs.Number.{capped, one_more}
 use Rattle.sctp_capture.specs.Event.{Event, Saw, Skip}
 use Rattle.sctp_capture.specs.Frame.{Packet, packet_in}
 use Rattle.sctp_capture.specs.declared.frame.NoPacket.{NoPacket}
@@ -15,14 +16,6 @@ use Rattle.dcsctp_wire.specs.declared.packet.sctp_packet.PacketParseError.{Packe
 use Rattle.dcsctp_wire.specs.declared.packet.sctp_packet.PacketParseError.TheVariants.{FailedParseChunk}
 use Rattle.dump_engine.specs.declared.options.Options.{Options}
 use Rattle.dump_engine.specs.declared.counts.Counts.{Counts}
-
--- ---- numbers up to 2^64 - 1
-
-abbrev pub capped : ℕ → ℕ
-capped n = min n (2 ^ 64 - 1)
-
-abbrev pub one_more : ℕ → ℕ
-one_more n = capped (n + 1)
 
 abbrev pub nothing : Counts
 nothing = record {
@@ -145,8 +138,8 @@ pub data AreCounts (o : Options) : List Event → Counts → Type 0 where
       → AreCounts o first before → CountsEvent o before last c → events ≡ first ++ last ∷ []
       → AreCounts o events c
 
--- 2: an input couldn't be read, or nothing was read of any; or else 1: a packet was refused; or else
--- 3: one breaks a rule that was looked at
+-- 2: an input couldn't be read, or nothing was read of any; or else 1: a packet was refused; or
+-- else 3: one breaks a rule that was looked at
 abbrev pub is_unread : Counts → Bool
 is_unread c = packets c == 0 && nat_lt 0 (skipped c)
 

@@ -39,8 +39,8 @@ kind_of form.Text bytes = kind.Text
 
 -- ---- its events
 
--- a printer, of whose type `handed` is, was handed the events of all that was left of such an input,
--- up to the end, or to a fault
+-- a printer, of whose type `handed` is, was handed the events of all that was left of such an
+-- input, up to the end, or to a fault
 abbrev pub HandsKind : {P : Type 0} → (P → List Event → Type 0) → Option (List ℕ) → P → P
     → Option Fault → Kind → Type 0
 HandsKind handed left old new fault kind.Pcap =

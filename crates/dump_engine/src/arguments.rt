@@ -24,7 +24,7 @@ What is printed:
   --brief          a line a packet, blanks only between its fields
   --json           a JSON object a line
   --places         in JSON also the offset and size of each field
-  --payload        all bytes of values, in rows, and not the first 16 alone
+  --payload        all bytes of values, in rows, not the first 16 (64 of a text)
   --time FORM      iso, utc, relative (to the first packet) or delta (to the
                    packet before)
   --associations   a block an association, in place of packets; with --brief or
@@ -45,7 +45,7 @@ Which packets are printed (all are counted); all that is asked for holds:
   --faults         refused
 
 How they are read:
-  --strict         refuse padding that isn't zero
+  --strict         refuse padding that isn't zero, or is missing
   --udp-port PORT  the UDP port that carries SCTP; 9899 if not given
   --format FORM    pcap, pcapng or text, in place of what the first bytes say
   --help, --version
@@ -121,8 +121,8 @@ fn is_option(word: &str) -> bool {
 }
 
 impl<'a> Request<'a> {
-    /// Takes an option, and returns whether the next word is its value. The value may be in the same
-    /// word, after `=`.
+    /// Takes an option, and returns whether the next word is its value. The value may be in the
+    /// same word, after `=`.
     fn take(&mut self, word: &str, next: &str) -> Result<bool, Failure> {
         if self.take_flag(word) {
             return Ok(false);

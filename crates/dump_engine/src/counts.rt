@@ -2,8 +2,9 @@
 
 ghost use Rattle.std.specs.Prelude.{◌≡◌, ℕ, List, fold};
 ghost use Rattle.sctp_capture.specs.Found.{packet_of};
+ghost use Rattle.sctp_capture.specs.Number.{one_more};
 ghost use Rattle.dcsctp_wire.specs.declared.packet.sctp_packet.ChecksumPolicy.{ChecksumPolicy};
-ghost use Rattle.dump_engine.specs.Counts.{nothing, one_more, with_kind, ChunkTypes, with_checksum, refused_by, no_packet, unread, packets, refused, skipped, is_unread, CountsPacket};
+ghost use Rattle.dump_engine.specs.Counts.{nothing, with_kind, ChunkTypes, with_checksum, refused_by, no_packet, unread, packets, refused, skipped, is_unread, CountsPacket};
 
 use crate::options::Options;
 use dcsctp_borrowed::packet_ref::SctpPacketRef;

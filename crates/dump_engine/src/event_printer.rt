@@ -12,14 +12,14 @@ use crate::skipped::{SkippedJson, SkippedLine, frame_reason_of, reason_of};
 use crate::summary::{Summary, SummaryJson};
 use crate::warnings::{Broken, RULES, WarningLines, WarningsBrief, WarningsJson};
 use crate::when::{Clock, nanoseconds_of};
-use dcsctp_wire::packet::sctp_packet::{CommonHeader, FirstFault, SctpPacket};
+use dcsctp_wire::packet::sctp_packet::{FirstFault, SctpPacket};
 use sctp_association::{
-    Association, AssociationJson, AssociationReport, Associations, Checksum, SeenPacket,
+    Association, AssociationJson, AssociationReport, Associations, SeenPacket, TimeStyle,
 };
 use sctp_capture::event::{Part, Seen, Sink, Skipped, Time};
 use sctp_capture::frame::{FoundPacket, NoPacket, packet_in};
 use sctp_filter::rule::Rule;
-use sctp_report::{JsonText, PacketBrief, PacketJson, PacketReport};
+use sctp_report::{Checksum, JsonText, PacketBrief, PacketJson, PacketReport};
 use std::alloc::{AllocError, Global};
 use std::io;
 use std::io::{ErrorKind, Write};
@@ -176,7 +176,7 @@ impl<W: Write> EventPrinter<W> {
             number: seen.number,
             nanoseconds,
             found: *found,
-            checksum: checksum_of(found, verdict, word),
+            checksum: Checksum::of_packet(found.packet, found.length, word),
             is_refused: verdict == Verdict::Refused,
             passes,
         })?;
@@ -380,22 +380,6 @@ fn failure_of(error: &io::Error) -> Failure {
     }
 }
 
-/// Returns what was found of a checksum field.
-fn checksum_of(found: &FoundPacket<'_>, verdict: Verdict, word: u32) -> Checksum {
-    match CommonHeader::from_bytes(found.packet) {
-        Some(header) if verdict != Verdict::Partial => {
-            if header.checksum == word {
-                Checksum::Right
-            } else if header.checksum == 0 {
-                Checksum::Zero
-            } else {
-                Checksum::Wrong
-            }
-        }
-        _ => Checksum::Unknown,
-    }
-}
-
 /// Adds a packet.
 fn push_packet(
     options: &Options,
@@ -471,20 +455,15 @@ fn push_association(
     if !options.associations || !association.passes {
         return Ok(());
     }
-    let (form, digits) = (options.time_form(is_log), 6);
+    let style = TimeStyle {
+        form: options.time_form(is_log),
+        digits: 6,
+    };
     if options.output == OutputForm::Json {
-        let object = AssociationJson {
-            association,
-            form,
-            digits,
-        };
+        let object = AssociationJson { association, style };
         return writeln!(text, "{object}");
     }
-    let report = AssociationReport {
-        association,
-        form,
-        digits,
-    };
+    let report = AssociationReport { association, style };
     writeln!(text, "{report}")
 }
 

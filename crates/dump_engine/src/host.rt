@@ -89,8 +89,8 @@ fn print(rt: &HostRuntime, text: &str) -> Result<u8, Failure>
     }
 }
 
-/// Prints the packets of all inputs, and then the counts of them all. An input that can't be read is
-/// reported, and the next one begun.
+/// Prints the packets of all inputs, and then the counts of them all. An input that can't be read
+/// is reported, and the next one begun.
 fn dump_all(rt: &HostRuntime, request: &Request<'_>) -> Result<u8, Failure>
     ensures { IfOk result (λ status. status ≤ 3) }
 {
@@ -150,8 +150,8 @@ fn status_of(failed: bool, warned: bool, counts: &Counts) -> u8
     }
 }
 
-/// Reports a failure of an input, and returns whether it failed. A failure of the output or of memory
-/// ends the run.
+/// Reports a failure of an input, and returns whether it failed. A failure of the output or of
+/// memory ends the run.
 fn is_over(rt: &HostRuntime, name: &str, outcome: Result<(), Failure>) -> Result<bool, Failure>
     ensures { result ≡ after_input outcome }
 {

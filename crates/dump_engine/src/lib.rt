@@ -1,7 +1,7 @@
 //! What is in a capture: the work of `sctp_dump`, whose `main` calls `run`.
 //!
-//! `read_input` hands the events of an input to a printer, over a reader that may fail; `EventPrinter`
-//! prints them to a writer that may.
+//! `read_input` hands the events of an input to a printer, over a reader that may fail;
+//! `EventPrinter` prints them to a writer that may.
 #![tactic(auto)]
 
 mod arguments;

@@ -102,7 +102,7 @@ impl<'a> fmt::Display for SummaryJson<'a> {
     }
 }
 
-/// Writes a number behind its key.
+/// Writes a number after its key.
 fn write_number<W: fmt::Write>(
     key: &'static str,
     number: u64,

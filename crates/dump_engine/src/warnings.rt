@@ -66,7 +66,7 @@ impl fmt::Display for WarningLines {
     }
 }
 
-/// Their names, each behind a blank, at the end of a line.
+/// Their names, each after a blank, at the end of a line.
 #[derive(Clone, Copy)]
 pub struct WarningsBrief(pub Broken);
 

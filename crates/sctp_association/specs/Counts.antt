@@ -1,20 +1,13 @@
 -- What is counted of the packets that one end of an association sent.
-use Rattle.std.specs.Prelude.{◌≡◌, ◌+◌, ◌-◌, ◌^◌, ◌==◌, ℕ, Bool, min, nat_lt, nat_le, if◌then◌else◌, List, fold, length, drop, Option, Some, None}
+use Rattle.std.specs.Prelude.{◌≡◌, ◌+◌, ◌-◌, ◌==◌, ℕ, Bool, nat_lt, nat_le, if◌then◌else◌, List, fold, length, drop, Option, Some, None}
 use Rattle.dcsctp_tlv.specs.Number.{number16, number32}
+use Rattle.sctp_capture.specs.Number.{capped, one_more}
 use Rattle.sctp_report.specs.Part.{Part, Item, AreItems, after}
 use Rattle.sctp_association.specs.declared.counts.Counts.{Counts}
 use Rattle.sctp_association.specs.declared.counts.LeastWindow.{LeastWindow}
 use Rattle.sctp_association.specs.declared.counts.SeenPacket.{SeenPacket}
-use Rattle.sctp_association.specs.declared.counts.Checksum.{Checksum}
-use Rattle.sctp_association.specs.declared.counts.Checksum.TheVariants.{Right, Zero, Wrong, Unknown}
-
--- ---- numbers up to 2^64 - 1
-
-abbrev pub capped : ℕ → ℕ
-capped n = min n (2 ^ 64 - 1)
-
-abbrev pub one_more : ℕ → ℕ
-one_more n = capped (n + 1)
+use Rattle.sctp_report.specs.declared.checksum.Checksum.{Checksum}
+use Rattle.sctp_report.specs.declared.checksum.Checksum.TheVariants.{Right, Zero, Wrong, Unknown}
 
 abbrev pub nothing : Counts
 nothing = record {
@@ -32,11 +25,11 @@ nothing = record {
 
 -- ---- a packet, without its chunks
 
--- A field of zero says that no checksum was computed (RFC 9653 section 3); neither right nor unknown
--- ones are counted.
+-- A field of zero says that no checksum was computed (RFC 9653 section 3); neither right nor
+-- unknown ones are counted.
 abbrev pub with_checksum : Counts → Checksum → Counts
 with_checksum c Zero = record c { zero = one_more c.zero }
-with_checksum c Wrong = record c { wrong = one_more c.wrong }
+with_checksum c (Wrong _) = record c { wrong = one_more c.wrong }
 with_checksum c Right = c
 with_checksum c Unknown = c
 
@@ -82,8 +75,8 @@ with_sack packet c value =
     let more = record c { sacks = one_more c.sacks } in
     if nat_lt (length value) 12 then more else with_least packet (with_gaps more value) value
 
--- DATA (RFC 9260 section 3.3.1) has 12 bytes before its user data, I-DATA (RFC 8260 section 2.1) 16;
--- SACK is of RFC 9260 section 3.3.4, HEARTBEAT of 3.3.5.
+-- DATA (RFC 9260 section 3.3.1) has 12 bytes before its user data, I-DATA (RFC 8260 section 2.1)
+-- 16; SACK is of RFC 9260 section 3.3.4, HEARTBEAT of 3.3.5.
 abbrev pub with_chunk : ℕ → Counts → Item → Counts
 with_chunk packet c chunk =
     if chunk.first == 0 then with_data c (chunk.value.size - 12) else

@@ -63,7 +63,7 @@ impl Route {
     }
 }
 
-/// A packet, and what of it tells its association.
+/// A packet, and by what it is known which association it belongs to.
 #[derive(Clone, Copy)]
 struct Arrival<'a, 'p> {
     packet: &'p SeenPacket<'a>,
@@ -448,7 +448,8 @@ fn key_of(header: &CommonHeader) -> FlowKey {
     }
 }
 
-/// Returns what of a packet tells its association; `None` if its common header wasn't captured.
+/// Returns by what it is known which association a packet belongs to; `None` if its common header
+/// wasn't captured.
 fn arrival_of<'a, 'p>(packet: &'p SeenPacket<'a>) -> Option<Arrival<'a, 'p>> {
     let header = CommonHeader::from_bytes(packet.found.packet)?;
     let (source, destination) = packet.addresses();

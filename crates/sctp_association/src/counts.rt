@@ -2,27 +2,15 @@
 
 ghost use Rattle.std.specs.Prelude.{◌≡◌};
 ghost use Rattle.sctp_report.specs.Part.{item_of};
-ghost use Rattle.sctp_association.specs.Counts.{nothing, one_more, with_chunk, with_data, with_sack, with_header, with_window, CountsChunks, CountsPacket, packet_of};
+ghost use Rattle.sctp_capture.specs.Number.{one_more};
+ghost use Rattle.sctp_association.specs.Counts.{nothing, with_chunk, with_data, with_sack, with_header, with_window, CountsChunks, CountsPacket, packet_of};
 
 use crate::chunk_type::{DATA, HEARTBEAT, I_DATA, SACK};
 use dcsctp_wire::packet::sctp_packet::COMMON_HEADER_SIZE;
 use dcsctp_wire::packet::{read_u16_be, read_u32_be};
 use sctp_capture::frame::{Addresses, FoundPacket};
-use sctp_report::{Item, Items, Part};
+use sctp_report::{Checksum, Item, Items, Part};
 use std::net::{IpAddr, Ipv4Addr, Ipv6Addr};
-
-/// What is known of a packet's checksum field.
-#[derive(Clone, Copy, Debug, PartialEq, Eq)]
-pub enum Checksum {
-    /// It is the CRC32c.
-    Right,
-    /// It is zero, and the CRC32c isn't (RFC 9653).
-    Zero,
-    /// It is another number.
-    Wrong,
-    /// Not all of the packet was captured.
-    Unknown,
-}
 
 /// A packet of a capture.
 #[derive(Clone, Copy, Debug)]
@@ -148,7 +136,7 @@ impl Counts {
         }
         match checksum {
             Checksum::Zero => increase(&mut self.zero),
-            Checksum::Wrong => increase(&mut self.wrong),
+            Checksum::Wrong(_) => increase(&mut self.wrong),
             Checksum::Right | Checksum::Unknown => {}
         }
     }

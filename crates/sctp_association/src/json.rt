@@ -3,7 +3,7 @@
 use crate::association::{Association, Began, Ended, Side};
 use crate::end::End;
 use crate::round_trips::RoundTrips;
-use crate::time::{SecondsReport, TimeForm, TimeReport};
+use crate::time::TimeStyle;
 use sctp_report::{ChunkName, cause_name};
 use std::fmt;
 
@@ -13,9 +13,7 @@ pub struct AssociationJson<'a> {
     /// The association.
     pub association: &'a Association,
     /// How times are written.
-    pub form: TimeForm,
-    /// How many digits of a second's fraction are written, as of `TimeReport`.
-    pub digits: u8,
+    pub style: TimeStyle,
 }
 
 impl<'a> fmt::Display for AssociationJson<'a> {
@@ -124,11 +122,7 @@ impl<'a> AssociationJson<'a> {
         let Some(nanoseconds) = nanoseconds else {
             return Ok(());
         };
-        let time = TimeReport {
-            nanoseconds,
-            digits: self.digits,
-            form: self.form,
-        };
+        let time = self.style.time(nanoseconds);
         write!(f, ",\"time\":\"{time}\"")
     }
 
@@ -139,11 +133,7 @@ impl<'a> AssociationJson<'a> {
         nanoseconds: u64,
         f: &mut fmt::Formatter<W>,
     ) -> fmt::Result {
-        let digits = self.digits;
-        let seconds = SecondsReport {
-            nanoseconds,
-            digits,
-        };
+        let seconds = self.style.seconds(nanoseconds);
         write!(f, ",\"{key}\":\"{seconds}\"")
     }
 }

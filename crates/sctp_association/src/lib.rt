@@ -21,11 +21,11 @@ mod tsns;
 
 pub use crate::association::{Association, Began, Ended, Side};
 pub use crate::associations::Associations;
-pub use crate::counts::{Checksum, Counts, LeastWindow, SeenPacket};
+pub use crate::counts::{Counts, LeastWindow, SeenPacket};
 pub use crate::end::{Acknowledged, Closed, End};
 pub use crate::heartbeats::Heartbeats;
 pub use crate::json::AssociationJson;
 pub use crate::report::AssociationReport;
 pub use crate::round_trips::RoundTrips;
-pub use crate::time::{SecondsReport, TimeForm, TimeReport};
+pub use crate::time::{SecondsReport, TimeForm, TimeReport, TimeStyle};
 pub use crate::tsns::Tsns;

@@ -3,7 +3,7 @@
 use crate::association::{Association, Began, Ended, Side};
 use crate::counts::Counts;
 use crate::end::End;
-use crate::time::{SecondsReport, TimeForm, TimeReport};
+use crate::time::TimeStyle;
 use sctp_report::{CauseName, ChunkName};
 use std::fmt;
 
@@ -14,9 +14,7 @@ pub struct AssociationReport<'a> {
     /// The association.
     pub association: &'a Association,
     /// How times are written.
-    pub form: TimeForm,
-    /// How many digits of a second's fraction are written, as of `TimeReport`.
-    pub digits: u8,
+    pub style: TimeStyle,
 }
 
 impl<'a> fmt::Display for AssociationReport<'a> {
@@ -127,11 +125,7 @@ impl<'a> AssociationReport<'a> {
         let Some(nanoseconds) = nanoseconds else {
             return Ok(());
         };
-        let time = TimeReport {
-            nanoseconds,
-            digits: self.digits,
-            form: self.form,
-        };
+        let time = self.style.time(nanoseconds);
         write!(f, ", time {time}")
     }
 
@@ -141,11 +135,7 @@ impl<'a> AssociationReport<'a> {
         nanoseconds: u64,
         f: &mut fmt::Formatter<W>,
     ) -> fmt::Result {
-        let digits = self.digits;
-        let seconds = SecondsReport {
-            nanoseconds,
-            digits,
-        };
+        let seconds = self.style.seconds(nanoseconds);
         write!(f, "{seconds} s")
     }
 }

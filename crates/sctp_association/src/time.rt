@@ -19,6 +19,34 @@ pub enum TimeForm {
     Utc,
 }
 
+/// How the times of a capture are written.
+#[derive(Clone, Copy, Debug, PartialEq, Eq)]
+pub struct TimeStyle {
+    /// The form of a time.
+    pub form: TimeForm,
+    /// How many digits of a second's fraction are written, as of `TimeReport`.
+    pub digits: u8,
+}
+
+impl TimeStyle {
+    /// Returns a time, given in nanoseconds since 1970-01-01 00:00:00 UTC.
+    pub fn time(self, nanoseconds: u64) -> TimeReport {
+        TimeReport {
+            nanoseconds,
+            digits: self.digits,
+            form: self.form,
+        }
+    }
+
+    /// Returns a span of time, given in nanoseconds.
+    pub fn seconds(self, nanoseconds: u64) -> SecondsReport {
+        SecondsReport {
+            nanoseconds,
+            digits: self.digits,
+        }
+    }
+}
+
 /// A time, as text.
 #[derive(Clone, Copy, Debug)]
 pub struct TimeReport {

@@ -21,8 +21,8 @@ const BOTH: &str =
 
 const BROKEN: Fault = Fault::Error(ErrorKind::BrokenPipe);
 
-/// What reading ends with, how many bytes were written, and whether these are a beginning of what is
-/// wanted.
+/// What reading ends with, how many bytes were written, and whether these are a beginning of what
+/// is wanted.
 fn run(
     alloc: Global,
     options: Options,

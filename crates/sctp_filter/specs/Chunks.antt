@@ -118,8 +118,9 @@ block_start p = number16 p.bytes
 abbrev pub block_end : Part → ℕ
 block_end p = number16 (after 2 p).bytes
 
--- Each of the first n blocks, as far as they were captured, ends where it starts or later, and starts
--- two offsets or more after the end of what is before it, so that a TSN is missing between them.
+-- Each of the first n blocks, as far as they were captured, ends where it starts or later, and
+-- starts two offsets or more after the end of what is before it, so that a TSN is missing between
+-- them.
 abbrev pub are_isolated : ℕ → ℕ → Part → Bool
 are_isolated zero end p = true
 are_isolated (suc n) end p =

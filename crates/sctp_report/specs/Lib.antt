@@ -1,1 +1,2 @@
+pub mod ChecksumField
 pub mod Part

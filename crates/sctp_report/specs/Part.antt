@@ -28,8 +28,8 @@ pub record Item : Type 0 where
 abbrev pub length_field : Part → ℕ
 length_field p = number16 (drop 2 p.bytes)
 
--- The item's header was captured, and its length is that of the header at least, and no more than is
--- left.
+-- The item's header was captured, and its length is that of the header at least, and no more than
+-- is left.
 abbrev pub begins_with_item : Part → Bool
 begins_with_item p =
     nat_le 4 (length p.bytes) && nat_le 4 (length_field p) && nat_le (length_field p) p.size

@@ -1,15 +1,16 @@
 //! A packet in a part of one line: words with a blank between each two.
 
+use crate::checksum::Checksum;
 use crate::fault::{Fault, Reason};
-use crate::fields::{Block, Fields, Flag, Form, Level, Number, Text, Verdict};
+use crate::fields::{Block, Fields, Flag, Form, Level, Number, Text};
 use crate::names::{cause_name, chunk_name, parameter_name};
 use crate::part::{Item, Part};
 use crate::shown::OneWord;
 use dcsctp_wire::packet::sctp_packet::CommonHeader;
 use std::fmt;
 
-/// Writes words. Of parameters and error causes it writes the names, or types and codes without one,
-/// and texts.
+/// Writes words. Of parameters and error causes it writes the names, or types and codes without
+/// one, and texts.
 #[derive(Drop)]
 pub struct BriefFields<'f, W> {
     f: &'f mut fmt::Formatter<W>,
@@ -92,10 +93,15 @@ impl<'f, W: fmt::Write> BriefFields<'f, W> {
 }
 
 impl<'f, W: fmt::Write> Fields for BriefFields<'f, W> {
-    fn header(&mut self, header: &CommonHeader, verdict: Verdict) -> fmt::Result {
-        let (tag, verdict) = (header.verification_tag, verdict.name());
+    fn header(&mut self, header: &CommonHeader, found: Checksum) -> fmt::Result {
+        let (tag, found) = (header.verification_tag, found.name());
         self.begin_word()?;
-        write!(self.f, "{tag:#010x} {verdict}")
+        write!(self.f, "{tag:#010x} {found}")
+    }
+
+    fn no_header(&mut self) -> fmt::Result {
+        self.begin_word()?;
+        self.f.write_str("- unknown")
     }
 
     fn fault(&mut self, fault: &Fault<'_>) -> fmt::Result {

@@ -5,6 +5,7 @@
 //! counted from the first byte of the chunk, parameter or error cause that holds the field, as in
 //! the figures of the RFCs.
 
+use crate::checksum::Checksum;
 use crate::fault::Fault;
 use crate::names::NamedBy;
 use crate::part::{Item, Part};
@@ -31,51 +32,6 @@ impl Level {
             Level::Chunk => "chunk",
             Level::Parameter => "parameter",
             Level::Cause => "cause",
-        }
-    }
-}
-
-/// What is found of a checksum field.
-#[derive(Clone, Copy)]
-pub enum Verdict {
-    Right,
-    /// The sender computed none (RFC 9653).
-    Zero,
-    /// What was expected.
-    Wrong(u32),
-    /// Not all of the packet was captured.
-    Unknown,
-}
-
-impl Verdict {
-    /// Returns what is found of a field where a word was expected.
-    pub fn of(field: u32, word: u32) -> Verdict {
-        if field == word {
-            Verdict::Right
-        } else if field == 0 {
-            Verdict::Zero
-        } else {
-            Verdict::Wrong(word)
-        }
-    }
-
-    /// Returns its name.
-    pub fn name(self) -> &'static str {
-        match self {
-            Verdict::Right => "right",
-            Verdict::Zero => "zero",
-            Verdict::Wrong(_) => "wrong",
-            Verdict::Unknown => "unknown",
-        }
-    }
-}
-
-impl fmt::Display for Verdict {
-    fn fmt<W: fmt::Write>(&self, f: &mut fmt::Formatter<W>) -> fmt::Result {
-        match self {
-            Verdict::Unknown => f.write_str("not known"),
-            Verdict::Wrong(word) => write!(f, "wrong, expected {word:#010x}"),
-            Verdict::Right | Verdict::Zero => f.write_str(self.name()),
         }
     }
 }
@@ -190,7 +146,12 @@ pub struct Text<'a> {
 /// not every form has.
 pub trait Fields {
     /// Takes the packet's header.
-    fn header(&mut self, header: &CommonHeader, verdict: Verdict) -> fmt::Result;
+    fn header(&mut self, header: &CommonHeader, found: Checksum) -> fmt::Result;
+
+    /// Takes that the packet has no header, as far as it was captured.
+    fn no_header(&mut self) -> fmt::Result {
+        Ok(())
+    }
 
     /// Takes the packet's fault.
     fn fault(&mut self, fault: &Fault<'_>) -> fmt::Result;
@@ -268,7 +229,7 @@ pub trait Fields {
     fn value(&mut self, level: Level, item: &Item<'_>) -> fmt::Result;
 }
 
-/// Hands over a list of so many numbers, of which the first is given.
+/// Hands over a list of `count` numbers, of which the first is given.
 pub fn walk_numbers<F: Fields>(
     key: &'static str,
     count: usize,
@@ -287,7 +248,7 @@ pub fn walk_numbers<F: Fields>(
     fields.end_list()
 }
 
-/// Hands over a list of so many numbers that stand for something, of which the first is given.
+/// Hands over a list of `count` numbers that stand for something, of which the first is given.
 pub fn walk_named<F: Fields>(
     key: &'static str,
     count: usize,

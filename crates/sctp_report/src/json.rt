@@ -1,7 +1,8 @@
 //! A packet as JSON (RFC 8259): numbers, bytes in lower-case hexadecimal, and texts.
 
+use crate::checksum::Checksum;
 use crate::fault::{Fault, Reason};
-use crate::fields::{Block, Fields, Flag, HEADER_SIZE, Level, Number, Text, Verdict};
+use crate::fields::{Block, Fields, Flag, HEADER_SIZE, Level, Number, Text};
 use crate::hexadecimal::write_digits;
 use crate::names::{Named, NamedBy, cause_name, chunk_name, parameter_name};
 use crate::part::{Item, Part};
@@ -164,7 +165,7 @@ impl<'f, W: fmt::Write> JsonFields<'f, W> {
 }
 
 impl<'f, W: fmt::Write> Fields for JsonFields<'f, W> {
-    fn header(&mut self, header: &CommonHeader, verdict: Verdict) -> fmt::Result {
+    fn header(&mut self, header: &CommonHeader, found: Checksum) -> fmt::Result {
         self.put("source", header.source_port as usize)?;
         self.place("source", 0, 2)?;
         self.put("destination", header.destination_port as usize)?;
@@ -173,9 +174,9 @@ impl<'f, W: fmt::Write> Fields for JsonFields<'f, W> {
         self.place("tag", 4, 4)?;
         self.put("checksum", header.checksum as usize)?;
         self.place("checksum", 8, 4)?;
-        self.put_name("verdict", verdict.name())?;
-        match verdict {
-            Verdict::Wrong(word) => self.put("expected", word as usize),
+        self.put_name("verdict", found.name())?;
+        match found {
+            Checksum::Wrong(word) => self.put("expected", word as usize),
             _ => Ok(()),
         }
     }

@@ -9,6 +9,7 @@
 mod brief;
 mod causes;
 mod channel;
+mod checksum;
 mod chunks;
 mod fault;
 mod fields;
@@ -21,6 +22,7 @@ mod part;
 mod shown;
 mod text;
 
+pub use crate::checksum::Checksum;
 pub use crate::fault::FaultReport;
 pub use crate::json::JsonText;
 pub use crate::names::{CauseName, ChunkName, cause_name, chunk_name};

@@ -4,10 +4,10 @@ use crate::fields::Level;
 use dcsctp_wire::packet::reconfiguration_response_parameter::ReconfigurationResponseResult;
 use std::fmt;
 
-/// Returns the name of a chunk type, in the words of its standard; `None` of a type that has none
-/// here.
 // IANA, "SCTP Parameters", "Chunk Types"; 16 is of draft-tuexen-tsvwg-sctp-multipath, and 129 of
 // draft-stewart-sctp-pktdrprep.
+/// Returns the name of a chunk type, in the words of its standard; `None` of a type that has none
+/// here.
 pub fn chunk_name(typ: u32) -> Option<&'static str> {
     match typ {
         0 => Some("DATA"),
@@ -89,8 +89,8 @@ impl fmt::Display for ItemName {
     }
 }
 
-/// Returns the name of a parameter.
 // IANA, "SCTP Parameters", "Chunk Parameter Types".
+/// Returns the name of a parameter.
 pub fn parameter_name(typ: u16) -> Option<&'static str> {
     match typ {
         0x0001 => Some("Heartbeat Info"),
@@ -114,7 +114,7 @@ pub fn parameter_name(typ: u16) -> Option<&'static str> {
         0x8004 => Some("Requested HMAC Algorithm"),
         0x8005 => Some("Padding"),
         0x8008 => Some("Supported Extensions"),
-        0xc000 => Some("Forward TSN Supported"),
+        0xc000 => Some("Forward-TSN-Supported"),
         0xc001 => Some("Add IP Address"),
         0xc002 => Some("Delete IP Address"),
         0xc003 => Some("Error Cause Indication"),
@@ -136,8 +136,8 @@ impl fmt::Display for CauseName {
     }
 }
 
-/// Returns the name of an error cause.
 // IANA, "SCTP Parameters", "Error Cause Codes".
+/// Returns the name of an error cause.
 pub fn cause_name(code: u16) -> Option<&'static str> {
     match code {
         0x0001 => Some("Invalid Stream Identifier"),
@@ -163,9 +163,9 @@ pub fn cause_name(code: u16) -> Option<&'static str> {
     }
 }
 
-/// Returns the name of a payload protocol identifier.
 // IANA, "SCTP Parameters", "SCTP Payload Protocol Identifiers", where Wireshark's table agrees; in
 // their short forms.
+/// Returns the name of a payload protocol identifier.
 pub fn payload_protocol(ppid: u32) -> Option<&'static str> {
     match ppid {
         1 => Some("IUA"),
@@ -243,8 +243,8 @@ pub fn payload_protocol(ppid: u32) -> Option<&'static str> {
     }
 }
 
-/// Returns the name of a result of a RE-CONFIG request.
 // RFC 6525 section 4.4.
+/// Returns the name of a result of a RE-CONFIG request.
 pub fn result_name(outcome: ReconfigurationResponseResult) -> &'static str {
     match outcome {
         ReconfigurationResponseResult::SuccessNothingToDo => "Success - Nothing to do",
@@ -259,8 +259,8 @@ pub fn result_name(outcome: ReconfigurationResponseResult) -> &'static str {
     }
 }
 
-/// Returns what a type of data channel says of its messages.
 // RFC 8832 section 5.1.
+/// Returns what a type of data channel says of its messages.
 pub fn channel_type_name(typ: u32) -> Option<&'static str> {
     match typ {
         0x00 => Some("reliable ordered"),

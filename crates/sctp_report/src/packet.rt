@@ -1,9 +1,10 @@
 //! A packet, its checksum field, and a chunk, as text.
 
 use crate::brief::BriefFields;
+use crate::checksum::Checksum;
 use crate::chunks::{walk_chunk, walk_chunks};
 use crate::fault::Fault;
-use crate::fields::{Fields, Verdict};
+use crate::fields::Fields;
 use crate::json::JsonFields;
 use crate::part::{Item, Part};
 use crate::text::TextFields;
@@ -29,7 +30,7 @@ pub struct PacketReport<'a, 'f> {
     /// Its fault, as `SctpPacket::first_fault` returns it; `None` of a packet that was cut off.
     pub fault: Option<&'f FirstFault>,
     /// Whether all bytes of a cookie or another value are shown, and those of a payload in rows;
-    /// else the first 16.
+    /// else the first 16, and of a payload that is text the first 64.
     pub shows_all: bool,
 }
 
@@ -79,9 +80,9 @@ impl<'a, 'f> fmt::Display for PacketJson<'a, 'f> {
     }
 }
 
-/// What can be read of a packet, in one line that has no line break: its tag, what is found of its
-/// checksum field (`right`, `zero`, `wrong`, `unknown`), and its chunks, with ` | ` between each
-/// two. A refused packet ends in `! KIND at OFFSET: REASON`, and one that was cut off, if it has no
+/// What can be read of a packet, in one line that has no line break: its tag, or `-` without a
+/// header, what is known of its checksum field (`right`, `zero`, `wrong`, `unknown`), and its
+/// chunks, with ` | ` between each two. A refused packet ends in `! KIND at OFFSET: REASON`, and one that was cut off, if it has no
 /// fault, in `! cut off`.
 ///
 /// A chunk is its name and its fields, as `tsn=5`, with a blank between each two; of its parameters
@@ -112,13 +113,12 @@ fn walk_packet<F: Fields>(
     found: Option<&FirstFault>,
     fields: &mut F,
 ) -> fmt::Result {
-    if let Some(header) = CommonHeader::from_bytes(packet.bytes) {
-        let verdict = if packet.is_whole() {
-            Verdict::of(header.checksum, word)
-        } else {
-            Verdict::Unknown
-        };
-        fields.header(&header, verdict)?;
+    match CommonHeader::from_bytes(packet.bytes) {
+        Some(header) => {
+            let found = Checksum::of_packet(packet.bytes, packet.size, word);
+            fields.header(&header, found)?;
+        }
+        None => fields.no_header()?,
     }
     match found {
         Some(found) => {
@@ -151,8 +151,8 @@ pub struct ChecksumReport {
 
 impl fmt::Display for ChecksumReport {
     fn fmt<W: fmt::Write>(&self, f: &mut fmt::Formatter<W>) -> fmt::Result {
-        let verdict = Verdict::of(self.field, self.word);
-        write!(f, "{verdict}")
+        let found = Checksum::of(self.field, self.word);
+        write!(f, "{found}")
     }
 }
 

@@ -1,7 +1,8 @@
 //! A packet as plain lines, one fact a line, and two blanks deeper what is inside.
 
+use crate::checksum::Checksum;
 use crate::fault::Fault;
-use crate::fields::{Block, Fields, Flag, Form, Level, Number, Text, Verdict};
+use crate::fields::{Block, Fields, Flag, Form, Level, Number, Text};
 use crate::names::{ChunkName, ItemName, Named, NamedBy};
 use crate::part::{Item, Part};
 use crate::shown::{Quoted, Rows, Shown, Size};
@@ -12,6 +13,9 @@ use std::net::IpAddr;
 /// The names on a line.
 const NAMES_A_LINE: usize = 10;
 
+/// The most bytes of a payload's text that are shown, unless all are.
+const MOST_OF_TEXT: usize = 64;
+
 /// Writes lines of text. Each line but a chunk's first one begins with a line break.
 #[derive(Drop)]
 pub struct TextFields<'f, W> {
@@ -21,14 +25,14 @@ pub struct TextFields<'f, W> {
 }
 
 impl<'f, W: fmt::Write> Fields for TextFields<'f, W> {
-    fn header(&mut self, header: &CommonHeader, verdict: Verdict) -> fmt::Result {
+    fn header(&mut self, header: &CommonHeader, found: Checksum) -> fmt::Result {
         let (source, destination) = (header.source_port, header.destination_port);
         let (tag, checksum) = (header.verification_tag, header.checksum);
         write!(
             self.f,
             "source {source}, destination {destination}, tag {tag:#010x}"
         )?;
-        writeln!(self.f, "\nchecksum {checksum:#010x}: {verdict}")
+        writeln!(self.f, "\nchecksum {checksum:#010x}: {found}")
     }
 
     fn fault(&mut self, fault: &Fault<'_>) -> fmt::Result {
@@ -137,11 +141,17 @@ impl<'f, W: fmt::Write> Fields for TextFields<'f, W> {
             };
             write!(self.f, "{shown}")?;
         }
-        if is_text {
-            let text = Quoted(payload.bytes);
-            write!(self.f, "\n  text: {text}")?;
+        if !is_text {
+            return Ok(());
         }
-        Ok(())
+        let text = if self.shows_all {
+            payload.bytes
+        } else {
+            &payload.bytes[..payload.bytes.len().min(MOST_OF_TEXT)]
+        };
+        let (quoted, is_cut) = (Quoted(text), text.len() < payload.size);
+        let more = if is_cut { " .." } else { "" };
+        write!(self.f, "\n  text: {quoted}{more}")
     }
 
     fn value(&mut self, level: Level, item: &Item<'_>) -> fmt::Result {

@@ -58,8 +58,8 @@ fn is_same_unpadded(bytes: &[u8], other: &[u8]) -> bool {
     }
 }
 
-/// Writes the frame at the front, and where chunks and parameters, or a reader that leaves the padding
-/// out, have another.
+/// Writes the frame at the front, and where chunks and parameters, or a reader that leaves the
+/// padding out, have another.
 fn write_frame(
     alloc: Global,
     bytes: &[u8],

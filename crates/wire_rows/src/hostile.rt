@@ -111,7 +111,8 @@ fn write_outcome_row(
     write_outcome(both_outcomes(alloc, &bytes, &other)?, out)
 }
 
-/// Writes an answer and its size, where it is another than the last, which is none before the first.
+/// Writes an answer and its size, where it is another than the last, which is none before the
+/// first.
 fn write_run(
     (word, parts): Outcome,
     size: usize,

@@ -23,8 +23,8 @@ use dcsctp_wire::types::Tsn;
 use std::alloc::{AllocError, Global};
 use std::fmt::Debug;
 
-// ---- the parts of a chunk, where they lie: `fields` are the last ones of the chunk that is built of
-// it, and `more` is what that one doesn't print
+// ---- the parts of a chunk, where they lie: `fields` are the last ones of the chunk that is built
+// of it, and `more` is what that one doesn't print
 
 /// The numbers of a SACK and its lists; whether it is valid, and the lists by their places.
 fn write_sack(
@@ -321,8 +321,8 @@ fn is_known_so(alloc: Global, chunk: &CheckedChunk, other: &RawChunk) -> Result<
     Ok(known.as_str() == any.as_str())
 }
 
-/// Whether each chunk of a packet gives the same where it is known to mean one, and where any is read;
-/// and whether its part is the same where it was built.
+/// Whether each chunk of a packet gives the same where it is known to mean one, and where any is
+/// read; and whether its part is the same where it was built.
 fn are_alike(alloc: Global, bytes: &[u8], other: &[u8]) -> Result<(bool, bool), AllocError> {
     let any = &ChecksumPolicy::ANY_CHECKSUM;
     let (mut is_known, mut is_built) = (true, true);

@@ -177,8 +177,8 @@ fn write_item(
 
 // ---- both
 
-/// Whether one of any kind is this one of its own: its fields in brackets after the kind's name, and
-/// what it prints; or whether it has the same fault.
+/// Whether one of any kind is this one of its own: its fields in brackets after the kind's name,
+/// and what it prints; or whether it has the same fault.
 fn is_of_kind(alloc: Global, text: &str, own: &str) -> Result<bool, AllocError> {
     let Some((fields, printed)) = own.split_once("; ") else {
         return Ok(text == own);
@@ -219,8 +219,8 @@ fn write_checked(
     }
 }
 
-/// Writes what the chunk at the front is, and where it is another one of its own kind, in the check,
-/// or in a packet.
+/// Writes what the chunk at the front is, and where it is another one of its own kind, in the
+/// check, or in a packet.
 fn write_chunk_row(
     alloc: Global,
     bytes: &[u8],
@@ -276,7 +276,8 @@ fn write_item_row(
 
 // ---- lists
 
-/// A list as written over as many bytes `ee` as its size says, or nothing where it can't be written.
+/// A list as written over as many bytes `ee` as its size says, or nothing where it can't be
+/// written.
 fn list_written<T: SerializableTlv>(alloc: Global, list: &[T]) -> Result<Vec<u8>, AllocError> {
     if !parameters_encodable(list) {
         return Ok(Vec::new(alloc));

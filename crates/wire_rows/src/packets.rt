@@ -275,7 +275,8 @@ fn write_front(bytes: &[u8], out: &mut String) -> Result<(), AllocError> {
     }
 }
 
-/// The header's numbers, the chunks, and the canonical packet; and that the check refuses it, where it does.
+/// The header's numbers, the chunks, and the canonical packet; and that the check refuses it, where
+/// it does.
 fn write_accepted(
     alloc: Global,
     (bytes, other): (&[u8], &[u8]),
@@ -365,8 +366,8 @@ fn is_built_so(alloc: Global, chunk: &[u8], text: &str) -> Result<bool, AllocErr
     Ok(first.as_str() == text)
 }
 
-/// Writes where the chunk is another one: in the packet of it alone, in the packet that is built of it;
-/// and where that packet is answered otherwise.
+/// Writes where the chunk is another one: in the packet of it alone, in the packet that is built of
+/// it; and where that packet is answered otherwise.
 pub fn write_packed(
     alloc: Global,
     chunk: &[u8],

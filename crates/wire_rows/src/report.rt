@@ -136,7 +136,7 @@ fn write_json_text(bytes: &[u8], out: &mut String) -> Result<(), AllocError> {
     }
 }
 
-/// A packet of so many bytes, of which these were captured.
+/// A packet of `length` bytes, of which these were captured.
 fn write_cut(
     alloc: Global,
     length: u16,

@@ -37,9 +37,9 @@ fn write_answer(
     }
 }
 
-/// Writes what the row's call answers. **The row ends before its answer**: what the table wants isn't
-/// seen here, nor in any function that is called from here, so no answer can be taken from it. The
-/// other bytes are those after a slash, or the same.
+/// Writes what the row's call answers. **The row ends before its answer**: what the table wants
+/// isn't seen here, nor in any function that is called from here, so no answer can be taken from
+/// it. The other bytes are those after a slash, or the same.
 fn write_row(alloc: Global, row: &str, out: &mut String) -> Result<(), AllocError> {
     let (name, words) = row.split_once(" ").unwrap_or((row, ""));
     if name == "build" {

@@ -41,7 +41,8 @@ fn write_blocks(
     write_change(alloc, bytes, image.get(16..end).unwrap_or(&[]), out)
 }
 
-/// Whether the blocks are valid in a SACK, whether they are once it is cleaned, and its blocks then.
+/// Whether the blocks are valid in a SACK, whether they are once it is cleaned, and its blocks
+/// then.
 fn write_cleaned(alloc: Global, bytes: &[u8], out: &mut String) -> Result<(), AllocError> {
     let sack = sack_of(alloc, blocks_of(alloc, bytes)?)?;
     let before = validate_sack(&sack);
@@ -59,8 +60,8 @@ fn write_alone(alloc: Global, bytes: &[u8], out: &mut String) -> Result<(), Allo
     write_blocks(alloc, bytes, &sack, out)
 }
 
-/// Writes whether blocks are valid and to what they are cleaned; and where they are cleaned otherwise
-/// by themselves.
+/// Writes whether blocks are valid and to what they are cleaned; and where they are cleaned
+/// otherwise by themselves.
 fn write_sack(
     alloc: Global,
     bytes: &[u8],
