@@ -6,7 +6,8 @@ usage='usage: ./test.sh [--quick]
 
 Runs the gate: the files that have to agree are compared; `rt ci` proves everything, and runs each program and test; each
 request for memory of what it built is refused; sctp_dump is run with each option; the library that it proved is tried from C;
-the texts in dist/ are made anew, compared and tried; and so is the page. The last line is that of `rt ci`.
+the texts in dist/ are made anew, compared and tried; the commands of the pages are run; and so is the page for browsers. The
+last line is that of `rt ci`.
 
   --quick  for who has changed a line: what runs without a proof, within three minutes on four processors. That is the
            comparisons, and each program over its stored input by `rt try`; of wire_rows all rows but those whose packets
@@ -56,7 +57,7 @@ run_gate() {
     if [ "$gate" -eq 0 ]; then
         refusals/test.sh && answers_rows_alone && dump/test.sh || exit 1
         c/take_libraries.py
-        c/test.sh && dist/make.py --jobs 4 --compare && compare_wasm && dist/test.sh && page/test.sh || exit 1
+        c/test.sh && dist/make.py --jobs 4 --compare && compare_wasm && dist/test.sh && docs/commands.py && docs/examples.py --try && page/test.sh || exit 1
     fi
     cat "$work/last"
     exit "$gate"
@@ -131,6 +132,8 @@ run_quickly() {
         programs+=("$program") jobs+=($!)
     done
     step comparisons compare
+    step 'commands of the pages' docs/commands.py
+    step 'code of CALLING.md' docs/examples.py --try
     for i in "${!jobs[@]}"; do
         wait "${jobs[i]}"
         report "${programs[i]}" $?

@@ -45,12 +45,12 @@ SECTIONS = {
 prints after the line of the header.
 ''',
     'An association, with its checksums': '''Two sockets of usrsctp 0.9.5.0 (Debian's `libusrsctp2`) in one process, `bench/association.c`: all packets from INIT to SHUTDOWN
-COMPLETE, as they were sent. Each carries its CRC32c: `read_verified` ([CALLING.md](CALLING.md)) reads it, and refuses it after each
-single changed bit of the checksum field. Below each is what `sctp_dump` prints.
+COMPLETE, as they were sent, from and to port 5000. Each carries its CRC32c: `read_verified` ([CALLING.md](CALLING.md)) reads it, and
+refuses it after any change of a single bit of that field. Below each is what `sctp_dump` prints of its chunks.
 ''',
     'Refused packets, with their faults': '''Packets of this association, changed by hand; their checksums were computed anew, but for the first and the last. The fault and its
 offset in bytes are those of `SctpPacket::first_fault`, with the word of `packet_word` and the default policy. Below is what `sctp_dump`
-prints, which reads a packet whose checksum is wrong.
+prints, which reads a packet whose checksum is wrong too, without the lines of the ports and of a right checksum.
 ''',
 }
 
@@ -183,8 +183,9 @@ def page_of(rows):
         else:
             block += [line for line in shown(entry, answer) if line.startswith('canonical=')]
         if entry.is_whole:
-            # the number of the packet comes first
-            block += next(blocks, '').splitlines()[1:]
+            # the number of the packet and its ports come first, then the checksum
+            checksum, *chunks = next(blocks, '').splitlines()[2:]
+            block += chunks if checksum.endswith(': right') else [checksum, *chunks]
         parts.append('\n'.join(entry.words) + '\n\n' + '\n'.join('    ' + line if line else '' for line in block) + '\n')
     return '\n'.join(parts)
 

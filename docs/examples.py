@@ -1,11 +1,13 @@
 #!/usr/bin/env python3
-"""usage: docs/examples.py --write | --compare | --paste DIR [NAME ..] | --help
+"""usage: docs/examples.py --write | --compare | --try | --paste DIR [NAME ..] | --help
 
 The programs of docs/CALLING.md are files of crates/dcsctp_uses/src, which the gate proves. The program of docs/C.md
 is a file of examples/c, which c/test.sh runs.
 
   --write      puts each file into its page, after the line `<!-- NAME.rt -->` or `<!-- NAME.c -->`
-  --compare    fails if a program of a page isn't its file
+  --compare    fails if a program of a page isn't its file, or its lines of crates.txt aren't in it
+  --try        compiles the indented code of docs/CALLING.md, unproved, in a repository as a new user would have it, and runs
+               its whole program
   --paste DIR  makes a repository in DIR as a new user would: the libraries, with what is proved of them, their licence and
                their version, and a crate `your_crate` with the programs of crates/dcsctp_uses, or the named ones alone and
                what they call, and with the files of proofs/ and specs/ that they need
@@ -16,6 +18,7 @@ import re
 import shutil
 import subprocess
 import sys
+import tempfile
 
 ROOT = os.path.dirname(os.path.dirname(os.path.abspath(__file__)))
 USES = os.path.join(ROOT, 'crates', 'dcsctp_uses')
@@ -27,6 +30,33 @@ PAGES = [
 LIBRARIES = [
     'dcsctp_types', 'dcsctp_tlv', 'dcsctp_cause', 'dcsctp_chunk', 'dcsctp_wire', 'dcsctp_borrowed', 'dcsctp_crc32c', 'dcsctp_buffer',
 ]
+
+# The indented code of docs/CALLING.md that isn't a program: its first line, and what comes before and after it.
+FRAGMENTS = [
+    ('for raw in packet.chunks {', "pub fn size_of(packet: SctpPacketRef<'_>) -> usize {\nlet mut size: usize = 0;", 'size\n}'),
+    ('set_verification_tag(packet, tag);', 'pub fn retag(packet: &mut [u8], tag: u32) {', '}'),
+    ('let mut parameters = Vec::new(alloc);', 'pub fn parameters(alloc: Global) -> Result<Vec<Parameter>, AllocError> {',
+     'Ok(parameters)\n}'),
+    ('use dcsctp_buffer::{add, begin, seal};',
+     "pub fn sent(buffer: &mut [u8], data: BorrowedData<'_>, peer_tag: u32) -> anyhow::Result<()> {",
+     'Ok(())\n}\n\nfn send(_packet: &[u8]) -> anyhow::Result<()> {\nOk(())\n}'),
+]
+FRAGMENTS_USE = '''use dcsctp_borrowed::in_place::{set_checksum_word, set_verification_tag};
+use dcsctp_borrowed::packet_ref::SctpPacketRef;
+use dcsctp_borrowed::user_data::UserData;
+use dcsctp_buffer::data::BorrowedData;
+use dcsctp_crc32c::packet_word;
+use dcsctp_wire::packet::parameter::Parameter;
+use dcsctp_wire::packet::state_cookie_parameter::StateCookieParameter;
+use std::alloc::{AllocError, Global};
+'''
+
+# What the whole program reads, packets of docs/CAPTURES.md, and prints.
+TRIED_INPUT = '138813884d2df52d67db78b50b000004\n138813884d2df52d67db78b50b000003\n'
+TRIED_OUTPUT = '''source=5000 destination=5000 tag=1294857517 checksum=1742436533
+COOKIE-ACK
+InvalidChecksum at byte 8
+'''
 
 
 def read(path):
@@ -71,6 +101,46 @@ def compare():
         stale = [name for name, text in examples(page, folder, ending, word) if text != read(f'{folder}/{name}.{ending}')]
         if stale:
             sys.exit(f'{page}: not as in {folder}: {", ".join(stale)}')
+    lines = [line for line in blocks()['dcsctp_types:'] if not line.startswith('your_crate')]
+    if not set(lines) <= set(read('crates.txt').splitlines()):
+        sys.exit('docs/CALLING.md: its lines of crates.txt are others')
+
+
+def blocks():
+    """The indented blocks of docs/CALLING.md, by their first line: their lines."""
+    outside = re.sub(r'^```.*?^```$', '', read('docs/CALLING.md'), flags=re.M | re.S)
+    found = [re.sub(r'^    ', '', it, flags=re.M).strip('\n').splitlines() for it in re.findall(r'(?:^    .*\n+)+', outside, re.M)]
+    return {lines[0]: lines for lines in found}
+
+
+def tried():
+    """Compiles the indented code, and runs the program in it."""
+    code = blocks()
+    fragments, use = [], FRAGMENTS_USE
+    for first, before, after in FRAGMENTS:
+        lines = code.pop(first)
+        use += ''.join(f'{line}\n' for line in lines if line.startswith('use '))
+        fragments += [before, *(line for line in lines if not line.startswith('use ')), after, '']
+    program = '\n'.join(code.pop('#![tactic(auto)]')).replace('#![tactic(auto)]\n', '#![tactic(auto)]\n\nmod fragments;\n', 1)
+    code.pop('dcsctp_types:')
+    if code:
+        sys.exit(f'docs/CALLING.md: not tried: {", ".join(code)}')
+    with tempfile.TemporaryDirectory() as directory:
+        source = os.path.join(directory, 'crates', 'your_crate', 'src')
+        os.makedirs(source)
+        shutil.copy(os.path.join(ROOT, 'HANDLES'), directory)
+        for library in LIBRARIES:
+            shutil.copytree(os.path.join(ROOT, 'crates', library), os.path.join(directory, 'crates', library),
+                            ignore=shutil.ignore_patterns('out', 'must-fail'))
+        lines = [line for line in read('crates.txt').splitlines() if line.split(':')[0] in LIBRARIES]
+        lines.append('your_crate: dcsctp_wire dcsctp_borrowed dcsctp_crc32c dcsctp_buffer hex anyhow')
+        for path, text in ((os.path.join(directory, 'crates.txt'), '\n'.join(lines)), (os.path.join(source, 'main.rt'), program),
+                           (os.path.join(source, 'fragments.rt'), '\n'.join([use, *fragments]))):
+            with open(path, 'w', encoding='utf-8') as file:
+                file.write(text + '\n')
+        done = subprocess.run(['rt', 'try'], cwd=os.path.dirname(source), input=TRIED_INPUT, capture_output=True, text=True)
+    if done.returncode != 0 or done.stdout != TRIED_OUTPUT:
+        sys.exit(f'docs/CALLING.md: its code prints:\n{done.stdout}\n{done.stderr}')
 
 
 def text_files(folder):
@@ -140,6 +210,8 @@ def main():
         compare()
     elif words == ['--write']:
         write()
+    elif words == ['--try']:
+        tried()
     elif len(words) > 1 and words[0] == '--paste':
         paste(words[1], words[2:])
     elif words in ([], ['--help']):
