@@ -285,6 +285,21 @@ cargo_package() {
         cargo package --list --allow-dirty | grep -x src/dcsctp-aarch64-macho.s
 }
 
+# Two versions in one program are refused.
+cargo_refuses() {
+    rm -rf user && mkdir -p user/src user/old/src user/old/examples && touch user/{src/lib,old/build,old/src/lib,old/examples/show}.rs &&
+        sed 's/^version = .*/version = "0.0.1"/' "$bindings/rust/Cargo.toml" >user/old/Cargo.toml && cat >user/Cargo.toml <<C || return
+[package]
+name = "user"
+version = "0.1.0"
+edition = "2024"
+[dependencies]
+new = { package = "dcsctp", path = "$bindings/rust" }
+old = { package = "dcsctp", path = "old" }
+C
+    ! (cd user && cargo generate-lockfile --offline) 2>refusal && grep 'Only one package in the dependency graph' refusal
+}
+
 # The header for C++, and CMake's target for it.
 cpp_package() {
     "$cxx" -std=c++17 -O2 -I "$dist" -I "$bindings/cpp" -o show_cpp "$bindings/cpp/show.cc" "$elf" && all_of ./show_cpp &&
@@ -365,6 +380,7 @@ with "$cc" '20,000 packets against a second reader' fuzz
 with 'cargo rustc-1.85' 'cargo test' cargo_tests
 with 'cargo rustc-1.85' 'cargo run --example show' cargo_show
 with 'cargo rustc-1.85' 'cargo package' cargo_package
+with 'cargo rustc-1.85' 'cargo: two versions' cargo_refuses
 with python3-venv 'pip install' python_package && try 'pip wheel, of the archive of sources' python_archives
 with "$cxx" 'C++' cpp_package && with cmake 'C++, by CMake' cpp_cmake
 with 'go' 'go test' go_package

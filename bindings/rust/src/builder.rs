@@ -6,7 +6,7 @@ use crate::packet::seal;
 use crate::types::{CauseCode, ChunkType, ParameterType};
 use crate::values::{Data, GapAckBlock, Init, ReConfig, SkippedStream};
 
-/// The most bytes that a packet can have which is written.
+/// The size of the largest packet that can be written, in bytes.
 pub const MAX_PACKET: usize = 65_532;
 
 /// A packet that is written into a buffer (RFC 9260 section 3): begun, added to, and sealed.
@@ -434,7 +434,7 @@ impl ChunkBuilder<'_, '_> {
     }
 
     /// Adds a parameter whose value is a number of four bytes: Zero Checksum Acceptable (RFC 9653
-    /// section 4).
+    /// section 4), whose method 1 is SCTP over DTLS.
     ///
     /// # Errors
     /// Any [`WriteError`].

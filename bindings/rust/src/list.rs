@@ -123,8 +123,8 @@ impl<'a> Parameter<'a> {
         self.0.value()
     }
 
-    /// Returns a value that is one number of four bytes, whatever its type: the method of Zero
-    /// Checksum Acceptable (RFC 9653 section 4).
+    /// Returns a value that is one number of four bytes: the method of Zero Checksum Acceptable (RFC
+    /// 9653 section 4). Any value of four bytes is read so: look at the type first.
     #[doc(alias = "dcsctp_number")]
     #[must_use]
     pub fn number(&self) -> Option<u32> {
@@ -180,14 +180,14 @@ impl<'a> Cause<'a> {
     }
 
     /// Returns the value, without padding (RFC 9260 section 3.3.10): of User-Initiated Abort and
-    /// Protocol Violation a text, of Unrecognized Chunk Type the chunk.
+    /// Protocol Violation a text, which need not be UTF-8, of Unrecognized Chunk Type the chunk.
     #[must_use]
     pub fn value(&self) -> &'a [u8] {
         self.0.value()
     }
 
-    /// Returns a value that is one number of four bytes, whatever its code: the TSN of No User Data
-    /// (RFC 9260 section 3.3.10.9).
+    /// Returns a value that is one number of four bytes: the TSN of No User Data (RFC 9260 section
+    /// 3.3.10.9). Any value of four bytes is read so: look at the code first.
     #[doc(alias = "dcsctp_number")]
     #[must_use]
     pub fn number(&self) -> Option<u32> {

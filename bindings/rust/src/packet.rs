@@ -127,8 +127,12 @@ impl Header {
 
 /// Bytes that are a packet (RFC 9260 section 3): they were checked.
 ///
-/// That says that the checksum and all lengths are right, and nothing of the association: the
-/// verification tag has still to be compared, an INIT to be alone, and so on.
+/// That says that the checksum and all lengths are right, and nothing of the association. You still
+/// compare the verification tag; an INIT has to be alone, under tag 0; an INIT ACK may lack its
+/// cookie; ports, initiate tags and numbers of streams may be 0, payloads empty, and gap ack blocks
+/// in any order ([`Sack::is_valid`](crate::Sack::is_valid)).
+///
+/// `==` compares bytes; two packets mean the same if and only if their canonical forms are equal.
 ///
 /// ```
 /// use dcsctp::{ChunkType, Packet};

@@ -2,8 +2,8 @@
 //!
 //! **Not proved**: unlike the rest of this crate it is Rust that rustc makes, and nothing else calls
 //! it. `tests/processor.rs` compares it with [`crate::word`] and [`crate::seal`], which are proved,
-//! on random packets of every size. The processor is asked as the program runs (SSE4.2 on x86-64,
-//! CRC on arm64); where it has no such instruction, the proved functions answer.
+//! on random packets of every size. The instruction is looked for at run time (SSE4.2 on x86-64,
+//! CRC on arm64); without it the proved functions are called.
 //!
 //! ```
 //! use dcsctp::{Packet, Policy, processor};

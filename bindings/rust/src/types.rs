@@ -85,7 +85,7 @@ named! {
     I_DATA = 64, "I-DATA";
     /// Re-configures streams (RFC 6525 section 3.1).
     RE_CONFIG = 130, "RE-CONFIG";
-    /// Tells which user data isn't sent again (RFC 3758 section 3.2).
+    /// Says which user data isn't sent again (RFC 3758 section 3.2).
     FORWARD_TSN = 192, "FORWARD-TSN";
     /// The same where I-DATA is used (RFC 8260 section 2.3.1).
     I_FORWARD_TSN = 194, "I-FORWARD-TSN";

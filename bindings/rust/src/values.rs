@@ -9,9 +9,10 @@
 pub struct Policy {
     /// Accepts every checksum field: for captures whose checksums a network card filled in later.
     pub any_checksum: bool,
-    /// Accepts a field of zero as well: for an association in which you sent Zero Checksum
-    /// Acceptable (RFC 9653), of a client from then on, of a server from the COOKIE ECHO on. It is
-    /// accepted on INIT and COOKIE ECHO too, which have to have a CRC32c: refuse these yourself.
+    /// Accepts a field of zero as well. Set it once you sent Zero Checksum Acceptable (RFC 9653):
+    /// as a client for what comes after your INIT, as a server for what comes after the COOKIE
+    /// ECHO. Packets with INIT or COOKIE ECHO still need a CRC32c: refuse them where
+    /// `packet.header().checksum != dcsctp::word(bytes)`.
     pub zero_checksum: bool,
     /// Padding has to be complete and zero: for a filter that refuses bytes hidden in padding,
     /// which a receiver has to ignore (RFC 9260 section 3.2).

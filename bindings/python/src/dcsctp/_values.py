@@ -9,7 +9,7 @@ MAX_PACKET_SIZE = 65532
 
 
 class Result(IntEnum):
-    """What the library answers. `text` says it in a few words."""
+    """What the library returns. `text` says it in a few words."""
 
     OK = 0
     """The bytes are a packet; what was asked for is written."""
