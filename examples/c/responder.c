@@ -1,7 +1,8 @@
 /* A responder to start from: the side of an association that is called (RFC 9260), and takes user data. No byte is written
    by hand, and there is no I/O and no clock: packets and the time go in, and packets come out. Left out: user data that is
    sent, and with it timers; messages put together, and streams in order; addresses; a peer that begins anew (section 5.2);
-   packets out of the blue (section 8.4). There is one association at a time. */
+   packets out of the blue (section 8.4); unknown parameters whose type asks to stop there (section 3.2.1). There is one
+   association at a time. */
 #include <dcsctp.h>
 #include <string.h>
 

@@ -3,7 +3,7 @@ import { groupOf, isObject, ruleOf } from './keys.mjs';
 import { byId, counted, element, hex, shown } from './text.mjs';
 import { VirtualList } from './virtual.mjs';
 
-/** The nodes of an object's tree, each before its children; `end` is behind the last of them. */
+/** The nodes of an object's tree, each before its children; `end` is after the last of them. */
 export function nodesOf(object) {
   const nodes = [];
   const add = (label, value, place, depth, parent, group) => {
@@ -245,7 +245,7 @@ export class Fields {
 
   showBytes() {
     byId('bytes-panel').hidden = this.bytes.length === 0 && this.nodes.length > 0;
-    // (a fault can be just behind the last byte)
+    // (a fault can be just after the last byte)
     this.hexadecimal.show(Math.ceil(Math.max(this.bytes.length, this.fault + 1) / this.width));
   }
 

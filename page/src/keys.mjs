@@ -246,7 +246,7 @@ const SECTIONS = {
 
 const RULES = {
   size: 'A packet has a common header of 12 bytes, and at least one chunk of 4 bytes or more.',
-  length: 'A length counts the header of 4 bytes, all that its kind has to hold, and no byte behind the packet.',
+  length: 'A length counts the header of 4 bytes, all that its kind has to hold, and no byte after the packet.',
   padding: 'An item is followed by padding up to a multiple of 4 bytes, all of them zero.',
   value: 'A value has to be one that its kind allows.',
 };

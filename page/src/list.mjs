@@ -43,7 +43,7 @@ export function endText(address, port) {
   return address.includes(':') ? `[${address}]:${ending}` : `${address}:${ending}`;
 }
 
-/** What a row says behind its chunks. */
+/** What a row says after its chunks. */
 export function infoOf(store, row) {
   const summary = store.summaries[store.columns.summary[row]], parts = [];
   if (store.has(row, 'sack'))
