@@ -9,7 +9,7 @@
    - An output overlaps no input and no other output. `packet` of the writing functions is both, and is one buffer.
    - A bool is 0 or 1.
    - dcsctp_canonical and dcsctp_print allocate with malloc, and free what they allocate; no other function allocates.
-     No function is called from a signal handler, or from the forked child of a process with threads.
+     Call no function from a signal handler, or in the forked child of a process with threads.
    No function keeps a pointer, and any number of threads may call at once. */
 #ifndef DCSCTP_H
 #define DCSCTP_H
@@ -227,8 +227,8 @@ struct dcsctp_re_config {
 
 /* ---- reading a whole packet
 
-   `word` is the number that the checksum field has to be, most significant byte first. dcsctp_word computes it; the field
-   itself is never it. */
+   `length` is the packet's, as the headers before it give it: without what a frame adds after it. `word` is the number
+   that the checksum field has to be, most significant byte first. dcsctp_word computes it; don't pass the field itself. */
 
 /* Returns DCSCTP_OK, or the first fault: 1 to 5. */
 uint32_t dcsctp_check(const uint8_t *bytes, size_t length, uint32_t word, const struct dcsctp_policy *policy);
@@ -472,7 +472,7 @@ static inline const char *dcsctp_result_text(uint32_t result)
     }
 }
 
-/* Returns the name of a type of chunk as the RFCs write it; "unknown" for one that dcsctp_chunk_type doesn't have. */
+/* Returns the name of a type of chunk as the RFCs write it; "unknown" for one that isn't named above. */
 static inline const char *dcsctp_chunk_name(uint8_t type)
 {
     switch (type) {
@@ -497,7 +497,7 @@ static inline const char *dcsctp_chunk_name(uint8_t type)
     }
 }
 
-/* Returns the name of a type of parameter; "unknown" for one that dcsctp_parameter_type doesn't have. */
+/* Returns the name of a type of parameter; "unknown" for one that isn't named above. */
 static inline const char *dcsctp_parameter_name(uint16_t type)
 {
     switch (type) {
@@ -517,7 +517,7 @@ static inline const char *dcsctp_parameter_name(uint16_t type)
     }
 }
 
-/* Returns the name of an error cause; "unknown" for a code that dcsctp_cause_code doesn't have. */
+/* Returns the name of an error cause; "unknown" for a code that isn't named above. */
 static inline const char *dcsctp_cause_name(uint16_t code)
 {
     switch (code) {

@@ -1,7 +1,7 @@
 /* dcsctp_processor: the word of a packet by the processor's own instruction for CRC32c, where it has one.
 
-   An option: dcsctp.h doesn't include this file, and the library doesn't call it. NOT PROVED: it is C that your compiler
-   makes. c/processor.c compares it with the proved dcsctp_word and dcsctp_seal, on random packets of every size.
+   An option: dcsctp.h doesn't include this file, and the library doesn't call it. NOT PROVED. c/processor.c compares it with
+   the proved dcsctp_word and dcsctp_seal, on random packets of every size.
 
    With DCSCTP_PROCESSOR_CRC32C defined before this file is included, dcsctp_word and dcsctp_seal mean
    dcsctp_processor_word and dcsctp_processor_seal from there on; without it they stay the library's:
@@ -9,9 +9,9 @@
      #define DCSCTP_PROCESSOR_CRC32C
      #include <dcsctp_processor.h>
 
-   On x86-64 the processor is asked as the program runs, and dcsctp_word answers where it lacks SSE4.2. On arm64 the
-   instruction is taken where the compiler may use it (-march=armv8-a+crc; on macOS always). It needs gcc or clang:
-   otherwise, and on other processors, each function is the library's. */
+   On x86-64 SSE4.2 is looked for at run time, and without it dcsctp_word is called. On arm64 the instruction is used where
+   the compiler may use it (-march=armv8-a+crc; on macOS always). It needs gcc or clang: otherwise, and on other processors,
+   each function is the library's. */
 #ifndef DCSCTP_PROCESSOR_H
 #define DCSCTP_PROCESSOR_H
 
