@@ -279,27 +279,18 @@ impl Associations {
         let Some(association) = self.table.get_mut(slot) else {
             return Ok(());
         };
-        let source = association.end(side.other()).port;
+        let sender = side.other();
+        let source = association.end(sender).port;
         let destination = association.end(side).port;
         let Learned::New { forgotten } = association.learn(side, tag) else {
             return Ok(());
         };
-        if let Some(tag) = forgotten {
-            self.forget_flow(
-                slot,
-                FlowKey {
-                    source,
-                    destination,
-                    tag,
-                },
-            );
-        }
+        self.forget_flow(slot, source, destination, forgotten);
         let key = FlowKey {
             source,
             destination,
             tag,
         };
-        let sender = side.other();
         self.flows.insert(key, Flow { slot, sender })?;
         Ok(())
     }
@@ -391,36 +382,26 @@ impl Associations {
         if self.routes.get(&route).copied() == Some(slot) {
             let _ = self.routes.remove(&route);
         }
-        let (source, destination) = (route.from.port, route.to.port);
+        let (first, second) = (route.from.port, route.to.port);
         for tag in to_second {
-            if let Some(tag) = tag {
-                self.forget_flow(
-                    slot,
-                    FlowKey {
-                        source,
-                        destination,
-                        tag,
-                    },
-                );
-            }
+            self.forget_flow(slot, first, second, tag);
         }
         for tag in to_first {
-            if let Some(tag) = tag {
-                let (source, destination) = (destination, source);
-                self.forget_flow(
-                    slot,
-                    FlowKey {
-                        source,
-                        destination,
-                        tag,
-                    },
-                );
-            }
+            self.forget_flow(slot, second, first, tag);
         }
     }
 
-    /// Forgets that packets are of the association in a slot.
-    fn forget_flow(&mut self, slot: usize, key: FlowKey) {
+    /// Forgets that packets between these ports with this tag, if it is one, are of the association
+    /// in a slot.
+    fn forget_flow(&mut self, slot: usize, source: u16, destination: u16, tag: Option<u32>) {
+        let Some(tag) = tag else {
+            return;
+        };
+        let key = FlowKey {
+            source,
+            destination,
+            tag,
+        };
         let is_of_it = match self.flows.get(&key) {
             Some(flow) => flow.slot == slot,
             None => false,

@@ -1,6 +1,6 @@
 //! One end of an association.
 
-ghost use Rattle.std.specs.Prelude.{◌≡◌, ◌≤◌, length};
+ghost use Rattle.std.specs.Prelude.{◌≡◌};
 ghost use Rattle.sctp_association.specs.Counts.{nothing};
 
 use crate::chunk_type::{DATA, HEARTBEAT, HEARTBEAT_ACK, I_DATA, INIT, INIT_ACK, SACK};
@@ -45,8 +45,8 @@ pub struct End {
     pub port: u16,
     /// The tag that it chose: packets to it carry it (RFC 9260 section 3.1).
     pub tag: Option<u32>,
-    // The one before: an INIT that is sent again may be answered by an INIT ACK with another tag,
-    // and either may then be used.
+    /// The one before: an INIT that is sent again may be answered by an INIT ACK with another tag,
+    /// and either may then be used.
     pub other_tag: Option<u32>,
     /// Whether its INIT or INIT ACK announced Zero Checksum Acceptable (RFC 9653 section 4), if one
     /// was seen.

@@ -1,14 +1,10 @@
 //! What an INIT or an INIT ACK announces (RFC 9260 sections 3.3.2 and 3.3.3).
 
-ghost use Rattle.std.specs.Prelude.{◌≤◌, length};
-
 use dcsctp_wire::packet::read_u32_be;
+use dcsctp_wire::packet::zero_checksum_acceptable_parameter::PARAMETER_TYPE as ZERO_CHECKSUM_ACCEPTABLE;
 use sctp_report::Part;
 
-/// The type of the parameter Zero Checksum Acceptable (RFC 9653 section 4).
-const ZERO_CHECKSUM_ACCEPTABLE: u16 = 0x8001;
-
-/// The size of what stands before the parameters.
+/// The size of what comes before the parameters.
 const FIXED_SIZE: usize = 16;
 
 /// Returns the initiate tag of a value; `None` where it wasn't captured, or is 0.

@@ -7,28 +7,10 @@ ghost use Rattle.sctp_report.specs.Part.{Item as AnItem, AreItems, part_of, item
 ghost use Rattle.sctp_filter.specs.Chunks.{flags_below, are_isolated, has_ppid, has_after};
 ghost use Rattle.sctp_filter.specs.ChunkTest.{meets_test, items_of, IsFound};
 
+use crate::chunk_type;
 use crate::fields::{is_u16, is_u32};
 use dcsctp_wire::packet::{read_u16_be, read_u32_be};
 use sctp_report::{Item, Part};
-
-/// The types of chunks that are asked for by name (RFC 9260 section 3.2, RFC 8260 section 2.1).
-pub(crate) mod chunk_type {
-    pub(crate) const DATA: u8 = 0;
-
-    pub(crate) const INIT: u8 = 1;
-
-    pub(crate) const INIT_ACK: u8 = 2;
-
-    pub(crate) const SACK: u8 = 3;
-
-    pub(crate) const ABORT: u8 = 6;
-
-    pub(crate) const COOKIE_ECHO: u8 = 10;
-
-    pub(crate) const SHUTDOWN_COMPLETE: u8 = 14;
-
-    pub(crate) const I_DATA: u8 = 64;
-}
 
 /// What is asked of a chunk.
 #[derive(Clone, Copy)]

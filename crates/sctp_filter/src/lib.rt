@@ -7,6 +7,7 @@
 #![tactic(auto)]
 
 mod chunk_test;
+mod chunk_type;
 mod fields;
 pub mod filter;
 pub mod rule;

@@ -6,7 +6,8 @@ ghost use Rattle.sctp_filter.specs.Chunks.{chunk_part};
 ghost use Rattle.sctp_filter.specs.ChunkTest.{items_of};
 ghost use Rattle.sctp_filter.specs.Rule.{breaks};
 
-use crate::chunk_test::{ChunkTest, chunk_type, some, some_after};
+use crate::chunk_test::{ChunkTest, some, some_after};
+use crate::chunk_type;
 use crate::fields::{has_port, is_u32};
 use sctp_report::Part;
 

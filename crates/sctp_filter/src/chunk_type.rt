@@ -1,0 +1,10 @@
+//! Chunk types by the names of their chunks (RFC 9260 section 3.2, RFC 8260 section 2.1).
+
+pub use dcsctp_wire::packet::abort_chunk::CHUNK_TYPE as ABORT;
+pub use dcsctp_wire::packet::cookie_echo_chunk::CHUNK_TYPE as COOKIE_ECHO;
+pub use dcsctp_wire::packet::data_chunk::CHUNK_TYPE as DATA;
+pub use dcsctp_wire::packet::idata_chunk::CHUNK_TYPE as I_DATA;
+pub use dcsctp_wire::packet::init_ack_chunk::CHUNK_TYPE as INIT_ACK;
+pub use dcsctp_wire::packet::init_chunk::CHUNK_TYPE as INIT;
+pub use dcsctp_wire::packet::sack_chunk::CHUNK_TYPE as SACK;
+pub use dcsctp_wire::packet::shutdown_complete_chunk::CHUNK_TYPE as SHUTDOWN_COMPLETE;
