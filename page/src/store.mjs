@@ -15,7 +15,7 @@ export class Store {
   summary;
   read = 0;
 
-  /** Adds what the Worker handed back. */
+  /** Adds what the Worker posted. */
   add({ lines, columns, objects, read, flows, summaries, notes }) {
     const more = columns.kind.length;
     for (const [name, column] of Object.entries(this.columns)) {

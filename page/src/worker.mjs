@@ -1,9 +1,9 @@
-// The Worker: runs the program over the inputs, and hands back what it prints, in batches: a Blob of whole lines, and a row
-// for each. A Worker that is stopped loses nothing that it handed back.
+// The Worker: runs the program over the inputs, and posts what it prints, in batches: a Blob of whole lines, and a row
+// for each. A Worker that is stopped loses nothing that it posted.
 import { COLUMNS, Rows } from './keys.mjs';
 import { run } from './program.mjs';
 
-/** So many bytes of lines are a batch; the first one is smaller, and so is one that is waited for. */
+/** This many bytes of lines are a batch; the first one is smaller, and so is one that is waited for. */
 const BATCH = 2 << 20;
 
 const decoder = new TextDecoder();
@@ -82,7 +82,7 @@ class Output {
       this.columns[name].push(row[name] ?? 0);
   }
 
-  /** Hands back the whole lines; what follows them is kept. */
+  /** Posts the whole lines; what follows them is kept. */
   post() {
     this.last = performance.now();
     const columns = Object.fromEntries(Object.entries(COLUMNS).map(([name, type]) => [name, type.from(this.columns[name])]));
