@@ -7,7 +7,7 @@ use crate::types::SerialNumber;
 use std::fmt;
 use std::ops::{Add, AddAssign, Sub, SubAssign};
 
-/// A stream sequence number (SSN, RFC 9260 section 1.6): the place of an ordered message in its
+/// A stream sequence number (SSN, RFC 9260 section 2.6): the place of an ordered message in its
 /// stream. It prints as its decimal number.
 #[derive(Clone, Copy, PartialEq, Eq, Hash)]
 pub struct Ssn(pub u16);

@@ -7,7 +7,7 @@ use crate::types::SerialNumber;
 use std::fmt;
 use std::ops::{Add, AddAssign, Sub, SubAssign};
 
-/// A transmission sequence number (TSN, RFC 9260 section 1.6): the place of a DATA or I-DATA chunk
+/// A transmission sequence number (TSN, RFC 9260 section 2.6): the place of a DATA or I-DATA chunk
 /// in its association. It prints as its decimal number.
 #[derive(Clone, Copy, PartialEq, Eq, Hash)]
 pub struct Tsn(pub u32);
