@@ -4,7 +4,7 @@ use Rattle.std.specs.List.{starts_with, list_all}
 use Rattle.std.proofs.lemmas.List.{length-drop, length-take}
 use Rattle.sctp_capture.specs.HexBytes.{is_blank, are_digits, byte_of, without_blanks_before, hex_bytes}
 use Rattle.sctp_capture.specs.Number.{byte_at}
-use Rattle.sctp_capture.specs.Line.{word, after_word, behind_direction, direction_of, log_from, mark, mark_offset, marked_bytes, is_printable, logged, log_line, groups_length, has_offset, hex_number, offset_length, dumped_bytes, dumped, dump_line, packet_line, behind_offset, bar_offset, barred_bytes, has_hexdump_offset, has_wireshark_offset, text_line, line_of}
+use Rattle.sctp_capture.specs.Line.{word, behind_direction, direction_of, log_from, mark, mark_offset, marked_bytes, transport_of, behind_time, is_printable, logged, log_line, groups_length, has_offset, hex_number, offset_length, dumped_bytes, dumped, dump_line, packet_line, behind_offset, bar_offset, barred_bytes, has_hexdump_offset, has_wireshark_offset, text_line, line_of}
 use Rattle.sctp_capture.specs.Text.{SaysAtMost}
 use Rattle.sctp_capture.proofs.Logs.{log_less}
 use Rattle.sctp_capture.specs.declared.line.Direction.{Direction}
@@ -64,10 +64,10 @@ packet_says : (o : Option (List ℕ)) (n : ℕ) → Half n o → Says n (packet_
 packet_says None n h = record { at_most = tt }
 packet_says (Some bytes) n h = record { at_most = h }
 
-logged_says : (direction : Direction) (time : List ℕ) (o : Option (List ℕ)) (n : ℕ) → Half n o
-    → Says n (logged direction time o)
-logged_says direction time None n h = record { at_most = tt }
-logged_says direction time (Some bytes) n h = record { at_most = h }
+logged_says : (direction : Direction) (time transport : List ℕ) (o : Option (List ℕ)) (n : ℕ)
+    → Half n o → Says n (logged direction time transport o)
+logged_says direction time transport None n h = record { at_most = tt }
+logged_says direction time transport (Some bytes) n h = record { at_most = h }
 
 dumped_says : (form : DumpForm) (offset : ℕ) (o : Option (List ℕ)) (n : ℕ) → Half n o
     → Says n (dumped form offset o)
@@ -82,9 +82,11 @@ marked_half text n below =
     (omega (arith, length-take (mark_offset text) text))) tt
 
 log_says : (text : List ℕ) (n : ℕ) → length text ≤ n → Says n (log_line text)
+unfolding log_line
 log_says text n below =
-    let bytes = drop 5 (after_word (behind_direction text)) in
-    logged_says (direction_of text) (word (behind_direction text)) (marked_bytes bytes) n
+    let bytes = behind_time text in
+    logged_says (direction_of text) (word (behind_direction text)) (transport_of bytes)
+    (marked_bytes bytes) n
     (marked_half bytes n (omega (arith, length-drop {A = ℕ})))
 
 dumped_half : (text : List ℕ) (n : ℕ) → length text ≤ n → Half n (dumped_bytes text)

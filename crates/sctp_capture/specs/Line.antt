@@ -57,10 +57,18 @@ marked_bytes text =
     then hex_bytes (take (mark_offset text) text) else
     None
 
-abbrev pub logged : Direction → List ℕ → Option (List ℕ) → Line
-logged direction time (Some bytes) =
-    Logged (record { direction = direction; time = time; packet = bytes })
-logged direction time None = Unknown
+-- the word after the mark, of 13 bytes, and the blanks after it; empty if there is none
+abbrev pub transport_of : List ℕ → List ℕ
+transport_of text = word (without_blanks_before (drop 13 (drop (mark_offset text) text)))
+
+abbrev pub logged : Direction → List ℕ → List ℕ → Option (List ℕ) → Line
+logged direction time transport (Some bytes) = Logged (record {
+  direction = direction;
+  time = time;
+  transport = transport;
+  packet = bytes;
+})
+logged direction time transport None = Unknown
 
 -- a direction is at the front: I (73) or O (79), and a space
 abbrev pub has_direction : List ℕ → Bool
@@ -83,11 +91,15 @@ unfoldable pub log_from : List ℕ → List ℕ
 log_from [] = []
 log_from (byte ∷ text) = if begins_log (byte ∷ text) then byte ∷ text else log_from text
 
--- And then the bytes. What follows the mark is of no matter.
-abbrev pub log_line : List ℕ → Line
+-- what follows the offset
+abbrev pub behind_time : List ℕ → List ℕ
+behind_time text = drop 5 (after_word (behind_direction text))
+
+-- And then the bytes, and the transport's name. What follows it is of no matter.
+unfoldable pub log_line : List ℕ → Line
 log_line text =
-    logged (direction_of text) (word (behind_direction text))
-    (marked_bytes (drop 5 (after_word (behind_direction text))))
+    logged (direction_of text) (word (behind_direction text)) (transport_of (behind_time text))
+    (marked_bytes (behind_time text))
 
 -- ---- a dump
 

@@ -77,7 +77,8 @@ own_events s said.Comment = []
 own_events s (said.Packet bytes) =
     packet_event (one_more s.packets) s.lines time.Unknown 248 bytes ∷ []
 own_events s (said.Logged l) =
-    packet_event (one_more s.packets) s.lines (time.OfDay l.time l.direction) 248 l.packet ∷ []
+    packet_event (one_more s.packets) s.lines (time.OfDay l.time l.direction l.transport) 248
+    l.packet ∷ []
 own_events s (said.Dumped part) =
     if part.offset == 0 then [] else Skip parts.Line s.lines skipped.Apart ∷ []
 own_events s said.Unknown = Skip parts.Line s.lines skipped.Unknown ∷ []

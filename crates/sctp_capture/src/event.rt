@@ -4,7 +4,7 @@ ghost use Rattle.std.specs.Prelude.{⊤, List, [], ◌∷◌, ◌++◌};
 ghost use Rattle.sctp_capture.specs.Event.{Event, Saw, Skip};
 
 use crate::line::Direction;
-use crate::log_time::LogTime;
+use crate::log_text::LogText;
 use crate::pcap::Resolution;
 
 /// When a frame was seen, as its capture says it.
@@ -32,10 +32,12 @@ pub enum Time<'a> {
     },
     /// Of a log: a time of day as it is written, and which way the packet went.
     OfDay {
-        /// The time.
-        time: LogTime<'a>,
+        /// The time: digits, colons and points.
+        time: LogText<'a>,
         /// Incoming or outgoing.
         direction: Direction,
+        /// The name of the transport that logged the packet; empty if it has none.
+        transport: LogText<'a>,
     },
 }
 

@@ -12,7 +12,7 @@ pub mod frame;
 pub mod hex_bytes;
 pub mod laws;
 pub mod line;
-pub mod log_time;
+pub mod log_text;
 mod parts;
 pub mod pcap;
 pub mod pcap_decoder;

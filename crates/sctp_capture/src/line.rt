@@ -4,11 +4,14 @@ ghost use Rattle.std.specs.Prelude.{◌≡◌, ◌≤◌, ◌<◌, ◌==◌, not
 ghost use Rattle.std.specs.Char.{is_ascii_hexdigit};
 ghost use Rattle.std.specs.List.{list_all};
 ghost use Rattle.sctp_capture.specs.HexBytes.{is_blank, hex_bytes};
-ghost use Rattle.sctp_capture.specs.Line.{line_of, text_line, packet_line, has_direction, behind_direction, begins_log, log_from, log_line, dump_line, place_of, is_in_time, is_time, word, after_word, marked_bytes, dumped, dumped_bytes, is_byte_alone, behind_offset, has_hexdump_offset, has_wireshark_offset, barred_bytes, hexdump_line, wireshark_line, is_gap, groups_length, hex_number, offset_length, has_offset, is_printable};
+ghost use Rattle.sctp_capture.specs.Line.{line_of, text_line, packet_line, has_direction, behind_direction, begins_log, log_from, log_line, dump_line, place_of, is_in_time, is_time, word, after_word, marked_bytes, transport_of, dumped, dumped_bytes, is_byte_alone, behind_offset, has_hexdump_offset, has_wireshark_offset, barred_bytes, hexdump_line, wireshark_line, is_gap, groups_length, hex_number, offset_length, has_offset, is_printable};
 
 use crate::hex_bytes::{HexBytes, begins_with_byte, digit, is_blank, without_blanks_before};
-use crate::log_time::LogTime;
+use crate::log_text::LogText;
 use crate::parts::after;
+
+/// How many bytes the mark of a log has, `# SCTP_PACKET`.
+const MARK_SIZE: usize = 13;
 
 /// Where a logged packet went.
 #[derive(Clone, Copy, Debug, PartialEq, Eq)]
@@ -24,8 +27,10 @@ pub enum Direction {
 pub struct LoggedPacket<'a> {
     /// Whether it was received or sent.
     pub direction: Direction,
-    /// When.
-    pub time: LogTime<'a>,
+    /// When: a time of day, of digits, colons and points.
+    pub time: LogText<'a>,
+    /// The name of the transport that logged it; empty if it has none.
+    pub transport: LogText<'a>,
     /// Its bytes.
     pub packet: HexBytes<'a>,
 }
@@ -113,7 +118,8 @@ pub fn place_of(offset: u32, held: usize) -> Place
 /// - four digits, two blanks and a byte: `Dumped`, as Wireshark writes it; two blanks in a row end
 ///   the bytes;
 /// - `I ` or `O `, a time and `0000 `, anywhere: `Logged`, as WebRTC logs packets for `text2pcap`:
-///   `I 12:34:56.789 0000 13 88 .. # SCTP_PACKET`; anything may come before, and follow the mark;
+///   `I 12:34:56.789 0000 13 88 .. # SCTP_PACKET DcSctpTransport0`; the word after the mark, if one
+///   is there, is the transport's name, and anything may come before the direction and after it;
 /// - anything else: `Packet`, if it is digits, two a byte, of either case, with blanks between
 ///   bytes.
 ///
@@ -161,6 +167,7 @@ fn packet_line(text: &[u8]) -> Line<'_>
 }
 
 /// Reads a line of a log from its direction on.
+#[tactic(auto, unfolding(crate::specs::Line::log_line))]
 fn log_line(text: &[u8]) -> Line<'_>
     requires { 0 < length text.now }
     ensures { result ≡ log_line text.now }
@@ -171,10 +178,12 @@ fn log_line(text: &[u8]) -> Line<'_>
         Direction::Outgoing
     };
     let (time, rest) = first_word(behind_direction(text));
-    match marked_bytes(after(rest, 5)) {
+    let bytes = after(rest, 5);
+    match marked_bytes(bytes) {
         Some(packet) => Line::Logged(LoggedPacket {
             direction,
-            time: LogTime::new(time),
+            time: LogText::new(time),
+            transport: LogText::new(transport_of(bytes)),
             packet,
         }),
         None => Line::Unknown,
@@ -274,6 +283,16 @@ fn marked_bytes(text: &[u8]) -> Option<HexBytes<'_>>
     } else {
         None
     }
+}
+
+/// Returns the word after the mark of a log.
+#[tactic(auto, using(crate::proofs::Places::first_place, crate::proofs::Places::place_within))]
+fn transport_of(text: &[u8]) -> &[u8]
+    ensures { result.now ≡ transport_of text.now }
+{
+    let offset = first_number_sign(text).unwrap_or(text.len());
+    let marked = after(&text[offset..], MARK_SIZE);
+    first_word(without_blanks_before(marked)).0
 }
 
 /// Returns the offset of the first `#`.

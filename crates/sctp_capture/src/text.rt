@@ -141,6 +141,7 @@ impl TextDecoder {
                 let time = Time::OfDay {
                     time: logged.time,
                     direction: logged.direction,
+                    transport: logged.transport,
                 };
                 self.take_packet(time, logged.packet, sink);
             }

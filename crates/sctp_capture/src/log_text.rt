@@ -1,30 +1,30 @@
-//! The time of a packet of a log.
+//! The parts of a log's line that are kept as they are written.
 
 ghost use Rattle.std.specs.Prelude.{◌≡◌, ℕ, List};
 
 use std::marker::Model;
 
-/// The time of day of a log's line, as it is written: digits, colons and points.
+/// A word of a log's line, as it is written.
 #[derive(Clone, Debug, Drop)]
-pub struct LogTime<'a> {
+pub struct LogText<'a> {
     text: &'a [u8],
 }
 
-impl<'a> Model for LogTime<'a> {
+impl<'a> Model for LogText<'a> {
     ghost Value = { List ℕ };
 
     ghost view = { λ t. t.text.now };
 }
 
-impl<'a> LogTime<'a> {
-    /// The time that is written so.
-    pub(crate) fn new(text: &'a [u8]) -> LogTime<'a>
+impl<'a> LogText<'a> {
+    /// The word that is written so.
+    pub(crate) fn new(text: &'a [u8]) -> LogText<'a>
         ensures { result ≡ text.now }
     {
-        LogTime { text }
+        LogText { text }
     }
 
-    /// Returns the time as it is written.
+    /// Returns the word as it is written.
     pub fn as_bytes(&self) -> &'a [u8]
         ensures { result.now ≡ self.now }
     {
