@@ -11,7 +11,7 @@ pub mod Logs
 pub mod LineSizes
 pub mod Handed
 pub mod TextLines
-pub mod Resolutions
+pub mod Options
 pub mod PcapngItems
 pub mod Items
 pub mod PcapReads

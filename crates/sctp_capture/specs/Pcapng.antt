@@ -13,9 +13,9 @@
 --   option (3.5): | code, 2 | length, 2 | value, and zeros up to 4 bytes |
 --
 -- The second total length serves reading backwards, and isn't looked at.
-use Rattle.std.specs.Prelude.{◌≡◌, ◌+◌, ◌-◌, ◌*◌, ◌/◌, ◌%◌, ◌≤◌, ◌==◌, ◌&&◌, ◌||◌, ℕ, zero, suc, Bool, nat_eq, nat_lt, nat_le, if◌then◌else◌, List, [], ◌∷◌, Option, None, Some, length, take, drop}
+use Rattle.std.specs.Prelude.{◌≡◌, ◌+◌, ◌-◌, ◌*◌, ◌/◌, ◌%◌, ◌≤◌, ◌==◌, ◌&&◌, ◌||◌, ℕ, zero, suc, ℤ, pos, Bool, nat_eq, nat_lt, nat_le, if◌then◌else◌, List, [], ◌∷◌, Option, None, Some, length, take, drop}
 use Rattle.std.specs.List.{starts_with}
-use Rattle.std.specs.Int.{w16, w32}
+use Rattle.std.specs.Int.{w16, w32, w64, cast_signed}
 use Rattle.sctp_capture.specs.Number.{byte_at, number_in}
 use Rattle.sctp_capture.specs.Pcap.{section_header}
 use Rattle.sctp_capture.specs.declared.pcap.ByteOrder.{ByteOrder}
@@ -90,14 +90,31 @@ is_packet type = type == 6 || type == 3 || type == 2
 abbrev pub option_size : ℕ → ℕ
 option_size length = 4 + (length + 3) / 4 * 4
 
--- the unit of times that the first n options say (if_tsresol, code 9); 10^-6 if none does
-unfoldable pub resolution_in : ℕ → ByteOrder → List ℕ → ℕ
-resolution_in zero order options = 6
-resolution_in (suc n) order options =
-    if nat_lt (length options) 5 || number_in order w16 options == 0 then 6 else
-    if number_in order w16 options == 9 && number_in order w16 (drop 2 options) == 1
-    then byte_at 4 options else
-    resolution_in n order (drop (option_size (number_in order w16 (drop 2 options))) options)
+-- a whole option of this code and size is at the front
+abbrev pub is_option : ByteOrder → ℕ → ℕ → List ℕ → Bool
+is_option order code size options =
+    number_in order w16 options == code && number_in order w16 (drop 2 options) == size
+    && nat_le (4 + size) (length options)
+
+-- The value of the first option of this code and size, among the first n; empty if there is none.
+-- Code 0 ends the options (opt_endofopt).
+unfoldable pub option_in : ℕ → ByteOrder → ℕ → ℕ → List ℕ → List ℕ
+option_in zero order code size options = []
+option_in (suc n) order code size options =
+    if nat_lt (length options) 4 || number_in order w16 options == 0 then [] else
+    if is_option order code size options then take size (drop 4 options) else
+    option_in n order code size
+    (drop (option_size (number_in order w16 (drop 2 options))) options)
+
+-- the unit of times (if_tsresol, code 9); 10^-6 if no option says it
+abbrev pub resolution_of : List ℕ → ℕ
+resolution_of value = if nat_lt (length value) 1 then 6 else byte_at 0 value
+
+-- the seconds to be added to each time, a signed number (if_tsoffset, code 14); 0 if no option says
+-- it
+abbrev pub offset_of : ByteOrder → List ℕ → ℤ
+offset_of order value =
+    if nat_lt (length value) 8 then pos 0 else cast_signed w64 (number_in order w64 value)
 
 -- what a body describes; nothing if it is too short, or longer than is kept
 abbrev pub interface_of : ByteOrder → List ℕ → Option Interface
@@ -106,5 +123,6 @@ interface_of order body =
     Some (record {
       link_type = number_in order w16 body;
       snapshot_length = number_in order w32 (drop 4 body);
-      resolution = resolution_in (length body) order (drop 8 body);
+      resolution = resolution_of (option_in (length body) order 9 1 (drop 8 body));
+      offset = offset_of order (option_in (length body) order 14 8 (drop 8 body));
     })

@@ -43,11 +43,11 @@ interface_at interfaces n = known (slice_get interfaces n) where
   known None = None
   known (Some i) = i
 
--- units since 1970: the interface says which
+-- units since 1970, and the seconds to be added to them: the interface says which
 abbrev pub ticks_in : ByteOrder → List ℕ → Interface → Time
 ticks_in order body i =
     Ticks (number_in order w32 (drop 4 body) * 2 ^ 32 + number_in order w32 (drop 8 body))
-    i.resolution
+    i.resolution i.offset
 
 abbrev pub captured_event : ℕ → ByteOrder → List ℕ → Option Interface → Event
 captured_event number order body None = Skip part.Record number NoInterface

@@ -22,13 +22,15 @@ pub enum Time<'a> {
         /// The unit.
         resolution: Resolution,
     },
-    /// Of pcapng: units since 1970-01-01 00:00:00 UTC.
+    /// Of pcapng: units since 1970-01-01 00:00:00 UTC, and seconds to be added to them.
     Ticks {
         /// The number of units.
         ticks: u64,
         /// The unit, as `if_tsresol` says it: 10^-n of a second for n below 128, and else
         /// 2^-(n - 128).
         resolution: u8,
+        /// The seconds, as `if_tsoffset` says it.
+        offset: i64,
     },
     /// Of a log: a time of day as it is written, and which way the packet went.
     OfDay {

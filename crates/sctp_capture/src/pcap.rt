@@ -1,7 +1,7 @@
 //! Capture files in the pcap format (draft-ietf-opsawg-pcap).
 
 ghost use Rattle.std.specs.Prelude.{◌≡◌, ◌≤◌, ◌++◌, ℕ, List, length, take, drop};
-ghost use Rattle.std.specs.Int.{w16, w32};
+ghost use Rattle.std.specs.Int.{w16, w32, w64};
 ghost use Rattle.sctp_capture.specs.Number.{number_in};
 ghost use Rattle.sctp_capture.specs.Pcap.{magic_format, input_kind, file_header, record_header, record_bytes, record_of, Fits};
 
@@ -165,5 +165,19 @@ pub(crate) fn read_u32(order: ByteOrder, bytes: &[u8]) -> u32
     match order {
         ByteOrder::BigEndian => u32::from_be_bytes(field),
         ByteOrder::LittleEndian => u32::from_le_bytes(field),
+    }
+}
+
+/// Reads the number of the first eight bytes.
+pub(crate) fn read_u64(order: ByteOrder, bytes: &[u8]) -> u64
+    requires { 8 ≤ length bytes.now }
+    ensures { result ≡ number_in order w64 bytes.now }
+{
+    let field = [
+        bytes[0], bytes[1], bytes[2], bytes[3], bytes[4], bytes[5], bytes[6], bytes[7],
+    ];
+    match order {
+        ByteOrder::BigEndian => u64::from_be_bytes(field),
+        ByteOrder::LittleEndian => u64::from_le_bytes(field),
     }
 }

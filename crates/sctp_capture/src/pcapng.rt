@@ -3,11 +3,11 @@
 ghost use Rattle.std.specs.Prelude.{◌≡◌, ◌≤◌, nat_eq, length, IfSome};
 ghost use Rattle.std.specs.List.{starts_with};
 ghost use Rattle.sctp_capture.specs.Pcap.{section_header};
-ghost use Rattle.sctp_capture.specs.Pcapng.{magic_order, block_header, header_in, body_of, option_size, resolution_in, interface_of};
+ghost use Rattle.sctp_capture.specs.Pcapng.{magic_order, block_header, header_in, body_of, option_size, is_option, option_in, resolution_of, offset_of, interface_of};
 
 use crate::decoder::MOST_KEPT;
-use crate::parts::after;
-use crate::pcap::{ByteOrder, read_u16, read_u32};
+use crate::parts::{after, front};
+use crate::pcap::{ByteOrder, read_u16, read_u32, read_u64};
 
 /// The type of a section header, which is the same in both byte orders.
 pub const SECTION_HEADER: u32 = 0x0a0d_0d0a;
@@ -47,6 +47,8 @@ pub struct Interface {
     pub snapshot_length: u32,
     /// The unit of its times, as `if_tsresol` says it (section 4.2).
     pub resolution: u8,
+    /// The seconds to be added to its times, as `if_tsoffset` says it; 0 if nothing does.
+    pub offset: i64,
 }
 
 /// Returns whether bytes begin as a section header does.
@@ -117,29 +119,60 @@ pub fn interface_of(order: ByteOrder, body: &[u8]) -> Option<Interface>
     if body.len() < 8 || body.len() > MOST_KEPT {
         return None;
     }
+    let options = after(body, 8);
     Some(Interface {
         link_type: read_u16(order, body),
-        snapshot_length: read_u32(order, &body[4..]),
-        resolution: resolution_in(body.len(), order, &body[8..]),
+        snapshot_length: read_u32(order, after(body, 4)),
+        resolution: resolution_of(option_in(body.len(), order, 9, 1, options)),
+        offset: offset_of(order, option_in(body.len(), order, 14, 8, options)),
     })
 }
 
-/// Returns the unit of times that the first options say.
-fn resolution_in(most: usize, order: ByteOrder, options: &[u8]) -> u8
-    ensures { result ≡ resolution_in most order options.now }
+/// Returns the value of the first option of this code and size, among the first; no bytes if there
+/// is none.
+fn option_in(most: usize, order: ByteOrder, code: u16, size: u16, options: &[u8]) -> &[u8]
+    ensures { result.now ≡ option_in most order code size options.now }
 {
     let mut rest = options;
     for _ in 0..most {
-        if rest.len() < 5 || read_u16(order, rest) == 0 {
-            return 6;
+        if rest.len() < 4 || read_u16(order, rest) == 0 {
+            return &[];
+        }
+        if is_option(order, code, size, rest) {
+            return front(after(rest, 4), size as usize);
         }
         let length = read_u16(order, after(rest, 2));
-        if read_u16(order, rest) == 9 && length == 1 {
-            return rest[4];
-        }
         rest = after(rest, option_size(length));
     }
-    6
+    &[]
+}
+
+/// Returns whether a whole option of this code and size is at the front.
+fn is_option(order: ByteOrder, code: u16, size: u16, options: &[u8]) -> bool
+    requires { 4 ≤ length options.now }
+    ensures { result ≡ is_option order code size options.now }
+{
+    read_u16(order, options) == code
+        && read_u16(order, after(options, 2)) == size
+        && options.len() >= 4 + size as usize
+}
+
+/// Returns the unit of times that the value of an option says.
+fn resolution_of(value: &[u8]) -> u8
+    ensures { result ≡ resolution_of value.now }
+{
+    if value.is_empty() { 6 } else { value[0] }
+}
+
+/// Returns the seconds that the value of an option says.
+fn offset_of(order: ByteOrder, value: &[u8]) -> i64
+    ensures { result ≡ offset_of order value.now }
+{
+    if value.len() < 8 {
+        0
+    } else {
+        read_u64(order, value).cast_signed()
+    }
 }
 
 /// Returns the size of an option with its padding.

@@ -217,6 +217,7 @@ fn hand_packet<S: Sink>(
     let time = Time::Ticks {
         ticks: ticks_of(field(order, body, 4), field(order, body, 8)),
         resolution: interface.resolution,
+        offset: interface.offset,
     };
     let original = field(order, body, 16);
     hand_frame(
