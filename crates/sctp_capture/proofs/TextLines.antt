@@ -9,7 +9,7 @@ use Rattle.std.specs.List.{position, position_or_len}
 use Rattle.std.specs.Io.{StartsWith}
 use Rattle.sctp_capture.specs.Event.{Event, Hands}
 use Rattle.sctp_capture.specs.Decoding.{IsLine, fed, Passes}
-use Rattle.sctp_capture.specs.Text.{TextState, end_events, after_end, at_line, long_events, line_events, after_line, last_events, LineItem, TextEnd}
+use Rattle.sctp_capture.specs.Text.{TextState, end_events, after_long, long_events, line_events, after_line, last_events, LineItem, TextEnd}
 use Rattle.sctp_capture.specs.declared.decoder.Extent.TheVariants as extent
 use Rattle.sctp_capture.proofs.Handed.{Hands-trans}
 
@@ -63,9 +63,9 @@ of_long : (s : TextState) (line : List ℕ) → 262144 < length line
 of_long s line long =
     let no : nat_le (length line) 262144 ≡ false = grind (arith, nat_tests) in rw no refl
 
-after_long : (s : TextState) (line : List ℕ) → 262144 < length line
-    → after_line s line ≡ after_end (at_line s)
-after_long s line long =
+after_too_long : (s : TextState) (line : List ℕ) → 262144 < length line
+    → after_line s line ≡ after_long s
+after_too_long s line long =
     let no : nat_le (length line) 262144 ≡ false = grind (arith, nat_tests) in rw no refl
 
 last_long : (s : TextState) (line : List ℕ) → 262144 < length line
@@ -80,7 +80,7 @@ begins_long : (line held : List ℕ) → 262144 < length held → StartsWith lin
 begins_long line held long begins =
     omega (arith, ap length begins, length-take (length held) line)
 
-pub passes_long : (s t : TextState) (held : List ℕ) → t ≡ after_end (at_line s) → IsLine held
+pub passes_long : (s t : TextState) (held : List ℕ) → t ≡ after_long s → IsLine held
     → 262144 < length held → Passes LineItem TextEnd s held extent.Line (long_events s) t
 passes_long s t held after is long = (
   is,
@@ -89,7 +89,7 @@ passes_long s t held after is long = (
     is_line = is_line;
     is = refl;
     has = sym (of_long s line (begins_long line held long begins));
-    after = after ∙ sym (after_long s line (begins_long line held long begins));
+    after = after ∙ sym (after_too_long s line (begins_long line held long begins));
   },
   λ line is_line begins. record {
     is_line = is_line;

@@ -1,4 +1,5 @@
--- What the bytes of a dump are, by what they begin with: nothing else says it.
+-- What the bytes of a dump or of a line of digits are, by what they begin with: nothing else says
+-- it.
 use Rattle.std.specs.Prelude.{◌+◌, ◌==◌, ℕ, Bool, ◌||◌, ◌&&◌, nat_le, List, if◌then◌else◌, length, drop}
 use Rattle.sctp_capture.specs.Number.{number16}
 use Rattle.sctp_capture.specs.Frame.{ip_version}
@@ -56,10 +57,14 @@ link_or other bytes =
     if is_cooked_2 bytes then 276 else
     other
 
--- The link type of a dump's bytes. By xxd they are an SCTP packet (248); by tcpdump a frame of
--- Ethernet (1) or of Linux's cooked ones (113, 276), or an IP packet (101); by others any of these.
+-- The link type of bytes of which nothing else is known: a frame of Ethernet (1) or of Linux's
+-- cooked ones (113, 276), an IP packet (101), or an SCTP packet (248).
+abbrev pub link_of_any : List ℕ → ℕ
+link_of_any bytes = link_or (if is_ip bytes then 101 else 248) bytes
+
+-- The link type of a dump's bytes. tcpdump doesn't write SCTP packets.
 abbrev pub link_of : DumpForm → List ℕ → ℕ
-link_of Xxd bytes = 248
 link_of Tcpdump bytes = link_or 101 bytes
-link_of Hexdump bytes = link_or (if is_ip bytes then 101 else 248) bytes
-link_of Wireshark bytes = link_or (if is_ip bytes then 101 else 248) bytes
+link_of Xxd bytes = link_of_any bytes
+link_of Hexdump bytes = link_of_any bytes
+link_of Wireshark bytes = link_of_any bytes

@@ -4,6 +4,7 @@ pub mod Frame
 pub mod Found
 pub mod HexBytes
 pub mod Line
+pub mod Stamp
 pub mod Sent
 pub mod Event
 pub mod Decoding

@@ -1,10 +1,11 @@
 -- The events of a text: packets in hexadecimal, of logs and of dumps, and lines that hold none.
-use Rattle.std.specs.Prelude.{◌≡◌, ◌*◌, ◌≤◌, ◌==◌, ℕ, Bool, true, false, ◌&&◌, nat_le, List, [], ◌∷◌, ◌++◌, if◌then◌else◌, Option, None, Some, length}
+use Rattle.std.specs.Prelude.{◌≡◌, ◌*◌, ◌≤◌, ◌==◌, ℕ, Bool, true, false, ◌&&◌, nat_lt, nat_le, List, [], ◌∷◌, ◌++◌, if◌then◌else◌, Option, None, Some, length}
 use Rattle.sctp_capture.specs.Number.{one_more}
 use Rattle.sctp_capture.specs.Event.{Event, Saw, Skip}
 use Rattle.sctp_capture.specs.Decoding.{IsLine, fed}
-use Rattle.sctp_capture.specs.Dump.{link_of}
+use Rattle.sctp_capture.specs.Dump.{link_of_any, link_of}
 use Rattle.sctp_capture.specs.Line.{line_of, place_of}
+use Rattle.sctp_capture.specs.Stamp.{stamp_of}
 use Rattle.sctp_capture.specs.declared.decoder.Fault.{Fault}
 use Rattle.sctp_capture.specs.declared.event.Part.TheVariants as parts
 use Rattle.sctp_capture.specs.declared.event.Skipped.TheVariants as skipped
@@ -17,6 +18,7 @@ use Rattle.sctp_capture.specs.declared.line.Line.{Line}
 use Rattle.sctp_capture.specs.declared.line.Line.TheVariants as said
 use Rattle.sctp_capture.specs.declared.line.Place.{Place}
 use Rattle.sctp_capture.specs.declared.line.Place.TheVariants.{Begins, Continues, Apart}
+use Rattle.sctp_capture.specs.declared.stamp.Stamp.{Stamp}
 
 -- ---- what is known
 
@@ -26,14 +28,16 @@ pub record OpenDump : Type 0 where
   pub bytes : List ℕ
   pub first_line : ℕ
 
--- how many lines and packets there were, and the dump that is open
+-- how many lines and packets there were, the dump that is open, and the date and time that were
+-- written for the next line
 pub record TextState : Type 0 where
   pub lines : ℕ
   pub packets : ℕ
   pub dump : Option OpenDump
+  pub stamp : Option Stamp
 
 abbrev pub before_text : TextState
-before_text = record { lines = 0; packets = 0; dump = None }
+before_text = record { lines = 0; packets = 0; dump = None; stamp = None }
 
 -- ---- a packet
 
@@ -66,19 +70,25 @@ after_end s = record {
   lines = s.lines;
   packets = ended_packets s.packets s.dump;
   dump = None;
+  stamp = s.stamp;
 }
 
 -- ---- a line that continues no dump
+
+-- fewer bytes than the common header of a packet has (RFC 9260 section 3.1)
+abbrev pub is_short : List ℕ → Bool
+is_short bytes = nat_lt (length bytes) 12
 
 -- its events, where no dump is open
 abbrev pub own_events : TextState → Line → List Event
 own_events s said.Blank = []
 own_events s said.Comment = []
 own_events s (said.Packet bytes) =
-    packet_event (one_more s.packets) s.lines time.Unknown 248 bytes ∷ []
+    if is_short bytes then Skip parts.Line s.lines skipped.Unknown ∷ [] else
+    packet_event (one_more s.packets) s.lines time.Unknown (link_of_any bytes) bytes ∷ []
 own_events s (said.Logged l) =
-    packet_event (one_more s.packets) s.lines (time.OfDay l.time l.direction l.transport) 248
-    l.packet ∷ []
+    packet_event (one_more s.packets) s.lines
+    (time.OfDay l.time l.direction l.transport s.stamp) 248 l.packet ∷ []
 own_events s (said.Dumped part) =
     if part.offset == 0 then [] else Skip parts.Line s.lines skipped.Apart ∷ []
 own_events s said.Unknown = Skip parts.Line s.lines skipped.Unknown ∷ []
@@ -93,7 +103,8 @@ begun_by number part =
 abbrev pub after_own : TextState → Line → TextState
 after_own s said.Blank = s
 after_own s said.Comment = s
-after_own s (said.Packet bytes) = record s { packets = one_more s.packets }
+after_own s (said.Packet bytes) =
+    if is_short bytes then s else record s { packets = one_more s.packets }
 after_own s (said.Logged l) = record s { packets = one_more s.packets }
 after_own s (said.Dumped part) = record s { dump = begun_by s.lines part }
 after_own s said.Unknown = s
@@ -155,9 +166,31 @@ after_said s line =
     if continues line s.dump then record s { dump = longer s.dump line } else
     after_own (after_end s) line
 
--- with the line, by its number
-abbrev pub at_line : TextState → TextState
-at_line s = record s { lines = one_more s.lines }
+-- with a line more, and the date and time that were written for it
+abbrev pub counted : Option Stamp → TextState → TextState
+counted stamp s = record s { lines = one_more s.lines; stamp = stamp }
+
+-- its own date and time, or those that were written above it
+abbrev pub stamp_or : Option Stamp → Option Stamp → Option Stamp
+stamp_or None above = above
+stamp_or (Some own) above = Some own
+
+abbrev pub at_line : TextState → List ℕ → TextState
+at_line s line = counted (stamp_or (stamp_of line) s.stamp) s
+
+-- What is written for the next line: a line that is no packet may begin with it, and a blank line
+-- leaves what was written above.
+abbrev pub stamp_below : Line → Option Stamp → Option Stamp → Option Stamp
+stamp_below said.Unknown own above = own
+stamp_below said.Blank own above = above
+stamp_below _ own above = None
+
+abbrev pub with_stamp : Option Stamp → TextState → TextState
+with_stamp stamp s = record s { stamp = stamp }
+
+-- behind a line that isn't looked at
+abbrev pub after_long : TextState → TextState
+after_long s = after_end (counted None s)
 
 abbrev pub long_events : TextState → List Event
 long_events s = end_events s ++ Skip parts.Line (one_more s.lines) skipped.TooLong ∷ []
@@ -165,12 +198,15 @@ long_events s = end_events s ++ Skip parts.Line (one_more s.lines) skipped.TooLo
 -- a line of more than 262,144 bytes isn't looked at
 abbrev pub line_events : TextState → List ℕ → List Event
 line_events s line =
-    if nat_le (length line) 262144 then said_events (at_line s) (line_of line) else long_events s
+    if nat_le (length line) 262144 then said_events (at_line s line) (line_of line) else
+    long_events s
 
 abbrev pub after_line : TextState → List ℕ → TextState
 after_line s line =
-    if nat_le (length line) 262144 then after_said (at_line s) (line_of line) else
-    after_end (at_line s)
+    if nat_le (length line) 262144
+    then with_stamp (stamp_below (line_of line) (stamp_of line) s.stamp)
+    (after_said (at_line s line) (line_of line)) else
+    after_long s
 
 -- what follows the last line feed is a line, if it is anything; and then the open dump ends
 abbrev pub last_events : TextState → List ℕ → List Event

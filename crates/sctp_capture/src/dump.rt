@@ -1,7 +1,7 @@
-//! What the bytes of a dump are.
+//! What the bytes of a dump or of a line of digits are.
 
 ghost use Rattle.std.specs.Prelude.{◌≡◌, ◌+◌, ◌≤◌, length, IsTrue};
-ghost use Rattle.sctp_capture.specs.Dump.{is_ip_type, has_ip, is_tag, has_tag, is_ethernet, is_cooked, is_cooked_2, is_ip, link_or, link_of};
+ghost use Rattle.sctp_capture.specs.Dump.{is_ip_type, has_ip, is_tag, has_tag, is_ethernet, is_cooked, is_cooked_2, is_ip, link_or, link_of_any, link_of};
 
 use crate::frame::{link_type, number16};
 use crate::line::DumpForm;
@@ -11,17 +11,21 @@ pub(crate) fn link_of(form: DumpForm, bytes: &[u8]) -> u16
     ensures { result ≡ link_of form bytes.now }
 {
     match form {
-        DumpForm::Xxd => link_type::SCTP,
         DumpForm::Tcpdump => link_or(link_type::RAW_IP, bytes),
-        DumpForm::Hexdump | DumpForm::Wireshark => {
-            let other = if is_ip(bytes) {
-                link_type::RAW_IP
-            } else {
-                link_type::SCTP
-            };
-            link_or(other, bytes)
-        }
+        DumpForm::Xxd | DumpForm::Hexdump | DumpForm::Wireshark => link_of_any(bytes),
     }
+}
+
+/// Returns the link type of bytes of which nothing else is known.
+pub(crate) fn link_of_any(bytes: &[u8]) -> u16
+    ensures { result ≡ link_of_any bytes.now }
+{
+    let other = if is_ip(bytes) {
+        link_type::RAW_IP
+    } else {
+        link_type::SCTP
+    };
+    link_or(other, bytes)
 }
 
 /// Returns the link type of a frame, or another one of bytes that don't begin as a frame does.

@@ -6,6 +6,7 @@ ghost use Rattle.sctp_capture.specs.Event.{Event, Saw, Skip};
 use crate::line::Direction;
 use crate::log_text::LogText;
 use crate::pcap::Resolution;
+use crate::stamp::Stamp;
 
 /// When a frame was seen, as its capture says it.
 #[derive(Clone, Debug, Drop)]
@@ -40,6 +41,8 @@ pub enum Time<'a> {
         direction: Direction,
         /// The name of the transport that logged the packet; empty if it has none.
         transport: LogText<'a>,
+        /// The date and time that Chromium wrote before it, if it did.
+        stamp: Option<Stamp>,
     },
 }
 
@@ -76,7 +79,7 @@ pub enum Skipped {
     EndsIn,
     /// A packet block of an interface that no block describes, or that isn't kept.
     NoInterface,
-    /// A line of no form that is known.
+    /// A line of no form that is known, or of fewer bytes than a packet's header has.
     Unknown,
     /// A line of a dump whose offset doesn't continue the line before it.
     Apart,

@@ -18,4 +18,5 @@ pub mod pcap;
 pub mod pcap_decoder;
 pub mod pcapng;
 pub mod pcapng_decoder;
+pub mod stamp;
 pub mod text;

@@ -38,7 +38,7 @@ pub struct LoggedPacket<'a> {
 /// A form of dump.
 #[derive(Clone, Copy, Debug, PartialEq, Eq)]
 pub enum DumpForm {
-    /// Of `xxd`: `00000010: 1388 1388 ..`. The bytes are those of an SCTP packet.
+    /// Of `xxd`: `00000010: 1388 1388 ..`. Nothing says what the bytes are.
     Xxd,
     /// Of `tcpdump -x` and `-xx`: `0x0010:  1388 1388 ..`. The bytes are those of an IP packet, or
     /// of a frame.

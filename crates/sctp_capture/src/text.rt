@@ -4,21 +4,25 @@ ghost use Rattle.std.specs.Prelude.{◌≡◌, ◌*◌, ◌^◌, ◌≤◌, ◌<
 ghost use Rattle.sctp_capture.specs.Event.{Event, Skip, Hands};
 ghost use Rattle.sctp_capture.specs.Decoding.{IsLine};
 ghost use Rattle.sctp_capture.specs.Number.{one_more};
-ghost use Rattle.sctp_capture.specs.Text.{TextState, before_text, packet_event, end_events, after_end, at_line, long_events, own_events, after_own, is_form, continues_dump, said_events, after_said, line_events, after_line, last_events, SaysAtMost, LineItem, TextEnd};
-ghost use Rattle.sctp_capture.specs.declared.line.Line.TheVariants.{Dumped};
+ghost use Rattle.sctp_capture.specs.Text.{TextState, before_text, packet_event, end_events, after_end, at_line, counted, with_stamp, stamp_or, stamp_below, after_long, long_events, own_events, after_own, is_form, continues_dump, said_events, after_said, line_events, after_line, last_events, SaysAtMost, LineItem, TextEnd};
+ghost use Rattle.sctp_capture.specs.declared.line.Line.TheVariants.{Packet, Logged, Dumped};
 
 use crate::decoder::{Decoder, Extent, MOST_KEPT, Next};
-use crate::dump::link_of;
+use crate::dump::{link_of, link_of_any};
 use crate::event::{Part, Seen, Sink, Skipped, Time};
 use crate::frame::link_type;
 use crate::hex_bytes::HexBytes;
-use crate::line::{DumpForm, DumpedBytes, Line, Place, place_of, read_line};
+use crate::line::{DumpForm, DumpedBytes, Line, LoggedPacket, Place, place_of, read_line};
 use crate::parts::{after, front};
+use crate::stamp::{Stamp, read_stamp};
 use std::alloc::{AllocError, Global};
 use std::marker::Model;
 
 /// The most bytes that a line says: two digits say one.
 const MOST_SAID: usize = MOST_KEPT / 2;
+
+/// How many bytes the common header of a packet has.
+const HEADER_SIZE: usize = 12;
 
 /// Finds the packets of a text.
 #[derive(Drop)]
@@ -33,6 +37,8 @@ pub struct TextDecoder {
     packets: u64,
     /// How many lines there were.
     lines: u64,
+    /// The date and time that were written for the next line.
+    stamp: Option<Stamp>,
     /// How many bytes in memory were searched for a line feed when they were seen last.
     searched: usize,
 }
@@ -51,6 +57,7 @@ impl Model for TextDecoder {
         bytes = d.bytes.items;
         first_line = d.first_line;
       }) d.form;
+      stamp = d.stamp;
     } };
 
     ghost invariant = { λ d. (393216 ≤ vec_capacity d.bytes) × (length d.bytes.items ≤ 393216) };
@@ -67,6 +74,7 @@ impl TextDecoder {
             first_line: 0,
             packets: 0,
             lines: 0,
+            stamp: None,
             searched: 0,
         })
     }
@@ -80,12 +88,20 @@ impl TextDecoder {
         searched == 0 || first_line_feed(after(held, searched)).is_some()
     }
 
-    /// Counts a line.
-    fn count_line(&mut self)
-        ensures { self.new ≡ at_line self.old }
+    /// Counts a line, and keeps what was written for it.
+    fn count_line(&mut self, stamp: Option<Stamp>)
+        ensures { self.new ≡ counted stamp self.old }
     {
         self.lines = next_number(self.lines);
+        self.stamp = stamp;
         self.searched = 0;
+    }
+
+    /// Keeps what was written for the next line.
+    fn keep_stamp(&mut self, stamp: Option<Stamp>)
+        ensures { self.new ≡ with_stamp stamp self.old }
+    {
+        self.stamp = stamp;
     }
 
     /// Passes on the events of a line.
@@ -96,17 +112,21 @@ impl TextDecoder {
         if line.len() > MOST_KEPT {
             self.take_long(sink);
         } else {
-            self.count_line();
-            self.take_said(read_line(line), sink);
+            let own = read_stamp(line);
+            let said = read_line(line);
+            let below = stamp_below(&said, own, self.stamp);
+            self.count_line(stamp_or(own, self.stamp));
+            self.take_said(said, sink);
+            self.keep_stamp(below);
         }
     }
 
     /// Passes on the events of a line that is too long.
     fn take_long<S: Sink>(&mut self, sink: &mut S)
-        ensures state { self.new ≡ after_end (at_line self.old) }
+        ensures state { self.new ≡ after_long self.old }
         ensures events { Hands S.handed sink.old sink.new (long_events self.old) }
     {
-        self.count_line();
+        self.count_line(None);
         self.end_dump(sink);
         sink.skipped(Part::Line, self.lines, Skipped::TooLong);
     }
@@ -134,16 +154,11 @@ impl TextDecoder {
             Line::Blank | Line::Comment => self.end_dump(sink),
             Line::Packet(bytes) => {
                 self.end_dump(sink);
-                self.take_packet(Time::Unknown, bytes, sink);
+                self.take_packet(bytes, sink);
             }
             Line::Logged(logged) => {
                 self.end_dump(sink);
-                let time = Time::OfDay {
-                    time: logged.time,
-                    direction: logged.direction,
-                    transport: logged.transport,
-                };
-                self.take_packet(time, logged.packet, sink);
+                self.take_logged(logged, sink);
             }
             Line::Unknown => {
                 self.end_dump(sink);
@@ -152,18 +167,43 @@ impl TextDecoder {
         }
     }
 
-    /// Passes on a packet, where no dump is open.
-    fn take_packet<S: Sink>(&mut self, time: Time<'_>, bytes: HexBytes<'_>, sink: &mut S)
+    /// Passes on the events of a line of digits, where no dump is open.
+    fn take_packet<S: Sink>(&mut self, bytes: HexBytes<'_>, sink: &mut S)
         requires closed { self.old.dump ≡ None }
         requires short { 2 * length bytes ≤ 262144 }
-        ensures state { self.new ≡ record self.old { packets = one_more self.old.packets } }
+        ensures state { self.new ≡ after_own self.old (Packet bytes.entry) }
         ensures events { Hands S.handed sink.old sink.new
-            (packet_event (one_more self.old.packets) self.old.lines time.entry 248 bytes.entry
-            ∷ []) }
+            (own_events self.old (Packet bytes.entry)) }
+    {
+        self.bytes.clear();
+        bytes.append_reserved(&mut self.bytes);
+        if self.bytes.len() < HEADER_SIZE {
+            sink.skipped(Part::Line, self.lines, Skipped::Unknown);
+            return;
+        }
+        self.packets = next_number(self.packets);
+        let bytes = self.bytes.as_slice();
+        let link = link_of_any(bytes);
+        hand_on(self.packets, self.lines, Time::Unknown, link, bytes, sink);
+    }
+
+    /// Passes on a packet of a log, where no dump is open.
+    fn take_logged<S: Sink>(&mut self, logged: LoggedPacket<'_>, sink: &mut S)
+        requires closed { self.old.dump ≡ None }
+        requires short { 2 * length logged.packet ≤ 262144 }
+        ensures state { self.new ≡ after_own self.old (Logged logged.entry) }
+        ensures events { Hands S.handed sink.old sink.new
+            (own_events self.old (Logged logged.entry)) }
     {
         self.packets = next_number(self.packets);
         self.bytes.clear();
-        bytes.append_reserved(&mut self.bytes);
+        logged.packet.append_reserved(&mut self.bytes);
+        let time = Time::OfDay {
+            time: logged.time,
+            direction: logged.direction,
+            transport: logged.transport,
+            stamp: self.stamp,
+        };
         let bytes = self.bytes.as_slice();
         hand_on(self.packets, self.lines, time, link_type::SCTP, bytes, sink);
     }
@@ -293,6 +333,27 @@ fn hand_on<S: Sink>(
         place: first_line,
     };
     sink.frame(&seen, link_type, bytes.len() as u32, bytes);
+}
+
+/// Returns a line's own date and time, or those that were written above it.
+fn stamp_or(own: Option<Stamp>, above: Option<Stamp>) -> Option<Stamp>
+    ensures { result ≡ stamp_or own above }
+{
+    match own {
+        Some(stamp) => Some(stamp),
+        None => above,
+    }
+}
+
+/// Returns the date and time that are written for the next line.
+fn stamp_below(said: &Line<'_>, own: Option<Stamp>, above: Option<Stamp>) -> Option<Stamp>
+    ensures { result ≡ stamp_below said.now own above }
+{
+    match said {
+        Line::Unknown => own,
+        Line::Blank => above,
+        _ => None,
+    }
 }
 
 /// Returns the number after this one, if there is one.

@@ -6,5 +6,5 @@ use Rattle.sctp_capture.proofs.text.TextDecoder.take_line.Goals as goal
 
 pub take_said-requires : goal.take_said-requires
 take_said-requires g c =
-    subst (λ (l : Line). SaysAtMost 262144 l) (sym c.read_line.ensures)
+    subst (λ (l : Line). SaysAtMost 262144 l) (sym c.read_line-said.ensures)
     (line_says c.args.line.now 262144 c.if-line-gt-MOST_KEPT.false)

@@ -1,6 +1,6 @@
 use Rattle.std.proofs.Common.{◌≡◌, refl, sym, subst}
 use Rattle.sctp_capture.specs.Event.{Hands}
-use Rattle.sctp_capture.specs.Text.{TextState, at_line, after_end, long_events, last_events}
+use Rattle.sctp_capture.specs.Text.{TextState, after_long, long_events, last_events}
 use Rattle.sctp_capture.proofs.TextLines.{no_feed, item_found, passes_long}
 use Rattle.sctp_capture.proofs.text.TextDecoderDecoder.next.Goals as goal
 
@@ -37,7 +37,7 @@ returns-in-None-2 g c = (
       (long_events s))
       c.may_have_line-may_have_line.ensures c.take_long.ensures.events,
   passes_long c.args.self.now c.take_long.new.self c.args.held.now
-      (subst (λ (s : TextState). c.take_long.new.self ≡ after_end (at_line s))
+      (subst (λ (s : TextState). c.take_long.new.self ≡ after_long s)
       c.may_have_line-may_have_line.ensures c.take_long.ensures.state)
       (no_feed c.args.held.now (sym c.in-None.ensures)) c.if-held-gt-MOST_KEPT.true,
 )
