@@ -12,6 +12,7 @@ pub mod LineSizes
 pub mod Handed
 pub mod TextLines
 pub mod Options
+pub mod Repeats
 pub mod PcapngItems
 pub mod Items
 pub mod PcapReads

@@ -4,7 +4,7 @@ use Rattle.std.specs.List.{starts_with, list_all}
 use Rattle.std.proofs.lemmas.List.{length-drop, length-take}
 use Rattle.sctp_capture.specs.HexBytes.{is_blank, are_digits, byte_of, without_blanks_before, hex_bytes}
 use Rattle.sctp_capture.specs.Number.{byte_at}
-use Rattle.sctp_capture.specs.Line.{word, behind_direction, direction_of, log_from, mark, mark_offset, marked_bytes, transport_of, behind_time, is_printable, logged, log_line, groups_length, has_offset, hex_number, offset_length, dumped_bytes, dumped, dump_line, packet_line, behind_offset, bar_offset, barred_bytes, has_hexdump_offset, has_wireshark_offset, text_line, line_of}
+use Rattle.sctp_capture.specs.Line.{word, behind_direction, direction_of, log_from, mark, mark_offset, marked_bytes, transport_of, behind_time, is_printable, logged, log_line, groups_length, has_offset, hex_number, offset_length, dumped_bytes, dumped, dump_line, packet_line, behind_offset, bar_offset, barred_bytes, has_hexdump_offset, has_wireshark_offset, is_asterisk, text_line, line_of}
 use Rattle.sctp_capture.specs.Text.{SaysAtMost}
 use Rattle.sctp_capture.proofs.Logs.{log_less}
 use Rattle.sctp_capture.specs.declared.line.Direction.{Direction}
@@ -119,6 +119,7 @@ text_says text n below =
     let shorter : length bytes ≤ n = omega (arith, length-drop {A = ℕ}) in
     says_if n (length text == 0) _ _ (record { at_most = tt })
     (says_if n (byte_at 0 text == 35) _ _ (record { at_most = tt })
+    (says_if n (is_asterisk text) _ _ (record { at_most = tt })
     (says_if n (starts_with nat_eq text (codes "0x")) _ _
     (dump_says Tcpdump (drop 2 text) n behind)
     (says_if n (has_offset text) _ _ (dump_says Xxd text n below)
@@ -128,7 +129,7 @@ text_says text n below =
     (dumped_says Wireshark number (dumped_bytes bytes) n (dumped_half bytes n shorter))
     (says_if n (length (log_from text) == 0) _ _
     (packet_says (hex_bytes text) n (half_of text n below))
-    (log_says (log_from text) n (let less = log_less text in omega arith))))))))
+    (log_says (log_from text) n (let less = log_less text in omega arith)))))))))
 
 pub line_says : (line : List ℕ) (n : ℕ) → length line ≤ n → SaysAtMost n (line_of line)
 line_says line n below =

@@ -10,7 +10,7 @@ use Rattle.sctp_capture.specs.declared.line.Direction.TheVariants.{Incoming, Out
 use Rattle.sctp_capture.specs.declared.line.DumpForm.{DumpForm}
 use Rattle.sctp_capture.specs.declared.line.DumpForm.TheVariants.{Xxd, Tcpdump, Hexdump, Wireshark}
 use Rattle.sctp_capture.specs.declared.line.Line.{Line}
-use Rattle.sctp_capture.specs.declared.line.Line.TheVariants.{Blank, Comment, Packet, Logged, Dumped, Unknown}
+use Rattle.sctp_capture.specs.declared.line.Line.TheVariants.{Blank, Comment, Packet, Logged, Dumped, Repeats, Unknown}
 use Rattle.sctp_capture.specs.declared.line.Place.{Place}
 use Rattle.sctp_capture.specs.declared.line.Place.TheVariants.{Begins, Continues, Apart}
 
@@ -195,11 +195,16 @@ wireshark_line text =
 
 -- ---- a line
 
+-- an asterisk (42) and blanks
+abbrev pub is_asterisk : List ℕ → Bool
+is_asterisk text = byte_at 0 text == 42 && length (without_blanks_before (drop 1 text)) == 0
+
 -- The forms in the order that they are tried in. A dump is known by its beginning.
 abbrev pub text_line : List ℕ → Line
 text_line text =
     if length text == 0 then Blank else
     if byte_at 0 text == 35 then Comment else
+    if is_asterisk text then Repeats else
     if starts_with nat_eq text (codes "0x") then dump_line Tcpdump (drop 2 text) else
     if has_offset text then dump_line Xxd text else
     if has_hexdump_offset text then hexdump_line text else

@@ -1,6 +1,6 @@
 -- The events of a text: packets in hexadecimal, of logs and of dumps, and lines that hold none.
-use Rattle.std.specs.Prelude.{◌≡◌, ◌*◌, ◌≤◌, ◌==◌, ℕ, Bool, true, false, ◌&&◌, nat_lt, nat_le, List, [], ◌∷◌, ◌++◌, if◌then◌else◌, Option, None, Some, length}
-use Rattle.sctp_capture.specs.Number.{one_more}
+use Rattle.std.specs.Prelude.{◌≡◌, ◌-◌, ◌*◌, ◌≤◌, ◌==◌, ℕ, zero, suc, Bool, true, false, ◌&&◌, nat_lt, nat_le, List, [], ◌∷◌, ◌++◌, if◌then◌else◌, Option, None, Some, length}
+use Rattle.sctp_capture.specs.Number.{byte_at, one_more}
 use Rattle.sctp_capture.specs.Event.{Event, Saw, Skip}
 use Rattle.sctp_capture.specs.Decoding.{IsLine, fed}
 use Rattle.sctp_capture.specs.Dump.{link_of_any, link_of}
@@ -22,11 +22,12 @@ use Rattle.sctp_capture.specs.declared.stamp.Stamp.{Stamp}
 
 -- ---- what is known
 
--- a dump that a line may continue
+-- a dump that a line may continue, and whether its bytes go on as its last 16 do
 pub record OpenDump : Type 0 where
   pub form : DumpForm
   pub bytes : List ℕ
   pub first_line : ℕ
+  pub repeats : Bool
 
 -- how many lines and packets there were, the dump that is open, and the date and time that were
 -- written for the next line
@@ -91,13 +92,19 @@ own_events s (said.Logged l) =
     (time.OfDay l.time l.direction l.transport s.stamp) 248 l.packet ∷ []
 own_events s (said.Dumped part) =
     if part.offset == 0 then [] else Skip parts.Line s.lines skipped.Apart ∷ []
+own_events s said.Repeats = Skip parts.Line s.lines skipped.Unknown ∷ []
 own_events s said.Unknown = Skip parts.Line s.lines skipped.Unknown ∷ []
 
 -- the dump that a part at offset 0 begins
 abbrev pub begun_by : ℕ → DumpedBytes → Option OpenDump
 begun_by number part =
     if part.offset == 0
-    then Some (record { form = part.form; bytes = part.bytes; first_line = number }) else
+    then Some (record {
+      form = part.form;
+      bytes = part.bytes;
+      first_line = number;
+      repeats = false;
+    }) else
     None
 
 abbrev pub after_own : TextState → Line → TextState
@@ -107,6 +114,7 @@ after_own s (said.Packet bytes) =
     if is_short bytes then s else record s { packets = one_more s.packets }
 after_own s (said.Logged l) = record s { packets = one_more s.packets }
 after_own s (said.Dumped part) = record s { dump = begun_by s.lines part }
+after_own s said.Repeats = s
 after_own s said.Unknown = s
 
 -- ---- a line that continues a dump
@@ -123,11 +131,21 @@ is_continued Begins = false
 is_continued Continues = true
 is_continued Apart = false
 
--- a part of the dump's form, at the offset that the dump reached
+-- A part at this offset continues bytes of this number; where they are repeated, up to the offset.
+abbrev pub reaches : ℕ → ℕ → Bool → Bool
+reaches offset held repeats =
+    if repeats then nat_le held offset else is_continued (place_of offset held)
+
+-- a part of the dump's form, at an offset that the dump reaches
 abbrev pub continues_dump : DumpedBytes → Option OpenDump → Bool
 continues_dump part None = false
 continues_dump part (Some d) =
-    is_form part.form d.form && is_continued (place_of part.offset (length d.bytes))
+    is_form part.form d.form && reaches part.offset (length d.bytes) d.repeats
+
+-- hexdump and od write an asterisk for lines of 16 bytes that are as the line before
+abbrev pub may_repeat : Option OpenDump → Bool
+may_repeat None = false
+may_repeat (Some d) = is_form d.form Hexdump && nat_le 16 (length d.bytes)
 
 abbrev pub continues : Line → Option OpenDump → Bool
 continues (said.Dumped part) dump = continues_dump part dump
@@ -135,14 +153,32 @@ continues said.Blank dump = false
 continues said.Comment dump = false
 continues (said.Packet bytes) dump = false
 continues (said.Logged l) dump = false
+continues said.Repeats dump = may_repeat dump
 continues said.Unknown dump = false
+
+-- n bytes more, each as the one that is 16 bytes before it
+unfoldable pub repeated : ℕ → List ℕ → List ℕ
+repeated zero bytes = bytes
+repeated (suc n) bytes = repeated n (bytes ++ byte_at (length bytes - 16) bytes ∷ [])
+
+-- the bytes up to this offset
+abbrev pub bytes_to : ℕ → Bool → List ℕ → List ℕ
+bytes_to offset repeats bytes =
+    if repeats then repeated (offset - length bytes) bytes else bytes
 
 -- the dump with the bytes of the line; a dump of more than 262,144 bytes isn't continued, and no
 -- packet
 abbrev pub longer_dump : OpenDump → Line → Option OpenDump
 longer_dump d (said.Dumped part) =
-    if nat_le (length d.bytes) 262144 then Some (record d { bytes = d.bytes ++ part.bytes }) else
+    if nat_le (length d.bytes) 262144 && nat_le part.offset 262144
+    then Some (record {
+      form = d.form;
+      bytes = bytes_to part.offset d.repeats d.bytes ++ part.bytes;
+      first_line = d.first_line;
+      repeats = false;
+    }) else
     None
+longer_dump d said.Repeats = Some (record d { repeats = true })
 longer_dump d _ = None
 
 abbrev pub longer : Option OpenDump → Line → Option OpenDump
@@ -221,6 +257,7 @@ SaysAtMost digits said.Comment = Unit {0}
 SaysAtMost digits (said.Packet bytes) = 2 * length bytes ≤ digits
 SaysAtMost digits (said.Logged l) = 2 * length l.packet ≤ digits
 SaysAtMost digits (said.Dumped part) = 2 * length part.bytes ≤ digits
+SaysAtMost digits said.Repeats = Unit {0}
 SaysAtMost digits said.Unknown = Unit {0}
 
 -- ---- a text

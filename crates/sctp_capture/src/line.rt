@@ -4,7 +4,7 @@ ghost use Rattle.std.specs.Prelude.{◌≡◌, ◌≤◌, ◌<◌, ◌==◌, not
 ghost use Rattle.std.specs.Char.{is_ascii_hexdigit};
 ghost use Rattle.std.specs.List.{list_all};
 ghost use Rattle.sctp_capture.specs.HexBytes.{is_blank, hex_bytes};
-ghost use Rattle.sctp_capture.specs.Line.{line_of, text_line, packet_line, has_direction, behind_direction, begins_log, log_from, log_line, dump_line, place_of, is_in_time, is_time, word, after_word, marked_bytes, transport_of, dumped, dumped_bytes, is_byte_alone, behind_offset, has_hexdump_offset, has_wireshark_offset, barred_bytes, hexdump_line, wireshark_line, is_gap, groups_length, hex_number, offset_length, has_offset, is_printable};
+ghost use Rattle.sctp_capture.specs.Line.{line_of, is_asterisk, text_line, packet_line, has_direction, behind_direction, begins_log, log_from, log_line, dump_line, place_of, is_in_time, is_time, word, after_word, marked_bytes, transport_of, dumped, dumped_bytes, is_byte_alone, behind_offset, has_hexdump_offset, has_wireshark_offset, barred_bytes, hexdump_line, wireshark_line, is_gap, groups_length, hex_number, offset_length, has_offset, is_printable};
 
 use crate::hex_bytes::{HexBytes, begins_with_byte, digit, is_blank, without_blanks_before};
 use crate::log_text::LogText;
@@ -74,6 +74,8 @@ pub enum Line<'a> {
     Logged(LoggedPacket<'a>),
     /// A part of a dump.
     Dumped(DumpedBytes<'a>),
+    /// `*` of a dump: lines that are as the one before.
+    Repeats,
     /// Anything else.
     Unknown,
 }
@@ -107,7 +109,7 @@ pub fn place_of(offset: u32, held: usize) -> Place
 /// beginning and its end are ignored. The forms, in the order in which they are tried, a dump by
 /// the line's beginning:
 ///
-/// - nothing: `Blank`; `#`: `Comment`;
+/// - nothing: `Blank`; `#`: `Comment`; `*` alone: `Repeats`, as `hexdump` and `od` write it;
 /// - `0x`: `Dumped`, as `tcpdump -x` and `-X` write it: an offset of one to eight digits, a colon,
 ///   a blank, and groups of digits;
 /// - one to eight digits, a colon and a blank: `Dumped`, as `xxd` writes it; in both forms of dump,
@@ -138,6 +140,8 @@ fn read_text(text: &[u8]) -> Line<'_>
         Line::Blank
     } else if text[0] == b'#' {
         Line::Comment
+    } else if is_asterisk(text) {
+        Line::Repeats
     } else if text.starts_with(b"0x") {
         dump_line(DumpForm::Tcpdump, after(text, 2))
     } else if has_offset(text) {
@@ -154,6 +158,13 @@ fn read_text(text: &[u8]) -> Line<'_>
             log_line(log)
         }
     }
+}
+
+/// Returns whether an asterisk is at the front, and only blanks after it.
+fn is_asterisk(text: &[u8]) -> bool
+    ensures { result ≡ is_asterisk text.now }
+{
+    text.starts_with(b"*") && without_blanks_before(after(text, 1)).is_empty()
 }
 
 /// Reads a line of digits.

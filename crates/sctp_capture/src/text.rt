@@ -1,11 +1,11 @@
 //! The events of a text: packets in hexadecimal, of logs and of dumps.
 
-ghost use Rattle.std.specs.Prelude.{◌≡◌, ◌*◌, ◌^◌, ◌≤◌, ◌<◌, ℕ, List, [], ◌∷◌, None, Some, length, position, ◌==◌, IfOk};
+ghost use Rattle.std.specs.Prelude.{◌≡◌, ◌-◌, ◌*◌, ◌^◌, ◌≤◌, ◌<◌, ℕ, List, [], ◌∷◌, None, Some, length, position, ◌==◌, max, vec_capacity, IfOk};
 ghost use Rattle.sctp_capture.specs.Event.{Event, Skip, Hands};
 ghost use Rattle.sctp_capture.specs.Decoding.{IsLine};
-ghost use Rattle.sctp_capture.specs.Number.{one_more};
-ghost use Rattle.sctp_capture.specs.Text.{TextState, before_text, packet_event, end_events, after_end, at_line, counted, with_stamp, stamp_or, stamp_below, after_long, long_events, own_events, after_own, is_form, continues_dump, said_events, after_said, line_events, after_line, last_events, SaysAtMost, LineItem, TextEnd};
-ghost use Rattle.sctp_capture.specs.declared.line.Line.TheVariants.{Packet, Logged, Dumped};
+ghost use Rattle.sctp_capture.specs.Number.{byte_at, one_more};
+ghost use Rattle.sctp_capture.specs.Text.{TextState, before_text, packet_event, end_events, after_end, at_line, counted, with_stamp, stamp_or, stamp_below, after_long, long_events, own_events, after_own, is_form, continues_dump, may_repeat, reaches, bytes_to, said_events, after_said, line_events, after_line, last_events, SaysAtMost, LineItem, TextEnd};
+ghost use Rattle.sctp_capture.specs.declared.line.Line.TheVariants.{Packet, Logged, Dumped, Repeats};
 
 use crate::decoder::{Decoder, Extent, MOST_KEPT, Next};
 use crate::dump::{link_of, link_of_any};
@@ -31,6 +31,8 @@ pub struct TextDecoder {
     bytes: Vec<u8>,
     /// How they were written, if a dump is open.
     form: Option<DumpForm>,
+    /// Whether its bytes go on as the last 16 do.
+    repeats: bool,
     /// The number of its first line.
     first_line: u64,
     /// How many packets there were.
@@ -56,6 +58,7 @@ impl Model for TextDecoder {
         form = form;
         bytes = d.bytes.items;
         first_line = d.first_line;
+        repeats = d.repeats;
       }) d.form;
       stamp = d.stamp;
     } };
@@ -71,6 +74,7 @@ impl TextDecoder {
         Ok(TextDecoder {
             bytes: Vec::with_capacity(alloc, MOST_KEPT + MOST_SAID)?,
             form: None,
+            repeats: false,
             first_line: 0,
             packets: 0,
             lines: 0,
@@ -151,6 +155,7 @@ impl TextDecoder {
     {
         match line {
             Line::Dumped(part) => self.take_part(part, sink),
+            Line::Repeats => self.take_repeats(sink),
             Line::Blank | Line::Comment => self.end_dump(sink),
             Line::Packet(bytes) => {
                 self.end_dump(sink);
@@ -218,11 +223,36 @@ impl TextDecoder {
         if !self.is_continued_by(&part) {
             self.end_dump(sink);
             self.begin_dump(part, sink);
-        } else if self.bytes.len() > MOST_KEPT {
+        } else if self.bytes.len() > MOST_KEPT || part.offset as usize > MOST_KEPT {
             self.form = None;
             sink.skipped(Part::Line, self.lines, Skipped::TooLong);
         } else {
+            repeat_to(part.offset as usize, self.repeats, &mut self.bytes);
+            self.repeats = false;
             part.bytes.append_reserved(&mut self.bytes);
+        }
+    }
+
+    /// Passes on the events of an asterisk.
+    fn take_repeats<S: Sink>(&mut self, sink: &mut S)
+        ensures state { self.new ≡ after_said self.old Repeats }
+        ensures events { Hands S.handed sink.old sink.new (said_events self.old Repeats) }
+    {
+        if self.may_repeat() {
+            self.repeats = true;
+        } else {
+            self.end_dump(sink);
+            sink.skipped(Part::Line, self.lines, Skipped::Unknown);
+        }
+    }
+
+    /// Returns whether an asterisk says that the open dump repeats its last line.
+    fn may_repeat(&self) -> bool
+        ensures { result ≡ may_repeat self.now.dump }
+    {
+        match self.form {
+            Some(form) => is_form(form, DumpForm::Hexdump) && self.bytes.len() >= 16,
+            None => false,
         }
     }
 
@@ -232,8 +262,7 @@ impl TextDecoder {
     {
         match self.form {
             Some(form) => {
-                is_form(part.form, form)
-                    && place_of(part.offset, self.bytes.len()) == Place::Continues
+                is_form(part.form, form) && reaches(part.offset, self.bytes.len(), self.repeats)
             }
             None => false,
         }
@@ -252,6 +281,7 @@ impl TextDecoder {
             return;
         }
         self.form = Some(part.form);
+        self.repeats = false;
         self.first_line = self.lines;
         self.bytes.clear();
         part.bytes.append_reserved(&mut self.bytes);
@@ -361,6 +391,46 @@ fn next_number(number: u64) -> u64
     ensures { result ≡ one_more number }
 {
     number.saturating_add(1)
+}
+
+/// Returns whether a part of a dump at this offset continues `held` bytes.
+fn reaches(offset: u32, held: usize, repeats: bool) -> bool
+    ensures { result ≡ reaches offset held repeats }
+{
+    if repeats {
+        held <= offset as usize
+    } else {
+        place_of(offset, held) == Place::Continues
+    }
+}
+
+/// Appends bytes up to this size, each as the one that is 16 bytes before it, if they are repeated.
+fn repeat_to(size: usize, repeats: bool, bytes: &mut Vec<u8>)
+    requires { size ≤ vec_capacity bytes.old }
+    ensures items { bytes.new.items ≡ bytes_to size repeats bytes.old.items }
+    ensures within { length bytes.new.items ≤ max (length bytes.old.items) size }
+    ensures capacity { vec_capacity bytes.new ≡ vec_capacity bytes.old }
+{
+    if !repeats {
+        return;
+    }
+    let missing = size.saturating_sub(bytes.len());
+    for _ in 0..missing {
+        let byte = byte_before(bytes.as_slice());
+        bytes.push_reserved(byte);
+    }
+}
+
+/// Returns the byte that is 16 bytes before the end; 0 if there is none.
+fn byte_before(bytes: &[u8]) -> u8
+    ensures { result ≡ byte_at (length bytes.now - 16) bytes.now }
+{
+    let offset = bytes.len().saturating_sub(16);
+    if offset < bytes.len() {
+        bytes[offset]
+    } else {
+        0
+    }
 }
 
 /// Returns whether the forms are the same.
