@@ -1,2 +1,4 @@
 pub mod Blocks
 pub mod Looks
+pub mod SackBlocks
+pub mod Seen

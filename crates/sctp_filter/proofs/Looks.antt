@@ -8,12 +8,13 @@ use Rattle.dcsctp_tlv.specs.Frame.{round_up_to_4}
 use Rattle.sctp_report.specs.Part.{Part, Item, AreItems, none, next, begins_with_item, first_item, after_item, length_field}
 use Rattle.sctp_report.specs.declared.part.Part as code
 use Rattle.sctp_filter.specs.Chunks.{after_first}
-use Rattle.sctp_filter.specs.ChunkTest.{items_within, items_of, IsFound}
+use Rattle.sctp_filter.specs.Items.{items_within, items_of}
+use Rattle.sctp_filter.specs.ChunkTest.{IsFound}
 
 -- ---- the items that lie somewhere
 
 -- an item isn't empty, so fewer bytes follow it
-fewer : (p : Part) → begins_with_item p ≡ true
+pub fewer : (p : Part) → begins_with_item p ≡ true
     → length (after_item p).bytes < length p.bytes
 fewer p begins =
     let long_enough = nat_le 4 (length p.bytes) in

@@ -1,9 +1,9 @@
 -- The tests that the one loop over chunks is given.
-use Rattle.std.specs.Prelude.{◌≡◌, not, Bool, true, false, ℕ, zero, suc, if◌then◌else◌, List, [], ◌∷◌, length, Option, Some, None}
+use Rattle.std.specs.Prelude.{◌≡◌, not, Bool, true, false, List, [], Option, Some, None}
 use Rattle.std.specs.List.{list_any}
-use Rattle.sctp_report.specs.Part.{Part, Item, AreItems, part_of, begins_with_item, first_item, after_item}
+use Rattle.sctp_report.specs.Part.{Item, AreItems, part_of}
 use Rattle.sctp_report.specs.declared.part.Part as code
-use Rattle.sctp_filter.specs.Chunks.{after_first, is_of_type, is_user_data, is_control, is_on_stream, has_ppid, has_no_user_data, stands_alone, has_no_initiate_tag, has_no_streams, has_small_window, needs_checksum, has_wrong_blocks, has_reserved_flag}
+use Rattle.sctp_filter.specs.Chunks.{after_first, is_of_type, is_user_data, is_control, is_on_stream, has_ppid, has_no_user_data, stands_alone, has_no_initiate_tag, has_no_streams, has_small_window, needs_checksum, has_wrong_blocks, has_reserved_flag, has_no_cookie, has_no_heartbeat_info}
 use Rattle.sctp_filter.specs.declared.chunk_test.ChunkTest.{ChunkTest}
 use Rattle.sctp_filter.specs.declared.chunk_test.ChunkTest.TheVariants as test
 
@@ -23,16 +23,8 @@ meets_test test.SmallWindow c = has_small_window c
 meets_test test.NeedsChecksum c = needs_checksum c
 meets_test test.WrongBlocks c = has_wrong_blocks c
 meets_test test.ReservedFlag c = has_reserved_flag c
-
--- the first n items that lie here
-abbrev pub items_within : ℕ → Part → List Item
-items_within zero p = []
-items_within (suc n) p =
-    if begins_with_item p then first_item p ∷ items_within n (after_item p) else []
-
--- the items that lie here, of which each has a byte
-unfoldable pub items_of : Part → List Item
-items_of p = items_within (suc (length p.bytes)) p
+meets_test test.NoCookie c = has_no_cookie c
+meets_test test.NoHeartbeatInfo c = has_no_heartbeat_info c
 
 -- Of these chunks, some meets the test, and these follow the first that does; or none does.
 abbrev pub IsFound : (Item → Bool) → List Item → Option code.Part → Type 0

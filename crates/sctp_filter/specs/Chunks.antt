@@ -1,9 +1,10 @@
 -- What is asked of a packet, of its header, and of a chunk: of its type, its flags, and the fields
 -- of its value, as far as they were captured.
-use Rattle.std.specs.Prelude.{◌+◌, ◌/◌, ◌%◌, ◌==◌, ◌&&◌, ◌||◌, not, Bool, true, ℕ, zero, suc, nat_le, nat_lt, if◌then◌else◌, List, [], ◌∷◌, length}
+use Rattle.std.specs.Prelude.{◌+◌, ◌*◌, ◌/◌, ◌%◌, ◌==◌, ◌&&◌, ◌||◌, not, Bool, true, ℕ, zero, suc, nat_le, nat_lt, if◌then◌else◌, List, [], ◌∷◌, length}
 use Rattle.std.specs.List.{list_any}
 use Rattle.dcsctp_tlv.specs.Number.{number16, number32}
 use Rattle.sctp_report.specs.Part.{Part, Item, after}
+use Rattle.sctp_filter.specs.Items.{items_of}
 
 -- ---- numbers
 
@@ -29,10 +30,6 @@ has_checksum checksum packet = begins_with32 checksum (after 8 packet)
 
 abbrev pub is_whole : Part → Bool
 is_whole packet = nat_le packet.size (length packet.bytes)
-
--- where the chunks lie
-abbrev pub chunk_part : Part → Part
-chunk_part packet = after 12 packet
 
 -- what follows the first that meets a test
 abbrev pub after_first : (Item → Bool) → List Item → List Item
@@ -63,9 +60,18 @@ is_user_data c = is_data c || is_idata c
 abbrev pub is_init : Item → Bool
 is_init c = is_of_type 1 c || is_of_type 2 c
 
--- one of RFC 9260 other than DATA (section 3.2)
+-- AUTH (RFC 4895 section 4.1)
+abbrev pub is_auth : Item → Bool
+is_auth c = is_of_type 15 c
+
+-- PAD (RFC 4820 section 3)
+abbrev pub is_pad : Item → Bool
+is_pad c = is_of_type 132 c
+
+-- every chunk that isn't user data (RFC 9260 section 2.3), but for PAD, which may be added to any
+-- packet
 abbrev pub is_control : Item → Bool
-is_control c = nat_le 1 c.first && nat_le c.first 14
+is_control c = not (is_user_data c || is_pad c)
 
 -- ---- user data
 
@@ -106,9 +112,34 @@ abbrev pub has_small_window : Item → Bool
 has_small_window c =
     is_init c && nat_le 8 (length c.value.bytes) && nat_lt (number32 (after 4 c.value).bytes) 1500
 
--- INIT or COOKIE ECHO, which are sent with a CRC32c (RFC 9653 section 5.2)
+-- Bit T, the lowest: the tag is that of the packet that is answered, which was out of the blue (RFC
+-- 9260 section 8.4).
+abbrev pub reflects_tag : Item → Bool
+reflects_tag c = (is_of_type 6 c || is_of_type 14 c) && c.second % 2 == 1
+
+-- Packets with INIT, COOKIE ECHO or ASCONF are sent with a CRC32c, and so are answers to packets out
+-- of the blue (RFC 9653 section 5.2).
 abbrev pub needs_checksum : Item → Bool
-needs_checksum c = is_of_type 1 c || is_of_type 10 c
+needs_checksum c = is_of_type 1 c || is_of_type 10 c || is_of_type 193 c || reflects_tag c
+
+-- ---- parameters (RFC 9260 section 3.2.1)
+
+-- one of a type below 256
+abbrev pub is_parameter : ℕ → Item → Bool
+is_parameter typ p = p.first == 0 && p.second == typ
+
+-- All of the list was captured, and none in it is of the type.
+abbrev pub lacks_parameter : ℕ → Part → Bool
+lacks_parameter typ list = is_whole list && not (list_any (is_parameter typ) (items_of list))
+
+-- State Cookie, type 7, is mandatory in INIT ACK, where 16 bytes come before the parameters (RFC
+-- 9260 section 3.3.3).
+abbrev pub has_no_cookie : Item → Bool
+has_no_cookie c = is_of_type 2 c && lacks_parameter 7 (after 16 c.value)
+
+-- Heartbeat Info, type 1, is mandatory in HEARTBEAT (RFC 9260 section 3.3.5).
+abbrev pub has_no_heartbeat_info : Item → Bool
+has_no_heartbeat_info c = is_of_type 4 c && lacks_parameter 1 c.value
 
 -- ---- gap ack blocks (RFC 9260 section 3.3.4)
 
@@ -128,21 +159,37 @@ are_isolated (suc n) end p =
     nat_lt (end + 1) (block_start p) && nat_le (block_start p) (block_end p)
     && are_isolated n (block_end p) (after 4 p)
 
--- The blocks follow the Cumulative TSN Ack, which is offset 0.
+-- Of a list of blocks, whose number is read at one offset, and whose first block at another, some
+-- isn't isolated. The Cumulative TSN Ack is offset 0.
+abbrev pub has_wrong_list : ℕ → ℕ → Part → Bool
+has_wrong_list count start value =
+    not (are_isolated (number16 (after count value).bytes) 0 (after start value))
+
+-- In a NR-SACK the numbers of gap ack blocks, of NR gap ack blocks and of duplicates come before
+-- two reserved bytes, and the lists follow in this order.
+abbrev pub nr_blocks_start : Part → ℕ
+nr_blocks_start value = 16 + 4 * number16 (after 8 value).bytes
+
+-- of SACK, whose blocks start at byte 12, and of NR-SACK, type 16, each list by itself
 abbrev pub has_wrong_blocks : Item → Bool
 has_wrong_blocks c =
-    is_of_type 3 c && not (are_isolated (number16 (after 8 c.value).bytes) 0 (after 12 c.value))
+    (is_of_type 3 c && has_wrong_list 8 12 c.value)
+    || (is_of_type 16 c
+    && (has_wrong_list 8 16 c.value || has_wrong_list 10 (nr_blocks_start c.value) c.value))
 
 -- ---- flags (RFC 9260 section 3.2)
 
--- types without a flag: of RFC 9260, RE-CONFIG (RFC 6525), FORWARD-TSN (RFC 3758) and I-FORWARD-TSN
--- (RFC 8260)
+-- types without a flag: of RFC 9260 with its ECNE and CWR, AUTH (RFC 4895), ASCONF ACK and ASCONF
+-- (RFC 5061), RE-CONFIG (RFC 6525), PAD (RFC 4820), FORWARD-TSN (RFC 3758) and I-FORWARD-TSN (RFC
+-- 8260)
 abbrev pub has_no_flag : ℕ → Bool
 has_no_flag typ =
-    nat_le typ 5 || (nat_le 7 typ && nat_le typ 11) || typ == 130 || typ == 192 || typ == 194
+    nat_le typ 5 || (nat_le 7 typ && nat_le typ 13) || typ == 15 || typ == 128 || typ == 130
+    || typ == 132 || (nat_le 192 typ && nat_le typ 194)
 
 -- Flags of this type are below this number: the bits from there on are reserved. DATA and I-DATA
--- have four, ABORT and SHUTDOWN COMPLETE one; of other types nothing is known.
+-- have four, ABORT and SHUTDOWN COMPLETE one; of other types, as NR-SACK and PKTDROP, nothing is
+-- known.
 abbrev pub flags_below : ℕ → ℕ
 flags_below typ =
     if typ == 0 || typ == 64 then 16 else

@@ -5,17 +5,13 @@ use Rattle.sctp_capture.specs.Frame.{Packet}
 use Rattle.sctp_capture.specs.declared.frame.Addresses.{Addresses}
 use Rattle.sctp_capture.specs.declared.frame.Addresses.TheVariants as addresses
 use Rattle.sctp_report.specs.Part.{Part, Item}
-use Rattle.sctp_filter.specs.Chunks.{has_port, has_tag, has_checksum, is_whole, chunk_part, is_of_type, is_on_stream, has_ppid}
+use Rattle.sctp_filter.specs.Chunks.{has_port, has_tag, has_checksum, is_whole, is_of_type, is_on_stream, has_ppid}
 use Rattle.sctp_filter.specs.declared.filter.Filter.{Filter}
 use Rattle.sctp_filter.specs.declared.filter.Host.{Host}
 use Rattle.sctp_filter.specs.declared.filter.Host.TheVariants as host
 
 abbrev pub part_in : Packet → Part
 part_in p = record { bytes = p.bytes; size = p.length }
-
--- where the chunks of a packet lie
-abbrev pub chunks_of : Packet → Part
-chunks_of p = chunk_part (part_in p)
 
 -- what isn't asked for is met
 abbrev pub meets : {A : Type 0} → Option A → (A → Bool) → Bool
@@ -50,7 +46,7 @@ passes_chunks f chunks =
     && meets f.stream (λ stream. list_any (is_on_stream stream) chunks)
     && meets f.ppid (λ ppid. list_any (has_ppid ppid) chunks)
 
--- the packet of this number, its checksum word, and its chunks
+-- the packet of this number, its checksum word, and its chunks that are looked at
 abbrev pub passes : Filter → ℕ → Packet → ℕ → List Item → Bool
 passes f number p word chunks =
     nat_le f.first number && nat_le number f.last && passes_headers f (part_in p) p.addresses

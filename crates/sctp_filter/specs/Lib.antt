@@ -1,4 +1,5 @@
 pub mod Chunks
 pub mod ChunkTest
 pub mod Filter
+pub mod Items
 pub mod Rule

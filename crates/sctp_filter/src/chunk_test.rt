@@ -1,14 +1,16 @@
 //! Tests of a chunk, and the loop that looks for one that meets a test.
 
-ghost use Rattle.std.specs.Prelude.{◌≡◌, ◌==◌, ◌&&◌, ◌||◌, not, nat_le, nat_lt, length, List};
+ghost use Rattle.std.specs.Prelude.{◌≡◌, ◌≤◌, ◌+◌, ◌==◌, ◌&&◌, ◌||◌, not, nat_le, nat_lt, length, List, Option, IsTrue};
 ghost use Rattle.std.specs.List.{list_any};
 ghost use Rattle.dcsctp_tlv.specs.Number.{number16, number32};
 ghost use Rattle.sctp_report.specs.Part.{Item as AnItem, AreItems, part_of, item_of, after};
-ghost use Rattle.sctp_filter.specs.Chunks.{flags_below, are_isolated, has_ppid, has_after};
-ghost use Rattle.sctp_filter.specs.ChunkTest.{meets_test, items_of, IsFound};
+ghost use Rattle.sctp_filter.specs.Items.{items_of, has_header, front_chunk, chunks_ahead, chunks_seen};
+ghost use Rattle.sctp_filter.specs.Chunks.{flags_below, are_isolated, has_ppid, has_after, needs_checksum, has_wrong_list, has_wrong_blocks};
+ghost use Rattle.sctp_filter.specs.ChunkTest.{meets_test, IsFound};
 
 use crate::chunk_type;
 use crate::fields::{is_u16, is_u32};
+use crate::parameters::lacks_parameter;
 use dcsctp_wire::packet::{read_u16_be, read_u32_be};
 use sctp_report::{Item, Part};
 
@@ -27,7 +29,7 @@ pub(crate) enum ChunkTest {
     Ppid(u32),
     /// DATA or I-DATA.
     UserData,
-    /// A chunk of RFC 9260 other than DATA.
+    /// A chunk other than DATA, I-DATA and PAD.
     Control,
     /// User data of no byte.
     NoUserData,
@@ -39,12 +41,16 @@ pub(crate) enum ChunkTest {
     NoStreams,
     /// A first window of fewer than 1,500 bytes.
     SmallWindow,
-    /// INIT or COOKIE ECHO.
+    /// INIT, COOKIE ECHO, ASCONF, or an answer to a packet out of the blue.
     NeedsChecksum,
     /// Gap ack blocks that aren't isolated.
     WrongBlocks,
     /// A flag that is reserved.
     ReservedFlag,
+    /// INIT ACK without State Cookie.
+    NoCookie,
+    /// HEARTBEAT without Heartbeat Info.
+    NoHeartbeatInfo,
 }
 
 impl ChunkTest {
@@ -61,7 +67,7 @@ impl ChunkTest {
             ChunkTest::Stream(stream) => is_user_data(typ) && is_u16(value.after(4), stream),
             ChunkTest::Ppid(ppid) => has_ppid(chunk, ppid),
             ChunkTest::UserData => is_user_data(typ),
-            ChunkTest::Control => (1..=14).contains(&typ),
+            ChunkTest::Control => !(is_user_data(typ) || typ == chunk_type::PAD),
             ChunkTest::NoUserData => {
                 typ == chunk_type::DATA && value.size == 12
                     || typ == chunk_type::I_DATA && value.size == 16
@@ -72,9 +78,13 @@ impl ChunkTest {
                 is_init(typ) && (is_u16(value.after(8), 0) || is_u16(value.after(10), 0))
             }
             ChunkTest::SmallWindow => is_init(typ) && has_small_window(value),
-            ChunkTest::NeedsChecksum => typ == chunk_type::INIT || typ == chunk_type::COOKIE_ECHO,
-            ChunkTest::WrongBlocks => typ == chunk_type::SACK && has_wrong_blocks(value),
+            ChunkTest::NeedsChecksum => needs_checksum(chunk),
+            ChunkTest::WrongBlocks => has_wrong_blocks(chunk),
             ChunkTest::ReservedFlag => u16::from(chunk.second) >= flags_below(typ),
+            ChunkTest::NoCookie => {
+                typ == chunk_type::INIT_ACK && lacks_parameter(value.after(16), 7)
+            }
+            ChunkTest::NoHeartbeatInfo => typ == chunk_type::HEARTBEAT && lacks_parameter(value, 1),
         }
     }
 }
@@ -121,18 +131,49 @@ fn flags_below(typ: u8) -> u16
     match typ {
         chunk_type::DATA | chunk_type::I_DATA => 16,
         chunk_type::ABORT | chunk_type::SHUTDOWN_COMPLETE => 2,
-        1..=5 | 7..=11 | 130 | 192 | 194 => 1,
+        1..=5 | 7..=13 | 15 | 128 | 130 | 132 | 192..=194 => 1,
         _ => 256,
     }
 }
 
-/// Returns whether some gap ack block of a SACK with this value isn't isolated.
-fn has_wrong_blocks(value: Part<'_>) -> bool
-    ensures { let v = part_of value.entry in
-        result ≡ not (are_isolated (number16 (after 8 v).bytes) 0 (after 12 v)) }
+/// Returns whether a packet with this chunk is sent with its CRC32c.
+fn needs_checksum(chunk: Item<'_>) -> bool
+    ensures { result ≡ needs_checksum (item_of chunk.entry) }
 {
-    let numbers = value.after(8).bytes;
-    numbers.len() >= 2 && !are_isolated(read_u16_be(numbers), value.after(12))
+    match chunk.first {
+        chunk_type::INIT | chunk_type::COOKIE_ECHO | chunk_type::ASCONF => true,
+        chunk_type::ABORT | chunk_type::SHUTDOWN_COMPLETE => chunk.second % 2 == 1,
+        _ => false,
+    }
+}
+
+/// Returns whether some gap ack block or NR gap ack block of the chunk isn't isolated.
+fn has_wrong_blocks(chunk: Item<'_>) -> bool
+    ensures { result ≡ has_wrong_blocks (item_of chunk.entry) }
+{
+    let value = chunk.value;
+    match chunk.first {
+        chunk_type::SACK => has_wrong_list(value, 8, 12),
+        chunk_type::NR_SACK => {
+            let numbers = value.after(8).bytes;
+            if numbers.len() < 2 {
+                return false;
+            }
+            let end = 16 + 4 * usize::from(read_u16_be(numbers));
+            has_wrong_list(value, 8, 16) || has_wrong_list(value, 10, end)
+        }
+        _ => false,
+    }
+}
+
+/// Returns whether some block of a list isn't isolated, whose number is at the offset `count`, and
+/// its first block at the offset `start`.
+fn has_wrong_list(value: Part<'_>, count: usize, start: usize) -> bool
+    requires { count + 2 ≤ start }
+    ensures { result ≡ has_wrong_list count start (part_of value.entry) }
+{
+    let numbers = value.after(count).bytes;
+    numbers.len() >= 2 && !are_isolated(read_u16_be(numbers), value.after(start))
 }
 
 /// Returns whether each of the first `count` gap ack blocks, as far as they were captured, ends
@@ -175,6 +216,58 @@ pub(crate) fn some(chunks: Part<'_>, test: ChunkTest) -> bool
     ensures { result ≡ list_any (meets_test test) (items_of (part_of chunks.entry)) }
 {
     after_first(chunks, test).is_some()
+}
+
+/// Returns whether a chunk meets the test that is looked at in a packet whose first fault lies at
+/// this offset.
+pub(crate) fn some_seen(packet: Part<'_>, fault: Option<usize>, test: ChunkTest) -> bool
+    ensures { result ≡ list_any (meets_test test) (chunks_seen fault (part_of packet.entry)) }
+{
+    let chunks = packet.after(12);
+    match fault {
+        None => some(chunks, test),
+        Some(offset) => offset >= 12 && some_ahead(chunks, offset - 12, test),
+    }
+}
+
+/// Returns whether a chunk meets the test that begins at most so many bytes ahead.
+fn some_ahead(chunks: Part<'_>, ahead: usize, test: ChunkTest) -> bool
+    ensures { result ≡ list_any (meets_test test) (chunks_ahead ahead (part_of chunks.entry)) }
+{
+    let mut rest = chunks;
+    let mut left = ahead;
+    while rest.bytes.len() >= 4 {
+        if test.is_met(front_chunk(rest)) {
+            return true;
+        }
+        let Some(chunk) = rest.item() else {
+            return false;
+        };
+        if chunk.padded > left {
+            return false;
+        }
+        rest = rest.after(chunk.padded);
+        left -= chunk.padded;
+    }
+    false
+}
+
+/// Returns the chunk whose header lies here; where its length is impossible, with all that is left.
+fn front_chunk(rest: Part<'_>) -> Item<'_>
+    requires { 4 ≤ length rest.bytes.now }
+    ensures { item_of result ≡ front_chunk (part_of rest.entry) }
+{
+    match rest.item() {
+        Some(chunk) => chunk,
+        None => {
+            Item {
+                first: rest.bytes[0],
+                second: rest.bytes[1],
+                value: rest.after(4),
+                padded: rest.size,
+            }
+        }
+    }
 }
 
 /// Returns whether some chunk that meets the second test comes after one that meets the first.

@@ -3,8 +3,18 @@
 pub use dcsctp_wire::packet::abort_chunk::CHUNK_TYPE as ABORT;
 pub use dcsctp_wire::packet::cookie_echo_chunk::CHUNK_TYPE as COOKIE_ECHO;
 pub use dcsctp_wire::packet::data_chunk::CHUNK_TYPE as DATA;
+pub use dcsctp_wire::packet::heartbeat_request_chunk::CHUNK_TYPE as HEARTBEAT;
 pub use dcsctp_wire::packet::idata_chunk::CHUNK_TYPE as I_DATA;
 pub use dcsctp_wire::packet::init_ack_chunk::CHUNK_TYPE as INIT_ACK;
 pub use dcsctp_wire::packet::init_chunk::CHUNK_TYPE as INIT;
 pub use dcsctp_wire::packet::sack_chunk::CHUNK_TYPE as SACK;
 pub use dcsctp_wire::packet::shutdown_complete_chunk::CHUNK_TYPE as SHUTDOWN_COMPLETE;
+
+/// Of RFC 4895.
+pub const AUTH: u8 = 15;
+/// Reserved for an Internet-Draft.
+pub const NR_SACK: u8 = 16;
+/// Of RFC 4820.
+pub const PAD: u8 = 132;
+/// Of RFC 5061.
+pub const ASCONF: u8 = 193;

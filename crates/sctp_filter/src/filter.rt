@@ -2,11 +2,11 @@
 
 ghost use Rattle.std.specs.Prelude.{◌≡◌, ◌&&◌, ◌||◌, not, nat_le, length, List};
 ghost use Rattle.sctp_capture.specs.Found.{packet_of};
-ghost use Rattle.sctp_report.specs.Part.{Item as AnItem, AreItems, part_of};
-ghost use Rattle.sctp_filter.specs.ChunkTest.{items_of};
-ghost use Rattle.sctp_filter.specs.Filter.{chunks_of, passes, passes_headers, passes_chunks, has_host, has_wrong_checksum};
+ghost use Rattle.sctp_report.specs.Part.{Item as AnItem, part_of};
+ghost use Rattle.sctp_filter.specs.Items.{AreSeen, chunks_seen};
+ghost use Rattle.sctp_filter.specs.Filter.{part_in, passes, passes_headers, passes_chunks, has_host, has_wrong_checksum};
 
-use crate::chunk_test::{ChunkTest, some};
+use crate::chunk_test::{ChunkTest, some_seen};
 use crate::fields::{has_port, is_u32};
 use sctp_capture::frame::{Addresses, FoundPacket};
 use sctp_report::Part;
@@ -29,7 +29,7 @@ pub struct Filter {
     pub tag: Option<u32>,
     /// The source address or the destination address of the IP packet that carries it.
     pub host: Option<Host>,
-    /// The type of a chunk (RFC 9260 section 3.2).
+    /// The type of a chunk that is looked at (RFC 9260 section 3.2).
     pub chunk: Option<u8>,
     /// The stream of a DATA (RFC 9260 section 3.3.1) or an I-DATA (RFC 8260 section 2.1).
     pub stream: Option<u16>,
@@ -57,26 +57,35 @@ impl Filter {
         last: u64::MAX,
     };
 
-    /// Returns whether the packet of this number has all that is asked for. Its chunks are those
-    /// that can be read, also if it was cut off or has another fault. `word` is what its checksum
-    /// field has to be.
-    pub fn passes(&self, number: u64, found: &FoundPacket<'_>, word: u32) -> bool
-        ensures { (chunks : List AnItem) × AreItems (chunks_of (packet_of found.now)) chunks
-            × (result ≡ passes self.now number (packet_of found.now) word chunks) }
+    /// Returns whether the packet of this number has all that is asked for. `word` is what its
+    /// checksum field has to be, and `fault` the offset of the first fault of a refused packet: of
+    /// this the chunks are looked at that begin there or before. The last may be the one at fault,
+    /// of which all is looked at that can be read, even if its length is impossible. Of other
+    /// packets, also of those that were cut off, all chunks are looked at whose headers can be read.
+    pub fn passes(
+        &self,
+        number: u64,
+        found: &FoundPacket<'_>,
+        word: u32,
+        fault: Option<usize>,
+    ) -> bool
+        ensures { let p = packet_of found.now in
+            (chunks : List AnItem) × AreSeen fault (part_in p) chunks
+            × (result ≡ passes self.now number p word chunks) }
     {
-        self.is_met(number, found, word)
+        self.is_met(number, found, word, fault)
     }
 
     /// Returns whether the packet of this number has all that is asked for.
-    fn is_met(&self, number: u64, found: &FoundPacket<'_>, word: u32) -> bool
+    fn is_met(&self, number: u64, found: &FoundPacket<'_>, word: u32, fault: Option<usize>) -> bool
         ensures { let p = packet_of found.now in
-            result ≡ passes self.now number p word (items_of (chunks_of p)) }
+            result ≡ passes self.now number p word (chunks_seen fault (part_in p)) }
     {
         let packet = Part::packet(found.packet, found.length);
         self.first <= number
             && number <= self.last
             && self.is_met_by_headers(packet, found.addresses)
-            && self.is_met_by_chunks(packet.after(12))
+            && self.is_met_by_chunks(packet, fault)
             && (!self.wrong || has_wrong_checksum(packet, word))
     }
 
@@ -101,21 +110,21 @@ impl Filter {
     }
 
     /// Returns whether there are chunks that are asked for.
-    fn is_met_by_chunks(&self, chunks: Part<'_>) -> bool
-        ensures { result ≡ passes_chunks self.now (items_of (part_of chunks.entry)) }
+    fn is_met_by_chunks(&self, packet: Part<'_>, fault: Option<usize>) -> bool
+        ensures { result ≡ passes_chunks self.now (chunks_seen fault (part_of packet.entry)) }
     {
         if let Some(typ) = self.chunk
-            && !some(chunks, ChunkTest::Type(typ))
+            && !some_seen(packet, fault, ChunkTest::Type(typ))
         {
             return false;
         }
         if let Some(stream) = self.stream
-            && !some(chunks, ChunkTest::Stream(stream))
+            && !some_seen(packet, fault, ChunkTest::Stream(stream))
         {
             return false;
         }
         match self.ppid {
-            Some(ppid) => some(chunks, ChunkTest::Ppid(ppid)),
+            Some(ppid) => some_seen(packet, fault, ChunkTest::Ppid(ppid)),
             None => true,
         }
     }

@@ -10,4 +10,6 @@ mod chunk_test;
 mod chunk_type;
 mod fields;
 pub mod filter;
+pub mod laws;
+mod parameters;
 pub mod rule;

@@ -1,6 +1,7 @@
 use Rattle.std.proofs.Common.{◌∙◌}
 use Rattle.sctp_report.specs.Part.{part_of}
-use Rattle.sctp_filter.specs.ChunkTest.{meets_test, items_of}
+use Rattle.sctp_filter.specs.Items.{items_of}
+use Rattle.sctp_filter.specs.ChunkTest.{meets_test}
 use Rattle.sctp_filter.proofs.Looks.{are_items, is_found}
 use Rattle.sctp_filter.proofs.chunk_test.some.Goals as goal
 

@@ -2,7 +2,8 @@ use Rattle.std.proofs.Common.{sym, ap, ◌∙◌}
 use Rattle.std.specs.List.{list_any}
 use Rattle.sctp_report.specs.Part.{part_of}
 use Rattle.sctp_filter.specs.Chunks.{after_first}
-use Rattle.sctp_filter.specs.ChunkTest.{meets_test, items_of}
+use Rattle.sctp_filter.specs.Items.{items_of}
+use Rattle.sctp_filter.specs.ChunkTest.{meets_test}
 use Rattle.sctp_filter.proofs.Looks.{are_items, one_list}
 use Rattle.sctp_filter.proofs.chunk_test.some_after.Goals as goal
 

@@ -1,7 +1,6 @@
 use Rattle.std.proofs.Common.{◌≡◌, ap, ◌∙◌, rules}
 use Rattle.sctp_report.specs.Part.{Part as ThePart, part_of}
-use Rattle.sctp_filter.specs.Chunks.{chunk_part}
-use Rattle.sctp_filter.specs.ChunkTest.{items_of}
+use Rattle.sctp_filter.specs.Items.{chunk_part, items_of}
 use Rattle.sctp_filter.specs.Rule.{breaks}
 use Rattle.sctp_filter.proofs.Looks.{are_items}
 use Rattle.sctp_filter.proofs.rule.Rule.is_broken.Goals as goal
@@ -13,6 +12,6 @@ returns c =
       items_of (chunk_part packet),
       are_items (chunk_part packet),
       c.is_broken_by.ensures
-          ∙ ap (λ p. breaks c.args.self p c.args.word c.args.accepts_zero (items_of (chunk_part p)))
+          ∙ ap (λ p. breaks c.args.self p c.args.word c.args.known (items_of (chunk_part p)))
           packet_is,
     )
