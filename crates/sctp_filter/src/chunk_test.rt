@@ -10,7 +10,7 @@ ghost use Rattle.sctp_filter.specs.ChunkTest.{meets_test, IsFound};
 
 use crate::chunk_type;
 use crate::fields::{is_u16, is_u32};
-use crate::parameters::lacks_parameter;
+use crate::parameters::{has_no_cookie, has_no_heartbeat_info};
 use dcsctp_wire::packet::{read_u16_be, read_u32_be};
 use sctp_report::{Item, Part};
 
@@ -81,10 +81,8 @@ impl ChunkTest {
             ChunkTest::NeedsChecksum => needs_checksum(chunk),
             ChunkTest::WrongBlocks => has_wrong_blocks(chunk),
             ChunkTest::ReservedFlag => u16::from(chunk.second) >= flags_below(typ),
-            ChunkTest::NoCookie => {
-                typ == chunk_type::INIT_ACK && lacks_parameter(value.after(16), 7)
-            }
-            ChunkTest::NoHeartbeatInfo => typ == chunk_type::HEARTBEAT && lacks_parameter(value, 1),
+            ChunkTest::NoCookie => has_no_cookie(chunk),
+            ChunkTest::NoHeartbeatInfo => has_no_heartbeat_info(chunk),
         }
     }
 }

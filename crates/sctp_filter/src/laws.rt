@@ -1,10 +1,12 @@
 //! What holds of the definitions alone, as contracts of functions that do nothing.
 
 ghost use Rattle.std.specs.Prelude.{◌≡◌, ◌↔◌, ℕ, true, false, Ok, List, Option};
+ghost use Rattle.std.specs.List.{Contains};
 ghost use Rattle.dcsctp_chunk.specs.{Cover.{AreValid}, Sack.{Tree, read}};
 ghost use Rattle.sctp_report.specs.Part.{Part, Item, AreItems};
 ghost use Rattle.sctp_filter.specs.Chunks.{has_wrong_blocks};
 ghost use Rattle.sctp_filter.specs.Items.{AreSeen, items_of, chunks_seen};
+ghost use Rattle.sctp_filter.specs.declared.rule.{Rule.{Rule}, TheConstants.Rule.{ALL}};
 
 /// The items that lie somewhere are one list, and so are the chunks of a packet that are looked at.
 pub fn one_list()
@@ -23,4 +25,9 @@ pub fn wrong_blocks()
         → (has_wrong_blocks c ≡ false) ↔ AreValid s.blocks }
     ensures wrong { (c : Item) (s : Tree) → c.first ≡ 3 → read c.value.bytes ≡ Ok s
         → (has_wrong_blocks c ≡ true) ↔ (¬ (AreValid s.blocks)) }
+{}
+
+/// `Rule::ALL` has each rule.
+pub fn every_rule()
+    ensures { (rule : Rule) → Contains ALL rule }
 {}

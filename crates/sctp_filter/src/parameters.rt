@@ -2,14 +2,34 @@
 
 ghost use Rattle.std.specs.Prelude.{◌≡◌};
 ghost use Rattle.std.specs.List.{list_any};
-ghost use Rattle.sctp_report.specs.Part.{part_of};
+ghost use Rattle.sctp_report.specs.Part.{part_of, item_of};
 ghost use Rattle.sctp_filter.specs.Items.{items_of};
-ghost use Rattle.sctp_filter.specs.Chunks.{is_parameter, lacks_parameter};
+ghost use Rattle.sctp_filter.specs.Chunks.{is_parameter, lacks_parameter, has_no_cookie, has_no_heartbeat_info};
 
-use sctp_report::Part;
+use crate::chunk_type;
+use sctp_report::{Item, Part};
+
+/// Heartbeat Info (RFC 9260 section 3.3.5).
+const HEARTBEAT_INFO: u8 = 1;
+/// State Cookie (RFC 9260 section 3.3.3).
+const STATE_COOKIE: u8 = 7;
+
+/// Returns whether it is an INIT ACK, all of which was captured, without a State Cookie.
+pub(crate) fn has_no_cookie(chunk: Item<'_>) -> bool
+    ensures { result ≡ has_no_cookie (item_of chunk.entry) }
+{
+    chunk.first == chunk_type::INIT_ACK && lacks_parameter(chunk.value.after(16), STATE_COOKIE)
+}
+
+/// Returns whether it is a HEARTBEAT, all of which was captured, without a Heartbeat Info.
+pub(crate) fn has_no_heartbeat_info(chunk: Item<'_>) -> bool
+    ensures { result ≡ has_no_heartbeat_info (item_of chunk.entry) }
+{
+    chunk.first == chunk_type::HEARTBEAT && lacks_parameter(chunk.value, HEARTBEAT_INFO)
+}
 
 /// Returns whether all of the list was captured, and no parameter in it is of the type.
-pub(crate) fn lacks_parameter(list: Part<'_>, typ: u8) -> bool
+fn lacks_parameter(list: Part<'_>, typ: u8) -> bool
     ensures { result ≡ lacks_parameter typ (part_of list.entry) }
 {
     list.bytes.len() >= list.size && !has_parameter(list, typ)

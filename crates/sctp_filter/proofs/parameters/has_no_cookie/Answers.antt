@@ -1,0 +1,5 @@
+use Rattle.std.proofs.Common.{rules}
+use Rattle.sctp_filter.proofs.parameters.has_no_cookie.Goals as goal
+
+pub returns-then-chunk-eq-CHUNK_TYPE : goal.returns-then-chunk-eq-CHUNK_TYPE
+returns-then-chunk-eq-CHUNK_TYPE c = search rules
