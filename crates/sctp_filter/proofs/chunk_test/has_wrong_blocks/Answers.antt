@@ -1,3 +1,4 @@
+-- The search alone finds these: they are said so that a wrong edit is refused soon.
 use Rattle.std.proofs.Common.{rules}
 use Rattle.sctp_filter.proofs.chunk_test.has_wrong_blocks.Goals as goal
 
