@@ -165,7 +165,7 @@ abbrev pub has_wrong_list : ℕ → ℕ → Part → Bool
 has_wrong_list count start value =
     not (are_isolated (number16 (after count value).bytes) 0 (after start value))
 
--- In a NR-SACK the numbers of gap ack blocks, of NR gap ack blocks and of duplicates come before
+-- In an NR-SACK the numbers of gap ack blocks, of NR gap ack blocks and of duplicates come before
 -- two reserved bytes, and the lists follow in this order.
 abbrev pub nr_blocks_start : Part → ℕ
 nr_blocks_start value = 16 + 4 * number16 (after 8 value).bytes
