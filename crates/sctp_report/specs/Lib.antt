@@ -1,2 +1,5 @@
 pub mod ChecksumField
+pub mod Grammar
+pub mod JsonString
 pub mod Part
+pub mod Printed

@@ -5,7 +5,7 @@ use crate::fault::{Fault, Reason};
 use crate::fields::{Block, Fields, Flag, Form, Level, Number, Text};
 use crate::names::{cause_name, chunk_name, parameter_name};
 use crate::part::{Item, Part};
-use crate::shown::OneWord;
+use crate::printed::OneWord;
 use dcsctp_wire::packet::sctp_packet::CommonHeader;
 use std::fmt;
 

@@ -1,6 +1,7 @@
 //! Bytes in hexadecimal.
 
-ghost use Rattle.std.specs.Prelude.{◌<◌, ◌≤◌, ◌+◌, length};
+ghost use Rattle.std.specs.Prelude.{◌≡◌, ◌<◌, ◌≤◌, false, length};
+ghost use Rattle.std.specs.Fmt.{WritesOnOk, digit_glyph};
 
 use std::fmt;
 
@@ -10,18 +11,13 @@ const BLOCK: usize = 32;
 /// The bytes of a row.
 pub const ROW: usize = 16;
 
-/// The bytes of a text that are written at once.
-const TEXT_SIZE: usize = 128;
-
-/// The bytes of an escape.
-const ESCAPE_SIZE: usize = 4;
-
 /// The column of a row's first bar.
 const BAR: usize = 3 * ROW + 1;
 
 /// Returns the digit of a value.
-fn digit(value: u8) -> u8
+pub fn digit(value: u8) -> u8
     requires { value < 16 }
+    ensures { result ≡ digit_glyph false value }
 {
     if value < 10 {
         b'0' + value
@@ -50,11 +46,13 @@ fn write_block<W: fmt::Write>(block: &[u8], f: &mut fmt::Formatter<W>) -> fmt::R
         digits[2 * i] = digit(block[i] / 16);
         digits[2 * i + 1] = digit(block[i] % 16);
     }
-    write_ascii(&digits[..2 * block.len()], f)
+    write_utf8(&digits[..2 * block.len()], f)
 }
 
-/// Writes bytes of ASCII.
-fn write_ascii<W: fmt::Write>(bytes: &[u8], f: &mut fmt::Formatter<W>) -> fmt::Result {
+/// Writes bytes of UTF-8.
+pub fn write_utf8<W: fmt::Write>(bytes: &[u8], f: &mut fmt::Formatter<W>) -> fmt::Result
+    ensures { WritesOnOk W.write_str_gives f.old result bytes.now f.new }
+{
     match str::from_utf8(bytes) {
         Ok(text) => f.write_str(text),
         Err(_) => Err(fmt::Error),
@@ -75,40 +73,5 @@ pub fn write_row<W: fmt::Write>(row: &[u8], f: &mut fmt::Formatter<W>) -> fmt::R
     }
     text[BAR] = b'|';
     text[BAR + 1 + row.len()] = b'|';
-    write_ascii(&text[..BAR + 2 + row.len()], f)
-}
-
-/// Writes bytes of a text as they are, if they are printable ASCII from `first` to the tilde, and
-/// neither a quotation mark nor a backslash; others as `\x` and two digits.
-pub fn write_printable<W: fmt::Write>(
-    bytes: &[u8],
-    first: u8,
-    f: &mut fmt::Formatter<W>,
-) -> fmt::Result {
-    let mut text = [0; TEXT_SIZE];
-    let mut end = 0;
-    for byte in bytes {
-        if end > TEXT_SIZE - ESCAPE_SIZE {
-            write_ascii(&text[..end], f)?;
-            end = 0;
-        }
-        end = put_printable(*byte, first, end, &mut text);
-    }
-    write_ascii(&text[..end], f)
-}
-
-/// Puts a byte, or its escape, into a text; returns where it ends.
-fn put_printable(byte: u8, first: u8, start: usize, text: &mut [u8; TEXT_SIZE]) -> usize
-    requires { start + ESCAPE_SIZE ≤ TEXT_SIZE }
-    ensures { result ≤ TEXT_SIZE }
-{
-    if (first..=b'~').contains(&byte) && byte != b'"' && byte != b'\\' {
-        text[start] = byte;
-        return start + 1;
-    }
-    text[start] = b'\\';
-    text[start + 1] = b'x';
-    text[start + 2] = digit(byte / 16);
-    text[start + 3] = digit(byte % 16);
-    start + ESCAPE_SIZE
+    write_utf8(&text[..BAR + 2 + row.len()], f)
 }

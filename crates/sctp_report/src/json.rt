@@ -4,48 +4,12 @@ use crate::checksum::Checksum;
 use crate::fault::{Fault, Reason};
 use crate::fields::{Block, Fields, Flag, HEADER_SIZE, Level, Number, Text};
 use crate::hexadecimal::write_digits;
+use crate::json_text::JsonText;
 use crate::names::{Named, NamedBy, cause_name, chunk_name, parameter_name};
 use crate::part::{Item, Part};
 use dcsctp_wire::packet::sctp_packet::CommonHeader;
 use std::fmt;
 use std::net::IpAddr;
-
-/// A text as a string of JSON: between quotation marks, where quotation marks, backslashes and
-/// control characters are escaped (RFC 8259 section 7), and so is U+007F.
-#[derive(Clone, Copy)]
-pub struct JsonText<'a>(pub &'a str);
-
-impl<'a> fmt::Display for JsonText<'a> {
-    fn fmt<W: fmt::Write>(&self, f: &mut fmt::Formatter<W>) -> fmt::Result {
-        let (text, bytes) = (self.0, self.0.as_bytes());
-        let mut start = 0;
-        f.write_str("\"")?;
-        for i in 0..bytes.len() {
-            if is_escaped(bytes[i]) {
-                // A byte of ASCII is a character, so both ends are between characters.
-                f.write_str(text.get(start..i).unwrap_or(""))?;
-                write_escape(bytes[i], f)?;
-                start = i + 1;
-            }
-        }
-        f.write_str(text.get(start..).unwrap_or(""))?;
-        f.write_str("\"")
-    }
-}
-
-/// Returns whether a byte of a string is escaped.
-fn is_escaped(byte: u8) -> bool {
-    byte < b' ' || byte == b'"' || byte == b'\\' || byte == 0x7f
-}
-
-/// Writes a byte's escape.
-fn write_escape<W: fmt::Write>(byte: u8, f: &mut fmt::Formatter<W>) -> fmt::Result {
-    match byte {
-        b'"' => f.write_str("\\\""),
-        b'\\' => f.write_str("\\\\"),
-        _ => write!(f, "\\u{byte:04x}"),
-    }
-}
 
 /// Writes keys and values.
 #[derive(Drop)]

@@ -1,6 +1,6 @@
 //! How bytes of a packet are printed.
 
-use crate::hexadecimal::{ROW, write_digits, write_printable, write_row};
+use crate::hexadecimal::{ROW, write_digits, write_row};
 use crate::part::Part;
 use std::fmt;
 
@@ -67,27 +67,5 @@ impl<'a> fmt::Display for Rows<'a> {
             rest = after;
         }
         Ok(())
-    }
-}
-
-/// A text between quotation marks; what isn't printable ASCII is escaped.
-#[derive(Clone, Copy)]
-pub struct Quoted<'a>(pub &'a [u8]);
-
-impl<'a> fmt::Display for Quoted<'a> {
-    fn fmt<W: fmt::Write>(&self, f: &mut fmt::Formatter<W>) -> fmt::Result {
-        f.write_str("\"")?;
-        write_printable(self.0, b' ', f)?;
-        f.write_str("\"")
-    }
-}
-
-/// A text as one word: what isn't printable ASCII is escaped, and so are blanks.
-#[derive(Clone, Copy)]
-pub struct OneWord<'a>(pub &'a [u8]);
-
-impl<'a> fmt::Display for OneWord<'a> {
-    fn fmt<W: fmt::Write>(&self, f: &mut fmt::Formatter<W>) -> fmt::Result {
-        write_printable(self.0, b'!', f)
     }
 }
