@@ -39,7 +39,7 @@ after_is bytes =
     ap (λ (n : ℕ). record { bytes = frame.frame_rest bytes; size = n })
     (sym (length-drop (frame.round_up_to_4 (frame.frame_length bytes)) bytes))
 
-bytes_after : (n : ℕ) (bytes : List ℕ) → AreBytes bytes → AreBytes (drop n bytes)
+pub bytes_after : (n : ℕ) (bytes : List ℕ) → AreBytes bytes → AreBytes (drop n bytes)
 bytes_after n bytes fits = λ i. rw (get_or-drop n bytes i 0) (fits (n + i))
 
 pub frame_items : (rule : frame.PaddingRule) (items : List frame.Item) (bytes : List ℕ) → AreBytes bytes

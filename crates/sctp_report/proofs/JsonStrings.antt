@@ -21,7 +21,7 @@ glyph_below (suc n) all d h =
     let here : digit_value (digit_glyph false n) ≡ n = eqb-true _ _ p.0 in
     elim (cases_eq d n) [ inl same ↦ rw same here | inr other ↦ glyph_below n p.1 d (omega arith) ]
 
-value_of_glyph : (d : ℕ) → d < 16 → digit_value (digit_glyph false d) ≡ d
+pub value_of_glyph : (d : ℕ) → d < 16 → digit_value (digit_glyph false d) ≡ d
 value_of_glyph d h = glyph_below 16 refl d h
 
 abbrev four : ℕ → List ℕ

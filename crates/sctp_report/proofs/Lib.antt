@@ -1,5 +1,10 @@
 pub mod Characters
 pub mod FrameItems
+pub mod HexDigits
 pub mod JsonStrings
+pub mod Leads
+pub mod PacketItems
 pub mod PrintedTexts
+pub mod ReadBack
+pub mod ShownFronts
 pub mod Written

@@ -1,6 +1,6 @@
 -- How a text of the peer is printed: its characters, and the escapes of the bytes that are none which
 -- can be printed, `\x` and two digits.
-use Rattle.std.specs.{Prelude.{◌≡◌, ◌-◌, ◌/◌, ◌%◌, ◌==◌, ◌||◌, ◌&&◌, not, Bool, true, false, if◌then◌else◌, nat_lt, nat_le, ℕ, zero, suc, List, [], ◌∷◌, ◌++◌, length, take, slice_index, encode_utf8}, Char.{IsScalar}, Int.{is_in_range}, Str.{chars, is_utf8}, Fmt.{digit_glyph}}
+use Rattle.std.specs.{Prelude.{◌≡◌, ◌-◌, ◌/◌, ◌%◌, ◌==◌, ◌||◌, ◌&&◌, ◌⊎◌, not, Bool, true, false, if◌then◌else◌, nat_lt, nat_le, ℕ, zero, suc, List, [], ◌∷◌, ◌++◌, length, take, slice_index, encode_utf8}, Char.{IsScalar}, Int.{is_in_range}, Str.{chars, is_utf8}, Fmt.{digit_glyph}}
 
 -- A character that can't be seen, or that changes how others are: U+061C, U+200E, U+200F, U+202A to
 -- U+202E and U+2066 to U+2069 change the direction, U+2028 and U+2029 end a line.
@@ -40,6 +40,10 @@ pub data IsPrinted (is_word : Bool) : List ℕ → List ℕ → Type 0 where
   escaped : (bytes text rest others : List ℕ) (byte : ℕ) → (BeginsWithShown is_word bytes → ⊥)
       → IsPrinted is_word rest others → bytes ≡ byte ∷ rest → text ≡ escape byte ++ others
       → IsPrinted is_word bytes text
+
+-- What is printed has these characters alone: those that are shown, and the backslash of an escape.
+abbrev pub IsPlain : Bool → ℕ → Type 0
+IsPlain is_word c = (is_shown is_word c ≡ true) ⊎ (c ≡ 0x5C)
 
 -- ---- as a function
 

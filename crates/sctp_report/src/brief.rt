@@ -99,7 +99,7 @@ impl<'f, W: fmt::Write> Fields for BriefFields<'f, W> {
         write!(self.f, "{tag:#010x} {found}")
     }
 
-    fn no_header(&mut self) -> fmt::Result {
+    fn no_header(&mut self, _captured: &[u8]) -> fmt::Result {
         self.begin_word()?;
         self.f.write_str("- unknown")
     }

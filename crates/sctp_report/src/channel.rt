@@ -15,8 +15,8 @@ const OPEN: u8 = 3;
 /// The message type of DATA_CHANNEL_ACK.
 const ACK: u8 = 2;
 
-/// Hands over a message, which is the payload at an offset of a chunk; nothing, where it isn't one
-/// of the protocol.
+/// Hands over a message, which is the payload at an offset of a chunk, or that it isn't one of the
+/// protocol.
 pub fn walk_channel<F: Fields>(
     offset: usize,
     message: &[u8],
@@ -30,7 +30,7 @@ pub fn walk_channel<F: Fields>(
             let label_size = read_u16_be(&message[8..]) as usize;
             let protocol_size = read_u16_be(&message[10..]) as usize;
             if message.len() != OPEN_SIZE + label_size + protocol_size {
-                return Ok(());
+                return fields.no_message();
             }
             fields.word(&typ, "DATA_CHANNEL_OPEN")?;
             walk_open(offset, chunk, fields)?;
@@ -50,7 +50,7 @@ pub fn walk_channel<F: Fields>(
                 bytes: protocol,
             })
         }
-        _ => Ok(()),
+        _ => fields.no_message(),
     }
 }
 

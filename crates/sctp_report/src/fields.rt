@@ -148,8 +148,9 @@ pub trait Fields {
     /// Takes the packet's header.
     fn header(&mut self, header: &CommonHeader, found: Checksum) -> fmt::Result;
 
-    /// Takes that the packet has no header, as far as it was captured.
-    fn no_header(&mut self) -> fmt::Result {
+    /// Takes that the packet has no header, as far as it was captured; and of one that was cut off
+    /// in its header the bytes that were captured.
+    fn no_header(&mut self, _captured: &[u8]) -> fmt::Result {
         Ok(())
     }
 
@@ -219,6 +220,11 @@ pub trait Fields {
 
     /// Takes a text that is an item's value.
     fn text_value(&mut self, _bytes: &[u8]) -> fmt::Result {
+        Ok(())
+    }
+
+    /// Takes that the payload before is no message of the protocol that its identifier names.
+    fn no_message(&mut self) -> fmt::Result {
         Ok(())
     }
 

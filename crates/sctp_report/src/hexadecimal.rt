@@ -2,6 +2,7 @@
 
 ghost use Rattle.std.specs.Prelude.{◌≡◌, ◌<◌, ◌≤◌, false, length};
 ghost use Rattle.std.specs.Fmt.{WritesOnOk, digit_glyph};
+ghost use Rattle.sctp_report.specs.Hexadecimal.{digits_of};
 
 use std::fmt;
 
@@ -27,9 +28,11 @@ pub fn digit(value: u8) -> u8
 }
 
 /// Writes two digits for each byte, in blocks.
-pub fn write_digits<W: fmt::Write>(bytes: &[u8], f: &mut fmt::Formatter<W>) -> fmt::Result {
+pub fn write_digits<W: fmt::Write>(bytes: &[u8], f: &mut fmt::Formatter<W>) -> fmt::Result
+    ensures { WritesOnOk W.write_str_gives f.old result (digits_of bytes.now) f.new }
+{
     let mut rest = bytes;
-    for _ in 0..bytes.len().div_ceil(BLOCK) {
+    while !rest.is_empty() {
         let (block, after) = rest.split_at(rest.len().min(BLOCK));
         write_block(block, f)?;
         rest = after;
@@ -40,6 +43,7 @@ pub fn write_digits<W: fmt::Write>(bytes: &[u8], f: &mut fmt::Formatter<W>) -> f
 /// Writes the digits of a block.
 fn write_block<W: fmt::Write>(block: &[u8], f: &mut fmt::Formatter<W>) -> fmt::Result
     requires { length block.now ≤ BLOCK }
+    ensures { WritesOnOk W.write_str_gives f.old result (digits_of block.now) f.new }
 {
     let mut digits = [b'0'; 2 * BLOCK];
     for i in 0..block.len() {

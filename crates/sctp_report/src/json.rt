@@ -8,6 +8,7 @@ use crate::json_text::JsonText;
 use crate::names::{Named, NamedBy, cause_name, chunk_name, parameter_name};
 use crate::part::{Item, Part};
 use dcsctp_wire::packet::sctp_packet::CommonHeader;
+use dcsctp_wire::packet::{read_u16_be, read_u32_be};
 use std::fmt;
 use std::net::IpAddr;
 
@@ -143,6 +144,21 @@ impl<'f, W: fmt::Write> Fields for JsonFields<'f, W> {
             Checksum::Wrong(word) => self.put("expected", word as usize),
             _ => Ok(()),
         }
+    }
+
+    fn no_header(&mut self, captured: &[u8]) -> fmt::Result {
+        if captured.len() < 4 {
+            return Ok(());
+        }
+        self.put("source", read_u16_be(captured) as usize)?;
+        self.place("source", 0, 2)?;
+        self.put("destination", read_u16_be(&captured[2..]) as usize)?;
+        self.place("destination", 2, 2)?;
+        if captured.len() < 8 {
+            return Ok(());
+        }
+        self.put("tag", read_u32_be(&captured[4..]) as usize)?;
+        self.place("tag", 4, 4)
     }
 
     fn fault(&mut self, fault: &Fault<'_>) -> fmt::Result {

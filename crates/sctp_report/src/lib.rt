@@ -3,7 +3,9 @@
 //! what can be read of it.
 //!
 //! It reads the packet where it lies, and does not allocate. One walk hands over what there is, to
-//! what writes one form of it. Proved safe and total: no clause says what a text is.
+//! what writes one form of it. Proved safe and total; and clauses say what is written of the peer's
+//! texts: as a string of JSON, between quotation marks, and as one word. No clause says the rest:
+//! literals, digits, names and addresses.
 #![tactic(auto)]
 
 mod brief;

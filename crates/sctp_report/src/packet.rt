@@ -17,7 +17,12 @@ use std::fmt;
 /// Of an accepted packet both ports, the tag, the checksum's verdict and all that its chunks hold.
 /// Of a refused one the chunks before its fault, and the fault as `FaultReport` prints it. Of one
 /// that was cut off the chunks as far as they go, and a fault only where a chunk's length can't be
-/// right; its checksum isn't known.
+/// right; its checksum isn't known. Of a header that was cut off the ports and the tag that are
+/// there.
+///
+/// A text of the peer stands between quotation marks. What isn't UTF-8 is escaped byte by byte, as
+/// `\xff`, and so are quotation marks, backslashes, and characters that can't be seen or change how
+/// others are: control and format characters.
 #[derive(Clone, Copy)]
 pub struct PacketReport<'a, 'f> {
     /// The packet's bytes, as far as they were captured.
@@ -49,7 +54,7 @@ impl<'a, 'f> fmt::Display for PacketReport<'a, 'f> {
 /// `captured` if that is less, then what `PacketReport` prints.
 ///
 /// Each number, text or run of bytes has a name. Bytes are in hexadecimal, and a text that isn't
-/// UTF-8 is left out.
+/// UTF-8 is left out. A text is a string of RFC 8259 section 7 ([`JsonText`](crate::JsonText)).
 #[derive(Clone, Copy)]
 pub struct PacketJson<'a, 'f> {
     /// The packet's bytes, as far as they were captured.
@@ -61,7 +66,8 @@ pub struct PacketJson<'a, 'f> {
     /// As in `PacketReport`.
     pub fault: Option<&'f FirstFault>,
     /// Whether it has the captured bytes, as `bytes`, and after each field its place in them:
-    /// `"tag@":[4,4]` is its offset and its size.
+    /// `"tag@":[4,4]` is its offset and its size. They are those in the packet, also where it was
+    /// cut off: the place of a chunk or a payload can reach beyond the captured bytes.
     pub places: bool,
 }
 
@@ -118,7 +124,8 @@ fn walk_packet<F: Fields>(
             let found = Checksum::of_packet(packet.bytes, packet.size, word);
             fields.header(&header, found)?;
         }
-        None => fields.no_header()?,
+        None if packet.is_whole() => fields.no_header(&[])?,
+        None => fields.no_header(packet.bytes)?,
     }
     match found {
         Some(found) => {

@@ -1,11 +1,14 @@
 //! A text of the peer, printed.
 
-ghost use Rattle.std.specs.Prelude.{◌≡◌, Some, ◌<◌, ◌≤◌, ◌++◌, ◌∷◌, [], length, true, false};
+ghost use Rattle.std.specs.Prelude.{◌≡◌, Some, ◌<◌, ◌≤◌, ◌++◌, ◌∷◌, [], length, take, true, false};
 ghost use Rattle.std.specs.Fmt.{WritesOnOk};
 ghost use Rattle.sctp_report.specs.Printed.{escape, is_hidden, is_character, is_shown, printed, shown_size, size_from};
 
 use crate::hexadecimal::{digit, write_utf8};
 use std::fmt;
+
+/// The most bytes of a character after its first.
+const MOST_CONTINUATIONS: usize = 3;
 
 /// A text between quotation marks. What isn't UTF-8 is escaped, and so are quotation marks,
 /// backslashes, and characters that can't be seen or change how others are.
@@ -132,4 +135,19 @@ fn is_hidden(character: char) -> bool
             | '\u{fff9}'..='\u{fffb}'
             | '\u{e0000}'..
     )
+}
+
+/// Returns the first bytes of a text, at most so many, and none of a character that goes on after
+/// them.
+pub fn text_front(text: &[u8], most: usize) -> &[u8]
+    ensures front { result.now ≡ take (length result.now) text.now }
+    ensures size { length result.now ≤ most }
+{
+    let mut end = most.min(text.len());
+    for _ in 0..MOST_CONTINUATIONS {
+        if end < text.len() && (0x80..0xc0).contains(&text[end]) {
+            end = end.saturating_sub(1);
+        }
+    }
+    &text[..end]
 }

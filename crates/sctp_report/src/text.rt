@@ -5,9 +5,10 @@ use crate::fault::Fault;
 use crate::fields::{Block, Fields, Flag, Form, Level, Number, Text};
 use crate::names::{ChunkName, ItemName, Named, NamedBy};
 use crate::part::{Item, Part};
-use crate::printed::Quoted;
+use crate::printed::{Quoted, text_front};
 use crate::shown::{Rows, Shown, Size};
 use dcsctp_wire::packet::sctp_packet::CommonHeader;
+use dcsctp_wire::packet::{read_u16_be, read_u32_be};
 use std::fmt;
 use std::net::IpAddr;
 
@@ -34,6 +35,19 @@ impl<'f, W: fmt::Write> Fields for TextFields<'f, W> {
             "source {source}, destination {destination}, tag {tag:#010x}"
         )?;
         writeln!(self.f, "\nchecksum {checksum:#010x}: {found}")
+    }
+
+    fn no_header(&mut self, captured: &[u8]) -> fmt::Result {
+        if captured.len() < 4 {
+            return Ok(());
+        }
+        let (source, destination) = (read_u16_be(captured), read_u16_be(&captured[2..]));
+        write!(self.f, "source {source}, destination {destination}")?;
+        if captured.len() >= 8 {
+            let tag = read_u32_be(&captured[4..]);
+            write!(self.f, ", tag {tag:#010x}")?;
+        }
+        self.f.write_str("\n")
     }
 
     fn fault(&mut self, fault: &Fault<'_>) -> fmt::Result {
@@ -148,11 +162,15 @@ impl<'f, W: fmt::Write> Fields for TextFields<'f, W> {
         let text = if self.shows_all {
             payload.bytes
         } else {
-            &payload.bytes[..payload.bytes.len().min(MOST_OF_TEXT)]
+            text_front(payload.bytes, MOST_OF_TEXT)
         };
         let (quoted, is_cut) = (Quoted(text), text.len() < payload.size);
         let more = if is_cut { " .." } else { "" };
         write!(self.f, "\n  text: {quoted}{more}")
+    }
+
+    fn no_message(&mut self) -> fmt::Result {
+        self.f.write_str("\n  not a DCEP message")
     }
 
     fn value(&mut self, level: Level, item: &Item<'_>) -> fmt::Result {
