@@ -1,8 +1,8 @@
 -- Whether bytes are a character that is shown.
 use Rattle.std.proofs.Common.{◌≡◌, ℕ, Bool, true, false, List, [], ◌∷◌, ◌++◌, length, get_or, refl, sym, ap, ◌∙◌, subst, length-append, arith}
-use Rattle.std.specs.{Prelude.{IsUtf8}, Str.{is_utf8, chars}, Char.{IsScalar}}
+use Rattle.std.specs.{Prelude.{IsUtf8}, Str.{is_utf8, chars}}
 use Rattle.std.proofs.lemmas.Str.{IsUtf8-from_is_utf8, is_utf8-from_IsUtf8, chars-encodes, encode_same, length-encode, len_utf8_bounds}
-use lib.Utf8.{scalars, encode, encodes}
+use lib.Utf8.{encode, encodes}
 use Rattle.sctp_report.specs.Printed.{is_shown, is_character}
 
 not_utf8 : (b : Bool) (bytes : List ℕ) → is_utf8 bytes ≡ b → (IsUtf8 bytes → ⊥) → is_utf8 bytes ≡ false

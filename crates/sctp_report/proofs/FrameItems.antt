@@ -1,12 +1,10 @@
 -- The items that are found one after the other in whole bytes are those of the grammar.
-use Rattle.std.proofs.Common.{◌≡◌, ◌≢◌, ℕ, ◌+◌, ◌-◌, ◌≤◌, ◌<◌, Bool, true, false, min, List, [], ◌∷◌, ◌++◌, length, get_or, take, drop, refl, sym, ap, ap₂, subst, ◌∙◌, arith, length-drop, length-take, drop-drop}
-use Rattle.std.specs.Prelude.{map}
+use Rattle.std.proofs.Common.{◌≡◌, ◌≢◌, ℕ, ◌+◌, ◌-◌, true, min, List, [], ◌∷◌, length, get_or, take, drop, refl, sym, ap, ap₂, subst, ◌∙◌, arith, length-drop}
 use Rattle.std.proofs.lemmas.List.{drop-take, get_or-drop}
-use Rattle.std.proofs.lemmas.Bool.{and_from}
 use Rattle.std.proofs.lemmas.Bool.Decides.{nat_tests}
 use Rattle.dcsctp_tlv.specs.Frame as frame
 use Rattle.dcsctp_tlv.{specs.Number.{AreBytes}, proofs.Items.{front_item, front_length}, proofs.Checks.{first_item as first_frame}}
-use Rattle.sctp_report.specs.Part.{Part, Item, AreItems, none, next, begins_with_item, length_field, first_item, after_item}
+use Rattle.sctp_report.specs.Part.{Item, AreItems, none, next, begins_with_item, first_item, after_item}
 use Rattle.sctp_report.specs.Grammar.{whole, item_of_frame, items_of_frames}
 
 begins : (bytes : List ℕ) → frame.BeginsWithFrame bytes → begins_with_item (whole bytes) ≡ true

@@ -1,12 +1,12 @@
 -- What is written of a text is a string of JSON that stands for it.
-use Rattle.std.proofs.Common.{◌≡◌, ◌≢◌, ℕ, zero, suc, ◌+◌, ◌*◌, ◌/◌, ◌%◌, ◌≤◌, ◌<◌, Bool, true, false, ◌&&◌, ◌||◌, ◌⊎◌, inl, inr, List, [], ◌∷◌, ◌++◌, length, get_or, refl, sym, ap, ap₂, ◌∙◌, subst, append_assoc, append-nil, eqb-true, arith}
+use Rattle.std.proofs.Common.{◌≡◌, ◌≢◌, ℕ, zero, suc, ◌/◌, ◌%◌, ◌≤◌, ◌<◌, Bool, true, false, ◌&&◌, ◌||◌, inl, inr, List, [], ◌∷◌, ◌++◌, length, get_or, refl, sym, ap, ap₂, subst, append-nil, eqb-true, arith}
 use Rattle.std.specs.{Prelude.{◌==◌, IsUtf8}, List.{flat_map}, Char.{digit_value}, Fmt.{digit_glyph}}
 use Rattle.std.proofs.lemmas.Bool.{and_parts, cases_lt, cases_eq}
 use Rattle.std.proofs.lemmas.Bool.Decides.{nat_tests}
 use Rattle.std.proofs.lemmas.Str.{encode_ascii, inside_one}
 use Rattle.std.proofs.lemmas.Grind.{flat_map-append}
 use lib.Utf8.{scalar, scalars, encode, encodes, low_scalar, scalar_cases}
-use Rattle.sctp_report.specs.JsonString.{IsUnescaped, AreFourDigits, StandFor, none, unescaped, escaped, numbered, IsString, is_escaped, escape, written, string_of}
+use Rattle.sctp_report.specs.JsonString.{IsUnescaped, AreFourDigits, StandFor, none, unescaped, escaped, numbered, IsString, is_escaped, written, string_of}
 
 -- ---- one byte
 

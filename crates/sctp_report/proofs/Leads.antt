@@ -1,9 +1,9 @@
 -- The size of a character, by its first byte.
-use Rattle.std.proofs.Common.{◌≡◌, ℕ, ◌+◌, ◌/◌, ◌%◌, ◌≤◌, ◌<◌, true, List, [], ◌∷◌, ◌++◌, inl, inr, length, get_or, refl, sym, ap, ◌∙◌, arith}
+use Rattle.std.proofs.Common.{◌≡◌, ℕ, ◌+◌, ◌/◌, ◌≤◌, ◌<◌, true, List, ◌++◌, inl, inr, length, get_or, arith}
 use Rattle.std.proofs.lemmas.Bool.{cases_lt}
 use Rattle.std.proofs.lemmas.Bool.Decides.{nat_tests}
 use Rattle.std.proofs.str.Laws.{one, two, three, four}
-use lib.Utf8.{encode, scalar, scalar_cases}
+use lib.Utf8.{encode, scalar}
 use Rattle.sctp_report.specs.Printed.{size_from}
 
 size_one : (byte : ℕ) → byte < 128 → size_from byte ≡ 1

@@ -1,10 +1,10 @@
 -- The items behind the common header of an accepted packet are the frames of its chunks.
-use Rattle.std.proofs.Common.{◌≡◌, ℕ, true, false, List, [], ◌∷◌, refl, sym, ap, subst, ◌∙◌, drop, length-drop}
+use Rattle.std.proofs.Common.{◌≡◌, ℕ, List, sym, ap, subst, ◌∙◌, length-drop}
 use Rattle.std.specs.Prelude.{Ok}
 use Rattle.dcsctp_tlv.specs.Frame as frame
 use Rattle.dcsctp_tlv.specs.{Number.{AreBytes}, Level.{ItemsMean}}
 use Rattle.dcsctp_wire.specs.{Chunk.{chunks}, Packet.{PacketTree, Answer, body}, declared.packet.sctp_packet.ChecksumPolicy.{ChecksumPolicy}}
-use Rattle.sctp_report.specs.{Part.{Part, Item, AreItems, none, next, after, after_item, begins_with_item}, Grammar.{whole, items_of_frames}}
+use Rattle.sctp_report.specs.{Part.{Part, Item, AreItems, none, next, after, after_item}, Grammar.{whole, items_of_frames}}
 use Rattle.sctp_report.proofs.FrameItems.{frame_items, bytes_after}
 
 behind_header : (bytes : List ℕ) → after 12 (whole bytes) ≡ whole (body bytes)

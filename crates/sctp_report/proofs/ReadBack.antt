@@ -1,5 +1,5 @@
 -- What is printed of bytes, and which bytes it was printed of.
-use Rattle.std.proofs.Common.{◌≡◌, ℕ, zero, suc, ◌+◌, ◌-◌, ◌*◌, ◌/◌, ◌%◌, ◌≤◌, ◌<◌, Bool, true, false, ◌&&◌, inl, inr, List, [], ◌∷◌, ◌++◌, length, get_or, take, drop, refl, sym, ap, subst, ◌∙◌, length-append, drop_at, arith}
+use Rattle.std.proofs.Common.{◌≡◌, ℕ, zero, suc, ◌/◌, ◌%◌, ◌≤◌, ◌<◌, Bool, true, false, ◌&&◌, inl, inr, List, [], ◌∷◌, ◌++◌, length, drop, refl, sym, ap, subst, ◌∙◌, length-append, drop_at, arith}
 use Rattle.std.proofs.lemmas.Str.{encode_same, encode_ascii, length-encode, len_utf8_bounds}
 use Rattle.std.proofs.lemmas.Bool.{and_parts, cases_eq}
 use Rattle.std.proofs.lemmas.Bool.Decides.{nat_tests}
@@ -11,7 +11,7 @@ use Rattle.sctp_report.specs.Printed.{BeginsWithShown, IsPrinted, none, shown, e
 use Rattle.sctp_report.proofs.FrameItems.{bytes_after}
 use Rattle.sctp_report.proofs.JsonStrings.{value_of_glyph}
 use Rattle.sctp_report.proofs.PrintedTexts.{printed_shown, printed_escaped}
-use Rattle.sctp_report.proofs.ShownFronts.{Front, shown_front, no_front}
+use Rattle.sctp_report.proofs.ShownFronts.{shown_front, no_front}
 
 -- ---- the function prints it
 

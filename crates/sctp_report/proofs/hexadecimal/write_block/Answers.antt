@@ -1,4 +1,4 @@
-use Rattle.std.proofs.Common.{rules, ◌≡◌, ◌+◌, ◌*◌, ◌<◌, List, [], ◌∷◌, length, get_or, length-set, ◌∙◌, arith}
+use Rattle.std.proofs.Common.{◌≡◌, [], ◌∷◌, get_or, length-set, ◌∙◌, arith}
 use Rattle.sctp_report.specs.Hexadecimal.{two_digits}
 use Rattle.sctp_report.proofs.HexDigits.{digits_more}
 use Rattle.sctp_report.proofs.hexadecimal.write_block.Goals as goal

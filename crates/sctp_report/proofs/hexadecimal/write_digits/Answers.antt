@@ -1,4 +1,4 @@
-use Rattle.std.proofs.Common.{rules, ◌≡◌, ◌++◌, sym, ap, ◌∙◌, append_assoc}
+use Rattle.std.proofs.Common.{rules, ◌++◌, sym, ap, ◌∙◌, append_assoc}
 use Rattle.std.proofs.Output.{has_written_append}
 use Rattle.std.proofs.lemmas.Grind.{flat_map-append}
 use Rattle.sctp_report.specs.Hexadecimal.{two_digits, digits_of}

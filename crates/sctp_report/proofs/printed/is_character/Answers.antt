@@ -1,4 +1,4 @@
-use Rattle.std.proofs.Common.{rules, ◌≡◌, ◌++◌, sym, ◌∙◌}
+use Rattle.std.proofs.Common.{rules, ◌≡◌, ◌++◌, ◌∙◌}
 use lib.Utf8.{encode}
 use Rattle.sctp_report.proofs.Characters.{no_character, first_character}
 use Rattle.sctp_report.proofs.printed.is_character.Goals as goal

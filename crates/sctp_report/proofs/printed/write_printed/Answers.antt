@@ -1,8 +1,8 @@
-use Rattle.std.proofs.Common.{rules, ◌≡◌, ◌≤◌, ◌<◌, ◌++◌, length, drop, get_or, arith}
+use Rattle.std.proofs.Common.{rules, ◌≡◌, ◌≤◌, ◌++◌, length, drop, get_or, arith}
 use Rattle.std.proofs.Output.{has_written_append, has_written_of_eq}
 use Rattle.std.proofs.lemmas.List.{take_rest, length-drop}
 use Rattle.std.specs.List.{slice_range}
-use Rattle.sctp_report.specs.Printed.{escape, shown_size}
+use Rattle.sctp_report.specs.Printed.{escape}
 use Rattle.sctp_report.proofs.PrintedTexts.{more_shown, more_escaped, all_printed}
 use Rattle.sctp_report.proofs.printed.write_printed.Goals as goal
 
