@@ -1,8 +1,8 @@
 //! Bytes in hexadecimal.
 
-ghost use Rattle.std.specs.Prelude.{◌≡◌, ◌<◌, ◌≤◌, false, length};
+ghost use Rattle.std.specs.Prelude.{◌≡◌, ◌<◌, ◌≤◌, false, ℕ, List, All, length};
 ghost use Rattle.std.specs.Fmt.{WritesOnOk, digit_glyph};
-ghost use Rattle.sctp_report.specs.Hexadecimal.{digits_of};
+ghost use Rattle.sctp_report.specs.Hexadecimal.{IsPrintable, digits_of};
 
 use std::fmt;
 
@@ -67,15 +67,28 @@ pub fn write_utf8<W: fmt::Write>(bytes: &[u8], f: &mut fmt::Formatter<W>) -> fmt
 /// dot stands for what isn't printable.
 pub fn write_row<W: fmt::Write>(row: &[u8], f: &mut fmt::Formatter<W>) -> fmt::Result
     requires { length row.now ≤ ROW }
+    ensures { (text : List ℕ) × WritesOnOk W.write_str_gives f.old result text f.new
+        × All IsPrintable text }
 {
     let mut text = [b' '; BAR + ROW + 2];
     for i in 0..row.len() {
         text[3 * i] = digit(row[i] / 16);
         text[3 * i + 1] = digit(row[i] % 16);
-        let is_printable = (b' '..=b'~').contains(&row[i]);
-        text[BAR + 1 + i] = if is_printable { row[i] } else { b'.' };
+        text[BAR + 1 + i] = printable(row[i]);
     }
     text[BAR] = b'|';
     text[BAR + 1 + row.len()] = b'|';
     write_utf8(&text[..BAR + 2 + row.len()], f)
+}
+
+/// Returns a byte of printable ASCII, and a dot of any other.
+fn printable(byte: u8) -> u8
+    ensures printable { IsPrintable result }
+    ensures same { IsPrintable byte → result ≡ byte }
+{
+    if (b' '..=b'~').contains(&byte) {
+        byte
+    } else {
+        b'.'
+    }
 }
