@@ -7,7 +7,7 @@ use Rattle.dcsctp_tlv.{specs.Number.{AreBytes}, proofs.Items.{front_item, front_
 use Rattle.sctp_report.specs.Part.{Item, AreItems, none, next, begins_with_item, first_item, after_item}
 use Rattle.sctp_report.specs.Grammar.{whole, item_of_frame, items_of_frames}
 
-begins : (bytes : List ℕ) → frame.BeginsWithFrame bytes → begins_with_item (whole bytes) ≡ true
+pub begins : (bytes : List ℕ) → frame.BeginsWithFrame bytes → begins_with_item (whole bytes) ≡ true
 begins bytes f =
     let header = f.header in
     let low = f.low in
@@ -21,7 +21,7 @@ item_with bytes value size = record {
   value = record { bytes = value; size = size };
 }
 
-first_is : (bytes : List ℕ) → frame.BeginsWithFrame bytes
+pub first_is : (bytes : List ℕ) → frame.BeginsWithFrame bytes
     → first_item (whole bytes) ≡ item_of_frame (front_item bytes)
 first_is bytes f =
     let len = frame.frame_length bytes in
@@ -32,7 +32,7 @@ first_is bytes f =
     omega (arith, front_length bytes f, f.high) in
     ap₂ (λ (v : List ℕ) (n : ℕ). item_with bytes v n) value size
 
-after_is : (bytes : List ℕ) → after_item (whole bytes) ≡ whole (frame.frame_rest bytes)
+pub after_is : (bytes : List ℕ) → after_item (whole bytes) ≡ whole (frame.frame_rest bytes)
 after_is bytes =
     ap (λ (n : ℕ). record { bytes = frame.frame_rest bytes; size = n })
     (sym (length-drop (frame.round_up_to_4 (frame.frame_length bytes)) bytes))

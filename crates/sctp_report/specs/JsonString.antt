@@ -1,4 +1,5 @@
--- Strings of JSON (RFC 8259 section 7), as bytes of UTF-8 (section 8.1), and the text that each stands for.
+-- Strings of JSON (RFC 8259 section 7), as bytes of UTF-8 (section 8.1), and the texts that they
+-- stand for.
 use Rattle.std.specs.{Prelude.{◌≡◌, ◌/◌, ◌%◌, ◌⊎◌, ◌==◌, ◌||◌, Bool, false, if◌then◌else◌, nat_lt, ℕ, List, [], ◌∷◌, ◌++◌, length, Option, Some, None, encode_utf8}, Char.{IsScalar}, Char.Utf16.{surrogate_pair_char}, Int.{IsInRange}, List.{flat_map}, Str.Parse.{IsNumeral, digits_value}, Fmt.{digit_glyph}}
 
 -- unescaped = %x20-21 / %x23-5B / %x5D-10FFFF

@@ -1,9 +1,9 @@
--- How a text of the peer is printed: its characters, and the escapes of the bytes that are none which
--- can be printed, `\x` and two digits.
+-- How a text of the peer is printed: the characters of its UTF-8 that are shown, and of all other
+-- bytes the escapes, `\x` and two digits.
 use Rattle.std.specs.{Prelude.{◌≡◌, ◌-◌, ◌/◌, ◌%◌, ◌==◌, ◌||◌, ◌&&◌, ◌⊎◌, not, Bool, true, false, if◌then◌else◌, nat_lt, nat_le, ℕ, zero, suc, List, [], ◌∷◌, ◌++◌, length, take, slice_index, encode_utf8}, Char.{IsScalar}, Int.{is_in_range}, Str.{chars, is_utf8}, Fmt.{digit_glyph}}
 
--- A character that can't be seen, or that changes how others are: U+061C, U+200E, U+200F, U+202A to
--- U+202E and U+2066 to U+2069 change the direction, U+2028 and U+2029 end a line.
+-- The controls of the direction of text (U+061C, U+200E, U+200F, U+202A to U+202E, U+2066 to U+2069),
+-- the ends of a line and a paragraph (U+2028, U+2029), and others that aren't seen.
 abbrev pub is_hidden : ℕ → Bool
 is_hidden c =
     c == 0x061C || is_in_range 0x200B 0x200F c || is_in_range 0x2028 0x202E c

@@ -11,7 +11,7 @@ use std::fmt;
 const MOST_CONTINUATIONS: usize = 3;
 
 /// A text between quotation marks. What isn't UTF-8 is escaped, and so are quotation marks,
-/// backslashes, and characters that can't be seen or change how others are.
+/// backslashes, control characters, and characters that `is_hidden` names.
 #[derive(Clone, Copy)]
 pub struct Quoted<'a>(pub &'a [u8]);
 
@@ -121,7 +121,8 @@ fn is_shown(character: char, is_word: bool) -> bool
     }
 }
 
-/// Returns whether a character can't be seen, or changes how others are.
+/// Returns whether a character is a control of the direction of text, the end of a line or a
+/// paragraph, or another one that isn't seen.
 fn is_hidden(character: char) -> bool
     ensures { result ≡ is_hidden character }
 {

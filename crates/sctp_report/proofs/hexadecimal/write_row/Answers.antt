@@ -1,4 +1,4 @@
-use Rattle.std.proofs.Common.{◌≤◌, ◌+◌, length, set, take, arith}
+use Rattle.std.proofs.Common.{◌+◌, length, set, take, arith}
 use Rattle.std.proofs.lemmas.List.Elements.{All-set, All-take}
 use Rattle.sctp_report.specs.Hexadecimal.{IsPrintable}
 use Rattle.sctp_report.proofs.hexadecimal.write_row.Goals as goal
