@@ -1,6 +1,6 @@
 //! A text of the peer, printed.
 
-ghost use Rattle.std.specs.Prelude.{◌≡◌, Some, ◌<◌, ◌≤◌, ◌++◌, ◌∷◌, [], length, take, true, false};
+ghost use Rattle.std.specs.Prelude.{◌≡◌, Some, ◌<◌, ◌≤◌, ◌+◌, ◌++◌, ◌∷◌, [], length, min, take, true, false};
 ghost use Rattle.std.specs.Fmt.{WritesOnOk};
 ghost use Rattle.sctp_report.specs.Printed.{escape, is_hidden, is_character, is_shown, printed, shown_size, size_from};
 
@@ -143,9 +143,11 @@ fn is_hidden(character: char) -> bool
 pub fn text_front(text: &[u8], most: usize) -> &[u8]
     ensures front { result.now ≡ take (length result.now) text.now }
     ensures size { length result.now ≤ most }
+    ensures whole { length text.now ≤ most → length result.now ≡ length text.now }
+    ensures dropped { min most (length text.now) ≤ length result.now + MOST_CONTINUATIONS }
 {
     let mut end = most.min(text.len());
-    for _ in 0..MOST_CONTINUATIONS {
+    for _dropped in 0..MOST_CONTINUATIONS {
         if end < text.len() && (0x80..0xc0).contains(&text[end]) {
             end = end.saturating_sub(1);
         }
