@@ -1,19 +1,20 @@
 -- The chunks of a packet are counted, one after the other.
-use Rattle.std.proofs.Common.{◌≡◌, ℕ, List, [], ◌∷◌, fold, true, false, refl, ap, subst, ◌∙◌}
+use Rattle.std.proofs.Common.{◌≡◌, List, [], ◌∷◌, fold, true, false, refl, ap, subst, ◌∙◌}
 use Rattle.sctp_report.specs.Part.{Part, Item, AreItems, none, next, begins_with_item, first_item, after_item}
 use Rattle.sctp_association.specs.declared.counts.Counts.{Counts}
+use Rattle.sctp_association.specs.declared.packet_number.PacketNumber.{PacketNumber}
 use Rattle.sctp_association.specs.Counts.{with_chunk}
 
 -- whatever chunks are left, all are they and those before them that were counted
-abbrev pub Counting : ℕ → Part → Counts → Part → Counts → Type 0
+abbrev pub Counting : PacketNumber → Part → Counts → Part → Counts → Type 0
 Counting number all start left now =
     (others : List Item) → AreItems left others → (chunks : List Item) × AreItems all chunks
     × (fold (with_chunk number) now others ≡ fold (with_chunk number) start chunks)
 
-pub Counting-none : (number : ℕ) (all : Part) (start : Counts) → Counting number all start all start
+pub Counting-none : (number : PacketNumber) (all : Part) (start : Counts) → Counting number all start all start
 Counting-none number all start = λ others are. (others, are, refl)
 
-pub Counting-next : (number : ℕ) (all left rest : Part) (start now more : Counts) (chunk : Item)
+pub Counting-next : (number : PacketNumber) (all left rest : Part) (start now more : Counts) (chunk : Item)
     → Counting number all start left now → begins_with_item left ≡ true → chunk ≡ first_item left
     → rest ≡ after_item left → more ≡ with_chunk number now chunk
     → Counting number all start rest more
@@ -26,7 +27,7 @@ Counting-next number all left rest start now more chunk counting begins chunk_is
       ap (λ (c : Counts). fold (with_chunk number) c others) more_is ∙ before.2,
     )
 
-pub Counting-all : (number : ℕ) (all left : Part) (start now : Counts)
+pub Counting-all : (number : PacketNumber) (all left : Part) (start now : Counts)
     → Counting number all start left now → begins_with_item left ≡ false
     → (chunks : List Item) × AreItems all chunks
     × (now ≡ fold (with_chunk number) start chunks)

@@ -1,1 +1,2 @@
 pub mod ChunkCounts
+pub mod HeaderCounts

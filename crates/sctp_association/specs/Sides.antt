@@ -1,14 +1,19 @@
 -- The ends of an association, and one that left the table.
-use Rattle.std.specs.Prelude.{◌≡◌, true, Box, Option, Some, None}
+use Rattle.std.specs.Prelude.{◌≡◌, ◌⊎◌, Bool, true, Box, Option, Some, None}
 use Rattle.std.specs.declared.alloc.Global.{Global}
 use Rattle.sctp_association.specs.declared.association.Side.{Side}
 use Rattle.sctp_association.specs.declared.association.Side.TheVariants.{First, Second}
 use Rattle.sctp_association.specs.declared.association.Association.{Association}
 use Rattle.sctp_association.specs.declared.counts.Counts.{Counts}
+use Rattle.sctp_association.specs.declared.end.End.{End}
 
 abbrev pub other : Side → Side
 other First = Second
 other Second = First
+
+abbrev pub end_of : Side → Association → End
+end_of First a = a.first
+end_of Second a = a.second
 
 -- what is counted of the packets that an end sent
 abbrev pub counts_of : Side → Association → Counts
@@ -19,3 +24,8 @@ counts_of Second a = a.second.counts
 abbrev pub HasLeft : Option (Box Association Global) → Type 0
 HasLeft (Some a) = a.value.has_left ≡ true
 HasLeft None = Unit {0}
+
+-- Its INIT or INIT ACK says of one of the ends whether it accepts zero checksums (RFC 9653
+-- section 4).
+abbrev pub SaysOfZero : Bool → Association → Type 0
+SaysOfZero says a = (a.first.accepts_zero ≡ Some says) ⊎ (a.second.accepts_zero ≡ Some says)

@@ -1,12 +1,16 @@
 //! One association.
 
 ghost use Rattle.std.specs.Prelude.{◌≡◌};
+ghost use Rattle.sctp_capture.specs.Number.{one_more};
 ghost use Rattle.sctp_association.specs.Counts.{CountsPacket, packet_of};
-ghost use Rattle.sctp_association.specs.Sides.{counts_of, other};
+ghost use Rattle.sctp_association.specs.Sides.{counts_of, end_of, other};
 
-use crate::chunk_type::{ABORT, INIT, SHUTDOWN_COMPLETE};
+use crate::chunk_type::{ABORT, COOKIE_ACK, INIT, NR_SACK, SACK, SHUTDOWN_COMPLETE};
 use crate::counts::SeenPacket;
 use crate::end::{End, Learned};
+use crate::key::Route;
+use crate::packet_number::PacketNumber;
+use crate::transport::Transport;
 use sctp_report::Item;
 
 /// Which end of an association.
@@ -34,18 +38,30 @@ impl Side {
 #[derive(Clone, Copy, Debug)]
 pub struct Began {
     /// Its number.
-    pub packet: u64,
+    pub packet: PacketNumber,
     /// When it was captured, in nanoseconds since 1970-01-01 00:00:00 UTC.
     pub nanoseconds: Option<u64>,
     /// The type of its first chunk.
     pub chunk: Option<u8>,
 }
 
+/// The first packet that shows that an association was established.
+#[derive(Clone, Copy, Debug)]
+pub struct Established {
+    /// Its number.
+    pub packet: PacketNumber,
+    /// When it was captured, in nanoseconds since 1970-01-01 00:00:00 UTC.
+    pub nanoseconds: Option<u64>,
+    /// The chunk's type: a COOKIE ACK (RFC 9260 section 5.1), or else a SACK or an NR-SACK of an end
+    /// to which DATA was sent.
+    pub chunk: u8,
+}
+
 /// What ended an association.
 #[derive(Clone, Copy, Debug)]
 pub struct Ended {
     /// The packet's number.
-    pub packet: u64,
+    pub packet: PacketNumber,
     /// When it was captured, in nanoseconds since 1970-01-01 00:00:00 UTC.
     pub nanoseconds: Option<u64>,
     /// The chunk's type: ABORT or SHUTDOWN COMPLETE.
@@ -61,23 +77,32 @@ pub struct Ended {
 pub struct Association {
     /// Its number: they are counted from 1 on as they begin.
     pub number: u64,
-    /// The number of the association that lived between the same addresses and ports when it began
-    /// (RFC 9260 section 5.2).
+    /// The number of the association that lived between the same ends when it began (RFC 9260
+    /// section 5.2).
     pub restart_of: Option<u64>,
     /// Whether it left the table, which was full, before the capture ended.
     pub has_left: bool,
     /// Whether a filter passes one of its packets.
     pub passes: bool,
+    /// The transport that a log names.
+    pub transport: Transport,
+    /// From where to where its first packet went.
+    pub route: Route,
     /// The end that sent its first packet,
     pub first: End,
     /// and the other one.
     pub second: End,
     /// How it began.
     pub began: Began,
+    /// When it was established, if that was seen.
+    pub established: Option<Established>,
     /// How it ended, if it did.
     pub ended: Option<Ended>,
     /// When its last packet was captured, in nanoseconds since 1970-01-01 00:00:00 UTC.
     pub last: Option<u64>,
+    /// How many packets went between its ends while it lived and were of no association, up to
+    /// 2^64 - 1: their tag was neither end's (RFC 9260 section 8.4).
+    pub out_of_the_blue: u64,
 }
 
 impl Association {
@@ -86,17 +111,40 @@ impl Association {
         self.began.chunk != Some(INIT)
     }
 
-    /// Returns for how long it was seen, in nanoseconds: until it ended, or until its last packet.
+    /// Returns for how long it was seen, in nanoseconds: until it ended, or until its last packet;
+    /// `None` if that isn't known, or is before its first packet.
     pub fn duration(&self) -> Option<u64> {
         let last = match self.ended {
             Some(ended) => ended.nanoseconds?,
             None => self.last?,
         };
-        Some(last.saturating_sub(self.began.nanoseconds?))
+        last.checked_sub(self.began.nanoseconds?)
+    }
+
+    /// Returns how long it took to set up, in nanoseconds: from the first INIT to the COOKIE ACK;
+    /// `None` if one of them wasn't seen, or a time isn't known, or goes back.
+    pub fn setup(&self) -> Option<u64> {
+        let established = self.established?;
+        if self.is_midway() || established.chunk != COOKIE_ACK {
+            return None;
+        }
+        established
+            .nanoseconds?
+            .checked_sub(self.began.nanoseconds?)
+    }
+
+    /// Returns how many INITs both ends sent, up to 2^64 - 1.
+    pub fn inits(&self) -> u64 {
+        self.first
+            .counts
+            .inits
+            .saturating_add(self.second.counts.inits)
     }
 
     /// Returns an end.
-    pub fn end(&self, side: Side) -> &End {
+    pub fn end(&self, side: Side) -> &End
+        ensures { result.now ≡ end_of side self.now }
+    {
         match side {
             Side::First => &self.first,
             Side::Second => &self.second,
@@ -118,12 +166,17 @@ impl Association {
     pub fn note(&mut self, sender: Side, packet: &SeenPacket<'_>)
         ensures sender { CountsPacket (counts_of sender self.old) (packet_of packet.now) (counts_of sender self.new) }
         ensures receiver { counts_of (other sender) self.new ≡ counts_of (other sender) self.old }
+        ensures packets { (counts_of sender self.new).packets ≡ one_more (counts_of sender self.old).packets }
     {
         match sender {
             Side::First => note_between(&mut self.first, &mut self.second, packet),
             Side::Second => note_between(&mut self.second, &mut self.first, packet),
         }
         self.passes |= packet.passes;
+        if self.established.is_none() {
+            let has_data = self.end(sender.other()).counts.data_chunks > 0;
+            self.established = establishing(has_data, packet);
+        }
         if self.ended.is_none() {
             self.ended = ending(sender, packet);
         }
@@ -135,6 +188,7 @@ impl Association {
 fn note_between(sender: &mut End, receiver: &mut End, packet: &SeenPacket<'_>)
     ensures sender { CountsPacket sender.old.counts (packet_of packet.now) sender.new.counts }
     ensures receiver { receiver.new.counts ≡ receiver.old.counts }
+    ensures packets { sender.new.counts.packets ≡ one_more sender.old.counts.packets }
 {
     let (source, destination) = packet.addresses();
     sender.note_address(source);
@@ -144,6 +198,22 @@ fn note_between(sender: &mut End, receiver: &mut End, packet: &SeenPacket<'_>)
         sender.note_sent(packet, chunk);
         receiver.note_received(packet, chunk);
     }
+}
+
+/// Returns how a packet shows that the association is established, if it does: by a COOKIE ACK, or
+/// by a SACK if its receiver has sent DATA.
+fn establishing(has_data: bool, packet: &SeenPacket<'_>) -> Option<Established> {
+    for chunk in packet.chunks() {
+        let is_sack = chunk.first == SACK || chunk.first == NR_SACK;
+        if chunk.first == COOKIE_ACK || is_sack && has_data {
+            return Some(Established {
+                packet: packet.number,
+                nanoseconds: packet.nanoseconds,
+                chunk: chunk.first,
+            });
+        }
+    }
+    None
 }
 
 /// Returns how a packet ends the association, if it does.

@@ -1,167 +1,148 @@
 //! The table of associations.
 
-ghost use Rattle.std.specs.Prelude.{◌≤◌, vec_len, IfOk};
+ghost use Rattle.std.specs.Prelude.{◌≤◌, ◌<◌, ◌≡◌, ◌+◌, ◌-◌, ◌^◌, max, if◌then◌else◌, vec_len, IfOk};
+ghost use Rattle.std.specs.List.{Any};
 ghost use Rattle.std.specs.List.Sorted.{IsNonDecreasingBy};
+ghost use Rattle.std.specs.Option.{IfSome};
+ghost use Rattle.sctp_association.specs.Sides.{HasLeft, SaysOfZero};
+ghost use Rattle.sctp_association.specs.Table.{counted, packets_of, packets_in, packets_left};
 
 use crate::association::{Association, Began, Side};
-use crate::chunk_type::{ABORT, INIT, INIT_ACK, SHUTDOWN_COMPLETE};
-use crate::counts::SeenPacket;
+use crate::chunk_type::COOKIE_ECHO;
+use crate::counts::{SeenPacket, increase};
 use crate::end::{End, Learned};
-use crate::initiation::initiate_tag;
+use crate::key::{Arrival, Route};
+use crate::keys::{Flow, Keys};
 use crate::order::Order;
-use dcsctp_wire::packet::sctp_packet::CommonHeader;
-use sctp_capture::frame::FoundPacket;
-use sctp_report::Item;
+use crate::transport::TransportNames;
 use std::alloc::{AllocError, Global};
-use std::collections::HashMap;
 use std::mem;
-use std::net::IpAddr;
 
-/// How many associations are kept at most: they take some 40 MB.
-pub const MOST_ASSOCIATIONS: usize = 10_000;
-
-/// The bit T of an ABORT's and a SHUTDOWN COMPLETE's flags (RFC 9260 section 8.5.1): the tag is the
-/// sender's own.
-const REFLECTED: u8 = 1;
-
-/// The packets that one end sends to the other: they have these ports and this tag.
-#[derive(Clone, Copy, PartialEq, Eq, Hash, Debug)]
-struct FlowKey {
-    source: u16,
-    destination: u16,
-    tag: u32,
-}
-
-/// Whose packets they are: of the association in a slot of the table, and from which end.
+/// Whose packet a packet is.
 #[derive(Clone, Copy, Debug)]
-struct Flow {
-    slot: usize,
-    sender: Side,
+enum Owner {
+    /// It is of an association, and from this end.
+    Known(Flow),
+    /// It is of an association that left.
+    Gone,
+    /// It is of none, but goes between the ends of the living association in this slot.
+    Beside(usize),
+    /// It begins an association.
+    New,
 }
 
-/// An address, if it is known, and a port.
-#[derive(Clone, Copy, PartialEq, Eq, Hash, Debug)]
-struct Place {
-    address: Option<IpAddr>,
-    port: u16,
-}
-
-/// From where to where the first packet of an association went.
-#[derive(Clone, Copy, PartialEq, Eq, Hash, Debug)]
-struct Route {
-    from: Place,
-    to: Place,
-}
-
-impl Route {
-    /// Returns the way back.
-    fn back(self) -> Route {
-        Route {
-            from: self.to,
-            to: self.from,
-        }
-    }
-}
-
-/// A packet, and by what it is known which association it belongs to.
-#[derive(Clone, Copy)]
-struct Arrival<'a, 'p> {
-    packet: &'p SeenPacket<'a>,
-    key: FlowKey,
-    route: Route,
-    first: Option<Item<'a>>,
-}
-
-impl<'a, 'p> Arrival<'a, 'p> {
-    /// Returns the type of the first chunk.
-    fn chunk(&self) -> Option<u8> {
-        let first = self.first?;
-        Some(first.first)
-    }
-
-    /// Returns whether the tag is the sender's own.
-    fn is_reflected(&self) -> bool {
-        match self.first {
-            Some(chunk) => {
-                (chunk.first == ABORT || chunk.first == SHUTDOWN_COMPLETE)
-                    && chunk.second & REFLECTED != 0
-            }
-            None => false,
-        }
-    }
-
-    /// Returns the tag that an INIT or an INIT ACK gives its sender.
-    fn initiate_tag(&self) -> Option<u32> {
-        let chunk = self.first?;
-        if chunk.first == INIT || chunk.first == INIT_ACK {
-            initiate_tag(chunk.value)
-        } else {
-            None
-        }
-    }
-}
-
-/// The associations of a capture, in bounded memory: at most 10,000 are kept.
+/// The associations of a capture, in bounded memory.
 ///
-/// A packet belongs to the association whose end chose its tag, between the same ports; one with an
-/// unknown tag to the association between the same addresses and ports of which no tag of that end
-/// is known. Packets that are refused, or have a wrong checksum, belong to one as others do.
+/// A packet belongs to the association whose end chose its tag, between the same ports, and of a log
+/// in the same direction and of the same transport. One with an unknown tag belongs to the
+/// association between the same ends of which no tag of that end is known. A packet of an
+/// association that left, or one between the ends of a living association of which it has neither
+/// tag, is of none, and begins none, unless it begins with an INIT. Packets that are refused, or
+/// have a wrong checksum, belong to one as others do.
 #[derive(Drop)]
 pub struct Associations {
     alloc: Global,
+    most: usize,
     begun: u64,
+    left: u64,
+    unknown: u64,
     table: Vec<Box<Association>>,
     order: Order,
-    flows: HashMap<FlowKey, Flow>,
-    // the latest association of each route
-    routes: HashMap<Route, usize>,
-    ghost bounded: { vec_len table ≤ 10_000 },
+    keys: Keys,
+    names: TransportNames,
+    ghost bounded: { vec_len table ≤ most },
 }
 
 impl Associations {
-    ghost use Rattle.sctp_association.specs.Sides.{HasLeft};
-
-    /// Returns none.
-    pub fn new(alloc: Global) -> Result<Associations, AllocError> {
+    /// Returns none; at most `most` will be kept, or one if that is 0.
+    pub fn new(alloc: Global, most: usize) -> Result<Associations, AllocError>
+        ensures { IfOk result (λ r. (r.most ≡ max most 1) × (counted r.table.items r.unknown ≡ 0)) }
+    {
+        let most = most.max(1);
         Ok(Associations {
             alloc,
+            most,
             begun: 0,
+            left: 0,
+            unknown: 0,
             table: Vec::new(alloc),
             order: Order::new(alloc)?,
-            flows: HashMap::new(alloc),
-            routes: HashMap::new(alloc),
+            keys: Keys::new(alloc, most.saturating_mul(4)),
+            names: TransportNames::new(alloc),
         })
     }
 
-    /// Counts a packet. Returns the association that left the table, if it was full and the packet
-    /// begins another.
+    /// Counts a packet, once: of one end of one association, or as unknown. Returns the association
+    /// that left the table, if it was full and the packet begins another.
     pub fn see(&mut self, packet: &SeenPacket<'_>) -> Result<Option<Box<Association>>, AllocError>
-        ensures { IfOk result HasLeft }
+        ensures left { IfOk result HasLeft }
+        ensures counted { counted self.old.table.items self.old.unknown < 2 ^ 64 - 1 → IfOk result (λ left. counted self.new.table.items self.new.unknown + packets_left left ≡ counted self.old.table.items self.old.unknown + 1) }
     {
-        let Some(arrival) = arrival_of(packet) else {
+        let Some(arrival) = Arrival::of(packet, &self.names) else {
+            increase(&mut self.unknown);
             return Ok(None);
         };
+        self.names.keep(arrival.transport, arrival.route.transport)?;
         match self.find(&arrival) {
-            Some(flow) => {
-                self.note(flow, &arrival)?;
-                Ok(None)
-            }
-            None => self.begin(&arrival),
+            Owner::Known(flow) => self.note(flow, &arrival)?,
+            Owner::Gone => increase(&mut self.unknown),
+            Owner::Beside(slot) => self.note_beside(slot),
+            Owner::New => return self.begin(&arrival),
         }
+        Ok(None)
     }
 
     /// Returns whether the end to which a packet goes announced Zero Checksum Acceptable (RFC 9653
     /// section 4); `None` if neither its INIT nor its INIT ACK was seen.
-    pub fn accepts_zero(&self, found: &FoundPacket<'_>) -> Option<bool> {
-        let header = CommonHeader::from_bytes(found.packet)?;
-        let flow = self.flows.get(&key_of(&header))?;
+    pub fn accepts_zero(&self, packet: &SeenPacket<'_>) -> Option<bool>
+        ensures { IfSome result (λ says. Any (λ a. SaysOfZero says a.value) self.now.table.items) }
+    {
+        let arrival = Arrival::of(packet, &self.names)?;
+        let Owner::Known(flow) = self.find(&arrival) else {
+            return None;
+        };
         let association = self.table.get(flow.slot)?;
         association.end(flow.sender.other()).accepts_zero
     }
 
+    /// Returns whether an end of the association of a packet sent DATA, and whether one sent I-DATA.
+    pub fn user_data(&self, packet: &SeenPacket<'_>) -> (bool, bool) {
+        let Some(arrival) = Arrival::of(packet, &self.names) else {
+            return (false, false);
+        };
+        let Owner::Known(flow) = self.find(&arrival) else {
+            return (false, false);
+        };
+        match self.table.get(flow.slot) {
+            Some(association) => {
+                let (first, second) = (&association.first.counts, &association.second.counts);
+                (
+                    first.has_data() || second.has_data(),
+                    first.i_data_chunks > 0 || second.i_data_chunks > 0,
+                )
+            }
+            None => (false, false),
+        }
+    }
+
+    /// Returns how many associations left the table, up to 2^64 - 1.
+    pub fn left(&self) -> u64
+        ensures { result ≡ self.now.left }
+    {
+        self.left
+    }
+
+    /// Returns how many packets are of no association, up to 2^64 - 1: those of associations that
+    /// left, those out of the blue, and those whose common header wasn't captured.
+    pub fn unknown(&self) -> u64
+        ensures { result ≡ self.now.unknown }
+    {
+        self.unknown
+    }
+
     /// Returns those that didn't leave the table, in the order in which they began.
     pub fn into_vec(self) -> Vec<Box<Association>>
-        ensures bounded { vec_len result ≤ MOST_ASSOCIATIONS }
+        ensures bounded { vec_len result ≤ self.most }
         ensures ordered { IsNonDecreasingBy (λ a. a.value.number) result.items }
     {
         let mut associations = self.table;
@@ -169,284 +150,279 @@ impl Associations {
         associations
     }
 
-    /// Returns whose packet it is, if it belongs to an association that is known.
-    fn find(&self, arrival: &Arrival<'_, '_>) -> Option<Flow> {
-        if arrival.chunk() == Some(INIT) {
-            return self.find_init(arrival);
+    /// Returns whose packet it is.
+    fn find(&self, arrival: &Arrival<'_, '_>) -> Owner {
+        if let Some(flow) = self.keys.find(arrival) {
+            return Owner::Known(flow);
+        }
+        if self.keys.is_gone(arrival) {
+            return Owner::Gone;
+        }
+        for sender in [Side::First, Side::Second] {
+            if let Some(slot) = self.keys.on_route(arrival.route, sender) {
+                if self.joins(arrival, slot, sender) {
+                    return Owner::Known(Flow { slot, sender });
+                }
+            }
+        }
+        if arrival.is_init() || !arrival.route.is_exclusive() {
+            return Owner::New;
+        }
+        match self.latest(arrival.route) {
+            Some(slot) if self.lives(slot) => Owner::Beside(slot),
+            _ => Owner::New,
+        }
+    }
+
+    /// Returns whether a packet with an unknown tag is of the latest association on its route, in
+    /// which this end sends on it.
+    fn joins(&self, arrival: &Arrival<'_, '_>, slot: usize, sender: Side) -> bool {
+        let Some(association) = self.table.get(slot) else {
+            return false;
+        };
+        let (from, to) = (association.end(sender), association.end(sender.other()));
+        let is_initiated = !association.is_midway() && association.ended.is_none();
+        if arrival.route.has_equal_ends() && !association.is_midway() {
+            // Its INIT ACK has its tag.
+            return false;
+        }
+        if arrival.is_init() {
+            // Both ends may send an INIT (RFC 9260 section 5.2.1), each with a tag of its own.
+            return is_initiated && from.tag.is_none() && to.tag != arrival.initiate_tag();
         }
         if arrival.is_reflected() {
-            // Before the other way, which has the same key where both ports are the same.
-            return self.find_sender(arrival.key, arrival.key.tag);
+            return false;
         }
-        if let Some(flow) = self.flows.get(&arrival.key) {
-            return Some(*flow);
-        }
-        for sender in [Side::First, Side::Second] {
-            if let Some(slot) = self.find_route(arrival.route, sender) {
-                if self.is_untagged(slot, sender.other()) {
-                    return Some(Flow { slot, sender });
-                }
-            }
-        }
-        None
+        // An INIT that is sent again may be answered by several tags.
+        let is_answer = arrival.chunk() == Some(COOKIE_ECHO)
+            && is_initiated
+            && association.established.is_none();
+        to.tag.is_none() || is_answer
     }
 
-    /// Returns whose INIT it is: of one with the same initiate tag, or of an association that began
-    /// by the other end's INIT (RFC 9260 section 5.2.1).
-    fn find_init(&self, arrival: &Arrival<'_, '_>) -> Option<Flow> {
-        if let Some(tag) = arrival.initiate_tag() {
-            let flow = self.find_sender(arrival.key, tag);
-            if flow.is_some() {
-                return flow;
-            }
-        }
-        for sender in [Side::First, Side::Second] {
-            if let Some(slot) = self.find_route(arrival.route, sender) {
-                if self.is_initiated(slot) && self.is_untagged(slot, sender) {
-                    return Some(Flow { slot, sender });
-                }
-            }
-        }
-        None
+    /// Returns the slot of the latest association on a route, in either direction.
+    fn latest(&self, route: Route) -> Option<usize> {
+        let there = self.keys.on_route(route, Side::First);
+        there.or(self.keys.on_route(route, Side::Second))
     }
 
-    /// Returns the end that has this tag and sends from these ports.
-    fn find_sender(&self, key: FlowKey, tag: u32) -> Option<Flow> {
-        let received = FlowKey {
-            source: key.destination,
-            destination: key.source,
-            tag,
-        };
-        let flow = self.flows.get(&received)?;
-        Some(Flow {
-            slot: flow.slot,
-            sender: flow.sender.other(),
-        })
-    }
-
-    /// Returns the slot of the latest association in which this end sends on a route.
-    fn find_route(&self, route: Route, sender: Side) -> Option<usize> {
-        let first = match sender {
-            Side::First => route,
-            Side::Second => route.back(),
-        };
-        self.routes.get(&first).copied()
-    }
-
-    /// Returns whether no tag of an end is known.
-    fn is_untagged(&self, slot: usize, side: Side) -> bool {
+    /// Returns whether an association didn't end.
+    fn lives(&self, slot: usize) -> bool {
         match self.table.get(slot) {
-            Some(association) => association.end(side).tag.is_none(),
+            Some(association) => association.ended.is_none(),
             None => false,
         }
     }
 
-    /// Returns whether an association began by an INIT and didn't end.
-    fn is_initiated(&self, slot: usize) -> bool {
-        match self.table.get(slot) {
-            Some(association) => !association.is_midway() && association.ended.is_none(),
-            None => false,
-        }
+    /// Counts a packet beside an association.
+    fn note_beside(&mut self, slot: usize)
+        ensures { counted self.old.table.items self.old.unknown < 2 ^ 64 - 1 → counted self.new.table.items self.new.unknown ≡ counted self.old.table.items self.old.unknown + 1 }
+    {
+        increase(&mut self.unknown);
+        count_beside(&mut self.table, slot);
     }
 
     /// Counts a packet of an association.
-    fn note(&mut self, flow: Flow, arrival: &Arrival<'_, '_>) -> Result<(), AllocError> {
-        let (slot, sender) = (flow.slot, flow.sender);
-        let tag = arrival.key.tag;
-        if let Some(initiate_tag) = arrival.initiate_tag() {
-            self.learn(slot, sender, initiate_tag)?;
+    fn note(&mut self, flow: Flow, arrival: &Arrival<'_, '_>) -> Result<(), AllocError>
+        ensures { counted self.old.table.items self.old.unknown < 2 ^ 64 - 1 → IfOk result (λ _. counted self.new.table.items self.new.unknown ≡ counted self.old.table.items self.old.unknown + 1) }
+    {
+        let (sender, receiver) = (flow.sender, flow.sender.other());
+        if let Some(tag) = arrival.initiate_tag() {
+            self.learn(flow.slot, sender, tag)?;
         }
         if arrival.is_reflected() {
-            self.learn(slot, sender, tag)?;
-        } else if tag != 0 {
-            self.learn(slot, sender.other(), tag)?;
+            self.learn(flow.slot, sender, arrival.tag)?;
+        } else if arrival.tag != 0 {
+            self.learn(flow.slot, receiver, arrival.tag)?;
         }
-        let Some(association) = self.table.get_mut(slot) else {
+        let had_ended = !self.lives(flow.slot);
+        if !count_of(&mut self.table, flow, arrival.packet) {
+            increase(&mut self.unknown);
             return Ok(());
-        };
-        let had_ended = association.ended.is_some();
-        association.note(sender, arrival.packet);
-        if !had_ended && association.ended.is_some() {
-            self.order.end(slot);
-        } else if !had_ended {
-            self.order.touch(slot);
+        }
+        if !had_ended {
+            self.note_order(flow.slot);
         }
         Ok(())
     }
 
+    /// Notes that a packet came of an association that lived before it.
+    fn note_order(&mut self, slot: usize)
+        ensures { counted self.new.table.items self.new.unknown ≡ counted self.old.table.items self.old.unknown }
+    {
+        if self.lives(slot) {
+            self.order.touch(slot);
+        } else {
+            self.order.end(slot);
+        }
+    }
+
     /// Notes the tag of an end.
-    fn learn(&mut self, slot: usize, side: Side, tag: u32) -> Result<(), AllocError> {
-        let Some(association) = self.table.get_mut(slot) else {
+    fn learn(&mut self, slot: usize, side: Side, tag: u32) -> Result<(), AllocError>
+        ensures { counted self.new.table.items self.new.unknown ≡ counted self.old.table.items self.old.unknown }
+    {
+        let Some(learned) = learn_tag(&mut self.table, slot, side, tag) else {
             return Ok(());
         };
-        let sender = side.other();
-        let source = association.end(sender).port;
-        let destination = association.end(side).port;
-        let Learned::New { forgotten } = association.learn(side, tag) else {
+        let Learned::New { forgotten } = learned.what else {
             return Ok(());
         };
-        self.forget_flow(slot, source, destination, forgotten);
-        let key = FlowKey {
-            source,
-            destination,
-            tag,
+        let flow = Flow {
+            slot,
+            sender: side.other(),
         };
-        self.flows.insert(key, Flow { slot, sender })?;
-        Ok(())
+        if let Some(forgotten) = forgotten {
+            let _ = self.keys.forget_flow(learned.route, flow, forgotten);
+        }
+        self.keys.add_flow(learned.route, flow, tag)
     }
 
     /// Begins an association by a packet. Returns the one that left the table, if it was full.
     fn begin(&mut self, arrival: &Arrival<'_, '_>) -> Result<Option<Box<Association>>, AllocError>
-        ensures { IfOk result HasLeft }
+        ensures left { IfOk result HasLeft }
+        ensures counted { counted self.old.table.items self.old.unknown < 2 ^ 64 - 1 → IfOk result (λ left. counted self.new.table.items self.new.unknown + packets_left left ≡ counted self.old.table.items self.old.unknown + 1) }
     {
-        let (route, packet) = (arrival.route, arrival.packet);
         let restart_of = self.restarted(arrival);
         self.begun = self.begun.saturating_add(1);
-        let association = Box::new(
-            self.alloc,
-            Association {
-                number: self.begun,
-                restart_of,
-                has_left: false,
-                passes: false,
-                first: End::new(route.from.address, route.from.port),
-                second: End::new(route.to.address, route.to.port),
-                began: Began {
-                    packet: packet.number,
-                    nanoseconds: packet.nanoseconds,
-                    chunk: arrival.chunk(),
-                },
-                ended: None,
-                last: packet.nanoseconds,
-            },
-        )?;
+        let association = Box::new(self.alloc, begun_by(arrival, self.begun, restart_of))?;
         let (slot, left) = self.place(association)?;
-        let _ = self.routes.remove(&route.back());
-        self.routes.insert(route, slot)?;
+        self.keys.add_route(arrival.route, slot)?;
         let sender = Side::First;
         self.note(Flow { slot, sender }, arrival)?;
         Ok(left)
     }
 
-    /// Returns the number of the association that an INIT restarts: one that lives between the same
-    /// addresses and ports.
+    /// Returns the number of the association that an INIT restarts: one that was established between
+    /// the same ends, and lives.
     fn restarted(&self, arrival: &Arrival<'_, '_>) -> Option<u64> {
-        if arrival.chunk() != Some(INIT) || arrival.route.from.address.is_none() {
+        if !arrival.is_init() || !arrival.route.is_exclusive() {
             return None;
         }
-        let there = self.find_route(arrival.route, Side::First);
-        let slot = there.or(self.find_route(arrival.route, Side::Second))?;
-        let association = self.table.get(slot)?;
-        if association.ended.is_some() {
+        let association = self.table.get(self.latest(arrival.route)?)?;
+        let was_established = association.is_midway() || association.established.is_some();
+        if association.ended.is_some() || !was_established {
             return None;
         }
         Some(association.number)
     }
 
-    /// Puts an association into the table. Returns its slot, and the one that left the table, if it
-    /// was full.
+    /// Puts an association without packets into the table. Returns its slot, and the one that left
+    /// the table, if it was full.
     fn place(
         &mut self,
         association: Box<Association>,
     ) -> Result<(usize, Option<Box<Association>>), AllocError>
-        ensures { IfOk result (λ placed. HasLeft placed.1) }
+        requires { packets_of association.value ≡ 0 }
+        ensures left { IfOk result (λ placed. HasLeft placed.1) }
+        ensures counted { IfOk result (λ placed. counted self.new.table.items self.new.unknown + packets_left placed.1 ≡ counted self.old.table.items self.old.unknown) }
     {
-        if self.table.len() < MOST_ASSOCIATIONS {
+        if self.table.len() < self.most {
             let slot = self.table.len();
             self.table.push(association)?;
             self.order.add()?;
             return Ok((slot, None));
         }
         let slot = self.order.first();
-        self.forget(slot);
+        if let Some(leaving) = self.table.get(slot) {
+            self.keys.forget(slot, leaving)?;
+        }
         self.order.touch(slot);
-        let Some(place) = self.table.get_mut(slot) else {
-            return Ok((slot, None));
-        };
-        let mut left = mem::replace(place, association);
-        left.has_left = true;
-        Ok((slot, Some(left)))
-    }
-
-    /// Forgets how the packets of an association are known.
-    fn forget(&mut self, slot: usize) {
-        let Some(association) = self.table.get(slot) else {
-            return;
-        };
-        let route = Route {
-            from: place_of(&association.first),
-            to: place_of(&association.second),
-        };
-        let to_second = [association.second.tag, association.second.other_tag];
-        let to_first = [association.first.tag, association.first.other_tag];
-        if self.routes.get(&route).copied() == Some(slot) {
-            let _ = self.routes.remove(&route);
+        let left = replace(&mut self.table, slot, association);
+        if left.is_some() {
+            increase(&mut self.left);
         }
-        let (first, second) = (route.from.port, route.to.port);
-        for tag in to_second {
-            self.forget_flow(slot, first, second, tag);
-        }
-        for tag in to_first {
-            self.forget_flow(slot, second, first, tag);
-        }
-    }
-
-    /// Forgets that packets between these ports with this tag, if it is one, are of the association
-    /// in a slot.
-    fn forget_flow(&mut self, slot: usize, source: u16, destination: u16, tag: Option<u32>) {
-        let Some(tag) = tag else {
-            return;
-        };
-        let key = FlowKey {
-            source,
-            destination,
-            tag,
-        };
-        let is_of_it = match self.flows.get(&key) {
-            Some(flow) => flow.slot == slot,
-            None => false,
-        };
-        if is_of_it {
-            let _ = self.flows.remove(&key);
-        }
+        Ok((slot, left))
     }
 }
 
-/// Returns the first address of an end, and its port.
-fn place_of(end: &End) -> Place {
-    Place {
-        address: end.addresses[0],
-        port: end.port,
-    }
-}
-
-/// Returns the ports and the tag of a packet.
-fn key_of(header: &CommonHeader) -> FlowKey {
-    FlowKey {
-        source: header.source_port,
-        destination: header.destination_port,
-        tag: header.verification_tag,
-    }
-}
-
-/// Returns by what it is known which association a packet belongs to; `None` if its common header
-/// wasn't captured.
-fn arrival_of<'a, 'p>(packet: &'p SeenPacket<'a>) -> Option<Arrival<'a, 'p>> {
-    let header = CommonHeader::from_bytes(packet.found.packet)?;
-    let (source, destination) = packet.addresses();
-    Some(Arrival {
-        packet,
-        key: key_of(&header),
-        route: Route {
-            from: Place {
-                address: source,
-                port: header.source_port,
-            },
-            to: Place {
-                address: destination,
-                port: header.destination_port,
-            },
+/// Returns an association that a packet begins, without packets.
+fn begun_by(arrival: &Arrival<'_, '_>, number: u64, restart_of: Option<u64>) -> Association
+    ensures { packets_of result ≡ 0 }
+{
+    let (route, packet) = (arrival.route, arrival.packet);
+    Association {
+        number,
+        restart_of,
+        has_left: false,
+        passes: false,
+        transport: arrival.transport,
+        route,
+        first: End::new(route.from.address, route.from.port),
+        second: End::new(route.to.address, route.to.port),
+        began: Began {
+            packet: packet.number,
+            nanoseconds: packet.nanoseconds,
+            chunk: arrival.chunk(),
         },
-        first: packet.chunks().next(),
+        established: None,
+        ended: None,
+        last: packet.nanoseconds,
+        out_of_the_blue: 0,
+    }
+}
+
+/// What an association learned of a tag, and its route.
+#[derive(Clone, Copy)]
+struct LearnedTag {
+    what: Learned,
+    route: Route,
+}
+
+/// Notes the tag of an end of the association in a slot, if there is one.
+fn learn_tag(
+    table: &mut Vec<Box<Association>>,
+    slot: usize,
+    side: Side,
+    tag: u32,
+) -> Option<LearnedTag>
+    ensures size { vec_len table.new ≡ vec_len table.old }
+    ensures packets { packets_in table.new.items ≡ packets_in table.old.items }
+{
+    let association = table.get_mut(slot)?;
+    let what = association.learn(side, tag);
+    Some(LearnedTag {
+        what,
+        route: association.route,
     })
+}
+
+/// Counts a packet of the association in a slot. Returns whether there is one.
+fn count_of(table: &mut Vec<Box<Association>>, flow: Flow, packet: &SeenPacket<'_>) -> bool
+    ensures size { vec_len table.new ≡ vec_len table.old }
+    ensures packets { packets_in table.old.items < 2 ^ 64 - 1 → packets_in table.new.items ≡ packets_in table.old.items + (if result then 1 else 0) }
+{
+    match table.get_mut(flow.slot) {
+        Some(association) => {
+            association.note(flow.sender, packet);
+            true
+        }
+        None => false,
+    }
+}
+
+/// Counts a packet beside the association in a slot, if there is one.
+fn count_beside(table: &mut Vec<Box<Association>>, slot: usize)
+    ensures size { vec_len table.new ≡ vec_len table.old }
+    ensures packets { packets_in table.new.items ≡ packets_in table.old.items }
+{
+    if let Some(association) = table.get_mut(slot) {
+        increase(&mut association.out_of_the_blue);
+    }
+}
+
+/// Puts an association without packets into a slot. Returns the one that leaves it, if there is one.
+fn replace(
+    table: &mut Vec<Box<Association>>,
+    slot: usize,
+    association: Box<Association>,
+) -> Option<Box<Association>>
+    requires { packets_of association.value ≡ 0 }
+    ensures size { vec_len table.new ≡ vec_len table.old }
+    ensures left { HasLeft result }
+    ensures packets { packets_in table.new.items + packets_left result ≡ packets_in table.old.items }
+{
+    let place = table.get_mut(slot)?;
+    let mut left = mem::replace(place, association);
+    left.has_left = true;
+    Some(left)
 }

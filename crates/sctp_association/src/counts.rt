@@ -3,24 +3,30 @@
 ghost use Rattle.std.specs.Prelude.{◌≡◌};
 ghost use Rattle.sctp_report.specs.Part.{item_of};
 ghost use Rattle.sctp_capture.specs.Number.{one_more};
-ghost use Rattle.sctp_association.specs.Counts.{nothing, with_chunk, with_data, with_sack, with_header, with_window, CountsChunks, CountsPacket, packet_of};
+ghost use Rattle.sctp_association.specs.Counts.{nothing, with_chunk, with_data, with_i_data, with_forward_tsn, with_sack, with_nr_sack, with_report, with_header, with_window, CountsChunks, CountsPacket, packet_of};
 
-use crate::chunk_type::{DATA, HEARTBEAT, I_DATA, SACK};
+use crate::chunk_type::{DATA, FORWARD_TSN, HEARTBEAT, I_DATA, I_FORWARD_TSN, INIT, NR_SACK, SACK};
+use crate::packet_number::PacketNumber;
 use dcsctp_wire::packet::sctp_packet::COMMON_HEADER_SIZE;
 use dcsctp_wire::packet::{read_u16_be, read_u32_be};
 use sctp_capture::frame::{Addresses, FoundPacket};
+use sctp_capture::line::Direction;
 use sctp_report::{Checksum, Item, Items, Part};
 use std::net::{IpAddr, Ipv4Addr, Ipv6Addr};
 
 /// A packet of a capture.
 #[derive(Clone, Copy, Debug)]
 pub struct SeenPacket<'a> {
-    /// Its number in the capture.
-    pub number: u64,
+    /// Its number.
+    pub number: PacketNumber,
     /// When it was captured, in nanoseconds since 1970-01-01 00:00:00 UTC.
     pub nanoseconds: Option<u64>,
     /// The packet.
     pub found: FoundPacket<'a>,
+    /// Where it went, if that is known: in a log.
+    pub direction: Option<Direction>,
+    /// The name of its transport in a log; empty if it has none.
+    pub transport: &'a [u8],
     /// What is known of its checksum field.
     pub checksum: Checksum,
     /// Whether it was refused.
@@ -71,7 +77,7 @@ pub struct LeastWindow {
     /// The window (RFC 9260 section 3.3.4).
     pub a_rwnd: u32,
     /// The packet's number.
-    pub packet: u64,
+    pub packet: PacketNumber,
 }
 
 /// What is counted of the packets that one end sent, up to 2^64 - 1 each.
@@ -85,11 +91,19 @@ pub struct Counts {
     pub zero: u64,
     /// and those whose field is wrong.
     pub wrong: u64,
+    /// INIT chunks.
+    pub inits: u64,
     /// DATA and I-DATA chunks,
     pub data_chunks: u64,
+    /// those of them that are I-DATA,
+    pub i_data_chunks: u64,
     /// and the bytes of user data in them.
     pub data_bytes: u64,
-    /// SACK chunks,
+    /// FORWARD-TSN and I-FORWARD-TSN chunks,
+    pub forward_tsns: u64,
+    /// and the streams that they list: a message was abandoned in each.
+    pub abandoned: u64,
+    /// SACK and NR-SACK chunks,
     pub sacks: u64,
     /// those that report a gap,
     pub sacks_with_gaps: u64,
@@ -109,8 +123,12 @@ impl Counts {
             refused: 0,
             zero: 0,
             wrong: 0,
+            inits: 0,
             data_chunks: 0,
+            i_data_chunks: 0,
             data_bytes: 0,
+            forward_tsns: 0,
+            abandoned: 0,
             sacks: 0,
             sacks_with_gaps: 0,
             least_window: None,
@@ -118,9 +136,15 @@ impl Counts {
         }
     }
 
+    /// Returns whether there was DATA, beside I-DATA.
+    pub fn has_data(&self) -> bool {
+        self.data_chunks > self.i_data_chunks
+    }
+
     /// Counts a packet and its chunks, as far as they can be read.
     pub fn count_packet(&mut self, packet: &SeenPacket<'_>)
-        ensures { CountsPacket self.old (packet_of packet.now) self.new }
+        ensures chunks { CountsPacket self.old (packet_of packet.now) self.new }
+        ensures packets { self.new.packets ≡ one_more self.old.packets }
     {
         self.count_header(packet.checksum, packet.is_refused);
         self.count_chunks(packet.number, packet.chunks());
@@ -142,8 +166,9 @@ impl Counts {
     }
 
     /// Counts chunks of the packet of this number.
-    fn count_chunks(&mut self, number: u64, chunks: Items<'_>)
-        ensures { CountsChunks number self.old chunks.entry self.new }
+    fn count_chunks(&mut self, number: PacketNumber, chunks: Items<'_>)
+        ensures chunks { CountsChunks number self.old chunks.entry self.new }
+        ensures packets { self.new.packets ≡ self.old.packets }
     {
         for chunk in chunks {
             self.count_chunk(number, chunk);
@@ -151,14 +176,20 @@ impl Counts {
     }
 
     /// Counts a chunk of the packet of this number.
-    fn count_chunk(&mut self, number: u64, chunk: Item<'_>)
-        ensures { self.new ≡ with_chunk number self.old (item_of chunk.entry) }
+    fn count_chunk(&mut self, number: PacketNumber, chunk: Item<'_>)
+        ensures chunk { self.new ≡ with_chunk number self.old (item_of chunk.entry) }
+        ensures packets { self.new.packets ≡ self.old.packets }
     {
+        let size = chunk.value.size;
         match chunk.first {
-            DATA => self.count_data(chunk.value.size.saturating_sub(12)),
-            I_DATA => self.count_data(chunk.value.size.saturating_sub(16)),
+            DATA => self.count_data(size.saturating_sub(12)),
+            I_DATA => self.count_i_data(size.saturating_sub(16)),
+            INIT => increase(&mut self.inits),
             SACK => self.count_sack(number, chunk.value.bytes),
+            NR_SACK => self.count_nr_sack(number, chunk.value.bytes),
             HEARTBEAT => increase(&mut self.heartbeats),
+            FORWARD_TSN => self.count_forward_tsn(size.saturating_sub(4) / 4),
+            I_FORWARD_TSN => self.count_forward_tsn(size.saturating_sub(4) / 8),
             _ => {}
         }
     }
@@ -171,24 +202,59 @@ impl Counts {
         self.data_bytes = self.data_bytes.saturating_add(size as u64);
     }
 
+    /// Counts an I-DATA with this many bytes of user data.
+    fn count_i_data(&mut self, size: usize)
+        ensures { self.new ≡ with_i_data self.old size }
+    {
+        increase(&mut self.i_data_chunks);
+        self.count_data(size);
+    }
+
+    /// Counts a FORWARD-TSN or an I-FORWARD-TSN that lists this many streams.
+    fn count_forward_tsn(&mut self, streams: usize)
+        ensures { self.new ≡ with_forward_tsn self.old streams }
+    {
+        increase(&mut self.forward_tsns);
+        self.abandoned = self.abandoned.saturating_add(streams as u64);
+    }
+
     /// Counts a SACK with this value, as far as it was captured.
-    fn count_sack(&mut self, number: u64, value: &[u8])
+    fn count_sack(&mut self, number: PacketNumber, value: &[u8])
         ensures { self.new ≡ with_sack number self.old value.now }
     {
         increase(&mut self.sacks);
         if value.len() < 12 {
             return;
         }
-        if read_u16_be(&value[8..]) > 0 {
+        let has_gaps = read_u16_be(&value[8..]) > 0;
+        self.count_report(number, read_u32_be(&value[4..]), has_gaps);
+    }
+
+    /// Counts an NR-SACK with this value, as far as it was captured.
+    fn count_nr_sack(&mut self, number: PacketNumber, value: &[u8])
+        ensures { self.new ≡ with_nr_sack number self.old value.now }
+    {
+        increase(&mut self.sacks);
+        if value.len() < 16 {
+            return;
+        }
+        let has_gaps = read_u16_be(&value[8..]) > 0 || read_u16_be(&value[10..]) > 0;
+        self.count_report(number, read_u32_be(&value[4..]), has_gaps);
+    }
+
+    /// Counts what a SACK says of gaps and of the window.
+    fn count_report(&mut self, number: PacketNumber, a_rwnd: u32, has_gaps: bool)
+        ensures { self.new ≡ with_report number self.old a_rwnd has_gaps }
+    {
+        if has_gaps {
             increase(&mut self.sacks_with_gaps);
         }
-        let a_rwnd = read_u32_be(&value[4..]);
         self.least_window = least_of(self.least_window, a_rwnd, number);
     }
 }
 
 /// Returns the lesser of two windows, and of equal ones the first.
-fn least_of(least: Option<LeastWindow>, a_rwnd: u32, packet: u64) -> Option<LeastWindow>
+fn least_of(least: Option<LeastWindow>, a_rwnd: u32, packet: PacketNumber) -> Option<LeastWindow>
     ensures { result ≡ with_window least a_rwnd packet }
 {
     match least {

@@ -3,12 +3,19 @@
 ghost use Rattle.std.specs.Prelude.{◌≡◌};
 ghost use Rattle.sctp_association.specs.Counts.{nothing};
 
-use crate::chunk_type::{DATA, HEARTBEAT, HEARTBEAT_ACK, I_DATA, INIT, INIT_ACK, SACK};
+use crate::acknowledgement::Acknowledgement;
+use crate::chunk_type::{
+    DATA, FORWARD_TSN, HEARTBEAT, HEARTBEAT_ACK, I_DATA, I_FORWARD_TSN, INIT, INIT_ACK, NR_SACK,
+    RE_CONFIG, SACK,
+};
 use crate::counts::{Counts, SeenPacket};
-use crate::heartbeats::Heartbeats;
 use crate::initiation::accepts_zero;
+use crate::packet_number::PacketNumber;
+use crate::requests::Requests;
 use crate::round_trips::RoundTrips;
+use crate::serial::is_after;
 use crate::tsns::Tsns;
+use crate::unanswered::{Unanswered, digest};
 use dcsctp_wire::packet::read_u32_be;
 use sctp_report::Item;
 use std::net::IpAddr;
@@ -19,19 +26,33 @@ const MOST_ADDRESSES: usize = 4;
 /// The last TSN that the other end acknowledged, and the first packet that did.
 #[derive(Clone, Copy, Debug, PartialEq, Eq)]
 pub struct Acknowledged {
-    /// The greatest Cumulative TSN Ack (RFC 9260 section 3.3.4).
+    /// The greatest Cumulative TSN Ack (RFC 9260 sections 3.3.4 and 3.3.8).
     pub tsn: u32,
     /// The packet's number.
-    pub packet: u64,
+    pub packet: PacketNumber,
+}
+
+/// What an end gave up: the other end is to wait for it no longer (RFC 3758 section 3.2, RFC 8260
+/// section 2.3.1).
+#[derive(Clone, Copy, Debug, PartialEq, Eq)]
+pub struct Skipped {
+    /// The greatest new cumulative TSN of its FORWARD-TSNs and I-FORWARD-TSNs,
+    pub tsn: u32,
+    /// and the first packet that had it.
+    pub packet: PacketNumber,
+    /// How many TSNs they skipped, up to 2^64 - 1: for each, how far its new cumulative TSN lies
+    /// beyond all that was acknowledged or skipped before; where nothing was, beyond the TSN before
+    /// the first one that was seen.
+    pub count: u64,
 }
 
 /// The packets in which an end had no room.
 #[derive(Clone, Copy, Debug, PartialEq, Eq)]
 pub struct Closed {
     /// The number of the first SACK with an a_rwnd of 0,
-    pub first: u64,
+    pub first: PacketNumber,
     /// and that of the last one.
-    pub last: u64,
+    pub last: PacketNumber,
 }
 
 /// One end of an association, and what it sent.
@@ -57,10 +78,14 @@ pub struct End {
     pub tsns: Tsns,
     /// What of them the other end acknowledged.
     pub acknowledged: Option<Acknowledged>,
+    /// What of them it skipped.
+    pub skipped: Option<Skipped>,
     /// When it had no room, if it ever said so.
     pub closed: Option<Closed>,
     /// Its HEARTBEATs that weren't answered.
-    pub heartbeats: Heartbeats,
+    pub heartbeats: Unanswered,
+    /// Its requests to reconfigure streams.
+    pub requests: Requests,
     /// The round trips of its DATA.
     pub round_trips: RoundTrips,
 }
@@ -92,8 +117,10 @@ impl End {
             counts: Counts::new(),
             tsns: Tsns::new(),
             acknowledged: None,
+            skipped: None,
             closed: None,
-            heartbeats: Heartbeats::new(),
+            heartbeats: Unanswered::new(),
+            requests: Requests::new(),
             round_trips: RoundTrips::new(),
         }
     }
@@ -140,8 +167,14 @@ impl End {
         let value = chunk.value.bytes;
         match chunk.first {
             DATA | I_DATA if value.len() >= 4 => self.note_tsn(packet, read_u32_be(value)),
-            SACK if value.len() >= 8 => self.note_window(read_u32_be(&value[4..]), packet.number),
-            HEARTBEAT => self.heartbeats.note(value, packet.number),
+            SACK | NR_SACK if value.len() >= 8 => {
+                self.note_window(read_u32_be(&value[4..]), packet.number);
+            }
+            FORWARD_TSN | I_FORWARD_TSN if value.len() >= 4 => {
+                self.note_skipped(read_u32_be(value), packet.number);
+            }
+            HEARTBEAT => self.heartbeats.ask(digest(value), packet.number),
+            RE_CONFIG => self.requests.note_sent(chunk.value, packet.number),
             INIT | INIT_ACK => self.accepts_zero = accepts_zero(chunk.value).or(self.accepts_zero),
             _ => {}
         }
@@ -151,22 +184,22 @@ impl End {
     pub fn note_received(&mut self, packet: &SeenPacket<'_>, chunk: Item<'_>)
         ensures { self.new.counts ≡ self.old.counts }
     {
-        let value = chunk.value.bytes;
-        if chunk.first == SACK && value.len() >= 4 {
-            self.note_acknowledged(read_u32_be(value), packet.number);
-        }
-        match (chunk.first, packet.nanoseconds) {
-            (SACK, Some(nanoseconds)) => {
+        if let Some(acknowledged) = Acknowledgement::of(chunk) {
+            self.note_acknowledged(acknowledged.cumulative, packet.number);
+            if let Some(nanoseconds) = packet.nanoseconds {
                 self.round_trips
-                    .acknowledge(value, nanoseconds, packet.number);
+                    .acknowledge(acknowledged, nanoseconds, packet.number);
             }
-            (HEARTBEAT_ACK, _) => self.heartbeats.answer(value),
+        }
+        match chunk.first {
+            HEARTBEAT_ACK => self.heartbeats.answer(digest(chunk.value.bytes)),
+            RE_CONFIG => self.requests.note_received(chunk.value),
             _ => {}
         }
     }
 
     /// Notes the window of a SACK that this end sent (RFC 9260 section 3.3.4).
-    fn note_window(&mut self, a_rwnd: u32, packet: u64)
+    fn note_window(&mut self, a_rwnd: u32, packet: PacketNumber)
         ensures { self.new.counts ≡ self.old.counts }
     {
         if a_rwnd > 0 {
@@ -182,16 +215,64 @@ impl End {
         });
     }
 
-    /// Notes a Cumulative TSN Ack, if it is beyond the one before (RFC 9260 section 1.6).
-    fn note_acknowledged(&mut self, tsn: u32, packet: u64)
+    /// Notes a Cumulative TSN Ack, if it is beyond the one before.
+    fn note_acknowledged(&mut self, tsn: u32, packet: PacketNumber)
         ensures { self.new.counts ≡ self.old.counts }
     {
         if let Some(known) = self.acknowledged {
-            if !(1..1 << 31).contains(&tsn.wrapping_sub(known.tsn)) {
+            if !is_after(tsn, known.tsn) {
                 return;
             }
         }
         self.acknowledged = Some(Acknowledged { tsn, packet });
+    }
+
+    /// Notes a new cumulative TSN: those up to it are skipped.
+    fn note_skipped(&mut self, tsn: u32, packet: PacketNumber)
+        ensures { self.new.counts ≡ self.old.counts }
+    {
+        let advance = match self.reached() {
+            Some(reached) if is_after(tsn, reached) => u64::from(tsn.wrapping_sub(reached)),
+            _ => 0,
+        };
+        self.round_trips.leave_to(tsn);
+        self.skipped = match self.skipped {
+            Some(skipped) if !is_after(tsn, skipped.tsn) => Some(skipped),
+            Some(skipped) => {
+                Some(Skipped {
+                    tsn,
+                    packet,
+                    count: skipped.count.saturating_add(advance),
+                })
+            }
+            None => {
+                Some(Skipped {
+                    tsn,
+                    packet,
+                    count: advance,
+                })
+            }
+        };
+    }
+
+    /// Returns the last TSN that was acknowledged or skipped; where none was, the one before the
+    /// first that was seen.
+    fn reached(&self) -> Option<u32> {
+        match (self.acknowledged, self.skipped) {
+            (Some(acknowledged), Some(skipped)) => {
+                if is_after(skipped.tsn, acknowledged.tsn) {
+                    Some(skipped.tsn)
+                } else {
+                    Some(acknowledged.tsn)
+                }
+            }
+            (Some(acknowledged), None) => Some(acknowledged.tsn),
+            (None, Some(skipped)) => Some(skipped.tsn),
+            (None, None) => {
+                let (first, _) = self.tsns.span()?;
+                Some(first.wrapping_sub(1))
+            }
+        }
     }
 
     /// Notes a TSN that this end sent.

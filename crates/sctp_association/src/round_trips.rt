@@ -1,9 +1,11 @@
-//! Round trips: from a DATA chunk to the SACK that first acknowledges it.
+//! Round trips: from a DATA chunk to the chunk that first acknowledges it.
 
 ghost use Rattle.std.specs.Prelude.{◌≤◌, ◌<◌, ◌+◌, ◌*◌, length};
 
+use crate::acknowledgement::Acknowledgement;
 use crate::counts::increase;
-use dcsctp_wire::packet::{read_u16_be, read_u32_be};
+use crate::packet_number::PacketNumber;
+use crate::serial::is_after;
 
 /// How many TSNs are waited for at a time.
 const MOST: usize = 16;
@@ -19,8 +21,9 @@ const BUCKETS: usize = 192;
 
 /// The round trips of one end's DATA, up to 2^64 - 1 of them.
 ///
-/// A TSN that was sent again is no sample (Karn's rule, RFC 9260 section 6.3.1). At most 16 TSNs
-/// are waited for at a time; those that are sent meanwhile are no samples either.
+/// A TSN that was sent again is no sample (Karn's rule, RFC 9260 section 6.3.1), nor is one that a
+/// FORWARD-TSN skips. At most 16 TSNs are waited for at a time; those that are sent meanwhile are no
+/// samples either.
 #[derive(Clone, Debug, Drop)]
 pub struct RoundTrips {
     /// How many there were.
@@ -31,8 +34,8 @@ pub struct RoundTrips {
     pub greatest: u64,
     /// its TSN,
     pub greatest_tsn: u32,
-    /// and the number of the first packet that ended it.
-    pub greatest_packet: u64,
+    /// and the first packet that ended it.
+    pub greatest_packet: Option<PacketNumber>,
     waiting: [Sent; MOST],
     buckets: [u32; BUCKETS],
 }
@@ -58,7 +61,7 @@ impl RoundTrips {
             least: 0,
             greatest: 0,
             greatest_tsn: 0,
-            greatest_packet: 0,
+            greatest_packet: None,
             waiting: [none; MOST],
             buckets: [0; BUCKETS],
         }
@@ -87,12 +90,26 @@ impl RoundTrips {
         }
     }
 
-    /// Ends the round trips of the TSNs that a SACK with this value acknowledges, in the packet of
-    /// this number.
-    pub fn acknowledge(&mut self, value: &[u8], nanoseconds: u64, packet: u64) {
+    /// Doesn't wait any longer for a TSN up to the new cumulative one of a FORWARD-TSN.
+    pub fn leave_to(&mut self, cumulative: u32) {
+        for sent in self.waiting.iter_mut() {
+            if !is_after(sent.tsn, cumulative) {
+                sent.is_waiting = false;
+            }
+        }
+    }
+
+    /// Ends the round trips of the TSNs that are acknowledged in the packet of this number. One that
+    /// would end before it began is no sample.
+    pub fn acknowledge(
+        &mut self,
+        acknowledged: Acknowledgement<'_>,
+        nanoseconds: u64,
+        packet: PacketNumber,
+    ) {
         for place in 0..MOST {
             let sent = self.waiting[place];
-            if sent.is_waiting && is_acknowledged(value, sent.tsn) {
+            if sent.is_waiting && acknowledged.has(sent.tsn) {
                 self.waiting[place].is_waiting = false;
                 if sent.nanoseconds <= nanoseconds {
                     self.count(nanoseconds - sent.nanoseconds, sent.tsn, packet);
@@ -102,14 +119,14 @@ impl RoundTrips {
     }
 
     /// Counts the round trip of a TSN.
-    fn count(&mut self, nanoseconds: u64, tsn: u32, packet: u64) {
+    fn count(&mut self, nanoseconds: u64, tsn: u32, packet: PacketNumber) {
         if self.count == 0 || nanoseconds < self.least {
             self.least = nanoseconds;
         }
         if self.count == 0 || nanoseconds > self.greatest {
             self.greatest = nanoseconds;
             self.greatest_tsn = tsn;
-            self.greatest_packet = packet;
+            self.greatest_packet = Some(packet);
         }
         increase(&mut self.count);
         let bucket = bucket_of(nanoseconds / UNIT);
@@ -157,29 +174,4 @@ fn middle_of(bucket: usize) -> u64
         width = width.saturating_mul(2);
     }
     width.saturating_mul(first as u64).saturating_add(width / 2)
-}
-
-/// Returns whether a SACK with this value, as far as it was captured, acknowledges a TSN
-/// (RFC 9260 section 3.3.4).
-fn is_acknowledged(value: &[u8], tsn: u32) -> bool {
-    if value.len() < 12 {
-        return false;
-    }
-    let offset = tsn.wrapping_sub(read_u32_be(value));
-    if offset == 0 || offset >= 0x8000_0000 {
-        return true;
-    }
-    let count = read_u16_be(&value[8..]) as usize;
-    for block in 0..count {
-        let place = 12 + 4 * block;
-        if value.len() < place + 4 {
-            return false;
-        }
-        let start = u32::from(read_u16_be(&value[place..]));
-        let end = u32::from(read_u16_be(&value[place + 2..]));
-        if start <= offset && offset <= end {
-            return true;
-        }
-    }
-    false
 }

@@ -1,8 +1,12 @@
 //! The TSNs of the DATA that one end sent: which were repeated, and which were never seen.
 
-ghost use Rattle.std.specs.Prelude.{◌<◌};
+ghost use Rattle.std.specs.Prelude.{◌≡◌, ◌≤◌, ◌/◌, ◌%◌, ◌^◌, ◌⊎◌, ◌↔◌, IsTrue};
+ghost use Rattle.sctp_association.specs.Serial.{ahead};
+ghost use Rattle.sctp_association.specs.Tsns.{IsMarked, WasSeen};
 
 use crate::counts::increase;
+use crate::packet_number::PacketNumber;
+use crate::serial::is_after;
 
 /// How many TSNs up to the greatest one are remembered one by one.
 const WINDOW: u32 = 2_048;
@@ -10,7 +14,7 @@ const WINDOW: u32 = 2_048;
 /// How many words hold a bit for each of them.
 const WORDS: usize = 32;
 
-/// The TSNs that one end sent (RFC 9260 sections 1.6 and 3.3.1), with counts up to 2^64 - 1.
+/// The TSNs that one end sent (RFC 9260 sections 2.6 and 3.3.1), with counts up to 2^64 - 1.
 #[derive(Clone, Debug, Drop)]
 pub struct Tsns {
     span: Option<Span>,
@@ -18,8 +22,8 @@ pub struct Tsns {
     pub repeated: u64,
     /// The first of them,
     pub first_repeated_tsn: u32,
-    /// and the number of its packet, or 0.
-    pub first_repeated: u64,
+    /// and its packet, if there is one.
+    pub first_repeated: Option<PacketNumber>,
     /// How many between the first and the last one were not seen.
     pub missing: u64,
     // which of the last `WINDOW` TSNs were seen, by their remainders
@@ -40,7 +44,7 @@ impl Tsns {
             span: None,
             repeated: 0,
             first_repeated_tsn: 0,
-            first_repeated: 0,
+            first_repeated: None,
             missing: 0,
             seen: [0; WORDS],
         }
@@ -53,7 +57,9 @@ impl Tsns {
     }
 
     /// Notes a TSN of the packet of this number, and returns whether it is the first time.
-    pub fn note(&mut self, tsn: u32, number: u64) -> bool {
+    pub fn note(&mut self, tsn: u32, number: PacketNumber) -> bool
+        ensures { IsTrue result ↔ ¬ (WasSeen self.old tsn) }
+    {
         let Some(span) = self.span else {
             self.span = Some(Span {
                 first: tsn,
@@ -62,9 +68,8 @@ impl Tsns {
             self.mark(tsn);
             return true;
         };
-        let ahead = tsn.wrapping_sub(span.last);
-        if ahead != 0 && ahead < 0x8000_0000 {
-            self.advance(span, ahead);
+        if is_after(tsn, span.last) {
+            self.advance(span, tsn.wrapping_sub(span.last));
             self.mark(tsn);
             return true;
         }
@@ -89,13 +94,15 @@ impl Tsns {
     }
 
     /// Notes a TSN that isn't beyond the last one.
-    fn note_earlier(&mut self, span: Span, tsn: u32, number: u64) -> bool {
+    fn note_earlier(&mut self, span: Span, tsn: u32, number: PacketNumber) -> bool
+        ensures { IsTrue result ↔ ¬ ((2048 ≤ ahead tsn span.last) ⊎ IsMarked self.old.seen tsn) }
+    {
         let behind = span.last.wrapping_sub(tsn);
         let size = span.last.wrapping_sub(span.first);
         if behind >= WINDOW || self.is_marked(tsn) {
             increase(&mut self.repeated);
-            if self.first_repeated == 0 {
-                self.first_repeated = number;
+            if self.first_repeated.is_none() {
+                self.first_repeated = Some(number);
                 self.first_repeated_tsn = tsn;
             }
             return false;
@@ -115,7 +122,9 @@ impl Tsns {
     }
 
     /// Returns whether the bit of a TSN is set.
-    fn is_marked(&self, tsn: u32) -> bool {
+    fn is_marked(&self, tsn: u32) -> bool
+        ensures { IsTrue result ↔ IsMarked self.now.seen tsn }
+    {
         self.seen[word_of(tsn)] & bit_of(tsn) != 0
     }
 
@@ -132,12 +141,14 @@ impl Tsns {
 
 /// Returns the index of the word that holds the bit of a TSN.
 fn word_of(tsn: u32) -> usize
-    ensures { result < 32 }
+    ensures { result ≡ tsn / 64 % 32 }
 {
     (tsn / 64 % 32) as usize
 }
 
 /// Returns the bit of a TSN in its word.
-fn bit_of(tsn: u32) -> u64 {
+fn bit_of(tsn: u32) -> u64
+    ensures { result ≡ 2 ^ (tsn % 64) }
+{
     1 << (tsn % 64)
 }
