@@ -5,12 +5,14 @@ usage: bench/associations.py [--program PATH] [--seed 1] [CAPTURE ..]
 
   --program PATH  the program, in place of crates/sctp_dump/out/sctp_dump: it is run with --json --associations CAPTURE
   --seed 1        the seed of the captures that are made
+  --together      reads the captures as one, in this order, in place of each alone
   --only-make     makes the captures, and compares nothing
   --model         prints the model's associations, a line each, and compares nothing
 
-Without a CAPTURE it makes some in bench/out/associations, one a case, and compares all. The model keeps all TSNs, HEARTBEATs
-and round trips, where the program keeps windows of them. Of a packet that was cut off tshark shows the header alone, so a
-capture with such packets can't be compared. Which packets were refused is compared of the captures that are made alone.
+Without a CAPTURE it makes some in bench/out/associations, one a case, and compares all, and at last some of them together.
+The model keeps all TSNs, HEARTBEATs, requests and round trips, where the program keeps windows of them. Of a packet that was
+cut off tshark shows the header alone, so a capture with such packets can't be compared. Which packets were refused is
+compared of the captures that are made alone. What a tshark has no field for isn't compared (it says which fields).
 Status: 0 if all agree, 1 if not, 2 if it can't run. Needed are tshark and the program, built (docs/DUMP.md)."""
 import json
 import os
@@ -26,7 +28,11 @@ SHUTDOWN, SHUTDOWN_ACK, COOKIE_ECHO, COOKIE_ACK, SHUTDOWN_COMPLETE, I_DATA = 7, 
 NAMES = {DATA: 'DATA', INIT: 'INIT', INIT_ACK: 'INIT ACK', SACK: 'SACK', HEARTBEAT: 'HEARTBEAT', ABORT: 'ABORT',
          HEARTBEAT_ACK: 'HEARTBEAT ACK', SHUTDOWN: 'SHUTDOWN', SHUTDOWN_ACK: 'SHUTDOWN ACK', 9: 'ERROR',
          COOKIE_ECHO: 'COOKIE ECHO', COOKIE_ACK: 'COOKIE ACK', SHUTDOWN_COMPLETE: 'SHUTDOWN COMPLETE', I_DATA: 'I-DATA',
-         192: 'FORWARD-TSN', 193: 'ASCONF', 128: 'ASCONF ACK', 130: 'RE-CONFIG', 15: 'AUTH'}
+         192: 'FORWARD-TSN', 193: 'ASCONF', 128: 'ASCONF ACK', 130: 'RE-CONFIG', 15: 'AUTH', 16: 'NR-SACK',
+         194: 'I-FORWARD-TSN'}
+NR_SACK, RE_CONFIG, FORWARD_TSN, I_FORWARD_TSN = 16, 130, 192, 194
+# the parameters of a RE-CONFIG that are requests (RFC 6525 sections 4.1 to 4.3, 4.5 and 4.6), and the response (4.4)
+REQUESTS, RESPONSE = (13, 14, 15, 17, 18), 16
 MOST_WAITING, MOST_ADDRESSES, MOST_ASSOCIATIONS = 16, 4, 10000
 
 
@@ -37,7 +43,26 @@ FIELDS = ['frame.number', 'frame.time_epoch', 'ip.src', 'ip.dst', 'ipv6.src', 'i
           'sctp.chunk_length', 'sctp.data_tsn_raw', 'sctp.init_initiate_tag', 'sctp.initack_initiate_tag',
           'sctp.sack_cumulative_tsn_ack_raw', 'sctp.sack_a_rwnd', 'sctp.sack_number_of_gap_blocks',
           'sctp.sack_gap_block_start', 'sctp.sack_gap_block_end', 'sctp.parameter_heartbeat_information',
-          'sctp.cause_code', 'sctp.chunk_value']
+          'sctp.cause_code', 'sctp.chunk_value', 'sctp.shutdown_cumulative_tsn_ack', 'sctp.forward_tsn_tsn',
+          'sctp.i_forward_tsn_tsn', 'sctp.nr_sack_cumulative_tsn_ack', 'sctp.nr_sack_a_rwnd',
+          'sctp.nr_sack_number_of_gap_blocks', 'sctp.nr_sack_number_of_nr_gap_blocks', 'sctp.nr_sack_gap_block_start',
+          'sctp.nr_sack_gap_block_end', 'sctp.nr_sack_nr_gap_block_start', 'sctp.nr_sack_nr_gap_block_end',
+          'sctp.parameter_type', 'sctp.parameter_reconfig_request_sequence_number',
+          'sctp.parameter_reconfig_response_sequence_number']
+# what isn't compared if tshark lacks a field that begins so
+WITHOUT = {'sctp.parameter_reconfig': ('requests', 'requests_unanswered', 'last_request_unanswered')}
+SKIPPED_KEYS = set()
+
+
+def known_fields():
+    """Leaves out the fields that this tshark doesn't have, and what can't be compared without them."""
+    run = subprocess.run(['tshark', '-G', 'fields'], stdout=subprocess.PIPE, stderr=subprocess.DEVNULL, text=True, check=True)
+    known = {line.split('\t')[2] for line in run.stdout.splitlines() if line.startswith('F\t')}
+    for field in [field for field in FIELDS if field not in known]:
+        FIELDS.remove(field)
+        keys = [key for prefix, names in WITHOUT.items() if field.startswith(prefix) for key in names]
+        SKIPPED_KEYS.update(keys)
+        print('tshark has no field %s: %s' % (field, 'not compared: ' + ', '.join(keys) if keys else 'its chunks count as empty'))
 
 
 def dissected(path):
@@ -61,6 +86,11 @@ def nanoseconds(text):
     return int(seconds) * 10 ** 9 + int((fraction + '000000000')[:9])
 
 
+def after(tsn, other):
+    """Serial Number Arithmetic (RFC 9260 section 2.6)."""
+    return 0 < (tsn - other) % 2 ** 32 < 2 ** 31
+
+
 class End:
     def __init__(self, port):
         self.addresses, self.port, self.tags = [], port, []
@@ -71,6 +101,9 @@ class End:
         self.closed = []
         self.sent, self.pending = 0, []
         self.waiting, self.trips = {}, []
+        self.inits = self.i_data = self.forward_tsns = self.abandoned = self.requests = 0
+        # skipped: how many TSNs, up to which, by which packet
+        self.skipped, self.asked = None, []
 
     def tsn(self, tsn, packet, time):
         # unwrapped, so that numbers beyond 2^32 follow
@@ -89,8 +122,38 @@ class End:
             self.waiting[tsn % 2 ** 32] = time
 
     def note_acknowledged(self, tsn, packet):
-        if self.cumulative is None or 0 < (tsn - self.cumulative[0]) % 2 ** 32 < 2 ** 31:
+        if self.cumulative is None or after(tsn, self.cumulative[0]):
             self.cumulative = tsn, packet
+
+    def note_skipped(self, tsn, streams, packet):
+        """FORWARD-TSN (RFC 3758 section 3.2) and I-FORWARD-TSN (RFC 8260 section 2.3.1)."""
+        self.forward_tsns += 1
+        self.abandoned += streams
+        reached = [one[0] for one in (self.cumulative,) if one] + [one[1] for one in (self.skipped,) if one]
+        if not reached and self.first is not None:
+            reached = [(self.first - 1) % 2 ** 32]
+        # of the two the later one
+        if len(reached) == 2 and after(reached[1], reached[0]):
+            reached.reverse()
+        advance = (tsn - reached[0]) % 2 ** 32 if reached and after(tsn, reached[0]) else 0
+        if self.skipped is None:
+            self.skipped = advance, tsn, packet
+        elif after(tsn, self.skipped[1]):
+            self.skipped = self.skipped[0] + advance, tsn, packet
+        for waiting in [one for one in self.waiting if not after(one, tsn)]:
+            del self.waiting[waiting]
+
+    def ask(self, request, packet):
+        """One with the number of one of the last 8 is that one, sent again."""
+        if request not in [number for number, _, _ in self.asked[-8:]]:
+            self.requests += 1
+            self.asked.append([request, packet, False])
+
+    def respond(self, response):
+        for one in self.asked[-8:]:
+            if one[0] == response and not one[2]:
+                one[2] = True
+                break
 
     def acknowledged(self, cumulative, blocks, packet, time):
         for tsn in list(self.waiting):
@@ -104,12 +167,14 @@ class End:
 class Association:
     def __init__(self, number, packet, time, chunk, ends, restart_of):
         self.number, self.packet, self.time, self.chunk, self.ends = number, packet, time, chunk, ends
-        self.restart_of, self.ended, self.last = restart_of, None, time
+        self.restart_of, self.ended, self.last, self.established, self.strays = restart_of, None, time, None, 0
 
 
 class Model:
+    """Of captures whose addresses are known, and whose associations don't leave the table (but those of `many`)."""
+
     def __init__(self):
-        self.all, self.by_tag, self.by_route = [], {}, {}
+        self.all, self.by_tag, self.by_route, self.unknown = [], {}, {}, 0
 
     def sender(self, packet):
         """Returns the association of a packet, and which end sent it; None if it begins another."""
@@ -120,7 +185,8 @@ class Model:
                 return found[0], 1 - found[1]
             for side in 0, 1:
                 known = self.by_route.get(packet['route'][::-1] if side else packet['route'])
-                if known and known.chunk == INIT and not known.ended and not known.ends[side].tags:
+                if known and known.chunk == INIT and not known.ended and not known.ends[side].tags and \
+                        known.ends[1 - side].tags[:1] != [packet['initiate']]:
                     return known, side
             return None
         if packet['reflected']:
@@ -130,8 +196,18 @@ class Model:
             return self.by_tag[(*key, tag)]
         for side in 0, 1:
             known = self.by_route.get(packet['route'][::-1] if side else packet['route'])
-            if known and not known.ends[1 - side].tags:
+            # an INIT that is sent again may be answered by several tags
+            is_answer = types[:1] == [COOKIE_ECHO] and known and known.chunk == INIT and not known.ended and not known.established
+            if known and (not known.ends[1 - side].tags or is_answer):
                 return known, side
+        return None
+
+    def beside(self, packet):
+        """Returns the living association beside which a packet is out of the blue (RFC 9260 section 8.4)."""
+        route = packet['route']
+        known = self.by_route.get(route) or self.by_route.get(route[::-1])
+        if packet['types'][:1] != [INIT] and known and not known.ended and route[0] != route[1]:
+            return known
         return None
 
     def learn(self, association, side, tag):
@@ -149,11 +225,17 @@ class Model:
 
     def see(self, packet):
         found = self.sender(packet)
+        known = None if found else self.beside(packet)
+        if known:
+            known.strays += 1
+            self.unknown += 1
+            return
         if not found:
             ends = [End(packet['key'][0]), End(packet['key'][1])]
             route, restart_of = packet['route'], None
             latest = self.by_route.get(route) or self.by_route.get(route[::-1])
-            if packet['types'][:1] == [INIT] and latest and not latest.ended and route[0][0]:
+            if packet['types'][:1] == [INIT] and latest and not latest.ended and route[0] != route[1] and \
+                    (latest.established or latest.chunk != INIT):
                 restart_of = latest.number
             association = Association(len(self.all) + 1, packet['number'], packet['time'], (packet['types'] + [None])[0],
                                       ends, restart_of)
@@ -176,33 +258,65 @@ class Model:
         sender.zero += packet['checksum'] == 'zero'
         sender.wrong += packet['checksum'] == 'wrong'
         for kind, value in packet['chunks']:
-            if kind in (DATA, I_DATA):
-                sender.chunks += 1
-                sender.bytes += value[1]
-                sender.tsn(value[0], packet['number'], packet['time'])
-            elif kind == SACK:
-                sender.sacks += 1
-                sender.gaps += bool(value[2])
-                if value[1] == 0:
-                    sender.closed.append(packet['number'])
-                if sender.window is None or value[1] < sender.window[0]:
-                    sender.window = value[1], packet['number']
-                receiver.note_acknowledged(value[0], packet['number'])
-                receiver.acknowledged(value[0], value[2], packet['number'], packet['time'])
-            elif kind == HEARTBEAT:
-                sender.sent += 1
-                sender.pending.append((value, packet['number']))
-            elif kind == HEARTBEAT_ACK:
-                for sent in receiver.pending:
-                    if sent[0] == value:
-                        receiver.pending.remove(sent)
-                        break
-            elif kind in (ABORT, SHUTDOWN_COMPLETE) and not association.ended:
-                association.ended = packet['number'], packet['time'], kind, side, value
+            self.count_chunk(association, side, packet, kind, value)
+            if kind == COOKIE_ACK or kind in (SACK, NR_SACK) and receiver.chunks:
+                association.established = association.established or (packet['number'], packet['time'], kind)
         association.last = packet['time']
 
+    def count_chunk(self, association, side, packet, kind, value):
+        sender, receiver, number = association.ends[side], association.ends[1 - side], packet['number']
+        sender.inits += kind == INIT
+        if kind in (DATA, I_DATA):
+            sender.chunks += 1
+            sender.i_data += kind == I_DATA
+            sender.bytes += value[1]
+            sender.tsn(value[0], number, packet['time'])
+        elif kind in (SACK, NR_SACK):
+            sender.sacks += 1
+            sender.gaps += bool(value[2])
+            if value[1] == 0:
+                sender.closed.append(number)
+            if sender.window is None or value[1] < sender.window[0]:
+                sender.window = value[1], number
+            receiver.note_acknowledged(value[0], number)
+            receiver.acknowledged(value[0], value[2], number, packet['time'])
+        elif kind == SHUTDOWN:
+            receiver.note_acknowledged(value, number)
+            receiver.acknowledged(value, (), number, packet['time'])
+        elif kind in (FORWARD_TSN, I_FORWARD_TSN):
+            sender.note_skipped(value[0], value[1], number)
+        elif kind == RE_CONFIG:
+            for request in value[0]:
+                sender.ask(request, number)
+            for response in value[1]:
+                receiver.respond(response)
+        elif kind == HEARTBEAT:
+            sender.sent += 1
+            sender.pending.append((value, number))
+        elif kind == HEARTBEAT_ACK:
+            for sent in receiver.pending:
+                if sent[0] == value:
+                    receiver.pending.remove(sent)
+                    break
+        elif kind in (ABORT, SHUTDOWN_COMPLETE) and not association.ended:
+            association.ended = number, packet['time'], kind, side, value
 
-def packets(path, refused):
+
+def re_config(take):
+    """Returns the numbers of the requests and of the responses in a RE-CONFIG: it has at most two parameters."""
+    requests, responses = [], []
+    for kind in take['sctp.parameter_type']:
+        kind = number(kind)
+        if kind in REQUESTS:
+            requests.append(number(next(take['sctp.parameter_reconfig_request_sequence_number'])))
+        if kind == RESPONSE or kind == 13:
+            response = number(next(take['sctp.parameter_reconfig_response_sequence_number']))
+            if kind == RESPONSE:
+                responses.append(response)
+    return requests, responses
+
+
+def packets(path, refused, file=0):
     """Yields the packets of a capture as the model takes them."""
     for fields in dissected(path):
         if not fields['sctp.srcport']:
@@ -229,6 +343,20 @@ def packets(path, refused):
                     blocks = [(next_number('sctp.sack_gap_block_start'), next_number('sctp.sack_gap_block_end'))
                               for _ in range(next_number('sctp.sack_number_of_gap_blocks'))]
                     value = cumulative, window, blocks
+                elif kind == NR_SACK:
+                    cumulative, window = next_number('sctp.nr_sack_cumulative_tsn_ack'), next_number('sctp.nr_sack_a_rwnd')
+                    counts = [next_number('sctp.nr_sack_number_of_%sgap_blocks' % name) for name in ('', 'nr_')]
+                    value = cumulative, window, [
+                        tuple(next_number('sctp.nr_sack_%sgap_block_%s' % (name, end)) for end in ('start', 'end'))
+                        for name, count in zip(('', 'nr_'), counts) for _ in range(count)]
+                elif kind == SHUTDOWN:
+                    value = next_number('sctp.shutdown_cumulative_tsn_ack')
+                elif kind == FORWARD_TSN:
+                    value = next_number('sctp.forward_tsn_tsn'), (lengths[index] - 8) // 4
+                elif kind == I_FORWARD_TSN:
+                    value = next_number('sctp.i_forward_tsn_tsn'), (lengths[index] - 8) // 8
+                elif kind == RE_CONFIG:
+                    value = re_config(take) if 'sctp.parameter_type' in take else ([], [])
                 elif kind in (HEARTBEAT, HEARTBEAT_ACK):
                     value = next(take['sctp.parameter_heartbeat_information'], '')
                 elif kind == ABORT:
@@ -246,16 +374,17 @@ def packets(path, refused):
         if checksum == 'wrong' and number(fields['sctp.checksum'][0]) == 0:
             checksum = 'zero'
         frame = int(fields['frame.number'][0])
-        yield {'number': frame, 'time': nanoseconds(fields['frame.time_epoch'][0]), 'key': key, 'checksum': checksum,
+        yield {'number': (file, frame), 'time': nanoseconds(fields['frame.time_epoch'][0]), 'key': key, 'checksum': checksum,
                'tag': number(fields['sctp.verification_tag'][0]), 'types': types, 'chunks': chunks, 'initiate': initiate,
                'reflected': reflected, 'route': ((source, key[0]), (destination, key[1])),
                'refused': frame in refused}
 
 
-def modelled(path, refused):
+def modelled(paths, refused):
     model = Model()
-    for packet in packets(path, refused):
-        model.see(packet)
+    for file, path in enumerate(paths):
+        for packet in packets(path, refused, file):
+            model.see(packet)
     return model
 
 
@@ -266,59 +395,92 @@ def resolution(path):
 
 
 def seconds(time, digits):
+    """Returns a time as the program's number of seconds, which `numbers` keeps as text."""
     return ('%d.%09d' % divmod(time, 10 ** 9))[:digits - 9 or None]
 
 
-def expected(model, digits):
+def packet_keys(packet, key, file_key, paths):
+    """Returns a packet's number, and if there are several files its file's name."""
+    file, frame = packet
+    return {key: frame, file_key: paths[file]} if len(paths) > 1 else {key: frame}
+
+
+def expected_end(end, digits, paths):
+    """Returns what the program should print of an end."""
+    def at(packet, key, file_key=None):
+        return packet_keys(packet, key, file_key or key.replace('_packet', '') + '_file', paths)
+
+    one = {'addresses': end.addresses[:MOST_ADDRESSES], 'port': end.port}
+    if len(end.addresses) > MOST_ADDRESSES:
+        one['more_addresses'] = True
+    if end.tags:
+        one['tag'] = end.tags[0]
+    one.update(packets=end.packets, refused=end.refused, zero_checksums=end.zero, wrong_checksums=end.wrong, inits=end.inits,
+               data=end.chunks, i_data=end.i_data, bytes=end.bytes)
+    if end.first is not None:
+        one.update(first_tsn=end.first % 2 ** 32, last_tsn=end.last % 2 ** 32, repeated=end.repeated,
+                   missing=end.last - end.first + 1 - len(end.seen))
+        if end.repeated:
+            one.update(first_repeated_tsn=end.first_repeated_tsn, **at(end.first_repeated, 'first_repeated'))
+    if end.cumulative:
+        one.update(acknowledged=end.cumulative[0], **at(end.cumulative[1], 'acknowledged_packet'))
+    one['forward_tsns'] = end.forward_tsns
+    if end.skipped:
+        one.update(skipped=end.skipped[0], skipped_to=end.skipped[1], abandoned=end.abandoned,
+                   **at(end.skipped[2], 'skipped_packet'))
+    one.update(sacks=end.sacks, sacks_with_gaps=end.gaps)
+    if end.window:
+        one.update(least_a_rwnd=end.window[0], **at(end.window[1], 'least_a_rwnd_packet'))
+    if end.closed:
+        one.update(at(end.closed[0], 'closed_first'), **at(end.closed[-1], 'closed_last'))
+    one.update(heartbeats=end.sent, heartbeats_unanswered=len(end.pending))
+    if end.pending:
+        one.update(at(max(packet for _, packet in end.pending), 'last_unanswered'))
+    open_requests = [packet for _, packet, answered in end.asked if not answered]
+    one.update(requests=end.requests, requests_unanswered=len(open_requests))
+    if open_requests:
+        one.update(at(open_requests[-1], 'last_request_unanswered'))
+    if end.trips:
+        times = sorted(time for time, _, _ in end.trips)
+        greatest = next(packet for time, packet, _ in end.trips if time == times[-1])
+        tsns = {tsn for time, packet, tsn in end.trips if packet == greatest and time == times[-1]}
+        one['round_trip'] = {'count': len(times), 'least': seconds(times[0], digits),
+                             'median': times[(len(times) - 1) // 2], 'greatest': seconds(times[-1], digits),
+                             'greatest_tsn': tsns, **at(greatest, 'greatest_packet')}
+    return one
+
+
+def expected(model, digits, paths):
     """Returns what the program should print of the model's associations."""
+    def first(packet, time, kind):
+        return {**packet_keys(packet, 'packet', 'file', paths), 'time': seconds(time, digits),
+                'chunk': NAMES.get(kind, '0x%02x' % kind)}
+
     for association in model.all:
-        ends = []
-        for end in association.ends:
-            one = {'addresses': end.addresses[:MOST_ADDRESSES], 'port': end.port}
-            if len(end.addresses) > MOST_ADDRESSES:
-                one['more_addresses'] = True
-            if end.tags:
-                one['tag'] = end.tags[0]
-            one.update(packets=end.packets, refused=end.refused, zero_checksums=end.zero, wrong_checksums=end.wrong,
-                       data=end.chunks, bytes=end.bytes)
-            if end.first is not None:
-                one.update(first_tsn=end.first % 2 ** 32, last_tsn=end.last % 2 ** 32, repeated=end.repeated,
-                           missing=end.last - end.first + 1 - len(end.seen))
-                if end.cumulative:
-                    one.update(acknowledged=end.cumulative[0], acknowledged_packet=end.cumulative[1])
-                if end.repeated:
-                    one.update(first_repeated=end.first_repeated, first_repeated_tsn=end.first_repeated_tsn)
-            one.update(sacks=end.sacks, sacks_with_gaps=end.gaps)
-            if end.window:
-                one.update(least_a_rwnd=end.window[0], least_a_rwnd_packet=end.window[1])
-            if end.closed:
-                one.update(closed_first=end.closed[0], closed_last=end.closed[-1])
-            one.update(heartbeats=end.sent, heartbeats_unanswered=len(end.pending))
-            if end.pending:
-                one['last_unanswered'] = max(packet for _, packet in end.pending)
-            if end.trips:
-                times = sorted(time for time, _, _ in end.trips)
-                greatest = next(packet for time, packet, _ in end.trips if time == times[-1])
-                one['round_trip'] = {'count': len(times), 'least': seconds(times[0], digits),
-                                     'median': times[(len(times) - 1) // 2], 'greatest': seconds(times[-1], digits),
-                                     'greatest_packet': greatest,
-                                     'greatest_tsn': {tsn for time, packet, tsn in end.trips if packet == greatest and time == times[-1]}}
-            ends.append(one)
+        ends = [expected_end(end, digits, paths) for end in association.ends]
         line = {'association': association.number, 'ends': ends,
-                'began': {'packet': association.packet, 'time': seconds(association.time, digits)}}
-        if association.chunk is not None:
-            line['began']['chunk'] = NAMES.get(association.chunk, '0x%02x' % association.chunk)
+                'began': first(association.packet, association.time, association.chunk or 0)}
+        if association.chunk is None:
+            del line['began']['chunk']
         if association.restart_of:
             line['restart_of'] = association.restart_of
         if association.chunk != INIT:
             line['midway'] = True
+        if association.established:
+            packet, time, kind = association.established
+            line['established'] = first(packet, time, kind)
+            if association.chunk == INIT and kind == COOKIE_ACK and time >= association.time:
+                line['established']['after'] = seconds(time - association.time, digits)
         last = association.last
         if association.ended:
             packet, last, kind, side, cause = association.ended
-            line['ended'] = {'packet': packet, 'time': seconds(last, digits), 'chunk': NAMES[kind], 'by': side}
+            line['ended'] = {**first(packet, last, kind), 'by': side}
             if kind == ABORT and cause >= 0:
                 line['ended']['cause'] = cause
-        line['duration'] = seconds(max(last - association.time, 0), digits)
+        if last >= association.time:
+            line['duration'] = seconds(last - association.time, digits)
+        if association.strays:
+            line['out_of_the_blue'] = association.strays
         yield line
 
 
@@ -335,7 +497,7 @@ def differences(path, want, got, checks_refused):
                         found.append('%s.median: %d, %d' % (place, exact, printed))
                 elif key == 'greatest_tsn' and b.get(key) in a.get(key, ()):
                     pass
-                elif key not in ('reason', 'cause_name') and (key != 'refused' or checks_refused):
+                elif key not in ('reason', 'cause_name', *SKIPPED_KEYS) and (key != 'refused' or checks_refused):
                     compare('%s.%s' % (place, key), a.get(key), b.get(key))
         elif isinstance(a, list) and isinstance(b, list) and len(a) == len(b):
             for index, pair in enumerate(zip(a, b)):
@@ -349,19 +511,21 @@ def differences(path, want, got, checks_refused):
     return bool(found)
 
 
-def compare(path, program, refused):
-    """Compares a capture, and returns the number of associations and of those that differ."""
-    run = subprocess.run([program, '--json', '--associations', path], stdout=subprocess.PIPE, text=True, check=False)
-    got = [json.loads(line) for line in run.stdout.splitlines() if line.startswith('{"association"')]
-    want = list(expected(modelled(path, refused or ()), resolution(path)))
+def compare(paths, program, refused):
+    """Compares a capture, of one file or several, and returns the number of associations and of those that differ."""
+    name = ' '.join(os.path.basename(path) for path in paths)
+    run = subprocess.run([program, '--json', '--associations', *paths], stdout=subprocess.PIPE, text=True, check=False)
+    # a number with a fraction is kept as it is written
+    got = [json.loads(line, parse_float=str) for line in run.stdout.splitlines() if line.startswith('{"association"')]
+    want = list(expected(modelled(paths, refused or ()), resolution(paths[0]), paths))
     got.sort(key=lambda one: one['association'])
     left = sum(bool(one.pop('left_table', False)) for one in got)
     if left != max(len(want) - MOST_ASSOCIATIONS, 0):
-        print('%s: %d left the table' % (os.path.basename(path), left))
+        print('%s: %d left the table' % (name, left))
         return len(want), 1
-    wrong = sum(differences(path, a, b, refused is not None) for a, b in zip(want, got))
+    wrong = sum(differences(name, a, b, refused is not None) for a, b in zip(want, got))
     if len(want) != len(got):
-        print('%s: expected %d associations, printed %d' % (os.path.basename(path), len(want), len(got)))
+        print('%s: expected %d associations, printed %d' % (name, len(want), len(got)))
         wrong += 1
     return len(want), wrong
 
@@ -407,6 +571,27 @@ def heartbeat(info, kind=HEARTBEAT):
     return chunk(kind, 0, parameter(1, info))
 
 
+def nr_sack(cumulative, window=131072, blocks=(), nr_blocks=()):
+    value = struct.pack('>IIHHHH', cumulative % 2 ** 32, window, len(blocks), len(nr_blocks), 0, 0)
+    return chunk(NR_SACK, 0, value + b''.join(struct.pack('>HH', *block) for block in (*blocks, *nr_blocks)))
+
+
+def forward_tsn(cumulative, streams=(), kind=FORWARD_TSN):
+    """A FORWARD-TSN that lists these streams, each with number 3, or an I-FORWARD-TSN."""
+    form = '>HH' if kind == FORWARD_TSN else '>HHI'
+    listed = b''.join(struct.pack(form, *((stream, 3) if kind == FORWARD_TSN else (stream, 0, 3))) for stream in streams)
+    return chunk(kind, 0, struct.pack('>I', cumulative % 2 ** 32) + listed)
+
+
+def reset_request(request, response=0, last_tsn=0):
+    """An Outgoing SSN Reset Request Parameter for stream 1 (RFC 6525 section 4.1)."""
+    return parameter(13, struct.pack('>IIIH', request, response, last_tsn, 1))
+
+
+def response_to(request, result=1):
+    return parameter(RESPONSE, struct.pack('>II', request, result))
+
+
 class Capture:
     """A pcap file of raw IPv4, with the numbers of the packets that are refused."""
 
@@ -445,8 +630,8 @@ def handshake(capture, a=A, b=B, tag_a=0x4d2df52d, tag_b=0x0da73798, tsn_a=1000,
     return tag_a, tag_b
 
 
-def shutdown(capture, tags, a=A, b=B):
-    capture.add(a, b, tags[1], chunk(SHUTDOWN, 0, bytes(4)))
+def shutdown(capture, tags, a=A, b=B, cumulative=0):
+    capture.add(a, b, tags[1], chunk(SHUTDOWN, 0, struct.pack('>I', cumulative % 2 ** 32)))
     capture.add(b, a, tags[0], chunk(SHUTDOWN_ACK, 0, b''))
     capture.add(a, b, tags[1], chunk(SHUTDOWN_COMPLETE, 0, b''))
 
@@ -561,6 +746,82 @@ def homes():
     return capture
 
 
+def abandoned():
+    """FORWARD-TSN and I-FORWARD-TSN: what they skip is no round trip; and the last DATA, which a SHUTDOWN acknowledges."""
+    capture = Capture('abandoned')
+    tags = handshake(capture)
+    capture.add(A, B, tags[1], data(1000))
+    capture.add(B, A, tags[0], sack(1000), after=300)
+    capture.add(A, B, tags[1], data(1001), data(1002), data(1003))
+    capture.add(A, B, tags[1], forward_tsn(1002, (1, 2)), after=3_000_000)
+    capture.add(B, A, tags[0], sack(1003), after=10_000)
+    capture.add(A, B, tags[1], data(1005))
+    capture.add(A, B, tags[1], data(1005))
+    capture.add(A, B, tags[1], forward_tsn(1008, (1,), I_FORWARD_TSN))
+    capture.add(A, B, tags[1], forward_tsn(1002))
+    capture.add(B, A, tags[0], sack(1008))
+    capture.add(B, A, tags[0], data(2000))
+    shutdown(capture, tags, cumulative=2000)
+    # all is skipped before anything is acknowledged; of the other end nothing is seen
+    capture.add((4, 1), (5, 2), 0x61, data(2 ** 32 - 2), data(2 ** 32 - 1))
+    capture.add((4, 1), (5, 2), 0x61, forward_tsn(3, (7,)))
+    capture.add((6, 1), (7, 2), 0x62, forward_tsn(9, (7,)))
+    return capture
+
+
+def nr_sacks():
+    capture = Capture('nr_sacks')
+    tags = handshake(capture)
+    for step in range(6):
+        capture.add(A, B, tags[1], data(1000 + step))
+    capture.add(B, A, tags[0], nr_sack(1000, 5000, ((2, 2),), ((4, 5),)), after=300)
+    capture.add(B, A, tags[0], nr_sack(1005, 0), after=300)
+    return capture
+
+
+def requests():
+    """RE-CONFIG: answered, sent again, never answered, and both in one chunk."""
+    capture = Capture('requests')
+    tags = handshake(capture)
+    capture.add(A, B, tags[1], chunk(RE_CONFIG, 0, reset_request(1000)))
+    capture.add(A, B, tags[1], chunk(RE_CONFIG, 0, reset_request(1000)))
+    capture.add(B, A, tags[0], chunk(RE_CONFIG, 0, response_to(1000) + reset_request(2000, 1000)))
+    capture.add(B, A, tags[0], chunk(RE_CONFIG, 0, parameter(17, struct.pack('>IHH', 2001, 4, 0))))
+    capture.add(A, B, tags[1], chunk(RE_CONFIG, 0, response_to(2001, 0)))
+    return capture
+
+
+def blue():
+    """Packets out of the blue beside an association that lives, and after its end."""
+    capture = Capture('blue')
+    tags = handshake(capture)
+    capture.add(A, B, 0x77777777, data(1))
+    capture.add(B, A, 0x77777777, chunk(ABORT, 1, b''))
+    capture.add(A, B, tags[1], data(1000))
+    shutdown(capture, tags)
+    capture.add(A, B, 0x77777778, data(1))
+    return capture
+
+
+def back():
+    """Times that go back: no duration, no round trip."""
+    capture = Capture('back')
+    tags = handshake(capture)
+    capture.add(A, B, tags[1], data(1000))
+    capture.add(B, A, tags[0], sack(1000), after=-86_000_000)
+    return capture
+
+
+def parts():
+    """One association in three files."""
+    whole, files = drawn(3), []
+    for step, (first, last) in enumerate(((0, 40), (40, 900), (900, 10 ** 9))):
+        part = Capture('part%d' % step)
+        part.records, part.refused = whole.records[first:last], set()
+        files.append(part.write().path)
+    return files
+
+
 def drawn(seed):
     """Some associations at once, with loss, reordering and repetition."""
     draw = random.Random(seed)
@@ -578,7 +839,19 @@ def drawn(seed):
         side = draw.randrange(2)
         source, destination, tag = ((a, b, tags[1]), (b, a, tags[0]))[side]
         after, what = draw.randrange(1, 5000), draw.random()
-        if what < 0.6:
+        if what < 0.03:
+            kind = draw.choice((FORWARD_TSN, I_FORWARD_TSN))
+            streams = [draw.randrange(9) for _ in range(draw.randrange(4))]
+            capture.add(source, destination, tag, forward_tsn(next_tsns[side] - draw.randrange(9), streams, kind), after=after)
+        elif what < 0.05:
+            one[4 + side] += draw.randrange(2)
+            capture.add(source, destination, tag, chunk(RE_CONFIG, 0, reset_request(one[4 + side])), after=after)
+        elif what < 0.06:
+            answer = response_to(max(one[5 - side] - draw.randrange(3), 0))
+            capture.add(source, destination, tag, chunk(RE_CONFIG, 0, answer), after=after)
+        elif what < 0.07:
+            capture.add(source, destination, draw.getrandbits(32) or 1, data(1), after=after)
+        elif what < 0.6:
             tsn = next_tsns[side]
             if draw.random() < 0.1:
                 tsn -= draw.randrange(1, 30)
@@ -589,7 +862,9 @@ def drawn(seed):
         elif what < 0.9:
             blocks = [(first, first + 1) for first in range(2, draw.choice((2, 2, 2, 20)), 4)]
             cumulative = next_tsns[1 - side] - draw.randrange(12)
-            capture.add(source, destination, tag, sack(cumulative, draw.randrange(200000), blocks), after=after)
+            window = draw.randrange(200000)
+            chunks = sack(cumulative, window, blocks), nr_sack(cumulative, window, blocks[:1], blocks[1:])
+            capture.add(source, destination, tag, draw.choice(chunks), after=after)
         elif what < 0.99:
             one[4 + side] += 1
             info = bytes([side]) + struct.pack('>I', one[4 + side])
@@ -600,7 +875,7 @@ def drawn(seed):
         else:
             live.remove(one)
             if draw.random() < 0.5:
-                shutdown(capture, tags, a, b)
+                shutdown(capture, tags, a, b, next_tsns[1] - 1)
             else:
                 capture.add(source, destination, tag, chunk(ABORT, 0, parameter(12, b'')), after=after)
     return capture
@@ -616,7 +891,7 @@ def many():
 
 def main():
     arguments, program, seed = sys.argv[1:], os.path.join(ROOT, 'crates/sctp_dump/out/sctp_dump'), 1
-    captures, makes, prints = [], False, False
+    captures, makes, prints, together = [], False, False, False
     while arguments:
         word = arguments.pop(0)
         if word == '--program':
@@ -627,27 +902,34 @@ def main():
             makes = True
         elif word == '--model':
             prints = True
+        elif word == '--together':
+            together = True
         elif word == '--help':
             print(__doc__)
             return 0
         else:
-            captures.append((word, None))
+            captures.append(([word], None))
+    if together:
+        captures = [([path for paths, _ in captures for path in paths], None)]
     if not captures:
         os.makedirs(FOLDER, exist_ok=True)
-        cases = [plain(), tsns(), beginnings(), endings(), checksums(), heartbeats(), homes(), many()]
-        captures = [(case.write().path, case.refused) for case in cases + [drawn(seed), drawn(seed + 1)]]
+        cases = [plain(), tsns(), beginnings(), endings(), checksums(), heartbeats(), homes(), abandoned(), nr_sacks(),
+                 requests(), blue(), back(), many()]
+        captures = [([case.write().path], case.refused) for case in cases + [drawn(seed), drawn(seed + 1)]]
+        captures.append((parts(), None))
     if makes:
         return 0
+    known_fields()
     if prints:
-        for path, refused in captures:
-            for line in expected(modelled(path, refused or ()), resolution(path)):
-                print(json.dumps(line))
+        for paths, refused in captures:
+            for line in expected(modelled(paths, refused or ()), resolution(paths[0]), paths):
+                print(json.dumps(line, default=sorted))
         return 0
     total = wrong = 0
-    for path, refused in captures:
-        associations, differing = compare(path, program, refused)
+    for paths, refused in captures:
+        associations, differing = compare(paths, program, refused)
         total, wrong = total + associations, wrong + differing
-        print('%s: associations %d, differing %d' % (os.path.basename(path), associations, differing))
+        print('%s: associations %d, differing %d' % (os.path.basename(paths[0]), associations, differing))
     print('associations %d: differing %d' % (total, wrong))
     return 1 if wrong else 0
 
