@@ -1,5 +1,5 @@
 #!/usr/bin/env python3
-"""usage: dist/make.py [--compare] [--copies] [--into FOLDER] [--jobs N] [FILE ..]
+"""usage: dist/make.py [--compare] [--copies] [--into FOLDER] [--jobs N] [--log FILE] [FILE ..]
 
 Makes the files of dist/ that take the toolchain: the C library as assembly text for five systems, and the programs
 sctp_dump and sctp_show for Linux on x86-64; with them copies of the header, LICENSE and NOTICE, and MANIFEST. Whoever
@@ -9,6 +9,7 @@ has the texts needs a C compiler and nothing else (dist/README.md).
   --copies       makes the packages' copies of texts and other files alone, for which no toolchain is needed
   --into FOLDER  the folder, in place of dist/
   --jobs N       how many processors a proof may take; 1 if left out
+  --log FILE     what `rt ci` printed as it proved these sources; may be given several times, a later one counts
   FILE ..        these texts alone, such as sctp_show-x86_64-elf.s, without MANIFEST and the copies
   --help         prints this
 
@@ -18,6 +19,12 @@ text is what the toolchain's clang writes of the very module that `rattle build`
 to assemble and link to the very bytes that `rattle build` compiled; for the other systems the same module is compiled
 for another target, and only tests say that this is right. No name is visible in a text but those that the header
 declares, or a program's rattle_main; nothing of this machine or of this run stands in it.
+
+MANIFEST has the toolchain's verdict on each crate in the texts, uncut, and the names of the C functions whose contracts
+it takes as they stand. Of the crates that are compiled it is what their build says. Of a library below it is what a log
+has; else what MANIFEST had, if the library's sources and those below it are what they were; else what `rt check` says.
+--compare takes it from MANIFEST, so it proves no library that is built, and passes over words that end in `=trusted`:
+they say what was taken from earlier runs.
 """
 
 import argparse
@@ -62,6 +69,11 @@ PACKAGED |= {f"bindings/{at}/{it}.txt": f"examples/{it}.txt" for at in ("python/
 # What a text of the library may take from elsewhere; the last two on macOS.
 LIBC = {"malloc", "realloc", "free", "memcpy", "memmove", "memset", "memcmp", "bcmp", "bzero", "__bzero"}
 
+# What the toolchain says of a crate that MANIFEST has. First the C functions of each library below whose contracts the
+# check reached and takes as they stand, with their names; then how many contracts no call can meet; last the verdict.
+AXIOMS = re.compile(r"^(axioms \w+: \d+ reached .*)\n((?:  .*\n)*)", re.M)
+LOOKED, VERDICT = "empty contracts: ", "logic=proved "
+
 # In the place of clang in a folder of links to the toolchain: keeps the module that rattle has compiled, and the words.
 WRAPPER = """#!/bin/sh
 for word in "$@"; do
@@ -98,9 +110,29 @@ def output_of(words, what, errors=subprocess.PIPE, **how):
     return ran.stdout
 
 
+def verdict_in(said):
+    """The lines of a check or a build that MANIFEST has; none if the crate isn't proved."""
+    axioms = [(line, re.findall(r"^  (\S+) +reached$", names, re.M)) for line, names in AXIOMS.findall(said)]
+    looked, verdict = ([it for it in said.splitlines() if it.startswith(word)] for word in (LOOKED, VERDICT))
+    if not verdict:
+        return []
+    counted = re.search(r" axioms=(\d+) ", verdict[0])
+    if axioms and sum(len(names) for _, names in axioms) != int(counted[1] if counted else 0):
+        fail(f"the names of the C functions aren't as many as the toolchain says: {verdict[0]}")
+    return [*(f"{line}: {', '.join(names)}" for line, names in axioms), *looked, *verdict]
+
+
+def verdicts_in(log):
+    """The same of each crate that a log of the gate has."""
+    blocks = re.findall(r"^== (\w+)\n(.*?)^rt: \1 proved$", log, re.M | re.S)
+    return {name: lines for name, said in blocks if (lines := verdict_in(said))}
+
+
 class Toolchain:
-    def __init__(self, work, jobs):
+    def __init__(self, work, jobs, is_compared):
         self.work, self.jobs, self.built = work, str(jobs), {}
+        # (whether a call can meet each contract is looked for where MANIFEST is made, since it takes time)
+        self.looks = [] if is_compared else ["--empty-contracts"]
         for tool in ("rt", "rattle"):
             if not shutil.which(tool):
                 fail(f"the toolchain's {tool} isn't on PATH; only making the texts takes the toolchain, and not using them")
@@ -143,9 +175,16 @@ class Toolchain:
     def tool(self, name, *words):
         return output_of([f"{self.folder}/bin/{name}", *words], f"the toolchain's {name} failed")
 
+    def check(self, name):
+        """What the toolchain says of a library, over what was kept of its proofs."""
+        print(f"dist/make.py: {name}", file=sys.stderr)
+        said = output_of(["rt", "check", "--jobs", self.jobs, *self.looks], f"{name} isn't proved", subprocess.STDOUT,
+                         cwd=self.crates[name].folder)
+        return verdict_in(said) or fail(f"rt check gave no verdict on {name}")
+
     def build(self, name, target):
-        """Compiles a crate for a target. Returns its module and the words that clang had for it, what rattle made, and the
-        verdict."""
+        """Compiles a crate for a target. Returns its module and the words that clang had for it, what rattle made, and what
+        the toolchain says of it."""
         if (name, target) in self.built:
             return self.built[name, target]
         crate = self.crates[name]
@@ -156,13 +195,11 @@ class Toolchain:
         to = f"{self.work}/{name}-{target}"
         os.makedirs(self.kept)
         os.makedirs(to)
-        words = self.words(crate, target)
+        words = [*self.words(crate, target), *self.looks, "--list-axioms"]
         words += ["--backend", "llvm", "--toolchain", self.folder, "--incremental", "out/incremental", "-o", f"{to}/made"]
         said = output_of(["rattle", "build", *words], f"{name} isn't proved and compiled for {target}",
                          subprocess.STDOUT, cwd=crate.folder)
-        verdict = next((it for it in reversed(said.splitlines()) if it.startswith("logic=proved ")), None)
-        if not verdict:
-            fail(f"rattle gave no verdict on {name} for {target}")
+        verdict = verdict_in(said) or fail(f"rattle gave no verdict on {name} for {target}")
         try:
             clang = read(f"{self.kept}/words").decode().splitlines()
             for word in ("-c", "-o", "-Werror"):
@@ -170,8 +207,6 @@ class Toolchain:
             module = shutil.move(f"{self.kept}/{clang[clang.index('ir', clang.index('-x')) + 1]}", to)
         except (OSError, ValueError, IndexError) as error:
             fail(f"the toolchain {self.version} doesn't call clang with -Werror -c -x ir MODULE -o OBJECT: {error!r}")
-        # (what was taken from earlier runs differs between runs, and isn't said)
-        verdict = " ".join(it for it in verdict.split() if not it.endswith("=trusted"))
         self.built[name, target] = module, clang, f"{to}/made", verdict
         return self.built[name, target]
 
@@ -269,7 +304,7 @@ def header_functions():
 
 
 def made(tools, file):
-    """A text of TEXTS, and the verdict on its crate."""
+    """A text of TEXTS, and what the toolchain says of its crate."""
     crate, target, triple = TEXTS[file]
     module, words, built, verdict = tools.build(crate, target)
     text = own_labels(plain(written(tools, module, words, triple, triple != target)), triple, "dcsctp_")
@@ -294,7 +329,7 @@ def made(tools, file):
     if tools.work in text or ROOT in text:
         fail(f"{file} has a path of this machine in it")
     print(f"{file}: {len(text):,} bytes, {text.count(chr(10)):,} lines; {said}; needs {' '.join(sorted(needed))}")
-    return text, f"# proved {crate}: {verdict}\n"
+    return text, verdict
 
 
 # ---- the manifest
@@ -320,14 +355,64 @@ def manifest_head(tools):
     return head + "".join(f"# source {source_sum(crates[it])} {it}\n" for it in sorted(crates))
 
 
+def verdicts_of(manifest, name):
+    """The lines of a MANIFEST's text that say what the toolchain says of a crate, without its name."""
+    return re.findall(rf"^# proved {name}: (.*)$", manifest, re.M)
+
+
+def said_before(given):
+    """The text of the MANIFEST that was made before, if there is one."""
+    path = next((it for it in (f"{given.into}/MANIFEST", f"{ROOT}/dist/MANIFEST") if os.path.isfile(it)), os.devnull)
+    return read(path).decode()
+
+
+def on_library(tools, name, old, logs, is_compared):
+    """What the toolchain says of a library: see the help above."""
+    if name in logs:
+        return logs[name]
+    crate = tools.crates[name]
+    sources = [f"# source {source_sum(it.folder)} {it.name}" for it in (*crate.below(), crate)]
+    kept, lines = verdicts_of(old, name), old.splitlines()
+    if kept and all(it in lines for it in (f"# toolchain {tools.version}", *sources)):
+        return kept
+    return fail(f"MANIFEST has no verdict on {name}; run dist/make.py") if is_compared else tools.check(name)
+
+
+def on_libraries(tools, given):
+    """What the toolchain says of each library in the texts, the lowest first."""
+    old, logs = said_before(given), {}
+    for log in given.log:
+        logs |= verdicts_in(read(log).decode(errors="replace"))
+    libraries = dict.fromkeys(it.name for name, _, _ in TEXTS.values() for it in tools.crates[name].below())
+    return {it: on_library(tools, it, old, logs, given.compare) for it in libraries}
+
+
+def on_built(built, given):
+    """What the toolchain says of the crates that were compiled; whether a call can meet each contract is looked for only where
+    MANIFEST is made, and is taken from it where that is compared."""
+    old = said_before(given) if given.compare else ""
+    for name, lines in built.items():
+        at = next(i for i, it in enumerate(lines) if it.startswith(VERDICT))
+        lines[at:at] = (it for it in verdicts_of(old, name) if it.startswith(LOOKED))
+    return built
+
+
+def comparable(name, data):
+    """The lines of a file, those of MANIFEST without the words for what was taken from earlier runs."""
+    lines = data.decode().splitlines()
+    is_said = re.compile(r"# proved " if name == "MANIFEST" else r"(?!)")
+    return [re.sub(r" \S+=trusted", "", it) if is_said.match(it) else it for it in lines]
+
+
 def differing(fresh, folder, names):
     """Says which files of a folder aren't what they would be made, and the first line that differs."""
     found = []
     for name in names:
         if not os.path.isfile(f"{folder}/{name}"):
             found.append(f"{name} is missing")
-        elif read(f"{fresh}/{name}") != read(f"{folder}/{name}"):
-            new, old = (read(f"{it}/{name}").decode().splitlines() for it in (fresh, folder))
+            continue
+        new, old = (comparable(name, read(f"{it}/{name}")) for it in (fresh, folder))
+        if new != old:
             line = next((i for i, (a, b) in enumerate(zip(new, old)) if a != b), min(len(new), len(old)))
             found.append(f"{name} isn't what the sources give, from line {line + 1} on")
     return found
@@ -339,6 +424,7 @@ def main():
     parser.add_argument("--copies", action="store_true")
     parser.add_argument("--into", default=f"{ROOT}/dist")
     parser.add_argument("--jobs", type=int, default=1)
+    parser.add_argument("--log", action="append", default=[])
     parser.add_argument("files", nargs="*")
     parser.add_argument("--help", action="store_true")
     given = parser.parse_args()
@@ -350,7 +436,7 @@ def main():
             fail(f"{it} isn't one of {' '.join(TEXTS)}")
     if not given.copies:
         with tempfile.TemporaryDirectory() as work:
-            make(Toolchain(work, given.jobs), given, f"{work}/fresh")
+            make(Toolchain(work, given.jobs, given.compare), given, f"{work}/fresh")
     if given.copies or (given.into == f"{ROOT}/dist" and not given.files):
         package(given.compare)
 
@@ -378,17 +464,21 @@ def make(tools, given, fresh):
         changed = [it.split()[-1] if it.startswith("# source") else it[2:] for it in head.splitlines() if it not in old]
         if changed:
             fail(f"changed since dist/ was made: {', '.join(changed)}; run dist/make.py")
-    verdicts = {}
+    said, built = {} if given.files else on_libraries(tools, given), {}
     for file in given.files or TEXTS:
         text, verdict = made(tools, file)
         write(f"{fresh}/{file}", text)
-        verdicts[verdict] = True
+        # (several texts of a crate can have one build)
+        lines = built.setdefault(TEXTS[file][0], [])
+        lines += [it for it in verdict if it not in lines]
     if not given.files:
         for name, source in COPIES.items():
             shutil.copyfile(f"{ROOT}/{source}", f"{fresh}/{name}")
         # (as sha256sum takes it, for which a line with # says nothing)
         sums = "".join(f"{sum_of(read(f'{fresh}/{it}'))}  {it}\n" for it in sorted(os.listdir(fresh)))
-        write(f"{fresh}/MANIFEST", head + "".join(verdicts) + sums)
+        said |= on_built(built, given)
+        verdicts = "".join(f"# proved {name}: {it}\n" for name in sorted(said) for it in said[name])
+        write(f"{fresh}/MANIFEST", head + verdicts + sums)
     names = sorted(os.listdir(fresh))
     if not given.compare:
         os.makedirs(given.into, exist_ok=True)

@@ -8,7 +8,9 @@ requests, and that one is refused, which has to be seen, and nothing else. Eithe
 out; or one row of its table is answered otherwise. `OutOfMemory` is in that answer in place of what a reader or a call returns,
 and each row of rows.txt has to say so in some run. An answer that ends in `no memory` was given up, since the program's own
 request was refused, or that of a call which says no more than this. In faults.txt no row says `OutOfMemory`: each request
-was the program's own, and so a fault takes no memory."""
+was the program's own, and so a fault takes no memory.
+
+Last, nothing is refused, and the sizes that sctp_show asks for are compared with those of sizes.txt."""
 
 import concurrent.futures
 import difflib
@@ -113,6 +115,31 @@ def refuse_show():
     print(f'refusals: sctp_show: {refused} requests')
 
 
+def packet_of(text, count):
+    """The packet of a row of sizes.txt, with so many of its last part, and the bytes of that."""
+    head, _, part = text.replace(' ', '').partition('*')
+    digits, size = head + part * count, len(part) // 2
+    for at in (found.start() for found in re.finditer(r'\.{4}', head)):
+        digits = digits[:at] + f'{(len(digits) - at) // 2 + 2:04x}' + digits[at + 4:]
+    return digits, size
+
+
+def compare_sizes(count=1009):
+    page = ' '.join(read('../SECURITY.md').split())
+    rows = [line for line in read('sizes.txt').splitlines() if line and line[0] != '#']
+    for part, _, text in (row.partition(' = ') for row in rows):
+        digits, written = packet_of(text, count)
+        status, output, errors = run('sctp_show', digits, 'sizes')
+        size = int(part.split()[-1])
+        found = {int(each) for each in errors.split() if int(each) % count == 0}
+        if status or found != {size * count}:
+            give_up(f'sizes.txt: {part}: status {status}, requests for {count} of them: {found}', output[:200])
+        if size != written and not re.search(rf'\b{part}( bytes)?,', page):
+            give_up(f'sizes.txt: SECURITY.md does not say: {part}')
+    print(f'refusals: {len(rows)} sizes')
+
+
 refuse_rows('rows.txt', ('OutOfMemory', 'no memory'))
 refuse_rows('faults.txt', ('no memory',))
 refuse_show()
+compare_sizes()

@@ -6,7 +6,8 @@ usage='usage: refusals/test.sh
 
 Runs wire_rows over refusals/rows.txt and refusals/faults.txt, and sctp_show over the inputs of refusals/show.txt, once for
 each of their requests for memory: in the first run the first request is refused, and so on. An answer stays as it is, or
-says that memory ran out; that of a fault stays.
+says that memory ran out; that of a fault stays. Then, without a refusal, what sctp_show asks for as it reads the packets of
+refusals/sizes.txt is compared with the sizes there and in SECURITY.md.
 
 The programs are those that `rt ci` proved and built; one that is missing, or older than a source file, is proved and
 built first. Needed are a C compiler and Python; the variable CC names another than cc.'
