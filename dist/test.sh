@@ -234,6 +234,36 @@ sctp_dump() {
     program sctp_dump "$@" && "$root/dump/test.sh" "$work/sctp_dump"
 }
 
+# SIGINT ends an input that is a pipe, and sctp_dump prints what it has counted of it and of what its writer still wrote. It ends
+# sctp_show, and a run over files.
+interrupted() {
+    program sctp_dump "$@" && program sctp_show "$@" && python3 - "$root/crates/sctp_dump/data/cooked.pcap" <<'PYTHON'
+import signal, subprocess, sys
+
+PACKET = b"138813880102030400000000 0b000004\n"
+
+def start(*words):
+    pipe = {"stdin": subprocess.PIPE, "stdout": subprocess.PIPE, "stderr": subprocess.PIPE}
+    return subprocess.Popen(words, preexec_fn=lambda: signal.signal(signal.SIGINT, signal.SIG_DFL), **pipe)
+
+ran = start("./sctp_dump", "--brief")
+ran.stdin.write(PACKET)
+ran.stdin.flush()
+assert ran.stdout.readline().endswith(b" COOKIE_ACK\n"), "not a packet"
+ran.stdin.write(PACKET)
+ran.stdin.flush()
+ran.send_signal(signal.SIGINT)
+printed = ran.stdout.read() + ran.stderr.read()
+assert ran.wait() == 0 and b"\npackets 2: accepted 2, " in printed and printed.count(b"\n") == 2, printed
+for words in (["./sctp_show"], ["./sctp_dump", "--payload", sys.argv[1], "-"]):
+    ran = start(*words)
+    ran.stdin.write(PACKET)
+    ran.stdin.flush()
+    ran.send_signal(signal.SIGINT)
+    assert ran.wait() == -signal.SIGINT, words
+PYTHON
+}
+
 # A processor before x86-64-v2 is told, and has no answer.
 old_processor() {
     program sctp_dump musl-gcc -static || return
@@ -372,6 +402,7 @@ with cmake 'CMake: an unknown processor' cmake_refuses
 with "$cc" 'sctp_show' sctp_show "$cc"
 with musl-gcc 'sctp_show, static by musl-gcc' sctp_show musl-gcc -static
 with "$cc" 'sctp_dump' sctp_dump "$cc"
+with "$cc" 'sctp_dump, interrupted' interrupted "$cc"
 with musl-gcc 'sctp_dump, static by musl-gcc' sctp_dump musl-gcc -static
 with 'musl-gcc qemu-x86_64' 'sctp_dump on an old processor' old_processor
 with "$cc" 'calls at the edges' edge
