@@ -129,10 +129,10 @@ def verdicts_in(log):
 
 
 class Toolchain:
-    def __init__(self, work, jobs, is_compared):
+    def __init__(self, work, jobs, is_said=False):
         self.work, self.jobs, self.built = work, str(jobs), {}
-        # (whether a call can meet each contract is looked for where MANIFEST is made, since it takes time)
-        self.looks = [] if is_compared else ["--empty-contracts"]
+        # (whether a call can meet each contract takes time to look for, and is said in MANIFEST alone)
+        self.looks = ["--empty-contracts"] if is_said else []
         for tool in ("rt", "rattle"):
             if not shutil.which(tool):
                 fail(f"the toolchain's {tool} isn't on PATH; only making the texts takes the toolchain, and not using them")
@@ -436,7 +436,7 @@ def main():
             fail(f"{it} isn't one of {' '.join(TEXTS)}")
     if not given.copies:
         with tempfile.TemporaryDirectory() as work:
-            make(Toolchain(work, given.jobs, given.compare), given, f"{work}/fresh")
+            make(Toolchain(work, given.jobs, not given.compare and not given.files), given, f"{work}/fresh")
     if given.copies or (given.into == f"{ROOT}/dist" and not given.files):
         package(given.compare)
 
