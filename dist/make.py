@@ -124,7 +124,7 @@ def verdict_in(said):
 
 def verdicts_in(log):
     """The same of each crate that a log of the gate has."""
-    blocks = re.findall(r"^== (\w+)\n(.*?)^rt: \1 proved$", log, re.M | re.S)
+    blocks = re.findall(r"^== (\w+)\n((?:(?!== ).*\n)*?)rt: \1 proved$", log, re.M)
     return {name: lines for name, said in blocks if (lines := verdict_in(said))}
 
 
