@@ -230,6 +230,27 @@ static void outputs(writer *write)
     CHECK(write(packet, LENGTH, 0, &any, output, sizeof output, &size) == DCSCTP_OK && size == needed && stays(needed));
 }
 
+/* Packets with one cause whose text isn't UTF-8, in ERROR and in ABORT, and the canonical packet of each two. The fixed texts are
+   the Rust crate dcsctp's, of 38 and 28 bytes; so the causes have 42 and 32 bytes, and the chunks 46 and 36, without padding. */
+static void replaced_texts(void)
+{
+    static const struct {
+        const char *packets[2], *canonical;
+        size_t size;
+    } rows[] = {
+        {{"\0\1\0\2\0\0\0\3\0\0\0\0\11\0\0\11\0\15\0\5\xff", "\0\1\0\2\0\0\0\3\0\0\0\0\11\0\0\11\0\15\0\5\xfe"},
+         "\0\1\0\2\0\0\0\3\0\0\0\0\11\0\0\x2e\0\15\0\x2a" "Failed to parse additional information\0", 60},
+        {{"\0\1\0\2\0\0\0\3\0\0\0\0\6\0\0\11\0\14\0\5\x80", "\0\1\0\2\0\0\0\3\0\0\0\0\6\0\0\11\0\14\0\5\xc3"},
+         "\0\1\0\2\0\0\0\3\0\0\0\0\6\0\0\x24\0\14\0\x20" "Failed to parse abort reason", 48},
+    };
+    for (size_t i = 0; i < 4; i++) {
+        size_t size = 7;
+        const uint8_t *bytes = (const uint8_t *)rows[i / 2].packets[i % 2];
+        CHECK(dcsctp_canonical(bytes, 21, 0, &any, output, sizeof output, &size) == DCSCTP_OK && size == rows[i / 2].size);
+        CHECK(!memcmp(output, rows[i / 2].canonical, size));
+    }
+}
+
 /* Refuses each request in turn. The last turn is the one in which there is no such request. */
 static void refusals(writer *write)
 {
@@ -272,6 +293,21 @@ static void places(void)
     CHECK(chunk_at(SACK_AT).next == DATA_AT && chunk_at(DATA_AT).next == HEARTBEAT_AT);
     chunk = chunk_at(HEARTBEAT_AT);
     CHECK(chunk.next == LENGTH && chunk.type == DCSCTP_CHUNK_HEARTBEAT && chunk.value_offset == 68 && chunk.value_size == 6);
+}
+
+/* What is at an offset is read, whether or not something begins there: the ports 0 and 16 are the header of DATA of 16 bytes, and
+   an INIT's initiate tag and window, 0x00010008 and 0x00070004, those of parameters of 8 and of 4 bytes. */
+static void anywhere(void)
+{
+    static const uint8_t init[] = {0, 0, 0, 16, 0, 0, 0, 0, 0, 0, 0, 0, 1, 0, 0, 20, 0, 1, 0, 8, 0, 7, 0, 4, 0, 1, 0, 1, 0, 0, 0, 1};
+    struct dcsctp_chunk chunk;
+    struct dcsctp_parameter item;
+    CHECK(dcsctp_chunk_at(init, sizeof init, 0, &chunk) && chunk.type == 0 && chunk.value_size == 12 && chunk.next == 16);
+    CHECK(dcsctp_chunk_at(init, sizeof init, 20, &chunk) && chunk.type == 0 && chunk.flags == 7 && chunk.next == 24);
+    CHECK(dcsctp_chunk_at(init, sizeof init, 12, &chunk) && chunk.type == 1 && dcsctp_list_offset(&chunk) == 32);
+    CHECK(dcsctp_parameter_at(init, sizeof init, &chunk, 16, &item) && item.type == 1 && item.value_size == 4 && item.next == 24);
+    CHECK(dcsctp_parameter_at(init, sizeof init, &chunk, 20, &item) && item.type == 7 && item.value_size == 0 && item.next == 24);
+    CHECK(!dcsctp_parameter_at(init, sizeof init, &chunk, 32, &item) && !dcsctp_parameter_at(init, sizeof init, &chunk, 12, &item));
 }
 
 static void parts(void)
@@ -858,6 +894,14 @@ static void reasons(void)
         CHECK(dcsctp_add_re_config(output, 28, &size, start, wrong[i], NULL, 0) == DCSCTP_BAD_VALUE);
         CHECK(dcsctp_add_re_config(output, ROOM, &size, start, wrong[i], NULL, 0) == DCSCTP_BAD_VALUE && size == 28 && stays(0));
     }
+    /* of a request the result is ignored: the parameters' least lengths are 16, 8, 8, 12 and 12 */
+    for (int i = 0; i < 5; i++) {
+        const size_t lengths[] = {16, 8, 8, 12, 12};
+        const struct dcsctp_re_config any_result = {.type = (uint16_t)(i < 3 ? 13 + i : 14 + i), .result = 99};
+        size = 28;
+        CHECK(dcsctp_add_re_config(output, ROOM, &size, start, &any_result, NULL, 0) == DCSCTP_OK && size == 28 + lengths[i]);
+        memcpy(output, before, ROOM);
+    }
 }
 
 /* A packet of 65,532 bytes is the largest that is written, and a chunk's length is at most 65,535. */
@@ -1041,6 +1085,7 @@ int main(void)
     captured_in_place();
     captured_faults();
     places();
+    anywhere();
     parts();
     list_offsets();
     parameters();
@@ -1060,6 +1105,7 @@ int main(void)
     nothing();
     captured_outputs();
     sizes_and_policies();
+    replaced_texts();
     outputs(dcsctp_canonical);
     outputs(dcsctp_print);
     refusals(dcsctp_canonical);
