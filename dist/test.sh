@@ -234,11 +234,11 @@ sctp_dump() {
     program sctp_dump "$@" && "$root/dump/test.sh" "$work/sctp_dump"
 }
 
-# SIGINT ends an input that is a pipe, and sctp_dump prints what it has counted of it and of what its writer still wrote. It ends
-# sctp_show, and a run over files.
+# SIGINT ends an input that is a pipe, and sctp_dump prints what it has counted of it and of what is in the pipe by then, as where
+# it is stopped before it reads. It ends sctp_show, and a run over files.
 interrupted() {
     program sctp_dump "$@" && program sctp_show "$@" && python3 - "$root/crates/sctp_dump/data/cooked.pcap" <<'PYTHON'
-import signal, subprocess, sys
+import os, signal, subprocess, sys
 
 PACKET = b"138813880102030400000000 0b000004\n"
 
@@ -250,9 +250,12 @@ ran = start("./sctp_dump", "--brief")
 ran.stdin.write(PACKET)
 ran.stdin.flush()
 assert ran.stdout.readline().endswith(b" COOKIE_ACK\n"), "not a packet"
+ran.send_signal(signal.SIGSTOP)
+os.waitpid(ran.pid, os.WUNTRACED)
 ran.stdin.write(PACKET)
 ran.stdin.flush()
 ran.send_signal(signal.SIGINT)
+ran.send_signal(signal.SIGCONT)
 printed = ran.stdout.read() + ran.stderr.read()
 assert ran.wait() == 0 and b"\npackets 2: accepted 2, " in printed and printed.count(b"\n") == 2, printed
 for words in (["./sctp_show"], ["./sctp_dump", "--payload", sys.argv[1], "-"]):
