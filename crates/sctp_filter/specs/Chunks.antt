@@ -179,17 +179,16 @@ has_wrong_blocks c =
 
 -- ---- flags (RFC 9260 section 3.2)
 
--- types without a flag: of RFC 9260 with its ECNE and CWR, AUTH (RFC 4895), ASCONF ACK and ASCONF
--- (RFC 5061), RE-CONFIG (RFC 6525), PAD (RFC 4820), FORWARD-TSN (RFC 3758) and I-FORWARD-TSN (RFC
--- 8260)
+-- types without a flag: of RFC 9260, AUTH (RFC 4895), ASCONF ACK and ASCONF (RFC 5061), RE-CONFIG
+-- (RFC 6525), PAD (RFC 4820), FORWARD-TSN (RFC 3758) and I-FORWARD-TSN (RFC 8260)
 abbrev pub has_no_flag : ℕ → Bool
 has_no_flag typ =
-    nat_le typ 5 || (nat_le 7 typ && nat_le typ 13) || typ == 15 || typ == 128 || typ == 130
+    nat_le typ 5 || (nat_le 7 typ && nat_le typ 11) || typ == 15 || typ == 128 || typ == 130
     || typ == 132 || (nat_le 192 typ && nat_le typ 194)
 
 -- Flags of this type are below this number: the bits from there on are reserved. DATA and I-DATA
--- have four, ABORT and SHUTDOWN COMPLETE one; of other types, as NR-SACK and PKTDROP, nothing is
--- known.
+-- have four, ABORT and SHUTDOWN COMPLETE one. Of other types nothing is known: NR-SACK and PKTDROP,
+-- and ECNE and CWR, which RFC 9260 names and doesn't define.
 abbrev pub flags_below : ℕ → ℕ
 flags_below typ =
     if typ == 0 || typ == 64 then 16 else

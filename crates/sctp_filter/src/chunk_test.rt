@@ -129,7 +129,7 @@ fn flags_below(typ: u8) -> u16
     match typ {
         chunk_type::DATA | chunk_type::I_DATA => 16,
         chunk_type::ABORT | chunk_type::SHUTDOWN_COMPLETE => 2,
-        1..=5 | 7..=13 | 15 | 128 | 130 | 132 | 192..=194 => 1,
+        1..=5 | 7..=11 | 15 | 128 | 130 | 132 | 192..=194 => 1,
         _ => 256,
     }
 }

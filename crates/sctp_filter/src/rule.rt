@@ -1,7 +1,7 @@
 //! Rules that the RFCs give for packets beyond their grammar.
 
-ghost use Rattle.std.specs.Prelude.{◌≡◌, List};
-ghost use Rattle.sctp_report.specs.Part.{Part as ThePart, Item as AnItem, AreItems, part_of};
+ghost use Rattle.std.specs.Prelude.{◌≡◌};
+ghost use Rattle.sctp_report.specs.Part.{Part as ThePart, AreItems, part_of};
 ghost use Rattle.sctp_filter.specs.Items.{chunk_part, items_of};
 ghost use Rattle.sctp_filter.specs.Rule.{breaks, is_bundled, lacks_checksum, mixes_user_data};
 
@@ -196,9 +196,10 @@ impl Rule {
     /// Returns whether a packet of `size` bytes, of which these were captured, breaks it, as far as
     /// its chunks can be read. `word` is what its checksum field has to be.
     pub fn is_broken(self, bytes: &[u8], size: usize, word: u32, known: Known) -> bool
-        ensures { let packet : ThePart = record { bytes = bytes.now; size = size } in
-            (chunks : List AnItem) × AreItems (chunk_part packet) chunks
-            × (result ≡ breaks self packet word known chunks) }
+        ensures looks { let packet : ThePart = record { bytes = bytes.now; size = size } in
+            AreItems (chunk_part packet) (items_of (chunk_part packet)) }
+        ensures broken { let packet : ThePart = record { bytes = bytes.now; size = size } in
+            result ≡ breaks self packet word known (items_of (chunk_part packet)) }
     {
         self.is_broken_by(Part::packet(bytes, size), word, known)
     }

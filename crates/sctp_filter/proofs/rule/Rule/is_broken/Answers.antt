@@ -5,13 +5,13 @@ use Rattle.sctp_filter.specs.Rule.{breaks}
 use Rattle.sctp_filter.proofs.Looks.{are_items}
 use Rattle.sctp_filter.proofs.rule.Rule.is_broken.Goals as goal
 
-pub returns : goal.returns
-returns c =
+pub returns-clause-looks : goal.returns-clause-looks
+returns-clause-looks c =
+    are_items (chunk_part (record { bytes = c.args.bytes.now; size = c.args.size }))
+
+pub returns-clause-broken : goal.returns-clause-broken
+returns-clause-broken c =
     let packet : ThePart = record { bytes = c.args.bytes.now; size = c.args.size } in
-    let packet_is : part_of c.packet.result ≡ packet = search rules in (
-      items_of (chunk_part packet),
-      are_items (chunk_part packet),
-      c.is_broken_by.ensures
-          ∙ ap (λ p. breaks c.args.self p c.args.word c.args.known (items_of (chunk_part p)))
-          packet_is,
-    )
+    let packet_is : part_of c.packet.result ≡ packet = search rules in
+    c.is_broken_by.ensures
+    ∙ ap (λ p. breaks c.args.self p c.args.word c.args.known (items_of (chunk_part p))) packet_is
