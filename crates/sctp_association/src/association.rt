@@ -98,7 +98,8 @@ pub struct Association {
     pub established: Option<Established>,
     /// How it ended, if it did.
     pub ended: Option<Ended>,
-    /// When its last packet was captured, in nanoseconds since 1970-01-01 00:00:00 UTC.
+    /// When its last packet was captured, in nanoseconds since 1970-01-01 00:00:00 UTC, if that is
+    /// known.
     pub last: Option<u64>,
     /// How many packets went between its ends while it lived and were of no association, up to
     /// 2^64 - 1: their tag was neither end's (RFC 9260 section 8.4).
@@ -180,7 +181,7 @@ impl Association {
         if self.ended.is_none() {
             self.ended = ending(sender, packet);
         }
-        self.last = packet.nanoseconds.or(self.last);
+        self.last = packet.nanoseconds;
     }
 }
 
