@@ -33,3 +33,4 @@ pub use crate::json_text::JsonText;
 pub use crate::names::{CauseName, ChunkName, cause_name, chunk_name};
 pub use crate::packet::{ChecksumReport, ChunkReport, PacketBrief, PacketJson, PacketReport};
 pub use crate::part::{Item, Items, Part};
+pub use crate::printed::OneWord;
