@@ -5,6 +5,7 @@ use sctp_capture::frame::{UDP_PORT, is_known_link, packet_in};
 use sctp_capture::hex_bytes::HexBytes;
 use sctp_capture::line::{Line, LoggedPacket, place_of, read_line};
 use sctp_capture::pcap::{ByteOrder, input_kind, read_file_header, read_record_header};
+use sctp_capture::stamp::read_stamp;
 use std::alloc::{AllocError, Global};
 use std::fmt::Debug;
 
@@ -96,12 +97,28 @@ fn write_bytes(alloc: Global, bytes: HexBytes, out: &mut String) -> Result<(), A
     write_digits(alloc, &items, out)
 }
 
-/// What a line of a log says: the direction, the time and the packet.
+/// What a line of a log says: the direction, the time, the packet, and the name of its transport.
 fn write_logged(alloc: Global, logged: LoggedPacket, out: &mut String) -> Result<(), AllocError> {
     let time = str::from_utf8(logged.time.as_bytes()).unwrap_or("?");
+    let transport = str::from_utf8(logged.transport.as_bytes()).unwrap_or("?");
     let direction = logged.direction;
     write!(out, "{direction:?} {time} ")?;
-    write_bytes(alloc, logged.packet, out)
+    write_bytes(alloc, logged.packet, out)?;
+    if transport.is_empty() {
+        return Ok(());
+    }
+    write!(out, " {transport}")
+}
+
+/// The date and time before a line of a log.
+pub fn write_stamp(text: &str, out: &mut String) -> Result<(), AllocError> {
+    let Some(stamp) = read_stamp(text.as_bytes()) else {
+        return out.push_str("none");
+    };
+    let (month, day) = (stamp.month, stamp.day);
+    let (hour, minute, second) = (stamp.hour, stamp.minute, stamp.second);
+    let microseconds = stamp.microseconds;
+    write!(out, "{month}-{day} {hour}:{minute}:{second} {microseconds}")
 }
 
 /// What a line says.

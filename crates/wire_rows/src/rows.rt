@@ -51,6 +51,9 @@ fn write_row(alloc: Global, row: &str, out: &mut String) -> Result<(), AllocErro
     if name == "line" {
         return captures::write_line(alloc, words, out);
     }
+    if name == "stamp" {
+        return captures::write_stamp(words, out);
+    }
     let (words, others) = words.split_once(" / ").unwrap_or((words, words));
     let (mut bytes, mut other) = (Vec::new(alloc), Vec::new(alloc));
     if add_words(alloc, words, &mut bytes)? && add_words(alloc, others, &mut other)? {
