@@ -31,7 +31,7 @@ trap 'rm -rf "$work"' EXIT
 compare() {
     # The program looks at no answer in its table.
     cmp crates/wire_rows/stdin crates/wire_rows/stdout && docs/captures.py --compare && docs/examples.py --compare &&
-        docs/api.py --compare
+        docs/api.py --compare && docs/rules.py --compare
 }
 
 # Whether the library for JavaScript is that of the sources.

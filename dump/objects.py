@@ -94,7 +94,9 @@ def look(line, value, packet_bytes, counts):
 
 def run(program, words, given=b""):
     done = subprocess.run([program, "--json", *words], input=given, capture_output=True, cwd=DATA, timeout=100)
-    if done.stderr or done.returncode not in (0, 1, 2, 3):
+    # (that one does)
+    said = done.stderr.replace(b"sctp_dump: ethernet.pcap: ends inside a record\n", b"")
+    if said or done.returncode not in (0, 1, 2, 3):
         fail(str(done.stderr), f"status {done.returncode} of {words}")
     return done.stdout.split(b"\n")
 

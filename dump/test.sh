@@ -4,8 +4,8 @@ set -u
 
 usage='usage: dump/test.sh [PROGRAM]
 
-Runs the program over the rows of dump/runs.txt, and compares all that it prints, and its status. Then dump/objects.py looks
-at its JSON, and it has an output that fails. The last line is: dump: N passed, M failed.
+Runs the program over the rows of dump/runs.txt, and compares all that it prints, and its status. Then it has the packets of
+dump/rules.txt and of the captures in dump/data, dump/objects.py looks at its JSON, and it has an output that fails. The last line is: dump: N passed, M failed.
 
 The program is crates/sctp_dump/out/sctp_dump, which `rt ci` proved and built, unless another is named; if it is missing,
 or older than a source file, it is proved and built first.'
@@ -29,7 +29,7 @@ if [ $# -eq 0 ]; then
     program=$PWD/$program
 fi
 [ -x "$program" ] || { echo 'dump: sctp_dump was not built' && tail "$work/log" && exit 1; }
-rows=$PWD/dump/runs.txt objects=$PWD/dump/objects.py
+rows=$PWD/dump/runs.txt rules=$PWD/dump/rules.txt captures=$PWD/dump/data objects=$PWD/dump/objects.py
 cd crates/sctp_dump/data || exit
 
 passed=0 failed=0
@@ -74,6 +74,29 @@ while IFS= read -r line; do
         *) [ -z "$row" ] || echo "$line" >>"$work/wanted" ;;
     esac
 done <"$rows"
+
+# ---- rules
+
+# The rules that the packets of a row break, in the order of their names.
+: >"$work/wanted_errors"
+while IFS= read -r line; do
+    case $line in
+        '#'* | '') continue ;;
+    esac
+    names=${line##* = }
+    tr ' ' '\n' <<<"${names#-}" | sort -u >"$work/wanted"
+    tr / '\n' <<<"${line%% = *}" | "$program" --brief --check 2>"$work/errors" |
+        grep '^[0-9]' | grep -o ' ? [a-z-]*' | cut -c 4- | sort -u >"$work/printed"
+    [ -s "$work/printed" ] || echo >"$work/printed"
+    judge "$line" 0 0
+done <"$rules"
+
+# What real stacks sent breaks none.
+printf 'warnings: 0\n' >"$work/wanted"
+for file in "$captures"/*.log "$captures"/*.pcap; do
+    "$program" --json --check --summary "$file" 2>"$work/errors" | tail -n 1 | sed 's/.*"warnings":\([0-9]*\)}$/warnings: \1/' >"$work/printed"
+    judge "rules that ${file##*/} breaks" "${PIPESTATUS[0]}" 0
+done
 
 # ---- JSON
 

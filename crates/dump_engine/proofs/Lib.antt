@@ -4,4 +4,5 @@ pub mod LineDrops
 pub mod PacketCounts
 pub mod Passed
 pub mod Printed
+pub mod RuleLists
 pub mod Steps

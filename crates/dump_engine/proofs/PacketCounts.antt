@@ -7,6 +7,8 @@ use Rattle.dcsctp_wire.specs.declared.packet.sctp_packet.ChecksumPolicy.{Checksu
 use Rattle.dcsctp_wire.specs.declared.packet.sctp_packet.PacketParseError.{PacketParseError}
 use Rattle.dcsctp_borrowed.specs.PacketRef.{reference}
 use Rattle.dcsctp_borrowed.specs.declared.packet_ref.SctpPacketRef.{SctpPacketRef}
+use Rattle.dump_engine.specs.Verdict.{IsVerdict}
+use Rattle.dump_engine.specs.declared.counts.Verdict.TheVariants.{Accepted, Refused}
 use Rattle.dump_engine.specs.declared.options.Options.{Options}
 use Rattle.dump_engine.specs.declared.counts.Counts.{Counts}
 use Rattle.sctp_capture.specs.Number.{one_more}
@@ -49,3 +51,21 @@ counted_refused o before checked after p word policy error size word_is policy_i
     (after_is ∙ ap (refused_by checked) error_is
     ∙ ap (λ (c : Counts). refused_by c (packet_error_of f))
     (checked_is ∙ ap (with_checksum before p.bytes) word_is))
+
+-- ---- what was found of it
+
+pub found_accepted : (o : Options) (p : Packet) (word : ℕ) (policy : ChecksumPolicy)
+    (r : SctpPacketRef) → p.length ≤ length p.bytes → word ≡ packet_word p.bytes
+    → policy ≡ policy_of o → IsPacket p.bytes word policy × (r ≡ reference p.bytes)
+    → IsVerdict o p Accepted word
+found_accepted o p word policy r size word_is policy_is (is, refers) =
+    (size, word_is, subst (λ (x : ChecksumPolicy). IsPacket p.bytes word x) policy_is is)
+
+pub found_refused : (o : Options) (p : Packet) (word : ℕ) (policy : ChecksumPolicy)
+    (error : PacketParseError) → p.length ≤ length p.bytes → word ≡ packet_word p.bytes
+    → policy ≡ policy_of o
+    → ((f : PacketFault) × (error ≡ packet_error_of f) × Answer p.bytes word policy (Err f)) ⊎ ⊥
+    → IsVerdict o p Refused word
+found_refused o p word policy error size word_is policy_is (inr none) = absurd none
+found_refused o p word policy error size word_is policy_is (inl (f, error_is, answer)) =
+    (size, word_is, (f, subst (λ (x : ChecksumPolicy). Answer p.bytes word x (Err f)) policy_is answer))

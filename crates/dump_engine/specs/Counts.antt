@@ -34,6 +34,7 @@ nothing = record {
   long = 0;
   unknown = 0;
   links = 0;
+  unfinished = 0;
   kinds = replicate 256 0;
 }
 
@@ -112,7 +113,8 @@ no_packet c frame.Malformed = record c { malformed = one_more c.malformed }
 no_packet c frame.LinkType = record c { links = one_more c.links }
 
 abbrev pub unread : Counts → Skipped → Counts
-unread c part.EndsIn = record c { cut = one_more c.cut }
+unread c part.EndsIn =
+    record c { cut = one_more c.cut; unfinished = one_more c.unfinished }
 unread c part.Malformed = record c { malformed = one_more c.malformed }
 unread c part.NoInterface = record c { malformed = one_more c.malformed }
 unread c part.TooLong = record c { long = one_more c.long }
@@ -138,13 +140,13 @@ pub data AreCounts (o : Options) : List Event → Counts → Type 0 where
       → AreCounts o first before → CountsEvent o before last c → events ≡ first ++ last ∷ []
       → AreCounts o events c
 
--- 2: an input couldn't be read, or nothing was read of any; or else 1: a packet was refused; or
--- else 3: one breaks a rule that was looked at
+-- 2: an input couldn't be read, or ends inside a record, or nothing was read of any; or else 1: a
+-- packet was refused; or else 3: one breaks a rule that was looked at
 abbrev pub is_unread : Counts → Bool
 is_unread c = packets c == 0 && nat_lt 0 (skipped c)
 
 abbrev pub status : Bool → Bool → Counts → ℕ
 status failed warned c =
-    if failed || is_unread c then 2 else
+    if failed || is_unread c || nat_lt 0 c.unfinished then 2 else
     if nat_lt 0 (refused c) then 1 else
     if warned then 3 else 0

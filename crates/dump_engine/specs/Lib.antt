@@ -2,3 +2,5 @@ pub mod Handed
 pub mod Counts
 pub mod Inputs
 pub mod Totals
+pub mod Verdict
+pub mod Warnings

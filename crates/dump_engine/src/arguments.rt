@@ -3,6 +3,7 @@
 ghost use Rattle.std.specs.Prelude.{◌≤◌, IfOk};
 
 use crate::failure::Failure;
+use crate::name::Name;
 use crate::options::{Form, Options, OutputForm, TimeOption};
 use sctp_filter::filter::Host;
 use sctp_report::chunk_name;
@@ -22,13 +23,15 @@ Wireshark. Without a FILE, or where it is -, it reads standard input.
 
 What is printed:
   --brief          a line a packet, blanks only between its fields
-  --json           a JSON object a line
+  --json           a JSON object a line, not with --brief
   --places         in JSON also the offset and size of each field
   --payload        all bytes of values, in rows, not the first 16 (64 of a text)
   --time FORM      iso, utc, relative (to the first packet) or delta (to the
                    packet before)
   --associations   a block an association, in place of packets; with --brief or
                    --json after them
+  --keep NUMBER    of --associations and --check: the most associations that are
+                   kept at a time; 10000 if not given
   --check          the rules of the RFCs that accepted packets break
   --summary        counts alone
 
@@ -39,6 +42,7 @@ Which packets are printed (all are counted); all that is asked for holds:
   --chunk TYPE     with a chunk of this type, as SACK, HEARTBEAT_ACK or 3
   --stream NUMBER  with user data of this stream
   --ppid NUMBER    with user data of this payload protocol
+  --transport NAME of this transport of a log, as DcSctpTransport0
   --wrong          whose checksum is wrong
   --from NUMBER    from this packet on
   --to NUMBER      up to this packet
@@ -53,10 +57,12 @@ How they are read:
 Frames of these link types are read: 0 and 108 (loopback), 1 (Ethernet), 12, 14
 and 101 (raw IP), 113 and 276 (Linux cooked), 228 (IPv4), 229 (IPv6), 248 (SCTP).
 
+An option that would have no effect is refused.
+
 Status: 0 if all packets were accepted, 1 if some were refused, 2 if an input
-couldn't be read or no packet was found in what it holds, the output couldn't be
-written, or memory ran out, 3 if none was refused, but --check found a broken
-rule.
+couldn't be read, ends inside a record or has no packet in what it holds, the
+output couldn't be written, or memory ran out, 3 if none was refused, but --check
+found a broken rule.
 ";
 
 /// The name of standard input, which is read where no file is named.
@@ -112,7 +118,10 @@ pub fn request_of(alloc: Global, words: &[String]) -> Result<Request<'_>, Failur
     if request.files.is_empty() {
         request.files.push(STANDARD_INPUT)?;
     }
-    Ok(request)
+    match request.options.idle() {
+        Some(usage) if request.action == Action::Dump => Err(Failure::Usage(usage)),
+        _ => Ok(request),
+    }
 }
 
 /// Whether a word isn't the name of a file.
@@ -124,7 +133,7 @@ impl<'a> Request<'a> {
     /// Takes an option, and returns whether the next word is its value. The value may be in the
     /// same word, after `=`.
     fn take(&mut self, word: &str, next: &str) -> Result<bool, Failure> {
-        if self.take_flag(word) {
+        if self.take_flag(word)? {
             return Ok(false);
         }
         match word.split_once('=') {
@@ -140,11 +149,11 @@ impl<'a> Request<'a> {
     }
 
     /// Takes an option without a value; returns false if it isn't one.
-    fn take_flag(&mut self, word: &str) -> bool {
+    fn take_flag(&mut self, word: &str) -> Result<bool, Failure> {
         let options = &mut self.options;
         match word {
-            "--brief" => options.output = OutputForm::Brief,
-            "--json" => options.output = OutputForm::Json,
+            "--brief" => options.take_output(OutputForm::Brief)?,
+            "--json" => options.take_output(OutputForm::Json)?,
             "--places" => options.places = true,
             "--payload" => options.payload = true,
             "--associations" => options.associations = true,
@@ -158,13 +167,22 @@ impl<'a> Request<'a> {
             "--strict" => options.strict = true,
             "--help" | "-h" => self.action = Action::Help,
             "--version" | "-V" => self.action = Action::Version,
-            _ => return false,
+            _ => return Ok(false),
         }
-        true
+        Ok(true)
     }
 }
 
 impl Options {
+    /// Takes a form of output, if no other one was asked for.
+    fn take_output(&mut self, form: OutputForm) -> Result<(), Failure> {
+        if self.output != OutputForm::Blocks && self.output != form {
+            return Err(Failure::Usage("--brief and --json are two forms: give one"));
+        }
+        self.output = form;
+        Ok(())
+    }
+
     /// Takes an option with its value.
     fn take_value(&mut self, name: &str, value: &str) -> Result<(), Failure> {
         match name {
@@ -173,6 +191,10 @@ impl Options {
             "--udp-port" => {
                 let usage = "--udp-port takes a number from 1 to 65535";
                 self.udp_port = number_of(value, 1, 65_535, usage)? as u16;
+            }
+            "--keep" => {
+                let usage = "--keep takes a number from 1 to 1000000";
+                self.keep = number_of(value, 1, 1_000_000, usage)? as usize;
             }
             _ => {
                 self.take_filter(name, value)?;
@@ -221,6 +243,7 @@ impl Options {
                 let usage = "--to takes a packet's number, from 1";
                 self.filter.last = number_of(value, 1, u64::MAX, usage)?;
             }
+            "--transport" => set(&mut self.transport, name_of(value)?)?,
             "--host" => set(&mut self.filter.host, host_of(value)?)?,
             "--chunk" => set(&mut self.filter.chunk, type_of(value)?)?,
             _ => return Err(Failure::Usage("unknown option (try --help)")),
@@ -273,6 +296,14 @@ fn time_of(name: &str) -> Result<TimeOption, Failure> {
         "relative" => Ok(TimeOption::Relative),
         "delta" => Ok(TimeOption::Delta),
         _ => Err(Failure::Usage("--time takes iso, utc, relative or delta")),
+    }
+}
+
+/// Returns a transport's name.
+fn name_of(text: &str) -> Result<Name, Failure> {
+    match Name::new(text.as_bytes()) {
+        Some(name) => Ok(name),
+        None => Err(Failure::Usage("--transport takes a name of up to 64 bytes")),
     }
 }
 

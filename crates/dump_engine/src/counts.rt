@@ -5,6 +5,7 @@ ghost use Rattle.sctp_capture.specs.Found.{packet_of};
 ghost use Rattle.sctp_capture.specs.Number.{one_more};
 ghost use Rattle.dcsctp_wire.specs.declared.packet.sctp_packet.ChecksumPolicy.{ChecksumPolicy};
 ghost use Rattle.dump_engine.specs.Counts.{nothing, with_kind, ChunkTypes, with_checksum, refused_by, no_packet, unread, packets, refused, skipped, is_unread, CountsPacket};
+ghost use Rattle.dump_engine.specs.Verdict.{IsVerdict};
 
 use crate::options::Options;
 use dcsctp_borrowed::packet_ref::SctpPacketRef;
@@ -47,8 +48,10 @@ pub struct Counts {
     pub long: u64,
     /// lines of no form that is known,
     pub unknown: u64,
-    /// frames of a link type that isn't read.
+    /// frames of a link type that isn't read,
     pub links: u64,
+    /// captures that end inside a record.
+    pub unfinished: u64,
     // the chunks of accepted packets, by their types
     pub kinds: [u64; 256],
 }
@@ -85,6 +88,7 @@ impl Counts {
             long: 0,
             unknown: 0,
             links: 0,
+            unfinished: 0,
             kinds: [0; 256],
         }
     }
@@ -131,7 +135,8 @@ impl Counts {
     /// Counts a packet, and returns what was found of it, and its checksum word, which is 0 of one
     /// that was cut off.
     pub fn count_packet(&mut self, options: &Options, found: &FoundPacket<'_>) -> (Verdict, u32)
-        ensures { CountsPacket options.now self.old (packet_of found.now) self.new }
+        ensures counts { CountsPacket options.now self.old (packet_of found.now) self.new }
+        ensures verdict { IsVerdict options.now (packet_of found.now) result.0 result.1 }
     {
         let bytes = found.packet;
         if bytes.len() < found.length {
@@ -219,7 +224,10 @@ impl Counts {
         ensures { self.new ≡ unread self.old why }
     {
         match why {
-            Skipped::EndsIn => increase(&mut self.cut),
+            Skipped::EndsIn => {
+                increase(&mut self.cut);
+                increase(&mut self.unfinished);
+            }
             Skipped::Malformed | Skipped::NoInterface => increase(&mut self.malformed),
             Skipped::TooLong => increase(&mut self.long),
             Skipped::Unknown | Skipped::Apart => increase(&mut self.unknown),

@@ -1,7 +1,9 @@
 //! Prints the events of captures, and counts them.
 
-ghost use Rattle.std.specs.Prelude.{◌≡◌, None};
+ghost use Rattle.std.specs.Prelude.{◌≡◌, None, IfOk, IsOk, replicate};
+ghost use Rattle.sctp_capture.specs.Found.{packet_of};
 ghost use Rattle.dump_engine.specs.Counts.{nothing};
+ghost use Rattle.dump_engine.specs.Warnings.{WarnsOf, is_warned};
 
 use crate::counts::{Counts, Verdict};
 use crate::failure::Failure;
@@ -9,16 +11,18 @@ use crate::options::{Options, OutputForm};
 use crate::printer::Printer;
 use crate::seen::{SeenBrief, SeenJson, SeenLines};
 use crate::skipped::{SkippedJson, SkippedLine, frame_reason_of, reason_of};
-use crate::summary::{Summary, SummaryJson};
-use crate::warnings::{Broken, RULES, WarningLines, WarningsBrief, WarningsJson};
-use crate::when::{Clock, nanoseconds_of};
+use crate::summary::{Summary, SummaryJson, Unkept, UnkeptJson};
+use crate::warnings::{Broken, RULES, WarningLines, WarningsBrief, WarningsJson, is_warned};
+use crate::when::Clock;
 use dcsctp_wire::packet::sctp_packet::{FirstFault, SctpPacket};
 use sctp_association::{
-    Association, AssociationJson, AssociationReport, Associations, SeenPacket, TimeStyle,
+    Association, AssociationJson, AssociationReport, Associations, PacketNumber, SeenPacket,
+    TimeStyle,
 };
 use sctp_capture::event::{Part, Seen, Sink, Skipped, Time};
 use sctp_capture::frame::{FoundPacket, NoPacket, packet_in};
-use sctp_filter::rule::Rule;
+use sctp_capture::line::Direction;
+use sctp_filter::rule::{Known, Rule};
 use sctp_report::{Checksum, JsonText, PacketBrief, PacketJson, PacketReport};
 use std::alloc::{AllocError, Global};
 use std::io;
@@ -41,6 +45,10 @@ pub struct EventPrinter<W> {
     /// How many accepted packets break each of `Rule::ALL`, up to 2^64 - 1.
     pub warnings: [u64; RULES],
     alloc: Global,
+    /// The names of the inputs that were begun.
+    files: Vec<String>,
+    /// There are several inputs.
+    names_files: bool,
     // Those of the packets so far, where associations or rules are asked for.
     associations: Option<Associations>,
     clock: Clock,
@@ -59,9 +67,12 @@ impl<W: Write> EventPrinter<W> {
         ensures options { result.options ≡ options }
         ensures counts { result.counts ≡ nothing }
         ensures failure { result.failure ≡ None }
+        ensures warnings { result.warnings ≡ replicate RULES 0 }
     {
         EventPrinter {
             alloc,
+            files: Vec::new(alloc),
+            names_files: false,
             options,
             counts: Counts::new(),
             failure: None,
@@ -80,12 +91,18 @@ impl<W: Write> EventPrinter<W> {
         self.output.into_writer()
     }
 
-    /// Prints which file comes next.
-    pub fn print_file(&mut self, name: &str) -> Result<(), AllocError>
+    /// Begins an input. Prints its name, if there are several.
+    pub fn begin_file(&mut self, name: &str, is_named: bool) -> Result<(), AllocError>
         ensures options { self.new.options ≡ self.old.options }
         ensures counts { self.new.counts ≡ self.old.counts }
         ensures failure { self.new.failure ≡ self.old.failure }
+        ensures warnings { self.new.warnings ≡ self.old.warnings }
     {
+        self.files.push(String::from_str(self.alloc, name)?)?;
+        self.names_files = is_named;
+        if !is_named || self.options.summary {
+            return Ok(());
+        }
         let text = &mut self.output.text;
         match self.options.output {
             OutputForm::Blocks => writeln!(text, "file {name}\n"),
@@ -97,9 +114,11 @@ impl<W: Write> EventPrinter<W> {
         }
     }
 
-    /// Returns whether an accepted packet breaks a rule that was looked at.
-    pub fn is_warned(&self) -> bool {
-        count_all(&self.warnings) > 0
+    /// Returns whether a packet that wasn't refused breaks a rule that was looked at.
+    pub fn is_warned(&self) -> bool
+        ensures { result ≡ is_warned self.now.warnings }
+    {
+        is_warned(&self.warnings)
     }
 
     /// Prints the associations that are asked for and the counts, and writes all.
@@ -124,6 +143,7 @@ impl<W: Write> EventPrinter<W> {
                 push_associations(
                     &self.options,
                     self.is_log,
+                    named(&self.files, self.names_files),
                     associations,
                     &mut self.output.text,
                 )
@@ -158,30 +178,65 @@ impl<W: Write> EventPrinter<W> {
     }
 
     /// Looks at a packet for all that is asked for, and prints it if it passes.
-    fn print_packet(
+    fn print_packet<'a>(
         &mut self,
-        seen: &Seen<'_>,
-        found: &FoundPacket<'_>,
+        seen: &Seen<'a>,
+        found: &FoundPacket<'a>,
         verdict: Verdict,
         word: u32,
     ) -> Result<(), AllocError>
         ensures options { self.new.options ≡ self.old.options }
         ensures counts { self.new.counts ≡ self.old.counts }
         ensures failure { self.new.failure ≡ self.old.failure }
+        ensures warnings { IfOk result (λ _. WarnsOf self.old.options (packet_of found.now) verdict
+            word self.old.warnings self.new.warnings) }
     {
-        let nanoseconds = nanoseconds_of(&seen.time);
+        let nanoseconds = self.clock.read(&seen.time);
         self.is_log |= matches!(seen.time, Time::OfDay { .. });
-        let passes = self.options.filter.passes(seen.number, found, word);
-        self.track(SeenPacket {
-            number: seen.number,
+        let first_fault = if verdict == Verdict::Refused {
+            SctpPacket::first_fault(found.packet, word, &self.options.policy())
+        } else {
+            None
+        };
+        let fault = first_fault.as_ref();
+        let passes = self.passes(seen, found, word, fault);
+        let checksum = Checksum::of_packet(found.packet, found.length, word);
+        let is_refused = verdict == Verdict::Refused;
+        let number = self.number_of(seen.number);
+        let packet = seen_packet(
+            number,
+            seen,
             nanoseconds,
-            found: *found,
-            checksum: Checksum::of_packet(found.packet, found.length, word),
-            is_refused: verdict == Verdict::Refused,
+            *found,
+            checksum,
+            is_refused,
             passes,
-        })?;
-        let broken = self.check(found, verdict, word);
-        let is_faulty = verdict == Verdict::Refused || broken.is_some();
+        );
+        self.track(&packet)?;
+        let broken = self.check(&packet, found, verdict, word);
+        let judged = Judged {
+            found,
+            word,
+            fault,
+            broken,
+        };
+        self.print_seen(seen, nanoseconds, passes, judged)
+    }
+
+    /// Prints a packet, if it passes.
+    fn print_seen(
+        &mut self,
+        seen: &Seen<'_>,
+        nanoseconds: Option<u64>,
+        passes: bool,
+        judged: Judged<'_, '_, '_>,
+    ) -> Result<(), AllocError>
+        ensures options { self.new.options ≡ self.old.options }
+        ensures counts { self.new.counts ≡ self.old.counts }
+        ensures failure { self.new.failure ≡ self.old.failure }
+        ensures warnings { self.new.warnings ≡ self.old.warnings }
+    {
+        let is_faulty = judged.fault.is_some() || judged.broken.is_some();
         let is_printed = passes
             && self.options.prints_packets()
             && (is_faulty || !self.options.faults);
@@ -189,36 +244,63 @@ impl<W: Write> EventPrinter<W> {
         if !is_printed {
             return Ok(());
         }
+        let file = match self.files.last() {
+            Some(name) if self.names_files => Some(name.as_str()),
+            _ => None,
+        };
         let lines = SeenLines {
             number: seen.number,
-            when: self.clock.when(&seen.time, since),
-            found,
+            file,
+            when: self.clock.when(&seen.time, nanoseconds, since),
+            found: judged.found,
         };
-        push_packet(
-            &self.options,
-            lines,
-            verdict,
-            word,
-            broken,
-            &mut self.output.text,
-        )
+        push_packet(&self.options, lines, judged, &mut self.output.text)
+    }
+
+    /// Returns whether a packet is asked for.
+    fn passes(
+        &self,
+        seen: &Seen<'_>,
+        found: &FoundPacket<'_>,
+        word: u32,
+        fault: Option<&FirstFault>,
+    ) -> bool {
+        if let Some(name) = &self.options.transport
+            && !name.is(log_of(&seen.time).1)
+        {
+            return false;
+        }
+        let offset = match fault {
+            Some(fault) => Some(fault.offset),
+            None => None,
+        };
+        self.options.filter.passes(seen.number, found, word, offset)
+    }
+
+    /// Returns a packet's number, with the place of its file.
+    fn number_of(&self, number: u64) -> PacketNumber {
+        let file = u32::try_from(self.files.len())
+            .unwrap_or(u32::MAX)
+            .saturating_sub(1);
+        PacketNumber { file, number }
     }
 
     /// Counts a packet among those of its association, if these are asked for, and prints the one
     /// that leaves the table for it.
-    fn track(&mut self, packet: SeenPacket<'_>) -> Result<(), AllocError>
+    fn track(&mut self, packet: &SeenPacket<'_>) -> Result<(), AllocError>
         ensures options { self.new.options ≡ self.old.options }
         ensures counts { self.new.counts ≡ self.old.counts }
         ensures failure { self.new.failure ≡ self.old.failure }
+        ensures warnings { self.new.warnings ≡ self.old.warnings }
     {
         if !(self.options.associations || self.options.check) {
             return Ok(());
         }
         if self.associations.is_none() {
-            self.associations = Some(Associations::new(self.alloc)?);
+            self.associations = Some(Associations::new(self.alloc, self.options.keep)?);
         }
         let left = match &mut self.associations {
-            Some(associations) => associations.see(&packet)?,
+            Some(associations) => associations.see(packet)?,
             None => None,
         };
         match left {
@@ -226,6 +308,7 @@ impl<W: Write> EventPrinter<W> {
                 push_association(
                     &self.options,
                     self.is_log,
+                    named(&self.files, self.names_files),
                     &association,
                     &mut self.output.text,
                 )
@@ -236,21 +319,41 @@ impl<W: Write> EventPrinter<W> {
 
     /// Returns which rules a packet breaks that wasn't refused, if they are looked at, and counts
     /// them.
-    fn check(&mut self, found: &FoundPacket<'_>, verdict: Verdict, word: u32) -> Broken
+    fn check(
+        &mut self,
+        packet: &SeenPacket<'_>,
+        found: &FoundPacket<'_>,
+        verdict: Verdict,
+        word: u32,
+    ) -> Broken
         ensures options { self.new.options ≡ self.old.options }
         ensures counts { self.new.counts ≡ self.old.counts }
         ensures failure { self.new.failure ≡ self.old.failure }
+        ensures warnings { WarnsOf self.old.options (packet_of found.now) verdict word
+            self.old.warnings self.new.warnings }
     {
         if !self.options.check || verdict == Verdict::Refused {
             return Broken::NONE;
         }
-        let accepts_zero = match &self.associations {
-            Some(associations) => associations.accepts_zero(found),
-            None => None,
-        };
-        let broken = Broken::of(found.packet, found.length, word, accepts_zero);
+        let known = self.known_of(packet);
+        let broken = Broken::of(found.packet, found.length, word, known);
         broken.count(&mut self.warnings);
         broken
+    }
+
+    /// Returns what is known of a packet's association.
+    fn known_of(&self, packet: &SeenPacket<'_>) -> Known {
+        match &self.associations {
+            Some(associations) => {
+                let (has_data, has_idata) = associations.user_data(packet);
+                Known {
+                    accepts_zero: associations.accepts_zero(packet),
+                    has_data,
+                    has_idata,
+                }
+            }
+            None => Known::NOTHING,
+        }
     }
 
     /// Prints a record or a line without a packet, if a reason is to be said.
@@ -263,6 +366,7 @@ impl<W: Write> EventPrinter<W> {
         ensures options { self.new.options ≡ self.old.options }
         ensures counts { self.new.counts ≡ self.old.counts }
         ensures failure { self.new.failure ≡ self.old.failure }
+        ensures warnings { self.new.warnings ≡ self.old.warnings }
     {
         let Some(reason) = reason else {
             return Ok(());
@@ -291,6 +395,7 @@ impl<W: Write> EventPrinter<W> {
         ensures options { self.new.options ≡ self.old.options }
         ensures counts { self.new.counts ≡ self.old.counts }
         ensures failure { self.new.failure ≡ self.old.failure }
+        ensures warnings { self.new.warnings ≡ self.old.warnings }
     {
         match why {
             Skipped::Unknown if self.said_unknown => return None,
@@ -306,6 +411,8 @@ impl<W: Write> EventPrinter<W> {
     fn note(&mut self, outcome: Result<(), AllocError>)
         ensures options { self.new.options ≡ self.old.options }
         ensures counts { self.new.counts ≡ self.old.counts }
+        ensures warnings { self.new.warnings ≡ self.old.warnings }
+        ensures failure { self.new.failure ≡ None → IsOk outcome }
     {
         if outcome.is_err() {
             self.failure = Some(Failure::OutOfMemory);
@@ -320,8 +427,10 @@ impl<W: Write> EventPrinter<W> {
 impl<W: Write> Sink for EventPrinter<W> {
     ghost use Rattle.std.specs.Prelude.{◌≡◌, None};
     ghost use Rattle.dump_engine.specs.Counts.{AreCounts};
+    ghost use Rattle.dump_engine.specs.Warnings.{AreWarnings};
 
-    ghost handed = { λ p events. p.failure ≡ None → AreCounts p.options events p.counts };
+    ghost handed = { λ p events. p.failure ≡ None
+        → AreCounts p.options events p.counts × AreWarnings p.options events p.warnings };
 
     fn frame(&mut self, seen: &Seen<'_>, link_type: u16, original_length: u32, bytes: &[u8]) {
         if self.failure.is_some() {
@@ -371,6 +480,11 @@ impl<W: Write> Printer for EventPrinter<W> {
     }
 }
 
+/// Returns the names of the inputs, if they are named.
+fn named(files: &[String], is_named: bool) -> &[String] {
+    if is_named { files } else { &[] }
+}
+
 /// Returns what a failed write means.
 fn failure_of(error: &io::Error) -> Failure {
     if error.kind() == ErrorKind::BrokenPipe {
@@ -380,22 +494,59 @@ fn failure_of(error: &io::Error) -> Failure {
     }
 }
 
+/// Returns which way a packet of a log went, and the name of its transport.
+fn log_of<'a>(time: &Time<'a>) -> (Option<Direction>, &'a [u8]) {
+    match time {
+        Time::OfDay {
+            direction,
+            transport,
+            ..
+        } => (Some(*direction), transport.as_bytes()),
+        _ => (None, b""),
+    }
+}
+
+/// Returns a packet, as associations see it.
+fn seen_packet<'a>(
+    number: PacketNumber,
+    seen: &Seen<'a>,
+    nanoseconds: Option<u64>,
+    found: FoundPacket<'a>,
+    checksum: Checksum,
+    is_refused: bool,
+    passes: bool,
+) -> SeenPacket<'a> {
+    let (direction, transport) = log_of(&seen.time);
+    SeenPacket {
+        number,
+        nanoseconds,
+        found,
+        direction,
+        transport,
+        checksum,
+        is_refused,
+        passes,
+    }
+}
+
+/// A packet, and what was found of it.
+#[derive(Clone, Copy)]
+struct Judged<'f, 'a, 't> {
+    found: &'f FoundPacket<'a>,
+    word: u32,
+    fault: Option<&'t FirstFault>,
+    broken: Broken,
+}
+
 /// Adds a packet.
 fn push_packet(
     options: &Options,
     lines: SeenLines<'_, '_, '_>,
-    verdict: Verdict,
-    word: u32,
-    broken: Broken,
+    judged: Judged<'_, '_, '_>,
     text: &mut String,
 ) -> Result<(), AllocError> {
-    let (bytes, length) = (lines.found.packet, lines.found.length);
-    let first_fault = if verdict == Verdict::Refused {
-        SctpPacket::first_fault(bytes, word, &options.policy())
-    } else {
-        None
-    };
-    let fault = first_fault.as_ref();
+    let (bytes, length) = (judged.found.packet, judged.found.length);
+    let (word, fault, broken) = (judged.word, judged.fault, judged.broken);
     match options.output {
         OutputForm::Blocks => {
             let report = PacketReport {
@@ -436,19 +587,33 @@ fn push_packet(
 fn push_associations(
     options: &Options,
     is_log: bool,
+    files: &[String],
     associations: Associations,
     text: &mut String,
 ) -> Result<(), AllocError> {
+    let unkept = Unkept {
+        left: associations.left(),
+        unknown: associations.unknown(),
+    };
     for association in associations.into_vec() {
-        push_association(options, is_log, &association, text)?;
+        push_association(options, is_log, files, &association, text)?;
     }
-    Ok(())
+    if !options.associations || !unkept.is_some() {
+        return Ok(());
+    }
+    if options.output == OutputForm::Json {
+        let object = UnkeptJson(unkept);
+        write!(text, "{object}")
+    } else {
+        write!(text, "{unkept}")
+    }
 }
 
 /// Adds an association, if they are asked for, and a packet of it passed.
 fn push_association(
     options: &Options,
     is_log: bool,
+    files: &[String],
     association: &Association,
     text: &mut String,
 ) -> Result<(), AllocError> {
@@ -460,10 +625,18 @@ fn push_association(
         digits: 6,
     };
     if options.output == OutputForm::Json {
-        let object = AssociationJson { association, style };
+        let object = AssociationJson {
+            association,
+            style,
+            files,
+        };
         return writeln!(text, "{object}");
     }
-    let report = AssociationReport { association, style };
+    let report = AssociationReport {
+        association,
+        style,
+        files,
+    };
     writeln!(text, "{report}")
 }
 

@@ -26,6 +26,8 @@ pub enum Failure {
     Compressed,
     /// The input has more parts than can be counted.
     Endless,
+    /// The input ends inside a record.
+    Unfinished,
     /// The input can't be read from some place on.
     Fault(Fault),
 }
@@ -41,6 +43,7 @@ impl fmt::Display for Failure {
             Failure::Usage(usage) => usage,
             Failure::Compressed => "is compressed by gzip: zcat FILE | sctp_dump reads it",
             Failure::Endless => "has too many parts",
+            Failure::Unfinished => "ends inside a record",
             Failure::Fault(Fault::NotCapture) => "doesn't begin as a file of its format",
             Failure::Fault(Fault::ShortHeader) => "ends in the file header",
             Failure::Fault(Fault::Block) =>

@@ -3,6 +3,7 @@
 ghost use Rattle.std.specs.Prelude.{◌≡◌, ◌≤◌, IfOk, Ok, Err, MatchResult};
 ghost use Rattle.dump_engine.specs.Counts.{is_unread, status};
 ghost use Rattle.dump_engine.specs.Totals.{after_input};
+ghost use Rattle.dump_engine.specs.Warnings.{is_warned};
 ghost use Rattle.dump_engine.specs.declared.failure.Failure.{Failure};
 
 use crate::arguments::{Action, HELP, Request, STANDARD_INPUT, VERSION, request_of};
@@ -27,9 +28,9 @@ const FAILED: u8 = 2;
 const WARNED: u8 = 3;
 
 /// Does what the host's arguments say, and returns the status: 0 if all packets were accepted, 1 if
-/// some were refused, 2 if an input couldn't be read or no packet was found in what it holds, the
-/// output couldn't be written, or memory ran out, 3 if none was refused, but some break rules that
-/// were looked at.
+/// some were refused, 2 if an input couldn't be read, ends inside a record or has no packet in what
+/// it holds, the output couldn't be written, or memory ran out, 3 if none was refused, but some
+/// break rules that were looked at.
 ///
 /// Reports each failure on standard error, but not that whoever read the output reads no more of
 /// it. No clause says what a host is asked for, since none of std does.
@@ -98,11 +99,9 @@ fn dump_all(rt: &HostRuntime, request: &Request<'_>) -> Result<u8, Failure>
     let writer = Watched::new(io::writer(rt));
     let mut printer = EventPrinter::new(rt.alloc(), request.options, writer);
     let mut failed = false;
-    let names_files = request.files.len() > 1 && !request.options.summary;
+    let is_named = request.files.len() > 1;
     for name in &request.files {
-        if names_files {
-            printer.print_file(name)?;
-        }
+        printer.begin_file(name, is_named)?;
         let outcome = dump_input(rt, name, request, &mut window, &mut printer);
         failed |= is_over(rt, name, outcome)?;
     }
@@ -113,22 +112,22 @@ fn dump_all(rt: &HostRuntime, request: &Request<'_>) -> Result<u8, Failure>
             "sctp_dump: no SCTP packet was found (in UDP, --udp-port says the port)"
         );
     }
-    end_of(written, failed, printer.is_warned(), &printer.counts)
+    end_of(written, failed, &printer)
 }
 
 /// What a run returns, whose last write ended so.
-fn end_of(
+fn end_of<W: Write>(
     written: Result<(), Failure>,
     failed: bool,
-    warned: bool,
-    counts: &Counts,
+    printer: &EventPrinter<W>,
 ) -> Result<u8, Failure>
-    ensures end { MatchResult written (λ _. result ≡ Ok (status failed warned counts.now))
+    ensures end { MatchResult written
+        (λ _. result ≡ Ok (status failed (is_warned printer.now.warnings) printer.now.counts))
         (λ failure. result ≡ Err failure) }
     ensures known { IfOk result (λ status. status ≤ 3) }
 {
     match written {
-        Ok(()) => Ok(status_of(failed, warned, counts)),
+        Ok(()) => Ok(status_of(failed, printer.is_warned(), &printer.counts)),
         Err(failure) => Err(failure),
     }
 }
@@ -139,7 +138,7 @@ fn status_of(failed: bool, warned: bool, counts: &Counts) -> u8
     ensures status { result ≡ status failed warned counts.now }
     ensures known { result ≤ 3 }
 {
-    if failed || counts.is_unread() {
+    if failed || counts.is_unread() || counts.unfinished > 0 {
         FAILED
     } else if counts.refused() > 0 {
         REFUSED
@@ -176,6 +175,7 @@ fn dump_input<W: Write>(
     printer: &mut EventPrinter<W>,
 ) -> Result<(), Failure> {
     let (alloc, form) = (rt.alloc(), request.options.form);
+    let unfinished = printer.counts.unfinished;
     let outcome = if name == STANDARD_INPUT {
         let mut input = Watched::new(rt.reader());
         read_input(alloc, form, window, &mut input, printer)
@@ -189,6 +189,7 @@ fn dump_input<W: Write>(
         }
     };
     match outcome {
+        Ok(()) if printer.counts.unfinished > unfinished => Err(Failure::Unfinished),
         Ok(()) => Ok(()),
         Err(stop) => Err(failure_after(stop, printer.failure)),
     }

@@ -11,6 +11,8 @@ mod event_printer;
 mod failure;
 mod host;
 mod input;
+mod log_clock;
+mod name;
 mod options;
 mod printer;
 mod seen;

@@ -3,6 +3,7 @@
 ghost use Rattle.std.specs.Prelude.{◌≡◌};
 ghost use Rattle.dump_engine.specs.Counts.{policy_of};
 
+use crate::name::Name;
 use dcsctp_wire::packet::sctp_packet::ChecksumPolicy;
 use sctp_association::TimeForm;
 use sctp_capture::frame::UDP_PORT;
@@ -68,8 +69,12 @@ pub struct Options {
     pub associations: bool,
     /// The form of times.
     pub time: TimeOption,
+    /// How many associations are kept.
+    pub keep: usize,
     /// Which packets are printed.
     pub filter: Filter,
+    /// The name of the transport, in a log, whose packets are printed.
+    pub transport: Option<Name>,
     /// The filter was asked for: what has no packet isn't printed.
     pub is_filtered: bool,
     /// The UDP port that carries SCTP.
@@ -90,7 +95,9 @@ impl Options {
         check: false,
         associations: false,
         time: TimeOption::Captured,
+        keep: 10_000,
         filter: Filter::ALL,
+        transport: None,
         is_filtered: false,
         udp_port: UDP_PORT,
         form: Form::Detected,
@@ -113,6 +120,39 @@ impl Options {
             TimeOption::Iso => TimeForm::Iso,
             TimeOption::Utc => TimeForm::Utc,
             _ => TimeForm::Seconds,
+        }
+    }
+
+    /// Returns why an option that was given has no effect, if one has none.
+    pub fn idle(&self) -> Option<&'static str> {
+        let is_blocks = self.output == OutputForm::Blocks;
+        if self.places && self.output != OutputForm::Json {
+            return Some("--places needs --json");
+        }
+        if self.payload && !(is_blocks && self.prints_packets()) {
+            return Some("--payload needs blocks of packets, which aren't printed");
+        }
+        if self.filter.first > self.filter.last {
+            return Some("no packet is from --from on and up to --to");
+        }
+        if self.keep != Options::DEFAULT.keep && !(self.associations || self.check) {
+            return Some("--keep needs --associations or --check");
+        }
+        if self.summary && self.output == OutputForm::Brief {
+            return Some("--brief has no effect beside --summary");
+        }
+        if self.faults && !self.prints_packets() {
+            return Some("--faults needs packets, which aren't printed");
+        }
+        if self.prints_packets() || self.associations {
+            return None;
+        }
+        if self.is_filtered {
+            return Some("a filter has no effect beside --summary: all packets are counted");
+        }
+        match self.time {
+            TimeOption::Captured => None,
+            _ => Some("--time has no effect beside --summary"),
         }
     }
 

@@ -1,9 +1,10 @@
 //! Where and when packets were seen, as text.
 
-use crate::when::When;
+use crate::when::{When, WhenJson};
 use dcsctp_wire::packet::sctp_packet::CommonHeader;
 use sctp_capture::frame::{Addresses, FoundPacket, UdpPorts};
 use sctp_capture::line::Direction;
+use sctp_report::{JsonText, OneWord};
 use std::fmt;
 use std::net::{Ipv4Addr, Ipv6Addr};
 
@@ -13,6 +14,8 @@ use std::net::{Ipv4Addr, Ipv6Addr};
 pub struct SeenLines<'t, 'f, 'a> {
     /// The packet's number.
     pub number: u64,
+    /// The name of its file, if there are several.
+    pub file: Option<&'t str>,
     /// When it was seen.
     pub when: When<'t>,
     /// The packet in its frame.
@@ -29,6 +32,10 @@ impl<'t, 'f, 'a> fmt::Display for SeenLines<'t, 'f, 'a> {
         if let Some(direction) = when.direction() {
             let word = direction_word(direction);
             write!(f, ", {word}")?;
+        }
+        if !when.transport().is_empty() {
+            let transport = OneWord(when.transport());
+            write!(f, ", {transport}")?;
         }
         let (captured, length) = (self.found.packet.len(), self.found.length);
         if captured < length {
@@ -72,17 +79,25 @@ impl<'t, 'f, 'a> fmt::Display for SeenBrief<'t, 'f, 'a> {
             Some(header) => (Some(header.source_port), Some(header.destination_port)),
             None => (None, None),
         };
+        let transport = OneWord(when.transport());
         f.write_str(" ")?;
-        write_end(source, from, f)?;
+        write_end(source, transport, from, f)?;
         f.write_str(" > ")?;
-        write_end(destination, to, f)
+        write_end(destination, transport, to, f)
     }
 }
 
-/// Writes an end with its port (RFC 3986 section 3.2.2: an IPv6 address in brackets).
-fn write_end<W: fmt::Write>(end: End, port: Option<u16>, f: &mut fmt::Formatter<W>) -> fmt::Result {
+/// Writes an end with its port (RFC 3986 section 3.2.2: an IPv6 address in brackets), and of the end
+/// that wrote a log the name of its transport.
+fn write_end<W: fmt::Write>(
+    end: End,
+    transport: OneWord<'_>,
+    port: Option<u16>,
+    f: &mut fmt::Formatter<W>,
+) -> fmt::Result {
     match end {
         End::V6(address) => write!(f, "[{address}]")?,
+        End::Local if !transport.0.is_empty() => write!(f, "local({transport})")?,
         _ => write!(f, "{end}")?,
     }
     match port {
@@ -100,12 +115,21 @@ impl<'t, 'f, 'a> fmt::Display for SeenJson<'t, 'f, 'a> {
         let seen = self.0;
         let (number, when) = (seen.number, seen.when);
         write!(f, "\"packet\":{number}")?;
-        if when.is_known() {
-            write!(f, ",\"time\":\"{when}\"")?;
+        if let Some(file) = seen.file {
+            let name = JsonText(file);
+            write!(f, ",\"file\":{name}")?;
         }
+        let time = WhenJson(when);
+        write!(f, "{time}")?;
         if let Some(direction) = when.direction() {
             let word = direction_word(direction);
             write!(f, ",\"direction\":\"{word}\"")?;
+        }
+        if let Ok(transport) = str::from_utf8(when.transport())
+            && !transport.is_empty()
+        {
+            let name = JsonText(transport);
+            write!(f, ",\"transport\":{name}")?;
         }
         if let Some(addresses) = seen.found.addresses {
             let (source, destination) = hosts_of(addresses);

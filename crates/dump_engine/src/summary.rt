@@ -63,6 +63,47 @@ fn write_skipped<W: fmt::Write>(counts: &Counts, f: &mut fmt::Formatter<W>) -> f
     )
 }
 
+/// What the table of associations didn't keep.
+#[derive(Clone, Copy)]
+pub struct Unkept {
+    /// How many associations left it,
+    pub left: u64,
+    /// and how many packets belong to none.
+    pub unknown: u64,
+}
+
+impl Unkept {
+    /// Returns whether there is something to say.
+    pub fn is_some(self) -> bool {
+        self.left > 0 || self.unknown > 0
+    }
+}
+
+impl fmt::Display for Unkept {
+    fn fmt<W: fmt::Write>(&self, f: &mut fmt::Formatter<W>) -> fmt::Result {
+        let (left, unknown) = (self.left, self.unknown);
+        f.write_str("associations:")?;
+        if left > 0 {
+            write!(
+                f,
+                " {left} left the table, and what is said of them is a part (--keep keeps more);"
+            )?;
+        }
+        writeln!(f, " packets of none {unknown}")
+    }
+}
+
+/// The same as a JSON object, in a line.
+#[derive(Clone, Copy)]
+pub struct UnkeptJson(pub Unkept);
+
+impl fmt::Display for UnkeptJson {
+    fn fmt<W: fmt::Write>(&self, f: &mut fmt::Formatter<W>) -> fmt::Result {
+        let (left, unknown) = (self.0.left, self.0.unknown);
+        writeln!(f, "{{\"left_table\":{left},\"packets_of_none\":{unknown}}}")
+    }
+}
+
 /// Counts, as a JSON object in a line.
 #[derive(Clone, Copy)]
 pub struct SummaryJson<'a> {

@@ -1,6 +1,12 @@
-//! The rules that a packet breaks, as text.
+//! The rules that a packet breaks, counted, and as text.
 
-use sctp_filter::rule::Rule;
+ghost use Rattle.std.specs.Prelude.{◌≡◌, map};
+ghost use Rattle.std.specs.List.{list_any};
+ghost use Rattle.sctp_filter.specs.declared.rule.TheConstants.Rule.{ALL};
+ghost use Rattle.sctp_report.specs.Part.{Part as ThePart};
+ghost use Rattle.dump_engine.specs.Warnings.{CountsBroken, is_broken_by, is_warned};
+
+use sctp_filter::rule::{Known, Rule};
 use std::fmt;
 
 /// How many rules there are.
@@ -20,18 +26,22 @@ impl Broken {
     };
 
     /// Returns which rules are broken by a packet of `size` bytes, of which these were captured.
-    /// `word` is the expected checksum field; `accepts_zero` says whether its receiver announced
-    /// that it accepts a zero in its place.
-    pub fn of(bytes: &[u8], size: usize, word: u32, accepts_zero: Option<bool>) -> Broken {
+    /// `word` is the expected checksum field.
+    pub fn of(bytes: &[u8], size: usize, word: u32, known: Known) -> Broken
+        ensures { let packet : ThePart = record { bytes = bytes.now; size = size } in
+            result.rules ≡ map (is_broken_by packet word known) ALL }
+    {
         let mut rules = [false; RULES];
-        for (i, rule) in Rule::ALL.iter().enumerate() {
-            rules[i] = rule.is_broken(bytes, size, word, accepts_zero);
+        for i in 0..RULES {
+            rules[i] = is_broken(Rule::ALL[i], bytes, size, word, known);
         }
         Broken { rules }
     }
 
     /// Adds one to the counts of the rules that are broken, up to 2^64 - 1.
-    pub fn count(&self, counts: &mut [u64; RULES]) {
+    pub fn count(&self, counts: &mut [u64; RULES])
+        ensures { CountsBroken self.now.rules counts.old counts.new }
+    {
         for i in 0..RULES {
             if self.rules[i] {
                 counts[i] = counts[i].saturating_add(1);
@@ -40,14 +50,27 @@ impl Broken {
     }
 
     /// Returns whether a rule is broken.
-    pub fn is_some(&self) -> bool {
-        for is_broken in &self.rules {
-            if *is_broken {
-                return true;
-            }
-        }
-        false
+    pub fn is_some(&self) -> bool
+        ensures { result ≡ list_any (λ is_broken. is_broken) self.now.rules }
+    {
+        self.rules.iter().any(|is_broken| *is_broken)
     }
+}
+
+/// Returns whether a packet breaks a rule.
+#[tactic(auto, unfolding(crate::specs::Warnings::is_broken_by))]
+fn is_broken(rule: Rule, bytes: &[u8], size: usize, word: u32, known: Known) -> bool
+    ensures { let packet : ThePart = record { bytes = bytes.now; size = size } in
+        result ≡ is_broken_by packet word known rule }
+{
+    rule.is_broken(bytes, size, word, known)
+}
+
+/// Returns whether a packet broke a rule, by how many broke each.
+pub fn is_warned(counts: &[u64; RULES]) -> bool
+    ensures { result ≡ is_warned counts.now }
+{
+    counts.iter().any(|count| *count > 0)
 }
 
 /// A line for each rule that is broken.

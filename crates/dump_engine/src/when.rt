@@ -1,7 +1,8 @@
-//! When packets were seen, as text.
+//! When packets were seen: on one clock, and as text.
 
-ghost use Rattle.std.specs.Prelude.{◌<◌, ◌≤◌, IfSome};
+ghost use Rattle.std.specs.Prelude.{◌≡◌, ◌<◌, ◌≤◌, IfSome};
 
+use crate::log_clock::{LogClock, clock_text_of};
 use crate::options::TimeOption;
 use sctp_association::{SecondsReport, TimeForm, TimeReport};
 use sctp_capture::event::Time;
@@ -10,7 +11,10 @@ use sctp_capture::pcap::Resolution;
 use std::fmt;
 
 /// Nanoseconds of a second.
-const SECOND: u64 = 1_000_000_000;
+pub const SECOND: u64 = 1_000_000_000;
+
+/// The most digits of a second's fraction that are written.
+const MOST_DIGITS: u8 = 19;
 
 /// What times are printed from.
 #[derive(Clone, Copy)]
@@ -18,12 +22,43 @@ pub struct Clock {
     form: TimeOption,
     // Of the first packet, or of the one that was printed before.
     since: Option<u64>,
+    log: LogClock,
 }
 
 impl Clock {
     /// Returns a clock that has seen no packet.
     pub fn new(form: TimeOption) -> Clock {
-        Clock { form, since: None }
+        Clock {
+            form,
+            since: None,
+            log: LogClock::new(),
+        }
+    }
+
+    /// Reads the time of the next packet: nanoseconds since 1970-01-01 00:00:00 UTC, or of a log
+    /// since a midnight before its first packet; `None` where that isn't known, or isn't below
+    /// 2^64.
+    pub fn read(&mut self, time: &Time<'_>) -> Option<u64> {
+        match time {
+            Time::Unknown => None,
+            Time::Stamp {
+                seconds,
+                fraction,
+                resolution,
+            } => {
+                let unit = match resolution {
+                    Resolution::Microseconds => 1_000,
+                    Resolution::Nanoseconds => 1,
+                };
+                Some(*seconds as u64 * SECOND + *fraction as u64 * unit)
+            }
+            Time::Ticks {
+                ticks,
+                resolution,
+                offset,
+            } => later(of_ticks(*ticks, *resolution)?, *offset),
+            Time::OfDay { time, stamp, .. } => self.log.read(time.as_bytes(), *stamp),
+        }
     }
 
     /// Sees a packet at this time, in nanoseconds, and returns from when on its time is printed.
@@ -38,9 +73,15 @@ impl Clock {
     }
 
     /// Returns a time as it is printed, from this one on.
-    pub fn when<'a>(&self, time: &'a Time<'a>, since: Option<u64>) -> When<'a> {
+    pub fn when<'a>(
+        &self,
+        time: &'a Time<'a>,
+        nanoseconds: Option<u64>,
+        since: Option<u64>,
+    ) -> When<'a> {
         When {
             time,
+            nanoseconds,
             form: self.form,
             since,
         }
@@ -51,14 +92,18 @@ impl Clock {
 #[derive(Clone, Copy)]
 pub struct When<'a> {
     time: &'a Time<'a>,
+    nanoseconds: Option<u64>,
     form: TimeOption,
     since: Option<u64>,
 }
 
 impl<'a> When<'a> {
-    /// Returns whether anything is known of it.
+    /// Returns whether it is known as it is asked for.
     pub fn is_known(&self) -> bool {
-        !matches!(self.time, Time::Unknown)
+        match self.form {
+            TimeOption::Relative | TimeOption::Delta => self.difference().is_some(),
+            _ => !matches!(self.time, Time::Unknown),
+        }
     }
 
     /// Returns which way the packet went, if a log says it.
@@ -68,43 +113,95 @@ impl<'a> When<'a> {
             _ => None,
         }
     }
-}
 
-impl<'a> fmt::Display for When<'a> {
-    fn fmt<W: fmt::Write>(&self, f: &mut fmt::Formatter<W>) -> fmt::Result {
-        let nanoseconds = match nanoseconds_of(self.time) {
-            Some(nanoseconds) => nanoseconds,
-            None => return write_captured(self.time, f),
+    /// Returns the name of the transport whose packet it is, if a log says it; else nothing.
+    pub fn transport(&self) -> &'a [u8] {
+        match self.time {
+            Time::OfDay { transport, .. } => transport.as_bytes(),
+            _ => b"",
+        }
+    }
+
+    /// Returns the two times whose difference is asked for, the later one first, and whether it is
+    /// negative.
+    fn difference(&self) -> Option<(u64, bool)> {
+        let (since, nanoseconds) = (self.since?, self.nanoseconds?);
+        Some((nanoseconds.abs_diff(since), nanoseconds < since))
+    }
+
+    /// Writes the difference of two times, with as many digits of the fraction as the capture has,
+    /// or more where another part of it has more.
+    fn write_difference<W: fmt::Write>(&self, f: &mut fmt::Formatter<W>) -> fmt::Result {
+        let Some((nanoseconds, is_negative)) = self.difference() else {
+            return Ok(());
         };
-        match (self.form, self.since) {
-            (TimeOption::Iso, _) => write_date(TimeForm::Iso, self.time, nanoseconds, f),
-            (TimeOption::Utc, _) => write_date(TimeForm::Utc, self.time, nanoseconds, f),
-            (TimeOption::Relative | TimeOption::Delta, Some(since)) => {
-                write_difference(since, nanoseconds, digits_of(self.time), f)
+        if is_negative {
+            f.write_str("-")?;
+        }
+        let digits = if nanoseconds.is_multiple_of(1_000) {
+            digits_of(self.time)
+        } else {
+            9
+        };
+        let report = SecondsReport {
+            nanoseconds,
+            digits,
+        };
+        write!(f, "{report}")
+    }
+
+    /// Writes a time in UTC. Of a log the date isn't known: its time of day is written.
+    fn write_utc<W: fmt::Write>(&self, form: TimeForm, f: &mut fmt::Formatter<W>) -> fmt::Result {
+        match (self.nanoseconds, self.time) {
+            (_, Time::OfDay { .. }) | (None, _) => write_captured(self.time, f),
+            (Some(nanoseconds), _) => {
+                let digits = digits_of(self.time);
+                let report = TimeReport {
+                    nanoseconds,
+                    digits,
+                    form,
+                };
+                write!(f, "{report}")
             }
-            _ => write_captured(self.time, f),
         }
     }
 }
 
-/// Returns a time in nanoseconds since 1970-01-01 00:00:00 UTC, or of a log since its midnight;
-/// `None` where it isn't known, or isn't below 2^64.
-pub fn nanoseconds_of(time: &Time<'_>) -> Option<u64> {
-    match time {
-        Time::Unknown => None,
-        Time::Stamp {
-            seconds,
-            fraction,
-            resolution,
-        } => {
-            let unit = match resolution {
-                Resolution::Microseconds => 1_000,
-                Resolution::Nanoseconds => 1,
-            };
-            Some(*seconds as u64 * SECOND + *fraction as u64 * unit)
+impl<'a> fmt::Display for When<'a> {
+    fn fmt<W: fmt::Write>(&self, f: &mut fmt::Formatter<W>) -> fmt::Result {
+        match self.form {
+            TimeOption::Iso => self.write_utc(TimeForm::Iso, f),
+            TimeOption::Utc => self.write_utc(TimeForm::Utc, f),
+            TimeOption::Relative | TimeOption::Delta => self.write_difference(f),
+            TimeOption::Captured => write_captured(self.time, f),
         }
-        Time::Ticks { ticks, resolution } => of_ticks(*ticks, *resolution),
-        Time::OfDay { time, .. } => of_day(time.as_bytes()),
+    }
+}
+
+/// A time as a key and a value of a JSON object, after a comma, if it is known: a number of
+/// seconds, or a string where a date or a time of day is asked for.
+#[derive(Clone, Copy)]
+pub struct WhenJson<'a>(pub When<'a>);
+
+impl<'a> fmt::Display for WhenJson<'a> {
+    fn fmt<W: fmt::Write>(&self, f: &mut fmt::Formatter<W>) -> fmt::Result {
+        let when = self.0;
+        if !when.is_known() {
+            return Ok(());
+        }
+        match (when.form, when.time, when.nanoseconds) {
+            (TimeOption::Iso | TimeOption::Utc, _, _) => write!(f, ",\"time\":\"{when}\""),
+            (TimeOption::Captured, Time::OfDay { .. }, None) => Ok(()),
+            (TimeOption::Captured, Time::OfDay { .. }, Some(nanoseconds)) => {
+                let digits = digits_of(when.time);
+                let seconds = SecondsReport {
+                    nanoseconds,
+                    digits,
+                };
+                write!(f, ",\"time\":{seconds}")
+            }
+            _ => write!(f, ",\"time\":{when}"),
+        }
     }
 }
 
@@ -112,77 +209,56 @@ pub fn nanoseconds_of(time: &Time<'_>) -> Option<u64> {
 fn of_ticks(ticks: u64, resolution: u8) -> Option<u64> {
     match resolution {
         0..=9 => ticks.checked_mul(power_of_ten(9 - resolution)),
-        10..=18 => Some(ticks / power_of_ten(resolution - 9)),
-        128..=191 => {
+        10..=28 => Some(ticks / power_of_ten(resolution - 9)),
+        // 2^64 units are less than a nanosecond
+        29..=127 => Some(0),
+        _ => {
             let nanoseconds = (ticks as u128 * SECOND as u128) >> (resolution - 128);
             u64::try_from(nanoseconds).ok()
         }
-        _ => None,
     }
 }
 
-/// Returns 10^n, for n up to 9.
+/// Returns a time that is later by so many seconds, or earlier.
+fn later(nanoseconds: u64, seconds: i64) -> Option<u64> {
+    let offset = seconds.unsigned_abs().checked_mul(SECOND)?;
+    if seconds < 0 {
+        nanoseconds.checked_sub(offset)
+    } else {
+        nanoseconds.checked_add(offset)
+    }
+}
+
+/// Returns 10^n, for n up to 19.
 fn power_of_ten(n: u8) -> u64
     ensures { 1 ≤ result }
 {
-    match n {
-        0 => 1,
-        1 => 10,
-        2 => 100,
-        3 => 1_000,
-        4 => 10_000,
-        5 => 100_000,
-        6 => 1_000_000,
-        7 => 10_000_000,
-        8 => 100_000_000,
-        _ => 1_000_000_000,
-    }
+    const POWERS: [u64; 20] = [
+        1,
+        10,
+        100,
+        1_000,
+        10_000,
+        100_000,
+        1_000_000,
+        10_000_000,
+        100_000_000,
+        1_000_000_000,
+        10_000_000_000,
+        100_000_000_000,
+        1_000_000_000_000,
+        10_000_000_000_000,
+        100_000_000_000_000,
+        1_000_000_000_000_000,
+        10_000_000_000_000_000,
+        100_000_000_000_000_000,
+        1_000_000_000_000_000_000,
+        10_000_000_000_000_000_000,
+    ];
+    POWERS[n.min(MOST_DIGITS) as usize].max(1)
 }
 
-/// Returns the nanoseconds since midnight of a time of day: hours, minutes and seconds with a
-/// fraction, as `12:34:56.789`.
-fn of_day(text: &[u8]) -> Option<u64> {
-    let Ok(text) = str::from_utf8(text) else {
-        return None;
-    };
-    let (hours, rest) = text.split_once(":")?;
-    let (minutes, rest) = rest.split_once(":")?;
-    let (seconds, fraction) = match rest.split_once(".") {
-        Some(parts) => parts,
-        None => (rest, ""),
-    };
-    let whole = (below_100(hours)? * 60 + below_100(minutes)?) * 60 + below_100(seconds)?;
-    Some((whole * SECOND).saturating_add(fraction_of(fraction.as_bytes())?))
-}
-
-/// Returns a number below 100.
-fn below_100(text: &str) -> Option<u64>
-    ensures { IfSome result (λ n. n < 100) }
-{
-    match text.parse::<u64>() {
-        Ok(number) if number < 100 => Some(number),
-        _ => None,
-    }
-}
-
-/// Returns the nanoseconds of a fraction's digits.
-fn fraction_of(digits: &[u8]) -> Option<u64> {
-    let mut unit = SECOND;
-    let mut nanoseconds: u64 = 0;
-    for digit in digits {
-        match digit {
-            b'0'..=b'9' => {
-                unit /= 10;
-                let value = ((*digit - b'0') as u64).saturating_mul(unit);
-                nanoseconds = nanoseconds.saturating_add(value);
-            }
-            _ => return None,
-        }
-    }
-    Some(nanoseconds)
-}
-
-/// Returns how many digits of a second's fraction a capture has: 0, 3, 6 or 9.
+/// Returns how many digits of a second's fraction are written in UTC and in differences: 3, 6 or 9.
 fn digits_of(time: &Time<'_>) -> u8 {
     match time {
         Time::Stamp { resolution, .. } => match resolution {
@@ -190,57 +266,17 @@ fn digits_of(time: &Time<'_>) -> u8 {
             Resolution::Nanoseconds => 9,
         },
         Time::Ticks { resolution, .. } => match resolution {
-            0 => 0,
-            1..=3 => 3,
+            0..=3 => 3,
             4..=6 => 6,
             _ => 9,
         },
-        Time::OfDay { .. } | Time::Unknown => 3,
+        Time::OfDay { stamp, .. } => if stamp.is_some() { 6 } else { 3 },
+        Time::Unknown => 3,
     }
 }
 
-/// Writes a time in UTC; of a log, whose date isn't known, as it says it.
-fn write_date<W: fmt::Write>(
-    form: TimeForm,
-    time: &Time<'_>,
-    nanoseconds: u64,
-    f: &mut fmt::Formatter<W>,
-) -> fmt::Result {
-    if let Time::OfDay { .. } = time {
-        return write_captured(time, f);
-    }
-    let report = TimeReport {
-        nanoseconds,
-        digits: digits_of(time),
-        form,
-    };
-    write!(f, "{report}")
-}
-
-/// Writes the seconds from one time to another, with as many digits of the fraction as the capture
-/// has, or more where another part of it has more.
-fn write_difference<W: fmt::Write>(
-    since: u64,
-    nanoseconds: u64,
-    digits: u8,
-    f: &mut fmt::Formatter<W>,
-) -> fmt::Result {
-    if nanoseconds < since {
-        f.write_str("-")?;
-    }
-    let difference = nanoseconds.abs_diff(since);
-    let report = SecondsReport {
-        nanoseconds: difference,
-        digits: if difference.is_multiple_of(1_000) {
-            digits
-        } else {
-            9
-        },
-    };
-    write!(f, "{report}")
-}
-
-/// Writes a time in seconds since 1970-01-01 00:00:00 UTC, or as a log says it.
+/// Writes a time in seconds since 1970-01-01 00:00:00 UTC, with as many digits of the fraction as
+/// its unit needs; of a log its time of day.
 fn write_captured<W: fmt::Write>(time: &Time<'_>, f: &mut fmt::Formatter<W>) -> fmt::Result {
     match time {
         Time::Unknown => Ok(()),
@@ -248,59 +284,111 @@ fn write_captured<W: fmt::Write>(time: &Time<'_>, f: &mut fmt::Formatter<W>) -> 
             seconds,
             fraction,
             resolution,
-        } => write_stamp(*seconds, *fraction, *resolution, f),
-        Time::Ticks { ticks, resolution } => write_ticks(*ticks, *resolution, f),
-        Time::OfDay { time, .. } => {
-            for byte in time.as_bytes() {
-                f.write_char(char::from(*byte))?;
+        } => {
+            let digits = match resolution {
+                Resolution::Microseconds => 6,
+                Resolution::Nanoseconds => 9,
+            };
+            write_units(*fraction as u64, digits, *seconds as i64, f)
+        }
+        Time::Ticks {
+            ticks,
+            resolution,
+            offset,
+        } => match resolution {
+            0..=MOST_DIGITS => write_units(*ticks, *resolution, *offset, f),
+            20..=38 => {
+                let units = *ticks / power_of_ten(*resolution - MOST_DIGITS);
+                write_units(units, MOST_DIGITS, *offset, f)
             }
-            Ok(())
-        }
+            39..=127 => write_units(0, MOST_DIGITS, *offset, f),
+            _ => write_binary(*ticks, *resolution, *offset, f),
+        },
+        Time::OfDay { time, stamp, .. } => match stamp {
+            Some(stamp) => {
+                let text = clock_text_of(*stamp);
+                write!(f, "{text}")
+            }
+            None => {
+                for byte in time.as_bytes() {
+                    f.write_char(char::from(*byte))?;
+                }
+                Ok(())
+            }
+        },
     }
 }
 
-/// Writes a time of pcap. A fraction that is no part of a second is said apart.
-fn write_stamp<W: fmt::Write>(
-    seconds: u32,
-    fraction: u32,
-    resolution: Resolution,
-    f: &mut fmt::Formatter<W>,
-) -> fmt::Result {
-    match resolution {
-        Resolution::Microseconds if fraction < 1_000_000 => write!(f, "{seconds}.{fraction:06}"),
-        Resolution::Nanoseconds if fraction < 1_000_000_000 => {
-            write!(f, "{seconds}.{fraction:09}")
-        }
-        Resolution::Microseconds => write!(f, "{seconds} and {fraction} microseconds"),
-        Resolution::Nanoseconds => write!(f, "{seconds} and {fraction} nanoseconds"),
-    }
-}
-
-/// Writes a time of pcapng. Units that aren't microseconds, nanoseconds or the like are said as
-/// they are.
-fn write_ticks<W: fmt::Write>(
+/// Writes units of 2^-(resolution - 128) of a second, later by so many seconds, in nanoseconds.
+fn write_binary<W: fmt::Write>(
     ticks: u64,
     resolution: u8,
+    offset: i64,
+    f: &mut fmt::Formatter<W>,
+) -> fmt::Result
+    requires { 128 ≤ resolution }
+{
+    let shift = (resolution - 128).min(127);
+    let seconds = (ticks as u128 >> shift) as u64;
+    let rest = ticks as u128 - ((seconds as u128) << shift);
+    let nanoseconds = ((rest * SECOND as u128) >> shift) as u64;
+    write_seconds(seconds, nanoseconds, 9, offset, f)
+}
+
+/// Writes units of 10^-digits of a second, later by so many seconds.
+fn write_units<W: fmt::Write>(
+    units: u64,
+    digits: u8,
+    offset: i64,
     f: &mut fmt::Formatter<W>,
 ) -> fmt::Result {
-    match resolution {
-        0 => write!(f, "{ticks}"),
-        3 => {
-            let (seconds, fraction) = (ticks / 1_000, ticks % 1_000);
-            write!(f, "{seconds}.{fraction:03}")
-        }
-        6 => {
-            let (seconds, fraction) = (ticks / 1_000_000, ticks % 1_000_000);
-            write!(f, "{seconds}.{fraction:06}")
-        }
-        9 => {
-            let (seconds, fraction) = (ticks / 1_000_000_000, ticks % 1_000_000_000);
-            write!(f, "{seconds}.{fraction:09}")
-        }
-        1..=127 => write!(f, "{ticks} units of 10^-{resolution} seconds"),
+    let unit = power_of_ten(digits);
+    write_seconds(units / unit, units % unit, digits, offset, f)
+}
+
+/// Writes seconds and a fraction of so many digits, later by so many seconds; a time before 1970
+/// with a minus sign.
+fn write_seconds<W: fmt::Write>(
+    seconds: u64,
+    fraction: u64,
+    digits: u8,
+    offset: i64,
+    f: &mut fmt::Formatter<W>,
+) -> fmt::Result {
+    let by = offset.unsigned_abs();
+    if offset >= 0 {
+        return write_number(seconds.saturating_add(by), fraction, digits, f);
+    }
+    if by <= seconds {
+        return write_number(seconds - by, fraction, digits, f);
+    }
+    f.write_str("-")?;
+    if fraction == 0 {
+        write_number(by - seconds, 0, digits, f)
+    } else {
+        let rest = power_of_ten(digits).saturating_sub(fraction);
+        write_number(by - seconds - 1, rest, digits, f)
+    }
+}
+
+/// Writes a number with so many digits after the point, and one at least.
+fn write_number<W: fmt::Write>(
+    whole: u64,
+    fraction: u64,
+    digits: u8,
+    f: &mut fmt::Formatter<W>,
+) -> fmt::Result {
+    match digits {
+        0 => write!(f, "{whole}.0"),
+        6 => write!(f, "{whole}.{fraction:06}"),
+        9 => write!(f, "{whole}.{fraction:09}"),
         _ => {
-            let exponent = resolution % 128;
-            write!(f, "{ticks} units of 2^-{exponent} seconds")
+            write!(f, "{whole}.")?;
+            for place in (0..digits).rev() {
+                let digit = fraction / power_of_ten(place) % 10;
+                write!(f, "{digit}")?;
+            }
+            Ok(())
         }
     }
 }
