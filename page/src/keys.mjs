@@ -57,15 +57,18 @@ const isChunk = objectOf({
   blocks: listOf(objectOf({ first_tsn: isNumber, last_tsn: isNumber })),
 }, 'chunk');
 const isPacket = objectOf({
-  packet: isNumber, time: isText, direction: isText, from: isText, to: isText, length: isNumber, captured: isNumber,
+  packet: isNumber, time: isText, direction: isText, transport: isText, from: isText, to: isText, length: isNumber, captured: isNumber,
   source: isNumber, destination: isNumber, tag: isNumber, verdict: isText, expected: isNumber, chunks: listOf(isChunk),
   fault: objectOf({ offset: isNumber }), warnings: listOf(isObject),
 }, 'packet', 'chunks');
 const isEnd = objectOf({ port: isNumber, tag: isNumber, addresses: listOf(isText), round_trip: isObject });
 
+/** The object of a line, in which a time stays the text of its digits: a double hasn't enough for nanoseconds. */
+export const parsed = line => JSON.parse(line.replace(/"time":(-?[\d.]+)/g, '"time":"$1"'));
+
 /** Whether an object is an association. */
 export const isAssociation = objectOf({
-  association: isNumber, ends: it => listOf(isEnd)(it) && it.length === 2, began: isObject, ended: isObject,
+  association: isNumber, transport: it => it === null || isText(it), ends: it => listOf(isEnd)(it) && it.length === 2, began: isObject, ended: isObject,
 }, 'association', 'ends');
 
 /** Whether an object is the summary. */
@@ -118,14 +121,14 @@ class Tsns {
   }
 }
 
-/** The seconds, nanoseconds and digits of a time: `1700000000.000120`, or of day `17:39:54.101`. */
-function timeOf(text) {
-  const found = /^(?:(\d+):(\d+):)?(\d+)(?:\.(\d+))?$/.exec(text ?? '');
+/** The seconds, nanoseconds and digits of a time, as `1700000000.000120`: of a log, since its midnight. */
+function timeOf(text, isOfDay) {
+  const found = /^(\d+)\.(\d+)$/.exec(text ?? '');
   if (!found)
     return { seconds: 0, nanos: 0, digits: 0 };
-  const [, hours, minutes, seconds, decimals = ''] = found, isOfDay = hours !== undefined;
+  const [, seconds, decimals] = found;
   return {
-    seconds: Number(seconds) + (isOfDay ? 3600 * hours + 60 * minutes : 0),
+    seconds: Number(seconds),
     nanos: Number(decimals.slice(0, 9).padEnd(9, '0')),
     digits: (isOfDay ? OF_DAY : 0) + Math.min(decimals.length, 9) + 1,
   };
@@ -146,12 +149,12 @@ export class Rows {
   row(it) {
     if (!isObject(it))
       return;
+    if (isPacket(it))
+      return this.packet(it);
     if (typeof it.file === 'string')
       return { kind: KINDS.indexOf('file'), file: ++this.file, note: this.notes.number(it.file) };
     if (typeof it.skipped === 'string')
       return this.other('skipped', Number(it.record ?? it.line ?? 0), it.skipped);
-    if (isPacket(it))
-      return this.packet(it);
   }
 
   other(kind, number, text) {
@@ -160,9 +163,10 @@ export class Rows {
 
   packet(it) {
     const kind = it.captured !== undefined ? 'cut' : it.fault ? 'refused' : 'accepted';
-    const row = { ...this.other(kind, it.packet, String(it.fault?.reason ?? '')), ...timeOf(it.time), length: it.length };
-    const { from, to, source, destination, tag, direction, chunks: [first] } = it;
-    const flow = { from, to, source, destination, tag, direction, initTag: first?.chunk === INIT ? first.tag : undefined };
+    const row = { ...this.other(kind, it.packet, String(it.fault?.reason ?? '')), ...timeOf(it.time, it.direction !== undefined), length: it.length };
+    const { from, to, source, destination, tag, direction, transport, chunks: [first] } = it;
+    const initTag = first?.chunk === INIT ? first.tag : undefined;
+    const flow = { from, to, source, destination, tag, direction, transport, initTag };
     row.flow = this.flows.number(JSON.stringify(Object.values(flow)), flow);
     row.flags = (FLAGS[it.verdict] ?? 0) | (FLAGS[direction] ?? 0) | (it.warnings?.length ? FLAGS.warned : 0);
     const runs = [], types = new Set(), streams = new Set(), ppids = new Map(), tsns = [];
@@ -203,7 +207,10 @@ export class Rows {
 /** Which of an association's ends sent the packets of a flow: 0 or 1, or undefined if they belong to another. A packet
     belongs to it if the end that it is sent to chose its tag, whatever their addresses; an INIT has the tag that its sender
     chose. Where no tag is known, the addresses say it. */
-export function senderIn({ ends }, flow) {
+export function senderIn({ ends, transport }, flow) {
+  // (null: one of the names that the program doesn't keep)
+  if (transport !== null && transport !== flow.transport)
+    return;
   const isAt = ({ addresses }, address) => address === undefined || !addresses?.length || addresses.includes(address);
   const fits = (from, to) => from.port === flow.source && to.port === flow.destination &&
     (from.direction === undefined || from.direction === flow.direction);
@@ -220,13 +227,13 @@ export function senderIn({ ends }, flow) {
 export function pairsOf(flows) {
   const pairs = new Map(), other = { incoming: 'outgoing', outgoing: 'incoming' };
   const end = (address, port, direction) => ({ addresses: address === undefined ? [] : [address], port, direction });
-  for (const { from, to, source, destination, direction } of flows) {
+  for (const { from, to, source, destination, direction, transport } of flows) {
     if (source === undefined)
       continue;
     const ends = [end(from, source, direction), end(to, destination, other[direction])];
-    const key = ends.map(it => JSON.stringify(it)).sort().join();
+    const key = ends.map(it => JSON.stringify(it)).sort().join() + transport;
     if (!pairs.has(key))
-      pairs.set(key, { association: pairs.size + 1, ends });
+      pairs.set(key, { association: pairs.size + 1, ends, transport });
   }
   return [...pairs.values()];
 }

@@ -1,5 +1,5 @@
 // What was read: a row of numbers for each line, and the lines themselves in Blobs, which the browser may keep on disk.
-import { COLUMNS, FLAGS, isAssociation, isSummary, KINDS, OF_DAY, pairsOf, senderIn } from './keys.mjs';
+import { COLUMNS, FLAGS, isAssociation, isSummary, KINDS, OF_DAY, pairsOf, parsed, senderIn } from './keys.mjs';
 
 export class Store {
   count = 0;
@@ -64,7 +64,7 @@ export class Store {
     const { batch, offset, size } = this.columns;
     return Promise.all(rows.map(async row => {
       const lines = this.batches[batch[row]].slice(offset[row], offset[row] + size[row]);
-      return JSON.parse(await lines.text());
+      return parsed(await lines.text());
     }));
   }
 

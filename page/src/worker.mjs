@@ -1,6 +1,6 @@
 // The Worker: runs the program over the inputs, and posts what it prints, in batches: a Blob of whole lines, and a row
 // for each. A Worker that is stopped loses nothing that it posted.
-import { COLUMNS, Rows } from './keys.mjs';
+import { COLUMNS, parsed, Rows } from './keys.mjs';
 import { run } from './program.mjs';
 
 /** This many bytes of lines are a batch; the first one is smaller, and so is one that is waited for. */
@@ -67,7 +67,7 @@ class Output {
   takeLine(from, end) {
     let object;
     try {
-      object = JSON.parse(decoder.decode(this.bytes.subarray(from, end)));
+      object = parsed(decoder.decode(this.bytes.subarray(from, end)));
     } catch {
       return;
     }
