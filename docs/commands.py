@@ -35,7 +35,7 @@ LEFT_OUT = [
 TOOLS = {'cmake': r'cmake|\$P\b|pkg-config', 'pkg-config': r'pkg-config', 'jq': r'\| jq', 'xxd': r'^xxd'}
 
 # What the pages call the reader's own.
-OWN = [(r'\bFILE\b|capture\.pcap', 'crates/sctp_dump/data/ethernet.pcap'), (r'chrome_debug\.log', 'crates/sctp_dump/data/lines.txt')]
+OWN = [(r'\bFILE\b|capture\.pcap', 'dump/data/usrsctp.pcap'), (r'chrome_debug\.log', 'crates/sctp_dump/data/lines.txt')]
 
 # What the C of docs/C.md takes as given.
 GIVEN = '''#include <dcsctp.h>
