@@ -1,7 +1,9 @@
 /* dcsctp: reads, checks, prints and writes SCTP packets (RFC 9260), from C.
 
-   Every function is total and proved: whatever the bytes, the offsets and the sizes are, it returns, and reads and
-   writes only the memory that it is given. docs/C.md has examples, and what is proved.
+   Every function of the library is proved, for Linux (dist/README.md): whatever the bytes, the offsets and the sizes are,
+   it returns what its contract says, and reads and writes only the memory that it is given. Of dcsctp_report nothing says
+   which text it writes. The `static inline` functions at the end are C, compiled with your program, and not proved: they
+   return names and texts. docs/C.md has examples, and what is proved.
 
    What the caller has to ensure:
    - A pointer leads to as many bytes or items as its length says. It may be null where that length is 0, and only there;
@@ -239,8 +241,10 @@ uint32_t dcsctp_first_fault(const uint8_t *bytes, size_t length, uint32_t word, 
                             size_t *offset);
 
 /* Writes the canonical packet to the front of `output` and its size to `size`: two packets have the same one if and
-   only if they mean the same. Returns DCSCTP_OK, the first fault, or 6 to 8. Only DCSCTP_OK changes `output`, whose bytes
-   after the canonical packet stay; DCSCTP_NO_ROOM writes the size that is needed, and no other code changes `size`. */
+   only if they mean the same. A text that isn't UTF-8, of the causes User-Initiated Abort and Protocol Violation, is read
+   as a fixed one, which is written in its place: so packets that differ in such a text alone have the same one. Returns
+   DCSCTP_OK, the first fault, or 6 to 8. Only DCSCTP_OK changes `output`, whose bytes after the canonical packet stay;
+   DCSCTP_NO_ROOM writes the size that is needed, and no other code changes `size`. */
 uint32_t dcsctp_canonical(const uint8_t *bytes, size_t length, uint32_t word, const struct dcsctp_policy *policy,
                           uint8_t *output, size_t room, size_t *size);
 
@@ -269,7 +273,8 @@ uint32_t dcsctp_word(const uint8_t *bytes, size_t length);
 /* Reads the common header; false for fewer than 12 bytes. */
 bool dcsctp_header(const uint8_t *bytes, size_t length, struct dcsctp_header *header);
 
-/* Reads the chunk at an offset; false where no whole chunk is. The chunks of a packet:
+/* Reads the chunk at an offset; false where no whole chunk is. What is at the offset is read, whether or not a chunk of the
+   packet begins there: inside the common header too, or inside another chunk. The chunks of a packet:
      for (size_t at = DCSCTP_FIRST_CHUNK; dcsctp_chunk_at(bytes, length, at, &chunk); at = chunk.next) */
 bool dcsctp_chunk_at(const uint8_t *bytes, size_t length, size_t offset, struct dcsctp_chunk *chunk);
 
@@ -308,7 +313,9 @@ bool dcsctp_skipped_stream(const uint8_t *bytes, size_t length, const struct dcs
 /* Returns the offset of the chunk's first parameter or error cause; that of the end of its value, if the type has none. */
 size_t dcsctp_list_offset(const struct dcsctp_chunk *chunk);
 
-/* Reads the parameter or the error cause of the chunk at an offset; false where no whole one is. Those of a chunk:
+/* Reads the parameter or the error cause at an offset in the chunk's value; false where no whole one is. What is there is
+   read, whether or not one of the chunk's begins there: in the numbers before them too, or inside another one. Those of a
+   chunk:
      for (size_t at = dcsctp_list_offset(&chunk); dcsctp_parameter_at(bytes, length, &chunk, at, &item); at = item.next) */
 bool dcsctp_parameter_at(const uint8_t *bytes, size_t length, const struct dcsctp_chunk *chunk, size_t offset,
                          struct dcsctp_parameter *parameter);
@@ -424,7 +431,8 @@ uint32_t dcsctp_add_parameter(uint8_t *packet, size_t room, size_t *size, size_t
 uint32_t dcsctp_add_number(uint8_t *packet, size_t room, size_t *size, size_t start, uint16_t type, uint32_t number);
 
 /* Adds a request or the response of RE-CONFIG; the streams are written for an Outgoing or Incoming SSN Reset alone.
-   DCSCTP_BAD_VALUE for another type, or a result above 6. */
+   DCSCTP_BAD_VALUE for another type, or a response whose result is above 6; of a request the result is ignored, as are all
+   fields that its kind does not carry. */
 uint32_t dcsctp_add_re_config(uint8_t *packet, size_t room, size_t *size, size_t start,
                               const struct dcsctp_re_config *re_config, const uint16_t *streams, size_t stream_count);
 
@@ -445,7 +453,7 @@ uint32_t dcsctp_version_number(void);
 
 /* ---- names, in ASCII
 
-   These functions are compiled with the program, and are no part of the library. */
+   These functions are C, compiled with the program: they are no part of the library, and not proved. */
 
 /* Returns DCSCTP_VERSION. */
 static inline const char *dcsctp_version(void)
