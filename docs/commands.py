@@ -18,7 +18,7 @@ import tempfile
 
 ROOT = os.path.dirname(os.path.dirname(os.path.abspath(__file__)))
 PAGES = ['README.md', 'docs/INSTALL.md', 'docs/C.md', 'docs/DUMP.md', 'dist/README.md']
-COPIED = ['dist', 'bindings', 'examples', 'crates/sctp_dump/data']
+COPIED = ['dist', 'bindings', 'examples', 'crates/sctp_dump/data', 'dump/data']
 COMMAND = re.compile(r'(\$ )?((?:cc|echo|export|python|pip|cmake|sctp_dump|xxd|c/build\.sh|tcpdump|cargo|npm|\(cd) .*)')
 
 # What can't run here, and why.
