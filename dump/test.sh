@@ -5,8 +5,8 @@ set -u
 usage='usage: dump/test.sh [PROGRAM]
 
 Runs the program over the rows of dump/runs.txt, and compares all that it prints, and its status. Then it has the packets of
-dump/rules.txt and of the captures in dump/data, dump/objects.py looks at its JSON, dump/logs.py at associations of logs, and it
-has an output that fails. The last line is: dump: N passed, M failed.
+dump/rules.txt and of the captures in dump/data, dump/objects.py looks at its JSON, dump/logs.py at associations of logs,
+dump/faults.py at lengths that are refused, and it has an output that fails. The last line is: dump: N passed, M failed.
 
 The program is crates/sctp_dump/out/sctp_dump, which `rt ci` proved and built, unless another is named; if it is missing,
 or older than a source file, it is proved and built first.'
@@ -30,7 +30,7 @@ if [ $# -eq 0 ]; then
     program=$PWD/$program
 fi
 [ -x "$program" ] || { echo 'dump: sctp_dump was not built' && tail "$work/log" && exit 1; }
-rows=$PWD/dump/runs.txt rules=$PWD/dump/rules.txt captures=$PWD/dump/data objects=$PWD/dump/objects.py logs=$PWD/dump/logs.py
+rows=$PWD/dump/runs.txt rules=$PWD/dump/rules.txt captures=$PWD/dump/data scripts=$PWD/dump
 cd crates/sctp_dump/data || exit
 
 passed=0 failed=0
@@ -101,9 +101,10 @@ done
 
 # ---- JSON
 
-# Each line is an object, and each place holds the value of its key. A log has the associations of its capture.
-for script in "$objects" "$logs"; do
-    if "$script" "$program" >"$work/log"; then
+# Each line is an object, and each place holds the value of its key. A log has the associations of its capture. Of a length that is
+# refused the text says which are needed.
+for script in objects logs faults; do
+    if "$scripts/$script.py" "$program" >"$work/log"; then
         passed=$((passed + 1))
     else
         failed=$((failed + 1))

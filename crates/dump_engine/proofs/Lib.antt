@@ -2,6 +2,7 @@ pub mod ChunkKinds
 pub mod InputKinds
 pub mod LineDrops
 pub mod PacketCounts
+pub mod Powers
 pub mod Passed
 pub mod Printed
 pub mod RuleLists

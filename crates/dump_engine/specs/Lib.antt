@@ -1,6 +1,7 @@
 pub mod Handed
 pub mod Counts
 pub mod Inputs
+pub mod Times
 pub mod Totals
 pub mod Verdict
 pub mod Warnings

@@ -24,8 +24,8 @@ enum Kind {
     Days,
 }
 
-/// Puts the times of a log in one order. A time that goes back is known only where it can be told
-/// by how much: past midnight, and past the end of a year.
+/// Puts the times of a log in one order. A time that goes back is known only where it is known by how
+/// much: past midnight, and past the end of a year.
 #[derive(Clone, Copy)]
 pub struct LogClock {
     kind: Option<Kind>,

@@ -1,6 +1,7 @@
 //! When packets were seen: on one clock, and as text.
 
-ghost use Rattle.std.specs.Prelude.{◌≡◌, ◌<◌, ◌≤◌, IfSome};
+ghost use Rattle.std.specs.Prelude.{◌≡◌, ◌<◌, ◌≤◌, ◌*◌, ◌/◌, ◌^◌};
+ghost use Rattle.dump_engine.specs.Times.{units, fitting, later, IsRead};
 
 use crate::log_clock::{LogClock, clock_text_of};
 use crate::options::TimeOption;
@@ -38,7 +39,9 @@ impl Clock {
     /// Reads the time of the next packet: nanoseconds since 1970-01-01 00:00:00 UTC, or of a log
     /// since a midnight before its first packet; `None` where that isn't known, or isn't below
     /// 2^64.
-    pub fn read(&mut self, time: &Time<'_>) -> Option<u64> {
+    pub fn read(&mut self, time: &Time<'_>) -> Option<u64>
+        ensures { IsRead time.now result }
+    {
         match time {
             Time::Unknown => None,
             Time::Stamp {
@@ -206,7 +209,9 @@ impl<'a> fmt::Display for WhenJson<'a> {
 }
 
 /// Returns the nanoseconds of units of pcapng.
-fn of_ticks(ticks: u64, resolution: u8) -> Option<u64> {
+fn of_ticks(ticks: u64, resolution: u8) -> Option<u64>
+    ensures { result ≡ fitting (ticks * 1000000000 / units resolution) }
+{
     match resolution {
         0..=9 => ticks.checked_mul(power_of_ten(9 - resolution)),
         10..=28 => Some(ticks / power_of_ten(resolution - 9)),
@@ -219,8 +224,10 @@ fn of_ticks(ticks: u64, resolution: u8) -> Option<u64> {
     }
 }
 
-/// Returns a time that is later by so many seconds, or earlier.
-fn later(nanoseconds: u64, seconds: i64) -> Option<u64> {
+/// Returns a time that is later by a number of seconds, or earlier.
+fn later(nanoseconds: u64, seconds: i64) -> Option<u64>
+    ensures { result ≡ later nanoseconds seconds }
+{
     let offset = seconds.unsigned_abs().checked_mul(SECOND)?;
     if seconds < 0 {
         nanoseconds.checked_sub(offset)
@@ -229,33 +236,13 @@ fn later(nanoseconds: u64, seconds: i64) -> Option<u64> {
     }
 }
 
-/// Returns 10^n, for n up to 19.
+/// Returns 10^n.
 fn power_of_ten(n: u8) -> u64
-    ensures { 1 ≤ result }
+    requires { n ≤ 19 }
+    ensures value { result ≡ 10 ^ n }
+    ensures positive { 1 ≤ result }
 {
-    const POWERS: [u64; 20] = [
-        1,
-        10,
-        100,
-        1_000,
-        10_000,
-        100_000,
-        1_000_000,
-        10_000_000,
-        100_000_000,
-        1_000_000_000,
-        10_000_000_000,
-        100_000_000_000,
-        1_000_000_000_000,
-        10_000_000_000_000,
-        100_000_000_000_000,
-        1_000_000_000_000_000,
-        10_000_000_000_000_000,
-        100_000_000_000_000_000,
-        1_000_000_000_000_000_000,
-        10_000_000_000_000_000_000,
-    ];
-    POWERS[n.min(MOST_DIGITS) as usize].max(1)
+    10_u64.pow(u32::from(n))
 }
 
 /// Returns how many digits of a second's fraction are written in UTC and in differences: 3, 6 or 9.
@@ -319,7 +306,7 @@ fn write_captured<W: fmt::Write>(time: &Time<'_>, f: &mut fmt::Formatter<W>) -> 
     }
 }
 
-/// Writes units of 2^-(resolution - 128) of a second, later by so many seconds, in nanoseconds.
+/// Writes units of 2^-(resolution - 128) of a second, later by a number of seconds, in nanoseconds.
 fn write_binary<W: fmt::Write>(
     ticks: u64,
     resolution: u8,
@@ -335,26 +322,30 @@ fn write_binary<W: fmt::Write>(
     write_seconds(seconds, nanoseconds, 9, offset, f)
 }
 
-/// Writes units of 10^-digits of a second, later by so many seconds.
+/// Writes units of 10^-digits of a second, later by a number of seconds.
 fn write_units<W: fmt::Write>(
     units: u64,
     digits: u8,
     offset: i64,
     f: &mut fmt::Formatter<W>,
-) -> fmt::Result {
+) -> fmt::Result
+    requires { digits ≤ 19 }
+{
     let unit = power_of_ten(digits);
     write_seconds(units / unit, units % unit, digits, offset, f)
 }
 
-/// Writes seconds and a fraction of so many digits, later by so many seconds; a time before 1970
-/// with a minus sign.
+/// Writes seconds and a fraction of a number of digits, later by a number of seconds; a time before
+/// 1970 with a minus sign.
 fn write_seconds<W: fmt::Write>(
     seconds: u64,
     fraction: u64,
     digits: u8,
     offset: i64,
     f: &mut fmt::Formatter<W>,
-) -> fmt::Result {
+) -> fmt::Result
+    requires { digits ≤ 19 }
+{
     let by = offset.unsigned_abs();
     if offset >= 0 {
         return write_number(seconds.saturating_add(by), fraction, digits, f);
@@ -371,13 +362,15 @@ fn write_seconds<W: fmt::Write>(
     }
 }
 
-/// Writes a number with so many digits after the point, and one at least.
+/// Writes a number with a number of digits after the point, and one at least.
 fn write_number<W: fmt::Write>(
     whole: u64,
     fraction: u64,
     digits: u8,
     f: &mut fmt::Formatter<W>,
-) -> fmt::Result {
+) -> fmt::Result
+    requires { digits ≤ 19 }
+{
     match digits {
         0 => write!(f, "{whole}.0"),
         6 => write!(f, "{whole}.{fraction:06}"),

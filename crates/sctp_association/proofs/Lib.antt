@@ -1,2 +1,4 @@
+pub mod Buckets
 pub mod ChunkCounts
 pub mod HeaderCounts
+pub mod Slots

@@ -1,4 +1,10 @@
+pub mod Acknowledged
+pub mod Buckets
+pub mod Calendar
 pub mod Counts
+pub mod Order
+pub mod Questions
+pub mod RoundTrips
 pub mod Serial
 pub mod Sides
 pub mod Table

@@ -1,6 +1,7 @@
 //! What a chunk acknowledges.
 
-ghost use Rattle.std.specs.Prelude.{◌≤◌, ◌<◌, ◌+◌, ◌*◌, length};
+ghost use Rattle.std.specs.Prelude.{◌↔◌, IsTrue};
+ghost use Rattle.sctp_association.specs.Acknowledged.{IsAcknowledged};
 
 use crate::chunk_type::{NR_SACK, SACK, SHUTDOWN};
 use crate::serial::is_after;
@@ -54,7 +55,9 @@ impl<'a> Acknowledgement<'a> {
     }
 
     /// Returns whether a TSN is acknowledged.
-    pub fn has(self, tsn: u32) -> bool {
+    pub fn has(self, tsn: u32) -> bool
+        ensures { IsTrue result ↔ IsAcknowledged self.entry.cumulative self.entry.count self.entry.blocks.now tsn }
+    {
         if !is_after(tsn, self.cumulative) {
             return true;
         }

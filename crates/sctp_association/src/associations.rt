@@ -240,20 +240,20 @@ impl Associations {
             increase(&mut self.unknown);
             return Ok(());
         }
-        if !had_ended {
-            self.note_order(flow.slot);
+        if had_ended {
+            return Ok(());
         }
-        Ok(())
+        self.note_order(flow.slot)
     }
 
     /// Notes that a packet came of an association that lived before it.
-    fn note_order(&mut self, slot: usize)
+    fn note_order(&mut self, slot: usize) -> Result<(), AllocError>
         ensures { counted self.new.table.items self.new.unknown ≡ counted self.old.table.items self.old.unknown }
     {
         if self.lives(slot) {
-            self.order.touch(slot);
+            self.order.touch(slot)
         } else {
-            self.order.end(slot);
+            self.order.end(slot)
         }
     }
 
@@ -319,14 +319,15 @@ impl Associations {
         if self.table.len() < self.most {
             let slot = self.table.len();
             self.table.push(association)?;
-            self.order.add()?;
+            self.order.touch(slot)?;
             return Ok((slot, None));
         }
-        let slot = self.order.first();
+        // A full table has a slot at least.
+        let slot = self.order.first().unwrap_or(0);
         if let Some(leaving) = self.table.get(slot) {
             self.keys.forget(slot, leaving)?;
         }
-        self.order.touch(slot);
+        self.order.touch(slot)?;
         let left = replace(&mut self.table, slot, association);
         if left.is_some() {
             increase(&mut self.left);

@@ -1,112 +1,69 @@
 //! In which order associations leave a full table.
 
+ghost use Rattle.std.specs.Prelude.{◌≡◌, ◌-◌, ◌^◌, ◌∷◌, OnOk, nat_eq};
+ghost use Rattle.std.specs.Map.{remove_entry};
+ghost use Rattle.sctp_association.specs.Order.{first_of};
+
+use lru::LruCache;
 use std::alloc::{AllocError, Global};
 
-/// The list of those that live: the one that was silent longest comes first.
-const LIVING: usize = 0;
-
-/// The list of those that ended, the oldest one first.
-const ENDED: usize = 1;
-
-/// The slots of a table in two lists.
+/// The slots of a table: those whose associations live, and those whose ended.
 #[derive(Drop)]
 pub struct Order {
-    // both lists' ends, and then the slots
-    links: Vec<Link>,
-}
-
-/// The neighbours in a list, which is closed to a ring by its end.
-#[derive(Clone, Copy)]
-struct Link {
-    older: usize,
-    newer: usize,
+    living: LruCache<usize, ()>,
+    ended: LruCache<usize, ()>,
+    ghost unbounded: { (living.cap ≡ 2 ^ 64 - 1) × (ended.cap ≡ 2 ^ 64 - 1) },
 }
 
 impl Order {
     /// Returns the order of no slot.
     pub fn new(alloc: Global) -> Result<Order, AllocError> {
-        let mut links = Vec::new(alloc);
-        for list in [LIVING, ENDED] {
-            links.push(Link {
-                older: list,
-                newer: list,
-            })?;
-        }
-        Ok(Order { links })
+        Ok(Order {
+            living: LruCache::unbounded(alloc)?,
+            ended: LruCache::unbounded(alloc)?,
+        })
     }
 
-    /// Adds a slot, the one after the last, that lives.
-    pub fn add(&mut self) -> Result<(), AllocError> {
-        let place = self.links.len();
-        self.links.push(Link {
-            older: place,
-            newer: place,
-        })?;
-        self.append(LIVING, place);
+    /// Notes that the association of a slot lives, and isn't silent.
+    pub fn touch(&mut self, slot: usize) -> Result<(), AllocError>
+        ensures living { OnOk result (self.new.living.entries ≡ (slot, tt) ∷ remove_entry (nat_eq slot) self.old.living.entries) }
+        ensures ended { OnOk result (self.new.ended.entries ≡ remove_entry (nat_eq slot) self.old.ended.entries) }
+    {
+        to_front(&mut self.living, slot)?;
+        self.ended.pop(&slot);
         Ok(())
     }
 
-    /// Notes that a slot lives, and isn't silent.
-    pub fn touch(&mut self, slot: usize) {
-        let place = slot.saturating_add(2);
-        if self.link(LIVING).older != place {
-            self.remove(place);
-            self.append(LIVING, place);
-        }
+    /// Notes that the association of a slot ended.
+    pub fn end(&mut self, slot: usize) -> Result<(), AllocError>
+        ensures living { OnOk result (self.new.living.entries ≡ remove_entry (nat_eq slot) self.old.living.entries) }
+        ensures ended { OnOk result (self.new.ended.entries ≡ (slot, tt) ∷ remove_entry (nat_eq slot) self.old.ended.entries) }
+    {
+        to_front(&mut self.ended, slot)?;
+        self.living.pop(&slot);
+        Ok(())
     }
 
-    /// Notes that a slot ended.
-    pub fn end(&mut self, slot: usize) {
-        let place = slot.saturating_add(2);
-        self.remove(place);
-        self.append(ENDED, place);
-    }
-
-    /// Returns the slot that leaves first: the oldest that ended, or else the one that was silent
+    /// Returns the slot that leaves first: the one that ended first, or else the one that was silent
     /// longest.
-    pub fn first(&self) -> usize {
-        let ended = self.link(ENDED).newer;
-        let place = if ended == ENDED {
-            self.link(LIVING).newer
-        } else {
-            ended
-        };
-        place.saturating_sub(2)
+    pub fn first(&self) -> Option<usize>
+        ensures { result ≡ first_of self.now.living.entries self.now.ended.entries }
+    {
+        let (slot, _) = self.ended.peek_lru().or(self.living.peek_lru())?;
+        Some(*slot)
     }
+}
 
-    /// Takes a place out of its list.
-    fn remove(&mut self, place: usize) {
-        let Link { older, newer } = self.link(place);
-        self.set_newer(older, newer);
-        self.set_older(newer, older);
-    }
-
-    /// Puts a place at the end of a list.
-    fn append(&mut self, list: usize, place: usize) {
-        let last = self.link(list).older;
-        self.set_newer(last, place);
-        self.set_older(place, last);
-        self.set_newer(place, list);
-        self.set_older(list, place);
-    }
-
-    /// Returns the neighbours of a place.
-    fn link(&self, place: usize) -> Link {
-        match self.links.get(place) {
-            Some(link) => *link,
-            None => Link { older: 0, newer: 0 },
-        }
-    }
-
-    fn set_newer(&mut self, place: usize, newer: usize) {
-        if let Some(link) = self.links.get_mut(place) {
-            link.newer = newer;
-        }
-    }
-
-    fn set_older(&mut self, place: usize, older: usize) {
-        if let Some(link) = self.links.get_mut(place) {
-            link.older = older;
-        }
+/// Puts a slot in front of a list, wherever it was before.
+fn to_front(list: &mut LruCache<usize, ()>, slot: usize) -> Result<(), AllocError>
+    requires { list.now.cap ≡ 2 ^ 64 - 1 }
+    ensures entries { OnOk result (list.new.entries ≡ (slot, tt) ∷ remove_entry (nat_eq slot) list.old.entries) }
+    ensures cap { list.new.cap ≡ list.old.cap }
+{
+    let length = list.len();
+    prove!(length < usize::MAX);
+    match list.put(slot, ()) {
+        Ok(_) => Ok(()),
+        Err(_) => Err(AllocError),
     }
 }

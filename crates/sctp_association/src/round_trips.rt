@@ -1,6 +1,10 @@
 //! Round trips: from a DATA chunk to the chunk that first acknowledges it.
 
-ghost use Rattle.std.specs.Prelude.{◌≤◌, ◌<◌, ◌+◌, ◌*◌, length};
+ghost use Rattle.std.specs.Prelude.{◌≡◌, ◌≤◌, ◌<◌, ◌+◌, ◌*◌, All, false};
+ghost use Rattle.sctp_association.specs.Buckets.{least_of, width_of, IsMedian};
+ghost use Rattle.sctp_association.specs.RoundTrips.{least_with, IsGreatest};
+ghost use Rattle.sctp_association.specs.Serial.{IsAfter};
+ghost use Rattle.sctp_capture.specs.Number.{one_more};
 
 use crate::acknowledgement::Acknowledgement;
 use crate::counts::increase;
@@ -82,7 +86,9 @@ impl RoundTrips {
     }
 
     /// Doesn't wait any longer for a TSN that was sent again.
-    pub fn leave(&mut self, tsn: u32) {
+    pub fn leave(&mut self, tsn: u32)
+        ensures { All (λ sent. sent.tsn ≡ tsn → sent.is_waiting ≡ false) self.new.waiting }
+    {
         for sent in self.waiting.iter_mut() {
             if sent.tsn == tsn {
                 sent.is_waiting = false;
@@ -91,7 +97,9 @@ impl RoundTrips {
     }
 
     /// Doesn't wait any longer for a TSN up to the new cumulative one of a FORWARD-TSN.
-    pub fn leave_to(&mut self, cumulative: u32) {
+    pub fn leave_to(&mut self, cumulative: u32)
+        ensures { All (λ sent. ¬ (IsAfter cumulative sent.tsn) → sent.is_waiting ≡ false) self.new.waiting }
+    {
         for sent in self.waiting.iter_mut() {
             if !is_after(sent.tsn, cumulative) {
                 sent.is_waiting = false;
@@ -119,7 +127,11 @@ impl RoundTrips {
     }
 
     /// Counts the round trip of a TSN.
-    fn count(&mut self, nanoseconds: u64, tsn: u32, packet: PacketNumber) {
+    fn count(&mut self, nanoseconds: u64, tsn: u32, packet: PacketNumber)
+        ensures count { self.new.count ≡ one_more self.old.count }
+        ensures least { self.new.least ≡ least_with self.old nanoseconds }
+        ensures greatest { IsGreatest self.old nanoseconds tsn packet self.new }
+    {
         if self.count == 0 || nanoseconds < self.least {
             self.least = nanoseconds;
         }
@@ -135,11 +147,13 @@ impl RoundTrips {
 
     /// Returns the median in nanoseconds, within 1/16 of it, or within 512 ns if it is below 16 us.
     /// If it is above 68 s, returns the greatest.
-    pub fn median(&self) -> u64 {
+    pub fn median(&self) -> u64
+        ensures { 0 < self.now.count → IsMedian self.now.buckets self.now.count self.now.least self.now.greatest result }
+    {
         let half = self.count / 2 + self.count % 2;
         let mut passed: u64 = 0;
         for bucket in 0..BUCKETS - 1 {
-            passed = passed.saturating_add(u64::from(self.buckets[bucket]));
+            passed += u64::from(self.buckets[bucket]);
             if passed >= half {
                 return middle_of(bucket).max(self.least).min(self.greatest);
             }
@@ -151,7 +165,9 @@ impl RoundTrips {
 /// Returns the bucket of a time in units: the first sixteen have one each, then an octave has
 /// eight; the last one also has all longer times.
 fn bucket_of(units: u64) -> usize
-    ensures { result < 192 }
+    ensures bounded { result < 192 }
+    ensures from { least_of result ≤ units }
+    ensures to { result < 191 → units < least_of (result + 1) }
 {
     let mut rest = units;
     for octave in 0..OCTAVES {
@@ -166,12 +182,9 @@ fn bucket_of(units: u64) -> usize
 /// Returns the middle of a bucket, in nanoseconds.
 fn middle_of(bucket: usize) -> u64
     requires { bucket < 192 }
+    ensures { result ≡ 1024 * least_of bucket + 512 * width_of bucket }
 {
     let octave = (bucket / 8).saturating_sub(1);
-    let first = bucket - octave * 8;
-    let mut width = UNIT;
-    for _ in 0..octave {
-        width = width.saturating_mul(2);
-    }
-    width.saturating_mul(first as u64).saturating_add(width / 2)
+    let first = (bucket - octave * 8) as u64;
+    (UNIT * first + UNIT / 2) << octave
 }

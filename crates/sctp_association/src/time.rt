@@ -1,5 +1,8 @@
 //! Times, as text.
 
+ghost use Rattle.std.specs.Prelude.{◌≡◌, ◌+◌, ◌-◌, ◌/◌, ◌^◌, ◌<◌, ◌≤◌};
+ghost use Rattle.sctp_association.specs.Calendar.{is_leap_year, days_of_year, days_of_month, days_of_years, days_of_months, IsDate};
+
 use std::fmt;
 
 /// How many nanoseconds a second has.
@@ -69,7 +72,7 @@ impl fmt::Display for TimeReport {
                 write_fraction(fraction, self.digits, f)
             }
             TimeForm::Iso => {
-                write_date(seconds / DAY, f)?;
+                write_date(seconds, f)?;
                 f.write_str("T")?;
                 write_clock(seconds % DAY, f)?;
                 write_fraction(fraction, self.digits, f)?;
@@ -126,31 +129,71 @@ fn write_clock<W: fmt::Write>(seconds: u64, f: &mut fmt::Formatter<W>) -> fmt::R
     write!(f, "{hour:02}:{minute:02}:{second:02}")
 }
 
-/// Writes the date of a day, given in days since 1970-01-01.
-fn write_date<W: fmt::Write>(days: u64, f: &mut fmt::Formatter<W>) -> fmt::Result {
-    let (year, month, day) = date(days);
+/// Writes the date of a time, given in seconds since 1970-01-01.
+fn write_date<W: fmt::Write>(seconds: u64, f: &mut fmt::Formatter<W>) -> fmt::Result {
+    let (year, month, day) = date(seconds);
     write!(f, "{year:04}-{month:02}-{day:02}")
 }
 
-/// Returns year, month and day of a day of the Gregorian calendar, given in days since 1970-01-01.
-// A year is taken to begin on 1 March, so that a leap day ends it. From there on months have 31,
-// 30, 31, 30 and 31 days, again and again: 153 days in five months.
-fn date(days: u64) -> (u64, u64, u64) {
-    // 1970-01-01 is 719,468 days after 0000-03-01; 400 years have 146,097 days
-    let days = days % 1_000_000_000 + 719_468;
-    let (cycles, rest) = (days / 146_097, days % 146_097);
-    let centuries = (rest / 36_524).min(3);
-    let rest = rest - centuries * 36_524;
-    let fours = rest / 1_461;
-    let rest = rest - fours * 1_461;
-    let years = (rest / 365).min(3);
-    let rest = rest - years * 365;
-    let months = (5 * rest + 2) / 153;
-    let day = rest - (153 * months + 2) / 5 + 1;
-    let year = cycles * 400 + centuries * 100 + fours * 4 + years;
-    if months < 10 {
-        (year, months + 3, day)
-    } else {
-        (year + 1, months - 9, day)
+/// Returns year, month and day of a time of the Gregorian calendar, given in seconds since
+/// 1970-01-01.
+fn date(seconds: u64) -> (u64, u64, u64)
+    ensures { IsDate (seconds / 86400) result.0 result.1 result.2 }
+{
+    let (year, rest) = year_of(seconds / DAY);
+    let (month, rest) = month_of(year, rest);
+    (year, month, rest + 1)
+}
+
+/// Returns the year of a day, given in days since 1970-01-01, and how many days of it passed.
+fn year_of(days: u64) -> (u64, u64)
+    requires { days < 2 ^ 63 }
+    ensures from { 1970 ≤ result.0 }
+    ensures rest { result.1 < days_of_year result.0 }
+    ensures is { days ≡ days_of_years (result.0 - 1970) + result.1 }
+{
+    let (mut year, mut rest) = (1970, days);
+    while rest >= length_of_year(year) {
+        rest -= length_of_year(year);
+        year += 1;
+    }
+    (year, rest)
+}
+
+/// Returns the month of a day, given in days that passed of the year, and how many days of it passed.
+fn month_of(year: u64, days: u64) -> (u64, u64)
+    requires { days < days_of_year year }
+    ensures month { (1 ≤ result.0) × (result.0 ≤ 12) }
+    ensures rest { result.1 < days_of_month year result.0 }
+    ensures is { days ≡ days_of_months year (result.0 - 1) + result.1 }
+{
+    let (mut month, mut rest) = (1, days);
+    while rest >= length_of_month(year, month) {
+        rest -= length_of_month(year, month);
+        month += 1;
+    }
+    (month, rest)
+}
+
+/// Returns whether a year has a 29 February.
+fn has_leap_day(year: u64) -> bool
+    ensures { result ≡ is_leap_year year }
+{
+    year % 4 == 0 && (year % 100 != 0 || year % 400 == 0)
+}
+
+fn length_of_year(year: u64) -> u64
+    ensures { result ≡ days_of_year year }
+{
+    if has_leap_day(year) { 366 } else { 365 }
+}
+
+fn length_of_month(year: u64, month: u64) -> u64
+    ensures { result ≡ days_of_month year month }
+{
+    match month {
+        2 => if has_leap_day(year) { 29 } else { 28 },
+        4 | 6 | 9 | 11 => 30,
+        _ => 31,
     }
 }

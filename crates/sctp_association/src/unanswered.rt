@@ -1,5 +1,8 @@
 //! What one end asked, and which of it was answered.
 
+ghost use Rattle.std.specs.Prelude.{◌≡◌, ◌-◌, ◌↔◌, Any, IsTrue};
+ghost use Rattle.sctp_association.specs.Questions.{HasKey, IsOpen};
+
 use crate::counts::increase;
 use crate::packet_number::PacketNumber;
 
@@ -62,7 +65,9 @@ impl Unanswered {
     }
 
     /// Returns whether one of the last 8 questions has this key, answered or not.
-    pub fn has_asked(&self, key: u64) -> bool {
+    pub fn has_asked(&self, key: u64) -> bool
+        ensures { IsTrue result ↔ Any (HasKey key) self.now.asked }
+    {
         for question in &self.asked {
             if question.packet.is_some() && question.key == key {
                 return true;
@@ -72,7 +77,10 @@ impl Unanswered {
     }
 
     /// Notes an answer with this key: to the oldest question with the same one.
-    pub fn answer(&mut self, key: u64) {
+    pub fn answer(&mut self, key: u64)
+        ensures answered { Any (IsOpen key) self.old.asked → self.new.count ≡ self.old.count - 1 }
+        ensures other { ¬ (Any (IsOpen key) self.old.asked) → self.new ≡ self.old }
+    {
         for step in 0..MOST {
             let place = self.next.wrapping_add(step) % MOST;
             let question = &mut self.asked[place];
