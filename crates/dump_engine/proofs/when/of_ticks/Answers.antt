@@ -1,7 +1,6 @@
-use Rattle.std.proofs.Common.{rules, ◌≡◌, ◌*◌, ◌/◌, ◌^◌, ◌≤◌, ℕ, ◌+◌, ◌-◌, ◌<◌, arith, ap, sym, ◌∙◌}
+use Rattle.std.proofs.Common.{◌^◌, ◌-◌, arith}
 use Rattle.std.proofs.lemmas.Grind.{common_steps}
-use Rattle.std.proofs.Math.Nat.{one-le-pow, div-le_self}
-use Rattle.dump_engine.specs.Times.{units, fitting}
+use Rattle.std.proofs.Math.Nat.{div-le_self}
 use Rattle.dump_engine.proofs.Powers.{coarse, fine, finest}
 use Rattle.dump_engine.proofs.when.of_ticks.Goals as goal
 
