@@ -141,8 +141,10 @@ impl<'a> When<'a> {
         if is_negative {
             f.write_str("-")?;
         }
-        let digits = if nanoseconds.is_multiple_of(1_000) {
+        let digits = if nanoseconds.is_multiple_of(1_000_000) {
             digits_of(self.time)
+        } else if nanoseconds.is_multiple_of(1_000) {
+            digits_of(self.time).max(6)
         } else {
             9
         };

@@ -36,9 +36,9 @@ enum Owner {
 /// A packet belongs to the association whose end chose its tag, between the same ports, and of a log
 /// in the same direction and of the same transport. One with an unknown tag belongs to the
 /// association between the same ends of which no tag of that end is known. A packet of an
-/// association that left, or one between the ends of a living association of which it has neither
-/// tag, is of none, and begins none, unless it begins with an INIT. Packets that are refused, or
-/// have a wrong checksum, belong to one as others do.
+/// association that left is of none, and begins none; so is one between the ends of a living
+/// association of which it has neither tag, unless it begins with an INIT. Packets that are refused,
+/// or have a wrong checksum, belong to one as others do.
 #[derive(Drop)]
 pub struct Associations {
     alloc: Global,

@@ -18,7 +18,7 @@ const WORDS: usize = 32;
 #[derive(Clone, Debug, Drop)]
 pub struct Tsns {
     span: Option<Span>,
-    /// How many were seen again. One that comes more than 2,048 TSNs late counts as such.
+    /// How many were seen again. One that comes 2,048 TSNs late, or later, counts as such.
     pub repeated: u64,
     /// The first of them,
     pub first_repeated_tsn: u32,
