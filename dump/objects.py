@@ -153,4 +153,5 @@ def strings(value):
         yield value
 
 
-main()
+if __name__ == "__main__":
+    main()

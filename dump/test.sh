@@ -4,9 +4,11 @@ set -u
 
 usage='usage: dump/test.sh [PROGRAM]
 
-Runs the program over the rows of dump/runs.txt, and compares all that it prints, and its status. Then it has the packets of
-dump/rules.txt and of the captures in dump/data, dump/objects.py looks at its JSON, dump/logs.py at associations of logs,
-dump/faults.py at lengths that are refused, and it has an output that fails. The last line is: dump: N passed, M failed.
+Runs the program over the rows of dump/runs.txt, and compares all that it prints, and its status. Then docs/rules.py has it
+ask the rules of the packets of dump/rules.txt, it has the chunks of dump/refused.txt and the captures in dump/data,
+dump/faults.py looks at lengths that are refused, dump/objects.py at its JSON, dump/forms.py at its three forms, dump/logs.py at
+associations of logs, dump/associations.py at those of captures, if tshark is there, dump/times.py at times; and it has a table
+that is full, and an output that fails. The last line is: dump: N passed, M failed.
 
 The program is crates/sctp_dump/out/sctp_dump, which `rt ci` proved and built, unless another is named; if it is missing,
 or older than a source file, it is proved and built first.'
@@ -30,7 +32,7 @@ if [ $# -eq 0 ]; then
     program=$PWD/$program
 fi
 [ -x "$program" ] || { echo 'dump: sctp_dump was not built' && tail "$work/log" && exit 1; }
-rows=$PWD/dump/runs.txt rules=$PWD/dump/rules.txt captures=$PWD/dump/data scripts=$PWD/dump
+root=$PWD rows=$PWD/dump/runs.txt captures=$PWD/dump/data
 cd crates/sctp_dump/data || exit
 
 passed=0 failed=0
@@ -43,6 +45,16 @@ judge() {
     else
         failed=$((failed + 1))
         printf 'dump: %s: status %s, and not %s; < what was wanted, > what was printed\n' "$name" "$ended" "$status"
+        head -n 40 "$work/log"
+    fi
+}
+
+# Counts a script that looks at the program; prints what it says, if it fails.
+look() {
+    if "$@" >"$work/log" 2>&1; then
+        passed=$((passed + 1))
+    else
+        failed=$((failed + 1))
         head -n 40 "$work/log"
     fi
 }
@@ -76,22 +88,18 @@ while IFS= read -r line; do
     esac
 done <"$rows"
 
+# The text of --help is a row; -h prints the same.
+: >"$work/wanted_errors"
+"$program" --help >"$work/wanted"
+"$program" -h >"$work/printed" 2>"$work/errors"
+judge 'sctp_dump -h' $? 0
+
 # ---- rules
 
-# The rules that the packets of a row break, in the order of their names.
-: >"$work/wanted_errors"
-while IFS= read -r line; do
-    case $line in
-        '#'* | '') continue ;;
-    esac
-    names=${line##* = }
-    tr ' ' '\n' <<<"${names#-}" | sort -u >"$work/wanted"
-    tr / '\n' <<<"${line%% = *}" | "$program" --brief --check 2>"$work/errors" |
-        grep '^[0-9]' | grep -o ' ? [a-z-]*' | cut -c 4- | sort -u >"$work/printed"
-    [ -s "$work/printed" ] || echo >"$work/printed"
-    judge "$line" 0 0
-done <"$rules"
+# What is said of the rules that the packets of each row break.
+look "$root/docs/rules.py" --try "$program"
 
+: >"$work/wanted_errors"
 # What real stacks sent breaks none.
 printf 'warnings: 0\n' >"$work/wanted"
 for file in "$captures"/*.log "$captures"/*.pcap; do
@@ -99,23 +107,102 @@ for file in "$captures"/*.log "$captures"/*.pcap; do
     judge "rules that ${file##*/} breaks" "${PIPESTATUS[0]}" 0
 done
 
+# ---- chunks that are refused
+
+# Of a length that is refused the text says which are needed.
+look "$root/dump/faults.py" "$program"
+
+grep ' = ! ' "$root/dump/refused.txt" >"$work/rows"
+sed 's/.* = //' "$work/rows" >"$work/wanted"
+echo '! size at 65535: packet: 65536 bytes, but 65535 are the most' >>"$work/wanted"
+(sed 's/ = .*//; s/^/138813890102030400000000 /' "$work/rows" && printf '%0131072d' 0) | "$program" --brief 2>"$work/errors" |
+    sed -n 's/^[0-9].* zero //p' >"$work/printed"
+judge 'what is said of chunks that are refused' "${PIPESTATUS[1]}" 1
+
 # ---- JSON
 
-# Each line is an object, and each place holds the value of its key. A log has the associations of its capture. Of a length that is
-# refused the text says which are needed.
-for script in objects logs faults; do
-    if "$scripts/$script.py" "$program" >"$work/log"; then
-        passed=$((passed + 1))
-    else
-        failed=$((failed + 1))
-        head -n 40 "$work/log"
-    fi
-done
+# Each line is an object, and each place holds the value of its key. Lines and blocks say the same. A log has the associations of
+# its capture, and captures have those of a model over tshark.
+look "$root/dump/objects.py" "$program"
+look "$root/dump/forms.py" "$program"
+look "$root/dump/logs.py" "$program"
+if command -v tshark >/dev/null; then
+    look "$root/dump/associations.py" "$program"
+else
+    echo 'dump: the model of associations is left out: no tshark'
+fi
+
+# ---- times
+
+look "$root/dump/times.py" "$program"
+
+# ---- a table that is full
+
+# INITs with these tags.
+inits() {
+    printf '138813890000000000000000 01000014 %08x 00010000 00010001 00000001\n' "$@"
+}
+
+# Packets to the ends with these tags.
+packets_to() {
+    printf '13891388%08x00000000 0b000004\n' "$@"
+}
+
+# Of 10,000 associations 1 is seen once more, and 3 ends. For two others 3 leaves, and then 2, which was silent longest; after
+# that packets to 1 and 4 are theirs, and those to 2 and 3 are of none, as is an INIT that 3 sends again.
+{
+    inits {1..10000}
+    packets_to 1
+    echo '138813890000000300000000 06010004' # ABORT, with its sender's tag
+    inits 10001 10002
+    packets_to 1 2 3 4
+    inits 3
+} | timeout 60 "$program" --associations 2>"$work/errors" >"$work/all"
+ended=$?
+awk -v RS= '/left the table/ || /second end sent packets [^0]/' "$work/all" | grep -E '^association|left|sent' >"$work/printed"
+: >"$work/wanted_errors"
+cat >"$work/wanted" <<'WANTED'
+association 3
+left the table
+first end sent packets 2: refused 0, checksums: zero 2, wrong 0
+second end sent packets 0: refused 0, checksums: zero 0, wrong 0
+association 2
+left the table
+first end sent packets 1: refused 0, checksums: zero 1, wrong 0
+second end sent packets 0: refused 0, checksums: zero 0, wrong 0
+association 1
+first end sent packets 1: refused 0, checksums: zero 1, wrong 0
+second end sent packets 2: refused 0, checksums: zero 2, wrong 0
+association 4
+first end sent packets 1: refused 0, checksums: zero 1, wrong 0
+second end sent packets 1: refused 0, checksums: zero 1, wrong 0
+associations: 2 left the table, and what is said of them is a part (--keep keeps more); packets of none 3
+WANTED
+judge 'a table that is full' $ended 0
+
+# Of 1,026 transports 1,024 are known by their names; the others count as one, whose INIT came twice.
+printf 'O 00:00:00.000 0000 13 88 13 89 00 00 00 00 00 00 00 00 01 00 00 14 00 00 00 01 00 01 00 00 00 01 00 01 00 00 00 01 # SCTP_PACKET T%s\n' \
+    {1..1026} | timeout 60 "$program" --associations 2>"$work/errors" >"$work/all"
+ended=$?
+{
+    grep -c '^transport: T[0-9]*$' "$work/all"
+    awk -v RS= '/another name/' "$work/all" | grep -E '^transport|INIT|sent'
+} >"$work/printed"
+cat >"$work/wanted" <<'WANTED'
+1024
+transport: of another name
+begins: packet 1025, time 00:00:00.000000, INIT
+never established, INIT 2
+first end sent packets 2: refused 0, checksums: zero 2, wrong 0
+second end sent packets 0: refused 0, checksums: zero 0, wrong 0
+WANTED
+judge 'more transports than are known by their names' $ended 0
 
 # ---- an input that is waited for
 
 # A packet is printed though its input doesn't end yet.
 mkfifo "$work/pipe"
+: >"$work/all"
 timeout 60 "$program" <"$work/pipe" >"$work/all" 2>"$work/errors" &
 exec 3>"$work/pipe"
 echo '138813880102030400000000 0b000004' >&3

@@ -1,28 +1,33 @@
 #!/usr/bin/env python3
-"""Compares what sctp_dump says of a capture's associations with a model of them, over tshark's dissection.
+"""usage: dump/associations.py [--seed 1] [--into FOLDER] [--together] [--model] PROGRAM [CAPTURE ..]
+       dump/associations.py --write | --help
 
-usage: bench/associations.py [--program PATH] [--seed 1] [CAPTURE ..]
+Compares what sctp_dump says of a capture's associations with a model of them, over tshark's dissection.
 
-  --program PATH  the program, in place of crates/sctp_dump/out/sctp_dump: it is run with --json --associations CAPTURE
-  --seed 1        the seed of the captures that are made
-  --together      reads the captures as one, in this order, in place of each alone
-  --only-make     makes the captures, and compares nothing
-  --model         prints the model's associations, a line each, and compares nothing
+  --seed 1       the seed of the captures that are drawn
+  --into FOLDER  keeps the captures that are made
+  --together     reads the captures as one, in this order, in place of each alone
+  --model        prints the model's associations, a line each, and compares nothing
+  --write        writes crates/sctp_dump/data/associations.pcap anew
 
-Without a CAPTURE it makes some in bench/out/associations, one a case, and compares all, and at last some of them together.
-The model keeps all TSNs, HEARTBEATs, requests and round trips, where the program keeps windows of them. Of a packet that was
-cut off tshark shows the header alone, so a capture with such packets can't be compared. Which packets were refused is
-compared of the captures that are made alone. What a tshark has no field for isn't compared (it says which fields).
-Status: 0 if all agree, 1 if not, 2 if it can't run. Needed are tshark and the program, built (docs/DUMP.md)."""
+Without a CAPTURE it makes some, one a case, and compares all, some of them together; and the stored capture has to be that of
+the case `whole`. The model keeps all TSNs, HEARTBEATs, requests and round trips, where the program keeps windows of them; no
+association leaves its table. Of a packet that was cut off tshark shows the header alone, so a capture with such packets can't
+be compared. Which packets were refused is compared of the captures that are made alone. What a tshark has no field for isn't
+compared (it says which fields). Status: 0 if all agree, 1 if not. Needed is tshark.
+"""
+import argparse
 import json
 import os
 import random
 import struct
 import subprocess
 import sys
+import tempfile
+from concurrent.futures import ThreadPoolExecutor
 
 ROOT = os.path.dirname(os.path.dirname(os.path.abspath(__file__)))
-FOLDER = os.path.join(ROOT, 'bench/out/associations')
+DATA_FOLDER = os.path.join(ROOT, 'crates/sctp_dump/data')
 DATA, INIT, INIT_ACK, SACK, HEARTBEAT, HEARTBEAT_ACK, ABORT = 0, 1, 2, 3, 4, 5, 6
 SHUTDOWN, SHUTDOWN_ACK, COOKIE_ECHO, COOKIE_ACK, SHUTDOWN_COMPLETE, I_DATA = 7, 8, 10, 11, 14, 64
 NAMES = {DATA: 'DATA', INIT: 'INIT', INIT_ACK: 'INIT ACK', SACK: 'SACK', HEARTBEAT: 'HEARTBEAT', ABORT: 'ABORT',
@@ -33,7 +38,7 @@ NAMES = {DATA: 'DATA', INIT: 'INIT', INIT_ACK: 'INIT ACK', SACK: 'SACK', HEARTBE
 NR_SACK, RE_CONFIG, FORWARD_TSN, I_FORWARD_TSN = 16, 130, 192, 194
 # the parameters of a RE-CONFIG that are requests (RFC 6525 sections 4.1 to 4.3, 4.5 and 4.6), and the response (4.4)
 REQUESTS, RESPONSE = (13, 14, 15, 17, 18), 16
-MOST_WAITING, MOST_ADDRESSES, MOST_ASSOCIATIONS = 16, 4, 10000
+MOST_WAITING, MOST_ADDRESSES = 16, 4
 
 
 # ---- the model (RFC 9260), over tshark's fields
@@ -171,7 +176,7 @@ class Association:
 
 
 class Model:
-    """Of captures whose addresses are known, and whose associations don't leave the table (but those of `many`)."""
+    """Of captures whose addresses are known, and whose associations don't leave the table."""
 
     def __init__(self):
         self.all, self.by_tag, self.by_route, self.unknown = [], {}, {}, 0
@@ -519,10 +524,6 @@ def compare(paths, program, refused):
     got = [json.loads(line, parse_float=str) for line in run.stdout.splitlines() if line.startswith('{"association"')]
     want = list(expected(modelled(paths, refused or ()), resolution(paths[0]), paths))
     got.sort(key=lambda one: one['association'])
-    left = sum(bool(one.pop('left_table', False)) for one in got)
-    if left != max(len(want) - MOST_ASSOCIATIONS, 0):
-        print('%s: %d left the table' % (name, left))
-        return len(want), 1
     wrong = sum(differences(name, a, b, refused is not None) for a, b in zip(want, got))
     if len(want) != len(got):
         print('%s: expected %d associations, printed %d' % (name, len(want), len(got)))
@@ -596,7 +597,7 @@ class Capture:
     """A pcap file of raw IPv4, with the numbers of the packets that are refused."""
 
     def __init__(self, name):
-        self.path, self.records, self.time, self.refused = os.path.join(FOLDER, name + '.pcap'), [], 1718195696 * 10 ** 6, set()
+        self.name, self.records, self.time, self.refused = name + '.pcap', [], 1718195696 * 10 ** 6, set()
 
     def add(self, source, destination, tag, *chunks, after=100, checksum='right', refused=False):
         """Adds a packet, some microseconds after the one before; a place is an address' last two bytes and a port."""
@@ -611,20 +612,25 @@ class Capture:
         if refused:
             self.refused.add(len(self.records))
 
-    def write(self):
-        with open(self.path, 'wb') as file:
-            file.write(struct.pack('<IHHiIII', 0xa1b2c3d4, 2, 4, 0, 0, 262144, 101))
-            for time, frame in self.records:
-                file.write(struct.pack('<IIII', time // 10 ** 6, time % 10 ** 6, len(frame), len(frame)) + frame)
-        return self
+    def content(self):
+        return struct.pack('<IHHiIII', 0xa1b2c3d4, 2, 4, 0, 0, 262144, 101) + b''.join(
+            struct.pack('<IIII', time // 10 ** 6, time % 10 ** 6, len(frame), len(frame)) + frame
+            for time, frame in self.records)
+
+    def write(self, folder):
+        path = os.path.join(folder, self.name)
+        with open(path, 'wb') as file:
+            file.write(self.content())
+        return path
 
 
-A, B, C = (1, 36412), (2, 40000), (3, 40000)
+A, B, C, D = (1, 36412), (2, 40000), (3, 40000), (4, 40000)
+COOKIE = parameter(7, b'cookie..')
 
 
 def handshake(capture, a=A, b=B, tag_a=0x4d2df52d, tag_b=0x0da73798, tsn_a=1000, tsn_b=2000, parameters=b''):
     capture.add(a, b, 0, init(INIT, tag_a, tsn_a, parameters))
-    capture.add(b, a, tag_a, init(INIT_ACK, tag_b, tsn_b, parameter(7, b'cookie..')))
+    capture.add(b, a, tag_a, init(INIT_ACK, tag_b, tsn_b, COOKIE))
     capture.add(a, b, tag_b, chunk(COOKIE_ECHO, 0, b'cookie..'))
     capture.add(b, a, tag_a, chunk(COOKIE_ACK, 0, b''))
     return tag_a, tag_b
@@ -812,13 +818,13 @@ def back():
     return capture
 
 
-def parts():
+def parts(folder):
     """One association in three files."""
     whole, files = drawn(3), []
     for step, (first, last) in enumerate(((0, 40), (40, 900), (900, 10 ** 9))):
         part = Capture('part%d' % step)
         part.records, part.refused = whole.records[first:last], set()
-        files.append(part.write().path)
+        files.append(part.write(folder))
     return files
 
 
@@ -881,56 +887,147 @@ def drawn(seed):
     return capture
 
 
-def many():
-    """More associations than the table has room for."""
-    capture = Capture('many')
-    for step in range(13000):
-        capture.add((1 + step // 60000, 1 + step % 60000), B, 0, init(INIT, 1 + step, 1), after=1)
+def whole():
+    """The stored capture: each key of an association and of an end, and of each two of them an end in which they differ."""
+    capture = Capture('associations')
+
+    def sent(milliseconds, source, *chunks, **more):
+        """Adds a packet to B, or of B to A, this long after `begin`."""
+        destination, tag = (A, tags[0]) if source == B else (B, tags[1])
+        capture.time = begin * 10 ** 6 + milliseconds * 1000
+        capture.add(source, destination, 0 if chunks[0][0] == INIT else tag, *chunks, after=0, **more)
+
+    # 1 to 6, in the last second of 2000-02-29: INIT twice, and two answers, of which the first one is used
+    begin, tags = 951868799, (0x4d2df52d, 0x0da73798)
+    sent(0, A, init(INIT, tags[0], -3))
+    sent(1000, A, init(INIT, tags[0], -3))
+    sent(1010, B, init(INIT_ACK, tags[1], 2000, COOKIE))
+    sent(1020, B, init(INIT_ACK, 0x0da73799, 2000, COOKIE))
+    sent(1030, A, chunk(COOKIE_ECHO, 0, b'cookie..'))
+    sent(1040, B, chunk(COOKIE_ACK, 0, b''))
+    # 7 to 17: TSNs over their wrap, a gap ack block, a TSN sent again, and a SACK that comes late
+    for milliseconds, tsn in (1100, -3), (1160, -2), (1180, -1), (1190, 0), (1192, 1), (1196, 2):
+        sent(milliseconds, A, data(tsn))
+    sent(1200, B, sack(-4, 3000, ((2, 4),)))
+    sent(1220, A, data(-3))
+    sent(1230, B, sack(0, 2000))
+    sent(1282, B, sack(2, 2000))
+    sent(1285, B, sack(-1, 5000))
+    # 18 to 21: one TSN comes late, and one before the first
+    for milliseconds, tsn in (1300, 10), (1320, 5), (1340, -6):
+        sent(milliseconds, A, data(tsn))
+    sent(1390, B, sack(10, 4000))
+    # 22 to 27: HEARTBEATs from four more addresses, an answer with other bytes, and one to the third
+    for step in range(4):
+        sent(1400, (5 + step, A[1]), heartbeat(b'%d' % step))
+    for info in b'x', b'2':
+        sent(1410, B, heartbeat(info, HEARTBEAT_ACK))
+    # 28 to 36: DATA of the other end, in a window that closes twice; two TSNs again
+    for milliseconds, tsn in (1500, 2000), (1510, 2001), (1520, 2002):
+        sent(milliseconds, B, data(tsn, b'x'))
+    for milliseconds, *report in (1540, 1999, 0, ((2, 2),)), (1560, 2001, 5000), (1640, 2002, 0), (1650, 2002, 1000):
+        sent(milliseconds, A, sack(*report))
+    for tsn in 2001, 2002:
+        sent(1660, B, data(tsn, b'x'))
+    # 37 to 40: two TSNs that are skipped, this twice, and a SACK of the first that was on its way
+    sent(1700, A, data(11), data(12), checksum='wrong')
+    for _ in range(2):
+        sent(1710, A, forward_tsn(12, (1, 2, 3)), checksum='zero')
+    sent(1720, B, sack(11, 2500), checksum='wrong')
+    # 41 to 43: two requests, and a response to the first
+    for request in 1000, 1001:
+        sent(1800, A, chunk(RE_CONFIG, 0, reset_request(request)))
+    sent(1810, B, chunk(RE_CONFIG, 0, response_to(1000)), checksum='zero')
+    # 44 and 45: DATA before a fault, and the end
+    sent(1900, A, data(13), chunk(COOKIE_ACK, 0, b'', length=90), refused=True)
+    sent(2500, B, chunk(ABORT, 0, parameter(12, b'bye')), checksum='wrong')
+
+    # 46 to 49: after this end the other one begins, on 2024-02-29
+    begin, tags = 1709208000, (0x31, 0x32)
+    sent(0, B, init(INIT, tags[1], 9))
+    sent(7, A, init(INIT_ACK, tags[0], 500, COOKIE))
+    sent(8, B, chunk(COOKIE_ECHO, 0, b'cookie..'))
+    sent(9, A, chunk(COOKIE_ACK, 0, b''))
+    # 50 to 52: I-DATA, twice, and skipped
+    for _ in range(2):
+        sent(10, B, data(9, b'abc', I_DATA))
+    sent(12, B, forward_tsn(10, (4,), I_FORWARD_TSN))
+    # 53 to 55: a tag of neither end, and DATA before a fault that a SHUTDOWN acknowledges
+    capture.add(A, B, 0x77777777, data(1))
+    sent(20, A, data(500), chunk(COOKIE_ACK, 0, b'', length=90), refused=True)
+    sent(45, B, chunk(SHUTDOWN, 0, struct.pack('>I', 500)))
+
+    # 56 to 59: a restart, in the last second of 2100-02-28, which no leap day follows
+    begin, tags = 4107542399, (0x41, 0x42)
+    sent(0, A, init(INIT, tags[0], 100))
+    sent(1, B, init(INIT_ACK, tags[1], 1, COOKIE))
+    sent(2, A, chunk(COOKIE_ECHO, 0, b'cookie..'))
+    sent(3, B, chunk(COOKIE_ACK, 0, b''))
+    # 60 to 66: more TSNs than are awaited at a time, the end, and a SHUTDOWN ACK after it, which is answered by its own tag
+    sent(10, A, *(data(100 + step, b'x') for step in range(17)))
+    sent(15, B, sack(116))
+    capture.time += 2_000_000
+    shutdown(capture, tags)
+    capture.add(B, A, tags[0], chunk(SHUTDOWN_ACK, 0, b''), after=1_000_000)
+    capture.add(A, B, tags[0], chunk(SHUTDOWN_COMPLETE, 1, b''))
+
+    # 67 to 70: an INIT that is refused, and then two of the other end, which begin an association each
+    capture.add(A, C, 0, init(INIT, 0x51, 1))
+    capture.add(C, A, 0x51, chunk(ABORT, 0, parameter(4, b'')))
+    for tag in 0x52, 0x53:
+        capture.add(C, A, 0, init(INIT, tag, 1))
+    # 71 and 72: DATA of an association whose INIT wasn't captured, and an INIT of the same end, which restarts it
+    capture.add(A, D, 0x61, data(7))
+    capture.add(A, D, 0, init(INIT, 0x62, 1))
     return capture
 
 
 def main():
-    arguments, program, seed = sys.argv[1:], os.path.join(ROOT, 'crates/sctp_dump/out/sctp_dump'), 1
-    captures, makes, prints, together = [], False, False, False
-    while arguments:
-        word = arguments.pop(0)
-        if word == '--program':
-            program = arguments.pop(0)
-        elif word == '--seed':
-            seed = int(arguments.pop(0))
-        elif word == '--only-make':
-            makes = True
-        elif word == '--model':
-            prints = True
-        elif word == '--together':
-            together = True
-        elif word == '--help':
-            print(__doc__)
-            return 0
-        else:
-            captures.append(([word], None))
-    if together:
-        captures = [([path for paths, _ in captures for path in paths], None)]
-    if not captures:
-        os.makedirs(FOLDER, exist_ok=True)
-        cases = [plain(), tsns(), beginnings(), endings(), checksums(), heartbeats(), homes(), abandoned(), nr_sacks(),
-                 requests(), blue(), back(), many()]
-        captures = [([case.write().path], case.refused) for case in cases + [drawn(seed), drawn(seed + 1)]]
-        captures.append((parts(), None))
-    if makes:
+    parser = argparse.ArgumentParser(usage=__doc__.strip()[7:], add_help=False)
+    for flag in '--together', '--model', '--write', '--help':
+        parser.add_argument(flag, action='store_true')
+    parser.add_argument('--seed', type=int, default=1)
+    parser.add_argument('--into')
+    parser.add_argument('program', nargs='?')
+    parser.add_argument('captures', nargs='*')
+    given = parser.parse_args()
+    if given.help:
+        print(__doc__.strip())
         return 0
+    if given.write:
+        whole().write(DATA_FOLDER)
+        return 0
+    if not given.program:
+        parser.error('no PROGRAM')
+    with tempfile.TemporaryDirectory() as folder:
+        return run(given, given.into or folder)
+
+
+def run(given, folder):
+    total = wrong = 0
+    if given.together:
+        captures = [(given.captures, None)]
+    elif given.captures:
+        captures = [([path], None) for path in given.captures]
+    else:
+        cases = [case() for case in (plain, tsns, beginnings, endings, checksums, heartbeats, homes, abandoned, nr_sacks, requests,
+                                     blue, back, whole)]
+        cases += [drawn(given.seed), drawn(given.seed + 1)]
+        captures = [([case.write(folder)], case.refused) for case in cases] + [(parts(folder), None)]
+        with open(os.path.join(DATA_FOLDER, 'associations.pcap'), 'rb') as file:
+            if file.read() != whole().content():
+                print('associations.pcap isn\'t what --write writes')
+                wrong = 1
     known_fields()
-    if prints:
+    if given.model:
         for paths, refused in captures:
             for line in expected(modelled(paths, refused or ()), resolution(paths[0]), paths):
                 print(json.dumps(line, default=sorted))
         return 0
-    total = wrong = 0
-    for paths, refused in captures:
-        associations, differing = compare(paths, program, refused)
-        total, wrong = total + associations, wrong + differing
-        print('%s: associations %d, differing %d' % (os.path.basename(paths[0]), associations, differing))
-    print('associations %d: differing %d' % (total, wrong))
+    with ThreadPoolExecutor() as pool:
+        for associations, differing in pool.map(lambda it: compare(it[0], given.program, it[1]), captures):
+            total, wrong = total + associations, wrong + differing
+    print('model: associations %d, differing %d' % (total, wrong))
     return 1 if wrong else 0
 
 
