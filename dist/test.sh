@@ -218,6 +218,11 @@ cmake_refuses() {
         tr -s '\n ' ' ' <refusal | grep 'there is no dcsctp-riscv64-elf.s for Linux on riscv64'
 }
 
+# What each package takes on systems that this isn't.
+systems() {
+    "$root/dist/systems.py" "$work/sources"
+}
+
 # ---- the programs
 
 program() {
@@ -402,6 +407,7 @@ with cmake 'CMake: find_package, shared' cmake_installed ON && with pkg-config '
 with cmake 'CMake: add_subdirectory' cmake_subdirectory
 with cmake 'CMake: FetchContent, shared' cmake_fetched
 with cmake 'CMake: an unknown processor' cmake_refuses
+try 'the text of each system' systems
 with "$cc" 'sctp_show' sctp_show "$cc"
 with musl-gcc 'sctp_show, static by musl-gcc' sctp_show musl-gcc -static
 with "$cc" 'sctp_dump' sctp_dump "$cc"

@@ -18,6 +18,19 @@ using bytes = std::vector<std::uint8_t>;
 
 static std::size_t allocations;
 
+// The library's requests for memory, of which one is refused: test.sh links with --wrap.
+static std::size_t granted = static_cast<std::size_t>(-1);
+extern "C" void *__real_malloc(std::size_t size);
+extern "C" void *__real_realloc(void *block, std::size_t size);
+extern "C" void *__wrap_malloc(std::size_t size)
+{
+    return granted-- == 0 ? nullptr : __real_malloc(size);
+}
+extern "C" void *__wrap_realloc(void *block, std::size_t size)
+{
+    return granted-- == 0 ? nullptr : __real_realloc(block, size);
+}
+
 void *operator new(std::size_t size)
 {
     allocations++;
@@ -529,6 +542,231 @@ void views()
     CHECK(++at == packet(packets).chunks().end() && ++at == packet(packets).chunks().end());
 }
 
+// ---- lists of 20
+
+std::uint64_t key(std::uint32_t it) { return it; }
+std::uint64_t key(const gap_ack_block &it) { return key(it.start) << 16 | it.end; }
+std::uint64_t key(const skipped_stream &it)
+{
+    return key(it.stream) << 48 | key(it.ssn) << 40 | key(it.mid) << 1 | key(it.is_unordered);
+}
+std::uint64_t key(const parameter &it) { return key(number(it.type())) << 16 | it.value().size(); }
+std::uint64_t key(const cause &it) { return key(number(it.code())) << 16 | it.value().size(); }
+std::uint64_t key(const chunk &it) { return it.as_shutdown().value(); }
+
+std::size_t place(std::size_t index, std::uint16_t) { return index; }
+std::size_t place(std::size_t index, std::uint32_t) { return index; }
+std::size_t place(std::size_t index, const gap_ack_block &) { return index; }
+std::size_t place(std::size_t index, const skipped_stream &) { return index; }
+template <typename T> std::size_t place(std::size_t, const T &it) { return it.offset(); }
+
+// Whether a range gives these items: in a row, from each of them on, and each at its place.
+template <typename Range, typename Items> bool gives(const Range &range, const Items &items)
+{
+    std::size_t index = 0;
+    for (auto it = range.begin(); it != range.end(); it++, index++) {
+        if (index == items.size() || key(*it) != key(items[index]) || range.end() == it)
+            return false;
+        const auto at = range.at(place(index, *it));
+        const auto next = std::next(range.begin(), static_cast<std::ptrdiff_t>(index));
+        if (!at || key(*at) != key(*it) || next != it || key(*next) != key(*it))
+            return false;
+        if (std::distance(it, range.end()) != static_cast<std::ptrdiff_t>(items.size() - index))
+            return false;
+    }
+    return index == items.size() && !range.empty() && range.begin() != range.end();
+}
+
+// What a function gives for 0 to 19.
+template <typename T> std::vector<T> twenty(T (*item)(std::uint32_t))
+{
+    std::vector<T> all;
+    for (std::uint32_t i = 0; i < 20; i++)
+        all.push_back(item(i));
+    return all;
+}
+
+std::uint16_t low(std::uint32_t i) { return static_cast<std::uint16_t>(i); }
+
+// A packet with what is added.
+template <typename Add> bytes large(Add add)
+{
+    bytes packet;
+    builder to(packet, 1, 2, 3);
+    CHECK(add(to) && to.seal());
+    return packet;
+}
+
+void lists()
+{
+    const auto blocks = twenty<gap_ack_block>([](std::uint32_t i) { return gap_ack_block{low(3 * i + 2), low(3 * i + 3)}; });
+    const auto tsns = twenty<std::uint32_t>([](std::uint32_t i) { return 0xffffffff - i; });
+    const bytes sack = large([&](builder &to) { return to.add_sack(1, 2, blocks, tsns); });
+    CHECK(gives(only(sack).gap_ack_blocks(), blocks) && gives(only(sack).duplicate_tsns(), tsns));
+    CHECK(only(sack).as_sack()->block_count == 20 && only(sack).as_sack()->duplicate_count == 20);
+
+    const auto ssns = twenty<skipped_stream>(
+        [](std::uint32_t i) { return skipped_stream{low(i), low(0xffff - i), 0, false}; });
+    const bytes forward = large([&](builder &to) { return to.add_forward_tsn(1, ssns); });
+    CHECK(gives(only(forward).skipped_streams(), ssns) && only(forward).as_forward_tsn()->stream_count == 20);
+    const auto mids = twenty<skipped_stream>(
+        [](std::uint32_t i) { return skipped_stream{low(i), 0, 0xffffffff - i, i % 3 == 0}; });
+    const bytes by_mid = large([&](builder &to) { return to.add_i_forward_tsn(1, mids); });
+    CHECK(gives(only(by_mid).skipped_streams(), mids));
+
+    const auto numbers = twenty<std::uint16_t>([](std::uint32_t i) { return low(0xffff - i); });
+    for (parameter_type type : {parameter_type::outgoing_ssn_reset, parameter_type::incoming_ssn_reset}) {
+        re_config request;
+        request.type = type;
+        const bytes packet = large([&](builder &to) {
+            return to.add_chunk(chunk_type::re_config) && to.add_re_config(request, numbers);
+        });
+        const auto parameters = only(packet).parameters();
+        CHECK(gives(parameters.begin()->reset_streams(), numbers));
+        CHECK(parameters.begin()->as_re_config()->stream_count == 20);
+    }
+
+    const bytes xs(20, 'x');
+    std::vector<std::uint32_t> items;
+    const bytes init = large([&](builder &to) {
+        bool added = static_cast<bool>(to.add_init({}));
+        for (std::uint16_t i = 0; i < 20; i++) {
+            items.push_back((0x8100u + i) << 16 | i);
+            added = added && to.add_parameter(static_cast<parameter_type>(0x8100 + i), {xs.data(), i});
+        }
+        return added;
+    });
+    CHECK(gives(only(init).parameters(), items));
+    const bytes error = large([&](builder &to) {
+        bool added = static_cast<bool>(to.add_chunk(chunk_type::error));
+        for (std::uint16_t i = 0; i < 20; i++)
+            added = added && to.add_cause(static_cast<cause_code>(0x8100 + i), {xs.data(), i});
+        return added;
+    });
+    CHECK(gives(only(error).causes(), items));
+    const bytes missing = large(
+        [&](builder &to) { return to.add_chunk(chunk_type::error) && to.add_missing_parameters(numbers); });
+    CHECK(gives(only(missing).causes().begin()->missing_parameters(), numbers));
+
+    const bytes chunks = large([&](builder &to) {
+        return std::all_of(tsns.begin(), tsns.end(), [&](std::uint32_t tsn) { return bool(to.add_shutdown(tsn)); });
+    });
+    CHECK(gives(packet(chunks).chunks(), tsns));
+}
+
+// Values and texts of thousands of bytes.
+void long_values()
+{
+    for (std::size_t size : {std::size_t{5000}, std::size_t{65000}}) {
+        bytes payload(size);
+        for (std::size_t i = 0; i < size; i++)
+            payload[i] = static_cast<std::uint8_t>(i % 251);
+        data data;
+        data.is_end = true;
+        data.payload = payload;
+        const bytes packet = large([&](builder &to) { return to.add_data(data); });
+        CHECK(same(only(packet).as_data()->payload, payload));
+        bytes canonical = packet;
+        std::fill(canonical.begin() + 8, canonical.begin() + 12, std::uint8_t{0});
+        CHECK(*dcsctp::packet(packet).canonical() == canonical);
+        const bytes other = large([&](builder &to) { return to.add_i_data(data); });
+        CHECK(same(only(other).as_data()->payload, payload));
+        const bytes heartbeat = large([&](builder &to) { return to.add_heartbeat(payload); });
+        CHECK(same(only(heartbeat).parameters().begin()->value(), payload));
+    }
+    std::string reason, text_end, report_end;
+    for (int i = 0; i < 600; i++)
+        reason += "zu sp\xc3\xa4t, ";
+    const bytes many = large([&](builder &to) {
+        bool added = static_cast<bool>(to.add_abort(reason));
+        for (int i = 0; i < 1000; i++) {
+            added = added && to.add_cookie_ack();
+            text_end += "\nCOOKIE-ACK";
+            report_end += "\nCOOKIE ACK";
+        }
+        return added;
+    });
+    report_end += '\n';
+    const dcsctp::packet whole(many);
+    const auto ends = [](const std::string &text, const std::string &end) {
+        return text.size() > end.size() && text.compare(text.size() - end.size(), end.size(), end) == 0;
+    };
+    CHECK(as_text(whole.chunk_at(12)->causes().begin()->value()) == reason);
+    CHECK(whole.print()->find("source=1 destination=2 tag=3 ") == 0 && ends(*whole.print(), text_end));
+    CHECK(whole.report()->find("source 1, destination 2, ") == 0 && ends(*whole.report(), report_end));
+    CHECK(whole.report()->find('"' + reason + '"') != std::string::npos);
+}
+
+// A word of 0 that is passed is what the checksum field has to be.
+void word_of_zero()
+{
+    const bytes packet = sealed("0b000004"), zero = of_hex("1388 1389 01020304 00000000 0b000004");
+    const dcsctp::packet right(packet), it(zero);
+    CHECK(it.check({}, 0) && !it.first_fault({}, 0) && it.print({}, 0) && it.report({}, 0) && it.canonical({}, 0));
+    CHECK(right.check({}, 0).code() == result_code::fault_checksum && right.first_fault({}, 0)->offset == 8);
+    CHECK(!right.print({}, 0) && !right.report({}, 0) && !right.canonical({}, 0));
+}
+
+// Calls `write` until no request for memory is refused: the first, then the second, and so on. Returns how many it made.
+template <typename Write> std::size_t refused(Write write)
+{
+    for (std::size_t requests = 0;; requests++) {
+        granted = requests;
+        const result_code code = write();
+        granted = static_cast<std::size_t>(-1);
+        if (code == result_code::ok)
+            return requests;
+        CHECK(code == result_code::no_memory);
+        if (code != result_code::no_memory)
+            return requests;
+    }
+}
+
+void no_memory()
+{
+    const bytes packet = sealed("0300001c 0000000a 00010000 0002 0001 0002 0003 0005 0005 00000009"
+                                "0600000c 000c 0008 62796521");
+    const dcsctp::packet it(packet);
+    std::array<std::uint8_t, 500> output{};
+    CHECK(refused([&] { return it.print_to(output).code; }) > 0);
+    CHECK(refused([&] { return it.canonical_to(output).code; }) > 0);
+    CHECK(refused([&] { return it.report_to(output).code; }) == 0);
+    CHECK(std::all_of(output.begin() + 400, output.end(), [](std::uint8_t byte) { return byte == 0; }));
+    // The string or the vector asks too, and throws; the library is called twice. A report asks for its string alone.
+    const auto code = [](const auto &expected, auto make) {
+        try {
+            const auto made = make();
+            return made && *made != *expected ? result_code::bad_value : made.code();
+        } catch (const std::bad_alloc &) {
+            return result_code::no_memory;
+        }
+    };
+    const auto text = it.print(), report = it.report();
+    const auto canonical = it.canonical();
+    CHECK(refused([&] { return code(text, [&] { return it.print(); }); }) > 2);
+    CHECK(refused([&] { return code(canonical, [&] { return it.canonical(); }); }) > 2);
+    CHECK(refused([&] { return code(report, [&] { return it.report(); }); }) == 1);
+}
+
+// What a chunk's type doesn't allow isn't read of it: a length that RFC 9260 section 3.3, RFC 3758 or RFC 8260 doesn't have.
+void unchecked()
+{
+    for (std::string_view hex :
+         {"0000000f 00000000 00000000 000000", "01000013 00000000 00000000 00000000 000000",
+          "0300000f 00000000 00000000 000000", "07000004", "07000009 00000000 00",
+          "40000013 00000000 00000000 00000000 000000", "c000000a 00000000 0000", "c200000c 00000000 00000000"}) {
+        const bytes packet = sealed(hex);
+        const auto chunk = dcsctp::packet(packet).chunk_at(12);
+        CHECK(!dcsctp::packet(packet).check() && chunk && !chunk->as_data() && !chunk->as_init() && !chunk->as_sack());
+        CHECK(!chunk->as_shutdown() && !chunk->as_forward_tsn());
+        CHECK(chunk->gap_ack_blocks().empty() && chunk->skipped_streams().empty());
+    }
+    const bytes four(4);
+    CHECK(detail::part(four, 4, 0).data() == four.data() + 4 && detail::part(four, 2, 2).size() == 2);
+    CHECK(!detail::part(four, 5, 0).data() && detail::part(four, 5, 1).empty() && detail::part(four, 2, 3).empty());
+    CHECK(detail::part(four, 1, static_cast<std::size_t>(-1)).empty());
+}
+
 std::size_t touched;
 
 void touch(bytes_view bytes)
@@ -611,6 +849,11 @@ int main()
     builders();
     names();
     views();
+    lists();
+    long_values();
+    word_of_zero();
+    no_memory();
+    unchecked();
     any_bytes();
     std::printf("cpp: %d passed, %d failed\n", passed, failed);
     return failed != 0;

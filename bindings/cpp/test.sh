@@ -40,7 +40,7 @@ for compiler in g++ clang++; do
         echo "bindings/cpp: $compiler has no sanitizers" && sanitizers=()
     fi
     for standard in 17 20; do
-        "$compiler" -std=c++$standard "${flags[@]}" "${sanitizers[@]}" -o "$work/test" test.cc "$text"
+        "$compiler" -std=c++$standard "${flags[@]}" "${sanitizers[@]}" -Wl,--wrap=malloc,--wrap=realloc -o "$work/test" test.cc "$text"
         "$work/test"
         tried=$((tried + 1))
     done

@@ -197,6 +197,8 @@ test('the header, and the checksum', () => {
   assert.equal(Buffer.from(packet).readUInt32LE(8), crc32c(zeroed));
   assert.equal(word(packet), field);
   assert.equal(word(zeroed), field);
+  // (of these 12 bytes the last is one that changes)
+  assert.equal(Buffer.from(seal(new Uint8Array(12))).readUInt32LE(8), crc32c(new Uint8Array(12)));
   assert.equal(seal(zeroed), zeroed);
   assert.deepEqual(zeroed, packet);
   check(packet);

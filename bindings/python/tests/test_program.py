@@ -85,6 +85,10 @@ class Program(unittest.TestCase):
 
 
 class Types(unittest.TestCase):
+    def test_are_found(self) -> None:
+        # (PEP 561)
+        self.assertTrue(os.path.isfile(os.path.join(os.path.dirname(dcsctp.__file__), "py.typed")))
+
     def test_mypy(self) -> None:
         if run("-c", "import mypy").returncode:
             self.skipTest("mypy isn't installed")

@@ -60,6 +60,13 @@ class Check(unittest.TestCase):
             fault = dcsctp.first_fault(COOKIE_ACK, word=wrong)
             assert fault
             self.assertEqual(fault.code, dcsctp.Result.FAULT_CHECKSUM)
+        # A word of 0 is a word too.
+        zero = COOKIE_ACK[:8] + bytes(4) + COOKIE_ACK[12:]
+        for function in (dcsctp.check, dcsctp.Packet, dcsctp.canonical, dcsctp.text, dcsctp.report):
+            function(zero, word=0)
+            with self.assertRaises(dcsctp.Fault):
+                function(COOKIE_ACK, word=0)
+        self.assertEqual(dcsctp.Packet(zero, word=0).text(), "source=5000 destination=5000 tag=1294857517 checksum=0\nCOOKIE-ACK")
         for outside in (-1, 2**32):
             with self.assertRaises(ValueError):
                 dcsctp.check(COOKIE_ACK, word=outside)

@@ -162,6 +162,7 @@ impl<'a> Chunk<'a> {
 
     fn known_content(&self) -> Option<Content<'a>> {
         let tag_reflected = self.flags() & TAG_REFLECTED != 0;
+        let has_no_value = self.raw.value_size == 0;
         Some(match self.chunk_type() {
             ChunkType::DATA => Content::Data(self.data()?),
             ChunkType::I_DATA => Content::IData(self.data()?),
@@ -172,11 +173,13 @@ impl<'a> Chunk<'a> {
             ChunkType::HEARTBEAT_ACK => Content::HeartbeatAck(self.parameters()),
             ChunkType::ABORT => Content::Abort { tag_reflected, causes: self.causes() },
             ChunkType::SHUTDOWN => Content::Shutdown { cumulative_tsn_ack: self.shutdown()? },
-            ChunkType::SHUTDOWN_ACK => Content::ShutdownAck,
+            ChunkType::SHUTDOWN_ACK if has_no_value => Content::ShutdownAck,
             ChunkType::ERROR => Content::Error(self.causes()),
             ChunkType::COOKIE_ECHO => Content::CookieEcho(self.value()),
-            ChunkType::COOKIE_ACK => Content::CookieAck,
-            ChunkType::SHUTDOWN_COMPLETE => Content::ShutdownComplete { tag_reflected },
+            ChunkType::COOKIE_ACK if has_no_value => Content::CookieAck,
+            ChunkType::SHUTDOWN_COMPLETE if has_no_value => {
+                Content::ShutdownComplete { tag_reflected }
+            }
             ChunkType::RE_CONFIG => Content::ReConfig(self.parameters()),
             ChunkType::FORWARD_TSN => Content::ForwardTsn(self.forward_tsn()?),
             ChunkType::I_FORWARD_TSN => Content::IForwardTsn(self.forward_tsn()?),

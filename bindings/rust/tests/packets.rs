@@ -4,8 +4,8 @@ mod common;
 
 use common::{bytes, crc32c, examples, packet, sealed, written};
 use dcsctp::{
-    CauseCode, Chunk, ChunkType, Chunks, Data, Fault, FaultKind, GapAckBlock, Header, Init,
-    MAX_PACKET, Packet, PacketBuilder, ParameterType, Policy, WriteError,
+    CauseCode, Chunk, ChunkType, Chunks, Content, Data, Fault, FaultKind, GapAckBlock, Header,
+    Init, MAX_PACKET, Packet, PacketBuilder, ParameterType, Policy, WriteError,
 };
 
 const ANY_CHECKSUM: Policy =
@@ -65,6 +65,25 @@ fn policies() {
     assert_eq!(dcsctp::check(&packet, word, ANY_CHECKSUM), Ok(()));
 }
 
+/// A word of 0 that is passed is what the field has to be.
+#[test]
+fn word_of_zero() {
+    let (right, socket) = (packet("0b000004"), Policy::default());
+    let mut zero = right.clone();
+    zero[8..12].fill(0);
+    assert_eq!(dcsctp::check(&zero, 0, socket), Ok(()));
+    assert_eq!(dcsctp::first_fault(&zero, 0, socket), None);
+    let mut output = [0; 100];
+    let accepted = Packet::parse_with(&zero, 0, socket).unwrap();
+    assert!(accepted.write_text(&mut output).is_ok());
+    assert!(accepted.write_report(&mut output).is_ok());
+    assert_eq!(accepted.write_canonical(&mut output).unwrap(), zero);
+    let fault = Fault { kind: FaultKind::Checksum, offset: 8 };
+    assert_eq!(dcsctp::check(&right, 0, socket), Err(fault.kind));
+    assert_eq!(dcsctp::first_fault(&right, 0, socket), Some(fault));
+    assert_eq!(Packet::parse_with(&right, 0, socket), Err(fault));
+}
+
 /// The figure of RFC 9260 section 3.1.
 #[test]
 fn header() {
@@ -93,10 +112,33 @@ fn chunks_of_any_bytes() {
     assert_eq!(chunks.next().unwrap().chunk_type(), ChunkType::COOKIE_ACK);
     let sack = chunks.next().unwrap();
     assert_eq!((sack.chunk_type(), sack.value().len(), sack.sack()), (ChunkType::SACK, 8, None));
-    assert!(matches!(sack.content(), dcsctp::Content::Other));
+    assert!(matches!(sack.content(), Content::Other));
     assert!(chunks.next().is_none());
     assert!(chunks.next().is_none());
     assert!(Chunk::at(&packet, usize::MAX).is_none());
+}
+
+/// In bytes that weren't checked a chunk may be what its type doesn't allow: shorter or longer than
+/// RFC 9260 section 3.3 has it, or RFC 3758 and RFC 8260.
+#[test]
+fn contents_of_any_bytes() {
+    for chunk in [
+        "0000000f 00000000 00000000 000000",
+        "01000013 00000000 00000000 00000000 000000",
+        "0300000f 00000000 00000000 000000",
+        "07000004",
+        "07000009 00000000 00",
+        "08000005 00",
+        "0b000008 00000000",
+        "0e010005 00",
+        "40000013 00000000 00000000 00000000 000000",
+        "c000000a 00000000 0000",
+        "c200000c 00000000 00000000",
+    ] {
+        let packet = packet(chunk);
+        assert!(Packet::parse(&packet).is_err(), "{chunk}");
+        assert!(matches!(Chunk::at(&packet, 12).unwrap().content(), Content::Other), "{chunk}");
+    }
 }
 
 #[cfg(feature = "alloc")]

@@ -1,0 +1,162 @@
+#!/usr/bin/env python3
+"""usage: dist/systems.py [FOLDER]
+
+Tries which text of dist/ each package takes on each system, on whichever this runs: Python's backend.py under other names of
+the system, the conditions of Rust's text.rs under the cfgs of each target, the files that Go lists, and CMakeLists.txt by
+`cmake -P`. Nothing is compiled. FOLDER has dist/ and bindings/; without it, this checkout has. What isn't installed (rustc, go,
+cmake) is left out, and named.
+"""
+
+import filecmp
+import os
+import platform
+import re
+import shutil
+import subprocess
+import sys
+import tempfile
+from unittest import mock
+
+# The text, or - where there is none; sys.platform and platform.machine(); rustc's target; GOOS/GOARCH; CMAKE_SYSTEM_NAME and
+# CMAKE_SYSTEM_PROCESSOR, after : CMAKE_OSX_ARCHITECTURES. A - elsewhere is a system that the package's tool has no name for.
+SYSTEMS = """
+x86_64-elf     linux     x86_64      x86_64-unknown-linux-gnu       linux/amd64    Linux    x86_64
+x86_64-elf     freebsd14 amd64       x86_64-unknown-freebsd         -              FreeBSD  amd64
+x86_64-elf     -         -           x86_64-unknown-linux-musl      -              -        -
+x86_64-elf     -         -           x86_64-unknown-none            -              -        -
+aarch64-elf    linux     aarch64     aarch64-unknown-linux-gnu      linux/arm64    Linux    aarch64
+aarch64-elf    freebsd14 arm64       aarch64-unknown-freebsd        -              FreeBSD  arm64
+aarch64-elf    -         -           aarch64-unknown-none           -              -        -
+x86_64-macho   darwin    x86_64      x86_64-apple-darwin            darwin/amd64   Darwin   x86_64
+x86_64-macho   -         -           -                              -              Darwin   arm64:x86_64
+aarch64-macho  darwin    arm64       aarch64-apple-darwin           darwin/arm64   Darwin   arm64
+aarch64-macho  -         -           aarch64-apple-ios              -              Darwin   x86_64:arm64
+x86_64-coff    win32     AMD64       x86_64-pc-windows-msvc         windows/amd64  Windows  AMD64
+x86_64-coff    -         -           x86_64-pc-windows-gnu          -              -        -
+-              win32     ARM64       aarch64-pc-windows-msvc        windows/arm64  Windows  ARM64
+-              linux     riscv64     riscv64gc-unknown-linux-gnu    linux/riscv64  Linux    riscv64
+-              linux     i686        i686-unknown-linux-gnu         linux/386      Linux    i686
+-              linux     aarch64_be  aarch64_be-unknown-linux-gnu   -              Linux    aarch64_be
+-              linux     armv7l      armv7-unknown-linux-gnueabihf  linux/arm      Linux    armv7l
+-              -         -           x86_64-unknown-linux-gnux32    freebsd/amd64  -        -
+-              win32     x86         i686-pc-windows-msvc           windows/386    Windows  X86
+"""
+ENDINGS = {"elf": ".so", "macho": ".dylib", "coff": ".dll"}
+
+
+def of_python(folder, system, machine):
+    """The text that backend.py has the compiler link, whose library gets the ending of the system."""
+    sys.path.insert(0, os.path.join(folder, "bindings", "python"))
+    import backend
+
+    def run(words):
+        linked.extend(it for it in words if it.endswith(".s"))
+        open(words[words.index("-o") + 1], "wb").close()
+        return subprocess.CompletedProcess(words, 0)
+
+    linked = []
+    with (
+        mock.patch.object(sys, "platform", system),
+        mock.patch.object(platform, "machine", lambda: machine),
+        mock.patch.object(subprocess, "run", run),
+        mock.patch.dict(os.environ, CC=sys.executable),
+    ):
+        try:
+            library, _ = backend.shared_library()
+        except SystemExit as error:
+            return None if "there is no" in str(error) else str(error)
+    (path,) = linked
+    text = os.path.basename(path)
+    return text if library.endswith(ENDINGS[text[:-2].rsplit("-", 1)[1]]) else f"{text} as {library}"
+
+
+def of_rust(folder, target):
+    """The text whose condition in text.rs holds, in the syntax that it has."""
+    with open(os.path.join(folder, "bindings", "rust", "src", "text.rs"), encoding="utf-8") as file:
+        source = re.sub(r"//.*", "", file.read())
+    words = ["rustc", "--print", "cfg", "--target", target]
+    cfgs = subprocess.run(words, capture_output=True, text=True, check=True).stdout.split()
+
+    def holds(condition):
+        # Each word is true or false of the target; any, all and not mean in Python what they mean in Rust.
+        word = re.compile(r'(\w+) = ("\w*")|\b(unix|windows)\b')
+        said = word.sub(lambda it: str((it[3] or f"{it[1]}={it[2]}") in cfgs), condition)
+        return eval(said, {"any": lambda *it: any(it), "all": lambda *it: all(it)})
+
+    macro = re.search(r"#\[cfg\((all.*?)\)\]\s*mod", source, re.S)[1]
+    found = []
+    for arch, text, system, syntax in re.findall(
+        r'^text!\(\s*("\w+"),\s*"([^"]*)",\s*(.*?)(?:,\s*(att_syntax))?\s*\);', source, re.S | re.M
+    ):
+        if holds(macro.replace("$arch", arch).replace("$system", system)):
+            # (att_syntax is a word of x86 alone, whose texts need it)
+            found.append(text if bool(syntax) == (arch == '"x86_64"') else f"{text} {syntax}")
+    if holds(re.search(r"#\[cfg\((not.*?)\)\]\s*compile_error!", source, re.S)[1]):
+        found.append(None)
+    return found[0] if len(found) == 1 else found
+
+
+def of_go(folder, system):
+    """The text that Go assembles, by the dist/ file that it is; unsupported.go has to be there if and only if there is none."""
+    goos, goarch = system.split("/")
+    package = os.path.join(folder, "bindings", "go")
+    environment = dict(os.environ, GOOS=goos, GOARCH=goarch, CGO_ENABLED="1", GOPROXY="off", GOFLAGS="-mod=mod")
+    listed = subprocess.run(
+        ["go", "list", "-f", "{{join .SFiles \" \"}} {{join .CgoFiles \" \"}}", "."],
+        cwd=package, env=environment, capture_output=True, text=True, check=True,
+    ).stdout.split()
+    taken = [it for it in listed if it.endswith(".s")]
+    if (not taken) != ("unsupported.go" in listed) or len(taken) > 1:
+        return listed
+    dist = os.path.join(folder, "dist")
+    texts = (it for it in os.listdir(dist) if it.endswith(".s"))
+    return next((it for it in texts if filecmp.cmp(f"{dist}/{it}", f"{package}/{taken[0]}", False)), taken) if taken else None
+
+
+def of_cmake(folder, system, processor):
+    """The text that the part of CMakeLists.txt before the library says."""
+    dist = os.path.join(folder, "dist")
+    with open(os.path.join(dist, "CMakeLists.txt"), encoding="utf-8") as file:
+        part = re.search(r"^# ---- the text for this system\n(.*?)^enable_language", file.read(), re.S | re.M)[1]
+    processor, _, architectures = processor.partition(":")
+    values = {
+        "CMAKE_SYSTEM_NAME": system, "CMAKE_SYSTEM_PROCESSOR": processor, "CMAKE_OSX_ARCHITECTURES": architectures,
+        "CMAKE_CURRENT_SOURCE_DIR": dist, "CMAKE_SIZEOF_VOID_P": "8",
+        # (what CMake makes of the system's name)
+        "APPLE": str(system == "Darwin").upper(), "WIN32": str(system == "Windows").upper(),
+    }
+    script = "cmake_minimum_required(VERSION 3.14)\n" + "".join(f'set({name} "{it}")\n' for name, it in values.items())
+    with tempfile.NamedTemporaryFile("w", suffix=".cmake") as file:
+        file.write(script + part + 'message("text ${text}")\n')
+        file.flush()
+        ran = subprocess.run(["cmake", "-P", file.name], capture_output=True, text=True)
+    if ran.returncode:
+        return None if "there is no dcsctp-" in " ".join(ran.stderr.split()) else ran.stderr
+    return re.search(r"^text (.*)", ran.stderr, re.M)[1]
+
+
+def main():
+    folder = os.path.abspath(sys.argv[1] if len(sys.argv) > 1 else os.path.join(os.path.dirname(__file__), os.pardir))
+    tried, wrong = 0, 0
+    packages = {"Python": (of_python, None), "Rust": (of_rust, "rustc"), "Go": (of_go, "go"), "CMake": (of_cmake, "cmake")}
+    for package, (_, tool) in packages.items():
+        if tool and not shutil.which(tool):
+            print(f"{package}: left out, since there is no {tool}")
+    for line in SYSTEMS.split("\n")[1:-1]:
+        text, python, machine, target, go, cmake, processor = line.split()
+        expected = None if text == "-" else f"dcsctp-{text}.s"
+        names = {"Python": (python, machine), "Rust": (target,), "Go": (go,), "CMake": (cmake, processor)}
+        for package, (of, tool) in packages.items():
+            if names[package][0] == "-" or tool and not shutil.which(tool):
+                continue
+            found = of(folder, *names[package])
+            tried += 1
+            if found != expected:
+                wrong += 1
+                print(f"{package} on {' '.join(names[package])}: takes {found}, not {expected}")
+    print(f"systems: {tried} tried, {wrong} wrong")
+    return wrong > 0
+
+
+if __name__ == "__main__":
+    sys.exit(main())
