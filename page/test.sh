@@ -4,8 +4,10 @@ set -u
 
 usage='usage: page/test.sh [FOLDER]
 
-Tries sctp.html and sctp_dump.wasm, in page/out or in another folder. The program has to print what the native one does, over
-all of crates/sctp_dump/data; the page is tried in Chromium, as a user would, from a disk and from a server.
+Tries the scripts of page/src without a browser, over made lines, and over what crates/sctp_dump/out/sctp_dump prints, if it is
+built: they have a line of their own. Then it tries sctp.html and sctp_dump.wasm, in page/out or in another folder. The program
+has to print what the native one does, over all of crates/sctp_dump/data; the page is tried in Chromium, as a user would, from a
+disk and from a server.
 What is in page/out is made first by page/make.py, if it is missing or older than a source and the toolchain is there.
 The last line is: page: N passed, M failed, and K left out, if something was.
 
@@ -19,11 +21,12 @@ here=$(dirname "$0")/..
 folder=$(realpath "${1:-$here/page/out}")
 cd "$here" || exit
 leave_out() {
-    echo "page: all is left out, since $1"
+    echo "page: left out, since $1"
     echo 'page: 0 passed, 0 failed, 1 left out'
     exit 0
 }
 command -v node >/dev/null || leave_out 'there is no node'
+node page/tests/units.mjs || { echo 'page: 0 passed, 1 failed' && exit 1; }
 
 is_made() {
     [ -f page/out/sctp.html ] && [ -f page/out/sctp_dump.wasm ] &&

@@ -38,7 +38,7 @@ function chunkText(chunk) {
 }
 
 /** A step of 1, 2 or 5 times a power of ten, of which some ten make the span. */
-function stepOf(span) {
+export function stepOf(span) {
   const power = 10 ** Math.floor(Math.log10(span / 8));
   return [1, 2, 5, 10].find(it => it * power >= span / 8) * power;
 }

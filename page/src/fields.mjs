@@ -365,7 +365,7 @@ export class Fields {
 }
 
 /** How a node's value is shown: a number also in hexadecimal, as wide as its bytes. */
-function valueOf({ value, place, end }) {
+export function valueOf({ value, place, end }) {
   if (Array.isArray(value))
     return element('span', 'value', value.length ? shown(value.join(', ')) : 'none');
   const size = place ? place.to - place.from : 0;

@@ -115,3 +115,15 @@ export function strangeWords(store, { unknown, names }, passed) {
   const strange = passed ? [] : names.filter(it => !store.summaries.some(summary => isNamed(summary.names, it)));
   return [...unknown, ...strange];
 }
+
+/** What was found, each with the filter that shows it alone. */
+export const FOUND = [
+  ['refused', ['refused', 'refused'], ({ kinds }) => kinds[1]],
+  ['cut', ['cut off', 'cut off'], ({ kinds }) => kinds[2]],
+  ['wrong', ['wrong checksum', 'wrong checksums'], ({ flags }) => flags.wrong],
+  ['repeated', ['sent again', 'sent again'], ({ flags }) => flags.repeated],
+  ['late', ['filled a gap', 'filled a gap'], ({ flags }) => flags.late],
+  ['gaps', ['SACK with gaps', 'SACKs with gaps'], ({ flags }) => flags.gaps],
+  ['warned', ['with a warning', 'with warnings'], ({ flags }) => flags.warned],
+  ['skipped', ['skipped', 'skipped'], ({ kinds }) => kinds[3]],
+];

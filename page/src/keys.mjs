@@ -166,7 +166,8 @@ export class Rows {
     const row = { ...this.other(kind, it.packet, String(it.fault?.reason ?? '')), ...timeOf(it.time, it.direction !== undefined), length: it.length };
     const { from, to, source, destination, tag, direction, transport, chunks: [first] } = it;
     const initTag = first?.chunk === INIT ? first.tag : undefined;
-    const flow = { from, to, source, destination, tag, direction, transport, initTag };
+    const isReflected = it.chunks.some(chunk => chunk.tag_reflected === true);
+    const flow = { from, to, source, destination, tag, direction, transport, initTag, isReflected };
     row.flow = this.flows.number(JSON.stringify(Object.values(flow)), flow);
     row.flags = (FLAGS[it.verdict] ?? 0) | (FLAGS[direction] ?? 0) | (it.warnings?.length ? FLAGS.warned : 0);
     const runs = [], types = new Set(), streams = new Set(), ppids = new Map(), tsns = [];
@@ -206,7 +207,7 @@ export class Rows {
 
 /** Which of an association's ends sent the packets of a flow: 0 or 1, or undefined if they belong to another. A packet
     belongs to it if the end that it is sent to chose its tag, whatever their addresses; an INIT has the tag that its sender
-    chose. Where no tag is known, the addresses say it. */
+    chose, and so has an ABORT or a SHUTDOWN COMPLETE with the T bit. Where no tag is known, the addresses say it. */
 export function senderIn({ ends, transport }, flow) {
   // (null: one of the names that the program doesn't keep)
   if (transport !== null && transport !== flow.transport)
@@ -216,10 +217,8 @@ export function senderIn({ ends, transport }, flow) {
     (from.direction === undefined || from.direction === flow.direction);
   const chose = (end, tag) => tag > 0 && end.tag === tag;
   const order = [[0, ends[0], ends[1]], [1, ends[1], ends[0]]].filter(([, from, to]) => fits(from, to));
-  const found = order.find(([, from, to]) => chose(to, flow.tag) || chose(from, flow.initTag)) ??
-    order.find(([, from, to]) => to.tag === undefined && isAt(from, flow.from) && isAt(to, flow.to)) ??
-    // (an ABORT or SHUTDOWN COMPLETE can reflect the tag of the one that sends it)
-    order.find(([, from]) => chose(from, flow.tag));
+  const found = order.find(([, from, to]) => chose(flow.isReflected ? from : to, flow.tag) || chose(from, flow.initTag)) ??
+    order.find(([, from, to]) => to.tag === undefined && isAt(from, flow.from) && isAt(to, flow.to));
   return found?.[0];
 }
 

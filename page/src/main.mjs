@@ -2,7 +2,8 @@
 import { Associations } from './associations.mjs';
 import { Diagram } from './diagram.mjs';
 import { Fields } from './fields.mjs';
-import { filterOf, strangeWords, SYNTAX } from './filter.mjs';
+import { namedApart } from './files.mjs';
+import { filterOf, FOUND, strangeWords, SYNTAX } from './filter.mjs';
 import { skippedText, WORDS } from './keys.mjs';
 import { drawPacket } from './list.mjs';
 import { Store } from './store.mjs';
@@ -41,19 +42,6 @@ async function open(files) {
   own.onerror = event => own === worker && end(event.message, started);
   own.postMessage({ program, words: [...WORDS, ...strict, ...udp], files: namedApart(files) });
   byId('list').focus();
-}
-
-/** Files by the names that the program has for them: none is `-` or an option, and none is there twice. */
-function namedApart(files) {
-  const names = new Map();
-  for (const it of files) {
-    const own = it.name.startsWith('-') ? `./${it.name}` : it.name;
-    let name = own;
-    for (let i = 2; names.has(name); i++)
-      name = `${own} (${i})`;
-    names.set(name, it);
-  }
-  return [...names];
 }
 
 /** Takes what the Worker has read. */
@@ -143,17 +131,8 @@ function filterBy(text) {
   applyFilter();
 }
 
-/** What was found, each with the filter that shows it alone. */
-const COUNTS = [
-  ['refused', ['refused', 'refused'], ({ kinds }) => kinds[1]],
-  ['cut', ['cut off', 'cut off'], ({ kinds }) => kinds[2]],
-  ['wrong', ['wrong checksum', 'wrong checksums'], ({ flags }) => flags.wrong],
-  ['repeated', ['sent again', 'sent again'], ({ flags }) => flags.repeated],
-  ['late', ['filled a gap', 'filled a gap'], ({ flags }) => flags.late],
-  ['gaps', ['SACK with gaps', 'SACKs with gaps'], ({ flags }) => flags.gaps],
-  ['warned', ['with a warning', 'with warnings'], ({ flags }) => flags.warned],
-  ['skipped', ['skipped', 'skipped'], ({ kinds }) => kinds[3]],
-].map(([word, texts, count]) => {
+/** A button for each thing that was found. */
+const COUNTS = FOUND.map(([word, texts, count]) => {
   const button = element('button');
   button.addEventListener('click', () => filterBy(byId('filter').value === word ? '' : word));
   byId('counts').append(button);

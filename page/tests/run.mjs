@@ -8,6 +8,7 @@ import { WORDS } from '../src/keys.mjs';
 import { run } from '../src/program.mjs';
 import { Browser, lacking } from './browser.mjs';
 import { contrasts } from './contrast.mjs';
+import { compareRow } from './table.mjs';
 import { association, bytes, chunk, data, init, initAck, ip, packet, parameter, pcap, sack } from './traffic.mjs';
 
 const [html, wasm] = process.argv.slice(2).map(it => resolve(it));
@@ -364,6 +365,21 @@ async function inBrowser(browser) {
     const parsed = `new DOMParser().parseFromString(${JSON.stringify(svg)}, 'image/svg+xml')`;
     assert.equal(await browser.ask(`${parsed}.querySelector('parsererror')`), null);
     await browser.look('light');
+    quiet();
+  });
+
+  await check('the table of associations', async () => {
+    for (const content of [example, readFileSync(new URL('../../dump/data/usrsctp.pcap', import.meta.url))]) {
+      await show(file('table.pcap', content));
+      await browser.click('#tab-associations');
+      await wait(100);
+      const cells = 'Array.from(it.children, cell => [cell.dataset.title, cell.textContent])';
+      const rows = await browser.ask(all('#association-rows .row', cells));
+      const wanted = lines(content).filter(it => it.association);
+      assert.equal(rows.length, wanted.length);
+      rows.forEach((row, i) => compareRow(Object.fromEntries(row), wanted[i]));
+      assert.deepEqual(await browser.ask(all('#association-heads span')), rows[0].map(([head]) => head));
+    }
     quiet();
   });
 
