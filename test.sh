@@ -134,6 +134,7 @@ run_quickly() {
     step comparisons compare
     step 'commands of the pages' docs/commands.py
     step 'code of CALLING.md' docs/examples.py --try
+    if command -v node >/dev/null; then step 'scripts of the page' node page/tests/units.mjs; fi
     for i in "${!jobs[@]}"; do
         wait "${jobs[i]}"
         report "${programs[i]}" $?
