@@ -3,9 +3,6 @@ use Rattle.std.proofs.Common.{◌≡◌, ◌+◌, ◌-◌, ◌*◌, ◌/◌, ◌
 use Rattle.std.proofs.lemmas.Nat.{pow-add}
 use Rattle.sctp_association.specs.Buckets.{least_of}
 
-the : (A : Type 0) → A → A
-the A a = a
-
 below_or_last : (r : ℕ) → r < 16 → (r + 1 < 16) ⊎ (r ≡ 15)
 below_or_last r less = grind (arith, less)
 
@@ -24,6 +21,11 @@ half o = ap (λ (k : ℕ). 8 * k) (pow-add 2 o 1) ∙ omega arith
 -- the next one begins where it ends
 pub next : (o r : ℕ) → (1 ≤ o → 8 ≤ r) → r < 16 → least_of (o * 8 + r + 1) ≡ (r + 1) * 2 ^ o
 next o r h less = elim (below_or_last r less) [
-  | inl l ↦ ap least_of (the (o * 8 + r + 1 ≡ o * 8 + (r + 1)) (omega arith)) ∙ least o (r + 1) (λ p. omega (arith, h p)) l
-  | inr e ↦ ap least_of (the (o * 8 + r + 1 ≡ (o + 1) * 8 + 8) (omega (arith, e))) ∙ (least (o + 1) 8 (λ _. omega arith) (omega arith) ∙ (half o ∙ ap (λ (k : ℕ). (k + 1) * 2 ^ o) (sym e)))
+  | inl l ↦
+      let same : o * 8 + r + 1 ≡ o * 8 + (r + 1) = omega arith in
+      ap least_of same ∙ least o (r + 1) (λ p. omega (arith, h p)) l
+  | inr e ↦
+      let same : o * 8 + r + 1 ≡ (o + 1) * 8 + 8 = omega (arith, e) in
+      ap least_of same
+      ∙ (least (o + 1) 8 (λ _. omega arith) (omega arith) ∙ (half o ∙ ap (λ (k : ℕ). (k + 1) * 2 ^ o) (sym e)))
 ]

@@ -1,4 +1,5 @@
 pub mod Buckets
+pub mod Calendar
 pub mod ChunkCounts
 pub mod HeaderCounts
 pub mod Slots

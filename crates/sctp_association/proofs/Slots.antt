@@ -10,9 +10,6 @@ use Rattle.std.specs.List.{slice_get}
 use Rattle.std.specs.Prelude.{option_map}
 use Rattle.std.proofs.lemmas.List.{take_all}
 
-the : (A : Type 0) → A → A
-the A a = a
-
 -- where no entry has the key, none is removed
 pub absent : (k : ℕ) (es : List (ℕ × Unit {0})) → lookup_entry (nat_eq k) es ≡ None → remove_entry (nat_eq k) es ≡ es
 absent k [] h = refl
@@ -36,8 +33,9 @@ picked f (Some y) q x h = ap (option_map f) h
 module _ {K V : Type 0} where
   shorter : (x y : K × V) (ys : List (K × V)) → last_entry (x ∷ y ∷ ys) ≡ last_entry (y ∷ ys)
   shorter x y ys =
-      ap (slice_get (x ∷ y ∷ ys)) (the (suc (suc (length ys)) - 1 ≡ suc (length ys)) (omega arith))
-      ∙ ap (slice_get (y ∷ ys)) (the (length ys ≡ suc (length ys) - 1) (omega arith))
+      let last : suc (suc (length ys)) - 1 ≡ suc (length ys) = omega arith in
+      let last' : length ys ≡ suc (length ys) - 1 = omega arith in
+      ap (slice_get (x ∷ y ∷ ys)) last ∙ ap (slice_get (y ∷ ys)) last'
 
   past : (xs : List (K × V)) (y : K × V) (ys : List (K × V)) → last_entry (xs ++ y ∷ ys) ≡ last_entry (y ∷ ys)
   past [] y ys = refl

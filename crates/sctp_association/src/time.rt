@@ -11,6 +11,9 @@ const SECOND: u64 = 1_000_000_000;
 /// How many seconds a day has.
 const DAY: u64 = 86_400;
 
+/// How many days there are from 1970-01-01 to 2000-01-01.
+const BEFORE_2000: u64 = 10_957;
+
 /// How a time is written.
 #[derive(Clone, Copy, Debug, PartialEq, Eq)]
 pub enum TimeForm {
@@ -153,9 +156,14 @@ fn year_of(days: u64) -> (u64, u64)
     ensures is { days ≡ days_of_years (result.0 - 1970) + result.1 }
 {
     let (mut year, mut rest) = (1970, days);
-    while rest >= length_of_year(year) {
-        rest -= length_of_year(year);
+    if days >= BEFORE_2000 {
+        (year, rest) = (2000, days - BEFORE_2000);
+    }
+    let mut length = length_of_year(year);
+    while rest >= length {
+        rest -= length;
         year += 1;
+        length = length_of_year(year);
     }
     (year, rest)
 }
@@ -168,9 +176,11 @@ fn month_of(year: u64, days: u64) -> (u64, u64)
     ensures is { days ≡ days_of_months year (result.0 - 1) + result.1 }
 {
     let (mut month, mut rest) = (1, days);
-    while rest >= length_of_month(year, month) {
-        rest -= length_of_month(year, month);
+    let mut length = length_of_month(year, month);
+    while rest >= length {
+        rest -= length;
         month += 1;
+        length = length_of_month(year, month);
     }
     (month, rest)
 }
