@@ -15,9 +15,10 @@ has the texts needs a C compiler and nothing else (dist/README.md).
 
 `rt check` proves each crate first, unless all libraries below it are built. Then `rattle build` proves and compiles
 each crate once for each processor, over what was kept of its proofs: run no other rt in this checkout meanwhile. The
-text is what the toolchain's clang writes of the very module that `rattle build` gave it. Where it is for Linux it has
-to assemble and link to the very bytes that `rattle build` compiled; for the other systems the same module is compiled
-for another target, and only tests say that this is right. No name is visible in a text but those that the header
+text is what the toolchain's clang writes of the very module that `rattle build` gave it, with tables for unwinding. Where it is
+for Linux on x86-64 it has to assemble and link to the very bytes that `rattle build` compiled, beside the tables; on arm64 the
+same text with x18 as any register has to, and the one that is written keeps x18. For the other systems the same module is
+compiled for another target, and only tests say that this is right. No name is visible in a text but those that the header
 declares, or a program's rattle_main; nothing of this machine or of this run stands in it.
 
 MANIFEST has the toolchain's verdict on each crate in the texts, uncut, and the names of the C functions whose contracts
@@ -288,10 +289,39 @@ def written(tools, module, words, triple, is_retargeted):
                      f"the module isn't compiled for {triple}", cwd=tools.work)
 
 
+# What every function of a text has, beside what rattle gave it: tables for unwinding; and on arm64 x18 stays as it is, which
+# Android, Fuchsia and shadow call stacks reserve.
+UNWOUND, FEATURES, KEPT_X18 = "uwtable", re.compile(r'"target-features"="([^"]*)"'), "+reserve-x18"
+
+
+def without_marks(text):
+    """The text without the tables."""
+    return re.sub(r"^\t\.cfi_.*\n", "", text, flags=re.M)
+
+
+def marked(tools, module, triple):
+    """The module, whose functions have tables for unwinding and keep the registers that a system may reserve."""
+    words = ["-S", "-emit-llvm", "-Xclang", "-disable-llvm-passes", "--no-default-config", "-x", "ir", module, "-o", "-"]
+    text = output_of([tools.clang, *words], "the module isn't read")
+    if lacking := [it for it in re.findall(r"^define .*", text, re.M) if not re.search(r" #\d+ ", it)]:
+        fail(f"a function without attributes: {lacking[0]}")
+
+    def more(found):
+        said = found[2]
+        if triple.startswith(("aarch64", "arm64")):
+            old = FEATURES.search(said)
+            said = FEATURES.sub("", said) + f'"target-features"="{old[1] + "," if old else ""}{KEPT_X18}" '
+        return f"{found[1]} {UNWOUND}{said}}}"
+
+    path = f"{tools.work}/marked.ll"
+    write(path, re.sub(r"^(attributes #\d+ = \{)(.*)\}$", more, text, flags=re.M))
+    return path
+
+
 def heap(tools, triple):
     """The functions by which the proved code gets memory, under labels that the text has not."""
     words = ["-O2", "-fPIC", "-c", "-x", "ir", "", "-o", "", "--no-default-config", "-Werror"]
-    text = plain(written(tools, f"{ROOT}/dist/heap.ll", words, triple, True))
+    text = plain(written(tools, marked(tools, f"{ROOT}/dist/heap.ll", triple), words, triple, True))
     text = own_labels(text, triple, "dcsctp_heap_")
     return re.sub(r'\t\.file\t.*\n|\t\.section\t"?\.note\.GNU-stack.*\n|\.subsections_via_symbols\n', "", text)
 
@@ -307,13 +337,17 @@ def made(tools, file):
     """A text of TEXTS, and what the toolchain says of its crate."""
     crate, target, triple = TEXTS[file]
     module, words, built, verdict = tools.build(crate, target)
-    text = own_labels(plain(written(tools, module, words, triple, triple != target)), triple, "dcsctp_")
+    text = plain(written(tools, marked(tools, module, triple), words, triple, True))
     said = "not compared"
     if triple == target:
-        image = tools.image(tools.assemble(text, triple))
+        as_built = plain(written(tools, module, words, triple, False))
+        image = tools.image(tools.assemble(as_built, triple))
         if image != tools.image(built):
             fail(f"{file} doesn't assemble to what rattle built of {crate}")
         said = f"its {len(image):,} bytes of code and data are those that rattle built"
+        if without_marks(text) != without_marks(as_built):
+            said = f"but for x18 {said}" if triple.startswith("aarch64") else fail(f"{file}: the tables changed the code")
+    text = own_labels(text, triple, "dcsctp_")
     if "rattle_alloc" in text:
         text += heap(tools, triple)
     is_program = tools.crates[crate].is_program

@@ -2,9 +2,9 @@
 """usage: dist/systems.py [FOLDER]
 
 Tries which text of dist/ each package takes on each system, on whichever this runs: Python's backend.py under other names of
-the system, the conditions of Rust's text.rs under the cfgs of each target, the files that Go lists, and CMakeLists.txt by
-`cmake -P`. Nothing is compiled. FOLDER has dist/ and bindings/; without it, this checkout has. What isn't installed (rustc, go,
-cmake) is left out, and named.
+the system, the conditions of Rust's text.rs under the cfgs of each target, also of those in its README.md, the files that Go
+lists, and CMakeLists.txt by `cmake -P`. Nothing is compiled. FOLDER has dist/ and bindings/; without it, this checkout has.
+What isn't installed (rustc, go, cmake) is left out, and named.
 """
 
 import filecmp
@@ -23,7 +23,6 @@ SYSTEMS = """
 x86_64-elf     linux     x86_64      x86_64-unknown-linux-gnu       linux/amd64    Linux    x86_64
 x86_64-elf     freebsd14 amd64       x86_64-unknown-freebsd         -              FreeBSD  amd64
 x86_64-elf     -         -           x86_64-unknown-linux-musl      -              -        -
-x86_64-elf     -         -           x86_64-unknown-none            -              -        -
 aarch64-elf    linux     aarch64     aarch64-unknown-linux-gnu      linux/arm64    Linux    aarch64
 aarch64-elf    freebsd14 arm64       aarch64-unknown-freebsd        -              FreeBSD  arm64
 aarch64-elf    -         -           aarch64-unknown-none           -              -        -
@@ -71,7 +70,13 @@ def of_python(folder, system, machine):
 
 
 def of_rust(folder, target):
-    """The text whose condition in text.rs holds, in the syntax that it has."""
+    """The text that text.rs takes; None if it refuses the target."""
+    found, refusals = texts_of_rust(folder, target)
+    return None if refusals else found[0] if len(found) == 1 else found
+
+
+def texts_of_rust(folder, target):
+    """The texts whose conditions in text.rs hold, in the syntax that they have, and the reasons for which it refuses the target."""
     with open(os.path.join(folder, "bindings", "rust", "src", "text.rs"), encoding="utf-8") as file:
         source = re.sub(r"//.*", "", file.read())
     words = ["rustc", "--print", "cfg", "--target", target]
@@ -91,9 +96,23 @@ def of_rust(folder, target):
         if holds(macro.replace("$arch", arch).replace("$system", system)):
             # (att_syntax is a word of x86 alone, whose texts need it)
             found.append(text if bool(syntax) == (arch == '"x86_64"') else f"{text} {syntax}")
-    if holds(re.search(r"#\[cfg\((not.*?)\)\]\s*compile_error!", source, re.S)[1]):
-        found.append(None)
-    return found[0] if len(found) == 1 else found
+    refusals = re.findall(r'^refuse!\(\s*(.*?),\s*"([^"]*)"\s*\);', source, re.S | re.M)
+    return found, [why for condition, why in refusals if holds(condition)]
+
+
+def targets_of_rust(folder):
+    """The table of targets in the package's README.md: of each target what is expected, and what is so."""
+    with open(os.path.join(folder, "bindings", "rust", "README.md"), encoding="utf-8") as file:
+        rows = re.findall(r"^\| (`[^|]*`) \| (?:`([^|`]*)`|none: ([^|]*)) \|$", file.read(), re.M)
+    for targets, text, reasons in rows:
+        for target in re.findall(r"`([^`]*)`", targets):
+            found, refusals = texts_of_rust(folder, target)
+            if reasons:
+                words = reasons.split("; ")
+                said = [next((word for word in words if word in why), why) for why in refusals]
+                yield target, sorted(words), sorted(said)
+            else:
+                yield target, [text], found + refusals
 
 
 def of_go(folder, system):
@@ -154,6 +173,11 @@ def main():
             if found != expected:
                 wrong += 1
                 print(f"{package} on {' '.join(names[package])}: takes {found}, not {expected}")
+    for target, expected, found in targets_of_rust(folder) if shutil.which("rustc") else ():
+        tried += 1
+        if found != expected:
+            wrong += 1
+            print(f"Rust's README.md on {target}: {expected}, not {found}")
     print(f"systems: {tried} tried, {wrong} wrong")
     return wrong > 0
 

@@ -10,7 +10,7 @@ installed is left out, and named. The last line is: dist: N passed, M failed, K 
 
 FOLDER has dist/ and bindings/, as an unpacked release; without it, this checkout has. The examples are the checkout'\''s.
 
-Needed are a C compiler and Python. Used where they are there: gcc, clang, a C++ compiler, CMake, pkg-config, cargo (from
+Needed is a C compiler. Used where they are there: Python; gcc, clang, a C++ compiler, CMake, pkg-config, cargo (from
 1.85 on), pip, go, node (from 18 on); musl-gcc and qemu-x86_64; for arm64 aarch64-linux-gnu-gcc and qemu-aarch64; for Windows
 x86_64-w64-mingw32-gcc and Wine. What follows pip, Debian has as musl-tools, qemu-user, gcc-aarch64-linux-gnu with
 libc6-dev-arm64-cross, gcc-mingw-w64-x86-64 and wine64.'
@@ -53,6 +53,8 @@ try() {
     if (cd "$work" && "$@") >"$work/log" 2>&1 </dev/null; then
         passed=$((passed + 1))
         printf 'dist: %s: passed\n' "$name"
+        grep -e 'left out, since' -e '^dump: [0-9]* passed' "$work/log"
+        return 0
     else
         failed=$((failed + 1))
         printf 'dist: %s: failed\n' "$name"
@@ -77,6 +79,7 @@ with() {
 
 has() {
     case $1 in
+        python3) python3 -c 'import json, shutil' 2>/dev/null ;;
         rustc-1.85) rustc --edition 2024 --crate-type lib --emit metadata -o "$work/probe" - </dev/null 2>"$work/log" ;;
         python3-venv) python3 -c 'import ensurepip' 2>"$work/log" ;;
         node-18) node -e 'process.exit(process.versions.node.split(".")[0] < 18 ? 1 : 0)' 2>"$work/log" ;;
@@ -90,8 +93,9 @@ expected() {
     "$@" "$examples/packets.txt" >printed && diff printed "$examples/expected.txt"
 }
 
-# What it answers to the packets made at random: the first that runs says it, and the others have to say the same.
+# What it answers to the packets made at random, by Python: the first that runs says it, and the others have to say the same.
 answers_as_others() {
+    has python3 || return 0
     "$@" "$work/packets.txt" >printed || return
     [ -f answers ] || cp printed answers
     cmp printed answers
@@ -154,6 +158,18 @@ apple() {
     for processor in x86_64 aarch64; do
         clang --target="${processor/aarch64/arm64}-apple-macos11" -c -o apple.o "$dist/dcsctp-$processor-macho.s" || return
     done
+}
+
+# A crash in a call shows who called.
+unwound() {
+    "$cc" -O1 -Wall -Wextra -Werror -I "$dist" -o unwound "$root/c/unwind.c" "$elf" && ./unwound
+}
+
+# So it does on arm64, where calls keep x18.
+kept_on_arm64() {
+    aarch64-linux-gnu-gcc -static -O1 -ffixed-x18 -I "$dist" -o x18 "$root/c/x18.c" "$dist/dcsctp-aarch64-elf.s" && qemu-aarch64 ./x18 &&
+        aarch64-linux-gnu-gcc -static -O1 -I "$dist" -o unwound_arm64 "$root/c/unwind.c" "$dist/dcsctp-aarch64-elf.s" &&
+        qemu-aarch64 ./unwound_arm64
 }
 
 # The functions of a text for macOS, in the format of Linux: names have no underscore in front there, and sections other names.
@@ -317,6 +333,12 @@ cargo_show() {
         all_of target/release/examples/show
 }
 
+# No warning of rustc, clippy (all that Cargo.toml asks for) and rustdoc, and the form of rustfmt.
+cargo_lints() {
+    cd "$bindings/rust" && export CARGO_TARGET_DIR=$work/target RUSTDOCFLAGS='-D warnings' && cargo fmt --check &&
+        cargo clippy --offline --all-features --all-targets -- -D warnings && cargo doc --offline --all-features --no-deps
+}
+
 # What is published builds by itself, and holds the texts.
 cargo_package() {
     cd "$bindings/rust" && CARGO_TARGET_DIR=$work/target cargo package --offline --allow-dirty &&
@@ -387,11 +409,16 @@ backend.build_sdist(sys.argv[1])
 backend.build_wheel(sys.argv[1])' "$work/$1")
 }
 
-"$root/dist/packets.py" 4000 1 <"$examples/packets.txt" >"$work/packets.txt" || exit
+random() {
+    "$root/dist/packets.py" 4000 1 <"$examples/packets.txt" >packets.txt
+}
+
+with python3 '4,000 packets are made at random' random
 try 'no toolchain is on PATH' no_toolchain
 try 'the sums of MANIFEST' sums
-try 'the copies in the packages' "$root/dist/make.py" --copies --compare
+with python3 'the copies in the packages' "$root/dist/make.py" --copies --compare
 try 'one version' one_version
+try 'the stack of each call' "$root/dist/stack.py" --compare
 with "$cc" 'cc -o answer answer.c dcsctp-x86_64-elf.s' answer
 with gcc 'gcc' by gcc
 with clang 'clang' by clang
@@ -407,24 +434,27 @@ with cmake 'CMake: find_package, shared' cmake_installed ON && with pkg-config '
 with cmake 'CMake: add_subdirectory' cmake_subdirectory
 with cmake 'CMake: FetchContent, shared' cmake_fetched
 with cmake 'CMake: an unknown processor' cmake_refuses
-try 'the text of each system' systems
+with python3 'the text of each system' systems
 with "$cc" 'sctp_show' sctp_show "$cc"
 with musl-gcc 'sctp_show, static by musl-gcc' sctp_show musl-gcc -static
 with "$cc" 'sctp_dump' sctp_dump "$cc"
-with "$cc" 'sctp_dump, interrupted' interrupted "$cc"
+with "$cc python3" 'sctp_dump, interrupted' interrupted "$cc"
 with musl-gcc 'sctp_dump, static by musl-gcc' sctp_dump musl-gcc -static
 with 'musl-gcc qemu-x86_64' 'sctp_dump on an old processor' old_processor
 with "$cc" 'calls at the edges' edge
+with "$cc" 'a crash in a call shows its caller' unwound
+with 'aarch64-linux-gnu-gcc qemu-aarch64' 'the same on arm64, and x18 is kept' kept_on_arm64
 with "$cc" "the processor's CRC32c" processor
 with "$cc" '20,000 packets against a second reader' fuzz
 with 'cargo rustc-1.85' 'cargo test' cargo_tests
 with 'cargo rustc-1.85' 'cargo run --example show' cargo_show
+with 'cargo rustc-1.85 cargo-fmt cargo-clippy' 'cargo clippy, fmt and doc' cargo_lints
 with 'cargo rustc-1.85' 'cargo package' cargo_package
 with 'cargo rustc-1.85' 'cargo: two versions' cargo_refuses
 with python3-venv 'pip install' python_package && try 'pip wheel, of the archive of sources' python_archives
 with "$cxx" 'C++' cpp_package && with cmake 'C++, by CMake' cpp_cmake
 with 'go' 'go test' go_package
 with 'go aarch64-linux-gnu-gcc qemu-aarch64' 'go test, arm64 under qemu' go_arm64
-with 'node-18' 'node --test' node_package
+with 'node-18 npm' 'node --test' node_package
 printf 'dist: %s passed, %s failed, %s left out\n' "$passed" "$failed" "$left_out"
 [ "$failed" -eq 0 ]
