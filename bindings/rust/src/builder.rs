@@ -1,10 +1,12 @@
 //! Packets that are written.
 
+use crate::chunk::Chunks;
 use crate::error::WriteError;
 use crate::ffi;
 use crate::packet::seal;
 use crate::types::{CauseCode, ChunkType, ParameterType};
 use crate::values::{Data, GapAckBlock, Init, ReConfig, SkippedStream};
+use core::ptr;
 
 /// The size of the largest packet that can be written, in bytes.
 pub const MAX_PACKET: usize = 65_532;
@@ -35,10 +37,11 @@ pub const MAX_PACKET: usize = 65_532;
 /// assert_eq!(bytes.len(), 12 + 20 + 24);
 /// # Ok::<(), dcsctp::WriteError>(())
 /// ```
-#[derive(Debug)]
 pub struct PacketBuilder<'a> {
     buffer: &'a mut [u8],
     size: usize,
+    /// Where the last chunk begins; 0 where that isn't known.
+    last: usize,
 }
 
 /// Defines a call of a function that adds to a packet: the packet's arguments come first.
@@ -53,11 +56,30 @@ macro_rules! add {
     }};
 }
 
+/// The same for a chunk; where it is added, it is the last one.
+macro_rules! add_chunk {
+    ($packet:expr, $function:ident $(, $argument:expr)*) => {{
+        let start = $packet.size;
+        add!($packet, $function $(, $argument)*)?;
+        $packet.last = start;
+    }};
+}
+
 impl<'a> PacketBuilder<'a> {
     /// Begins a packet with these ports and this tag (RFC 9260 section 3.1), and a checksum field
     /// of zero: 12 bytes.
     ///
     /// The tag is the initiate tag of the peer's INIT or INIT ACK; with INIT it is 0.
+    ///
+    /// ```
+    /// use dcsctp::{PacketBuilder, WriteError};
+    ///
+    /// let mut buffer = [0; 12];
+    /// let packet = PacketBuilder::begin(&mut buffer, 5000, 5001, 7)?;
+    /// assert_eq!(packet.as_bytes(), b"\x13\x88\x13\x89\0\0\0\x07\0\0\0\0");
+    /// assert!(PacketBuilder::begin(&mut [0; 11], 5000, 5001, 7).is_err());
+    /// # Ok::<(), WriteError>(())
+    /// ```
     ///
     /// # Errors
     /// [`WriteError::NoRoom`] where the buffer has fewer than 12 bytes.
@@ -68,12 +90,25 @@ impl<'a> PacketBuilder<'a> {
         destination_port: u16,
         verification_tag: u32,
     ) -> Result<Self, WriteError> {
-        let mut packet = Self { buffer, size: 0 };
+        let mut packet = Self { buffer, size: 0, last: 0 };
         add!(packet, dcsctp_begin, source_port, destination_port, verification_tag)?;
         Ok(packet)
     }
 
     /// Goes on with a packet that was begun before: the first `size` bytes of the buffer.
+    ///
+    /// ```
+    /// use dcsctp::PacketBuilder;
+    ///
+    /// let mut buffer = [0; 100];
+    /// let mut packet = PacketBuilder::begin(&mut buffer, 5000, 5001, 7)?;
+    /// packet.cookie_ack()?;
+    /// let size = packet.size();
+    /// let mut packet = PacketBuilder::resume(&mut buffer, size)?;
+    /// packet.shutdown_ack()?;
+    /// assert_eq!(packet.as_bytes()[12..], [11, 0, 0, 4, 8, 0, 0, 4]);
+    /// # Ok::<(), dcsctp::WriteError>(())
+    /// ```
     ///
     /// # Errors
     /// [`WriteError::BadPlace`] where `size` is less than 12, not a multiple of 4, or more than the
@@ -82,28 +117,61 @@ impl<'a> PacketBuilder<'a> {
         if size < 12 || size % 4 != 0 || size > buffer.len() || size > MAX_PACKET {
             return Err(WriteError::BadPlace);
         }
-        Ok(Self { buffer, size })
+        Ok(Self { buffer, size, last: 0 })
     }
 
     /// Returns the packet's size so far, in bytes.
+    ///
+    /// ```
+    /// # let mut buffer = [0; 100];
+    /// # let mut packet = dcsctp::PacketBuilder::begin(&mut buffer, 5000, 5001, 7)?;
+    /// assert_eq!(packet.size(), 12);
+    /// packet.cookie_ack()?;
+    /// assert_eq!(packet.size(), 16);
+    /// # Ok::<(), dcsctp::WriteError>(())
+    /// ```
     #[must_use]
     pub const fn size(&self) -> usize {
         self.size
     }
 
     /// Returns how many bytes there is room for: of the buffer, and up to [`MAX_PACKET`].
+    ///
+    /// ```
+    /// # let mut buffer = [0; 100];
+    /// # let mut packet = dcsctp::PacketBuilder::begin(&mut buffer, 5000, 5001, 7)?;
+    /// assert_eq!(packet.room(), 100 - 12);
+    /// # packet.cookie_ack()?;
+    /// # Ok::<(), dcsctp::WriteError>(())
+    /// ```
     #[must_use]
     pub fn room(&self) -> usize {
         self.buffer.len().min(MAX_PACKET) - self.size
     }
 
     /// Returns the packet so far; its checksum field is zero.
+    ///
+    /// ```
+    /// # let mut buffer = [0; 100];
+    /// # let mut packet = dcsctp::PacketBuilder::begin(&mut buffer, 5000, 5001, 7)?;
+    /// packet.cookie_ack()?;
+    /// assert_eq!(packet.as_bytes(), b"\x13\x88\x13\x89\0\0\0\x07\0\0\0\0\x0b\0\0\x04");
+    /// # Ok::<(), dcsctp::WriteError>(())
+    /// ```
     #[must_use]
     pub fn as_bytes(&self) -> &[u8] {
         &self.buffer[..self.size]
     }
 
     /// Writes the CRC32c (RFC 9260 section 6.8), and returns the packet.
+    ///
+    /// ```
+    /// # let mut buffer = [0; 100];
+    /// # let mut packet = dcsctp::PacketBuilder::begin(&mut buffer, 5000, 5001, 7)?;
+    /// packet.cookie_ack()?;
+    /// assert!(dcsctp::Packet::parse(packet.seal()).is_ok());
+    /// # Ok::<(), dcsctp::WriteError>(())
+    /// ```
     #[must_use]
     pub fn seal(self) -> &'a mut [u8] {
         let packet = self.unsealed();
@@ -114,12 +182,21 @@ impl<'a> PacketBuilder<'a> {
 
     /// Returns the packet with a checksum field of zero, as it may be sent to a peer that sent Zero
     /// Checksum Acceptable (RFC 9653); but not with INIT or COOKIE ECHO in it.
+    ///
+    /// ```
+    /// # let mut buffer = [0; 100];
+    /// # let mut packet = dcsctp::PacketBuilder::begin(&mut buffer, 5000, 5001, 7)?;
+    /// packet.cookie_ack()?;
+    /// assert_eq!(packet.unsealed()[8..], [0, 0, 0, 0, 11, 0, 0, 4]);
+    /// # Ok::<(), dcsctp::WriteError>(())
+    /// ```
     #[must_use]
     pub fn unsealed(self) -> &'a mut [u8] {
         &mut self.buffer[..self.size]
     }
 
-    /// Adds all or nothing: where `add` returns an error, what it added is taken back.
+    /// Adds all or nothing: where `add` returns an error, what it added is taken back, from the list
+    /// of the chunk that was the last one too.
     ///
     /// ```
     /// use dcsctp::{CauseCode, PacketBuilder, WriteError};
@@ -135,19 +212,44 @@ impl<'a> PacketBuilder<'a> {
     /// ```
     ///
     /// # Errors
-    /// What `add` returns.
+    /// What `add` returns; [`WriteError::BadPlace`], and nothing is added, where it puts another
+    /// builder in the place of its own.
     pub fn all_or_nothing<T>(
         &mut self,
         add: impl FnOnce(&mut PacketBuilder<'_>) -> Result<T, WriteError>,
     ) -> Result<T, WriteError> {
-        let Self { buffer, size } = self;
-        let mut packet = PacketBuilder { buffer, size: *size };
-        let added = add(&mut packet)?;
-        *size = packet.size;
-        Ok(added)
+        self.find_last();
+        // What adding to the last chunk's list changes: its length, and its padding.
+        let places = [self.last, self.size - 4];
+        let before = places.map(|at| {
+            let mut four = [0; 4];
+            four.copy_from_slice(&self.buffer[at..at + 4]);
+            four
+        });
+        let buffer = &raw const *self.buffer;
+        let mut packet = PacketBuilder { buffer: self.buffer, size: self.size, last: self.last };
+        let added = add(&mut packet);
+        let PacketBuilder { buffer: written, size, last } = packet;
+        if added.is_ok() && ptr::eq(written, buffer) {
+            (self.size, self.last) = (size, last);
+            return added;
+        }
+        for (at, four) in places.into_iter().zip(before) {
+            self.buffer[at..at + 4].copy_from_slice(&four);
+        }
+        added.and(Err(WriteError::BadPlace))
     }
 
     /// Adds a chunk of any type with these flags and this value (RFC 9260 section 3.2).
+    ///
+    /// ```
+    /// # let mut buffer = [0; 100];
+    /// # let mut packet = dcsctp::PacketBuilder::begin(&mut buffer, 5000, 5001, 7)?;
+    /// // ECNE (RFC 9260 appendix B), of TSN 9.
+    /// packet.chunk(dcsctp::ChunkType(12), 0, &[0, 0, 0, 9])?;
+    /// assert_eq!(packet.as_bytes()[12..], [12, 0, 0, 8, 0, 0, 0, 9]);
+    /// # Ok::<(), dcsctp::WriteError>(())
+    /// ```
     ///
     /// # Errors
     /// [`WriteError::BadValue`] or [`WriteError::NoRoom`].
@@ -158,20 +260,53 @@ impl<'a> PacketBuilder<'a> {
         flags: u8,
         value: &[u8],
     ) -> Result<ChunkBuilder<'_, 'a>, WriteError> {
-        let start = self.size;
         let (first, count) = (value.as_ptr(), value.len());
-        add!(self, dcsctp_add_chunk, chunk_type.0, flags, first, count)?;
-        Ok(ChunkBuilder { packet: self, start })
+        add_chunk!(self, dcsctp_add_chunk, chunk_type.0, flags, first, count);
+        Ok(ChunkBuilder { packet: self })
     }
 
-    /// Returns the last chunk, which begins at this offset, to add to its list: what
-    /// [`size`](Self::size) was before it was added. Where no chunk begins there and ends the
-    /// packet, adding returns [`WriteError::BadPlace`].
-    pub const fn last_chunk(&mut self, offset: usize) -> ChunkBuilder<'_, 'a> {
-        ChunkBuilder { packet: self, start: offset }
+    /// Returns the last chunk, to add to its list.
+    ///
+    /// ```
+    /// use dcsctp::{PacketBuilder, ParameterType, WriteError};
+    ///
+    /// let mut buffer = [0; 100];
+    /// let mut packet = PacketBuilder::begin(&mut buffer, 1, 2, 3)?;
+    /// assert_eq!(packet.last_chunk().unwrap_err(), WriteError::BadPlace);
+    /// packet.init_ack(&dcsctp::Init::default())?;
+    /// packet.last_chunk()?.parameter(ParameterType::STATE_COOKIE, b"abcd")?;
+    /// assert_eq!(packet.size(), 12 + 20 + 8);
+    /// # Ok::<(), WriteError>(())
+    /// ```
+    ///
+    /// # Errors
+    /// [`WriteError::BadPlace`] where there is no chunk; or, of a packet that was
+    /// [resumed](Self::resume), where its bytes aren't whole chunks.
+    pub fn last_chunk(&mut self) -> Result<ChunkBuilder<'_, 'a>, WriteError> {
+        self.find_last();
+        if self.last == 0 { Err(WriteError::BadPlace) } else { Ok(ChunkBuilder { packet: self }) }
+    }
+
+    /// Looks for the last chunk in the bytes, where it isn't known.
+    fn find_last(&mut self) {
+        if self.last == 0 {
+            let chunk = Chunks::of(self.as_bytes()).last();
+            self.last =
+                chunk.filter(|it| it.next_offset() == self.size).map_or(0, |it| it.offset());
+        }
     }
 
     /// Adds DATA (RFC 9260 section 3.3.1). Of `data` its `mid` and `fsn` are ignored.
+    ///
+    /// ```
+    /// use dcsctp::Data;
+    ///
+    /// # let mut buffer = [0; 100];
+    /// # let mut packet = dcsctp::PacketBuilder::begin(&mut buffer, 5000, 5001, 7)?;
+    /// packet.data(&Data { tsn: 1, stream: 2, ssn: 3, ppid: 51, payload: b"hi", ..Data::default() })?;
+    /// assert_eq!(packet.as_bytes()[12..], *b"\0\0\0\x12\0\0\0\x01\0\x02\0\x03\0\0\0\x33hi\0\0");
+    /// # Ok::<(), dcsctp::WriteError>(())
+    /// ```
     ///
     /// # Errors
     /// [`WriteError::BadValue`] or [`WriteError::NoRoom`].
@@ -179,12 +314,22 @@ impl<'a> PacketBuilder<'a> {
     pub fn data(&mut self, data: &Data) -> Result<&mut Self, WriteError> {
         let raw = raw_data(data);
         let (first, count) = (data.payload.as_ptr(), data.payload.len());
-        add!(self, dcsctp_add_data, &raw const raw, first, count)?;
+        add_chunk!(self, dcsctp_add_data, &raw const raw, first, count);
         Ok(self)
     }
 
     /// Adds I-DATA (RFC 8260 section 2.1). Of `data` its `ssn` is ignored; and its `fsn` at the
     /// beginning of a message, its `ppid` elsewhere.
+    ///
+    /// ```
+    /// use dcsctp::Data;
+    ///
+    /// # let mut buffer = [0; 100];
+    /// # let mut packet = dcsctp::PacketBuilder::begin(&mut buffer, 5000, 5001, 7)?;
+    /// packet.i_data(&Data { tsn: 1, stream: 2, mid: 3, fsn: 4, payload: b"hi", ..Data::default() })?;
+    /// assert_eq!(packet.as_bytes()[12..], *b"\x40\0\0\x16\0\0\0\x01\0\x02\0\0\0\0\0\x03\0\0\0\x04hi\0\0");
+    /// # Ok::<(), dcsctp::WriteError>(())
+    /// ```
     ///
     /// # Errors
     /// [`WriteError::BadValue`] or [`WriteError::NoRoom`].
@@ -192,12 +337,23 @@ impl<'a> PacketBuilder<'a> {
     pub fn i_data(&mut self, data: &Data) -> Result<&mut Self, WriteError> {
         let raw = raw_data(data);
         let (first, count) = (data.payload.as_ptr(), data.payload.len());
-        add!(self, dcsctp_add_i_data, &raw const raw, first, count)?;
+        add_chunk!(self, dcsctp_add_i_data, &raw const raw, first, count);
         Ok(self)
     }
 
     /// Adds a SACK (RFC 9260 section 3.3.4). [`clean_blocks`](crate::clean_blocks) brings its
     /// blocks into order.
+    ///
+    /// ```
+    /// use dcsctp::GapAckBlock;
+    ///
+    /// # let mut buffer = [0; 100];
+    /// # let mut packet = dcsctp::PacketBuilder::begin(&mut buffer, 5000, 5001, 7)?;
+    /// packet.sack(41, 0x2_0000, &[GapAckBlock::new(2, 3)], &[40])?;
+    /// assert_eq!(packet.as_bytes()[12..24], *b"\x03\0\0\x18\0\0\0\x29\0\x02\0\0");
+    /// assert_eq!(packet.as_bytes()[24..], *b"\0\x01\0\x01\0\x02\0\x03\0\0\0\x28");
+    /// # Ok::<(), dcsctp::WriteError>(())
+    /// ```
     ///
     /// # Errors
     /// [`WriteError::BadValue`] or [`WriteError::NoRoom`].
@@ -209,7 +365,7 @@ impl<'a> PacketBuilder<'a> {
         gap_ack_blocks: &[GapAckBlock],
         duplicate_tsns: &[u32],
     ) -> Result<&mut Self, WriteError> {
-        add!(
+        add_chunk!(
             self,
             dcsctp_add_sack,
             cumulative_tsn_ack,
@@ -218,7 +374,7 @@ impl<'a> PacketBuilder<'a> {
             gap_ack_blocks.len(),
             duplicate_tsns.as_ptr(),
             duplicate_tsns.len()
-        )?;
+        );
         Ok(self)
     }
 
@@ -249,69 +405,116 @@ impl<'a> PacketBuilder<'a> {
     /// [`WriteError::NoRoom`].
     #[doc(alias = "dcsctp_add_init")]
     pub fn init(&mut self, init: &Init) -> Result<ChunkBuilder<'_, 'a>, WriteError> {
-        let start = self.size;
-        add!(self, dcsctp_add_init, init)?;
-        Ok(ChunkBuilder { packet: self, start })
+        add_chunk!(self, dcsctp_add_init, init);
+        Ok(ChunkBuilder { packet: self })
     }
 
     /// Adds INIT ACK with these numbers (RFC 9260 section 3.3.3), and no parameter yet; its
     /// [State Cookie](ParameterType::STATE_COOKIE) has to be added.
     ///
+    /// ```
+    /// use dcsctp::{Init, ParameterType};
+    ///
+    /// # let mut buffer = [0; 100];
+    /// # let mut packet = dcsctp::PacketBuilder::begin(&mut buffer, 5000, 5001, 7)?;
+    /// let own = Init { initiate_tag: 9, a_rwnd: 0x2_0000, ..Init::default() };
+    /// packet.init_ack(&own)?.parameter(ParameterType::STATE_COOKIE, b"abcd")?;
+    /// assert_eq!(packet.size(), 12 + 20 + 8);
+    /// # Ok::<(), dcsctp::WriteError>(())
+    /// ```
+    ///
     /// # Errors
     /// [`WriteError::NoRoom`].
     #[doc(alias = "dcsctp_add_init_ack")]
     pub fn init_ack(&mut self, init: &Init) -> Result<ChunkBuilder<'_, 'a>, WriteError> {
-        let start = self.size;
-        add!(self, dcsctp_add_init_ack, init)?;
-        Ok(ChunkBuilder { packet: self, start })
+        add_chunk!(self, dcsctp_add_init_ack, init);
+        Ok(ChunkBuilder { packet: self })
     }
 
     /// Adds COOKIE ECHO with this cookie (RFC 9260 section 3.3.11).
+    ///
+    /// ```
+    /// # let mut buffer = [0; 100];
+    /// # let mut packet = dcsctp::PacketBuilder::begin(&mut buffer, 5000, 5001, 7)?;
+    /// packet.cookie_echo(b"abc")?;
+    /// assert_eq!(packet.as_bytes()[12..], *b"\x0a\0\0\x07abc\0");
+    /// # Ok::<(), dcsctp::WriteError>(())
+    /// ```
     ///
     /// # Errors
     /// [`WriteError::BadValue`] or [`WriteError::NoRoom`].
     #[doc(alias = "dcsctp_add_cookie_echo")]
     pub fn cookie_echo(&mut self, cookie: &[u8]) -> Result<&mut Self, WriteError> {
-        add!(self, dcsctp_add_cookie_echo, cookie.as_ptr(), cookie.len())?;
+        add_chunk!(self, dcsctp_add_cookie_echo, cookie.as_ptr(), cookie.len());
         Ok(self)
     }
 
     /// Adds COOKIE ACK (RFC 9260 section 3.3.12).
     ///
+    /// ```
+    /// # let mut buffer = [0; 100];
+    /// # let mut packet = dcsctp::PacketBuilder::begin(&mut buffer, 5000, 5001, 7)?;
+    /// packet.cookie_ack()?;
+    /// assert_eq!(packet.as_bytes()[12..], [11, 0, 0, 4]);
+    /// # Ok::<(), dcsctp::WriteError>(())
+    /// ```
+    ///
     /// # Errors
     /// [`WriteError::NoRoom`].
     #[doc(alias = "dcsctp_add_cookie_ack")]
     pub fn cookie_ack(&mut self) -> Result<&mut Self, WriteError> {
-        add!(self, dcsctp_add_cookie_ack)?;
+        add_chunk!(self, dcsctp_add_cookie_ack);
         Ok(self)
     }
 
     /// Adds HEARTBEAT with this Heartbeat Info (RFC 9260 section 3.3.5).
     ///
+    /// ```
+    /// # let mut buffer = [0; 100];
+    /// # let mut packet = dcsctp::PacketBuilder::begin(&mut buffer, 5000, 5001, 7)?;
+    /// packet.heartbeat(b"abc")?;
+    /// assert_eq!(packet.as_bytes()[12..], *b"\x04\0\0\x0b\0\x01\0\x07abc\0");
+    /// # Ok::<(), dcsctp::WriteError>(())
+    /// ```
+    ///
     /// # Errors
     /// [`WriteError::BadValue`] or [`WriteError::NoRoom`].
     #[doc(alias = "dcsctp_add_heartbeat")]
     pub fn heartbeat(&mut self, info: &[u8]) -> Result<ChunkBuilder<'_, 'a>, WriteError> {
-        let start = self.size;
-        add!(self, dcsctp_add_heartbeat, false, info.as_ptr(), info.len())?;
-        Ok(ChunkBuilder { packet: self, start })
+        add_chunk!(self, dcsctp_add_heartbeat, false, info.as_ptr(), info.len());
+        Ok(ChunkBuilder { packet: self })
     }
 
     /// Adds HEARTBEAT ACK with this Heartbeat Info (RFC 9260 section 3.3.6): that of the HEARTBEAT.
+    ///
+    /// ```
+    /// # let mut buffer = [0; 100];
+    /// # let mut packet = dcsctp::PacketBuilder::begin(&mut buffer, 5000, 5001, 7)?;
+    /// packet.heartbeat_ack(b"abc")?;
+    /// assert_eq!(packet.as_bytes()[12..], *b"\x05\0\0\x0b\0\x01\0\x07abc\0");
+    /// # Ok::<(), dcsctp::WriteError>(())
+    /// ```
     ///
     /// # Errors
     /// [`WriteError::BadValue`] or [`WriteError::NoRoom`].
     #[doc(alias = "dcsctp_add_heartbeat")]
     pub fn heartbeat_ack(&mut self, info: &[u8]) -> Result<ChunkBuilder<'_, 'a>, WriteError> {
-        let start = self.size;
-        add!(self, dcsctp_add_heartbeat, true, info.as_ptr(), info.len())?;
-        Ok(ChunkBuilder { packet: self, start })
+        add_chunk!(self, dcsctp_add_heartbeat, true, info.as_ptr(), info.len());
+        Ok(ChunkBuilder { packet: self })
     }
 
     /// Adds ABORT (RFC 9260 section 3.3.7) with the cause User-Initiated Abort (section 3.3.10.12).
     /// `tag_reflected` is its T bit: whether the verification tag is the one that the receiver
     /// sends (section 8.5.1). An ABORT with other causes, or none, is a [`chunk`](Self::chunk)
     /// without a value, whose flags are [`TAG_REFLECTED`](crate::TAG_REFLECTED) or 0.
+    ///
+    /// ```
+    /// # let mut buffer = [0; 100];
+    /// # let mut packet = dcsctp::PacketBuilder::begin(&mut buffer, 5000, 5001, 7)?;
+    /// packet.abort(false, "bye")?;
+    /// assert_eq!(packet.as_bytes()[12..], *b"\x06\0\0\x0b\0\x0c\0\x07bye\0");
+    /// # Ok::<(), dcsctp::WriteError>(())
+    /// ```
     ///
     /// # Errors
     /// [`WriteError::BadValue`] or [`WriteError::NoRoom`].
@@ -321,12 +524,19 @@ impl<'a> PacketBuilder<'a> {
         tag_reflected: bool,
         reason: &str,
     ) -> Result<ChunkBuilder<'_, 'a>, WriteError> {
-        let start = self.size;
-        add!(self, dcsctp_add_abort, tag_reflected, reason.as_ptr(), reason.len())?;
-        Ok(ChunkBuilder { packet: self, start })
+        add_chunk!(self, dcsctp_add_abort, tag_reflected, reason.as_ptr(), reason.len());
+        Ok(ChunkBuilder { packet: self })
     }
 
     /// Adds ERROR (RFC 9260 section 3.3.10) without a cause yet; one at least has to be added.
+    ///
+    /// ```
+    /// # let mut buffer = [0; 100];
+    /// # let mut packet = dcsctp::PacketBuilder::begin(&mut buffer, 5000, 5001, 7)?;
+    /// packet.error()?.cause(dcsctp::CauseCode::OUT_OF_RESOURCE, &[])?;
+    /// assert_eq!(packet.as_bytes()[12..], [9, 0, 0, 8, 0, 4, 0, 4]);
+    /// # Ok::<(), dcsctp::WriteError>(())
+    /// ```
     ///
     /// # Errors
     /// [`WriteError::NoRoom`].
@@ -336,37 +546,71 @@ impl<'a> PacketBuilder<'a> {
 
     /// Adds SHUTDOWN (RFC 9260 section 3.3.8).
     ///
+    /// ```
+    /// # let mut buffer = [0; 100];
+    /// # let mut packet = dcsctp::PacketBuilder::begin(&mut buffer, 5000, 5001, 7)?;
+    /// packet.shutdown(41)?;
+    /// assert_eq!(packet.as_bytes()[12..], [7, 0, 0, 8, 0, 0, 0, 41]);
+    /// # Ok::<(), dcsctp::WriteError>(())
+    /// ```
+    ///
     /// # Errors
     /// [`WriteError::NoRoom`].
     #[doc(alias = "dcsctp_add_shutdown")]
     pub fn shutdown(&mut self, cumulative_tsn_ack: u32) -> Result<&mut Self, WriteError> {
-        add!(self, dcsctp_add_shutdown, cumulative_tsn_ack)?;
+        add_chunk!(self, dcsctp_add_shutdown, cumulative_tsn_ack);
         Ok(self)
     }
 
     /// Adds SHUTDOWN ACK (RFC 9260 section 3.3.9).
     ///
+    /// ```
+    /// # let mut buffer = [0; 100];
+    /// # let mut packet = dcsctp::PacketBuilder::begin(&mut buffer, 5000, 5001, 7)?;
+    /// packet.shutdown_ack()?;
+    /// assert_eq!(packet.as_bytes()[12..], [8, 0, 0, 4]);
+    /// # Ok::<(), dcsctp::WriteError>(())
+    /// ```
+    ///
     /// # Errors
     /// [`WriteError::NoRoom`].
     #[doc(alias = "dcsctp_add_shutdown_ack")]
     pub fn shutdown_ack(&mut self) -> Result<&mut Self, WriteError> {
-        add!(self, dcsctp_add_shutdown_ack)?;
+        add_chunk!(self, dcsctp_add_shutdown_ack);
         Ok(self)
     }
 
     /// Adds SHUTDOWN COMPLETE (RFC 9260 section 3.3.13). `tag_reflected` is its T bit: whether the
     /// verification tag is the one that the receiver sends (section 8.5.1).
     ///
+    /// ```
+    /// # let mut buffer = [0; 100];
+    /// # let mut packet = dcsctp::PacketBuilder::begin(&mut buffer, 5000, 5001, 7)?;
+    /// packet.shutdown_complete(true)?;
+    /// assert_eq!(packet.as_bytes()[12..], [14, 1, 0, 4]);
+    /// # Ok::<(), dcsctp::WriteError>(())
+    /// ```
+    ///
     /// # Errors
     /// [`WriteError::NoRoom`].
     #[doc(alias = "dcsctp_add_shutdown_complete")]
     pub fn shutdown_complete(&mut self, tag_reflected: bool) -> Result<&mut Self, WriteError> {
-        add!(self, dcsctp_add_shutdown_complete, tag_reflected)?;
+        add_chunk!(self, dcsctp_add_shutdown_complete, tag_reflected);
         Ok(self)
     }
 
     /// Adds RE-CONFIG (RFC 6525 section 3.1) without a parameter yet; one or two
     /// [requests or responses](ChunkBuilder::re_config) have to be added.
+    ///
+    /// ```
+    /// use dcsctp::ReConfig;
+    ///
+    /// # let mut buffer = [0; 100];
+    /// # let mut packet = dcsctp::PacketBuilder::begin(&mut buffer, 5000, 5001, 7)?;
+    /// packet.re_config()?.re_config(&ReConfig::SsnTsnReset { request_number: 1 })?;
+    /// assert_eq!(packet.as_bytes()[12..], [130, 0, 0, 12, 0, 15, 0, 8, 0, 0, 0, 1]);
+    /// # Ok::<(), dcsctp::WriteError>(())
+    /// ```
     ///
     /// # Errors
     /// [`WriteError::NoRoom`].
@@ -375,6 +619,17 @@ impl<'a> PacketBuilder<'a> {
     }
 
     /// Adds FORWARD-TSN (RFC 3758 section 3.2).
+    ///
+    /// ```
+    /// use dcsctp::SkippedStream;
+    ///
+    /// # let mut buffer = [0; 100];
+    /// # let mut packet = dcsctp::PacketBuilder::begin(&mut buffer, 5000, 5001, 7)?;
+    /// let stream = SkippedStream { stream: 2, ssn: 3, ..SkippedStream::default() };
+    /// packet.forward_tsn(41, &[stream])?;
+    /// assert_eq!(packet.as_bytes()[12..], [192, 0, 0, 12, 0, 0, 0, 41, 0, 2, 0, 3]);
+    /// # Ok::<(), dcsctp::WriteError>(())
+    /// ```
     ///
     /// # Errors
     /// [`WriteError::BadValue`] or [`WriteError::NoRoom`].
@@ -385,11 +640,23 @@ impl<'a> PacketBuilder<'a> {
         streams: &[SkippedStream],
     ) -> Result<&mut Self, WriteError> {
         let (first, count) = (streams.as_ptr(), streams.len());
-        add!(self, dcsctp_add_forward_tsn, new_cumulative_tsn, first, count)?;
+        add_chunk!(self, dcsctp_add_forward_tsn, new_cumulative_tsn, first, count);
         Ok(self)
     }
 
     /// Adds I-FORWARD-TSN (RFC 8260 section 2.3.1).
+    ///
+    /// ```
+    /// use dcsctp::SkippedStream;
+    ///
+    /// # let mut buffer = [0; 100];
+    /// # let mut packet = dcsctp::PacketBuilder::begin(&mut buffer, 5000, 5001, 7)?;
+    /// let stream = SkippedStream { stream: 2, mid: 3, is_unordered: true, ..Default::default() };
+    /// packet.i_forward_tsn(41, &[stream])?;
+    /// assert_eq!(packet.as_bytes()[12..20], [194, 0, 0, 16, 0, 0, 0, 41]);
+    /// assert_eq!(packet.as_bytes()[20..], [0, 2, 0, 1, 0, 0, 0, 3]);
+    /// # Ok::<(), dcsctp::WriteError>(())
+    /// ```
     ///
     /// # Errors
     /// [`WriteError::BadValue`] or [`WriteError::NoRoom`].
@@ -400,27 +667,59 @@ impl<'a> PacketBuilder<'a> {
         streams: &[SkippedStream],
     ) -> Result<&mut Self, WriteError> {
         let (first, count) = (streams.as_ptr(), streams.len());
-        add!(self, dcsctp_add_i_forward_tsn, new_cumulative_tsn, first, count)?;
+        add_chunk!(self, dcsctp_add_i_forward_tsn, new_cumulative_tsn, first, count);
         Ok(self)
     }
 }
 
 /// The last chunk of a packet that is written, to add to its list: parameters (RFC 9260 section
 /// 3.2.1) or error causes (section 3.3.10). A method that returns an error adds nothing.
-#[derive(Debug)]
+///
+/// ```
+/// use dcsctp::CauseCode;
+///
+/// # let mut buffer = [0; 100];
+/// # let mut packet = dcsctp::PacketBuilder::begin(&mut buffer, 5000, 5001, 7)?;
+/// let mut error = packet.error()?;
+/// error.cause(CauseCode::STALE_COOKIE, &[0, 0, 1, 0])?.cause(CauseCode::OUT_OF_RESOURCE, &[])?;
+/// assert_eq!(packet.as_bytes()[12..16], [9, 0, 0, 16]);
+/// # Ok::<(), dcsctp::WriteError>(())
+/// ```
 pub struct ChunkBuilder<'p, 'a> {
     packet: &'p mut PacketBuilder<'a>,
-    start: usize,
 }
 
 impl ChunkBuilder<'_, '_> {
-    /// Returns where the chunk begins, for [`last_chunk`](PacketBuilder::last_chunk).
+    /// Returns where the chunk begins in the packet's bytes.
+    ///
+    /// ```
+    /// # let mut buffer = [0; 100];
+    /// # let mut packet = dcsctp::PacketBuilder::begin(&mut buffer, 5000, 5001, 7)?;
+    /// packet.cookie_ack()?;
+    /// assert_eq!(packet.error()?.offset(), 16);
+    /// # Ok::<(), dcsctp::WriteError>(())
+    /// ```
     #[must_use]
     pub const fn offset(&self) -> usize {
-        self.start
+        self.packet.last
+    }
+
+    pub(crate) const fn packet(&self) -> &PacketBuilder<'_> {
+        self.packet
     }
 
     /// Adds a parameter (RFC 9260 section 3.2.1).
+    ///
+    /// ```
+    /// use dcsctp::ParameterType;
+    ///
+    /// # let mut buffer = [0; 100];
+    /// # let mut packet = dcsctp::PacketBuilder::begin(&mut buffer, 5000, 5001, 7)?;
+    /// let init = dcsctp::Init::default();
+    /// packet.init(&init)?.parameter(ParameterType::SUPPORTED_EXTENSIONS, &[130, 192])?;
+    /// assert_eq!(packet.as_bytes()[32..], [128, 8, 0, 6, 130, 192, 0, 0]);
+    /// # Ok::<(), dcsctp::WriteError>(())
+    /// ```
     ///
     /// # Errors
     /// Any [`WriteError`].
@@ -435,6 +734,17 @@ impl ChunkBuilder<'_, '_> {
 
     /// Adds a parameter whose value is a number of four bytes: Zero Checksum Acceptable (RFC 9653
     /// section 4), whose method 1 is SCTP over DTLS.
+    ///
+    /// ```
+    /// use dcsctp::ParameterType;
+    ///
+    /// # let mut buffer = [0; 100];
+    /// # let mut packet = dcsctp::PacketBuilder::begin(&mut buffer, 5000, 5001, 7)?;
+    /// let init = dcsctp::Init::default();
+    /// packet.init(&init)?.number_parameter(ParameterType::ZERO_CHECKSUM_ACCEPTABLE, 1)?;
+    /// assert_eq!(packet.as_bytes()[32..], [128, 1, 0, 8, 0, 0, 0, 1]);
+    /// # Ok::<(), dcsctp::WriteError>(())
+    /// ```
     ///
     /// # Errors
     /// Any [`WriteError`].
@@ -470,11 +780,21 @@ impl ChunkBuilder<'_, '_> {
     pub fn re_config(&mut self, re_config: &ReConfig<&[u16]>) -> Result<&mut Self, WriteError> {
         let (raw, streams) = raw_re_config(re_config);
         let (first, count) = (streams.as_ptr(), streams.len());
-        add!(self.packet, dcsctp_add_re_config, self.start, &raw const raw, first, count)?;
+        add!(self.packet, dcsctp_add_re_config, self.packet.last, &raw const raw, first, count)?;
         Ok(self)
     }
 
     /// Adds an error cause (RFC 9260 section 3.3.10).
+    ///
+    /// ```
+    /// use dcsctp::CauseCode;
+    ///
+    /// # let mut buffer = [0; 100];
+    /// # let mut packet = dcsctp::PacketBuilder::begin(&mut buffer, 5000, 5001, 7)?;
+    /// packet.error()?.cause(CauseCode::PROTOCOL_VIOLATION, b"why")?;
+    /// assert_eq!(packet.as_bytes()[16..], *b"\0\x0d\0\x07why\0");
+    /// # Ok::<(), dcsctp::WriteError>(())
+    /// ```
     ///
     /// # Errors
     /// Any [`WriteError`].
@@ -486,6 +806,16 @@ impl ChunkBuilder<'_, '_> {
     /// Adds an error cause whose value is a number of four bytes: No User Data (RFC 9260 section
     /// 3.3.10.9).
     ///
+    /// ```
+    /// use dcsctp::CauseCode;
+    ///
+    /// # let mut buffer = [0; 100];
+    /// # let mut packet = dcsctp::PacketBuilder::begin(&mut buffer, 5000, 5001, 7)?;
+    /// packet.error()?.number_cause(CauseCode::NO_USER_DATA, 41)?;
+    /// assert_eq!(packet.as_bytes()[16..], [0, 9, 0, 8, 0, 0, 0, 41]);
+    /// # Ok::<(), dcsctp::WriteError>(())
+    /// ```
+    ///
     /// # Errors
     /// Any [`WriteError`].
     #[doc(alias = "dcsctp_add_number")]
@@ -496,24 +826,34 @@ impl ChunkBuilder<'_, '_> {
     /// Adds the error cause Missing Mandatory Parameter (RFC 9260 section 3.3.10.2) with these
     /// types.
     ///
+    /// ```
+    /// use dcsctp::ParameterType;
+    ///
+    /// # let mut buffer = [0; 100];
+    /// # let mut packet = dcsctp::PacketBuilder::begin(&mut buffer, 5000, 5001, 7)?;
+    /// packet.error()?.missing_parameters(&[ParameterType::STATE_COOKIE])?;
+    /// assert_eq!(packet.as_bytes()[16..], [0, 2, 0, 10, 0, 0, 0, 1, 0, 7, 0, 0]);
+    /// # Ok::<(), dcsctp::WriteError>(())
+    /// ```
+    ///
     /// # Errors
     /// Any [`WriteError`].
     #[doc(alias = "dcsctp_add_missing_parameters")]
     pub fn missing_parameters(&mut self, types: &[ParameterType]) -> Result<&mut Self, WriteError> {
         // `ParameterType` is `#[repr(transparent)]`: the types lie there as numbers of two bytes.
         let (first, count) = (types.as_ptr().cast(), types.len());
-        add!(self.packet, dcsctp_add_missing_parameters, self.start, first, count)?;
+        add!(self.packet, dcsctp_add_missing_parameters, self.packet.last, first, count)?;
         Ok(self)
     }
 
     fn item(&mut self, number: u16, value: &[u8]) -> Result<&mut Self, WriteError> {
         let (first, count) = (value.as_ptr(), value.len());
-        add!(self.packet, dcsctp_add_parameter, self.start, number, first, count)?;
+        add!(self.packet, dcsctp_add_parameter, self.packet.last, number, first, count)?;
         Ok(self)
     }
 
     fn number(&mut self, item: u16, number: u32) -> Result<&mut Self, WriteError> {
-        add!(self.packet, dcsctp_add_number, self.start, item, number)?;
+        add!(self.packet, dcsctp_add_number, self.packet.last, item, number)?;
         Ok(self)
     }
 }

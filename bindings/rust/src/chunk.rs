@@ -1,7 +1,10 @@
 //! Chunks, and what they hold, where it lies.
 
+use crate::debug::list_of_items;
 use crate::ffi;
 use crate::list::{Causes, Parameters};
+#[cfg(feature = "alloc")]
+use crate::owned::OwnedChunk;
 use crate::types::ChunkType;
 use crate::values::{Data, GapAckBlock, Init, SkippedStream};
 use core::iter::FusedIterator;
@@ -30,14 +33,51 @@ macro_rules! read {
 }
 pub(crate) use read;
 
+/// Has `==` and `Hash` look at what `as_bytes` returns, and at nothing else.
+macro_rules! same_bytes {
+    ($name:ident) => {
+        impl PartialEq for $name<'_> {
+            fn eq(&self, other: &Self) -> bool {
+                self.as_bytes() == other.as_bytes()
+            }
+        }
+
+        impl Eq for $name<'_> {}
+
+        impl core::hash::Hash for $name<'_> {
+            fn hash<H: core::hash::Hasher>(&self, state: &mut H) {
+                self.as_bytes().hash(state);
+            }
+        }
+    };
+}
+pub(crate) use same_bytes;
+
 /// A chunk (RFC 9260 section 3.2), where it lies in a packet's bytes.
-#[derive(Clone, Copy, PartialEq, Eq, Debug)]
+///
+/// `==` and [`Hash`] are of the type, the flags and the value: where the chunk lies, in which
+/// packet, and its padding don't matter.
+///
+/// ```
+/// use dcsctp::Chunks;
+///
+/// // A packet of two COOKIE ACK.
+/// let bytes = *b"\x13\x88\x13\x88\0\0\0\x01\0\0\0\0\x0b\0\0\x04\x0b\0\0\x04";
+/// let mut chunks = Chunks::of(&bytes);
+/// assert_eq!(chunks.next(), chunks.next());
+/// ```
+#[derive(Clone, Copy)]
 pub struct Chunk<'a> {
     bytes: &'a [u8],
     raw: ffi::Chunk,
 }
 
+// The header and the value: the length between them is that of the value.
+same_bytes!(Chunk);
+
 /// What a chunk holds, by its type.
+///
+/// `==` compares what is read of it: numbers, items of lists, and values.
 ///
 /// ```
 /// use dcsctp::{Content, Packet};
@@ -50,7 +90,7 @@ pub struct Chunk<'a> {
 ///     })
 /// }
 /// ```
-#[derive(Clone, Debug)]
+#[derive(Clone, PartialEq, Eq)]
 #[non_exhaustive]
 pub enum Content<'a> {
     /// DATA (RFC 9260 section 3.3.1).
@@ -106,6 +146,15 @@ pub enum Content<'a> {
 impl<'a> Chunk<'a> {
     /// Reads the chunk at an offset of any bytes, checked or not; none where no whole chunk is (RFC
     /// 9260 section 3.2).
+    ///
+    /// ```
+    /// use dcsctp::Chunk;
+    ///
+    /// // A common header, and a COOKIE ECHO.
+    /// let bytes = *b"\0\x01\0\x02\0\0\0\x03\0\0\0\0\x0a\0\0\x07abc\0";
+    /// assert_eq!(Chunk::at(&bytes, 12).unwrap().value(), b"abc");
+    /// assert_eq!(Chunk::at(&bytes, 20), None);
+    /// ```
     #[doc(alias = "dcsctp_chunk_at")]
     #[must_use]
     pub fn at(bytes: &'a [u8], offset: usize) -> Option<Self> {
@@ -116,12 +165,24 @@ impl<'a> Chunk<'a> {
     }
 
     /// Returns the type (RFC 9260 section 3.2).
+    ///
+    /// ```
+    /// # let bytes = *b"\0\x01\0\x02\0\0\0\x03\0\0\0\0\x0a\0\0\x07abc\0";
+    /// # let chunk = dcsctp::Chunk::at(&bytes, 12).unwrap();
+    /// assert_eq!(chunk.chunk_type(), dcsctp::ChunkType::COOKIE_ECHO);
+    /// ```
     #[must_use]
     pub const fn chunk_type(&self) -> ChunkType {
         ChunkType(self.raw.r#type)
     }
 
     /// Returns the flags (RFC 9260 section 3.2), whose meaning depends on the type.
+    ///
+    /// ```
+    /// # let bytes = *b"\0\x01\0\x02\0\0\0\x03\0\0\0\0\x0e\x01\0\x04";
+    /// # let chunk = dcsctp::Chunk::at(&bytes, 12).unwrap();
+    /// assert_eq!(chunk.flags(), dcsctp::TAG_REFLECTED);
+    /// ```
     #[must_use]
     pub const fn flags(&self) -> u8 {
         self.raw.flags
@@ -129,6 +190,12 @@ impl<'a> Chunk<'a> {
 
     /// Returns the value (RFC 9260 section 3.2): what follows the header of four bytes, without
     /// padding. Of COOKIE ECHO it is the cookie.
+    ///
+    /// ```
+    /// # let bytes = *b"\0\x01\0\x02\0\0\0\x03\0\0\0\0\x0a\0\0\x07abc\0";
+    /// # let chunk = dcsctp::Chunk::at(&bytes, 12).unwrap();
+    /// assert_eq!(chunk.value(), b"abc");
+    /// ```
     #[must_use]
     pub fn value(&self) -> &'a [u8] {
         part(self.bytes, self.raw.value_offset, self.raw.value_size)
@@ -136,12 +203,38 @@ impl<'a> Chunk<'a> {
 
     /// Returns the header and the value, without padding (RFC 9260 section 3.2): what the cause
     /// Unrecognized Chunk Type has to hold.
+    ///
+    /// ```
+    /// # let bytes = *b"\0\x01\0\x02\0\0\0\x03\0\0\0\0\x0a\0\0\x07abc\0";
+    /// # let chunk = dcsctp::Chunk::at(&bytes, 12).unwrap();
+    /// assert_eq!(chunk.as_bytes(), b"\x0a\0\0\x07abc");
+    /// ```
     #[must_use]
     pub fn as_bytes(&self) -> &'a [u8] {
         part(self.bytes, self.offset(), CHUNK_HEADER + self.raw.value_size)
     }
 
+    /// Returns a copy that has bytes of its own, to keep it.
+    ///
+    /// ```
+    /// # let bytes = *b"\0\x01\0\x02\0\0\0\x03\0\0\0\0\x0a\0\0\x07abc\0";
+    /// # let chunk = dcsctp::Chunk::at(&bytes, 12).unwrap();
+    /// let kept: dcsctp::OwnedChunk = chunk.into_owned();
+    /// assert_eq!(kept.as_chunk(), chunk);
+    /// ```
+    #[cfg(feature = "alloc")]
+    #[must_use]
+    pub fn into_owned(self) -> OwnedChunk {
+        self.into()
+    }
+
     /// Returns where the chunk begins in the packet's bytes.
+    ///
+    /// ```
+    /// # let bytes = *b"\0\x01\0\x02\0\0\0\x03\0\0\0\0\x0a\0\0\x07abc\0";
+    /// # let chunk = dcsctp::Chunk::at(&bytes, 12).unwrap();
+    /// assert_eq!(chunk.offset(), 12);
+    /// ```
     #[must_use]
     pub const fn offset(&self) -> usize {
         self.raw.value_offset - CHUNK_HEADER
@@ -149,12 +242,24 @@ impl<'a> Chunk<'a> {
 
     /// Returns where the next chunk begins, after the padding; the end of the bytes if this one is
     /// the last.
+    ///
+    /// ```
+    /// # let bytes = *b"\0\x01\0\x02\0\0\0\x03\0\0\0\0\x0a\0\0\x07abc\0";
+    /// # let chunk = dcsctp::Chunk::at(&bytes, 12).unwrap();
+    /// assert_eq!(chunk.next_offset(), 12 + 4 + 3 + 1);
+    /// ```
     #[must_use]
     pub const fn next_offset(&self) -> usize {
         self.raw.next
     }
 
     /// Returns what the chunk holds, by its type.
+    ///
+    /// ```
+    /// # let bytes = *b"\0\x01\0\x02\0\0\0\x03\0\0\0\0\x0a\0\0\x07abc\0";
+    /// # let chunk = dcsctp::Chunk::at(&bytes, 12).unwrap();
+    /// assert_eq!(chunk.content(), dcsctp::Content::CookieEcho(b"abc"));
+    /// ```
     #[must_use]
     pub fn content(&self) -> Content<'a> {
         self.known_content().unwrap_or(Content::Other)
@@ -188,6 +293,14 @@ impl<'a> Chunk<'a> {
     }
 
     /// Returns the user data of DATA (RFC 9260 section 3.3.1) or I-DATA (RFC 8260 section 2.1).
+    ///
+    /// ```
+    /// # let bytes = *b"\0\x01\0\x02\0\0\0\x03\0\0\0\0\0\x03\0\x12\0\0\0\x29\0\x02\0\x03\0\0\0\x33hi\0\0";
+    /// # let chunk = dcsctp::Chunk::at(&bytes, 12).unwrap();
+    /// let data = chunk.data().unwrap();
+    /// assert_eq!((data.tsn, data.stream, data.ssn, data.ppid), (41, 2, 3, 51));
+    /// assert_eq!(data.payload, b"hi");
+    /// ```
     #[doc(alias = "dcsctp_data")]
     #[must_use]
     pub fn data(&self) -> Option<Data<'a>> {
@@ -209,6 +322,14 @@ impl<'a> Chunk<'a> {
 
     /// Returns the numbers of INIT (RFC 9260 section 3.3.2) or INIT ACK (section 3.3.3); the rest
     /// are [parameters](Self::parameters).
+    ///
+    /// ```
+    /// # let bytes = *b"\0\x01\0\x02\0\0\0\x03\0\0\0\0\x01\0\0\x14\0\0\0\x09\0\x02\0\0\0\x04\0\x05\0\0\0\x29";
+    /// # let chunk = dcsctp::Chunk::at(&bytes, 12).unwrap();
+    /// let init = chunk.init().unwrap();
+    /// assert_eq!((init.initiate_tag, init.a_rwnd, init.initial_tsn), (9, 0x2_0000, 41));
+    /// assert_eq!((init.outbound_streams, init.inbound_streams), (4, 5));
+    /// ```
     #[doc(alias = "dcsctp_init")]
     #[must_use]
     pub fn init(&self) -> Option<Init> {
@@ -216,6 +337,12 @@ impl<'a> Chunk<'a> {
     }
 
     /// Returns what a SACK says (RFC 9260 section 3.3.4).
+    ///
+    /// ```
+    /// # let bytes = *b"\0\x01\0\x02\0\0\0\x03\0\0\0\0\x03\0\0\x18\0\0\0\x29\0\x02\0\0\0\x01\0\x01\0\x02\0\x03\0\0\0\x28";
+    /// # let chunk = dcsctp::Chunk::at(&bytes, 12).unwrap();
+    /// assert_eq!(chunk.sack().unwrap().cumulative_tsn_ack, 41);
+    /// ```
     #[doc(alias = "dcsctp_sack")]
     #[must_use]
     pub fn sack(&self) -> Option<Sack<'a>> {
@@ -230,6 +357,12 @@ impl<'a> Chunk<'a> {
     }
 
     /// Returns the cumulative TSN ack of SHUTDOWN (RFC 9260 section 3.3.8).
+    ///
+    /// ```
+    /// # let bytes = *b"\0\x01\0\x02\0\0\0\x03\0\0\0\0\x07\0\0\x08\0\0\0\x29";
+    /// # let chunk = dcsctp::Chunk::at(&bytes, 12).unwrap();
+    /// assert_eq!(chunk.shutdown(), Some(41));
+    /// ```
     #[doc(alias = "dcsctp_shutdown")]
     #[must_use]
     pub fn shutdown(&self) -> Option<u32> {
@@ -238,6 +371,12 @@ impl<'a> Chunk<'a> {
 
     /// Returns what FORWARD-TSN (RFC 3758 section 3.2) or I-FORWARD-TSN (RFC 8260 section 2.3.1)
     /// says.
+    ///
+    /// ```
+    /// # let bytes = *b"\0\x01\0\x02\0\0\0\x03\0\0\0\0\xc0\0\0\x0c\0\0\0\x29\0\x02\0\x03";
+    /// # let chunk = dcsctp::Chunk::at(&bytes, 12).unwrap();
+    /// assert_eq!(chunk.forward_tsn().unwrap().new_cumulative_tsn, 41);
+    /// ```
     #[doc(alias = "dcsctp_forward_tsn")]
     #[must_use]
     pub fn forward_tsn(&self) -> Option<ForwardTsn<'a>> {
@@ -268,6 +407,12 @@ impl<'a> Chunk<'a> {
 
     /// Returns the error causes (RFC 9260 section 3.3.10) of ABORT and ERROR; other types have
     /// none.
+    ///
+    /// ```
+    /// # let bytes = *b"\0\x01\0\x02\0\0\0\x03\0\0\0\0\x09\0\0\x08\0\x04\0\x04";
+    /// # let chunk = dcsctp::Chunk::at(&bytes, 12).unwrap();
+    /// assert_eq!(chunk.causes().next().unwrap().code(), dcsctp::CauseCode::OUT_OF_RESOURCE);
+    /// ```
     #[must_use]
     pub fn causes(&self) -> Causes<'a> {
         Causes::of(*self)
@@ -291,11 +436,22 @@ pub(crate) fn part(bytes: &[u8], offset: usize, size: usize) -> &[u8] {
 
 /// The chunks of a packet (RFC 9260 section 3.2), or of any bytes: then up to where no whole chunk
 /// is.
-#[derive(Clone, Debug)]
+///
+/// ```
+/// # let bytes = *b"\x13\x88\x13\x88\x4d\x2d\xf5\x2d\x67\xdb\x78\xb5\x0b\0\0\x04";
+/// # let packet = dcsctp::Packet::parse(&bytes)?;
+/// let mut chunks = packet.chunks();
+/// assert_eq!(chunks.next().unwrap().chunk_type(), dcsctp::ChunkType::COOKIE_ACK);
+/// assert_eq!(chunks.next(), None);
+/// # Ok::<(), dcsctp::Fault>(())
+/// ```
+#[derive(Clone)]
 pub struct Chunks<'a> {
     bytes: &'a [u8],
     next: usize,
 }
+
+list_of_items!(Chunks);
 
 impl<'a> Chunks<'a> {
     /// Returns the chunks of any bytes that begin with a common header, checked or not.
@@ -345,7 +501,7 @@ impl FusedIterator for Chunks<'_> {}
 /// assert!(sack.duplicate_tsns().eq([40]));
 /// # Ok::<(), Box<dyn std::error::Error>>(())
 /// ```
-#[derive(Clone, Copy, PartialEq, Eq, Debug)]
+#[derive(Clone, Copy)]
 pub struct Sack<'a> {
     /// All TSNs up to this one have come.
     pub cumulative_tsn_ack: u32,
@@ -359,12 +515,25 @@ pub struct Sack<'a> {
 impl<'a> Sack<'a> {
     /// Returns the gap ack blocks, as they stand there: RFC 9260 section 3.3.4 has a receiver send
     /// them in order, but they may be in any.
+    ///
+    /// ```
+    /// # let bytes = *b"\0\x01\0\x02\0\0\0\x03\0\0\0\0\x03\0\0\x18\0\0\0\x29\0\x02\0\0\0\x01\0\x01\0\x02\0\x03\0\0\0\x28";
+    /// # let chunk = dcsctp::Chunk::at(&bytes, 12).unwrap();
+    /// let sack = chunk.sack().unwrap();
+    /// assert!(sack.gap_ack_blocks().eq([dcsctp::GapAckBlock::new(2, 3)]));
+    /// ```
     #[must_use]
     pub const fn gap_ack_blocks(&self) -> GapAckBlocks<'a> {
         GapAckBlocks { chunk: self.chunk, indices: 0..self.block_count }
     }
 
     /// Returns the TSNs that came more than once (RFC 9260 section 3.3.4).
+    ///
+    /// ```
+    /// # let bytes = *b"\0\x01\0\x02\0\0\0\x03\0\0\0\0\x03\0\0\x18\0\0\0\x29\0\x02\0\0\0\x01\0\x01\0\x02\0\x03\0\0\0\x28";
+    /// # let chunk = dcsctp::Chunk::at(&bytes, 12).unwrap();
+    /// assert!(chunk.sack().unwrap().duplicate_tsns().eq([40]));
+    /// ```
     #[must_use]
     pub const fn duplicate_tsns(&self) -> DuplicateTsns<'a> {
         DuplicateTsns { chunk: self.chunk, indices: 0..self.duplicate_count }
@@ -372,6 +541,13 @@ impl<'a> Sack<'a> {
 
     /// Returns whether the gap ack blocks are in order, apart, and begin at 2 or later, as RFC 9260
     /// section 3.3.4 has a receiver send them.
+    ///
+    /// ```
+    /// # let bytes = *b"\0\x01\0\x02\0\0\0\x03\0\0\0\0\x03\0\0\x14\0\0\0\x29\0\x02\0\0\0\x01\0\0\0\x01\0\x03";
+    /// # let chunk = dcsctp::Chunk::at(&bytes, 12).unwrap();
+    /// // The TSN after the cumulative one can't be in a gap ack block.
+    /// assert!(!chunk.sack().unwrap().is_valid());
+    /// ```
     #[doc(alias = "dcsctp_validate_sack")]
     #[must_use]
     pub fn is_valid(&self) -> bool {
@@ -381,8 +557,24 @@ impl<'a> Sack<'a> {
     }
 }
 
+impl PartialEq for Sack<'_> {
+    fn eq(&self, other: &Self) -> bool {
+        // There is nothing else in the value, and how many blocks there are is in it too.
+        self.chunk.value() == other.chunk.value()
+    }
+}
+
+impl Eq for Sack<'_> {}
+
 /// FORWARD-TSN (RFC 3758 section 3.2) or I-FORWARD-TSN (RFC 8260 section 2.3.1).
-#[derive(Clone, Copy, PartialEq, Eq, Debug)]
+///
+/// ```
+/// # let bytes = *b"\0\x01\0\x02\0\0\0\x03\0\0\0\0\xc0\0\0\x0c\0\0\0\x29\0\x02\0\x03";
+/// # let chunk = dcsctp::Chunk::at(&bytes, 12).unwrap();
+/// let it = chunk.forward_tsn().unwrap();
+/// assert_eq!((it.new_cumulative_tsn, it.skipped_streams().len()), (41, 1));
+/// ```
+#[derive(Clone, Copy)]
 pub struct ForwardTsn<'a> {
     /// The receiver has to take it that all TSNs up to this one have come.
     pub new_cumulative_tsn: u32,
@@ -393,6 +585,13 @@ pub struct ForwardTsn<'a> {
 impl<'a> ForwardTsn<'a> {
     /// Returns the streams that messages are skipped in (RFC 3758 section 3.2, RFC 8260 section
     /// 2.3.1).
+    ///
+    /// ```
+    /// # let bytes = *b"\0\x01\0\x02\0\0\0\x03\0\0\0\0\xc0\0\0\x0c\0\0\0\x29\0\x02\0\x03";
+    /// # let chunk = dcsctp::Chunk::at(&bytes, 12).unwrap();
+    /// let stream = chunk.forward_tsn().unwrap().skipped_streams().next().unwrap();
+    /// assert_eq!((stream.stream, stream.ssn), (2, 3));
+    /// ```
     #[doc(alias = "dcsctp_skipped_stream")]
     #[must_use]
     pub const fn skipped_streams(&self) -> SkippedStreams<'a> {
@@ -400,15 +599,26 @@ impl<'a> ForwardTsn<'a> {
     }
 }
 
+impl PartialEq for ForwardTsn<'_> {
+    fn eq(&self, other: &Self) -> bool {
+        self.new_cumulative_tsn == other.new_cumulative_tsn
+            && self.skipped_streams() == other.skipped_streams()
+    }
+}
+
+impl Eq for ForwardTsn<'_> {}
+
 /// Defines an iterator over what a function of the C API reads at each index of a range.
 macro_rules! indexed {
     ($(#[$about:meta])* $name:ident, $from:ident: $source:ty, $item:ty, $function:ident) => {
         $(#[$about])*
-        #[derive(Clone, Debug)]
+        #[derive(Clone)]
         pub struct $name<'a> {
             pub(crate) $from: $source,
             pub(crate) indices: Range<usize>,
         }
+
+        list_of_items!($name);
 
         impl $name<'_> {
             fn read(&self, index: usize) -> Option<$item> {
@@ -450,16 +660,37 @@ pub(crate) use indexed;
 
 indexed! {
     /// The gap ack blocks of a [`Sack`] (RFC 9260 section 3.3.4).
+    ///
+    /// ```
+    /// # let bytes = *b"\0\x01\0\x02\0\0\0\x03\0\0\0\0\x03\0\0\x18\0\0\0\x29\0\x02\0\0\0\x01\0\x01\0\x02\0\x03\0\0\0\x28";
+    /// # let chunk = dcsctp::Chunk::at(&bytes, 12).unwrap();
+    /// let blocks = chunk.sack().unwrap().gap_ack_blocks();
+    /// assert_eq!((blocks.len(), blocks.last().unwrap().end), (1, 3));
+    /// ```
     #[doc(alias = "dcsctp_gap_ack_block")]
     GapAckBlocks, chunk: Chunk<'a>, GapAckBlock, dcsctp_gap_ack_block
 }
 indexed! {
     /// The duplicate TSNs of a [`Sack`] (RFC 9260 section 3.3.4).
+    ///
+    /// ```
+    /// # let bytes = *b"\0\x01\0\x02\0\0\0\x03\0\0\0\0\x03\0\0\x18\0\0\0\x29\0\x02\0\0\0\x01\0\x01\0\x02\0\x03\0\0\0\x28";
+    /// # let chunk = dcsctp::Chunk::at(&bytes, 12).unwrap();
+    /// let tsns: Vec<u32> = chunk.sack().unwrap().duplicate_tsns().collect();
+    /// assert_eq!(tsns, [40]);
+    /// ```
     #[doc(alias = "dcsctp_duplicate_tsn")]
     DuplicateTsns, chunk: Chunk<'a>, u32, dcsctp_duplicate_tsn
 }
 indexed! {
     /// The streams of a [`ForwardTsn`] (RFC 3758 section 3.2, RFC 8260 section 2.3.1).
+    ///
+    /// ```
+    /// # let bytes = *b"\0\x01\0\x02\0\0\0\x03\0\0\0\0\xc0\0\0\x0c\0\0\0\x29\0\x02\0\x03";
+    /// # let chunk = dcsctp::Chunk::at(&bytes, 12).unwrap();
+    /// let mut streams = chunk.forward_tsn().unwrap().skipped_streams();
+    /// assert_eq!(streams.next_back().unwrap().stream, 2);
+    /// ```
     #[doc(alias = "dcsctp_skipped_stream")]
     SkippedStreams, chunk: Chunk<'a>, SkippedStream, dcsctp_skipped_stream
 }

@@ -4,7 +4,17 @@ use core::error::Error;
 use core::fmt;
 
 /// Why bytes are no packet.
+///
+/// ```
+/// use dcsctp::{Fault, FaultKind, UnknownNumber};
+///
+/// let fault = Fault { kind: FaultKind::Checksum, offset: 8 };
+/// assert_eq!(FaultKind::from(fault).to_string(), "wrong checksum");
+/// assert_eq!(FaultKind::try_from(fault.kind.code()), Ok(FaultKind::Checksum));
+/// assert_eq!(FaultKind::try_from(0), Err(UnknownNumber(0)));
+/// ```
 #[derive(Clone, Copy, PartialEq, Eq, Hash, Debug)]
+#[non_exhaustive]
 pub enum FaultKind {
     /// They are fewer than 16, a header and an empty chunk, or more than 65,535 (RFC 9260 section
     /// 3).
@@ -22,6 +32,10 @@ pub enum FaultKind {
 
 impl FaultKind {
     /// Returns the number that the C API has for it: 1 to 5.
+    ///
+    /// ```
+    /// assert_eq!(dcsctp::FaultKind::Length.code(), 3);
+    /// ```
     #[must_use]
     pub const fn code(self) -> u32 {
         match self {
@@ -35,18 +49,14 @@ impl FaultKind {
 
     /// The kind of a code that a check returned; none for 0.
     pub(crate) fn of(code: u32) -> Option<Self> {
-        match code {
-            0 => None,
-            1 => Some(Self::Size),
-            2 => Some(Self::Checksum),
-            3 => Some(Self::Length),
-            4 => Some(Self::Value),
-            5 => Some(Self::Padding),
-            _ => unreachable!("a check returns 0 to 5"),
-        }
+        (code != 0).then(|| Self::try_from(code).expect("a check returns 0 to 5"))
     }
 
     /// Returns what it is, in a few words.
+    ///
+    /// ```
+    /// assert_eq!(dcsctp::FaultKind::Padding.text(), "wrong padding");
+    /// ```
     #[must_use]
     pub const fn text(self) -> &'static str {
         match self {
@@ -67,9 +77,39 @@ impl fmt::Display for FaultKind {
 
 impl Error for FaultKind {}
 
+impl TryFrom<u32> for FaultKind {
+    type Error = UnknownNumber;
+
+    /// Returns the kind of a [`code`](Self::code).
+    fn try_from(code: u32) -> Result<Self, UnknownNumber> {
+        Ok(match code {
+            1 => Self::Size,
+            2 => Self::Checksum,
+            3 => Self::Length,
+            4 => Self::Value,
+            5 => Self::Padding,
+            _ => return Err(UnknownNumber(code)),
+        })
+    }
+}
+
+impl From<Fault> for FaultKind {
+    fn from(fault: Fault) -> Self {
+        fault.kind
+    }
+}
+
 /// The first fault of bytes that are no packet, from the left: what it is, and where.
 ///
 /// The size is checked first, then the checksum, then the chunks.
+///
+/// ```
+/// use dcsctp::{Fault, FaultKind, Packet};
+///
+/// let fault = Packet::parse(&[0; 4]).unwrap_err();
+/// assert_eq!(fault, Fault { kind: FaultKind::Size, offset: 4 });
+/// assert_eq!(fault.to_string(), "not the size of a packet at byte 4");
+/// ```
 #[derive(Clone, Copy, PartialEq, Eq, Hash, Debug)]
 pub struct Fault {
     /// What is wrong.
@@ -90,7 +130,17 @@ impl fmt::Display for Fault {
 impl Error for Fault {}
 
 /// Why a packet wasn't written as text, or in its canonical form.
+///
+/// ```
+/// # let bytes = *b"\x13\x88\x13\x88\x4d\x2d\xf5\x2d\x67\xdb\x78\xb5\x0b\0\0\x04";
+/// # let packet = dcsctp::Packet::parse(&bytes)?;
+/// let error = packet.write_canonical(&mut [0; 3]).unwrap_err();
+/// assert_eq!(error, dcsctp::OutputError::NoRoom { needed: 16 });
+/// assert_eq!(error.to_string(), "no room: 16 bytes are needed");
+/// # Ok::<(), dcsctp::Fault>(())
+/// ```
 #[derive(Clone, Copy, PartialEq, Eq, Hash, Debug)]
+#[non_exhaustive]
 pub enum OutputError {
     /// An allocation failed.
     OutOfMemory,
@@ -116,7 +166,17 @@ impl fmt::Display for OutputError {
 impl Error for OutputError {}
 
 /// Why nothing was written into a packet.
+///
+/// ```
+/// use dcsctp::{PacketBuilder, WriteError};
+///
+/// let mut buffer = [0; 12];
+/// let mut packet = PacketBuilder::begin(&mut buffer, 5000, 5001, 7)?;
+/// assert_eq!(packet.cookie_ack().unwrap_err(), WriteError::NoRoom);
+/// # Ok::<(), WriteError>(())
+/// ```
 #[derive(Clone, Copy, PartialEq, Eq, Hash, Debug)]
+#[non_exhaustive]
 pub enum WriteError {
     /// With it the packet would have more bytes than the buffer, or than 65,532.
     NoRoom,
@@ -131,14 +191,15 @@ impl WriteError {
     pub(crate) fn check(code: u32) -> Result<(), Self> {
         match code {
             0 => Ok(()),
-            7 => Err(Self::NoRoom),
-            9 => Err(Self::BadValue),
-            10 => Err(Self::BadPlace),
-            _ => unreachable!("a function that writes returns 0, 7, 9 or 10"),
+            _ => Err(code.try_into().expect("a function that writes returns 0, 7, 9 or 10")),
         }
     }
 
     /// Returns the number that the C API has for it: 7, 9 or 10.
+    ///
+    /// ```
+    /// assert_eq!(dcsctp::WriteError::BadPlace.code(), 10);
+    /// ```
     #[must_use]
     pub const fn code(self) -> u32 {
         match self {
@@ -149,6 +210,10 @@ impl WriteError {
     }
 
     /// Returns what it is, in a few words.
+    ///
+    /// ```
+    /// assert_eq!(dcsctp::WriteError::NoRoom.text(), "no room");
+    /// ```
     #[must_use]
     pub const fn text(self) -> &'static str {
         match self {
@@ -166,3 +231,35 @@ impl fmt::Display for WriteError {
 }
 
 impl Error for WriteError {}
+
+impl TryFrom<u32> for WriteError {
+    type Error = UnknownNumber;
+
+    /// Returns the error of a [`code`](Self::code).
+    fn try_from(code: u32) -> Result<Self, UnknownNumber> {
+        Ok(match code {
+            7 => Self::NoRoom,
+            9 => Self::BadValue,
+            10 => Self::BadPlace,
+            _ => return Err(UnknownNumber(code)),
+        })
+    }
+}
+
+/// A number that has no name: what the conversions from `u32` return.
+///
+/// ```
+/// use dcsctp::{ReConfigResult, UnknownNumber};
+///
+/// assert_eq!(ReConfigResult::try_from(7), Err(UnknownNumber(7)));
+/// ```
+#[derive(Clone, Copy, PartialEq, Eq, Hash, Debug)]
+pub struct UnknownNumber(pub u32);
+
+impl fmt::Display for UnknownNumber {
+    fn fmt(&self, f: &mut fmt::Formatter<'_>) -> fmt::Result {
+        write!(f, "unknown number {}", self.0)
+    }
+}
+
+impl Error for UnknownNumber {}

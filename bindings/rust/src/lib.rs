@@ -9,9 +9,12 @@ extern crate std;
 
 mod builder;
 mod chunk;
+mod debug;
 mod error;
 mod ffi;
 mod list;
+#[cfg(feature = "alloc")]
+mod owned;
 mod packet;
 #[cfg(feature = "processor-crc32c")]
 pub mod processor;
@@ -24,8 +27,10 @@ pub use chunk::{
     Chunk, Chunks, Content, DuplicateTsns, FIRST_CHUNK, ForwardTsn, GapAckBlocks, Sack,
     SkippedStreams, TAG_REFLECTED,
 };
-pub use error::{Fault, FaultKind, OutputError, WriteError};
+pub use error::{Fault, FaultKind, OutputError, UnknownNumber, WriteError};
 pub use list::{Cause, Causes, MissingParameters, Parameter, Parameters, ResetStreams};
+#[cfg(feature = "alloc")]
+pub use owned::OwnedChunk;
 pub use packet::{Packet, check, clean_blocks, first_fault, seal, set_tag, word};
 pub use types::{CauseCode, ChunkType, ParameterType};
 pub use values::{
@@ -37,6 +42,11 @@ pub const VERSION: &str = env!("CARGO_PKG_VERSION");
 
 /// Returns the library's version as a number: the major one times 65,536, the minor one times 256,
 /// and the patch.
+///
+/// ```
+/// // 0.1.0
+/// assert_eq!(dcsctp::version_number(), 0x0100);
+/// ```
 #[doc(alias = "dcsctp_version_number")]
 #[must_use]
 pub fn version_number() -> u32 {

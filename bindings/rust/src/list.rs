@@ -1,6 +1,7 @@
 //! Parameters and error causes, where they lie.
 
-use crate::chunk::{Chunk, indexed, part, read};
+use crate::chunk::{Chunk, indexed, part, read, same_bytes};
+use crate::debug::list_of_items;
 use crate::ffi;
 use crate::types::{CauseCode, ChunkType, ParameterType};
 use crate::values::{NextTsns, ReConfig, ReConfigResult};
@@ -8,13 +9,25 @@ use core::iter::FusedIterator;
 use core::ops::Range;
 
 /// A parameter or an error cause, where it lies in a packet's bytes.
-#[derive(Clone, Copy, PartialEq, Eq, Debug)]
+#[derive(Clone, Copy)]
 pub(crate) struct Item<'a> {
     bytes: &'a [u8],
     raw: ffi::Parameter,
 }
 
+/// The size of the header of a parameter (RFC 9260 section 3.2.1) or an error cause (section
+/// 3.3.10).
+const ITEM_HEADER: usize = 4;
+
 impl<'a> Item<'a> {
+    const fn offset(&self) -> usize {
+        self.raw.value_offset - ITEM_HEADER
+    }
+
+    fn as_bytes(&self) -> &'a [u8] {
+        part(self.bytes, self.offset(), ITEM_HEADER + self.raw.value_size)
+    }
+
     fn value(&self) -> &'a [u8] {
         part(self.bytes, self.raw.value_offset, self.raw.value_size)
     }
@@ -32,8 +45,11 @@ impl<'a> Item<'a> {
     }
 }
 
+// The type and the value: the length between them is that of the value.
+same_bytes!(Item);
+
 /// The items of a chunk's list.
-#[derive(Clone, Debug)]
+#[derive(Clone)]
 struct Items<'a> {
     chunk: Chunk<'a>,
     next: usize,
@@ -64,9 +80,18 @@ const fn has_causes(chunk: &Chunk) -> bool {
 }
 
 /// The parameters of a chunk (RFC 9260 section 3.2.1), up to where no whole one is.
+///
+/// ```
+/// # let bytes = *b"\0\x01\0\x02\0\0\0\x03\0\0\0\0\x04\0\0\x0c\0\x01\0\x08info";
+/// # let chunk = dcsctp::Chunk::at(&bytes, 12).unwrap();
+/// let values: Vec<&[u8]> = chunk.parameters().map(|it| it.value()).collect();
+/// assert_eq!(values, [b"info"]);
+/// ```
 #[doc(alias = "dcsctp_parameter_at")]
-#[derive(Clone, Debug)]
+#[derive(Clone)]
 pub struct Parameters<'a>(Items<'a>);
+
+list_of_items!(Parameters);
 
 impl<'a> Parameters<'a> {
     pub(crate) fn of(chunk: Chunk<'a>) -> Self {
@@ -85,9 +110,17 @@ impl<'a> Iterator for Parameters<'a> {
 impl FusedIterator for Parameters<'_> {}
 
 /// The error causes of a chunk (RFC 9260 section 3.3.10), up to where no whole one is.
+///
+/// ```
+/// # let bytes = *b"\0\x01\0\x02\0\0\0\x03\0\0\0\0\x09\0\0\x1c\0\x09\0\x08\0\0\0\x29\0\x02\0\x0a\0\0\0\x01\0\x07\0\0\0\x04\0\x04";
+/// # let chunk = dcsctp::Chunk::at(&bytes, 12).unwrap();
+/// assert!(chunk.causes().map(|it| it.code().0).eq([9, 2, 4]));
+/// ```
 #[doc(alias = "dcsctp_parameter_at")]
-#[derive(Clone, Debug)]
+#[derive(Clone)]
 pub struct Causes<'a>(Items<'a>);
+
+list_of_items!(Causes);
 
 impl<'a> Causes<'a> {
     pub(crate) fn of(chunk: Chunk<'a>) -> Self {
@@ -106,11 +139,28 @@ impl<'a> Iterator for Causes<'a> {
 impl FusedIterator for Causes<'_> {}
 
 /// A parameter (RFC 9260 section 3.2.1), where it lies in a packet's bytes.
-#[derive(Clone, Copy, PartialEq, Eq, Debug)]
+///
+/// `==` and [`Hash`] are of the type and the value: where the parameter lies, in which packet, and
+/// its padding don't matter.
+///
+/// ```
+/// # let bytes = *b"\0\x01\0\x02\0\0\0\x03\0\0\0\0\x04\0\0\x0c\0\x01\0\x08info";
+/// # let chunk = dcsctp::Chunk::at(&bytes, 12).unwrap();
+/// let info = chunk.parameters().next().unwrap();
+/// assert_eq!(info.parameter_type(), dcsctp::ParameterType::HEARTBEAT_INFO);
+/// assert_eq!(info.value(), b"info");
+/// ```
+#[derive(Clone, Copy, PartialEq, Eq, Hash)]
 pub struct Parameter<'a>(Item<'a>);
 
 impl<'a> Parameter<'a> {
     /// Returns the type (RFC 9260 section 3.2.1).
+    ///
+    /// ```
+    /// # let bytes = *b"\0\x01\0\x02\0\0\0\x03\0\0\0\0\x04\0\0\x0c\0\x01\0\x08info";
+    /// # let chunk = dcsctp::Chunk::at(&bytes, 12).unwrap();
+    /// assert_eq!(chunk.parameters().next().unwrap().parameter_type().name(), "Heartbeat Info");
+    /// ```
     #[must_use]
     pub const fn parameter_type(&self) -> ParameterType {
         ParameterType(self.0.raw.r#type)
@@ -118,13 +168,73 @@ impl<'a> Parameter<'a> {
 
     /// Returns the value, without padding (RFC 9260 section 3.2.1): of a State Cookie the cookie,
     /// of a Heartbeat Info the info, of Supported Extensions a type of chunk in each byte.
+    ///
+    /// ```
+    /// # let bytes = *b"\0\x01\0\x02\0\0\0\x03\0\0\0\0\x04\0\0\x0c\0\x01\0\x08info";
+    /// # let chunk = dcsctp::Chunk::at(&bytes, 12).unwrap();
+    /// assert_eq!(chunk.parameters().next().unwrap().value(), b"info");
+    /// ```
     #[must_use]
     pub fn value(&self) -> &'a [u8] {
         self.0.value()
     }
 
+    /// Returns the header and the value, without padding (RFC 9260 section 3.2.1): what an
+    /// Unrecognized Parameter (section 3.3.3.1.2) and the cause Unrecognized Parameters (section
+    /// 3.3.10.8) have to hold.
+    ///
+    /// ```
+    /// use dcsctp::{ChunkBuilder, ParameterType, Parameters, WriteError};
+    ///
+    /// /// Adds what the INIT ACK says of the parameters of an INIT that aren't known: the second
+    /// /// bit of a type is whether to report it (RFC 9260 section 3.2.1).
+    /// fn report(parameters: Parameters, init_ack: &mut ChunkBuilder) -> Result<(), WriteError> {
+    ///     for it in parameters {
+    ///         if !it.parameter_type().is_known() && it.parameter_type().0 & 0x4000 != 0 {
+    ///             init_ack.parameter(ParameterType::UNRECOGNIZED_PARAMETER, it.as_bytes())?;
+    ///         }
+    ///     }
+    ///     Ok(())
+    /// }
+    /// # let mut buffer = [0; 100];
+    /// # let mut packet = dcsctp::PacketBuilder::begin(&mut buffer, 1, 2, 3)?;
+    /// # packet.chunk(dcsctp::ChunkType::INIT, 0, &[0; 16])?.parameter(ParameterType(0xc00f), b"a")?;
+    /// # let init = *packet.as_bytes().first_chunk::<40>().unwrap();
+    /// # let init = dcsctp::Chunk::at(&init, 12).unwrap();
+    /// # let mut packet = dcsctp::PacketBuilder::begin(&mut buffer, 1, 2, 3)?;
+    /// # report(init.parameters(), &mut packet.init_ack(&dcsctp::Init::default())?)?;
+    /// # assert_eq!(packet.as_bytes()[32..], *b"\0\x08\0\x09\xc0\x0f\0\x05a\0\0\0");
+    /// # Ok::<(), WriteError>(())
+    /// ```
+    #[must_use]
+    pub fn as_bytes(&self) -> &'a [u8] {
+        self.0.as_bytes()
+    }
+
+    /// Returns where the parameter begins in the packet's bytes.
+    ///
+    /// ```
+    /// use dcsctp::Chunk;
+    ///
+    /// // A HEARTBEAT behind the common header, with its Heartbeat Info behind its own.
+    /// let bytes = *b"\0\x01\0\x02\0\0\0\x03\0\0\0\0\x04\0\0\x0c\0\x01\0\x08info";
+    /// let info = Chunk::at(&bytes, 12).unwrap().parameters().next().unwrap();
+    /// assert_eq!((info.offset(), info.value()), (16, &b"info"[..]));
+    /// ```
+    #[must_use]
+    pub const fn offset(&self) -> usize {
+        self.0.offset()
+    }
+
     /// Returns a value that is one number of four bytes: the method of Zero Checksum Acceptable (RFC
     /// 9653 section 4). Any value of four bytes is read so: look at the type first.
+    ///
+    /// ```
+    /// # let bytes = *b"\0\x01\0\x02\0\0\0\x03\0\0\0\0\x01\0\0\x1c\0\0\0\x09\0\x02\0\0\0\x04\0\x05\0\0\0\x29\x80\x01\0\x08\0\0\0\x01";
+    /// # let chunk = dcsctp::Chunk::at(&bytes, 12).unwrap();
+    /// // Zero Checksum Acceptable: the method 1 is SCTP over DTLS.
+    /// assert_eq!(chunk.parameters().next().unwrap().number(), Some(1));
+    /// ```
     #[doc(alias = "dcsctp_number")]
     #[must_use]
     pub fn number(&self) -> Option<u32> {
@@ -132,6 +242,17 @@ impl<'a> Parameter<'a> {
     }
 
     /// Returns the request or the response of RE-CONFIG (RFC 6525 section 4) that the parameter is.
+    ///
+    /// ```
+    /// use dcsctp::ReConfig;
+    ///
+    /// # let bytes = *b"\0\x01\0\x02\0\0\0\x03\0\0\0\0\x82\0\0\x0e\0\x0e\0\x0a\0\0\0\x01\0\x02\0\0";
+    /// # let chunk = dcsctp::Chunk::at(&bytes, 12).unwrap();
+    /// match chunk.parameters().next().unwrap().re_config() {
+    ///     Some(ReConfig::IncomingSsnReset { request_number: 1, streams }) => assert!(streams.eq([2])),
+    ///     other => panic!("{other:?}"),
+    /// }
+    /// ```
     #[doc(alias = "dcsctp_re_config")]
     #[must_use]
     pub fn re_config(&self) -> Option<ReConfig<ResetStreams<'a>>> {
@@ -169,11 +290,27 @@ impl<'a> Parameter<'a> {
 }
 
 /// An error cause (RFC 9260 section 3.3.10), where it lies in a packet's bytes.
-#[derive(Clone, Copy, PartialEq, Eq, Debug)]
+///
+/// `==` and [`Hash`] are of the code and the value: where the cause lies, in which packet, and its
+/// padding don't matter.
+///
+/// ```
+/// # let bytes = *b"\0\x01\0\x02\0\0\0\x03\0\0\0\0\x09\0\0\x1c\0\x09\0\x08\0\0\0\x29\0\x02\0\x0a\0\0\0\x01\0\x07\0\0\0\x04\0\x04";
+/// # let chunk = dcsctp::Chunk::at(&bytes, 12).unwrap();
+/// let cause = chunk.causes().last().unwrap();
+/// assert_eq!((cause.code().name(), cause.value()), ("Out of Resource", &b""[..]));
+/// ```
+#[derive(Clone, Copy, PartialEq, Eq, Hash)]
 pub struct Cause<'a>(Item<'a>);
 
 impl<'a> Cause<'a> {
     /// Returns the code (RFC 9260 section 3.3.10).
+    ///
+    /// ```
+    /// # let bytes = *b"\0\x01\0\x02\0\0\0\x03\0\0\0\0\x09\0\0\x1c\0\x09\0\x08\0\0\0\x29\0\x02\0\x0a\0\0\0\x01\0\x07\0\0\0\x04\0\x04";
+    /// # let chunk = dcsctp::Chunk::at(&bytes, 12).unwrap();
+    /// assert_eq!(chunk.causes().next().unwrap().code(), dcsctp::CauseCode::NO_USER_DATA);
+    /// ```
     #[must_use]
     pub const fn code(&self) -> CauseCode {
         CauseCode(self.0.raw.r#type)
@@ -181,13 +318,53 @@ impl<'a> Cause<'a> {
 
     /// Returns the value, without padding (RFC 9260 section 3.3.10): of User-Initiated Abort and
     /// Protocol Violation a text, which need not be UTF-8, of Unrecognized Chunk Type the chunk.
+    ///
+    /// ```
+    /// # let bytes = *b"\0\x01\0\x02\0\0\0\x03\0\0\0\0\x09\0\0\x1c\0\x09\0\x08\0\0\0\x29\0\x02\0\x0a\0\0\0\x01\0\x07\0\0\0\x04\0\x04";
+    /// # let chunk = dcsctp::Chunk::at(&bytes, 12).unwrap();
+    /// assert_eq!(chunk.causes().next().unwrap().value(), [0, 0, 0, 41]);
+    /// ```
     #[must_use]
     pub fn value(&self) -> &'a [u8] {
         self.0.value()
     }
 
+    /// Returns the header and the value, without padding (RFC 9260 section 3.3.10).
+    ///
+    /// ```
+    /// use dcsctp::Chunk;
+    ///
+    /// // An ERROR behind the common header: Invalid Mandatory Parameter, and Out of Resource.
+    /// let bytes = *b"\0\x01\0\x02\0\0\0\x03\0\0\0\0\x09\0\0\x0c\0\x07\0\x04\0\x04\0\x04";
+    /// let mut causes = Chunk::at(&bytes, 12).unwrap().causes();
+    /// assert!(causes.clone().map(|it| it.offset()).eq([16, 20]));
+    /// assert_eq!(causes.next().unwrap().as_bytes(), [0, 7, 0, 4]);
+    /// ```
+    #[must_use]
+    pub fn as_bytes(&self) -> &'a [u8] {
+        self.0.as_bytes()
+    }
+
+    /// Returns where the cause begins in the packet's bytes.
+    ///
+    /// ```
+    /// # let bytes = *b"\0\x01\0\x02\0\0\0\x03\0\0\0\0\x09\0\0\x1c\0\x09\0\x08\0\0\0\x29\0\x02\0\x0a\0\0\0\x01\0\x07\0\0\0\x04\0\x04";
+    /// # let chunk = dcsctp::Chunk::at(&bytes, 12).unwrap();
+    /// assert!(chunk.causes().map(|it| it.offset()).eq([16, 24, 36]));
+    /// ```
+    #[must_use]
+    pub const fn offset(&self) -> usize {
+        self.0.offset()
+    }
+
     /// Returns a value that is one number of four bytes: the TSN of No User Data (RFC 9260 section
     /// 3.3.10.9). Any value of four bytes is read so: look at the code first.
+    ///
+    /// ```
+    /// # let bytes = *b"\0\x01\0\x02\0\0\0\x03\0\0\0\0\x09\0\0\x1c\0\x09\0\x08\0\0\0\x29\0\x02\0\x0a\0\0\0\x01\0\x07\0\0\0\x04\0\x04";
+    /// # let chunk = dcsctp::Chunk::at(&bytes, 12).unwrap();
+    /// assert_eq!(chunk.causes().next().unwrap().number(), Some(41));
+    /// ```
     #[doc(alias = "dcsctp_number")]
     #[must_use]
     pub fn number(&self) -> Option<u32> {
@@ -196,6 +373,13 @@ impl<'a> Cause<'a> {
 
     /// Returns the types of the cause Missing Mandatory Parameter (RFC 9260 section 3.3.10.2);
     /// other causes have none.
+    ///
+    /// ```
+    /// # let bytes = *b"\0\x01\0\x02\0\0\0\x03\0\0\0\0\x09\0\0\x1c\0\x09\0\x08\0\0\0\x29\0\x02\0\x0a\0\0\0\x01\0\x07\0\0\0\x04\0\x04";
+    /// # let chunk = dcsctp::Chunk::at(&bytes, 12).unwrap();
+    /// let missing = chunk.causes().nth(1).unwrap().missing_parameters();
+    /// assert!(missing.eq([dcsctp::ParameterType::STATE_COOKIE]));
+    /// ```
     #[must_use]
     pub const fn missing_parameters(&self) -> MissingParameters<'a> {
         MissingParameters { cause: self.0, next: Some(0) }
@@ -205,17 +389,36 @@ impl<'a> Cause<'a> {
 indexed! {
     /// The streams of an Outgoing SSN Reset Request (RFC 6525 section 4.1) or an Incoming one
     /// (section 4.2). Where there is none, the request is for all streams.
+    ///
+    /// ```
+    /// use dcsctp::ReConfig;
+    ///
+    /// # let bytes = *b"\0\x01\0\x02\0\0\0\x03\0\0\0\0\x82\0\0\x0e\0\x0e\0\x0a\0\0\0\x01\0\x02\0\0";
+    /// # let chunk = dcsctp::Chunk::at(&bytes, 12).unwrap();
+    /// let request = chunk.parameters().next().unwrap().re_config().unwrap();
+    /// let request = request.map_streams(|streams| streams.collect::<Vec<u16>>());
+    /// assert_eq!(request, ReConfig::IncomingSsnReset { request_number: 1, streams: vec![2] });
+    /// ```
     #[doc(alias = "dcsctp_reset_stream")]
     ResetStreams, parameter: Item<'a>, u16, dcsctp_reset_stream
 }
 
 /// The types of a cause Missing Mandatory Parameter (RFC 9260 section 3.3.10.2).
+///
+/// ```
+/// # let bytes = *b"\0\x01\0\x02\0\0\0\x03\0\0\0\0\x09\0\0\x1c\0\x09\0\x08\0\0\0\x29\0\x02\0\x0a\0\0\0\x01\0\x07\0\0\0\x04\0\x04";
+/// # let chunk = dcsctp::Chunk::at(&bytes, 12).unwrap();
+/// let mut missing = chunk.causes().nth(1).unwrap().missing_parameters();
+/// assert_eq!(missing.next().unwrap().name(), "State Cookie");
+/// ```
 #[doc(alias = "dcsctp_missing_parameter")]
-#[derive(Clone, Debug)]
+#[derive(Clone)]
 pub struct MissingParameters<'a> {
     cause: Item<'a>,
     next: Option<usize>,
 }
+
+list_of_items!(MissingParameters);
 
 impl Iterator for MissingParameters<'_> {
     type Item = ParameterType;

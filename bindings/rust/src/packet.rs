@@ -1,6 +1,6 @@
 //! Whole packets.
 
-use crate::chunk::Chunks;
+use crate::chunk::{Chunk, Chunks, same_bytes};
 use crate::error::{Fault, FaultKind, OutputError, WriteError};
 use crate::ffi;
 use crate::values::{GapAckBlock, Header, Policy};
@@ -28,6 +28,16 @@ pub fn word(bytes: &[u8]) -> u32 {
 /// Checks whether bytes are a packet (RFC 9260 section 3). `word` is what the checksum field has to
 /// be: [`word(bytes)`](word).
 ///
+/// ```
+/// use dcsctp::{FaultKind, Policy};
+///
+/// let mut bytes = *b"\x13\x88\x13\x88\x4d\x2d\xf5\x2d\x67\xdb\x78\xb5\x0b\0\0\x04";
+/// assert_eq!(dcsctp::check(&bytes, dcsctp::word(&bytes), Policy::new()), Ok(()));
+/// bytes[0] ^= 1;
+/// let checked = dcsctp::check(&bytes, dcsctp::word(&bytes), Policy::new());
+/// assert_eq!(checked, Err(FaultKind::Checksum));
+/// ```
+///
 /// # Errors
 /// The kind of the first fault; [`first_fault`] says where it is.
 #[doc(alias = "dcsctp_check")]
@@ -44,7 +54,7 @@ pub fn check(bytes: &[u8], word: u32, policy: Policy) -> Result<(), FaultKind> {
 /// ```
 /// use dcsctp::{Fault, FaultKind, Policy};
 ///
-/// let policy = Policy { any_checksum: true, ..Policy::default() };
+/// let policy = Policy::new().with_any_checksum(true);
 /// // A COOKIE ACK, and a chunk with a length of 3.
 /// let bytes = *b"\x13\x88\x13\x88\0\0\0\x01\0\0\0\0\x0b\0\0\x04\x0b\0\0\x03";
 /// let fault = dcsctp::first_fault(&bytes, 0, policy);
@@ -63,6 +73,13 @@ pub fn first_fault(bytes: &[u8], word: u32, policy: Policy) -> Option<Fault> {
 
 /// Writes the CRC32c into the checksum field of a packet (RFC 9260 section 6.8); all other bytes
 /// stay.
+///
+/// ```
+/// let mut bytes = *b"\x13\x88\x13\x88\x4d\x2d\xf5\x2d\0\0\0\0\x0b\0\0\x04";
+/// dcsctp::seal(&mut bytes)?;
+/// assert_eq!(bytes[8..12], [0x67, 0xdb, 0x78, 0xb5]);
+/// # Ok::<(), dcsctp::WriteError>(())
+/// ```
 ///
 /// # Errors
 /// [`WriteError::BadPlace`], and nothing changes, for fewer than 12 bytes.
@@ -117,6 +134,15 @@ pub fn clean_blocks(blocks: &mut [GapAckBlock]) -> &mut [GapAckBlock] {
 
 impl Header {
     /// Reads the common header (RFC 9260 section 3.1) of any bytes; none of fewer than 12.
+    ///
+    /// ```
+    /// use dcsctp::Header;
+    ///
+    /// let header = Header::read(b"\x13\x88\x13\x89\0\0\0\x07\0\0\0\x09").unwrap();
+    /// assert_eq!((header.source_port, header.destination_port), (5000, 5001));
+    /// assert_eq!((header.verification_tag, header.checksum), (7, 9));
+    /// assert_eq!(Header::read(&[0; 11]), None);
+    /// ```
     #[doc(alias = "dcsctp_header")]
     #[must_use]
     pub fn read(bytes: &[u8]) -> Option<Self> {
@@ -132,7 +158,8 @@ impl Header {
 /// cookie; ports, initiate tags and numbers of streams may be 0, payloads empty, and gap ack blocks
 /// in any order ([`Sack::is_valid`](crate::Sack::is_valid)).
 ///
-/// `==` compares bytes; two packets mean the same if and only if their canonical forms are equal.
+/// `==` and [`Hash`] are of the bytes alone, whatever the policy that they were checked under. Two
+/// packets mean the same if and only if their canonical forms are equal.
 ///
 /// ```
 /// use dcsctp::{ChunkType, Packet};
@@ -143,12 +170,14 @@ impl Header {
 /// assert!(packet.chunks().map(|chunk| chunk.chunk_type()).eq([ChunkType::COOKIE_ACK]));
 /// # Ok::<(), dcsctp::Fault>(())
 /// ```
-#[derive(Clone, Copy, PartialEq, Eq, Hash, Debug)]
+#[derive(Clone, Copy)]
 pub struct Packet<'a> {
     bytes: &'a [u8],
     word: u32,
     policy: Policy,
 }
+
+same_bytes!(Packet);
 
 /// The type of the functions that write what a packet holds.
 type Write =
@@ -156,6 +185,12 @@ type Write =
 
 impl<'a> Packet<'a> {
     /// Checks bytes whose checksum has to be their CRC32c; padding is ignored.
+    ///
+    /// ```
+    /// let bytes = *b"\x13\x88\x13\x88\x4d\x2d\xf5\x2d\x67\xdb\x78\xb5\x0b\0\0\x04";
+    /// assert!(dcsctp::Packet::parse(&bytes).is_ok());
+    /// assert_eq!(dcsctp::Packet::parse(&bytes[..15]).unwrap_err().offset, 15);
+    /// ```
     ///
     /// # Errors
     /// The first fault.
@@ -169,7 +204,7 @@ impl<'a> Packet<'a> {
     /// ```
     /// use dcsctp::{Fault, FaultKind, Packet, Policy};
     ///
-    /// let zero = Policy { zero_checksum: true, ..Policy::default() };
+    /// let zero = Policy::new().with_zero_checksum(true);
     /// let bytes = *b"\x13\x88\x13\x88\0\0\0\x01\0\0\0\0\x0b\0\0\x04";
     /// assert!(Packet::parse_with(&bytes, dcsctp::word(&bytes), zero).is_ok());
     /// let fault = Fault { kind: FaultKind::Checksum, offset: 8 };
@@ -185,18 +220,45 @@ impl<'a> Packet<'a> {
     }
 
     /// Returns the bytes.
+    ///
+    /// ```
+    /// # let bytes = *b"\x13\x88\x13\x88\x4d\x2d\xf5\x2d\x67\xdb\x78\xb5\x0b\0\0\x04";
+    /// # let packet = dcsctp::Packet::parse(&bytes)?;
+    /// assert_eq!(packet.as_bytes(), bytes);
+    /// # Ok::<(), dcsctp::Fault>(())
+    /// ```
     #[must_use]
     pub const fn as_bytes(&self) -> &'a [u8] {
         self.bytes
     }
 
     /// Returns the common header (RFC 9260 section 3.1).
+    ///
+    /// ```
+    /// # let bytes = *b"\x13\x88\x13\x88\x4d\x2d\xf5\x2d\x67\xdb\x78\xb5\x0b\0\0\x04";
+    /// # let packet = dcsctp::Packet::parse(&bytes)?;
+    /// let header = packet.header();
+    /// assert_eq!((header.source_port, header.destination_port), (5000, 5000));
+    /// assert_eq!(header.checksum, dcsctp::word(&bytes));
+    /// # Ok::<(), dcsctp::Fault>(())
+    /// ```
     #[must_use]
     pub fn header(&self) -> Header {
         Header::read(self.bytes).unwrap_or_default()
     }
 
-    /// Returns the chunks (RFC 9260 section 3.2), of which there is one at least.
+    /// Returns the chunks (RFC 9260 section 3.2), of which there is one at least; `for chunk in
+    /// &packet` does too.
+    ///
+    /// ```
+    /// # fn see(packet: dcsctp::Packet) {
+    /// for chunk in &packet {
+    ///     println!("{} at byte {}", chunk.chunk_type(), chunk.offset());
+    /// }
+    /// # }
+    /// # see(dcsctp::Packet::parse(b"\x13\x88\x13\x88\x4d\x2d\xf5\x2d\x67\xdb\x78\xb5\x0b\0\0\x04")?);
+    /// # Ok::<(), dcsctp::Fault>(())
+    /// ```
     #[must_use]
     pub fn chunks(&self) -> Chunks<'a> {
         Chunks::of(self.bytes)
@@ -205,6 +267,15 @@ impl<'a> Packet<'a> {
     /// Writes the canonical packet to the front of `output`, and returns it: a checksum of zero,
     /// padding of zeros, zeros in reserved bits, and else the same. Two packets have the same one
     /// if and only if they mean the same. [Seal](seal) it before you send it.
+    ///
+    /// ```
+    /// # let bytes = *b"\x13\x88\x13\x88\x4d\x2d\xf5\x2d\x67\xdb\x78\xb5\x0b\0\0\x04";
+    /// # let packet = dcsctp::Packet::parse(&bytes)?;
+    /// let mut output = [0; 100];
+    /// let canonical = packet.write_canonical(&mut output)?;
+    /// assert_eq!(canonical, b"\x13\x88\x13\x88\x4d\x2d\xf5\x2d\0\0\0\0\x0b\0\0\x04");
+    /// # Ok::<(), Box<dyn std::error::Error>>(())
+    /// ```
     ///
     /// # Errors
     /// Any [`OutputError`]; `output` stays as it is.
@@ -243,6 +314,15 @@ impl<'a> Packet<'a> {
     /// prints it: each line ends in a line feed, and what is inside of something is two blanks
     /// deeper.
     ///
+    /// ```
+    /// # let bytes = *b"\x13\x88\x13\x88\x4d\x2d\xf5\x2d\x67\xdb\x78\xb5\x0b\0\0\x04";
+    /// # let packet = dcsctp::Packet::parse(&bytes)?;
+    /// let mut output = [0; 1000];
+    /// let report = packet.write_report(&mut output)?;
+    /// assert!(report.ends_with("\nCOOKIE ACK\n"));
+    /// # Ok::<(), Box<dyn std::error::Error>>(())
+    /// ```
+    ///
     /// # Errors
     /// [`OutputError::NoRoom`]; `output` stays as it is.
     #[doc(alias = "dcsctp_report")]
@@ -252,6 +332,15 @@ impl<'a> Packet<'a> {
     }
 
     /// Returns what [`write_canonical`](Self::write_canonical) writes.
+    ///
+    /// ```
+    /// # let bytes = *b"\x13\x88\x13\x88\x4d\x2d\xf5\x2d\x67\xdb\x78\xb5\x0b\0\0\x04";
+    /// # let packet = dcsctp::Packet::parse(&bytes)?;
+    /// let mut canonical = bytes;
+    /// canonical[8..12].fill(0);
+    /// assert_eq!(packet.to_canonical()?, canonical);
+    /// # Ok::<(), Box<dyn std::error::Error>>(())
+    /// ```
     ///
     /// # Errors
     /// [`OutputError::TooLong`] or [`OutputError::OutOfMemory`].
@@ -263,6 +352,13 @@ impl<'a> Packet<'a> {
     /// Returns what [`write_text`](Self::write_text) writes; [`Display`](core::fmt::Display) does
     /// too.
     ///
+    /// ```
+    /// # let bytes = *b"\x13\x88\x13\x88\x4d\x2d\xf5\x2d\x67\xdb\x78\xb5\x0b\0\0\x04";
+    /// # let packet = dcsctp::Packet::parse(&bytes)?;
+    /// assert!(packet.to_text()?.ends_with("\nCOOKIE-ACK"));
+    /// # Ok::<(), Box<dyn std::error::Error>>(())
+    /// ```
+    ///
     /// # Errors
     /// [`OutputError::OutOfMemory`].
     #[cfg(feature = "alloc")]
@@ -271,6 +367,13 @@ impl<'a> Packet<'a> {
     }
 
     /// Returns what [`write_report`](Self::write_report) writes.
+    ///
+    /// ```
+    /// # let bytes = *b"\x13\x88\x13\x88\x4d\x2d\xf5\x2d\x67\xdb\x78\xb5\x0b\0\0\x04";
+    /// # let packet = dcsctp::Packet::parse(&bytes)?;
+    /// assert!(packet.to_report()?.ends_with("\nCOOKIE ACK\n"));
+    /// # Ok::<(), Box<dyn std::error::Error>>(())
+    /// ```
     ///
     /// # Errors
     /// [`OutputError::OutOfMemory`].
@@ -331,6 +434,17 @@ impl<'a> TryFrom<&'a [u8]> for Packet<'a> {
     /// As [`Packet::parse`].
     fn try_from(bytes: &'a [u8]) -> Result<Self, Fault> {
         Self::parse(bytes)
+    }
+}
+
+/// As [`Packet::chunks`].
+#[allow(clippy::into_iter_without_iter)]
+impl<'a> IntoIterator for &Packet<'a> {
+    type Item = Chunk<'a>;
+    type IntoIter = Chunks<'a>;
+
+    fn into_iter(self) -> Chunks<'a> {
+        self.chunks()
     }
 }
 

@@ -23,7 +23,7 @@ use crate::error::WriteError;
 mod instruction {
     use core::arch::x86_64::{_mm_crc32_u8, _mm_crc32_u32, _mm_crc32_u64};
 
-    pub fn is_there() -> bool {
+    pub(super) fn is_there() -> bool {
         std::is_x86_feature_detected!("sse4.2")
     }
 
@@ -53,7 +53,7 @@ mod instruction {
 mod instruction {
     use core::arch::aarch64::{__crc32cb, __crc32cd, __crc32cw};
 
-    pub fn is_there() -> bool {
+    pub(super) fn is_there() -> bool {
         std::arch::is_aarch64_feature_detected!("crc")
     }
 
@@ -78,6 +78,11 @@ mod instruction {
 }
 
 /// Returns what [`crate::word`] does.
+///
+/// ```
+/// let bytes = *b"\x13\x88\x13\x88\x4d\x2d\xf5\x2d\x67\xdb\x78\xb5\x0b\0\0\x04";
+/// assert_eq!(dcsctp::processor::word(&bytes), 0x67db_78b5);
+/// ```
 #[must_use]
 pub fn word(bytes: &[u8]) -> u32 {
     match (bytes.first_chunk(), bytes.get(12..)) {
@@ -92,6 +97,13 @@ pub fn word(bytes: &[u8]) -> u32 {
 
 /// Does what [`crate::seal`] does. Of a [`PacketBuilder`](crate::PacketBuilder),
 /// [`unsealed`](crate::PacketBuilder::unsealed) returns the packet for it.
+///
+/// ```
+/// let mut bytes = *b"\x13\x88\x13\x88\x4d\x2d\xf5\x2d\0\0\0\0\x0b\0\0\x04";
+/// dcsctp::processor::seal(&mut bytes)?;
+/// assert_eq!(bytes[8..12], [0x67, 0xdb, 0x78, 0xb5]);
+/// # Ok::<(), dcsctp::WriteError>(())
+/// ```
 ///
 /// # Errors
 /// [`WriteError::BadPlace`], and nothing changes, for fewer than 12 bytes.

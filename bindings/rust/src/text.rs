@@ -1,29 +1,28 @@
-//! The proved functions, as text for the assembler of rustc. dist/README.md says what each file is.
+//! The proved functions, as text for the assembler of rustc, and which targets they aren't for.
+//! dist/README.md says what each file is. README.md has a table of targets, which dist/systems.py
+//! compares with this file.
 
 use core::arch::global_asm;
 
-/// Takes the file if the condition holds, for a system of 64 bits with the least significant byte
-/// first.
+/// Takes the file if the condition holds.
 macro_rules! text {
     ($arch:literal, $file:literal, $system:meta $(, $syntax:ident)?) => {
-        #[cfg(all(
-            target_arch = $arch,
-            target_pointer_width = "64",
-            target_endian = "little",
-            $system
-        ))]
+        #[cfg(all(target_arch = $arch, $system))]
         mod taken {
             super::global_asm!(include_str!($file), options($($syntax,)? raw));
         }
     };
 }
 
-text!(
-    "x86_64",
-    "dcsctp-x86_64-elf.s",
-    any(all(unix, not(target_vendor = "apple")), target_os = "none"),
-    att_syntax
-);
+/// Refuses the targets of the condition.
+macro_rules! refuse {
+    ($system:meta, $why:literal) => {
+        #[cfg($system)]
+        compile_error!(concat!("dcsctp has no text for this target: ", $why));
+    };
+}
+
+text!("x86_64", "dcsctp-x86_64-elf.s", all(unix, not(target_vendor = "apple")), att_syntax);
 text!("x86_64", "dcsctp-x86_64-macho.s", target_vendor = "apple", att_syntax);
 text!("x86_64", "dcsctp-x86_64-coff.s", windows, att_syntax);
 text!(
@@ -33,20 +32,34 @@ text!(
 );
 text!("aarch64", "dcsctp-aarch64-macho.s", target_vendor = "apple");
 
-#[cfg(not(any(
+refuse!(
+    not(any(target_arch = "x86_64", target_arch = "aarch64")),
+    "its processor is neither x86-64 nor arm64"
+);
+refuse!(
     all(
         target_arch = "x86_64",
-        any(unix, windows, target_os = "none"),
-        target_pointer_width = "64"
+        not(any(all(unix, not(target_os = "cygwin")), windows, target_os = "none"))
     ),
-    all(
-        target_arch = "aarch64",
-        any(unix, target_os = "none"),
-        target_pointer_width = "64",
-        target_endian = "little"
+    "its system is neither Windows, nor macOS, nor a Unix with ELF"
+);
+refuse!(
+    all(target_arch = "x86_64", any(target_os = "none", target_os = "vxworks")),
+    "that of x86-64 uses the red zone, which an interrupt overwrites here"
+);
+refuse!(
+    all(target_arch = "aarch64", not(any(unix, target_os = "none"))),
+    "its system is neither macOS nor a Unix with ELF"
+);
+refuse!(
+    any(
+        all(target_arch = "x86_64", not(target_feature = "sse2")),
+        all(target_arch = "aarch64", not(target_feature = "neon"))
     ),
-)))]
-compile_error!(concat!(
-    "dcsctp has no text for this target: it has those of x86_64 for ELF, macOS and Windows, ",
-    "and of aarch64 for ELF and macOS"
-));
+    "it has soft float, and the texts use the registers of SSE or NEON"
+);
+refuse!(not(target_pointer_width = "64"), "its pointers don't have 64 bits");
+refuse!(
+    target_endian = "big",
+    "it has the most significant byte first, and the texts are for the least significant one"
+);

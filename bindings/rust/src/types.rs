@@ -6,12 +6,12 @@ use core::fmt;
 macro_rules! named {
     (
         $(#[$about:meta])*
-        $name:ident($number:ty), $other:literal;
+        $name:ident($number:ty), $other:literal, $width:literal;
         $($(#[$section:meta])* $constant:ident = $value:literal, $text:literal;)*
     ) => {
         $(#[$about])*
         #[repr(transparent)]
-        #[derive(Clone, Copy, PartialEq, Eq, PartialOrd, Ord, Hash, Debug)]
+        #[derive(Clone, Copy, PartialEq, Eq, PartialOrd, Ord, Hash)]
         pub struct $name(pub $number);
 
         impl $name {
@@ -19,6 +19,11 @@ macro_rules! named {
 
             /// Returns the name as the RFCs write it, in ASCII; `"unknown"` for a number that has
             /// no constant here.
+            ///
+            /// ```
+            /// assert_eq!(dcsctp::CauseCode::STALE_COOKIE.name(), "Stale Cookie");
+            /// assert_eq!(dcsctp::CauseCode(99).name(), "unknown");
+            /// ```
             #[must_use]
             pub const fn name(self) -> &'static str {
                 match self.0 {
@@ -26,15 +31,49 @@ macro_rules! named {
                     _ => "unknown",
                 }
             }
+
+            /// Returns whether the number has a constant here, and so a [name](Self::name).
+            ///
+            /// ```
+            /// assert!(dcsctp::ParameterType::STATE_COOKIE.is_known());
+            /// assert!(!dcsctp::ParameterType(0x8002).is_known());
+            /// ```
+            #[must_use]
+            #[allow(clippy::manual_range_patterns)] // the numbers come one by one
+            pub const fn is_known(self) -> bool {
+                matches!(self.0, $($value)|*)
+            }
         }
 
-        /// Writes the name; for a number that has none, the number.
+        /// Writes the name; for a number that has none, the number in hexadecimal.
         impl fmt::Display for $name {
             fn fmt(&self, f: &mut fmt::Formatter<'_>) -> fmt::Result {
-                match *self {
-                    $(Self::$constant => f.pad($text),)*
-                    Self(number) => write!(f, concat!($other, " {}"), number),
+                if self.is_known() {
+                    f.pad(self.name())
+                } else {
+                    write!(f, concat!($other, " {:#0", $width, "x}"), self.0)
                 }
+            }
+        }
+
+        /// Writes the number, as of [`u8`] or [`u16`].
+        impl fmt::LowerHex for $name {
+            fn fmt(&self, f: &mut fmt::Formatter<'_>) -> fmt::Result {
+                fmt::LowerHex::fmt(&self.0, f)
+            }
+        }
+
+        /// Writes the number, as of [`u8`] or [`u16`].
+        impl fmt::UpperHex for $name {
+            fn fmt(&self, f: &mut fmt::Formatter<'_>) -> fmt::Result {
+                fmt::UpperHex::fmt(&self.0, f)
+            }
+        }
+
+        /// The same as [`Display`](fmt::Display).
+        impl fmt::Debug for $name {
+            fn fmt(&self, f: &mut fmt::Formatter<'_>) -> fmt::Result {
+                fmt::Display::fmt(self, f)
             }
         }
 
@@ -54,7 +93,17 @@ macro_rules! named {
 
 named! {
     /// A type of chunk (RFC 9260 section 3.2): any number of a byte, with names for some.
-    ChunkType(u8), "chunk type";
+    ///
+    /// ```
+    /// use dcsctp::ChunkType;
+    ///
+    /// let types = [ChunkType::SACK, ChunkType(0x4d)];
+    /// assert_eq!(types.map(|it| it.name()), ["SACK", "unknown"]);
+    /// assert_eq!(types.map(|it| it.is_known()), [true, false]);
+    /// assert_eq!(types.map(|it| it.to_string()), ["SACK", "chunk type 0x4d"]);
+    /// assert_eq!(format!("{:x} {:#04X}", types[1], types[0]), "4d 0x03");
+    /// ```
+    ChunkType(u8), "chunk type", 4;
     /// User data (RFC 9260 section 3.3.1).
     DATA = 0, "DATA";
     /// Asks for an association (RFC 9260 section 3.3.2).
@@ -93,7 +142,17 @@ named! {
 
 named! {
     /// A type of parameter (RFC 9260 section 3.2.1): any number of two bytes, with names for some.
-    ParameterType(u16), "parameter type";
+    ///
+    /// ```
+    /// use dcsctp::ParameterType;
+    ///
+    /// // RFC 4895 section 3.1: RANDOM, which has no name here.
+    /// let random = ParameterType(0x8002);
+    /// assert!(!random.is_known());
+    /// assert_eq!(random.to_string(), "parameter type 0x8002");
+    /// assert_eq!(ParameterType::STATE_COOKIE.to_string(), "State Cookie");
+    /// ```
+    ParameterType(u16), "parameter type", 6;
     /// What a HEARTBEAT has its answer return (RFC 9260 section 3.3.5).
     HEARTBEAT_INFO = 1, "Heartbeat Info";
     /// What an INIT ACK has the COOKIE ECHO return (RFC 9260 section 3.3.3.1.1).
@@ -124,7 +183,15 @@ named! {
 named! {
     /// A code of an error cause (RFC 9260 section 3.3.10): any number of two bytes, with names for
     /// some.
-    CauseCode(u16), "cause code";
+    ///
+    /// ```
+    /// use dcsctp::CauseCode;
+    ///
+    /// // RFC 4895 section 4.1: Unsupported HMAC Identifier, which has no name here.
+    /// assert_eq!(CauseCode(0x0105).to_string(), "cause code 0x0105");
+    /// assert_eq!(CauseCode::NO_USER_DATA.name(), "No User Data");
+    /// ```
+    CauseCode(u16), "cause code", 6;
     /// User data came on a stream that isn't there (RFC 9260 section 3.3.10.1).
     INVALID_STREAM_IDENTIFIER = 1, "Invalid Stream Identifier";
     /// Parameters were missing (RFC 9260 section 3.3.10.2).

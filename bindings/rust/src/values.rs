@@ -1,10 +1,28 @@
 //! What chunks hold: values that are read and written.
 
+use crate::error::UnknownNumber;
+
 /// Which checksum fields are accepted, and whether padding is checked.
 ///
 /// The default, all false, is a socket's: the field has to be the packet's CRC32c, and padding is
-/// ignored.
+/// ignored. A later version may add a field, which is false by default.
+///
+/// ```
+/// use dcsctp::Policy;
+///
+/// const FILTER: Policy = Policy::new().with_strict_padding(true);
+/// let mut policy = FILTER;
+/// policy.zero_checksum = true;
+/// assert_eq!(policy, FILTER.with_zero_checksum(true));
+/// ```
+///
+/// So it can't be written field by field:
+///
+/// ```compile_fail,E0639
+/// let policy = dcsctp::Policy { zero_checksum: true, ..Default::default() };
+/// ```
 #[repr(C)]
+#[non_exhaustive]
 #[derive(Clone, Copy, Default, PartialEq, Eq, Hash, Debug)]
 pub struct Policy {
     /// Accepts every checksum field: for captures whose checksums a network card filled in later.
@@ -19,7 +37,62 @@ pub struct Policy {
     pub strict_padding: bool,
 }
 
+impl Policy {
+    /// Returns the default: all false.
+    ///
+    /// ```
+    /// assert_eq!(dcsctp::Policy::new(), dcsctp::Policy::default());
+    /// ```
+    #[must_use]
+    pub const fn new() -> Self {
+        Self { any_checksum: false, zero_checksum: false, strict_padding: false }
+    }
+
+    /// Returns the same with another [`any_checksum`](Self::any_checksum).
+    ///
+    /// ```
+    /// assert!(dcsctp::Policy::new().with_any_checksum(true).any_checksum);
+    /// ```
+    #[must_use]
+    pub const fn with_any_checksum(self, any_checksum: bool) -> Self {
+        Self { any_checksum, ..self }
+    }
+
+    /// Returns the same with another [`zero_checksum`](Self::zero_checksum).
+    ///
+    /// ```
+    /// assert!(dcsctp::Policy::new().with_zero_checksum(true).zero_checksum);
+    /// ```
+    #[must_use]
+    pub const fn with_zero_checksum(self, zero_checksum: bool) -> Self {
+        Self { zero_checksum, ..self }
+    }
+
+    /// Returns the same with another [`strict_padding`](Self::strict_padding).
+    ///
+    /// ```
+    /// assert!(dcsctp::Policy::new().with_strict_padding(true).strict_padding);
+    /// ```
+    #[must_use]
+    pub const fn with_strict_padding(self, strict_padding: bool) -> Self {
+        Self { strict_padding, ..self }
+    }
+}
+
 /// The common header (RFC 9260 section 3.1).
+///
+/// ```
+/// # let bytes = *b"\x13\x88\x13\x88\x4d\x2d\xf5\x2d\x67\xdb\x78\xb5\x0b\0\0\x04";
+/// # let packet = dcsctp::Packet::parse(&bytes)?;
+/// let header = dcsctp::Header {
+///     source_port: 5000,
+///     destination_port: 5000,
+///     verification_tag: 0x4d2d_f52d,
+///     checksum: 0x67db_78b5,
+/// };
+/// assert_eq!(packet.header(), header);
+/// # Ok::<(), dcsctp::Fault>(())
+/// ```
 #[repr(C)]
 #[derive(Clone, Copy, Default, PartialEq, Eq, Hash, Debug)]
 pub struct Header {
@@ -36,6 +109,20 @@ pub struct Header {
 }
 
 /// The numbers of INIT (RFC 9260 section 3.3.2) or INIT ACK (section 3.3.3).
+///
+/// ```
+/// use dcsctp::Init;
+///
+/// // What a side sends in its INIT or INIT ACK; the tag and the TSN should be random.
+/// let own = Init {
+///     initiate_tag: 0x0da7_3798,
+///     a_rwnd: 0x2_0000,
+///     outbound_streams: 4,
+///     inbound_streams: 4,
+///     initial_tsn: 0x66e3_87ab,
+/// };
+/// # assert_eq!(own.outbound_streams, own.inbound_streams);
+/// ```
 #[repr(C)]
 #[derive(Clone, Copy, Default, PartialEq, Eq, Hash, Debug)]
 pub struct Init {
@@ -53,7 +140,23 @@ pub struct Init {
 
 /// The user data of DATA (RFC 9260 section 3.3.1) or I-DATA (RFC 8260 section 2.1). What the kind
 /// does not carry is 0 where it is read, and ignored where it is written.
-#[derive(Clone, Copy, Default, PartialEq, Eq, Hash, Debug)]
+///
+/// ```
+/// use dcsctp::Data;
+///
+/// // A message that fits into one chunk, of the type WebRTC String (RFC 8831 section 8).
+/// let message = Data {
+///     tsn: 41,
+///     ppid: 51,
+///     is_beginning: true,
+///     is_end: true,
+///     payload: b"hello",
+///     ..Data::default()
+/// };
+/// assert_eq!((message.stream, message.is_unordered), (0, false));
+/// ```
+#[derive(Clone, Copy, Default, PartialEq, Eq, Hash)]
+#[allow(clippy::struct_excessive_bools)] // they are the bits of its flags
 pub struct Data<'a> {
     /// The transmission sequence number.
     pub tsn: u32,
@@ -82,6 +185,12 @@ pub struct Data<'a> {
 
 /// A gap ack block of a SACK (RFC 9260 section 3.3.4): the TSNs from one offset to another have
 /// come, both included. Offsets count from the cumulative TSN ack.
+///
+/// ```
+/// // With a cumulative TSN ack of 41 these are the TSNs 43 and 44.
+/// let block = dcsctp::GapAckBlock { start: 2, end: 3 };
+/// # assert_eq!((41 + block.start, 41 + block.end), (43, 44));
+/// ```
 #[repr(C)]
 #[derive(Clone, Copy, Default, PartialEq, Eq, PartialOrd, Ord, Hash, Debug)]
 pub struct GapAckBlock {
@@ -93,6 +202,12 @@ pub struct GapAckBlock {
 
 impl GapAckBlock {
     /// Returns the block from one offset to another, both included.
+    ///
+    /// ```
+    /// use dcsctp::GapAckBlock;
+    ///
+    /// assert_eq!(GapAckBlock::new(2, 3), GapAckBlock { start: 2, end: 3 });
+    /// ```
     #[must_use]
     pub const fn new(start: u16, end: u16) -> Self {
         Self { start, end }
@@ -101,6 +216,14 @@ impl GapAckBlock {
 
 /// A stream of FORWARD-TSN (RFC 3758 section 3.2) or I-FORWARD-TSN (RFC 8260 section 2.3.1). What
 /// the kind does not carry is 0 where it is read, and ignored where it is written.
+///
+/// ```
+/// use dcsctp::SkippedStream;
+///
+/// // As FORWARD-TSN has it: all up to SSN 3 of stream 2.
+/// let skipped = SkippedStream { stream: 2, ssn: 3, ..SkippedStream::default() };
+/// assert_eq!((skipped.mid, skipped.is_unordered), (0, false));
+/// ```
 #[repr(C)]
 #[derive(Clone, Copy, Default, PartialEq, Eq, Hash, Debug)]
 pub struct SkippedStream {
@@ -119,7 +242,24 @@ pub struct SkippedStream {
 /// The streams of the two requests that name some are a [`ResetStreams`](crate::ResetStreams) where
 /// they are read, and a slice of `u16` where they are written. A request that names no stream is
 /// for all of them.
+///
+/// ```
+/// use dcsctp::ReConfig;
+///
+/// fn request_number<Streams>(it: &ReConfig<Streams>) -> Option<u32> {
+///     match *it {
+///         ReConfig::OutgoingSsnReset { request_number, .. }
+///         | ReConfig::IncomingSsnReset { request_number, .. } => Some(request_number),
+///         _ => None,
+///     }
+/// }
+///
+/// // For all streams: it names none.
+/// let request = ReConfig::IncomingSsnReset { request_number: 1, streams: &[] as &[u16] };
+/// assert_eq!(request_number(&request), Some(1));
+/// ```
 #[derive(Clone, Copy, PartialEq, Eq, Hash, Debug)]
+#[non_exhaustive]
 pub enum ReConfig<Streams> {
     /// Outgoing SSN Reset Request (RFC 6525 section 4.1).
     OutgoingSsnReset {
@@ -205,6 +345,18 @@ impl<Streams> ReConfig<Streams> {
 }
 
 /// The TSNs of a Re-configuration Response (RFC 6525 section 4.4).
+///
+/// ```
+/// use dcsctp::{NextTsns, ReConfig, ReConfigResult};
+///
+/// // What answers the SSN/TSN Reset Request 1.
+/// let response = ReConfig::<&[u16]>::Response {
+///     response_number: 1,
+///     result: ReConfigResult::Performed,
+///     next_tsns: Some(NextTsns { sender: 41, receiver: 7 }),
+/// };
+/// # assert_ne!(response, ReConfig::SsnTsnReset { request_number: 1 });
+/// ```
 #[derive(Clone, Copy, Default, PartialEq, Eq, Hash, Debug)]
 pub struct NextTsns {
     /// The next TSN that the response's sender will use.
@@ -214,7 +366,16 @@ pub struct NextTsns {
 }
 
 /// The result in a Re-configuration Response (RFC 6525 section 4.4).
+///
+/// ```
+/// use dcsctp::{ReConfigResult, UnknownNumber};
+///
+/// assert_eq!(ReConfigResult::try_from(6), Ok(ReConfigResult::InProgress));
+/// assert_eq!(ReConfigResult::try_from(7), Err(UnknownNumber(7)));
+/// assert_eq!(u32::from(ReConfigResult::Denied), 2);
+/// ```
 #[derive(Clone, Copy, PartialEq, Eq, Hash, Debug)]
+#[non_exhaustive]
 pub enum ReConfigResult {
     /// Success: nothing to do.
     NothingToDo = 0,
@@ -234,12 +395,23 @@ pub enum ReConfigResult {
 
 impl ReConfigResult {
     /// Returns the number that the response carries: 0 to 6.
+    ///
+    /// ```
+    /// assert_eq!(dcsctp::ReConfigResult::Performed.number(), 1);
+    /// ```
     #[must_use]
     pub const fn number(self) -> u32 {
         self as u32
     }
 
     /// Returns the result of a number; none above 6.
+    ///
+    /// ```
+    /// use dcsctp::ReConfigResult;
+    ///
+    /// assert_eq!(ReConfigResult::of(2), Some(ReConfigResult::Denied));
+    /// assert_eq!(ReConfigResult::of(7), None);
+    /// ```
     #[must_use]
     pub const fn of(number: u32) -> Option<Self> {
         Some(match number {
@@ -252,5 +424,19 @@ impl ReConfigResult {
             6 => Self::InProgress,
             _ => return None,
         })
+    }
+}
+
+impl TryFrom<u32> for ReConfigResult {
+    type Error = UnknownNumber;
+
+    fn try_from(number: u32) -> Result<Self, UnknownNumber> {
+        Self::of(number).ok_or(UnknownNumber(number))
+    }
+}
+
+impl From<ReConfigResult> for u32 {
+    fn from(result: ReConfigResult) -> Self {
+        result.number()
     }
 }

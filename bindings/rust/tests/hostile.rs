@@ -228,7 +228,7 @@ fn check(bytes: &[u8], policy: Policy) -> bool {
     {
         let canonical = packet.to_canonical().unwrap();
         assert_eq!(anew.to_canonical().unwrap(), canonical);
-        let zero = Policy { zero_checksum: true, strict_padding: true, ..Policy::default() };
+        let zero = POLICIES[1];
         let again = Packet::parse_with(&canonical, 0, zero).unwrap();
         assert_eq!(again.to_canonical().unwrap(), canonical);
         assert!(!packet.to_text().unwrap().is_empty() && !packet.to_report().unwrap().is_empty());
@@ -238,9 +238,9 @@ fn check(bytes: &[u8], policy: Policy) -> bool {
 }
 
 const POLICIES: [Policy; 3] = [
-    Policy { any_checksum: false, zero_checksum: false, strict_padding: false },
-    Policy { any_checksum: false, zero_checksum: true, strict_padding: true },
-    Policy { any_checksum: true, zero_checksum: false, strict_padding: false },
+    Policy::new(),
+    Policy::new().with_zero_checksum(true).with_strict_padding(true),
+    Policy::new().with_any_checksum(true),
 ];
 
 #[test]

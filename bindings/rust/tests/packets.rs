@@ -8,8 +8,7 @@ use dcsctp::{
     Init, MAX_PACKET, Packet, PacketBuilder, ParameterType, Policy, WriteError,
 };
 
-const ANY_CHECKSUM: Policy =
-    Policy { any_checksum: true, zero_checksum: false, strict_padding: false };
+const ANY_CHECKSUM: Policy = Policy::new().with_any_checksum(true);
 
 #[test]
 fn word_is_the_crc32c() {
@@ -43,7 +42,7 @@ fn first_faults() {
     faults(&packet("0b000004 0b000003"), socket, FaultKind::Length, 16);
     faults(&packet("0b000004 0b000009 00000000"), socket, FaultKind::Length, 16);
     faults(&packet("82000010 0010000c 00000001 00000007"), socket, FaultKind::Value, 16);
-    let strict = Policy { strict_padding: true, ..socket };
+    let strict = socket.with_strict_padding(true);
     faults(&packet("0a000005 61000100"), strict, FaultKind::Padding, 18);
     faults(&packet("0a000005 610000"), strict, FaultKind::Padding, 19);
     assert_eq!(Packet::try_from(&[0; 4][..]).unwrap_err().offset, 4);
@@ -55,7 +54,7 @@ fn policies() {
     assert!(Packet::parse(&packet).is_ok());
     packet[8..12].fill(0);
     let word = dcsctp::word(&packet);
-    let zero = Policy { zero_checksum: true, ..Policy::default() };
+    let zero = Policy::new().with_zero_checksum(true);
     assert_eq!(dcsctp::check(&packet, word, zero), Ok(()));
     assert_eq!(dcsctp::check(&packet, word, ANY_CHECKSUM), Ok(()));
     assert_eq!(dcsctp::first_fault(&packet, word, zero), None);
@@ -285,12 +284,7 @@ fn places() {
     assert_eq!(start, 16);
     let size = packet.size();
     let mut packet = PacketBuilder::resume(&mut buffer, size).unwrap();
-    for wrong in [0, 12, 17, size, usize::MAX] {
-        let mut chunk = packet.last_chunk(wrong);
-        let added = chunk.parameter(ParameterType::STATE_COOKIE, b"abcd");
-        assert_eq!(added.unwrap_err(), WriteError::BadPlace);
-    }
-    packet.last_chunk(start).parameter(ParameterType::STATE_COOKIE, b"abcd").unwrap();
+    packet.last_chunk().unwrap().parameter(ParameterType::STATE_COOKIE, b"abcd").unwrap();
     let bytes = packet.seal();
     let packet = Packet::parse(bytes).unwrap();
     let cookies = packet.chunks().flat_map(|it| it.parameters()).map(|it| it.value());

@@ -1,0 +1,65 @@
+//! Chunks that are kept.
+
+use crate::chunk::Chunk;
+use alloc::boxed::Box;
+use core::fmt;
+
+/// A chunk with bytes of its own (RFC 9260 section 3.2): to keep it for longer than its packet, for
+/// retransmission or reassembly.
+///
+/// It has the chunk's type, flags and value, and neither its padding nor its place: its
+/// [offset](Chunk::offset) is 0. Where there is no memory for it, the program ends, as with any
+/// `Box`.
+///
+/// ```
+/// use dcsctp::{OwnedChunk, Packet, PacketBuilder};
+///
+/// /// Keeps the user data of a packet.
+/// fn kept(bytes: &[u8]) -> Vec<OwnedChunk> {
+///     let packet = Packet::parse(bytes).unwrap();
+///     packet.chunks().filter(|it| it.data().is_some()).map(OwnedChunk::from).collect()
+/// }
+///
+/// # let mut buffer = [0; 100];
+/// # let mut packet = PacketBuilder::begin(&mut buffer, 1, 2, 3)?;
+/// # packet.data(&dcsctp::Data { payload: b"hello", ..Default::default() })?.cookie_ack()?;
+/// let kept = kept(packet.seal());
+/// let data = kept[0].as_chunk();
+/// assert_eq!(data.data().unwrap().payload, b"hello");
+/// // Sends it again.
+/// let mut packet = PacketBuilder::begin(&mut buffer, 1, 2, 3)?;
+/// packet.chunk(data.chunk_type(), data.flags(), data.value())?;
+/// # assert_eq!(packet.size(), 12 + 16 + 8);
+/// # Ok::<(), dcsctp::WriteError>(())
+/// ```
+#[derive(Clone, PartialEq, Eq, Hash)]
+pub struct OwnedChunk(Box<[u8]>);
+
+impl OwnedChunk {
+    /// Returns the chunk, in a time that doesn't depend on its size.
+    ///
+    /// ```
+    /// # let bytes = *b"\0\x01\0\x02\0\0\0\x03\0\0\0\0\x0a\0\0\x07abc\0";
+    /// # let chunk = dcsctp::Chunk::at(&bytes, 12).unwrap();
+    /// let kept = chunk.into_owned();
+    /// assert_eq!(kept.as_chunk().content(), dcsctp::Content::CookieEcho(b"abc"));
+    /// ```
+    #[must_use]
+    #[allow(clippy::missing_panics_doc)] // it was read before
+    pub fn as_chunk(&self) -> Chunk<'_> {
+        Chunk::at(&self.0, 0).expect("a chunk's bytes begin with it")
+    }
+}
+
+impl From<Chunk<'_>> for OwnedChunk {
+    fn from(chunk: Chunk<'_>) -> Self {
+        Self(chunk.as_bytes().into())
+    }
+}
+
+/// As of [`Chunk`].
+impl fmt::Debug for OwnedChunk {
+    fn fmt(&self, f: &mut fmt::Formatter<'_>) -> fmt::Result {
+        self.as_chunk().fmt(f)
+    }
+}
