@@ -15,7 +15,12 @@ last line is that of `rt ci`.
            for C. So requests are refused, sctp_dump is run with its options, and C is tried, only where what was proved
            and built is as new as the sources. The last line says what passed, failed and was left out, and that nothing
            was proved
-  --help   prints this'
+  --help   prints this
+
+Without the toolchain rt it runs what needs none, with and without --quick: the comparisons, the texts in dist/ in each language
+that is installed, among them sctp_dump with each option, the C tests over the text, the commands of the pages, and the scripts
+of the page. It names what it leaves out. Where a text is older than its sources, and a step over the texts fails, the failure
+is printed, but not counted. The last line says that nothing was proved, and ends in N passed, M failed'
 
 quick=
 case $#:${1:-} in
@@ -90,16 +95,26 @@ try_program() {
     fi
 }
 
-passed=0 failed=0 left_out=0
-# Says whether a step passed, by its status, and counts it; of one that failed, what it printed.
+mode=quick passed=0 failed=0 left_out=0 older=
+# Says whether a step passed, by its status, and of one that failed what it printed. Counts what its scripts say that passed and
+# failed, or else the step, and what they left out.
 report() {
+    local log=$work/$1.log good bad
+    read -r good bad < <(awk -v status="$2" '
+        match($0, /[0-9]+ (rows )?passed, [0-9]+ failed/) { split(substr($0, RSTART), n, /[^0-9]+/); good += n[1]; bad += n[2]; said = 1 }
+        END { if (!said) good = !status; if (status && !bad) bad = 1; print good + 0, bad + 0 }' "$log")
+    passed=$((passed + good)) left_out=$((left_out + $(grep -c 'left out, since' "$log")))
+    grep 'left out, since' "$log"
     if [ "$2" -eq 0 ]; then
-        passed=$((passed + 1))
-        printf 'quick: %s: passed\n' "$1"
+        printf '%s: %s: passed\n' "$mode" "$1"
+        return
+    fi
+    grep -v -e ': passed$' -e 'left out, since' "$log" | head -n 40
+    if [ "$older" ]; then
+        leave_out "$1: $bad failed" "dist/ is older than the sources of" $older
     else
-        failed=$((failed + 1))
-        printf 'quick: %s: failed\n' "$1"
-        head -n 40 "$work/$1.log"
+        failed=$((failed + bad))
+        printf '%s: %s: failed\n' "$mode" "$1"
     fi
 }
 
@@ -119,13 +134,14 @@ are_built() {
     done
 }
 
+# Says what is left out, and why.
 leave_out() {
     left_out=$((left_out + 1))
-    printf 'quick: %s: left out, since what was built is missing, or older than a source\n' "$1"
+    printf '%s: %s: left out, since %s\n' "$mode" "$1" "${*:2}"
 }
 
 run_quickly() {
-    local main program programs=() jobs=() i
+    local main program programs=() jobs=() i why='what was built is missing, or older than a source'
     for main in crates/*/src/main.rt; do
         program=${main%/src/main.rt} program=${program#crates/}
         (try_program "$program") >"$work/$program.log" 2>&1 &
@@ -142,12 +158,68 @@ run_quickly() {
     if are_built crates/wire_rows/out/wire_rows crates/sctp_show/out/sctp_show; then
         step 'refused requests' refusals/test.sh
     else
-        leave_out 'refused requests'
+        leave_out 'refused requests' "$why"
     fi
-    if are_built crates/sctp_dump/out/sctp_dump; then step 'runs of sctp_dump' dump/test.sh; else leave_out 'runs of sctp_dump'; fi
-    if are_built crates/dcsctp_c/out/libdcsctp_c.a; then step C c/test.sh 100000; else leave_out C; fi
+    if are_built crates/sctp_dump/out/sctp_dump; then
+        step 'runs of sctp_dump' dump/test.sh
+    else
+        leave_out 'runs of sctp_dump' "$why"
+    fi
+    if are_built crates/dcsctp_c/out/libdcsctp_c.a; then step C c/test.sh 100000; else leave_out C "$why"; fi
     printf 'quick: %s passed, %s failed, %s left out; nothing was proved\n' "$passed" "$failed" "$left_out"
     [ "$failed" -eq 0 ]
 }
 
-if [ "$quick" ]; then run_quickly; else run_gate; fi
+# ---- without the toolchain
+
+# The crates whose sources aren't those that the texts of dist/ were made of.
+changed_crates() {
+    local sum name
+    while read -r _ _ sum name; do
+        (cd "crates/$name" && find src specs -type f 2>/dev/null | LC_ALL=C sort | xargs sha256sum | sha256sum) |
+            grep -q "^$sum " || echo "$name"
+    done < <(grep '^# source ' dist/MANIFEST)
+}
+
+# Whether these tools, and this kind of processor, are there; else the step is left out. (Debian's python3-minimal is a part of Python.)
+has() {
+    local tool
+    for tool in $1; do
+        case $tool in
+            x86-64) [ "$(uname -m)" = x86_64 ] ;;
+            python3) python3 -c 'import json, shutil' 2>/dev/null ;;
+            *) command -v "$tool" >/dev/null ;;
+        esac || { leave_out "$2" "there is no $tool" && return 1; }
+    done
+}
+
+# Runs a step, if its tools are there.
+with() {
+    ! has "$1" "$2" || step "${@:2}"
+}
+
+run_without_rt() {
+    local cc=${CC:-cc} name texts=
+    mode='without rt'
+    with python3 comparisons compare
+    # What comes now runs over the texts.
+    older=$(changed_crates)
+    if has "$cc x86-64" 'texts of dist'; then
+        dist/test.sh >"$work/texts of dist.log" 2>&1 &
+        texts=$!
+        "$cc" -O1 -o "$work/sctp_dump" dist/sctp_dump-x86_64-elf.s dist/program.c
+    fi
+    with "$cc" C c/test.sh 100000
+    with "$cc x86-64 python3" 'commands of the pages' docs/commands.py
+    with node 'scripts of the page' node page/tests/units.mjs "$work/sctp_dump"
+    if [ -f page/out/sctp.html ]; then with node page page/test.sh; else leave_out page 'page/out is not made, which takes rt'; fi
+    [ -z "$texts" ] || { wait $texts; report 'texts of dist' $?; }
+    for name in 'the proofs, and the rows and tests of the crates' 'refused requests' 'the code of CALLING.md' \
+        'whether dist/ and bindings/js/dcsctp.wasm are what the sources give'; do
+        leave_out "$name" 'it takes rt'
+    done
+    printf 'without rt: %s left out, and nothing was proved: %s passed, %s failed\n' "$left_out" "$passed" "$failed"
+    [ "$failed" -eq 0 ]
+}
+
+if ! command -v rt >/dev/null; then run_without_rt; elif [ "$quick" ]; then run_quickly; else run_gate; fi

@@ -9,6 +9,7 @@ package installed, and no toolchain on PATH. What they install goes below it; `F
 begins with `$ ` is what it prints, which is compared. A command of sctp_dump may end with 0, 1 or 3, any other with 0. What can't
 run here is left out, and named. The last line is: pages: N passed, M failed, K left out.
 """
+import importlib.util
 import os
 import re
 import shutil
@@ -19,7 +20,7 @@ import tempfile
 ROOT = os.path.dirname(os.path.dirname(os.path.abspath(__file__)))
 PAGES = ['README.md', 'docs/INSTALL.md', 'docs/C.md', 'docs/DUMP.md', 'dist/README.md']
 COPIED = ['dist', 'bindings', 'examples', 'crates/sctp_dump/data', 'dump/data']
-COMMAND = re.compile(r'(\$ )?((?:cc|echo|export|python|pip|cmake|sctp_dump|xxd|c/build\.sh|tcpdump|cargo|npm|\(cd) .*)')
+COMMAND = re.compile(r'(\$ )?((?:cc|echo|export|python|pip|cmake|(?:\./)?sctp_dump|xxd|c/build\.sh|tcpdump|cargo|npm|\(cd) .*)')
 
 # What can't run here, and why.
 LEFT_OUT = [
@@ -32,7 +33,7 @@ LEFT_OUT = [
 ]
 
 # Tools that a system may lack, and the commands that need them.
-TOOLS = {'cmake': r'cmake|\$P\b|pkg-config', 'pkg-config': r'pkg-config', 'jq': r'\| jq', 'xxd': r'^xxd'}
+TOOLS = {'python3-venv': r'^(?:python|pip)', 'cmake': r'cmake|\$P\b|pkg-config', 'pkg-config': r'pkg-config', 'jq': r'\| jq', 'xxd': r'^xxd'}
 
 # What the pages call the reader's own.
 OWN = [(r'\bFILE\b|capture\.pcap', 'dump/data/usrsctp.pcap'), (r'chrome_debug\.log', 'crates/sctp_dump/data/lines.txt')]
@@ -83,14 +84,19 @@ def environment(work):
     made = dict(os.environ, PATH=':'.join([os.path.join(work, 'venv', 'bin'), *folders, '.']), PYTHONDONTWRITEBYTECODE='1', HOME=work)
     made['P'] = os.path.join(work, 'dcsctp')
     made = {name.upper() + '_HOME': os.path.expanduser(f'~/.{name}') for name in ('cargo', 'rustup')} | made
-    subprocess.run(['python3', '-m', 'venv', os.path.join(work, 'venv')], check=True)
-    subprocess.run(['pip', 'install', '--quiet', '--no-index', './bindings/python'], cwd=work, env=made, check=True)
+    if has('python3-venv'):
+        subprocess.run(['python3', '-m', 'venv', os.path.join(work, 'venv')], check=True)
+        subprocess.run(['pip', 'install', '--quiet', '--no-index', './bindings/python'], cwd=work, env=made, check=True)
     return made
+
+
+def has(tool):
+    return bool(importlib.util.find_spec('ensurepip') if tool == 'python3-venv' else shutil.which(tool))
 
 
 def why_not(command):
     """Why a command can't run here, or nothing."""
-    missing = [tool for tool, pattern in TOOLS.items() if re.search(pattern, command) and not shutil.which(tool)]
+    missing = [tool for tool, pattern in TOOLS.items() if re.search(pattern, command) and not has(tool)]
     return next((why for pattern, why in LEFT_OUT if re.search(pattern, command)), missing and f'there is no {missing[0]}' or '')
 
 
@@ -162,10 +168,10 @@ def main():
                 report(f'{page}: {command}', 'left out' if why else 'failed' if fault else 'passed', why or fault)
             for begin, tried in README.items() if page == 'README.md' else ():
                 lines = next(lines for lines in blocks_of(text) if lines[0].startswith(begin))
-                missing = tried is rust and not shutil.which('cargo')
-                fault = not missing and tried(lines, work, variables)
-                outcome = 'left out' if missing else 'failed' if fault else 'passed'
-                report(f'{page}: {lines[0]}', outcome, 'there is no cargo' if missing else fault)
+                tool = 'cargo' if tried is rust else 'python3-venv'
+                fault = has(tool) and tried(lines, work, variables)
+                outcome = 'left out' if not has(tool) else 'failed' if fault else 'passed'
+                report(f'{page}: {lines[0]}', outcome, fault or f'there is no {tool}')
             for lines in blocks_of(text) if page == 'docs/C.md' else ():
                 if not any(COMMAND.fullmatch(line) for line in lines):
                     fault = compiled(lines, work, variables)

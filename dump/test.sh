@@ -59,6 +59,13 @@ look() {
     fi
 }
 
+# The scripts are in Python, with all of its library.
+if ! python3 -c 'import json, shutil' 2>/dev/null; then
+    look() {
+        echo "dump: ${1#"$root/"}: left out, since there is no python3"
+    }
+fi
+
 # Runs a row, its words and input with their escapes.
 run() {
     local words=() word
@@ -129,7 +136,7 @@ look "$root/dump/logs.py" "$program"
 if command -v tshark >/dev/null; then
     look "$root/dump/associations.py" "$program"
 else
-    echo 'dump: the model of associations is left out: no tshark'
+    echo 'dump: dump/associations.py: left out, since there is no tshark'
 fi
 
 # ---- times
