@@ -63,7 +63,7 @@ function end(errors, started) {
   store.finish();
   byId('stop').hidden = byId('progress').hidden = true;
   const time = started === undefined ? ': stopped' : ` in ${((performance.now() - started) / 1000).toFixed(1)} s`;
-  const packets = counted(store.kinds[0] + store.kinds[1] + store.kinds[2], 'packet');
+  const packets = counted(store.packets, 'packet');
   byId('status').textContent = errors ? shown(errors.trim(), 200) : packets + time + skippedText(store.summary);
   byId('status').className = errors ? 'bad' : '';
   showAssociations();

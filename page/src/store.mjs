@@ -15,6 +15,11 @@ export class Store {
   summary;
   read = 0;
 
+  /** How many packets there are: accepted ones, refused ones, and those that were cut off. */
+  get packets() {
+    return this.kinds[0] + this.kinds[1] + this.kinds[2];
+  }
+
   /** Adds what the Worker posted. */
   add({ lines, columns, objects, read, flows, summaries, notes }) {
     const more = columns.kind.length;

@@ -217,6 +217,7 @@ const found = storeOf(
   ...many(6, packet(1, A, [gaps])), ...many(7, { line: 1, skipped: 'x' }),
   ...[0, 9, 1, 2, 3, 4, 5, 6, 7, 8].map(it => packet(1, A, [data(it)])), ...many(9, packet(1, A, [data(8)])),
 );
+each('packets, of which none is skipped', () => found.packets, [[2 + 3 + 4 + 5 + 6 + 10 + 9]]);
 each('what was found', word => {
   const [, , count] = FOUND.find(([its]) => its === word);
   return [count(found), rowsOf(found).filter(filterOf(word).test(found)).length];
