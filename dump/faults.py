@@ -46,7 +46,7 @@ def cases():
         start = LISTS.get(kind, 0)
         lengths = [it for it in LENGTHS if it <= start or it % 4 == 0 or not start]
         yield f'chunk {kind}', 12, {length: chunk(kind, length) for length in lengths}
-    # so many blocks, and so many duplicate TSNs
+    # numbers of blocks, and of duplicate TSNs
     for blocks, duplicates in (1, 0), (0, 1), (2, 3), (6, 5):
         head = struct.pack('>BBHIIHH', 3, 0, 0, 1, 2, blocks, duplicates)
         yield f'SACK of {blocks} and {duplicates}', 12, {length: filled(head, length) for length in LENGTHS[12:]}
