@@ -19471,7 +19471,7 @@ Ldcsctp_BB51_127:
 	shll	$3, %ecx
 	leaq	l_switch.table.sctp_report.parameters.walk_parameters.a6be2d13a276524a(%rip), %rax
 	movq	(%rcx,%rax), %rax
-	leaq	l_switch.table.sctp_report.parameters.walk_parameters.a6be2d13a276524a..719(%rip), %rdx
+	leaq	l_switch.table.sctp_report.parameters.walk_parameters.a6be2d13a276524a.719(%rip), %rdx
 	movq	(%rcx,%rdx), %rcx
 	movq	216(%rsp), %rdi
 	cmpq	$4, %rdi
@@ -36630,7 +36630,7 @@ Ldcsctp_BB86_189:
 	shll	$3, %ecx
 	leaq	l_switch.table.sctp_report.parameters.walk_parameters.a6be2d13a276524a(%rip), %rax
 	movq	(%rcx,%rax), %rax
-	leaq	l_switch.table.sctp_report.parameters.walk_parameters.a6be2d13a276524a..719(%rip), %rdx
+	leaq	l_switch.table.sctp_report.parameters.walk_parameters.a6be2d13a276524a.719(%rip), %rdx
 	movq	(%rcx,%rdx), %rcx
 	cmpq	$4, %r15
 	movl	$4, %esi
@@ -51341,7 +51341,7 @@ l_switch.table.sctp_report.parameters.walk_parameters.a6be2d13a276524a:
 	.quad	11
 	.section	__DATA,__const
 	.p2align	3, 0x0
-l_switch.table.sctp_report.parameters.walk_parameters.a6be2d13a276524a..719:
+l_switch.table.sctp_report.parameters.walk_parameters.a6be2d13a276524a.719:
 	.quad	l_static.299
 	.quad	l_static.300
 	.quad	l_static.301

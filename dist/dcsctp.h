@@ -1,3 +1,4 @@
+/* SPDX-License-Identifier: Apache-2.0 */
 /* dcsctp: reads, checks, prints and writes SCTP packets (RFC 9260), from C.
 
    Every function of the library is proved, for Linux (dist/README.md): whatever the bytes, the offsets and the sizes are,
@@ -11,7 +12,7 @@
    - An output overlaps no input and no other output. `packet` of the writing functions is both, and is one buffer.
    - A bool is 0 or 1.
    - dcsctp_canonical and dcsctp_print allocate with malloc, and free what they allocate; no other function allocates.
-     Call no function from a signal handler, or in the forked child of a process with threads.
+     Call neither from a signal handler, or in the forked child of a process with threads; all others may be called there.
    No function keeps a pointer, and any number of threads may call at once. */
 #ifndef DCSCTP_H
 #define DCSCTP_H
@@ -19,6 +20,11 @@
 #include <stdbool.h>
 #include <stddef.h>
 #include <stdint.h>
+
+/* (a wrong text would be linked without a word) */
+#if (defined(__SIZEOF_SIZE_T__) && __SIZEOF_SIZE_T__ != 8) || (defined(__BYTE_ORDER__) && __BYTE_ORDER__ != __ORDER_LITTLE_ENDIAN__)
+#error "dcsctp: the library is for sizes of 64 bits, and the least significant byte first"
+#endif
 
 #define DCSCTP_VERSION "0.1.0"
 #define DCSCTP_VERSION_MAJOR 0
@@ -31,7 +37,8 @@ extern "C" {
 #endif
 
 /* What a function returns that reads a whole packet: DCSCTP_OK, a fault of the bytes, or why nothing was written. And
-   what one returns that writes: DCSCTP_OK, or why nothing was written. */
+   what one returns that writes: DCSCTP_OK, or why nothing was written. A result is a uint32_t, whose size no compiler
+   chooses; a compiler names the cases that are missing (-Wswitch) in `switch ((enum dcsctp_result)result)`. */
 enum dcsctp_result {
     DCSCTP_OK = 0,             /* the bytes are a packet; what was asked for is written */
     DCSCTP_FAULT_SIZE = 1,     /* fewer than 16 bytes, or more than 65,535 */
@@ -43,7 +50,7 @@ enum dcsctp_result {
     DCSCTP_NO_ROOM = 7,        /* the output is too small, or the packet would have more than 65,532 bytes */
     DCSCTP_TOO_LONG = 8,       /* the bytes are a packet, but its canonical form would have more than 65,532 bytes */
     DCSCTP_BAD_VALUE = 9,      /* a chunk would have more than 65,535 bytes, or what has to be UTF-8 isn't */
-    DCSCTP_BAD_PLACE = 10      /* no packet has this size, or no chunk begins where it should and ends the packet */
+    DCSCTP_BAD_PLACE = 10      /* no packet has this size, or what should be its last chunk doesn't look like one */
 };
 
 /* The offset of a packet's first chunk: the size of the common header. */
@@ -113,12 +120,13 @@ enum dcsctp_cause_code {
     DCSCTP_CAUSE_PROTOCOL_VIOLATION = 13
 };
 
-/* Which checksum fields are accepted, and whether padding is checked. All false: the field has to be the word that is
-   passed, and padding is ignored. */
+/* Which checksum fields are accepted, and whether padding is checked. All false, as of `{0}`: the field has to be the word
+   that is passed, and padding is ignored. */
 struct dcsctp_policy {
     bool any_checksum;   /* accepts every checksum field */
     bool zero_checksum;  /* accepts a field of zero as well (RFC 9653) */
     bool strict_padding; /* padding has to be complete and zero */
+    uint8_t reserved[5]; /* has to be 0: what a later version may ask; this one doesn't read it */
 };
 
 /* The common header (RFC 9260 section 3.1). */
@@ -421,7 +429,8 @@ uint32_t dcsctp_add_i_forward_tsn(uint8_t *packet, size_t room, size_t *size, ui
 
    `start` is the offset of the packet's last chunk, of any type: what `size` was before it was added. Each adds a
    parameter or an error cause after the chunk's value, which is padded first, and changes the chunk's length. They return
-   what the functions above return; DCSCTP_BAD_PLACE also where no chunk begins at `start` and ends the packet. */
+   what the functions above return; DCSCTP_BAD_PLACE also where the four bytes at `start` don't look like a chunk that ends
+   the packet. Whether a chunk of the packet begins there isn't looked at. */
 
 /* Adds a parameter of this type, or an error cause of this code, with this value. */
 uint32_t dcsctp_add_parameter(uint8_t *packet, size_t room, size_t *size, size_t start, uint16_t type,
@@ -548,6 +557,13 @@ static inline const char *dcsctp_cause_name(uint16_t code)
 
 #ifdef __cplusplus
 }
+#endif
+
+/* MemorySanitizer sees what a program writes, but not what the library does: it is told. */
+#ifdef __has_feature
+#if __has_feature(memory_sanitizer)
+#include "dcsctp_msan.h"
+#endif
 #endif
 
 #endif

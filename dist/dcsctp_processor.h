@@ -1,3 +1,4 @@
+/* SPDX-License-Identifier: Apache-2.0 */
 /* dcsctp_processor: the word of a packet by the processor's own instruction for CRC32c, where it has one.
 
    An option: dcsctp.h doesn't include this file, and the library doesn't call it. NOT PROVED. c/processor.c compares it with

@@ -1,25 +1,27 @@
 #!/usr/bin/env python3
-"""usage: dist/make.py [--compare] [--copies] [--into FOLDER] [--jobs N] [--log FILE] [FILE ..]
+# SPDX-License-Identifier: Apache-2.0
+"""usage: dist/make.py [--compare] [--copies] [--into FOLDER] [--jobs N] [--log FILE] [NAME ..]
 
-Makes the files of dist/ that take the toolchain: the C library as assembly text for five systems, and the programs
-sctp_dump and sctp_show for Linux on x86-64; with them copies of the header, LICENSE and NOTICE, and MANIFEST. Whoever
-has the texts needs a C compiler and nothing else (dist/README.md).
+Makes the files of dist/ that take the toolchain: the LLVM modules of the C library and of the programs sctp_dump and sctp_show, and
+of these, by texts.py, assembly text for each system; with them copies of the headers, LICENSE and NOTICE, and MANIFEST. Whoever has the
+texts needs a C compiler and nothing else (dist/README.md).
 
   --compare      makes them in a folder of its own, and fails where one isn't what lies in dist/, and names it
   --copies       makes the packages' copies of texts and other files alone, for which no toolchain is needed
   --into FOLDER  the folder, in place of dist/
-  --jobs N       how many processors a proof may take; 1 if left out
+  --jobs N       how many processors a proof may take, and how many texts are made at once; 1 if left out
   --log FILE     what `rt ci` printed as it proved these sources; may be given several times, a later one counts
-  FILE ..        these texts alone, such as sctp_show-x86_64-elf.s, without MANIFEST and the copies
+  NAME ..        the module dcsctp, sctp_dump or sctp_show and its texts alone, without MANIFEST and the copies
   --help         prints this
 
-`rt check` proves each crate first, unless all libraries below it are built. Then `rattle build` proves and compiles
-each crate once for each processor, over what was kept of its proofs: run no other rt in this checkout meanwhile. The
-text is what the toolchain's clang writes of the very module that `rattle build` gave it, with tables for unwinding. Where it is
-for Linux on x86-64 it has to assemble and link to the very bytes that `rattle build` compiled, beside the tables; on arm64 the
-same text with x18 as any register has to, and the one that is written keeps x18. For the other systems the same module is
-compiled for another target, and only tests say that this is right. No name is visible in a text but those that the header
-declares, or a program's rattle_main; nothing of this machine or of this run stands in it.
+`rt check` proves each crate first, unless all libraries below it are built. Then `rattle build` proves and compiles the crate, over
+what was kept of its proofs: run no other rt in this checkout meanwhile. The module is the very one that `rattle build` gave to clang
+for Linux on x86-64, with names that every assembler takes, tables for unwinding, and without the words for that processor. It has to
+give, for Linux on x86-64, and of the library on arm64 too, the very instructions that the module for that system gives, which in turn
+have to assemble and link to the very bytes that `rattle build` compiled. The texts have more than these: tables for unwinding, the marks
+for a processor's protection of calls, and on arm64 they keep x18. For the other systems the same module is compiled for another
+target, and only tests say that this is right. No name is visible in a text but those that the header declares, or a program's
+rattle_main; nothing of this machine or of this run stands in it.
 
 MANIFEST has the toolchain's verdict on each crate in the texts, uncut, and the names of the C functions whose contracts
 it takes as they stand. Of the crates that are compiled it is what their build says. Of a library below it is what a log
@@ -36,6 +38,11 @@ import shutil
 import subprocess
 import sys
 import tempfile
+from concurrent.futures import ThreadPoolExecutor
+
+sys.dont_write_bytecode = True
+sys.path.insert(0, os.path.dirname(os.path.abspath(__file__)))
+import texts  # noqa: E402
 
 ROOT = os.path.dirname(os.path.dirname(os.path.abspath(__file__)))
 
@@ -43,31 +50,32 @@ ROOT = os.path.dirname(os.path.dirname(os.path.abspath(__file__)))
 # there whether it is as this script takes it, and then change this line.
 LOGIC = "logic dac8208d650f15bf"
 
-# Each text: its crate, the target that rattle compiles it for, and the one that clang is given.
+# The crate of each module.
+CRATES = {"dcsctp": "dcsctp_c", "sctp_dump": "sctp_dump", "sctp_show": "sctp_show"}
+# What is compared with what rattle compiles: a module for a system, and rattle's name of it.
 LINUX, LINUX_ARM = "x86_64-unknown-linux-gnu", "aarch64-unknown-linux-gnu"
-TEXTS = {
-    "dcsctp-x86_64-elf.s": ("dcsctp_c", LINUX, LINUX),
-    "dcsctp-aarch64-elf.s": ("dcsctp_c", LINUX_ARM, LINUX_ARM),
-    "dcsctp-x86_64-coff.s": ("dcsctp_c", LINUX, "x86_64-w64-windows-gnu"),
-    "dcsctp-x86_64-macho.s": ("dcsctp_c", LINUX, "x86_64-apple-macos11"),
-    "dcsctp-aarch64-macho.s": ("dcsctp_c", LINUX_ARM, "arm64-apple-macos11"),
-    "sctp_dump-x86_64-elf.s": ("sctp_dump", LINUX, LINUX),
-    "sctp_show-x86_64-elf.s": ("sctp_show", LINUX, LINUX),
-}
+COMPARED = {(name, "x86_64-elf"): LINUX for name in CRATES} | {("dcsctp", "aarch64-elf"): LINUX_ARM}
+# What a program takes from its system, by the names that program.c has for it.
+OF_SYSTEM = {it: f"rattle_{it}" for it in ("main", "open", "close", "read", "write", "lseek")}
+OF_SYSTEM |= {"__write": "rattle_write", "__sysv_signal": "rattle_signal", "__x86_get_cpuid_feature_leaf": "rattle_cpuid"}
+OF_PROGRAM = {*OF_SYSTEM.values(), "rattle_arg", "rattle_errno", "rattle_set_errno"}
+# By which a program on Windows asks for more than a page of stack; compilers for it have it.
+ON_WINDOWS = "___chkstk_ms"
+
+# By wasm.py, of these modules.
+MADE_ELSEWHERE = ("sctp_dump.wasm",)
 COPIES = {"dcsctp.h": "include/dcsctp.h", "LICENSE": "LICENSE", "NOTICE": "NOTICE"}
-COPIES["dcsctp_processor.h"] = "include/dcsctp_processor.h"
+COPIES |= {f"{it}.h": f"include/{it}.h" for it in ("dcsctp_processor", "dcsctp_msan")}
 
 # What a package has to have in its own folder, since it is published alone, and whose it is. (rt ci takes no links.)
-PACKAGED = {f"bindings/{package}/{it}": it for package in ("go", "js", "rust") for it in ("LICENSE", "NOTICE")}
-PACKAGED |= {f"bindings/rust/src/{it}": f"dist/{it}" for it in TEXTS if it.startswith("dcsctp-")}
+PACKAGED = {f"bindings/{package}/{it}": it for package in ("cpp", "go", "js") for it in ("LICENSE", "NOTICE")}
 PACKAGED |= {f"bindings/go/dcsctp_{system}.s": f"dist/dcsctp-{text}.s" for system, text in (
     ("darwin_amd64", "x86_64-macho"), ("darwin_arm64", "aarch64-macho"), ("linux_amd64", "x86_64-elf"),
     ("linux_arm64", "aarch64-elf"), ("windows_amd64", "x86_64-coff"))}
-PACKAGED |= {"bindings/go/dcsctp.h": "dist/dcsctp.h", "bindings/rust/tests/dcsctp.h": "include/dcsctp.h"}
-PACKAGED |= {f"bindings/{at}/{it}.txt": f"examples/{it}.txt" for at in ("python/tests", "rust/examples")
-             for it in ("packets", "expected")}
+PACKAGED |= {f"bindings/go/{it}.h": f"dist/{it}.h" for it in ("dcsctp", "dcsctp_msan")}
+PACKAGED |= {f"bindings/python/tests/{it}.txt": f"examples/{it}.txt" for it in ("packets", "expected")}
 
-# What a text of the library may take from elsewhere; the last two on macOS.
+# What a text may take from a C library; the last two on macOS.
 LIBC = {"malloc", "realloc", "free", "memcpy", "memmove", "memset", "memcmp", "bcmp", "bzero", "__bzero"}
 
 # What the toolchain says of a crate that MANIFEST has. First the C functions of each library below whose contracts the
@@ -149,11 +157,11 @@ class Toolchain:
             import rtlib
 
             self.crates = {it.name: it for it in rtlib.crates_below(ROOT)}
-            for crate, target in ((self.crates.get(name), target) for name, target, _ in TEXTS.values()):
+            for crate, target in ((self.crates.get(CRATES[name]), target) for (name, _), target in COMPARED.items()):
                 _ = crate and (crate.folder, crate.is_program, [it.is_built for it in crate.below()], self.words(crate, target))
         except (AttributeError, ImportError, TypeError) as error:
             fail(f"the toolchain {self.version} doesn't give the words for a build: {error!r}")
-        lacking = {name for name, _, _ in TEXTS.values()} - set(self.crates)
+        lacking = set(CRATES.values()) - set(self.crates)
         if lacking:
             fail(f"crates.txt has no {', '.join(sorted(lacking))}")
         # One program of the toolchain is all of LLVM's tools, by the name that it is called by.
@@ -211,13 +219,13 @@ class Toolchain:
         self.built[name, target] = module, clang, f"{to}/made", verdict
         return self.built[name, target]
 
-    def assemble(self, text, triple):
+    def assemble(self, text, name, triple):
         """The object that the toolchain's clang makes of a text."""
-        path = f"{self.work}/text"
+        path = f"{self.work}/{name}"
         write(f"{path}.s", text)
         march = ["-march=x86-64-v2"] if triple.startswith("x86_64") else []
         output_of([self.clang, f"--target={triple}", "--no-default-config", *march, "-c", "-o", f"{path}.o", f"{path}.s"],
-                  f"the text isn't assembled for {triple}")
+                  f"{name} isn't assembled for {triple}")
         return f"{path}.o"
 
     def image(self, file):
@@ -234,96 +242,95 @@ class Toolchain:
         return {it[1:] if is_macho else it for it in found}
 
 
-# ---- the text
+# ---- modules and texts
 
-# A line whose quotes hold no name.
-IS_DATA = re.compile(r'\t\.(ascii|asciz|string|ident)\b')
-QUOTED = re.compile(r'"([^"\\]*)"')
-# Marks for a 32-bit linker, and the version of macOS, which whoever assembles it says.
-DROPPED = re.compile(r'\t\.build_version\b.*\n|\t\.def\t"?@feat\.00"?;(.*\n)+?"?@feat\.00"? = 0\n')
-DEFINED = re.compile(r'^("[^"\\]*"|[A-Za-z_.$][\w.$]*):', re.M)
+QUOTED = re.compile(r'(@?)"([^"]*)"')
+# Attributes for one processor.
+OF_PROCESSOR = re.compile(r' "(target-cpu|target-features|tune-cpu)"="[^"]*"')
 
 
 def plain_name(name):
-    return re.sub(r"[^\w.$]+", ".", name, flags=re.A).rstrip(".")
+    # (types that differ by these; and LLVM adds a number to some, after a dot)
+    name = name.replace("()", "unit").replace("*", "pointer")
+    return re.sub(r"[^\w.$]+\.?", ".", name, flags=re.A).rstrip(".")
 
 
 def plain(text):
-    """The text with names that every assembler takes, in the place of those that stand in quotes."""
-    text = DROPPED.sub("", text)
-    taken = {}
-    for name in (it.strip('"') for it in DEFINED.findall(text)):
-        if taken.setdefault(plain_name(name), name) != name:
-            fail(f"two functions would be called {plain_name(name)}: {name} and {taken[plain_name(name)]}")
-
+    """What clang writes of rattle's own module, with the names that the module in dist/ has."""
     def renamed(match):
         # (the flags of a section stay in quotes)
-        return match[0] if re.fullmatch(r"[\w.$-]*", match[1], re.A) else plain_name(match[1])
+        return match[0] if re.fullmatch(r"[\w.$-]*", match[2], re.A) else plain_name(match[2])
 
-    lines = (it if IS_DATA.match(it) else QUOTED.sub(renamed, it) for it in text.splitlines())
-    return "".join(f"{it}\n" for it in lines if it)
-
-
-def own_labels(text, triple, prefix):
-    """The text with a prefix in its local labels, which the code beside it may have too, where rustc assembles both as one."""
-    label = r"(L|l(?=CPI))" if "apple" in triple else r"(\.L)"
-    label = re.compile(rf"(?<![\w.]){label}(?=[A-Za-z])", re.A)
-    return "".join(it if IS_DATA.match(it) else label.sub(rf"\1{prefix}", it) for it in text.splitlines(True))
+    lines = texts.DROPPED.sub("", text).splitlines(True)
+    return "".join(it if texts.IS_DATA.match(it) else QUOTED.sub(renamed, it) for it in lines if it != "\n")
 
 
-def written(tools, module, words, triple, is_retargeted):
-    """What clang writes of a module."""
-    words = [it for it in words if not it.startswith(("--target=", "--sysroot="))]
-    words[words.index("-c")] = "-S"
-    words[words.index("-o") + 1] = "-"
-    words[words.index("-x") + 2] = module
-    if is_retargeted:
-        words[words.index("-Werror")] = "-Wno-override-module"
-    if "windows" in triple:
-        # A section's name would have the function's, and isn't quoted there.
-        words = [it for it in words if it not in ("-ffunction-sections", "-fdata-sections")]
-    if triple.startswith("arm64"):
-        # As GNU writes instructions on vectors, and not Apple alone.
-        words += ["-mllvm", "-aarch64-neon-syntax=generic"]
-    return output_of([tools.clang, f"--target={triple}", *words, "-fno-verbose-asm", "-fno-addrsig"],
-                     f"the module isn't compiled for {triple}", cwd=tools.work)
+def named(text, name):
+    """The same with a program's names of what it takes from its system."""
+    if name not in texts.PROGRAMS:
+        return text
+    found = re.compile(rf"(?<![\w.$])({'|'.join(OF_SYSTEM)})(?![\w.$])")
+    lines = text.replace(".text.main,", ".text.rattle_main,").splitlines(True)
+    return "".join(it if texts.IS_DATA.match(it) else found.sub(lambda word: OF_SYSTEM[word[1]], it) for it in lines)
 
 
-# What every function of a text has, beside what rattle gave it: tables for unwinding; and on arm64 x18 stays as it is, which
-# Android, Fuchsia and shadow call stacks reserve.
-UNWOUND, FEATURES, KEPT_X18 = "uwtable", re.compile(r'"target-features"="([^"]*)"'), "+reserve-x18"
-
-
-def without_marks(text):
-    """The text without the tables."""
-    return re.sub(r"^\t\.cfi_.*\n", "", text, flags=re.M)
-
-
-def marked(tools, module, triple):
-    """The module, whose functions have tables for unwinding and keep the registers that a system may reserve."""
+def neutral(tools, name):
+    """The module of dist/: the one for Linux on x86-64 without what is of that system alone."""
+    module = tools.build(CRATES[name], LINUX)[0]
     words = ["-S", "-emit-llvm", "-Xclang", "-disable-llvm-passes", "--no-default-config", "-x", "ir", module, "-o", "-"]
     text = output_of([tools.clang, *words], "the module isn't read")
+    text = re.sub(r"^(; ModuleID|target ).*\n", "", text, flags=re.M)
     if lacking := [it for it in re.findall(r"^define .*", text, re.M) if not re.search(r" #\d+ ", it)]:
         fail(f"a function without attributes: {lacking[0]}")
+    defines, taken = set(re.findall(r"^define .* (#\d+) .*", text, re.M)), {}
 
-    def more(found):
-        said = found[2]
-        if triple.startswith(("aarch64", "arm64")):
-            old = FEATURES.search(said)
-            said = FEATURES.sub("", said) + f'"target-features"="{old[1] + "," if old else ""}{KEPT_X18}" '
-        return f"{found[1]} {UNWOUND}{said}}}"
+    def attributes(found):
+        said = OF_PROCESSOR.sub("", found[3].replace(texts.OLDEST, '"oldest-processor"'))
+        return f"{found[1]}{' uwtable' if found[2] in defines else ''}{said}"
 
-    path = f"{tools.work}/marked.ll"
-    write(path, re.sub(r"^(attributes #\d+ = \{)(.*)\}$", more, text, flags=re.M))
-    return path
+    def renamed(match):
+        if not match[1]:
+            return match[0]
+        if taken.setdefault(plain_name(match[2]), match[2]) != match[2]:
+            fail(f"two functions would be called {plain_name(match[2])}: {match[2]} and {taken[plain_name(match[2])]}")
+        return f"@{plain_name(match[2])}"
+
+    text = QUOTED.sub(renamed, re.sub(r"^(attributes (#\d+) = \{)(.*)", attributes, text, flags=re.M))
+    if name in texts.PROGRAMS:
+        text = re.sub(rf"(?<=@)({'|'.join(OF_SYSTEM)})(?=\()", lambda found: OF_SYSTEM[found[1]], text)
+        # (two of them have one name)
+        declared = re.findall(r"^declare .*@(\w+)\(.*\n", text, re.M)
+        for it in (it for it in set(declared) if declared.count(it) > 1):
+            text = re.sub(rf"^declare .*@{it}\(.*\n", "", text, count=1, flags=re.M)
+    return text
 
 
-def heap(tools, triple):
-    """The functions by which the proved code gets memory, under labels that the text has not."""
-    words = ["-O2", "-fPIC", "-c", "-x", "ir", "", "-o", "", "--no-default-config", "-Werror"]
-    text = plain(written(tools, marked(tools, f"{ROOT}/dist/heap.ll", triple), words, triple, True))
-    text = own_labels(text, triple, "dcsctp_heap_")
-    return re.sub(r'\t\.file\t.*\n|\t\.section\t"?\.note\.GNU-stack.*\n|\.subsections_via_symbols\n', "", text)
+def compare_with_rattle(tools, name, module, system):
+    """Whether the module gives for a system what rattle compiles for it. Returns a sentence, and what the toolchain says."""
+    target = COMPARED[name, system]
+    own, words, built, verdict = tools.build(CRATES[name], target)
+    as_rattle = texts.AS_RATTLE[system]
+    words = [it for it in words if not it.startswith(("--target=", "--sysroot="))]
+    words[words.index("-c")], words[words.index("-o") + 1], words[words.index("-x") + 2] = "-S", "-", own
+    known = {*texts.WORDS, *as_rattle.words, *(texts.PROGRAM if name in texts.PROGRAMS else texts.LIBRARY)}
+    # (on arm64 rattle has had LLVM's passes run before)
+    if other := (known ^ set(words)) - {"-S", "-o", "-", "-x", "ir", own, "-Xclang", "-disable-llvm-passes"}:
+        fail(f"rattle calls clang otherwise than texts.py: {' '.join(sorted(other))}")
+    text = plain(output_of([tools.clang, f"--target={target}", *words, "-fno-verbose-asm", "-fno-addrsig"],
+                           f"the module isn't compiled for {target}", cwd=tools.work))
+    image = tools.image(tools.assemble(text, f"{name}-{system}", target))
+    if image != tools.image(built):
+        fail(f"the module of {CRATES[name]} doesn't assemble to what rattle built for {target}")
+    is_program = name in texts.PROGRAMS
+    bare = texts.compiled(tools.clang, module, as_rattle, is_program)
+    if bare != named(text, name):
+        fail(f"dist/{name}.ll gives other code than rattle built for {target}")
+    if system == "x86_64-elf":
+        # The tables change nothing else. (on arm64 they do, as x18 does)
+        unwound = texts.compiled(tools.clang, module, as_rattle._replace(is_unwound=True), is_program)
+        if re.sub(r"^\t\.cfi_.*\n", "", unwound, flags=re.M) != bare:
+            fail(f"{name}-{system}.s: the tables for unwinding changed the code")
+    return f"its {len(image):,} bytes of code and data are those that rattle built", verdict
 
 
 def header_functions():
@@ -333,37 +340,21 @@ def header_functions():
     return set(re.findall(r"\b(dcsctp_\w+)\(", header)) - set(of_header)
 
 
-def made(tools, file):
-    """A text of TEXTS, and what the toolchain says of its crate."""
-    crate, target, triple = TEXTS[file]
-    module, words, built, verdict = tools.build(crate, target)
-    text = plain(written(tools, marked(tools, module, triple), words, triple, True))
-    said = "not compared"
-    if triple == target:
-        as_built = plain(written(tools, module, words, triple, False))
-        image = tools.image(tools.assemble(as_built, triple))
-        if image != tools.image(built):
-            fail(f"{file} doesn't assemble to what rattle built of {crate}")
-        said = f"its {len(image):,} bytes of code and data are those that rattle built"
-        if without_marks(text) != without_marks(as_built):
-            said = f"but for x18 {said}" if triple.startswith("aarch64") else fail(f"{file}: the tables changed the code")
-    text = own_labels(text, triple, "dcsctp_")
-    if "rattle_alloc" in text:
-        text += heap(tools, triple)
-    is_program = tools.crates[crate].is_program
-    if is_program:
-        text = re.sub(r"(?<![\w.$])main(?![\w.$])", "rattle_main", text)
-    object_file = tools.assemble(text, triple)
+def made(tools, name, module, system):
+    """The text of a module for a system, and a line that says what it has."""
+    file = f"{name}-{system}.s"
+    text = texts.text_of(tools.clang, module, name, texts.SYSTEMS[system])
+    object_file = tools.assemble(text, file, texts.SYSTEMS[system].triple)
+    is_program = name in texts.PROGRAMS
     visible, wanted = tools.names(object_file, "-g", "--defined-only"), {"rattle_main"} if is_program else header_functions()
     if visible != wanted:
-        fail(f"{file}: what is visible isn't what include/dcsctp.h declares: {' '.join(sorted(visible ^ wanted))}")
+        fail(f"{file}: what is visible isn't what it has to be: {' '.join(sorted(visible ^ wanted))}")
     needed = tools.names(object_file, "-u") - {"_GLOBAL_OFFSET_TABLE_"}
-    if not is_program and needed - LIBC:
-        fail(f"{file} needs {' '.join(sorted(needed - LIBC))}, and dist/README.md says that it needs libc alone")
+    if more := needed - LIBC - ({*OF_PROGRAM, ON_WINDOWS} if is_program else set()):
+        fail(f"{file} needs {' '.join(sorted(more))}, and dist/README.md says that it doesn't")
     if tools.work in text or ROOT in text:
         fail(f"{file} has a path of this machine in it")
-    print(f"{file}: {len(text):,} bytes, {text.count(chr(10)):,} lines; {said}; needs {' '.join(sorted(needed))}")
-    return text, verdict
+    return text, f"{file}: {len(text):,} bytes, {text.count(chr(10)):,} lines; needs {' '.join(sorted(needed))}"
 
 
 # ---- the manifest
@@ -383,8 +374,7 @@ def source_sum(folder):
 def manifest_head(tools):
     """What the texts are made from: the version, the toolchain, and the sources of each crate in them."""
     version = re.search(r'^#define DCSCTP_VERSION "(.*)"$', read(f"{ROOT}/include/dcsctp.h").decode(), re.M)[1]
-    named = (tools.crates[it] for it, _, _ in TEXTS.values())
-    crates = {it.name: it.folder for crate in named for it in (*crate.below(), crate)}
+    crates = {it.name: it.folder for name in CRATES.values() for it in (*tools.crates[name].below(), tools.crates[name])}
     head = f"# dcsctp {version}; dist/README.md says how to check this\n# toolchain {tools.version}\n"
     return head + "".join(f"# source {source_sum(crates[it])} {it}\n" for it in sorted(crates))
 
@@ -417,7 +407,7 @@ def on_libraries(tools, given):
     old, logs = said_before(given), {}
     for log in given.log:
         logs |= verdicts_in(read(log).decode(errors="replace"))
-    libraries = dict.fromkeys(it.name for name, _, _ in TEXTS.values() for it in tools.crates[name].below())
+    libraries = dict.fromkeys(it.name for name in CRATES.values() for it in tools.crates[name].below())
     return {it: on_library(tools, it, old, logs, given.compare) for it in libraries}
 
 
@@ -459,19 +449,19 @@ def main():
     parser.add_argument("--into", default=f"{ROOT}/dist")
     parser.add_argument("--jobs", type=int, default=1)
     parser.add_argument("--log", action="append", default=[])
-    parser.add_argument("files", nargs="*")
+    parser.add_argument("names", nargs="*")
     parser.add_argument("--help", action="store_true")
     given = parser.parse_args()
     if given.help:
         print(__doc__.strip())
         return
-    for it in given.files:
-        if it not in TEXTS:
-            fail(f"{it} isn't one of {' '.join(TEXTS)}")
+    for it in given.names:
+        if it not in CRATES:
+            fail(f"{it} isn't one of {' '.join(CRATES)}")
     if not given.copies:
         with tempfile.TemporaryDirectory() as work:
-            make(Toolchain(work, given.jobs, not given.compare and not given.files), given, f"{work}/fresh")
-    if given.copies or (given.into == f"{ROOT}/dist" and not given.files):
+            make(Toolchain(work, given.jobs, not given.compare and not given.names), given, f"{work}/fresh")
+    if given.copies or (given.into == f"{ROOT}/dist" and not given.names):
         package(given.compare)
 
 
@@ -492,24 +482,35 @@ def package(is_compared):
 def make(tools, given, fresh):
     os.makedirs(fresh)
     head = manifest_head(tools)
-    if given.compare and not given.files and os.path.isfile(f"{given.into}/MANIFEST"):
+    if given.compare and not given.names and os.path.isfile(f"{given.into}/MANIFEST"):
         # What needs no build comes first.
         old = read(f"{given.into}/MANIFEST").decode().splitlines()
         changed = [it.split()[-1] if it.startswith("# source") else it[2:] for it in head.splitlines() if it not in old]
         if changed:
             fail(f"changed since dist/ was made: {', '.join(changed)}; run dist/make.py")
-    said, built = {} if given.files else on_libraries(tools, given), {}
-    for file in given.files or TEXTS:
-        text, verdict = made(tools, file)
-        write(f"{fresh}/{file}", text)
-        # (several texts of a crate can have one build)
-        lines = built.setdefault(TEXTS[file][0], [])
-        lines += [it for it in verdict if it not in lines]
-    if not given.files:
+    said, built = {} if given.names else on_libraries(tools, given), {}
+    modules = {name: neutral(tools, name) for name in given.names or CRATES}
+    for name, module in modules.items():
+        write(f"{fresh}/{name}.ll", module)
+        for system in (it for known, it in COMPARED if known == name):
+            sentence, verdict = compare_with_rattle(tools, name, module, system)
+            print(f"{name} for {system}: {sentence}")
+            # (several builds of a crate say some lines alike)
+            lines = built.setdefault(CRATES[name], [])
+            lines += [it for it in verdict if it not in lines]
+    wanted = [(file, name, system) for file, (name, system) in texts.TEXTS.items() if name in modules]
+    with ThreadPoolExecutor(given.jobs) as pool:
+        ran = [(file, pool.submit(made, tools, name, modules[name], system)) for file, name, system in wanted]
+        for file, it in ran:
+            text, line = it.result()
+            write(f"{fresh}/{file}", text)
+            print(line)
+    if not given.names:
         for name, source in COPIES.items():
             shutil.copyfile(f"{ROOT}/{source}", f"{fresh}/{name}")
         # (as sha256sum takes it, for which a line with # says nothing)
-        sums = "".join(f"{sum_of(read(f'{fresh}/{it}'))}  {it}\n" for it in sorted(os.listdir(fresh)))
+        files = {it: f"{fresh}/{it}" for it in os.listdir(fresh)} | {it: f"{ROOT}/dist/{it}" for it in MADE_ELSEWHERE}
+        sums = "".join(f"{sum_of(read(path))}  {it}\n" for it, path in sorted(files.items()))
         said |= on_built(built, given)
         verdicts = "".join(f"# proved {name}: {it}\n" for name in sorted(said) for it in said[name])
         write(f"{fresh}/MANIFEST", head + verdicts + sums)

@@ -1,4 +1,3 @@
-	.file	"rattle"
 	.section	.rodata.cst16,"aM",@progbits,16
 	.p2align	4, 0x0
 .Ldcsctp_CPI0_0:
@@ -97,7 +96,7 @@ sctp_show.main.start:
 	xorl	%edi, %edi
 	xorl	%esi, %esi
 	movl	$1, %edx
-	callq	lseek@PLT
+	callq	rattle_lseek@PLT
 	movl	$200001, %edi
 	movl	$1, %esi
 	callq	rattle_alloc@PLT
@@ -118,7 +117,7 @@ sctp_show.main.start:
 	leaq	(%r15,%r14), %rsi
 	xorl	%edi, %edi
 	movq	%rbx, %rdx
-	callq	read@PLT
+	callq	rattle_read@PLT
 	testq	%rax, %rax
 	js	.Ldcsctp_BB0_7
 	cmpq	%rbx, %rax
@@ -355,7 +354,7 @@ sctp_show.main.start:
 	subq	%r14, %rbx
 	movl	$1, %edi
 	movq	%rbx, %rdx
-	callq	write@PLT
+	callq	rattle_write@PLT
 	testq	%rax, %rax
 	js	.Ldcsctp_BB0_69
 	cmpq	%rbx, %rax
@@ -442,7 +441,7 @@ sctp_show.main.start:
 	leaq	.Ldcsctp_JTI0_0(%rip), %rdi
 	movslq	(%rdi,%rcx,4), %rcx
 	addq	%rdi, %rcx
-	jmpq	*%rcx
+	notrack jmpq	*%rcx
 .Ldcsctp_BB0_82:
 	movq	%r8, 80(%rsp)
 	pxor	%xmm0, %xmm0
@@ -651,7 +650,7 @@ sctp_show.main.start:
 	leaq	.Ldcsctp_JTI0_1(%rip), %rax
 	movslq	(%rax,%rbx,4), %rcx
 	addq	%rax, %rcx
-	jmpq	*%rcx
+	notrack jmpq	*%rcx
 .Ldcsctp_BB0_118:
 	movb	%dil, 96(%rsp)
 	movq	%r8, 104(%rsp)
@@ -1756,7 +1755,7 @@ sctp_show.main.start:
 	subq	%r13, %r14
 	movl	$1, %edi
 	movq	%r14, %rdx
-	callq	write@PLT
+	callq	rattle_write@PLT
 	testq	%rax, %rax
 	js	.Ldcsctp_BB0_302
 	cmpq	%r14, %rax
@@ -1811,7 +1810,7 @@ sctp_show.main.start:
 	leaq	.Ldcsctp_JTI0_2(%rip), %r8
 	movslq	(%r8,%rsi,4), %rsi
 	addq	%r8, %rsi
-	jmpq	*%rsi
+	notrack jmpq	*%rsi
 .Ldcsctp_BB0_328:
 	testq	%rcx, %rcx
 	je	.Ldcsctp_BB0_326
@@ -2173,7 +2172,7 @@ std_io.io.error.last_error:
 	leaq	.Ldcsctp_JTI1_0(%rip), %rsi
 	movslq	(%rsi,%rax,4), %rax
 	addq	%rsi, %rax
-	jmpq	*%rax
+	notrack jmpq	*%rax
 .Ldcsctp_BB1_3:
 	movb	$1, %dl
 	jmp	.Ldcsctp_BB1_40
@@ -2476,7 +2475,7 @@ dcsctp_tlv.reader.list_check.a9faab4c914c0483:
 	leaq	.Ldcsctp_JTI2_0(%rip), %rbx
 	movslq	(%rbx,%r14,4), %r14
 	addq	%rbx, %r14
-	jmpq	*%r14
+	notrack jmpq	*%r14
 .Ldcsctp_BB2_18:
 	cmpl	$8, %r11d
 	jmp	.Ldcsctp_BB2_11
@@ -3036,7 +3035,7 @@ dcsctp_tlv.parameter.parameters_fill:
 	leaq	.Ldcsctp_JTI5_0(%rip), %rcx
 	movslq	(%rcx,%rax,4), %rax
 	addq	%rcx, %rax
-	jmpq	*%rax
+	notrack jmpq	*%rax
 .Ldcsctp_BB5_17:
 	leaq	-16(%r12), %rbx
 	movq	%rbx, %r15
@@ -3742,7 +3741,7 @@ dcsctp_cause.error_causes.error_cause_fill:
 	leaq	.Ldcsctp_JTI6_0(%rip), %rcx
 	movslq	(%rcx,%rax,4), %rax
 	addq	%rcx, %rax
-	jmpq	*%rax
+	notrack jmpq	*%rax
 .Ldcsctp_BB6_15:
 	movl	4(%r14), %eax
 	testl	%eax, %eax
@@ -4686,7 +4685,7 @@ std_alloc.vec.Vec.drop.765a829dcb308622:
 	leaq	.Ldcsctp_JTI9_0(%rip), %r8
 	movslq	(%r8,%rsi,4), %rsi
 	addq	%r8, %rsi
-	jmpq	*%rsi
+	notrack jmpq	*%rsi
 .Ldcsctp_BB9_5:
 	testq	%rcx, %rcx
 	jne	.Ldcsctp_BB9_8
@@ -4787,7 +4786,7 @@ std_alloc.vec.Vec.drop.694f3e952ffd1e0b:
 	leaq	.Ldcsctp_JTI10_0(%rip), %rdx
 	movslq	(%rdx,%rcx,4), %rcx
 	addq	%rdx, %rcx
-	jmpq	*%rcx
+	notrack jmpq	*%rcx
 .Ldcsctp_BB10_3:
 	testq	%rax, %rax
 	jne	.Ldcsctp_BB10_6
@@ -5342,7 +5341,7 @@ sctp_show.text.text_of:
 	leaq	.Ldcsctp_JTI11_0(%rip), %rcx
 	movslq	(%rcx,%rax,4), %rax
 	addq	%rcx, %rax
-	jmpq	*%rax
+	notrack jmpq	*%rax
 .Ldcsctp_BB11_30:
 	movzbl	44(%r10,%r14), %eax
 	leaq	.Ldcsctp_static.24(%rip), %rcx
@@ -5462,7 +5461,7 @@ sctp_show.text.text_of:
 	leaq	.Ldcsctp_JTI11_0(%rip), %rcx
 	movslq	(%rcx,%rax,4), %rax
 	addq	%rcx, %rax
-	jmpq	*%rax
+	notrack jmpq	*%rax
 .Ldcsctp_BB11_36:
 	movl	8(%r10,%r14), %eax
 	movl	20(%r10,%r14), %ecx
@@ -7983,7 +7982,7 @@ sctp_show.text.text_of:
 	movslq	(%r10,%rax,4), %rax
 	addq	%r10, %rax
 	xorl	%ebp, %ebp
-	jmpq	*%rax
+	notrack jmpq	*%rax
 .Ldcsctp_BB11_409:
 	leaq	.Ldcsctp_static.4(%rip), %rsi
 	movq	%rsp, %rdi
@@ -8467,7 +8466,7 @@ sctp_show.text.text_of:
 	movslq	(%r10,%rax,4), %rax
 	addq	%r10, %rax
 	movl	$8, %edx
-	jmpq	*%rax
+	notrack jmpq	*%rax
 .Ldcsctp_BB11_494:
 	movq	8(%r12,%rdi), %rsi
 	movq	16(%r12,%rdi), %rdx
@@ -8526,7 +8525,7 @@ sctp_show.text.text_of:
 	leaq	.Ldcsctp_JTI11_3(%rip), %rdi
 	movslq	(%rdi,%r9,4), %r9
 	addq	%rdi, %r9
-	jmpq	*%r9
+	notrack jmpq	*%r9
 .Ldcsctp_BB11_508:
 	movq	48(%r12,%rdi), %rcx
 	addq	24(%r12,%rdi), %rcx
@@ -8554,7 +8553,7 @@ sctp_show.text.text_of:
 	leaq	.Ldcsctp_JTI11_2(%rip), %rdi
 	movslq	(%rdi,%r9,4), %r9
 	addq	%rdi, %r9
-	jmpq	*%r9
+	notrack jmpq	*%r9
 .Ldcsctp_BB11_511:
 	movq	16(%r12,%rdi), %rax
 	leaq	20(%rax), %rcx
@@ -8620,7 +8619,7 @@ sctp_show.text.text_of:
 	leaq	.Ldcsctp_JTI11_4(%rip), %rcx
 	movslq	(%rcx,%r8,4), %r8
 	addq	%rcx, %r8
-	jmpq	*%r8
+	notrack jmpq	*%r8
 .Ldcsctp_BB11_529:
 	movq	-8(%rsi), %r9
 	leaq	8(,%r9,2), %r8
@@ -8642,7 +8641,7 @@ sctp_show.text.text_of:
 	movslq	(%rdi,%r8,4), %r9
 	addq	%rdi, %r9
 	movl	$8, %r8d
-	jmpq	*%r9
+	notrack jmpq	*%r9
 .Ldcsctp_BB11_528:
 	movq	-8(%rsi), %r9
 	leaq	4(%r9), %r8
@@ -8746,7 +8745,7 @@ sctp_show.text.text_of:
 	movslq	(%rdi,%r8,4), %r9
 	addq	%rdi, %r9
 	movl	$8, %r8d
-	jmpq	*%r9
+	notrack jmpq	*%r9
 .Ldcsctp_BB11_548:
 	movq	-8(%rsi), %r9
 	leaq	8(,%r9,2), %r8
@@ -8788,7 +8787,7 @@ sctp_show.text.text_of:
 	movslq	(%rcx,%rsi,4), %r8
 	addq	%rcx, %r8
 	movl	$4, %esi
-	jmpq	*%r8
+	notrack jmpq	*%r8
 .Ldcsctp_BB11_556:
 	movq	16(%r12,%rdi), %rsi
 	addq	$12, %rsi
@@ -8828,7 +8827,7 @@ sctp_show.text.text_of:
 	leaq	.Ldcsctp_JTI11_5(%rip), %r10
 	movslq	(%r10,%r9,4), %r9
 	addq	%r10, %r9
-	jmpq	*%r9
+	notrack jmpq	*%r9
 .Ldcsctp_BB11_564:
 	movq	-16(%rdi), %r9
 	jmp	.Ldcsctp_BB11_562
@@ -8885,7 +8884,7 @@ sctp_show.text.text_of:
 	leaq	.Ldcsctp_JTI11_6(%rip), %r13
 	movslq	(%r13,%r11,4), %r11
 	addq	%r13, %r11
-	jmpq	*%r11
+	notrack jmpq	*%r11
 .Ldcsctp_BB11_577:
 	movq	-8(%rdi), %r11
 	leaq	4(,%r11,2), %r11
@@ -8926,7 +8925,7 @@ sctp_show.text.text_of:
 	leaq	.Ldcsctp_JTI11_8(%rip), %r10
 	movslq	(%r10,%r9,4), %r9
 	addq	%r10, %r9
-	jmpq	*%r9
+	notrack jmpq	*%r9
 .Ldcsctp_BB11_586:
 	movq	-16(%rdi), %r9
 	jmp	.Ldcsctp_BB11_584
@@ -8989,7 +8988,7 @@ sctp_show.text.text_of:
 	leaq	.Ldcsctp_JTI11_9(%rip), %r10
 	movslq	(%r10,%r9,4), %r9
 	addq	%r10, %r9
-	jmpq	*%r9
+	notrack jmpq	*%r9
 .Ldcsctp_BB11_601:
 	movq	-16(%rdi), %r9
 	jmp	.Ldcsctp_BB11_599
@@ -9044,7 +9043,7 @@ sctp_show.text.text_of:
 	leaq	.Ldcsctp_JTI11_11(%rip), %r10
 	movslq	(%r10,%r9,4), %r9
 	addq	%r10, %r9
-	jmpq	*%r9
+	notrack jmpq	*%r9
 .Ldcsctp_BB11_614:
 	movq	-16(%rdi), %r9
 	jmp	.Ldcsctp_BB11_612
@@ -9102,7 +9101,7 @@ sctp_show.text.text_of:
 	leaq	.Ldcsctp_JTI11_10(%rip), %r10
 	movslq	(%r10,%r9,4), %r9
 	addq	%r10, %r9
-	jmpq	*%r9
+	notrack jmpq	*%r9
 .Ldcsctp_BB11_628:
 	movq	-16(%rdi), %r9
 	jmp	.Ldcsctp_BB11_626
@@ -9169,7 +9168,7 @@ sctp_show.text.text_of:
 	leaq	.Ldcsctp_JTI11_7(%rip), %r13
 	movslq	(%r13,%r11,4), %r11
 	addq	%r13, %r11
-	jmpq	*%r11
+	notrack jmpq	*%r11
 .Ldcsctp_BB11_644:
 	movq	-8(%rdi), %r11
 	leaq	4(,%r11,2), %r11
@@ -10556,7 +10555,7 @@ dcsctp_tlv.list.listed_encoded_size.cada439fb2c2aae5:
 	leaq	.Ldcsctp_JTI20_0(%rip), %rax
 	movslq	(%rax,%r10,4), %r10
 	addq	%rax, %r10
-	jmpq	*%r10
+	notrack jmpq	*%r10
 .Ldcsctp_BB20_1:
 	xorl	%ecx, %ecx
 	jmp	.Ldcsctp_BB20_17
@@ -10577,7 +10576,7 @@ dcsctp_tlv.list.listed_encoded_size.cada439fb2c2aae5:
 	movslq	(%rax,%r9,4), %r10
 	addq	%rax, %r10
 	movl	$8, %r9d
-	jmpq	*%r10
+	notrack jmpq	*%r10
 .Ldcsctp_BB20_10:
 	movq	-16(%rsi), %r10
 	leaq	4(%r10), %r9
@@ -10732,7 +10731,7 @@ dcsctp_wire.packet.chunk.ChunkSerializableTlv.serialize_to:
 	leaq	.Ldcsctp_JTI21_0(%rip), %rcx
 	movslq	(%rcx,%rax,4), %rax
 	addq	%rcx, %rax
-	jmpq	*%rax
+	notrack jmpq	*%rax
 .Ldcsctp_BB21_1:
 	movzbl	60(%rdi), %eax
 	movzbl	50(%rdi), %ecx
@@ -11710,7 +11709,7 @@ dcsctp_tlv.list.put_listed.cada439fb2c2aae5:
 	leaq	.Ldcsctp_JTI22_0(%rip), %rcx
 	movslq	(%rcx,%rax,4), %rax
 	addq	%rcx, %rax
-	jmpq	*%rax
+	notrack jmpq	*%rax
 .Ldcsctp_BB22_23:
 	movq	8(%r12,%rdx), %rsi
 	movq	16(%r12,%rdx), %rdx
@@ -12542,7 +12541,7 @@ dcsctp_tlv.list.put_listed.f123a6a91b68d363:
 	leaq	.Ldcsctp_JTI23_0(%rip), %rdx
 	movslq	(%rdx,%rcx,4), %rcx
 	addq	%rdx, %rcx
-	jmpq	*%rcx
+	notrack jmpq	*%rcx
 .Ldcsctp_BB23_5:
 	movq	8(%r12,%rax), %rcx
 	movq	16(%r12,%rax), %rax
@@ -13132,7 +13131,7 @@ std_alloc.vec.Vec.drop.5e412c9b2b6de7d3:
 	leaq	.Ldcsctp_JTI24_0(%rip), %r8
 	movslq	(%r8,%rsi,4), %rsi
 	addq	%r8, %rsi
-	jmpq	*%rsi
+	notrack jmpq	*%rsi
 .Ldcsctp_BB24_3:
 	testq	%rcx, %rcx
 	je	.Ldcsctp_BB24_17
@@ -13372,12 +13371,13 @@ std_alloc.vec.Vec.drop.5e412c9b2b6de7d3:
 	.byte	117
 	.byte	32
 	.byte	120
-	.section	.text.main,"ax",@progbits
+	.section	.text.rattle_main,"ax",@progbits
 	.globl	rattle_main
 	.p2align	4
 	.type	rattle_main,@function
 rattle_main:
 	.cfi_startproc
+	endbr64
 	pushq	%rbp
 	.cfi_def_cfa_offset 16
 	.cfi_offset %rbp, -16
@@ -13388,12 +13388,12 @@ rattle_main:
 	.cfi_offset %rbx, -24
 	movl	$1, %esi
 	movl	$13, %edi
-	callq	__sysv_signal@PLT
+	callq	rattle_signal@PLT
 	xorl	%edi, %edi
-	callq	__x86_get_cpuid_feature_leaf@PLT
+	callq	rattle_cpuid@PLT
 	movl	24(%rax), %ebx
 	movl	$2, %edi
-	callq	__x86_get_cpuid_feature_leaf@PLT
+	callq	rattle_cpuid@PLT
 	notl	%ebx
 	testl	$9970177, %ebx
 	jne	.Ldcsctp_BB25_2
@@ -13438,7 +13438,7 @@ rattle_main:
 	movw	$2612, 132(%rsi)
 	movl	$134, %edx
 	movl	$2, %edi
-	callq	__write@PLT
+	callq	rattle_write@PLT
 	movl	$127, %eax
 	leaq	-8(%rbp), %rsp
 	popq	%rbx
@@ -13754,7 +13754,7 @@ rattle_main:
 	.size	.Ldcsctp_switch.table.sctp_show.main.start.535.rel, 20
 	.ident	"rattle logic=dac8208d650f15bf3e2dc313a14fa4c783a3acf887bdfab66e1714b038d9e11b"
 	.section	".note.GNU-stack","",@progbits
-	.text
+	.section	.text.rattle_alloc,"ax",@progbits
 	.p2align	4
 	.type	rattle_alloc,@function
 rattle_alloc:
@@ -13776,6 +13776,7 @@ rattle_alloc:
 .Ldcsctp_heap_func_end0:
 	.size	rattle_alloc, .Ldcsctp_heap_func_end0-rattle_alloc
 	.cfi_endproc
+	.section	.text.rattle_realloc,"ax",@progbits
 	.p2align	4
 	.type	rattle_realloc,@function
 rattle_realloc:
@@ -13798,6 +13799,7 @@ rattle_realloc:
 .Ldcsctp_heap_func_end1:
 	.size	rattle_realloc, .Ldcsctp_heap_func_end1-rattle_realloc
 	.cfi_endproc
+	.section	.text.rattle_dealloc,"ax",@progbits
 	.p2align	4
 	.type	rattle_dealloc,@function
 rattle_dealloc:
@@ -13807,8 +13809,15 @@ rattle_dealloc:
 	.size	rattle_dealloc, .Ldcsctp_heap_func_end2-rattle_dealloc
 	.cfi_endproc
 	.type	rattle_none,@object
-	.section	.rodata,"a",@progbits
+	.section	.rodata.rattle_none,"a",@progbits
 	.p2align	4, 0x0
 rattle_none:
 	.zero	16
 	.size	rattle_none, 16
+	.ifndef	dcsctp_without_note
+	.section	.note.gnu.property,"a",@note
+	.p2align	3
+	.long	4, 16, 5
+	.asciz	"GNU"
+	.long	0xc0000002, 4, 3, 0
+	.endif

@@ -1,4 +1,5 @@
 #!/usr/bin/env python3
+# SPDX-License-Identifier: Apache-2.0
 """usage: dist/stack.py --compare | --write | --help
 
 Finds, in each text of the C library in dist/, the most bytes of stack that a call of each export takes: its frames and those of the
@@ -14,7 +15,7 @@ import re
 import sys
 
 ROOT = os.path.dirname(os.path.dirname(os.path.abspath(__file__)))
-TEXTS = ("x86_64-elf", "x86_64-macho", "x86_64-coff", "aarch64-elf", "aarch64-macho")
+TEXTS = ("x86_64-elf", "x86_64-none", "x86_64-macho", "x86_64-coff", "aarch64-elf", "aarch64-macho")
 FILE = f"{ROOT}/dist/stack.txt"
 PAGES = ("docs/C.md", "SECURITY.md")
 HEAD = """# The most bytes of stack that a call takes, by dist/stack.py, but for those of libc: the name, and in the text of each system.
@@ -25,7 +26,7 @@ LABEL = re.compile(r'^"?(?!\.?L|l?tmp|l_|lCPI)([\w.$]+)"?:')
 # a pointer; and what is just before a jump by a table.
 X86 = {
     "push": r"pushq\s()", "take": r"subq\s+\$(\d+), %rsp()", "unknown": r"(?:sub|and)q\s+[^,]*[%-][^,]*, %rsp",
-    "call": r"(?:callq?|j\w+)\s+([^*\s]+)", "pointer": r"callq?\s+\*", "jump": r"jmpq?\s+\*",
+    "call": r"(?:callq?|j\w+)\s+([^*\s]+)", "pointer": r"callq?\s+\*", "jump": r"(?:notrack\s+)?jmpq?\s+\*",
     "table": r"movslq\s+\(%\w+,%\w+,4\)",
 }
 ARM = {

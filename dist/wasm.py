@@ -1,18 +1,17 @@
 #!/usr/bin/env python3
-"""usage: dist/wasm.py [--module FILE] [--into FILE] [--compare]
+# SPDX-License-Identifier: Apache-2.0
+"""usage: dist/wasm.py [--compare]
 
-Makes bindings/js/dcsctp.wasm, the C library as WebAssembly. It takes the toolchain, and wasm-opt of binaryen.
+Makes bindings/js/dcsctp.wasm, the C library as WebAssembly, and dist/sctp_dump.wasm, the program, which the page runs, of the modules
+dist/dcsctp.ll and sctp_dump.ll. It takes the toolchain's clang and linker, and wasm-opt of binaryen. MANIFEST gets the sum of the second.
 
-  --module FILE  the module of dcsctp_c that `rattle build` gave to clang for Linux on x86-64, where it was kept; else
-                 dist/make.py has it made
-  --into FILE    the file, in place of bindings/js/dcsctp.wasm
-  --compare      makes it in a folder of its own, and fails where it isn't what lies there
-  --help         prints this
+  --compare  makes them in a folder of its own, and fails where one isn't what lies there
+  --help     prints this
 
 No verdict is given for WebAssembly: the functions are those of the module for x86-64, compiled for a system whose
 pointers and sizes are as wide and whose words have the same order of bytes. What is made has a 64-bit memory, and
-wasm-opt lowers it to one of 32 bits, which every browser has. It imports nothing, and exports its memory, the functions
-of the header, malloc and free.
+wasm-opt lowers it to one of 32 bits, which every browser has. It exports its memory, the functions of the header or the start of the
+program, malloc and free. The library imports nothing, and the program what dist/program.c has elsewhere.
 """
 
 import argparse
@@ -27,18 +26,24 @@ sys.path.insert(0, os.path.dirname(os.path.abspath(__file__)))
 import make  # noqa: E402
 
 SYSTEM = "wasm64-unknown-unknown"
-BINDING = f"{make.ROOT}/bindings/js"
 # As rattle itself compiles for this system: 128-bit numbers are divided in place, and what isn't reached traps.
 FLAGS = ["-mcpu=lime1", "-mllvm", "-expand-div-rem-bits=64", "-mllvm", "-expand-fp-convert-bits=64", "-mllvm",
          "-trap-unreachable", "-ffunction-sections", "-fdata-sections", "-O3", "-Werror", "-Wno-override-module"]
 LOWERING = ["--enable-memory64", "--enable-bulk-memory", "--enable-sign-ext", "--enable-mutable-globals",
             "--enable-nontrapping-float-to-int", "--enable-multivalue", "--memory64-lowering", "-O2", "--strip-producers"]
 # Attributes of a function for x86-64.
-OF_X86 = re.compile(r' "(target-cpu|target-features|tune-cpu|probe-stack|stack-probe-size)"="[^"]*"')
+OF_STACK = re.compile(r' "(?:probe-stack|stack-probe-size)"="[^"]*"|(?<=\{) uwtable')
 DEFINED = re.compile(r"define (?!internal |private )[^@]*@(\w+)\(")
 DECLARED = re.compile(r"declare [^@]*@(\w+)\(")
 # What a WebAssembly module may import, and export, has a byte for its kind.
 KINDS = ("function", "table", "memory", "global")
+
+
+# Of each file its module, what it exports, and what it imports.
+FILES = {
+    "bindings/js/dcsctp.wasm": ("dcsctp", {*make.header_functions(), "malloc", "free"}, set()),
+    "dist/sctp_dump.wasm": ("sctp_dump", {"rattle_main", "malloc"}, make.OF_PROGRAM - {"rattle_main"}),
+}
 
 
 def fail(text):
@@ -49,12 +54,10 @@ make.fail = fail
 
 
 def retargeted(text, exported, imported):
-    """A module in LLVM's text without what is of one system alone; these functions of it are exported, and those imported. A
-    program's main has the name that it has in dist/."""
+    """A module in LLVM's text, of which these functions are exported, and those imported."""
     for line in text.splitlines(True):
         if line.startswith(("target datalayout", "target triple", "@llvm.compiler.used")):
             continue
-        line = re.sub(r"@main\(", "@rattle_main(", line)
         found = DECLARED.match(line)
         if found and found[1] in imported:
             line = f'{line.rstrip()} "wasm-import-module"="env" "wasm-import-name"="{found[1]}"\n'
@@ -64,7 +67,7 @@ def retargeted(text, exported, imported):
             if count != 1:
                 fail(f"the module defines {found[1]} otherwise than this script takes it")
             line += "\n"
-        yield OF_X86.sub("", line)
+        yield OF_STACK.sub("", line)
 
 
 def sections(wasm):
@@ -116,9 +119,9 @@ def imports(wasm):
         yield text
 
 
-def compiled(tools, module, work, exported, imported=()):
-    """A library or a program as WebAssembly, linked with a heap, with a 64-bit memory that is lowered. It exports its memory and
-    these functions, and imports no others than those."""
+def compiled(tools, name, work, exported, imported):
+    """A module of dist/ as WebAssembly, linked with a heap, with a 64-bit memory that is lowered. It exports its memory and these
+    functions, and imports no others than those."""
     toolchain = os.path.dirname(os.path.dirname(tools.clang))
     link = f"{os.path.dirname(toolchain)}/bin/rattle-link"
 
@@ -128,14 +131,13 @@ def compiled(tools, module, work, exported, imported=()):
 
     text = ["-S", "-emit-llvm", "-o", "-"]
     parts = {
-        "module": clang(make.LINUX, *text, "-Xclang", "-disable-llvm-passes", "-x", "ir", module),
-        # (these functions are in a file of their own here, so they have to be seen from another)
-        "memory": make.read(f"{make.ROOT}/dist/heap.ll").decode().replace("define internal", "define hidden"),
-        "heap": clang(SYSTEM, *text, *FLAGS, *"-ffreestanding -nostdinc -fno-builtin -fwrapv".split(), f"{BINDING}/heap.c"),
+        "module": make.read(f"{make.ROOT}/dist/{name}.ll").decode(),
+        "memory": make.read(f"{make.ROOT}/dist/heap.ll").decode(),
+        "heap": clang(SYSTEM, *text, *FLAGS, *"-ffreestanding -nostdinc -fno-builtin -fwrapv".split(), f"{make.ROOT}/bindings/js/heap.c"),
     }
-    for name, it in parts.items():
-        make.write(f"{work}/{name}.ll", "".join(retargeted(it, exported, imported)))
-        clang(SYSTEM, *FLAGS, "-c", "-x", "ir", f"{name}.ll", "-o", f"{name}.o")
+    for part, it in parts.items():
+        make.write(f"{work}/{part}.ll", "".join(retargeted(it, exported, imported)))
+        clang(SYSTEM, *FLAGS, "-c", "-x", "ir", f"{part}.ll", "-o", f"{part}.o")
     tools.tool("llvm-ar", "rcsD", f"{work}/module.a", *(f"{work}/{it}.o" for it in parts))
     make.output_of([link, "--target", SYSTEM, "--toolchain", toolchain, "-o", f"{work}/wide.wasm", f"{work}/module.a"],
                    "the module isn't linked for WebAssembly", cwd=work)
@@ -152,8 +154,6 @@ def compiled(tools, module, work, exported, imported=()):
 
 def main():
     parser = argparse.ArgumentParser(usage=__doc__.strip()[7:], add_help=False)
-    parser.add_argument("--module")
-    parser.add_argument("--into", default=f"{BINDING}/dcsctp.wasm")
     parser.add_argument("--compare", action="store_true")
     parser.add_argument("--help", action="store_true")
     given = parser.parse_args()
@@ -162,17 +162,21 @@ def main():
         return
     if not shutil.which("wasm-opt"):
         fail("wasm-opt isn't on PATH (Debian: binaryen)")
-    with tempfile.TemporaryDirectory() as work:
-        tools = make.Toolchain(work, 1)
-        module = os.path.abspath(given.module) if given.module else tools.build("dcsctp_c", make.LINUX)[0]
-        wasm = compiled(tools, module, work, {*make.header_functions(), "malloc", "free"})
-    if given.compare:
-        if not os.path.isfile(given.into) or make.read(given.into) != wasm:
-            fail(f"{given.into} isn't what the sources give; run dist/wasm.py")
-    else:
-        with open(given.into, "wb") as out:
-            out.write(wasm)
-    print(f"{os.path.basename(given.into)}: {len(wasm):,} bytes, without an import")
+    for file, (name, exported, imported) in FILES.items():
+        with tempfile.TemporaryDirectory() as work:
+            wasm = compiled(make.Toolchain(work, 1), name, work, exported, imported)
+        path = f"{make.ROOT}/{file}"
+        if given.compare:
+            if not os.path.isfile(path) or make.read(path) != wasm:
+                fail(f"{file} isn't what the sources give; run dist/wasm.py")
+        else:
+            with open(path, "wb") as out:
+                out.write(wasm)
+        print(f"{file}: {len(wasm):,} bytes; imports {' '.join(sorted(imported)) or 'nothing'}")
+    if not given.compare:
+        manifest = make.read(f"{make.ROOT}/dist/MANIFEST").decode()
+        line = rf"[0-9a-f]{{64}}(?=  {os.path.basename(file)}$)"
+        make.write(f"{make.ROOT}/dist/MANIFEST", re.sub(line, make.sum_of(wasm), manifest, flags=re.M))
 
 
 if __name__ == "__main__":

@@ -1,3 +1,4 @@
+// SPDX-License-Identifier: Apache-2.0
 // The associations as a table.
 import { endText } from './list.mjs';
 import { byId, element, shown } from './text.mjs';

@@ -1,3 +1,4 @@
+// SPDX-License-Identifier: Apache-2.0
 // The sequence diagram of an association: two lifelines, and an arrow for each packet.
 import { groupOf, isData, KINDS } from './keys.mjs';
 import { endText, marksOf, rangeTexts } from './list.mjs';

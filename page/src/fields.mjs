@@ -1,3 +1,4 @@
+// SPDX-License-Identifier: Apache-2.0
 // A packet's fields as a tree, beside its bytes: each field marks its bytes, and each byte its field.
 import { groupOf, isObject, ruleOf } from './keys.mjs';
 import { byId, counted, element, hex, shown } from './text.mjs';

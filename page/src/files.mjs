@@ -1,3 +1,4 @@
+// SPDX-License-Identifier: Apache-2.0
 // The files that were chosen.
 
 /** Files by the names that the program has for them: none is `-` or an option, and none is there twice. */

@@ -1,3 +1,4 @@
+// SPDX-License-Identifier: Apache-2.0
 // The filter's syntax: words, of which all have to hold. `-` before a word negates it, and commas separate alternatives.
 import { KINDS } from './keys.mjs';
 

@@ -1,3 +1,4 @@
+// SPDX-License-Identifier: Apache-2.0
 // What the page knows of the keys that `sctp_dump --json` prints: a row of the list for each line. The tree of a packet's
 // fields knows none: it shows each key as it comes, and `KEY@` as its place.
 

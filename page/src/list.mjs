@@ -1,3 +1,4 @@
+// SPDX-License-Identifier: Apache-2.0
 // The list of packets.
 import { groupOf, KINDS } from './keys.mjs';
 import { element, hex, shown } from './text.mjs';

@@ -1,3 +1,4 @@
+// SPDX-License-Identifier: Apache-2.0
 // The page: opens captures, and shows what comes back from the Worker.
 import { Associations } from './associations.mjs';
 import { Diagram } from './diagram.mjs';

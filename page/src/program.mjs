@@ -1,3 +1,4 @@
+// SPDX-License-Identifier: Apache-2.0
 // Runs the program sctp_dump, which is proved, as WebAssembly. These few functions are all that it takes from a system.
 
 const NO_FILE = 2, FAILED = 5, BAD_FILE = 9, IS_PIPE = 29; // as Linux numbers errors
@@ -36,12 +37,12 @@ export function run(module, { words, open, print, report }) {
     rattle_set_errno(error) {
       errno = error;
     },
-    open(at) {
+    rattle_open(at) {
       const rest = new Uint8Array(memory.buffer, Number(at));
       const input = open(new TextDecoder().decode(rest.slice(0, rest.indexOf(0))));
       return input ? inputs.push(input) - 1 : failed(NO_FILE, -1);
     },
-    read(file, at, size) {
+    rattle_read(file, at, size) {
       if (!inputs[file])
         return failed(BAD_FILE, -1n);
       try {
@@ -52,16 +53,15 @@ export function run(module, { words, open, print, report }) {
         return failed(FAILED, -1n);
       }
     },
-    close(file) {
+    rattle_close(file) {
       inputs[file] = undefined;
       return 0;
     },
-    write,
-    __write: write,
-    lseek: () => failed(IS_PIPE, -1n),
-    __sysv_signal: () => 0n,
+    rattle_write: write,
+    rattle_lseek: () => failed(IS_PIPE, -1n),
+    rattle_signal: () => 0n,
     // The program asks whether an x86-64 has what it was compiled for: it wasn't here, so all is there.
-    __x86_get_cpuid_feature_leaf: () => features,
+    rattle_cpuid: () => features,
   };
   const { exports } = new WebAssembly.Instance(module, { env });
   const memory = exports.memory;

@@ -1,3 +1,4 @@
+// SPDX-License-Identifier: Apache-2.0
 // What was read: a row of numbers for each line, and the lines themselves in Blobs, which the browser may keep on disk.
 import { COLUMNS, FLAGS, isAssociation, isSummary, KINDS, OF_DAY, pairsOf, parsed, senderIn } from './keys.mjs';
 

@@ -1,3 +1,4 @@
+// SPDX-License-Identifier: Apache-2.0
 // Elements and texts. Whatever a capture holds becomes text alone: nothing here reads HTML.
 
 /** An element with classes, and texts or elements in it. */

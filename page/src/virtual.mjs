@@ -1,3 +1,4 @@
+// SPDX-License-Identifier: Apache-2.0
 // A list of any length, of which only the rows in view are in the document.
 
 /** More than this no browser scrolls: a longer list has rows that pass more quickly. */

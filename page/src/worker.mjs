@@ -1,3 +1,4 @@
+// SPDX-License-Identifier: Apache-2.0
 // The Worker: runs the program over the inputs, and posts what it prints, in batches: a Blob of whole lines, and a row
 // for each. A Worker that is stopped loses nothing that it posted.
 import { COLUMNS, parsed, Rows } from './keys.mjs';
