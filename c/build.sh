@@ -1,4 +1,5 @@
 #!/usr/bin/env bash
+# SPDX-License-Identifier: Apache-2.0
 # Builds the C library, proved, and puts it into a folder (docs/C.md).
 set -eu -o pipefail
 
@@ -8,6 +9,7 @@ Proves and builds the C library, and puts it into the folder PREFIX:
 
   include/dcsctp.h
   include/dcsctp_processor.h   the CRC32c of the processor, an option that is not proved
+  include/dcsctp_msan.h        what dcsctp.h tells MemorySanitizer
   lib/libdcsctp.a              for static linking; it needs libc and nothing else
   lib/libdcsctp.so             for dynamic linking; it needs libc and nothing else. A link to libdcsctp.so.MAJOR.MINOR,
                                since until 1.0.0 a minor version may change the interface
@@ -79,15 +81,15 @@ fi
 version=$(sed -n 's/^#define DCSCTP_VERSION "\(.*\)"$/\1/p' $headers/dcsctp.h)
 soname=libdcsctp.so.${version%.*}
 "$cc" -shared -o "$work/$soname" "$work/dcsctp.o" -Wl,-soname,"$soname" -Wl,-z,text -Wl,-z,noexecstack \
-    -Wl,--no-undefined
+    -Wl,--no-undefined -Wl,--version-script=dist/dcsctp.map
 
 mkdir -p "$prefix/include" "$prefix/lib/pkgconfig"
-install -m 644 $headers/dcsctp.h $headers/dcsctp_processor.h "$prefix/include"
+install -m 644 $headers/dcsctp.h $headers/dcsctp_processor.h $headers/dcsctp_msan.h "$prefix/include"
 install -m 644 "$work/libdcsctp.a" "$prefix/lib/libdcsctp.a"
 install -m 755 "$work/$soname" "$prefix/lib/$soname"
 ln -sf "$soname" "$prefix/lib/libdcsctp.so"
 cat >"$prefix/lib/pkgconfig/dcsctp.pc" <<PC
-prefix=$prefix
+prefix=\${pcfiledir}/../..
 libdir=\${prefix}/lib
 includedir=\${prefix}/include
 

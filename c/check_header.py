@@ -1,4 +1,5 @@
 #!/usr/bin/env python3
+# SPDX-License-Identifier: Apache-2.0
 """usage: c/check_header.py [--must-fail | --help]
 
 Compares include/dcsctp.h with the library that it declares, crates/dcsctp_c: the names of the functions, their arguments
@@ -68,7 +69,7 @@ def header_side(text):
     functions, structs, constants = {}, {}, {}
 
     def declared(words):
-        found = re.fullmatch(r'(const )?(?:struct )?(\w+) (\*?)(\w+)', ' '.join(words.split()))
+        found = re.fullmatch(r'(const )?(?:struct )?(\w+) (\*?)(\w+(?:\[\d+\])?)', ' '.join(words.split()))
         if not found:
             raise Unreadable(words)
         return (found[1] or '') + found[2] + (' *' if found[3] else ''), found[4]
@@ -203,8 +204,12 @@ def differences(header, library):
             if have[0] != want[0] or have[1][0] not in want[1]:
                 yield f'{name}: argument {place} is {argument_text(have)} in the header, {argument_text(want)} in the library'
     for name in sorted(set(header[1]) & set(library[1])):
-        if header[1][name] != library[1][name]:
-            for have, want in zip(header[1][name] + [('nothing', '')], library[1][name] + [('nothing', '')]):
+        fields = header[1][name]
+        # (a reserve at the end is the header's alone: the library reads nothing of it)
+        if fields[-1][1].startswith('reserved['):
+            fields = fields[:-1]
+        if fields != library[1][name]:
+            for have, want in zip(fields + [('nothing', '')], library[1][name] + [('nothing', '')]):
                 if have != want:
                     yield f'struct {name}: {" ".join(have)} in the header, {" ".join(want)} in the library'
     for name in sorted(set(header[2]) & set(library[2])):
@@ -236,6 +241,7 @@ CHANGES = [
     ('two fields are swapped', '    uint32_t mid;\n    uint32_t fsn;\n', '    uint32_t fsn;\n    uint32_t mid;\n'),
     ('a field is missing', '    bool zero_checksum;', ''),
     ('a field is added', '    uint16_t end;\n', '    uint16_t end;\n    uint16_t gap;\n'),
+    ('a reserve is not at the end', '    bool strict_padding; /*', '    uint8_t reserved[1];\n    bool strict_padding; /*'),
     ('two codes are swapped', 'DCSCTP_FAULT_LENGTH = 3', 'DCSCTP_FAULT_LENGTH = 4'),
     ('a code of the writing is another', 'DCSCTP_BAD_VALUE = 9', 'DCSCTP_BAD_VALUE = 10'),
     ('a flag is another', 'DCSCTP_TAG_REFLECTED = 1', 'DCSCTP_TAG_REFLECTED = 2'),
@@ -276,4 +282,5 @@ def main():
         sys.exit(f'check_header: not understood: {part}')
 
 
-main()
+if __name__ == '__main__':
+    main()

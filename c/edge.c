@@ -1,3 +1,4 @@
+/* SPDX-License-Identifier: Apache-2.0 */
 /* Each call on packets of real peers; and calls at the edges: no bytes, offsets at and past the end, room that is just
    enough and one byte less, each allocation refused in turn. Linked with --wrap=malloc,--wrap=realloc,--wrap=free. */
 #include <dcsctp.h>
@@ -49,8 +50,8 @@ void __wrap_free(void *block)
 
 /* ---- packets */
 
-static const struct dcsctp_policy exact = {false, false, false}, any = {true, false, false},
-                                  zero = {false, true, false}, strict = {true, false, true};
+static const struct dcsctp_policy exact = {0}, any = {.any_checksum = true}, zero = {.zero_checksum = true},
+                                  strict = {.any_checksum = true, .strict_padding = true};
 
 /* A SACK with two blocks and a duplicate TSN, I-DATA of one byte with three of padding, and a HEARTBEAT. */
 static const uint8_t packet[] = {

@@ -1,3 +1,4 @@
+/* SPDX-License-Identifier: Apache-2.0 */
 /* Tries the library on packets that are made at random: changed packets, and packets that its writing functions make. The same
    packets go to examples/c/responder.c.
 
@@ -335,7 +336,9 @@ static bool is_utf8(const uint8_t *bytes, size_t size)
 
 /* ---- the reading functions, on any bytes */
 
-static const struct dcsctp_policy policies[] = {{0, 0, 0}, {1, 0, 0}, {0, 1, 0}, {0, 0, 1}, {1, 0, 1}, {1, 1, 1}};
+#define POLICY(any, zero, strict) {.any_checksum = any, .zero_checksum = zero, .strict_padding = strict}
+static const struct dcsctp_policy policies[] = {POLICY(0, 0, 0), POLICY(1, 0, 0), POLICY(0, 1, 0),
+                                                POLICY(0, 0, 1), POLICY(1, 0, 1), POLICY(1, 1, 1)};
 enum { POLICIES = sizeof policies / sizeof *policies };
 static const struct dcsctp_policy *const any = &policies[1], *const strict = &policies[4];
 
@@ -1202,22 +1205,33 @@ static size_t ask(const uint8_t *bytes, size_t length, uint8_t *answer, size_t r
     return size;
 }
 
-/* Opens an association: INIT, INIT ACK, COOKIE ECHO, COOKIE ACK. A cookie that was changed, or comes late, opens none. */
+/* Opens an association: INIT, INIT ACK, COOKIE ECHO, COOKIE ACK. A cookie that was changed, or comes late, opens none. Of the
+   INIT's unknown parameters the INIT ACK reports those of which the types ask for it, up to one that asks to stop there. */
 static void call_responder(void)
 {
     static uint32_t sum;
     const struct dcsctp_init peer = {(uint32_t)draw() | 1, 1 << 16, 9, 9, (uint32_t)draw()};
+    const uint16_t types[] = {5, 12, 0x8005, 0xc00f, below(2) ? 0x4001 : 0x3fff, 0xc010}; /* RFC 9260 section 3.2.1 */
     uint8_t packet[200], answer[200];
     struct dcsctp_chunk chunk;
-    struct dcsctp_parameter cookie;
-    size_t size, answered;
+    struct dcsctp_parameter cookie, it;
+    size_t size, answered, reports = 0;
     responder = (struct responder){.own = {(uint32_t)draw() | 1, 1 << 16, 9, 9, (uint32_t)draw()}, .key = {draw(), draw()},
                                    .user = &sum, .take_data = read_payload};
     responder_time = 0;
-    REQUIRE(!dcsctp_begin(packet, 200, &size, 1, 2, 0) && !dcsctp_add_init(packet, 200, &size, &peer) && !dcsctp_seal(packet, size));
+    REQUIRE(!dcsctp_begin(packet, 200, &size, 1, 2, 0) && !dcsctp_add_init(packet, 200, &size, &peer));
+    for (size_t i = 0; i < sizeof types / sizeof *types; i++)
+        REQUIRE(!dcsctp_add_parameter(packet, 200, &size, 12, types[i], (const uint8_t *)"abcdef", i));
+    REQUIRE(!dcsctp_seal(packet, size));
     answered = ask(packet, size, answer, 200);
     REQUIRE(u32(answer + 4) == peer.initiate_tag && dcsctp_chunk_at(answer, answered, 12, &chunk) && chunk.type == DCSCTP_CHUNK_INIT_ACK);
     REQUIRE(dcsctp_parameter_at(answer, answered, &chunk, dcsctp_list_offset(&chunk), &cookie) && cookie.type == DCSCTP_PARAMETER_STATE_COOKIE);
+    for (size_t at = cookie.next; dcsctp_parameter_at(answer, answered, &chunk, at, &it); at = it.next)
+        if (it.type == DCSCTP_PARAMETER_UNRECOGNIZED_PARAMETER) {
+            REQUIRE(it.value_size == 4 + 3 + reports && u32(answer + it.value_offset) >> 16 == types[3 + reports]);
+            reports++;
+        }
+    REQUIRE(reports == (types[4] == 0x4001 ? 2 : 1));
     for (int wrong = 2; wrong >= 0; wrong--) {
         const size_t at = cookie.value_offset + below(cookie.value_size), bit = below(8);
         answer[at] ^= (uint8_t)((wrong == 1) << bit);

@@ -1,3 +1,4 @@
+/* SPDX-License-Identifier: Apache-2.0 */
 /* Two sockets of usrsctp, a real stack of SCTP, talk to each other in one process, with the library between them; or one calls
    examples/c/responder.c.
 

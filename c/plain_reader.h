@@ -1,3 +1,4 @@
+/* SPDX-License-Identifier: Apache-2.0 */
 /* A second reader of SCTP packets, for tests: by hand from RFC 9260, whose sections are meant where no other RFC is named.
    It uses nothing of the library. */
 #ifndef PLAIN_READER_H

@@ -1,3 +1,4 @@
+/* SPDX-License-Identifier: Apache-2.0 */
 /* Compares dcsctp_processor.h with the library: the word of random bytes of every size, and what each seals.
 
    usage: processor [--times]

@@ -1,4 +1,5 @@
 #!/usr/bin/env python3
+# SPDX-License-Identifier: Apache-2.0
 """Has `rt lib` take the libraries that `rt ci` proved. usage: c/take_libraries.py, at once after `rt ci`.
 
 `rt ci` leaves each library that it proved in crates/NAME/out/rlib. `rt lib` takes what is there if a file `stamp` beside it has the

@@ -1,4 +1,5 @@
 #!/usr/bin/env bash
+# SPDX-License-Identifier: Apache-2.0
 # Builds the C library into a folder of its own, and tries it from C and other languages (docs/C.md).
 set -u
 
@@ -71,8 +72,12 @@ archive_has_the_functions_alone() {
         [ "$(nm -g --defined-only "$prefix/lib/libdcsctp.a" | grep -c ' [A-SU-Z] ')" -eq 0 ]
 }
 
+# (with the version of dist/dcsctp.map)
 shared_library_has_the_functions_alone() {
-    diff <(functions) <(nm -D --defined-only "$prefix/lib/libdcsctp.so" | sed 's/.* //' | sort)
+    local version
+    version=$(sed -n 's/^\(DCSCTP_.*\) {.*/\1/p' dist/dcsctp.map)
+    diff <(functions | sed "s/$/@@$version/") <(nm -D --defined-only "$prefix/lib/libdcsctp.so" | sed -n 's/.* T //p' | sort) &&
+        readelf -V "$prefix/lib/libdcsctp.so" | grep "Name: $version\$"
 }
 
 # What the archive takes from elsewhere: five functions of libc at most, and the linker's own symbol.
@@ -113,6 +118,11 @@ header_is_c99() {
 
 assertions_hold() {
     compile -pedantic -Werror -c -o "$work/assertions.o" c/assertions.c
+}
+
+# The sizes, offsets and prototypes of dist/dcsctp.abi, as this compiler has them.
+interface_is_the_compilers() {
+    c/abi.py --assertions >"$work/abi.c" && compile -pedantic -Werror -c -o "$work/abi.o" "$work/abi.c"
 }
 
 header_is_cxx() {
@@ -223,11 +233,14 @@ fi
 if has python3; then
     try 'the header declares the library' c/check_header.py
     try 'a wrong header is noticed' c/check_header.py --must-fail
+    try 'the binary interface is that of dist/dcsctp.abi' c/abi.py
+    try 'another binary interface is noticed' c/abi.py --must-fail
+    try 'sizes, offsets and prototypes' interface_is_the_compilers
 else
     left_out python3 'the header against the library'
 fi
 try 'the header is C99' header_is_c99
-try 'sizes, offsets and values' assertions_hold
+try 'values' assertions_hold
 try 'the archive has these functions alone' archive_has_the_functions_alone
 try 'the archive needs libc alone' archive_needs_libc_alone
 try 'the shared library has these functions alone' shared_library_has_the_functions_alone

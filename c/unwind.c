@@ -1,3 +1,4 @@
+/* SPDX-License-Identifier: Apache-2.0 */
 /* Whether a crash inside a call shows who called: crashes in calls of each kind, by bytes that can't be read, and walks the
    stack in the signal handler by the tables for unwinding. Prints what isn't found; status 0 if all is. */
 #include <dcsctp.h>

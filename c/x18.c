@@ -1,3 +1,4 @@
+/* SPDX-License-Identifier: Apache-2.0 */
 /* Whether calls of each kind leave x18 of arm64 as it is, which Android, Fuchsia and shadow call stacks reserve: a mark is in it
    before each call. Build it with -ffixed-x18. Prints what isn't kept; status 0 if all is. */
 #include <dcsctp.h>

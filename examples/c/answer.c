@@ -1,3 +1,4 @@
+/* SPDX-License-Identifier: Apache-2.0 */
 /* Reads a packet in hexadecimal. If it is an INIT, prints the INIT ACK that answers it. */
 #include <dcsctp.h>
 #include <stdio.h>

@@ -1,8 +1,8 @@
+/* SPDX-License-Identifier: Apache-2.0 */
 /* A responder to start from: the side of an association that is called (RFC 9260), and takes user data. No byte is written
    by hand, and there is no I/O and no clock: packets and the time go in, and packets come out. Left out: user data that is
    sent, and with it timers; messages put together, and streams in order; addresses; a peer that begins anew (section 5.2);
-   packets out of the blue (section 8.4); unknown parameters whose type asks to stop there (section 3.2.1). There is one
-   association at a time. */
+   packets out of the blue (section 8.4). There is one association at a time. */
 #include <dcsctp.h>
 #include <string.h>
 
@@ -78,10 +78,18 @@ static bool answer_init(const struct responder *r, uint64_t now, struct exchange
         || dcsctp_add_parameter(TO(x), DCSCTP_FIRST_CHUNK, DCSCTP_PARAMETER_SUPPORTED_EXTENSIONS, extensions, sizeof extensions)
         || dcsctp_add_parameter(TO(x), DCSCTP_FIRST_CHUNK, DCSCTP_PARAMETER_FORWARD_TSN_SUPPORTED, NULL, 0))
         return false;
-    /* unknown parameters with the two high bits are reported, in one of type 8 (section 3.2.1) */
     for (size_t at = dcsctp_list_offset(&x->chunk); dcsctp_parameter_at(CHUNK(x), at, &it); at = it.next)
-        if (it.type > DCSCTP_PARAMETER_FORWARD_TSN_SUPPORTED)
-            dcsctp_add_parameter(TO(x), DCSCTP_FIRST_CHUNK, 8, x->bytes + at, 4 + it.value_size);
+        switch (it.type) {
+        case 5: case 6: case 9: case 11: case 12: /* addresses, Cookie Preservative, Supported Address Types: ignored */
+        case DCSCTP_PARAMETER_FORWARD_TSN_SUPPORTED:
+            break;
+        default: /* unknown: the second bit asks for a report, and without the first one no more is looked at (section 3.2.1) */
+            if (it.type & 0x4000)
+                dcsctp_add_parameter(TO(x), DCSCTP_FIRST_CHUNK, DCSCTP_PARAMETER_UNRECOGNIZED_PARAMETER, x->bytes + at,
+                                     4 + it.value_size);
+            if (!(it.type & 0x8000))
+                return true;
+        }
     return true;
 }
 
@@ -221,7 +229,7 @@ static bool answer_chunk(struct responder *r, struct exchange *x, size_t at)
 /* Takes bytes that came, at a time in seconds, and writes the packet that answers. Returns its size, or 0 if there is none. */
 size_t responder_receive(struct responder *r, uint64_t now, const uint8_t *bytes, size_t length, uint8_t *packet, size_t room)
 {
-    const struct dcsctp_policy policy = {false, false, false};
+    const struct dcsctp_policy policy = {0};
     struct exchange x = {.bytes = bytes, .length = length, .packet = packet, .room = room};
     const struct cookie *with = &r->association;
     size_t at = DCSCTP_FIRST_CHUNK;

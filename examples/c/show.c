@@ -1,9 +1,10 @@
+/* SPDX-License-Identifier: Apache-2.0 */
 /* usage: show FILE. Reads packets, one a line, in hexadecimal without blanks, and prints the chunks of each, its text,
    and the packet that answers it. */
 #include <dcsctp.h>
 #include <stdio.h>
 #include <string.h>
-static const struct dcsctp_policy policy = {false, false, false};
+static const struct dcsctp_policy policy = {0};
 /* This side of the one association, and the tag of the other side, which its INIT asks for (RFC 9260 section 8.5). */
 static const struct dcsctp_init own = {0x0da73798, 0x20000, 4, 4, 0x66e387ab};
 static const uint8_t cookie[] = {'a', 'b', 'c', 'd'};
