@@ -1,9 +1,10 @@
+// SPDX-License-Identifier: Apache-2.0
 //! Reads a file of packets in hexadecimal, one a line. Prints the chunks of each, its text, and the
 //! packet that answers it.
 //!
 //! usage: cargo run --example show FILE
 
-use dcsctp::{Chunk, Content, Fault, Init, Packet, PacketBuilder, ParameterType};
+use davgyuti::{Chunk, Content, Fault, Init, Packet, PacketBuilder, ParameterType};
 use std::error::Error;
 use std::fmt::{self, Write};
 
@@ -131,10 +132,9 @@ fn main() -> Result<(), Box<dyn Error>> {
 
 #[cfg(test)]
 mod tests {
-    /// The files are the repository's `examples/packets.txt` and `examples/expected.txt`.
     #[test]
     fn shows_what_is_expected() {
-        let shown = super::show(include_str!("packets.txt")).unwrap();
-        assert_eq!(shown, include_str!("expected.txt"));
+        let shown = super::show(include_str!("../../../examples/packets.txt")).unwrap();
+        assert_eq!(shown, include_str!("../../../examples/expected.txt"));
     }
 }

@@ -1,6 +1,7 @@
+// SPDX-License-Identifier: Apache-2.0
 //! Packets that are written.
 
-use crate::chunk::Chunks;
+use crate::chunk::{Chunk, Chunks};
 use crate::error::WriteError;
 use crate::ffi;
 use crate::packet::seal;
@@ -15,12 +16,14 @@ pub const MAX_PACKET: usize = 65_532;
 ///
 /// Each method that adds a chunk adds its padding too. One that can't returns an error and changes
 /// nothing; so to bundle, add until one returns [`WriteError::NoRoom`], seal and send, and begin
-/// the next packet with that chunk. The values are written as they are: whether RFC 9260 lets them
-/// be sent, or [`check`](crate::check) would accept the packet, isn't checked. Bytes of the buffer
-/// after the packet stay.
+/// the next packet with that chunk. One that has no room where the [size](Self::size) is 12, so
+/// that there is no other chunk, never will: give it up then. There is never room for one of more
+/// than 65,520 bytes. The values are written as they are: whether RFC 9260 lets them be sent, or
+/// [`check`](crate::check) would accept the packet, isn't checked. Bytes of the buffer after the
+/// packet stay.
 ///
 /// ```
-/// use dcsctp::{Data, GapAckBlock, PacketBuilder};
+/// use davgyuti::{Data, GapAckBlock, PacketBuilder};
 ///
 /// let mut buffer = [0; 1200];
 /// let mut packet = PacketBuilder::begin(&mut buffer, 5000, 5001, 0x0102_0304)?;
@@ -35,7 +38,7 @@ pub const MAX_PACKET: usize = 65_532;
 ///     })?;
 /// let bytes = packet.seal();
 /// assert_eq!(bytes.len(), 12 + 20 + 24);
-/// # Ok::<(), dcsctp::WriteError>(())
+/// # Ok::<(), davgyuti::WriteError>(())
 /// ```
 pub struct PacketBuilder<'a> {
     buffer: &'a mut [u8],
@@ -72,7 +75,7 @@ impl<'a> PacketBuilder<'a> {
     /// The tag is the initiate tag of the peer's INIT or INIT ACK; with INIT it is 0.
     ///
     /// ```
-    /// use dcsctp::{PacketBuilder, WriteError};
+    /// use davgyuti::{PacketBuilder, WriteError};
     ///
     /// let mut buffer = [0; 12];
     /// let packet = PacketBuilder::begin(&mut buffer, 5000, 5001, 7)?;
@@ -98,7 +101,7 @@ impl<'a> PacketBuilder<'a> {
     /// Goes on with a packet that was begun before: the first `size` bytes of the buffer.
     ///
     /// ```
-    /// use dcsctp::PacketBuilder;
+    /// use davgyuti::PacketBuilder;
     ///
     /// let mut buffer = [0; 100];
     /// let mut packet = PacketBuilder::begin(&mut buffer, 5000, 5001, 7)?;
@@ -107,7 +110,7 @@ impl<'a> PacketBuilder<'a> {
     /// let mut packet = PacketBuilder::resume(&mut buffer, size)?;
     /// packet.shutdown_ack()?;
     /// assert_eq!(packet.as_bytes()[12..], [11, 0, 0, 4, 8, 0, 0, 4]);
-    /// # Ok::<(), dcsctp::WriteError>(())
+    /// # Ok::<(), davgyuti::WriteError>(())
     /// ```
     ///
     /// # Errors
@@ -124,11 +127,11 @@ impl<'a> PacketBuilder<'a> {
     ///
     /// ```
     /// # let mut buffer = [0; 100];
-    /// # let mut packet = dcsctp::PacketBuilder::begin(&mut buffer, 5000, 5001, 7)?;
+    /// # let mut packet = davgyuti::PacketBuilder::begin(&mut buffer, 5000, 5001, 7)?;
     /// assert_eq!(packet.size(), 12);
     /// packet.cookie_ack()?;
     /// assert_eq!(packet.size(), 16);
-    /// # Ok::<(), dcsctp::WriteError>(())
+    /// # Ok::<(), davgyuti::WriteError>(())
     /// ```
     #[must_use]
     pub const fn size(&self) -> usize {
@@ -139,10 +142,10 @@ impl<'a> PacketBuilder<'a> {
     ///
     /// ```
     /// # let mut buffer = [0; 100];
-    /// # let mut packet = dcsctp::PacketBuilder::begin(&mut buffer, 5000, 5001, 7)?;
+    /// # let mut packet = davgyuti::PacketBuilder::begin(&mut buffer, 5000, 5001, 7)?;
     /// assert_eq!(packet.room(), 100 - 12);
     /// # packet.cookie_ack()?;
-    /// # Ok::<(), dcsctp::WriteError>(())
+    /// # Ok::<(), davgyuti::WriteError>(())
     /// ```
     #[must_use]
     pub fn room(&self) -> usize {
@@ -153,24 +156,25 @@ impl<'a> PacketBuilder<'a> {
     ///
     /// ```
     /// # let mut buffer = [0; 100];
-    /// # let mut packet = dcsctp::PacketBuilder::begin(&mut buffer, 5000, 5001, 7)?;
+    /// # let mut packet = davgyuti::PacketBuilder::begin(&mut buffer, 5000, 5001, 7)?;
     /// packet.cookie_ack()?;
     /// assert_eq!(packet.as_bytes(), b"\x13\x88\x13\x89\0\0\0\x07\0\0\0\0\x0b\0\0\x04");
-    /// # Ok::<(), dcsctp::WriteError>(())
+    /// # Ok::<(), davgyuti::WriteError>(())
     /// ```
     #[must_use]
     pub fn as_bytes(&self) -> &[u8] {
         &self.buffer[..self.size]
     }
 
-    /// Writes the CRC32c (RFC 9260 section 6.8), and returns the packet.
+    /// Writes the CRC32c (RFC 9260 section 6.8), and returns the packet. One that was only begun has
+    /// no chunk, and [`Packet::parse`](crate::Packet::parse) refuses it.
     ///
     /// ```
     /// # let mut buffer = [0; 100];
-    /// # let mut packet = dcsctp::PacketBuilder::begin(&mut buffer, 5000, 5001, 7)?;
+    /// # let mut packet = davgyuti::PacketBuilder::begin(&mut buffer, 5000, 5001, 7)?;
     /// packet.cookie_ack()?;
-    /// assert!(dcsctp::Packet::parse(packet.seal()).is_ok());
-    /// # Ok::<(), dcsctp::WriteError>(())
+    /// assert!(davgyuti::Packet::parse(packet.seal()).is_ok());
+    /// # Ok::<(), davgyuti::WriteError>(())
     /// ```
     #[must_use]
     pub fn seal(self) -> &'a mut [u8] {
@@ -185,10 +189,10 @@ impl<'a> PacketBuilder<'a> {
     ///
     /// ```
     /// # let mut buffer = [0; 100];
-    /// # let mut packet = dcsctp::PacketBuilder::begin(&mut buffer, 5000, 5001, 7)?;
+    /// # let mut packet = davgyuti::PacketBuilder::begin(&mut buffer, 5000, 5001, 7)?;
     /// packet.cookie_ack()?;
     /// assert_eq!(packet.unsealed()[8..], [0, 0, 0, 0, 11, 0, 0, 4]);
-    /// # Ok::<(), dcsctp::WriteError>(())
+    /// # Ok::<(), davgyuti::WriteError>(())
     /// ```
     #[must_use]
     pub fn unsealed(self) -> &'a mut [u8] {
@@ -199,7 +203,7 @@ impl<'a> PacketBuilder<'a> {
     /// of the chunk that was the last one too.
     ///
     /// ```
-    /// use dcsctp::{CauseCode, PacketBuilder, WriteError};
+    /// use davgyuti::{CauseCode, PacketBuilder, WriteError};
     ///
     /// let mut buffer = [0; 32];
     /// let mut packet = PacketBuilder::begin(&mut buffer, 1, 2, 3)?;
@@ -244,11 +248,11 @@ impl<'a> PacketBuilder<'a> {
     ///
     /// ```
     /// # let mut buffer = [0; 100];
-    /// # let mut packet = dcsctp::PacketBuilder::begin(&mut buffer, 5000, 5001, 7)?;
+    /// # let mut packet = davgyuti::PacketBuilder::begin(&mut buffer, 5000, 5001, 7)?;
     /// // ECNE (RFC 9260 appendix B), of TSN 9.
-    /// packet.chunk(dcsctp::ChunkType(12), 0, &[0, 0, 0, 9])?;
+    /// packet.chunk(davgyuti::ChunkType(12), 0, &[0, 0, 0, 9])?;
     /// assert_eq!(packet.as_bytes()[12..], [12, 0, 0, 8, 0, 0, 0, 9]);
-    /// # Ok::<(), dcsctp::WriteError>(())
+    /// # Ok::<(), davgyuti::WriteError>(())
     /// ```
     ///
     /// # Errors
@@ -265,15 +269,34 @@ impl<'a> PacketBuilder<'a> {
         Ok(ChunkBuilder { packet: self })
     }
 
+    /// Adds a copy of a chunk that was read, or kept as an `OwnedChunk`: its type, its flags and its
+    /// value, as for a retransmission (RFC 9260 section 6.3.3).
+    ///
+    /// ```
+    /// # let mut buffer = [0; 100];
+    /// # let mut packet = davgyuti::PacketBuilder::begin(&mut buffer, 5000, 5001, 7)?;
+    /// // A common header, and a COOKIE ECHO.
+    /// let bytes = *b"\0\x01\0\x02\0\0\0\x03\0\0\0\0\x0a\0\0\x07abc\0";
+    /// packet.copy(&davgyuti::Chunk::at(&bytes, 12).unwrap())?;
+    /// assert_eq!(packet.as_bytes()[12..], bytes[12..]);
+    /// # Ok::<(), davgyuti::WriteError>(())
+    /// ```
+    ///
+    /// # Errors
+    /// [`WriteError::NoRoom`].
+    pub fn copy(&mut self, chunk: &Chunk) -> Result<ChunkBuilder<'_, 'a>, WriteError> {
+        self.chunk(chunk.chunk_type(), chunk.flags(), chunk.value())
+    }
+
     /// Returns the last chunk, to add to its list.
     ///
     /// ```
-    /// use dcsctp::{PacketBuilder, ParameterType, WriteError};
+    /// use davgyuti::{PacketBuilder, ParameterType, WriteError};
     ///
     /// let mut buffer = [0; 100];
     /// let mut packet = PacketBuilder::begin(&mut buffer, 1, 2, 3)?;
     /// assert_eq!(packet.last_chunk().unwrap_err(), WriteError::BadPlace);
-    /// packet.init_ack(&dcsctp::Init::default())?;
+    /// packet.init_ack(&davgyuti::Init::default())?;
     /// packet.last_chunk()?.parameter(ParameterType::STATE_COOKIE, b"abcd")?;
     /// assert_eq!(packet.size(), 12 + 20 + 8);
     /// # Ok::<(), WriteError>(())
@@ -299,13 +322,13 @@ impl<'a> PacketBuilder<'a> {
     /// Adds DATA (RFC 9260 section 3.3.1). Of `data` its `mid` and `fsn` are ignored.
     ///
     /// ```
-    /// use dcsctp::Data;
+    /// use davgyuti::Data;
     ///
     /// # let mut buffer = [0; 100];
-    /// # let mut packet = dcsctp::PacketBuilder::begin(&mut buffer, 5000, 5001, 7)?;
+    /// # let mut packet = davgyuti::PacketBuilder::begin(&mut buffer, 5000, 5001, 7)?;
     /// packet.data(&Data { tsn: 1, stream: 2, ssn: 3, ppid: 51, payload: b"hi", ..Data::default() })?;
     /// assert_eq!(packet.as_bytes()[12..], *b"\0\0\0\x12\0\0\0\x01\0\x02\0\x03\0\0\0\x33hi\0\0");
-    /// # Ok::<(), dcsctp::WriteError>(())
+    /// # Ok::<(), davgyuti::WriteError>(())
     /// ```
     ///
     /// # Errors
@@ -322,13 +345,13 @@ impl<'a> PacketBuilder<'a> {
     /// beginning of a message, its `ppid` elsewhere.
     ///
     /// ```
-    /// use dcsctp::Data;
+    /// use davgyuti::Data;
     ///
     /// # let mut buffer = [0; 100];
-    /// # let mut packet = dcsctp::PacketBuilder::begin(&mut buffer, 5000, 5001, 7)?;
+    /// # let mut packet = davgyuti::PacketBuilder::begin(&mut buffer, 5000, 5001, 7)?;
     /// packet.i_data(&Data { tsn: 1, stream: 2, mid: 3, fsn: 4, payload: b"hi", ..Data::default() })?;
     /// assert_eq!(packet.as_bytes()[12..], *b"\x40\0\0\x16\0\0\0\x01\0\x02\0\0\0\0\0\x03\0\0\0\x04hi\0\0");
-    /// # Ok::<(), dcsctp::WriteError>(())
+    /// # Ok::<(), davgyuti::WriteError>(())
     /// ```
     ///
     /// # Errors
@@ -345,14 +368,14 @@ impl<'a> PacketBuilder<'a> {
     /// blocks into order.
     ///
     /// ```
-    /// use dcsctp::GapAckBlock;
+    /// use davgyuti::GapAckBlock;
     ///
     /// # let mut buffer = [0; 100];
-    /// # let mut packet = dcsctp::PacketBuilder::begin(&mut buffer, 5000, 5001, 7)?;
+    /// # let mut packet = davgyuti::PacketBuilder::begin(&mut buffer, 5000, 5001, 7)?;
     /// packet.sack(41, 0x2_0000, &[GapAckBlock::new(2, 3)], &[40])?;
     /// assert_eq!(packet.as_bytes()[12..24], *b"\x03\0\0\x18\0\0\0\x29\0\x02\0\0");
     /// assert_eq!(packet.as_bytes()[24..], *b"\0\x01\0\x01\0\x02\0\x03\0\0\0\x28");
-    /// # Ok::<(), dcsctp::WriteError>(())
+    /// # Ok::<(), davgyuti::WriteError>(())
     /// ```
     ///
     /// # Errors
@@ -381,7 +404,7 @@ impl<'a> PacketBuilder<'a> {
     /// Adds INIT with these numbers (RFC 9260 section 3.3.2), and no parameter yet.
     ///
     /// ```
-    /// use dcsctp::{ChunkType, Init, PacketBuilder, ParameterType};
+    /// use davgyuti::{ChunkType, Init, PacketBuilder, ParameterType};
     ///
     /// let own = Init {
     ///     initiate_tag: 0x4d2d_f52d,
@@ -398,7 +421,7 @@ impl<'a> PacketBuilder<'a> {
     ///     .parameter(ParameterType::SUPPORTED_EXTENSIONS, &extensions)?
     ///     .parameter(ParameterType::FORWARD_TSN_SUPPORTED, &[])?;
     /// assert_eq!(packet.seal().len(), 12 + 20 + 8 + 4);
-    /// # Ok::<(), dcsctp::WriteError>(())
+    /// # Ok::<(), davgyuti::WriteError>(())
     /// ```
     ///
     /// # Errors
@@ -413,14 +436,14 @@ impl<'a> PacketBuilder<'a> {
     /// [State Cookie](ParameterType::STATE_COOKIE) has to be added.
     ///
     /// ```
-    /// use dcsctp::{Init, ParameterType};
+    /// use davgyuti::{Init, ParameterType};
     ///
     /// # let mut buffer = [0; 100];
-    /// # let mut packet = dcsctp::PacketBuilder::begin(&mut buffer, 5000, 5001, 7)?;
+    /// # let mut packet = davgyuti::PacketBuilder::begin(&mut buffer, 5000, 5001, 7)?;
     /// let own = Init { initiate_tag: 9, a_rwnd: 0x2_0000, ..Init::default() };
     /// packet.init_ack(&own)?.parameter(ParameterType::STATE_COOKIE, b"abcd")?;
     /// assert_eq!(packet.size(), 12 + 20 + 8);
-    /// # Ok::<(), dcsctp::WriteError>(())
+    /// # Ok::<(), davgyuti::WriteError>(())
     /// ```
     ///
     /// # Errors
@@ -435,10 +458,10 @@ impl<'a> PacketBuilder<'a> {
     ///
     /// ```
     /// # let mut buffer = [0; 100];
-    /// # let mut packet = dcsctp::PacketBuilder::begin(&mut buffer, 5000, 5001, 7)?;
+    /// # let mut packet = davgyuti::PacketBuilder::begin(&mut buffer, 5000, 5001, 7)?;
     /// packet.cookie_echo(b"abc")?;
     /// assert_eq!(packet.as_bytes()[12..], *b"\x0a\0\0\x07abc\0");
-    /// # Ok::<(), dcsctp::WriteError>(())
+    /// # Ok::<(), davgyuti::WriteError>(())
     /// ```
     ///
     /// # Errors
@@ -453,10 +476,10 @@ impl<'a> PacketBuilder<'a> {
     ///
     /// ```
     /// # let mut buffer = [0; 100];
-    /// # let mut packet = dcsctp::PacketBuilder::begin(&mut buffer, 5000, 5001, 7)?;
+    /// # let mut packet = davgyuti::PacketBuilder::begin(&mut buffer, 5000, 5001, 7)?;
     /// packet.cookie_ack()?;
     /// assert_eq!(packet.as_bytes()[12..], [11, 0, 0, 4]);
-    /// # Ok::<(), dcsctp::WriteError>(())
+    /// # Ok::<(), davgyuti::WriteError>(())
     /// ```
     ///
     /// # Errors
@@ -471,10 +494,10 @@ impl<'a> PacketBuilder<'a> {
     ///
     /// ```
     /// # let mut buffer = [0; 100];
-    /// # let mut packet = dcsctp::PacketBuilder::begin(&mut buffer, 5000, 5001, 7)?;
+    /// # let mut packet = davgyuti::PacketBuilder::begin(&mut buffer, 5000, 5001, 7)?;
     /// packet.heartbeat(b"abc")?;
     /// assert_eq!(packet.as_bytes()[12..], *b"\x04\0\0\x0b\0\x01\0\x07abc\0");
-    /// # Ok::<(), dcsctp::WriteError>(())
+    /// # Ok::<(), davgyuti::WriteError>(())
     /// ```
     ///
     /// # Errors
@@ -489,10 +512,10 @@ impl<'a> PacketBuilder<'a> {
     ///
     /// ```
     /// # let mut buffer = [0; 100];
-    /// # let mut packet = dcsctp::PacketBuilder::begin(&mut buffer, 5000, 5001, 7)?;
+    /// # let mut packet = davgyuti::PacketBuilder::begin(&mut buffer, 5000, 5001, 7)?;
     /// packet.heartbeat_ack(b"abc")?;
     /// assert_eq!(packet.as_bytes()[12..], *b"\x05\0\0\x0b\0\x01\0\x07abc\0");
-    /// # Ok::<(), dcsctp::WriteError>(())
+    /// # Ok::<(), davgyuti::WriteError>(())
     /// ```
     ///
     /// # Errors
@@ -510,10 +533,10 @@ impl<'a> PacketBuilder<'a> {
     ///
     /// ```
     /// # let mut buffer = [0; 100];
-    /// # let mut packet = dcsctp::PacketBuilder::begin(&mut buffer, 5000, 5001, 7)?;
+    /// # let mut packet = davgyuti::PacketBuilder::begin(&mut buffer, 5000, 5001, 7)?;
     /// packet.abort(false, "bye")?;
     /// assert_eq!(packet.as_bytes()[12..], *b"\x06\0\0\x0b\0\x0c\0\x07bye\0");
-    /// # Ok::<(), dcsctp::WriteError>(())
+    /// # Ok::<(), davgyuti::WriteError>(())
     /// ```
     ///
     /// # Errors
@@ -532,10 +555,10 @@ impl<'a> PacketBuilder<'a> {
     ///
     /// ```
     /// # let mut buffer = [0; 100];
-    /// # let mut packet = dcsctp::PacketBuilder::begin(&mut buffer, 5000, 5001, 7)?;
-    /// packet.error()?.cause(dcsctp::CauseCode::OUT_OF_RESOURCE, &[])?;
+    /// # let mut packet = davgyuti::PacketBuilder::begin(&mut buffer, 5000, 5001, 7)?;
+    /// packet.error()?.cause(davgyuti::CauseCode::OUT_OF_RESOURCE, &[])?;
     /// assert_eq!(packet.as_bytes()[12..], [9, 0, 0, 8, 0, 4, 0, 4]);
-    /// # Ok::<(), dcsctp::WriteError>(())
+    /// # Ok::<(), davgyuti::WriteError>(())
     /// ```
     ///
     /// # Errors
@@ -548,10 +571,10 @@ impl<'a> PacketBuilder<'a> {
     ///
     /// ```
     /// # let mut buffer = [0; 100];
-    /// # let mut packet = dcsctp::PacketBuilder::begin(&mut buffer, 5000, 5001, 7)?;
+    /// # let mut packet = davgyuti::PacketBuilder::begin(&mut buffer, 5000, 5001, 7)?;
     /// packet.shutdown(41)?;
     /// assert_eq!(packet.as_bytes()[12..], [7, 0, 0, 8, 0, 0, 0, 41]);
-    /// # Ok::<(), dcsctp::WriteError>(())
+    /// # Ok::<(), davgyuti::WriteError>(())
     /// ```
     ///
     /// # Errors
@@ -566,10 +589,10 @@ impl<'a> PacketBuilder<'a> {
     ///
     /// ```
     /// # let mut buffer = [0; 100];
-    /// # let mut packet = dcsctp::PacketBuilder::begin(&mut buffer, 5000, 5001, 7)?;
+    /// # let mut packet = davgyuti::PacketBuilder::begin(&mut buffer, 5000, 5001, 7)?;
     /// packet.shutdown_ack()?;
     /// assert_eq!(packet.as_bytes()[12..], [8, 0, 0, 4]);
-    /// # Ok::<(), dcsctp::WriteError>(())
+    /// # Ok::<(), davgyuti::WriteError>(())
     /// ```
     ///
     /// # Errors
@@ -585,10 +608,10 @@ impl<'a> PacketBuilder<'a> {
     ///
     /// ```
     /// # let mut buffer = [0; 100];
-    /// # let mut packet = dcsctp::PacketBuilder::begin(&mut buffer, 5000, 5001, 7)?;
+    /// # let mut packet = davgyuti::PacketBuilder::begin(&mut buffer, 5000, 5001, 7)?;
     /// packet.shutdown_complete(true)?;
     /// assert_eq!(packet.as_bytes()[12..], [14, 1, 0, 4]);
-    /// # Ok::<(), dcsctp::WriteError>(())
+    /// # Ok::<(), davgyuti::WriteError>(())
     /// ```
     ///
     /// # Errors
@@ -603,13 +626,13 @@ impl<'a> PacketBuilder<'a> {
     /// [requests or responses](ChunkBuilder::re_config) have to be added.
     ///
     /// ```
-    /// use dcsctp::ReConfig;
+    /// use davgyuti::ReConfig;
     ///
     /// # let mut buffer = [0; 100];
-    /// # let mut packet = dcsctp::PacketBuilder::begin(&mut buffer, 5000, 5001, 7)?;
+    /// # let mut packet = davgyuti::PacketBuilder::begin(&mut buffer, 5000, 5001, 7)?;
     /// packet.re_config()?.re_config(&ReConfig::SsnTsnReset { request_number: 1 })?;
     /// assert_eq!(packet.as_bytes()[12..], [130, 0, 0, 12, 0, 15, 0, 8, 0, 0, 0, 1]);
-    /// # Ok::<(), dcsctp::WriteError>(())
+    /// # Ok::<(), davgyuti::WriteError>(())
     /// ```
     ///
     /// # Errors
@@ -621,14 +644,14 @@ impl<'a> PacketBuilder<'a> {
     /// Adds FORWARD-TSN (RFC 3758 section 3.2).
     ///
     /// ```
-    /// use dcsctp::SkippedStream;
+    /// use davgyuti::SkippedStream;
     ///
     /// # let mut buffer = [0; 100];
-    /// # let mut packet = dcsctp::PacketBuilder::begin(&mut buffer, 5000, 5001, 7)?;
+    /// # let mut packet = davgyuti::PacketBuilder::begin(&mut buffer, 5000, 5001, 7)?;
     /// let stream = SkippedStream { stream: 2, ssn: 3, ..SkippedStream::default() };
     /// packet.forward_tsn(41, &[stream])?;
     /// assert_eq!(packet.as_bytes()[12..], [192, 0, 0, 12, 0, 0, 0, 41, 0, 2, 0, 3]);
-    /// # Ok::<(), dcsctp::WriteError>(())
+    /// # Ok::<(), davgyuti::WriteError>(())
     /// ```
     ///
     /// # Errors
@@ -647,15 +670,15 @@ impl<'a> PacketBuilder<'a> {
     /// Adds I-FORWARD-TSN (RFC 8260 section 2.3.1).
     ///
     /// ```
-    /// use dcsctp::SkippedStream;
+    /// use davgyuti::SkippedStream;
     ///
     /// # let mut buffer = [0; 100];
-    /// # let mut packet = dcsctp::PacketBuilder::begin(&mut buffer, 5000, 5001, 7)?;
+    /// # let mut packet = davgyuti::PacketBuilder::begin(&mut buffer, 5000, 5001, 7)?;
     /// let stream = SkippedStream { stream: 2, mid: 3, is_unordered: true, ..Default::default() };
     /// packet.i_forward_tsn(41, &[stream])?;
     /// assert_eq!(packet.as_bytes()[12..20], [194, 0, 0, 16, 0, 0, 0, 41]);
     /// assert_eq!(packet.as_bytes()[20..], [0, 2, 0, 1, 0, 0, 0, 3]);
-    /// # Ok::<(), dcsctp::WriteError>(())
+    /// # Ok::<(), davgyuti::WriteError>(())
     /// ```
     ///
     /// # Errors
@@ -675,15 +698,19 @@ impl<'a> PacketBuilder<'a> {
 /// The last chunk of a packet that is written, to add to its list: parameters (RFC 9260 section
 /// 3.2.1) or error causes (section 3.3.10). A method that returns an error adds nothing.
 ///
+/// It isn't checked whether the chunk has such a list, or whether a parameter or an error cause of
+/// this type can have this value. [`Packet::parse`](crate::Packet::parse) may refuse a packet with
+/// a cause in an INIT, a parameter in DATA, or a value of a wrong length, or read something else.
+///
 /// ```
-/// use dcsctp::CauseCode;
+/// use davgyuti::CauseCode;
 ///
 /// # let mut buffer = [0; 100];
-/// # let mut packet = dcsctp::PacketBuilder::begin(&mut buffer, 5000, 5001, 7)?;
+/// # let mut packet = davgyuti::PacketBuilder::begin(&mut buffer, 5000, 5001, 7)?;
 /// let mut error = packet.error()?;
 /// error.cause(CauseCode::STALE_COOKIE, &[0, 0, 1, 0])?.cause(CauseCode::OUT_OF_RESOURCE, &[])?;
 /// assert_eq!(packet.as_bytes()[12..16], [9, 0, 0, 16]);
-/// # Ok::<(), dcsctp::WriteError>(())
+/// # Ok::<(), davgyuti::WriteError>(())
 /// ```
 pub struct ChunkBuilder<'p, 'a> {
     packet: &'p mut PacketBuilder<'a>,
@@ -694,10 +721,10 @@ impl ChunkBuilder<'_, '_> {
     ///
     /// ```
     /// # let mut buffer = [0; 100];
-    /// # let mut packet = dcsctp::PacketBuilder::begin(&mut buffer, 5000, 5001, 7)?;
+    /// # let mut packet = davgyuti::PacketBuilder::begin(&mut buffer, 5000, 5001, 7)?;
     /// packet.cookie_ack()?;
     /// assert_eq!(packet.error()?.offset(), 16);
-    /// # Ok::<(), dcsctp::WriteError>(())
+    /// # Ok::<(), davgyuti::WriteError>(())
     /// ```
     #[must_use]
     pub const fn offset(&self) -> usize {
@@ -711,14 +738,14 @@ impl ChunkBuilder<'_, '_> {
     /// Adds a parameter (RFC 9260 section 3.2.1).
     ///
     /// ```
-    /// use dcsctp::ParameterType;
+    /// use davgyuti::ParameterType;
     ///
     /// # let mut buffer = [0; 100];
-    /// # let mut packet = dcsctp::PacketBuilder::begin(&mut buffer, 5000, 5001, 7)?;
-    /// let init = dcsctp::Init::default();
+    /// # let mut packet = davgyuti::PacketBuilder::begin(&mut buffer, 5000, 5001, 7)?;
+    /// let init = davgyuti::Init::default();
     /// packet.init(&init)?.parameter(ParameterType::SUPPORTED_EXTENSIONS, &[130, 192])?;
     /// assert_eq!(packet.as_bytes()[32..], [128, 8, 0, 6, 130, 192, 0, 0]);
-    /// # Ok::<(), dcsctp::WriteError>(())
+    /// # Ok::<(), davgyuti::WriteError>(())
     /// ```
     ///
     /// # Errors
@@ -736,14 +763,14 @@ impl ChunkBuilder<'_, '_> {
     /// section 4), whose method 1 is SCTP over DTLS.
     ///
     /// ```
-    /// use dcsctp::ParameterType;
+    /// use davgyuti::ParameterType;
     ///
     /// # let mut buffer = [0; 100];
-    /// # let mut packet = dcsctp::PacketBuilder::begin(&mut buffer, 5000, 5001, 7)?;
-    /// let init = dcsctp::Init::default();
+    /// # let mut packet = davgyuti::PacketBuilder::begin(&mut buffer, 5000, 5001, 7)?;
+    /// let init = davgyuti::Init::default();
     /// packet.init(&init)?.number_parameter(ParameterType::ZERO_CHECKSUM_ACCEPTABLE, 1)?;
     /// assert_eq!(packet.as_bytes()[32..], [128, 1, 0, 8, 0, 0, 0, 1]);
-    /// # Ok::<(), dcsctp::WriteError>(())
+    /// # Ok::<(), davgyuti::WriteError>(())
     /// ```
     ///
     /// # Errors
@@ -760,7 +787,7 @@ impl ChunkBuilder<'_, '_> {
     /// Adds a request or the response of RE-CONFIG (RFC 6525 section 4).
     ///
     /// ```
-    /// use dcsctp::{PacketBuilder, ReConfig};
+    /// use davgyuti::{PacketBuilder, ReConfig};
     ///
     /// let mut buffer = [0; 1200];
     /// let mut packet = PacketBuilder::begin(&mut buffer, 5000, 5000, 0x0da7_3798)?;
@@ -771,7 +798,7 @@ impl ChunkBuilder<'_, '_> {
     ///     streams: &[1],
     /// })?;
     /// assert_eq!(packet.seal().len(), 12 + 4 + 20);
-    /// # Ok::<(), dcsctp::WriteError>(())
+    /// # Ok::<(), davgyuti::WriteError>(())
     /// ```
     ///
     /// # Errors
@@ -787,13 +814,13 @@ impl ChunkBuilder<'_, '_> {
     /// Adds an error cause (RFC 9260 section 3.3.10).
     ///
     /// ```
-    /// use dcsctp::CauseCode;
+    /// use davgyuti::CauseCode;
     ///
     /// # let mut buffer = [0; 100];
-    /// # let mut packet = dcsctp::PacketBuilder::begin(&mut buffer, 5000, 5001, 7)?;
+    /// # let mut packet = davgyuti::PacketBuilder::begin(&mut buffer, 5000, 5001, 7)?;
     /// packet.error()?.cause(CauseCode::PROTOCOL_VIOLATION, b"why")?;
     /// assert_eq!(packet.as_bytes()[16..], *b"\0\x0d\0\x07why\0");
-    /// # Ok::<(), dcsctp::WriteError>(())
+    /// # Ok::<(), davgyuti::WriteError>(())
     /// ```
     ///
     /// # Errors
@@ -807,13 +834,13 @@ impl ChunkBuilder<'_, '_> {
     /// 3.3.10.9).
     ///
     /// ```
-    /// use dcsctp::CauseCode;
+    /// use davgyuti::CauseCode;
     ///
     /// # let mut buffer = [0; 100];
-    /// # let mut packet = dcsctp::PacketBuilder::begin(&mut buffer, 5000, 5001, 7)?;
+    /// # let mut packet = davgyuti::PacketBuilder::begin(&mut buffer, 5000, 5001, 7)?;
     /// packet.error()?.number_cause(CauseCode::NO_USER_DATA, 41)?;
     /// assert_eq!(packet.as_bytes()[16..], [0, 9, 0, 8, 0, 0, 0, 41]);
-    /// # Ok::<(), dcsctp::WriteError>(())
+    /// # Ok::<(), davgyuti::WriteError>(())
     /// ```
     ///
     /// # Errors
@@ -827,13 +854,13 @@ impl ChunkBuilder<'_, '_> {
     /// types.
     ///
     /// ```
-    /// use dcsctp::ParameterType;
+    /// use davgyuti::ParameterType;
     ///
     /// # let mut buffer = [0; 100];
-    /// # let mut packet = dcsctp::PacketBuilder::begin(&mut buffer, 5000, 5001, 7)?;
+    /// # let mut packet = davgyuti::PacketBuilder::begin(&mut buffer, 5000, 5001, 7)?;
     /// packet.error()?.missing_parameters(&[ParameterType::STATE_COOKIE])?;
     /// assert_eq!(packet.as_bytes()[16..], [0, 2, 0, 10, 0, 0, 0, 1, 0, 7, 0, 0]);
-    /// # Ok::<(), dcsctp::WriteError>(())
+    /// # Ok::<(), davgyuti::WriteError>(())
     /// ```
     ///
     /// # Errors

@@ -1,3 +1,4 @@
+// SPDX-License-Identifier: Apache-2.0
 //! Chunks, and what they hold, where it lies.
 
 use crate::debug::list_of_items;
@@ -59,7 +60,7 @@ pub(crate) use same_bytes;
 /// packet, and its padding don't matter.
 ///
 /// ```
-/// use dcsctp::Chunks;
+/// use davgyuti::Chunks;
 ///
 /// // A packet of two COOKIE ACK.
 /// let bytes = *b"\x13\x88\x13\x88\0\0\0\x01\0\0\0\0\x0b\0\0\x04\x0b\0\0\x04";
@@ -80,7 +81,7 @@ same_bytes!(Chunk);
 /// `==` compares what is read of it: numbers, items of lists, and values.
 ///
 /// ```
-/// use dcsctp::{Content, Packet};
+/// use davgyuti::{Content, Packet};
 ///
 /// fn acknowledged(packet: &Packet) -> Option<u32> {
 ///     packet.chunks().find_map(|chunk| match chunk.content() {
@@ -148,7 +149,7 @@ impl<'a> Chunk<'a> {
     /// 9260 section 3.2).
     ///
     /// ```
-    /// use dcsctp::Chunk;
+    /// use davgyuti::Chunk;
     ///
     /// // A common header, and a COOKIE ECHO.
     /// let bytes = *b"\0\x01\0\x02\0\0\0\x03\0\0\0\0\x0a\0\0\x07abc\0";
@@ -168,8 +169,8 @@ impl<'a> Chunk<'a> {
     ///
     /// ```
     /// # let bytes = *b"\0\x01\0\x02\0\0\0\x03\0\0\0\0\x0a\0\0\x07abc\0";
-    /// # let chunk = dcsctp::Chunk::at(&bytes, 12).unwrap();
-    /// assert_eq!(chunk.chunk_type(), dcsctp::ChunkType::COOKIE_ECHO);
+    /// # let chunk = davgyuti::Chunk::at(&bytes, 12).unwrap();
+    /// assert_eq!(chunk.chunk_type(), davgyuti::ChunkType::COOKIE_ECHO);
     /// ```
     #[must_use]
     pub const fn chunk_type(&self) -> ChunkType {
@@ -180,8 +181,8 @@ impl<'a> Chunk<'a> {
     ///
     /// ```
     /// # let bytes = *b"\0\x01\0\x02\0\0\0\x03\0\0\0\0\x0e\x01\0\x04";
-    /// # let chunk = dcsctp::Chunk::at(&bytes, 12).unwrap();
-    /// assert_eq!(chunk.flags(), dcsctp::TAG_REFLECTED);
+    /// # let chunk = davgyuti::Chunk::at(&bytes, 12).unwrap();
+    /// assert_eq!(chunk.flags(), davgyuti::TAG_REFLECTED);
     /// ```
     #[must_use]
     pub const fn flags(&self) -> u8 {
@@ -193,7 +194,7 @@ impl<'a> Chunk<'a> {
     ///
     /// ```
     /// # let bytes = *b"\0\x01\0\x02\0\0\0\x03\0\0\0\0\x0a\0\0\x07abc\0";
-    /// # let chunk = dcsctp::Chunk::at(&bytes, 12).unwrap();
+    /// # let chunk = davgyuti::Chunk::at(&bytes, 12).unwrap();
     /// assert_eq!(chunk.value(), b"abc");
     /// ```
     #[must_use]
@@ -206,7 +207,7 @@ impl<'a> Chunk<'a> {
     ///
     /// ```
     /// # let bytes = *b"\0\x01\0\x02\0\0\0\x03\0\0\0\0\x0a\0\0\x07abc\0";
-    /// # let chunk = dcsctp::Chunk::at(&bytes, 12).unwrap();
+    /// # let chunk = davgyuti::Chunk::at(&bytes, 12).unwrap();
     /// assert_eq!(chunk.as_bytes(), b"\x0a\0\0\x07abc");
     /// ```
     #[must_use]
@@ -218,8 +219,8 @@ impl<'a> Chunk<'a> {
     ///
     /// ```
     /// # let bytes = *b"\0\x01\0\x02\0\0\0\x03\0\0\0\0\x0a\0\0\x07abc\0";
-    /// # let chunk = dcsctp::Chunk::at(&bytes, 12).unwrap();
-    /// let kept: dcsctp::OwnedChunk = chunk.into_owned();
+    /// # let chunk = davgyuti::Chunk::at(&bytes, 12).unwrap();
+    /// let kept: davgyuti::OwnedChunk = chunk.into_owned();
     /// assert_eq!(kept.as_chunk(), chunk);
     /// ```
     #[cfg(feature = "alloc")]
@@ -232,7 +233,7 @@ impl<'a> Chunk<'a> {
     ///
     /// ```
     /// # let bytes = *b"\0\x01\0\x02\0\0\0\x03\0\0\0\0\x0a\0\0\x07abc\0";
-    /// # let chunk = dcsctp::Chunk::at(&bytes, 12).unwrap();
+    /// # let chunk = davgyuti::Chunk::at(&bytes, 12).unwrap();
     /// assert_eq!(chunk.offset(), 12);
     /// ```
     #[must_use]
@@ -245,7 +246,7 @@ impl<'a> Chunk<'a> {
     ///
     /// ```
     /// # let bytes = *b"\0\x01\0\x02\0\0\0\x03\0\0\0\0\x0a\0\0\x07abc\0";
-    /// # let chunk = dcsctp::Chunk::at(&bytes, 12).unwrap();
+    /// # let chunk = davgyuti::Chunk::at(&bytes, 12).unwrap();
     /// assert_eq!(chunk.next_offset(), 12 + 4 + 3 + 1);
     /// ```
     #[must_use]
@@ -257,8 +258,8 @@ impl<'a> Chunk<'a> {
     ///
     /// ```
     /// # let bytes = *b"\0\x01\0\x02\0\0\0\x03\0\0\0\0\x0a\0\0\x07abc\0";
-    /// # let chunk = dcsctp::Chunk::at(&bytes, 12).unwrap();
-    /// assert_eq!(chunk.content(), dcsctp::Content::CookieEcho(b"abc"));
+    /// # let chunk = davgyuti::Chunk::at(&bytes, 12).unwrap();
+    /// assert_eq!(chunk.content(), davgyuti::Content::CookieEcho(b"abc"));
     /// ```
     #[must_use]
     pub fn content(&self) -> Content<'a> {
@@ -296,7 +297,7 @@ impl<'a> Chunk<'a> {
     ///
     /// ```
     /// # let bytes = *b"\0\x01\0\x02\0\0\0\x03\0\0\0\0\0\x03\0\x12\0\0\0\x29\0\x02\0\x03\0\0\0\x33hi\0\0";
-    /// # let chunk = dcsctp::Chunk::at(&bytes, 12).unwrap();
+    /// # let chunk = davgyuti::Chunk::at(&bytes, 12).unwrap();
     /// let data = chunk.data().unwrap();
     /// assert_eq!((data.tsn, data.stream, data.ssn, data.ppid), (41, 2, 3, 51));
     /// assert_eq!(data.payload, b"hi");
@@ -325,7 +326,7 @@ impl<'a> Chunk<'a> {
     ///
     /// ```
     /// # let bytes = *b"\0\x01\0\x02\0\0\0\x03\0\0\0\0\x01\0\0\x14\0\0\0\x09\0\x02\0\0\0\x04\0\x05\0\0\0\x29";
-    /// # let chunk = dcsctp::Chunk::at(&bytes, 12).unwrap();
+    /// # let chunk = davgyuti::Chunk::at(&bytes, 12).unwrap();
     /// let init = chunk.init().unwrap();
     /// assert_eq!((init.initiate_tag, init.a_rwnd, init.initial_tsn), (9, 0x2_0000, 41));
     /// assert_eq!((init.outbound_streams, init.inbound_streams), (4, 5));
@@ -340,7 +341,7 @@ impl<'a> Chunk<'a> {
     ///
     /// ```
     /// # let bytes = *b"\0\x01\0\x02\0\0\0\x03\0\0\0\0\x03\0\0\x18\0\0\0\x29\0\x02\0\0\0\x01\0\x01\0\x02\0\x03\0\0\0\x28";
-    /// # let chunk = dcsctp::Chunk::at(&bytes, 12).unwrap();
+    /// # let chunk = davgyuti::Chunk::at(&bytes, 12).unwrap();
     /// assert_eq!(chunk.sack().unwrap().cumulative_tsn_ack, 41);
     /// ```
     #[doc(alias = "dcsctp_sack")]
@@ -360,7 +361,7 @@ impl<'a> Chunk<'a> {
     ///
     /// ```
     /// # let bytes = *b"\0\x01\0\x02\0\0\0\x03\0\0\0\0\x07\0\0\x08\0\0\0\x29";
-    /// # let chunk = dcsctp::Chunk::at(&bytes, 12).unwrap();
+    /// # let chunk = davgyuti::Chunk::at(&bytes, 12).unwrap();
     /// assert_eq!(chunk.shutdown(), Some(41));
     /// ```
     #[doc(alias = "dcsctp_shutdown")]
@@ -374,7 +375,7 @@ impl<'a> Chunk<'a> {
     ///
     /// ```
     /// # let bytes = *b"\0\x01\0\x02\0\0\0\x03\0\0\0\0\xc0\0\0\x0c\0\0\0\x29\0\x02\0\x03";
-    /// # let chunk = dcsctp::Chunk::at(&bytes, 12).unwrap();
+    /// # let chunk = davgyuti::Chunk::at(&bytes, 12).unwrap();
     /// assert_eq!(chunk.forward_tsn().unwrap().new_cumulative_tsn, 41);
     /// ```
     #[doc(alias = "dcsctp_forward_tsn")]
@@ -392,7 +393,7 @@ impl<'a> Chunk<'a> {
     /// and RE-CONFIG; other types have none.
     ///
     /// ```
-    /// use dcsctp::{Chunk, ParameterType};
+    /// use davgyuti::{Chunk, ParameterType};
     ///
     /// fn cookie<'a>(init_ack: &Chunk<'a>) -> Option<&'a [u8]> {
     ///     let mut parameters = init_ack.parameters();
@@ -410,8 +411,8 @@ impl<'a> Chunk<'a> {
     ///
     /// ```
     /// # let bytes = *b"\0\x01\0\x02\0\0\0\x03\0\0\0\0\x09\0\0\x08\0\x04\0\x04";
-    /// # let chunk = dcsctp::Chunk::at(&bytes, 12).unwrap();
-    /// assert_eq!(chunk.causes().next().unwrap().code(), dcsctp::CauseCode::OUT_OF_RESOURCE);
+    /// # let chunk = davgyuti::Chunk::at(&bytes, 12).unwrap();
+    /// assert_eq!(chunk.causes().next().unwrap().code(), davgyuti::CauseCode::OUT_OF_RESOURCE);
     /// ```
     #[must_use]
     pub fn causes(&self) -> Causes<'a> {
@@ -439,11 +440,11 @@ pub(crate) fn part(bytes: &[u8], offset: usize, size: usize) -> &[u8] {
 ///
 /// ```
 /// # let bytes = *b"\x13\x88\x13\x88\x4d\x2d\xf5\x2d\x67\xdb\x78\xb5\x0b\0\0\x04";
-/// # let packet = dcsctp::Packet::parse(&bytes)?;
+/// # let packet = davgyuti::Packet::parse(&bytes)?;
 /// let mut chunks = packet.chunks();
-/// assert_eq!(chunks.next().unwrap().chunk_type(), dcsctp::ChunkType::COOKIE_ACK);
+/// assert_eq!(chunks.next().unwrap().chunk_type(), davgyuti::ChunkType::COOKIE_ACK);
 /// assert_eq!(chunks.next(), None);
-/// # Ok::<(), dcsctp::Fault>(())
+/// # Ok::<(), davgyuti::Fault>(())
 /// ```
 #[derive(Clone)]
 pub struct Chunks<'a> {
@@ -457,7 +458,7 @@ impl<'a> Chunks<'a> {
     /// Returns the chunks of any bytes that begin with a common header, checked or not.
     ///
     /// ```
-    /// use dcsctp::{ChunkType, Chunks};
+    /// use davgyuti::{ChunkType, Chunks};
     ///
     /// // A COOKIE ACK, and the first half of a SHUTDOWN.
     /// let bytes = *b"\x13\x88\x13\x88\0\0\0\x01\0\0\0\0\x0b\0\0\x04\x07\0\0\x08";
@@ -485,7 +486,7 @@ impl FusedIterator for Chunks<'_> {}
 /// A SACK (RFC 9260 section 3.3.4).
 ///
 /// ```
-/// use dcsctp::{GapAckBlock, Packet, PacketBuilder};
+/// use davgyuti::{GapAckBlock, Packet, PacketBuilder};
 ///
 /// let mut buffer = [0; 100];
 /// let mut packet = PacketBuilder::begin(&mut buffer, 5000, 5001, 3)?;
@@ -518,9 +519,9 @@ impl<'a> Sack<'a> {
     ///
     /// ```
     /// # let bytes = *b"\0\x01\0\x02\0\0\0\x03\0\0\0\0\x03\0\0\x18\0\0\0\x29\0\x02\0\0\0\x01\0\x01\0\x02\0\x03\0\0\0\x28";
-    /// # let chunk = dcsctp::Chunk::at(&bytes, 12).unwrap();
+    /// # let chunk = davgyuti::Chunk::at(&bytes, 12).unwrap();
     /// let sack = chunk.sack().unwrap();
-    /// assert!(sack.gap_ack_blocks().eq([dcsctp::GapAckBlock::new(2, 3)]));
+    /// assert!(sack.gap_ack_blocks().eq([davgyuti::GapAckBlock::new(2, 3)]));
     /// ```
     #[must_use]
     pub const fn gap_ack_blocks(&self) -> GapAckBlocks<'a> {
@@ -531,7 +532,7 @@ impl<'a> Sack<'a> {
     ///
     /// ```
     /// # let bytes = *b"\0\x01\0\x02\0\0\0\x03\0\0\0\0\x03\0\0\x18\0\0\0\x29\0\x02\0\0\0\x01\0\x01\0\x02\0\x03\0\0\0\x28";
-    /// # let chunk = dcsctp::Chunk::at(&bytes, 12).unwrap();
+    /// # let chunk = davgyuti::Chunk::at(&bytes, 12).unwrap();
     /// assert!(chunk.sack().unwrap().duplicate_tsns().eq([40]));
     /// ```
     #[must_use]
@@ -544,7 +545,7 @@ impl<'a> Sack<'a> {
     ///
     /// ```
     /// # let bytes = *b"\0\x01\0\x02\0\0\0\x03\0\0\0\0\x03\0\0\x14\0\0\0\x29\0\x02\0\0\0\x01\0\0\0\x01\0\x03";
-    /// # let chunk = dcsctp::Chunk::at(&bytes, 12).unwrap();
+    /// # let chunk = davgyuti::Chunk::at(&bytes, 12).unwrap();
     /// // The TSN after the cumulative one can't be in a gap ack block.
     /// assert!(!chunk.sack().unwrap().is_valid());
     /// ```
@@ -570,7 +571,7 @@ impl Eq for Sack<'_> {}
 ///
 /// ```
 /// # let bytes = *b"\0\x01\0\x02\0\0\0\x03\0\0\0\0\xc0\0\0\x0c\0\0\0\x29\0\x02\0\x03";
-/// # let chunk = dcsctp::Chunk::at(&bytes, 12).unwrap();
+/// # let chunk = davgyuti::Chunk::at(&bytes, 12).unwrap();
 /// let it = chunk.forward_tsn().unwrap();
 /// assert_eq!((it.new_cumulative_tsn, it.skipped_streams().len()), (41, 1));
 /// ```
@@ -588,7 +589,7 @@ impl<'a> ForwardTsn<'a> {
     ///
     /// ```
     /// # let bytes = *b"\0\x01\0\x02\0\0\0\x03\0\0\0\0\xc0\0\0\x0c\0\0\0\x29\0\x02\0\x03";
-    /// # let chunk = dcsctp::Chunk::at(&bytes, 12).unwrap();
+    /// # let chunk = davgyuti::Chunk::at(&bytes, 12).unwrap();
     /// let stream = chunk.forward_tsn().unwrap().skipped_streams().next().unwrap();
     /// assert_eq!((stream.stream, stream.ssn), (2, 3));
     /// ```
@@ -622,7 +623,7 @@ macro_rules! indexed {
 
         impl $name<'_> {
             fn read(&self, index: usize) -> Option<$item> {
-                read!(self.$from, $function, index)
+                read!(self.$from, $function, index).map(<$item>::from)
             }
         }
 
@@ -663,7 +664,7 @@ indexed! {
     ///
     /// ```
     /// # let bytes = *b"\0\x01\0\x02\0\0\0\x03\0\0\0\0\x03\0\0\x18\0\0\0\x29\0\x02\0\0\0\x01\0\x01\0\x02\0\x03\0\0\0\x28";
-    /// # let chunk = dcsctp::Chunk::at(&bytes, 12).unwrap();
+    /// # let chunk = davgyuti::Chunk::at(&bytes, 12).unwrap();
     /// let blocks = chunk.sack().unwrap().gap_ack_blocks();
     /// assert_eq!((blocks.len(), blocks.last().unwrap().end), (1, 3));
     /// ```
@@ -675,7 +676,7 @@ indexed! {
     ///
     /// ```
     /// # let bytes = *b"\0\x01\0\x02\0\0\0\x03\0\0\0\0\x03\0\0\x18\0\0\0\x29\0\x02\0\0\0\x01\0\x01\0\x02\0\x03\0\0\0\x28";
-    /// # let chunk = dcsctp::Chunk::at(&bytes, 12).unwrap();
+    /// # let chunk = davgyuti::Chunk::at(&bytes, 12).unwrap();
     /// let tsns: Vec<u32> = chunk.sack().unwrap().duplicate_tsns().collect();
     /// assert_eq!(tsns, [40]);
     /// ```
@@ -687,7 +688,7 @@ indexed! {
     ///
     /// ```
     /// # let bytes = *b"\0\x01\0\x02\0\0\0\x03\0\0\0\0\xc0\0\0\x0c\0\0\0\x29\0\x02\0\x03";
-    /// # let chunk = dcsctp::Chunk::at(&bytes, 12).unwrap();
+    /// # let chunk = davgyuti::Chunk::at(&bytes, 12).unwrap();
     /// let mut streams = chunk.forward_tsn().unwrap().skipped_streams();
     /// assert_eq!(streams.next_back().unwrap().stream, 2);
     /// ```

@@ -1,3 +1,4 @@
+// SPDX-License-Identifier: Apache-2.0
 //! What `{:?}` shows: names, numbers and lists, and of long bytes the beginning. And what `==` of
 //! lists compares.
 

@@ -1,3 +1,4 @@
+// SPDX-License-Identifier: Apache-2.0
 //! What can be wrong.
 
 use core::error::Error;
@@ -6,7 +7,7 @@ use core::fmt;
 /// Why bytes are no packet.
 ///
 /// ```
-/// use dcsctp::{Fault, FaultKind, UnknownNumber};
+/// use davgyuti::{Fault, FaultKind, UnknownNumber};
 ///
 /// let fault = Fault { kind: FaultKind::Checksum, offset: 8 };
 /// assert_eq!(FaultKind::from(fault).to_string(), "wrong checksum");
@@ -34,7 +35,7 @@ impl FaultKind {
     /// Returns the number that the C API has for it: 1 to 5.
     ///
     /// ```
-    /// assert_eq!(dcsctp::FaultKind::Length.code(), 3);
+    /// assert_eq!(davgyuti::FaultKind::Length.code(), 3);
     /// ```
     #[must_use]
     pub const fn code(self) -> u32 {
@@ -55,7 +56,7 @@ impl FaultKind {
     /// Returns what it is, in a few words.
     ///
     /// ```
-    /// assert_eq!(dcsctp::FaultKind::Padding.text(), "wrong padding");
+    /// assert_eq!(davgyuti::FaultKind::Padding.text(), "wrong padding");
     /// ```
     #[must_use]
     pub const fn text(self) -> &'static str {
@@ -104,7 +105,7 @@ impl From<Fault> for FaultKind {
 /// The size is checked first, then the checksum, then the chunks.
 ///
 /// ```
-/// use dcsctp::{Fault, FaultKind, Packet};
+/// use davgyuti::{Fault, FaultKind, Packet};
 ///
 /// let fault = Packet::parse(&[0; 4]).unwrap_err();
 /// assert_eq!(fault, Fault { kind: FaultKind::Size, offset: 4 });
@@ -133,11 +134,11 @@ impl Error for Fault {}
 ///
 /// ```
 /// # let bytes = *b"\x13\x88\x13\x88\x4d\x2d\xf5\x2d\x67\xdb\x78\xb5\x0b\0\0\x04";
-/// # let packet = dcsctp::Packet::parse(&bytes)?;
+/// # let packet = davgyuti::Packet::parse(&bytes)?;
 /// let error = packet.write_canonical(&mut [0; 3]).unwrap_err();
-/// assert_eq!(error, dcsctp::OutputError::NoRoom { needed: 16 });
+/// assert_eq!(error, davgyuti::OutputError::NoRoom { needed: 16 });
 /// assert_eq!(error.to_string(), "no room: 16 bytes are needed");
-/// # Ok::<(), dcsctp::Fault>(())
+/// # Ok::<(), davgyuti::Fault>(())
 /// ```
 #[derive(Clone, Copy, PartialEq, Eq, Hash, Debug)]
 #[non_exhaustive]
@@ -168,7 +169,7 @@ impl Error for OutputError {}
 /// Why nothing was written into a packet.
 ///
 /// ```
-/// use dcsctp::{PacketBuilder, WriteError};
+/// use davgyuti::{PacketBuilder, WriteError};
 ///
 /// let mut buffer = [0; 12];
 /// let mut packet = PacketBuilder::begin(&mut buffer, 5000, 5001, 7)?;
@@ -178,9 +179,11 @@ impl Error for OutputError {}
 #[derive(Clone, Copy, PartialEq, Eq, Hash, Debug)]
 #[non_exhaustive]
 pub enum WriteError {
-    /// With it the packet would have more bytes than the buffer, or than 65,532.
+    /// With it the packet would have more bytes than the buffer, or than 65,532: for a chunk of more
+    /// than 65,520 there is never room.
     NoRoom,
-    /// The chunk would have more than 65,535 bytes.
+    /// The chunk would have more than 65,535 bytes. Whether its type has such a list, or such a
+    /// value, [isn't checked](crate::ChunkBuilder).
     BadValue,
     /// No packet has this size, or no chunk begins where it should and ends the packet.
     BadPlace,
@@ -198,7 +201,7 @@ impl WriteError {
     /// Returns the number that the C API has for it: 7, 9 or 10.
     ///
     /// ```
-    /// assert_eq!(dcsctp::WriteError::BadPlace.code(), 10);
+    /// assert_eq!(davgyuti::WriteError::BadPlace.code(), 10);
     /// ```
     #[must_use]
     pub const fn code(self) -> u32 {
@@ -212,7 +215,7 @@ impl WriteError {
     /// Returns what it is, in a few words.
     ///
     /// ```
-    /// assert_eq!(dcsctp::WriteError::NoRoom.text(), "no room");
+    /// assert_eq!(davgyuti::WriteError::NoRoom.text(), "no room");
     /// ```
     #[must_use]
     pub const fn text(self) -> &'static str {
@@ -249,7 +252,7 @@ impl TryFrom<u32> for WriteError {
 /// A number that has no name: what the conversions from `u32` return.
 ///
 /// ```
-/// use dcsctp::{ReConfigResult, UnknownNumber};
+/// use davgyuti::{ReConfigResult, UnknownNumber};
 ///
 /// assert_eq!(ReConfigResult::try_from(7), Err(UnknownNumber(7)));
 /// ```

@@ -1,3 +1,4 @@
+// SPDX-License-Identifier: Apache-2.0
 //! The C API, as `dcsctp.h` declares it; `tests/header.rs` compares them.
 
 use crate::{GapAckBlock, Header, Init, Policy, SkippedStream};

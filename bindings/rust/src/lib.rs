@@ -1,3 +1,4 @@
+// SPDX-License-Identifier: Apache-2.0
 #![doc = include_str!("../README.md")]
 #![no_std]
 #![warn(missing_docs)]
@@ -45,7 +46,7 @@ pub const VERSION: &str = env!("CARGO_PKG_VERSION");
 ///
 /// ```
 /// // 0.1.0
-/// assert_eq!(dcsctp::version_number(), 0x0100);
+/// assert_eq!(davgyuti::version_number(), 0x0100);
 /// ```
 #[doc(alias = "dcsctp_version_number")]
 #[must_use]

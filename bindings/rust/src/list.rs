@@ -1,3 +1,4 @@
+// SPDX-License-Identifier: Apache-2.0
 //! Parameters and error causes, where they lie.
 
 use crate::chunk::{Chunk, indexed, part, read, same_bytes};
@@ -83,7 +84,7 @@ const fn has_causes(chunk: &Chunk) -> bool {
 ///
 /// ```
 /// # let bytes = *b"\0\x01\0\x02\0\0\0\x03\0\0\0\0\x04\0\0\x0c\0\x01\0\x08info";
-/// # let chunk = dcsctp::Chunk::at(&bytes, 12).unwrap();
+/// # let chunk = davgyuti::Chunk::at(&bytes, 12).unwrap();
 /// let values: Vec<&[u8]> = chunk.parameters().map(|it| it.value()).collect();
 /// assert_eq!(values, [b"info"]);
 /// ```
@@ -113,7 +114,7 @@ impl FusedIterator for Parameters<'_> {}
 ///
 /// ```
 /// # let bytes = *b"\0\x01\0\x02\0\0\0\x03\0\0\0\0\x09\0\0\x1c\0\x09\0\x08\0\0\0\x29\0\x02\0\x0a\0\0\0\x01\0\x07\0\0\0\x04\0\x04";
-/// # let chunk = dcsctp::Chunk::at(&bytes, 12).unwrap();
+/// # let chunk = davgyuti::Chunk::at(&bytes, 12).unwrap();
 /// assert!(chunk.causes().map(|it| it.code().0).eq([9, 2, 4]));
 /// ```
 #[doc(alias = "dcsctp_parameter_at")]
@@ -145,9 +146,9 @@ impl FusedIterator for Causes<'_> {}
 ///
 /// ```
 /// # let bytes = *b"\0\x01\0\x02\0\0\0\x03\0\0\0\0\x04\0\0\x0c\0\x01\0\x08info";
-/// # let chunk = dcsctp::Chunk::at(&bytes, 12).unwrap();
+/// # let chunk = davgyuti::Chunk::at(&bytes, 12).unwrap();
 /// let info = chunk.parameters().next().unwrap();
-/// assert_eq!(info.parameter_type(), dcsctp::ParameterType::HEARTBEAT_INFO);
+/// assert_eq!(info.parameter_type(), davgyuti::ParameterType::HEARTBEAT_INFO);
 /// assert_eq!(info.value(), b"info");
 /// ```
 #[derive(Clone, Copy, PartialEq, Eq, Hash)]
@@ -158,7 +159,7 @@ impl<'a> Parameter<'a> {
     ///
     /// ```
     /// # let bytes = *b"\0\x01\0\x02\0\0\0\x03\0\0\0\0\x04\0\0\x0c\0\x01\0\x08info";
-    /// # let chunk = dcsctp::Chunk::at(&bytes, 12).unwrap();
+    /// # let chunk = davgyuti::Chunk::at(&bytes, 12).unwrap();
     /// assert_eq!(chunk.parameters().next().unwrap().parameter_type().name(), "Heartbeat Info");
     /// ```
     #[must_use]
@@ -171,7 +172,7 @@ impl<'a> Parameter<'a> {
     ///
     /// ```
     /// # let bytes = *b"\0\x01\0\x02\0\0\0\x03\0\0\0\0\x04\0\0\x0c\0\x01\0\x08info";
-    /// # let chunk = dcsctp::Chunk::at(&bytes, 12).unwrap();
+    /// # let chunk = davgyuti::Chunk::at(&bytes, 12).unwrap();
     /// assert_eq!(chunk.parameters().next().unwrap().value(), b"info");
     /// ```
     #[must_use]
@@ -183,27 +184,51 @@ impl<'a> Parameter<'a> {
     /// Unrecognized Parameter (section 3.3.3.1.2) and the cause Unrecognized Parameters (section
     /// 3.3.10.8) have to hold.
     ///
-    /// ```
-    /// use dcsctp::{ChunkBuilder, ParameterType, Parameters, WriteError};
+    /// Of a parameter that isn't known, two bits of the type say what to do (section 3.2.1): with
+    /// 0x4000 it is reported; without 0x8000 it is the last of its chunk that is processed.
     ///
-    /// /// Adds what the INIT ACK says of the parameters of an INIT that aren't known: the second
-    /// /// bit of a type is whether to report it (RFC 9260 section 3.2.1).
+    /// ```
+    /// use davgyuti::{ChunkBuilder, ParameterType, Parameters, WriteError};
+    ///
+    /// /// What this side knows of the parameters of an INIT.
+    /// const KNOWN: [ParameterType; 3] = [
+    ///     ParameterType(12), // Supported Address Types (RFC 9260 section 3.3.2.1.4)
+    ///     ParameterType::SUPPORTED_EXTENSIONS,
+    ///     ParameterType::FORWARD_TSN_SUPPORTED,
+    /// ];
+    ///
+    /// /// Adds what the INIT ACK says of the parameters of an INIT that aren't known.
     /// fn report(parameters: Parameters, init_ack: &mut ChunkBuilder) -> Result<(), WriteError> {
-    ///     for it in parameters {
-    ///         if !it.parameter_type().is_known() && it.parameter_type().0 & 0x4000 != 0 {
+    ///     for it in parameters.filter(|it| !KNOWN.contains(&it.parameter_type())) {
+    ///         let ParameterType(number) = it.parameter_type();
+    ///         if number & 0x4000 != 0 {
     ///             init_ack.parameter(ParameterType::UNRECOGNIZED_PARAMETER, it.as_bytes())?;
+    ///         }
+    ///         if number & 0x8000 == 0 {
+    ///             break;
     ///         }
     ///     }
     ///     Ok(())
     /// }
-    /// # let mut buffer = [0; 100];
-    /// # let mut packet = dcsctp::PacketBuilder::begin(&mut buffer, 1, 2, 3)?;
-    /// # packet.chunk(dcsctp::ChunkType::INIT, 0, &[0; 16])?.parameter(ParameterType(0xc00f), b"a")?;
-    /// # let init = *packet.as_bytes().first_chunk::<40>().unwrap();
-    /// # let init = dcsctp::Chunk::at(&init, 12).unwrap();
-    /// # let mut packet = dcsctp::PacketBuilder::begin(&mut buffer, 1, 2, 3)?;
-    /// # report(init.parameters(), &mut packet.init_ack(&dcsctp::Init::default())?)?;
-    /// # assert_eq!(packet.as_bytes()[32..], *b"\0\x08\0\x09\xc0\x0f\0\x05a\0\0\0");
+    /// # for (types, reported) in [
+    /// #     (&[0x4001, 0x7002, 0xc004][..], &[0x4001][..]),
+    /// #     (&[0xc004, 12, 0x8005, 0x8008, 0x4001, 0xc006], &[0xc004, 0x4001]),
+    /// #     (&[0xc000, 0xc004, 0x3001, 0xc006], &[0xc004]),
+    /// # ] {
+    /// #     let mut buffer = [0; 100];
+    /// #     let mut packet = davgyuti::PacketBuilder::begin(&mut buffer, 1, 2, 0)?;
+    /// #     let mut init = packet.chunk(davgyuti::ChunkType::INIT, 0, &[0; 16])?;
+    /// #     for it in types {
+    /// #         init.parameter(ParameterType(*it), &[])?;
+    /// #     }
+    /// #     let init = packet.as_bytes().to_vec();
+    /// #     let init = davgyuti::Chunk::at(&init, 12).unwrap();
+    /// #     let mut packet = davgyuti::PacketBuilder::begin(&mut buffer, 1, 2, 3)?;
+    /// #     report(init.parameters(), &mut packet.init_ack(&davgyuti::Init::default())?)?;
+    /// #     let expected: Vec<u8> =
+    /// #         reported.iter().flat_map(|it: &u16| [0, 8, 0, 8, (it >> 8) as u8, *it as u8, 0, 4]).collect();
+    /// #     assert_eq!(packet.as_bytes()[32..], expected);
+    /// # }
     /// # Ok::<(), WriteError>(())
     /// ```
     #[must_use]
@@ -214,7 +239,7 @@ impl<'a> Parameter<'a> {
     /// Returns where the parameter begins in the packet's bytes.
     ///
     /// ```
-    /// use dcsctp::Chunk;
+    /// use davgyuti::Chunk;
     ///
     /// // A HEARTBEAT behind the common header, with its Heartbeat Info behind its own.
     /// let bytes = *b"\0\x01\0\x02\0\0\0\x03\0\0\0\0\x04\0\0\x0c\0\x01\0\x08info";
@@ -231,7 +256,7 @@ impl<'a> Parameter<'a> {
     ///
     /// ```
     /// # let bytes = *b"\0\x01\0\x02\0\0\0\x03\0\0\0\0\x01\0\0\x1c\0\0\0\x09\0\x02\0\0\0\x04\0\x05\0\0\0\x29\x80\x01\0\x08\0\0\0\x01";
-    /// # let chunk = dcsctp::Chunk::at(&bytes, 12).unwrap();
+    /// # let chunk = davgyuti::Chunk::at(&bytes, 12).unwrap();
     /// // Zero Checksum Acceptable: the method 1 is SCTP over DTLS.
     /// assert_eq!(chunk.parameters().next().unwrap().number(), Some(1));
     /// ```
@@ -244,10 +269,10 @@ impl<'a> Parameter<'a> {
     /// Returns the request or the response of RE-CONFIG (RFC 6525 section 4) that the parameter is.
     ///
     /// ```
-    /// use dcsctp::ReConfig;
+    /// use davgyuti::ReConfig;
     ///
     /// # let bytes = *b"\0\x01\0\x02\0\0\0\x03\0\0\0\0\x82\0\0\x0e\0\x0e\0\x0a\0\0\0\x01\0\x02\0\0";
-    /// # let chunk = dcsctp::Chunk::at(&bytes, 12).unwrap();
+    /// # let chunk = davgyuti::Chunk::at(&bytes, 12).unwrap();
     /// match chunk.parameters().next().unwrap().re_config() {
     ///     Some(ReConfig::IncomingSsnReset { request_number: 1, streams }) => assert!(streams.eq([2])),
     ///     other => panic!("{other:?}"),
@@ -296,7 +321,7 @@ impl<'a> Parameter<'a> {
 ///
 /// ```
 /// # let bytes = *b"\0\x01\0\x02\0\0\0\x03\0\0\0\0\x09\0\0\x1c\0\x09\0\x08\0\0\0\x29\0\x02\0\x0a\0\0\0\x01\0\x07\0\0\0\x04\0\x04";
-/// # let chunk = dcsctp::Chunk::at(&bytes, 12).unwrap();
+/// # let chunk = davgyuti::Chunk::at(&bytes, 12).unwrap();
 /// let cause = chunk.causes().last().unwrap();
 /// assert_eq!((cause.code().name(), cause.value()), ("Out of Resource", &b""[..]));
 /// ```
@@ -308,8 +333,8 @@ impl<'a> Cause<'a> {
     ///
     /// ```
     /// # let bytes = *b"\0\x01\0\x02\0\0\0\x03\0\0\0\0\x09\0\0\x1c\0\x09\0\x08\0\0\0\x29\0\x02\0\x0a\0\0\0\x01\0\x07\0\0\0\x04\0\x04";
-    /// # let chunk = dcsctp::Chunk::at(&bytes, 12).unwrap();
-    /// assert_eq!(chunk.causes().next().unwrap().code(), dcsctp::CauseCode::NO_USER_DATA);
+    /// # let chunk = davgyuti::Chunk::at(&bytes, 12).unwrap();
+    /// assert_eq!(chunk.causes().next().unwrap().code(), davgyuti::CauseCode::NO_USER_DATA);
     /// ```
     #[must_use]
     pub const fn code(&self) -> CauseCode {
@@ -321,7 +346,7 @@ impl<'a> Cause<'a> {
     ///
     /// ```
     /// # let bytes = *b"\0\x01\0\x02\0\0\0\x03\0\0\0\0\x09\0\0\x1c\0\x09\0\x08\0\0\0\x29\0\x02\0\x0a\0\0\0\x01\0\x07\0\0\0\x04\0\x04";
-    /// # let chunk = dcsctp::Chunk::at(&bytes, 12).unwrap();
+    /// # let chunk = davgyuti::Chunk::at(&bytes, 12).unwrap();
     /// assert_eq!(chunk.causes().next().unwrap().value(), [0, 0, 0, 41]);
     /// ```
     #[must_use]
@@ -332,7 +357,7 @@ impl<'a> Cause<'a> {
     /// Returns the header and the value, without padding (RFC 9260 section 3.3.10).
     ///
     /// ```
-    /// use dcsctp::Chunk;
+    /// use davgyuti::Chunk;
     ///
     /// // An ERROR behind the common header: Invalid Mandatory Parameter, and Out of Resource.
     /// let bytes = *b"\0\x01\0\x02\0\0\0\x03\0\0\0\0\x09\0\0\x0c\0\x07\0\x04\0\x04\0\x04";
@@ -349,7 +374,7 @@ impl<'a> Cause<'a> {
     ///
     /// ```
     /// # let bytes = *b"\0\x01\0\x02\0\0\0\x03\0\0\0\0\x09\0\0\x1c\0\x09\0\x08\0\0\0\x29\0\x02\0\x0a\0\0\0\x01\0\x07\0\0\0\x04\0\x04";
-    /// # let chunk = dcsctp::Chunk::at(&bytes, 12).unwrap();
+    /// # let chunk = davgyuti::Chunk::at(&bytes, 12).unwrap();
     /// assert!(chunk.causes().map(|it| it.offset()).eq([16, 24, 36]));
     /// ```
     #[must_use]
@@ -362,7 +387,7 @@ impl<'a> Cause<'a> {
     ///
     /// ```
     /// # let bytes = *b"\0\x01\0\x02\0\0\0\x03\0\0\0\0\x09\0\0\x1c\0\x09\0\x08\0\0\0\x29\0\x02\0\x0a\0\0\0\x01\0\x07\0\0\0\x04\0\x04";
-    /// # let chunk = dcsctp::Chunk::at(&bytes, 12).unwrap();
+    /// # let chunk = davgyuti::Chunk::at(&bytes, 12).unwrap();
     /// assert_eq!(chunk.causes().next().unwrap().number(), Some(41));
     /// ```
     #[doc(alias = "dcsctp_number")]
@@ -376,13 +401,16 @@ impl<'a> Cause<'a> {
     ///
     /// ```
     /// # let bytes = *b"\0\x01\0\x02\0\0\0\x03\0\0\0\0\x09\0\0\x1c\0\x09\0\x08\0\0\0\x29\0\x02\0\x0a\0\0\0\x01\0\x07\0\0\0\x04\0\x04";
-    /// # let chunk = dcsctp::Chunk::at(&bytes, 12).unwrap();
+    /// # let chunk = davgyuti::Chunk::at(&bytes, 12).unwrap();
     /// let missing = chunk.causes().nth(1).unwrap().missing_parameters();
-    /// assert!(missing.eq([dcsctp::ParameterType::STATE_COOKIE]));
+    /// assert!(missing.eq([davgyuti::ParameterType::STATE_COOKIE]));
     /// ```
     #[must_use]
-    pub const fn missing_parameters(&self) -> MissingParameters<'a> {
-        MissingParameters { cause: self.0, next: Some(0) }
+    pub fn missing_parameters(&self) -> MissingParameters<'a> {
+        // Where one is read, the value has as many as its size says, behind their number.
+        let first: Option<u16> = read!(self.0, dcsctp_missing_parameter, 0);
+        let count = first.map_or(0, |_| (self.0.raw.value_size - 4) / 2);
+        MissingParameters { cause: self.0, indices: 0..count }
     }
 }
 
@@ -391,10 +419,10 @@ indexed! {
     /// (section 4.2). Where there is none, the request is for all streams.
     ///
     /// ```
-    /// use dcsctp::ReConfig;
+    /// use davgyuti::ReConfig;
     ///
     /// # let bytes = *b"\0\x01\0\x02\0\0\0\x03\0\0\0\0\x82\0\0\x0e\0\x0e\0\x0a\0\0\0\x01\0\x02\0\0";
-    /// # let chunk = dcsctp::Chunk::at(&bytes, 12).unwrap();
+    /// # let chunk = davgyuti::Chunk::at(&bytes, 12).unwrap();
     /// let request = chunk.parameters().next().unwrap().re_config().unwrap();
     /// let request = request.map_streams(|streams| streams.collect::<Vec<u16>>());
     /// assert_eq!(request, ReConfig::IncomingSsnReset { request_number: 1, streams: vec![2] });
@@ -403,32 +431,15 @@ indexed! {
     ResetStreams, parameter: Item<'a>, u16, dcsctp_reset_stream
 }
 
-/// The types of a cause Missing Mandatory Parameter (RFC 9260 section 3.3.10.2).
-///
-/// ```
-/// # let bytes = *b"\0\x01\0\x02\0\0\0\x03\0\0\0\0\x09\0\0\x1c\0\x09\0\x08\0\0\0\x29\0\x02\0\x0a\0\0\0\x01\0\x07\0\0\0\x04\0\x04";
-/// # let chunk = dcsctp::Chunk::at(&bytes, 12).unwrap();
-/// let mut missing = chunk.causes().nth(1).unwrap().missing_parameters();
-/// assert_eq!(missing.next().unwrap().name(), "State Cookie");
-/// ```
-#[doc(alias = "dcsctp_missing_parameter")]
-#[derive(Clone)]
-pub struct MissingParameters<'a> {
-    cause: Item<'a>,
-    next: Option<usize>,
+indexed! {
+    /// The types of a cause Missing Mandatory Parameter (RFC 9260 section 3.3.10.2).
+    ///
+    /// ```
+    /// # let bytes = *b"\0\x01\0\x02\0\0\0\x03\0\0\0\0\x09\0\0\x1c\0\x09\0\x08\0\0\0\x29\0\x02\0\x0a\0\0\0\x01\0\x07\0\0\0\x04\0\x04";
+    /// # let chunk = davgyuti::Chunk::at(&bytes, 12).unwrap();
+    /// let missing = chunk.causes().nth(1).unwrap().missing_parameters();
+    /// assert_eq!((missing.len(), missing.last().unwrap().name()), (1, "State Cookie"));
+    /// ```
+    #[doc(alias = "dcsctp_missing_parameter")]
+    MissingParameters, cause: Item<'a>, ParameterType, dcsctp_missing_parameter
 }
-
-list_of_items!(MissingParameters);
-
-impl Iterator for MissingParameters<'_> {
-    type Item = ParameterType;
-
-    fn next(&mut self) -> Option<ParameterType> {
-        let index = self.next.take()?;
-        let found = read!(self.cause, dcsctp_missing_parameter, index)?;
-        self.next = index.checked_add(1);
-        Some(ParameterType(found))
-    }
-}
-
-impl FusedIterator for MissingParameters<'_> {}

@@ -1,3 +1,4 @@
+// SPDX-License-Identifier: Apache-2.0
 //! Chunks that are kept.
 
 use crate::chunk::Chunk;
@@ -8,11 +9,12 @@ use core::fmt;
 /// retransmission or reassembly.
 ///
 /// It has the chunk's type, flags and value, and neither its padding nor its place: its
-/// [offset](Chunk::offset) is 0. Where there is no memory for it, the program ends, as with any
-/// `Box`.
+/// [offset](Chunk::offset) is 0. It needs the feature `alloc`, and takes its memory from the
+/// program's allocator alone. Where there is none left, the program ends, as with any `Box`.
+/// [`PacketBuilder::copy`](crate::PacketBuilder::copy) writes it again.
 ///
 /// ```
-/// use dcsctp::{OwnedChunk, Packet, PacketBuilder};
+/// use davgyuti::{OwnedChunk, Packet, PacketBuilder};
 ///
 /// /// Keeps the user data of a packet.
 /// fn kept(bytes: &[u8]) -> Vec<OwnedChunk> {
@@ -22,15 +24,15 @@ use core::fmt;
 ///
 /// # let mut buffer = [0; 100];
 /// # let mut packet = PacketBuilder::begin(&mut buffer, 1, 2, 3)?;
-/// # packet.data(&dcsctp::Data { payload: b"hello", ..Default::default() })?.cookie_ack()?;
+/// # packet.data(&davgyuti::Data { payload: b"hello", ..Default::default() })?.cookie_ack()?;
 /// let kept = kept(packet.seal());
 /// let data = kept[0].as_chunk();
 /// assert_eq!(data.data().unwrap().payload, b"hello");
 /// // Sends it again.
 /// let mut packet = PacketBuilder::begin(&mut buffer, 1, 2, 3)?;
-/// packet.chunk(data.chunk_type(), data.flags(), data.value())?;
+/// packet.copy(&data)?;
 /// # assert_eq!(packet.size(), 12 + 16 + 8);
-/// # Ok::<(), dcsctp::WriteError>(())
+/// # Ok::<(), davgyuti::WriteError>(())
 /// ```
 #[derive(Clone, PartialEq, Eq, Hash)]
 pub struct OwnedChunk(Box<[u8]>);
@@ -40,9 +42,9 @@ impl OwnedChunk {
     ///
     /// ```
     /// # let bytes = *b"\0\x01\0\x02\0\0\0\x03\0\0\0\0\x0a\0\0\x07abc\0";
-    /// # let chunk = dcsctp::Chunk::at(&bytes, 12).unwrap();
+    /// # let chunk = davgyuti::Chunk::at(&bytes, 12).unwrap();
     /// let kept = chunk.into_owned();
-    /// assert_eq!(kept.as_chunk().content(), dcsctp::Content::CookieEcho(b"abc"));
+    /// assert_eq!(kept.as_chunk().content(), davgyuti::Content::CookieEcho(b"abc"));
     /// ```
     #[must_use]
     #[allow(clippy::missing_panics_doc)] // it was read before

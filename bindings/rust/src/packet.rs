@@ -1,3 +1,4 @@
+// SPDX-License-Identifier: Apache-2.0
 //! Whole packets.
 
 use crate::chunk::{Chunk, Chunks, same_bytes};
@@ -16,7 +17,7 @@ use alloc::{string::String, vec::Vec};
 ///
 /// ```
 /// let packet = *b"\x13\x88\x13\x88\x4d\x2d\xf5\x2d\x67\xdb\x78\xb5\x0b\0\0\x04";
-/// assert_eq!(dcsctp::word(&packet), 0x67db_78b5);
+/// assert_eq!(davgyuti::word(&packet), 0x67db_78b5);
 /// ```
 #[doc(alias = "dcsctp_word")]
 #[must_use]
@@ -29,12 +30,12 @@ pub fn word(bytes: &[u8]) -> u32 {
 /// be: [`word(bytes)`](word).
 ///
 /// ```
-/// use dcsctp::{FaultKind, Policy};
+/// use davgyuti::{FaultKind, Policy};
 ///
 /// let mut bytes = *b"\x13\x88\x13\x88\x4d\x2d\xf5\x2d\x67\xdb\x78\xb5\x0b\0\0\x04";
-/// assert_eq!(dcsctp::check(&bytes, dcsctp::word(&bytes), Policy::new()), Ok(()));
+/// assert_eq!(davgyuti::check(&bytes, davgyuti::word(&bytes), Policy::new()), Ok(()));
 /// bytes[0] ^= 1;
-/// let checked = dcsctp::check(&bytes, dcsctp::word(&bytes), Policy::new());
+/// let checked = davgyuti::check(&bytes, davgyuti::word(&bytes), Policy::new());
 /// assert_eq!(checked, Err(FaultKind::Checksum));
 /// ```
 ///
@@ -52,12 +53,12 @@ pub fn check(bytes: &[u8], word: u32, policy: Policy) -> Result<(), FaultKind> {
 /// what the checksum field has to be: [`word(bytes)`](word).
 ///
 /// ```
-/// use dcsctp::{Fault, FaultKind, Policy};
+/// use davgyuti::{Fault, FaultKind, Policy};
 ///
 /// let policy = Policy::new().with_any_checksum(true);
 /// // A COOKIE ACK, and a chunk with a length of 3.
 /// let bytes = *b"\x13\x88\x13\x88\0\0\0\x01\0\0\0\0\x0b\0\0\x04\x0b\0\0\x03";
-/// let fault = dcsctp::first_fault(&bytes, 0, policy);
+/// let fault = davgyuti::first_fault(&bytes, 0, policy);
 /// assert_eq!(fault, Some(Fault { kind: FaultKind::Length, offset: 16 }));
 /// ```
 #[doc(alias = "dcsctp_first_fault")]
@@ -76,9 +77,9 @@ pub fn first_fault(bytes: &[u8], word: u32, policy: Policy) -> Option<Fault> {
 ///
 /// ```
 /// let mut bytes = *b"\x13\x88\x13\x88\x4d\x2d\xf5\x2d\0\0\0\0\x0b\0\0\x04";
-/// dcsctp::seal(&mut bytes)?;
+/// davgyuti::seal(&mut bytes)?;
 /// assert_eq!(bytes[8..12], [0x67, 0xdb, 0x78, 0xb5]);
-/// # Ok::<(), dcsctp::WriteError>(())
+/// # Ok::<(), davgyuti::WriteError>(())
 /// ```
 ///
 /// # Errors
@@ -94,9 +95,9 @@ pub fn seal(packet: &mut [u8]) -> Result<(), WriteError> {
 ///
 /// ```
 /// let mut bytes = *b"\x13\x88\x13\x88\x4d\x2d\xf5\x2d\x67\xdb\x78\xb5\x0b\0\0\x04";
-/// dcsctp::set_tag(&mut bytes, 0x0102_0304)?;
-/// dcsctp::seal(&mut bytes)?;
-/// assert_eq!(dcsctp::Packet::parse(&bytes)?.header().verification_tag, 0x0102_0304);
+/// davgyuti::set_tag(&mut bytes, 0x0102_0304)?;
+/// davgyuti::seal(&mut bytes)?;
+/// assert_eq!(davgyuti::Packet::parse(&bytes)?.header().verification_tag, 0x0102_0304);
 /// # Ok::<(), Box<dyn std::error::Error>>(())
 /// ```
 ///
@@ -114,7 +115,7 @@ pub fn set_tag(packet: &mut [u8], verification_tag: u32) -> Result<(), WriteErro
 /// the fewest blocks that cover the same offsets. The blocks after them are of no use.
 ///
 /// ```
-/// use dcsctp::GapAckBlock;
+/// use davgyuti::GapAckBlock;
 ///
 /// let mut blocks = [
 ///     GapAckBlock::new(7, 9),
@@ -122,7 +123,7 @@ pub fn set_tag(packet: &mut [u8], verification_tag: u32) -> Result<(), WriteErro
 ///     GapAckBlock::new(2, 4),
 ///     GapAckBlock::new(5, 5),
 /// ];
-/// let cleaned = dcsctp::clean_blocks(&mut blocks);
+/// let cleaned = davgyuti::clean_blocks(&mut blocks);
 /// assert_eq!(cleaned, [GapAckBlock::new(2, 5), GapAckBlock::new(7, 9)]);
 /// ```
 #[doc(alias = "dcsctp_clean_blocks")]
@@ -136,7 +137,7 @@ impl Header {
     /// Reads the common header (RFC 9260 section 3.1) of any bytes; none of fewer than 12.
     ///
     /// ```
-    /// use dcsctp::Header;
+    /// use davgyuti::Header;
     ///
     /// let header = Header::read(b"\x13\x88\x13\x89\0\0\0\x07\0\0\0\x09").unwrap();
     /// assert_eq!((header.source_port, header.destination_port), (5000, 5001));
@@ -162,13 +163,13 @@ impl Header {
 /// packets mean the same if and only if their canonical forms are equal.
 ///
 /// ```
-/// use dcsctp::{ChunkType, Packet};
+/// use davgyuti::{ChunkType, Packet};
 ///
 /// let bytes = *b"\x13\x88\x13\x88\x4d\x2d\xf5\x2d\x67\xdb\x78\xb5\x0b\0\0\x04";
 /// let packet = Packet::parse(&bytes)?;
 /// assert_eq!(packet.header().verification_tag, 0x4d2d_f52d);
 /// assert!(packet.chunks().map(|chunk| chunk.chunk_type()).eq([ChunkType::COOKIE_ACK]));
-/// # Ok::<(), dcsctp::Fault>(())
+/// # Ok::<(), davgyuti::Fault>(())
 /// ```
 #[derive(Clone, Copy)]
 pub struct Packet<'a> {
@@ -188,8 +189,8 @@ impl<'a> Packet<'a> {
     ///
     /// ```
     /// let bytes = *b"\x13\x88\x13\x88\x4d\x2d\xf5\x2d\x67\xdb\x78\xb5\x0b\0\0\x04";
-    /// assert!(dcsctp::Packet::parse(&bytes).is_ok());
-    /// assert_eq!(dcsctp::Packet::parse(&bytes[..15]).unwrap_err().offset, 15);
+    /// assert!(davgyuti::Packet::parse(&bytes).is_ok());
+    /// assert_eq!(davgyuti::Packet::parse(&bytes[..15]).unwrap_err().offset, 15);
     /// ```
     ///
     /// # Errors
@@ -199,14 +200,15 @@ impl<'a> Packet<'a> {
     }
 
     /// Checks bytes under a policy. `word` is what the checksum field has to be:
-    /// [`word(bytes)`](word), or what computes it faster.
+    /// [`word(bytes)`](word), or what computes it faster. It must not be read from the packet: with
+    /// its own checksum field here every checksum is accepted.
     ///
     /// ```
-    /// use dcsctp::{Fault, FaultKind, Packet, Policy};
+    /// use davgyuti::{Fault, FaultKind, Packet, Policy};
     ///
     /// let zero = Policy::new().with_zero_checksum(true);
     /// let bytes = *b"\x13\x88\x13\x88\0\0\0\x01\0\0\0\0\x0b\0\0\x04";
-    /// assert!(Packet::parse_with(&bytes, dcsctp::word(&bytes), zero).is_ok());
+    /// assert!(Packet::parse_with(&bytes, davgyuti::word(&bytes), zero).is_ok());
     /// let fault = Fault { kind: FaultKind::Checksum, offset: 8 };
     /// assert_eq!(Packet::parse(&bytes), Err(fault));
     /// assert_eq!(fault.to_string(), "wrong checksum at byte 8");
@@ -223,9 +225,9 @@ impl<'a> Packet<'a> {
     ///
     /// ```
     /// # let bytes = *b"\x13\x88\x13\x88\x4d\x2d\xf5\x2d\x67\xdb\x78\xb5\x0b\0\0\x04";
-    /// # let packet = dcsctp::Packet::parse(&bytes)?;
+    /// # let packet = davgyuti::Packet::parse(&bytes)?;
     /// assert_eq!(packet.as_bytes(), bytes);
-    /// # Ok::<(), dcsctp::Fault>(())
+    /// # Ok::<(), davgyuti::Fault>(())
     /// ```
     #[must_use]
     pub const fn as_bytes(&self) -> &'a [u8] {
@@ -236,11 +238,11 @@ impl<'a> Packet<'a> {
     ///
     /// ```
     /// # let bytes = *b"\x13\x88\x13\x88\x4d\x2d\xf5\x2d\x67\xdb\x78\xb5\x0b\0\0\x04";
-    /// # let packet = dcsctp::Packet::parse(&bytes)?;
+    /// # let packet = davgyuti::Packet::parse(&bytes)?;
     /// let header = packet.header();
     /// assert_eq!((header.source_port, header.destination_port), (5000, 5000));
-    /// assert_eq!(header.checksum, dcsctp::word(&bytes));
-    /// # Ok::<(), dcsctp::Fault>(())
+    /// assert_eq!(header.checksum, davgyuti::word(&bytes));
+    /// # Ok::<(), davgyuti::Fault>(())
     /// ```
     #[must_use]
     pub fn header(&self) -> Header {
@@ -251,13 +253,13 @@ impl<'a> Packet<'a> {
     /// &packet` does too.
     ///
     /// ```
-    /// # fn see(packet: dcsctp::Packet) {
+    /// # fn see(packet: davgyuti::Packet) {
     /// for chunk in &packet {
     ///     println!("{} at byte {}", chunk.chunk_type(), chunk.offset());
     /// }
     /// # }
-    /// # see(dcsctp::Packet::parse(b"\x13\x88\x13\x88\x4d\x2d\xf5\x2d\x67\xdb\x78\xb5\x0b\0\0\x04")?);
-    /// # Ok::<(), dcsctp::Fault>(())
+    /// # see(davgyuti::Packet::parse(b"\x13\x88\x13\x88\x4d\x2d\xf5\x2d\x67\xdb\x78\xb5\x0b\0\0\x04")?);
+    /// # Ok::<(), davgyuti::Fault>(())
     /// ```
     #[must_use]
     pub fn chunks(&self) -> Chunks<'a> {
@@ -266,11 +268,12 @@ impl<'a> Packet<'a> {
 
     /// Writes the canonical packet to the front of `output`, and returns it: a checksum of zero,
     /// padding of zeros, zeros in reserved bits, and else the same. Two packets have the same one
-    /// if and only if they mean the same. [Seal](seal) it before you send it.
+    /// if and only if they mean the same. [Seal](seal) it before you send it. This calls C's
+    /// `malloc`, `realloc` and `free`, also without the feature `alloc`.
     ///
     /// ```
     /// # let bytes = *b"\x13\x88\x13\x88\x4d\x2d\xf5\x2d\x67\xdb\x78\xb5\x0b\0\0\x04";
-    /// # let packet = dcsctp::Packet::parse(&bytes)?;
+    /// # let packet = davgyuti::Packet::parse(&bytes)?;
     /// let mut output = [0; 100];
     /// let canonical = packet.write_canonical(&mut output)?;
     /// assert_eq!(canonical, b"\x13\x88\x13\x88\x4d\x2d\xf5\x2d\0\0\0\0\x0b\0\0\x04");
@@ -286,10 +289,12 @@ impl<'a> Packet<'a> {
     }
 
     /// Writes the packet's text to the front of `output`, and returns it: a line for the header,
-    /// and one for each chunk. There is a line feed between lines, and none at the end.
+    /// and one for each chunk. There is a line feed between lines, and none at the end. It is a
+    /// summary, without parameters and error causes; [`write_report`](Self::write_report) writes
+    /// all. This calls C's `malloc`, `realloc` and `free`, also without the feature `alloc`.
     ///
     /// ```
-    /// use dcsctp::{OutputError, Packet};
+    /// use davgyuti::{OutputError, Packet};
     ///
     /// let bytes = *b"\x13\x88\x13\x88\x4d\x2d\xf5\x2d\x67\xdb\x78\xb5\x0b\0\0\x04";
     /// let packet = Packet::parse(&bytes)?;
@@ -312,11 +317,11 @@ impl<'a> Packet<'a> {
 
     /// Writes all that the packet holds to the front of `output`, and returns it, as `sctp_dump`
     /// prints it: each line ends in a line feed, and what is inside of something is two blanks
-    /// deeper.
+    /// deeper. This allocates nothing.
     ///
     /// ```
     /// # let bytes = *b"\x13\x88\x13\x88\x4d\x2d\xf5\x2d\x67\xdb\x78\xb5\x0b\0\0\x04";
-    /// # let packet = dcsctp::Packet::parse(&bytes)?;
+    /// # let packet = davgyuti::Packet::parse(&bytes)?;
     /// let mut output = [0; 1000];
     /// let report = packet.write_report(&mut output)?;
     /// assert!(report.ends_with("\nCOOKIE ACK\n"));
@@ -331,11 +336,12 @@ impl<'a> Packet<'a> {
         Ok(utf8(&output[..size]))
     }
 
-    /// Returns what [`write_canonical`](Self::write_canonical) writes.
+    /// Returns what [`write_canonical`](Self::write_canonical) writes. This needs the feature
+    /// `alloc`, and calls C's `malloc` besides.
     ///
     /// ```
     /// # let bytes = *b"\x13\x88\x13\x88\x4d\x2d\xf5\x2d\x67\xdb\x78\xb5\x0b\0\0\x04";
-    /// # let packet = dcsctp::Packet::parse(&bytes)?;
+    /// # let packet = davgyuti::Packet::parse(&bytes)?;
     /// let mut canonical = bytes;
     /// canonical[8..12].fill(0);
     /// assert_eq!(packet.to_canonical()?, canonical);
@@ -349,12 +355,13 @@ impl<'a> Packet<'a> {
         self.collect(ffi::dcsctp_canonical)
     }
 
-    /// Returns what [`write_text`](Self::write_text) writes; [`Display`](core::fmt::Display) does
-    /// too.
+    /// Returns what [`write_text`](Self::write_text) writes, a summary without parameters and error
+    /// causes; [`Display`](core::fmt::Display) does too, and [`to_report`](Self::to_report) returns
+    /// all. This needs the feature `alloc`, and calls C's `malloc` besides.
     ///
     /// ```
     /// # let bytes = *b"\x13\x88\x13\x88\x4d\x2d\xf5\x2d\x67\xdb\x78\xb5\x0b\0\0\x04";
-    /// # let packet = dcsctp::Packet::parse(&bytes)?;
+    /// # let packet = davgyuti::Packet::parse(&bytes)?;
     /// assert!(packet.to_text()?.ends_with("\nCOOKIE-ACK"));
     /// # Ok::<(), Box<dyn std::error::Error>>(())
     /// ```
@@ -366,11 +373,13 @@ impl<'a> Packet<'a> {
         self.collect(ffi::dcsctp_print).map(text)
     }
 
-    /// Returns what [`write_report`](Self::write_report) writes.
+    /// Returns what [`write_report`](Self::write_report) writes: all that the packet holds,
+    /// parameters and error causes too. This needs the feature `alloc`, and calls no `malloc` but
+    /// that of the `String`, if the program's allocator does.
     ///
     /// ```
     /// # let bytes = *b"\x13\x88\x13\x88\x4d\x2d\xf5\x2d\x67\xdb\x78\xb5\x0b\0\0\x04";
-    /// # let packet = dcsctp::Packet::parse(&bytes)?;
+    /// # let packet = davgyuti::Packet::parse(&bytes)?;
     /// assert!(packet.to_report()?.ends_with("\nCOOKIE ACK\n"));
     /// # Ok::<(), Box<dyn std::error::Error>>(())
     /// ```
@@ -454,7 +463,8 @@ impl AsRef<[u8]> for Packet<'_> {
     }
 }
 
-/// Writes the packet's [text](Packet::to_text).
+/// Writes the packet's [text](Packet::to_text), a summary without parameters and error causes;
+/// [`to_report`](Packet::to_report) returns all.
 #[cfg(feature = "alloc")]
 impl core::fmt::Display for Packet<'_> {
     fn fmt(&self, f: &mut core::fmt::Formatter<'_>) -> core::fmt::Result {

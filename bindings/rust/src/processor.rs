@@ -1,3 +1,4 @@
+// SPDX-License-Identifier: Apache-2.0
 //! The word of a packet by the processor's own instruction for CRC32c, where it has one.
 //!
 //! **Not proved**: unlike the rest of this crate it is Rust that rustc makes, and nothing else calls
@@ -6,12 +7,12 @@
 //! CRC on arm64); without it the proved functions are called.
 //!
 //! ```
-//! use dcsctp::{Packet, Policy, processor};
+//! use davgyuti::{Packet, Policy, processor};
 //!
 //! let bytes = *b"\x13\x88\x13\x88\x4d\x2d\xf5\x2d\x67\xdb\x78\xb5\x0b\0\0\x04";
 //! let packet = Packet::parse_with(&bytes, processor::word(&bytes), Policy::default())?;
-//! # assert_eq!(packet.header().checksum, dcsctp::word(&bytes));
-//! # Ok::<(), dcsctp::Fault>(())
+//! # assert_eq!(packet.header().checksum, davgyuti::word(&bytes));
+//! # Ok::<(), davgyuti::Fault>(())
 //! ```
 //!
 //! It takes about a third of the time of [`crate::word`] for packets of 64 to 1,200 bytes;
@@ -81,7 +82,7 @@ mod instruction {
 ///
 /// ```
 /// let bytes = *b"\x13\x88\x13\x88\x4d\x2d\xf5\x2d\x67\xdb\x78\xb5\x0b\0\0\x04";
-/// assert_eq!(dcsctp::processor::word(&bytes), 0x67db_78b5);
+/// assert_eq!(davgyuti::processor::word(&bytes), 0x67db_78b5);
 /// ```
 #[must_use]
 pub fn word(bytes: &[u8]) -> u32 {
@@ -100,9 +101,9 @@ pub fn word(bytes: &[u8]) -> u32 {
 ///
 /// ```
 /// let mut bytes = *b"\x13\x88\x13\x88\x4d\x2d\xf5\x2d\0\0\0\0\x0b\0\0\x04";
-/// dcsctp::processor::seal(&mut bytes)?;
+/// davgyuti::processor::seal(&mut bytes)?;
 /// assert_eq!(bytes[8..12], [0x67, 0xdb, 0x78, 0xb5]);
-/// # Ok::<(), dcsctp::WriteError>(())
+/// # Ok::<(), davgyuti::WriteError>(())
 /// ```
 ///
 /// # Errors

@@ -1,3 +1,4 @@
+// SPDX-License-Identifier: Apache-2.0
 //! The numbers that the RFCs have names for.
 
 use core::fmt;
@@ -21,8 +22,8 @@ macro_rules! named {
             /// no constant here.
             ///
             /// ```
-            /// assert_eq!(dcsctp::CauseCode::STALE_COOKIE.name(), "Stale Cookie");
-            /// assert_eq!(dcsctp::CauseCode(99).name(), "unknown");
+            /// assert_eq!(davgyuti::CauseCode::STALE_COOKIE.name(), "Stale Cookie");
+            /// assert_eq!(davgyuti::CauseCode(99).name(), "unknown");
             /// ```
             #[must_use]
             pub const fn name(self) -> &'static str {
@@ -32,11 +33,13 @@ macro_rules! named {
                 }
             }
 
-            /// Returns whether the number has a constant here, and so a [name](Self::name).
+            /// Returns whether the number has a constant here, and so a [name](Self::name). That
+            /// says nothing of your association: list what it knows yourself.
             ///
             /// ```
-            /// assert!(dcsctp::ParameterType::STATE_COOKIE.is_known());
-            /// assert!(!dcsctp::ParameterType(0x8002).is_known());
+            /// assert!(davgyuti::ParameterType::STATE_COOKIE.is_known());
+            /// // RFC 9260 section 3.3.2.1.4: Supported Address Types, which has no name here.
+            /// assert!(!davgyuti::ParameterType(12).is_known());
             /// ```
             #[must_use]
             #[allow(clippy::manual_range_patterns)] // the numbers come one by one
@@ -95,7 +98,7 @@ named! {
     /// A type of chunk (RFC 9260 section 3.2): any number of a byte, with names for some.
     ///
     /// ```
-    /// use dcsctp::ChunkType;
+    /// use davgyuti::ChunkType;
     ///
     /// let types = [ChunkType::SACK, ChunkType(0x4d)];
     /// assert_eq!(types.map(|it| it.name()), ["SACK", "unknown"]);
@@ -144,7 +147,7 @@ named! {
     /// A type of parameter (RFC 9260 section 3.2.1): any number of two bytes, with names for some.
     ///
     /// ```
-    /// use dcsctp::ParameterType;
+    /// use davgyuti::ParameterType;
     ///
     /// // RFC 4895 section 3.1: RANDOM, which has no name here.
     /// let random = ParameterType(0x8002);
@@ -185,7 +188,7 @@ named! {
     /// some.
     ///
     /// ```
-    /// use dcsctp::CauseCode;
+    /// use davgyuti::CauseCode;
     ///
     /// // RFC 4895 section 4.1: Unsupported HMAC Identifier, which has no name here.
     /// assert_eq!(CauseCode(0x0105).to_string(), "cause code 0x0105");

@@ -1,3 +1,4 @@
+// SPDX-License-Identifier: Apache-2.0
 //! What chunks hold: values that are read and written.
 
 use crate::error::UnknownNumber;
@@ -8,7 +9,7 @@ use crate::error::UnknownNumber;
 /// ignored. A later version may add a field, which is false by default.
 ///
 /// ```
-/// use dcsctp::Policy;
+/// use davgyuti::Policy;
 ///
 /// const FILTER: Policy = Policy::new().with_strict_padding(true);
 /// let mut policy = FILTER;
@@ -19,7 +20,7 @@ use crate::error::UnknownNumber;
 /// So it can't be written field by field:
 ///
 /// ```compile_fail,E0639
-/// let policy = dcsctp::Policy { zero_checksum: true, ..Default::default() };
+/// let policy = davgyuti::Policy { zero_checksum: true, ..Default::default() };
 /// ```
 #[repr(C)]
 #[non_exhaustive]
@@ -30,7 +31,7 @@ pub struct Policy {
     /// Accepts a field of zero as well. Set it once you sent Zero Checksum Acceptable (RFC 9653):
     /// as a client for what comes after your INIT, as a server for what comes after the COOKIE
     /// ECHO. Packets with INIT or COOKIE ECHO still need a CRC32c: refuse them where
-    /// `packet.header().checksum != dcsctp::word(bytes)`.
+    /// `packet.header().checksum != davgyuti::word(bytes)`.
     pub zero_checksum: bool,
     /// Padding has to be complete and zero: for a filter that refuses bytes hidden in padding,
     /// which a receiver has to ignore (RFC 9260 section 3.2).
@@ -41,7 +42,7 @@ impl Policy {
     /// Returns the default: all false.
     ///
     /// ```
-    /// assert_eq!(dcsctp::Policy::new(), dcsctp::Policy::default());
+    /// assert_eq!(davgyuti::Policy::new(), davgyuti::Policy::default());
     /// ```
     #[must_use]
     pub const fn new() -> Self {
@@ -51,7 +52,7 @@ impl Policy {
     /// Returns the same with another [`any_checksum`](Self::any_checksum).
     ///
     /// ```
-    /// assert!(dcsctp::Policy::new().with_any_checksum(true).any_checksum);
+    /// assert!(davgyuti::Policy::new().with_any_checksum(true).any_checksum);
     /// ```
     #[must_use]
     pub const fn with_any_checksum(self, any_checksum: bool) -> Self {
@@ -61,7 +62,7 @@ impl Policy {
     /// Returns the same with another [`zero_checksum`](Self::zero_checksum).
     ///
     /// ```
-    /// assert!(dcsctp::Policy::new().with_zero_checksum(true).zero_checksum);
+    /// assert!(davgyuti::Policy::new().with_zero_checksum(true).zero_checksum);
     /// ```
     #[must_use]
     pub const fn with_zero_checksum(self, zero_checksum: bool) -> Self {
@@ -71,7 +72,7 @@ impl Policy {
     /// Returns the same with another [`strict_padding`](Self::strict_padding).
     ///
     /// ```
-    /// assert!(dcsctp::Policy::new().with_strict_padding(true).strict_padding);
+    /// assert!(davgyuti::Policy::new().with_strict_padding(true).strict_padding);
     /// ```
     #[must_use]
     pub const fn with_strict_padding(self, strict_padding: bool) -> Self {
@@ -83,15 +84,15 @@ impl Policy {
 ///
 /// ```
 /// # let bytes = *b"\x13\x88\x13\x88\x4d\x2d\xf5\x2d\x67\xdb\x78\xb5\x0b\0\0\x04";
-/// # let packet = dcsctp::Packet::parse(&bytes)?;
-/// let header = dcsctp::Header {
+/// # let packet = davgyuti::Packet::parse(&bytes)?;
+/// let header = davgyuti::Header {
 ///     source_port: 5000,
 ///     destination_port: 5000,
 ///     verification_tag: 0x4d2d_f52d,
 ///     checksum: 0x67db_78b5,
 /// };
 /// assert_eq!(packet.header(), header);
-/// # Ok::<(), dcsctp::Fault>(())
+/// # Ok::<(), davgyuti::Fault>(())
 /// ```
 #[repr(C)]
 #[derive(Clone, Copy, Default, PartialEq, Eq, Hash, Debug)]
@@ -111,7 +112,7 @@ pub struct Header {
 /// The numbers of INIT (RFC 9260 section 3.3.2) or INIT ACK (section 3.3.3).
 ///
 /// ```
-/// use dcsctp::Init;
+/// use davgyuti::Init;
 ///
 /// // What a side sends in its INIT or INIT ACK; the tag and the TSN should be random.
 /// let own = Init {
@@ -142,7 +143,7 @@ pub struct Init {
 /// does not carry is 0 where it is read, and ignored where it is written.
 ///
 /// ```
-/// use dcsctp::Data;
+/// use davgyuti::Data;
 ///
 /// // A message that fits into one chunk, of the type WebRTC String (RFC 8831 section 8).
 /// let message = Data {
@@ -188,7 +189,7 @@ pub struct Data<'a> {
 ///
 /// ```
 /// // With a cumulative TSN ack of 41 these are the TSNs 43 and 44.
-/// let block = dcsctp::GapAckBlock { start: 2, end: 3 };
+/// let block = davgyuti::GapAckBlock { start: 2, end: 3 };
 /// # assert_eq!((41 + block.start, 41 + block.end), (43, 44));
 /// ```
 #[repr(C)]
@@ -204,7 +205,7 @@ impl GapAckBlock {
     /// Returns the block from one offset to another, both included.
     ///
     /// ```
-    /// use dcsctp::GapAckBlock;
+    /// use davgyuti::GapAckBlock;
     ///
     /// assert_eq!(GapAckBlock::new(2, 3), GapAckBlock { start: 2, end: 3 });
     /// ```
@@ -218,7 +219,7 @@ impl GapAckBlock {
 /// the kind does not carry is 0 where it is read, and ignored where it is written.
 ///
 /// ```
-/// use dcsctp::SkippedStream;
+/// use davgyuti::SkippedStream;
 ///
 /// // As FORWARD-TSN has it: all up to SSN 3 of stream 2.
 /// let skipped = SkippedStream { stream: 2, ssn: 3, ..SkippedStream::default() };
@@ -244,7 +245,7 @@ pub struct SkippedStream {
 /// for all of them.
 ///
 /// ```
-/// use dcsctp::ReConfig;
+/// use davgyuti::ReConfig;
 ///
 /// fn request_number<Streams>(it: &ReConfig<Streams>) -> Option<u32> {
 ///     match *it {
@@ -315,7 +316,7 @@ impl<Streams> ReConfig<Streams> {
     /// kind has some.
     ///
     /// ```
-    /// use dcsctp::ReConfig;
+    /// use davgyuti::ReConfig;
     ///
     /// let request = ReConfig::IncomingSsnReset { request_number: 1, streams: vec![2, 3] };
     /// let count = request.map_streams(|streams| streams.len());
@@ -347,7 +348,7 @@ impl<Streams> ReConfig<Streams> {
 /// The TSNs of a Re-configuration Response (RFC 6525 section 4.4).
 ///
 /// ```
-/// use dcsctp::{NextTsns, ReConfig, ReConfigResult};
+/// use davgyuti::{NextTsns, ReConfig, ReConfigResult};
 ///
 /// // What answers the SSN/TSN Reset Request 1.
 /// let response = ReConfig::<&[u16]>::Response {
@@ -368,7 +369,7 @@ pub struct NextTsns {
 /// The result in a Re-configuration Response (RFC 6525 section 4.4).
 ///
 /// ```
-/// use dcsctp::{ReConfigResult, UnknownNumber};
+/// use davgyuti::{ReConfigResult, UnknownNumber};
 ///
 /// assert_eq!(ReConfigResult::try_from(6), Ok(ReConfigResult::InProgress));
 /// assert_eq!(ReConfigResult::try_from(7), Err(UnknownNumber(7)));
@@ -397,7 +398,7 @@ impl ReConfigResult {
     /// Returns the number that the response carries: 0 to 6.
     ///
     /// ```
-    /// assert_eq!(dcsctp::ReConfigResult::Performed.number(), 1);
+    /// assert_eq!(davgyuti::ReConfigResult::Performed.number(), 1);
     /// ```
     #[must_use]
     pub const fn number(self) -> u32 {
@@ -407,7 +408,7 @@ impl ReConfigResult {
     /// Returns the result of a number; none above 6.
     ///
     /// ```
-    /// use dcsctp::ReConfigResult;
+    /// use davgyuti::ReConfigResult;
     ///
     /// assert_eq!(ReConfigResult::of(2), Some(ReConfigResult::Denied));
     /// assert_eq!(ReConfigResult::of(7), None);

@@ -1,10 +1,12 @@
+// SPDX-License-Identifier: Apache-2.0
 //! The last chunk of a packet that is written, and what is taken back.
 
 mod common;
 
 use common::bytes;
-use dcsctp::{
-    CauseCode, ChunkBuilder, ChunkType, Data, Init, PacketBuilder, ParameterType, WriteError,
+use davgyuti::{
+    CauseCode, ChunkBuilder, ChunkType, Data, Fault, FaultKind, Init, MAX_PACKET, Packet,
+    PacketBuilder, ParameterType, WriteError,
 };
 
 /// The packet without its checksum.
@@ -61,6 +63,44 @@ fn each_chunk_is_the_last_one() {
         let mut packet = PacketBuilder::resume(&mut buffer, size).unwrap();
         assert_eq!(packet.last_chunk().unwrap().offset(), start);
     }
+}
+
+/// The largest chunk that a packet has room for, which is then alone, and one larger by a byte.
+#[test]
+fn the_largest_chunk() {
+    let mut buffer = vec![0; 70_000];
+    for (size, is_added) in [(65_520, true), (65_521, false)] {
+        let mut packet = PacketBuilder::begin(&mut buffer, 1, 2, 3).unwrap();
+        let added = packet.cookie_echo(&vec![1; size - 4]).map(|_| ());
+        assert_eq!(added, if is_added { Ok(()) } else { Err(WriteError::NoRoom) });
+        assert_eq!(packet.size(), if is_added { MAX_PACKET } else { 12 });
+    }
+    let fault = Packet::parse(PacketBuilder::begin(&mut buffer, 1, 2, 3).unwrap().seal());
+    assert_eq!(fault, Err(Fault { kind: FaultKind::Size, offset: 12 }));
+}
+
+/// What has no place in a chunk's list, or not this value, is written nevertheless: the packet is
+/// refused, or something else is read.
+#[test]
+fn what_is_not_checked() {
+    let mut buffer = [0; 100];
+    let mut packet = PacketBuilder::begin(&mut buffer, 1, 2, 3).unwrap();
+    packet.init(&Init::default()).unwrap().cause(CauseCode::USER_INITIATED_ABORT, b"ab").unwrap();
+    let init = Packet::parse(packet.seal()).unwrap().chunks().next().unwrap();
+    assert!(init.causes().next().is_none());
+    assert_eq!(init.parameters().next().unwrap().parameter_type(), ParameterType(12));
+
+    let mut packet = PacketBuilder::begin(&mut buffer, 1, 2, 3).unwrap();
+    packet.data(&Data { payload: b"abcd", ..Data::default() }).unwrap();
+    add_to_last(&mut packet).unwrap();
+    let data = Packet::parse(packet.seal()).unwrap().chunks().next().unwrap();
+    assert_eq!(data.data().unwrap().payload, b"abcd\x44\x44\0\x06ab");
+
+    let mut packet = PacketBuilder::begin(&mut buffer, 1, 2, 3).unwrap();
+    let mut init = packet.init(&Init::default()).unwrap();
+    init.parameter(ParameterType::FORWARD_TSN_SUPPORTED, b"a").unwrap();
+    let fault = Packet::parse(packet.seal());
+    assert_eq!(fault, Err(Fault { kind: FaultKind::Length, offset: 32 }));
 }
 
 /// Where there is no chunk, or none that ends the packet.

@@ -1,7 +1,8 @@
+// SPDX-License-Identifier: Apache-2.0
 //! That the declarations in `src/` are those of `dcsctp.h`. Nothing else checks them: a function
 //! that is declared wrongly links all the same.
 
-const HEADER: &str = include_str!("dcsctp.h");
+const HEADER: &str = include_str!("../../../dist/dcsctp.h");
 const FFI: &str = include_str!("../src/ffi.rs");
 const VALUES: &str = include_str!("../src/values.rs");
 const TYPES: &str = include_str!("../src/types.rs");
@@ -106,7 +107,12 @@ fn structs_of_header() -> Vec<(String, Vec<String>)> {
             let fields = rest.split('}').next().unwrap().trim().trim_end_matches(';');
             (
                 camel_case(&format!("dcsctp_{name}")),
-                fields.split(';').map(rust_declaration).collect(),
+                // (of the policy's reserve the library reads nothing)
+                fields
+                    .split(';')
+                    .filter(|it| !it.contains("reserved["))
+                    .map(rust_declaration)
+                    .collect(),
             )
         })
         .collect()
@@ -189,7 +195,7 @@ fn names_are_those_of_the_header() {
 
 #[test]
 fn results_are_those_of_the_header() {
-    use dcsctp::ReConfigResult;
+    use davgyuti::ReConfigResult;
     for (result, name) in [
         (ReConfigResult::NothingToDo, "NOTHING_TO_DO"),
         (ReConfigResult::Performed, "PERFORMED"),
@@ -208,7 +214,7 @@ fn results_are_those_of_the_header() {
 
 #[test]
 fn texts_are_those_of_the_header() {
-    use dcsctp::{FaultKind, OutputError, WriteError};
+    use davgyuti::{FaultKind, OutputError, WriteError};
     let text = |name: &str| {
         let case = format!("case DCSCTP_{name}: return \"");
         HEADER.split(&case).nth(1).unwrap().split('"').next().unwrap()
@@ -243,7 +249,7 @@ fn texts_are_those_of_the_header() {
 
 #[test]
 fn version_is_that_of_the_header() {
-    assert!(HEADER.contains(&format!("#define DCSCTP_VERSION \"{}\"\n", dcsctp::VERSION)));
-    let numbers = dcsctp::VERSION.split('.').map(|it| it.parse::<u32>().unwrap());
-    assert_eq!(dcsctp::version_number(), numbers.fold(0, |sum, it| sum * 256 + it));
+    assert!(HEADER.contains(&format!("#define DCSCTP_VERSION \"{}\"\n", davgyuti::VERSION)));
+    let numbers = davgyuti::VERSION.split('.').map(|it| it.parse::<u32>().unwrap());
+    assert_eq!(davgyuti::version_number(), numbers.fold(0, |sum, it| sum * 256 + it));
 }

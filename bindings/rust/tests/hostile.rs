@@ -1,10 +1,11 @@
+// SPDX-License-Identifier: Apache-2.0
 //! Packets made at random, and with changes made at random, at every offset: each call returns, and
 //! what is a packet can be written anew.
 
 mod common;
 
 use common::{chunks, examples, sealed};
-use dcsctp::{
+use davgyuti::{
     Cause, Chunk, ChunkType, Chunks, Content, Header, Packet, PacketBuilder, Parameter,
     ParameterType, Policy, ReConfig, TAG_REFLECTED, WriteError,
 };
@@ -67,8 +68,9 @@ fn read_chunk(chunk: &Chunk) -> usize {
         it.value().len() + usize::from(it.number().is_some()) + re_config
     };
     let cause = |it: Cause| {
-        let missing = it.missing_parameters().count();
-        it.value().len() + usize::from(it.number().is_some()) + missing
+        let missing = it.missing_parameters();
+        assert_eq!(missing.len(), missing.clone().count());
+        it.value().len() + usize::from(it.number().is_some()) + missing.len()
     };
     let parameters: usize = chunk.parameters().map(parameter).sum();
     let causes: usize = chunk.causes().map(cause).sum();
@@ -209,9 +211,9 @@ fn rewritten(packet: &Packet) -> Vec<u8> {
 
 /// Reads a packet, if it is one, and writes it anew; returns whether it is one.
 fn check(bytes: &[u8], policy: Policy) -> bool {
-    let word = dcsctp::word(bytes);
-    let fault = dcsctp::first_fault(bytes, word, policy);
-    assert_eq!(dcsctp::check(bytes, word, policy).err(), fault.map(|it| it.kind));
+    let word = davgyuti::word(bytes);
+    let fault = davgyuti::first_fault(bytes, word, policy);
+    assert_eq!(davgyuti::check(bytes, word, policy).err(), fault.map(|it| it.kind));
     let packet = match Packet::parse_with(bytes, word, policy) {
         Ok(packet) => packet,
         Err(found) => {

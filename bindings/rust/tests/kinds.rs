@@ -1,10 +1,11 @@
+// SPDX-License-Identifier: Apache-2.0
 //! Each kind of chunk, parameter and error cause, written and read. The bytes are made by hand,
 //! from the figures of the RFCs.
 
 mod common;
 
 use common::{packet, written};
-use dcsctp::{
+use davgyuti::{
     Cause, CauseCode, Chunk, ChunkType, Content, Data, GapAckBlock, Init, NextTsns, Packet,
     PacketBuilder, Parameter, ParameterType, ReConfig, ReConfigResult, SkippedStream,
     TAG_REFLECTED, WriteError,

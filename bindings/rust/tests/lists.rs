@@ -1,8 +1,9 @@
+// SPDX-License-Identifier: Apache-2.0
 //! Lists of 20, and texts of thousands of bytes: what is written is what is read, in its order.
 
 mod common;
 
-use dcsctp::{
+use davgyuti::{
     CauseCode, Chunk, ChunkType, Data, GapAckBlock, Init, Packet, PacketBuilder, ParameterType,
     ReConfig, SkippedStream, WriteError,
 };
@@ -134,7 +135,7 @@ fn lists_of_parameters_and_causes() {
         items.iter().try_for_each(add)
     });
     let mut causes = only(&bytes).causes();
-    forward(&types, causes.next().unwrap().missing_parameters());
+    both_ways(&types, causes.next().unwrap().missing_parameters());
     forward(&items, causes.map(|it| (it.code().0, it.value().to_vec())));
 }
 

@@ -1,3 +1,4 @@
+// SPDX-License-Identifier: Apache-2.0
 //! Each request of the library for memory is refused in turn: nothing is written then, and the
 //! error says why. This needs glibc, which lets a program have its own `malloc`.
 #![cfg(all(feature = "alloc", target_os = "linux", target_env = "gnu"))]
@@ -6,7 +7,7 @@ mod common;
 
 use core::cell::Cell;
 use core::ffi::c_void;
-use dcsctp::{OutputError, Packet};
+use davgyuti::{OutputError, Packet};
 
 unsafe extern "C" {
     fn __libc_malloc(size: usize) -> *mut c_void;
@@ -79,6 +80,14 @@ fn refusals() {
         assert_eq!((&output[..size], requests > 0), (&canonical[..], true));
         let written = refused(|| packet.write_report(&mut output).map(str::len));
         assert_eq!(written, (report.len(), 0));
+
+        // A chunk that is kept makes one request, that of its Box.
+        for chunk in &packet {
+            GRANTED.set(Some(9));
+            let owned = chunk.into_owned();
+            let is_same = owned.as_chunk() == chunk;
+            assert_eq!((GRANTED.replace(None), is_same), (Some(8), true));
+        }
 
         // One request more is that of the Vec or the String.
         assert!(refused(|| packet.to_text()).0 == text);

@@ -1,10 +1,11 @@
+// SPDX-License-Identifier: Apache-2.0
 //! Chunks that are kept: the same as those that they are copies of, but for their place.
 #![cfg(feature = "alloc")]
 
 mod common;
 
 use common::{chunks, packet};
-use dcsctp::{Chunk, Content, OwnedChunk, Packet, PacketBuilder};
+use davgyuti::{Chunk, Content, OwnedChunk, Packet, PacketBuilder};
 
 /// Each kind of chunk, with its padding and without.
 #[test]
@@ -21,6 +22,11 @@ fn each_kind_is_kept() {
             assert!(kept.parameters().eq(chunk.parameters()));
             assert!(kept.causes().eq(chunk.causes()));
             assert_eq!(format!("{owned:?}"), format!("{chunk:?}"));
+            // What is written again has its flags too, and is the last chunk.
+            let mut buffer = [0xaa; 1200];
+            let mut builder = PacketBuilder::begin(&mut buffer, 1, 2, 3).unwrap();
+            assert_eq!(builder.cookie_ack().unwrap().copy(&kept).unwrap().offset(), 16);
+            assert_eq!(Chunk::at(builder.as_bytes(), 16).unwrap(), chunk);
             // It outlives the packet.
             let expected = chunk.as_bytes().to_vec();
             packet.fill(0xff);
@@ -43,7 +49,7 @@ fn each_size_is_kept() {
         assert_eq!(owned[1].as_chunk().content(), Content::CookieEcho(&vec![0xee; size]));
         let mut builder = PacketBuilder::begin(&mut buffer, 1, 2, 3).unwrap();
         for it in owned.iter().map(OwnedChunk::as_chunk) {
-            builder.chunk(it.chunk_type(), it.flags(), it.value()).unwrap();
+            builder.copy(&it).unwrap();
         }
         assert_eq!(builder.seal(), bytes);
     }

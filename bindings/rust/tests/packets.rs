@@ -1,9 +1,10 @@
+// SPDX-License-Identifier: Apache-2.0
 //! Whole packets: checks, faults, texts, and what can't be written.
 
 mod common;
 
 use common::{bytes, crc32c, examples, packet, sealed, written};
-use dcsctp::{
+use davgyuti::{
     CauseCode, Chunk, ChunkType, Chunks, Content, Data, Fault, FaultKind, GapAckBlock, Header,
     Init, MAX_PACKET, Packet, PacketBuilder, ParameterType, Policy, WriteError,
 };
@@ -13,18 +14,18 @@ const ANY_CHECKSUM: Policy = Policy::new().with_any_checksum(true);
 #[test]
 fn word_is_the_crc32c() {
     for packet in examples() {
-        assert_eq!(dcsctp::word(&packet), crc32c(&packet).swap_bytes());
+        assert_eq!(davgyuti::word(&packet), crc32c(&packet).swap_bytes());
     }
     // No byte is read of an empty slice.
-    let _ = dcsctp::word(&[]);
+    let _ = davgyuti::word(&[]);
 }
 
 /// Asserts the first fault, by each way to it.
 #[track_caller]
 fn faults(bytes: &[u8], policy: Policy, kind: FaultKind, offset: usize) {
-    let (word, fault) = (dcsctp::word(bytes), Fault { kind, offset });
-    assert_eq!(dcsctp::check(bytes, word, policy), Err(kind));
-    assert_eq!(dcsctp::first_fault(bytes, word, policy), Some(fault));
+    let (word, fault) = (davgyuti::word(bytes), Fault { kind, offset });
+    assert_eq!(davgyuti::check(bytes, word, policy), Err(kind));
+    assert_eq!(davgyuti::first_fault(bytes, word, policy), Some(fault));
     assert_eq!(Packet::parse_with(bytes, word, policy), Err(fault));
     assert_eq!(fault.to_string(), format!("{kind} at byte {offset}"));
 }
@@ -53,15 +54,31 @@ fn policies() {
     let mut packet = packet("0a000005 61000100");
     assert!(Packet::parse(&packet).is_ok());
     packet[8..12].fill(0);
-    let word = dcsctp::word(&packet);
+    let word = davgyuti::word(&packet);
     let zero = Policy::new().with_zero_checksum(true);
-    assert_eq!(dcsctp::check(&packet, word, zero), Ok(()));
-    assert_eq!(dcsctp::check(&packet, word, ANY_CHECKSUM), Ok(()));
-    assert_eq!(dcsctp::first_fault(&packet, word, zero), None);
+    assert_eq!(davgyuti::check(&packet, word, zero), Ok(()));
+    assert_eq!(davgyuti::check(&packet, word, ANY_CHECKSUM), Ok(()));
+    assert_eq!(davgyuti::first_fault(&packet, word, zero), None);
     packet[8..12].fill(1);
-    assert_eq!(dcsctp::check(&packet, word, zero), Err(FaultKind::Checksum));
-    assert_eq!(dcsctp::check(&packet, 0x0101_0101, Policy::default()), Ok(()));
-    assert_eq!(dcsctp::check(&packet, word, ANY_CHECKSUM), Ok(()));
+    assert_eq!(davgyuti::check(&packet, word, zero), Err(FaultKind::Checksum));
+    assert_eq!(davgyuti::check(&packet, 0x0101_0101, Policy::default()), Ok(()));
+    assert_eq!(davgyuti::check(&packet, word, ANY_CHECKSUM), Ok(()));
+}
+
+/// A text is a summary, and a report has parameters and error causes too.
+#[test]
+fn reports_have_all() {
+    for (chunks, shown) in [
+        ("01000018 00000009 00020000 00040005 00000029 c0000004", "Forward-TSN-Supported"),
+        ("09000008 00040004", "Out of Resource"),
+    ] {
+        let bytes = packet(chunks);
+        let (packet, mut text, mut report) = (Packet::parse(&bytes).unwrap(), [0; 900], [0; 900]);
+        let (text, report) = (packet.write_text(&mut text), packet.write_report(&mut report));
+        let seen =
+            [text, report].map(|it| it.unwrap().to_lowercase().contains(&shown.to_lowercase()));
+        assert_eq!(seen, [false, true], "{shown}");
+    }
 }
 
 /// A word of 0 that is passed is what the field has to be.
@@ -70,16 +87,16 @@ fn word_of_zero() {
     let (right, socket) = (packet("0b000004"), Policy::default());
     let mut zero = right.clone();
     zero[8..12].fill(0);
-    assert_eq!(dcsctp::check(&zero, 0, socket), Ok(()));
-    assert_eq!(dcsctp::first_fault(&zero, 0, socket), None);
+    assert_eq!(davgyuti::check(&zero, 0, socket), Ok(()));
+    assert_eq!(davgyuti::first_fault(&zero, 0, socket), None);
     let mut output = [0; 100];
     let accepted = Packet::parse_with(&zero, 0, socket).unwrap();
     assert!(accepted.write_text(&mut output).is_ok());
     assert!(accepted.write_report(&mut output).is_ok());
     assert_eq!(accepted.write_canonical(&mut output).unwrap(), zero);
     let fault = Fault { kind: FaultKind::Checksum, offset: 8 };
-    assert_eq!(dcsctp::check(&right, 0, socket), Err(fault.kind));
-    assert_eq!(dcsctp::first_fault(&right, 0, socket), Some(fault));
+    assert_eq!(davgyuti::check(&right, 0, socket), Err(fault.kind));
+    assert_eq!(davgyuti::first_fault(&right, 0, socket), Some(fault));
     assert_eq!(Packet::parse_with(&right, 0, socket), Err(fault));
 }
 
@@ -97,7 +114,7 @@ fn header() {
     assert_eq!(Header::read(&bytes[..11]), None);
     let packet = packet("0b000004");
     let read = Packet::parse(&packet).unwrap();
-    assert_eq!(read.header().checksum, dcsctp::word(&packet));
+    assert_eq!(read.header().checksum, davgyuti::word(&packet));
     assert_eq!(read.as_bytes(), packet);
     assert_eq!(read.as_ref(), packet);
 }
@@ -143,7 +160,7 @@ fn contents_of_any_bytes() {
 #[cfg(feature = "alloc")]
 #[test]
 fn texts() {
-    use dcsctp::OutputError;
+    use davgyuti::OutputError;
     for bytes in examples() {
         let Ok(packet) = Packet::parse(&bytes) else { continue };
         let (text, report) = (packet.to_text().unwrap(), packet.to_report().unwrap());
@@ -183,23 +200,23 @@ fn canonical_too_long() {
     assert_eq!(long.len(), 65_535);
     long = sealed(long);
     let packet = Packet::parse(&long).unwrap();
-    assert_eq!(packet.to_canonical(), Err(dcsctp::OutputError::TooLong));
+    assert_eq!(packet.to_canonical(), Err(davgyuti::OutputError::TooLong));
     assert!(packet.to_text().is_ok());
 }
 
 #[test]
 fn tags_and_seals() {
     let mut bytes = packet("0b000004");
-    assert_eq!(dcsctp::set_tag(&mut bytes, 0x0102_0304), Ok(()));
+    assert_eq!(davgyuti::set_tag(&mut bytes, 0x0102_0304), Ok(()));
     assert_eq!(bytes[4..8], [1, 2, 3, 4]);
     assert!(Packet::parse(&bytes).is_err());
-    assert_eq!(dcsctp::seal(&mut bytes), Ok(()));
+    assert_eq!(davgyuti::seal(&mut bytes), Ok(()));
     assert_eq!(bytes, sealed(bytes.clone()));
     assert_eq!(Packet::parse(&bytes).unwrap().header().verification_tag, 0x0102_0304);
     let mut short = [7; 11];
-    assert_eq!(dcsctp::set_tag(&mut short, 1), Err(WriteError::BadPlace));
-    assert_eq!(dcsctp::seal(&mut short), Err(WriteError::BadPlace));
-    assert_eq!(dcsctp::seal(&mut []), Err(WriteError::BadPlace));
+    assert_eq!(davgyuti::set_tag(&mut short, 1), Err(WriteError::BadPlace));
+    assert_eq!(davgyuti::seal(&mut short), Err(WriteError::BadPlace));
+    assert_eq!(davgyuti::seal(&mut []), Err(WriteError::BadPlace));
     assert_eq!(short, [7; 11]);
 }
 
@@ -253,7 +270,7 @@ fn bad_values() {
     assert_eq!(packet.sack(1, 2, &blocks, &[]).unwrap_err(), WriteError::BadValue);
     let duplicates = vec![0; 16_384];
     assert_eq!(packet.sack(1, 2, &[], &duplicates).unwrap_err(), WriteError::BadValue);
-    let streams = vec![dcsctp::SkippedStream::default(); 16_384];
+    let streams = vec![davgyuti::SkippedStream::default(); 16_384];
     assert_eq!(packet.forward_tsn(1, &streams).unwrap_err(), WriteError::BadValue);
     assert_eq!(packet.i_forward_tsn(1, &streams).unwrap_err(), WriteError::BadValue);
     assert_eq!(packet.cookie_echo(payload).unwrap_err(), WriteError::NoRoom);
@@ -262,7 +279,7 @@ fn bad_values() {
     let types = vec![ParameterType(1); 32_768];
     assert_eq!(error.missing_parameters(&types).unwrap_err(), WriteError::BadValue);
     let streams = vec![1; 32_768];
-    let reset = dcsctp::ReConfig::IncomingSsnReset { request_number: 1, streams: &streams[..] };
+    let reset = davgyuti::ReConfig::IncomingSsnReset { request_number: 1, streams: &streams[..] };
     assert_eq!(error.re_config(&reset).unwrap_err(), WriteError::BadValue);
     assert_eq!(packet.size(), 16);
 }
@@ -325,7 +342,7 @@ fn blocks_are_cleaned() {
     ] {
         let mut blocks: Vec<GapAckBlock> = blocks.into_iter().map(new).collect();
         let expected: Vec<GapAckBlock> = cleaned.into_iter().map(new).collect();
-        assert_eq!(dcsctp::clean_blocks(&mut blocks), expected);
+        assert_eq!(davgyuti::clean_blocks(&mut blocks), expected);
     }
 }
 
@@ -335,7 +352,7 @@ fn types_are_send_and_sync() {
     fn check<T: Send + Sync>() {}
     check::<Packet>();
     check::<Chunk>();
-    check::<dcsctp::Content>();
+    check::<davgyuti::Content>();
     check::<PacketBuilder>();
     check::<Fault>();
 }

@@ -1,7 +1,8 @@
+// SPDX-License-Identifier: Apache-2.0
 //! The processor's CRC32c does what the proved one does, on random packets of every size.
 #![cfg(feature = "processor-crc32c")]
 
-use dcsctp::processor;
+use davgyuti::processor;
 
 /// Numbers that look random: xorshift64*.
 struct Chance(u64);
@@ -21,10 +22,10 @@ impl Chance {
 
 fn compare(packet: &[u8]) {
     if packet.len() >= 12 {
-        assert_eq!(processor::word(packet), dcsctp::word(packet), "{} bytes", packet.len());
+        assert_eq!(processor::word(packet), davgyuti::word(packet), "{} bytes", packet.len());
     }
     let (mut one, mut other) = (packet.to_vec(), packet.to_vec());
-    assert_eq!(processor::seal(&mut one), dcsctp::seal(&mut other));
+    assert_eq!(processor::seal(&mut one), davgyuti::seal(&mut other));
     assert_eq!(one, other);
 }
 
@@ -52,7 +53,7 @@ fn times() {
     let packet = Chance(88_172_645_463_325_252).packet(65_535);
     for length in [28, 64, 100, 1200, 65_535] {
         let bytes = &packet[..length];
-        let calls: [fn(&[u8]) -> u32; 2] = [dcsctp::word, processor::word];
+        let calls: [fn(&[u8]) -> u32; 2] = [davgyuti::word, processor::word];
         let mut best = [Duration::MAX; 2];
         let times = 1 + 200_000 / length;
         for _ in 0..60 {

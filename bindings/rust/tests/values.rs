@@ -1,3 +1,4 @@
+// SPDX-License-Identifier: Apache-2.0
 //! What the types of this crate are as Rust's: compared, hashed, printed for debugging, converted,
 //! kept. The texts and numbers that are expected are of the RFCs' names and figures.
 
@@ -6,7 +7,7 @@ mod common;
 use common::{bytes, chunks, packet};
 use core::fmt::Debug;
 use core::hash::Hash;
-use dcsctp::{
+use davgyuti::{
     CauseCode, Chunk, ChunkType, Fault, FaultKind, OutputError, Packet, PacketBuilder,
     ParameterType, Policy, ReConfig, ReConfigResult, UnknownNumber, WriteError,
 };
@@ -32,7 +33,7 @@ fn packets_are_their_bytes() {
     let zero = Policy::new().with_zero_checksum(true);
     let any = Policy::new().with_any_checksum(true);
     are_same(parsed, Packet::parse(&other).unwrap(), true);
-    are_same(parsed, Packet::parse_with(&other, dcsctp::word(&other), zero).unwrap(), true);
+    are_same(parsed, Packet::parse_with(&other, davgyuti::word(&other), zero).unwrap(), true);
     are_same(parsed, Packet::parse_with(&other, 7, any).unwrap(), true);
     other[8] ^= 1;
     are_same(parsed, Packet::parse_with(&other, 7, any).unwrap(), false);
@@ -381,7 +382,7 @@ fn lists_are_their_items() {
     let mut rest = packet.chunks();
     rest.next();
     assert_ne!(rest, packet.chunks());
-    assert_eq!(rest, dcsctp::Chunks::of(&packet.as_bytes()[4..]));
+    assert_eq!(rest, davgyuti::Chunks::of(&packet.as_bytes()[4..]));
 }
 
 #[test]

@@ -1,7 +1,8 @@
+// SPDX-License-Identifier: Apache-2.0
 //! What the tests have in common. No file needs all of it.
 #![allow(dead_code)]
 
-use dcsctp::{PacketBuilder, WriteError};
+use davgyuti::{PacketBuilder, WriteError};
 
 /// The bytes of hexadecimal digits; blanks are ignored.
 pub fn bytes(digits: &str) -> Vec<u8> {
@@ -42,7 +43,7 @@ pub fn written<T>(
 
 /// The packets of `examples/packets.txt`.
 pub fn examples() -> Vec<Vec<u8>> {
-    let lines = include_str!("../../examples/packets.txt").lines();
+    let lines = include_str!("../../../../examples/packets.txt").lines();
     lines.filter(|it| !it.is_empty() && !it.starts_with('#')).map(bytes).collect()
 }
 
