@@ -1,8 +1,33 @@
-/* The calls of dcsctp.h with structs and sizes as values: what cgo passes the address of, Go has to keep on its heap. */
+// SPDX-License-Identifier: Apache-2.0
+/* The calls of dcsctp.h with structs and sizes as values: what cgo passes the address of, Go has to keep on its heap. (A
+   dcsctp_re_config isn't one: Go 1.19 can't compile that under -d=checkptr.) */
 #ifndef CALLS_H
 #define CALLS_H
 
 #include "dcsctp.h"
+#include <string.h>
+
+/* ---- names */
+
+/* A number that has a name; without one where there is none. */
+struct go_name {
+    uint32_t number;
+    const char *name;
+};
+
+/* The least number from one on that has a name. */
+#define NAMES(of, type)                                                                                                \
+    static inline struct go_name go_##of(uint32_t from)                                                                \
+    {                                                                                                                  \
+        struct go_name result = {from, NULL};                                                                          \
+        for (; !result.name && result.number <= (type)-1; result.number += !result.name)                               \
+            if (strcmp(dcsctp_##of((type)result.number), "unknown") != 0)                                              \
+                result.name = dcsctp_##of((type)result.number);                                                        \
+        return result;                                                                                                 \
+    }
+NAMES(chunk_name, uint8_t)
+NAMES(parameter_name, uint16_t)
+NAMES(cause_name, uint16_t)
 
 /* ---- a whole packet */
 
@@ -137,8 +162,8 @@ ADD(add_forward_tsn, (TO, uint32_t tsn, const struct dcsctp_skipped_stream *stre
 ADD(add_i_forward_tsn, (TO, uint32_t tsn, const struct dcsctp_skipped_stream *streams, size_t count), tsn, streams, count)
 ADD(add_parameter, (TO, size_t start, uint16_t type, const uint8_t *value, size_t count), start, type, value, count)
 ADD(add_number, (TO, size_t start, uint16_t type, uint32_t number), start, type, number)
-ADD(add_re_config, (TO, size_t start, struct dcsctp_re_config re_config, const uint16_t *streams, size_t count), start,
-    &re_config, streams, count)
+ADD(add_re_config, (TO, size_t start, const struct dcsctp_re_config *re_config, const uint16_t *streams, size_t count),
+    start, re_config, streams, count)
 ADD(add_missing_parameters, (TO, size_t start, const uint16_t *types, size_t count), start, types, count)
 
 #endif

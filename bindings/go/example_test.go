@@ -1,20 +1,22 @@
-package dcsctp_test
+// SPDX-License-Identifier: Apache-2.0
+
+package davgyuti_test
 
 import (
 	"encoding/hex"
 	"errors"
 	"fmt"
 
-	"dcsctp"
+	"davgyuti.example/davgyuti"
 )
 
-// answer prints user data, and returns the SACK that answers it.
-func answer(packet dcsctp.Packet, tag uint32) ([]byte, error) {
-	if err := packet.Check(dcsctp.Policy{}); err != nil {
-		return nil, err // dcsctp: wrong checksum at byte 8
+// answer prints user data, and returns the SACK that answers it; nil if there is none.
+func answer(packet davgyuti.Packet, tag uint32) ([]byte, error) {
+	if err := packet.Check(davgyuti.Policy{}); err != nil {
+		return nil, err // davgyuti: wrong checksum at byte 8
 	}
 	header, _ := packet.Header()
-	reply, err := dcsctp.Begin(make([]byte, 1200), header.DestinationPort, header.SourcePort, tag)
+	reply, err := davgyuti.Begin(make([]byte, 1200), header.DestinationPort, header.SourcePort, tag)
 	if err != nil {
 		return nil, err
 	}
@@ -24,10 +26,10 @@ func answer(packet dcsctp.Packet, tag uint32) ([]byte, error) {
 			err = reply.AddSACK(data.TSN, 1<<17, nil, nil)
 		}
 	}
-	if err == nil {
-		err = reply.Seal()
+	if err != nil || len(reply.Bytes()) == davgyuti.FirstChunk {
+		return nil, err // there is no user data to answer
 	}
-	return reply.Bytes(), err
+	return reply.Bytes(), reply.Seal()
 }
 
 // The program of README.md, for a packet that usrsctp sent.
@@ -42,17 +44,47 @@ func Example() {
 
 func ExamplePacket_Check() {
 	packet, _ := hex.DecodeString("13881388010203040000000a0b000004")
-	err := dcsctp.Packet(packet).Check(dcsctp.Policy{})
-	var fault *dcsctp.Error
+	err := davgyuti.Packet(packet).Check(davgyuti.Policy{})
+	var fault *davgyuti.Error
 	if errors.As(err, &fault) {
-		fmt.Println(fault.Offset, errors.Is(err, dcsctp.ErrChecksum), err)
+		fmt.Println(fault.Offset, errors.Is(err, davgyuti.ErrChecksum), err)
 	}
-	// Output: 8 true dcsctp: wrong checksum at byte 8
+	// Output: 8 true davgyuti: wrong checksum at byte 8
+}
+
+// What an INIT ACK sends back of the INIT: the parameters that aren't known, and whose type asks for it, up to one whose type
+// asks to ignore the rest (section 3.2.1).
+func ExampleParameter_Bytes() {
+	packet, _ := hex.DecodeString("138813880000000000000000" + "0100002400000001000100000001000100000001" +
+		"c004000801020304" + "40010004" + "c0060004")
+	chunk, _ := davgyuti.Packet(packet).ChunkAt(davgyuti.FirstChunk)
+	reply, err := davgyuti.Begin(make([]byte, 1200), 5000, 5000, 1)
+	if err == nil {
+		err = reply.AddInitAck(davgyuti.Init{InitiateTag: 2, ARwnd: 1 << 17, OutboundStreams: 1, InboundStreams: 1, InitialTSN: 3})
+	}
+	for parameters := chunk.Parameters(); err == nil && parameters.Next(); {
+		parameter := parameters.Value()
+		if parameter.Type.IsKnown() {
+			continue
+		}
+		if parameter.Type&0x4000 != 0 {
+			fmt.Println(parameter.Type, "at byte", parameter.Offset)
+			err = reply.AddParameter(davgyuti.ParameterUnrecognizedParameter, parameter.Bytes())
+		}
+		if parameter.Type&0x8000 == 0 {
+			break
+		}
+	}
+	fmt.Printf("%x %v\n", reply.Bytes()[32:], err)
+	// Output:
+	// parameter type 0xc004 at byte 32
+	// parameter type 0x4001 at byte 40
+	// 0008000cc0040008010203040008000840010004 <nil>
 }
 
 func ExamplePacket_Print() {
 	packet, _ := hex.DecodeString("138813884d2df52d67db78b50b000004")
-	fmt.Println(dcsctp.Packet(packet).Print(dcsctp.Policy{}))
+	fmt.Println(davgyuti.Packet(packet).Print(davgyuti.Policy{}))
 	// Output:
 	// source=5000 destination=5000 tag=1294857517 checksum=1742436533
 	// COOKIE-ACK <nil>

@@ -1,7 +1,11 @@
-package dcsctp
+// SPDX-License-Identifier: Apache-2.0
+
+package davgyuti
 
 // #include "calls.h"
 import "C"
+
+import "fmt"
 
 // FirstChunk is the offset of a packet's first chunk: the size of the common header.
 const FirstChunk = C.DCSCTP_FIRST_CHUNK
@@ -30,8 +34,8 @@ func (policy Policy) c() C.struct_dcsctp_policy {
 type Packet []byte
 
 // Check returns nil if the bytes are a packet, and else an *Error: the first fault, and where it is. The size is checked
-// first, then the checksum, then the chunks from the left. It says nothing of the association: docs/C.md has what is still
-// to be compared.
+// first, then the checksum, then the chunks from the left. It says nothing of the association: the package's comment has what
+// is still to be checked.
 func (p Packet) Check(policy Policy) error {
 	result := C.go_first_fault(bytesOf(p), C.size_t(len(p)), policy.c())
 	if result.code == C.DCSCTP_OK {
@@ -65,6 +69,17 @@ func (p Packet) Report(policy Policy) (string, error) {
 		return C.go_report(bytesOf(p), C.size_t(len(p)), word, policy.c(), bytesOf(output), C.size_t(len(output)))
 	})
 	return string(text), err
+}
+
+// String returns what Report returns under the zero Policy, and of bytes that are no packet the error's text. (So %x, which is
+// of a string too, has the text in hexadecimal: to have the bytes, format []byte(p).) The text can be more than a megabyte,
+// 17 times the packet.
+func (p Packet) String() string {
+	report, err := p.Report(Policy{})
+	if err != nil {
+		return err.Error()
+	}
+	return report
 }
 
 // Canonical returns the canonical packet, in memory of its own: two packets have the same one if and only if they mean the
@@ -106,7 +121,8 @@ func (p Packet) Header() (Header, bool) {
 	}, bool(read.is_there)
 }
 
-// Seal writes the CRC32c into the checksum field; ErrBadPlace for fewer than 12 bytes.
+// Seal writes the CRC32c into the checksum field; ErrBadPlace for fewer than 12 bytes. Whether there is a chunk isn't looked
+// at: without one the packet is sealed, and Check refuses it.
 func (p Packet) Seal() error { return errorOf(C.dcsctp_seal(bytesOf(p), C.size_t(len(p)))) }
 
 // SetTag writes the verification tag; seal the packet after it. ErrBadPlace for fewer than 12 bytes.
@@ -120,7 +136,7 @@ func (p Packet) SetTag(verificationTag uint32) error {
 //		use(chunks.Value())
 //	}
 //
-// or, from Go 1.23 on, `for chunk := range packet.Chunks().All`.
+// or, from Go 1.23 on, `for chunk := range packet.Chunks().All`. The zero value has nothing to read.
 type Iterator[T any] struct {
 	read  func() (T, bool)
 	value T
@@ -128,6 +144,9 @@ type Iterator[T any] struct {
 
 // Next reads the next one, and returns whether there is one.
 func (it *Iterator[T]) Next() bool {
+	if it.read == nil {
+		return false
+	}
 	value, isThere := it.read()
 	if isThere {
 		it.value = value
@@ -144,7 +163,7 @@ func (it *Iterator[T]) All(yield func(T) bool) {
 	}
 }
 
-// Slice returns those that are left.
+// Slice returns those that are left. Of a list that may be long prefer Next, which keeps one: a packet can list 16,000.
 func (it *Iterator[T]) Slice() []T {
 	var all []T
 	for it.Next() {
@@ -172,6 +191,9 @@ func (p Packet) part(offset, size C.size_t) []byte {
 	}
 	return p[offset : offset+size : offset+size]
 }
+
+// withHeader returns a value, and the four bytes of its header before it; nil where they aren't there.
+func (p Packet) withHeader(offset, size C.size_t) []byte { return p.part(offset-4, size+4) }
 
 // A Chunk is a chunk of a packet (section 3.2), where it lies.
 type Chunk struct {
@@ -213,8 +235,19 @@ func (p Packet) ChunkAt(offset int) (Chunk, bool) {
 	}, true
 }
 
+// Bytes returns the whole chunk, its header and its value, without padding, where it lies in the packet: what the cause
+// Unrecognized Chunk Type holds (section 3.3.10.6).
+func (chunk Chunk) Bytes() []byte {
+	return chunk.packet.withHeader(chunk.c.value_offset, chunk.c.value_size)
+}
+
 func (chunk Chunk) bytes() (*C.uint8_t, C.size_t) {
 	return bytesOf(chunk.packet), C.size_t(len(chunk.packet))
+}
+
+// String returns its type, its flags and the size of its value, as in "DATA flags=0x03 size=20".
+func (chunk Chunk) String() string {
+	return fmt.Sprintf("%v flags=%#02x size=%d", chunk.Type, chunk.Flags, len(chunk.Value))
 }
 
 // IsTagReflected returns whether it is an ABORT or a SHUTDOWN COMPLETE with the flag TagReflected.
@@ -354,6 +387,8 @@ func (it item) bytes() (*C.uint8_t, C.size_t) { return bytesOf(it.packet), C.siz
 
 func (it item) value() []byte { return it.packet.part(it.c.value_offset, it.c.value_size) }
 
+func (it item) whole() []byte { return it.packet.withHeader(it.c.value_offset, it.c.value_size) }
+
 func (it item) number() (uint32, bool) {
 	bytes, length := it.bytes()
 	read := C.go_number(bytes, length, it.c)
@@ -376,6 +411,15 @@ func (chunk Chunk) Parameters() *Iterator[Parameter] {
 	return items(chunk, !chunk.hasCauses(), func(it item, offset int) Parameter {
 		return Parameter{Type: ParameterType(it.c._type), Value: it.value(), Offset: offset, item: it}
 	})
+}
+
+// Bytes returns the whole parameter, its header and its value, without padding, where it lies in the packet: what the parameter
+// Unrecognized Parameter of an INIT ACK holds (section 3.3.3.1.2).
+func (parameter Parameter) Bytes() []byte { return parameter.item.whole() }
+
+// String returns its type and the size of its value, as in "State Cookie size=4".
+func (parameter Parameter) String() string {
+	return fmt.Sprintf("%v size=%d", parameter.Type, len(parameter.Value))
 }
 
 // Number reads a value that is one number of four bytes, whatever its type: the method of Zero Checksum Acceptable
@@ -426,6 +470,12 @@ func (chunk Chunk) Causes() *Iterator[Cause] {
 		return Cause{Code: CauseCode(it.c._type), Value: it.value(), Offset: offset, item: it}
 	})
 }
+
+// Bytes returns the whole error cause, its header and its value, without padding, where it lies in the packet.
+func (cause Cause) Bytes() []byte { return cause.item.whole() }
+
+// String returns its code and the size of its value, as in "Protocol Violation size=3".
+func (cause Cause) String() string { return fmt.Sprintf("%v size=%d", cause.Code, len(cause.Value)) }
 
 // Number reads a value that is one number of four bytes, whatever its code: the TSN of No User Data (section 3.3.10.9).
 // False where the value has another size.

@@ -1,6 +1,6 @@
-//go:build cgo && !(amd64 && (linux || darwin || windows)) && !(arm64 && (linux || darwin))
+// SPDX-License-Identifier: Apache-2.0
 
-package dcsctp
+//go:build !(amd64 && (linux || freebsd || darwin || windows)) && !(arm64 && (linux || freebsd || darwin))
 
-// #error "dcsctp: there is no text for this system: Linux and macOS on x86-64 and arm64, Windows on x86-64"
-import "C"
+// Where a folder has two packages, the go command names both and stops: before it looks for a C compiler.
+package davgyuti_has_no_text_for_this_system__only_for_Linux_Android_FreeBSD_macOS_iOS_on_amd64_and_arm64__Windows_on_amd64

@@ -1,12 +1,15 @@
-package dcsctp
+// SPDX-License-Identifier: Apache-2.0
+
+package davgyuti
 
 // #include "calls.h"
 import "C"
 
 import "unsafe"
 
-// A Builder writes a packet into a buffer of the caller: each Add function adds a chunk, and AddParameter, AddCause and
-// those after them add to the last chunk's list. Each returns nil; or it changes nothing, and returns why:
+// A Builder writes a packet into a buffer of the caller: AddParameter, AddCause, AddNumber, AddCauseNumber, AddReConfig and
+// AddMissingParameters add to the last chunk's list, and each other Add function adds a chunk. Each returns nil; or it changes
+// nothing, and returns why:
 //
 //	ErrBadPlace  there is no chunk to add to
 //	ErrBadValue  the chunk would have more than 65,535 bytes; some functions say what else can't be written
@@ -15,7 +18,7 @@ import "unsafe"
 // so one can seal, send, and begin the next packet with the chunk that had no room. The values are written as they are:
 // whether RFC 9260 lets them be sent, or Packet.Check would accept the packet, isn't checked.
 //
-//	packet, err := dcsctp.Begin(make([]byte, 1200), sourcePort, destinationPort, tag)
+//	packet, err := davgyuti.Begin(make([]byte, 1200), sourcePort, destinationPort, tag)
 //	if err == nil {
 //		err = packet.AddSACK(tsn, window, nil, nil)
 //	}
@@ -47,7 +50,8 @@ func Begin(buffer []byte, sourcePort, destinationPort uint16, verificationTag ui
 // Bytes returns the packet, as far as it is written: a part of the buffer.
 func (b *Builder) Bytes() []byte { return b.buffer[:b.size] }
 
-// Seal writes the CRC32c. Call it last.
+// Seal writes the CRC32c. Call it last. Whether there is a chunk isn't looked at: without one the packet is sealed, and
+// Packet.Check refuses it.
 func (b *Builder) Seal() error { return Packet(b.Bytes()).Seal() }
 
 // RemoveLastChunk takes the last chunk back, with its list; nothing if that was done, or there is none. After it there is
@@ -187,11 +191,13 @@ func (b *Builder) AddCauseNumber(code CauseCode, number uint32) error {
 	return b.AddNumber(ParameterType(code), number)
 }
 
-// AddReConfig adds a request or the response of RE-CONFIG; the streams are written for an Outgoing or Incoming SSN Reset
-// alone. ErrBadValue for another type, or a result above 6.
+// AddReConfig adds a request or the response of RE-CONFIG to the last chunk: call AddChunk(ChunkReConfig, 0, nil) first. The
+// streams are written for an Outgoing or Incoming SSN Reset alone. ErrBadValue for another type, or a response with a result
+// above 6.
 func (b *Builder) AddReConfig(reConfig ReConfig, streams []uint16) error {
 	to, room := b.to()
-	return b.extended(C.go_add_re_config(to, room, b.size, b.start, reConfig.c(), (*C.uint16_t)(first(streams)),
+	value := reConfig.c()
+	return b.extended(C.go_add_re_config(to, room, b.size, b.start, &value, (*C.uint16_t)(first(streams)),
 		C.size_t(len(streams))))
 }
 

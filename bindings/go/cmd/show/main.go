@@ -1,3 +1,5 @@
+// SPDX-License-Identifier: Apache-2.0
+
 // Command show reads a file of packets, one a line, in hexadecimal without blanks, and prints the chunks of each, its text,
 // and the packet that answers it.
 //
@@ -11,11 +13,11 @@ import (
 	"io"
 	"os"
 
-	"dcsctp"
+	"davgyuti.example/davgyuti"
 )
 
 // own is this side of the one association.
-var own = dcsctp.Init{
+var own = davgyuti.Init{
 	InitiateTag: 0x0da73798, ARwnd: 0x20000, OutboundStreams: 4, InboundStreams: 4, InitialTSN: 0x66e387ab,
 }
 
@@ -32,7 +34,7 @@ func number(is bool) int {
 	return 0
 }
 
-func (s *shower) printChunk(chunk dcsctp.Chunk) {
+func (s *shower) printChunk(chunk davgyuti.Chunk) {
 	fmt.Fprintf(s.output, "  chunk %d, flags %d, %d bytes\n", chunk.Type, chunk.Flags, len(chunk.Value))
 	if data, ok := chunk.Data(); ok {
 		fmt.Fprintf(s.output, "    tsn %d, stream %d, ssn %d, mid %d, fsn %d, ppid %d, U %d, B %d, E %d, I %d\n", data.TSN,
@@ -60,27 +62,27 @@ func (s *shower) printChunk(chunk dcsctp.Chunk) {
 }
 
 // answer returns the answer to a packet: INIT ACK to an INIT, a SACK to DATA; nil if there is none.
-func (s *shower) answer(packet dcsctp.Packet) []byte {
+func (s *shower) answer(packet davgyuti.Packet) []byte {
 	header, isPacket := packet.Header()
-	chunk, hasChunk := packet.ChunkAt(dcsctp.FirstChunk)
+	chunk, hasChunk := packet.ChunkAt(davgyuti.FirstChunk)
 	if !isPacket || !hasChunk {
 		return nil
 	}
 	init, isInit := chunk.Init()
-	isInit = isInit && chunk.Type == dcsctp.ChunkInit && chunk.NextOffset == len(packet) && header.VerificationTag == 0 &&
+	isInit = isInit && chunk.Type == davgyuti.ChunkInit && chunk.NextOffset == len(packet) && header.VerificationTag == 0 &&
 		init.InitiateTag != 0
 	data, isData := chunk.Data()
 	if isInit {
 		s.peerTag = init.InitiateTag
 	}
-	reply, err := dcsctp.Begin(make([]byte, 1200), header.DestinationPort, header.SourcePort, s.peerTag)
+	reply, err := davgyuti.Begin(make([]byte, 1200), header.DestinationPort, header.SourcePort, s.peerTag)
 	if err != nil {
 		return nil
 	}
 	switch {
 	case isInit:
 		if err = reply.AddInitAck(own); err == nil {
-			err = reply.AddParameter(dcsctp.ParameterStateCookie, []byte("abcd"))
+			err = reply.AddParameter(davgyuti.ParameterStateCookie, []byte("abcd"))
 		}
 	case isData && header.VerificationTag == own.InitiateTag:
 		err = reply.AddSACK(data.TSN, own.ARwnd, nil, nil)
@@ -93,17 +95,17 @@ func (s *shower) answer(packet dcsctp.Packet) []byte {
 	return reply.Bytes()
 }
 
-func (s *shower) show(packet dcsctp.Packet) {
+func (s *shower) show(packet davgyuti.Packet) {
 	fmt.Fprintf(s.output, "packet of %d bytes\n", len(packet))
-	if fault, isFault := packet.Check(dcsctp.Policy{}).(*dcsctp.Error); isFault {
+	if fault, isFault := packet.Check(davgyuti.Policy{}).(*davgyuti.Error); isFault {
 		fmt.Fprintf(s.output, "  fault %d at byte %d\n", fault.Code, fault.Offset)
 		return
 	}
-	packet.Chunks().All(func(chunk dcsctp.Chunk) bool {
+	packet.Chunks().All(func(chunk davgyuti.Chunk) bool {
 		s.printChunk(chunk)
 		return true
 	})
-	if text, err := packet.Print(dcsctp.Policy{}); err == nil {
+	if text, err := packet.Print(davgyuti.Policy{}); err == nil {
 		fmt.Fprintln(s.output, text)
 	}
 	if reply := s.answer(packet); reply != nil {

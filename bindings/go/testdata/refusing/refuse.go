@@ -1,4 +1,6 @@
-package dcsctp
+// SPDX-License-Identifier: Apache-2.0
+
+package davgyuti
 
 /*
 #include <stdlib.h>

@@ -1,10 +1,13 @@
-// Package dcsctp reads, checks, prints and writes SCTP packets (RFC 9260): the wire layer of an association, whose
+// SPDX-License-Identifier: Apache-2.0
+
+// Package davgyuti reads, checks, prints and writes SCTP packets (RFC 9260): the wire layer of an association, whose
 // timers, streams and retransmission are yours. It calls code that proved sources compile to, which lies in this folder
-// as assembly text and is linked by cgo; dist/README.md says what is proved of it, and docs/C.md more of each call.
+// as assembly text and is linked by cgo. The repository's dist/README.md says what is proved of it, and docs/C.md more of
+// each call.
 //
-//	packet := dcsctp.Packet(bytes)
-//	if err := packet.Check(dcsctp.Policy{}); err != nil {
-//		return err // dcsctp: wrong checksum at byte 8
+//	packet := davgyuti.Packet(bytes)
+//	if err := packet.Check(davgyuti.Policy{}); err != nil {
+//		return err // davgyuti: wrong checksum at byte 8
 //	}
 //	for chunks := packet.Chunks(); chunks.Next(); {
 //		if data, ok := chunks.Value().Data(); ok {
@@ -13,18 +16,56 @@
 //	}
 //
 // Nothing panics, whatever the bytes are. Bytes begin at the source port. What is read (values, payloads) are slices of
-// the packet's bytes, and not copied. Any number of goroutines may read the same packet.
-package dcsctp
+// the packet's bytes, and not copied. Any number of goroutines may read the same packet. The bytes have to stay readable
+// while a call runs: a fault in C, as of a mapped file that was cut, can't be recovered.
+//
+// # What a receiver still has to check
+//
+// Check says that bytes are a packet: its checksum and all its lengths are right. It says nothing of the association. A
+// receiver still has to check that
+//   - the verification tag is its own; under INIT it is 0, and with a chunk that IsTagReflected the peer's;
+//   - no port, initiate tag or number of streams is 0, and no payload is empty;
+//   - INIT, INIT ACK and SHUTDOWN COMPLETE are alone, COOKIE ECHO is first or comes right after AUTH, control chunks come
+//     before user data, and nothing after ABORT;
+//   - INIT ACK has a State Cookie, and HEARTBEAT one Heartbeat Info;
+//   - the blocks of a SACK are in order, by IsValidSACK; if not, its cumulative TSN still counts;
+//   - under Policy.ZeroChecksum, Header.Checksum is Word with INIT, COOKIE ECHO or ASCONF, and of an ABORT or a SHUTDOWN
+//     COMPLETE that IsTagReflected (RFC 9653 section 5.2).
+//
+// A chunk, a parameter or an error cause of a type that isn't known is accepted, whatever its value.
+//
+// # What answers what
+//
+//   - INIT, alone and under tag 0: AddInitAck in a packet under its InitiateTag, and AddParameter of a State Cookie that
+//     holds both sides' numbers and is authenticated
+//   - INIT ACK: AddCookieEcho of its State Cookie's Value, in a packet under its InitiateTag
+//   - COOKIE ECHO, under the tag that is in its cookie: AddCookieAck, if the cookie is one of one's own
+//   - DATA, I-DATA, FORWARD-TSN, I-FORWARD-TSN: AddSACK, with blocks of CleanBlocks
+//   - HEARTBEAT: AddHeartbeatAck of its Heartbeat Info's Value
+//   - RE-CONFIG: AddChunk(ChunkReConfig, 0, nil), and AddReConfig of a response to each request in it; a response has no
+//     answer
+//   - SHUTDOWN: AddShutdownAck, once all that was sent is acknowledged
+//   - SHUTDOWN ACK: AddShutdownComplete
+//   - ABORT, SHUTDOWN COMPLETE: nothing
+//   - a chunk whose Type isn't known: if Type&0x40 != 0, AddChunk(ChunkError, 0, nil), and AddCause of
+//     CauseUnrecognizedChunk with its Bytes; if Type&0x80 == 0, the rest of the packet is ignored
+//   - a parameter of INIT whose Type isn't known: if Type&0x4000 != 0, AddParameter of ParameterUnrecognizedParameter with its
+//     Bytes, in the INIT ACK; if Type&0x8000 == 0, the rest of the chunk is ignored
+package davgyuti
 
 // #include "calls.h"
 import "C"
 
 import (
 	"fmt"
+	"strings"
+	"sync"
 	"unsafe"
 )
 
-// A Code says why a call failed; it is an error, and what errors.Is compares an error of this package with.
+// A Code says why a call failed; it is an error, and what errors.Is compares an error of this package with. The faults of
+// bytes are returned in an *Error, by Packet's Check, Print, Report and Canonical. All else is returned as a Code alone: by
+// these ErrNoMemory and ErrTooLong, and each error of Seal, SetTag, Begin and the methods of a Builder.
 type Code uint32
 
 // The codes: the faults of bytes that are no packet, and why nothing was written.
@@ -53,7 +94,10 @@ const (
 
 // Error returns what the code means, in a few words.
 func (code Code) Error() string {
-	return "dcsctp: " + C.GoString(C.dcsctp_result_text(C.uint32_t(code)))
+	if code == ErrBadPlace {
+		return "davgyuti: no chunk to add to, or fewer than 12 bytes" // C's text is of offsets, which are kept here
+	}
+	return "davgyuti: " + C.GoString(C.dcsctp_result_text(C.uint32_t(code)))
 }
 
 // An Error is the first fault of bytes that are no packet. It wraps its Code, for errors.Is.
@@ -82,6 +126,30 @@ func Version() string { return C.GoString(C.dcsctp_version()) }
 // VersionNumber returns 65,536 times the major version, 256 times the minor one, and the patch.
 func VersionNumber() uint32 { return uint32(C.dcsctp_version_number()) }
 
+// names has the names that dcsctp.h has of some kind of number, from when one is asked for.
+type names struct {
+	next func(C.uint32_t) C.struct_go_name
+	once sync.Once
+	of   map[uint16]string
+}
+
+var (
+	chunkNames     = names{next: func(from C.uint32_t) C.struct_go_name { return C.go_chunk_name(from) }}
+	parameterNames = names{next: func(from C.uint32_t) C.struct_go_name { return C.go_parameter_name(from) }}
+	causeNames     = names{next: func(from C.uint32_t) C.struct_go_name { return C.go_cause_name(from) }}
+)
+
+func (n *names) get(number uint16) (name string, isKnown bool) {
+	n.once.Do(func() {
+		n.of = map[uint16]string{}
+		for it := n.next(0); it.name != nil; it = n.next(it.number + 1) {
+			n.of[uint16(it.number)] = C.GoString(it.name)
+		}
+	})
+	name, isKnown = n.of[number]
+	return name, isKnown
+}
+
 // A ChunkType is the type of a chunk (RFC 9260 section 3.2). It may be another number than those below.
 type ChunkType uint8
 
@@ -106,8 +174,19 @@ const (
 	ChunkIForwardTSN      ChunkType = C.DCSCTP_CHUNK_I_FORWARD_TSN
 )
 
-// String returns the name that the RFCs have; "unknown" for a type that has no constant here.
-func (t ChunkType) String() string { return C.GoString(C.dcsctp_chunk_name(C.uint8_t(t))) }
+// IsKnown returns whether the type has a constant here, and so a name.
+func (t ChunkType) IsKnown() bool {
+	_, isKnown := chunkNames.get(uint16(t))
+	return isKnown
+}
+
+// String returns the name that the RFCs have; for a type that has no constant here its number, as in "chunk type 0x63".
+func (t ChunkType) String() string {
+	if name, isKnown := chunkNames.get(uint16(t)); isKnown {
+		return name
+	}
+	return fmt.Sprintf("chunk type %#02x", uint8(t))
+}
 
 // TagReflected is the flag of ABORT and SHUTDOWN COMPLETE, the T bit: the verification tag isn't the one that the receiver
 // expects, but the one that it writes into its own packets, sent back to it (section 8.5.1). Chunk.IsTagReflected looks at
@@ -133,8 +212,19 @@ const (
 	ParameterForwardTSNSupported     ParameterType = C.DCSCTP_PARAMETER_FORWARD_TSN_SUPPORTED
 )
 
-// String returns the name that the RFCs have; "unknown" for a type that has no constant here.
-func (t ParameterType) String() string { return C.GoString(C.dcsctp_parameter_name(C.uint16_t(t))) }
+// IsKnown returns whether the type has a constant here, and so a name.
+func (t ParameterType) IsKnown() bool {
+	_, isKnown := parameterNames.get(uint16(t))
+	return isKnown
+}
+
+// String returns the name that the RFCs have; for a type that has no constant here its number, as in "parameter type 0x8002".
+func (t ParameterType) String() string {
+	if name, isKnown := parameterNames.get(uint16(t)); isKnown {
+		return name
+	}
+	return fmt.Sprintf("parameter type %#04x", uint16(t))
+}
 
 // A CauseCode is the code of an error cause (section 3.3.10). It may be another number than those below.
 type CauseCode uint16
@@ -156,8 +246,19 @@ const (
 	CauseProtocolViolation               CauseCode = C.DCSCTP_CAUSE_PROTOCOL_VIOLATION
 )
 
-// String returns the name that the RFCs have; "unknown" for a code that has no constant here.
-func (c CauseCode) String() string { return C.GoString(C.dcsctp_cause_name(C.uint16_t(c))) }
+// IsKnown returns whether the code has a constant here, and so a name.
+func (c CauseCode) IsKnown() bool {
+	_, isKnown := causeNames.get(uint16(c))
+	return isKnown
+}
+
+// String returns the name that the RFCs have; for a code that has no constant here its number, as in "cause code 0x0105".
+func (c CauseCode) String() string {
+	if name, isKnown := causeNames.get(uint16(c)); isKnown {
+		return name
+	}
+	return fmt.Sprintf("cause code %#04x", uint16(c))
+}
 
 // A ReConfigResult is the result of a response of RE-CONFIG (RFC 6525 section 4.4).
 type ReConfigResult uint32
@@ -172,6 +273,27 @@ const (
 	ReConfigBadSequenceNumber ReConfigResult = C.DCSCTP_RE_CONFIG_BAD_SEQUENCE_NUMBER
 	ReConfigInProgress        ReConfigResult = C.DCSCTP_RE_CONFIG_IN_PROGRESS
 )
+
+// String returns the name that RFC 6525 has; for another number the number, as in "result 7".
+func (r ReConfigResult) String() string {
+	// (the library's report has the names)
+	b, err := Begin(make([]byte, 28), 0, 0, 0)
+	if err == nil {
+		err = b.AddChunk(ChunkReConfig, 0, nil)
+	}
+	if err == nil {
+		err = b.AddReConfig(ReConfig{Type: ParameterReconfigurationResponse, Result: r}, nil)
+	}
+	number := fmt.Sprintf("result %d", uint32(r))
+	if err == nil {
+		report, _ := Packet(b.Bytes()).Report(Policy{AnyChecksum: true})
+		if _, name, isNamed := strings.Cut(report, number+" ("); isNamed {
+			name, _, _ = strings.Cut(name, ")")
+			return name
+		}
+	}
+	return number
+}
 
 // A Header is the common header (section 3.1).
 type Header struct {

@@ -1,0 +1,3 @@
+// SPDX-License-Identifier: Apache-2.0
+/* FreeBSD takes the text of Linux. */
+.include "dcsctp_linux_arm64.s"

@@ -1,0 +1,84 @@
+// SPDX-License-Identifier: Apache-2.0
+
+package davgyuti_test
+
+import (
+	"bytes"
+	"math/rand"
+	"net"
+	"sync/atomic"
+	"testing"
+
+	"github.com/pion/logging"
+	"github.com/pion/sctp"
+)
+
+// Beside the package, in a GOPATH that has pion/sctp: dist/test.sh puts it there.
+
+// A noisyConn changes a byte of every fifth packet that it writes.
+type noisyConn struct {
+	net.Conn
+	written, changed int32
+}
+
+func (c *noisyConn) Write(packet []byte) (int, error) {
+	if atomic.AddInt32(&c.written, 1)%5 == 0 {
+		packet = append([]byte(nil), packet...)
+		packet[rand.Intn(len(packet))] ^= 1
+		atomic.AddInt32(&c.changed, 1)
+	}
+	return c.Conn.Write(packet)
+}
+
+// Two associations of pion over checkedConns: all that they write is a packet, all that the way changes is dropped, and the
+// message comes whole.
+func TestPion(t *testing.T) {
+	var faults int32
+	one, other := net.Pipe()
+	noisy := &noisyConn{Conn: one}
+	config := func(conn net.Conn) sctp.Config {
+		checked := &checkedConn{Conn: conn, report: func(direction string, fault error) {
+			atomic.AddInt32(&faults, 1)
+			equal(t, fault.Error(), direction, "read")
+		}}
+		return sctp.Config{NetConn: checked, LoggerFactory: logging.NewDefaultLoggerFactory()}
+	}
+	message := make([]byte, 60000)
+	rand.New(rand.NewSource(1)).Read(message)
+	received := make(chan []byte)
+	go func() {
+		server, err := sctp.Server(config(other))
+		if err != nil {
+			t.Error(err)
+			close(received)
+			return
+		}
+		stream, err := server.AcceptStream()
+		if err != nil {
+			t.Error(err)
+			close(received)
+			return
+		}
+		buffer := make([]byte, len(message)+1)
+		size, err := stream.Read(buffer)
+		equal(t, "read", err, nil)
+		received <- buffer[:size]
+	}()
+	client, err := sctp.Client(config(noisy))
+	if err != nil {
+		t.Fatal(err)
+	}
+	stream, err := client.OpenStream(7, sctp.PayloadTypeWebRTCBinary)
+	if err != nil {
+		t.Fatal(err)
+	}
+	if _, err := stream.Write(message); err != nil {
+		t.Fatal(err)
+	}
+	equal(t, "the message came", bytes.Equal(<-received, message), true)
+	changed, found := atomic.LoadInt32(&noisy.changed), atomic.LoadInt32(&faults)
+	if changed == 0 || found == 0 || found > changed || found < changed-1 { // (the last one may be on its way)
+		t.Errorf("%d packets are changed, and %d are dropped", changed, found)
+	}
+	t.Logf("%d packets are written, %d changed and %d dropped", noisy.written, changed, found)
+}
