@@ -1,10 +1,12 @@
-"""Builds the package, for pip and other tools (PEP 517): `pip install bindings/python`.
+# SPDX-License-Identifier: Apache-2.0
+"""Builds the package, for pip and other tools (PEP 517 and 660): `pip install .` in this folder.
 
 The wheel has the Python files and a shared library, which a C compiler links from the text in dist/: $CC, or else cc. ctypes
 loads it, so that one wheel serves every Python of a system. Nothing else is needed, setuptools neither.
 """
 
 import base64
+import contextlib
 import gzip
 import hashlib
 import io
@@ -13,6 +15,7 @@ import platform
 import re
 import shlex
 import shutil
+import struct
 import subprocess
 import sys
 import sysconfig
@@ -22,24 +25,29 @@ import zipfile
 
 HERE = os.path.dirname(os.path.abspath(__file__))
 # What dist/ has: in the archive of sources beside this file.
-LIBRARY = os.path.join(HERE, "library")
+LIBRARY, LICENSES = os.path.join(HERE, "library"), HERE
 if not os.path.isdir(LIBRARY):
-    LIBRARY = os.path.join(HERE, os.pardir, os.pardir, "dist")
-NAME = "dcsctp"
+    LIBRARY = LICENSES = os.path.join(HERE, os.pardir, os.pardir, "dist")
+NAME = "davgyuti"
 # The module that a wheel has beside those in src/: the version of dcsctp.h, which the library's has to be.
 VERSION = "_version.py"
 PROCESSORS = {"amd64": "x86_64", "arm64": "aarch64"}
 # The format of the text, the ending of a shared library, and what a linker has to be told.
 FORMATS = {"darwin": ("macho", "dylib", []), "win32": ("coff", "dll", ["-Wl,--export-all-symbols"])}
-ELF = ("elf", "so", ["-s"])
+# (It names no libc: Python has loaded one, and so the same library serves with glibc and musl, of any version. The linker notes
+# the object's name, which is made up at random where it isn't saved.)
+ELF = ("elf", "so", ["-save-temps=obj", "-nostdlib", "-Wl,-z,now,-z,relro"])
+# The segment of ELF with what a loader has to do, and the tags in it that name a library, and versions of one.
+PT_DYNAMIC, DT_NEEDED, DT_VERNEED = 2, 1, 0x6FFFFFFE
 
-METADATA = """Metadata-Version: 2.1
+METADATA = """Metadata-Version: 2.4
 Name: {name}
 Version: {version}
 Summary: The wire layer of SCTP (RFC 9260): what proved code compiles to, for Python
-License: Apache-2.0
+License-Expression: Apache-2.0
+License-File: LICENSE
+License-File: NOTICE
 Keywords: sctp,webrtc,verified,parser
-Classifier: License :: OSI Approved :: Apache Software License
 Classifier: Programming Language :: Python :: 3 :: Only
 Classifier: Topic :: System :: Networking
 Classifier: Typing :: Typed
@@ -66,9 +74,11 @@ def version():
     return found[1] if found else give_up("dist/dcsctp.h says no version")
 
 
-def version_numbers():
+def version_module():
     found = re.findall(r"^#define DCSCTP_VERSION_(?:MAJOR|MINOR|PATCH) (\d+)$", read(LIBRARY, "dcsctp.h").decode(), re.M)
-    return tuple(map(int, found)) if len(found) == 3 else give_up("dist/dcsctp.h doesn't say the version in numbers")
+    if len(found) != 3:
+        give_up("dist/dcsctp.h doesn't say the version in numbers")
+    return f"VERSION = ({', '.join(found)})\n".encode()
 
 
 def metadata():
@@ -78,19 +88,19 @@ def metadata():
 def files_of(*folder):
     """The files of a folder that are to be packed, by name: those of Python, and what the tests read."""
     names = sorted(os.listdir(os.path.join(HERE, *folder)))
-    return {it: read(HERE, *folder, it) for it in names if it.endswith((".py", ".typed", ".txt")) and it != VERSION}
+    return {it: read(HERE, *folder, it) for it in names if it.endswith((".py", ".pyi", ".typed", ".txt")) and it != VERSION}
 
 
 def texts():
-    """The names of the texts that are there."""
-    return sorted(it for it in os.listdir(LIBRARY) if it.startswith(f"{NAME}-") and it.endswith(".s"))
+    """The names of the texts that are there, for systems that have Python."""
+    return sorted(it for it in os.listdir(LIBRARY) if re.fullmatch(r"dcsctp-.*-(elf|macho|coff)\.s", it))
 
 
 def shared_library():
     """The name and the bytes of the library for this system."""
     processor = platform.machine().lower()
     kind, ending, words = FORMATS.get(sys.platform, ELF)
-    text = os.path.join(LIBRARY, f"{NAME}-{PROCESSORS.get(processor, processor)}-{kind}.s")
+    text = os.path.join(LIBRARY, f"dcsctp-{PROCESSORS.get(processor, processor)}-{kind}.s")
     if sys.maxsize < 2**32:
         give_up("this Python has pointers of 4 bytes, and the library of 8")
     if not os.path.isfile(text):
@@ -105,27 +115,49 @@ def shared_library():
         if ran.returncode:
             give_up(f"{compiler[0]} doesn't take {os.path.normpath(text)}: it has to assemble GNU syntax for this system")
         with open(out, "rb") as file:
-            return f"{NAME}/_{NAME}.{ending}", file.read()
+            return f"_dcsctp.{ending}", file.read()
 
 
-def build_wheel(wheel_directory, config_settings=None, metadata_directory=None):
+def is_alone(library):
+    """Whether a library of ELF has the loader look for no other one, and for no version of one."""
+    (begin,), (size, count) = struct.unpack_from("<Q", library, 32), struct.unpack_from("<HH", library, 54)
+    for at in range(begin, begin + count * size, size):
+        kind, start, length = struct.unpack_from("<I4xQ16xQ", library, at)
+        if kind == PT_DYNAMIC:
+            tags = {tag for tag, _ in struct.iter_unpack("<QQ", library[start : start + length])}
+            return tags.isdisjoint((DT_NEEDED, DT_VERNEED))
+    return False
+
+
+def systems(library):
+    """The systems of the wheel's tags (PEP 425, 600 and 656)."""
     system = sysconfig.get_platform().replace("universal2", platform.machine())
-    tag = "py3-none-" + re.sub("[-.]", "_", system)
-    files = {f"{NAME}/{name}": data for name, data in files_of("src", NAME).items()}
-    files[f"{NAME}/{VERSION}"] = f"VERSION = {version_numbers()}\n".encode()
-    name, data = shared_library()
-    files[name] = data
+    kind, _, processor = system.partition("-")
+    if kind == "linux" and is_alone(library):
+        return [f"{it}_{processor}" for it in ("manylinux_2_17", "manylinux2014", "musllinux_1_1")]
+    return [re.sub("[-.]", "_", system)]
+
+
+def made():
+    """What the package has beside the files in src/, and the systems that it is for."""
+    name, library = shared_library()
+    return {VERSION: version_module(), name: library}, systems(library)
+
+
+def write_wheel(folder, files, systems):
     info = f"{NAME}-{version()}.dist-info"
-    files[f"{info}/LICENSE"], files[f"{info}/NOTICE"] = read(LIBRARY, "LICENSE"), read(LIBRARY, "NOTICE")
+    for name in ("LICENSE", "NOTICE"):
+        files[f"{info}/licenses/{name}"] = read(LICENSES, name)
     files[f"{info}/METADATA"] = metadata()
-    files[f"{info}/WHEEL"] = f"Wheel-Version: 1.0\nGenerator: {NAME}\nRoot-Is-Purelib: false\nTag: {tag}\n".encode()
+    tags = "".join(f"Tag: py3-none-{it}\n" for it in systems)
+    files[f"{info}/WHEEL"] = f"Wheel-Version: 1.0\nGenerator: {NAME}\nRoot-Is-Purelib: false\n{tags}".encode()
     record = ""
     for name, data in files.items():
         digest = base64.urlsafe_b64encode(hashlib.sha256(data).digest()).rstrip(b"=").decode()
         record += f"{name},sha256={digest},{len(data)}\n"
     files[f"{info}/RECORD"] = f"{record}{info}/RECORD,,\n".encode()
-    wheel = f"{NAME}-{version()}-{tag}.whl"
-    with zipfile.ZipFile(os.path.join(wheel_directory, wheel), "w", zipfile.ZIP_DEFLATED) as archive:
+    wheel = f"{NAME}-{version()}-py3-none-{'.'.join(systems)}.whl"
+    with zipfile.ZipFile(os.path.join(folder, wheel), "w", zipfile.ZIP_DEFLATED) as archive:
         for name, data in files.items():
             # (a time that says nothing: the same files give the same wheel)
             entry = zipfile.ZipInfo(name, (1980, 1, 1, 0, 0, 0))
@@ -134,13 +166,33 @@ def build_wheel(wheel_directory, config_settings=None, metadata_directory=None):
     return wheel
 
 
+def build_wheel(wheel_directory, config_settings=None, metadata_directory=None):
+    more, systems = made()
+    files = {f"{NAME}/{it}": data for it, data in (files_of("src", NAME) | more).items()}
+    return write_wheel(wheel_directory, files, systems)
+
+
+def build_editable(wheel_directory, config_settings=None, metadata_directory=None):
+    """Puts what is made into src/, to which the wheel only leads."""
+    more, systems = made()
+    for name, data in more.items():
+        path = os.path.join(HERE, "src", NAME, name)
+        # (not over an old library, which a process may have mapped)
+        with contextlib.suppress(FileNotFoundError):
+            os.remove(path)
+        with open(path, "wb") as file:
+            file.write(data)
+    return write_wheel(wheel_directory, {f"{NAME}.pth": os.path.join(HERE, "src").encode() + b"\n"}, systems)
+
+
 def build_sdist(sdist_directory, config_settings=None):
     name = f"{NAME}-{version()}"
     files = {"PKG-INFO": metadata()}
     files.update((it, read(HERE, it)) for it in ("README.md", "backend.py", "pyproject.toml"))
-    for folder in (("src", NAME), ("tests",)):
+    files.update((it, read(LICENSES, it)) for it in ("LICENSE", "NOTICE"))
+    for folder in (("src", NAME), ("tests",), ("examples",)):
         files.update(("/".join((*folder, it)), data) for it, data in files_of(*folder).items())
-    files.update((f"library/{it}", read(LIBRARY, it)) for it in (*texts(), "dcsctp.h", "LICENSE", "NOTICE"))
+    files.update((f"library/{it}", read(LIBRARY, it)) for it in (*texts(), "dcsctp.h"))
     with open(os.path.join(sdist_directory, f"{name}.tar.gz"), "wb") as file:
         with gzip.GzipFile("", "wb", mtime=0, fileobj=file) as packed, tarfile.open(fileobj=packed, mode="w") as archive:
             for path, data in sorted(files.items()):

@@ -1,4 +1,5 @@
 #!/usr/bin/env python3
+# SPDX-License-Identifier: Apache-2.0
 """Reads a file of packets in hexadecimal, one a line. Prints the chunks of each, its text, and the packet that answers it.
 
 usage: show.py FILE
@@ -6,8 +7,8 @@ usage: show.py FILE
 
 import sys
 
-import dcsctp
-from dcsctp.__main__ import lines
+import davgyuti
+from davgyuti.__main__ import lines
 
 
 class Server:
@@ -22,13 +23,13 @@ class Server:
     def __init__(self) -> None:
         self.peer_tag = 0
 
-    def answer(self, packet: dcsctp.Packet) -> bytes | None:
+    def answer(self, packet: davgyuti.Packet) -> bytes | None:
         """The packet that answers, or None."""
         header, (chunk, *others) = packet.header, packet.chunks()
         match chunk:
-            case dcsctp.Init(initiate_tag=tag) if header.verification_tag == 0 and tag != 0 and not others:
+            case davgyuti.Init(initiate_tag=tag) if header.verification_tag == 0 and tag != 0 and not others:
                 self.peer_tag = tag
-                builder = dcsctp.PacketBuilder(header.destination_port, header.source_port, tag)
+                builder = davgyuti.PacketBuilder(header.destination_port, header.source_port, tag)
                 with builder.init_ack(
                     initiate_tag=self.OWN_TAG,
                     a_rwnd=self.A_RWND,
@@ -36,10 +37,10 @@ class Server:
                     inbound_streams=4,
                     initial_tsn=0x66E387AB,
                 ) as init_ack:
-                    init_ack.parameter(dcsctp.StateCookie(b"abcd"))
+                    init_ack.parameter(davgyuti.StateCookie(b"abcd"))
                 return builder.seal()
-            case dcsctp.Data(tsn=tsn) | dcsctp.IData(tsn=tsn) if header.verification_tag == self.OWN_TAG:
-                builder = dcsctp.PacketBuilder(header.destination_port, header.source_port, self.peer_tag)
+            case davgyuti.Data(tsn=tsn) | davgyuti.IData(tsn=tsn) if header.verification_tag == self.OWN_TAG:
+                builder = davgyuti.PacketBuilder(header.destination_port, header.source_port, self.peer_tag)
                 builder.sack(tsn, self.A_RWND)
                 return builder.seal()
         return None
@@ -55,8 +56,8 @@ def main() -> None:
         data = bytes.fromhex(word)
         print(f"packet of {len(data)} bytes")
         try:
-            packet = dcsctp.Packet(data)
-        except dcsctp.Fault as fault:
+            packet = davgyuti.Packet(data)
+        except davgyuti.Fault as fault:
             print(f"  fault {fault.code:d} at byte {fault.offset}")
             continue
         for line in lines(packet):

@@ -1,13 +1,28 @@
+# SPDX-License-Identifier: Apache-2.0
 """What the tests share."""
 
+import importlib.util
 import os
 import random
+import sys
 from collections.abc import Iterator
+from types import ModuleType
 
-import dcsctp
+import davgyuti
 
 HERE = os.path.dirname(os.path.abspath(__file__))
-ANY_CHECKSUM = dcsctp.Policy(any_checksum=True)
+# Where the package's sources are, if they are beside the tests.
+SOURCES = os.path.dirname(HERE) if os.path.exists(os.path.join(HERE, os.pardir, "backend.py")) else ""
+ANY_CHECKSUM = davgyuti.Policy(any_checksum=True)
+
+
+def module(name: str, *path: str) -> ModuleType:
+    """The module or package in a file, under this name."""
+    spec = importlib.util.spec_from_file_location(name, os.path.join(*path))
+    assert spec and spec.loader
+    found = sys.modules[name] = importlib.util.module_from_spec(spec)
+    spec.loader.exec_module(found)
+    return found
 
 
 def of_hex(text: str) -> bytes:

@@ -1,3 +1,4 @@
+# SPDX-License-Identifier: Apache-2.0
 """That what is declared for ctypes, and the names of numbers, are those of dcsctp.h: none forgotten, none wrong."""
 
 import ctypes
@@ -7,8 +8,8 @@ import unittest
 from ctypes import POINTER, c_bool, c_char_p, c_size_t, c_uint8, c_uint16, c_uint32
 from typing import Any
 
-import dcsctp
-from dcsctp import _library
+import davgyuti
+from davgyuti import _library
 from support import HERE
 
 TYPES: dict[str, Any] = {
@@ -68,7 +69,7 @@ class Functions(unittest.TestCase):
         self.assertEqual(_library.FUNCTIONS, expected)
 
     def test_all_are_called(self) -> None:
-        folder = os.path.dirname(dcsctp.__file__)
+        folder = os.path.dirname(davgyuti.__file__)
         text = ""
         for name in ("_library.py", "_reading.py", "_writing.py"):
             with open(os.path.join(folder, name), encoding="ascii") as file:
@@ -82,7 +83,8 @@ class Structs(unittest.TestCase):
         found = re.findall(r"^struct dcsctp_(\w+) \{(.*?)^\};", HEADER, re.MULTILINE | re.DOTALL)
         self.assertEqual(len(found), 11)
         for name, body in found:
-            fields = [split(" ".join(it.split())) for it in body.split(";") if it.strip()]
+            # (of the policy's reserve the library reads nothing)
+            fields = [split(" ".join(it.split())) for it in body.split(";") if it.strip() and "reserved[" not in it]
             with self.subTest(name):
                 struct = getattr(_library, camel(name))
                 self.assertEqual(struct._fields_, [(field, ctype(kind)) for kind, field in fields])
@@ -95,11 +97,11 @@ class Structs(unittest.TestCase):
 class Numbers(unittest.TestCase):
     def test_all(self) -> None:
         expected = {
-            **{f"CHUNK_{it.name}": it.value for it in dcsctp.ChunkType},
-            **{f"PARAMETER_{it.name}": it.value for it in dcsctp.ParameterType},
-            **{f"CAUSE_{it.name}": it.value for it in dcsctp.CauseCode},
-            **{f"RE_CONFIG_{it.name}": it.value for it in dcsctp.ReConfigResult},
-            **{it.name: it.value for it in dcsctp.Result},
+            **{f"CHUNK_{it.name}": it.value for it in davgyuti.ChunkType},
+            **{f"PARAMETER_{it.name}": it.value for it in davgyuti.ParameterType},
+            **{f"CAUSE_{it.name}": it.value for it in davgyuti.CauseCode},
+            **{f"RE_CONFIG_{it.name}": it.value for it in davgyuti.ReConfigResult},
+            **{it.name: it.value for it in davgyuti.Result},
             "FIRST_CHUNK": 12,
             "TAG_REFLECTED": 1,
         }
@@ -108,8 +110,8 @@ class Numbers(unittest.TestCase):
         self.assertEqual({name: int(number, 0) for name, number in pairs}, expected)
 
     def test_version(self) -> None:
-        self.assertIn(f'#define DCSCTP_VERSION "{dcsctp.__version__}"', HEADER)
-        major, minor, patch = map(int, dcsctp.__version__.split("."))
+        self.assertIn(f'#define DCSCTP_VERSION "{davgyuti.__version__}"', HEADER)
+        major, minor, patch = map(int, davgyuti.__version__.split("."))
         number = major * 65536 + minor * 256 + patch
         self.assertEqual(_library.functions.dcsctp_version_number(), number)
 
@@ -121,23 +123,29 @@ class Names(unittest.TestCase):
         return dict(re.findall(rf'case DCSCTP_{prefix}(\w+): return "(.*?)";', found[0]))
 
     def test_results(self) -> None:
-        self.assertEqual({it.name: it.text for it in dcsctp.Result}, self.texts("dcsctp_result_text", ""))
+        self.assertEqual({it.name: it.text for it in davgyuti.Result}, self.texts("dcsctp_result_text", ""))
 
     def test_chunks(self) -> None:
-        names = {it.name: dcsctp.chunk_name(it) for it in dcsctp.ChunkType}
+        names = {it.name: davgyuti.chunk_name(it) for it in davgyuti.ChunkType}
         self.assertEqual(names, self.texts("dcsctp_chunk_name", "CHUNK_"))
-        self.assertEqual(dcsctp.chunk_name(130), "RE-CONFIG")
-        self.assertEqual(dcsctp.chunk_name(200), "unknown")
+        self.assertEqual(davgyuti.chunk_name(130), "RE-CONFIG")
+        self.assertEqual(davgyuti.chunk_name(15), "chunk type 0x0f")  # AUTH, RFC 4895 section 4.2
 
     def test_parameters(self) -> None:
-        names = {it.name: dcsctp.parameter_name(it) for it in dcsctp.ParameterType}
+        names = {it.name: davgyuti.parameter_name(it) for it in davgyuti.ParameterType}
         self.assertEqual(names, self.texts("dcsctp_parameter_name", "PARAMETER_"))
-        self.assertEqual(dcsctp.parameter_name(0), "unknown")
+        self.assertEqual(davgyuti.parameter_name(0x8002), "parameter type 0x8002")  # RANDOM, RFC 4895 section 3.1
+        self.assertEqual(davgyuti.parameter_name(5), "parameter type 0x0005")  # RFC 9260 section 3.3.2.1.1
 
     def test_causes(self) -> None:
-        names = {it.name: dcsctp.cause_name(it) for it in dcsctp.CauseCode}
+        names = {it.name: davgyuti.cause_name(it) for it in davgyuti.CauseCode}
         self.assertEqual(names, self.texts("dcsctp_cause_name", "CAUSE_"))
-        self.assertEqual(dcsctp.cause_name(0), "unknown")
+        self.assertEqual(davgyuti.cause_name(0x0105), "cause code 0x0105")  # RFC 4895 section 4.1
+
+    def test_known(self) -> None:
+        for kind, other in ((davgyuti.ChunkType, 99), (davgyuti.ParameterType, 0x8002), (davgyuti.CauseCode, 0)):
+            self.assertTrue(all(kind.is_known(int(it)) for it in kind))
+            self.assertFalse(kind.is_known(other))
 
 
 if __name__ == "__main__":

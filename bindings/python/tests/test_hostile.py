@@ -1,3 +1,4 @@
+# SPDX-License-Identifier: Apache-2.0
 """Bytes that are no packet, and packets changed at random: nothing but a Fault comes of them, and what is accepted is
 written again as its canonical form."""
 
@@ -5,14 +6,14 @@ import dataclasses
 import random
 import unittest
 
-import dcsctp
+import davgyuti
 from support import ANY_CHECKSUM, mutated, packets
 
 COUNT = 4000
 # Of these kinds there is something to read where the list ends too early, or the cookie is empty.
 LENIENT = (
-    *(dcsctp.ChunkType.INIT, dcsctp.ChunkType.INIT_ACK, dcsctp.ChunkType.HEARTBEAT, dcsctp.ChunkType.HEARTBEAT_ACK),
-    *(dcsctp.ChunkType.ABORT, dcsctp.ChunkType.ERROR, dcsctp.ChunkType.COOKIE_ECHO, dcsctp.ChunkType.RE_CONFIG),
+    *(davgyuti.ChunkType.INIT, davgyuti.ChunkType.INIT_ACK, davgyuti.ChunkType.HEARTBEAT, davgyuti.ChunkType.HEARTBEAT_ACK),
+    *(davgyuti.ChunkType.ABORT, davgyuti.ChunkType.ERROR, davgyuti.ChunkType.COOKIE_ECHO, davgyuti.ChunkType.RE_CONFIG),
 )
 
 
@@ -20,10 +21,10 @@ class Hostile(unittest.TestCase):
     def test_accepted_or_a_fault(self) -> None:
         accepted = 0
         for data in mutated(COUNT, 1):
-            fault = dcsctp.first_fault(data, ANY_CHECKSUM)
+            fault = davgyuti.first_fault(data, ANY_CHECKSUM)
             try:
-                packet = dcsctp.Packet(data, ANY_CHECKSUM)
-            except dcsctp.Fault as raised:
+                packet = davgyuti.Packet(data, ANY_CHECKSUM)
+            except davgyuti.Fault as raised:
                 assert fault
                 self.assertEqual((raised.code, raised.offset), (fault.code, fault.offset))
                 self.assertLessEqual(raised.offset, len(data))
@@ -31,13 +32,13 @@ class Hostile(unittest.TestCase):
             accepted += 1
             self.assertIsNone(fault)
             header = packet.header
-            builder = dcsctp.PacketBuilder(header.source_port, header.destination_port, header.verification_tag)
+            builder = davgyuti.PacketBuilder(header.source_port, header.destination_port, header.verification_tag)
             for chunk in packet:
                 builder.add(chunk)
             canonical = packet.canonical()
             self.assertEqual(bytes(builder).hex(), canonical.hex())
-            self.assertEqual(dcsctp.Packet(builder.seal()).chunks(), packet.chunks())
-            self.assertEqual(dcsctp.canonical(canonical, ANY_CHECKSUM), canonical)
+            self.assertEqual(davgyuti.Packet(builder.seal()).chunks(), packet.chunks())
+            self.assertEqual(davgyuti.canonical(canonical, ANY_CHECKSUM), canonical)
             self.assertEqual(len(list(packet.raw_chunks())), len(packet.chunks()))
             self.assertEqual(packet.text().count("\n"), len(packet.chunks()))
             packet.report()
@@ -46,64 +47,66 @@ class Hostile(unittest.TestCase):
 
     def test_parts_of_any_bytes(self) -> None:
         for data in mutated(COUNT, 2):
-            dcsctp.word(data)
-            size = sum(4 + len(it.value) for it in dcsctp.raw_chunks(data))
+            davgyuti.word(data)
+            size = sum(4 + len(it.value) for it in davgyuti.raw_chunks(data))
             self.assertLessEqual(size, max(0, len(data) - 12))
-            raw = [chunk for chunk, _ in dcsctp.raw_items(data)]
-            typed = list(dcsctp.chunks(data))
+            raw = [chunk for chunk, _ in davgyuti.raw_items(data)]
+            typed = list(davgyuti.chunks(data))
             self.assertEqual(len(raw), len(typed))
             for chunk, one in zip(raw, typed):
+                assert chunk.offset
+                self.assertEqual((one.offset, bytes(chunk)), (chunk.offset, data[chunk.offset :][: len(bytes(chunk))]))
                 # What is no value of its kind is there as it is.
-                if isinstance(one, dcsctp.RawChunk):
+                if isinstance(one, davgyuti.RawChunk):
                     self.assertEqual(one, chunk)
 
     def test_a_kind_with_a_wrong_value(self) -> None:
-        for kind in (*dcsctp.ChunkType, 200):
+        for kind in (*davgyuti.ChunkType, 200):
             for size in range(30):
                 value = random.Random(size).randbytes(size)
                 data = bytes(12) + bytes((kind, 0)) + (4 + size).to_bytes(2, "big") + value
-                (chunk,) = dcsctp.chunks(data)
-                is_raw = dcsctp.first_fault(data, ANY_CHECKSUM) is not None or kind == 200
+                (chunk,) = davgyuti.chunks(data)
+                is_raw = davgyuti.first_fault(data, ANY_CHECKSUM) is not None or kind == 200
                 if not (is_raw and kind in LENIENT):
-                    self.assertEqual(isinstance(chunk, dcsctp.RawChunk), is_raw, (kind, size))
-        raw_parameters = (dcsctp.ParameterType.UNRECOGNIZED_PARAMETER, 0x8002)
-        for kind in (*dcsctp.ParameterType, 0x8002):
+                    self.assertEqual(isinstance(chunk, davgyuti.RawChunk), is_raw, (kind, size))
+        raw_parameters = (davgyuti.ParameterType.UNRECOGNIZED_PARAMETER, 0x8002)
+        for kind in (*davgyuti.ParameterType, 0x8002):
             for size in range(30):
                 item = kind.to_bytes(2, "big") + (4 + size).to_bytes(2, "big") + bytes(size)
                 data = bytes(12) + b"\x82\x00" + (4 + len(item)).to_bytes(2, "big") + item
-                ((parameter,),) = (it.parameters for it in dcsctp.chunks(data) if isinstance(it, dcsctp.ReConfig))
-                is_kind = kind not in raw_parameters and dcsctp.first_fault(data, ANY_CHECKSUM) is None
-                self.assertEqual(not isinstance(parameter, dcsctp.RawParameter), is_kind, (kind, size))
+                ((parameter,),) = (it.parameters for it in davgyuti.chunks(data) if isinstance(it, davgyuti.ReConfig))
+                is_kind = kind not in raw_parameters and davgyuti.first_fault(data, ANY_CHECKSUM) is None
+                self.assertEqual(not isinstance(parameter, davgyuti.RawParameter), is_kind, (kind, size))
         kinds = (2, 6, 9, 10, 12, 13)
-        for kind in (*dcsctp.CauseCode, 0):
+        for kind in (*davgyuti.CauseCode, 0):
             for size in range(30):
                 count = max(0, size - 4) // 2
                 item = kind.to_bytes(2, "big") + (4 + size).to_bytes(2, "big") + count.to_bytes(4, "big")[:size]
                 item += bytes(max(0, size - 4))
                 data = bytes(12) + b"\x09\x00" + (4 + len(item)).to_bytes(2, "big") + item
-                ((cause,),) = (it.causes for it in dcsctp.chunks(data) if isinstance(it, dcsctp.OperationError))
-                is_kind = kind in kinds and dcsctp.first_fault(data, ANY_CHECKSUM) is None
-                self.assertEqual(not isinstance(cause, dcsctp.RawCause), is_kind, (kind, size))
+                ((cause,),) = (it.causes for it in davgyuti.chunks(data) if isinstance(it, davgyuti.OperationError))
+                is_kind = kind in kinds and davgyuti.first_fault(data, ANY_CHECKSUM) is None
+                self.assertEqual(not isinstance(cause, davgyuti.RawCause), is_kind, (kind, size))
 
     def test_a_response_with_an_unknown_result(self) -> None:
         data = packets()[18]
-        (chunk,) = dcsctp.chunks(data)
-        assert isinstance(chunk, dcsctp.ReConfig)
-        self.assertEqual([type(it) for it in chunk.parameters], [dcsctp.RawParameter])
+        (chunk,) = davgyuti.chunks(data)
+        assert isinstance(chunk, davgyuti.ReConfig)
+        self.assertEqual([type(it) for it in chunk.parameters], [davgyuti.RawParameter])
 
     def test_each_beginning_of_a_packet(self) -> None:
         for data in packets():
             for size in range(len(data)):
-                list(dcsctp.chunks(data[:size]))
-                fault = dcsctp.first_fault(data[:size], ANY_CHECKSUM)
+                list(davgyuti.chunks(data[:size]))
+                fault = davgyuti.first_fault(data[:size], ANY_CHECKSUM)
                 if size < 16:
                     assert fault
-                    self.assertEqual((fault.code, fault.offset), (dcsctp.Result.FAULT_SIZE, size))
+                    self.assertEqual((fault.code, fault.offset), (davgyuti.Result.FAULT_SIZE, size))
 
     def test_values_are_all_there(self) -> None:
         for data in packets()[:15]:
-            for chunk in dcsctp.Packet(data):
-                self.assertNotIsInstance(chunk, dcsctp.RawChunk)
+            for chunk in davgyuti.Packet(data):
+                self.assertNotIsInstance(chunk, davgyuti.RawChunk)
                 self.assertEqual(dataclasses.replace(chunk), chunk)
                 self.assertEqual(hash(chunk), hash(dataclasses.replace(chunk)))
 

@@ -1,7 +1,7 @@
+# SPDX-License-Identifier: Apache-2.0
 """Each request of the library for memory is refused in turn: a MemoryError says so, and nothing else is changed."""
 
 import ctypes
-import importlib.util
 import os
 import shutil
 import sys
@@ -10,9 +10,9 @@ import unittest
 from types import ModuleType
 from unittest import mock
 
-import dcsctp
+import davgyuti
+from support import SOURCES, module
 
-HERE = os.path.dirname(os.path.abspath(__file__))
 SOURCE = """
 #include <stddef.h>
 
@@ -33,23 +33,14 @@ void *__wrap_realloc(void *block, size_t size)
 """
 
 
-def module(name: str, *path: str) -> ModuleType:
-    """The module or package in a file, under this name."""
-    spec = importlib.util.spec_from_file_location(name, os.path.join(*path))
-    assert spec and spec.loader
-    found = sys.modules[name] = importlib.util.module_from_spec(spec)
-    spec.loader.exec_module(found)
-    return found
-
-
 @unittest.skipUnless(sys.platform.startswith("linux"), "it takes a linker that knows --wrap")
 @unittest.skipUnless(shutil.which("cc"), "there is no cc")
-@unittest.skipUnless(os.path.exists(os.path.join(HERE, os.pardir, "backend.py")), "there are no sources beside the tests")
+@unittest.skipUnless(SOURCES, "there are no sources beside the tests")
 class Memory(unittest.TestCase):
     def test_refused(self) -> None:
-        backend = module("backend", HERE, os.pardir, "backend.py")
+        backend = module("backend", SOURCES, "backend.py")
         with tempfile.TemporaryDirectory() as work:
-            copy = shutil.copytree(os.path.dirname(dcsctp.__file__), os.path.join(work, "refusing"))
+            copy = shutil.copytree(os.path.dirname(davgyuti.__file__), os.path.join(work, "refusing"))
             source = os.path.join(work, "refuse.c")
             with open(source, "w") as file:
                 file.write(SOURCE)
@@ -63,12 +54,12 @@ class Memory(unittest.TestCase):
 
     def refused(self, package: ModuleType) -> None:
         granted = ctypes.c_size_t.in_dll(package._library.functions, "granted")
-        builder = dcsctp.PacketBuilder(1, 2, 3)
+        builder = davgyuti.PacketBuilder(1, 2, 3)
         builder.sack(1, 2, [(2, 3)], [4])
         builder.abort("why")
         data = builder.seal()
         for name in ("text", "canonical", "report"):
-            expected = getattr(dcsctp, name)(data)
+            expected = getattr(davgyuti, name)(data)
             refusals = 0
             while True:
                 granted.value = refusals

@@ -1,11 +1,15 @@
-"""`python -m dcsctp`, and the program show.py, in processes of their own."""
+# SPDX-License-Identifier: Apache-2.0
+"""`python -m davgyuti`, and the program show.py, in processes of their own."""
 
 import os
+import re
+import shutil
+import signal
 import subprocess
 import sys
 import unittest
 
-import dcsctp
+import davgyuti
 from support import HERE
 
 COOKIE_ACK = "138813884d2df52d67db78b50b000004"
@@ -16,10 +20,14 @@ def read(name: str) -> str:
         return file.read()
 
 
-def run(*words: str, given: str = "") -> "subprocess.CompletedProcess[str]":
+def environment() -> dict[str, str]:
     # (the package that is tested here, whether it is installed or not)
-    path = os.path.dirname(os.path.dirname(os.path.abspath(dcsctp.__file__)))
+    path = os.path.dirname(os.path.dirname(os.path.abspath(davgyuti.__file__)))
     paths = os.pathsep.join((path, *os.environ.get("PYTHONPATH", "").split(os.pathsep)))
+    return {**os.environ, "PYTHONPATH": paths, "PYTHONDONTWRITEBYTECODE": "1"}
+
+
+def run(*words: str, given: str = "") -> "subprocess.CompletedProcess[str]":
     return subprocess.run(
         [sys.executable, *words],
         input=given,
@@ -27,18 +35,21 @@ def run(*words: str, given: str = "") -> "subprocess.CompletedProcess[str]":
         text=True,
         timeout=60,
         cwd=HERE,
-        env={**os.environ, "PYTHONPATH": paths, "PYTHONDONTWRITEBYTECODE": "1"},
+        env=environment(),
     )
 
 
 class Program(unittest.TestCase):
     def test_lines(self) -> None:
-        done = run("-m", "dcsctp", given=read("packets.txt"))
+        done = run("-m", "davgyuti", given=read("packets.txt"))
         expected = "".join(it for it in read("expected.txt").splitlines(True) if not it.startswith("  answer"))
+        # (a fault is said in words too)
+        texts = re.compile(r"^(  fault (\d) at byte \d+)$", re.MULTILINE)
+        expected = texts.sub(lambda it: f"{it[1]}: {davgyuti.Result(int(it[2])).text}", expected)
         self.assertEqual((done.stdout, done.stderr, done.returncode), (expected, "", 1))
 
     def test_arguments(self) -> None:
-        done = run("-m", "dcsctp", COOKIE_ACK, "13881388 4d2df52d 67db78b5 0b000004")
+        done = run("-m", "davgyuti", COOKIE_ACK, "13881388 4d2df52d 67db78b5 0b000004")
         expected = (
             "packet of 16 bytes\n  chunk 11, flags 0, 0 bytes\n"
             "source=5000 destination=5000 tag=1294857517 checksum=1742436533\nCOOKIE-ACK\n"
@@ -46,7 +57,7 @@ class Program(unittest.TestCase):
         self.assertEqual((done.stdout, done.stderr, done.returncode), (2 * expected, "", 0))
 
     def test_report(self) -> None:
-        done = run("-m", "dcsctp", "--report", COOKIE_ACK, COOKIE_ACK[:-1] + "5")
+        done = run("-m", "davgyuti", "--report", COOKIE_ACK, COOKIE_ACK[:-1] + "5")
         expected = (
             "packet of 16 bytes\n  source 5000, destination 5000, tag 0x4d2df52d\n  checksum 0x67db78b5: right\n"
             "  COOKIE ACK\npacket of 16 bytes\n  fault 2 at byte 8: wrong checksum\n"
@@ -55,7 +66,7 @@ class Program(unittest.TestCase):
 
     def test_policy(self) -> None:
         zero = COOKIE_ACK[:16] + 8 * "0" + COOKIE_ACK[24:]
-        padded = dcsctp.seal(bytes.fromhex(COOKIE_ACK[:24] + "0a00000561000100")).hex()
+        padded = davgyuti.seal(bytes.fromhex(COOKIE_ACK[:24] + "0a00000561000100")).hex()
         for words, status in (
             ([zero], 1),
             (["--zero-checksum", zero], 0),
@@ -63,21 +74,51 @@ class Program(unittest.TestCase):
             ([padded], 0),
             (["--strict-padding", padded], 1),
         ):
-            self.assertEqual(run("-m", "dcsctp", *words).returncode, status, words)
+            self.assertEqual(run("-m", "davgyuti", *words).returncode, status, words)
 
     def test_usage(self) -> None:
-        for words in (["zz"], ["123"], ["--unknown"]):
-            done = run("-m", "dcsctp", *words)
+        for words, text in (
+            (["zz"], "packet 1 isn't hexadecimal: 'zz'"),
+            (["123"], "packet 1 isn't hexadecimal"),
+            (["--unknown"], "usage: python -m davgyuti"),
+        ):
+            done = run("-m", "davgyuti", *words)
             self.assertEqual((done.stdout, done.returncode), ("", 2))
-            self.assertIn("usage: python -m dcsctp", done.stderr)
-        done = run("-m", "dcsctp", given=f"# \xe9\n\n{COOKIE_ACK}\nab\xe9\n")
-        self.assertEqual((done.stdout.count("\n"), done.returncode), (4, 2))
-        self.assertIn("packet 2 isn't hexadecimal", done.stderr)
-        done = run("-m", "dcsctp", "--help")
+            self.assertIn(text, done.stderr)
+        # (what comes after a wrong line is read)
+        done = run("-m", "davgyuti", given=f"# \xe9\n\n{COOKIE_ACK}\nab\xe9\n{COOKIE_ACK}\n{COOKIE_ACK[:-1]}5\n")
+        self.assertEqual((done.stdout.count("\n"), done.returncode), (10, 2))
+        self.assertRegex(done.stderr, r"^python -m davgyuti: packet 2 isn't hexadecimal: 'ab(\\ufffd)+'\n$")
+        done = run("-m", "davgyuti", "--help")
         self.assertEqual((done.stderr, done.returncode), ("", 0))
         self.assertIn("--report", done.stdout)
-        self.assertEqual(run("-m", "dcsctp", "--version").stdout, f"dcsctp {dcsctp.__version__}\n")
-        self.assertEqual(run("-m", "dcsctp").stdout, "")
+        self.assertEqual(run("-m", "davgyuti", "--version").stdout, f"davgyuti {davgyuti.__version__}\n")
+        self.assertEqual(run("-m", "davgyuti").stdout, "")
+
+    @unittest.skipUnless(os.path.exists("/dev/full"), "there is no /dev/full")
+    def test_full(self) -> None:
+        words = [sys.executable, "-m", "davgyuti", COOKIE_ACK]
+        with open("/dev/full", "w") as full:
+            done = subprocess.run(words, stdout=full, stderr=subprocess.PIPE, text=True, env=environment())
+        self.assertEqual((done.stderr, done.returncode), ("python -m davgyuti: No space left on device\n", 2))
+
+    @unittest.skipUnless(hasattr(os, "fork"), "no interrupt can be sent")
+    def test_interrupted(self) -> None:
+        with subprocess.Popen(
+            [sys.executable, "-m", "davgyuti"],
+            stdin=subprocess.PIPE,
+            stderr=subprocess.PIPE,
+            text=True,
+            env=environment(),
+            # (who started the tests may ignore it)
+            preexec_fn=lambda: signal.signal(signal.SIGINT, signal.SIG_DFL),
+        ) as process:
+            assert process.stdin and process.stderr
+            process.stdin.write("zz\n")
+            process.stdin.flush()
+            self.assertIn("packet 1", process.stderr.readline())
+            process.send_signal(signal.SIGINT)
+            self.assertEqual((process.wait(60), process.stderr.read()), (130, "python -m davgyuti: interrupted\n"))
 
     def test_show(self) -> None:
         done = run("show.py", "packets.txt")
@@ -87,12 +128,14 @@ class Program(unittest.TestCase):
 class Types(unittest.TestCase):
     def test_are_found(self) -> None:
         # (PEP 561)
-        self.assertTrue(os.path.isfile(os.path.join(os.path.dirname(dcsctp.__file__), "py.typed")))
+        self.assertTrue(os.path.isfile(os.path.join(os.path.dirname(davgyuti.__file__), "py.typed")))
 
     def test_mypy(self) -> None:
-        if run("-c", "import mypy").returncode:
+        mypy = shutil.which("mypy")
+        if not mypy:
             self.skipTest("mypy isn't installed")
-        done = run("-m", "mypy", "--strict", "--cache-dir", os.devnull, os.path.dirname(dcsctp.__file__))
+        words = [mypy, "--strict", "--cache-dir", os.devnull, os.path.dirname(davgyuti.__file__)]
+        done = subprocess.run(words, capture_output=True, text=True)
         self.assertEqual(done.returncode, 0, done.stdout + done.stderr)
 
 

@@ -1,10 +1,14 @@
+# SPDX-License-Identifier: Apache-2.0
 """Threads that read and write at once, also by one builder."""
 
+import os
+import signal
 import threading
+import time
 import unittest
 from collections.abc import Callable
 
-import dcsctp
+import davgyuti
 from support import packets
 
 THREADS = 8
@@ -31,12 +35,12 @@ def at_once(work: Callable[[int], None]) -> list[BaseException]:
 class Threads(unittest.TestCase):
     def test_reading(self) -> None:
         known = packets()[:15]
-        expected = [(dcsctp.text(it), dcsctp.report(it), dcsctp.canonical(it), [*dcsctp.chunks(it)]) for it in known]
+        expected = [(davgyuti.text(it), davgyuti.report(it), davgyuti.canonical(it), [*davgyuti.chunks(it)]) for it in known]
 
         def work(number: int) -> None:
             for _ in range(20):
                 for data, answers in zip(known, expected):
-                    packet = dcsctp.Packet(data)
+                    packet = davgyuti.Packet(data)
                     found = (packet.text(), packet.report(), packet.canonical(), [*packet])
                     if found != answers:
                         raise AssertionError(data.hex())
@@ -44,31 +48,92 @@ class Threads(unittest.TestCase):
         self.assertEqual(at_once(work), [])
 
     def test_one_builder(self) -> None:
-        builder = dcsctp.PacketBuilder(1, 2, 3)
+        builder = davgyuti.PacketBuilder(1, 2, 3)
 
         def work(number: int) -> None:
             for _ in range(100):
-                builder.add(dcsctp.OperationError((dcsctp.NoUserData(number), dcsctp.NoUserData(number))))
+                builder.add(davgyuti.OperationError((davgyuti.NoUserData(number), davgyuti.NoUserData(number))))
 
         self.assertEqual(at_once(work), [])
-        chunks = dcsctp.Packet(builder.seal()).chunks()
+        chunks = davgyuti.Packet(builder.seal()).chunks()
         self.assertEqual(len(chunks), 100 * THREADS)
         for number in range(THREADS):
-            chunk = dcsctp.OperationError((dcsctp.NoUserData(number), dcsctp.NoUserData(number)))
+            chunk = davgyuti.OperationError((davgyuti.NoUserData(number), davgyuti.NoUserData(number)))
             self.assertEqual(chunks.count(chunk), 100)
 
+    def test_list_of_one_builder(self) -> None:
+        builder, added = davgyuti.PacketBuilder(1, 2, 3), threading.Event()
+        begun, kept = threading.Barrier(2), davgyuti.Shutdown(7)
+
+        def work() -> None:
+            begun.wait()
+            builder.add(kept)
+            added.set()
+
+        thread = threading.Thread(target=work)
+        thread.start()
+        with self.assertRaises(davgyuti.BadPlace), builder.error() as error:
+            error.cause(davgyuti.NoUserData(1))
+            begun.wait()
+            added.wait()
+            error.cause(davgyuti.NoUserData(2))
+        thread.join()
+        # (what the other thread added is not taken back)
+        chunks = davgyuti.Packet(builder.seal()).chunks()
+        self.assertEqual(chunks, (davgyuti.OperationError((davgyuti.NoUserData(1),)), kept))
+
     def test_one_builder_that_is_full(self) -> None:
-        builder = dcsctp.PacketBuilder(1, 2, 3, limit=16 + 8 * 200)
+        builder = davgyuti.PacketBuilder(1, 2, 3, limit=16 + 8 * 200)
 
         def work(number: int) -> None:
             for _ in range(1000):
                 try:
                     builder.shutdown(number)
-                except dcsctp.NoRoom:
+                except davgyuti.NoRoom:
                     pass
 
         self.assertEqual(at_once(work), [])
-        self.assertEqual(len(dcsctp.Packet(builder.seal()).chunks()), 200)
+        self.assertEqual(len(davgyuti.Packet(builder.seal()).chunks()), 200)
+
+    @unittest.skipUnless(hasattr(os, "fork"), "there is no fork")
+    def test_forked_child(self) -> None:
+        (data, *_), done = packets(), threading.Event()
+
+        def child() -> None:
+            packet = davgyuti.Packet(data)
+            builder = davgyuti.PacketBuilder(1, 2, 3)
+            for chunk in packet:
+                builder.add(chunk)
+            ends_well = packet.report() and davgyuti.first_fault(builder.seal()) is None
+            os._exit(not ends_well)
+
+        def work() -> None:
+            while not done.is_set():
+                davgyuti.text(data), davgyuti.canonical(data)
+
+        threads = [threading.Thread(target=work) for _ in range(2)]
+        for it in threads:
+            it.start()
+        try:
+            for _ in range(20):
+                pid = os.fork()
+                if not pid:
+                    try:
+                        child()
+                    finally:
+                        os._exit(1)
+                status, end = (0, 0), time.monotonic() + 30
+                while status[0] == 0 and time.monotonic() < end:
+                    status = os.waitpid(pid, os.WNOHANG)
+                    time.sleep(0.001)
+                if status[0] == 0:
+                    os.kill(pid, signal.SIGKILL)
+                    os.waitpid(pid, 0)
+                self.assertEqual(status, (pid, 0))
+        finally:
+            done.set()
+            for it in threads:
+                it.join()
 
 
 if __name__ == "__main__":

@@ -1,24 +1,27 @@
+# SPDX-License-Identifier: Apache-2.0
 """What is said of a whole packet: faults, texts, the canonical packet."""
 
 import copy
 import pickle
 import unittest
+from unittest import mock
 
-import dcsctp
+import davgyuti
+from davgyuti import _reading
 from support import ANY_CHECKSUM, of_hex, packets
 
 COOKIE_ACK = of_hex("1388 1388 4d2df52d 67db78b5  0b 00 0004")
 
 
 class Check(unittest.TestCase):
-    def fault(self, data: bytes, policy: dcsctp.Policy = dcsctp.Policy()) -> tuple[dcsctp.Result, int] | None:
-        fault = dcsctp.first_fault(data, policy)
+    def fault(self, data: bytes, policy: davgyuti.Policy = davgyuti.Policy()) -> tuple[davgyuti.Result, int] | None:
+        fault = davgyuti.first_fault(data, policy)
         if fault is None:
-            dcsctp.check(data, policy)
-            self.assertEqual(bytes(dcsctp.Packet(data, policy)), data)
+            davgyuti.check(data, policy)
+            self.assertEqual(bytes(davgyuti.Packet(data, policy)), data)
             return None
-        for function in (dcsctp.check, dcsctp.Packet, dcsctp.canonical, dcsctp.text, dcsctp.report):
-            with self.subTest(function.__name__), self.assertRaises(dcsctp.Fault) as caught:
+        for function in (davgyuti.check, davgyuti.Packet, davgyuti.canonical, davgyuti.text, davgyuti.report):
+            with self.subTest(function.__name__), self.assertRaises(davgyuti.Fault) as caught:
                 function(data, policy)
             self.assertEqual((caught.exception.code, caught.exception.offset), (fault.code, fault.offset))
         return fault.code, fault.offset
@@ -28,52 +31,53 @@ class Check(unittest.TestCase):
             self.assertIsNone(self.fault(data))
 
     def test_size(self) -> None:
-        self.assertEqual(self.fault(b""), (dcsctp.Result.FAULT_SIZE, 0))
-        self.assertEqual(self.fault(COOKIE_ACK[:15]), (dcsctp.Result.FAULT_SIZE, 15))
-        self.assertEqual(self.fault(COOKIE_ACK + bytes(65520)), (dcsctp.Result.FAULT_SIZE, 65535))
+        self.assertEqual(self.fault(b""), (davgyuti.Result.FAULT_SIZE, 0))
+        self.assertEqual(self.fault(COOKIE_ACK[:15]), (davgyuti.Result.FAULT_SIZE, 15))
+        self.assertEqual(self.fault(COOKIE_ACK + bytes(65520)), (davgyuti.Result.FAULT_SIZE, 65535))
 
     def test_checksum(self) -> None:
         data = COOKIE_ACK[:8] + bytes(4) + COOKIE_ACK[12:]
-        self.assertEqual(self.fault(data), (dcsctp.Result.FAULT_CHECKSUM, 8))
-        self.assertIsNone(self.fault(data, dcsctp.Policy(zero_checksum=True)))
+        self.assertEqual(self.fault(data), (davgyuti.Result.FAULT_CHECKSUM, 8))
+        self.assertIsNone(self.fault(data, davgyuti.Policy(zero_checksum=True)))
         self.assertIsNone(self.fault(data, ANY_CHECKSUM))
 
     def test_length(self) -> None:
-        data = dcsctp.seal(COOKIE_ACK + of_hex("0b 00 0005"))
-        self.assertEqual(self.fault(data), (dcsctp.Result.FAULT_LENGTH, 16))
+        data = davgyuti.seal(COOKIE_ACK + of_hex("0b 00 0005"))
+        self.assertEqual(self.fault(data), (davgyuti.Result.FAULT_LENGTH, 16))
 
     def test_value(self) -> None:
-        data = dcsctp.seal(COOKIE_ACK + of_hex("82 00 0010  0010 000c 00000001 00000007"))
-        self.assertEqual(self.fault(data), (dcsctp.Result.FAULT_VALUE, 20))
+        data = davgyuti.seal(COOKIE_ACK + of_hex("82 00 0010  0010 000c 00000001 00000007"))
+        self.assertEqual(self.fault(data), (davgyuti.Result.FAULT_VALUE, 20))
 
     def test_padding(self) -> None:
-        data = dcsctp.seal(COOKIE_ACK[:12] + of_hex("0a 00 0005  61 00 01 00"))
+        data = davgyuti.seal(COOKIE_ACK[:12] + of_hex("0a 00 0005  61 00 01 00"))
         self.assertIsNone(self.fault(data))
-        self.assertEqual(self.fault(data, dcsctp.Policy(strict_padding=True)), (dcsctp.Result.FAULT_PADDING, 18))
+        self.assertEqual(self.fault(data, davgyuti.Policy(strict_padding=True)), (davgyuti.Result.FAULT_PADDING, 18))
 
     def test_own_word(self) -> None:
-        word = dcsctp.word(COOKIE_ACK)
+        word = davgyuti.word(COOKIE_ACK)
         self.assertEqual(word, 0x67DB78B5)
-        dcsctp.check(COOKIE_ACK, word=word)
-        self.assertEqual(dcsctp.Packet(COOKIE_ACK, word=word).word, word)
+        davgyuti.check(COOKIE_ACK, word=word)
+        self.assertEqual(davgyuti.Packet(COOKIE_ACK, word=word).word, word)
         for wrong in (0, word ^ 1):
-            fault = dcsctp.first_fault(COOKIE_ACK, word=wrong)
+            fault = davgyuti.first_fault(COOKIE_ACK, word=wrong)
             assert fault
-            self.assertEqual(fault.code, dcsctp.Result.FAULT_CHECKSUM)
+            self.assertEqual(fault.code, davgyuti.Result.FAULT_CHECKSUM)
         # A word of 0 is a word too.
         zero = COOKIE_ACK[:8] + bytes(4) + COOKIE_ACK[12:]
-        for function in (dcsctp.check, dcsctp.Packet, dcsctp.canonical, dcsctp.text, dcsctp.report):
+        for function in (davgyuti.check, davgyuti.Packet, davgyuti.canonical, davgyuti.text, davgyuti.report):
             function(zero, word=0)
-            with self.assertRaises(dcsctp.Fault):
+            with self.assertRaises(davgyuti.Fault):
                 function(COOKIE_ACK, word=0)
-        self.assertEqual(dcsctp.Packet(zero, word=0).text(), "source=5000 destination=5000 tag=1294857517 checksum=0\nCOOKIE-ACK")
+        text = "source=5000 destination=5000 tag=1294857517 checksum=0\nCOOKIE-ACK"
+        self.assertEqual(davgyuti.Packet(zero, word=0).text(), text)
         for outside in (-1, 2**32):
             with self.assertRaises(ValueError):
-                dcsctp.check(COOKIE_ACK, word=outside)
+                davgyuti.check(COOKIE_ACK, word=outside)
 
     def test_fault_says_what_and_where(self) -> None:
-        with self.assertRaises(dcsctp.Error) as caught:
-            dcsctp.Packet(b"abc")
+        with self.assertRaises(davgyuti.Error) as caught:
+            davgyuti.Packet(b"abc")
         fault = caught.exception
         self.assertEqual(str(fault), "not the size of a packet at byte 3")
         self.assertEqual(fault.text, "not the size of a packet")
@@ -82,43 +86,43 @@ class Check(unittest.TestCase):
 
     def test_kinds_of_bytes(self) -> None:
         for data in (bytearray(COOKIE_ACK), memoryview(COOKIE_ACK), memoryview(COOKIE_ACK * 2)[:16]):
-            self.assertEqual(bytes(dcsctp.Packet(data)), COOKIE_ACK)
-            self.assertEqual(dcsctp.word(data), 0x67DB78B5)
+            self.assertEqual(bytes(davgyuti.Packet(data)), COOKIE_ACK)
+            self.assertEqual(davgyuti.word(data), 0x67DB78B5)
         backwards = memoryview(COOKIE_ACK[::-1])[::-1]
-        self.assertEqual(dcsctp.text(backwards), dcsctp.text(COOKIE_ACK))
+        self.assertEqual(davgyuti.text(backwards), davgyuti.text(COOKIE_ACK))
         for wrong in ("abc", 16, None, [1, 2]):
             with self.assertRaises(TypeError):
-                dcsctp.check(wrong)  # type: ignore[arg-type]
+                davgyuti.check(wrong)  # type: ignore[arg-type]
 
     def test_bytes_are_copied(self) -> None:
         data = bytearray(COOKIE_ACK)
-        packet = dcsctp.Packet(data)
+        packet = davgyuti.Packet(data)
         data[:] = bytes(16)
-        self.assertEqual(packet.chunks(), (dcsctp.CookieAck(),))
+        self.assertEqual(packet.chunks(), (davgyuti.CookieAck(),))
 
 
 class Text(unittest.TestCase):
     def test_text(self) -> None:
         expected = "source=5000 destination=5000 tag=1294857517 checksum=1742436533\nCOOKIE-ACK"
-        self.assertEqual(dcsctp.text(COOKIE_ACK), expected)
-        self.assertEqual(dcsctp.Packet(COOKIE_ACK).text(), expected)
+        self.assertEqual(davgyuti.text(COOKIE_ACK), expected)
+        self.assertEqual(davgyuti.Packet(COOKIE_ACK).text(), expected)
 
     def test_report(self) -> None:
         expected = "source 5000, destination 5000, tag 0x4d2df52d\nchecksum 0x67db78b5: right\nCOOKIE ACK\n"
-        self.assertEqual(dcsctp.report(COOKIE_ACK), expected)
-        self.assertEqual(dcsctp.Packet(COOKIE_ACK).report(), expected)
+        self.assertEqual(davgyuti.report(COOKIE_ACK), expected)
+        self.assertEqual(davgyuti.Packet(COOKIE_ACK).report(), expected)
 
     def test_long(self) -> None:
-        builder = dcsctp.PacketBuilder(1, 2, 3)
+        builder = davgyuti.PacketBuilder(1, 2, 3)
         for _ in range(3000):
             builder.shutdown(7)
         data = builder.seal()
-        self.assertEqual(dcsctp.text(data).count("\n"), 3000)
-        self.assertEqual(dcsctp.report(data).count("\n"), 3002)
+        self.assertEqual(davgyuti.text(data).count("\n"), 3000)
+        self.assertEqual(davgyuti.report(data).count("\n"), 3002)
 
     def test_policy_is_kept(self) -> None:
         data = COOKIE_ACK[:8] + bytes(4) + COOKIE_ACK[12:]
-        packet = dcsctp.Packet(data, ANY_CHECKSUM)
+        packet = davgyuti.Packet(data, ANY_CHECKSUM)
         self.assertTrue(packet.text().startswith("source=5000"))
         self.assertEqual(packet.report().splitlines()[1], "checksum 0x00000000: zero")
         self.assertEqual(packet.canonical(), data)
@@ -127,25 +131,25 @@ class Text(unittest.TestCase):
 class Canonical(unittest.TestCase):
     def test_means_the_same(self) -> None:
         # (a COOKIE ECHO with flags that have no meaning, and other padding)
-        one = dcsctp.seal(COOKIE_ACK[:12] + of_hex("0a 00 0005  61 00 00 00"))
-        other = dcsctp.seal(COOKIE_ACK[:12] + of_hex("0a ff 0005  61 01 02 03"))
+        one = davgyuti.seal(COOKIE_ACK[:12] + of_hex("0a 00 0005  61 00 00 00"))
+        other = davgyuti.seal(COOKIE_ACK[:12] + of_hex("0a ff 0005  61 01 02 03"))
         expected = of_hex("1388 1388 4d2df52d 00000000  0a 00 0005  61 00 00 00")
-        self.assertEqual(dcsctp.canonical(one), expected)
-        self.assertEqual(dcsctp.Packet(other).canonical(), expected)
-        self.assertNotEqual(dcsctp.Packet(one), dcsctp.Packet(other))
+        self.assertEqual(davgyuti.canonical(one), expected)
+        self.assertEqual(davgyuti.Packet(other).canonical(), expected)
+        self.assertNotEqual(davgyuti.Packet(one), davgyuti.Packet(other))
 
     def test_padding_is_completed(self) -> None:
-        data = dcsctp.seal(COOKIE_ACK[:12] + of_hex("0a 00 0005  61"))
+        data = davgyuti.seal(COOKIE_ACK[:12] + of_hex("0a 00 0005  61"))
         self.assertEqual(len(data), 17)
-        self.assertEqual(len(dcsctp.canonical(data)), 20)
+        self.assertEqual(len(davgyuti.canonical(data)), 20)
 
     def test_too_long(self) -> None:
         chunk = of_hex("c8 00 fff3") + bytes(65519)
-        data = dcsctp.seal(COOKIE_ACK[:12] + chunk)
+        data = davgyuti.seal(COOKIE_ACK[:12] + chunk)
         self.assertEqual(len(data), 65535)
-        with self.assertRaises(dcsctp.TooLong) as caught:
-            dcsctp.canonical(data)
-        self.assertEqual(caught.exception.code, dcsctp.Result.TOO_LONG)
+        with self.assertRaises(davgyuti.TooLong) as caught:
+            davgyuti.canonical(data)
+        self.assertEqual(caught.exception.code, davgyuti.Result.TOO_LONG)
         self.assertEqual(str(caught.exception), "no canonical packet is as long")
 
 
@@ -153,43 +157,76 @@ class Change(unittest.TestCase):
     def test_seal(self) -> None:
         data = bytearray(COOKIE_ACK)
         data[8:12] = b"abcd"
-        self.assertEqual(dcsctp.seal(data), COOKIE_ACK)
+        self.assertEqual(davgyuti.seal(data), COOKIE_ACK)
         self.assertEqual(data[8:12], b"abcd")
 
     def test_set_tag(self) -> None:
-        data = dcsctp.set_tag(COOKIE_ACK, 0x01020304)
+        data = davgyuti.set_tag(COOKIE_ACK, 0x01020304)
         self.assertEqual(data, of_hex("1388 1388 01020304 67db78b5  0b 00 0004"))
-        self.assertIsNone(dcsctp.first_fault(dcsctp.seal(data)))
+        self.assertIsNone(davgyuti.first_fault(davgyuti.seal(data)))
         for wrong in (-1, 2**32):
             with self.assertRaises(ValueError):
-                dcsctp.set_tag(COOKIE_ACK, wrong)
+                davgyuti.set_tag(COOKIE_ACK, wrong)
 
     def test_too_short(self) -> None:
         for data in (b"", COOKIE_ACK[:11]):
-            with self.assertRaises(dcsctp.BadPlace) as caught:
-                dcsctp.seal(data)
-            self.assertEqual(caught.exception.code, dcsctp.Result.BAD_PLACE)
-            with self.assertRaises(dcsctp.WriteError):
-                dcsctp.set_tag(data, 1)
-        self.assertEqual(len(dcsctp.seal(bytes(12))), 12)
+            with self.assertRaises(davgyuti.BadPlace) as caught:
+                davgyuti.seal(data)
+            self.assertEqual(caught.exception.code, davgyuti.Result.BAD_PLACE)
+            with self.assertRaises(davgyuti.WriteError):
+                davgyuti.set_tag(data, 1)
+        self.assertEqual(len(davgyuti.seal(bytes(12))), 12)
+
+
+class Errors(unittest.TestCase):
+    def test_are_of_kinds_of_python(self) -> None:
+        for error in (davgyuti.Fault, davgyuti.TooLong, davgyuti.BadValue, davgyuti.BadPlace):
+            self.assertTrue(issubclass(error, davgyuti.Error) and issubclass(error, ValueError), error)
+        self.assertTrue(issubclass(davgyuti.NoRoom, davgyuti.WriteError) and issubclass(davgyuti.NoRoom, BufferError))
+        with self.assertRaises(ValueError):
+            davgyuti.Packet(b"")
+
+    def test_faults_are_values(self) -> None:
+        fault = davgyuti.Fault(davgyuti.Result.FAULT_SIZE, 3)
+        self.assertEqual({fault: 1}[davgyuti.first_fault(b"abc") or fault], 1)
+        self.assertEqual(davgyuti.first_fault(b"abc"), fault)
+        self.assertNotEqual(davgyuti.first_fault(b"ab"), fault)
+        self.assertNotEqual(davgyuti.Fault(davgyuti.Result.FAULT_LENGTH, 3), fault)
+        for error in (fault, davgyuti.NoRoom(davgyuti.Result.NO_ROOM, "why")):
+            self.assertEqual(str(pickle.loads(pickle.dumps(error))), str(error))
+
+    def test_policy(self) -> None:
+        with self.assertRaisesRegex(TypeError, "^any_checksum has to be a bool, and is 'no'$"):
+            davgyuti.Policy(any_checksum="no")  # type: ignore[arg-type]
+        for wrong in (None, True):
+            for function in (davgyuti.check, davgyuti.first_fault, davgyuti.canonical, davgyuti.text, davgyuti.Packet):
+                with self.assertRaisesRegex(TypeError, f"^policy has to be a Policy, and is {wrong}$"):
+                    function(COOKIE_ACK, wrong)  # type: ignore[arg-type]
 
 
 class Value(unittest.TestCase):
     def test_packet(self) -> None:
-        packet = dcsctp.Packet(COOKIE_ACK)
-        self.assertEqual(packet, dcsctp.Packet(bytearray(COOKIE_ACK)))
-        self.assertEqual({packet: 1}[dcsctp.Packet(COOKIE_ACK)], 1)
+        packet = davgyuti.Packet(COOKIE_ACK)
+        self.assertEqual(packet, davgyuti.Packet(bytearray(COOKIE_ACK)))
+        self.assertEqual({packet: 1}[davgyuti.Packet(COOKIE_ACK)], 1)
         self.assertEqual(len(packet), 16)
-        self.assertEqual(eval(repr(packet), {"Packet": dcsctp.Packet}), packet)
+        self.assertEqual(repr(packet), "<Packet from port 5000 to 5000, tag 0x4d2df52d, 16 bytes>")
         self.assertNotEqual(packet, COOKIE_ACK)
-        self.assertEqual(packet.header, dcsctp.Header(5000, 5000, 0x4D2DF52D, 0x67DB78B5))
+        self.assertEqual(packet.header, davgyuti.Header(5000, 5000, 0x4D2DF52D, 0x67DB78B5))
+
+    def test_iteration_reads_each_chunk_as_it_is_reached(self) -> None:
+        packet = davgyuti.Packet(davgyuti.seal(COOKIE_ACK + COOKIE_ACK[12:]))
+        with mock.patch("davgyuti._reading._chunk", side_effect=_reading._chunk) as read:
+            self.assertEqual(next(iter(packet)), davgyuti.CookieAck())
+            self.assertEqual(read.call_count, 1)
+            self.assertEqual((len(packet.chunks()), read.call_count), (2, 3))
 
     def test_values_are_frozen(self) -> None:
-        chunk = dcsctp.Shutdown(7)
+        chunk = davgyuti.Shutdown(7)
         with self.assertRaises(AttributeError):
             chunk.cumulative_tsn_ack = 8  # type: ignore[misc]
         self.assertFalse(hasattr(chunk, "__dict__"))
-        self.assertEqual(hash(chunk), hash(dcsctp.Shutdown(7)))
+        self.assertEqual(hash(chunk), hash(davgyuti.Shutdown(7)))
         self.assertEqual(pickle.loads(pickle.dumps(chunk)), chunk)
 
 

@@ -1,4 +1,5 @@
-"""Prints packets: `python -m dcsctp --help`."""
+# SPDX-License-Identifier: Apache-2.0
+"""Prints packets: `python -m davgyuti --help`."""
 
 import argparse
 import io
@@ -6,22 +7,22 @@ import os
 import sys
 from collections.abc import Iterator
 
-import dcsctp
+import davgyuti
 
 
-def lines(packet: dcsctp.Packet) -> Iterator[str]:
+def lines(packet: davgyuti.Packet) -> Iterator[str]:
     """What examples/expected.txt has of a packet: each chunk, and the text."""
     for (raw, items), chunk in zip(packet.raw_items(), packet, strict=True):
         yield f"  chunk {raw.type}, flags {raw.flags}, {len(raw.value)} bytes"
-        if isinstance(chunk, dcsctp.Data | dcsctp.IData):
-            ssn = chunk.ssn if isinstance(chunk, dcsctp.Data) else 0
-            mid, fsn = (chunk.mid, chunk.fsn) if isinstance(chunk, dcsctp.IData) else (0, 0)
+        if isinstance(chunk, davgyuti.Data | davgyuti.IData):
+            ssn = chunk.ssn if isinstance(chunk, davgyuti.Data) else 0
+            mid, fsn = (chunk.mid, chunk.fsn) if isinstance(chunk, davgyuti.IData) else (0, 0)
             yield (
                 f"    tsn {chunk.tsn}, stream {chunk.stream}, ssn {ssn}, mid {mid}, fsn {fsn}, ppid {chunk.ppid}, "
                 f"U {chunk.is_unordered:d}, B {chunk.is_beginning:d}, E {chunk.is_end:d}, I {chunk.immediate_ack:d}"
             )
             yield f"    payload {chunk.payload.hex()}"
-        if isinstance(chunk, dcsctp.Sack):
+        if isinstance(chunk, davgyuti.Sack):
             yield f"    cumulative tsn {chunk.cumulative_tsn_ack}, a_rwnd {chunk.a_rwnd}"
             yield "    blocks" + "".join(f" {block.start}-{block.end}" for block in chunk.blocks)
             yield "    duplicates" + "".join(f" {tsn}" for tsn in chunk.duplicates)
@@ -35,26 +36,31 @@ def standard_input() -> Iterator[str]:
         yield from (line for line in map(str.strip, file) if line and not line.startswith("#"))
 
 
+def complain(text: str) -> None:
+    print(f"python -m davgyuti: {text}", file=sys.stderr)
+
+
 def main() -> int:
     parser = argparse.ArgumentParser(
-        prog="python -m dcsctp",
+        prog="python -m davgyuti",
         description="Prints SCTP packets (RFC 9260): their chunks and a line of text for each, or the first fault.",
-        epilog="The status is 0 where all are packets, 1 where one has a fault, 2 for what isn't hexadecimal.",
+        epilog="The status is 0 where all are packets, 1 where one has a fault, 2 where one isn't hexadecimal, or where "
+        "reading or writing fails.",
     )
     parser.add_argument(
         "packets",
         metavar="PACKET",
         nargs="*",
-        help="in hexadecimal, blanks allowed; if there is none, each line of standard input is one, "
+        help="in hexadecimal, blanks allowed inside quotes; if there is none, each line of standard input is one, "
         "but for empty lines and those that begin with #",
     )
     parser.add_argument("--report", action="store_true", help="print all that a packet holds, as sctp_dump does")
     parser.add_argument("--any-checksum", action="store_true", help="accept every checksum")
     parser.add_argument("--zero-checksum", action="store_true", help="accept a checksum of zero (RFC 9653)")
     parser.add_argument("--strict-padding", action="store_true", help="refuse padding that is missing or not zero")
-    parser.add_argument("--version", action="version", version=f"dcsctp {dcsctp.__version__}")
+    parser.add_argument("--version", action="version", version=f"davgyuti {davgyuti.__version__}")
     options = parser.parse_args()
-    policy = dcsctp.Policy(
+    policy = davgyuti.Policy(
         any_checksum=options.any_checksum, zero_checksum=options.zero_checksum, strict_padding=options.strict_padding
     )
     if isinstance(sys.stdout, io.TextIOWrapper):
@@ -64,13 +70,15 @@ def main() -> int:
         try:
             data = bytes.fromhex(word)
         except ValueError:
-            parser.error(f"packet {number} isn't hexadecimal: {word[:40]!r}")
+            complain(f"packet {number} isn't hexadecimal: {word[:40]!a}")
+            status = 2
+            continue
         print(f"packet of {len(data)} bytes")
         try:
-            packet = dcsctp.Packet(data, policy)
-        except dcsctp.Fault as fault:
-            print(f"  fault {int(fault.code)} at byte {fault.offset}" + (f": {fault.text}" if options.report else ""))
-            status = 1
+            packet = davgyuti.Packet(data, policy)
+        except davgyuti.Fault as fault:
+            print(f"  fault {int(fault.code)} at byte {fault.offset}: {fault.text}")
+            status = max(status, 1)
             continue
         if options.report:
             print("".join(f"  {line}\n" for line in packet.report().splitlines()), end="")
@@ -83,7 +91,15 @@ def main() -> int:
 if __name__ == "__main__":
     try:
         sys.exit(main())
+    except KeyboardInterrupt:
+        complain("interrupted")
+        status = 130
     except BrokenPipeError:
-        # (What reads has had enough; Python would complain once more as it ends.)
-        os.dup2(os.open(os.devnull, os.O_WRONLY), sys.stdout.fileno())
-        sys.exit(1)
+        # (What reads has had enough.)
+        status = 1
+    except OSError as error:
+        complain(error.strerror or str(error))
+        status = 2
+    # (Python would complain once more as it ends, of what is left to be written.)
+    os.dup2(os.open(os.devnull, os.O_WRONLY), sys.stdout.fileno())
+    sys.exit(status)

@@ -1,10 +1,11 @@
+# SPDX-License-Identifier: Apache-2.0
 """Writing packets."""
 
 import threading
 from collections.abc import Callable, Iterable, Sequence
-from ctypes import byref, c_size_t, c_uint8, c_uint16, c_uint32
+from ctypes import byref, c_size_t, c_uint16, c_uint32
 from types import TracebackType
-from typing import Any, TypeVar
+from typing import Any, get_args
 
 from . import _library as c
 from . import _values as v
@@ -52,7 +53,7 @@ def _changed(function: Any, data: Buffer, *arguments: Any) -> bytes:
     packet = bytearray(to_bytes(data))
     code = function(start_of(packet), len(packet), *arguments)
     if code:
-        raise v.write_error(code)
+        raise v.write_error(code, f"fewer than 12 bytes: {len(packet)}")
     return bytes(packet)
 
 
@@ -99,8 +100,9 @@ class PacketBuilder:
 
     The values are written as they are: whether RFC 9260 lets them be sent, or `check` would accept the packet, isn't
     checked. A method that raises has changed nothing: NoRoom where the packet would have more bytes than the limit,
-    BadValue where the chunk would have more than 65,535, ValueError where a number has no place in its field. Any number
-    of threads may use one builder."""
+    BadValue where the chunk would have more than 65,535, ValueError where a number has no place in its field. Each call
+    is atomic, in any number of threads; but a list that is written call by call, by a ChunkWriter, belongs to one thread:
+    no other may add to the packet, or take a chunk back, until it is complete. `add` writes a whole list in one call."""
 
     def __init__(
         self, source_port: int, destination_port: int, verification_tag: int, *, limit: int = v.MAX_PACKET_SIZE
@@ -109,6 +111,8 @@ class PacketBuilder:
         self._limit = max(0, min(limit, v.MAX_PACKET_SIZE))
         self._packet = bytearray(min(self._limit, _SMALL))
         self._size = c_size_t()
+        # The token of the writer whose chunk is the packet's last one.
+        self._last: object = None
         # (C has to be alone with the packet and its size.)
         self._lock = threading.RLock()
         self._call(
@@ -118,7 +122,7 @@ class PacketBuilder:
             _u32(verification_tag, "verification_tag"),
         )
 
-    def _call(self, function: Any, *arguments: Any) -> None:
+    def _write(self, function: Any, *arguments: Any) -> None:
         with self._lock:
             while True:
                 code = function(start_of(self._packet), len(self._packet), byref(self._size), *arguments)
@@ -127,18 +131,24 @@ class PacketBuilder:
                 packet = bytearray(min(self._limit, 2 * len(self._packet)))
                 packet[: len(self._packet)] = self._packet
                 self._packet = packet
+            size = self._size.value
         if code:
-            raise v.write_error(code)
+            text = f"{v.Result(code).text}: {function.__name__.removeprefix('dcsctp_')}"
+            value = "".join(f" of {len(it)} bytes" for it in arguments if isinstance(it, bytes))
+            raise v.write_error(code, f"{text}{value}, after {size} of at most {self._limit}")
+
+    def _call(self, function: Any, *arguments: Any) -> None:
+        with self._lock:
+            self._write(function, *arguments)
+            self._last = None
 
     def _list(self, function: Any, *arguments: Any) -> "ChunkWriter":
         with self._lock:
             start = self._size.value
-            self._call(function, *arguments)
-            return ChunkWriter(self, start)
-
-    def _take_back(self, start: int) -> None:
-        with self._lock:
-            self._size.value = min(self._size.value, start)
+            self._write(function, *arguments)
+            writer = ChunkWriter(self, start)
+            self._last = writer._token
+            return writer
 
     # -- what was written
 
@@ -165,11 +175,11 @@ class PacketBuilder:
     def add(self, chunk: v.Chunk) -> None:
         """Adds a chunk of any kind, with its parameters or error causes: all of it, or nothing."""
         with self._lock:
-            start = len(self)
+            start, last = self._size.value, self._last
             try:
                 self._add(chunk)
             except BaseException:
-                self._take_back(start)
+                self._size.value, self._last = start, last
                 raise
 
     def _add(self, chunk: v.Chunk) -> None:
@@ -351,10 +361,10 @@ class PacketBuilder:
 
     def abort(self, reason: str | Buffer | None = None, *, tag_reflected: bool = False) -> "ChunkWriter":
         """Adds ABORT (RFC 9260 section 3.3.7), to which error causes can be added; with a reason it has the cause
-        User-Initiated Abort. BadValue where the bytes of the reason aren't UTF-8."""
+        User-Initiated Abort. BadValue where the reason isn't UTF-8, or can't be written in it."""
         if reason is None:
             return self.chunk(v.ChunkType.ABORT, int(bool(tag_reflected)))
-        encoded = reason.encode() if isinstance(reason, str) else reason
+        encoded = reason.encode(errors="surrogatepass") if isinstance(reason, str) else reason
         return self._list(functions.dcsctp_add_abort, bool(tag_reflected), *_bytes(encoded))
 
     def error(self) -> "ChunkWriter":
@@ -402,13 +412,13 @@ class PacketBuilder:
 
 class ChunkWriter:
     """Adds parameters or error causes to the packet's last chunk. In a `with` statement that ends by an exception the chunk
-    is taken back, with all that was added since.
+    is taken back; where it isn't the last one any more the packet is left as it is, and BadPlace is raised.
 
-    A method that raises has changed nothing: BadPlace where the chunk isn't the last one any more, and what the methods of
-    PacketBuilder raise."""
+    A method that raises has changed nothing: BadPlace where the chunk isn't the last one any more, be it that another was
+    added or that it was taken back, and what the methods of PacketBuilder raise. Let one thread at a time write a list."""
 
     def __init__(self, builder: PacketBuilder, start: int) -> None:
-        self._builder, self._start = builder, start
+        self._builder, self._start, self._token = builder, start, object()
 
     def __enter__(self) -> "ChunkWriter":
         return self
@@ -416,8 +426,18 @@ class ChunkWriter:
     def __exit__(
         self, kind: type[BaseException] | None, value: BaseException | None, traceback: TracebackType | None
     ) -> None:
-        if kind is not None:
-            self._builder._take_back(self._start)
+        builder = self._builder
+        with builder._lock:
+            if builder._last is self._token and kind is not None:
+                builder._last, builder._size.value = None, self._start
+            elif isinstance(value, Exception):
+                raise _not_last() from value
+
+    def _add(self, function: Any, *arguments: Any) -> None:
+        with self._builder._lock:
+            if self._builder._last is not self._token:
+                raise _not_last()
+            self._builder._write(function, self._start, *arguments)
 
     def _parameters(self, parameters: Iterable[v.Parameter]) -> None:
         for it in parameters:
@@ -428,15 +448,13 @@ class ChunkWriter:
             self.cause(it)
 
     def _item(self, type: int, value: Buffer = b"") -> None:
-        add = functions.dcsctp_add_parameter
-        self._builder._call(add, self._start, _u16(type, "type"), *_bytes(value))
+        self._add(functions.dcsctp_add_parameter, _u16(type, "type"), *_bytes(value))
 
     def _number(self, type: int, value: int, name: str) -> None:
-        self._builder._call(functions.dcsctp_add_number, self._start, type, _u32(value, name))
+        self._add(functions.dcsctp_add_number, type, _u32(value, name))
 
     def _re_config(self, values: c.ReConfig, streams: Iterable[int] = ()) -> None:
-        add = functions.dcsctp_add_re_config
-        self._builder._call(add, self._start, byref(values), *_numbers(c_uint16, _u16, streams, "a stream"))
+        self._add(functions.dcsctp_add_re_config, byref(values), *_numbers(c_uint16, _u16, streams, "a stream"))
 
     def parameter(self, parameter: v.Parameter) -> "ChunkWriter":
         """Adds a parameter (RFC 9260 section 3.2.1), and returns this."""
@@ -499,8 +517,7 @@ class ChunkWriter:
         """Adds an error cause (RFC 9260 section 3.3.10), and returns this."""
         match cause:
             case v.MissingMandatoryParameter():
-                types = _numbers(c_uint16, _u16, cause.types, "a type")
-                self._builder._call(functions.dcsctp_add_missing_parameters, self._start, *types)
+                self._add(functions.dcsctp_add_missing_parameters, *_numbers(c_uint16, _u16, cause.types, "a type"))
             case v.UnrecognizedChunk():
                 self._item(v.CauseCode.UNRECOGNIZED_CHUNK, cause.chunk)
             case v.NoUserData():
@@ -516,3 +533,22 @@ class ChunkWriter:
             case _:
                 raise TypeError(f"{type(cause).__name__} is no error cause")
         return self
+
+
+def _not_last() -> v.BadPlace:
+    return v.BadPlace(v.Result.BAD_PLACE, "the chunk isn't the packet's last one any more")
+
+
+def bytes_of(part: Any) -> bytes:
+    """A chunk, a parameter or an error cause as it is written, without padding."""
+    builder = PacketBuilder(0, 0, 0)
+    start = len(builder)
+    if isinstance(part, get_args(v.Chunk)):
+        builder.add(part)
+    else:
+        chunk = builder.chunk(0)
+        start = len(builder)
+        add: Any = chunk.parameter if isinstance(part, get_args(v.Parameter)) else chunk.cause
+        add(part)
+    data = bytes(builder)[start:]
+    return data[: int.from_bytes(data[2:4], "big")]

@@ -1,3 +1,4 @@
+# SPDX-License-Identifier: Apache-2.0
 """The functions and structs of dcsctp.h, by ctypes; tests/test_header.py compares them with it."""
 
 import ctypes
@@ -168,18 +169,21 @@ def _load() -> ctypes.CDLL:
         if os.path.exists(path):
             break
     else:
-        raise ImportError("dcsctp has no shared library here: install the package, by pip install bindings/python")
-    library = ctypes.CDLL(path)
+        raise ImportError("davgyuti has no shared library here: it has to be installed, by pip")
+    try:
+        library = ctypes.CDLL(path)
+    except OSError as error:
+        raise ImportError(f"{path} can't be loaded, and has to be installed again: {error}") from None
     try:
         for name, (result, *arguments) in FUNCTIONS.items():
             function = getattr(library, name)
             function.restype, function.argtypes = result, arguments
     except AttributeError as error:
-        raise ImportError(f"{path} is not the library of dcsctp {_text(VERSION)}: {error}") from None
+        raise ImportError(f"{path} is not the library of davgyuti {_text(VERSION)}: {error}") from None
     number = library.dcsctp_version_number()
     version = (number >> 16, number >> 8 & 255, number & 255)
     if version != VERSION:
-        raise ImportError(f"{path} is the library of dcsctp {_text(version)}, and this is {_text(VERSION)}")
+        raise ImportError(f"{path} is the library of davgyuti {_text(version)}, and this is {_text(VERSION)}")
     return library
 
 

@@ -1,19 +1,23 @@
+# SPDX-License-Identifier: Apache-2.0
 """The wire layer of SCTP (RFC 9260): reads, checks, prints and writes packets.
 
-    packet = dcsctp.Packet(data)  # raises Fault, with the place, unless the bytes are a packet
+    packet = davgyuti.Packet(data)  # raises Fault, with the place, unless the bytes are a packet
     for chunk in packet:
         match chunk:
-            case dcsctp.Data(stream=stream, payload=payload):
+            case davgyuti.Data(stream=stream, payload=payload):
                 ...
 
-    builder = dcsctp.PacketBuilder(5000, 5000, tag)
+    builder = davgyuti.PacketBuilder(5000, 5000, tag)
     with builder.init_ack(initiate_tag=1, a_rwnd=131072, outbound_streams=4, inbound_streams=4, initial_tsn=7) as chunk:
-        chunk.parameter(dcsctp.StateCookie(cookie))
+        chunk.parameter(davgyuti.StateCookie(cookie))
     data = builder.seal()
 
 Packets begin at the source port: at what follows the IP header, or that of UDP (RFC 6951). All numbers are plain values.
-The functions of the library are compiled from proved sources; dist/README.md says what is proved. This wrapper isn't
-proved. Any number of threads may call at once; in the forked child of a process with threads nothing may be called.
+Each chunk, parameter and error cause that was read has its `offset`; `bytes(it)` is how it is written, with its header, and
+of a RawChunk, RawParameter or RawCause also how it was read. Chunks and parameters have their `type`, causes their `code`.
+The functions of the library are compiled from proved sources; this wrapper isn't proved. Any number of threads may call at
+once; a list that is written call by call belongs to one thread at a time. In the forked child of a process with threads, `canonical` and `text` may not be called, nor a builder that another
+thread was using. A handler of `signal` may call everything but the methods of a builder that it may have interrupted.
 """
 
 from ._library import version_text as __version__

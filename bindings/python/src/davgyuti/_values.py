@@ -1,8 +1,9 @@
+# SPDX-License-Identifier: Apache-2.0
 """The values of a packet, and the errors."""
 
-from dataclasses import dataclass
+from dataclasses import dataclass, field, fields
 from enum import IntEnum
-from typing import NamedTuple, TypeAlias
+from typing import ClassVar, NamedTuple, TypeAlias
 
 MAX_PACKET_SIZE = 65532
 """The most bytes that a packet has that is written here: a multiple of 4, as each is."""
@@ -56,8 +57,8 @@ _RESULT_TEXTS = {
 
 
 class Error(Exception):
-    """What all errors of this package are, but those that Python has for it: ValueError for a number that has no place in
-    its field, MemoryError, TypeError."""
+    """What all errors of this package are, each also of a kind that Python has; but a number that has no place in its field
+    is a plain ValueError, and there are MemoryError and TypeError."""
 
     code: Result
     """Why."""
@@ -68,8 +69,8 @@ class Error(Exception):
         return self.code.text
 
 
-class Fault(Error):
-    """The bytes are no packet: the first fault, from the left."""
+class Fault(Error, ValueError):
+    """The bytes are no packet: the first fault, from the left. Those of the same code and offset are equal."""
 
     offset: int
     """Where: the offset of the chunk, the parameter or the error cause with a wrong length or value; 8 for a checksum; of
@@ -82,33 +83,41 @@ class Fault(Error):
     def __str__(self) -> str:
         return f"{self.text} at byte {self.offset}"
 
+    def __eq__(self, other: object) -> bool:
+        if not isinstance(other, Fault):
+            return NotImplemented
+        return (self.code, self.offset) == (other.code, other.offset)
+
+    def __hash__(self) -> int:
+        return hash((self.code, self.offset))
+
 
 class WriteError(Error):
-    """Nothing was written, and all is as it was before."""
+    """Nothing was written, and all is as it was before. `str` says what had no place, with its size where that is known."""
 
-    def __init__(self, code: Result) -> None:
-        super().__init__(code)
-        self.code = code
+    def __init__(self, code: Result, detail: str = "") -> None:
+        super().__init__(code, detail)
+        self.code, self._detail = code, detail
 
     def __str__(self) -> str:
-        return self.text
+        return self._detail or self.text
 
 
-class NoRoom(WriteError):
+class NoRoom(WriteError, BufferError):
     """The packet would have more bytes than the builder's limit. Begin the next packet with the chunk; one that has no
     room in a new packet never will."""
 
 
-class TooLong(WriteError):
+class TooLong(WriteError, ValueError):
     """The canonical packet would have more than 65,532 bytes."""
 
 
-class BadValue(WriteError):
+class BadValue(WriteError, ValueError):
     """A chunk would have more than 65,535 bytes, the reason of an abort isn't UTF-8, or a re-configuration's result is
     above 6."""
 
 
-class BadPlace(WriteError):
+class BadPlace(WriteError, ValueError):
     """The chunk isn't the packet's last one any more; or what is changed has fewer than 12 bytes."""
 
 
@@ -120,12 +129,19 @@ _WRITE_ERRORS = {
 }
 
 
-def write_error(code: int) -> WriteError:
+def write_error(code: int, detail: str = "") -> WriteError:
     result = Result(code)
-    return _WRITE_ERRORS[result](result)
+    return _WRITE_ERRORS[result](result, detail)
 
 
-class ChunkType(IntEnum):
+class _Numbers(IntEnum):
+    @classmethod
+    def is_known(cls, number: int) -> bool:
+        """Returns whether a member has this number."""
+        return number in cls._value2member_map_
+
+
+class ChunkType(_Numbers):
     """Types of chunks (RFC 9260 section 3.2)."""
 
     DATA = 0
@@ -147,7 +163,7 @@ class ChunkType(IntEnum):
     I_FORWARD_TSN = 194
 
 
-class ParameterType(IntEnum):
+class ParameterType(_Numbers):
     """Types of parameters (RFC 9260 section 3.2.1). UNRECOGNIZED_PARAMETER has no kind of its own here: it is a
     RawParameter, whose value is the parameter that wasn't recognized (section 3.3.3.1)."""
 
@@ -165,7 +181,7 @@ class ParameterType(IntEnum):
     FORWARD_TSN_SUPPORTED = 0xC000
 
 
-class CauseCode(IntEnum):
+class CauseCode(_Numbers):
     """Codes of error causes (RFC 9260 section 3.3.10). Those that have no kind of their own here are a RawCause."""
 
     INVALID_STREAM_IDENTIFIER = 1
@@ -246,24 +262,24 @@ _CAUSE_NAMES: dict[int, str] = {
 
 
 def chunk_name(chunk_type: int) -> str:
-    """Returns the name of a type of chunk as the RFCs write it; "unknown" for one that ChunkType doesn't have."""
-    return _CHUNK_NAMES.get(chunk_type, "unknown")
+    """Returns the name of a type of chunk as the RFCs write it; "chunk type 0x63" for one that ChunkType doesn't have."""
+    return _CHUNK_NAMES.get(chunk_type) or f"chunk type {chunk_type:#04x}"
 
 
 def parameter_name(parameter_type: int) -> str:
-    """Returns the name of a type of parameter; "unknown" for one that ParameterType doesn't have."""
-    return _PARAMETER_NAMES.get(parameter_type, "unknown")
+    """Returns the name of a type of parameter; "parameter type 0x8002" for one that ParameterType doesn't have."""
+    return _PARAMETER_NAMES.get(parameter_type) or f"parameter type {parameter_type:#06x}"
 
 
 def cause_name(code: int) -> str:
-    """Returns the name of an error cause; "unknown" for a code that CauseCode doesn't have."""
-    return _CAUSE_NAMES.get(code, "unknown")
+    """Returns the name of an error cause; "cause code 0x0105" for a code that CauseCode doesn't have."""
+    return _CAUSE_NAMES.get(code) or f"cause code {code:#06x}"
 
 
 @dataclass(frozen=True, slots=True, kw_only=True)
 class Policy:
     """Which checksum fields are accepted, and whether padding is checked. By default, as for a socket, the field has to be
-    the word, and padding is ignored."""
+    the word, and padding is ignored. Each is a bool: for all else, such as "no", there is a TypeError."""
 
     any_checksum: bool = False
     """Accepts every checksum field: for captures whose checksums a network card filled in later."""
@@ -271,6 +287,12 @@ class Policy:
     """Accepts a field of zero as well (RFC 9653), on INIT and COOKIE ECHO too, which have to have a CRC32c."""
     strict_padding: bool = False
     """Padding has to be complete and zero: for a filter that refuses bytes hidden in it (RFC 9260 section 3.2)."""
+
+    def __post_init__(self) -> None:
+        for it in fields(self):
+            value = getattr(self, it.name)
+            if not isinstance(value, bool):
+                raise TypeError(f"{it.name} has to be a bool, and is {value!r}")
 
 
 @dataclass(frozen=True, slots=True)
@@ -306,11 +328,27 @@ class SkippedIStream(NamedTuple):
     is_unordered: bool = False
 
 
+@dataclass(frozen=True, slots=True)
+class _Part:
+    """What a chunk, a parameter and an error cause have."""
+
+    offset: int | None = field(default=None, compare=False, repr=False, kw_only=True)
+    """Where its type is, in the bytes that it was read from; None if it wasn't read. It doesn't matter to `==`, nor to
+    what is written."""
+
+    def __bytes__(self) -> bytes:
+        """Its bytes as it is written, header included, without the padding after it. Those of a RawChunk, a RawParameter and
+        a RawCause that were read are as they were. Raises what PacketBuilder raises for it."""
+        from ._writing import bytes_of  # (which needs this module first)
+
+        return bytes_of(self)
+
+
 # ---- parameters
 
 
 @dataclass(frozen=True, slots=True)
-class RawParameter:
+class RawParameter(_Part):
     """A parameter as it is (RFC 9260 section 3.2.1): of a type that has no kind of its own here, or whose value isn't one
     of its kind, which a packet that was checked doesn't have."""
 
@@ -319,23 +357,26 @@ class RawParameter:
 
 
 @dataclass(frozen=True, slots=True)
-class HeartbeatInfo:
+class HeartbeatInfo(_Part):
     """Heartbeat Info, type 1 (RFC 9260 section 3.3.5)."""
 
+    type: ClassVar[ParameterType] = ParameterType.HEARTBEAT_INFO
     info: bytes
 
 
 @dataclass(frozen=True, slots=True)
-class StateCookie:
+class StateCookie(_Part):
     """State Cookie, type 7 (RFC 9260 section 3.3.3.1)."""
 
+    type: ClassVar[ParameterType] = ParameterType.STATE_COOKIE
     cookie: bytes
 
 
 @dataclass(frozen=True, slots=True)
-class OutgoingSsnReset:
+class OutgoingSsnReset(_Part):
     """Outgoing SSN Reset Request, type 13 (RFC 6525 section 4.1). Without streams it is for all of them."""
 
+    type: ClassVar[ParameterType] = ParameterType.OUTGOING_SSN_RESET
     request_number: int
     response_number: int
     """The number of the Incoming SSN Reset Request that it answers, or else of the last request that came."""
@@ -345,17 +386,19 @@ class OutgoingSsnReset:
 
 
 @dataclass(frozen=True, slots=True)
-class IncomingSsnReset:
+class IncomingSsnReset(_Part):
     """Incoming SSN Reset Request, type 14 (RFC 6525 section 4.2). Without streams it is for all of them."""
 
+    type: ClassVar[ParameterType] = ParameterType.INCOMING_SSN_RESET
     request_number: int
     streams: tuple[int, ...] = ()
 
 
 @dataclass(frozen=True, slots=True)
-class SsnTsnReset:
+class SsnTsnReset(_Part):
     """SSN/TSN Reset Request, type 15 (RFC 6525 section 4.3)."""
 
+    type: ClassVar[ParameterType] = ParameterType.SSN_TSN_RESET
     request_number: int
 
 
@@ -368,9 +411,10 @@ class NextTsns:
 
 
 @dataclass(frozen=True, slots=True)
-class ReConfigResponse:
+class ReConfigResponse(_Part):
     """Re-configuration Response, type 16 (RFC 6525 section 4.4)."""
 
+    type: ClassVar[ParameterType] = ParameterType.RECONFIGURATION_RESPONSE
     response_number: int
     """The number of the request that it answers."""
     result: ReConfigResult
@@ -378,42 +422,48 @@ class ReConfigResponse:
 
 
 @dataclass(frozen=True, slots=True)
-class AddOutgoingStreams:
+class AddOutgoingStreams(_Part):
     """Add Outgoing Streams Request, type 17 (RFC 6525 section 4.5)."""
 
+    type: ClassVar[ParameterType] = ParameterType.ADD_OUTGOING_STREAMS
     request_number: int
     new_streams: int
     """How many."""
 
 
 @dataclass(frozen=True, slots=True)
-class AddIncomingStreams:
+class AddIncomingStreams(_Part):
     """Add Incoming Streams Request, type 18 (RFC 6525 section 4.6)."""
 
+    type: ClassVar[ParameterType] = ParameterType.ADD_INCOMING_STREAMS
     request_number: int
     new_streams: int
     """How many."""
 
 
 @dataclass(frozen=True, slots=True)
-class ZeroChecksumAcceptable:
+class ZeroChecksumAcceptable(_Part):
     """Zero Checksum Acceptable, type 0x8001 (RFC 9653 section 4)."""
 
+    type: ClassVar[ParameterType] = ParameterType.ZERO_CHECKSUM_ACCEPTABLE
     method: int
     """The error detection method; 1 is DTLS."""
 
 
 @dataclass(frozen=True, slots=True)
-class SupportedExtensions:
+class SupportedExtensions(_Part):
     """Supported Extensions, type 0x8008 (RFC 5061 section 4.2.7)."""
 
+    type: ClassVar[ParameterType] = ParameterType.SUPPORTED_EXTENSIONS
     chunk_types: bytes
     """A type of chunk in each byte."""
 
 
 @dataclass(frozen=True, slots=True)
-class ForwardTsnSupported:
+class ForwardTsnSupported(_Part):
     """Forward-TSN-Supported, type 0xC000 (RFC 3758 section 3.1)."""
+
+    type: ClassVar[ParameterType] = ParameterType.FORWARD_TSN_SUPPORTED
 
 
 Parameter: TypeAlias = (
@@ -435,7 +485,7 @@ Parameter: TypeAlias = (
 
 
 @dataclass(frozen=True, slots=True)
-class RawCause:
+class RawCause(_Part):
     """An error cause as it is (RFC 9260 section 3.3.10): of a code that has no kind of its own here, or whose value isn't
     one of its kind, which a packet that was checked doesn't have."""
 
@@ -444,45 +494,52 @@ class RawCause:
 
 
 @dataclass(frozen=True, slots=True)
-class MissingMandatoryParameter:
+class MissingMandatoryParameter(_Part):
     """Missing Mandatory Parameter, code 2 (RFC 9260 section 3.3.10.2)."""
 
+    code: ClassVar[CauseCode] = CauseCode.MISSING_MANDATORY_PARAMETER
     types: tuple[int, ...]
     """The types of the parameters that are missing."""
 
 
 @dataclass(frozen=True, slots=True)
-class UnrecognizedChunk:
+class UnrecognizedChunk(_Part):
     """Unrecognized Chunk Type, code 6 (RFC 9260 section 3.3.10.6)."""
 
+    code: ClassVar[CauseCode] = CauseCode.UNRECOGNIZED_CHUNK
     chunk: bytes
     """The chunk, with its header."""
 
 
 @dataclass(frozen=True, slots=True)
-class NoUserData:
+class NoUserData(_Part):
     """No User Data, code 9 (RFC 9260 section 3.3.10.9)."""
 
+    code: ClassVar[CauseCode] = CauseCode.NO_USER_DATA
     tsn: int
 
 
 @dataclass(frozen=True, slots=True)
-class CookieReceivedWhileShuttingDown:
+class CookieReceivedWhileShuttingDown(_Part):
     """Cookie Received While Shutting Down, code 10 (RFC 9260 section 3.3.10.10)."""
+
+    code: ClassVar[CauseCode] = CauseCode.COOKIE_RECEIVED_WHILE_SHUTTING_DOWN
 
 
 @dataclass(frozen=True, slots=True)
-class UserInitiatedAbort:
+class UserInitiatedAbort(_Part):
     """User-Initiated Abort, code 12 (RFC 9260 section 3.3.10.12)."""
 
+    code: ClassVar[CauseCode] = CauseCode.USER_INITIATED_ABORT
     reason: bytes
     """Of the upper layer; what was received need not be UTF-8."""
 
 
 @dataclass(frozen=True, slots=True)
-class ProtocolViolation:
+class ProtocolViolation(_Part):
     """Protocol Violation, code 13 (RFC 9260 section 3.3.10.13)."""
 
+    code: ClassVar[CauseCode] = CauseCode.PROTOCOL_VIOLATION
     information: bytes
     """What was received need not be UTF-8."""
 
@@ -501,7 +558,7 @@ Cause: TypeAlias = (
 
 
 @dataclass(frozen=True, slots=True)
-class RawChunk:
+class RawChunk(_Part):
     """A chunk as it is (RFC 9260 section 3.2): of a type that has no kind of its own here, or whose value isn't one of its
     kind, which a packet that was checked doesn't have."""
 
@@ -511,9 +568,10 @@ class RawChunk:
 
 
 @dataclass(frozen=True, slots=True, kw_only=True)
-class Data:
+class Data(_Part):
     """DATA, type 0 (RFC 9260 section 3.3.1): user data, by default a whole message."""
 
+    type: ClassVar[ChunkType] = ChunkType.DATA
     tsn: int
     stream: int
     ssn: int
@@ -530,9 +588,10 @@ class Data:
 
 
 @dataclass(frozen=True, slots=True, kw_only=True)
-class IData:
+class IData(_Part):
     """I-DATA, type 64 (RFC 8260 section 2.1): user data, by default a whole message."""
 
+    type: ClassVar[ChunkType] = ChunkType.I_DATA
     tsn: int
     stream: int
     mid: int
@@ -552,9 +611,10 @@ class IData:
 
 
 @dataclass(frozen=True, slots=True)
-class Init:
+class Init(_Part):
     """INIT, type 1 (RFC 9260 section 3.3.2)."""
 
+    type: ClassVar[ChunkType] = ChunkType.INIT
     initiate_tag: int
     a_rwnd: int
     outbound_streams: int
@@ -564,9 +624,10 @@ class Init:
 
 
 @dataclass(frozen=True, slots=True)
-class InitAck:
+class InitAck(_Part):
     """INIT ACK, type 2 (RFC 9260 section 3.3.3). It has to have a State Cookie, and may lack it in what was received."""
 
+    type: ClassVar[ChunkType] = ChunkType.INIT_ACK
     initiate_tag: int
     a_rwnd: int
     outbound_streams: int
@@ -576,9 +637,10 @@ class InitAck:
 
 
 @dataclass(frozen=True, slots=True)
-class Sack:
+class Sack(_Part):
     """SACK, type 3 (RFC 9260 section 3.3.4). The blocks may be in any order: see validate_sack."""
 
+    type: ClassVar[ChunkType] = ChunkType.SACK
     cumulative_tsn_ack: int
     a_rwnd: int
     blocks: tuple[GapAckBlock, ...] = ()
@@ -587,23 +649,26 @@ class Sack:
 
 
 @dataclass(frozen=True, slots=True)
-class Heartbeat:
+class Heartbeat(_Part):
     """HEARTBEAT, type 4 (RFC 9260 section 3.3.5)."""
 
+    type: ClassVar[ChunkType] = ChunkType.HEARTBEAT
     parameters: tuple[Parameter, ...] = ()
 
 
 @dataclass(frozen=True, slots=True)
-class HeartbeatAck:
+class HeartbeatAck(_Part):
     """HEARTBEAT ACK, type 5 (RFC 9260 section 3.3.6)."""
 
+    type: ClassVar[ChunkType] = ChunkType.HEARTBEAT_ACK
     parameters: tuple[Parameter, ...] = ()
 
 
 @dataclass(frozen=True, slots=True)
-class Abort:
+class Abort(_Part):
     """ABORT, type 6 (RFC 9260 section 3.3.7)."""
 
+    type: ClassVar[ChunkType] = ChunkType.ABORT
     causes: tuple[Cause, ...] = ()
     tag_reflected: bool = False
     """The T bit: the verification tag isn't the one that the receiver expects, but the one that it writes into its own
@@ -611,64 +676,75 @@ class Abort:
 
 
 @dataclass(frozen=True, slots=True)
-class Shutdown:
+class Shutdown(_Part):
     """SHUTDOWN, type 7 (RFC 9260 section 3.3.8)."""
 
+    type: ClassVar[ChunkType] = ChunkType.SHUTDOWN
     cumulative_tsn_ack: int
 
 
 @dataclass(frozen=True, slots=True)
-class ShutdownAck:
+class ShutdownAck(_Part):
     """SHUTDOWN ACK, type 8 (RFC 9260 section 3.3.9)."""
+
+    type: ClassVar[ChunkType] = ChunkType.SHUTDOWN_ACK
 
 
 @dataclass(frozen=True, slots=True)
-class OperationError:
+class OperationError(_Part):
     """ERROR, type 9 (RFC 9260 section 3.3.10)."""
 
+    type: ClassVar[ChunkType] = ChunkType.ERROR
     causes: tuple[Cause, ...]
 
 
 @dataclass(frozen=True, slots=True)
-class CookieEcho:
+class CookieEcho(_Part):
     """COOKIE ECHO, type 10 (RFC 9260 section 3.3.11)."""
 
+    type: ClassVar[ChunkType] = ChunkType.COOKIE_ECHO
     cookie: bytes
 
 
 @dataclass(frozen=True, slots=True)
-class CookieAck:
+class CookieAck(_Part):
     """COOKIE ACK, type 11 (RFC 9260 section 3.3.12)."""
+
+    type: ClassVar[ChunkType] = ChunkType.COOKIE_ACK
 
 
 @dataclass(frozen=True, slots=True)
-class ShutdownComplete:
+class ShutdownComplete(_Part):
     """SHUTDOWN COMPLETE, type 14 (RFC 9260 section 3.3.13)."""
 
+    type: ClassVar[ChunkType] = ChunkType.SHUTDOWN_COMPLETE
     tag_reflected: bool = False
     """The T bit: the verification tag isn't the one that the receiver expects, but the one that it writes into its own
     packets, sent back to it (section 8.5.1)."""
 
 
 @dataclass(frozen=True, slots=True)
-class ReConfig:
+class ReConfig(_Part):
     """RE-CONFIG, type 130 (RFC 6525 section 3.1)."""
 
+    type: ClassVar[ChunkType] = ChunkType.RE_CONFIG
     parameters: tuple[Parameter, ...] = ()
 
 
 @dataclass(frozen=True, slots=True)
-class ForwardTsn:
+class ForwardTsn(_Part):
     """FORWARD-TSN, type 192 (RFC 3758 section 3.2)."""
 
+    type: ClassVar[ChunkType] = ChunkType.FORWARD_TSN
     new_cumulative_tsn: int
     streams: tuple[SkippedStream, ...] = ()
 
 
 @dataclass(frozen=True, slots=True)
-class IForwardTsn:
+class IForwardTsn(_Part):
     """I-FORWARD-TSN, type 194 (RFC 8260 section 2.3.1)."""
 
+    type: ClassVar[ChunkType] = ChunkType.I_FORWARD_TSN
     new_cumulative_tsn: int
     streams: tuple[SkippedIStream, ...] = ()
 

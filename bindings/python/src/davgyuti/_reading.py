@@ -1,3 +1,4 @@
+# SPDX-License-Identifier: Apache-2.0
 """Reading packets."""
 
 import ctypes
@@ -5,15 +6,16 @@ import operator
 from collections.abc import Callable, Iterator
 from ctypes import byref, c_size_t, c_uint8, c_uint16, c_uint32
 from itertools import count
-from typing import Any, TypeAlias
+from typing import Any, TypeAlias, TypeVar
 
 from . import _library as c
 from . import _values as v
 from ._library import functions
 
 Buffer: TypeAlias = bytes | bytearray | memoryview
-"""What holds bytes. Those of a bytearray or a memoryview are copied first, so that no other thread changes them."""
+"""What holds bytes. Those of a bytearray or a memoryview are copied first, in each call, so that no other thread changes them."""
 
+_P = TypeVar("_P")
 _FIRST_CHUNK = 12
 _DEFAULT = v.Policy()
 
@@ -40,7 +42,9 @@ def start_of(buffer: bytearray) -> Any:
 
 def _arguments(data: bytes, policy: v.Policy, word: int | None) -> tuple[Any, ...]:
     right = functions.dcsctp_word(data, len(data)) if word is None else number(word, 0xFFFFFFFF, "word")
-    flags = c.Policy(bool(policy.any_checksum), bool(policy.zero_checksum), bool(policy.strict_padding))
+    if not isinstance(policy, v.Policy):
+        raise TypeError(f"policy has to be a Policy, and is {policy!r}")
+    flags = c.Policy(policy.any_checksum, policy.zero_checksum, policy.strict_padding)
     return data, len(data), right, byref(flags)
 
 
@@ -83,7 +87,7 @@ def check(data: Buffer, policy: v.Policy = _DEFAULT, *, word: int | None = None)
 
 
 def first_fault(data: Buffer, policy: v.Policy = _DEFAULT, *, word: int | None = None) -> v.Fault | None:
-    """Returns the first fault, from the left, or None for a packet; raises nothing."""
+    """Returns the first fault, from the left, or None for a packet; raises no Fault."""
     return _first_fault(_arguments(to_bytes(data), policy, word))
 
 
@@ -122,7 +126,7 @@ def header(data: Buffer) -> v.Header:
 def raw_chunks(data: Buffer) -> Iterator[v.RawChunk]:
     """Returns the chunks of bytes that need not be a packet, as they are, up to where there is no whole one."""
     data = to_bytes(data)
-    return (v.RawChunk(it.type, it.flags, _value(data, it)) for it in _chunks(data))
+    return (_raw_chunk(data, it) for it in _chunks(data))
 
 
 def chunks(data: Buffer) -> Iterator[v.Chunk]:
@@ -137,15 +141,14 @@ def raw_items(data: Buffer) -> Iterator[tuple[v.RawChunk, tuple[v.RawParameter, 
     are; of a cause the code is the type."""
     data = to_bytes(data)
     for chunk in _chunks(data):
-        items = tuple(v.RawParameter(it.type, _value(data, it)) for it in _items(data, chunk))
-        yield v.RawChunk(chunk.type, chunk.flags, _value(data, chunk)), items
+        yield _raw_chunk(data, chunk), tuple(_raw_parameter(data, it) for it in _items(data, chunk))
 
 
 class Packet:
     """A packet, in its bytes, that was checked (RFC 9260 section 3).
 
-    Iterating gives its chunks. `bytes(packet)`, `len(packet)` and equality are those of the bytes; packets that mean the
-    same have the same `canonical()`."""
+    Iterating gives its chunks, each read as it is reached. `bytes(packet)`, `len(packet)` and equality are those of the
+    bytes; packets that mean the same have the same `canonical()`."""
 
     __slots__ = ("_bytes", "_policy", "_word")
 
@@ -169,7 +172,7 @@ class Packet:
         return chunks(self._bytes)
 
     def chunks(self) -> tuple[v.Chunk, ...]:
-        """Returns its chunks (section 3.2), at least one."""
+        """Returns its chunks (section 3.2), at least one. Reads all of them, at each call."""
         return tuple(self)
 
     def raw_chunks(self) -> Iterator[v.RawChunk]:
@@ -207,7 +210,9 @@ class Packet:
         return hash(self._bytes)
 
     def __repr__(self) -> str:
-        return f"Packet(bytes.fromhex({self._bytes.hex()!r}))"
+        it = self.header
+        ports = f"{it.source_port} to {it.destination_port}"
+        return f"<Packet from port {ports}, tag {it.verification_tag:#010x}, {len(self)} bytes>"
 
 
 # ---- chunks
@@ -228,6 +233,12 @@ def _value(data: bytes, part: c.Chunk | c.Parameter) -> bytes:
     return data[start : start + part.value_size]
 
 
+def _placed(part: _P, place: c.Chunk | c.Parameter) -> _P:
+    """The part, new and so nobody's yet, with its offset."""
+    object.__setattr__(part, "offset", place.value_offset - 4)
+    return part
+
+
 def _each(function: Any, data: bytes, part: ctypes.Structure, new: Callable[[], Any]) -> Iterator[Any]:
     """What a function reads at the indices 0, 1 .. as long as there is something."""
     for index in count():
@@ -239,7 +250,11 @@ def _each(function: Any, data: bytes, part: ctypes.Structure, new: Callable[[], 
 
 def _chunk(data: bytes, chunk: c.Chunk) -> v.Chunk:
     read = _CHUNKS.get(chunk.type)
-    return read and read(data, chunk) or v.RawChunk(chunk.type, chunk.flags, _value(data, chunk))
+    return _placed(read and read(data, chunk) or _raw_chunk(data, chunk), chunk)
+
+
+def _raw_chunk(data: bytes, chunk: c.Chunk) -> v.RawChunk:
+    return _placed(v.RawChunk(chunk.type, chunk.flags, _value(data, chunk)), chunk)
 
 
 def _data(data: bytes, chunk: c.Chunk) -> v.Data | v.IData | None:
@@ -355,12 +370,16 @@ def _causes(data: bytes, chunk: c.Chunk) -> tuple[v.Cause, ...]:
 
 def _parameter(data: bytes, item: c.Parameter) -> v.Parameter:
     read = _PARAMETERS.get(item.type)
-    return read and read(data, item) or v.RawParameter(item.type, _value(data, item))
+    return _placed(read and read(data, item) or _raw_parameter(data, item), item)
+
+
+def _raw_parameter(data: bytes, item: c.Parameter) -> v.RawParameter:
+    return _placed(v.RawParameter(item.type, _value(data, item)), item)
 
 
 def _cause(data: bytes, item: c.Parameter) -> v.Cause:
     read = _CAUSES.get(item.type)
-    return read and read(data, item) or v.RawCause(item.type, _value(data, item))
+    return _placed(read and read(data, item) or v.RawCause(item.type, _value(data, item)), item)
 
 
 def _number(data: bytes, item: c.Parameter) -> int | None:
