@@ -1,4 +1,5 @@
-/* malloc, realloc and free for dcsctp.wasm, and for dcsctp.mjs; dist/wasm.py compiles it.
+/* SPDX-License-Identifier: Apache-2.0 */
+/* malloc, realloc and free for dcsctp.wasm, and for library.js; dist/wasm.py compiles it.
 
    A block has 2^k bytes with its head, and a freed one is kept for the next of its size. The head stands in the first of
    16 bytes, so a block is aligned to 16. No call of the library keeps a block, so what is taken from the system stays at

@@ -1,3 +1,4 @@
+/* SPDX-License-Identifier: Apache-2.0 */
 /* Reads packets, one a line, in hexadecimal, and prints all that the functions of dcsctp.h that read say of each: what
    answers.mjs prints by WebAssembly. */
 #include <dcsctp.h>
@@ -76,7 +77,8 @@ static void print_chunk(const uint8_t *bytes, size_t length, const struct dcsctp
 static void print_packet(const uint8_t *bytes, size_t length)
 {
     static uint8_t output[1 << 24];
-    static const struct dcsctp_policy policies[] = {{false, false, false}, {false, true, true}, {true, false, false}};
+    static const struct dcsctp_policy policies[] = {
+        {0}, {.zero_checksum = true, .strict_padding = true}, {.any_checksum = true}};
     struct dcsctp_header header;
     struct dcsctp_chunk chunk;
     uint32_t word = dcsctp_word(bytes, length);

@@ -1,5 +1,6 @@
+// SPDX-License-Identifier: Apache-2.0
 // What answers.c prints of packets, by WebAssembly.
-import * as dcsctp from '../dcsctp.mjs';
+import * as davgyuti from '../davgyuti.mjs';
 
 const POLICIES = [{}, { zeroChecksum: true, strictPadding: true }, { anyChecksum: true }];
 const hex = bytes => Array.from(bytes, it => it.toString(16).padStart(2, '0')).join('');
@@ -40,9 +41,9 @@ function* chunkLines(bytes, chunk) {
     yield [' forward-tsn', forwardTsn.newCumulativeTsn, forwardTsn.streams.length,
       ...forwardTsn.streams.map(it => `${it.stream}:${it.ssn}:${it.mid}:${bit(it.isUnordered)}`)].join(' ');
   }
-  for (const it of dcsctp.parameters(chunk))
+  for (const it of davgyuti.parameters(chunk))
     yield* itemLines(bytes, it);
-  for (const it of dcsctp.causes(chunk))
+  for (const it of davgyuti.causes(chunk))
     yield* itemLines(bytes, it);
 }
 
@@ -51,27 +52,27 @@ function tried(call) {
   try {
     return [0, call()];
   } catch (error) {
-    if (!(error instanceof dcsctp.DcsctpError))
+    if (!(error instanceof davgyuti.Fault || error instanceof davgyuti.WriteError))
       throw error;
     return [error.code, ''];
   }
 }
 
 export function* lines(bytes) {
-  yield `packet ${bytes.length} ${bytes.length < 12 ? 0 : dcsctp.word(bytes)}`;
+  yield `packet ${bytes.length} ${bytes.length < 12 ? 0 : davgyuti.word(bytes)}`;
   for (const policy of POLICIES) {
-    const { code, offset } = dcsctp.firstFault(bytes, policy) ?? { code: 0, offset: bytes.length };
+    const { code, offset } = davgyuti.firstFault(bytes, policy) ?? { code: 0, offset: bytes.length };
     yield `fault ${code} ${offset}`;
-    if (tried(() => dcsctp.check(bytes, policy))[0] !== code)
+    if (tried(() => davgyuti.check(bytes, policy))[0] !== code)
       yield 'check says otherwise';
-    const [canonicalCode, canonical] = tried(() => hex(dcsctp.canonical(bytes, policy)));
+    const [canonicalCode, canonical] = tried(() => hex(davgyuti.canonical(bytes, policy)));
     yield `canonical ${canonicalCode} ${canonical}`;
     for (const name of ['text', 'report'])
-      yield `${name} ${tried(() => dcsctp[name](bytes, policy)).join('\n')}`;
+      yield `${name} ${tried(() => davgyuti[name](bytes, policy)).join('\n')}`;
   }
-  const header = dcsctp.header(bytes);
+  const header = davgyuti.header(bytes);
   if (header)
     yield ['header', header.sourcePort, header.destinationPort, header.verificationTag, header.checksum].join(' ');
-  for (const chunk of dcsctp.chunks(bytes))
+  for (const chunk of davgyuti.chunks(bytes))
     yield* chunkLines(bytes, chunk);
 }

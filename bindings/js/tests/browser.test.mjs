@@ -1,3 +1,4 @@
+// SPDX-License-Identifier: Apache-2.0
 // The same answers in a browser: a page of a server here gives them back. Without chromium it is left out.
 import assert from 'node:assert/strict';
 import { spawn, spawnSync } from 'node:child_process';
@@ -9,16 +10,17 @@ import { test } from 'node:test';
 import { lines } from './answers.mjs';
 
 const FILES = {
-  '/dcsctp.mjs': 'text/javascript', '/library.mjs': 'text/javascript', '/tests/answers.mjs': 'text/javascript',
-  '/dcsctp.wasm': 'application/wasm',
+  '/davgyuti.mjs': 'text/javascript', '/davgyuti.js': 'text/javascript', '/library.js': 'text/javascript',
+  '/tests/answers.mjs': 'text/javascript', '/dcsctp.wasm': 'application/wasm',
 };
-const POLICY = "default-src 'self'; script-src 'self' 'unsafe-inline' 'wasm-unsafe-eval'";
+const POLICY = "default-src 'none'; script-src 'self' 'wasm-unsafe-eval' 'unsafe-inline'; connect-src 'self'";
 const browser = process.env.CHROMIUM ?? 'chromium';
 const lacking = spawnSync(browser, ['--version']).error && `no ${browser}`;
 const examples = readFileSync(new URL('../../../examples/packets.txt', import.meta.url), 'utf8').split('\n')
   .filter(it => it && !it.startsWith('#'));
 
-const page = `<script type="module">
+// (an element's id is a name in its scripts)
+const page = `<i id="module"></i><script type="module">
 const tell = text => fetch('/answer', { method: 'POST', body: text });
 try {
   const { lines } = await import('/tests/answers.mjs');
@@ -49,6 +51,7 @@ test('in a browser', { skip: lacking, timeout: 120_000 }, async () => {
         const words = ['--headless', '--no-sandbox', '--disable-gpu', `--user-data-dir=${folder}`];
         child = spawn(browser, [...words, `http://127.0.0.1:${server.address().port}/`], { stdio: 'ignore' });
         child.on('error', reject).on('exit', code => reject(new Error(`${browser} ended with ${code}`)));
+        setTimeout(() => reject(new Error('the page gave no answer')), 60_000).unref();
       });
     });
     assert.equal(answer, examples.flatMap(it => [...lines(Uint8Array.from(Buffer.from(it, 'hex')))]).join('\n'));

@@ -1,13 +1,14 @@
+// SPDX-License-Identifier: Apache-2.0
 // What this package says of dcsctp.h is what the header has.
 import assert from 'node:assert/strict';
 import { readFileSync } from 'node:fs';
 import { test } from 'node:test';
-import * as dcsctp from '../dcsctp.mjs';
-import { structs } from '../library.mjs';
+import * as davgyuti from '../davgyuti.mjs';
+import library from '../library.js';
 
 const file = name => readFileSync(new URL(name, import.meta.url), 'utf8');
 const header = file('../../../include/dcsctp.h').replace(/\/\*[^]*?\*\//g, '');
-const code = file('../dcsctp.mjs');
+const code = file('../davgyuti.js');
 const camel = name => name.replace(/_(\w)/g, (_, letter) => letter.toUpperCase());
 
 // The header's functions, and its `static inline` ones.
@@ -40,7 +41,7 @@ test('the structs are the header\'s', () => {
     }
     found[camel(name)] = fields;
   }
-  const own = Object.entries(structs).map(([name, it]) => [name, it.fields.map(({ name, at, size }) => [name, at, size])]);
+  const own = Object.entries(library.structs).map(([name, it]) => [name, it.fields.map(({ name, at, size }) => [name, at, size])]);
   assert.deepEqual(Object.fromEntries(own), found);
 });
 
@@ -49,21 +50,21 @@ test('the constants and names are the header\'s', () => {
   const from = prefix => Object.fromEntries(constants.filter(it => it[0].startsWith(prefix))
     .map(([name, value]) => [name.slice(prefix.length), value]));
   const own = {
-    CHUNK_: dcsctp.ChunkType, PARAMETER_: dcsctp.ParameterType, CAUSE_: dcsctp.CauseCode, RE_CONFIG_: dcsctp.ReConfigResult,
+    CHUNK_: davgyuti.ChunkType, PARAMETER_: davgyuti.ParameterType, CAUSE_: davgyuti.CauseCode, RE_CONFIG_: davgyuti.ReConfigResult,
   };
   for (const [prefix, values] of Object.entries(own))
     assert.deepEqual({ ...values }, from(prefix));
   const results = header.match(/enum dcsctp_result \{([^}]*)\};/)[1];
-  assert.deepEqual({ ...dcsctp.Result },
+  assert.deepEqual({ ...davgyuti.Result },
     Object.fromEntries([...results.matchAll(/DCSCTP_(\w+) = (\d+)/g)].map(it => [it[1], Number(it[2])])));
-  const counted = [dcsctp.Result, ...Object.values(own)].reduce((sum, it) => sum + Object.keys(it).length, 0);
+  const counted = [davgyuti.Result, ...Object.values(own)].reduce((sum, it) => sum + Object.keys(it).length, 0);
   assert.equal(constants.length, counted + ['FIRST_CHUNK', 'TAG_REFLECTED'].length);
-  assert.match(header, new RegExp(`DCSCTP_FIRST_CHUNK = ${dcsctp.FIRST_CHUNK} `));
-  assert.match(header, new RegExp(`DCSCTP_TAG_REFLECTED = ${dcsctp.TAG_REFLECTED} `));
+  assert.match(header, new RegExp(`DCSCTP_FIRST_CHUNK = ${davgyuti.FIRST_CHUNK} `));
+  assert.match(header, new RegExp(`DCSCTP_TAG_REFLECTED = ${davgyuti.TAG_REFLECTED} `));
   const named = {
-    result_text: ['', dcsctp.Result, dcsctp.resultText], chunk_name: ['CHUNK_', dcsctp.ChunkType, dcsctp.chunkName],
-    parameter_name: ['PARAMETER_', dcsctp.ParameterType, dcsctp.parameterName],
-    cause_name: ['CAUSE_', dcsctp.CauseCode, dcsctp.causeName],
+    result_text: ['', davgyuti.Result, davgyuti.resultText], chunk_name: ['CHUNK_', davgyuti.ChunkType, davgyuti.chunkName],
+    parameter_name: ['PARAMETER_', davgyuti.ParameterType, davgyuti.parameterName],
+    cause_name: ['CAUSE_', davgyuti.CauseCode, davgyuti.causeName],
   };
   for (const [name, [prefix, values, text]] of Object.entries(named)) {
     const body = header.match(new RegExp(`dcsctp_${name}\\([^]*?\n}`))[0];
@@ -71,18 +72,41 @@ test('the constants and names are the header\'s', () => {
     assert.equal(cases.length, Object.keys(values).length);
     for (const [, constant, said] of cases)
       assert.equal(text(values[constant.slice(prefix.length)]), said);
-    assert.equal(text(65535), body.match(/default: return "(.*)";/)[1]);
   }
+  assert.equal(davgyuti.resultText(99), header.match(/dcsctp_result_text[^]*?default: return "(.*)";/)[1]);
+});
+
+test('a number without a name is in its name', () => {
+  assert.deepEqual([davgyuti.chunkName(0x4d), davgyuti.chunkName(255)], ['chunk type 0x4d', 'chunk type 0xff']);
+  assert.deepEqual([davgyuti.parameterName(0x8002), davgyuti.parameterName(0)], ['parameter type 0x8002', 'parameter type 0x0000']);
+  // RFC 4895 section 4.1: Unsupported HMAC Identifier.
+  assert.equal(davgyuti.causeName(0x0105), 'cause code 0x0105');
+  const { isKnownChunk, isKnownParameter, isKnownCause } = davgyuti;
+  assert.deepEqual([3, 0x4d, '3', '__proto__', undefined].map(isKnownChunk), [true, false, false, false, false]);
+  assert.deepEqual([7, 0x8002].map(isKnownParameter), [true, false]);
+  assert.deepEqual([13, 0x0105].map(isKnownCause), [true, false]);
+});
+
+test('only a number has a name', () => {
+  for (const name of [davgyuti.chunkName, davgyuti.parameterName, davgyuti.causeName, davgyuti.resultText]) {
+    for (const it of ['constructor', '__proto__', 'length', '1', null, undefined, 1n, {}, Symbol('1')])
+      assert.throws(() => name(it), TypeError);
+    for (const it of [-1, 1.5, NaN, 2 ** 32])
+      assert.throws(() => name(it), RangeError);
+  }
+  assert.throws(() => davgyuti.chunkName(256), RangeError);
+  assert.throws(() => davgyuti.parameterName(65_536), RangeError);
+  assert.throws(() => davgyuti.causeName(65_536), RangeError);
 });
 
 test('the version is the header\'s, the module\'s and the package\'s', () => {
-  assert.equal(dcsctp.version, header.match(/DCSCTP_VERSION "(.*)"/)[1]);
-  assert.equal(dcsctp.version, JSON.parse(file('../package.json')).version);
-  const [major, minor, patch] = dcsctp.version.split('.').map(Number);
-  assert.equal(dcsctp.versionNumber(), (major << 16) + (minor << 8) + patch);
+  assert.equal(davgyuti.version, header.match(/DCSCTP_VERSION "(.*)"/)[1]);
+  assert.equal(davgyuti.version, JSON.parse(file('../package.json')).version);
+  const [major, minor, patch] = davgyuti.version.split('.').map(Number);
+  assert.equal(davgyuti.versionNumber(), (major << 16) + (minor << 8) + patch);
 });
 
 test('the types declare what is exported', () => {
-  const declared = [...file('../dcsctp.d.ts').matchAll(/^export (?:const|function|class) (\w+)/gm)].map(it => it[1]);
-  assert.deepEqual(declared.sort(), Object.keys(dcsctp).sort());
+  const declared = new Set([...file('../davgyuti.d.ts').matchAll(/^export (?:const|function|class) (\w+)/gm)].map(it => it[1]));
+  assert.deepEqual([...declared].sort(), Object.keys(davgyuti).sort());
 });

@@ -1,7 +1,8 @@
+// SPDX-License-Identifier: Apache-2.0
 // Each kind of chunk, parameter and error cause, written and read. The bytes are by hand, from the sections that are named.
 import assert from 'node:assert/strict';
 import { test } from 'node:test';
-import { Builder, CauseCode, ChunkType, ParameterType, causes, check, chunks, header, parameters, seal, word } from '../dcsctp.mjs';
+import { Builder, CauseCode, ChunkType, ParameterType, causes, check, chunks, header, parameters, seal, word } from '../davgyuti.mjs';
 
 const bytes = hex => Uint8Array.from(Buffer.from(hex.replace(/\s/g, ''), 'hex'));
 const PORTS = { sourcePort: 5000, destinationPort: 5001, verificationTag: 0x01020304 };
@@ -15,7 +16,7 @@ const RE_CONFIG = {
 };
 
 /** Every field but where it lies, and `name`. */
-function content({ name, offset, valueOffset, next, value, ...rest }) {
+function content({ name, offset, valueOffset, next, value, bytes, ...rest }) {
   return rest;
 }
 
@@ -37,7 +38,9 @@ function both(name, write, hex, type, flags, read) {
     const [chunk, ...others] = reads(hex);
     assert.deepEqual(others, []);
     assert.deepEqual(content(chunk), { type, flags, ...read });
-    assert.equal(chunk.value.length, Number(`0x${hex.slice(4, 8)}`) - 4);
+    const length = Number(`0x${hex.slice(4, 8)}`);
+    assert.equal(chunk.value.length, length - 4);
+    assert.deepEqual(chunk.bytes, bytes(hex).slice(0, length));
   });
 }
 
@@ -120,6 +123,7 @@ function parameter(name, write, hex, type, read) {
     assert.deepEqual(found.map(content), [{ type, ...read }]);
     assert.deepEqual([found[0].offset, found[0].next], [first, first + length]);
     assert.deepEqual(found[0].value, bytes(hex).slice(4, length));
+    assert.deepEqual(found[0].bytes, bytes(hex).slice(0, length));
   });
 }
 
@@ -168,6 +172,9 @@ test('error causes', () => {
     [2, 'Missing Mandatory Parameter', 36, 48, '0000000200070008'],
     [12, 'User-Initiated Abort', 48, 56, '79'],
     [13, 'Protocol Violation', 56, 61, '78'],
+  ]);
+  assert.deepEqual([...causes(chunk)].map(it => Buffer.from(it.bytes).toString('hex')), [
+    '00060008fe000004', '0009000800000010', '000a0004', '0002000c0000000200070008', '000c000579', '000d000578',
   ]);
   assert.deepEqual([...causes(chunk)].map(it => [it.number, it.missing]), [
     [undefined, undefined], [16, undefined], [undefined, undefined], [undefined, [7, 8]], [undefined, undefined], [undefined, undefined],

@@ -1,19 +1,22 @@
+// SPDX-License-Identifier: Apache-2.0
 // What is refused, and what lies in the memory: nothing leaks, and no bytes reach outside of what they were given.
 import assert from 'node:assert/strict';
 import { test } from 'node:test';
 import { runInNewContext } from 'node:vm';
-import * as dcsctp from '../dcsctp.mjs';
-import { call, view } from '../library.mjs';
+import * as davgyuti from '../davgyuti.mjs';
+import library from '../library.js';
 
-const { Builder, ChunkType, DcsctpError, Result } = dcsctp;
+const { Builder, ChunkType, Fault, Result, WriteError } = davgyuti, { call, view } = library;
 const bytes = hex => Uint8Array.from(Buffer.from(hex.replace(/\s/g, ''), 'hex'));
 const PORTS = { sourcePort: 1, destinationPort: 2, verificationTag: 3 };
 const DATA = { tsn: 1, stream: 2, isBeginning: true, isEnd: true, payload: bytes('68656c6c6f') };
 const INIT = { initiateTag: 1, aRwnd: 2, outboundStreams: 3, inboundStreams: 4, initialTsn: 5 };
-const is = (code, offset = null) => error => {
-  assert.ok(error instanceof DcsctpError && error instanceof Error);
+const is = (code, offset, message = davgyuti.resultText(code) + (offset === undefined ? '' : ` at byte ${offset}`)) => error => {
+  const kind = offset === undefined ? WriteError : Fault;
+  assert.ok(error instanceof kind && error instanceof Error);
   assert.deepEqual([error.code, error.offset], [code, offset]);
-  assert.equal(error.message, dcsctp.resultText(code) + (offset === null ? '' : ` at byte ${offset}`));
+  assert.equal(String(error), `${kind.name}: ${message}`);
+  assert.deepEqual(Object.keys(error), offset === undefined ? ['code'] : ['code', 'offset']);
   return true;
 };
 
@@ -21,16 +24,16 @@ const is = (code, offset = null) => error => {
 function everything() {
   const packet = new Builder({ ...PORTS, room: 1200 }).addData(DATA).addInit(INIT).addParameter(7, bytes('616263'))
     .addSack({ cumulativeTsnAck: 1, aRwnd: 2, blocks: [{ start: 2, end: 3 }], duplicates: [4] }).finish();
-  dcsctp.check(packet);
-  dcsctp.setTag(packet, 9);
-  assert.deepEqual(dcsctp.firstFault(packet), { code: Result.FAULT_CHECKSUM, offset: 8 });
-  dcsctp.seal(packet);
-  dcsctp.canonical(packet);
-  dcsctp.text(packet);
-  dcsctp.report(packet);
-  for (const chunk of dcsctp.chunks(packet))
-    [...dcsctp.parameters(chunk)];
-  dcsctp.cleanBlocks([{ start: 5, end: 9 }, { start: 2, end: 4 }]);
+  davgyuti.check(packet);
+  davgyuti.setTag(packet, 9);
+  assert.deepEqual(davgyuti.firstFault(packet), { code: Result.FAULT_CHECKSUM, offset: 8 });
+  davgyuti.seal(packet);
+  davgyuti.canonical(packet);
+  davgyuti.text(packet);
+  davgyuti.report(packet);
+  for (const chunk of davgyuti.chunks(packet))
+    [...davgyuti.parameters(chunk)];
+  davgyuti.cleanBlocks([{ start: 5, end: 9 }, { start: 2, end: 4 }]);
   return packet;
 }
 
@@ -38,10 +41,10 @@ test('a million calls leave the memory as it was', () => {
   const packet = everything();
   const before = view().buffer.byteLength;
   for (let i = 0; i < 300_000; i++) {
-    dcsctp.text(packet);
-    dcsctp.report(packet);
-    dcsctp.canonical(packet);
-    dcsctp.firstFault(packet.subarray(0, i % packet.length));
+    davgyuti.text(packet);
+    davgyuti.report(packet);
+    davgyuti.canonical(packet);
+    davgyuti.firstFault(packet.subarray(0, i % packet.length));
   }
   for (let i = 0; i < 20_000; i++)
     everything();
@@ -55,9 +58,9 @@ test('what was allocated is free again', () => {
   for (let size = 16n; size < 1n << 16n; size *= 2n) {
     const block = call('malloc', size);
     call('free', block);
-    dcsctp.text(packet);
-    dcsctp.report(packet);
-    dcsctp.canonical(packet);
+    davgyuti.text(packet);
+    davgyuti.report(packet);
+    davgyuti.canonical(packet);
     const again = call('malloc', size);
     call('free', again);
     assert.ok(again !== 0n && again % 16n === 0n);
@@ -81,15 +84,15 @@ test('what lies beside the bytes in the memory stays', () => {
       packet.set([types[random(types.length)], random(8), 0, random(40)], at);
     const copy = packet.slice();
     const policy = { anyChecksum: true, strictPadding: random(2) === 1 };
-    if (dcsctp.firstFault(packet, policy) === null) {
-      dcsctp.canonical(packet, policy);
-      dcsctp.text(packet, policy);
-      dcsctp.report(packet, policy);
+    if (davgyuti.firstFault(packet, policy) === null) {
+      davgyuti.canonical(packet, policy);
+      davgyuti.text(packet, policy);
+      davgyuti.report(packet, policy);
     }
-    for (const chunk of dcsctp.chunks(packet)) {
+    for (const chunk of davgyuti.chunks(packet)) {
       // A chunk that was changed is read as what it says.
       const other = { ...chunk, type: types[random(types.length)], valueOffset: random(1 << 30) };
-      for (const it of [...dcsctp.parameters(chunk), ...dcsctp.causes(chunk), ...dcsctp.parameters(other), ...dcsctp.causes(other)])
+      for (const it of [...davgyuti.parameters(chunk), ...davgyuti.causes(chunk), ...davgyuti.parameters(other), ...davgyuti.causes(other)])
         assert.ok(it.value.byteOffset >= 0 && it.value.byteOffset + it.value.length <= packet.length);
     }
     assert.deepEqual(packet, copy);
@@ -105,39 +108,44 @@ test('the views are of the bytes that were given', () => {
   const packet = new Builder(PORTS).addData(DATA).finish();
   large.set(packet, 7);
   const part = large.subarray(7, 7 + packet.length);
-  const [{ data, value }] = dcsctp.chunks(part);
+  const [{ data, value }] = davgyuti.chunks(part);
   assert.equal(data.payload.buffer, large.buffer);
   assert.equal(data.payload.byteOffset, 7 + 28);
   assert.equal(value.byteOffset, 7 + 16);
-  dcsctp.setTag(part, 0xfffffffe);
+  davgyuti.setTag(part, 0xfffffffe);
   assert.deepEqual(large.subarray(0, 7), new Uint8Array(7));
   assert.deepEqual(large.subarray(11, 15), bytes('fffffffe'));
 });
 
 test('faults have a code and an offset', () => {
   const packet = new Builder(PORTS).addData(DATA).finish();
-  dcsctp.check(packet);
-  assert.equal(dcsctp.firstFault(packet), null);
-  assert.throws(() => dcsctp.check(packet, { word: 1 }), is(Result.FAULT_CHECKSUM, 8));
-  dcsctp.check(packet, { word: 1, anyChecksum: true });
+  davgyuti.check(packet);
+  assert.equal(davgyuti.firstFault(packet), null);
+  assert.throws(() => davgyuti.check(packet, { word: 1 }), is(Result.FAULT_CHECKSUM, 8));
+  davgyuti.check(packet, { word: 1, anyChecksum: true });
   for (const name of ['check', 'canonical', 'text', 'report']) {
-    assert.throws(() => dcsctp[name](packet.subarray(0, 15)), is(Result.FAULT_SIZE, 15));
-    assert.throws(() => dcsctp[name](new Uint8Array(0)), is(Result.FAULT_SIZE, 0));
-    assert.throws(() => dcsctp[name](new Uint8Array(70_000)), is(Result.FAULT_SIZE, 65_535));
+    assert.throws(() => davgyuti[name](packet.subarray(0, 15)), is(Result.FAULT_SIZE, 15));
+    assert.throws(() => davgyuti[name](new Uint8Array(0)), is(Result.FAULT_SIZE, 0));
+    assert.throws(() => davgyuti[name](new Uint8Array(70_000)), is(Result.FAULT_SIZE, 65_535));
   }
+  const full = new Uint8Array(65_536);
+  full.set(new Builder(PORTS).addChunk(200, 0, new Uint8Array(65_516)).finish());
+  assert.equal(davgyuti.firstFault(full.subarray(0, 65_532)), null);
+  assert.deepEqual(davgyuti.firstFault(full, { anyChecksum: true }), { code: Result.FAULT_SIZE, offset: 65_535 });
+  assert.equal(davgyuti.firstFault(full.subarray(0, 65_535)).code, Result.FAULT_CHECKSUM);
   const dirty = packet.slice();
   dirty[34] = 1;
-  dcsctp.seal(dirty);
-  dcsctp.check(dirty);
-  assert.throws(() => dcsctp.check(dirty, { strictPadding: true }), is(Result.FAULT_PADDING, 34));
-  assert.deepEqual(dcsctp.canonical(dirty), new Builder(PORTS).addData(DATA).finish({ checksum: false }));
-  const zero = dcsctp.canonical(packet);
-  assert.throws(() => dcsctp.check(zero), is(Result.FAULT_CHECKSUM, 8));
-  dcsctp.check(zero, { zeroChecksum: true });
-  assert.equal(dcsctp.header(packet.subarray(0, 11)), null);
-  assert.deepEqual([...dcsctp.chunks(packet.subarray(0, 15))], []);
-  assert.throws(() => dcsctp.seal(packet.subarray(0, 11)), is(Result.BAD_PLACE));
-  assert.throws(() => dcsctp.setTag(packet.subarray(0, 11), 1), is(Result.BAD_PLACE));
+  davgyuti.seal(dirty);
+  davgyuti.check(dirty);
+  assert.throws(() => davgyuti.check(dirty, { strictPadding: true }), is(Result.FAULT_PADDING, 34));
+  assert.deepEqual(davgyuti.canonical(dirty), new Builder(PORTS).addData(DATA).finish({ checksum: false }));
+  const zero = davgyuti.canonical(packet);
+  assert.throws(() => davgyuti.check(zero), is(Result.FAULT_CHECKSUM, 8));
+  davgyuti.check(zero, { zeroChecksum: true });
+  assert.equal(davgyuti.header(packet.subarray(0, 11)), null);
+  assert.deepEqual([...davgyuti.chunks(packet.subarray(0, 15))], []);
+  assert.throws(() => davgyuti.seal(packet.subarray(0, 11)), is(Result.BAD_PLACE, undefined, 'fewer than 12 bytes'));
+  assert.throws(() => davgyuti.setTag(packet.subarray(0, 11), 1), is(Result.BAD_PLACE, undefined, 'fewer than 12 bytes'));
 });
 
 test('a builder that cannot add says why, and stays', () => {
@@ -146,7 +154,8 @@ test('a builder that cannot add says why, and stays', () => {
   const before = builder.finish();
   assert.equal(before.length, 36);
   assert.throws(() => builder.addData(DATA), is(Result.NO_ROOM));
-  assert.throws(() => builder.addAbort(bytes('ff')), is(Result.BAD_VALUE));
+  for (const reason of [bytes('ff'), 'a\ud800', '\udc00\ud800'])
+    assert.throws(() => builder.addAbort(reason), is(Result.BAD_VALUE));
   assert.throws(() => builder.addChunk(200, 0, new Uint8Array(65_532)), is(Result.BAD_VALUE));
   assert.deepEqual(builder.finish(), before);
   builder.addCookieAck();
@@ -154,8 +163,10 @@ test('a builder that cannot add says why, and stays', () => {
   assert.throws(() => builder.addParameter(1), is(Result.NO_ROOM));
   assert.deepEqual(builder.removeLast().finish(), before);
   assert.equal(builder.removeLast().size, 12);
-  assert.throws(() => builder.removeLast(), is(Result.BAD_PLACE));
-  assert.throws(() => builder.addParameter(1), is(Result.BAD_PLACE));
+  assert.throws(() => builder.removeLast(), is(Result.BAD_PLACE, undefined, 'no chunk to remove'));
+  const noChunk = is(Result.BAD_PLACE, undefined, 'no chunk to add to');
+  assert.throws(() => builder.addParameter(1), noChunk);
+  assert.throws(() => builder.addMissingParameters([]), noChunk);
   const list = new Builder(PORTS).addChunk(ChunkType.RE_CONFIG);
   assert.throws(() => list.addReConfig({ type: 12 }), is(Result.BAD_VALUE));
   assert.throws(() => list.addReConfig({ type: 16, result: 7 }), is(Result.BAD_VALUE));
@@ -172,8 +183,8 @@ test('two builders, and other calls between', () => {
   second.addData({ ...DATA, tsn: 2 });
   everything();
   first.addInit(INIT);
-  for (const chunk of dcsctp.chunks(alone[0]))
-    [...dcsctp.parameters(chunk)];
+  for (const chunk of davgyuti.chunks(alone[0]))
+    [...davgyuti.parameters(chunk)];
   second.addInit(INIT).addNumber(0x8001, 2);
   first.addNumber(0x8001, 1);
   assert.deepEqual([first.finish(), second.finish()], alone);
@@ -181,34 +192,95 @@ test('two builders, and other calls between', () => {
 
 test('cleanBlocks', () => {
   const block = (start, end) => ({ start, end });
-  assert.deepEqual(dcsctp.cleanBlocks([block(9, 9), block(2, 3), block(4, 5), block(8, 7), block(5, 6)]), [block(2, 6), block(9, 9)]);
-  assert.deepEqual(dcsctp.cleanBlocks([]), []);
+  assert.deepEqual(davgyuti.cleanBlocks([block(9, 9), block(2, 3), block(4, 5), block(8, 7), block(5, 6)]), [block(2, 6), block(9, 9)]);
+  assert.deepEqual(davgyuti.cleanBlocks([]), []);
 });
 
 test('values of another type or size are refused', () => {
   for (const it of [null, undefined, 'ab', [1], new ArrayBuffer(20), new DataView(new ArrayBuffer(20)), new Uint16Array(20), 5]) {
     for (const name of ['check', 'firstFault', 'canonical', 'text', 'report', 'word', 'header', 'chunks', 'seal'])
-      assert.throws(() => dcsctp[name](it), TypeError);
+      assert.throws(() => davgyuti[name](it), TypeError);
     assert.throws(() => new Builder(PORTS).addCookieEcho(it), TypeError);
   }
   const packet = new Builder(PORTS).addData(DATA).finish();
-  for (const it of [-1, 65_536, 1.5, NaN, Infinity, '1', null, undefined, 1n, {}]) {
-    assert.throws(() => new Builder({ ...PORTS, sourcePort: it }), RangeError);
-    assert.throws(() => new Builder(PORTS).addData({ ...DATA, stream: it }), RangeError);
-    assert.throws(() => new Builder(PORTS).addInit({ ...INIT, inboundStreams: it }), RangeError);
-    assert.throws(() => new Builder(PORTS).addSack({ cumulativeTsnAck: 1, aRwnd: 1, blocks: [{ start: 2, end: it }] }), RangeError);
-    assert.throws(() => new Builder(PORTS).addInit(INIT).addMissingParameters([it]), RangeError);
-    assert.throws(() => dcsctp.cleanBlocks([{ start: it, end: 1 }]), RangeError);
+  for (const it of [-1, 65_536, 1.5, NaN, Infinity, '1', null, undefined, 1n, {}, Symbol('1')]) {
+    const error = typeof it === 'number' ? RangeError : TypeError;
+    assert.throws(() => new Builder({ ...PORTS, sourcePort: it }), error);
+    assert.throws(() => new Builder(PORTS).addData({ ...DATA, stream: it }), error);
+    assert.throws(() => new Builder(PORTS).addInit({ ...INIT, inboundStreams: it }), error);
+    assert.throws(() => new Builder(PORTS).addSack({ cumulativeTsnAck: 1, aRwnd: 1, blocks: [{ start: 2, end: it }] }), error);
+    assert.throws(() => new Builder(PORTS).addInit(INIT).addMissingParameters([it]), error);
+    assert.throws(() => davgyuti.cleanBlocks([{ start: it, end: 1 }]), error);
   }
-  for (const it of [-1, 2 ** 32, 1.5, NaN, '1', null])
-    assert.throws(() => dcsctp.setTag(packet, it), RangeError);
+  for (const it of [-1, 2 ** 32, 1.5, NaN])
+    assert.throws(() => davgyuti.setTag(packet, it), RangeError);
   for (const it of [0, 1, 'true', null]) {
-    assert.throws(() => dcsctp.check(packet, { anyChecksum: it }), TypeError);
+    assert.throws(() => davgyuti.check(packet, { anyChecksum: it }), TypeError);
     assert.throws(() => new Builder(PORTS).addData({ ...DATA, isEnd: it }), TypeError);
   }
-  dcsctp.check(packet);
-  dcsctp.check(Buffer.from(packet));
-  dcsctp.check(runInNewContext('Uint8Array').from(packet));
+  davgyuti.check(packet);
+  davgyuti.check(Buffer.from(packet));
+  davgyuti.check(runInNewContext('Uint8Array').from(packet));
+});
+
+test('what is no list is no empty one', () => {
+  const builder = new Builder(PORTS).addChunk(ChunkType.RE_CONFIG), { size } = builder;
+  for (const it of [5, {}, { length: 1, 0: 1 }, '', '12', null, true]) {
+    assert.throws(() => builder.addReConfig({ type: 13, streams: it }), TypeError);
+    assert.throws(() => builder.addSack({ cumulativeTsnAck: 1, aRwnd: 2, blocks: it }), TypeError);
+    assert.throws(() => builder.addSack({ cumulativeTsnAck: 1, aRwnd: 2, duplicates: it }), TypeError);
+    for (const name of ['addForwardTsn', 'addIForwardTsn'])
+      assert.throws(() => builder[name]({ newCumulativeTsn: 1, streams: it }), TypeError);
+    assert.throws(() => builder.addMissingParameters(it), TypeError);
+    assert.throws(() => davgyuti.cleanBlocks(it), TypeError);
+  }
+  assert.equal(builder.size, size);
+  builder.addReConfig({ type: 13, streams: new Set([1, 2]) }).addReConfig({ type: 14, streams: Uint16Array.of(3) });
+  const [chunk] = davgyuti.chunks(builder.finish());
+  assert.deepEqual([...davgyuti.parameters(chunk)].map(it => it.reConfig.streams), [[1, 2], [3]]);
+});
+
+test('options are objects, and flags true or false', () => {
+  const builder = new Builder(PORTS).addData(DATA), packet = builder.finish();
+  for (const it of [0, 1, '', 'no', null, {}]) {
+    assert.throws(() => builder.addAbort('', { tagReflected: it }), TypeError);
+    assert.throws(() => builder.addShutdownComplete({ tagReflected: it }), TypeError);
+    assert.throws(() => builder.finish({ checksum: it }), TypeError);
+  }
+  for (const it of [false, true, 5, 'strictPadding', null, Symbol('1')]) {
+    for (const name of ['check', 'firstFault', 'canonical', 'text', 'report'])
+      assert.throws(() => davgyuti[name](packet, it), { name: 'TypeError', message: /^policy is .*, and not an object$/ });
+    for (const call of [() => builder.addAbort('', it), () => builder.addShutdownComplete(it), () => builder.finish(it)])
+      assert.throws(call, { name: 'TypeError', message: /^options is .*, and not an object$/ });
+  }
+  assert.deepEqual(builder.addAbort(undefined, undefined).removeLast().finish(undefined), packet);
+  assert.deepEqual(builder.finish({ checksum: undefined }), packet);
+});
+
+test('a TypeError names what it refuses', () => {
+  const builder = new Builder(PORTS).addChunk(ChunkType.RE_CONFIG);
+  const said = {
+    'options is undefined, and not an object': () => new Builder(),
+    'reConfig is undefined, and not an object': () => builder.addReConfig(),
+    'data is undefined, and not an object': () => builder.addData(),
+    'init is null, and not an object': () => builder.addInit(null),
+    'sack is undefined, and not an object': () => builder.addSack(),
+    'shutdown is undefined, and not an object': () => builder.addShutdown(),
+    'forwardTsn is undefined, and not an object': () => builder.addForwardTsn(),
+    'an item of streams is 5, and not an object': () => builder.addForwardTsn({ newCumulativeTsn: 1, streams: [5] }),
+    'an item of streams is "5", and not a number': () => builder.addReConfig({ type: 13, streams: ['5'] }),
+    'an item of blocks is null, and not an object': () => davgyuti.cleanBlocks([null]),
+    'types is 5, and not a list': () => builder.addMissingParameters(5),
+    'chunk is undefined, and not an object': () => davgyuti.parameters(),
+    'sourcePort is "5000", and not a number': () => new Builder({ ...PORTS, sourcePort: '5000' }),
+    'verificationTag is 1n, and not a number': () => new Builder({ ...PORTS, verificationTag: 1n }),
+    'cookie is undefined, and not a Uint8Array': () => builder.addCookieEcho(),
+    'payload is [object Array], and not a Uint8Array': () => builder.addData({ ...DATA, payload: [1] }),
+    [`bytes is "${'0'.repeat(40)}".., and not a Uint8Array`]: () => davgyuti.check('0'.repeat(1000)),
+  };
+  for (const [message, call] of Object.entries(said))
+    assert.throws(call, { name: 'TypeError', message });
+  assert.equal(builder.size, 16);
 });
 
 test('objects whose fields run code', () => {
@@ -216,7 +288,7 @@ test('objects whose fields run code', () => {
   const expected = new Builder(PORTS).addData(DATA).finish();
   builder.addData({ ...DATA, get tsn() { everything(); return 1; } });
   assert.deepEqual(builder.finish(), expected);
-  assert.equal(dcsctp.firstFault(expected, { get strictPadding() { everything(); return true; } }), null);
+  assert.equal(davgyuti.firstFault(expected, { get strictPadding() { everything(); return true; } }), null);
 });
 
 test('after an exception in the module there is a new one', () => {
@@ -224,7 +296,7 @@ test('after an exception in the module there is a new one', () => {
   // (no call of the package passes such an address)
   assert.throws(() => call('dcsctp_word', 0xffff_0000n, 0x7fff_ffffn), WebAssembly.RuntimeError);
   assert.deepEqual(builder.addCookieAck().finish(), new Builder(PORTS).addData(DATA).addCookieAck().finish());
-  const expected = dcsctp.report(everything());
+  const expected = davgyuti.report(everything());
   let depth = 0;
   const deep = () => {
     depth++;
@@ -234,7 +306,7 @@ test('after an exception in the module there is a new one', () => {
       // Near the end of the stack.
     }
     try {
-      dcsctp.report(everything());
+      davgyuti.report(everything());
     } catch (error) {
       assert.ok(error instanceof RangeError, error);
     }
@@ -245,10 +317,26 @@ test('after an exception in the module there is a new one', () => {
     assert.ok(error instanceof RangeError, error);
   }
   assert.ok(depth > 100);
-  assert.equal(dcsctp.report(everything()), expected);
+  assert.equal(davgyuti.report(everything()), expected);
+});
+
+test('a builder holds no more than its packet needs', () => {
+  const before = process.memoryUsage().arrayBuffers;
+  const builders = Array.from({ length: 1000 }, () => new Builder(PORTS).addData(DATA));
+  assert.ok(process.memoryUsage().arrayBuffers - before < 1000 * 1000);
+  assert.ok(builders.every(it => it.size === 36 && it.room === 65_532));
+});
+
+test('more bytes than a packet has are refused before they are copied', () => {
+  const many = new Uint8Array(2 ** 30), before = view().buffer.byteLength;
+  for (const name of ['check', 'canonical', 'text', 'report'])
+    assert.throws(() => davgyuti[name](many), is(Result.FAULT_SIZE, 65_535));
+  assert.deepEqual(davgyuti.firstFault(many.subarray(1)), { code: Result.FAULT_SIZE, offset: 65_535 });
+  assert.throws(() => davgyuti.check(many.subarray(2 ** 28)), is(Result.FAULT_SIZE, 65_535));
+  assert.ok(view().buffer.byteLength - before < 1 << 20);
 });
 
 test('bytes that no memory holds', () => {
-  assert.throws(() => dcsctp.word(new Uint8Array(2 ** 30)), is(Result.NO_MEMORY));
-  dcsctp.check(new Builder(PORTS).addData(DATA).finish());
+  assert.throws(() => davgyuti.word(new Uint8Array(2 ** 30)), is(Result.NO_MEMORY));
+  davgyuti.check(new Builder(PORTS).addData(DATA).finish());
 });

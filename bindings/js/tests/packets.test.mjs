@@ -1,3 +1,4 @@
+// SPDX-License-Identifier: Apache-2.0
 // Packets are answered as by the library for this machine, and the examples as they have to be.
 import assert from 'node:assert/strict';
 import { execFileSync, spawnSync } from 'node:child_process';
@@ -6,7 +7,7 @@ import { tmpdir } from 'node:os';
 import { join } from 'node:path';
 import { test } from 'node:test';
 import { fileURLToPath } from 'node:url';
-import * as dcsctp from '../dcsctp.mjs';
+import * as davgyuti from '../davgyuti.mjs';
 import { lines } from './answers.mjs';
 import { rebuilt } from './rebuilt.mjs';
 
@@ -31,10 +32,10 @@ test('packets that are built anew of what is read of them mean the same', { skip
   let count = 0;
   for (const hex of packets().trimEnd().split('\n')) {
     const packet = bytes(hex);
-    if (dcsctp.firstFault(packet) === null) {
+    if (davgyuti.firstFault(packet) === null) {
       const own = rebuilt(packet);
-      dcsctp.check(own, { strictPadding: true });
-      assert.deepEqual(dcsctp.canonical(own), dcsctp.canonical(packet), hex);
+      davgyuti.check(own, { strictPadding: true });
+      assert.deepEqual(davgyuti.canonical(own), davgyuti.canonical(packet), hex);
       count++;
     }
   }

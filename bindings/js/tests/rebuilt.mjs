@@ -1,5 +1,6 @@
+// SPDX-License-Identifier: Apache-2.0
 // A packet that is built anew of what is read of another: it means the same.
-import { Builder, CauseCode, ChunkType, ParameterType, TAG_REFLECTED, causes, chunks, header, parameters } from '../dcsctp.mjs';
+import { Builder, CauseCode, ChunkType, ParameterType, TAG_REFLECTED, causes, chunks, header, parameters } from '../davgyuti.mjs';
 
 function addItems(builder, chunk) {
   for (const it of parameters(chunk)) {

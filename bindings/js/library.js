@@ -1,46 +1,43 @@
+// SPDX-License-Identifier: Apache-2.0
 // The library as WebAssembly: its one instance, and what lies in its memory. It is no part of the package's interface.
+'use strict';
 
-async function fetched() {
-  const url = new URL('./dcsctp.wasm', import.meta.url);
-  if (url.protocol === 'file:' && globalThis.process?.versions?.node)
-    return (await import('node:fs/promises')).readFile(url);
-  const response = await fetch(url);
-  if (!response.ok)
-    throw new Error(`${url}: ${response.status} ${response.statusText}`);
-  return response.arrayBuffer();
-}
-
-const module = await WebAssembly.compile(await fetched());
-let wasm = (await WebAssembly.instantiate(module)).exports;
-let held = new DataView(wasm.memory.buffer);
+let compiled, wasm, held;
 // How many instances there were before this one, each of them left by an exception.
 let left = 0;
 
+/** Takes what `WebAssembly.instantiate` gives of dcsctp.wasm. */
+function load({ module, instance }) {
+  compiled = module;
+  wasm = instance.exports;
+  held = new DataView(wasm.memory.buffer);
+}
+
 /** Calls a function. An exception, as of a stack that is full, leaves the memory as it is: so a new instance comes. */
-export function call(name, ...words) {
+function call(name, ...words) {
   try {
     return wasm[name](...words);
   } catch (error) {
-    wasm = new WebAssembly.Instance(module).exports;
+    wasm = new WebAssembly.Instance(compiled).exports;
     left++;
     throw error;
   }
 }
 
 /** Which instance it is: what lies in another one's memory is lost. */
-export function instance() {
+function instance() {
   return left;
 }
 
 /** The memory as it is now. A call can make it grow, and then an older view is of no use. */
-export function view() {
+function view() {
   if (held.buffer !== wasm.memory.buffer)
     held = new DataView(wasm.memory.buffer);
   return held;
 }
 
 /** A block of the memory, with room for what lies in it. Its place changes where it has to grow. */
-export class Block {
+class Block {
   #at = 0n;
   #room = 0;
   #instance = -1;
@@ -92,8 +89,19 @@ const NUMBERS = {
   u32: [4, 'Uint32', 0xffffffff],
 };
 
+function refuse(value, name, wanted) {
+  let said = Object(value) === value ? Object.prototype.toString.call(value) : String(value);
+  if (typeof value === 'string')
+    said = JSON.stringify(value.slice(0, 40)) + (value.length > 40 ? '..' : '');
+  if (typeof value === 'bigint')
+    said += 'n';
+  throw new TypeError(`${name} is ${said}, and not ${wanted}`);
+}
+
 /** Refuses what isn't a number of a type. */
-export function number(value, type, name) {
+function number(value, type, name) {
+  if (typeof value !== 'number')
+    refuse(value, name, 'a number');
   const most = NUMBERS[type]?.[2] ?? Number.MAX_SAFE_INTEGER;
   if (!Number.isInteger(value) || value < 0 || value > most)
     throw new RangeError(`${name} is ${String(value)}, and not an integer from 0 to ${most}`);
@@ -102,7 +110,27 @@ export function number(value, type, name) {
 
 function truth(value, name) {
   if (typeof value !== 'boolean')
-    throw new TypeError(`${name} is ${String(value)}, and not true or false`);
+    refuse(value, name, 'true or false');
+  return value;
+}
+
+function record(value, name) {
+  if (typeof value !== 'object' || value === null)
+    refuse(value, name, 'an object');
+  return value;
+}
+
+/** Refuses what can't be gone through, and text. */
+function isList(value, name) {
+  if (typeof value === 'string' || typeof value?.[Symbol.iterator] !== 'function')
+    refuse(value, name, 'a list');
+  return value;
+}
+
+/** Refuses what is no Uint8Array, be it that of another window or context. */
+function isBytes(value, name) {
+  if (!ArrayBuffer.isView(value) || value[Symbol.toStringTag] !== 'Uint8Array')
+    refuse(value, name, 'a Uint8Array');
   return value;
 }
 
@@ -120,7 +148,8 @@ function field(type) {
     return {
       size: 8,
       check,
-      get: (v, at) => Number(v.getBigUint64(at, true)),
+      // (its upper half is 0, as the memory's addresses have 32 bits)
+      get: (v, at) => v.getUint32(at, true),
       set: (v, at, value) => v.setBigUint64(at, BigInt(value), true),
     };
   }
@@ -130,7 +159,7 @@ function field(type) {
 }
 
 /** A struct of these fields: an object in JavaScript. Its fields are read and written at an address. */
-export class Struct {
+class Struct {
   constructor(types) {
     this.fields = [];
     let size = 0, most = 1;
@@ -152,7 +181,8 @@ export class Struct {
   }
 
   /** The values of the fields, each of its type. Reading an object can run code of its own, so this comes first. */
-  values(object) {
+  values(object, name) {
+    record(object, name);
     return this.fields.map(it => it.check(object[it.name], it.name));
   }
 
@@ -163,7 +193,7 @@ export class Struct {
 }
 
 /** The structs of dcsctp.h. */
-export const structs = {
+const structs = {
   policy: new Struct({ anyChecksum: 'bool', zeroChecksum: 'bool', strictPadding: 'bool' }),
   header: new Struct({ sourcePort: 'u16', destinationPort: 'u16', verificationTag: 'u32', checksum: 'u32' }),
   chunk: new Struct({ type: 'u8', flags: 'u8', valueOffset: 'size', valueSize: 'size', next: 'size' }),
@@ -184,3 +214,10 @@ export const structs = {
     senderNextTsn: 'u32', receiverNextTsn: 'u32', newStreams: 'u16', streamCount: 'size',
   }),
 };
+
+// davgyuti.mjs says who takes it from where.
+const library = { load, call, instance, view, number, truth, record, isList, isBytes, Block, Struct, structs };
+if (this)
+  module.exports = library;
+else
+  globalThis[Symbol.for('davgyuti')] = library;

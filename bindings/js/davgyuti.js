@@ -1,11 +1,16 @@
-// Reads, checks, prints and writes SCTP packets (RFC 9260). dcsctp.d.ts says what each of these does.
-import { Block, Struct, call, instance, number, structs } from './library.mjs';
+// SPDX-License-Identifier: Apache-2.0
+// Reads, checks, prints and writes SCTP packets (RFC 9260). davgyuti.d.ts says what each of these does.
+'use strict';
 
-export const version = '0.1.0';
+// (`this` is a CommonJS module's exports; in a module of a browser it is undefined)
+const { load, call, instance, number, truth, record, isList, isBytes, Block, Struct, structs } =
+  this ? require('./library.js') : globalThis[Symbol.for('davgyuti')];
+
+const version = '0.1.0';
 
 // ---- the constants of dcsctp.h
 
-export const Result = Object.freeze({
+const Result = Object.freeze({
   OK: 0,
   FAULT_SIZE: 1,
   FAULT_CHECKSUM: 2,
@@ -19,9 +24,9 @@ export const Result = Object.freeze({
   BAD_PLACE: 10,
 });
 
-export const FIRST_CHUNK = 12;
+const FIRST_CHUNK = 12;
 
-export const ChunkType = Object.freeze({
+const ChunkType = Object.freeze({
   DATA: 0,
   INIT: 1,
   INIT_ACK: 2,
@@ -41,9 +46,9 @@ export const ChunkType = Object.freeze({
   I_FORWARD_TSN: 194,
 });
 
-export const TAG_REFLECTED = 1;
+const TAG_REFLECTED = 1;
 
-export const ParameterType = Object.freeze({
+const ParameterType = Object.freeze({
   HEARTBEAT_INFO: 1,
   STATE_COOKIE: 7,
   UNRECOGNIZED_PARAMETER: 8,
@@ -58,7 +63,7 @@ export const ParameterType = Object.freeze({
   FORWARD_TSN_SUPPORTED: 0xc000,
 });
 
-export const CauseCode = Object.freeze({
+const CauseCode = Object.freeze({
   INVALID_STREAM_IDENTIFIER: 1,
   MISSING_MANDATORY_PARAMETER: 2,
   STALE_COOKIE: 3,
@@ -74,7 +79,7 @@ export const CauseCode = Object.freeze({
   PROTOCOL_VIOLATION: 13,
 });
 
-export const ReConfigResult = Object.freeze({
+const ReConfigResult = Object.freeze({
   NOTHING_TO_DO: 0,
   PERFORMED: 1,
   DENIED: 2,
@@ -98,68 +103,91 @@ const RESULT_TEXTS = [
   'not the end of a packet, or not its last chunk',
 ];
 
-const CHUNK_NAMES = {
-  [ChunkType.DATA]: 'DATA',
-  [ChunkType.INIT]: 'INIT',
-  [ChunkType.INIT_ACK]: 'INIT ACK',
-  [ChunkType.SACK]: 'SACK',
-  [ChunkType.HEARTBEAT]: 'HEARTBEAT',
-  [ChunkType.HEARTBEAT_ACK]: 'HEARTBEAT ACK',
-  [ChunkType.ABORT]: 'ABORT',
-  [ChunkType.SHUTDOWN]: 'SHUTDOWN',
-  [ChunkType.SHUTDOWN_ACK]: 'SHUTDOWN ACK',
-  [ChunkType.ERROR]: 'ERROR',
-  [ChunkType.COOKIE_ECHO]: 'COOKIE ECHO',
-  [ChunkType.COOKIE_ACK]: 'COOKIE ACK',
-  [ChunkType.SHUTDOWN_COMPLETE]: 'SHUTDOWN COMPLETE',
-  [ChunkType.I_DATA]: 'I-DATA',
-  [ChunkType.RE_CONFIG]: 'RE-CONFIG',
-  [ChunkType.FORWARD_TSN]: 'FORWARD-TSN',
-  [ChunkType.I_FORWARD_TSN]: 'I-FORWARD-TSN',
-};
+const CHUNK_NAMES = new Map([
+  [ChunkType.DATA, 'DATA'],
+  [ChunkType.INIT, 'INIT'],
+  [ChunkType.INIT_ACK, 'INIT ACK'],
+  [ChunkType.SACK, 'SACK'],
+  [ChunkType.HEARTBEAT, 'HEARTBEAT'],
+  [ChunkType.HEARTBEAT_ACK, 'HEARTBEAT ACK'],
+  [ChunkType.ABORT, 'ABORT'],
+  [ChunkType.SHUTDOWN, 'SHUTDOWN'],
+  [ChunkType.SHUTDOWN_ACK, 'SHUTDOWN ACK'],
+  [ChunkType.ERROR, 'ERROR'],
+  [ChunkType.COOKIE_ECHO, 'COOKIE ECHO'],
+  [ChunkType.COOKIE_ACK, 'COOKIE ACK'],
+  [ChunkType.SHUTDOWN_COMPLETE, 'SHUTDOWN COMPLETE'],
+  [ChunkType.I_DATA, 'I-DATA'],
+  [ChunkType.RE_CONFIG, 'RE-CONFIG'],
+  [ChunkType.FORWARD_TSN, 'FORWARD-TSN'],
+  [ChunkType.I_FORWARD_TSN, 'I-FORWARD-TSN'],
+]);
 
-const PARAMETER_NAMES = {
-  [ParameterType.HEARTBEAT_INFO]: 'Heartbeat Info',
-  [ParameterType.STATE_COOKIE]: 'State Cookie',
-  [ParameterType.UNRECOGNIZED_PARAMETER]: 'Unrecognized Parameter',
-  [ParameterType.OUTGOING_SSN_RESET]: 'Outgoing SSN Reset Request',
-  [ParameterType.INCOMING_SSN_RESET]: 'Incoming SSN Reset Request',
-  [ParameterType.SSN_TSN_RESET]: 'SSN/TSN Reset Request',
-  [ParameterType.RECONFIGURATION_RESPONSE]: 'Re-configuration Response',
-  [ParameterType.ADD_OUTGOING_STREAMS]: 'Add Outgoing Streams Request',
-  [ParameterType.ADD_INCOMING_STREAMS]: 'Add Incoming Streams Request',
-  [ParameterType.ZERO_CHECKSUM_ACCEPTABLE]: 'Zero Checksum Acceptable',
-  [ParameterType.SUPPORTED_EXTENSIONS]: 'Supported Extensions',
-  [ParameterType.FORWARD_TSN_SUPPORTED]: 'Forward-TSN-Supported',
-};
+const PARAMETER_NAMES = new Map([
+  [ParameterType.HEARTBEAT_INFO, 'Heartbeat Info'],
+  [ParameterType.STATE_COOKIE, 'State Cookie'],
+  [ParameterType.UNRECOGNIZED_PARAMETER, 'Unrecognized Parameter'],
+  [ParameterType.OUTGOING_SSN_RESET, 'Outgoing SSN Reset Request'],
+  [ParameterType.INCOMING_SSN_RESET, 'Incoming SSN Reset Request'],
+  [ParameterType.SSN_TSN_RESET, 'SSN/TSN Reset Request'],
+  [ParameterType.RECONFIGURATION_RESPONSE, 'Re-configuration Response'],
+  [ParameterType.ADD_OUTGOING_STREAMS, 'Add Outgoing Streams Request'],
+  [ParameterType.ADD_INCOMING_STREAMS, 'Add Incoming Streams Request'],
+  [ParameterType.ZERO_CHECKSUM_ACCEPTABLE, 'Zero Checksum Acceptable'],
+  [ParameterType.SUPPORTED_EXTENSIONS, 'Supported Extensions'],
+  [ParameterType.FORWARD_TSN_SUPPORTED, 'Forward-TSN-Supported'],
+]);
 
-const CAUSE_NAMES = {
-  [CauseCode.INVALID_STREAM_IDENTIFIER]: 'Invalid Stream Identifier',
-  [CauseCode.MISSING_MANDATORY_PARAMETER]: 'Missing Mandatory Parameter',
-  [CauseCode.STALE_COOKIE]: 'Stale Cookie',
-  [CauseCode.OUT_OF_RESOURCE]: 'Out of Resource',
-  [CauseCode.UNRESOLVABLE_ADDRESS]: 'Unresolvable Address',
-  [CauseCode.UNRECOGNIZED_CHUNK]: 'Unrecognized Chunk Type',
-  [CauseCode.INVALID_MANDATORY_PARAMETER]: 'Invalid Mandatory Parameter',
-  [CauseCode.UNRECOGNIZED_PARAMETERS]: 'Unrecognized Parameters',
-  [CauseCode.NO_USER_DATA]: 'No User Data',
-  [CauseCode.COOKIE_RECEIVED_WHILE_SHUTTING_DOWN]: 'Cookie Received While Shutting Down',
-  [CauseCode.RESTART_WITH_NEW_ADDRESSES]: 'Restart of an Association with New Addresses',
-  [CauseCode.USER_INITIATED_ABORT]: 'User-Initiated Abort',
-  [CauseCode.PROTOCOL_VIOLATION]: 'Protocol Violation',
-};
+const CAUSE_NAMES = new Map([
+  [CauseCode.INVALID_STREAM_IDENTIFIER, 'Invalid Stream Identifier'],
+  [CauseCode.MISSING_MANDATORY_PARAMETER, 'Missing Mandatory Parameter'],
+  [CauseCode.STALE_COOKIE, 'Stale Cookie'],
+  [CauseCode.OUT_OF_RESOURCE, 'Out of Resource'],
+  [CauseCode.UNRESOLVABLE_ADDRESS, 'Unresolvable Address'],
+  [CauseCode.UNRECOGNIZED_CHUNK, 'Unrecognized Chunk Type'],
+  [CauseCode.INVALID_MANDATORY_PARAMETER, 'Invalid Mandatory Parameter'],
+  [CauseCode.UNRECOGNIZED_PARAMETERS, 'Unrecognized Parameters'],
+  [CauseCode.NO_USER_DATA, 'No User Data'],
+  [CauseCode.COOKIE_RECEIVED_WHILE_SHUTTING_DOWN, 'Cookie Received While Shutting Down'],
+  [CauseCode.RESTART_WITH_NEW_ADDRESSES, 'Restart of an Association with New Addresses'],
+  [CauseCode.USER_INITIATED_ABORT, 'User-Initiated Abort'],
+  [CauseCode.PROTOCOL_VIOLATION, 'Protocol Violation'],
+]);
 
-export const resultText = code => RESULT_TEXTS[code] ?? 'unknown result';
-export const chunkName = type => CHUNK_NAMES[type] ?? 'unknown';
-export const parameterName = type => PARAMETER_NAMES[type] ?? 'unknown';
-export const causeName = code => CAUSE_NAMES[code] ?? 'unknown';
+const resultText = code => RESULT_TEXTS[number(code, 'u32', 'code')] ?? 'unknown result';
 
-export class DcsctpError extends Error {
-  constructor(code, offset = null) {
-    super(offset === null ? resultText(code) : `${resultText(code)} at byte ${offset}`);
-    this.name = 'DcsctpError';
+/** A function that gives the name of a number; of one that has none, what it is and the number. */
+const namer = (names, type, what, digits) => it =>
+  names.get(number(it, type, what)) ?? `${what} 0x${it.toString(16).padStart(digits, '0')}`;
+
+const chunkName = namer(CHUNK_NAMES, 'u8', 'chunk type', 2);
+const parameterName = namer(PARAMETER_NAMES, 'u16', 'parameter type', 4);
+const causeName = namer(CAUSE_NAMES, 'u16', 'cause code', 4);
+
+const isKnownChunk = type => CHUNK_NAMES.has(type);
+const isKnownParameter = type => PARAMETER_NAMES.has(type);
+const isKnownCause = code => CAUSE_NAMES.has(code);
+
+class Fault extends Error {
+  constructor(code, offset) {
+    super(`${resultText(code)} at byte ${offset}`);
     this.code = code;
     this.offset = offset;
+  }
+
+  get name() {
+    return 'Fault';
+  }
+}
+
+class WriteError extends Error {
+  constructor(code, message = resultText(code)) {
+    super(message);
+    this.code = code;
+  }
+
+  get name() {
+    return 'WriteError';
   }
 }
 
@@ -178,32 +206,26 @@ const NOTHING = new Uint8Array(0);
 
 function reserve(block, size) {
   if (!block.reserve(size))
-    throw new DcsctpError(Result.NO_MEMORY);
-}
-
-/** Refuses what is no Uint8Array, be it that of another window or context. */
-function isBytes(bytes) {
-  if (!ArrayBuffer.isView(bytes) || bytes[Symbol.toStringTag] !== 'Uint8Array')
-    throw new TypeError('bytes have to be a Uint8Array');
-  return bytes;
+    throw new WriteError(Result.NO_MEMORY);
 }
 
 /** Copies bytes into a block of the memory: the words for a pointer and its length. */
-function put(block, bytes) {
-  reserve(block, isBytes(bytes).length);
+function put(block, bytes, name = 'bytes') {
+  reserve(block, isBytes(bytes, name).length);
   block.put(bytes);
   return [block.at, BigInt(bytes.length)];
 }
 
 /** The same of a list of structs, by what `values` gave. */
-function putAll(block, struct, list) {
-  reserve(block, list.length * struct.size);
-  list.forEach((values, i) => struct.write(Number(block.at) + i * struct.size, values));
-  return [block.at, BigInt(list.length)];
+function putAll(block, struct, all) {
+  reserve(block, all.length * struct.size);
+  all.forEach((values, i) => struct.write(Number(block.at) + i * struct.size, values));
+  return [block.at, BigInt(all.length)];
 }
 
-const valuesOf = (struct, list) => Array.from(list, it => struct.values(it));
-const numbersOf = (struct, list) => Array.from(list, it => struct.values({ it }));
+/** The values of a list's items; of numbers the struct has one. */
+const valuesOf = (struct, items, name) => Array.from(isList(items, name), it => struct.values(it, `an item of ${name}`));
+const numbersOf = (struct, items, name) => Array.from(isList(items, name), it => [struct.fields[0].check(it, `an item of ${name}`)]);
 
 function place(at) {
   reserve(places, PLACES);
@@ -228,11 +250,12 @@ function listed(struct, name, ...words) {
 
 /** The words for a packet, its checksum's word, and a policy. */
 function asked(bytes, policy) {
-  const { anyChecksum = false, zeroChecksum = false, strictPadding = false, word } = policy;
+  const { anyChecksum = false, zeroChecksum = false, strictPadding = false, word } = record(policy, 'policy');
   const values = structs.policy.values({ anyChecksum, zeroChecksum, strictPadding });
   if (word !== undefined)
     number(word, 'u32', 'word');
-  const words = put(input, bytes), at = place(HEAD);
+  // (more than 65,535 bytes are refused by their size: so at most one too many is copied)
+  const words = put(input, part(bytes, 0, Math.min(isBytes(bytes, 'bytes').length, 65_536))), at = place(HEAD);
   structs.policy.write(at, values);
   return [...words, word ?? call('dcsctp_word', ...words), at];
 }
@@ -243,16 +266,19 @@ function firstOf(words) {
   return code === Result.OK ? null : { code, offset: SIZE.read(at).it };
 }
 
-export function firstFault(bytes, policy = {}) {
+function faultOf(words) {
+  const fault = firstOf(words);
+  return fault && new Fault(fault.code, fault.offset);
+}
+
+function firstFault(bytes, policy = {}) {
   return firstOf(asked(bytes, policy));
 }
 
-export function check(bytes, policy = {}) {
+function check(bytes, policy = {}) {
   const words = asked(bytes, policy);
-  if (call('dcsctp_check', ...words) === Result.OK)
-    return;
-  const { code, offset } = firstOf(words);
-  throw new DcsctpError(code, offset);
+  if (call('dcsctp_check', ...words) !== Result.OK)
+    throw faultOf(words);
 }
 
 /** The bytes that a function writes, where they lie. */
@@ -265,20 +291,20 @@ function written(name, bytes, policy) {
     code = call(name, ...words, output.at, BigInt(output.room), at);
   }
   if (code !== Result.OK)
-    throw new DcsctpError(code, firstOf(words)?.offset ?? null);
+    throw faultOf(words) ?? new WriteError(code);
   return output.bytes(0, SIZE.read(at).it);
 }
 
 const utf8 = new TextDecoder('utf-8', { fatal: true, ignoreBOM: true });
 
-export const canonical = (bytes, policy = {}) => written('dcsctp_canonical', bytes, policy).slice();
-export const text = (bytes, policy = {}) => utf8.decode(written('dcsctp_print', bytes, policy));
-export const report = (bytes, policy = {}) => utf8.decode(written('dcsctp_report', bytes, policy));
-export const word = bytes => call('dcsctp_word', ...put(input, bytes)) >>> 0;
+const canonical = (bytes, policy = {}) => written('dcsctp_canonical', bytes, policy).slice();
+const text = (bytes, policy = {}) => utf8.decode(written('dcsctp_print', bytes, policy));
+const report = (bytes, policy = {}) => utf8.decode(written('dcsctp_report', bytes, policy));
+const word = bytes => call('dcsctp_word', ...put(input, bytes)) >>> 0;
 
 // ---- reading the parts of a packet
 
-export const header = bytes => found(structs.header, 'dcsctp_header', ...put(input, bytes));
+const header = bytes => found(structs.header, 'dcsctp_header', ...put(input, bytes));
 
 /** A part of the caller's bytes, where they lie. */
 const part = (bytes, offset, size) => new Uint8Array(bytes.buffer, bytes.byteOffset + offset, size);
@@ -328,7 +354,7 @@ function readForwardTsn(words) {
 
 // All the parts of a level are read at once, as the memory is every call's: so it is copied into once, whoever reads on
 // while they are gone through.
-export function chunks(bytes) {
+function chunks(bytes) {
   const words = put(input, bytes), list = [], head = place(HEAD);
   for (let offset = FIRST_CHUNK; ;) {
     if (!call('dcsctp_chunk_at', ...words, BigInt(offset), head))
@@ -336,6 +362,7 @@ export function chunks(bytes) {
     const { type, flags, valueOffset, valueSize, next } = structs.chunk.read(head);
     const chunk = { type, name: chunkName(type), flags, offset, valueOffset, next };
     chunk.value = part(bytes, valueOffset, valueSize);
+    chunk.bytes = part(bytes, offset, valueOffset + valueSize - offset);
     const [name, read] = CONTENTS[type] ?? [];
     const content = read && read([...words, head], bytes);
     if (content)
@@ -347,22 +374,23 @@ export function chunks(bytes) {
 
 /** The parameters or error causes of a chunk, read from its value alone. */
 function items(chunk, complete) {
-  const { type, flags, value, valueOffset } = chunk, size = isBytes(value).length;
-  const at = structs.chunk.values({ type, flags, valueOffset: 0, valueSize: size, next: size });
-  const base = number(valueOffset, 'size', 'valueOffset'), list = [];
+  const { flags, value } = chunk, size = isBytes(value, 'value').length;
+  const at = structs.chunk.values({ type: chunk.type, flags, valueOffset: 0, valueSize: size, next: size });
+  const base = number(chunk.valueOffset, 'size', 'valueOffset'), list = [];
   const words = put(input, value), head = place(HEAD), item = place(ITEM);
   structs.chunk.write(head, at);
   for (let offset = Number(call('dcsctp_list_offset', head)); ;) {
     if (!call('dcsctp_parameter_at', ...words, head, BigInt(offset), item))
       return list.values();
-    const it = structs.parameter.read(item);
-    const bytes = part(value, it.valueOffset, it.valueSize);
-    list.push(complete(it.type, { value: bytes, offset: base + offset, next: base + it.next }, [...words, item]));
-    offset = it.next;
+    const { type, valueOffset, valueSize, next } = structs.parameter.read(item);
+    const its = { value: part(value, valueOffset, valueSize), offset: base + offset, next: base + next };
+    its.bytes = part(value, offset, valueOffset + valueSize - offset);
+    list.push(complete(type, its, [...words, item]));
+    offset = next;
   }
 }
 
-const isCauses = chunk => chunk.type === ChunkType.ABORT || chunk.type === ChunkType.ERROR;
+const isCauses = chunk => [ChunkType.ABORT, ChunkType.ERROR].includes(record(chunk, 'chunk').type);
 
 /** A value that is a number of four bytes, where a type has one. */
 function withNumber(item, words) {
@@ -371,7 +399,7 @@ function withNumber(item, words) {
     item.number = it.it;
 }
 
-export function parameters(chunk) {
+function parameters(chunk) {
   if (isCauses(chunk))
     return [].values();
   return items(chunk, (type, its, words) => {
@@ -388,7 +416,7 @@ export function parameters(chunk) {
   });
 }
 
-export function causes(chunk) {
+function causes(chunk) {
   if (!isCauses(chunk))
     return [].values();
   return items(chunk, (code, its, words) => {
@@ -406,13 +434,13 @@ export function causes(chunk) {
 function changed(bytes, name, ...words) {
   const code = call(name, ...put(input, bytes), ...words);
   if (code !== Result.OK)
-    throw new DcsctpError(code);
+    throw new WriteError(code, 'fewer than 12 bytes');
   bytes.set(input.bytes(0, bytes.length));
   return bytes;
 }
 
-export const seal = bytes => changed(bytes, 'dcsctp_seal');
-export const setTag = (bytes, verificationTag) =>
+const seal = bytes => changed(bytes, 'dcsctp_seal');
+const setTag = (bytes, verificationTag) =>
   changed(bytes, 'dcsctp_set_tag', number(verificationTag, 'u32', 'verificationTag'));
 
 // ---- writing a packet
@@ -428,22 +456,28 @@ const NO_RE_CONFIG = {
   newStreams: 0,
 };
 
+function tagReflectedOf(options) {
+  const { tagReflected = false } = record(options, 'options');
+  return truth(tagReflected, 'tagReflected') ? 1 : 0;
+}
+
 // The builder whose packet lies in the memory's block, and the instance that has it.
 let here = null, hereIn = -1;
 
-export class Builder {
-  #bytes;
+class Builder {
+  #room;
+  #bytes = NOTHING;
   #size = 0;
   #starts = [];
 
-  constructor({ sourcePort, destinationPort, verificationTag, room = MOST }) {
-    number(room, 'size', 'room');
+  constructor(options) {
+    const { sourcePort, destinationPort, verificationTag, room = MOST } = record(options, 'options');
+    this.#room = Math.min(number(room, 'size', 'room'), MOST);
     const words = [
       number(sourcePort, 'u16', 'sourcePort'),
       number(destinationPort, 'u16', 'destinationPort'),
       number(verificationTag, 'u32', 'verificationTag'),
     ];
-    this.#bytes = new Uint8Array(Math.min(room, MOST));
     this.#add(0, 'dcsctp_begin', ...words);
   }
 
@@ -452,7 +486,7 @@ export class Builder {
   }
 
   get room() {
-    return this.#bytes.length;
+    return this.#room;
   }
 
   /** Calls a function that writes, and takes what it changed from an offset on. */
@@ -460,21 +494,25 @@ export class Builder {
     const isHere = here === this && hereIn === instance();
     here = null;
     if (!isHere) {
-      reserve(packet, this.#bytes.length);
+      reserve(packet, this.#room);
       packet.put(this.#bytes.subarray(0, this.#size));
     }
     const at = place(HEAD);
     SIZE.write(at, [this.#size]);
-    const code = call(name, packet.at, BigInt(this.#bytes.length), at, ...words);
+    const code = call(name, packet.at, BigInt(this.#room), at, ...words);
     if (code === Result.OK) {
-      const size = SIZE.read(at).it;
+      const size = SIZE.read(at).it, old = this.#bytes;
+      if (size > old.length) {
+        this.#bytes = new Uint8Array(Math.min(2 * size, this.#room));
+        this.#bytes.set(old);
+      }
       this.#bytes.set(packet.bytes(from, size), from);
       this.#size = size;
     }
     here = this;
     hereIn = instance();
     if (code !== Result.OK)
-      throw new DcsctpError(code);
+      throw new WriteError(code);
   }
 
   #chunk(name, ...words) {
@@ -486,27 +524,29 @@ export class Builder {
 
   /** Adds to the list of the last chunk. */
   #item(name, ...words) {
-    const start = this.#starts.at(-1) ?? 0;
+    const start = this.#starts.at(-1);
+    if (start === undefined)
+      throw new WriteError(Result.BAD_PLACE, 'no chunk to add to');
     this.#add(start, name, BigInt(start), ...words);
     return this;
   }
 
   /** A struct that a function reads: its values, and where they lie when it is called. */
-  #struct(struct, object) {
+  #struct(struct, object, name) {
     const at = place(FOUND);
-    struct.write(at, struct.values(object));
+    struct.write(at, struct.values(object, name));
     return at;
   }
 
   addChunk(type, flags = 0, value = NOTHING) {
     const words = [number(type, 'u8', 'type'), number(flags, 'u8', 'flags')];
-    return this.#chunk('dcsctp_add_chunk', ...words, ...put(input, value));
+    return this.#chunk('dcsctp_add_chunk', ...words, ...put(input, value, 'value'));
   }
 
   #addData(name, data) {
-    const all = { ...NO_DATA, ...data, payloadOffset: 0, payloadSize: 0 };
+    const all = { ...NO_DATA, ...record(data, 'data'), payloadOffset: 0, payloadSize: 0 };
     const at = this.#struct(structs.data, all);
-    return this.#chunk(name, at, ...put(input, all.payload));
+    return this.#chunk(name, at, ...put(input, all.payload, 'payload'));
   }
 
   addData(data) {
@@ -517,23 +557,24 @@ export class Builder {
     return this.#addData('dcsctp_add_i_data', data);
   }
 
-  addSack({ cumulativeTsnAck, aRwnd, blocks = [], duplicates = [] }) {
+  addSack(sack) {
+    const { cumulativeTsnAck, aRwnd, blocks = [], duplicates = [] } = record(sack, 'sack');
     const words = [number(cumulativeTsnAck, 'u32', 'cumulativeTsnAck'), number(aRwnd, 'u32', 'aRwnd')];
-    const [first, second] = [valuesOf(structs.gapAckBlock, blocks), numbersOf(U32, duplicates)];
+    const [first, second] = [valuesOf(structs.gapAckBlock, blocks, 'blocks'), numbersOf(U32, duplicates, 'duplicates')];
     words.push(...putAll(input, structs.gapAckBlock, first), ...putAll(output, U32, second));
     return this.#chunk('dcsctp_add_sack', ...words);
   }
 
   addInit(init) {
-    return this.#chunk('dcsctp_add_init', this.#struct(structs.init, init));
+    return this.#chunk('dcsctp_add_init', this.#struct(structs.init, init, 'init'));
   }
 
   addInitAck(init) {
-    return this.#chunk('dcsctp_add_init_ack', this.#struct(structs.init, init));
+    return this.#chunk('dcsctp_add_init_ack', this.#struct(structs.init, init, 'init'));
   }
 
   addCookieEcho(cookie) {
-    return this.#chunk('dcsctp_add_cookie_echo', ...put(input, cookie));
+    return this.#chunk('dcsctp_add_cookie_echo', ...put(input, cookie, 'cookie'));
   }
 
   addCookieAck() {
@@ -541,19 +582,22 @@ export class Builder {
   }
 
   addHeartbeat(info) {
-    return this.#chunk('dcsctp_add_heartbeat', 0, ...put(input, info));
+    return this.#chunk('dcsctp_add_heartbeat', 0, ...put(input, info, 'info'));
   }
 
   addHeartbeatAck(info) {
-    return this.#chunk('dcsctp_add_heartbeat', 1, ...put(input, info));
+    return this.#chunk('dcsctp_add_heartbeat', 1, ...put(input, info, 'info'));
   }
 
-  addAbort(reason = '', { tagReflected = false } = {}) {
-    const bytes = typeof reason === 'string' ? utf8Bytes.encode(reason) : reason;
-    return this.#chunk('dcsctp_add_abort', tagReflected ? 1 : 0, ...put(input, bytes));
+  addAbort(reason = '', options = {}) {
+    const isText = typeof reason === 'string', reflected = tagReflectedOf(options);
+    if (isText && /\p{Surrogate}/u.test(reason))
+      throw new WriteError(Result.BAD_VALUE);
+    return this.#chunk('dcsctp_add_abort', reflected, ...put(input, isText ? utf8Bytes.encode(reason) : reason, 'reason'));
   }
 
-  addShutdown({ cumulativeTsnAck }) {
+  addShutdown(shutdown) {
+    const { cumulativeTsnAck } = record(shutdown, 'shutdown');
     return this.#chunk('dcsctp_add_shutdown', number(cumulativeTsnAck, 'u32', 'cumulativeTsnAck'));
   }
 
@@ -561,14 +605,15 @@ export class Builder {
     return this.#chunk('dcsctp_add_shutdown_ack');
   }
 
-  addShutdownComplete({ tagReflected = false } = {}) {
-    return this.#chunk('dcsctp_add_shutdown_complete', tagReflected ? 1 : 0);
+  addShutdownComplete(options = {}) {
+    return this.#chunk('dcsctp_add_shutdown_complete', tagReflectedOf(options));
   }
 
-  #addForwardTsn(name, { newCumulativeTsn, streams = [] }) {
+  #addForwardTsn(name, forwardTsn) {
+    const { newCumulativeTsn, streams = [] } = record(forwardTsn, 'forwardTsn');
     const tsn = number(newCumulativeTsn, 'u32', 'newCumulativeTsn');
-    const list = valuesOf(structs.skippedStream, Array.from(streams, it => ({ ...NO_STREAM, ...it })));
-    return this.#chunk(name, tsn, ...putAll(input, structs.skippedStream, list));
+    const whole = Array.from(isList(streams, 'streams'), it => ({ ...NO_STREAM, ...record(it, 'an item of streams') }));
+    return this.#chunk(name, tsn, ...putAll(input, structs.skippedStream, valuesOf(structs.skippedStream, whole)));
   }
 
   addForwardTsn(forwardTsn) {
@@ -580,44 +625,46 @@ export class Builder {
   }
 
   addParameter(type, value = NOTHING) {
-    return this.#item('dcsctp_add_parameter', number(type, 'u16', 'type'), ...put(input, value));
+    return this.#item('dcsctp_add_parameter', number(type, 'u16', 'type'), ...put(input, value, 'value'));
   }
 
   addCause(code, value = NOTHING) {
-    return this.#item('dcsctp_add_parameter', number(code, 'u16', 'code'), ...put(input, value));
+    return this.#item('dcsctp_add_parameter', number(code, 'u16', 'code'), ...put(input, value, 'value'));
   }
 
   addNumber(type, value) {
     return this.#item('dcsctp_add_number', number(type, 'u16', 'type'), number(value, 'u32', 'value'));
   }
 
-  addReConfig({ streams = [], ...reConfig }) {
-    const list = numbersOf(U16, streams);
-    const at = this.#struct(structs.reConfig, { ...NO_RE_CONFIG, ...reConfig, streamCount: 0 });
-    return this.#item('dcsctp_add_re_config', at, ...putAll(input, U16, list));
+  addReConfig(reConfig) {
+    const { streams = [], ...rest } = record(reConfig, 'reConfig');
+    const numbers = numbersOf(U16, streams, 'streams');
+    const at = this.#struct(structs.reConfig, { ...NO_RE_CONFIG, ...rest, streamCount: 0 });
+    return this.#item('dcsctp_add_re_config', at, ...putAll(input, U16, numbers));
   }
 
   addMissingParameters(types) {
-    return this.#item('dcsctp_add_missing_parameters', ...putAll(input, U16, numbersOf(U16, types)));
+    return this.#item('dcsctp_add_missing_parameters', ...putAll(input, U16, numbersOf(U16, types, 'types')));
   }
 
   removeLast() {
     if (this.#starts.length === 0)
-      throw new DcsctpError(Result.BAD_PLACE);
+      throw new WriteError(Result.BAD_PLACE, 'no chunk to remove');
     this.#size = this.#starts.pop();
     return this;
   }
 
-  finish({ checksum = true } = {}) {
+  finish(options = {}) {
+    const { checksum = true } = record(options, 'options'), isSealed = truth(checksum, 'checksum');
     const bytes = this.#bytes.slice(0, this.#size);
-    return checksum ? seal(bytes) : bytes;
+    return isSealed ? seal(bytes) : bytes;
   }
 }
 
 // ---- the blocks of a SACK that is to be sent
 
-export function cleanBlocks(blocks) {
-  const words = putAll(input, structs.gapAckBlock, valuesOf(structs.gapAckBlock, blocks));
+function cleanBlocks(blocks) {
+  const words = putAll(input, structs.gapAckBlock, valuesOf(structs.gapAckBlock, blocks, 'blocks'));
   const count = Number(call('dcsctp_clean_blocks', ...words));
   const at = i => Number(input.at) + i * structs.gapAckBlock.size;
   return Array.from({ length: count }, (_, i) => structs.gapAckBlock.read(at(i)));
@@ -625,8 +672,25 @@ export function cleanBlocks(blocks) {
 
 // ---- the version
 
-export const versionNumber = () => call('dcsctp_version_number') >>> 0;
+const versionNumber = () => call('dcsctp_version_number') >>> 0;
 
-const [major, minor, patch] = version.split('.').map(Number);
-if (versionNumber() !== major * 65536 + minor * 256 + patch)
-  throw new Error(`dcsctp.wasm isn't that of version ${version}`);
+/** Begins with what `WebAssembly.instantiate` gives of dcsctp.wasm. */
+function begin(wasm) {
+  load(wasm);
+  const [major, minor, patch] = version.split('.').map(Number);
+  if (versionNumber() !== major * 65536 + minor * 256 + patch)
+    throw new Error(`dcsctp.wasm isn't that of version ${version}`);
+}
+
+const davgyuti = {
+  version, versionNumber, Result, FIRST_CHUNK, ChunkType, TAG_REFLECTED, ParameterType, CauseCode, ReConfigResult, resultText,
+  chunkName, parameterName, causeName, isKnownChunk, isKnownParameter, isKnownCause, Fault, WriteError, check, firstFault,
+  canonical, text, report, word, header, chunks, parameters, causes, seal, setTag, Builder, cleanBlocks,
+};
+if (this) {
+  const wasm = new WebAssembly.Module(require('node:fs').readFileSync(`${__dirname}/dcsctp.wasm`));
+  begin({ module: wasm, instance: new WebAssembly.Instance(wasm) });
+  module.exports = davgyuti;
+} else {
+  globalThis[Symbol.for('davgyuti')] = { begin, davgyuti };
+}

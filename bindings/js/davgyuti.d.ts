@@ -1,7 +1,11 @@
+// SPDX-License-Identifier: Apache-2.0
 /** Reads, checks, prints and writes SCTP packets (RFC 9260), by proved functions compiled to WebAssembly.
 
-    Bytes are copied into the memory of WebAssembly and out of it; only a `value` and a `payload` are views of the bytes that
-    were given. Numbers are plain values. What isn't of the type that is said here throws a TypeError or a RangeError. */
+    Bytes are copied into the memory of WebAssembly and out of it; only a `value`, a `payload` and the `bytes` of a part are
+    views of the bytes that were given. Numbers are plain values. What isn't of the type that is said here throws a TypeError; a
+    number that doesn't fit its field throws a RangeError. A field or an option that isn't named here is ignored, also a misspelt
+    one. Each call that takes bytes or a list throws a WriteError of NO_MEMORY where WebAssembly has no memory for them. Sections
+    without another name are those of RFC 9260. */
 
 /** The version of this package, and of dcsctp.wasm. */
 export const version: string;
@@ -10,7 +14,9 @@ export function versionNumber(): number;
 
 // ---- constants and names
 
-/** What a DcsctpError or a Fault has as its code. */
+type Of<T, K extends keyof T = keyof T> = T[K];
+
+/** What a Fault (FAULT_) or a WriteError (the others) has as its code. */
 export const Result: {
   readonly OK: 0;
   /** Fewer than 16 bytes, or more than 65,535. */
@@ -23,20 +29,22 @@ export const Result: {
   readonly FAULT_VALUE: 4;
   /** Padding is missing or not zero; only under `strictPadding`. */
   readonly FAULT_PADDING: 5;
-  /** The bytes are a packet, but memory is full. */
+  /** Memory is full. */
   readonly NO_MEMORY: 6;
   /** With it the packet would have more bytes than the room, or than 65,532. */
   readonly NO_ROOM: 7;
   /** The canonical form would have more than 65,532 bytes. */
   readonly TOO_LONG: 8;
-  /** A chunk would have more than 65,535 bytes, what has to be UTF-8 isn't, or `addReConfig` can't write the value. */
+  /** A chunk would have more than 65,535 bytes, a text isn't UTF-8 or has half a surrogate pair, or `addReConfig` can't write the
+      value. */
   readonly BAD_VALUE: 9;
   /** Fewer than 12 bytes; or the builder has no chunk to add to, or to remove. */
   readonly BAD_PLACE: 10;
 };
+export type Result = Of<typeof Result>;
 /** The offset of a packet's first chunk. */
 export const FIRST_CHUNK: 12;
-/** Types of chunks (RFC 9260 section 3.2). */
+/** Types of chunks (section 3.2). */
 export const ChunkType: {
   readonly DATA: 0;
   readonly INIT: 1;
@@ -56,6 +64,7 @@ export const ChunkType: {
   readonly FORWARD_TSN: 192;
   readonly I_FORWARD_TSN: 194;
 };
+export type ChunkType = Of<typeof ChunkType>;
 /** The flag of ABORT and SHUTDOWN COMPLETE, the T bit: the verification tag isn't the one that the receiver expects, but the
     one that it writes into its own packets, sent back to it (section 8.5.1). Other chunks' bits mean something else. */
 export const TAG_REFLECTED: 1;
@@ -74,6 +83,7 @@ export const ParameterType: {
   readonly SUPPORTED_EXTENSIONS: 0x8008;
   readonly FORWARD_TSN_SUPPORTED: 0xc000;
 };
+export type ParameterType = Of<typeof ParameterType>;
 /** Codes of error causes (section 3.3.10). */
 export const CauseCode: {
   readonly INVALID_STREAM_IDENTIFIER: 1;
@@ -90,6 +100,7 @@ export const CauseCode: {
   readonly USER_INITIATED_ABORT: 12;
   readonly PROTOCOL_VIOLATION: 13;
 };
+export type CauseCode = Of<typeof CauseCode>;
 /** The result of a response of RE-CONFIG (RFC 6525 section 4.4). */
 export const ReConfigResult: {
   readonly NOTHING_TO_DO: 0;
@@ -100,20 +111,42 @@ export const ReConfigResult: {
   readonly BAD_SEQUENCE_NUMBER: 5;
   readonly IN_PROGRESS: 6;
 };
+export type ReConfigResult = Of<typeof ReConfigResult>;
 /** What a result means, in a few words. */
 export function resultText(code: number): string;
-/** The name of a type as the RFCs write it; "unknown" for one that isn't named above. */
+/** The name of a type of chunk, 0 to 255, as the RFCs write it; "chunk type 0x4d", say, for one that isn't named above. */
 export function chunkName(type: number): string;
+/** The same of a type of parameter, 0 to 65,535; "parameter type 0x8002", say. */
 export function parameterName(type: number): string;
+/** The same of a code of an error cause, 0 to 65,535; "cause code 0x0105", say. */
 export function causeName(code: number): string;
+/** Whether a type of chunk is named above. */
+export function isKnownChunk(type: unknown): type is ChunkType;
+/** Whether a type of parameter is named above. This isn't what your INIT handling may treat as unrecognized: list that yourself,
+    as IPv4 Address (5) and Supported Address Types (12), say, have no names here. */
+export function isKnownParameter(type: unknown): type is ParameterType;
+/** Whether a code of an error cause is named above. */
+export function isKnownCause(code: unknown): code is CauseCode;
 
-/** Why bytes aren't a packet, or why nothing was written. */
-export class DcsctpError extends Error {
-  /** One of Result. */
-  readonly code: number;
-  /** Where a fault is in the bytes; null where the code is none of FAULT_. */
-  readonly offset: number | null;
+/** The bytes are no packet: the first fault, from the left. Its message says both. What a Worker posts of it arrives as a plain
+    Error: post what `firstFault` gives. */
+export class Fault extends Error {
+  constructor(code: FaultCode, offset: number);
+  /** What is wrong: 1 to 5 of Result. */
+  readonly code: FaultCode;
+  /** Where, in bytes from the first: of a wrong length or value where the chunk, parameter or error cause begins; for
+      FAULT_CHECKSUM 8; of wrong padding its first byte, or the end of the bytes; for FAULT_SIZE how many there are, or 65,535
+      if that is less. */
+  readonly offset: number;
 }
+/** Nothing was written, and all is as it was before. Its message says why. */
+export class WriteError extends Error {
+  constructor(code: WriteError['code'], message?: string);
+  /** Why: 6 to 10 of Result. */
+  readonly code: Exclude<Result, 0 | FaultCode>;
+}
+/** The codes of a Fault. */
+export type FaultCode = Of<typeof Result, Extract<keyof typeof Result, `FAULT_${string}`>>;
 
 // ---- reading a whole packet
 
@@ -129,22 +162,19 @@ export interface Policy {
       it. */
   word?: number;
 }
-export interface Fault {
-  /** 1 to 5 of Result. */
-  code: number;
-  /** The byte where it is; for FAULT_SIZE how many bytes there are, or 65,535 if that is less. */
-  offset: number;
-}
-/** Throws a DcsctpError with the first fault, where the bytes aren't a packet. */
-export function check(bytes: Uint8Array, policy?: Policy): void;
-/** The first fault, or null where the bytes are a packet. */
-export function firstFault(bytes: Uint8Array, policy?: Policy): Fault | null;
+declare const isChecked: unique symbol;
+/** Bytes that `check` accepted. Only their type says so: what you change afterwards has to be checked anew. */
+export type Packet = Uint8Array & { readonly [isChecked]: true };
+/** Throws the first Fault where the bytes aren't a packet (sections 3 and 6.8). */
+export function check(bytes: Uint8Array, policy?: Policy): asserts bytes is Packet;
+/** What the first fault is and where, as a Fault has it; null where the bytes are a packet. */
+export function firstFault(bytes: Uint8Array, policy?: Policy): Pick<Fault, 'code' | 'offset'> | null;
 /** The canonical packet: two packets have the same one if and only if they mean the same. It isn't sealed. Throws as
-    `check` does; and TOO_LONG or NO_MEMORY, as the next two throw NO_MEMORY. */
+    `check` does; and a WriteError of TOO_LONG or NO_MEMORY, as the next two throw NO_MEMORY. */
 export function canonical(bytes: Uint8Array, policy?: Policy): Uint8Array;
 /** A line for the header, and one for each chunk; there is none at the end. */
 export function text(bytes: Uint8Array, policy?: Policy): string;
-/** All that the packet holds, as sctp_dump prints it; each line ends in a line feed. */
+/** All that the packet holds, as `sctp_dump --payload` prints it; each line ends in a line feed. */
 export function report(bytes: Uint8Array, policy?: Policy): string;
 /** The CRC32c of a packet over zeros in its checksum field, as the number that the field has to be, most significant byte
     first (section 6.8). For fewer than 12 bytes it has no meaning. */
@@ -157,36 +187,49 @@ export interface Header {
   sourcePort: number;
   destinationPort: number;
   verificationTag: number;
+  /** As it lies there, most significant byte first. */
   checksum: number;
 }
-/** The common header; null for fewer than 12 bytes. */
+/** The common header of a packet. */
+export function header(bytes: Packet): Header;
+/** The same of any bytes; null for fewer than 12. */
 export function header(bytes: Uint8Array): Header | null;
 
 /** User data of DATA (section 3.3.1) or I-DATA (RFC 8260 section 2.1). What the kind doesn't carry is 0: `mid` and `fsn` in
     DATA; in I-DATA `ssn`, and `fsn` at the beginning of a message, `ppid` elsewhere. */
 export interface Data {
   tsn: number;
+  /** The message identifier, and the fragment sequence number. */
   mid: number;
   fsn: number;
+  /** The payload protocol identifier. */
   ppid: number;
   stream: number;
+  /** The stream sequence number. */
   ssn: number;
+  /** The U bit. */
   isUnordered: boolean;
+  /** The B bit: it is the first fragment of a message. */
   isBeginning: boolean;
+  /** The E bit: it is the last one. */
   isEnd: boolean;
+  /** The I bit: a SACK is wanted at once (RFC 7053). */
   immediateAck: boolean;
+  /** The fragment: a view of the bytes. */
   payload: Uint8Array;
 }
-/** Offsets from the cumulative TSN. */
+/** TSNs that came: the first and the last one, as offsets from the cumulative TSN ack (section 3.3.4). */
 export interface GapAckBlock {
   start: number;
   end: number;
 }
-/** A SACK (RFC 9260 section 3.3.4). */
+/** A SACK (section 3.3.4). */
 export interface Sack {
   cumulativeTsnAck: number;
+  /** The advertised receiver window credit, in bytes. */
   aRwnd: number;
   blocks: GapAckBlock[];
+  /** TSNs that came more than once. */
   duplicates: number[];
   /** Whether the blocks are in order, apart, and begin at 2 or later. */
   isInOrder: boolean;
@@ -194,7 +237,9 @@ export interface Sack {
 /** The numbers of INIT (section 3.3.2) or INIT ACK (section 3.3.3). */
 export interface Init {
   initiateTag: number;
+  /** The advertised receiver window credit, in bytes. */
   aRwnd: number;
+  /** How many streams its sender wants to send on, and how many it accepts at most. */
   outboundStreams: number;
   inboundStreams: number;
   initialTsn: number;
@@ -211,9 +256,8 @@ export interface ForwardTsn {
   newCumulativeTsn: number;
   streams: SkippedStream[];
 }
-/** A chunk (RFC 9260 section 3.2). In a packet that was checked, each of a kind has what is said of it; in other bytes it
-    may be left out. */
-export interface Chunk {
+/** A chunk (section 3.2) of any bytes. Where they aren't a packet, what is said of its kind may be left out. */
+export interface UncheckedChunk {
   type: number;
   /** As `chunkName` has it. */
   name: string;
@@ -224,6 +268,8 @@ export interface Chunk {
   next: number;
   /** What follows its header of four bytes, without padding: a view of the bytes. */
   value: Uint8Array;
+  /** Its header and its value: a view of the bytes. The cause Unrecognized Chunk Type has to hold them (section 3.3.10.6). */
+  bytes: Uint8Array;
   /** Of DATA and I-DATA. */
   data?: Data;
   /** Of SACK. */
@@ -235,13 +281,29 @@ export interface Chunk {
   /** Of FORWARD-TSN and I-FORWARD-TSN. */
   forwardTsn?: ForwardTsn;
 }
-/** The chunks of a packet, as they are now. Where the bytes weren't checked, they end where no whole chunk is. */
-export function chunks(bytes: Uint8Array): IterableIterator<Chunk>;
+type ChunkOf<T extends number, Content = unknown> = UncheckedChunk & { type: T } & Content;
+type KnownChunk =
+  | ChunkOf<Of<typeof ChunkType, 'DATA' | 'I_DATA'>, { data: Data }>
+  | ChunkOf<Of<typeof ChunkType, 'INIT' | 'INIT_ACK'>, { init: Init }>
+  | ChunkOf<Of<typeof ChunkType, 'SACK'>, { sack: Sack }>
+  | ChunkOf<Of<typeof ChunkType, 'SHUTDOWN'>, { shutdown: { cumulativeTsnAck: number } }>
+  | ChunkOf<Of<typeof ChunkType, 'FORWARD_TSN' | 'I_FORWARD_TSN'>, { forwardTsn: ForwardTsn }>;
+/** The numbers below N. */
+type Below<N extends number, All extends number[] = []> = All['length'] extends N ? All[number] : Below<N, [...All, All['length']]>;
+/** A chunk of a packet: its `type` says what it has. */
+export type Chunk = KnownChunk | ChunkOf<Exclude<Below<256>, KnownChunk['type']>>;
+/** The chunks of a packet, as they are now. */
+export function chunks(bytes: Packet): IterableIterator<Chunk>;
+/** The same of any bytes. They end where no whole chunk is. */
+export function chunks(bytes: Uint8Array): IterableIterator<UncheckedChunk>;
 
+/** The types of parameters that are a ReConfig: 13 to 18. */
+export type ReConfigType = Of<typeof ParameterType, 'OUTGOING_SSN_RESET' | 'INCOMING_SSN_RESET' | 'SSN_TSN_RESET'
+  | 'RECONFIGURATION_RESPONSE' | 'ADD_OUTGOING_STREAMS' | 'ADD_INCOMING_STREAMS'>;
 /** A request or the response of RE-CONFIG (RFC 6525 section 4). What the kind doesn't carry is 0. */
 export interface ReConfig {
-  /** Of the parameter: 13 to 18. */
-  type: number;
+  /** Of the parameter. */
+  type: ReConfigType;
   /** Of a request. */
   requestNumber: number;
   /** Of a response, the number of its request; of an Outgoing SSN Reset, that of the Incoming SSN Reset that it answers, or
@@ -249,7 +311,7 @@ export interface ReConfig {
   responseNumber: number;
   /** Of an Outgoing SSN Reset: the last TSN that its sender used. */
   lastTsn: number;
-  /** Of a response: 0 to 6, of ReConfigResult. */
+  /** Of a response: in a packet a ReConfigResult. */
   result: number;
   /** Of a response: whether it has the next two. */
   hasNextTsns: boolean;
@@ -260,52 +322,53 @@ export interface ReConfig {
   /** Of an Outgoing or Incoming SSN Reset; where it names none, it is for all. */
   streams: number[];
 }
-/** A parameter (RFC 9260 section 3.2.1). */
-export interface Parameter {
-  type: number;
-  /** As `parameterName` has it. */
+/** What a parameter and an error cause have. */
+interface Item {
+  /** As `parameterName` or `causeName` has it. */
   name: string;
-  /** Without padding: a view of the bytes. */
+  /** What follows its header of four bytes, without padding: a view of the bytes. */
   value: Uint8Array;
+  /** Its header and its value: a view of the bytes. Unrecognized Parameter (section 3.3.3.1.2) and the cause Unrecognized
+      Parameters (section 3.3.10.8) have to hold them. */
+  bytes: Uint8Array;
   /** Where it and the next one begin in the packet's bytes. */
   offset: number;
   next: number;
-  /** Of Zero Checksum Acceptable: the method (RFC 9653 section 4). */
-  number?: number;
-  /** Of the types 13 to 18. */
-  reConfig?: ReConfig;
 }
+/** A parameter (section 3.2.1). */
+export type Parameter = Item & (
+  /** Of Zero Checksum Acceptable: the method (RFC 9653 section 4). */
+  | { type: Of<typeof ParameterType, 'ZERO_CHECKSUM_ACCEPTABLE'>; number: number; reConfig?: undefined }
+  | { type: ReConfigType; reConfig: ReConfig; number?: undefined }
+  | { type: number; reConfig?: undefined; number?: undefined }
+);
 /** The parameters of a chunk that `chunks` gave; of a type without any there are none. */
-export function parameters(chunk: Chunk): IterableIterator<Parameter>;
+export function parameters(chunk: UncheckedChunk): IterableIterator<Parameter>;
 
 /** An error cause (section 3.3.10). */
-export interface Cause {
-  code: number;
-  /** As `causeName` has it. */
-  name: string;
-  value: Uint8Array;
-  offset: number;
-  next: number;
+export type Cause = Item & (
   /** Of No User Data: the TSN. */
-  number?: number;
+  | { code: Of<typeof CauseCode, 'NO_USER_DATA'>; number: number; missing?: undefined }
   /** Of Missing Mandatory Parameter: the types. */
-  missing?: number[];
-}
+  | { code: Of<typeof CauseCode, 'MISSING_MANDATORY_PARAMETER'>; missing: number[]; number?: undefined }
+  | { code: number; missing?: undefined; number?: undefined }
+);
 /** The error causes of ABORT or ERROR; of another type there are none. */
-export function causes(chunk: Chunk): IterableIterator<Cause>;
+export function causes(chunk: UncheckedChunk): IterableIterator<Cause>;
 
 // ---- changing a packet in place
 
-/** Writes the CRC32c into the checksum field, and returns the bytes. Throws BAD_PLACE for fewer than 12. */
+/** Writes the CRC32c into the checksum field, and returns the bytes. Throws a WriteError of BAD_PLACE, and changes nothing, for
+    fewer than 12. */
 export function seal(bytes: Uint8Array): Uint8Array;
-/** Writes the verification tag, and returns the bytes, which have to be sealed anew. Throws BAD_PLACE for fewer than 12. */
+/** Writes the verification tag, and returns the bytes, which have to be sealed anew. Throws as `seal` does. */
 export function setTag(bytes: Uint8Array, verificationTag: number): Uint8Array;
 
 // ---- writing a packet
 
 type Needed<T, K extends keyof T> = Pick<T, K> & Partial<T>;
 
-/** Builds a packet, chunk by chunk. A call that can't add throws a DcsctpError, NO_ROOM or BAD_VALUE, and changes nothing.
+/** Builds a packet, chunk by chunk. A call that can't add throws a WriteError, NO_ROOM or BAD_VALUE, and changes nothing.
     The values are written as they are: whether RFC 9260 lets them be sent, or `check` would accept the packet, isn't
     checked. */
 export class Builder {
@@ -313,39 +376,52 @@ export class Builder {
   constructor(options: { sourcePort: number; destinationPort: number; verificationTag: number; room?: number });
   /** How many bytes the packet has. */
   readonly size: number;
+  /** How many it may have. */
   readonly room: number;
 
   /** Adds a chunk of any type. */
   addChunk(type: number, flags?: number, value?: Uint8Array): this;
-  /** Adds DATA. A whole message has `isBeginning` and `isEnd`. */
+  /** Adds DATA (section 3.3.1); what is left out is 0 or false. A whole message has `isBeginning` and `isEnd`. */
   addData(data: Needed<Data, 'tsn' | 'stream' | 'isBeginning' | 'isEnd' | 'payload'>): this;
-  /** Adds I-DATA. */
+  /** Adds I-DATA (RFC 8260 section 2.1), likewise. */
   addIData(data: Needed<Data, 'tsn' | 'stream' | 'mid' | 'isBeginning' | 'isEnd' | 'payload'>): this;
+  /** Adds SACK (section 3.3.4); what is left out is empty. */
   addSack(sack: Needed<Sack, 'cumulativeTsnAck' | 'aRwnd'>): this;
-  /** Adds INIT, to which parameters can be added. */
+  /** Adds INIT (section 3.3.2), to which parameters can be added. */
   addInit(init: Init): this;
-  /** Adds INIT ACK, to which its State Cookie has to be added. */
+  /** Adds INIT ACK (section 3.3.3), to which its State Cookie has to be added. */
   addInitAck(init: Init): this;
+  /** Adds COOKIE ECHO (section 3.3.11), with the State Cookie of the INIT ACK. */
   addCookieEcho(cookie: Uint8Array): this;
+  /** Adds COOKIE ACK (section 3.3.12). */
   addCookieAck(): this;
+  /** Adds HEARTBEAT (section 3.3.5), with this as its Heartbeat Info. */
   addHeartbeat(info: Uint8Array): this;
+  /** Adds HEARTBEAT ACK (section 3.3.6), with the Heartbeat Info of the HEARTBEAT. */
   addHeartbeatAck(info: Uint8Array): this;
-  /** Adds ABORT with the cause User-Initiated Abort, whose reason is text or its UTF-8. */
+  /** Adds ABORT (section 3.3.7) with the cause User-Initiated Abort, whose reason is text or its UTF-8. Throws BAD_VALUE where it
+      isn't UTF-8, or has half a surrogate pair. */
   addAbort(reason?: string | Uint8Array, options?: { tagReflected?: boolean }): this;
+  /** Adds SHUTDOWN (section 3.3.8). */
   addShutdown(shutdown: { cumulativeTsnAck: number }): this;
+  /** Adds SHUTDOWN ACK (section 3.3.9). */
   addShutdownAck(): this;
+  /** Adds SHUTDOWN COMPLETE (section 3.3.13). */
   addShutdownComplete(options?: { tagReflected?: boolean }): this;
+  /** Adds FORWARD-TSN (RFC 3758 section 3.2). */
   addForwardTsn(forwardTsn: { newCumulativeTsn: number; streams?: Needed<SkippedStream, 'stream' | 'ssn'>[] }): this;
+  /** Adds I-FORWARD-TSN (RFC 8260 section 2.3.1). */
   addIForwardTsn(forwardTsn: { newCumulativeTsn: number; streams?: Needed<SkippedStream, 'stream' | 'mid'>[] }): this;
 
-  /** Adds a parameter to the last chunk. */
+  /** Adds a parameter to the last chunk. As the next four it throws BAD_PLACE where there is no chunk. */
   addParameter(type: number, value?: Uint8Array): this;
   /** Adds an error cause to the last chunk. */
   addCause(code: number, value?: Uint8Array): this;
   /** Adds a parameter or an error cause that is a number: Zero Checksum Acceptable, No User Data. */
   addNumber(type: number, value: number): this;
-  /** Adds a request or the response of RE-CONFIG. Throws BAD_VALUE for a type other than 13 to 18, or a result above 6. */
-  addReConfig(reConfig: Needed<ReConfig, 'type'>): this;
+  /** Adds a request or the response of RE-CONFIG (RFC 6525 section 4); what is left out is 0, false or empty. Throws BAD_VALUE
+      for a type other than 13 to 18, or a result above 6. */
+  addReConfig(reConfig: Needed<Omit<ReConfig, 'result'> & { result: ReConfigResult }, 'type'>): this;
   /** Adds the cause Missing Mandatory Parameter. */
   addMissingParameters(types: Iterable<number>): this;
 
@@ -357,5 +433,8 @@ export class Builder {
 
 // ---- the blocks of a SACK that is to be sent
 
-/** The fewest blocks that cover the same offsets, in order; a block that ends before its start has none. */
+/** The fewest blocks that cover the same offsets, in order (section 3.3.4); a block that ends before its start has none. */
 export function cleanBlocks(blocks: Iterable<GapAckBlock>): GapAckBlock[];
+
+// What is not exported above is no part of the interface.
+export {};

@@ -1,0 +1,20 @@
+// SPDX-License-Identifier: Apache-2.0
+// The package for `import`. Its code is davgyuti.js and library.js: in node CommonJS modules, so that `require` has the same. A
+// browser takes them for modules that export nothing: they leave what they have in globalThis, and dcsctp.wasm is fetched.
+import './library.js';
+import * as commonJs from './davgyuti.js';
+
+async function fetched() {
+  const { begin, davgyuti } = globalThis[Symbol.for('davgyuti')];
+  const url = new URL('./dcsctp.wasm', import.meta.url), response = await fetch(url);
+  if (!response.ok)
+    throw new Error(`${url}: ${response.status} ${response.statusText}`);
+  begin(await WebAssembly.instantiate(await response.arrayBuffer()));
+  return davgyuti;
+}
+
+export const {
+  version, versionNumber, Result, FIRST_CHUNK, ChunkType, TAG_REFLECTED, ParameterType, CauseCode, ReConfigResult, resultText,
+  chunkName, parameterName, causeName, isKnownChunk, isKnownParameter, isKnownCause, Fault, WriteError, check, firstFault,
+  canonical, text, report, word, header, chunks, parameters, causes, seal, setTag, Builder, cleanBlocks,
+} = commonJs.default ?? await fetched();

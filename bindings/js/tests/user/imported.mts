@@ -1,0 +1,123 @@
+// SPDX-License-Identifier: Apache-2.0
+// What TypeScript knows of the package: this compiles, but for each line below a @ts-expect-error, which must not.
+import {
+  Builder, CauseCode, Chunk, ChunkType, Fault, FaultCode, Packet, Parameter, ParameterType, ReConfigResult, ReConfigType, Result,
+  UncheckedChunk, WriteError, causes, check, chunks, firstFault, header, isKnownChunk, parameters,
+} from 'davgyuti';
+// @ts-expect-error it is no part of the interface
+import { Needed } from 'davgyuti';
+// @ts-expect-error there is no default export
+import davgyuti from 'davgyuti';
+
+declare const bytes: Uint8Array;
+const numbers: number[] = [];
+
+for (const chunk of chunks(bytes)) {
+  const its: UncheckedChunk = chunk;
+  if (chunk.type === ChunkType.DATA) {
+    // @ts-expect-error the bytes weren't checked
+    numbers.push(chunk.data.tsn);
+    numbers.push(chunk.data?.tsn ?? its.type);
+  }
+}
+
+// @ts-expect-error of bytes that weren't checked there may be none
+numbers.push(header(bytes).sourcePort);
+numbers.push(header(bytes)?.sourcePort ?? 0);
+check(bytes);
+const packet: Packet = bytes;
+numbers.push(header(bytes).sourcePort);
+// @ts-expect-error a part of a packet is none
+const part: Packet = bytes.subarray(12);
+
+/** What a chunk has is said by its type. */
+function numberOf(chunk: Chunk): number {
+  // @ts-expect-error not every chunk has data
+  numbers.push(chunk.data.tsn);
+  switch (chunk.type) {
+    case ChunkType.DATA:
+    case ChunkType.I_DATA:
+      return chunk.data.tsn;
+    case ChunkType.SACK:
+      // @ts-expect-error a SACK has no data
+      numbers.push(chunk.data.tsn);
+      return chunk.sack.aRwnd;
+    case ChunkType.INIT:
+    case ChunkType.INIT_ACK:
+      return chunk.init.initiateTag;
+    case ChunkType.SHUTDOWN:
+      return chunk.shutdown.cumulativeTsnAck;
+    case ChunkType.FORWARD_TSN:
+    case ChunkType.I_FORWARD_TSN:
+      return chunk.forwardTsn.newCumulativeTsn;
+    case 99:
+      return chunk.value.length;
+    // @ts-expect-error a type is a byte
+    case 256:
+      return 0;
+    default:
+      return chunk.bytes.length;
+  }
+}
+
+/** What a parameter or an error cause has, by what is asked of it. */
+function itemsOf(chunk: Chunk): void {
+  for (const it of parameters(chunk)) {
+    if (it.reConfig) {
+      const type: ReConfigType = it.type, same: 13 | 14 | 15 | 16 | 17 | 18 = type;
+      numbers.push(same, ...it.reConfig.streams);
+    } else if (it.number !== undefined) {
+      const type: typeof ParameterType.ZERO_CHECKSUM_ACCEPTABLE = it.type;
+      numbers.push(type, it.number, ...it.bytes);
+    }
+    // @ts-expect-error not every parameter has a number
+    numbers.push(it.number);
+  }
+  for (const it of causes(chunk)) {
+    if (it.missing) {
+      const code: typeof CauseCode.MISSING_MANDATORY_PARAMETER = it.code;
+      numbers.push(code, ...it.missing);
+    }
+  }
+}
+
+for (const chunk of chunks(packet)) {
+  if (chunk.type === ChunkType.DATA)
+    numbers.push(chunk.data.tsn);
+  const { sack } = chunk;
+  numbers.push(sack?.aRwnd ?? numberOf(chunk));
+  itemsOf(chunk);
+}
+
+const known: ChunkType[] = numbers.filter(isKnownChunk);
+const type: ParameterType = ParameterType.STATE_COOKIE, cause: CauseCode = 13, result: ReConfigResult = 6;
+// @ts-expect-error no chunk that has a name has this type
+const unknown: ChunkType = 99;
+const item: Parameter = { type: 0x8002, name: '', value: bytes, bytes, offset: 0, next: 0 };
+
+const fault = firstFault(bytes, { strictPadding: true });
+if (fault) {
+  const { code, offset }: { code: FaultCode; offset: number } = fault;
+  // @ts-expect-error a fault is none of writing
+  const isNoRoom = code === Result.NO_ROOM;
+  numbers.push(code === Result.FAULT_SIZE ? offset : new Fault(code, offset).message.length, Number(isNoRoom));
+}
+try {
+  new Builder({ sourcePort: 1, destinationPort: 2, verificationTag: 3 })
+    // @ts-expect-error a SACK has a window
+    .addSack({ cumulativeTsnAck: 1 });
+} catch (error) {
+  if (error instanceof WriteError && error.code === Result.NO_ROOM)
+    // @ts-expect-error only a Fault has a place
+    numbers.push(error.offset);
+}
+declare const builder: Builder;
+builder.addReConfig({ type: ParameterType.RECONFIGURATION_RESPONSE, responseNumber: 1, result: ReConfigResult.PERFORMED });
+// @ts-expect-error no RE-CONFIG has such a parameter
+builder.addReConfig({ type: ParameterType.STATE_COOKIE });
+// @ts-expect-error no response has such a result
+builder.addReConfig({ type: 16, result: 7 });
+// @ts-expect-error where nothing is said, nothing is passed
+check(bytes, { word: undefined });
+
+export { cause, davgyuti, item, known, Needed, part, result, type, unknown };
