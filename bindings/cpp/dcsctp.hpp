@@ -1,3 +1,4 @@
+// SPDX-License-Identifier: Apache-2.0
 // dcsctp for C++17 and later: reads, checks, prints and writes SCTP packets (RFC 9260). One header, over dcsctp.h.
 //
 // What is read is a view: it owns nothing, and the bytes have to outlive it. Whatever the bytes are, reading them is
@@ -26,13 +27,16 @@
 #pragma GCC diagnostic pop
 #endif
 
+#include <array>
 #include <cstddef>
 #include <cstdint>
 #include <functional>
+#include <initializer_list>
 #include <iterator>
 #include <optional>
 #include <string>
 #include <string_view>
+#include <tuple>
 #include <type_traits>
 #include <utility>
 #include <vector>
@@ -40,23 +44,49 @@
 #if __has_include(<version>)
 #include <version>
 #endif
+#ifdef __cpp_lib_expected
+#include <expected>
+#endif
 #ifdef __cpp_lib_ranges
 #include <ranges>
 #endif
 
+// What is made of an argument leads to its bytes: clang warns where they are gone.
+#ifdef __clang__
+#define DCSCTP_LIFETIME_BOUND [[clang::lifetimebound]]
+#else
+#define DCSCTP_LIFETIME_BOUND
+#endif
+
 namespace dcsctp {
+
+/// Implementation. Not for use.
+namespace detail {
+
+// Whether a container leads to items of someone else: a view or a std::span, but no array.
+template <typename Container> struct is_array : std::is_array<Container> {};
+template <typename T, std::size_t size> struct is_array<std::array<T, size>> : std::true_type {};
+template <typename Container>
+inline constexpr bool borrows = std::is_trivially_copyable_v<Container> && !is_array<std::remove_cv_t<Container>>::value;
+
+} // namespace detail
 
 // ---- views
 
 /// Items that lie one after the other and belong to someone else: std::span, for C++17. It is made of an array, a
-/// std::vector, a std::array or a std::span, and a std::span of it.
+/// std::vector, a std::array or a std::span, and a std::span of it; of constant items also of a list in braces, in the
+/// call that reads it.
 template <typename T> class view {
+    struct no_item {
+        no_item() = delete;
+    };
     template <typename Container, typename = void> struct holds_items : std::false_type {};
     template <typename Container>
     struct holds_items<Container, std::void_t<decltype(std::data(std::declval<Container &>())),
                                               decltype(std::size(std::declval<Container &>()))>>
         : std::bool_constant<
-              std::is_convertible_v<std::remove_pointer_t<decltype(std::data(std::declval<Container &>()))> (*)[],
+              !std::is_same_v<std::decay_t<Container>, view>
+              && std::is_convertible_v<std::remove_pointer_t<decltype(std::data(std::declval<Container &>()))> (*)[],
                                     T (*)[]>
               && (std::is_const_v<T> || std::is_lvalue_reference_v<Container>)> {};
 
@@ -71,19 +101,40 @@ template <typename T> class view {
     /// `data` may be null where `size` is 0.
     constexpr view(T *data, std::size_t size) noexcept : data_(data), size_(size) {}
     /// The container has to outlive the view.
-    template <typename Container, typename = std::enable_if_t<!std::is_same_v<std::decay_t<Container>, view>>,
-              typename = std::enable_if_t<holds_items<Container>::value>>
-    constexpr view(Container &&container) noexcept : data_(std::data(container)), size_(std::size(container))
+    template <typename Container, std::enable_if_t<holds_items<Container>::value
+                                      && !detail::borrows<std::remove_reference_t<Container>>, int> = 0>
+    constexpr view(Container &&container DCSCTP_LIFETIME_BOUND) noexcept
+        : data_(std::data(container)), size_(std::size(container))
+    {
+    }
+    /// The same items.
+    template <typename View, std::enable_if_t<holds_items<View>::value
+                                 && detail::borrows<std::remove_reference_t<View>>, int> = 0>
+    constexpr view(View &&items) noexcept : data_(std::data(items)), size_(std::size(items))
     {
     }
 
-    constexpr T *data() const noexcept { return data_; }
-    constexpr std::size_t size() const noexcept { return size_; }
-    constexpr bool empty() const noexcept { return size_ == 0; }
-    constexpr T *begin() const noexcept { return data_; }
-    constexpr T *end() const noexcept { return data_ + size_; }
+    /// The items of a list end with the expression.
+    constexpr view(std::initializer_list<std::conditional_t<std::is_const_v<T>, std::remove_const_t<T>, no_item>> items
+                       DCSCTP_LIFETIME_BOUND) noexcept
+        : data_(std::data(items)), size_(items.size())
+    {
+    }
+
+    [[nodiscard]] constexpr T *data() const noexcept { return data_; }
+    [[nodiscard]] constexpr std::size_t size() const noexcept { return size_; }
+    [[nodiscard]] constexpr bool empty() const noexcept { return size_ == 0; }
+    [[nodiscard]] constexpr T *begin() const noexcept { return data_; }
+    [[nodiscard]] constexpr T *end() const noexcept { return data_ + size_; }
     /// `index` has to be below size().
     constexpr T &operator[](std::size_t index) const { return data_[index]; }
+    /// The items from an index on, as many as there are of `count`; none where the index is past the end.
+    [[nodiscard]] constexpr view subspan(std::size_t index,
+                                         std::size_t count = static_cast<std::size_t>(-1)) const noexcept
+    {
+        const std::size_t first = index < size_ ? index : size_, rest = size_ - first;
+        return view(data_ + first, count < rest ? count : rest);
+    }
 
   private:
     T *data_ = nullptr;
@@ -96,19 +147,32 @@ using bytes_view = view<const std::uint8_t>;
 using mutable_bytes_view = view<std::uint8_t>;
 
 /// Returns the bytes of a text.
-inline bytes_view as_bytes(std::string_view text) noexcept
+[[nodiscard]] inline bytes_view as_bytes(std::string_view text DCSCTP_LIFETIME_BOUND) noexcept
 {
     return {reinterpret_cast<const std::uint8_t *>(text.data()), text.size()};
 }
 
 /// Returns bytes as those of this library.
-inline bytes_view as_bytes(view<const std::byte> bytes) noexcept
+[[nodiscard]] inline bytes_view as_bytes(view<const std::byte> bytes DCSCTP_LIFETIME_BOUND) noexcept
 {
     return {reinterpret_cast<const std::uint8_t *>(bytes.data()), bytes.size()};
 }
 
+/// The bytes of what ends before they are read: name the text or the container.
+template <typename Container,
+          typename = std::enable_if_t<!std::is_reference_v<Container> && !detail::borrows<Container>
+                                      && (std::is_convertible_v<Container, std::string_view>
+                                          || std::is_convertible_v<Container, view<const std::byte>>)>>
+bytes_view as_bytes(Container &&) = delete;
+
+/// Returns bytes that are written as those of this library.
+[[nodiscard]] inline mutable_bytes_view as_writable_bytes(view<std::byte> bytes DCSCTP_LIFETIME_BOUND) noexcept
+{
+    return {reinterpret_cast<std::uint8_t *>(bytes.data()), bytes.size()};
+}
+
 /// Returns bytes as a text. Only the reason of an ABORT that builder::add_abort wrote is known to be UTF-8.
-inline std::string_view as_text(bytes_view bytes) noexcept
+[[nodiscard]] inline std::string_view as_text(bytes_view bytes DCSCTP_LIFETIME_BOUND) noexcept
 {
     return {reinterpret_cast<const char *>(bytes.data()), bytes.size()};
 }
@@ -128,11 +192,11 @@ enum class result_code : std::uint32_t {
     too_long = DCSCTP_TOO_LONG,   ///< the canonical packet would have more than 65,532 bytes
     bad_value = DCSCTP_BAD_VALUE, ///< a chunk would have more than 65,535 bytes, what has to be UTF-8 isn't, or what
                                   ///< is to be written lies in the builder's own buffer
-    bad_place = DCSCTP_BAD_PLACE  ///< no packet has this size, or there is no chunk to add to
+    bad_place = DCSCTP_BAD_PLACE  ///< no packet has this size, the builder has none, or there is no chunk to add to
 };
 
 /// Returns what a code means, in a few words.
-inline const char *text(result_code code) noexcept
+[[nodiscard]] inline const char *text(result_code code) noexcept
 {
     return ::dcsctp_result_text(static_cast<std::uint32_t>(code));
 }
@@ -143,30 +207,71 @@ class [[nodiscard]] result {
     constexpr result() noexcept = default;
     constexpr result(result_code code) noexcept : code_(code) {}
     constexpr explicit operator bool() const noexcept { return code_ == result_code::ok; }
-    constexpr result_code code() const noexcept { return code_; }
-    const char *text() const noexcept { return dcsctp::text(code_); }
+    [[nodiscard]] constexpr result_code code() const noexcept { return code_; }
+    [[nodiscard]] const char *text() const noexcept { return dcsctp::text(code_); }
 
   private:
     result_code code_ = result_code::ok;
 };
 
-/// A value, or why there is none.
+/// A value, or why there is none: what std::expected<T, result_code> is, into which it converts where C++ has that. (It is
+/// a type of its own in every version of C++, so that code of two versions links into one program.)
 template <typename T> class [[nodiscard]] outcome {
   public:
+    using value_type = T;
+    using error_type = result_code;
+
     outcome(T value) : value_(std::move(value)), code_(result_code::ok) {}
     /// `code` is another than ok.
     outcome(result_code code) : value_(), code_(code) {}
-    explicit operator bool() const noexcept { return code_ == result_code::ok; }
-    result_code code() const noexcept { return code_; }
-    const char *text() const noexcept { return dcsctp::text(code_); }
+    explicit operator bool() const noexcept { return has_value(); }
+    [[nodiscard]] bool has_value() const noexcept { return code_ == result_code::ok; }
+    [[nodiscard]] result_code code() const noexcept { return code_; }
+    /// The same; ask where there is no value.
+    [[nodiscard]] result_code error() const noexcept { return code_; }
+    [[nodiscard]] const char *text() const noexcept { return dcsctp::text(code_); }
     /// The value; T() where there is none.
     T &operator*() & noexcept { return value_; }
     const T &operator*() const & noexcept { return value_; }
     T &&operator*() && noexcept { return std::move(value_); }
     T *operator->() noexcept { return &value_; }
     const T *operator->() const noexcept { return &value_; }
+    /// The value, or another one where there is none.
+    template <typename U> [[nodiscard]] T value_or(U &&other) const &
+    {
+        return has_value() ? value_ : static_cast<T>(std::forward<U>(other));
+    }
+    template <typename U> [[nodiscard]] T value_or(U &&other) &&
+    {
+        return has_value() ? std::move(value_) : static_cast<T>(std::forward<U>(other));
+    }
+    /// What a function makes of the value, which is an outcome too; or why there is no value.
+    template <typename Function> auto and_then(Function &&function) const &
+    {
+        return and_then(std::forward<Function>(function), *this);
+    }
+    template <typename Function> auto and_then(Function &&function) &&
+    {
+        return and_then(std::forward<Function>(function), std::move(*this));
+    }
+#ifdef __cpp_lib_expected
+    operator std::expected<T, result_code>() const &
+    {
+        return has_value() ? std::expected<T, result_code>(value_) : std::unexpected(code_);
+    }
+    operator std::expected<T, result_code>() &&
+    {
+        return has_value() ? std::expected<T, result_code>(std::move(value_)) : std::unexpected(code_);
+    }
+#endif
 
   private:
+    template <typename Function, typename Self> static auto and_then(Function &&function, Self &&self)
+    {
+        using made = decltype(std::invoke(std::forward<Function>(function), *std::forward<Self>(self)));
+        return self.has_value() ? std::invoke(std::forward<Function>(function), *std::forward<Self>(self))
+                                : made(self.code_);
+    }
     T value_;
     result_code code_;
 };
@@ -182,7 +287,7 @@ struct [[nodiscard]] written {
 struct fault {
     result_code code = result_code::ok;
     std::size_t offset = 0; ///< where it is; of fault_size how many bytes there are, at most 65,535
-    const char *text() const noexcept { return dcsctp::text(code); }
+    [[nodiscard]] const char *text() const noexcept { return dcsctp::text(code); }
 };
 
 // ---- types, and their names
@@ -253,27 +358,76 @@ enum class re_config_result : std::uint32_t {
 };
 
 /// Returns the number of a chunk_type, a parameter_type, a cause_code, a re_config_result or a result_code.
-template <typename Enum> constexpr std::underlying_type_t<Enum> number(Enum value) noexcept
+template <typename Enum> [[nodiscard]] constexpr std::underlying_type_t<Enum> number(Enum value) noexcept
 {
     return static_cast<std::underlying_type_t<Enum>>(value);
 }
 
-/// Returns the name that the RFCs have; "unknown" for a number that the type above doesn't name.
-inline const char *name(chunk_type type) noexcept { return ::dcsctp_chunk_name(number(type)); }
-inline const char *name(parameter_type type) noexcept { return ::dcsctp_parameter_name(number(type)); }
-inline const char *name(cause_code code) noexcept { return ::dcsctp_cause_name(number(code)); }
+/// Returns the name that the RFCs have; "unknown" for a number that the type above doesn't name. Of a result_code it is
+/// its text.
+[[nodiscard]] inline const char *name(chunk_type type) noexcept { return ::dcsctp_chunk_name(number(type)); }
+[[nodiscard]] inline const char *name(parameter_type type) noexcept { return ::dcsctp_parameter_name(number(type)); }
+[[nodiscard]] inline const char *name(cause_code code) noexcept { return ::dcsctp_cause_name(number(code)); }
+[[nodiscard]] inline const char *name(result_code code) noexcept { return text(code); }
+[[nodiscard]] inline const char *name(re_config_result result) noexcept
+{
+    constexpr const char *names[] = {"Success - Nothing to do", "Success - Performed", "Denied", "Error - Wrong SSN",
+                                     "Error - Request already in progress", "Error - Bad Sequence Number",
+                                     "In progress"};
+    return number(result) < std::size(names) ? names[number(result)] : "unknown";
+}
+
+/// Returns whether the type above names the number, not whether your association knows it: RFC 9260's parameters IPv4
+/// Address (5) and Supported Address Types (12), say, have no name here.
+[[nodiscard]] inline bool is_known(chunk_type type) noexcept { return name(type) != std::string_view("unknown"); }
+[[nodiscard]] inline bool is_known(parameter_type type) noexcept { return name(type) != std::string_view("unknown"); }
+[[nodiscard]] inline bool is_known(cause_code code) noexcept { return name(code) != std::string_view("unknown"); }
+[[nodiscard]] inline bool is_known(re_config_result result) noexcept
+{
+    return name(result) != std::string_view("unknown");
+}
+
+/// Returns the name; for a number that isn't named the number with it, as in "unknown (99)", and that of a parameter in
+/// hexadecimal, as in "unknown (0x8002)".
+[[nodiscard]] inline std::string to_string(chunk_type type)
+{
+    return is_known(type) ? name(type) : "unknown (" + std::to_string(number(type)) + ")";
+}
+[[nodiscard]] inline std::string to_string(cause_code code)
+{
+    return is_known(code) ? name(code) : "unknown (" + std::to_string(number(code)) + ")";
+}
+[[nodiscard]] inline std::string to_string(re_config_result result)
+{
+    return is_known(result) ? name(result) : "unknown (" + std::to_string(number(result)) + ")";
+}
+[[nodiscard]] inline std::string to_string(result_code code) { return name(code); }
+[[nodiscard]] inline std::string to_string(parameter_type type)
+{
+    if (is_known(type))
+        return name(type);
+    std::string text = "unknown (0x";
+    for (int shift = 12; shift >= 0; shift -= 4)
+        text += "0123456789abcdef"[number(type) >> shift & 15];
+    return text + ")";
+}
 
 /// The version of the headers, as a text.
-inline const char *version() noexcept { return ::dcsctp_version(); }
+[[nodiscard]] inline const char *version() noexcept { return ::dcsctp_version(); }
 /// The version of the headers: 65,536 times the major one, 256 times the minor one, and the patch.
 inline constexpr std::uint32_t version_number = DCSCTP_VERSION_NUMBER;
 /// Returns the version of the library, which can be another one where the library is shared.
-inline std::uint32_t library_version_number() noexcept { return ::dcsctp_version_number(); }
+[[nodiscard]] inline std::uint32_t library_version_number() noexcept { return ::dcsctp_version_number(); }
 
 // ---- values; the fields are those of dcsctp.h
 
-/// Which checksum fields are accepted, and whether padding is checked: any_checksum, zero_checksum, strict_padding.
-using policy = struct ::dcsctp_policy;
+/// Which checksum fields are accepted, and whether padding is checked. All false: the field has to be the word, and
+/// padding is ignored.
+struct policy {
+    bool any_checksum = false;   ///< accepts every checksum field
+    bool zero_checksum = false;  ///< accepts a field of zero as well (RFC 9653)
+    bool strict_padding = false; ///< padding has to be complete and zero
+};
 /// The common header: source_port, destination_port, verification_tag, checksum.
 using header = struct ::dcsctp_header;
 /// The numbers of INIT or INIT ACK: initiate_tag, a_rwnd, outbound_streams, inbound_streams, initial_tsn.
@@ -299,7 +453,7 @@ struct data {
     bool is_beginning = false;
     bool is_end = false;
     bool immediate_ack = false;
-    bytes_view payload;
+    bytes_view payload{};
 };
 
 /// A request or the response of RE-CONFIG (RFC 6525 section 4). What the kind does not carry is 0.
@@ -316,6 +470,35 @@ struct re_config {
     std::uint16_t new_streams = 0; ///< of Add Outgoing Streams and Add Incoming Streams
     std::size_t stream_count = 0;  ///< of an Outgoing or Incoming SSN Reset; writing ignores it
 };
+
+} // namespace dcsctp
+
+// Two of these are equal where their fields are, and of data the bytes of the payload. (In the namespace of the struct,
+// where `==` is looked for.)
+#define DCSCTP_EQUAL(type, ...)                                                                                        \
+    [[nodiscard]] inline bool operator==(const type &one, const type &other) noexcept                                  \
+    {                                                                                                                  \
+        const auto fields = [](const type &it) { return std::make_tuple(__VA_ARGS__); };                               \
+        return fields(one) == fields(other);                                                                           \
+    }                                                                                                                  \
+    [[nodiscard]] inline bool operator!=(const type &one, const type &other) noexcept { return !(one == other); }
+DCSCTP_EQUAL(struct dcsctp_header, it.source_port, it.destination_port, it.verification_tag, it.checksum)
+DCSCTP_EQUAL(struct dcsctp_init, it.initiate_tag, it.a_rwnd, it.outbound_streams, it.inbound_streams, it.initial_tsn)
+DCSCTP_EQUAL(struct dcsctp_sack, it.cumulative_tsn_ack, it.a_rwnd, it.block_count, it.duplicate_count)
+DCSCTP_EQUAL(struct dcsctp_gap_ack_block, it.start, it.end)
+DCSCTP_EQUAL(struct dcsctp_forward_tsn, it.new_cumulative_tsn, it.stream_count)
+DCSCTP_EQUAL(struct dcsctp_skipped_stream, it.stream, it.ssn, it.mid, it.is_unordered)
+
+namespace dcsctp {
+
+DCSCTP_EQUAL(fault, it.code, it.offset)
+DCSCTP_EQUAL(written, it.code, it.size)
+DCSCTP_EQUAL(policy, it.any_checksum, it.zero_checksum, it.strict_padding)
+DCSCTP_EQUAL(data, it.tsn, it.mid, it.fsn, it.ppid, it.stream, it.ssn, it.is_unordered, it.is_beginning, it.is_end,
+             it.immediate_ack, as_text(it.payload))
+DCSCTP_EQUAL(re_config, it.type, it.request_number, it.response_number, it.last_tsn, it.result, it.has_next_tsns,
+             it.sender_next_tsn, it.receiver_next_tsn, it.new_streams, it.stream_count)
+#undef DCSCTP_EQUAL
 
 // ---- ranges
 
@@ -368,17 +551,19 @@ template <typename Source> class range {
         static constexpr std::size_t no_position = static_cast<std::size_t>(-1);
         Source source_{};
         std::size_t position_ = no_position;
-        std::optional<value_type> value_;
+        std::optional<value_type> value_{};
     };
     using const_iterator = iterator;
 
     range() = default;
     range(const Source &source, std::size_t first) noexcept : source_(source), first_(first) {}
-    iterator begin() const noexcept { return iterator(source_, first_); }
-    iterator end() const noexcept { return iterator(); }
-    bool empty() const noexcept { return !source_.read(first_); }
+    [[nodiscard]] iterator begin() const noexcept { return iterator(source_, first_); }
+    [[nodiscard]] iterator end() const noexcept { return iterator(); }
+    [[nodiscard]] bool empty() const noexcept { return !source_.read(first_); }
+    /// Counts the items, by reading all of them.
+    [[nodiscard]] std::size_t size() const noexcept { return static_cast<std::size_t>(std::distance(begin(), end())); }
     /// Reads what is at a place: of chunks, parameters and error causes an offset into the packet, else an index.
-    std::optional<value_type> at(std::size_t position) const noexcept { return source_.read(position); }
+    [[nodiscard]] std::optional<value_type> at(std::size_t position) const noexcept { return source_.read(position); }
 
   private:
     Source source_{};
@@ -387,6 +572,15 @@ template <typename Source> class range {
 
 /// Implementation. Not for use.
 namespace detail {
+
+inline ::dcsctp_policy c_policy(const policy &of) noexcept
+{
+    ::dcsctp_policy it{};
+    it.any_checksum = of.any_checksum;
+    it.zero_checksum = of.zero_checksum;
+    it.strict_padding = of.strict_padding;
+    return it;
+}
 
 // What `read` writes, if it does.
 template <typename T, typename Read> std::optional<T> value_of(Read read) noexcept
@@ -403,6 +597,9 @@ inline bytes_view part(bytes_view bytes, std::size_t offset, std::size_t size) n
     return {bytes.data() + offset, size};
 }
 
+// The size of the header of a chunk, a parameter and an error cause (RFC 9260 sections 3.2, 3.2.1 and 3.3.10).
+inline constexpr std::size_t header_size = 4;
+
 // The items by index of a chunk or a parameter.
 template <typename T, typename Owner,
           bool (*read_item)(const std::uint8_t *, std::size_t, const Owner *, std::size_t, T *)>
@@ -410,7 +607,7 @@ struct by_index {
     using value_type = T;
     bytes_view bytes;
     Owner owner{};
-    std::optional<T> read(std::size_t index) const noexcept
+    [[nodiscard]] std::optional<T> read(std::size_t index) const noexcept
     {
         return value_of<T>([&](T *it) { return read_item(bytes.data(), bytes.size(), &owner, index, it); });
     }
@@ -422,7 +619,7 @@ template <typename Item> struct items_of {
     using value_type = Item;
     bytes_view bytes;
     ::dcsctp_chunk owner{};
-    std::optional<Item> read(std::size_t offset) const noexcept
+    [[nodiscard]] std::optional<Item> read(std::size_t offset) const noexcept
     {
         ::dcsctp_parameter item{};
         if (!::dcsctp_parameter_at(bytes.data(), bytes.size(), &owner, offset, &item))
@@ -436,14 +633,17 @@ template <typename Item> struct items_of {
 class item {
   public:
     /// What it holds, without its header and padding.
-    bytes_view value() const noexcept { return part(bytes_, it_.value_offset, it_.value_size); }
+    [[nodiscard]] bytes_view value() const noexcept { return part(bytes_, it_.value_offset, it_.value_size); }
+    /// All of it, with its header and without padding: what the parameter Unrecognized Parameter and the cause
+    /// Unrecognized Parameters hold of each.
+    [[nodiscard]] bytes_view bytes() const noexcept { return part(bytes_, offset_, header_size + it_.value_size); }
     /// Where it begins in the packet.
-    std::size_t offset() const noexcept { return offset_; }
+    [[nodiscard]] std::size_t offset() const noexcept { return offset_; }
     /// Where the next one begins.
-    std::size_t next_offset() const noexcept { return it_.next; }
+    [[nodiscard]] std::size_t next_offset() const noexcept { return it_.next; }
     /// Reads a value that is one number of four bytes, whatever its type: the method of Zero Checksum Acceptable, the
     /// TSN of the cause No User Data.
-    std::optional<std::uint32_t> as_number() const noexcept
+    [[nodiscard]] std::optional<std::uint32_t> as_number() const noexcept
     {
         return value_of<std::uint32_t>(
             [&](std::uint32_t *it) { return ::dcsctp_number(bytes_.data(), bytes_.size(), &it_, it); });
@@ -479,9 +679,9 @@ using skipped_streams = range<detail::by_index<skipped_stream, ::dcsctp_chunk, &
 /// A parameter of a chunk (RFC 9260 section 3.2.1).
 class parameter : public detail::item {
   public:
-    parameter_type type() const noexcept { return static_cast<parameter_type>(it_.type); }
+    [[nodiscard]] parameter_type type() const noexcept { return static_cast<parameter_type>(it_.type); }
     /// Reads a request or the response of RE-CONFIG.
-    std::optional<re_config> as_re_config() const noexcept
+    [[nodiscard]] std::optional<re_config> as_re_config() const noexcept
     {
         struct ::dcsctp_re_config it {};
         if (!::dcsctp_re_config(bytes_.data(), bytes_.size(), &it_, &it))
@@ -500,7 +700,7 @@ class parameter : public detail::item {
         return read;
     }
     /// The streams, if it is an Outgoing or Incoming SSN Reset.
-    dcsctp::reset_streams reset_streams() const noexcept { return {{bytes_, it_}, 0}; }
+    [[nodiscard]] dcsctp::reset_streams reset_streams() const noexcept { return {{bytes_, it_}, 0}; }
 
   private:
     friend detail::items_of<parameter>;
@@ -510,9 +710,9 @@ class parameter : public detail::item {
 /// An error cause of an ABORT or an ERROR (section 3.3.10).
 class cause : public detail::item {
   public:
-    cause_code code() const noexcept { return static_cast<cause_code>(it_.type); }
+    [[nodiscard]] cause_code code() const noexcept { return static_cast<cause_code>(it_.type); }
     /// The types, if it is Missing Mandatory Parameter.
-    dcsctp::missing_parameters missing_parameters() const noexcept { return {{bytes_, it_}, 0}; }
+    [[nodiscard]] dcsctp::missing_parameters missing_parameters() const noexcept { return {{bytes_, it_}, 0}; }
 
   private:
     friend detail::items_of<cause>;
@@ -522,35 +722,40 @@ class cause : public detail::item {
 /// A chunk of a packet (section 3.2).
 class chunk {
   public:
-    chunk_type type() const noexcept { return static_cast<chunk_type>(it_.type); }
-    std::uint8_t flags() const noexcept { return it_.flags; }
+    [[nodiscard]] chunk_type type() const noexcept { return static_cast<chunk_type>(it_.type); }
+    [[nodiscard]] std::uint8_t flags() const noexcept { return it_.flags; }
     /// What follows its header of four bytes, without padding.
-    bytes_view value() const noexcept { return detail::part(bytes_, it_.value_offset, it_.value_size); }
+    [[nodiscard]] bytes_view value() const noexcept { return detail::part(bytes_, it_.value_offset, it_.value_size); }
+    /// All of it, with its header and without padding: what the cause Unrecognized Chunk Type holds.
+    [[nodiscard]] bytes_view bytes() const noexcept
+    {
+        return detail::part(bytes_, offset_, detail::header_size + it_.value_size);
+    }
     /// Where it begins in the packet.
-    std::size_t offset() const noexcept { return offset_; }
+    [[nodiscard]] std::size_t offset() const noexcept { return offset_; }
     /// Where the next one begins.
-    std::size_t next_offset() const noexcept { return it_.next; }
+    [[nodiscard]] std::size_t next_offset() const noexcept { return it_.next; }
     /// Returns whether it is an ABORT or a SHUTDOWN COMPLETE with the T bit: the verification tag isn't the one that
     /// the receiver expects, but the one that it writes into its own packets, sent back to it (section 8.5.1).
-    bool is_tag_reflected() const noexcept
+    [[nodiscard]] bool is_tag_reflected() const noexcept
     {
         return (type() == chunk_type::abort || type() == chunk_type::shutdown_complete)
             && (it_.flags & DCSCTP_TAG_REFLECTED) != 0;
     }
 
     /// The parameters; none of ABORT and ERROR, or where the type has none.
-    range<detail::items_of<parameter>> parameters() const noexcept
+    [[nodiscard]] range<detail::items_of<parameter>> parameters() const noexcept
     {
         return {{bytes_, it_}, has_causes() ? it_.next : ::dcsctp_list_offset(&it_)};
     }
     /// The error causes; none but of ABORT and ERROR.
-    range<detail::items_of<cause>> causes() const noexcept
+    [[nodiscard]] range<detail::items_of<cause>> causes() const noexcept
     {
         return {{bytes_, it_}, has_causes() ? ::dcsctp_list_offset(&it_) : it_.next};
     }
 
     /// Reads DATA or I-DATA.
-    std::optional<dcsctp::data> as_data() const noexcept
+    [[nodiscard]] std::optional<dcsctp::data> as_data() const noexcept
     {
         struct ::dcsctp_data it {};
         if (!::dcsctp_data(bytes_.data(), bytes_.size(), &it_, &it))
@@ -570,24 +775,30 @@ class chunk {
         return read;
     }
     /// Reads the numbers of INIT or INIT ACK.
-    std::optional<dcsctp::init> as_init() const noexcept { return read<dcsctp::init>(&::dcsctp_init); }
+    [[nodiscard]] std::optional<dcsctp::init> as_init() const noexcept { return read<dcsctp::init>(&::dcsctp_init); }
     /// Reads the numbers of a SACK.
-    std::optional<dcsctp::sack> as_sack() const noexcept { return read<dcsctp::sack>(&::dcsctp_sack); }
+    [[nodiscard]] std::optional<dcsctp::sack> as_sack() const noexcept { return read<dcsctp::sack>(&::dcsctp_sack); }
     /// The gap ack blocks, if it is a SACK.
-    dcsctp::gap_ack_blocks gap_ack_blocks() const noexcept { return {{bytes_, it_}, 0}; }
+    [[nodiscard]] dcsctp::gap_ack_blocks gap_ack_blocks() const noexcept { return {{bytes_, it_}, 0}; }
     /// The duplicate TSNs, if it is a SACK.
-    dcsctp::duplicate_tsns duplicate_tsns() const noexcept { return {{bytes_, it_}, 0}; }
+    [[nodiscard]] dcsctp::duplicate_tsns duplicate_tsns() const noexcept { return {{bytes_, it_}, 0}; }
     /// Returns whether it is a SACK whose gap ack blocks are in order, apart, and begin at 2 or later.
-    bool is_valid_sack() const noexcept { return ::dcsctp_validate_sack(bytes_.data(), bytes_.size(), &it_); }
+    [[nodiscard]] bool is_valid_sack() const noexcept
+    {
+        return ::dcsctp_validate_sack(bytes_.data(), bytes_.size(), &it_);
+    }
     /// Reads the cumulative TSN ack of SHUTDOWN.
-    std::optional<std::uint32_t> as_shutdown() const noexcept { return read<std::uint32_t>(&::dcsctp_shutdown); }
+    [[nodiscard]] std::optional<std::uint32_t> as_shutdown() const noexcept
+    {
+        return read<std::uint32_t>(&::dcsctp_shutdown);
+    }
     /// Reads the numbers of FORWARD-TSN or I-FORWARD-TSN.
-    std::optional<dcsctp::forward_tsn> as_forward_tsn() const noexcept
+    [[nodiscard]] std::optional<dcsctp::forward_tsn> as_forward_tsn() const noexcept
     {
         return read<dcsctp::forward_tsn>(&::dcsctp_forward_tsn);
     }
     /// The streams, if it is one of these.
-    dcsctp::skipped_streams skipped_streams() const noexcept { return {{bytes_, it_}, 0}; }
+    [[nodiscard]] dcsctp::skipped_streams skipped_streams() const noexcept { return {{bytes_, it_}, 0}; }
 
   private:
     friend class packet;
@@ -595,7 +806,10 @@ class chunk {
         : bytes_(bytes), it_(it), offset_(offset)
     {
     }
-    bool has_causes() const noexcept { return type() == chunk_type::abort || type() == chunk_type::error; }
+    [[nodiscard]] bool has_causes() const noexcept
+    {
+        return type() == chunk_type::abort || type() == chunk_type::error;
+    }
     template <typename T>
     using reader = bool (*)(const std::uint8_t *, std::size_t, const ::dcsctp_chunk *, T *);
     template <typename T> std::optional<T> read(reader<T> function) const noexcept
@@ -616,7 +830,10 @@ class packet {
     struct chunk_source {
         using value_type = chunk;
         bytes_view bytes;
-        std::optional<chunk> read(std::size_t offset) const noexcept { return packet(bytes).chunk_at(offset); }
+        [[nodiscard]] std::optional<chunk> read(std::size_t offset) const noexcept
+        {
+            return packet(bytes).chunk_at(offset);
+        }
         static std::size_t next(std::size_t, const chunk &it) noexcept { return it.next_offset(); }
     };
 
@@ -624,36 +841,42 @@ class packet {
     using word_option = std::optional<std::uint32_t>;
 
     constexpr packet() noexcept = default;
-    constexpr explicit packet(bytes_view bytes) noexcept : bytes_(bytes) {}
-    constexpr bytes_view bytes() const noexcept { return bytes_; }
-    constexpr std::size_t size() const noexcept { return bytes_.size(); }
+    constexpr explicit packet(bytes_view bytes DCSCTP_LIFETIME_BOUND) noexcept : bytes_(bytes) {}
+    /// A packet of bytes that end before it is none: name the container.
+    template <typename Container,
+              typename = std::enable_if_t<!std::is_reference_v<Container> && !detail::borrows<Container>>>
+    explicit packet(Container &&) = delete;
+    [[nodiscard]] constexpr bytes_view bytes() const noexcept { return bytes_; }
+    [[nodiscard]] constexpr std::size_t size() const noexcept { return bytes_.size(); }
 
     /// Returns ok, or the code of the first fault.
     result check(policy accepted = {}, word_option word = {}) const noexcept
     {
-        return code(::dcsctp_check(bytes_.data(), bytes_.size(), word_of(accepted, word), &accepted));
+        const ::dcsctp_policy it = detail::c_policy(accepted);
+        return code(::dcsctp_check(bytes_.data(), bytes_.size(), word_of(accepted, word), &it));
     }
     /// Returns the first fault, if there is one.
-    std::optional<fault> first_fault(policy accepted = {}, word_option word = {}) const noexcept
+    [[nodiscard]] std::optional<fault> first_fault(policy accepted = {}, word_option word = {}) const noexcept
     {
+        const ::dcsctp_policy it = detail::c_policy(accepted);
         fault first;
         first.code = code(
-            ::dcsctp_first_fault(bytes_.data(), bytes_.size(), word_of(accepted, word), &accepted, &first.offset));
+            ::dcsctp_first_fault(bytes_.data(), bytes_.size(), word_of(accepted, word), &it, &first.offset));
         return first.code == result_code::ok ? std::nullopt : std::optional<fault>(first);
     }
     /// Computes what the checksum field has to be. For fewer than 12 bytes it has no meaning.
-    std::uint32_t word() const noexcept { return ::dcsctp_word(bytes_.data(), bytes_.size()); }
+    [[nodiscard]] std::uint32_t word() const noexcept { return ::dcsctp_word(bytes_.data(), bytes_.size()); }
 
     /// Reads the common header; none of fewer than 12 bytes.
-    std::optional<dcsctp::header> header() const noexcept
+    [[nodiscard]] std::optional<dcsctp::header> header() const noexcept
     {
         return detail::value_of<dcsctp::header>(
             [&](dcsctp::header *it) { return ::dcsctp_header(bytes_.data(), bytes_.size(), it); });
     }
     /// The chunks. If the bytes are a packet, these are all; else they end where there is no whole chunk.
-    range<chunk_source> chunks() const noexcept { return {{bytes_}, DCSCTP_FIRST_CHUNK}; }
+    [[nodiscard]] range<chunk_source> chunks() const noexcept { return {{bytes_}, DCSCTP_FIRST_CHUNK}; }
     /// Reads the chunk at an offset.
-    std::optional<chunk> chunk_at(std::size_t offset) const noexcept
+    [[nodiscard]] std::optional<chunk> chunk_at(std::size_t offset) const noexcept
     {
         ::dcsctp_chunk it{};
         if (!::dcsctp_chunk_at(bytes_.data(), bytes_.size(), offset, &it))
@@ -696,18 +919,19 @@ class packet {
     }
 
   private:
-    using writer = std::uint32_t (*)(const std::uint8_t *, std::size_t, std::uint32_t, const policy *, std::uint8_t *,
-                                     std::size_t, std::size_t *);
+    using writer = std::uint32_t (*)(const std::uint8_t *, std::size_t, std::uint32_t, const ::dcsctp_policy *,
+                                     std::uint8_t *, std::size_t, std::size_t *);
     static result_code code(std::uint32_t number) noexcept { return static_cast<result_code>(number); }
-    std::uint32_t word_of(const policy &accepted, const word_option &option) const noexcept
+    [[nodiscard]] std::uint32_t word_of(const policy &accepted, const word_option &option) const noexcept
     {
         return option ? *option : accepted.any_checksum ? 0 : word();
     }
     template <writer function>
     written write(mutable_bytes_view output, const policy &accepted, const word_option &option) const noexcept
     {
+        const ::dcsctp_policy it = detail::c_policy(accepted);
         written wrote;
-        wrote.code = code(function(bytes_.data(), bytes_.size(), word_of(accepted, option), &accepted, output.data(),
+        wrote.code = code(function(bytes_.data(), bytes_.size(), word_of(accepted, option), &it, output.data(),
                                    output.size(), &wrote.size));
         return wrote;
     }
@@ -725,7 +949,7 @@ class packet {
             return wrote.code;
         return output;
     }
-    bytes_view bytes_;
+    bytes_view bytes_{};
 };
 
 // ---- changing a packet in place
@@ -744,7 +968,7 @@ inline result set_tag(mutable_bytes_view packet, std::uint32_t verification_tag)
 
 /// Brings gap ack blocks into order, joins those that overlap or touch, and drops those that end before their start.
 /// Returns those that are left, at the front; those after them are of no use.
-inline view<gap_ack_block> clean_blocks(view<gap_ack_block> blocks) noexcept
+[[nodiscard]] inline view<gap_ack_block> clean_blocks(view<gap_ack_block> blocks) noexcept
 {
     return {blocks.data(), ::dcsctp_clean_blocks(blocks.data(), blocks.size())};
 }
@@ -776,23 +1000,43 @@ class builder {
 
     /// Begins a packet in a buffer, which has to outlive the builder; its size is the room. Bytes after the packet
     /// stay.
-    builder(mutable_bytes_view buffer, std::uint16_t source_port, std::uint16_t destination_port,
+    builder(mutable_bytes_view buffer DCSCTP_LIFETIME_BOUND, std::uint16_t source_port, std::uint16_t destination_port,
             std::uint32_t verification_tag) noexcept
         : data_(buffer.data()), room_(buffer.size())
     {
         begin(source_port, destination_port, verification_tag);
     }
     /// Begins a packet in a vector, which loses what it had, grows up to `limit` as chunks are added, and ends with the
-    /// packet when that is sealed. Leave it alone until then.
-    builder(std::vector<std::uint8_t> &buffer, std::uint16_t source_port, std::uint16_t destination_port,
-            std::uint32_t verification_tag, std::size_t limit = most)
+    /// packet when that is sealed. Leave it alone until then. With a limit below 12 it is empty, and no packet.
+    builder(std::vector<std::uint8_t> &buffer DCSCTP_LIFETIME_BOUND, std::uint16_t source_port,
+            std::uint16_t destination_port, std::uint32_t verification_tag, std::size_t limit = most)
         : vector_(&buffer), limit_(limit < most ? limit : most)
     {
-        grow();
+        if (limit_ < DCSCTP_FIRST_CHUNK)
+            buffer.clear();
+        else
+            grow();
         begin(source_port, destination_port, verification_tag);
     }
     builder(const builder &) = delete;
     builder &operator=(const builder &) = delete;
+    /// Takes the packet over, in its buffer. The other builder then has none: each call on it returns bad_place.
+    builder(builder &&other) noexcept { swap(other); }
+    builder &operator=(builder &&other) noexcept
+    {
+        builder taken(std::move(other));
+        swap(taken);
+        return *this;
+    }
+    void swap(builder &other) noexcept
+    {
+        std::swap(vector_, other.vector_);
+        std::swap(data_, other.data_);
+        std::swap(room_, other.room_);
+        std::swap(limit_, other.limit_);
+        std::swap(size_, other.size_);
+        std::swap(start_, other.start_);
+    }
 
     /// Adds a chunk of any type.
     result add_chunk(chunk_type type, std::uint8_t flags = 0, bytes_view value = {})
@@ -940,8 +1184,8 @@ class builder {
         return code(::dcsctp_seal(data_, size_));
     }
     /// The packet, as far as it is written; of 0 bytes where the buffer had no 12.
-    mutable_bytes_view bytes() const noexcept { return {data_, size_}; }
-    std::size_t size() const noexcept { return size_; }
+    [[nodiscard]] mutable_bytes_view bytes() const noexcept { return {data_, size_}; }
+    [[nodiscard]] std::size_t size() const noexcept { return size_; }
 
   private:
     static result_code code(std::uint32_t number) noexcept { return static_cast<result_code>(number); }
@@ -967,7 +1211,7 @@ class builder {
         start_ = size_;
     }
     // Whether some of the items lie in the buffer: the library has to read and write apart.
-    template <typename T> bool overlaps(view<T> items) const noexcept
+    template <typename T> [[nodiscard]] bool overlaps(view<T> items) const noexcept
     {
         if (items.empty() || room_ == 0)
             return false;
@@ -1031,6 +1275,7 @@ template <typename T> inline constexpr bool std::ranges::enable_view<dcsctp::vie
 template <typename T> inline constexpr bool std::ranges::enable_borrowed_range<dcsctp::view<T>> = true;
 template <typename Source> inline constexpr bool std::ranges::enable_view<dcsctp::range<Source>> = true;
 template <typename Source> inline constexpr bool std::ranges::enable_borrowed_range<dcsctp::range<Source>> = true;
+template <typename Source> inline constexpr bool std::ranges::disable_sized_range<dcsctp::range<Source>> = true;
 #endif
 
 #endif

@@ -1,3 +1,4 @@
+// SPDX-License-Identifier: Apache-2.0
 // usage: show FILE. Reads packets, one a line, in hexadecimal without blanks, and prints the chunks of each, its text,
 // and the packet that answers it: for examples/packets.txt what examples/expected.txt has.
 #include "dcsctp.hpp"

@@ -1,3 +1,4 @@
+// SPDX-License-Identifier: Apache-2.0
 // Reads and writes each kind of chunk, parameter and error cause. The packets are written by hand from the RFCs, and
 // their checksums computed by a CRC32c of this file.
 #include "dcsctp.hpp"
@@ -164,14 +165,15 @@ void sacks()
     std::vector<gap_ack_block> blocks;
     for (gap_ack_block block : chunk.gap_ack_blocks())
         blocks.push_back(block);
-    CHECK(blocks.size() == 2 && blocks[0].start == 2 && blocks[0].end == 3);
-    CHECK(blocks[1].start == 5 && blocks[1].end == 5);
+    CHECK(blocks == std::vector<gap_ack_block>{{2, 3}, {5, 5}});
+    CHECK(chunk.gap_ack_blocks().size() == 2 && chunk.duplicate_tsns().size() == 1 && chunk.skipped_streams().size() == 0);
     const auto duplicates = chunk.duplicate_tsns();
     CHECK(std::distance(duplicates.begin(), duplicates.end()) == 1 && *duplicates.begin() == 9);
     CHECK(chunk.gap_ack_blocks().at(1)->start == 5 && !chunk.gap_ack_blocks().at(2));
     CHECK(chunk.gap_ack_blocks().begin()->end == 3);
     const std::vector<std::uint32_t> tsns(duplicates.begin(), duplicates.end());
     CHECK(writes(packet, [&](builder &to) { return to.add_sack(10, 65536, blocks, tsns); }));
+    CHECK(writes(packet, [](builder &to) { return to.add_sack(10, 65536, {{2, 3}, {5, 5}}, {9}); }));
     const bytes none = sealed("03000010 0000000a 00010000 0000 0000");
     CHECK(only(none).gap_ack_blocks().empty());
     CHECK(writes(none, [&](builder &to) { return to.add_sack(10, 65536); }));
@@ -200,6 +202,8 @@ void inits()
     CHECK(parameters.size() == 3 && chunk.causes().empty());
     CHECK(parameters[0].type() == parameter_type::supported_extensions && parameters[0].offset() == 32);
     CHECK(same(parameters[0].value(), of_hex("82c0")) && parameters[0].next_offset() == 40);
+    CHECK(same(parameters[0].bytes(), of_hex("8008 0006 82c0")) && same(parameters[1].bytes(), of_hex("c000 0004")));
+    CHECK(chunk.bytes().data() == packet.data() + 12 && chunk.bytes().size() == 40);
     CHECK(parameters[1].type() == parameter_type::forward_tsn_supported && parameters[1].value().empty());
     CHECK(parameters[2].type() == parameter_type::zero_checksum_acceptable && parameters[2].as_number() == 1u);
     CHECK(!parameters[0].as_number() && !parameters[0].as_re_config() && parameters[0].reset_streams().empty());
@@ -281,6 +285,7 @@ void causes()
     CHECK(causes[1].code() == cause_code::no_user_data && causes[1].as_number() == 5u);
     CHECK(causes[1].missing_parameters().empty());
     CHECK(causes[2].code() == cause_code::unrecognized_chunk && same(causes[2].value(), of_hex("7f000004")));
+    CHECK(causes[2].offset() == 36 && same(causes[2].bytes(), of_hex("0006 0008 7f000004")));
     CHECK(causes[3].code() == cause_code::cookie_received_while_shutting_down && causes[3].value().empty());
     CHECK(causes[4].code() == cause_code::protocol_violation && as_text(causes[4].value()) == "bad");
     const std::uint16_t types[] = {number(parameter_type::state_cookie)};
@@ -428,7 +433,8 @@ void faults()
     has_fault(sealed("82000010 0010 000c 00000009 00000007"), result_code::fault_value, 16);
     has_fault(sealed("0a000007 616263 01"), result_code::fault_padding, 19);
     has_fault(sealed("0a000007 616263"), result_code::fault_padding, 19);
-    CHECK(packet(sealed("0a000007 616263 01")).check());
+    const bytes padded = sealed("0a000007 616263 01");
+    CHECK(packet(padded).check());
     CHECK(std::strcmp(text(result_code::fault_padding), "wrong padding") == 0);
     CHECK(std::strcmp(packet().first_fault()->text(), "not the size of a packet") == 0);
     CHECK(std::strcmp(packet().check().text(), "not the size of a packet") == 0);
@@ -484,8 +490,62 @@ void builders()
     builder limited(vector, 1, 2, 3, 20);
     CHECK(limited.add_cookie_ack() && limited.add_cookie_ack());
     CHECK(limited.add_cookie_ack().code() == result_code::no_room && limited.seal() && vector.size() == 20);
-    builder none(vector, 1, 2, 3, 11);
-    CHECK(none.size() == 0 && none.seal().code() == result_code::bad_place);
+    for (std::size_t limit : {std::size_t{0}, std::size_t{8}, std::size_t{11}}) {
+        vector.assign(20, 7);
+        builder none(vector, 1, 2, 3, limit);
+        CHECK(vector.empty() && none.size() == 0 && none.add_cookie_ack().code() == result_code::bad_place);
+        CHECK(none.seal().code() == result_code::bad_place && vector.empty());
+    }
+    CHECK(builder(vector, 1, 2, 3, 12).size() == 12);
+}
+
+// A builder that is moved goes on in its buffer, with its last chunk; the one before has none.
+builder begun(bytes &buffer)
+{
+    builder to(buffer, 1, 2, 3);
+    CHECK(to.add_chunk(chunk_type::error));
+    return to;
+}
+
+void moved_builders()
+{
+    bytes one, two;
+    std::optional<builder> held(begun(one));
+    CHECK(held->size() == 16 && held->add_cause(cause_code::protocol_violation) && held->size() == 20);
+    builder to(std::move(*held));
+    CHECK(to.add_cause(cause_code::protocol_violation) && to.bytes().data() == one.data() && to.size() == 24);
+    CHECK(held->size() == 0 && held->bytes().empty() && held->bytes().data() == nullptr);
+    CHECK(held->add_cookie_ack().code() == result_code::bad_place && held->seal().code() == result_code::bad_place);
+    held->remove_last_chunk();
+    *held = begun(two);
+    CHECK(held->size() == 16 && held->seal() && two.size() == 16);
+    to = std::move(*held);
+    CHECK(to.size() == 16 && to.bytes().data() == two.data() && held->size() == 0 && one.size() > 24);
+    builder &same = to;
+    to = std::move(same);
+    CHECK(to.size() == 16 && to.add_cookie_ack() && to.seal() && two.size() == 20 && two[16] == 11);
+    static_assert(std::is_nothrow_move_constructible_v<builder> && std::is_nothrow_move_assignable_v<builder>);
+    static_assert(!std::is_copy_constructible_v<builder> && !std::is_copy_assignable_v<builder>);
+}
+
+void outcomes()
+{
+    const bytes bytes_of_it = sealed("0b000004");
+    const packet whole(bytes_of_it), none;
+    const auto size = [](const std::string &text) { return outcome<std::size_t>(text.size()); };
+    const auto last = [](std::string text) { return text.empty() ? outcome<char>(result_code::no_room) : text.back(); };
+    CHECK(whole.print().has_value() && whole.print().value_or("none") == *whole.print());
+    CHECK(!none.print().has_value() && none.print().value_or("none") == "none");
+    CHECK(none.print().error() == result_code::fault_size && none.print().and_then(size).error() == result_code::fault_size);
+    const outcome<std::string> text = whole.print(), empty = std::string();
+    CHECK(*text.and_then(size) == text->size() && *text.and_then(last) == 'K' && *whole.print().and_then(last) == 'K');
+    CHECK(text.value_or("none") == *text && empty.and_then(last).error() == result_code::no_room);
+    outcome<std::unique_ptr<int>> owned(std::make_unique<int>(7));
+    CHECK(*std::move(owned).value_or(nullptr) == 7);
+#ifdef __cpp_lib_expected
+    const std::expected<std::string, result_code> expected = whole.print(), unexpected = none.print(), copy = text;
+    CHECK(expected == *text && copy == *text && unexpected == std::unexpected(result_code::fault_size));
+#endif
 }
 
 void names()
@@ -495,7 +555,63 @@ void names()
     CHECK(std::string_view(name(parameter_type::ssn_tsn_reset)) == "SSN/TSN Reset Request");
     CHECK(std::string_view(name(cause_code::no_user_data)) == "No User Data");
     CHECK(std::string_view(name(cause_code::stale_cookie)) == "Stale Cookie");
+    CHECK(is_known(chunk_type::data) && is_known(parameter_type::unrecognized_parameter) && is_known(cause_code::no_user_data));
+    CHECK(!is_known(static_cast<chunk_type>(99)) && !is_known(static_cast<parameter_type>(99)));
+    CHECK(!is_known(static_cast<cause_code>(99)) && to_string(static_cast<cause_code>(99)) == "unknown (99)");
+    CHECK(to_string(chunk_type::i_data) == "I-DATA" && to_string(static_cast<chunk_type>(99)) == "unknown (99)");
+    CHECK(to_string(parameter_type::state_cookie) == "State Cookie" && to_string(cause_code::stale_cookie) == "Stale Cookie");
+    CHECK(to_string(static_cast<parameter_type>(0x8002)) == "unknown (0x8002)");
+    CHECK(to_string(static_cast<parameter_type>(0xabc)) == "unknown (0x0abc)");
+    // RFC 6525 section 4.4.
+    CHECK(to_string(re_config_result::nothing_to_do) == "Success - Nothing to do" && is_known(re_config_result::in_progress));
+    CHECK(to_string(re_config_result::performed) == "Success - Performed" && to_string(re_config_result::denied) == "Denied");
+    CHECK(to_string(re_config_result::wrong_ssn) == "Error - Wrong SSN");
+    CHECK(to_string(re_config_result::already_in_progress) == "Error - Request already in progress");
+    CHECK(to_string(re_config_result::bad_sequence_number) == "Error - Bad Sequence Number");
+    CHECK(to_string(re_config_result::in_progress) == "In progress" && !is_known(static_cast<re_config_result>(7)));
+    CHECK(to_string(static_cast<re_config_result>(7)) == "unknown (7)");
+    CHECK(to_string(result_code::fault_padding) == "wrong padding" && name(result_code::ok) == to_string(result_code::ok));
     CHECK(std::string_view(version()) == DCSCTP_VERSION && library_version_number() == version_number);
+}
+
+// Whether two values are equal, and aren't any more as soon as one of these fields is another.
+template <typename T, typename... Field> bool compares(Field T::*...field)
+{
+    const auto differs = [](auto one_field) {
+        T one{};
+        auto changed = one.*one_field;
+        std::memset(&changed, 1, sizeof changed);
+        one.*one_field = changed;
+        return one != T{} && !(one == T{}) && one == T(one);
+    };
+    return T{} == T{} && !(T{} != T{}) && (differs(field) && ...);
+}
+
+void equality()
+{
+    CHECK(compares(&header::source_port, &header::destination_port, &header::verification_tag, &header::checksum));
+    CHECK(compares(&init::initiate_tag, &init::a_rwnd, &init::outbound_streams, &init::inbound_streams, &init::initial_tsn));
+    CHECK(compares(&sack::cumulative_tsn_ack, &sack::a_rwnd, &sack::block_count, &sack::duplicate_count));
+    CHECK(compares(&gap_ack_block::start, &gap_ack_block::end));
+    CHECK(compares(&forward_tsn::new_cumulative_tsn, &forward_tsn::stream_count));
+    CHECK(compares(&skipped_stream::stream, &skipped_stream::ssn, &skipped_stream::mid, &skipped_stream::is_unordered));
+    CHECK(compares(&fault::code, &fault::offset) && compares(&written::code, &written::size));
+    CHECK(compares(&policy::any_checksum, &policy::zero_checksum, &policy::strict_padding));
+    CHECK(compares(&data::tsn, &data::mid, &data::fsn, &data::ppid, &data::stream, &data::ssn, &data::is_unordered,
+                   &data::is_beginning, &data::is_end, &data::immediate_ack));
+    CHECK(compares(&re_config::type, &re_config::request_number, &re_config::response_number, &re_config::last_tsn,
+                   &re_config::result, &re_config::has_next_tsns, &re_config::sender_next_tsn,
+                   &re_config::receiver_next_tsn, &re_config::new_streams, &re_config::stream_count));
+    const bytes one = {1, 2}, same_bytes = {1, 2}, other = {1, 3};
+    data with, without;
+    with.payload = one;
+    data again = with;
+    again.payload = same_bytes;
+    CHECK(with == again && with != without);
+    again.payload = other;
+    CHECK(with != again);
+    const bytes changed = sealed("0b000004 0b000003");
+    CHECK(packet(changed).first_fault() == fault{result_code::fault_length, 16});
 }
 
 void views()
@@ -507,12 +623,24 @@ void views()
     CHECK(same(array, vector) && bytes_view(other).size() == 2 && mutable_bytes_view(array)[2] == 3);
     CHECK(same(as_bytes(std_bytes), other) && bytes_view().empty() && as_text(as_bytes("ab")) == "ab");
     CHECK(same(mutable_bytes_view(array), bytes_view(mutable_bytes_view(array))));
+    const bytes_view all(vector);
+    CHECK(same(all.subspan(1), of_hex("0203")) && same(all.subspan(1, 1), of_hex("02")) && same(all.subspan(0, 9), vector));
+    CHECK(all.subspan(1).data() == vector.data() + 1 && all.subspan(3).empty() && all.subspan(4).empty());
+    CHECK(all.subspan(2, static_cast<std::size_t>(-1)).size() == 1 && bytes_view().subspan(1, 1).empty());
+    std::byte room[24] = {};
+    builder to(as_writable_bytes(room), 1, 2, 3);
+    CHECK(to.add_cookie_echo({7, 8}) && to.seal() && room[16] == std::byte{7} && packet(as_bytes(room)).size() == 24);
+    static_assert(!std::is_convertible_v<std::initializer_list<std::uint8_t>, mutable_bytes_view>);
     static_assert(std::is_convertible_v<bytes, bytes_view> && std::is_convertible_v<bytes &, mutable_bytes_view>);
     static_assert(!std::is_convertible_v<bytes, mutable_bytes_view>);
     static_assert(!std::is_convertible_v<const bytes &, mutable_bytes_view>);
     static_assert(!std::is_convertible_v<bytes_view, mutable_bytes_view>);
     static_assert(!std::is_convertible_v<std::string, bytes_view>);
     static_assert(!std::is_convertible_v<std::vector<std::uint16_t>, bytes_view>);
+    static_assert(!std::is_constructible_v<packet, bytes> && !std::is_constructible_v<packet, const bytes>);
+    static_assert(!std::is_constructible_v<packet, std::array<std::uint8_t, 16>>);
+    static_assert(std::is_constructible_v<packet, bytes &> && std::is_constructible_v<packet, const bytes &>);
+    static_assert(std::is_constructible_v<packet, bytes_view> && std::is_constructible_v<packet, mutable_bytes_view>);
     static_assert(std::is_trivially_copyable_v<packet> && std::is_trivially_copyable_v<chunk>);
     static_assert(noexcept(packet(vector).first_fault()) && noexcept(packet(vector).word()));
     static_assert(noexcept(packet().header()) && noexcept(++packet().chunks().begin()));
@@ -530,6 +658,7 @@ void views()
     static_assert(std::ranges::forward_range<chunks> && std::ranges::view<chunks>);
     static_assert(std::ranges::borrowed_range<chunks>);
     static_assert(std::ranges::forward_range<gap_ack_blocks> && std::ranges::view<gap_ack_blocks>);
+    static_assert(!std::ranges::sized_range<chunks>); // it would take as long as reading
     static_assert(std::ranges::contiguous_range<bytes_view> && std::ranges::view<bytes_view>);
     const bytes two = sealed("0b000004 08000004");
     CHECK(std::ranges::distance(packet(two).chunks()) == 2);
@@ -574,7 +703,7 @@ template <typename Range, typename Items> bool gives(const Range &range, const I
         if (std::distance(it, range.end()) != static_cast<std::ptrdiff_t>(items.size() - index))
             return false;
     }
-    return index == items.size() && !range.empty() && range.begin() != range.end();
+    return index == items.size() && range.size() == index && !range.empty() && range.begin() != range.end();
 }
 
 // What a function gives for 0 to 19.
@@ -847,7 +976,10 @@ int main()
     whole_packets();
     faults();
     builders();
+    moved_builders();
+    outcomes();
     names();
+    equality();
     views();
     lists();
     long_values();

@@ -1,10 +1,16 @@
 #!/usr/bin/env bash
+# SPDX-License-Identifier: Apache-2.0
 # usage: bindings/cpp/test.sh [DIST]
 #
-# Builds test.cc with g++ and clang++, those that are there, as C++17 and C++20, with the sanitizers, over the text in the
+# Builds test.cc with g++ and clang++, those that are there, as C++17, C++20 and C++23, with the sanitizers, over the text in the
 # folder DIST (else the repository's dist/), and runs it; show.cc and the README's program as well, as C++17; all with every
-# warning as an error. Looks whether dcsctp.hpp calls each function of dcsctp.h. Stops at the first that fails.
+# warning as an error. Has the compilers refuse each WAY of dangling.cc, some of them clang++ alone. Looks whether dcsctp.hpp
+# calls each function of dcsctp.h, and by clang-tidy whether each result is [[nodiscard]]. Stops at the first that fails.
 set -eu -o pipefail
+case ${1:-} in
+    --help) sed -n 's/^# \(usage: \)/\1/p' "$0" && exit ;;
+    -*) sed -n 's/^# \(usage: \)/\1/p' "$0" >&2 && exit 2 ;;
+esac
 cd "$(dirname "$0")"
 dist=${1:-../../dist}
 text=$dist/dcsctp-$(uname -m)-elf.s
@@ -39,17 +45,32 @@ for compiler in g++ clang++; do
     if ! { "$compiler" "${sanitizers[@]}" -o "$work/probe" "$work/probe.cc" && "$work/probe"; } >"$work/log" 2>&1; then
         echo "bindings/cpp: $compiler has no sanitizers" && sanitizers=()
     fi
-    for standard in 17 20; do
+    "$compiler" -std=c++20 "${flags[@]}" -fsyntax-only test.cc
+    for standard in 17 2b; do
         "$compiler" -std=c++$standard "${flags[@]}" "${sanitizers[@]}" -Wl,--wrap=malloc,--wrap=realloc -o "$work/test" test.cc "$text"
         "$work/test"
         tried=$((tried + 1))
     done
+    for way in $(sed -n 's/^#.*WAY == //p' dangling.cc); do
+        case $compiler$way in g++[3-6] | g++1[23]) continue ;; esac
+        said=0
+        "$compiler" -std=c++17 "${flags[@]}" -fsyntax-only -DWAY="$way" dangling.cc 2>"$work/said" || said=$?
+        if [ $((said != 0)) -ne $((way != 0)) ] || ! { [ "$way" -eq 0 ] || grep -q 'deleted\|-Wdangling\|address\|nodiscard' "$work/said"; }; then
+            echo "bindings/cpp: $compiler on the way $way of dangling.cc:" >&2 && cat "$work/said" >&2 && exit 1
+        fi
+    done
     "$compiler" -std=c++17 "${flags[@]}" -o "$work/readme" "$work/readme.cc" "$text"
     "$work/readme" | diff - "$work/readme.expected"
-    "$compiler" -std=c++17 "${flags[@]}" -O2 -o "$work/show" show.cc "$text"
+    "$compiler" -std=c++17 "${flags[@]}" -Weffc++ -O2 -o "$work/show" show.cc "$text"
     if [ -f ../../examples/packets.txt ]; then
         "$work/show" ../../examples/packets.txt | diff - ../../examples/expected.txt
     fi
 done
+if command -v clang-tidy >"$work/log"; then
+    clang-tidy --quiet --checks='-*,modernize-use-nodiscard' --warnings-as-errors='*' --header-filter=dcsctp.hpp show.cc -- \
+        -std=c++17 -I . -I "$dist" 2>"$work/log"
+else
+    echo 'bindings/cpp: left out, since it isn'"'"'t here: clang-tidy'
+fi
 echo "bindings/cpp: $tried builds of test.cc passed, and what show.cc and README.md print is right"
 [ "$tried" -gt 0 ]
