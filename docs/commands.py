@@ -1,11 +1,12 @@
 #!/usr/bin/env python3
-"""usage: docs/commands.py | --help
+# SPDX-License-Identifier: Apache-2.0
+"""usage: docs/commands.py [FOLDER] | --help
 
 Runs the commands of the pages as who reads them does, compiles the C of docs/C.md that is part of no program, and tries the
 Rust and the Python of README.md.
 
-They run one after the other, in a folder with what a clone has of dist/, bindings/, examples/ and the captures, with the Python
-package installed, and no toolchain on PATH. What they install goes below it; `FILE` and the like are captures. Below a line that
+They run one after the other, in a copy of FOLDER, an unpacked release, or else of what dist/release.sh packs of this checkout, or of
+this folder itself, if it is no checkout. The Python package is installed, and no toolchain is on PATH. What they install goes below; `FILE` and the like are captures. Below a line that
 begins with `$ ` is what it prints, which is compared. A command of sctp_dump may end with 0, 1 or 3, any other with 0. What can't
 run here is left out, and named. The last line is: pages: N passed, M failed, K left out.
 """
@@ -19,7 +20,6 @@ import tempfile
 
 ROOT = os.path.dirname(os.path.dirname(os.path.abspath(__file__)))
 PAGES = ['README.md', 'docs/INSTALL.md', 'docs/C.md', 'docs/DUMP.md', 'dist/README.md']
-COPIED = ['dist', 'bindings', 'examples', 'crates/sctp_dump/data', 'dump/data']
 COMMAND = re.compile(r'(\$ )?((?:cc|echo|export|python|pip|cmake|(?:\./)?sctp_dump|xxd|c/build\.sh|tcpdump|cargo|npm|\(cd) .*)')
 
 # What can't run here, and why.
@@ -28,7 +28,7 @@ LEFT_OUT = [
     (r'tcpdump', 'it needs a network'),
     (r'sctp_dump \[', 'it is a pattern'),
     (r'crates/NAME', 'it is a pattern'),
-    (r'cargo add|npm install', 'dist/test.sh tries the package'),
+    (r'cargo add|npm install|VERSION', 'dist/test.sh tries the package'),
     (r'cmake -S dist -B build &&', 'it writes to /usr/local, and dist/test.sh tries it elsewhere'),
 ]
 
@@ -36,7 +36,7 @@ LEFT_OUT = [
 TOOLS = {'python3-venv': r'^(?:python|pip)', 'cmake': r'cmake|\$P\b|pkg-config', 'pkg-config': r'pkg-config', 'jq': r'\| jq', 'xxd': r'^xxd'}
 
 # What the pages call the reader's own.
-OWN = [(r'\bFILE\b|capture\.pcap', 'dump/data/usrsctp.pcap'), (r'chrome_debug\.log', 'crates/sctp_dump/data/lines.txt')]
+OWN = [(r'\bFILE\b|capture\.pcap', 'dump/data/usrsctp.pcap'), (r'chrome_debug\.log', 'dump/data/chromium.log')]
 
 # What the C of docs/C.md takes as given.
 GIVEN = '''#include <dcsctp.h>
@@ -127,25 +127,25 @@ def rust(lines, work, variables):
     folder = os.path.join(work, 'user', 'src')
     os.makedirs(folder)
     with open(os.path.join(work, 'user', 'Cargo.toml'), 'w', encoding='utf-8') as file:
-        file.write('[package]\nname = "user"\nversion = "0.1.0"\nedition = "2024"\n[dependencies]\ndcsctp = { path = "../bindings/rust" }\n')
+        file.write('[package]\nname = "user"\nversion = "0.1.0"\nedition = "2024"\n[dependencies]\ndavgyuti = { path = ".." }\n')
     with open(os.path.join(folder, 'main.rs'), 'w', encoding='utf-8') as file:
-        file.write('fn run(bytes: &[u8]) -> Result<(), dcsctp::Fault> {\n%s\nOk(())\n}\n' % '\n'.join(lines))
+        file.write('fn run(bytes: &[u8]) -> Result<(), davgyuti::Fault> {\n%s\nOk(())\n}\n' % '\n'.join(lines))
         file.write('fn main() {\nassert_eq!(run(&[0; 16]).unwrap_err().offset, 8);\n}\n')
     return run('cd user && cargo run --quiet --offline', '', work, variables)
 
 
 def python(lines, work, variables):
     """What is wrong with the Python of README.md, up to its command."""
-    code = f"import dcsctp\ndata = bytes.fromhex('138813884d2df52d67db78b50b000004')\n{lines[0]}"
+    code = f"import davgyuti\ndata = bytes.fromhex('138813884d2df52d67db78b50b000004')\n{lines[0]}"
     done = subprocess.run(['python', '-c', code], cwd=work, env=variables, capture_output=True, text=True)
     return done.stderr or ('' if 'CookieAck' in done.stdout else f'printed {done.stdout}')
 
 
 # The code of README.md, by how its block begins.
-README = {'let packet = dcsctp': rust, 'for chunk in dcsctp': python}
+README = {'let packet = davgyuti': rust, 'for chunk in davgyuti': python}
 
 
-def main():
+def main(folder):
     counts = {'passed': 0, 'failed': 0, 'left out': 0}
 
     def report(name, outcome, why=''):
@@ -153,14 +153,21 @@ def main():
         if outcome != 'passed':
             print(f'pages: {name}: {outcome}' + (f', since {why}' if outcome == 'left out' else f'\n{why}'))
 
-    with tempfile.TemporaryDirectory() as work:
-        for folder in COPIED:
-            shutil.copytree(os.path.join(ROOT, folder), os.path.join(work, folder))
+    with tempfile.TemporaryDirectory() as made:
+        is_checkout = subprocess.run(['git', '-C', ROOT, 'rev-parse'], capture_output=True).returncode == 0 if shutil.which('git') else False
+        if not folder and not is_checkout:
+            folder = ROOT
+        elif not folder:
+            subprocess.run([os.path.join(ROOT, 'dist', 'release.sh'), '--archive', made], check=True)
+            subprocess.run('tar -xzf *.tar.gz && rm *.tar.gz', cwd=made, shell=True, check=True)
+            folder = os.path.join(made, os.listdir(made)[0])
+        work = os.path.join(made, 'work')
+        shutil.copytree(folder, work)
         with open(os.path.join(work, 'packet.bin'), 'wb') as file:
             file.write(bytes.fromhex('1388138801020304000000000b000004'))
         variables = environment(work)
         for page in PAGES:
-            with open(os.path.join(ROOT, page), encoding='utf-8') as file:
+            with open(os.path.join(work, page), encoding='utf-8') as file:
                 text = file.read()
             for command, wanted in commands_of(page, text):
                 why = why_not(command)
@@ -180,6 +187,9 @@ def main():
     sys.exit(counts['failed'] > 0)
 
 
-if len(sys.argv) == 1:
-    main()
-sys.exit(__doc__ if sys.argv[1:] != ['--help'] else print(__doc__))
+if sys.argv[1:] == ['--help']:
+    print(__doc__)
+elif len(sys.argv) > 2 or sys.argv[1:] and sys.argv[1].startswith('-'):
+    sys.exit(__doc__)
+else:
+    main(sys.argv[1] if sys.argv[1:] else None)
