@@ -1,4 +1,5 @@
 #!/usr/bin/env bash
+# SPDX-License-Identifier: Apache-2.0
 # The README's test command, from the root of the repository.
 set -u
 
@@ -33,18 +34,24 @@ cd "$(dirname "$0")" || exit
 work=$(mktemp -d)
 trap 'rm -rf "$work"' EXIT
 
+# Names the sources that don't say their license.
+have_licenses() {
+    ! git grep -L 'SPDX-License-Identifier: Apache-2.0' -- '*.c' '*.cc' '*.h' '*.hpp' '*.go' '*.rs' '*.py' '*.sh' '*.js' '*.cjs' '*.mjs' \
+        '*.ts' '*.css' '*.html' '*/CMakeLists.txt' ':!crates' 2>/dev/null | grep .
+}
+
 compare() {
     # The program looks at no answer in its table.
     cmp crates/wire_rows/stdin crates/wire_rows/stdout && docs/captures.py --compare && docs/examples.py --compare &&
-        docs/api.py --compare && docs/rules.py --compare
+        docs/api.py --compare && docs/rules.py --compare && docs/links.py . && have_licenses
 }
 
-# Whether the library for JavaScript is that of the sources.
+# Whether the library and the program as WebAssembly are those of the modules.
 compare_wasm() {
     if command -v wasm-opt >/dev/null; then
         dist/wasm.py --compare
     else
-        echo 'dist: bindings/js/dcsctp.wasm: not compared, since there is no wasm-opt (Debian: binaryen)'
+        echo 'dist: WebAssembly: not compared, since there is no wasm-opt (Debian: binaryen)'
     fi
 }
 
@@ -212,10 +219,10 @@ run_without_rt() {
     with "$cc" C c/test.sh 100000
     with "$cc x86-64 python3" 'commands of the pages' docs/commands.py
     with node 'scripts of the page' node page/tests/units.mjs "$work/sctp_dump"
-    if [ -f page/out/sctp.html ]; then with node page page/test.sh; else leave_out page 'page/out is not made, which takes rt'; fi
+    with 'node python3' page page/test.sh
     [ -z "$texts" ] || { wait $texts; report 'texts of dist' $?; }
     for name in 'the proofs, and the rows and tests of the crates' 'refused requests' 'the code of CALLING.md' \
-        'whether dist/ and bindings/js/dcsctp.wasm are what the sources give'; do
+        'whether dist/ and the WebAssembly are what the sources give'; do
         leave_out "$name" 'it takes rt'
     done
     printf 'without rt: %s left out, and nothing was proved: %s passed, %s failed\n' "$left_out" "$passed" "$failed"

@@ -1,4 +1,5 @@
 #!/usr/bin/env python3
+# SPDX-License-Identifier: Apache-2.0
 """usage: dist/systems.py [FOLDER]
 
 Tries which text of dist/ each package takes on each system, on whichever this runs: Python's backend.py under other names of
@@ -21,23 +22,41 @@ from unittest import mock
 # CMAKE_SYSTEM_PROCESSOR, after : CMAKE_OSX_ARCHITECTURES. A - elsewhere is a system that the package's tool has no name for.
 SYSTEMS = """
 x86_64-elf     linux     x86_64      x86_64-unknown-linux-gnu       linux/amd64    Linux    x86_64
-x86_64-elf     freebsd14 amd64       x86_64-unknown-freebsd         -              FreeBSD  amd64
-x86_64-elf     -         -           x86_64-unknown-linux-musl      -              -        -
+x86_64-elf     freebsd14 amd64       x86_64-unknown-freebsd         freebsd/amd64  FreeBSD  amd64
+x86_64-elf     -         -           x86_64-unknown-linux-musl      android/amd64  -        -
 aarch64-elf    linux     aarch64     aarch64-unknown-linux-gnu      linux/arm64    Linux    aarch64
-aarch64-elf    freebsd14 arm64       aarch64-unknown-freebsd        -              FreeBSD  arm64
-aarch64-elf    -         -           aarch64-unknown-none           -              -        -
+aarch64-elf    freebsd14 arm64       aarch64-unknown-freebsd        freebsd/arm64  FreeBSD  arm64
+aarch64-elf    -         -           aarch64-unknown-none           android/arm64  -        -
+x86_64-none    -         -           x86_64-unknown-none            -              -        -
 x86_64-macho   darwin    x86_64      x86_64-apple-darwin            darwin/amd64   Darwin   x86_64
-x86_64-macho   -         -           -                              -              Darwin   arm64:x86_64
+x86_64-macho   -         -           -                              ios/amd64      Darwin   arm64:x86_64
 aarch64-macho  darwin    arm64       aarch64-apple-darwin           darwin/arm64   Darwin   arm64
-aarch64-macho  -         -           aarch64-apple-ios              -              Darwin   x86_64:arm64
+aarch64-macho  -         -           aarch64-apple-ios              ios/arm64      Darwin   x86_64:arm64
 x86_64-coff    win32     AMD64       x86_64-pc-windows-msvc         windows/amd64  Windows  AMD64
 x86_64-coff    -         -           x86_64-pc-windows-gnu          -              -        -
+x86_64-elf     -         -           -                              -              Android  x86_64
+aarch64-elf    -         -           -                              -              Android  aarch64
+aarch64-elf    -         -           -                              -              OHOS     aarch64
+x86_64-elf     -         -           -                              -              NetBSD   amd64
+x86_64-elf     -         -           -                              -              DragonFly x86_64
+aarch64-elf    -         -           -                              -              Fuchsia  aarch64
+aarch64-macho  -         -           -                              -              iOS      arm64
+-              -         -           -                              -              OpenBSD  amd64
+-              -         -           -                              -              SunOS    x86_64
+-              -         -           -                              -              VxWorks  x86_64
+-              -         -           -                              -              CYGWIN   x86_64
+-              -         -           -                              -              WindowsStore AMD64
+-              -         -           -                              -              Generic  aarch64
 -              win32     ARM64       aarch64-pc-windows-msvc        windows/arm64  Windows  ARM64
 -              linux     riscv64     riscv64gc-unknown-linux-gnu    linux/riscv64  Linux    riscv64
 -              linux     i686        i686-unknown-linux-gnu         linux/386      Linux    i686
 -              linux     aarch64_be  aarch64_be-unknown-linux-gnu   -              Linux    aarch64_be
 -              linux     armv7l      armv7-unknown-linux-gnueabihf  linux/arm      Linux    armv7l
--              -         -           x86_64-unknown-linux-gnux32    freebsd/amd64  -        -
+-              -         -           x86_64-unknown-linux-gnux32    android/arm    -        -
+-              -         -           -                              openbsd/amd64  -        -
+-              -         -           -                              netbsd/arm64   -        -
+-              -         -           -                              illumos/amd64  -        -
+-              -         -           -                              js/wasm        -        -
 -              win32     x86         i686-pc-windows-msvc           windows/386    Windows  X86
 """
 ENDINGS = {"elf": ".so", "macho": ".dylib", "coff": ".dll"}
@@ -84,19 +103,19 @@ def texts_of_rust(folder, target):
 
     def holds(condition):
         # Each word is true or false of the target; any, all and not mean in Python what they mean in Rust.
-        word = re.compile(r'(\w+) = ("\w*")|\b(unix|windows)\b')
-        said = word.sub(lambda it: str((it[3] or f"{it[1]}={it[2]}") in cfgs), condition)
+        said = re.sub(r'(\w+) = ("\w*")', lambda it: str(f"{it[1]}={it[2]}" in cfgs), condition)
         return eval(said, {"any": lambda *it: any(it), "all": lambda *it: all(it)})
 
-    macro = re.search(r"#\[cfg\((all.*?)\)\]\s*mod", source, re.S)[1]
     found = []
-    for arch, text, system, syntax in re.findall(
-        r'^text!\(\s*("\w+"),\s*"([^"]*)",\s*(.*?)(?:,\s*(att_syntax))?\s*\);', source, re.S | re.M
-    ):
-        if holds(macro.replace("$arch", arch).replace("$system", system)):
+    for arch, text, systems, syntax in re.findall(r'^    ("\w+"), "([^"]*)", \[([^]]*)\](?:, (att_syntax))?;', source, re.M):
+        if f"target_arch={arch}" in cfgs and any(f"target_os={it}" in cfgs for it in re.findall(r'"\w+"', systems)):
             # (att_syntax is a word of x86 alone, whose texts need it)
-            found.append(text if bool(syntax) == (arch == '"x86_64"') else f"{text} {syntax}")
-    refusals = re.findall(r'^refuse!\(\s*(.*?),\s*"([^"]*)"\s*\);', source, re.S | re.M)
+            odd = "" if bool(syntax) == (arch == '"x86_64"') else f" {syntax}"
+            is_there = os.path.isfile(os.path.join(folder, "dist", text))
+            found.append(f"{text}{odd}" if is_there else f"{text}, which isn't in dist/")
+    refusals = re.findall(r'refuse!\(\s*(.*?),\s*"([^"]*)"\s*\);', source, re.S)
+    # (the macro with the texts refuses what they don't name)
+    refusals = [(re.sub(r"not\(any\(\$.*\)\)", str(not found), condition, flags=re.S), why) for condition, why in refusals]
     return found, [why for condition, why in refusals if holds(condition)]
 
 
@@ -121,12 +140,15 @@ def of_go(folder, system):
     package = os.path.join(folder, "bindings", "go")
     environment = dict(os.environ, GOOS=goos, GOARCH=goarch, CGO_ENABLED="1", GOPROXY="off", GOFLAGS="-mod=mod")
     listed = subprocess.run(
-        ["go", "list", "-f", "{{join .SFiles \" \"}} {{join .CgoFiles \" \"}}", "."],
+        ["go", "list", "-e", "-f", "{{join .SFiles \" \"}} {{join .GoFiles \" \"}}", "."],
         cwd=package, env=environment, capture_output=True, text=True, check=True,
     ).stdout.split()
-    taken = [it for it in listed if it.endswith(".s")]
+    taken = [it for it in listed if it.endswith((".s", ".S"))]
     if (not taken) != ("unsupported.go" in listed) or len(taken) > 1:
         return listed
+    if taken and taken[0].endswith(".S"):
+        with open(os.path.join(package, taken[0]), encoding="utf-8") as file:
+            taken = re.findall(r'^\.include "(.*)"$', file.read(), re.M)
     dist = os.path.join(folder, "dist")
     texts = (it for it in os.listdir(dist) if it.endswith(".s"))
     return next((it for it in texts if filecmp.cmp(f"{dist}/{it}", f"{package}/{taken[0]}", False)), taken) if taken else None
@@ -142,7 +164,7 @@ def of_cmake(folder, system, processor):
         "CMAKE_SYSTEM_NAME": system, "CMAKE_SYSTEM_PROCESSOR": processor, "CMAKE_OSX_ARCHITECTURES": architectures,
         "CMAKE_CURRENT_SOURCE_DIR": dist, "CMAKE_SIZEOF_VOID_P": "8",
         # (what CMake makes of the system's name)
-        "APPLE": str(system == "Darwin").upper(), "WIN32": str(system == "Windows").upper(),
+        "APPLE": str(system in ("Darwin", "iOS")).upper(), "WIN32": str(system == "Windows").upper(),
     }
     script = "cmake_minimum_required(VERSION 3.14)\n" + "".join(f'set({name} "{it}")\n' for name, it in values.items())
     with tempfile.NamedTemporaryFile("w", suffix=".cmake") as file:
@@ -150,7 +172,7 @@ def of_cmake(folder, system, processor):
         file.flush()
         ran = subprocess.run(["cmake", "-P", file.name], capture_output=True, text=True)
     if ran.returncode:
-        return None if "there is no dcsctp-" in " ".join(ran.stderr.split()) else ran.stderr
+        return None if "dcsctp: there is no " in " ".join(ran.stderr.split()) else ran.stderr
     return re.search(r"^text (.*)", ran.stderr, re.M)[1]
 
 
