@@ -1,4 +1,5 @@
 #!/usr/bin/env bash
+# SPDX-License-Identifier: Apache-2.0
 # Measures all that docs/SPEED.md shows.
 set -eu -o pipefail
 . "$(dirname "$0")/build.sh"

@@ -1,3 +1,4 @@
+/* SPDX-License-Identifier: Apache-2.0 */
 /* An association between two sockets of usrsctp, in one process: each packet is printed as it is sent.
  *
  *     cc bench/association.c -o association -lusrsctp -lpthread && ./association

@@ -1,3 +1,4 @@
+# SPDX-License-Identifier: Apache-2.0
 # What the scripts of bench/ do first; they source it. Its functions run at the root of the repository, and what they make
 # goes to the folder $out.
 

@@ -1,4 +1,5 @@
 #!/usr/bin/env bash
+# SPDX-License-Identifier: Apache-2.0
 # Times the C library (docs/SPEED.md).
 set -eu
 . "$(dirname "$0")/build.sh"

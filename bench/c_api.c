@@ -1,3 +1,4 @@
+/* SPDX-License-Identifier: Apache-2.0 */
 /* Times the C library over traffic files.
 
    usage: c_api ROUNDS MILLIS FILE..
@@ -13,7 +14,7 @@
 #include <time.h>
 
 /* The checksum fields of the traffic are random. */
-static const struct dcsctp_policy any = {true, false, false};
+static const struct dcsctp_policy any = {.any_checksum = true};
 static uint8_t output[1 << 20];
 
 static uint64_t check(const uint8_t *bytes, size_t length)

@@ -1,3 +1,4 @@
+/* SPDX-License-Identifier: Apache-2.0 */
 /* Times the CRC32c of crates/probes, beside a loop in C that goes byte by byte through one table.
 
    usage: crc ROUNDS MILLIS

@@ -1,4 +1,5 @@
 #!/usr/bin/env bash
+# SPDX-License-Identifier: Apache-2.0
 # Times the CRC32c beside a loop in C that goes byte by byte (docs/SPEED.md).
 set -eu
 . "$(dirname "$0")/build.sh"

@@ -1,3 +1,4 @@
+/* SPDX-License-Identifier: Apache-2.0 */
 /* Times the calls of crates/probes over traffic files, and counts their requests for memory. Those of
    crates/strict_probes can be counted alone.
 

@@ -1,4 +1,5 @@
 #!/usr/bin/env python3
+# SPDX-License-Identifier: Apache-2.0
 """Times sctp_dump over captures of 10 and 100 MB, and tshark beside it if it is there.
 
 usage: bench/dump.py [PROGRAM]

@@ -1,4 +1,5 @@
 #!/usr/bin/env python3
+# SPDX-License-Identifier: Apache-2.0
 """usage: bench/gate.py [COMMAND ..]
 
 Runs the gate, `rt ci` where no command is named, and prints where its processor time went: a line for each crate, with the

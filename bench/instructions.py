@@ -1,4 +1,5 @@
 #!/usr/bin/env python3
+# SPDX-License-Identifier: Apache-2.0
 """Compares what bench/instructions.sh counted with the recorded figures, and prints it as Markdown.
 
 usage: instructions.py FOLDER RECORD [--record]

@@ -1,4 +1,5 @@
 #!/usr/bin/env bash
+# SPDX-License-Identifier: Apache-2.0
 # Counts the library's instructions a packet, and compares them with bench/instructions.tsv.
 set -eu
 . "$(dirname "$0")/build.sh"

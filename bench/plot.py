@@ -1,4 +1,5 @@
 #!/usr/bin/env python3
+# SPDX-License-Identifier: Apache-2.0
 """Draws what bench/run.sh measured, as an SVG of plain text.
 
 usage: plot.py FOLDER PICTURE

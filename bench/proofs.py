@@ -1,4 +1,5 @@
 #!/usr/bin/env python3
+# SPDX-License-Identifier: Apache-2.0
 """usage: bench/proofs.py CRATE [PARTS]
 
 Prints the parts of a crate's proof that took longest, 30 or PARTS of them, in seconds. Prove the crate from nothing first, by

@@ -1,4 +1,5 @@
 #!/usr/bin/env python3
+# SPDX-License-Identifier: Apache-2.0
 """Puts tables into docs/SPEED.md, as bench/all.sh --record does.
 
 usage: bench/record.py PART..

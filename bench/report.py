@@ -1,4 +1,5 @@
 #!/usr/bin/env python3
+# SPDX-License-Identifier: Apache-2.0
 """Joins what the turns of bench/run.sh measured, and prints it as Markdown.
 
 usage: report.py FOLDER

@@ -1,4 +1,5 @@
 #!/usr/bin/env bash
+# SPDX-License-Identifier: Apache-2.0
 # Times the library, and the Rust crate beside it where a program that times that is given (docs/SPEED.md).
 set -eu
 . "$(dirname "$0")/build.sh"

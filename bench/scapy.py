@@ -1,4 +1,5 @@
 #!/usr/bin/python3
+# SPDX-License-Identifier: Apache-2.0
 """Compares all that sctp_dump prints of packets with scapy's dissection of the same bytes.
 
 usage: bench/scapy.py [OPTION]..

@@ -1,4 +1,5 @@
 #!/usr/bin/env python3
+# SPDX-License-Identifier: Apache-2.0
 """Makes the traffic files of the benchmark: one packet a line, in hexadecimal.
 
 usage: traffic.py SEED FOLDER

@@ -1,4 +1,5 @@
 #!/usr/bin/env python3
+# SPDX-License-Identifier: Apache-2.0
 """Compares what sctp_dump prints with tshark's dissection, field by field, over captures that other tools wrote.
 
 usage: bench/tshark.py [PROGRAM]

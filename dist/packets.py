@@ -1,4 +1,5 @@
 #!/usr/bin/env python3
+# SPDX-License-Identifier: Apache-2.0
 """usage: dist/packets.py COUNT SEED <PACKETS
 
 Prints as many packets, in hexadecimal, one a line: those that it reads, with changes made at random. The same seed gives

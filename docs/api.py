@@ -1,4 +1,5 @@
 #!/usr/bin/env python3
+# SPDX-License-Identifier: Apache-2.0
 """usage: docs/api.py --write | --compare | --help
 
 Makes docs/API.md, the list of the libraries' public items, from their sources.

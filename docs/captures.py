@@ -1,4 +1,5 @@
 #!/usr/bin/env python3
+# SPDX-License-Identifier: Apache-2.0
 """usage: docs/captures.py --write | --compare | --help
 
 Makes the page of captures, docs/CAPTURES.md, by running the program.

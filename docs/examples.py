@@ -1,4 +1,5 @@
 #!/usr/bin/env python3
+# SPDX-License-Identifier: Apache-2.0
 """usage: docs/examples.py --write | --compare | --try | --paste DIR [NAME ..] | --help
 
 The programs of docs/CALLING.md are files of crates/dcsctp_uses/src, which the gate proves. The program of docs/C.md

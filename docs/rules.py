@@ -1,4 +1,5 @@
 #!/usr/bin/env python3
+# SPDX-License-Identifier: Apache-2.0
 """usage: docs/rules.py --compare | --try PROGRAM | --help
 
 Compares the table of rules in docs/DUMP.md with the code, crates/sctp_filter/src/rule.rt: the names in the

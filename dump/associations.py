@@ -1,4 +1,5 @@
 #!/usr/bin/env python3
+# SPDX-License-Identifier: Apache-2.0
 """usage: dump/associations.py [--seed 1] [--into FOLDER] [--together] [--model] PROGRAM [CAPTURE ..]
        dump/associations.py --write | --help
 

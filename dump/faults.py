@@ -1,4 +1,5 @@
 #!/usr/bin/env python3
+# SPDX-License-Identifier: Apache-2.0
 """usage: dump/faults.py PROGRAM
 
 Compares the lengths that sctp_dump says are needed with those that it accepts: of each type of chunk, and of the types of

@@ -1,4 +1,5 @@
 #!/usr/bin/env python3
+# SPDX-License-Identifier: Apache-2.0
 """usage: dump/forms.py PROGRAM
 
 Compares the three forms of what sctp_dump prints, which it writes apart: makes from its JSON the lines of --brief and the blocks,

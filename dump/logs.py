@@ -1,4 +1,5 @@
 #!/usr/bin/env python3
+# SPDX-License-Identifier: Apache-2.0
 """usage: dump/logs.py PROGRAM
 
 Writes six associations of dump/data/usrsctp.pcap as they would come at once in a log of WebRTC: all ports are equal, and the

@@ -1,4 +1,5 @@
 #!/usr/bin/env python3
+# SPDX-License-Identifier: Apache-2.0
 """usage: dump/objects.py PROGRAM
 
 Reads what sctp_dump --json --places prints of the files in crates/sctp_dump/data, and of packets with each byte in each text:

@@ -1,3 +1,4 @@
+/* SPDX-License-Identifier: Apache-2.0 */
 /* Writes what two sockets of usrsctp, a real stack of SCTP, send to each other in one process.
 
    usage: cc -O2 -o stacks dump/stacks.c -lusrsctp && ./stacks FILE [ADDRESS]

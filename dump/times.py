@@ -1,4 +1,5 @@
 #!/usr/bin/env python3
+# SPDX-License-Identifier: Apache-2.0
 """usage: dump/times.py PROGRAM
 
 Writes pcapng captures, one with a packet on each day until 2554, when 2^64 nanoseconds end, and one with packets of each unit of

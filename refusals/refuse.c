@@ -1,3 +1,4 @@
+/* SPDX-License-Identifier: Apache-2.0 */
 /* Preloaded by refusals/refuse.py. The request for memory with the number REFUSE_AT is refused: a call of malloc or realloc, counted
    from 1. If that is 0, the number of requests is written to standard error at the end; if it is `sizes`, the size of each request,
    as it comes. */

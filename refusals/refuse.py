@@ -1,4 +1,5 @@
 #!/usr/bin/env python3
+# SPDX-License-Identifier: Apache-2.0
 """Refuses each request for memory in turn, of the programs wire_rows and sctp_show.
 
 usage: refusals/refuse.py LIBRARY

@@ -1,4 +1,5 @@
 #!/usr/bin/env bash
+# SPDX-License-Identifier: Apache-2.0
 # Refuses each request for memory in turn, of the programs wire_rows and sctp_show.
 set -u
 

@@ -1,3 +1,4 @@
+// SPDX-License-Identifier: Apache-2.0
 // Run in the page by run.mjs.
 
 /** In the page: the texts that have less contrast than WCAG's AA wants, 4.5. */

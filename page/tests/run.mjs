@@ -1,3 +1,4 @@
+// SPDX-License-Identifier: Apache-2.0
 // Tries the program as WebAssembly, and the page in a browser. usage: node page/tests/run.mjs SCTP.html SCTP_DUMP.wasm
 import assert from 'node:assert/strict';
 import { mkdirSync, mkdtempSync, readdirSync, readFileSync, rmSync, writeFileSync } from 'node:fs';

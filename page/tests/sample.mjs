@@ -1,3 +1,4 @@
+// SPDX-License-Identifier: Apache-2.0
 // Makes the page's example, page/sample.pcap: node page/tests/sample.mjs. An association with a data channel, of which a packet
 // is lost and sent again, one is damaged on its way, one breaks a rule on the order of chunks, and one is refused.
 import { writeFileSync } from 'node:fs';

@@ -1,3 +1,4 @@
+// SPDX-License-Identifier: Apache-2.0
 // What the table of associations has to say: by the head of a column, the key of docs/DUMP.md and its unit.
 import assert from 'node:assert/strict';
 

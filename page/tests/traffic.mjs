@@ -1,3 +1,4 @@
+// SPDX-License-Identifier: Apache-2.0
 // Captures for the tests: packets of SCTP, in frames, in files.
 
 const TABLE = Uint32Array.from({ length: 256 }, (_, byte) => {

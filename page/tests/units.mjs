@@ -1,3 +1,4 @@
+// SPDX-License-Identifier: Apache-2.0
 // Tries the scripts without a browser: over made lines, whose keys are those of docs/DUMP.md, and over what sctp_dump prints
 // of packets of real stacks, if it was built. usage: node page/tests/units.mjs [SCTP_DUMP]
 import assert from 'node:assert/strict';
