@@ -29,7 +29,7 @@ for file in dcsctp-x86_64-elf.s sctp_show-x86_64-elf.s sctp_dump-x86_64-elf.s dc
 done
 
 # A clang that takes the modules, 22 or later: the toolchain's has no other name.
-clang_22=$(command -v clang-22) || clang_22=$(dirname "$(rt doc 2>/dev/null)")/toolchain/bin/clang
+clang_22=$(command -v clang-22 || { kit=$(rt doc 2>/dev/null) && echo "$(dirname "$kit")/toolchain/bin/clang"; } || echo clang-22)
 
 # PATH without the folders of the toolchain.
 path=
