@@ -170,12 +170,16 @@ export class Diagram {
 
   async draw() {
     const { store } = this, number = ++this.drawing, rows = this.rows.slice(this.from, this.from + PAGE);
-    if (!store || !this.box.clientWidth)
-      return;
     const { from } = this, all = counted(this.rows.length, 'packet');
     byId('part').textContent = rows.length ? `${from + 1} to ${from + rows.length} of ${all}` : all;
     byId('earlier').disabled = from === 0;
     byId('later').disabled = from + PAGE >= this.rows.length;
+    if (!store || !this.box.clientWidth) {
+      // (nothing stays that is out of date: it is drawn when it is seen)
+      this.width = undefined;
+      this.box.replaceChildren();
+      return;
+    }
     const objects = await store.objects(rows);
     // (another drawing has begun meanwhile)
     if (number !== this.drawing)

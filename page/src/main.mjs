@@ -25,6 +25,8 @@ async function open(files) {
   worker?.terminate();
   program ??= await WebAssembly.compile(decoded('program'));
   store = new Store();
+  // (what was asked of the capture before isn't shown)
+  asked++;
   byId('name').textContent = document.title = shown(files.map(it => it.name).join(', '), 100);
   byId('status').textContent = byId('status').className = byId('filter').value = '';
   byId('progress').max = files.reduce((sum, it) => sum + it.size, 0) || 1;

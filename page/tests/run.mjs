@@ -369,6 +369,30 @@ async function inBrowser(browser) {
     quiet();
   });
 
+  await check('two captures, one after the other', async () => {
+    const other = pcap([[0, ip('192.0.2.1', '192.0.2.2', packet(7, 8, 9, data(5, 0, 0, 51, 'other')))]]);
+    const labels = () => browser.ask(all('#drawing .arrow', "it.getAttribute('aria-label')"));
+    const captures = [
+      [example, 30, /40000.*9900/], [other, 1, /192\.0\.2\.1:7 .* 192\.0\.2\.2:8/], [example, 30, /40000.*9900/], [pcap([]), 0, /^$/],
+    ];
+    for (const [content, packets, ends] of captures) {
+      await show(file('one.pcap', content));
+      await browser.click('#tab-associations');
+      await wait(50);
+      assert.match((await browser.ask(all('#association-rows .row'))).join(), ends);
+      await browser.click('#tab-diagram');
+      // (not for a moment)
+      const seen = [await labels()];
+      await wait(150);
+      seen.push(await labels());
+      assert.equal(seen[1].length, packets);
+      assert.ok(seen.every(([first = '']) => packets > 1 || !first.includes('INIT')), seen[0][0]);
+      assert.match((await browser.ask(all('#which option'))).join(), ends);
+      assert.match(await browser.ask(by('#part')), packets ? new RegExp(`1 to ${packets} of ${packets} packet`) : /^0 packets$/);
+    }
+    quiet();
+  });
+
   await check('the table of associations', async () => {
     for (const content of [example, readFileSync(new URL('../../dump/data/usrsctp.pcap', import.meta.url))]) {
       await show(file('table.pcap', content));
