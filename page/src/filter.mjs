@@ -1,5 +1,6 @@
 // SPDX-License-Identifier: Apache-2.0
 // The filter's syntax: words, of which all have to hold. `-` before a word negates it, and commas separate alternatives.
+// What was skipped passes only where it is asked for.
 import { KINDS } from './keys.mjs';
 
 /** What the page says about the syntax. */
@@ -13,7 +14,7 @@ export const SYNTAX = [
   ['tsn:100-120', 'DATA by TSN; ack:100 is a SACK’s cumulative TSN'],
   ['packet:10-20', 'packets by number; also length:'],
   ['association:1', 'packets of an association'],
-  ['refused', 'also accepted, cut, skipped'],
+  ['refused', 'also accepted, cut, and skipped, which alone shows what holds no packet'],
   ['wrong', 'the checksum is wrong; also zero'],
   ['repeated', 'a TSN that was seen before; late: one that fills a gap; jump: TSNs are missing before it'],
   ['gaps', 'a SACK with gap blocks'],
@@ -47,7 +48,7 @@ function shared(column, list, isMet) {
 
 const byFlow = isMet => shared('flow', 'flows', isMet);
 const bySummary = isMet => shared('summary', 'summaries', isMet);
-const byRow = isMet => store => row => KINDS[store.columns.kind[row]] !== 'skipped' && isMet(store, row);
+const byRow = isMet => store => row => store.isPacket(row) && isMet(store, row);
 
 /** The tests by `KEY:VALUE`, each of the value as a test of numbers and as text; those of numbers alone come first. */
 const NUMBERS = {
@@ -90,6 +91,7 @@ function wordTest(word) {
     that can be a chunk's name alone. */
 export function filterOf(text) {
   const tests = [], unknown = [], names = [];
+  let asksSkipped = false;
   for (const whole of text.toLowerCase().split(/\s+/).filter(it => it)) {
     const isNegated = whole.length > 1 && whole.startsWith('-');
     const [, key = '', values] = /^([a-z]+:)?(.*)$/.exec(isNegated ? whole.slice(1) : whole);
@@ -98,6 +100,7 @@ export function filterOf(text) {
       unknown.push(whole);
     else
       tests.push({ any, isNegated });
+    asksSkipped ||= !isNegated && words.includes('skipped');
     if (!key)
       names.push(...words.filter(it => !KINDS.includes(it) && !HAS.includes(it) && !unknown.includes(it)));
   }
@@ -106,7 +109,8 @@ export function filterOf(text) {
     names,
     test(store) {
       const made = tests.map(({ any, isNegated }) => ({ any: any.map(it => it(store)), isNegated }));
-      return row => made.every(({ any, isNegated }) => any.some(it => it(row)) !== isNegated);
+      return row => (asksSkipped || KINDS[store.columns.kind[row]] !== 'skipped') &&
+        made.every(({ any, isNegated }) => any.some(it => it(row)) !== isNegated);
     },
   };
 }

@@ -9,9 +9,11 @@ export const WORDS = ['--json', '--places', '--check', '--associations'];
 export const KINDS = ['accepted', 'refused', 'cut', 'skipped', 'file'];
 
 /** What a packet can have, as bits. A TSN is `repeated` if it was seen before, and `late` if only a later one was; `jump`:
-    TSNs are missing before it; `gaps`: a SACK has blocks. */
+    TSNs are missing before it; `gaps`: a SACK has blocks. `line`: what was skipped is a line of a text, and its number is
+    that of the line, where packets are numbered by themselves. */
 export const FLAGS = {
   wrong: 1, zero: 2, incoming: 4, outgoing: 8, repeated: 16, late: 32, jump: 64, gaps: 128, warned: 256, data: 512, sack: 1024,
+  line: 2048,
 };
 
 /** The columns of the rows, and their types: 58 bytes a row. `batch`, `offset` and `size` say where its line is. */
@@ -155,7 +157,7 @@ export class Rows {
     if (typeof it.file === 'string')
       return { kind: KINDS.indexOf('file'), file: ++this.file, note: this.notes.number(it.file) };
     if (typeof it.skipped === 'string')
-      return this.other('skipped', Number(it.record ?? it.line ?? 0), it.skipped);
+      return { ...this.other('skipped', Number(it.record ?? it.line ?? 0), it.skipped), flags: it.line === undefined ? 0 : FLAGS.line };
   }
 
   other(kind, number, text) {

@@ -70,10 +70,12 @@ export function drawPacket(store, row, isSince) {
     cell('whole', shown(store.notes[it.note]));
     return line;
   }
-  cell('number', String(it.number));
+  // (a line of a text has no number among the packets)
+  const isLine = store.has(row, 'line');
+  cell('number', isLine ? '' : String(it.number));
   cell('time', store.time(row, isSince));
   if (kind === 'skipped') {
-    cell('whole', `skipped: ${shown(store.notes[it.note])}`);
+    cell('whole', `${isLine ? `line ${it.number} ` : ''}skipped: ${shown(store.notes[it.note])}`);
     return line;
   }
   const ends = `${endText(flow.from, flow.source)} → ${endText(flow.to, flow.destination)}`;

@@ -14,7 +14,7 @@ import { VirtualList } from './virtual.mjs';
 const decoded = id => Uint8Array.from(atob(byId(id).textContent), it => it.charCodeAt(0));
 const script = URL.createObjectURL(new Blob([byId('worker-script').textContent], { type: 'text/javascript' }));
 
-let store = new Store(), worker, program, filter = filterOf(''), test = () => true;
+let store = new Store(), worker, program, filter = filterOf(''), test = filter.test(store);
 /** The rows that the filter passes, and how many rows it has seen. */
 let passed = [], seen = 0;
 
@@ -54,8 +54,8 @@ function take(batch) {
   byId('status').textContent = `${counted(store.count, 'row')} …`;
   passMore();
   list.show(passed.length, true);
-  if (list.current < 0 && passed.length)
-    list.choose(0);
+  if (list.current < 0)
+    chooseFirst();
   showFound();
 }
 
@@ -111,6 +111,11 @@ function passMore() {
   byId('list').setAttribute('aria-rowcount', passed.length);
 }
 
+/** Chooses the first packet, or what else there is. */
+function chooseFirst() {
+  list.choose(Math.max(0, passed.findIndex(it => store.isPacket(it))));
+}
+
 function applyFilter() {
   const row = passed[list.current];
   filter = filterOf(byId('filter').value);
@@ -122,8 +127,8 @@ function applyFilter() {
   const at = passed.indexOf(row);
   if (at >= 0)
     list.setCurrent(at);
-  else if (passed.length)
-    list.choose(0);
+  else
+    chooseFirst();
   showFound();
   document.body.dataset.filter = byId('filter').value;
 }

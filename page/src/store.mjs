@@ -61,6 +61,11 @@ export class Store {
     return this.summaries[this.columns.summary[row]].tsns.map(it => (first + it) >>> 0);
   }
 
+  /** Whether a row is a packet: neither what was skipped nor a file. */
+  isPacket(row) {
+    return this.columns.kind[row] < 3;
+  }
+
   has(row, flag) {
     return (this.columns.flags[row] & FLAGS[flag]) !== 0;
   }
@@ -82,9 +87,9 @@ export class Store {
 
   /** The rows of an association's packets. */
   rowsOf(association) {
-    const senders = this.senders(association), { flow, kind } = this.columns, rows = [];
+    const senders = this.senders(association), { flow } = this.columns, rows = [];
     for (let row = 0; row < this.count; row++) {
-      if (kind[row] < 3 && senders[flow[row]] !== undefined)
+      if (this.isPacket(row) && senders[flow[row]] !== undefined)
         rows.push(row);
     }
     return { rows, senders };
@@ -93,7 +98,7 @@ export class Store {
   /** The association that a packet's row belongs to. */
   associationOf(row) {
     const flow = this.flows[this.columns.flow[row]];
-    return this.columns.kind[row] < 3 ? this.associations.find(it => senderIn(it, flow) !== undefined) : undefined;
+    return this.isPacket(row) ? this.associations.find(it => senderIn(it, flow) !== undefined) : undefined;
   }
 
   /** For each flow which end of the association sends in it, if any does. */

@@ -124,10 +124,12 @@ async function inBrowser(browser) {
   });
 
   await check('each other form of input', async () => {
-    const isRow = it => it.packet !== undefined || typeof it.skipped === 'string';
+    const isRow = it => it.packet !== undefined, isSkipped = it => typeof it.skipped === 'string';
     for (const [name, content] of Object.entries(DATA)) {
       await show(file(name, content));
       assert.equal(await count(), lines(content).filter(isRow).length, name);
+      const skipped = lines(content).filter(isSkipped).length;
+      assert.match(await filter('skipped'), new RegExp(`^${skipped} of `), name);
     }
     // Several files, as one capture.
     await browser.choose(...Object.keys(DATA).map(it => join(folder, it)));
@@ -172,7 +174,14 @@ async function inBrowser(browser) {
     })()`);
     await browser.done();
     await wait(100);
-    const [, row] = await browser.ask(ROWS);
+    // (it opens on its first packet: the line that was skipped has a button)
+    const [row] = await browser.ask(ROWS);
+    await titled('Packet 1');
+    assert.equal(await count(), 1);
+    await browser.click('#counts button:last-child');
+    await wait(100);
+    assert.equal(await browser.ask(by('#filter', 'value')), 'skipped');
+    assert.match((await browser.ask(ROWS)).join(), /^line 1 skipped: not a packet/);
     assert.match(row, /^10.000incoming 5000 → 50000x01020304COOKIE ACKzero checksum$/);
     await browser.ask('delete document.body.dataset.done');
     const dragged = { items: [], files: [file('dropped.pcap', example)], dragOperationsMask: 1 };
@@ -492,6 +501,7 @@ async function inBrowser(browser) {
   await check('more rows than a browser scrolls', async () => {
     const most = 700_000, made = Array.from({ length: most }, (_, i) => `{"line":${i + 1},"skipped":"no packet"}\n`);
     await show(file('long.json', made.join('')), 60);
+    assert.equal(await filter('skipped'), '700,000 of 700,000 rows');
     assert.equal(await count(), most);
     const inView = () => browser.ask(`(() => {
       const box = document.getElementById('list').getBoundingClientRect();

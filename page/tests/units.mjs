@@ -185,27 +185,32 @@ each('a row of a log', direction => rowOf(packet(1, { source: 1, destination: 2 
   ['incoming', '1 |  | incoming 1 → 2 |  | '],
   ['outgoing', '1 |  | outgoing 1 → 2 |  | '],
 ]);
+each('a row of what was skipped', rowOf, [
+  [{ record: 7, skipped: 'a fragment' }, '7 |  | skipped: a fragment'],
+  [{ line: 7, skipped: 'not a packet' }, ' |  | line 7 skipped: not a packet'],
+]);
 each('TSNs of a row', (...tsns) => rowOf(packet(1, A, tsns.map(it => data(it)))).split('TSN ')[1], [
   [LAST, 0, 1, 5, '4294967295–1, 5 · stream 0'],
   [1, 3, 5, 7, '1, 3, 5 .. · stream 0'],
 ]);
 
-const ALL = '0 1 2 3 4 5 6 7 8 9 10 11';
+const ALL = '0 1 2 3 4 5 6 7 8 9 11';
 each('a filter', text => {
   const filter = filterOf(text), passed = rowsOf(capture).filter(filter.test(capture));
   return [numbers(passed), ...strangeWords(capture, filter, passed.length)].join('; ');
 }, [
   ['', ALL], ['accepted', '1 2 3 4 5 6 7 11'], ['refused', '8'], ['cut', '9'], ['skipped', '10'], ['file', '0'],
-  ['-skipped -file', '1 2 3 4 5 6 7 8 9 11'], ['wrong', '7'], ['zero', '5'], ['repeated', '7'],
+  ['-file', '1 2 3 4 5 6 7 8 9 11'],
+  ['-skipped', ALL], ['skipped,refused', '8 10'], ['skipped -data', '10'], ['-accepted,skipped', '0 8 9'], ['wrong', '7'], ['zero', '5'], ['repeated', '7'],
   ['late', '6'], ['jump', '4'], ['gaps', '5'], ['warned', '3'], ['incoming', ''],
   ['chunk:SACK', '5 8'], ['sack', '5 8'], ['chunk:3', '5 8'], ['chunk:0x10', '11'], ['chunk:init-ack', '2'], ['INIT_ACK', '2'],
-  ['chunk:66', '11'], ['chunk:sack,init', '1 5 8'], ['-chunk:data,sack', '0 1 2 10 11'], ['init,sack gaps', '5'],
+  ['chunk:66', '11'], ['chunk:sack,init', '1 5 8'], ['-chunk:data,sack', '0 1 2 11'], ['init,sack gaps', '5'],
   ['port:1', '11'], ['port:9900', '1 2 3 4 5 6 7 8 9'], ['source:9900', '2 5 8'], ['destination:9900', '1 3 4 6 7 9'],
   ['source:1-2', '11'], ['tag:0x14', '3 4 6 7 9'], ['tag:0x0A', '2 5 8'], ['tag:20', '3 4 6 7 9'], ['tag:0', '1'],
   ['address:10.0', '1 2 3 4 5 6 7 8 9'], ['address:2001:DB8:', '1 2 3 4 5 6 7 8 9'], ['address:0.0', ''],
   ['stream:1', '3'], ['stream:0-1', '3 6 7'], ['ppid:51', '3'], ['ppid:webrtc', '3 4'], ['ppid:webrtc-dcep', '4'],
   ['ppid:99', '4'], ['tsn:0', '6 7'], ['tsn:2', '4'], ['tsn:2-4294967295', '3 4'], ['ack:4294967295', '5 8'], ['ack:0', ''],
-  ['packet:3-5', '3 4 5'], ['packet:10', ''], ['length:40', '3'],
+  ['packet:0', ''], ['packet:3-5', '3 4 5'], ['packet:10', ''], ['length:40', '3'],
   ['association:1', '1 2 3 4 5 6 7 8 9'], ['association:2', '11'], ['association:1-2 tag:3', '11'],
   ['port:x', `${ALL}; port:x`], ['colour:1', `${ALL}; colour:1`], ['packet:1-2-3', `${ALL}; packet:1-2-3`], ['-', `${ALL}; -`],
   ['hello', '; hello'], ['hello,sack', '5 8'],
