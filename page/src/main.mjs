@@ -1,5 +1,6 @@
 // SPDX-License-Identifier: Apache-2.0
 // The page: opens captures, and shows what comes back from the Worker.
+import { answered, howTo, reasonOf, sentencesOf } from './answer.mjs';
 import { Associations } from './associations.mjs';
 import { Diagram } from './diagram.mjs';
 import { Fields } from './fields.mjs';
@@ -22,6 +23,11 @@ let passed = [], seen = 0;
 
 /** Reads files as one capture, in place of what is shown. */
 async function open(files) {
+  if (!checkPort()) {
+    offer(true);
+    byId('udp').focus();
+    return;
+  }
   worker?.terminate();
   program ??= await WebAssembly.compile(decoded('program'));
   store = new Store();
@@ -41,8 +47,17 @@ async function open(files) {
   showAssociations();
   const strict = byId('strict').checked ? ['--strict'] : [], udp = byId('udp').value ? ['--udp-port', byId('udp').value] : [];
   const started = performance.now(), own = worker = new Worker(script);
-  own.onmessage = ({ data }) => own === worker && (data.columns ? take(data) : end(data.errors, started));
-  own.onerror = event => own === worker && end(event.message, started);
+  own.onmessage = ({ data }) => {
+    if (own !== worker)
+      return;
+    if (data.columns)
+      take(data);
+    else if (data.size !== undefined)
+      byId('progress').max = data.size || 1;
+    else
+      end(data, started);
+  };
+  own.onerror = event => own === worker && end({ errors: event.message, signs: [] }, started);
   own.postMessage({ program, words: [...WORDS, ...strict, ...udp], files: namedApart(files) });
   byId('list').focus();
 }
@@ -60,16 +75,21 @@ function take(batch) {
 }
 
 /** The program is at its end, or was stopped. */
-function end(errors, started) {
+function end(result, started) {
   worker.terminate();
   worker = undefined;
-  store.finish();
+  store.finish(result);
   byId('stop').hidden = byId('progress').hidden = true;
   const time = started === undefined ? ': stopped' : ` in ${((performance.now() - started) / 1000).toFixed(1)} s`;
-  const packets = counted(store.packets, 'packet');
-  byId('status').textContent = errors ? shown(errors.trim(), 200) : packets + time + skippedText(store.summary);
-  byId('status').className = errors ? 'bad' : '';
+  const sentences = store.packets ? sentencesOf(store).join(' ').replaceAll('`', '') : '';
+  byId('status').textContent = sentences || counted(store.packets, 'packet') + time + skippedText(store.summary);
+  byId('status').className = sentences ? 'bad' : '';
   showAssociations();
+  if (!store.packets)
+    select('packets');
+  showFound();
+  if (!byId('answer').hidden)
+    byId('answer').focus();
   document.body.dataset.done = performance.now();
 }
 
@@ -78,6 +98,15 @@ function offer(isOffered) {
   byId('start').hidden = !isOffered;
   byId('work').hidden = isOffered;
   byId('again').textContent = isOffered ? 'Back' : 'Open another';
+  byId('no-text').hidden = true;
+}
+
+/** Whether the port of SCTP in UDP is one, or none was given; the field says it. */
+function checkPort() {
+  const isRight = byId('udp').checkValidity();
+  byId('udp').setAttribute('aria-invalid', !isRight);
+  byId('no-port').hidden = isRight;
+  return isRight;
 }
 
 // ---- packets
@@ -158,6 +187,23 @@ function showFound() {
     button.hidden = !count(store);
     button.textContent = counted(count(store), ...texts);
   }
+  showAnswer(isFiltered);
+}
+
+/** Says in the place of the list why nothing is in it: the filter passes nothing, or there is no packet. */
+function showAnswer(isFiltered) {
+  const isNone = store.isAtEnd && !store.packets, isBare = isNone && !(isFiltered && passed.length);
+  const isEmpty = isBare || isFiltered && !passed.length;
+  byId('answer').hidden = !isEmpty;
+  byId('list').hidden = byId('heads').hidden = byId('details').hidden = isEmpty;
+  byId('tab-associations').hidden = byId('tab-diagram').hidden = isNone;
+  byId('tools').hidden = isBare;
+  if (!isEmpty)
+    return;
+  const [title, text, act] = isBare ? ['', 'Open another file', () => offer(true)] : ['No row passes the filter', 'Clear it', () => filterBy('')];
+  const button = element('button', '', text);
+  button.addEventListener('click', act);
+  byId('answer').replaceChildren(...isBare ? answered(reasonOf(store)) : [element('h2', '', title)], element('p', '', button));
 }
 
 let typed;
@@ -280,9 +326,17 @@ byId('file').addEventListener('change', () => {
   if (files.length)
     open(files);
 });
-byId('read').addEventListener('click', () => openData([], byId('text').value, 'typed text'));
+byId('read').addEventListener('click', () => {
+  openData([], byId('text').value, 'typed text');
+  if (!byId('text').value.trim()) {
+    byId('no-text').hidden = false;
+    byId('text').focus();
+  }
+});
+byId('udp').addEventListener('input', checkPort);
+byId('how').append(howTo());
 byId('example').addEventListener('click', () => open([new File([decoded('sample')], 'example.pcap')]));
-byId('stop').addEventListener('click', () => end(''));
+byId('stop').addEventListener('click', () => end());
 byId('again').addEventListener('click', () => offer(byId('start').hidden));
 
 /** Opens files, or else a text. */

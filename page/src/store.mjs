@@ -15,6 +15,10 @@ export class Store {
   flags = Object.fromEntries(Object.keys(FLAGS).map(it => [it, 0]));
   summary;
   read = 0;
+  /** At the end: what was said on standard error, and what the files' first bytes show. */
+  errors = '';
+  signs = [];
+  isAtEnd = false;
 
   /** How many packets there are: accepted ones, refused ones, and those that were cut off. */
   get packets() {
@@ -80,7 +84,8 @@ export class Store {
   }
 
   /** The program is at its end. If it was stopped, there are pairs of ends in the place of associations. */
-  finish() {
+  finish({ errors, signs } = { errors: '', signs: [] }) {
+    Object.assign(this, { errors, signs, isAtEnd: true });
     if (!this.associations.length)
       this.associations = pairsOf(this.flows);
   }

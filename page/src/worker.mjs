@@ -3,6 +3,7 @@
 // for each. A Worker that is stopped loses nothing that it posted.
 import { COLUMNS, parsed, Rows } from './keys.mjs';
 import { run } from './program.mjs';
+import { formOf, HEAD, signsOf } from './signs.mjs';
 
 /** This many bytes of lines are a batch; the first one is smaller, and so is one that is waited for. */
 const BATCH = 2 << 20;
@@ -111,14 +112,53 @@ function inputsOf(files, output) {
   return new Map(files.map(([name, file]) => [name, counted(new FileInput(file))]));
 }
 
-/** Whether a file has lines that sctp_dump printed elsewhere. */
-function hasLines(file) {
-  return new FileInput(file).read(1)[0] === 0x7b;
+/** The first bytes of a file, or none if it can't be read. */
+function headOf(file, size) {
+  try {
+    return new FileInput(file).read(size);
+  } catch {
+    return;
+  }
 }
 
-onmessage = ({ data: { program, words, files } }) => {
-  const output = new Output(), inputs = inputsOf(files, output);
+/** Whether a file has lines that sctp_dump printed elsewhere. */
+const hasLines = file => headOf(file, 1)?.[0] === 0x7b;
+
+const isCompressed = file => formOf(headOf(file, 6) ?? new Uint8Array()) === 'gzip';
+
+/** What gzip compressed, up to where it is damaged, and what to say of that. Memory holds a piece of it; the rest is in Blobs. */
+async function unpacked(file) {
+  const reader = file.stream().pipeThrough(new DecompressionStream('gzip')).getReader(), parts = [];
+  let held = [], size = 0, errors = '';
+  const keep = () => {
+    parts.push(new Blob(held));
+    [held, size] = [[], 0];
+  };
+  try {
+    for (let it = await reader.read(); !it.done; it = await reader.read()) {
+      held.push(it.value);
+      size += it.value.length;
+      if (size > BATCH)
+        keep();
+    }
+  } catch (error) {
+    errors = `gzip: ${error}\n`;
+  }
+  keep();
+  return [new Blob(parts), errors];
+}
+
+onmessage = async ({ data: { program, words, files } }) => {
   let errors = '';
+  for (const entry of files) {
+    if (isCompressed(entry[1])) {
+      const [whole, wrong] = await unpacked(entry[1]);
+      entry[1] = whole;
+      errors += wrong;
+      postMessage({ size: files.reduce((sum, [, it]) => sum + it.size, 0) });
+    }
+  }
+  const output = new Output(), inputs = inputsOf(files, output);
   try {
     if (files.length === 1 && hasLines(files[0][1])) {
       const [input] = inputs.values();
@@ -140,5 +180,6 @@ onmessage = ({ data: { program, words, files } }) => {
     errors += String(error);
   }
   output.post();
-  postMessage({ errors });
+  const heads = files.map(([, file]) => headOf(file, HEAD)).filter(it => it);
+  postMessage({ errors, signs: [...new Set(heads.flatMap(signsOf))] });
 };

@@ -5,12 +5,13 @@ import { mkdirSync, mkdtempSync, readdirSync, readFileSync, rmSync, writeFileSyn
 import { createServer } from 'node:http';
 import { tmpdir } from 'node:os';
 import { join, resolve } from 'node:path';
+import { gzipSync } from 'node:zlib';
 import { WORDS } from '../src/keys.mjs';
 import { run } from '../src/program.mjs';
 import { Browser, lacking } from './browser.mjs';
 import { contrasts } from './contrast.mjs';
 import { compareRow } from './table.mjs';
-import { association, bytes, chunk, data, init, initAck, ip, packet, parameter, pcap, sack } from './traffic.mjs';
+import { association, bytes, chunk, data, init, initAck, ip, packet, parameter, pcap, sack, udp } from './traffic.mjs';
 
 const [html, wasm] = process.argv.slice(2).map(it => resolve(it));
 const CRATE = new URL('../../crates/sctp_dump/', import.meta.url);
@@ -146,13 +147,74 @@ async function inBrowser(browser) {
       await show(join(folder, 'faults.txt'));
       assert.equal(await browser.ask(by('#counts button')), `${refusedOf(...words)} refused`);
     }
-    // What is no capture is said.
-    await show(file('archive.gz', bytes([1, 0x1f, 0x8b, 8, 0])));
-    assert.match(await browser.ask(by('#status')), /gzip/);
+    quiet();
+  });
+
+  await check('what isn’t SCTP is answered in the list', async () => {
+    const answer = () => browser.ask("document.getElementById('answer').checkVisibility() && document.getElementById('answer').innerText");
+    const call = Array.from({ length: 40 }, (_, i) => [i, udp(A, B, 50000, 60000, bytes([1, 23], [2, 0xfefd], [4, 1, i], [2, 8], 'encrypted'))]);
+    const archive = gzipSync(example), noise = Uint8Array.from({ length: 5000 }, (_, i) => i * i * 7919 >> 8);
+    const answers = {
+      'call.pcap': [pcap(call), /^Data channels are encrypted.*40 packets held no SCTP.*DTLS.*Chromium.*Firefox.*aiortc.*pion.*usrsctp/s],
+      'other.pcap': [pcap([[0, udp(A, B, 50000, 60000, bytes('other'))]]), /^None of 1 packet is SCTP.*port/s],
+      'internals.json': ['{\n"getUserMedia": [],\n"PeerConnections": {"1-1": {}}}', /^This is a dump of webrtc-internals.*Chromium/s],
+      'internals.gz': [gzipSync('{"getUserMedia": [], "PeerConnections": {}}'), /^This is a dump of webrtc-internals/],
+      'other.json': ['{"packets": []}', /^This is JSON, but not of sctp_dump.*sctp_dump --json --places/s],
+      'list.json': ['[{"a": 1}]', /^This is JSON, but not of sctp_dump/],
+      'archive.zst': [bytes([1, 0x28, 0xb5, 0x2f, 0xfd, 0]), /^This file is compressed by zstd.*zstd -d/s],
+      'nothing': ['', /^This file is empty/],
+      'empty.pcap': [pcap([]), /^No packet is in this file.*tcpdump/s],
+      'short.pcap': [pcap([]).subarray(0, 12), /^No packet is in this file.*ends in its header/s],
+      'radio.pcap': [pcap([], 147), /^No packet is in this file.*link type 147/s],
+      'noise': [noise, /^No line of this text is a packet/],
+      'text': ['hello', /^No line of this text is a packet.*SCTP_PACKET/s],
+    };
+    for (const [name, [content, said]] of Object.entries(answers)) {
+      await show(file(name, content));
+      assert.match(await answer(), said, name);
+      const seen = await browser.ask(all('#list, #heads, #details, #tools, #tab-diagram', 'it.checkVisibility()'));
+      assert.deepEqual(seen, Array(5).fill(false), name);
+      assert.match(await browser.ask(by('#status')), /^0 packets in/, name);
+      assert.equal(await browser.ask('document.activeElement.id'), 'answer');
+    }
+    // What was skipped has its button, and the next capture its list.
+    await browser.click('#counts button:last-child');
+    await wait(50);
+    assert.match((await browser.ask(ROWS)).join(), /^line 1 skipped: not a packet/);
+    await browser.click('#again');
+    await browser.click('#again');
+    // What gzip compressed is unpacked, as far as it can be.
+    await show(file('example.pcap.gz', archive));
+    assert.equal(await count(), 30);
+    assert.equal(await answer(), false);
+    assert.equal(await browser.ask(by('#status', 'className')), '');
+    await show(file('two.gz', Buffer.concat([archive, archive])));
+    assert.equal(await count(), 30);
+    assert.match(await browser.ask(by('#status')), /^What gzip compressed/);
+    // A filter that passes nothing says so, too.
+    assert.equal(await filter('port:1'), '0 of 30 rows');
+    assert.match(await answer(), /^No row passes the filter/);
+    await browser.click('#answer button');
+    assert.equal(await browser.ask(by('#found')), '');
+    await titled('Packet 1');
+    // A file that ends too early is shown as far as it goes.
+    await show(file('cut.pcap', example.subarray(0, 1000)));
+    assert.ok(await count() > 5);
+    assert.match(await browser.ask(by('#status')), /^The file ends inside a packet/);
     assert.equal(await browser.ask(by('#status', 'className')), 'bad');
-    await show(file('nothing', ''));
-    await show(file('noise', Uint8Array.from({ length: 5000 }, (_, i) => i * i * 7919 >> 8)));
-    assert.match(await browser.ask(by('#status')), /no SCTP packet was found/);
+    // Options and a text that can't be read are said where they are given, and nothing is opened.
+    await browser.click('#again');
+    const seen = id => browser.ask(`document.getElementById('${id}').checkVisibility()`);
+    await browser.click('#read');
+    assert.equal(await seen('no-text'), true);
+    for (const [port, isWrong] of [['0', true], ['70000', true], ['1.5', true], ['5000', false]]) {
+      await set('udp', port, 'input');
+      assert.equal(await seen('no-port'), isWrong, port);
+      await browser.click('#example');
+      await wait(100);
+      assert.equal(await seen('start'), isWrong, port);
+    }
+    await browser.open(url);
     quiet();
   });
 

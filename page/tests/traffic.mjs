@@ -48,11 +48,15 @@ export function packet(source, destination, tag, ...chunks) {
   return made;
 }
 
-/** An IPv4 packet that holds one of SCTP. */
-export function ip(from, to, sctp) {
+/** An IPv4 packet that holds one of SCTP, or of another protocol. */
+export function ip(from, to, payload, protocol = 132) {
   const address = text => [1, ...text.split('.').map(Number)];
-  return bytes([1, 0x45, 0], [2, 20 + sctp.length, 0, 0x4000], [1, 64, 132], [2, 0], address(from), address(to), sctp);
+  return bytes([1, 0x45, 0], [2, 20 + payload.length, 0, 0x4000], [1, 64, protocol], [2, 0], address(from), address(to), payload);
 }
+
+/** An IPv4 packet that holds one of UDP. */
+export const udp = (from, to, source, destination, payload) =>
+  ip(from, to, bytes([2, source, destination, 8 + payload.length, 0], payload), 17);
 
 /** A pcap file of IP packets: each `[microseconds, bytes]`, or with how many of its bytes were captured. */
 export function pcap(records, linkType = 101) {

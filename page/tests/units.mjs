@@ -6,6 +6,7 @@ import { spawnSync } from 'node:child_process';
 import { existsSync } from 'node:fs';
 import { fileURLToPath } from 'node:url';
 import { inspect } from 'node:util';
+import { reasonOf, sentencesOf } from '../src/answer.mjs';
 import { Associations } from '../src/associations.mjs';
 import { Diagram, stepOf } from '../src/diagram.mjs';
 import { bytesOf, Fields, nodesOf, ownersOf, valueOf } from '../src/fields.mjs';
@@ -15,9 +16,11 @@ import {
   groupOf, isAssociation, isSummary, KINDS, pairsOf, Rows, ruleOf, senderIn, skippedText, WORDS,
 } from '../src/keys.mjs';
 import { drawPacket, endText } from '../src/list.mjs';
+import { signsOf } from '../src/signs.mjs';
 import { Store } from '../src/store.mjs';
 import { counted, hex, shown } from '../src/text.mjs';
 import { compareRow } from './table.mjs';
+import { bytes, pcap, udp } from './traffic.mjs';
 
 // ---- in the place of a browser and of a Worker
 
@@ -50,7 +53,7 @@ await import('../src/worker.mjs');
 function storeOfText(text) {
   const bytes = new TextEncoder().encode(text), store = new Store();
   onmessage({ data: { files: [['lines', { slice: (from, to) => bytes.subarray(from, to) }]] } });
-  assert.deepEqual(posted.pop(), { errors: '' });
+  assert.equal(posted.pop().errors, '');
   posted.splice(0).forEach(it => store.add(it));
   store.finish();
   return store;
@@ -390,6 +393,48 @@ each('what was passed over', skippedText, [
   [{ skipped: 3, not_sctp: 0, cut: 3 }, '; passed over: 3 cut'],
   [{ skipped: 0, not_sctp: 0 }, ''],
   [undefined, ''],
+]);
+
+// ---- what isn't SCTP
+
+// RFC 6347 section 4.1: type, version, epoch and sequence number, length. RFC 8489 section 5: type, length, cookie, transaction.
+const dtls = (type, version, length = 40) => bytes([1, type], [2, version], [4, 0, 0], [2, length], new Uint8Array(40));
+const stun = cookie => bytes([2, 1, 8], [4, cookie, 1, 2, 3], new Uint8Array(8));
+const captured = (...payloads) => pcap(payloads.map((it, i) => [i, udp('10.0.0.1', '10.0.0.2', 5000, 6000, it)]));
+each('signs', it => signsOf(typeof it === 'string' ? bytes(it) : it).join(' '), [
+  ['', 'empty'], ['138813880102030400000000 0b000004', ''], ['[1:2:ERROR] x', ''], ['[14413:14448:1127/055920.1:VERBOSE1:x', ''],
+  [bytes([1, 0x1f, 0x8b, 8]), 'gzip'], [bytes([1, 0x28, 0xb5, 0x2f, 0xfd]), 'zstd'], ['BZh9', 'bzip2'], ['PK\x03\x04', 'zip'],
+  [bytes([1, 0xfd], '7zXZ', [1, 0]), 'xz'], [bytes('7z', [1, 0xbc, 0xaf, 0x27, 0x1c]), '7z'], [bytes([1, 4, 0x22, 0x4d, 0x18]), 'lz4'],
+  ['{"a": 1}', 'json'], [' {\n "a": 1}', 'json'], ['[{"a": 1}]', 'json'], ['{}', 'json'],
+  ['{"getUserMedia": [], "PeerConnections": {}}', 'json internals'],
+  [pcap([]), 'capture'], [captured(bytes('hello')), 'capture'],
+  [captured(dtls(22, 0xfefd)), 'capture dtls'], [captured(dtls(23, 0xfeff)), 'capture dtls'], [captured(stun(0x2112a442)), 'capture stun'],
+  [captured(dtls(22, 0xfefd), stun(0x2112a442)), 'capture dtls stun'],
+  // Another type, version, length or cookie isn't one.
+  [captured(dtls(19, 0xfefd), dtls(27, 0xfefd), dtls(22, 0x0303), dtls(22, 0xfefd, 41), stun(0x2112a443)), 'capture'],
+]);
+const NO_PACKET = 'sctp_dump: no SCTP packet was found (in UDP, --udp-port says the port)\n';
+const saidOf = (errors, files = 0) => sentencesOf({ errors, kinds: [0, 0, 0, 0, files] });
+each('sentences', saidOf, [
+  ['', []], [NO_PACKET, []],
+  ['sctp_dump: a.pcap: ends inside a record\n', ['The file ends inside a packet: what comes before it was read.']],
+  ['sctp_dump: a.pcap: ends inside a record\n', 2, ['a.pcap: The file ends inside a packet: what comes before it was read.']],
+  ["sctp_dump: -: link type 147 isn't read (--help names those that are)\n",
+    ['Its frames are of link type 147, which isn’t read. Record by `tcpdump -i any`, whose frames are.']],
+  ['RuntimeError: unreachable', ['The reader stopped by a fault of its own. Please report it, with the file if you may.']],
+  ['another `b`\u202e', ["another 'b'\\u202e"]],
+]);
+each('why there is no packet', (signs, errors, summary) =>
+  reasonOf({ signs, errors, summary, kinds: [0, 0, 0, 0, 0] }).title, [
+  [['zstd'], NO_PACKET, {}, 'This file is compressed by zstd'],
+  [['json', 'internals'], '', undefined, 'This is a dump of webrtc-internals'],
+  [['json'], '', undefined, 'This is JSON, but not of sctp_dump'],
+  [['capture', 'dtls'], NO_PACKET, { not_sctp: 40 }, 'Data channels are encrypted in this capture'],
+  [['capture'], NO_PACKET, { not_sctp: 1 }, 'None of 1 packet is SCTP'],
+  [['empty'], '', {}, 'This file is empty'],
+  [['capture'], '', {}, 'No packet is in this file'],
+  [['capture'], 'sctp_dump: -: ends in the file header\n', {}, 'No packet is in this file'],
+  [[], NO_PACKET, { unknown: 3 }, 'No line of this text is a packet'],
 ]);
 
 // ---- a packet's fields
