@@ -75,9 +75,9 @@ export function reasonOf(store) {
   }
   if (has('dtls') || has('stun')) {
     const kinds = ['dtls', 'stun'].filter(has).map(it => it.toUpperCase()).join(' and ');
-    return { title: 'Data channels are encrypted in this capture', isRecorded: true,
-      texts: [`${counted(passedOver, 'packet')} held no SCTP that can be read, and ${kinds} was found among them: a call of WebRTC. Its ` +
-        'SCTP is inside of DTLS, and a capture of the network can’t show it. Record it before it is encrypted:', ...sentences] };
+    return { title: has('dtls') ? 'This capture is encrypted by DTLS' : 'This is a call of WebRTC', isRecorded: true,
+      texts: [`None of ${counted(passedOver, 'packet')} is SCTP that can be read; there is ${kinds} among them. WebRTC’s data channels are ` +
+        'SCTP inside of DTLS, which no capture of the network shows. Record it before it is encrypted:', ...sentences] };
   }
   if (passedOver) {
     return { title: `None of ${counted(passedOver, 'packet')} is SCTP`,

@@ -124,15 +124,16 @@ class Tsns {
   }
 }
 
-/** The seconds, nanoseconds and digits of a time, as `1700000000.000120`: of a log, since its midnight. */
+/** The seconds, nanoseconds and digits of a time, as `1700000000.000120`: of a log, since its midnight. Before 1970 the
+    seconds are below 0, and the nanoseconds are after them. */
 function timeOf(text, isOfDay) {
-  const found = /^(\d+)\.(\d+)$/.exec(text ?? '');
+  const found = /^(-?)(\d+)\.(\d+)$/.exec(text ?? '');
   if (!found)
     return { seconds: 0, nanos: 0, digits: 0 };
-  const [, seconds, decimals] = found;
+  const [, sign, whole, decimals] = found, part = Number(decimals.slice(0, 9).padEnd(9, '0')), isBorrowed = sign && part > 0;
   return {
-    seconds: Number(seconds),
-    nanos: Number(decimals.slice(0, 9).padEnd(9, '0')),
+    seconds: sign ? -whole - (isBorrowed ? 1 : 0) : Number(whole),
+    nanos: isBorrowed ? 1e9 - part : part,
     digits: (isOfDay ? OF_DAY : 0) + Math.min(decimals.length, 9) + 1,
   };
 }
@@ -251,6 +252,9 @@ const SECTIONS = {
   'I-DATA': '8260 section 2.1', 'RE-CONFIG': '6525 section 3.1', 'FORWARD-TSN': '3758 section 3.2',
   'I-FORWARD-TSN': '8260 section 2.3.1', 'packet': '9260 section 3', 'parameter': '9260 section 3.2.1',
   'cause': '9260 section 3.3.10',
+  // The parameters of RE-CONFIG.
+  'parameter 0x000d': '6525 section 4.1', 'parameter 0x000e': '6525 section 4.2', 'parameter 0x000f': '6525 section 4.3',
+  'parameter 0x0010': '6525 section 4.4', 'parameter 0x0011': '6525 section 4.5', 'parameter 0x0012': '6525 section 4.6',
 };
 
 const RULES = {
@@ -262,8 +266,8 @@ const RULES = {
 
 /** The rule that a fault breaks, in words, and its section. Its reason begins with what it is in, as `SACK: ..`. */
 export function ruleOf({ kind, reason }) {
-  const [subject] = String(reason ?? '').split(':');
-  const section = kind === 'padding' ? undefined : SECTIONS[subject] ?? SECTIONS[subject.split(' ')[0]];
+  const [subject] = String(reason ?? '').split(':'), [what, number] = subject.split(' ');
+  const section = kind === 'padding' ? undefined : SECTIONS[subject] ?? SECTIONS[`${what} ${number}`] ?? SECTIONS[what];
   return { rule: RULES[kind] ?? '', section: `RFC ${section ?? '9260 section 3.2'}` };
 }
 

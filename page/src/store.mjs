@@ -136,9 +136,9 @@ export class Store {
       return `${sign}${whole}${fraction(part)}`;
     }
     const two = it => String(Math.floor(it)).padStart(2, '0');
-    const second = seconds[row], ofDay = second % 86400;
+    const second = seconds[row], ofDay = (second % 86400 + 86400) % 86400;
     const clock = `${two(ofDay / 3600)}:${two(ofDay / 60 % 60)}:${two(ofDay % 60)}${fraction(nanos[row])}`;
     const date = new Date(second * 1000);
-    return digits[row] & OF_DAY || Number.isNaN(date.getTime()) ? clock : `${date.toISOString().slice(0, 10)} ${clock}`;
+    return digits[row] & OF_DAY || Number.isNaN(date.getTime()) ? clock : `${date.toISOString().split('T')[0]} ${clock}`;
   }
 }

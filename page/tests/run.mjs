@@ -155,7 +155,7 @@ async function inBrowser(browser) {
     const call = Array.from({ length: 40 }, (_, i) => [i, udp(A, B, 50000, 60000, bytes([1, 23], [2, 0xfefd], [4, 1, i], [2, 8], 'encrypted'))]);
     const archive = gzipSync(example), noise = Uint8Array.from({ length: 5000 }, (_, i) => i * i * 7919 >> 8);
     const answers = {
-      'call.pcap': [pcap(call), /^Data channels are encrypted.*40 packets held no SCTP.*DTLS.*Chromium.*Firefox.*aiortc.*pion.*usrsctp/s],
+      'call.pcap': [pcap(call), /^This capture is encrypted by DTLS.*None of 40 packets is SCTP.*Chromium.*Firefox.*aiortc.*pion.*usrsctp/s],
       'other.pcap': [pcap([[0, udp(A, B, 50000, 60000, bytes('other'))]]), /^None of 1 packet is SCTP.*port/s],
       'internals.json': ['{\n"getUserMedia": [],\n"PeerConnections": {"1-1": {}}}', /^This is a dump of webrtc-internals.*Chromium/s],
       'internals.gz': [gzipSync('{"getUserMedia": [], "PeerConnections": {}}'), /^This is a dump of webrtc-internals/],
@@ -465,13 +465,15 @@ async function inBrowser(browser) {
   });
 
   await check('the table of associations', async () => {
-    for (const content of [example, readFileSync(new URL('../../dump/data/usrsctp.pcap', import.meta.url))]) {
-      await show(file('table.pcap', content));
+    const usrsctp = readFileSync(new URL('../../dump/data/usrsctp.pcap', import.meta.url));
+    for (const files of [{ 'example.pcap': example }, { 'usrsctp.pcap': usrsctp }, { 'example.pcap': example, 'usrsctp.pcap': usrsctp }]) {
+      await browser.choose(...Object.entries(files).map(([name, content]) => file(name, content)));
+      await browser.done();
       await browser.click('#tab-associations');
       await wait(100);
       const cells = 'Array.from(it.children, cell => [cell.dataset.title, cell.textContent])';
       const rows = await browser.ask(all('#association-rows .row', cells));
-      const wanted = lines(content).filter(it => it.association);
+      const wanted = linesOf(files, ...Object.keys(files)).filter(it => it.association);
       assert.equal(rows.length, wanted.length);
       rows.forEach((row, i) => compareRow(Object.fromEntries(row), wanted[i]));
       assert.deepEqual(await browser.ask(all('#association-heads span')), rows[0].map(([head]) => head));

@@ -97,6 +97,12 @@ each('a time', (time, direction) => storeOf(packet(1, A, [], { time, direction }
   ['1700000000.123456789', '2023-11-14 22:13:20.123456789'],
   ['1700000000.1234567891234567890', '2023-11-14 22:13:20.123456789'],
   ['951868799.0', '2000-02-29 23:59:59.0'],
+  ['-1.000001', '1969-12-31 23:59:58.999999'],
+  ['-0.5', '1969-12-31 23:59:59.5'],
+  ['-86400.000', '1969-12-31 00:00:00.000'],
+  // (719,162 days are from 0001-01-01 to 1970-01-01)
+  ['-62135596800.0', '0001-01-01 00:00:00.0'],
+  ['253402300800.0', '+010000-01-01 00:00:00.0'],
   ['63594.101', 'incoming', '17:39:54.101'], // 17 * 3600 + 39 * 60 + 54
   ['3599.001', 'outgoing', '00:59:59.001'],
   [undefined, ''],
@@ -110,6 +116,9 @@ each('a time since the first', (...times) => storeAt(times).time(times.length - 
   ['5.5', '7.0', '1.5'],
   ['5.5', '5.5', '0.0'],
   [undefined, '7.25', '99.50', '92.25'],
+  ['-0.25', '0.50', '0.75'],
+  ['-2.25', '-1.50', '0.75'],
+  ['0.25', '-0.50', '-0.75'],
   ['7.25', undefined, ''],
 ]);
 each('nanoseconds between', (...times) => storeAt(times).between(0, 1), [
@@ -354,6 +363,8 @@ each('the table', tableRow, [
   }],
   [{ association: 8, ends: [{ port: 1 }, { port: 2, round_trip: { median: 0.0204 } }], midway: true, began: { packet: 1 } },
     { ...NONE, '': '8', 'Ends': '1 ⇄ 2', 'Trip, ms': '– / 20.4', 'Began': 'midway', 'Ended': '–' }],
+  [{ association: 9, ends: [{ port: 1 }, { port: 2 }], began: { packet: 1, file: 'a.pcap', chunk: 'INIT' }, ended: { packet: 2, file: 'b.pcap', chunk: 'ABORT' } },
+    { ...NONE, '': '9', 'Ends': '1 ⇄ 2', 'Trip, ms': '– / –', 'Began': '1 of a.pcap INIT', 'Ended': '2 of b.pcap ABORT' }],
 ]);
 
 // ---- what is wrong
@@ -369,6 +380,10 @@ each('a section', (kind, reason) => ruleOf({ kind, reason }).section, [
   ['length', 'I-FORWARD-TSN: length 12, but 8 or 16 are needed', 'RFC 8260 section 2.3.1'],
   ['length', 'parameter 0x0007 State Cookie: length 3, but 4 are needed', 'RFC 9260 section 3.2.1'],
   ['length', 'cause 0x0002 Missing Mandatory Parameter: length 7, but 8 are needed', 'RFC 9260 section 3.3.10'],
+  // RFC 6525 section 4 has the parameters in the order of their types.
+  ...['Outgoing SSN Reset Request', 'Incoming SSN Reset Request', 'SSN/TSN Reset Request', 'Re-configuration Response',
+    'Add Outgoing Streams Request', 'Add Incoming Streams Request'].map((it, i) =>
+    ['value', `parameter 0x00${(13 + i).toString(16).padStart(2, '0')} ${it}: result 7, but 6 is the highest`, `RFC 6525 section 4.${i + 1}`]),
   ['length', 'chunk: header of 4 bytes, but 3 bytes are left', 'RFC 9260 section 3.2'],
   ['padding', 'SACK: padding of 1 byte isn\'t zero', 'RFC 9260 section 3.2'],
   ['size', 'packet: 13 bytes, but 16 are needed', 'RFC 9260 section 3'],
@@ -429,7 +444,8 @@ each('why there is no packet', (signs, errors, summary) =>
   [['zstd'], NO_PACKET, {}, 'This file is compressed by zstd'],
   [['json', 'internals'], '', undefined, 'This is a dump of webrtc-internals'],
   [['json'], '', undefined, 'This is JSON, but not of sctp_dump'],
-  [['capture', 'dtls'], NO_PACKET, { not_sctp: 40 }, 'Data channels are encrypted in this capture'],
+  [['capture', 'dtls'], NO_PACKET, { not_sctp: 40 }, 'This capture is encrypted by DTLS'],
+  [['capture', 'stun'], NO_PACKET, { not_sctp: 40 }, 'This is a call of WebRTC'],
   [['capture'], NO_PACKET, { not_sctp: 1 }, 'None of 1 packet is SCTP'],
   [['empty'], '', {}, 'This file is empty'],
   [['capture'], '', {}, 'No packet is in this file'],
