@@ -214,11 +214,10 @@ run_without_rt() {
     if has "$cc x86-64" 'texts of dist'; then
         dist/test.sh >"$work/texts of dist.log" 2>&1 &
         texts=$!
-        "$cc" -O1 -o "$work/sctp_dump" dist/sctp_dump-x86_64-elf.s dist/program.c
     fi
     with "$cc" C c/test.sh 100000
     with "$cc x86-64 python3" 'commands of the pages' docs/commands.py
-    with node 'scripts of the page' node page/tests/units.mjs "$work/sctp_dump"
+    with node 'scripts of the page' node page/tests/units.mjs
     with 'node python3' page page/test.sh
     [ -z "$texts" ] || { wait $texts; report 'texts of dist' $?; }
     for name in 'the proofs, and the rows and tests of the crates' 'refused requests' 'the code of CALLING.md' \

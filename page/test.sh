@@ -5,8 +5,8 @@ set -u
 
 usage='usage: page/test.sh [FOLDER]
 
-Tries the scripts of page/src without a browser, over made lines, and over what crates/sctp_dump/out/sctp_dump prints, if it is
-built: they have a line of their own. Then it tries dist/sctp_dump.wasm, which has to print what the native program does, over all
+Tries the scripts of page/src without a browser, over made lines, and over what dist/sctp_dump.wasm prints: they have a line of their
+own. Then it tries dist/sctp_dump.wasm, which has to print what the native program does, over all
 of crates/sctp_dump/data, and the page, which page/make.py makes first: page/out/sctp.html, or sctp.html in another folder, as it
 is. It is tried in Chromium, as a user would, from a disk and from a server.
 The last line is: page: N passed, M failed, and K left out, if something was.

@@ -85,7 +85,7 @@ export class Diagram {
   }
 
   show(store, association) {
-    Object.assign(this, { store, association, current: undefined, rows: [], senders: [] });
+    Object.assign(this, { store, association, current: undefined, rows: [] });
     if (association)
       Object.assign(this, store.rowsOf(association));
     byId('which').value = store.associations.indexOf(association);
@@ -217,7 +217,7 @@ export class Diagram {
 
   /** The ends' names: addresses, or of a log which is which, and tags. */
   heads(width) {
-    const { store, association, rows } = this, senderOf = row => this.senders[store.columns.flow[row]];
+    const { store, association, rows, senderOf } = this;
     const heads = shape('g', { class: 'heads' }, shape('rect', { class: 'back', width, height: TOP - 28 }));
     association.ends.forEach((end, i) => {
       const sent = rows.find(row => senderOf(row) === i) ?? rows[0], { direction } = store.flows[store.columns.flow[sent]];
@@ -241,7 +241,7 @@ export class Diagram {
   }
 
   arrow(row, object, { x, y, width, isLabelled, isScaled }) {
-    const { store } = this, sender = this.senders[store.columns.flow[row]], from = x[sender], to = x[1 - sender];
+    const { store } = this, sender = this.senderOf(row), from = x[sender], to = x[1 - sender];
     const kind = KINDS[store.columns.kind[row]], { chunks, packet } = object, way = Math.sign(to - from);
     const text = chunks.slice(0, 4).map(chunkText).join(' | ') + (chunks.length > 4 ? ' | ..' : '');
     const doubts = this.doubts(row).join(', '), said = [text, doubts].filter(it => it).join(', ');

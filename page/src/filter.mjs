@@ -62,8 +62,8 @@ const NUMBERS = {
   tsn: number => byRow((store, row) => store.has(row, 'data') && store.tsns(row).some(number)),
   ack: number => byRow((store, row) => store.has(row, 'sack') && number(store.columns.ack[row])),
   association: number => store => {
-    const all = store.associations.filter(it => number(it.association)).map(it => store.senders(it));
-    return row => all.some(senders => senders[store.columns.flow[row]] !== undefined);
+    const all = store.associations.filter(it => number(it.association)).map(it => store.senderOf(it));
+    return row => all.some(senderOf => senderOf(row) !== undefined);
   },
 };
 const TEXTS = {

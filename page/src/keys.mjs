@@ -209,21 +209,31 @@ export class Rows {
 
 // ---- associations
 
-/** Which of an association's ends sent the packets of a flow: 0 or 1, or undefined if they belong to another. A packet
-    belongs to it if the end that it is sent to chose its tag, whatever their addresses; an INIT has the tag that its sender
-    chose, and so has an ABORT or a SHUTDOWN COMPLETE with the T bit. Where no tag is known, the addresses say it. */
-export function senderIn({ ends, transport }, flow) {
+/** The ends of an association that can have sent a flow's packets, by ports, direction and transport: each its number, itself
+    and the other one. */
+function sendersIn({ ends, transport }, flow) {
   // (null: one of the names that the program doesn't keep)
-  if (transport !== null && transport !== flow.transport)
-    return;
-  const isAt = ({ addresses }, address) => address === undefined || !addresses?.length || addresses.includes(address);
-  const fits = (from, to) => from.port === flow.source && to.port === flow.destination &&
-    (from.direction === undefined || from.direction === flow.direction);
+  if (flow.source === undefined || transport !== null && transport !== flow.transport)
+    return [];
+  return [[0, ends[0], ends[1]], [1, ends[1], ends[0]]].filter(([, from, to]) => from.port === flow.source &&
+    to.port === flow.destination && (from.direction === undefined || from.direction === flow.direction));
+}
+
+/** Which of an association's ends sent the packets of a flow, by their tag: 0 or 1, or undefined if it is none's. A packet
+    belongs to it if the end that it is sent to chose its tag, whatever their addresses; an INIT has the tag that its sender
+    chose, and so has an ABORT or a SHUTDOWN COMPLETE with the T bit. */
+export function senderByTag(association, flow) {
   const chose = (end, tag) => tag > 0 && end.tag === tag;
-  const order = [[0, ends[0], ends[1]], [1, ends[1], ends[0]]].filter(([, from, to]) => fits(from, to));
-  const found = order.find(([, from, to]) => chose(flow.isReflected ? from : to, flow.tag) || chose(from, flow.initTag)) ??
-    order.find(([, from, to]) => to.tag === undefined && isAt(from, flow.from) && isAt(to, flow.to));
-  return found?.[0];
+  return sendersIn(association, flow)
+    .find(([, from, to]) => chose(flow.isReflected ? from : to, flow.tag) || chose(from, flow.initTag))?.[0];
+}
+
+/** Which of its ends sent them, by the addresses, where no tag of the end that they go to is known. */
+export function senderByPlace(association, flow) {
+  const isAt = ({ addresses = [], more_addresses }, address) =>
+    address === undefined ? !addresses.length : addresses.includes(address) || more_addresses > 0;
+  return sendersIn(association, flow)
+    .find(([, from, to]) => to.tag === undefined && isAt(from, flow.from) && isAt(to, flow.to))?.[0];
 }
 
 /** What there is in the place of associations if the program was stopped before it printed them: pairs of ends. */

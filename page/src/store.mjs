@@ -1,6 +1,6 @@
 // SPDX-License-Identifier: Apache-2.0
 // What was read: a row of numbers for each line, and the lines themselves in Blobs, which the browser may keep on disk.
-import { COLUMNS, FLAGS, isAssociation, isSummary, KINDS, OF_DAY, pairsOf, parsed, senderIn } from './keys.mjs';
+import { COLUMNS, FLAGS, isAssociation, isSummary, KINDS, OF_DAY, pairsOf, parsed, senderByPlace, senderByTag } from './keys.mjs';
 
 export class Store {
   count = 0;
@@ -19,6 +19,10 @@ export class Store {
   errors = '';
   signs = [];
   isAtEnd = false;
+  /** Files' numbers by their names, if there are several. */
+  files = new Map();
+  /** For each flow whose packets no tag gives to an association: the associations between the same places. */
+  placed = [];
 
   /** How many packets there are: accepted ones, refused ones, and those that were cut off. */
   get packets() {
@@ -47,7 +51,12 @@ export class Store {
       else if (isSummary(it))
         this.summary = it;
     }
-    columns.kind.forEach(it => this.kinds[it]++);
+    this.placed = [];
+    columns.kind.forEach((it, i) => {
+      this.kinds[it]++;
+      if (KINDS[it] === 'file')
+        this.files.set(this.notes[columns.note[i]], columns.file[i]);
+    });
     for (const [name, bit] of Object.entries(FLAGS))
       this.flags[name] += columns.flags.reduce((sum, it) => sum + (it & bit ? 1 : 0), 0);
   }
@@ -86,29 +95,46 @@ export class Store {
   /** The program is at its end. If it was stopped, there are pairs of ends in the place of associations. */
   finish({ errors, signs } = { errors: '', signs: [] }) {
     Object.assign(this, { errors, signs, isAtEnd: true });
-    if (!this.associations.length)
+    if (!this.associations.length) {
       this.associations = pairsOf(this.flows);
+      this.placed = [];
+    }
   }
 
-  /** The rows of an association's packets. */
+  /** The rows of an association's packets, and who sent each. */
   rowsOf(association) {
-    const senders = this.senders(association), { flow } = this.columns, rows = [];
+    const senderOf = this.senderOf(association), rows = [];
     for (let row = 0; row < this.count; row++) {
-      if (this.isPacket(row) && senders[flow[row]] !== undefined)
+      if (senderOf(row) !== undefined)
         rows.push(row);
     }
-    return { rows, senders };
+    return { rows, senderOf };
   }
 
   /** The association that a packet's row belongs to. */
   associationOf(row) {
     const flow = this.flows[this.columns.flow[row]];
-    return this.isPacket(row) ? this.associations.find(it => senderIn(it, flow) !== undefined) : undefined;
+    return this.associations.find(it => senderByTag(it, flow) !== undefined) ?? this.latest(row);
   }
 
-  /** For each flow which end of the association sends in it, if any does. */
-  senders(association) {
-    return this.flows.map(flow => flow.source === undefined ? undefined : senderIn(association, flow));
+  /** A function from a row to the end of the association that sent its packet, or undefined if none did. */
+  senderOf(association) {
+    const tagged = this.flows.map(it => senderByTag(association, it)), placed = this.flows.map(it => senderByPlace(association, it));
+    return row => {
+      const flow = this.columns.flow[row];
+      return tagged[flow] ?? (placed[flow] !== undefined && this.latest(row) === association ? placed[flow] : undefined);
+    };
+  }
+
+  /** The association that a packet belongs to by its places, where no tag gives it to one: the latest that began before it. */
+  latest(row) {
+    const { columns, associations, files } = this, number = columns.flow[row], flow = this.flows[number];
+    this.placed[number] ??= associations.some(it => senderByTag(it, flow) !== undefined) ? []
+      : associations.filter(it => senderByPlace(it, flow) !== undefined);
+    return this.placed[number].findLast(({ began }) => {
+      const file = files.get(began?.file) ?? 0;
+      return !began || file < columns.file[row] || file === columns.file[row] && began.packet <= columns.number[row];
+    });
   }
 
   /** Nanoseconds from one row's time to another's, or undefined. */

@@ -1,10 +1,8 @@
 // SPDX-License-Identifier: Apache-2.0
-// Tries the scripts without a browser: over made lines, whose keys are those of docs/DUMP.md, and over what sctp_dump prints
-// of packets of real stacks, if it was built. usage: node page/tests/units.mjs [SCTP_DUMP]
+// Tries the scripts without a browser: over made lines, whose keys are those of docs/DUMP.md, and over what the program prints
+// of captures. usage: node page/tests/units.mjs
 import assert from 'node:assert/strict';
-import { spawnSync } from 'node:child_process';
-import { existsSync } from 'node:fs';
-import { fileURLToPath } from 'node:url';
+import { readdirSync, readFileSync } from 'node:fs';
 import { inspect } from 'node:util';
 import { reasonOf, sentencesOf } from '../src/answer.mjs';
 import { Associations } from '../src/associations.mjs';
@@ -13,14 +11,15 @@ import { bytesOf, Fields, nodesOf, ownersOf, valueOf } from '../src/fields.mjs';
 import { namedApart } from '../src/files.mjs';
 import { filterOf, FOUND, strangeWords } from '../src/filter.mjs';
 import {
-  groupOf, isAssociation, isSummary, KINDS, pairsOf, Rows, ruleOf, senderIn, skippedText, WORDS,
+  groupOf, isAssociation, isSummary, KINDS, pairsOf, Rows, ruleOf, senderByPlace, senderByTag, skippedText, WORDS,
 } from '../src/keys.mjs';
 import { drawPacket, endText } from '../src/list.mjs';
+import { run } from '../src/program.mjs';
 import { signsOf } from '../src/signs.mjs';
 import { Store } from '../src/store.mjs';
 import { counted, hex, shown } from '../src/text.mjs';
 import { compareRow } from './table.mjs';
-import { bytes, pcap, udp } from './traffic.mjs';
+import { bytes, chunk, init, ip, packet as packetOf, pcap, sack, udp } from './traffic.mjs';
 
 // ---- in the place of a browser and of a Worker
 
@@ -245,8 +244,8 @@ each('what was found', word => {
 ]);
 
 each('an association', number => {
-  const { rows, senders } = capture.rowsOf(capture.associations[number - 1]);
-  return rows.map(row => row + 'AB'[senders[capture.columns.flow[row]]]).join(' ');
+  const { rows, senderOf } = capture.rowsOf(capture.associations[number - 1]);
+  return rows.map(row => row + 'AB'[senderOf(row)]).join(' ');
 }, [[1, '1A 2B 3A 4A 5B 6A 7A 8B 9A'], [2, '11A']]);
 each('the association of a row', row => capture.associationOf(row)?.association, [
   [0, undefined], [1, 1], [8, 1], [10, undefined], [11, 2],
@@ -254,8 +253,8 @@ each('the association of a row', row => capture.associationOf(row)?.association,
 
 /** What the diagram draws of a store's first association. */
 async function drawnOf(store) {
-  const [association] = store.associations, { rows, senders } = store.rowsOf(association);
-  const diagram = Object.assign(Object.create(Diagram.prototype), { store, association, rows, senders, width: 800 });
+  const [association] = store.associations, { rows, senderOf } = store.rowsOf(association);
+  const diagram = Object.assign(Object.create(Diagram.prototype), { store, association, rows, senderOf, width: 800 });
   return diagram.drawn(rows, await store.objects(rows));
 }
 const classed = (it, name) => it.parts.filter(part => part.class?.split(' ')[0] === name);
@@ -294,7 +293,7 @@ const ends = [{ addresses: ['10.0.0.1'], port: 1, tag: 10 }, { addresses: ['10.0
 const flow = (source, destination, tag, others) =>
   ({ source, destination, tag, from: `10.0.0.${source}`, to: `10.0.0.${destination}`, ...others });
 const same = ends.map(it => ({ ...it, port: 5 })), unknown = [ends[0], { ...ends[1], tag: undefined }];
-each('a sender', senderIn, [
+each('a sender', (association, flow) => senderByTag(association, flow) ?? senderByPlace(association, flow), [
   [{ ends }, flow(1, 2, 20), 0],
   [{ ends }, flow(2, 1, 10), 1],
   [{ ends }, flow(1, 2, 20, { from: '10.9.9.9', to: '10.8.8.8' }), 0],
@@ -333,7 +332,7 @@ each('pairs of ends', (...flows) => pairsOf(flows).map(({ association, ends }) =
   [...['T', 'U'].map(it => ({ source: 5, destination: 6, transport: it })), ['1: 5 -, 6 -', '2: 5 -, 6 -']],
 ]);
 // (the program was stopped: there is a pair in the place of an association)
-each('a sender in a pair', direction => senderIn(log.associations[0], { source: 5, destination: 5, direction }), [
+each('a sender in a pair', direction => senderByPlace(log.associations[0], { source: 5, destination: 5, direction }), [
   ['incoming', 0], ['outgoing', 1],
 ]);
 
@@ -545,33 +544,79 @@ each('a text', shown, [
 each('hexadecimal', hex, [[255, 8, '0x000000ff'], [LAST, 8, '0xffffffff'], [5, 2, '0x05']]);
 each('a count', counted, [[1, 'row', '1 row'], [1234, 'row', '1,234 rows'], [0, 'row', '0 rows'], [2, 'x', 'y', '2 y']]);
 
-// ---- packets of real stacks
+// ---- what the program prints
 
-const ROOT = fileURLToPath(new URL('../../', import.meta.url));
-const program = process.argv[2] ?? `${ROOT}crates/sctp_dump/out/sctp_dump`, isBuilt = existsSync(program);
-if (isBuilt) {
-  for (const name of ['dump/data/usrsctp.pcap', 'dump/data/chromium-both.log', 'page/sample.pcap']) {
-    const store = storeOfText(spawnSync(program, [...WORDS, ROOT + name], { maxBuffer: 1 << 26 }).stdout.toString());
-    each(`${name}: associations`, () => store.associations.length > 0, [[true]]);
-    each(`${name}: the table`, it => compareRow(tableRow(it), it), store.associations.map(it => [it, undefined]));
-    // The page finds by itself which packets an end of an association sent, its DATA, and which TSNs were sent again.
-    each(`${name}: packets, DATA and repeats`, number => {
-      const { rows, senders } = store.rowsOf(store.associations[number - 1]), seen = [new Set(), new Set()];
-      const counts = [[0, 0], [0, 0], [0, 0]];
-      for (const row of rows) {
-        const end = senders[store.columns.flow[row]], tsns = store.tsns(row), again = tsns.filter(it => seen[end].has(it));
-        counts[0][end]++;
-        counts[1][end] += tsns.length;
-        counts[2][end] += again.length;
-        tsns.forEach(it => seen[end].add(it));
-        assert.equal(store.has(row, 'repeated'), again.length > 0, `repeated, in row ${row}`);
-      }
-      return counts;
-    }, store.associations.map(({ association, ends: [one, other] }) =>
-      [association, [[one.packets, other.packets], [one.data, other.data], [one.repeated ?? 0, other.repeated ?? 0]]]));
-  }
+const root = new URL('../../', import.meta.url), bytesOfFile = name => new Uint8Array(readFileSync(new URL(name, root)));
+const module = new WebAssembly.Module(bytesOfFile('dist/sctp_dump.wasm'));
+
+/** What the page keeps of a capture. */
+function storeOfCapture(content) {
+  const parts = [];
+  let at = 0;
+  const input = { read: size => content.subarray(at, at += Math.min(size, content.length - at)) };
+  run(module, { words: WORDS, open: () => input, print: it => parts.push(it.slice()), report: () => {} });
+  return storeOfText(Buffer.concat(parts).toString());
 }
 
-const seconds = ((performance.now() - started) / 1000).toFixed(1), leftOut = isBuilt ? '' : ', no sctp_dump for real stacks';
-console.log(`page: scripts without a browser: ${tried - failed} rows passed, ${failed} failed${leftOut} (${seconds} s)`);
+/** The page finds by itself which packets an end of an association sent, its DATA, and which TSNs were sent again. */
+function countsOf(store, association) {
+  const { rows, senderOf } = store.rowsOf(association), seen = [new Set(), new Set()], counts = [[0, 0], [0, 0], [0, 0]];
+  for (const row of rows) {
+    const end = senderOf(row), tsns = store.tsns(row), again = tsns.filter(it => seen[end].has(it));
+    counts[0][end]++;
+    counts[1][end] += tsns.length;
+    counts[2][end] += again.length;
+    tsns.forEach(it => seen[end].add(it));
+  }
+  return counts;
+}
+const saidIn = ({ ends }) => [ends.map(it => it.packets), ends.map(it => it.data), ends.map(it => it.repeated ?? 0)];
+
+for (const name of ['dump/data/usrsctp.pcap', 'dump/data/chromium-both.log', 'page/sample.pcap']) {
+  const store = storeOfCapture(bytesOfFile(name));
+  each(`${name}: associations`, () => store.associations.length > 0, [[true]]);
+  each(`${name}: the table`, it => compareRow(tableRow(it), it), store.associations.map(it => [it, undefined]));
+  each(`${name}: packets, DATA and repeats`, it => countsOf(store, it), store.associations.map(it => [it, saidIn(it)]));
+  each(`${name}: repeated`, row => store.has(row, 'repeated'), repeatedRows(store));
+}
+
+/** Whether each row with DATA has a TSN that its association's end had sent before. */
+function repeatedRows(store) {
+  return store.associations.flatMap(it => {
+    const { rows, senderOf } = store.rowsOf(it), seen = [new Set(), new Set()];
+    return rows.map(row => {
+      const own = seen[senderOf(row)], isAgain = store.tsns(row).some(tsn => own.has(tsn));
+      store.tsns(row).forEach(tsn => own.add(tsn));
+      return [row, isAgain];
+    });
+  });
+}
+
+// Whose packet it is, by the program: packets with no tag that an end chose, and INITs that weren't answered.
+const places2 = [1, 2].map(it => `10.0.0.${it}`);
+const fromEnd = end => (tag, ...chunks) => ip(places2[end], places2[1 - end], packetOf(1 + end, 2 - end, tag, ...chunks));
+const [a, b] = [0, 1].map(fromEnd), abort = chunk(6, 0), opening = tag => a(0, init(tag, 1));
+const tagless = [
+  [opening(10), a(0, sack(1)), b(0, sack(1))],
+  [opening(10), a(0, abort), opening(11), a(0, abort), a(0, abort)],
+  [opening(10), b(10, abort), opening(11), a(0, abort), b(11, abort)],
+  [opening(10), a(77, sack(1)), a(78, sack(1)), b(10, sack(1))],
+  [a(5, chunk(6, 1)), b(5, chunk(14, 1))],
+  [a(0, sack(1)), a(0, sack(1)), b(0, sack(1))],
+];
+const captures = [...tagless.map(records => pcap(records.map((it, i) => [i, it]))),
+  ...readdirSync(new URL('crates/sctp_dump/data', root)).map(it => bytesOfFile(`crates/sctp_dump/data/${it}`))];
+each('packets of associations', content => {
+  const store = storeOfCapture(content);
+  return store.associations.map(it => countsOf(store, it)[0].join(' '));
+}, captures.map(it => [it, storeOfCapture(it).associations.map(({ ends }) => ends.map(end => end.packets).join(' '))]));
+each('the association of a packet', content => {
+  const store = storeOfCapture(content);
+  return rowsOf(store).map(row => store.associationOf(row)?.association ?? '-').join(' ');
+}, [
+  [captures[1], '1 1 2 2 2'], [captures[2], '1 1 2 2 2'], [captures[3], '1 1 - 1'],
+]);
+
+const seconds = ((performance.now() - started) / 1000).toFixed(1);
+console.log(`page: scripts without a browser: ${tried - failed} rows passed, ${failed} failed (${seconds} s)`);
 process.exitCode = failed ? 1 : 0;
