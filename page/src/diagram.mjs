@@ -1,7 +1,8 @@
 // SPDX-License-Identifier: Apache-2.0
 // The sequence diagram of an association: two lifelines, and an arrow for each packet.
+import { rangeTexts } from './info.mjs';
 import { groupOf, isData, KINDS } from './keys.mjs';
-import { endText, marksOf, rangeTexts } from './list.mjs';
+import { endText, marksOf } from './list.mjs';
 import { byId, counted, element, hex, save, shown } from './text.mjs';
 
 const SVG = 'http://www.w3.org/2000/svg';

@@ -43,8 +43,8 @@ export function isData(chunk) {
 
 // ---- whether an object is as the program prints it, since lines that come from elsewhere can be anything
 
-const isText = it => typeof it === 'string';
-const isNumber = Number.isSafeInteger;
+export const isText = it => typeof it === 'string';
+export const isNumber = Number.isSafeInteger;
 export const isObject = it => typeof it === 'object' && it !== null && !Array.isArray(it);
 const listOf = test => it => Array.isArray(it) && it.every(test);
 

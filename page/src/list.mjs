@@ -1,5 +1,6 @@
 // SPDX-License-Identifier: Apache-2.0
 // The list of packets.
+import { infoOf } from './info.mjs';
 import { groupOf, KINDS } from './keys.mjs';
 import { element, hex, shown } from './text.mjs';
 
@@ -18,24 +19,6 @@ export function marksOf(store, row) {
   return Object.entries(MARKS).filter(([flag]) => store.has(row, flag));
 }
 
-/** Ranges of TSNs as text, the first three of them. */
-export function rangeTexts(ranges) {
-  const texts = ranges.slice(0, 3).map(([least, most]) => least === most ? least : `${least}–${most}`);
-  return texts.join(', ') + (ranges.length > 3 ? ' ..' : '');
-}
-
-/** TSNs as ranges. */
-function rangesOf(tsns) {
-  const ranges = [];
-  for (const it of tsns) {
-    if (ranges.length && it === (ranges.at(-1)[1] + 1) % 2 ** 32)
-      ranges.at(-1)[1] = it;
-    else
-      ranges.push([it, it]);
-  }
-  return ranges;
-}
-
 /** Where an end is: its address and port. */
 export function endText(address, port) {
   const ending = String(port ?? '');
@@ -44,19 +27,7 @@ export function endText(address, port) {
   return address.includes(':') ? `[${address}]:${ending}` : `${address}:${ending}`;
 }
 
-/** What a row says after its chunks. */
-export function infoOf(store, row) {
-  const summary = store.summaries[store.columns.summary[row]], parts = [];
-  if (store.has(row, 'sack'))
-    parts.push(`acknowledges ${store.columns.ack[row]}`);
-  if (store.has(row, 'data')) {
-    parts.push(`TSN ${rangeTexts(rangesOf(store.tsns(row)))}`, `stream ${summary.streams.slice(0, 4).join(', ')}`);
-    parts.push(...summary.ppids.slice(0, 2).map(([ppid, name]) => name ? shown(name, 40) : `ppid ${ppid}`));
-  }
-  return parts.join(' · ');
-}
-
-/** A row of the list. */
+/** A row of the list. What its line says beside the columns comes when the line was read. */
 export function drawPacket(store, row, isSince) {
   const it = store.at(row), kind = KINDS[it.kind], flow = store.flows[it.flow], summary = store.summaries[it.summary];
   const line = element('div', `packet ${kind}`);
@@ -90,6 +61,11 @@ export function drawPacket(store, row, isSince) {
   if (summary.runs.length > 8)
     runs.push(element('span', 'dim', `+${summary.runs.length - 8}`));
   const note = it.note ? element('span', 'reason', shown(store.notes[it.note], 120)) : undefined;
-  cell('chunks', ...runs, ...marks, element('span', 'info', infoOf(store, row)), note);
+  const info = element('span', 'info');
+  store.objects([row]).then(([object]) => {
+    info.append(infoOf(object));
+    info.title = info.textContent;
+  });
+  cell('chunks', ...runs, ...marks, info, note);
   return line;
 }

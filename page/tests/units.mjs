@@ -13,6 +13,7 @@ import { filterOf, FOUND, strangeWords } from '../src/filter.mjs';
 import {
   groupOf, isAssociation, isSummary, KINDS, pairsOf, Rows, ruleOf, senderByPlace, senderByTag, skippedText, WORDS,
 } from '../src/keys.mjs';
+import { infoOf } from '../src/info.mjs';
 import { drawPacket, endText } from '../src/list.mjs';
 import { run } from '../src/program.mjs';
 import { signsOf } from '../src/signs.mjs';
@@ -177,19 +178,27 @@ const cells = line => line.parts.map(it => it.textContent).join(' | ');
 
 // (after the file's row, the row of a packet is its number)
 const FROM_A = '10.0.0.1:40000 → [2001:db8::2]:9900', FROM_B = '[2001:db8::2]:9900 → 10.0.0.1:40000';
-each('a row', row => cells(drawPacket(capture, row, true)), [
+/** The cells of rows, with what their lines say. */
+async function drawnRows(store) {
+  const drawn = rowsOf(store).map(row => drawPacket(store, row, true));
+  await store.objects(rowsOf(store));
+  await new Promise(resolve => setTimeout(resolve));
+  return drawn.map(cells);
+}
+const captureRows = await drawnRows(capture);
+each('a row', row => captureRows[row], [
   [0, 'a.pcap'],
-  [1, `1 | 0.000000 | ${FROM_A} | 0x00000000 | INIT`],
-  [2, `2 | 0.250000 | ${FROM_B} | 0x0000000a | INIT ACK`],
+  [1, `1 | 0.000000 | ${FROM_A} | 0x00000000 | INITtag 0x0000000a · initial TSN 4294967295`],
+  [2, `2 | 0.250000 | ${FROM_B} | 0x0000000a | INIT ACKtag 0x00000014`],
   [3, `3 | 0.500000 | ${FROM_A} | 0x00000014 | DATAwarningTSN 4294967295 · stream 1 · WebRTC String`],
   [4, `4 | 2.000000 | ${FROM_A} | 0x00000014 | DATA ×2gap beforeTSN 1–2 · stream 2 · ppid 99 · WebRTC DCEP`],
-  [5, `5 | 2.100000 | ${FROM_B} | 0x0000000a | SACKzero checksumgapsacknowledges 4294967295`],
+  [5, `5 | 2.100000 | ${FROM_B} | 0x0000000a | SACKzero checksumgapsacknowledges 4294967295 and 1–2`],
   [6, `6 | 2.200000 | ${FROM_A} | 0x00000014 | DATAfills a gapTSN 0 · stream 0`],
   [7, `7 | 2.300000 | ${FROM_A} | 0x00000014 | DATAwrong checksumsent againTSN 0 · stream 0`],
   [8, `8 |  | ${FROM_B} | 0x0000000a | SACKrefusedacknowledges 4294967295COOKIE ACK: length 3`],
   [9, `9 |  | ${FROM_A} | 0x00000014 | DATAcut off`],
   [10, '10 |  | skipped: a fragment'],
-  [11, '11 |  | 1 → 2 | 0x00000003 | chunk 66NR-SACK'],
+  [11, '11 |  | 1 → 2 | 0x00000003 | chunk 66NR-SACKacknowledges 9'],
 ]);
 const rowOf = object => cells(drawPacket(storeOf(object), 0, true));
 each('a row of a log', direction => rowOf(packet(1, { source: 1, destination: 2 }, [], { direction })), [
@@ -200,10 +209,45 @@ each('a row of what was skipped', rowOf, [
   [{ record: 7, skipped: 'a fragment' }, '7 |  | skipped: a fragment'],
   [{ line: 7, skipped: 'not a packet' }, ' |  | line 7 skipped: not a packet'],
 ]);
-each('TSNs of a row', (...tsns) => rowOf(packet(1, A, tsns.map(it => data(it)))).split('TSN ')[1], [
+each('TSNs of a row', (...tsns) => infoOf(packet(1, A, tsns.map(it => data(it)))).split('TSN ')[1], [
   [LAST, 0, 1, 5, '4294967295–1, 5 · stream 0'],
   [1, 3, 5, 7, '1, 3, 5 .. · stream 0'],
 ]);
+
+// (keys and names as in docs/DUMP.md)
+const whole = { ppid: 51, ppid_name: 'WebRTC String', unordered: false, beginning: true, end: true, payload_size: 5, text: 'hello' };
+const opened = { ppid: 50, ppid_name: 'WebRTC DCEP', payload_size: 16, message: 3, message_name: 'DATA_CHANNEL_OPEN', label: 'chat', channel_type_name: 'reliable ordered' };
+const reset = (...parameters) => ({ chunk: 130, name: 'RE-CONFIG', parameters });
+each('what a row says', (...chunks) => infoOf({ chunks }), [
+  [data(5, whole), 'TSN 5 · stream 0 · WebRTC String · 5 bytes · “hello”'],
+  [data(5, { ...whole, unordered: true, text: 'a\nb' }), 'TSN 5 · stream 0 · WebRTC String · unordered · 5 bytes · “a\\u000ab”'],
+  [data(5, opened), 'TSN 5 · stream 0 · WebRTC DCEP · 16 bytes · DATA_CHANNEL_OPEN “chat” reliable ordered'],
+  [data(5, { ...opened, message_name: 'DATA_CHANNEL_ACK', label: undefined, channel_type_name: undefined, payload_size: 1 }),
+    'TSN 5 · stream 0 · WebRTC DCEP · 1 byte · DATA_CHANNEL_ACK'],
+  [data(5, { beginning: true, end: false, payload_size: 1200 }), 'TSN 5 · stream 0 · first fragment · 1,200 bytes'],
+  [data(6, { beginning: false, end: false }), 'TSN 6 · stream 0 · middle fragment'],
+  [data(7, { beginning: false, end: true }), 'TSN 7 · stream 0 · last fragment'],
+  [data(5, { ...whole, text: 'a' }), data(6, { ...whole, stream: 3, text: 'b' }), 'TSN 5–6 · stream 0, 3 · WebRTC String · 10 bytes · “a” · “b”'],
+  [{ ...SACK, a_rwnd: 1000 }, data(5), 'acknowledges 4294967295 · a_rwnd 1000 · TSN 5 · stream 0'],
+  [{ ...SACK, blocks: [[2, 2], [4, 6]].map(([first_tsn, last_tsn]) => ({ first_tsn, last_tsn })), duplicates: [{ tsn: 7 }] },
+    'acknowledges 4294967295 and 2, 4–6 · duplicate 7'],
+  [{ chunk: 1, tag: 10, a_rwnd: 5, outbound_streams: 3, inbound_streams: 4, initial_tsn: 9, parameters: [{ parameter: 7, name: 'x' }] },
+    'tag 0x0000000a · initial TSN 9 · streams 3 out, 4 in · a_rwnd 5'],
+  [{ chunk: 192, new_cumulative_tsn: 9, streams: [{ stream: 1, ssn: 2 }, { stream: 4, ssn: 2 }] }, 'new TSN 9 · skips in stream 1, 4'],
+  [{ chunk: 7, cumulative_tsn: 9 }, 'acknowledges 9'],
+  [reset({ parameter: 13, name: 'Outgoing SSN Reset Request', streams: [{ stream: 1 }, { stream: 2 }] }), 'resets stream 1, 2'],
+  [reset({ parameter: 13, name: 'Outgoing SSN Reset Request', streams: [] }), 'resets all streams'],
+  [reset({ parameter: 14, name: 'Incoming SSN Reset Request', streams: [{ stream: 1 }] }), 'asks to reset stream 1'],
+  [reset({ parameter: 16, name: 'Re-configuration Response', result: 1, result_name: 'Success - Performed' }), 'Success - Performed'],
+  [reset({ parameter: 17, name: 'Add Outgoing Streams Request', new_streams: 5 }), 'Add Outgoing Streams Request 5'],
+  [{ chunk: 6, causes: [{ cause: 12, name: 'User-Initiated Abort', text: 'enough' }, { cause: 99 }] }, 'User-Initiated Abort “enough” · cause 99'],
+  [{ chunk: 11 }, ''],
+  // What the program didn't print.
+  [data(5, { text: 5, payload_size: 'x', message_name: {}, beginning: 1 }), 'TSN 5 · stream 0'],
+  [{ chunk: 6, causes: 5, streams: [null, 5, {}], duplicates: {}, a_rwnd: '1' }, ''],
+  [reset(null, 5, {}), 'parameter undefined'],
+]);
+each('a long row', () => infoOf({ chunks: Array(50).fill({ chunk: 7, cumulative_tsn: 9 }) }).split(' · ').length, [[12]]);
 
 const ALL = '0 1 2 3 4 5 6 7 8 9 11';
 each('a filter', text => {
