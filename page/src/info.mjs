@@ -41,17 +41,17 @@ function fragmentOf({ beginning, end }) {
   return end === false ? 'first fragment' : undefined;
 }
 
-/** What all DATA of a packet says. */
+/** What all DATA of a packet says, messages first: they are in view where a row is short. */
 function dataInfo(data) {
   const each = of => [...new Set(data.map(of))].filter(it => it !== undefined), sizes = data.map(it => it.payload_size).filter(isNumber);
   return [
+    ...each(messageOf).slice(0, 3),
     `TSN ${rangeTexts(rangesOf(data.map(it => it.tsn)))}`,
     `stream ${some(each(it => it.stream))}`,
     ...each(({ ppid, ppid_name }) => ppid === undefined ? undefined : ppid_name ? shown(ppid_name, 40) : `ppid ${ppid}`).slice(0, 2),
     ...each(fragmentOf),
     ...each(it => it.unordered === true ? 'unordered' : undefined),
     ...sizes.length ? [counted(sizes.reduce((sum, it) => sum + it, 0), 'byte')] : [],
-    ...each(messageOf).slice(0, 3),
   ];
 }
 
@@ -87,8 +87,7 @@ function controlInfo(chunk) {
 
 /** What a packet's line says of its chunks. */
 export function infoOf({ chunks }) {
-  const data = chunks.filter(isData), parts = chunks.filter(it => !isData(it)).slice(0, 20).flatMap(controlInfo);
-  if (data.length)
-    parts.push(...dataInfo(data));
+  const data = chunks.filter(isData), others = chunks.filter(it => !isData(it)).slice(0, 20);
+  const parts = [...data.length ? dataInfo(data) : [], ...others.flatMap(controlInfo)];
   return parts.slice(0, 12).join(' · ') + (parts.length > 12 ? ' ..' : '');
 }

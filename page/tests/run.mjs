@@ -122,7 +122,7 @@ async function inBrowser(browser) {
     assert.match(rows[0], /^10\.0*10\.0\.0\.1:40000 → 10\.0\.1\.1:99000x00000000INITtag 0x0da73798 · initial TSN 1000 · /);
     assert.match(rows[4], /DATATSN 1000 · stream 0 · .* · 7 bytes$/);
     // (the second DATA is a string)
-    assert.match(rows.find(it => it.includes('TSN 1001')), /DATA.*TSN 1001 · stream 1 · WebRTC String · 7 bytes · “hello 1”$/);
+    assert.match(rows.find(it => it.includes('TSN 1001')), /DATA“hello 1” · TSN 1001 · stream 1 · WebRTC String · 7 bytes$/);
     quiet();
   });
 

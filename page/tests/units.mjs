@@ -219,16 +219,16 @@ const whole = { ppid: 51, ppid_name: 'WebRTC String', unordered: false, beginnin
 const opened = { ppid: 50, ppid_name: 'WebRTC DCEP', payload_size: 16, message: 3, message_name: 'DATA_CHANNEL_OPEN', label: 'chat', channel_type_name: 'reliable ordered' };
 const reset = (...parameters) => ({ chunk: 130, name: 'RE-CONFIG', parameters });
 each('what a row says', (...chunks) => infoOf({ chunks }), [
-  [data(5, whole), 'TSN 5 · stream 0 · WebRTC String · 5 bytes · “hello”'],
-  [data(5, { ...whole, unordered: true, text: 'a\nb' }), 'TSN 5 · stream 0 · WebRTC String · unordered · 5 bytes · “a\\u000ab”'],
-  [data(5, opened), 'TSN 5 · stream 0 · WebRTC DCEP · 16 bytes · DATA_CHANNEL_OPEN “chat” reliable ordered'],
+  [data(5, whole), '“hello” · TSN 5 · stream 0 · WebRTC String · 5 bytes'],
+  [data(5, { ...whole, unordered: true, text: 'a\nb' }), '“a\\u000ab” · TSN 5 · stream 0 · WebRTC String · unordered · 5 bytes'],
+  [data(5, opened), 'DATA_CHANNEL_OPEN “chat” reliable ordered · TSN 5 · stream 0 · WebRTC DCEP · 16 bytes'],
   [data(5, { ...opened, message_name: 'DATA_CHANNEL_ACK', label: undefined, channel_type_name: undefined, payload_size: 1 }),
-    'TSN 5 · stream 0 · WebRTC DCEP · 1 byte · DATA_CHANNEL_ACK'],
+    'DATA_CHANNEL_ACK · TSN 5 · stream 0 · WebRTC DCEP · 1 byte'],
   [data(5, { beginning: true, end: false, payload_size: 1200 }), 'TSN 5 · stream 0 · first fragment · 1,200 bytes'],
   [data(6, { beginning: false, end: false }), 'TSN 6 · stream 0 · middle fragment'],
   [data(7, { beginning: false, end: true }), 'TSN 7 · stream 0 · last fragment'],
-  [data(5, { ...whole, text: 'a' }), data(6, { ...whole, stream: 3, text: 'b' }), 'TSN 5–6 · stream 0, 3 · WebRTC String · 10 bytes · “a” · “b”'],
-  [{ ...SACK, a_rwnd: 1000 }, data(5), 'acknowledges 4294967295 · a_rwnd 1000 · TSN 5 · stream 0'],
+  [data(5, { ...whole, text: 'a' }), data(6, { ...whole, stream: 3, text: 'b' }), '“a” · “b” · TSN 5–6 · stream 0, 3 · WebRTC String · 10 bytes'],
+  [{ ...SACK, a_rwnd: 1000 }, data(5), 'TSN 5 · stream 0 · acknowledges 4294967295 · a_rwnd 1000'],
   [{ ...SACK, blocks: [[2, 2], [4, 6]].map(([first_tsn, last_tsn]) => ({ first_tsn, last_tsn })), duplicates: [{ tsn: 7 }] },
     'acknowledges 4294967295 and 2, 4–6 · duplicate 7'],
   [{ chunk: 1, tag: 10, a_rwnd: 5, outbound_streams: 3, inbound_streams: 4, initial_tsn: 9, parameters: [{ parameter: 7, name: 'x' }] },
