@@ -61,6 +61,8 @@ export function reasonOf(store) {
   const { signs, summary } = store, has = sign => signs.includes(sign), sentences = sentencesOf(store);
   const unpacked = Object.keys(UNPACK).find(has);
   const passedOver = summary?.not_sctp ?? 0;
+  if (store.isStopped)
+    return { title: 'Stopped before the first packet', texts: ['Open the file once more to read it.'] };
   if (unpacked) {
     return { title: `This file is compressed by ${unpacked}`,
       texts: [`The page unpacks gzip alone. Unpack it by \`${UNPACK[unpacked]}\`, and open what comes out.`] };

@@ -78,18 +78,18 @@ function take(batch) {
 function end(result, started) {
   worker.terminate();
   worker = undefined;
-  store.finish(result);
+  store.finish(result, started === undefined);
   byId('stop').hidden = byId('progress').hidden = true;
   const time = started === undefined ? ': stopped' : ` in ${((performance.now() - started) / 1000).toFixed(1)} s`;
   const sentences = store.packets ? sentencesOf(store).join(' ').replaceAll('`', '') : '';
   byId('status').textContent = sentences || counted(store.packets, 'packet') + time + skippedText(store.summary);
   byId('status').className = sentences ? 'bad' : '';
   showAssociations();
-  if (!store.packets)
-    select('packets');
   showFound();
-  if (!byId('answer').hidden)
+  if (!store.packets) {
+    select('packets');
     byId('answer').focus();
+  }
   document.body.dataset.done = performance.now();
 }
 

@@ -19,6 +19,7 @@ export class Store {
   errors = '';
   signs = [];
   isAtEnd = false;
+  isStopped = false;
   /** Files' numbers by their names, if there are several. */
   files = new Map();
   /** For each flow whose packets no tag gives to an association: the associations between the same places. */
@@ -93,8 +94,8 @@ export class Store {
   }
 
   /** The program is at its end. If it was stopped, there are pairs of ends in the place of associations. */
-  finish({ errors, signs } = { errors: '', signs: [] }) {
-    Object.assign(this, { errors, signs, isAtEnd: true });
+  finish({ errors, signs } = { errors: '', signs: [] }, isStopped = false) {
+    Object.assign(this, { errors, signs, isAtEnd: true, isStopped });
     if (!this.associations.length) {
       this.associations = pairsOf(this.flows);
       this.placed = [];

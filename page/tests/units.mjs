@@ -482,8 +482,9 @@ each('sentences', saidOf, [
   ['RuntimeError: unreachable', ['The reader stopped by a fault of its own. Please report it, with the file if you may.']],
   ['another `b`\u202e', ["another 'b'\\u202e"]],
 ]);
-each('why there is no packet', (signs, errors, summary) =>
-  reasonOf({ signs, errors, summary, kinds: [0, 0, 0, 0, 0] }).title, [
+each('why there is no packet', (signs, errors, summary, isStopped) =>
+  reasonOf({ signs, errors, summary, isStopped, kinds: [0, 0, 0, 0, 0] }).title, [
+  [[], '', undefined, true, 'Stopped before the first packet'],
   [['zstd'], NO_PACKET, {}, 'This file is compressed by zstd'],
   [['json', 'internals'], '', undefined, 'This is a dump of webrtc-internals'],
   [['json'], '', undefined, 'This is JSON, but not of sctp_dump'],
