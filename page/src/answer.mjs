@@ -40,9 +40,10 @@ const WAYS = [
   ['Chromium', 'Start it by `chromium --enable-logging=stderr --vmodule=dcsctp_transport=1,text_pcap*=1 2> call.log`, and open ' +
     '`call.log`. Its lines with `# SCTP_PACKET` are the packets.'],
   ['Firefox', 'Firefox 153 doesn’t log packets. Record at the other end of the call.'],
-  ['aiortc', 'In `RTCDtlsTransport._send_data` and in `RTCSctpTransport._handle_data` write `data.hex()` to a file, a line for each call.'],
-  ['pion', 'Give the `NetConn` of `sctp.Config` a connection that also writes what each Read and Write has, a line of hexadecimal for ' +
-    'each: `fmt.Fprintf(file, "%x\\n", p[:n])`.'],
+  ['aiortc', 'In `RTCDtlsTransport._send_data` and in `RTCSctpTransport._handle_data` write `data.hex()` to a file, a line for each ' +
+    'call.'],
+  ['pion', 'Give the `NetConn` of `sctp.Config` a connection that also writes what each Read and Write has, a line of hexadecimal ' +
+    'for each: `fmt.Fprintf(file, "%x\\n", p[:n])`.'],
   ['usrsctp', 'Where packets are sent, and before `usrsctp_conninput`, write what `usrsctp_dumppacket` returns to a file.'],
   ['Without WebRTC', 'SCTP that DTLS doesn’t encrypt is in a capture: `tcpdump -i any -w sctp.pcap sctp`.'],
 ];
@@ -78,13 +79,12 @@ export function reasonOf(store) {
   if (has('dtls') || has('stun')) {
     const kinds = ['dtls', 'stun'].filter(has).map(it => it.toUpperCase()).join(' and ');
     return { title: has('dtls') ? 'This capture is encrypted by DTLS' : 'This is a call of WebRTC', isRecorded: true,
-      texts: [`None of ${counted(passedOver, 'packet')} is SCTP that can be read; there is ${kinds} among them. WebRTC’s data channels are ` +
-        'SCTP inside of DTLS, which no capture of the network shows. Record it before it is encrypted:', ...sentences] };
+      texts: [`None of ${counted(passedOver, 'packet')} is SCTP that can be read; there is ${kinds} among them. WebRTC’s data ` +
+        'channels are SCTP inside of DTLS, which no capture of the network shows. Record it before it is encrypted:', ...sentences] };
   }
   if (passedOver) {
-    return { title: `None of ${counted(passedOver, 'packet')} is SCTP`,
-      texts: [...sentences, 'If SCTP is inside of UDP, and its port isn’t 9899, say the port below “Options”, and open the file once more.'],
-      isRecorded: true };
+    return { title: `None of ${counted(passedOver, 'packet')} is SCTP`, isRecorded: true,
+      texts: [...sentences, 'If SCTP is inside of UDP, and its port isn’t 9899, say the port where a file is chosen, and open it again.'] };
   }
   if (has('empty'))
     return { title: 'This file is empty', texts: ['It has no byte. Choose another one, or record one:'], isRecorded: true };
@@ -93,8 +93,8 @@ export function reasonOf(store) {
       texts: sentences.length ? sentences : ['The capture has no packet of any kind. Record while packets are sent:'] };
   }
   return { title: 'No line of this text is a packet', isRecorded: true,
-    texts: ['The page reads packets and frames in hexadecimal, dumps by `tcpdump -x`, `xxd` and `tshark -x`, and logs of WebRTC that have ' +
-      'lines with `# SCTP_PACKET`. To record one:'] };
+    texts: ['The page reads packets and frames in hexadecimal, dumps by `tcpdump -x`, `xxd` and `tshark -x`, and logs of WebRTC ' +
+      'that have lines with `# SCTP_PACKET`. To record one:'] };
 }
 
 /** An answer as elements: a title, sentences, and ways if they help. */

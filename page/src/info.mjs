@@ -31,8 +31,14 @@ function rangesOf(tsns) {
 function messageOf({ text, message_name, label, channel_type_name }) {
   if (isText(text))
     return quoted(text);
-  if (isText(message_name))
-    return [shown(message_name, 40), ...isText(label) ? [quoted(label)] : [], ...isText(channel_type_name) ? [shown(channel_type_name, 40)] : []].join(' ');
+  if (!isText(message_name))
+    return;
+  const parts = [shown(message_name, 40)];
+  if (isText(label))
+    parts.push(quoted(label));
+  if (isText(channel_type_name))
+    parts.push(shown(channel_type_name, 40));
+  return parts.join(' ');
 }
 
 function fragmentOf({ beginning, end }) {
@@ -59,7 +65,8 @@ function dataInfo(data) {
 function resetInfo({ parameter, name, streams, result_name, new_streams }) {
   const list = objects(streams).map(it => it.stream).filter(isNumber), which = list.length ? `stream ${some(list)}` : 'all streams';
   const known = { 13: `resets ${which}`, 14: `asks to reset ${which}`, 16: isText(result_name) ? shown(result_name, 40) : undefined };
-  return known[parameter] ?? [isText(name) ? shown(name, 40) : `parameter ${shown(parameter, 20)}`, ...isNumber(new_streams) ? [new_streams] : []].join(' ');
+  const named = isText(name) ? shown(name, 40) : `parameter ${shown(parameter, 20)}`;
+  return known[parameter] ?? (isNumber(new_streams) ? `${named} ${new_streams}` : named);
 }
 
 /** What a chunk other than DATA says. */

@@ -158,7 +158,11 @@ export class Rows {
     if (typeof it.file === 'string')
       return { kind: KINDS.indexOf('file'), file: ++this.file, note: this.notes.number(it.file) };
     if (typeof it.skipped === 'string')
-      return { ...this.other('skipped', Number(it.record ?? it.line ?? 0), it.skipped), flags: it.line === undefined ? 0 : FLAGS.line };
+      return this.skipped(it);
+  }
+
+  skipped({ record, line, skipped }) {
+    return { ...this.other('skipped', Number(record ?? line ?? 0), skipped), flags: line === undefined ? 0 : FLAGS.line };
   }
 
   other(kind, number, text) {

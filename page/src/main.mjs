@@ -200,10 +200,10 @@ function showAnswer(isFiltered) {
   byId('tools').hidden = isBare;
   if (!isEmpty)
     return;
-  const [title, text, act] = isBare ? ['', 'Open another file', () => offer(true)] : ['No row passes the filter', 'Clear it', () => filterBy('')];
-  const button = element('button', '', text);
-  button.addEventListener('click', act);
-  byId('answer').replaceChildren(...isBare ? answered(reasonOf(store)) : [element('h2', '', title)], element('p', '', button));
+  const button = element('button', '', isBare ? 'Open another file' : 'Clear it');
+  button.addEventListener('click', () => isBare ? offer(true) : filterBy(''));
+  const said = isBare ? answered(reasonOf(store)) : [element('h2', '', 'No row passes the filter')];
+  byId('answer').replaceChildren(...said, element('p', '', button));
 }
 
 let typed;
