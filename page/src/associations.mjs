@@ -7,7 +7,7 @@ import { VirtualList } from './virtual.mjs';
 const amount = it => typeof it === 'number' ? it.toLocaleString('en') : '–';
 const both = key => ({ ends }) => ends.map(it => amount(it[key])).join(' / ');
 const addresses = ({ addresses, port }) => (addresses?.length ? addresses : [undefined]).map(it => endText(it, port)).join(' ');
-const event = it => it ? [it.packet, ...it.file === undefined ? [] : ['of', it.file], it.chunk].filter(part => part).join(' ') : '–';
+const event = it => it ? [it.packet, it.chunk, it.file === undefined ? '' : `of ${it.file}`].filter(part => part).join(' ') : '–';
 
 /** The columns: a title, a class and what it says of an association: of both ends the first one's value, then the other's. */
 const TABLE = [

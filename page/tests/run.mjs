@@ -661,6 +661,14 @@ async function inBrowser(browser) {
       await wait(150);
       assert.equal(await browser.ask('document.documentElement.scrollWidth'), 390, view);
     }
+    // (also where the file of an event is said)
+    await browser.choose(withRefused, file('another-file-with-a-long-name.pcap', example));
+    await browser.done();
+    await browser.click('#tab-associations');
+    await wait(100);
+    const right = await browser.ask(all('#association-rows .row > span', 'it.getBoundingClientRect().right'));
+    assert.ok(right.length >= 11 && Math.max(...right) <= 390, `${Math.max(...right)}`);
+    await show(withRefused);
     const [tree, hexadecimal] = await browser.ask(all('#tree, #bytes', 'it.getBoundingClientRect().toJSON()'));
     assert.ok(hexadecimal.top >= tree.bottom && tree.width > 380 && hexadecimal.width > 380, 'one column');
     await browser.tap('#list .row:nth-child(5)');

@@ -20,7 +20,7 @@ export function compareRow(cells, association) {
   }
   const place = ({ addresses, port }) =>
     addresses.map(it => `${it.includes(':') ? `[${it}]` : it}:${port}`).join(' ') || String(port);
-  const event = it => it ? `${it.packet}${it.file ? ` of ${it.file}` : ''} ${it.chunk}` : '–';
+  const event = it => it ? `${it.packet} ${it.chunk}${it.file ? ` of ${it.file}` : ''}` : '–';
   assert.equal(cells[''], String(association.association));
   assert.equal(cells.Ends, ends.map(place).join(' ⇄ '));
   assert.equal(cells.Began, midway ? 'midway' : event(began));

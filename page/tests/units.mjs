@@ -407,7 +407,7 @@ each('the table', tableRow, [
   [{ association: 8, ends: [{ port: 1 }, { port: 2, round_trip: { median: 0.0204 } }], midway: true, began: { packet: 1 } },
     { ...NONE, '': '8', 'Ends': '1 ⇄ 2', 'Trip, ms': '– / 20.4', 'Began': 'midway', 'Ended': '–' }],
   [{ association: 9, ends: [{ port: 1 }, { port: 2 }], began: { packet: 1, file: 'a.pcap', chunk: 'INIT' }, ended: { packet: 2, file: 'b.pcap', chunk: 'ABORT' } },
-    { ...NONE, '': '9', 'Ends': '1 ⇄ 2', 'Trip, ms': '– / –', 'Began': '1 of a.pcap INIT', 'Ended': '2 of b.pcap ABORT' }],
+    { ...NONE, '': '9', 'Ends': '1 ⇄ 2', 'Trip, ms': '– / –', 'Began': '1 INIT of a.pcap', 'Ended': '2 ABORT of b.pcap' }],
 ]);
 
 // ---- what is wrong
