@@ -243,7 +243,9 @@ export function senderByPlace(association, flow) {
 /** What there is in the place of associations if the program was stopped before it printed them: pairs of ends. */
 export function pairsOf(flows) {
   const pairs = new Map(), other = { incoming: 'outgoing', outgoing: 'incoming' };
-  const end = (address, port, direction) => ({ addresses: address === undefined ? [] : [address], port, direction });
+  const end = (address, port, direction) => ({
+    addresses: address === undefined ? [] : [address], port, ...direction && { direction },
+  });
   for (const { from, to, source, destination, direction, transport } of flows) {
     if (source === undefined)
       continue;

@@ -243,7 +243,7 @@ const diagram = new Diagram({
 });
 
 function showAssociations() {
-  associations.show(store.associations);
+  associations.show(store.associations, store.isStopped);
   diagram.list(store);
 }
 

@@ -24,6 +24,15 @@ export function shown(text, most = 300) {
 
 export const hex = (number, digits) => `0x${number.toString(16).padStart(digits, '0')}`;
 
+/** A number of bytes with three or four digits and its unit, in steps of a thousand. */
+export function sized(bytes) {
+  const units = ['B', 'kB', 'MB', 'GB', 'TB'];
+  let i = 0;
+  for (; i < 4 && (i ? bytes.toFixed(1) : bytes) >= 1000; i++)
+    bytes /= 1000;
+  return `${i ? bytes.toFixed(1) : bytes} ${units[i]}`;
+}
+
 /** `one` of something, or some `many`. */
 export const counted = (count, one, many = `${one}s`) => `${count.toLocaleString('en')} ${count === 1 ? one : many}`;
 

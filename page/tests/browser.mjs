@@ -148,7 +148,8 @@ export class Browser {
   }
 
   async close() {
-    this.child.kill();
+    // (so that each of its processes ends before their folder goes)
+    this.send('Browser.close', {}, null);
     await this.ended;
     rmSync(this.folder, { recursive: true, force: true, maxRetries: 5 });
   }

@@ -390,7 +390,7 @@ async function inBrowser(browser) {
     await browser.click('#tab-associations');
     assert.equal(await browser.ask(all('#association-rows .row', '1').replace(/$/, '.length')), 1);
     const row = await browser.ask(by('#association-rows .row'));
-    assert.match(row, /10\.0\.0\.1:40000 ⇄ 10\.0\.1\.1:9900/);
+    assert.match(row, /10\.0\.0\.1:4000010\.0\.1\.1:9900/);
     await browser.click('#show-packets');
     await wait(100);
     assert.equal(await browser.ask(by('#filter', 'value')), 'association:1');
@@ -446,7 +446,7 @@ async function inBrowser(browser) {
     const other = pcap([[0, ip('192.0.2.1', '192.0.2.2', packet(7, 8, 9, data(5, 0, 0, 51, 'other')))]]);
     const labels = () => browser.ask(all('#drawing .arrow', "it.getAttribute('aria-label')"));
     const captures = [
-      [example, 30, /40000.*9900/], [other, 1, /192\.0\.2\.1:7 .* 192\.0\.2\.2:8/], [example, 30, /40000.*9900/], [pcap([]), 0, /^$/],
+      [example, 30, /40000.*9900/], [other, 1, /192\.0\.2\.1:7.*192\.0\.2\.2:8/], [example, 30, /40000.*9900/], [pcap([]), 0, /^$/],
     ];
     for (const [content, packets, ends] of captures) {
       await show(file('one.pcap', content));
@@ -473,13 +473,32 @@ async function inBrowser(browser) {
       await browser.done();
       await browser.click('#tab-associations');
       await wait(100);
-      const cells = 'Array.from(it.children, cell => [cell.dataset.title, cell.textContent])';
+      const cells = 'Array.from(it.children, cell => [cell.dataset.title, Array.from(cell.children, line => line.textContent)])';
       const rows = await browser.ask(all('#association-rows .row', cells));
       const wanted = linesOf(files, ...Object.keys(files)).filter(it => it.association);
       assert.equal(rows.length, wanted.length);
       rows.forEach((row, i) => compareRow(Object.fromEntries(row), wanted[i]));
       assert.deepEqual(await browser.ask(all('#association-heads span')), rows[0].map(([head]) => head));
     }
+    // A click on a title sorts, and so does a key; what is chosen stays chosen. At 1,024 px nothing is cut without a tooltip.
+    const orders = () => browser.ask(all('#association-heads span', "it.getAttribute('aria-sort')")).then(it => it[2]);
+    const packets = async () => (await browser.ask(all('#association-rows .row', '[it.dataset.index, it.children[2].textContent]')))
+      .sort((a, b) => a[0] - b[0]).map(it => Number(it[1].match(/^\d\d/)));
+    const chosen = () => browser.ask(by('#association-rows .current .number'));
+    const first = await chosen(), before = await packets();
+    await browser.click('#association-heads span:nth-child(3) button');
+    assert.deepEqual([await orders(), await chosen()], ['descending', first]);
+    await browser.press('Enter');
+    assert.deepEqual([await orders(), await chosen()], ['ascending', first]);
+    assert.ok(before.length > 1 && new Set(before).size > 1, `${before}`);
+    await browser.send('Emulation.setDeviceMetricsOverride', { width: 1024, height: 768, deviceScaleFactor: 1, mobile: false });
+    await wait(100);
+    const cut = "it.scrollWidth > it.clientWidth && it.title !== it.textContent && it.textContent";
+    assert.deepEqual((await browser.ask(all('#association-rows .line, #association-heads button', cut))).filter(it => it), []);
+    const widths = await browser.ask(all('#association-rows .amount .line', 'it.scrollWidth <= it.clientWidth'));
+    assert.ok(widths.length >= 14 && widths.every(it => it));
+    assert.ok(await browser.ask("document.documentElement.scrollWidth <= innerWidth && document.getElementById('association-rows').scrollWidth <= innerWidth"));
+    await browser.send('Emulation.setDeviceMetricsOverride', { width: 1280, height: 900, deviceScaleFactor: 1, mobile: false });
     quiet();
   });
 
@@ -604,6 +623,9 @@ async function inBrowser(browser) {
     await browser.ask("document.getElementById('list').focus()");
     await browser.press('End');
     await titled(`Packet ${read}`);
+    await browser.click('#tab-associations');
+    assert.equal(await browser.ask("document.getElementById('uncounted').checkVisibility()"), true);
+    assert.match(await browser.ask(by('#uncounted')), /^The reading was stopped/);
     await browser.click('#tab-diagram');
     await browser.until("document.querySelectorAll('#drawing .arrow').length > 0");
     quiet();

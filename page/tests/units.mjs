@@ -5,7 +5,7 @@ import assert from 'node:assert/strict';
 import { readdirSync, readFileSync } from 'node:fs';
 import { inspect } from 'node:util';
 import { reasonOf, sentencesOf } from '../src/answer.mjs';
-import { Associations } from '../src/associations.mjs';
+import { Associations, sorted } from '../src/associations.mjs';
 import { Diagram, stepOf } from '../src/diagram.mjs';
 import { bytesOf, Fields, nodesOf, ownersOf, valueOf } from '../src/fields.mjs';
 import { namedApart } from '../src/files.mjs';
@@ -18,7 +18,7 @@ import { drawPacket, endText } from '../src/list.mjs';
 import { run } from '../src/program.mjs';
 import { signsOf } from '../src/signs.mjs';
 import { Store } from '../src/store.mjs';
-import { counted, hex, shown } from '../src/text.mjs';
+import { counted, hex, shown, sized } from '../src/text.mjs';
 import { compareRow } from './table.mjs';
 import { bytes, chunk, init, ip, packet as packetOf, pcap, sack, udp } from './traffic.mjs';
 
@@ -390,7 +390,7 @@ const numbered = first => ({
 });
 function tableRow(association) {
   const row = Associations.prototype.draw.call({ list: [association] }, 0);
-  return Object.fromEntries(row.parts.map(it => [it.dataset.title, it.textContent]));
+  return Object.fromEntries(row.parts.map(it => [it.dataset.title, it.parts.map(line => line.textContent)]));
 }
 const association = {
   association: 7,
@@ -398,16 +398,30 @@ const association = {
   began: { packet: 3, chunk: 'INIT' }, established: { packet: 4 }, ended: { packet: 99, chunk: 'ABORT', by: 1 },
 };
 const NONE = Object.fromEntries(['Packets', 'DATA', 'Bytes', 'Sent again', 'Missing', 'Gap SACKs'].map(it => [it, '– / –']));
-each('the table', tableRow, [
+const joined = row => Object.fromEntries(Object.entries(row).map(([head, lines]) => [head, lines.join(' / ')]));
+each('the table', it => joined(tableRow(it)), [
   [association, {
-    '': '7', 'Ends': '10.0.0.1:100 10.0.0.2:100 ⇄ [2001:db8::1]:300', 'Packets': '100,000 / 300,000',
-    'DATA': '200,000 / 600,000', 'Bytes': '100,000,000 / 300,000,000', 'Sent again': '109 / 309', 'Missing': '111 / 311',
-    'Gap SACKs': '115 / 315', 'Trip, ms': '12.5 / 37.5', 'Began': '3 INIT', 'Ended': '99 ABORT',
+    'No.': '7', 'Ends': '10.0.0.1:100 10.0.0.2:100 / [2001:db8::1]:300', 'Packets': '100,000 / 300,000',
+    'DATA': '200,000 / 600,000', 'Bytes': '100.0 MB / 300.0 MB', 'Sent again': '109 / 309', 'Missing': '111 / 311',
+    'Gap SACKs': '115 / 315', 'Round trip': '12.5 ms / 37.5 ms', 'Began': '3 INIT', 'Ended': '99 ABORT',
   }],
   [{ association: 8, ends: [{ port: 1 }, { port: 2, round_trip: { median: 0.0204 } }], midway: true, began: { packet: 1 } },
-    { ...NONE, '': '8', 'Ends': '1 ⇄ 2', 'Trip, ms': '– / 20.4', 'Began': 'midway', 'Ended': '–' }],
+    { ...NONE, 'No.': '8', 'Ends': '1 / 2', 'Round trip': '– / 20.4 ms', 'Began': 'midway', 'Ended': '–' }],
   [{ association: 9, ends: [{ port: 1 }, { port: 2 }], began: { packet: 1, file: 'a.pcap', chunk: 'INIT' }, ended: { packet: 2, file: 'b.pcap', chunk: 'ABORT' } },
-    { ...NONE, '': '9', 'Ends': '1 ⇄ 2', 'Trip, ms': '– / –', 'Began': '1 INIT of a.pcap', 'Ended': '2 ABORT of b.pcap' }],
+    { ...NONE, 'No.': '9', 'Ends': '1 / 2', 'Round trip': '– / –', 'Began': '1 INIT / of a.pcap', 'Ended': '2 ABORT / of b.pcap' }],
+]);
+
+each('bytes', sized, [
+  [0, '0 B'], [999, '999 B'], [1000, '1.0 kB'], [18_372_000, '18.4 MB'], [999_949, '999.9 kB'], [999_950, '1.0 MB'], [5e12, '5.0 TB'],
+]);
+const three = [[1, 9, 300], [2, 1000, 10], [3]].map(([association, ...packets]) =>
+  ({ association, ends: [{ port: 30 - association, packets: packets[0] }, { port: 2, packets: packets[1] }], ended: packets[0] && { packet: 11 - association } }));
+each('the order of associations', (...by) => sorted(three, ...by).map(it => it.association).join(' '), [
+  ['No.', false, '1 2 3'], ['No.', true, '3 2 1'], ['Packets', true, '2 1 3'], ['Packets', false, '1 2 3'], ['Ends', false, '3 2 1'],
+  ['Ended', false, '2 1 3'], ['DATA', true, '1 2 3'],
+]);
+each('a pair of ends without a direction', () => pairsOf([{ source: 1, destination: 2 }]).flatMap(it => it.ends.map(Object.keys)).flat().includes('direction'), [
+  [false],
 ]);
 
 // ---- what is wrong
