@@ -25,7 +25,7 @@ ROOT = os.path.dirname(HERE)
 
 # The scripts, each after those that it takes from. One name is in one of them alone.
 WORKER = ["keys", "program", "signs", "worker"]
-PAGE = ["keys", "text", "virtual", "store", "filter", "files", "answer", "info", "list", "fields", "associations", "diagram", "main"]
+PAGE = ["keys", "text", "virtual", "store", "filter", "files", "copies", "answer", "info", "list", "fields", "associations", "diagram", "main"]
 IMPORT = re.compile(r"^import (?:\{ ([^}]*) \} from )?'\./(\w+)\.mjs';\n", re.M)
 POLICY = ("default-src 'none'; script-src {script} 'wasm-unsafe-eval'; style-src {style}; worker-src blob:; img-src data:; "
           "base-uri 'none'; form-action 'none'")

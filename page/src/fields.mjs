@@ -69,6 +69,9 @@ export function ownersOf(nodes, size) {
   return owners;
 }
 
+/** So many characters of the chosen field's value are in the tree. */
+const WHOLE = 20000;
+
 export class Fields {
   nodes = [];
   visible = [];
@@ -174,6 +177,13 @@ export class Fields {
     return notes;
   }
 
+  /** The whole value of the field that is selected, as text, or undefined if it has none. */
+  get value() {
+    const node = this.nodes[this.selected];
+    if (node && node.end === this.selected + 1)
+      return Array.isArray(node.value) ? node.value.join(', ') : String(node.value ?? '');
+  }
+
   // ---- the tree
 
   showTree() {
@@ -187,7 +197,8 @@ export class Fields {
   drawNode(index) {
     const at = this.visible[index], node = this.nodes[at], isBranch = node.end > at + 1;
     const twist = element('span', 'twist', isBranch ? (node.isOpen ? '▾' : '▸') : '');
-    const row = element('div', `node ${node.group ?? ''}`, twist, element('span', 'key', shown(node.label)), valueOf(node));
+    const row = element('div', `node ${node.group ?? ''}`, twist, element('span', 'key', shown(node.label)),
+      valueOf(node, at === this.selected ? WHOLE : undefined));
     row.classList.toggle('branch', isBranch);
     row.style.paddingLeft = `${Math.min(node.depth, 12) * 16 + 4}px`;
     row.setAttribute('role', 'treeitem');
@@ -206,7 +217,13 @@ export class Fields {
   }
 
   selectNode(at) {
+    const isOther = this.selected !== at;
     this.selected = at;
+    // (the chosen one has its whole value)
+    if (isOther) {
+      this.tree.redraw();
+      this.tree.reveal(this.tree.current);
+    }
     const { place } = this.nodes[at];
     if (place && this.bytes.length) {
       this.cursor = Math.min(place.from, this.bytes.length - 1);
@@ -360,17 +377,18 @@ export class Fields {
       text = `byte ${this.cursor}${this.cursor === this.fault ? ': the fault' : ''}`;
     }
     byId('marked').textContent = text;
+    byId('copy-value').disabled = this.value === undefined;
     if (this.cursor >= 0)
       this.bytesBox.setAttribute('aria-activedescendant', `byte-${this.cursor}`);
   }
 }
 
 /** How a node's value is shown: a number also in hexadecimal, as wide as its bytes. */
-export function valueOf({ value, place, end }) {
+export function valueOf({ value, place, end }, most) {
   if (Array.isArray(value))
-    return element('span', 'value', value.length ? shown(value.join(', ')) : 'none');
+    return element('span', 'value', value.length ? shown(value.join(', '), most) : 'none');
   const size = place ? place.to - place.from : 0;
   if (typeof value === 'number' && size > 0 && size <= 4)
     return element('span', 'value', String(value), element('span', 'dim', ` ${hex(value, 2 * size)}`));
-  return element('span', typeof value === 'string' && end ? 'value text' : 'value', shown(value ?? ''));
+  return element('span', typeof value === 'string' && end ? 'value text' : 'value', shown(value ?? '', most));
 }

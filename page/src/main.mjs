@@ -2,14 +2,15 @@
 // The page: opens captures, and shows what comes back from the Worker.
 import { answered, howTo, reasonOf, sentencesOf } from './answer.mjs';
 import { Associations } from './associations.mjs';
+import { cArray, hexadecimal, MOST_PACKETS, pcapOf } from './copies.mjs';
 import { Diagram } from './diagram.mjs';
-import { Fields } from './fields.mjs';
+import { bytesOf, Fields } from './fields.mjs';
 import { namedApart } from './files.mjs';
 import { filterOf, FOUND, strangeWords, SYNTAX } from './filter.mjs';
 import { skippedText, WORDS } from './keys.mjs';
 import { drawPacket } from './list.mjs';
 import { Store } from './store.mjs';
-import { byId, counted, element, shown } from './text.mjs';
+import { byId, copy, counted, element, save, shown } from './text.mjs';
 import { VirtualList } from './virtual.mjs';
 
 const decoded = id => Uint8Array.from(atob(byId(id).textContent), it => it.charCodeAt(0));
@@ -40,6 +41,7 @@ async function open(files) {
   byId('stop').hidden = byId('progress').hidden = byId('again').hidden = false;
   offer(false);
   fields.show({}, '');
+  offerCopies();
   list.setCurrent(-1);
   select('packets');
   applyFilter();
@@ -119,6 +121,8 @@ const list = new VirtualList(byId('list'), {
 });
 
 let asked = 0;
+/** The row whose packet is shown; an association has none. */
+let shownRow;
 
 /** Shows a row's line as a tree. */
 async function showRow(row) {
@@ -128,7 +132,46 @@ async function showRow(row) {
     return;
   const [kind, its] = ['packet', 'record', 'line', 'file'].map(it => [it, object[it]]).find(([, it]) => it !== undefined);
   fields.show(object, `${kind[0].toUpperCase()}${kind.slice(1)} ${shown(its, 60)}`);
+  offerCopies(row);
 }
+
+/** Offers to copy what is shown, as far as there is something. */
+function offerCopies(row) {
+  shownRow = row;
+  byId('copied').textContent = '';
+  byId('copy-json').disabled = row === undefined;
+  for (const id of ['copy-hex', 'copy-c'])
+    byId(id).disabled = row === undefined || !fields.bytes.length;
+}
+
+for (const [id, textOf] of Object.entries({
+  'copy-value': () => fields.value,
+  'copy-hex': () => hexadecimal(fields.bytes),
+  'copy-c': () => cArray(fields.bytes),
+  'copy-json': () => store.lines([shownRow])[0].text(),
+})) {
+  byId(id).addEventListener('click', async () => {
+    byId('copied').textContent = await copy(await textOf()) ? 'Copied.' : 'The browser doesn’t allow to copy.';
+  });
+}
+
+// ---- what is shown, as files
+
+/** The name of a file of what is shown. */
+const nameOf = ending => `${byId('name').textContent.replace(/[^\w.-]+/g, '-').slice(0, 60) || 'capture'}.${ending}`;
+
+byId('save-json').addEventListener('click', () =>
+  save(nameOf('json'), 'application/jsonl', ...store.lines(passed).flatMap(it => [it, '\n'])));
+byId('save-pcap').addEventListener('click', async () => {
+  const own = store, all = passed.filter(it => own.isPacket(it)), rows = all.slice(0, MOST_PACKETS), packets = [];
+  for (let i = 0; i < rows.length; i += 1000) {
+    const part = rows.slice(i, i + 1000);
+    (await own.objects(part)).forEach((it, at) => packets.push({ ...own.at(part[at]), bytes: bytesOf(it.bytes) }));
+  }
+  save(nameOf('pcap'), 'application/vnd.tcpdump.pcap', pcapOf(packets));
+  byId('found').textContent = rows.length < all.length
+    ? `The first ${rows.length.toLocaleString('en')} of ${counted(all.length, 'packet')} were saved.` : `${counted(rows.length, 'packet')} saved`;
+});
 
 // ---- the filter
 
@@ -250,6 +293,7 @@ function showAssociations() {
 function showAssociation(it) {
   asked++;
   fields.show(it, `Association ${it.association}`);
+  offerCopies();
 }
 
 function drawAssociation(it) {

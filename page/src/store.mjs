@@ -84,13 +84,22 @@ export class Store {
     return (this.columns.flags[row] & FLAGS[flag]) !== 0;
   }
 
+  /** The lines of these rows, as Blobs: those that follow each other are one. */
+  lines(rows) {
+    const { batch, offset, size } = this.columns, ranges = [];
+    for (const row of rows) {
+      const last = ranges.at(-1), to = offset[row] + size[row];
+      if (last?.batch === batch[row] && last.to + 1 === offset[row])
+        last.to = to;
+      else
+        ranges.push({ batch: batch[row], from: offset[row], to });
+    }
+    return ranges.map(it => this.batches[it.batch].slice(it.from, it.to));
+  }
+
   /** The objects of these rows, read from their lines. */
   async objects(rows) {
-    const { batch, offset, size } = this.columns;
-    return Promise.all(rows.map(async row => {
-      const lines = this.batches[batch[row]].slice(offset[row], offset[row] + size[row]);
-      return parsed(await lines.text());
-    }));
+    return Promise.all(rows.map(async row => parsed(await this.lines([row])[0].text())));
   }
 
   /** The program is at its end. If it was stopped, there are pairs of ends in the place of associations. */

@@ -36,10 +36,27 @@ export function sized(bytes) {
 /** `one` of something, or some `many`. */
 export const counted = (count, one, many = `${one}s`) => `${count.toLocaleString('en')} ${count === 1 ? one : many}`;
 
+/** Puts a text on the clipboard, also where the page has no right to it by itself; returns whether it is there. */
+export async function copy(text) {
+  try {
+    await navigator.clipboard.writeText(text);
+    return true;
+  } catch {
+    const held = element('textarea', 'unseen'), focused = document.activeElement;
+    held.value = text;
+    document.body.append(held);
+    held.select();
+    const isDone = document.execCommand('copy');
+    held.remove();
+    focused?.focus();
+    return isDone;
+  }
+}
+
 /** A file for whoever asked for it. */
-export function save(name, type, text) {
+export function save(name, type, ...parts) {
   const link = element('a');
-  link.href = URL.createObjectURL(new Blob([text], { type }));
+  link.href = URL.createObjectURL(new Blob(parts, { type }));
   link.download = name;
   link.click();
   setTimeout(() => URL.revokeObjectURL(link.href), 10000);

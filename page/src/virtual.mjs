@@ -9,6 +9,8 @@ let lists = 0;
 export class VirtualList {
   count = 0;
   current = -1;
+  /** How much higher than the others the current row is, in pixels. */
+  extra = 0;
   drawn = new Map();
 
   /** `box` is the element that scrolls. `draw(index)` makes a row's element; `select(index)` is called for the row that
@@ -65,8 +67,8 @@ export class VirtualList {
 
   update() {
     const { height, view, all, first } = this.place();
-    this.space.style.height = `${all}px`;
-    const from = Math.max(0, Math.floor(first) - 3), to = Math.min(this.count, Math.ceil(first + view / height) + 3);
+    this.space.style.height = `${all + this.extra}px`;
+    const from = Math.max(0, Math.floor(first - this.extra / height) - 3), to = Math.min(this.count, Math.ceil(first + view / height) + 3);
     for (const [index, row] of this.drawn) {
       if (index < from || index >= to) {
         row.remove();
@@ -86,8 +88,12 @@ export class VirtualList {
         this.space.append(row);
         this.mark(index, index === this.current);
       }
-      row.style.transform = `translateY(${this.box.scrollTop + (index - first) * height}px)`;
+      if (index === this.current)
+        this.extra = Math.max(0, row.offsetHeight - height);
+      const above = index > this.current && this.current >= 0 ? this.extra : 0;
+      row.style.transform = `translateY(${this.box.scrollTop + (index - first) * height + above}px)`;
     }
+    this.space.style.height = `${all + this.extra}px`;
   }
 
   mark(index, isCurrent) {
@@ -102,18 +108,22 @@ export class VirtualList {
   setCurrent(index, isSeen = true) {
     this.mark(this.current, false);
     this.current = index;
+    this.extra = 0;
     if (index < 0) {
       this.box.removeAttribute('aria-activedescendant');
       return;
     }
+    this.mark(index, true);
     if (isSeen)
       this.reveal(index);
-    this.mark(index, true);
+    else
+      this.update();
   }
 
   reveal(index) {
     const { height, view, whole, all, first } = this.place(), rows = view / height;
-    const wanted = index < first ? index : index + 1 > first + rows ? index + 1 - rows : first;
+    const end = index + 1 + (index === this.current ? Math.min(this.extra / height, rows - 1) : 0);
+    const wanted = index < first ? index : end > first + rows ? end - rows : first;
     if (wanted !== first)
       this.box.scrollTop = whole <= MOST ? wanted * height : wanted / (this.count - rows) * (all - view);
     this.update();

@@ -149,7 +149,8 @@ export class Browser {
 
   async close() {
     // (so that each of its processes ends before their folder goes)
-    this.send('Browser.close', {}, null);
+    this.session = undefined;
+    this.send('Browser.close');
     await this.ended;
     rmSync(this.folder, { recursive: true, force: true, maxRetries: 5 });
   }

@@ -442,6 +442,69 @@ async function inBrowser(browser) {
     quiet();
   });
 
+  /** What a click on a button saves as a file, whose name ends so. */
+  const saved = async (button, ending) => {
+    const to = mkdtempSync(join(folder, 'saved-'));
+    await browser.send('Browser.setDownloadBehavior', { behavior: 'allow', downloadPath: to }, undefined);
+    await browser.click(button);
+    const found = () => readdirSync(to).find(it => it.endsWith(ending));
+    for (let i = 0; i < 100 && !found(); i++)
+      await wait(50);
+    await wait(50);
+    return new Uint8Array(readFileSync(join(to, found())));
+  };
+  const copied = async button => {
+    await browser.ask("document.getElementById('copied').textContent = ''");
+    await browser.click(button);
+    await browser.until("document.getElementById('copied').textContent");
+    assert.equal(await browser.ask(by('#copied')), 'Copied.');
+    return browser.ask('navigator.clipboard.readText()');
+  };
+
+  await check('a long value is read whole, copied and saved', async () => {
+    const text = `<b>${'wide '.repeat(220)}</b>`, raw = packet(1, 2, 3, data(1, 1, 1, 51, text), sack(5));
+    const records = [...association(14), [9e6, ip(A, B, raw)], [9.5e6, ip(A, B, packet(4, 2, 3, data(1, 1, 1, 51, 'cut'))), 50]];
+    const capture = pcap(records);
+    await browser.send('Browser.grantPermissions', { permissions: ['clipboardReadWrite', 'clipboardSanitizedWrite'] }, undefined);
+    await show(file('long.pcap', capture));
+    const number = records.length - 1;
+    await filter(`packet:${number}`);
+    await titled(`Packet ${number}`);
+    await browser.ask("document.getElementById('tree').scrollTop = 220");
+    await wait(100);
+    const at = await browser.ask(all('#tree .row', "[it.dataset.index, it.querySelector('.key').textContent, it.textContent]"));
+    const [index, , short] = at.find(([, key]) => key === 'text') ?? assert.fail(`${at}`);
+    assert.match(short, /1,107 characters/);
+    assert.equal(await browser.ask("document.getElementById('copy-value').disabled"), true);
+    await browser.click(`#tree [data-index="${index}"] .key`);
+    await wait(50);
+    const seen = await browser.ask(all('#tree .row', '({ ...it.getBoundingClientRect().toJSON(), index: Number(it.dataset.index), text: it.textContent })'));
+    const row = seen.find(it => it.index === Number(index)), next = seen.find(it => it.index === Number(index) + 1);
+    assert.ok(row.height > 44 && row.text.includes(text), `${row.height}`);
+    assert.ok(!next || Math.abs(next.top - row.bottom) < 1);
+    assert.ok(await browser.ask(`(() => {
+      const row = document.querySelector('#tree [data-index="${index}"]'), box = document.getElementById('tree');
+      return row.scrollWidth <= row.clientWidth && row.getBoundingClientRect().bottom <= box.getBoundingClientRect().bottom + 1;
+    })()`));
+    assert.equal(await copied('#copy-value'), text);
+    const hexadecimal = Buffer.from(raw).toString('hex');
+    assert.equal(await copied('#copy-hex'), hexadecimal);
+    const array = (await copied('#copy-c')).match(/0x[0-9a-f]{2}/g).map(Number);
+    assert.deepEqual(array, [...raw]);
+    assert.equal(JSON.parse(await copied('#copy-json')).packet, number);
+    // What is shown, as files: the lines that the program prints, and the packets, whose bytes and times stay.
+    await filter('port:40000 packet:3-29');
+    const wanted = lines(capture).filter(it => it.packet >= 3 && it.packet <= 29);
+    const savedLines = Buffer.from(await saved('#save-json', '.json')).toString().trim().split('\n').map(it => JSON.parse(it));
+    assert.deepEqual(savedLines, wanted);
+    await filter(`packet:${number - 1}-${number + 1}`);
+    const again = lines(await saved('#save-pcap', '.pcap')).filter(it => it.packet), of = ({ bytes, time, captured, length }) => ({ bytes, time: Number(time), captured, length });
+    assert.deepEqual(again.map(of), lines(capture).filter(it => it.packet >= number - 1).map(of));
+    assert.equal(again.length, 3);
+    await filter('');
+    quiet();
+  });
+
   await check('two captures, one after the other', async () => {
     const other = pcap([[0, ip('192.0.2.1', '192.0.2.2', packet(7, 8, 9, data(5, 0, 0, 51, 'other')))]]);
     const labels = () => browser.ask(all('#drawing .arrow', "it.getAttribute('aria-label')"));

@@ -7,6 +7,7 @@ import { inspect } from 'node:util';
 import { reasonOf, sentencesOf } from '../src/answer.mjs';
 import { Associations, sorted } from '../src/associations.mjs';
 import { Diagram, stepOf } from '../src/diagram.mjs';
+import { cArray, hexadecimal, pcapOf } from '../src/copies.mjs';
 import { bytesOf, Fields, nodesOf, ownersOf, valueOf } from '../src/fields.mjs';
 import { namedApart } from '../src/files.mjs';
 import { filterOf, FOUND, strangeWords } from '../src/filter.mjs';
@@ -422,6 +423,19 @@ each('the order of associations', (...by) => sorted(three, ...by).map(it => it.a
 ]);
 each('a pair of ends without a direction', () => pairsOf([{ source: 1, destination: 2 }]).flatMap(it => it.ends.map(Object.keys)).flat().includes('direction'), [
   [false],
+]);
+
+// ---- what is taken from the page
+
+each('hexadecimal', hexadecimal, [[[], ''], [[0, 15, 255], '000fff']]);
+each('an array in C', cArray, [
+  [Uint8Array.from([0, 255]), 'static const unsigned char packet[2] = {\n  0x00, 0xff,\n};\n'],
+  [new Uint8Array(13), `static const unsigned char packet[13] = {\n  ${Array(12).fill('0x00,').join(' ')}\n  0x00,\n};\n`],
+]);
+// The pcap file format has a header of 24 bytes, whose last four are the link type, and one of 16 for each packet.
+each('a pcap file', (...packets) => hexadecimal(new Uint8Array(pcapOf(packets))).slice(40), [
+  [{ seconds: 1, nanos: 2, length: 9, bytes: Uint8Array.from([7, 8]) }, { seconds: -1, nanos: 5, length: 0, bytes: new Uint8Array(1) },
+    'f8000000' + '01000000' + '02000000' + '02000000' + '09000000' + '0708' + '00000000' + '00000000' + '01000000' + '01000000' + '00'],
 ]);
 
 // ---- what is wrong
