@@ -15,6 +15,24 @@ export function cArray(bytes) {
   return `static const unsigned char packet[${bytes.length}] = {\n${lines.join('')}};\n`;
 }
 
+/** Some programs cut an address that is longer. */
+const LONGEST = 2000;
+
+/** The address of the page with a packet in it, or undefined if it would be too long. What is after # no browser sends. */
+export function linkOf(address, bytes) {
+  const link = `${address.split('#')[0]}#hex=${hexadecimal(bytes)}`;
+  return bytes.length && link.length <= LONGEST ? link : undefined;
+}
+
+/** The packet in an address, in hexadecimal: undefined if there is none, and empty if it isn't one. */
+export function packetIn(address) {
+  const at = address.indexOf('#hex=');
+  if (at < 0)
+    return undefined;
+  const text = address.slice(at + 5), isOne = text.length % 2 === 0 && text.length <= 2 * 65535 && !/[^0-9a-f]/i.test(text);
+  return isOne ? text : '';
+}
+
 /** A pcap file of link type 248 (SCTP), with nanoseconds. A packet whose time isn't known, or can't be in such a file, has time 0. */
 export function pcapOf(packets) {
   const size = packets.reduce((sum, it) => sum + 16 + it.bytes.length, 24), file = new DataView(new ArrayBuffer(size));

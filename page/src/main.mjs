@@ -2,12 +2,12 @@
 // The page: opens captures, and shows what comes back from the Worker.
 import { answered, howTo, reasonOf, sentencesOf } from './answer.mjs';
 import { Associations } from './associations.mjs';
-import { cArray, hexadecimal, MOST_PACKETS, pcapOf } from './copies.mjs';
+import { cArray, hexadecimal, linkOf, MOST_PACKETS, packetIn, pcapOf } from './copies.mjs';
 import { Diagram } from './diagram.mjs';
 import { bytesOf, Fields } from './fields.mjs';
 import { namedApart } from './files.mjs';
 import { filterOf, FOUND, strangeWords, SYNTAX } from './filter.mjs';
-import { skippedText, WORDS } from './keys.mjs';
+import { KINDS, skippedText, WORDS } from './keys.mjs';
 import { drawPacket } from './list.mjs';
 import { Store } from './store.mjs';
 import { byId, copy, counted, element, save, shown } from './text.mjs';
@@ -100,7 +100,7 @@ function offer(isOffered) {
   byId('start').hidden = !isOffered;
   byId('work').hidden = isOffered;
   byId('again').textContent = isOffered ? 'Back' : 'Open another';
-  byId('no-text').hidden = true;
+  byId('no-text').hidden = byId('no-link').hidden = true;
 }
 
 /** Whether the port of SCTP in UDP is one, or none was given; the field says it. */
@@ -142,12 +142,16 @@ function offerCopies(row) {
   byId('copy-json').disabled = row === undefined;
   for (const id of ['copy-hex', 'copy-c'])
     byId(id).disabled = row === undefined || !fields.bytes.length;
+  // (what was cut off would be another packet)
+  const isWhole = row !== undefined && KINDS[store.columns.kind[row]] !== 'cut';
+  byId('copy-link').disabled = !isWhole || !linkOf(location.href, fields.bytes);
 }
 
 for (const [id, textOf] of Object.entries({
   'copy-value': () => fields.value,
   'copy-hex': () => hexadecimal(fields.bytes),
   'copy-c': () => cArray(fields.bytes),
+  'copy-link': () => linkOf(location.href, fields.bytes),
   'copy-json': () => store.lines([shownRow])[0].text(),
 })) {
   byId(id).addEventListener('click', async () => {
@@ -390,6 +394,19 @@ function openData(files, text, name) {
   else if (text.trim())
     open([new File([text], name)]);
 }
+
+/** Opens the packet that is in the page's address. */
+function openLink() {
+  const text = packetIn(location.hash);
+  if (text) {
+    open([new File([text], 'packet of the link')]);
+  } else if (text === '') {
+    offer(true);
+    byId('no-link').hidden = false;
+  }
+}
+addEventListener('hashchange', openLink);
+openLink();
 
 document.addEventListener('paste', event => {
   if (!event.target.matches('input, textarea'))

@@ -505,6 +505,39 @@ async function inBrowser(browser) {
     quiet();
   });
 
+  await check('a packet in the address', async () => {
+    const raw = packet(5000, 5001, 7, data(1, 1, 1, 51, '<b>linked</b>')), hexadecimal = Buffer.from(raw).toString('hex');
+    await browser.open(`${url}#hex=${hexadecimal}`);
+    await browser.done();
+    await titled('Packet 1');
+    assert.equal(await count(), 1);
+    assert.match((await browser.ask(ROWS))[0], /5000 → 5001.*DATA“<b>linked<\/b>”/);
+    assert.equal(await copied('#copy-link'), `${url}#hex=${hexadecimal}`);
+    // A link's address is sent nowhere, and one that holds no packet is answered.
+    assert.deepEqual(browser.requests.filter(it => !it.startsWith('blob:') && it.split('#')[0] !== url), []);
+    for (const text of ['<img src=x onerror=hacked=1>', '0', '']) {
+      await browser.ask(`location.hash = ${JSON.stringify(`#hex=${text}`)}`);
+      await browser.until("document.getElementById('no-link').checkVisibility()");
+      assert.equal(await browser.ask('document.querySelectorAll("img").length + (window.hacked ?? 0)'), 0);
+      await browser.click('#again');
+    }
+    await browser.ask('delete document.body.dataset.done');
+    await browser.ask(`location.hash = '#hex=${Buffer.from(packet(9, 10, 7, chunk(11, 0))).toString('hex')}'`);
+    await browser.done();
+    await wait(100);
+    assert.match((await browser.ask(ROWS))[0], /9 → 10.*COOKIE ACK/);
+    // What doesn't fit an address, or was cut off, has no link.
+    const long = ip(A, B, packet(1, 2, 3, data(1, 1, 1, 51, 'x'.repeat(1000)))), cut = ip(A, B, packet(1, 2, 3, data(1, 1, 1, 51, 'cut')));
+    await show(file('unlinked.pcap', pcap([[0, long], [1, cut, 50], [2, ip(A, B, raw)]])));
+    for (const [number, isDisabled] of [[1, true], [2, true], [3, false]]) {
+      await filter(`packet:${number}`);
+      await titled(`Packet ${number}`);
+      assert.equal(await browser.ask("document.getElementById('copy-link').disabled"), isDisabled, `packet ${number}`);
+    }
+    await browser.open(url);
+    quiet();
+  });
+
   await check('two captures, one after the other', async () => {
     const other = pcap([[0, ip('192.0.2.1', '192.0.2.2', packet(7, 8, 9, data(5, 0, 0, 51, 'other')))]]);
     const labels = () => browser.ask(all('#drawing .arrow', "it.getAttribute('aria-label')"));

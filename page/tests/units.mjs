@@ -7,7 +7,7 @@ import { inspect } from 'node:util';
 import { reasonOf, sentencesOf } from '../src/answer.mjs';
 import { Associations, sorted } from '../src/associations.mjs';
 import { Diagram, stepOf } from '../src/diagram.mjs';
-import { cArray, hexadecimal, pcapOf } from '../src/copies.mjs';
+import { cArray, hexadecimal, linkOf, packetIn, pcapOf } from '../src/copies.mjs';
 import { bytesOf, Fields, nodesOf, ownersOf, valueOf } from '../src/fields.mjs';
 import { namedApart } from '../src/files.mjs';
 import { filterOf, FOUND, strangeWords } from '../src/filter.mjs';
@@ -431,6 +431,15 @@ each('hexadecimal', hexadecimal, [[[], ''], [[0, 15, 255], '000fff']]);
 each('an array in C', cArray, [
   [Uint8Array.from([0, 255]), 'static const unsigned char packet[2] = {\n  0x00, 0xff,\n};\n'],
   [new Uint8Array(13), `static const unsigned char packet[13] = {\n  ${Array(12).fill('0x00,').join(' ')}\n  0x00,\n};\n`],
+]);
+each('a link', linkOf, [
+  ['https://a.example/sctp.html#hex=ff', Uint8Array.from([1, 171]), 'https://a.example/sctp.html#hex=01ab'],
+  ['https://a.example/', new Uint8Array(988), `https://a.example/#hex=${'00'.repeat(988)}`],
+  ['https://a.example/', new Uint8Array(989), undefined], ['https://a.example/', new Uint8Array(), undefined],
+]);
+each('the packet in an address', packetIn, [
+  ['', undefined], ['#a', undefined], ['#hex=', ''], ['#hex=0', ''], ['#hex=01aB', '01aB'], ['#hex=0x', ''], ['#hex=<img>', ''],
+  ['#hex=01\n1', ''], [`#hex=${'0'.repeat(131070)}`, '0'.repeat(131070)], [`#hex=${'0'.repeat(131072)}`, ''],
 ]);
 // The pcap file format has a header of 24 bytes, whose last four are the link type, and one of 16 for each packet.
 each('a pcap file', (...packets) => hexadecimal(new Uint8Array(pcapOf(packets))).slice(40), [
