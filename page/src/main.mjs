@@ -36,6 +36,8 @@ async function open(files) {
   asked++;
   byId('name').textContent = document.title = shown(files.map(it => it.name).join(', '), 100);
   byId('status').textContent = byId('status').className = byId('filter').value = '';
+  // (what is rewritten while the capture is read would be read out each time)
+  byId('status').ariaLive = 'off';
   byId('progress').max = files.reduce((sum, it) => sum + it.size, 0) || 1;
   byId('progress').value = 0;
   byId('stop').hidden = byId('progress').hidden = byId('again').hidden = false;
@@ -83,6 +85,7 @@ function end(result, started) {
   store.finish(result, started === undefined);
   byId('stop').hidden = byId('progress').hidden = true;
   const time = started === undefined ? ': stopped' : ` in ${((performance.now() - started) / 1000).toFixed(1)} s`;
+  byId('status').ariaLive = 'polite';
   const sentences = store.packets ? sentencesOf(store).join(' ').replaceAll('`', '') : '';
   byId('status').textContent = sentences || counted(store.packets, 'packet') + time + skippedText(store.summary);
   byId('status').className = sentences ? 'bad' : '';
@@ -220,7 +223,7 @@ const COUNTS = FOUND.map(([word, texts, count]) => {
   const button = element('button');
   button.addEventListener('click', () => filterBy(byId('filter').value === word ? '' : word));
   byId('counts').append(button);
-  return { button, texts, count };
+  return { button, word, texts, count };
 });
 
 /** Says how much the filter passes, or which of its words are none; and what was found. */
@@ -230,9 +233,10 @@ function showFound() {
   byId('found').textContent = strange.length ? `not known: ${shown(strange.join(' '), 60)}` : found;
   for (const id of ['filter', 'found'])
     byId(id).classList.toggle('bad', strange.length > 0);
-  for (const { button, texts, count } of COUNTS) {
+  for (const { button, word, texts, count } of COUNTS) {
     button.hidden = !count(store);
     button.textContent = counted(count(store), ...texts);
+    button.ariaPressed = byId('filter').value === word;
   }
   showAnswer(isFiltered);
 }

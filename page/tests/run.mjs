@@ -336,7 +336,9 @@ async function inBrowser(browser) {
     assert.equal(await browser.ask(by('#filter', 'value')), '');
     assert.equal(await focused(), 'list');
     // Where the focus is, is seen.
-    assert.notEqual(await browser.ask("getComputedStyle(document.activeElement).outlineStyle"), 'none');
+    // (a list's ring is its border)
+    const ring = "(it => it.outlineStyle !== 'none' || it.borderTopColor !== 'rgba(0, 0, 0, 0)')(getComputedStyle(document.activeElement))";
+    assert.ok(await browser.ask(ring));
     quiet();
   });
 
@@ -687,7 +689,7 @@ async function inBrowser(browser) {
     const inView = () => browser.ask(`(() => {
       const box = document.getElementById('list').getBoundingClientRect();
       const rows = ${ROW_PLACES}.filter(it => it.bottom > box.top && it.top < box.bottom).sort((a, b) => a.top - b.top);
-      const isFull = rows[0].top <= box.top + 1 && rows.at(-1).bottom >= box.bottom - 1;
+      const isFull = rows[0].top <= box.top + 3 && rows.at(-1).bottom >= box.bottom - 3;
       return { isFull, numbers: rows.map(it => it.number) };
     })()`);
     const isRun = ({ isFull, numbers }) => isFull && numbers.every((it, i) => it === numbers[0] + i);
@@ -712,8 +714,10 @@ async function inBrowser(browser) {
   await check('a run that is stopped', async () => {
     await browser.choose(large);
     await browser.until("document.getElementById('list').getAttribute('aria-rowcount') > 100");
+    const live = await browser.ask(by('#status', 'ariaLive'));
     await browser.click('#stop');
     assert.match(await browser.ask(by('#status')), /packets: stopped/);
+    assert.equal(live, 'off');
     const read = await count();
     assert.ok(read > 100 && read < 20000, `${read} packets`);
     await browser.ask("document.getElementById('list').focus()");
@@ -771,6 +775,32 @@ async function inBrowser(browser) {
     quiet();
   });
 
+  await check('what is chosen and focused is seen, also in forced colours', async () => {
+    await browser.open(url);
+    await show(withRefused);
+    const style = (selector, name) => browser.ask(`getComputedStyle(document.querySelector('${selector}'))['${name}']`);
+    // The ring of a list is outside of its rows.
+    await browser.click('#list .row');
+    await browser.press('ArrowDown');
+    assert.equal(await style('#list', 'borderTopColor'), 'rgb(26, 86, 196)');
+    const [row, box] = await browser.ask(all('#list .current, #list', 'it.getBoundingClientRect().toJSON()')).then(it => [it[1], it[0]]);
+    assert.ok(row.left >= box.left + 2 && row.right <= box.right - 2, JSON.stringify([row, box]));
+    await browser.click('#counts button');
+    assert.equal(await browser.ask(by('#counts button', 'ariaPressed')), 'true');
+    await browser.click('#counts button');
+    assert.equal(await browser.ask(by('#counts button', 'ariaPressed')), 'false');
+    await filter('refused');
+    await browser.send('Emulation.setEmulatedMedia', { features: [{ name: 'forced-colors', value: 'active' }] });
+    await browser.until("document.querySelector('#bytes .fault')");
+    for (const selector of ['#list .current', '#tree .current', '#bytes .fault', '#tab-packets'])
+      assert.notEqual(await style(selector, 'outlineStyle'), 'none', selector);
+    await browser.look('light');
+    // While a capture is read, nothing of it is read out; its end is.
+    assert.equal(await browser.ask(by('#status', 'ariaLive')), 'polite');
+    assert.equal(await browser.ask("document.getElementById('marked').matches('output, [aria-live]')"), false);
+    quiet();
+  });
+
   await check('a phone', async () => {
     await browser.open(url, { width: 390, height: 800, isPhone: true });
     await show(withRefused);
@@ -792,6 +822,15 @@ async function inBrowser(browser) {
     await browser.tap('#list .row:nth-child(5)');
     await wait(200);
     assert.match(await browser.ask(by('#title')), /^Packet \d+$/);
+    // What is tapped has at least 24 px each way (WCAG 2.2, 2.5.8).
+    const TAPPED = 'button:not(.link), select, #bytes .row > .byte, .node, .twist:not(:empty), #list .row';
+    for (const view of ['diagram', 'associations', 'packets']) {
+      await browser.click(`#tab-${view}`);
+      await wait(100);
+      const small = `it.checkVisibility() && (({ width, height }) => Math.min(width, height) < 24)(it.getBoundingClientRect())
+        && it.outerHTML.slice(0, 80)`;
+      assert.deepEqual((await browser.ask(all(TAPPED, small))).filter(it => it), [], view);
+    }
     await browser.tap('#byte-13');
     await wait(200);
     assert.match(await browser.ask(by('#marked')), / › flags: byte 13/);
@@ -806,7 +845,7 @@ async function inBrowser(browser) {
     const named = nodes.filter(it => !it.ignored).map(it => [it.role?.value, it.name?.value ?? '']);
     for (const role of ['button', 'tab', 'grid', 'tree', 'searchbox', 'combobox', 'treeitem', 'row', 'textbox', 'listbox'])
       assert.deepEqual(named.filter(([its, name]) => its === role && !name), [], role);
-    for (const role of ['tab', 'grid', 'tree', 'treeitem', 'row', 'gridcell', 'searchbox', 'tablist', 'tabpanel', 'main'])
+    for (const role of ['tab', 'grid', 'tree', 'treeitem', 'row', 'gridcell', 'searchbox', 'tablist', 'tabpanel', 'main', 'columnheader'])
       assert.ok(named.some(([its]) => its === role), role);
     quiet();
   });
