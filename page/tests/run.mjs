@@ -816,6 +816,11 @@ async function inBrowser(browser) {
     await wait(100);
     const right = await browser.ask(all('#association-rows .row > span', 'it.getBoundingClientRect().right'));
     assert.ok(right.length >= 11 && Math.max(...right) <= 390, `${Math.max(...right)}`);
+    // (where nothing can be pointed at, no number is cut)
+    const cut = await browser.ask(all('#association-rows .amount', 'it.scrollWidth > it.clientWidth && it.textContent'));
+    assert.deepEqual(cut.filter(it => it), []);
+    const [row, last] = await browser.ask(all('#association-rows [data-index="0"], #association-rows [data-index="0"] > :last-child', 'it.getBoundingClientRect().bottom'));
+    assert.ok(last <= row, `${last} ${row}`);
     await show(withRefused);
     const [tree, hexadecimal] = await browser.ask(all('#tree, #bytes', 'it.getBoundingClientRect().toJSON()'));
     assert.ok(hexadecimal.top >= tree.bottom && tree.width > 380 && hexadecimal.width > 380, 'one column');
