@@ -19,8 +19,8 @@ last line is that of `rt ci`.
   --help   prints this
 
 Without the toolchain rt it runs what needs none, with and without --quick: the comparisons, the texts in dist/ in each language
-that is installed, among them sctp_dump with each option, the C tests over the text, the commands of the pages, and the scripts
-of the page. It names what it leaves out. Where a text is older than its sources, and a step over the texts fails, the failure
+that is installed, among them sctp_dump with each option, the C tests over the text, the commands of the pages, and the page.
+It names what it leaves out. Where a text is older than its sources, and a step over the texts fails, the failure
 is printed, but not counted. The last line says that nothing was proved, and ends in N passed, M failed'
 
 quick=
