@@ -49,6 +49,11 @@ def sources():
     return without_comments('\n'.join(texts))
 
 
+def kinds_of(text):
+    """The header without the constants of which the library knows no number: registry/make.py writes them."""
+    return re.sub(r'^ *DCSCTP_(\w+ = \w+,? +/\* bytes to this library|RE_CONFIG_).*\n', '', text, flags=re.M)
+
+
 def listed(text, separator):
     return [part.strip() for part in text.split(separator) if part.strip()]
 
@@ -171,13 +176,6 @@ def constants_of_library():
     codes['FIRST_CHUNK'] = size[1]
     bit = re.search(r'\btag_reflected: is_set\(flags, (\d)\)', read('crates/dcsctp_chunk/src/shutdown_complete_chunk.rt'))
     codes['TAG_REFLECTED'] = str(1 << int(bit[1]))
-    # what the library knows no kind of, from RFC 9260 (sections 3.3.3.1 and 3.3.10) and RFC 6525 (section 4.4)
-    codes |= {'PARAMETER_UNRECOGNIZED_PARAMETER': '8'}
-    codes |= {f'CAUSE_{name}': str(code) for code, name in (
-        (1, 'INVALID_STREAM_IDENTIFIER'), (3, 'STALE_COOKIE'), (4, 'OUT_OF_RESOURCE'), (5, 'UNRESOLVABLE_ADDRESS'),
-        (7, 'INVALID_MANDATORY_PARAMETER'), (8, 'UNRECOGNIZED_PARAMETERS'), (11, 'RESTART_WITH_NEW_ADDRESSES'))}
-    codes |= {f'RE_CONFIG_{name}': str(result) for result, name in enumerate((
-        'NOTHING_TO_DO', 'PERFORMED', 'DENIED', 'WRONG_SSN', 'ALREADY_IN_PROGRESS', 'BAD_SEQUENCE_NUMBER', 'IN_PROGRESS'))}
     return {name: int(value, 0) for name, value in codes.items()}
 
 
@@ -257,7 +255,7 @@ def must_fail(text, library):
     for what, old, new in CHANGES:
         if text.count(old) != 1:
             sys.exit(f'check_header: the header has no place, or more than one, where {what}')
-        found = list(differences(header_side(text.replace(old, new)), library))
+        found = list(differences(header_side(kinds_of(text.replace(old, new))), library))
         if not found:
             sys.exit(f'check_header: not noticed: {what}')
         print(f'noticed: {what}: {found[0]}')
@@ -273,7 +271,7 @@ def main():
         sys.exit(2)
     try:
         text, library = read(HEADER), library_side()
-        found = list(differences(header_side(text), library))
+        found = list(differences(header_side(kinds_of(text)), library))
         if found:
             sys.exit('\n'.join([f'{HEADER} and {CRATE} differ:', *found]))
         if words:

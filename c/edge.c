@@ -1069,11 +1069,32 @@ static const char *cause_name(uint32_t code)
     return dcsctp_cause_name((uint16_t)code);
 }
 
+/* Whether a text is the name of a number, or says what it is and both of its forms. */
+static bool is_text(const char *text, const char *name, const char *form, uint32_t number)
+{
+    char numbered[64];
+    snprintf(numbered, sizeof numbered, form, number, number);
+    return !strcmp(text, strcmp(name, "unknown") ? name : numbered);
+}
+
+static bool are_texts(void)
+{
+    char text[DCSCTP_TEXT_SIZE];
+    for (uint32_t i = 0; i < 65536; i++)
+        if (!is_text(dcsctp_parameter_text((uint16_t)i, text), parameter_name(i), "parameter type %u (0x%04x)", i)
+            || !is_text(dcsctp_cause_text((uint16_t)i, text), cause_name(i), "cause code %u (0x%04x)", i)
+            || (i < 256 && !is_text(dcsctp_chunk_text((uint8_t)i, text), chunk_name(i), "chunk type %u (0x%02x)", i)))
+            return false;
+    return true;
+}
+
 static void names(void)
 {
-    CHECK(named(chunk_name, 256, "unknown") == 17 && !strcmp(dcsctp_chunk_name(14), "SHUTDOWN COMPLETE") && !strcmp(dcsctp_chunk_name(0), "DATA"));
-    CHECK(named(parameter_name, 65536, "unknown") == 12 && !strcmp(dcsctp_parameter_name(0x8008), "Supported Extensions"));
-    CHECK(named(cause_name, 65536, "unknown") == 13 && !strcmp(dcsctp_cause_name(13), "Protocol Violation"));
+    CHECK(named(chunk_name, 256, "unknown") == 25 && !strcmp(dcsctp_chunk_name(14), "SHUTDOWN COMPLETE") && !strcmp(dcsctp_chunk_name(0), "DATA"));
+    CHECK(named(parameter_name, 65536, "unknown") == 28 && !strcmp(dcsctp_parameter_name(0x8008), "Supported Extensions"));
+    CHECK(named(cause_name, 65536, "unknown") == 19 && !strcmp(dcsctp_cause_name(13), "Protocol Violation"));
+    CHECK(named(dcsctp_re_config_result_name, 65536, "unknown") == 7 && !strcmp(dcsctp_re_config_result_name(2), "Denied"));
+    CHECK(are_texts());
     CHECK(named(dcsctp_result_text, 65536, "unknown result") == 11 && !strcmp(dcsctp_result_text(7), "no room"));
     CHECK(!strcmp(dcsctp_version(), DCSCTP_VERSION));
     CHECK(dcsctp_version_number() == DCSCTP_VERSION_NUMBER && DCSCTP_VERSION_NUMBER == 256);

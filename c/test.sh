@@ -62,9 +62,9 @@ finish() {
 
 # ---- what is visible
 
-# Those of the library: the header's own are `static inline`.
+# Those of the library: the header's own are `static inline`, and call others in lines that begin with blanks.
 functions() {
-    grep -v '^static inline' include/dcsctp.h | grep -o 'dcsctp_[a-z_]*(' | tr -d '(' | sort -u
+    grep '^[a-z]' include/dcsctp.h | grep -v '^static inline' | grep -o 'dcsctp_[a-z_]*(' | tr -d '(' | sort -u
 }
 
 archive_has_the_functions_alone() {
@@ -170,7 +170,7 @@ page_has_the_functions() {
 
 page_has_the_codes() {
     diff <(sed -n 's/^| `\(DCSCTP_[A-Z_]*\)` \([0-9]*\) |.*/\1 = \2/p' docs/C.md) \
-        <(sed -n 's/^    \(DCSCTP_[A-Z_]* = [0-9]*\),\{0,1\} *\/\*.*/\1/p' include/dcsctp.h)
+        <(sed -n '/^enum dcsctp_result /,/^}/s/^    \(DCSCTP_[A-Z_]* = [0-9]*\),\{0,1\} *\/\*.*/\1/p' include/dcsctp.h)
 }
 
 # The program of docs/C.md: it prints what the page says; the first packet is an INIT, whose answer is the first of

@@ -557,11 +557,13 @@ void names()
     CHECK(std::string_view(name(cause_code::stale_cookie)) == "Stale Cookie");
     CHECK(is_known(chunk_type::data) && is_known(parameter_type::unrecognized_parameter) && is_known(cause_code::no_user_data));
     CHECK(!is_known(static_cast<chunk_type>(99)) && !is_known(static_cast<parameter_type>(99)));
-    CHECK(!is_known(static_cast<cause_code>(99)) && to_string(static_cast<cause_code>(99)) == "unknown (99)");
-    CHECK(to_string(chunk_type::i_data) == "I-DATA" && to_string(static_cast<chunk_type>(99)) == "unknown (99)");
+    CHECK(!is_known(static_cast<cause_code>(99)) && to_string(static_cast<cause_code>(99)) == "cause code 99 (0x0063)");
+    CHECK(to_string(chunk_type::i_data) == "I-DATA" && to_string(static_cast<chunk_type>(99)) == "chunk type 99 (0x63)");
     CHECK(to_string(parameter_type::state_cookie) == "State Cookie" && to_string(cause_code::stale_cookie) == "Stale Cookie");
-    CHECK(to_string(static_cast<parameter_type>(0x8002)) == "unknown (0x8002)");
-    CHECK(to_string(static_cast<parameter_type>(0xabc)) == "unknown (0x0abc)");
+    CHECK(to_string(static_cast<parameter_type>(0x8006)) == "parameter type 32774 (0x8006)");
+    CHECK(to_string(static_cast<parameter_type>(0xabc)) == "parameter type 2748 (0x0abc)");
+    // RFC 4895 sections 3.1 and 5.1.
+    CHECK(to_string(parameter_type::random) == "Random" && to_string(static_cast<chunk_type>(15)) == "AUTH");
     // RFC 6525 section 4.4.
     CHECK(to_string(re_config_result::nothing_to_do) == "Success - Nothing to do" && is_known(re_config_result::in_progress));
     CHECK(to_string(re_config_result::performed) == "Success - Performed" && to_string(re_config_result::denied) == "Denied");
@@ -569,7 +571,7 @@ void names()
     CHECK(to_string(re_config_result::already_in_progress) == "Error - Request already in progress");
     CHECK(to_string(re_config_result::bad_sequence_number) == "Error - Bad Sequence Number");
     CHECK(to_string(re_config_result::in_progress) == "In progress" && !is_known(static_cast<re_config_result>(7)));
-    CHECK(to_string(static_cast<re_config_result>(7)) == "unknown (7)");
+    CHECK(to_string(static_cast<re_config_result>(7)) == "result 7");
     CHECK(to_string(result_code::fault_padding) == "wrong padding" && name(result_code::ok) == to_string(result_code::ok));
     CHECK(std::string_view(version()) == DCSCTP_VERSION && library_version_number() == version_number);
 }

@@ -45,7 +45,7 @@ test('the structs are the header\'s', () => {
   assert.deepEqual(Object.fromEntries(own), found);
 });
 
-test('the constants and names are the header\'s', () => {
+test('the constants and texts are the header\'s', () => {
   const constants = [...header.matchAll(/\bDCSCTP_([A-Z_0-9]+) = (\w+)/g)].map(it => [it[1], Number(it[2])]);
   const from = prefix => Object.fromEntries(constants.filter(it => it[0].startsWith(prefix))
     .map(([name, value]) => [name.slice(prefix.length), value]));
@@ -61,30 +61,23 @@ test('the constants and names are the header\'s', () => {
   assert.equal(constants.length, counted + ['FIRST_CHUNK', 'TAG_REFLECTED'].length);
   assert.match(header, new RegExp(`DCSCTP_FIRST_CHUNK = ${davgyuti.FIRST_CHUNK} `));
   assert.match(header, new RegExp(`DCSCTP_TAG_REFLECTED = ${davgyuti.TAG_REFLECTED} `));
-  const named = {
-    result_text: ['', davgyuti.Result, davgyuti.resultText], chunk_name: ['CHUNK_', davgyuti.ChunkType, davgyuti.chunkName],
-    parameter_name: ['PARAMETER_', davgyuti.ParameterType, davgyuti.parameterName],
-    cause_name: ['CAUSE_', davgyuti.CauseCode, davgyuti.causeName],
-  };
-  for (const [name, [prefix, values, text]] of Object.entries(named)) {
-    const body = header.match(new RegExp(`dcsctp_${name}\\([^]*?\n}`))[0];
-    const cases = [...body.matchAll(/case DCSCTP_(\w+): return "(.*)";/g)];
-    assert.equal(cases.length, Object.keys(values).length);
-    for (const [, constant, said] of cases)
-      assert.equal(text(values[constant.slice(prefix.length)]), said);
-  }
+  const body = header.match(/dcsctp_result_text\([^]*?\n}/)[0];
+  for (const [, constant, said] of body.matchAll(/case DCSCTP_(\w+): return "(.*)";/g))
+    assert.equal(davgyuti.resultText(davgyuti.Result[constant]), said);
   assert.equal(davgyuti.resultText(99), header.match(/dcsctp_result_text[^]*?default: return "(.*)";/)[1]);
 });
 
 test('a number without a name is in its name', () => {
-  assert.deepEqual([davgyuti.chunkName(0x4d), davgyuti.chunkName(255)], ['chunk type 0x4d', 'chunk type 0xff']);
-  assert.deepEqual([davgyuti.parameterName(0x8002), davgyuti.parameterName(0)], ['parameter type 0x8002', 'parameter type 0x0000']);
-  // RFC 4895 section 4.1: Unsupported HMAC Identifier.
-  assert.equal(davgyuti.causeName(0x0105), 'cause code 0x0105');
+  assert.deepEqual([davgyuti.chunkName(15), davgyuti.parameterName(5)], ['AUTH', 'IPv4 Address']); // RFC 4895, 9260
+  assert.deepEqual([davgyuti.chunkName(0x4d), davgyuti.chunkName(255)], ['chunk type 77 (0x4d)', 'chunk type 255 (0xff)']);
+  assert.deepEqual([davgyuti.parameterName(0x8006), davgyuti.parameterName(0)], ['parameter type 32774 (0x8006)', 'parameter type 0 (0x0000)']);
+  assert.equal(davgyuti.causeName(99), 'cause code 99 (0x0063)');
+  // RFC 4895 section 4.1.
+  assert.equal(davgyuti.causeName(0x0105), 'Unsupported HMAC Identifier');
   const { isKnownChunk, isKnownParameter, isKnownCause } = davgyuti;
   assert.deepEqual([3, 0x4d, '3', '__proto__', undefined].map(isKnownChunk), [true, false, false, false, false]);
-  assert.deepEqual([7, 0x8002].map(isKnownParameter), [true, false]);
-  assert.deepEqual([13, 0x0105].map(isKnownCause), [true, false]);
+  assert.deepEqual([7, 0x8006].map(isKnownParameter), [true, false]);
+  assert.deepEqual([13, 99].map(isKnownCause), [true, false]);
 });
 
 test('only a number has a name', () => {

@@ -14,6 +14,9 @@ HERE = os.path.dirname(os.path.abspath(__file__))
 # Where the package's sources are, if they are beside the tests.
 SOURCES = os.path.dirname(HERE) if os.path.exists(os.path.join(HERE, os.pardir, "backend.py")) else ""
 ANY_CHECKSUM = davgyuti.Policy(any_checksum=True)
+# What is a kind of its own; the other types and codes are raw.
+CHUNK_KINDS = {0, 1, 2, 3, 4, 5, 6, 7, 8, 9, 10, 11, 14, 64, 130, 192, 194}
+PARAMETER_KINDS = {1, 7, 13, 14, 15, 16, 17, 18, 0x8001, 0x8008, 0xC000}
 
 
 def module(name: str, *path: str) -> ModuleType:

@@ -7,7 +7,7 @@ import random
 import unittest
 
 import davgyuti
-from support import ANY_CHECKSUM, mutated, packets
+from support import ANY_CHECKSUM, CHUNK_KINDS, PARAMETER_KINDS, mutated, packets
 
 COUNT = 4000
 # Of these kinds there is something to read where the list ends too early, or the cookie is empty.
@@ -66,16 +66,15 @@ class Hostile(unittest.TestCase):
                 value = random.Random(size).randbytes(size)
                 data = bytes(12) + bytes((kind, 0)) + (4 + size).to_bytes(2, "big") + value
                 (chunk,) = davgyuti.chunks(data)
-                is_raw = davgyuti.first_fault(data, ANY_CHECKSUM) is not None or kind == 200
+                is_raw = davgyuti.first_fault(data, ANY_CHECKSUM) is not None or kind not in CHUNK_KINDS
                 if not (is_raw and kind in LENIENT):
                     self.assertEqual(isinstance(chunk, davgyuti.RawChunk), is_raw, (kind, size))
-        raw_parameters = (davgyuti.ParameterType.UNRECOGNIZED_PARAMETER, 0x8002)
-        for kind in (*davgyuti.ParameterType, 0x8002):
+        for kind in (*davgyuti.ParameterType, 0x8006):
             for size in range(30):
                 item = kind.to_bytes(2, "big") + (4 + size).to_bytes(2, "big") + bytes(size)
                 data = bytes(12) + b"\x82\x00" + (4 + len(item)).to_bytes(2, "big") + item
                 ((parameter,),) = (it.parameters for it in davgyuti.chunks(data) if isinstance(it, davgyuti.ReConfig))
-                is_kind = kind not in raw_parameters and davgyuti.first_fault(data, ANY_CHECKSUM) is None
+                is_kind = kind in PARAMETER_KINDS and davgyuti.first_fault(data, ANY_CHECKSUM) is None
                 self.assertEqual(not isinstance(parameter, davgyuti.RawParameter), is_kind, (kind, size))
         kinds = (2, 6, 9, 10, 12, 13)
         for kind in (*davgyuti.CauseCode, 0):

@@ -6,7 +6,7 @@ from collections.abc import Callable
 
 import davgyuti
 from davgyuti import PacketBuilder, ReConfigResult
-from support import ANY_CHECKSUM, of_hex
+from support import ANY_CHECKSUM, CHUNK_KINDS, of_hex
 
 HEADER = of_hex("1388 1389 01020304 00000000")
 
@@ -274,7 +274,7 @@ class Kinds(unittest.TestCase):
 
     def test_all_kinds_are_here(self) -> None:
         types = {of_hex(text)[0] for text, _, _ in CHUNKS}
-        self.assertEqual(types, {*davgyuti.ChunkType, 200})
+        self.assertEqual(types, {*CHUNK_KINDS, 200})
 
     def test_bundled(self) -> None:
         builder = PacketBuilder(5000, 5001, 0x01020304)

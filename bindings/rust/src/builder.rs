@@ -249,8 +249,8 @@ impl<'a> PacketBuilder<'a> {
     /// ```
     /// # let mut buffer = [0; 100];
     /// # let mut packet = davgyuti::PacketBuilder::begin(&mut buffer, 5000, 5001, 7)?;
-    /// // ECNE (RFC 9260 appendix B), of TSN 9.
-    /// packet.chunk(davgyuti::ChunkType(12), 0, &[0, 0, 0, 9])?;
+    /// // of TSN 9
+    /// packet.chunk(davgyuti::ChunkType::ECNE, 0, &[0, 0, 0, 9])?;
     /// assert_eq!(packet.as_bytes()[12..], [12, 0, 0, 8, 0, 0, 0, 9]);
     /// # Ok::<(), davgyuti::WriteError>(())
     /// ```

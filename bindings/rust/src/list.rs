@@ -192,7 +192,7 @@ impl<'a> Parameter<'a> {
     ///
     /// /// What this side knows of the parameters of an INIT.
     /// const KNOWN: [ParameterType; 3] = [
-    ///     ParameterType(12), // Supported Address Types (RFC 9260 section 3.3.2.1.4)
+    ///     ParameterType::SUPPORTED_ADDRESS_TYPES,
     ///     ParameterType::SUPPORTED_EXTENSIONS,
     ///     ParameterType::FORWARD_TSN_SUPPORTED,
     /// ];

@@ -5,7 +5,6 @@
 const HEADER: &str = include_str!("../../../dist/dcsctp.h");
 const FFI: &str = include_str!("../src/ffi.rs");
 const VALUES: &str = include_str!("../src/values.rs");
-const TYPES: &str = include_str!("../src/types.rs");
 
 /// Text without C's comments.
 fn without_comments(text: &str) -> String {
@@ -141,56 +140,6 @@ fn structs_are_those_of_the_header() {
     expected.sort();
     assert_eq!(expected.len(), 11);
     assert_eq!(declared, expected);
-}
-
-/// The named numbers of the header that begin so, each with its name as text.
-fn names_of_header(kind: &str, function: &str) -> Vec<(String, u16, String)> {
-    let body = HEADER.split(&format!("{function}(uint")).nth(1).unwrap();
-    let body = body.split("\n}").next().unwrap();
-    let text = words(&without_comments(HEADER));
-    let prefix = format!("DCSCTP_{kind}_");
-    let constants = text.split(&prefix).skip(1).filter_map(|it| {
-        let (name, rest) = it.split_once(" = ")?;
-        let number = rest.split([',', ' ']).next()?;
-        let number = match number.strip_prefix("0x") {
-            Some(digits) => u16::from_str_radix(digits, 16).ok()?,
-            None => number.parse().ok()?,
-        };
-        let case = format!("case DCSCTP_{kind}_{name}: return \"");
-        let text = body.split(&case).nth(1)?.split('"').next()?;
-        Some((name.to_string(), number, text.to_string()))
-    });
-    constants.filter(|(name, _, _)| !name.contains(' ')).collect()
-}
-
-/// The same of `src/types.rs`.
-fn names_declared(kind: &str) -> Vec<(String, u16, String)> {
-    let text = TYPES.split(&format!("    {kind}(u")).nth(1).unwrap().split("\n}").next().unwrap();
-    let constants = text.lines().filter_map(|line| {
-        let (name, rest) = line.trim().split_once(" = ")?;
-        let (number, text) = rest.split_once(", ")?;
-        let number = match number.strip_prefix("0x") {
-            Some(digits) => u16::from_str_radix(digits, 16).ok()?,
-            None => number.parse().ok()?,
-        };
-        Some((name.to_string(), number, text.trim_matches([';', '"']).to_string()))
-    });
-    constants.collect()
-}
-
-#[test]
-fn names_are_those_of_the_header() {
-    for (kind, function, declared, count) in [
-        ("CHUNK", "dcsctp_chunk_name", "ChunkType", 17),
-        ("PARAMETER", "dcsctp_parameter_name", "ParameterType", 12),
-        ("CAUSE", "dcsctp_cause_name", "CauseCode", 13),
-    ] {
-        let (mut names, mut own) = (names_of_header(kind, function), names_declared(declared));
-        names.sort();
-        own.sort();
-        assert_eq!(names.len(), count, "{names:#?}");
-        assert_eq!(own, names);
-    }
 }
 
 #[test]

@@ -483,12 +483,12 @@ fn names() {
     assert_eq!(ChunkType(77).name(), "unknown");
     assert_eq!(
         format!("{} {}", ChunkType::COOKIE_ACK, ChunkType(77)),
-        "COOKIE ACK chunk type 0x4d"
+        "COOKIE ACK chunk type 77 (0x4d)"
     );
     assert_eq!(format!("{:>6}", ChunkType::SACK), "  SACK");
     assert_eq!(ParameterType::STATE_COOKIE.name(), "State Cookie");
-    assert_eq!(ParameterType(99).to_string(), "parameter type 0x0063");
+    assert_eq!(ParameterType(99).to_string(), "parameter type 99 (0x0063)");
     assert_eq!(CauseCode::NO_USER_DATA.name(), "No User Data");
-    assert_eq!(CauseCode(99).to_string(), "cause code 0x0063");
+    assert_eq!(CauseCode(99).to_string(), "cause code 99 (0x0063)");
     assert_eq!((u8::from(ChunkType::SACK), ChunkType::from(3)), (3, ChunkType::SACK));
 }

@@ -117,7 +117,7 @@ fn chunks_are_readable() {
             "Chunk { type: INIT, flags: 0x00, content: Init(Init { initiate_tag: 1, a_rwnd: 2, \
              outbound_streams: 3, inbound_streams: 4, initial_tsn: 5 }, \
              [Parameter { type: Supported Extensions, \
-             chunk_types: [RE-CONFIG, chunk type 0xfe] }, \
+             chunk_types: [RE-CONFIG, chunk type 254 (0xfe)] }, \
              Parameter { type: Forward-TSN-Supported, value: b\"\" }, \
              Parameter { type: Zero Checksum Acceptable, number: 1 }]) }",
         ),
@@ -135,7 +135,7 @@ fn chunks_are_readable() {
         (
             "05000008 80020004",
             "Chunk { type: HEARTBEAT ACK, flags: 0x00, content: \
-             HeartbeatAck([Parameter { type: parameter type 0x8002, value: b\"\" }]) }",
+             HeartbeatAck([Parameter { type: Random, value: b\"\" }]) }",
         ),
         (
             "06010009 000c0005 21000000",
@@ -151,7 +151,7 @@ fn chunks_are_readable() {
             "09000018 0002000c 00000002 0007fffe 00090008 00000001",
             "Chunk { type: ERROR, flags: 0x00, content: Error([\
              Cause { code: Missing Mandatory Parameter, \
-             types: [State Cookie, parameter type 0xfffe] }, \
+             types: [State Cookie, parameter type 65534 (0xfffe)] }, \
              Cause { code: No User Data, number: 1 }]) }",
         ),
         (
@@ -187,7 +187,7 @@ fn chunks_are_readable() {
         ),
         (
             "4d050006 01020000",
-            "Chunk { type: chunk type 0x4d, flags: 0x05, value: b\"\\x01\\x02\" }",
+            "Chunk { type: chunk type 77 (0x4d), flags: 0x05, value: b\"\\x01\\x02\" }",
         ),
     ] {
         assert_eq!(format!("{:?}", only(&packet(digits))), expected);
@@ -241,13 +241,16 @@ fn lists_are_readable() {
     assert_eq!(format!("{blocks:?}"), "[GapAckBlock { start: 8, end: 258 }]");
 }
 
-/// A number that has no name is shown in hexadecimal, as the RFCs write it: that of RANDOM (RFC 4895
-/// section 3.1), of Unsupported HMAC Identifier (section 4.1) and of AUTH (section 5.1).
+/// A number that has no name is shown in decimal and in hexadecimal. Names without a kind are those
+/// of RFC 4895: Random (section 3.1), Unsupported HMAC Identifier (section 4.1) and AUTH (section 5.1).
 #[test]
 fn names_keep_their_numbers() {
-    assert_eq!(ParameterType(0x8002).to_string(), "parameter type 0x8002");
-    assert_eq!(CauseCode(0x0105).to_string(), "cause code 0x0105");
-    assert_eq!(ChunkType(0x0f).to_string(), "chunk type 0x0f");
+    assert_eq!(ParameterType(0x8006).to_string(), "parameter type 32774 (0x8006)");
+    assert_eq!(CauseCode(99).to_string(), "cause code 99 (0x0063)");
+    assert_eq!(ChunkType(99).to_string(), "chunk type 99 (0x63)");
+    assert_eq!(ParameterType(0x8002).to_string(), "Random");
+    assert_eq!(CauseCode(0x0105).to_string(), "Unsupported HMAC Identifier");
+    assert_eq!(ChunkType(0x0f).to_string(), "AUTH");
     assert_eq!(
         format!("{:x} {:#06X}", ParameterType(0xC000), CauseCode::STALE_COOKIE),
         "c000 0x0003"
@@ -255,7 +258,7 @@ fn names_keep_their_numbers() {
     assert_eq!(format!("{:#04x}", ChunkType::RE_CONFIG), "0x82");
     // Known is what has a name.
     let chunks = (0..=u8::MAX).map(ChunkType);
-    assert_eq!(chunks.filter(|it| it.is_known()).count(), 17);
+    assert_eq!(chunks.filter(|it| it.is_known()).count(), 25);
     for it in (0..=u8::MAX).map(ChunkType) {
         assert_eq!(it.is_known(), it.name() != "unknown");
         assert_eq!(it.is_known(), it.to_string() == it.name());

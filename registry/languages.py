@@ -1,0 +1,374 @@
+# SPDX-License-Identifier: Apache-2.0
+"""What registry/make.py writes of the table, in each language."""
+import re
+import textwrap
+
+HEADER_SIZE = 4
+"""Bytes of a chunk, a parameter or an error cause before its value."""
+
+
+def digits(row, upper=False):
+    """The number as the standards write it: types and codes of extensions in hexadecimal."""
+    if row.number <= (99 if row.level == 'cause' else 255):
+        return str(row.number)
+    return f'0x{row.number:{"X" if upper else "x"}}'
+
+
+def reference(row):
+    """Where the standard says what a thing is."""
+    number, _, section = row.standard.partition(' ')
+    if not number.isdigit():
+        return number
+    return f'RFC {number} {"appendix" if section.isalpha() else "section"} {section}' if section else f'RFC {number}'
+
+
+# ---- Rattle
+
+def rattle_names(rows, argument, form):
+    """The body of a function from a number to a name."""
+    arms = [f'        {row.number:{form}} => Some("{row.name}"),' for row in rows]
+    return '\n'.join([f'    match {argument} {{', *arms, '        _ => None,', '    }'])
+
+
+def rattle_least(rows, argument, form):
+    """The body of a function from a number to the least length and the step."""
+    arms = {}
+    for row in rows:
+        least, _, step = row.least.partition('+')
+        if least not in ('-', '0'):
+            length = HEADER_SIZE + int(least), int(step) if step.isdigit() else 0
+            arms.setdefault(length, []).append(f'{row.number:{form}}')
+    lines = [f'        {" | ".join(numbers)} => {length},' for length, numbers in arms.items()]
+    return '\n'.join([f'    match {argument} {{', *lines, f'        _ => ({HEADER_SIZE}, 0),', '    }'])
+
+
+def rattle_sections(rows, argument, form):
+    """The body of a function from a number to its standard's section."""
+    arms = {}
+    for row in rows:
+        arms.setdefault(reference(row), []).append(f'{row.number:{form}}')
+    lines = [f'        {" | ".join(numbers)} => Some("{section}"),' for section, numbers in arms.items()]
+    return '\n'.join([f'    match {argument} {{', *lines, '        _ => None,', '    }'])
+
+
+RATTLE = '''\
+//! The names of types and codes, and the least lengths. registry/make.py writes this file:
+//! registry/sctp.txt is edited in its place.
+
+// IANA, "SCTP Parameters", "Chunk Types", and {drafts} of drafts.
+/// Returns the name of a chunk type, in the words of its standard; `None` of a type that has none
+/// here.
+pub fn chunk_name(typ: u32) -> Option<&'static str> {{
+{chunk_names}
+}}
+
+// IANA, "SCTP Parameters", "Chunk Parameter Types".
+/// Returns the name of a parameter.
+pub fn parameter_name(typ: u16) -> Option<&'static str> {{
+{parameter_names}
+}}
+
+// IANA, "SCTP Parameters", "Error Cause Codes".
+/// Returns the name of an error cause.
+pub fn cause_name(code: u16) -> Option<&'static str> {{
+{cause_names}
+}}
+
+// IANA, "SCTP Parameters", "SCTP Payload Protocol Identifiers", where Wireshark's table agrees; in
+// their short forms.
+/// Returns the name of a payload protocol identifier.
+pub fn payload_protocol(ppid: u32) -> Option<&'static str> {{
+{protocol_names}
+}}
+
+// RFC 8832 section 5.1.
+/// Returns what a type of data channel says of its messages.
+pub fn channel_type_name(typ: u32) -> Option<&'static str> {{
+{channel_names}
+}}
+
+// RFC 9260 section 3.3.2.1.
+/// Returns the name of a type of address.
+pub fn address_name(typ: u32) -> Option<&'static str> {{
+{address_names}
+}}
+
+// RFC 4895 section 3.3.
+/// Returns the name of an HMAC by its identifier.
+pub fn hmac_name(identifier: u32) -> Option<&'static str> {{
+{hmac_names}
+}}
+
+// RFC 6525 section 4.4.
+/// Returns the name of a result of a RE-CONFIG request.
+pub fn result_name(code: u32) -> Option<&'static str> {{
+{result_names}
+}}
+
+/// Returns the section that defines a chunk type; `None` of a type that has no name here.
+pub fn chunk_section(typ: u8) -> Option<&'static str> {{
+{chunk_sections}
+}}
+
+/// Returns the section that defines a parameter.
+pub fn parameter_section(typ: u16) -> Option<&'static str> {{
+{parameter_sections}
+}}
+
+/// Returns the section that defines an error cause.
+pub fn cause_section(code: u16) -> Option<&'static str> {{
+{cause_sections}
+}}
+
+/// Returns the least length of a chunk of this type, with its header, and the step by which it can
+/// be longer: 0, where it can't, and where its bytes say by how much. A type that isn't listed has
+/// the header's length, and 0.
+pub fn least_chunk(typ: u8) -> (usize, u8) {{
+{least_chunks}
+}}
+
+/// Returns the same of a parameter.
+pub fn least_parameter(typ: u16) -> (usize, u8) {{
+{least_parameters}
+}}
+
+/// Returns the same of an error cause.
+pub fn least_cause(code: u16) -> (usize, u8) {{
+{least_causes}
+}}
+'''
+
+
+def rattle(table):
+    drafts = ' and '.join(str(row.number) for row in table['chunk'] if row.read == 'draft')
+    return RATTLE.format(
+        drafts=drafts,
+        chunk_names=rattle_names(table['chunk'], 'typ', 'd'),
+        parameter_names=rattle_names(table['parameter'], 'typ', '#06x'),
+        cause_names=rattle_names(table['cause'], 'code', '#06x'),
+        protocol_names=rattle_names(table['protocol'], 'ppid', 'd'),
+        channel_names=rattle_names(table['channel'], 'typ', '#04x'),
+        address_names=rattle_names(table['address'], 'typ', 'd'),
+        hmac_names=rattle_names(table['hmac'], 'identifier', 'd'),
+        result_names=rattle_names(table['result'], 'code', 'd'),
+        chunk_sections=rattle_sections(table['chunk'], 'typ', 'd'),
+        parameter_sections=rattle_sections(table['parameter'], 'typ', '#06x'),
+        cause_sections=rattle_sections(table['cause'], 'code', '#06x'),
+        least_chunks=rattle_least(table['chunk'], 'typ', 'd'),
+        least_parameters=rattle_least(table['parameter'], 'typ', '#06x'),
+        least_causes=rattle_least(table['cause'], 'code', '#06x'))
+
+
+# ---- C
+
+C_ENUMS = {
+    'chunk': ('dcsctp_chunk_type', 'DCSCTP_CHUNK_', 'Types of chunks (RFC 9260 section 3.2).'),
+    'parameter': ('dcsctp_parameter_type', 'DCSCTP_PARAMETER_', 'Types of parameters (RFC 9260 section 3.2.1).'),
+    'cause': ('dcsctp_cause_code', 'DCSCTP_CAUSE_', 'Codes of error causes (RFC 9260 section 3.3.10).'),
+    'result': ('dcsctp_re_config_result', 'DCSCTP_RE_CONFIG_', 'Results of a response of RE-CONFIG (RFC 6525 section 4.4).'),
+}
+C_NAMES = {
+    'chunk': ('dcsctp_chunk_name(uint8_t type)', 'type',
+              'Returns the name of a type of chunk as the standards write it; "unknown" for one that has none.'),
+    'parameter': ('dcsctp_parameter_name(uint16_t type)', 'type', 'Returns the name of a type of parameter, or "unknown".'),
+    'cause': ('dcsctp_cause_name(uint16_t code)', 'code', 'Returns the name of a code of an error cause, or "unknown".'),
+    'result': ('dcsctp_re_config_result_name(uint32_t result)', 'result',
+               'Returns the name of a result of RE-CONFIG, or "unknown".'),
+}
+
+
+def c_enum(level, rows):
+    name, prefix, about = C_ENUMS[level]
+    lines = []
+    for row in rows:
+        constant = f'{prefix}{row.identifier} = {digits(row)}{"," if row is not rows[-1] else ""}'
+        note = 'bytes to this library: ' if getattr(row, 'read', 'kind') != 'kind' else ''
+        lines.append((constant, f'/* {note}{reference(row)} */' if level != 'result' else ''))
+    width = max(len(constant) for constant, _ in lines)
+    body = [f'    {constant:{width}} {note}'.rstrip() for constant, note in lines]
+    return '\n'.join([f'/* {about} */', f'enum {name} {{', *body, '};', ''])
+
+
+def c_names(level, rows):
+    declaration, argument, about = C_NAMES[level]
+    arms = [f'    case {C_ENUMS[level][1]}{row.identifier}: return "{row.name}";' for row in rows]
+    return '\n'.join([f'/* {about} */', f'static inline const char *{declaration}', '{', f'    switch ({argument}) {{', *arms,
+                      '    default: return "unknown";', '    }', '}', ''])
+
+
+C_BYTES = '''\
+/* Where a constant is marked as bytes to this library, it has a name here and no more: its value is read and written as bytes. */
+
+'''
+
+
+def c(table):
+    return [C_BYTES + '\n'.join(c_enum(level, table[level]) for level in C_ENUMS),
+            '\n'.join(c_names(level, table[level]) for level in C_NAMES)]
+
+
+# ---- Python
+
+PYTHON_ENUMS = {
+    'chunk': ('ChunkType(_Numbers)',
+              'Types of chunks (RFC 9260 section 3.2). Those that have no kind of their own here are a RawChunk.'),
+    'parameter': ('ParameterType(_Numbers)',
+                  'Types of parameters (RFC 9260 section 3.2.1). Those that have no kind of their own here are a RawParameter.'),
+    'cause': ('CauseCode(_Numbers)',
+              'Codes of error causes (RFC 9260 section 3.3.10). Those that have no kind of their own here are a RawCause.'),
+    'result': ('ReConfigResult(IntEnum)', 'What became of a re-configuration request (RFC 6525 section 4.4).'),
+}
+
+
+def python(table):
+    classes, names = [], []
+    for level, (name, about) in PYTHON_ENUMS.items():
+        members = [f'    {row.identifier} = {digits(row, upper=True)}' for row in table[level]]
+        classes.append('\n'.join([f'class {name}:', f'    """{about}"""', '', *members, '', '', '']))
+        if level != 'result':
+            members = [f'    {name.partition("(")[0]}.{row.identifier}: "{row.name}",' for row in table[level]]
+            names.append('\n'.join([f'_{level.upper()}_NAMES: dict[int, str] = {{', *members, '}', '']))
+    return [''.join(classes + names)]
+
+
+# ---- Rust
+
+def rust(table):
+    def constant(row):
+        about = f'{row.about} ({reference(row)}).'
+        if row.read != 'kind' and row.value != '-':
+            fields = re.sub(r'\w+_\w+', r'`\g<0>`', row.value)
+            about += f' Its value is bytes here: {fields}.'
+        lines = textwrap.wrap(about, 100, initial_indent='    /// ', subsequent_indent='    /// ', break_on_hyphens=False)
+        return '\n'.join([*lines, f'    {row.identifier} = {digits(row, upper=True)}, "{row.name}";', ''])
+    return [''.join(map(constant, table[level])) for level in ('chunk', 'parameter', 'cause')]
+
+
+# ---- Go
+
+GO = '''\
+// SPDX-License-Identifier: Apache-2.0
+
+// Code generated by registry/make.py: registry/sctp.txt is edited in its place. DO NOT EDIT.
+
+//go:build cgo
+
+package davgyuti
+'''
+GO_TYPES = {
+    'chunk': ('ChunkType', 't', 'Chunk', 'Types of chunks. What is read by no method of a Chunk is bytes here: its Value.'),
+    'parameter': ('ParameterType', 't', 'Parameter',
+                  'Types of parameters. What is read by no method of a Parameter is bytes here: its Value.'),
+    'cause': ('CauseCode', 'c', 'Cause', 'Codes of error causes. What is read by no method of a Cause is bytes here: its Value.'),
+    'result': ('ReConfigResult', 'r', 'ReConfig', 'Results of RE-CONFIG.'),
+}
+GO_WORDS = {word: word for word in ('ASCONF', 'CWR', 'ECN', 'ECNE', 'HMAC', 'IP', 'NR', 'PKTDROP', 'SACK', 'SSN', 'TSN')}
+GO_WORDS |= {'IPV4': 'IPv4', 'IPV6': 'IPv6'}
+
+
+def go_values(level, rows):
+    """The constants of a level, and the method that names them."""
+    name, receiver, prefix, about = GO_TYPES[level]
+    constants = [prefix + ''.join(GO_WORDS.get(word, word.capitalize()) for word in row.identifier.split('_')) for row in rows]
+    width = max(map(len, constants))
+    values = [f'\t{constant:{width}} {name} = {digits(row)}' for constant, row in zip(constants, rows)]
+    cases = [f'\tcase {constant}:\n\t\treturn "{row.name}"' for constant, row in zip(constants, rows)]
+    return '\n'.join(['', f'// {about}', 'const (', *values, ')', '', f'func ({receiver} {name}) name() string {{',
+                      f'\tswitch {receiver} {{', *cases, '\t}', '\treturn ""', '}', ''])
+
+
+def go(table):
+    return GO + ''.join(go_values(level, table[level]) for level in GO_TYPES)
+
+
+# ---- JavaScript
+
+JS_OBJECTS = {
+    'chunk': ('ChunkType', 'Types of chunks (section 3.2).'),
+    'parameter': ('ParameterType', 'Types of parameters (section 3.2.1).'),
+    'cause': ('CauseCode', 'Codes of error causes (section 3.3.10).'),
+    'result': ('ReConfigResult', 'The result of a response of RE-CONFIG (RFC 6525 section 4.4).'),
+}
+
+
+def javascript(table):
+    objects, names = [], []
+    for level, (name, _) in JS_OBJECTS.items():
+        members = [f'  {row.identifier}: {digits(row)},' for row in table[level]]
+        objects.append('\n'.join([f'const {name} = Object.freeze({{', *members, '});', '']))
+        if level != 'result':
+            members = [f"  [{name}.{row.identifier}, '{row.name}']," for row in table[level]]
+            names.append('\n'.join([f'const {level.upper()}_NAMES = new Map([', *members, ']);', '']))
+    return ['\n'.join(objects + names)]
+
+
+def typescript(table):
+    def declared(level):
+        name, about = JS_OBJECTS[level]
+        members = [f'  readonly {row.identifier}: {digits(row)};' for row in table[level]]
+        return '\n'.join([f'/** {about} */', f'export const {name}: {{', *members, '};',
+                          f'export type {name} = Of<typeof {name}>;', ''])
+    return [''.join(map(declared, JS_OBJECTS))]
+
+
+# ---- C++
+
+CPP_ENUMS = {
+    'chunk': ('chunk_type : std::uint8_t',
+              'Types of chunks (RFC 9260 section 3.2). Any other number is one too: `static_cast<chunk_type>(99)`.'),
+    'parameter': ('parameter_type : std::uint16_t', 'Types of parameters (section 3.2.1). Any other number is one too.'),
+    'cause': ('cause_code : std::uint16_t', 'Codes of error causes (section 3.3.10). Any other number is one too.'),
+    'result': ('re_config_result : std::uint32_t', 'The result of a response of RE-CONFIG (RFC 6525 section 4.4).'),
+}
+
+
+def cpp(table):
+    enums = []
+    for level, (name, about) in CPP_ENUMS.items():
+        members = ',\n'.join(f'    {row.identifier.lower()} = {C_ENUMS[level][1]}{row.identifier}' for row in table[level])
+        enums.append('\n'.join([f'/// {about}', f'enum class {name} {{', members, '};', '']))
+    return ['\n'.join(enums)]
+
+
+# ---- the page for browsers
+
+PAGE = """\
+// SPDX-License-Identifier: Apache-2.0
+// generated by registry/make.py: registry/sctp.txt is edited in its place
+export {{ CHUNK_GROUPS }};
+
+/** Types of chunks by what they are for. */
+const CHUNK_GROUPS = {{
+{groups}
+}};
+"""
+
+
+def page(table):
+    groups = {}
+    for row in table['chunk']:
+        if row.group != '-':
+            groups.setdefault(row.group, []).append(str(row.number))
+    return PAGE.format(groups='\n'.join(f'  {group}: [{", ".join(types)}],' for group, types in groups.items()))
+
+
+# ---- the pages
+
+LISTS = {'chunk': 'chunks', 'parameter': 'parameters', 'cause': 'error causes'}
+
+
+def readme(table):
+    kinds = {level: [row for row in table[level] if row.read == 'kind'] for level in LISTS}
+    standards = sorted({row.standard[:4] for rows in kinds.values() for row in rows})
+    rows = [f'| {LISTS[level]} | {", ".join(row.name for row in rows)} |' for level, rows in kinds.items()]
+    return ['\n'.join([f'| | with their fields (RFC {", ".join(standards)}) |', '|---|---|', *rows, ''])]
+
+
+def c_page(table):
+    rows = []
+    for level in LISTS:
+        for row in table[level]:
+            value = '' if row.value == '-' else f' {row.value}'
+            if row.read != 'kind':
+                rows.append(f'| `{level.upper()}_{row.identifier}` {digits(row)} | {reference(row)} |{value} |')
+    return ['\n'.join(['| `DCSCTP_` | standard | value |', '|---|---|---|', *rows, ''])]

@@ -1,0 +1,146 @@
+# SPDX-License-Identifier: Apache-2.0
+"""For registry/make.py --compare: finds the numbers of the table that the proved crates and their definitions have, written by
+hand."""
+import glob
+import os
+import re
+
+NUMBER = r'(0x[\dA-Fa-f]+|\d+)'
+LEVELS = {'CHUNK_TYPE': 'chunk', 'PARAMETER_TYPE': 'parameter', 'CAUSE_CODE': 'cause'}
+# Whose kinds the definitions of a crate are.
+CRATES = {'dcsctp_chunk': 'chunk', 'dcsctp_wire': 'chunk', 'dcsctp_tlv': 'parameter', 'dcsctp_cause': 'cause'}
+LAWS = 'crates/dcsctp_wire/src/laws.rt'
+CHUNK_TYPES = 'crates/sctp_*/src/chunk_type.rt'
+
+# What the name of a file or of a definition says in other words than the table.
+RENAMED = {'initiation': 'init', 'missing_parameters': 'missing_mandatory_parameter', 'cookie': 'cookie_echo',
+           'info': 'heartbeat_info', 'missing': 'missing_mandatory_parameter', 'forward': 'forward_tsn',
+           'iforward': 'i_forward_tsn'}
+# What such a name says besides.
+ENDS = ['', '_(chunk|parameter|error_cause|ref|fields)$', '_request(_chunk|_parameter)?$']
+FLAGS = {'is_end': 'END', 'is_beginning': 'BEGINNING', 'stream_key': 'UNORDERED', 'immediate_ack': 'IMMEDIATE_ACK',
+         'tag_reflected': 'TAG_REFLECTED'}
+
+
+class Comparison:
+    """A table by the names that the crates have for its rows, what was found of it, and what is wrong."""
+
+    def __init__(self, root, table):
+        self.root, self.table, self.wrong, self.found = root, table, [], set()
+        self.rows = {(level, row.identifier.lower().replace('_', '')): row
+                     for level in ('chunk', 'parameter', 'cause', 'port') for row in table[level]}
+        self.rows |= {('result', re.sub('[^a-z]', '', row.name.lower())): row for row in table['result']}
+        self.rows |= {('flag', row.chunk, row.identifier): row for row in table['flag']}
+
+    def key(self, level, name):
+        """The key of the row that a name is for, as `heartbeat_request_chunk` is for HEARTBEAT."""
+        name = re.sub(r'(?<=[a-z])(?=[A-Z])', '_', name).lower()
+        name = RENAMED.get(name, name)
+        keys = [(level, re.sub(end, '', name).replace('_', '')) for end in ENDS]
+        return next((key for key in keys if key in self.rows), keys[0])
+
+    def places(self, paths, regex):
+        """Each match in these files: the path and the line, the file's name, and the match."""
+        for path in sorted(glob.glob(paths, root_dir=self.root, recursive=True)):
+            with open(os.path.join(self.root, path), encoding='utf-8') as file:
+                text = file.read()
+            for match in re.finditer(regex, text, flags=re.M):
+                line = text.count('\n', 0, match.start(match.lastindex or 0)) + 1
+                yield f'{path}:{line}', os.path.splitext(os.path.basename(path))[0], match
+
+    def number(self, place, key, number):
+        """Compares the number of a row."""
+        self.found.add(key)
+        text = ' '.join(map(str, key))
+        if key not in self.rows:
+            self.wrong.append(f'{place}: {text}, which the table has not')
+        elif int(number, 0) != self.rows[key].number:
+            self.wrong.append(f'{place}: {text} is {number}, but {self.rows[key].number} in the table')
+
+    def least(self, place, key, least):
+        """Compares the least size of a row's value."""
+        if key in self.rows and self.rows[key].least.partition('+')[0] != least:
+            self.wrong.append(f'{place}: {" ".join(key)} has at least {least} bytes, but {self.rows[key].least} in the table')
+
+
+def constants(them):
+    """The constants of the kinds; their laws; and the names that they are imported by."""
+    own = rf'^pub const (CHUNK_TYPE|PARAMETER_TYPE|CAUSE_CODE): u\d+ = {NUMBER};'
+    for place, name, match in them.places('crates/dcsctp_*/src/**/*.rt', own):
+        them.number(place, them.key(LEVELS[match[1]], name), match[2])
+    for level in LEVELS.values():
+        for row in them.table[level]:
+            if (them.key(level, row.identifier) in them.found) != (row.read == 'kind'):
+                them.wrong.append(f'{level} {row.identifier}: {row.read} in the table, but not so in the proved crates')
+    constant = r'((?:CHUNK|PARAMETER)_TYPE|CAUSE_CODE)'
+    levels = {match[2]: LEVELS[match[1]] for _, _, match in them.places(LAWS, rf'\b{constant}(?:_\w+)? as (\w+)')}
+    for place, _, match in them.places(LAWS, rf'ensures \w+ \{{ (\w+) ≡ {NUMBER} \}}'):
+        if match[1] in levels:
+            them.number(place, them.key(levels[match[1]], match[1]), match[2])
+    for paths in (LAWS, CHUNK_TYPES):
+        for place, _, match in them.places(paths, rf'\b(\w+)::(?:\{{\s*)?{constant} as (\w+)'):
+            if them.key(LEVELS[match[2]], match[1]) != them.key(LEVELS[match[2]], match[3]):
+                them.wrong.append(f'{place}: {match[1]} as {match[3]}')
+    for place, _, match in them.places(CHUNK_TYPES, rf'^pub const (\w+): u8 = {NUMBER};'):
+        key = them.key('chunk', match[1])
+        them.number(place, key, match[2])
+        if key in them.rows and them.rows[key].read == 'kind':
+            them.wrong.append(f'{place}: {match[1]} is a kind: `pub use` its constant')
+
+
+def definitions(them):
+    """The numbers and sizes of the definitions in specs/."""
+    kind = rf'^kind = (?:plain_kind|kept_kind|list\.kind_of|fields\.kind_of) {NUMBER}|list\.format {NUMBER}|^  typ = {NUMBER};'
+    size = r'(?:(\d+)|\((\d+) \+ .*\)) (?:\[\]|\(.*\));$'
+    for crate, level in CRATES.items():
+        specs = f'crates/{crate}/specs/*.antt'
+        for place, name, match in them.places(specs, kind):
+            them.number(place, them.key(level, name), match[match.lastindex])
+        for place, name, match in them.places(specs, rf'tlv = (?:sized|flagged)_tlv {NUMBER}'):
+            them.number(place, them.key(level, name), match[1])
+        for place, name, match in them.places(specs, rf'tlv = (?:sized_tlv \w+|flagged_tlv \w+ (?:\w+|\(.*\))) {size}'):
+            them.least(place, them.key(level, name), match[1] or match[2])
+    read = rf'\b(typ|code) == {NUMBER} then\s+(?:result_ok \((\w+)_kind\.|option_map (\w+))'
+    for place, _, match in them.places('crates/dcsctp_borrowed/specs/*.antt', read):
+        level = 'cause' if match[1] == 'code' else 'parameter' if match[4] or match[3] == 'info' else 'chunk'
+        them.number(place, them.key(level, match[3] or match[4]), match[2])
+    written = rf'\bc\.typ == {NUMBER} then (?:Some|option_map) \((?:λ \w+\. )?(\w+)'
+    for place, _, match in them.places('crates/dcsctp_c/specs/Writing.antt', written):
+        them.number(place, them.key('parameter', match[2]), match[1])
+
+
+def sizes(them):
+    """The bytes before a list, or before other bytes."""
+    for place, name, match in them.places('crates/*/src/**/*.rt', r'^(?:pub\(crate\) )?const FIXED_SIZE: usize = (\d+);'):
+        for level in LEVELS.values():
+            them.least(place, them.key(level, name), match[1])
+
+
+def others(them):
+    """The results, the flags, and the port."""
+    response = 'reconfiguration_response_parameter'
+    for place, _, match in them.places(f'crates/dcsctp_tlv/src/parameter/{response}.rt', rf'^    (\w+) = {NUMBER},'):
+        them.number(place, ('result', match[1].lower()), match[2])
+    numbered = rf'^result_number (\w+) = {NUMBER}'
+    for place, _, match in them.places('crates/dcsctp_tlv/specs/ReconfigurationResponse.antt', numbered):
+        them.number(place, ('result', match[1].lower()), match[2])
+    flag = r'\b(\w+)(?:: | = )(?:StreamKey::new\()?is_set\(flags, (\d)\)'
+    for place, name, match in them.places('crates/dcsctp_*/src/**/*_chunk.rt', flag):
+        chunk = them.rows[them.key('chunk', name)].number
+        them.number(place, ('flag', chunk, FLAGS[match[1]]), str(1 << int(match[2])))
+    for place, _, match in them.places('crates/sctp_capture/src/frame.rt', rf'^pub const (UDP)_PORT: u16 = {NUMBER};'):
+        them.number(place, ('port', 'udp'), match[2])
+    # (else an expression that finds nothing would compare nothing)
+    for key in them.rows:
+        if key[0] in ('result', 'flag', 'port') and key not in them.found:
+            them.wrong.append(f'crates: {" ".join(map(str, key))}: not found')
+
+
+def differences(root, table):
+    """A line for each difference, with the file and the line."""
+    them = Comparison(root, table)
+    constants(them)
+    definitions(them)
+    sizes(them)
+    others(them)
+    return them.wrong
