@@ -7,28 +7,6 @@
 #include "dcsctp.h"
 #include <string.h>
 
-/* ---- names */
-
-/* A number that has a name; without one where there is none. */
-struct go_name {
-    uint32_t number;
-    const char *name;
-};
-
-/* The least number from one on that has a name. */
-#define NAMES(of, type)                                                                                                \
-    static inline struct go_name go_##of(uint32_t from)                                                                \
-    {                                                                                                                  \
-        struct go_name result = {from, NULL};                                                                          \
-        for (; !result.name && result.number <= (type)-1; result.number += !result.name)                               \
-            if (strcmp(dcsctp_##of((type)result.number), "unknown") != 0)                                              \
-                result.name = dcsctp_##of((type)result.number);                                                        \
-        return result;                                                                                                 \
-    }
-NAMES(chunk_name, uint8_t)
-NAMES(parameter_name, uint16_t)
-NAMES(cause_name, uint16_t)
-
 /* ---- a whole packet */
 
 /* The word that the policy wants; it wants none where it accepts any checksum. */

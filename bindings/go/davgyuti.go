@@ -58,8 +58,6 @@ import "C"
 
 import (
 	"fmt"
-	"strings"
-	"sync"
 	"unsafe"
 )
 
@@ -126,66 +124,19 @@ func Version() string { return C.GoString(C.dcsctp_version()) }
 // VersionNumber returns 65,536 times the major version, 256 times the minor one, and the patch.
 func VersionNumber() uint32 { return uint32(C.dcsctp_version_number()) }
 
-// names has the names that dcsctp.h has of some kind of number, from when one is asked for.
-type names struct {
-	next func(C.uint32_t) C.struct_go_name
-	once sync.Once
-	of   map[uint16]string
-}
-
-var (
-	chunkNames     = names{next: func(from C.uint32_t) C.struct_go_name { return C.go_chunk_name(from) }}
-	parameterNames = names{next: func(from C.uint32_t) C.struct_go_name { return C.go_parameter_name(from) }}
-	causeNames     = names{next: func(from C.uint32_t) C.struct_go_name { return C.go_cause_name(from) }}
-)
-
-func (n *names) get(number uint16) (name string, isKnown bool) {
-	n.once.Do(func() {
-		n.of = map[uint16]string{}
-		for it := n.next(0); it.name != nil; it = n.next(it.number + 1) {
-			n.of[uint16(it.number)] = C.GoString(it.name)
-		}
-	})
-	name, isKnown = n.of[number]
-	return name, isKnown
-}
-
-// A ChunkType is the type of a chunk (RFC 9260 section 3.2). It may be another number than those below.
+// A ChunkType is the type of a chunk (RFC 9260 section 3.2). It may be another number than those of the constants.
 type ChunkType uint8
 
-// Types of chunks: of RFC 9260; I-DATA and I-FORWARD-TSN of RFC 8260, RE-CONFIG of RFC 6525, FORWARD-TSN of RFC 3758.
-const (
-	ChunkData             ChunkType = C.DCSCTP_CHUNK_DATA
-	ChunkInit             ChunkType = C.DCSCTP_CHUNK_INIT
-	ChunkInitAck          ChunkType = C.DCSCTP_CHUNK_INIT_ACK
-	ChunkSACK             ChunkType = C.DCSCTP_CHUNK_SACK
-	ChunkHeartbeat        ChunkType = C.DCSCTP_CHUNK_HEARTBEAT
-	ChunkHeartbeatAck     ChunkType = C.DCSCTP_CHUNK_HEARTBEAT_ACK
-	ChunkAbort            ChunkType = C.DCSCTP_CHUNK_ABORT
-	ChunkShutdown         ChunkType = C.DCSCTP_CHUNK_SHUTDOWN
-	ChunkShutdownAck      ChunkType = C.DCSCTP_CHUNK_SHUTDOWN_ACK
-	ChunkError            ChunkType = C.DCSCTP_CHUNK_ERROR
-	ChunkCookieEcho       ChunkType = C.DCSCTP_CHUNK_COOKIE_ECHO
-	ChunkCookieAck        ChunkType = C.DCSCTP_CHUNK_COOKIE_ACK
-	ChunkShutdownComplete ChunkType = C.DCSCTP_CHUNK_SHUTDOWN_COMPLETE
-	ChunkIData            ChunkType = C.DCSCTP_CHUNK_I_DATA
-	ChunkReConfig         ChunkType = C.DCSCTP_CHUNK_RE_CONFIG
-	ChunkForwardTSN       ChunkType = C.DCSCTP_CHUNK_FORWARD_TSN
-	ChunkIForwardTSN      ChunkType = C.DCSCTP_CHUNK_I_FORWARD_TSN
-)
+// IsKnown returns whether the type has a constant here, and so a name: not whether your association handles it.
+func (t ChunkType) IsKnown() bool { return t.name() != "" }
 
-// IsKnown returns whether the type has a constant here, and so a name.
-func (t ChunkType) IsKnown() bool {
-	_, isKnown := chunkNames.get(uint16(t))
-	return isKnown
-}
-
-// String returns the name that the RFCs have; for a type that has no constant here its number, as in "chunk type 0x63".
+// String returns the name that the standards have; for a type that has no constant here its number, as in
+// "chunk type 99 (0x63)".
 func (t ChunkType) String() string {
-	if name, isKnown := chunkNames.get(uint16(t)); isKnown {
+	if name := t.name(); name != "" {
 		return name
 	}
-	return fmt.Sprintf("chunk type %#02x", uint8(t))
+	return fmt.Sprintf("chunk type %d (%#02x)", uint16(t), uint16(t))
 }
 
 // TagReflected is the flag of ABORT and SHUTDOWN COMPLETE, the T bit: the verification tag isn't the one that the receiver
@@ -193,106 +144,46 @@ func (t ChunkType) String() string {
 // the type first.
 const TagReflected = C.DCSCTP_TAG_REFLECTED
 
-// A ParameterType is the type of a parameter (section 3.2.1). It may be another number than those below.
+// A ParameterType is the type of a parameter (section 3.2.1). It may be another number than those of the constants.
 type ParameterType uint16
 
-// Types of parameters.
-const (
-	ParameterHeartbeatInfo           ParameterType = C.DCSCTP_PARAMETER_HEARTBEAT_INFO
-	ParameterStateCookie             ParameterType = C.DCSCTP_PARAMETER_STATE_COOKIE
-	ParameterUnrecognizedParameter   ParameterType = C.DCSCTP_PARAMETER_UNRECOGNIZED_PARAMETER
-	ParameterOutgoingSSNReset        ParameterType = C.DCSCTP_PARAMETER_OUTGOING_SSN_RESET
-	ParameterIncomingSSNReset        ParameterType = C.DCSCTP_PARAMETER_INCOMING_SSN_RESET
-	ParameterSSNTSNReset             ParameterType = C.DCSCTP_PARAMETER_SSN_TSN_RESET
-	ParameterReconfigurationResponse ParameterType = C.DCSCTP_PARAMETER_RECONFIGURATION_RESPONSE
-	ParameterAddOutgoingStreams      ParameterType = C.DCSCTP_PARAMETER_ADD_OUTGOING_STREAMS
-	ParameterAddIncomingStreams      ParameterType = C.DCSCTP_PARAMETER_ADD_INCOMING_STREAMS
-	ParameterZeroChecksumAcceptable  ParameterType = C.DCSCTP_PARAMETER_ZERO_CHECKSUM_ACCEPTABLE
-	ParameterSupportedExtensions     ParameterType = C.DCSCTP_PARAMETER_SUPPORTED_EXTENSIONS
-	ParameterForwardTSNSupported     ParameterType = C.DCSCTP_PARAMETER_FORWARD_TSN_SUPPORTED
-)
+// IsKnown returns whether the type has a constant here, and so a name: not whether your association handles it.
+func (t ParameterType) IsKnown() bool { return t.name() != "" }
 
-// IsKnown returns whether the type has a constant here, and so a name.
-func (t ParameterType) IsKnown() bool {
-	_, isKnown := parameterNames.get(uint16(t))
-	return isKnown
-}
-
-// String returns the name that the RFCs have; for a type that has no constant here its number, as in "parameter type 0x8002".
+// String returns the name that the standards have; for a type that has no constant here its number, as in
+// "parameter type 32774 (0x8006)".
 func (t ParameterType) String() string {
-	if name, isKnown := parameterNames.get(uint16(t)); isKnown {
+	if name := t.name(); name != "" {
 		return name
 	}
-	return fmt.Sprintf("parameter type %#04x", uint16(t))
+	return fmt.Sprintf("parameter type %d (%#04x)", uint16(t), uint16(t))
 }
 
-// A CauseCode is the code of an error cause (section 3.3.10). It may be another number than those below.
+// A CauseCode is the code of an error cause (section 3.3.10). It may be another number than those of the constants.
 type CauseCode uint16
 
-// Codes of error causes.
-const (
-	CauseInvalidStreamIdentifier         CauseCode = C.DCSCTP_CAUSE_INVALID_STREAM_IDENTIFIER
-	CauseMissingMandatoryParameter       CauseCode = C.DCSCTP_CAUSE_MISSING_MANDATORY_PARAMETER
-	CauseStaleCookie                     CauseCode = C.DCSCTP_CAUSE_STALE_COOKIE
-	CauseOutOfResource                   CauseCode = C.DCSCTP_CAUSE_OUT_OF_RESOURCE
-	CauseUnresolvableAddress             CauseCode = C.DCSCTP_CAUSE_UNRESOLVABLE_ADDRESS
-	CauseUnrecognizedChunk               CauseCode = C.DCSCTP_CAUSE_UNRECOGNIZED_CHUNK
-	CauseInvalidMandatoryParameter       CauseCode = C.DCSCTP_CAUSE_INVALID_MANDATORY_PARAMETER
-	CauseUnrecognizedParameters          CauseCode = C.DCSCTP_CAUSE_UNRECOGNIZED_PARAMETERS
-	CauseNoUserData                      CauseCode = C.DCSCTP_CAUSE_NO_USER_DATA
-	CauseCookieReceivedWhileShuttingDown CauseCode = C.DCSCTP_CAUSE_COOKIE_RECEIVED_WHILE_SHUTTING_DOWN
-	CauseRestartWithNewAddresses         CauseCode = C.DCSCTP_CAUSE_RESTART_WITH_NEW_ADDRESSES
-	CauseUserInitiatedAbort              CauseCode = C.DCSCTP_CAUSE_USER_INITIATED_ABORT
-	CauseProtocolViolation               CauseCode = C.DCSCTP_CAUSE_PROTOCOL_VIOLATION
-)
+// IsKnown returns whether the code has a constant here, and so a name: not whether your association handles it.
+func (c CauseCode) IsKnown() bool { return c.name() != "" }
 
-// IsKnown returns whether the code has a constant here, and so a name.
-func (c CauseCode) IsKnown() bool {
-	_, isKnown := causeNames.get(uint16(c))
-	return isKnown
-}
-
-// String returns the name that the RFCs have; for a code that has no constant here its number, as in "cause code 0x0105".
+// String returns the name that the standards have; for a code that has no constant here its number, as in
+// "cause code 99 (0x0063)".
 func (c CauseCode) String() string {
-	if name, isKnown := causeNames.get(uint16(c)); isKnown {
+	if name := c.name(); name != "" {
 		return name
 	}
-	return fmt.Sprintf("cause code %#04x", uint16(c))
+	return fmt.Sprintf("cause code %d (%#04x)", uint16(c), uint16(c))
 }
 
-// A ReConfigResult is the result of a response of RE-CONFIG (RFC 6525 section 4.4).
+// A ReConfigResult is the result of a response of RE-CONFIG (RFC 6525 section 4.4); a response with another number than those
+// of the constants is no packet.
 type ReConfigResult uint32
-
-// The results; a response with another one is no packet.
-const (
-	ReConfigNothingToDo       ReConfigResult = C.DCSCTP_RE_CONFIG_NOTHING_TO_DO
-	ReConfigPerformed         ReConfigResult = C.DCSCTP_RE_CONFIG_PERFORMED
-	ReConfigDenied            ReConfigResult = C.DCSCTP_RE_CONFIG_DENIED
-	ReConfigWrongSSN          ReConfigResult = C.DCSCTP_RE_CONFIG_WRONG_SSN
-	ReConfigAlreadyInProgress ReConfigResult = C.DCSCTP_RE_CONFIG_ALREADY_IN_PROGRESS
-	ReConfigBadSequenceNumber ReConfigResult = C.DCSCTP_RE_CONFIG_BAD_SEQUENCE_NUMBER
-	ReConfigInProgress        ReConfigResult = C.DCSCTP_RE_CONFIG_IN_PROGRESS
-)
 
 // String returns the name that RFC 6525 has; for another number the number, as in "result 7".
 func (r ReConfigResult) String() string {
-	// (the library's report has the names)
-	b, err := Begin(make([]byte, 28), 0, 0, 0)
-	if err == nil {
-		err = b.AddChunk(ChunkReConfig, 0, nil)
+	if name := r.name(); name != "" {
+		return name
 	}
-	if err == nil {
-		err = b.AddReConfig(ReConfig{Type: ParameterReconfigurationResponse, Result: r}, nil)
-	}
-	number := fmt.Sprintf("result %d", uint32(r))
-	if err == nil {
-		report, _ := Packet(b.Bytes()).Report(Policy{AnyChecksum: true})
-		if _, name, isNamed := strings.Cut(report, number+" ("); isNamed {
-			name, _, _ = strings.Cut(name, ")")
-			return name
-		}
-	}
-	return number
+	return fmt.Sprintf("result %d", uint32(r))
 }
 
 // A Header is the common header (section 3.1).

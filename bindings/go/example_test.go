@@ -62,9 +62,10 @@ func ExampleParameter_Bytes() {
 	if err == nil {
 		err = reply.AddInitAck(davgyuti.Init{InitiateTag: 2, ARwnd: 1 << 17, OutboundStreams: 1, InboundStreams: 1, InitialTSN: 3})
 	}
+	known := map[davgyuti.ParameterType]bool{davgyuti.ParameterForwardTSNSupported: true} // to this side
 	for parameters := chunk.Parameters(); err == nil && parameters.Next(); {
 		parameter := parameters.Value()
-		if parameter.Type.IsKnown() {
+		if known[parameter.Type] {
 			continue
 		}
 		if parameter.Type&0x4000 != 0 {
@@ -77,8 +78,8 @@ func ExampleParameter_Bytes() {
 	}
 	fmt.Printf("%x %v\n", reply.Bytes()[32:], err)
 	// Output:
-	// parameter type 0xc004 at byte 32
-	// parameter type 0x4001 at byte 40
+	// Set Primary Address at byte 32
+	// parameter type 16385 (0x4001) at byte 40
 	// 0008000cc0040008010203040008000840010004 <nil>
 }
 
