@@ -3,9 +3,9 @@
 use crate::checksum::Checksum;
 use crate::fault::{Fault, Reason};
 use crate::fields::{Block, Fields, Flag, Form, Level, Number, Text};
-use crate::names::{cause_name, chunk_name, parameter_name};
 use crate::part::{Item, Part};
 use crate::printed::OneWord;
+use crate::registry::{cause_name, chunk_name, parameter_name};
 use dcsctp_wire::packet::sctp_packet::CommonHeader;
 use std::fmt;
 

@@ -1,8 +1,8 @@
 //! What a message of the Data Channel Establishment Protocol holds (RFC 8832 section 5).
 
 use crate::fields::{Fields, Form, Number, Text};
-use crate::names::channel_type_name;
 use crate::part::Item;
+use crate::registry::channel_type_name;
 use dcsctp_wire::packet::read_u16_be;
 use std::fmt;
 

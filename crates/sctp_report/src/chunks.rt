@@ -3,9 +3,9 @@
 use crate::causes::walk_causes;
 use crate::channel::walk_channel;
 use crate::fields::{Block, Fields, Flag, Form, HEADER_SIZE, Level, Number, walk_numbers};
-use crate::names::payload_protocol;
 use crate::parameters::walk_parameters;
 use crate::part::{Item, Part};
+use crate::registry::payload_protocol;
 use dcsctp_borrowed::forward_tsn_ref::ForwardTsnRef;
 use dcsctp_borrowed::user_data::UserData;
 use dcsctp_wire::packet::chunk::RawChunk;

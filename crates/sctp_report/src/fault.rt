@@ -4,6 +4,9 @@ use crate::chunks::INIT_SIZE;
 use crate::fields::{HEADER_SIZE, Level};
 use crate::names::ItemName;
 use crate::part::{Item, Part};
+use crate::registry::{
+    cause_section, chunk_section, least_cause, least_chunk, least_parameter, parameter_section,
+};
 use dcsctp_wire::packet::sctp_packet::{COMMON_HEADER_SIZE, FirstFault, PacketParseError};
 use dcsctp_wire::packet::{ChunkParseError, read_u16_be, read_u32_be};
 use std::fmt;
@@ -50,6 +53,23 @@ impl FaultKind {
             FaultKind::Value => "value",
         }
     }
+
+    /// Returns the rule that is broken.
+    pub fn sentence(self) -> &'static str {
+        match self {
+            FaultKind::Size => {
+                "A packet has 16 to 65,535 bytes: a common header of 12, and at least one chunk."
+            }
+            FaultKind::Checksum => "The checksum field is the CRC32c of the packet.",
+            FaultKind::Length => {
+                "A length counts 4 bytes of header and what its kind holds, and ends within the packet."
+            }
+            FaultKind::Padding => {
+                "An item is followed by padding up to a multiple of 4 bytes, all of them zero."
+            }
+            FaultKind::Value => "A value is one that its kind allows.",
+        }
+    }
 }
 
 /// A fault of a packet: what is wrong, and where.
@@ -82,6 +102,16 @@ impl<'a> Fault<'a> {
             kind,
             offset: found.offset,
             place: Place::of(bytes, found.offset),
+        }
+    }
+
+    /// Returns the section of the rule that is broken.
+    pub fn section(&self) -> &'static str {
+        match self.kind {
+            FaultKind::Size => "RFC 9260 section 3",
+            FaultKind::Checksum => "RFC 9260 section 6.8",
+            FaultKind::Padding => "RFC 9260 section 3.2",
+            FaultKind::Length | FaultKind::Value => self.place.section(),
         }
     }
 
@@ -180,6 +210,27 @@ impl<'a> Place<'a> {
         place
     }
 
+    /// Returns the section that defines the item, or else its level.
+    fn section(self) -> &'static str {
+        let (level, bytes) = (self.level, self.rest.bytes);
+        let code = if bytes.len() < HEADER_SIZE {
+            None
+        } else {
+            Some(read_u16_be(bytes))
+        };
+        let section = match (level, code) {
+            (_, None) => None,
+            (Level::Chunk, Some(code)) => chunk_section(code.to_be_bytes()[0]),
+            (Level::Parameter, Some(code)) => parameter_section(code),
+            (Level::Cause, Some(code)) => cause_section(code),
+        };
+        section.unwrap_or(match level {
+            Level::Chunk => "RFC 9260 section 3.2",
+            Level::Parameter => "RFC 9260 section 3.2.1",
+            Level::Cause => "RFC 9260 section 3.3.10",
+        })
+    }
+
     /// The place in a chunk's list, where it has one, and the offset is in it.
     fn within(self, chunk: Item<'a>) -> Place<'a> {
         let (level, start) = match chunk.first {
@@ -267,38 +318,25 @@ fn write_length<W: fmt::Write>(
     write!(f, "{lower} or {upper} are needed")
 }
 
-/// The least length of an item, and by how much it can be longer.
+/// The least length of an item, and by how much it can be longer. Counts in three kinds say their
+/// lengths: of a SACK (RFC 9260 section 3.3.4), a Missing Mandatory Parameter (section 3.3.10.2), and
+/// a Re-configuration Response by its two TSNs or none (RFC 6525 section 4.4).
 fn sizes(name: ItemName, bytes: &[u8]) -> (usize, u8) {
-    match name.level {
-        Level::Chunk => match name.code.to_be_bytes()[0] {
-            0 => (16, 1),
-            1 | 2 | 64 => (20, 1),
-            3 if bytes.len() >= 16 => {
+    match (name.level, name.code) {
+        (Level::Chunk, code) => {
+            let typ = code.to_be_bytes()[0];
+            if typ == 3 && bytes.len() >= 16 {
                 let (blocks, duplicates) = (read_u16_be(&bytes[12..]), read_u16_be(&bytes[14..]));
-                (16 + 4 * (blocks as usize + duplicates as usize), 0)
+                return (16 + 4 * (blocks as usize + duplicates as usize), 0);
             }
-            3 => (16, 0),
-            7 => (8, 0),
-            9 => (8, 1),
-            10 => (5, 1),
-            192 => (8, 4),
-            194 => (8, 8),
-            _ => (4, 0),
-        },
-        Level::Parameter => match name.code {
-            0x000d => (16, 2),
-            0x000e => (8, 2),
-            0x0010 if bytes.len() > 20 => (20, 0),
-            0x0010 => (12, 8),
-            0x0011 | 0x0012 => (12, 0),
-            0x000f | 0x8001 => (8, 0),
-            _ => (4, 0),
-        },
-        Level::Cause => match name.code {
-            2 if bytes.len() >= 8 => (8 + 2 * read_u32_be(&bytes[4..]) as usize, 0),
-            2 | 9 => (8, 0),
-            _ => (4, 0),
-        },
+            least_chunk(typ)
+        }
+        (Level::Parameter, 0x0010) if bytes.len() > 20 => (20, 0),
+        (Level::Parameter, code) => least_parameter(code),
+        (Level::Cause, 0x0002) if bytes.len() >= 8 => {
+            (8 + 2 * read_u32_be(&bytes[4..]) as usize, 0)
+        }
+        (Level::Cause, code) => least_cause(code),
     }
 }
 

@@ -5,8 +5,9 @@ use crate::fault::{Fault, Reason};
 use crate::fields::{Block, Fields, Flag, HEADER_SIZE, Level, Number, Text};
 use crate::hexadecimal::write_digits;
 use crate::json_text::JsonText;
-use crate::names::{Named, NamedBy, cause_name, chunk_name, parameter_name};
+use crate::names::{Named, NamedBy};
 use crate::part::{Item, Part};
+use crate::registry::{cause_name, chunk_name, parameter_name};
 use dcsctp_wire::packet::sctp_packet::CommonHeader;
 use dcsctp_wire::packet::{read_u16_be, read_u32_be};
 use std::fmt;
@@ -168,6 +169,8 @@ impl<'f, W: fmt::Write> Fields for JsonFields<'f, W> {
         self.put("offset", fault.offset)?;
         self.key("reason")?;
         write!(self.f, "\"{reason}\"")?;
+        self.put_name("section", fault.section())?;
+        self.put_name("sentence", fault.kind.sentence())?;
         self.close("}")
     }
 
@@ -287,7 +290,10 @@ impl<'f, W: fmt::Write> Fields for JsonFields<'f, W> {
 
     fn payload(&mut self, payload: Part<'_>, offset: usize, is_text: bool) -> fmt::Result {
         self.put("payload_size", payload.size)?;
-        self.put_bytes("payload", payload.bytes)?;
+        if !self.has_places {
+            self.put_bytes("payload", payload.bytes)?;
+        }
+        // (with places its bytes are among those of the packet)
         self.place("payload", offset, payload.size)?;
         if is_text {
             self.put_text("text", offset, payload.bytes)?;

@@ -24,13 +24,15 @@ mod packet;
 mod parameters;
 mod part;
 mod printed;
+mod registry;
 mod shown;
 mod text;
 
 pub use crate::checksum::Checksum;
 pub use crate::fault::FaultReport;
 pub use crate::json_text::JsonText;
-pub use crate::names::{CauseName, ChunkName, cause_name, chunk_name};
+pub use crate::names::{CauseName, ChunkName};
 pub use crate::packet::{ChecksumReport, ChunkReport, PacketBrief, PacketJson, PacketReport};
 pub use crate::part::{Item, Items, Part};
 pub use crate::printed::OneWord;
+pub use crate::registry::{cause_name, chunk_name};

@@ -1,8 +1,9 @@
 //! What a parameter holds.
 
 use crate::fields::{Fields, Form, Level, Number, walk_named, walk_numbers};
-use crate::names::{NamedBy, result_name};
+use crate::names::NamedBy;
 use crate::part::{Item, Part};
+use crate::registry::result_name;
 use dcsctp_borrowed::re_config_ref::ReConfigRef;
 use dcsctp_wire::packet::parameter::RawParameter;
 use dcsctp_wire::packet::reconfiguration_response_parameter::ReconfigurationResponseParameter;
@@ -138,8 +139,8 @@ fn walk_response<F: Fields>(
     fields: &mut F,
 ) -> fmt::Result {
     fields.number(&Number::read(": response ", "response", item, 4, 4))?;
-    let name = result_name(response.result);
-    fields.named(&Number::read(", result ", "result", item, 8, 4), Some(name))?;
+    let result = Number::read(", result ", "result", item, 8, 4);
+    fields.named(&result, result_name(result.value))?;
     if response.sender_next_tsn.is_some() {
         let words = "\n    sender's next tsn ";
         fields.number(&Number::read(words, "sender_next_tsn", item, 12, 4))?;

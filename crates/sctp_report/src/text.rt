@@ -64,7 +64,7 @@ impl<'f, W: fmt::Write> Fields for TextFields<'f, W> {
         if name.is_known() {
             return write!(self.f, "{name}");
         }
-        write!(self.f, "unknown chunk: type {name}, flags {flags:#04x}")
+        write!(self.f, "{name}, flags {flags:#04x}")
     }
 
     fn end(&mut self, level: Level) -> fmt::Result {
