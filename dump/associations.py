@@ -3,7 +3,7 @@
 """usage: dump/associations.py [--seed 1] [--into FOLDER] [--together] [--model] PROGRAM [CAPTURE ..]
        dump/associations.py --write | --help
 
-Compares what sctp_dump says of a capture's associations with a model of them, over tshark's dissection.
+Compares what sctp_dump says of a capture's associations, and of each packet's place in them, with a model over tshark's dissection.
 
   --seed 1       the seed of the captures that are drawn
   --into FOLDER  keeps the captures that are made
@@ -112,6 +112,7 @@ class End:
         self.skipped, self.asked = None, []
 
     def tsn(self, tsn, packet, time):
+        """Counts a TSN. Returns the key and the number by which it counts for its packet."""
         # unwrapped, so that numbers beyond 2^32 follow
         if self.last is not None:
             tsn = self.last + (tsn - self.last + 2 ** 31) % 2 ** 32 - 2 ** 31
@@ -120,12 +121,14 @@ class End:
             self.first_repeated = self.first_repeated or packet
             self.first_repeated_tsn = tsn % 2 ** 32 if self.repeated == 1 else self.first_repeated_tsn
             self.waiting.pop(tsn % 2 ** 32, None)
-            return
+            return 'repeated', 1
         self.seen.add(tsn)
+        ahead = 1 if self.last is None else tsn - self.last
         self.first = tsn if self.first is None else min(self.first, tsn)
         self.last = tsn if self.last is None else max(self.last, tsn)
         if len(self.waiting) < MOST_WAITING:
             self.waiting[tsn % 2 ** 32] = time
+        return ('missing', ahead - 1) if ahead > 0 else ('late', 1)
 
     def note_acknowledged(self, tsn, packet):
         if self.cumulative is None or after(tsn, self.cumulative[0]):
@@ -181,6 +184,8 @@ class Model:
 
     def __init__(self):
         self.all, self.by_tag, self.by_route, self.unknown = [], {}, {}, 0
+        # of each packet's number what is printed of its association
+        self.members = {}
 
     def sender(self, packet):
         """Returns the association of a packet, and which end sent it; None if it begins another."""
@@ -230,6 +235,7 @@ class Model:
         self.by_tag[other.port, end.port, tag] = (association, 1 - side)
 
     def see(self, packet):
+        member = self.members[packet['number']] = {}
         found = self.sender(packet)
         known = None if found else self.beside(packet)
         if known:
@@ -252,9 +258,13 @@ class Model:
         association, side = found
         self.learn(association, side, packet['initiate'])
         self.learn(association, side if packet['reflected'] else 1 - side, packet['tag'])
-        self.count(association, side, packet)
+        steps = self.count(association, side, packet)
+        member.update(association=association.number, end=side)
+        member.update({key: count for key, count in steps.items() if count})
 
     def count(self, association, side, packet):
+        """Counts a packet. Returns how its TSNs follow those before."""
+        steps = {'repeated': 0, 'late': 0, 'missing': 0}
         sender, receiver = association.ends[side], association.ends[1 - side]
         for end, address in zip((sender, receiver), (place[0] for place in packet['route'])):
             if address and address not in end.addresses:
@@ -265,9 +275,13 @@ class Model:
         sender.wrong += packet['checksum'] == 'wrong'
         for kind, value in packet['chunks']:
             self.count_chunk(association, side, packet, kind, value)
+            if kind in (DATA, I_DATA):
+                key, count = sender.tsn(value[0], packet['number'], packet['time'])
+                steps[key] += count
             if kind == COOKIE_ACK or kind in (SACK, NR_SACK) and receiver.chunks:
                 association.established = association.established or (packet['number'], packet['time'], kind)
         association.last = packet['time']
+        return steps
 
     def count_chunk(self, association, side, packet, kind, value):
         sender, receiver, number = association.ends[side], association.ends[1 - side], packet['number']
@@ -276,7 +290,6 @@ class Model:
             sender.chunks += 1
             sender.i_data += kind == I_DATA
             sender.bytes += value[1]
-            sender.tsn(value[0], number, packet['time'])
         elif kind in (SACK, NR_SACK):
             sender.sacks += 1
             sender.gaps += bool(value[2])
@@ -460,7 +473,7 @@ def expected(model, digits, paths):
     """Returns what the program should print of the model's associations."""
     def first(packet, time, kind):
         return {**packet_keys(packet, 'packet', 'file', paths), 'time': seconds(time, digits),
-                'chunk': NAMES.get(kind, '0x%02x' % kind)}
+                'chunk': NAMES.get(kind, 'chunk type %d (0x%02x)' % (kind, kind))}
 
     for association in model.all:
         ends = [expected_end(end, digits, paths) for end in association.ends]
@@ -522,12 +535,23 @@ def compare(paths, program, refused):
     name = ' '.join(os.path.basename(path) for path in paths)
     run = subprocess.run([program, '--json', '--associations', *paths], stdout=subprocess.PIPE, text=True, check=False)
     # a number with a fraction is kept as it is written
-    got = [json.loads(line, parse_float=str) for line in run.stdout.splitlines() if line.startswith('{"association"')]
-    want = list(expected(modelled(paths, refused or ()), resolution(paths[0]), paths))
+    lines = [json.loads(line, parse_float=str) for line in run.stdout.splitlines()]
+    got, model = [it for it in lines if 'ends' in it], modelled(paths, refused or ())
+    want = list(expected(model, resolution(paths[0]), paths))
     got.sort(key=lambda one: one['association'])
     wrong = sum(differences(name, a, b, refused is not None) for a, b in zip(want, got))
     if len(want) != len(got):
         print('%s: expected %d associations, printed %d' % (name, len(want), len(got)))
+        wrong += 1
+    for line in lines:
+        if 'packet' in line:
+            printed = {key: line[key] for key in ('association', 'end', 'repeated', 'late', 'missing') if key in line}
+            wanted = model.members.pop((paths.index(line.get('file', paths[0])), line['packet']), None)
+            if wanted != printed:
+                print('%s: packet %d: expected %s, printed %s' % (name, line['packet'], wanted, printed))
+                wrong += 1
+    if model.members:
+        print('%s: not printed: %s' % (name, list(model.members)[:9]))
         wrong += 1
     return len(want), wrong
 

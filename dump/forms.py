@@ -198,9 +198,10 @@ def block_fields(holder):
 
 
 def block_item(holder, level):
-    name = holder.get("name", "unknown")
+    name, code, number = holder.get("name"), holder[level], "type" if level == "parameter" else "code"
+    head = f"{level} {code:#06x} {name}" if name else f"{level} {number} {code} ({code:#06x})"
     text = f': "{printed(bytes.fromhex(holder["value"]), " ")}"' if is_text(holder) else block_fields(holder)
-    return f"\n  {level} {holder[level]:#06x} {name}{text}"
+    return f"\n  {head}{text}"
 
 
 def block(seen):
@@ -214,7 +215,7 @@ def block(seen):
         verdict = seen["verdict"].replace("unknown", "not known")
         text += f"\nchecksum {seen['checksum']:#010x}: {verdict}" + (f", expected {seen['expected']:#010x}" if "expected" in seen else "")
     for chunk in seen["chunks"]:
-        text += "\n" + chunk.get("name", f"unknown chunk: type {chunk['chunk']:#04x}, flags {chunk['flags']:#04x}") + block_fields(chunk)
+        text += "\n" + chunk.get("name", f"chunk type {chunk['chunk']} ({chunk['chunk']:#04x}), flags {chunk['flags']:#04x}") + block_fields(chunk)
     if "fault" in seen:
         at, raw = seen["fault"]["offset"], bytes.fromhex(seen["bytes"])
         row = at // 16 * 16
@@ -254,13 +255,24 @@ def plain(raw):
 
 
 def without_places(pairs):
-    return {key: value for key, value in pairs if not key.endswith("@")}
+    """An object without places, but for that of a payload, which has its place alone."""
+    return {key.removesuffix("@"): value for key, value in pairs if key == "payload@" or not key.endswith("@")}
+
+
+def with_payloads(value):
+    raw = bytes.fromhex(value.get("bytes", ""))
+    for chunk in value.get("chunks", []):
+        if "payload" in chunk:
+            offset, size = chunk["payload"]
+            chunk["payload"] = raw[offset:offset + size].hex()
+    return value
 
 
 # Values of parameters and causes that have a meaning, and of those that need a size.
 FOUR, NUMBERS, TYPES = bytes([1, 2, 3, 4]), bytes(range(1, 17)), struct.pack(">20H", *range(20))
 VALUES = {5: FOUR, 6: NUMBERS, 9: FOUR, 11: b"h", 12: TYPES, 13: NUMBERS, 14: NUMBERS, 15: FOUR, 16: FOUR + bytes(4) + NUMBERS[8:],
           17: NUMBERS[:8], 18: NUMBERS[:8], 0x8001: FOUR, 0x8003: NUMBERS, 0x8004: TYPES, 0x8008: bytes(range(256)), 0xC006: FOUR}
+
 CAUSES = {2: b"\0\0\0\2" + FOUR, 9: FOUR, 12: b"why", 13: b"why"}
 
 
@@ -331,7 +343,7 @@ def differences(program):
         objects = []
         for line in run(program, ["--json", "--places", *words], given):
             try:
-                objects.append(json.loads(line, object_pairs_hook=without_places))
+                objects.append(with_payloads(json.loads(line, object_pairs_hook=without_places)))
             except ValueError as error:
                 yield f"{line!r}: {error}"
         for code, name in names_of(objects):

@@ -4,7 +4,7 @@
 
 Reads what sctp_dump --json --places prints of the files in crates/sctp_dump/data, and of packets with each byte in each text:
 that each line is JSON, in which no object has a key twice, that each place holds the value of its key, and that there are the
-same lines without --places, but for the places. Prints what differs; status 0 if nothing does."""
+same lines without --places, but for the places, and with payloads. Prints what differs; status 0 if nothing does."""
 import json
 import os
 import shutil
@@ -68,6 +68,7 @@ def look(line, value, packet_bytes, counts):
         return [look(line, each, packet_bytes, counts) for each in value]
     if not isinstance(value, dict):
         return value
+    payload = {}
     for key, place in value.items():
         if not key.endswith("@"):
             continue
@@ -77,11 +78,17 @@ def look(line, value, packet_bytes, counts):
         held = value.get(key[:-1])
         if key == "@":
             continue
+        if key == "payload@":
+            # (it has its place alone)
+            payload = {"payload": there.hex()}
+            if held is not None:
+                fail(line, "a payload twice")
+            continue
         if isinstance(held, bool):
             good = key[:-1] in BITS and size == 1
         elif isinstance(held, int):
             good = size in (1, 2, 4) and len(there) == size and int.from_bytes(there, "big") == held
-        elif key in ("value@", "payload@", "information@"):
+        elif key in ("value@", "information@"):
             good = held == there.hex()
         elif key == "address@":
             good = size in (4, 16) and len(there) == size
@@ -89,8 +96,8 @@ def look(line, value, packet_bytes, counts):
             good = held.encode() == there
         if not good:
             fail(line, f"{key} {place} is {there.hex()}, and not {held!r}")
-    return {key: look(line, each, packet_bytes, counts) for key, each in value.items()
-            if not key.endswith("@") and not (key == "bytes" and "packet" in value)}
+    return payload | {key: look(line, each, packet_bytes, counts) for key, each in value.items()
+                      if not key.endswith("@") and not (key == "bytes" and "packet" in value)}
 
 
 def run(program, words, given=b""):

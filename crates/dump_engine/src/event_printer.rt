@@ -16,8 +16,8 @@ use crate::warnings::{Broken, RULES, WarningLines, WarningsBrief, WarningsJson, 
 use crate::when::Clock;
 use dcsctp_wire::packet::sctp_packet::{FirstFault, SctpPacket};
 use sctp_association::{
-    Association, AssociationJson, AssociationReport, Associations, PacketNumber, SeenPacket,
-    TimeStyle,
+    Association, AssociationJson, AssociationReport, Associations, Membership, MembershipJson,
+    Noted, PacketNumber, SeenPacket, TimeStyle,
 };
 use sctp_capture::event::{Part, Seen, Sink, Skipped, Time};
 use sctp_capture::frame::{FoundPacket, NoPacket, packet_in};
@@ -212,13 +212,14 @@ impl<W: Write> EventPrinter<W> {
             is_refused,
             passes,
         );
-        self.track(&packet)?;
+        let member = self.track(&packet)?;
         let broken = self.check(&packet, found, verdict, word);
         let judged = Judged {
             found,
             word,
             fault,
             broken,
+            member,
         };
         self.print_seen(seen, nanoseconds, passes, judged)
     }
@@ -286,23 +287,23 @@ impl<W: Write> EventPrinter<W> {
     }
 
     /// Counts a packet among those of its association, if these are asked for, and prints the one
-    /// that leaves the table for it.
-    fn track(&mut self, packet: &SeenPacket<'_>) -> Result<(), AllocError>
+    /// that leaves the table for it. Returns of which association it is.
+    fn track(&mut self, packet: &SeenPacket<'_>) -> Result<Option<Membership>, AllocError>
         ensures options { self.new.options ≡ self.old.options }
         ensures counts { self.new.counts ≡ self.old.counts }
         ensures failure { self.new.failure ≡ self.old.failure }
         ensures warnings { self.new.warnings ≡ self.old.warnings }
     {
         if !(self.options.associations || self.options.check) {
-            return Ok(());
+            return Ok(None);
         }
         if self.associations.is_none() {
             self.associations = Some(Associations::new(self.alloc, self.options.keep)?);
         }
-        let left = match &mut self.associations {
-            Some(associations) => associations.see(packet)?,
-            None => None,
+        let Some(associations) = &mut self.associations else {
+            return Ok(None);
         };
+        let Noted { of, left } = associations.see(packet)?;
         match left {
             Some(association) => {
                 push_association(
@@ -311,10 +312,11 @@ impl<W: Write> EventPrinter<W> {
                     named(&self.files, self.names_files),
                     &association,
                     &mut self.output.text,
-                )
+                )?
             }
-            None => Ok(()),
+            None => {}
         }
+        Ok(of)
     }
 
     /// Returns which rules a packet breaks that wasn't refused, if they are looked at, and counts
@@ -536,6 +538,7 @@ struct Judged<'f, 'a, 't> {
     word: u32,
     fault: Option<&'t FirstFault>,
     broken: Broken,
+    member: Option<Membership>,
 }
 
 /// Adds a packet.
@@ -578,7 +581,12 @@ fn push_packet(
                 places: options.places,
             };
             let (seen, warnings) = (SeenJson(lines), WarningsJson(broken));
-            writeln!(text, "{{{seen},{report}{warnings}}}")
+            let member = MembershipJson(if options.associations {
+                judged.member
+            } else {
+                None
+            });
+            writeln!(text, "{{{seen}{member},{report}{warnings}}}")
         }
     }
 }

@@ -1,8 +1,10 @@
 -- How many packets the table of associations has counted.
-use Rattle.std.specs.Prelude.{◌+◌, ℕ, List, Box, Option, Some, None}
+use Rattle.std.specs.Prelude.{◌≡◌, ◌+◌, ℕ, List, Box, Option, Some, None}
 use Rattle.std.specs.List.{sum_by}
 use Rattle.std.specs.declared.alloc.Global.{Global}
+use Rattle.sctp_capture.specs.Number.{one_more}
 use Rattle.sctp_association.specs.declared.association.Association.{Association}
+use Rattle.sctp_association.specs.declared.membership.Membership.{Membership}
 
 -- those that the two ends of an association sent
 abbrev pub packets_of : Association → ℕ
@@ -19,3 +21,8 @@ counted table unknown = packets_in table + unknown
 abbrev pub packets_left : Option (Box Association Global) → ℕ
 packets_left (Some a) = packets_of a.value
 packets_left None = 0
+
+-- a packet is unknown if it is of no association, and else isn't
+abbrev pub CountsUnknown : Option Membership → ℕ → ℕ → Type 0
+CountsUnknown (Some _) before after = after ≡ before
+CountsUnknown None before after = after ≡ one_more before

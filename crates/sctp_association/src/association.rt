@@ -9,6 +9,7 @@ use crate::chunk_type::{ABORT, COOKIE_ACK, INIT, NR_SACK, SACK, SHUTDOWN_COMPLET
 use crate::counts::SeenPacket;
 use crate::end::{End, Learned};
 use crate::key::Route;
+use crate::membership::Sequence;
 use crate::packet_number::PacketNumber;
 use crate::transport::Transport;
 use sctp_report::Item;
@@ -163,16 +164,16 @@ impl Association {
         }
     }
 
-    /// Counts a packet that an end sent.
-    pub fn note(&mut self, sender: Side, packet: &SeenPacket<'_>)
+    /// Counts a packet that an end sent. Returns how its TSNs follow those before.
+    pub fn note(&mut self, sender: Side, packet: &SeenPacket<'_>) -> Sequence
         ensures sender { CountsPacket (counts_of sender self.old) (packet_of packet.now) (counts_of sender self.new) }
         ensures receiver { counts_of (other sender) self.new ≡ counts_of (other sender) self.old }
         ensures packets { (counts_of sender self.new).packets ≡ one_more (counts_of sender self.old).packets }
     {
-        match sender {
+        let sequence = match sender {
             Side::First => note_between(&mut self.first, &mut self.second, packet),
             Side::Second => note_between(&mut self.second, &mut self.first, packet),
-        }
+        };
         self.passes |= packet.passes;
         if self.established.is_none() {
             let has_data = self.end(sender.other()).counts.data_chunks > 0;
@@ -182,11 +183,12 @@ impl Association {
             self.ended = ending(sender, packet);
         }
         self.last = packet.nanoseconds;
+        sequence
     }
 }
 
-/// Counts a packet that one end sent to another.
-fn note_between(sender: &mut End, receiver: &mut End, packet: &SeenPacket<'_>)
+/// Counts a packet that one end sent to another. Returns how its TSNs follow those before.
+fn note_between(sender: &mut End, receiver: &mut End, packet: &SeenPacket<'_>) -> Sequence
     ensures sender { CountsPacket sender.old.counts (packet_of packet.now) sender.new.counts }
     ensures receiver { receiver.new.counts ≡ receiver.old.counts }
     ensures packets { sender.new.counts.packets ≡ one_more sender.old.counts.packets }
@@ -195,10 +197,14 @@ fn note_between(sender: &mut End, receiver: &mut End, packet: &SeenPacket<'_>)
     sender.note_address(source);
     receiver.note_address(destination);
     sender.counts.count_packet(packet);
+    let mut sequence = Sequence::NOTHING;
     for chunk in packet.chunks() {
-        sender.note_sent(packet, chunk);
+        if let Some(step) = sender.note_sent(packet, chunk) {
+            sequence.count(step);
+        }
         receiver.note_received(packet, chunk);
     }
+    sequence
 }
 
 /// Returns how a packet shows that the association is established, if it does: by a COOKIE ACK, or

@@ -1,11 +1,12 @@
 //! The table of associations.
 
-ghost use Rattle.std.specs.Prelude.{◌≤◌, ◌<◌, ◌≡◌, ◌+◌, ◌-◌, ◌^◌, max, if◌then◌else◌, vec_len, IfOk};
+ghost use Rattle.std.specs.Prelude.{◌≤◌, ◌<◌, ◌≡◌, ◌+◌, ◌-◌, ◌^◌, max, if◌then◌else◌, is_some, vec_len, IfOk};
 ghost use Rattle.std.specs.List.{Any};
 ghost use Rattle.std.specs.List.Sorted.{IsNonDecreasingBy};
 ghost use Rattle.std.specs.Option.{IfSome};
 ghost use Rattle.sctp_association.specs.Sides.{HasLeft, SaysOfZero};
-ghost use Rattle.sctp_association.specs.Table.{counted, packets_of, packets_in, packets_left};
+ghost use Rattle.sctp_capture.specs.Number.{one_more};
+ghost use Rattle.sctp_association.specs.Table.{CountsUnknown, counted, packets_of, packets_in, packets_left};
 
 use crate::association::{Association, Began, Side};
 use crate::chunk_type::COOKIE_ECHO;
@@ -13,6 +14,7 @@ use crate::counts::{SeenPacket, increase};
 use crate::end::{End, Learned};
 use crate::key::{Arrival, Route};
 use crate::keys::{Flow, Keys};
+use crate::membership::Membership;
 use crate::order::Order;
 use crate::transport::TransportNames;
 use std::alloc::{AllocError, Global};
@@ -29,6 +31,15 @@ enum Owner {
     Beside(usize),
     /// It begins an association.
     New,
+}
+
+/// What was noted of a packet.
+#[derive(Drop)]
+pub struct Noted {
+    /// The association that it is of.
+    pub of: Option<Membership>,
+    /// The association that left the table, if it was full and the packet began another.
+    pub left: Option<Box<Association>>,
 }
 
 /// The associations of a capture, in bounded memory.
@@ -72,24 +83,26 @@ impl Associations {
         })
     }
 
-    /// Counts a packet, once: of one end of one association, or as unknown. Returns the association
-    /// that left the table, if it was full and the packet begins another.
-    pub fn see(&mut self, packet: &SeenPacket<'_>) -> Result<Option<Box<Association>>, AllocError>
-        ensures left { IfOk result HasLeft }
-        ensures counted { counted self.old.table.items self.old.unknown < 2 ^ 64 - 1 → IfOk result (λ left. counted self.new.table.items self.new.unknown + packets_left left ≡ counted self.old.table.items self.old.unknown + 1) }
+    /// Counts a packet, once: of one end of one association, or as unknown.
+    pub fn see(&mut self, packet: &SeenPacket<'_>) -> Result<Noted, AllocError>
+        ensures unknown { IfOk result (λ noted. CountsUnknown noted.of self.old.unknown self.new.unknown) }
+        ensures left { IfOk result (λ noted. HasLeft noted.left) }
+        ensures counted { counted self.old.table.items self.old.unknown < 2 ^ 64 - 1 → IfOk result (λ noted. counted self.new.table.items self.new.unknown + packets_left noted.left ≡ counted self.old.table.items self.old.unknown + 1) }
     {
-        let Some(arrival) = Arrival::of(packet, &self.names) else {
-            increase(&mut self.unknown);
-            return Ok(None);
-        };
-        self.names.keep(arrival.transport, arrival.route.transport)?;
-        match self.find(&arrival) {
-            Owner::Known(flow) => self.note(flow, &arrival)?,
-            Owner::Gone => increase(&mut self.unknown),
-            Owner::Beside(slot) => self.note_beside(slot),
-            Owner::New => return self.begin(&arrival),
+        let mut of = None;
+        match Arrival::of(packet, &self.names) {
+            Some(arrival) => {
+                self.names.keep(arrival.transport, arrival.route.transport)?;
+                match self.find(&arrival) {
+                    Owner::Known(flow) => of = self.note(flow, &arrival)?,
+                    Owner::Gone => increase(&mut self.unknown),
+                    Owner::Beside(slot) => self.note_beside(slot),
+                    Owner::New => return self.begin(&arrival),
+                }
+            }
+            None => increase(&mut self.unknown),
         }
-        Ok(None)
+        Ok(Noted { of, left: None })
     }
 
     /// Returns whether the end to which a packet goes announced Zero Checksum Acceptable (RFC 9653
@@ -216,15 +229,21 @@ impl Associations {
 
     /// Counts a packet beside an association.
     fn note_beside(&mut self, slot: usize)
-        ensures { counted self.old.table.items self.old.unknown < 2 ^ 64 - 1 → counted self.new.table.items self.new.unknown ≡ counted self.old.table.items self.old.unknown + 1 }
+        ensures unknown { self.new.unknown ≡ one_more self.old.unknown }
+        ensures counted { counted self.old.table.items self.old.unknown < 2 ^ 64 - 1 → counted self.new.table.items self.new.unknown ≡ counted self.old.table.items self.old.unknown + 1 }
     {
         increase(&mut self.unknown);
         count_beside(&mut self.table, slot);
     }
 
     /// Counts a packet of an association.
-    fn note(&mut self, flow: Flow, arrival: &Arrival<'_, '_>) -> Result<(), AllocError>
-        ensures { counted self.old.table.items self.old.unknown < 2 ^ 64 - 1 → IfOk result (λ _. counted self.new.table.items self.new.unknown ≡ counted self.old.table.items self.old.unknown + 1) }
+    fn note(
+        &mut self,
+        flow: Flow,
+        arrival: &Arrival<'_, '_>,
+    ) -> Result<Option<Membership>, AllocError>
+        ensures unknown { IfOk result (λ of. CountsUnknown of self.old.unknown self.new.unknown) }
+        ensures counted { counted self.old.table.items self.old.unknown < 2 ^ 64 - 1 → IfOk result (λ _. counted self.new.table.items self.new.unknown ≡ counted self.old.table.items self.old.unknown + 1) }
     {
         let (sender, receiver) = (flow.sender, flow.sender.other());
         if let Some(tag) = arrival.initiate_tag() {
@@ -236,19 +255,19 @@ impl Associations {
             self.learn(flow.slot, receiver, arrival.tag)?;
         }
         let had_ended = !self.lives(flow.slot);
-        if !count_of(&mut self.table, flow, arrival.packet) {
+        let of = count_of(&mut self.table, flow, arrival.packet);
+        if of.is_none() {
             increase(&mut self.unknown);
-            return Ok(());
+        } else if !had_ended {
+            self.note_order(flow.slot)?;
         }
-        if had_ended {
-            return Ok(());
-        }
-        self.note_order(flow.slot)
+        Ok(of)
     }
 
     /// Notes that a packet came of an association that lived before it.
     fn note_order(&mut self, slot: usize) -> Result<(), AllocError>
-        ensures { counted self.new.table.items self.new.unknown ≡ counted self.old.table.items self.old.unknown }
+        ensures unknown { self.new.unknown ≡ self.old.unknown }
+        ensures counted { counted self.new.table.items self.new.unknown ≡ counted self.old.table.items self.old.unknown }
     {
         if self.lives(slot) {
             self.order.touch(slot)
@@ -259,7 +278,8 @@ impl Associations {
 
     /// Notes the tag of an end.
     fn learn(&mut self, slot: usize, side: Side, tag: u32) -> Result<(), AllocError>
-        ensures { counted self.new.table.items self.new.unknown ≡ counted self.old.table.items self.old.unknown }
+        ensures unknown { self.new.unknown ≡ self.old.unknown }
+        ensures counted { counted self.new.table.items self.new.unknown ≡ counted self.old.table.items self.old.unknown }
     {
         let Some(learned) = learn_tag(&mut self.table, slot, side, tag) else {
             return Ok(());
@@ -277,10 +297,11 @@ impl Associations {
         self.keys.add_flow(learned.route, flow, tag)
     }
 
-    /// Begins an association by a packet. Returns the one that left the table, if it was full.
-    fn begin(&mut self, arrival: &Arrival<'_, '_>) -> Result<Option<Box<Association>>, AllocError>
-        ensures left { IfOk result HasLeft }
-        ensures counted { counted self.old.table.items self.old.unknown < 2 ^ 64 - 1 → IfOk result (λ left. counted self.new.table.items self.new.unknown + packets_left left ≡ counted self.old.table.items self.old.unknown + 1) }
+    /// Begins an association by a packet.
+    fn begin(&mut self, arrival: &Arrival<'_, '_>) -> Result<Noted, AllocError>
+        ensures unknown { IfOk result (λ noted. CountsUnknown noted.of self.old.unknown self.new.unknown) }
+        ensures left { IfOk result (λ noted. HasLeft noted.left) }
+        ensures counted { counted self.old.table.items self.old.unknown < 2 ^ 64 - 1 → IfOk result (λ noted. counted self.new.table.items self.new.unknown + packets_left noted.left ≡ counted self.old.table.items self.old.unknown + 1) }
     {
         let restart_of = self.restarted(arrival);
         self.begun = self.begun.saturating_add(1);
@@ -288,8 +309,8 @@ impl Associations {
         let (slot, left) = self.place(association)?;
         self.keys.add_route(arrival.route, slot)?;
         let sender = Side::First;
-        self.note(Flow { slot, sender }, arrival)?;
-        Ok(left)
+        let of = self.note(Flow { slot, sender }, arrival)?;
+        Ok(Noted { of, left })
     }
 
     /// Returns the number of the association that an INIT restarts: one that was established between
@@ -313,6 +334,7 @@ impl Associations {
         association: Box<Association>,
     ) -> Result<(usize, Option<Box<Association>>), AllocError>
         requires { packets_of association.value ≡ 0 }
+        ensures unknown { self.new.unknown ≡ self.old.unknown }
         ensures left { IfOk result (λ placed. HasLeft placed.1) }
         ensures counted { IfOk result (λ placed. counted self.new.table.items self.new.unknown + packets_left placed.1 ≡ counted self.old.table.items self.old.unknown) }
     {
@@ -387,18 +409,23 @@ fn learn_tag(
     })
 }
 
-/// Counts a packet of the association in a slot. Returns whether there is one.
-fn count_of(table: &mut Vec<Box<Association>>, flow: Flow, packet: &SeenPacket<'_>) -> bool
+/// Counts a packet of the association in a slot. Returns `None` if there is none.
+fn count_of(
+    table: &mut Vec<Box<Association>>,
+    flow: Flow,
+    packet: &SeenPacket<'_>,
+) -> Option<Membership>
+    ensures sender { IfSome result (λ member. member.sender ≡ flow.sender) }
     ensures size { vec_len table.new ≡ vec_len table.old }
-    ensures packets { packets_in table.old.items < 2 ^ 64 - 1 → packets_in table.new.items ≡ packets_in table.old.items + (if result then 1 else 0) }
+    ensures packets { packets_in table.old.items < 2 ^ 64 - 1 → packets_in table.new.items ≡ packets_in table.old.items + (if is_some result then 1 else 0) }
 {
-    match table.get_mut(flow.slot) {
-        Some(association) => {
-            association.note(flow.sender, packet);
-            true
-        }
-        None => false,
-    }
+    let association = table.get_mut(flow.slot)?;
+    let sequence = association.note(flow.sender, packet);
+    Some(Membership {
+        association: association.number,
+        sender: flow.sender,
+        sequence,
+    })
 }
 
 /// Counts a packet beside the association in a slot, if there is one.

@@ -2,6 +2,7 @@
 
 ghost use Rattle.std.specs.Prelude.{◌≡◌};
 ghost use Rattle.sctp_association.specs.Counts.{nothing};
+ghost use Rattle.sctp_association.specs.Tsns.{Follows};
 
 use crate::acknowledgement::Acknowledgement;
 use crate::chunk_type::{
@@ -14,7 +15,7 @@ use crate::packet_number::PacketNumber;
 use crate::requests::Requests;
 use crate::round_trips::RoundTrips;
 use crate::serial::is_after;
-use crate::tsns::Tsns;
+use crate::tsns::{Step, Tsns};
 use crate::unanswered::{Unanswered, digest};
 use dcsctp_wire::packet::read_u32_be;
 use sctp_report::Item;
@@ -160,13 +161,15 @@ impl End {
         self.has_more_addresses = true;
     }
 
-    /// Notes a chunk that this end sent.
-    pub fn note_sent(&mut self, packet: &SeenPacket<'_>, chunk: Item<'_>)
+    /// Notes a chunk that this end sent. Returns how the TSN of DATA follows those before.
+    pub fn note_sent(&mut self, packet: &SeenPacket<'_>, chunk: Item<'_>) -> Option<Step>
         ensures { self.new.counts ≡ self.old.counts }
     {
         let value = chunk.value.bytes;
         match chunk.first {
-            DATA | I_DATA if value.len() >= 4 => self.note_tsn(packet, read_u32_be(value)),
+            DATA | I_DATA if value.len() >= 4 => {
+                return Some(self.note_tsn(packet, read_u32_be(value)));
+            }
             SACK | NR_SACK if value.len() >= 8 => {
                 self.note_window(read_u32_be(&value[4..]), packet.number);
             }
@@ -178,6 +181,7 @@ impl End {
             INIT | INIT_ACK => self.accepts_zero = accepts_zero(chunk.value).or(self.accepts_zero),
             _ => {}
         }
+        None
     }
 
     /// Notes a chunk that the other end sent.
@@ -275,17 +279,17 @@ impl End {
         }
     }
 
-    /// Notes a TSN that this end sent.
-    fn note_tsn(&mut self, packet: &SeenPacket<'_>, tsn: u32)
-        ensures { self.new.counts ≡ self.old.counts }
+    /// Notes a TSN that this end sent. Returns how it follows those before.
+    fn note_tsn(&mut self, packet: &SeenPacket<'_>, tsn: u32) -> Step
+        ensures step { Follows self.old.tsns.span self.old.tsns.seen tsn result }
+        ensures counts { self.new.counts ≡ self.old.counts }
     {
-        let is_new = self.tsns.note(tsn, packet.number);
-        if !is_new {
+        let step = self.tsns.note(tsn, packet.number);
+        if step == Step::Repeated {
             self.round_trips.leave(tsn);
-            return;
-        }
-        if let Some(nanoseconds) = packet.nanoseconds {
+        } else if let Some(nanoseconds) = packet.nanoseconds {
             self.round_trips.wait(tsn, nanoseconds);
         }
+        step
     }
 }

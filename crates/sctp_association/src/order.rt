@@ -1,6 +1,6 @@
 //! In which order associations leave a full table.
 
-ghost use Rattle.std.specs.Prelude.{◌≡◌, ◌-◌, ◌^◌, ◌∷◌, OnOk, nat_eq};
+ghost use Rattle.std.specs.Prelude.{◌≡◌, ◌-◌, ◌^◌, ◌∷◌, [], IfOk, OnOk, nat_eq};
 ghost use Rattle.std.specs.Map.{remove_entry};
 ghost use Rattle.sctp_association.specs.Order.{first_of};
 
@@ -17,7 +17,9 @@ pub struct Order {
 
 impl Order {
     /// Returns the order of no slot.
-    pub fn new(alloc: Global) -> Result<Order, AllocError> {
+    pub fn new(alloc: Global) -> Result<Order, AllocError>
+        ensures { IfOk result (λ order. (order.living.entries ≡ []) × (order.ended.entries ≡ [])) }
+    {
         Ok(Order {
             living: LruCache::unbounded(alloc)?,
             ended: LruCache::unbounded(alloc)?,

@@ -102,7 +102,7 @@ impl<'a> AssociationReport<'a> {
         write!(f, ", {name} by the {by} end")?;
         if let Some(code) = ended.cause {
             let name = CauseName(code);
-            write!(f, ", cause {name}")?;
+            write!(f, ", {name}")?;
         }
         f.write_str("\n")
     }

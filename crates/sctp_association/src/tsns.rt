@@ -1,8 +1,8 @@
 //! The TSNs of the DATA that one end sent: which were repeated, and which were never seen.
 
-ghost use Rattle.std.specs.Prelude.{◌≡◌, ◌≤◌, ◌/◌, ◌%◌, ◌^◌, ◌⊎◌, ◌↔◌, IsTrue};
-ghost use Rattle.sctp_association.specs.Serial.{ahead};
-ghost use Rattle.sctp_association.specs.Tsns.{IsMarked, WasSeen};
+ghost use Rattle.std.specs.Prelude.{◌≡◌, ◌/◌, ◌%◌, ◌^◌, ◌↔◌, Some, IsTrue};
+ghost use Rattle.sctp_association.specs.Serial.{IsAfter};
+ghost use Rattle.sctp_association.specs.Tsns.{Follows, IsMarked};
 
 use crate::counts::increase;
 use crate::packet_number::PacketNumber;
@@ -37,6 +37,20 @@ struct Span {
     last: u32,
 }
 
+/// How a TSN follows those that an end sent before.
+#[derive(Clone, Copy, Debug, PartialEq, Eq)]
+pub enum Step {
+    /// It is the first one, or is beyond the greatest one.
+    Ahead {
+        /// How many are between them, and weren't seen.
+        missing: u32,
+    },
+    /// A greater one was seen, and it wasn't.
+    Late,
+    /// It was seen, or is 2,048 or more behind the greatest one.
+    Repeated,
+}
+
 impl Tsns {
     /// Returns none.
     pub fn new() -> Tsns {
@@ -56,9 +70,9 @@ impl Tsns {
         Some((span.first, span.last))
     }
 
-    /// Notes a TSN of the packet of this number, and returns whether it is the first time.
-    pub fn note(&mut self, tsn: u32, number: PacketNumber) -> bool
-        ensures { IsTrue result ↔ ¬ (WasSeen self.old tsn) }
+    /// Notes a TSN of the packet of this number, and returns how it follows those before.
+    pub fn note(&mut self, tsn: u32, number: PacketNumber) -> Step
+        ensures { Follows self.old.span self.old.seen tsn result }
     {
         let Some(span) = self.span else {
             self.span = Some(Span {
@@ -66,12 +80,13 @@ impl Tsns {
                 last: tsn,
             });
             self.mark(tsn);
-            return true;
+            return Step::Ahead { missing: 0 };
         };
         if is_after(tsn, span.last) {
-            self.advance(span, tsn.wrapping_sub(span.last));
+            let ahead = tsn.wrapping_sub(span.last);
+            self.advance(span, ahead);
             self.mark(tsn);
-            return true;
+            return Step::Ahead { missing: ahead - 1 };
         }
         self.note_earlier(span, tsn, number)
     }
@@ -94,8 +109,9 @@ impl Tsns {
     }
 
     /// Notes a TSN that isn't beyond the last one.
-    fn note_earlier(&mut self, span: Span, tsn: u32, number: PacketNumber) -> bool
-        ensures { IsTrue result ↔ ¬ ((2048 ≤ ahead tsn span.last) ⊎ IsMarked self.old.seen tsn) }
+    fn note_earlier(&mut self, span: Span, tsn: u32, number: PacketNumber) -> Step
+        requires { ¬ (IsAfter span.last tsn) }
+        ensures { Follows (Some span) self.old.seen tsn result }
     {
         let behind = span.last.wrapping_sub(tsn);
         let size = span.last.wrapping_sub(span.first);
@@ -105,7 +121,7 @@ impl Tsns {
                 self.first_repeated = Some(number);
                 self.first_repeated_tsn = tsn;
             }
-            return false;
+            return Step::Repeated;
         }
         if behind <= size {
             self.missing = self.missing.saturating_sub(1);
@@ -118,7 +134,7 @@ impl Tsns {
             });
         }
         self.mark(tsn);
-        true
+        Step::Late
     }
 
     /// Returns whether the bit of a TSN is set.
