@@ -9,9 +9,10 @@ Runs the program over the rows of dump/runs.txt, and compares all that it prints
 of its manual page, docs/sctp_dump.1, at which mandoc, if it is there, finds nothing wrong. Then docs/rules.py has it
 ask the rules of the packets of dump/rules.txt, it has the chunks of dump/refused.txt and the captures in dump/data,
 dump/faults.py looks at lengths that are refused, dump/objects.py at its JSON, dump/forms.py at its three forms, dump/logs.py at
-associations of logs, dump/associations.py at those of captures, if tshark is there, dump/times.py at times; and it has a table
-that is full, and an output that fails. The last line is: dump: N passed, M failed. --quick leaves out the scripts, and a word
-that isn'\''t UTF-8, for a program that runs in an emulator or under Wine.
+associations of logs, dump/times.py at times; where tshark is, dump/associations.py at associations of captures, and dump/tshark.py
+at packets; where scapy is, dump/scapy.py at the same; and it has a table that is full, and an output that fails. The last line
+is: dump: N passed, M failed. --quick leaves out the scripts, and a word that isn'\''t UTF-8, for a program that runs in an emulator
+or under Wine.
 
 The program is crates/sctp_dump/out/sctp_dump, which `rt ci` proved and built, unless another is named; if it is missing,
 or older than a source file, it is proved and built first.'
@@ -63,14 +64,38 @@ look() {
     fi
 }
 
+leave_out() {
+    echo "dump: ${1#"$root/"}: left out, since there is no $2"
+}
+
 # The scripts are in Python, with all of its library.
 if [ -n "$quick" ]; then
     look() { :; }
+    leave_out() { :; }
 elif ! python3 -c 'import json, shutil' 2>/dev/null; then
-    look() {
-        echo "dump: ${1#"$root/"}: left out, since there is no python3"
-    }
+    look() { leave_out "$1" python3; }
 fi
+
+# The same, if the tools that the first word names are there.
+look_with() {
+    local tool
+    for tool in $1; do
+        case $tool in
+            tshark-4) tshark --version 2>/dev/null | grep -q '^TShark .*) 4\.' ;;
+            *) command -v "$tool" >/dev/null ;;
+        esac || { leave_out "$2" "$tool" && return; }
+    done
+    look "${@:2}"
+}
+
+# The same, by the Python that has scapy: that of Debian's package may not be the first on PATH. Other versions may dissect more.
+look_with_scapy() {
+    local python
+    for python in python3 /usr/bin/python3; do
+        "$python" -c 'import scapy; exit(not scapy.VERSION.startswith("2.5."))' 2>/dev/null && look "$python" "$@" && return
+    done
+    leave_out "$1" 'scapy 2.5'
+}
 
 # Runs a row, its words and input with their escapes.
 run() {
@@ -146,11 +171,13 @@ judge 'what is said of chunks that are refused' "${PIPESTATUS[1]}" 1
 look "$root/dump/objects.py" "$program"
 look "$root/dump/forms.py" "$program"
 look "$root/dump/logs.py" "$program"
-if command -v tshark >/dev/null; then
-    look "$root/dump/associations.py" "$program"
-else
-    echo 'dump: dump/associations.py: left out, since there is no tshark'
-fi
+look_with tshark "$root/dump/associations.py" "$program"
+
+# ---- blocks
+
+# They say what other programs do.
+look_with_scapy "$root/dump/scapy.py" --program "$program"
+look_with 'tshark-4 editcap mergecap text2pcap tcpdump hexdump xxd' "$root/dump/tshark.py" "$program"
 
 # ---- times
 

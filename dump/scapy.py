@@ -2,18 +2,19 @@
 # SPDX-License-Identifier: Apache-2.0
 """Compares all that sctp_dump prints of packets with scapy's dissection of the same bytes.
 
-usage: bench/scapy.py [OPTION]..
+usage: dump/scapy.py [OPTION]..
 
   --program PATH  the program, in place of crates/sctp_dump/out/sctp_dump
   --seed 1        the seed of the packets that bench/traffic.py draws
   --help          prints this
 
-Makes four captures in bench/out/scapy: Ethernet, raw IP, Linux cooked and SCTP links, in all forms of pcap. Each holds
-every kind of chunk, parameter and error cause, and packets of each traffic file. What scapy doesn't dissect is compared
-with a reading of the bytes by the RFC's layout, below. The golden run of crates/sctp_dump is compared in the same way, and
-its lines without a packet with those written by hand, below. Status: 0 if all fields agree, 1 if not, 2 if it can't run.
+Makes four captures: Ethernet, raw IP, Linux cooked and SCTP links, in all forms of pcap. Each holds every kind of chunk,
+parameter and error cause, and packets of each traffic file. What scapy doesn't dissect is compared with a reading of the
+bytes by the RFC's layout, below. The stored run of crates/sctp_dump is made and compared in the same way, and its lines
+without a packet with those written by hand, below. Prints what differs, and a last line that counts. Status: 0 if all
+fields agree, 1 if not, 2 if it can't run.
 
-Needed are scapy (apt-get install python3-scapy) and the program, built (docs/DUMP.md)."""
+Needed are scapy 2.5 (apt-get install python3-scapy) and the program, built (docs/DUMP.md)."""
 import collections
 import itertools
 import os
@@ -22,11 +23,14 @@ import string
 import struct
 import subprocess
 import sys
+import tempfile
 
+ROOT = os.path.dirname(os.path.dirname(os.path.abspath(__file__)))
+sys.dont_write_bytecode = True
+# This file has scapy's name, so its folder isn't searched.
+sys.path[0] = os.path.join(ROOT, 'bench')
 from traffic import Draw, FILES, HOSTILE_PACKETS, Peer, chunk, in_list, padding, parameter, u16, u32
 
-# This file has scapy's name: look here last.
-sys.path.append(sys.path.pop(0))
 try:
     import scapy
     from scapy.config import conf
@@ -39,8 +43,6 @@ try:
 except ImportError:
     print("scapy.py: this Python hasn't scapy: apt-get install python3-scapy, for /usr/bin/python3", file=sys.stderr)
     sys.exit(2)
-
-ROOT = os.path.dirname(os.path.dirname(os.path.abspath(__file__)))
 
 # RFC 9260 section 3.2, RFC 8260 sections 2.1 and 2.3.1, RFC 6525 section 3.1, RFC 3758 section 3.2.
 CHUNKS = {0: 'DATA', 1: 'INIT', 2: 'INIT ACK', 3: 'SACK', 4: 'HEARTBEAT', 5: 'HEARTBEAT ACK', 6: 'ABORT', 7: 'SHUTDOWN',
@@ -66,6 +68,11 @@ CAUSES = {1: 'Invalid Stream Identifier', 2: 'Missing Mandatory Parameter', 3: '
 # RFC 6525 section 4.4.
 RESULTS = ('Success - Nothing to do', 'Success - Performed', 'Denied', 'Error - Wrong SSN',
            'Error - Request already in progress', 'Error - Bad Sequence Number', 'In progress')
+# RFC 8832 section 5.1: the kinds of channels, and what is said of their reliability.
+CHANNELS = (('reliable', ''), ('partial reliable rexmit', 'reliability N, '), ('partial reliable timed', 'reliability N ms, '))
+# Controls, what crates/sctp_report/specs/Printed.antt hides, and bytes that are no character of UTF-8.
+UNSEEN = re.compile('[\0-\x1f"\\\\\x7f-\x9f\u061c\u200b-\u200f\u2028-\u202e\u2060-\u206f\udc80-\udcff\ufeff\ufff9-\ufffb'
+                    '\U000e0000-\U0010ffff]')
 
 # A line that is expected: its form, the values of its fields, and whether they are scapy's or read by the layout.
 Line = collections.namedtuple('Line', 'form values source')
@@ -111,8 +118,25 @@ def chunk_names(types):
 
 
 def quoted(text):
-    """A text between quotation marks, in which bytes that aren't printable ASCII are escaped."""
-    return '"%s"' % ''.join(chr(it) if 32 <= it < 127 and it not in b'"\\' else '\\x%02x' % it for it in text)
+    """A text between quotation marks, in which the bytes of what isn't seen, or is no character of UTF-8, are escaped."""
+    coding = 'utf-8', 'surrogateescape'
+    return '"%s"' % ''.join(''.join('\\x%02x' % byte for byte in it.encode(*coding)) if UNSEEN.match(it) else it
+                            for it in text.decode(*coding))
+
+
+def dcep(data):
+    """What a message of ppid 50 says (RFC 8832 section 5)."""
+    if data == b'\2':
+        return 'DATA_CHANNEL_ACK'
+    if data[:1] != b'\3' or len(data) < 12:
+        return 'not a DCEP message'
+    channel, priority, reliability, label, protocol = struct.unpack('>BHIHH', data[1:12])
+    if len(data) != 12 + label + protocol:
+        return 'not a DCEP message'
+    kind, number = CHANNELS[channel & 127]
+    return 'DATA_CHANNEL_OPEN: %s %s, priority %d, %slabel %s, protocol %s' % (
+        kind, 'unordered' if channel & 128 else 'ordered', priority, number.replace('N', str(reliability)),
+        quoted(data[12:12 + label]), quoted(data[12 + label:]))
 
 
 def payload(line, data, ppid, is_message, in_rows=True):
@@ -125,6 +149,8 @@ def payload(line, data, ppid, is_message, in_rows=True):
             yield line('    {row}', '%04x: %-47s  |%s|' % (at, row.hex(' '), text))
     else:
         yield line('  payload: {payload}', data)
+    if is_message and ppid == 50:
+        yield by_layout('  {message}', dcep(data))
     if is_message and ppid == 51:
         yield line('  text: {text}', quoted(data))
 
@@ -257,7 +283,7 @@ class Expected:
                 yield from self.parameter_by_layout(*item)
         else:
             line = self.layout('a chunk of an unknown type')
-            yield line('unknown chunk: type {type}, flags {flags}, {value}', typ, flags, value)
+            yield line('chunk type {number} ({type}), flags {flags}, {value}', typ, typ, flags, value)
 
     def parameters(self, found):
         found = list(found)
@@ -273,7 +299,7 @@ class Expected:
                 yield from self.parameter(p)
 
     def parameter(self, p):
-        name = PARAMETERS.get(p.type, 'unknown')
+        name = PARAMETERS.get(p.type)
         if p.type == 1:
             yield scapys('  parameter {type} {name}: {info}', p.type, name, p.data)
         elif p.type == 7:
@@ -298,12 +324,14 @@ class Expected:
             yield scapys('  parameter {type} {name}: {indication}', p.type, name, p.indication)
         elif p.type in (0x8000, 0xC000):
             yield scapys('  parameter {type} {name}', p.type, name)
-        else:
+        elif name:
             yield scapys('  parameter {type} {name}: {value}', p.type, name, bytes(p)[4:p.len])
+        else:
+            yield scapys('  parameter type {number} ({type}): {value}', p.type, p.type, bytes(p)[4:p.len])
 
     def parameter_by_layout(self, typ, value):
-        name = PARAMETERS.get(typ, 'unknown')
-        line = self.layout('a parameter of an unknown type' if name == 'unknown' else name)
+        name = PARAMETERS.get(typ)
+        line = self.layout(name or 'a parameter of an unknown type')
         if typ == 13:  # RFC 6525 section 4.1
             yield line('  parameter {type} {name}: request {request}, response {response}, last tsn {tsn}',
                        typ, name, *struct.unpack('>III', value[:12]))
@@ -324,8 +352,10 @@ class Expected:
             yield line('  parameter {type} {name}: request {request}, new streams {streams}', typ, name, request, streams)
         elif typ == 0x8001:  # RFC 9653 section 4
             yield line('  parameter {type} {name}: method {method}', typ, name, *struct.unpack('>I', value))
-        else:
+        elif name:
             yield line('  parameter {type} {name}: {value}', typ, name, value)
+        else:
+            yield line('  parameter type {number} ({type}): {value}', typ, typ, value)
 
     def streams(self, line, value):
         for stream in struct.iter_unpack('>H', value):
@@ -334,8 +364,8 @@ class Expected:
     def causes(self, value):
         """scapy gives the causes of an ERROR or an ABORT as bytes (RFC 9260 section 3.3.10)."""
         for code, value in items(value):
-            name = CAUSES.get(code, 'unknown')
-            line = self.layout('an error cause of an unknown code' if name == 'unknown' else 'error cause ' + name)
+            name = CAUSES.get(code)
+            line = self.layout('error cause ' + name if name else 'an error cause of an unknown code')
             if code == 2:
                 yield line('  cause {code} {name}', code, name)
                 count = struct.unpack('>I', value[:4])[0]
@@ -347,8 +377,10 @@ class Expected:
                 yield line('  cause {code} {name}', code, name)
             elif code in (12, 13):
                 yield line('  cause {code} {name}: {text}', code, name, quoted(value))
-            else:
+            elif name:
                 yield line('  cause {code} {name}: {value}', code, name, value)
+            else:
+                yield line('  cause code {number} ({code}): {value}', code, code, value)
 
 
 # The comparison.
@@ -452,7 +484,8 @@ GOLDEN = (
         (), 'packet 1', 'packet 2, time 17:39:54.123, incoming', 'packet 3, time 17:39:54.124, outgoing', 'packet 4',
         ('line 8 skipped: not a packet; further lines like it are counted alone', ''), 'packet 5')),
     ('faults.txt', 0, (
-        refused('packet 1', (), 'packet: 1 byte, but 16 are needed', 1, '0000: 13'),
+        refused('packet 1', header(1, ZERO), 'packet: 13 bytes, but 16 are needed', 13,
+                '0000: 13 88 13 88 00 00 00 01 00 00 00 00 0b'),
         refused('packet 2', header(1, ZERO), 'packet: 12 bytes, but 16 are needed', 12,
                 '0000: 13 88 13 88 00 00 00 01 00 00 00 00'),
         refused('packet 3, time 17:39:54.125, incoming', header(2, ZERO), 'packet: 14 bytes, but 16 are needed', 14,
@@ -470,7 +503,8 @@ GOLDEN = (
         refused('packet 9', header(8, ZERO), "COOKIE ECHO: padding of 3 bytes isn't zero", 19, '0010: ff 00 00 01',
                 'COOKIE ECHO: 1 byte: ff'),
         *skipped(18, 18, 'cut off'), ('packet 11, 15 of 16 bytes', FROM, *header(9, '0x00000000: not known'), ''),
-        *skipped(20, 20, 'cut off'), ('packet 13, 8 of 16 bytes', FROM, 'udp source 9899, destination 9899', ''),
+        *skipped(20, 20, 'cut off'), ('packet 13, 8 of 16 bytes', FROM, 'udp source 9899, destination 9899',
+                                   'source 5000, destination 5000, tag 0x0000000a', ''),
         *skipped(23, 28, 'a fragment'), *skipped(34, 41, "a header's length is wrong"),
         *skipped(60, 60, "its offset doesn't continue a packet; further lines like it are counted alone"))),
     ('-', 0, ('packet 1',)),
@@ -523,11 +557,12 @@ def golden_lines(expected, folder):
     yield by_hand(GOLDEN_COUNTS)
 
 
-def golden(expected):
+def golden(expected, program):
     folder = os.path.join(ROOT, 'crates', 'sctp_dump')
-    with open(os.path.join(folder, 'stdout'), encoding='utf-8') as file:
-        lines = file.read().removesuffix('\n').split('\n')
-    return compared(lines, list(golden_lines(expected, folder)), 16)
+    with open(os.path.join(folder, 'args'), encoding='utf-8') as args, open(os.path.join(folder, 'stdin'), 'rb') as stdin:
+        run = subprocess.run([program, *args.read().splitlines()], stdin=stdin, capture_output=True, encoding='utf-8',
+                             cwd=os.path.join(folder, 'data'), check=False)
+    return compared(run.stdout.removesuffix('\n').split('\n'), list(golden_lines(expected, folder)), 16)
 
 
 # The captures.
@@ -549,6 +584,12 @@ def association():
         parameter(0xC000, b''), parameter(7, cookie), parameter(0x8008, b'')]))]
     yield [chunk(10, 0, cookie), chunk(0, 3, u32(1) + u16(2) + u16(3) + u32(50) + payload)]
     yield [chunk(11, 0, b''), chunk(0, 3, u32(4) + u16(5) + u16(6) + u32(53))]
+    texts = 'caf\u00e9 "1"'.encode(), b'\xff\0'
+    opened = u32(0x01020304) + u16(len(texts[0])) + u16(len(texts[1])) + b''.join(texts)
+    for message in [b'\2', b'\3', b'\2\0', *(bytes([3, channel]) + u16(256) + opened for channel in (0, 1, 2, 128, 129, 130))]:
+        yield [chunk(0, 3, u32(4) + u16(5) + u16(6) + u32(50) + message), chunk(0, 2, u32(5) + u16(5) + u16(7) + u32(50) + message)]
+    seldom = 'caf\u00e9 \x07\x7f\x85\xa0\u061c\u200a\u200b\u2010\u202e\u202f\u2066\ufefe\ufeff\ufffd\U0001f600\U000e0001'
+    yield [chunk(0, 3, u32(4) + u16(5) + u16(6) + u32(51) + seldom.encode() + b'\xc0\x80\xed\xa0\x80\xf4\x90\x80\x80\xe2\x82')]
     for flags, ppid in zip(range(16), itertools.cycle([0, 46, 51, 52, 53, 54, 56, 57, 58, 0xFFFFFFFF])):
         yield [chunk(0, flags, u32(0xFFFFFFF0 + flags) + u16(1000 + flags) + u16(65535 - flags) + u32(ppid)
                      + payload[flags:])]
@@ -659,22 +700,23 @@ def main():
     if not os.access(options['--program'], os.X_OK):
         print('scapy.py: no program %s (docs/DUMP.md builds it)' % options['--program'], file=sys.stderr)
         return 2
-    folder = os.path.join(ROOT, 'bench', 'out', 'scapy')
-    os.makedirs(folder, exist_ok=True)
+    with tempfile.TemporaryDirectory() as folder:
+        return compare(os.path.abspath(options['--program']), options['--seed'], folder)
+
+
+def compare(program, seed, folder):
     bind()
     expected, total, count, bad = Expected(), collections.Counter(), 0, 0
-    agreed, wrong = golden(expected)
-    print('golden run: %d fields agree, %d lines are wrong' % (sum(agreed.values()), len(wrong)))
-    for line in wrong:
-        print('  ' + line)
-    bad += bool(wrong)
+    agreed, wrong = golden(expected, program)
+    total, bad = total + agreed, bad + bool(wrong)
+    print('the stored run: %d fields agree' % sum(agreed.values()), *wrong, sep='\n  ')
     expected.in_rows = True
     for name, order, digits, link, headers in CAPTURES:
         path = os.path.join(folder, name + '.pcap')
-        contents = list(packets(options['--seed'], name))
+        contents = list(packets(seed, name))
         with open(path, 'wb') as file:
             file.write(capture(order, digits, link, headers, contents))
-        run = subprocess.run([options['--program'], '--payload', path], capture_output=True, text=True, check=False)
+        run = subprocess.run([program, '--payload', path], capture_output=True, encoding='utf-8', check=False)
         if run.returncode > 1:
             print('scapy.py: the program failed: %s' % run.stderr, file=sys.stderr)
             return 2
@@ -683,14 +725,12 @@ def main():
         for number, (frame, packet) in enumerate(zip(PcapReader(path), contents, strict=True), 1):
             agreed, wrong = compared(printed.get(number, []), list(expected.packet(number, frame, digits)), 2 ** 16)
             count, bad, total = count + 1, bad + bool(wrong), total + agreed
-            print('packet %d: %d fields agree%s' % (
-                number, sum(agreed.values()), ", %d don't: %s" % (len(wrong), packet.hex()) if wrong else ''))
-            for line in wrong:
-                print('  ' + line)
+            if wrong:
+                print('packet %d: %s' % (number, packet.hex()), *wrong, sep='\n  ')
     print("scapy %s doesn't dissect: %s" % (scapy.VERSION, ', '.join(sorted(expected.undissected))))
     for fault, times in expected.corrected.items():
         print("scapy's fault, corrected %d times: %s" % (times, fault))
-    print('%d packets, %d with a disagreement; %d fields agree, %d with scapy and %d with the RFC\'s layout' % (
+    print('scapy: %d packets and the stored run, %d with a difference; %d fields agree, %d with scapy and %d with the RFCs\' layout' % (
         count, bad, sum(total.values()), total[SCAPY], total[LAYOUT]))
     return 1 if bad else 0
 

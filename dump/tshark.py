@@ -2,32 +2,40 @@
 # SPDX-License-Identifier: Apache-2.0
 """Compares what sctp_dump prints with tshark's dissection, field by field, over captures that other tools wrote.
 
-usage: bench/tshark.py [PROGRAM]
+usage: dump/tshark.py [PROGRAM [FOLDER]]
 
 PROGRAM is crates/sctp_dump/out/sctp_dump unless it is named (docs/DUMP.md says how to build it). Makes captures of each
-link type in bench/out/tshark: the packets of crates/sctp_dump/data/association.txt and some of each traffic file, with and
+link type, which FOLDER keeps: the packets of crates/sctp_dump/data/association.txt and one of each traffic file, with and
 without VLAN tags, over IPv4 and IPv6, and in UDP. editcap, mergecap and text2pcap write them as pcap and pcapng files;
 tcpdump, tshark, hexdump, od and xxd as text, whose packets are compared with those of the capture that they show.
 
-Prints a line for each file, a line for each difference, and a last line that counts. Status: 0 if all fields agree, 1 if
-not. Needed are tshark, tcpdump, hexdump and xxd (apt-get install tshark tcpdump bsdextrautils xxd)."""
+Prints a line for each file with a difference, a line for each difference, and a last line that counts. Status: 0 if all
+fields agree, 1 if not, 2 if it can't run. Needed are tshark 4, tcpdump, hexdump and xxd (apt-get install tshark tcpdump
+bsdextrautils xxd)."""
 import collections
+import functools
 import glob
 import ipaddress
 import itertools
 import os
 import re
+import shutil
 import struct
 import subprocess
 import sys
+import tempfile
 import xml.etree.ElementTree
+from concurrent.futures import ThreadPoolExecutor
 from decimal import Decimal
 
-from dump import sealed
-from traffic import Draw, FILES, HOSTILE_PACKETS, Peer, chunk
-
 ROOT = os.path.dirname(os.path.dirname(os.path.abspath(__file__)))
-DATA, FOLDER = os.path.join(ROOT, 'crates', 'sctp_dump', 'data'), os.path.join(ROOT, 'bench', 'out', 'tshark')
+sys.dont_write_bytecode = True
+sys.path.append(os.path.join(ROOT, 'bench'))
+from associations import crc32c
+from traffic import Draw, FILES, HOSTILE_PACKETS, Peer, chunk, u16
+
+DATA = os.path.join(ROOT, 'crates', 'sctp_dump', 'data')
+TOOLS = 'tshark', 'editcap', 'mergecap', 'text2pcap', 'tcpdump', 'hexdump', 'od', 'xxd'
 CHUNKS = {'DATA': 0, 'INIT': 1, 'INIT ACK': 2, 'SACK': 3, 'HEARTBEAT': 4, 'HEARTBEAT ACK': 5, 'ABORT': 6, 'SHUTDOWN': 7,
           'SHUTDOWN ACK': 8, 'ERROR': 9, 'COOKIE ECHO': 10, 'COOKIE ACK': 11, 'SHUTDOWN COMPLETE': 14, 'I-DATA': 64,
           'RE-CONFIG': 130, 'FORWARD-TSN': 192, 'I-FORWARD-TSN': 194, 'AUTH': 15, 'ASCONF ACK': 128, 'PAD': 132, 'ASCONF': 193}
@@ -85,18 +93,24 @@ def said(line, values, chunks):
     # What is counted from other numbers, and what a message says, isn't compared.
     if line.startswith(('  text: ', '  DATA_CHANNEL_')):
         return
+    line = re.sub(r'^  (parameter|cause) (?:type|code) (\d+) \(\w+\)', r'  \1 \2', line)
     line = re.sub(r'"[^"]*"|\([^)]*\)|(?<= to )(\d+): tsn .*', r'\1', line)
     if line[0] != ' ' or not chunks:
         name = re.split('[:,]', line)[0]
-        typ = re.match('unknown chunk: type (0x[0-9a-f]+)', line)
-        chunks.append([('chunk', int(typ[1], 0) if typ else CHUNKS.get(name, name))])
+        typ = re.match(r'chunk type (\d+) ', line)
+        chunks.append([('chunk', int(typ[1]) if typ else CHUNKS.get(name, name))])
     chunks[-1] += [(name, int(number, 0)) for name, number in NUMBER.findall(line)] + [(it, 1) for it in WORD.findall(line)]
-    size = re.match(r'  payload: (\d+) byte|\S[^:]*: (?:type \w+, )?(?:flags \w+, )?(\d+) byte', line)
+    size = re.match(r'  payload: (\d+) byte|\S[^:,]*[:,] (?:flags \w+, )?(\d+) byte', line)
     chunks[-1] += [('bytes', int(size[1] or size[2]))] if size else []
 
 
+@functools.lru_cache(None)
 def dissected(path):
     """What tshark says of each packet, in the same form."""
+    return list(dissect(path))
+
+
+def dissect(path):
     command = ['tshark', '-n', '-r', path, '-T', 'pdml', '-Y', 'sctp.checksum and !(ip.flags.mf == 1 or ip.frag_offset > 0)',
                '-o', 'sctp.checksum:CRC 32c', '-o', 'ip.defragment:FALSE', '-o', 'ipv6.defragment:FALSE']
     with subprocess.Popen(command, stdout=subprocess.PIPE, stderr=subprocess.DEVNULL) as run:
@@ -159,8 +173,8 @@ def differences(mine, theirs, absent):
 
 def compare(program, path, capture, absent=(), numbered=True):
     """Compares the packets of a file with those of the capture that it shows; a text has numbers of its own."""
-    mine, theirs = [it for it in printed(program, path) if 'checksum' in it[1]], list(dissected(capture))
-    theirs = {it[0] if numbered else at: it for at, it in enumerate(theirs, 1)}
+    mine = [it for it in printed(program, path) if 'checksum' in it[1]]
+    theirs = {it[0] if numbered else at: it for at, it in enumerate(dissected(capture), 1)}
     agreed, wrong = 0, []
     numbers = [it[0] for it in mine]
     if numbers != list(theirs) and not (set(absent) & {'missing'} and set(numbers) < set(theirs)):
@@ -169,22 +183,24 @@ def compare(program, path, capture, absent=(), numbered=True):
         if packet[0] in theirs:
             found = differences(packet, theirs[packet[0]], absent)
             agreed, wrong = agreed + found[0], wrong + found[1]
-    print('%s: %d packets, %d fields agree' % (os.path.relpath(path, ROOT), len(mine), agreed))
-    for line in wrong:
-        print('  ' + line)
+    if wrong:
+        print('%s: %d packets, %d fields agree' % (path, len(mine), agreed), *wrong, sep='\n  ')
     return agreed, len(wrong)
 
 
 # The captures.
 
+def sealed(packet):
+    """The packet with its CRC32c."""
+    return packet[:8] + crc32c(packet[:8] + bytes(4) + packet[12:]) + packet[12:]
+
+
 def packets():
     with open(os.path.join(DATA, 'association.txt'), encoding='ascii') as file:
         yield from (bytes.fromhex(line) for line in file if re.match('[0-9a-f]', line) and len(line) > 32)
-    for name, _, count, make in FILES:
-        peer = Peer(Draw(1, name))
-        for at in range(4 if count > HOSTILE_PACKETS else 0):
-            packet = make(peer)
-            yield [sealed(packet), sealed(packet), packet, packet[:8] + bytes(4) + packet[12:]][at]
+    for at, (name, make) in enumerate((name, make) for name, _, count, make in FILES if count > HOSTILE_PACKETS):
+        packet = make(Peer(Draw(1, name)))
+        yield [sealed(packet), sealed(packet), packet, packet[:8] + bytes(4) + packet[12:]][at % 4]
     for typ in (15, 73, 132, 255):
         yield sealed(bytes.fromhex('1388138800000001') + bytes(4) + chunk(typ, 0, bytes(range(60))) + chunk(11, 0, b''))
 
@@ -209,10 +225,6 @@ def ip_packets(at, packet):
             (0x86DD, ipv6(udp(packet), 17)))[at % 4]
 
 
-def u16(number):
-    return struct.pack('>H', number)
-
-
 # A capture's name, link type, and frame of a packet's number in the capture, type and IP packet.
 LINKS = (
     ('ethernet', 1, lambda at, typ, ip: bytes(12) + (b'', b'\x81\0\0\5', b'\x88\xa8\0\6\x81\0\0\5')[at % 3] + u16(typ) + ip),
@@ -231,13 +243,18 @@ def run(*command):
     return done.stdout
 
 
+def dumped(frames, *tool):
+    """A dump of each frame by itself, one after the other."""
+    return b''.join(subprocess.run(tool, input=frame, capture_output=True, check=True).stdout for frame in frames)
+
+
 def write(path, contents):
     with open(path, 'wb') as file:
         file.write(contents)
     return path
 
 
-def captures():
+def captures(folder):
     """Writes captures of each link type, and returns the frames of each by its path."""
     contents = list(packets())
     alone = [('sctp', 248, contents), ('ipv4', 228, [ipv4(it) for it in contents]), ('ipv6', 229, [ipv6(it) for it in contents])]
@@ -247,46 +264,68 @@ def captures():
         capture = struct.pack(order + 'IHHiIII', magic, 2, 4, 0, 0, 262144, link)
         for number, frame in enumerate(frames):
             capture += struct.pack(order + 'IIII', 1700000000 + number, number * 1001, len(frame), len(frame)) + frame
-        yield write(os.path.join(FOLDER, name + '.pcap'), capture), link, frames
+        yield write(os.path.join(folder, name + '.pcap'), capture), link, frames
+
+
+def files_of(path, link, frames):
+    """Writes the forms of a capture. Each has its path, that of the capture that it shows, and more for `compare`."""
+    name = path.removesuffix('.pcap')
+    yield path, path
+    for suffix, *options in (('.nano.pcap', '-F', 'nsecpcap'), ('.pcapng', '-F', 'pcapng'),
+                             ('.cut.pcap', '-F', 'pcap', '-s', '96'), ('.cut.pcapng', '-F', 'pcapng', '-s', '50')):
+        run('editcap', *options, path, name + suffix)
+        if 'cut' in suffix:  # what is left is what the whole packet has there
+            yield name + suffix, name + suffix
+            yield name + suffix, path, ('missing', 'verdict', 'time')
+        else:
+            yield name + suffix, path
+    od = write(name + '.od', dumped(frames, 'od', '-A', 'x', '-t', 'x1', '-v'))
+    for suffix in '.text.pcap', '.text.pcapng':
+        run('text2pcap', '-q', '-F', suffix[6:], '-l', str(link), od, name + suffix)
+        yield name + suffix, path, ('time',)
+    texts = [] if link == 248 else [write(name + '.x', run('tcpdump', '-n', '-x', '-r', path))]
+    if link in (1, 113, 101, 228, 229):  # frames that a text's bytes show
+        texts.append(write(name + '.xx', run('tcpdump', '-n', '-xx', '-r', path)))
+    if link in (1, 113, 101, 228, 229, 248):
+        texts += [od, write(name + '.hexdump', dumped(frames, 'hexdump', '-C', '-v'))]
+    if link == 248:
+        texts.append(write(name + '.xxd', dumped(frames, 'xxd')))
+    if link not in (0, 108, 276):
+        texts.append(write(name + '.tshark', run('tshark', '-n', '-x', '-r', path)))
+    yield from ((it, path, ('time',), False) for it in texts)
 
 
 def main():
-    if len(sys.argv) > 2 or sys.argv[1:2] in (['--help'], ['-h']):
+    if len(sys.argv) > 3 or sys.argv[1:2] in (['--help'], ['-h']):
         print(__doc__)
         return 0
     program = sys.argv[1] if len(sys.argv) > 1 else os.path.join(ROOT, 'crates', 'sctp_dump', 'out', 'sctp_dump')
-    os.makedirs(FOLDER, exist_ok=True)
+    missing = [it for it in (*TOOLS, program) if not shutil.which(it)]
+    if missing:
+        print('tshark.py: there is no %s' % ', '.join(missing), file=sys.stderr)
+        return 2
+    if len(sys.argv) > 2:
+        os.makedirs(sys.argv[2], exist_ok=True)
+        return compare_all(program, sys.argv[2])
+    with tempfile.TemporaryDirectory() as folder:
+        return compare_all(program, folder)
+
+
+def compare_all(program, folder):
     files = [(it, it) for it in glob.glob(os.path.join(DATA, '*.pcap'))]
-    made = list(captures())
-    for path, link, frames in made:
-        name = path.removesuffix('.pcap')
-        for suffix, options in (('.nano.pcap', ['-F', 'nsecpcap']), ('.pcapng', ['-F', 'pcapng']),
-                                ('.cut.pcap', ['-F', 'pcap', '-s', '96']), ('.cut.pcapng', ['-F', 'pcapng', '-s', '50'])):
-            run('editcap', *options, path, name + suffix)
-            files.append((name + suffix, name + suffix))
-            if 'cut' in suffix:  # what is left is what the whole packet has there
-                files.append((name + suffix, path, ('missing', 'verdict', 'time')))
-        dumps = {tool: [] for tool in ('hexdump -C -v', 'od -A x -t x1 -v', 'xxd')}
-        for frame, (tool, said) in itertools.product(frames, dumps.items()):
-            said.append(subprocess.run(tool.split(), input=frame, capture_output=True, check=True).stdout)
-        dumped = {tool.split()[0]: write(name + '.' + tool.split()[0], b''.join(said)) for tool, said in dumps.items()}
-        for suffix in '.text.pcap', '.text.pcapng':
-            run('text2pcap', '-q', '-F', suffix[6:], '-l', str(link), dumped['od'], name + suffix)
-            files.append((name + suffix, name + suffix))
-        files.append((path, path))
-        texts = list(dumped.values()) if link == 248 else [write(name + '.x', run('tcpdump', '-n', '-x', '-r', path))]
-        if link in (1, 113, 101, 228, 229):  # frames that a text's bytes show
-            texts += [write(name + '.xx', run('tcpdump', '-n', '-xx', '-r', path)), dumped['hexdump'], dumped['od']]
-        if link not in (0, 108, 276):
-            texts.append(write(name + '.tshark', run('tshark', '-n', '-x', '-r', path)))
-        files += [(it, path, ('time',), False) for it in texts]
+    made = list(captures(folder))
+    # The tools work side by side.
+    with ThreadPoolExecutor(os.cpu_count()) as pool:
+        files += itertools.chain(*pool.map(lambda it: list(files_of(*it)), made))
     for name, options in (('merged', []), ('appended', ['-a']), ('interfaces', ['-I', 'none'])):
-        path = os.path.join(FOLDER, name + '.pcapng')
+        path = os.path.join(folder, name + '.pcapng')
         run('mergecap', *options, '-w', path, *(it for it, _, _ in made))
         files.append((path, path))
+    with ThreadPoolExecutor(os.cpu_count()) as pool:
+        list(pool.map(dissected, sorted({it[1] for it in files})))
     results = [compare(program, *it) for it in files]
     agreed, differ = map(sum, zip(*results))
-    print('bench: %d files, %d fields agree, %d differ' % (len(results), agreed, differ))
+    print('tshark: %d files, %d fields agree, %d differ' % (len(results), agreed, differ))
     return 1 if differ else 0
 
 
