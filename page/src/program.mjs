@@ -1,13 +1,17 @@
 // SPDX-License-Identifier: Apache-2.0
 // Runs the program sctp_dump, which is proved, as WebAssembly. These few functions are all that it takes from a system.
 
+export { run };
+
 const NO_FILE = 2, FAILED = 5, BAD_FILE = 9, IS_PIPE = 29; // as Linux numbers errors
+
+/** @typedef {{ memory: WebAssembly.Memory, malloc(size: bigint): bigint, rattle_main(): number }} Exports */
 
 /** Runs the program to its end, and returns its status. `words` are its arguments; `open(name)` returns an input, or
     undefined if there is none of that name; `open('-')` is standard input. An input's `read(size)` returns at most so many
     bytes, and none at its end. `print` and `report` take the bytes of standard output and standard error, which hold until
     they return. */
-export function run(module, { words, open, print, report }) {
+function run(module, { words, open, print, report }) {
   const encoded = ['sctp_dump', ...words].map(it => new TextEncoder().encode(it));
   const inputs = [open('-'), undefined, undefined];
   let errno = 0, features = 0n;
@@ -25,6 +29,7 @@ export function run(module, { words, open, print, report }) {
     return size;
   };
   const env = {
+    /** @param {number} room */
     rattle_arg(index, at, room) {
       const word = encoded[Number(index)];
       if (!word)
@@ -63,7 +68,7 @@ export function run(module, { words, open, print, report }) {
     // The program asks whether an x86-64 has what it was compiled for: it wasn't here, so all is there.
     rattle_cpuid: () => features,
   };
-  const { exports } = new WebAssembly.Instance(module, { env });
+  const exports = /** @type {Exports} */ (/** @type {unknown} */ (new WebAssembly.Instance(module, { env }).exports));
   const memory = exports.memory;
   features = exports.malloc(64n);
   bytesAt(features, 64).fill(255);

@@ -1,37 +1,66 @@
 // SPDX-License-Identifier: Apache-2.0
 // What was read: a row of numbers for each line, and the lines themselves in Blobs, which the browser may keep on disk.
-import { COLUMNS, FLAGS, isAssociation, isSummary, KINDS, OF_DAY, pairsOf, parsed, senderByPlace, senderByTag } from './keys.mjs';
+import { associationOf, COLUMNS, FLAGS, isAssociation, isSummary, KINDS, OF_DAY, pairsOf, parsed } from './keys.mjs';
 
-export class Store {
+export { Store };
+
+/** @type {Result} */
+const NO_RESULT = { errors: '', signs: [] };
+
+class Store {
   count = 0;
-  columns = Object.fromEntries(Object.entries(COLUMNS).map(([name, type]) => [name, new type(1024)]));
+  /** @type {Columns} */
+  columns = /** @type {any} */ (Object.fromEntries(Object.entries(COLUMNS).map(([name, type]) => [name, new type(1024)])));
+  /** @type {Flow[]} */
   flows = [];
+  /** @type {ChunkSummary[]} */
   summaries = [];
+  /** @type {string[]} */
   notes = [];
+  /** @type {Blob[]} */
   batches = [];
+  /** @type {Association[]} */
   associations = [];
   /** Counts of rows by kind, and of packets by flag. */
   kinds = KINDS.map(() => 0);
   flags = Object.fromEntries(Object.keys(FLAGS).map(it => [it, 0]));
+  /** @type {Summary | undefined} */
   summary;
   read = 0;
   /** At the end: what was said on standard error, and what the files' first bytes show. */
   errors = '';
+  /** @type {string[]} */
   signs = [];
   isAtEnd = false;
   isStopped = false;
   /** Files' numbers by their names, if there are several. */
   files = new Map();
-  /** For each flow whose packets no tag gives to an association: the associations between the same places. */
-  placed = [];
+  /** The beginning of each row's texts, in small letters. */
+  texts = /** @type {string[]} */ ([]);
+  /** Data channels, and how many messages are on streams that aren't among them.
+      @type {Channel[]} */
+  channels = [];
+  unlisted = 0;
+  /** The first row that has a time.
+      @type {number | undefined} */
+  first;
+  /** For each of the first `linked` rows the one before it in its association, and of each association the latest row. They are
+      made once they are asked for. */
+  links = new Uint32Array();
+  linked = 0;
+  latest = /** @type {Map<number, number>} */ (new Map());
+  /** At the end: nanoseconds from that to the last row that has a time.
+      @type {number | undefined} */
+  span;
 
   /** How many packets there are: accepted ones, refused ones, and those that were cut off. */
   get packets() {
     return this.kinds[0] + this.kinds[1] + this.kinds[2];
   }
 
-  /** Adds what the Worker posted. */
-  add({ lines, columns, objects, read, flows, summaries, notes }) {
+  /** Adds what the Worker posted.
+      @param {Batch} batch */
+  add({ lines, columns, objects, read, flows, summaries, notes, texts, channels, unlisted }) {
     const more = columns.kind.length;
     for (const [name, column] of Object.entries(this.columns)) {
       if (column.length < this.count + more) {
@@ -40,28 +69,51 @@ export class Store {
       }
       this.columns[name].set(columns[name], this.count);
     }
+    for (let row = this.count; row < this.count + more; row++)
+      this.addDays(row);
     this.count += more;
     this.read = read;
     this.batches.push(lines);
     flows.forEach(it => this.flows.push(it));
     summaries.forEach(it => this.summaries.push(it));
     notes.forEach(it => this.notes.push(it));
+    texts.forEach(it => this.texts.push(it));
+    for (const it of channels)
+      this.channels[it.channel - 1] = it;
+    this.unlisted = unlisted;
     for (const it of objects) {
       if (isAssociation(it))
         this.associations.push(it);
       else if (isSummary(it))
         this.summary = it;
     }
-    this.placed = [];
     columns.kind.forEach((it, i) => {
       this.kinds[it]++;
       if (KINDS[it] === 'file')
         this.files.set(this.notes[columns.note[i]], columns.file[i]);
     });
-    for (const [name, bit] of Object.entries(FLAGS))
-      this.flags[name] += columns.flags.reduce((sum, it) => sum + (it & bit ? 1 : 0), 0);
+    // (few rows differ in what they have)
+    const counts = new Map();
+    for (const it of columns.flags)
+      counts.set(it, (counts.get(it) ?? 0) + 1);
+    for (const [bits, count] of counts) {
+      for (const [name, bit] of Object.entries(FLAGS))
+        this.flags[name] += bits & bit ? count : 0;
+    }
   }
 
+  /** Puts a time of day on the day that brings it nearest to the latest one, from the first day on: a log goes on after midnight.
+      @param {number} row */
+  addDays(row) {
+    const { seconds, digits } = this.columns, second = seconds[row];
+    if (!(digits[row] & OF_DAY) || second < 0 || second >= 86400)
+      return;
+    const days = Math.round(((this.latestOfDay ?? second) - second) / 86400);
+    seconds[row] += 86400 * Math.max(0, days);
+    this.latestOfDay = Math.max(this.latestOfDay ?? 0, seconds[row]);
+  }
+
+  /** @param {number} row */
   at(row) {
     const it = { row };
     for (const name in this.columns)
@@ -69,22 +121,34 @@ export class Store {
     return it;
   }
 
-  /** The TSNs of a row's DATA. */
+  /** The TSNs of a row's DATA.
+      @param {number} row */
   tsns(row) {
     const first = this.columns.tsn[row];
     return this.summaries[this.columns.summary[row]].tsns.map(it => (first + it) >>> 0);
   }
 
-  /** Whether a row is a packet: neither what was skipped nor a file. */
+  /** The TSN that a row's FORWARD-TSN skips to, or undefined.
+      @param {number} row */
+  forward(row) {
+    const { forward } = this.summaries[this.columns.summary[row]];
+    return forward === undefined ? undefined : (this.columns.tsn[row] + forward) >>> 0;
+  }
+
+  /** Whether a row is a packet: neither what was skipped nor a file.
+      @param {number} row */
   isPacket(row) {
     return this.columns.kind[row] < 3;
   }
 
+  /** @param {number} row
+      @param {FlagName} flag */
   has(row, flag) {
     return (this.columns.flags[row] & FLAGS[flag]) !== 0;
   }
 
-  /** The lines of these rows, as Blobs: those that follow each other are one. */
+  /** The lines of these rows, as Blobs: those that follow each other are one.
+      @param {number[]} rows */
   lines(rows) {
     const { batch, offset, size } = this.columns, ranges = [];
     for (const row of rows) {
@@ -97,83 +161,189 @@ export class Store {
     return ranges.map(it => this.batches[it.batch].slice(it.from, it.to));
   }
 
-  /** The objects of these rows, read from their lines. */
+  /** The objects of these rows, read from their lines.
+      @param {number[]} rows
+      @returns {Promise<Line[]>} */
   async objects(rows) {
-    return Promise.all(rows.map(async row => parsed(await this.lines([row])[0].text())));
+    return Promise.all(rows.map(async row => /** @type {Line} */ (parsed(await this.lines([row])[0].text()))));
   }
 
-  /** The program is at its end. If it was stopped, there are pairs of ends in the place of associations. */
-  finish({ errors, signs } = { errors: '', signs: [] }, isStopped = false) {
+  /** The program is at its end, or was stopped. */
+  finish({ errors, signs } = NO_RESULT, isStopped = false) {
     Object.assign(this, { errors, signs, isAtEnd: true, isStopped });
-    if (!this.associations.length) {
-      this.associations = pairsOf(this.flows);
-      this.placed = [];
+    this.complete();
+    let last = this.count - 1;
+    while (last > 0 && !this.columns.digits[last])
+      last--;
+    this.span = this.since(last);
+  }
+
+  /** Makes the associations that the program didn't print: of the rows that have their numbers, or else, if there is none at
+      all, of pairs of ends. */
+  complete() {
+    const { association, end, flow } = this.columns, known = new Set(this.associations.map(it => it.association));
+    if (!known.size && !association.some(it => it)) {
+      const pairs = pairsOf(this.flows);
+      for (let row = 0; row < this.count; row++)
+        [association[row], end[row]] = pairs[flow[row]] ?? [0, 0];
+      this.linked = 0;
+      this.latest.clear();
+    }
+    for (let row = 0; row < this.count; row++) {
+      if (association[row] && !known.has(association[row])) {
+        known.add(association[row]);
+        this.associations.push(associationOf(association[row], this.flows[flow[row]], end[row]));
+      }
+    }
+    this.associations.sort((a, b) => a.association - b.association);
+    const byNumber = new Map(this.associations.map(it => [it.association, it]));
+    for (const channel of this.channels) {
+      channel.ends.forEach((end, i) => {
+        const own = byNumber.get(channel.association)?.ends[i];
+        Object.assign(end, { addresses: own?.addresses, port: own?.port });
+      });
     }
   }
 
-  /** The rows of an association's packets, and who sent each. */
+  /** The rows of an association's packets, and who sent each.
+      @param {{ association: number }} association
+      @returns {{ rows: number[], senderOf: SenderOf }} */
   rowsOf(association) {
-    const senderOf = this.senderOf(association), rows = [];
+    const { columns } = this, rows = [];
     for (let row = 0; row < this.count; row++) {
-      if (senderOf(row) !== undefined)
+      if (columns.association[row] === association.association)
         rows.push(row);
     }
-    return { rows, senderOf };
+    return { rows, senderOf: row => columns.end[row] };
   }
 
-  /** The association that a packet's row belongs to. */
+  /** The association that a packet's row belongs to.
+      @param {number} row */
   associationOf(row) {
-    const flow = this.flows[this.columns.flow[row]];
-    return this.associations.find(it => senderByTag(it, flow) !== undefined) ?? this.latest(row);
+    const number = this.columns.association[row];
+    return number ? this.associations.find(it => it.association === number) : undefined;
   }
 
-  /** A function from a row to the end of the association that sent its packet, or undefined if none did. */
-  senderOf(association) {
-    const tagged = this.flows.map(it => senderByTag(association, it)), placed = this.flows.map(it => senderByPlace(association, it));
-    return row => {
-      const flow = this.columns.flow[row];
-      return tagged[flow] ?? (placed[flow] !== undefined && this.latest(row) === association ? placed[flow] : undefined);
-    };
+  /** The longest time without a packet of each association, by its number, and the packet after it.
+      @returns {Map<number, Silence>} */
+  silences() {
+    const { association, number, file } = this.columns, last = new Map(), longest = new Map();
+    const names = new Map([...this.files].map(([name, its]) => [its, name]));
+    for (let row = 0; row < this.count; row++) {
+      const its = association[row], before = last.get(its);
+      if (!its)
+        continue;
+      const nanos = before === undefined ? undefined : this.between(before, row);
+      if (nanos !== undefined && nanos >= 0 && !(longest.get(its)?.nanos >= nanos))
+        longest.set(its, { nanos, packet: number[row], file: names.get(file[row]) });
+      last.set(its, row);
+    }
+    return longest;
   }
 
-  /** The association that a packet belongs to by its places, where no tag gives it to one: the latest that began before it. */
-  latest(row) {
-    const { columns, associations, files } = this, number = columns.flow[row], flow = this.flows[number];
-    this.placed[number] ??= associations.some(it => senderByTag(it, flow) !== undefined) ? []
-      : associations.filter(it => senderByPlace(it, flow) !== undefined);
-    return this.placed[number].findLast(({ began }) => {
-      const file = files.get(began?.file) ?? 0;
-      return !began || file < columns.file[row] || file === columns.file[row] && began.packet <= columns.number[row];
-    });
+  /** The row of a packet by its number, and the name of its file if there are several.
+      @param {number} packet
+      @param {string | undefined} file */
+  rowOf(packet, file) {
+    const { number, file: files } = this.columns, wanted = this.files.get(file) ?? 0;
+    return number.findIndex((it, row) => it === packet && row < this.count && this.isPacket(row) && files[row] === wanted);
   }
 
-  /** Nanoseconds from one row's time to another's, or undefined. */
+  /** Nanoseconds since the first row that has a time, or undefined.
+      @param {number} row */
+  since(row) {
+    if (!this.columns.digits[row])
+      return;
+    this.first ??= this.columns.digits.findIndex(it => it);
+    return this.between(this.first, row);
+  }
+
+  /** Nanoseconds from one row's time to another's, or undefined.
+      @param {number} first
+      @param {number} row */
   between(first, row) {
     const { seconds, nanos, digits } = this.columns;
     if (digits[first] && digits[row])
       return (seconds[row] - seconds[first]) * 1e9 + nanos[row] - nanos[first];
   }
 
-  /** A row's time as text: since the first one, or as it is, by UTC. */
+  /** The packet before a row's in its association, of those that have a time, or the row itself if it is the first.
+      @param {number} row */
+  previous(row) {
+    const { association, digits } = this.columns;
+    if (this.links.length < this.count) {
+      const links = new Uint32Array(2 * this.count);
+      links.set(this.links);
+      this.links = links;
+    }
+    for (; this.linked < this.count; this.linked++) {
+      const at = this.linked;
+      this.links[at] = this.latest.get(association[at]) ?? at;
+      if (this.isPacket(at) && digits[at])
+        this.latest.set(association[at], at);
+    }
+    return this.links[row];
+  }
+
+  /** Nanoseconds from the packet before a row's in its association, or undefined.
+      @param {number} row */
+  silence(row) {
+    const previous = this.previous(row);
+    return previous === row ? undefined : this.between(previous, row);
+  }
+
+  /** A row's time as text, with all that is known: by UTC, and of a log the day, if it isn't the first.
+      @param {number} row */
+  wholeTime(row) {
+    const { seconds, digits } = this.columns, day = Math.floor(seconds[row] / 86400);
+    return digits[row] ? this.time(row, false) + (digits[row] & OF_DAY ? day ? `, day ${day + 1} of the log` : '' : ' UTC') : '';
+  }
+
+  /** A row's time as text, by a clock.
+      @param {number} row
+      @param {State['clock']} clock */
+  timeBy(row, clock) {
+    if (clock === 'previous')
+      return this.silence(row) === undefined ? '' : this.difference(this.previous(row), row);
+    return this.time(row, clock === 'since');
+  }
+
+  /** From one row's time to another's, as text with the digits of the other.
+      @param {number} first
+      @param {number} row */
+  difference(first, row) {
+    const { seconds, nanos } = this.columns;
+    let whole = seconds[row] - seconds[first], part = nanos[row] - nanos[first];
+    const sign = whole < 0 || whole === 0 && part < 0 ? '-' : '';
+    if (sign)
+      [whole, part] = [-whole, -part];
+    if (part < 0)
+      [whole, part] = [whole - 1, part + 1e9];
+    return `${sign}${whole}${this.fraction(row, part)}`;
+  }
+
+  /** Nanoseconds as a fraction, with the digits of a row's time.
+      @param {number} row
+      @param {number} nanos */
+  fraction(row, nanos) {
+    const decimals = (this.columns.digits[row] & ~OF_DAY) - 1;
+    return decimals ? `.${String(nanos).padStart(9, '0').slice(0, decimals)}` : '';
+  }
+
+  /** A row's time as text: since the first one, or as it is, by UTC.
+      @param {number} row
+      @param {boolean} isSince */
   time(row, isSince) {
     const { seconds, nanos, digits } = this.columns;
     if (!digits[row])
       return '';
-    const decimals = (digits[row] & ~OF_DAY) - 1;
-    const fraction = it => decimals ? `.${String(it).padStart(9, '0').slice(0, decimals)}` : '';
     if (isSince) {
       this.first ??= digits.findIndex(it => it);
-      let whole = seconds[row] - seconds[this.first], part = nanos[row] - nanos[this.first];
-      const sign = whole < 0 || whole === 0 && part < 0 ? '-' : '';
-      if (sign)
-        [whole, part] = [-whole, -part];
-      if (part < 0)
-        [whole, part] = [whole - 1, part + 1e9];
-      return `${sign}${whole}${fraction(part)}`;
+      return this.difference(this.first, row);
     }
     const two = it => String(Math.floor(it)).padStart(2, '0');
     const second = seconds[row], ofDay = (second % 86400 + 86400) % 86400;
-    const clock = `${two(ofDay / 3600)}:${two(ofDay / 60 % 60)}:${two(ofDay % 60)}${fraction(nanos[row])}`;
+    const clock = `${two(ofDay / 3600)}:${two(ofDay / 60 % 60)}:${two(ofDay % 60)}${this.fraction(row, nanos[row])}`;
     const date = new Date(second * 1000);
     return digits[row] & OF_DAY || Number.isNaN(date.getTime()) ? clock : `${date.toISOString().split('T')[0]} ${clock}`;
   }

@@ -4,6 +4,7 @@
 import { COLUMNS, parsed, Rows } from './keys.mjs';
 import { run } from './program.mjs';
 import { formOf, HEAD, signsOf } from './signs.mjs';
+import { Streams } from './streams.mjs';
 
 /** This many bytes of lines are a batch; the first one is smaller, and so is one that is waited for. */
 const BATCH = 2 << 20;
@@ -12,12 +13,14 @@ const decoder = new TextDecoder();
 
 /** Reads a file piece by piece. */
 class FileInput {
+  /** @param {Blob} file */
   constructor(file) {
     this.file = file;
     this.at = 0;
     this.reader = new FileReaderSync();
   }
 
+  /** @param {number} size */
   read(size) {
     const bytes = new Uint8Array(this.reader.readAsArrayBuffer(this.file.slice(this.at, this.at + size)));
     this.at += bytes.length;
@@ -27,23 +30,34 @@ class FileInput {
 
 /** Collects what the program prints. */
 class Output {
+  /** A number for each row, by the columns.
+      @type {Record<string, number[]>} */
+  columns = {};
+  /** @type {unknown[]} */
+  objects = [];
+  /** @type {string[]} */
+  texts = [];
+  done = 0;
+  size = 0;
   rows = new Rows();
+  streams = new Streams();
   batch = 0;
   read = 0;
   last = performance.now();
 
   constructor() {
     this.bytes = new Uint8Array(BATCH);
-    this.size = 0;
     this.clear();
   }
 
   clear() {
     this.columns = Object.fromEntries(Object.keys(COLUMNS).map(name => [name, []]));
+    this.texts = [];
     this.objects = [];
     this.done = 0;
   }
 
+  /** @param {Uint8Array} bytes */
   write(bytes) {
     if (this.size + bytes.length > this.bytes.length) {
       const room = new Uint8Array(2 * (this.size + bytes.length));
@@ -58,6 +72,7 @@ class Output {
       this.post();
   }
 
+  /** @param {number} from */
   takeLines(from) {
     const bytes = this.bytes.subarray(0, this.size);
     for (let end = bytes.indexOf(10, from); end >= 0; end = bytes.indexOf(10, this.done)) {
@@ -66,6 +81,8 @@ class Output {
     }
   }
 
+  /** @param {number} from
+      @param {number} end */
   takeLine(from, end) {
     let object;
     try {
@@ -79,19 +96,24 @@ class Output {
         this.objects.push(object);
       return;
     }
-    Object.assign(row, { batch: this.batch, offset: from, size: end - from });
+    if (row.association)
+      this.streams.add(object);
+    [row.batch, row.offset, row.size] = [this.batch, from, end - from];
     for (const name in this.columns)
       this.columns[name].push(row[name] ?? 0);
+    this.texts.push(row.text ?? '');
   }
 
   /** Posts the whole lines; what follows them is kept. */
   post() {
     this.last = performance.now();
-    const columns = Object.fromEntries(Object.entries(COLUMNS).map(([name, type]) => [name, type.from(this.columns[name])]));
-    const { flows, summaries, notes } = this.rows;
+    /** @type {Columns} */
+    const columns = /** @type {any} */ (Object.fromEntries(Object.entries(COLUMNS).map(([name, type]) => [name, type.from(this.columns[name])])));
+    const { flows, summaries, notes } = this.rows, { streams } = this;
     postMessage({
       lines: new Blob([this.bytes.slice(0, this.done)]), columns, objects: this.objects, read: this.read,
       flows: flows.take(), summaries: summaries.take(), notes: notes.take(),
+      texts: this.texts, channels: streams.take(), unlisted: streams.unlisted,
     }, Object.values(columns).map(it => it.buffer));
     this.bytes.copyWithin(0, this.done, this.size);
     this.size -= this.done;
@@ -103,6 +125,7 @@ class Output {
 /** The inputs by their names, which are the program's last arguments. */
 function inputsOf(files, output) {
   const counted = input => ({
+    /** @param {number} size */
     read(size) {
       const bytes = input.read(size);
       output.read += bytes.length;
@@ -112,7 +135,9 @@ function inputsOf(files, output) {
   return new Map(files.map(([name, file]) => [name, counted(new FileInput(file))]));
 }
 
-/** The first bytes of a file, or none if it can't be read. */
+/** The first bytes of a file, or none if it can't be read.
+    @param {Blob} file
+    @param {number} size */
 function headOf(file, size) {
   try {
     return new FileInput(file).read(size);
@@ -121,12 +146,15 @@ function headOf(file, size) {
   }
 }
 
-/** Whether a file has lines that sctp_dump printed elsewhere. */
+/** Whether a file has lines that sctp_dump printed elsewhere.
+    @param {Blob} file */
 const hasLines = file => headOf(file, 1)?.[0] === 0x7b;
 
+/** @param {Blob} file */
 const isCompressed = file => formOf(headOf(file, 6) ?? new Uint8Array()) === 'gzip';
 
-/** What gzip compressed, up to where it is damaged, and what to say of that. Memory holds a piece of it; the rest is in Blobs. */
+/** What gzip compressed, up to where it is damaged, and what to say of that. Memory holds a piece of it; the rest is in Blobs.
+    @param {Blob} file */
 async function unpacked(file) {
   const reader = file.stream().pipeThrough(new DecompressionStream('gzip')).getReader(), parts = [];
   let held = [], size = 0, errors = '';
@@ -171,6 +199,7 @@ onmessage = async ({ data: { program, words, files } }) => {
         words: [...words, ...inputs.keys()],
         open: name => inputs.get(name),
         print: bytes => output.write(bytes),
+        /** @param {Uint8Array} bytes */
         report(bytes) {
           errors += decoder.decode(bytes);
         },
