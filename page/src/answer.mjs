@@ -4,9 +4,12 @@
 import { KINDS } from './keys.mjs';
 import { counted, element, shown } from './text.mjs';
 
+export { sentencesOf, howTo, reasonOf, answered };
+
 const PROGRAM = 'sctp_dump: ';
 
-/** What the program says on standard error, after its name and the file's, and what the page says of it. */
+/** What the program says on standard error, after its name and the file's, and what the page says of it.
+    @type {[RegExp, string][]} */
 const MESSAGES = [
   [/: no SCTP packet was found/, ''],
   [/: ends inside a record$/, 'The file ends inside a packet: what comes before it was read.'],
@@ -22,12 +25,12 @@ const MESSAGES = [
 ];
 
 /** What was said on standard error as sentences, of several files each with the file's name; what isn't known is said as it is. */
-export function sentencesOf({ errors, kinds }) {
+function sentencesOf({ errors, kinds }) {
   const plain = text => shown(text.replaceAll('`', "'"), 200), isNamed = kinds[KINDS.indexOf('file')] > 0;
   const said = errors.split('\n').filter(it => it.trim()).map(text => {
-    const [form, sentence] = MESSAGES.find(([form]) => form.test(text)) ?? [], found = form?.exec(text);
-    const name = isNamed && found?.index > PROGRAM.length ? `${plain(text.slice(PROGRAM.length, found.index))}: ` : '';
-    return sentence ? name + sentence.replace('$1', found[1]) : sentence ?? plain(text);
+    const [form, sentence = ''] = MESSAGES.find(([form]) => form.test(text)) ?? [], found = form?.exec(text);
+    const name = isNamed && found && found.index > PROGRAM.length ? `${plain(text.slice(PROGRAM.length, found.index))}: ` : '';
+    return sentence ? name + sentence.replace('$1', found?.[1] ?? '') : form ? '' : plain(text);
   });
   return [...new Set(said)].filter(it => it);
 }
@@ -48,17 +51,20 @@ const WAYS = [
   ['Without WebRTC', 'SCTP that DTLS doesn’t encrypt is in a capture: `tcpdump -i any -w sctp.pcap sctp`.'],
 ];
 
-/** A text of this module as parts of an element. */
+/** A text of this module as parts of an element.
+    @param {string} text */
 const marked = text => text.split('`').map((it, i) => i % 2 ? element('code', '', it) : it);
 
 /** How to record packets, as a list. */
-export function howTo() {
+function howTo() {
   return element('dl', 'ways', ...WAYS.flatMap(([name, text]) => [element('dt', '', name), element('dd', '', ...marked(text))]));
 }
 
 /** Why there is no packet, of what the Worker said and the program counted: a title, sentences, and whether it helps to say
-    how packets are recorded. */
-export function reasonOf(store) {
+    how packets are recorded.
+    @returns {Reason}
+    @param {import('./store.mjs').Store} store */
+function reasonOf(store) {
   const { signs, summary } = store, has = sign => signs.includes(sign), sentences = sentencesOf(store);
   const unpacked = Object.keys(UNPACK).find(has);
   const passedOver = summary?.not_sctp ?? 0;
@@ -84,7 +90,7 @@ export function reasonOf(store) {
   }
   if (passedOver) {
     return { title: `None of ${counted(passedOver, 'packet')} is SCTP`, isRecorded: true,
-      texts: [...sentences, 'If SCTP is inside of UDP, and its port isn’t 9899, say the port where a file is chosen, and open it again.'] };
+      texts: [...sentences, 'If SCTP is inside of UDP, and its port isn’t 9899, say the port in the options where a file is opened, and open it again.'] };
   }
   if (has('empty'))
     return { title: 'This file is empty', texts: ['It has no byte. Choose another one, or record one:'], isRecorded: true };
@@ -97,7 +103,8 @@ export function reasonOf(store) {
       'that have lines with `# SCTP_PACKET`. To record one:'] };
 }
 
-/** An answer as elements: a title, sentences, and ways if they help. */
-export function answered({ title, texts, isRecorded }) {
+/** An answer as elements: a title, sentences, and ways if they help.
+    @param {Reason} reason */
+function answered({ title, texts, isRecorded }) {
   return [element('h2', '', title), ...texts.map(it => element('p', '', ...marked(it))), ...isRecorded ? [howTo()] : []];
 }

@@ -1,40 +1,58 @@
 // SPDX-License-Identifier: Apache-2.0
 // What is taken from the page: packets as texts and as a file.
 
+export { MOST_PACKETS, hexadecimal, cArray, testRow, MOST_LINKED, linkOf, packetsIn, pcapOf };
+
 /** More packets than this a pcap file of the page doesn't take, since all their lines are read for it. */
-export const MOST_PACKETS = 100_000;
+const MOST_PACKETS = 100_000;
 
-/** Bytes in hexadecimal, in a row, which sctp_dump reads as a packet. */
-export const hexadecimal = bytes => Array.from(bytes, it => it.toString(16).padStart(2, '0')).join('');
+/** Bytes in hexadecimal, in a row, which sctp_dump reads as a packet.
+    @param {Uint8Array} bytes */
+const hexadecimal = bytes => Array.from(bytes, it => it.toString(16).padStart(2, '0')).join('');
 
-/** Bytes as an array in C. */
-export function cArray(bytes) {
+/** Bytes as an array in C.
+    @param {Uint8Array} bytes */
+function cArray(bytes) {
   const lines = [];
   for (let i = 0; i < bytes.length; i += 12)
-    lines.push(`  ${Array.from(bytes.subarray(i, i + 12), it => `0x${hexadecimal([it])},`).join(' ')}\n`);
+    lines.push(`  ${Array.from(bytes.subarray(i, i + 12), it => `0x${hexadecimal(Uint8Array.of(it))},`).join(' ')}\n`);
   return `static const unsigned char packet[${bytes.length}] = {\n${lines.join('')}};\n`;
 }
 
-/** Some programs cut an address that is longer. */
-const LONGEST = 2000;
-
-/** The address of the page with a packet in it, or undefined if it would be too long. What is after # no browser sends. */
-export function linkOf(address, bytes) {
-  const link = `${address.split('#')[0]}#hex=${hexadecimal(bytes)}`;
-  return bytes.length && link.length <= LONGEST ? link : undefined;
+/** A packet as a row of crates/wire_rows/stdin, without its answer: its chunks by four bytes, since its header is another there.
+    Undefined if nothing follows a header.
+    @param {Uint8Array} bytes */
+function testRow(bytes) {
+  const chunks = hexadecimal(bytes.subarray(12)).match(/.{1,8}/g);
+  return chunks ? `packet ${chunks.join(' ')}` : undefined;
 }
 
-/** The packet in an address, in hexadecimal: undefined if there is none, and empty if it isn't one. */
-export function packetIn(address) {
+/** Some programs cut an address that is longer. */
+const LONGEST = 8000;
+
+/** More packets than this a link doesn't hold. */
+const MOST_LINKED = 50;
+
+/** The address of the page with packets in it, or undefined if it would be too long. What is after # no browser sends.
+    @param {string} address */
+function linkOf(address, ...packets) {
+  const link = `${address.split('#')[0]}#hex=${packets.map(hexadecimal).join(',')}`;
+  const isWhole = packets.length > 0 && packets.length <= MOST_LINKED && packets.every(it => it.length);
+  return isWhole && link.length <= LONGEST ? link : undefined;
+}
+
+/** The packets in an address, in hexadecimal, a line for each: undefined if there is none, and empty if they aren't some.
+    @param {string} address */
+function packetsIn(address) {
   const at = address.indexOf('#hex=');
   if (at < 0)
     return undefined;
-  const text = address.slice(at + 5), isOne = text.length % 2 === 0 && text.length <= 2 * 65535 && !/[^0-9a-f]/i.test(text);
-  return isOne ? text : '';
+  const texts = address.slice(at + 5).split(',');
+  return texts.every(it => it.length && it.length % 2 === 0 && it.length <= 2 * 65535 && !/[^0-9a-f]/i.test(it)) ? texts.join('\n') : '';
 }
 
 /** A pcap file of link type 248 (SCTP), with nanoseconds. A packet whose time isn't known, or can't be in such a file, has time 0. */
-export function pcapOf(packets) {
+function pcapOf(packets) {
   const size = packets.reduce((sum, it) => sum + 16 + it.bytes.length, 24), file = new DataView(new ArrayBuffer(size));
   let at = 0;
   const add = (...numbers) => numbers.forEach(it => (file.setUint32(at, it, true), at += 4));

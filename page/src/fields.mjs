@@ -1,41 +1,60 @@
 // SPDX-License-Identifier: Apache-2.0
 // A packet's fields as a tree, beside its bytes: each field marks its bytes, and each byte its field.
-import { groupOf, isObject, ruleOf } from './keys.mjs';
-import { byId, counted, element, hex, shown } from './text.mjs';
+import { groupOf, isObject } from './keys.mjs';
+import { byId, counted, element, hex, shown, targetOf } from './text.mjs';
 import { VirtualList } from './virtual.mjs';
+import { fieldName } from './words.mjs';
 
-/** The nodes of an object's tree, each before its children; `end` is after the last of them. */
-export function nodesOf(object) {
-  const nodes = [];
-  const add = (label, value, place, depth, parent, group) => {
-    const index = nodes.length;
-    const node = { label, value, place: placeOf(place), depth, parent, group, isOpen: true, end: index + 1 };
+export { nodesOf, bytesOf, ownersOf, Fields, valueOf };
+
+/** Ends by their places in a list: what the keys `end` and `by` have. */
+const ENDS = ['first end', 'second end'];
+
+/** The nodes of an object's tree, each before its children; `end` is after the last of them. Each is the `position`th of
+    `siblings`, and has the name that the RFCs give to it, if its label is another. */
+function nodesOf(object) {
+  const nodes = [], bytes = typeof object.bytes === 'string' ? object.bytes : '', children = new Map();
+  const add = (label, value, place, depth, parent, group, name) => {
+    const index = nodes.length, position = (children.get(parent) ?? 0) + 1;
+    const node = { label, value, place: placeOf(place), depth, parent, group, name, position, isOpen: true, end: index + 1 };
+    children.set(parent, position);
     nodes.push(node);
     return index;
   };
-  const walk = (it, depth, parent, group) => {
+  const walk = (it, depth, parent, group, lists) => {
     for (const [key, value] of Object.entries(it)) {
-      if (key.endsWith('@') || (depth === 0 && key === 'bytes'))
+      if (depth === 0 && key === 'bytes')
         continue;
+      if (key.endsWith('@')) {
+        // (what has a place alone is in the packet's bytes)
+        const label = key.slice(0, -1), { from, to } = placeOf(value) ?? {};
+        if (label && !(label in it) && from !== undefined)
+          add(label, bytes.slice(2 * from, 2 * to), value, depth, parent, group, fieldName(lists, label));
+        continue;
+      }
       if (Array.isArray(value) && value.some(isObject))
-        value.forEach((entry, i) => walkEntry(key, i, entry, depth, parent, group));
+        value.forEach((entry, i) => walkEntry(key, i, entry, depth, parent, group, lists));
       else if (isObject(value))
-        walkInto(add(key, '', value['@'], depth, parent, group), value, depth, group);
+        walkInto(add(key, '', value['@'], depth, parent, group), value, depth, group, [...lists, key]);
       else
-        add(key, value, it[`${key}@`], depth, parent, group);
+        add(key, value, it[`${key}@`], depth, parent, group, fieldName(lists, key));
     }
   };
-  const walkEntry = (key, i, entry, depth, parent, group) => {
+  const walkEntry = (key, i, entry, depth, parent, group, lists) => {
     if (!isObject(entry))
       return;
     const own = typeof entry.chunk === 'number' ? groupOf(entry.chunk) : group;
-    walkInto(add(entry.name ?? `${key} ${i + 1}`, summaryOf(entry), entry['@'], depth, parent, own), entry, depth, own);
+    const numbered = key === 'ends' ? ENDS[i] ?? `end ${i + 1}` : `${key} ${i + 1}`;
+    const [label, name] = entry.name === undefined ? [numbered, fieldName(lists, key)] : [entry.name];
+    walkInto(add(label, summaryOf(entry), entry['@'], depth, parent, own, name), entry, depth, own, [...lists, key]);
   };
-  const walkInto = (index, it, depth, group) => {
-    walk(it, depth + 1, index, group);
+  const walkInto = (index, it, depth, group, lists) => {
+    walk(it, depth + 1, index, group, lists);
     nodes[index].end = nodes.length;
   };
-  walk(object, 0, -1);
+  walk(object, 0, -1, undefined, []);
+  for (const node of nodes)
+    node.siblings = children.get(node.parent);
   return nodes;
 }
 
@@ -44,21 +63,23 @@ function placeOf(place) {
   return isPlace ? { from: place[0], to: place[0] + place[1] } : undefined;
 }
 
-/** What an entry is told by where it is closed: its first numbers. */
+/** What an entry is known by where it is closed: its first numbers. */
 function summaryOf(entry) {
   const known = ['length', 'flags', 'name'];
   return Object.entries(entry).filter(([key, it]) => typeof it === 'number' && !known.includes(key)).slice(0, 3)
     .map(([key, it]) => `${key} ${it}`).join(', ');
 }
 
-/** The bytes that a text in hexadecimal gives. */
-export function bytesOf(text) {
+/** The bytes that a text in hexadecimal gives.
+    @param {unknown} text */
+function bytesOf(text) {
   const found = typeof text === 'string' ? text.match(/[0-9a-f]{2}/g) ?? [] : [];
   return Uint8Array.from(found, it => parseInt(it, 16));
 }
 
-/** For each byte its deepest node, and the first of those. */
-export function ownersOf(nodes, size) {
+/** For each byte its deepest node, and the first of those.
+    @param {number} size */
+function ownersOf(nodes, size) {
   const owners = new Int32Array(size).fill(-1);
   nodes.forEach(({ place, depth }, index) => {
     for (let i = place?.from ?? 0; i < Math.min(place?.to ?? 0, size); i++) {
@@ -72,7 +93,7 @@ export function ownersOf(nodes, size) {
 /** So many characters of the chosen field's value are in the tree. */
 const WHOLE = 20000;
 
-export class Fields {
+class Fields {
   nodes = [];
   visible = [];
   bytes = new Uint8Array();
@@ -96,36 +117,44 @@ export class Fields {
       press: key => this.pressInBytes(key),
     });
     this.treeBox.addEventListener('click', event => {
-      if (event.target.classList.contains('twist'))
-        this.toggle(this.visible[Number(event.target.closest('.row').dataset.index)]);
+      if (targetOf(event).classList.contains('twist'))
+        this.toggle(this.visible[Number(targetOf(event).closest('.row')?.dataset.index)]);
     });
     this.treeBox.addEventListener('pointerover', event => {
-      const row = event.target.closest('.row');
+      const row = targetOf(event).closest('.row');
       this.hover(row ? this.visible[Number(row.dataset.index)] : -1);
     });
     this.bytesBox.addEventListener('pointerover', event => {
-      const at = Number(event.target.dataset.at ?? -1);
+      const at = Number(targetOf(event).dataset.at ?? -1);
       this.hover(at < 0 ? -1 : this.owners[at]);
     });
     for (const it of [this.treeBox, this.bytesBox])
       it.addEventListener('pointerleave', () => this.hover(-1));
     this.bytesBox.addEventListener('click', event => {
-      if (event.target.dataset.at !== undefined)
-        this.moveTo(Number(event.target.dataset.at));
+      if (targetOf(event).dataset.at !== undefined)
+        this.moveTo(Number(targetOf(event).dataset.at));
     });
-    const narrow = matchMedia('(max-width: 1100px)');
-    const measure = () => {
-      this.width = narrow.matches ? 8 : 16;
-      this.bytesBox.classList.toggle('narrow', narrow.matches);
-      this.showBytes();
-    };
-    narrow.addEventListener('change', measure);
-    measure();
+    this.width = 16;
+    new ResizeObserver(() => this.measure()).observe(byId('details'));
   }
 
-  /** Shows an object that was a line. */
-  show(object, title) {
+  /** Lays out 16 bytes in a row, or 8 where there is less room: beside the tree, or below it where the details are at the side. */
+  measure() {
+    const least = byId('work').classList.contains('beside') ? 630 : 1100, width = byId('details').clientWidth >= least ? 16 : 8;
+    if (width === this.width)
+      return;
+    this.width = width;
+    this.bytesBox.classList.toggle('narrow', width === 8);
+    this.showBytes();
+    if (this.cursor >= 0)
+      this.hexadecimal.setCurrent(Math.floor(this.cursor / width));
+  }
+
+  /** Shows an object that was a line. Its time is shown as the list does.
+      @param {string} title */
+  show(object, title, times) {
     this.nodes = nodesOf(object);
+    this.times = times;
     this.bytes = bytesOf(object.bytes);
     this.fault = typeof object.fault?.offset === 'number' ? object.fault.offset : -1;
     const fault = this.nodes.find(it => it.depth === 0 && it.label === 'fault');
@@ -156,7 +185,7 @@ export class Fields {
   notesOf(object) {
     const notes = [];
     if (object.fault) {
-      const { rule, section } = ruleOf(object.fault), offset = object.fault.offset;
+      const { offset, reason, sentence, section } = object.fault;
       const go = element('button', 'link', `byte ${offset}`);
       go.addEventListener('click', () => {
         this.moveTo(Math.min(offset, this.bytes.length - 1));
@@ -164,7 +193,7 @@ export class Fields {
       });
       const state = object.captured === undefined ? 'Refused' : 'Cut off, and wrong';
       const what = element('strong', '', `${state}: ${object.fault.kind}`);
-      notes.push(element('p', 'note bad', what, ' at ', go, `: ${shown(object.fault.reason)}. ${rule} (${section})`));
+      notes.push(element('p', 'note bad', what, ' at ', go, `: ${shown(reason)}. ${shown(sentence ?? '')}${section === undefined ? '' : ` (${shown(section)})`}`));
     }
     if (object.verdict === 'wrong') {
       notes.push(element('p', 'note doubt', element('strong', '', 'The checksum is wrong'),
@@ -194,15 +223,26 @@ export class Fields {
     this.tree.setCurrent(this.visible.indexOf(this.selected), false);
   }
 
+  /** @param {number} index */
   drawNode(index) {
     const at = this.visible[index], node = this.nodes[at], isBranch = node.end > at + 1;
     const twist = element('span', 'twist', isBranch ? (node.isOpen ? '▾' : '▸') : '');
-    const row = element('div', `node ${node.group ?? ''}`, twist, element('span', 'key', shown(node.label)),
-      valueOf(node, at === this.selected ? WHOLE : undefined));
+    const key = element('span', 'key', shown(node.label)), isTime = this.times && node.depth === 0 && node.label === 'time';
+    const value = isTime ? element('span', 'value', this.times.text) : valueOf(node, at === this.selected ? WHOLE : undefined);
+    const row = element('div', `node ${node.group ?? ''}`, twist, key, value);
+    twist.setAttribute('aria-hidden', 'true');
+    if (isTime)
+      value.title = this.times.whole;
+    if (node.name) {
+      key.title = node.name;
+      row.setAttribute('aria-description', node.name);
+    }
     row.classList.toggle('branch', isBranch);
     row.style.paddingLeft = `${Math.min(node.depth, 12) * 16 + 4}px`;
     row.setAttribute('role', 'treeitem');
     row.setAttribute('aria-level', node.depth + 1);
+    row.setAttribute('aria-posinset', node.position);
+    row.setAttribute('aria-setsize', node.siblings);
     if (isBranch)
       row.setAttribute('aria-expanded', node.isOpen);
     row.classList.toggle('over', at === this.hovered);
@@ -211,11 +251,13 @@ export class Fields {
     return row;
   }
 
+  /** @param {number} at */
   toggle(at) {
     this.nodes[at].isOpen = !this.nodes[at].isOpen;
     this.showTree();
   }
 
+  /** @param {number} at */
   selectNode(at) {
     const isOther = this.selected !== at;
     this.selected = at;
@@ -233,6 +275,7 @@ export class Fields {
     this.say();
   }
 
+  /** @param {number} index */
   pressInTree(key, index) {
     const at = this.visible[index], node = this.nodes[at];
     if (!node)
@@ -267,6 +310,7 @@ export class Fields {
     this.hexadecimal.show(Math.ceil(Math.max(this.bytes.length, this.fault + 1) / this.width));
   }
 
+  /** @param {number} index */
   drawBytes(index) {
     const from = index * this.width, offset = element('span', 'offset', from.toString(16).padStart(4, '0'));
     const row = element('div', 'bytes', offset), texts = element('span', 'texts');
@@ -286,16 +330,19 @@ export class Fields {
       const cell = element('span', classes.join(' '), isThere ? byte.toString(16).padStart(2, '0') : '··');
       cell.setAttribute('role', 'gridcell');
       cell.id = `byte-${at}`;
+      if (at === this.fault)
+        cell.setAttribute('aria-description', 'the fault');
       const isSeen = byte > 32 && byte < 127;
       const text = element('span', classes.join(' '), isSeen ? String.fromCharCode(byte) : isThere ? '·' : ' ');
       for (const it of isThere ? [cell, text] : [])
-        it.dataset.at = at;
+        it.dataset.at = String(at);
       row.append(cell);
       texts.append(text);
     }
     texts.setAttribute('aria-hidden', 'true');
     row.append(texts);
     row.setAttribute('role', 'row');
+    row.setAttribute('aria-label', `Bytes from ${from}`);
     this.paint(row);
     return row;
   }
@@ -305,13 +352,17 @@ export class Fields {
     const selected = this.nodes[this.selected]?.place, hovered = this.nodes[this.hovered]?.place;
     for (const it of box.querySelectorAll('[data-at]')) {
       const at = Number(it.dataset.at);
-      it.classList.toggle('in', selected !== undefined && at >= selected.from && at < selected.to);
+      const isIn = selected !== undefined && at >= selected.from && at < selected.to;
+      it.classList.toggle('in', isIn);
+      if (it.id)
+        it.setAttribute('aria-selected', isIn);
       it.classList.toggle('over', hovered !== undefined && at >= hovered.from && at < hovered.to);
       it.classList.toggle('cursor', at === this.cursor);
     }
   }
 
-  /** Makes a byte the one at the cursor, and its field the selected one. */
+  /** Makes a byte the one at the cursor, and its field the selected one.
+      @param {number} at */
   moveTo(at) {
     if (at < 0 || at >= this.bytes.length)
       return;
@@ -348,6 +399,7 @@ export class Fields {
     return true;
   }
 
+  /** @param {number} at */
   hover(at) {
     if (at === this.hovered)
       return;
@@ -383,12 +435,14 @@ export class Fields {
   }
 }
 
-/** How a node's value is shown: a number also in hexadecimal, as wide as its bytes. */
-export function valueOf({ value, place, end }, most) {
+/** How a node's value is shown: a number also in hexadecimal, as wide as its bytes; and which end it is, if it says that. */
+function valueOf({ label, depth, value, place, end }, most) {
   if (Array.isArray(value))
     return element('span', 'value', value.length ? shown(value.join(', '), most) : 'none');
   const size = place ? place.to - place.from : 0;
   if (typeof value === 'number' && size > 0 && size <= 4)
     return element('span', 'value', String(value), element('span', 'dim', ` ${hex(value, 2 * size)}`));
+  if ((label === 'end' && depth === 0 || label === 'by') && ENDS[value])
+    return element('span', 'value', String(value), element('span', 'dim', ` ${ENDS[value]}`));
   return element('span', typeof value === 'string' && end ? 'value text' : 'value', shown(value ?? '', most));
 }

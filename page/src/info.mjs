@@ -4,13 +4,15 @@
 import { isData, isNumber, isObject, isText } from './keys.mjs';
 import { counted, hex, shown } from './text.mjs';
 
+export { rangesOf, rangeTexts, messageOf, fragmentOf, controlInfo, infoOf };
+
 const objects = it => Array.isArray(it) ? it.filter(isObject) : [];
 const quoted = text => `“${shown(text, 80)}”`;
 /** Of a list the first four. */
 const some = list => list.slice(0, 4).join(', ') + (list.length > 4 ? ' ..' : '');
 
 /** Ranges of TSNs as text, the first three of them. */
-export function rangeTexts(ranges) {
+function rangeTexts(ranges) {
   const texts = ranges.slice(0, 3).map(([least, most]) => least === most ? least : `${least}–${most}`);
   return texts.join(', ') + (ranges.length > 3 ? ' ..' : '');
 }
@@ -19,15 +21,17 @@ export function rangeTexts(ranges) {
 function rangesOf(tsns) {
   const ranges = [];
   for (const it of tsns) {
-    if (ranges.length && it === (ranges.at(-1)[1] + 1) % 2 ** 32)
-      ranges.at(-1)[1] = it;
+    const last = ranges.at(-1);
+    if (last && it === (last[1] + 1) % 2 ** 32)
+      last[1] = it;
     else
       ranges.push([it, it]);
   }
   return ranges;
 }
 
-/** The text of a message, or what DCEP says in it (RFC 8832). */
+/** The text of a message, or what DCEP says in it (RFC 8832).
+    @param {Chunk} chunk */
 function messageOf({ text, message_name, label, channel_type_name }) {
   if (isText(text))
     return quoted(text);
@@ -41,6 +45,7 @@ function messageOf({ text, message_name, label, channel_type_name }) {
   return parts.join(' ');
 }
 
+/** @param {Chunk} chunk */
 function fragmentOf({ beginning, end }) {
   if (beginning === false)
     return end === false ? 'middle fragment' : 'last fragment';
@@ -69,7 +74,8 @@ function resetInfo({ parameter, name, streams, result_name, new_streams }) {
   return known[parameter] ?? (isNumber(new_streams) ? `${named} ${new_streams}` : named);
 }
 
-/** What a chunk other than DATA says. */
+/** What a chunk other than DATA says.
+    @param {Chunk} chunk */
 function controlInfo(chunk) {
   const parts = [], { chunk: type } = chunk, add = (key, text) => isNumber(chunk[key]) && parts.push(text(chunk[key]));
   const streams = objects(chunk.streams).map(it => it.stream).filter(isNumber), blocks = objects(chunk.blocks);
@@ -77,7 +83,7 @@ function controlInfo(chunk) {
   const received = blocks.length ? ` and ${rangeTexts(blocks.map(it => [it.first_tsn, it.last_tsn]))}` : '';
   add('tag', it => `tag ${hex(it, 8)}`);
   add('initial_tsn', it => `initial TSN ${it}`);
-  add('outbound_streams', it => `streams ${it} out, ${shown(chunk.inbound_streams, 10)} in`);
+  add('outbound_streams', it => `streams ${it} out, ${shown(String(chunk.inbound_streams), 10)} in`);
   add('cumulative_tsn', it => `acknowledges ${it}${received}`);
   if (duplicates.length)
     parts.push(`${duplicates.length > 1 ? 'duplicates' : 'duplicate'} ${some(duplicates)}`);
@@ -92,8 +98,9 @@ function controlInfo(chunk) {
   return parts;
 }
 
-/** What a packet's line says of its chunks. */
-export function infoOf({ chunks }) {
+/** What a packet's line says of its chunks.
+    @param {Line} line */
+function infoOf({ chunks = [] }) {
   const data = chunks.filter(isData), others = chunks.filter(it => !isData(it)).slice(0, 20);
   const parts = [...data.length ? dataInfo(data) : [], ...others.flatMap(controlInfo)];
   return parts.slice(0, 12).join(' · ') + (parts.length > 12 ? ' ..' : '');
