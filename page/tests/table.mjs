@@ -6,7 +6,7 @@ import assert from 'node:assert/strict';
 const ENDS = {
   'Packets': [1, it => it.packets], 'DATA': [1, it => it.data], 'Bytes': [1, it => it.bytes],
   'Sent again': [1, it => it.repeated], 'Missing': [1, it => it.missing], 'Gap SACKs': [1, it => it.sacks_with_gaps],
-  'Round trip': [1000, it => it.round_trip?.median],
+  'Refused': [1, it => it.refused], 'Median trip': [1000, it => it.round_trip?.median],
 };
 
 /** Compares a row's cells, texts by their heads, with the association that the program printed. */
@@ -26,6 +26,6 @@ export function compareRow(cells, association) {
   const event = it => it ? [`${it.packet} ${it.chunk}`, ...it.file ? [`of ${it.file}`] : []] : ['–'];
   assert.deepEqual(cells['No.'], [String(association.association)]);
   assert.deepEqual(cells.Ends, ends.map(place));
-  assert.deepEqual(cells.Began, midway ? ['midway'] : event(began));
+  assert.deepEqual(cells.Began, midway ? ['midway', ...event(began).slice(1)] : event(began));
   assert.deepEqual(cells.Ended, event(ended));
 }

@@ -5,21 +5,32 @@ import assert from 'node:assert/strict';
 import { readdirSync, readFileSync } from 'node:fs';
 import { inspect } from 'node:util';
 import { reasonOf, sentencesOf } from '../src/answer.mjs';
-import { Associations, sorted } from '../src/associations.mjs';
-import { Diagram, stepOf } from '../src/diagram.mjs';
-import { cArray, hexadecimal, linkOf, packetIn, pcapOf } from '../src/copies.mjs';
+import { Associations } from '../src/associations.mjs';
+import { channelFilter, Channels } from '../src/channels.mjs';
+import { Diagram, wantedRow } from '../src/diagram.mjs';
+import { cArray, hexadecimal, linkOf, packetsIn, pcapOf, testRow } from '../src/copies.mjs';
 import { bytesOf, Fields, nodesOf, ownersOf, valueOf } from '../src/fields.mjs';
 import { namedApart } from '../src/files.mjs';
 import { filterOf, FOUND, strangeWords } from '../src/filter.mjs';
 import {
-  groupOf, isAssociation, isSummary, KINDS, pairsOf, Rows, ruleOf, senderByPlace, senderByTag, skippedText, WORDS,
+  associationOf, groupOf, isAssociation, isSummary, KINDS, MOST_TEXT, pairsOf, parsed, Rows, skippedText, WORDS,
 } from '../src/keys.mjs';
 import { infoOf } from '../src/info.mjs';
+import { chunkLabel, chunksLabel, fitted, groupOfRow } from '../src/labels.mjs';
 import { drawPacket, endText } from '../src/list.mjs';
 import { run } from '../src/program.mjs';
+import {
+  BAND, common, DOUBLED, durationText, lastAt, LEAST, longOf, partsOf, placesOf, rateOf, ROW, stepWithin, WIDEST,
+} from '../src/scale.mjs';
 import { signsOf } from '../src/signs.mjs';
+import { shareAt } from '../src/split.mjs';
 import { Store } from '../src/store.mjs';
+import { storyOf } from '../src/story.mjs';
+import { Streams } from '../src/streams.mjs';
+import { sorted } from '../src/table.mjs';
 import { counted, hex, shown, sized } from '../src/text.mjs';
+import { acknowledgedBy, bringersOf, firstSendings, missingBefore, repeatsOf } from '../src/ties.mjs';
+import { COLUMN_MEANINGS, fieldName, MEANINGS } from '../src/words.mjs';
 import { compareRow } from './table.mjs';
 import { bytes, chunk, init, ip, packet as packetOf, pcap, sack, udp } from './traffic.mjs';
 
@@ -44,7 +55,7 @@ class Element {
 const made = () => new Element(), posted = [];
 let scale = 'even';
 Object.assign(globalThis, {
-  document: { createElement: made, createElementNS: made, getElementById: () => ({ value: scale }) },
+  document: { createElement: made, createElementNS: made, getElementById: () => ({ value: scale, replaceChildren() {} }) },
   FileReaderSync: class { readAsArrayBuffer = it => it; },
   onmessage: undefined, postMessage: it => posted.push(structuredClone(it)),
 });
@@ -108,6 +119,20 @@ each('a time', (time, direction) => storeOf(packet(1, A, [], { time, direction }
   ['3599.001', 'outgoing', '00:59:59.001'],
   [undefined, ''],
 ]);
+// A log over midnight, at noon of its second day, and a line that comes a little late.
+const night = ['86399.5', '1.25', '86399.75', '43200.0', '86399.0', '0.0'];
+const overMidnight = storeOf(...night.map((time, i) => packet(i + 1, A, [], { time, direction: 'incoming' })));
+each('a time of a log over midnight', row => [overMidnight.time(row, true), overMidnight.wholeTime(row)], [
+  [0, ['0.0', '23:59:59.5']],
+  [1, ['1.75', '00:00:01.25, day 2 of the log']],
+  [2, ['0.25', '23:59:59.75']],
+  [3, ['43200.5', '12:00:00.0, day 2 of the log']],
+  [4, ['86399.5', '23:59:59.0, day 2 of the log']],
+  [5, ['86400.5', '00:00:00.0, day 3 of the log']],
+]);
+each('a whole time', time => storeOf(packet(1, A, [], { time })).wholeTime(0), [
+  ['951868799.0', '2000-02-29 23:59:59.0 UTC'], [undefined, ''],
+]);
 const storeAt = times => storeOf(...times.map((time, i) => packet(i + 1, A, [], { time })));
 each('a time since the first', (...times) => storeAt(times).time(times.length - 1, true), [
   ['1700000000.900000', '1700000001.100000', '0.200000'],
@@ -122,54 +147,54 @@ each('a time since the first', (...times) => storeAt(times).time(times.length - 
   ['0.25', '-0.50', '-0.75'],
   ['7.25', undefined, ''],
 ]);
+// Two associations at once, of which one is silent for 1.5 s; a packet without a time, and a line between them.
+const C = { from: '10.0.0.3', to: '10.0.0.4', source: 1, destination: 2, tag: 30 };
+const both = storeOf(
+  packet(1, A, [], { time: '1.25' }), packet(2, C, [], { time: '1.5' }), packet(3, B, [], { time: '1.75' }), packet(4, C, []),
+  { line: 5, skipped: 'no packet' }, packet(6, C, [], { time: '3.0' }), packet(7, A, [], { time: '2.00' }), packet(8, A, [], { time: '1.75' }),
+);
+each('a time since the previous', row => both.timeBy(row, 'previous'), [
+  [0, ''], [1, ''], [2, '0.50'], [3, ''], [4, ''], [5, '1.5'], [6, '0.25'], [7, '-0.25'],
+]);
+each('a silence', text => rowsOf(both).filter(filterOf(text).test(both)).join(' '), [
+  ['silence:>0.5', '5'], ['silence:0.5', '2'], ['silence:0.25-1', '2 6'], ['silence:<9', '2 5 6 7'], ['-silence:>0.3', '0 1 3 6 7'],
+]);
+each('how long all took', (...times) => storeAt(times).span, [
+  ['1700000000.900000', '1700000001.100000', 2e8], [undefined, '7.25', '99.50', undefined, 9.225e10], ['5.5', 0], [undefined, undefined],
+]);
 each('nanoseconds between', (...times) => storeAt(times).between(0, 1), [
   ['1700000000.000000001', '1700000002.000000000', 1999999999],
   ['3.5', '1.25', -2250000000],
   [undefined, '1.0', undefined],
 ]);
 
-// ---- TSNs (RFC 9260 section 1.6: after 2^32 - 1 comes 0)
+// ---- what the program says of DATA: sent before, filling a gap, after a gap
 
-const LAST = 2 ** 32 - 1, upTo = count => Array.from({ length: count }, (_, i) => i);
+const LAST = 2 ** 32 - 1;
 const flagsOf = (store, row) => ['repeated', 'late', 'jump'].filter(it => store.has(row, it)).join('+') || '-';
-const tsnsOf = store => rowsOf(store).map(row => flagsOf(store, row)).join(' ');
-each('TSNs', (...packets) => tsnsOf(storeOf(...packets.map((tsns, i) => packet(i + 1, A, tsns.map(it => data(it)))))), [
-  [[5], [6], [7], '- - -'],
-  [[5], [7], [6], [6], '- jump late repeated'],
-  [[5], [8], [7], [6], [9], '- jump late late -'],
-  [[LAST - 1, LAST], [0], [1], '- - -'],
-  [[LAST - 1], [1], [0], [LAST], [2], '- jump late late -'],
-  [[0], [LAST], '- late'],
-  [[5], [5, 7], '- repeated+jump'],
-  [upTo(65536), [0], '- repeated'],
-  [upTo(65537), [0], [1], '- late late'],
-]);
-// Each direction of each association has its own.
-each('TSN 5 again', other => tsnsOf(storeOf(packet(1, A, [data(5)]), packet(2, { ...A, ...other }, [data(5)]))), [
-  [{}, '- repeated'], [{ tag: 21 }, '- -'], [{ source: 40001 }, '- -'], [B, '- -'], [{ direction: 'incoming' }, '- -'],
-  [{ transport: 'T' }, '- -'],
-]);
-each('TSN 5 in chunks of types', (...types) => tsnsOf(storeOf(packet(1, A, types.map(it => data(5, { chunk: it }))))), [
-  [64, 64, 'repeated'], [64, 0, 'repeated'], [5, 0, '-'],
+each('what is said of TSNs', others => flagsOf(storeOf(packet(1, A, [data(5)], others)), 0), [
+  [{}, '-'], [{ repeated: 1 }, 'repeated'], [{ late: 2 }, 'late'], [{ missing: 5 }, 'jump'],
+  [{ repeated: 1, late: 1, missing: 1 }, 'repeated+late+jump'], [{ repeated: 0, late: 'x', missing: null }, '-'],
 ]);
 
 // ---- a capture
 
 const SACK = { chunk: 3, name: 'SACK', cumulative_tsn: LAST, blocks: [] };
 const sent = (number, end, time, chunks, others) => packet(number, end, chunks, { time: `170000000${time}`, ...others });
+const FIRST = { association: 1, end: 0, ...A }, SECOND = { association: 1, end: 1, ...B };
 const capture = storeOf(
   { file: 'a.pcap' },
-  sent(1, { ...A, tag: 0 }, '0.000000', [{ chunk: 1, name: 'INIT', tag: 10, initial_tsn: LAST }]),
-  sent(2, B, '0.250000', [{ chunk: 2, name: 'INIT ACK', tag: 20 }]),
-  sent(3, A, '0.500000', [data(LAST, { stream: 1, ppid: 51, ppid_name: 'WebRTC String' })], { length: 40, warnings: [{}] }),
-  sent(4, A, '2.000000', [data(1, { stream: 2, ppid: 99 }), data(2, { stream: 2, ppid: 50, ppid_name: 'WebRTC DCEP' })]),
-  sent(5, B, '2.100000', [{ ...SACK, blocks: [{ start: 2, end: 3, first_tsn: 1, last_tsn: 2 }] }], { verdict: 'zero' }),
-  sent(6, A, '2.200000', [data(0)]),
-  sent(7, A, '2.300000', [data(0)], { verdict: 'wrong', expected: 5 }),
-  packet(8, B, [SACK], { fault: { kind: 'length', offset: 32, reason: 'COOKIE ACK: length 3' } }),
-  packet(9, A, [{ chunk: 0, name: 'DATA' }], { captured: 26, verdict: 'unknown' }),
+  sent(1, { ...FIRST, tag: 0 }, '0.000000', [{ chunk: 1, name: 'INIT', tag: 10, initial_tsn: LAST }]),
+  sent(2, SECOND, '0.250000', [{ chunk: 2, name: 'INIT ACK', tag: 20 }]),
+  sent(3, FIRST, '0.500000', [data(LAST, { stream: 1, ppid: 51, ppid_name: 'WebRTC String', text: 'Hello, 漢字' })], { length: 40, warnings: [{}] }),
+  sent(4, FIRST, '2.000000', [data(1, { stream: 2, ppid: 99 }), data(2, { stream: 2, ppid: 50, ppid_name: 'WebRTC DCEP', message: 3, message_name: 'DATA_CHANNEL_OPEN', label: 'Chat' })], { missing: 1 }),
+  sent(5, SECOND, '2.100000', [{ ...SACK, blocks: [{ start: 2, end: 3, first_tsn: 1, last_tsn: 2 }] }], { verdict: 'zero' }),
+  sent(6, FIRST, '2.200000', [data(0)], { late: 1 }),
+  sent(7, FIRST, '2.300000', [data(0)], { verdict: 'wrong', expected: 5, repeated: 1 }),
+  packet(8, SECOND, [SACK], { fault: { kind: 'length', offset: 32, reason: 'COOKIE ACK: length 3' } }),
+  packet(9, FIRST, [{ chunk: 0, name: 'DATA' }], { captured: 26, verdict: 'unknown' }),
   { record: 10, skipped: 'a fragment' },
-  packet(11, { source: 1, destination: 2, tag: 3 }, [{ chunk: 66 }, { chunk: 16, name: 'NR-SACK', cumulative_tsn: 9 }]),
+  packet(11, { association: 2, end: 0, source: 1, destination: 2, tag: 3 }, [{ chunk: 66 }, { chunk: 16, name: 'NR-SACK', cumulative_tsn: 9 }]),
   { association: 1, ends: [A, B].map(it => ({ addresses: [it.from], port: it.source, tag: 30 - it.tag })) },
   { association: 2, ends: [{ addresses: [], port: 1 }, { addresses: [], port: 2, tag: 3 }] },
   { packets: 10, skipped: 1, fragment: 1 },
@@ -181,7 +206,7 @@ const cells = line => line.parts.map(it => it.textContent).join(' | ');
 const FROM_A = '10.0.0.1:40000 → [2001:db8::2]:9900', FROM_B = '[2001:db8::2]:9900 → 10.0.0.1:40000';
 /** The cells of rows, with what their lines say. */
 async function drawnRows(store) {
-  const drawn = rowsOf(store).map(row => drawPacket(store, row, true));
+  const drawn = rowsOf(store).map(row => drawPacket(store, row, 'since'));
   await store.objects(rowsOf(store));
   await new Promise(resolve => setTimeout(resolve));
   return drawn.map(cells);
@@ -191,8 +216,8 @@ each('a row', row => captureRows[row], [
   [0, 'a.pcap'],
   [1, `1 | 0.000000 | ${FROM_A} | 0x00000000 | INITtag 0x0000000a · initial TSN 4294967295`],
   [2, `2 | 0.250000 | ${FROM_B} | 0x0000000a | INIT ACKtag 0x00000014`],
-  [3, `3 | 0.500000 | ${FROM_A} | 0x00000014 | DATAwarningTSN 4294967295 · stream 1 · WebRTC String`],
-  [4, `4 | 2.000000 | ${FROM_A} | 0x00000014 | DATA ×2gap beforeTSN 1–2 · stream 2 · ppid 99 · WebRTC DCEP`],
+  [3, `3 | 0.500000 | ${FROM_A} | 0x00000014 | DATAwarning“Hello, 漢字” · TSN 4294967295 · stream 1 · WebRTC String`],
+  [4, `4 | 2.000000 | ${FROM_A} | 0x00000014 | DATA ×2gap beforeDATA_CHANNEL_OPEN “Chat” · TSN 1–2 · stream 2 · ppid 99 · WebRTC DCEP`],
   [5, `5 | 2.100000 | ${FROM_B} | 0x0000000a | SACKzero checksumgapsacknowledges 4294967295 and 1–2`],
   [6, `6 | 2.200000 | ${FROM_A} | 0x00000014 | DATAfills a gapTSN 0 · stream 0`],
   [7, `7 | 2.300000 | ${FROM_A} | 0x00000014 | DATAwrong checksumsent againTSN 0 · stream 0`],
@@ -201,7 +226,7 @@ each('a row', row => captureRows[row], [
   [10, '10 |  | skipped: a fragment'],
   [11, '11 |  | 1 → 2 | 0x00000003 | chunk 66NR-SACKacknowledges 9'],
 ]);
-const rowOf = object => cells(drawPacket(storeOf(object), 0, true));
+const rowOf = object => cells(drawPacket(storeOf(object), 0, 'since'));
 each('a row of a log', direction => rowOf(packet(1, { source: 1, destination: 2 }, [], { direction })), [
   ['incoming', '1 |  | incoming 1 → 2 |  | '],
   ['outgoing', '1 |  | outgoing 1 → 2 |  | '],
@@ -268,8 +293,31 @@ each('a filter', text => {
   ['ppid:99', '4'], ['tsn:0', '6 7'], ['tsn:2', '4'], ['tsn:2-4294967295', '3 4'], ['ack:4294967295', '5 8'], ['ack:0', ''],
   ['packet:0', ''], ['packet:3-5', '3 4 5'], ['packet:10', ''], ['length:40', '3'],
   ['association:1', '1 2 3 4 5 6 7 8 9'], ['association:2', '11'], ['association:1-2 tag:3', '11'],
-  ['port:x', `${ALL}; port:x`], ['colour:1', `${ALL}; colour:1`], ['packet:1-2-3', `${ALL}; packet:1-2-3`], ['-', `${ALL}; -`],
-  ['hello', '; hello'], ['hello,sack', '5 8'],
+  ['packet:4-', '4 5 6 7 8 9 11'], ['packet:>8', '9 11'], ['packet:<=2', '1 2'], ['length:<100', '3'], ['length:>=100', '1 2 4 5 6 7 8 9 11'],
+  ['time:2-2.2', '4 5 6'], ['time:2.1', '5'], ['time:>2.2', '7'], ['time:<0.25', '1'], ['-time:0-', '0 8 9 11'],
+  ['ppid:dcep', '4'], ['ppid:string', '3'], ['message:open', '4'], ['message:3', '4'], ['message:ack', ''], ['label:HA', '4'], ['label:x', ''],
+  ['text:hello', '3'], ['text:"hello, 漢字"', '3'], ['text:漢', '3'], ['text:dinner,"o, "', '3'], ['text:dinner', ''], ['-text:o -data', '0 1 2 5 8 11'],
+  ['port:x', `${ALL}; port:x (port: takes a number, as 5, 5-9, 5- or >5)`], ['packet:>', `${ALL}; packet:> (packet: takes a number, as 5, 5-9, 5- or >5)`],
+  ['packet:1-2-3', `${ALL}; packet:1-2-3 (packet: takes a number, as 5, 5-9, 5- or >5)`], ['port:1.5', `${ALL}; port:1.5 (port: takes a number, as 5, 5-9, 5- or >5)`],
+  ['time:x', `${ALL}; time:x (time: takes seconds, as 1.5-2)`], ['silence:-', `${ALL}; silence:- (silence: takes seconds, as 1.5-2)`], ['ppid:-', `${ALL}; ppid:- (ppid: takes a name or a text)`], ['-', `${ALL}; -`],
+  ['chnk:data', `${ALL}; chnk:data (near it: chunk:data)`], ['-assoc:1', `${ALL}; -assoc:1 (near it: association:1)`],
+  ['repaeted', '; repaeted (near it: repeated)'], ['SCAK', '; scak (near it: sack)'], ['hello', '; hello (as a text: text:hello)'],
+  ['hello,sack', '5 8'],
+  // (what marks and buttons say)
+  ['"sent again"', '7'], ['"Fills a gap"', '6'], ['"filled a gap"', '6'], ['"gap before"', '4'], ['"SACK with gaps"', '5'], ['"wrong checksum"', '7'],
+  ['"zero checksum"', '5'], ['"cut off"', '9'], ['warning', '3'], ['-"sent again" tsn:0', '6'], ['"gap before","sent again"', '4 7'],
+]);
+// A FORWARD-TSN is found by the TSN that it skips to, also one that is beside DATA, before and after 2^32.
+const forward = tsn => ({ chunk: 192, name: 'FORWARD-TSN', new_cumulative_tsn: tsn });
+const skips = storeOf(packet(1, A, [forward(5)]), packet(2, A, [data(9), forward(6)]), packet(3, A, [forward(4294967295), data(1)]), packet(4, A, [forward(8)]));
+each('what is skipped, by its TSN', text => rowsOf(skips).filter(filterOf(text).test(skips)).map(it => it + 1).join(' '), [
+  ['tsn:5', '1'], ['tsn:6', '2'], ['tsn:9', '2'], ['tsn:4294967295', '3'], ['tsn:1', '3'], ['tsn:7-8', '4'], ['tsn:0', ''],
+]);
+each('an unknown key', text => strangeWords(capture, filterOf(text), 1)[0].split(' source:')[0], [['colour:1', 'colour:1 (known: port:']]);
+// (of a packet's texts and of a label only the beginning is kept)
+const longText = storeOf(packet(1, A, [data(5, { text: 'a'.repeat(MOST_TEXT - 1) + 'bc', message: 3, label: 'd'.repeat(MOST_TEXT) + 'e' }), data(6, { text: 'f' })]));
+each('a long text', text => rowsOf(longText).filter(filterOf(text).test(longText)).length, [
+  ['text:ab', 1], ['text:c', 0], ['text:f', 0], ['label:d', 1], ['label:e', 0],
 ]);
 // What was found: as many as its filter passes.
 const many = (count, line) => Array(count).fill(line), gaps = { ...SACK, blocks: [{ first_tsn: 1, last_tsn: 2 }] };
@@ -277,15 +325,15 @@ const found = storeOf(
   ...many(2, packet(1, A, [], { fault: {} })), ...many(3, packet(1, A, [], { captured: 1 })),
   ...many(4, packet(1, A, [], { verdict: 'wrong' })), ...many(5, packet(1, A, [], { warnings: [{}] })),
   ...many(6, packet(1, A, [gaps])), ...many(7, { line: 1, skipped: 'x' }),
-  ...[0, 9, 1, 2, 3, 4, 5, 6, 7, 8].map(it => packet(1, A, [data(it)])), ...many(9, packet(1, A, [data(8)])),
+  ...many(8, packet(1, A, [data(5)], { late: 1 })), ...many(9, packet(1, A, [data(5)], { repeated: 2 })), ...many(10, packet(1, A, [data(5)], { missing: 3 })),
 );
-each('packets, of which none is skipped', () => found.packets, [[2 + 3 + 4 + 5 + 6 + 10 + 9]]);
+each('packets, of which none is skipped', () => found.packets, [[2 + 3 + 4 + 5 + 6 + 8 + 9 + 10]]);
 each('what was found', word => {
   const [, , count] = FOUND.find(([its]) => its === word);
   return [count(found), rowsOf(found).filter(filterOf(word).test(found)).length];
 }, [
   ['refused', [2, 2]], ['cut', [3, 3]], ['wrong', [4, 4]], ['warned', [5, 5]], ['gaps', [6, 6]], ['skipped', [7, 7]],
-  ['late', [8, 8]], ['repeated', [9, 9]],
+  ['late', [8, 8]], ['repeated', [9, 9]], ['jump', [10, 10]],
 ]);
 
 each('an association', number => {
@@ -296,89 +344,242 @@ each('the association of a row', row => capture.associationOf(row)?.association,
   [0, undefined], [1, 1], [8, 1], [10, undefined], [11, 2],
 ]);
 
-/** What the diagram draws of a store's first association. */
-async function drawnOf(store) {
-  const [association] = store.associations, { rows, senderOf } = store.rowsOf(association);
-  const diagram = Object.assign(Object.create(Diagram.prototype), { store, association, rows, senderOf, width: 800 });
-  return diagram.drawn(rows, await store.objects(rows));
+// ---- the diagram
+
+/** What the diagram draws of a store's first association, as far as it passes. */
+async function drawnOf(store, passes = () => true) {
+  const [association] = store.associations, nothing = () => {};
+  const unseen = { clientWidth: 0, scrollTop: 0, replaceChildren: nothing, removeAttribute: nothing, setAttribute: nothing, querySelectorAll: () => [] };
+  const held = { rows: [], box: unseen, overview: { svg: unseen }, levels: { even: 0, time: 0 }, width: 800 };
+  const diagram = Object.assign(Object.create(Diagram.prototype), held);
+  diagram.render({ store, association, passed: rowsOf(store).filter(passes), clock: 'since' });
+  const svg = diagram.arrows([0, diagram.rows.length], await store.objects(diagram.rows), 1000);
+  return Object.assign(svg, { heads: diagram.heads(), over: classed(svg, 'over')[0] });
 }
 const classed = (it, name) => it.parts.filter(part => part.class?.split(' ')[0] === name);
 const texts = (it, name) => classed(it, name).map(part => part.textContent);
-const drawn = await drawnOf(capture), [heads] = classed(drawn, 'heads');
+const linesOf = arrow => classed(arrow, 'way').map(it => [it.x1, it.y1, it.x2])[0];
+const drawn = await drawnOf(capture);
 each('an arrow', i => {
-  const arrow = classed(drawn, 'arrow')[i], [way] = classed(arrow, 'way');
-  return `${way.x1 < way.x2 ? '→' : '←'} ${arrow['aria-label']}`;
+  const arrow = classed(drawn, 'arrow')[i], [from, , to] = linesOf(arrow);
+  return `${from < to ? '→' : '←'} ${arrow['aria-label']}`;
 }, [
-  [0, '→ packet 1: INIT'],
-  [1, '← packet 2: INIT ACK'],
-  [2, '→ packet 3: DATA 4294967295, warning'],
-  [3, '→ packet 4: DATA 1 | DATA 2, gap before'],
-  [4, '← packet 5: SACK 4294967295 + 1–2, gaps'],
-  [5, '→ packet 6: DATA 0, fills a gap'],
-  [6, '→ packet 7: DATA 0, wrong checksum, sent again'],
-  [7, '← packet 8: SACK 4294967295, refused'],
+  [0, '→ packet 1: INIT tag 0x0000000a, initial TSN 4294967295'],
+  [1, '← packet 2: INIT ACK tag 0x00000014'],
+  [2, '→ packet 3: DATA 4294967295 stream 1 “Hello, 漢字”, warning'],
+  [3, '→ packet 4: DATA 1 stream 2 ppid 99 | DATA 2 stream 2 DATA_CHANNEL_OPEN “Chat”, gap before'],
+  [4, '← packet 5: SACK 4294967295, gap blocks 1–2, gaps'],
+  [5, '→ packet 6: DATA 0 stream 0, fills a gap'],
+  [6, '→ packet 7: DATA 0 stream 0, wrong checksum, sent again, first sent in packet 6'],
+  [7, '← packet 8: SACK 4294967295, refused COOKIE ACK: length 3'],
   [8, '→ packet 9: DATA'],
 ]);
+each('a packet’s group', (...types) => groupOfRow(storeOf(packet(1, A, types.map(it => it ? { chunk: it } : data(1)))), 0), [
+  // (an error comes first, and user data before what is bundled with it)
+  [3, 0, 'data'], [0, 9, 'abort'], [9, 10, 'abort'], [10, 3, 'setup'], [99, 'other'], ['other'],
+]);
+const twice = await drawnOf(storeOf(packet(1, A, [data(1)]), packet(2, A, [data(1)], { repeated: 1 })));
+each('a curve to the first packet', () => classed(twice.over, 'tie').length, [[1]]);
+each('a colour', i => classed(drawn, 'arrow')[i].class, [
+  [0, 'arrow setup accepted'], [4, 'arrow ack accepted zero gaps'], [6, 'arrow data accepted wrong repeated'], [7, 'arrow ack refused'],
+]);
 const log = storeOf(...['incoming', 'outgoing'].map(it => packet(1, { source: 5, destination: 5, direction: it }, [])));
+const others = await drawnOf(capture, row => ![2, 4, 6].includes(row));
 each('beside arrows, and above', texts, [
-  [drawn, 'silence', ['1.5 s']],
-  [heads, 'end', ['10.0.0.1:40000', '[2001:db8::2]:9900']],
-  [heads, 'dim', ['tag 0x0000000a', 'tag 0x00000014']],
-  [classed(await drawnOf(log), 'heads')[0], 'end', ['remote:5', 'local:5']],
+  [drawn.over, 'silence', ['1.5 s without a packet']],
+  // (from packet 3 at 0.5 s to packet 5 at 2.1 s)
+  [others.over, 'silence', ['1.6 s, 1 packet hidden']],
+  [drawn.heads, 'end', ['10.0.0.1:4000010.0.0.1:40000', '[2001:db8::2]:9900[2001:db8::2]:9900']],
+  [drawn.heads, 'dim', ['tag 0x0000000a', 'tag 0x00000014']],
+  [(await drawnOf(log)).heads, 'end', ['remote:5remote:5', 'local:5local:5']],
+]);
+// A repeat is tied to the first sending by a curve, or says where it was if that isn't drawn.
+const shownLabel = (svg, i) => classed(classed(svg, 'arrow')[i], 'label')[0].textContent;
+each('what a repeat says', (svg, i) => [classed(svg.over, 'tie').length, shownLabel(svg, i)], [
+  [drawn, 6, [1, 'DATA 0 stream 0, wrong checksum, sent again']],
+  [others, 3, [0, 'DATA 0 stream 0, wrong checksum, sent again, first sent in packet 6']],
+]);
+
+// ---- where arrows are
+
+const S = 1e9, MS = 1e6, layout = (gaps, rate) => {
+  const { places, breaks } = placesOf([NaN, ...gaps], ROW, rate, S);
+  return [Array.from(places), [...breaks]];
+};
+each('places', layout, [
+  [[], undefined, [[0], []]],
+  // Evenly, with a band for a silence of a second.
+  [[5, 0.999 * S, NaN], undefined, [[0, ROW, 2 * ROW, 3 * ROW], []]],
+  [[5, S, 5], undefined, [[0, ROW, 2 * ROW + BAND, 3 * ROW + BAND], [2]]],
+  // To scale, but not nearer than arrows can be; what is too long is broken. Times can be unknown, or go back.
+  [[10 * MS, 20 * MS, 40 * MS], 2 / MS, [[0, 20, 60, 140], []]],
+  [[0, 1, NaN, -5 * S], 2 / MS, [[0, 1, 2, 3, 4].map(it => it * LEAST), []]],
+  // (what is cut short grows by as much with each doubling)
+  [[10 * MS, 120 * MS, 10 * MS], 2 / MS, [[0, 20, 20 + WIDEST, 40 + WIDEST], []]],
+  [[10 * MS, 240 * MS, 10 * MS], 2 / MS, [[0, 20, 20 + WIDEST + DOUBLED, 40 + WIDEST + DOUBLED], [2]]],
+  [[10 * MS, 960 * MS, 10 * MS], 2 / MS, [[0, 20, 20 + WIDEST + 3 * DOUBLED, 40 + WIDEST + 3 * DOUBLED], [2]]],
+]);
+// A silence is four times what most gaps are within, from 0.1 s to 1 s.
+const gapsOf = (count, most, ...others) => Float64Array.from([NaN, ...Array.from({ length: count }, (_, i) => most * (i + 1) / count), ...others]);
+each('from when on it is a silence', (...gaps) => Math.round(longOf(gapsOf(...gaps)) / MS), [
+  [100, 100 * MS, 384], [100, 100 * MS, 700 * MS, 384], [100, 5 * MS, 100], [100, 30 * S, 1000], [0, 0, 1000], [0, 0, -5 * S, 1000],
+]);
+each('arrows of a burst after 99 s', () => {
+  const gaps = Float64Array.of(NaN, 20 * MS, 99 * S, 0.2 * MS, 0.3 * MS, 0.4 * MS), { places, breaks } = placesOf(gaps, ROW, rateOf(gaps), S);
+  return [places.every((it, i) => !i || it - places[i - 1] >= 14), [...breaks], places.at(-1) < 1000];
+}, [[[true, [1, 2], true]]]);
+// (that of the middle is as far as one that is drawn evenly)
+each('a scale', gaps => Math.round(1e9 * rateOf(Float64Array.from(gaps)) / ROW), [
+  [[NaN, 1, 2, 3], 500000000], [[NaN, -5, 0, 4], 250000000], [[NaN, ...Array(30000).fill(5)], 200000000],
+]);
+each('no scale', gaps => rateOf(Float64Array.from(gaps)), [[[], undefined], [[NaN], undefined], [[NaN, 0, -1], undefined]]);
+each('a step', stepWithin, [[1, 1], [1.9, 1], [2, 2], [4.9, 2], [5, 5], [9, 5], [10, 10], [35e6, 20e6], [7e8, 5e8]]);
+each('the last that isn’t after', lastAt, [
+  [[0, 10, 20], -5, 0], [[0, 10, 20], 0, 0], [[0, 10, 20], 9, 0], [[0, 10, 20], 10, 1], [[0, 10, 20], 99, 2], [[], 5, 0],
+]);
+each('what is in both', common, [[[1, 3, 5], [0, 1, 2, 5, 6], [1, 5]], [[1, 2], [], []], [[], [1], []], [[7, 9], [1, 2, 3, 9], [9]]]);
+each('a duration', durationText, [
+  [99 * S, '99 s'], [1234.5 * S, '1,230 s'], [1.5 * S, '1.5 s'], [210.04 * MS, '210 ms'], [1200e3, '1.2 ms'], [350e3, '350 µs'], [40, '40 ns'],
+]);
+const groups = 'data data ack data'.split(' '), itsMarks = [['refused'], [], [], ['repeated', 'refused']];
+each('parts of a height', (places, count) => partsOf(Float64Array.from(places), 100, count, i => groups[i], i => itsMarks[i]), [
+  [[0, 10, 19, 99], 5, [
+    { at: 0, count: 3, group: 'data', marks: ['refused'] }, { at: 4, count: 1, group: 'data', marks: ['repeated', 'refused'] },
+  ]],
+  [[50, 100], 2, [{ at: 1, count: 2, group: 'data', marks: ['refused'] }]],
 ]);
 scale = 'time';
-const places = classed(await drawnOf(storeAt(['1.0', '2.0', '5.0'])), 'arrow').map(it => it['data-y']);
-each('a place to scale', i => (places[i] - places[0]) / (places[2] - places[0]), [[0, 0], [1, 0.25], [2, 1]]);
-// (at most eight steps, each 1, 2 or 5 times a power of ten)
-each('a step', stepOf, [[8, 1], [9, 2], [16, 2], [17, 5], [40, 5], [41, 10], [8e9, 1e9], [0.5, 0.1]]);
+const scaled = await drawnOf(storeAt(['1.0', '1.1', '1.15', '1.25', '9.25']));
+const places = classed(scaled, 'arrow').map(it => linesOf(it)[1]);
+each('a place to scale', i => (places[i] - places[0]) / (places[1] - places[0]), [[0, 0], [1, 1], [2, 1.5], [3, 2.5]]);
+each('a silence to scale', texts, [[scaled.over, 'silence', ['8 s without a packet']], [scaled.heads, 'dim', ['100 ms']]]);
+scale = 'even';
 
-// ---- whose packet it is (RFC 9260 section 8.5: a packet has the tag that the end that it goes to chose)
+// More pixels than a browser scrolls: each place is reached, also the end.
+function scrolled(last, to) {
+  const held = { places: Float64Array.of(0, last), box: { clientHeight: 550, scrollTop: 0 }, update() {} };
+  const diagram = Object.assign(Object.create(Diagram.prototype), held);
+  diagram.scrollTo(to);
+  return diagram;
+}
+each('where a diagram is scrolled to', (last, to) => {
+  const { box, offset } = scrolled(last, to);
+  return [box.scrollTop < 16e6, Math.round(offset)];
+}, [[1000, 300, [true, 300]], [1000, -5, [true, 0]], [40e6, 12345678, [true, 12345678]], [40e6, 0, [true, 0]]]);
+each('the end of a diagram', last => {
+  const { offset, view, height } = scrolled(last, Infinity);
+  return Math.abs(offset + view - height) < 1 && height > last;
+}, [[1000, true], [40e6, true]]);
 
-const ends = [{ addresses: ['10.0.0.1'], port: 1, tag: 10 }, { addresses: ['10.0.0.2'], port: 2, tag: 20 }];
+// ---- what packets have to do with each other (TSNs are serial numbers, RFC 1982)
+
+const acked = sack => ({ ...SACK, ...sack });
+const exchange = storeOf(...[
+  [A, data(LAST)], [A, data(0), data(1)], [A, data(2)], [B, acked({ cumulative_tsn: LAST })], [A, data(0)], [A, data(4)],
+  [B, acked({ cumulative_tsn: 0, blocks: [{ first_tsn: 2, last_tsn: 2 }, { first_tsn: 4, last_tsn: 5 }] })], [A, data(1), data(5)],
+  [B, acked({ cumulative_tsn: 5 }), data(0)], [B, acked({ cumulative_tsn: 5 })], [A, { chunk: 7, name: 'SHUTDOWN', cumulative_tsn: 0 }],
+].map(([end, ...chunks], i) => packet(i + 1, end, chunks, { repeated: [4, 7].includes(i) ? 1 : 0 })));
+const [pair] = exchange.associations, { rows: exchanged, senderOf: senderIn } = exchange.rowsOf(pair);
+const firsts = firstSendings(exchange, exchanged, senderIn);
+each('first sendings', number => repeatsOf(exchange, firsts, senderIn, number - 1).map(([tsn, row]) => `${tsn}: ${row + 1}`).join(' '), [
+  [1, ''], [2, ''], [5, '0: 2'], [6, ''], [8, '1: 2'], [9, ''],
+]);
+const chunksIn = await exchange.objects(exchanged);
+each('what is acknowledged', number =>
+  acknowledgedBy(exchange, exchanged, senderIn, number - 1, chunksIn[number - 1].chunks).map(it => it + 1).join(' '), [
+  [1, ''], [4, '1'], [7, '2 3 5 6'], [9, '2 3 6 8'], [10, ''], [11, '9'],
+]);
+
+// What is missing before a packet, and what became of it: TSN 1 comes later, 2 is skipped, and 5 never comes. After 2^32 - 1 comes 0.
+const skipping = storeOf(...[
+  [A, data(LAST)], [A, data(3)], [B, data(2)], [A, data(1)], [A, { chunk: 192, new_cumulative_tsn: 0, streams: [] }], [A, data(6), data(4)], [A, data(0)],
+  [B, { chunk: 192, new_cumulative_tsn: 9, streams: [] }], [A, { chunk: 194, new_cumulative_tsn: 3, streams: [] }],
+].map(([end, ...chunks], i) => packet(i + 1, end, chunks, { missing: { 1: 3, 5: 1 }[i] })));
+const { rows: skippingRows, senderOf: senderOfSkipping } = skipping.rowsOf(skipping.associations[0]);
+const skippingFirsts = firstSendings(skipping, skippingRows, senderOfSkipping);
+const missingAt = (number, count) => missingBefore(skipping, skippingFirsts, senderOfSkipping, number - 1, count);
+each('what is missing', missingAt, [[2, 3, [2, 1, 0]], [2, 2, [2, 1]], [6, 1, [5]], [2, 0, []]]);
+const broughtTo = [];
+for (const [number, count] of [[2, 3], [6, 1]])
+  broughtTo.push((await bringersOf(skipping, skippingRows, skippingFirsts, senderOfSkipping, number - 1, missingAt(number, count))).map(it => `${it.tsn}: ${it.by === undefined ? 'never' : it.by + 1}${it.isSkipped ? ' skipped' : ''}`).join(', '));
+each('what became of it', i => broughtTo[i], [[0, '2: 9 skipped, 1: 4, 0: 7'], [1, '5: never']]);
+
+// ---- what arrows say
+
+each('a label', chunkLabel, [
+  [data(1000, { ...whole, stream: 1 }), 'DATA 1000 stream 1 “hello”'],
+  [data(5, opened), 'DATA 5 stream 0 DATA_CHANNEL_OPEN “chat” reliable ordered'],
+  [data(5, { beginning: true, end: false, payload_size: 1200, ppid: 53, ppid_name: 'WebRTC Binary' }), 'DATA 5 stream 0 WebRTC Binary 1,200 bytes first fragment'],
+  [data(0, { ppid: 0 }), 'DATA 0 stream 0 ppid 0'],
+  [acked({ cumulative_tsn: 1005, a_rwnd: 5, blocks: [{ first_tsn: 1007, last_tsn: 1009 }], duplicates: [{ tsn: 7 }] }), 'SACK 1005, gap blocks 1007–1009, duplicate 7'],
+  [{ chunk: 192, name: 'FORWARD-TSN', new_cumulative_tsn: 9, streams: [{ stream: 1, ssn: 2 }] }, 'FORWARD-TSN new TSN 9, skips in stream 1'],
+  [reset({ parameter: 13, name: 'x', streams: [{ stream: 1 }, { stream: 2 }] }), 'RE-CONFIG resets stream 1, 2'],
+  [{ chunk: 6, name: 'ABORT', causes: [{ cause: 12, name: 'User-Initiated Abort', text: 'enough' }] }, 'ABORT User-Initiated Abort “enough”'],
+  [{ chunk: 7, name: 'SHUTDOWN', cumulative_tsn: 9 }, 'SHUTDOWN 9'],
+  [{ chunk: 99 }, 'chunk 99'],
+]);
+each('labels of chunks', count => chunksLabel(Array(count).fill({ chunk: 11, name: 'COOKIE ACK' }), 2), [
+  [1, 'COOKIE ACK'], [2, 'COOKIE ACK | COOKIE ACK'], [1002, 'COOKIE ACK | COOKIE ACK | 1,000 more'],
+]);
+each('a label that fits', fitted, [
+  ['DATA 1', '', 10, ['DATA 1', '']], ['DATA 1', '', 5, ['DATA…', '']], ['', 'refused', 10, ['', 'refused']],
+  ['DATA 1 stream 1', 'sent again', 30, ['DATA 1 stream 1', ', sent again']],
+  ['DATA 1 stream 1', 'sent again', 20, ['DATA 1…', ', sent again']],
+  ['DATA 1', 'refused COOKIE ACK: length 3', 20, ['DATA…', ', refused COOK…']],
+  ['漢字漢字', '', 8, ['漢字漢字', '']], ['漢字漢字', '', 7, ['漢字漢…', '']],
+]);
+const asked = (text, store = capture) => {
+  const isWanted = wantedRow(store, text);
+  return isWanted && rowsOf(store).filter(it => store.isPacket(it)).find(isWanted);
+};
+// (1700000000 is 22:13:20)
+each('where to go', text => asked(text), [
+  ['5', 5], ['#5', 5], ['99', undefined], ['0.25', 2], ['+0.25', 2], ['0.3 s', 3], ['2s', 4], ['2.25', 7], ['3 s', undefined],
+  ['22:13:22', 4], ['22:13:22.15', 6], ['23:00', undefined], ['x', undefined], ['', undefined], ['1-2', undefined],
+]);
+
+// ---- associations that the program didn't print
+
 const flow = (source, destination, tag, others) =>
   ({ source, destination, tag, from: `10.0.0.${source}`, to: `10.0.0.${destination}`, ...others });
-const same = ends.map(it => ({ ...it, port: 5 })), unknown = [ends[0], { ...ends[1], tag: undefined }];
-each('a sender', (association, flow) => senderByTag(association, flow) ?? senderByPlace(association, flow), [
-  [{ ends }, flow(1, 2, 20), 0],
-  [{ ends }, flow(2, 1, 10), 1],
-  [{ ends }, flow(1, 2, 20, { from: '10.9.9.9', to: '10.8.8.8' }), 0],
-  [{ ends }, flow(1, 2, 21), undefined],
-  [{ ends }, flow(1, 3, 20), undefined],
-  [{ ends }, flow(3, 2, 20), undefined],
-  // An INIT has tag 0, and the tag of the one that sends it inside.
-  [{ ends }, flow(1, 2, 0, { initTag: 10 }), 0],
-  [{ ends }, flow(1, 2, 0, { initTag: 11 }), undefined],
-  [{ ends }, flow(2, 1, 0, { initTag: 20 }), 1],
-  // With bit T the tag is that of the sender.
-  [{ ends }, flow(1, 2, 10, { isReflected: true }), 0],
-  [{ ends }, flow(2, 1, 20, { isReflected: true }), 1],
-  [{ ends }, flow(1, 2, 10), undefined],
-  // Between the same ports the tag alone says it.
-  [{ ends: same }, flow(5, 5, 20), 0],
-  [{ ends: same }, flow(5, 5, 10), 1],
-  [{ ends: same }, flow(5, 5, 20, { isReflected: true }), 1],
-  [{ ends: same }, flow(5, 5, 10, { isReflected: true }), 0],
-  // No tag of the other end is known: by the addresses.
-  [{ ends: unknown }, flow(1, 2, 99), 0],
-  [{ ends: unknown }, flow(1, 2, 99, { from: '10.9.9.9' }), undefined],
-  [{ ends: unknown }, flow(1, 2, 99, { to: '10.9.9.9' }), undefined],
-  [{ ends: unknown }, flow(2, 1, 99), undefined],
-  // Of a log: the transport (null: of another name), and the direction.
-  [{ ends, transport: 'T' }, flow(1, 2, 20, { transport: 'T' }), 0],
-  [{ ends, transport: 'T' }, flow(1, 2, 20, { transport: 'U' }), undefined],
-  [{ ends, transport: 'T' }, flow(1, 2, 20), undefined],
-  [{ ends }, flow(1, 2, 20, { transport: 'T' }), undefined],
-  [{ ends, transport: null }, flow(1, 2, 20, { transport: 'U' }), 0],
+each('pairs of ends', (...flows) => pairsOf(flows).map(it => it?.join('.') ?? '-').join(' '), [
+  [flow(1, 2, 20), flow(2, 1, 10), {}, flow(1, 3, 20), flow(1, 2, 21), '1.0 1.1 - 2.0 1.0'],
+  [...['outgoing', 'incoming'].map(it => ({ source: 5, destination: 5, direction: it })), '1.0 1.1'],
+  [...['T', 'U', 'T'].map(it => ({ source: 5, destination: 6, transport: it })), '1.0 2.0 1.0'],
+  [...['a', 'b'].map(it => ({ source: 5, destination: 6, from: it })), '1.0 2.0'],
 ]);
-each('pairs of ends', (...flows) => pairsOf(flows).map(({ association, ends }) =>
-  `${association}: ${ends.map(it => [...it.addresses, it.port, it.direction ?? '-'].join(' ')).join(', ')}`), [
-  [flow(1, 2, 20), flow(2, 1, 10), {}, flow(1, 3, 20), ['1: 10.0.0.1 1 -, 10.0.0.2 2 -', '2: 10.0.0.1 1 -, 10.0.0.3 3 -']],
-  [...['outgoing', 'incoming'].map(it => ({ source: 5, destination: 5, direction: it })), ['1: 5 outgoing, 5 incoming']],
-  [...['T', 'U'].map(it => ({ source: 5, destination: 6, transport: it })), ['1: 5 -, 6 -', '2: 5 -, 6 -']],
+each('an association of a flow', associationOf, [
+  [7, flow(1, 2, 20), 0, { association: 7, ends: [{ addresses: ['10.0.0.1'], port: 1 }, { addresses: ['10.0.0.2'], port: 2 }] }],
+  [7, flow(1, 2, 20), 1, { association: 7, ends: [{ addresses: ['10.0.0.2'], port: 2 }, { addresses: ['10.0.0.1'], port: 1 }] }],
+  [7, { source: 1, destination: 2, transport: 'T' }, 0,
+    { association: 7, ends: [{ addresses: [], port: 1 }, { addresses: [], port: 2 }], transport: 'T' }],
 ]);
-// (the program was stopped: there is a pair in the place of an association)
-each('a sender in a pair', direction => senderByPlace(log.associations[0], { source: 5, destination: 5, direction }), [
-  ['incoming', 0], ['outgoing', 1],
+const of = (association, end) => ({ association, end }), twoEnds = [{ port: 1 }, { port: 2 }];
+/** Whose packets they are: rows by their associations, those with an addition in the order in which they are listed. */
+each('whose packets they are', (...objects) => {
+  const store = storeOf(...objects);
+  const packets = store.associations.map(it => {
+    const { rows, senderOf } = store.rowsOf(it);
+    return `${it.association}: ${rows.map(row => store.columns.number[row] + 'AB'[senderOf(row)]).join(' ')}`;
+  });
+  return packets.join(', ');
+}, [
+  // As the program says, of associations that left the table, and so are printed between packets, too.
+  [packet(1, A, [], of(1, 0)), packet(2, B, [], of(1, 1)), packet(3, A, [], of(2, 0)), { association: 1, ends: twoEnds, left_table: true },
+    packet(4, A, [], of(1, 0)), packet(5, A, []), packet(6, B, [], of(3, 1)), { association: 3, ends: twoEnds }, { association: 2, ends: twoEnds },
+    '1: 1A 2B 4A, 2: 3A, 3: 6B'],
+  // It was stopped before it printed them, or some of them.
+  [packet(1, A, [], of(1, 0)), packet(2, B, [], of(1, 1)), packet(3, B, [], of(2, 1)), '1: 1A 2B, 2: 3B'],
+  [packet(1, A, [], of(1, 0)), packet(2, B, [], of(2, 1)), { association: 2, ends: twoEnds }, '1: 1A, 2: 2B'],
+  // These keys are missing.
+  [packet(1, A, []), packet(2, B, []), packet(3, { source: 1, destination: 2 }, []), { skipped: 'x' }, packet(4, {}, []), '1: 1A 2B, 2: 3A'],
+  [packet(1, A, []), { association: 5, ends: twoEnds }, '5: '],
+  // What the program didn't print.
+  ...[of(1), of(1, 2), of(-1, 0), of(0.5, 0), of(2 ** 32, 0), of('1', 0)].map(it => [packet(1, A, [], of(1, 0)), packet(2, A, [], it), '1: 1A']),
+  [packet(1, A, []), packet(2, A, [], of(1, 0)), { association: 0, ends: twoEnds }, '1: 2A'],
+]);
+each('ends of an association that was not printed', () => storeOf(packet(1, B, [], of(4, 1))).associations, [
+  [[{ association: 4, ends: [{ addresses: ['10.0.0.1'], port: 40000 }, { addresses: ['2001:db8::2'], port: 9900 }] }]],
 ]);
 
 // ---- the table of associations, each of whose numbers is another one
@@ -389,8 +590,9 @@ const numbered = first => ({
   ...Object.fromEntries(KEYS.map((key, i) => [key, first + i])), packets: 1000 * first, data: 2000 * first, bytes: 1e6 * first,
   round_trip: { count: first + 50, least: first / 1e6, median: first / 8000, greatest: first },
 });
+const tableOf = (view, list) => Object.assign(Object.create(view.prototype), { list });
 function tableRow(association) {
-  const row = Associations.prototype.draw.call({ list: [association] }, 0);
+  const row = tableOf(Associations, [association]).draw(0);
   return Object.fromEntries(row.parts.map(it => [it.dataset.title, it.parts.map(line => line.textContent)]));
 }
 const association = {
@@ -398,18 +600,35 @@ const association = {
   ends: [{ addresses: ['10.0.0.1', '10.0.0.2'], ...numbered(100) }, { addresses: ['2001:db8::1'], ...numbered(300) }],
   began: { packet: 3, chunk: 'INIT' }, established: { packet: 4 }, ended: { packet: 99, chunk: 'ABORT', by: 1 },
 };
-const NONE = Object.fromEntries(['Packets', 'DATA', 'Bytes', 'Sent again', 'Missing', 'Gap SACKs'].map(it => [it, '– / –']));
+const NONE = Object.fromEntries(['Packets', 'DATA', 'Bytes', 'Sent again', 'Missing', 'Refused', 'Gap SACKs'].map(it => [it, '– / –']));
+NONE.Silence = '–';
 const joined = row => Object.fromEntries(Object.entries(row).map(([head, lines]) => [head, lines.join(' / ')]));
+/** The lines of a column, with where they lead and what is said where nothing is. */
+const linesIn = (table, title, it) => table.columns.find(its => its[0] === title)[2](it).map(([text, whole, at]) => [text, at ? at.packet : whole]);
+each('where the table leads', (title, its) => linesIn(Associations.prototype, title, { ...association, ...its }), [
+  ['Began', {}, [['3 INIT', 3]]], ['Ended', {}, [['99 ABORT', 99]]], ['Ended', { ended: undefined }, [['–', 'No end was captured.']]],
+  ['Began', { midway: true }, [['midway', 3]]], ['Silence', {}, [['–', 'No two packets have a time.']]],
+]);
+// Between packets of one association: the other one's don't break a silence, nor do packets without a time.
+const timed = (number, association, time) => ({ ...packet(number, A, [], { association, end: 0 }), time });
+const silent = storeOf(timed(1, 1, '1.0'), timed(2, 2, '1.1'), timed(3, 1, '1.5'), timed(4, 2, '4.5'), timed(5, 1, '5.7'), timed(6, 1, undefined), timed(7, 1, '5.9'), timed(8, 3, '6.0'));
+each('the longest silence', number => linesIn(Object.assign(tableOf(Associations, []), { silences: silent.silences() }), 'Silence', { association: number }), [
+  [1, [['4.2 s', 5]]], [2, [['3.4 s', 4]]], [3, [['–', 'No two packets have a time.']]],
+]);
+each('the order by silences', () => {
+  const table = Object.assign(tableOf(Associations, []), { silences: silent.silences() });
+  return sorted(table.columns, [2, 3, 1].map(association => ({ association, ends: [] })), 'Silence', true).map(it => it.association).join(' ');
+}, [['1 2 3']]);
 each('the table', it => joined(tableRow(it)), [
   [association, {
     'No.': '7', 'Ends': '10.0.0.1:100 10.0.0.2:100 / [2001:db8::1]:300', 'Packets': '100,000 / 300,000',
     'DATA': '200,000 / 600,000', 'Bytes': '100.0 MB / 300.0 MB', 'Sent again': '109 / 309', 'Missing': '111 / 311',
-    'Gap SACKs': '115 / 315', 'Round trip': '12.5 ms / 37.5 ms', 'Began': '3 INIT', 'Ended': '99 ABORT',
+    'Refused': '102 / 302', 'Gap SACKs': '115 / 315', 'Median trip': '12.5 ms / 37.5 ms', 'Silence': '–', 'Began': '3 INIT', 'Ended': '99 ABORT',
   }],
   [{ association: 8, ends: [{ port: 1 }, { port: 2, round_trip: { median: 0.0204 } }], midway: true, began: { packet: 1 } },
-    { ...NONE, 'No.': '8', 'Ends': '1 / 2', 'Round trip': '– / 20.4 ms', 'Began': 'midway', 'Ended': '–' }],
+    { ...NONE, 'No.': '8', 'Ends': '1 / 2', 'Median trip': '– / 20.4 ms', 'Began': 'midway', 'Ended': '–' }],
   [{ association: 9, ends: [{ port: 1 }, { port: 2 }], began: { packet: 1, file: 'a.pcap', chunk: 'INIT' }, ended: { packet: 2, file: 'b.pcap', chunk: 'ABORT' } },
-    { ...NONE, 'No.': '9', 'Ends': '1 / 2', 'Round trip': '– / –', 'Began': '1 INIT / of a.pcap', 'Ended': '2 ABORT / of b.pcap' }],
+    { ...NONE, 'No.': '9', 'Ends': '1 / 2', 'Median trip': '– / –', 'Began': '1 INIT / of a.pcap', 'Ended': '2 ABORT / of b.pcap' }],
 ]);
 
 each('bytes', sized, [
@@ -417,12 +636,141 @@ each('bytes', sized, [
 ]);
 const three = [[1, 9, 300], [2, 1000, 10], [3]].map(([association, ...packets]) =>
   ({ association, ends: [{ port: 30 - association, packets: packets[0] }, { port: 2, packets: packets[1] }], ended: packets[0] && { packet: 11 - association } }));
-each('the order of associations', (...by) => sorted(three, ...by).map(it => it.association).join(' '), [
+each('the order of associations', (...by) => sorted(Associations.prototype.columns, three, ...by).map(it => it.association).join(' '), [
   ['No.', false, '1 2 3'], ['No.', true, '3 2 1'], ['Packets', true, '2 1 3'], ['Packets', false, '1 2 3'], ['Ends', false, '3 2 1'],
   ['Ended', false, '2 1 3'], ['DATA', true, '1 2 3'],
 ]);
-each('a pair of ends without a direction', () => pairsOf([{ source: 1, destination: 2 }]).flatMap(it => it.ends.map(Object.keys)).flat().includes('direction'), [
-  [false],
+// ---- data channels: RFC 8832 section 5 and RFC 6525 section 4
+
+const dcepOpen = (stream, others) => data(1, { stream, ppid: 50, message: 3, label: 'chat', protocol: 'p', channel_type_name: 'reliable ordered', reliability: 0, priority: 256, ...others });
+const message = (stream, others) => data(2, { stream, ppid: 51, ppid_name: 'WebRTC String', payload_size: 5, beginning: true, end: true, ...others });
+const dcepAck = data(3, { stream: 1, ppid: 50, message: 2, end: true, payload_size: 1 });
+const resets = (request, ...streams) => reset({ parameter: 13, request, streams: streams.map(stream => ({ stream })) });
+const answers = (response, result, result_name) => reset({ parameter: 16, response, result, result_name });
+/** Packets of an association's ends, which are numbered: each an end, chunks and what else it has. */
+const ofEnds = packets => packets.map(([end, chunks, others], i) => packet(i + 1, end ? B : A, chunks, { association: 1, end, ...others }));
+/** What is said of channels: stream, label, who opened it in which packet and who acknowledged, messages, bytes, repeats, resets. */
+const channelTexts = (...packets) => storeOf(...ofEnds(packets)).channels.map(({ stream, label, ends }) => {
+  const by = key => ends.flatMap((it, i) => it[key] ? `${'AB'[i]}${it[key].packet}` : []).join('+') || '-', all = key => ends.map(it => it[key]).join('/');
+  const resets = ends.map(({ reset }) => reset ? `${reset.packet}${reset.response ? `=${reset.result}@${reset.response.packet}` : ''}` : '-');
+  return [stream, label ?? '-', by('opened'), by('acknowledged'), all('messages'), all('bytes'), all('repeated'), ...resets].join(' ');
+});
+each('channels', channelTexts, [
+  [[0, [dcepOpen(1)]], [1, [dcepAck]], [0, [message(1), message(1)]], [1, [message(1, { payload_size: 7 })]], ['1 chat A1 B2 2/1 10/7 0/0 - -']],
+  // A message counts where it ends, and its bytes in each fragment.
+  [[1, [message(4, { end: false }), message(4, { end: false, beginning: false }), message(4, { beginning: false })]], ['4 - - - 0/1 0/15 0/0 - -']],
+  // What was sent again counts as that alone, an OPEN too: all of the packet's DATA, or those with the least TSNs (after 2^32 - 1 comes 0).
+  [[0, [message(1)]], [0, [message(1)], { repeated: 1 }], ['1 - - - 1/0 5/0 1/0 - -']],
+  [[0, [dcepOpen(1)]], [0, [dcepOpen(1), message(2, { tsn: LAST }), message(3, { tsn: 0 })], { repeated: 2 }],
+    ['1 chat A1 - 0/0 0/0 0/0 - -', '1 chat A2 - 0/0 0/0 0/0 - -', '2 - - - 0/0 0/0 1/0 - -', '3 - - - 0/0 0/0 1/0 - -']],
+  [[0, [dcepOpen(1)]], [0, [dcepOpen(1)], { repeated: 1 }], ['1 chat A1 - 0/0 0/0 1/0 - -']],
+  // Resets of streams by one end and by both, with what was answered; a request is known by its number.
+  [[0, [message(1)]], [0, [message(2)]], [0, [resets(7, 1)]], [0, [resets(7, 1)]], [1, [answers(7, 1), resets(3, 1, 2)]], [1, [answers(9, 1)]],
+    ['1 - - - 1/0 5/0 0/0 3=1@5 5', '2 - - - 1/0 5/0 0/0 - 5']],
+  [[0, [message(1), message(2)]], [0, [resets(7)]], [1, [answers(7, 6)]], [1, [answers(7, 1)]], ['1 - - - 1/0 5/0 0/0 2=1@4 -', '2 - - - 1/0 5/0 0/0 2=1@4 -']],
+  // One that was refused is asked for again; one that was done is not another one's.
+  [[0, [message(1)]], [0, [resets(7, 1)]], [1, [answers(7, 2)]], [0, [resets(8, 1)]], [0, [resets(9, 1)]], [1, [answers(8, 1), answers(9, 1)]], [0, [resets(10, 1)]],
+    ['1 - - - 1/0 5/0 0/0 5=1@6 -']],
+  [[0, [message(1)]], ...Array.from({ length: 9 }, (_, i) => [0, [resets(i, 1)]]), [1, [answers(0, 1)]], ['1 - - - 1/0 5/0 0/0 10 -']],
+  // A stream is used again once it was reset; DATA can come before OPEN.
+  [[0, [dcepOpen(1)]], [0, [message(1)]], [0, [resets(7, 1)]], [1, [answers(7, 1)]], [1, [dcepOpen(1, { label: 'two' })]], [1, [message(1)]],
+    ['1 chat A1 - 1/0 5/0 0/0 3=1@4 -', '1 two B5 - 0/1 0/5 0/0 - -']],
+  [[1, [message(1)]], [0, [dcepOpen(1)]], ['1 chat A2 - 0/1 0/5 0/0 - -']],
+  [[0, [dcepOpen(1)]], [1, [dcepOpen(1, { label: 'two' })]], ['1 chat A1 - 0/0 0/0 0/0 - -', '1 two B2 - 0/0 0/0 0/0 - -']],
+  // Nothing is known of a stream without DATA, of another association, or of packets of none.
+  [[0, [resets(7, 1), answers(7, 1)]], []],
+  [[0, [message(1)]], [0, [resets(7, 1)], { association: 2 }], [0, [message(1)], { association: 2 }], [0, [message(1)], { association: undefined, end: undefined }],
+    ['1 - - - 1/0 5/0 0/0 - -', '1 - - - 1/0 5/0 0/0 - -']],
+  // What the program didn't print.
+  [[0, [data(1), message('x', {}), reset(null, 5, { parameter: 13, streams: 5 }, { parameter: 16 })]], []],
+  [[0, [data(1, { stream: 1, ppid: 50, message: 3, label: 5, protocol: {}, payload_size: 'x' }), reset({ parameter: 13, streams: [null, { stream: 'x' }] })]],
+    ['1  A1 - 0/0 0/0 0/0 - -']],
+]);
+// At most 10,000: of others the messages are counted, as they end, and once.
+const beyond = [[1, [message(1)]], [1, [message(1)], { repeated: 1 }], [1, [message(1, { end: false })]], [1, [dcepOpen(1)]]];
+const crowd = storeOf(...Array.from({ length: 10000 }, (_, i) => packet(i + 1, A, [message(i)], { association: 1, end: 0 })),
+  ...ofEnds(beyond).map(it => ({ ...it, association: 2 })), packet(5, B, [message(1)], { association: 1, end: 1 }));
+each('too many channels', () => [crowd.channels.length, crowd.unlisted, crowd.channels[1].ends.map(it => it.messages)], [[[10000, 1, [1, 1]]]]);
+each('channels of a run that was stopped', () => {
+  const streams = new Streams(), [first, second] = ofEnds([[0, [message(1)]], [1, [message(2)]]]), numbers = () => streams.take().map(it => it.stream);
+  return [first, second, first].map(it => (streams.add(it), numbers()));
+}, [[[[1], [2], [1]]]]);
+
+/** A row of the table of channels, its lines by their heads. */
+function channelRow(store) {
+  const table = tableOf(Channels, []);
+  table.arrange = list => Object.assign(table, { list });
+  table.show(store);
+  return Object.fromEntries(table.draw(0).parts.map(it => [it.dataset.title, it.parts.map(line => line.textContent).join(' / ')]));
+}
+const ofLog = direction => ({ direction, from: undefined, to: undefined, source: 5000, destination: 5000 });
+each('the table of channels', (...packets) => channelRow(storeOf(...ofEnds(packets))), [
+  [[0, [dcepOpen(1)]], [1, [dcepAck]], [0, [message(1)]], [0, [resets(7, 1)]], [1, [answers(7, 1, 'Success - Performed')]], [1, [resets(7, 1)]], {
+    'Association': '1', 'Stream': '1', 'Label': 'chat / p', 'Payload': 'WebRTC String', 'Reliability': 'reliable ordered',
+    'Ends': '10.0.0.1:40000 / [2001:db8::2]:9900', 'Opened': 'OPEN 1 / ACK 2', 'Messages': '1 / 0', 'Bytes': '5 B / 0 B', 'Sent again': '0 / 0',
+    'Closed': 'first end: reset 4, 5: Performed / second end: reset 6, no response',
+  }],
+  [[1, [data(1, { stream: 2, ppid: 99, payload_size: 2000 })], ofLog('incoming')], {
+    'Association': '1', 'Stream': '2', 'Label': '– / ', 'Payload': 'ppid 99', 'Reliability': '–', 'Ends': 'local 5000 / remote 5000', 'Opened': '–',
+    'Messages': '0 / 0', 'Bytes': '0 B / 2.0 kB', 'Sent again': '0 / 0', 'Closed': '–',
+  }],
+]);
+// (a line for each end, so that it is seen which one opened it)
+each('who opened a channel', (...packets) => ['Opened', 'Closed'].map(it => channelRow(storeOf(...ofEnds(packets)))[it]).join('; '), [
+  [[1, [dcepOpen(1)]], '– / OPEN 1; –'], [[0, [dcepOpen(1)]], [1, [dcepAck]], [1, [resets(7, 1)]], 'OPEN 1 / ACK 2; second end: reset 3, no response'],
+]);
+const protocolData = [3, 1, 2, 1, 4, 5].map(ppid => data(ppid, { stream: 1, ppid }));
+each('payload protocols', (...chunks) => channelRow(storeOf(...ofEnds([[0, chunks]]))).Payload, [
+  [protocolData[0], 'ppid 3'], [...protocolData, 'ppid 3 / ppid 1, ppid 2, ppid 4'],
+]);
+// RFC 8832 section 5.1: the parameter of a partially reliable channel is a number of retransmissions, or of milliseconds.
+each('how a channel resends', (type, reliability) => channelRow(storeOf(...ofEnds([[0, [dcepOpen(1, { channel_type_name: type, reliability })]]]))).Reliability, [
+  ['reliable unordered', 5, 'reliable unordered'],
+  ['partial reliable rexmit ordered', 3, 'partial reliable rexmit ordered / at most 3 retransmissions'],
+  ['partial reliable timed unordered', 500, 'partial reliable timed unordered / at most 500 ms'],
+]);
+each('a channel’s filter', it => rowsOf(capture).filter(filterOf(channelFilter(it)).test(capture)).map(row => capture.columns.number[row]).join(' '), [
+  [{ association: 1, stream: 2 }, '4'], [{ association: 1, stream: 0 }, '6 7'],
+]);
+// What resets its stream or skips in it is found, too (RFC 6525 section 4.1, RFC 3758 section 3.2); a response names no stream.
+const onStreams = [[data(1, { stream: 1 })], [resets(7, 1, 2)], [answers(7, 1)], [{ chunk: 192, new_cumulative_tsn: 9, streams: [{ stream: 2, ssn: 1 }] }], [resets(8, 1)]];
+const onStream = storeOf(...ofEnds(onStreams.map(chunks => [0, chunks])));
+each('packets of a stream', stream => rowsOf(onStream).filter(filterOf(`stream:${stream}`).test(onStream)).map(row => row + 1).join(' '), [
+  [1, '1 2 5'], [2, '2 4'], [3, ''],
+]);
+each('a channel’s fields', () => nodesOf(storeOf(...ofEnds([[0, [message(3)]]])).channels[0]).map(it => it.label).join(' '), [
+  ['channel association stream payload first end messages bytes repeated addresses port second end messages bytes repeated addresses port'],
+]);
+
+// ---- what happened, in a line
+
+const storyText = store => storyOf(store).map(clause => clause.map(([text]) => text).join(', ')).join('; ');
+const leads = store => storyOf(store).flat().map(([, to]) => to.filter ?? to.view ?? to.packet).join(' ');
+const wholeEnds = [{ port: 1, packets: 5, data: 9, repeated: 1, missing: 0 }, { port: 2, packets: 5, data: 3, repeated: 0, missing: 2 }];
+const told = (number, others) => ({ association: number, ends: wholeEnds, began: { packet: 1, chunk: 'INIT' }, ...others });
+const dataRows = [packet(1, A, [data(5)], { association: 1, end: 0 }), packet(2, A, [data(5)], { association: 1, end: 0, repeated: 1 })];
+const bad = packet(9, A, [], { fault: { kind: 'length', offset: 12, reason: 'COOKIE ACK: length 3, but 4 are needed' } });
+const up = { established: { packet: 4, chunk: 'COOKIE ACK', after: 0.0424 } }, shut = { ended: { packet: 29, chunk: 'SHUTDOWN COMPLETE', by: 0 } };
+each('a story', (...objects) => [storyText(storeOf(...objects)), leads(storeOf(...objects))], [
+  [...dataRows, bad, told(1, { ...up, ...shut }), [
+    '1 association; up after 42 ms, shut down; 12 DATA, 1 sent again, 2 never seen; 1 packet refused: COOKIE ACK: length 3, but 4 are needed',
+    'associations 4 29 chunk:data,i-data repeated jump refused']],
+  [bad, bad, told(1), told(2, up), told(3, { ended: { packet: 5, chunk: 'ABORT' } }), [
+    '3 associations; the first never up; 1 more never up, 1 more aborted; 6 never seen; 2 packets refused, the first: COOKIE ACK: length 3, but 4 are needed',
+    'associations 1 associations associations jump refused']],
+  [packet(1, A, []), told(1, { midway: true, ended: { packet: 5, chunk: 'ABORT', cause_name: 'User-Initiated Abort' } }), [
+    '1 association; seen from its midst on, aborted: User-Initiated Abort; 2 never seen', 'associations 1 5 jump']],
+  // It was stopped.
+  [...dataRows, ['1 association; 2 packets with DATA, 1 sent again', 'associations chunk:data,i-data repeated']],
+  [{ line: 1, skipped: 'x' }, ['', '']],
+]);
+// More than half of the TSNs of one association: of 100 DATA, 34 that repeat 66; but not few, or of all associations together.
+const sentTwice = (number, data, repeated) => ({ association: number, ends: [{ packets: 1, data, repeated }, { packets: 1, data: 0, repeated: 0 }] });
+each('the same packets twice', (...associations) => storyText(storeOf(...dataRows, ...associations)).match(/most of.*/)?.[0], [
+  [sentTwice(1, 100, 33), undefined], [sentTwice(1, 10, 5), undefined], [sentTwice(1, 1000, 0), sentTwice(2, 100, 34), 'most of association 2: are these the same packets twice?'],
+]);
+each('a span', after => storyText(storeOf(packet(1, A, []), told(1, { established: { packet: 4, after }, ends: [{}, {}] }))).split('; ')[1], [
+  [0.00084, 'up after 0.8 ms'], [0.0424, 'up after 42 ms'], [1.055, 'up after 1,055 ms'], [12.34, 'up after 12.3 s'], [undefined, 'up'],
 ]);
 
 // ---- what is taken from the page
@@ -434,10 +782,20 @@ each('an array in C', cArray, [
 ]);
 each('a link', linkOf, [
   ['https://a.example/sctp.html#hex=ff', Uint8Array.from([1, 171]), 'https://a.example/sctp.html#hex=01ab'],
-  ['https://a.example/', new Uint8Array(988), `https://a.example/#hex=${'00'.repeat(988)}`],
-  ['https://a.example/', new Uint8Array(989), undefined], ['https://a.example/', new Uint8Array(), undefined],
+  ['https://a.example/', Uint8Array.of(1), Uint8Array.of(2, 3), 'https://a.example/#hex=01,0203'],
+  ['https://a.example/', new Uint8Array(3988), `https://a.example/#hex=${'00'.repeat(3988)}`],
+  ['https://a.example/', new Uint8Array(3989), undefined], ['https://a.example/', new Uint8Array(), undefined],
+  ['https://a.example/', undefined], ['https://a.example/', Uint8Array.of(1), new Uint8Array(), undefined],
+  ['https://a.example/', ...Array(50).fill(Uint8Array.of(1)), `https://a.example/#hex=01${',01'.repeat(49)}`],
+  ['https://a.example/', ...Array(51).fill(Uint8Array.of(1)), undefined],
 ]);
-each('the packet in an address', packetIn, [
+// The rows of packets in crates/wire_rows/stdin: chunks behind a header of 12 bytes, by four bytes.
+each('a row of a test', testRow, [
+  [Uint8Array.from([...Array(12).fill(9), 10, 0, 0, 5, 127]), 'packet 0a000005 7f'],
+  [Uint8Array.from([...Array(12).fill(9), 11, 0, 0, 4]), 'packet 0b000004'], [new Uint8Array(12), undefined],
+]);
+each('the packets in an address', packetsIn, [
+  ['#hex=01,0203', '01\n0203'], ['#hex=01,', ''], ['#hex=,', ''], ['#hex=01,2', ''], ['#example', undefined],
   ['', undefined], ['#a', undefined], ['#hex=', ''], ['#hex=0', ''], ['#hex=01aB', '01aB'], ['#hex=0x', ''], ['#hex=<img>', ''],
   ['#hex=01\n1', ''], [`#hex=${'0'.repeat(131070)}`, '0'.repeat(131070)], [`#hex=${'0'.repeat(131072)}`, ''],
 ]);
@@ -447,37 +805,22 @@ each('a pcap file', (...packets) => hexadecimal(new Uint8Array(pcapOf(packets)))
     'f8000000' + '01000000' + '02000000' + '02000000' + '09000000' + '0708' + '00000000' + '00000000' + '01000000' + '01000000' + '00'],
 ]);
 
+// ---- words, and the line between a view and the details
+
+each('what a count means', word => MEANINGS[word]?.length > 20, FOUND.map(([word]) => [word, true]));
+each('what a column means', title => COLUMN_MEANINGS[title]?.length > 10, Object.keys(tableRow(association)).map(it => [it, true]));
+each('the share of a view', shareAt, [
+  [300, 100, 500, 50], [100, 100, 500, 15], [0, 100, 500, 15], [900, 100, 500, 85], [204, 100, 500, 26],
+]);
+
 // ---- what is wrong
 
-// RFC 9260 section 3.3 has the chunks in the order of their types.
-const CHUNKS = ['DATA', 'INIT', 'INIT ACK', 'SACK', 'HEARTBEAT', 'HEARTBEAT ACK', 'ABORT', 'SHUTDOWN', 'SHUTDOWN ACK', 'ERROR',
-  'COOKIE ECHO', 'COOKIE ACK', 'SHUTDOWN COMPLETE'];
-each('a section', (kind, reason) => ruleOf({ kind, reason }).section, [
-  ...CHUNKS.map((it, i) => ['length', `${it}: length 3, but 4 are needed`, `RFC 9260 section 3.3.${i + 1}`]),
-  ['length', 'I-DATA: length 19, but 20 are needed', 'RFC 8260 section 2.1'],
-  ['length', 'RE-CONFIG: length 3, but 4 are needed', 'RFC 6525 section 3.1'],
-  ['length', 'FORWARD-TSN: length 7, but 8 are needed', 'RFC 3758 section 3.2'],
-  ['length', 'I-FORWARD-TSN: length 12, but 8 or 16 are needed', 'RFC 8260 section 2.3.1'],
-  ['length', 'parameter 0x0007 State Cookie: length 3, but 4 are needed', 'RFC 9260 section 3.2.1'],
-  ['length', 'cause 0x0002 Missing Mandatory Parameter: length 7, but 8 are needed', 'RFC 9260 section 3.3.10'],
-  // RFC 6525 section 4 has the parameters in the order of their types.
-  ...['Outgoing SSN Reset Request', 'Incoming SSN Reset Request', 'SSN/TSN Reset Request', 'Re-configuration Response',
-    'Add Outgoing Streams Request', 'Add Incoming Streams Request'].map((it, i) =>
-    ['value', `parameter 0x00${(13 + i).toString(16).padStart(2, '0')} ${it}: result 7, but 6 is the highest`, `RFC 6525 section 4.${i + 1}`]),
-  ['length', 'chunk: header of 4 bytes, but 3 bytes are left', 'RFC 9260 section 3.2'],
-  ['padding', 'SACK: padding of 1 byte isn\'t zero', 'RFC 9260 section 3.2'],
-  ['size', 'packet: 13 bytes, but 16 are needed', 'RFC 9260 section 3'],
-  ['length', undefined, 'RFC 9260 section 3.2'],
-]);
-each('a rule', kind => ruleOf({ kind, reason: 'DATA: ..' }).rule.split(' ').slice(0, 3).join(' '), [
-  ['size', 'A packet has'], ['length', 'A length counts'], ['padding', 'An item is'], ['value', 'A value has'], ['other', ''],
-]);
 each('notes', object => Fields.prototype.notesOf.call({}, object).map(it => it.textContent), [
   [packet(1, A, []), []],
-  [{ fault: { kind: 'value', offset: 16, reason: 'SACK: x' } },
-    ['Refused: value at byte 16: SACK: x. A value has to be one that its kind allows. (RFC 9260 section 3.3.4)']],
-  [{ captured: 26, length: 1036, fault: { kind: 'size', offset: 9, reason: 'x' } }, ['Cut off, and wrong: size at byte 9: x. ' +
-    'A packet has a common header of 12 bytes, and at least one chunk of 4 bytes or more. (RFC 9260 section 3.2)',
+  [{ fault: { kind: 'value', offset: 16, reason: 'SACK: x', section: 'RFC 9260 section 3.3.4', sentence: 'A sentence.' } },
+    ['Refused: value at byte 16: SACK: x. A sentence. (RFC 9260 section 3.3.4)']],
+  // (lines of another program's version)
+  [{ captured: 26, length: 1036, fault: { kind: 'size', offset: 9, reason: 'x' } }, ['Cut off, and wrong: size at byte 9: x. ',
   'Only 26 of 1,036 bytes were captured.']],
   [{ verdict: 'wrong', expected: 0xabc }, ['The checksum is wrong: it has to be 0x00000abc. (RFC 9260 section 6.8)']],
   [{ warnings: [{ rule: 'r', section: 's', sentence: 't' }] }, ['r: t (s)']],
@@ -566,6 +909,33 @@ each('a field', i => {
   [12, '1 chunk=66 [] in chunks 2 other up to 13'],
   [13, '0 fault= [] in - - up to 16'],
 ]);
+// A key that has a place alone: its value is in the packet's bytes, as far as they were captured.
+each('a field with a place alone', (bytes, ...place) => {
+  const [, size, payload] = nodesOf({ packet: 1, bytes, payload_size: 2, 'payload@': place }), none = { label: 'none' };
+  const { label, value, place: { from, to } = {} } = payload ?? none;
+  return `${size.label}, ${label}=${value} ${from}-${to}`;
+}, [
+  ['000102030405', 2, 3, 'payload_size, payload=020304 2-5'],
+  ['000102', 2, 3, 'payload_size, payload=02 2-5'],
+  ['0001', 2, 3, 'payload_size, payload= 2-5'],
+  [undefined, 2, 3, 'payload_size, payload= 2-5'],
+  ['0001', -1, 3, 'payload_size, none=undefined undefined-undefined'],
+]);
+each('its place among its siblings', i => `${nodes[i].position} of ${nodes[i].siblings}`, [
+  [0, '1 of 5'], [2, '3 of 5'], [3, '1 of 6'], [8, '1 of 2'], [9, '2 of 2'], [10, '6 of 6'], [12, '1 of 1'], [13, '5 of 5'],
+]);
+// RFC 9260 sections 3.1 and 3.3.4; a name or a count of the page itself is no field.
+each('the name of a field', i => nodes[i].name, [
+  [0, undefined], [1, 'Verification Tag'], [2, undefined], [3, 'Chunk Type'], [4, undefined], [5, 'Chunk Flags'], [6, 'Cumulative TSN Ack'],
+  [7, 'Gap Ack Block'], [8, 'Gap Ack Block Start'], [9, 'Gap Ack Block End'], [10, 'Duplicate TSN'], [11, undefined], [13, undefined],
+]);
+// RFC 9260 sections 3.3.1, 3.3.2 and 3.3.10; RFC 6525 section 4.1; RFC 8832 section 5.1.
+each('the name of a field in lists', (key, ...lists) => fieldName(lists, key), [
+  ['tag', 'chunks', 'Initiate Tag'], ['end', 'chunks', 'E bit: ending fragment'], ['end', undefined],
+  ['last_tsn', 'chunks', 'parameters', 'Sender’s Last Assigned TSN'], ['length', 'chunks', 'causes', 'Cause Length'],
+  ['reliability', 'chunks', 'Reliability Parameter'], ['stream', 'chunks', 'parameters', 'streams', 'Stream Number'],
+  ['stream', 'chunks', 'streams', 'Stream Identifier'], ['tag', 'ends', undefined], ['verdict', 'Whether the Checksum is right'],
+]);
 // The deepest field of each byte.
 each('the field of a byte', byte => nodes[ownersOf(nodes, 34)[byte]]?.label, [
   [3, undefined], [4, 'tag'], [7, 'tag'], [8, undefined], [12, 'chunk'], [13, 'flags'], [14, 'SACK'], [19, 'cumulative_tsn'],
@@ -573,6 +943,8 @@ each('the field of a byte', byte => nodes[ownersOf(nodes, 34)[byte]]?.label, [
 ]);
 each('bytes', text => [...bytesOf(text)], [['0a1bff', [10, 27, 255]], ['', []], [undefined, []], [5, []]]);
 each('a value', node => valueOf(node).textContent, [
+  // (docs/DUMP.md: a packet's `end` and an event's `by` are places in `ends`; DATA and blocks of SACK have another `end`)
+  [{ label: 'end', depth: 0, value: 0 }, '0 first end'], [{ label: 'by', depth: 1, value: 1 }, '1 second end'], [{ label: 'end', depth: 2, value: 1 }, '1'],
   [{ value: 5, place: { from: 16, to: 20 } }, '5 0x00000005'],
   [{ value: 5, place: { from: 16, to: 18 } }, '5 0x0005'],
   [{ value: 5, place: { from: 16, to: 24 } }, '5'],
@@ -622,6 +994,8 @@ each('names of files', (...names) => apart(names).map(([name, it]) => `${name} o
 each('a text', shown, [
   ['a<b', 300, 'a<b'], ['a\nb\u202e\u2028', 300, 'a\\u000ab\\u202e\\u2028'], ['12345', 5, '12345'],
   ['x'.repeat(1234), 5, 'xxxxx … (1,234 characters)'],
+  // (the fillers of Hangul, a selector of a variation, and Braille without a dot: Unicode shows none of them)
+  ['\u115f\u3164\ufe0f\u2800\u{e0100}', 300, '\\u115f\\u3164\\ufe0f\\u2800\\ue0100'], ['⠁ é', 300, '⠁ é'],
 ]);
 each('hexadecimal', hex, [[255, 8, '0x000000ff'], [LAST, 8, '0xffffffff'], [5, 2, '0x05']]);
 each('a count', counted, [[1, 'row', '1 row'], [1234, 'row', '1,234 rows'], [0, 'row', '0 rows'], [2, 'x', 'y', '2 y']]);
