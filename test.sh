@@ -43,7 +43,8 @@ have_licenses() {
 compare() {
     # The program looks at no answer in its table.
     cmp crates/wire_rows/stdin crates/wire_rows/stdout && docs/captures.py --compare && docs/examples.py --compare &&
-        docs/api.py --compare && docs/rules.py --compare && docs/links.py . && have_licenses
+        docs/api.py --compare && docs/rules.py --compare && docs/links.py . && registry/make.py --compare && registry/test.py &&
+        registry/places.py --compare && registry/test_places.py && have_licenses
 }
 
 # Whether the library and the program as WebAssembly are those of the modules.
