@@ -8,6 +8,8 @@ import { Streams } from './streams.mjs';
 
 /** This many bytes of lines are a batch; the first one is smaller, and so is one that is waited for. */
 const BATCH = 2 << 20;
+/** So many bytes of a file are read at once: each time, the browser's other process is waited for. */
+const PIECE = 4 << 20;
 
 const decoder = new TextDecoder();
 
@@ -17,13 +19,18 @@ class FileInput {
   constructor(file) {
     this.file = file;
     this.at = 0;
+    this.held = new Uint8Array();
     this.reader = new FileReaderSync();
   }
 
   /** @param {number} size */
   read(size) {
-    const bytes = new Uint8Array(this.reader.readAsArrayBuffer(this.file.slice(this.at, this.at + size)));
-    this.at += bytes.length;
+    if (!this.held.length) {
+      this.held = new Uint8Array(this.reader.readAsArrayBuffer(this.file.slice(this.at, this.at + Math.max(size, PIECE))));
+      this.at += this.held.length;
+    }
+    const bytes = this.held.subarray(0, size);
+    this.held = this.held.subarray(size);
     return bytes;
   }
 }
