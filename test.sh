@@ -42,8 +42,8 @@ have_licenses() {
 
 compare() {
     # The program looks at no answer in its table.
-    cmp crates/wire_rows/stdin crates/wire_rows/stdout && docs/captures.py --compare && docs/examples.py --compare &&
-        docs/api.py --compare && docs/rules.py --compare && docs/links.py . && registry/make.py --compare && registry/test.py &&
+    cmp crates/wire_rows/stdin crates/wire_rows/stdout && tools/captures.py --compare && tools/examples.py --compare &&
+        tools/api.py --compare && tools/rules.py --compare && tools/links.py . && registry/make.py --compare && registry/test.py &&
         registry/places.py --compare && registry/test_places.py && have_licenses
 }
 
@@ -68,9 +68,10 @@ run_gate() {
     rt ci | awk -v last="$work/last" 'NR > 1 { print line; fflush() } { line = $0 } END { print line > last }'
     gate=${PIPESTATUS[0]}
     if [ "$gate" -eq 0 ]; then
-        refusals/test.sh && answers_rows_alone && dump/test.sh || exit 1
-        c/take_libraries.py
-        c/test.sh && dist/make.py --jobs 4 --compare && compare_wasm && dist/test.sh && docs/commands.py && docs/examples.py --try && page/test.sh || exit 1
+        tests/refusals/test.sh && answers_rows_alone && tests/dump/test.sh || exit 1
+        tools/take_libraries.py
+        tests/c/test.sh && dist/make.py --jobs 4 --compare && compare_wasm && dist/test.sh && tools/commands.py && tools/examples.py --try &&
+            page/test.sh || exit 1
     fi
     cat "$work/last"
     exit "$gate"
@@ -156,24 +157,24 @@ run_quickly() {
         programs+=("$program") jobs+=($!)
     done
     step comparisons compare
-    step 'commands of the pages' docs/commands.py
-    step 'code of CALLING.md' docs/examples.py --try
+    step 'commands of the pages' tools/commands.py
+    step 'code of CALLING.md' tools/examples.py --try
     if command -v node >/dev/null; then step 'scripts of the page' node page/tests/units.mjs; fi
     for i in "${!jobs[@]}"; do
         wait "${jobs[i]}"
         report "${programs[i]}" $?
     done
     if are_built crates/wire_rows/out/wire_rows crates/sctp_show/out/sctp_show; then
-        step 'refused requests' refusals/test.sh
+        step 'refused requests' tests/refusals/test.sh
     else
         leave_out 'refused requests' "$why"
     fi
     if are_built crates/sctp_dump/out/sctp_dump; then
-        step 'runs of sctp_dump' dump/test.sh
+        step 'runs of sctp_dump' tests/dump/test.sh
     else
         leave_out 'runs of sctp_dump' "$why"
     fi
-    if are_built crates/dcsctp_c/out/libdcsctp_c.a; then step C c/test.sh 100000; else leave_out C "$why"; fi
+    if are_built crates/dcsctp_c/out/libdcsctp_c.a; then step C tests/c/test.sh 100000; else leave_out C "$why"; fi
     printf 'quick: %s passed, %s failed, %s left out; nothing was proved\n' "$passed" "$failed" "$left_out"
     [ "$failed" -eq 0 ]
 }
@@ -216,8 +217,8 @@ run_without_rt() {
         dist/test.sh >"$work/texts of dist.log" 2>&1 &
         texts=$!
     fi
-    with "$cc" C c/test.sh 100000
-    with "$cc x86-64 python3" 'commands of the pages' docs/commands.py
+    with "$cc" C tests/c/test.sh 100000
+    with "$cc x86-64 python3" 'commands of the pages' tools/commands.py
     with node 'scripts of the page' node page/tests/units.mjs
     with 'node python3' page page/test.sh
     [ -z "$texts" ] || { wait $texts; report 'texts of dist' $?; }

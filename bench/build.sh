@@ -37,7 +37,7 @@ make_traffic() {
 # Builds the C library, proved, and links its program with it: $out/c_api.
 build_c_api() {
     mkdir -p "$out"
-    CC=gcc c/build.sh "$out/c" >"$out/library.log" 2>&1 || { tail -n 5 "$out/library.log" >&2; give_up 'no C library'; }
+    CC=gcc tools/build.sh "$out/c" >"$out/library.log" 2>&1 || { tail -n 5 "$out/library.log" >&2; give_up 'no C library'; }
     gcc -O2 -Wall -Wextra -I"$out/c/include" -o "$out/c_api" bench/c_api.c "$out/c/lib/libdcsctp.a"
     # rt ci takes no checkout with links in it.
     rm -r "$out/c"

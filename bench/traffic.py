@@ -6,7 +6,7 @@ usage: traffic.py SEED FOLDER
 
 The same seed makes the same files, with any Python from 3.9 on and its standard library alone. A checksum field
 holds random bytes: the benchmark reads with checksum verification disabled. Every packet is accepted, and FILES
-says what each file holds. dump/scapy.py and dump/tshark.py draw such packets too."""
+says what each file holds. tests/dump/scapy.py and tests/dump/tshark.py draw such packets too."""
 import hashlib
 import os
 import sys

@@ -73,7 +73,7 @@ make_archive() {
     mkdir "$work/$folder"
     {
         git ls-files -coz --exclude-standard -- '*.md' ':(glob)*.toml' LICENSE NOTICE bindings crates/dcsctp_uses/src dist docs \
-            dump/data examples include ':!dist/*.py' ':!dist/*.sh' ':!docs/*.py' ':!docs/captures.txt'
+            tests/dump/data examples include ':!dist/*.py' ':!dist/*.sh'
         git ls-files -z dist/texts.py
     } | xargs -0 cp -P --parents -t "$work/$folder"
     mv "$work/$folder/dist/debian" "$work/$folder/"
@@ -144,10 +144,10 @@ fi
 
 # ---- whether they work
 
-docs/links.py "$user"
-docs/commands.py "$user"
+tools/links.py "$user"
+tools/commands.py "$user"
 dist/test.sh "$user"
-dump/test.sh "$program"
+tests/dump/test.sh "$program"
 page/test.sh "$work/page"
 dist/sbom.py "$version" "$to" >"$work/sbom" && mv "$work/sbom" "$to/davgyuti-$version.spdx.json"
 (cd "$to" && find . -type f | LC_ALL=C sort | sed 's,^\./,,' | xargs sha256sum >"$work/sums" && mv "$work/sums" SHA256SUMS && ls -l)

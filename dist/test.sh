@@ -184,7 +184,7 @@ windows() {
     x86_64-w64-mingw32-gcc -O2 -I "$dist" -o show.exe "$examples/c/show.c" "$dist/dcsctp-x86_64-coff.s" && all_of in_wine
 }
 
-# The start of the programs takes nothing but what c/apple.h has.
+# The start of the programs takes nothing but what tests/c/apple.h has.
 apple() {
     local processor header text
     mkdir -p apple/sys
@@ -196,7 +196,7 @@ apple() {
         for text in dcsctp sctp_show sctp_dump; do
             "$@" "$dist/$text-$processor-macho.s" || return
         done
-        "$@" -O2 -Wall -Wextra -Werror -ffreestanding -nostdlibinc -I apple -I "$root/c" "$dist/program.c" || return
+        "$@" -O2 -Wall -Wextra -Werror -ffreestanding -nostdlibinc -I apple -I "$root/tests/c" "$dist/program.c" || return
     done
 }
 
@@ -227,21 +227,22 @@ keeps_marks() {
 
 # A crash in a call shows who called.
 unwound() {
-    "$cc" -O1 -Wall -Wextra -Werror -I "$dist" -o unwound "$root/c/unwind.c" "$elf" && ./unwound
+    "$cc" -O1 -Wall -Wextra -Werror -I "$dist" -o unwound "$root/tests/c/unwind.c" "$elf" && ./unwound
 }
 
 # So it does in a debugger.
 by_gdb() {
     local words=() i
     for i in {1..11}; do words+=(-ex bt -ex continue); done
-    "$cc" -O1 -g -I "$dist" -o crashes "$root/c/unwind.c" "$elf" &&
+    "$cc" -O1 -g -I "$dist" -o crashes "$root/tests/c/unwind.c" "$elf" &&
         [ "$(gdb -q -batch -ex run "${words[@]}" ./crashes | tee crashes.txt | grep -c '^#.* main (')" -eq 11 ] || { cat crashes.txt; return 1; }
 }
 
 # So it does on arm64, where calls keep x18.
 kept_on_arm64() {
-    aarch64-linux-gnu-gcc -static -O1 -ffixed-x18 -I "$dist" -o x18 "$root/c/x18.c" "$dist/dcsctp-aarch64-elf.s" && qemu-aarch64 ./x18 &&
-        aarch64-linux-gnu-gcc -static -O1 -I "$dist" -o unwound_arm64 "$root/c/unwind.c" "$dist/dcsctp-aarch64-elf.s" &&
+    aarch64-linux-gnu-gcc -static -O1 -ffixed-x18 -I "$dist" -o x18 "$root/tests/c/x18.c" "$dist/dcsctp-aarch64-elf.s" &&
+        qemu-aarch64 ./x18 &&
+        aarch64-linux-gnu-gcc -static -O1 -I "$dist" -o unwound_arm64 "$root/tests/c/unwind.c" "$dist/dcsctp-aarch64-elf.s" &&
         qemu-aarch64 ./unwound_arm64
 }
 
@@ -377,7 +378,7 @@ sctp_show() {
 }
 
 sctp_dump() {
-    program sctp_dump "$@" && "$root/dump/test.sh" "$work/sctp_dump"
+    program sctp_dump "$@" && "$root/tests/dump/test.sh" "$work/sctp_dump"
 }
 
 # SIGINT ends an input that is a pipe, and sctp_dump prints what it has counted of it and of what is in the pipe by then, as where
@@ -432,7 +433,7 @@ elsewhere() {
         "$@" -O2 -Wall -Wextra -Werror -o "$name.exe" "$name.s" "$dist/program.c" || return
         printf '#!/bin/sh\nexec %s "%s" "$@"\n' "$runner" "$PWD/$name.exe" >"$name" && chmod +x "$name"
     done
-    ./sctp_show <"$root/crates/sctp_show/stdin" | diff - "$root/crates/sctp_show/stdout" && "$root/dump/test.sh" --quick sctp_dump
+    ./sctp_show <"$root/crates/sctp_show/stdin" | diff - "$root/crates/sctp_show/stdout" && "$root/tests/dump/test.sh" --quick sctp_dump
 }
 
 # So they do on Windows, which has names of files and words in UTF-16; a word that isn't has no form in UTF-8.
@@ -471,13 +472,13 @@ has_sanitizers() {
 }
 
 edge() {
-    cd "$root" && "$cc" "${sanitizers[@]}" -I "$dist" -o "$work/edge" c/edge.c "$elf" \
+    cd "$root" && "$cc" "${sanitizers[@]}" -I "$dist" -o "$work/edge" tests/c/edge.c "$elf" \
         -Wl,--wrap=malloc -Wl,--wrap=realloc -Wl,--wrap=free && "$work/edge"
 }
 
 # The processor's CRC32c against the library's.
 processor() {
-    cd "$root" && "$cc" "${sanitizers[@]}" -I "$dist" -o "$work/processor" c/processor.c "$elf" && "$work/processor"
+    cd "$root" && "$cc" "${sanitizers[@]}" -I "$dist" -o "$work/processor" tests/c/processor.c "$elf" && "$work/processor"
 }
 
 # What MemorySanitizer is told: each function that writes or reads much is wrapped; nothing is found in programs that are right, and
@@ -488,7 +489,8 @@ memory() {
         <({ grep -oP '^DCSCTP_MSAN_?[A-Z]*\(((uint32_t|bool|size_t), )?\Kdcsctp_\w+' "$dist/dcsctp_msan.h" &&
             printf 'dcsctp_%s\n' list_offset validate_sack version_number; } | sort) || return
     clang "${flags[@]}" -o answer_msan "$examples/c/answer.c" "$elf" && clang "${flags[@]}" -o show_msan "$examples/c/show.c" "$elf" &&
-        clang "${flags[@]}" -o fuzz_msan "$root/c/fuzz.c" "$elf" && clang "${flags[@]}" -w -o memory "$root/c/memory.c" "$elf" || return
+        clang "${flags[@]}" -o fuzz_msan "$root/tests/c/fuzz.c" "$elf" &&
+        clang "${flags[@]}" -w -o memory "$root/tests/c/memory.c" "$elf" || return
     sed -n 's/^    \$ echo \(.*\) | \.\/answer$/\1/p' "$root/docs/C.md" | ./answer_msan && expected ./show_msan &&
         ./fuzz_msan 1000 1 "$examples/packets.txt" || return
     ./memory 0 || return
@@ -496,13 +498,13 @@ memory() {
         ./memory $way 2>found
         ended=$?
         [ $ended -ne 3 ] || break
-        grep 'use-of-uninitialized-value' found || { echo "c/memory.c: the way $way isn't found" && return 1; }
+        grep 'use-of-uninitialized-value' found || { echo "tests/c/memory.c: the way $way isn't found" && return 1; }
     done
     [ $way -gt 9 ]
 }
 
 fuzz() {
-    cd "$root" && "$cc" "${sanitizers[@]}" -I "$dist" -o "$work/fuzz" c/fuzz.c "$elf" &&
+    cd "$root" && "$cc" "${sanitizers[@]}" -I "$dist" -o "$work/fuzz" tests/c/fuzz.c "$elf" &&
         "$work/fuzz" 20000 1 examples/packets.txt
 }
 
@@ -685,7 +687,7 @@ archive() {
     mkdir -p unpacked/dist && cp "$root/dist/release.sh" unpacked/dist/ && ! unpacked/dist/release.sh --archive none &&
         [ ! -e none ] || return
     "$root/dist/release.sh" --archive made && tar -xzf made/libdcsctp-*.tar.gz && mv libdcsctp-*/ archive || return
-    "$root/docs/links.py" archive && (cd "$root" && dist/sbom.py 0 "$work/made") |
+    "$root/tools/links.py" archive && (cd "$root" && dist/sbom.py 0 "$work/made") |
         grep "\"$(sha256sum <made/libdcsctp-*.tar.gz | cut -d ' ' -f 1)\""
 }
 

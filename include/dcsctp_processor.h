@@ -1,7 +1,7 @@
 /* SPDX-License-Identifier: Apache-2.0 */
 /* dcsctp_processor: the word of a packet by the processor's own instruction for CRC32c, where it has one.
 
-   An option: dcsctp.h doesn't include this file, and the library doesn't call it. NOT PROVED. c/processor.c compares it with
+   An option: dcsctp.h doesn't include this file, and the library doesn't call it. NOT PROVED. tests/c/processor.c compares it with
    the proved dcsctp_word and dcsctp_seal, on random packets of every size.
 
    With DCSCTP_PROCESSOR_CRC32C defined before this file is included, dcsctp_word and dcsctp_seal mean

@@ -51,11 +51,11 @@ crates/value_tests/src/facade.rt = INIT = (init_chunk::CHUNK_TYPE, 1),
 crates/wire_rows/src/kinds.rt = State Cookie = 7 => write_read(alloc, bytes, StateCookie::try_from(alloc, raw), out),
 crates/wire_rows/src/in_place.rt = COOKIE ACK = Chunk::CookieAck(_) |
 crates/wire_rows/src/buffers.rt = I-DATA = Chunk::IData(c) =>
-c/assertions.c = FORWARD-TSN = VALUE(CHUNK_FORWARD_TSN, 192);
-dump/names.txt = Supported Extensions = parameter 32776 Supported Extensions
+tests/c/assertions.c = FORWARD-TSN = VALUE(CHUNK_FORWARD_TSN, 192);
+tests/dump/names.txt = Supported Extensions = parameter 32776 Supported Extensions
 docs/PROVED.md = RE-CONFIG = RE-CONFIG, as
-c/plain_reader.h = SACK = [PLAIN_SACK] = {0, 12, PLAIN_BYTES},
-c/fuzz.c = Zero Checksum Acceptable = case 0x8001: /* RFC 9653 section 4 */
+tests/c/plain_reader.h = SACK = [PLAIN_SACK] = {0, 12, PLAIN_BYTES},
+tests/c/fuzz.c = Zero Checksum Acceptable = case 0x8001: /* RFC 9653 section 4 */
 crates/dcsctp_c/specs/Parameter.antt = SSN/TSN Reset Request = the request number of an SSN/TSN Reset Request
 crates/dcsctp_c/src/parameters.rt = No User Data = the TSN of the cause No User Data
 include/dcsctp.h = Zero Checksum Acceptable = Zero Checksum Acceptable, the cause
@@ -65,7 +65,7 @@ bindings/js/davgyuti.d.ts = No User Data = | { code: Of<typeof CauseCode, 'NO_US
 '''
 
 # Files of tests, which have a line of a place as often as they like.
-TESTS = {'crates/wire_rows/stdin', 'refusals/rows.txt', 'dump/refused.txt', 'bindings/python/tests/test_kinds.py',
+TESTS = {'crates/wire_rows/stdin', 'tests/refusals/rows.txt', 'tests/dump/refused.txt', 'bindings/python/tests/test_kinds.py',
          'bindings/js/tests/kinds.test.mjs', 'bindings/rust/tests/kinds.rs'}
 
 # Rows that the table doesn't have, of types and codes that no standard will have, and files that their kinds need.
@@ -76,23 +76,23 @@ chunk  191  MADE_BYTES  MADE BYTES  9999 1  0+1  kind  data  any bytes  Made
     crates/dcsctp_wire/specs/Chunk.antt crates/dcsctp_wire/proofs/ChunkRows.antt crates/dcsctp_wire/src/packet/chunk.rt
     crates/dcsctp_wire/src/packet.rt crates/dcsctp_wire/src/laws.rt crates/dcsctp_buffer/proofs/Longer.antt
     crates/wire_rows/src/in_place.rt crates/wire_rows/src/kinds.rt crates/wire_rows/stdin crates/value_tests/src/facade.rt
-    refusals/rows.txt c/assertions.c c/plain_reader.h bindings/python/tests/support.py bindings/cpp/README.md docs/C.md
+    tests/refusals/rows.txt tests/c/assertions.c tests/c/plain_reader.h bindings/python/tests/support.py bindings/cpp/README.md docs/C.md
     docs/ARCHITECTURE.md CHANGELOG.md
 chunk  191  MADE_LIST  MADE LIST  9999 1  4+1  kind  data  serial u32, parameters  Made
     crates/dcsctp_wire/specs/MadeList.antt crates/dcsctp_wire/specs/Lib.antt crates/dcsctp_wire/specs/Chunk.antt
     crates/dcsctp_wire/specs/Caller.antt crates/dcsctp_wire/src/packet/made_list_chunk.rt crates/dcsctp_wire/src/packet/chunk.rt
     crates/dcsctp_borrowed/specs/RawParameters.antt crates/dcsctp_borrowed/src/raw_parameters.rt crates/dcsctp_buffer/specs/Item.antt
     crates/dcsctp_buffer/proofs/Longer.antt crates/dcsctp_c/src/parameters.rt crates/sctp_report/src/chunks.rt
-    crates/sctp_report/src/fault.rt dump/refused.txt c/fuzz.c docs/PROVED.md
+    crates/sctp_report/src/fault.rt tests/dump/refused.txt tests/c/fuzz.c docs/PROVED.md
 parameter  0xffff  MADE_VALUE  Made Value  9999 1  4+1  kind  a parameter  Made
-    crates/dcsctp_tlv/specs/MadeValue.antt crates/dcsctp_tlv/specs/Parameter.antt refusals/rows.txt
+    crates/dcsctp_tlv/specs/MadeValue.antt crates/dcsctp_tlv/specs/Parameter.antt tests/refusals/rows.txt
 parameter  0xffff  MADE_NUMBER  Made Number  9999 1  4  kind  milliseconds u32  Made
     crates/dcsctp_tlv/specs/MadeNumber.antt crates/dcsctp_tlv/specs/Lib.antt
     crates/dcsctp_tlv/specs/Parameter.antt crates/dcsctp_tlv/src/parameter/made_number_parameter.rt
     crates/dcsctp_tlv/src/parameter.rt crates/dcsctp_tlv/proofs/ParameterLaws.antt crates/dcsctp_wire/src/packet.rt
     crates/dcsctp_wire/src/laws.rt crates/dcsctp_c/specs/Parameter.antt crates/dcsctp_c/proofs/NumberRows.antt
-    crates/wire_rows/src/kinds.rt crates/wire_rows/stdin crates/value_tests/src/facade.rt c/assertions.c c/fuzz.c dump/refused.txt
-    include/dcsctp.h bindings/js/davgyuti.d.ts bindings/js/tests/user/imported.mts bindings/python/tests/support.py
+    crates/wire_rows/src/kinds.rt crates/wire_rows/stdin crates/value_tests/src/facade.rt tests/c/assertions.c tests/c/fuzz.c
+    tests/dump/refused.txt include/dcsctp.h bindings/js/davgyuti.d.ts bindings/js/tests/user/imported.mts bindings/python/tests/support.py
     bindings/go/read.go bindings/go/write.go bindings/rust/src/list.rs bindings/rust/src/builder.rs docs/C.md CHANGELOG.md
 cause  0xffff  MADE_NUMBER  Made Number  9999 1  4  kind  microseconds u32  Made
     crates/dcsctp_cause/specs/MadeNumber.antt crates/dcsctp_cause/specs/Cause.antt crates/dcsctp_cause/src/lib.rt
@@ -204,10 +204,10 @@ def try_program(kinds):
 
         answer = run()
         expect((answer.returncode, answer.stdout, answer.stderr) == (0, '', ''), 'the program', answer.stdout + answer.stderr)
-        os.remove(os.path.join(folder, 'c/assertions.c'))
+        os.remove(os.path.join(folder, 'tests/c/assertions.c'))
         answer = run()
-        expect(answer.returncode == 1 and 'c/assertions.c: chunk 7, SHUTDOWN: no "VALUE(CHUNK_SHUTDOWN, 7);"\n' in answer.stdout,
-               'the program without c/assertions.c', answer.stdout + answer.stderr)
+        expect(answer.returncode == 1 and 'tests/c/assertions.c: chunk 7, SHUTDOWN: no "VALUE(CHUNK_SHUTDOWN, 7);"\n' in answer.stdout,
+               'the program without tests/c/assertions.c', answer.stdout + answer.stderr)
         with open(os.path.join(folder, make.TABLE), 'r+', encoding='utf-8') as file:
             text = re.sub(r'  bytes  ', '  kind  ', file.read(), count=1)
             file.seek(0)

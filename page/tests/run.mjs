@@ -961,7 +961,7 @@ async function inBrowser(browser) {
   });
 
   await check('the table of associations', async () => {
-    const usrsctp = readFileSync(new URL('../../dump/data/usrsctp.pcap', import.meta.url));
+    const usrsctp = readFileSync(new URL('../../tests/dump/data/usrsctp.pcap', import.meta.url));
     for (const files of [{ 'example.pcap': example }, { 'usrsctp.pcap': usrsctp }, { 'example.pcap': example, 'usrsctp.pcap': usrsctp }]) {
       await browser.choose(...Object.entries(files).map(([name, content]) => file(name, content)));
       await browser.done();

@@ -1028,7 +1028,7 @@ function countsOf(store, association) {
 }
 const saidIn = ({ ends }) => [ends.map(it => it.packets), ends.map(it => it.data), ends.map(it => it.repeated ?? 0)];
 
-for (const name of ['dump/data/usrsctp.pcap', 'dump/data/chromium-both.log', 'page/sample.pcap']) {
+for (const name of ['tests/dump/data/usrsctp.pcap', 'tests/dump/data/chromium-both.log', 'page/sample.pcap']) {
   const store = storeOfCapture(bytesOfFile(name));
   each(`${name}: associations`, () => store.associations.length > 0, [[true]]);
   each(`${name}: the table`, it => compareRow(tableRow(it), it), store.associations.map(it => [it, undefined]));

@@ -1,0 +1,883 @@
+/* SPDX-License-Identifier: Apache-2.0 */
+/* Two sockets of usrsctp, a real stack of SCTP, talk to each other in one process, with the library between them; or one calls
+   examples/c/responder.c.
+
+   usage: interop [SCENARIO ..] [--messages N] [--seed N]
+
+   Each packet is checked as by a socket, read by every reader and compared with plain_reader.h, written anew from what was read,
+   and refused with a bit changed. Then noise goes into every bit that a receiver ignores, and the other side gets the canonical
+   form of that, sealed: it has to be what was sent. Each message has to arrive once, and in order.
+
+   usrsctp asks this program for the time and for random numbers: so a run depends on its seed alone, and waits for no timer.
+   That takes the shared libusrsctp, whose calls of gettimeofday and read_random reach the functions here. */
+#define _GNU_SOURCE
+#include "../../examples/c/responder.c"
+#include "plain_reader.h"
+#include <dcsctp.h>
+#include <errno.h>
+#include <stdio.h>
+#include <stdlib.h>
+#include <string.h>
+#include <sys/time.h>
+#include <usrsctp.h>
+
+enum { MOST = 65536, STREAMS = 16, MORE_STREAMS = 64, LARGEST = 20000, STEP = 5 /* of the clock, in milliseconds */ };
+enum { INTERLEAVING_SUPPORTED = 0x1206 }; /* usrsctp's SCTP_INTERLEAVING_SUPPORTED, which its header leaves out */
+
+/* ---- scenarios: those that are short run where none is named */
+
+struct scenario {
+    const char *name;
+    bool is_short, is_interleaved; /* is_interleaved: I-DATA in place of DATA (RFC 8260) */
+    bool abandons, changes;        /* messages are given up (RFC 3758); streams are reset and added (RFC 6525) */
+    bool aborts;                   /* the end is ABORT in place of SHUTDOWN */
+    bool is_answered;              /* the second side is the responder, which sends no messages */
+    unsigned lost, late;           /* packets of a hundred */
+};
+
+/* Not here, since usrsctp itself stops now and then: I-DATA with loss and partial reliability, and SCTP_RESET_ASSOC. */
+static const struct scenario scenarios[] = {
+    {.name = "plain", .is_short = true},
+    {.name = "lossy", .is_short = true, .lost = 5, .late = 10},
+    {.name = "i-data", .is_interleaved = true},
+    {.name = "i-data-lossy", .is_interleaved = true, .lost = 5, .late = 10},
+    {.name = "partial", .abandons = true, .lost = 5, .late = 10},
+    {.name = "streams", .changes = true},
+    {.name = "i-data-streams", .is_short = true, .is_interleaved = true, .changes = true},
+    {.name = "abort", .aborts = true},
+    {.name = "responder", .is_short = true, .is_answered = true},
+    {.name = "responder-lossy", .is_short = true, .is_answered = true, .lost = 5, .late = 10},
+    {.name = "responder-partial", .is_answered = true, .abandons = true, .lost = 5, .late = 10},
+    {.name = "responder-streams", .is_short = true, .is_answered = true, .is_interleaved = true, .changes = true},
+    {.name = "responder-abort", .is_answered = true, .aborts = true},
+};
+enum { SCENARIOS = sizeof scenarios / sizeof *scenarios };
+
+static const struct scenario *scenario = &scenarios[0];
+static uint64_t now; /* the clock, in milliseconds */
+
+/* What passed in the scenario. */
+static struct {
+    unsigned packets, chunks, lost, noisy, blocks, kinds[256];
+} tally;
+
+/* ---- failing */
+
+static const uint8_t *checked; /* last */
+static size_t checked_length;
+
+_Noreturn static void fail(const char *condition, int line)
+{
+    fprintf(stderr, "tests/c/interop.c:%d: %s: fails at %llu ms: %s\n", line, scenario->name, (unsigned long long)now, condition);
+    for (size_t i = 0; i < checked_length; i++)
+        fprintf(stderr, "%s%02x", i ? "" : "last packet: ", checked[i]);
+    fputc('\n', stderr);
+    fflush(NULL);
+    _Exit(1);
+}
+
+#define REQUIRE(condition) ((condition) ? (void)0 : fail(#condition, __LINE__))
+
+/* ---- random numbers: xorshift64* */
+
+static uint64_t state = 1;
+
+static uint64_t draw(uint64_t *from)
+{
+    *from ^= *from >> 12;
+    *from ^= *from << 25;
+    *from ^= *from >> 27;
+    return *from * 0x2545f4914f6cdd1d;
+}
+
+static size_t below(size_t limit)
+{
+    return (size_t)((draw(&state) >> 32) % limit);
+}
+
+static void fill(uint8_t *bytes, size_t size, uint64_t *from)
+{
+    for (size_t i = 0; i < size; i++)
+        bytes[i] = (uint8_t)(draw(from) >> 56);
+}
+
+/* ---- the library: all that is used of it but by the responder, with what each number has to be by the RFC */
+
+static const struct dcsctp_policy as_a_socket = {.any_checksum = false, .zero_checksum = false, .strict_padding = false};
+enum { ACCEPTED = DCSCTP_OK, WRONG_CHECKSUM = DCSCTP_FAULT_CHECKSUM };
+
+static void check(const uint8_t *bytes, size_t length, uint32_t fault, size_t offset)
+{
+    size_t found = 0;
+    uint32_t word = dcsctp_word(bytes, length);
+    checked = bytes;
+    checked_length = length;
+    REQUIRE(dcsctp_check(bytes, length, word, &as_a_socket) == fault);
+    REQUIRE(dcsctp_first_fault(bytes, length, word, &as_a_socket, &found) == fault && found == offset);
+}
+
+static void compare_data(const uint8_t *bytes, size_t length, const struct dcsctp_chunk *chunk)
+{
+    const uint8_t *value = bytes + chunk->value_offset;
+    bool is_data = chunk->type == PLAIN_DATA, is_i_data = chunk->type == PLAIN_I_DATA, is_first = chunk->flags & 2;
+    size_t numbers = plain_kinds[chunk->type].numbers;
+    struct dcsctp_data data;
+    REQUIRE(dcsctp_data(bytes, length, chunk, &data) == (is_data || is_i_data));
+    if (!is_data && !is_i_data)
+        return;
+    REQUIRE((data.is_end | data.is_beginning << 1 | data.is_unordered << 2 | data.immediate_ack << 3) == (chunk->flags & 15));
+    REQUIRE(data.payload_offset == chunk->value_offset + numbers && data.payload_size == chunk->value_size - numbers);
+    REQUIRE(is_i_data || plain_are(value, "4224", data.tsn, data.stream, data.ssn, data.ppid));
+    REQUIRE(is_data || (plain_are(value, "42", data.tsn, data.stream)
+                        && plain_are(value + 8, "44", data.mid, is_first ? data.ppid : data.fsn)));
+    REQUIRE(is_data ? !data.mid && !data.fsn : !data.ssn && !(is_first ? data.fsn : data.ppid));
+}
+
+static void compare_sack(const uint8_t *bytes, size_t length, const struct dcsctp_chunk *chunk)
+{
+    const uint8_t *list = bytes + chunk->value_offset + 12;
+    struct dcsctp_sack sack = {0};
+    struct dcsctp_gap_ack_block block = {0};
+    uint32_t tsn, last = 0, blocks = 0, duplicates = 0;
+    bool is_sack = chunk->type == PLAIN_SACK, has_gaps = is_sack;
+    REQUIRE(dcsctp_sack(bytes, length, chunk, &sack) == is_sack);
+    for (; dcsctp_gap_ack_block(bytes, length, chunk, blocks, &block); blocks++, list += 4) {
+        REQUIRE(plain_are(list, "22", block.start, block.end));
+        has_gaps = has_gaps && block.start >= last + 2 && block.start <= block.end;
+        last = block.end;
+    }
+    for (; dcsctp_duplicate_tsn(bytes, length, chunk, duplicates, &tsn); duplicates++, list += 4)
+        REQUIRE(plain_are(list, "4", tsn));
+    REQUIRE(dcsctp_validate_sack(bytes, length, chunk) == has_gaps);
+    REQUIRE(sack.block_count == blocks && sack.duplicate_count == duplicates);
+    REQUIRE(!is_sack || plain_are(bytes + chunk->value_offset, "4422", sack.cumulative_tsn_ack, sack.a_rwnd, blocks, duplicates));
+    tally.blocks += blocks;
+}
+
+static void compare_init(const uint8_t *bytes, size_t length, const struct dcsctp_chunk *chunk)
+{
+    bool is_init = chunk->type == PLAIN_INIT || chunk->type == PLAIN_INIT_ACK;
+    struct dcsctp_init init;
+    REQUIRE(dcsctp_init(bytes, length, chunk, &init) == is_init);
+    REQUIRE(!is_init || plain_are(bytes + chunk->value_offset, "44224", init.initiate_tag, init.a_rwnd, init.outbound_streams,
+                                  init.inbound_streams, init.initial_tsn));
+}
+
+static void compare_tsns(const uint8_t *bytes, size_t length, const struct dcsctp_chunk *chunk)
+{
+    const uint8_t *value = bytes + chunk->value_offset, *at = value + 4;
+    bool by_mid = chunk->type == PLAIN_I_FORWARD_TSN, is_forward = by_mid || chunk->type == PLAIN_FORWARD_TSN;
+    struct dcsctp_forward_tsn forward = {0};
+    struct dcsctp_skipped_stream stream;
+    uint32_t tsn;
+    size_t count = 0;
+    REQUIRE(dcsctp_shutdown(bytes, length, chunk, &tsn) == (chunk->type == PLAIN_SHUTDOWN));
+    REQUIRE(chunk->type != PLAIN_SHUTDOWN || plain_are(value, "4", tsn));
+    REQUIRE(dcsctp_forward_tsn(bytes, length, chunk, &forward) == is_forward);
+    for (; dcsctp_skipped_stream(bytes, length, chunk, count, &stream); count++, at += by_mid ? 8 : 4) {
+        REQUIRE(plain_are(at, "2", stream.stream) && stream.is_unordered == (by_mid && (at[3] & 1)));
+        REQUIRE(by_mid ? plain_are(at + 4, "4", stream.mid) && !stream.ssn : plain_are(at + 2, "2", stream.ssn) && !stream.mid);
+    }
+    REQUIRE(count == forward.stream_count);
+    REQUIRE(!is_forward || (plain_are(value, "4", forward.new_cumulative_tsn) && at == value + chunk->value_size));
+}
+
+/* A parameter of RFC 6525 section 4. */
+static void compare_re_config(const uint8_t *bytes, size_t length, const struct dcsctp_parameter *parameter)
+{
+    const uint8_t *value = bytes + parameter->value_offset, *list = value + parameter->value_size;
+    const uint32_t type = parameter->type;
+    struct dcsctp_re_config it;
+    uint16_t stream;
+    size_t count = 0;
+    bool is_outgoing = type == 13, is_response = type == 16, adds = type == 17 || type == 18;
+    bool has_next = is_response && parameter->value_size == 16;
+    REQUIRE(dcsctp_re_config(bytes, length, parameter, &it) == (type >= 13 && type <= 18));
+    if (type >= 13 && type <= 18) {
+        REQUIRE(it.type == type && (is_response ? it.request_number == 0 && plain_are(value, "44", it.response_number, it.result)
+                                                : plain_are(value, "4", it.request_number) && it.result == 0));
+        REQUIRE(is_outgoing ? plain_are(value + 4, "44", it.response_number, it.last_tsn) : it.last_tsn == 0);
+        REQUIRE(it.has_next_tsns == has_next && (adds ? plain_are(value + 4, "2", it.new_streams) : it.new_streams == 0));
+        REQUIRE(has_next ? plain_are(value + 8, "44", it.sender_next_tsn, it.receiver_next_tsn)
+                         : !it.sender_next_tsn && !it.receiver_next_tsn);
+        REQUIRE(is_response || is_outgoing || it.response_number == 0);
+        list = is_outgoing ? value + 12 : type == 14 ? value + 4 : list;
+    }
+    for (; dcsctp_reset_stream(bytes, length, parameter, count, &stream); count++, list += 2)
+        REQUIRE(plain_are(list, "2", stream));
+    REQUIRE(list == value + parameter->value_size && ((type < 13 || type > 18) || it.stream_count == count));
+}
+
+/* The parameters or error causes of a chunk, if it has any. */
+static void compare_list(const uint8_t *bytes, size_t length, const struct dcsctp_chunk *chunk)
+{
+    const struct plain_kind *kind = &plain_kinds[chunk->type];
+    bool has_list = kind->rest >= PLAIN_PARAMETERS;
+    size_t end = chunk->value_offset + chunk->value_size, at = has_list ? chunk->value_offset + kind->numbers : end;
+    struct plain_item item;
+    struct dcsctp_parameter it;
+    uint32_t number;
+    uint16_t type;
+    REQUIRE(dcsctp_list_offset(chunk) == at);
+    for (; plain_item_at(bytes, at, end, &item); at = item.next) {
+        uint32_t missing = 0, missing_wanted = item.type == 2 ? plain_u32(bytes + item.value) : 0;
+        REQUIRE(dcsctp_parameter_at(bytes, length, chunk, at, &it) && it.type == item.type && it.next == item.next);
+        REQUIRE(it.value_offset == item.value && it.value_size == item.size);
+        REQUIRE(dcsctp_number(bytes, length, &it, &number) == (item.size == 4));
+        REQUIRE(item.size != 4 || plain_are(bytes + item.value, "4", number));
+        if (kind->rest == PLAIN_PARAMETERS)
+            compare_re_config(bytes, length, &it);
+        for (; dcsctp_missing_parameter(bytes, length, &it, missing, &type); missing++)
+            REQUIRE(plain_are(bytes + item.value + 4 + 2 * missing, "2", type));
+        REQUIRE(kind->rest != PLAIN_CAUSES || missing == missing_wanted);
+    }
+    REQUIRE(at == end && !dcsctp_parameter_at(bytes, length, chunk, at, &it));
+}
+
+/* Reads a packet by every reader; its text has a line for the header, and one for each chunk. */
+static void compare_readings(const uint8_t *bytes, size_t length)
+{
+    static uint8_t text[MOST];
+    struct dcsctp_header header;
+    struct dcsctp_chunk chunk;
+    struct plain_item item;
+    size_t at = PLAIN_HEADER, size = 0, lines = 1;
+    REQUIRE(dcsctp_header(bytes, length, &header));
+    REQUIRE(plain_are(bytes, "2244", header.source_port, header.destination_port, header.verification_tag, header.checksum));
+    for (; plain_chunk_at(bytes, at, length, &item); at = item.next, lines++) {
+        REQUIRE(dcsctp_chunk_at(bytes, length, at, &chunk));
+        REQUIRE(chunk.type == item.type && chunk.flags == item.flags && chunk.next == item.next);
+        REQUIRE(chunk.value_offset == item.value && chunk.value_size == item.size);
+        compare_data(bytes, length, &chunk);
+        compare_sack(bytes, length, &chunk);
+        compare_init(bytes, length, &chunk);
+        compare_tsns(bytes, length, &chunk);
+        compare_list(bytes, length, &chunk);
+    }
+    REQUIRE(at == length && !dcsctp_chunk_at(bytes, length, at, &chunk));
+    REQUIRE(dcsctp_print(bytes, length, dcsctp_word(bytes, length), &as_a_socket, text, sizeof text, &size) == ACCEPTED);
+    for (size_t i = 0; i < size; i++)
+        lines -= text[i] == '\n';
+    REQUIRE(lines == 1);
+}
+
+static void seal(uint8_t *bytes, size_t length)
+{
+    REQUIRE(dcsctp_seal(bytes, length) == DCSCTP_OK);
+}
+
+#define TO_COPY copy, MOST, &size
+
+/* Adds to the chunk that begins at `start` what is read of a list. */
+static size_t add_list(const uint8_t *bytes, size_t length, const struct dcsctp_chunk *chunk, uint8_t *copy, size_t size,
+                       size_t start)
+{
+    static uint16_t list[MOST / 2];
+    const bool has_causes = plain_kinds[chunk->type].rest == PLAIN_CAUSES;
+    struct dcsctp_parameter it;
+    struct dcsctp_re_config re_config;
+    uint32_t number, code;
+    for (size_t at = dcsctp_list_offset(chunk); dcsctp_parameter_at(bytes, length, chunk, at, &it); at = it.next) {
+        size_t count = 0;
+        if (!has_causes && dcsctp_re_config(bytes, length, &it, &re_config)) {
+            while (dcsctp_reset_stream(bytes, length, &it, count, &list[count]))
+                count++;
+            code = dcsctp_add_re_config(TO_COPY, start, &re_config, list, count);
+        } else if (has_causes && it.type == DCSCTP_CAUSE_MISSING_MANDATORY_PARAMETER) {
+            while (dcsctp_missing_parameter(bytes, length, &it, count, &list[count]))
+                count++;
+            code = dcsctp_add_missing_parameters(TO_COPY, start, list, count);
+        } else if (dcsctp_number(bytes, length, &it, &number)) {
+            code = dcsctp_add_number(TO_COPY, start, it.type, number);
+        } else {
+            code = dcsctp_add_parameter(TO_COPY, start, it.type, bytes + it.value_offset, it.value_size);
+        }
+        REQUIRE(code == DCSCTP_OK);
+    }
+    return size;
+}
+
+/* Adds what is read of a chunk, by the call for its kind, if there is one; returns the new size. */
+static size_t add_read(const uint8_t *bytes, size_t length, const struct dcsctp_chunk *chunk, uint8_t *copy, size_t size)
+{
+    static struct dcsctp_gap_ack_block blocks[MOST / 4];
+    static struct dcsctp_skipped_stream streams[MOST / 4];
+    static uint32_t duplicates[MOST / 4];
+    const uint8_t *value = bytes + chunk->value_offset;
+    const uint8_t type = chunk->type;
+    const size_t start = size;
+    struct dcsctp_data data;
+    struct dcsctp_sack sack;
+    struct dcsctp_init init;
+    struct dcsctp_forward_tsn forward;
+    struct dcsctp_parameter info;
+    uint32_t tsn, code;
+    bool is_reflected = chunk->flags & DCSCTP_TAG_REFLECTED, has_more = false; /* of its list */
+    if (dcsctp_data(bytes, length, chunk, &data)) {
+        uint32_t (*add)(uint8_t *, size_t, size_t *, const struct dcsctp_data *, const uint8_t *, size_t) =
+            type == DCSCTP_CHUNK_DATA ? dcsctp_add_data : dcsctp_add_i_data;
+        code = add(TO_COPY, &data, bytes + data.payload_offset, data.payload_size);
+    } else if (dcsctp_sack(bytes, length, chunk, &sack)) {
+        for (size_t i = 0; i < sack.block_count; i++)
+            REQUIRE(dcsctp_gap_ack_block(bytes, length, chunk, i, &blocks[i]));
+        for (size_t i = 0; i < sack.duplicate_count; i++)
+            REQUIRE(dcsctp_duplicate_tsn(bytes, length, chunk, i, &duplicates[i]));
+        code = dcsctp_add_sack(TO_COPY, sack.cumulative_tsn_ack, sack.a_rwnd, blocks, sack.block_count, duplicates,
+                               sack.duplicate_count);
+    } else if (dcsctp_init(bytes, length, chunk, &init)) {
+        code = (type == DCSCTP_CHUNK_INIT ? dcsctp_add_init : dcsctp_add_init_ack)(TO_COPY, &init);
+        has_more = true;
+    } else if (dcsctp_forward_tsn(bytes, length, chunk, &forward)) {
+        for (size_t i = 0; i < forward.stream_count; i++)
+            REQUIRE(dcsctp_skipped_stream(bytes, length, chunk, i, &streams[i]));
+        code = (type == DCSCTP_CHUNK_FORWARD_TSN ? dcsctp_add_forward_tsn : dcsctp_add_i_forward_tsn)(
+            TO_COPY, forward.new_cumulative_tsn, streams, forward.stream_count);
+    } else if (dcsctp_shutdown(bytes, length, chunk, &tsn)) {
+        code = dcsctp_add_shutdown(TO_COPY, tsn);
+    } else if ((type == DCSCTP_CHUNK_HEARTBEAT || type == DCSCTP_CHUNK_HEARTBEAT_ACK)
+               && dcsctp_parameter_at(bytes, length, chunk, dcsctp_list_offset(chunk), &info)
+               && info.type == DCSCTP_PARAMETER_HEARTBEAT_INFO) {
+        code = dcsctp_add_heartbeat(TO_COPY, type == DCSCTP_CHUNK_HEARTBEAT_ACK, bytes + info.value_offset, info.value_size);
+    } else if (type == DCSCTP_CHUNK_COOKIE_ECHO) {
+        code = dcsctp_add_cookie_echo(TO_COPY, value, chunk->value_size);
+    } else if (type == DCSCTP_CHUNK_COOKIE_ACK) {
+        code = dcsctp_add_cookie_ack(TO_COPY);
+    } else if (type == DCSCTP_CHUNK_SHUTDOWN_ACK) {
+        code = dcsctp_add_shutdown_ack(TO_COPY);
+    } else if (type == DCSCTP_CHUNK_SHUTDOWN_COMPLETE) {
+        code = dcsctp_add_shutdown_complete(TO_COPY, is_reflected);
+    } else {
+        has_more = plain_kinds[type].rest != PLAIN_UNKNOWN;
+        code = dcsctp_add_chunk(TO_COPY, type, chunk->flags, value, has_more ? 0 : chunk->value_size);
+    }
+    REQUIRE(code == DCSCTP_OK);
+    return has_more ? add_list(bytes, length, chunk, copy, size, start) : size;
+}
+
+/* Writes a packet anew from what is read of it: the same bytes, since usrsctp and the responder write zeros where nothing is. */
+static void write_anew(const uint8_t *bytes, size_t length)
+{
+    static uint8_t copy[MOST];
+    struct dcsctp_header header;
+    struct dcsctp_chunk chunk;
+    size_t size = 0;
+    REQUIRE(dcsctp_header(bytes, length, &header));
+    REQUIRE(dcsctp_begin(TO_COPY, header.source_port, header.destination_port, header.verification_tag) == DCSCTP_OK);
+    for (size_t at = PLAIN_HEADER; dcsctp_chunk_at(bytes, length, at, &chunk); at = chunk.next)
+        size = add_read(bytes, length, &chunk, copy, size);
+    seal(copy, size);
+    REQUIRE(size == length && !memcmp(copy, bytes, length));
+}
+
+static size_t canonical_form(const uint8_t *bytes, size_t length, uint8_t *output, size_t room)
+{
+    size_t size = 0;
+    REQUIRE(dcsctp_canonical(bytes, length, dcsctp_word(bytes, length), &as_a_socket, output, room, &size) == ACCEPTED);
+    return size;
+}
+
+/* ---- between the sides */
+
+/* Takes a packet that was sent, and writes the one that the other side gets; returns its size. */
+static size_t pass(const uint8_t *sent, size_t length, uint8_t *passed)
+{
+    static uint8_t changed[MOST], ignored[MOST], noise[MOST];
+    struct plain_item chunk;
+    check(sent, length, ACCEPTED, length);
+    memset(ignored, 0, length);
+    for (size_t at = PLAIN_HEADER; plain_chunk_at(sent, at, length, &chunk); at = chunk.next) {
+        tally.kinds[chunk.type]++;
+        tally.chunks++;
+        REQUIRE(plain_ignored(sent, &chunk, ignored));
+    }
+    tally.packets++;
+    compare_readings(sent, length);
+    write_anew(sent, length);
+
+    memcpy(changed, sent, length);
+    changed[below(length)] ^= (uint8_t)(1 << below(8));
+    check(changed, length, WRONG_CHECKSUM, 8);
+
+    fill(noise, length, &state);
+    for (size_t i = 0; i < length; i++)
+        changed[i] = sent[i] ^ (noise[i] & ignored[i]);
+    seal(changed, length);
+    tally.noisy += memcmp(changed, sent, length) != 0;
+    check(changed, length, ACCEPTED, length);
+    compare_readings(changed, length);
+    size_t size = canonical_form(changed, length, passed, MOST);
+    seal(passed, size);
+    REQUIRE(size == length && !memcmp(passed, sent, length));
+    return size;
+}
+
+/* ---- what usrsctp asks for: the time, and random numbers */
+
+int gettimeofday(struct timeval *restrict time, void *restrict zone)
+{
+    (void)zone;
+    *time = (struct timeval){.tv_sec = (time_t)(1000000000 + now / 1000), .tv_usec = (suseconds_t)(now % 1000 * 1000)};
+    return 0;
+}
+
+void read_random(void *buffer, size_t size);
+
+void read_random(void *buffer, size_t size)
+{
+    fill(buffer, size, &state);
+}
+
+/* ---- two sides, and the packets under way */
+
+struct message {
+    uint64_t seed; /* of its bytes */
+    size_t size;
+    uint16_t stream;
+    bool is_unordered, may_be_lost, has_come;
+};
+
+static struct side {
+    struct socket *listener, *socket;
+    struct message *messages;                /* that it sends */
+    size_t planned, sent, received, awaited; /* awaited: of those that may not be lost */
+    uint32_t next[MORE_STREAMS];             /* the least index that may come next on a stream */
+    unsigned streams, changes;               /* streams to send on; how often it heard that streams changed */
+} sides[2];
+
+static struct side *other(const struct side *side)
+{
+    return side == &sides[0] ? &sides[1] : &sides[0];
+}
+
+static struct packet {
+    struct packet *next;
+    uint64_t due;
+    struct side *to;
+    size_t size;
+    uint8_t bytes[];
+} *under_way; /* by the time when they are due */
+
+/* usrsctp calls this with locks held: so the packet waits until the clock goes on. */
+static int send_packet(void *from, void *bytes, size_t length, uint8_t tos, uint8_t set_df)
+{
+    static uint8_t passed[MOST];
+    size_t size = pass(bytes, length, passed);
+    struct packet **place = &under_way, *packet;
+    (void)tos, (void)set_df;
+    if (below(100) < scenario->lost) {
+        tally.lost++;
+        return 0;
+    }
+    packet = malloc(sizeof *packet + size);
+    REQUIRE(packet);
+    *packet = (struct packet){.due = now + 10 + (below(100) < scenario->late ? below(60) : 0), .to = other(from), .size = size};
+    memcpy(packet->bytes, passed, size);
+    while (*place && (*place)->due <= packet->due)
+        place = &(*place)->next;
+    packet->next = *place;
+    *place = packet;
+    return 0;
+}
+
+/* ---- messages: the PPID is the index */
+
+static void plan_messages(struct side *side, size_t count)
+{
+    for (; count > 0; count--) {
+        struct message *message = &side->messages[side->planned++];
+        size_t limit = below(10) < 7 ? 300 : below(3) ? 3000 : LARGEST;
+        *message = (struct message){.seed = draw(&state) | 1, .size = 1 + below(limit)};
+        message->stream = (uint16_t)below(side->streams);
+        message->is_unordered = below(5) == 0;
+        message->may_be_lost = scenario->abandons && below(4);
+        side->awaited += !message->may_be_lost;
+    }
+}
+
+static void send_messages(struct side *side)
+{
+    static uint8_t bytes[LARGEST];
+    for (; side->sent < side->planned; side->sent++) {
+        const struct message *message = &side->messages[side->sent];
+        uint64_t seed = message->seed;
+        struct sctp_sendv_spa how = {.sendv_flags = SCTP_SEND_SNDINFO_VALID | SCTP_SEND_PRINFO_VALID,
+            .sendv_sndinfo = {.snd_sid = message->stream, .snd_ppid = htonl((uint32_t)side->sent)}};
+        how.sendv_sndinfo.snd_flags = message->is_unordered ? SCTP_UNORDERED | SCTP_SACK_IMMEDIATELY : 0; /* some with the I bit */
+        /* given up where it would have to be sent a second time */
+        how.sendv_prinfo.pr_policy = message->may_be_lost ? SCTP_PR_SCTP_RTX : SCTP_PR_SCTP_NONE;
+        fill(bytes, message->size, &seed);
+        if (usrsctp_sendv(side->socket, bytes, message->size, NULL, 0, &how, sizeof how, SCTP_SENDV_SPA, 0) < 0) {
+            REQUIRE(errno == EWOULDBLOCK);
+            return;
+        }
+    }
+}
+
+static void take_message(struct side *side, const uint8_t *bytes, size_t size, const struct sctp_rcvinfo *info)
+{
+    static uint8_t wanted[LARGEST];
+    struct side *from = other(side);
+    uint32_t index = ntohl(info->rcv_ppid);
+    REQUIRE(index < from->sent);
+    struct message *message = &from->messages[index];
+    uint64_t seed = message->seed;
+    REQUIRE(!message->has_come && size == message->size && info->rcv_sid == message->stream);
+    REQUIRE(!(info->rcv_flags & SCTP_UNORDERED) == !message->is_unordered);
+    fill(wanted, size, &seed);
+    REQUIRE(!memcmp(bytes, wanted, size));
+    if (!message->is_unordered) {
+        REQUIRE(index >= side->next[message->stream]);
+        side->next[message->stream] = index + 1;
+    }
+    message->has_come = true;
+    side->received++;
+    from->awaited -= !message->may_be_lost;
+}
+
+/* ---- the responder in place of the second side: its TSNs in order, and the messages on their streams */
+
+static struct responder responder;
+
+/* The chunks that came, by TSN, and how many of them were looked at; what there is of a message on each stream. */
+static struct part {
+    struct dcsctp_data data;
+    uint8_t *payload;
+} *parts;
+static size_t part_room, part_count;
+static struct partial {
+    uint8_t bytes[LARGEST];
+    size_t size;
+    uint32_t ppid, next_fsn, next_tsn;
+    bool is_whole;
+} partials[MORE_STREAMS];
+
+static uint32_t first_tsn(void)
+{
+    return responder.association.peer.initial_tsn;
+}
+
+static void keep_part(void *user, const struct dcsctp_data *data, const uint8_t *payload)
+{
+    const size_t index = data->tsn - first_tsn();
+    (void)user;
+    REQUIRE(index < part_room && !parts[index].payload);
+    parts[index] = (struct part){*data, malloc(data->payload_size)};
+    REQUIRE(parts[index].payload);
+    memcpy(parts[index].payload, payload, data->payload_size);
+}
+
+/* Takes the messages up to the cumulative TSN. Where TSNs were skipped, a message isn't whole. */
+static void take_parts(struct side *side)
+{
+    for (; part_count != responder.cumulative_tsn + 1 - first_tsn(); part_count++) {
+        struct part *part = &parts[part_count];
+        const struct dcsctp_data *data = &part->data;
+        if (!part->payload)
+            continue;
+        REQUIRE(data->stream < MORE_STREAMS);
+        struct partial *message = &partials[data->stream];
+        bool is_next = scenario->is_interleaved ? data->fsn == message->next_fsn : data->tsn == message->next_tsn;
+        message->is_whole = data->is_beginning || (message->is_whole && is_next);
+        if (data->is_beginning)
+            message->size = message->next_fsn = 0, message->ppid = data->ppid;
+        message->next_fsn++;
+        message->next_tsn = data->tsn + 1;
+        if (message->is_whole) {
+            REQUIRE(message->size + data->payload_size <= LARGEST);
+            memcpy(message->bytes + message->size, part->payload, data->payload_size);
+            message->size += data->payload_size;
+        }
+        if (message->is_whole && data->is_end) {
+            const struct sctp_rcvinfo info = {.rcv_sid = data->stream, .rcv_ppid = htonl(message->ppid),
+                                              .rcv_flags = data->is_unordered ? SCTP_UNORDERED : 0};
+            take_message(side, message->bytes, message->size, &info);
+            message->is_whole = false;
+        }
+        free(part->payload);
+        part->payload = NULL;
+    }
+}
+
+static void begin_responder(size_t messages)
+{
+    responder = (struct responder){.take_data = keep_part};
+    responder.own = (struct dcsctp_init){.a_rwnd = 1 << 20, .outbound_streams = 1, .inbound_streams = MORE_STREAMS};
+    responder.own.initiate_tag = (uint32_t)draw(&state) | 1;
+    responder.own.initial_tsn = (uint32_t)draw(&state);
+    responder.key[0] = draw(&state), responder.key[1] = draw(&state);
+    part_room = messages * (2 + LARGEST / 400);
+    part_count = 0;
+    parts = calloc(part_room, sizeof *parts);
+    REQUIRE(parts);
+}
+
+static void end_responder(void)
+{
+    for (size_t i = 0; i < part_room; i++)
+        free(parts[i].payload);
+    free(parts);
+    parts = NULL;
+}
+
+/* Gives a packet to a side. */
+static void give(struct side *side, const uint8_t *bytes, size_t length)
+{
+    static uint8_t reply[1400];
+    if (!scenario->is_answered || side == &sides[0]) {
+        usrsctp_conninput(side, bytes, length, 0);
+        return;
+    }
+    size_t size = responder_receive(&responder, now / 1000, bytes, length, reply, sizeof reply);
+    if (responder.state != CLOSED)
+        take_parts(side);
+    if (size > 0)
+        send_packet(side, reply, size, 0, 0);
+}
+
+/* usrsctp's call: with a message, with an event of streams that changed, or with no data at the end. */
+static int receive(struct socket *socket, union sctp_sockstore from, void *data, size_t size, struct sctp_rcvinfo info, int flags,
+                   void *to)
+{
+    struct side *side = to;
+    const union sctp_notification *event = data;
+    (void)socket, (void)from;
+    REQUIRE(!data || flags & MSG_EOR);
+    if (data && flags & MSG_NOTIFICATION) {
+        REQUIRE(!(event->sn_header.sn_flags & (SCTP_STREAM_RESET_DENIED | SCTP_STREAM_RESET_FAILED)));
+        if (event->sn_header.sn_type == SCTP_STREAM_CHANGE_EVENT)
+            side->streams = event->sn_strchange_event.strchange_outstrms;
+        side->changes++;
+    } else if (data) {
+        take_message(side, data, size, &info);
+    }
+    free(data);
+    return 1;
+}
+
+/* ---- the clock, by which usrsctp's timers run too: if they ran faster, it would sometimes not send its last packet again */
+
+static void step(void)
+{
+    for (int i = 0; i < 2; i++)
+        if (sides[i].socket)
+            send_messages(&sides[i]);
+    now += STEP;
+    while (under_way && under_way->due <= now) {
+        struct packet *packet = under_way;
+        under_way = packet->next;
+        give(packet->to, packet->bytes, packet->size);
+        free(packet);
+    }
+    usrsctp_handle_timers(STEP);
+}
+
+/* Half an hour of it is enough for anything. */
+#define RUN_UNTIL(condition) \
+    for (uint64_t last = now + 1800000; !(condition); step()) \
+        REQUIRE(now < last && #condition)
+
+/* ---- an association */
+
+static struct sockaddr_conn address_of(struct side *side)
+{
+    return (struct sockaddr_conn){.sconn_family = AF_CONN, .sconn_port = htons(5000), .sconn_addr = side};
+}
+
+static void set(struct socket *socket, int option, const void *value, size_t size)
+{
+    REQUIRE(!usrsctp_setsockopt(socket, IPPROTO_SCTP, option, value, (socklen_t)size));
+}
+
+static struct socket *open_socket(struct side *side)
+{
+    const int level = 2;
+    const uint16_t types[] = {SCTP_STREAM_RESET_EVENT, SCTP_STREAM_CHANGE_EVENT};
+    struct sctp_initmsg init = {.sinit_num_ostreams = STREAMS, .sinit_max_instreams = MORE_STREAMS};
+    struct sctp_assoc_value interleaving = {.assoc_value = 1};
+    struct sctp_assoc_value changes = {.assoc_value = SCTP_ENABLE_RESET_STREAM_REQ | SCTP_ENABLE_CHANGE_ASSOC_REQ};
+    struct sockaddr_conn address = address_of(side);
+    struct socket *socket = usrsctp_socket(AF_CONN, SOCK_STREAM, IPPROTO_SCTP, receive, NULL, 0, side);
+    REQUIRE(socket && !usrsctp_set_non_blocking(socket, 1));
+    set(socket, SCTP_INITMSG, &init, sizeof init);
+    set(socket, SCTP_ENABLE_STREAM_RESET, &changes, sizeof changes);
+    for (int i = 0; i < 2; i++) {
+        struct sctp_event event = {.se_type = types[i], .se_on = 1};
+        set(socket, SCTP_EVENT, &event, sizeof event);
+    }
+    if (scenario->is_interleaved) {
+        set(socket, SCTP_FRAGMENT_INTERLEAVE, &level, sizeof level);
+        set(socket, INTERLEAVING_SUPPORTED, &interleaving, sizeof interleaving);
+    }
+    REQUIRE(!usrsctp_bind(socket, (struct sockaddr *)&address, sizeof address));
+    return socket;
+}
+
+/* The state of a side's association; -1 where there is none. The responder has no timer, so where SHUTDOWN COMPLETE is lost it
+   waits for ever. */
+static int32_t state_of(const struct side *side)
+{
+    if (scenario->is_answered && side == &sides[1])
+        return responder.state == ESTABLISHED ? SCTP_ESTABLISHED : -1;
+    struct sctp_status status = {0};
+    socklen_t size = sizeof status;
+    return usrsctp_getsockopt(side->socket, IPPROTO_SCTP, SCTP_STATUS, &status, &size) ? -1 : status.sstat_state;
+}
+
+static void connect_sides(void)
+{
+    struct sockaddr_conn to = address_of(&sides[0]);
+    if (!scenario->is_answered) {
+        sides[1].listener = open_socket(&sides[1]);
+        REQUIRE(!usrsctp_listen(sides[1].listener, 1));
+    }
+    sides[0].socket = open_socket(&sides[0]);
+    REQUIRE(usrsctp_connect(sides[0].socket, (struct sockaddr *)&to, sizeof to) < 0 && errno == EINPROGRESS);
+    if (!scenario->is_answered) {
+        RUN_UNTIL((sides[1].socket = usrsctp_accept(sides[1].listener, NULL, NULL)));
+        REQUIRE(!usrsctp_set_non_blocking(sides[1].socket, 1));
+    }
+    RUN_UNTIL(state_of(&sides[0]) == SCTP_ESTABLISHED);
+}
+
+static void exchange_messages(size_t count)
+{
+    plan_messages(&sides[0], count);
+    plan_messages(&sides[1], scenario->is_answered ? 0 : count);
+    RUN_UNTIL(sides[0].awaited == 0 && sides[1].awaited == 0);
+}
+
+/* Asks for other streams, once the last request is answered, and waits until both sides have heard. */
+static void change(struct side *side, int option, const void *request, size_t size)
+{
+    unsigned before = side->changes, before_there = other(side)->changes;
+    RUN_UNTIL(!usrsctp_setsockopt(side->socket, IPPROTO_SCTP, option, request, (socklen_t)size));
+    RUN_UNTIL(side->changes > before && (scenario->is_answered || other(side)->changes > before_there));
+}
+
+/* Resets the first `count` streams of a direction; for 0, all. */
+static void reset_streams(struct side *side, uint16_t direction, uint16_t count)
+{
+    size_t size = sizeof(struct sctp_reset_streams) + count * sizeof(uint16_t);
+    struct sctp_reset_streams *request = calloc(1, size);
+    REQUIRE(request);
+    request->srs_flags = direction;
+    request->srs_number_streams = count;
+    for (uint16_t i = 0; i < count; i++)
+        request->srs_stream_list[i] = i;
+    change(side, SCTP_RESET_STREAMS, request, size);
+    free(request);
+}
+
+static void change_streams(void)
+{
+    const struct sctp_add_streams own = {.sas_outstrms = 4}, others = {.sas_instrms = 3};
+    reset_streams(&sides[0], SCTP_STREAM_RESET_OUTGOING, 0);
+    if (scenario->is_answered) { /* which asks for nothing, and denies what is asked of its own streams */
+        reset_streams(&sides[0], SCTP_STREAM_RESET_OUTGOING, 3);
+        change(&sides[0], SCTP_ADD_STREAMS, &own, sizeof own);
+        REQUIRE(sides[0].streams == STREAMS + 4);
+        return;
+    }
+    reset_streams(&sides[1], SCTP_STREAM_RESET_OUTGOING, 3);
+    reset_streams(&sides[1], SCTP_STREAM_RESET_INCOMING, 2);
+    change(&sides[0], SCTP_ADD_STREAMS, &own, sizeof own);
+    change(&sides[0], SCTP_ADD_STREAMS, &others, sizeof others);
+    REQUIRE(sides[0].streams == STREAMS + 4 && sides[1].streams == STREAMS + 3);
+}
+
+static void end_association(void)
+{
+    struct sctp_sndinfo info = {.snd_flags = SCTP_ABORT};
+    if (scenario->aborts)
+        usrsctp_sendv(sides[0].socket, "enough", 6, NULL, 0, &info, sizeof info, SCTP_SENDV_SNDINFO, 0);
+    else
+        REQUIRE(!usrsctp_shutdown(sides[0].socket, SHUT_WR));
+    RUN_UNTIL(state_of(&sides[0]) < 0 && state_of(&sides[1]) < 0 && !under_way);
+}
+
+/* Chunks of the kinds that the scenario is about have passed, and no others. */
+static void check_kinds(void)
+{
+    bool is_due[256] = {[PLAIN_INIT] = true, [PLAIN_INIT_ACK] = true, [PLAIN_COOKIE_ECHO] = true, [PLAIN_COOKIE_ACK] = true,
+        [PLAIN_SACK] = true, [PLAIN_HEARTBEAT] = true, [PLAIN_HEARTBEAT_ACK] = true, [PLAIN_DATA] = !scenario->is_interleaved,
+        [PLAIN_I_DATA] = scenario->is_interleaved, [PLAIN_FORWARD_TSN] = scenario->abandons,
+        [PLAIN_RE_CONFIG] = scenario->changes, [PLAIN_ABORT] = scenario->aborts, [PLAIN_SHUTDOWN] = !scenario->aborts,
+        [PLAIN_SHUTDOWN_ACK] = !scenario->aborts, [PLAIN_SHUTDOWN_COMPLETE] = !scenario->aborts};
+    for (int type = 0; type < 256; type++)
+        REQUIRE((tally.kinds[type] > 0) == is_due[type]);
+    REQUIRE((tally.blocks > 0) == (scenario->lost > 0) && tally.noisy > tally.packets / 2);
+}
+
+static void run_scenario(size_t messages, uint64_t seed)
+{
+    state = seed * 0x9e3779b97f4a7c15 | 1;
+    now = 0;
+    memset(&tally, 0, sizeof tally);
+    usrsctp_init_nothreads(0, send_packet, NULL);
+    usrsctp_sysctl_set_sctp_recvspace(1 << 20); /* I-DATA needs room for a part of a message on each stream */
+    for (int i = 0; i < 2; i++) {
+        sides[i] = (struct side){.streams = STREAMS, .messages = calloc(2 * messages, sizeof *sides[i].messages)};
+        REQUIRE(sides[i].messages);
+        usrsctp_register_address(&sides[i]);
+    }
+    if (scenario->is_answered)
+        begin_responder(2 * messages);
+    connect_sides();
+    exchange_messages(messages);
+    RUN_UNTIL(tally.kinds[PLAIN_HEARTBEAT_ACK] && !under_way); /* an idle association asks after half a minute */
+    if (scenario->changes) {
+        change_streams();
+        exchange_messages((messages + 4) / 5);
+    }
+    end_association();
+    check_kinds();
+    printf("interop: %s: %u packets (%u lost) of %u chunks; %u flipped bits caught; %u canonical forms as sent, %u of them of"
+           " noise; %zu and %zu messages of %zu each\n", scenario->name, tally.packets, tally.lost, tally.chunks,
+           tally.packets, tally.packets, tally.noisy, sides[1].received, sides[0].received, sides[0].planned);
+    if (scenario->is_answered)
+        end_responder();
+    if (sides[1].listener)
+        usrsctp_close(sides[1].listener);
+    for (int i = 0; i < 2; i++) {
+        if (sides[i].socket)
+            usrsctp_close(sides[i].socket);
+        usrsctp_deregister_address(&sides[i]);
+        free(sides[i].messages);
+    }
+    RUN_UNTIL(!usrsctp_finish());
+}
+
+/* ---- the program */
+
+static int give_up(void)
+{
+    fputs("usage: interop [SCENARIO ..] [--messages N] [--seed N]\nscenarios:", stderr);
+    for (int i = 0; i < SCENARIOS; i++)
+        fprintf(stderr, " %s%s", scenarios[i].name, scenarios[i].is_short ? "*" : "");
+    fputs("\n1,000 messages go each way; where none is named, those with a star run, with 200 if both sides are usrsctp\n", stderr);
+    return 2;
+}
+
+int main(int count, char **words)
+{
+    unsigned long messages = 0, seed = 1;
+    unsigned chosen = 0; /* a bit for each scenario */
+    for (int i = 1, found; i < count; i++) {
+        for (found = 0; found < SCENARIOS && strcmp(words[i], scenarios[found].name); found++)
+            ;
+        if (found < SCENARIOS)
+            chosen |= 1u << found;
+        else if (!strcmp(words[i], "--messages") && i + 1 < count)
+            messages = strtoul(words[++i], NULL, 10);
+        else if (!strcmp(words[i], "--seed") && i + 1 < count)
+            seed = strtoul(words[++i], NULL, 10);
+        else
+            return give_up();
+    }
+    for (int i = 0; i < SCENARIOS; i++)
+        if (chosen ? chosen >> i & 1 : scenarios[i].is_short) {
+            scenario = &scenarios[i];
+            run_scenario(messages ? messages : chosen || scenario->is_answered ? 1000 : 200, seed);
+        }
+    return 0;
+}

@@ -1,0 +1,295 @@
+#!/usr/bin/env bash
+# SPDX-License-Identifier: Apache-2.0
+# Runs the program sctp_dump with each option, and where something fails.
+set -u
+
+usage='usage: tests/dump/test.sh [--quick] [PROGRAM]
+
+Runs the program over the rows of runs.txt, and compares all that it prints, and its status. Its options have to be those
+of its manual page, docs/sctp_dump.1, at which mandoc, if it is there, finds nothing wrong. Then tools/rules.py has it
+ask the rules of the packets of rules.txt, it has the chunks of refused.txt and the captures in data/, faults.py looks at
+lengths that are refused, objects.py at its JSON, forms.py at its three forms, logs.py at associations of logs, times.py at
+times; where tshark is, associations.py at associations of captures, and tshark.py at packets; where scapy is, scapy.py
+at the same; and it has a table that is full, and an output that fails. The last line is: dump: N passed, M failed.
+--quick leaves out the scripts, and a word that isn'\''t UTF-8, for a program that runs in an emulator or under Wine.
+
+The program is crates/sctp_dump/out/sctp_dump, which `rt ci` proved and built, unless another is named; if it is missing,
+or older than a source file, it is proved and built first.'
+
+program=crates/sctp_dump/out/sctp_dump quick=
+[ "${1:-}" != --quick ] || { quick=yes && shift; }
+case ${1:-} in
+    --help) echo "$usage" && exit ;;
+    -*) echo "$usage" >&2 && exit 2 ;;
+    ?*) program=$(realpath "$1") ;;
+esac
+cd "$(dirname "$0")/../.." || exit
+work=$(mktemp -d)
+trap 'rm -rf "$work"' EXIT
+
+is_built() {
+    [ -x "$program" ] && [ -z "$(find crates/*/src -name '*.rt' -newer "$program" -print -quit)" ]
+}
+
+if [ $# -eq 0 ]; then
+    is_built || (cd crates/sctp_dump && rt run -- --help) >"$work/log" 2>&1 </dev/null
+    program=$PWD/$program
+fi
+[ -x "$program" ] || { echo 'dump: sctp_dump was not built' && tail "$work/log" && exit 1; }
+root=$PWD rows=$PWD/tests/dump/runs.txt captures=$PWD/tests/dump/data
+cd crates/sctp_dump/data || exit
+
+passed=0 failed=0
+# Counts a run, whose output and errors are files, by its status and what it was to be; says what differs.
+judge() {
+    local name=$1 ended=$2 status=$3
+    if diff "$work/wanted" "$work/printed" >"$work/log" && diff "$work/wanted_errors" "$work/errors" >>"$work/log" &&
+        [ "$ended" -eq "$status" ]; then
+        passed=$((passed + 1))
+    else
+        failed=$((failed + 1))
+        printf 'dump: %s: status %s, and not %s; < what was wanted, > what was printed\n' "$name" "$ended" "$status"
+        head -n 40 "$work/log"
+    fi
+}
+
+# Counts a script that looks at the program; prints what it says, if it fails.
+look() {
+    if "$@" >"$work/log" 2>&1; then
+        passed=$((passed + 1))
+    else
+        failed=$((failed + 1))
+        head -n 40 "$work/log"
+    fi
+}
+
+leave_out() {
+    echo "dump: ${1#"$root/"}: left out, since there is no $2"
+}
+
+# The scripts are in Python, with all of its library.
+if [ -n "$quick" ]; then
+    look() { :; }
+    leave_out() { :; }
+elif ! python3 -c 'import json, shutil' 2>/dev/null; then
+    look() { leave_out "$1" python3; }
+fi
+
+# The same, if the tools that the first word names are there.
+look_with() {
+    local tool
+    for tool in $1; do
+        case $tool in
+            tshark-4) tshark --version 2>/dev/null | grep -q '^TShark .*) 4\.' ;;
+            *) command -v "$tool" >/dev/null ;;
+        esac || { leave_out "$2" "$tool" && return; }
+    done
+    look "${@:2}"
+}
+
+# The same, by the Python that has scapy: that of Debian's package may not be the first on PATH. Other versions may dissect more.
+look_with_scapy() {
+    local python
+    for python in python3 /usr/bin/python3; do
+        "$python" -c 'import scapy; exit(not scapy.VERSION.startswith("2.5."))' 2>/dev/null && look "$python" "$@" && return
+    done
+    leave_out "$1" 'scapy 2.5'
+}
+
+# Runs a row, its words and input with their escapes.
+run() {
+    local words=() word
+    if [ -n "$quick" ] && [[ $1 == *\\xff* ]]; then return; fi
+    for word in $1; do
+        words+=("$(printf %b "$word")")
+    done
+    printf %b "$2" | timeout 60 "$program" "${words[@]:1}" >"$work/printed" 2>"$work/errors"
+    judge "$1" "${PIPESTATUS[1]}" "$3"
+}
+
+row=
+while IFS= read -r line; do
+    case $line in
+        '#'*) ;;
+        '$ '*)
+            row=${line#??} input=
+            : >"$work/wanted"
+            : >"$work/wanted_errors"
+            ;;
+        '< '*) input+=${line#??}'\n' ;;
+        '! '*) echo "${line#??}" >>"$work/wanted_errors" ;;
+        '? '*)
+            run "$row" "$input" "${line#??}"
+            row=
+            ;;
+        *) [ -z "$row" ] || echo "$line" >>"$work/wanted" ;;
+    esac
+done <"$rows"
+
+# The text of --help is a row; -h prints the same.
+: >"$work/wanted_errors"
+"$program" --help >"$work/wanted"
+"$program" -h >"$work/printed" 2>"$work/errors"
+judge 'sctp_dump -h' $? 0
+
+# The manual page has these options, and no others.
+grep -oE -- '--[a-z-]+' "$work/printed" | sort -u >"$work/wanted"
+sed -n 's/^\.It Fl \(-[a-z-]*\).*/-\1/p' "$root/docs/sctp_dump.1" | sort >"$work/printed"
+judge 'the options of sctp_dump.1' $? 0
+if command -v mandoc >/dev/null; then look mandoc -T lint -W warning "$root/docs/sctp_dump.1"; fi
+
+# ---- rules
+
+# What is said of the rules that the packets of each row break.
+look "$root/tools/rules.py" --try "$program"
+
+: >"$work/wanted_errors"
+# What real stacks sent breaks none.
+printf 'warnings: 0\n' >"$work/wanted"
+for file in "$captures"/*.log "$captures"/*.pcap; do
+    "$program" --json --check --summary "$file" 2>"$work/errors" | tail -n 1 | sed 's/.*"warnings":\([0-9]*\)}$/warnings: \1/' >"$work/printed"
+    judge "rules that ${file##*/} breaks" "${PIPESTATUS[0]}" 0
+done
+
+# ---- chunks that are refused
+
+# Of a length that is refused the text says which are needed.
+look "$root/tests/dump/faults.py" "$program"
+
+grep ' = ! ' "$root/tests/dump/refused.txt" >"$work/rows"
+sed 's/.* = //' "$work/rows" >"$work/wanted"
+echo '! size at 65535: packet: 65536 bytes, but 65535 are the most' >>"$work/wanted"
+(sed 's/ = .*//; s/^/138813890102030400000000 /' "$work/rows" && printf '%0131072d' 0) | "$program" --brief 2>"$work/errors" |
+    sed -n 's/^[0-9].* zero //p' >"$work/printed"
+judge 'what is said of chunks that are refused' "${PIPESTATUS[1]}" 1
+
+# ---- JSON
+
+# Each line is an object, and each place holds the value of its key. Lines and blocks say the same. A log has the associations of
+# its capture, and captures have those of a model over tshark.
+look "$root/tests/dump/objects.py" "$program"
+look "$root/tests/dump/forms.py" "$program"
+look "$root/tests/dump/logs.py" "$program"
+look_with tshark "$root/tests/dump/associations.py" "$program"
+
+# ---- blocks
+
+# They say what other programs do.
+look_with_scapy "$root/tests/dump/scapy.py" --program "$program"
+look_with 'tshark-4 editcap mergecap text2pcap tcpdump hexdump xxd' "$root/tests/dump/tshark.py" "$program"
+
+# ---- times
+
+look "$root/tests/dump/times.py" "$program"
+
+# ---- a table that is full
+
+# INITs with these tags.
+inits() {
+    printf '138813890000000000000000 01000014 %08x 00010000 00010001 00000001\n' "$@"
+}
+
+# Packets to the ends with these tags.
+packets_to() {
+    printf '13891388%08x00000000 0b000004\n' "$@"
+}
+
+# Of 10,000 associations 1 is seen once more, and 3 ends. For two others 3 leaves, and then 2, which was silent longest; after
+# that packets to 1 and 4 are theirs, and those to 2 and 3 are of none, as is an INIT that 3 sends again.
+{
+    inits {1..10000}
+    packets_to 1
+    echo '138813890000000300000000 06010004' # ABORT, with its sender's tag
+    inits 10001 10002
+    packets_to 1 2 3 4
+    inits 3
+} | timeout 60 "$program" --associations 2>"$work/errors" >"$work/all"
+ended=$?
+awk -v RS= '/left the table/ || /second end sent packets [^0]/' "$work/all" | grep -E '^association|left|sent' >"$work/printed"
+: >"$work/wanted_errors"
+cat >"$work/wanted" <<'WANTED'
+association 3
+left the table
+first end sent packets 2: refused 0, checksums: zero 2, wrong 0
+second end sent packets 0: refused 0, checksums: zero 0, wrong 0
+association 2
+left the table
+first end sent packets 1: refused 0, checksums: zero 1, wrong 0
+second end sent packets 0: refused 0, checksums: zero 0, wrong 0
+association 1
+first end sent packets 1: refused 0, checksums: zero 1, wrong 0
+second end sent packets 2: refused 0, checksums: zero 2, wrong 0
+association 4
+first end sent packets 1: refused 0, checksums: zero 1, wrong 0
+second end sent packets 1: refused 0, checksums: zero 1, wrong 0
+associations: 2 left the table, and what is said of them is a part (--keep keeps more); packets of none 3
+WANTED
+judge 'a table that is full' $ended 0
+
+# Of 1,026 transports 1,024 are known by their names; the others count as one, whose INIT came twice.
+printf 'O 00:00:00.000 0000 13 88 13 89 00 00 00 00 00 00 00 00 01 00 00 14 00 00 00 01 00 01 00 00 00 01 00 01 00 00 00 01 # SCTP_PACKET T%s\n' \
+    {1..1026} | timeout 60 "$program" --associations 2>"$work/errors" >"$work/all"
+ended=$?
+{
+    grep -c '^transport: T[0-9]*$' "$work/all"
+    awk -v RS= '/another name/' "$work/all" | grep -E '^transport|INIT|sent'
+} >"$work/printed"
+cat >"$work/wanted" <<'WANTED'
+1024
+transport: of another name
+begins: packet 1025, time 00:00:00.000000, INIT
+never established, INIT 2
+first end sent packets 2: refused 0, checksums: zero 2, wrong 0
+second end sent packets 0: refused 0, checksums: zero 0, wrong 0
+WANTED
+judge 'more transports than are known by their names' $ended 0
+
+# ---- an input that is waited for
+
+# A packet is printed though its input doesn't end yet.
+mkfifo "$work/pipe"
+: >"$work/all"
+timeout 60 "$program" <"$work/pipe" >"$work/all" 2>"$work/errors" &
+exec 3>"$work/pipe"
+echo '138813880102030400000000 0b000004' >&3
+for _ in {1..300}; do
+    grep -q '^COOKIE ACK' "$work/all" && break
+    sleep 0.1
+done
+cp "$work/all" "$work/printed"
+exec 3>&-
+wait $!
+ended=$?
+printf '%s\n' 'packet 1' 'source 5000, destination 5000, tag 0x01020304' 'checksum 0x00000000: zero' 'COOKIE ACK' '' >"$work/wanted"
+: >"$work/wanted_errors"
+judge 'an input that is waited for' $ended 0
+
+# ---- an output that fails
+
+# The packets of a long text, of which more is printed than a pipe holds.
+long() {
+    yes '138813880102030400000000 0b000004' | head -n 100000
+}
+
+: >"$work/wanted"
+: >"$work/printed"
+echo 'sctp_dump: a write failed' >"$work/wanted_errors"
+
+"$program" cooked.pcap >/dev/full 2>"$work/errors"
+judge 'a full disk' $? 2
+"$program" --summary cooked.pcap >/dev/full 2>"$work/errors"
+judge 'a full disk at the end of the run' $? 2
+"$program" --help >/dev/full 2>"$work/errors"
+judge 'a full disk, and no packets' $? 2
+long | timeout 60 "$program" - cooked.pcap >/dev/full 2>"$work/errors"
+judge 'a full disk in the first of two files' "${PIPESTATUS[1]}" 2
+: >"$work/wanted_errors"
+long | timeout 60 "$program" 2>"$work/errors" | head -n 1 >/dev/null
+judge 'a pipe that is closed after a line' "${PIPESTATUS[1]}" 2
+exec 3> >(true)
+wait $!
+timeout 60 "$program" cooked.pcap >&3 2>"$work/errors"
+judge 'a pipe that is closed' $? 2
+
+printf 'dump: %s passed, %s failed\n' "$passed" "$failed"
+[ "$failed" -eq 0 ]

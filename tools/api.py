@@ -1,0 +1,435 @@
+#!/usr/bin/env python3
+# SPDX-License-Identifier: Apache-2.0
+"""usage: tools/api.py --write | --compare | --help
+
+Makes docs/API.md, the list of the libraries' public items, from their sources.
+
+  --write    writes the page
+  --compare  fails if the page isn't what the sources give
+  --help     prints this
+
+Listed are the public items of the public modules of each library, under the path that a program writes: the signature, the
+first sentence of the doc comment, fields, variants, methods, and the traits that are derived or have an `impl`, of an iterator
+with its items; of a trait, what implements it. A function that has conditions (`requires`) is marked with them, in words. Items
+of the lower libraries that `dcsctp_wire` doesn't pass on are named alone, at the end.
+"""
+import os
+import re
+import sys
+
+ROOT = os.path.dirname(os.path.dirname(os.path.abspath(__file__)))
+PAGE = os.path.join(ROOT, 'docs', 'API.md')
+
+# The libraries, in the order in which their items come within a section.
+LIBRARIES = [
+    'dcsctp_wire', 'dcsctp_borrowed', 'dcsctp_buffer', 'dcsctp_crc32c', 'dcsctp_chunk', 'dcsctp_tlv', 'dcsctp_cause', 'dcsctp_types',
+]
+
+# The sections of the page, and which modules each has, by their paths in a program: the first that matches.
+SECTIONS = [
+    ('Laws', r'dcsctp_wire::laws'),
+    ('Packets', r'dcsctp_wire::packet::sctp_packet$'),
+    ('Chunks', r'dcsctp_wire::packet::(\w*chunk\w*|data|plain_check)$'),
+    ('Parameters', r'dcsctp_wire::packet::(parameter|\w+_parameter$)'),
+    ('Error causes', r'dcsctp_wire::packet::\w+_\w+$'),
+    ('Errors, sizes and numbers', r'dcsctp_wire::packet$'),
+    ('Serial numbers, ids and times', r'dcsctp_wire::(types|api)'),
+    ('Packets in their own bytes', r'dcsctp_borrowed'),
+    ("Packets written into the caller's buffer", r'dcsctp_buffer'),
+    ('The checksum', r'dcsctp_crc32c'),
+]
+
+# Traits that say nothing to a caller: what every type has, what the proofs see of a type, and those of the libraries themselves.
+UNLISTED = {'Drop', 'Model', 'Field', 'Kind', 'ListedTlv', 'ReadableTlv', 'Widths'}
+
+HEAD = '''# The public items
+
+Made from the sources by `tools/api.py --write`; the gate compares it. A heading is the path to write in a `use`: the items below it
+are at that path, and `fn Tsn::add_to` is the method `add_to` of `Tsn`. A program needs the crate `dcsctp_wire`, and `dcsctp_borrowed`,
+`dcsctp_buffer` and `dcsctp_crc32c` where it uses them. What the caller has to prove (`requires`) comes after the signature, after *needs*:
+
+| *needs* | the caller proves that |
+|---|---|
+| *fits* | `fits()` is true |
+| *encodable*, *placed* | `encodable()` is true |
+| *room*, *size* | the output, or what is left of the builder's limit, is large enough; it has `canonical_size()` bytes |
+| other words | what they say of the argument |
+'''
+
+# What a condition without a name says, in words.
+CONDITIONS = [
+    (r'IsOk \(|HasMeaning|MeansSome|MeansMany|AreItems', 'meant'),
+    (r'Fits', 'fits'),
+    (r'IsListEncodable|< 2 \^ 16', 'encodable'),
+    (r'BeginsWithFrame', 'begins with a frame'),
+    (r'(\d+) ≤ length (?:bytes|value|packet)', 'at least {} bytes'),
+    (r'SIZE.* ≤ length bytes', 'enough bytes'),
+    (r'≤ length output|length items.now ≤ room', 'room'),
+    (r'index < ', 'index below the count'),
+    (r'place ≤ length value', 'place within the value'),
+    (r'leading ≤ MAX_VALUE_SIZE', 'leading at most 65,531'),
+    (r'round_up_to_4', 'n at most 2^64 - 4'),
+    (r'bit < 8', 'bit below 8'),
+    (r'n ≢ 0', 'not 0'),
+]
+
+ITEM = re.compile(r'^(?P<indent> *)pub (?P<kind>const fn|fn|struct|enum|trait|const|static|type) (?P<name>\w+)')
+METHOD = re.compile(r'^    (?:pub )?(?:final )?(?:const )?fn (\w+)')
+
+
+def lines_of(path):
+    with open(path, encoding='utf-8') as file:
+        return file.read().splitlines()
+
+
+def modules_of(crate):
+    """The public modules of a crate, each with its file, from the root on."""
+    source = os.path.join(ROOT, 'crates', crate, 'src')
+    found = [(crate, os.path.join(source, 'lib.rt'))]
+    for name, path in found:
+        folder = source if name == crate else path[:-len('.rt')]
+        for line in lines_of(path):
+            inner = re.match(r'^pub mod (\w+);', line)
+            if inner:
+                found.append((f'{name}::{inner[1]}', os.path.join(folder, inner[1] + '.rt')))
+    return found
+
+
+def first_sentence(doc):
+    """The first sentence of a doc comment's first paragraph."""
+    paragraph = []
+    for line in doc:
+        if not line:
+            break
+        paragraph.append(line)
+    text = ' '.join(paragraph)
+    end = re.search(r'[.:](?= [A-Z]|$)', text)
+    return text[:end.end()] if end else text
+
+
+def in_words(clause):
+    for pattern, words in CONDITIONS:
+        found = re.search(pattern, clause)
+        if found:
+            return words.format(*found.groups())
+    return 'condition'
+
+
+def signature_of(lines, at):
+    """The signature that begins at a line, on one line, and the names of its conditions."""
+    text, conditions = [], []
+    for line in lines[at:]:
+        bare = line.strip()
+        clause = re.match(r'requires\*? *(\w*) *\{', bare)
+        if clause:
+            conditions.append(clause[1] or in_words(bare))
+        if clause or bare.startswith(('ensures', 'ghost ', '{', '//')) or conditions:
+            if bare == '{' or bare.endswith((';', '{}')) and not clause:
+                break
+            if clause or conditions:
+                if bare == '{}':
+                    break
+                continue
+            break
+        text.append(bare)
+        if bare.endswith(('{', ';', '{}')):
+            break
+    joined = re.sub(r'\s+', ' ', ' '.join(text)).rstrip('{}; ').strip()
+    joined = re.sub(r'\( ', '(', re.sub(r',? \)', ')', joined))
+    return joined, conditions
+
+
+def members_of(lines, at):
+    """The public fields of a struct, or the variants of an enum, each with its first sentence."""
+    found, doc = [], []
+    if not lines[at].endswith('{'):
+        return found
+    is_enum = ' enum ' in f' {lines[at]}'
+    for line in lines[at + 1:]:
+        bare = line.strip()
+        if line.startswith('}'):
+            break
+        if bare.startswith('///'):
+            doc.append(bare[3:].strip())
+        elif re.match(r'^    pub \w+:', line) or is_enum and re.match(r'^    [A-Z]\w*', line):
+            found.append((bare.removeprefix('pub ').rstrip(',{ '), first_sentence(doc)))
+            doc = []
+        elif not bare.startswith('#['):
+            doc = []
+    return found
+
+
+def entry(depth, signature, sentence, conditions=()):
+    marks = f' *needs {", ".join(conditions)}*' if conditions else ''
+    return f'{"  " * depth}- `{signature}`{marks}' + (f': {sentence}' if sentence else '')
+
+
+class Item:
+    """A public item: its name, the type that it is a method or a constant of, if any, its lines of the page, its first sentence."""
+
+    def __init__(self, kind, name, owner, lines, sentence, value):
+        self.kind, self.name, self.owner, self.lines, self.sentence, self.value = kind, name, owner, lines, sentence, value
+
+    def is_law(self):
+        return self.sentence.startswith('A law of ')
+
+    def is_number_of_kind(self):
+        return self.name in ('CHUNK_TYPE', 'PARAMETER_TYPE', 'CAUSE_CODE')
+
+    def is_internal(self):
+        """Whether the libraries alone call it: what builds a kind, or fills a list, of bytes that were checked."""
+        return re.search(r'build$|_fill$', self.name) is not None and ' *needs meant' in self.lines[0]
+
+
+def passed_on(crate, name, path, public):
+    """The items of private modules that a public module passes on by `pub use`."""
+    found = []
+    text = re.sub(r'\s+', ' ', '\n'.join(lines_of(path)))
+    for place, names in re.findall(r'pub use (\w+(?:::\w+)*)::(\w+|\{[^}]*\});', text):
+        place = re.sub('^crate', crate, place) if place.startswith('crate') else f'{name}::{place}'
+        source = os.path.join(ROOT, 'crates', crate, 'src', *place.split('::')[1:]) + '.rt'
+        if place not in public and os.path.isfile(source):
+            found += items_of(source, set(re.findall(r'\w+', names)))
+    return found
+
+
+def is_defined(owner, lines):
+    return any(re.match(rf'(pub(\([^)]*\))? )?(struct|enum) {owner}\b', line) for line in lines)
+
+
+def implementations():
+    """The traits that types have by an `impl` of any library: pairs of a trait and a type, without their paths and lifetimes."""
+    found = []
+    for crate in LIBRARIES:
+        for place, _, files in sorted(os.walk(os.path.join(ROOT, 'crates', crate, 'src'))):
+            for file in sorted(files):
+                lines = lines_of(os.path.join(place, file)) if file.endswith('.rt') else []
+                for number, line in enumerate(lines):
+                    made = re.match(r'impl(?:<[^>]*>)? ([\w:]+(?:<.*>)?) for (\w+)', line)
+                    if made:
+                        trait = re.sub(r'^(?:\w+::)+', '', made[1])
+                        item = trait == 'Iterator' and re.search(r'\n    type Item = (.*);', '\n'.join(lines[number:]))
+                        found.append((f'Iterator<Item = {item[1]}>' if item else trait, made[2]))
+    return found
+
+
+IMPLEMENTATIONS = implementations()
+
+
+def traits_of(lines, at, name):
+    """The traits that a type has: derived at its item, or by an `impl`."""
+    text, found = '', [trait for trait, owner in IMPLEMENTATIONS if owner == name]
+    for line in reversed(lines[:at]):
+        if not line.startswith(('#[', ' ', ')', '///', '//')):
+            break
+        text = line + text
+    for names in re.findall(r'derive\(([^)]*)\)', text):
+        found += [it.split('::')[-1].strip() for it in names.split(',') if it.strip()]
+    return sorted(set(found) - UNLISTED)
+
+
+def implementors_of(trait):
+    return sorted({owner for it, owner in IMPLEMENTATIONS if re.sub('<.*', '', it) == trait})
+
+
+def paths_of():
+    """The paths under `dcsctp_wire` of the modules and items of other libraries, by their own."""
+    found = {}
+    for place in ('lib', 'laws', 'packet', 'packet/chunk'):
+        source = os.path.join(ROOT, 'crates', 'dcsctp_wire', 'src', place + '.rt')
+        here = '::'.join(['dcsctp_wire'] + (place.split('/') if place != 'lib' else []))
+        text = re.sub(r'\s+', ' ', '\n'.join(lines_of(source)))
+        for own, passed in re.findall(r'pub use (dcsctp_\w+(?:::\w+)*) as (\w+);', text):
+            found[own] = f'{here}::{passed}'
+        for path, names in re.findall(r'pub use (dcsctp_\w+(?:::\w+)*)::(\w+|\{[^}]*\});', text):
+            for name in re.findall(r'\w+', names):
+                own, passed = (path, path.split('::')[-1]) if name == 'self' else (f'{path}::{name}', name)
+                found.setdefault(own, f'{here}::{passed}')
+    return found
+
+
+def path_in_program(name, paths):
+    """The path of a module or an item in a program, or nothing if it has none."""
+    parts = name.split('::')
+    if parts[0] in ('dcsctp_wire', 'dcsctp_borrowed', 'dcsctp_buffer', 'dcsctp_crc32c'):
+        return name
+    for size in range(len(parts), 1, -1):
+        front = '::'.join(parts[:size])
+        if front in paths:
+            return '::'.join([paths[front]] + parts[size:])
+    return ''
+
+
+def items_of(path, wanted=None):
+    """The public items of a file; the wanted ones alone, and their methods, where they are named."""
+    items, doc, inside, outside_tests = [], [], None, True
+    lines = lines_of(path)
+    for at, line in enumerate(lines):
+        bare = line.strip()
+        if bare == '#[cfg(test)]' and lines[at + 1].endswith('{'):
+            outside_tests = False
+        if bare.startswith('///'):
+            doc.append(bare[3:].strip())
+            continue
+        if bare.startswith(('#[', '// ')):
+            continue
+        if line.startswith('impl'):
+            inside = line
+        elif line.startswith('}'):
+            inside = None
+        found = ITEM.match(line)
+        owner = re.match(r'impl(?:<[^>]*>)? (\w+)', inside)[1] if found and inside else None
+        if found and wanted is not None:
+            # a public type can have methods in the file of another, which is private
+            elsewhere = inside and not is_defined(owner, lines)
+            found = found if (owner or found['name']) in wanted or elsewhere else None
+        if found and outside_tests:
+            items.append(item_of(lines, at, found, owner if found['indent'] else None, first_sentence(doc)))
+        if bare:
+            doc = []
+    return items
+
+
+def item_of(lines, at, found, owner, sentence):
+    """The item of a line."""
+    signature, conditions = signature_of(lines, at)
+    value = signature.partition(' = ')[2] if found['kind'] == 'const' else ''
+    signature = re.sub(r': (\w+) = \1$', r': \1', signature.removeprefix('pub '))  # (the value is on further lines)
+    if owner:
+        signature = signature.replace(found['name'], f'{owner}::{found["name"]}', 1)
+    if found['kind'] == 'struct' and re.match(r'pub struct \w+;$', lines[at]):
+        signature += ';'
+    page = [entry(1 if owner else 0, signature, sentence, conditions)]
+    if found['kind'] in ('struct', 'enum'):
+        traits = traits_of(lines, at, found['name'])
+        page[0] += f' Has {", ".join(f"`{it}`" for it in traits)}.' if traits else ''
+        page += member_lines(members_of(lines, at))
+    if found['kind'] == 'trait':
+        owners = implementors_of(found['name'])
+        page[0] += f' Implemented by {", ".join(f"`{it}`" for it in owners)}.' if owners else ''
+        page += methods_of(lines, at)
+    return Item(found['kind'], found['name'], owner, page, sentence, value)
+
+
+def member_lines(members):
+    """A line for each member; those that have no sentence share one."""
+    bare = ', '.join(f'`{member}`' for member, about in members if not about)
+    return [entry(1, member, about) for member, about in members if about] + ([f'  - {bare}'] if bare else [])
+
+
+def methods_of(lines, at):
+    """The methods of a trait."""
+    page, doc = [], []
+    for number in range(at + 1, len(lines)):
+        line = lines[number]
+        if line.startswith('}'):
+            break
+        if line.strip().startswith('///'):
+            doc.append(line.strip()[3:].strip())
+        elif METHOD.match(line):
+            signature, conditions = signature_of(lines, number)
+            page.append(entry(1, signature, first_sentence(doc), conditions))
+            doc = []
+        elif line.strip():
+            doc = []
+    return page
+
+
+def module_doc(path):
+    doc = []
+    for line in lines_of(path):
+        if not line.startswith('//!'):
+            break
+        doc.append(line[3:].strip())
+    return first_sentence(doc)
+
+
+def all_modules():
+    """What a program finds at each path: the module's first sentence and its items. And the names that have no such path, by module."""
+    paths, modules, unlisted = paths_of(), {}, {}
+    for crate in LIBRARIES:
+        places = modules_of(crate)
+        public = {name for name, _ in places}
+        for name, path in places:
+            where = path_in_program(name, paths)
+            for item in items_of(path) + passed_on(crate, name, path, public):
+                own = where or path_in_program(f'{name}::{item.owner or item.name}', paths).rpartition('::')[0]
+                if own and item.is_law():
+                    own = 'dcsctp_wire::laws'
+                if not own or item.is_internal():
+                    unlisted.setdefault(name, []).append(item)
+                    continue
+                about = module_doc(path) if own == where or own == 'dcsctp_wire::laws' else ''
+                modules.setdefault(own, (about, []))[1].append(item)
+    return modules, unlisted
+
+
+def anchor(heading):
+    return '#' + re.sub(r'[^\w -]', '', heading.lower()).replace(' ', '-')
+
+
+def number_of(module):
+    """The place of a module in its section: that of a kind is its number; unknown and raw ones, and checks, come last."""
+    name, (_, items) = module
+    numbers = [int(it.value, 0) for it in items if it.is_number_of_kind()]
+    return (1, numbers[0], name) if numbers else (2 if re.search('raw_|_check|validators|unknown', name) else 0, 0, name)
+
+
+def module_lines(name, about, items):
+    """A module's heading, and its items: numbers of kinds in the first line, methods below their type."""
+    numbers = [f'`{it.name}` is {it.value}.' for it in items if it.is_number_of_kind()]
+    items = [it for it in items if not it.is_number_of_kind()]
+    if not numbers and sum(it.owner is None for it in items) == 1:
+        about = ''  # the only item says it
+    lines = [f'### {name}'] + [' '.join(it for it in (about, *numbers) if it)] * bool(about or numbers)
+    for item in items:
+        if item.owner is None:
+            lines += item.lines
+            for method in items:
+                lines += method.lines if method.owner == item.name else []
+    names = [it.name for it in items if it.owner is None]
+    return lines + [line for it in items if it.owner is not None and it.owner not in names for line in it.lines] + ['']
+
+
+def page():
+    modules, unlisted = all_modules()
+    parts = {}
+    for name in modules:
+        title = next(title for title, pattern in SECTIONS if re.match(pattern, name))
+        parts.setdefault(title, []).append(name)
+    titles = [title for title, _ in SECTIONS[1:]] + ['Laws']
+    contents, body = [], []
+    for title in titles:
+        names = [name for name, _ in sorted(((it, modules[it]) for it in parts[title]), key=number_of)]
+        links = ', '.join(f'[{name.removeprefix("dcsctp_wire::").removeprefix("packet::")}]({anchor(name)})' for name in names)
+        contents.append(f'- [{title}]({anchor(title)}): {links}')
+        body += [f'## {title}', '']
+        for name in names:
+            body += module_lines(name, *modules[name])
+    rest = 'For the libraries themselves'
+    contents.append(f'- [{rest}]({anchor(rest)})')
+    body += [f'## {rest}', '', 'What the libraries call of each other, by module: programs call what is above.', '']
+    builds = []
+    for name, items in unlisted.items():
+        builds += [f'`{it.owner}`' for it in items if it.name == 'build']
+        names = [f'`{f"{it.owner}::" if it.owner else ""}{it.name}`' for it in items if it.name != 'build']
+        body += [f'- `{name}`: {", ".join(names)}'] if names else []
+    body.append(f'- `build` of {", ".join(builds)}, which makes a kind of a value that passed its check')
+    return HEAD + '\n' + '\n'.join(contents + [''] + body) + '\n'
+
+
+def main(words):
+    if words == ['--write']:
+        with open(PAGE, 'w', encoding='utf-8') as file:
+            file.write(page())
+    elif words == ['--compare']:
+        with open(PAGE, encoding='utf-8') as file:
+            if file.read() != page():
+                sys.exit("docs/API.md isn't what the sources give: tools/api.py --write makes it anew")
+    elif words == ['--help']:
+        print(__doc__.strip())
+    else:
+        sys.exit(__doc__.strip().splitlines()[0])
+
+
+main(sys.argv[1:])
