@@ -3,13 +3,15 @@
 # The README's test command, from the root of the repository.
 set -u
 
-usage='usage: ./test.sh [--quick]
+usage='usage: ./test.sh [library | --quick]
 
 Runs the gate: the files that have to agree are compared; `rt ci` proves everything, and runs each program and test; each
 request for memory of what it built is refused; sctp_dump is run with each option; the library that it proved is tried from C;
 the texts in dist/ are made anew, compared and tried; the commands of the pages are run; and so is the page for browsers. The
 last line is that of `rt ci`.
 
+  library  what a user of the library depends on, alone: the gate without sctp_dump and the page. `rt ci` proves and tries the C
+           library, sctp_show, the rows, the tests and the crates below them. It isn'\''t the gate, and its last line says so
   --quick  for who has changed a line: what runs without a proof, within three minutes on four processors. That is the
            comparisons, and each program over its stored input by `rt try`; of wire_rows all rows but those whose packets
            are very large, or changed byte by byte. The toolchain keeps no unproved program, and makes no unproved library
@@ -18,14 +20,15 @@ last line is that of `rt ci`.
            was proved
   --help   prints this
 
-Without the toolchain rt it runs what needs none, with and without --quick: the comparisons, the texts in dist/ in each language
+Without the toolchain rt each of them runs what needs none: the comparisons, the texts in dist/ in each language
 that is installed, among them sctp_dump with each option, the C tests over the text, the commands of the pages, and the page.
 It names what it leaves out. Where a text is older than its sources, and a step over the texts fails, the failure
 is printed, but not counted. The last line says that nothing was proved, and ends in N passed, M failed'
 
-quick=
+quick= library= crates=() modules=()
 case $#:${1:-} in
     0:) ;;
+    1:library) library=yes crates=(dcsctp_c sctp_show wire_rows value_tests) modules=(dcsctp sctp_show) ;;
     1:--quick) quick=yes ;;
     1:--help) echo "$usage" && exit ;;
     *) echo "$usage" >&2 && exit 2 ;;
@@ -61,17 +64,22 @@ answers_rows_alone() {
     sed '/^ /d; /^#/!s/ = .*//' crates/wire_rows/stdin | crates/wire_rows/out/wire_rows | cmp - crates/wire_rows/stdout
 }
 
+# Runs what tries sctp_dump or the page, unless the library is tried alone.
+for_tool() {
+    [ "$library" ] || "$@"
+}
+
 run_gate() {
     local gate
     compare || exit 1
     # All that the gate prints but its last line, which waits for the rest.
-    rt ci | awk -v last="$work/last" 'NR > 1 { print line; fflush() } { line = $0 } END { print line > last }'
+    rt ci "${crates[@]}" | awk -v last="$work/last" 'NR > 1 { print line; fflush() } { line = $0 } END { print line > last }'
     gate=${PIPESTATUS[0]}
     if [ "$gate" -eq 0 ]; then
-        tests/refusals/test.sh && answers_rows_alone && tests/dump/test.sh || exit 1
+        tests/refusals/test.sh && answers_rows_alone && for_tool tests/dump/test.sh || exit 1
         tools/take_libraries.py
-        tests/c/test.sh && dist/make.py --jobs 4 --compare && compare_wasm && dist/test.sh && tools/commands.py && tools/examples.py --try &&
-            page/test.sh || exit 1
+        tests/c/test.sh && dist/make.py --jobs 4 --compare "${modules[@]}" && compare_wasm && dist/test.sh ${library:+--library} &&
+            tools/commands.py && tools/examples.py --try && for_tool page/test.sh || exit 1
     fi
     cat "$work/last"
     exit "$gate"
@@ -214,13 +222,13 @@ run_without_rt() {
     # What comes now runs over the texts.
     older=$(changed_crates)
     if has "$cc x86-64" 'texts of dist'; then
-        dist/test.sh >"$work/texts of dist.log" 2>&1 &
+        dist/test.sh ${library:+--library} >"$work/texts of dist.log" 2>&1 &
         texts=$!
     fi
     with "$cc" C tests/c/test.sh 100000
     with "$cc x86-64 python3" 'commands of the pages' tools/commands.py
-    with node 'scripts of the page' node page/tests/units.mjs
-    with 'node python3' page page/test.sh
+    for_tool with node 'scripts of the page' node page/tests/units.mjs
+    for_tool with 'node python3' page page/test.sh
     [ -z "$texts" ] || { wait $texts; report 'texts of dist' $?; }
     for name in 'the proofs, and the rows and tests of the crates' 'refused requests' 'the code of CALLING.md' \
         'whether dist/ and the WebAssembly are what the sources give'; do

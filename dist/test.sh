@@ -3,13 +3,14 @@
 # Tries the texts of dist/ as people without the toolchain use them.
 set -u
 
-usage='usage: dist/test.sh [FOLDER]
+usage='usage: dist/test.sh [--library] [FOLDER]
 
 Tries the texts with each compiler and package tool that is there, in folders of their own, with no toolchain on PATH. Each
 program has to print examples/expected.txt, and on all systems the same for 4,000 packets made at random. What is not
 installed is left out, and named. The last line is: dist: N passed, M failed, K left out.
 
 FOLDER has dist/ and bindings/, as an unpacked release; without it, this checkout has. The examples are the checkout'\''s.
+--library leaves out what runs sctp_dump over captures.
 
 Needed is a C compiler. Used where they are there: Python; gcc, clang, a C++ compiler, CMake, pkg-config, cargo (from
 1.85 on), pip, go, node (from 18 on), tsc; musl-gcc and qemu-x86_64; for arm64 aarch64-linux-gnu-gcc and qemu-aarch64; for Windows
@@ -17,6 +18,8 @@ x86_64-w64-mingw32-gcc and Wine; for riscv64 clang from 22 on and riscv64-linux-
 libc6-dev-arm64-cross, gcc-mingw-w64-x86-64, wine64 and golang-github-pion-sctp-dev. For the archive of a
 release git, and for Debian'\''s packages debhelper, lintian and mandoc, by these names.'
 
+library=
+[ "${1:-}" != --library ] || { library=yes && shift; }
 case ${1:-} in
     --help) echo "$usage" && exit ;;
     -*) echo "$usage" >&2 && exit 2 ;;
@@ -747,6 +750,8 @@ texts() {
     with "$cc" "the processor's CRC32c" processor
     with 'clang clang-memory' 'MemorySanitizer' memory
     with "$cc" '20,000 packets against a second reader' fuzz
+    with "$cc" 'sctp_show' sctp_show "$cc"
+    with musl-gcc 'sctp_show, static by musl-gcc' sctp_show musl-gcc -static
 }
 
 cmake_and_cpp() {
@@ -760,8 +765,6 @@ cmake_and_cpp() {
 }
 
 programs() {
-    with "$cc" 'sctp_show' sctp_show "$cc"
-    with musl-gcc 'sctp_show, static by musl-gcc' sctp_show musl-gcc -static
     with "$cc" 'sctp_dump' sctp_dump "$cc"
     with "$cc python3" 'sctp_dump, interrupted' interrupted "$cc"
     with 'musl-gcc readelf' 'sctp_dump, as a static PIE by musl-gcc' static_pie
@@ -807,7 +810,8 @@ run_group() {
 }
 
 run_group first
-groups=(texts cmake_and_cpp programs programs_elsewhere rust python_and_javascript go_and_release)
+groups=(texts cmake_and_cpp rust python_and_javascript go_and_release)
+[ "$library" ] || groups+=(programs programs_elsewhere)
 for group in "${groups[@]}"; do
     run_group "$group" >"$all/$group.log" 2>&1 &
 done
