@@ -8,3 +8,5 @@ pub mod Changes
 pub mod ListPlaces
 pub mod NumberPairs
 pub mod CheckedRows
+pub mod FrameItems
+pub mod PacketItems

@@ -10,3 +10,6 @@ pub mod CookieEcho
 pub mod HeartbeatInfo
 pub mod ReConfig
 pub mod MissingParameters
+pub mod ChecksumField
+pub mod Grammar
+pub mod Part

@@ -11,7 +11,7 @@ use dcsctp_crc32c::packet_word;
 use dcsctp_wire::api::ZeroChecksumAlternateErrorDetectionMethod;
 use dcsctp_wire::laws::has_widths;
 use dcsctp_wire::packet::sctp_packet::{ChecksumPolicy, SctpPacket};
-use sctp_report::PacketReport;
+use dump_report::PacketReport;
 use std::alloc::Global;
 use std::fmt;
 use std::fmt::Write as _;

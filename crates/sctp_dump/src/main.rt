@@ -1,10 +1,28 @@
 //! Prints the SCTP packets of a capture: of standard input, or of the files that are named.
+//!
+//! `run` reads the arguments, and opens the inputs. `read_input` hands the events of an input to a
+//! printer, over a reader that may fail; `EventPrinter` prints them to a writer that may.
 #![tactic(auto)]
 
-#[cfg(test)]
-mod tests;
+mod arguments;
+mod counts;
+mod engine;
+mod event_printer;
+mod failure;
+mod host;
+mod input;
+mod log_clock;
+mod name;
+mod options;
+mod printer;
+mod seen;
+mod skipped;
+mod stop;
+mod stream;
+mod summary;
+mod when;
 
-use dump_engine::run;
+use crate::host::run;
 use std::process::ExitCode;
 
 fn main(rt: HostRuntime) -> ExitCode {

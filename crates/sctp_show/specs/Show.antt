@@ -2,8 +2,8 @@
 use Rattle.std.specs.Prelude.{◌≡◌, ◌↔◌, ◌≤◌, ◌<◌, ◌⊎◌, ℕ, ◌||◌, ◌==◌, Bool, true, false, not, List, ◌++◌, length, take, codes, Option, Some, Result, Ok, Err, IsErr, IfSome}
 use Rattle.std.specs.List.{filter}
 use Rattle.std.specs.Io.KnownBytes.{Consumes, Appends}
-use Rattle.watched_io.specs.Watched.{Change}
-use Rattle.watched_io.specs.Transfer.{TakesAtMost, AppendsBeginning}
+use Rattle.dump_io.specs.Watched.{Change}
+use Rattle.dump_io.specs.Transfer.{TakesAtMost, AppendsBeginning}
 use Rattle.hex.specs.Hex.{decode_of, encode_lower}
 use Rattle.dcsctp_wire.specs.declared.packet.sctp_packet.ChecksumPolicy.{ChecksumPolicy}
 use Rattle.dcsctp_wire.specs.Packet.{Meaning, PacketTree, PacketFault, Size, Checksum, Chunk, Answer}

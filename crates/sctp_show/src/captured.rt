@@ -6,7 +6,7 @@ ghost use Rattle.sctp_show.specs.Captured.{captured};
 
 use crate::engine::show;
 use std::alloc::{AllocError, Global};
-use watched_io::watched::Watched;
+use dump_io::watched::Watched;
 
 /// What a run wrote, and its status.
 #[derive(Drop)]

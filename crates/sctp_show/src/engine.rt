@@ -2,8 +2,8 @@
 ghost use Rattle.std.specs.Prelude.{◌≡◌, ◌⊎◌, ◌↔◌, ◌<◌, ◌≤◌, true, false, take, length, IfOk, IfErr, IfSome, OnErr};
 ghost use Rattle.std.specs.Io.KnownBytes.{Consumes};
 ghost use Rattle.dcsctp_wire.specs.Frame.{lenient};
-ghost use Rattle.watched_io.specs.Watched.{device_of, has_failed, is_flushed, change};
-ghost use Rattle.watched_io.specs.Transfer.{TakesAtMost};
+ghost use Rattle.dump_io.specs.Watched.{device_of, has_failed, is_flushed, change};
+ghost use Rattle.dump_io.specs.Transfer.{TakesAtMost};
 ghost use Rattle.sctp_show.specs.Show.{MayAnswer, Writes, WritesBeginning, Runs};
 ghost use Rattle.sctp_show.specs.Reply.{reply_of};
 
@@ -11,8 +11,8 @@ use crate::answer::{MOST_BYTES, answer_to};
 use crate::failure::Failure;
 use std::alloc::Global;
 use std::io::{Read, Write};
-use watched_io::transfer::{fill, write_bytes};
-use watched_io::watched::Watched;
+use dump_io::transfer::{fill, write_bytes};
+use dump_io::watched::Watched;
 
 // A longer input is known by one byte too many.
 const MOST_READ: usize = MOST_BYTES + 1;

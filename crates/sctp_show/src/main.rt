@@ -12,7 +12,7 @@ mod text;
 use crate::engine::show;
 use std::io;
 use std::process::ExitCode;
-use watched_io::watched::Watched;
+use dump_io::watched::Watched;
 
 fn main(rt: HostRuntime) -> ExitCode {
     let mut input = Watched::new(rt.reader());

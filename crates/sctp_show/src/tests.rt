@@ -10,8 +10,8 @@ mod strict;
 use crate::captured::show_captured;
 use crate::engine::{show, show_strict};
 use std::alloc::{AllocError, Global};
-use watched_io::faulty::{Plan, Sink, Source, steps};
-use watched_io::watched::Watched;
+use dump_io::faulty::{Plan, Sink, Source, steps};
+use dump_io::watched::Watched;
 
 /// A SACK that was captured, after a common header.
 const SACK: &str =

@@ -1,5 +1,5 @@
 //! Packets of real peers, and what is printed of them: the rows of docs/CAPTURES.md. Written by
-//! `tools/captures.py --write`.
+//! `docs/captures.py --write`.
 
 use crate::tests::{captured, first_wrong};
 use std::alloc::Global;

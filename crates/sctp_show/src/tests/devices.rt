@@ -3,7 +3,7 @@
 use crate::tests::{READ_FAILED, SACK, SACK_TEXT, SMALL, SMALL_TEXT, run};
 use std::alloc::Global;
 use std::io::ErrorKind;
-use watched_io::faulty::{Fault, INTERRUPTED, fails, steps};
+use dump_io::faulty::{Fault, INTERRUPTED, fails, steps};
 
 /// A text, how many bytes its reader gives a call, and how many its writer takes.
 const READS: &[(&str, usize, usize)] = &[

@@ -1,7 +1,7 @@
 use Rattle.std.proofs.Common.{◌≡◌, false, [], subst, sym}
 use Rattle.dcsctp_wire.specs.Frame.{lenient}
 use Rattle.sctp_show.specs.Show.{MayShow}
-use Rattle.watched_io.specs.Watched.{device_of, has_failed}
+use Rattle.dump_io.specs.Watched.{device_of, has_failed}
 use Rattle.sctp_show.proofs.InMemory.{MayShow-written, told_as_known}
 use Rattle.sctp_show.proofs.captured.show_captured.Goals as goal
 

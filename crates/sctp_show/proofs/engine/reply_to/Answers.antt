@@ -1,5 +1,5 @@
 use Rattle.std.proofs.Common.{◌≡◌, ◌↔◌, true, subst}
-use Rattle.watched_io.specs.Watched.{has_failed}
+use Rattle.dump_io.specs.Watched.{has_failed}
 use Rattle.sctp_show.specs.Show.{MayAnswer}
 use Rattle.sctp_show.specs.declared.failure.Failure.TheVariants.{Read}
 use Rattle.sctp_show.proofs.ShowLemmas.{reply_of-err, MayAnswer-unread, MayAnswer-shown}

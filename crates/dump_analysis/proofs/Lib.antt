@@ -1,0 +1,9 @@
+pub mod Buckets
+pub mod Calendar
+pub mod ChunkCounts
+pub mod HeaderCounts
+pub mod Slots
+pub mod Blocks
+pub mod Looks
+pub mod SackBlocks
+pub mod Seen

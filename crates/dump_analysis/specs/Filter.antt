@@ -1,0 +1,53 @@
+-- The packets that a filter passes.
+use Rattle.std.specs.Prelude.{◌&&◌, ◌||◌, not, Bool, true, false, ℕ, nat_le, Option, Some, None, List, length, bytes_eq}
+use Rattle.std.specs.List.{list_any}
+use Rattle.dump_capture.specs.Frame.{Packet}
+use Rattle.dump_capture.specs.declared.frame.Addresses.{Addresses}
+use Rattle.dump_capture.specs.declared.frame.Addresses.TheVariants as addresses
+use Rattle.dcsctp_borrowed.specs.Part.{Part, Item}
+use Rattle.dump_analysis.specs.Chunks.{has_port, has_tag, has_checksum, is_whole, is_of_type, is_on_stream, has_ppid}
+use Rattle.dump_analysis.specs.declared.filter.Filter.{Filter}
+use Rattle.dump_analysis.specs.declared.filter.Host.{Host}
+use Rattle.dump_analysis.specs.declared.filter.Host.TheVariants as host
+
+abbrev pub part_in : Packet → Part
+part_in p = record { bytes = p.bytes; size = p.length }
+
+-- what isn't asked for is met
+abbrev pub meets : {A : Type 0} → Option A → (A → Bool) → Bool
+meets None test = true
+meets (Some a) test = test a
+
+-- It comes from the address or goes to it.
+abbrev pub has_host : Host → Option Addresses → Bool
+has_host (host.V4 h) (Some (addresses.V4 from to)) = bytes_eq h from || bytes_eq h to
+has_host (host.V6 h) (Some (addresses.V6 from to)) = bytes_eq h from || bytes_eq h to
+has_host (host.V4 h) (Some (addresses.V6 from to)) = false
+has_host (host.V6 h) (Some (addresses.V4 from to)) = false
+has_host h None = false
+
+-- All of it was captured, and its checksum field is neither the word (RFC 9260 section 6.8) nor 0
+-- (RFC 9653 section 5.2).
+abbrev pub has_wrong_checksum : ℕ → Part → Bool
+has_wrong_checksum word p =
+    is_whole p && nat_le 12 (length p.bytes)
+    && not (has_checksum word p || has_checksum 0 p)
+
+-- what is asked of the headers
+abbrev pub passes_headers : Filter → Part → Option Addresses → Bool
+passes_headers f p addresses =
+    meets f.port (λ port. has_port port p) && meets f.tag (λ tag. has_tag tag p)
+    && meets f.host (λ host. has_host host addresses)
+
+-- what is asked of the chunks
+abbrev pub passes_chunks : Filter → List Item → Bool
+passes_chunks f chunks =
+    meets f.chunk (λ typ. list_any (is_of_type typ) chunks)
+    && meets f.stream (λ stream. list_any (is_on_stream stream) chunks)
+    && meets f.ppid (λ ppid. list_any (has_ppid ppid) chunks)
+
+-- the packet of this number, its checksum word, and its chunks that are looked at
+abbrev pub passes : Filter → ℕ → Packet → ℕ → List Item → Bool
+passes f number p word chunks =
+    nat_le f.first number && nat_le number f.last && passes_headers f (part_in p) p.addresses
+    && passes_chunks f chunks && (not f.wrong || has_wrong_checksum word (part_in p))

@@ -1,0 +1,16 @@
+pub mod Acknowledged
+pub mod Buckets
+pub mod Calendar
+pub mod Counts
+pub mod Order
+pub mod Questions
+pub mod RoundTrips
+pub mod Serial
+pub mod Sides
+pub mod Table
+pub mod Tsns
+pub mod Chunks
+pub mod ChunkTest
+pub mod Filter
+pub mod Items
+pub mod Rule

@@ -1,0 +1,31 @@
+-- The ends of an association, and one that left the table.
+use Rattle.std.specs.Prelude.{◌≡◌, ◌⊎◌, Bool, true, Box, Option, Some, None}
+use Rattle.std.specs.declared.alloc.Global.{Global}
+use Rattle.dump_analysis.specs.declared.association.Side.{Side}
+use Rattle.dump_analysis.specs.declared.association.Side.TheVariants.{First, Second}
+use Rattle.dump_analysis.specs.declared.association.Association.{Association}
+use Rattle.dump_analysis.specs.declared.counts.Counts.{Counts}
+use Rattle.dump_analysis.specs.declared.end.End.{End}
+
+abbrev pub other : Side → Side
+other First = Second
+other Second = First
+
+abbrev pub end_of : Side → Association → End
+end_of First a = a.first
+end_of Second a = a.second
+
+-- what is counted of the packets that an end sent
+abbrev pub counts_of : Side → Association → Counts
+counts_of First a = a.first.counts
+counts_of Second a = a.second.counts
+
+-- what is returned, if something is, says that it left the table
+abbrev pub HasLeft : Option (Box Association Global) → Type 0
+HasLeft (Some a) = a.value.has_left ≡ true
+HasLeft None = Unit {0}
+
+-- Its INIT or INIT ACK says of one of the ends whether it accepts zero checksums (RFC 9653
+-- section 4).
+abbrev pub SaysOfZero : Bool → Association → Type 0
+SaysOfZero says a = (a.first.accepts_zero ≡ Some says) ⊎ (a.second.accepts_zero ≡ Some says)

@@ -1,0 +1,28 @@
+-- How many packets the table of associations has counted.
+use Rattle.std.specs.Prelude.{◌≡◌, ◌+◌, ℕ, List, Box, Option, Some, None}
+use Rattle.std.specs.List.{sum_by}
+use Rattle.std.specs.declared.alloc.Global.{Global}
+use Rattle.dump_capture.specs.Number.{one_more}
+use Rattle.dump_analysis.specs.declared.association.Association.{Association}
+use Rattle.dump_analysis.specs.declared.membership.Membership.{Membership}
+
+-- those that the two ends of an association sent
+abbrev pub packets_of : Association → ℕ
+packets_of a = a.first.counts.packets + a.second.counts.packets
+
+abbrev pub packets_in : List (Box Association Global) → ℕ
+packets_in table = sum_by (λ a. packets_of a.value) table
+
+-- those of the associations in the table, and those of none
+abbrev pub counted : List (Box Association Global) → ℕ → ℕ
+counted table unknown = packets_in table + unknown
+
+-- those of the association that left the table, if one did
+abbrev pub packets_left : Option (Box Association Global) → ℕ
+packets_left (Some a) = packets_of a.value
+packets_left None = 0
+
+-- a packet is unknown if it is of no association, and else isn't
+abbrev pub CountsUnknown : Option Membership → ℕ → ℕ → Type 0
+CountsUnknown (Some _) before after = after ≡ before
+CountsUnknown None before after = after ≡ one_more before

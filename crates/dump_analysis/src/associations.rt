@@ -1,0 +1,456 @@
+//! The table of associations.
+
+ghost use Rattle.std.specs.Prelude.{◌≤◌, ◌<◌, ◌≡◌, ◌+◌, ◌-◌, ◌^◌, max, if◌then◌else◌, is_some, vec_len, IfOk};
+ghost use Rattle.std.specs.List.{Any};
+ghost use Rattle.std.specs.List.Sorted.{IsNonDecreasingBy};
+ghost use Rattle.std.specs.Option.{IfSome};
+ghost use Rattle.dump_analysis.specs.Sides.{HasLeft, SaysOfZero};
+ghost use Rattle.dump_capture.specs.Number.{one_more};
+ghost use Rattle.dump_analysis.specs.Table.{CountsUnknown, counted, packets_of, packets_in, packets_left};
+
+use crate::association::{Association, Began, Side};
+use crate::chunk_type::COOKIE_ECHO;
+use crate::counts::{SeenPacket, increase};
+use crate::end::{End, Learned};
+use crate::key::{Arrival, Route};
+use crate::keys::{Flow, Keys};
+use crate::membership::Membership;
+use crate::order::Order;
+use crate::transport::TransportNames;
+use std::alloc::{AllocError, Global};
+use std::mem;
+
+/// Whose packet a packet is.
+#[derive(Clone, Copy, Debug)]
+enum Owner {
+    /// It is of an association, and from this end.
+    Known(Flow),
+    /// It is of an association that left.
+    Gone,
+    /// It is of none, but goes between the ends of the living association in this slot.
+    Beside(usize),
+    /// It begins an association.
+    New,
+}
+
+/// What was noted of a packet.
+#[derive(Drop)]
+pub struct Noted {
+    /// The association that it is of.
+    pub of: Option<Membership>,
+    /// The association that left the table, if it was full and the packet began another.
+    pub left: Option<Box<Association>>,
+}
+
+/// The associations of a capture, in bounded memory.
+///
+/// A packet belongs to the association whose end chose its tag, between the same ports, and of a log
+/// in the same direction and of the same transport. One with an unknown tag belongs to the
+/// association between the same ends of which no tag of that end is known. A packet of an
+/// association that left is of none, and begins none; so is one between the ends of a living
+/// association of which it has neither tag, unless it begins with an INIT. Packets that are refused,
+/// or have a wrong checksum, belong to one as others do.
+#[derive(Drop)]
+pub struct Associations {
+    alloc: Global,
+    most: usize,
+    begun: u64,
+    left: u64,
+    unknown: u64,
+    table: Vec<Box<Association>>,
+    order: Order,
+    keys: Keys,
+    names: TransportNames,
+    ghost bounded: { vec_len table ≤ most },
+}
+
+impl Associations {
+    /// Returns none; at most `most` will be kept, or one if that is 0.
+    pub fn new(alloc: Global, most: usize) -> Result<Associations, AllocError>
+        ensures { IfOk result (λ r. (r.most ≡ max most 1) × (counted r.table.items r.unknown ≡ 0)) }
+    {
+        let most = most.max(1);
+        Ok(Associations {
+            alloc,
+            most,
+            begun: 0,
+            left: 0,
+            unknown: 0,
+            table: Vec::new(alloc),
+            order: Order::new(alloc)?,
+            keys: Keys::new(alloc, most.saturating_mul(4)),
+            names: TransportNames::new(alloc),
+        })
+    }
+
+    /// Counts a packet, once: of one end of one association, or as unknown.
+    pub fn see(&mut self, packet: &SeenPacket<'_>) -> Result<Noted, AllocError>
+        ensures unknown { IfOk result (λ noted. CountsUnknown noted.of self.old.unknown self.new.unknown) }
+        ensures left { IfOk result (λ noted. HasLeft noted.left) }
+        ensures counted { counted self.old.table.items self.old.unknown < 2 ^ 64 - 1 → IfOk result (λ noted. counted self.new.table.items self.new.unknown + packets_left noted.left ≡ counted self.old.table.items self.old.unknown + 1) }
+    {
+        let mut of = None;
+        match Arrival::of(packet, &self.names) {
+            Some(arrival) => {
+                self.names.keep(arrival.transport, arrival.route.transport)?;
+                match self.find(&arrival) {
+                    Owner::Known(flow) => of = self.note(flow, &arrival)?,
+                    Owner::Gone => increase(&mut self.unknown),
+                    Owner::Beside(slot) => self.note_beside(slot),
+                    Owner::New => return self.begin(&arrival),
+                }
+            }
+            None => increase(&mut self.unknown),
+        }
+        Ok(Noted { of, left: None })
+    }
+
+    /// Returns whether the end to which a packet goes announced Zero Checksum Acceptable (RFC 9653
+    /// section 4); `None` if neither its INIT nor its INIT ACK was seen.
+    pub fn accepts_zero(&self, packet: &SeenPacket<'_>) -> Option<bool>
+        ensures { IfSome result (λ says. Any (λ a. SaysOfZero says a.value) self.now.table.items) }
+    {
+        let arrival = Arrival::of(packet, &self.names)?;
+        let Owner::Known(flow) = self.find(&arrival) else {
+            return None;
+        };
+        let association = self.table.get(flow.slot)?;
+        association.end(flow.sender.other()).accepts_zero
+    }
+
+    /// Returns whether an end of the association of a packet sent DATA, and whether one sent I-DATA.
+    pub fn user_data(&self, packet: &SeenPacket<'_>) -> (bool, bool) {
+        let Some(arrival) = Arrival::of(packet, &self.names) else {
+            return (false, false);
+        };
+        let Owner::Known(flow) = self.find(&arrival) else {
+            return (false, false);
+        };
+        match self.table.get(flow.slot) {
+            Some(association) => {
+                let (first, second) = (&association.first.counts, &association.second.counts);
+                (
+                    first.has_data() || second.has_data(),
+                    first.i_data_chunks > 0 || second.i_data_chunks > 0,
+                )
+            }
+            None => (false, false),
+        }
+    }
+
+    /// Returns how many associations left the table, up to 2^64 - 1.
+    pub fn left(&self) -> u64
+        ensures { result ≡ self.now.left }
+    {
+        self.left
+    }
+
+    /// Returns how many packets are of no association, up to 2^64 - 1: those of associations that
+    /// left, those out of the blue, and those whose common header wasn't captured.
+    pub fn unknown(&self) -> u64
+        ensures { result ≡ self.now.unknown }
+    {
+        self.unknown
+    }
+
+    /// Returns those that didn't leave the table, in the order in which they began.
+    pub fn into_vec(self) -> Vec<Box<Association>>
+        ensures bounded { vec_len result ≤ self.most }
+        ensures ordered { IsNonDecreasingBy (λ a. a.value.number) result.items }
+    {
+        let mut associations = self.table;
+        associations.sort_unstable_by_key(|association| association.number);
+        associations
+    }
+
+    /// Returns whose packet it is.
+    fn find(&self, arrival: &Arrival<'_, '_>) -> Owner {
+        if let Some(flow) = self.keys.find(arrival) {
+            return Owner::Known(flow);
+        }
+        if self.keys.is_gone(arrival) {
+            return Owner::Gone;
+        }
+        for sender in [Side::First, Side::Second] {
+            if let Some(slot) = self.keys.on_route(arrival.route, sender) {
+                if self.joins(arrival, slot, sender) {
+                    return Owner::Known(Flow { slot, sender });
+                }
+            }
+        }
+        if arrival.is_init() || !arrival.route.is_exclusive() {
+            return Owner::New;
+        }
+        match self.latest(arrival.route) {
+            Some(slot) if self.lives(slot) => Owner::Beside(slot),
+            _ => Owner::New,
+        }
+    }
+
+    /// Returns whether a packet with an unknown tag is of the latest association on its route, in
+    /// which this end sends on it.
+    fn joins(&self, arrival: &Arrival<'_, '_>, slot: usize, sender: Side) -> bool {
+        let Some(association) = self.table.get(slot) else {
+            return false;
+        };
+        let (from, to) = (association.end(sender), association.end(sender.other()));
+        let is_initiated = !association.is_midway() && association.ended.is_none();
+        if arrival.route.has_equal_ends() && !association.is_midway() {
+            // Its INIT ACK has its tag.
+            return false;
+        }
+        if arrival.is_init() {
+            // Both ends may send an INIT (RFC 9260 section 5.2.1), each with a tag of its own.
+            return is_initiated && from.tag.is_none() && to.tag != arrival.initiate_tag();
+        }
+        if arrival.is_reflected() {
+            return false;
+        }
+        // An INIT that is sent again may be answered by several tags.
+        let is_answer = arrival.chunk() == Some(COOKIE_ECHO)
+            && is_initiated
+            && association.established.is_none();
+        to.tag.is_none() || is_answer
+    }
+
+    /// Returns the slot of the latest association on a route, in either direction.
+    fn latest(&self, route: Route) -> Option<usize> {
+        let there = self.keys.on_route(route, Side::First);
+        there.or(self.keys.on_route(route, Side::Second))
+    }
+
+    /// Returns whether an association didn't end.
+    fn lives(&self, slot: usize) -> bool {
+        match self.table.get(slot) {
+            Some(association) => association.ended.is_none(),
+            None => false,
+        }
+    }
+
+    /// Counts a packet beside an association.
+    fn note_beside(&mut self, slot: usize)
+        ensures unknown { self.new.unknown ≡ one_more self.old.unknown }
+        ensures counted { counted self.old.table.items self.old.unknown < 2 ^ 64 - 1 → counted self.new.table.items self.new.unknown ≡ counted self.old.table.items self.old.unknown + 1 }
+    {
+        increase(&mut self.unknown);
+        count_beside(&mut self.table, slot);
+    }
+
+    /// Counts a packet of an association.
+    fn note(
+        &mut self,
+        flow: Flow,
+        arrival: &Arrival<'_, '_>,
+    ) -> Result<Option<Membership>, AllocError>
+        ensures unknown { IfOk result (λ of. CountsUnknown of self.old.unknown self.new.unknown) }
+        ensures counted { counted self.old.table.items self.old.unknown < 2 ^ 64 - 1 → IfOk result (λ _. counted self.new.table.items self.new.unknown ≡ counted self.old.table.items self.old.unknown + 1) }
+    {
+        let (sender, receiver) = (flow.sender, flow.sender.other());
+        if let Some(tag) = arrival.initiate_tag() {
+            self.learn(flow.slot, sender, tag)?;
+        }
+        if arrival.is_reflected() {
+            self.learn(flow.slot, sender, arrival.tag)?;
+        } else if arrival.tag != 0 {
+            self.learn(flow.slot, receiver, arrival.tag)?;
+        }
+        let had_ended = !self.lives(flow.slot);
+        let of = count_of(&mut self.table, flow, arrival.packet);
+        if of.is_none() {
+            increase(&mut self.unknown);
+        } else if !had_ended {
+            self.note_order(flow.slot)?;
+        }
+        Ok(of)
+    }
+
+    /// Notes that a packet came of an association that lived before it.
+    fn note_order(&mut self, slot: usize) -> Result<(), AllocError>
+        ensures unknown { self.new.unknown ≡ self.old.unknown }
+        ensures counted { counted self.new.table.items self.new.unknown ≡ counted self.old.table.items self.old.unknown }
+    {
+        if self.lives(slot) {
+            self.order.touch(slot)
+        } else {
+            self.order.end(slot)
+        }
+    }
+
+    /// Notes the tag of an end.
+    fn learn(&mut self, slot: usize, side: Side, tag: u32) -> Result<(), AllocError>
+        ensures unknown { self.new.unknown ≡ self.old.unknown }
+        ensures counted { counted self.new.table.items self.new.unknown ≡ counted self.old.table.items self.old.unknown }
+    {
+        let Some(learned) = learn_tag(&mut self.table, slot, side, tag) else {
+            return Ok(());
+        };
+        let Learned::New { forgotten } = learned.what else {
+            return Ok(());
+        };
+        let flow = Flow {
+            slot,
+            sender: side.other(),
+        };
+        if let Some(forgotten) = forgotten {
+            let _ = self.keys.forget_flow(learned.route, flow, forgotten);
+        }
+        self.keys.add_flow(learned.route, flow, tag)
+    }
+
+    /// Begins an association by a packet.
+    fn begin(&mut self, arrival: &Arrival<'_, '_>) -> Result<Noted, AllocError>
+        ensures unknown { IfOk result (λ noted. CountsUnknown noted.of self.old.unknown self.new.unknown) }
+        ensures left { IfOk result (λ noted. HasLeft noted.left) }
+        ensures counted { counted self.old.table.items self.old.unknown < 2 ^ 64 - 1 → IfOk result (λ noted. counted self.new.table.items self.new.unknown + packets_left noted.left ≡ counted self.old.table.items self.old.unknown + 1) }
+    {
+        let restart_of = self.restarted(arrival);
+        self.begun = self.begun.saturating_add(1);
+        let association = Box::new(self.alloc, begun_by(arrival, self.begun, restart_of))?;
+        let (slot, left) = self.place(association)?;
+        self.keys.add_route(arrival.route, slot)?;
+        let sender = Side::First;
+        let of = self.note(Flow { slot, sender }, arrival)?;
+        Ok(Noted { of, left })
+    }
+
+    /// Returns the number of the association that an INIT restarts: one that was established between
+    /// the same ends, and lives.
+    fn restarted(&self, arrival: &Arrival<'_, '_>) -> Option<u64> {
+        if !arrival.is_init() || !arrival.route.is_exclusive() {
+            return None;
+        }
+        let association = self.table.get(self.latest(arrival.route)?)?;
+        let was_established = association.is_midway() || association.established.is_some();
+        if association.ended.is_some() || !was_established {
+            return None;
+        }
+        Some(association.number)
+    }
+
+    /// Puts an association without packets into the table. Returns its slot, and the one that left
+    /// the table, if it was full.
+    fn place(
+        &mut self,
+        association: Box<Association>,
+    ) -> Result<(usize, Option<Box<Association>>), AllocError>
+        requires { packets_of association.value ≡ 0 }
+        ensures unknown { self.new.unknown ≡ self.old.unknown }
+        ensures left { IfOk result (λ placed. HasLeft placed.1) }
+        ensures counted { IfOk result (λ placed. counted self.new.table.items self.new.unknown + packets_left placed.1 ≡ counted self.old.table.items self.old.unknown) }
+    {
+        if self.table.len() < self.most {
+            let slot = self.table.len();
+            self.table.push(association)?;
+            self.order.touch(slot)?;
+            return Ok((slot, None));
+        }
+        // A full table has a slot at least.
+        let slot = self.order.first().unwrap_or(0);
+        if let Some(leaving) = self.table.get(slot) {
+            self.keys.forget(slot, leaving)?;
+        }
+        self.order.touch(slot)?;
+        let left = replace(&mut self.table, slot, association);
+        if left.is_some() {
+            increase(&mut self.left);
+        }
+        Ok((slot, left))
+    }
+}
+
+/// Returns an association that a packet begins, without packets.
+fn begun_by(arrival: &Arrival<'_, '_>, number: u64, restart_of: Option<u64>) -> Association
+    ensures { packets_of result ≡ 0 }
+{
+    let (route, packet) = (arrival.route, arrival.packet);
+    Association {
+        number,
+        restart_of,
+        has_left: false,
+        passes: false,
+        transport: arrival.transport,
+        route,
+        first: End::new(route.from.address, route.from.port),
+        second: End::new(route.to.address, route.to.port),
+        began: Began {
+            packet: packet.number,
+            nanoseconds: packet.nanoseconds,
+            chunk: arrival.chunk(),
+        },
+        established: None,
+        ended: None,
+        last: packet.nanoseconds,
+        out_of_the_blue: 0,
+    }
+}
+
+/// What an association learned of a tag, and its route.
+#[derive(Clone, Copy)]
+struct LearnedTag {
+    what: Learned,
+    route: Route,
+}
+
+/// Notes the tag of an end of the association in a slot, if there is one.
+fn learn_tag(
+    table: &mut Vec<Box<Association>>,
+    slot: usize,
+    side: Side,
+    tag: u32,
+) -> Option<LearnedTag>
+    ensures size { vec_len table.new ≡ vec_len table.old }
+    ensures packets { packets_in table.new.items ≡ packets_in table.old.items }
+{
+    let association = table.get_mut(slot)?;
+    let what = association.learn(side, tag);
+    Some(LearnedTag {
+        what,
+        route: association.route,
+    })
+}
+
+/// Counts a packet of the association in a slot. Returns `None` if there is none.
+fn count_of(
+    table: &mut Vec<Box<Association>>,
+    flow: Flow,
+    packet: &SeenPacket<'_>,
+) -> Option<Membership>
+    ensures sender { IfSome result (λ member. member.sender ≡ flow.sender) }
+    ensures size { vec_len table.new ≡ vec_len table.old }
+    ensures packets { packets_in table.old.items < 2 ^ 64 - 1 → packets_in table.new.items ≡ packets_in table.old.items + (if is_some result then 1 else 0) }
+{
+    let association = table.get_mut(flow.slot)?;
+    let sequence = association.note(flow.sender, packet);
+    Some(Membership {
+        association: association.number,
+        sender: flow.sender,
+        sequence,
+    })
+}
+
+/// Counts a packet beside the association in a slot, if there is one.
+fn count_beside(table: &mut Vec<Box<Association>>, slot: usize)
+    ensures size { vec_len table.new ≡ vec_len table.old }
+    ensures packets { packets_in table.new.items ≡ packets_in table.old.items }
+{
+    if let Some(association) = table.get_mut(slot) {
+        increase(&mut association.out_of_the_blue);
+    }
+}
+
+/// Puts an association without packets into a slot. Returns the one that leaves it, if there is one.
+fn replace(
+    table: &mut Vec<Box<Association>>,
+    slot: usize,
+    association: Box<Association>,
+) -> Option<Box<Association>>
+    requires { packets_of association.value ≡ 0 }
+    ensures size { vec_len table.new ≡ vec_len table.old }
+    ensures left { HasLeft result }
+    ensures packets { packets_in table.new.items + packets_left result ≡ packets_in table.old.items }
+{
+    let place = table.get_mut(slot)?;
+    let mut left = mem::replace(place, association);
+    left.has_left = true;
+    Some(left)
+}

@@ -1,0 +1,272 @@
+//! What is counted of the packets that one end of an association sent.
+
+ghost use Rattle.std.specs.Prelude.{◌≡◌};
+ghost use Rattle.dcsctp_borrowed.specs.Part.{item_of};
+ghost use Rattle.dump_capture.specs.Number.{one_more};
+ghost use Rattle.dump_analysis.specs.Counts.{nothing, with_chunk, with_data, with_i_data, with_forward_tsn, with_sack, with_nr_sack, with_report, with_header, with_window, CountsChunks, CountsPacket, packet_of};
+
+use crate::chunk_type::{DATA, FORWARD_TSN, HEARTBEAT, I_DATA, I_FORWARD_TSN, INIT, NR_SACK, SACK};
+use crate::packet_number::PacketNumber;
+use dcsctp_wire::packet::sctp_packet::COMMON_HEADER_SIZE;
+use dcsctp_wire::packet::{read_u16_be, read_u32_be};
+use dump_capture::frame::{Addresses, FoundPacket};
+use dump_capture::line::Direction;
+use dcsctp_borrowed::checksum::Checksum;
+use dcsctp_borrowed::part::{Item, Items, Part};
+use std::net::{IpAddr, Ipv4Addr, Ipv6Addr};
+
+/// A packet of a capture.
+#[derive(Clone, Copy, Debug)]
+pub struct SeenPacket<'a> {
+    /// Its number.
+    pub number: PacketNumber,
+    /// When it was captured, in nanoseconds since 1970-01-01 00:00:00 UTC.
+    pub nanoseconds: Option<u64>,
+    /// The packet.
+    pub found: FoundPacket<'a>,
+    /// Where it went, if that is known: in a log.
+    pub direction: Option<Direction>,
+    /// The name of its transport in a log; empty if it has none.
+    pub transport: &'a [u8],
+    /// What is known of its checksum field.
+    pub checksum: Checksum,
+    /// Whether it was refused.
+    pub is_refused: bool,
+    /// Whether a filter passes it.
+    pub passes: bool,
+}
+
+impl<'a> SeenPacket<'a> {
+    /// Returns the addresses of the sender and of the receiver.
+    pub fn addresses(&self) -> (Option<IpAddr>, Option<IpAddr>) {
+        match self.found.addresses {
+            None => (None, None),
+            Some(
+                Addresses::V4 {
+                    source,
+                    destination,
+                },
+            ) => {
+                let (source, destination) = (Ipv4Addr::from(source), Ipv4Addr::from(destination));
+                (Some(IpAddr::V4(source)), Some(IpAddr::V4(destination)))
+            }
+            Some(
+                Addresses::V6 {
+                    source,
+                    destination,
+                },
+            ) => {
+                let (source, destination) = (Ipv6Addr::from(source), Ipv6Addr::from(destination));
+                (Some(IpAddr::V6(source)), Some(IpAddr::V6(destination)))
+            }
+        }
+    }
+
+    /// Returns the chunks, as far as they can be read.
+    pub fn chunks(&self) -> Items<'a>
+        ensures { result ≡ (packet_of self.now).chunks }
+    {
+        Part::packet(self.found.packet, self.found.length)
+            .after(COMMON_HEADER_SIZE)
+            .items()
+    }
+}
+
+/// The least window that an end advertised, in bytes, and the first packet that did.
+#[derive(Clone, Copy, Debug, PartialEq, Eq)]
+pub struct LeastWindow {
+    /// The window (RFC 9260 section 3.3.4).
+    pub a_rwnd: u32,
+    /// The packet's number.
+    pub packet: PacketNumber,
+}
+
+/// What is counted of the packets that one end sent, up to 2^64 - 1 each.
+#[derive(Clone, Copy, Debug)]
+pub struct Counts {
+    /// Packets.
+    pub packets: u64,
+    /// Those that were refused,
+    pub refused: u64,
+    /// those whose checksum field is zero, where another is expected,
+    pub zero: u64,
+    /// and those whose field is wrong.
+    pub wrong: u64,
+    /// INIT chunks.
+    pub inits: u64,
+    /// DATA and I-DATA chunks,
+    pub data_chunks: u64,
+    /// those of them that are I-DATA,
+    pub i_data_chunks: u64,
+    /// and the bytes of user data in them.
+    pub data_bytes: u64,
+    /// FORWARD-TSN and I-FORWARD-TSN chunks,
+    pub forward_tsns: u64,
+    /// and the streams that they list: a message was abandoned in each.
+    pub abandoned: u64,
+    /// SACK and NR-SACK chunks,
+    pub sacks: u64,
+    /// those that report a gap,
+    pub sacks_with_gaps: u64,
+    /// and the least window in one.
+    pub least_window: Option<LeastWindow>,
+    /// HEARTBEAT chunks.
+    pub heartbeats: u64,
+}
+
+impl Counts {
+    /// Returns counts of nothing.
+    pub fn new() -> Counts
+        ensures { result ≡ nothing }
+    {
+        Counts {
+            packets: 0,
+            refused: 0,
+            zero: 0,
+            wrong: 0,
+            inits: 0,
+            data_chunks: 0,
+            i_data_chunks: 0,
+            data_bytes: 0,
+            forward_tsns: 0,
+            abandoned: 0,
+            sacks: 0,
+            sacks_with_gaps: 0,
+            least_window: None,
+            heartbeats: 0,
+        }
+    }
+
+    /// Returns whether there was DATA, beside I-DATA.
+    pub fn has_data(&self) -> bool {
+        self.data_chunks > self.i_data_chunks
+    }
+
+    /// Counts a packet and its chunks, as far as they can be read.
+    pub fn count_packet(&mut self, packet: &SeenPacket<'_>)
+        ensures chunks { CountsPacket self.old (packet_of packet.now) self.new }
+        ensures packets { self.new.packets ≡ one_more self.old.packets }
+    {
+        self.count_header(packet.checksum, packet.is_refused);
+        self.count_chunks(packet.number, packet.chunks());
+    }
+
+    /// Counts a packet without its chunks.
+    fn count_header(&mut self, checksum: Checksum, is_refused: bool)
+        ensures { self.new ≡ with_header self.old checksum is_refused }
+    {
+        increase(&mut self.packets);
+        if is_refused {
+            increase(&mut self.refused);
+        }
+        match checksum {
+            Checksum::Zero => increase(&mut self.zero),
+            Checksum::Wrong(_) => increase(&mut self.wrong),
+            Checksum::Right | Checksum::Unknown => {}
+        }
+    }
+
+    /// Counts chunks of the packet of this number.
+    fn count_chunks(&mut self, number: PacketNumber, chunks: Items<'_>)
+        ensures chunks { CountsChunks number self.old chunks.entry self.new }
+        ensures packets { self.new.packets ≡ self.old.packets }
+    {
+        for chunk in chunks {
+            self.count_chunk(number, chunk);
+        }
+    }
+
+    /// Counts a chunk of the packet of this number.
+    fn count_chunk(&mut self, number: PacketNumber, chunk: Item<'_>)
+        ensures chunk { self.new ≡ with_chunk number self.old (item_of chunk.entry) }
+        ensures packets { self.new.packets ≡ self.old.packets }
+    {
+        let size = chunk.value.size;
+        match chunk.first {
+            DATA => self.count_data(size.saturating_sub(12)),
+            I_DATA => self.count_i_data(size.saturating_sub(16)),
+            INIT => increase(&mut self.inits),
+            SACK => self.count_sack(number, chunk.value.bytes),
+            NR_SACK => self.count_nr_sack(number, chunk.value.bytes),
+            HEARTBEAT => increase(&mut self.heartbeats),
+            FORWARD_TSN => self.count_forward_tsn(size.saturating_sub(4) / 4),
+            I_FORWARD_TSN => self.count_forward_tsn(size.saturating_sub(4) / 8),
+            _ => {}
+        }
+    }
+
+    /// Counts a chunk with this many bytes of user data.
+    fn count_data(&mut self, size: usize)
+        ensures { self.new ≡ with_data self.old size }
+    {
+        increase(&mut self.data_chunks);
+        self.data_bytes = self.data_bytes.saturating_add(size as u64);
+    }
+
+    /// Counts an I-DATA with this many bytes of user data.
+    fn count_i_data(&mut self, size: usize)
+        ensures { self.new ≡ with_i_data self.old size }
+    {
+        increase(&mut self.i_data_chunks);
+        self.count_data(size);
+    }
+
+    /// Counts a FORWARD-TSN or an I-FORWARD-TSN that lists this many streams.
+    fn count_forward_tsn(&mut self, streams: usize)
+        ensures { self.new ≡ with_forward_tsn self.old streams }
+    {
+        increase(&mut self.forward_tsns);
+        self.abandoned = self.abandoned.saturating_add(streams as u64);
+    }
+
+    /// Counts a SACK with this value, as far as it was captured.
+    fn count_sack(&mut self, number: PacketNumber, value: &[u8])
+        ensures { self.new ≡ with_sack number self.old value.now }
+    {
+        increase(&mut self.sacks);
+        if value.len() < 12 {
+            return;
+        }
+        let has_gaps = read_u16_be(&value[8..]) > 0;
+        self.count_report(number, read_u32_be(&value[4..]), has_gaps);
+    }
+
+    /// Counts an NR-SACK with this value, as far as it was captured.
+    fn count_nr_sack(&mut self, number: PacketNumber, value: &[u8])
+        ensures { self.new ≡ with_nr_sack number self.old value.now }
+    {
+        increase(&mut self.sacks);
+        if value.len() < 16 {
+            return;
+        }
+        let has_gaps = read_u16_be(&value[8..]) > 0 || read_u16_be(&value[10..]) > 0;
+        self.count_report(number, read_u32_be(&value[4..]), has_gaps);
+    }
+
+    /// Counts what a SACK says of gaps and of the window.
+    fn count_report(&mut self, number: PacketNumber, a_rwnd: u32, has_gaps: bool)
+        ensures { self.new ≡ with_report number self.old a_rwnd has_gaps }
+    {
+        if has_gaps {
+            increase(&mut self.sacks_with_gaps);
+        }
+        self.least_window = least_of(self.least_window, a_rwnd, number);
+    }
+}
+
+/// Returns the lesser of two windows, and of equal ones the first.
+fn least_of(least: Option<LeastWindow>, a_rwnd: u32, packet: PacketNumber) -> Option<LeastWindow>
+    ensures { result ≡ with_window least a_rwnd packet }
+{
+    match least {
+        Some(window) if window.a_rwnd <= a_rwnd => Some(window),
+        _ => Some(LeastWindow { a_rwnd, packet }),
+    }
+}
+
+/// Adds one, up to 2^64 - 1.
+pub fn increase(count: &mut u64)
+    ensures { count.new ≡ one_more count.old }
+{
+    *count = count.saturating_add(1);
+}

@@ -1,0 +1,295 @@
+//! One end of an association.
+
+ghost use Rattle.std.specs.Prelude.{◌≡◌};
+ghost use Rattle.dump_analysis.specs.Counts.{nothing};
+ghost use Rattle.dump_analysis.specs.Tsns.{Follows};
+
+use crate::acknowledgement::Acknowledgement;
+use crate::chunk_type::{
+    DATA, FORWARD_TSN, HEARTBEAT, HEARTBEAT_ACK, I_DATA, I_FORWARD_TSN, INIT, INIT_ACK, NR_SACK,
+    RE_CONFIG, SACK,
+};
+use crate::counts::{Counts, SeenPacket};
+use crate::initiation::accepts_zero;
+use crate::packet_number::PacketNumber;
+use crate::requests::Requests;
+use crate::round_trips::RoundTrips;
+use crate::serial::is_after;
+use crate::tsns::{Step, Tsns};
+use crate::unanswered::{Unanswered, digest};
+use dcsctp_wire::packet::read_u32_be;
+use dcsctp_borrowed::part::Item;
+use std::net::IpAddr;
+
+/// How many addresses of an end are kept.
+const MOST_ADDRESSES: usize = 4;
+
+/// The last TSN that the other end acknowledged, and the first packet that did.
+#[derive(Clone, Copy, Debug, PartialEq, Eq)]
+pub struct Acknowledged {
+    /// The greatest Cumulative TSN Ack (RFC 9260 sections 3.3.4 and 3.3.8).
+    pub tsn: u32,
+    /// The packet's number.
+    pub packet: PacketNumber,
+}
+
+/// What an end gave up: the other end is to wait for it no longer (RFC 3758 section 3.2, RFC 8260
+/// section 2.3.1).
+#[derive(Clone, Copy, Debug, PartialEq, Eq)]
+pub struct Skipped {
+    /// The greatest new cumulative TSN of its FORWARD-TSNs and I-FORWARD-TSNs,
+    pub tsn: u32,
+    /// and the first packet that had it.
+    pub packet: PacketNumber,
+    /// How many TSNs they skipped, up to 2^64 - 1: for each, how far its new cumulative TSN lies
+    /// beyond all that was acknowledged or skipped before; where nothing was, beyond the TSN before
+    /// the first one that was seen.
+    pub count: u64,
+}
+
+/// The packets in which an end had no room.
+#[derive(Clone, Copy, Debug, PartialEq, Eq)]
+pub struct Closed {
+    /// The number of the first SACK with an a_rwnd of 0,
+    pub first: PacketNumber,
+    /// and that of the last one.
+    pub last: PacketNumber,
+}
+
+/// One end of an association, and what it sent.
+#[derive(Clone, Debug, Drop)]
+pub struct End {
+    /// The addresses from which or to which packets went, the first ones of them.
+    pub addresses: [Option<IpAddr>; MOST_ADDRESSES],
+    /// Whether there were more.
+    pub has_more_addresses: bool,
+    /// The port.
+    pub port: u16,
+    /// The tag that it chose: packets to it carry it (RFC 9260 section 3.1).
+    pub tag: Option<u32>,
+    /// The one before: an INIT that is sent again may be answered by an INIT ACK with another tag,
+    /// and either may then be used.
+    pub other_tag: Option<u32>,
+    /// Whether its INIT or INIT ACK announced Zero Checksum Acceptable (RFC 9653 section 4), if one
+    /// was seen.
+    pub accepts_zero: Option<bool>,
+    /// What is counted of the packets that it sent.
+    pub counts: Counts,
+    /// The TSNs that it sent.
+    pub tsns: Tsns,
+    /// What of them the other end acknowledged.
+    pub acknowledged: Option<Acknowledged>,
+    /// What of them it skipped.
+    pub skipped: Option<Skipped>,
+    /// When it had no room, if it ever said so.
+    pub closed: Option<Closed>,
+    /// Its HEARTBEATs that weren't answered.
+    pub heartbeats: Unanswered,
+    /// Its requests to reconfigure streams.
+    pub requests: Requests,
+    /// The round trips of its DATA.
+    pub round_trips: RoundTrips,
+}
+
+/// What a tag of an end is.
+#[derive(Clone, Copy, Debug, PartialEq, Eq)]
+pub enum Learned {
+    /// It was known.
+    Known,
+    /// It is new.
+    New {
+        /// The one that is known no longer.
+        forgotten: Option<u32>,
+    },
+}
+
+impl End {
+    /// Returns an end of which the port and maybe an address is known.
+    pub fn new(address: Option<IpAddr>, port: u16) -> End
+        ensures { result.counts ≡ nothing }
+    {
+        End {
+            addresses: [address, None, None, None],
+            has_more_addresses: false,
+            port,
+            tag: None,
+            other_tag: None,
+            accepts_zero: None,
+            counts: Counts::new(),
+            tsns: Tsns::new(),
+            acknowledged: None,
+            skipped: None,
+            closed: None,
+            heartbeats: Unanswered::new(),
+            requests: Requests::new(),
+            round_trips: RoundTrips::new(),
+        }
+    }
+
+    /// Notes that packets to it carry a tag. The two last ones are known.
+    pub fn learn(&mut self, tag: u32) -> Learned
+        ensures { self.new.counts ≡ self.old.counts }
+    {
+        if self.tag == Some(tag) {
+            return Learned::Known;
+        }
+        let forgotten = self.other_tag;
+        self.other_tag = self.tag;
+        self.tag = Some(tag);
+        if forgotten == Some(tag) {
+            return Learned::Known;
+        }
+        Learned::New { forgotten }
+    }
+
+    /// Notes an address.
+    pub fn note_address(&mut self, address: Option<IpAddr>)
+        ensures { self.new.counts ≡ self.old.counts }
+    {
+        if address.is_none() {
+            return;
+        }
+        for known in self.addresses.iter_mut() {
+            if *known == address {
+                return;
+            }
+            if known.is_none() {
+                *known = address;
+                return;
+            }
+        }
+        self.has_more_addresses = true;
+    }
+
+    /// Notes a chunk that this end sent. Returns how the TSN of DATA follows those before.
+    pub fn note_sent(&mut self, packet: &SeenPacket<'_>, chunk: Item<'_>) -> Option<Step>
+        ensures { self.new.counts ≡ self.old.counts }
+    {
+        let value = chunk.value.bytes;
+        match chunk.first {
+            DATA | I_DATA if value.len() >= 4 => {
+                return Some(self.note_tsn(packet, read_u32_be(value)));
+            }
+            SACK | NR_SACK if value.len() >= 8 => {
+                self.note_window(read_u32_be(&value[4..]), packet.number);
+            }
+            FORWARD_TSN | I_FORWARD_TSN if value.len() >= 4 => {
+                self.note_skipped(read_u32_be(value), packet.number);
+            }
+            HEARTBEAT => self.heartbeats.ask(digest(value), packet.number),
+            RE_CONFIG => self.requests.note_sent(chunk.value, packet.number),
+            INIT | INIT_ACK => self.accepts_zero = accepts_zero(chunk.value).or(self.accepts_zero),
+            _ => {}
+        }
+        None
+    }
+
+    /// Notes a chunk that the other end sent.
+    pub fn note_received(&mut self, packet: &SeenPacket<'_>, chunk: Item<'_>)
+        ensures { self.new.counts ≡ self.old.counts }
+    {
+        if let Some(acknowledged) = Acknowledgement::of(chunk) {
+            self.note_acknowledged(acknowledged.cumulative, packet.number);
+            if let Some(nanoseconds) = packet.nanoseconds {
+                self.round_trips
+                    .acknowledge(acknowledged, nanoseconds, packet.number);
+            }
+        }
+        match chunk.first {
+            HEARTBEAT_ACK => self.heartbeats.answer(digest(chunk.value.bytes)),
+            RE_CONFIG => self.requests.note_received(chunk.value),
+            _ => {}
+        }
+    }
+
+    /// Notes the window of a SACK that this end sent (RFC 9260 section 3.3.4).
+    fn note_window(&mut self, a_rwnd: u32, packet: PacketNumber)
+        ensures { self.new.counts ≡ self.old.counts }
+    {
+        if a_rwnd > 0 {
+            return;
+        }
+        let first = match self.closed {
+            Some(closed) => closed.first,
+            None => packet,
+        };
+        self.closed = Some(Closed {
+            first,
+            last: packet,
+        });
+    }
+
+    /// Notes a Cumulative TSN Ack, if it is beyond the one before.
+    fn note_acknowledged(&mut self, tsn: u32, packet: PacketNumber)
+        ensures { self.new.counts ≡ self.old.counts }
+    {
+        if let Some(known) = self.acknowledged {
+            if !is_after(tsn, known.tsn) {
+                return;
+            }
+        }
+        self.acknowledged = Some(Acknowledged { tsn, packet });
+    }
+
+    /// Notes a new cumulative TSN: those up to it are skipped.
+    fn note_skipped(&mut self, tsn: u32, packet: PacketNumber)
+        ensures { self.new.counts ≡ self.old.counts }
+    {
+        let advance = match self.reached() {
+            Some(reached) if is_after(tsn, reached) => u64::from(tsn.wrapping_sub(reached)),
+            _ => 0,
+        };
+        self.round_trips.leave_to(tsn);
+        self.skipped = match self.skipped {
+            Some(skipped) if !is_after(tsn, skipped.tsn) => Some(skipped),
+            Some(skipped) => {
+                Some(Skipped {
+                    tsn,
+                    packet,
+                    count: skipped.count.saturating_add(advance),
+                })
+            }
+            None => {
+                Some(Skipped {
+                    tsn,
+                    packet,
+                    count: advance,
+                })
+            }
+        };
+    }
+
+    /// Returns the last TSN that was acknowledged or skipped; where none was, the one before the
+    /// first that was seen.
+    fn reached(&self) -> Option<u32> {
+        match (self.acknowledged, self.skipped) {
+            (Some(acknowledged), Some(skipped)) => {
+                if is_after(skipped.tsn, acknowledged.tsn) {
+                    Some(skipped.tsn)
+                } else {
+                    Some(acknowledged.tsn)
+                }
+            }
+            (Some(acknowledged), None) => Some(acknowledged.tsn),
+            (None, Some(skipped)) => Some(skipped.tsn),
+            (None, None) => {
+                let (first, _) = self.tsns.span()?;
+                Some(first.wrapping_sub(1))
+            }
+        }
+    }
+
+    /// Notes a TSN that this end sent. Returns how it follows those before.
+    fn note_tsn(&mut self, packet: &SeenPacket<'_>, tsn: u32) -> Step
+        ensures step { Follows self.old.tsns.span self.old.tsns.seen tsn result }
+        ensures counts { self.new.counts ≡ self.old.counts }
+    {
+        let step = self.tsns.note(tsn, packet.number);
+        if step == Step::Repeated {
+            self.round_trips.leave(tsn);
+        } else if let Some(nanoseconds) = packet.nanoseconds {
+            self.round_trips.wait(tsn, nanoseconds);
+        }
+        step
+    }
+}

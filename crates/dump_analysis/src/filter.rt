@@ -1,0 +1,166 @@
+//! Filters: which packets are asked for.
+
+ghost use Rattle.std.specs.Prelude.{◌≡◌, ◌&&◌, ◌||◌, not, nat_le, length, List};
+ghost use Rattle.dump_capture.specs.Found.{packet_of};
+ghost use Rattle.dcsctp_borrowed.specs.Part.{Item as AnItem, part_of};
+ghost use Rattle.dump_analysis.specs.Items.{AreSeen, chunks_seen};
+ghost use Rattle.dump_analysis.specs.Filter.{part_in, passes, passes_headers, passes_chunks, has_host, has_wrong_checksum};
+
+use crate::chunk_test::{ChunkTest, some_seen};
+use crate::fields::{has_port, is_u32};
+use dump_capture::frame::{Addresses, FoundPacket};
+use dcsctp_borrowed::part::Part;
+
+/// An address of an IP packet, as its octets.
+#[derive(Clone, Copy, Debug, PartialEq, Eq)]
+pub enum Host {
+    /// Of IPv4 (RFC 791).
+    V4([u8; 4]),
+    /// Of IPv6 (RFC 8200).
+    V6([u8; 16]),
+}
+
+/// What a packet has to have, all of it.
+#[derive(Clone, Copy, Debug)]
+pub struct Filter {
+    /// The source port or the destination port (RFC 9260 section 3.1).
+    pub port: Option<u16>,
+    /// The verification tag (RFC 9260 section 3.1).
+    pub tag: Option<u32>,
+    /// The source address or the destination address of the IP packet that carries it.
+    pub host: Option<Host>,
+    /// The type of a chunk that is looked at (RFC 9260 section 3.2).
+    pub chunk: Option<u8>,
+    /// The stream of a DATA (RFC 9260 section 3.3.1) or an I-DATA (RFC 8260 section 2.1).
+    pub stream: Option<u16>,
+    /// The payload protocol identifier of a DATA or of the first fragment of an I-DATA message.
+    pub ppid: Option<u32>,
+    /// Whether its checksum field is neither what is expected nor 0, and all of it was captured.
+    pub wrong: bool,
+    /// The least number of a packet,
+    pub first: u64,
+    /// and the greatest.
+    pub last: u64,
+}
+
+impl Filter {
+    /// Passes all packets.
+    pub const ALL: Filter = Filter {
+        port: None,
+        tag: None,
+        host: None,
+        chunk: None,
+        stream: None,
+        ppid: None,
+        wrong: false,
+        first: 0,
+        last: u64::MAX,
+    };
+
+    /// Returns whether the packet of this number has all that is asked for. `word` is what its
+    /// checksum field has to be, and `fault` the offset of the first fault of a refused packet: of
+    /// this the chunks are looked at that begin there or before. The last may be the one at fault,
+    /// of which all is looked at that can be read, even if its length is impossible. Of other
+    /// packets, also of those that were cut off, all chunks are looked at whose headers can be read.
+    pub fn passes(
+        &self,
+        number: u64,
+        found: &FoundPacket<'_>,
+        word: u32,
+        fault: Option<usize>,
+    ) -> bool
+        ensures { let p = packet_of found.now in
+            (chunks : List AnItem) × AreSeen fault (part_in p) chunks
+            × (result ≡ passes self.now number p word chunks) }
+    {
+        self.is_met(number, found, word, fault)
+    }
+
+    /// Returns whether the packet of this number has all that is asked for.
+    fn is_met(&self, number: u64, found: &FoundPacket<'_>, word: u32, fault: Option<usize>) -> bool
+        ensures { let p = packet_of found.now in
+            result ≡ passes self.now number p word (chunks_seen fault (part_in p)) }
+    {
+        let packet = Part::packet(found.packet, found.length);
+        self.first <= number
+            && number <= self.last
+            && self.is_met_by_headers(packet, found.addresses)
+            && self.is_met_by_chunks(packet, fault)
+            && (!self.wrong || has_wrong_checksum(packet, word))
+    }
+
+    /// Returns whether the headers have what is asked for.
+    fn is_met_by_headers(&self, packet: Part<'_>, addresses: Option<Addresses>) -> bool
+        ensures { result ≡ passes_headers self.now (part_of packet.entry) addresses }
+    {
+        if let Some(port) = self.port
+            && !has_port(packet, port)
+        {
+            return false;
+        }
+        if let Some(tag) = self.tag
+            && !is_u32(packet.after(4), tag)
+        {
+            return false;
+        }
+        match self.host {
+            Some(host) => host.is_of(addresses),
+            None => true,
+        }
+    }
+
+    /// Returns whether there are chunks that are asked for.
+    fn is_met_by_chunks(&self, packet: Part<'_>, fault: Option<usize>) -> bool
+        ensures { result ≡ passes_chunks self.now (chunks_seen fault (part_of packet.entry)) }
+    {
+        if let Some(typ) = self.chunk
+            && !some_seen(packet, fault, ChunkTest::Type(typ))
+        {
+            return false;
+        }
+        if let Some(stream) = self.stream
+            && !some_seen(packet, fault, ChunkTest::Stream(stream))
+        {
+            return false;
+        }
+        match self.ppid {
+            Some(ppid) => some_seen(packet, fault, ChunkTest::Ppid(ppid)),
+            None => true,
+        }
+    }
+}
+
+impl Host {
+    /// Returns whether an IP packet with these addresses comes from it or goes to it.
+    fn is_of(self, addresses: Option<Addresses>) -> bool
+        ensures { result ≡ has_host self addresses }
+    {
+        let (source, destination) = match addresses {
+            Some(
+                Addresses::V4 {
+                    source,
+                    destination,
+                },
+            ) => (Host::V4(source), Host::V4(destination)),
+            Some(
+                Addresses::V6 {
+                    source,
+                    destination,
+                },
+            ) => (Host::V6(source), Host::V6(destination)),
+            None => return false,
+        };
+        self == source || self == destination
+    }
+}
+
+/// Returns whether all of the packet was captured, and its checksum field is neither the word nor
+/// 0.
+fn has_wrong_checksum(packet: Part<'_>, word: u32) -> bool
+    ensures { result ≡ has_wrong_checksum word (part_of packet.entry) }
+{
+    let field = packet.after(8);
+    packet.bytes.len() >= packet.size
+        && packet.bytes.len() >= 12
+        && !(is_u32(field, word) || is_u32(field, 0))
+}

@@ -1,0 +1,346 @@
+//! An association, as JSON.
+
+use crate::association::{Association, Began, Ended, Established, Side};
+use crate::end::End;
+use crate::packet_number::{PacketKeys, PacketNumber, file_of};
+use crate::round_trips::RoundTrips;
+use crate::time::{TimeForm, TimeStyle};
+use crate::transport::Transport;
+use dump_text::json_text::JsonText;
+use dump_text::names::ChunkName;
+use dump_text::registry::cause_name;
+use std::fmt;
+
+/// An association as one JSON object (RFC 8259), without blanks and without a line break.
+#[derive(Clone, Copy)]
+pub struct AssociationJson<'a> {
+    /// The association.
+    pub association: &'a Association,
+    /// How times are written.
+    pub style: TimeStyle,
+    /// The names of the files that were read: if there are several, a packet's number has its file's
+    /// name beside it.
+    pub files: &'a [String],
+}
+
+impl<'a> fmt::Display for AssociationJson<'a> {
+    fn fmt<W: fmt::Write>(&self, f: &mut fmt::Formatter<W>) -> fmt::Result {
+        let association = self.association;
+        let number = association.number;
+        write!(f, "{{\"association\":{number}")?;
+        if let Some(other) = association.restart_of {
+            write!(f, ",\"restart_of\":{other}")?;
+        }
+        if association.has_left {
+            f.write_str(",\"left_table\":true")?;
+        }
+        write_transport(&association.transport, f)?;
+        f.write_str(",\"ends\":[")?;
+        self.write_end(&association.first, f)?;
+        f.write_str(",")?;
+        self.write_end(&association.second, f)?;
+        f.write_str("]")?;
+        self.write_began(&association.began, f)?;
+        self.write_established(&association.established, f)?;
+        self.write_ended(&association.ended, f)?;
+        if let Some(nanoseconds) = association.duration() {
+            self.write_seconds("duration", nanoseconds, f)?;
+        }
+        let strays = association.out_of_the_blue;
+        if strays > 0 {
+            write!(f, ",\"out_of_the_blue\":{strays}")?;
+        }
+        f.write_str("}")
+    }
+}
+
+impl<'a> AssociationJson<'a> {
+    /// Writes what is known of the first packet.
+    fn write_began<W: fmt::Write>(&self, began: &Began, f: &mut fmt::Formatter<W>) -> fmt::Result {
+        f.write_str(",\"began\":{")?;
+        self.write_first(began.packet, began.nanoseconds, f)?;
+        if let Some(typ) = began.chunk {
+            write_chunk(typ, f)?;
+        }
+        f.write_str("}")?;
+        if self.association.is_midway() {
+            f.write_str(",\"midway\":true")?;
+        }
+        Ok(())
+    }
+
+    /// Writes when it was established, if that was seen.
+    fn write_established<W: fmt::Write>(
+        &self,
+        established: &Option<Established>,
+        f: &mut fmt::Formatter<W>,
+    ) -> fmt::Result {
+        let Some(established) = established else {
+            return Ok(());
+        };
+        f.write_str(",\"established\":{")?;
+        self.write_first(established.packet, established.nanoseconds, f)?;
+        write_chunk(established.chunk, f)?;
+        if let Some(nanoseconds) = self.association.setup() {
+            self.write_seconds("after", nanoseconds, f)?;
+        }
+        f.write_str("}")
+    }
+
+    /// Writes what ended it, if something did.
+    fn write_ended<W: fmt::Write>(
+        &self,
+        ended: &Option<Ended>,
+        f: &mut fmt::Formatter<W>,
+    ) -> fmt::Result {
+        let Some(ended) = ended else {
+            return Ok(());
+        };
+        f.write_str(",\"ended\":{")?;
+        self.write_first(ended.packet, ended.nanoseconds, f)?;
+        write_chunk(ended.chunk, f)?;
+        let by = match ended.by {
+            Side::First => 0,
+            Side::Second => 1,
+        };
+        write!(f, ",\"by\":{by}")?;
+        if let Some(code) = ended.cause {
+            write!(f, ",\"cause\":{code}")?;
+            if let Some(name) = cause_name(code) {
+                write!(f, ",\"cause_name\":\"{name}\"")?;
+            }
+        }
+        f.write_str("}")
+    }
+
+    /// Writes an end and what it sent.
+    fn write_end<W: fmt::Write>(&self, end: &End, f: &mut fmt::Formatter<W>) -> fmt::Result {
+        f.write_str("{")?;
+        write_addresses(end, f)?;
+        write_counts(end, f)?;
+        self.write_tsns(end, f)?;
+        self.write_skipped(end, f)?;
+        self.write_sacks(end, f)?;
+        self.write_heartbeats(end, f)?;
+        self.write_requests(end, f)?;
+        if end.round_trips.count > 0 {
+            self.write_round_trips(&end.round_trips, f)?;
+        }
+        f.write_str("}")
+    }
+
+    /// Writes the round trips of an end's DATA.
+    fn write_round_trips<W: fmt::Write>(
+        &self,
+        trips: &RoundTrips,
+        f: &mut fmt::Formatter<W>,
+    ) -> fmt::Result {
+        let count = trips.count;
+        write!(f, ",\"round_trip\":{{\"count\":{count}")?;
+        self.write_seconds("least", trips.least, f)?;
+        self.write_seconds("median", trips.median(), f)?;
+        self.write_seconds("greatest", trips.greatest, f)?;
+        let tsn = trips.greatest_tsn;
+        write!(f, ",\"greatest_tsn\":{tsn}")?;
+        self.write_packet("greatest_packet", "greatest_file", trips.greatest_packet, f)?;
+        f.write_str("}")
+    }
+
+    /// Writes the TSNs of an end.
+    fn write_tsns<W: fmt::Write>(&self, end: &End, f: &mut fmt::Formatter<W>) -> fmt::Result {
+        if let Some((first, last)) = end.tsns.span() {
+            write!(f, ",\"first_tsn\":{first},\"last_tsn\":{last}")?;
+        }
+        if let Some(acknowledged) = end.acknowledged {
+            let tsn = acknowledged.tsn;
+            write!(f, ",\"acknowledged\":{tsn}")?;
+            let packet = Some(acknowledged.packet);
+            self.write_packet("acknowledged_packet", "acknowledged_file", packet, f)?;
+        }
+        if end.tsns.span().is_none() {
+            return Ok(());
+        }
+        let (repeated, missing) = (end.tsns.repeated, end.tsns.missing);
+        write!(f, ",\"repeated\":{repeated}")?;
+        let packet = end.tsns.first_repeated;
+        self.write_packet("first_repeated", "first_repeated_file", packet, f)?;
+        if packet.is_some() {
+            let tsn = end.tsns.first_repeated_tsn;
+            write!(f, ",\"first_repeated_tsn\":{tsn}")?;
+        }
+        write!(f, ",\"missing\":{missing}")
+    }
+
+    /// Writes what an end skipped.
+    fn write_skipped<W: fmt::Write>(&self, end: &End, f: &mut fmt::Formatter<W>) -> fmt::Result {
+        let sent = end.counts.forward_tsns;
+        write!(f, ",\"forward_tsns\":{sent}")?;
+        let Some(skipped) = end.skipped else {
+            return Ok(());
+        };
+        let (count, tsn, abandoned) = (skipped.count, skipped.tsn, end.counts.abandoned);
+        write!(f, ",\"skipped\":{count},\"skipped_to\":{tsn}")?;
+        self.write_packet("skipped_packet", "skipped_file", Some(skipped.packet), f)?;
+        write!(f, ",\"abandoned\":{abandoned}")
+    }
+
+    /// Writes the SACKs of an end.
+    fn write_sacks<W: fmt::Write>(&self, end: &End, f: &mut fmt::Formatter<W>) -> fmt::Result {
+        let (sacks, with_gaps) = (end.counts.sacks, end.counts.sacks_with_gaps);
+        write!(f, ",\"sacks\":{sacks},\"sacks_with_gaps\":{with_gaps}")?;
+        if let Some(window) = end.counts.least_window {
+            let a_rwnd = window.a_rwnd;
+            write!(f, ",\"least_a_rwnd\":{a_rwnd}")?;
+            let packet = Some(window.packet);
+            self.write_packet("least_a_rwnd_packet", "least_a_rwnd_file", packet, f)?;
+        }
+        if let Some(closed) = end.closed {
+            self.write_packet("closed_first", "closed_first_file", Some(closed.first), f)?;
+            self.write_packet("closed_last", "closed_last_file", Some(closed.last), f)?;
+        }
+        Ok(())
+    }
+
+    /// Writes the HEARTBEATs of an end.
+    fn write_heartbeats<W: fmt::Write>(&self, end: &End, f: &mut fmt::Formatter<W>) -> fmt::Result {
+        let (sent, unanswered) = (end.counts.heartbeats, end.heartbeats.count);
+        write!(
+            f,
+            ",\"heartbeats\":{sent},\"heartbeats_unanswered\":{unanswered}"
+        )?;
+        let packet = end.heartbeats.last();
+        self.write_packet("last_unanswered", "last_unanswered_file", packet, f)
+    }
+
+    /// Writes the requests of an end.
+    fn write_requests<W: fmt::Write>(&self, end: &End, f: &mut fmt::Formatter<W>) -> fmt::Result {
+        let (sent, unanswered) = (end.requests.count, end.requests.unanswered.count);
+        write!(
+            f,
+            ",\"requests\":{sent},\"requests_unanswered\":{unanswered}"
+        )?;
+        let packet = end.requests.unanswered.last();
+        self.write_packet(
+            "last_request_unanswered",
+            "last_request_unanswered_file",
+            packet,
+            f,
+        )
+    }
+
+    /// Writes the number and the time of a packet, at the front of an object.
+    fn write_first<W: fmt::Write>(
+        &self,
+        packet: PacketNumber,
+        nanoseconds: Option<u64>,
+        f: &mut fmt::Formatter<W>,
+    ) -> fmt::Result {
+        let number = packet.number;
+        write!(f, "\"packet\":{number}")?;
+        if let Some(name) = file_of(packet, self.files) {
+            let name = JsonText(name);
+            write!(f, ",\"file\":{name}")?;
+        }
+        self.write_time(nanoseconds, f)
+    }
+
+    /// Writes a packet's number, if there is one, and its file's name.
+    fn write_packet<W: fmt::Write>(
+        &self,
+        key: &'static str,
+        file_key: &'static str,
+        packet: Option<PacketNumber>,
+        f: &mut fmt::Formatter<W>,
+    ) -> fmt::Result {
+        let Some(packet) = packet else {
+            return Ok(());
+        };
+        let keys = PacketKeys {
+            packet,
+            key,
+            file_key,
+            files: self.files,
+        };
+        write!(f, "{keys}")
+    }
+
+    /// Writes a time, if it is known: a number, unless it is a date or a clock's.
+    fn write_time<W: fmt::Write>(
+        &self,
+        nanoseconds: Option<u64>,
+        f: &mut fmt::Formatter<W>,
+    ) -> fmt::Result {
+        let Some(nanoseconds) = nanoseconds else {
+            return Ok(());
+        };
+        let time = self.style.time(nanoseconds);
+        match self.style.form {
+            TimeForm::Seconds => write!(f, ",\"time\":{time}"),
+            TimeForm::Iso | TimeForm::Utc => write!(f, ",\"time\":\"{time}\""),
+        }
+    }
+
+    /// Writes a span of time, in seconds.
+    fn write_seconds<W: fmt::Write>(
+        &self,
+        key: &str,
+        nanoseconds: u64,
+        f: &mut fmt::Formatter<W>,
+    ) -> fmt::Result {
+        let seconds = self.style.seconds(nanoseconds);
+        write!(f, ",\"{key}\":{seconds}")
+    }
+}
+
+/// Writes the transport, if it has a name; `null` if that isn't kept.
+fn write_transport<W: fmt::Write>(transport: &Transport, f: &mut fmt::Formatter<W>) -> fmt::Result {
+    match transport {
+        Transport::Unnamed => Ok(()),
+        Transport::Named(name) => {
+            let name = JsonText(name.as_str());
+            write!(f, ",\"transport\":{name}")
+        }
+        Transport::Other => f.write_str(",\"transport\":null"),
+    }
+}
+
+/// Writes the name of a chunk type.
+fn write_chunk<W: fmt::Write>(typ: u8, f: &mut fmt::Formatter<W>) -> fmt::Result {
+    let name = ChunkName(typ);
+    write!(f, ",\"chunk\":\"{name}\"")
+}
+
+/// Writes the addresses, the port and the tag of an end.
+fn write_addresses<W: fmt::Write>(end: &End, f: &mut fmt::Formatter<W>) -> fmt::Result {
+    f.write_str("\"addresses\":[")?;
+    let mut separator = "";
+    for address in &end.addresses {
+        if let Some(address) = address {
+            write!(f, "{separator}\"{address}\"")?;
+            separator = ",";
+        }
+    }
+    f.write_str("]")?;
+    if end.has_more_addresses {
+        f.write_str(",\"more_addresses\":true")?;
+    }
+    let port = end.port;
+    write!(f, ",\"port\":{port}")?;
+    if let Some(tag) = end.tag {
+        write!(f, ",\"tag\":{tag}")?;
+    }
+    Ok(())
+}
+
+/// Writes what is counted of packets and DATA.
+fn write_counts<W: fmt::Write>(end: &End, f: &mut fmt::Formatter<W>) -> fmt::Result {
+    let counts = &end.counts;
+    let (packets, refused) = (counts.packets, counts.refused);
+    let (zero, wrong) = (counts.zero, counts.wrong);
+    write!(f, ",\"packets\":{packets},\"refused\":{refused}")?;
+    write!(f, ",\"zero_checksums\":{zero},\"wrong_checksums\":{wrong}")?;
+    let (inits, data, i_data) = (counts.inits, counts.data_chunks, counts.i_data_chunks);
+    let bytes = counts.data_bytes;
+    write!(f, ",\"inits\":{inits},\"data\":{data},\"i_data\":{i_data}")?;
+    write!(f, ",\"bytes\":{bytes}")
+}

@@ -1,0 +1,197 @@
+//! By what it is known which association a packet belongs to.
+
+use crate::association::Side;
+use crate::chunk_type::{ABORT, INIT, INIT_ACK, SHUTDOWN_COMPLETE};
+use crate::counts::SeenPacket;
+use crate::initiation::initiate_tag;
+use crate::transport::{Transport, TransportKey, TransportNames};
+use dcsctp_wire::packet::sctp_packet::CommonHeader;
+use dump_capture::line::Direction;
+use dcsctp_borrowed::part::Item;
+use std::net::IpAddr;
+
+/// The bit T of an ABORT's and a SHUTDOWN COMPLETE's flags (RFC 9260 section 8.5.1): the tag is the
+/// sender's own.
+const REFLECTED: u8 = 1;
+
+/// Which end of a log an end is.
+#[derive(Clone, Copy, PartialEq, Eq, Hash, Debug)]
+pub enum Origin {
+    /// That isn't known: the packet isn't of a log.
+    Unknown,
+    /// The one that wrote the log.
+    Local,
+    /// The one that it speaks to.
+    Remote,
+}
+
+impl Origin {
+    /// Returns which end of a log sent a packet, and which one it went to.
+    fn of(direction: Option<Direction>) -> (Origin, Origin) {
+        match direction {
+            Some(Direction::Outgoing) => (Origin::Local, Origin::Remote),
+            Some(Direction::Incoming) => (Origin::Remote, Origin::Local),
+            None => (Origin::Unknown, Origin::Unknown),
+        }
+    }
+}
+
+/// An end, as far as it is known without its tag.
+#[derive(Clone, Copy, PartialEq, Eq, Hash, Debug)]
+pub struct Place {
+    /// The address, if it is known.
+    pub address: Option<IpAddr>,
+    /// Which end of a log it is.
+    pub origin: Origin,
+    /// The port.
+    pub port: u16,
+}
+
+/// From where to where the first packet of an association went.
+#[derive(Clone, Copy, PartialEq, Eq, Hash, Debug)]
+pub struct Route {
+    /// The transport of a log.
+    pub transport: TransportKey,
+    /// From where,
+    pub from: Place,
+    /// and to where.
+    pub to: Place,
+}
+
+impl Route {
+    /// Returns the way back.
+    pub fn back(self) -> Route {
+        Route {
+            transport: self.transport,
+            from: self.to,
+            to: self.from,
+        }
+    }
+
+    /// Returns whether nothing but tags tells the two ends apart.
+    pub fn has_equal_ends(self) -> bool {
+        self.from == self.to
+    }
+
+    /// Returns whether at most one association lives on it at a time: its addresses are known (RFC
+    /// 9260 section 1.3), or its transport.
+    pub fn is_exclusive(self) -> bool {
+        let has_addresses = self.from.address.is_some() && self.to.address.is_some();
+        let is_named = matches!(self.transport, TransportKey::Named(_));
+        !self.has_equal_ends() && (has_addresses || is_named)
+    }
+
+    /// Returns by what the packets are known that an end of an association on this route sends with
+    /// this tag.
+    pub fn flow(self, sender: Side, tag: u32) -> FlowKey {
+        let route = match sender {
+            Side::First => self,
+            Side::Second => self.back(),
+        };
+        FlowKey {
+            transport: route.transport,
+            origin: route.from.origin,
+            source: route.from.port,
+            destination: route.to.port,
+            tag,
+        }
+    }
+}
+
+/// The packets that one end sends to the other: they have these ports and this tag.
+#[derive(Clone, Copy, PartialEq, Eq, Hash, Debug)]
+pub struct FlowKey {
+    transport: TransportKey,
+    origin: Origin,
+    source: u16,
+    destination: u16,
+    tag: u32,
+}
+
+/// A packet, and by what it is known which association it belongs to.
+#[derive(Clone, Copy)]
+pub struct Arrival<'a, 'p> {
+    /// The packet.
+    pub packet: &'p SeenPacket<'a>,
+    /// Its transport.
+    pub transport: Transport,
+    /// From where to where it went.
+    pub route: Route,
+    /// Its verification tag.
+    pub tag: u32,
+    first: Option<Item<'a>>,
+}
+
+impl<'a, 'p> Arrival<'a, 'p> {
+    /// Returns by what it is known which association a packet belongs to; `None` if its common
+    /// header wasn't captured.
+    pub fn of(packet: &'p SeenPacket<'a>, names: &TransportNames) -> Option<Arrival<'a, 'p>> {
+        let header = CommonHeader::from_bytes(packet.found.packet)?;
+        let (source, destination) = packet.addresses();
+        let (sender, receiver) = Origin::of(packet.direction);
+        let (transport, key) = names.find(packet.transport);
+        Some(Arrival {
+            packet,
+            transport,
+            route: Route {
+                transport: key,
+                from: Place {
+                    address: source,
+                    origin: sender,
+                    port: header.source_port,
+                },
+                to: Place {
+                    address: destination,
+                    origin: receiver,
+                    port: header.destination_port,
+                },
+            },
+            tag: header.verification_tag,
+            first: packet.chunks().next(),
+        })
+    }
+
+    /// Returns the type of the first chunk.
+    pub fn chunk(&self) -> Option<u8> {
+        let first = self.first?;
+        Some(first.first)
+    }
+
+    /// Returns whether it begins with an INIT.
+    pub fn is_init(&self) -> bool {
+        self.chunk() == Some(INIT)
+    }
+
+    /// Returns whether the tag is the sender's own.
+    pub fn is_reflected(&self) -> bool {
+        match self.first {
+            Some(chunk) => {
+                (chunk.first == ABORT || chunk.first == SHUTDOWN_COMPLETE)
+                    && chunk.second & REFLECTED != 0
+            }
+            None => false,
+        }
+    }
+
+    /// Returns the tag that an INIT or an INIT ACK gives its sender.
+    pub fn initiate_tag(&self) -> Option<u32> {
+        let chunk = self.first?;
+        if chunk.first == INIT || chunk.first == INIT_ACK {
+            initiate_tag(chunk.value)
+        } else {
+            None
+        }
+    }
+
+    /// Returns the tag of the sender, if the packet is known by it: an INIT, or one whose tag is the
+    /// sender's own.
+    pub fn sender_tag(&self) -> Option<u32> {
+        if self.is_init() {
+            self.initiate_tag()
+        } else if self.is_reflected() {
+            Some(self.tag)
+        } else {
+            None
+        }
+    }
+}

@@ -1,0 +1,93 @@
+//! Of which association a packet is, and how its TSNs follow those before.
+
+ghost use Rattle.std.specs.Prelude.{◌≡◌};
+ghost use Rattle.dump_analysis.specs.Tsns.{with_step};
+
+use crate::association::Side;
+use crate::tsns::Step;
+use std::fmt;
+
+/// How the TSNs of a packet's DATA chunks follow those that its sender sent before, up to 2^64 - 1
+/// each (RFC 9260 sections 2.6 and 3.3.1).
+#[derive(Clone, Copy, Debug, PartialEq, Eq)]
+pub struct Sequence {
+    /// How many were seen before,
+    pub repeated: u64,
+    /// and how many came after a greater one, for the first time.
+    pub late: u64,
+    /// How many weren't seen when a greater one came.
+    pub missing: u64,
+}
+
+impl Sequence {
+    /// The packet has no DATA.
+    pub const NOTHING: Sequence = Sequence {
+        repeated: 0,
+        late: 0,
+        missing: 0,
+    };
+
+    /// Counts a TSN.
+    pub fn count(&mut self, step: Step)
+        ensures { self.new ≡ with_step self.old step }
+    {
+        match step {
+            Step::Ahead { missing } => {
+                self.missing = self.missing.saturating_add(u64::from(missing));
+            }
+            Step::Late => self.late = self.late.saturating_add(1),
+            Step::Repeated => self.repeated = self.repeated.saturating_add(1),
+        }
+    }
+}
+
+/// The association of a packet.
+#[derive(Clone, Copy, Debug, PartialEq, Eq)]
+pub struct Membership {
+    /// Its number.
+    pub association: u64,
+    /// Which of its ends sent the packet.
+    pub sender: Side,
+    /// How the packet's TSNs follow those before.
+    pub sequence: Sequence,
+}
+
+/// It as keys of a JSON object, with a comma before each: `association`, and as `end` the sender's
+/// place in the association's `ends`; `repeated`, `late` and `missing` where they aren't 0. Nothing
+/// of a packet of no association.
+#[derive(Clone, Copy)]
+pub struct MembershipJson(pub Option<Membership>);
+
+impl fmt::Display for MembershipJson {
+    fn fmt<W: fmt::Write>(&self, f: &mut fmt::Formatter<W>) -> fmt::Result {
+        let Some(membership) = self.0 else {
+            return Ok(());
+        };
+        let association = membership.association;
+        let end = match membership.sender {
+            Side::First => 0,
+            Side::Second => 1,
+        };
+        write!(f, ",\"association\":{association},\"end\":{end}")?;
+        let Sequence {
+            repeated,
+            late,
+            missing,
+        } = membership.sequence;
+        write_count("repeated", repeated, f)?;
+        write_count("late", late, f)?;
+        write_count("missing", missing, f)
+    }
+}
+
+/// Writes a key and a count, unless it is 0.
+fn write_count<W: fmt::Write>(
+    key: &'static str,
+    count: u64,
+    f: &mut fmt::Formatter<W>,
+) -> fmt::Result {
+    if count == 0 {
+        return Ok(());
+    }
+    write!(f, ",\"{key}\":{count}")
+}

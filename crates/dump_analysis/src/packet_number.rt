@@ -1,0 +1,70 @@
+//! The numbers of packets, where several files are read.
+
+use dump_text::json_text::JsonText;
+use std::fmt;
+
+/// A packet's number.
+#[derive(Clone, Copy, Debug, PartialEq, Eq)]
+pub struct PacketNumber {
+    /// The place of its file in the list of inputs, from 0 on.
+    pub file: u32,
+    /// Its number in that file.
+    pub number: u64,
+}
+
+/// A packet's number as text, as `packet 2`, or `packet 2 of NAME` if there are several files.
+#[derive(Clone, Copy)]
+pub struct PacketText<'a> {
+    /// The packet's number.
+    pub packet: PacketNumber,
+    /// The files' names.
+    pub files: &'a [String],
+}
+
+impl<'a> fmt::Display for PacketText<'a> {
+    fn fmt<W: fmt::Write>(&self, f: &mut fmt::Formatter<W>) -> fmt::Result {
+        let number = self.packet.number;
+        write!(f, "packet {number}")?;
+        match file_of(self.packet, self.files) {
+            Some(name) => write!(f, " of {name}"),
+            None => Ok(()),
+        }
+    }
+}
+
+/// A packet's number as keys and values of JSON, with a comma before each: that of its number, and
+/// if there are several files that of its file.
+#[derive(Clone, Copy)]
+pub struct PacketKeys<'a> {
+    /// The packet's number.
+    pub packet: PacketNumber,
+    /// The key of the number,
+    pub key: &'static str,
+    /// and that of the file's name.
+    pub file_key: &'static str,
+    /// The files' names.
+    pub files: &'a [String],
+}
+
+impl<'a> fmt::Display for PacketKeys<'a> {
+    fn fmt<W: fmt::Write>(&self, f: &mut fmt::Formatter<W>) -> fmt::Result {
+        let (key, number) = (self.key, self.packet.number);
+        write!(f, ",\"{key}\":{number}")?;
+        let Some(name) = file_of(self.packet, self.files) else {
+            return Ok(());
+        };
+        let (key, name) = (self.file_key, JsonText(name));
+        write!(f, ",\"{key}\":{name}")
+    }
+}
+
+/// Returns the name of a packet's file, if there are several.
+pub fn file_of<'a>(packet: PacketNumber, files: &'a [String]) -> Option<&'a str> {
+    if files.len() < 2 {
+        return None;
+    }
+    match files.get(packet.file as usize) {
+        Some(name) => Some(name.as_str()),
+        None => None,
+    }
+}

@@ -1,0 +1,170 @@
+//! The TSNs of the DATA that one end sent: which were repeated, and which were never seen.
+
+ghost use Rattle.std.specs.Prelude.{◌≡◌, ◌/◌, ◌%◌, ◌^◌, ◌↔◌, Some, IsTrue};
+ghost use Rattle.dump_analysis.specs.Serial.{IsAfter};
+ghost use Rattle.dump_analysis.specs.Tsns.{Follows, IsMarked};
+
+use crate::counts::increase;
+use crate::packet_number::PacketNumber;
+use crate::serial::is_after;
+
+/// How many TSNs up to the greatest one are remembered one by one.
+const WINDOW: u32 = 2_048;
+
+/// How many words hold a bit for each of them.
+const WORDS: usize = 32;
+
+/// The TSNs that one end sent (RFC 9260 sections 2.6 and 3.3.1), with counts up to 2^64 - 1.
+#[derive(Clone, Debug, Drop)]
+pub struct Tsns {
+    span: Option<Span>,
+    /// How many were seen again. One that comes 2,048 TSNs late, or later, counts as such.
+    pub repeated: u64,
+    /// The first of them,
+    pub first_repeated_tsn: u32,
+    /// and its packet, if there is one.
+    pub first_repeated: Option<PacketNumber>,
+    /// How many between the first and the last one were not seen.
+    pub missing: u64,
+    // which of the last `WINDOW` TSNs were seen, by their remainders
+    seen: [u64; WORDS],
+}
+
+/// The first TSN of the sequence and the last one.
+#[derive(Clone, Copy, Debug)]
+struct Span {
+    first: u32,
+    last: u32,
+}
+
+/// How a TSN follows those that an end sent before.
+#[derive(Clone, Copy, Debug, PartialEq, Eq)]
+pub enum Step {
+    /// It is the first one, or is beyond the greatest one.
+    Ahead {
+        /// How many are between them, and weren't seen.
+        missing: u32,
+    },
+    /// A greater one was seen, and it wasn't.
+    Late,
+    /// It was seen, or is 2,048 or more behind the greatest one.
+    Repeated,
+}
+
+impl Tsns {
+    /// Returns none.
+    pub fn new() -> Tsns {
+        Tsns {
+            span: None,
+            repeated: 0,
+            first_repeated_tsn: 0,
+            first_repeated: None,
+            missing: 0,
+            seen: [0; WORDS],
+        }
+    }
+
+    /// Returns the first TSN of the sequence, and the last one.
+    pub fn span(&self) -> Option<(u32, u32)> {
+        let span = self.span?;
+        Some((span.first, span.last))
+    }
+
+    /// Notes a TSN of the packet of this number, and returns how it follows those before.
+    pub fn note(&mut self, tsn: u32, number: PacketNumber) -> Step
+        ensures { Follows self.old.span self.old.seen tsn result }
+    {
+        let Some(span) = self.span else {
+            self.span = Some(Span {
+                first: tsn,
+                last: tsn,
+            });
+            self.mark(tsn);
+            return Step::Ahead { missing: 0 };
+        };
+        if is_after(tsn, span.last) {
+            let ahead = tsn.wrapping_sub(span.last);
+            self.advance(span, ahead);
+            self.mark(tsn);
+            return Step::Ahead { missing: ahead - 1 };
+        }
+        self.note_earlier(span, tsn, number)
+    }
+
+    /// Moves the last TSN on.
+    fn advance(&mut self, span: Span, ahead: u32) {
+        for step in 1..ahead.min(WINDOW) {
+            self.unmark(span.last.wrapping_add(step));
+        }
+        if ahead > WINDOW {
+            self.seen = [0; WORDS];
+        }
+        self.missing = self
+            .missing
+            .saturating_add(u64::from(ahead).saturating_sub(1));
+        self.span = Some(Span {
+            first: span.first,
+            last: span.last.wrapping_add(ahead),
+        });
+    }
+
+    /// Notes a TSN that isn't beyond the last one.
+    fn note_earlier(&mut self, span: Span, tsn: u32, number: PacketNumber) -> Step
+        requires { ¬ (IsAfter span.last tsn) }
+        ensures { Follows (Some span) self.old.seen tsn result }
+    {
+        let behind = span.last.wrapping_sub(tsn);
+        let size = span.last.wrapping_sub(span.first);
+        if behind >= WINDOW || self.is_marked(tsn) {
+            increase(&mut self.repeated);
+            if self.first_repeated.is_none() {
+                self.first_repeated = Some(number);
+                self.first_repeated_tsn = tsn;
+            }
+            return Step::Repeated;
+        }
+        if behind <= size {
+            self.missing = self.missing.saturating_sub(1);
+        } else {
+            let between = u64::from(behind).saturating_sub(u64::from(size) + 1);
+            self.missing = self.missing.saturating_add(between);
+            self.span = Some(Span {
+                first: tsn,
+                last: span.last,
+            });
+        }
+        self.mark(tsn);
+        Step::Late
+    }
+
+    /// Returns whether the bit of a TSN is set.
+    fn is_marked(&self, tsn: u32) -> bool
+        ensures { IsTrue result ↔ IsMarked self.now.seen tsn }
+    {
+        self.seen[word_of(tsn)] & bit_of(tsn) != 0
+    }
+
+    /// Sets the bit of a TSN.
+    fn mark(&mut self, tsn: u32) {
+        self.seen[word_of(tsn)] |= bit_of(tsn);
+    }
+
+    /// Clears the bit of a TSN.
+    fn unmark(&mut self, tsn: u32) {
+        self.seen[word_of(tsn)] &= !bit_of(tsn);
+    }
+}
+
+/// Returns the index of the word that holds the bit of a TSN.
+fn word_of(tsn: u32) -> usize
+    ensures { result ≡ tsn / 64 % 32 }
+{
+    (tsn / 64 % 32) as usize
+}
+
+/// Returns the bit of a TSN in its word.
+fn bit_of(tsn: u32) -> u64
+    ensures { result ≡ 2 ^ (tsn % 64) }
+{
+    1 << (tsn % 64)
+}

@@ -1,0 +1,116 @@
+//! What one end asked, and which of it was answered.
+
+ghost use Rattle.std.specs.Prelude.{◌≡◌, ◌-◌, ◌↔◌, Any, IsTrue};
+ghost use Rattle.dump_analysis.specs.Questions.{HasKey, IsOpen};
+
+use crate::counts::increase;
+use crate::packet_number::PacketNumber;
+
+/// How many questions are remembered.
+const MOST: usize = 8;
+
+/// The questions of one end that weren't answered, up to 2^64 - 1 of them: its HEARTBEATs (RFC 9260
+/// section 8.3), or its requests to reconfigure streams (RFC 6525 section 3.1). A question and its
+/// answer have the same key; an answer that comes after 8 further questions isn't recognized.
+#[derive(Clone, Debug, Drop)]
+pub struct Unanswered {
+    /// How many weren't answered.
+    pub count: u64,
+    // the last ones, answered or not, in a ring
+    asked: [Question; MOST],
+    // where the next one goes
+    next: usize,
+    // the last one that wasn't answered and is no longer in the ring
+    forgotten: Option<PacketNumber>,
+}
+
+/// A question.
+#[derive(Clone, Copy, Debug)]
+struct Question {
+    key: u64,
+    packet: Option<PacketNumber>,
+    is_answered: bool,
+}
+
+impl Unanswered {
+    /// Returns none.
+    pub fn new() -> Unanswered {
+        let none = Question {
+            key: 0,
+            packet: None,
+            is_answered: true,
+        };
+        Unanswered {
+            count: 0,
+            asked: [none; MOST],
+            next: 0,
+            forgotten: None,
+        }
+    }
+
+    /// Notes a question with this key in the packet of this number.
+    pub fn ask(&mut self, key: u64, packet: PacketNumber) {
+        increase(&mut self.count);
+        let place = self.next % MOST;
+        let oldest = self.asked[place];
+        if !oldest.is_answered {
+            self.forgotten = oldest.packet;
+        }
+        self.asked[place] = Question {
+            key,
+            packet: Some(packet),
+            is_answered: false,
+        };
+        self.next = (place + 1) % MOST;
+    }
+
+    /// Returns whether one of the last 8 questions has this key, answered or not.
+    pub fn has_asked(&self, key: u64) -> bool
+        ensures { IsTrue result ↔ Any (HasKey key) self.now.asked }
+    {
+        for question in &self.asked {
+            if question.packet.is_some() && question.key == key {
+                return true;
+            }
+        }
+        false
+    }
+
+    /// Notes an answer with this key: to the oldest question with the same one.
+    pub fn answer(&mut self, key: u64)
+        ensures answered { Any (IsOpen key) self.old.asked → self.new.count ≡ self.old.count - 1 }
+        ensures other { ¬ (Any (IsOpen key) self.old.asked) → self.new ≡ self.old }
+    {
+        for step in 0..MOST {
+            let place = self.next.wrapping_add(step) % MOST;
+            let question = &mut self.asked[place];
+            if !question.is_answered && question.key == key {
+                question.is_answered = true;
+                self.count = self.count.saturating_sub(1);
+                return;
+            }
+        }
+    }
+
+    /// Returns the packet of the last question that wasn't answered; `None` if all were.
+    pub fn last(&self) -> Option<PacketNumber> {
+        let mut last = self.forgotten;
+        for step in 0..MOST {
+            let place = self.next.wrapping_add(step) % MOST;
+            let question = self.asked[place];
+            if !question.is_answered {
+                last = question.packet;
+            }
+        }
+        last
+    }
+}
+
+/// Returns a digest of bytes (FNV-1a).
+pub fn digest(bytes: &[u8]) -> u64 {
+    let mut digest: u64 = 0xcbf2_9ce4_8422_2325;
+    for byte in bytes {
+        digest = (digest ^ u64::from(*byte)).wrapping_mul(0x0000_0100_0000_01b3);
+    }
+    digest
+}

@@ -1,0 +1,521 @@
+//! Lines of text that hold packets: in hexadecimal, of a log, or of a dump with offsets.
+
+ghost use Rattle.std.specs.Prelude.{◌≡◌, ◌≤◌, ◌<◌, ◌==◌, not, All, IsTrue, length, position, take};
+ghost use Rattle.std.specs.Char.{is_ascii_hexdigit};
+ghost use Rattle.std.specs.List.{list_all};
+ghost use Rattle.dump_capture.specs.HexBytes.{is_blank, hex_bytes};
+ghost use Rattle.dump_capture.specs.Line.{line_of, is_asterisk, text_line, packet_line, has_direction, behind_direction, begins_log, log_from, log_line, dump_line, place_of, is_in_time, is_time, word, after_word, marked_bytes, transport_of, dumped, dumped_bytes, is_byte_alone, behind_offset, has_hexdump_offset, has_wireshark_offset, barred_bytes, hexdump_line, wireshark_line, is_gap, groups_length, hex_number, offset_length, has_offset, is_printable};
+
+use crate::hex_bytes::{HexBytes, begins_with_byte, digit, is_blank, without_blanks_before};
+use crate::log_text::LogText;
+use crate::parts::after;
+
+/// How many bytes the mark of a log has, `# SCTP_PACKET`.
+const MARK_SIZE: usize = 13;
+
+/// Where a logged packet went.
+#[derive(Clone, Copy, Debug, PartialEq, Eq)]
+pub enum Direction {
+    /// Received, `I`.
+    Incoming,
+    /// Sent, `O`.
+    Outgoing,
+}
+
+/// A packet of a log.
+#[derive(Clone, Debug, Drop)]
+pub struct LoggedPacket<'a> {
+    /// Whether it was received or sent.
+    pub direction: Direction,
+    /// When: a time of day, of digits, colons and points.
+    pub time: LogText<'a>,
+    /// The name of the transport that logged it; empty if it has none.
+    pub transport: LogText<'a>,
+    /// Its bytes.
+    pub packet: HexBytes<'a>,
+}
+
+/// A form of dump.
+#[derive(Clone, Copy, Debug, PartialEq, Eq)]
+pub enum DumpForm {
+    /// Of `xxd`: `00000010: 1388 1388 ..`. Nothing says what the bytes are.
+    Xxd,
+    /// Of `tcpdump -x` and `-xx`: `0x0010:  1388 1388 ..`. The bytes are those of an IP packet, or
+    /// of a frame.
+    Tcpdump,
+    /// Of `hexdump -C` and `od -A x -t x1`: `00000010  13 88 13 88 ..`. Nothing says what the bytes
+    /// are.
+    Hexdump,
+    /// Of Wireshark and `tshark -x`: `0010  13 88 13 88 ..`. Nothing says what the bytes are.
+    Wireshark,
+}
+
+/// A line of a dump.
+#[derive(Clone, Debug, Drop)]
+pub struct DumpedBytes<'a> {
+    /// What wrote it.
+    pub form: DumpForm,
+    /// The offset of its first byte in the packet.
+    pub offset: u32,
+    /// Its bytes.
+    pub bytes: HexBytes<'a>,
+}
+
+/// What a line says.
+#[derive(Clone, Debug, Drop)]
+pub enum Line<'a> {
+    /// Nothing, or blanks.
+    Blank,
+    /// A line that begins with `#`.
+    Comment,
+    /// A packet in hexadecimal.
+    Packet(HexBytes<'a>),
+    /// A packet of a log.
+    Logged(LoggedPacket<'a>),
+    /// A part of a dump.
+    Dumped(DumpedBytes<'a>),
+    /// `*` of a dump: lines that are as the one before.
+    Repeats,
+    /// Anything else.
+    Unknown,
+}
+
+/// Where the bytes of a line of a dump belong.
+#[derive(Clone, Copy, Debug, PartialEq, Eq)]
+pub enum Place {
+    /// They begin a packet.
+    Begins,
+    /// They continue the packet.
+    Continues,
+    /// They do neither.
+    Apart,
+}
+
+/// Returns where bytes at this offset belong, after `held` bytes of a packet: at offset 0 they
+/// begin the next packet, and at offset `held` they continue this one.
+pub fn place_of(offset: u32, held: usize) -> Place
+    ensures { result ≡ place_of offset held }
+{
+    if offset == 0 {
+        Place::Begins
+    } else if offset as usize == held {
+        Place::Continues
+    } else {
+        Place::Apart
+    }
+}
+
+/// Reads a line of text, without its line feed. Blanks (spaces, tabs and carriage returns) at its
+/// beginning and its end are ignored. The forms, in the order in which they are tried, a dump by
+/// the line's beginning:
+///
+/// - nothing: `Blank`; `#`: `Comment`; `*` alone: `Repeats`, as `hexdump` and `od` write it;
+/// - `0x`: `Dumped`, as `tcpdump -x` and `-X` write it: an offset of one to eight digits, a colon,
+///   a blank, and groups of digits;
+/// - one to eight digits, a colon and a blank: `Dumped`, as `xxd` writes it; in both forms of dump,
+///   two blanks in a row end the bytes, and only printable ASCII may follow;
+/// - six to eight digits, blanks and a byte: `Dumped`, as `hexdump -C` writes it, where the first
+///   `|` ends the bytes, and as `od -A x -t x1` does; the digits alone, of which the first two are
+///   0, are the last line, which says the length;
+/// - four digits, two blanks and a byte: `Dumped`, as Wireshark writes it; two blanks in a row end
+///   the bytes;
+/// - `I ` or `O `, a time and `0000 `, anywhere: `Logged`, as WebRTC logs packets for `text2pcap`:
+///   `I 12:34:56.789 0000 13 88 .. # SCTP_PACKET DcSctpTransport0`; the word after the mark, if one
+///   is there, is the transport's name, and anything may come before the direction and after it;
+/// - anything else: `Packet`, if it is digits, two a byte, of either case, with blanks between
+///   bytes.
+///
+/// A line that begins as one form and isn't of that form is `Unknown`.
+pub fn read_line(line: &[u8]) -> Line<'_>
+    ensures { result ≡ line_of line.now }
+{
+    read_text(without_blanks_before(line))
+}
+
+/// Reads a line that doesn't begin with a blank.
+fn read_text(text: &[u8]) -> Line<'_>
+    ensures { result ≡ text_line text.now }
+{
+    if text.is_empty() {
+        Line::Blank
+    } else if text[0] == b'#' {
+        Line::Comment
+    } else if is_asterisk(text) {
+        Line::Repeats
+    } else if text.starts_with(b"0x") {
+        dump_line(DumpForm::Tcpdump, after(text, 2))
+    } else if has_offset(text) {
+        dump_line(DumpForm::Xxd, text)
+    } else if has_hexdump_offset(text) {
+        hexdump_line(text)
+    } else if has_wireshark_offset(text) {
+        wireshark_line(text)
+    } else {
+        let log = log_from(text);
+        if log.is_empty() {
+            packet_line(text)
+        } else {
+            log_line(log)
+        }
+    }
+}
+
+/// Returns whether an asterisk is at the front, and only blanks after it.
+fn is_asterisk(text: &[u8]) -> bool
+    ensures { result ≡ is_asterisk text.now }
+{
+    text.starts_with(b"*") && without_blanks_before(after(text, 1)).is_empty()
+}
+
+/// Reads a line of digits.
+fn packet_line(text: &[u8]) -> Line<'_>
+    ensures { result ≡ packet_line (hex_bytes text.now) }
+{
+    match HexBytes::from_text(text) {
+        Some(bytes) => Line::Packet(bytes),
+        None => Line::Unknown,
+    }
+}
+
+/// Reads a line of a log from its direction on.
+#[tactic(auto, unfolding(crate::specs::Line::log_line))]
+fn log_line(text: &[u8]) -> Line<'_>
+    requires { 0 < length text.now }
+    ensures { result ≡ log_line text.now }
+{
+    let direction = if text[0] == b'I' {
+        Direction::Incoming
+    } else {
+        Direction::Outgoing
+    };
+    let (time, rest) = first_word(behind_direction(text));
+    let bytes = after(rest, 5);
+    match marked_bytes(bytes) {
+        Some(packet) => Line::Logged(LoggedPacket {
+            direction,
+            time: LogText::new(time),
+            transport: LogText::new(transport_of(bytes)),
+            packet,
+        }),
+        None => Line::Unknown,
+    }
+}
+
+/// Returns the text from the first place on where a line of a log begins; nothing if there is none.
+#[tactic(auto, using(crate::proofs::Logs::log_none))]
+fn log_from(text: &[u8]) -> &[u8]
+    ensures { result.now ≡ log_from text.now }
+{
+    let mut offset = 0;
+    while offset < text.len() {
+        if begins_log(&text[offset..]) {
+            return &text[offset..];
+        }
+        offset += 1;
+    }
+    &text[offset..]
+}
+
+/// Returns whether a direction, a time and the offset 0000 are at the front.
+#[tactic(auto, unfolding(crate::specs::Line::begins_log))]
+fn begins_log(text: &[u8]) -> bool
+    ensures { result ≡ begins_log text.now }
+{
+    if !has_direction(text) {
+        return false;
+    }
+    let (time, rest) = first_word(behind_direction(text));
+    is_time(time) && rest.starts_with(b"0000 ")
+}
+
+/// Returns whether a direction is at the front.
+fn has_direction(text: &[u8]) -> bool
+    ensures { result ≡ has_direction text.now }
+{
+    text.len() > 1 && matches!(text[0], b'I' | b'O') && text[1] == b' '
+}
+
+/// Returns what follows the direction and the blanks after it.
+fn behind_direction(text: &[u8]) -> &[u8]
+    ensures { result.now ≡ behind_direction text.now }
+{
+    without_blanks_before(after(text, 2))
+}
+
+/// Returns the first word, and what follows the blanks after it.
+#[tactic(auto, using(crate::proofs::Places::first_place, crate::proofs::Places::place_within))]
+fn first_word(text: &[u8]) -> (&[u8], &[u8])
+    ensures word { result.0.now ≡ word text.now }
+    ensures rest { result.1.now ≡ after_word text.now }
+{
+    let length = first_blank(text).unwrap_or(text.len());
+    (&text[..length], without_blanks_before(&text[length..]))
+}
+
+/// Returns the offset of the first blank.
+fn first_blank(text: &[u8]) -> Option<usize>
+    ensures { result ≡ position is_blank text.now }
+{
+    text.iter().position(|byte| is_blank(*byte))
+}
+
+/// Returns whether a word can be a time of day.
+fn is_time(text: &[u8]) -> bool
+    ensures { result ≡ is_time text.now }
+{
+    if text.is_empty() {
+        return false;
+    }
+    are_in_time(text)
+}
+
+/// Returns whether each byte is a digit, a colon or a point.
+fn are_in_time(text: &[u8]) -> bool
+    ensures { result ≡ list_all is_in_time text.now }
+{
+    text.iter().all(|byte| is_in_time(*byte))
+}
+
+/// Returns whether the byte is a digit, a colon or a point.
+fn is_in_time(byte: u8) -> bool
+    ensures { result ≡ is_in_time byte }
+{
+    byte.is_ascii_digit() || byte == b':' || byte == b'.'
+}
+
+/// Returns the bytes before the mark of a log.
+#[tactic(auto, using(crate::proofs::Places::first_place, crate::proofs::Places::place_within))]
+fn marked_bytes(text: &[u8]) -> Option<HexBytes<'_>>
+    ensures { result ≡ marked_bytes text.now }
+{
+    let offset = first_number_sign(text).unwrap_or(text.len());
+    if text[offset..].starts_with(b"# SCTP_PACKET") {
+        HexBytes::from_text(&text[..offset])
+    } else {
+        None
+    }
+}
+
+/// Returns the word after the mark of a log.
+#[tactic(auto, using(crate::proofs::Places::first_place, crate::proofs::Places::place_within))]
+fn transport_of(text: &[u8]) -> &[u8]
+    ensures { result.now ≡ transport_of text.now }
+{
+    let offset = first_number_sign(text).unwrap_or(text.len());
+    let marked = after(&text[offset..], MARK_SIZE);
+    first_word(without_blanks_before(marked)).0
+}
+
+/// Returns the offset of the first `#`.
+fn first_number_sign(text: &[u8]) -> Option<usize>
+    ensures { result ≡ position (λ byte. byte == 35) text.now }
+{
+    text.iter().position(|byte| *byte == b'#')
+}
+
+/// Reads a line of a dump that begins with its offset.
+fn dump_line(form: DumpForm, text: &[u8]) -> Line<'_>
+    ensures { result ≡ dump_line form text.now }
+{
+    if !has_offset(text) {
+        return Line::Unknown;
+    }
+    let offset = number_before(text);
+    let rest = &text[offset_length(text) + 1..];
+    dumped(form, offset, dumped_bytes(without_blanks_before(rest)))
+}
+
+/// Returns what a line of a dump says: nothing that is known, without bytes.
+fn dumped(form: DumpForm, offset: u32, bytes: Option<HexBytes<'_>>) -> Line<'_>
+    ensures { result ≡ dumped form offset bytes.entry }
+{
+    match bytes {
+        Some(bytes) => Line::Dumped(DumpedBytes {
+            form,
+            offset,
+            bytes,
+        }),
+        None => Line::Unknown,
+    }
+}
+
+/// Returns the number that the digits at the beginning say.
+fn number_before(text: &[u8]) -> u32
+    requires { offset_length text.now ≤ 8 }
+    ensures { result ≡ hex_number (take (offset_length text.now) text.now) }
+{
+    let length = offset_length(text);
+    hex_number(&text[..length])
+}
+
+/// Returns what follows the digits at the beginning and the blanks after them.
+fn behind_offset(text: &[u8]) -> &[u8]
+    ensures { result.now ≡ behind_offset text.now }
+{
+    without_blanks_before(after(text, offset_length(text)))
+}
+
+/// Reads a line of a dump by `hexdump`.
+fn hexdump_line(text: &[u8]) -> Line<'_>
+    requires { offset_length text.now ≤ 8 }
+    ensures { result ≡ hexdump_line text.now }
+{
+    let offset = number_before(text);
+    dumped(DumpForm::Hexdump, offset, barred_bytes(behind_offset(text)))
+}
+
+/// Reads a line of a dump by Wireshark.
+fn wireshark_line(text: &[u8]) -> Line<'_>
+    requires { offset_length text.now ≤ 8 }
+    ensures { result ≡ wireshark_line text.now }
+{
+    let offset = number_before(text);
+    dumped(
+        DumpForm::Wireshark,
+        offset,
+        dumped_bytes(behind_offset(text)),
+    )
+}
+
+/// Returns whether the text begins with six to eight digits and a byte, or is a length.
+fn has_hexdump_offset(text: &[u8]) -> bool
+    ensures value { result ≡ has_hexdump_offset text.now }
+    ensures short { IsTrue result → offset_length text.now ≤ 8 }
+{
+    let length = offset_length(text);
+    let rest = behind_offset(text);
+    length >= 6
+        && length <= 8
+        && (is_byte_alone(rest) || rest.is_empty() && text.starts_with(b"00"))
+}
+
+/// Returns whether the text begins with four digits, two blanks and a byte.
+fn has_wireshark_offset(text: &[u8]) -> bool
+    ensures value { result ≡ has_wireshark_offset text.now }
+    ensures short { IsTrue result → offset_length text.now ≤ 8 }
+{
+    offset_length(text) == 4
+        && text.len() > 4
+        && is_gap(&text[4..], 0)
+        && is_byte_alone(behind_offset(text))
+}
+
+/// Returns whether the text begins with a byte, and a blank or nothing after it.
+fn is_byte_alone(text: &[u8]) -> bool
+    ensures { result ≡ is_byte_alone text.now }
+{
+    begins_with_byte(text) && (text.len() == 2 || is_blank(text[2]))
+}
+
+/// Returns the bytes before a `|`.
+#[tactic(auto, using(crate::proofs::Places::first_place, crate::proofs::Places::place_within))]
+fn barred_bytes(text: &[u8]) -> Option<HexBytes<'_>>
+    ensures { result ≡ barred_bytes text.now }
+{
+    let offset = first_bar(text).unwrap_or(text.len());
+    if are_printable(&text[offset..]) {
+        HexBytes::from_text(&text[..offset])
+    } else {
+        None
+    }
+}
+
+/// Returns the offset of the first `|`.
+fn first_bar(text: &[u8]) -> Option<usize>
+    ensures { result ≡ position (λ byte. byte == 124) text.now }
+{
+    text.iter().position(|byte| *byte == b'|')
+}
+
+/// Returns whether the text begins with one to eight digits, a colon and a blank.
+fn has_offset(text: &[u8]) -> bool
+    ensures value { result ≡ has_offset text.now }
+    ensures inside { IsTrue result → offset_length text.now < length text.now }
+    ensures short { IsTrue result → offset_length text.now ≤ 8 }
+{
+    let length = offset_length(text);
+    length > 0
+        && length <= 8
+        && length + 1 < text.len()
+        && text[length] == b':'
+        && is_blank(text[length + 1])
+}
+
+/// Returns how many digits the text begins with.
+#[tactic(auto, using(crate::proofs::Places::first_place, crate::proofs::Places::place_within))]
+fn offset_length(text: &[u8]) -> usize
+    ensures value { result ≡ offset_length text.now }
+    ensures within { result ≤ length text.now }
+{
+    first_nondigit(text).unwrap_or(text.len())
+}
+
+/// Returns the offset of the first byte that isn't a digit.
+fn first_nondigit(text: &[u8]) -> Option<usize>
+    ensures { result ≡ position (λ byte. not (is_ascii_hexdigit byte)) text.now }
+{
+    text.iter().position(|byte| !byte.is_ascii_hexdigit())
+}
+
+/// Returns the number that at most eight digits say.
+fn hex_number(digits: &[u8]) -> u32
+    requires short { length digits.now ≤ 8 }
+    requires digits { All (λ digit. IsTrue (is_ascii_hexdigit digit)) digits.now }
+    ensures { result ≡ hex_number digits.now }
+{
+    let mut number = 0;
+    for byte in digits {
+        number = 16 * number + digit(*byte) as u32;
+    }
+    number
+}
+
+/// Returns the bytes of a line of a dump after its offset.
+fn dumped_bytes(text: &[u8]) -> Option<HexBytes<'_>>
+    ensures { result ≡ dumped_bytes text.now }
+{
+    let length = groups_length(text);
+    if are_printable(&text[length..]) {
+        HexBytes::from_text(&text[..length])
+    } else {
+        None
+    }
+}
+
+/// Returns how many bytes come before the first two blanks in a row.
+#[tactic(auto, using(crate::proofs::Groups::groups_end, crate::proofs::Groups::groups_at_gap, crate::proofs::Groups::groups_past))]
+fn groups_length(text: &[u8]) -> usize
+    ensures value { result ≡ groups_length text.now }
+    ensures within { result ≤ length text.now }
+{
+    let mut length = 0;
+    while length < text.len() {
+        if is_gap(text, length) {
+            return length;
+        }
+        length += 1;
+    }
+    length
+}
+
+/// Returns whether two blanks are at this offset.
+fn is_gap(text: &[u8], offset: usize) -> bool
+    requires { offset < length text.now }
+    ensures { result ≡ is_gap text.now offset }
+{
+    offset + 1 < text.len() && is_blank(text[offset]) && is_blank(text[offset + 1])
+}
+
+/// Returns whether each byte is blank or can be printed.
+fn are_printable(text: &[u8]) -> bool
+    ensures { result ≡ list_all is_printable text.now }
+{
+    text.iter().all(|byte| is_printable(*byte))
+}
+
+/// Returns whether a byte is blank or can be printed.
+fn is_printable(byte: u8) -> bool
+    ensures { result ≡ is_printable byte }
+{
+    is_blank(byte) || (b' '..=b'~').contains(&byte)
+}

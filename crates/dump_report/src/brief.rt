@@ -1,0 +1,239 @@
+//! A packet in a part of one line: words with a blank between each two.
+
+use dcsctp_borrowed::checksum::Checksum;
+use crate::fault::{Fault, Reason};
+use crate::fields::{Block, Fields, Flag, Form, Number, Text};
+use dump_text::names::Level;
+use dcsctp_borrowed::part::{Item, Part};
+use dump_text::printed::OneWord;
+use dump_text::registry::{cause_name, chunk_name, parameter_name};
+use dcsctp_wire::packet::sctp_packet::CommonHeader;
+use std::fmt;
+
+/// Writes words. Of parameters and error causes it writes the names, or types and codes without
+/// one, and texts.
+#[derive(Drop)]
+pub struct BriefFields<'f, W> {
+    f: &'f mut fmt::Formatter<W>,
+    /// What is written before the next word.
+    before: &'static str,
+    /// What is written before the next item or entry of a list.
+    before_item: &'static str,
+    /// What is written before the next number of an entry.
+    before_number: &'static str,
+    /// Whether a chunk began.
+    has_chunk: bool,
+    /// Whether a parameter or an error cause began that hasn't ended.
+    is_inside: bool,
+    /// Whether an entry began that hasn't ended.
+    is_entry: bool,
+}
+
+impl<'f, W: fmt::Write> BriefFields<'f, W> {
+    /// Returns what writes no blank before the first word.
+    pub fn new(f: &'f mut fmt::Formatter<W>) -> BriefFields<'f, W> {
+        BriefFields {
+            f,
+            before: "",
+            before_item: "",
+            before_number: "",
+            has_chunk: false,
+            is_inside: false,
+            is_entry: false,
+        }
+    }
+
+    /// Begins a word.
+    fn begin_word(&mut self) -> fmt::Result {
+        self.f.write_str(self.before)?;
+        self.before = " ";
+        Ok(())
+    }
+
+    /// Begins an item or an entry of a list.
+    fn begin_item(&mut self) -> fmt::Result {
+        self.f.write_str(self.before_item)?;
+        self.before_item = ",";
+        Ok(())
+    }
+
+    /// Writes a chunk's name, or its type.
+    fn begin_chunk(&mut self, typ: u8) -> fmt::Result {
+        if self.has_chunk {
+            self.f.write_str(" |")?;
+        }
+        self.has_chunk = true;
+        self.begin_word()?;
+        match chunk_name(typ as u32) {
+            Some(name) => self.put_name(name),
+            None => write!(self.f, "{typ:#04x}"),
+        }
+    }
+
+    /// Writes a name as one word.
+    fn put_name(&mut self, name: &'static str) -> fmt::Result {
+        for character in name.chars() {
+            let written = if character == ' ' { '_' } else { character };
+            self.f.write_char(written)?;
+        }
+        Ok(())
+    }
+
+    /// Begins a field.
+    fn begin_field(&mut self, key: &'static str) -> fmt::Result {
+        self.begin_word()?;
+        self.f.write_str(key)?;
+        self.f.write_str("=")
+    }
+
+    /// Writes a size.
+    fn put_size(&mut self, size: usize) -> fmt::Result {
+        self.begin_field("size")?;
+        write!(self.f, "{size}")
+    }
+}
+
+impl<'f, W: fmt::Write> Fields for BriefFields<'f, W> {
+    fn header(&mut self, header: &CommonHeader, found: Checksum) -> fmt::Result {
+        let (tag, found) = (header.verification_tag, found.name());
+        self.begin_word()?;
+        write!(self.f, "{tag:#010x} {found}")
+    }
+
+    fn no_header(&mut self, _captured: &[u8]) -> fmt::Result {
+        self.begin_word()?;
+        self.f.write_str("- unknown")
+    }
+
+    fn fault(&mut self, fault: &Fault<'_>) -> fmt::Result {
+        let (kind, offset, reason) = (fault.kind.name(), fault.offset, Reason(*fault));
+        self.begin_word()?;
+        write!(self.f, "! {kind} at {offset}: {reason}")
+    }
+
+    fn cut_off(&mut self) -> fmt::Result {
+        self.begin_word()?;
+        self.f.write_str("! cut off")
+    }
+
+    fn begin(&mut self, level: Level, item: &Item<'_>) -> fmt::Result {
+        if level == Level::Chunk {
+            return self.begin_chunk(item.first);
+        }
+        let code = item.code();
+        let name = match level {
+            Level::Cause => cause_name(code),
+            _ => parameter_name(code),
+        };
+        self.is_inside = true;
+        self.begin_item()?;
+        match name {
+            Some(name) => self.put_name(name),
+            None => write!(self.f, "{code:#06x}"),
+        }
+    }
+
+    fn end(&mut self, _level: Level) -> fmt::Result {
+        self.is_inside = false;
+        Ok(())
+    }
+
+    fn begin_list(&mut self, key: &'static str, is_empty: bool) -> fmt::Result {
+        if is_empty || self.is_inside || !self.has_chunk {
+            return Ok(());
+        }
+        self.before_item = "";
+        self.begin_field(key)
+    }
+
+    fn begin_entry(&mut self, _offset: usize, _size: usize) -> fmt::Result {
+        if self.is_inside {
+            return Ok(());
+        }
+        self.is_entry = true;
+        self.before_number = "";
+        self.begin_item()
+    }
+
+    fn end_entry(&mut self) -> fmt::Result {
+        self.is_entry = false;
+        Ok(())
+    }
+
+    /// Writes nothing of a number without words.
+    fn number(&mut self, number: &Number) -> fmt::Result {
+        if self.is_inside || number.words.is_empty() {
+            return Ok(());
+        }
+        if self.is_entry {
+            self.f.write_str(self.before_number)?;
+            self.before_number = "/";
+        } else {
+            self.begin_field(number.key)?;
+        }
+        let value = number.value;
+        match number.form {
+            Form::Hexadecimal => write!(self.f, "{value:#010x}"),
+            _ => write!(self.f, "{value}"),
+        }
+    }
+
+    fn named(&mut self, number: &Number, name: Option<&'static str>) -> fmt::Result {
+        self.number(number)?;
+        match name {
+            Some(name) if !self.is_inside => {
+                self.f.write_str("/")?;
+                self.put_name(name)
+            }
+            _ => Ok(()),
+        }
+    }
+
+    fn flag(&mut self, flag: &Flag) -> fmt::Result {
+        let word = if flag.is_set {
+            flag.key
+        } else {
+            flag.otherwise
+        };
+        if self.is_inside || word.is_empty() {
+            return Ok(());
+        }
+        if self.is_entry {
+            self.f.write_str("/")?;
+        } else {
+            self.begin_word()?;
+        }
+        self.f.write_str(word)
+    }
+
+    fn block(&mut self, block: &Block) -> fmt::Result {
+        let (start, end) = (block.start, block.end);
+        self.begin_item()?;
+        if start == end {
+            return write!(self.f, "{start}");
+        }
+        write!(self.f, "{start}-{end}")
+    }
+
+    fn text(&mut self, text: &Text<'_>) -> fmt::Result {
+        let word = OneWord(text.bytes);
+        self.begin_field(text.key)?;
+        write!(self.f, "{word}")
+    }
+
+    fn text_value(&mut self, bytes: &[u8]) -> fmt::Result {
+        let word = OneWord(bytes);
+        write!(self.f, ":{word}")
+    }
+
+    fn payload(&mut self, payload: Part<'_>, _offset: usize, _is_text: bool) -> fmt::Result {
+        self.put_size(payload.size)
+    }
+
+    fn value(&mut self, level: Level, item: &Item<'_>) -> fmt::Result {
+        if level != Level::Chunk {
+            return Ok(());
+        }
+        self.put_size(item.value.size)
+    }
+}

@@ -1,0 +1,272 @@
+//! What a chunk holds.
+
+use crate::causes::walk_causes;
+use crate::channel::walk_channel;
+use crate::fields::{Block, Fields, Flag, Form, HEADER_SIZE, Number, walk_numbers};
+use dump_text::names::Level;
+use crate::parameters::walk_parameters;
+use dcsctp_borrowed::part::{Item, Part};
+use dump_text::registry::payload_protocol;
+use dcsctp_borrowed::forward_tsn_ref::ForwardTsnRef;
+use dcsctp_borrowed::user_data::UserData;
+use dcsctp_wire::packet::chunk::RawChunk;
+use dcsctp_wire::packet::read_u16_be;
+use std::fmt;
+
+/// Bytes of INIT and INIT ACK before the parameters.
+pub const INIT_SIZE: usize = 20;
+
+/// Bytes of SACK before the gap ack blocks and the duplicate TSNs.
+const SACK_SIZE: usize = 16;
+
+/// Bytes of a gap ack block, and of a duplicate TSN.
+const SACK_ENTRY_SIZE: usize = 4;
+
+/// Bytes of DATA before the payload.
+const DATA_SIZE: usize = 16;
+
+/// Bytes of I-DATA before the payload.
+const IDATA_SIZE: usize = 20;
+
+/// Bytes of FORWARD-TSN and I-FORWARD-TSN before the streams.
+const FORWARD_TSN_SIZE: usize = 8;
+
+/// Hands over each chunk of a packet's list, as far as there are chunks.
+pub fn walk_chunks<F: Fields>(list: Part<'_>, fields: &mut F) -> fmt::Result {
+    fields.begin_list("chunks", list.item().is_none())?;
+    for chunk in list.items() {
+        walk_chunk(&chunk, fields)?;
+    }
+    fields.end_list()
+}
+
+/// Hands over a chunk.
+pub fn walk_chunk<F: Fields>(chunk: &Item<'_>, fields: &mut F) -> fmt::Result {
+    fields.begin(Level::Chunk, chunk)?;
+    if !walk_meaning(chunk, fields)? {
+        fields.value(Level::Chunk, chunk)?;
+    }
+    fields.end(Level::Chunk)
+}
+
+/// Hands over what a chunk means; returns false, and hands over nothing, where it isn't known to
+/// hold anything but its bytes.
+fn walk_meaning<F: Fields>(chunk: &Item<'_>, fields: &mut F) -> Result<bool, fmt::Error> {
+    let value = chunk.value;
+    let size = value.bytes.len();
+    match chunk.first {
+        // DATA, I-DATA
+        0 | 64 => return walk_data(chunk, fields),
+        // INIT, INIT ACK
+        1 | 2 if size >= INIT_SIZE - HEADER_SIZE => {
+            walk_init(chunk, fields)?;
+            walk_parameters(value.after(INIT_SIZE - HEADER_SIZE), fields)?;
+        }
+        // SACK
+        3 => return walk_sack(chunk, fields),
+        // HEARTBEAT, HEARTBEAT ACK, RE-CONFIG
+        4 | 5 | 130 => walk_parameters(value, fields)?,
+        // ABORT, ERROR
+        6 => {
+            fields.flag(&tag_reflected(chunk))?;
+            walk_causes(value, fields)?;
+        }
+        9 => walk_causes(value, fields)?,
+        // SHUTDOWN, SHUTDOWN ACK, COOKIE ACK, SHUTDOWN COMPLETE
+        7 if value.is_whole() && size == 4 => {
+            fields.number(&Number::read(": cumulative tsn ", "cumulative_tsn", chunk, 4, 4))?;
+        }
+        8 | 11 if value.size == 0 => {}
+        14 if value.size == 0 => fields.flag(&tag_reflected(chunk))?,
+        // FORWARD-TSN, I-FORWARD-TSN
+        192 | 194 if value.is_whole() => return walk_forward_tsn(chunk, fields),
+        _ => return Ok(false),
+    }
+    Ok(true)
+}
+
+/// The T bit.
+fn tag_reflected(chunk: &Item<'_>) -> Flag {
+    Flag {
+        words: (", tag reflected", ""),
+        key: "tag_reflected",
+        otherwise: "",
+        offset: 1,
+        is_set: chunk.second % 2 == 1,
+    }
+}
+
+/// Hands over the numbers of an INIT or an INIT ACK.
+fn walk_init<F: Fields>(chunk: &Item<'_>, fields: &mut F) -> fmt::Result {
+    let tag = Number::read(": tag ", "tag", chunk, 4, 4);
+    fields.number(&tag.in_form(Form::Hexadecimal))?;
+    fields.number(&Number::read(", a_rwnd ", "a_rwnd", chunk, 8, 4))?;
+    fields.number(&Number::read(", outbound streams ", "outbound_streams", chunk, 12, 2))?;
+    fields.number(&Number::read(", inbound streams ", "inbound_streams", chunk, 14, 2))?;
+    fields.number(&Number::read(", initial tsn ", "initial_tsn", chunk, 16, 4))
+}
+
+/// Hands over a SACK, as far as its lists were captured, as `walk_meaning` does.
+fn walk_sack<F: Fields>(chunk: &Item<'_>, fields: &mut F) -> Result<bool, fmt::Error> {
+    let bytes = chunk.value.bytes;
+    if bytes.len() < SACK_SIZE - HEADER_SIZE {
+        return Ok(false);
+    }
+    let tsn = Number::read(": cumulative tsn ", "cumulative_tsn", chunk, 4, 4);
+    let blocks = read_u16_be(&bytes[8..]) as usize;
+    let duplicates = read_u16_be(&bytes[10..]) as usize;
+    let lists_size = SACK_ENTRY_SIZE * (blocks + duplicates);
+    if chunk.value.size != SACK_SIZE - HEADER_SIZE + lists_size {
+        return Ok(false);
+    }
+    fields.number(&tsn)?;
+    fields.number(&Number::read(", a_rwnd ", "a_rwnd", chunk, 8, 4))?;
+    let captured = (bytes.len() - (SACK_SIZE - HEADER_SIZE)) / SACK_ENTRY_SIZE;
+    let blocks_captured = blocks.min(captured);
+    walk_blocks(blocks_captured, tsn.value, chunk, fields)?;
+    let first_duplicate = Number::read(
+        "\n  duplicate tsn ",
+        "tsn",
+        chunk,
+        SACK_SIZE + SACK_ENTRY_SIZE * blocks,
+        4,
+    );
+    walk_numbers(
+        "duplicates",
+        captured - blocks_captured,
+        first_duplicate,
+        chunk,
+        fields,
+    )?;
+    Ok(true)
+}
+
+/// Hands over the gap ack blocks of a SACK.
+fn walk_blocks<F: Fields>(
+    count: usize,
+    cumulative_tsn: u32,
+    chunk: &Item<'_>,
+    fields: &mut F,
+) -> fmt::Result {
+    fields.begin_list("blocks", count == 0)?;
+    let mut start = Number::read("", "start", chunk, SACK_SIZE, 2);
+    for _ in 0..count {
+        let end = start.next(chunk);
+        fields.block(&Block {
+            offset: start.offset,
+            start: start.value,
+            end: end.value,
+            cumulative_tsn,
+        })?;
+        start = end.next(chunk);
+    }
+    fields.end_list()
+}
+
+/// Hands over a FORWARD-TSN or an I-FORWARD-TSN, as `walk_meaning` does.
+fn walk_forward_tsn<F: Fields>(chunk: &Item<'_>, fields: &mut F) -> Result<bool, fmt::Error> {
+    let (typ, flags, value) = (chunk.first, chunk.second, chunk.value.bytes);
+    let Some(forward) = ForwardTsnRef::from_raw(&RawChunk { typ, flags, value }) else {
+        return Ok(false);
+    };
+    let words = ": new cumulative tsn ";
+    fields.number(&Number::read(words, "new_cumulative_tsn", chunk, 4, 4))?;
+    let count = forward.skipped_stream_count();
+    let size = if typ == 192 { 4 } else { 8 };
+    fields.begin_list("streams", count == 0)?;
+    let mut offset = FORWARD_TSN_SIZE;
+    for _ in 0..count {
+        walk_stream(offset, size, chunk, fields)?;
+        offset = offset.saturating_add(size);
+    }
+    fields.end_list()?;
+    Ok(true)
+}
+
+/// Hands over a skipped stream, of 4 bytes in FORWARD-TSN, and of 8 in I-FORWARD-TSN.
+fn walk_stream<F: Fields>(
+    offset: usize,
+    size: usize,
+    chunk: &Item<'_>,
+    fields: &mut F,
+) -> fmt::Result {
+    fields.begin_entry(offset, size)?;
+    fields.number(&Number::read("\n  stream ", "stream", chunk, offset, 2))?;
+    if size == 4 {
+        let offset = offset.saturating_add(2);
+        fields.number(&Number::read(", ssn ", "ssn", chunk, offset, 2))?;
+    } else {
+        let bits = Number::read("", "", chunk, offset.saturating_add(3), 1);
+        fields.flag(&order_flag(bits.value % 2 == 1, bits.offset))?;
+        let offset = offset.saturating_add(4);
+        fields.number(&Number::read(", mid ", "mid", chunk, offset, 4))?;
+    }
+    fields.end_entry()
+}
+
+/// Hands over a DATA or an I-DATA, as `walk_meaning` does.
+fn walk_data<F: Fields>(chunk: &Item<'_>, fields: &mut F) -> Result<bool, fmt::Error> {
+    let (typ, flags, value) = (chunk.first, chunk.second, chunk.value.bytes);
+    let Some(data) = UserData::from_raw(&RawChunk { typ, flags, value }) else {
+        return Ok(false);
+    };
+    fields.number(&Number::read(": tsn ", "tsn", chunk, 4, 4))?;
+    fields.number(&Number::read(", stream ", "stream", chunk, 8, 2))?;
+    let offset = if typ == 0 {
+        fields.number(&Number::read(", ssn ", "ssn", chunk, 10, 2))?;
+        walk_ppid(12, chunk, fields)?;
+        DATA_SIZE
+    } else {
+        fields.number(&Number::read(", mid ", "mid", chunk, 12, 4))?;
+        if data.is_beginning {
+            walk_ppid(16, chunk, fields)?;
+        } else {
+            fields.number(&Number::read(", fsn ", "fsn", chunk, 16, 4))?;
+        }
+        IDATA_SIZE
+    };
+    walk_bits(&data, fields)?;
+    let payload = chunk.value.after(offset - HEADER_SIZE);
+    let is_message = data.is_beginning && data.is_end && payload.is_whole();
+    fields.payload(payload, offset, is_message && data.ppid.0 == 51)?;
+    if is_message && data.ppid.0 == 50 {
+        walk_channel(offset, payload.bytes, chunk, fields)?;
+    }
+    Ok(true)
+}
+
+/// Hands over a payload protocol identifier.
+fn walk_ppid<F: Fields>(offset: usize, chunk: &Item<'_>, fields: &mut F) -> fmt::Result {
+    let ppid = Number::read(", ppid ", "ppid", chunk, offset, 4);
+    fields.named(&ppid, payload_protocol(ppid.value))
+}
+
+/// Hands over the bits of a chunk with user data.
+fn walk_bits<F: Fields>(data: &UserData<'_>, fields: &mut F) -> fmt::Result {
+    fields.flag(&order_flag(data.stream_key.is_unordered(), 1))?;
+    fields.flag(&data_flag(", beginning", "beginning", data.is_beginning))?;
+    fields.flag(&data_flag(", end", "end", data.is_end))?;
+    fields.flag(&data_flag(", immediate", "immediate", data.immediate_ack))
+}
+
+/// A bit of a chunk with user data, of which nothing is said where it isn't set.
+fn data_flag(words: &'static str, key: &'static str, is_set: bool) -> Flag {
+    Flag {
+        words: (words, ""),
+        key,
+        otherwise: "",
+        offset: 1,
+        is_set,
+    }
+}
+
+/// The U bit, in a byte at an offset.
+fn order_flag(is_set: bool, offset: usize) -> Flag {
+    Flag {
+        words: (", unordered", ", ordered"),
+        key: "unordered",
+        otherwise: "ordered",
+        offset,
+        is_set,
+    }
+}

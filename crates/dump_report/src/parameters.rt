@@ -1,0 +1,154 @@
+//! What a parameter holds.
+
+use crate::fields::{Fields, Form, Number, walk_named, walk_numbers};
+use dump_text::names::Level;
+use dump_text::names::NamedBy;
+use dcsctp_borrowed::part::{Item, Part};
+use dump_text::registry::result_name;
+use dcsctp_borrowed::re_config_ref::ReConfigRef;
+use dcsctp_wire::packet::parameter::RawParameter;
+use dcsctp_wire::packet::reconfiguration_response_parameter::ReconfigurationResponseParameter;
+use std::fmt;
+use std::net::{IpAddr, Ipv4Addr, Ipv6Addr};
+
+/// Hands over each parameter of a list, as far as there are parameters.
+pub fn walk_parameters<F: Fields>(list: Part<'_>, fields: &mut F) -> fmt::Result {
+    fields.begin_list("parameters", list.item().is_none())?;
+    for parameter in list.items() {
+        walk_parameter(&parameter, fields)?;
+    }
+    fields.end_list()
+}
+
+/// Hands over a parameter.
+fn walk_parameter<F: Fields>(parameter: &Item<'_>, fields: &mut F) -> fmt::Result {
+    fields.begin(Level::Parameter, parameter)?;
+    if !parameter.value.is_whole() || !walk_meaning(parameter, fields)? {
+        fields.value(Level::Parameter, parameter)?;
+    }
+    fields.end(Level::Parameter)
+}
+
+/// Hands over what a parameter means; returns false, and hands over nothing, where its value isn't
+/// known to mean anything but its bytes.
+fn walk_meaning<F: Fields>(parameter: &Item<'_>, fields: &mut F) -> Result<bool, fmt::Error> {
+    let (typ, value) = (parameter.code(), parameter.value.bytes);
+    match typ {
+        0x0005 => {
+            let Ok(octets) = <[u8; 4]>::try_from(value) else {
+                return Ok(false);
+            };
+            fields.address(IpAddr::V4(Ipv4Addr::from(octets)), 4)?;
+        }
+        0x0006 => {
+            let Ok(octets) = <[u8; 16]>::try_from(value) else {
+                return Ok(false);
+            };
+            fields.address(IpAddr::V6(Ipv6Addr::from(octets)), 16)?;
+        }
+        0x0009 if value.len() == 4 => {
+            let increment = Number::read(": increment ", "increment", parameter, 4, 4);
+            fields.number(&increment.in_form(Form::Milliseconds))?;
+        }
+        0x000b => fields.text_value(value)?,
+        0x000c if value.len().is_multiple_of(2) => {
+            let first = Number::read("", "type", parameter, 4, 2);
+            let count = value.len() / 2;
+            walk_named(
+                "address_types",
+                count,
+                first,
+                NamedBy::Address,
+                parameter,
+                fields,
+            )?;
+        }
+        0x8004 if value.len().is_multiple_of(2) => {
+            let first = Number::read("", "identifier", parameter, 4, 2);
+            let count = value.len() / 2;
+            walk_named("hmacs", count, first, NamedBy::Hmac, parameter, fields)?;
+        }
+        0x000d..=0x0012 => return walk_re_config(parameter, fields),
+        0x8001 if value.len() == 4 => {
+            fields.number(&Number::read(": method ", "method", parameter, 4, 4))?;
+        }
+        0x8003 | 0x8008 => {
+            let first = Number::read("", "type", parameter, 4, 1);
+            walk_named(
+                "chunk_types",
+                value.len(),
+                first,
+                NamedBy::Chunk,
+                parameter,
+                fields,
+            )?;
+        }
+        0x8000 | 0xc000 if value.is_empty() => {}
+        0xc006 if value.len() == 4 => {
+            let indication = Number::read(": ", "indication", parameter, 4, 4);
+            fields.number(&indication.in_form(Form::Hexadecimal))?;
+        }
+        _ => return Ok(false),
+    }
+    Ok(true)
+}
+
+/// Hands over what a parameter of RE-CONFIG means, as `walk_meaning` does.
+fn walk_re_config<F: Fields>(item: &Item<'_>, fields: &mut F) -> Result<bool, fmt::Error> {
+    let (typ, value) = (item.code(), item.value.bytes);
+    let Some(parameter) = ReConfigRef::from_raw(&RawParameter { typ, value }) else {
+        return Ok(false);
+    };
+    match &parameter {
+        ReConfigRef::OutgoingSsnResetRequest { streams, .. } => {
+            fields.number(&Number::read(": request ", "request", item, 4, 4))?;
+            fields.number(&Number::read(", response ", "response", item, 8, 4))?;
+            fields.number(&Number::read(", last tsn ", "last_tsn", item, 12, 4))?;
+            walk_streams(streams.count(), 16, item, fields)?;
+        }
+        ReConfigRef::IncomingSsnResetRequest { streams, .. } => {
+            fields.number(&Number::read(": request ", "request", item, 4, 4))?;
+            walk_streams(streams.count(), 8, item, fields)?;
+        }
+        ReConfigRef::SsnTsnResetRequest(_) => {
+            fields.number(&Number::read(": request ", "request", item, 4, 4))?;
+        }
+        ReConfigRef::ReconfigurationResponse(response) => walk_response(response, item, fields)?,
+        ReConfigRef::AddOutgoingStreamsRequest(_) | ReConfigRef::AddIncomingStreamsRequest(_) => {
+            fields.number(&Number::read(": request ", "request", item, 4, 4))?;
+            fields.number(&Number::read(", new streams ", "new_streams", item, 8, 2))?;
+        }
+    }
+    Ok(true)
+}
+
+/// Hands over the streams of a reset request.
+fn walk_streams<F: Fields>(
+    count: usize,
+    offset: usize,
+    item: &Item<'_>,
+    fields: &mut F,
+) -> fmt::Result {
+    let first = Number::read("\n    stream ", "stream", item, offset, 2);
+    walk_numbers("streams", count, first, item, fields)
+}
+
+/// Hands over what a Re-configuration Response says.
+fn walk_response<F: Fields>(
+    response: &ReconfigurationResponseParameter,
+    item: &Item<'_>,
+    fields: &mut F,
+) -> fmt::Result {
+    fields.number(&Number::read(": response ", "response", item, 4, 4))?;
+    let result = Number::read(", result ", "result", item, 8, 4);
+    fields.named(&result, result_name(result.value))?;
+    if response.sender_next_tsn.is_some() {
+        let words = "\n    sender's next tsn ";
+        fields.number(&Number::read(words, "sender_next_tsn", item, 12, 4))?;
+    }
+    if response.receiver_next_tsn.is_some() {
+        let words = "\n    receiver's next tsn ";
+        fields.number(&Number::read(words, "receiver_next_tsn", item, 16, 4))?;
+    }
+    Ok(())
+}

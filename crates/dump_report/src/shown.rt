@@ -1,0 +1,71 @@
+//! How bytes of a packet are printed.
+
+use dump_text::hexadecimal::{ROW, write_digits, write_row};
+use dcsctp_borrowed::part::Part;
+use std::fmt;
+
+/// The most bytes of a value that are shown, unless all are.
+const MOST_SHOWN: usize = 16;
+
+/// How many bytes a part has, and how many were captured, if that isn't all.
+#[derive(Clone, Copy)]
+pub struct Size<'a>(pub Part<'a>);
+
+impl<'a> fmt::Display for Size<'a> {
+    fn fmt<W: fmt::Write>(&self, f: &mut fmt::Formatter<W>) -> fmt::Result {
+        let (captured, size) = (self.0.bytes.len(), self.0.size);
+        let unit = if size == 1 { "byte" } else { "bytes" };
+        write!(f, "{size} {unit}")?;
+        if self.0.is_whole() {
+            return Ok(());
+        }
+        write!(f, ", {captured} captured")
+    }
+}
+
+/// The size of a part, and its bytes: the first ones, unless all are shown.
+#[derive(Clone, Copy)]
+pub struct Shown<'a> {
+    pub part: Part<'a>,
+    pub shows_all: bool,
+}
+
+impl<'a> fmt::Display for Shown<'a> {
+    fn fmt<W: fmt::Write>(&self, f: &mut fmt::Formatter<W>) -> fmt::Result {
+        let (size, bytes) = (Size(self.part), self.part.bytes);
+        write!(f, "{size}")?;
+        if bytes.is_empty() {
+            return Ok(());
+        }
+        f.write_str(": ")?;
+        let shown = if self.shows_all {
+            bytes.len()
+        } else {
+            bytes.len().min(MOST_SHOWN)
+        };
+        write_digits(&bytes[..shown], f)?;
+        if shown < self.part.size {
+            f.write_str(" ..")?;
+        }
+        Ok(())
+    }
+}
+
+/// Rows of sixteen bytes, each after a line break: the offset of the first, all in hexadecimal, and
+/// as ASCII, where a dot stands for what isn't printable.
+#[derive(Clone, Copy)]
+pub struct Rows<'a>(pub &'a [u8]);
+
+impl<'a> fmt::Display for Rows<'a> {
+    fn fmt<W: fmt::Write>(&self, f: &mut fmt::Formatter<W>) -> fmt::Result {
+        let mut rest = self.0;
+        for i in 0..rest.len().div_ceil(ROW) {
+            let offset = ROW * i;
+            let (row, after) = rest.split_at(rest.len().min(ROW));
+            write!(f, "\n    {offset:04x}: ")?;
+            write_row(row, f)?;
+            rest = after;
+        }
+        Ok(())
+    }
+}

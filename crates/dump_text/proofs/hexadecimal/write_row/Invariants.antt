@@ -1,0 +1,7 @@
+use Rattle.std.proofs.Common.{◌≡◌, length}
+use Rattle.std.specs.Prelude.{All}
+use Rattle.dump_text.specs.Hexadecimal.{IsPrintable}
+use Rattle.dump_text.proofs.hexadecimal.write_row.Given as goal
+
+abbrev pub invariant-loop-i : goal.invariant-loop-i
+invariant-loop-i g l = record { size : length l.text ≡ 67; printable : All IsPrintable l.text }

@@ -1,0 +1,15 @@
+use Rattle.std.proofs.Common.{rules, ◌≡◌, ◌++◌, ◌∙◌}
+use lib.Utf8.{encode}
+use Rattle.dump_text.proofs.Characters.{no_character, first_character}
+use Rattle.dump_text.proofs.printed.is_character.Goals as goal
+
+pub returns-in-Some : goal.returns-in-Some
+returns-in-Some c =
+    let steps = c.in-Some.ensures.steps in
+    let cases = c.in-Ok.ensures.cases in
+    let front : c.args.bytes.now ≡ encode c.in-Some.character ++ c.next.new.self.rest.now =
+    cc (steps.0, cases.0, c.chars.ensures.rest) in
+    c.is_shown.ensures ∙ first_character _ _ _ _ cases.1 front
+
+pub returns-in-Err : goal.returns-in-Err
+returns-in-Err c = no_character _ _ (search rules)

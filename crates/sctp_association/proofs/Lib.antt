@@ -1,5 +1,0 @@
-pub mod Buckets
-pub mod Calendar
-pub mod ChunkCounts
-pub mod HeaderCounts
-pub mod Slots

@@ -1,8 +1,0 @@
-use Rattle.std.proofs.Common.{ℕ, ◌<◌}
-use Rattle.sctp_association.specs.Acknowledged.{IsInBlock}
-use Rattle.sctp_association.specs.Serial.{ahead}
-use Rattle.sctp_association.proofs.acknowledgement.Acknowledgement.has.Given as goal
-
-abbrev pub invariant-loop-block : goal.invariant-loop-block
-invariant-loop-block l =
-    (k : ℕ) → k < l.block → ¬ (IsInBlock l.fn.self.blocks.now k (ahead l.fn.self.cumulative l.fn.tsn))

@@ -1,9 +1,0 @@
--- Whatever chunks are left, all are they and those before them that were counted.
-use Rattle.std.proofs.Common.{◌≡◌}
-use Rattle.sctp_association.proofs.ChunkCounts.{Counting}
-use Rattle.sctp_association.proofs.counts.Counts.count_chunks.Given as goal
-
-abbrev pub invariant-loop-chunk : goal.invariant-loop-chunk
-invariant-loop-chunk l =
-    Counting l.number l.initial.chunk-iterator l.initial.self l.chunk-iterator l.self
-    × (l.self.packets ≡ l.initial.self.packets)

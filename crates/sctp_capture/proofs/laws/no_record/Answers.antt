@@ -1,5 +1,0 @@
-use Rattle.sctp_capture.proofs.Records.{reading_none}
-use Rattle.sctp_capture.proofs.laws.no_record.Goals as goal
-
-pub returns : goal.returns
-returns c = reading_none

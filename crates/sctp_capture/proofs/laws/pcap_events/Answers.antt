@@ -1,5 +1,0 @@
-use Rattle.sctp_capture.proofs.PcapReads.{pcap_events_are}
-use Rattle.sctp_capture.proofs.laws.pcap_events.Goals as goal
-
-pub returns : goal.returns
-returns c = pcap_events_are

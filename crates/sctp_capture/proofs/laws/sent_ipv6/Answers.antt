@@ -1,5 +1,0 @@
-use Rattle.sctp_capture.proofs.Sent.{sent_found_ipv6}
-use Rattle.sctp_capture.proofs.laws.sent_ipv6.Goals as goal
-
-pub returns : goal.returns
-returns c = sent_found_ipv6

@@ -1,0 +1,359 @@
+//! Reads the arguments.
+
+ghost use Rattle.std.specs.Prelude.{◌≤◌, IfOk};
+
+use crate::failure::Failure;
+use crate::name::Name;
+use crate::options::{Form, Options, OutputForm, TimeOption};
+use dump_analysis::filter::Host;
+use dump_text::registry::chunk_name;
+use std::alloc::Global;
+use std::net::IpAddr;
+
+/// What `--version` prints.
+pub const VERSION: &str = "sctp_dump 0.1.0\n";
+
+/// What `--help` prints.
+pub const HELP: &str = "\
+usage: sctp_dump [OPTION ..] [FILE ..]
+
+Prints the SCTP packets of captures: pcap and pcapng files, packets in
+hexadecimal, logs of WebRTC, and dumps by tcpdump -x, xxd, hexdump -C and
+Wireshark. Without a FILE, or where it is -, it reads standard input.
+
+What is printed:
+  --brief          a line a packet, blanks only between its fields
+  --json           a JSON object a line, not with --brief
+  --places         in JSON also the offset and size of each field
+  --payload        all bytes of values, in rows, not the first 16 (64 of a text)
+  --time FORM      iso, utc, relative (to the first packet) or delta (to the
+                   packet before)
+  --associations   a block an association, in place of packets; with --brief or
+                   --json after them
+  --keep NUMBER    of --associations and --check: the most associations that are
+                   kept at a time; 10000 if not given
+  --check          the rules of the RFCs that accepted packets break
+  --summary        counts alone
+
+Which packets are printed (all are counted); all that is asked for holds:
+  --port PORT      of either end
+  --tag TAG        with this verification tag, as 0x0da73798 or a number
+  --host ADDRESS   to or from this IP address
+  --chunk TYPE     with a chunk of this type, as SACK, HEARTBEAT_ACK or 3
+  --stream NUMBER  with user data of this stream
+  --ppid NUMBER    with user data of this payload protocol
+  --transport NAME of this transport of a log, as DcSctpTransport0
+  --wrong          whose checksum is wrong
+  --from NUMBER    from this packet on
+  --to NUMBER      up to this packet
+  --faults         refused
+
+How they are read:
+  --strict         refuse padding that isn't zero, or is missing
+  --udp-port PORT  the UDP port that carries SCTP; 9899 if not given
+  --format FORM    pcap, pcapng or text, in place of what the first bytes say
+  --help, --version
+
+Frames of these link types are read: 0 and 108 (loopback), 1 (Ethernet), 12, 14
+and 101 (raw IP), 113 and 276 (Linux cooked), 228 (IPv4), 229 (IPv6), 248 (SCTP).
+
+An option that would have no effect is refused.
+
+Status: 0 if all packets were accepted, 1 if some were refused, 2 if an input
+couldn't be read, ends inside a record or has no packet in what it holds, the
+output couldn't be written, or memory ran out, 3 if none was refused, but --check
+found a broken rule.
+";
+
+/// The name of standard input, which is read where no file is named.
+pub const STANDARD_INPUT: &str = "-";
+
+/// What the program is to do.
+#[derive(Clone, Copy, PartialEq, Eq)]
+pub enum Action {
+    /// Print packets.
+    Dump,
+    /// Print the options.
+    Help,
+    /// Print the version.
+    Version,
+}
+
+/// What the arguments ask for.
+#[derive(Drop)]
+pub struct Request<'a> {
+    /// What the program is to do.
+    pub action: Action,
+    /// What is printed, and how.
+    pub options: Options,
+    /// The files, at least one; `-` is standard input.
+    pub files: Vec<&'a str>,
+}
+
+/// Returns what the arguments ask for.
+pub fn request_of(alloc: Global, words: &[String]) -> Result<Request<'_>, Failure> {
+    let mut request = Request {
+        action: Action::Dump,
+        options: Options::DEFAULT,
+        files: Vec::new(alloc),
+    };
+    let mut is_value = false;
+    let mut only_files = false;
+    for i in 0..words.len() {
+        let word = words[i].as_str();
+        if is_value {
+            is_value = false;
+        } else if only_files || !is_option(word) {
+            request.files.push(word)?;
+        } else if word == "--" {
+            only_files = true;
+        } else {
+            let next = match words.get(i + 1) {
+                Some(next) => next.as_str(),
+                None => "",
+            };
+            is_value = request.take(word, next)?;
+        }
+    }
+    if request.files.is_empty() {
+        request.files.push(STANDARD_INPUT)?;
+    }
+    match request.options.idle() {
+        Some(usage) if request.action == Action::Dump => Err(Failure::Usage(usage)),
+        _ => Ok(request),
+    }
+}
+
+/// Whether a word isn't the name of a file.
+fn is_option(word: &str) -> bool {
+    word.starts_with('-') && word.len() > 1
+}
+
+impl<'a> Request<'a> {
+    /// Takes an option, and returns whether the next word is its value. The value may be in the
+    /// same word, after `=`.
+    fn take(&mut self, word: &str, next: &str) -> Result<bool, Failure> {
+        if self.take_flag(word)? {
+            return Ok(false);
+        }
+        match word.split_once('=') {
+            Some((name, value)) => {
+                self.options.take_value(name, value)?;
+                Ok(false)
+            }
+            None => {
+                self.options.take_value(word, next)?;
+                Ok(true)
+            }
+        }
+    }
+
+    /// Takes an option without a value; returns false if it isn't one.
+    fn take_flag(&mut self, word: &str) -> Result<bool, Failure> {
+        let options = &mut self.options;
+        match word {
+            "--brief" => options.take_output(OutputForm::Brief)?,
+            "--json" => options.take_output(OutputForm::Json)?,
+            "--places" => options.places = true,
+            "--payload" => options.payload = true,
+            "--associations" => options.associations = true,
+            "--check" => options.check = true,
+            "--summary" => options.summary = true,
+            "--faults" => options.faults = true,
+            "--wrong" => {
+                options.filter.wrong = true;
+                options.is_filtered = true;
+            }
+            "--strict" => options.strict = true,
+            "--help" | "-h" => self.action = Action::Help,
+            "--version" | "-V" => self.action = Action::Version,
+            _ => return Ok(false),
+        }
+        Ok(true)
+    }
+}
+
+impl Options {
+    /// Takes a form of output, if no other one was asked for.
+    fn take_output(&mut self, form: OutputForm) -> Result<(), Failure> {
+        if self.output != OutputForm::Blocks && self.output != form {
+            return Err(Failure::Usage("--brief and --json are two forms: give one"));
+        }
+        self.output = form;
+        Ok(())
+    }
+
+    /// Takes an option with its value.
+    fn take_value(&mut self, name: &str, value: &str) -> Result<(), Failure> {
+        match name {
+            "--time" => self.time = time_of(value)?,
+            "--format" => self.form = form_of(value)?,
+            "--udp-port" => {
+                let usage = "--udp-port takes a number from 1 to 65535";
+                self.udp_port = number_of(value, 1, 65_535, usage)? as u16;
+            }
+            "--keep" => {
+                let usage = "--keep takes a number from 1 to 1000000";
+                self.keep = number_of(value, 1, 1_000_000, usage)? as usize;
+            }
+            _ => {
+                self.take_filter(name, value)?;
+                self.is_filtered = true;
+            }
+        }
+        Ok(())
+    }
+
+    /// Takes an option of the filter with its value.
+    fn take_filter(&mut self, name: &str, value: &str) -> Result<(), Failure> {
+        match name {
+            "--port" => {
+                let usage = "--port takes a number up to 65535";
+                set(
+                    &mut self.filter.port,
+                    number_of(value, 0, 65_535, usage)? as u16,
+                )?;
+            }
+            "--tag" => {
+                let usage = "--tag takes a number of four bytes, as 0x0da73798";
+                set(
+                    &mut self.filter.tag,
+                    number_of(value, 0, LARGEST, usage)? as u32,
+                )?;
+            }
+            "--stream" => {
+                let usage = "--stream takes a number up to 65535";
+                set(
+                    &mut self.filter.stream,
+                    number_of(value, 0, 65_535, usage)? as u16,
+                )?;
+            }
+            "--ppid" => {
+                let usage = "--ppid takes a number of four bytes";
+                set(
+                    &mut self.filter.ppid,
+                    number_of(value, 0, LARGEST, usage)? as u32,
+                )?;
+            }
+            "--from" => {
+                let usage = "--from takes a packet's number, from 1";
+                self.filter.first = number_of(value, 1, u64::MAX, usage)?;
+            }
+            "--to" => {
+                let usage = "--to takes a packet's number, from 1";
+                self.filter.last = number_of(value, 1, u64::MAX, usage)?;
+            }
+            "--transport" => set(&mut self.transport, name_of(value)?)?,
+            "--host" => set(&mut self.filter.host, host_of(value)?)?,
+            "--chunk" => set(&mut self.filter.chunk, type_of(value)?)?,
+            _ => return Err(Failure::Usage("unknown option (try --help)")),
+        }
+        Ok(())
+    }
+}
+
+/// Asks for a value, if none was asked for.
+fn set<T: Copy>(wanted: &mut Option<T>, value: T) -> Result<(), Failure> {
+    if wanted.is_some() {
+        return Err(Failure::Usage("an option of a filter is given once"));
+    }
+    *wanted = Some(value);
+    Ok(())
+}
+
+/// The largest number of four bytes.
+const LARGEST: u64 = 0xffff_ffff;
+
+/// Returns the number that is written so, in decimal or, after `0x`, in hexadecimal.
+fn number_of(text: &str, least: u64, most: u64, usage: &'static str) -> Result<u64, Failure>
+    ensures { IfOk result (λ n. (least ≤ n) × (n ≤ most)) }
+{
+    let parsed = match text.strip_prefix("0x") {
+        Some(digits) => u64::from_str_radix(digits, 16),
+        None => text.parse::<u64>(),
+    };
+    match parsed {
+        Ok(number) if least <= number && number <= most => Ok(number),
+        _ => Err(Failure::Usage(usage)),
+    }
+}
+
+/// Returns the form of an input of this name.
+fn form_of(name: &str) -> Result<Form, Failure> {
+    match name {
+        "pcap" => Ok(Form::Pcap),
+        "pcapng" => Ok(Form::Pcapng),
+        "text" => Ok(Form::Text),
+        _ => Err(Failure::Usage("--format takes pcap, pcapng or text")),
+    }
+}
+
+/// Returns the form of times of this name.
+fn time_of(name: &str) -> Result<TimeOption, Failure> {
+    match name {
+        "iso" => Ok(TimeOption::Iso),
+        "utc" => Ok(TimeOption::Utc),
+        "relative" => Ok(TimeOption::Relative),
+        "delta" => Ok(TimeOption::Delta),
+        _ => Err(Failure::Usage("--time takes iso, utc, relative or delta")),
+    }
+}
+
+/// Returns a transport's name.
+fn name_of(text: &str) -> Result<Name, Failure> {
+    match Name::new(text.as_bytes()) {
+        Some(name) => Ok(name),
+        None => Err(Failure::Usage("--transport takes a name of up to 64 bytes")),
+    }
+}
+
+/// Returns the host of an IP address.
+fn host_of(text: &str) -> Result<Host, Failure> {
+    match text.parse::<IpAddr>() {
+        Ok(IpAddr::V4(address)) => Ok(Host::V4(address.octets())),
+        Ok(IpAddr::V6(address)) => Ok(Host::V6(address.octets())),
+        Err(_) => Err(Failure::Usage("--host takes an IPv4 or IPv6 address")),
+    }
+}
+
+/// Returns the chunk type of a name or a number.
+fn type_of(text: &str) -> Result<u8, Failure> {
+    let usage = "--chunk takes a chunk's name, as SACK or HEARTBEAT_ACK, or a number up to 255";
+    match chunk_type_of(text) {
+        Some(typ) => Ok(typ),
+        None => Ok(number_of(text, 0, 255, usage)? as u8),
+    }
+}
+
+/// Returns the chunk type of a name, in any case, with a blank, `-` or `_` between its words.
+fn chunk_type_of(name: &str) -> Option<u8> {
+    for typ in 0..=255 {
+        if let Some(known) = chunk_name(typ as u32) {
+            if is_same_name(known.as_bytes(), name.as_bytes()) {
+                return Some(typ);
+            }
+        }
+    }
+    None
+}
+
+/// Returns whether these are the same name.
+fn is_same_name(known: &[u8], name: &[u8]) -> bool {
+    if known.len() != name.len() {
+        return false;
+    }
+    for i in 0..known.len() {
+        if folded(known[i]) != folded(name[i]) {
+            return false;
+        }
+    }
+    true
+}
+
+/// Returns a byte of a name as it is compared.
+fn folded(byte: u8) -> u8 {
+    match byte {
+        b'-' | b'_' => b' ',
+        _ => byte.to_ascii_lowercase(),
+    }
+}

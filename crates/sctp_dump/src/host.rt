@@ -1,0 +1,204 @@
+//! The program on its host: its arguments, files, standard streams and status.
+
+ghost use Rattle.std.specs.Prelude.{◌≡◌, ◌≤◌, IfOk, Ok, Err, MatchResult};
+ghost use Rattle.sctp_dump.specs.Counts.{is_unread, status};
+ghost use Rattle.sctp_dump.specs.Totals.{after_input};
+ghost use Rattle.sctp_dump.specs.Warnings.{is_warned};
+ghost use Rattle.sctp_dump.specs.declared.failure.Failure.{Failure};
+
+use crate::arguments::{Action, HELP, Request, STANDARD_INPUT, VERSION, request_of};
+use crate::counts::Counts;
+use crate::event_printer::EventPrinter;
+use crate::failure::Failure;
+use crate::input::read_input;
+use crate::stop::Stop;
+use std::io::Write;
+use std::{env, fs, io};
+use dump_io::watched::Watched;
+use dump_io::window::Window;
+
+/// The statuses: all packets were accepted; some were refused; the program couldn't do its work;
+/// none was refused, but some break rules.
+const ACCEPTED: u8 = 0;
+
+const REFUSED: u8 = 1;
+
+const FAILED: u8 = 2;
+
+const WARNED: u8 = 3;
+
+/// Does what the host's arguments say, and returns the status: 0 if all packets were accepted, 1 if
+/// some were refused, 2 if an input couldn't be read, ends inside a record or has no packet in what
+/// it holds, the output couldn't be written, or memory ran out, 3 if none was refused, but some
+/// break rules that were looked at.
+///
+/// Reports each failure on standard error, but not that whoever read the output reads no more of
+/// it. No clause says what a host is asked for, since none of std does.
+pub fn run(rt: &HostRuntime) -> u8
+    ensures { result ≤ 3 }
+{
+    match run_request(rt) {
+        Ok(status) => status,
+        Err(failure) => {
+            if failure != Failure::ClosedPipe {
+                report(rt, None, &failure);
+            }
+            FAILED
+        }
+    }
+}
+
+/// Writes a failure to standard error, with the file that it is about.
+fn report(rt: &HostRuntime, name: Option<&str>, failure: &Failure) {
+    // There is no other place to say that standard error doesn't take it.
+    let _ = match name {
+        Some(name) => eprintln!(rt; "sctp_dump: {name}: {failure}"),
+        None => eprintln!(rt; "sctp_dump: {failure}"),
+    };
+}
+
+/// Does what the arguments say, and returns the status.
+fn run_request(rt: &HostRuntime) -> Result<u8, Failure>
+    ensures { IfOk result (λ status. status ≤ 3) }
+{
+    let words = words_of(rt)?;
+    let request = request_of(rt.alloc(), words.as_slice())?;
+    match request.action {
+        Action::Dump => dump_all(rt, &request),
+        Action::Help => print(rt, HELP),
+        Action::Version => print(rt, VERSION),
+    }
+}
+
+/// Returns the arguments, without the program's name.
+fn words_of(rt: &HostRuntime) -> Result<Vec<String>, Failure> {
+    let arguments = env::args(rt).map_err(|_| Failure::Arguments)?;
+    let mut words = Vec::new(rt.alloc());
+    for word in arguments.skip(1) {
+        words.push(word)?;
+    }
+    Ok(words)
+}
+
+/// Prints a text.
+fn print(rt: &HostRuntime, text: &str) -> Result<u8, Failure>
+    ensures { IfOk result (λ status. status ≡ ACCEPTED) }
+{
+    match print!(rt; "{text}") {
+        Ok(()) => Ok(ACCEPTED),
+        Err(_) => Err(Failure::Write),
+    }
+}
+
+/// Prints the packets of all inputs, and then the counts of them all. An input that can't be read
+/// is reported, and the next one begun.
+fn dump_all(rt: &HostRuntime, request: &Request<'_>) -> Result<u8, Failure>
+    ensures { IfOk result (λ status. status ≤ 3) }
+{
+    let mut window = Window::new(rt.alloc())?;
+    let writer = Watched::new(io::writer(rt));
+    let mut printer = EventPrinter::new(rt.alloc(), request.options, writer);
+    let mut failed = false;
+    let is_named = request.files.len() > 1;
+    for name in &request.files {
+        printer.begin_file(name, is_named)?;
+        let outcome = dump_input(rt, name, request, &mut window, &mut printer);
+        failed |= is_over(rt, name, outcome)?;
+    }
+    let written = printer.finish();
+    if !failed && printer.counts.is_unread() {
+        // There is no other place to say that standard error doesn't take it.
+        let _ = eprintln!(rt;
+            "sctp_dump: no SCTP packet was found (in UDP, --udp-port says the port)"
+        );
+    }
+    end_of(written, failed, &printer)
+}
+
+/// What a run returns, whose last write ended so.
+fn end_of<W: Write>(
+    written: Result<(), Failure>,
+    failed: bool,
+    printer: &EventPrinter<W>,
+) -> Result<u8, Failure>
+    ensures end { MatchResult written
+        (λ _. result ≡ Ok (status failed (is_warned printer.now.warnings) printer.now.counts))
+        (λ failure. result ≡ Err failure) }
+    ensures known { IfOk result (λ status. status ≤ 3) }
+{
+    match written {
+        Ok(()) => Ok(status_of(failed, printer.is_warned(), &printer.counts)),
+        Err(failure) => Err(failure),
+    }
+}
+
+/// The status of a run: what failed comes before what was refused, and that before what was warned
+/// of.
+fn status_of(failed: bool, warned: bool, counts: &Counts) -> u8
+    ensures status { result ≡ status failed warned counts.now }
+    ensures known { result ≤ 3 }
+{
+    if failed || counts.is_unread() || counts.unfinished > 0 {
+        FAILED
+    } else if counts.refused() > 0 {
+        REFUSED
+    } else if warned {
+        WARNED
+    } else {
+        ACCEPTED
+    }
+}
+
+/// Reports a failure of an input, and returns whether it failed. A failure of the output or of
+/// memory ends the run.
+fn is_over(rt: &HostRuntime, name: &str, outcome: Result<(), Failure>) -> Result<bool, Failure>
+    ensures { result ≡ after_input outcome }
+{
+    match outcome {
+        Ok(()) => Ok(false),
+        Err(Failure::Write) => Err(Failure::Write),
+        Err(Failure::ClosedPipe) => Err(Failure::ClosedPipe),
+        Err(Failure::OutOfMemory) => Err(Failure::OutOfMemory),
+        Err(failure) => {
+            report(rt, Some(name), &failure);
+            Ok(true)
+        }
+    }
+}
+
+/// Prints the packets of a file, or of standard input.
+fn dump_input<W: Write>(
+    rt: &HostRuntime,
+    name: &str,
+    request: &Request<'_>,
+    window: &mut Window,
+    printer: &mut EventPrinter<W>,
+) -> Result<(), Failure> {
+    let (alloc, form) = (rt.alloc(), request.options.form);
+    let unfinished = printer.counts.unfinished;
+    let outcome = if name == STANDARD_INPUT {
+        let mut input = Watched::new(rt.reader());
+        read_input(alloc, form, window, &mut input, printer)
+    } else {
+        match fs::open(rt, name) {
+            Ok(file) => {
+                let mut input = Watched::new(file);
+                read_input(alloc, form, window, &mut input, printer)
+            }
+            Err(_) => return Err(Failure::Open),
+        }
+    };
+    match outcome {
+        Ok(()) if printer.counts.unfinished > unfinished => Err(Failure::Unfinished),
+        Ok(()) => Ok(()),
+        Err(stop) => Err(failure_after(stop, printer.failure)),
+    }
+}
+
+/// Returns why reading stopped, of a printer that may have failed.
+fn failure_after(stop: Stop, failure: Option<Failure>) -> Failure {
+    match failure {
+        Some(failure) if stop == Stop::Printer => failure,
+        _ => Failure::from(stop),
+    }
+}

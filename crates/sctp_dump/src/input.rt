@@ -1,0 +1,117 @@
+//! Which decoder reads an input.
+
+ghost use Rattle.std.specs.Prelude.{◌≡◌, [], true, None, IfOk, IfErr, IfSome, OnOk, IsErrOf};
+ghost use Rattle.dump_io.specs.Watched.{device_of};
+ghost use Rattle.dump_io.specs.Window.{held, left};
+ghost use Rattle.std.specs.Io.KnownBytes.{Keeps};
+ghost use Rattle.dump_capture.specs.Event.{Hands};
+ghost use Rattle.sctp_dump.specs.Handed.{IsNoFault, FailsWith};
+ghost use Rattle.sctp_dump.specs.Inputs.{kind_of, HandsInput, StopsInput};
+ghost use Rattle.sctp_dump.specs.declared.stop.Stop.{Stop};
+
+use crate::engine::read_capture;
+use crate::options::Form;
+use crate::printer::Printer;
+use crate::stop::Stop;
+use crate::stream::read_more;
+use dump_capture::pcap::{InputKind, input_kind};
+use dump_capture::pcap_decoder::PcapDecoder;
+use dump_capture::pcapng_decoder::PcapngDecoder;
+use dump_capture::text::TextDecoder;
+use std::alloc::Global;
+use std::io::Read;
+use dump_io::watched::Watched;
+use dump_io::window::Window;
+
+/// What an input is.
+#[derive(Clone, Copy, PartialEq, Eq)]
+pub enum Kind {
+    /// A pcap file.
+    Pcap,
+    /// A pcapng file.
+    Pcapng,
+    /// Lines of text.
+    Text,
+    /// Something that gzip compressed.
+    Compressed,
+}
+
+/// Hands the events of an input to the printer. What the window held before is dropped.
+///
+/// Returns the first of these: what the decoder can't read, a failed read, a failure of the
+/// printer, or of memory. A printer that fails in its last call isn't asked.
+pub fn read_input<R: Read, P: Printer>(
+    alloc: Global,
+    form: Form,
+    window: &mut Window,
+    input: &mut Watched<R>,
+    printer: &mut P,
+) -> Result<(), Stop>
+    ensures whole { OnOk result (HandsInput form P.handed (R.remaining (device_of input.old))
+        printer.old printer.new None) }
+    ensures stopped { IfErr result (StopsInput form P.handed (R.remaining (device_of input.old))
+        printer.old printer.new) }
+    ensures failed_read { FailsWith Stop.Read result input.old input.new }
+    ensures failed_printer { IsErrOf result Stop.Printer → P.failed printer.new ≡ true }
+{
+    window.clear();
+    let kind = find_kind(form, window, input, printer)?;
+    match kind {
+        Kind::Pcap => read_capture(&mut PcapDecoder::FileHeader, window, input, printer),
+        Kind::Pcapng => {
+            let mut decoder = PcapngDecoder::new(alloc)?;
+            read_capture(&mut decoder, window, input, printer)
+        }
+        Kind::Text => {
+            let mut decoder = TextDecoder::new(alloc)?;
+            read_capture(&mut decoder, window, input, printer)
+        }
+        Kind::Compressed => Err(Stop::Compressed),
+    }
+}
+
+/// Reads the first bytes of an input, and returns what it is.
+fn find_kind<R: Read, P: Printer>(
+    form: Form,
+    window: &mut Window,
+    input: &mut Watched<R>,
+    printer: &mut P,
+) -> Result<Kind, Stop>
+    requires { held window.old ≡ [] }
+    ensures kind { IfOk result (λ kind.
+        IfSome (left window.new (R.remaining (device_of input.new))) (λ l. kind ≡ kind_of form l)) }
+    ensures stream { Keeps (R.remaining (device_of input.old))
+        (left window.new (R.remaining (device_of input.new))) }
+    ensures handed { Hands P.handed printer.old printer.new [] }
+    ensures failed_read { FailsWith Stop.Read result input.old input.new }
+    ensures failed_printer { IsErrOf result Stop.Printer → P.failed printer.new ≡ true }
+    ensures no_fault { IfErr result IsNoFault }
+{
+    while window.len() < 4 {
+        if read_more(window, input, printer)? == 0 {
+            return Ok(kind_of(form, window.held()));
+        }
+    }
+    Ok(kind_of(form, window.held()))
+}
+
+/// Returns what an input is that begins with these bytes.
+fn kind_of(form: Form, bytes: &[u8]) -> Kind
+    ensures { result ≡ kind_of form bytes.now }
+{
+    match form {
+        Form::Pcap => Kind::Pcap,
+        Form::Pcapng => Kind::Pcapng,
+        Form::Text => Kind::Text,
+        Form::Detected => {
+            if bytes.starts_with(&[0x1f, 0x8b]) {
+                return Kind::Compressed;
+            }
+            match input_kind(bytes) {
+                InputKind::Pcap(_) => Kind::Pcap,
+                InputKind::Pcapng => Kind::Pcapng,
+                InputKind::Text => Kind::Text,
+            }
+        }
+    }
+}

@@ -1,0 +1,169 @@
+//! What the arguments ask for.
+
+ghost use Rattle.std.specs.Prelude.{◌≡◌};
+ghost use Rattle.sctp_dump.specs.Counts.{policy_of};
+
+use crate::name::Name;
+use dcsctp_wire::packet::sctp_packet::ChecksumPolicy;
+use dump_analysis::TimeForm;
+use dump_capture::frame::UDP_PORT;
+use dump_analysis::filter::Filter;
+
+/// The form of an input.
+#[derive(Clone, Copy, PartialEq, Eq)]
+pub enum Form {
+    /// What its first bytes say.
+    Detected,
+    /// A pcap file.
+    Pcap,
+    /// A pcapng file.
+    Pcapng,
+    /// Lines of text.
+    Text,
+}
+
+/// The form of what is printed.
+#[derive(Clone, Copy, PartialEq, Eq)]
+pub enum OutputForm {
+    /// A block of lines a packet.
+    Blocks,
+    /// A line a packet.
+    Brief,
+    /// A JSON object a line.
+    Json,
+}
+
+/// The form of times.
+#[derive(Clone, Copy, PartialEq, Eq)]
+pub enum TimeOption {
+    /// As the capture says them: seconds since 1970, or a log's time of day.
+    Captured,
+    /// A date and a time of day in UTC (ISO 8601).
+    Iso,
+    /// A time of day in UTC.
+    Utc,
+    /// Seconds since the first packet.
+    Relative,
+    /// Seconds since the packet before.
+    Delta,
+}
+
+/// What is printed, and how.
+#[derive(Clone, Copy)]
+pub struct Options {
+    /// The form of packets.
+    pub output: OutputForm,
+    /// Refused packets alone.
+    pub faults: bool,
+    /// Counts alone.
+    pub summary: bool,
+    /// Padding that isn't zero is refused.
+    pub strict: bool,
+    /// All bytes of values.
+    pub payload: bool,
+    /// Where each field of a JSON object lies.
+    pub places: bool,
+    /// The rules that accepted packets break.
+    pub check: bool,
+    /// The associations.
+    pub associations: bool,
+    /// The form of times.
+    pub time: TimeOption,
+    /// How many associations are kept.
+    pub keep: usize,
+    /// Which packets are printed.
+    pub filter: Filter,
+    /// The name of the transport, in a log, whose packets are printed.
+    pub transport: Option<Name>,
+    /// The filter was asked for: what has no packet isn't printed.
+    pub is_filtered: bool,
+    /// The UDP port that carries SCTP.
+    pub udp_port: u16,
+    /// The form of the inputs.
+    pub form: Form,
+}
+
+impl Options {
+    /// What is asked for without an option.
+    pub const DEFAULT: Options = Options {
+        output: OutputForm::Blocks,
+        faults: false,
+        summary: false,
+        strict: false,
+        payload: false,
+        places: false,
+        check: false,
+        associations: false,
+        time: TimeOption::Captured,
+        keep: 10_000,
+        filter: Filter::ALL,
+        transport: None,
+        is_filtered: false,
+        udp_port: UDP_PORT,
+        form: Form::Detected,
+    };
+
+    /// Any checksum is accepted, and any padding unless it is looked at.
+    pub fn policy(&self) -> ChecksumPolicy
+        ensures { result ≡ policy_of self.now }
+    {
+        ChecksumPolicy {
+            strict_padding: self.strict,
+            ..ChecksumPolicy::ANY_CHECKSUM
+        }
+    }
+
+    /// Returns the form of an association's times, in a log or in a file.
+    pub fn time_form(&self, is_log: bool) -> TimeForm {
+        match self.time {
+            _ if is_log => TimeForm::Utc,
+            TimeOption::Iso => TimeForm::Iso,
+            TimeOption::Utc => TimeForm::Utc,
+            _ => TimeForm::Seconds,
+        }
+    }
+
+    /// Returns why an option that was given has no effect, if one has none.
+    pub fn idle(&self) -> Option<&'static str> {
+        let is_blocks = self.output == OutputForm::Blocks;
+        if self.places && self.output != OutputForm::Json {
+            return Some("--places needs --json");
+        }
+        if self.payload && !(is_blocks && self.prints_packets()) {
+            return Some("--payload needs blocks of packets, which aren't printed");
+        }
+        if self.filter.first > self.filter.last {
+            return Some("no packet is from --from on and up to --to");
+        }
+        if self.keep != Options::DEFAULT.keep && !(self.associations || self.check) {
+            return Some("--keep needs --associations or --check");
+        }
+        if self.summary && self.output == OutputForm::Brief {
+            return Some("--brief has no effect beside --summary");
+        }
+        if self.faults && !self.prints_packets() {
+            return Some("--faults needs packets, which aren't printed");
+        }
+        if self.prints_packets() || self.associations {
+            return None;
+        }
+        if self.is_filtered {
+            return Some("a filter has no effect beside --summary: all packets are counted");
+        }
+        match self.time {
+            TimeOption::Captured => None,
+            _ => Some("--time has no effect beside --summary"),
+        }
+    }
+
+    /// Returns whether packets are printed: not where associations or counts alone are.
+    pub fn prints_packets(&self) -> bool {
+        let replaced = self.associations && self.output == OutputForm::Blocks;
+        !(self.summary || replaced)
+    }
+
+    /// Returns whether what has no packet is printed.
+    pub fn prints_skipped(&self) -> bool {
+        self.prints_packets() && !self.faults && !self.is_filtered
+    }
+}

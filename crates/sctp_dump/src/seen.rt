@@ -1,0 +1,213 @@
+//! Where and when packets were seen, as text.
+
+use crate::when::{When, WhenJson};
+use dcsctp_wire::packet::sctp_packet::CommonHeader;
+use dump_capture::frame::{Addresses, FoundPacket, UdpPorts};
+use dump_capture::line::Direction;
+use dump_text::json_text::JsonText;
+use dump_text::printed::OneWord;
+use std::fmt;
+use std::net::{Ipv4Addr, Ipv6Addr};
+
+/// A packet's number and time, how much of it was captured, the IP addresses and the UDP ports, as
+/// the first lines of its block.
+#[derive(Clone, Copy)]
+pub struct SeenLines<'t, 'f, 'a> {
+    /// The packet's number.
+    pub number: u64,
+    /// The name of its file, if there are several.
+    pub file: Option<&'t str>,
+    /// When it was seen.
+    pub when: When<'t>,
+    /// The packet in its frame.
+    pub found: &'f FoundPacket<'a>,
+}
+
+impl<'t, 'f, 'a> fmt::Display for SeenLines<'t, 'f, 'a> {
+    fn fmt<W: fmt::Write>(&self, f: &mut fmt::Formatter<W>) -> fmt::Result {
+        let (number, when) = (self.number, self.when);
+        write!(f, "packet {number}")?;
+        if when.is_known() {
+            write!(f, ", time {when}")?;
+        }
+        if let Some(direction) = when.direction() {
+            let word = direction_word(direction);
+            write!(f, ", {word}")?;
+        }
+        if !when.transport().is_empty() {
+            let transport = OneWord(when.transport());
+            write!(f, ", {transport}")?;
+        }
+        let (captured, length) = (self.found.packet.len(), self.found.length);
+        if captured < length {
+            write!(f, ", {captured} of {length} bytes")?;
+        }
+        f.write_str("\n")?;
+        if let Some(addresses) = self.found.addresses {
+            let (source, destination) = hosts_of(addresses);
+            writeln!(f, "from {source} to {destination}")?;
+        }
+        match self.found.udp_ports {
+            Some(
+                UdpPorts {
+                    source,
+                    destination,
+                },
+            ) => { writeln!(f, "udp source {source}, destination {destination}") }
+            None => Ok(()),
+        }
+    }
+}
+
+/// The same at the front of a line, in a fixed order: number, time, and both ends with their SCTP
+/// ports, of which `-` stands for what isn't known.
+#[derive(Clone, Copy)]
+pub struct SeenBrief<'t, 'f, 'a>(pub SeenLines<'t, 'f, 'a>);
+
+impl<'t, 'f, 'a> fmt::Display for SeenBrief<'t, 'f, 'a> {
+    fn fmt<W: fmt::Write>(&self, f: &mut fmt::Formatter<W>) -> fmt::Result {
+        let seen = self.0;
+        let (number, when) = (seen.number, seen.when);
+        write!(f, "{number} ")?;
+        if when.is_known() {
+            write!(f, "{when}")?;
+        } else {
+            f.write_str("-")?;
+        }
+        let header = CommonHeader::from_bytes(seen.found.packet);
+        let (source, destination) = ends_of(seen.found.addresses, when.direction());
+        let (from, to) = match header {
+            Some(header) => (Some(header.source_port), Some(header.destination_port)),
+            None => (None, None),
+        };
+        let transport = OneWord(when.transport());
+        f.write_str(" ")?;
+        write_end(source, transport, from, f)?;
+        f.write_str(" > ")?;
+        write_end(destination, transport, to, f)
+    }
+}
+
+/// Writes an end with its port (RFC 3986 section 3.2.2: an IPv6 address in brackets), and of the end
+/// that wrote a log the name of its transport.
+fn write_end<W: fmt::Write>(
+    end: End,
+    transport: OneWord<'_>,
+    port: Option<u16>,
+    f: &mut fmt::Formatter<W>,
+) -> fmt::Result {
+    match end {
+        End::V6(address) => write!(f, "[{address}]")?,
+        End::Local if !transport.0.is_empty() => write!(f, "local({transport})")?,
+        _ => write!(f, "{end}")?,
+    }
+    match port {
+        Some(port) => write!(f, ":{port}"),
+        None => f.write_str(":-"),
+    }
+}
+
+/// The same as keys of a JSON object, of which the packet's number is the first.
+#[derive(Clone, Copy)]
+pub struct SeenJson<'t, 'f, 'a>(pub SeenLines<'t, 'f, 'a>);
+
+impl<'t, 'f, 'a> fmt::Display for SeenJson<'t, 'f, 'a> {
+    fn fmt<W: fmt::Write>(&self, f: &mut fmt::Formatter<W>) -> fmt::Result {
+        let seen = self.0;
+        let (number, when) = (seen.number, seen.when);
+        write!(f, "\"packet\":{number}")?;
+        if let Some(file) = seen.file {
+            let name = JsonText(file);
+            write!(f, ",\"file\":{name}")?;
+        }
+        let time = WhenJson(when);
+        write!(f, "{time}")?;
+        if let Some(direction) = when.direction() {
+            let word = direction_word(direction);
+            write!(f, ",\"direction\":\"{word}\"")?;
+        }
+        if let Ok(transport) = str::from_utf8(when.transport())
+            && !transport.is_empty()
+        {
+            let name = JsonText(transport);
+            write!(f, ",\"transport\":{name}")?;
+        }
+        if let Some(addresses) = seen.found.addresses {
+            let (source, destination) = hosts_of(addresses);
+            write!(f, ",\"from\":\"{source}\",\"to\":\"{destination}\"")?;
+        }
+        match seen.found.udp_ports {
+            Some(
+                UdpPorts {
+                    source,
+                    destination,
+                },
+            ) => write!(
+                f,
+                ",\"udp_source\":{source},\"udp_destination\":{destination}"
+            ),
+            None => Ok(()),
+        }
+    }
+}
+
+/// Returns which way a packet went, in a word.
+fn direction_word(direction: Direction) -> &'static str {
+    match direction {
+        Direction::Incoming => "incoming",
+        Direction::Outgoing => "outgoing",
+    }
+}
+
+/// One end of a packet's way.
+#[derive(Clone, Copy)]
+enum End {
+    V4(Ipv4Addr),
+    V6(Ipv6Addr),
+    // Of a log: the end that wrote it, or the other one.
+    Local,
+    Remote,
+    Unknown,
+}
+
+impl fmt::Display for End {
+    fn fmt<W: fmt::Write>(&self, f: &mut fmt::Formatter<W>) -> fmt::Result {
+        match self {
+            End::V4(address) => write!(f, "{address}"),
+            End::V6(address) => write!(f, "{address}"),
+            End::Local => f.write_str("local"),
+            End::Remote => f.write_str("remote"),
+            End::Unknown => f.write_str("-"),
+        }
+    }
+}
+
+/// Returns both addresses.
+fn hosts_of(addresses: Addresses) -> (End, End) {
+    match addresses {
+        Addresses::V4 {
+            source,
+            destination,
+        } => (
+            End::V4(Ipv4Addr::from(source)),
+            End::V4(Ipv4Addr::from(destination)),
+        ),
+        Addresses::V6 {
+            source,
+            destination,
+        } => (
+            End::V6(Ipv6Addr::from(source)),
+            End::V6(Ipv6Addr::from(destination)),
+        ),
+    }
+}
+
+/// Returns both ends.
+fn ends_of(addresses: Option<Addresses>, direction: Option<Direction>) -> (End, End) {
+    match (addresses, direction) {
+        (Some(addresses), _) => hosts_of(addresses),
+        (None, Some(Direction::Incoming)) => (End::Remote, End::Local),
+        (None, Some(Direction::Outgoing)) => (End::Local, End::Remote),
+        (None, None) => (End::Unknown, End::Unknown),
+    }
+}

@@ -1,0 +1,66 @@
+//! Why records and lines have no packet, in words.
+
+use dump_capture::event::{Part, Skipped};
+use dump_capture::frame::NoPacket;
+use std::fmt;
+
+/// A record or a line of text that has no packet, as a line.
+#[derive(Clone, Copy)]
+pub struct SkippedLine {
+    /// What it is.
+    pub part: Part,
+    /// Its number, from 1.
+    pub number: u64,
+    /// Why it has none.
+    pub reason: &'static str,
+}
+
+impl fmt::Display for SkippedLine {
+    fn fmt<W: fmt::Write>(&self, f: &mut fmt::Formatter<W>) -> fmt::Result {
+        let (name, number, reason) = (name_of(self.part), self.number, self.reason);
+        writeln!(f, "{name} {number} skipped: {reason}")
+    }
+}
+
+/// The same as a JSON object, in a line.
+#[derive(Clone, Copy)]
+pub struct SkippedJson(pub SkippedLine);
+
+impl fmt::Display for SkippedJson {
+    fn fmt<W: fmt::Write>(&self, f: &mut fmt::Formatter<W>) -> fmt::Result {
+        let (name, number, reason) = (name_of(self.0.part), self.0.number, self.0.reason);
+        write!(f, "{{\"{name}\":{number},\"skipped\":\"{reason}\"}}\n")
+    }
+}
+
+/// Returns what a part of a capture is called.
+fn name_of(part: Part) -> &'static str {
+    match part {
+        Part::Record => "record",
+        Part::Line => "line",
+    }
+}
+
+/// Returns why a record or a line has no frame, in words.
+pub fn reason_of(why: Skipped) -> &'static str {
+    match why {
+        Skipped::Malformed => "a header's length is wrong",
+        Skipped::TooLong => "more than 262144 bytes",
+        Skipped::EndsIn => "the file ends in it",
+        Skipped::NoInterface => "its interface isn't known",
+        Skipped::Unknown => "not a packet; further lines like it are counted alone",
+        Skipped::Apart =>
+            "its offset doesn't continue a packet; further lines like it are counted alone",
+    }
+}
+
+/// Returns why a frame has no packet, in words; nothing if it isn't SCTP, which is counted alone.
+pub fn frame_reason_of(why: NoPacket) -> Option<&'static str> {
+    match why {
+        NoPacket::Other => None,
+        NoPacket::Fragment => Some("a fragment"),
+        NoPacket::Cut => Some("cut off"),
+        NoPacket::Malformed => Some("a header's length is wrong"),
+        NoPacket::LinkType => Some("its link type isn't read"),
+    }
+}

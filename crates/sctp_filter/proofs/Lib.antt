@@ -1,4 +1,0 @@
-pub mod Blocks
-pub mod Looks
-pub mod SackBlocks
-pub mod Seen

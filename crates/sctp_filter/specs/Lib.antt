@@ -1,5 +1,0 @@
-pub mod Chunks
-pub mod ChunkTest
-pub mod Filter
-pub mod Items
-pub mod Rule

@@ -1,7 +1,0 @@
-use Rattle.std.proofs.Common.{◌≡◌, length}
-use Rattle.std.specs.Prelude.{All}
-use Rattle.sctp_report.specs.Hexadecimal.{IsPrintable}
-use Rattle.sctp_report.proofs.hexadecimal.write_row.Given as goal
-
-abbrev pub invariant-loop-i : goal.invariant-loop-i
-invariant-loop-i g l = record { size : length l.text ≡ 67; printable : All IsPrintable l.text }
