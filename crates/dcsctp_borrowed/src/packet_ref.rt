@@ -1,14 +1,14 @@
 //! A packet in its bytes: checked, and neither copied nor built.
 
-ghost use Rattle.std.specs.Prelude.{◌≡◌, ◌≤◌, Ok, IfOk, IsErrOf, length};
+ghost use Rattle.std.specs.Prelude.{◌≡◌, ◌≤◌, Ok, IfOk, IfErr, IsErrOf, length};
 ghost use Rattle.dcsctp_tlv.specs.{Frame.{lenient}, Level.{MeansSome}, Reading.{Answers, Exactly}, declared.error.ChunkParseError.TheVariants.{OutOfMemory}};
-ghost use Rattle.dcsctp_wire.specs.{Chunk.{chunks}, Packet.{PacketTree, Answer, body, packet_checking}, declared.packet.sctp_packet.PacketParseError.TheVariants.{FailedParseChunk}};
-ghost use Rattle.dcsctp_borrowed.specs.PacketRef.{reference, Referred, RefersTo};
+ghost use Rattle.dcsctp_wire.specs.{Chunk.{chunks}, Packet.{PacketTree, Answer, body, packet_checking}, Place.{packet_locating}, declared.packet.sctp_packet.PacketParseError.TheVariants.{FailedParseChunk}};
+ghost use Rattle.dcsctp_borrowed.specs.PacketRef.{reference, Referred, Located, RefersTo};
 
 use crate::raw_chunks::RawChunks;
 use dcsctp_tlv::number::{read_u16_be, read_u32_be};
 use dcsctp_wire::packet::sctp_packet::{
-    COMMON_HEADER_SIZE, ChecksumPolicy, CommonHeader, PacketParseError, SctpPacket,
+    COMMON_HEADER_SIZE, ChecksumPolicy, CommonHeader, FirstFault, PacketParseError, SctpPacket,
 };
 
 /// A packet in its bytes (RFC 9260 section 3): its header, and its chunks where they lie.
@@ -43,6 +43,25 @@ impl<'a> SctpPacketRef<'a> {
     {
         SctpPacket::check(bytes, checksum, policy)?;
         Ok(SctpPacketRef::of_packet(bytes))
+    }
+
+    /// Checks a packet as `from_bytes` does, and returns the same; a fault with its offset, as
+    /// `SctpPacket::first_fault` returns it. Does not allocate.
+    pub fn located(
+        bytes: &'a [u8],
+        checksum: u32,
+        policy: &ChecksumPolicy,
+    ) -> Result<SctpPacketRef<'a>, FirstFault>
+        ensures answer { Answers packet_locating (λ r. r)
+            (Located bytes.now checksum policy.now) result }
+        ensures within { IfErr result (λ found. found.offset ≤ length bytes.now) }
+        ensures memory { IfErr result
+            (λ found. ¬ (found.fault ≡ FailedParseChunk OutOfMemory)) }
+    {
+        match SctpPacket::first_fault(bytes, checksum, policy) {
+            None => Ok(SctpPacketRef::of_packet(bytes)),
+            Some(found) => Err(found),
+        }
     }
 
     /// The parts of bytes that are known to be a packet.

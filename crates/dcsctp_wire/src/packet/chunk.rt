@@ -128,7 +128,7 @@ macro_rules! listed_check_arms {
 
 /// Builds what the value of each kind means, and does something with it; the other types have the
 /// arms that follow.
-macro_rules! build_arms {
+macro_rules! chunk_build_arms {
     (
         [$typ:expr, $alloc:expr, $flags:expr, $value:expr, $chunk:ident => $does:expr, { $($other:tt)* }]
         { $($fixed_type:path, $fixed_variant:ident, $fixed:path;)* }
@@ -216,7 +216,7 @@ impl Chunk {
         ensures heap { TakesNoMemory typ value.now → IsOk result }
         ensures tight { IfOk result IsTight }
     {
-        kinds!(build_arms, typ, alloc, flags, value, chunk => Ok(chunk), {
+        kinds!(chunk_build_arms, typ, alloc, flags, value, chunk => Ok(chunk), {
             _ => Ok(Chunk::Unknown(UnknownChunk::build(alloc, typ, flags, value)?)),
         })
     }
@@ -300,7 +300,7 @@ impl ReadableTlv for Chunk {
         second: u8,
         value: &[u8],
     ) -> Result<(), AllocError> {
-        plain_kinds!(build_arms, first, alloc, second, value, chunk => {
+        plain_kinds!(chunk_build_arms, first, alloc, second, value, chunk => {
             list.push_reserved(chunk);
             Ok(())
         }, {
