@@ -7,3 +7,4 @@ pub mod Blocks
 pub mod Looks
 pub mod SackBlocks
 pub mod Seen
+pub mod RuleLists

@@ -14,3 +14,4 @@ pub mod ChunkTest
 pub mod Filter
 pub mod Items
 pub mod Rule
+pub mod Warnings

@@ -5,8 +5,8 @@ ghost use Rattle.dump_analysis.specs.Acknowledged.{IsAcknowledged};
 
 use crate::chunk_type::{NR_SACK, SACK, SHUTDOWN};
 use crate::serial::is_after;
-use dcsctp_wire::packet::{read_u16_be, read_u32_be};
 use dcsctp_borrowed::part::Item;
+use dcsctp_wire::packet::{read_u16_be, read_u32_be};
 
 /// The TSNs that a chunk acknowledges, as far as it was captured.
 #[derive(Clone, Copy, Debug)]

@@ -11,8 +11,8 @@ ghost use Rattle.dump_analysis.specs.ChunkTest.{meets_test, IsFound};
 use crate::chunk_type;
 use crate::fields::{is_u16, is_u32};
 use crate::parameters::{has_no_cookie, has_no_heartbeat_info};
-use dcsctp_wire::packet::{read_u16_be, read_u32_be};
 use dcsctp_borrowed::part::{Item, Part};
+use dcsctp_wire::packet::{read_u16_be, read_u32_be};
 
 /// What is asked of a chunk.
 #[derive(Clone, Copy)]

@@ -7,12 +7,12 @@ ghost use Rattle.dump_analysis.specs.Counts.{nothing, with_chunk, with_data, wit
 
 use crate::chunk_type::{DATA, FORWARD_TSN, HEARTBEAT, I_DATA, I_FORWARD_TSN, INIT, NR_SACK, SACK};
 use crate::packet_number::PacketNumber;
+use dcsctp_borrowed::checksum::Checksum;
+use dcsctp_borrowed::part::{Item, Items, Part};
 use dcsctp_wire::packet::sctp_packet::COMMON_HEADER_SIZE;
 use dcsctp_wire::packet::{read_u16_be, read_u32_be};
 use dump_capture::frame::{Addresses, FoundPacket};
 use dump_capture::line::Direction;
-use dcsctp_borrowed::checksum::Checksum;
-use dcsctp_borrowed::part::{Item, Items, Part};
 use std::net::{IpAddr, Ipv4Addr, Ipv6Addr};
 
 /// A packet of a capture.

@@ -17,8 +17,8 @@ use crate::round_trips::RoundTrips;
 use crate::serial::is_after;
 use crate::tsns::{Step, Tsns};
 use crate::unanswered::{Unanswered, digest};
-use dcsctp_wire::packet::read_u32_be;
 use dcsctp_borrowed::part::Item;
+use dcsctp_wire::packet::read_u32_be;
 use std::net::IpAddr;
 
 /// How many addresses of an end are kept.

@@ -4,8 +4,8 @@ ghost use Rattle.std.specs.Prelude.{◌≡◌, ◌==◌, nat_le, length};
 ghost use Rattle.dcsctp_borrowed.specs.Part.{part_of};
 ghost use Rattle.dump_analysis.specs.Chunks.{begins_with16, begins_with32, has_port};
 
-use dcsctp_wire::packet::{read_u16_be, read_u32_be};
 use dcsctp_borrowed::part::Part;
+use dcsctp_wire::packet::{read_u16_be, read_u32_be};
 
 /// Returns whether the first two bytes were captured, and are this number.
 pub(crate) fn is_u16(part: Part<'_>, number: u16) -> bool

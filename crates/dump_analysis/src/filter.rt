@@ -8,8 +8,8 @@ ghost use Rattle.dump_analysis.specs.Filter.{part_in, passes, passes_headers, pa
 
 use crate::chunk_test::{ChunkTest, some_seen};
 use crate::fields::{has_port, is_u32};
-use dump_capture::frame::{Addresses, FoundPacket};
 use dcsctp_borrowed::part::Part;
+use dump_capture::frame::{Addresses, FoundPacket};
 
 /// An address of an IP packet, as its octets.
 #[derive(Clone, Copy, Debug, PartialEq, Eq)]

@@ -1,8 +1,8 @@
 //! What an INIT or an INIT ACK announces (RFC 9260 sections 3.3.2 and 3.3.3).
 
+use dcsctp_borrowed::part::Part;
 use dcsctp_wire::packet::read_u32_be;
 use dcsctp_wire::packet::zero_checksum_acceptable_parameter::PARAMETER_TYPE as ZERO_CHECKSUM_ACCEPTABLE;
-use dcsctp_borrowed::part::Part;
 
 /// The size of what comes before the parameters.
 const FIXED_SIZE: usize = 16;

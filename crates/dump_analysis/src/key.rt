@@ -5,9 +5,9 @@ use crate::chunk_type::{ABORT, INIT, INIT_ACK, SHUTDOWN_COMPLETE};
 use crate::counts::SeenPacket;
 use crate::initiation::initiate_tag;
 use crate::transport::{Transport, TransportKey, TransportNames};
+use dcsctp_borrowed::part::Item;
 use dcsctp_wire::packet::sctp_packet::CommonHeader;
 use dump_capture::line::Direction;
-use dcsctp_borrowed::part::Item;
 use std::net::IpAddr;
 
 /// The bit T of an ABORT's and a SHUTDOWN COMPLETE's flags (RFC 9260 section 8.5.1): the tag is the

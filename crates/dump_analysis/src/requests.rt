@@ -3,6 +3,7 @@
 use crate::counts::increase;
 use crate::packet_number::PacketNumber;
 use crate::unanswered::Unanswered;
+use dcsctp_borrowed::part::Part;
 use dcsctp_wire::packet::add_incoming_streams_request_parameter::PARAMETER_TYPE as ADD_INCOMING_STREAMS;
 use dcsctp_wire::packet::add_outgoing_streams_request_parameter::PARAMETER_TYPE as ADD_OUTGOING_STREAMS;
 use dcsctp_wire::packet::incoming_ssn_reset_request_parameter::PARAMETER_TYPE as INCOMING_SSN_RESET;
@@ -10,7 +11,6 @@ use dcsctp_wire::packet::outgoing_ssn_reset_request_parameter::PARAMETER_TYPE as
 use dcsctp_wire::packet::read_u32_be;
 use dcsctp_wire::packet::reconfiguration_response_parameter::PARAMETER_TYPE as RESPONSE;
 use dcsctp_wire::packet::ssn_tsn_reset_request_parameter::PARAMETER_TYPE as SSN_TSN_RESET;
-use dcsctp_borrowed::part::Part;
 
 /// The requests that one end sent in RE-CONFIG chunks.
 #[derive(Clone, Debug, Drop)]

@@ -32,13 +32,6 @@ impl<W: Write> Output<W> {
         }
     }
 
-    /// Gives the writer back, without the text.
-    pub fn into_writer(self) -> Watched<W>
-        ensures { result ≡ writer_of self }
-    {
-        self.writer
-    }
-
     /// Writes the text, and doesn't flush. Where the writer fails, it took a beginning of the text.
     pub fn write(&mut self) -> io::Result<()>
         ensures whole { OnOk result (Appends (W.contents (device_of (writer_of self.old)))

@@ -1,13 +1,13 @@
 //! A packet in a part of one line: words with a blank between each two.
 
-use dcsctp_borrowed::checksum::Checksum;
 use crate::fault::{Fault, Reason};
 use crate::fields::{Block, Fields, Flag, Form, Number, Text};
-use dump_text::names::Level;
+use dcsctp_borrowed::checksum::Checksum;
 use dcsctp_borrowed::part::{Item, Part};
+use dcsctp_wire::packet::sctp_packet::CommonHeader;
+use dump_text::names::Level;
 use dump_text::printed::OneWord;
 use dump_text::registry::{cause_name, chunk_name, parameter_name};
-use dcsctp_wire::packet::sctp_packet::CommonHeader;
 use std::fmt;
 
 /// Writes words. Of parameters and error causes it writes the names, or types and codes without

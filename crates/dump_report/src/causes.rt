@@ -1,10 +1,10 @@
 //! What an error cause holds.
 
 use crate::fields::{Fields, Form, Number, walk_numbers};
-use dump_text::names::Level;
-use dcsctp_borrowed::part::{Item, Part};
 use dcsctp_borrowed::missing_parameters::missing_parameters;
+use dcsctp_borrowed::part::{Item, Part};
 use dcsctp_wire::packet::parameter::RawParameter;
+use dump_text::names::Level;
 use std::fmt;
 
 /// Hands over each cause of a list, as far as there are causes.

@@ -2,8 +2,8 @@
 
 use crate::fields::{Fields, Form, Number, Text};
 use dcsctp_borrowed::part::Item;
-use dump_text::registry::channel_type_name;
 use dcsctp_wire::packet::read_u16_be;
+use dump_text::registry::channel_type_name;
 use std::fmt;
 
 /// Bytes of DATA_CHANNEL_OPEN before the label.

@@ -3,14 +3,14 @@
 use crate::causes::walk_causes;
 use crate::channel::walk_channel;
 use crate::fields::{Block, Fields, Flag, Form, HEADER_SIZE, Number, walk_numbers};
-use dump_text::names::Level;
 use crate::parameters::walk_parameters;
-use dcsctp_borrowed::part::{Item, Part};
-use dump_text::registry::payload_protocol;
 use dcsctp_borrowed::forward_tsn_ref::ForwardTsnRef;
+use dcsctp_borrowed::part::{Item, Part};
 use dcsctp_borrowed::user_data::UserData;
 use dcsctp_wire::packet::chunk::RawChunk;
 use dcsctp_wire::packet::read_u16_be;
+use dump_text::names::Level;
+use dump_text::registry::payload_protocol;
 use std::fmt;
 
 /// Bytes of INIT and INIT ACK before the parameters.

@@ -2,14 +2,13 @@
 
 use crate::chunks::INIT_SIZE;
 use crate::fields::HEADER_SIZE;
-use dump_text::names::Level;
-use dump_text::names::ItemName;
 use dcsctp_borrowed::part::{Item, Part};
+use dcsctp_wire::packet::sctp_packet::{COMMON_HEADER_SIZE, FirstFault, PacketParseError};
+use dcsctp_wire::packet::{ChunkParseError, read_u16_be, read_u32_be};
+use dump_text::names::{ItemName, Level};
 use dump_text::registry::{
     cause_section, chunk_section, least_cause, least_chunk, least_parameter, parameter_section,
 };
-use dcsctp_wire::packet::sctp_packet::{COMMON_HEADER_SIZE, FirstFault, PacketParseError};
-use dcsctp_wire::packet::{ChunkParseError, read_u16_be, read_u32_be};
 use std::fmt;
 
 /// The bytes of a row.

@@ -5,12 +5,12 @@
 //! counted from the first byte of the chunk, parameter or error cause that holds the field, as in
 //! the figures of the RFCs.
 
-use dcsctp_borrowed::checksum::Checksum;
 use crate::fault::Fault;
-use dump_text::names::NamedBy;
+use dcsctp_borrowed::checksum::Checksum;
 use dcsctp_borrowed::part::{Item, Part};
 use dcsctp_wire::packet::sctp_packet::CommonHeader;
 use dcsctp_wire::packet::{read_u16_be, read_u32_be};
+use dump_text::names::{Level, NamedBy};
 use std::fmt;
 use std::net::IpAddr;
 

@@ -1,16 +1,15 @@
 //! A packet as JSON (RFC 8259): numbers, bytes in lower-case hexadecimal, and texts.
 
-use dcsctp_borrowed::checksum::Checksum;
 use crate::fault::{Fault, Reason};
 use crate::fields::{Block, Fields, Flag, HEADER_SIZE, Number, Text};
-use dump_text::names::Level;
-use dump_text::hexadecimal::write_digits;
-use dump_text::json_text::JsonText;
-use dump_text::names::{Named, NamedBy};
+use dcsctp_borrowed::checksum::Checksum;
 use dcsctp_borrowed::part::{Item, Part};
-use dump_text::registry::{cause_name, chunk_name, parameter_name};
 use dcsctp_wire::packet::sctp_packet::CommonHeader;
 use dcsctp_wire::packet::{read_u16_be, read_u32_be};
+use dump_text::hexadecimal::write_digits;
+use dump_text::json_text::JsonText;
+use dump_text::names::{Level, Named, NamedBy};
+use dump_text::registry::{cause_name, chunk_name, parameter_name};
 use std::fmt;
 use std::net::IpAddr;
 

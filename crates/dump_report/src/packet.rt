@@ -1,13 +1,13 @@
 //! A packet, its checksum field, and a chunk, as text.
 
 use crate::brief::BriefFields;
-use dcsctp_borrowed::checksum::Checksum;
 use crate::chunks::{walk_chunk, walk_chunks};
 use crate::fault::Fault;
 use crate::fields::Fields;
 use crate::json::JsonFields;
-use dcsctp_borrowed::part::{Item, Part};
 use crate::text::TextFields;
+use dcsctp_borrowed::checksum::Checksum;
+use dcsctp_borrowed::part::{Item, Part};
 use dcsctp_wire::packet::chunk::RawChunk;
 use dcsctp_wire::packet::sctp_packet::{COMMON_HEADER_SIZE, CommonHeader, FirstFault};
 use std::fmt;

@@ -1,13 +1,12 @@
 //! What a parameter holds.
 
 use crate::fields::{Fields, Form, Number, walk_named, walk_numbers};
-use dump_text::names::Level;
-use dump_text::names::NamedBy;
 use dcsctp_borrowed::part::{Item, Part};
-use dump_text::registry::result_name;
 use dcsctp_borrowed::re_config_ref::ReConfigRef;
 use dcsctp_wire::packet::parameter::RawParameter;
 use dcsctp_wire::packet::reconfiguration_response_parameter::ReconfigurationResponseParameter;
+use dump_text::names::{Level, NamedBy};
+use dump_text::registry::result_name;
 use std::fmt;
 use std::net::{IpAddr, Ipv4Addr, Ipv6Addr};
 

@@ -1,7 +1,7 @@
 //! How bytes of a packet are printed.
 
-use dump_text::hexadecimal::{ROW, write_digits, write_row};
 use dcsctp_borrowed::part::Part;
+use dump_text::hexadecimal::{ROW, write_digits, write_row};
 use std::fmt;
 
 /// The most bytes of a value that are shown, unless all are.

@@ -1,15 +1,14 @@
 //! A packet as plain lines, one fact a line, and two blanks deeper what is inside.
 
-use dcsctp_borrowed::checksum::Checksum;
 use crate::fault::Fault;
 use crate::fields::{Block, Fields, Flag, Form, Number, Text};
-use dump_text::names::Level;
-use dump_text::names::{ChunkName, ItemName, Named, NamedBy};
-use dcsctp_borrowed::part::{Item, Part};
-use dump_text::printed::{Quoted, text_front};
 use crate::shown::{Rows, Shown, Size};
+use dcsctp_borrowed::checksum::Checksum;
+use dcsctp_borrowed::part::{Item, Part};
 use dcsctp_wire::packet::sctp_packet::CommonHeader;
 use dcsctp_wire::packet::{read_u16_be, read_u32_be};
+use dump_text::names::{ChunkName, ItemName, Level, Named, NamedBy};
+use dump_text::printed::{Quoted, text_front};
 use std::fmt;
 use std::net::IpAddr;
 

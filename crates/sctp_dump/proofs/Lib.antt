@@ -1,9 +1,8 @@
 pub mod ChunkKinds
-pub mod InputKinds
+pub mod InputFormats
 pub mod LineDrops
 pub mod PacketCounts
 pub mod Powers
 pub mod Passed
 pub mod Printed
-pub mod RuleLists
 pub mod Steps

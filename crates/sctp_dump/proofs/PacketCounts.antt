@@ -2,9 +2,9 @@
 use Rattle.std.proofs.Common.{◌≡◌, ◌⊎◌, inl, inr, ◌≤◌, ℕ, List, length, fold, Err, ap, subst, ◌∙◌}
 use Rattle.dump_capture.specs.Frame.{Packet}
 use Rattle.dcsctp_crc32c.specs.Checksum.{packet_word}
-use Rattle.dcsctp_wire.specs.Packet.{PacketFault, Answer, IsPacket, body, packet_error_of}
+use Rattle.dcsctp_wire.specs.Packet.{PacketFault, Placed, Answer, IsPacket, body, packet_error_of}
 use Rattle.dcsctp_wire.specs.declared.packet.sctp_packet.ChecksumPolicy.{ChecksumPolicy}
-use Rattle.dcsctp_wire.specs.declared.packet.sctp_packet.PacketParseError.{PacketParseError}
+use Rattle.dcsctp_wire.specs.declared.packet.first_fault.FirstFault.{FirstFault}
 use Rattle.dcsctp_borrowed.specs.PacketRef.{reference}
 use Rattle.dcsctp_borrowed.specs.declared.packet_ref.SctpPacketRef.{SctpPacketRef}
 use Rattle.sctp_dump.specs.Verdict.{IsVerdict}
@@ -13,6 +13,12 @@ use Rattle.sctp_dump.specs.declared.options.Options.{Options}
 use Rattle.sctp_dump.specs.declared.counts.Counts.{Counts}
 use Rattle.dump_capture.specs.Number.{one_more}
 use Rattle.sctp_dump.specs.Counts.{policy_of, ChunkTypes, with_kind, accepted_with, with_checksum, refused_by, CountsPacket, whole, faulty}
+
+-- the first fault of a packet, and its place
+abbrev IsLocated : Packet → ℕ → ChecksumPolicy → FirstFault → Type 0
+IsLocated p word policy first =
+    (f : PacketFault × ℕ) × (first ≡ record { fault = packet_error_of f.0; offset = f.1 })
+    × Placed p.bytes word policy (Err f)
 
 pub counted_accepted : (o : Options) (before checked after : Counts) (p : Packet) (word n : ℕ)
     (policy : ChecksumPolicy) (r : SctpPacketRef) → p.length ≤ length p.bytes
@@ -36,19 +42,18 @@ counted_accepted o before checked after p word n policy r size word_is policy_is
     (checked_is ∙ ap (with_checksum before p.bytes) word_is))
 
 pub counted_refused : (o : Options) (before checked after : Counts) (p : Packet) (word : ℕ)
-    (policy : ChecksumPolicy) (error : PacketParseError) → p.length ≤ length p.bytes
-    → word ≡ packet_word p.bytes → policy ≡ policy_of o
-    → ((f : PacketFault) × (error ≡ packet_error_of f) × Answer p.bytes word policy (Err f)) ⊎ ⊥
-    → checked ≡ with_checksum before p.bytes word → after ≡ refused_by checked error
+    (policy : ChecksumPolicy) (first : FirstFault) → p.length ≤ length p.bytes
+    → word ≡ packet_word p.bytes → policy ≡ policy_of o → IsLocated p word policy first ⊎ ⊥
+    → checked ≡ with_checksum before p.bytes word → after ≡ refused_by checked first.fault
     → CountsPacket o before p after
-counted_refused o before checked after p word policy error size word_is policy_is (inr none)
+counted_refused o before checked after p word policy first size word_is policy_is (inr none)
     checked_is after_is = absurd none
-counted_refused o before checked after p word policy error size word_is policy_is
-    (inl (f, error_is, answer)) checked_is after_is =
+counted_refused o before checked after p word policy first size word_is policy_is
+    (inl ((f, n), first_is, placed)) checked_is after_is =
     faulty f size
     (subst (λ (x : ChecksumPolicy). Answer p.bytes (packet_word p.bytes) x (Err f)) policy_is
-    (subst (λ (w : ℕ). Answer p.bytes w policy (Err f)) word_is answer))
-    (after_is ∙ ap (refused_by checked) error_is
+    (subst (λ (w : ℕ). Answer p.bytes w policy (Err f)) word_is (n, placed)))
+    (after_is ∙ ap (λ (x : FirstFault). refused_by checked x.fault) first_is
     ∙ ap (λ (c : Counts). refused_by c (packet_error_of f))
     (checked_is ∙ ap (with_checksum before p.bytes) word_is))
 
@@ -62,10 +67,11 @@ found_accepted o p word policy r size word_is policy_is (is, refers) =
     (size, word_is, subst (λ (x : ChecksumPolicy). IsPacket p.bytes word x) policy_is is)
 
 pub found_refused : (o : Options) (p : Packet) (word : ℕ) (policy : ChecksumPolicy)
-    (error : PacketParseError) → p.length ≤ length p.bytes → word ≡ packet_word p.bytes
-    → policy ≡ policy_of o
-    → ((f : PacketFault) × (error ≡ packet_error_of f) × Answer p.bytes word policy (Err f)) ⊎ ⊥
-    → IsVerdict o p Refused word
-found_refused o p word policy error size word_is policy_is (inr none) = absurd none
-found_refused o p word policy error size word_is policy_is (inl (f, error_is, answer)) =
-    (size, word_is, (f, subst (λ (x : ChecksumPolicy). Answer p.bytes word x (Err f)) policy_is answer))
+    (first : FirstFault) → p.length ≤ length p.bytes → word ≡ packet_word p.bytes
+    → policy ≡ policy_of o → IsLocated p word policy first ⊎ ⊥ → IsVerdict o p Refused word
+found_refused o p word policy first size word_is policy_is (inr none) = absurd none
+found_refused o p word policy first size word_is policy_is (inl ((f, n), first_is, placed)) = (
+  size,
+  word_is,
+  (f, subst (λ (x : ChecksumPolicy). Answer p.bytes word x (Err f)) policy_is (n, placed)),
+)

@@ -10,11 +10,7 @@ use Rattle.sctp_dump.specs.declared.failure.Failure.{Failure}
 use Rattle.sctp_dump.specs.Counts.{AreCounts, more, CountsEvent, CountsFrame, CountsPacket}
 use Rattle.sctp_dump.specs.Verdict.{IsVerdict}
 use Rattle.sctp_dump.specs.Warnings as warnings
-use Rattle.sctp_dump.specs.Warnings.{AreWarnings, CountsBroken, WarnsEvent, WarnsFrame, WarnsOf, is_broken_by}
-use Rattle.sctp_dump.specs.declared.counts.Verdict.TheVariants as verdict
-use Rattle.dump_analysis.specs.Filter.{part_in}
-use Rattle.dump_analysis.specs.declared.rule.Known.{Known}
-use Rattle.dump_analysis.specs.declared.rule.TheConstants.Rule.{ALL}
+use Rattle.sctp_dump.specs.Warnings.{AreWarnings, WarnsEvent, WarnsFrame, WarnsOf}
 
 pub sound : (failure : Option Failure) → is_some failure ≡ false → failure ≡ None
 sound None is = refl
@@ -58,18 +54,6 @@ pub warns_none : (o : Options) (before after : List ℕ) (why : NoPacket)
     (r : Result Packet NoPacket) → Err why ≡ r → after ≡ before → WarnsFrame o r before after
 warns_none o before after why r is same =
     subst (λ (x : Result Packet NoPacket). WarnsFrame o x before after) is same
-
--- The rules that are broken were counted of a packet that wasn't refused.
-pub warns_checked : (o : Options) (p : Packet) (v : Verdict) (word : ℕ) (before after : List ℕ)
-    (known : Known) (broken : List Bool) → o.check ≡ true → (v ≡ verdict.Refused → ⊥)
-    → broken ≡ map (is_broken_by (part_in p) word known) ALL → CountsBroken broken before after
-    → WarnsOf o p v word before after
-warns_checked o p verdict.Refused word before after known broken is_checked refused are counts =
-    absurd (refused refl)
-warns_checked o p verdict.Accepted word before after known broken is_checked refused are counts =
-    (λ is. (known, subst (λ (l : List Bool). CountsBroken l before after) are counts), λ no. cc)
-warns_checked o p verdict.Partial word before after known broken is_checked refused are counts =
-    (λ is. (known, subst (λ (l : List Bool). CountsBroken l before after) are counts), λ no. cc)
 
 -- what a call ensures of an Ok, where it was one
 pub when_ok : {T E : Type 0} (P : Type 0) (r : Result T E) → IsOk r → IfOk r (λ _. P) → P

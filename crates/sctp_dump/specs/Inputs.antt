@@ -10,75 +10,75 @@ use Rattle.dump_capture.specs.declared.pcap.InputKind.{InputKind}
 use Rattle.dump_capture.specs.declared.pcap.InputKind.TheVariants as kinds
 use Rattle.dump_capture.specs.declared.pcap_decoder.PcapDecoder.{PcapDecoder}
 use Rattle.dump_capture.specs.declared.decoder.Fault.{Fault}
-use Rattle.sctp_dump.specs.declared.options.Form.{Form}
-use Rattle.sctp_dump.specs.declared.options.Form.TheVariants as form
-use Rattle.sctp_dump.specs.declared.input.Kind.{Kind}
-use Rattle.sctp_dump.specs.declared.input.Kind.TheVariants as kind
+use Rattle.sctp_dump.specs.declared.options.FormatOption.{FormatOption}
+use Rattle.sctp_dump.specs.declared.options.FormatOption.TheVariants as form
+use Rattle.sctp_dump.specs.declared.input.InputFormat.{InputFormat}
+use Rattle.sctp_dump.specs.declared.input.InputFormat.TheVariants as format
 use Rattle.sctp_dump.specs.declared.stop.Stop.{Stop}
 use Rattle.sctp_dump.specs.declared.stop.Stop.TheVariants as stop
 use Rattle.sctp_dump.specs.Handed.{HandsAll, HandsFront}
 
 -- ---- what an input is
 
-abbrev pub kind_by : InputKind → Kind
-kind_by (kinds.Pcap f) = kind.Pcap
-kind_by kinds.Pcapng = kind.Pcapng
-kind_by kinds.Text = kind.Text
+abbrev pub format_by : InputKind → InputFormat
+format_by (kinds.Pcap f) = format.Pcap
+format_by kinds.Pcapng = format.Pcapng
+format_by kinds.Text = format.Text
 
 -- by its first bytes, of which two say that it is compressed (RFC 1952 section 2.3.1)
-abbrev pub detected : List ℕ → Kind
+abbrev pub detected : List ℕ → InputFormat
 detected bytes =
-    if starts_with nat_eq bytes (0x1f ∷ 0x8b ∷ []) then kind.Compressed else
-    kind_by (input_kind bytes)
+    if starts_with nat_eq bytes (0x1f ∷ 0x8b ∷ []) then format.Compressed else
+    format_by (input_kind bytes)
 
-abbrev pub kind_of : Form → List ℕ → Kind
-kind_of form.Detected bytes = detected bytes
-kind_of form.Pcap bytes = kind.Pcap
-kind_of form.Pcapng bytes = kind.Pcapng
-kind_of form.Text bytes = kind.Text
+abbrev pub format_of : FormatOption → List ℕ → InputFormat
+format_of form.Detected bytes = detected bytes
+format_of form.Pcap bytes = format.Pcap
+format_of form.Pcapng bytes = format.Pcapng
+format_of form.Text bytes = format.Text
 
 -- ---- its events
 
 -- a printer, of whose type `handed` is, was handed the events of all that was left of such an
 -- input, up to the end, or to a fault
-abbrev pub HandsKind : {P : Type 0} → (P → List Event → Type 0) → Option (List ℕ) → P → P
-    → Option Fault → Kind → Type 0
-HandsKind handed left old new fault kind.Pcap =
+abbrev pub HandsFormat : {P : Type 0} → (P → List Event → Type 0) → Option (List ℕ) → P → P
+    → Option Fault → InputFormat → Type 0
+HandsFormat handed left old new fault format.Pcap =
     HandsAll pcap.Item pcap.End handed PcapDecoder.FileHeader left old new fault
-HandsKind handed left old new fault kind.Pcapng =
+HandsFormat handed left old new fault format.Pcapng =
     HandsAll pcapng.Item pcapng.End handed pcapng.before_blocks left old new fault
-HandsKind handed left old new fault kind.Text =
-    HandsAll text.LineItem text.TextEnd handed text.before_text left old new fault
-HandsKind handed left old new fault kind.Compressed = ⊥
+HandsFormat handed left old new fault format.Text =
+    HandsAll text.Item text.End handed tt left old new fault
+HandsFormat handed left old new fault format.Compressed = ⊥
 
 -- those of a beginning
 abbrev pub HandsFrontOf : {P : Type 0} → (P → List Event → Type 0) → Option (List ℕ) → P → P
-    → Kind → Type 0
-HandsFrontOf handed left old new kind.Pcap =
+    → InputFormat → Type 0
+HandsFrontOf handed left old new format.Pcap =
     HandsFront pcap.Item handed PcapDecoder.FileHeader left old new
-HandsFrontOf handed left old new kind.Pcapng =
+HandsFrontOf handed left old new format.Pcapng =
     HandsFront pcapng.Item handed pcapng.before_blocks left old new
-HandsFrontOf handed left old new kind.Text =
-    HandsFront text.LineItem handed text.before_text left old new
-HandsFrontOf handed left old new kind.Compressed = Hands handed old new []
+HandsFrontOf handed left old new format.Text =
+    HandsFront text.Item handed tt left old new
+HandsFrontOf handed left old new format.Compressed = Hands handed old new []
 
 -- of an input that is what its first bytes say, or what the caller says
-abbrev pub OfKind : Form → Option (List ℕ) → (Kind → Type 0) → Type 0
-OfKind form left Holds =
-    (k : Kind) × IfSome left (λ l. k ≡ kind_of form l) × Holds k
+abbrev pub OfFormat : FormatOption → Option (List ℕ) → (InputFormat → Type 0) → Type 0
+OfFormat form left Holds =
+    (k : InputFormat) × IfSome left (λ l. k ≡ format_of form l) × Holds k
 
 -- The printer was handed the events of all of an input, up to the end, or to a fault.
-abbrev pub HandsInput : {P : Type 0} → Form → (P → List Event → Type 0) → Option (List ℕ) → P → P
+abbrev pub HandsInput : {P : Type 0} → FormatOption → (P → List Event → Type 0) → Option (List ℕ) → P → P
     → Option Fault → Type 0
 HandsInput form handed left old new fault =
-    OfKind form left (HandsKind handed left old new fault)
+    OfFormat form left (HandsFormat handed left old new fault)
 
 -- What it was handed where reading stopped so: of an input that has a fault all events before it;
 -- of any other one those of a beginning, or all.
-abbrev pub StopsInput : {P : Type 0} → Form → (P → List Event → Type 0) → Option (List ℕ) → P → P
+abbrev pub StopsInput : {P : Type 0} → FormatOption → (P → List Event → Type 0) → Option (List ℕ) → P → P
     → Stop → Type 0
 StopsInput form handed left old new (stop.Fault fault) =
     HandsInput form handed left old new (Some fault)
 StopsInput form handed left old new _ =
-    OfKind form left (HandsFrontOf handed left old new)
+    OfFormat form left (HandsFrontOf handed left old new)
     ⊎ HandsInput form handed left old new None

@@ -4,7 +4,7 @@ ghost use Rattle.std.specs.Prelude.{◌≤◌, IfOk};
 
 use crate::failure::Failure;
 use crate::name::Name;
-use crate::options::{Form, Options, OutputForm, TimeOption};
+use crate::options::{FormatOption, Options, OutputForm, TimeOption};
 use dump_analysis::filter::Host;
 use dump_text::registry::chunk_name;
 use std::alloc::Global;
@@ -279,11 +279,11 @@ fn number_of(text: &str, least: u64, most: u64, usage: &'static str) -> Result<u
 }
 
 /// Returns the form of an input of this name.
-fn form_of(name: &str) -> Result<Form, Failure> {
+fn form_of(name: &str) -> Result<FormatOption, Failure> {
     match name {
-        "pcap" => Ok(Form::Pcap),
-        "pcapng" => Ok(Form::Pcapng),
-        "text" => Ok(Form::Text),
+        "pcap" => Ok(FormatOption::Pcap),
+        "pcapng" => Ok(FormatOption::Pcapng),
+        "text" => Ok(FormatOption::Text),
         _ => Err(Failure::Usage("--format takes pcap, pcapng or text")),
     }
 }

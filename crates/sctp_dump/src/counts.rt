@@ -12,7 +12,7 @@ use dcsctp_borrowed::packet_ref::SctpPacketRef;
 use dcsctp_borrowed::raw_chunks::RawChunks;
 use dcsctp_crc32c::packet_word;
 use dcsctp_wire::packet::ChunkParseError;
-use dcsctp_wire::packet::sctp_packet::{CommonHeader, PacketParseError};
+use dcsctp_wire::packet::sctp_packet::{CommonHeader, FirstFault, PacketParseError};
 use dump_capture::event::Skipped;
 use dump_capture::frame::{FoundPacket, NoPacket};
 
@@ -22,41 +22,52 @@ use dump_capture::frame::{FoundPacket, NoPacket};
 pub struct Counts {
     /// Packets that were accepted.
     pub accepted: u64,
-    /// Packets that were refused for their size,
+    /// Packets that were refused for their size.
     pub size: u64,
-    /// for a length in them,
+    /// Packets that were refused for a length in them.
     pub length: u64,
-    /// for padding,
+    /// Packets that were refused for padding.
     pub padding: u64,
-    /// or for a value.
+    /// Packets that were refused for a value.
     pub value: u64,
     /// Packets of which the capture has the beginning alone.
     pub partial: u64,
-    /// Packets whose checksum field is zero, where another is expected,
+    /// Packets whose checksum field is zero, where another is expected.
     pub zero: u64,
-    /// and those whose field is wrong.
+    /// Packets whose checksum field is wrong.
     pub wrong: u64,
-    /// Frames that carry something else,
+    /// Frames that carry something else.
     pub others: u64,
-    /// a fragment of an IP packet,
+    /// Frames that carry a fragment of an IP packet.
     pub fragments: u64,
-    /// frames that were cut off before the packet, and what a file ends in,
+    /// Frames that were cut off before the packet, and what a file ends in.
     pub cut: u64,
-    /// frames, records and blocks with a header that contradicts itself,
+    /// Frames, records and blocks with a header that contradicts itself.
     pub malformed: u64,
-    /// records and lines of more bytes than are kept,
+    /// Records and lines of more bytes than are kept.
     pub long: u64,
-    /// lines of no form that is known,
+    /// Lines of no form that is known.
     pub unknown: u64,
-    /// frames of a link type that isn't read,
+    /// Frames of a link type that isn't read.
     pub links: u64,
-    /// captures that end inside a record.
+    /// Captures that end inside a record.
     pub unfinished: u64,
-    // the chunks of accepted packets, by their types
+    /// The chunks of accepted packets, by their types.
     pub kinds: [u64; 256],
 }
 
 /// What was found of a packet.
+#[derive(Drop)]
+pub struct Judged {
+    /// Whether it was accepted.
+    pub verdict: Verdict,
+    /// Its checksum word; 0 of one that was cut off.
+    pub word: u32,
+    /// Why it was refused, and where.
+    pub fault: Option<FirstFault>,
+}
+
+/// Whether a packet was accepted.
 #[derive(Clone, Copy, PartialEq, Eq)]
 pub enum Verdict {
     /// It was accepted.
@@ -132,28 +143,39 @@ impl Counts {
         self.packets() == 0 && self.skipped() > 0
     }
 
-    /// Counts a packet, and returns what was found of it, and its checksum word, which is 0 of one
-    /// that was cut off.
-    pub fn count_packet(&mut self, options: &Options, found: &FoundPacket<'_>) -> (Verdict, u32)
+    /// Counts a packet, and returns what was found of it.
+    pub fn count_packet(&mut self, options: &Options, found: &FoundPacket<'_>) -> Judged
         ensures counts { CountsPacket options.now self.old (packet_of found.now) self.new }
-        ensures verdict { IsVerdict options.now (packet_of found.now) result.0 result.1 }
+        ensures verdict { IsVerdict options.now (packet_of found.now) result.verdict result.word }
     {
         let bytes = found.packet;
         if bytes.len() < found.length {
             increase(&mut self.partial);
-            return (Verdict::Partial, 0);
+            return Judged {
+                verdict: Verdict::Partial,
+                word: 0,
+                fault: None,
+            };
         }
         let word = packet_word(bytes);
         self.count_checksum(bytes, word);
-        match SctpPacketRef::from_bytes(bytes, word, &options.policy()) {
+        match SctpPacketRef::located(bytes, word, &options.policy()) {
             Ok(packet) => {
                 increase(&mut self.accepted);
                 self.count_chunks(packet.chunks);
-                (Verdict::Accepted, word)
+                Judged {
+                    verdict: Verdict::Accepted,
+                    word,
+                    fault: None,
+                }
             }
-            Err(error) => {
-                self.count_refused(&error);
-                (Verdict::Refused, word)
+            Err(first) => {
+                self.count_refused(&first.fault);
+                Judged {
+                    verdict: Verdict::Refused,
+                    word,
+                    fault: Some(first),
+                }
             }
         }
     }

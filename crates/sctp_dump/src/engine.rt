@@ -12,9 +12,9 @@ use crate::printer::Printer;
 use crate::stop::Stop;
 use crate::stream::{drop_bytes, drop_line, read_more};
 use dump_capture::decoder::{Decoder, Extent, Next};
-use std::io::Read;
 use dump_io::watched::Watched;
 use dump_io::window::Window;
+use std::io::Read;
 
 /// Hands the events of an input to the printer, which shows all before each read. What the window
 /// holds is the beginning of the input.

@@ -3,7 +3,7 @@
 ghost use Rattle.std.specs.Prelude.{◌≡◌, ◌≤◌, IfOk, Ok, Err, MatchResult};
 ghost use Rattle.sctp_dump.specs.Counts.{is_unread, status};
 ghost use Rattle.sctp_dump.specs.Totals.{after_input};
-ghost use Rattle.sctp_dump.specs.Warnings.{is_warned};
+ghost use Rattle.dump_analysis.specs.Warnings.{is_warned};
 ghost use Rattle.sctp_dump.specs.declared.failure.Failure.{Failure};
 
 use crate::arguments::{Action, HELP, Request, STANDARD_INPUT, VERSION, request_of};
@@ -12,10 +12,10 @@ use crate::event_printer::EventPrinter;
 use crate::failure::Failure;
 use crate::input::read_input;
 use crate::stop::Stop;
-use std::io::Write;
-use std::{env, fs, io};
 use dump_io::watched::Watched;
 use dump_io::window::Window;
+use std::io::Write;
+use std::{env, fs, io};
 
 /// The statuses: all packets were accepted; some were refused; the program couldn't do its work;
 /// none was refused, but some break rules.
@@ -122,7 +122,7 @@ fn end_of<W: Write>(
     printer: &EventPrinter<W>,
 ) -> Result<u8, Failure>
     ensures end { MatchResult written
-        (λ _. result ≡ Ok (status failed (is_warned printer.now.warnings) printer.now.counts))
+        (λ _. result ≡ Ok (status failed (is_warned printer.now.warnings.counts) printer.now.counts))
         (λ failure. result ≡ Err failure) }
     ensures known { IfOk result (λ status. status ≤ 3) }
 {

@@ -6,11 +6,11 @@ ghost use Rattle.dump_io.specs.Window.{held, left};
 ghost use Rattle.std.specs.Io.KnownBytes.{Keeps};
 ghost use Rattle.dump_capture.specs.Event.{Hands};
 ghost use Rattle.sctp_dump.specs.Handed.{IsNoFault, FailsWith};
-ghost use Rattle.sctp_dump.specs.Inputs.{kind_of, HandsInput, StopsInput};
+ghost use Rattle.sctp_dump.specs.Inputs.{format_of, HandsInput, StopsInput};
 ghost use Rattle.sctp_dump.specs.declared.stop.Stop.{Stop};
 
 use crate::engine::read_capture;
-use crate::options::Form;
+use crate::options::FormatOption;
 use crate::printer::Printer;
 use crate::stop::Stop;
 use crate::stream::read_more;
@@ -18,14 +18,14 @@ use dump_capture::pcap::{InputKind, input_kind};
 use dump_capture::pcap_decoder::PcapDecoder;
 use dump_capture::pcapng_decoder::PcapngDecoder;
 use dump_capture::text::TextDecoder;
-use std::alloc::Global;
-use std::io::Read;
 use dump_io::watched::Watched;
 use dump_io::window::Window;
+use std::alloc::Global;
+use std::io::Read;
 
 /// What an input is.
 #[derive(Clone, Copy, PartialEq, Eq)]
-pub enum Kind {
+pub enum InputFormat {
     /// A pcap file.
     Pcap,
     /// A pcapng file.
@@ -42,7 +42,7 @@ pub enum Kind {
 /// printer, or of memory. A printer that fails in its last call isn't asked.
 pub fn read_input<R: Read, P: Printer>(
     alloc: Global,
-    form: Form,
+    form: FormatOption,
     window: &mut Window,
     input: &mut Watched<R>,
     printer: &mut P,
@@ -55,31 +55,31 @@ pub fn read_input<R: Read, P: Printer>(
     ensures failed_printer { IsErrOf result Stop.Printer → P.failed printer.new ≡ true }
 {
     window.clear();
-    let kind = find_kind(form, window, input, printer)?;
-    match kind {
-        Kind::Pcap => read_capture(&mut PcapDecoder::FileHeader, window, input, printer),
-        Kind::Pcapng => {
+    let format = find_format(form, window, input, printer)?;
+    match format {
+        InputFormat::Pcap => read_capture(&mut PcapDecoder::FileHeader, window, input, printer),
+        InputFormat::Pcapng => {
             let mut decoder = PcapngDecoder::new(alloc)?;
             read_capture(&mut decoder, window, input, printer)
         }
-        Kind::Text => {
+        InputFormat::Text => {
             let mut decoder = TextDecoder::new(alloc)?;
             read_capture(&mut decoder, window, input, printer)
         }
-        Kind::Compressed => Err(Stop::Compressed),
+        InputFormat::Compressed => Err(Stop::Compressed),
     }
 }
 
 /// Reads the first bytes of an input, and returns what it is.
-fn find_kind<R: Read, P: Printer>(
-    form: Form,
+fn find_format<R: Read, P: Printer>(
+    form: FormatOption,
     window: &mut Window,
     input: &mut Watched<R>,
     printer: &mut P,
-) -> Result<Kind, Stop>
+) -> Result<InputFormat, Stop>
     requires { held window.old ≡ [] }
-    ensures kind { IfOk result (λ kind.
-        IfSome (left window.new (R.remaining (device_of input.new))) (λ l. kind ≡ kind_of form l)) }
+    ensures format { IfOk result (λ found.
+        IfSome (left window.new (R.remaining (device_of input.new))) (λ l. found ≡ format_of form l)) }
     ensures stream { Keeps (R.remaining (device_of input.old))
         (left window.new (R.remaining (device_of input.new))) }
     ensures handed { Hands P.handed printer.old printer.new [] }
@@ -89,28 +89,28 @@ fn find_kind<R: Read, P: Printer>(
 {
     while window.len() < 4 {
         if read_more(window, input, printer)? == 0 {
-            return Ok(kind_of(form, window.held()));
+            return Ok(format_of(form, window.held()));
         }
     }
-    Ok(kind_of(form, window.held()))
+    Ok(format_of(form, window.held()))
 }
 
 /// Returns what an input is that begins with these bytes.
-fn kind_of(form: Form, bytes: &[u8]) -> Kind
-    ensures { result ≡ kind_of form bytes.now }
+fn format_of(form: FormatOption, bytes: &[u8]) -> InputFormat
+    ensures { result ≡ format_of form bytes.now }
 {
     match form {
-        Form::Pcap => Kind::Pcap,
-        Form::Pcapng => Kind::Pcapng,
-        Form::Text => Kind::Text,
-        Form::Detected => {
+        FormatOption::Pcap => InputFormat::Pcap,
+        FormatOption::Pcapng => InputFormat::Pcapng,
+        FormatOption::Text => InputFormat::Text,
+        FormatOption::Detected => {
             if bytes.starts_with(&[0x1f, 0x8b]) {
-                return Kind::Compressed;
+                return InputFormat::Compressed;
             }
             match input_kind(bytes) {
-                InputKind::Pcap(_) => Kind::Pcap,
-                InputKind::Pcapng => Kind::Pcapng,
-                InputKind::Text => Kind::Text,
+                InputKind::Pcap(_) => InputFormat::Pcap,
+                InputKind::Pcapng => InputFormat::Pcapng,
+                InputKind::Text => InputFormat::Text,
             }
         }
     }

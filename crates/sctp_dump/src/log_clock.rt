@@ -17,7 +17,7 @@ const DAYS_BEFORE: [u64; 12] = [0, 31, 60, 91, 121, 152, 182, 213, 244, 274, 305
 
 /// Which times the packets of a log have.
 #[derive(Clone, Copy, PartialEq, Eq)]
-enum Kind {
+enum LogTimes {
     /// Dates and times.
     Stamps,
     /// Times of day.
@@ -28,7 +28,7 @@ enum Kind {
 /// much: past midnight, and past the end of a year.
 #[derive(Clone, Copy)]
 pub struct LogClock {
-    kind: Option<Kind>,
+    times: Option<LogTimes>,
     last: u64,
     /// What is added to the times of days that passed.
     before: u64,
@@ -42,7 +42,7 @@ impl LogClock {
     /// Returns a clock that has read no time.
     pub fn new() -> LogClock {
         LogClock {
-            kind: None,
+            times: None,
             last: 0,
             before: 0,
             has_minutes: false,
@@ -54,18 +54,18 @@ impl LogClock {
     /// it has them. Returns nanoseconds since a midnight before the first one; `None` where it isn't
     /// known how long after the first one it is.
     pub fn read(&mut self, time: &[u8], stamp: Option<Stamp>) -> Option<u64> {
-        let (kind, nanoseconds, period) = match stamp {
-            Some(stamp) => (Kind::Stamps, of_stamp(stamp), 366 * DAY),
-            None => (Kind::Days, of_day(time)?, DAY),
+        let (times, nanoseconds, period) = match stamp {
+            Some(stamp) => (LogTimes::Stamps, of_stamp(stamp), 366 * DAY),
+            None => (LogTimes::Days, of_day(time)?, DAY),
         };
-        let first = self.kind.is_none();
+        let first = self.times.is_none();
         if first {
-            self.kind = Some(kind);
+            self.times = Some(times);
         }
-        if self.kind != Some(kind) {
+        if self.times != Some(times) {
             return None;
         }
-        self.has_minutes |= kind == Kind::Stamps || nanoseconds >= MINUTE;
+        self.has_minutes |= times == LogTimes::Stamps || nanoseconds >= MINUTE;
         let is_back = !first && nanoseconds < self.last;
         if is_back && !self.has_minutes {
             self.is_lost = true;

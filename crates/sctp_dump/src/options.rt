@@ -5,13 +5,12 @@ ghost use Rattle.sctp_dump.specs.Counts.{policy_of};
 
 use crate::name::Name;
 use dcsctp_wire::packet::sctp_packet::ChecksumPolicy;
-use dump_analysis::TimeForm;
-use dump_capture::frame::UDP_PORT;
 use dump_analysis::filter::Filter;
+use dump_capture::frame::UDP_PORT;
 
 /// The form of an input.
 #[derive(Clone, Copy, PartialEq, Eq)]
-pub enum Form {
+pub enum FormatOption {
     /// What its first bytes say.
     Detected,
     /// A pcap file.
@@ -80,7 +79,7 @@ pub struct Options {
     /// The UDP port that carries SCTP.
     pub udp_port: u16,
     /// The form of the inputs.
-    pub form: Form,
+    pub form: FormatOption,
 }
 
 impl Options {
@@ -100,7 +99,7 @@ impl Options {
         transport: None,
         is_filtered: false,
         udp_port: UDP_PORT,
-        form: Form::Detected,
+        form: FormatOption::Detected,
     };
 
     /// Any checksum is accepted, and any padding unless it is looked at.
@@ -110,16 +109,6 @@ impl Options {
         ChecksumPolicy {
             strict_padding: self.strict,
             ..ChecksumPolicy::ANY_CHECKSUM
-        }
-    }
-
-    /// Returns the form of an association's times, in a log or in a file.
-    pub fn time_form(&self, is_log: bool) -> TimeForm {
-        match self.time {
-            _ if is_log => TimeForm::Utc,
-            TimeOption::Iso => TimeForm::Iso,
-            TimeOption::Utc => TimeForm::Utc,
-            _ => TimeForm::Seconds,
         }
     }
 

@@ -41,8 +41,37 @@ fn name_of(part: Part) -> &'static str {
     }
 }
 
+/// Which reasons were said that come in great numbers: each is said once.
+#[derive(Clone, Copy)]
+pub struct Said {
+    /// That a line isn't a packet.
+    unknown: bool,
+    /// That a line's offset doesn't continue one.
+    apart: bool,
+}
+
+impl Said {
+    /// None was said.
+    pub const NOTHING: Said = Said {
+        unknown: false,
+        apart: false,
+    };
+
+    /// Returns why a record or a line has no frame, in words, unless that was said, and is said once.
+    pub fn reason_to_say(&mut self, why: Skipped) -> Option<&'static str> {
+        match why {
+            Skipped::Unknown if self.unknown => return None,
+            Skipped::Apart if self.apart => return None,
+            Skipped::Unknown => self.unknown = true,
+            Skipped::Apart => self.apart = true,
+            _ => {}
+        }
+        Some(reason_of(why))
+    }
+}
+
 /// Returns why a record or a line has no frame, in words.
-pub fn reason_of(why: Skipped) -> &'static str {
+fn reason_of(why: Skipped) -> &'static str {
     match why {
         Skipped::Malformed => "a header's length is wrong",
         Skipped::TooLong => "more than 262144 bytes",

@@ -12,9 +12,9 @@ ghost use Rattle.sctp_dump.specs.declared.stop.Stop.{Stop};
 use crate::printer::Printer;
 use crate::stop::Stop;
 use dump_capture::text::first_line_feed;
-use std::io::Read;
 use dump_io::watched::Watched;
 use dump_io::window::{MOST_KEPT, Window};
+use std::io::Read;
 
 /// Has the printer show all, and reads once. Returns the number of bytes read, 0 at the end of the
 /// input.

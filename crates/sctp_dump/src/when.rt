@@ -5,7 +5,7 @@ ghost use Rattle.sctp_dump.specs.Times.{units, fitting, later, IsRead};
 
 use crate::log_clock::{LogClock, clock_text_of};
 use crate::options::TimeOption;
-use dump_analysis::{SecondsReport, TimeForm, TimeReport};
+use dump_analysis::{SecondsReport, TimeForm, TimeReport, TimeStyle};
 use dump_capture::event::Time;
 use dump_capture::line::Direction;
 use dump_capture::pcap::Resolution;
@@ -24,6 +24,8 @@ pub struct Clock {
     // Of the first packet, or of the one that was printed before.
     since: Option<u64>,
     log: LogClock,
+    // A log's times of day were seen: those of associations are printed so.
+    is_log: bool,
 }
 
 impl Clock {
@@ -33,6 +35,7 @@ impl Clock {
             form,
             since: None,
             log: LogClock::new(),
+            is_log: false,
         }
     }
 
@@ -60,7 +63,10 @@ impl Clock {
                 resolution,
                 offset,
             } => later(of_ticks(*ticks, *resolution)?, *offset),
-            Time::OfDay { time, stamp, .. } => self.log.read(time.as_bytes(), *stamp),
+            Time::OfDay { time, stamp, .. } => {
+                self.is_log = true;
+                self.log.read(time.as_bytes(), *stamp)
+            }
         }
     }
 
@@ -73,6 +79,17 @@ impl Clock {
             _ => self.since = since,
         }
         since
+    }
+
+    /// Returns how the times of an association are printed.
+    pub fn style(&self) -> TimeStyle {
+        let form = match self.form {
+            _ if self.is_log => TimeForm::Utc,
+            TimeOption::Iso => TimeForm::Iso,
+            TimeOption::Utc => TimeForm::Utc,
+            _ => TimeForm::Seconds,
+        };
+        TimeStyle { form, digits: 6 }
     }
 
     /// Returns a time as it is printed, from this one on.

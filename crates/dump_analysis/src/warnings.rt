@@ -1,12 +1,12 @@
-//! The rules that a packet breaks, counted, and as text.
+//! The rules that packets break, counted, and as text.
 
-ghost use Rattle.std.specs.Prelude.{◌≡◌, map};
+ghost use Rattle.std.specs.Prelude.{◌≡◌, true, false, map, replicate};
 ghost use Rattle.std.specs.List.{list_any};
-ghost use Rattle.dump_analysis.specs.declared.rule.TheConstants.Rule.{ALL};
 ghost use Rattle.dcsctp_borrowed.specs.Part.{Part as ThePart};
-ghost use Rattle.sctp_dump.specs.Warnings.{CountsBroken, is_broken_by, is_warned};
+ghost use Rattle.dump_analysis.specs.declared.rule.TheConstants.Rule.{ALL};
+ghost use Rattle.dump_analysis.specs.Warnings.{CountsBroken, CountsRules, is_broken_by, is_warned};
 
-use dump_analysis::rule::{Known, Rule};
+use crate::rule::{Known, Rule};
 use std::fmt;
 
 /// How many rules there are.
@@ -66,11 +66,74 @@ fn is_broken(rule: Rule, bytes: &[u8], size: usize, word: u32, known: Known) -> 
     rule.is_broken(bytes, size, word, known)
 }
 
-/// Returns whether a packet broke a rule, by how many broke each.
-pub fn is_warned(counts: &[u64; RULES]) -> bool
-    ensures { result ≡ is_warned counts.now }
-{
-    counts.iter().any(|count| *count > 0)
+/// How many packets broke each of `Rule::ALL`, up to 2^64 - 1.
+#[derive(Clone, Copy)]
+pub struct Warnings {
+    /// In the order of `Rule::ALL`.
+    pub counts: [u64; RULES],
+}
+
+impl Warnings {
+    /// Returns counts of nothing.
+    pub fn new() -> Warnings
+        ensures { result.counts ≡ replicate RULES 0 }
+    {
+        Warnings { counts: [0; RULES] }
+    }
+
+    /// Returns which rules are broken by a packet of `size` bytes, of which these were captured, and
+    /// counts them. Of a packet that isn't judged none is asked.
+    pub fn judge(
+        &mut self,
+        is_judged: bool,
+        bytes: &[u8],
+        size: usize,
+        word: u32,
+        known: Known,
+    ) -> Broken
+        ensures judged { let packet : ThePart = record { bytes = bytes.now; size = size } in
+            is_judged ≡ true → CountsRules packet word known self.old.counts self.new.counts }
+        ensures left { is_judged ≡ false → self.new.counts ≡ self.old.counts }
+    {
+        if !is_judged {
+            return Broken::NONE;
+        }
+        let broken = Broken::of(bytes, size, word, known);
+        broken.count(&mut self.counts);
+        broken
+    }
+
+    /// Returns whether a packet broke a rule.
+    pub fn are_some(&self) -> bool
+        ensures { result ≡ is_warned self.now.counts }
+    {
+        self.counts.iter().any(|count| *count > 0)
+    }
+
+    /// Returns how many there are in all.
+    pub fn total(&self) -> u64 {
+        let mut all: u64 = 0;
+        for count in &self.counts {
+            all = all.saturating_add(*count);
+        }
+        all
+    }
+}
+
+/// A line for each rule that was broken, and how often.
+#[derive(Clone, Copy)]
+pub struct WarningCounts(pub Warnings);
+
+impl fmt::Display for WarningCounts {
+    fn fmt<W: fmt::Write>(&self, f: &mut fmt::Formatter<W>) -> fmt::Result {
+        for (i, rule) in Rule::ALL.iter().enumerate() {
+            let (name, count) = (rule.name(), self.0.counts[i]);
+            if count > 0 {
+                writeln!(f, "warning {name}: {count}")?;
+            }
+        }
+        Ok(())
+    }
 }
 
 /// A line for each rule that is broken.
@@ -89,7 +152,7 @@ impl fmt::Display for WarningLines {
     }
 }
 
-/// Their names, each after a blank, at the end of a line.
+/// The names of the rules that are broken, each after a blank, at the end of a line.
 #[derive(Clone, Copy)]
 pub struct WarningsBrief(pub Broken);
 

@@ -1,9 +1,9 @@
 use Rattle.std.proofs.Common.{arith}
 use Rattle.dump_analysis.specs.declared.rule.Rule.TheVariants as rule
 use Rattle.dump_analysis.specs.declared.rule.TheConstants.Rule.{ALL}
-use Rattle.sctp_dump.specs.Warnings.{is_broken_by}
-use Rattle.sctp_dump.proofs.RuleLists.{tested_all}
-use Rattle.sctp_dump.proofs.warnings.Broken.of.Goals as goal
+use Rattle.dump_analysis.specs.Warnings.{is_broken_by}
+use Rattle.dump_analysis.proofs.RuleLists.{tested_all}
+use Rattle.dump_analysis.proofs.warnings.Broken.of.Goals as goal
 
 pub returns : goal.returns
 returns c =

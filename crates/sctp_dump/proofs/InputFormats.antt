@@ -14,55 +14,55 @@ use Rattle.dump_capture.specs.Text as text
 use Rattle.dump_capture.specs.declared.pcap_decoder.PcapDecoder.{PcapDecoder}
 use Rattle.dump_capture.specs.declared.decoder.Fault.{Fault}
 use Rattle.dump_capture.proofs.Handed.{Hands-trans}
-use Rattle.sctp_dump.specs.declared.options.Form.{Form}
-use Rattle.sctp_dump.specs.declared.options.Form.TheVariants as form
-use Rattle.sctp_dump.specs.declared.input.Kind.{Kind}
-use Rattle.sctp_dump.specs.declared.input.Kind.TheVariants as kind
+use Rattle.sctp_dump.specs.declared.options.FormatOption.{FormatOption}
+use Rattle.sctp_dump.specs.declared.options.FormatOption.TheVariants as form
+use Rattle.sctp_dump.specs.declared.input.InputFormat.{InputFormat}
+use Rattle.sctp_dump.specs.declared.input.InputFormat.TheVariants as format
 use Rattle.sctp_dump.specs.declared.stop.Stop.{Stop}
 use Rattle.sctp_dump.specs.declared.stop.Stop.TheVariants as stop
 use Rattle.sctp_dump.specs.Handed.{HandsAll, HandsFront, Stops, IsNoFault}
-use Rattle.sctp_dump.specs.Inputs.{kind_by, kind_of, HandsKind, HandsFrontOf, OfKind, HandsInput, StopsInput}
+use Rattle.sctp_dump.specs.Inputs.{format_by, format_of, HandsFormat, HandsFrontOf, OfFormat, HandsInput, StopsInput}
 use Rattle.sctp_dump.proofs.Steps.{starts_nil}
 
 -- ---- the first bytes
 
 uncompressed_front : (held rest : List ℕ) → 4 ≤ length held
-    → kind_by (input_kind (held ++ rest)) ≡ kind_by (input_kind held)
+    → format_by (input_kind (held ++ rest)) ≡ format_by (input_kind held)
 uncompressed_front held rest size =
-    ap (λ m. kind_by (input_kind_by m (held ++ rest))) (magic_front held rest size)
+    ap (λ m. format_by (input_kind_by m (held ++ rest))) (magic_front held rest size)
     ∙ by_magic (magic_format held) where
-      by_magic : (m : Option PcapFormat) → kind_by (input_kind_by m (held ++ rest))
-          ≡ kind_by (input_kind_by m held)
+      by_magic : (m : Option PcapFormat) → format_by (input_kind_by m (held ++ rest))
+          ≡ format_by (input_kind_by m held)
       by_magic (Some f) = refl
       by_magic None =
           let four : take 4 (held ++ rest) ≡ take 4 held = take-append-le 4 held rest size in
           rw four refl
 
-kind_front : (f : Form) (held rest : List ℕ) → 4 ≤ length held
-    → kind_of f (held ++ rest) ≡ kind_of f held
-kind_front form.Pcap held rest size = refl
-kind_front form.Pcapng held rest size = refl
-kind_front form.Text held rest size = refl
-kind_front form.Detected held rest size =
+format_front : (f : FormatOption) (held rest : List ℕ) → 4 ≤ length held
+    → format_of f (held ++ rest) ≡ format_of f held
+format_front form.Pcap held rest size = refl
+format_front form.Pcapng held rest size = refl
+format_front form.Text held rest size = refl
+format_front form.Detected held rest size =
     let two : take 2 (held ++ rest) ≡ take 2 held = take-append-le 2 held rest (omega arith) in
-    ap (λ (k : Kind). if starts_with nat_eq (held ++ rest) (0x1f ∷ 0x8b ∷ [])
-    then kind.Compressed else k) (uncompressed_front held rest size)
+    ap (λ (k : InputFormat). if starts_with nat_eq (held ++ rest) (0x1f ∷ 0x8b ∷ [])
+    then format.Compressed else k) (uncompressed_front held rest size)
     ∙ rw two refl
 
-pub kind_known : (f : Form) (held : List ℕ) (remaining : Option (List ℕ)) (k : Kind)
-    → k ≡ kind_of f held → (4 ≤ length held) ⊎ IsAtEnd remaining
-    → IfSome (prepend_known held remaining) (λ l. k ≡ kind_of f l)
-kind_known f held None k is enough = tt
-kind_known f held (Some rest) k is (inl size) = is ∙ sym (kind_front f held rest size)
-kind_known f held (Some rest) k is (inr end) =
-    is ∙ ap (kind_of f) (sym (ap (λ l. held ++ l) end ∙ append-nil held))
+pub format_known : (f : FormatOption) (held : List ℕ) (remaining : Option (List ℕ)) (k : InputFormat)
+    → k ≡ format_of f held → (4 ≤ length held) ⊎ IsAtEnd remaining
+    → IfSome (prepend_known held remaining) (λ l. k ≡ format_of f l)
+format_known f held None k is enough = tt
+format_known f held (Some rest) k is (inl size) = is ∙ sym (format_front f held rest size)
+format_known f held (Some rest) k is (inr end) =
+    is ∙ ap (format_of f) (sym (ap (λ l. held ++ l) end ∙ append-nil held))
 
 kept : (Q : List ℕ → Type 0) (a b : Option (List ℕ)) → Keeps a b → IfSome b Q → IfSome a Q
 kept Q None b keeps holds = tt
 kept Q (Some x) None keeps holds = absurd keeps
 kept Q (Some x) (Some y) keeps holds = subst Q keeps holds
 
-module _ {P : Type 0} (handed : P → List Event → Type 0) (f : Form) (all left : Option (List ℕ))
+module _ {P : Type 0} (handed : P → List Event → Type 0) (f : FormatOption) (all left : Option (List ℕ))
     (old mid new : P) (keeps : Keeps all left) (before : Hands handed old mid []) where
   -- ---- nothing was handed on before
 
@@ -92,45 +92,44 @@ module _ {P : Type 0} (handed : P → List Event → Type 0) (f : Form) (all lef
     hands = later h.events h.hands;
   }
 
-  HandsKind-later : (k : Kind) (fault : Option Fault) → HandsKind handed left mid new fault k
-      → HandsKind handed all old new fault k
-  HandsKind-later kind.Pcap fault h = HandsAll-later pcap.Item pcap.End PcapDecoder.FileHeader fault h
-  HandsKind-later kind.Pcapng fault h =
+  HandsFormat-later : (k : InputFormat) (fault : Option Fault) → HandsFormat handed left mid new fault k
+      → HandsFormat handed all old new fault k
+  HandsFormat-later format.Pcap fault h = HandsAll-later pcap.Item pcap.End PcapDecoder.FileHeader fault h
+  HandsFormat-later format.Pcapng fault h =
       HandsAll-later pcapng.Item pcapng.End pcapng.before_blocks fault h
-  HandsKind-later kind.Text fault h =
-      HandsAll-later text.LineItem text.TextEnd text.before_text fault h
-  HandsKind-later kind.Compressed fault h = absurd h
+  HandsFormat-later format.Text fault h = HandsAll-later text.Item text.End tt fault h
+  HandsFormat-later format.Compressed fault h = absurd h
 
-  HandsFrontOf-later : (k : Kind) → HandsFrontOf handed left mid new k
+  HandsFrontOf-later : (k : InputFormat) → HandsFrontOf handed left mid new k
       → HandsFrontOf handed all old new k
-  HandsFrontOf-later kind.Pcap h = HandsFront-later pcap.Item PcapDecoder.FileHeader h
-  HandsFrontOf-later kind.Pcapng h = HandsFront-later pcapng.Item pcapng.before_blocks h
-  HandsFrontOf-later kind.Text h = HandsFront-later text.LineItem text.before_text h
-  HandsFrontOf-later kind.Compressed h = later [] h
+  HandsFrontOf-later format.Pcap h = HandsFront-later pcap.Item PcapDecoder.FileHeader h
+  HandsFrontOf-later format.Pcapng h = HandsFront-later pcapng.Item pcapng.before_blocks h
+  HandsFrontOf-later format.Text h = HandsFront-later text.Item tt h
+  HandsFrontOf-later format.Compressed h = later [] h
 
   -- ---- the end of a run
 
-  pub input_whole : (k : Kind) (r : Result (Unit {0}) Stop)
-      → IfSome left (λ l. k ≡ kind_of f l) → OnOk r (HandsKind handed left mid new None k)
+  pub input_whole : (k : InputFormat) (r : Result (Unit {0}) Stop)
+      → IfSome left (λ l. k ≡ format_of f l) → OnOk r (HandsFormat handed left mid new None k)
       → OnOk r (HandsInput f handed all old new None)
   input_whole k (Err e) known h = tt
-  input_whole k (Ok x) known h = (k, kept _ all left keeps known, HandsKind-later k None h)
+  input_whole k (Ok x) known h = (k, kept _ all left keeps known, HandsFormat-later k None h)
 
   module _ {S : Type 0} (Item : S → List ℕ → List Event → S → Type 0)
-      (End : S → List ℕ → List Event → Option Fault → Type 0) (s : S) (k : Kind)
+      (End : S → List ℕ → List Event → Option Fault → Type 0) (s : S) (k : InputFormat)
       (as_all : (fault : Option Fault) → HandsAll Item End handed s left mid new fault
-      → HandsKind handed left mid new fault k)
+      → HandsFormat handed left mid new fault k)
       (as_front : HandsFront Item handed s left mid new → HandsFrontOf handed left mid new k)
-      (known : IfSome left (λ l. k ≡ kind_of f l)) where
+      (known : IfSome left (λ l. k ≡ format_of f l)) where
     either : HandsFront Item handed s left mid new ⊎ HandsAll Item End handed s left mid new None
-        → OfKind f all (HandsFrontOf handed all old new) ⊎ HandsInput f handed all old new None
+        → OfFormat f all (HandsFrontOf handed all old new) ⊎ HandsInput f handed all old new None
     either (inl h) = inl (k, kept _ all left keeps known, HandsFrontOf-later k (as_front h))
-    either (inr h) = inr (k, kept _ all left keeps known, HandsKind-later k None (as_all None h))
+    either (inr h) = inr (k, kept _ all left keeps known, HandsFormat-later k None (as_all None h))
 
     of_stops : (why : Stop) → Stops Item End handed s left mid new why
         → StopsInput f handed all old new why
     of_stops (stop.Fault fault) h =
-        (k, kept _ all left keeps known, HandsKind-later k (Some fault) (as_all (Some fault) h))
+        (k, kept _ all left keeps known, HandsFormat-later k (Some fault) (as_all (Some fault) h))
     of_stops stop.Read h = either h
     of_stops stop.Printer h = either h
     of_stops stop.Endless h = either h
@@ -146,8 +145,8 @@ module _ {P : Type 0} (handed : P → List Event → Type 0) (f : Form) (all lef
 -- ---- no event was handed on
 
 front_none : {P : Type 0} (handed : P → List Event → Type 0) (all : Option (List ℕ)) (old new : P)
-    (k : Kind) → Hands handed old new [] → HandsFrontOf handed all old new k
-front_none handed all old new kind.Pcap hands = record {
+    (k : InputFormat) → Hands handed old new [] → HandsFrontOf handed all old new k
+front_none handed all old new format.Pcap hands = record {
   bytes = [];
   events = [];
   after = PcapDecoder.FileHeader;
@@ -155,7 +154,7 @@ front_none handed all old new kind.Pcap hands = record {
   items = none PcapDecoder.FileHeader PcapDecoder.FileHeader [] [] refl refl refl;
   hands = hands;
 }
-front_none handed all old new kind.Pcapng hands = record {
+front_none handed all old new format.Pcapng hands = record {
   bytes = [];
   events = [];
   after = pcapng.before_blocks;
@@ -163,34 +162,34 @@ front_none handed all old new kind.Pcapng hands = record {
   items = none pcapng.before_blocks pcapng.before_blocks [] [] refl refl refl;
   hands = hands;
 }
-front_none handed all old new kind.Text hands = record {
+front_none handed all old new format.Text hands = record {
   bytes = [];
   events = [];
-  after = text.before_text;
+  after = tt;
   front = starts_nil all;
-  items = none text.before_text text.before_text [] [] refl refl refl;
+  items = none tt tt [] [] refl refl refl;
   hands = hands;
 }
-front_none handed all old new kind.Compressed hands = hands
+front_none handed all old new format.Compressed hands = hands
 
-of_any_kind : {P : Type 0} (handed : P → List Event → Type 0) (f : Form) (all : Option (List ℕ))
-    (old new : P) → Hands handed old new [] → OfKind f all (HandsFrontOf handed all old new)
-of_any_kind handed f None old new hands =
-    (kind.Text, tt, front_none handed None old new kind.Text hands)
-of_any_kind handed f (Some x) old new hands =
-    (kind_of f x, refl, front_none handed (Some x) old new (kind_of f x) hands)
+of_any_format : {P : Type 0} (handed : P → List Event → Type 0) (f : FormatOption) (all : Option (List ℕ))
+    (old new : P) → Hands handed old new [] → OfFormat f all (HandsFrontOf handed all old new)
+of_any_format handed f None old new hands =
+    (format.Text, tt, front_none handed None old new format.Text hands)
+of_any_format handed f (Some x) old new hands =
+    (format_of f x, refl, front_none handed (Some x) old new (format_of f x) hands)
 
-pub stops_early : {P : Type 0} (handed : P → List Event → Type 0) (f : Form)
+pub stops_early : {P : Type 0} (handed : P → List Event → Type 0) (f : FormatOption)
     (all : Option (List ℕ)) (old new : P) (why : Stop) → IsNoFault why → Hands handed old new []
     → StopsInput f handed all old new why
 stops_early handed f all old new (stop.Fault fault) no_fault hands = absurd no_fault
 stops_early handed f all old new stop.Read no_fault hands =
-    inl (of_any_kind handed f all old new hands)
+    inl (of_any_format handed f all old new hands)
 stops_early handed f all old new stop.Printer no_fault hands =
-    inl (of_any_kind handed f all old new hands)
+    inl (of_any_format handed f all old new hands)
 stops_early handed f all old new stop.Endless no_fault hands =
-    inl (of_any_kind handed f all old new hands)
+    inl (of_any_format handed f all old new hands)
 stops_early handed f all old new stop.OutOfMemory no_fault hands =
-    inl (of_any_kind handed f all old new hands)
+    inl (of_any_format handed f all old new hands)
 stops_early handed f all old new stop.Compressed no_fault hands =
-    inl (of_any_kind handed f all old new hands)
+    inl (of_any_format handed f all old new hands)

@@ -1,7 +1,7 @@
 -- The first rules are counted, and the others as they were.
 use Rattle.std.proofs.Common.{◌≡◌, ℕ, ◌<◌, ◌≤◌, get_or, slice_index, false, if◌then◌else◌}
 use Rattle.dump_capture.specs.Number.{one_more}
-use Rattle.sctp_dump.proofs.warnings.Broken.count.Given as goal
+use Rattle.dump_analysis.proofs.warnings.Broken.count.Given as goal
 
 abbrev pub invariant-loop-i : goal.invariant-loop-i
 invariant-loop-i l =

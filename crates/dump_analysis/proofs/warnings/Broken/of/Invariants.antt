@@ -2,8 +2,8 @@
 use Rattle.std.proofs.Common.{◌≡◌, ℕ, ◌<◌, length, get_or, false}
 use Rattle.dump_analysis.specs.declared.rule.Rule.TheVariants as rule
 use Rattle.dump_analysis.specs.declared.rule.TheConstants.Rule.{ALL}
-use Rattle.sctp_dump.specs.Warnings.{is_broken_by}
-use Rattle.sctp_dump.proofs.warnings.Broken.of.Given as goal
+use Rattle.dump_analysis.specs.Warnings.{is_broken_by}
+use Rattle.dump_analysis.proofs.warnings.Broken.of.Given as goal
 
 abbrev pub invariant-loop-i : goal.invariant-loop-i
 invariant-loop-i l =

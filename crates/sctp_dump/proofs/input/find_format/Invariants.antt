@@ -4,7 +4,7 @@ use Rattle.std.specs.Io.KnownBytes.{Keeps}
 use Rattle.dump_io.specs.Watched.{device_of, has_failed}
 use Rattle.dump_io.specs.Window.{held, left}
 use Rattle.dump_capture.specs.Event.{Hands}
-use Rattle.sctp_dump.proofs.input.find_kind.Given as goal
+use Rattle.sctp_dump.proofs.input.find_format.Given as goal
 
 abbrev pub invariant-loop-window : goal.invariant-loop-window
 invariant-loop-window g l =

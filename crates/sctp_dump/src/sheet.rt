@@ -1,0 +1,195 @@
+//! What is printed, in the form that is asked for.
+
+use crate::counts::Counts;
+use crate::files::Files;
+use crate::options::{Options, OutputForm};
+use crate::seen::{SeenBrief, SeenJson, SeenLines};
+use crate::skipped::{SkippedJson, SkippedLine};
+use crate::summary::{Summary, SummaryJson, Unkept, UnkeptJson};
+use dcsctp_wire::packet::sctp_packet::FirstFault;
+use dump_analysis::warnings::{
+    Broken, WarningCounts, WarningLines, Warnings, WarningsBrief, WarningsJson,
+};
+use dump_analysis::{
+    Association, AssociationJson, AssociationReport, Associations, Membership, MembershipJson,
+    TimeStyle,
+};
+use dump_report::{PacketBrief, PacketJson, PacketReport};
+use dump_text::json_text::JsonText;
+use std::alloc::AllocError;
+
+/// A packet, and what was found of it.
+#[derive(Clone, Copy)]
+pub struct Shown<'t, 'f, 'a> {
+    /// Where and when it was seen.
+    pub seen: SeenLines<'t, 'f, 'a>,
+    /// Its expected checksum field.
+    pub word: u32,
+    /// Why it was refused.
+    pub fault: Option<&'t FirstFault>,
+    /// Which rules it breaks.
+    pub broken: Broken,
+    /// Of which association it is.
+    pub member: Option<Membership>,
+}
+
+/// Adds the name of an input.
+pub fn push_file(options: &Options, name: &str, text: &mut String) -> Result<(), AllocError> {
+    if options.summary {
+        return Ok(());
+    }
+    match options.output {
+        OutputForm::Blocks => writeln!(text, "file {name}\n"),
+        OutputForm::Brief => writeln!(text, "file {name}"),
+        OutputForm::Json => {
+            let name = JsonText(name);
+            writeln!(text, "{{\"file\":{name}}}")
+        }
+    }
+}
+
+/// Adds a packet.
+pub fn push_packet(
+    options: &Options,
+    shown: Shown<'_, '_, '_>,
+    text: &mut String,
+) -> Result<(), AllocError> {
+    let (bytes, length) = (shown.seen.found.packet, shown.seen.found.length);
+    let (seen, word, fault, broken) = (shown.seen, shown.word, shown.fault, shown.broken);
+    match options.output {
+        OutputForm::Blocks => {
+            let report = PacketReport {
+                bytes,
+                length,
+                word,
+                fault,
+                shows_all: options.payload,
+            };
+            let warnings = WarningLines(broken);
+            writeln!(text, "{seen}{report}{warnings}")
+        }
+        OutputForm::Brief => {
+            let report = PacketBrief {
+                bytes,
+                length,
+                word,
+                fault,
+            };
+            let (seen, warnings) = (SeenBrief(seen), WarningsBrief(broken));
+            writeln!(text, "{seen} {report}{warnings}")
+        }
+        OutputForm::Json => {
+            let report = PacketJson {
+                bytes,
+                length,
+                word,
+                fault,
+                places: options.places,
+            };
+            let (seen, warnings) = (SeenJson(seen), WarningsJson(broken));
+            let member = MembershipJson(if options.associations {
+                shown.member
+            } else {
+                None
+            });
+            writeln!(text, "{{{seen}{member},{report}{warnings}}}")
+        }
+    }
+}
+
+/// Adds a record or a line without a packet.
+pub fn push_skipped(
+    options: &Options,
+    line: SkippedLine,
+    text: &mut String,
+) -> Result<(), AllocError> {
+    match options.output {
+        OutputForm::Blocks => writeln!(text, "{line}"),
+        OutputForm::Brief => write!(text, "{line}"),
+        OutputForm::Json => {
+            let object = SkippedJson(line);
+            write!(text, "{object}")
+        }
+    }
+}
+
+/// Adds the associations, in the order in which they began.
+pub fn push_associations(
+    options: &Options,
+    style: TimeStyle,
+    files: &Files,
+    associations: Associations,
+    text: &mut String,
+) -> Result<(), AllocError> {
+    let unkept = Unkept {
+        left: associations.left(),
+        unknown: associations.unknown(),
+    };
+    for association in associations.into_vec() {
+        push_association(options, style, files, &association, text)?;
+    }
+    if !options.associations || !unkept.is_some() {
+        return Ok(());
+    }
+    if options.output == OutputForm::Json {
+        let object = UnkeptJson(unkept);
+        write!(text, "{object}")
+    } else {
+        write!(text, "{unkept}")
+    }
+}
+
+/// Adds an association, if they are asked for, and a packet of it passed.
+pub fn push_association(
+    options: &Options,
+    style: TimeStyle,
+    files: &Files,
+    association: &Association,
+    text: &mut String,
+) -> Result<(), AllocError> {
+    if !options.associations || !association.passes {
+        return Ok(());
+    }
+    let files = files.named();
+    if options.output == OutputForm::Json {
+        let object = AssociationJson {
+            association,
+            style,
+            files,
+        };
+        return writeln!(text, "{object}");
+    }
+    let report = AssociationReport {
+        association,
+        style,
+        files,
+    };
+    writeln!(text, "{report}")
+}
+
+/// Adds the counts.
+pub fn push_counts(
+    options: &Options,
+    counts: &Counts,
+    warnings: &Warnings,
+    text: &mut String,
+) -> Result<(), AllocError> {
+    if options.output == OutputForm::Json {
+        let warnings = if options.check {
+            Some(warnings.total())
+        } else {
+            None
+        };
+        let summary = SummaryJson { counts, warnings };
+        return write!(text, "{summary}");
+    }
+    if options.check {
+        let lines = WarningCounts(*warnings);
+        write!(text, "{lines}")?;
+    }
+    let summary = Summary {
+        counts,
+        is_long: options.summary,
+    };
+    write!(text, "{summary}")
+}
