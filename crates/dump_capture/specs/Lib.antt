@@ -2,14 +2,11 @@ pub mod Number
 pub mod Pcap
 pub mod Frame
 pub mod Found
-pub mod HexBytes
-pub mod Line
 pub mod Stamp
 pub mod Sent
 pub mod Event
 pub mod Decoding
 pub mod PcapEvents
-pub mod Dump
 pub mod Text
 pub mod Pcapng
 pub mod PcapngEvents

@@ -1,15 +1,11 @@
 //! What the bytes of a dump or of a line of digits are.
 
-ghost use Rattle.std.specs.Prelude.{◌≡◌, ◌+◌, ◌≤◌, length, IsTrue};
-ghost use Rattle.dump_capture.specs.Dump.{is_ip_type, has_ip, is_tag, has_tag, is_ethernet, is_cooked, is_cooked_2, is_ip, link_or, link_of_any, link_of};
-
 use crate::frame::{link_type, number16};
 use crate::line::DumpForm;
+use crate::parts::after;
 
 /// Returns the link type of a dump's bytes, by its form and what they begin with.
-pub(crate) fn link_of(form: DumpForm, bytes: &[u8]) -> u16
-    ensures { result ≡ link_of form bytes.now }
-{
+pub(crate) fn link_of(form: DumpForm, bytes: &[u8]) -> u16 {
     match form {
         DumpForm::Tcpdump => link_or(link_type::RAW_IP, bytes),
         DumpForm::Xxd | DumpForm::Hexdump | DumpForm::Wireshark => link_of_any(bytes),
@@ -17,9 +13,7 @@ pub(crate) fn link_of(form: DumpForm, bytes: &[u8]) -> u16
 }
 
 /// Returns the link type of bytes of which nothing else is known.
-pub(crate) fn link_of_any(bytes: &[u8]) -> u16
-    ensures { result ≡ link_of_any bytes.now }
-{
+pub(crate) fn link_of_any(bytes: &[u8]) -> u16 {
     let other = if is_ip(bytes) {
         link_type::RAW_IP
     } else {
@@ -29,9 +23,7 @@ pub(crate) fn link_of_any(bytes: &[u8]) -> u16
 }
 
 /// Returns the link type of a frame, or another one of bytes that don't begin as a frame does.
-fn link_or(other: u16, bytes: &[u8]) -> u16
-    ensures { result ≡ link_or other bytes.now }
-{
+fn link_or(other: u16, bytes: &[u8]) -> u16 {
     if is_ethernet(bytes) {
         link_type::ETHERNET
     } else if is_cooked(bytes) {
@@ -44,9 +36,7 @@ fn link_or(other: u16, bytes: &[u8]) -> u16
 }
 
 /// Returns whether the bytes are an IP packet, as long as its header says.
-fn is_ip(bytes: &[u8]) -> bool
-    ensures { result ≡ is_ip bytes.now }
-{
+fn is_ip(bytes: &[u8]) -> bool {
     if bytes.len() < 20 {
         return false;
     }
@@ -58,51 +48,35 @@ fn is_ip(bytes: &[u8]) -> bool
 }
 
 /// Returns whether the bytes begin with an Ethernet header.
-fn is_ethernet(bytes: &[u8]) -> bool
-    ensures { result ≡ is_ethernet bytes.now }
-{
+fn is_ethernet(bytes: &[u8]) -> bool {
     has_ip(bytes, 12)
         || has_tag(bytes, 12) && (has_ip(bytes, 16) || has_tag(bytes, 16) && has_ip(bytes, 20))
 }
 
 /// Returns whether the type of a tag is at this offset.
-fn has_tag(bytes: &[u8], offset: usize) -> bool
-    requires { offset ≤ 16 }
-    ensures { result ≡ has_tag offset bytes.now }
-{
-    bytes.len() >= offset + 2 && is_tag(number16(&bytes[offset..]))
+fn has_tag(bytes: &[u8], offset: usize) -> bool {
+    let rest = after(bytes, offset);
+    rest.len() >= 2 && is_tag(number16(rest))
 }
 
 /// Returns whether the bytes begin with a header of a cooked frame.
-fn is_cooked(bytes: &[u8]) -> bool
-    ensures { result ≡ is_cooked bytes.now }
-{
-    has_ip(bytes, 14) && number16(bytes) <= 4
+fn is_cooked(bytes: &[u8]) -> bool {
+    bytes.len() >= 2 && number16(bytes) <= 4 && has_ip(bytes, 14)
 }
 
 /// Returns whether the bytes begin with a header of a cooked frame of the second version.
-fn is_cooked_2(bytes: &[u8]) -> bool
-    ensures { result ≡ is_cooked_2 bytes.now }
-{
+fn is_cooked_2(bytes: &[u8]) -> bool {
     bytes.len() >= 21 && number16(&bytes[2..]) == 0 && is_ip_type(number16(bytes), bytes[20] / 16)
 }
 
 /// Returns whether a type of IP is at this offset, and an IP packet after it.
-fn has_ip(bytes: &[u8], offset: usize) -> bool
-    requires { offset ≤ 20 }
-    ensures value { result ≡ has_ip offset bytes.now }
-    ensures long { IsTrue result → offset + 3 ≤ length bytes.now }
-{
-    if bytes.len() < offset + 3 {
-        return false;
-    }
-    is_ip_type(number16(&bytes[offset..]), bytes[offset + 2] / 16)
+fn has_ip(bytes: &[u8], offset: usize) -> bool {
+    let rest = after(bytes, offset);
+    rest.len() >= 3 && is_ip_type(number16(rest), rest[2] / 16)
 }
 
 /// Returns whether a type is that of an IP packet of this version.
-fn is_ip_type(kind: u16, version: u8) -> bool
-    ensures { result ≡ is_ip_type kind version }
-{
+fn is_ip_type(kind: u16, version: u8) -> bool {
     match kind {
         0x0800 => version == 4,
         0x86dd => version == 6,
@@ -111,8 +85,6 @@ fn is_ip_type(kind: u16, version: u8) -> bool
 }
 
 /// Returns whether a type is that of a tag.
-fn is_tag(kind: u16) -> bool
-    ensures { result ≡ is_tag kind }
-{
+fn is_tag(kind: u16) -> bool {
     matches!(kind, 0x8100 | 0x88a8)
 }

@@ -1,8 +1,9 @@
 //! Finds SCTP packets in captures: in pcap and pcapng files, in frames of a link, and in lines of
 //! text.
 //!
-//! Every function takes bytes in memory and returns what a definition of `specs/` says of them.
-//! Only `TextDecoder::new`, `PcapngDecoder::new` and `HexBytes::append_to` allocate.
+//! Every function takes bytes in memory. What is returned of files and frames, a definition of
+//! `specs/` says; what lines of text hold is tested. Only `TextDecoder::new` and
+//! `PcapngDecoder::new` allocate.
 #![tactic(auto)]
 
 pub mod decoder;

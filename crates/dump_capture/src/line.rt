@@ -1,14 +1,10 @@
 //! Lines of text that hold packets: in hexadecimal, of a log, or of a dump with offsets.
 
-ghost use Rattle.std.specs.Prelude.{◌≡◌, ◌≤◌, ◌<◌, ◌==◌, not, All, IsTrue, length, position, take};
-ghost use Rattle.std.specs.Char.{is_ascii_hexdigit};
-ghost use Rattle.std.specs.List.{list_all};
-ghost use Rattle.dump_capture.specs.HexBytes.{is_blank, hex_bytes};
-ghost use Rattle.dump_capture.specs.Line.{line_of, is_asterisk, text_line, packet_line, has_direction, behind_direction, begins_log, log_from, log_line, dump_line, place_of, is_in_time, is_time, word, after_word, marked_bytes, transport_of, dumped, dumped_bytes, is_byte_alone, behind_offset, has_hexdump_offset, has_wireshark_offset, barred_bytes, hexdump_line, wireshark_line, is_gap, groups_length, hex_number, offset_length, has_offset, is_printable};
+ghost use Rattle.std.specs.Prelude.{◌≤◌, length};
 
 use crate::hex_bytes::{HexBytes, begins_with_byte, digit, is_blank, without_blanks_before};
 use crate::log_text::LogText;
-use crate::parts::after;
+use crate::parts::{after, front};
 
 /// How many bytes the mark of a log has, `# SCTP_PACKET`.
 const MARK_SIZE: usize = 13;
@@ -93,9 +89,7 @@ pub enum Place {
 
 /// Returns where bytes at this offset belong, after `held` bytes of a packet: at offset 0 they
 /// begin the next packet, and at offset `held` they continue this one.
-pub fn place_of(offset: u32, held: usize) -> Place
-    ensures { result ≡ place_of offset held }
-{
+pub fn place_of(offset: u32, held: usize) -> Place {
     if offset == 0 {
         Place::Begins
     } else if offset as usize == held {
@@ -126,16 +120,12 @@ pub fn place_of(offset: u32, held: usize) -> Place
 ///   bytes.
 ///
 /// A line that begins as one form and isn't of that form is `Unknown`.
-pub fn read_line(line: &[u8]) -> Line<'_>
-    ensures { result ≡ line_of line.now }
-{
+pub fn read_line(line: &[u8]) -> Line<'_> {
     read_text(without_blanks_before(line))
 }
 
 /// Reads a line that doesn't begin with a blank.
-fn read_text(text: &[u8]) -> Line<'_>
-    ensures { result ≡ text_line text.now }
-{
+fn read_text(text: &[u8]) -> Line<'_> {
     if text.is_empty() {
         Line::Blank
     } else if text[0] == b'#' {
@@ -161,16 +151,12 @@ fn read_text(text: &[u8]) -> Line<'_>
 }
 
 /// Returns whether an asterisk is at the front, and only blanks after it.
-fn is_asterisk(text: &[u8]) -> bool
-    ensures { result ≡ is_asterisk text.now }
-{
+fn is_asterisk(text: &[u8]) -> bool {
     text.starts_with(b"*") && without_blanks_before(after(text, 1)).is_empty()
 }
 
 /// Reads a line of digits.
-fn packet_line(text: &[u8]) -> Line<'_>
-    ensures { result ≡ packet_line (hex_bytes text.now) }
-{
+fn packet_line(text: &[u8]) -> Line<'_> {
     match HexBytes::from_text(text) {
         Some(bytes) => Line::Packet(bytes),
         None => Line::Unknown,
@@ -178,12 +164,8 @@ fn packet_line(text: &[u8]) -> Line<'_>
 }
 
 /// Reads a line of a log from its direction on.
-#[tactic(auto, unfolding(crate::specs::Line::log_line))]
-fn log_line(text: &[u8]) -> Line<'_>
-    requires { 0 < length text.now }
-    ensures { result ≡ log_line text.now }
-{
-    let direction = if text[0] == b'I' {
+fn log_line(text: &[u8]) -> Line<'_> {
+    let direction = if text.starts_with(b"I") {
         Direction::Incoming
     } else {
         Direction::Outgoing
@@ -202,25 +184,17 @@ fn log_line(text: &[u8]) -> Line<'_>
 }
 
 /// Returns the text from the first place on where a line of a log begins; nothing if there is none.
-#[tactic(auto, using(crate::proofs::Logs::log_none))]
-fn log_from(text: &[u8]) -> &[u8]
-    ensures { result.now ≡ log_from text.now }
-{
-    let mut offset = 0;
-    while offset < text.len() {
+fn log_from(text: &[u8]) -> &[u8] {
+    for offset in 0..text.len() {
         if begins_log(&text[offset..]) {
             return &text[offset..];
         }
-        offset += 1;
     }
-    &text[offset..]
+    &[]
 }
 
 /// Returns whether a direction, a time and the offset 0000 are at the front.
-#[tactic(auto, unfolding(crate::specs::Line::begins_log))]
-fn begins_log(text: &[u8]) -> bool
-    ensures { result ≡ begins_log text.now }
-{
+fn begins_log(text: &[u8]) -> bool {
     if !has_direction(text) {
         return false;
     }
@@ -229,106 +203,66 @@ fn begins_log(text: &[u8]) -> bool
 }
 
 /// Returns whether a direction is at the front.
-fn has_direction(text: &[u8]) -> bool
-    ensures { result ≡ has_direction text.now }
-{
+fn has_direction(text: &[u8]) -> bool {
     text.len() > 1 && matches!(text[0], b'I' | b'O') && text[1] == b' '
 }
 
 /// Returns what follows the direction and the blanks after it.
-fn behind_direction(text: &[u8]) -> &[u8]
-    ensures { result.now ≡ behind_direction text.now }
-{
+fn behind_direction(text: &[u8]) -> &[u8] {
     without_blanks_before(after(text, 2))
 }
 
 /// Returns the first word, and what follows the blanks after it.
-#[tactic(auto, using(crate::proofs::Places::first_place, crate::proofs::Places::place_within))]
-fn first_word(text: &[u8]) -> (&[u8], &[u8])
-    ensures word { result.0.now ≡ word text.now }
-    ensures rest { result.1.now ≡ after_word text.now }
-{
-    let length = first_blank(text).unwrap_or(text.len());
-    (&text[..length], without_blanks_before(&text[length..]))
+fn first_word(text: &[u8]) -> (&[u8], &[u8]) {
+    let blank = text.iter().position(|byte| is_blank(*byte));
+    let length = blank.unwrap_or(text.len());
+    (
+        front(text, length),
+        without_blanks_before(after(text, length)),
+    )
 }
 
-/// Returns the offset of the first blank.
-fn first_blank(text: &[u8]) -> Option<usize>
-    ensures { result ≡ position is_blank text.now }
-{
-    text.iter().position(|byte| is_blank(*byte))
-}
-
-/// Returns whether a word can be a time of day.
-fn is_time(text: &[u8]) -> bool
-    ensures { result ≡ is_time text.now }
-{
-    if text.is_empty() {
-        return false;
-    }
-    are_in_time(text)
-}
-
-/// Returns whether each byte is a digit, a colon or a point.
-fn are_in_time(text: &[u8]) -> bool
-    ensures { result ≡ list_all is_in_time text.now }
-{
-    text.iter().all(|byte| is_in_time(*byte))
-}
-
-/// Returns whether the byte is a digit, a colon or a point.
-fn is_in_time(byte: u8) -> bool
-    ensures { result ≡ is_in_time byte }
-{
-    byte.is_ascii_digit() || byte == b':' || byte == b'.'
+/// Returns whether a word can be a time of day: digits, colons and points.
+fn is_time(text: &[u8]) -> bool {
+    !text.is_empty()
+        && text
+            .iter()
+            .all(|byte| matches!(*byte, b'0'..=b'9' | b':' | b'.'))
 }
 
 /// Returns the bytes before the mark of a log.
-#[tactic(auto, using(crate::proofs::Places::first_place, crate::proofs::Places::place_within))]
-fn marked_bytes(text: &[u8]) -> Option<HexBytes<'_>>
-    ensures { result ≡ marked_bytes text.now }
-{
-    let offset = first_number_sign(text).unwrap_or(text.len());
-    if text[offset..].starts_with(b"# SCTP_PACKET") {
-        HexBytes::from_text(&text[..offset])
+fn marked_bytes(text: &[u8]) -> Option<HexBytes<'_>> {
+    let offset = offset_of(b'#', text);
+    if after(text, offset).starts_with(b"# SCTP_PACKET") {
+        HexBytes::from_text(front(text, offset))
     } else {
         None
     }
 }
 
 /// Returns the word after the mark of a log.
-#[tactic(auto, using(crate::proofs::Places::first_place, crate::proofs::Places::place_within))]
-fn transport_of(text: &[u8]) -> &[u8]
-    ensures { result.now ≡ transport_of text.now }
-{
-    let offset = first_number_sign(text).unwrap_or(text.len());
-    let marked = after(&text[offset..], MARK_SIZE);
+fn transport_of(text: &[u8]) -> &[u8] {
+    let marked = after(after(text, offset_of(b'#', text)), MARK_SIZE);
     first_word(without_blanks_before(marked)).0
 }
 
-/// Returns the offset of the first `#`.
-fn first_number_sign(text: &[u8]) -> Option<usize>
-    ensures { result ≡ position (λ byte. byte == 35) text.now }
-{
-    text.iter().position(|byte| *byte == b'#')
+/// Returns the offset of the first such byte; the length if there is none.
+fn offset_of(byte: u8, text: &[u8]) -> usize {
+    text.iter().position(|b| *b == byte).unwrap_or(text.len())
 }
 
 /// Reads a line of a dump that begins with its offset.
-fn dump_line(form: DumpForm, text: &[u8]) -> Line<'_>
-    ensures { result ≡ dump_line form text.now }
-{
+fn dump_line(form: DumpForm, text: &[u8]) -> Line<'_> {
     if !has_offset(text) {
         return Line::Unknown;
     }
     let offset = number_before(text);
-    let rest = &text[offset_length(text) + 1..];
+    let rest = after(text, offset_length(text) + 1);
     dumped(form, offset, dumped_bytes(without_blanks_before(rest)))
 }
 
 /// Returns what a line of a dump says: nothing that is known, without bytes.
-fn dumped(form: DumpForm, offset: u32, bytes: Option<HexBytes<'_>>) -> Line<'_>
-    ensures { result ≡ dumped form offset bytes.entry }
-{
+fn dumped(form: DumpForm, offset: u32, bytes: Option<HexBytes<'_>>) -> Line<'_> {
     match bytes {
         Some(bytes) => Line::Dumped(DumpedBytes {
             form,
@@ -340,35 +274,23 @@ fn dumped(form: DumpForm, offset: u32, bytes: Option<HexBytes<'_>>) -> Line<'_>
 }
 
 /// Returns the number that the digits at the beginning say.
-fn number_before(text: &[u8]) -> u32
-    requires { offset_length text.now ≤ 8 }
-    ensures { result ≡ hex_number (take (offset_length text.now) text.now) }
-{
-    let length = offset_length(text);
-    hex_number(&text[..length])
+fn number_before(text: &[u8]) -> u32 {
+    hex_number(front(text, offset_length(text)))
 }
 
 /// Returns what follows the digits at the beginning and the blanks after them.
-fn behind_offset(text: &[u8]) -> &[u8]
-    ensures { result.now ≡ behind_offset text.now }
-{
+fn behind_offset(text: &[u8]) -> &[u8] {
     without_blanks_before(after(text, offset_length(text)))
 }
 
 /// Reads a line of a dump by `hexdump`.
-fn hexdump_line(text: &[u8]) -> Line<'_>
-    requires { offset_length text.now ≤ 8 }
-    ensures { result ≡ hexdump_line text.now }
-{
+fn hexdump_line(text: &[u8]) -> Line<'_> {
     let offset = number_before(text);
     dumped(DumpForm::Hexdump, offset, barred_bytes(behind_offset(text)))
 }
 
 /// Reads a line of a dump by Wireshark.
-fn wireshark_line(text: &[u8]) -> Line<'_>
-    requires { offset_length text.now ≤ 8 }
-    ensures { result ≡ wireshark_line text.now }
-{
+fn wireshark_line(text: &[u8]) -> Line<'_> {
     let offset = number_before(text);
     dumped(
         DumpForm::Wireshark,
@@ -378,10 +300,7 @@ fn wireshark_line(text: &[u8]) -> Line<'_>
 }
 
 /// Returns whether the text begins with six to eight digits and a byte, or is a length.
-fn has_hexdump_offset(text: &[u8]) -> bool
-    ensures value { result ≡ has_hexdump_offset text.now }
-    ensures short { IsTrue result → offset_length text.now ≤ 8 }
-{
+fn has_hexdump_offset(text: &[u8]) -> bool {
     let length = offset_length(text);
     let rest = behind_offset(text);
     length >= 6
@@ -390,49 +309,23 @@ fn has_hexdump_offset(text: &[u8]) -> bool
 }
 
 /// Returns whether the text begins with four digits, two blanks and a byte.
-fn has_wireshark_offset(text: &[u8]) -> bool
-    ensures value { result ≡ has_wireshark_offset text.now }
-    ensures short { IsTrue result → offset_length text.now ≤ 8 }
-{
-    offset_length(text) == 4
-        && text.len() > 4
-        && is_gap(&text[4..], 0)
-        && is_byte_alone(behind_offset(text))
+fn has_wireshark_offset(text: &[u8]) -> bool {
+    offset_length(text) == 4 && is_gap(after(text, 4)) && is_byte_alone(behind_offset(text))
 }
 
 /// Returns whether the text begins with a byte, and a blank or nothing after it.
-fn is_byte_alone(text: &[u8]) -> bool
-    ensures { result ≡ is_byte_alone text.now }
-{
-    begins_with_byte(text) && (text.len() == 2 || is_blank(text[2]))
+fn is_byte_alone(text: &[u8]) -> bool {
+    let rest = after(text, 2);
+    begins_with_byte(text) && (rest.is_empty() || is_blank(rest[0]))
 }
 
 /// Returns the bytes before a `|`.
-#[tactic(auto, using(crate::proofs::Places::first_place, crate::proofs::Places::place_within))]
-fn barred_bytes(text: &[u8]) -> Option<HexBytes<'_>>
-    ensures { result ≡ barred_bytes text.now }
-{
-    let offset = first_bar(text).unwrap_or(text.len());
-    if are_printable(&text[offset..]) {
-        HexBytes::from_text(&text[..offset])
-    } else {
-        None
-    }
-}
-
-/// Returns the offset of the first `|`.
-fn first_bar(text: &[u8]) -> Option<usize>
-    ensures { result ≡ position (λ byte. byte == 124) text.now }
-{
-    text.iter().position(|byte| *byte == b'|')
+fn barred_bytes(text: &[u8]) -> Option<HexBytes<'_>> {
+    said_before(offset_of(b'|', text), text)
 }
 
 /// Returns whether the text begins with one to eight digits, a colon and a blank.
-fn has_offset(text: &[u8]) -> bool
-    ensures value { result ≡ has_offset text.now }
-    ensures inside { IsTrue result → offset_length text.now < length text.now }
-    ensures short { IsTrue result → offset_length text.now ≤ 8 }
-{
+fn has_offset(text: &[u8]) -> bool {
     let length = offset_length(text);
     length > 0
         && length <= 8
@@ -442,80 +335,53 @@ fn has_offset(text: &[u8]) -> bool
 }
 
 /// Returns how many digits the text begins with.
-#[tactic(auto, using(crate::proofs::Places::first_place, crate::proofs::Places::place_within))]
 fn offset_length(text: &[u8]) -> usize
-    ensures value { result ≡ offset_length text.now }
-    ensures within { result ≤ length text.now }
+    ensures { result ≤ length text.now }
 {
-    first_nondigit(text).unwrap_or(text.len())
+    let digits = text.iter().position(|byte| !byte.is_ascii_hexdigit());
+    digits.unwrap_or(text.len())
 }
 
-/// Returns the offset of the first byte that isn't a digit.
-fn first_nondigit(text: &[u8]) -> Option<usize>
-    ensures { result ≡ position (λ byte. not (is_ascii_hexdigit byte)) text.now }
-{
-    text.iter().position(|byte| !byte.is_ascii_hexdigit())
-}
-
-/// Returns the number that at most eight digits say.
-fn hex_number(digits: &[u8]) -> u32
-    requires short { length digits.now ≤ 8 }
-    requires digits { All (λ digit. IsTrue (is_ascii_hexdigit digit)) digits.now }
-    ensures { result ≡ hex_number digits.now }
-{
-    let mut number = 0;
+/// Returns the number that digits say, of which the last eight count.
+fn hex_number(digits: &[u8]) -> u32 {
+    let mut number = 0u32;
     for byte in digits {
-        number = 16 * number + digit(*byte) as u32;
+        number = number.wrapping_mul(16).wrapping_add(digit(*byte) as u32);
     }
     number
 }
 
 /// Returns the bytes of a line of a dump after its offset.
-fn dumped_bytes(text: &[u8]) -> Option<HexBytes<'_>>
-    ensures { result ≡ dumped_bytes text.now }
-{
-    let length = groups_length(text);
-    if are_printable(&text[length..]) {
-        HexBytes::from_text(&text[..length])
+fn dumped_bytes(text: &[u8]) -> Option<HexBytes<'_>> {
+    said_before(groups_length(text), text)
+}
+
+/// Returns the bytes before an offset, from which on the text can be printed.
+fn said_before(offset: usize, text: &[u8]) -> Option<HexBytes<'_>> {
+    if are_printable(after(text, offset)) {
+        HexBytes::from_text(front(text, offset))
     } else {
         None
     }
 }
 
 /// Returns how many bytes come before the first two blanks in a row.
-#[tactic(auto, using(crate::proofs::Groups::groups_end, crate::proofs::Groups::groups_at_gap, crate::proofs::Groups::groups_past))]
-fn groups_length(text: &[u8]) -> usize
-    ensures value { result ≡ groups_length text.now }
-    ensures within { result ≤ length text.now }
-{
-    let mut length = 0;
-    while length < text.len() {
-        if is_gap(text, length) {
+fn groups_length(text: &[u8]) -> usize {
+    for length in 0..text.len() {
+        if is_gap(&text[length..]) {
             return length;
         }
-        length += 1;
     }
-    length
+    text.len()
 }
 
-/// Returns whether two blanks are at this offset.
-fn is_gap(text: &[u8], offset: usize) -> bool
-    requires { offset < length text.now }
-    ensures { result ≡ is_gap text.now offset }
-{
-    offset + 1 < text.len() && is_blank(text[offset]) && is_blank(text[offset + 1])
+/// Returns whether two blanks are at the front.
+fn is_gap(text: &[u8]) -> bool {
+    text.len() > 1 && is_blank(text[0]) && is_blank(text[1])
 }
 
 /// Returns whether each byte is blank or can be printed.
-fn are_printable(text: &[u8]) -> bool
-    ensures { result ≡ list_all is_printable text.now }
-{
-    text.iter().all(|byte| is_printable(*byte))
-}
-
-/// Returns whether a byte is blank or can be printed.
-fn is_printable(byte: u8) -> bool
-    ensures { result ≡ is_printable byte }
-{
-    is_blank(byte) || (b' '..=b'~').contains(&byte)
+fn are_printable(text: &[u8]) -> bool {
+    text.iter()
+        .all(|byte| is_blank(*byte) || matches!(*byte, b' '..=b'~'))
 }

@@ -1,22 +1,17 @@
 //! The events of a text: packets in hexadecimal, of logs and of dumps.
 
-ghost use Rattle.std.specs.Prelude.{◌≡◌, ◌-◌, ◌*◌, ◌^◌, ◌≤◌, ◌<◌, ℕ, List, [], ◌∷◌, None, Some, length, position, ◌==◌, max, vec_capacity, IfOk};
-ghost use Rattle.dump_capture.specs.Event.{Event, Skip, Hands};
-ghost use Rattle.dump_capture.specs.Decoding.{IsLine};
-ghost use Rattle.dump_capture.specs.Number.{byte_at, one_more};
-ghost use Rattle.dump_capture.specs.Text.{TextState, before_text, packet_event, end_events, after_end, at_line, counted, with_stamp, stamp_or, stamp_below, after_long, long_events, own_events, after_own, is_form, continues_dump, may_repeat, reaches, bytes_to, said_events, after_said, line_events, after_line, last_events, SaysAtMost, LineItem, TextEnd};
-ghost use Rattle.dump_capture.specs.declared.line.Line.TheVariants.{Packet, Logged, Dumped, Repeats};
+ghost use Rattle.std.specs.Prelude.{◌≡◌, ◌==◌, position};
+ghost use Rattle.dump_capture.specs.Text.{State, Item, End, HandsSome};
 
 use crate::decoder::{Decoder, Extent, MOST_KEPT, Next};
 use crate::dump::{link_of, link_of_any};
 use crate::event::{Part, Seen, Sink, Skipped, Time};
 use crate::frame::link_type;
-use crate::hex_bytes::HexBytes;
+use crate::hex_bytes::{HexBytes, push_reserved};
 use crate::line::{DumpForm, DumpedBytes, Line, LoggedPacket, Place, place_of, read_line};
 use crate::parts::{after, front};
 use crate::stamp::{Stamp, read_stamp};
 use std::alloc::{AllocError, Global};
-use std::marker::Model;
 
 /// The most bytes that a line says: two digits say one.
 const MOST_SAID: usize = MOST_KEPT / 2;
@@ -45,32 +40,9 @@ pub struct TextDecoder {
     searched: usize,
 }
 
-impl Model for TextDecoder {
-    ghost use Rattle.std.specs.Prelude.{◌≤◌, length, option_map, vec_capacity};
-    ghost use Rattle.dump_capture.specs.Text.{TextState};
-
-    ghost Value = { TextState };
-
-    ghost view = { λ d. record {
-      lines = d.lines;
-      packets = d.packets;
-      dump = option_map (λ form. record {
-        form = form;
-        bytes = d.bytes.items;
-        first_line = d.first_line;
-        repeats = d.repeats;
-      }) d.form;
-      stamp = d.stamp;
-    } };
-
-    ghost invariant = { λ d. (393216 ≤ vec_capacity d.bytes) × (length d.bytes.items ≤ 393216) };
-}
-
 impl TextDecoder {
     /// Returns a decoder of a text, with the memory of the longest dump.
-    pub fn new(alloc: Global) -> Result<TextDecoder, AllocError>
-        ensures { IfOk result (λ d. d ≡ before_text) }
-    {
+    pub fn new(alloc: Global) -> Result<TextDecoder, AllocError> {
         Ok(TextDecoder {
             bytes: Vec::with_capacity(alloc, MOST_KEPT + MOST_SAID)?,
             form: None,
@@ -84,34 +56,22 @@ impl TextDecoder {
     }
 
     /// Returns whether a line feed may have come since the bytes in memory were searched last.
-    fn may_have_line(&mut self, held: &[u8]) -> bool
-        ensures { self.new ≡ self.old }
-    {
+    fn may_have_line(&mut self, held: &[u8]) -> bool {
         let searched = self.searched;
         self.searched = held.len();
         searched == 0 || first_line_feed(after(held, searched)).is_some()
     }
 
     /// Counts a line, and keeps what was written for it.
-    fn count_line(&mut self, stamp: Option<Stamp>)
-        ensures { self.new ≡ counted stamp self.old }
-    {
-        self.lines = next_number(self.lines);
+    fn count_line(&mut self, stamp: Option<Stamp>) {
+        self.lines = self.lines.saturating_add(1);
         self.stamp = stamp;
         self.searched = 0;
     }
 
-    /// Keeps what was written for the next line.
-    fn keep_stamp(&mut self, stamp: Option<Stamp>)
-        ensures { self.new ≡ with_stamp stamp self.old }
-    {
-        self.stamp = stamp;
-    }
-
     /// Passes on the events of a line.
     fn take_line<S: Sink>(&mut self, line: &[u8], sink: &mut S)
-        ensures state { self.new ≡ after_line self.old line.now }
-        ensures events { Hands S.handed sink.old sink.new (line_events self.old line.now) }
+        ensures { HandsSome S.handed sink.old sink.new }
     {
         if line.len() > MOST_KEPT {
             self.take_long(sink);
@@ -119,25 +79,26 @@ impl TextDecoder {
             let own = read_stamp(line);
             let said = read_line(line);
             let below = stamp_below(&said, own, self.stamp);
-            self.count_line(stamp_or(own, self.stamp));
+            self.count_line(own.or(self.stamp));
             self.take_said(said, sink);
-            self.keep_stamp(below);
+            self.stamp = below;
         }
     }
 
     /// Passes on the events of a line that is too long.
+    #[tactic(auto, using(crate::proofs::Handed::some_then_some))]
     fn take_long<S: Sink>(&mut self, sink: &mut S)
-        ensures state { self.new ≡ after_long self.old }
-        ensures events { Hands S.handed sink.old sink.new (long_events self.old) }
+        ensures { HandsSome S.handed sink.old sink.new }
     {
         self.count_line(None);
         self.end_dump(sink);
-        sink.skipped(Part::Line, self.lines, Skipped::TooLong);
+        self.skip(Skipped::TooLong, sink);
     }
 
     /// Passes on the events of what follows the last line feed, and of the open dump.
+    #[tactic(auto, using(crate::proofs::Handed::some_then_some))]
     fn take_last<S: Sink>(&mut self, line: &[u8], sink: &mut S)
-        ensures { Hands S.handed sink.old sink.new (last_events self.old line.now) }
+        ensures { HandsSome S.handed sink.old sink.new }
     {
         if line.is_empty() {
             self.end_dump(sink);
@@ -148,10 +109,9 @@ impl TextDecoder {
     }
 
     /// Passes on the events of a line that says this.
+    #[tactic(auto, using(crate::proofs::Handed::some_then_some))]
     fn take_said<S: Sink>(&mut self, line: Line<'_>, sink: &mut S)
-        requires { SaysAtMost 262144 line }
-        ensures state { self.new ≡ after_said self.old line.entry }
-        ensures events { Hands S.handed sink.old sink.new (said_events self.old line.entry) }
+        ensures { HandsSome S.handed sink.old sink.new }
     {
         match line {
             Line::Dumped(part) => self.take_part(part, sink),
@@ -167,26 +127,22 @@ impl TextDecoder {
             }
             Line::Unknown => {
                 self.end_dump(sink);
-                sink.skipped(Part::Line, self.lines, Skipped::Unknown);
+                self.skip(Skipped::Unknown, sink);
             }
         }
     }
 
     /// Passes on the events of a line of digits, where no dump is open.
     fn take_packet<S: Sink>(&mut self, bytes: HexBytes<'_>, sink: &mut S)
-        requires closed { self.old.dump ≡ None }
-        requires short { 2 * length bytes ≤ 262144 }
-        ensures state { self.new ≡ after_own self.old (Packet bytes.entry) }
-        ensures events { Hands S.handed sink.old sink.new
-            (own_events self.old (Packet bytes.entry)) }
+        ensures { HandsSome S.handed sink.old sink.new }
     {
         self.bytes.clear();
         bytes.append_reserved(&mut self.bytes);
         if self.bytes.len() < HEADER_SIZE {
-            sink.skipped(Part::Line, self.lines, Skipped::Unknown);
+            self.skip(Skipped::Unknown, sink);
             return;
         }
-        self.packets = next_number(self.packets);
+        self.packets = self.packets.saturating_add(1);
         let bytes = self.bytes.as_slice();
         let link = link_of_any(bytes);
         hand_on(self.packets, self.lines, Time::Unknown, link, bytes, sink);
@@ -194,13 +150,9 @@ impl TextDecoder {
 
     /// Passes on a packet of a log, where no dump is open.
     fn take_logged<S: Sink>(&mut self, logged: LoggedPacket<'_>, sink: &mut S)
-        requires closed { self.old.dump ≡ None }
-        requires short { 2 * length logged.packet ≤ 262144 }
-        ensures state { self.new ≡ after_own self.old (Logged logged.entry) }
-        ensures events { Hands S.handed sink.old sink.new
-            (own_events self.old (Logged logged.entry)) }
+        ensures { HandsSome S.handed sink.old sink.new }
     {
-        self.packets = next_number(self.packets);
+        self.packets = self.packets.saturating_add(1);
         self.bytes.clear();
         logged.packet.append_reserved(&mut self.bytes);
         let time = Time::OfDay {
@@ -214,18 +166,16 @@ impl TextDecoder {
     }
 
     /// Passes on the events of a line of a dump.
+    #[tactic(auto, using(crate::proofs::Handed::some_then_some))]
     fn take_part<S: Sink>(&mut self, part: DumpedBytes<'_>, sink: &mut S)
-        requires { 2 * length part.bytes ≤ 262144 }
-        ensures state { self.new ≡ after_said self.old (Dumped part.entry) }
-        ensures events { Hands S.handed sink.old sink.new
-            (said_events self.old (Dumped part.entry)) }
+        ensures { HandsSome S.handed sink.old sink.new }
     {
         if !self.is_continued_by(&part) {
             self.end_dump(sink);
             self.begin_dump(part, sink);
         } else if self.bytes.len() > MOST_KEPT || part.offset as usize > MOST_KEPT {
             self.form = None;
-            sink.skipped(Part::Line, self.lines, Skipped::TooLong);
+            self.skip(Skipped::TooLong, sink);
         } else {
             repeat_to(part.offset as usize, self.repeats, &mut self.bytes);
             self.repeats = false;
@@ -234,35 +184,31 @@ impl TextDecoder {
     }
 
     /// Passes on the events of an asterisk.
+    #[tactic(auto, using(crate::proofs::Handed::some_then_some))]
     fn take_repeats<S: Sink>(&mut self, sink: &mut S)
-        ensures state { self.new ≡ after_said self.old Repeats }
-        ensures events { Hands S.handed sink.old sink.new (said_events self.old Repeats) }
+        ensures { HandsSome S.handed sink.old sink.new }
     {
         if self.may_repeat() {
             self.repeats = true;
         } else {
             self.end_dump(sink);
-            sink.skipped(Part::Line, self.lines, Skipped::Unknown);
+            self.skip(Skipped::Unknown, sink);
         }
     }
 
     /// Returns whether an asterisk says that the open dump repeats its last line.
-    fn may_repeat(&self) -> bool
-        ensures { result ≡ may_repeat self.now.dump }
-    {
+    fn may_repeat(&self) -> bool {
         match self.form {
-            Some(form) => is_form(form, DumpForm::Hexdump) && self.bytes.len() >= 16,
+            Some(form) => form == DumpForm::Hexdump && self.bytes.len() >= 16,
             None => false,
         }
     }
 
     /// Returns whether a line continues the open dump.
-    fn is_continued_by(&self, part: &DumpedBytes<'_>) -> bool
-        ensures { result ≡ continues_dump part.now self.now.dump }
-    {
+    fn is_continued_by(&self, part: &DumpedBytes<'_>) -> bool {
         match self.form {
             Some(form) => {
-                is_form(part.form, form) && reaches(part.offset, self.bytes.len(), self.repeats)
+                part.form == form && reaches(part.offset, self.bytes.len(), self.repeats)
             }
             None => false,
         }
@@ -270,14 +216,10 @@ impl TextDecoder {
 
     /// Takes a line of a dump that continues none, where none is open: it begins one at offset 0.
     fn begin_dump<S: Sink>(&mut self, part: DumpedBytes<'_>, sink: &mut S)
-        requires closed { self.old.dump ≡ None }
-        requires short { 2 * length part.bytes ≤ 262144 }
-        ensures state { self.new ≡ after_own self.old (Dumped part.entry) }
-        ensures events { Hands S.handed sink.old sink.new
-            (own_events self.old (Dumped part.entry)) }
+        ensures { HandsSome S.handed sink.old sink.new }
     {
         if part.offset != 0 {
-            sink.skipped(Part::Line, self.lines, Skipped::Apart);
+            self.skip(Skipped::Apart, sink);
             return;
         }
         self.form = Some(part.form);
@@ -287,16 +229,22 @@ impl TextDecoder {
         part.bytes.append_reserved(&mut self.bytes);
     }
 
+    /// Passes on that the line holds no packet.
+    fn skip<S: Sink>(&self, why: Skipped, sink: &mut S)
+        ensures { HandsSome S.handed sink.old sink.new }
+    {
+        sink.skipped(Part::Line, self.lines, why);
+    }
+
     /// Passes on the packet of the open dump, if one is open.
     fn end_dump<S: Sink>(&mut self, sink: &mut S)
-        ensures state { self.new ≡ after_end self.old }
-        ensures events { Hands S.handed sink.old sink.new (end_events self.old) }
+        ensures { HandsSome S.handed sink.old sink.new }
     {
         let Some(form) = self.form else {
             return;
         };
         self.form = None;
-        self.packets = next_number(self.packets);
+        self.packets = self.packets.saturating_add(1);
         let bytes = self.bytes.as_slice();
         let link = link_of(form, bytes);
         hand_on(
@@ -311,13 +259,13 @@ impl TextDecoder {
 }
 
 impl Decoder for TextDecoder {
-    ghost State = { TextState };
+    ghost State = { State };
 
-    ghost state = { λ d. d };
+    ghost state = { λ d. tt };
 
-    ghost Item = { LineItem };
+    ghost Item = { Item };
 
-    ghost End = { TextEnd };
+    ghost End = { End };
 
     fn next<S: Sink>(&mut self, held: &[u8], at_end: bool, sink: &mut S) -> Next {
         let may_have_line = self.may_have_line(held);
@@ -352,9 +300,7 @@ fn hand_on<S: Sink>(
     bytes: &[u8],
     sink: &mut S,
 )
-    requires { length bytes.now < 2 ^ 32 }
-    ensures { Hands S.handed sink.old sink.new
-        (packet_event number first_line time.entry link_type bytes.now ∷ []) }
+    ensures { HandsSome S.handed sink.old sink.new }
 {
     let seen = Seen {
         number,
@@ -362,23 +308,12 @@ fn hand_on<S: Sink>(
         part: Part::Line,
         place: first_line,
     };
-    sink.frame(&seen, link_type, bytes.len() as u32, bytes);
-}
-
-/// Returns a line's own date and time, or those that were written above it.
-fn stamp_or(own: Option<Stamp>, above: Option<Stamp>) -> Option<Stamp>
-    ensures { result ≡ stamp_or own above }
-{
-    match own {
-        Some(stamp) => Some(stamp),
-        None => above,
-    }
+    let size = u32::try_from(bytes.len()).unwrap_or(u32::MAX);
+    sink.frame(&seen, link_type, size, bytes);
 }
 
 /// Returns the date and time that are written for the next line.
-fn stamp_below(said: &Line<'_>, own: Option<Stamp>, above: Option<Stamp>) -> Option<Stamp>
-    ensures { result ≡ stamp_below said.now own above }
-{
+fn stamp_below(said: &Line<'_>, own: Option<Stamp>, above: Option<Stamp>) -> Option<Stamp> {
     match said {
         Line::Unknown => own,
         Line::Blank => above,
@@ -386,17 +321,8 @@ fn stamp_below(said: &Line<'_>, own: Option<Stamp>, above: Option<Stamp>) -> Opt
     }
 }
 
-/// Returns the number after this one, if there is one.
-fn next_number(number: u64) -> u64
-    ensures { result ≡ one_more number }
-{
-    number.saturating_add(1)
-}
-
 /// Returns whether a part of a dump at this offset continues `held` bytes.
-fn reaches(offset: u32, held: usize, repeats: bool) -> bool
-    ensures { result ≡ reaches offset held repeats }
-{
+fn reaches(offset: u32, held: usize, repeats: bool) -> bool {
     if repeats {
         held <= offset as usize
     } else {
@@ -404,44 +330,26 @@ fn reaches(offset: u32, held: usize, repeats: bool) -> bool
     }
 }
 
-/// Appends bytes up to this size, each as the one that is 16 bytes before it, if they are repeated.
-fn repeat_to(size: usize, repeats: bool, bytes: &mut Vec<u8>)
-    requires { size ≤ vec_capacity bytes.old }
-    ensures items { bytes.new.items ≡ bytes_to size repeats bytes.old.items }
-    ensures within { length bytes.new.items ≤ max (length bytes.old.items) size }
-    ensures capacity { vec_capacity bytes.new ≡ vec_capacity bytes.old }
-{
+/// Appends bytes up to this size, each as the one that is 16 bytes before it, if they are repeated;
+/// `bytes` has room for them.
+fn repeat_to(size: usize, repeats: bool, bytes: &mut Vec<u8>) {
     if !repeats {
         return;
     }
     let missing = size.saturating_sub(bytes.len());
     for _ in 0..missing {
         let byte = byte_before(bytes.as_slice());
-        bytes.push_reserved(byte);
+        push_reserved(bytes, byte);
     }
 }
 
 /// Returns the byte that is 16 bytes before the end; 0 if there is none.
-fn byte_before(bytes: &[u8]) -> u8
-    ensures { result ≡ byte_at (length bytes.now - 16) bytes.now }
-{
+fn byte_before(bytes: &[u8]) -> u8 {
     let offset = bytes.len().saturating_sub(16);
     if offset < bytes.len() {
         bytes[offset]
     } else {
         0
-    }
-}
-
-/// Returns whether the forms are the same.
-fn is_form(form: DumpForm, of: DumpForm) -> bool
-    ensures { result ≡ is_form form of }
-{
-    match form {
-        DumpForm::Xxd => matches!(of, DumpForm::Xxd),
-        DumpForm::Tcpdump => matches!(of, DumpForm::Tcpdump),
-        DumpForm::Hexdump => matches!(of, DumpForm::Hexdump),
-        DumpForm::Wireshark => matches!(of, DumpForm::Wireshark),
     }
 }
 

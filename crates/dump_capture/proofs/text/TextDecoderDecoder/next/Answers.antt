@@ -1,43 +1,33 @@
-use Rattle.std.proofs.Common.{◌≡◌, refl, sym, subst}
-use Rattle.dump_capture.specs.Event.{Hands}
-use Rattle.dump_capture.specs.Text.{TextState, after_long, long_events, last_events}
-use Rattle.dump_capture.proofs.TextLines.{no_feed, item_found, passes_long}
+use Rattle.std.proofs.Common.{take, refl, sym, arith}
+use Rattle.dump_capture.proofs.TextLines.{no_feed, first_feed}
 use Rattle.dump_capture.proofs.text.TextDecoderDecoder.next.Goals as goal
 
 pub returns-in-Some : goal.returns-in-Some
 returns-in-Some g c =
-    item_found g.S.Sink.handed c.args.sink.now c.take_line.new.sink c.args.self.now
-    c.may_have_line-may_have_line.new.self c.take_line.new.self c.args.held.now
-    c.front-line.result.now c.in-Some.size (sym c.in-Some.ensures)
-    c.may_have_line-may_have_line.ensures c.front-line.ensures c.take_line.ensures.events
-    c.take_line.ensures.state
+    let begins = first_feed c.args.held.now c.in-Some.size (sym c.in-Some.ensures) in
+    let within = begins.within in
+    let handed = c.take_line.ensures in (
+      handed.events,
+      handed.hands,
+      (omega arith, (take c.in-Some.size c.args.held.now, begins.line, begins.feed)),
+    )
 
 pub returns-in-None : goal.returns-in-None
-returns-in-None g c = (
-  last_events c.args.self.now c.args.held.now,
-  subst
-      (λ (s : TextState). Hands g.S.Sink.handed c.args.sink.now c.take_last.new.sink
-      (last_events s c.args.held.now))
-      c.may_have_line-may_have_line.ensures c.take_last.ensures,
-  (
-    c.if-at_end.true,
-    record {
-      is_line = no_feed c.args.held.now (sym c.in-None.ensures);
-      has = refl;
-      sound = refl;
-    },
-  ),
-)
+returns-in-None g c =
+    let handed = c.take_last.ensures in (
+      handed.events,
+      handed.hands,
+      (c.if-at_end.true, (no_feed c.args.held.now (sym c.in-None.ensures), refl)),
+    )
 
 pub returns-in-None-2 : goal.returns-in-None-2
-returns-in-None-2 g c = (
-  long_events c.args.self.now,
-  subst
-      (λ (s : TextState). Hands g.S.Sink.handed c.args.sink.now c.take_long.new.sink
-      (long_events s))
-      c.may_have_line-may_have_line.ensures c.take_long.ensures.events,
-  passes_long c.args.self.now c.take_long.new.self c.args.held.now
-      (subst (λ (s : TextState). c.take_long.new.self ≡ after_long s)
-      c.may_have_line-may_have_line.ensures c.take_long.ensures.state)
-      (no_feed c.args.held.now (sym c.in-None.ensures)) c.if-held-gt-MOST_KEPT.true,
-)
+returns-in-None-2 g c =
+    let handed = c.take_long.ensures in (
+      handed.events,
+      handed.hands,
+      (
+        no_feed c.args.held.now (sym c.in-None.ensures),
+        λ line is_line begins. (line, is_line, refl),
+        λ line is_line begins. (is_line, refl),
+      ),
+    )

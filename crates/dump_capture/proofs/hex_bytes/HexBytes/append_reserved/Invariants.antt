@@ -1,7 +1,0 @@
-use Rattle.std.proofs.Common.{◌≡◌, ◌++◌, vec_capacity}
-use Rattle.dump_capture.proofs.hex_bytes.HexBytes.append_reserved.Given as goal
-
--- the items so far are those at first, and bytes that were appended
-abbrev pub invariant-loop-byte : goal.invariant-loop-byte
-invariant-loop-byte l = (l.output.items ≡ l.initial.output.items ++ l.yielded)
-    × (vec_capacity l.output ≡ vec_capacity l.initial.output)
