@@ -5,9 +5,9 @@
 Makes the page of captures, docs/CAPTURES.md, by running the program.
 
   --write    runs sctp_show (`rt try`) over the packets of tools/captures.txt, and writes docs/CAPTURES.md, two
-             tables, crates/sctp_show/src/tests/captures.rt of what the program prints and
-             crates/value_tests/src/association.rt of the packets that carry their checksums, and these
-             packets for the golden run of sctp_dump, whose output the page quotes
+             tables, tests/show/captures.txt of what the program prints and
+             crates/test_values/src/tests/association.rt of the packets that carry their checksums, and these
+             packets for the stored run of sctp_dump, whose output the page quotes
   --compare  runs nothing; fails if the page isn't what the tables and tools/captures.txt give, or if a packet
              doesn't carry its CRC32c
   --help     prints this
@@ -24,8 +24,8 @@ ROOT = os.path.dirname(os.path.dirname(os.path.abspath(__file__)))
 SOURCE = os.path.join(ROOT, 'tools', 'captures.txt')
 PAGE = os.path.join(ROOT, 'docs', 'CAPTURES.md')
 PROGRAM = os.path.join(ROOT, 'crates', 'sctp_show')
-TABLE = os.path.join(PROGRAM, 'src', 'tests', 'captures.rt')
-SEALED = os.path.join(ROOT, 'crates', 'value_tests', 'src', 'association.rt')
+TABLE = os.path.join(ROOT, 'tests', 'show', 'captures.txt')
+SEALED = os.path.join(ROOT, 'crates', 'test_values', 'src', 'tests', 'association.rt')
 GOLDEN = os.path.join(ROOT, 'crates', 'sctp_dump')
 DUMPED = os.path.join(GOLDEN, 'data', 'association.txt')
 
@@ -37,7 +37,7 @@ PAGE_HEAD = '''# Packets of real peers
 Each line of digits is a packet, and below it is what a program prints of it: `echo DIGITS | ./sctp_show` or `echo DIGITS | ./sctp_dump`
 ([how to build them](INSTALL.md)). Where the line `canonical=` of `sctp_show` is missing here, the canonical form is the packet itself
 with a checksum field of 0. `tools/captures.py --write` makes this page of `tools/captures.txt` and of what the programs print; tests hold
-it too (`crates/sctp_show/src/tests/captures.rt`, `crates/value_tests/src/association.rt`, the golden run of `crates/sctp_dump`).
+it too (`tests/show/captures.txt`, `crates/test_values/src/tests/association.rt`, the stored run of `crates/sctp_dump`).
 '''
 
 # What is said below each heading.
@@ -55,35 +55,9 @@ prints, which reads a packet whose checksum is wrong too, without the lines of t
 ''',
 }
 
-TABLE_HEAD = '''//! Packets of real peers, and what is printed of them: the rows of docs/CAPTURES.md. Written by
-//! `tools/captures.py --write`.
-
-use crate::tests::{captured, first_wrong};
-use std::alloc::Global;
-use std::test::Fail;
-
-const CAPTURES: &str = r"# a packet, and what is printed of it, of which each line ends in ` | `
+TABLE_HEAD = '''# Packets of real peers, and what sctp_show prints of them: the rows of docs/CAPTURES.md. Written by tools/captures.py --write;
+# rows.txt says how a row reads.
 '''
-
-TABLE_END = '''";
-
-/// Whether the packet is answered so in memory.
-fn is_captured(alloc: Global, text: &str, answer: (&str, u8)) -> bool {
-    captured(alloc, text, answer.0) == (answer.1, true)
-}
-
-#[test]
-fn captures(rt: HostRuntime) -> Result<(), Fail> {
-    let wrong = first_wrong(
-        rt.alloc(),
-        CAPTURES,
-        |alloc, text, answer| is_captured(alloc, text, answer),
-    )?;
-    assert_eq!(rt; wrong, None);
-    Ok(())
-}
-'''
-
 
 SEALED_HEAD = '''//! An association between two sockets of usrsctp, and packets of it that were changed by hand: the rows of
 //! docs/CAPTURES.md with their checksums. Written by `tools/captures.py --write`.
@@ -150,12 +124,12 @@ def printed(texts):
 def in_table():
     """What the table says of each packet, in its order."""
     with open(TABLE, encoding='utf-8') as table:
-        rows = re.findall(r'^([0-9a-f]+)\n= (.*?)(?:";)?$', table.read(), flags=re.M)
-    return {text: answer.replace(' | ', '\n') + '\n' for text, answer in rows}
+        rows = re.findall(r'^([0-9a-f]+)\n((?:  .*\n)+)', table.read(), flags=re.M)
+    return {text: re.sub('^  ', '', answer, flags=re.M) for text, answer in rows}
 
 
 def dumped():
-    """What sctp_dump prints of each packet with a checksum field, by its golden run."""
+    """What sctp_dump prints of each packet with a checksum field, by its stored run."""
     with open(os.path.join(GOLDEN, 'stdout'), encoding='utf-8') as file:
         text = file.read().partition('file association.txt\n\n')[2]
     return iter(text.partition('file ')[0].split('\n\n'))
@@ -192,12 +166,11 @@ def page_of(rows):
 
 
 def table_of(rows):
-    parts = []
+    lines = []
     for entry, answer in rows:
         if is_shown(entry):
-            line = answer.strip('\n').replace('\n', ' | ')
-            parts.append(f'{entry.text}\n= {line}')
-    return TABLE_HEAD + '\n'.join(parts) + TABLE_END
+            lines += [entry.text, *(f'  {line}' for line in answer.strip('\n').split('\n'))]
+    return TABLE_HEAD + '\n'.join(lines) + '\n'
 
 
 def byte_string(text):

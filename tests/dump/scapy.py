@@ -70,7 +70,7 @@ RESULTS = ('Success - Nothing to do', 'Success - Performed', 'Denied', 'Error - 
            'Error - Request already in progress', 'Error - Bad Sequence Number', 'In progress')
 # RFC 8832 section 5.1: the kinds of channels, and what is said of their reliability.
 CHANNELS = (('reliable', ''), ('partial reliable rexmit', 'reliability N, '), ('partial reliable timed', 'reliability N ms, '))
-# Controls, what crates/sctp_report/specs/Printed.antt hides, and bytes that are no character of UTF-8.
+# Controls, what crates/dump_text/specs/Printed.antt hides, and bytes that are no character of UTF-8.
 UNSEEN = re.compile('[\0-\x1f"\\\\\x7f-\x9f\u061c\u200b-\u200f\u2028-\u202e\u2060-\u206f\udc80-\udcff\ufeff\ufff9-\ufffb'
                     '\U000e0000-\U0010ffff]')
 
@@ -430,7 +430,7 @@ def compared(lines, expected, most):
     return agreed, wrong
 
 
-# The golden run.
+# The stored run.
 
 def by_hand(text):
     """A line of no packet's field; a bad chunk's bytes and place by the layout of RFC 9260 section 3.2."""
@@ -513,7 +513,7 @@ GOLDEN_COUNTS = ('packets 47: accepted 30, refused 14 (size 4, length 3, padding
                  'fragment 7, cut 3, malformed 8, too long 1, unknown 9, link type 0)')
 
 
-def golden_texts(lines):
+def stored_texts(lines):
     """The packets of a text: the bytes of each line, or of the lines of a dump."""
     for number, line in enumerate(lines):
         if line[:2] in ('I ', 'O '):
@@ -527,7 +527,7 @@ def golden_texts(lines):
             yield SCTP(bytes.fromhex(line))
 
 
-def golden_lines(expected, folder):
+def stored_lines(expected, folder):
     for name, digits, records in GOLDEN:
         yield by_hand('file ' + name)
         yield by_hand('')
@@ -536,7 +536,7 @@ def golden_lines(expected, folder):
             frames = itertools.chain(PcapReader(path), itertools.repeat(None))
         else:
             with open(path, encoding='ascii') as file:
-                frames = golden_texts(file.read().split('\n'))
+                frames = stored_texts(file.read().split('\n'))
         for number, said in enumerate(records, 1):
             frame = next(frames) if digits or isinstance(said, str) else None
             if said is PACKET:
@@ -557,12 +557,12 @@ def golden_lines(expected, folder):
     yield by_hand(GOLDEN_COUNTS)
 
 
-def golden(expected, program):
+def stored(expected, program):
     folder = os.path.join(ROOT, 'crates', 'sctp_dump')
     with open(os.path.join(folder, 'args'), encoding='utf-8') as args, open(os.path.join(folder, 'stdin'), 'rb') as stdin:
         run = subprocess.run([program, *args.read().splitlines()], stdin=stdin, capture_output=True, encoding='utf-8',
                              cwd=os.path.join(folder, 'data'), check=False)
-    return compared(run.stdout.removesuffix('\n').split('\n'), list(golden_lines(expected, folder)), 16)
+    return compared(run.stdout.removesuffix('\n').split('\n'), list(stored_lines(expected, folder)), 16)
 
 
 # The captures.
@@ -707,7 +707,7 @@ def main():
 def compare(program, seed, folder):
     bind()
     expected, total, count, bad = Expected(), collections.Counter(), 0, 0
-    agreed, wrong = golden(expected, program)
+    agreed, wrong = stored(expected, program)
     total, bad = total + agreed, bad + bool(wrong)
     print('the stored run: %d fields agree' % sum(agreed.values()), *wrong, sep='\n  ')
     expected.in_rows = True

@@ -7,11 +7,12 @@ usage='usage: tests/dump/test.sh [--quick] [PROGRAM]
 
 Runs the program over the rows of runs.txt, and compares all that it prints, and its status. Its options have to be those
 of its manual page, docs/sctp_dump.1, at which mandoc, if it is there, finds nothing wrong. Then tools/rules.py has it
-ask the rules of the packets of rules.txt, it has the chunks of refused.txt and the captures in data/, faults.py looks at
-lengths that are refused, objects.py at its JSON, forms.py at its three forms, logs.py at associations of logs, times.py at
-times; where tshark is, associations.py at associations of captures, and tshark.py at packets; where scapy is, scapy.py
-at the same; and it has a table that is full, and an output that fails. The last line is: dump: N passed, M failed.
---quick leaves out the scripts, and a word that isn'\''t UTF-8, for a program that runs in an emulator or under Wine.
+ask the rules of the packets of rules.txt, it has the chunks of refused.txt and the captures in data/, reports.py compares
+what it prints of the packets of reports.txt, faults.py looks at lengths that are refused, objects.py at its JSON, forms.py
+at its three forms, logs.py at associations of logs, times.py at times; where tshark is, associations.py at associations of
+captures, and tshark.py at packets; where scapy is, scapy.py at the same; and it has a table that is full, and inputs and
+outputs that fail. The last line is: dump: N passed, M failed. --quick leaves out the scripts, a word that isn'\''t UTF-8, and
+an output that is limited, for a program that runs in an emulator or under Wine.
 
 The program is crates/sctp_dump/out/sctp_dump, which `rt ci` proved and built, unless another is named; if it is missing,
 or older than a source file, it is proved and built first.'
@@ -163,6 +164,24 @@ echo '! size at 65535: packet: 65536 bytes, but 65535 are the most' >>"$work/wan
     sed -n 's/^[0-9].* zero //p' >"$work/printed"
 judge 'what is said of chunks that are refused' "${PIPESTATUS[1]}" 1
 
+# ---- reports
+
+# Each kind of chunk, parameter and error cause, in each form.
+look "$root/tests/dump/reports.py" "$program"
+
+# ---- lines that are too long
+
+# Those of more than 262,144 bytes aren't looked at, with a line feed or without one; one of as many is.
+: >"$work/wanted_errors"
+cat >"$work/wanted" <<'WANTED'
+line 1 skipped: more than 262144 bytes
+1 - -:0 > -:0 0x00000000 zero ! size at 65535: packet: 131072 bytes, but 65535 are the most
+line 3 skipped: more than 262144 bytes
+packets 1: accepted 0, refused 1 (size 1, length 0, padding 0, value 0), cut off 0; skipped 2 (not SCTP 0, fragment 0, cut 0, malformed 0, too long 2, unknown 0, link type 0)
+WANTED
+printf '%0262145d\n%0262144d\n%0262145d' 0 0 0 | "$program" --brief >"$work/printed" 2>"$work/errors"
+judge 'lines that are too long' "${PIPESTATUS[1]}" 1
+
 # ---- JSON
 
 # Each line is an object, and each place holds the value of its key. Lines and blocks say the same. A log has the associations of
@@ -264,6 +283,27 @@ printf '%s\n' 'packet 1' 'source 5000, destination 5000, tag 0x01020304' 'checks
 : >"$work/wanted_errors"
 judge 'an input that is waited for' $ended 0
 
+# ---- an input that comes byte by byte, and one that fails
+
+# It is printed as what comes at once, of which there is a row.
+digits=$'138813880102030400000000 0b000004\n138813880102030400000000 0b000003\n'
+printf %s "$digits" | "$program" >"$work/wanted" 2>"$work/wanted_errors"
+for ((i = 0; i < ${#digits}; i++)); do
+    printf %s "${digits:i:1}" && sleep 0.01
+done | timeout 60 "$program" >"$work/printed" 2>"$work/errors"
+judge 'an input that comes byte by byte' "${PIPESTATUS[1]}" 1
+
+# What was read before is printed.
+if [ -z "$quick" ] && python3 -c 'import tty' 2>/dev/null; then
+    printf '%s\n' 'packet 1' 'source 5000, destination 5000, tag 0x01020304' 'checksum 0x00000000: zero' 'COOKIE ACK' '' >"$work/wanted"
+    echo '138813880102030400000000 0b000004' | "$program" --summary | tail -n 1 >>"$work/wanted"
+    echo 'sctp_dump: -: a read failed' >"$work/wanted_errors"
+    "$root/tests/broken_input.py" "${digits%??}" "$program" >"$work/printed" 2>"$work/errors"
+    judge 'an input that fails' $? 2
+else
+    leave_out tests/broken_input.py python3
+fi
+
 # ---- an output that fails
 
 # The packets of a long text, of which more is printed than a pipe holds.
@@ -290,6 +330,13 @@ exec 3> >(true)
 wait $!
 timeout 60 "$program" cooked.pcap >&3 2>"$work/errors"
 judge 'a pipe that is closed' $? 2
+if [ -z "$quick" ]; then
+    # Nothing is written twice. (the limit is that of standard error too, which is no file here)
+    printf 'packet 1\ns' >"$work/wanted"
+    echo 'sctp_dump: a write failed' >"$work/wanted_errors"
+    (trap '' XFSZ && exec prlimit --fsize=10 "$program" - <<<"$digits" 2>&1 >"$work/printed") | cat >"$work/errors"
+    judge 'an output that takes ten bytes' "${PIPESTATUS[0]}" 2
+fi
 
 printf 'dump: %s passed, %s failed\n' "$passed" "$failed"
 [ "$failed" -eq 0 ]

@@ -1,6 +1,6 @@
 #!/usr/bin/env python3
 # SPDX-License-Identifier: Apache-2.0
-"""Refuses each request for memory in turn, of the programs wire_rows and sctp_show.
+"""Refuses each request for memory in turn, of the programs test_rows and sctp_show.
 
 usage: tests/refusals/refuse.py LIBRARY
 
@@ -36,7 +36,7 @@ def read(name):
 
 
 def rows_of(table):
-    """The rows, and the facts of each answer. How a row reads says crates/wire_rows/README.md."""
+    """The rows, and the facts of each answer. How a row reads says crates/test_rows/README.md."""
     rows = []
     for line in table.splitlines():
         if line.startswith('    ') and rows:
@@ -82,13 +82,13 @@ def refuse_rows(name, may_say):
     rows, ran_out, own = rows_of(table), set(), 0
     # Further right answers: what comes after `#or` in a line below the row.
     others = [line.removeprefix('#or ') for line in table.splitlines() if line.startswith('#or ')]
-    for request, found in enumerate(refuse_each('wire_rows', table, 0, table), 1):
+    for request, found in enumerate(refuse_each('test_rows', table, 0, table), 1):
         if found == ROWS_ENDED:
             own += 1
             continue
         where, answered = f'{name}, request {request} refused:', rows_of(found[1])
         if (found[0], found[2]) != (0, '') or len(answered) != len(rows):
-            give_up(f'{where} wire_rows ends otherwise: status {found[0]}', found[1], found[2])
+            give_up(f'{where} test_rows ends otherwise: status {found[0]}', found[1], found[2])
         changed = [(old[0], '; '.join(old[1]), '; '.join(new[1])) for old, new in zip(rows, answered) if old != new]
         said = [how_it_ran_out(old, others, new) for _, old, new in changed]
         if not said:

@@ -9,10 +9,10 @@ ghost use Rattle.sctp_show.specs.Reply.{reply_of};
 
 use crate::answer::{MOST_BYTES, answer_to};
 use crate::failure::Failure;
-use std::alloc::Global;
-use std::io::{Read, Write};
 use dump_io::transfer::{fill, write_bytes};
 use dump_io::watched::Watched;
+use std::alloc::Global;
+use std::io::{Read, Write};
 
 // A longer input is known by one byte too many.
 const MOST_READ: usize = MOST_BYTES + 1;

@@ -2,17 +2,14 @@
 #![tactic(auto)]
 
 mod answer;
-mod captured;
 mod engine;
 mod failure;
-#[cfg(test)]
-mod tests;
 mod text;
 
 use crate::engine::show;
+use dump_io::watched::Watched;
 use std::io;
 use std::process::ExitCode;
-use dump_io::watched::Watched;
 
 fn main(rt: HostRuntime) -> ExitCode {
     let mut input = Watched::new(rt.reader());

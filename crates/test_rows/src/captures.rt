@@ -92,8 +92,7 @@ fn unescaped(alloc: Global, text: &str) -> Result<Vec<u8>, AllocError> {
 }
 
 fn write_bytes(alloc: Global, bytes: HexBytes, out: &mut String) -> Result<(), AllocError> {
-    let mut items = Vec::new(alloc);
-    bytes.append_to(&mut items)?;
+    let items: Vec<u8> = bytes.collect(alloc)?;
     write_digits(alloc, &items, out)
 }
 
@@ -145,8 +144,7 @@ fn write_size(alloc: Global, bytes: &[u8], out: &mut String) -> Result<(), Alloc
     let Line::Packet(packet) = read_line(digits.as_bytes()) else {
         return out.push_str("none");
     };
-    let mut said = Vec::new(alloc);
-    packet.append_to(&mut said)?;
+    let said: Vec<u8> = packet.collect(alloc)?;
     let size = said.len();
     write!(out, "{size} bytes")?;
     if said.as_slice() != bytes {

@@ -20,7 +20,6 @@ mod in_place;
 mod kinds;
 mod made;
 mod packets;
-mod report;
 mod rows;
 mod sack;
 mod values;

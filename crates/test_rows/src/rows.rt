@@ -2,8 +2,7 @@
 
 use crate::bytes::add_words;
 use crate::{
-    buffers, built, captures, checksums, frames, hostile, in_place, kinds, made, packets, report,
-    sack,
+    buffers, built, captures, checksums, frames, hostile, in_place, kinds, made, packets, sack,
 };
 use std::alloc::{AllocError, Global};
 
@@ -25,7 +24,6 @@ fn write_answer(
         || sack::write_answer(alloc, call, (bytes, other), out)?
         || in_place::write_answer(alloc, call, (bytes, other), out)?
         || made::write_answer(alloc, call, bytes, out)?
-        || report::write_answer(alloc, call, bytes, out)?
         || hostile::write_answer(alloc, call, (bytes, other), out)?
         || buffers::write_answer(alloc, call, bytes, out)?
         || captures::write_answer(alloc, call, bytes, out)?
