@@ -3,7 +3,7 @@
 # goes to the folder $out.
 
 export PYTHONDONTWRITEBYTECODE=1
-archives='crates/probes/out/libprobes.a crates/strict_probes/out/libstrict_probes.a'
+archives='crates/bench_probes/out/libbench_probes.a crates/dcsctp_c/out/libdcsctp_c.a'
 
 give_up() {
     echo "${0##*/}: $1" >&2
@@ -16,11 +16,11 @@ build_program() {
     shift
     mkdir -p "$out"
     echo 'building the library: minutes the first time, since it is proved first' >&2
-    for crate in probes strict_probes; do
+    for crate in bench_probes dcsctp_c; do
         (cd "crates/$crate" && rt lib) >"$out/library.log" 2>&1 || { tail -n 5 "$out/library.log" >&2; give_up "no $crate"; }
     done
     # shellcheck disable=SC2086 # a list of paths without blanks
-    gcc -O2 -Wall -Wextra -o "$out/$program" "bench/$program.c" $archives "$(dirname "$(rt doc)")/c/liblibc_c.a" "$@"
+    gcc -O2 -Wall -Wextra -Iinclude -o "$out/$program" "bench/$program.c" $archives "$(dirname "$(rt doc)")/c/liblibc_c.a" "$@"
 }
 
 # The driver counts the library's requests for memory.

@@ -1,6 +1,6 @@
 /* SPDX-License-Identifier: Apache-2.0 */
-/* Times the calls of crates/probes over traffic files, and counts their requests for memory. Those of
-   crates/strict_probes can be counted alone.
+/* Times the calls of crates/bench_probes over traffic files, and counts their requests for memory. Those of the C library can
+   be counted alone.
 
    usage: driver ROUNDS MILLIS FILE..
           driver --count CALL FILE
@@ -19,6 +19,8 @@
 #include <string.h>
 #include <time.h>
 
+#include "dcsctp.h"
+
 /* A slice is a pointer and a length; the allocator takes no place. */
 extern size_t probes_check(const unsigned char *bytes, size_t length);
 extern uint64_t probes_walk(const unsigned char *bytes, size_t length);
@@ -27,7 +29,6 @@ extern size_t probes_read_and_write(const unsigned char *bytes, size_t length);
 extern size_t probes_write_over(const unsigned char *bytes, size_t length, unsigned char *output, size_t room);
 extern size_t probes_build(const unsigned char *bytes, size_t length);
 extern size_t probes_clean(const unsigned char *bytes, size_t length);
-extern size_t strict_probes_check(const unsigned char *bytes, size_t length, bool strict);
 
 static unsigned char output[1 << 16];
 
@@ -36,14 +37,22 @@ static size_t write_over(const unsigned char *bytes, size_t length)
     return probes_write_over(bytes, length, output, sizeof output);
 }
 
+/* A check whose policy the compiler doesn't know. */
+static size_t check(const unsigned char *bytes, size_t length, bool strict)
+{
+    const struct dcsctp_policy policy = {.any_checksum = true, .strict_padding = strict};
+
+    return dcsctp_check(bytes, length, 0, &policy) == DCSCTP_OK;
+}
+
 static size_t check_lenient(const unsigned char *bytes, size_t length)
 {
-    return strict_probes_check(bytes, length, false);
+    return check(bytes, length, false);
 }
 
 static size_t check_strict(const unsigned char *bytes, size_t length)
 {
-    return strict_probes_check(bytes, length, true);
+    return check(bytes, length, true);
 }
 
 /* Those that are timed, and then those that are only counted. */

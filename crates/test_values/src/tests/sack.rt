@@ -1,6 +1,6 @@
 //! The gap ack blocks of a SACK: its sizes, and the cleaning of thousands of them.
 
-use crate::help::size_of;
+use crate::tests::help::size_of;
 use dcsctp_wire::packet::chunk_validators::{clean_sack, validate_sack};
 use dcsctp_wire::packet::sack_chunk::{GapAckBlock, SackChunk};
 use dcsctp_wire::types::{SerialNumber, Tsn};

@@ -1,6 +1,6 @@
 //! Builders: no room in memory, the switch, and a chunk with a field that it doesn't carry.
 
-use crate::help::{chunk_of, raw_of};
+use crate::tests::help::{chunk_of, raw_of};
 use dcsctp_wire::packet::ChunkParseError;
 use dcsctp_wire::packet::chunk::Chunk;
 use dcsctp_wire::packet::data_chunk::DataChunk;

@@ -1,6 +1,6 @@
 //! A packet without chunks, a packet in whose bytes a number was written, and errors of errors.
 
-use crate::help::{HEADER, PACKET};
+use crate::tests::help::{HEADER, PACKET};
 use dcsctp_borrowed::in_place::{set_checksum_word, set_verification_tag};
 use dcsctp_wire::laws;
 use dcsctp_wire::packet::ChunkParseError::{InvalidLength, InvalidValue};

@@ -1,6 +1,6 @@
 //! The largest chunks that can be written, of 65,535 bytes; and streams of the other kind.
 
-use crate::help::size_of;
+use crate::tests::help::size_of;
 use dcsctp_wire::api::StreamId;
 use dcsctp_wire::packet::abort_chunk::AbortChunk;
 use dcsctp_wire::packet::chunk::Chunk;

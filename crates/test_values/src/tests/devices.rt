@@ -1,8 +1,8 @@
 //! What is known of devices that fail.
 
-use std::io::{Read, Write};
 use dump_io::faulty::{Fault, INTERRUPTED, Plan, Sink, Source, fails, steps};
 use dump_io::watched::Watched;
+use std::io::{Read, Write};
 
 /// What each of three reads gives of three bytes, the second of which fails, and whether the device
 /// has failed by then.

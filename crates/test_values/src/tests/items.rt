@@ -3,7 +3,7 @@
 ghost use Rattle.std.specs.Int.{w32, to_be_bytes};
 ghost use Rattle.dcsctp_tlv.specs.UnknownParameter as unknown;
 
-use crate::help::size_of;
+use crate::tests::help::size_of;
 use dcsctp_tlv::frame::put_parameter;
 use dcsctp_tlv::widths::are_bytes;
 use dcsctp_wire::api::StreamId;

@@ -3,9 +3,6 @@
 
 ghost use Rattle.std.specs.Prelude.{◌≤◌, length};
 
-use crate::association::{PACKETS, REFUSED};
-use crate::help::{chunk_of, raw_of};
-use dcsctp_crc32c::packet_word;
 use crate::acknowledge::acknowledgment_with_data;
 use crate::answer::answer;
 use crate::handshake::init_answer;
@@ -14,6 +11,9 @@ use crate::normal::normalized;
 use crate::print::packet_to_text;
 use crate::replay::fingerprint;
 use crate::sealed::{read_verified, seal};
+use crate::tests::association::{PACKETS, REFUSED};
+use crate::tests::help::{chunk_of, raw_of};
+use dcsctp_crc32c::packet_word;
 use dcsctp_wire::packet::ChunkParseError;
 use dcsctp_wire::packet::data_chunk::DataChunk;
 use dcsctp_wire::packet::init_ack_chunk::InitAckChunk;
