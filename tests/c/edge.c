@@ -141,6 +141,36 @@ static void captured_lists(void)
     CHECK(init.outbound_streams == 4 && init.inbound_streams == 5);
 }
 
+/* One call: the header, and a row for each chunk, of which three have room here. */
+static void captured_rows(void)
+{
+    struct dcsctp_row rows[4] = {[3] = {.tsn = 7}};
+    struct dcsctp_packet read = {.chunk_count = 7, .fault_offset = 7};
+    CHECK(dcsctp_read(hello, HELLO, HELLO_WORD, &exact, rows, 1, &read) == DCSCTP_OK);
+    CHECK(read.header.source_port == 5000 && read.header.destination_port == 5000 && read.header.verification_tag == 229062552);
+    CHECK(read.header.checksum == HELLO_WORD && read.chunk_count == 1 && read.fault_offset == HELLO);
+    CHECK(rows[0].chunk.type == DCSCTP_CHUNK_DATA && rows[0].chunk.flags == 3 && rows[0].chunk.next == HELLO);
+    CHECK(rows[0].tsn == 2030482608 && rows[0].ppid == 51 && rows[0].stream == 1 && rows[0].ssn == 0 && rows[0].mid == 0);
+    CHECK(rows[0].is_beginning && rows[0].is_end && !rows[0].is_unordered && !rows[0].immediate_ack);
+    CHECK(rows[0].rest_offset == 28 && rows[0].rest_size == 5 && rows[0].count == 0 && rows[0].a_rwnd == 0);
+
+    CHECK(dcsctp_read(packet, LENGTH, 0, &exact, rows, 3, &read) == DCSCTP_OK && read.chunk_count == 3 && rows[3].tsn == 7);
+    CHECK(rows[0].chunk.type == DCSCTP_CHUNK_SACK && rows[0].tsn == 916312075 && rows[0].a_rwnd == 126323);
+    CHECK(rows[0].count == 2 && rows[0].duplicate_count == 1 && rows[0].rest_offset == 28 && rows[0].rest_size == 12);
+    CHECK(rows[1].chunk.type == DCSCTP_CHUNK_I_DATA && rows[1].tsn == 0x944a5dd5 && rows[1].mid == 7 && rows[1].ppid == 53);
+    CHECK(rows[1].stream == 1 && rows[1].is_beginning && !rows[1].is_end && rows[1].rest_offset == 60 && rows[1].rest_size == 1);
+    CHECK(rows[2].chunk.type == DCSCTP_CHUNK_HEARTBEAT && rows[2].rest_offset == rows[2].chunk.value_offset && rows[2].tsn == 0);
+    CHECK(rows[2].rest_size == rows[2].chunk.value_size && rows[2].chunk.next == LENGTH);
+
+    /* two have room, or none; and a fault leaves all but its offset */
+    rows[2].tsn = 7;
+    CHECK(dcsctp_read(packet, LENGTH, 0, &exact, rows, 2, &read) == DCSCTP_OK && read.chunk_count == 3 && rows[2].tsn == 7);
+    CHECK(dcsctp_read(packet, LENGTH, 0, &exact, NULL, 0, &read) == DCSCTP_OK && read.chunk_count == 3);
+    rows[0].tsn = 7, read.header.checksum = 7;
+    CHECK(dcsctp_read(packet, LENGTH, 1, &exact, rows, 4, &read) == DCSCTP_FAULT_CHECKSUM && read.chunk_count == 0);
+    CHECK(read.fault_offset == 8 && read.header.checksum == 7 && rows[0].tsn == 7);
+}
+
 /* A COOKIE ACK under a wrong tag and without a checksum is given both. */
 static void captured_in_place(void)
 {
@@ -1104,6 +1134,7 @@ int main(void)
 {
     captured_data();
     captured_lists();
+    captured_rows();
     captured_in_place();
     captured_faults();
     places();

@@ -590,13 +590,95 @@ static void try_walk(const uint8_t *bytes, size_t length)
     }
 }
 
-typedef uint32_t writer(const uint8_t *, size_t, uint32_t, const struct dcsctp_policy *, uint8_t *, size_t, size_t *);
-
 /* Whether all are the byte that outputs are filled with: the first is, and each other is as the one before it. */
 static bool is_filled(const uint8_t *bytes, size_t size)
 {
     return size == 0 || (bytes[0] == 0xa5 && !memcmp(bytes, bytes + 1, size - 1));
 }
+
+/* The row of a chunk, of what the functions for its type write. */
+static struct dcsctp_row wanted_row(const uint8_t *bytes, size_t length, size_t offset)
+{
+    struct dcsctp_row row = {0};
+    struct dcsctp_data data;
+    struct dcsctp_sack sack;
+    struct dcsctp_init init;
+    struct dcsctp_forward_tsn forward;
+    size_t numbers = 0;
+    REQUIRE(dcsctp_chunk_at(bytes, length, offset, &row.chunk));
+    if (dcsctp_data(bytes, length, &row.chunk, &data)) {
+        numbers = row.chunk.type == DCSCTP_CHUNK_DATA ? 12 : 16;
+        row.tsn = data.tsn, row.mid = data.mid, row.fsn = data.fsn, row.ppid = data.ppid, row.stream = data.stream, row.ssn = data.ssn;
+        row.is_unordered = data.is_unordered, row.is_beginning = data.is_beginning, row.is_end = data.is_end;
+        row.immediate_ack = data.immediate_ack;
+    } else if (dcsctp_sack(bytes, length, &row.chunk, &sack)) {
+        numbers = 12;
+        row.tsn = sack.cumulative_tsn_ack, row.a_rwnd = sack.a_rwnd;
+        row.count = sack.block_count, row.duplicate_count = sack.duplicate_count;
+    } else if (dcsctp_init(bytes, length, &row.chunk, &init)) {
+        numbers = 16;
+        row.tsn = init.initial_tsn, row.a_rwnd = init.a_rwnd, row.initiate_tag = init.initiate_tag;
+        row.outbound_streams = init.outbound_streams, row.inbound_streams = init.inbound_streams;
+    } else if (dcsctp_forward_tsn(bytes, length, &row.chunk, &forward)) {
+        numbers = 4;
+        row.tsn = forward.new_cumulative_tsn, row.count = forward.stream_count;
+    } else if (dcsctp_shutdown(bytes, length, &row.chunk, &row.tsn)) {
+        numbers = 4;
+    }
+    row.rest_offset = row.chunk.value_offset + numbers;
+    row.rest_size = row.chunk.value_size - numbers;
+    return row;
+}
+
+static bool is_row(const struct dcsctp_row *row, const struct dcsctp_row *other)
+{
+    return row->chunk.type == other->chunk.type && row->chunk.flags == other->chunk.flags
+        && row->chunk.value_offset == other->chunk.value_offset && row->chunk.value_size == other->chunk.value_size
+        && row->chunk.next == other->chunk.next && row->rest_offset == other->rest_offset && row->rest_size == other->rest_size
+        && row->count == other->count && row->duplicate_count == other->duplicate_count && row->tsn == other->tsn
+        && row->a_rwnd == other->a_rwnd && row->initiate_tag == other->initiate_tag && row->mid == other->mid && row->fsn == other->fsn
+        && row->ppid == other->ppid && row->stream == other->stream && row->ssn == other->ssn
+        && row->outbound_streams == other->outbound_streams && row->inbound_streams == other->inbound_streams
+        && row->is_unordered == other->is_unordered && row->is_beginning == other->is_beginning && row->is_end == other->is_end
+        && row->immediate_ack == other->immediate_ack;
+}
+
+/* Reads to rows that are more than enough, just enough, one too few, and none. */
+static void try_rows(const uint8_t *bytes, size_t length, uint32_t word, enum placing placing)
+{
+    const struct dcsctp_policy *policy = &policies[below(POLICIES)];
+    size_t offset, chunks = 0;
+    uint32_t code = dcsctp_first_fault(bytes, length, word, policy, &offset);
+    struct dcsctp_chunk chunk;
+    for (size_t at = DCSCTP_FIRST_CHUNK; code == DCSCTP_OK && dcsctp_chunk_at(bytes, length, at, &chunk); at = chunk.next)
+        chunks++;
+    const size_t rooms[] = {chunks + 1 + below(3), chunks, chunks - (chunks > 0), 0};
+    for (size_t i = 0; i < 4; i++) {
+        size_t size = rooms[i] * sizeof(struct dcsctp_row), rows = chunks < rooms[i] ? chunks : rooms[i];
+        /* (pages end and begin where a row may) */
+        struct block block = block_of(&output_pages, size, placing);
+        struct dcsctp_packet packet = {{77, 77, 77, 77}, 77, 77, 77};
+        memset(block.bytes, 0xa5, size);
+        REQUIRE(dcsctp_read(bytes, length, word, policy, (struct dcsctp_row *)(void *)block.bytes, rooms[i], &packet) == code);
+        REQUIRE(packet.code == code && packet.chunk_count == chunks && packet.fault_offset == offset);
+        if (code == DCSCTP_OK)
+            REQUIRE(packet.header.source_port == u16(bytes) && packet.header.destination_port == u16(bytes + 2)
+                    && packet.header.verification_tag == u32(bytes + 4) && packet.header.checksum == u32(bytes + 8));
+        else
+            REQUIRE(packet.header.source_port == 77 && packet.header.checksum == 77);
+        size_t at = DCSCTP_FIRST_CHUNK;
+        for (size_t k = 0; k < rows; k++) {
+            struct dcsctp_row row, wanted = wanted_row(bytes, length, at);
+            memcpy(&row, block.bytes + k * sizeof row, sizeof row);
+            REQUIRE(is_row(&row, &wanted));
+            at = row.chunk.next;
+        }
+        REQUIRE(is_filled(block.bytes + rows * sizeof(struct dcsctp_row), size - rows * sizeof(struct dcsctp_row)));
+        release(block);
+    }
+}
+
+typedef uint32_t writer(const uint8_t *, size_t, uint32_t, const struct dcsctp_policy *, uint8_t *, size_t, size_t *);
 
 /* Writes to outputs that are large enough, one byte too small, and empty. The block is empty unless the call succeeds. */
 static struct block written(writer *write, const uint8_t *bytes, size_t length, uint32_t word,
@@ -738,6 +820,7 @@ static void try_bytes(const uint8_t *bytes, size_t length, enum placing placing)
     uint32_t word = dcsctp_word(input.bytes, length);
     REQUIRE(word == reference_word(bytes, length));
     try_check(input.bytes, length, word);
+    try_rows(input.bytes, length, word, placing);
     try_walk(input.bytes, length);
     try_outputs(input.bytes, length, below(4) ? word : (uint32_t)draw(), placing);
     try_in_place(input.bytes, length, placing);

@@ -2,4 +2,6 @@ pub mod AnswerCodes
 pub mod Places
 pub mod InitRows
 pub mod NumberRows
+pub mod Rows
+pub mod Walks
 pub mod Writings

@@ -13,6 +13,7 @@ mod packet;
 mod parameters;
 mod parts;
 mod re_config;
+mod read;
 mod structs;
 mod version;
 mod writing;

@@ -17,7 +17,7 @@ use std::fmt;
 use std::fmt::Write as _;
 
 /// Returns the library's policy.
-fn checksum_policy(policy: &DcsctpPolicy) -> ChecksumPolicy
+pub(crate) fn checksum_policy(policy: &DcsctpPolicy) -> ChecksumPolicy
     ensures { result ≡ policy_of policy.now }
 {
     ChecksumPolicy {

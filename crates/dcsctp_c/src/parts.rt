@@ -1,12 +1,12 @@
 //! The parts of a packet: the common header, the chunks, and what those hold that have no list of
 //! parameters or error causes, and INIT before its list.
 
-ghost use Rattle.std.specs.Prelude.{◌≡◌, ◌↔◌, ◌≤◌, ℕ, Ok, IsTrue, IfSome, option_map, false, length, take, drop};
-ghost use Rattle.dcsctp_tlv.specs.Frame.{BeginsWithFrame};
+ghost use Rattle.std.specs.Prelude.{◌≡◌, ◌↔◌, ◌≤◌, ◌<◌, ◌+◌, ◌^◌, ℕ, List, Ok, Some, IsTrue, IfSome, option_map, false, length, take, drop};
+ghost use Rattle.dcsctp_tlv.specs.Frame.{BeginsWithFrame, frame_value, frame_rest};
 ghost use Rattle.dcsctp_chunk.specs.{Cover.{IsCleaned, CleanedLaws, AreValid}, SkippedStreams.{skipped_stream_view}};
 ghost use Rattle.dcsctp_wire.specs.{Chunk.{ChunkTree}, Packet.{PacketTree, Answer}, declared.packet.sctp_packet.ChecksumPolicy.{ChecksumPolicy}};
 ghost use Rattle.dcsctp_borrowed.specs.{Sack.{sack_of}, SkippedStreams.{forward_of}, UserData.{data_of}};
-ghost use Rattle.dcsctp_c.specs.Part.{ReadsInto, Reads, header_at, HoldsHeader, IsHeaderOf, value_at, ChunkMeans, IsChunkAt, data_at, HoldsData, sack_at, HoldsSack, block_at, duplicate_at, Holds, IsValidSack, init_of, init_at, HoldsInit, part_at, read_number, shutdown_of, shutdown_at, forward_at, HoldsForward, skipped_at, HoldsSkipped};
+ghost use Rattle.dcsctp_c.specs.Part.{ReadsInto, Reads, header_at, HoldsHeader, IsHeaderOf, value_at, ChunkMeans, IsChunkAt, data_at, HoldsData, sack_at, HoldsSack, block_at, duplicate_at, Holds, IsValidSack, init_of, read_init, init_at, HoldsInit, part_at, read_number, shutdown_of, read_shutdown, shutdown_at, forward_at, HoldsForward, skipped_at, HoldsSkipped};
 
 use crate::structs::{
     DcsctpChunk, DcsctpData, DcsctpForwardTsn, DcsctpHeader, DcsctpInit, DcsctpSack,
@@ -29,7 +29,7 @@ use dcsctp_wire::packet::{
 pub(crate) const INIT_SIZE: usize = 16;
 
 /// Bytes of a value that is one number.
-const NUMBER_SIZE: usize = 4;
+pub(crate) const NUMBER_SIZE: usize = 4;
 
 /// Reads the common header (RFC 9260 section 3.1). Returns false, and `header` stays, for fewer
 /// than 12 bytes.
@@ -69,13 +69,7 @@ pub extern "C" fn dcsctp_chunk_at(bytes: &[u8], offset: usize, chunk: &mut Dcsct
     let Ok((value, rest)) = split_frame(from) else {
         return false;
     };
-    *chunk = DcsctpChunk {
-        typ: from[0],
-        flags: from[1],
-        value_offset: offset + TLV_HEADER_SIZE,
-        value_size: value.len(),
-        next: bytes.len() - rest.len(),
-    };
+    *chunk = framed_chunk(bytes, offset, value, rest);
     true
 }
 
@@ -112,12 +106,7 @@ pub extern "C" fn dcsctp_sack(bytes: &[u8], chunk: &DcsctpChunk, sack: &mut Dcsc
     let Some(found) = sack_ref(bytes, chunk) else {
         return false;
     };
-    *sack = DcsctpSack {
-        cumulative_tsn_ack: found.cumulative_tsn_ack().0,
-        a_rwnd: found.a_rwnd(),
-        block_count: found.gap_ack_block_count(),
-        duplicate_count: found.duplicate_tsn_count(),
-    };
+    *sack = sack_struct(&found);
     true
 }
 
@@ -258,10 +247,7 @@ pub extern "C" fn dcsctp_forward_tsn(
     let Some(found) = forward_ref(bytes, chunk) else {
         return false;
     };
-    *forward_tsn = DcsctpForwardTsn {
-        new_cumulative_tsn: found.new_cumulative_tsn().0,
-        stream_count: found.skipped_stream_count(),
-    };
+    *forward_tsn = forward_struct(&found);
     true
 }
 
@@ -291,6 +277,26 @@ pub extern "C" fn dcsctp_skipped_stream(
 
 // ---- helpers
 
+/// Returns the chunk at an offset, with this value, and this rest after it.
+#[inline(always)]
+pub(crate) fn framed_chunk(bytes: &[u8], offset: usize, value: &[u8], rest: &[u8]) -> DcsctpChunk
+    requires frame { BeginsWithFrame (drop offset bytes.now) }
+    requires value { value.now ≡ frame_value (drop offset bytes.now) }
+    requires rest { rest.now ≡ frame_rest (drop offset bytes.now) }
+    ensures chunk { IsChunkAt bytes.now offset result }
+    ensures size { result.value_size ≡ length value.now }
+    ensures within { result.value_offset + length value.now ≤ length bytes.now }
+{
+    let (_, from) = bytes.split_at(offset);
+    DcsctpChunk {
+        typ: from[0],
+        flags: from[1],
+        value_offset: offset + TLV_HEADER_SIZE,
+        value_size: value.len(),
+        next: bytes.len() - rest.len(),
+    }
+}
+
 /// Returns a part of the bytes, if all of it lies within them.
 #[inline(always)]
 pub(crate) fn part_at(bytes: &[u8], offset: usize, size: usize) -> Option<&[u8]>
@@ -318,7 +324,16 @@ pub(crate) fn value_of<'a>(bytes: &'a [u8], chunk: &DcsctpChunk) -> Option<&'a [
 fn read_data(bytes: &[u8], chunk: &DcsctpChunk) -> Option<DcsctpData>
     ensures { Reads (HoldsData bytes.now chunk.now) (data_at bytes.now chunk.now) result }
 {
-    let value = value_of(bytes, chunk)?;
+    data_in(chunk, value_of(bytes, chunk)?)
+}
+
+/// Reads the user data of a chunk with this value, and where its payload is.
+#[inline(always)]
+pub(crate) fn data_in(chunk: &DcsctpChunk, value: &[u8]) -> Option<DcsctpData>
+    requires { chunk.now.value_offset + length value.now < 2 ^ 64 }
+    ensures { (bytes : List ℕ) → value_at bytes chunk.now ≡ Some value.now
+        → Reads (HoldsData bytes chunk.now) (data_at bytes chunk.now) result }
+{
     let raw = RawChunk {
         typ: chunk.typ,
         flags: chunk.flags,
@@ -356,6 +371,19 @@ fn sack_ref<'a>(bytes: &'a [u8], chunk: &DcsctpChunk) -> Option<SackRef<'a>>
     })
 }
 
+/// Returns its numbers as their struct.
+#[inline(always)]
+pub(crate) fn sack_struct(found: &SackRef<'_>) -> DcsctpSack
+    ensures { HoldsSack found.now result }
+{
+    DcsctpSack {
+        cumulative_tsn_ack: found.cumulative_tsn_ack().0,
+        a_rwnd: found.a_rwnd(),
+        block_count: found.gap_ack_block_count(),
+        duplicate_count: found.duplicate_tsn_count(),
+    }
+}
+
 /// Reads the gap ack block.
 #[inline(always)]
 fn read_block(bytes: &[u8], chunk: &DcsctpChunk, index: usize) -> Option<GapAckBlock>
@@ -389,8 +417,15 @@ fn read_duplicate(bytes: &[u8], chunk: &DcsctpChunk, index: usize) -> Option<u32
 fn read_init(bytes: &[u8], chunk: &DcsctpChunk) -> Option<DcsctpInit>
     ensures { Reads HoldsInit (init_at bytes.now chunk.now) result }
 {
-    let value = value_of(bytes, chunk)?;
-    if chunk.typ != init_chunk::CHUNK_TYPE && chunk.typ != init_ack_chunk::CHUNK_TYPE {
+    init_in(chunk.typ, value_of(bytes, chunk)?)
+}
+
+/// Reads the same of a chunk of this type with this value.
+#[inline(always)]
+pub(crate) fn init_in(typ: u8, value: &[u8]) -> Option<DcsctpInit>
+    ensures { Reads HoldsInit (read_init typ value.now) result }
+{
+    if typ != init_chunk::CHUNK_TYPE && typ != init_ack_chunk::CHUNK_TYPE {
         return None;
     }
     if value.len() < INIT_SIZE {
@@ -412,8 +447,16 @@ fn read_shutdown(bytes: &[u8], chunk: &DcsctpChunk) -> Option<u32>
     ensures means { (tree : ChunkTree) → ChunkMeans bytes.now chunk.now tree
         → shutdown_at bytes.now chunk.now ≡ shutdown_of tree }
 {
-    match chunk.typ {
-        shutdown_chunk::CHUNK_TYPE => read_number(value_of(bytes, chunk)?),
+    shutdown_in(chunk.typ, value_of(bytes, chunk)?)
+}
+
+/// Reads the same of a chunk of this type with this value.
+#[inline(always)]
+pub(crate) fn shutdown_in(typ: u8, value: &[u8]) -> Option<u32>
+    ensures { result ≡ read_shutdown typ value.now }
+{
+    match typ {
+        shutdown_chunk::CHUNK_TYPE => read_number(value),
         _ => None,
     }
 }
@@ -442,6 +485,17 @@ fn forward_ref<'a>(bytes: &'a [u8], chunk: &DcsctpChunk) -> Option<ForwardTsnRef
         flags: chunk.flags,
         value,
     })
+}
+
+/// Returns its numbers as their struct.
+#[inline(always)]
+pub(crate) fn forward_struct(found: &ForwardTsnRef<'_>) -> DcsctpForwardTsn
+    ensures { HoldsForward found.now result }
+{
+    DcsctpForwardTsn {
+        new_cumulative_tsn: found.new_cumulative_tsn().0,
+        stream_count: found.skipped_stream_count(),
+    }
 }
 
 /// Reads the skipped stream.

@@ -168,3 +168,64 @@ pub struct DcsctpReConfig {
     /// The number of streams of an Outgoing or Incoming SSN Reset; writing ignores it.
     pub stream_count: usize,
 }
+
+/// A chunk in a packet that was read: what `dcsctp_chunk_at` writes of it, and the numbers that the
+/// call for its kind writes. What the kind does not carry is 0.
+#[repr(C)]
+#[derive(Clone, Copy)]
+pub struct DcsctpRow {
+    /// The chunk, as the calls for its kind and for its lists take it.
+    pub chunk: DcsctpChunk,
+    /// The offset of what follows the numbers in the value: the payload, the gap ack blocks and
+    /// then the duplicate TSNs, the skipped streams, the parameters or the error causes.
+    pub rest_offset: usize,
+    /// Its size in bytes, up to the end of the value.
+    pub rest_size: usize,
+    /// The number of gap ack blocks of SACK; that of skipped streams of FORWARD-TSN, I-FORWARD-TSN.
+    pub count: usize,
+    /// The number of duplicate TSNs of SACK.
+    pub duplicate_count: usize,
+    /// The TSN of DATA, I-DATA; the cumulative one of SACK, SHUTDOWN, FORWARD-TSN, I-FORWARD-TSN;
+    /// the initial one of INIT, INIT ACK.
+    pub tsn: u32,
+    /// The bytes that the sender has room for, of SACK, INIT, INIT ACK.
+    pub a_rwnd: u32,
+    /// The tag that the peer has to send, of INIT, INIT ACK.
+    pub initiate_tag: u32,
+    /// The message id of I-DATA.
+    pub mid: u32,
+    /// The fragment sequence number of I-DATA; 0 at the beginning of a message.
+    pub fsn: u32,
+    /// The payload protocol id of DATA, and of I-DATA at the beginning of a message.
+    pub ppid: u32,
+    /// The stream id of DATA, I-DATA.
+    pub stream: u16,
+    /// The stream sequence number of DATA.
+    pub ssn: u16,
+    /// The number of streams to the receiver, of INIT, INIT ACK.
+    pub outbound_streams: u16,
+    /// The most streams from the receiver, of INIT, INIT ACK.
+    pub inbound_streams: u16,
+    /// The U bit of DATA, I-DATA.
+    pub is_unordered: bool,
+    /// The B bit of DATA, I-DATA.
+    pub is_beginning: bool,
+    /// The E bit of DATA, I-DATA.
+    pub is_end: bool,
+    /// The I bit of DATA, I-DATA (RFC 7053).
+    pub immediate_ack: bool,
+}
+
+/// A packet that was read, without its rows.
+#[repr(C)]
+#[derive(Clone, Copy)]
+pub struct DcsctpPacket {
+    /// The common header.
+    pub header: DcsctpHeader,
+    /// What the call returned: 0, or the code of the first fault.
+    pub code: u32,
+    /// The number of chunks; 0 where the bytes are no packet.
+    pub chunk_count: usize,
+    /// The offset of the first fault; the number of bytes where there is none.
+    pub fault_offset: usize,
+}

@@ -1,0 +1,249 @@
+//! A packet in one call: checked, and a row written for each of its chunks.
+
+ghost use Rattle.std.specs.Prelude.{◌≡◌, ◌≢◌, ◌≤◌, ◌<◌, ◌+◌, ◌^◌, ℕ, List, Some, length, take, drop, slice_set};
+ghost use Rattle.dcsctp_tlv.specs.{Frame.{lenient}, Level.{MeansTrees, MeansSome}};
+ghost use Rattle.dcsctp_wire.specs.{Chunk.{ChunkTree, chunks}, Packet.{body}};
+ghost use Rattle.dcsctp_c.specs.{Code.{policy_of}, Part.{value_at, IsChunkAt}, Row.{row_after, data_row, sack_row, init_row, forward_row, shutdown_row, IsRow, AreRows, MeanChunks, IsReading}};
+
+use crate::codes::{OK, code_of};
+use crate::packet::checksum_policy;
+use crate::parts::{
+    INIT_SIZE, NUMBER_SIZE, data_in, dcsctp_header, forward_struct, framed_chunk, init_in,
+    sack_struct, shutdown_in,
+};
+use crate::structs::{
+    DcsctpChunk, DcsctpData, DcsctpForwardTsn, DcsctpInit, DcsctpPacket, DcsctpPolicy, DcsctpRow,
+    DcsctpSack,
+};
+use dcsctp_borrowed::forward_tsn_ref::ForwardTsnRef;
+use dcsctp_borrowed::sack_ref::SackRef;
+use dcsctp_tlv::frame::frame_parts;
+use dcsctp_wire::packet::raw_chunk::RawChunk;
+use dcsctp_wire::packet::sctp_packet::{COMMON_HEADER_SIZE, SctpPacket};
+
+/// Bytes of a SACK's value before the gap ack blocks.
+const SACK_SIZE: usize = 12;
+
+/// Checks a packet, and writes its header, how many chunks it has, and a row for each chunk to the
+/// front of `rows`: as many as have room. Does not allocate.
+///
+/// Returns 0, or the code of the first fault, which is written too, with its offset. Then the
+/// number of chunks is 0, and header and rows stay. The rows after those of the packet stay too.
+#[unsafe(no_mangle)]
+pub extern "C" fn dcsctp_read(
+    bytes: &[u8],
+    word: u32,
+    policy: &DcsctpPolicy,
+    rows: &mut [DcsctpRow],
+    packet: &mut DcsctpPacket,
+) -> u32
+    ensures code { result ≡ packet.new.code }
+    ensures reading { IsReading bytes.now word (policy_of policy.now) packet.new rows.new }
+    ensures after { drop packet.new.chunk_count rows.new ≡ drop packet.new.chunk_count rows.old }
+    ensures faulty { result ≢ 0 → packet.new.header ≡ packet.old.header }
+{
+    match SctpPacket::first_fault(bytes, word, &checksum_policy(policy)) {
+        None => {
+            dcsctp_header(bytes, &mut packet.header);
+            packet.code = OK;
+            packet.chunk_count = write_rows(bytes, rows);
+            packet.fault_offset = bytes.len();
+            OK
+        }
+        Some(found) => {
+            let code = code_of(found.fault);
+            packet.code = code;
+            packet.chunk_count = 0;
+            packet.fault_offset = found.offset;
+            code
+        }
+    }
+}
+
+// ---- helpers
+
+/// Writes the rows of the chunks of a packet, as many as have room. Returns how many chunks there
+/// are.
+#[inline(always)]
+fn write_rows(bytes: &[u8], rows: &mut [DcsctpRow]) -> usize
+    requires size { 12 ≤ length bytes.now }
+    requires meant { MeansSome (chunks lenient) (body bytes.now) }
+    ensures rows { AreRows bytes.now (take result rows.new) }
+    ensures means { (trees : List ChunkTree) → MeansTrees (chunks lenient) (body bytes.now) trees
+        → (result ≡ length trees) × MeanChunks bytes.now (take result rows.new) trees }
+    ensures after { drop result rows.new ≡ drop result rows.old }
+{
+    let mut offset = COMMON_HEADER_SIZE;
+    let mut count = 0;
+    while offset < bytes.len() {
+        let row = row_at(bytes, offset);
+        offset = row.chunk.next;
+        put_item(rows, count, row);
+        count += 1;
+    }
+    count
+}
+
+/// Writes an item to its place in an array, if it has room.
+#[inline(always)]
+#[tactic(auto, using(std::proofs::lemmas::List::set_past))]
+pub(crate) fn put_item<T: Copy>(items: &mut [T], index: usize, item: T)
+    ensures { items.new ≡ slice_set items.old index item }
+{
+    if index < items.len() {
+        items[index] = item;
+    }
+}
+
+/// Returns the row of the chunk at an offset, which is known to be there.
+#[inline(always)]
+fn row_at(bytes: &[u8], offset: usize) -> DcsctpRow
+    requires within { offset < length bytes.now }
+    requires meant { MeansSome (chunks lenient) (drop offset bytes.now) }
+    ensures chunk { IsChunkAt bytes.now offset result.chunk }
+    ensures row { IsRow bytes.now result.chunk result }
+{
+    let (_, from) = bytes.split_at(offset);
+    let (value, rest) = frame_parts(from);
+    row_of(&framed_chunk(bytes, offset, value, rest), value)
+}
+
+/// Returns the row of a chunk with this value.
+#[inline(always)]
+fn row_of(chunk: &DcsctpChunk, value: &[u8]) -> DcsctpRow
+    requires size { chunk.now.value_size ≡ length value.now }
+    requires fits { chunk.now.value_offset + length value.now < 2 ^ 64 }
+    ensures chunk { result.chunk ≡ chunk.now }
+    ensures row { (bytes : List ℕ) → value_at bytes chunk.now ≡ Some value.now
+        → IsRow bytes chunk.now result }
+{
+    if let Some(found) = data_in(chunk, value) {
+        return data_row(chunk, &found);
+    }
+    let raw = RawChunk {
+        typ: chunk.typ,
+        flags: chunk.flags,
+        value,
+    };
+    if let Some(found) = SackRef::from_raw(&raw) {
+        return sack_row(chunk, &sack_struct(&found));
+    }
+    if let Some(found) = init_in(chunk.typ, value) {
+        return init_row(chunk, &found);
+    }
+    if let Some(found) = ForwardTsnRef::from_raw(&raw) {
+        return forward_row(chunk, &forward_struct(&found));
+    }
+    match shutdown_in(chunk.typ, value) {
+        Some(tsn) => shutdown_row(chunk, tsn),
+        None => row_after(0, chunk),
+    }
+}
+
+/// Returns the row of a chunk whose value begins with so many bytes of numbers, all of them 0.
+#[inline(always)]
+fn row_after(size: usize, chunk: &DcsctpChunk) -> DcsctpRow
+    requires { chunk.now.value_offset + chunk.now.value_size < 2 ^ 64 }
+    ensures { result ≡ row_after size chunk.now }
+{
+    DcsctpRow {
+        chunk: *chunk,
+        rest_offset: chunk.value_offset + size.min(chunk.value_size),
+        rest_size: chunk.value_size.saturating_sub(size),
+        count: 0,
+        duplicate_count: 0,
+        tsn: 0,
+        a_rwnd: 0,
+        initiate_tag: 0,
+        mid: 0,
+        fsn: 0,
+        ppid: 0,
+        stream: 0,
+        ssn: 0,
+        outbound_streams: 0,
+        inbound_streams: 0,
+        is_unordered: false,
+        is_beginning: false,
+        is_end: false,
+        immediate_ack: false,
+    }
+}
+
+/// Returns the row of DATA or I-DATA.
+#[inline(always)]
+fn data_row(chunk: &DcsctpChunk, found: &DcsctpData) -> DcsctpRow
+    requires { chunk.now.value_offset + chunk.now.value_size < 2 ^ 64 }
+    ensures { result ≡ data_row chunk.now found.now }
+{
+    DcsctpRow {
+        rest_offset: found.payload_offset,
+        rest_size: found.payload_size,
+        tsn: found.tsn,
+        mid: found.mid,
+        fsn: found.fsn,
+        ppid: found.ppid,
+        stream: found.stream,
+        ssn: found.ssn,
+        is_unordered: found.is_unordered,
+        is_beginning: found.is_beginning,
+        is_end: found.is_end,
+        immediate_ack: found.immediate_ack,
+        ..row_after(0, chunk)
+    }
+}
+
+/// Returns the row of a SACK.
+#[inline(always)]
+fn sack_row(chunk: &DcsctpChunk, found: &DcsctpSack) -> DcsctpRow
+    requires { chunk.now.value_offset + chunk.now.value_size < 2 ^ 64 }
+    ensures { result ≡ sack_row chunk.now found.now }
+{
+    DcsctpRow {
+        count: found.block_count,
+        duplicate_count: found.duplicate_count,
+        tsn: found.cumulative_tsn_ack,
+        a_rwnd: found.a_rwnd,
+        ..row_after(SACK_SIZE, chunk)
+    }
+}
+
+/// Returns the row of INIT or INIT ACK.
+#[inline(always)]
+fn init_row(chunk: &DcsctpChunk, found: &DcsctpInit) -> DcsctpRow
+    requires { chunk.now.value_offset + chunk.now.value_size < 2 ^ 64 }
+    ensures { result ≡ init_row chunk.now found.now }
+{
+    DcsctpRow {
+        tsn: found.initial_tsn,
+        a_rwnd: found.a_rwnd,
+        initiate_tag: found.initiate_tag,
+        outbound_streams: found.outbound_streams,
+        inbound_streams: found.inbound_streams,
+        ..row_after(INIT_SIZE, chunk)
+    }
+}
+
+/// Returns the row of FORWARD-TSN or I-FORWARD-TSN.
+#[inline(always)]
+fn forward_row(chunk: &DcsctpChunk, found: &DcsctpForwardTsn) -> DcsctpRow
+    requires { chunk.now.value_offset + chunk.now.value_size < 2 ^ 64 }
+    ensures { result ≡ forward_row chunk.now found.now }
+{
+    DcsctpRow {
+        count: found.stream_count,
+        tsn: found.new_cumulative_tsn,
+        ..row_after(NUMBER_SIZE, chunk)
+    }
+}
+
+/// Returns the row of SHUTDOWN.
+#[inline(always)]
+fn shutdown_row(chunk: &DcsctpChunk, tsn: u32) -> DcsctpRow
+    requires { chunk.now.value_offset + chunk.now.value_size < 2 ^ 64 }
+    ensures { result ≡ shutdown_row chunk.now tsn }
+{
+    DcsctpRow {
+        tsn,
+        ..row_after(NUMBER_SIZE, chunk)
+    }
+}
