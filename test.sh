@@ -6,29 +6,29 @@ set -u
 usage='usage: ./test.sh [library | --quick]
 
 Runs the gate: the files that have to agree are compared; `rt ci` proves everything, and runs each program and test; each
-request for memory of what it built is refused; sctp_dump is run with each option; the library that it proved is tried from C;
-the texts in dist/ are made anew, compared and tried; the commands of the pages are run; and so is the page for browsers. The
-last line is that of `rt ci`.
+request for memory of what it built is refused; sctp_show is run over its rows, and sctp_dump with each option; the library
+that it proved is tried from C; the texts in dist/ are made anew, compared and tried; the commands of the pages are run; and so is
+the page for browsers. Peers of WebRTC talk, and their packets are read. The last line is that of `rt ci`.
 
   library  what a user of the library depends on, alone: the gate without sctp_dump and the page. `rt ci` proves and tries the C
            library, sctp_show, the rows, the tests and the crates below them. It isn'\''t the gate, and its last line says so
   --quick  for who has changed a line: what runs without a proof, within three minutes on four processors. That is the
-           comparisons, and each program over its stored input by `rt try`; of wire_rows all rows but those whose packets
+           comparisons, and each program over its stored input by `rt try`; of test_rows all rows but those whose packets
            are very large, or changed byte by byte. The toolchain keeps no unproved program, and makes no unproved library
-           for C. So requests are refused, sctp_dump is run with its options, and C is tried, only where what was proved
-           and built is as new as the sources. The last line says what passed, failed and was left out, and that nothing
-           was proved
+           for C. So requests are refused, sctp_show is run over its rows, sctp_dump with its options, and C is tried, only
+           where what was proved and built is as new as the sources. The last line says what passed, failed and was left
+           out, and that nothing was proved
   --help   prints this
 
-Without the toolchain rt each of them runs what needs none: the comparisons, the texts in dist/ in each language
-that is installed, among them sctp_dump with each option, the C tests over the text, the commands of the pages, and the page.
-It names what it leaves out. Where a text is older than its sources, and a step over the texts fails, the failure
-is printed, but not counted. The last line says that nothing was proved, and ends in N passed, M failed'
+Without the toolchain rt it runs what needs none, with and without --quick: the comparisons, the texts in dist/ in each language
+that is installed, among them sctp_show over its rows and sctp_dump with each option, the C tests over the text, the commands of
+the pages, the page, and peers. It names what it leaves out. Where a text is older than its sources, and a step over the texts fails, the
+failure is printed, but not counted. The last line says that nothing was proved, and ends in N passed, M failed'
 
 quick= library= crates=() modules=()
 case $#:${1:-} in
     0:) ;;
-    1:library) library=yes crates=(dcsctp_c sctp_show wire_rows value_tests) modules=(dcsctp sctp_show) ;;
+    1:library) library=yes crates=(dcsctp_c sctp_show test_rows test_values) modules=(dcsctp sctp_show) ;;
     1:--quick) quick=yes ;;
     1:--help) echo "$usage" && exit ;;
     *) echo "$usage" >&2 && exit 2 ;;
@@ -43,11 +43,16 @@ have_licenses() {
         '*.ts' '*.css' '*.html' '*/CMakeLists.txt' ':!crates' 2>/dev/null | grep .
 }
 
+# Names the wrong bodies of tools/plants.txt that no longer fit their files.
+plants_fit() {
+    tools/plant.py --list >"$work/plants" || { grep ': broken: ' "$work/plants" && false; }
+}
+
 compare() {
-    # The program looks at no answer in its table.
-    cmp crates/wire_rows/stdin crates/wire_rows/stdout && tools/captures.py --compare && tools/examples.py --compare &&
+    # The rows and their stored output are one text.
+    cmp crates/test_rows/stdin crates/test_rows/stdout && tools/captures.py --compare && tools/examples.py --compare &&
         tools/api.py --compare && tools/rules.py --compare && tools/links.py . && registry/make.py --compare && registry/test.py &&
-        registry/places.py --compare && registry/test_places.py && have_licenses
+        registry/places.py --compare && registry/test_places.py && have_licenses && plants_fit
 }
 
 # Whether the library and the program as WebAssembly are those of the modules.
@@ -61,7 +66,7 @@ compare_wasm() {
 
 # Whether the program prints the table of rows without their answers too: none of its answers is taken from the table.
 answers_rows_alone() {
-    sed '/^ /d; /^#/!s/ = .*//' crates/wire_rows/stdin | crates/wire_rows/out/wire_rows | cmp - crates/wire_rows/stdout
+    sed '/^ /d; /^#/!s/ = .*//' crates/test_rows/stdin | crates/test_rows/out/test_rows | cmp - crates/test_rows/stdout
 }
 
 # Runs what tries sctp_dump or the page, unless the library is tried alone.
@@ -76,10 +81,11 @@ run_gate() {
     rt ci "${crates[@]}" | awk -v last="$work/last" 'NR > 1 { print line; fflush() } { line = $0 } END { print line > last }'
     gate=${PIPESTATUS[0]}
     if [ "$gate" -eq 0 ]; then
-        tests/refusals/test.sh && answers_rows_alone && for_tool tests/dump/test.sh || exit 1
+        tests/refusals/test.sh && answers_rows_alone && tests/show/test.sh && for_tool tests/dump/test.sh || exit 1
         tools/take_libraries.py
         tests/c/test.sh && dist/make.py --jobs 4 --compare "${modules[@]}" && compare_wasm && dist/test.sh ${library:+--library} &&
-            tools/commands.py && tools/examples.py --try && for_tool page/test.sh || exit 1
+            tools/commands.py && tools/examples.py --try && for_tool page/test.sh &&
+            for_tool tests/peers/test.sh crates/sctp_dump/out/sctp_dump || exit 1
     fi
     cat "$work/last"
     exit "$gate"
@@ -98,7 +104,7 @@ try_program() {
     mkdir "$out"
     cd "crates/$1" || return
     for file in stdin stdout; do
-        if [ "$1" = wire_rows ]; then without_long_rows $file; elif [ -f $file ]; then cat $file; fi >"$out/$file"
+        if [ "$1" = test_rows ]; then without_long_rows $file; elif [ -f $file ]; then cat $file; fi >"$out/$file"
     done
     for file in data/*; do
         [ ! -f "$file" ] || data+=(--data "${file#data/}=$file")
@@ -172,10 +178,15 @@ run_quickly() {
         wait "${jobs[i]}"
         report "${programs[i]}" $?
     done
-    if are_built crates/wire_rows/out/wire_rows crates/sctp_show/out/sctp_show; then
+    if are_built crates/test_rows/out/test_rows crates/sctp_show/out/sctp_show; then
         step 'refused requests' tests/refusals/test.sh
     else
         leave_out 'refused requests' "$why"
+    fi
+    if are_built crates/sctp_show/out/sctp_show; then
+        step 'runs of sctp_show' tests/show/test.sh
+    else
+        leave_out 'runs of sctp_show' "$why"
     fi
     if are_built crates/sctp_dump/out/sctp_dump; then
         step 'runs of sctp_dump' tests/dump/test.sh
@@ -183,6 +194,7 @@ run_quickly() {
         leave_out 'runs of sctp_dump' "$why"
     fi
     if are_built crates/dcsctp_c/out/libdcsctp_c.a; then step C tests/c/test.sh 100000; else leave_out C "$why"; fi
+    step 'real peers' tests/peers/test.sh
     printf 'quick: %s passed, %s failed, %s left out; nothing was proved\n' "$passed" "$failed" "$left_out"
     [ "$failed" -eq 0 ]
 }
@@ -229,6 +241,7 @@ run_without_rt() {
     with "$cc x86-64 python3" 'commands of the pages' tools/commands.py
     for_tool with node 'scripts of the page' node page/tests/units.mjs
     for_tool with 'node python3' page page/test.sh
+    for_tool with "$cc x86-64 python3" 'real peers' tests/peers/test.sh
     [ -z "$texts" ] || { wait $texts; report 'texts of dist' $?; }
     for name in 'the proofs, and the rows and tests of the crates' 'refused requests' 'the code of CALLING.md' \
         'whether dist/ and the WebAssembly are what the sources give'; do

@@ -15,12 +15,13 @@ export class Browser {
   number = 0;
   problems = [];
 
-  static async start() {
+  /** Starts it, with further options. */
+  static async start(...more) {
     const it = new Browser();
     it.folder = mkdtempSync(join(tmpdir(), 'page-'));
     const words = ['--headless', '--no-sandbox', '--disable-gpu', '--hide-scrollbars', '--remote-debugging-pipe'];
     const stdio = ['ignore', 'ignore', 'ignore', 'pipe', 'pipe'];
-    it.child = spawn(PROGRAM, [...words, `--user-data-dir=${it.folder}`], { stdio });
+    it.child = spawn(PROGRAM, [...words, ...more, `--user-data-dir=${it.folder}`], { stdio });
     it.ended = new Promise(resolve => it.child.on('exit', resolve));
     let kept = '';
     it.child.stdio[4].setEncoding('utf8').on('data', part => {
