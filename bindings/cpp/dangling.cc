@@ -74,4 +74,6 @@ std::size_t list()
     const dcsctp::packet it({1, 2, 3});
     return it.size();
 }
+#elif WAY == 14
+const auto chunk = dcsctp::read_chunk(made()); // deleted
 #endif

@@ -2,9 +2,10 @@
 // dcsctp for C++17 and later: reads, checks, prints and writes SCTP packets (RFC 9260). One header, over dcsctp.h.
 //
 // What is read is a view: it owns nothing, and the bytes have to outlive it. Whatever the bytes are, reading them is
-// defined: what isn't there is std::nullopt, an empty range or an empty view, never an exception. Only functions whose
-// result or argument is a std::string or a std::vector allocate, or throw, and that std::bad_alloc alone; the library
-// itself allocates in packet::canonical and packet::print, and returns result_code::no_memory.
+// defined: what isn't there is std::nullopt, an empty range or an empty view, never an exception. Only chunk_fault,
+// read_chunk, and functions whose result or argument is a std::string or a std::vector allocate, or throw, and that
+// std::bad_alloc alone; the library itself allocates in packet::canonical and packet::print, and returns
+// result_code::no_memory.
 //
 //   dcsctp::packet packet(bytes);
 //   if (auto fault = packet.first_fault())
@@ -451,8 +452,11 @@ inline constexpr std::uint32_t version_number = DCSCTP_VERSION_NUMBER;
 /// padding is ignored.
 struct policy {
     bool any_checksum = false;   ///< accepts every checksum field
-    bool zero_checksum = false;  ///< accepts a field of zero as well (RFC 9653)
+    bool zero_checksum = false;  ///< accepts a field of zero as well (RFC 9653), in every packet
     bool strict_padding = false; ///< padding has to be complete and zero
+    /// Accepts a field of zero where RFC 9653 section 5.2 allows one, not in a packet that needs_checksum(): for an
+    /// association in which you sent Zero Checksum Acceptable.
+    bool allowed_zero_checksum = false;
 };
 /// The common header: source_port, destination_port, verification_tag, checksum.
 using header = struct ::dcsctp_header;
@@ -480,6 +484,23 @@ struct data {
     bool is_end = false;
     bool immediate_ack = false;
     bytes_view payload{};
+
+    /// The bits as the number in the chunk: E 1, B 2, U 4, I 8.
+    [[nodiscard]] constexpr std::uint8_t flags() const noexcept
+    {
+        return static_cast<std::uint8_t>((is_end ? 1 : 0) | (is_beginning ? 2 : 0) | (is_unordered ? 4 : 0)
+                                         | (immediate_ack ? 8 : 0));
+    }
+    /// The same with the bits of this number; its other bits are reserved.
+    [[nodiscard]] constexpr data with_flags(std::uint8_t flags) const noexcept
+    {
+        data it = *this;
+        it.is_end = (flags & 1) != 0;
+        it.is_beginning = (flags & 2) != 0;
+        it.is_unordered = (flags & 4) != 0;
+        it.immediate_ack = (flags & 8) != 0;
+        return it;
+    }
 };
 
 /// A request or the response of RE-CONFIG (RFC 6525 section 4). What the kind does not carry is 0.
@@ -519,7 +540,7 @@ namespace dcsctp {
 
 DCSCTP_EQUAL(fault, it.code, it.offset)
 DCSCTP_EQUAL(written, it.code, it.size)
-DCSCTP_EQUAL(policy, it.any_checksum, it.zero_checksum, it.strict_padding)
+DCSCTP_EQUAL(policy, it.any_checksum, it.zero_checksum, it.strict_padding, it.allowed_zero_checksum)
 DCSCTP_EQUAL(data, it.tsn, it.mid, it.fsn, it.ppid, it.stream, it.ssn, it.is_unordered, it.is_beginning, it.is_end,
              it.immediate_ack, as_text(it.payload))
 DCSCTP_EQUAL(re_config, it.type, it.request_number, it.response_number, it.last_tsn, it.result, it.has_next_tsns,
@@ -599,15 +620,6 @@ template <typename Source> class range {
 /// Implementation. Not for use.
 namespace detail {
 
-inline ::dcsctp_policy c_policy(const policy &of) noexcept
-{
-    ::dcsctp_policy it{};
-    it.any_checksum = of.any_checksum;
-    it.zero_checksum = of.zero_checksum;
-    it.strict_padding = of.strict_padding;
-    return it;
-}
-
 // What `read` writes, if it does.
 template <typename T, typename Read> std::optional<T> value_of(Read read) noexcept
 {
@@ -622,6 +634,9 @@ inline bytes_view part(bytes_view bytes, std::size_t offset, std::size_t size) n
         return {};
     return {bytes.data() + offset, size};
 }
+
+// The most bytes that a packet that is read has: what is larger is refused before it is gone through or copied.
+inline constexpr std::size_t largest = 65535;
 
 // The size of the header of a chunk, a parameter and an error cause (RFC 9260 sections 3.2, 3.2.1 and 3.3.10).
 inline constexpr std::size_t header_size = 4;
@@ -680,6 +695,10 @@ class item {
         : bytes_(bytes), it_(it), offset_(offset)
     {
     }
+    item(std::uint16_t type, bytes_view value) noexcept
+        : bytes_(value), it_{type, 0, value.size(), value.size()}, offset_(0)
+    {
+    }
     bytes_view bytes_;
     ::dcsctp_parameter it_;
     std::size_t offset_;
@@ -705,6 +724,8 @@ using skipped_streams = range<detail::by_index<skipped_stream, ::dcsctp_chunk, &
 /// A parameter of a chunk (RFC 9260 section 3.2.1).
 class parameter : public detail::item {
   public:
+    /// The parameter of a type with a value, which has to outlive it. It lies in no packet: its bytes() are none.
+    parameter(parameter_type type, bytes_view value DCSCTP_LIFETIME_BOUND) noexcept : item(number(type), value) {}
     [[nodiscard]] parameter_type type() const noexcept { return static_cast<parameter_type>(it_.type); }
     /// Reads a request or the response of RE-CONFIG.
     [[nodiscard]] std::optional<re_config> as_re_config() const noexcept
@@ -736,6 +757,8 @@ class parameter : public detail::item {
 /// An error cause of an ABORT or an ERROR (section 3.3.10).
 class cause : public detail::item {
   public:
+    /// The error cause of a code with a value, likewise.
+    cause(cause_code code, bytes_view value DCSCTP_LIFETIME_BOUND) noexcept : item(number(code), value) {}
     [[nodiscard]] cause_code code() const noexcept { return static_cast<cause_code>(it_.type); }
     /// The types, if it is Missing Mandatory Parameter.
     [[nodiscard]] dcsctp::missing_parameters missing_parameters() const noexcept { return {{bytes_, it_}, 0}; }
@@ -878,13 +901,13 @@ class packet {
     /// Returns ok, or the code of the first fault.
     result check(policy accepted = {}, word_option word = {}) const noexcept
     {
-        const ::dcsctp_policy it = detail::c_policy(accepted);
+        const ::dcsctp_policy it = c_policy(accepted);
         return code(::dcsctp_check(bytes_.data(), bytes_.size(), word_of(accepted, word), &it));
     }
     /// Returns the first fault, if there is one.
     [[nodiscard]] std::optional<fault> first_fault(policy accepted = {}, word_option word = {}) const noexcept
     {
-        const ::dcsctp_policy it = detail::c_policy(accepted);
+        const ::dcsctp_policy it = c_policy(accepted);
         fault first;
         first.code = code(
             ::dcsctp_first_fault(bytes_.data(), bytes_.size(), word_of(accepted, word), &it, &first.offset));
@@ -892,6 +915,17 @@ class packet {
     }
     /// Computes what the checksum field has to be. For fewer than 12 bytes it has no meaning.
     [[nodiscard]] std::uint32_t word() const noexcept { return ::dcsctp_word(bytes_.data(), bytes_.size()); }
+
+    /// Returns whether it has to have its CRC32c also where a checksum of zero was negotiated (RFC 9653 section 5.2): it
+    /// has INIT, COOKIE ECHO or ASCONF; or it answers a packet out of the blue, by a chunk with is_tag_reflected().
+    [[nodiscard]] bool needs_checksum() const noexcept
+    {
+        for (const chunk &it : chunks())
+            if (it.type() == chunk_type::init || it.type() == chunk_type::cookie_echo || it.type() == chunk_type::asconf
+                || it.is_tag_reflected())
+                return true;
+        return false;
+    }
 
     /// Reads the common header; none of fewer than 12 bytes.
     [[nodiscard]] std::optional<dcsctp::header> header() const noexcept
@@ -948,6 +982,18 @@ class packet {
     using writer = std::uint32_t (*)(const std::uint8_t *, std::size_t, std::uint32_t, const ::dcsctp_policy *,
                                      std::uint8_t *, std::size_t, std::size_t *);
     static result_code code(std::uint32_t number) noexcept { return static_cast<result_code>(number); }
+    [[nodiscard]] ::dcsctp_policy c_policy(const policy &of) const noexcept
+    {
+        const auto is_allowed = [&] {
+            const auto read = header();
+            return read && read->checksum == 0 && size() <= detail::largest && !needs_checksum();
+        };
+        ::dcsctp_policy it{};
+        it.any_checksum = of.any_checksum;
+        it.zero_checksum = of.zero_checksum || (of.allowed_zero_checksum && is_allowed());
+        it.strict_padding = of.strict_padding;
+        return it;
+    }
     [[nodiscard]] std::uint32_t word_of(const policy &accepted, const word_option &option) const noexcept
     {
         return option ? *option : accepted.any_checksum ? 0 : word();
@@ -955,7 +1001,7 @@ class packet {
     template <writer function>
     written write(mutable_bytes_view output, const policy &accepted, const word_option &option) const noexcept
     {
-        const ::dcsctp_policy it = detail::c_policy(accepted);
+        const ::dcsctp_policy it = c_policy(accepted);
         written wrote;
         wrote.code = code(function(bytes_.data(), bytes_.size(), word_of(accepted, option), &it, output.data(),
                                    output.size(), &wrote.size));
@@ -977,6 +1023,35 @@ class packet {
     }
     bytes_view bytes_{};
 };
+
+// ---- reading a chunk without a packet around it
+
+/// Returns the first fault of bytes that have to be one chunk, with or without its padding: as SDP has an INIT in
+/// `a=sctp-init`, and the cause Unrecognized Chunk Type any chunk. Its offset is into these bytes; it is fault_length where
+/// the chunk ends if something follows it.
+[[nodiscard]] inline std::optional<fault> chunk_fault(bytes_view bytes)
+{
+    const auto it = packet(bytes).chunk_at(0);
+    const bytes_view whole = bytes.subspan(0, it ? it->next_offset() : detail::largest);
+    std::vector<std::uint8_t> around(DCSCTP_FIRST_CHUNK);
+    around.insert(around.end(), whole.begin(), whole.end());
+    policy accepted;
+    accepted.any_checksum = true;
+    if (const auto first = packet(around).first_fault(accepted))
+        return fault{first->code, first->offset - DCSCTP_FIRST_CHUNK};
+    return whole.size() < bytes.size() ? std::optional(fault{result_code::fault_length, whole.size()}) : std::nullopt;
+}
+
+/// Reads the chunk that bytes are, if they have no chunk_fault. Its bytes() write it.
+[[nodiscard]] inline std::optional<chunk> read_chunk(bytes_view bytes DCSCTP_LIFETIME_BOUND)
+{
+    return chunk_fault(bytes) ? std::nullopt : packet(bytes).chunk_at(0);
+}
+
+/// A chunk of bytes that end before it is none: name the container.
+template <typename Container,
+          typename = std::enable_if_t<!std::is_reference_v<Container> && !detail::borrows<Container>>>
+std::optional<chunk> read_chunk(Container &&) = delete;
 
 // ---- changing a packet in place
 
@@ -1199,6 +1274,11 @@ class builder {
     /// Takes the last chunk back, with its list; nothing if that was done, or there is none. After it there is no chunk
     /// to add to, until one is added.
     void remove_last_chunk() noexcept { size_ = start_; }
+    /// The last chunk, where it lies in the buffer: its bytes() are all that is sent of one without a packet around it.
+    [[nodiscard]] std::optional<chunk> last_chunk() const noexcept
+    {
+        return packet(bytes_view(data_, size_)).chunk_at(start_);
+    }
     /// Writes the CRC32c. Call it last.
     result seal()
     {

@@ -952,7 +952,12 @@ void any_bytes()
             std::copy_n(whole.begin(), size, part.get());
             for (int changes = round; changes > 0 && size > 0; changes--)
                 part[(random() >> 8) % size] = static_cast<std::uint8_t>(random() >> 24);
-            read_all({part.get(), size});
+            const bytes_view given(part.get(), size);
+            read_all(given);
+            // A chunk is what is the only one of a packet.
+            const dcsctp::packet packet(given);
+            const bool is_only = packet.check({true, false, false}) && packet.chunks().size() == 1;
+            CHECK(size < 12 || read_chunk(given.subspan(12)).has_value() == is_only);
         }
     CHECK(touched > 0);
 
@@ -962,6 +967,116 @@ void any_bytes()
     read_all(whole);
     const bool wrote = to.add_cookie_echo(whole) || (to.add_cookie_ack() && to.seal());
     CHECK(wrote && allocations == before);
+}
+
+// What a stack needs besides packets: bare chunks, items of a type and bytes, flags, checksums of zero.
+void stacks()
+{
+    const std::string init = "00000001 00000002 0003 0004 00000005";
+    for (const std::string &text :
+         {std::string("000b0013 01020304 0005 0006 00000033 616263 00"), "01000020" + init + "8008 0006 82c0 0000 c000 0004",
+          std::string("0300001c 0000000a 00010000 0002 0001 0002 0003 0005 0005 00000009"), std::string("0b000004"),
+          std::string("0a000005 61 000000"), std::string("8200000e 000e 000a 00000001 0005 0000"),
+          std::string("0900002b 0002 000a 00000001 0007 0000 0009 0008 00000005 0006 0008 7f000004 000a 0004"
+                      "000d 0007 626164 00"),
+          std::string("c87f0007 616263 00")}) {
+        const bytes packet = sealed(text), whole = of_hex(text);
+        const chunk wanted = only(packet);
+        const bytes bare(whole.begin(), whole.begin() + (whole[2] << 8 | whole[3]));
+        for (const bytes &given : {whole, bare}) {
+            CHECK(!chunk_fault(given));
+            const auto read = read_chunk(given);
+            CHECK(read && read->type() == wanted.type() && read->flags() == wanted.flags());
+            CHECK(read && same(read->value(), wanted.value()) && same(read->bytes(), bare));
+            CHECK(read && read->offset() == 0 && read->next_offset() == given.size());
+            CHECK(read && read->as_data() == wanted.as_data() && read->as_init() == wanted.as_init());
+            CHECK(read && read->parameters().size() == wanted.parameters().size());
+        }
+        std::array<std::uint8_t, 100> buffer;
+        builder to(buffer, 1, 2, 3);
+        CHECK(!to.last_chunk() && to.add_chunk(wanted.type(), wanted.flags(), wanted.value()));
+        CHECK(to.last_chunk() && same(to.last_chunk()->bytes(), bare));
+        for (const parameter it : wanted.parameters()) {
+            const parameter made(it.type(), it.value());
+            CHECK(made.type() == it.type() && same(made.value(), it.value()) && made.offset() == 0);
+            CHECK(made.bytes().empty() && made.as_re_config() == it.as_re_config());
+            CHECK(std::equal(made.reset_streams().begin(), made.reset_streams().end(), it.reset_streams().begin(),
+                             it.reset_streams().end()));
+        }
+        for (const cause it : wanted.causes()) {
+            const cause made(it.code(), it.value());
+            CHECK(made.code() == it.code() && same(made.value(), it.value()) && made.as_number() == it.as_number());
+            CHECK(made.missing_parameters().size() == it.missing_parameters().size());
+        }
+    }
+    const auto has_chunk_fault = [](const bytes &given, result_code code, std::size_t offset) {
+        CHECK(chunk_fault(given) == fault{code, offset} && !read_chunk(given));
+    };
+    has_chunk_fault({}, result_code::fault_size, 0);
+    has_chunk_fault(of_hex("0b0000"), result_code::fault_size, 3);
+    has_chunk_fault(of_hex("0b000003"), result_code::fault_length, 0);
+    has_chunk_fault(of_hex("0a000009 616263 00"), result_code::fault_length, 0);
+    has_chunk_fault(of_hex("0400000c 0001 0009 61626364"), result_code::fault_length, 4);
+    has_chunk_fault(of_hex("82000010 0010 000c 00000001 00000007"), result_code::fault_value, 4);
+    // something behind it: half a chunk, a chunk, padding twice
+    has_chunk_fault(of_hex("0b000004 00"), result_code::fault_length, 4);
+    has_chunk_fault(of_hex("0b000004 0b000004"), result_code::fault_length, 4);
+    has_chunk_fault(of_hex("0a000005 61 000000 00000000"), result_code::fault_length, 8);
+    // A packet has at most 65,535 bytes, and 12 of them before its first chunk.
+    bytes large = of_hex("0a00fff4");
+    large.resize(0xfff4);
+    has_chunk_fault(large, result_code::fault_size, 65523);
+    large[3] = 0xff;
+    large.resize(65534);
+    has_chunk_fault(large, result_code::fault_size, 65523);
+    large[3] = 0xf3;
+    large.resize(0xfff3);
+    CHECK(read_chunk(large));
+
+    // RFC 9260 section 3.3.1: the bits I, U, B and E, of which E is the lowest.
+    for (unsigned flags = 0; flags < 16; flags++) {
+        data it;
+        it.is_end = true;
+        it = it.with_flags(static_cast<std::uint8_t>(flags | 0xf0));
+        CHECK(it.flags() == flags && it.immediate_ack == (flags >> 3 & 1) && it.is_unordered == (flags >> 2 & 1));
+        CHECK(it.is_beginning == (flags >> 1 & 1) && it.is_end == (flags & 1));
+        std::array<std::uint8_t, 100> buffer;
+        builder to(buffer, 1, 2, 3);
+        CHECK(to.add_data(it) && to.last_chunk() && to.last_chunk()->flags() == flags);
+        CHECK(to.add_i_data(it) && to.last_chunk() && to.last_chunk()->flags() == flags);
+    }
+
+    // RFC 9653 section 5.2: INIT, COOKIE ECHO and ASCONF; what answers a packet out of the blue reflects its tag.
+    policy allowed, any, zero;
+    allowed.allowed_zero_checksum = any.allowed_zero_checksum = zero.allowed_zero_checksum = true;
+    any.any_checksum = zero.zero_checksum = true;
+    const fault wrong{result_code::fault_checksum, 8};
+    const auto zeroed = [](const std::string &chunks) { return of_hex("1388 1389 01020304 00000000" + chunks); };
+    for (const std::string &text : {"01000014" + init, std::string("0a000005 61 000000"), std::string("c1000008 00000001"),
+                                    std::string("06010004"), std::string("0e010004")})
+        for (const std::string &before : {std::string(), std::string("0b000004")}) {
+            const bytes given = zeroed(before + text), right = sealed(before + text);
+            const dcsctp::packet packet(given);
+            CHECK(packet.needs_checksum() && packet.first_fault(allowed) == wrong && !packet.check(allowed));
+            CHECK(packet.check(any) && packet.check(zero) && dcsctp::packet(right).check(allowed));
+        }
+    for (const std::string &text : {"02ff0014" + init, std::string("0b000004"), std::string("06000004"), std::string("0e000004"),
+                                    std::string("04010008 0001 0004"), std::string("c8010004")}) {
+        bytes given = zeroed(text);
+        const dcsctp::packet packet(given);
+        CHECK(!packet.needs_checksum() && packet.check(allowed) && packet.first_fault() == wrong);
+        CHECK(packet.print(allowed) && packet.report(allowed) && packet.canonical(allowed));
+        given[11] = 1;
+        CHECK(packet.first_fault(allowed) == wrong);
+    }
+    // The size comes first, then the checksum, then the chunks, from the left.
+    const bytes small = zeroed("01000004"), before = zeroed("0b000003 01000004"), after = zeroed("01000004 0b000003");
+    for (std::size_t size = 0; size < 16; size++) {
+        const dcsctp::packet packet(bytes_view(small).subspan(0, size));
+        CHECK(!packet.needs_checksum() && packet.first_fault(allowed) == fault{result_code::fault_size, size});
+    }
+    CHECK(dcsctp::packet(before).first_fault(allowed) == fault{result_code::fault_length, 12});
+    CHECK(dcsctp::packet(after).first_fault(allowed) == wrong);
 }
 
 } // namespace
@@ -988,6 +1103,7 @@ int main()
     word_of_zero();
     no_memory();
     unchecked();
+    stacks();
     any_bytes();
     std::printf("cpp: %d passed, %d failed\n", passed, failed);
     return failed != 0;

@@ -15,6 +15,23 @@ static inline uint32_t go_word(const uint8_t *bytes, size_t length, struct dcsct
     return policy.any_checksum ? 0 : dcsctp_word(bytes, length);
 }
 
+/* Whether the packet has to have its CRC32c also where a checksum of zero was negotiated (RFC 9653 section 5.2). */
+static inline bool go_needs_checksum(const uint8_t *bytes, size_t length)
+{
+    struct dcsctp_chunk chunk;
+    for (size_t at = DCSCTP_FIRST_CHUNK; dcsctp_chunk_at(bytes, length, at, &chunk); at = chunk.next)
+        switch (chunk.type) {
+        case DCSCTP_CHUNK_INIT:
+        case DCSCTP_CHUNK_COOKIE_ECHO:
+        case DCSCTP_CHUNK_ASCONF: return true;
+        case DCSCTP_CHUNK_ABORT:
+        case DCSCTP_CHUNK_SHUTDOWN_COMPLETE:
+            if (chunk.flags & DCSCTP_TAG_REFLECTED)
+                return true;
+        }
+    return false;
+}
+
 static inline uint32_t go_check(const uint8_t *bytes, size_t length, struct dcsctp_policy policy)
 {
     return dcsctp_check(bytes, length, go_word(bytes, length, policy), &policy);

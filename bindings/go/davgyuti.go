@@ -29,8 +29,7 @@
 //     before user data, and nothing after ABORT;
 //   - INIT ACK has a State Cookie, and HEARTBEAT one Heartbeat Info;
 //   - the blocks of a SACK are in order, by IsValidSACK; if not, its cumulative TSN still counts;
-//   - under Policy.ZeroChecksum, Header.Checksum is Word with INIT, COOKIE ECHO or ASCONF, and of an ABORT or a SHUTDOWN
-//     COMPLETE that IsTagReflected (RFC 9653 section 5.2).
+//   - under Policy.ZeroChecksum, Header.Checksum is Word of a packet that NeedsChecksum; Policy.AllowedZeroChecksum checks that.
 //
 // A chunk, a parameter or an error cause of a type that isn't known is accepted, whatever its value.
 //
@@ -208,6 +207,23 @@ type Data struct {
 	IsEnd        bool
 	ImmediateAck bool
 	Payload      []byte // where it lies in the packet
+}
+
+// Flags returns the bits as the number in the chunk: E 1, B 2, U 4, I 8.
+func (data Data) Flags() (flags uint8) {
+	for i, bit := range [...]bool{data.IsEnd, data.IsBeginning, data.IsUnordered, data.ImmediateAck} {
+		if bit {
+			flags |= 1 << i
+		}
+	}
+	return flags
+}
+
+// WithFlags returns the same with the bits of this number; its other bits are reserved.
+func (data Data) WithFlags(flags uint8) Data {
+	data.IsEnd, data.IsBeginning = flags&1 != 0, flags&2 != 0
+	data.IsUnordered, data.ImmediateAck = flags&4 != 0, flags&8 != 0
+	return data
 }
 
 // SACK has the numbers of a SACK (section 3.3.4).

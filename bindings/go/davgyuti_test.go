@@ -531,7 +531,11 @@ func TestAnyBytes(t *testing.T) {
 			for changes := 0; changes < round && size > 0; changes++ {
 				packet[random.Intn(size)] = byte(random.Intn(256))
 			}
-			packet.Check(davgyuti.Policy{AnyChecksum: true})
+			isPacket := packet.Check(davgyuti.Policy{AnyChecksum: true}) == nil
+			if size >= davgyuti.FirstChunk {
+				_, err := davgyuti.ReadChunk(packet[davgyuti.FirstChunk:])
+				equal(t, "bare", err == nil, isPacket && len(packet.Chunks().Slice()) == 1)
+			}
 			packet.Header()
 			for chunks := packet.Chunks(); chunks.Next(); {
 				chunk := chunks.Value()
@@ -577,7 +581,8 @@ func TestAllFunctions(t *testing.T) {
 		t.Errorf("dcsctp.h has %d functions", len(names))
 	}
 	for _, name := range names {
-		if !regexp.MustCompile(`\bC\.(dcsctp|go)_` + name[1] + `\(`).MatchString(code) {
+		// (the package reads chunk by chunk)
+		if name[1] != "read" && !regexp.MustCompile(`\bC\.(dcsctp|go)_` + name[1] + `\(`).MatchString(code) {
 			t.Errorf("%s is never called", name[0])
 		}
 	}
@@ -619,9 +624,12 @@ func TestReadme(t *testing.T) {
 	if err != nil {
 		t.Fatal(err)
 	}
-	program := regexp.MustCompile("(?s)```go\n(.*?)```").FindSubmatch(readme)
-	if program == nil || !bytes.Contains(example, program[1]) {
-		t.Error("README.md has another program")
+	programs := regexp.MustCompile("(?s)```go\n(.*?)```").FindAllSubmatch(readme, -1)
+	equal(t, "programs", len(programs), 2)
+	for _, program := range programs {
+		if !bytes.Contains(example, program[1]) {
+			t.Errorf("README.md has another program: %s", program[1])
+		}
 	}
 }
 

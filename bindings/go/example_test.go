@@ -3,6 +3,7 @@
 package davgyuti_test
 
 import (
+	"encoding/base64"
 	"encoding/hex"
 	"errors"
 	"fmt"
@@ -40,6 +41,23 @@ func Example() {
 	// Output:
 	// DATA 2030482608: hello
 	// 138813884d2df52dc604d62e030000107906b4b00002000000000000 <nil>
+}
+
+// initOf reads the INIT of SDP's `a=sctp-init`, from base64: a chunk without a packet around it.
+func initOf(bytes []byte) (init davgyuti.Init, parameters []davgyuti.Parameter, err error) {
+	chunk, err := davgyuti.ReadChunk(bytes)
+	if err == nil && chunk.Type == davgyuti.ChunkInit {
+		init, _ = chunk.Init()
+		parameters = chunk.Parameters().Slice()
+	}
+	return init, parameters, err
+}
+
+func ExampleReadChunk() {
+	bytes, _ := base64.StdEncoding.DecodeString("AQAAHlWEEnUAUAAA/////0Dg60LAAAAEgAgABoLA")
+	init, parameters, err := initOf(bytes)
+	fmt.Printf("%#x %v %v\n", init.InitiateTag, parameters, err)
+	// Output: 0x55841275 [Forward-TSN-Supported size=0 Supported Extensions size=2] <nil>
 }
 
 func ExamplePacket_Check() {

@@ -10,22 +10,31 @@ import "fmt"
 // FirstChunk is the offset of a packet's first chunk: the size of the common header.
 const FirstChunk = C.DCSCTP_FIRST_CHUNK
 
+// largest is the most bytes that a packet that is read has: what is larger is refused before it is gone through or copied.
+const largest = 0xffff
+
 // A Policy says which checksum fields are accepted, and whether padding is checked. The zero value is what a socket takes:
 // the field has to be the CRC32c, and padding is ignored.
 type Policy struct {
 	// AnyChecksum accepts every checksum field, and computes no CRC32c: for captures whose checksums a network card
 	// filled in later, and where you have compared Header.Checksum with a CRC32c of your own.
 	AnyChecksum bool
-	// ZeroChecksum accepts a field of zero as well, for an association that negotiated it (RFC 9653).
+	// ZeroChecksum accepts a field of zero as well (RFC 9653), in every packet.
 	ZeroChecksum bool
+	// AllowedZeroChecksum accepts a field of zero where RFC 9653 section 5.2 allows one, not in a packet that NeedsChecksum:
+	// for an association in which you sent Zero Checksum Acceptable.
+	AllowedZeroChecksum bool
 	// StrictPadding wants padding to be complete and zero.
 	StrictPadding bool
 }
 
-func (policy Policy) c() C.struct_dcsctp_policy {
+// c returns the policy for a packet.
+func (policy Policy) c(p Packet) C.struct_dcsctp_policy {
+	isAllowed := policy.AllowedZeroChecksum && len(p) >= FirstChunk && len(p) <= largest &&
+		string(p[8:FirstChunk]) == "\x00\x00\x00\x00" && !p.NeedsChecksum()
 	return C.struct_dcsctp_policy{
 		any_checksum:   C.bool(policy.AnyChecksum),
-		zero_checksum:  C.bool(policy.ZeroChecksum),
+		zero_checksum:  C.bool(policy.ZeroChecksum || isAllowed),
 		strict_padding: C.bool(policy.StrictPadding),
 	}
 }
@@ -37,7 +46,14 @@ type Packet []byte
 // first, then the checksum, then the chunks from the left. It says nothing of the association: the package's comment has what
 // is still to be checked.
 func (p Packet) Check(policy Policy) error {
-	result := C.go_first_fault(bytesOf(p), C.size_t(len(p)), policy.c())
+	if fault := p.firstFault(policy); fault != nil {
+		return fault
+	}
+	return nil
+}
+
+func (p Packet) firstFault(policy Policy) *Error {
+	result := C.go_first_fault(bytesOf(p), C.size_t(len(p)), policy.c(p))
 	if result.code == C.DCSCTP_OK {
 		return nil
 	}
@@ -46,18 +62,24 @@ func (p Packet) Check(policy Policy) error {
 
 // IsValid returns whether Check returns nil.
 func (p Packet) IsValid(policy Policy) bool {
-	return C.go_check(bytesOf(p), C.size_t(len(p)), policy.c()) == C.DCSCTP_OK
+	return C.go_check(bytesOf(p), C.size_t(len(p)), policy.c(p)) == C.DCSCTP_OK
 }
 
 // Word computes what the checksum field has to be (section 6.8): the packet's CRC32c over zeros in the field, as the number
 // that Header.Checksum has to be. For fewer than 12 bytes it has no meaning.
 func (p Packet) Word() uint32 { return uint32(C.dcsctp_word(bytesOf(p), C.size_t(len(p)))) }
 
+// NeedsChecksum returns whether the packet has to have its CRC32c also where a checksum of zero was negotiated (RFC 9653
+// section 5.2): it has INIT, COOKIE ECHO or ASCONF; or it answers a packet out of the blue, by a chunk that IsTagReflected.
+func (p Packet) NeedsChecksum() bool {
+	return bool(C.go_needs_checksum(bytesOf(p), C.size_t(len(p))))
+}
+
 // Print returns the packet's text: a line for the header and one for each chunk, with no line feed at the end. The error is
 // that of Check, or ErrNoMemory.
 func (p Packet) Print(policy Policy) (string, error) {
 	text, err := p.write(policy, func(word C.uint32_t, output []byte) C.struct_go_result {
-		return C.go_print(bytesOf(p), C.size_t(len(p)), word, policy.c(), bytesOf(output), C.size_t(len(output)))
+		return C.go_print(bytesOf(p), C.size_t(len(p)), word, policy.c(p), bytesOf(output), C.size_t(len(output)))
 	})
 	return string(text), err
 }
@@ -66,7 +88,7 @@ func (p Packet) Print(policy Policy) (string, error) {
 // inside of something is two blanks deeper. The error is that of Check.
 func (p Packet) Report(policy Policy) (string, error) {
 	text, err := p.write(policy, func(word C.uint32_t, output []byte) C.struct_go_result {
-		return C.go_report(bytesOf(p), C.size_t(len(p)), word, policy.c(), bytesOf(output), C.size_t(len(output)))
+		return C.go_report(bytesOf(p), C.size_t(len(p)), word, policy.c(p), bytesOf(output), C.size_t(len(output)))
 	})
 	return string(text), err
 }
@@ -86,7 +108,7 @@ func (p Packet) String() string {
 // same. Its checksum is 0. The error is that of Check, ErrNoMemory or ErrTooLong.
 func (p Packet) Canonical(policy Policy) ([]byte, error) {
 	return p.write(policy, func(word C.uint32_t, output []byte) C.struct_go_result {
-		return C.go_canonical(bytesOf(p), C.size_t(len(p)), word, policy.c(), bytesOf(output), C.size_t(len(output)))
+		return C.go_canonical(bytesOf(p), C.size_t(len(p)), word, policy.c(p), bytesOf(output), C.size_t(len(output)))
 	})
 }
 
@@ -233,6 +255,27 @@ func (p Packet) ChunkAt(offset int) (Chunk, bool) {
 		packet:     p,
 		c:          read.it,
 	}, true
+}
+
+// ReadChunk reads the chunk that the bytes are, without a packet around it, and with or without its padding: as SDP has an
+// INIT in `a=sctp-init`, and CauseUnrecognizedChunk any chunk. Its Bytes write it. The error is an *Error whose offset is into
+// these bytes, with ErrLength where the chunk ends if something follows it.
+func ReadChunk(bytes []byte) (Chunk, error) {
+	end := len(bytes)
+	chunk, isWhole := Packet(bytes).ChunkAt(0)
+	if isWhole {
+		end = chunk.NextOffset
+	} else if end > largest {
+		end = largest
+	}
+	packet := append(make(Packet, FirstChunk, FirstChunk+end), bytes[:end]...)
+	if fault := packet.firstFault(Policy{AnyChecksum: true}); fault != nil {
+		return Chunk{}, &Error{fault.Code, fault.Offset - FirstChunk}
+	}
+	if end < len(bytes) {
+		return Chunk{}, &Error{ErrLength, end}
+	}
+	return chunk, nil
 }
 
 // Bytes returns the whole chunk, its header and its value, without padding, where it lies in the packet: what the cause
@@ -383,6 +426,21 @@ func items[T any](chunk Chunk, areThere bool, value func(item, int) T) *Iterator
 	}}
 }
 
+// newItem returns one of this type with a copy of this value, in bytes of its own.
+func newItem(itemType uint16, value []byte) (item, error) {
+	size := 4 + len(value)
+	if size > 0xffff {
+		return item{}, ErrBadValue
+	}
+	bytes := append([]byte{byte(itemType >> 8), byte(itemType), byte(size >> 8), byte(size)}, value...)
+	return item{bytes, C.struct_dcsctp_parameter{
+		_type:        C.uint16_t(itemType),
+		value_offset: 4,
+		value_size:   C.size_t(len(value)),
+		next:         C.size_t(size),
+	}}, nil
+}
+
 func (it item) bytes() (*C.uint8_t, C.size_t) { return bytesOf(it.packet), C.size_t(len(it.packet)) }
 
 func (it item) value() []byte { return it.packet.part(it.c.value_offset, it.c.value_size) }
@@ -408,9 +466,18 @@ type Parameter struct {
 
 // Parameters goes over the parameters; ABORT and ERROR, and types that have none, have none.
 func (chunk Chunk) Parameters() *Iterator[Parameter] {
-	return items(chunk, !chunk.hasCauses(), func(it item, offset int) Parameter {
-		return Parameter{Type: ParameterType(it.c._type), Value: it.value(), Offset: offset, item: it}
-	})
+	return items(chunk, !chunk.hasCauses(), parameterOf)
+}
+
+func parameterOf(it item, offset int) Parameter {
+	return Parameter{Type: ParameterType(it.c._type), Value: it.value(), Offset: offset, item: it}
+}
+
+// NewParameter returns a parameter of this type with a copy of this value, which is read as one of a packet is; its Offset is 0.
+// ErrBadValue where it would have more than 65,535 bytes.
+func NewParameter(parameterType ParameterType, value []byte) (Parameter, error) {
+	it, err := newItem(uint16(parameterType), value)
+	return parameterOf(it, 0), err
 }
 
 // Bytes returns the whole parameter, its header and its value, without padding, where it lies in the packet: what the parameter
@@ -466,9 +533,17 @@ type Cause struct {
 
 // Causes goes over the error causes of ABORT or ERROR; another type has none.
 func (chunk Chunk) Causes() *Iterator[Cause] {
-	return items(chunk, chunk.hasCauses(), func(it item, offset int) Cause {
-		return Cause{Code: CauseCode(it.c._type), Value: it.value(), Offset: offset, item: it}
-	})
+	return items(chunk, chunk.hasCauses(), causeOf)
+}
+
+func causeOf(it item, offset int) Cause {
+	return Cause{Code: CauseCode(it.c._type), Value: it.value(), Offset: offset, item: it}
+}
+
+// NewCause returns an error cause of this code with a copy of this value, likewise.
+func NewCause(code CauseCode, value []byte) (Cause, error) {
+	it, err := newItem(uint16(code), value)
+	return causeOf(it, 0), err
 }
 
 // Bytes returns the whole error cause, its header and its value, without padding, where it lies in the packet.

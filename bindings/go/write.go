@@ -50,6 +50,10 @@ func Begin(buffer []byte, sourcePort, destinationPort uint16, verificationTag ui
 // Bytes returns the packet, as far as it is written: a part of the buffer.
 func (b *Builder) Bytes() []byte { return b.buffer[:b.size] }
 
+// LastChunk returns the last chunk, where it lies in the buffer: its Bytes are all that is sent of a chunk without a packet
+// around it. False where there is none.
+func (b *Builder) LastChunk() (Chunk, bool) { return Packet(b.Bytes()).ChunkAt(int(b.start)) }
+
 // Seal writes the CRC32c. Call it last. Whether there is a chunk isn't looked at: without one the packet is sealed, and
 // Packet.Check refuses it.
 func (b *Builder) Seal() error { return Packet(b.Bytes()).Seal() }

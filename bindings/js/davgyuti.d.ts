@@ -187,8 +187,11 @@ export type FaultCode = Of<typeof Result, Extract<keyof typeof Result, `FAULT_${
 export interface Policy {
   /** Accepts every checksum field. */
   anyChecksum?: boolean;
-  /** Accepts a field of zero as well (RFC 9653). */
+  /** Accepts a field of zero as well (RFC 9653), in every packet. */
   zeroChecksum?: boolean;
+  /** Accepts a field of zero where RFC 9653 section 5.2 allows one, not where `needsChecksum`: for an association in which you
+      sent Zero Checksum Acceptable. */
+  allowedZeroChecksum?: boolean;
   /** Padding has to be complete and zero. */
   strictPadding?: boolean;
   /** What the checksum field has to be, most significant byte first; if left out, `word(bytes)`. The field itself is never
@@ -212,6 +215,10 @@ export function report(bytes: Uint8Array, policy?: Policy): string;
 /** The CRC32c of a packet over zeros in its checksum field, as the number that the field has to be, most significant byte
     first (section 6.8). For fewer than 12 bytes it has no meaning. */
 export function word(bytes: Uint8Array): number;
+
+/** Whether a packet has to have its CRC32c also where a checksum of zero was negotiated (RFC 9653 section 5.2): it has INIT,
+    COOKIE ECHO or ASCONF; or it answers a packet out of the blue, by ABORT or SHUTDOWN COMPLETE with TAG_REFLECTED. */
+export function needsChecksum(bytes: Uint8Array): boolean;
 
 // ---- reading the parts of a packet
 
@@ -330,6 +337,17 @@ export function chunks(bytes: Packet): IterableIterator<Chunk>;
 /** The same of any bytes. They end where no whole chunk is. */
 export function chunks(bytes: Uint8Array): IterableIterator<UncheckedChunk>;
 
+/** The chunk that the bytes are, without a packet around it, and with or without its padding: as SDP has an INIT in
+    `a=sctp-init`, and the cause Unrecognized Chunk Type any chunk. Its `bytes` write it. Throws a Fault whose offset is into
+    these bytes; with FAULT_LENGTH where the chunk ends if something follows it. */
+export function readChunk(bytes: Uint8Array): Chunk;
+
+type Bits = Pick<Data, 'isUnordered' | 'isBeginning' | 'isEnd' | 'immediateAck'>;
+/** The bits of user data as the number in its chunk: E 1, B 2, U 4, I 8. */
+export function dataFlags(data: Partial<Bits>): number;
+/** The same user data with the bits of this number; its other bits are reserved. */
+export function withFlags<T extends object>(data: T, flags: number): T & Bits;
+
 /** The types of parameters that are a ReConfig: 13 to 18. */
 export type ReConfigType = Of<typeof ParameterType, 'OUTGOING_SSN_RESET' | 'INCOMING_SSN_RESET' | 'SSN_TSN_RESET'
   | 'RECONFIGURATION_RESPONSE' | 'ADD_OUTGOING_STREAMS' | 'ADD_INCOMING_STREAMS'>;
@@ -378,6 +396,10 @@ export type Parameter = Item & (
 /** The parameters of a chunk that `chunks` gave; of a type without any there are none. */
 export function parameters(chunk: UncheckedChunk): IterableIterator<Parameter>;
 
+/** A parameter of this type with a copy of this value, as one that was read; its offset is 0. Throws a WriteError of BAD_VALUE
+    where it would have more than 65,535 bytes. */
+export function parameter(type: number, value?: Uint8Array): Parameter;
+
 /** An error cause (section 3.3.10). */
 export type Cause = Item & (
   /** Of No User Data: the TSN. */
@@ -388,6 +410,9 @@ export type Cause = Item & (
 );
 /** The error causes of ABORT or ERROR; of another type there are none. */
 export function causes(chunk: UncheckedChunk): IterableIterator<Cause>;
+
+/** An error cause of this code with a copy of this value, likewise. */
+export function cause(code: number, value?: Uint8Array): Cause;
 
 // ---- changing a packet in place
 
@@ -460,6 +485,8 @@ export class Builder {
 
   /** Takes the last chunk back, with what was added to it. Throws BAD_PLACE where there is none. */
   removeLast(): this;
+  /** A copy of the last chunk; null where there is none. Its `bytes` are all that is sent of one without a packet around it. */
+  lastChunk(): UncheckedChunk | null;
   /** The packet, with its CRC32c, or with zero as its checksum where `checksum` is false. More can be added afterwards. */
   finish(options?: { checksum?: boolean }): Uint8Array;
 }

@@ -312,12 +312,16 @@ function listed(struct, name, ...words) {
 
 /** The words for a packet, its checksum's word, and a policy. */
 function asked(bytes, policy) {
-  const { anyChecksum = false, zeroChecksum = false, strictPadding = false, word } = record(policy, 'policy');
+  const { anyChecksum = false, zeroChecksum = false, allowedZeroChecksum = false, strictPadding = false, word } =
+    record(policy, 'policy');
   const values = structs.policy.values({ anyChecksum, zeroChecksum, strictPadding });
+  truth(allowedZeroChecksum, 'allowedZeroChecksum');
   if (word !== undefined)
     number(word, 'u32', 'word');
   // (more than 65,535 bytes are refused by their size: so at most one too many is copied)
   const words = put(input, part(bytes, 0, Math.min(isBytes(bytes, 'bytes').length, 65_536))), at = place(HEAD);
+  if (allowedZeroChecksum && found(structs.header, 'dcsctp_header', ...words)?.checksum === 0 && !needs(words))
+    values[1] = true;
   structs.policy.write(at, values);
   return [...words, word ?? call('dcsctp_word', ...words), at];
 }
@@ -363,6 +367,21 @@ const canonical = (bytes, policy = {}) => written('dcsctp_canonical', bytes, pol
 const text = (bytes, policy = {}) => utf8.decode(written('dcsctp_print', bytes, policy));
 const report = (bytes, policy = {}) => utf8.decode(written('dcsctp_report', bytes, policy));
 const word = bytes => call('dcsctp_word', ...put(input, bytes)) >>> 0;
+
+const CHECKSUMMED = [ChunkType.INIT, ChunkType.COOKIE_ECHO, ChunkType.ASCONF];
+const REFLECTING = [ChunkType.ABORT, ChunkType.SHUTDOWN_COMPLETE];
+
+/** Whether a packet in the memory has to have its CRC32c. */
+function needs(words) {
+  const chunkAt = offset => found(structs.chunk, 'dcsctp_chunk_at', ...words, BigInt(offset));
+  for (let it = chunkAt(FIRST_CHUNK); it !== null; it = chunkAt(it.next)) {
+    if (CHECKSUMMED.includes(it.type) || (REFLECTING.includes(it.type) && (it.flags & TAG_REFLECTED) !== 0))
+      return true;
+  }
+  return false;
+}
+
+const needsChecksum = bytes => needs(put(input, bytes));
 
 // ---- reading the parts of a packet
 
@@ -414,24 +433,54 @@ function readForwardTsn(words) {
   return it && { newCumulativeTsn: it.newCumulativeTsn, streams: streamsOf(words) };
 }
 
+/** The chunk at an offset of bytes that lie in the memory; null where no whole one is. */
+function chunkAt(words, bytes, offset) {
+  const head = place(HEAD);
+  if (!call('dcsctp_chunk_at', ...words, BigInt(offset), head))
+    return null;
+  const { type, flags, valueOffset, valueSize, next } = structs.chunk.read(head);
+  const chunk = { type, name: chunkName(type), flags, offset, valueOffset, next };
+  chunk.value = part(bytes, valueOffset, valueSize);
+  chunk.bytes = part(bytes, offset, valueOffset + valueSize - offset);
+  const [name, read] = CONTENTS[type] ?? [];
+  const content = read && read([...words, head], bytes);
+  if (content)
+    chunk[name] = content;
+  return chunk;
+}
+
 // All the parts of a level are read at once, as the memory is every call's: so it is copied into once, whoever reads on
 // while they are gone through.
 function chunks(bytes) {
-  const words = put(input, bytes), list = [], head = place(HEAD);
-  for (let offset = FIRST_CHUNK; ;) {
-    if (!call('dcsctp_chunk_at', ...words, BigInt(offset), head))
-      return list.values();
-    const { type, flags, valueOffset, valueSize, next } = structs.chunk.read(head);
-    const chunk = { type, name: chunkName(type), flags, offset, valueOffset, next };
-    chunk.value = part(bytes, valueOffset, valueSize);
-    chunk.bytes = part(bytes, offset, valueOffset + valueSize - offset);
-    const [name, read] = CONTENTS[type] ?? [];
-    const content = read && read([...words, head], bytes);
-    if (content)
-      chunk[name] = content;
-    list.push(chunk);
-    offset = next;
-  }
+  const words = put(input, bytes), list = [];
+  for (let it = chunkAt(words, bytes, FIRST_CHUNK); it !== null; it = chunkAt(words, bytes, it.next))
+    list.push(it);
+  return list.values();
+}
+
+function readChunk(bytes) {
+  // (no chunk is longer, so at most one byte too many is copied)
+  const { length } = isBytes(bytes, 'bytes'), given = part(bytes, 0, Math.min(length, 65_536));
+  const chunk = chunkAt(put(input, given), given, 0), end = chunk?.next ?? given.length;
+  const packet = new Uint8Array(FIRST_CHUNK + end);
+  packet.set(given.subarray(0, end), FIRST_CHUNK);
+  const fault = firstFault(packet, { anyChecksum: true, word: 0 });
+  if (fault)
+    throw new Fault(fault.code, fault.offset - FIRST_CHUNK);
+  if (end < length)
+    throw new Fault(Result.FAULT_LENGTH, end);
+  return chunk;
+}
+
+const BITS = { isEnd: 1, isBeginning: 2, isUnordered: 4, immediateAck: 8 };
+
+const dataFlags = data => Object.entries(BITS).reduce((flags, [name, bit]) =>
+  flags | (truth(record(data, 'data')[name] ?? false, name) ? bit : 0), 0);
+
+function withFlags(data, flags) {
+  number(flags, 'u8', 'flags');
+  const bits = Object.entries(BITS).map(([name, bit]) => [name, (flags & bit) !== 0]);
+  return { ...record(data, 'data'), ...Object.fromEntries(bits) };
 }
 
 /** The parameters or error causes of a chunk, read from its value alone. */
@@ -490,6 +539,20 @@ function causes(chunk) {
     return cause;
   });
 }
+
+/** A chunk that has one item of a type and a value as its list. */
+function around(kind, type, value, name) {
+  const size = 4 + isBytes(value, 'value').length, bytes = new Uint8Array(size);
+  number(type, 'u16', name);
+  if (size > 65_535)
+    throw new WriteError(Result.BAD_VALUE);
+  bytes.set([type >> 8, type & 255, size >> 8, size & 255]);
+  bytes.set(value, 4);
+  return { type: kind, flags: 0, valueOffset: 0, value: bytes };
+}
+
+const parameter = (type, value = NOTHING) => parameters(around(ChunkType.RE_CONFIG, type, value, 'type')).next().value;
+const cause = (code, value = NOTHING) => causes(around(ChunkType.ERROR, code, value, 'code')).next().value;
 
 // ---- changing a packet in place
 
@@ -716,6 +779,14 @@ class Builder {
     return this;
   }
 
+  lastChunk() {
+    const start = this.#starts.at(-1);
+    if (start === undefined)
+      return null;
+    const bytes = this.#bytes.slice(start, this.#size);
+    return chunkAt(put(input, bytes), bytes, 0);
+  }
+
   finish(options = {}) {
     const { checksum = true } = record(options, 'options'), isSealed = truth(checksum, 'checksum');
     const bytes = this.#bytes.slice(0, this.#size);
@@ -747,7 +818,8 @@ function begin(wasm) {
 const davgyuti = {
   version, versionNumber, Result, FIRST_CHUNK, ChunkType, TAG_REFLECTED, ParameterType, CauseCode, ReConfigResult, resultText,
   chunkName, parameterName, causeName, isKnownChunk, isKnownParameter, isKnownCause, Fault, WriteError, check, firstFault,
-  canonical, text, report, word, header, chunks, parameters, causes, seal, setTag, Builder, cleanBlocks,
+  canonical, text, report, word, needsChecksum, header, chunks, readChunk, dataFlags, withFlags, parameters, parameter, causes,
+  cause, seal, setTag, Builder, cleanBlocks,
 };
 if (this) {
   const wasm = new WebAssembly.Module(require('node:fs').readFileSync(`${__dirname}/dcsctp.wasm`));

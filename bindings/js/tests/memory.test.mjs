@@ -83,6 +83,11 @@ test('what lies beside the bytes in the memory stays', () => {
     for (let at = 12; at + 4 <= packet.length; at += 4 + random(5) * 4)
       packet.set([types[random(types.length)], random(8), 0, random(40)], at);
     const copy = packet.slice();
+    const isOnly = davgyuti.firstFault(packet, { anyChecksum: true }) === null && [...davgyuti.chunks(packet)].length === 1;
+    if (isOnly)
+      davgyuti.readChunk(packet.subarray(12));
+    else
+      assert.throws(() => davgyuti.readChunk(packet.subarray(12)), Fault);
     const policy = { anyChecksum: true, strictPadding: random(2) === 1 };
     if (davgyuti.firstFault(packet, policy) === null) {
       davgyuti.canonical(packet, policy);

@@ -38,7 +38,8 @@ def header() -> str:
     raise FileNotFoundError("there is no dcsctp.h")
 
 
-HEADER = header()
+# (the package reads chunk by chunk, without dcsctp_read)
+HEADER = re.sub(r"^struct dcsctp_(?:row|packet) \{.*?^\};|^\w+ dcsctp_read\([^)]*\);", "", header(), flags=re.MULTILINE | re.DOTALL)
 
 
 def camel(name: str) -> str:

@@ -25,12 +25,12 @@ with open(os.path.join(HERE, "..", "README.md"), encoding="ascii") as file:
 
 class Readme(unittest.TestCase):
     def test_python(self) -> None:
-        found = re.search(r"```python\n(.*?)```", README, re.DOTALL)
-        assert found
-        printed = io.StringIO()
-        with contextlib.redirect_stdout(printed):
-            exec(found[1], {})
-        self.assertEqual(re.findall(r"print\(.*\)  # (.*)", found[1]), printed.getvalue().split())
+        programs = re.findall(r"```python\n(.*?)```", README, re.DOTALL)
+        for program in (programs[0], programs[2]):
+            printed = io.StringIO()
+            with contextlib.redirect_stdout(printed):
+                exec(program, {})
+            self.assertEqual(re.findall(r"print\(.*\)  # (.*)", program), printed.getvalue().splitlines())
 
     def test_capture(self) -> None:
         known = packets()

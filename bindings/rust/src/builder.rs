@@ -185,7 +185,7 @@ impl<'a> PacketBuilder<'a> {
     }
 
     /// Returns the packet with a checksum field of zero, as it may be sent to a peer that sent Zero
-    /// Checksum Acceptable (RFC 9653); but not with INIT or COOKIE ECHO in it.
+    /// Checksum Acceptable (RFC 9653), unless it [`needs_checksum`](crate::needs_checksum).
     ///
     /// ```
     /// # let mut buffer = [0; 100];
@@ -731,6 +731,25 @@ impl ChunkBuilder<'_, '_> {
         self.packet.last
     }
 
+    /// Returns the chunk so far, without padding (RFC 9260 section 3.2): all that is sent of one
+    /// without a packet around it, as of an INIT in SDP's `a=sctp-init`.
+    ///
+    /// ```
+    /// use davgyuti::ParameterType;
+    ///
+    /// # let mut buffer = [0; 100];
+    /// # let mut packet = davgyuti::PacketBuilder::begin(&mut buffer, 5000, 5001, 7)?;
+    /// let mut init = packet.init(&davgyuti::Init::default())?;
+    /// init.parameter(ParameterType::SUPPORTED_EXTENSIONS, &[130, 192])?;
+    /// assert_eq!(init.as_bytes().len(), 20 + 4 + 2);
+    /// # Ok::<(), davgyuti::WriteError>(())
+    /// ```
+    #[must_use]
+    pub fn as_bytes(&self) -> &[u8] {
+        let chunk = Chunk::at(self.packet.as_bytes(), self.packet.last);
+        chunk.map_or(&[], |it| it.as_bytes())
+    }
+
     pub(crate) const fn packet(&self) -> &PacketBuilder<'_> {
         self.packet
     }
@@ -905,19 +924,15 @@ fn raw_data(data: &Data) -> ffi::Data {
 
 /// The numbers as C has them, and the streams.
 fn raw_re_config<'a>(re_config: &ReConfig<&'a [u16]>) -> (ffi::ReConfig, &'a [u16]) {
-    let of = |typ: ParameterType| ffi::ReConfig { r#type: typ.0, ..Default::default() };
+    let raw = ffi::ReConfig { r#type: re_config.parameter_type().0, ..Default::default() };
     match *re_config {
         ReConfig::OutgoingSsnReset { request_number, response_number, last_tsn, streams } => {
-            let raw = of(ParameterType::OUTGOING_SSN_RESET);
             (ffi::ReConfig { request_number, response_number, last_tsn, ..raw }, streams)
         }
         ReConfig::IncomingSsnReset { request_number, streams } => {
-            let raw = of(ParameterType::INCOMING_SSN_RESET);
             (ffi::ReConfig { request_number, ..raw }, streams)
         }
-        ReConfig::SsnTsnReset { request_number } => {
-            (ffi::ReConfig { request_number, ..of(ParameterType::SSN_TSN_RESET) }, &[])
-        }
+        ReConfig::SsnTsnReset { request_number } => (ffi::ReConfig { request_number, ..raw }, &[]),
         ReConfig::Response { response_number, result, next_tsns } => {
             let next = next_tsns.unwrap_or_default();
             let raw = ffi::ReConfig {
@@ -926,16 +941,12 @@ fn raw_re_config<'a>(re_config: &ReConfig<&'a [u16]>) -> (ffi::ReConfig, &'a [u1
                 has_next_tsns: next_tsns.is_some(),
                 sender_next_tsn: next.sender,
                 receiver_next_tsn: next.receiver,
-                ..of(ParameterType::RECONFIGURATION_RESPONSE)
+                ..raw
             };
             (raw, &[])
         }
-        ReConfig::AddOutgoingStreams { request_number, new_streams } => {
-            let raw = of(ParameterType::ADD_OUTGOING_STREAMS);
-            (ffi::ReConfig { request_number, new_streams, ..raw }, &[])
-        }
-        ReConfig::AddIncomingStreams { request_number, new_streams } => {
-            let raw = of(ParameterType::ADD_INCOMING_STREAMS);
+        ReConfig::AddOutgoingStreams { request_number, new_streams }
+        | ReConfig::AddIncomingStreams { request_number, new_streams } => {
             (ffi::ReConfig { request_number, new_streams, ..raw }, &[])
         }
     }

@@ -2,11 +2,17 @@
 //! Chunks, and what they hold, where it lies.
 
 use crate::debug::list_of_items;
+#[cfg(feature = "alloc")]
+use crate::error::{Fault, FaultKind};
 use crate::ffi;
 use crate::list::{Causes, Parameters};
 #[cfg(feature = "alloc")]
 use crate::owned::OwnedChunk;
+#[cfg(feature = "alloc")]
+use crate::packet::first_fault;
 use crate::types::ChunkType;
+#[cfg(feature = "alloc")]
+use crate::values::Policy;
 use crate::values::{Data, GapAckBlock, Init, SkippedStream};
 use core::iter::FusedIterator;
 use core::ops::Range;
@@ -144,6 +150,39 @@ pub enum Content<'a> {
     Other,
 }
 
+impl Content<'_> {
+    /// Returns the type of the chunk (RFC 9260 section 3.2); none of [`Other`](Self::Other).
+    ///
+    /// ```
+    /// use davgyuti::{ChunkType, Content};
+    ///
+    /// assert_eq!(Content::CookieAck.chunk_type(), Some(ChunkType::COOKIE_ACK));
+    /// ```
+    #[must_use]
+    pub const fn chunk_type(&self) -> Option<ChunkType> {
+        Some(match self {
+            Self::Data(_) => ChunkType::DATA,
+            Self::IData(_) => ChunkType::I_DATA,
+            Self::Init(..) => ChunkType::INIT,
+            Self::InitAck(..) => ChunkType::INIT_ACK,
+            Self::Sack(_) => ChunkType::SACK,
+            Self::Heartbeat(_) => ChunkType::HEARTBEAT,
+            Self::HeartbeatAck(_) => ChunkType::HEARTBEAT_ACK,
+            Self::Abort { .. } => ChunkType::ABORT,
+            Self::Shutdown { .. } => ChunkType::SHUTDOWN,
+            Self::ShutdownAck => ChunkType::SHUTDOWN_ACK,
+            Self::Error(_) => ChunkType::ERROR,
+            Self::CookieEcho(_) => ChunkType::COOKIE_ECHO,
+            Self::CookieAck => ChunkType::COOKIE_ACK,
+            Self::ShutdownComplete { .. } => ChunkType::SHUTDOWN_COMPLETE,
+            Self::ReConfig(_) => ChunkType::RE_CONFIG,
+            Self::ForwardTsn(_) => ChunkType::FORWARD_TSN,
+            Self::IForwardTsn(_) => ChunkType::I_FORWARD_TSN,
+            Self::Other => return None,
+        })
+    }
+}
+
 impl<'a> Chunk<'a> {
     /// Reads the chunk at an offset of any bytes, checked or not; none where no whole chunk is (RFC
     /// 9260 section 3.2).
@@ -163,6 +202,37 @@ impl<'a> Chunk<'a> {
         // SAFETY: `bytes` is a slice, and `chunk` a reference.
         let raw = ffi::read(|chunk| unsafe { ffi::dcsctp_chunk_at(start, length, offset, chunk) })?;
         Some(Self { bytes, raw })
+    }
+
+    /// Checks bytes that have to be one chunk, without a packet around it, and with or without its
+    /// padding: as SDP has an INIT in `a=sctp-init`, and the cause Unrecognized Chunk Type any chunk
+    /// (RFC 9260 section 3.3.10.6). [`as_bytes`](Self::as_bytes) writes it. This needs the feature
+    /// `alloc`, for a packet that is put around it.
+    ///
+    /// ```
+    /// use davgyuti::{Chunk, Fault, FaultKind};
+    ///
+    /// assert_eq!(Chunk::parse(b"\x0a\0\0\x07abc")?.value(), b"abc");
+    /// // Two chunks.
+    /// let fault = Fault { kind: FaultKind::Length, offset: 4 };
+    /// assert_eq!(Chunk::parse(b"\x0b\0\0\x04\x0b\0\0\x04"), Err(fault));
+    /// # Ok::<(), Fault>(())
+    /// ```
+    ///
+    /// # Errors
+    /// The first fault, whose offset is into these bytes; [`FaultKind::Length`] where the chunk ends
+    /// if something follows it.
+    #[cfg(feature = "alloc")]
+    pub fn parse(bytes: &'a [u8]) -> Result<Self, Fault> {
+        let chunk = Self::at(bytes, 0);
+        // (no chunk is longer than these)
+        let end = chunk.map_or(bytes.len().min(0x1_0000), |it| it.next_offset());
+        let packet = [&[0; FIRST_CHUNK], &bytes[..end]].concat();
+        if let Some(it) = first_fault(&packet, 0, Policy::new().with_any_checksum(true)) {
+            return Err(Fault { offset: it.offset - FIRST_CHUNK, ..it });
+        }
+        let behind = Fault { kind: FaultKind::Length, offset: end };
+        chunk.filter(|_| end == bytes.len()).ok_or(behind)
     }
 
     /// Returns the type (RFC 9260 section 3.2).

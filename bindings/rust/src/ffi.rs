@@ -1,7 +1,16 @@
 // SPDX-License-Identifier: Apache-2.0
 //! The C API, as `dcsctp.h` declares it; `tests/header.rs` compares them.
 
-use crate::{GapAckBlock, Header, Init, Policy, SkippedStream};
+use crate::{GapAckBlock, Header, Init, SkippedStream};
+
+/// Which checksum fields are accepted, and whether padding is checked.
+#[repr(C)]
+#[derive(Clone, Copy, Default, Debug)]
+pub struct Policy {
+    pub any_checksum: bool,
+    pub zero_checksum: bool,
+    pub strict_padding: bool,
+}
 
 /// A chunk, as offsets into the packet's bytes.
 #[repr(C)]

@@ -32,7 +32,7 @@ pub use error::{Fault, FaultKind, OutputError, UnknownNumber, WriteError};
 pub use list::{Cause, Causes, MissingParameters, Parameter, Parameters, ResetStreams};
 #[cfg(feature = "alloc")]
 pub use owned::OwnedChunk;
-pub use packet::{Packet, check, clean_blocks, first_fault, seal, set_tag, word};
+pub use packet::{Packet, check, clean_blocks, first_fault, needs_checksum, seal, set_tag, word};
 pub use types::{CauseCode, ChunkType, ParameterType};
 pub use values::{
     Data, GapAckBlock, Header, Init, NextTsns, Policy, ReConfig, ReConfigResult, SkippedStream,

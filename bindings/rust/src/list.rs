@@ -3,6 +3,7 @@
 
 use crate::chunk::{Chunk, indexed, part, read, same_bytes};
 use crate::debug::list_of_items;
+use crate::error::WriteError;
 use crate::ffi;
 use crate::types::{CauseCode, ChunkType, ParameterType};
 use crate::values::{NextTsns, ReConfig, ReConfigResult};
@@ -21,6 +22,19 @@ pub(crate) struct Item<'a> {
 const ITEM_HEADER: usize = 4;
 
 impl<'a> Item<'a> {
+    /// Writes one with this type or code and this value to the front of `output`.
+    fn write(output: &'a mut [u8], number: u16, value: &[u8]) -> Result<Self, WriteError> {
+        let next = ITEM_HEADER + value.len();
+        let length = u16::try_from(next).map_err(|_| WriteError::BadValue)?;
+        let bytes = output.get_mut(..next).ok_or(WriteError::NoRoom)?;
+        let (header, rest) = bytes.split_at_mut(ITEM_HEADER);
+        header[..2].copy_from_slice(&number.to_be_bytes());
+        header[2..].copy_from_slice(&length.to_be_bytes());
+        rest.copy_from_slice(value);
+        let (value_offset, value_size) = (ITEM_HEADER, value.len());
+        Ok(Self { bytes, raw: ffi::Parameter { r#type: number, value_offset, value_size, next } })
+    }
+
     const fn offset(&self) -> usize {
         self.raw.value_offset - ITEM_HEADER
     }
@@ -155,6 +169,30 @@ impl FusedIterator for Causes<'_> {}
 pub struct Parameter<'a>(Item<'a>);
 
 impl<'a> Parameter<'a> {
+    /// Writes a parameter with this type and this value (RFC 9260 section 3.2.1) to the front of
+    /// `output`, and returns it, to be read as one that lies in a packet.
+    ///
+    /// ```
+    /// use davgyuti::{Parameter, ParameterType, ReConfig};
+    ///
+    /// let mut output = [0; 100];
+    /// let it = Parameter::write(&mut output, ParameterType::SSN_TSN_RESET, &[0, 0, 0, 1])?;
+    /// assert!(matches!(it.re_config(), Some(ReConfig::SsnTsnReset { request_number: 1 })));
+    /// assert_eq!(it.as_bytes(), [0, 15, 0, 8, 0, 0, 0, 1]);
+    /// # Ok::<(), davgyuti::WriteError>(())
+    /// ```
+    ///
+    /// # Errors
+    /// [`WriteError::BadValue`] where it would have more than 65,535 bytes, or
+    /// [`WriteError::NoRoom`].
+    pub fn write(
+        output: &'a mut [u8],
+        parameter_type: ParameterType,
+        value: &[u8],
+    ) -> Result<Self, WriteError> {
+        Item::write(output, parameter_type.0, value).map(Self)
+    }
+
     /// Returns the type (RFC 9260 section 3.2.1).
     ///
     /// ```
@@ -329,6 +367,24 @@ impl<'a> Parameter<'a> {
 pub struct Cause<'a>(Item<'a>);
 
 impl<'a> Cause<'a> {
+    /// Writes an error cause with this code and this value (RFC 9260 section 3.3.10) to the front of
+    /// `output`, and returns it, to be read as one that lies in a packet.
+    ///
+    /// ```
+    /// use davgyuti::{Cause, CauseCode};
+    ///
+    /// let mut output = [0; 100];
+    /// let it = Cause::write(&mut output, CauseCode::NO_USER_DATA, &[0, 0, 0, 41])?;
+    /// assert_eq!((it.number(), it.code().name()), (Some(41), "No User Data"));
+    /// # Ok::<(), davgyuti::WriteError>(())
+    /// ```
+    ///
+    /// # Errors
+    /// As of [`Parameter::write`].
+    pub fn write(output: &'a mut [u8], code: CauseCode, value: &[u8]) -> Result<Self, WriteError> {
+        Item::write(output, code.0, value).map(Self)
+    }
+
     /// Returns the code (RFC 9260 section 3.3.10).
     ///
     /// ```

@@ -1,9 +1,10 @@
 // SPDX-License-Identifier: Apache-2.0
 //! Whole packets.
 
-use crate::chunk::{Chunk, Chunks, same_bytes};
+use crate::chunk::{Chunk, Chunks, TAG_REFLECTED, same_bytes};
 use crate::error::{Fault, FaultKind, OutputError, WriteError};
 use crate::ffi;
+use crate::types::ChunkType;
 use crate::values::{GapAckBlock, Header, Policy};
 #[cfg(feature = "alloc")]
 use alloc::{string::String, vec::Vec};
@@ -26,6 +27,43 @@ pub fn word(bytes: &[u8]) -> u32 {
     unsafe { ffi::dcsctp_word(bytes.as_ptr(), bytes.len()) }
 }
 
+/// Returns whether a packet has to have its CRC32c also where a checksum of zero was negotiated (RFC
+/// 9653 section 5.2).
+///
+/// It has INIT, COOKIE ECHO or ASCONF; or it answers a packet out of the blue, by ABORT or SHUTDOWN
+/// COMPLETE with [`TAG_REFLECTED`]. Only one that doesn't need it may be sent
+/// [unsealed](crate::PacketBuilder::unsealed).
+///
+/// ```
+/// // SHUTDOWN COMPLETE, and the same with a tag that is reflected.
+/// let mut bytes = *b"\x13\x88\x13\x88\x4d\x2d\xf5\x2d\0\0\0\0\x0e\0\0\x04";
+/// assert!(!davgyuti::needs_checksum(&bytes));
+/// bytes[13] = davgyuti::TAG_REFLECTED;
+/// assert!(davgyuti::needs_checksum(&bytes));
+/// ```
+#[must_use]
+pub fn needs_checksum(bytes: &[u8]) -> bool {
+    Chunks::of(bytes).any(|it| match it.chunk_type() {
+        ChunkType::INIT | ChunkType::COOKIE_ECHO | ChunkType::ASCONF => true,
+        ChunkType::ABORT | ChunkType::SHUTDOWN_COMPLETE => it.flags() & TAG_REFLECTED != 0,
+        _ => false,
+    })
+}
+
+/// What C takes of a policy, for these bytes.
+fn raw_policy(policy: Policy, bytes: &[u8]) -> ffi::Policy {
+    let is_allowed = policy.allowed_zero_checksum
+        && Header::read(bytes).is_some_and(|it| it.checksum == 0)
+        // (what is larger is no packet, and isn't gone through)
+        && bytes.len() <= 0xffff
+        && !needs_checksum(bytes);
+    ffi::Policy {
+        any_checksum: policy.any_checksum,
+        zero_checksum: policy.zero_checksum || is_allowed,
+        strict_padding: policy.strict_padding,
+    }
+}
+
 /// Checks whether bytes are a packet (RFC 9260 section 3). `word` is what the checksum field has to
 /// be: [`word(bytes)`](word).
 ///
@@ -44,6 +82,7 @@ pub fn word(bytes: &[u8]) -> u32 {
 #[doc(alias = "dcsctp_check")]
 pub fn check(bytes: &[u8], word: u32, policy: Policy) -> Result<(), FaultKind> {
     let (start, length) = (bytes.as_ptr(), bytes.len());
+    let policy = raw_policy(policy, bytes);
     // SAFETY: `bytes` is a slice, and `policy` is a value here.
     let code = unsafe { ffi::dcsctp_check(start, length, word, &raw const policy) };
     FaultKind::of(code).map_or(Ok(()), Err)
@@ -64,7 +103,7 @@ pub fn check(bytes: &[u8], word: u32, policy: Policy) -> Result<(), FaultKind> {
 #[doc(alias = "dcsctp_first_fault")]
 #[must_use]
 pub fn first_fault(bytes: &[u8], word: u32, policy: Policy) -> Option<Fault> {
-    let mut offset = 0;
+    let (mut offset, policy) = (0, raw_policy(policy, bytes));
     let (start, length) = (bytes.as_ptr(), bytes.len());
     let (policy, offset_at) = (&raw const policy, &raw mut offset);
     // SAFETY: `bytes` is a slice, and `policy` and `offset` are values here.
@@ -181,8 +220,15 @@ pub struct Packet<'a> {
 same_bytes!(Packet);
 
 /// The type of the functions that write what a packet holds.
-type Write =
-    unsafe extern "C" fn(*const u8, usize, u32, *const Policy, *mut u8, usize, *mut usize) -> u32;
+type Write = unsafe extern "C" fn(
+    *const u8,
+    usize,
+    u32,
+    *const ffi::Policy,
+    *mut u8,
+    usize,
+    *mut usize,
+) -> u32;
 
 impl<'a> Packet<'a> {
     /// Checks bytes whose checksum has to be their CRC32c; padding is ignored.
@@ -396,10 +442,12 @@ impl<'a> Packet<'a> {
         let Self { bytes, word, policy } = self;
         let (start, length) = (bytes.as_ptr(), bytes.len());
         let (front, room) = (output.as_mut_ptr(), output.len());
-        let mut size = 0;
+        let (mut size, policy) = (0, raw_policy(*policy, bytes));
         // SAFETY: `function` is one of dcsctp_canonical, dcsctp_print and dcsctp_report. `bytes`
-        // and `output` are slices, and `policy` and `size` references.
-        let code = unsafe { function(start, length, *word, policy, front, room, &raw mut size) };
+        // and `output` are slices, and `policy` and `size` values here.
+        let code = unsafe {
+            function(start, length, *word, &raw const policy, front, room, &raw mut size)
+        };
         match code {
             0 => Ok(size),
             6 => Err(OutputError::OutOfMemory),

@@ -2,6 +2,7 @@
 //! What chunks hold: values that are read and written.
 
 use crate::error::UnknownNumber;
+use crate::types::ParameterType;
 
 /// Which checksum fields are accepted, and whether padding is checked.
 ///
@@ -22,17 +23,18 @@ use crate::error::UnknownNumber;
 /// ```compile_fail,E0639
 /// let policy = davgyuti::Policy { zero_checksum: true, ..Default::default() };
 /// ```
-#[repr(C)]
 #[non_exhaustive]
 #[derive(Clone, Copy, Default, PartialEq, Eq, Hash, Debug)]
+#[allow(clippy::struct_excessive_bools)] // each is asked for by itself
 pub struct Policy {
     /// Accepts every checksum field: for captures whose checksums a network card filled in later.
     pub any_checksum: bool,
-    /// Accepts a field of zero as well. Set it once you sent Zero Checksum Acceptable (RFC 9653):
-    /// as a client for what comes after your INIT, as a server for what comes after the COOKIE
-    /// ECHO. Packets with INIT or COOKIE ECHO still need a CRC32c: refuse them where
-    /// `packet.header().checksum != davgyuti::word(bytes)`.
+    /// Accepts a field of zero as well (RFC 9653), in every packet.
     pub zero_checksum: bool,
+    /// Accepts a field of zero where RFC 9653 section 5.2 allows one, not in a packet that
+    /// [`needs_checksum`](crate::needs_checksum). Set it once you sent Zero Checksum Acceptable: as
+    /// a client for what comes after your INIT, as a server for what comes after the COOKIE ECHO.
+    pub allowed_zero_checksum: bool,
     /// Padding has to be complete and zero: for a filter that refuses bytes hidden in padding,
     /// which a receiver has to ignore (RFC 9260 section 3.2).
     pub strict_padding: bool,
@@ -46,7 +48,12 @@ impl Policy {
     /// ```
     #[must_use]
     pub const fn new() -> Self {
-        Self { any_checksum: false, zero_checksum: false, strict_padding: false }
+        Self {
+            any_checksum: false,
+            zero_checksum: false,
+            allowed_zero_checksum: false,
+            strict_padding: false,
+        }
     }
 
     /// Returns the same with another [`any_checksum`](Self::any_checksum).
@@ -67,6 +74,16 @@ impl Policy {
     #[must_use]
     pub const fn with_zero_checksum(self, zero_checksum: bool) -> Self {
         Self { zero_checksum, ..self }
+    }
+
+    /// Returns the same with another [`allowed_zero_checksum`](Self::allowed_zero_checksum).
+    ///
+    /// ```
+    /// assert!(davgyuti::Policy::new().with_allowed_zero_checksum(true).allowed_zero_checksum);
+    /// ```
+    #[must_use]
+    pub const fn with_allowed_zero_checksum(self, allowed_zero_checksum: bool) -> Self {
+        Self { allowed_zero_checksum, ..self }
     }
 
     /// Returns the same with another [`strict_padding`](Self::strict_padding).
@@ -182,6 +199,38 @@ pub struct Data<'a> {
     pub immediate_ack: bool,
     /// The user's bytes.
     pub payload: &'a [u8],
+}
+
+impl Data<'_> {
+    /// Returns the bits as the number in the chunk (RFC 9260 section 3.3.1): E 1, B 2, U 4, I 8.
+    ///
+    /// ```
+    /// let data = davgyuti::Data { is_beginning: true, is_end: true, ..Default::default() };
+    /// assert_eq!(data.flags(), 3);
+    /// ```
+    #[must_use]
+    pub fn flags(&self) -> u8 {
+        let bits = [self.is_end, self.is_beginning, self.is_unordered, self.immediate_ack];
+        bits.into_iter().rev().fold(0, |flags, bit| 2 * flags + u8::from(bit))
+    }
+
+    /// Returns the same with the bits of this number (RFC 9260 section 3.3.1); its other bits are
+    /// reserved.
+    ///
+    /// ```
+    /// let data = davgyuti::Data { tsn: 41, ..Default::default() }.with_flags(6);
+    /// assert!(data.is_beginning && data.is_unordered && !data.is_end && !data.immediate_ack);
+    /// ```
+    #[must_use]
+    pub const fn with_flags(self, flags: u8) -> Self {
+        Self {
+            is_end: flags & 1 != 0,
+            is_beginning: flags & 2 != 0,
+            is_unordered: flags & 4 != 0,
+            immediate_ack: flags & 8 != 0,
+            ..self
+        }
+    }
 }
 
 /// A gap ack block of a SACK (RFC 9260 section 3.3.4): the TSNs from one offset to another have
@@ -312,6 +361,26 @@ pub enum ReConfig<Streams> {
 }
 
 impl<Streams> ReConfig<Streams> {
+    /// Returns the type of the parameter (RFC 6525 section 4).
+    ///
+    /// ```
+    /// use davgyuti::{ParameterType, ReConfig};
+    ///
+    /// let request = ReConfig::<&[u16]>::SsnTsnReset { request_number: 1 };
+    /// assert_eq!(request.parameter_type(), ParameterType::SSN_TSN_RESET);
+    /// ```
+    #[must_use]
+    pub const fn parameter_type(&self) -> ParameterType {
+        match self {
+            Self::OutgoingSsnReset { .. } => ParameterType::OUTGOING_SSN_RESET,
+            Self::IncomingSsnReset { .. } => ParameterType::INCOMING_SSN_RESET,
+            Self::SsnTsnReset { .. } => ParameterType::SSN_TSN_RESET,
+            Self::Response { .. } => ParameterType::RECONFIGURATION_RESPONSE,
+            Self::AddOutgoingStreams { .. } => ParameterType::ADD_OUTGOING_STREAMS,
+            Self::AddIncomingStreams { .. } => ParameterType::ADD_INCOMING_STREAMS,
+        }
+    }
+
     /// Returns the same with other streams (RFC 6525 section 4): made of those that it has, if its
     /// kind has some.
     ///

@@ -209,8 +209,19 @@ fn rewritten(packet: &Packet) -> Vec<u8> {
     builder.seal().to_vec()
 }
 
+/// That bytes are a chunk if and only if they are the only one of a packet.
+#[cfg(feature = "alloc")]
+fn check_bare(bytes: &[u8]) {
+    let any = Policy::new().with_any_checksum(true);
+    let chunks = Packet::parse_with(bytes, 0, any).map(|it| it.chunks());
+    let only = chunks.ok().filter(|it| it.clone().count() == 1).and_then(|mut it| it.next());
+    assert_eq!(Chunk::parse(bytes.get(12..).unwrap_or_default()).ok(), only);
+}
+
 /// Reads a packet, if it is one, and writes it anew; returns whether it is one.
 fn check(bytes: &[u8], policy: Policy) -> bool {
+    #[cfg(feature = "alloc")]
+    check_bare(bytes);
     let word = davgyuti::word(bytes);
     let fault = davgyuti::first_fault(bytes, word, policy);
     assert_eq!(davgyuti::check(bytes, word, policy).err(), fault.map(|it| it.kind));

@@ -2,7 +2,8 @@
 // What TypeScript knows of the package: this compiles, but for each line below a @ts-expect-error, which must not.
 import {
   Builder, CauseCode, Chunk, ChunkType, Fault, FaultCode, Packet, Parameter, ParameterType, ReConfigResult, ReConfigType, Result,
-  UncheckedChunk, WriteError, causes, check, chunks, firstFault, header, isKnownChunk, parameters,
+  UncheckedChunk, WriteError, cause as causeOf, causes, check, chunks, dataFlags, firstFault, header, isKnownChunk, needsChecksum, parameter,
+  parameters, readChunk, withFlags,
 } from 'davgyuti';
 // @ts-expect-error it is no part of the interface
 import { Needed } from 'davgyuti';
@@ -121,3 +122,14 @@ builder.addReConfig({ type: 16, result: 7 });
 check(bytes, { word: undefined });
 
 export { cause, davgyuti, item, known, Needed, part, result, type, unknown };
+
+// A chunk without a packet around it was checked; so its type says what it has.
+const bare: Chunk = readChunk(bytes);
+if (bare.type === ChunkType.INIT)
+  numbers.push(bare.init.initiateTag);
+const made: Parameter = parameter(ParameterType.STATE_COOKIE, bytes);
+numbers.push(made.type, causeOf(CauseCode.NO_USER_DATA, bytes).number ?? 0, dataFlags({ isEnd: true }));
+const data = withFlags({ tsn: 1, stream: 2, payload: bytes }, 3);
+new Builder({ sourcePort: 1, destinationPort: 2, verificationTag: 3 }).addData(data).lastChunk()?.bytes;
+if (!needsChecksum(bytes))
+  check(bytes, { allowedZeroChecksum: true });

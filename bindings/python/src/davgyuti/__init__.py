@@ -14,7 +14,8 @@
 
 Packets begin at the source port: at what follows the IP header, or that of UDP (RFC 6951). All numbers are plain values.
 Each chunk, parameter and error cause that was read has its `offset`; `bytes(it)` is how it is written, with its header, and
-of a RawChunk, RawParameter or RawCause also how it was read. Chunks and parameters have their `type`, causes their `code`.
+of a RawChunk, RawParameter or RawCause also how it was read. Chunks and parameters have their `type`, causes their `code`,
+and all of them a `name` and a `value`; `parameter(type, value)` and `cause(code, value)` make one of its kind.
 The functions of the library are compiled from proved sources; this wrapper isn't proved. Any number of threads may call at
 once; a list that is written call by call belongs to one thread at a time. In the forked child of a process with threads, `canonical` and `text` may not be called, nor a builder that another
 thread was using. A handler of `signal` may call everything but the methods of a builder that it may have interrupted.
@@ -25,12 +26,16 @@ from ._reading import (
     Buffer,
     Packet,
     canonical,
+    cause,
     check,
     chunks,
     first_fault,
     header,
+    needs_checksum,
+    parameter,
     raw_chunks,
     raw_items,
+    read_chunk,
     report,
     text,
     word,
@@ -167,6 +172,7 @@ __all__ = [
     "ZeroChecksumAcceptable",
     "__version__",
     "canonical",
+    "cause",
     "cause_name",
     "check",
     "chunk_name",
@@ -174,9 +180,12 @@ __all__ = [
     "clean_blocks",
     "first_fault",
     "header",
+    "needs_checksum",
+    "parameter",
     "parameter_name",
     "raw_chunks",
     "raw_items",
+    "read_chunk",
     "report",
     "seal",
     "set_tag",

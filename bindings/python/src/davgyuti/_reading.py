@@ -17,7 +17,11 @@ Buffer: TypeAlias = bytes | bytearray | memoryview
 
 _P = TypeVar("_P")
 _FIRST_CHUNK = 12
+# (what is larger is no packet, and is refused before it is gone through or copied)
+_LARGEST = 0xFFFF
 _DEFAULT = v.Policy()
+_CHECKSUMMED = {v.ChunkType.INIT, v.ChunkType.COOKIE_ECHO, v.ChunkType.ASCONF}
+_REFLECTING = {v.ChunkType.ABORT, v.ChunkType.SHUTDOWN_COMPLETE}
 
 
 def to_bytes(data: Buffer) -> bytes:
@@ -44,7 +48,13 @@ def _arguments(data: bytes, policy: v.Policy, word: int | None) -> tuple[Any, ..
     right = functions.dcsctp_word(data, len(data)) if word is None else number(word, 0xFFFFFFFF, "word")
     if not isinstance(policy, v.Policy):
         raise TypeError(f"policy has to be a Policy, and is {policy!r}")
-    flags = c.Policy(policy.any_checksum, policy.zero_checksum, policy.strict_padding)
+    zero = policy.zero_checksum or (
+        policy.allowed_zero_checksum
+        and data[8:_FIRST_CHUNK] == bytes(4)
+        and len(data) <= _LARGEST
+        and not needs_checksum(data)
+    )
+    flags = c.Policy(policy.any_checksum, zero, policy.strict_padding)
     return data, len(data), right, byref(flags)
 
 
@@ -74,6 +84,13 @@ def word(data: Buffer) -> int:
     data = to_bytes(data)
     result: int = functions.dcsctp_word(data, len(data))
     return result
+
+
+def needs_checksum(data: Buffer) -> bool:
+    """Returns whether a packet has to have its CRC32c where a checksum of zero was negotiated, too (RFC 9653 section 5.2):
+    it has INIT, COOKIE ECHO or ASCONF; or it answers a packet out of the blue, by an ABORT or a SHUTDOWN COMPLETE whose tag
+    is reflected."""
+    return any(it.type in _CHECKSUMMED or it.type in _REFLECTING and it.flags & 1 for it in _chunks(to_bytes(data)))
 
 
 def check(data: Buffer, policy: v.Policy = _DEFAULT, *, word: int | None = None) -> None:
@@ -141,7 +158,40 @@ def raw_items(data: Buffer) -> Iterator[tuple[v.RawChunk, tuple[v.RawParameter, 
     are; of a cause the code is the type."""
     data = to_bytes(data)
     for chunk in _chunks(data):
-        yield _raw_chunk(data, chunk), tuple(_raw_parameter(data, it) for it in _items(data, chunk))
+        yield _raw_chunk(data, chunk), tuple(_placed(_raw_parameter(data, it), it) for it in _items(data, chunk))
+
+
+# ---- without a packet around it
+
+
+def read_chunk(data: Buffer) -> v.Chunk:
+    """Returns the chunk that the bytes are, without a packet around it, and with or without its padding: as SDP has an INIT
+    in `a=sctp-init`, and the cause Unrecognized Chunk Type any. `bytes(chunk)` writes it. Raises Fault, whose offset is into
+    these bytes; with FAULT_LENGTH where the chunk ends if something follows it."""
+    data, it = to_bytes(data), c.Chunk()
+    is_whole = functions.dcsctp_chunk_at(data, len(data), 0, byref(it))
+    end = it.next if is_whole else min(len(data), _LARGEST)
+    fault = first_fault(bytes(_FIRST_CHUNK) + data[:end], v.Policy(any_checksum=True), word=0)
+    if fault is not None:
+        raise v.Fault(fault.code, fault.offset - _FIRST_CHUNK)
+    if end < len(data):
+        raise v.Fault(v.Result.FAULT_LENGTH, end)
+    return _chunk(data, it)
+
+
+def parameter(type: int, value: Buffer = b"") -> v.Parameter:
+    """Returns the parameter of this type with this value: of its kind, or a RawParameter. It has them as its `type` and
+    `value` again, with zeros in reserved bytes."""
+    return _parameter(*_item(number(type, 0xFFFF, "type"), to_bytes(value)))
+
+
+def cause(code: int, value: Buffer = b"") -> v.Cause:
+    """Returns the error cause of this code with this value, likewise."""
+    return _cause(*_item(number(code, 0xFFFF, "code"), to_bytes(value)))
+
+
+def _item(type: int, value: bytes) -> tuple[bytes, c.Parameter]:
+    return value, c.Parameter(type, 0, len(value), len(value))
 
 
 class Packet:
@@ -361,25 +411,25 @@ def _items(data: bytes, chunk: c.Chunk) -> Iterator[c.Parameter]:
 
 
 def _parameters(data: bytes, chunk: c.Chunk) -> tuple[v.Parameter, ...]:
-    return tuple(_parameter(data, it) for it in _items(data, chunk))
+    return tuple(_placed(_parameter(data, it), it) for it in _items(data, chunk))
 
 
 def _causes(data: bytes, chunk: c.Chunk) -> tuple[v.Cause, ...]:
-    return tuple(_cause(data, it) for it in _items(data, chunk))
+    return tuple(_placed(_cause(data, it), it) for it in _items(data, chunk))
 
 
 def _parameter(data: bytes, item: c.Parameter) -> v.Parameter:
     read = _PARAMETERS.get(item.type)
-    return _placed(read and read(data, item) or _raw_parameter(data, item), item)
+    return read and read(data, item) or _raw_parameter(data, item)
 
 
 def _raw_parameter(data: bytes, item: c.Parameter) -> v.RawParameter:
-    return _placed(v.RawParameter(item.type, _value(data, item)), item)
+    return v.RawParameter(item.type, _value(data, item))
 
 
 def _cause(data: bytes, item: c.Parameter) -> v.Cause:
     read = _CAUSES.get(item.type)
-    return _placed(read and read(data, item) or v.RawCause(item.type, _value(data, item)), item)
+    return read and read(data, item) or v.RawCause(item.type, _value(data, item))
 
 
 def _number(data: bytes, item: c.Parameter) -> int | None:

@@ -1,10 +1,11 @@
 # SPDX-License-Identifier: Apache-2.0
 """The values of a packet, and the errors."""
 
-from dataclasses import dataclass, field, fields
+from dataclasses import dataclass, field, fields, replace
 from enum import IntEnum
-from typing import ClassVar, NamedTuple, TypeAlias
+from typing import ClassVar, NamedTuple, TypeAlias, TypeVar
 
+_D = TypeVar("_D", bound="_UserData")
 MAX_PACKET_SIZE = 65532
 """The most bytes that a packet has that is written here: a multiple of 4, as each is."""
 
@@ -347,7 +348,10 @@ class Policy:
     any_checksum: bool = False
     """Accepts every checksum field: for captures whose checksums a network card filled in later."""
     zero_checksum: bool = False
-    """Accepts a field of zero as well (RFC 9653), on INIT and COOKIE ECHO too, which have to have a CRC32c."""
+    """Accepts a field of zero as well (RFC 9653), in every packet."""
+    allowed_zero_checksum: bool = False
+    """Accepts a field of zero where RFC 9653 section 5.2 allows one: not in a packet that `needs_checksum`. For an association
+    in which you sent Zero Checksum Acceptable; a captured packet may be one of before."""
     strict_padding: bool = False
     """Padding has to be complete and zero: for a filter that refuses bytes hidden in it (RFC 9260 section 3.2)."""
 
@@ -406,12 +410,41 @@ class _Part:
 
         return bytes_of(self)
 
+    @property
+    def value(self) -> bytes:
+        """What follows its header of four bytes, as it is written. Raises what PacketBuilder raises for it."""
+        return bytes(self)[4:]
+
+
+@dataclass(frozen=True, slots=True)
+class _ChunkPart(_Part):
+    @property
+    def name(self) -> str:
+        """The name of its type: see chunk_name."""
+        return chunk_name(getattr(self, "type"))
+
+
+@dataclass(frozen=True, slots=True)
+class _ParameterPart(_Part):
+    @property
+    def name(self) -> str:
+        """The name of its type: see parameter_name."""
+        return parameter_name(getattr(self, "type"))
+
+
+@dataclass(frozen=True, slots=True)
+class _CausePart(_Part):
+    @property
+    def name(self) -> str:
+        """The name of its code: see cause_name."""
+        return cause_name(getattr(self, "code"))
+
 
 # ---- parameters
 
 
 @dataclass(frozen=True, slots=True)
-class RawParameter(_Part):
+class RawParameter(_ParameterPart):
     """A parameter as it is (RFC 9260 section 3.2.1): of a type that has no kind of its own here, or whose value isn't one
     of its kind, which a packet that was checked doesn't have."""
 
@@ -420,7 +453,7 @@ class RawParameter(_Part):
 
 
 @dataclass(frozen=True, slots=True)
-class HeartbeatInfo(_Part):
+class HeartbeatInfo(_ParameterPart):
     """Heartbeat Info, type 1 (RFC 9260 section 3.3.5)."""
 
     type: ClassVar[ParameterType] = ParameterType.HEARTBEAT_INFO
@@ -428,7 +461,7 @@ class HeartbeatInfo(_Part):
 
 
 @dataclass(frozen=True, slots=True)
-class StateCookie(_Part):
+class StateCookie(_ParameterPart):
     """State Cookie, type 7 (RFC 9260 section 3.3.3.1)."""
 
     type: ClassVar[ParameterType] = ParameterType.STATE_COOKIE
@@ -436,7 +469,7 @@ class StateCookie(_Part):
 
 
 @dataclass(frozen=True, slots=True)
-class OutgoingSsnReset(_Part):
+class OutgoingSsnReset(_ParameterPart):
     """Outgoing SSN Reset Request, type 13 (RFC 6525 section 4.1). Without streams it is for all of them."""
 
     type: ClassVar[ParameterType] = ParameterType.OUTGOING_SSN_RESET
@@ -449,7 +482,7 @@ class OutgoingSsnReset(_Part):
 
 
 @dataclass(frozen=True, slots=True)
-class IncomingSsnReset(_Part):
+class IncomingSsnReset(_ParameterPart):
     """Incoming SSN Reset Request, type 14 (RFC 6525 section 4.2). Without streams it is for all of them."""
 
     type: ClassVar[ParameterType] = ParameterType.INCOMING_SSN_RESET
@@ -458,7 +491,7 @@ class IncomingSsnReset(_Part):
 
 
 @dataclass(frozen=True, slots=True)
-class SsnTsnReset(_Part):
+class SsnTsnReset(_ParameterPart):
     """SSN/TSN Reset Request, type 15 (RFC 6525 section 4.3)."""
 
     type: ClassVar[ParameterType] = ParameterType.SSN_TSN_RESET
@@ -474,7 +507,7 @@ class NextTsns:
 
 
 @dataclass(frozen=True, slots=True)
-class ReConfigResponse(_Part):
+class ReConfigResponse(_ParameterPart):
     """Re-configuration Response, type 16 (RFC 6525 section 4.4)."""
 
     type: ClassVar[ParameterType] = ParameterType.RECONFIGURATION_RESPONSE
@@ -485,7 +518,7 @@ class ReConfigResponse(_Part):
 
 
 @dataclass(frozen=True, slots=True)
-class AddOutgoingStreams(_Part):
+class AddOutgoingStreams(_ParameterPart):
     """Add Outgoing Streams Request, type 17 (RFC 6525 section 4.5)."""
 
     type: ClassVar[ParameterType] = ParameterType.ADD_OUTGOING_STREAMS
@@ -495,7 +528,7 @@ class AddOutgoingStreams(_Part):
 
 
 @dataclass(frozen=True, slots=True)
-class AddIncomingStreams(_Part):
+class AddIncomingStreams(_ParameterPart):
     """Add Incoming Streams Request, type 18 (RFC 6525 section 4.6)."""
 
     type: ClassVar[ParameterType] = ParameterType.ADD_INCOMING_STREAMS
@@ -505,7 +538,7 @@ class AddIncomingStreams(_Part):
 
 
 @dataclass(frozen=True, slots=True)
-class ZeroChecksumAcceptable(_Part):
+class ZeroChecksumAcceptable(_ParameterPart):
     """Zero Checksum Acceptable, type 0x8001 (RFC 9653 section 4)."""
 
     type: ClassVar[ParameterType] = ParameterType.ZERO_CHECKSUM_ACCEPTABLE
@@ -514,7 +547,7 @@ class ZeroChecksumAcceptable(_Part):
 
 
 @dataclass(frozen=True, slots=True)
-class SupportedExtensions(_Part):
+class SupportedExtensions(_ParameterPart):
     """Supported Extensions, type 0x8008 (RFC 5061 section 4.2.7)."""
 
     type: ClassVar[ParameterType] = ParameterType.SUPPORTED_EXTENSIONS
@@ -523,7 +556,7 @@ class SupportedExtensions(_Part):
 
 
 @dataclass(frozen=True, slots=True)
-class ForwardTsnSupported(_Part):
+class ForwardTsnSupported(_ParameterPart):
     """Forward-TSN-Supported, type 0xC000 (RFC 3758 section 3.1)."""
 
     type: ClassVar[ParameterType] = ParameterType.FORWARD_TSN_SUPPORTED
@@ -548,7 +581,7 @@ Parameter: TypeAlias = (
 
 
 @dataclass(frozen=True, slots=True)
-class RawCause(_Part):
+class RawCause(_CausePart):
     """An error cause as it is (RFC 9260 section 3.3.10): of a code that has no kind of its own here, or whose value isn't
     one of its kind, which a packet that was checked doesn't have."""
 
@@ -557,7 +590,7 @@ class RawCause(_Part):
 
 
 @dataclass(frozen=True, slots=True)
-class MissingMandatoryParameter(_Part):
+class MissingMandatoryParameter(_CausePart):
     """Missing Mandatory Parameter, code 2 (RFC 9260 section 3.3.10.2)."""
 
     code: ClassVar[CauseCode] = CauseCode.MISSING_MANDATORY_PARAMETER
@@ -566,7 +599,7 @@ class MissingMandatoryParameter(_Part):
 
 
 @dataclass(frozen=True, slots=True)
-class UnrecognizedChunk(_Part):
+class UnrecognizedChunk(_CausePart):
     """Unrecognized Chunk Type, code 6 (RFC 9260 section 3.3.10.6)."""
 
     code: ClassVar[CauseCode] = CauseCode.UNRECOGNIZED_CHUNK
@@ -575,7 +608,7 @@ class UnrecognizedChunk(_Part):
 
 
 @dataclass(frozen=True, slots=True)
-class NoUserData(_Part):
+class NoUserData(_CausePart):
     """No User Data, code 9 (RFC 9260 section 3.3.10.9)."""
 
     code: ClassVar[CauseCode] = CauseCode.NO_USER_DATA
@@ -583,14 +616,14 @@ class NoUserData(_Part):
 
 
 @dataclass(frozen=True, slots=True)
-class CookieReceivedWhileShuttingDown(_Part):
+class CookieReceivedWhileShuttingDown(_CausePart):
     """Cookie Received While Shutting Down, code 10 (RFC 9260 section 3.3.10.10)."""
 
     code: ClassVar[CauseCode] = CauseCode.COOKIE_RECEIVED_WHILE_SHUTTING_DOWN
 
 
 @dataclass(frozen=True, slots=True)
-class UserInitiatedAbort(_Part):
+class UserInitiatedAbort(_CausePart):
     """User-Initiated Abort, code 12 (RFC 9260 section 3.3.10.12)."""
 
     code: ClassVar[CauseCode] = CauseCode.USER_INITIATED_ABORT
@@ -599,7 +632,7 @@ class UserInitiatedAbort(_Part):
 
 
 @dataclass(frozen=True, slots=True)
-class ProtocolViolation(_Part):
+class ProtocolViolation(_CausePart):
     """Protocol Violation, code 13 (RFC 9260 section 3.3.10.13)."""
 
     code: ClassVar[CauseCode] = CauseCode.PROTOCOL_VIOLATION
@@ -621,7 +654,7 @@ Cause: TypeAlias = (
 
 
 @dataclass(frozen=True, slots=True)
-class RawChunk(_Part):
+class RawChunk(_ChunkPart):
     """A chunk as it is (RFC 9260 section 3.2): of a type that has no kind of its own here, or whose value isn't one of its
     kind, which a packet that was checked doesn't have."""
 
@@ -631,15 +664,7 @@ class RawChunk(_Part):
 
 
 @dataclass(frozen=True, slots=True, kw_only=True)
-class Data(_Part):
-    """DATA, type 0 (RFC 9260 section 3.3.1): user data, by default a whole message."""
-
-    type: ClassVar[ChunkType] = ChunkType.DATA
-    tsn: int
-    stream: int
-    ssn: int
-    ppid: int
-    payload: bytes
+class _UserData(_ChunkPart):
     is_unordered: bool = False
     """The U bit."""
     is_beginning: bool = True
@@ -649,9 +674,31 @@ class Data(_Part):
     immediate_ack: bool = False
     """The I bit (RFC 7053): the SACK is not to be delayed."""
 
+    @property
+    def flags(self) -> int:
+        """The bits as the number in the chunk: E 1, B 2, U 4, I 8."""
+        return self.is_end | self.is_beginning << 1 | self.is_unordered << 2 | self.immediate_ack << 3
+
+    def with_flags(self: _D, flags: int) -> _D:
+        """Returns the same with the bits of this number; its other bits are reserved."""
+        e, b, u, i = (bool(flags & 1 << it) for it in range(4))
+        return replace(self, is_end=e, is_beginning=b, is_unordered=u, immediate_ack=i)
+
 
 @dataclass(frozen=True, slots=True, kw_only=True)
-class IData(_Part):
+class Data(_UserData):
+    """DATA, type 0 (RFC 9260 section 3.3.1): user data, by default a whole message."""
+
+    type: ClassVar[ChunkType] = ChunkType.DATA
+    tsn: int
+    stream: int
+    ssn: int
+    ppid: int
+    payload: bytes
+
+
+@dataclass(frozen=True, slots=True, kw_only=True)
+class IData(_UserData):
     """I-DATA, type 64 (RFC 8260 section 2.1): user data, by default a whole message."""
 
     type: ClassVar[ChunkType] = ChunkType.I_DATA
@@ -663,18 +710,10 @@ class IData(_Part):
     """At the beginning of a message; elsewhere 0, and not written."""
     fsn: int = 0
     """0 at the beginning of a message, and not written."""
-    is_unordered: bool = False
-    """The U bit."""
-    is_beginning: bool = True
-    """The B bit: it is a message's first fragment."""
-    is_end: bool = True
-    """The E bit: it is a message's last fragment."""
-    immediate_ack: bool = False
-    """The I bit (RFC 7053): the SACK is not to be delayed."""
 
 
 @dataclass(frozen=True, slots=True)
-class Init(_Part):
+class Init(_ChunkPart):
     """INIT, type 1 (RFC 9260 section 3.3.2)."""
 
     type: ClassVar[ChunkType] = ChunkType.INIT
@@ -687,7 +726,7 @@ class Init(_Part):
 
 
 @dataclass(frozen=True, slots=True)
-class InitAck(_Part):
+class InitAck(_ChunkPart):
     """INIT ACK, type 2 (RFC 9260 section 3.3.3). It has to have a State Cookie, and may lack it in what was received."""
 
     type: ClassVar[ChunkType] = ChunkType.INIT_ACK
@@ -700,7 +739,7 @@ class InitAck(_Part):
 
 
 @dataclass(frozen=True, slots=True)
-class Sack(_Part):
+class Sack(_ChunkPart):
     """SACK, type 3 (RFC 9260 section 3.3.4). The blocks may be in any order: see validate_sack."""
 
     type: ClassVar[ChunkType] = ChunkType.SACK
@@ -712,7 +751,7 @@ class Sack(_Part):
 
 
 @dataclass(frozen=True, slots=True)
-class Heartbeat(_Part):
+class Heartbeat(_ChunkPart):
     """HEARTBEAT, type 4 (RFC 9260 section 3.3.5)."""
 
     type: ClassVar[ChunkType] = ChunkType.HEARTBEAT
@@ -720,7 +759,7 @@ class Heartbeat(_Part):
 
 
 @dataclass(frozen=True, slots=True)
-class HeartbeatAck(_Part):
+class HeartbeatAck(_ChunkPart):
     """HEARTBEAT ACK, type 5 (RFC 9260 section 3.3.6)."""
 
     type: ClassVar[ChunkType] = ChunkType.HEARTBEAT_ACK
@@ -728,7 +767,7 @@ class HeartbeatAck(_Part):
 
 
 @dataclass(frozen=True, slots=True)
-class Abort(_Part):
+class Abort(_ChunkPart):
     """ABORT, type 6 (RFC 9260 section 3.3.7)."""
 
     type: ClassVar[ChunkType] = ChunkType.ABORT
@@ -739,7 +778,7 @@ class Abort(_Part):
 
 
 @dataclass(frozen=True, slots=True)
-class Shutdown(_Part):
+class Shutdown(_ChunkPart):
     """SHUTDOWN, type 7 (RFC 9260 section 3.3.8)."""
 
     type: ClassVar[ChunkType] = ChunkType.SHUTDOWN
@@ -747,14 +786,14 @@ class Shutdown(_Part):
 
 
 @dataclass(frozen=True, slots=True)
-class ShutdownAck(_Part):
+class ShutdownAck(_ChunkPart):
     """SHUTDOWN ACK, type 8 (RFC 9260 section 3.3.9)."""
 
     type: ClassVar[ChunkType] = ChunkType.SHUTDOWN_ACK
 
 
 @dataclass(frozen=True, slots=True)
-class OperationError(_Part):
+class OperationError(_ChunkPart):
     """ERROR, type 9 (RFC 9260 section 3.3.10)."""
 
     type: ClassVar[ChunkType] = ChunkType.ERROR
@@ -762,7 +801,7 @@ class OperationError(_Part):
 
 
 @dataclass(frozen=True, slots=True)
-class CookieEcho(_Part):
+class CookieEcho(_ChunkPart):
     """COOKIE ECHO, type 10 (RFC 9260 section 3.3.11)."""
 
     type: ClassVar[ChunkType] = ChunkType.COOKIE_ECHO
@@ -770,14 +809,14 @@ class CookieEcho(_Part):
 
 
 @dataclass(frozen=True, slots=True)
-class CookieAck(_Part):
+class CookieAck(_ChunkPart):
     """COOKIE ACK, type 11 (RFC 9260 section 3.3.12)."""
 
     type: ClassVar[ChunkType] = ChunkType.COOKIE_ACK
 
 
 @dataclass(frozen=True, slots=True)
-class ShutdownComplete(_Part):
+class ShutdownComplete(_ChunkPart):
     """SHUTDOWN COMPLETE, type 14 (RFC 9260 section 3.3.13)."""
 
     type: ClassVar[ChunkType] = ChunkType.SHUTDOWN_COMPLETE
@@ -787,7 +826,7 @@ class ShutdownComplete(_Part):
 
 
 @dataclass(frozen=True, slots=True)
-class ReConfig(_Part):
+class ReConfig(_ChunkPart):
     """RE-CONFIG, type 130 (RFC 6525 section 3.1)."""
 
     type: ClassVar[ChunkType] = ChunkType.RE_CONFIG
@@ -795,7 +834,7 @@ class ReConfig(_Part):
 
 
 @dataclass(frozen=True, slots=True)
-class ForwardTsn(_Part):
+class ForwardTsn(_ChunkPart):
     """FORWARD-TSN, type 192 (RFC 3758 section 3.2)."""
 
     type: ClassVar[ChunkType] = ChunkType.FORWARD_TSN
@@ -804,7 +843,7 @@ class ForwardTsn(_Part):
 
 
 @dataclass(frozen=True, slots=True)
-class IForwardTsn(_Part):
+class IForwardTsn(_ChunkPart):
     """I-FORWARD-TSN, type 194 (RFC 8260 section 2.3.1)."""
 
     type: ClassVar[ChunkType] = ChunkType.I_FORWARD_TSN

@@ -5,7 +5,7 @@ import threading
 from collections.abc import Callable, Iterable, Sequence
 from ctypes import byref, c_size_t, c_uint16, c_uint32
 from types import TracebackType
-from typing import Any, get_args
+from typing import Any
 
 from . import _library as c
 from . import _values as v
@@ -542,13 +542,11 @@ def _not_last() -> v.BadPlace:
 def bytes_of(part: Any) -> bytes:
     """A chunk, a parameter or an error cause as it is written, without padding."""
     builder = PacketBuilder(0, 0, 0)
-    start = len(builder)
-    if isinstance(part, get_args(v.Chunk)):
-        builder.add(part)
-    else:
+    add: Any = builder.add
+    if not isinstance(part, v._ChunkPart):
         chunk = builder.chunk(0)
-        start = len(builder)
-        add: Any = chunk.parameter if isinstance(part, get_args(v.Parameter)) else chunk.cause
-        add(part)
+        add = chunk.parameter if isinstance(part, v._ParameterPart) else chunk.cause
+    start = len(builder)
+    add(part)
     data = bytes(builder)[start:]
     return data[: int.from_bytes(data[2:4], "big")]
