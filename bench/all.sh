@@ -6,16 +6,16 @@ set -eu -o pipefail
 
 usage='usage: bench/all.sh [--record]
 
-Runs bench/run.sh in six turns, bench/pion.sh, bench/crc.sh, bench/c.sh and bench/dump.py: all that docs/SPEED.md shows, in
-its order. What each prints is in bench/out/ too: run.md, pion.md, crc.md, c.md, dump.md. Nothing else should run on the
-machine. It takes four minutes once the library, the C library and sctp_dump are proved.
+Runs bench/run.sh in six turns, bench/crc.sh, bench/c.sh, bench/packages.py and bench/dump.py: all that docs/SPEED.md shows, in
+its order. What each prints is in bench/out/ too: run.md, crc.md, c.md, packages.md, dump.md. Nothing else should run on the
+machine. It takes five minutes once the library, the C library and sctp_dump are proved.
 
   --record  writes the tables into docs/SPEED.md, and the plot beside it
   --help    prints this
 
-The variable ORIGINAL names a program that times the Rust crate too (bench/run.sh --help). PION is the folder that has
-pion/sctp (bench/pion.sh --help), if it is not /usr/share/gocode. pion and tshark are timed if they are there. Needed are the
-toolchain, gcc, Python from 3.9 on and /usr/bin/time.'
+The variable ORIGINAL names a program that times the Rust crate too (bench/run.sh --help). bench/packages.py --help says what
+the packages are timed beside; what isn't there of that, and tshark, is left out. Needed are the toolchain, gcc, Python from 3.9
+on and /usr/bin/time.'
 
 case $#:${1:-} in
     0: | 1:--record) ;;
@@ -23,7 +23,6 @@ case $#:${1:-} in
     *) echo "$usage" >&2 && exit 2 ;;
 esac
 [ -z "${ORIGINAL:-}" ] || ORIGINAL=$(realpath "$ORIGINAL")
-pion=$(realpath -m "${PION:-/usr/share/gocode}")
 cd "$(dirname "$0")/.."
 out=bench/out
 
@@ -40,9 +39,9 @@ part() {
 mkdir -p "$out"
 (cd crates/sctp_dump && rt run -- --version) >"$out/sctp_dump.log" 2>&1 || give_up "no sctp_dump: see $out/sctp_dump.log"
 part run.sh --turns 6
-[ ! -d "$pion/src/github.com/pion/sctp" ] || part pion.sh "$pion"
 part crc.sh
 part c.sh
+part packages.py
 part dump.py
 if [ $# -eq 1 ]; then
     python3 bench/record.py "${parts[@]}"

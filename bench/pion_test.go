@@ -1,83 +1,358 @@
 // SPDX-License-Identifier: Apache-2.0
 
+// Reads and writes packets by the package davgyuti, and by pion/sctp, among whose files this one is: what it times isn't
+// exported. bench/packages.py says what such a program does.
+//
+// usage: pion.test ROUNDS MILLIS FILE..
+
 package sctp
 
 import (
-	"bufio"
+	"bytes"
 	"encoding/binary"
-	"encoding/hex"
 	"fmt"
+	"math/bits"
 	"os"
-	"path/filepath"
-	"runtime"
-	"strings"
+	"strconv"
+	"syscall"
 	"testing"
 	"time"
+
+	"davgyuti.example/davgyuti"
 )
 
-// The packets of a traffic file, with their CRC32c.
-func load(t *testing.T, name string) (packets [][]byte) {
-	file, err := os.Open(name)
-	if err != nil {
-		t.Fatal(err)
+func sumOfValue(value []byte) uint64 {
+	if len(value) == 0 {
+		return 0
 	}
-	defer file.Close()
-	lines := bufio.NewScanner(file)
-	lines.Buffer(nil, 1<<18)
-	for lines.Scan() {
-		raw, err := hex.DecodeString(lines.Text())
-		if err != nil {
-			t.Fatal(err)
+	return uint64(len(value)) + uint64(value[0])
+}
+
+func sumOfBits(bits ...bool) (sum uint64) {
+	for _, bit := range bits {
+		if bit {
+			sum++
 		}
-		binary.LittleEndian.PutUint32(raw[8:], generatePacketChecksum(raw))
-		packets = append(packets, raw)
+	}
+	return sum
+}
+
+// ---- by davgyuti
+
+func sumOfItems(chunk davgyuti.Chunk) (sum uint64) {
+	for list := chunk.Parameters(); list.Next(); {
+		it := list.Value()
+		sum += uint64(it.Type) + sumOfValue(it.Value)
+	}
+	for list := chunk.Causes(); list.Next(); {
+		it := list.Value()
+		sum += uint64(it.Code) + sumOfValue(it.Value)
+	}
+	return sum
+}
+
+func sumOfChunk(chunk davgyuti.Chunk) (sum uint64) {
+	switch chunk.Type {
+	case davgyuti.ChunkData, davgyuti.ChunkIData:
+		it, _ := chunk.Data()
+		sum = uint64(it.TSN) + uint64(it.MID) + uint64(it.FSN) + uint64(it.PPID) + uint64(it.Stream) + uint64(it.SSN)
+		return sum + sumOfBits(it.IsUnordered, it.IsBeginning, it.IsEnd, it.ImmediateAck) + sumOfValue(it.Payload)
+	case davgyuti.ChunkInit, davgyuti.ChunkInitAck:
+		it, _ := chunk.Init()
+		sum = uint64(it.InitiateTag) + uint64(it.ARwnd) + uint64(it.OutboundStreams) + uint64(it.InboundStreams)
+		return sum + uint64(it.InitialTSN) + sumOfItems(chunk)
+	case davgyuti.ChunkSACK:
+		it, _ := chunk.SACK()
+		sum = uint64(it.CumulativeTSNAck) + uint64(it.ARwnd)
+		for blocks := chunk.GapAckBlocks(); blocks.Next(); {
+			sum += uint64(blocks.Value().Start) + uint64(blocks.Value().End)
+		}
+		for duplicates := chunk.DuplicateTSNs(); duplicates.Next(); {
+			sum += uint64(duplicates.Value())
+		}
+		return sum
+	case davgyuti.ChunkHeartbeat, davgyuti.ChunkHeartbeatAck, davgyuti.ChunkAbort, davgyuti.ChunkError, davgyuti.ChunkReConfig:
+		return sumOfItems(chunk)
+	case davgyuti.ChunkShutdown:
+		tsn, _ := chunk.Shutdown()
+		return uint64(tsn)
+	case davgyuti.ChunkForwardTSN, davgyuti.ChunkIForwardTSN:
+		it, _ := chunk.ForwardTSN()
+		sum = uint64(it.NewCumulativeTSN)
+		for streams := chunk.SkippedStreams(); streams.Next(); {
+			it := streams.Value()
+			sum += uint64(it.Stream) + uint64(it.SSN) + uint64(it.MID) + sumOfBits(it.IsUnordered)
+		}
+		return sum
+	default:
+		return sumOfValue(chunk.Value)
+	}
+}
+
+func sumOfChunks(packet davgyuti.Packet) uint64 {
+	sum := uint64(1)
+	for chunks := packet.Chunks(); chunks.Next(); {
+		sum += uint64(chunks.Value().Type) + sumOfChunk(chunks.Value())
+	}
+	return sum
+}
+
+func readByDavgyuti(raw []byte) uint64 {
+	packet := davgyuti.Packet(raw)
+	if packet.Check(davgyuti.Policy{}) != nil {
+		return 0
+	}
+	return sumOfChunks(packet)
+}
+
+// Compares the checksum with the processor's CRC32c, as the package's README.md says.
+func readWithItsCrc(raw []byte) uint64 {
+	packet := davgyuti.Packet(raw)
+	header, isThere := packet.Header()
+	if !isThere || bits.ReverseBytes32(generatePacketChecksum(raw)) != header.Checksum {
+		return 0
+	}
+	if packet.Check(davgyuti.Policy{AnyChecksum: true}) != nil {
+		return 0
+	}
+	return sumOfChunks(packet)
+}
+
+// What a chunk is written from.
+type keptChunk struct {
+	typ        davgyuti.ChunkType
+	data       davgyuti.Data
+	init       davgyuti.Init
+	parameters []davgyuti.Parameter
+	sack       davgyuti.SACK
+	blocks     []davgyuti.GapAckBlock
+	duplicates []uint32
+}
+
+type keptPacket struct {
+	header davgyuti.Header
+	chunks []keptChunk
+}
+
+func keep(raw []byte) (kept keptPacket) {
+	packet := davgyuti.Packet(raw)
+	kept.header, _ = packet.Header()
+	for chunks := packet.Chunks(); chunks.Next(); {
+		chunk := chunks.Value()
+		it := keptChunk{typ: chunk.Type, parameters: chunk.Parameters().Slice()}
+		it.data, _ = chunk.Data()
+		it.init, _ = chunk.Init()
+		it.sack, _ = chunk.SACK()
+		it.blocks, it.duplicates = chunk.GapAckBlocks().Slice(), chunk.DuplicateTSNs().Slice()
+		kept.chunks = append(kept.chunks, it)
+	}
+	return kept
+}
+
+func add(builder *davgyuti.Builder, it *keptChunk) error {
+	switch it.typ {
+	case davgyuti.ChunkData:
+		return builder.AddData(it.data)
+	case davgyuti.ChunkSACK:
+		return builder.AddSACK(it.sack.CumulativeTSNAck, it.sack.ARwnd, it.blocks, it.duplicates)
+	case davgyuti.ChunkInit:
+		if err := builder.AddInit(it.init); err != nil {
+			return err
+		}
+		for _, parameter := range it.parameters {
+			if err := builder.AddParameter(parameter.Type, parameter.Value); err != nil {
+				return err
+			}
+		}
+		return nil
+	case davgyuti.ChunkCookieAck:
+		return builder.AddCookieAck()
+	default:
+		return fmt.Errorf("no file has a %v", it.typ)
+	}
+}
+
+var buffer = make([]byte, 1<<16)
+
+func (kept *keptPacket) write() ([]byte, error) {
+	header := kept.header
+	builder, err := davgyuti.Begin(buffer, header.SourcePort, header.DestinationPort, header.VerificationTag)
+	for i := 0; err == nil && i < len(kept.chunks); i++ {
+		err = add(builder, &kept.chunks[i])
+	}
+	if err == nil {
+		err = builder.Seal()
+	}
+	if err != nil {
+		return nil, err
+	}
+	return builder.Bytes(), nil
+}
+
+// ---- by pion
+
+func (p *paramHeader) itself() *paramHeader { return p }
+
+func sumOfItsChunk(it chunk) (sum uint64) {
+	switch it := it.(type) {
+	case *chunkPayloadData:
+		sum = uint64(it.typ) + uint64(it.tsn) + uint64(it.payloadType) + uint64(it.streamIdentifier)
+		sum += uint64(it.streamSequenceNumber) + sumOfValue(it.userData)
+		return sum + sumOfBits(it.unordered, it.beginningFragment, it.endingFragment, it.immediateSack)
+	case *chunkInit:
+		sum = uint64(it.typ) + uint64(it.initiateTag) + uint64(it.advertisedReceiverWindowCredit)
+		sum += uint64(it.numOutboundStreams) + uint64(it.numInboundStreams) + uint64(it.initialTSN)
+		for _, parameter := range it.params {
+			header := parameter.(interface{ itself() *paramHeader }).itself()
+			sum += uint64(header.typ) + sumOfValue(header.raw)
+		}
+		return sum
+	case *chunkSelectiveAck:
+		sum = uint64(it.typ) + uint64(it.cumulativeTSNAck) + uint64(it.advertisedReceiverWindowCredit)
+		for _, block := range it.gapAckBlocks {
+			sum += uint64(block.start) + uint64(block.end)
+		}
+		for _, tsn := range it.duplicateTSN {
+			sum += uint64(tsn)
+		}
+		return sum
+	case *chunkCookieAck:
+		return uint64(it.typ)
+	default:
+		panic("no file has such a chunk")
+	}
+}
+
+func readByPion(raw []byte) uint64 {
+	it := packet{}
+	if it.unmarshal(raw) != nil {
+		return 0
+	}
+	sum := uint64(1)
+	for _, chunk := range it.chunks {
+		sum += sumOfItsChunk(chunk)
+	}
+	return sum
+}
+
+// ---- the clock
+
+// A call over all packets: its name, what it does with one, and the sum of what that returns.
+type call struct {
+	name string
+	one  func(i int) uint64
+	sum  uint64
+}
+
+func check(err error) {
+	if err != nil {
+		fmt.Fprintln(os.Stderr, "pion.test:", err)
+		os.Exit(1)
+	}
+}
+
+func load(name string) (packets [][]byte) {
+	file, err := os.ReadFile(name)
+	check(err)
+	for len(file) > 0 {
+		end := 4 + binary.BigEndian.Uint32(file)
+		packets = append(packets, append([]byte(nil), file[4:end]...))
+		file = file[end:]
 	}
 	return packets
 }
 
-// The nanoseconds of a call in the best of 30 rounds of 3 milliseconds over all packets.
-func best(count int, all func()) float64 {
-	least := 1e18
-	for round := 0; round < 30; round++ {
-		begin, done, took := time.Now(), 0, time.Duration(0)
-		for took < 3*time.Millisecond {
-			all()
-			done += count
-			took = time.Since(begin)
-		}
-		if one := float64(took.Nanoseconds()) / float64(done); one < least {
-			least = one
-		}
+func pass(packets [][]byte, one func(i int) uint64) (sum uint64) {
+	for i := range packets {
+		sum += one(i)
 	}
-	return least
+	return sum
 }
 
-func TestTimes(t *testing.T) {
-	var figures []string
-	for _, name := range strings.Fields(os.Getenv("FILES")) {
-		packets := load(t, name)
-		values := make([]packet, len(packets))
-		for i, raw := range packets {
-			if err := values[i].unmarshal(raw); err != nil {
-				t.Fatal(name, err)
+func reader(name string, packets [][]byte, read func([]byte) uint64) call {
+	one := func(i int) uint64 { return read(packets[i]) }
+	return call{name, one, pass(packets, one)}
+}
+
+func writer(name string, packets [][]byte, write func(i int) ([]byte, error)) call {
+	sum := uint64(0)
+	for i, raw := range packets {
+		written, err := write(i)
+		check(err)
+		if !bytes.Equal(written, raw) {
+			check(fmt.Errorf("%s another packet than it read", name))
+		}
+		sum += uint64(len(raw))
+	}
+	one := func(i int) uint64 {
+		written, err := write(i)
+		check(err)
+		return uint64(len(written))
+	}
+	return call{name, one, sum}
+}
+
+func callsOver(packets [][]byte, isTimed bool) []call {
+	calls := []call{
+		reader("davgyuti", packets, readByDavgyuti),
+		reader("davgyuti, hash/crc32", packets, readWithItsCrc),
+	}
+	if !isTimed {
+		return calls
+	}
+	kept, its := make([]keptPacket, len(packets)), make([]packet, len(packets))
+	for i, raw := range packets {
+		kept[i] = keep(raw)
+		check(its[i].unmarshal(raw))
+	}
+	return append(calls,
+		reader("pion", packets, readByPion),
+		writer("davgyuti writes", packets, func(i int) ([]byte, error) { return kept[i].write() }),
+		writer("pion writes", packets, func(i int) ([]byte, error) { return its[i].marshal() }))
+}
+
+// clock returns the time of all processors: that of the collector of garbage too.
+func clock() time.Duration {
+	var used syscall.Rusage
+	check(syscall.Getrusage(syscall.RUSAGE_SELF, &used))
+	return time.Duration(used.Utime.Nano() + used.Stime.Nano())
+}
+
+// timed returns the nanoseconds of a packet.
+func timed(packets [][]byte, it call, least time.Duration) float64 {
+	begin, done, took := clock(), 0, time.Duration(0)
+	for took < least {
+		if pass(packets, it.one) != it.sum {
+			check(fmt.Errorf("a sum changes"))
+		}
+		done += len(packets)
+		took = clock() - begin
+	}
+	return float64(took.Nanoseconds()) / float64(done)
+}
+
+func TestMain(*testing.M) {
+	if len(os.Args) < 4 {
+		check(fmt.Errorf("usage: ROUNDS MILLIS FILE.."))
+	}
+	rounds, err := strconv.Atoi(os.Args[1])
+	check(err)
+	millis, err := strconv.Atoi(os.Args[2])
+	check(err)
+	for _, name := range os.Args[3:] {
+		packets := load(name)
+		calls := callsOver(packets, rounds > 0)
+		best := make([]float64, len(calls))
+		for round := 0; round < rounds; round++ {
+			for i, it := range calls {
+				one := timed(packets, it, time.Duration(millis)*time.Millisecond)
+				if round == 0 || one < best[i] {
+					best[i] = one
+				}
 			}
 		}
-		read := best(len(packets), func() {
-			for _, raw := range packets {
-				if (&packet{}).unmarshal(raw) != nil {
-					panic("a packet is refused")
-				}
-			}
-		})
-		write := best(len(packets), func() {
-			for i := range values {
-				if _, err := values[i].marshal(); err != nil {
-					panic(err)
-				}
-			}
-		})
-		file := strings.TrimSuffix(filepath.Base(name), ".hex")
-		figures = append(figures, fmt.Sprintf("`%s` %.0f and %.0f", file, read, write))
+		for i, it := range calls {
+			fmt.Printf("%s\t%s\t%d\t%.2f\n", name, it.name, it.sum, best[i])
+		}
 	}
-	fmt.Printf("pion: `pion/sctp` by %s, read and written, CRC32c included, nanoseconds: %s.\n", runtime.Version(), strings.Join(figures, ", "))
 }

@@ -4,7 +4,7 @@
 
 usage: bench/record.py PART..
 
-A PART is run, pion, crc, c or dump. Its table, bench/out/PART.md, goes between the marker line that names it and the next one."""
+A PART is run, crc, c, packages or dump. Its table, bench/out/PART.md, goes between the marker line that names it and the next one."""
 import os
 import sys
 

@@ -1,0 +1,222 @@
+#!/usr/bin/env python3
+# SPDX-License-Identifier: Apache-2.0
+"""Reads and writes packets by the package davgyuti, and by aiortc; bench/packages.py says what such a program does.
+
+usage: beside_aiortc.py ROUNDS MILLIS FILE.."""
+import struct
+import sys
+import time
+
+import davgyuti
+from aiortc import rtcsctptransport as aiortc
+
+
+def sum_of_value(value):
+    return len(value) + value[0] if value else 0
+
+
+# ---- by davgyuti
+
+# What a kind of parameters holds, as bytes; another is written.
+VALUES = {
+    davgyuti.ForwardTsnSupported: lambda it: b'',
+    davgyuti.HeartbeatInfo: lambda it: it.info,
+    davgyuti.RawParameter: lambda it: it.value,
+    davgyuti.StateCookie: lambda it: it.cookie,
+    davgyuti.SupportedExtensions: lambda it: it.chunk_types,
+}
+
+
+def sum_of_parameters(parameters):
+    return sum(it.type + sum_of_value(VALUES.get(type(it), lambda it: bytes(it)[4:])(it)) for it in parameters)
+
+
+def sum_of_causes(causes):
+    return sum(it.code + sum_of_value(bytes(it)[4:]) for it in causes)
+
+
+def sum_of_data(it):
+    bits = it.is_unordered + it.is_beginning + it.is_end + it.immediate_ack
+    return it.tsn + it.stream + it.ssn + it.ppid + bits + sum_of_value(it.payload)
+
+
+def sum_of_i_data(it):
+    bits = it.is_unordered + it.is_beginning + it.is_end + it.immediate_ack
+    return it.tsn + it.stream + it.mid + it.ppid + it.fsn + bits + sum_of_value(it.payload)
+
+
+def sum_of_init(it):
+    numbers = it.initiate_tag + it.a_rwnd + it.outbound_streams + it.inbound_streams + it.initial_tsn
+    return numbers + sum_of_parameters(it.parameters)
+
+
+def sum_of_sack(it):
+    total = it.cumulative_tsn_ack + it.a_rwnd + sum(it.duplicates)
+    for start, end in it.blocks:
+        total += start + end
+    return total
+
+
+SUMS = {
+    davgyuti.Data: sum_of_data,
+    davgyuti.IData: sum_of_i_data,
+    davgyuti.Init: sum_of_init,
+    davgyuti.InitAck: sum_of_init,
+    davgyuti.Sack: sum_of_sack,
+    davgyuti.Heartbeat: lambda it: sum_of_parameters(it.parameters),
+    davgyuti.HeartbeatAck: lambda it: sum_of_parameters(it.parameters),
+    davgyuti.Abort: lambda it: sum_of_causes(it.causes),
+    davgyuti.Shutdown: lambda it: it.cumulative_tsn_ack,
+    davgyuti.ShutdownAck: lambda it: 0,
+    davgyuti.OperationError: lambda it: sum_of_causes(it.causes),
+    davgyuti.CookieEcho: lambda it: sum_of_value(it.cookie),
+    davgyuti.CookieAck: lambda it: 0,
+    davgyuti.ShutdownComplete: lambda it: 0,
+    davgyuti.ReConfig: lambda it: sum_of_parameters(it.parameters),
+    davgyuti.ForwardTsn: lambda it: it.new_cumulative_tsn + sum(s.stream + s.ssn for s in it.streams),
+    davgyuti.IForwardTsn: lambda it: it.new_cumulative_tsn + sum(s.stream + s.mid + s.is_unordered for s in it.streams),
+    davgyuti.RawChunk: lambda it: sum_of_value(it.value),
+}
+
+
+def read_by_davgyuti(data):
+    try:
+        packet = davgyuti.Packet(data)
+    except davgyuti.Fault:
+        return 0
+    total = 1
+    for it in packet.chunks():
+        total += it.type + SUMS[type(it)](it)
+    return total
+
+
+def kept_by_davgyuti(data):
+    """What a packet is written from: its ports and tag, and its chunks."""
+    packet = davgyuti.Packet(data)
+    header = packet.header
+    return header.source_port, header.destination_port, header.verification_tag, packet.chunks()
+
+
+def written_by_davgyuti(kept):
+    source_port, destination_port, tag, chunks = kept
+    builder = davgyuti.PacketBuilder(source_port, destination_port, tag)
+    for it in chunks:
+        builder.add(it)
+    return builder.seal()
+
+
+# ---- by aiortc
+
+
+def sum_of_its_data(it):
+    flags = it.flags
+    bits = (flags & 1) + (flags >> 1 & 1) + (flags >> 2 & 1) + (flags >> 3 & 1)
+    return it.tsn + it.stream_id + it.stream_seq + it.protocol + bits + sum_of_value(it.user_data)
+
+
+def sum_of_its_init(it):
+    total = it.initiate_tag + it.advertised_rwnd + it.outbound_streams + it.inbound_streams + it.initial_tsn
+    for typ, value in it.params:
+        total += typ + sum_of_value(value)
+    return total
+
+
+def sum_of_its_sack(it):
+    total = it.cumulative_tsn + it.advertised_rwnd + sum(it.duplicates)
+    for start, end in it.gaps:
+        total += start + end
+    return total
+
+
+# The kinds of chunks that the files have.
+ITS_SUMS = {
+    aiortc.DataChunk: sum_of_its_data,
+    aiortc.InitChunk: sum_of_its_init,
+    aiortc.SackChunk: sum_of_its_sack,
+    aiortc.CookieAckChunk: lambda it: 0,
+}
+
+
+class Chunks(list):
+    """Several chunks in the place of the one that its writer takes."""
+
+    def __bytes__(self):
+        return b''.join(map(bytes, self))
+
+
+def read_by_aiortc(data):
+    _, _, _, chunks = aiortc.parse_packet(data)
+    total = 1
+    for it in chunks:
+        total += it.type + ITS_SUMS[type(it)](it)
+    return total
+
+
+def kept_by_aiortc(data):
+    source_port, destination_port, tag, chunks = aiortc.parse_packet(data)
+    return source_port, destination_port, tag, Chunks(chunks) if len(chunks) > 1 else chunks[0]
+
+
+def written_by_aiortc(kept):
+    return aiortc.serialize_packet(*kept)
+
+
+# ---- the clock
+
+READERS = (('davgyuti', read_by_davgyuti), ('aiortc', read_by_aiortc))
+WRITERS = (
+    ('davgyuti writes', kept_by_davgyuti, written_by_davgyuti),
+    ('aiortc writes', kept_by_aiortc, written_by_aiortc),
+)
+
+
+def load(path):
+    packets, at = [], 0
+    with open(path, 'rb') as file:
+        data = file.read()
+    while at < len(data):
+        (size,) = struct.unpack_from('>I', data, at)
+        packets.append(data[at + 4:at + 4 + size])
+        at += 4 + size
+    return packets
+
+
+def calls_over(packets, is_timed):
+    """A call's name, its function, what it is called with, and the sum of what it gives."""
+    readers = READERS if is_timed else READERS[:1]
+    calls = [(name, read, packets, sum(map(read, packets))) for name, read in readers]
+    for name, keep, write in WRITERS if is_timed else ():
+        kept = [keep(it) for it in packets]
+        if [write(it) for it in kept] != packets:
+            sys.exit('beside_aiortc.py: %s another packet than it read' % name)
+        calls.append((name, lambda it, write=write: len(write(it)), kept, sum(map(len, packets))))
+    return calls
+
+
+def timed(call, inputs, least, total):
+    """The nanoseconds of a packet."""
+    begin, done, took = time.process_time(), 0, 0.0
+    while took < least:
+        if sum(map(call, inputs)) != total:
+            sys.exit('beside_aiortc.py: a sum changes')
+        done += len(inputs)
+        took = time.process_time() - begin
+    return took * 1e9 / done
+
+
+def main():
+    if len(sys.argv) < 4:
+        sys.exit(__doc__)
+    rounds, least = int(sys.argv[1]), int(sys.argv[2]) / 1000
+    for path in sys.argv[3:]:
+        calls = calls_over(load(path), rounds > 0)
+        best = [float('inf')] * len(calls)
+        for _ in range(rounds):
+            for i, (_, call, inputs, total) in enumerate(calls):
+                best[i] = min(best[i], timed(call, inputs, least, total))
+        for (name, _, _, total), one in zip(calls, best):
+            print('%s\t%s\t%d\t%.2f' % (path, name, total, one))
+
+
+if __name__ == '__main__':
+    main()
